@@ -1,0 +1,33 @@
+# make         builds build/aspenum from the proved crates
+# make demo    builds it and solves examples/two_rules.aspif
+# make check   the gate: every proof, every edit that must fail, every test and every example
+# make clean   removes what was built
+
+SOURCES := crates.txt $(shell find crates -name out -prune -o \( -name '*.rt' -o -name '*.antt' \) -print)
+PROVED := crates/asp_prog/out/asp_prog
+
+all: build/aspenum
+
+build/aspenum: $(PROVED)
+	@mkdir -p build
+	@cp $< $@
+
+# Proves what isn't proved yet, and leaves the program there; so does the gate.
+$(PROVED): $(SOURCES)
+	@test -d crates/asp_prog || { echo "make: there is no program yet: the crate asp_prog is missing" >&2; exit 1; }
+	@mkdir -p build
+	@rm -f $@
+	@cd crates/asp_prog && rt run < /dev/null > /dev/null 2> ../../build/log || true
+	@test -x $@ || { tail -n 20 build/log >&2; exit 1; }
+
+demo: build/aspenum
+	@echo '$$ build/aspenum < examples/two_rules.aspif'
+	@build/aspenum < examples/two_rules.aspif; status=$$?; echo "status $$status"; test $$status -eq 30
+
+check:
+	@.ci/run
+
+clean:
+	rm -rf build crates/*/out
+
+.PHONY: all demo check clean

@@ -1,0 +1,4 @@
+pub mod Makers
+pub mod Rules
+pub mod Seats
+pub mod Moments

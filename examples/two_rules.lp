@@ -1,0 +1,3 @@
+% Two rules that exclude each other: two stable models.
+a :- not b.
+b :- not a.

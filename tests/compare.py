@@ -1,0 +1,120 @@
+#!/usr/bin/env python3
+"""Compares aspenum with the plain reference, and with clasp where it is there, on random small programs.
+
+    compare.py PROGRAM [COUNT [SEED]]
+
+Each program has up to seven atoms and every kind of statement. In an enumeration the bytes must be the reference's; in
+an optimisation the closing lines, cost and count, must be. Where clasp lists other answers than the reference, that is
+told and counted, and is no failure: clasp 3.3.5 is known to lose answers of choices over weight bodies.
+"""
+import random
+import shutil
+import subprocess
+import sys
+from os.path import abspath, dirname, join
+
+HERE = dirname(abspath(__file__))
+
+
+def literals(random_, atoms, most):
+    return [random_.choice([1, -1]) * random_.choice(atoms) for _ in range(random_.randint(0, most))]
+
+
+def body(random_, atoms):
+    if random_.random() < 0.65:
+        chosen = literals(random_, atoms, 3)
+        return [0, len(chosen)] + chosen
+    chosen = literals(random_, atoms, 4)
+    items = [number for literal in chosen for number in (literal, random_.randint(0, 3))]
+    return [1, random_.randint(-1, 5), len(chosen)] + items
+
+
+def statement(random_, atoms):
+    kind = random_.random()
+    if kind < 0.45:
+        return [1, 0, 1, random_.choice(atoms)] + body(random_, atoms)
+    if kind < 0.65:
+        head = [random_.choice(atoms) for _ in range(random_.randint(0, 3))]
+        return [1, 1, len(head)] + head + body(random_, atoms)
+    if kind < 0.8:
+        return [1, 0, 0] + body(random_, atoms)
+    if kind < 0.9:
+        return [5, random_.choice(atoms), random_.randint(0, 3)]
+    if kind < 0.95:
+        chosen = literals(random_, atoms, 1)
+        return [6, len(chosen)] + chosen
+    chosen = literals(random_, atoms, 3)
+    items = [number for literal in chosen for number in (literal, random_.randint(-2, 3))]
+    return [2, random_.randint(0, 2), len(chosen)] + items
+
+
+def program(random_):
+    numbers = sorted(random_.sample(range(1, 30), random_.randint(1, 7)))
+    lines = [" ".join(map(str, statement(random_, numbers))) for _ in range(random_.randint(1, 12))]
+    lines += [f"4 {len(f'p({a})')} p({a}) 1 {a}" for a in numbers]
+    return "asp 1 0 0\n" + "\n".join(lines) + "\n0\n"
+
+
+def run(words, text, seconds=120):
+    return subprocess.run(words, input=text.encode(), stdout=subprocess.PIPE, stderr=subprocess.PIPE, timeout=seconds)
+
+
+def answers(text):
+    lines = text.split("\n")
+    return [lines[i + 1] for i, line in enumerate(lines) if line.startswith("Answer: ")]
+
+
+def without_answer(text):
+    """The lines of an optimisation but the answer's texts: which of several optima is written isn't promised."""
+    lines = text.split("\n")
+    return lines[:1] + lines[2:] if lines[0].startswith("Answer: ") else lines
+
+
+def differs(aspenum, text):
+    """What is wrong with aspenum's answers to a program, or nothing."""
+    reference = [sys.executable, join(HERE, "reference.py")]
+    wanted = run(reference + ["enum"], text).stdout
+    given = run([aspenum, "--mode", "enum"], text)
+    if given.stdout != wanted:
+        return "the enumeration differs from the reference's"
+    if given.returncode != (20 if b"UNSATISFIABLE" in wanted else 30):
+        return f"the status is {given.returncode}"
+    best_wanted = run(reference + ["opt"], text).stdout.decode()
+    best = run([aspenum, "--mode", "opt"], text).stdout.decode()
+    if without_answer(best) != without_answer(best_wanted):
+        return "the optimum differs from the reference's"
+    return None
+
+
+def clasp_differs(text):
+    """Whether clasp lists other answers than the reference: its own affair, and worth knowing."""
+    wanted = run([sys.executable, join(HERE, "reference.py"), "enum"], text).stdout.decode()
+    try:
+        listed = run(["clasp", "-n", "0", "--opt-mode=ignore"], text, 10).stdout.decode()
+    except subprocess.TimeoutExpired:
+        return "clasp gives no answer within ten seconds"
+    mine = sorted(sorted(answer.split()) for answer in answers(wanted))
+    if sorted(sorted(answer.split()) for answer in answers(listed)) != mine:
+        return "clasp lists other answers than the reference"
+    return None
+
+
+def main():
+    aspenum = sys.argv[1]
+    count = int(sys.argv[2]) if len(sys.argv) > 2 else 200
+    seed = int(sys.argv[3]) if len(sys.argv) > 3 else 1
+    random_ = random.Random(seed)
+    failed = others = 0
+    for number in range(count):
+        text = program(random_)
+        wrong = differs(aspenum, text)
+        failed += 1 if wrong else 0
+        other = clasp_differs(text) if shutil.which("clasp") else None
+        others += 1 if other else 0
+        for message in filter(None, (wrong, other)):
+            print(f"program {number}: {message}\n{text}")
+    print(f"compare: {count} programs, {failed} differ; clasp differs on {others} (seed {seed})")
+    sys.exit(1 if failed else 0)
+
+
+main()

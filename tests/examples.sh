@@ -1,0 +1,55 @@
+#!/usr/bin/env bash
+# Runs every example, every refusal and every command of the README through the built program, and compares bytes and status.
+# Usage: tests/examples.sh [PROGRAM]     (the program is build/aspenum where none is named)
+cd "$(dirname "$0")/.." || exit 1
+program=${1:-build/aspenum}
+passed=0
+failed=0
+
+# check NAME WANTED_STATUS WANTED_FILE STATUS GIVEN_FILE
+check() {
+    if [ "$2" = "$4" ] && cmp -s "$3" "$5"; then
+        passed=$((passed + 1))
+    else
+        failed=$((failed + 1))
+        echo "failed: $1: status $4, wanted $2"
+        diff "$3" "$5" | head -n 5
+    fi
+}
+
+given=$(mktemp)
+notes=$(mktemp)
+wanted=$(mktemp)
+trap 'rm -f "$given" "$notes" "$wanted"' EXIT
+
+for text in examples/*.aspif; do
+    expected=${text%.aspif}.out
+    status=30
+    grep -q UNSATISFIABLE "$expected" && status=20
+    "$program" < "$text" > "$given" 2> "$notes"
+    check "$text" "$status" "$expected" "$?" "$given"
+done
+
+# Each refusal writes one line to standard error, nothing to standard output, and ends with its status.
+while IFS='|' read -r status note words text; do
+    printf '%s\n' "$note" > "$wanted"
+    # the words are split at blanks, the text's \n are line feeds
+    # shellcheck disable=SC2086
+    printf '%b' "$text" | "$program" $words > "$given" 2> "$notes"
+    check "refusal: $note" "$status" "$wanted" "${PIPESTATUS[1]}" "$notes"
+    : > "$wanted"
+    check "nothing written: $note" 0 "$wanted" 0 "$given"
+done < tests/refusals.txt
+
+# Output that can't be written.
+if [ -w /dev/full ]; then
+    echo 'aspenum: write failed' > "$wanted"
+    "$program" < examples/two_rules.aspif > /dev/full 2> "$notes"
+    check "a full device" 74 "$wanted" "$?" "$notes"
+fi
+
+# The commands of the README: each line '$ COMMAND' of its text blocks, with what follows it.
+python3 tests/readme.py "$program" README.md || failed=$((failed + 1))
+
+echo "examples: $passed passed, $failed failed"
+[ "$failed" -eq 0 ]
