@@ -1,0 +1,4 @@
+pub mod Cutting
+pub mod Found
+pub mod Digits
+pub mod Blanks

@@ -1,0 +1,5 @@
+pub mod Lines
+pub mod Unread
+pub mod Held
+pub mod Fields
+pub mod FieldsLeft
