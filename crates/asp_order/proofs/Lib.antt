@@ -1,0 +1,4 @@
+pub mod SiftLaws
+pub mod LubyLaws
+pub mod PlacedLaws
+pub mod RankedLaws
