@@ -1,0 +1,17 @@
+pub mod SetLaws
+pub mod OrderLaws
+pub mod MemberLaws
+pub mod StepLaws
+pub mod ReductLaws
+pub mod SubsetLaws
+pub mod ListedLaws
+pub mod ModelLaws
+pub mod WeightLaws
+pub mod ReadingLaws
+pub mod LimitLaws
+pub mod OpeningLaws
+pub mod SoundLaws
+pub mod CostLaws
+pub mod TextLaws
+pub mod WalkLaws
+pub mod BestLaws

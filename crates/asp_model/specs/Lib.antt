@@ -1,0 +1,13 @@
+pub mod Sets
+pub mod Holding
+pub mod Reduct
+pub mod Models
+pub mod Costs
+pub mod Texts
+pub mod Walks
+pub mod Rows
+pub mod Places
+pub mod Orders
+pub mod Sound
+pub mod Reading
+pub mod Opening

@@ -1,0 +1,20 @@
+//! The meaning of ground logic programs: rules, answer sets and costs.
+#![tactic(auto)]
+
+pub mod atoms;
+pub mod cost;
+pub mod fault;
+pub mod holding;
+pub mod in_force;
+pub mod interp;
+pub mod laws;
+pub mod plain;
+pub mod program;
+pub mod results;
+pub mod rows;
+pub mod seq;
+pub mod sound;
+pub mod stable;
+mod subsets;
+#[cfg(test)]
+mod tests;

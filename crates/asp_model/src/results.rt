@@ -1,0 +1,33 @@
+//! What a run found.
+
+use crate::cost::Cost;
+use crate::interp::Interp;
+use crate::seq::Seq;
+
+/// What is asked of a program: all its answers, or one that none betters.
+#[derive(Clone, Copy, Debug, PartialEq, Eq)]
+pub enum Mode {
+    /// All answers.
+    Enum,
+    /// One answer that none betters.
+    Opt,
+}
+
+/// Whether the search came to its end.
+#[derive(Clone, Copy, Debug, PartialEq, Eq)]
+pub enum End {
+    /// Nothing is left to be found.
+    Finished,
+    /// The budget was spent before.
+    Unfinished,
+}
+
+/// What a run found: in an enumeration the answers, in order; in an optimisation the best one with its cost, where there
+/// is one, and no list.
+#[derive(Drop)]
+pub struct Results {
+    pub mode: Mode,
+    pub end: End,
+    pub answers: Seq<Interp>,
+    pub best: Option<(Interp, Cost)>,
+}
