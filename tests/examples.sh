@@ -30,8 +30,9 @@ for text in examples/*.aspif; do
     check "$text" "$status" "$expected" "$?" "$given"
 done
 
-# Each refusal writes one line to standard error, nothing to standard output, and ends with its status.
-while IFS='|' read -r status note words text; do
+# Each refusal writes one line to standard error, nothing to standard output, and ends with its status. A line of
+# refusals.txt has the status, that line, the words and the text, with ~ between them.
+while IFS='~' read -r status note words text; do
     printf '%s\n' "$note" > "$wanted"
     # the words are split at blanks, the text's \n are line feeds
     # shellcheck disable=SC2086

@@ -1,0 +1,4 @@
+pub mod TableLemmas
+pub mod ParseLemmas
+pub mod GivenLemmas
+pub mod Examples

@@ -1,0 +1,4 @@
+pub mod Usage
+pub mod Table
+pub mod Given
+pub mod Parsed

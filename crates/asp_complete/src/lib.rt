@@ -1,0 +1,6 @@
+//! The completion of a program.
+#![tactic(auto)]
+
+pub mod completion;
+#[cfg(test)]
+mod tests;

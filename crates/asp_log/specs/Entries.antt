@@ -1,0 +1,38 @@
+-- What a log is for, and what each of its entries says.
+use Rattle.std.specs.Prelude.{ℕ, ◌≤◌, List, Option, None, length}
+use Rattle.std.specs.List.{AllByRecursion}
+use Rattle.std.specs.Option.{IfSome}
+use Rattle.asp_model.specs.declared.program.Program.{Program}
+use Rattle.asp_vars.specs.declared.nogood.Base.{Base}
+use Rattle.asp_vars.specs.declared.nogood.Base.TheVariants as base
+use Rattle.asp_vars.specs.declared.nogood.Nogood.{Nogood}
+use Rattle.asp_vars.specs.Literals.{Literal}
+use Rattle.asp_vars.specs.Entailment.{Entailed, Below}
+use Rattle.asp_log.specs.declared.scope.Scope.{Scope}
+
+-- The literals hit no stable model, or none whose cost is smaller than the one recorded. What holds for one search alone is no entry.
+abbrev pub IsSharedBy : Program → Base → List Literal → Type 0
+IsSharedBy p base.Pure literals = Entailed p literals
+IsSharedBy p (base.Below c) literals = Below p c literals
+IsSharedBy p base.Local literals = ⊥
+
+abbrev pub IsEntry : Program → Nogood → Type 0
+IsEntry p n = IsSharedBy p n.base n.lits
+
+-- what a log keeps of its entries
+pub record IsLogFor (scope : Scope) (entries : List Nogood) : Type 0 where
+  pub good : AllByRecursion (IsEntry scope.program) entries
+  pub few : length entries ≤ scope.limit
+
+-- the same of a seat's data
+abbrev pub IsLogOf : Option Scope → List Nogood → Type 0
+IsLogOf about entries = IfSome about (λ scope. IsLogFor scope entries)
+
+-- no entry names its maker
+abbrev pub unsigned : Nogood → Option ℕ
+unsigned n = None
+
+-- a log as contracts see it
+pub record Contents : Type 0 where
+  pub scope : Scope
+  pub entries : List Nogood

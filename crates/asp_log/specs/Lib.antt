@@ -1,0 +1,5 @@
+pub mod Blocks
+pub mod Entries
+pub mod Stored
+pub mod Shown
+pub mod Together

@@ -1,0 +1,2 @@
+pub mod EachBelow
+pub mod RingLaws

@@ -1,0 +1,165 @@
+//! Texts of fields and statements, appended one by one.
+ghost use Rattle.std.specs.Prelude.{◌≡◌, ◌++◌, ◌∷◌, List, ℕ, flat_map, OnOk};
+ghost use Rattle.asp_make.specs.Texts.{natural_field, integer_field, weighted_fields, counted_fields, head_fields, body_fields, external_field};
+ghost use Rattle.asp_make.specs.Texts.{line, rule_text, minimize_text, output_text, external_text};
+
+use asp_model::program::{Body, External, ExternalValue, Head, Minimize, Output, Rule};
+use itoa::{Buffer, Integer};
+use std::alloc::AllocError;
+
+/// What has a text of its own in a program's text: a field with the blank before it, or a whole line.
+pub trait Written {
+    /// The text.
+    ghost text: { Self → List ℕ };
+
+    /// Appends the text.
+    fn write(&self, out: &mut Vec<u8>) -> Result<(), AllocError>
+        ensures { OnOk result (out.new.items ≡ out.old.items ++ text self.now) };
+}
+
+/// Appends the texts one after another.
+pub fn write_each<W: Written>(entries: &[W], out: &mut Vec<u8>) -> Result<(), AllocError>
+    ensures { OnOk result (out.new.items ≡ out.old.items ++ flat_map W.text entries.now) }
+{
+    for entry in entries {
+        entry.write(out)?;
+    }
+    Ok(())
+}
+
+/// Appends a blank and the number.
+pub fn write_number<I: Integer>(number: I, out: &mut Vec<u8>) -> Result<(), AllocError>
+    ensures { OnOk result (out.new.items ≡ out.old.items ++ 32 ∷ I.text number) }
+{
+    out.extend_from_slice(b" ")?;
+    out.extend_from_slice(Buffer::new().format(number).as_bytes())
+}
+
+/// Appends how many entries there are, and their texts.
+pub fn write_counted<W: Written>(entries: &[W], out: &mut Vec<u8>) -> Result<(), AllocError>
+    ensures { OnOk result (out.new.items ≡ out.old.items ++ counted_fields W.text entries.now) }
+{
+    write_number(entries.len(), out)?;
+    write_each(entries, out)
+}
+
+impl Written for u32 {
+    ghost text = { natural_field };
+
+    fn write(&self, out: &mut Vec<u8>) -> Result<(), AllocError> {
+        write_number(*self, out)
+    }
+}
+
+impl Written for i32 {
+    ghost text = { integer_field };
+
+    fn write(&self, out: &mut Vec<u8>) -> Result<(), AllocError> {
+        write_number(*self, out)
+    }
+}
+
+impl Written for (i32, i32) {
+    ghost text = { weighted_fields };
+
+    fn write(&self, out: &mut Vec<u8>) -> Result<(), AllocError> {
+        write_number(self.0, out)?;
+        write_number(self.1, out)
+    }
+}
+
+impl Written for Head {
+    ghost text = { head_fields };
+
+    fn write(&self, out: &mut Vec<u8>) -> Result<(), AllocError> {
+        match self {
+            Head::One(atom) => {
+                out.extend_from_slice(b" 0 1")?;
+                write_number(*atom, out)
+            }
+            Head::Choice(atoms) => {
+                out.extend_from_slice(b" 1")?;
+                write_counted(atoms.as_slice(), out)
+            }
+            Head::Never => out.extend_from_slice(b" 0 0"),
+        }
+    }
+}
+
+impl Written for Body {
+    ghost text = { body_fields };
+
+    fn write(&self, out: &mut Vec<u8>) -> Result<(), AllocError> {
+        match self {
+            Body::All(literals) => {
+                out.extend_from_slice(b" 0")?;
+                write_counted(literals.as_slice(), out)
+            }
+            Body::AtLeast(bound, items) => {
+                out.extend_from_slice(b" 1")?;
+                write_number(*bound, out)?;
+                write_counted(items.as_slice(), out)
+            }
+        }
+    }
+}
+
+impl Written for ExternalValue {
+    ghost text = { external_field };
+
+    fn write(&self, out: &mut Vec<u8>) -> Result<(), AllocError> {
+        match self {
+            ExternalValue::Free => out.extend_from_slice(b" 0"),
+            ExternalValue::True => out.extend_from_slice(b" 1"),
+            ExternalValue::False => out.extend_from_slice(b" 2"),
+            ExternalValue::Release => out.extend_from_slice(b" 3"),
+        }
+    }
+}
+
+impl Written for Rule {
+    ghost text = { λ r. line (rule_text r) };
+
+    fn write(&self, out: &mut Vec<u8>) -> Result<(), AllocError> {
+        out.extend_from_slice(b"1")?;
+        self.head.write(out)?;
+        self.body.write(out)?;
+        out.extend_from_slice(b"\n")
+    }
+}
+
+impl Written for Minimize {
+    ghost text = { λ m. line (minimize_text m) };
+
+    fn write(&self, out: &mut Vec<u8>) -> Result<(), AllocError> {
+        out.extend_from_slice(b"2")?;
+        write_number(self.priority, out)?;
+        write_counted(self.items.as_slice(), out)?;
+        out.extend_from_slice(b"\n")
+    }
+}
+
+impl Written for Output {
+    ghost text = { λ o. line (output_text o) };
+
+    fn write(&self, out: &mut Vec<u8>) -> Result<(), AllocError> {
+        let text = self.text.as_slice();
+        out.extend_from_slice(b"4")?;
+        write_number(text.len(), out)?;
+        out.extend_from_slice(b" ")?;
+        out.extend_from_slice(text)?;
+        write_counted(self.condition.as_slice(), out)?;
+        out.extend_from_slice(b"\n")
+    }
+}
+
+impl Written for External {
+    ghost text = { λ e. line (external_text e) };
+
+    fn write(&self, out: &mut Vec<u8>) -> Result<(), AllocError> {
+        out.extend_from_slice(b"5")?;
+        write_number(self.atom, out)?;
+        self.value.write(out)?;
+        out.extend_from_slice(b"\n")
+    }
+}

@@ -1,0 +1,2 @@
+pub mod OutLaws
+pub mod ShownLaws

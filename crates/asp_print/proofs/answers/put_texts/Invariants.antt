@@ -1,0 +1,11 @@
+use Rattle.std.proofs.Common.{drop, false}
+use Rattle.asp_print.specs.Out.{out}
+use Rattle.asp_print.specs.Shown.{pieces}
+use Rattle.asp_print.proofs.OutLaws.{Midway}
+use Rattle.asp_print.proofs.answers.put_texts.Given as goal
+
+abbrev pub invariant-loop-output : goal.invariant-loop-output
+invariant-loop-output g l =
+    Midway (out (g.K.Sink.held l.initial.sink) (g.K.Sink.faults l.initial.sink) l.initial.waiting)
+    (out (g.K.Sink.held l.sink) (g.K.Sink.faults l.sink) l.waiting)
+    (pieces l.interp false l.outputs) (pieces l.interp l.any (drop l.output-index l.outputs))

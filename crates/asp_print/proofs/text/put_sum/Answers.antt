@@ -1,0 +1,15 @@
+use Rattle.std.proofs.Common.{[], ◌∷◌, rules}
+use Rattle.std.specs.Fmt.{signed_decimal}
+use Rattle.std.proofs.lemmas.Int.{to_z-of_z}
+use mir.Syntax.{w64}
+use mir.Val.{SFits}
+use Rattle.asp_print.proofs.OutLaws.{puts_then, puts_fails}
+use Rattle.asp_print.proofs.text.put_sum.Goals as goal
+
+pub returns-in_err-put : goal.returns-in_err-put
+returns-in_err-put g c = puts_fails _ _ _ _ _ (32 ∷ []) (signed_decimal c.args.sum.now) c.in_err-put.ensures c.from_residual.ensures.1
+
+pub returns : goal.returns
+returns g c =
+    let f : SFits w64 c.args.sum.now = search rules in
+    puts_then _ _ _ _ _ (32 ∷ []) (signed_decimal c.args.sum.now) c.in_ok-put.ensures (rw (to_z-of_z w64 c.args.sum.now f) at c.put_number.ensures)

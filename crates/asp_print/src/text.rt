@@ -1,0 +1,208 @@
+//! The text of results.
+ghost use Rattle.std.specs.Prelude.{◌≡◌, ◌++◌, ◌≤◌, [], ◌∷◌, length, flat_map, codes, decimal, if◌then◌else◌, OnOk, OnErr};
+ghost use Rattle.std.specs.Fmt.{signed_decimal};
+ghost use Rattle.std.specs.Io.KnownBytes.{Appends};
+ghost use Rattle.asp_io.specs.Causes.{Rose, AppendsFront};
+ghost use Rattle.asp_model.specs.Texts.{answers_from, closing_lines, cost_line, costs_text, count_mark, ended_line, recorded, results_text, verdict};
+ghost use Rattle.asp_print.specs.Out.{Puts, out};
+
+use crate::answers::put_answers;
+use crate::out::{Waiting, flush, put, put_number};
+use asp_io::{Failed, Sink};
+use asp_model::cost::Cost;
+use asp_model::interp::Interp;
+use asp_model::program::Program;
+use asp_model::results::{End, Mode, Results};
+use std::slice;
+
+// The answers that a run recorded: in an optimisation the best alone.
+fn recorded(results: &Results) -> &[Interp]
+    ensures { result.now ≡ recorded results.now.mode results.now }
+{
+    match results.mode {
+        Mode::Enum => results.answers.as_slice(),
+        Mode::Opt => match &results.best {
+            Some((interp, _)) => slice::from_ref(interp),
+            None => &[],
+        },
+    }
+}
+
+fn verdict(end: End, mode: Mode, count: usize) -> &'static [u8]
+    ensures { result.now ≡ verdict end mode count }
+{
+    match (end, mode) {
+        (End::Finished, _) if count == 0 => b"UNSATISFIABLE",
+        (End::Finished, Mode::Enum) => b"SATISFIABLE",
+        (End::Finished, Mode::Opt) => b"OPTIMUM FOUND",
+        (End::Unfinished, _) if count == 0 => b"UNKNOWN",
+        (End::Unfinished, _) => b"BUDGET SPENT",
+    }
+}
+
+fn count_mark(end: End) -> &'static [u8]
+    ensures { result.now ≡ count_mark end }
+{
+    match end {
+        End::Finished => b"",
+        End::Unfinished => b"+",
+    }
+}
+
+// Puts out a number of the cost, behind a blank.
+fn put_sum<K: Sink>(sink: &mut K, waiting: &mut Waiting, sum: &i64) -> Result<(), Failed>
+    ensures { Puts (out (K.held sink.old) (K.faults sink.old) waiting.old)
+        (out (K.held sink.new) (K.faults sink.new) waiting.new) result (32 ∷ signed_decimal sum.now) }
+{
+    put(sink, waiting, b" ")?;
+    put_number(sink, waiting, *sum)
+}
+
+fn put_sums<K: Sink>(sink: &mut K, waiting: &mut Waiting, sums: &[i64]) -> Result<(), Failed>
+    ensures { Puts (out (K.held sink.old) (K.faults sink.old) waiting.old)
+        (out (K.held sink.new) (K.faults sink.new) waiting.new) result
+        (flat_map (λ q. 32 ∷ signed_decimal q) sums.now) }
+{
+    for sum in sums {
+        put_sum(sink, waiting, sum)?;
+    }
+    Ok(())
+}
+
+fn put_cost<K: Sink>(sink: &mut K, waiting: &mut Waiting, cost: &Cost) -> Result<(), Failed>
+    ensures { Puts (out (K.held sink.old) (K.faults sink.old) waiting.old)
+        (out (K.held sink.new) (K.faults sink.new) waiting.new) result (cost_line cost.now) }
+{
+    put(sink, waiting, b"Optimization:")?;
+    put_sums(sink, waiting, cost.as_slice())?;
+    put(sink, waiting, b"\n")
+}
+
+// Puts out the cost line, where there is one.
+fn put_best_cost<K: Sink>(
+    sink: &mut K,
+    waiting: &mut Waiting,
+    results: &Results,
+) -> Result<(), Failed>
+    ensures { Puts (out (K.held sink.old) (K.faults sink.old) waiting.old)
+        (out (K.held sink.new) (K.faults sink.new) waiting.new) result
+        (costs_text results.now.mode results.now) }
+{
+    match results.mode {
+        Mode::Enum => put(sink, waiting, b""),
+        Mode::Opt => match &results.best {
+            Some((_, cost)) => put_cost(sink, waiting, cost),
+            None => put(sink, waiting, b""),
+        },
+    }
+}
+
+// Puts out the word line.
+fn put_verdict<K: Sink>(
+    sink: &mut K,
+    waiting: &mut Waiting,
+    results: &Results,
+    count: usize,
+) -> Result<(), Failed>
+    ensures { Puts (out (K.held sink.old) (K.faults sink.old) waiting.old)
+        (out (K.held sink.new) (K.faults sink.new) waiting.new) result
+        (ended_line (verdict results.now.end results.now.mode count)) }
+{
+    put(sink, waiting, verdict(results.end, results.mode, count))?;
+    put(sink, waiting, b"\n")
+}
+
+fn put_count<K: Sink>(sink: &mut K, waiting: &mut Waiting, count: usize) -> Result<(), Failed>
+    ensures { Puts (out (K.held sink.old) (K.faults sink.old) waiting.old)
+        (out (K.held sink.new) (K.faults sink.new) waiting.new) result
+        (codes "Models: " ++ decimal count) }
+{
+    put(sink, waiting, b"Models: ")?;
+    put_number(sink, waiting, count)
+}
+
+fn put_mark<K: Sink>(sink: &mut K, waiting: &mut Waiting, end: End) -> Result<(), Failed>
+    ensures { Puts (out (K.held sink.old) (K.faults sink.old) waiting.old)
+        (out (K.held sink.new) (K.faults sink.new) waiting.new) result
+        (ended_line (count_mark end)) }
+{
+    put(sink, waiting, count_mark(end))?;
+    put(sink, waiting, b"\n")
+}
+
+// Puts out the word line and the count line.
+fn put_closing<K: Sink>(
+    sink: &mut K,
+    waiting: &mut Waiting,
+    results: &Results,
+    count: usize,
+) -> Result<(), Failed>
+    ensures { Puts (out (K.held sink.old) (K.faults sink.old) waiting.old)
+        (out (K.held sink.new) (K.faults sink.new) waiting.new) result
+        (closing_lines results.now count) }
+{
+    put_verdict(sink, waiting, results, count)?;
+    put_count(sink, waiting, count)?;
+    put_mark(sink, waiting, results.end)
+}
+
+// Puts out the lines of the answers, unless the text is to be brief.
+fn put_recorded<K: Sink>(
+    sink: &mut K,
+    waiting: &mut Waiting,
+    program: &Program,
+    results: &Results,
+    brief: bool,
+) -> Result<(), Failed>
+    ensures { Puts (out (K.held sink.old) (K.faults sink.old) waiting.old)
+        (out (K.held sink.new) (K.faults sink.new) waiting.new) result
+        (if brief then [] else answers_from program.now 1 (recorded results.now.mode results.now)) }
+{
+    if brief {
+        put(sink, waiting, b"")
+    } else {
+        put_answers(sink, waiting, program, recorded(results))
+    }
+}
+
+fn put_ending<K: Sink>(sink: &mut K, waiting: &mut Waiting, results: &Results) -> Result<(), Failed>
+    ensures { Puts (out (K.held sink.old) (K.faults sink.old) waiting.old)
+        (out (K.held sink.new) (K.faults sink.new) waiting.new) result
+        (closing_lines results.now (length (recorded results.now.mode results.now))) }
+{
+    put_closing(sink, waiting, results, recorded(results).len())
+}
+
+fn put_results<K: Sink>(
+    sink: &mut K,
+    waiting: &mut Waiting,
+    program: &Program,
+    results: &Results,
+    brief: bool,
+) -> Result<(), Failed>
+    ensures { Puts (out (K.held sink.old) (K.faults sink.old) waiting.old)
+        (out (K.held sink.new) (K.faults sink.new) waiting.new) result
+        (results_text program.now results.now brief) }
+{
+    put_recorded(sink, waiting, program, results, brief)?;
+    put_best_cost(sink, waiting, results)?;
+    put_ending(sink, waiting, results)
+}
+
+/// Writes the text of the results: unless it is to be brief two lines for each answer, then in an optimisation the
+/// cost line, the word line and the count line. It takes no memory. After an error a front of the text is out.
+pub fn print<K: Sink>(
+    sink: &mut K,
+    program: &Program,
+    results: &Results,
+    brief: bool,
+) -> Result<(), Failed>
+    ensures all { OnOk result (Appends (K.held sink.old) (K.held sink.new) (results_text program.now results.now brief)) }
+    ensures front { OnErr result (AppendsFront (K.held sink.old) (K.held sink.new) (results_text program.now results.now brief)) }
+    ensures later { K.faults sink.old ≤ K.faults sink.new }
+    ensures cause { OnErr result (Rose (K.faults sink.old) (K.faults sink.new)) }
+{
+    let mut waiting = Waiting::new();
+    put_results(sink, &mut waiting, program, results, brief)?;
+    flush(sink, &mut waiting)
+}

@@ -1,0 +1,192 @@
+-- Pieces of a source's bytes.
+use Rattle.std.proofs.Common.{◌≡◌, ℕ, ◌+◌, ◌<◌, ◌≤◌, List, [], ◌∷◌, ◌++◌, length, take, drop, Option, Some, None, Result, Ok, Err, refl, sym, ap, subst, ◌∙◌, append_assoc, zero-add, arith, length-append, take-append-drop}
+use Rattle.std.proofs.lemmas.List.{append-nil, take-append-le, take-take}
+use Rattle.std.specs.Prelude.{IfSome, IfOk, IsOk, IsSome}
+use Rattle.std.specs.Io.KnownBytes.{Consumes, Keeps, IsAtEnd}
+use Rattle.asp_text.specs.Unread.{Unread}
+use Rattle.asp_text.specs.Lines.{cut, lines_of, whole}
+use Rattle.asp_model.specs.declared.program.Program.{Program}
+use Rattle.asp_model.specs.declared.fault.ReadError.{ReadError}
+use Rattle.asp_model.specs.declared.fault.ReadError.TheVariants as errors
+use Rattle.asp_read.specs.Seen.{Seen, nothing_seen}
+use Rattle.asp_read.specs.Outcome.{judge, judge_next, judge_all, most_bytes, outcome_from}
+use Rattle.asp_model.specs.Sound.{IsSound}
+use Rattle.asp_read.proofs.Soundness.{outcome-sound}
+use Rattle.asp_read.specs.Fields.{◌>>=◌}
+use Rattle.asp_read.specs.Stream.{FailsAs, ReadGives, ReadsText, Took, Continues, Answers, StopsClean, outcome_on}
+use Rattle.asp_read.proofs.Streaming.{too_long, beyond}
+use Rattle.std.proofs.Math.Seq.{take-append_seam}
+
+-- at the start nothing is held
+pub starts : (source : Option (List ℕ)) (limit : ℕ) (lines : Unread) (reader : Seen) → lines ≡ record { bytes = []; given = 0; fed = 0 } → reader ≡ nothing_seen → Continues source source limit lines reader limit
+starts None limit lines reader l e = rw (l, e) (record { read = []; took = tt; counted = omega arith; same = λ k more. refl })
+starts (Some text) limit lines reader l e = rw (l, e) (record { read = []; took = refl; counted = omega arith; same = λ k more. refl })
+
+took_more : (initial now next : Option (List ℕ)) (read piece : List ℕ) → Took initial now read → Consumes now next piece → Took initial next (read ++ piece)
+took_more None now next read piece c e = tt
+took_more (Some text) None next read piece c e = absurd c
+took_more (Some text) (Some xs) None read piece c e = absurd e
+took_more (Some text) (Some xs) (Some ys) read piece c e = c ∙ ap (λ (t : List ℕ). read ++ t) e ∙ sym (append_assoc read piece ys)
+
+moved : (read piece more : List ℕ) (k : ℕ) → outcome_from (k + length piece + length read) 0 nothing_seen (read ++ (piece ++ more)) ≡ outcome_from (k + length (read ++ piece)) 0 nothing_seen ((read ++ piece) ++ more)
+moved read piece more k =
+    let e : k + length (read ++ piece) ≡ k + length piece + length read = omega (arith, length-append read piece) in
+    rw (e, append_assoc read piece more) refl
+
+pub taken : (initial now next : Option (List ℕ)) (piece : List ℕ) (limit : ℕ) (lines new : Unread) (reader r : Seen) (room left : ℕ) → Continues initial now limit lines reader room → Consumes now next piece → room ≡ left + length piece
+    → ((k : ℕ) (rest : List ℕ) → outcome_on new r k rest ≡ outcome_on lines reader (k + length piece) (piece ++ rest)) → Continues initial next limit new r left
+taken initial now next piece limit lines new reader r room left c e k same = record {
+  read = c.read ++ piece;
+  took = took_more initial now next c.read piece c.took e;
+  counted = omega (arith, c.counted, k, length-append c.read piece);
+  same = λ n more. same n more ∙ c.same (n + length piece) (piece ++ more) ∙ moved c.read piece more n;
+}
+
+-- all that a source may have told, where these bytes were taken off last
+record Whole (initial : Option (List ℕ)) (read piece : List ℕ) : Type 0 where
+  rest : List ℕ
+  told : IfSome initial (λ t. t ≡ read ++ (piece ++ rest))
+
+whole_text : (initial now next : Option (List ℕ)) (read piece : List ℕ) → Took initial now read → Consumes now next piece → Whole initial read piece
+whole_text None now next read piece c e = record { rest = []; told = tt }
+whole_text (Some text) None next read piece c e = absurd c
+whole_text (Some text) (Some xs) None read piece c e = absurd e
+whole_text (Some text) (Some xs) (Some ys) read piece c e = record { rest = ys; told = c ∙ ap (λ (t : List ℕ). read ++ t) e }
+
+-- the outcome of all is that of what is left
+all_is : (initial now : Option (List ℕ)) (limit : ℕ) (lines : Unread) (reader : Seen) (room : ℕ) (more : List ℕ) (c : Continues initial now limit lines reader room) → outcome_on lines reader room more ≡ outcome_from limit 0 nothing_seen (c.read ++ more)
+all_is initial now limit lines reader room more c = c.same room more ∙ ap (λ (n : ℕ). outcome_from n 0 nothing_seen (c.read ++ more)) c.counted
+
+reads_err : (e : ReadError) (o : Result Program ReadError) → FailsAs e o → ReadsText (Err e) o
+reads_err errors.Memory o h = tt
+reads_err errors.ReadFault o h = tt
+reads_err errors.TooLong o h = h
+reads_err (errors.Refused f n) o h = h
+
+reads_gives : (r o : Result Program ReadError) → ReadGives r o → ReadsText r o
+reads_gives (Ok p) o h = h
+reads_gives (Err e) o h = reads_err e o h
+
+-- an answer that speaks of no text
+pub any_text : (source : Option (List ℕ)) (limit : ℕ) (r : Result Program ReadError) → ((o : Result Program ReadError) → ReadsText r o) → Answers source limit r
+any_text None limit r any = record { text = []; told = tt; answered = any _ }
+any_text (Some text) limit r any = record { text = text; told = refl; answered = any _ }
+
+-- a fault in a piece, whatever of the bytes behind it is held back
+pub stopped : (e : ReadError) (initial now next : Option (List ℕ)) (piece more : List ℕ) (limit : ℕ) (lines : Unread) (reader : Seen) (room left : ℕ) → Continues initial now limit lines reader room → Consumes now next (piece ++ more) → room ≡ left + length piece
+    → ((k : ℕ) (rest : List ℕ) → FailsAs e (outcome_on lines reader (k + length piece) (piece ++ rest))) → Answers initial limit (Err e)
+stopped e initial now next piece more limit lines reader room left c s k fails =
+    let w = whole_text initial now next c.read (piece ++ more) c.took s in
+    let o : outcome_on lines reader (left + length piece) (piece ++ (more ++ w.rest)) ≡ outcome_from limit 0 nothing_seen (c.read ++ ((piece ++ more) ++ w.rest)) = rw (← k, ← append_assoc piece more w.rest) (all_is initial now limit lines reader room ((piece ++ more) ++ w.rest) c) in
+    record { text = c.read ++ ((piece ++ more) ++ w.rest); told = w.told; answered = reads_err e _ (subst (λ (o : Result Program ReadError). FailsAs e o) o (fails left (more ++ w.rest))) }
+
+pub over : (initial now next : Option (List ℕ)) (piece more : List ℕ) (limit : ℕ) (lines new : Unread) (reader r : Seen) (room : ℕ) → Continues initial now limit lines reader room → Consumes now next (piece ++ more) → room ≡ length piece → 0 < length more → cut new.bytes ≡ None
+    → ((k : ℕ) (rest : List ℕ) → outcome_on new r k rest ≡ outcome_on lines reader (k + length piece) (piece ++ rest)) → Answers initial limit (Err errors.TooLong)
+over initial now next piece more limit lines new reader r room c s k lt none same =
+    let w = whole_text initial now next c.read (piece ++ more) c.took s in
+    let k0 : room ≡ 0 + length piece = omega (arith, k) in
+    let o : outcome_on lines reader (0 + length piece) (piece ++ (more ++ w.rest)) ≡ outcome_from limit 0 nothing_seen (c.read ++ ((piece ++ more) ++ w.rest)) = rw (← k0, ← append_assoc piece more w.rest) (all_is initial now limit lines reader room ((piece ++ more) ++ w.rest) c) in
+    record { text = c.read ++ ((piece ++ more) ++ w.rest); told = w.told; answered = sym (same 0 (more ++ w.rest) ∙ o) ∙ too_long new r (more ++ w.rest) none (omega (arith, length-append more w.rest)) }
+
+at_end_is : (initial now next : Option (List ℕ)) (read : List ℕ) → Took initial now read → Consumes now next [] → IsAtEnd next → IfSome initial (λ t. t ≡ read)
+at_end_is None now next read c s e = tt
+at_end_is (Some text) None next read c s e = absurd c
+at_end_is (Some text) (Some xs) None read c s e = absurd s
+at_end_is (Some text) (Some xs) (Some ys) read c s e = c ∙ ap (λ (t : List ℕ). read ++ t) (s ∙ e) ∙ append-nil read
+
+pub ended : (initial now next : Option (List ℕ)) (limit : ℕ) (lines : Unread) (reader : Seen) (room : ℕ) (result : Result Program ReadError) → Continues initial now limit lines reader room → Consumes now next [] → IsAtEnd next
+    → ((k : ℕ) → ReadGives result (outcome_on lines reader k [])) → Answers initial limit result
+ended initial now next limit lines reader room result c s e gives =
+    let o : outcome_on lines reader room [] ≡ outcome_from limit 0 nothing_seen c.read = all_is initial now limit lines reader room [] c ∙ ap (λ (t : List ℕ). outcome_from limit 0 nothing_seen t) (append-nil c.read) in
+    record { text = c.read; told = at_end_is initial now next c.read c.took s e; answered = reads_gives result _ (subst (λ (o : Result Program ReadError). ReadGives result o) o (gives room)) }
+
+-- what a caller sees of it
+answer_is : (source : Option (List ℕ)) (text : List ℕ) (limit : ℕ) (result : Result Program ReadError) → IfSome source (λ t. t ≡ text) → ReadsText result (outcome_from limit 0 nothing_seen text) → IfSome source (λ t. ReadsText result (outcome_from limit 0 nothing_seen t))
+answer_is None text limit result e h = tt
+answer_is (Some t) text limit result e h = subst (λ (x : List ℕ). ReadsText result (outcome_from limit 0 nothing_seen x)) (sym e) h
+
+pub answer : (source : Option (List ℕ)) (limit : ℕ) (result : Result Program ReadError) → Answers source limit result → IfSome source (λ t. ReadsText result (outcome_from limit 0 nothing_seen t))
+answer source limit result a = answer_is source a.text limit result a.told a.answered
+
+pub some_answer : (source : Option (List ℕ)) (limit : ℕ) (result : Result Program ReadError) → Answers source limit result → (text : List ℕ) × ReadsText result (outcome_from limit 0 nothing_seen text)
+some_answer source limit result a = (a.text, a.answered)
+
+pub sound_answer : (source : Option (List ℕ)) (result : Result Program ReadError) → Answers source most_bytes result → IfOk result IsSound
+sound_answer source (Ok p) a = outcome-sound a.text p a.answered
+sound_answer source (Err e) a = tt
+
+-- ---- the pieces of a buffer whose front was read
+
+pub same_piece : (read rest : List ℕ) (count : ℕ) → count ≤ length read → take count (read ++ rest) ≡ take count read
+same_piece read rest count le = take-append-le count read rest le
+
+pub split_piece : (read rest : List ℕ) (room count : ℕ) → room ≤ count → count ≤ length read → take count read ≡ take room (read ++ rest) ++ drop room (take count read)
+split_piece read rest room count le len =
+    let front : take room (read ++ rest) ≡ take room (take count read) = same_piece read rest room (omega arith) ∙ sym (take-take room count read le) in
+    rw front (sym (take-append-drop room (take count read)))
+
+abbrev failed : ReadError → Result Seen ReadError
+failed e = Err e
+
+abbrev too_long_program : Result Program ReadError
+too_long_program = Err errors.TooLong
+
+abbrev failed_program : ReadError → Result Program ReadError
+failed_program e = Err e
+
+refusal_is : (d e : ReadError) → failed_program d ≡ failed_program e → d ≡ e
+refusal_is d e h = cc
+
+err_is : (r : Result Program ReadError) (y e : ReadError) → r ≡ Err y → r ≡ Err e → y ≡ e
+err_is r y e p q = cc
+
+pub never : (r : Result Program ReadError) (y e : ReadError) → r ≡ Err y → y ≡ e → (failed e ≡ failed errors.ReadFault → ⊥) → r ≡ Err errors.ReadFault → ⊥
+never r y e p q other h = other (ap failed (sym q ∙ err_is r y errors.ReadFault p h))
+
+pub stopped_as : (r : Result Program ReadError) (y e : ReadError) (initial now next : Option (List ℕ)) (piece more : List ℕ) (limit : ℕ) (lines : Unread) (reader : Seen) (room left : ℕ) → r ≡ Err y → y ≡ e
+    → Continues initial now limit lines reader room → Consumes now next (piece ++ more) → room ≡ left + length piece
+    → ((k : ℕ) (rest : List ℕ) → FailsAs e (outcome_on lines reader (k + length piece) (piece ++ rest))) → Answers initial limit r
+stopped_as r y e initial now next piece more limit lines reader room left p q c s k fails =
+    subst (λ (x : Result Program ReadError). Answers initial limit x) (sym (p ∙ ap Err q)) (stopped e initial now next piece more limit lines reader room left c s k fails)
+
+-- ---- a failed read
+
+refuses : (number : ℕ) (seen : Seen) (lines : List (List ℕ)) → judge_all number seen lines ≡ Err errors.TooLong → ⊥
+unfolding judge_all
+refuses number seen [] e = absurd cc
+refuses number seen (line ∷ lines) e = (elim (judge seen line) as (λ v. judge_next number v (λ s. judge_all (number + 1) s lines) ≡ Err errors.TooLong → ⊥) [
+  | Ok s ↦ λ h. refuses (number + 1) s lines h
+  | Err f ↦ λ h. absurd cc
+]) e
+
+is_clean : (r : Result Seen ReadError) → (r ≡ Err errors.TooLong → ⊥) → (r >>= λ _. too_long_program) ≡ too_long_program → IsOk r
+is_clean (Ok s) other e = refl
+is_clean (Err e') other e = absurd (other (ap failed (refusal_is e' errors.TooLong e)))
+
+-- with a limit behind what was read, only a fault of a line in it keeps the text from being too long
+clean : (lines : Unread) (reader : Seen) (read : List ℕ) → cut lines.bytes ≡ None → ((k : ℕ) (more : List ℕ) → outcome_on lines reader k more ≡ outcome_from (k + length read) 0 nothing_seen (read ++ more))
+    → IsOk (judge_all 1 nothing_seen (lines_of (whole read)))
+unfolding outcome_from
+clean lines reader read none same =
+    let long : outcome_from (0 + length read) 0 nothing_seen (read ++ 0 ∷ []) ≡ too_long_program = sym (same 0 (0 ∷ [])) ∙ too_long lines reader (0 ∷ []) none (omega arith) in
+    let front : take (0 + length read) (read ++ 0 ∷ []) ≡ read = rw zero-add (take-append_seam read (0 ∷ [])) in
+    is_clean (judge_all 1 nothing_seen (lines_of (whole read))) (refuses 1 nothing_seen (lines_of (whole read)))
+    (rw (beyond read (0 ∷ []) (omega arith), front) at long)
+
+clean_at : (initial now next : Option (List ℕ)) (read : List ℕ) → Took initial now read → Keeps now next → IsOk (judge_all 1 nothing_seen (lines_of (whole read))) → StopsClean initial next
+clean_at None now next read c k h = tt
+clean_at (Some text) None next read c k h = absurd c
+clean_at (Some text) (Some xs) None read c k h = absurd k
+clean_at (Some text) (Some xs) (Some ys) read c k h = (read, rw k c, h)
+
+pub stopped_clean : (initial now next : Option (List ℕ)) (limit : ℕ) (lines : Unread) (reader : Seen) (room : ℕ) → Continues initial now limit lines reader room → Keeps now next → cut lines.bytes ≡ None → StopsClean initial next
+stopped_clean initial now next limit lines reader room c k none = clean_at initial now next c.read c.took k (clean lines reader c.read none c.same)
+
+-- a source that told its bytes still tells them
+told_still : (initial now : Option (List ℕ)) (read : List ℕ) → Took initial now read → IsSome initial → IsSome now
+told_still None now read c i = absurd cc
+told_still (Some text) None read c i = absurd c
+told_still (Some text) (Some xs) read c i = i
+
+pub told : (initial now : Option (List ℕ)) (limit : ℕ) (lines : Unread) (reader : Seen) (room : ℕ) → Continues initial now limit lines reader room → IsSome initial → IsSome now
+told initial now limit lines reader room c = told_still initial now c.read c.took

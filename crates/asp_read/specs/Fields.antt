@@ -1,0 +1,124 @@
+-- A field with its value, or the fault of it; and what follows it on the line.
+use Rattle.std.specs.Prelude.{ℕ, zero, suc, ◌+◌, ◌==◌, ◌&&◌, Bool, true, false, not, if◌then◌else◌, nat_lt, nat_le, List, [], ◌∷◌, length, take, drop, ℤ, pos, negsuc, neg_ℤ, int_lt, ◌||◌}
+use Rattle.std.specs.declared.option.Option.{Option}
+use Rattle.std.specs.declared.option.Option.TheVariants.{None, Some}
+use Rattle.std.specs.declared.result.Result.{Result}
+use Rattle.std.specs.declared.result.Result.TheVariants.{Ok, Err}
+use Rattle.asp_text.specs.Fields.{is_blank, unblank, field_of, after_field, integer_of}
+use Rattle.asp_model.specs.Sets.{Atoms, has, with_atom}
+use Rattle.asp_model.specs.Holding.{atom_of}
+use Rattle.asp_model.specs.declared.fault.Fault.{Fault}
+use Rattle.asp_model.specs.declared.fault.Fault.TheVariants.{Number, Range, Text, ExtraFields, Size}
+
+infixl 10 ◌>>=◌
+abbrev pub ◌>>=◌ : {A B E : Type 0} → Result A E → (A → Result B E) → Result B E
+(Ok x) >>= f = f x
+(Err e) >>= f = Err e
+
+-- a value and the bytes after it
+abbrev pub Reads : Type 0 → Type 0
+Reads A = Result (A × List ℕ) Fault
+
+-- a whole number in a range
+abbrev pub natural_in : ℕ → ℕ → Option ℤ → Result ℕ Fault
+natural_in low high None = Err Number
+natural_in low high (Some (pos n)) = if nat_le low n && nat_le n high then Ok n else Err Range
+natural_in low high (Some (negsuc n)) = Err Range
+
+abbrev pub integer_in : ℤ → ℤ → Option ℤ → Result ℤ Fault
+integer_in low high None = Err Number
+integer_in low high (Some z) = if int_lt z low || int_lt high z then Err Range else Ok z
+
+abbrev pub natural_at : ℕ → ℕ → List ℕ → Reads ℕ
+natural_at low high line = natural_in low high (integer_of (field_of line)) >>= λ n. Ok (n, after_field line)
+
+abbrev pub integer_at : ℤ → ℤ → List ℕ → Reads ℤ
+integer_at low high line = integer_in low high (integer_of (field_of line)) >>= λ z. Ok (z, after_field line)
+
+abbrev pub most : ℕ
+most = 2147483647
+
+-- a signed number of 32 bits
+abbrev pub signed_at : List ℕ → Reads ℤ
+signed_at line = integer_at (negsuc most) (pos most) line
+
+-- the most different atoms of a program
+abbrev pub most_atoms : ℕ
+most_atoms = 1000000
+
+-- an atom that stood nowhere before, where as many stood as may
+abbrev pub is_one_too_many : Atoms → ℕ → Bool
+is_one_too_many known atom = not (has known atom) && nat_le most_atoms (length known)
+
+-- an atom, where these are known from before
+abbrev pub room_for : Atoms → ℕ → Result (Unit {0}) Fault
+room_for known atom = if is_one_too_many known atom then Err Size else Ok tt
+
+unfoldable pub atom_at : Atoms → List ℕ → Reads ℕ
+atom_at known line = do
+  atom ← natural_at 1 most line
+  _ ← room_for known atom.0
+  Ok atom
+
+abbrev pub is_zero : ℤ → Bool
+is_zero (pos n) = n == 0
+is_zero (negsuc n) = false
+
+unfoldable pub literal_at : Atoms → List ℕ → Reads ℤ
+literal_at known line = do
+  literal ← integer_at (neg_ℤ (pos most)) (pos most) line
+  if is_zero literal.0 then Err Range else (do
+    _ ← room_for known (atom_of literal.0)
+    Ok literal)
+
+-- a literal and its weight
+unfoldable pub weighted_at : ℤ → Atoms → List ℕ → Reads (ℤ × ℤ)
+weighted_at low known line = do
+  literal ← literal_at known line
+  weight ← integer_at low (pos most) literal.1
+  Ok ((literal.0, weight.0), weight.1)
+
+-- the greatest sum of all counts of a program
+abbrev pub most_counted : ℕ
+most_counted = 16777216
+
+-- a count, where this many were counted before
+unfoldable pub count_at : ℕ → List ℕ → Reads ℕ
+count_at used line = do
+  n ← natural_at 0 most line
+  if nat_lt most_counted (used + n.0) then Err Size else Ok n
+
+-- so many of them, each with an atom that is known behind it
+unfoldable pub many_at : {A : Type 0} → (A → ℕ) → (Atoms → List ℕ → Reads A) → ℕ → Atoms → List ℕ → Reads (List A)
+many_at atom one zero known line = Ok ([], line)
+many_at atom one (suc n) known line = do
+  first ← one known line
+  others ← many_at atom one n (with_atom (atom first.0) known) first.1
+  Ok (first.0 ∷ others.0, others.1)
+
+abbrev pub weighted_atom : ℤ × ℤ → ℕ
+weighted_atom item = atom_of item.0
+
+abbrev pub literals_at : ℕ → Atoms → List ℕ → Reads (List ℤ)
+literals_at used known line = count_at used line >>= λ n. many_at atom_of literal_at n.0 known n.1
+
+abbrev pub weights_at : ℕ → ℤ → Atoms → List ℕ → Reads (List (ℤ × ℤ))
+weights_at used low known line = count_at used line >>= λ n. many_at weighted_atom (weighted_at low) n.0 known n.1
+
+-- a blank or the line's end
+abbrev pub ends_field : List ℕ → Bool
+ends_field [] = true
+ends_field (b ∷ bs) = is_blank b
+
+-- one blank, a text of so many bytes, and the end of the field
+abbrev pub text_at : ℕ → List ℕ → Reads (List ℕ)
+text_at n [] = Err Text
+text_at n (b ∷ bs) = if is_blank b && (nat_le n (length bs) && ends_field (drop n bs)) then Ok (take n bs, drop n bs) else Err Text
+
+-- no further field
+abbrev pub ended : List ℕ → Result (Unit {0}) Fault
+ended line = if length (unblank line) == 0 then Ok tt else Err ExtraFields
+
+-- a value behind which no field stands
+abbrev pub alone : {A : Type 0} → A × List ℕ → Result A Fault
+alone x = ended x.1 >>= λ _. Ok x.0

@@ -1,0 +1,10 @@
+pub mod Sizes
+pub mod Known
+pub mod Fields
+pub mod Statements
+pub mod Outcome
+pub mod Rows
+pub mod Gives
+pub mod Seen
+pub mod Kept
+pub mod Stream

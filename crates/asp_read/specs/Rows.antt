@@ -1,0 +1,12 @@
+-- Texts of worked rows.
+use Rattle.std.specs.Prelude.{ℕ, List, [], ◌∷◌, ◌++◌, codes}
+use Rattle.asp_model.specs.declared.program.Rule.{Rule}
+use Rattle.asp_model.specs.declared.program.Program.{Program}
+use Rattle.asp_read.specs.Sizes.{empty_program}
+
+-- this line after a header and before the end
+abbrev pub after_header : List ℕ → List ℕ
+after_header line = codes "asp 1 0 0\n" ++ line ++ codes "\n0\n"
+
+abbrev pub rule_program : Rule → Program
+rule_program r = record empty_program { rules = r ∷ [] }

@@ -1,0 +1,87 @@
+//! The atoms that stood so far.
+ghost use Rattle.std.specs.Prelude.{◌≡◌, ℕ, [], length, slice_index, IfOk, OnOk};
+ghost use Rattle.asp_model.specs.Sets.{with_atom};
+ghost use Rattle.asp_read.specs.Gives.{Gives};
+ghost use Rattle.asp_read.specs.Fields.{room_for};
+
+use crate::error::LineError;
+use asp_model::fault::Fault;
+use asp_model::program::Atom;
+use std::alloc::{AllocError, Global};
+use std::collections::HashSet;
+use std::marker::Model;
+
+/// The most different atoms of a program.
+const MOST_ATOMS: u32 = 1_000_000;
+
+/// How many atoms are found at once.
+const RECENT_PLACES: u32 = 1 << 20;
+
+/// A set of atoms. Each atom has a place of a fixed number of them, and a mark that tells it from the others of its
+/// place. A place has the mark of the atom that was last asked for there, or 0: that atom is found by one comparison.
+#[derive(Drop)]
+pub struct KnownAtoms {
+    atoms: HashSet<Atom>,
+    recent: Vec<u16>,
+    count: u32,
+}
+
+impl Model for KnownAtoms {
+    ghost use Rattle.asp_model.specs.Sets.{Atoms, set_of};
+    ghost use Rattle.asp_read.specs.Known.{IsKnown};
+
+    ghost Value = { Atoms };
+
+    ghost view = { λ s. set_of s.atoms.keys };
+
+    ghost invariant = { λ s. IsKnown s.atoms.keys s.recent.items s.count };
+}
+
+impl KnownAtoms {
+    pub fn new(alloc: Global) -> Result<Self, AllocError>
+        ensures { IfOk result (λ known. known ≡ []) }
+    {
+        Ok(KnownAtoms {
+            atoms: HashSet::new(alloc),
+            recent: zeros(alloc, RECENT_PLACES as usize)?,
+            count: 0,
+        })
+    }
+
+    /// Takes an atom, unless it would be one too many.
+    pub fn take(&mut self, atom: Atom) -> Result<(), LineError>
+        ensures room { Gives (λ u. u) result (room_for self.old atom) }
+        ensures taken { OnOk result (self.new ≡ with_atom atom self.old) }
+    {
+        let place = (atom % RECENT_PLACES) as usize;
+        let mark = (atom / RECENT_PLACES + 1) as u16;
+        if self.recent[place] == mark {
+            return Ok(());
+        }
+        self.take_unless_full(atom)?;
+        self.recent[place] = mark;
+        Ok(())
+    }
+
+    fn take_unless_full(&mut self, atom: Atom) -> Result<(), LineError>
+        ensures room { Gives (λ u. u) result (room_for self.old atom) }
+        ensures taken { OnOk result (self.new ≡ with_atom atom self.old) }
+    {
+        if self.atoms.contains(&atom) {
+            return Ok(());
+        }
+        if self.count >= MOST_ATOMS {
+            return Err(LineError::Fault(Fault::Size));
+        }
+        self.atoms.insert(atom)?;
+        self.count += 1;
+        Ok(())
+    }
+}
+
+fn zeros(alloc: Global, count: usize) -> Result<Vec<u16>, AllocError>
+    ensures zeros { IfOk result (λ v. (k : ℕ) → slice_index v.items k ≡ 0) }
+    ensures len { IfOk result (λ v. length v.items ≡ count) }
+{
+    vec![in alloc; 0; count]
+}

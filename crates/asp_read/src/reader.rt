@@ -1,0 +1,182 @@
+// What the lines so far said, and the next line.
+ghost use Rattle.std.specs.Prelude.{◌≡◌, ◌+◌, ◌≤◌, IfOk, IsErrOf, OnOk, OnErr};
+ghost use Rattle.asp_read.specs.Sizes.{program_size, statement_size};
+ghost use Rattle.asp_read.specs.Seen.{nothing_seen};
+ghost use Rattle.asp_read.specs.Gives.{Gives};
+ghost use Rattle.asp_read.specs.Fields.{most_counted};
+ghost use Rattle.asp_read.specs.Statements.{with_number};
+ghost use Rattle.asp_read.specs.Outcome.{judge, adds, stage_after, at_end};
+
+use crate::error::LineError;
+use crate::known::KnownAtoms;
+use crate::sizes::size_of_rule;
+use crate::statement::Statement;
+use crate::statements::{header, statement};
+use asp_model::fault::{Fault, ReadError};
+use asp_model::program::{External, Minimize, Output, Program, Rule};
+use asp_model::seq::Seq;
+use asp_text::unblank;
+use std::alloc::{AllocError, Global};
+use std::marker::Model;
+
+/// How far the lines have come.
+#[derive(Clone, Copy, Debug, PartialEq, Eq)]
+pub enum Stage {
+    /// The header comes next.
+    Start,
+    Within,
+    /// The line `0` stood.
+    Ended,
+}
+
+#[derive(Drop)]
+pub struct Reader {
+    alloc: Global,
+    stage: Stage,
+    rules: Vec<Rule>,
+    minimize: Vec<Minimize>,
+    outputs: Vec<Output>,
+    externals: Vec<External>,
+    assumptions: Vec<i32>,
+    used: u32,
+    priorities: Vec<i32>,
+    known: KnownAtoms,
+}
+
+impl Model for Reader {
+    ghost use Rattle.asp_read.specs.Seen.{Seen};
+
+    ghost Value = { Seen };
+
+    ghost use Rattle.asp_read.specs.Kept.{IsKept};
+
+    ghost view = { λ r. record { stage = r.stage; program = record { rules = r.rules.items; minimize = r.minimize.items; outputs = r.outputs.items; externals = r.externals.items; assumptions = r.assumptions.items }; known = r.known } };
+
+    ghost invariant = { λ r. IsKept (record { rules = r.rules.items; minimize = r.minimize.items; outputs = r.outputs.items; externals = r.externals.items; assumptions = r.assumptions.items }) r.used r.priorities.items };
+}
+
+impl Reader {
+    pub fn new(alloc: Global) -> Result<Self, AllocError>
+        ensures { IfOk result (λ r. r ≡ nothing_seen) }
+    {
+        Ok(Reader {
+            alloc,
+            stage: Stage::Start,
+            rules: Vec::new(alloc),
+            minimize: Vec::new(alloc),
+            outputs: Vec::new(alloc),
+            externals: Vec::new(alloc),
+            assumptions: Vec::new(alloc),
+            used: 0,
+            priorities: Vec::new(alloc),
+            known: KnownAtoms::new(alloc)?,
+        })
+    }
+
+    // Adds what a line said, whose atoms are known.
+    fn add(mut self, statement: Statement) -> Result<Reader, AllocError>
+        requires { program_size self.program + statement_size statement ≤ most_counted }
+        ensures { IfOk result (λ r. r ≡ record { stage = stage_after statement; program = adds self.program statement; known = self.known }) }
+    {
+        match statement {
+            Statement::End => {
+                self.stage = Stage::Ended;
+                Ok(self)
+            }
+            Statement::Comment => {
+                self.stage = Stage::Within;
+                Ok(self)
+            }
+            Statement::Rule(rule) => {
+                let size = size_of_rule(&rule);
+                self.rules.push(rule)?;
+                self.used += size;
+                self.stage = Stage::Within;
+                Ok(self)
+            }
+            Statement::Minimize(minimize) => {
+                let size = minimize.items.as_slice().len() as u32;
+                with_priority(&mut self.priorities, minimize.priority)?;
+                self.minimize.push(minimize)?;
+                self.used += size;
+                self.stage = Stage::Within;
+                Ok(self)
+            }
+            Statement::Output(output) => {
+                let size = output.condition.as_slice().len() as u32;
+                self.outputs.push(output)?;
+                self.used += size;
+                self.stage = Stage::Within;
+                Ok(self)
+            }
+            Statement::External(external) => {
+                self.externals.push(external)?;
+                self.stage = Stage::Within;
+                Ok(self)
+            }
+            Statement::Assume(literals) => {
+                let size = literals.as_slice().len() as u32;
+                self.assumptions.extend_from_slice(literals.as_slice())?;
+                self.used += size;
+                self.stage = Stage::Within;
+                Ok(self)
+            }
+        }
+    }
+
+    /// Judges a line, with the lines before it.
+    pub fn judge(mut self, line: &[u8]) -> Result<Reader, LineError>
+        ensures { Gives (λ r. r) result (judge self line.now) }
+    {
+        if unblank(line).is_empty() {
+            return Ok(self);
+        }
+        match self.stage {
+            Stage::Start => {
+                header(line)?;
+                self.stage = Stage::Within;
+                Ok(self)
+            }
+            Stage::Within => {
+                let statement = statement(
+                    self.alloc,
+                    line,
+                    self.used,
+                    self.priorities.as_slice(),
+                    &mut self.known,
+                )?;
+                Ok(self.add(statement)?)
+            }
+            Stage::Ended => Err(LineError::Fault(Fault::AfterEnd)),
+        }
+    }
+
+    /// The end of the text, as the line with this number.
+    pub fn end(self, number: u32) -> Result<Program, ReadError>
+        ensures end { result ≡ at_end number self.stage self.program }
+        ensures no_fault { IsErrOf result ReadError.ReadFault → ⊥ }
+    {
+        match self.stage {
+            Stage::Start => Err(ReadError::Refused(Fault::Header, number)),
+            Stage::Within => Err(ReadError::Refused(Fault::NoEnd, number)),
+            Stage::Ended => Ok(Program {
+                rules: Seq::from_vec(self.rules),
+                minimize: Seq::from_vec(self.minimize),
+                outputs: Seq::from_vec(self.outputs),
+                externals: Seq::from_vec(self.externals),
+                assumptions: Seq::from_vec(self.assumptions),
+            }),
+        }
+    }
+}
+
+fn with_priority(seen: &mut Vec<i32>, priority: i32) -> Result<(), AllocError>
+    ensures ok { OnOk result (seen.new.items ≡ with_number seen.old.items priority) }
+    ensures err { OnErr result (seen.new.items ≡ seen.old.items) }
+{
+    if seen.contains(&priority) {
+        return Ok(());
+    }
+    seen.push(priority)?;
+    Ok(())
+}

@@ -1,0 +1,16 @@
+mod Digits
+mod Fields
+mod Room
+mod Bytes
+mod Given
+mod GivenStatements
+mod Growing
+mod GivenTexts
+mod Written
+mod WrittenStatements
+mod WrittenLines
+mod Says
+mod WrittenTexts
+mod Shorter
+mod ShorterStatements
+mod ShorterTexts

@@ -1,0 +1,5 @@
+//! The canonical text of a program reads as the program.
+#![tactic(auto)]
+
+pub mod laws;
+pub mod rows;

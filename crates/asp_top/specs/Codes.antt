@@ -1,0 +1,15 @@
+-- The exit statuses.
+use Rattle.std.specs.Prelude.{ℕ}
+use Rattle.asp_top.specs.declared.status.Status.{Status}
+use Rattle.asp_top.specs.declared.status.Status.TheVariants.{All, NoModel, Help, Memory, Usage, Refused, ReadFault, TooLong, WriteFault}
+
+abbrev pub code_of : Status → ℕ
+code_of All = 30
+code_of NoModel = 20
+code_of Help = 0
+code_of Memory = 33
+code_of Usage = 64
+code_of (Refused fault line) = 65
+code_of ReadFault = 66
+code_of TooLong = 67
+code_of WriteFault = 74

@@ -1,0 +1,4 @@
+pub mod Codes
+pub mod Notes
+pub mod Meaning
+pub mod Runs

@@ -1,0 +1,63 @@
+//! How a run ended.
+ghost use Rattle.std.specs.Prelude.{◌≡◌};
+ghost use Rattle.asp_top.specs.Codes.{code_of};
+
+use asp_model::fault::Fault;
+use asp_model::results::Results;
+
+/// How a run ended.
+#[derive(Clone, Copy, Debug, PartialEq, Eq)]
+pub enum Status {
+    /// Finished with a model: all answers or an optimum were written.
+    All,
+    /// Finished without a model.
+    NoModel,
+    /// The help line was asked for and written.
+    Help,
+    /// Memory ran out, and nothing was written to the sink.
+    Memory,
+    /// The words of the command line are faulty.
+    Usage,
+    /// The text's first fault, and the number of its line.
+    Refused(Fault, u32),
+    /// The source failed.
+    ReadFault,
+    /// The text is longer than a text may be.
+    TooLong,
+    /// The sink failed. A front of what was to be written is out.
+    WriteFault,
+}
+
+impl Status {
+    /// The exit status of the program.
+    pub fn code(self) -> u8
+        ensures { result ≡ code_of self }
+    {
+        match self {
+            Status::All => 30,
+            Status::NoModel => 20,
+            Status::Help => 0,
+            Status::Memory => 33,
+            Status::Usage => 64,
+            Status::Refused(_, _) => 65,
+            Status::ReadFault => 66,
+            Status::TooLong => 67,
+            Status::WriteFault => 74,
+        }
+    }
+}
+
+/// What a run that ended its search has to say.
+#[derive(Drop)]
+pub struct Report {
+    /// What was found.
+    pub results: Results,
+}
+
+/// How a run ended, and its report where the search ended: with the statuses All and NoModel, and where the results
+/// could not be written.
+#[derive(Drop)]
+pub struct Outcome {
+    pub status: Status,
+    pub report: Option<Report>,
+}

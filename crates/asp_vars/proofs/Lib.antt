@@ -1,0 +1,17 @@
+pub mod LiteralLaws
+pub mod ResolutionLaws
+pub mod NormalLaws
+pub mod NumberingLaws
+pub mod StandingLaws
+pub mod StableLaws
+pub mod CompletionLaws
+pub mod PaidLaws
+pub mod ConflictLaws
+pub mod PlaceLaws
+pub mod SettledLaws
+pub mod RowLaws
+pub mod FormLaws
+pub mod KeyLaws
+pub mod RuleLaws
+pub mod HeadLaws
+pub mod NumberedLaws

@@ -1,0 +1,16 @@
+pub mod Literals
+pub mod Codes
+pub mod Numbering
+pub mod Entailment
+pub mod Resolution
+pub mod Completion
+pub mod Conflicts
+pub mod Paid
+pub mod Unfounded
+pub mod Forms
+pub mod Headed
+pub mod Placed
+pub mod Places
+pub mod Tabled
+pub mod Tables
+pub mod Numbers

@@ -1,0 +1,87 @@
+-- The variables of a program: first its atoms, ascending, then the distinct bodies of its rules in force, in the order of their first occurrence.
+use Rattle.std.specs.Prelude.{ℕ, suc, ◌+◌, ◌==◌, Bool, false, ◌&&◌, if◌then◌else◌, List, [], ◌∷◌, ◌++◌, map, fold, length, slice_index_or, ℤ, pos, ◌+ℤ◌, int_lt}
+use Rattle.std.specs.List.{list_any}
+use Rattle.std.specs.Ordering.{int_eq}
+use Rattle.std.specs.Cmp.Lexicographic.{pointwise}
+pub use Rattle.asp_table.specs.Columns.{place_of}
+use Rattle.asp_model.specs.declared.program.Body.{Body}
+use Rattle.asp_model.specs.declared.program.Body.TheVariants as body
+use Rattle.asp_model.specs.declared.program.Head.TheVariants as head
+use Rattle.asp_model.specs.declared.program.Rule.{Rule}
+use Rattle.asp_model.specs.declared.program.Program.{Program}
+use Rattle.asp_model.specs.Sets.{Atoms, has}
+use Rattle.asp_model.specs.Holding.{atom_of, is_positive, body_holds}
+use Rattle.asp_model.specs.Models.{rules_in_force, atoms_of}
+use Rattle.asp_vars.specs.Literals.{Literal}
+
+-- ---- a body's normal form, in which equal literals stand once
+-- the ascending list with the literal in it
+abbrev pub with_literal : ℤ → List ℤ → List ℤ
+with_literal l [] = l ∷ []
+with_literal l (k ∷ ks) = if int_lt l k then l ∷ k ∷ ks else k ∷ (if int_lt k l then with_literal l ks else ks)
+
+-- the ascending list with the weight added to the literal's
+abbrev pub with_weight : ℤ × ℤ → List (ℤ × ℤ) → List (ℤ × ℤ)
+with_weight i [] = i ∷ []
+with_weight i (j ∷ js) =
+    if int_lt i.0 j.0 then i ∷ j ∷ js else if int_lt j.0 i.0 then j ∷ with_weight i js else (j.0, j.1 +ℤ i.1) ∷ js
+
+-- Bodies that mean the same by their literals, weights and bound have one normal form.
+abbrev pub normal : Body → Body
+normal (body.All literals) = body.All (fold (λ ks l. with_literal l ks) [] literals)
+normal (body.AtLeast bound items) = body.AtLeast bound (fold (λ js i. if int_eq i.1 (pos 0) then js else with_weight i js) [] items)
+
+abbrev pub body_eq : Body → Body → Bool
+body_eq (body.All k) (body.All l) = pointwise int_eq k l
+body_eq (body.AtLeast b k) (body.AtLeast c l) = int_eq b c && pointwise (λ i j. int_eq i.0 j.0 && int_eq i.1 j.1) k l
+body_eq (body.All k) (body.AtLeast c l) = false
+body_eq (body.AtLeast b k) (body.All l) = false
+
+-- ---- the numbers
+-- the list with the body in it
+abbrev pub with_body : List Body → Body → List Body
+with_body bs b = if list_any (body_eq b) bs then bs else bs ++ b ∷ []
+
+abbrev pub distinct : List Body → List Body
+distinct bodies = fold with_body [] bodies
+
+abbrev pub bodies_of : Program → List Body
+bodies_of p = distinct (map (λ r. normal r.body) (rules_in_force p))
+
+-- the number of variables
+abbrev pub var_count : Program → ℕ
+var_count p = length (atoms_of p) + length (bodies_of p)
+
+-- the place of an atom in a list of atoms, counted from 1
+abbrev pub var_in : Atoms → ℕ → ℕ
+var_in atoms a = suc (place_of (λ b. b == a) atoms)
+
+abbrev pub var_of_atom : Program → ℕ → ℕ
+var_of_atom p a = var_in (atoms_of p) a
+
+-- of a body in normal form
+abbrev pub var_of_form : Program → Body → ℕ
+var_of_form p b = suc (length (atoms_of p) + place_of (body_eq b) (bodies_of p))
+
+abbrev pub var_of_body : Program → Body → ℕ
+var_of_body p b = var_of_form p (normal b)
+
+-- an atom's literal as a literal of its variable
+abbrev pub literal_in : Atoms → ℤ → Literal
+literal_in atoms l = record { var = var_in atoms (atom_of l); truth = is_positive l }
+
+abbrev pub literal_of : Program → ℤ → Literal
+literal_of p l = literal_in (atoms_of p) l
+
+-- The value in S of each variable, which stands at the place of its number. No variable has the number 0.
+abbrev pub values : Program → Atoms → List Bool
+values p S = false ∷ map (has S) (atoms_of p) ++ map (body_holds S) (bodies_of p)
+
+abbrev pub nth_body : Program → ℕ → Body
+nth_body p j = slice_index_or (bodies_of p) j (body.All [])
+
+abbrev pub nth_rule : Program → ℕ → Rule
+nth_rule p i = slice_index_or (rules_in_force p) i (record { head = head.Never; body = body.All [] })
+
+abbrev pub nth_atom : Program → ℕ → ℕ
+nth_atom p i = slice_index_or (atoms_of p) i 0

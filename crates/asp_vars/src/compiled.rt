@@ -1,0 +1,210 @@
+//! Programs with variables for their atoms and bodies.
+ghost use Rattle.std.specs.Prelude.{◌≡◌, ◌+◌, ◌-◌, ◌<◌, ◌≤◌, ◌^◌, All, IsTrue, length};
+ghost use Rattle.asp_model.specs.Sound.{IsSound};
+ghost use Rattle.asp_model.specs.Models.{rules_in_force, atoms_of};
+ghost use Rattle.asp_model.specs.Sets.{has};
+ghost use Rattle.asp_vars.specs.Numbering.{bodies_of, var_count, var_of_atom, var_of_form, var_of_body, nth_body, nth_rule, nth_atom};
+ghost use Rattle.asp_vars.specs.Completion.{supports};
+ghost use Rattle.asp_vars.specs.Tabled.{bound_of, form_literals, form_weights, heads_of, occurrences_of, find_var, find_atom, IsAtomVar, IsBodyVar};
+
+use crate::lit::{Lit, Var};
+use crate::occurrence::Occurrence;
+use crate::place::place;
+use crate::rules::rule_at;
+use asp_model::interp::Interp;
+use asp_model::program::{Atom, Program, Rule};
+use asp_table::table::Table;
+use std::marker::Model;
+
+/// A program with the tables of its variables. Contracts see it as the program, of which each table is a function.
+///
+/// Its atoms, ascending, are the variables from 1 on; the distinct bodies of its rules in force follow them, in the
+/// order of their first occurrence. Bodies and rules are counted from 0.
+#[derive(Drop)]
+pub struct Compiled {
+    pub(crate) program: Program,
+    pub(crate) opened: Vec<Rule>,
+    pub(crate) atoms: Interp,
+    pub(crate) rule_bodies: Vec<Var>,
+    pub(crate) bounds: Vec<Option<i32>>,
+    pub(crate) literals: Table<Lit>,
+    pub(crate) weights: Table<i64>,
+    pub(crate) heads: Table<Var>,
+    pub(crate) supports: Table<Var>,
+    pub(crate) occurrences: Table<Occurrence>,
+}
+
+impl Model for Compiled {
+    ghost use Rattle.asp_model.specs.declared.program.Program.{Program};
+
+    ghost Value = { Program };
+
+    ghost use Rattle.asp_vars.specs.Tables.{IsTabled};
+
+    ghost view = { λ c. c.program };
+
+    ghost invariant = { IsTabled };
+}
+
+impl Compiled {
+    /// The program.
+    pub fn program(&self) -> &Program
+        ensures program { result.now ≡ self.now }
+        ensures sound { IsSound self.now }
+    {
+        &self.program
+    }
+
+    /// How many rules are in force: those of the program, and then those of its externals.
+    pub fn rule_count(&self) -> usize
+        ensures { result ≡ length (rules_in_force self.now) }
+    {
+        self.rule_bodies.len()
+    }
+
+    /// A rule in force.
+    pub fn rule(&self, rule: usize) -> &Rule
+        requires { rule < length (rules_in_force self.now) }
+        ensures { result.now ≡ nth_rule self.now rule }
+    {
+        let _ = &self.opened;
+        rule_at(self.program.rules.as_slice(), self.opened.as_slice(), rule)
+    }
+
+    /// The variable of a rule's body.
+    pub fn rule_body(&self, rule: usize) -> Var
+        requires { rule < length (rules_in_force self.now) }
+        ensures var { result ≡ var_of_body self.now (nth_rule self.now rule).body }
+        ensures body { IsBodyVar self.now result }
+        ensures few { var_count self.now < 2 ^ 31 }
+    {
+        self.rule_bodies[rule]
+    }
+
+    /// The atoms that stand in the program.
+    pub fn atoms(&self) -> &Interp
+        ensures { result.now ≡ atoms_of self.now }
+    {
+        &self.atoms
+    }
+
+    /// How many atoms stand in the program.
+    pub fn atom_count(&self) -> usize
+        ensures count { result ≡ length (atoms_of self.now) }
+        ensures few { var_count self.now < 2 ^ 31 }
+    {
+        self.atoms.as_slice().len()
+    }
+
+    /// How many different bodies the rules in force have.
+    pub fn body_count(&self) -> usize
+        ensures count { result ≡ length (bodies_of self.now) }
+        ensures few { var_count self.now < 2 ^ 31 }
+    {
+        self.bounds.len()
+    }
+
+    /// How many variables there are. They are the numbers from 1 to this one.
+    pub fn vars(&self) -> Var
+        ensures count { result ≡ var_count self.now }
+        ensures few { var_count self.now < 2 ^ 31 }
+    {
+        (self.atom_count() + self.body_count()) as u32
+    }
+
+    /// The variable of an atom, if it stands in the program.
+    pub fn var(&self, atom: Atom) -> Option<Var>
+        ensures { result ≡ find_var self.now atom }
+    {
+        let _ = &self.opened;
+        place(self.atoms.as_slice(), atom)
+    }
+
+    /// The variable of an atom that stands in the program.
+    pub fn atom_var(&self, atom: Atom) -> Var
+        requires { IsTrue (has (atoms_of self.now) atom) }
+        ensures var { result ≡ var_of_atom self.now atom }
+        ensures atom { IsAtomVar self.now result }
+        ensures few { var_count self.now < 2 ^ 31 }
+    {
+        let _ = &self.opened;
+        match self.var(atom) {
+            Some(var) => var,
+            None => unreachable!(),
+        }
+    }
+
+    /// The atom of a variable, if it is an atom's.
+    pub fn atom(&self, var: Var) -> Option<Atom>
+        ensures { result ≡ find_atom self.now var }
+    {
+        let atoms = self.atoms.as_slice();
+        if var == 0 {
+            return None;
+        }
+        atoms.get(var as usize - 1).copied()
+    }
+
+    /// The variable of a body.
+    pub fn body_var(&self, body: usize) -> Var
+        requires { body < length (bodies_of self.now) }
+        ensures var { result ≡ var_of_form self.now (nth_body self.now body) }
+        ensures number { result ≡ length (atoms_of self.now) + body + 1 }
+        ensures body { IsBodyVar self.now result }
+        ensures few { var_count self.now < 2 ^ 31 }
+    {
+        (self.atom_count() + body + 1) as u32
+    }
+
+    /// The bound of a weight body, and none of a normal one.
+    pub fn bound(&self, body: usize) -> Option<i32>
+        requires { body < length (bodies_of self.now) }
+        ensures { result ≡ bound_of (nth_body self.now body) }
+    {
+        self.bounds[body]
+    }
+
+    /// The literals of a body. Each stands once.
+    pub fn literals(&self, body: usize) -> &[Lit]
+        requires { body < length (bodies_of self.now) }
+        ensures literals { result.now ≡ form_literals self.now (nth_body self.now body) }
+        ensures atoms { All (λ l. IsAtomVar self.now l.var) result.now }
+    {
+        self.literals.row(body)
+    }
+
+    /// The weights of a weight body's literals, at their places; of a normal body none.
+    pub fn weights(&self, body: usize) -> &[i64]
+        requires { body < length (bodies_of self.now) }
+        ensures { result.now ≡ form_weights (nth_body self.now body) }
+    {
+        self.weights.row(body)
+    }
+
+    /// The variables of the head atoms of a body's rules, rule by rule.
+    pub fn heads(&self, body: usize) -> &[Var]
+        requires { body < length (bodies_of self.now) }
+        ensures heads { result.now ≡ heads_of self.now (nth_body self.now body) }
+        ensures atoms { All (IsAtomVar self.now) result.now }
+    {
+        self.heads.row(body)
+    }
+
+    /// The variables, ascending, of the bodies of the rules that have an atom in their heads.
+    pub fn supports(&self, var: Var) -> &[Var]
+        requires { IsAtomVar self.now var }
+        ensures supports { result.now ≡ supports self.now (nth_atom self.now (var - 1)) }
+        ensures bodies { All (IsBodyVar self.now) result.now }
+        ensures few { var_count self.now < 2 ^ 31 }
+    {
+        self.supports.row(var as usize)
+    }
+
+    /// The bodies, ascending, in which a literal of an atom's variable stands, and where it stands there.
+    pub fn occurrences(&self, lit: Lit) -> &[Occurrence]
+        requires { IsAtomVar self.now lit.var }
+        ensures { result.now ≡ occurrences_of self.now lit }
+    {
+        self.occurrences.row(lit.code())
+    }
+}

@@ -1,0 +1,191 @@
+//! Units of work, and the conflicts that pay for them.
+ghost use Rattle.std.specs.Prelude.{◌≡◌, ◌+◌, ◌-◌, ◌<◌, ◌≤◌, ◌^◌, None, IfOk, OnOk, OnErr, length, max, option_map};
+ghost use Rattle.std.specs.Option.{option_copied};
+ghost use Rattle.asp_vars.specs.Conflicts.{IsConflict};
+ghost use Rattle.asp_vars.specs.Paid.{least_of, IsPaid, IsClash};
+
+use crate::compiled::Compiled;
+use crate::lit::Lit;
+use crate::origin::Origin;
+use asp_model::cost::Cost;
+use asp_model::interp::Interp;
+use asp_model::program::Program;
+use std::marker::Model;
+
+/// A conflict that a search met. It is spent where a unit is burnt, and can't be copied.
+#[derive(Drop)]
+pub struct Conflict {
+    program: Origin<Program>,
+    cube: Vec<Lit>,
+    decisions: Vec<Lit>,
+    nogood: Vec<Lit>,
+    known: u64,
+    bound: Option<Cost>,
+}
+
+impl Model for Conflict {
+    ghost use Rattle.asp_vars.specs.Paid.{Clash, IsClash};
+
+    ghost Value = { Clash };
+
+    ghost view = { λ x. record { program = x.program.value; cube = x.cube.items; decisions = x.decisions.items; nogood = x.nogood.items; known = x.known; bound = x.bound } };
+
+    ghost invariant = { λ x. IsClash (record { program = x.program.value; cube = x.cube.items; decisions = x.decisions.items; nogood = x.nogood.items; known = x.known; bound = x.bound }) };
+}
+
+impl Conflict {
+    /// A conflict of the program that was met below a cube, by these known answers and this bound. It takes no memory.
+    pub fn of(
+        compiled: &Compiled,
+        cube: Vec<Lit>,
+        decisions: Vec<Lit>,
+        nogood: Vec<Lit>,
+        known: &[Interp],
+        bound: Option<Cost>,
+    ) -> Conflict
+        requires { IsConflict compiled.now known.now bound cube.items decisions.items nogood.items }
+        ensures { result ≡ record { program = compiled.now; cube = cube.items; decisions = decisions.items; nogood = nogood.items; known = length known.now; bound = bound } }
+    {
+        Conflict {
+            program: Origin::of(compiled.program()),
+            cube,
+            decisions,
+            nogood,
+            known: known.len() as u64,
+            bound,
+        }
+    }
+}
+
+// The smaller of those that stand.
+fn least(first: Option<Cost>, second: Option<Cost>) -> Option<Cost>
+    ensures { result ≡ least_of first second }
+{
+    match (first, second) {
+        (None, d) => d,
+        (Some(c), None) => Some(c),
+        (Some(c), Some(d)) => { if d < c { Some(d) } else { Some(c) } }
+    }
+}
+
+/// Units of a program's search. Each that was burnt took a conflict of its own.
+#[derive(Drop)]
+pub struct Fuel {
+    program: Origin<Program>,
+    left: u64,
+    burnt: u64,
+    known: u64,
+    least: Option<Cost>,
+}
+
+impl Model for Fuel {
+    ghost use Rattle.std.specs.Prelude.{◌+◌, ◌<◌, ◌^◌};
+    ghost use Rattle.asp_vars.specs.Paid.{Units, IsPaid};
+
+    ghost Value = { Units };
+
+    ghost view = { λ f. record { program = f.program.value; left = f.left; burnt = f.burnt; known = f.known; least = f.least } };
+
+    ghost invariant = { λ f. (f.left + f.burnt < 2 ^ 64) × IsPaid (record { program = f.program.value; left = f.left; burnt = f.burnt; known = f.known; least = f.least }) };
+}
+
+impl Fuel {
+    /// So many units of the program's search, none of them burnt. It takes no memory.
+    pub fn of(compiled: &Compiled, units: u64) -> Fuel
+        ensures { result ≡ record { program = compiled.now; left = units; burnt = 0; known = 0; least = None } }
+    {
+        Fuel {
+            program: Origin::of(compiled.program()),
+            left: units,
+            burnt: 0,
+            known: 0,
+            least: None,
+        }
+    }
+
+    /// The units that are left.
+    pub fn left(&self) -> u64
+        ensures left { result ≡ self.now.left }
+        ensures fits { self.now.left + self.now.burnt < 2 ^ 64 }
+    {
+        self.left
+    }
+
+    /// The units that were burnt, for each of which there is a conflict.
+    pub fn burnt(&self) -> u64
+        ensures burnt { result ≡ self.now.burnt }
+        ensures fits { self.now.left + self.now.burnt < 2 ^ 64 }
+        ensures paid { IsPaid self.now }
+    {
+        self.burnt
+    }
+
+    /// The most answers that a burnt conflict knew.
+    pub fn known(&self) -> u64
+        ensures { result ≡ self.now.known }
+    {
+        self.known
+    }
+
+    /// The least bound of a burnt conflict, if one had a bound.
+    pub fn least(&self) -> Option<&Cost>
+        ensures { option_copied result ≡ self.now.least }
+    {
+        self.least.as_ref()
+    }
+
+    /// Burns a unit, for which the conflict pays.
+    pub fn burn(&mut self, conflict: Conflict)
+        requires left { 0 < self.old.left }
+        requires program { conflict.program ≡ self.old.program }
+        ensures { self.new ≡ record { program = self.old.program; left = self.old.left - 1; burnt = self.old.burnt + 1; known = max self.old.known conflict.known; least = least_of self.old.least conflict.bound } }
+    {
+        let Conflict {
+            program: _,
+            cube: _,
+            decisions: _,
+            nogood: _,
+            known,
+            bound,
+        } = conflict;
+        self.left -= 1;
+        self.burnt += 1;
+        self.known = self.known.max(known);
+        self.least = least(self.least.take(), bound);
+    }
+
+    /// Takes n of the units that are left to a fuel of its own, of the same program. It takes no memory.
+    pub fn part(&mut self, n: u64) -> Fuel
+        requires { n ≤ self.old.left }
+        ensures part { result ≡ record { program = self.old.program; left = n; burnt = 0; known = 0; least = None } }
+        ensures rest { self.new ≡ record self.old { left = self.old.left - n } }
+    {
+        self.left -= n;
+        Fuel {
+            program: self.program.again(),
+            left: n,
+            burnt: 0,
+            known: 0,
+            least: None,
+        }
+    }
+
+    /// Puts the units of another fuel to these.
+    pub fn merge(&mut self, other: Fuel)
+        requires program { other.program ≡ self.old.program }
+        requires fits { self.old.left + self.old.burnt + other.left + other.burnt < 2 ^ 64 }
+        ensures { self.new ≡ record { program = self.old.program; left = self.old.left + other.left; burnt = self.old.burnt + other.burnt; known = max self.old.known other.known; least = least_of self.old.least other.least } }
+    {
+        let Fuel {
+            program: _,
+            left,
+            burnt,
+            known,
+            least: other_least,
+        } = other;
+        self.left += left;
+        self.burnt += burnt;
+        self.known = self.known.max(known);
+        self.least = least(self.least.take(), other_least);
+    }
+}

@@ -1,0 +1,140 @@
+//! Programs whose atoms and bodies have numbers: what compiling starts from.
+ghost use Rattle.std.specs.Prelude.{◌≡◌, ◌+◌, ◌*◌, IfOk, length, map};
+ghost use Rattle.asp_model.specs.Sound.{IsSound};
+ghost use Rattle.asp_model.specs.Models.{rules_in_force, atoms_of};
+ghost use Rattle.asp_vars.specs.Numbering.{bodies_of, var_of_body};
+ghost use Rattle.asp_vars.specs.Tabled.{bound_of, form_literals, form_weights, heads_of, AreSupports, AreOccurrences};
+
+use crate::bodies::Bodies;
+use crate::heads::{body_vars, head_rows, support_rows};
+use crate::lit::{Lit, Var};
+use crate::rules::number;
+use crate::tables::{bounds, code_rows, literal_rows, weight_rows};
+use asp_model::interp::Interp;
+use asp_model::program::{Program, Rule};
+use asp_table::columns::{Occurrence, columns};
+use asp_table::table::Table;
+use std::alloc::{AllocError, Global};
+use std::marker::Model;
+
+/// How many variables there can be.
+const LIMIT: usize = 0x8000_0000;
+
+/// A program, its atoms, its distinct bodies, and the place of each rule's body. Contracts see it as the program.
+#[derive(Drop)]
+pub struct Numbered {
+    pub(crate) program: Program,
+    pub(crate) opened: Vec<Rule>,
+    pub(crate) atoms: Interp,
+    pub(crate) bodies: Bodies,
+    pub(crate) places: Vec<u32>,
+}
+
+impl Model for Numbered {
+    ghost use Rattle.asp_model.specs.declared.program.Program.{Program};
+
+    ghost Value = { Program };
+
+    ghost use Rattle.asp_vars.specs.Numbers.{IsNumbered};
+
+    ghost view = { λ n. n.program };
+
+    ghost invariant = { IsNumbered };
+}
+
+impl Numbered {
+    /// The program with its numbers. Want of memory is also the answer where it has too many rules or variables.
+    pub fn of(alloc: Global, program: Program) -> Result<Numbered, AllocError>
+        requires { IsSound program }
+        ensures { IfOk result (λ n. n ≡ program) }
+    {
+        let opened = program.opened_rules(alloc)?;
+        let rules = program.rules.as_slice();
+        if LIMIT <= rules.len() + opened.as_slice().len() {
+            return Err(AllocError);
+        }
+        let (bodies, places) = number(alloc, rules, opened.as_slice())?;
+        let atoms = program.atoms(alloc)?;
+        if LIMIT <= atoms.as_slice().len() + bodies.forms().len() {
+            return Err(AllocError);
+        }
+        Ok(Numbered {
+            program,
+            opened,
+            atoms,
+            bodies,
+            places,
+        })
+    }
+
+    /// The variables of the bodies of the rules in force.
+    pub fn rule_bodies(&self, alloc: Global) -> Result<Vec<Var>, AllocError>
+        ensures { IfOk result (λ vars. vars.items ≡ map (λ r. var_of_body self.now r.body) (rules_in_force self.now)) }
+    {
+        let first = self.atoms.as_slice().len() as u32 + 1;
+        let vars = body_vars(alloc, first, self.places.as_slice())?;
+        Ok(vars)
+    }
+
+    /// The bound of each body.
+    pub fn bounds(&self, alloc: Global) -> Result<Vec<Option<i32>>, AllocError>
+        ensures { IfOk result (λ list. list.items ≡ map bound_of (bodies_of self.now)) }
+    {
+        let list = bounds(alloc, self.bodies.forms())?;
+        Ok(list)
+    }
+
+    /// The literals of each body.
+    pub fn literals(&self, alloc: Global) -> Result<Table<Lit>, AllocError>
+        ensures { IfOk result (λ rows. rows ≡ map (form_literals self.now) (bodies_of self.now)) }
+    {
+        let rows = literal_rows(alloc, self.atoms.as_slice(), self.bodies.forms())?;
+        Ok(rows)
+    }
+
+    /// The weights of each body.
+    pub fn weights(&self, alloc: Global) -> Result<Table<i64>, AllocError>
+        ensures { IfOk result (λ rows. rows ≡ map form_weights (bodies_of self.now)) }
+    {
+        let rows = weight_rows(alloc, self.bodies.forms())?;
+        Ok(rows)
+    }
+
+    /// The variables of the head atoms of each body's rules.
+    pub fn heads(&self, alloc: Global) -> Result<Table<Var>, AllocError>
+        ensures { IfOk result (λ rows. rows ≡ map (heads_of self.now) (bodies_of self.now)) }
+    {
+        let rules = self.program.rules.as_slice();
+        let opened = self.opened.as_slice();
+        let places = self.places.as_slice();
+        let atoms = self.atoms.as_slice();
+        let count = self.bodies.forms().len();
+        let rows = head_rows(alloc, atoms, count, places, rules, opened)?;
+        Ok(rows)
+    }
+
+    /// The variables of the bodies that support each atom, by the heads of each body.
+    pub fn supports(&self, alloc: Global, heads: &Table<Var>) -> Result<Table<Var>, AllocError>
+        requires { heads.now ≡ map (heads_of self.now) (bodies_of self.now) }
+        ensures { IfOk result (AreSupports self.now) }
+    {
+        let count = self.atoms.as_slice().len();
+        let rows = columns(alloc, count + 1, heads)?;
+        let supports = support_rows(alloc, count as u32 + 1, &rows)?;
+        Ok(supports)
+    }
+
+    /// Where each literal stands, by the literals of each body.
+    pub fn occurrences(
+        &self,
+        alloc: Global,
+        literals: &Table<Lit>,
+    ) -> Result<Table<Occurrence>, AllocError>
+        requires { literals.now ≡ map (form_literals self.now) (bodies_of self.now) }
+        ensures { IfOk result (AreOccurrences self.now) }
+    {
+        let codes = code_rows(alloc, literals)?;
+        let rows = columns(alloc, 2 * self.atoms.as_slice().len() + 2, &codes)?;
+        Ok(rows)
+    }
+}

@@ -1,0 +1,46 @@
+//! What small programs and nogoods have, by the definitions.
+ghost use Rattle.std.specs.Prelude.{◌≡◌, [], ◌∷◌, true, false, pos, negsuc};
+ghost use Rattle.asp_model.specs.declared.program.Body.TheVariants as body;
+ghost use Rattle.asp_model.specs.Rows.{positive_loop, two_ways, repeated_literals};
+ghost use Rattle.asp_vars.specs.Literals.{T, F};
+ghost use Rattle.asp_vars.specs.Numbering.{normal, var_count, var_of_body, values, bodies_of};
+ghost use Rattle.asp_vars.specs.declared.nogood.Base.TheVariants as base;
+ghost use Rattle.asp_vars.specs.Resolution.{resolvent, joined};
+ghost use Rattle.asp_vars.specs.Completion.{completion};
+ghost use Rattle.asp_vars.specs.Unfounded.{is_unfounded, assigned};
+ghost use Rattle.std.specs.Prelude.{IsTrue};
+ghost use Rattle.asp_model.specs.Rows.{weight_loop};
+
+/// Body 3 is atom 2, body 4 is atom 1.
+pub fn bodies_stand_after_atoms()
+    ensures count { var_count positive_loop ≡ 4 }
+    ensures first { var_of_body positive_loop (body.All (pos 2 ∷ [])) ≡ 3 }
+    ensures second { var_of_body positive_loop (body.All (pos 1 ∷ [])) ≡ 4 }
+    ensures values { values positive_loop (2 ∷ []) ≡ false ∷ false ∷ true ∷ true ∷ false ∷ [] }
+{}
+
+pub fn resolvent_has_the_other_literals()
+    ensures literals { resolvent (T 1 ∷ F 2 ∷ []) (T 2 ∷ F 3 ∷ []) (F 2) ≡ T 1 ∷ F 3 ∷ [] }
+    ensures base { joined base.Pure (base.Below (pos 5 ∷ [])) ≡ base.Below (pos 5 ∷ []) }
+    ensures least { joined (base.Below (pos 7 ∷ [])) (base.Below (pos 5 ∷ [])) ≡ base.Below (pos 5 ∷ []) }
+    ensures local { joined base.Local (base.Below (pos 5 ∷ [])) ≡ base.Local }
+{}
+
+/// Literals that stand twice count once in a normal body, and add up in a weight body. A weight of 0 is left out.
+pub fn normal_forms_join_equal_literals()
+    ensures literals { normal (body.All (pos 3 ∷ negsuc 1 ∷ pos 3 ∷ [])) ≡ body.All (negsuc 1 ∷ pos 3 ∷ []) }
+    ensures weights { normal (body.AtLeast (pos 2) ((pos 3, pos 1) ∷ (negsuc 1, pos 3) ∷ (pos 3, pos 1) ∷ (pos 4, pos 0) ∷ [])) ≡
+        body.AtLeast (pos 2) ((negsuc 1, pos 3) ∷ (pos 3, pos 2) ∷ []) }
+{}
+
+pub fn completion_of_a_positive_loop()
+    ensures { completion positive_loop ≡ (F 3 ∷ T 2 ∷ []) ∷ (T 3 ∷ F 2 ∷ []) ∷ (F 4 ∷ T 1 ∷ []) ∷ (T 4 ∷ F 1 ∷ [])
+        ∷ (T 3 ∷ F 1 ∷ []) ∷ (T 4 ∷ F 2 ∷ []) ∷ (T 1 ∷ F 3 ∷ []) ∷ (T 2 ∷ F 4 ∷ []) ∷ [] }
+{}
+
+/// Atoms that support each other alone are unfounded, one of them without the other isn't.
+pub fn positive_loop_is_unfounded()
+    ensures both { IsTrue (is_unfounded positive_loop (assigned positive_loop (1 ∷ 2 ∷ [])) (1 ∷ 2 ∷ [])) }
+    ensures one { is_unfounded positive_loop (assigned positive_loop (1 ∷ 2 ∷ [])) (1 ∷ []) ≡ false }
+    ensures weight { IsTrue (is_unfounded weight_loop (assigned weight_loop (1 ∷ 2 ∷ [])) (1 ∷ [])) }
+{}
