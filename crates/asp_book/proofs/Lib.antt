@@ -1,0 +1,5 @@
+pub mod PlaceLaws
+pub mod BookLaws
+pub mod CallLaws
+pub mod DeskLaws
+pub mod ReplyLaws

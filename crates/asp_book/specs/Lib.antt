@@ -1,0 +1,5 @@
+pub mod Books
+pub mod Fuels
+pub mod Replies
+pub mod Stored
+pub mod Calls
