@@ -6,7 +6,7 @@ ghost use Rattle.asp_model.specs.Texts.{answer_lines, answers_from, ended_line, 
 ghost use Rattle.asp_print.specs.Out.{Puts, out};
 ghost use Rattle.asp_print.specs.Shown.{piece, pieces, separator};
 
-use crate::out::{Waiting, put, put_number};
+use crate::buffer::{Waiting, put, put_number};
 use asp_io::{Failed, Sink};
 use asp_model::holding::literal_holds;
 use asp_model::interp::Interp;

@@ -2,7 +2,7 @@
 #![tactic(auto)]
 
 mod answers;
-mod out;
+mod buffer;
 mod text;
 
 pub use text::print;

@@ -7,7 +7,7 @@ ghost use Rattle.asp_model.specs.Texts.{answers_from, closing_lines, cost_line, 
 ghost use Rattle.asp_print.specs.Out.{Puts, out};
 
 use crate::answers::put_answers;
-use crate::out::{Waiting, flush, put, put_number};
+use crate::buffer::{Waiting, flush, put, put_number};
 use asp_io::{Failed, Sink};
 use asp_model::cost::Cost;
 use asp_model::interp::Interp;
