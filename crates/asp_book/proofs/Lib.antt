@@ -1,5 +1,0 @@
-pub mod PlaceLaws
-pub mod BookLaws
-pub mod CallLaws
-pub mod DeskLaws
-pub mod ReplyLaws

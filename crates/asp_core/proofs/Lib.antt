@@ -1,9 +1,0 @@
-pub mod UnitLaws
-pub mod BoardLaws
-pub mod SortingLaws
-pub mod ResultLaws
-pub mod HeldLaws
-pub mod StateLaws
-pub mod RowLaws
-pub mod PriceLaws
-pub mod GrowthLaws
