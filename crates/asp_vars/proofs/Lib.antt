@@ -15,3 +15,4 @@ pub mod KeyLaws
 pub mod RuleLaws
 pub mod HeadLaws
 pub mod NumberedLaws
+pub mod SupportLaws

@@ -1,0 +1,11 @@
+pub mod WatchLaws
+pub mod PathLaws
+pub mod LookLaws
+pub mod FitLaws
+pub mod LinkLaws
+pub mod SlotLaws
+pub mod PlaceLaws
+pub mod VisitLaws
+pub mod WalkLaws
+pub mod StoreLaws
+pub mod FitsLaws

@@ -1,0 +1,155 @@
+-- Looking at one nogood.
+use Rattle.std.proofs.Common.{◌≡◌, ℕ, suc, zero, ◌<◌, ◌≤◌, Bool, true, false, not, eqb, ◌||◌, ◌&&◌, List, [], ◌∷◌, ◌++◌, length, Option, Some, None, get_or, inl, inr, refl, sym, ap, ◌∙◌, subst, arith}
+use Rattle.std.specs.List.{All, list_all}
+use Rattle.std.specs.Option.{is_some}
+use Rattle.std.specs.Bool.{beq}
+use Rattle.std.proofs.lemmas.Bool.{false≢true, eq-eqb, eqb-true}
+use Rattle.std.proofs.lemmas.Bool.Decides.{nat_tests}
+use Rattle.std.proofs.lemmas.List.{length-append, get_or_append_left}
+use Rattle.asp_vars.specs.Literals.{Literal, complement, has_literal, literal_eq, holds_in, agrees, value_of}
+use Rattle.asp_vars.proofs.LiteralLaws.{same_literal}
+use Rattle.asp_trail.specs.declared.trail.Entry.{Entry}
+use Rattle.asp_trail.specs.Entries.{assignment, level, level_in, level_or_zero}
+use Rattle.asp_trail.specs.Trails.{IsOrdered}
+use Rattle.asp_trail.proofs.EntryLaws.{find_only, entry_assigned}
+use Rattle.asp_trail.proofs.HoldLaws.{holds_at, holds_found}
+use Rattle.asp_trail.specs.Reasons.{Stands, IsReason}
+use Rattle.asp_store.specs.Watching.{IsFalseBy, Watches}
+use Rattle.asp_store.specs.Looking.{Grew, AreTrueBeside}
+use Rattle.asp_trail.proofs.QuietLaws.{false_from}
+use Rattle.asp_store.proofs.WatchLaws.{stands_grow}
+
+pub complement_twice : (l : Literal) → complement (complement l) ≡ l
+complement_twice l = cases l.truth refl
+  where
+    cases : (b : Bool) → b ≡ l.truth → complement (complement l) ≡ l
+    cases true q = λ i. record { var = l.var; truth = (ap (λ t. not (not t)) (sym q) ∙ q) i }
+    cases false q = λ i. record { var = l.var; truth = (ap (λ t. not (not t)) (sym q) ∙ q) i }
+
+-- the entry of a variable is the only one that has it
+pub level_at : (vars : ℕ) (es : List Entry) (i : ℕ) (d : Entry) → IsOrdered vars es → i < length es → level_in es (get_or es i d).lit.var ≡ (get_or es i d).level
+level_at vars es i d o h =
+    ap level_or_zero (find_only (λ e. eqb e.lit.var (get_or es i d).lit.var) es i d h (eq-eqb (get_or es i d).lit.var (get_or es i d).lit.var refl)
+    (λ j l. false_from (eqb (get_or es j d).lit.var (get_or es i d).lit.var) (λ q. o.apart j i d l h (eqb-true (get_or es j d).lit.var (get_or es i d).lit.var q))))
+
+pub stands_level : (vars : ℕ) (es : List Entry) (l : Literal) (i b : ℕ) → IsOrdered vars es → Stands es l i b → level_in es l.var ≡ b
+stands_level vars es l i b o s =
+    let d : Entry = record { lit = l; level = 0; reason = None } in
+    ap (λ (k : Literal). level_in es k.var) (sym (s.lit d)) ∙ (level_at vars es i d o s.within ∙ s.level d)
+
+same_default : (xs : List Entry) (i : ℕ) (d e : Entry) → i < length xs → get_or xs i d ≡ get_or xs i e
+same_default [] i d e h = absurd (omega arith)
+same_default (x ∷ xs) zero d e h = refl
+same_default (x ∷ xs) (suc i) d e h = same_default xs i d e (omega arith)
+
+pub stands_found : (vars : ℕ) (es : List Entry) (l : Literal) → IsOrdered vars es → holds_in (assignment vars es) l ≡ true → (i : ℕ) × Stands es l i (level_in es l.var)
+stands_found vars es l o h =
+    let f = holds_found vars es l o h in (
+      f.0,
+      record {
+        within = f.1;
+        lit = f.2;
+        level = λ d. sym (ap (λ (k : Literal). level_in es k.var) (sym (f.2 d)) ∙ level_at vars es f.0 d o f.1);
+      },
+    )
+
+-- a literal whose complement holds is false at its variable's level
+pub false_level : (vars : ℕ) (es : List Entry) (l : Literal) → IsOrdered vars es → holds_in (assignment vars es) (complement l) ≡ true → IsFalseBy es l (level_in es l.var)
+false_level vars es l o h =
+    let f = stands_found vars es (complement l) o h in
+    (f.0, level_in es l.var, omega arith, f.1)
+
+-- a literal with a value that isn't true is false
+pub false_holds : (a : List (Option Bool)) (l : Literal) (b : Bool) → value_of a l.var ≡ Some b → holds_in a l ≡ false → holds_in a (complement l) ≡ true
+false_holds a l b q h =
+    ap (λ o. agrees o (complement l)) q ∙ other b l.truth (sym (ap (λ o. agrees o l) q) ∙ h)
+  where
+    other : (b t : Bool) → beq b t ≡ false → beq b (not t) ≡ true
+    other true true e = absurd (false≢true (sym e))
+    other true false e = refl
+    other false true e = refl
+    other false false e = absurd (false≢true (sym e))
+
+pub reason_new : (vars : ℕ) (es : List Entry) (n : List Literal) (other : Literal) (e : Entry) → IsOrdered vars es → has_literal n other ≡ true →
+    AreTrueBeside vars es n other → IsReason (es ++ e ∷ []) (length es) (complement other) n
+reason_new vars es n other e o h t = record {
+  has = subst (λ (l : Literal). has_literal n l ≡ true) (sym (complement_twice other)) h;
+  others = λ k m ne.
+      let f = stands_found vars es k o (t k m (false_from (literal_eq k other) (λ q. ne (same_literal k other q ∙ sym (complement_twice other))))) in
+      (f.0, level_in es k.var, f.1.within, stands_grow es (e ∷ []) k f.0 (level_in es k.var) f.1);
+}
+
+-- a watch beside one that is false stands at a level that isn't below
+pub watches_above : (vars : ℕ) (es : List Entry) (w v : Literal) (b : ℕ) → IsOrdered vars es → IsFalseBy es v b → b ≤ level_in es w.var → Watches es (length es) w v
+watches_above vars es w v b o f h i c l s = (f.0, f.1, omega (arith, f.2, h, stands_level vars es w i c o s), f.3)
+
+-- one that isn't true stands anywhere
+pub watches_open : (vars : ℕ) (es : List Entry) (w v : Literal) → IsOrdered vars es → holds_in (assignment vars es) w ≡ false → Watches es (length es) w v
+watches_open vars es w v o h i c l s =
+    let d : Entry = record { lit = w; level = 0; reason = None } in
+    absurd (false≢true (sym h ∙ holds_at vars es i d w o s.within (s.lit d)))
+
+-- and so does one of no variable
+pub watches_none : (vars : ℕ) (es : List Entry) (w v : Literal) → IsOrdered vars es → w.var ≡ 0 → Watches es (length es) w v
+watches_none vars es w v o z i c l s =
+    let d : Entry = record { lit = w; level = 0; reason = None } in
+    absurd (omega (arith, z, (o.within i d s.within).0, ap (λ (k : Literal). k.var) (s.lit d)))
+
+-- what holds of each literal of a list holds of one that the list has
+pub all_has : (P : Literal → Type 0) (n : List Literal) (l : Literal) → All P n → has_literal n l ≡ true → P l
+all_has P [] l a h = absurd (false≢true h)
+all_has P (k ∷ n) l a h = cases (literal_eq k l) refl (all_has P n l (λ i d g. a (suc i) d (omega arith)))
+  where
+    cases : (b : Bool) → b ≡ literal_eq k l → (has_literal n l ≡ true → P l) → P l
+    cases true q rest = subst P (same_literal k l (sym q)) (a 0 k (omega arith))
+    cases false q rest = rest (ap (λ b. b || has_literal n l) q ∙ h)
+
+pub eq_itself : (l : Literal) → literal_eq l l ≡ true
+eq_itself l = both l.var l.truth
+  where
+    both : (v : ℕ) (b : Bool) → (eqb v v && beq b b) ≡ true
+    both v true = grind (arith, nat_tests)
+    both v false = grind (arith, nat_tests)
+
+or_right : (a b : Bool) → b ≡ true → (a || b) ≡ true
+or_right true b q = refl
+or_right false b q = q
+
+list_all_from : (p : Literal → Bool) (n : List Literal) → ((k : Literal) → has_literal n k ≡ true → p k ≡ true) → list_all p n ≡ true
+list_all_from p [] f = refl
+list_all_from p (k ∷ n) f =
+    ap (λ b. b && list_all p n) (f k (ap (λ b. b || has_literal n k) (eq_itself k)))
+    ∙ list_all_from p n (λ l h. f l (or_right (literal_eq k l) (has_literal n l) h))
+
+pub violated_when : (vars : ℕ) (es : List Entry) (n : List Literal) (other : Literal) → AreTrueBeside vars es n other →
+    (has_literal n other ≡ true → holds_in (assignment vars es) other ≡ true) → list_all (holds_in (assignment vars es)) n ≡ true
+violated_when vars es n other t h = list_all_from (holds_in (assignment vars es)) n (λ k g. cases k g (literal_eq k other) refl)
+  where
+    cases : (k : Literal) → has_literal n k ≡ true → (b : Bool) → b ≡ literal_eq k other → holds_in (assignment vars es) k ≡ true
+    cases k g true q =
+        let e : k ≡ other = same_literal k other (sym q) in
+        subst (λ (l : Literal). holds_in (assignment vars es) l ≡ true) (sym e) (h (subst (λ (l : Literal). has_literal n l ≡ true) e g))
+    cases k g false q = t k g (sym q)
+
+-- a literal that holds has a value after more entries too
+pub still_some : (vars id : ℕ) (n : List Literal) (es fs : List Entry) (l : Literal) → IsOrdered vars es → Grew id n es fs → holds_in (assignment vars es) l ≡ true →
+    is_some (get_or (assignment vars fs) l.var None) ≡ true
+still_some vars id n es fs l o g h =
+    elim g [
+      | inl q ↦ here fs (λ d. sym (ap (λ (xs : List Entry). get_or xs f.0 d) q)) (omega (arith, f.1, ap (length {A = Entry}) q))
+      | inr r ↦ here fs (λ d. sym (ap (λ (xs : List Entry). get_or xs f.0 d) r.1 ∙ get_or_append_left es (new r.0 ∷ []) d f.0 f.1))
+          (omega (arith, f.1, ap (length {A = Entry}) r.1, length-append es (new r.0 ∷ [])))
+    ]
+  where
+    f : (i : ℕ) × (i < length es) × ((d : Entry) → (get_or es i d).lit ≡ l)
+    f = holds_found vars es l o h
+
+    new : Literal → Entry
+    new m = record { lit = m; level = level es; reason = Some id }
+
+    here : (xs : List Entry) → ((d : Entry) → get_or es f.0 d ≡ get_or xs f.0 d) → f.0 < length xs → is_some (get_or (assignment vars xs) l.var None) ≡ true
+    here xs same w =
+        let d : Entry = record { lit = l; level = 0; reason = None } in
+        let e : (get_or xs f.0 d).lit ≡ l = ap (λ (x : Entry). x.lit) (sym (same d)) ∙ f.2 d in
+        subst (λ (k : Literal). is_some (get_or (assignment vars xs) k.var None) ≡ true) e
+        (entry_assigned vars xs f.0 d w (omega (arith, ap (λ (k : Literal). k.var) e, ap (λ (k : Literal). k.var) (f.2 d), (o.within f.0 d f.1).1)))

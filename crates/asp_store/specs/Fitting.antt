@@ -1,0 +1,25 @@
+-- How the nogoods kept fit a trail.
+use Rattle.std.specs.Prelude.{◌≡◌, ℕ, ◌⊎◌, false, List, Option, IsTrue}
+use Rattle.asp_vars.specs.Literals.{Literal, T, has_literal, literal_eq}
+use Rattle.asp_trail.specs.declared.trail.Entry.{Entry}
+use Rattle.asp_store.specs.declared.kept.Kept.{Kept}
+use Rattle.asp_store.specs.Keeping.{nogood_at}
+use Rattle.asp_trail.specs.Reasons.{AreReasoned}
+use Rattle.asp_store.specs.Watching.{IsFalseBy, Watches}
+
+-- The two watches of a nogood are different literals of it. One of no variable says that the nogood is looked at whole.
+pub record IsWatched (n : List Literal) (w v : Literal) (entries : List Entry) (seen : ℕ) : Type 0 where
+  pub left : (w ≡ T 0) ⊎ IsTrue (has_literal n w)
+  pub right : (v ≡ T 0) ⊎ IsTrue (has_literal n v)
+  pub differ : (w ≡ T 0) ⊎ (literal_eq w v ≡ false)
+  pub from_left : Watches entries seen w v
+  pub from_right : Watches entries seen v w
+
+-- A nogood that is looked at whole has a false watch.
+pub record IsSettled (w v : Literal) (entries : List Entry) : Type 0 where
+  pub left : w ≡ T 0 → (b : ℕ) × IsFalseBy entries v b
+  pub right : v ≡ T 0 → (b : ℕ) × IsFalseBy entries w b
+
+-- Each entry that was implied names a nogood that is kept, which is its reason.
+abbrev pub HaveReasons : List (Option Kept) → List Entry → Type 0
+HaveReasons slots entries = AreReasoned (nogood_at slots) entries

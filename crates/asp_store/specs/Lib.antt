@@ -1,0 +1,10 @@
+pub mod Watching
+pub mod Paths
+pub mod Keeping
+pub mod Looking
+pub mod Fitting
+pub mod Nodes
+pub mod Places
+pub mod Visiting
+pub mod Walking
+pub mod Storing

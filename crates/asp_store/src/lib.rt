@@ -1,0 +1,15 @@
+//! Nogoods that are kept, and what follows from them.
+#![tactic(auto)]
+
+pub mod chains;
+pub mod kept;
+pub mod laws;
+pub mod looks;
+pub mod nodes;
+pub mod propagation;
+pub mod slots;
+pub mod store;
+#[cfg(test)]
+mod tests;
+pub mod visits;
+pub mod walks;

@@ -1,0 +1,310 @@
+//! The trail: literals in the order in which they came to hold.
+ghost use Rattle.std.specs.Prelude.{◌≡◌, ◌<◌, ◌≤◌, ◌⊎◌, ◌+◌, ◌-◌, ◌++◌, ◌∷◌, [], Some, None, IfOk, OnOk, OnErr, IsSome, length, min, slice_index_or};
+ghost use Rattle.asp_vars.specs.Literals.{value_of, Literal};
+ghost use Rattle.asp_trail.specs.Entries.{assignment, level, level_in, reason_in, cut, first_decision};
+ghost use Rattle.asp_trail.specs.Trails.{IsVar, IsOrdered};
+ghost use Rattle.std.specs.List.{All};
+ghost use Rattle.asp_trail.specs.declared.trail.Entry.{Entry};
+
+use crate::reasons::NogoodId;
+use asp_vars::assign::Assign;
+use asp_vars::lit::{Lit, Var};
+use std::alloc::{AllocError, Global};
+use std::marker::Model;
+
+/// A literal that holds, its level, and the nogood that implied it, if one did.
+#[derive(Clone, Copy)]
+pub struct Entry {
+    pub lit: Lit,
+    pub level: usize,
+    pub reason: Option<NogoodId>,
+}
+
+/// The literals that hold, the oldest first. A flat array has the value of each variable.
+#[derive(Drop)]
+pub struct Trail {
+    vars: u32,
+    entries: Vec<Entry>,
+    values: Assign,
+    places: Vec<usize>,
+    seen: usize,
+}
+
+impl Model for Trail {
+    ghost use Rattle.std.specs.Vec.{vec_capacity};
+    ghost use Rattle.asp_trail.specs.Trails.{Trailed, IsTrail};
+
+    ghost Value = { Trailed };
+
+    ghost view = { λ t. record { vars = t.vars; entries = t.entries.items; seen = t.seen; room = vec_capacity t.entries } };
+
+    ghost invariant = { λ t. IsTrail t.vars t.entries.items t.values t.places.items t.seen };
+}
+
+impl Trail {
+    /// A trail with no entries, over the variables 1 to `vars`.
+    pub fn new(alloc: Global, vars: u32) -> Result<Trail, AllocError>
+        ensures vars { IfOk result (λ t. t.vars ≡ vars) }
+        ensures entries { IfOk result (λ t. t.entries ≡ []) }
+        ensures seen { IfOk result (λ t. t.seen ≡ 0) }
+    {
+        let values = Assign::new(alloc, vars)?;
+        let places = vec![in alloc; 0; vars as usize + 1]?;
+        Ok(Trail {
+            vars,
+            entries: Vec::new(alloc),
+            values,
+            places,
+            seen: 0,
+        })
+    }
+
+    /// Makes room for n entries in all. After want of memory the trail is as before, but that it may have more room.
+    pub fn reserve(&mut self, n: usize) -> Result<(), AllocError>
+        ensures room { OnOk result (n ≤ self.new.room) }
+        ensures kept { self.old.room ≤ self.new.room }
+        ensures same { self.new ≡ record self.old { room = self.new.room } }
+    {
+        let len = self.entries.len();
+        if n > len {
+            self.entries.reserve(n - len)?;
+        }
+        Ok(())
+    }
+
+    /// The number of decisions that stand, which is the newest entry's level.
+    pub fn level(&self) -> usize
+        ensures level { result ≡ level self.now.entries }
+        ensures top { All (λ e. e.level ≤ result) self.now.entries }
+        ensures small { result ≤ length self.now.entries }
+        ensures few { length self.now.entries ≤ self.now.vars + 1 }
+    {
+        match self.entries.last() {
+            None => 0,
+            Some(entry) => entry.level,
+        }
+    }
+
+    /// The number of entries.
+    pub fn len(&self) -> usize
+        ensures len { result ≡ length self.now.entries }
+        ensures ordered { IsOrdered self.now.vars self.now.entries }
+        ensures seen { self.now.seen ≤ result }
+    {
+        self.entries.len()
+    }
+
+    /// The literal of an entry, the oldest being at 0.
+    pub fn lit(&self, i: usize) -> Lit
+        requires { i < length self.now.entries }
+        ensures lit { (d : Entry) → result ≡ (slice_index_or self.now.entries i d).lit }
+        ensures var { IsVar self.now.vars result.var }
+    {
+        self.entries[i].lit
+    }
+
+    /// The variable's value, if an entry has it.
+    pub fn value(&self, var: Var) -> Option<bool>
+        requires { var ≤ self.now.vars }
+        ensures value { result ≡ value_of (assignment self.now.vars self.now.entries) var }
+
+        // Where a variable has no value there are fewer entries than variables.
+        ensures rest { 0 < var → result ≡ None → length self.now.entries < self.now.vars }
+    {
+        self.values.value(var)
+    }
+
+    /// The values of all variables.
+    pub fn assignment(&self) -> &Assign
+        ensures values { result.now ≡ assignment self.now.vars self.now.entries }
+        ensures len { length result.now ≡ self.now.vars + 1 }
+    {
+        &self.values
+    }
+
+    fn put(&mut self, entry: Entry)
+        requires var { IsVar self.old.vars entry.lit.var }
+        requires none { value_of (assignment self.old.vars self.old.entries) entry.lit.var ≡ None }
+        requires room { length self.old.entries < self.old.room }
+        requires level { level self.old.entries ≤ entry.level }
+        requires step { entry.level ≤ level self.old.entries + 1 }
+        requires decided { entry.reason ≡ None → (entry.level ≡ 0) ⊎ (level self.old.entries < entry.level) }
+        ensures { self.new ≡ record self.old { entries = self.old.entries ++ entry ∷ [] } }
+    {
+        let place = self.entries.len();
+        self.values.set(entry.lit);
+        self.places[entry.lit.var() as usize] = place;
+        self.entries.push_reserved(entry);
+    }
+
+    /// A literal of the cube, at level 0.
+    pub fn assume(&mut self, lit: Lit)
+        requires var { IsVar self.old.vars lit.var }
+        requires none { value_of (assignment self.old.vars self.old.entries) lit.var ≡ None }
+        requires room { length self.old.entries < self.old.room }
+        requires level { level self.old.entries ≡ 0 }
+        ensures { self.new ≡ record self.old { entries = self.old.entries ++ record { lit = lit; level = 0; reason = None } ∷ [] } }
+    {
+        self.put(Entry {
+            lit,
+            level: 0,
+            reason: None,
+        });
+    }
+
+    fn next_level(&self) -> usize
+        ensures { result ≡ level self.now.entries + 1 }
+    {
+        let _vars = self.vars;
+        self.level() + 1
+    }
+
+    /// A literal that is chosen, at a level of its own.
+    pub fn decide(&mut self, lit: Lit)
+        requires var { IsVar self.old.vars lit.var }
+        requires none { value_of (assignment self.old.vars self.old.entries) lit.var ≡ None }
+        requires room { length self.old.entries < self.old.room }
+        ensures { self.new ≡ record self.old { entries = self.old.entries ++ record { lit = lit; level = level self.old.entries + 1; reason = None } ∷ [] } }
+    {
+        let level = self.next_level();
+        self.put(Entry {
+            lit,
+            level,
+            reason: None,
+        });
+    }
+
+    /// A literal that follows by a nogood, at the level that stands.
+    pub fn imply(&mut self, lit: Lit, id: NogoodId)
+        requires var { IsVar self.old.vars lit.var }
+        requires none { value_of (assignment self.old.vars self.old.entries) lit.var ≡ None }
+        requires room { length self.old.entries < self.old.room }
+        ensures { self.new ≡ record self.old { entries = self.old.entries ++ record { lit = lit; level = level self.old.entries; reason = Some id } ∷ [] } }
+    {
+        let level = self.level();
+        self.put(Entry {
+            lit,
+            level,
+            reason: Some(id),
+        });
+    }
+
+    // Takes the newest entry away.
+    fn pop(&mut self)
+        requires { 0 < length self.old.entries }
+        ensures same { self.new ≡ record self.old { entries = self.new.entries; seen = self.new.seen } }
+        ensures entries { (d : Entry) → self.old.entries ≡ self.new.entries ++ slice_index_or self.old.entries (length self.old.entries - 1) d ∷ [] }
+        ensures len { length self.new.entries + 1 ≡ length self.old.entries }
+        ensures seen { self.new.seen ≡ min self.old.seen (length self.new.entries) }
+    {
+        if let Some(entry) = self.entries.pop() {
+            self.values.unset(entry.lit.var());
+            self.seen = self.seen.min(self.entries.len());
+        }
+    }
+
+    /// Leaves exactly the entries of the levels up to this one.
+    pub fn undo_to(&mut self, level: usize)
+        ensures same { self.new ≡ record self.old { entries = self.new.entries; seen = self.new.seen } }
+        ensures entries { self.new.entries ≡ cut level self.old.entries }
+        ensures seen { self.new.seen ≡ min self.old.seen (length self.new.entries) }
+    {
+        let _seen = self.seen();
+        while self.level() > level {
+            self.pop();
+        }
+    }
+
+    /// Leaves no entry.
+    pub fn clear(&mut self)
+        ensures { self.new ≡ record self.old { entries = []; seen = 0 } }
+    {
+        let _seen = self.seen();
+        while self.len() > 0 {
+            self.pop();
+        }
+    }
+
+    /// The level of a variable that has a value.
+    pub fn level_of(&self, var: Var) -> usize
+        requires small { var ≤ self.now.vars }
+        requires has { IsSome (value_of (assignment self.now.vars self.now.entries) var) }
+        ensures { result ≡ level_in self.now.entries var }
+    {
+        let place = self.places[var as usize];
+        self.entries[place].level
+    }
+
+    /// The nogood that implied a variable that has a value. None where it was assumed or decided.
+    pub fn reason_of(&self, var: Var) -> Option<NogoodId>
+        requires small { var ≤ self.now.vars }
+        requires has { IsSome (value_of (assignment self.now.vars self.now.entries) var) }
+        ensures { result ≡ reason_in self.now.entries var }
+    {
+        let place = self.places[var as usize];
+        self.entries[place].reason
+    }
+
+    /// The decision of level 1, if there is one.
+    pub fn first(&self) -> Option<Lit>
+        ensures { result ≡ first_decision self.now.entries }
+    {
+        self.entries
+            .iter()
+            .find(|entry| entry.level == 1)
+            .map(|entry| entry.lit)
+    }
+
+    /// How many of the first entries were looked at.
+    pub fn seen(&self) -> usize
+        ensures seen { result ≡ self.now.seen }
+        ensures within { self.now.seen ≤ length self.now.entries }
+    {
+        self.seen
+    }
+
+    /// Says that the first n entries were looked at.
+    pub fn mark_seen(&mut self, n: usize)
+        requires { n ≤ length self.old.entries }
+        ensures { self.new ≡ record self.old { seen = n } }
+    {
+        self.seen = n;
+    }
+}
+
+#[cfg(test)]
+mod tests {
+    use super::*;
+    use std::test::Fail;
+
+    #[test]
+    fn holds_what_was_decided_and_implied(rt: HostRuntime) -> Result<(), Fail> {
+        let heap = rt.alloc();
+        let mut trail = Trail::new(heap, 3)?;
+        trail.reserve(3)?;
+        trail.assume(Lit::new(3, true));
+        assert!(rt; trail.value(1) == None);
+        trail.decide(Lit::new(1, false));
+        assert!(rt; trail.value(2) == None);
+        trail.imply(Lit::new(2, true), 0);
+        assert_eq!(rt; trail.level(), 1);
+        assert!(rt; trail.value(2) == Some(true));
+        assert_eq!(rt; trail.level_of(2), 1);
+        assert_eq!(rt; trail.reason_of(2), Some(0));
+        assert!(rt; trail.value(3) == Some(true));
+        assert_eq!(rt; trail.level_of(3), 0);
+        assert_eq!(rt; trail.reason_of(3), None);
+        assert!(rt; trail.first() == Some(Lit::new(1, false)));
+        assert!(rt; trail.assignment().holds(Lit::new(2, true)));
+        assert!(rt; trail.len() == 3);
+        assert!(rt; trail.lit(0) == Lit::new(3, true));
+        trail.mark_seen(2);
+        trail.undo_to(0);
+        assert_eq!(rt; trail.seen(), 1);
+        assert_eq!(rt; trail.value(2), None);
+        assert!(rt; trail.first() == None);
+        trail.clear();
+        assert_eq!(rt; trail.len(), 0);
+        Ok(())
+    }
+}
