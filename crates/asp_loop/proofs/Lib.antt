@@ -1,0 +1,6 @@
+pub mod WeighLaws
+pub mod FoundedLaws
+pub mod WeightedLaws
+pub mod EntailedLaws
+pub mod PartLaws
+pub mod LoopLaws

@@ -1,0 +1,5 @@
+pub mod LoopNogoods
+pub mod Weighing
+pub mod Parts
+pub mod Founded
+pub mod Rows
