@@ -1,56 +1,72 @@
 #!/bin/sh
-# How fast the reader reads, beside clasp, which has no mode that only reads: it also simplifies and writes.
-# usage: bench/read.sh [BYTES [ATOMS]], with rt, python3, clasp and GNU time at hand. It takes minutes: the crates are
-# proved in a copy of the repository, since a program that only reads is no part of the product.
+# How fast a built program reads, beside clasp.
+# usage: bench/read.sh [PROGRAM [BYTES [ATOMS]]], with python3 and GNU time at hand, and clasp if it is there.
+# Without its end statement a text is read to its end and then refused, so reading alone is timed: the program must end
+# with status 65. clasp has no mode that only reads: --pre=aspif reads, simplifies and writes. It gets the same text with
+# its end.
 set -eu
-bytes=${1:-100000000}
-atoms=${2:-999999}
-here=$(cd "$(dirname "$0")/.." && pwd)
+program=$(realpath "${1:-build/aspenum}")
+bytes=${2:-100000000}
+atoms=${3:-999999}
+test -x "$program" || { echo "no program $program: make builds it" >&2; exit 1; }
 room=$(mktemp -d)
 trap 'rm -rf "$room"' EXIT
 
-cp -r "$here/crates" "$here/crates.txt" "$here/HANDLES" "$room"
-mkdir -p "$room/crates/only_reads/src"
-cat > "$room/crates/only_reads/src/main.rt" <<'RT'
-//! Reads a program from standard input and says how many rules it has.
-#![tactic(auto)]
-
-use asp_io::StdSource;
-use asp_read::read_program;
-use std::io;
-
-fn main(rt: HostRuntime) -> io::Result<()> {
-    let mut source = StdSource::new(rt.reader());
-    match read_program(rt.alloc(), &mut source) {
-        Ok(program) => println!(rt; "{} rules", program.rules.as_slice().len())?,
-        Err(error) => println!(rt; "{error:?}")?,
-    }
-    Ok(())
-}
-RT
-echo 'only_reads: asp_io asp_model asp_read' >> "$room/crates.txt"
-(cd "$room" && git init -q . && cd crates/only_reads && rt run < /dev/null > "$room/log" 2>&1) || { tail "$room/log"; exit 1; }
-
-python3 - "$bytes" "$atoms" > "$room/text" <<'PY'
+# make KIND: writes a text of this kind to the file of its name, without its end statement
+make() {
+    python3 - "$1" "$bytes" "$atoms" > "$room/$1" <<'PY'
 import random, sys
-size, atoms = int(sys.argv[1]), int(sys.argv[2])
+kind, size, atoms = sys.argv[1], int(sys.argv[2]), int(sys.argv[3])
 random.seed(1)
-sys.stdout.write("asp 1 0 0\n")
-written = counted = 0
-while written < size and counted < 16_700_000:
-    rules = []
-    for _ in range(10_000):
-        literals = [random.randint(1, atoms) * random.choice((1, -1)) for _ in range(random.randint(0, 5))]
-        rules.append("1 0 1 %d 0 %d%s\n" % (random.randint(1, atoms), len(literals), "".join(" %d" % l for l in literals)))
-        counted += 1 + len(literals)
-    text = "".join(rules)
-    written += len(text)
-    sys.stdout.write(text)
-sys.stdout.write("0\n")
+out = sys.stdout
+out.write("asp 1 0 0\n")
+if kind == "blank_lines":
+    out.write("\n" * size)
+elif kind == "comment":
+    out.write("10 " + "x" * size + "\n")
+elif kind == "one_line":
+    count = min(size // 7, 16_777_216)
+    out.write("1 0 0 0 %d" % count)
+    for _ in range(count // 1000):
+        out.write("".join(" %d" % (random.randint(1, atoms) * random.choice((1, -1))) for _ in range(1000)))
+    out.write(" 1" * (count % 1000) + "\n")
+else:
+    written = counted = 0
+    while written < size and counted < 16_700_000:
+        rules = []
+        for _ in range(10_000):
+            literals = [random.randint(1, atoms) * random.choice((1, -1)) for _ in range(random.randint(0, 5))]
+            rules.append("1 0 1 %d 0 %d%s\n" % (random.randint(1, atoms), len(literals), "".join(" %d" % l for l in literals)))
+            counted += 1 + len(literals)
+        text = "".join(rules)
+        written += len(text)
+        out.write(text)
 PY
+}
 
-wc -c < "$room/text"
-echo 'the reader:'
-/usr/bin/time -f '%e s, %M KiB' "$room/crates/only_reads/out/only_reads" < "$room/text"
-echo 'clasp:'
-/usr/bin/time -f '%e s, %M KiB' clasp --pre=aspif < "$room/text" > /dev/null
+# timed NAME STATUS COMMAND..: runs the command over the text on standard input, and prints its time, the processor time
+# of it, the rate by the processor time, and its memory
+timed() {
+    name=$1
+    wanted=$2
+    shift 2
+    status=0
+    /usr/bin/time -o "$room/took" -f '%e %U %S %M' "$@" < "$room/text" > /dev/null 2> "$room/notes" || status=$?
+    if [ "$wanted" != any ] && [ "$status" -ne "$wanted" ]; then
+        echo "$name: status $status, wanted $wanted" >&2
+        cat "$room/notes" >&2
+        exit 1
+    fi
+    tail -n 1 "$room/took" | awk -v name="$name" -v size="$(wc -c < "$room/text")" \
+        '{ cpu = $2 + $3; printf "%-14s %6.2f s, %6.2f s of processor time, %6.1f MB/s, %6.1f MiB\n", name, $1, cpu, size / 1e6 / (cpu > 0 ? cpu : 0.01), $4 / 1024 }'
+}
+
+for kind in rules comment one_line blank_lines; do
+    make "$kind"
+    mv "$room/$kind" "$room/text"
+    timed "$kind" 65 "$program"
+    if [ "$kind" = rules ] && command -v clasp > /dev/null; then
+        echo 0 >> "$room/text"
+        timed "clasp: $kind" any clasp --pre=aspif
+    fi
+done

@@ -1,7 +1,7 @@
 -- Pieces of a source's bytes.
-use Rattle.std.proofs.Common.{◌≡◌, ℕ, ◌+◌, ◌<◌, ◌≤◌, List, [], ◌∷◌, ◌++◌, length, take, drop, Option, Some, None, Result, Ok, Err, refl, sym, ap, subst, ◌∙◌, append_assoc, zero-add, arith, length-append, take-append-drop}
-use Rattle.std.proofs.lemmas.List.{append-nil, take-append-le, take-take}
-use Rattle.std.specs.Prelude.{IfSome, IfOk, IsOk, IsSome}
+use Rattle.std.proofs.Common.{◌≡◌, ℕ, ◌+◌, ◌-◌, ◌<◌, ◌≤◌, List, [], ◌∷◌, ◌++◌, length, take, drop, Option, Some, None, Result, Ok, Err, inl, inr, refl, sym, ap, subst, ◌∙◌, append_assoc, zero-add, arith, length-append, length-drop, take-append-drop}
+use Rattle.std.proofs.lemmas.List.{append-nil, length-take-le, take-append-le, take-take}
+use Rattle.std.specs.Prelude.{◌⊎◌, IfSome, IfOk, IfErr, IsOk, IsSome}
 use Rattle.std.specs.Io.KnownBytes.{Consumes, Keeps, IsAtEnd}
 use Rattle.asp_text.specs.Unread.{Unread}
 use Rattle.asp_text.specs.Lines.{cut, lines_of, whole}
@@ -13,7 +13,7 @@ use Rattle.asp_read.specs.Outcome.{judge, judge_next, judge_all, most_bytes, out
 use Rattle.asp_model.specs.Sound.{IsSound}
 use Rattle.asp_read.proofs.Soundness.{outcome-sound}
 use Rattle.asp_read.specs.Fields.{◌>>=◌}
-use Rattle.asp_read.specs.Stream.{FailsAs, ReadGives, ReadsText, Took, Continues, Answers, StopsClean, outcome_on}
+use Rattle.asp_read.specs.Stream.{FailsAs, ReadGives, ReadsText, Took, Continues, Answers, IsOfLines, Decides, StopsAt, outcome_on}
 use Rattle.asp_read.proofs.Streaming.{too_long, beyond}
 use Rattle.std.proofs.Math.Seq.{take-append_seam}
 
@@ -120,10 +120,24 @@ sound_answer source (Err e) a = tt
 pub same_piece : (read rest : List ℕ) (count : ℕ) → count ≤ length read → take count (read ++ rest) ≡ take count read
 same_piece read rest count le = take-append-le count read rest le
 
-pub split_piece : (read rest : List ℕ) (room count : ℕ) → room ≤ count → count ≤ length read → take count read ≡ take room (read ++ rest) ++ drop room (take count read)
+split_piece : (read rest : List ℕ) (room count : ℕ) → room ≤ count → count ≤ length read → take count read ≡ take room (read ++ rest) ++ drop room (take count read)
 split_piece read rest room count le len =
     let front : take room (read ++ rest) ≡ take room (take count read) = same_piece read rest room (omega arith) ∙ sym (take-take room count read le) in
     rw front (sym (take-append-drop room (take count read)))
+
+-- what was read, cut in two
+pub record Parts (now next : Option (List ℕ)) (piece more : List ℕ) (room left : ℕ) : Type 0 where
+  pub eaten : Consumes now next (piece ++ more)
+  pub front : length piece ≡ room
+  pub back : length more ≡ left
+
+pub parts : (now next : Option (List ℕ)) (read rest : List ℕ) (room count : ℕ) → room ≤ count → count ≤ length read → Consumes now next (take count read)
+    → Parts now next (take room (read ++ rest)) (drop room (take count read)) room (count - room)
+parts now next read rest room count le len eaten = record {
+  eaten = subst (λ (b : List ℕ). Consumes now next b) (split_piece read rest room count le len) eaten;
+  front = ap length (same_piece read rest room (omega (arith, le, len))) ∙ length-take-le room read (omega (arith, le, len));
+  back = length-drop room (take count read) ∙ ap (λ (n : ℕ). n - room) (length-take-le count read len);
+}
 
 abbrev failed : ReadError → Result Seen ReadError
 failed e = Err e
@@ -140,8 +154,12 @@ refusal_is d e h = cc
 err_is : (r : Result Program ReadError) (y e : ReadError) → r ≡ Err y → r ≡ Err e → y ≡ e
 err_is r y e p q = cc
 
-pub never : (r : Result Program ReadError) (y e : ReadError) → r ≡ Err y → y ≡ e → (failed e ≡ failed errors.ReadFault → ⊥) → r ≡ Err errors.ReadFault → ⊥
-never r y e p q other h = other (ap failed (sym q ∙ err_is r y errors.ReadFault p h))
+-- an error of lines is no failed read
+pub never : (r : Result Program ReadError) (y e : ReadError) → r ≡ Err y → y ≡ e → IsOfLines e → r ≡ Err errors.ReadFault → ⊥
+never r y e p q of_lines h = let is : e ≡ errors.ReadFault = sym q ∙ err_is r y errors.ReadFault p h in subst IsOfLines is of_lines
+
+pub no_failed_read : (r : Result Program ReadError) → IfErr r IsOfLines → r ≡ Err errors.ReadFault → ⊥
+no_failed_read r of_lines h = subst (λ (x : Result Program ReadError). IfErr x IsOfLines) h of_lines
 
 pub stopped_as : (r : Result Program ReadError) (y e : ReadError) (initial now next : Option (List ℕ)) (piece more : List ℕ) (limit : ℕ) (lines : Unread) (reader : Seen) (room left : ℕ) → r ≡ Err y → y ≡ e
     → Continues initial now limit lines reader room → Consumes now next (piece ++ more) → room ≡ left + length piece
@@ -173,14 +191,84 @@ clean lines reader read none same =
     is_clean (judge_all 1 nothing_seen (lines_of (whole read))) (refuses 1 nothing_seen (lines_of (whole read)))
     (rw (beyond read (0 ∷ []) (omega arith), front) at long)
 
-clean_at : (initial now next : Option (List ℕ)) (read : List ℕ) → Took initial now read → Keeps now next → IsOk (judge_all 1 nothing_seen (lines_of (whole read))) → StopsClean initial next
-clean_at None now next read c k h = tt
-clean_at (Some text) None next read c k h = absurd c
-clean_at (Some text) (Some xs) None read c k h = absurd k
-clean_at (Some text) (Some xs) (Some ys) read c k h = (read, rw k c, h)
+-- ---- where reading stops
 
-pub stopped_clean : (initial now next : Option (List ℕ)) (limit : ℕ) (lines : Unread) (reader : Seen) (room : ℕ) → Continues initial now limit lines reader room → Keeps now next → cut lines.bytes ≡ None → StopsClean initial next
-stopped_clean initial now next limit lines reader room c k none = clean_at initial now next c.read c.took k (clean lines reader c.read none c.same)
+-- without memory to begin with
+pub stops_unread : (limit : ℕ) (source : Option (List ℕ)) → StopsAt limit source source (Err errors.Memory)
+unfolding judge_all
+stops_unread limit None = tt
+stops_unread limit (Some text) = record { before = []; last = []; stands = refl; no_fault = refl; fits = omega arith; decides = tt }
+
+consumes_none : (now next : Option (List ℕ)) → Keeps now next → Consumes now next []
+consumes_none None next k = k
+consumes_none (Some xs) None k = k
+consumes_none (Some xs) (Some ys) k = sym k
+
+stops_at : (limit : ℕ) (initial now next : Option (List ℕ)) (read last : List ℕ) (result : Result Program ReadError) → Took initial now read → Consumes now next last
+    → IsOk (judge_all 1 nothing_seen (lines_of (whole read))) → length read ≤ limit → ((rest : List ℕ) → next ≡ Some rest → Decides limit read last rest result) → StopsAt limit initial next result
+stops_at limit None now next read last result c e ok le d = tt
+stops_at limit (Some text) None next read last result c e ok le d = absurd c
+stops_at limit (Some text) (Some xs) None read last result c e ok le d = absurd e
+stops_at limit (Some text) (Some xs) (Some ys) read last result c e ok le d = record {
+  before = read;
+  last = last;
+  stands = c ∙ ap (λ (t : List ℕ). read ++ t) e;
+  no_fault = ok;
+  fits = le;
+  decides = d ys refl;
+}
+
+-- what was read before this read, and this read gave, where the reading goes by these lines
+pub stops : (limit : ℕ) (initial now next : Option (List ℕ)) (last : List ℕ) (lines : Unread) (reader : Seen) (room : ℕ) (result : Result Program ReadError) (c : Continues initial now limit lines reader room) → Consumes now next last
+    → cut lines.bytes ≡ None → ((rest : List ℕ) → next ≡ Some rest → Decides limit c.read last rest result) → StopsAt limit initial next result
+stops limit initial now next last lines reader room result c e none d = stops_at limit initial now next c.read last result c.took e (clean lines reader c.read none c.same) (omega (arith, c.counted)) d
+
+pub stops_failed : (limit : ℕ) (initial now next : Option (List ℕ)) (lines : Unread) (reader : Seen) (room : ℕ) → Continues initial now limit lines reader room → Keeps now next → cut lines.bytes ≡ None → StopsAt limit initial next (Err errors.ReadFault)
+stops_failed limit initial now next lines reader room c k none = stops limit initial now next [] lines reader room (Err errors.ReadFault) c (consumes_none now next k) none (λ rest is. refl)
+
+at_the_end : (limit : ℕ) (read rest : List ℕ) (result : Result Program ReadError) → IfErr result IsOfLines → rest ≡ [] → Decides limit read [] rest result
+at_the_end limit read rest (Ok p) of_lines e = record { nothing = refl; none_left = e }
+at_the_end limit read rest (Err errors.Memory) of_lines e = tt
+at_the_end limit read rest (Err errors.ReadFault) of_lines e = absurd of_lines
+at_the_end limit read rest (Err errors.TooLong) of_lines e = absurd of_lines
+at_the_end limit read rest (Err (errors.Refused f n)) of_lines e = inr (record { nothing = refl; none_left = e })
+
+nothing_left : (next : Option (List ℕ)) (rest : List ℕ) → IsAtEnd next → next ≡ Some rest → rest ≡ []
+nothing_left None rest h e = absurd cc
+nothing_left (Some xs) rest h e = let same : xs ≡ rest = cc in sym same ∙ h
+
+pub stops_ended : (limit : ℕ) (initial now next : Option (List ℕ)) (lines : Unread) (reader : Seen) (room : ℕ) (result : Result Program ReadError) → Continues initial now limit lines reader room → Consumes now next [] → IsAtEnd next
+    → cut lines.bytes ≡ None → IfErr result IsOfLines → StopsAt limit initial next result
+stops_ended limit initial now next lines reader room result c e at_end none of_lines =
+    stops limit initial now next [] lines reader room result c e none (λ rest is. at_the_end limit c.read rest result of_lines (nothing_left next rest at_end is))
+
+-- the outcome of what was read and of whatever follows it
+whatever : (initial now : Option (List ℕ)) (piece more after : List ℕ) (limit : ℕ) (lines : Unread) (reader : Seen) (room left : ℕ) (c : Continues initial now limit lines reader room) → room ≡ left + length piece
+    → outcome_on lines reader (left + length piece) (piece ++ (more ++ after)) ≡ outcome_from limit 0 nothing_seen ((c.read ++ (piece ++ more)) ++ after)
+whatever initial now piece more after limit lines reader room left c k =
+    rw (← k, ← append_assoc piece more after, append_assoc c.read (piece ++ more) after) (all_is initial now limit lines reader room ((piece ++ more) ++ after) c)
+
+settled : (limit : ℕ) (read last rest : List ℕ) (e : ReadError) → IsOfLines e → ((after : List ℕ) → FailsAs e (outcome_from limit 0 nothing_seen ((read ++ last) ++ after))) → Decides limit read last rest (Err e)
+settled limit read last rest errors.Memory of_lines fails = tt
+settled limit read last rest errors.ReadFault of_lines fails = absurd of_lines
+settled limit read last rest errors.TooLong of_lines fails = absurd of_lines
+settled limit read last rest (errors.Refused f n) of_lines fails = inl fails
+
+-- a fault in a piece of what the last read gave
+pub stops_refused : (r : Result Program ReadError) (y e : ReadError) (initial now next : Option (List ℕ)) (piece more : List ℕ) (limit : ℕ) (lines : Unread) (reader : Seen) (room left : ℕ) → r ≡ Err y → y ≡ e
+    → Continues initial now limit lines reader room → Consumes now next (piece ++ more) → room ≡ left + length piece → cut lines.bytes ≡ None → IsOfLines e
+    → ((k : ℕ) (rest : List ℕ) → FailsAs e (outcome_on lines reader (k + length piece) (piece ++ rest))) → StopsAt limit initial next r
+stops_refused r y e initial now next piece more limit lines reader room left p q c s k none of_lines fails =
+    subst (λ (x : Result Program ReadError). StopsAt limit initial next x) (sym (p ∙ ap Err q)) (stops limit initial now next (piece ++ more) lines reader room (Err e) c s none
+    (λ rest is. settled limit c.read (piece ++ more) rest e of_lines (λ after. subst (λ (o : Result Program ReadError). FailsAs e o) (whatever initial now piece more after limit lines reader room left c k) (fails left (more ++ after)))))
+
+-- more than may come, of which the front has no fault
+pub stops_over : (initial now next : Option (List ℕ)) (piece more : List ℕ) (limit : ℕ) (lines new : Unread) (reader r : Seen) (room : ℕ) → Continues initial now limit lines reader room → Consumes now next (piece ++ more) → room ≡ length piece → 0 < length more
+    → cut lines.bytes ≡ None → cut new.bytes ≡ None → ((k : ℕ) (rest : List ℕ) → outcome_on new r k rest ≡ outcome_on lines reader (k + length piece) (piece ++ rest)) → StopsAt limit initial next (Err errors.TooLong)
+stops_over initial now next piece more limit lines new reader r room c s k lt none none_new same =
+    let k0 : room ≡ 0 + length piece = omega (arith, k) in
+    stops limit initial now next (piece ++ more) lines reader room (Err errors.TooLong) c s none
+    (λ rest is after. sym (same 0 (more ++ after) ∙ whatever initial now piece more after limit lines reader room 0 c k0) ∙ too_long new r (more ++ after) none_new (omega (arith, lt, length-append more after)))
 
 -- a source that told its bytes still tells them
 told_still : (initial now : Option (List ℕ)) (read : List ℕ) → Took initial now read → IsSome initial → IsSome now

@@ -30,17 +30,25 @@ use Rattle.asp_read.specs.Fields.{◌>>=◌, Reads, natural_at, signed_at, atom_
 
 -- ---- rules
 
+-- one atom or none
+abbrev pub single : List ℕ → Head
+single [] = Never
+single (a ∷ atoms) = One a
+
 abbrev pub head_of : ℕ → List ℕ → Head
-head_of kind [] = if kind == 0 then Never else Choice []
-head_of kind (a ∷ atoms) = if kind == 0 then One a else Choice (a ∷ atoms)
+head_of kind atoms = if kind == 0 then single atoms else Choice atoms
+
+-- so many atoms, as a head of this kind
+abbrev pub head_among : ℕ → ℕ → Atoms → List ℕ → Reads Head
+head_among kind count known line = do
+  atoms ← many_at (λ atom. atom) atom_at count known line
+  Ok (head_of kind atoms.0, atoms.1)
 
 unfoldable pub head_at : ℕ → Atoms → List ℕ → Reads Head
 head_at used known line = do
   kind ← natural_at 0 1 line
   m ← natural_at 0 most kind.1
-  if kind.0 == 0 && nat_lt 1 m.0 then Err fault.Disjunction else (if nat_lt most_counted (used + m.0) then Err fault.Size else (do
-    atoms ← many_at (λ atom. atom) atom_at m.0 known m.1
-    Ok (head_of kind.0 atoms.0, atoms.1)))
+  if kind.0 == 0 && nat_lt 1 m.0 then Err fault.Disjunction else (if nat_lt most_counted (used + m.0) then Err fault.Size else head_among kind.0 m.0 known m.1)
 
 unfoldable pub body_at : ℕ → Atoms → List ℕ → Reads Body
 body_at used known line = do

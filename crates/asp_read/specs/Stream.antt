@@ -1,5 +1,5 @@
 -- What a function returned is what reading gives, unless memory ran out.
-use Rattle.std.specs.Prelude.{◌≡◌, ℕ, ◌+◌, List, ◌++◌, length, IsOk, IfSome}
+use Rattle.std.specs.Prelude.{◌≡◌, ◌⊎◌, ℕ, ◌+◌, ◌≤◌, List, [], ◌++◌, length, IsOk, IfSome}
 use Rattle.std.specs.declared.option.Option.{Option}
 use Rattle.std.specs.declared.option.Option.TheVariants.{None, Some}
 use Rattle.std.specs.declared.result.Result.{Result}
@@ -21,6 +21,18 @@ FailsAs (errors.Refused f n) read = read ≡ Err (errors.Refused f n)
 abbrev pub ReadGives : {A : Type 0} → Result A ReadError → Result A ReadError → Type 0
 ReadGives (Ok x) read = read ≡ Ok x
 ReadGives (Err e) read = FailsAs e read
+
+-- the same, of what a reader became
+abbrev pub Becomes : {U : Type 0} → Result U ReadError → Seen → Result Seen ReadError → Type 0
+Becomes (Ok done) seen read = read ≡ Ok seen
+Becomes (Err e) seen read = FailsAs e read
+
+-- what lines alone can be answered by: want of memory, or a fault of them
+abbrev pub IsOfLines : ReadError → Type 0
+IsOfLines errors.Memory = Unit {0}
+IsOfLines errors.ReadFault = ⊥
+IsOfLines errors.TooLong = ⊥
+IsOfLines (errors.Refused f n) = Unit {0}
 
 -- the outcome, where these bytes are held and the rest is still to come, of which so many bytes may come
 abbrev pub outcome_on : Unread → Seen → ℕ → List ℕ → Result Program ReadError
@@ -53,8 +65,34 @@ pub record Answers (source : Option (List ℕ)) (limit : ℕ) (result : Result P
   pub told : IfSome source (λ t. t ≡ text)
   pub answered : ReadsText result (outcome_from limit 0 nothing_seen text)
 
--- no line whose line feed was read has a fault
-abbrev pub StopsClean : Option (List ℕ) → Option (List ℕ) → Type 0
-StopsClean None now = Unit {0}
-StopsClean (Some text) None = ⊥
-StopsClean (Some text) (Some rest) = (read : List ℕ) × (text ≡ read ++ rest) × IsOk (judge_all 1 nothing_seen (lines_of (whole read)))
+-- whatever follows what was read, the outcome is this
+abbrev pub Settles : ℕ → List ℕ → ReadError → Type 0
+Settles limit read error = (more : List ℕ) → outcome_from limit 0 nothing_seen (read ++ more) ≡ Err error
+
+-- the last read gave nothing, and nothing is left
+pub record IsLastRead (last rest : List ℕ) : Type 0 where
+  pub nothing : last ≡ []
+  pub none_left : rest ≡ []
+
+-- why no further read was made
+abbrev pub Decides : ℕ → List ℕ → List ℕ → List ℕ → Result Program ReadError → Type 0
+Decides limit before last rest (Ok p) = IsLastRead last rest
+Decides limit before last rest (Err errors.Memory) = Unit {0}
+Decides limit before last rest (Err errors.ReadFault) = last ≡ []
+Decides limit before last rest (Err errors.TooLong) = Settles limit (before ++ last) errors.TooLong
+Decides limit before last rest (Err (errors.Refused f n)) = Settles limit (before ++ last) (errors.Refused f n) ⊎ IsLastRead last rest
+
+-- where reading stopped: the source stands right behind what was read. Before the last read no line that had come with its line feed had a fault, nor were there too many bytes; the last read decided, or was the end, or failed
+pub record Stops (limit : ℕ) (text rest : List ℕ) (result : Result Program ReadError) : Type 0 where
+  pub before : List ℕ
+  pub last : List ℕ
+  pub stands : text ≡ before ++ (last ++ rest)
+  pub no_fault : IsOk (judge_all 1 nothing_seen (lines_of (whole before)))
+  pub fits : length before ≤ limit
+  pub decides : Decides limit before last rest result
+
+-- the same, where the source tells its bytes
+abbrev pub StopsAt : ℕ → Option (List ℕ) → Option (List ℕ) → Result Program ReadError → Type 0
+StopsAt limit None now result = Unit {0}
+StopsAt limit (Some text) None result = ⊥
+StopsAt limit (Some text) (Some rest) result = Stops limit text rest result

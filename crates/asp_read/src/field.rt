@@ -12,7 +12,7 @@ use crate::error::LineError;
 use crate::known::KnownAtoms;
 use asp_model::fault::Fault;
 use asp_model::program::Atom;
-use asp_text::{Num, is_blank, read_int, split_field, unblank};
+use asp_text::{Num, is_blank, split_int, unblank};
 
 /// The greatest sum of all counts of a program.
 pub const MOST_COUNTED: u32 = 16_777_216;
@@ -21,8 +21,8 @@ pub fn natural(line: &[u8], low: u32, high: u32) -> Result<(u32, &[u8]), LineErr
     ensures number { Gives (λ x. (x.0, x.1.now)) result (natural_at low high line.now) }
     ensures bound { IfOk result (λ x. (low ≤ x.0) × (x.0 ≤ high)) }
 {
-    let (field, rest) = split_field(line);
-    match read_int(field) {
+    let (number, rest) = split_int(line);
+    match number {
         Num::NotNumber => Err(LineError::Fault(Fault::Number)),
         Num::Value(n) if low as i64 <= n && n <= high as i64 => Ok((n as u32, rest)),
         _ => Err(LineError::Fault(Fault::Range)),
@@ -32,8 +32,8 @@ pub fn natural(line: &[u8], low: u32, high: u32) -> Result<(u32, &[u8]), LineErr
 pub fn integer(line: &[u8], low: i32, high: i32) -> Result<(i32, &[u8]), LineError>
     ensures { Gives (λ x. (x.0, x.1.now)) result (integer_at low high line.now) }
 {
-    let (field, rest) = split_field(line);
-    match read_int(field) {
+    let (number, rest) = split_int(line);
+    match number {
         Num::NotNumber => Err(LineError::Fault(Fault::Number)),
         Num::Big => Err(LineError::Fault(Fault::Range)),
         Num::Value(n) => {

@@ -17,12 +17,16 @@ const MOST_ATOMS: u32 = 1_000_000;
 /// How many atoms are found at once.
 const RECENT_PLACES: u32 = 1 << 20;
 
-/// A set of atoms. Each atom has a place of a fixed number of them, and a mark that tells it from the others of its
-/// place. A place has the mark of the atom that was last asked for there, or 0: that atom is found by one comparison.
+/// The least atom that has no mark of 8 bits.
+const FIRST_UNMARKED: u32 = 255 * RECENT_PLACES;
+
+/// A set of atoms. Each atom but the greatest has a place of a fixed number of them, and a mark that tells it from the
+/// others of its place. A place has the mark of the atom that was last asked for there, or 0: that atom is found by one
+/// comparison.
 #[derive(Drop)]
 pub struct KnownAtoms {
     atoms: HashSet<Atom>,
-    recent: Vec<u16>,
+    recent: Vec<u8>,
     count: u32,
 }
 
@@ -53,8 +57,11 @@ impl KnownAtoms {
         ensures room { Gives (λ u. u) result (room_for self.old atom) }
         ensures taken { OnOk result (self.new ≡ with_atom atom self.old) }
     {
+        if atom >= FIRST_UNMARKED {
+            return self.take_unless_full(atom);
+        }
         let place = (atom % RECENT_PLACES) as usize;
-        let mark = (atom / RECENT_PLACES + 1) as u16;
+        let mark = (atom / RECENT_PLACES + 1) as u8;
         if self.recent[place] == mark {
             return Ok(());
         }
@@ -79,7 +86,7 @@ impl KnownAtoms {
     }
 }
 
-fn zeros(alloc: Global, count: usize) -> Result<Vec<u16>, AllocError>
+fn zeros(alloc: Global, count: usize) -> Result<Vec<u8>, AllocError>
     ensures zeros { IfOk result (λ v. (k : ℕ) → slice_index v.items k ≡ 0) }
     ensures len { IfOk result (λ v. length v.items ≡ count) }
 {

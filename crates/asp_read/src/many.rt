@@ -89,6 +89,11 @@ impl Entry for Weights {
     }
 }
 
+// For how many items room is made at first: no more than their count, and than the line has bytes for, but for a few.
+fn places(count: u32, line: &[u8]) -> usize {
+    (count as usize).min(line.len() / 4 + 2)
+}
+
 pub fn many<'a, E: Entry>(
     alloc: Global,
     entry: &E,
@@ -100,7 +105,7 @@ pub fn many<'a, E: Entry>(
     ensures len { IfOk result (λ x. length x.0 ≡ count) }
     ensures known { IfOk result (λ x. known.new ≡ with_atoms known.old (map (E.entry_atom entry.now) x.0)) }
 {
-    let mut items = Vec::new(alloc);
+    let mut items = Vec::with_capacity(alloc, places(count, line))?;
     let mut rest = line;
     for _ in 0..count {
         let (item, after) = entry.read(rest, known)?;

@@ -1,11 +1,12 @@
 // What the lines so far said, and the next line.
-ghost use Rattle.std.specs.Prelude.{◌≡◌, ◌+◌, ◌≤◌, IfOk, IsErrOf, OnOk, OnErr};
+ghost use Rattle.std.specs.Prelude.{◌≡◌, ◌+◌, ◌≤◌, IfOk, IfErr, OnOk, OnErr};
 ghost use Rattle.asp_read.specs.Sizes.{program_size, statement_size};
 ghost use Rattle.asp_read.specs.Seen.{nothing_seen};
 ghost use Rattle.asp_read.specs.Gives.{Gives};
 ghost use Rattle.asp_read.specs.Fields.{most_counted};
 ghost use Rattle.asp_read.specs.Statements.{with_number};
 ghost use Rattle.asp_read.specs.Outcome.{judge, adds, stage_after, at_end};
+ghost use Rattle.asp_read.specs.Stream.{IsOfLines};
 
 use crate::error::LineError;
 use crate::known::KnownAtoms;
@@ -74,68 +75,62 @@ impl Reader {
     }
 
     // Adds what a line said, whose atoms are known.
-    fn add(mut self, statement: Statement) -> Result<Reader, AllocError>
-        requires { program_size self.program + statement_size statement ≤ most_counted }
-        ensures { IfOk result (λ r. r ≡ record { stage = stage_after statement; program = adds self.program statement; known = self.known }) }
+    fn add(&mut self, statement: Statement) -> Result<(), AllocError>
+        requires stage { self.old.stage ≡ Stage.Within }
+        requires size { program_size self.old.program + statement_size statement ≤ most_counted }
+        ensures { OnOk result (self.new ≡ record { stage = stage_after statement; program = adds self.old.program statement; known = self.old.known }) }
     {
         match statement {
             Statement::End => {
                 self.stage = Stage::Ended;
-                Ok(self)
+                Ok(())
             }
-            Statement::Comment => {
-                self.stage = Stage::Within;
-                Ok(self)
-            }
+            Statement::Comment => Ok(()),
             Statement::Rule(rule) => {
                 let size = size_of_rule(&rule);
                 self.rules.push(rule)?;
                 self.used += size;
-                self.stage = Stage::Within;
-                Ok(self)
+                Ok(())
             }
             Statement::Minimize(minimize) => {
                 let size = minimize.items.as_slice().len() as u32;
+                self.minimize.reserve(1)?;
                 with_priority(&mut self.priorities, minimize.priority)?;
-                self.minimize.push(minimize)?;
+                self.minimize.push_reserved(minimize);
                 self.used += size;
-                self.stage = Stage::Within;
-                Ok(self)
+                Ok(())
             }
             Statement::Output(output) => {
                 let size = output.condition.as_slice().len() as u32;
                 self.outputs.push(output)?;
                 self.used += size;
-                self.stage = Stage::Within;
-                Ok(self)
+                Ok(())
             }
             Statement::External(external) => {
                 self.externals.push(external)?;
-                self.stage = Stage::Within;
-                Ok(self)
+                Ok(())
             }
             Statement::Assume(literals) => {
                 let size = literals.as_slice().len() as u32;
                 self.assumptions.extend_from_slice(literals.as_slice())?;
                 self.used += size;
-                self.stage = Stage::Within;
-                Ok(self)
+                Ok(())
             }
         }
     }
 
     /// Judges a line, with the lines before it.
-    pub fn judge(mut self, line: &[u8]) -> Result<Reader, LineError>
-        ensures { Gives (λ r. r) result (judge self line.now) }
+    pub fn judge(&mut self, line: &[u8]) -> Result<(), LineError>
+        ensures { Gives (λ _. self.new) result (judge self.old line.now) }
     {
         if unblank(line).is_empty() {
-            return Ok(self);
+            return Ok(());
         }
         match self.stage {
             Stage::Start => {
                 header(line)?;
                 self.stage = Stage::Within;
-                Ok(self)
+                Ok(())
             }
             Stage::Within => {
                 let statement = statement(
@@ -145,7 +140,8 @@ impl Reader {
                     self.priorities.as_slice(),
                     &mut self.known,
                 )?;
-                Ok(self.add(statement)?)
+                self.add(statement)?;
+                Ok(())
             }
             Stage::Ended => Err(LineError::Fault(Fault::AfterEnd)),
         }
@@ -154,7 +150,7 @@ impl Reader {
     /// The end of the text, as the line with this number.
     pub fn end(self, number: u32) -> Result<Program, ReadError>
         ensures end { result ≡ at_end number self.stage self.program }
-        ensures no_fault { IsErrOf result ReadError.ReadFault → ⊥ }
+        ensures of_lines { IfErr result IsOfLines }
     {
         match self.stage {
             Stage::Start => Err(ReadError::Refused(Fault::Header, number)),

@@ -8,7 +8,7 @@ ghost use Rattle.asp_model.specs.Models.{head_atoms};
 ghost use Rattle.asp_read.specs.Sizes.{head_size, body_size, rule_size, statement_size, statement_atoms};
 ghost use Rattle.asp_read.specs.Gives.{Gives};
 ghost use Rattle.asp_read.specs.Fields.{literals_at, weights_at, most_counted};
-ghost use Rattle.asp_read.specs.Statements.{head_of, head_at, body_at, rule_at, output_at, value_of, external_at, minimize_at, kind_at, statement_with, of_kind, is_too_many, is_number, is_word, is_header, no_tag, header_at};
+ghost use Rattle.asp_read.specs.Statements.{head_among, head_at, body_at, rule_at, output_at, value_of, external_at, minimize_at, kind_at, statement_with, of_kind, is_too_many, is_number, is_word, is_header, no_tag, header_at};
 
 use crate::error::LineError;
 use crate::field::{MOST_COUNTED, atom, count, ended, integer, natural, text};
@@ -19,7 +19,7 @@ use crate::statement::Statement;
 use asp_model::fault::Fault;
 use asp_model::program::{Body, External, ExternalValue, Head, Minimize, Output, Rule};
 use asp_model::seq::Seq;
-use asp_text::{Num, is_digits, read_int, split_field};
+use asp_text::{Num, is_digits, read_int, split_field, split_int};
 use std::alloc::{AllocError, Global};
 
 fn literals<'a>(
@@ -51,19 +51,23 @@ fn weights<'a>(
     many(alloc, &Weights(low), n, rest, known)
 }
 
-fn head_from(kind: u32, atoms: Seq<u32>) -> Head
-    requires { kind ≡ 0 → length atoms ≤ 1 }
-    ensures head { result ≡ head_of kind atoms }
-    ensures bound { head_size result ≤ length atoms }
-    ensures atoms { head_atoms result ≡ atoms }
+// A head that is no choice, of one atom or none.
+#[tactic(auto, unfolding(crate::specs::Fields::many_at))]
+fn single<'a>(
+    count: u32,
+    line: &'a [u8],
+    known: &mut KnownAtoms,
+) -> Result<(Head, &'a [u8]), LineError>
+    requires { count ≤ 1 }
+    ensures head { Gives (λ x. (x.0, x.1.now)) result (head_among 0 count known.old line.now) }
+    ensures bound { IfOk result (λ x. head_size x.0 ≤ count) }
+    ensures known { IfOk result (λ x. known.new ≡ with_atoms known.old (head_atoms x.0)) }
 {
-    if kind != 0 {
-        return Head::Choice(atoms);
+    if count == 0 {
+        return Ok((Head::Never, line));
     }
-    match atoms.as_slice() {
-        [] => Head::Never,
-        [atom, ..] => Head::One(*atom),
-    }
+    let (atom, rest) = atom(line, known)?;
+    Ok((Head::One(atom), rest))
 }
 
 #[tactic(auto, unfolding(crate::specs::Statements::head_at))]
@@ -85,8 +89,24 @@ fn head<'a>(
     if used as u64 + m as u64 > MOST_COUNTED as u64 {
         return Err(LineError::Fault(Fault::Size));
     }
-    let (atoms, rest) = many(alloc, &Atoms, m, rest, known)?;
-    Ok((head_from(kind, atoms), rest))
+    if kind == 0 {
+        return single(m, rest, known);
+    }
+    choice(alloc, m, rest, known)
+}
+
+fn choice<'a>(
+    alloc: Global,
+    count: u32,
+    line: &'a [u8],
+    known: &mut KnownAtoms,
+) -> Result<(Head, &'a [u8]), LineError>
+    ensures head { Gives (λ x. (x.0, x.1.now)) result (head_among 1 count known.old line.now) }
+    ensures bound { IfOk result (λ x. head_size x.0 ≤ count) }
+    ensures known { IfOk result (λ x. known.new ≡ with_atoms known.old (head_atoms x.0)) }
+{
+    let (atoms, rest) = many(alloc, &Atoms, count, line, known)?;
+    Ok((Head::Choice(atoms), rest))
 }
 
 #[tactic(auto, unfolding(crate::specs::Statements::body_at))]
@@ -204,8 +224,8 @@ fn kind_of(line: &[u8]) -> Result<(u32, &[u8]), LineError>
     ensures kind { Gives (λ x. (x.0, x.1.now)) result (kind_at line.now) }
     ensures bound { IfOk result (λ x. x.0 ≤ 10) }
 {
-    let (field, rest) = split_field(line);
-    match read_int(field) {
+    let (number, rest) = split_int(line);
+    match number {
         Num::NotNumber => Err(LineError::Fault(Fault::Number)),
         Num::Value(n) if 0 <= n && n <= 10 => Ok((n as u32, rest)),
         _ => Err(LineError::Fault(Fault::Kind)),

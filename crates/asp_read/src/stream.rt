@@ -7,7 +7,7 @@ ghost use Rattle.std.specs.Io.KnownBytes.{IsAtEnd};
 ghost use Rattle.asp_io.specs.Causes.{Rose};
 ghost use Rattle.asp_model.specs.Sound.{IsSound};
 ghost use Rattle.asp_read.specs.Seen.{nothing_seen};
-ghost use Rattle.asp_read.specs.Stream.{ReadGives, FailsAs, ReadsText, Answers, StopsClean, outcome_on};
+ghost use Rattle.asp_read.specs.Stream.{ReadGives, Becomes, FailsAs, IsOfLines, ReadsText, Answers, StopsAt, outcome_on};
 
 use crate::error::LineError;
 use crate::reader::Reader;
@@ -18,42 +18,42 @@ use asp_text::Lines;
 use std::alloc::Global;
 
 // The line with this number.
-fn judge_numbered(reader: Reader, number: u32, line: &[u8]) -> Result<Reader, ReadError>
-    ensures reader { ReadGives result (judge_next number (judge reader line.now) (λ s. Ok s)) }
-    ensures no_fault { IsErrOf result ReadError.ReadFault → ⊥ }
+fn judge_numbered(reader: &mut Reader, number: u32, line: &[u8]) -> Result<(), ReadError>
+    ensures reader { Becomes result reader.new (judge_next number (judge reader.old line.now) (λ s. Ok s)) }
+    ensures of_lines { IfErr result IsOfLines }
 {
     match reader.judge(line) {
-        Ok(reader) => Ok(reader),
+        Ok(()) => Ok(()),
         Err(LineError::Memory) => Err(ReadError::Memory),
         Err(LineError::Fault(fault)) => Err(ReadError::Refused(fault, number)),
     }
 }
 
 // The lines that have their line feed. Whatever follows, the outcome is that of the rest.
-fn judge_lines(lines: &mut Lines, mut reader: Reader) -> Result<Reader, ReadError>
+fn judge_lines(lines: &mut Lines, reader: &mut Reader) -> Result<(), ReadError>
     ensures none_left { OnOk result (cut lines.new.bytes ≡ None) }
     ensures fed { lines.new.fed ≡ lines.old.fed }
     ensures shorter { length lines.new.bytes ≤ length lines.old.bytes }
-    ensures goes_on { IfOk result (λ r. (room : ℕ) (rest : List ℕ) → outcome_on lines.new r room rest ≡ outcome_on lines.old reader room rest) }
-    ensures fails { IfErr result (λ e. (room : ℕ) (rest : List ℕ) → FailsAs e (outcome_on lines.old reader room rest)) }
-    ensures no_fault { IsErrOf result ReadError.ReadFault → ⊥ }
+    ensures goes_on { OnOk result ((room : ℕ) (rest : List ℕ) → outcome_on lines.new reader.new room rest ≡ outcome_on lines.old reader.old room rest) }
+    ensures fails { IfErr result (λ e. (room : ℕ) (rest : List ℕ) → FailsAs e (outcome_on lines.old reader.old room rest)) }
+    ensures of_lines { IfErr result IsOfLines }
 {
     while let Some(line) = lines.next_line() {
-        reader = judge_numbered(reader, line.number, line.bytes)?;
+        judge_numbered(reader, line.number, line.bytes)?;
     }
-    Ok(reader)
+    Ok(())
 }
 
 // The end of the text, where no line feed is left.
-fn finish(lines: &mut Lines, reader: Reader) -> Result<Program, ReadError>
+fn finish(lines: &mut Lines, mut reader: Reader) -> Result<Program, ReadError>
     requires { cut lines.old.bytes ≡ None }
     ensures text { (room : ℕ) → ReadGives result (outcome_on lines.old reader room []) }
-    ensures no_fault { IsErrOf result ReadError.ReadFault → ⊥ }
+    ensures of_lines { IfErr result IsOfLines }
 {
     match lines.finish() {
         Some(line) => {
             let number = line.number;
-            let reader = judge_numbered(reader, number, line.bytes)?;
+            judge_numbered(&mut reader, number, line.bytes)?;
             reader.end(number + 1)
         }
         None => reader.end(lines.count() + 1),
@@ -61,13 +61,13 @@ fn finish(lines: &mut Lines, reader: Reader) -> Result<Program, ReadError>
 }
 
 // The next piece of the text.
-fn take_piece(lines: &mut Lines, reader: Reader, piece: &[u8]) -> Result<Reader, ReadError>
+fn take_piece(lines: &mut Lines, reader: &mut Reader, piece: &[u8]) -> Result<(), ReadError>
     requires { lines.old.fed + length piece.now ≤ most_bytes }
     ensures none_left { OnOk result (cut lines.new.bytes ≡ None) }
     ensures fed { OnOk result (lines.new.fed ≡ lines.old.fed + length piece.now) }
-    ensures goes_on { IfOk result (λ r. (room : ℕ) (rest : List ℕ) → outcome_on lines.new r room rest ≡ outcome_on lines.old reader (room + length piece.now) (piece.now ++ rest)) }
-    ensures fails { IfErr result (λ e. (room : ℕ) (rest : List ℕ) → FailsAs e (outcome_on lines.old reader (room + length piece.now) (piece.now ++ rest))) }
-    ensures no_fault { IsErrOf result ReadError.ReadFault → ⊥ }
+    ensures goes_on { OnOk result ((room : ℕ) (rest : List ℕ) → outcome_on lines.new reader.new room rest ≡ outcome_on lines.old reader.old (room + length piece.now) (piece.now ++ rest)) }
+    ensures fails { IfErr result (λ e. (room : ℕ) (rest : List ℕ) → FailsAs e (outcome_on lines.old reader.old (room + length piece.now) (piece.now ++ rest))) }
+    ensures of_lines { IfErr result IsOfLines }
 {
     lines.feed(piece)?;
     judge_lines(lines, reader)
@@ -88,7 +88,7 @@ fn read_within<S: Source>(
     ensures end { OnOk result (IsAtEnd (S.left source.new)) }
     ensures later { S.faults source.old ≤ S.faults source.new }
     ensures cause { IsErrOf result ReadError.ReadFault → Rose (S.faults source.old) (S.faults source.new) }
-    ensures clean { IsErrOf result ReadError.ReadFault → StopsClean (S.left source.old) (S.left source.new) }
+    ensures stops { StopsAt limit (S.left source.old) (S.left source.new) result }
     ensures quiet { IsSome (S.left source.old) → ¬ IsErrOf result ReadError.ReadFault → S.faults source.new ≡ S.faults source.old }
 {
     let mut lines = Lines::new(alloc);
@@ -103,10 +103,10 @@ fn read_within<S: Source>(
             return finish(&mut lines, reader);
         }
         if count > room as usize {
-            take_piece(&mut lines, reader, &buf[..room as usize])?;
+            take_piece(&mut lines, &mut reader, &buf[..room as usize])?;
             return Err(ReadError::TooLong);
         }
-        reader = take_piece(&mut lines, reader, &buf[..count])?;
+        take_piece(&mut lines, &mut reader, &buf[..count])?;
         room -= count as u32;
     }
 }
@@ -114,7 +114,8 @@ fn read_within<S: Source>(
 /// The greatest length of a text.
 const MOST_BYTES: u32 = 268_435_456;
 
-/// The program of what a source gives, to its end. After an error the source stands where the last read left it.
+/// The program of what a source gives, to its end. No read follows the first fault: after a refusal the source stands
+/// where the read left it that brought the fault's line feed, or the end.
 pub fn read_program<S: Source>(alloc: Global, source: &mut S) -> Result<Program, ReadError>
     // Where the source tells its bytes, the outcome of all of them, unless memory ran out or a read failed.
     ensures text { IfSome (S.left source.old) (λ text. ReadsText result (outcome text)) }
@@ -124,10 +125,11 @@ pub fn read_program<S: Source>(alloc: Global, source: &mut S) -> Result<Program,
     // A program comes only at the end of the input.
     ensures end { OnOk result (IsAtEnd (S.left source.new)) }
     ensures later { S.faults source.old ≤ S.faults source.new }
-    // A failed read is answered only where the source's count of faults rose and no line that was read whole has a
-    // fault, and where the source tells its bytes, whenever the count rose, but for want of memory.
+    // The source stands right behind what was read, and the last read decided.
+    ensures stops { StopsAt MOST_BYTES (S.left source.old) (S.left source.new) result }
+    // A failed read is answered only where the source's count of faults rose, and where the source tells its bytes,
+    // whenever the count rose, but for want of memory.
     ensures cause { IsErrOf result ReadError.ReadFault → Rose (S.faults source.old) (S.faults source.new) }
-    ensures clean { IsErrOf result ReadError.ReadFault → StopsClean (S.left source.old) (S.left source.new) }
     ensures quiet { IsSome (S.left source.old) → ¬ IsErrOf result ReadError.ReadFault → S.faults source.new ≡ S.faults source.old }
 {
     let reader = Reader::new(alloc)?;

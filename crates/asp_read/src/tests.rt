@@ -1,7 +1,7 @@
 ghost use Rattle.std.specs.Prelude.{◌<◌};
 
 use super::*;
-use asp_io::{MemSource, RepeatSource};
+use asp_io::{MemSource, RepeatSource, Source};
 use asp_model::program::{Body, Head, Program};
 use asp_text::push_dec;
 use std::alloc::Global;
@@ -94,7 +94,7 @@ fn refused_range(number: u32) -> Option<(&'static [u8], Fault)> {
         19 => row(b"4 0", Fault::Text),
         20 => row(b"4 5 ab 0", Fault::Text),
         21 => row(b"4 1a 0", Fault::Number),
-        22 => row(b"4 2\na\n 0", Fault::Text),
+        22 => row(b"4 3 a\nb 0", Fault::Text),
         23 => row(b"1 0 1 1 0 0 0", Fault::ExtraFields),
         24 => row(b"1 0 1 1 0 0 1 0 1 2 0 0", Fault::ExtraFields),
         25 => row(b"0 0", Fault::ExtraFields),
@@ -221,6 +221,42 @@ fn each_front_of_a_text_has_one_outcome(rt: HostRuntime) -> Result<(), Fail> {
     Ok(())
 }
 
+// What the first so many bytes of a text give.
+fn front(alloc: Global, text: &[u8], len: usize) -> Result<Option<ReadError>, Fail> {
+    Ok(read(alloc, &text[..len.min(text.len())], 3, 0)?.err())
+}
+
+#[test]
+fn a_front_may_lack_only_the_last_line_feed(rt: HostRuntime) -> Result<(), Fail> {
+    let alloc = rt.alloc();
+    for (len, error) in [
+        (0, Some(ReadError::Refused(Fault::Header, 1))),
+        (3, Some(ReadError::Refused(Fault::Header, 1))),
+        (8, Some(ReadError::Refused(Fault::Header, 1))),
+        (59, Some(ReadError::Refused(Fault::NoEnd, 6))),
+        (61, None),
+    ] {
+        assert_eq!(rt;
+            front(alloc, TWO_WAYS, len)?,
+            error,
+            "the first {len} bytes"
+        );
+    }
+    Ok(())
+}
+
+#[test]
+fn all_bytes_of_a_text_are_kept(rt: HostRuntime) -> Result<(), Fail> {
+    let alloc = rt.alloc();
+    let text = between(alloc, b"4 5 a\x00 \rb 0")?;
+    let program = read(alloc, &text, 2, 0)?.ok().ok_or("it is read")?;
+    assert_eq!(rt; program.outputs.as_slice().len(), 1);
+    for output in program.outputs.as_slice() {
+        assert_eq!(rt; output.text.as_slice(), b"a\x00 \rb".as_slice());
+    }
+    Ok(())
+}
+
 #[test]
 fn reads_fail_in_turn(rt: HostRuntime) -> Result<(), Fail> {
     let alloc = rt.alloc();
@@ -237,6 +273,19 @@ fn reads_fail_in_turn(rt: HostRuntime) -> Result<(), Fail> {
         assert_eq!(rt; error, Some(wanted), "read {failing} fails");
     }
     assert_eq!(rt; read(alloc, b"", 4, 1)?.err(), Some(ReadError::ReadFault));
+    Ok(())
+}
+
+#[test]
+fn nothing_is_read_behind_the_first_fault(rt: HostRuntime) -> Result<(), Fail> {
+    let alloc = rt.alloc();
+    let text = b"asp 1 0 0\n3\n1 0 1 1 0 0\n0\n";
+    let mut source = MemSource::new(text.to_vec(alloc)?, 4, Vec::new(alloc));
+    let error = read_program(alloc, &mut source).err();
+    assert_eq!(rt; error, Some(ReadError::Refused(Fault::Projection, 2)));
+    let mut buf = [0u8; 4];
+    assert_eq!(rt; source.read(&mut buf), Ok(4));
+    assert_eq!(rt; buf, *b"1 0 ");
     Ok(())
 }
 
@@ -271,8 +320,10 @@ fn repeated(alloc: Global, byte: u8, count: u64) -> Option<ReadError> {
 #[test]
 fn a_text_may_be_too_long(rt: HostRuntime) {
     let alloc = rt.alloc();
-    let lines = repeated(alloc, b'\n', 10_000_000);
-    assert_eq!(rt; lines, Some(ReadError::Refused(Fault::Header, 10_000_001)));
+    let lines = repeated(alloc, b'\n', 268_435_456);
+    assert_eq!(rt; lines, Some(ReadError::Refused(Fault::Header, 268_435_457)));
+    let one_more = repeated(alloc, b'\n', 268_435_457);
+    assert_eq!(rt; one_more, Some(ReadError::TooLong));
     let most = repeated(alloc, b' ', 268_435_456);
     assert_eq!(rt; most, Some(ReadError::Refused(Fault::Header, 2)));
     let more = repeated(alloc, b' ', 268_435_457);

@@ -2,3 +2,4 @@ pub mod Cutting
 pub mod Found
 pub mod Digits
 pub mod Blanks
+pub mod Front

@@ -3,3 +3,4 @@ pub mod Unread
 pub mod Held
 pub mod Fields
 pub mod FieldsLeft
+pub mod Front

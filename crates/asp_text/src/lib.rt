@@ -6,7 +6,7 @@ mod numbers;
 mod split;
 
 pub use lines::{Line, Lines};
-pub use numbers::{Num, is_digits, push_dec, read_int};
+pub use numbers::{Num, is_digits, push_dec, read_int, split_int};
 pub use split::{LineFields, fields, is_blank, split_field, unblank};
 
 #[cfg(test)]

@@ -8,8 +8,8 @@ use Rattle.asp_model.specs.declared.fault.ReadError.TheVariants as errors
 use Rattle.asp_model.specs.declared.program.Program.{Program}
 use Rattle.asp_model.specs.declared.results.Mode.{Mode}
 use Rattle.asp_model.specs.declared.results.Results.{Results}
-use Rattle.asp_read.specs.Outcome.{outcome}
-use Rattle.asp_read.specs.Stream.{ReadsText, StopsClean}
+use Rattle.asp_read.specs.Outcome.{outcome, most_bytes}
+use Rattle.asp_read.specs.Stream.{ReadsText, StopsAt}
 use Rattle.asp_top.specs.declared.status.Status.{Status}
 use Rattle.asp_top.specs.declared.status.Status.TheVariants.{All, NoModel, Help, Memory, Usage, Refused, ReadFault, TooLong, WriteFault}
 use Rattle.asp_top.specs.declared.status.Report.{Report}
@@ -76,14 +76,14 @@ pub record Unread (a : Around) (e : ReadError) : Type 0 where
   pub some_text : (text : List ℕ) × ReadsText (Err e) (outcome text)
   pub later : a.reads ≤ a.reads'
   pub cause : e ≡ errors.ReadFault → Rose a.reads a.reads'
-  pub clean : e ≡ errors.ReadFault → StopsClean a.left a.left'
+  pub stops : StopsAt most_bytes a.left a.left' (Err e)
   pub quiet : IsSome a.left → ¬ (e ≡ errors.ReadFault) → a.reads' ≡ a.reads
 
 unread-means : (mode : Option Mode) (a : Around) (e : ReadError) → Keeps a.held a.held' → Unread a e → Means mode a None (status_of e)
 unread-means mode a errors.Memory kept u = record { none = refl; kept = kept }
-unread-means mode a errors.ReadFault kept u = record { untouched = record { none = refl; kept = kept }; cause = u.cause refl; clean = u.clean refl }
-unread-means mode a errors.TooLong kept u = record { untouched = record { none = refl; kept = kept }; says = u.text; said = u.some_text }
-unread-means mode a (errors.Refused f l) kept u = record { untouched = record { none = refl; kept = kept }; says = u.text; said = u.some_text }
+unread-means mode a errors.ReadFault kept u = record { untouched = record { none = refl; kept = kept }; cause = u.cause refl; stops = u.stops }
+unread-means mode a errors.TooLong kept u = record { untouched = record { none = refl; kept = kept }; says = u.text; said = u.some_text; stops = u.stops }
+unread-means mode a (errors.Refused f l) kept u = record { untouched = record { none = refl; kept = kept }; says = u.text; said = u.some_text; stops = u.stops }
 
 fault-status : (e : ReadError) → e ≡ errors.ReadFault → status_of e ≡ ReadFault
 fault-status e is = rw is refl

@@ -9,8 +9,8 @@ use Rattle.asp_model.specs.declared.program.Program.{Program}
 use Rattle.asp_model.specs.declared.results.Mode.{Mode}
 use Rattle.asp_model.specs.declared.results.Results.{Results}
 use Rattle.asp_model.specs.Texts.{results_text}
-use Rattle.asp_read.specs.Outcome.{outcome}
-use Rattle.asp_read.specs.Stream.{StopsClean}
+use Rattle.asp_read.specs.Outcome.{outcome, most_bytes}
+use Rattle.asp_read.specs.Stream.{StopsAt}
 use Rattle.asp_cli.specs.Given.{Given, help, usage, options}
 use Rattle.asp_cli.specs.Usage.{usage_line}
 use Rattle.asp_top.specs.declared.status.Status.{Status}
@@ -69,17 +69,18 @@ pub record IsUntouched (a : Around) (report : Option Report) : Type 0 where
   pub none : report ≡ None
   pub kept : Keeps a.held a.held'
 
--- the text was refused
+-- the text was refused, and nothing was read behind the read that decided so
 pub record IsRefused (a : Around) (report : Option Report) (error : ReadError) : Type 0 where
   pub untouched : IsUntouched a report
   pub says : Says a (Err error)
   pub said : IsSaid (Err error)
+  pub stops : StopsAt most_bytes a.left a.left' (Err error)
 
 -- a read failed before any line with a fault was whole
 pub record IsUnread (a : Around) (report : Option Report) : Type 0 where
   pub untouched : IsUntouched a report
   pub cause : Rose a.reads a.reads'
-  pub clean : StopsClean a.left a.left'
+  pub stops : StopsAt most_bytes a.left a.left' (Err errors.ReadFault)
 
 -- how an outcome tells why no program was read
 abbrev pub status_of : ReadError → Status

@@ -5,7 +5,7 @@ use Rattle.asp_read.proofs.many.many.Goals as goal
 
 pub returns-in_err-item-clause-items : goal.returns-in_err-item-clause-items
 returns-in_err-item-clause-items g c =
-    let p = err_from_is_err_and c.from_residual.result c.from_residual.ensures.1 in
+    let p = err_from_is_err_and c.from_residual-in_err-item.result c.from_residual-in_err-item.ensures.1 in
     rw (p.1, p.2) (ends (g.E.Entry.entry_atom c.args.entry.now) (g.E.Entry.entry_at c.args.entry.now) c.in_err-item.field-0.0 c.loop.items.items c.args.count c.loop.counter c.loop.known c.loop.rest.now _ c.loop-test.true c.in_err-item.ensures.item c.loop.invariant.read)
 
 pub loop-preserved : goal.loop-preserved

@@ -9,7 +9,7 @@ pub loop-line-preserved : goal.loop-line-preserved
 loop-line-preserved c =
     let after = rw c.in-Some.is at c.next_line.follows.holds-at-none in
     record {
-      same = λ room rest. line_step c.loop-line.lines _ c.loop-line.reader c.in_ok-reader.reader c.in-Some.line.number c.in-Some.line.bytes.now c.in-Some.ensures.line after c.in-Some.ensures.number c.in_ok-reader.ensures.reader room rest ∙ c.loop-line.invariant.same room rest;
+      same = λ room rest. line_step c.loop-line.lines _ c.loop-line.reader c.judge_numbered.new.reader c.in-Some.line.number c.in-Some.line.bytes.now c.in-Some.ensures.line after c.in-Some.ensures.number c.in_ok-judge_numbered.ensures.reader room rest ∙ c.loop-line.invariant.same room rest;
       fed = ap (λ (u : Unread). u.fed) after ∙ c.loop-line.invariant.fed;
       shorter = omega (arith, ap (λ (u : Unread). length u.bytes) after, shorter c.loop-line.lines.bytes c.in-Some.line.bytes.now c.in-Some.ensures.line);
     }
@@ -19,13 +19,13 @@ loop-line-smaller c =
     let after = rw c.in-Some.is at c.next_line.follows.holds-at-none in
     omega (arith, ap (λ (u : Unread). length u.bytes) after, shorter c.loop-line.lines.bytes c.in-Some.line.bytes.now c.in-Some.ensures.line)
 
-pub returns-in_err-reader-clause-shorter : goal.returns-in_err-reader-clause-shorter
-returns-in_err-reader-clause-shorter c =
+pub returns-in_err-judge_numbered-clause-shorter : goal.returns-in_err-judge_numbered-clause-shorter
+returns-in_err-judge_numbered-clause-shorter c =
     let after = rw c.in-Some.is at c.next_line.follows.holds-at-none in
     omega (arith, ap (λ (u : Unread). length u.bytes) after, shorter c.loop-line.lines.bytes c.in-Some.line.bytes.now c.in-Some.ensures.line)
 
-pub returns-in_err-reader-clause-fails : goal.returns-in_err-reader-clause-fails
-returns-in_err-reader-clause-fails c =
+pub returns-in_err-judge_numbered-clause-fails : goal.returns-in_err-judge_numbered-clause-fails
+returns-in_err-judge_numbered-clause-fails c =
     let p = err_from_is_err_and c.from_residual.result c.from_residual.ensures.1 in
-    rw (p.1, p.2) (λ room rest. subst (λ o. FailsAs c.in_err-reader.field-0.0 o) (c.loop-line.invariant.same room rest)
-    (line_fails c.loop-line.lines c.loop-line.reader c.in_err-reader.field-0.0 c.in-Some.line.number c.in-Some.line.bytes.now c.in-Some.ensures.line c.in-Some.ensures.number c.in_err-reader.ensures.reader room rest))
+    rw (p.1, p.2) (λ room rest. subst (λ o. FailsAs c.in_err-judge_numbered.field-0.0 o) (c.loop-line.invariant.same room rest)
+    (line_fails c.loop-line.lines c.loop-line.reader c.in_err-judge_numbered.field-0.0 c.in-Some.line.number c.in-Some.line.bytes.now c.in-Some.ensures.line c.in-Some.ensures.number c.in_err-judge_numbered.ensures.reader room rest))

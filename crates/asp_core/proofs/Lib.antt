@@ -1,0 +1,11 @@
+pub mod UnitLaws
+pub mod BoardLaws
+pub mod SortingLaws
+pub mod CountLaws
+pub mod ResultLaws
+pub mod HeldLaws
+pub mod PlaceLaws
+pub mod StateLaws
+pub mod RowLaws
+pub mod PriceLaws
+pub mod GrowthLaws

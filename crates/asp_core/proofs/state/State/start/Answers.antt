@@ -1,0 +1,32 @@
+use Rattle.std.proofs.Common.{◌≡◌, length, List, ◌++◌, map, None, sym, ap, ◌∙◌, subst, refl, arith}
+use Rattle.std.specs.Prelude.{ℤ}
+use Rattle.asp_model.specs.declared.program.Program.{Program}
+use Rattle.asp_vars.specs.Numbering.{literal_of}
+use Rattle.asp_path.specs.Trees.{root, held_count}
+use Rattle.asp_core.specs.declared.task.Task.{Task}
+use Rattle.asp_core.specs.Invariant.{IsBoard}
+use Rattle.asp_core.specs.Sorting.{sorted_once}
+use Rattle.asp_core.proofs.BoardLaws.{IsBoard-start}
+use Rattle.asp_core.proofs.state.State.start.Goals as goal
+
+pub invariant_of-result : goal.invariant_of-result
+invariant_of-result c =
+    let p : Program = c.args.compiled.now in
+    let q : List ℤ = c.args.query.now in
+    let t : Task = record { program = p; goal = c.args.goal; budget = c.args.budget; limit = c.args.limit; query = q } in
+    let same : c.of.result.value ≡ p = c.of.ensures ∙ c.program-program.ensures.program in
+    let asked : c.from_vec.result ≡ q = c.from_vec.ensures ∙ c.in_ok-query.ensures.items in
+    let nodes : c.in_ok-tree.tree ≡ root (map (literal_of p) (p.assumptions ++ q)) = c.in_ok-tree.ensures ∙ ap root c.in_ok-root.ensures in
+    let none : held_count (root (map (literal_of p) (p.assumptions ++ q))) ≡ 0 = refl in
+    let board : IsBoard (record { task = record { program = c.of.result.value; goal = c.args.goal; budget = c.args.budget; limit = c.args.limit; query = c.from_vec.result }; nodes = c.in_ok-tree.tree; answers = c.new.result.items; best = None; pool = c.args.budget; out = c.new-3.result.items; burnt = 0; reasons = c.new-4.result.items }) =
+    subst IsBoard
+    (sym (λ k. record { task = record { program = same k; goal = c.args.goal; budget = c.args.budget; limit = c.args.limit; query = asked k }; nodes = nodes k; answers = c.new.ensures.items k; best = None; pool = c.args.budget; out = c.new-3.ensures.items k; burnt = 0; reasons = c.new-4.ensures.items k }))
+    (IsBoard-start t c.requires) in
+    record {
+      board = board;
+      priced = c.in_ok-prices.ensures.same ∙ ap (λ (x : Program). x.minimize) (sym c.of.ensures);
+      sound = c.in_ok-prices.ensures.sound;
+      costed = tt;
+      sorted = λ _. c.new-2.ensures.empty ∙ sym (ap sorted_once c.new.ensures.items);
+      room = omega (arith, ap length c.new-4.ensures.items, ap held_count nodes, none);
+    }

@@ -1,0 +1,21 @@
+-- What no event takes back, and what the events of others leave alone.
+use Rattle.std.specs.Prelude.{◌≡◌, ℕ, ◌≤◌, List, length, slice_index_or, ℤ, IsTrue}
+use Rattle.asp_model.specs.Sets.{Atoms}
+use Rattle.asp_path.specs.declared.status.Status.TheVariants as status
+use Rattle.asp_path.specs.Trees.{nowhere, status_of}
+use Rattle.asp_core.specs.Units.{out_of}
+use Rattle.asp_core.specs.Boards.{Board, IsBoundOf, distinct, is_excused}
+use Rattle.asp_core.specs.Events.{held_by}
+
+-- from b to c: what was recorded is kept
+pub record Grows (b c : Board) : Type 0 where
+  pub task : c.task ≡ b.task
+  pub excused : (S : Atoms) → IsTrue (is_excused b S) → IsTrue (is_excused c S)
+  pub known : length (distinct b.answers) ≤ length (distinct c.answers)
+  pub bounds : (d : List ℤ) → IsBoundOf b d → IsBoundOf c d
+
+-- from b to c: what the number has is left alone
+pub record Spares (s : ℕ) (b c : Board) : Type 0 where
+  pub leaves : (leaf : ℕ) → status_of b.nodes leaf ≡ status.Held s → slice_index_or c.nodes leaf nowhere ≡ slice_index_or b.nodes leaf nowhere
+  pub count : held_by s c.nodes ≡ held_by s b.nodes
+  pub units : out_of c.out s ≡ out_of b.out s

@@ -1,0 +1,29 @@
+//! What a board is to find.
+ghost use Rattle.std.specs.Prelude.{◌≡◌};
+ghost use Rattle.asp_core.specs.Boards.{goal_of};
+
+use asp_model::cost::Cost;
+use asp_model::results::Mode;
+
+/// What a board is to find.
+#[derive(Drop)]
+pub enum Goal {
+    /// Every answer.
+    Enum,
+    /// An answer that none betters.
+    Opt,
+    /// Every answer below a cost, where one is given.
+    Ties(Option<Cost>),
+}
+
+impl Goal {
+    /// The goal of a mode's first search.
+    pub fn of(mode: Mode) -> Goal
+        ensures { result ≡ goal_of mode }
+    {
+        match mode {
+            Mode::Enum => Goal::Enum,
+            Mode::Opt => Goal::Opt,
+        }
+    }
+}

@@ -1,0 +1,368 @@
+//! The state of a board.
+ghost use Rattle.std.specs.Prelude.{◌≡◌, ◌+◌, ◌++◌, ◌^◌, ◌<◌, ◌≤◌, ◌↔◌, ◌==◌, if◌then◌else◌, false, [], length, slice_get, None, Some, option_map, IfOk, OnOk, OnErr, IsOk, IsTrue};
+ghost use Rattle.std.specs.Option.{IfSome, option_copied};
+ghost use Rattle.asp_model.specs.Costs.{cost, betters};
+ghost use Rattle.asp_path.specs.declared.status.Status.TheVariants as status;
+ghost use Rattle.asp_path.specs.Trees.{cube_of, status_of, is_open, all_closed, open_from, held_count, leaf_count};
+ghost use Rattle.asp_core.specs.declared.event.Event.TheVariants as event;
+ghost use Rattle.asp_core.specs.Units.{out_of};
+ghost use Rattle.asp_core.specs.Boards.{start, wanted, optimises, is_excused, is_enough, IsQuery};
+ghost use Rattle.asp_core.specs.Events.{Guard, happens, wants_memory};
+ghost use Rattle.asp_core.specs.Invariant.{IsBoard, HasResult};
+ghost use Rattle.asp_core.specs.Sorting.{with_set};
+
+use crate::event::Event;
+use crate::goal::Goal;
+use crate::prices::prices;
+use crate::reason::Reason;
+use crate::units::{lease_out, return_out, units_of};
+use crate::wanted::wanted;
+use asp_model::cost::{Cost, cost_of};
+use asp_model::interp::Interp;
+use asp_model::program::Program;
+use asp_model::seq::Seq;
+use asp_path::tree::{Leaf, Tree};
+use asp_vars::compiled::Compiled;
+use asp_vars::lit::Lit;
+use asp_vars::nogood::Lits;
+use std::alloc::{AllocError, Global};
+use std::collections::BTreeSet;
+use std::marker::Model;
+use std::snapshot::Snapshot;
+
+/// The state of a search, which contracts see as its board.
+///
+/// The program itself isn't kept, but for the statements by which sets are priced.
+#[derive(Drop)]
+pub struct State {
+    alloc: Global,
+    program: Snapshot<Program>,
+    goal: Goal,
+    budget: u64,
+    limit: u64,
+    query: Seq<i32>,
+    prices: Program,
+    tree: Tree,
+    answers: Vec<Interp>,
+    different: BTreeSet<Interp>,
+    best: Option<(Interp, Cost)>,
+    pool: u64,
+    out: Vec<(u32, u64)>,
+    burnt: u64,
+    reasons: Vec<Reason>,
+}
+
+impl Model for State {
+    ghost use Rattle.asp_core.specs.Boards.{Board};
+
+    ghost Value = { Board };
+
+    ghost use Rattle.asp_core.specs.Stored.{board_of, IsState};
+
+    ghost view = { board_of };
+
+    ghost invariant = { IsState };
+}
+
+// Puts a copy of the set among the different ones, where there is a limit to count them for.
+fn count_in(limit: u64, different: &mut BTreeSet<Interp>, set: &Interp) -> Result<(), AllocError>
+    ensures ok { OnOk result (different.new.keys ≡ (if limit == 0 then different.old.keys else with_set set.now different.old.keys)) }
+    ensures err { OnErr result (different.new.keys ≡ different.old.keys) }
+{
+    if limit == 0 {
+        return Ok(());
+    }
+    different.insert(set.copy()?)?;
+    Ok(())
+}
+
+impl State {
+    /// The start of a search whose answers meet the program's assumptions and these literals.
+    ///
+    /// The only error is want of memory.
+    pub fn start(
+        alloc: Global,
+        compiled: &Compiled,
+        goal: Goal,
+        budget: u64,
+        limit: u64,
+        query: &[i32],
+    ) -> Result<State, AllocError>
+        requires { IsQuery compiled.now query.now }
+        ensures { IfOk result (λ s. s ≡ start (record { program = compiled.now; goal = goal; budget = budget; limit = limit; query = query.now })) }
+    {
+        let program = compiled.program();
+        let prices = prices(alloc, program)?;
+        let root = wanted(alloc, compiled, query)?;
+        let query = Vec::from_slice(alloc, query)?;
+        let tree = Tree::root(alloc, root)?;
+        Ok(State {
+            alloc,
+            program: Snapshot::of(program),
+            goal,
+            budget,
+            limit,
+            query: Seq::from_vec(query),
+            prices,
+            tree,
+            answers: Vec::new(alloc),
+            different: BTreeSet::new(alloc),
+            best: None,
+            pool: budget,
+            out: Vec::new(alloc),
+            burnt: 0,
+            reasons: Vec::new(alloc),
+        })
+    }
+
+    fn take(&mut self, by: u32, leaf: Leaf) -> Result<(), AllocError>
+        requires { Guard self.old (event.Take by leaf) }
+        ensures ok { OnOk result (self.new ≡ happens self.old (event.Take by leaf)) }
+        ensures err { OnErr result (self.new ≡ self.old) }
+    {
+        self.reasons.reserve(self.tree.held_leaves() + 1)?;
+        self.tree.hold(leaf, by);
+        Ok(())
+    }
+
+    fn split(&mut self, by: u32, leaf: Leaf, lit: Lit) -> Result<(), AllocError>
+        requires { Guard self.old (event.Split by leaf lit) }
+        ensures ok { OnOk result (self.new ≡ happens self.old (event.Split by leaf lit)) }
+        ensures err { OnErr result (self.new ≡ self.old) }
+    {
+        let _leaves = self.tree.split(leaf, lit)?;
+        Ok(())
+    }
+
+    fn deliver(&mut self, by: u32, set: Interp) -> Result<(), AllocError>
+        requires { Guard self.old (event.Deliver by set) }
+        ensures ok { OnOk result (self.new ≡ happens self.old (event.Deliver by set)) }
+        ensures err { OnErr result (self.new ≡ self.old) }
+    {
+        self.answers.reserve(1)?;
+        count_in(self.limit, &mut self.different, &set)?;
+        self.answers.push_reserved(set);
+        Ok(())
+    }
+
+    fn improve(&mut self, by: u32, set: Interp) -> Result<(), AllocError>
+        requires { Guard self.old (event.Improve by set) }
+        ensures ok { OnOk result (self.new ≡ happens self.old (event.Improve by set)) }
+        ensures err { OnErr result (self.new ≡ self.old) }
+    {
+        let cost = cost_of(self.alloc, &self.prices, &set)?;
+        self.best = Some((set, cost));
+        Ok(())
+    }
+
+    fn close(&mut self, by: u32, leaf: Leaf, nogood: Lits)
+        requires { Guard self.old (event.Close by leaf nogood) }
+        ensures { self.new ≡ happens self.old (event.Close by leaf nogood) }
+    {
+        self.reasons.push_reserved(Reason { leaf, nogood });
+        self.tree.mark(leaf);
+    }
+
+    fn release(&mut self, by: u32, leaf: Leaf)
+        requires { Guard self.old (event.Release by leaf) }
+        ensures { self.new ≡ happens self.old (event.Release by leaf) }
+    {
+        self.tree.release(leaf);
+    }
+
+    fn lease(&mut self, by: u32, n: u64) -> Result<(), AllocError>
+        requires { Guard self.old (event.Lease by n) }
+        ensures ok { OnOk result (self.new ≡ happens self.old (event.Lease by n)) }
+        ensures err { OnErr result (self.new ≡ self.old) }
+    {
+        lease_out(&mut self.out, by, n)?;
+        self.pool -= n;
+        Ok(())
+    }
+
+    fn back(&mut self, by: u32, left: u64, burnt: u64)
+        requires { Guard self.old (event.Back by left burnt) }
+        ensures { self.new ≡ happens self.old (event.Back by left burnt) }
+    {
+        return_out(&mut self.out, by);
+        self.pool += left;
+        self.burnt += burnt;
+    }
+
+    /// Lets the event happen.
+    ///
+    /// For want of memory the state stays as it was; a close, a release and a return of units want none.
+    pub fn apply(&mut self, event: Event) -> Result<(), AllocError>
+        requires { Guard self.old event }
+        ensures ok { OnOk result (self.new ≡ happens self.old event) }
+        ensures err { OnErr result (self.new ≡ self.old) }
+        ensures no_memory { wants_memory event ≡ false → IsOk result }
+    {
+        match event {
+            Event::Take(by, leaf) => self.take(by, leaf),
+            Event::Split(by, leaf, lit) => self.split(by, leaf, lit),
+            Event::Deliver(by, set) => self.deliver(by, set),
+            Event::Improve(by, set) => self.improve(by, set),
+            Event::Close(by, leaf, nogood) => {
+                self.close(by, leaf, nogood);
+                Ok(())
+            }
+            Event::Release(by, leaf) => {
+                self.release(by, leaf);
+                Ok(())
+            }
+            Event::Lease(by, n) => self.lease(by, n),
+            Event::Back(by, left, burnt) => {
+                self.back(by, left, burnt);
+                Ok(())
+            }
+        }
+    }
+
+    /// Whether every leaf is closed. Then the board has the result.
+    pub fn finished(&self) -> bool
+        ensures closed { result ≡ all_closed self.now.nodes }
+        ensures board { IsBoard self.now }
+        ensures result { IsTrue result → HasResult self.now.task.goal self.now }
+    {
+        self.tree.all_closed()
+    }
+
+    /// Whether there is a limit, and as many different sets were delivered.
+    pub fn enough(&self) -> bool
+        ensures { result ≡ is_enough self.now }
+    {
+        self.limit != 0 && self.limit <= self.different.len() as u64
+    }
+
+    /// How many units there were at the start.
+    pub fn budget(&self) -> u64
+        ensures budget { result ≡ self.now.task.budget }
+        ensures fits { result < 2 ^ 64 }
+        ensures board { IsBoard self.now }
+    {
+        let _ = &self.tree;
+        self.budget
+    }
+
+    /// The units burnt.
+    pub fn spent(&self) -> u64
+        ensures { result ≡ self.now.burnt }
+    {
+        self.burnt
+    }
+
+    /// The units that may be leased.
+    pub fn pool(&self) -> u64
+        ensures { result ≡ self.now.pool }
+    {
+        self.pool
+    }
+
+    /// The units that are out for a number.
+    pub fn units_out(&self, by: u32) -> u64
+        ensures { result ≡ out_of self.now.out by }
+    {
+        units_of(self.out.as_slice(), by)
+    }
+
+    /// The sets delivered, in their order.
+    pub fn answers(&self) -> &[Interp]
+        ensures { result.now ≡ self.now.answers }
+    {
+        self.answers.as_slice()
+    }
+
+    /// The best answer and its cost, where one was recorded.
+    pub fn best(&self) -> Option<&(Interp, Cost)>
+        ensures { option_copied result ≡ option_map (λ S. (S, cost self.now.task.program S)) self.now.best }
+    {
+        self.best.as_ref()
+    }
+
+    /// The best cost, where one stands that the set doesn't better. The only error is want of memory.
+    pub fn unbettered(&self, set: &Interp) -> Result<Option<Cost>, AllocError>
+        requires { IsTrue (optimises self.now.task.goal) }
+        ensures none { IfOk result (λ r. r ≡ None → is_excused self.now set.now ≡ false) }
+        ensures some { IfOk result (λ r. IfSome r (λ c. (option_map (cost self.now.task.program) self.now.best ≡ Some c) × (betters (cost self.now.task.program set.now) c ≡ false))) }
+    {
+        let (_, best) = match &self.best {
+            Some(best) => best,
+            None => return Ok(None),
+        };
+        let cost = cost_of(self.alloc, &self.prices, set)?;
+        if cost < *best {
+            return Ok(None);
+        }
+        Ok(Some(best.copy()?))
+    }
+
+    /// The closed leaves, each with its nogood.
+    pub fn reasons(&self) -> &[Reason]
+        ensures reasons { result.now ≡ self.now.reasons }
+        ensures board { IsBoard self.now }
+    {
+        self.reasons.as_slice()
+    }
+
+    /// How many leaves there are, closed ones too.
+    pub fn leaves(&self) -> u32
+        ensures { result ≡ leaf_count self.now.nodes }
+    {
+        self.tree.leaves()
+    }
+
+    /// The open leaf of least number.
+    pub fn first_open(&self) -> Option<Leaf>
+        ensures least { result ≡ slice_get (open_from 0 self.now.nodes) 0 }
+        ensures open_leaf { IfSome result (λ leaf. status_of self.now.nodes leaf ≡ status.Open) }
+    {
+        self.tree.first_open()
+    }
+
+    /// Whether the number is an open leaf's.
+    pub fn is_open(&self, leaf: Leaf) -> bool
+        ensures { result ≡ is_open (status_of self.now.nodes leaf) }
+    {
+        self.tree.is_open(leaf)
+    }
+
+    /// How many nodes there are, forks too.
+    pub fn nodes(&self) -> usize
+        ensures nodes { result ≡ length self.now.nodes }
+        ensures few { result ≤ 4194306 }
+    {
+        self.tree.len()
+    }
+
+    /// How many leaves are open.
+    pub fn open_leaves(&self) -> usize
+        ensures { result ≡ length (open_from 0 self.now.nodes) }
+    {
+        self.tree.open_leaves()
+    }
+
+    /// How many leaves are held.
+    pub fn held_leaves(&self) -> usize
+        ensures { result ≡ held_count self.now.nodes }
+    {
+        self.tree.held_leaves()
+    }
+
+    /// Whether a leaf may split.
+    pub fn room(&self) -> bool
+        ensures { IsTrue result ↔ (length self.now.nodes < 4194304) }
+    {
+        self.tree.room()
+    }
+
+    /// A node's literals.
+    ///
+    /// The only error is want of memory.
+    pub fn cube(&self, leaf: Leaf) -> Result<Vec<Lit>, AllocError>
+        requires { leaf < length self.now.nodes }
+        ensures { IfOk result (λ cube. cube.items ≡ cube_of self.now.nodes leaf) }
+    {
+        self.tree.cube(self.alloc, leaf)
+    }
+}
