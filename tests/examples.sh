@@ -1,5 +1,6 @@
 #!/usr/bin/env bash
-# Runs every example, every refusal and every command of the README through the built program, and compares bytes and status.
+# Runs every example, every row, every refusal and every command of the README through the built program, and compares
+# bytes and status.
 # Usage: tests/examples.sh [PROGRAM]     (the program is build/aspenum where none is named)
 cd "$(dirname "$0")/.." || exit 1
 program=${1:-build/aspenum}
@@ -42,12 +43,25 @@ while IFS='~' read -r status note words text; do
     check "nothing written: $note" 0 "$wanted" 0 "$given"
 done < tests/refusals.txt
 
-# Output that can't be written.
+# Worked texts. A line of rows.txt has the status, the words, the text and what is written, with ~ between them.
+while IFS='~' read -r status words text output; do
+    printf '%b' "$output" > "$wanted"
+    # shellcheck disable=SC2086
+    printf '%b' "$text" | "$program" $words > "$given" 2> "$notes"
+    check "row: $words $text" "$status" "$wanted" "${PIPESTATUS[1]}" "$given"
+done < tests/rows.txt
+
+# Output that can't be written, and input that can't be read.
+echo 'aspenum: write failed' > "$wanted"
 if [ -w /dev/full ]; then
-    echo 'aspenum: write failed' > "$wanted"
     "$program" < examples/two_rules.aspif > /dev/full 2> "$notes"
     check "a full device" 74 "$wanted" "$?" "$notes"
 fi
+"$program" < examples/two_rules.aspif >&- 2> "$notes"
+check "no output" 74 "$wanted" "$?" "$notes"
+echo 'aspenum: read failed' > "$wanted"
+"$program" < examples 2> "$notes" > "$given"
+check "a folder as input" 66 "$wanted" "$?" "$notes"
 
 # The commands of the README: each line '$ COMMAND' of its text blocks, with what follows it.
 python3 tests/readme.py "$program" README.md || failed=$((failed + 1))

@@ -317,15 +317,32 @@ fn repeated(alloc: Global, byte: u8, count: u64) -> Option<ReadError> {
     read_program(alloc, &mut RepeatSource::new(byte, count)).err()
 }
 
+// The greatest length of a text.
+const MOST: u64 = 268_435_456;
+
 #[test]
-fn a_text_may_be_too_long(rt: HostRuntime) {
-    let alloc = rt.alloc();
-    let lines = repeated(alloc, b'\n', 268_435_456);
-    assert_eq!(rt; lines, Some(ReadError::Refused(Fault::Header, 268_435_457)));
-    let one_more = repeated(alloc, b'\n', 268_435_457);
-    assert_eq!(rt; one_more, Some(ReadError::TooLong));
-    let most = repeated(alloc, b' ', 268_435_456);
-    assert_eq!(rt; most, Some(ReadError::Refused(Fault::Header, 2)));
-    let more = repeated(alloc, b' ', 268_435_457);
-    assert_eq!(rt; more, Some(ReadError::TooLong));
+fn each_byte_may_be_a_line_feed(rt: HostRuntime) {
+    let refusal = repeated(rt.alloc(), b'\n', MOST);
+    assert_eq!(rt;
+        refusal,
+        Some(ReadError::Refused(Fault::Header, 268_435_457))
+    );
+}
+
+#[test]
+fn a_line_feed_may_be_too_many(rt: HostRuntime) {
+    let refusal = repeated(rt.alloc(), b'\n', MOST + 1);
+    assert_eq!(rt; refusal, Some(ReadError::TooLong));
+}
+
+#[test]
+fn a_line_may_be_as_long_as_a_text(rt: HostRuntime) {
+    let refusal = repeated(rt.alloc(), b' ', MOST);
+    assert_eq!(rt; refusal, Some(ReadError::Refused(Fault::Header, 2)));
+}
+
+#[test]
+fn a_line_may_be_too_long(rt: HostRuntime) {
+    let refusal = repeated(rt.alloc(), b' ', MOST + 1);
+    assert_eq!(rt; refusal, Some(ReadError::TooLong));
 }

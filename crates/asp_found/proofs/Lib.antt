@@ -1,0 +1,9 @@
+pub mod RestLaws
+pub mod UnfoundedLaws
+pub mod VerdictLaws
+pub mod PartLaws
+pub mod CheckLaws
+pub mod MarkLaws
+pub mod DeriveLaws
+pub mod LeastLaws
+pub mod ValuationLaws

@@ -1,0 +1,159 @@
+-- Values that hit no nogood of the completion and keep the weight bodies are those of their true atoms.
+use Rattle.std.proofs.Common.{◌≡◌, ℕ, zero, suc, ◌+◌, ◌-◌, ◌<◌, Bool, true, false, not, ◌&&◌, List, [], ◌∷◌, ◌++◌, map, filter, length, get_or, Some, refl, sym, ap, ◌∙◌, subst, arith, inl, inr, length-append}
+use Rattle.std.specs.Prelude.{ℤ, pos, negsuc}
+use Rattle.std.specs.List.{list_any, flat_map, AllByRecursion}
+use Rattle.std.specs.Bool.{beq}
+use Rattle.std.proofs.lemmas.Bool.{false≢true, or_parts, cases_lt}
+use Rattle.std.proofs.lemmas.List.{ext_get_or, length-map}
+use Rattle.asp_model.specs.declared.program.Body.{Body}
+use Rattle.asp_model.specs.declared.program.Body.TheVariants as body
+use Rattle.asp_model.specs.declared.program.Rule.{Rule}
+use Rattle.asp_model.specs.declared.program.Program.{Program}
+use Rattle.asp_model.specs.Sets.{Atoms, has, IsAscending, IsSubset}
+use Rattle.asp_model.specs.Holding.{atom_of, holds, all_hold, body_holds}
+use Rattle.asp_model.specs.Models.{rules_in_force, atoms_of, mentions, is_stable}
+use Rattle.asp_model.specs.Sound.{IsSound}
+use Rattle.asp_model.proofs.SetLaws.{IsAscending-set_of}
+use Rattle.asp_model.proofs.MemberLaws.{each-front, HasAll-itself}
+use Rattle.asp_vars.specs.Literals.{Literal, T, complement, is_true, hits}
+use Rattle.asp_vars.specs.Numbering.{body_eq, bodies_of, var_count, var_of_atom, var_of_form, var_of_body, literal_of, values, nth_body, nth_atom}
+use Rattle.asp_vars.specs.Completion.{body_nogoods, rule_nogoods, atom_nogood, completion}
+use Rattle.asp_vars.specs.Tabled.{Stands}
+use Rattle.asp_vars.specs.Unfounded.{is_unfounded}
+use Rattle.asp_vars.proofs.LiteralLaws.{is_true-complement}
+use Rattle.asp_vars.proofs.NumberingLaws.{value-atom, value-form}
+use Rattle.asp_vars.proofs.PlaceLaws.{at_each, var_of_nth_atom, var_of_nth_body}
+use Rattle.asp_vars.proofs.StandingLaws.{bodies_of-stand, bodies_of-themselves}
+use Rattle.asp_loop.proofs.FoundedLaws.{has-filter}
+use Rattle.asp_found.specs.Valuations.{IsValuation, true_atoms, KeepsWeights}
+use Rattle.asp_found.proofs.RestLaws.{each-unflat_map}
+use Rattle.asp_found.proofs.CheckLaws.{no_unfounded_stable}
+
+-- none of these nogoods is hit
+abbrev Unhit : List Bool → List (List Literal) → Type 0
+Unhit v ns = AllByRecursion (λ n. hits v n ≡ false) ns
+
+unhit : (v : List Bool) (ns : List (List Literal)) → list_any (hits v) ns ≡ false → Unhit v ns
+unhit v [] e = tt
+unhit v (n ∷ ns) e = let parts = or_parts (hits v n) (list_any (hits v) ns) e in (parts.0, unhit v ns parts.1)
+
+bodies_unhit : (p : Program) (v : List Bool) → list_any (hits v) (completion p) ≡ false → AllByRecursion (λ b. Unhit v (body_nogoods p b)) (bodies_of p)
+bodies_unhit p v e =
+    let P : List Literal → Type 0 = λ n. hits v n ≡ false in
+    let bodies : List (List Literal) = flat_map (body_nogoods p) (bodies_of p) in
+    let rules : List (List Literal) = flat_map (λ (r : Rule). rule_nogoods p (var_of_body p r.body) r.head) (rules_in_force p) in
+    let atoms : List (List Literal) = map (atom_nogood p) (atoms_of p) in
+    each-unflat_map P (body_nogoods p) (bodies_of p) (each-front P bodies rules (each-front P (bodies ++ rules) atoms (unhit v (completion p) e)))
+
+-- ---- literals
+beq_true : (a : Bool) → beq a true ≡ a
+beq_true true = refl
+beq_true false = refl
+
+beq_false : (a : Bool) → beq a false ≡ not a
+beq_false true = refl
+beq_false false = refl
+
+and_true : (a : Bool) → (a && true) ≡ a
+and_true true = refl
+and_true false = refl
+
+atom_value : (p : Program) (v : List Bool) (a : ℕ) → has (atoms_of p) a ≡ true → get_or v (var_of_atom p a) false ≡ has (true_atoms p v) a
+atom_value p v a stands =
+    let value : Bool = get_or v (var_of_atom p a) false in
+    sym (has-filter (λ b. is_true v (T (var_of_atom p b))) (atoms_of p) a ∙ ap (λ b. beq value true && b) stands ∙ and_true (beq value true) ∙ beq_true value)
+
+literal_value : (p : Program) (v : List Bool) (l : ℤ) → has (atoms_of p) (atom_of l) ≡ true → is_true v (literal_of p l) ≡ holds (true_atoms p v) l
+literal_value p v (pos a) stands = beq_true (get_or v (var_of_atom p a) false) ∙ atom_value p v a stands
+literal_value p v (negsuc a) stands = beq_false (get_or v (var_of_atom p (suc a)) false) ∙ ap not (atom_value p v (suc a) stands)
+
+literals_value : (p : Program) (v : List Bool) (ls : List ℤ) → AllByRecursion (λ l. has (atoms_of p) (atom_of l) ≡ true) ls → hits v (map (literal_of p) ls) ≡ all_hold (true_atoms p v) ls
+literals_value p v [] h = refl
+literals_value p v (l ∷ ls) h =
+    ap (λ b. b && hits v (map (literal_of p) ls)) (literal_value p v l h.0) ∙ ap (λ b. holds (true_atoms p v) l && b) (literals_value p v ls h.1)
+
+-- ---- bodies
+not_false : (b : Bool) → (not b && true) ≡ false → b ≡ true
+not_false true e = refl
+not_false false e = absurd (false≢true (sym e))
+
+-- where a body is true, so is each of its literals
+each_true : (p : Program) (v : List Bool) (x : ℕ) (ls : List ℤ) → get_or v x false ≡ true → AllByRecursion (λ l. has (atoms_of p) (atom_of l) ≡ true) ls → Unhit v (map (λ l. T x ∷ complement (literal_of p l) ∷ []) ls) → all_hold (true_atoms p v) ls ≡ true
+each_true p v x [] e stand h = refl
+each_true p v x (l ∷ ls) e stand h =
+    let other : Bool = is_true v (complement (literal_of p l)) in
+    let lost : (other && true) ≡ false = sym (ap (λ b. beq b true && (other && true)) e) ∙ h.0 in
+    let one : is_true v (literal_of p l) ≡ true = not_false (is_true v (literal_of p l)) (ap (λ b. b && true) (sym (is_true-complement v (literal_of p l))) ∙ lost) in
+    ap (λ b. b && all_hold (true_atoms p v) ls) (sym (literal_value p v l stand.0) ∙ one) ∙ each_true p v x ls e stand.1 h.1
+
+normal_value : (p : Program) (v : List Bool) (ls : List ℤ) → Stands (atoms_of p) (body.All ls) → Unhit v (body_nogoods p (body.All ls)) → get_or v (var_of_form p (body.All ls)) false ≡ all_hold (true_atoms p v) ls
+normal_value p v ls stand h = cases (get_or v (var_of_form p (body.All ls)) false) refl
+  where
+    cases : (b : Bool) → b ≡ get_or v (var_of_form p (body.All ls)) false → b ≡ all_hold (true_atoms p v) ls
+    cases true q = sym (each_true p v (var_of_form p (body.All ls)) ls (sym q) stand h.1)
+    cases false q = sym (sym (literals_value p v ls stand) ∙ ap (λ b. beq b false && hits v (map (literal_of p) ls)) q ∙ h.0)
+
+form_value : (p : Program) (v : List Bool) (b : Body) → KeepsWeights p v → list_any (body_eq b) (bodies_of p) ≡ true → Stands (atoms_of p) b → Unhit v (body_nogoods p b) → get_or v (var_of_form p b) false ≡ body_holds (true_atoms p v) b
+form_value p v (body.All ls) keeps listed stand h = normal_value p v ls stand h
+form_value p v (body.AtLeast bound items) keeps listed stand h = sym (beq_true (get_or v (var_of_form p (body.AtLeast bound items)) false)) ∙ keeps bound items listed
+
+-- ---- all values
+values-length : (p : Program) (S : Atoms) → length (values p S) ≡ suc (var_count p)
+values-length p S =
+    let whole = length-append (map (has S) (atoms_of p)) (map (body_holds S) (bodies_of p)) in
+    let atoms = length-map (atoms_of p) (has S) in
+    let bodies = length-map (bodies_of p) (body_holds S) in
+    omega (arith, whole, atoms, bodies)
+
+pub values_are : (p : Program) (v : List Bool) → IsValuation p v → list_any (hits v) (completion p) ≡ false → KeepsWeights p v → v ≡ values p (true_atoms p v)
+values_are p v is e keeps = ext_get_or false v (values p (true_atoms p v)) (is.size ∙ sym (values-length p (true_atoms p v))) (λ i lt. let size = is.size in at i (omega (arith, lt, size)))
+  where
+    atom_at : (i : ℕ) → i < length (atoms_of p) → get_or v (suc i) false ≡ get_or (values p (true_atoms p v)) (suc i) false
+    atom_at i lt =
+        let a : ℕ = nth_atom p i in
+        let stands : has (atoms_of p) a ≡ true = at_each (λ b. has (atoms_of p) b ≡ true) (atoms_of p) i 0 (HasAll-itself (atoms_of p)) lt in
+        subst (λ (n : ℕ). get_or v n false ≡ get_or (values p (true_atoms p v)) n false) (var_of_nth_atom p i lt)
+        (atom_value p v a stands ∙ sym (value-atom p (true_atoms p v) a stands))
+
+    body_at : (j : ℕ) → j < length (bodies_of p) → get_or v (suc (length (atoms_of p) + j)) false ≡ get_or (values p (true_atoms p v)) (suc (length (atoms_of p) + j)) false
+    body_at j lt =
+        let b : Body = nth_body p j in
+        let listed : list_any (body_eq b) (bodies_of p) ≡ true = at_each (λ c. list_any (body_eq c) (bodies_of p) ≡ true) (bodies_of p) j (body.All []) (bodies_of-themselves p) lt in
+        let stand : Stands (atoms_of p) b = at_each (Stands (atoms_of p)) (bodies_of p) j (body.All []) (bodies_of-stand p) lt in
+        let open_ : Unhit v (body_nogoods p b) = at_each (λ c. Unhit v (body_nogoods p c)) (bodies_of p) j (body.All []) (bodies_unhit p v e) lt in
+        subst (λ (n : ℕ). get_or v n false ≡ get_or (values p (true_atoms p v)) n false) (var_of_nth_body p j lt)
+        (form_value p v b keeps listed stand open_ ∙ sym (value-form p (true_atoms p v) b listed))
+
+    at : (i : ℕ) → i < suc (var_count p) → get_or v i false ≡ get_or (values p (true_atoms p v)) i false
+    at zero lt = is.first
+    at (suc i) lt = elim (cases_lt i (length (atoms_of p))) [
+      | inl below ↦ atom_at i below
+      | inr above ↦
+          let place : length (atoms_of p) + (i - length (atoms_of p)) ≡ i = omega (arith, above) in
+          subst (λ (n : ℕ). get_or v (suc n) false ≡ get_or (values p (true_atoms p v)) (suc n) false) place (body_at (i - length (atoms_of p)) (omega (arith, above, lt)))
+    ]
+
+-- a part of an ascending list ascends
+part-above : (q : ℕ → Bool) (a : ℕ) (S : Atoms) → AllByRecursion (λ b. a < b) S → AllByRecursion (λ b. a < b) (filter q S)
+part-above q a [] h = tt
+part-above q a (b ∷ S) h = cases (q b) refl (part-above q a S h.1)
+  where
+    cases : (t : Bool) → t ≡ q b → AllByRecursion (λ c. a < c) (filter q S) → AllByRecursion (λ c. a < c) (filter q (b ∷ S))
+    cases true e rest = rw (← e) (h.0, rest)
+    cases false e rest = rw (← e) rest
+
+IsAscending-filter : (q : ℕ → Bool) (S : Atoms) → IsAscending S → IsAscending (filter q S)
+IsAscending-filter q [] h = tt
+IsAscending-filter q (a ∷ S) h = cases (q a) refl (IsAscending-filter q S h.1)
+  where
+    cases : (t : Bool) → t ≡ q a → IsAscending (filter q S) → IsAscending (filter q (a ∷ S))
+    cases true e rest = rw (← e) (part-above q a S h.0, rest)
+    cases false e rest = rw (← e) rest
+
+pub values_stable : (p : Program) (v : List Bool) → IsSound p → IsValuation p v → list_any (hits v) (completion p) ≡ false → KeepsWeights p v → ((U : Atoms) → IsSubset U (true_atoms p v) → is_unfounded p (map (λ b. Some b) v) U ≡ false) → is_stable p (true_atoms p v) ≡ true
+values_stable p v sound is e keeps none =
+    let S : Atoms = true_atoms p v in
+    let same : v ≡ values p S = values_are p v is e keeps in
+    no_unfounded_stable p S sound (IsAscending-filter (λ a. is_true v (T (var_of_atom p a))) (atoms_of p) (IsAscending-set_of (mentions p)))
+    (subst (λ (w : List Bool). list_any (hits w) (completion p) ≡ false) same e)
+    (λ U sub. subst (λ (w : List Bool). is_unfounded p (map (λ b. Some b) w) U ≡ false) same (none U sub))

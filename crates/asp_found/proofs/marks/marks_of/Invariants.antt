@@ -1,0 +1,7 @@
+use Rattle.std.proofs.Common.{◌≡◌, ◌∷◌, false, map, take}
+use Rattle.asp_model.specs.Sets.{has}
+use Rattle.asp_model.specs.Models.{atoms_of}
+use Rattle.asp_found.proofs.marks.marks_of.Given as goal
+
+abbrev pub invariant-loop-atom : goal.invariant-loop-atom
+invariant-loop-atom l = l.marks.items ≡ false ∷ map (has l.interp) (take l.atom-index (atoms_of l.compiled))

@@ -1,0 +1,5 @@
+pub mod Rests
+pub mod Verdicts
+pub mod Marks
+pub mod Derivings
+pub mod Valuations

@@ -1,0 +1,260 @@
+//! The least model of a reduct, in time linear in the program.
+//!
+//! For each body is counted what it still lacks: literals, or weight. An atom that is derived is counted off in the
+//! bodies where it stands, and a body that lacks nothing is looked at and derives its heads. The counts decide when a
+//! body is looked at, and nothing more: a sweep over all bodies begins the work, and a sweep that derives nothing ends
+//! it. With right counts that is the second one.
+ghost use Rattle.std.specs.Prelude.{◌≡◌, ◌+◌, ◌<◌, ◌≤◌, ◌^◌, All, List, IfOk, OnOk, fold, length, IsTrue};
+ghost use Rattle.std.specs.List.{list_all, list_any};
+ghost use Rattle.asp_model.specs.Models.{atoms_of, rules_in_force, least_model};
+ghost use Rattle.asp_vars.specs.Numbering.{bodies_of};
+ghost use Rattle.asp_found.specs.Marks.{derive, derive_by};
+ghost use Rattle.asp_found.specs.Verdicts.{keeps};
+ghost use Rattle.asp_found.specs.Derivings.{IsDeriving, AreDerived};
+
+use crate::marks::{holds, marks_of, shown};
+use asp_model::interp::Interp;
+use asp_vars::compiled::Compiled;
+use asp_vars::lit::{Lit, Var};
+use asp_vars::occurrence::Occurrence;
+use std::alloc::{AllocError, Global};
+
+// Marks an atom of the set, if it isn't marked yet.
+fn derive(
+    set: &[bool],
+    marks: &mut [bool],
+    found: &mut Vec<Var>,
+    var: Var,
+) -> Result<(), AllocError>
+    requires set { var < length set.now }
+    requires marks { var < length marks.old }
+    ensures { OnOk result ((marks.new, found.new.items) ≡ derive set.now (marks.old, found.old.items) var) }
+{
+    if set[var as usize] && !marks[var as usize] {
+        found.push(var)?;
+        marks[var as usize] = true;
+    }
+    Ok(())
+}
+
+fn derive_all(
+    set: &[bool],
+    marks: &mut [bool],
+    found: &mut Vec<Var>,
+    heads: &[Var],
+) -> Result<(), AllocError>
+    requires size { length marks.old ≡ length set.now }
+    requires heads { All (λ v. v < length set.now) heads.now }
+    ensures { OnOk result ((marks.new, found.new.items) ≡ fold (derive set.now) (marks.old, found.old.items) heads.now) }
+{
+    for var in heads {
+        derive(set, marks, found, *var)?;
+    }
+    Ok(())
+}
+
+// Derives the heads of a body that holds.
+fn derive_by(
+    compiled: &Compiled,
+    set: &[bool],
+    marks: &mut [bool],
+    found: &mut Vec<Var>,
+    body: usize,
+) -> Result<(), AllocError>
+    requires body { body < length (bodies_of compiled.now) }
+    requires set { length set.now ≡ length (atoms_of compiled.now) + 1 }
+    requires marks { length marks.old ≡ length set.now }
+    ensures { OnOk result ((marks.new, found.new.items) ≡ derive_by compiled.now set.now (marks.old, found.old.items) body) }
+{
+    let holds = holds(compiled, set, marks, body);
+    if !holds {
+        return Ok(());
+    }
+    derive_all(set, marks, found, compiled.heads(body))
+}
+
+// What a body lacks before anything is derived. A normal body lacks its positive literals, a weight body what its
+// negative literals leave of the bound.
+fn missing(compiled: &Compiled, set: &[bool], body: usize) -> i64
+    requires { body < length (bodies_of compiled.now) }
+{
+    let lits = compiled.literals(body);
+    match compiled.bound(body) {
+        Some(bound) => unreached(set, lits, compiled.weights(body), i64::from(bound)),
+        None => positive_count(lits),
+    }
+}
+
+fn positive_count(lits: &[Lit]) -> i64 {
+    let mut count: i64 = 0;
+    for lit in lits {
+        if lit.truth() {
+            count = count.saturating_add(1);
+        }
+    }
+    count
+}
+
+fn unreached(set: &[bool], lits: &[Lit], weights: &[i64], bound: i64) -> i64 {
+    let mut left = bound;
+    for (lit, weight) in lits.iter().zip(weights) {
+        let fails = set.get(lit.var() as usize).copied().unwrap_or(false);
+        if !lit.truth() && !fails {
+            left = left.saturating_sub(*weight);
+        }
+    }
+    left
+}
+
+// What each body lacks.
+fn counts(alloc: Global, compiled: &Compiled, set: &[bool]) -> Result<Vec<i64>, AllocError> {
+    let mut counts = Vec::with_capacity(alloc, compiled.body_count())?;
+    for body in 0..compiled.body_count() {
+        counts.push(missing(compiled, set, body))?;
+    }
+    Ok(counts)
+}
+
+// Counts a literal off in a body, and says whether the body came to lack nothing by that.
+fn count_off(compiled: &Compiled, counts: &mut [i64], body: usize, place: usize) -> bool
+    ensures { IsTrue result → body < length (bodies_of compiled.now) }
+{
+    if body >= compiled.body_count() {
+        return false;
+    }
+    let weight = match compiled.bound(body) {
+        Some(_) => compiled.weights(body).get(place).copied().unwrap_or(0),
+        None => 1,
+    };
+    match counts.get_mut(body) {
+        Some(left) => {
+            let before = *left;
+            *left = before.saturating_sub(weight);
+            before > 0 && *left <= 0
+        }
+        None => false,
+    }
+}
+
+// Counts a literal off in a body, and looks at the body if it came to lack nothing.
+fn follow_one(
+    compiled: &Compiled,
+    set: &[bool],
+    marks: &mut [bool],
+    found: &mut Vec<Var>,
+    counts: &mut [i64],
+    occurrence: Occurrence,
+) -> Result<(), AllocError>
+    requires set { length set.now ≡ length (atoms_of compiled.now) + 1 }
+    requires sound { IsDeriving compiled.now set.now marks.old found.old.items }
+    ensures sound { OnOk result (IsDeriving compiled.now set.now marks.new found.new.items) }
+    ensures grows { OnOk result (length found.old.items ≤ length found.new.items) }
+{
+    let _program = compiled.program();
+    let body = occurrence.body as usize;
+    let lacks_nothing = count_off(compiled, counts, body, occurrence.place as usize);
+    if !lacks_nothing {
+        return Ok(());
+    }
+    derive_by(compiled, set, marks, found, body)
+}
+
+// Looks at the bodies that lack nothing any more now that an atom is derived.
+fn follow(
+    compiled: &Compiled,
+    set: &[bool],
+    marks: &mut [bool],
+    found: &mut Vec<Var>,
+    counts: &mut [i64],
+    var: Var,
+) -> Result<(), AllocError>
+    requires set { length set.now ≡ length (atoms_of compiled.now) + 1 }
+    requires sound { IsDeriving compiled.now set.now marks.old found.old.items }
+    ensures sound { OnOk result (IsDeriving compiled.now set.now marks.new found.new.items) }
+    ensures grows { OnOk result (length found.old.items ≤ length found.new.items) }
+{
+    if var == 0 || var as usize > compiled.atom_count() {
+        return Ok(());
+    }
+    for occurrence in compiled.occurrences(Lit::new(var, true)) {
+        follow_one(compiled, set, marks, found, counts, *occurrence)?;
+    }
+    Ok(())
+}
+
+// Follows the atoms that were derived from this place on.
+fn propagate(
+    compiled: &Compiled,
+    set: &[bool],
+    marks: &mut [bool],
+    found: &mut Vec<Var>,
+    counts: &mut [i64],
+    from: usize,
+) -> Result<(), AllocError>
+    requires set { length set.now ≡ length (atoms_of compiled.now) + 1 }
+    requires sound { IsDeriving compiled.now set.now marks.old found.old.items }
+    ensures sound { OnOk result (IsDeriving compiled.now set.now marks.new found.new.items) }
+    ensures grows { OnOk result (length found.old.items ≤ length found.new.items) }
+{
+    for next in from..compiled.atom_count() {
+        if next >= found.len() {
+            break;
+        }
+        let var = found[next];
+        follow(compiled, set, marks, found, counts, var)?;
+    }
+    Ok(())
+}
+
+// Looks at all bodies.
+fn sweep(
+    compiled: &Compiled,
+    set: &[bool],
+    marks: &mut [bool],
+    found: &mut Vec<Var>,
+) -> Result<(), AllocError>
+    requires set { length set.now ≡ length (atoms_of compiled.now) + 1 }
+    requires sound { IsDeriving compiled.now set.now marks.old found.old.items }
+    ensures sound { OnOk result (IsDeriving compiled.now set.now marks.new found.new.items) }
+    ensures grows { OnOk result (length found.old.items ≤ length found.new.items) }
+    ensures closed { OnOk result (length found.new.items ≡ length found.old.items → AreDerived compiled.now set.now marks.new (length (bodies_of compiled.now))) }
+{
+    let _program = compiled.program();
+    for body in 0..compiled.body_count() {
+        derive_by(compiled, set, marks, found, body)?;
+    }
+    Ok(())
+}
+
+/// The least model of the reduct by a set that keeps the rules.
+pub(crate) fn least(
+    alloc: Global,
+    compiled: &Compiled,
+    interp: &Interp,
+) -> Result<Interp, AllocError>
+    requires { IsTrue (list_all (keeps interp.now) (rules_in_force compiled.now)) }
+    ensures { IfOk result (λ atoms. atoms ≡ least_model compiled.now interp.now) }
+{
+    let _program = compiled.program();
+    let set = marks_of(alloc, compiled, interp)?;
+    let mut counts = counts(alloc, compiled, set.as_slice())?;
+    let mut marks = vec![in alloc; false; set.len()]?;
+    let mut found = Vec::new(alloc);
+    'rounds: loop {
+        let before = found.len();
+        sweep(compiled, set.as_slice(), marks.as_mut_slice(), &mut found)?;
+        if found.len() == before {
+            break;
+        }
+        propagate(
+            compiled,
+            set.as_slice(),
+            marks.as_mut_slice(),
+            &mut found,
+            counts.as_mut_slice(),
+            before,
+        )?;
+    }
+    let atoms = shown(alloc, compiled, marks.as_slice())?;
+    Ok(atoms)
+}

@@ -1,0 +1,12 @@
+//! The exact check of stable models.
+#![tactic(auto)]
+
+pub mod check;
+pub mod found;
+pub mod laws;
+mod least;
+mod marks;
+mod parts;
+pub mod rows;
+#[cfg(test)]
+mod tests;
