@@ -1,0 +1,50 @@
+-- What a call on a book replies, and what it adds to the journal by its reply.
+use Rattle.std.specs.Prelude.{◌≡◌, ◌<◌, ◌↔◌, length, IsSome, option_map, ℕ, ◌+◌, ◌==◌, Bool, true, false, if◌then◌else◌, List, [], ◌∷◌, Option, Some, None, ℤ}
+use Rattle.std.specs.Option.{IfSome}
+use Rattle.asp_model.specs.Costs.{cost, betters}
+use Rattle.asp_model.specs.Sets.{Atoms}
+use Rattle.asp_core.specs.Boards.{Board, is_excused}
+use Rattle.asp_vars.specs.Literals.{Literal}
+use Rattle.asp_vars.specs.Paid.{Units}
+use Rattle.asp_core.specs.declared.event.Event.{Event}
+use Rattle.asp_core.specs.declared.event.Event.TheVariants as event
+
+abbrev pub taken : ℕ → Option ℕ → List Event
+taken by None = []
+taken by (Some leaf) = event.Take by leaf ∷ []
+
+abbrev pub taken_this : ℕ → ℕ → Bool → List Event
+taken_this by leaf true = event.Take by leaf ∷ []
+taken_this by leaf false = []
+
+abbrev pub divided : ℕ → ℕ → Literal → Option (ℕ × ℕ) → List Event
+divided by leaf l None = []
+divided by leaf l (Some leaves) = event.Split by leaf l ∷ []
+
+abbrev pub delivered : ℕ → Atoms → Bool → List Event
+delivered by S true = event.Deliver by S ∷ []
+delivered by S false = []
+
+-- nothing where a best stood that the set doesn't better
+abbrev pub improved : ℕ → Atoms → Option (List ℤ) → List Event
+improved by S None = event.Improve by S ∷ []
+improved by S (Some c) = []
+
+-- nothing where no unit was left
+abbrev pub leased_out : ℕ → Units → List Event
+leased_out by u = if u.left == 0 then [] else event.Lease by u.left ∷ []
+
+-- nothing where the number had no unit
+abbrev pub given_back : ℕ → Units → List Event
+given_back by u = if u.left + u.burnt == 0 then [] else event.Back by u.left u.burnt ∷ []
+
+-- ---- replies of two facts
+-- the leaves are the next two nodes, and there are none exactly where there is no room
+pub record Divides (b : Board) (r : Option (ℕ × ℕ)) : Type 0 where
+  pub leaves : IfSome r (λ leaves. leaves ≡ (length b.nodes, length b.nodes + 1))
+  pub room : IsSome r ↔ (length b.nodes < 4194304)
+
+-- Without a reply nothing excused the set. A reply is the best cost, which the set doesn't better.
+pub record Improves (b : Board) (S : Atoms) (r : Option (List ℤ)) : Type 0 where
+  pub better : r ≡ None → is_excused b S ≡ false
+  pub best : IfSome r (λ c. (option_map (cost b.task.program) b.best ≡ Some c) × (betters (cost b.task.program S) c ≡ false))
