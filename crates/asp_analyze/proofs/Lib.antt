@@ -1,0 +1,11 @@
+pub mod StandLaws
+pub mod LitLaws
+pub mod MarkLaws
+pub mod NoteLaws
+pub mod OpenLaws
+pub mod PointLaws
+pub mod GoesLaws
+pub mod MinimiseLaws
+pub mod EndLaws
+pub mod LearnLaws
+pub mod TestLaws

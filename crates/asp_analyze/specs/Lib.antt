@@ -1,0 +1,3 @@
+pub mod Learning
+pub mod Marks
+pub mod Way

@@ -1,0 +1,188 @@
+//! Learning from a conflict: resolution up to the first unique implication point (Marques-Silva, Sakallah 1999; Gebser,
+//! Kaufmann, Schaub 2012).
+//!
+//! A literal is met where the violated nogood or a reason that was opened has it, and is marked then. Those of the conflict's
+//! level are resolved with their reasons, the newest first, until one is left. The literals of level 0 that were implied are
+//! resolved as well, so that of level 0 only the cube's are left: the nogood then says where its conclusion came from, and
+//! holds outside the cube. One that follows from others that stay is resolved too. What stays is learnt: all but one of it is
+//! below the conflict's level, so the search can jump back to where the complement of that one follows.
+//!
+//! The nogood that is learnt is never written out on the way: it is what is marked and wasn't resolved.
+ghost use Rattle.std.specs.Prelude.{◌≡◌, ◌≤◌, ◌<◌, ◌+◌, ◌^◌, ◌&&◌, ℕ, List, IfOk, IsTrue};
+ghost use Rattle.std.specs.List.{All};
+ghost use Rattle.std.specs.Prelude.{filter, length};
+ghost use Rattle.asp_vars.specs.Literals.{Literal, has_literal};
+ghost use Rattle.asp_vars.specs.declared.nogood.Nogood.{Nogood};
+ghost use Rattle.asp_trail.specs.Reasons.{AreReasoned};
+ghost use Rattle.asp_analyze.specs.Marks.{mark_of, is_open, unmarked};
+ghost use Rattle.asp_analyze.specs.Learning.{Used, IsReached, AreContained, AreAssumed, IsLearned, nogood_of};
+ghost use Rattle.asp_analyze.specs.Way.{IsOn, AreUpTo, IsReady};
+
+use crate::levels::{greatest_level, level_beside};
+use crate::marks::Marks;
+use crate::minimise::Look;
+use crate::note::note_all;
+use crate::point::find_point;
+use crate::settle::settle;
+use asp_trail::reasons::Reasons;
+use asp_trail::trail::Trail;
+use asp_vars::lit::{Lit, Var};
+use asp_vars::nogood::{Base, Lits, Nogood};
+use std::alloc::{AllocError, Global};
+use std::marker::Model;
+
+/// What is learnt from a conflict.
+#[derive(Drop)]
+pub enum Learned {
+    /// The search goes back to this level, where the literal follows by the nogood.
+    Jump {
+        nogood: Nogood,
+        level: usize,
+        lit: Lit,
+    },
+    /// All literals are of the cube: nothing else can be tried under it.
+    InCube(Nogood),
+}
+
+// The literals that were met and not resolved.
+fn staying(alloc: Global, marks: &Marks) -> Result<Lits, AllocError>
+    ensures { IfOk result (λ n. n ≡ filter (λ l. is_open (mark_of marks.now.marks l.var)) marks.now.lits) }
+{
+    let mut lits = Lits::new(alloc);
+    let marked = marks.lits();
+    for lit in marked {
+        if marks.get(lit.var()).is_open() {
+            lits.push(*lit)?;
+        }
+    }
+    Ok(lits)
+}
+
+// What is learnt by a nogood, of which a literal is the point.
+fn conclude(nogood: Nogood, point: Option<Lit>, trail: &Trail) -> Learned
+    requires { All (λ l. IsOn trail.now.entries l) nogood.lits }
+    ensures nogood { nogood_of result ≡ nogood }
+    ensures learned { (from : List Literal) → IsReady trail.now.entries from nogood.lits point → IsLearned trail.now.entries from result }
+{
+    match point {
+        None => Learned::InCube(nogood),
+        Some(lit) => {
+            let level = level_beside(nogood.lits.as_slice(), lit, trail);
+            Learned::Jump {
+                nogood,
+                level,
+                lit: lit.complement(),
+            }
+        }
+    }
+}
+
+/// What learning takes memory for, to be used again.
+#[derive(Drop)]
+pub struct Learner {
+    vars: u32,
+    marks: Marks,
+    path: Vec<Look>,
+}
+
+impl Model for Learner {
+    ghost use Rattle.std.specs.Prelude.{ℕ, ◌≡◌, ◌+◌};
+    ghost use Rattle.asp_analyze.specs.Marks.{unmarked};
+
+    ghost Value = { ℕ };
+
+    ghost view = { λ l. l.vars };
+
+    ghost invariant = { λ l. l.marks ≡ unmarked (l.vars + 1) };
+}
+
+impl Learner {
+    /// For trails over the variables up to `vars`.
+    pub fn new(alloc: Global, vars: u32) -> Result<Learner, AllocError>
+        ensures { IfOk result (λ l. l ≡ vars) }
+    {
+        let marks = Marks::new(alloc, vars)?;
+        Ok(Learner {
+            vars,
+            marks,
+            path: Vec::new(alloc),
+        })
+    }
+
+    /// Learns from a nogood all of whose literals hold, by the reasons of the trail. Answers an error only for want of memory.
+    /// Then and else it can be used again.
+    pub fn learn<R: Reasons>(
+        &mut self,
+        trail: &Trail,
+        reasons: &R,
+        nogood: &Nogood,
+    ) -> Result<Learned, AllocError>
+        requires vars { AreUpTo self.old trail.now.entries }
+        requires contained { AreContained trail.now.vars trail.now.entries nogood.now.lits }
+        requires reasons { AreReasoned (R.kept reasons.now) trail.now.entries }
+        ensures reached { IfOk result (λ l. (used : List Used) × IsReached (R.kept reasons.now) trail.now.entries nogood.now used (nogood_of l)) }
+        ensures contained { IfOk result (λ l. AreContained trail.now.vars trail.now.entries (nogood_of l).lits) }
+        ensures assumed { IfOk result (λ l. AreAssumed trail.now.entries (nogood_of l).lits) }
+        ensures learned { IfOk result (IsLearned trail.now.entries nogood.now.lits) }
+        ensures same { self.new ≡ self.old }
+    {
+        let learned = analyse(&mut self.marks, &mut self.path, trail, reasons, nogood);
+        self.marks.clear();
+        learned
+    }
+}
+
+// Learns, and leaves the marks.
+fn analyse<R: Reasons>(
+    marks: &mut Marks,
+    path: &mut Vec<Look>,
+    trail: &Trail,
+    reasons: &R,
+    nogood: &Nogood,
+) -> Result<Learned, AllocError>
+    requires marks { (vars : ℕ) × (marks.old ≡ unmarked (vars + 1)) × AreUpTo vars trail.now.entries }
+    requires contained { AreContained trail.now.vars trail.now.entries nogood.now.lits }
+    requires reasons { AreReasoned (R.kept reasons.now) trail.now.entries }
+    ensures reached { IfOk result (λ l. (used : List Used) × IsReached (R.kept reasons.now) trail.now.entries nogood.now used (nogood_of l)) }
+    ensures contained { IfOk result (λ l. AreContained trail.now.vars trail.now.entries (nogood_of l).lits) }
+    ensures assumed { IfOk result (λ l. AreAssumed trail.now.entries (nogood_of l).lits) }
+    ensures learned { IfOk result (IsLearned trail.now.entries nogood.now.lits) }
+    ensures size { length marks.new.marks ≡ length marks.old.marks }
+{
+    let _len = trail.len();
+    let mut base = nogood.base.copy()?;
+    let top = greatest_level(nogood.lits.as_slice(), trail);
+    note_all(marks, trail, top, nogood.lits.as_slice());
+    let point = find_point(marks, &mut base, trail, reasons, top)?;
+    settle(marks, &mut base, path, trail, reasons, top)?;
+    let lits = staying(*path.allocator(), marks)?;
+    Ok(conclude(Nogood { lits, base }, point, trail))
+}
+
+// The greatest variable of the trail's entries, 0 where there are none.
+fn greatest_var(trail: &Trail) -> Var
+    ensures { AreUpTo result trail.now.entries }
+{
+    let mut greatest = 0;
+    for i in 0..trail.len() {
+        greatest = trail.lit(i).var().max(greatest);
+    }
+    greatest
+}
+
+/// Learns once, with memory of its own. A search keeps a `Learner`.
+pub fn learn<R: Reasons>(
+    alloc: Global,
+    trail: &Trail,
+    reasons: &R,
+    nogood: &Nogood,
+) -> Result<Learned, AllocError>
+    requires contained { AreContained trail.now.vars trail.now.entries nogood.now.lits }
+    requires reasons { AreReasoned (R.kept reasons.now) trail.now.entries }
+    ensures reached { IfOk result (λ l. (used : List Used) × IsReached (R.kept reasons.now) trail.now.entries nogood.now used (nogood_of l)) }
+    ensures contained { IfOk result (λ l. AreContained trail.now.vars trail.now.entries (nogood_of l).lits) }
+    ensures assumed { IfOk result (λ l. AreAssumed trail.now.entries (nogood_of l).lits) }
+    ensures learned { IfOk result (IsLearned trail.now.entries nogood.now.lits) }
+{
+    Learner::new(alloc, greatest_var(trail))?.learn(trail, reasons, nogood)
+}
