@@ -86,6 +86,13 @@ impl Heap {
         Ok(())
     }
 
+    /// Whether the variable is in the heap now. It answers for any number, false beyond those that were reserved.
+    pub fn has(&self, var: Var) -> bool
+        ensures { result ≡ is_in self.now.members var }
+    {
+        self.members.get(var as usize).copied().unwrap_or(false)
+    }
+
     /// Puts the variable into the heap.
     pub fn push(&mut self, var: Var)
         requires known { var < length self.old.activities }

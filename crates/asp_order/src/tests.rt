@@ -13,7 +13,11 @@ fn orders_restarts_and_reductions(rt: HostRuntime) -> Result<(), Fail> {
     heap.push(3);
     heap.bump(2);
     heap.decay();
+    assert!(rt; heap.has(2));
     assert_eq!(rt; heap.pop(), Some(2));
+    for out in [0, 2, 4] {
+        assert!(rt; !heap.has(out));
+    }
     assert_eq!(rt; heap.pop(), Some(1));
     assert_eq!(rt; heap.pop(), Some(3));
     assert_eq!(rt; heap.pop(), None);
