@@ -17,7 +17,7 @@ use asp_vars::lit::{Lit, Var};
 use asp_vars::nogood::Base;
 use std::alloc::AllocError;
 
-// So many looks at most are made for one literal. A variable comes on the path once at most for a conflict, so few conflicts come near.
+// So many looks at most are made for one literal. Few come near: a variable comes on the path once at most for a conflict.
 const LOOKS: usize = 100_000;
 
 /// A literal whose reason is looked at, and from which place of the reason on.
@@ -32,7 +32,7 @@ fn bit(level: usize) -> u64 {
     1 << (level % 64)
 }
 
-/// The places of the levels of these literals.
+/// The places of the levels of these literals. It has no clause, since it only saves looks.
 pub fn levels(trail: &Trail, lits: &[Lit]) -> u64
     requires { All (λ l. IsOn trail.now.entries l) lits.now }
 {
