@@ -110,10 +110,10 @@ fn finds_a_violated_one_and_drops_the_oldest(rt: HostRuntime) -> Result<(), Fail
     let mut store = Store::new(heap, 2)?;
     let mut trail = Trail::new(heap, 2)?;
     trail.reserve(2)?;
-    let one = store.add(pair(heap, Lit::new(1, true), Lit::new(2, false))?, false)?;
     trail.decide(Lit::new(1, true));
     assert!(rt; trail.value(2) == None);
     trail.decide(Lit::new(2, false));
+    let one = store.add(pair(heap, Lit::new(1, true), Lit::new(2, false))?, false)?;
     assert!(rt; matches!(store.propagate(&mut trail), Propagated::Violated(_)));
     assert_eq!(rt; store.extra(), 1);
     store.lock(one);

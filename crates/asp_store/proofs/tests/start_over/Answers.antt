@@ -1,4 +1,4 @@
-use Rattle.std.proofs.Common.{[], sym, subst, arith}
+use Rattle.std.proofs.Common.{sym, subst, arith}
 use Rattle.asp_trail.specs.Trails.{Trailed}
 use Rattle.asp_store.specs.Storing.{Fits}
 use Rattle.asp_store.proofs.FitsLaws.{fits_clear, fits_recall}

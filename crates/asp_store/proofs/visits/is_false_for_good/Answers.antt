@@ -1,6 +1,5 @@
-use Rattle.std.proofs.Common.{◌≡◌, ◌≤◌, List, sym, ap, arith, ◌∙◌}
+use Rattle.std.proofs.Common.{◌≡◌, List, sym, ap, arith, ◌∙◌}
 use Rattle.std.proofs.lemmas.Bool.Decides.{nat_tests}
-use Rattle.asp_vars.specs.Literals.{Literal}
 use Rattle.asp_trail.specs.declared.trail.Entry.{Entry}
 use Rattle.asp_trail.specs.Entries.{level_in}
 use Rattle.asp_store.proofs.LookLaws.{false_level}

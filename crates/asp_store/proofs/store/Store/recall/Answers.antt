@@ -1,4 +1,4 @@
-use Rattle.std.proofs.Common.{◌≡◌, ◌+◌, ◌*◌, ◌%◌, ℕ, List, Option, length, sym, ap, subst, ◌∙◌, arith}
+use Rattle.std.proofs.Common.{◌≡◌, ℕ, List, Option, length, sym, ap, subst, arith}
 use Rattle.std.proofs.lemmas.List.{with_items_is, take_at}
 use Rattle.asp_store.specs.declared.kept.Kept.{Kept}
 use Rattle.asp_store.specs.declared.nodes.Node.{Node}
@@ -6,7 +6,7 @@ use Rattle.asp_store.specs.Nodes.{link, home, other}
 use Rattle.asp_store.specs.Paths.{IsLinked}
 use Rattle.asp_store.specs.Recalling.{NoneIsRetired}
 use Rattle.asp_store.specs.Watching.{IsBack}
-use Rattle.asp_store.specs.Storing.{Stored, IsStore, Recalls, AreActive}
+use Rattle.asp_store.specs.Storing.{Stored, Recalls, AreActive}
 use Rattle.asp_store.proofs.StoreLaws.{seen_as}
 use Rattle.asp_store.proofs.RecallLaws.{recalls_seen, active_seen, store_recalled}
 use Rattle.asp_store.proofs.store.Store.recall.Goals as goal
