@@ -7,7 +7,7 @@ ghost use Rattle.asp_trail.specs.Trails.{IsVar};
 ghost use Rattle.asp_store.specs.Keeping.{nogood_at, is_extra, reduced};
 ghost use Rattle.asp_store.specs.Nodes.{link};
 ghost use Rattle.asp_store.specs.Storing.{Fits, added, removed, locked_at, Recalls, AreActive};
-ghost use Rattle.asp_store.specs.Visiting.{Extends};
+ghost use Rattle.asp_store.specs.Visiting.{AreSmall, Extends};
 ghost use Rattle.asp_store.specs.Walking.{Propagates};
 
 use crate::kept::Kept;
@@ -115,9 +115,10 @@ impl Store {
         Ok(id)
     }
 
-    /// How many kept nogoods weren't added forever.
+    /// How many kept nogoods weren't added forever. The literals of all that are kept are of the store's variables.
     pub fn extra(&self) -> usize
-        ensures { result ≡ count_by is_extra self.now.slots }
+        ensures extra { result ≡ count_by is_extra self.now.slots }
+        ensures small { AreSmall self.now.vars self.now.slots }
     {
         self.extra
     }
