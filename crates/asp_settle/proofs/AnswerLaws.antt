@@ -49,7 +49,7 @@ answer_new p K vars kept es w blocked small calm =
     known : (T : Atoms) (id : ℕ) (n : Nogood) → kept id ≡ Some n → hits (values p T) n.lits ≡ true → atoms_on p vars es ≡ T → ⊥
     known T id n q h e =
         let violated : is_violated (assignment vars es) n.lits ≡ true = whole_nogood p vars es w n.lits (small id n q) ∙ (ap (λ (U : Atoms). hits (values p U) n.lits) e ∙ h) in
-        false≢true (sym (not-true (is_violated (assignment vars es) n.lits) (and_parts _ _ (calm id n q)).0) ∙ violated)
+        false≢true (sym (not-true (is_violated (assignment vars es) n.lits) (and_parts (not (is_violated (assignment vars es) n.lits)) (not (is_unit (assignment vars es) n.lits)) (calm id n q)).0) ∙ violated)
 
 -- ---- a part of an ascending list ascends
 part-above : (q : ℕ → Bool) (a : ℕ) (S : Atoms) → AllByRecursion (λ b. a < b) S → AllByRecursion (λ b. a < b) (filter q S)
@@ -92,8 +92,8 @@ module _ (p : Program) (K : List Atoms) (bound : Option (List ℤ)) (vars : ℕ)
 
         found : (b : Bool) → holds_in (assignment vars es) (record { var = v; truth = b }) ≡ true → get_or (values p R) v false ≡ get_or (values p (atoms_on p vars es)) v false
         found b holds =
-            let one : get_or (values p R) v false ≡ b = beq_same _ b (entry_hit (record { var = v; truth = b }) holds) in
-            let two : get_or (values p (atoms_on p vars es)) v false ≡ b = beq_same _ b (sym (whole_lit p vars es w (record { var = v; truth = b }) is) ∙ holds) in
+            let one : get_or (values p R) v false ≡ b = beq_same (get_or (values p R) v false) b (entry_hit (record { var = v; truth = b }) holds) in
+            let two : get_or (values p (atoms_on p vars es)) v false ≡ b = beq_same (get_or (values p (atoms_on p vars es)) v false) b (sym (whole_lit p vars es w (record { var = v; truth = b }) is) ∙ holds) in
             one ∙ sym two
 
         cases : (x : Option Bool) → x ≡ value_of (assignment vars es) v → get_or (values p R) v false ≡ get_or (values p (atoms_on p vars es)) v false

@@ -11,6 +11,7 @@ use Rattle.asp_vars.specs.Literals.{Literal, F, complement, literal_eq, has_lite
 use Rattle.asp_vars.specs.Numbering.{values}
 use Rattle.asp_vars.specs.Entailment.{HitsOnly, IsGood, Settled, nothing, costs, costs_bound, excuse, is_done}
 use Rattle.asp_vars.specs.Resolution.{is_bound_within}
+use Rattle.asp_model.specs.Costs.{betters}
 use Rattle.asp_vars.specs.declared.nogood.Base.{Base}
 use Rattle.asp_vars.specs.declared.nogood.Base.TheVariants as base
 use Rattle.asp_vars.specs.declared.nogood.Nogood.{Nogood}
@@ -28,7 +29,7 @@ use Rattle.asp_settle.proofs.PlaceLaws.{rising_le}
 -- ---- what a nogood says
 below_done : (p : Program) (K : List Atoms) (bound : Option (List ℤ)) (d : List ℤ) → is_bound_within bound d ≡ true → (S : Atoms) → costs p d S ≡ true → is_done p K bound S ≡ true
 below_done p K None d w S e = absurd (false≢true w)
-below_done p K (Some b) d w S e = or_right (list_any (same_set S) K) (costs p b S) (costs_within p S d b (not_true _ w) e)
+below_done p K (Some b) d w S e = or_right (list_any (same_set S) K) (costs p b S) (costs_within p S d b (not_true (betters d b) w) e)
 
 pub good_settled : (p : Program) (K : List Atoms) (bound : Option (List ℤ)) (n : Nogood) → IsGood p K bound n → Counts bound n.base → Settled p K bound n.lits
 good_settled p K bound n g c = by_base n.base g c
