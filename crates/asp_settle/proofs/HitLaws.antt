@@ -92,17 +92,18 @@ module _ (p : Program) (K : List Atoms) (bound : Option (List ℤ)) (vars : ℕ)
           let t = r i d id lt (sym q) in
           reason_hit (values p S) es i (get_or es i d).lit t.0.lits t.2 (λ g. false≢true (sym open_ ∙ (all id t.0 t.1).excused S stable g)) before
 
+  same_level : (i : ℕ) (d e : Entry) → i < length es → (get_or es i d).level ≤ k → (get_or es i e).level ≤ k
+  same_level i d e lt le = subst (λ (x : Entry). x.level ≤ k) (get_or_default es i d e lt) le
+
   below_hit : (n i : ℕ) (d : Entry) → i < n → i < length es → (get_or es i d).level ≤ k → is_true (values p S) (get_or es i d).lit ≡ true
   below_hit zero i d b lt le = absurd (omega arith)
-  below_hit (suc n) i d b lt le = cases (cases_lt i n)
+  below_hit (suc n) i d b lt le =
+      cases (cases_lt i n) (λ m. below_hit n i d m lt le)
+      (λ j e m. below_hit n j e (omega (arith, m, b)) (omega (arith, m, lt)) (omega (arith, rising_le es j i e o.rising (omega (arith, m)) lt, same_level i d e lt le)))
     where
-      cases : (i < n) ⊎ (n ≤ i) → is_true (values p S) (get_or es i d).lit ≡ true
-      cases (inl m) = below_hit n i d m lt le
-      cases (inr ge) =
-          next_hit i d lt le (λ j e m. below_hit n j e (omega (arith, m, b)) (omega (arith, m, lt)) (omega (arith, rising_le es j i e o.rising (omega (arith, m)) lt, elsewhere i d e lt le)))
-        where
-          elsewhere : (i : ℕ) (d e : Entry) → i < length es → (get_or es i d).level ≤ k → (get_or es i e).level ≤ k
-          elsewhere i d e lt le = subst (λ (x : Entry). x.level ≤ k) (get_or_default es i d e lt) le
+      cases : (i < n) ⊎ (n ≤ i) → (i < n → is_true (values p S) (get_or es i d).lit ≡ true) → ((j : ℕ) (e : Entry) → j < i → is_true (values p S) (get_or es j e).lit ≡ true) → is_true (values p S) (get_or es i d).lit ≡ true
+      cases (inl m) old before = old m
+      cases (inr ge) old before = next_hit i d lt le before
 
   pub trail_hit : (i : ℕ) (d : Entry) → i < length es → (get_or es i d).level ≤ k → is_true (values p S) (get_or es i d).lit ≡ true
   trail_hit i d lt le = below_hit (suc i) i d (omega arith) lt le
