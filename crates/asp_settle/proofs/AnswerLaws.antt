@@ -1,5 +1,5 @@
 -- The set of a whole trail is new, and the only one under the cube and the decisions that isn't done.
-use Rattle.std.proofs.Common.{◌≡◌, ℕ, ◌<◌, ◌≤◌, Bool, true, false, not, ◌&&◌, ◌||◌, List, [], ◌∷◌, ◌++◌, filter, length, get_or, take, Option, Some, None, inl, inr, ◌⊎◌, refl, sym, ap, ◌∙◌, subst, arith}
+use Rattle.std.proofs.Common.{◌≡◌, ℕ, ◌<◌, Bool, true, false, not, ◌&&◌, List, [], ◌∷◌, ◌++◌, filter, length, get_or, take, Option, Some, None, inl, inr, refl, sym, ap, ◌∙◌, subst, arith}
 use Rattle.std.specs.Prelude.{ℤ}
 use Rattle.std.specs.List.{list_any, AllByRecursion}
 use Rattle.std.specs.Bool.{beq}
@@ -34,7 +34,7 @@ use Rattle.asp_settle.specs.Starts.{AreStarts}
 use Rattle.asp_settle.specs.Whole.{AreBlocked, AreVars, IsWhole, atoms_on, truths}
 use Rattle.asp_settle.proofs.HitLaws.{trail_hit}
 use Rattle.asp_settle.proofs.PlaceLaws.{blank}
-use Rattle.asp_settle.proofs.WholeLaws.{whole_same, whole_lit, whole_nogood}
+use Rattle.asp_settle.proofs.WholeLaws.{whole_lit, whole_nogood}
 
 -- ---- it is new
 pub answer_new : (p : Program) (K : List Atoms) (vars : ℕ) (kept : ℕ → Option Nogood) (es : List Entry) → IsWhole p vars es → AreBlocked p kept K →
@@ -116,13 +116,13 @@ module _ (p : Program) (K : List Atoms) (bound : Option (List ℤ)) (vars : ℕ)
         cases a false e =
             let none : has R a ≡ false = false_from_ne_true (has R a) (λ t. false≢true (e ∙ (stable-subset p R stable).1 a t)) in
             none ∙ sym (has-filter (λ x. is_true (truths (assignment vars es)) (T (var_of_atom p x))) (atoms_of p) a
-                ∙ (ap (λ t. is_true (truths (assignment vars es)) (T (var_of_atom p a)) && t) (sym e) ∙ lost (is_true (truths (assignment vars es)) (T (var_of_atom p a)))))
+            ∙ (ap (λ t. is_true (truths (assignment vars es)) (T (var_of_atom p a)) && t) (sym e) ∙ lost (is_true (truths (assignment vars es)) (T (var_of_atom p a)))))
 
   -- it is done once the set is known
   done_then : (R : Atoms) → is_stable p R ≡ true → hits (values p R) (cube ++ decisions) ≡ true → (b : Bool) → b ≡ is_done p K bound R → is_done p (K ++ atoms_on p vars es ∷ []) bound R ≡ true
   done_then R stable h true e = elim (or_cases (list_any (same_set R) K) (costs_bound p bound R) (sym e)) [
     | inl a ↦ or_left (list_any (same_set R) (K ++ atoms_on p vars es ∷ [])) (costs_bound p bound R)
-      (list_any-append (same_set R) K (atoms_on p vars es ∷ []) ∙ or_left (list_any (same_set R) K) (list_any (same_set R) (atoms_on p vars es ∷ [])) a)
+        (list_any-append (same_set R) K (atoms_on p vars es ∷ []) ∙ or_left (list_any (same_set R) K) (list_any (same_set R) (atoms_on p vars es ∷ [])) a)
     | inr b ↦ or_right (list_any (same_set R) (K ++ atoms_on p vars es ∷ [])) (costs_bound p bound R) b
   ]
   done_then R stable h false e =

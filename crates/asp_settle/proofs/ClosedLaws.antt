@@ -1,6 +1,6 @@
 -- The literals of a trail on which nogoods are calm are closed under these.
-use Rattle.std.proofs.Common.{◌≡◌, ℕ, ◌<◌, ◌≤◌, Bool, true, false, not, ◌&&◌, ◌||◌, List, [], ◌∷◌, length, map, get_or, Option, Some, None, refl, sym, ap, ◌∙◌, subst, arith}
-use Rattle.std.specs.List.{list_all, list_any, AllByRecursion}
+use Rattle.std.proofs.Common.{◌≡◌, ℕ, ◌<◌, Bool, true, false, not, ◌&&◌, ◌||◌, List, [], ◌∷◌, length, map, get_or, Option, Some, None, refl, sym, ap, ◌∙◌, subst, arith}
+use Rattle.std.specs.List.{list_all, list_any}
 use Rattle.std.specs.Bool.{beq}
 use Rattle.std.specs.Option.{is_none}
 use Rattle.std.proofs.lemmas.Bool.{false≢true, false_from_ne_true, and_from, and_parts, or_left, or_right, or_from, not-true}
@@ -69,7 +69,7 @@ other_false a n l calm h others = by_value (value_of a l.var) refl
     not_open : is_open a l ≡ true → ⊥
     not_open t = false≢true (sym (calm_ununit a n calm)
         ∙ any_pass (λ x. is_open a x && list_all (λ k. literal_eq k x || holds_in a k) n) n l h
-            (and_from (is_open a l) (list_all (λ k. literal_eq k l || holds_in a k) n) t (all_pass (λ k. literal_eq k l || holds_in a k) n (λ m g. each m g (literal_eq m l) refl))))
+        (and_from (is_open a l) (list_all (λ k. literal_eq k l || holds_in a k) n) t (all_pass (λ k. literal_eq k l || holds_in a k) n (λ m g. each m g (literal_eq m l) refl))))
 
     not_true : holds_in a l ≡ true → ⊥
     not_true t = false≢true (sym (calm_unviolated a n calm) ∙ all_pass (holds_in a) n (λ m g. every t m g (literal_eq m l) refl))

@@ -1,5 +1,5 @@
 -- A stable model that hits the cube and the decisions hits what follows from them.
-use Rattle.std.proofs.Common.{◌≡◌, ℕ, suc, zero, ◌+◌, ◌-◌, ◌<◌, ◌≤◌, Bool, true, false, not, List, [], ◌∷◌, ◌++◌, length, get_or, take, Option, Some, None, inl, inr, ◌⊎◌, refl, sym, ap, ◌∙◌, subst, arith}
+use Rattle.std.proofs.Common.{◌≡◌, ℕ, suc, zero, ◌-◌, ◌<◌, ◌≤◌, Bool, true, false, not, List, ◌++◌, length, get_or, take, Option, Some, None, inl, inr, ◌⊎◌, refl, sym, ap, ◌∙◌, subst, arith}
 use Rattle.std.specs.Prelude.{ℤ}
 use Rattle.std.specs.List.{list_any}
 use Rattle.std.proofs.lemmas.Bool.{false≢true, cases_lt, not_from_false, or_right}
@@ -9,7 +9,7 @@ use Rattle.asp_model.specs.Sets.{Atoms, same_set}
 use Rattle.asp_model.specs.Models.{is_stable}
 use Rattle.asp_vars.specs.Literals.{Literal, F, complement, literal_eq, has_literal, is_true, hits}
 use Rattle.asp_vars.specs.Numbering.{values}
-use Rattle.asp_vars.specs.Entailment.{HitsOnly, IsGood, Settled, nothing, costs, costs_bound, excuse, is_done}
+use Rattle.asp_vars.specs.Entailment.{HitsOnly, IsGood, Settled, nothing, costs, excuse, is_done}
 use Rattle.asp_vars.specs.Resolution.{is_bound_within}
 use Rattle.asp_model.specs.Costs.{betters}
 use Rattle.asp_vars.specs.declared.nogood.Base.{Base}

@@ -1,6 +1,6 @@
 -- Entries by their places, literals and levels.
-use Rattle.std.proofs.Common.{◌≡◌, ℕ, suc, zero, ◌+◌, ◌-◌, ◌<◌, ◌≤◌, Bool, true, false, cond, eqb, List, [], ◌∷◌, ◌++◌, length, get_or, take, Option, Some, None, find, inl, inr, ◌⊎◌, refl, sym, ap, ◌∙◌, subst, arith}
-use Rattle.std.specs.List.{All, AllPairs}
+use Rattle.std.proofs.Common.{◌≡◌, ℕ, suc, ◌+◌, ◌-◌, ◌<◌, ◌≤◌, Bool, true, false, cond, eqb, List, [], ◌∷◌, ◌++◌, length, get_or, take, Some, None, find, inl, inr, ◌⊎◌, refl, sym, ap, ◌∙◌, subst, arith}
+use Rattle.std.specs.List.{AllPairs}
 use Rattle.std.proofs.lemmas.Bool.{eq-eqb, eqb-true, false_from_ne_true, cases_eq}
 use Rattle.std.proofs.lemmas.List.{length-append, length-take, length-take-le, get_or_append_left, get_or-append_right, get_or-take, get_or_default, append-nil}
 use Rattle.std.proofs.lemmas.List.Elements.{All-take}
@@ -12,7 +12,7 @@ use Rattle.asp_trail.specs.Reasons.{Stands}
 use Rattle.asp_trail.specs.Trails.{IsVar, IsOrdered}
 use Rattle.asp_trail.proofs.EntryLaws.{find_only}
 use Rattle.asp_trail.proofs.TrailLaws.{level_top}
-use Rattle.asp_trail.proofs.HoldLaws.{holds_at, holds_found}
+use Rattle.asp_trail.proofs.HoldLaws.{holds_at}
 use Rattle.asp_settle.specs.Starts.{AreImplied, Begins}
 
 abbrev pub blank : Entry

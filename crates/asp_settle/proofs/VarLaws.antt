@@ -1,6 +1,5 @@
 -- The completion's literals are of the program's variables.
-use Rattle.std.proofs.Common.{◌≡◌, ℕ, ◌<◌, ◌≤◌, true, ◌&&◌, List, [], ◌∷◌, ◌++◌, map, filter, arith}
-use Rattle.std.specs.Prelude.{ℤ}
+use Rattle.std.proofs.Common.{◌≡◌, ℕ, true, ◌&&◌, List, [], ◌∷◌, ◌++◌, map, filter, arith}
 use Rattle.std.specs.List.{list_any, flat_map, AllByRecursion}
 use Rattle.std.proofs.lemmas.List.Elements.{All-from_recursion}
 use Rattle.asp_model.specs.declared.program.Body.{Body}
@@ -40,7 +39,7 @@ body_vars p (body.All ls) listed stand =
     let b = form_var p (body.All ls) listed in (
       (b, each-map (OfVar p) (literal_of p) ls (each_weaker (λ l. has (atoms_of p) (atom_of l) ≡ true) (λ l. OfVar p (literal_of p l)) (λ l h. atom_var p (atom_of l) h) ls stand)),
       each-map (Each p) (λ l. T (var_of_form p (body.All ls)) ∷ complement (literal_of p l) ∷ []) ls
-      (each_weaker (λ l. has (atoms_of p) (atom_of l) ≡ true) (λ l. Each p (T (var_of_form p (body.All ls)) ∷ complement (literal_of p l) ∷ [])) (λ l h. (b, (atom_var p (atom_of l) h, tt))) ls stand),
+          (each_weaker (λ l. has (atoms_of p) (atom_of l) ≡ true) (λ l. Each p (T (var_of_form p (body.All ls)) ∷ complement (literal_of p l) ∷ [])) (λ l h. (b, (atom_var p (atom_of l) h, tt))) ls stand),
     )
 body_vars p (body.AtLeast bound items) listed stand = tt
 
@@ -53,9 +52,9 @@ atom_vars : (p : Program) (a : ℕ) → has (atoms_of p) a ≡ true → Each p (
 atom_vars p a h = (
   atom_var p a h,
   each-map (OfVar p) F (supports p a)
-  (each-map (λ v. IsVar (var_count p) v) (var_of_form p) (filter (λ b. list_any (λ r. has (head_atoms r.head) a && body_eq (normal r.body) b) (rules_in_force p)) (bodies_of p))
-  (each-filter (λ b. IsVar (var_count p) (var_of_form p b)) (λ b. list_any (λ r. has (head_atoms r.head) a && body_eq (normal r.body) b) (rules_in_force p)) (bodies_of p)
-  (each_weaker (λ b. list_any (body_eq b) (bodies_of p) ≡ true) (λ b. IsVar (var_count p) (var_of_form p b)) (form_var p) (bodies_of p) (bodies_of-themselves p)))),
+      (each-map (λ v. IsVar (var_count p) v) (var_of_form p) (filter (λ b. list_any (λ r. has (head_atoms r.head) a && body_eq (normal r.body) b) (rules_in_force p)) (bodies_of p))
+      (each-filter (λ b. IsVar (var_count p) (var_of_form p b)) (λ b. list_any (λ r. has (head_atoms r.head) a && body_eq (normal r.body) b) (rules_in_force p)) (bodies_of p)
+      (each_weaker (λ b. list_any (body_eq b) (bodies_of p) ≡ true) (λ b. IsVar (var_count p) (var_of_form p b)) (form_var p) (bodies_of p) (bodies_of-themselves p)))),
 )
 
 pub completion_vars : (p : Program) → AllByRecursion (Each p) (completion p)

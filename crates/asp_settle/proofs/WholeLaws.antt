@@ -1,6 +1,6 @@
 -- The values of a whole trail are those of the set of its true atoms.
-use Rattle.std.proofs.Common.{◌≡◌, ◌≢◌, ℕ, suc, zero, ◌+◌, ◌<◌, Bool, true, false, not, ◌&&◌, List, [], ◌∷◌, ◌++◌, map, length, fold, replicate, get_or, Option, Some, None, inl, inr, ◌⊎◌, refl, sym, ap, ◌∙◌, subst, arith}
-use Rattle.std.specs.List.{All, AllByRecursion, list_any}
+use Rattle.std.proofs.Common.{◌≡◌, ◌≢◌, ℕ, suc, zero, ◌+◌, Bool, true, false, not, ◌&&◌, List, [], ◌∷◌, ◌++◌, length, fold, replicate, get_or, Option, Some, None, inl, inr, ◌⊎◌, refl, sym, ap, ◌∙◌, subst, arith}
+use Rattle.std.specs.List.{AllByRecursion, list_any}
 use Rattle.std.specs.Bool.{beq}
 use Rattle.std.proofs.lemmas.Bool.{false≢true, and_parts, not-true, or_from}
 use Rattle.std.proofs.lemmas.Grind.{common_steps}
@@ -12,8 +12,8 @@ use Rattle.asp_vars.specs.Numbering.{var_count, values}
 use Rattle.asp_vars.specs.Completion.{completion}
 use Rattle.asp_trail.specs.declared.trail.Entry.{Entry}
 use Rattle.asp_trail.specs.Entries.{assign, assignment}
-use Rattle.asp_trail.specs.Quiet.{is_violated, is_unit, is_calm}
-use Rattle.asp_trail.specs.Trails.{IsVar, IsOrdered}
+use Rattle.asp_trail.specs.Quiet.{is_violated, is_unit}
+use Rattle.asp_trail.specs.Trails.{IsVar}
 use Rattle.asp_trail.proofs.EntryLaws.{fold_without, none_at}
 use Rattle.asp_found.specs.Valuations.{IsValuation}
 use Rattle.asp_found.proofs.ValuationLaws.{values_are}
@@ -72,7 +72,7 @@ module _ (p : Program) (vars : ℕ) (es : List Entry) (w : IsWhole p vars es) wh
   unhit (n ∷ ns) c a =
       or_from (hits (truths (assignment vars es)) n) (list_any (hits (truths (assignment vars es))) ns)
       (sym (lits_true n (subst (λ (m : ℕ). AreVars m n) (sym w.counted) a.0))
-          ∙ not-true (is_violated (assignment vars es) n) (and_parts (not (is_violated (assignment vars es) n)) (not (is_unit (assignment vars es) n)) c.0).0)
+      ∙ not-true (is_violated (assignment vars es) n) (and_parts (not (is_violated (assignment vars es) n)) (not (is_unit (assignment vars es) n)) c.0).0)
       (unhit ns c.1 a.1)
 
   zero_open : value_of (assignment vars es) 0 ≡ None

@@ -1,4 +1,4 @@
-use Rattle.std.proofs.Common.{[], ◌∷◌, Some, None, refl, arith}
+use Rattle.std.proofs.Common.{[], ◌∷◌, Some, None, arith}
 use Rattle.asp_settle.proofs.AssumeLaws.{implied_one}
 use Rattle.asp_settle.proofs.CalmLaws.{calm_imply, calm_push, calm_cut}
 use Rattle.asp_settle.proofs.trails.calm_stays.Goals as goal

@@ -1,6 +1,4 @@
-use Rattle.std.proofs.Common.{◌≡◌, ◌+◌, [], ◌∷◌, Some, None, refl, arith}
-use Rattle.std.proofs.lemmas.List.Elements.{All-cons}
-use Rattle.asp_trail.specs.declared.trail.Entry.{Entry}
+use Rattle.std.proofs.Common.{◌+◌, [], ◌∷◌, Some, None, refl}
 use Rattle.asp_trail.specs.Entries.{level}
 use Rattle.asp_settle.proofs.StartLaws.{starts_imply, starts_decide, starts_cut}
 use Rattle.asp_settle.proofs.AssumeLaws.{implied_one}
