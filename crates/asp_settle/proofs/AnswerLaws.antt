@@ -3,6 +3,7 @@ use Rattle.std.proofs.Common.{◌≡◌, ℕ, ◌<◌, Bool, true, false, not, �
 use Rattle.std.specs.Prelude.{ℤ}
 use Rattle.std.specs.List.{list_any, AllByRecursion}
 use Rattle.std.specs.Bool.{beq}
+use Rattle.std.specs.Option.{is_some}
 use Rattle.std.specs.Cmp.Lexicographic.{same_text}
 use Rattle.std.proofs.lemmas.Bool.{false≢true, false_from_ne_true, and_parts, not-true, or_cases, or_left, or_right}
 use Rattle.std.proofs.lemmas.List.{take_all}
@@ -97,7 +98,7 @@ module _ (p : Program) (K : List Atoms) (bound : Option (List ℤ)) (vars : ℕ)
             one ∙ sym two
 
         cases : (x : Option Bool) → x ≡ value_of (assignment vars es) v → get_or (values p R) v false ≡ get_or (values p (atoms_on p vars es)) v false
-        cases None q = absurd (w.full v is (sym q))
+        cases None q = absurd (false≢true (ap is_some q ∙ w.full v is))
         cases (Some b) q = found b (ap (λ (y : Option Bool). agrees y (record { var = v; truth = b })) (sym q) ∙ same b)
 
     pub only_one : R ≡ atoms_on p vars es

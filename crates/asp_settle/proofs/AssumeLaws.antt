@@ -1,10 +1,8 @@
 -- A cube that is assumed literal by literal.
-use Rattle.std.proofs.Common.{◌≡◌, ◌≢◌, ℕ, ◌-◌, Bool, true, false, not, List, [], ◌∷◌, ◌++◌, length, Option, Some, None, inl, inr, refl, sym, ap, ◌∙◌, subst, arith}
+use Rattle.std.proofs.Common.{◌≡◌, ℕ, ◌-◌, Bool, true, false, not, List, [], ◌∷◌, ◌++◌, length, Option, Some, inl, inr, refl, sym, ap, ◌∙◌, subst, arith}
 use Rattle.std.specs.Bool.{beq}
 use Rattle.std.proofs.lemmas.List.{length_push, get_or_push}
 use Rattle.std.proofs.lemmas.List.Elements.{All-push, All-nil, All-cons}
-use Rattle.std.specs.Option.{is_none}
-use Rattle.std.proofs.lemmas.Bool.{false≢true}
 use Rattle.asp_vars.specs.Literals.{Literal, complement, has_literal, agrees, value_of}
 use Rattle.asp_trail.specs.declared.trail.Entry.{Entry}
 use Rattle.asp_trail.specs.Entries.{assignment, level}
@@ -85,5 +83,5 @@ assumed_calm vars ns cube es a i d h none high = absurd (omega (arith, high, (a 
 -- an entry that a nogood implied
 pub implied_one : (b : ℕ) (l : Literal) (id : ℕ) → AreImplied b (record { lit = l; level = b; reason = Some id } ∷ [])
 implied_one b l id =
-    All-cons (λ (e : Entry). (e.level ≡ b) × (e.reason ≢ None)) (record { lit = l; level = b; reason = Some id }) [] (refl, λ q. absurd (false≢true (ap is_none q)))
-    (All-nil (λ (e : Entry). (e.level ≡ b) × (e.reason ≢ None)))
+    All-cons (λ (e : Entry). (e.level ≡ b) × ((i : ℕ) × (e.reason ≡ Some i))) (record { lit = l; level = b; reason = Some id }) [] (refl, (id, refl))
+    (All-nil (λ (e : Entry). (e.level ≡ b) × ((i : ℕ) × (e.reason ≡ Some i))))

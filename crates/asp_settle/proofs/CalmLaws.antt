@@ -9,6 +9,7 @@ use Rattle.asp_trail.specs.Entries.{cut}
 use Rattle.asp_settle.specs.Calm.{AreCalm, WereCalm}
 use Rattle.asp_settle.specs.Starts.{AreImplied}
 use Rattle.asp_settle.proofs.CutLaws.{front}
+use Rattle.asp_settle.proofs.PlaceLaws.{not_implied}
 
 -- an entry among the first ones
 calm_old : (vars : ℕ) (ns : List (List Literal)) (es fs : List Entry) (i : ℕ) (d : Entry) → WereCalm vars ns es → i < length es →
@@ -26,7 +27,8 @@ calm_imply vars ns es fs b imp w i d h none high = at (cases_lt i (length es))
     at (inr ge) =
         let q = get_or-append_right es fs (length es) i d refl ge in
         let fits : i - length es < length fs = omega (arith, h, ge, length-append es fs) in
-        absurd ((imp (i - length es) d fits).1 (ap (λ (e : Entry). e.reason) (sym q) ∙ none))
+        let why = (imp (i - length es) d fits).1 in
+        absurd (not_implied (get_or fs (i - length es) d).reason why.0 why.1 (ap (λ (e : Entry). e.reason) (sym q) ∙ none))
 
 pub calm_push : (vars : ℕ) (ns : List (List Literal)) (es : List Entry) (e : Entry) → (e.reason ≡ None → 0 < e.level → AreCalm vars ns es) → WereCalm vars ns es → WereCalm vars ns (es ++ e ∷ [])
 calm_push vars ns es e here w i d h none high = at (cases_lt i (length es))

@@ -1,44 +1,26 @@
 -- A stable model that hits the cube and the decisions hits what follows from them.
 use Rattle.std.proofs.Common.{◌≡◌, ℕ, suc, zero, ◌-◌, ◌<◌, ◌≤◌, Bool, true, false, not, List, ◌++◌, length, get_or, take, Option, Some, None, inl, inr, ◌⊎◌, refl, sym, ap, ◌∙◌, subst, arith}
 use Rattle.std.specs.Prelude.{ℤ}
-use Rattle.std.specs.List.{list_any}
-use Rattle.std.proofs.lemmas.Bool.{false≢true, cases_lt, not_from_false, or_right}
+use Rattle.std.proofs.lemmas.Bool.{false≢true, cases_lt, not_from_false}
 use Rattle.std.proofs.lemmas.List.{length-take, get_or-take, get_or_default}
 use Rattle.asp_model.specs.declared.program.Program.{Program}
-use Rattle.asp_model.specs.Sets.{Atoms, same_set}
+use Rattle.asp_model.specs.Sets.{Atoms}
 use Rattle.asp_model.specs.Models.{is_stable}
 use Rattle.asp_vars.specs.Literals.{Literal, F, complement, literal_eq, has_literal, is_true, hits}
 use Rattle.asp_vars.specs.Numbering.{values}
-use Rattle.asp_vars.specs.Entailment.{HitsOnly, IsGood, Settled, nothing, costs, excuse, is_done}
-use Rattle.asp_vars.specs.Resolution.{is_bound_within}
-use Rattle.asp_model.specs.Costs.{betters}
-use Rattle.asp_vars.specs.declared.nogood.Base.{Base}
-use Rattle.asp_vars.specs.declared.nogood.Base.TheVariants as base
+use Rattle.asp_vars.specs.Entailment.{HitsOnly, is_done}
 use Rattle.asp_vars.specs.declared.nogood.Nogood.{Nogood}
 use Rattle.asp_vars.proofs.LiteralLaws.{same_literal, is_true-complement, hits-has}
-use Rattle.asp_vars.proofs.ResolutionLaws.{HitsOnly-weaker, costs_within, not_true}
 use Rattle.asp_trail.specs.declared.trail.Entry.{Entry}
 use Rattle.asp_trail.specs.Reasons.{IsReason, AreReasoned}
 use Rattle.asp_trail.specs.Trails.{IsOrdered}
 use Rattle.asp_trail.proofs.TrailLaws.{level_top}
-use Rattle.asp_settle.specs.Settling.{Counts, KeepsSettled}
+use Rattle.asp_settle.specs.Settling.{KeepsSettled}
 use Rattle.asp_settle.specs.Starts.{IsStart, AreStarts}
 use Rattle.asp_settle.proofs.LitLaws.{eq_differ, all_pass, has_at, has_more, has_later}
 use Rattle.asp_settle.proofs.PlaceLaws.{rising_le}
 
--- ---- what a nogood says
-below_done : (p : Program) (K : List Atoms) (bound : Option (List ℤ)) (d : List ℤ) → is_bound_within bound d ≡ true → (S : Atoms) → costs p d S ≡ true → is_done p K bound S ≡ true
-below_done p K None d w S e = absurd (false≢true w)
-below_done p K (Some b) d w S e = or_right (list_any (same_set S) K) (costs p b S) (costs_within p S d b (not_true (betters d b) w) e)
-
-pub good_settled : (p : Program) (K : List Atoms) (bound : Option (List ℤ)) (n : Nogood) → IsGood p K bound n → Counts bound n.base → Settled p K bound n.lits
-good_settled p K bound n g c = by_base n.base g c
-  where
-    by_base : (b : Base) → HitsOnly p (excuse p K bound b) n.lits → Counts bound b → Settled p K bound n.lits
-    by_base base.Pure h c = HitsOnly-weaker p nothing (is_done p K bound) n.lits (λ S e. absurd (false≢true e)) h
-    by_base (base.Below d) h c = HitsOnly-weaker p (costs p d) (is_done p K bound) n.lits (λ S e. below_done p K bound d c S e) h
-    by_base base.Local h c = h
-
+-- no set hits a literal and its complement
 pub clash_settled : (p : Program) (e : Atoms → Bool) (n : List Literal) (l : Literal) → has_literal n l ≡ true → has_literal n (complement l) ≡ true → HitsOnly p e n
 clash_settled p e n l a b = record {
   excused = λ S stable h.

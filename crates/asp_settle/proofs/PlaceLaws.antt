@@ -1,7 +1,8 @@
 -- Entries by their places, literals and levels.
-use Rattle.std.proofs.Common.{◌≡◌, ℕ, suc, ◌+◌, ◌-◌, ◌<◌, ◌≤◌, Bool, true, false, cond, eqb, List, [], ◌∷◌, ◌++◌, length, get_or, take, Some, None, find, inl, inr, ◌⊎◌, refl, sym, ap, ◌∙◌, subst, arith}
+use Rattle.std.proofs.Common.{◌≡◌, ℕ, suc, ◌+◌, ◌-◌, ◌<◌, ◌≤◌, Bool, true, false, cond, eqb, List, [], ◌∷◌, ◌++◌, length, get_or, take, Option, Some, None, find, inl, inr, ◌⊎◌, refl, sym, ap, ◌∙◌, subst, arith}
 use Rattle.std.specs.List.{AllPairs}
-use Rattle.std.proofs.lemmas.Bool.{eq-eqb, eqb-true, false_from_ne_true, cases_eq}
+use Rattle.std.specs.Option.{is_none}
+use Rattle.std.proofs.lemmas.Bool.{false≢true, eq-eqb, eqb-true, false_from_ne_true, cases_eq}
 use Rattle.std.proofs.lemmas.List.{length-append, length-take, length-take-le, get_or_append_left, get_or-append_right, get_or-take, get_or_default, append-nil}
 use Rattle.std.proofs.lemmas.List.Elements.{All-take}
 use Rattle.std.proofs.lemmas.Option.{slice_get-get_or}
@@ -17,6 +18,10 @@ use Rattle.asp_settle.specs.Starts.{AreImplied, Begins}
 
 abbrev pub blank : Entry
 blank = record { lit = T 0; level = 0; reason = None }
+
+-- a reason is none or some
+pub not_implied : (r : Option ℕ) (id : ℕ) → r ≡ Some id → r ≡ None → ⊥
+not_implied r id a b = false≢true (sym (ap is_none a) ∙ ap is_none b)
 
 -- ---- a literal that stands
 pub stands_at : (es : List Entry) (i : ℕ) (d : Entry) → i < length es → Stands es (get_or es i d).lit i (get_or es i d).level

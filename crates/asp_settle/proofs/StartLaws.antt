@@ -9,7 +9,7 @@ use Rattle.asp_trail.specs.Entries.{cut, level}
 use Rattle.asp_trail.specs.Trails.{IsOrdered}
 use Rattle.asp_trail.proofs.TrailLaws.{level_top, level_push}
 use Rattle.asp_settle.specs.Starts.{nth_decision, IsStart, Begins, AreStarts, AreImplied}
-use Rattle.asp_settle.proofs.PlaceLaws.{blank, stands_grow, stands_take, begins_grow, begins_take, level_last, level_implied, rising_le}
+use Rattle.asp_settle.proofs.PlaceLaws.{blank, not_implied, stands_grow, stands_take, begins_grow, begins_take, level_last, level_implied, rising_le}
 use Rattle.asp_settle.proofs.CutLaws.{IsFront, front}
 
 -- ---- literals are implied
@@ -28,7 +28,8 @@ starts_imply cube decisions es fs imp s = record {
     start i d h none (inr ge) =
         let at = get_or-append_right es fs (length es) i d refl ge in
         let fits : i - length es < length fs = omega (arith, h, ge, length-append es fs) in
-        absurd ((imp (i - length es) d fits).1 (ap (λ (e : Entry). e.reason) (sym at) ∙ none))
+        let why = (imp (i - length es) d fits).1 in
+        absurd (not_implied (get_or fs (i - length es) d).reason why.0 why.1 (ap (λ (e : Entry). e.reason) (sym at) ∙ none))
 
 -- ---- a literal is decided
 start_more : (cube decisions : List Literal) (l : Literal) (e : Entry) → e.level ≤ length decisions → IsStart cube decisions e → IsStart cube (decisions ++ l ∷ []) e

@@ -1,7 +1,8 @@
 -- The values of a whole trail are those of the set of its true atoms.
-use Rattle.std.proofs.Common.{◌≡◌, ◌≢◌, ℕ, suc, zero, ◌+◌, Bool, true, false, not, ◌&&◌, List, [], ◌∷◌, ◌++◌, length, fold, replicate, get_or, Option, Some, None, inl, inr, ◌⊎◌, refl, sym, ap, ◌∙◌, subst, arith}
+use Rattle.std.proofs.Common.{◌≡◌, ℕ, suc, zero, ◌+◌, Bool, true, false, not, ◌&&◌, List, [], ◌∷◌, ◌++◌, length, fold, replicate, get_or, Option, Some, None, inl, inr, ◌⊎◌, refl, sym, ap, ◌∙◌, subst, arith}
 use Rattle.std.specs.List.{AllByRecursion, list_any}
 use Rattle.std.specs.Bool.{beq}
+use Rattle.std.specs.Option.{is_some}
 use Rattle.std.proofs.lemmas.Bool.{false≢true, and_parts, not-true, or_from}
 use Rattle.std.proofs.lemmas.Grind.{common_steps}
 use Rattle.std.proofs.lemmas.List.{length-map, length-set}
@@ -13,7 +14,7 @@ use Rattle.asp_vars.specs.Completion.{completion}
 use Rattle.asp_trail.specs.declared.trail.Entry.{Entry}
 use Rattle.asp_trail.specs.Entries.{assign, assignment}
 use Rattle.asp_trail.specs.Quiet.{is_violated, is_unit}
-use Rattle.asp_trail.specs.Trails.{IsVar}
+use Rattle.asp_trail.specs.Trails.{IsVar, IsOrdered}
 use Rattle.asp_trail.proofs.EntryLaws.{fold_without, none_at}
 use Rattle.asp_found.specs.Valuations.{IsValuation}
 use Rattle.asp_found.proofs.ValuationLaws.{values_are}
@@ -49,12 +50,29 @@ holds_true a l h = ap (λ b. beq b l.truth) (truth_at a l.var) ∙ by_value (val
     by_value (Some b) q = q
 
 -- with a value it holds exactly where it is true
-set_true : (a : List (Option Bool)) (l : Literal) → value_of a l.var ≢ None → holds_in a l ≡ is_true (truths a) l
+set_true : (a : List (Option Bool)) (l : Literal) → is_some (value_of a l.var) ≡ true → holds_in a l ≡ is_true (truths a) l
 set_true a l full = by_value (value_of a l.var) refl ∙ sym (ap (λ b. beq b l.truth) (truth_at a l.var))
   where
     by_value : (v : Option Bool) → v ≡ value_of a l.var → agrees (value_of a l.var) l ≡ beq (truth_of (value_of a l.var)) l.truth
-    by_value None q = absurd (full (sym q))
+    by_value None q = absurd (false≢true (ap is_some q ∙ full))
     by_value (Some b) q = subst (λ (v : Option Bool). agrees v l ≡ beq (truth_of v) l.truth) q refl
+
+-- a value that is there is the truth
+pub set_value : (a : List (Option Bool)) (v : ℕ) → is_some (value_of a v) ≡ true → value_of a v ≡ Some (get_or (truths a) v false)
+set_value a v h = by_value (value_of a v) h ∙ ap (λ b. Some b) (sym (truth_at a v))
+  where
+    by_value : (o : Option Bool) → is_some o ≡ true → o ≡ Some (truth_of o)
+    by_value None q = absurd (false≢true q)
+    by_value (Some b) q = refl
+
+zero_open : (vars : ℕ) (es : List Entry) → IsOrdered vars es → value_of (assignment vars es) 0 ≡ None
+zero_open vars es o = fold_without (replicate (vars + 1) None) es 0 (λ i d h q. omega (arith, q, (o.within i d h).0)) ∙ none_at (vars + 1) 0
+
+pub trail_valuation : (p : Program) (vars : ℕ) (es : List Entry) → vars ≡ var_count p → IsOrdered vars es → IsValuation p (truths (assignment vars es))
+trail_valuation p vars es q o = record {
+  size = omega (arith, length-map (assignment vars es) truth_of, assignment-length vars es, q);
+  first = truth_at (assignment vars es) 0 ∙ ap truth_of (zero_open vars es o);
+}
 
 -- ---- whole trails
 module _ (p : Program) (vars : ℕ) (es : List Entry) (w : IsWhole p vars es) where
@@ -75,17 +93,8 @@ module _ (p : Program) (vars : ℕ) (es : List Entry) (w : IsWhole p vars es) wh
       ∙ not-true (is_violated (assignment vars es) n) (and_parts (not (is_violated (assignment vars es) n)) (not (is_unit (assignment vars es) n)) c.0).0)
       (unhit ns c.1 a.1)
 
-  zero_open : value_of (assignment vars es) 0 ≡ None
-  zero_open = fold_without (replicate (vars + 1) None) es 0 (λ i d h q. omega (arith, q, (w.ordered.within i d h).0)) ∙ none_at (vars + 1) 0
-
-  valuation : IsValuation p (truths (assignment vars es))
-  valuation = record {
-    size = omega (arith, length-map (assignment vars es) truth_of, assignment-length vars es, w.counted);
-    first = truth_at (assignment vars es) 0 ∙ ap truth_of zero_open;
-  }
-
   pub whole_same : truths (assignment vars es) ≡ values p (atoms_on p vars es)
-  whole_same = values_are p (truths (assignment vars es)) valuation (unhit (completion p) w.calm (completion_are_vars p)) w.weights
+  whole_same = values_are p (truths (assignment vars es)) (trail_valuation p vars es w.counted w.ordered) (unhit (completion p) w.calm (completion_are_vars p)) w.weights
 
   pub whole_lit : (l : Literal) → IsVar vars l.var → holds_in (assignment vars es) l ≡ is_true (values p (atoms_on p vars es)) l
   whole_lit l v = lit_true l v ∙ ap (λ x. is_true x l) whole_same

@@ -1,5 +1,5 @@
 -- What begins a trail's levels: the cube and the decisions.
-use Rattle.std.specs.Prelude.{◌≡◌, ◌≢◌, ℕ, ◌+◌, ◌<◌, List, length, None, IsTrue, slice_index_or}
+use Rattle.std.specs.Prelude.{◌≡◌, ℕ, ◌+◌, ◌<◌, List, length, Some, None, IsTrue, slice_index_or}
 use Rattle.std.specs.List.{All}
 use Rattle.asp_vars.specs.Literals.{Literal, F, has_literal}
 use Rattle.asp_trail.specs.declared.trail.Entry.{Entry}
@@ -46,4 +46,4 @@ AreAssumed cube entries = All (IsAssumed cube) entries
 -- ---- entries that are added
 -- All were implied at this level.
 abbrev pub AreImplied : ℕ → List Entry → Type 0
-AreImplied b entries = All (λ e. (e.level ≡ b) × (e.reason ≢ None)) entries
+AreImplied b entries = All (λ e. (e.level ≡ b) × ((id : ℕ) × (e.reason ≡ Some id))) entries

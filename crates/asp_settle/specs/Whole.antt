@@ -1,5 +1,5 @@
 -- A trail that gives each variable of a program a value.
-use Rattle.std.specs.Prelude.{◌≡◌, ◌≢◌, ℕ, Bool, false, List, map, Option, Some, None, IsTrue}
+use Rattle.std.specs.Prelude.{◌≡◌, ℕ, Bool, false, List, map, Option, Some, None, IsTrue, IsSome}
 use Rattle.std.specs.List.{All, AllByRecursion}
 use Rattle.asp_model.specs.declared.program.Program.{Program}
 use Rattle.asp_model.specs.Sets.{Atoms}
@@ -34,7 +34,7 @@ atoms_on p vars entries = true_atoms p (truths (assignment vars entries))
 pub record IsWhole (p : Program) (vars : ℕ) (entries : List Entry) : Type 0 where
   pub counted : vars ≡ var_count p
   pub ordered : IsOrdered vars entries
-  pub full : (v : ℕ) → IsVar vars v → value_of (assignment vars entries) v ≢ None
+  pub full : (v : ℕ) → IsVar vars v → IsSome (value_of (assignment vars entries) v)
   pub calm : AreCalm vars (completion p) entries
   pub weights : KeepsWeights p (truths (assignment vars entries))
 

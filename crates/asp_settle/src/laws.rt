@@ -1,14 +1,14 @@
 //! What a trail shows of a program's stable models. Each function's contract is a law, and its body is empty.
-ghost use Rattle.std.specs.Prelude.{◌≡◌, ◌<◌, ◌≤◌, ◌++◌, ◌∷◌, [], ℕ, Bool, false, List, Option, Some, None, ℤ, IsTrue, length, take, slice_index_or};
+ghost use Rattle.std.specs.Prelude.{◌≡◌, ◌<◌, ◌≤◌, ◌++◌, ◌∷◌, [], ℕ, Bool, false, List, Option, Some, None, ℤ, IsTrue, IsSome, length, take, slice_index_or};
 ghost use Rattle.std.specs.List.{All, AllByRecursion, list_any};
 ghost use Rattle.asp_model.specs.declared.program.Program.{Program};
 ghost use Rattle.asp_model.specs.Sets.{Atoms, same_set};
 ghost use Rattle.asp_model.specs.Models.{is_stable};
-ghost use Rattle.asp_vars.specs.Literals.{Literal, complement, has_literal, holds_in, is_true, hits};
+ghost use Rattle.asp_vars.specs.Literals.{Literal, complement, has_literal, holds_in, is_true, hits, value_of};
 ghost use Rattle.asp_vars.specs.Numbering.{values, var_count};
 ghost use Rattle.asp_vars.specs.Completion.{completion};
 ghost use Rattle.asp_vars.specs.Conflicts.{IsConflict};
-ghost use Rattle.asp_vars.specs.Entailment.{HitsOnly, IsGood, Settled, is_done};
+ghost use Rattle.asp_vars.specs.Entailment.{HitsOnly, Settled, is_done};
 ghost use Rattle.asp_vars.specs.Resolution.{IsWithin};
 ghost use Rattle.asp_vars.specs.declared.nogood.Nogood.{Nogood};
 ghost use Rattle.asp_trail.specs.declared.trail.Entry.{Entry};
@@ -16,18 +16,11 @@ ghost use Rattle.asp_trail.specs.Entries.{assignment, level_in, reason_in};
 ghost use Rattle.asp_trail.specs.Quiet.{is_calm, is_violated};
 ghost use Rattle.asp_trail.specs.Reasons.{AreReasoned};
 ghost use Rattle.asp_trail.specs.Trails.{IsOrdered, IsVar};
+ghost use Rattle.asp_found.specs.Valuations.{IsValuation};
 ghost use Rattle.asp_settle.specs.Calm.{WereCalm};
-ghost use Rattle.asp_settle.specs.Settling.{Counts, KeepsSettled};
+ghost use Rattle.asp_settle.specs.Settling.{KeepsSettled};
 ghost use Rattle.asp_settle.specs.Starts.{AreStarts};
 ghost use Rattle.asp_settle.specs.Whole.{AreBlocked, AreVars, IsWhole, atoms_on, truths};
-
-/// A nogood that is good and counts is settled. One with a literal and its complement is hit by no set.
-pub fn nogoods_are_settled()
-    ensures good { (p : Program) (known : List Atoms) (bound : Option (List ℤ)) (n : Nogood) → IsGood p known bound n → Counts bound n.base →
-        Settled p known bound n.lits }
-    ensures clash { (p : Program) (excuse : Atoms → Bool) (n : List Literal) (l : Literal) → IsTrue (has_literal n l) → IsTrue (has_literal n (complement l)) →
-        HitsOnly p excuse n }
-{}
 
 /// A stable model that hits the cube and the first k decisions, and isn't done, hits each entry of the levels up to k.
 pub fn settled_trails_hit()
@@ -38,7 +31,8 @@ pub fn settled_trails_hit()
 {}
 
 /// A violated nogood that is settled settles the cube with the decisions up to the nogood's greatest level. One of
-/// level 0 settles the cube alone, and lies in it where none of its literals was implied.
+/// level 0 settles the cube alone, and lies in it where none of its literals was implied. No set hits a cube with a literal
+/// and its complement.
 pub fn violated_nogoods_settle()
     ensures way { (p : Program) (known : List Atoms) (bound : Option (List ℤ)) (vars : ℕ) (kept : ℕ → Option Nogood) (cube decisions : List Literal) (entries : List Entry) (k : ℕ) (n : List Literal) →
         IsOrdered vars entries → AreReasoned kept entries → KeepsSettled p known bound kept → AreStarts cube decisions entries →
@@ -51,6 +45,8 @@ pub fn violated_nogoods_settle()
     ensures within { (vars : ℕ) (cube decisions : List Literal) (entries : List Entry) (n : List Literal) → IsOrdered vars entries → AreStarts cube decisions entries →
         All (λ l. IsTrue (holds_in (assignment vars entries) l)) n → All (λ l. level_in entries l.var ≡ 0) n → All (λ l. level_in entries l.var ≡ 0 → reason_in entries l.var ≡ None) n →
         IsWithin n cube }
+    ensures clash { (p : Program) (excuse : Atoms → Bool) (cube : List Literal) (l : Literal) → IsTrue (has_literal cube l) → IsTrue (has_literal cube (complement l)) →
+        HitsOnly p excuse cube }
 {}
 
 /// Where no nogood of the completion was unit or violated before each decision, a nogood with a literal of level k shows
@@ -65,6 +61,12 @@ pub fn conflicts_are_shown()
 /// All literals of the completion are of the program's variables.
 pub fn completion_has_variables()
     ensures { (p : Program) → AllByRecursion (AreVars (var_count p)) (completion p) }
+{}
+
+/// The values on a trail are one for each variable; where a variable has a value there, it is that.
+pub fn trails_have_values()
+    ensures valuation { (p : Program) (vars : ℕ) (entries : List Entry) → vars ≡ var_count p → IsOrdered vars entries → IsValuation p (truths (assignment vars entries)) }
+    ensures values { (a : List (Option Bool)) (v : ℕ) → IsSome (value_of a v) → value_of a v ≡ Some (slice_index_or (truths a) v false) }
 {}
 
 /// The values of a whole trail are those of the set of its true atoms. So this set hits the cube and the decisions, and

@@ -1,6 +1,6 @@
 //! What stays true of a trail's cube and decisions where the trail changes. Each function's contract is a law, and its
 //! body is empty.
-ghost use Rattle.std.specs.Prelude.{◌≡◌, ◌≢◌, ◌+◌, ◌<◌, ◌≤◌, ◌++◌, ◌∷◌, [], ℕ, Bool, not, List, None, Some, IsTrue, length, take};
+ghost use Rattle.std.specs.Prelude.{◌≡◌, ◌≢◌, ◌+◌, ◌≤◌, ◌++◌, ◌∷◌, [], ℕ, Bool, List, None, Some, IsTrue, take};
 ghost use Rattle.std.specs.List.{AllPairs};
 ghost use Rattle.asp_vars.specs.Literals.{Literal, complement, has_literal, value_of};
 ghost use Rattle.asp_trail.specs.declared.trail.Entry.{Entry};
