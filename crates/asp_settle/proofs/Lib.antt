@@ -1,0 +1,13 @@
+pub mod LitLaws
+pub mod PlaceLaws
+pub mod CutLaws
+pub mod StartLaws
+pub mod CalmLaws
+pub mod AssumeLaws
+pub mod HitLaws
+pub mod ViolatedLaws
+pub mod ClosedLaws
+pub mod ConflictLaws
+pub mod VarLaws
+pub mod WholeLaws
+pub mod AnswerLaws

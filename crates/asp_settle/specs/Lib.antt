@@ -1,0 +1,4 @@
+pub mod Starts
+pub mod Calm
+pub mod Settling
+pub mod Whole
