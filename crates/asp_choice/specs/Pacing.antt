@@ -8,9 +8,8 @@ pub record Paced : Type 0 where
   pub learnt : ℕ
   pub reductions : ℕ
 
--- One unit for each term that Luby's sequence has given, of which the last is the one for the restarts so far. Once it
--- has given all that it has, the term is 1.
-pub record IsPaced (restarts given units : ℕ) : Type 0 where
-  pub given : given ≡ min (restarts + 1) (2 ^ 32 - 1)
+-- what every pace keeps: so many terms Luby's sequence gave, of which the last one is in force; once it gave all, that is 1
+pub record IsPaced (restarts terms units : ℕ) : Type 0 where
+  pub given : terms ≡ min (restarts + 1) (2 ^ 32 - 1)
   pub early : restarts < 2 ^ 32 - 1 → units ≡ term restarts
   pub late : 2 ^ 32 - 1 ≤ restarts → units ≡ 1

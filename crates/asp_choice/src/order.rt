@@ -66,7 +66,9 @@ fn is_above(trail: &Trail, i: usize, level: usize) -> bool
 impl Order {
     /// All variables, with the activity 0.
     pub fn new(alloc: Global, vars: Var) -> Result<Order, AllocError>
-        ensures { IfOk result (λ order. order ≡ fresh vars) }
+        ensures fresh { IfOk result (λ order. order ≡ fresh vars) }
+        ensures vars { IfOk result (HasVars vars) }
+        ensures all { IfOk result (λ order. (v : ℕ) → IsVar vars v → IsTrue (is_in order.members v)) }
     {
         let mut heap = Heap::new(alloc);
         heap.reserve(vars as usize)?;

@@ -74,7 +74,7 @@ impl Pace {
     {
         self.units = self.luby.next();
         self.restarts = self.restarts.saturating_add(1);
-        self.learnt = 0;
+        self.begin();
     }
 
     /// Whether so many nogoods that may be dropped are too many.
