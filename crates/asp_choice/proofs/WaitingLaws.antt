@@ -1,18 +1,16 @@
 -- Which variables wait, where values come and go.
-use Rattle.std.proofs.Common.{◌≡◌, ◌≢◌, ℕ, suc, zero, ◌+◌, ◌-◌, ◌<◌, ◌≤◌, ◌⊎◌, inl, inr, Bool, true, false, cond, eqb, leb, List, [], ◌∷◌, ◌++◌, length, Option, Some, None, fold, filter, find, replicate, set, get_or, refl, sym, ap, ◌∙◌, subst, arith, get_or-set_other}
-use Rattle.std.specs.List.{All}
+use Rattle.std.proofs.Common.{◌≡◌, ◌≢◌, ℕ, suc, zero, ◌+◌, ◌-◌, ◌<◌, ◌≤◌, ◌⊎◌, inl, inr, Bool, true, false, cond, eqb, leb, List, [], ◌∷◌, ◌++◌, length, Option, Some, None, filter, replicate, set, get_or, refl, sym, ap, ◌∙◌, subst, arith, get_or-set_other}
 use Rattle.std.specs.Option.{is_some}
-use Rattle.std.proofs.lemmas.Bool.{eqb-true, false≢true}
+use Rattle.std.proofs.lemmas.Bool.{false≢true}
 use Rattle.std.proofs.lemmas.Bool.Decides.{nat_tests}
-use Rattle.std.proofs.lemmas.List.{length-append, get_or_push, get_or_append_left}
+use Rattle.std.proofs.lemmas.List.{length-append, get_or_push}
 use Rattle.std.proofs.lemmas.Grind.{fold-append}
 use Rattle.asp_trail.specs.declared.trail.Entry.{Entry}
-use Rattle.asp_trail.specs.Entries.{assign, assignment, level_in, level_or_zero, entry_of, cut}
+use Rattle.asp_trail.specs.Entries.{assign, assignment, level_in, level_or_zero, cut}
 use Rattle.asp_trail.specs.Trails.{IsVar, IsOrdered}
-use Rattle.asp_trail.proofs.EntryLaws.{entry_assigned, fold_found, none_at, find_only, same_default}
-use Rattle.asp_order.specs.Heaps.{Ranking, is_in, IsFirst}
-use Rattle.asp_order.proofs.PlacedLaws.{within_members}
-use Rattle.asp_choice.specs.Waiting.{AreWaiting, AreAssigned, IsNext, IsFuller}
+use Rattle.asp_trail.proofs.EntryLaws.{entry_assigned, fold_found, none_at, find_only}
+use Rattle.asp_order.specs.Heaps.{Ranking, is_in}
+use Rattle.asp_choice.specs.Waiting.{AreWaiting, AreAssigned, IsFuller}
 
 -- ---- a value more
 -- what has no value after an entry has none before, and is another variable

@@ -1,9 +1,27 @@
 //! Each call once, with answers worked out by hand.
+ghost use Rattle.std.specs.Prelude.{◌≡◌, ◌+◌, ◌^◌, ◌<◌, ◌≤◌};
+ghost use Rattle.asp_choice.specs.Waiting.{HasVars, AreWaiting};
+
 use crate::order::Order;
 use crate::pace::Pace;
 use asp_trail::trail::Trail;
-use asp_vars::lit::Lit;
+use asp_vars::lit::{Lit, Var};
 use std::test::Fail;
+
+// Decides that the next variable is false.
+fn decide(order: &mut Order, trail: &mut Trail) -> Option<Var>
+    requires small { trail.old.vars < 2 ^ 31 }
+    requires room { trail.old.vars ≤ trail.old.room }
+    requires vars { HasVars trail.old.vars order.old }
+    requires waiting { AreWaiting trail.old.vars trail.old.entries order.old }
+    ensures same { trail.new ≡ record trail.old { entries = trail.new.entries } }
+    ensures vars { HasVars trail.old.vars order.new }
+    ensures waiting { AreWaiting trail.old.vars trail.new.entries order.new }
+{
+    let var = order.next(trail)?;
+    trail.decide(Lit::new(var, false));
+    Some(var)
+}
 
 #[test]
 fn decides_and_takes_back(rt: HostRuntime) -> Result<(), Fail> {
@@ -11,9 +29,14 @@ fn decides_and_takes_back(rt: HostRuntime) -> Result<(), Fail> {
     trail.reserve(3)?;
     let mut order = Order::new(rt.alloc(), 3)?;
     order.bump(&[Lit::new(2, true)]);
-    assert_eq!(rt; order.next(&trail), Some(2));
-    order.restore_above(&trail, 0);
+    assert_eq!(rt; decide(&mut order, &mut trail), Some(2));
+    assert_eq!(rt; decide(&mut order, &mut trail), Some(1));
+    order.restore_above(&trail, 1);
+    trail.undo_to(1);
+    assert_eq!(rt; decide(&mut order, &mut trail), Some(1));
     order.restore_all(&trail);
+    trail.clear();
+    assert_eq!(rt; decide(&mut order, &mut trail), Some(2));
     Ok(())
 }
 

@@ -1,5 +1,4 @@
-use Rattle.std.proofs.Common.{ℕ, ◌-◌, get_or, arith}
-use Rattle.asp_trail.specs.declared.trail.Entry.{Entry}
+use Rattle.std.proofs.Common.{◌-◌, get_or, arith}
 use Rattle.asp_choice.proofs.WaitingLaws.{waiting_above, above_in, low_before, not_above}
 use Rattle.asp_choice.proofs.order.Order.restore_above.Goals as goal
 
