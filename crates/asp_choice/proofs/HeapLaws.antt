@@ -3,7 +3,7 @@ use Rattle.std.proofs.Common.{◌≡◌, ℕ, suc, zero, ◌+◌, ◌-◌, ◌/�
 use Rattle.std.proofs.lemmas.List.{length-set, length-map}
 use Rattle.asp_vars.specs.Literals.{Literal}
 use Rattle.asp_order.specs.Heaps.{Ranking, is_in, within, rescaled, bumped, decayed}
-use Rattle.asp_choice.specs.Waiting.{IsOrder, fresh, all_bumped}
+use Rattle.asp_choice.specs.Waiting.{IsOrder, fresh, all_bumped, learnt}
 
 -- ---- filling
 -- the first k variables are in, and the m others not yet
@@ -63,10 +63,9 @@ pub all_bumped_alike : (h : Ranking) (lits : List Literal) → IsAlike h (all_bu
 all_bumped_alike h [] = record { members = refl; vars = refl }
 all_bumped_alike h (l ∷ lits) = alike_still h (bumped h l.var) (all_bumped (bumped h l.var) lits) (bumped_alike h l.var) (all_bumped_alike (bumped h l.var) lits)
 
-pub learnt_alike : (old between new : Ranking) (lits : List Literal) → between ≡ all_bumped old lits → new ≡ decayed between → IsAlike old new
-learnt_alike old between new lits b n =
-    subst (IsAlike old) (sym n)
-    (alike_still old between (decayed between) (subst (IsAlike old) (sym b) (all_bumped_alike old lits)) (decayed_alike between))
+pub learnt_alike : (old new : Ranking) (lits : List Literal) → new ≡ learnt old lits → IsAlike old new
+learnt_alike old new lits n =
+    subst (IsAlike old) (sym n) (alike_still old (all_bumped old lits) (learnt old lits) (all_bumped_alike old lits) (decayed_alike (all_bumped old lits)))
 
 pub alike_order : (old new : Ranking) → IsAlike old new → IsOrder old → IsOrder new
 alike_order old new a o = record {

@@ -54,6 +54,15 @@ fn bump_all(heap: &mut Heap, lits: &[Lit])
     }
 }
 
+// Bumps the variables in turn, and lets later bumps count for more.
+fn bump_and_decay(heap: &mut Heap, lits: &[Lit])
+    requires { All (λ l. l.var < length heap.old.activities) lits.now }
+    ensures { heap.new ≡ learnt heap.old lits.now }
+{
+    bump_all(heap, lits);
+    heap.decay();
+}
+
 // Whether the entry is above the level.
 fn is_above(trail: &Trail, i: usize, level: usize) -> bool
     requires ordered { IsOrdered trail.now.vars trail.now.entries }
@@ -92,6 +101,7 @@ impl Order {
         requires vars { HasVars trail.now.vars self.old }
         requires waiting { AreWaiting trail.now.vars trail.now.entries self.old }
         ensures next { IfSome result (IsNext trail.now.vars (assignment trail.now.vars trail.now.entries) self.old.activities) }
+        ensures room { IfSome result (λ _. length trail.now.entries < trail.now.vars) }
         ensures none { IfNone result (AreAssigned trail.now.vars (assignment trail.now.vars trail.now.entries)) }
         ensures same { self.new ≡ record self.old { members = self.new.members } }
         ensures waiting { IfSome result (λ v. (e : Entry) → e.lit.var ≡ v → AreWaiting trail.now.vars (trail.now.entries ++ e ∷ []) self.new) }
@@ -150,7 +160,6 @@ impl Order {
         ensures members { self.new.members ≡ self.old.members }
         ensures vars { length self.new.activities ≡ length self.old.activities }
     {
-        bump_all(&mut self.heap, lits);
-        self.heap.decay();
+        bump_and_decay(&mut self.heap, lits);
     }
 }
