@@ -3,8 +3,7 @@
 //! Each variable without a value is in the heap. One that gets a value stays there until it comes first and is
 //! skipped, so nothing is done when a literal comes to hold. Before literals are taken back, their variables are put
 //! into the heap again.
-ghost use Rattle.std.specs.Prelude.{◌≡◌, ◌+◌, ◌<◌, ◌≤◌, ◌↔◌, ◌++◌, ◌∷◌, [], ℕ, All, length, slice_set, slice_index_or, false, IsTrue, IfOk, IfSome, IfNone, MatchOption};
-ghost use Rattle.asp_vars.specs.Literals.{value_of};
+ghost use Rattle.std.specs.Prelude.{◌≡◌, ◌+◌, ◌<◌, ◌↔◌, ◌++◌, ◌∷◌, [], ℕ, All, length, slice_set, slice_index_or, false, IsTrue, IfOk, IfSome, IfNone};
 ghost use Rattle.asp_trail.specs.declared.trail.Entry.{Entry};
 ghost use Rattle.asp_trail.specs.Entries.{assignment, cut};
 ghost use Rattle.asp_trail.specs.Trails.{IsVar, IsOrdered};

@@ -1,5 +1,5 @@
 //! Each call once, with answers worked out by hand.
-ghost use Rattle.std.specs.Prelude.{◌≡◌, ◌+◌, ◌^◌, ◌<◌, ◌≤◌};
+ghost use Rattle.std.specs.Prelude.{◌≡◌, ◌^◌, ◌<◌, ◌≤◌};
 ghost use Rattle.asp_choice.specs.Waiting.{HasVars, AreWaiting};
 
 use crate::order::Order;
