@@ -3,12 +3,14 @@ use Rattle.std.proofs.Common.{◌≡◌, ◌≢◌, ℕ, ◌+◌, ◌-◌, ◌*�
 use Rattle.std.specs.Option.{unwrap_or}
 use Rattle.std.proofs.lemmas.Bool.{eqb-true, false≢true}
 use Rattle.std.proofs.lemmas.Bool.Decides.{nat_tests}
-use Rattle.std.proofs.lemmas.List.{length-append, get_or_append_left, get_or_push, append-nil}
+use Rattle.std.proofs.lemmas.List.{length-append, get_or_append_left, get_or-append-add, get_or_push, append-nil}
+use Rattle.std.proofs.lemmas.List.Elements.{All-append}
+use Rattle.std.proofs.lemmas.Option.{slice_get-get_or}
 use Rattle.asp_vars.specs.Literals.{Literal, T, literal_eq, holds_in}
 use Rattle.asp_vars.specs.Codes.{code_of}
 use Rattle.asp_vars.specs.declared.nogood.Nogood.{Nogood}
 use Rattle.asp_trail.specs.declared.trail.Entry.{Entry}
-use Rattle.asp_trail.specs.Entries.{level, assignment}
+use Rattle.asp_trail.specs.Entries.{level, level_or_zero, assignment}
 use Rattle.asp_trail.specs.Trails.{IsOrdered, IsVar}
 use Rattle.asp_store.specs.declared.kept.Kept.{Kept}
 use Rattle.asp_store.specs.declared.nodes.Node.{Node}
@@ -18,7 +20,7 @@ use Rattle.asp_store.specs.Looking.{Grew, IsPlace}
 use Rattle.asp_trail.specs.Reasons.{IsReason}
 use Rattle.asp_store.specs.Watching.{IsFalseBy}
 use Rattle.asp_store.specs.Fitting.{IsWatched, HaveReasons}
-use Rattle.asp_store.specs.Visiting.{owner, AreWatched, Extends, FoundIn}
+use Rattle.asp_store.specs.Visiting.{owner, AreWatched, IsImpliedAt, Extends, FoundIn}
 use Rattle.asp_store.specs.Looking.{Found}
 use Rattle.asp_store.specs.declared.looks.Look.{Look}
 use Rattle.asp_store.specs.declared.looks.Look.TheVariants as look
@@ -52,15 +54,27 @@ reasons_new slots id n es e k r h old i d j w q = cases (eqb i (length es)) refl
         let o = old i d j lt (sym (ap (λ (f : Entry). f.reason) is) ∙ q) in
         (o.0, o.1, subst (λ (f : Entry). IsReason (es ++ e ∷ []) i f.lit o.0.lits) (sym is) (reason_grow es (e ∷ []) i (get_or es i d).lit o.0.lits o.2))
 
+one_implied : (b id : ℕ) (l : Literal) → All (IsImpliedAt b) (record { lit = l; level = b; reason = Some id } ∷ [])
+one_implied b id l zero d h = record { level = refl; implied = (id, refl) }
+one_implied b id l (suc i) d h = absurd (omega arith)
+
+level_stays : (es fs : List Entry) → All (IsImpliedAt (level es)) fs → level (es ++ fs) ≡ level es
+level_stays es [] a = ap level (append-nil es)
+level_stays es (f ∷ fs) a =
+    let n : length (es ++ f ∷ fs) - 1 ≡ length es + length fs = omega (arith, length-append es (f ∷ fs)) in
+    ap level_or_zero (slice_get-get_or (es ++ f ∷ fs) (length (es ++ f ∷ fs) - 1) f (omega (arith, length-append es (f ∷ fs))))
+    ∙ (ap (λ k. (get_or (es ++ f ∷ fs) k f).level) n ∙ (ap (λ (e : Entry). e.level) (get_or-append-add es (f ∷ fs) (length fs) f) ∙ (a (length fs) f (omega arith)).level))
+
 pub extends_grew : (slots : List (Option Kept)) (id : ℕ) (n : Nogood) (es fs : List Entry) → nogood_at slots id ≡ Some n → Grew id n.lits es fs → Extends slots es fs
 extends_grew slots id n es fs k g =
     elim g [
-      | inl q ↦ ([], q ∙ sym (append-nil es), λ h. subst (λ (xs : List Entry). HaveReasons slots xs) (sym q) h)
+      | inl q ↦ ([], q ∙ sym (append-nil es), λ h. subst (λ (xs : List Entry). HaveReasons slots xs) (sym q) h, λ i d h. absurd (omega arith))
       | inr r ↦ (
         new r.0 ∷ [],
         r.1,
         λ h. subst (λ (xs : List Entry). HaveReasons slots xs) (sym r.1)
             (reasons_new slots id n es (new r.0) k refl (subst (λ (xs : List Entry). IsReason xs (length es) r.0 n.lits) r.1 r.2) h),
+        one_implied (level es) id r.0,
       )
     ]
   where
@@ -68,11 +82,16 @@ extends_grew slots id n es fs k g =
     new l = record { lit = l; level = level es; reason = Some id }
 
 pub extends_none : (slots : List (Option Kept)) (es : List Entry) → Extends slots es es
-extends_none slots es = ([], sym (append-nil es), λ h. h)
+extends_none slots es = ([], sym (append-nil es), λ h. h, λ i d h. absurd (omega arith))
 
 pub extends_more : (slots : List (Option Kept)) (es fs gs : List Entry) → Extends slots es fs → Extends slots fs gs → Extends slots es gs
 extends_more slots es fs gs a b =
-    (a.0 ++ b.0, b.1 ∙ (ap (λ (xs : List Entry). xs ++ b.0) a.1 ∙ append_assoc es a.0 b.0), λ h. b.2 (a.2 h))
+    let same : level fs ≡ level es = ap level a.1 ∙ level_stays es a.0 a.3 in (
+      a.0 ++ b.0,
+      b.1 ∙ (ap (λ (xs : List Entry). xs ++ b.0) a.1 ∙ append_assoc es a.0 b.0),
+      λ h. b.2 (a.2 h),
+      All-append (IsImpliedAt (level es)) a.0 b.0 a.3 (subst (λ (n : ℕ). All (IsImpliedAt n) b.0) same b.3),
+    )
 
 -- ---- numbers and their partners
 pub partner_twice : (x : ℕ) → partner (partner x) ≡ x

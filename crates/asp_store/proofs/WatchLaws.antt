@@ -47,7 +47,7 @@ pub record IsFront (l k : ℕ) (es : List Entry) : Type 0 where
   pub low : (i : ℕ) (d : Entry) → i < length es → (get_or es i d).level ≤ l → i < k
   pub high : (i : ℕ) (d : Entry) → i < k → (get_or es i d).level ≤ l
 
-front : (l : ℕ) (es : List Entry) → AllPairs (λ e f. e.level ≤ f.level) es → (k : ℕ) × IsFront l k es
+pub front : (l : ℕ) (es : List Entry) → AllPairs (λ e f. e.level ≤ f.level) es → (k : ℕ) × IsFront l k es
 front l [] r = (0, record { is = refl; fits = omega arith; low = λ i d h m. absurd (omega arith); high = λ i d h. absurd (omega arith) })
 front l (e ∷ es) r = cases (leb e.level l) refl (front l es (λ i j d a b. r (suc i) (suc j) d (omega arith) (omega arith)))
   where

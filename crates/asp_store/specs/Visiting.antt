@@ -4,7 +4,7 @@ use Rattle.std.specs.List.{All}
 use Rattle.asp_vars.specs.Literals.{Literal, F, has_literal, literal_eq}
 use Rattle.asp_vars.specs.declared.nogood.Nogood.{Nogood}
 use Rattle.asp_trail.specs.declared.trail.Entry.{Entry}
-use Rattle.asp_trail.specs.Entries.{assignment}
+use Rattle.asp_trail.specs.Entries.{assignment, level}
 use Rattle.asp_trail.specs.Trails.{IsVar}
 use Rattle.asp_store.specs.declared.kept.Kept.{Kept}
 use Rattle.asp_store.specs.declared.looks.Look.{Look}
@@ -32,9 +32,14 @@ abbrev pub AreWatched : ℕ → List Node → List (Option Kept) → List Entry 
 AreWatched heads nodes slots entries seen = (x : ℕ) (n : Nogood) → heads ≤ x → x < length nodes → nogood_at slots (owner heads x) ≡ Some n →
     IsWatched n.lits (other nodes (partner x)) (other nodes x) entries seen
 
--- Entries may be added, and the implied ones among them have reasons that are kept.
+-- The entry was implied, at this level.
+pub record IsImpliedAt (b : ℕ) (e : Entry) : Type 0 where
+  pub level : e.level ≡ b
+  pub implied : (id : ℕ) × (e.reason ≡ Some id)
+
+-- Entries may be added, each of them implied at the level that stands, by a nogood that is kept.
 abbrev pub Extends : List (Option Kept) → List Entry → List Entry → Type 0
-Extends slots old new = (fs : List Entry) × (new ≡ old ++ fs) × (HaveReasons slots old → HaveReasons slots new)
+Extends slots old new = (fs : List Entry) × (new ≡ old ++ fs) × (HaveReasons slots old → HaveReasons slots new) × All (IsImpliedAt (level old)) fs
 
 -- The two literals are different ones of the nogood, or of no variable.
 abbrev pub IsPair : Nogood → Literal → Literal → Type 0
