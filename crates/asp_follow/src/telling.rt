@@ -32,7 +32,7 @@ pub fn tell<P: Propagator>(propagator: &mut P, trail: &Trail, told: usize)
 
 // Takes back the newest entry of which it was told.
 fn untell_at<P: Propagator>(propagator: &mut P, trail: &Trail, i: usize)
-    requires told { WasTold (P.told propagator.old) trail.now (i + 1) }
+    requires { WasTold (P.told propagator.old) trail.now (i + 1) }
     ensures told { WasTold (P.told propagator.new) trail.now i }
     ensures program { (P.told propagator.new).program ≡ (P.told propagator.old).program }
     ensures bound { P.bound propagator.new ≡ P.bound propagator.old }

@@ -58,7 +58,7 @@ one_implied : (b id : ℕ) (l : Literal) → All (IsImpliedAt b) (record { lit =
 one_implied b id l zero d h = record { level = refl; implied = (id, refl) }
 one_implied b id l (suc i) d h = absurd (omega arith)
 
-level_stays : (es fs : List Entry) → All (IsImpliedAt (level es)) fs → level (es ++ fs) ≡ level es
+pub level_stays : (es fs : List Entry) → All (IsImpliedAt (level es)) fs → level (es ++ fs) ≡ level es
 level_stays es [] a = ap level (append-nil es)
 level_stays es (f ∷ fs) a =
     let n : length (es ++ f ∷ fs) - 1 ≡ length es + length fs = omega (arith, length-append es (f ∷ fs)) in

@@ -1,0 +1,30 @@
+use Rattle.std.proofs.Common.{◌≡◌, ℕ, List, ◌++◌, ◌∷◌, [], length, None, refl, sym, ap, ◌∙◌, subst, arith, ◌≤◌}
+use Rattle.asp_trail.specs.declared.trail.Entry.{Entry}
+use Rattle.asp_trail.specs.Entries.{level}
+use Rattle.asp_trail.specs.Trails.{Trailed}
+use Rattle.asp_follow.specs.Following.{Following, IsFollowed, IsImplied, with_entry}
+use Rattle.asp_follow.proofs.FollowLaws.{followed_open}
+use Rattle.asp_follow.proofs.PathLaws.{view_of, var_inside, none_inside}
+use Rattle.asp_follow.proofs.path.Path.assume.Goals as goal
+
+pub value-value-requires : goal.value-value-requires
+value-value-requires g c =
+    let i = c.self.inside in
+    (var_inside (g.P.Propagator.told i.propagator) (g.P.Propagator.bound i.propagator) i.store i.trail i.told c.args.self.now c.args.lit.var c.self.view_is c.self.invariant c.requires.var).1
+
+pub assume-requires : goal.assume-requires
+assume-requires g c = ?
+
+pub invariant_of-self : goal.invariant_of-self
+invariant_of-self g c =
+    let i = c.self.inside in
+    let t = g.P.Propagator.told i.propagator in
+    let e : Entry = record { lit = c.args.lit; level = 0; reason = None } in
+    let le : i.trail.seen ≤ length i.trail.entries = omega (arith, c.len-len.ensures.seen, c.len-len.ensures.len) in
+    subst (λ (x : Trailed). IsFollowed t i.store x i.told) (sym c.assume.ensures) (followed_open t i.store i.trail i.told e le refl c.self.invariant)
+
+pub returns : goal.returns
+returns g c =
+    let i = c.self.inside in
+    ap (view_of (g.P.Propagator.told i.propagator) (g.P.Propagator.bound i.propagator) i.store) c.assume.ensures
+    ∙ ap (λ (x : Following). with_entry x c.args.lit 0 None) c.self.view_is
