@@ -1,5 +1,5 @@
 -- What follows a trail does so still, through each change.
-use Rattle.std.proofs.Common.{◌≡◌, ℕ, suc, ◌+◌, ◌<◌, ◌≤◌, Bool, true, false, not, List, [], ◌∷◌, ◌++◌, length, get_or, Option, Some, None, inl, inr, refl, sym, ap, ◌∙◌, subst, arith, min}
+use Rattle.std.proofs.Common.{◌≡◌, ℕ, ◌-◌, ◌<◌, ◌≤◌, Bool, false, List, [], ◌∷◌, ◌++◌, length, get_or, Option, Some, None, inl, inr, refl, sym, ap, ◌∙◌, subst, arith, min}
 use Rattle.std.specs.Prelude.{ℤ}
 use Rattle.std.specs.List.{AllPairs}
 use Rattle.std.specs.Option.{option_map}
@@ -13,7 +13,7 @@ use Rattle.asp_trail.specs.Told.{Told}
 use Rattle.asp_trail.specs.Quiet.{is_calm}
 use Rattle.asp_trail.specs.Reasons.{IsReason}
 use Rattle.asp_store.specs.declared.kept.Kept.{Kept}
-use Rattle.asp_store.specs.Keeping.{kept_at, nogood_at}
+use Rattle.asp_store.specs.Keeping.{nogood_at}
 use Rattle.asp_store.specs.Storing.{Stored, Fits, added}
 use Rattle.asp_store.proofs.FitsLaws.{fits_open, fits_imply, fits_cut, fits_clear, fits_add}
 use Rattle.asp_store.proofs.WalkLaws.{kept_within}
@@ -22,7 +22,7 @@ use Rattle.asp_store.specs.Walking.{IsViolated}
 use Rattle.asp_follow.specs.Following.{WasTold, IsFollowed, IsReduced, AreUnlocked, AreCalm, Implies, GoesOn}
 use Rattle.asp_follow.specs.Locking.{HaveSlots}
 use Rattle.asp_follow.proofs.TellLaws.{told_extends, told_cut, told_none}
-use Rattle.asp_follow.proofs.AddLaws.{unlocked_push, adds_none, implies_from}
+use Rattle.asp_follow.proofs.AddLaws.{unlocked_push, adds_none, adds_one, implies_none, implies_from}
 
 pub followed_open : (t : Told) (s : Stored) (r : Trailed) (n : ℕ) (e : Entry) → r.seen ≤ length r.entries → e.reason ≡ None → IsFollowed t s r n →
     IsFollowed t s (record r { entries = r.entries ++ e ∷ [] }) n
@@ -147,3 +147,30 @@ calm_settled vars now old new es v q h =
 pub violated_settled : (vars now : ℕ) (old new : List (Option Kept)) (es : List Entry) (id : ℕ) → now ≡ vars → new ≡ old → IsViolated vars old es id → IsViolated now new es id
 violated_settled vars now old new es id v q h =
     subst (λ (m : ℕ). IsViolated m new es id) (sym v) (subst (λ (xs : List (Option Kept)). IsViolated vars xs es id) (sym q) h)
+
+-- ---- what comes of asking
+pub asked_same : (t u : Told) (s z : Stored) (r : Trailed) (n : ℕ) → u ≡ t → z ≡ s → IsFollowed t s r n → IsFollowed u z r n
+asked_same t u s z r n p q f = subst (λ (x : Told). IsFollowed x z r n) (sym p) (subst (λ (x : Stored). IsFollowed t x r n) (sym q) f)
+
+pub asked_more : (t u : Told) (s z : Stored) (r : Trailed) (n : ℕ) (m : Nogood) → u ≡ t → z ≡ added s m false → IsOrdered r.vars r.entries → r.seen ≤ length r.entries →
+    IsFollowed t s r n → IsFollowed u z r n
+asked_more t u s z r n m p q o le f =
+    subst (λ (x : Told). IsFollowed x z r n) (sym p) (subst (λ (x : Stored). IsFollowed t x r n) (sym q) (followed_added t s r n m false o le f))
+
+pub goes_same : (gives : Nogood → Type 0) (t u : Told) (b c : Option (List ℤ)) (xs ys : List (Option Kept)) (es : List Entry) → u ≡ t → c ≡ b → ys ≡ xs →
+    GoesOn gives t u b c xs ys es es
+goes_same gives t u b c xs ys es p q e = record {
+  program = ap (λ (x : Told). x.program) p;
+  bound_stays = q;
+  adds = adds_none gives xs ys e;
+  implies = implies_none es;
+}
+
+pub goes_one : (gives : Nogood → Type 0) (t u : Told) (b c : Option (List ℤ)) (s z : Stored) (es : List Entry) (m : Nogood) → u ≡ t → c ≡ b → z ≡ added s m false → gives m →
+    GoesOn gives t u b c s.slots z.slots es es
+goes_one gives t u b c s z es m p q e g = record {
+  program = ap (λ (x : Told). x.program) p;
+  bound_stays = q;
+  adds = adds_one gives s.slots z.slots m (ap (λ (x : Stored). x.slots) e) g;
+  implies = implies_none es;
+}

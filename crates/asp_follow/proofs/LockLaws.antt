@@ -1,6 +1,6 @@
 -- What is dropped while the reasons of a trail are locked.
-use Rattle.std.proofs.Common.{◌≡◌, ◌≢◌, ℕ, suc, zero, ◌+◌, ◌/◌, ◌<◌, ◌≤◌, Bool, true, false, not, cond, ◌||◌, ◌&&◌, eqb, ltb, List, [], ◌∷◌, ◌++◌, length, take, fold, set, get_or, Option, Some, None, ◌⊎◌, inl, inr, refl, sym, ap, ◌∙◌, subst, arith, get_or-set_other}
-use Rattle.std.specs.List.{count_by, list_any}
+use Rattle.std.proofs.Common.{◌≡◌, ◌≢◌, ℕ, suc, zero, ◌+◌, ◌/◌, ◌<◌, Bool, true, false, not, cond, ◌||◌, ◌&&◌, eqb, ltb, List, [], ◌∷◌, length, take, set, get_or, Option, Some, None, ◌⊎◌, inl, inr, refl, sym, ap, ◌∙◌, subst, arith, get_or-set_other}
+use Rattle.std.specs.List.{count_by}
 use Rattle.std.proofs.lemmas.Bool.{eqb-true, eq-eqb, false≢true}
 use Rattle.std.proofs.lemmas.Bool.Decides.{nat_tests}
 use Rattle.std.proofs.lemmas.List.{length-set, take_more}
@@ -80,19 +80,20 @@ lock_next b es xs i d h =
     ap (λ (fs : List Entry). lock_all b fs xs) (take_more es i d h) ∙ fold-append (λ (ys : List (Option Kept)) (e : Entry). lock_reason b ys e.reason) xs (take i es) (get_or es i d ∷ [])
 
 -- ---- which are dropped
+either_each : (b : Bool) (o : Option Kept) (ys zs xs : List (Option Kept)) → is_spare o ≡ b →
+    ((j : ℕ) → (kept_at ys j ≡ kept_at xs j) ⊎ ((kept_at ys j ≡ None) × (is_spare (kept_at xs j) ≡ true))) →
+    ((j : ℕ) → (kept_at zs j ≡ kept_at xs j) ⊎ ((kept_at zs j ≡ None) × (is_spare (kept_at xs j) ≡ true))) → (j : ℕ) →
+    (kept_at (cond b (None ∷ ys) (o ∷ zs)) j ≡ kept_at (o ∷ xs) j) ⊎ ((kept_at (cond b (None ∷ ys) (o ∷ zs)) j ≡ None) × (is_spare (kept_at (o ∷ xs) j) ≡ true))
+either_each true o ys zs xs q h k zero = inr (refl, q)
+either_each true o ys zs xs q h k (suc j) = h j
+either_each false o ys zs xs q h k zero = inl refl
+either_each false o ys zs xs q h k (suc j) = k j
+
 oldest_each : (n : ℕ) (xs : List (Option Kept)) (id : ℕ) → (kept_at (without_oldest n xs) id ≡ kept_at xs id) ⊎ ((kept_at (without_oldest n xs) id ≡ None) × (is_spare (kept_at xs id) ≡ true))
 oldest_each n [] id = inl refl
 oldest_each zero (o ∷ xs) zero = inl refl
 oldest_each zero (o ∷ xs) (suc id) = oldest_each zero xs id
-oldest_each (suc n) (o ∷ xs) id = by (is_spare o) refl id
-  where
-    by : (b : Bool) → is_spare o ≡ b → (j : ℕ) →
-        (kept_at (cond b (None ∷ without_oldest n xs) (o ∷ without_oldest (suc n) xs)) j ≡ kept_at (o ∷ xs) j)
-        ⊎ ((kept_at (cond b (None ∷ without_oldest n xs) (o ∷ without_oldest (suc n) xs)) j ≡ None) × (is_spare (kept_at (o ∷ xs) j) ≡ true))
-    by true q zero = inr (refl, q)
-    by true q (suc j) = oldest_each n xs j
-    by false q zero = inl refl
-    by false q (suc j) = oldest_each (suc n) xs j
+oldest_each (suc n) (o ∷ xs) id = either_each (is_spare o) o (without_oldest n xs) (without_oldest (suc n) xs) xs refl (oldest_each n xs) (oldest_each (suc n) xs) id
 
 locked_not_spare : (o : Option Kept) → is_spare (with_lock true o) ≡ true → ⊥
 locked_not_spare None q = false≢true q

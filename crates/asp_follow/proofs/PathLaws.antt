@@ -1,9 +1,9 @@
 -- What callers see of a path, and what its parts are.
-use Rattle.std.proofs.Common.{◌≡◌, ℕ, ◌+◌, ◌≤◌, Bool, true, false, List, [], ◌∷◌, ◌++◌, length, replicate, min, Option, Some, None, refl, sym, ap, ◌∙◌, subst, arith}
+use Rattle.std.proofs.Common.{◌≡◌, ℕ, ◌+◌, ◌≤◌, Bool, true, false, List, [], length, replicate, min, Option, Some, None, sym, ap, ◌∙◌, subst, arith}
 use Rattle.std.specs.Prelude.{ℤ, Result, Ok, Err}
-use Rattle.std.specs.Result.{OnOk, OnErr, IfOk}
+use Rattle.std.specs.Result.{OnOk, OnErr}
 use Rattle.asp_model.specs.declared.program.Program.{Program}
-use Rattle.asp_vars.specs.Literals.{Literal, value_of}
+use Rattle.asp_vars.specs.Literals.{value_of}
 use Rattle.asp_vars.specs.Numbering.{var_count}
 use Rattle.asp_vars.specs.declared.nogood.Nogood.{Nogood}
 use Rattle.asp_trail.specs.declared.trail.Entry.{Entry}

@@ -50,7 +50,7 @@ useful_more p known S bound n u = record { good = base_more p known S bound n.ba
 turned : (o : Ordering) → is_lt o ≡ true → is_lt (ordering_reverse o) ≡ false
 turned Less e = refl
 turned Equal e = refl
-turned Greater e = refl
+turned Greater e = absurd (false≢true e)
 
 one_way : (c d : List ℤ) → betters c d ≡ true → betters d c ≡ false
 one_way c d e = ap is_lt (costs_total.antisymm d c) ∙ turned (slice_cmp int_cmp c d) e

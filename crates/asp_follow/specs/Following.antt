@@ -50,8 +50,8 @@ abbrev pub AreUnlocked : List (Option Kept) → Type 0
 AreUnlocked slots = (id : ℕ) (k : Kept) → kept_at slots id ≡ Some k → k.locked ≡ false
 
 -- The store fits the trail, which has room for all variables, and the propagator was told of the first n entries.
-pub record IsFollowed (told : Told) (store : Stored) (trail : Trailed) (n : ℕ) : Type 0 where
-  pub told : WasTold told trail n
+pub record IsFollowed (t : Told) (store : Stored) (trail : Trailed) (n : ℕ) : Type 0 where
+  pub told : WasTold t trail n
   pub room : trail.vars ≤ trail.room
   pub fits : Fits store trail
   pub unlocked : AreUnlocked store.slots

@@ -1,5 +1,5 @@
 //! Laws of the definitions. Each function's contract is a law, and its body is empty.
-ghost use Rattle.std.specs.Prelude.{◌≡◌, ◌++◌, ◌∷◌, [], List, Option, Some, ℤ};
+ghost use Rattle.std.specs.Prelude.{◌++◌, ◌∷◌, [], List, Option, Some, ℤ};
 ghost use Rattle.asp_model.specs.declared.program.Program.{Program};
 ghost use Rattle.asp_model.specs.Sets.{Atoms};
 ghost use Rattle.asp_vars.specs.declared.nogood.Nogood.{Nogood};

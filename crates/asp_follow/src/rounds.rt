@@ -3,7 +3,7 @@
 //! The store goes first, until it is quiet, and only then is the propagator told and asked: what is undone after a
 //! violated nogood of the store costs the propagator nothing. What it gives is kept, and is unit or violated, so that
 //! the store goes on.
-ghost use Rattle.std.specs.Prelude.{◌≡◌, ◌≤◌, ◌+◌, length, IfOk, OnErr, IfSome, IfNone};
+ghost use Rattle.std.specs.Prelude.{◌≡◌, ◌≤◌, ◌+◌, ℕ, length, IfOk, IfSome, IfNone};
 ghost use Rattle.asp_trail.specs.Entries.{assignment};
 ghost use Rattle.asp_store.specs.Walking.{IsViolated};
 ghost use Rattle.asp_follow.specs.Following.{WasTold, IsFollowed, GoesOn, AreCalm, IsQuiet, Asked};
@@ -57,8 +57,11 @@ fn ask<P: Propagator>(
     ensures bound { P.bound propagator.new ≡ P.bound propagator.old }
     ensures ok { IfOk result (Asked (P.silent (P.told propagator.old).program (P.bound propagator.old)) (P.gives (P.told propagator.old).program (P.bound propagator.old))
         (assignment trail.now.vars trail.now.entries) store.old store.new) }
-    ensures err { OnErr result (store.new ≡ store.old) }
+    ensures goes { GoesOn (P.gives (P.told propagator.old).program (P.bound propagator.old)) (P.told propagator.old) (P.told propagator.new) (P.bound propagator.old) (P.bound propagator.new)
+        store.old.slots store.new.slots trail.now.entries trail.now.entries }
+    ensures stays { (n : ℕ) → IsFollowed (P.told propagator.old) store.old trail.now n → IsFollowed (P.told propagator.new) store.new trail.now n }
 {
+    let _len = trail.len();
     match propagator.next(trail)? {
         None => Ok(false),
         Some(nogood) => {

@@ -1,5 +1,5 @@
 //! Each call once, with a propagator that has nothing to say while the last variable has no value.
-ghost use Rattle.std.specs.Prelude.{◌≡◌, ◌+◌, ◌∷◌, [], None, IfOk, OnOk, length, replicate};
+ghost use Rattle.std.specs.Prelude.{◌≡◌, ◌∷◌, [], None, IfOk, length};
 ghost use Rattle.asp_vars.specs.Literals.{T};
 ghost use Rattle.asp_vars.specs.Numbering.{var_count};
 
@@ -27,7 +27,7 @@ struct Mute {
 }
 
 impl Propagator for Mute {
-    ghost use Rattle.std.specs.Prelude.{◌≡◌, ◌×◌, ℕ, None};
+    ghost use Rattle.std.specs.Prelude.{◌≡◌, ℕ, None};
     ghost use Rattle.asp_vars.specs.Literals.{value_of};
     ghost use Rattle.asp_vars.specs.Numbering.{var_count};
     ghost use Rattle.asp_trail.specs.Trails.{IsVar};

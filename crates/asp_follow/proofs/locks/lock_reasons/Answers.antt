@@ -1,9 +1,8 @@
-use Rattle.std.proofs.Common.{◌≡◌, ℕ, ◌+◌, ◌<◌, List, Option, None, true, length, get_or, take, sym, ap, ◌∙◌, subst, arith}
-use Rattle.std.proofs.lemmas.List.{take_all}
+use Rattle.std.proofs.Common.{◌≡◌, ◌<◌, List, Option, None, true, length, get_or, take, sym, ap, ◌∙◌, subst, arith}
 use Rattle.asp_trail.specs.declared.trail.Entry.{Entry}
 use Rattle.asp_store.specs.declared.kept.Kept.{Kept}
 use Rattle.asp_store.specs.Storing.{Stored}
-use Rattle.asp_follow.specs.Locking.{lock_reason, lock_all, HaveSlots}
+use Rattle.asp_follow.specs.Locking.{lock_reason, HaveSlots}
 use Rattle.asp_follow.proofs.LockLaws.{lock_all_length, lock_next}
 use Rattle.asp_follow.proofs.locks.lock_reasons.Goals as goal
 

@@ -1,7 +1,9 @@
-use Rattle.std.proofs.Common.{◌≡◌, ℕ, List, Option, length, sym, ap, ◌∙◌, subst, refl}
+use Rattle.std.proofs.Common.{sym, ap, ◌∙◌, subst, refl}
 use Rattle.asp_trail.specs.Trails.{Trailed}
+use Rattle.asp_store.specs.declared.propagation.Propagated.{Propagated}
 use Rattle.asp_store.specs.Storing.{Stored}
-use Rattle.asp_follow.specs.Following.{WasTold, IsFollowed}
+use Rattle.asp_store.specs.Walking.{Propagates}
+use Rattle.asp_follow.specs.Following.{WasTold}
 use Rattle.asp_follow.proofs.FollowLaws.{followed_settled, told_settled, goes_settled, calm_settled, violated_settled}
 use Rattle.asp_follow.proofs.rounds.settle.Goals as goal
 
@@ -30,7 +32,8 @@ pub returns-in-Violated-clause-violated : goal.returns-in-Violated-clause-violat
 returns-in-Violated-clause-violated g c =
     let p = c.propagate-found in
     violated_settled c.args.store.now.vars p.new.trail.vars c.args.store.now.slots p.new.self.slots p.new.trail.entries c.in-Violated.id
-    (ap (λ (x : Trailed). x.vars) p.ensures.trail ∙ c.requires.fits.same_vars) (ap (λ (x : Stored). x.slots) p.ensures.store) ?
+    (ap (λ (x : Trailed). x.vars) p.ensures.trail ∙ c.requires.fits.same_vars) (ap (λ (x : Stored). x.slots) p.ensures.store)
+    (subst (λ (r : Propagated). Propagates c.args.store.now.vars c.args.store.now.slots p.new.trail.entries r) c.in-Violated.is p.ensures.propagates)
 
 pub returns-in-Quiet-clause-followed : goal.returns-in-Quiet-clause-followed
 returns-in-Quiet-clause-followed g c =
@@ -52,4 +55,5 @@ pub returns-in-Quiet-clause-calm : goal.returns-in-Quiet-clause-calm
 returns-in-Quiet-clause-calm g c =
     let p = c.propagate-found in
     calm_settled c.args.store.now.vars p.new.trail.vars c.args.store.now.slots p.new.self.slots p.new.trail.entries
-    (ap (λ (x : Trailed). x.vars) p.ensures.trail ∙ c.requires.fits.same_vars) (ap (λ (x : Stored). x.slots) p.ensures.store) ?
+    (ap (λ (x : Trailed). x.vars) p.ensures.trail ∙ c.requires.fits.same_vars) (ap (λ (x : Stored). x.slots) p.ensures.store)
+    (subst (λ (r : Propagated). Propagates c.args.store.now.vars c.args.store.now.slots p.new.trail.entries r) c.in-Quiet.is p.ensures.propagates)

@@ -1,4 +1,4 @@
-use Rattle.std.proofs.Common.{◌≡◌, ℕ, ◌+◌, sym, ap, subst, arith}
+use Rattle.std.proofs.Common.{ℕ, sym, ap, subst}
 use Rattle.asp_trail.specs.Told.{Told}
 use Rattle.asp_trail.specs.Trails.{IsVar}
 use Rattle.asp_follow.specs.Following.{WasTold}

@@ -153,3 +153,7 @@ loop-turn-preserved c =
       same = c.step.ensures.same ∙ ap (λ (s : Trailed). let r : Trailed = record s { entries = after.entries } in r) c.loop-turn.invariant.same;
       extends = extends_more c.args.slots.now t.entries c.loop-turn.trail.entries after.entries c.loop-turn.invariant.extends c.step.ensures.extends;
     }
+
+pub returns-in-Violated-clause-extends : goal.returns-in-Violated-clause-extends
+returns-in-Violated-clause-extends c =
+    extends_more c.args.slots.now c.args.trail.now.entries c.loop-turn.trail.entries c.step.new.trail.entries c.loop-turn.invariant.extends c.step.ensures.extends

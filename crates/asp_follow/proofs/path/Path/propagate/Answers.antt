@@ -1,7 +1,6 @@
-use Rattle.std.proofs.Common.{◌≡◌, ℕ, List, Option, sym, ap, ◌∙◌, subst}
+use Rattle.std.proofs.Common.{ℕ, List, Option, sym, ap, ◌∙◌, subst}
 use Rattle.std.specs.Prelude.{ℤ, IfOk, IfSome, IfNone}
 use Rattle.asp_model.specs.declared.program.Program.{Program}
-use Rattle.asp_vars.specs.Numbering.{var_count}
 use Rattle.asp_trail.specs.Entries.{assignment}
 use Rattle.asp_store.specs.Walking.{IsViolated}
 use Rattle.asp_follow.specs.Following.{Following, Adds, Implies, IsQuiet}

@@ -1,4 +1,4 @@
-use Rattle.std.proofs.Common.{◌≡◌, ℕ, List, Some, refl, sym, ap, ◌∙◌, subst}
+use Rattle.std.proofs.Common.{Some, refl, sym, ap, ◌∙◌, subst}
 use Rattle.asp_trail.specs.Told.{Told}
 use Rattle.asp_follow.specs.Useful.{IsSmaller}
 use Rattle.asp_follow.specs.Following.{Following, IsFollowed}

@@ -1,4 +1,4 @@
-use Rattle.std.proofs.Common.{◌≡◌, ℕ, List, sym, ap, ◌∙◌, subst}
+use Rattle.std.proofs.Common.{sym, ap, ◌∙◌, subst}
 use Rattle.asp_trail.specs.Entries.{cut}
 use Rattle.asp_trail.specs.Trails.{Trailed}
 use Rattle.asp_follow.specs.Following.{Following, IsFollowed}
