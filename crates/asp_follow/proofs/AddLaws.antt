@@ -5,6 +5,7 @@ use Rattle.std.specs.List.{All}
 use Rattle.std.specs.Option.{unwrap_or}
 use Rattle.std.proofs.lemmas.List.{append-nil, map-append}
 use Rattle.std.proofs.lemmas.List.Elements.{All-append, All-head, All-tail}
+use Rattle.asp_model.specs.declared.program.Program.{Program}
 use Rattle.asp_vars.specs.declared.nogood.Nogood.{Nogood}
 use Rattle.asp_trail.specs.declared.trail.Entry.{Entry}
 use Rattle.asp_trail.specs.Entries.{level}
@@ -102,3 +103,10 @@ goes_more gives t u v b c d xs ys zs es fs gs x y = record {
   adds = adds_more gives xs ys zs x.adds y.adds;
   implies = implies_more es fs gs x.implies y.implies;
 }
+
+-- of a propagator that may give more under another bound: the bound stays
+pub goes_then : (gives : Program → Option (List ℤ) → Nogood → Type 0) (t u v : Told) (b c d : Option (List ℤ)) (xs ys zs : List (Option Kept)) (es fs gs : List Entry) →
+    GoesOn (gives t.program b) t u b c xs ys es fs → GoesOn (gives u.program c) u v c d ys zs fs gs → GoesOn (gives t.program b) t v b d xs zs es gs
+goes_then gives t u v b c d xs ys zs es fs gs x y =
+    goes_more (gives t.program b) t u v b c d xs ys zs es fs gs x
+    (subst (λ (p : Program). GoesOn (gives p b) u v c d ys zs fs gs) x.program (subst (λ (q : Option (List ℤ)). GoesOn (gives u.program q) u v c d ys zs fs gs) x.bound_stays y))
