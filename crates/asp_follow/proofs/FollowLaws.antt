@@ -1,5 +1,5 @@
 -- What follows a trail does so still, through each change.
-use Rattle.std.proofs.Common.{◌≡◌, ℕ, ◌-◌, ◌<◌, ◌≤◌, Bool, false, List, [], ◌∷◌, ◌++◌, length, get_or, Option, Some, None, inl, inr, refl, sym, ap, ◌∙◌, subst, arith, min}
+use Rattle.std.proofs.Common.{◌≡◌, ℕ, zero, suc, set, ◌-◌, ◌<◌, ◌≤◌, Bool, false, List, [], ◌∷◌, ◌++◌, length, get_or, Option, Some, None, inl, inr, refl, sym, ap, ◌∙◌, subst, arith, min}
 use Rattle.std.specs.Prelude.{ℤ}
 use Rattle.std.specs.List.{AllPairs}
 use Rattle.std.specs.Option.{option_map}
@@ -14,15 +14,18 @@ use Rattle.asp_trail.specs.Quiet.{is_calm}
 use Rattle.asp_trail.specs.Reasons.{IsReason}
 use Rattle.asp_store.specs.declared.kept.Kept.{Kept}
 use Rattle.asp_store.specs.Keeping.{nogood_at}
-use Rattle.asp_store.specs.Storing.{Stored, Fits, added}
-use Rattle.asp_store.proofs.FitsLaws.{fits_open, fits_imply, fits_cut, fits_clear, fits_add}
+use Rattle.asp_store.specs.Storing.{Stored, Fits, added, removed, Recalls, AreActive}
+use Rattle.asp_store.proofs.FitsLaws.{fits_open, fits_imply, fits_cut, fits_clear, fits_add, fits_recall, fits_remove}
 use Rattle.asp_store.proofs.WalkLaws.{kept_within}
 use Rattle.asp_store.specs.Visiting.{Extends}
 use Rattle.asp_store.specs.Walking.{IsViolated}
-use Rattle.asp_follow.specs.Following.{WasTold, IsFollowed, IsReduced, AreUnlocked, AreCalm, Implies, GoesOn}
+use Rattle.asp_follow.specs.Following.{WasTold, IsFollowed, IsUnnamed, IsReduced, AreUnlocked, AreCalm, Implies, GoesOn}
 use Rattle.asp_follow.specs.Locking.{HaveSlots}
 use Rattle.asp_follow.proofs.TellLaws.{told_extends, told_cut, told_none}
 use Rattle.asp_follow.proofs.AddLaws.{unlocked_push, adds_none, adds_one, implies_none, implies_from}
+
+none_some : {A : Type 0} (x : A) → None ≡ Some x → ⊥
+none_some x q = cc
 
 pub followed_open : (t : Told) (s : Stored) (r : Trailed) (n : ℕ) (e : Entry) → r.seen ≤ length r.entries → e.reason ≡ None → IsFollowed t s r n →
     IsFollowed t s (record r { entries = r.entries ++ e ∷ [] }) n
@@ -64,20 +67,34 @@ followed_cut t u s r n m l rising low w f =
       unlocked = f.unlocked;
     }
 
-pub followed_clear : (t u : Told) (s : Stored) (r : Trailed) (n : ℕ) → WasTold u r 0 → IsFollowed t s r n → IsFollowed u s (record r { entries = []; seen = 0 }) 0
-followed_clear t u s r n w f = record {
+pub followed_clear : (t u : Told) (s z : Stored) (r : Trailed) (n : ℕ) → IsOrdered r.vars r.entries → r.seen ≤ length r.entries → z ≡ record s { watches = z.watches } →
+    Recalls s z → AreActive z → WasTold u r 0 → IsFollowed t s r n → IsFollowed u z (record r { entries = []; seen = 0 }) 0
+followed_clear t u s z r n o le same back active w f = record {
   told = told_none u r (record r { entries = []; seen = 0 }) refl w;
   room = f.room;
-  fits = fits_clear s r f.fits;
-  unlocked = f.unlocked;
+  fits = fits_clear z r active (fits_recall s z r same back o le f.fits);
+  unlocked = subst AreUnlocked (sym (ap (λ (x : Stored). x.slots) same)) f.unlocked;
+}
+
+-- ---- one nogood less
+unlocked_removed : (slots : List (Option Kept)) (j : ℕ) → AreUnlocked slots → AreUnlocked (set slots j None)
+unlocked_removed [] j u id k g = u id k g
+unlocked_removed (o ∷ slots) zero u zero k g = absurd (none_some k g)
+unlocked_removed (o ∷ slots) zero u (suc id) k g = u (suc id) k g
+unlocked_removed (o ∷ slots) (suc j) u zero k g = u 0 k g
+unlocked_removed (o ∷ slots) (suc j) u (suc id) k g = unlocked_removed slots j (λ i l h. u (suc i) l h) id k g
+
+pub followed_removed : (t : Told) (s : Stored) (r : Trailed) (n id : ℕ) → IsUnnamed r.entries id → IsFollowed t s r n → IsFollowed t (removed s id) r n
+followed_removed t s r n id unnamed f = record {
+  told = f.told;
+  room = f.room;
+  fits = fits_remove s r id unnamed f.fits;
+  unlocked = unlocked_removed s.slots id f.unlocked;
 }
 
 -- ---- a reduction
 pub have_slots : (s : Stored) (r : Trailed) → Fits s r → HaveSlots r.entries (length s.slots)
 have_slots s r f i d id h q = let o = f.reasons i d id h q in kept_within s.slots id o.0 o.1
-
-none_some : {A : Type 0} (x : A) → None ≡ Some x → ⊥
-none_some x q = cc
 
 fits_reduced : (s : Stored) (r : Trailed) (slots : List (Option Kept)) → IsReduced r.entries s.slots slots → Fits s r → Fits (record s { slots = slots }) r
 fits_reduced s r slots red f = record {

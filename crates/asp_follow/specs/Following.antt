@@ -1,5 +1,5 @@
 -- A trail with what follows it: a store of nogoods, and a propagator.
-use Rattle.std.specs.Prelude.{◌≡◌, ℕ, ◌<◌, ◌≤◌, ◌⊎◌, Bool, true, false, List, [], ◌∷◌, ◌++◌, map, take, length, Option, Some, None, ℤ, IsTrue, slice_index_or}
+use Rattle.std.specs.Prelude.{◌≡◌, ◌≢◌, ℕ, ◌<◌, ◌≤◌, ◌⊎◌, Bool, true, false, List, [], ◌∷◌, ◌++◌, map, take, length, Option, Some, None, ℤ, IsTrue, slice_index_or, slice_set}
 use Rattle.std.specs.List.{All}
 use Rattle.asp_model.specs.declared.program.Program.{Program}
 use Rattle.asp_vars.specs.Literals.{Literal}
@@ -34,6 +34,14 @@ with_entry s l b reason = record s { entries = s.entries ++ record { lit = l; le
 -- one nogood more
 abbrev pub with_nogood : Following → Nogood → Bool → Following
 with_nogood s n forever = record s { slots = s.slots ++ Some (record { nogood = n; forever = forever; locked = false }) ∷ [] }
+
+-- one nogood less
+abbrev pub without_nogood : Following → ℕ → Following
+without_nogood s id = record s { slots = slice_set s.slots id None }
+
+-- No entry was implied by the nogood under this number.
+abbrev pub IsUnnamed : List Entry → ℕ → Type 0
+IsUnnamed entries id = (i : ℕ) (d : Entry) → i < length entries → (slice_index_or entries i d).reason ≢ Some id
 
 -- The literal follows by the nogood under this number, which is kept.
 abbrev pub IsImplied : Following → Literal → ℕ → Type 0

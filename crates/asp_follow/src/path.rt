@@ -11,7 +11,7 @@ ghost use Rattle.asp_trail.specs.Trails.{IsVar};
 ghost use Rattle.asp_store.specs.Fitting.{HaveReasons};
 ghost use Rattle.asp_store.specs.Walking.{IsViolated};
 ghost use Rattle.asp_follow.specs.Useful.{IsSmaller};
-ghost use Rattle.asp_follow.specs.Following.{values_of, with_entry, with_nogood, IsImplied, Adds, Implies, IsQuiet, IsReduced};
+ghost use Rattle.asp_follow.specs.Following.{values_of, with_entry, with_nogood, without_nogood, IsUnnamed, IsImplied, Adds, Implies, IsQuiet, IsReduced};
 ghost use Rattle.asp_follow.specs.Locking.{thinned};
 
 use crate::locks::lock_reasons;
@@ -163,8 +163,10 @@ impl<P: Propagator> Path<P> {
     pub fn clear(&mut self)
         ensures { self.new ≡ record self.old { entries = [] } }
     {
+        let _len = self.trail.len();
         untell(&mut self.propagator, &self.trail, self.told);
         self.told = 0;
+        self.store.recall();
         self.trail.clear();
     }
 
@@ -174,6 +176,15 @@ impl<P: Propagator> Path<P> {
         ensures { self.new ≡ record self.old { bound = Some cost } }
     {
         self.propagator.set_bound(cost);
+    }
+
+    /// Drops one nogood, which is no entry's reason.
+    pub fn remove(&mut self, id: NogoodId)
+        requires slot { id < length self.old.slots }
+        requires unnamed { IsUnnamed self.old.entries id }
+        ensures { self.new ≡ without_nogood self.old id }
+    {
+        self.store.remove(id);
     }
 
     /// Drops the older half, rounded down, of the nogoods that weren't added forever, aren't reasons and have more than

@@ -5,7 +5,7 @@ use Rattle.std.specs.Bool.{beq}
 use Rattle.std.specs.Option.{is_none}
 use Rattle.std.proofs.lemmas.Bool.{false≢true}
 use Rattle.std.proofs.lemmas.Bool.Decides.{nat_tests}
-use Rattle.asp_vars.specs.Literals.{Literal, T, has_literal, literal_eq, holds_in, agrees, value_of}
+use Rattle.asp_vars.specs.Literals.{Literal, T, F, has_literal, literal_eq, holds_in, agrees, value_of}
 use Rattle.asp_trail.specs.declared.trail.Entry.{Entry}
 use Rattle.asp_trail.specs.Entries.{assignment, level_in, cut}
 use Rattle.asp_trail.specs.Trails.{IsOrdered}
@@ -15,7 +15,7 @@ use Rattle.asp_trail.specs.Quiet.{is_calm}
 use Rattle.asp_store.specs.Fitting.{IsWatched, IsSettled}
 use Rattle.asp_trail.proofs.QuietLaws.{calm_by_one, calm_by_two}
 use Rattle.asp_store.proofs.LookLaws.{stands_found}
-use Rattle.asp_store.proofs.WatchLaws.{watches_grow, watches_cut, false_grow}
+use Rattle.asp_store.proofs.WatchLaws.{watches_grow, watches_cut, false_grow, false_cut}
 
 pub false_value : (vars : ℕ) (es : List Entry) (v : Literal) (b : ℕ) → IsOrdered vars es → IsFalseBy es v b → value_of (assignment vars es) v.var ≡ Some (not v.truth)
 false_value vars es v b o f =
@@ -31,37 +31,53 @@ pub beq_other : (t : Bool) → beq (not t) t ≡ false
 beq_other true = refl
 beq_other false = refl
 
-by_false : (vars : ℕ) (es : List Entry) (n : List Literal) (v : Literal) (b : ℕ) → IsOrdered vars es → (v ≡ T 0) ⊎ (has_literal n v ≡ true) → IsFalseBy es v b →
+by_false : (vars : ℕ) (es : List Entry) (n : List Literal) (v : Literal) (b : ℕ) → IsOrdered vars es → (v.var ≡ 0) ⊎ (has_literal n v ≡ true) → IsFalseBy es v b →
     is_calm (assignment vars es) n ≡ true
 by_false vars es n v b o h f =
     let q = false_value vars es v b o f in
     elim h [
-      | inl z ↦ absurd (omega (arith, ap (λ (l : Literal). l.var) z, false_real vars es v b o f))
+      | inl z ↦ absurd (omega (arith, z, false_real vars es v b o f))
       | inr g ↦ calm_by_one (assignment vars es) n v g (ap (λ x. agrees x v) q ∙ beq_other v.truth) (ap is_none q)
     ]
+
+-- a watch of no variable is at T 0 or at F 0
+none_false : (w v : Literal) (es : List Entry) → (w ≡ T 0 → (b : ℕ) × IsFalseBy es v b) → (w ≡ F 0 → IsFalseBy es v 0) → w.var ≡ 0 → (b : ℕ) × IsFalseBy es v b
+none_false w v es whole retired z = cases w.truth refl
+  where
+    is : (b : Bool) → b ≡ w.truth → w ≡ record { var = 0; truth = b }
+    is b q = λ i. record { var = z i; truth = (sym q) i }
+
+    cases : (b : Bool) → b ≡ w.truth → (c : ℕ) × IsFalseBy es v c
+    cases true q = whole (is true q)
+    cases false q = (0, retired (is false q))
 
 -- a nogood that is watched and settled is neither unit nor violated
 pub calm_watched : (vars : ℕ) (es : List Entry) (n : List Literal) (w v : Literal) → IsOrdered vars es → IsWatched n w v es (length es) → IsSettled w v es →
     is_calm (assignment vars es) n ≡ true
 calm_watched vars es n w v o t s =
     elim t.left [
-      | inl z ↦ by_false vars es n v (s.left z).0 o t.right (s.left z).1
+      | inl z ↦ by_right z
       | inr hw ↦ elim t.right [
-        | inl z ↦ by_false vars es n w (s.right z).0 o t.left (s.right z).1
+        | inl z ↦ by_left z
         | inr hv ↦ both hw hv (holds_in (assignment vars es) w) (holds_in (assignment vars es) v) refl refl t.differ
       ]
     ]
   where
+    by_right : w.var ≡ 0 → is_calm (assignment vars es) n ≡ true
+    by_right z = let f = none_false w v es s.left t.left_retired z in by_false vars es n v f.0 o t.right f.1
+
+    by_left : v.var ≡ 0 → is_calm (assignment vars es) n ≡ true
+    by_left z = let f = none_false v w es s.right t.right_retired z in by_false vars es n w f.0 o t.left f.1
+
     both : has_literal n w ≡ true → has_literal n v ≡ true → (x y : Bool) → x ≡ holds_in (assignment vars es) w → y ≡ holds_in (assignment vars es) v →
-        (w ≡ T 0) ⊎ (literal_eq w v ≡ false) → is_calm (assignment vars es) n ≡ true
+        (w.var ≡ 0) ⊎ (literal_eq w v ≡ false) → is_calm (assignment vars es) n ≡ true
     both hw hv true y p q c =
         let f = stands_found vars es w o (sym p) in
         by_false vars es n v (level_in es w.var) o (inr hv) (t.from_left f.0 (level_in es w.var) f.1.within f.1)
     both hw hv false true p q c =
         let f = stands_found vars es v o (sym q) in
         by_false vars es n w (level_in es v.var) o (inr hw) (t.from_right f.0 (level_in es v.var) f.1.within f.1)
-    both hw hv false false p q (inl z) =
-        by_false vars es n v (s.left z).0 o t.right (s.left z).1
+    both hw hv false false p q (inl z) = by_right z
     both hw hv false false p q (inr d) =
         calm_by_two (assignment vars es) n w v hw hv (λ e. false≢true (sym d ∙ ap (λ k. literal_eq k v) e ∙ same v)) (sym p) (sym q)
       where
@@ -80,6 +96,8 @@ watched_grow es fs seen n w v k t = record {
   differ = t.differ;
   from_left = watches_grow es fs seen w v k t.from_left;
   from_right = watches_grow es fs seen v w k t.from_right;
+  left_retired = λ z. false_grow es fs v 0 (t.left_retired z);
+  right_retired = λ z. false_grow es fs w 0 (t.right_retired z);
 }
 
 pub watched_cut : (l : ℕ) (es : List Entry) (seen : ℕ) (n : List Literal) (w v : Literal) → AllPairs (λ e f. e.level ≤ f.level) es → IsWatched n w v es seen →
@@ -90,6 +108,8 @@ watched_cut l es seen n w v r t = record {
   differ = t.differ;
   from_left = watches_cut l es seen w v r t.from_left;
   from_right = watches_cut l es seen v w r t.from_right;
+  left_retired = λ z. false_cut l es v 0 r (omega arith) (t.left_retired z);
+  right_retired = λ z. false_cut l es w 0 r (omega arith) (t.right_retired z);
 }
 
 pub settled_grow : (es fs : List Entry) (w v : Literal) → IsSettled w v es → IsSettled w v (es ++ fs)

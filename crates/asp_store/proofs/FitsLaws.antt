@@ -15,12 +15,13 @@ use Rattle.asp_store.specs.Keeping.{kept_at, nogood_at, is_spare, with_lock, wit
 use Rattle.asp_trail.specs.Reasons.{IsReason}
 use Rattle.asp_store.specs.Watching.{Watches}
 use Rattle.asp_store.specs.Fitting.{IsWatched, HaveReasons}
-use Rattle.asp_store.specs.Storing.{Stored, watch, Fits, added, locked_at}
-use Rattle.asp_store.proofs.WatchLaws.{reason_grow, reason_cut, cut_at}
+use Rattle.asp_store.specs.Storing.{Stored, watch, Fits, added, removed, locked_at, Recalls, AreActive}
+use Rattle.asp_store.proofs.WatchLaws.{reason_grow, reason_cut, cut_at, none_differ}
 use Rattle.asp_store.proofs.FitLaws.{watched_grow, watched_cut}
 use Rattle.asp_store.proofs.LookLaws.{watches_none}
 use Rattle.asp_store.proofs.VisitLaws.{reasons_new}
-use Rattle.asp_store.proofs.StoreLaws.{end_default, locked_same, oldest_kept, oldest_length}
+use Rattle.asp_store.proofs.RecallLaws.{watched_back}
+use Rattle.asp_store.proofs.StoreLaws.{end_default, locked_same, removed_kept, removed_else, oldest_kept, oldest_length}
 use Rattle.asp_store.proofs.WalkLaws.{kept_within}
 
 -- ---- the trail changes
@@ -78,8 +79,8 @@ fits_cut s t l rising f = record {
   watched = λ id n g. watched_cut l t.entries t.seen n.lits (watch s (2 * id + 1)) (watch s (2 * id)) rising (f.watched id n g);
 }
 
-pub fits_clear : (s : Stored) (t : Trailed) → Fits s t → Fits s (record t { entries = []; seen = 0 })
-fits_clear s t f = record {
+pub fits_clear : (s : Stored) (t : Trailed) → AreActive s → Fits s t → Fits s (record t { entries = []; seen = 0 })
+fits_clear s t active f = record {
   same_vars = f.same_vars;
   paired = f.paired;
   reasons = λ i d id h q. absurd (omega arith);
@@ -89,6 +90,8 @@ fits_clear s t f = record {
     differ = w.differ;
     from_left = λ i b h p. absurd (omega arith);
     from_right = λ i b h p. absurd (omega arith);
+    left_retired = λ z. absurd ((active id n g).1 z);
+    right_retired = λ z. absurd ((active id n g).0 z);
   };
 }
 
@@ -123,7 +126,15 @@ fits_add s t n forever o le f = record {
         let b : watch (added s n forever) (2 * id) ≡ T 0 = watch_stays s n forever (2 * id) ∙ get_or_past s.watches (2 * id) (T 0) (omega (arith, f.paired, z)) in
         subst (λ (l : Literal). IsWatched m.lits l (watch (added s n forever) (2 * id)) t.entries t.seen) (sym a)
         (subst (λ (l : Literal). IsWatched m.lits (T 0) l t.entries t.seen) (sym b)
-        record { left = inl refl; right = inl refl; differ = inl refl; from_left = open_watch 0; from_right = open_watch 0 })
+        record {
+          left = inl refl;
+          right = inl refl;
+          differ = inl refl;
+          from_left = open_watch 0;
+          from_right = open_watch 0;
+          left_retired = λ z. absurd (none_differ (T 0) refl z);
+          right_retired = λ z. absurd (none_differ (T 0) refl z);
+        })
     one id m g false q =
         let ne : id ≢ length s.slots = grind (arith, nat_tests) in
         let lt : id < length s.slots = omega (
@@ -142,6 +153,32 @@ fits_lock s t id b f = record {
   paired = omega (arith, f.paired, length-set s.slots id (with_lock b (kept_at s.slots id)));
   reasons = λ i d j h q. let r = f.reasons i d j h q in (r.0, locked_same b s.slots id j ∙ r.1, r.2);
   watched = λ j n g. f.watched j n (sym (locked_same b s.slots id j) ∙ g);
+}
+
+-- the retired ones are recalled
+pub fits_recall : (s r : Stored) (t : Trailed) → r ≡ record s { watches = r.watches } → Recalls s r → IsOrdered t.vars t.entries → t.seen ≤ length t.entries → Fits s t → Fits r t
+fits_recall s r t e back o le f = record {
+  same_vars = f.same_vars ∙ sym (ap (λ (x : Stored). x.vars) e);
+  paired = omega (arith, back.count, f.paired, ap (length {A = Option Kept}) slots);
+  reasons = subst (λ (xs : List (Option Kept)). HaveReasons xs t.entries) (sym slots) f.reasons;
+  watched = λ id n g.
+      watched_back t.vars t.entries t.seen n.lits (watch s (2 * id + 1)) (watch s (2 * id)) (watch r (2 * id + 1)) (watch r (2 * id)) o le (back.each (2 * id + 1)) (back.each (2 * id))
+      (f.watched id n (sym (ap (λ (xs : List (Option Kept)). nogood_at xs id) slots) ∙ g));
+}
+  where
+    slots : r.slots ≡ s.slots
+    slots = ap (λ (x : Stored). x.slots) e
+
+-- one nogood goes
+pub fits_remove : (s : Stored) (t : Trailed) (id : ℕ) → ((i : ℕ) (d : Entry) → i < length t.entries → (get_or t.entries i d).reason ≢ Some id) → Fits s t → Fits (removed s id) t
+fits_remove s t id unnamed f = record {
+  same_vars = f.same_vars;
+  paired = omega (arith, f.paired, length-set s.slots id None);
+  reasons = λ i d j h q.
+      let r = f.reasons i d j h q in
+      let ne : j ≢ id = λ e. unnamed i d h (q ∙ ap Some e) in
+      (r.0, removed_else s.slots id j ne ∙ r.1, r.2);
+  watched = λ j n g. f.watched j n (removed_kept s.slots id j n g);
 }
 
 -- one that is locked stays

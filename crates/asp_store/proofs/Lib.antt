@@ -8,4 +8,5 @@ pub mod PlaceLaws
 pub mod VisitLaws
 pub mod WalkLaws
 pub mod StoreLaws
+pub mod RecallLaws
 pub mod FitsLaws

@@ -183,6 +183,29 @@ locked_count b (Some k ∷ slots) zero = refl
 locked_count b (o ∷ slots) (suc id) =
     count_cons is_extra o (set slots id (with_lock b (kept_at slots id))) ∙ (ap (λ n. cond (is_extra o) 1 0 + n) (locked_count b slots id) ∙ sym (count_cons is_extra o slots))
 
+-- one nogood goes
+pub removed_else : (slots : List (Option Kept)) (id j : ℕ) → j ≢ id → nogood_at (set slots id None) j ≡ nogood_at slots j
+removed_else [] id j ne = refl
+removed_else (o ∷ slots) zero zero ne = absurd (ne refl)
+removed_else (o ∷ slots) zero (suc j) ne = refl
+removed_else (o ∷ slots) (suc id) zero ne = refl
+removed_else (o ∷ slots) (suc id) (suc j) ne = removed_else slots id j (λ q. ne (ap suc q))
+
+pub removed_kept : (slots : List (Option Kept)) (id j : ℕ) (n : Nogood) → nogood_at (set slots id None) j ≡ Some n → nogood_at slots j ≡ Some n
+removed_kept [] id j n g = g
+removed_kept (o ∷ slots) zero zero n g = absurd (none g)
+  where
+    none : None ≡ Some n → ⊥
+    none q = cc
+removed_kept (o ∷ slots) zero (suc j) n g = g
+removed_kept (o ∷ slots) (suc id) zero n g = g
+removed_kept (o ∷ slots) (suc id) (suc j) n g = removed_kept slots id j n g
+
+pub removed_count : (slots : List (Option Kept)) (id : ℕ) → cond (is_extra (kept_at slots id)) 1 0 + count_by is_extra (set slots id None) ≡ count_by is_extra slots
+removed_count [] id = refl
+removed_count (o ∷ slots) zero = omega (arith, count_cons is_extra None slots, count_cons is_extra o slots)
+removed_count (o ∷ slots) (suc id) = omega (arith, removed_count slots id, count_cons is_extra o (set slots id None), count_cons is_extra o slots)
+
 pub store_locked : (vars heads : ℕ) (slots : List (Option Kept)) (nodes : List Node) (extra id : ℕ) (b : Bool) → IsStore vars heads slots nodes extra →
     IsStore vars heads (set slots id (with_lock b (kept_at slots id))) nodes extra
 store_locked vars heads slots nodes extra id b s =

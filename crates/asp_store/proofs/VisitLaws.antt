@@ -6,7 +6,7 @@ use Rattle.std.proofs.lemmas.Bool.Decides.{nat_tests}
 use Rattle.std.proofs.lemmas.List.{length-append, get_or_append_left, get_or-append-add, get_or_push, append-nil}
 use Rattle.std.proofs.lemmas.List.Elements.{All-append}
 use Rattle.std.proofs.lemmas.Option.{slice_get-get_or}
-use Rattle.asp_vars.specs.Literals.{Literal, T, literal_eq, holds_in}
+use Rattle.asp_vars.specs.Literals.{Literal, F, literal_eq, holds_in}
 use Rattle.asp_vars.specs.Codes.{code_of}
 use Rattle.asp_vars.specs.declared.nogood.Nogood.{Nogood}
 use Rattle.asp_trail.specs.declared.trail.Entry.{Entry}
@@ -24,7 +24,7 @@ use Rattle.asp_store.specs.Visiting.{owner, AreWatched, IsImpliedAt, Extends, Fo
 use Rattle.asp_store.specs.Looking.{Found}
 use Rattle.asp_store.specs.declared.looks.Look.{Look}
 use Rattle.asp_store.specs.declared.looks.Look.TheVariants as look
-use Rattle.asp_store.proofs.LookLaws.{all_has}
+use Rattle.asp_store.proofs.LookLaws.{all_has, watches_none}
 use Rattle.asp_vars.proofs.LiteralLaws.{same_literal}
 use Rattle.std.specs.List.{All}
 use Rattle.asp_vars.specs.Literals.{agrees}
@@ -146,6 +146,8 @@ watched_after vars es fs seen n from v lit o k h t p = record {
   differ = elim p.has [ inl z ↦ inl z | inr g ↦ inr g.1 ];
   from_left = λ i b l s. p.watches i b (omega (arith, l, k, length-append es fs)) s;
   from_right = λ i b l s. absurd (never_false vars es from b o h (t.from_right i b l (stands_before es fs v i b (omega arith) s)));
+  left_retired = p.retired;
+  right_retired = λ z. absurd (never_false vars es from 0 o h (t.right_retired z));
 }
 
 pub watched_flip : (n : List Literal) (w v : Literal) (es : List Entry) (seen : ℕ) → IsWatched n w v es seen → IsWatched n v w es seen
@@ -154,15 +156,17 @@ watched_flip n w v es seen t = record {
   right = t.left;
   from_left = t.from_right;
   from_right = t.from_left;
+  left_retired = t.right_retired;
+  right_retired = t.left_retired;
   differ = cases (literal_eq v w) refl;
 }
   where
-    cases : (b : Bool) → b ≡ literal_eq v w → (v ≡ T 0) ⊎ (literal_eq v w ≡ false)
+    cases : (b : Bool) → b ≡ literal_eq v w → (v.var ≡ 0) ⊎ (literal_eq v w ≡ false)
     cases false q = inr (sym q)
     cases true q =
         let e : v ≡ w = same_literal v w (sym q) in
         elim t.differ [
-          | inl z ↦ inl (e ∙ z)
+          | inl z ↦ inl (ap (λ (l : Literal). l.var) e ∙ z)
           | inr d ↦ absurd (false≢true (sym d ∙ (ap (λ l. literal_eq w l) e ∙ (ap (λ l. literal_eq l w) (sym e) ∙ sym q))))
         ]
 
@@ -213,13 +217,25 @@ pub found_in : (vars id : ℕ) (slots : List (Option Kept)) (n : Nogood) (o from
     All (λ k. IsVar vars k.var) n.lits → Found vars n.lits o old new r → FoundIn vars slots id o from old new r
 found_in vars id slots n o from old new look.Violated k small f = (n, k, f.0, f.1)
 found_in vars id slots n o from old new (look.At w) k small f = (
-  elim f.has [ inl z ↦ omega (arith, ap (λ (l : Literal). l.var) z) | inr h ↦ (all_has (λ l. IsVar vars l.var) n.lits w small h.0).1 ],
+  elim f.has [ inl z ↦ omega (arith, z) | inr h ↦ (all_has (λ l. IsVar vars l.var) n.lits w small h.0).1 ],
   (λ m q. subst (λ (x : Nogood). IsPlace new x.lits o w) (ap (λ (x : Option Nogood). unwrap_or x n) (sym k ∙ q)) f),
   (λ q. absurd (none (sym k ∙ q))),
 )
   where
     none : Some n ≡ None → ⊥
     none q = cc
+
+-- one that is retired goes where none looks
+pub found_retired : (vars id : ℕ) (slots : List (Option Kept)) (o from lit : Literal) (es : List Entry) → IsOrdered vars es → lit ≡ F 0 → IsFalseBy es o 0 →
+    FoundIn vars slots id o from es es (look.At lit)
+found_retired vars id slots o from lit es ord e f = (
+  omega (arith, zero),
+  (λ n q. record { has = inl zero; listed = λ z. (0, f); retired = λ z. f; watches = watches_none vars es lit o ord zero }),
+  (λ q. e),
+)
+  where
+    zero : lit.var ≡ 0
+    zero = ap (λ (l : Literal). l.var) e
 
 pub code_within : (l : Literal) (vars : ℕ) → l.var ≤ vars → code_of l < 2 * vars + 2
 code_within l vars h = cases l.truth refl

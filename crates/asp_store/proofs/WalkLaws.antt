@@ -41,6 +41,7 @@ pub place_grow : (vars : ℕ) (es fs : List Entry) (n : List Literal) (v from : 
 place_grow vars es fs n v from o more holds p = record {
   has = p.has;
   listed = λ z. let f = p.listed z in (f.0, false_grow es fs v f.0 f.1);
+  retired = λ z. false_grow es fs v 0 (p.retired z);
   watches = λ i b l s. at i b s (eqb from.var 0) refl;
 }
   where
@@ -62,6 +63,8 @@ watched_next es seen n w v from at left right t = record {
   differ = t.differ;
   from_left = λ i b l s. step w v left t.from_left i b l s (eqb i seen) refl;
   from_right = λ i b l s. step v w right t.from_right i b l s (eqb i seen) refl;
+  left_retired = t.left_retired;
+  right_retired = t.right_retired;
 }
   where
     step : (x y : Literal) → (x ≡ from → Watches es (length es) x y) → Watches es seen x y → (i b : ℕ) → i < suc seen → Stands es x i b →
@@ -115,7 +118,7 @@ holds_grow vars es new fs l o more e h =
     (holds_at vars new f.0 d l more s.within (s.lit d), stands_level vars new l f.0 (level_in es l.var) more s)
 
 -- what is among u and these is among these, or u
-among_rest : (u x : ℕ) (rest : List ℕ) → among (u ∷ rest) x ≡ true → x ≢ u → among rest x ≡ true
+pub among_rest : (u x : ℕ) (rest : List ℕ) → among (u ∷ rest) x ≡ true → x ≢ u → among rest x ≡ true
 among_rest u x rest h ne =
     let no : eqb u x ≡ false = grind (arith, nat_tests) in
     sym (ap (λ b. b || among rest x) no) ∙ h
@@ -232,7 +235,7 @@ step_moved vars heads slots nodes after es new fs seen from lit level z u rest o
             IsPlace es n.lits (other nodes x) from → ⊥
         twice x n lo hi g old here p =
             elim p.has [
-              | inl z ↦ let f = p.listed z in omega (arith, false_real vars es (other nodes x) f.0 o f.1, ap (λ (l : Literal). l.var) (here ∙ z))
+              | inl z ↦ let f = p.listed (w.unreal z) in omega (arith, false_real vars es (other nodes x) f.0 o f.1, ap (λ (l : Literal). l.var) here, z)
               | inr h ↦ false≢true (sym h.1 ∙ (ap (λ l. literal_eq from l) here ∙ eq_itself from))
             ]
     one x n lo hi g at false q false r =
@@ -273,10 +276,11 @@ pub quick_place : (vars heads : ℕ) (slots : List (Option Kept)) (nodes : List 
 quick_place vars heads slots nodes es seen from level z u rest o pos f w hi lo was n g =
     let t = subst (λ (l : Literal). IsWatched n.lits l (other nodes u) es seen) was (w.sound.watched u n lo hi g) in
     let le : level ≤ level_in es from.var = omega (arith, w.level_is pos) in
-    let no : from ≡ T 0 → ⊥ = λ z. omega (arith, pos, ap (λ (l : Literal). l.var) z) in
+    let no : from.var ≡ 0 → ⊥ = λ z. omega (arith, pos, z) in
     record {
       has = elim t.left [ inl z ↦ absurd (no z) | inr h ↦ inr (h, (elim t.differ [ inl z ↦ absurd (no z) | inr d ↦ d ])) ];
-      listed = λ z. absurd (no z);
+      listed = λ z. absurd (no (ap (λ (l : Literal). l.var) z));
+      retired = λ z. absurd (no (ap (λ (l : Literal). l.var) z));
       watches = watches_above vars es from (other nodes u) level o f le;
     }
 
@@ -312,7 +316,7 @@ any_below (x ∷ xs) n q a h = cases (eqb q x) refl (any_below xs n q (All-tail 
     cases true e rest = let is : q ≡ x = eqb-true q x (sym e) in omega (arith, is, All-head (λ x. x < n) x xs a)
     cases false e rest = rest (ap (λ b. b || list_any (eqb q) xs) e ∙ h)
 
-short : (n : ℕ) (xs : List ℕ) → AllPairs (λ x y. x ≢ y) xs → All (λ x. x < n) xs → length xs ≤ n
+pub short : (n : ℕ) (xs : List ℕ) → AllPairs (λ x y. x ≢ y) xs → All (λ x. x < n) xs → length xs ≤ n
 short n xs apart all =
     length-le_from_distinct_below xs n (IsDistinct-from_AllPairs {eq = eqb} (λ a b. Decides-eqb a b) xs apart) (λ q h. any_below xs n q all h)
 

@@ -1,14 +1,19 @@
 -- Reasons and watches, where a trail grows and where it is cut to a level.
 use Rattle.std.proofs.Common.{◌≡◌, ℕ, suc, zero, ◌<◌, ◌≤◌, Bool, true, false, cond, leb, List, [], ◌∷◌, ◌++◌, length, None, get_or, take, min, refl, sym, ap, ◌∙◌, subst, arith}
 use Rattle.std.specs.List.{All, AllPairs}
+use Rattle.std.proofs.lemmas.Bool.{false≢true}
 use Rattle.std.proofs.lemmas.Bool.Decides.{nat_tests}
 use Rattle.std.proofs.lemmas.Grind.{common_steps}
 use Rattle.std.proofs.lemmas.List.{length-append, get_or_append_left, get_or-take}
-use Rattle.asp_vars.specs.Literals.{Literal, complement}
+use Rattle.asp_vars.specs.Literals.{Literal, T, F, complement}
 use Rattle.asp_trail.specs.declared.trail.Entry.{Entry}
 use Rattle.asp_trail.specs.Entries.{cut}
 use Rattle.asp_trail.specs.Reasons.{Stands, IsReason}
 use Rattle.asp_store.specs.Watching.{IsFalseBy, Watches}
+
+-- what looks at a nogood whole isn't what retires it
+pub none_differ : (l : Literal) → l ≡ T 0 → l ≡ F 0 → ⊥
+none_differ l t f = false≢true (ap (λ (k : Literal). k.truth) (sym f ∙ t))
 
 length-take_le : {X : Type 0} → (k : ℕ) (xs : List X) → k ≤ length xs → length (take k xs) ≡ k
 length-take_le k xs h = grind (arith, common_steps)
@@ -107,6 +112,18 @@ stands_untake k es l i b f s =
       level = λ d. ap (λ e. e.level) (sym (get_or-take k es i d h)) ∙ s.level d;
     }
 
+-- where a trail is cut to a level, what is false at that level or below stays so
+false_front : (l k : ℕ) (es : List Entry) (v : Literal) (b : ℕ) → IsFront l k es → b ≤ l → IsFalseBy es v b → IsFalseBy (take k es) v b
+false_front l k es v b f le was =
+    let d : Entry = record { lit = v; level = 0; reason = None } in
+    let in_front : was.0 < k = f.low was.0 d was.3.within (omega (arith, was.3.level d, was.2, le)) in
+    (was.0, was.1, was.2, stands_take k es (complement v) was.0 was.1 f.fits in_front was.3)
+
+pub false_cut : (l : ℕ) (es : List Entry) (v : Literal) (b : ℕ) → AllPairs (λ e f. e.level ≤ f.level) es → b ≤ l → IsFalseBy es v b → IsFalseBy (cut l es) v b
+false_cut l es v b r le was =
+    let f = front l es r in
+    subst (λ (xs : List Entry). IsFalseBy xs v b) (sym f.1.is) (false_front l f.0 es v b f.1 le was)
+
 -- where a trail is cut to a level, watches stay
 pub watches_cut : (l : ℕ) (es : List Entry) (seen : ℕ) (w v : Literal) → AllPairs (λ e f. e.level ≤ f.level) es → Watches es seen w v →
     Watches (cut l es) (min seen (length (cut l es))) w v
@@ -118,11 +135,8 @@ watches_cut l es seen w v r t =
     kept : (k : ℕ) → IsFront l k es → (i b : ℕ) → i < seen → i < k → Stands (take k es) w i b → IsFalseBy (take k es) v b
     kept k f i b h g s =
         let old = stands_untake k es w i b f.fits s in
-        let no = t i b h old in
         let d : Entry = record { lit = w; level = 0; reason = None } in
-        let low : b ≤ l = omega (arith, old.level d, f.high i d g) in
-        let in_front : no.0 < k = f.low no.0 d no.3.within (omega (arith, no.3.level d, no.2)) in
-        (no.0, no.1, no.2, stands_take k es (complement v) no.0 no.1 f.fits in_front no.3)
+        false_front l k es v b f (omega (arith, old.level d, f.high i d g)) (t i b h old)
 
 -- and so does a reason whose literal is left
 pub reason_cut : (c : ℕ) (es : List Entry) (i : ℕ) (l : Literal) (n : List Literal) → AllPairs (λ e f. e.level ≤ f.level) es → i < length (cut c es) →

@@ -7,4 +7,5 @@ pub mod Nodes
 pub mod Places
 pub mod Visiting
 pub mod Walking
+pub mod Recalling
 pub mod Storing

@@ -1,6 +1,6 @@
 -- What a store is, and how it fits a trail.
-use Rattle.std.specs.Prelude.{◌≡◌, ℕ, ◌+◌, ◌*◌, ◌^◌, ◌<◌, ◌≤◌, Bool, false, List, [], ◌∷◌, ◌++◌, length, Option, Some, slice_index_or, slice_set, count_by}
-use Rattle.asp_vars.specs.Literals.{Literal, T}
+use Rattle.std.specs.Prelude.{◌≡◌, ◌≢◌, ℕ, ◌+◌, ◌*◌, ◌^◌, ◌<◌, ◌≤◌, Bool, false, List, [], ◌∷◌, ◌++◌, length, Option, Some, None, slice_index_or, slice_set, count_by}
+use Rattle.asp_vars.specs.Literals.{Literal, T, F}
 use Rattle.asp_vars.specs.declared.nogood.Nogood.{Nogood}
 use Rattle.asp_trail.specs.Trails.{Trailed}
 use Rattle.asp_store.specs.declared.kept.Kept.{Kept}
@@ -10,6 +10,7 @@ use Rattle.asp_store.specs.Nodes.{link, home, other}
 use Rattle.asp_store.specs.Paths.{IsLinked}
 use Rattle.asp_store.specs.Visiting.{AreSmall}
 use Rattle.asp_store.specs.Fitting.{IsWatched, HaveReasons}
+use Rattle.asp_store.specs.Watching.{IsBack}
 
 -- Variables are 1 to vars. Nogoods have numbers, and each has two watches, which stand one after the other.
 pub record Stored : Type 0 where
@@ -35,6 +36,19 @@ added s n forever =
 
 abbrev pub locked_at : Stored → ℕ → Bool → Stored
 locked_at s id b = record s { slots = slice_set s.slots id (with_lock b (kept_at s.slots id)) }
+
+-- one nogood less
+abbrev pub removed : Stored → ℕ → Stored
+removed s id = record s { slots = slice_set s.slots id None }
+
+-- Watches are as they were, but that retired ones may be back where their nogoods are looked at whole.
+pub record Recalls (old new : Stored) : Type 0 where
+  pub count : length new.watches ≡ length old.watches
+  pub each : (k : ℕ) → IsBack (watch old k) (watch new k)
+
+-- No kept nogood is retired.
+abbrev pub AreActive : Stored → Type 0
+AreActive s = (id : ℕ) (n : Nogood) → nogood_at s.slots id ≡ Some n → (watch s (2 * id) ≢ F 0) × (watch s (2 * id + 1) ≢ F 0)
 
 -- What every store keeps: its nodes are chains, and their literals are of its variables.
 pub record IsStore (vars heads : ℕ) (slots : List (Option Kept)) (nodes : List Node) (extra : ℕ) : Type 0 where

@@ -4,7 +4,7 @@ ghost use Rattle.asp_vars.specs.declared.nogood.Nogood.{Nogood};
 ghost use Rattle.asp_trail.specs.Trails.{Trailed};
 ghost use Rattle.asp_store.specs.declared.kept.Kept.{Kept};
 ghost use Rattle.asp_store.specs.Keeping.{kept_at, nogood_at, reduced};
-ghost use Rattle.asp_store.specs.Storing.{Stored, Fits, added, locked_at};
+ghost use Rattle.asp_store.specs.Storing.{Stored, Fits, added, removed, locked_at, Recalls, AreActive};
 ghost use Rattle.std.specs.List.{AllPairs};
 ghost use Rattle.asp_vars.specs.Literals.{Literal, has_literal, holds_in};
 ghost use Rattle.asp_trail.specs.declared.trail.Entry.{Entry};
@@ -43,21 +43,24 @@ pub fn new_store_fits()
 {}
 
 /// A store fits its trail still where the trail is extended by a literal that is assumed or decided, or implied by a
-/// kept nogood, and where it is cut to a level or cleared.
+/// kept nogood, where it is cut to a level, and where it is cleared after the retired nogoods were recalled.
 pub fn changed_trail_fits()
     ensures open { (s : Stored) (t : Trailed) (e : Entry) → t.seen ≤ length t.entries → e.reason ≡ None → Fits s t → Fits s (record t { entries = t.entries ++ e ∷ [] }) }
     ensures imply { (s : Stored) (t : Trailed) (e : Entry) (id : ℕ) (n : Nogood) → t.seen ≤ length t.entries → e.reason ≡ Some id → nogood_at s.slots id ≡ Some n →
         IsReason (t.entries ++ e ∷ []) (length t.entries) e.lit n.lits → Fits s t → Fits s (record t { entries = t.entries ++ e ∷ [] }) }
     ensures cut { (s : Stored) (t : Trailed) (l : ℕ) → AllPairs (λ e f. e.level ≤ f.level) t.entries → Fits s t →
         Fits s (record t { entries = cut l t.entries; seen = min t.seen (length (cut l t.entries)) }) }
-    ensures clear { (s : Stored) (t : Trailed) → Fits s t → Fits s (record t { entries = []; seen = 0 }) }
+    ensures clear { (s : Stored) (t : Trailed) → AreActive s → Fits s t → Fits s (record t { entries = []; seen = 0 }) }
 {}
 
-/// A store fits its trail still where a nogood is added, locked or unlocked, and where the oldest are dropped while the
-/// trail's reasons are locked.
+/// A store fits its trail still where a nogood is added, locked or unlocked, where the retired ones are recalled, and
+/// where nogoods are dropped that no entry names: one of them, or the oldest while the trail's reasons are locked.
 pub fn changed_store_fits()
     ensures add { (s : Stored) (t : Trailed) (n : Nogood) (forever : Bool) → IsOrdered t.vars t.entries → t.seen ≤ length t.entries → Fits s t → Fits (added s n forever) t }
     ensures lock { (s : Stored) (t : Trailed) (id : ℕ) (b : Bool) → Fits s t → Fits (locked_at s id b) t }
+    ensures recall { (s r : Stored) (t : Trailed) → r ≡ record s { watches = r.watches } → Recalls s r → IsOrdered t.vars t.entries → t.seen ≤ length t.entries → Fits s t → Fits r t }
+    ensures remove { (s : Stored) (t : Trailed) (id : ℕ) → ((i : ℕ) (d : Entry) → i < length t.entries → (slice_index_or t.entries i d).reason ≢ Some id) →
+        Fits s t → Fits (removed s id) t }
     ensures reduce { (s : Stored) (t : Trailed) →
         ((i : ℕ) (d : Entry) (id : ℕ) → i < length t.entries → (slice_index_or t.entries i d).reason ≡ Some id → (k : Kept) × (kept_at s.slots id ≡ Some k) × (k.locked ≡ true)) →
         Fits s t → Fits (record s { slots = reduced s.slots }) t }

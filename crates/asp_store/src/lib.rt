@@ -7,6 +7,7 @@ pub mod laws;
 pub mod looks;
 pub mod nodes;
 pub mod propagation;
+pub mod retired;
 pub mod slots;
 pub mod store;
 #[cfg(test)]

@@ -2,7 +2,7 @@
 //!
 //! A nogood can only become unit or violated where one of its two watches becomes true. So for each literal that
 //! came to hold, the nogoods in its chain are looked at, and no others, but for those in the chain of no variable,
-//! which are looked at in each call.
+//! which are looked at in each call, until they are retired.
 ghost use Rattle.std.specs.Prelude.{◌≡◌, ◌<◌, ◌≤◌, ◌+◌, ◌^◌, length, IfNone, IfSome};
 ghost use Rattle.asp_store.specs.Visiting.{Extends};
 ghost use Rattle.asp_store.specs.Walking.{IsSound, AreSettled, IsViolated, Propagates};

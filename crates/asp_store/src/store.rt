@@ -6,14 +6,15 @@ ghost use Rattle.asp_vars.specs.Literals.{T};
 ghost use Rattle.asp_trail.specs.Trails.{IsVar};
 ghost use Rattle.asp_store.specs.Keeping.{nogood_at, is_extra, reduced};
 ghost use Rattle.asp_store.specs.Nodes.{link};
-ghost use Rattle.asp_store.specs.Storing.{Fits, added, locked_at};
-ghost use Rattle.asp_store.specs.Visiting.{Extends};
+ghost use Rattle.asp_store.specs.Storing.{Fits, added, removed, locked_at, Recalls, AreActive};
+ghost use Rattle.asp_store.specs.Visiting.{AreSmall, Extends};
 ghost use Rattle.asp_store.specs.Walking.{Propagates};
 
 use crate::kept::Kept;
 use crate::nodes::Node;
 use crate::propagation::{Propagated, propagate};
-use crate::slots::{reduce_slots, set_locked};
+use crate::retired::recall;
+use crate::slots::{reduce_slots, remove_slot, set_locked};
 use asp_trail::reasons::{NogoodId, Reasons};
 use asp_trail::trail::Trail;
 use asp_vars::lit::Lit;
@@ -114,9 +115,10 @@ impl Store {
         Ok(id)
     }
 
-    /// How many kept nogoods weren't added forever.
+    /// How many kept nogoods weren't added forever. The literals of all that are kept are of the store's variables.
     pub fn extra(&self) -> usize
-        ensures { result ≡ count_by is_extra self.now.slots }
+        ensures extra { result ≡ count_by is_extra self.now.slots }
+        ensures small { AreSmall self.now.vars self.now.slots }
     {
         self.extra
     }
@@ -139,7 +141,24 @@ impl Store {
         )
     }
 
-    /// Keeps the nogood from being dropped.
+    /// Puts the retired nogoods back to those that are looked at whole. A trail is cleared only after this.
+    pub fn recall(&mut self)
+        ensures store { self.new ≡ record self.old { watches = self.new.watches } }
+        ensures recalls { Recalls self.old self.new }
+        ensures active { AreActive self.new }
+    {
+        recall(self.nodes.as_mut_slice(), self.slots.as_slice(), self.heads);
+    }
+
+    /// Drops one nogood, whether or not it was added forever or is locked.
+    pub fn remove(&mut self, id: NogoodId)
+        requires { id < length self.old.slots }
+        ensures { self.new ≡ removed self.old id }
+    {
+        self.extra -= remove_slot(self.slots.as_mut_slice(), id);
+    }
+
+    /// Keeps the nogood from being dropped by `reduce`.
     pub fn lock(&mut self, id: NogoodId)
         requires { id < length self.old.slots }
         ensures { self.new ≡ locked_at self.old id true }

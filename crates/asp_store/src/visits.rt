@@ -18,7 +18,20 @@ use crate::nodes::{Node, head};
 use asp_trail::trail::Trail;
 use asp_vars::lit::Lit;
 
-// Looks at the nogood in a slot, one of whose watches is the other, the watch to be looked at being from.
+// Whether the literal is false at level 0, where it stays so until the trail is cleared.
+fn is_false_for_good(lit: Lit, trail: &Trail) -> bool
+    requires { lit.var ≤ trail.now.vars }
+    ensures { IsTrue result → IsFalseBy trail.now.entries lit 0 }
+{
+    let _len = trail.len();
+    if !trail.assignment().holds(lit.complement()) {
+        return false;
+    }
+    trail.level_of(lit.var()) == 0
+}
+
+// Looks at the nogood in a slot, one of whose watches is the other, the watch to be looked at being from. One that is
+// looked at whole is retired where the other watch is false for good.
 pub fn look_in(slots: &[Option<Kept>], id: usize, other: Lit, from: Lit, trail: &mut Trail) -> Look
     requires id { id < length slots.now }
     requires small { AreSmall trail.old.vars slots.now }
@@ -31,8 +44,12 @@ pub fn look_in(slots: &[Option<Kept>], id: usize, other: Lit, from: Lit, trail: 
     ensures extends { Extends slots.now trail.old.entries trail.new.entries }
     ensures found { FoundIn trail.old.vars slots.now id other from trail.old.entries trail.new.entries result }
 {
+    let _len = trail.len();
+    if from.var() == 0 && is_false_for_good(other, trail) {
+        return Look::At(Lit::new(0, false));
+    }
     match &slots[id] {
-        // A chain that is never walked.
+        // To where none looks.
         None => Look::At(Lit::new(0, false)),
         Some(kept) => look_at(kept.nogood.lits.as_slice(), id, other, from, trail),
     }

@@ -11,4 +11,4 @@ pub returns-clause-cut : goal.returns-clause-cut
 returns-clause-cut c s t l r f = fits_cut s t l r f
 
 pub returns-clause-clear : goal.returns-clause-clear
-returns-clause-clear c s t f = fits_clear s t f
+returns-clause-clear c s t active f = fits_clear s t active f

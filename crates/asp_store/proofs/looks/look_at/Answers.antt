@@ -15,6 +15,7 @@ returns-in-Some-clause-found c =
     record {
       has = inr (c.in-Some.ensures.some.0, c.in-Some.ensures.some.1);
       listed = λ z. absurd (omega (arith, ap (λ (l : Literal). l.var) z, real.0));
+      retired = λ z. absurd (omega (arith, ap (λ (l : Literal). l.var) z, real.0));
       watches = watches_open c.args.trail.now.vars c.args.trail.now.entries k c.args.other c.len-len.ensures.ordered no;
     }
 

@@ -1,5 +1,5 @@
 use Rattle.std.proofs.Common.{◌≡◌, ◌<◌, ℕ, ◌%◌, ◌++◌, ◌∷◌, List, true, false, get_or, inl, inr, ◌⊎◌, refl, sym, subst, ap, arith, ◌∙◌}
-use Rattle.asp_vars.specs.Literals.{Literal, T, has_literal, literal_eq}
+use Rattle.asp_vars.specs.Literals.{Literal, has_literal, literal_eq}
 use Rattle.asp_vars.specs.Codes.{code_of}
 use Rattle.asp_vars.proofs.LiteralLaws.{same_literal}
 use Rattle.asp_trail.specs.declared.trail.Entry.{Entry}
@@ -33,13 +33,13 @@ look_in-requires-clause-pair c n q =
     let w = c.requires.watched c.args.u n lo c.requires.u q in
     let b : Literal = (get_or c.args.nodes.now c.args.u c.index-nodes-u.result).other in
     let e : other c.args.nodes.now c.args.u ≡ b = ap (λ (x : Node). x.other) (same_default c.args.nodes.now c.args.u no_node c.index-nodes-u.result c.requires.u) in
-    let right = subst (λ (l : Literal). (l ≡ T 0) ⊎ (has_literal n.lits l ≡ true)) e w.right in
-    let left = subst (λ (l : Literal). (l ≡ T 0) ⊎ (has_literal n.lits l ≡ true)) c.requires.at w.left in
-    let differ = subst (λ (l : Literal). (l ≡ T 0) ⊎ (literal_eq l (other c.args.nodes.now c.args.u) ≡ false)) c.requires.at w.differ in (
-      (λ p. elim right [ inl z ↦ absurd (omega (arith, ap (λ (l : Literal). l.var) z, p)) | inr h ↦ h ]),
+    let right = subst (λ (l : Literal). (l.var ≡ 0) ⊎ (has_literal n.lits l ≡ true)) e w.right in
+    let left = subst (λ (l : Literal). (l.var ≡ 0) ⊎ (has_literal n.lits l ≡ true)) c.requires.at w.left in
+    let differ = subst (λ (l : Literal). (l.var ≡ 0) ⊎ (literal_eq l (other c.args.nodes.now c.args.u) ≡ false)) c.requires.at w.differ in (
+      (λ p. elim right [ inl z ↦ absurd (omega (arith, z, p)) | inr h ↦ h ]),
       (λ p. (
-        (elim left [ inl z ↦ absurd (omega (arith, ap (λ (l : Literal). l.var) z, p)) | inr h ↦ h ]),
-        subst (λ (l : Literal). literal_eq c.args.from l ≡ false) e (elim differ [ inl z ↦ absurd (omega (arith, ap (λ (l : Literal). l.var) z, p)) | inr d ↦ d ]),
+        (elim left [ inl z ↦ absurd (omega (arith, z, p)) | inr h ↦ h ]),
+        subst (λ (l : Literal). literal_eq c.args.from l ≡ false) e (elim differ [ inl z ↦ absurd (omega (arith, z, p)) | inr d ↦ d ]),
       )),
     )
 
