@@ -1,0 +1,4 @@
+pub mod Useful
+pub mod Whole
+pub mod Following
+pub mod Locking

@@ -1,0 +1,11 @@
+//! A trail with all that follows it: the store of nogoods, and a propagator.
+#![tactic(auto)]
+
+pub mod laws;
+pub mod locks;
+pub mod path;
+pub mod propagator;
+pub mod rounds;
+pub mod telling;
+#[cfg(test)]
+mod tests;
