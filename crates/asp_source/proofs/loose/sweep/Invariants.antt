@@ -1,0 +1,5 @@
+use Rattle.asp_source.proofs.LooseLaws.{Sweeping}
+use Rattle.asp_source.proofs.loose.sweep.Given as goal
+
+abbrev pub invariant-loop-var : goal.invariant-loop-var
+invariant-loop-var l = Sweeping l.compiled l.values l.initial.loose l.loose l.vars l.var-index l.dropped
