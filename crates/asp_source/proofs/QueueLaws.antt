@@ -129,6 +129,10 @@ none_marked ts room q w = unmarked (is_marked ts w) (q.listed w)
     unmarked true e = absurd (omega (arith, e))
     unmarked false e = refl
 
+pub none_in_empty : (ts : List Bool) (queue : List ℕ) (room : ℕ) → IsQueue ts queue room → length queue ≡ 0 → (w : ℕ) → (is_marked ts w) ≡ false
+none_in_empty ts [] room q e w = none_marked ts room q w
+none_in_empty ts (x ∷ queue) room q e w = absurd (omega (arith, e))
+
 -- the last number of the queue is below the count
 pub last_within : (ts : List Bool) (queue rest : List ℕ) (room w : ℕ) → IsQueue ts queue room → queue ≡ rest ++ w ∷ [] → (w < length ts) × ((is_marked ts w) ≡ true)
 last_within ts queue rest room w q e = (marked_within ts w was, was)

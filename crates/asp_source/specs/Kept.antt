@@ -1,14 +1,16 @@
 -- What the propagator keeps.
-use Rattle.std.specs.Prelude.{◌≡◌, ℕ, ◌+◌, Bool, List, Option, None, length}
+use Rattle.std.specs.Prelude.{◌≡◌, ℕ, ◌+◌, Bool, true, List, Option, None, length}
 use Rattle.asp_model.specs.declared.program.Program.{Program}
+use Rattle.asp_model.specs.Sets.{Atoms}
 use Rattle.asp_model.specs.Models.{atoms_of}
 use Rattle.asp_vars.specs.Literals.{value_of}
 use Rattle.asp_vars.specs.Numbering.{var_count}
 use Rattle.asp_scc.specs.Components.{Parts, AreComponents}
+use Rattle.asp_source.specs.Loops.{IsUnfoundedLoop}
 use Rattle.asp_source.specs.Narrowing.{AreBlank}
 use Rattle.asp_source.specs.Touched.{AreQueued}
 
-pub record IsKept (p : Program) (c : Parts) (x : List (Option Bool)) (flags loose : List Bool) : Type 0 where
+pub record IsKept (p : Program) (c : Parts) (x : List (Option Bool)) (flags : List Bool) (tight : Bool) (loose : List Bool) : Type 0 where
   pub components : AreComponents p c
   pub sized : length x ≡ var_count p + 1
   pub first : value_of x 0 ≡ None
@@ -16,3 +18,4 @@ pub record IsKept (p : Program) (c : Parts) (x : List (Option Bool)) (flags loos
   pub marks : length loose ≡ length (atoms_of p) + 1
   pub blank : AreBlank loose
   pub queued : AreQueued p c x flags
+  pub none : tight ≡ true → (y : List (Option Bool)) (U : Atoms) → IsUnfoundedLoop p y U → ⊥

@@ -34,6 +34,13 @@ impl Queue {
         Ok(Queue { marks, queue })
     }
 
+    /// Whether no number is there.
+    pub fn is_empty(&self) -> bool
+        ensures { result ≡ true → (k : ℕ) → is_marked self.now k ≡ false }
+    {
+        self.queue.is_empty()
+    }
+
     /// Adds a number, if it isn't there. It takes no memory.
     pub fn add(&mut self, number: u32)
         requires { number < length self.old }

@@ -7,7 +7,8 @@
 //! It keeps true, after every list of calls: a component that isn't queued has no unfounded set of atoms that aren't
 //! false. `assign` queues the components of the heads of a body that comes to be false, and of the heads of a weight
 //! body of which a literal comes to be false. `undo` queues the component of an atom that was false: no other call for
-//! less can make a set unfounded. Trivial components are never queued.
+//! less can make a set unfounded. Trivial components are never queued. Where all components are trivial, the program is
+//! tight: no value makes a set unfounded, and nothing is ever queued.
 ghost use Rattle.std.specs.Prelude.{◌≡◌, ◌+◌, None, IsTrue, IfOk, IfNone, IfSome, replicate};
 ghost use Rattle.asp_model.specs.Sets.{Atoms};
 ghost use Rattle.asp_vars.specs.Literals.{value_of, holds_in};
@@ -40,6 +41,7 @@ pub struct Sources<'a> {
     components: Components,
     values: Assign,
     queue: Queue,
+    tight: bool,
     loose: Vec<bool>,
     atoms: Vec<Atom>,
 }
@@ -53,7 +55,7 @@ impl<'a> Model for Sources<'a> {
 
     ghost view = { λ s. record { program = s.compiled.now; values = s.values } };
 
-    ghost invariant = { λ s. IsKept s.compiled.now s.components s.values s.queue s.loose.items };
+    ghost invariant = { λ s. IsKept s.compiled.now s.components s.values s.queue s.tight s.loose.items };
 }
 
 impl<'a> Sources<'a> {
@@ -66,6 +68,7 @@ impl<'a> Sources<'a> {
         let components = components(alloc, compiled)?;
         let values = Assign::new(alloc, compiled.vars())?;
         let queue = queue_of(alloc, compiled, &components)?;
+        let tight = queue.is_empty();
         let loose = vec![in alloc; false; compiled.atom_count() + 1]?;
         let atoms = Vec::with_capacity(alloc, compiled.atom_count())?;
         Ok(Sources {
@@ -74,6 +77,7 @@ impl<'a> Sources<'a> {
             components,
             values,
             queue,
+            tight,
             loose,
             atoms,
         })
@@ -87,6 +91,9 @@ impl<'a> Sources<'a> {
     {
         let _program = self.compiled.program();
         self.values.set(lit);
+        if self.tight {
+            return;
+        }
         touch_by(self.compiled, &self.components, &mut self.queue, lit);
     }
 
