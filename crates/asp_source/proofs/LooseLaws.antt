@@ -126,7 +126,7 @@ atom_of_var p a v stands e =
     let back : v - 1 ≡ place_of (λ b. eqb b a) (atoms_of p) = omega (arith, e) in
     ap (nth_atom p) back ∙ at_place (atoms_of p) a stands
 
-narrows_same : (p : Program) (x : List (Option Bool)) (marks : List Bool) → Narrows p x marks marks
+pub narrows_same : (p : Program) (x : List (Option Bool)) (marks : List Bool) → Narrows p x marks marks
 narrows_same p x marks = record { size = refl; less = λ v e. e; keeps = λ U unfounded sub. sub }
 
 pub narrows_then : (p : Program) (x : List (Option Bool)) (a b c : List Bool) → Narrows p x a b → Narrows p x b c → Narrows p x a c
@@ -136,7 +136,7 @@ narrows_then p x a b c h k = record {
   keeps = λ U unfounded sub. k.keeps U unfounded (h.keeps U unfounded sub);
 }
 
-narrows_one : (p : Program) (x : List (Option Bool)) (marks : List Bool) (v : ℕ) → IsSound p → Narrows p x marks (drop_at p x marks v)
+pub narrows_one : (p : Program) (x : List (Option Bool)) (marks : List Bool) (v : ℕ) → IsSound p → Narrows p x marks (drop_at p x marks v)
 narrows_one p x marks v sound = cases (is_dropped p x marks v) refl
   where
     stays : (U : Atoms) (a : ℕ) → is_dropped p x marks v ≡ true → is_unfounded p x U ≡ true → IsSubset U (shown p marks) → has U a ≡ true → (t : Bool) → t ≡ eqb (var_of_atom p a) v → has (shown p (set marks v false)) a ≡ true
@@ -163,7 +163,7 @@ narrows_one p x marks v sound = cases (is_dropped p x marks v) refl
 abbrev pub marks_in : List Bool → ℕ
 marks_in marks = count_by (λ b. b) marks
 
-marks_less : (marks : List Bool) (v : ℕ) → is_marked marks v ≡ true → marks_in (set marks v false) < marks_in marks
+pub marks_less : (marks : List Bool) (v : ℕ) → is_marked marks v ≡ true → marks_in (set marks v false) < marks_in marks
 marks_less marks v e = fewer marks v (marked_within marks v e) e
 
 pub record Sweeping (p : Program) (x : List (Option Bool)) (initial now : List Bool) (vars : List ℕ) (i : ℕ) (dropped : Bool) : Type 0 where

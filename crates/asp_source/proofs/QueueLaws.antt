@@ -150,6 +150,10 @@ last_within ts queue rest room w q e = (marked_within ts w was, was)
 pub fewer : (ts : List Bool) (w : ℕ) → w < length ts → (is_marked ts w) ≡ true → count_by (λ b. b) (set ts w false) < count_by (λ b. b) ts
 fewer ts w h m = omega (arith, ap one_if m, sum_by-set one_if ts w false false h)
 
+-- a mark more
+pub one_more : (ts : List Bool) (w : ℕ) → w < length ts → count_by (λ b. b) (set ts w true) ≤ count_by (λ b. b) ts + 1
+one_more ts w h = omega (arith, sum_by-set one_if ts w true false h)
+
 none_at : (n w : ℕ) → get_or (replicate n false) w false ≡ false
 none_at zero w = refl
 none_at (suc n) zero = refl

@@ -10,12 +10,13 @@ use Rattle.asp_source.specs.Loops.{IsUnfoundedLoop}
 use Rattle.asp_source.specs.Narrowing.{AreBlank}
 use Rattle.asp_source.specs.Touched.{AreQueued}
 
-pub record IsKept (p : Program) (c : Parts) (x : List (Option Bool)) (flags : List Bool) (tight : Bool) (loose : List Bool) : Type 0 where
+pub record IsKept (p : Program) (c : Parts) (x : List (Option Bool)) (flags : List Bool) (tight : Bool) (loose waiting : List Bool) : Type 0 where
   pub components : AreComponents p c
   pub sized : length x ≡ var_count p + 1
   pub first : value_of x 0 ≡ None
   pub whole : length flags ≡ length c.members
   pub marks : length loose ≡ length (atoms_of p) + 1
   pub blank : AreBlank loose
+  pub room : length waiting ≡ length (atoms_of p)
   pub queued : AreQueued p c x flags
   pub none : tight ≡ true → (y : List (Option Bool)) (U : Atoms) → IsUnfoundedLoop p y U → ⊥

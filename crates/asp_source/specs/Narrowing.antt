@@ -1,5 +1,5 @@
 -- How candidates for an unfounded set grow fewer.
-use Rattle.std.specs.Prelude.{◌≡◌, ℕ, Bool, true, false, List, Option, length, IsTrue}
+use Rattle.std.specs.Prelude.{◌≡◌, ℕ, ◌+◌, ◌≤◌, Bool, true, false, List, Option, length, count_by, IsTrue}
 use Rattle.std.specs.List.{All}
 use Rattle.asp_model.specs.declared.program.Program.{Program}
 use Rattle.asp_model.specs.Sets.{Atoms, has, IsSubset}
@@ -13,6 +13,13 @@ pub record Narrows (p : Program) (x : List (Option Bool)) (old new : List Bool) 
   pub size : length new ≡ length old
   pub less : (v : ℕ) → is_marked new v ≡ true → is_marked old v ≡ true
   pub keeps : (U : Atoms) → IsTrue (is_unfounded p x U) → IsSubset U (shown p old) → IsSubset U (shown p new)
+
+-- Some marks went, and atoms wait for it, no more than marks went.
+pub record Spreads (p : Program) (x : List (Option Bool)) (loose waiting loose_then waiting_then : List Bool) : Type 0 where
+  pub narrows : Narrows p x loose loose_then
+  pub room : length waiting_then ≡ length waiting
+  pub fewer : count_by (λ b. b) loose_then ≤ count_by (λ b. b) loose
+  pub paid : count_by (λ b. b) waiting_then + count_by (λ b. b) loose_then ≤ count_by (λ b. b) waiting + count_by (λ b. b) loose
 
 -- No marked atom of these variables is founded.
 abbrev pub AreStuck : Program → List (Option Bool) → List Bool → List ℕ → Type 0

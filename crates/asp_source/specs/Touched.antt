@@ -25,11 +25,13 @@ touch_weighted p c marks o = if is_some (bound_of (nth_body p o.body)) then touc
 abbrev pub touch_all : Program → Parts → List Bool → Literal → List Bool
 touch_all p c marks l = fold (touch_weighted p c) marks (occurrences_of p (complement l))
 
+-- what a body's literal touches that comes to hold
+abbrev pub touch_body : Program → Parts → List Bool → Literal → List Bool
+touch_body p c marks l = if l.truth then marks else touch_heads p c marks (l.var - length (atoms_of p) - 1)
+
 -- what a literal that comes to hold touches
 abbrev pub touch_by : Program → Parts → List Bool → Literal → List Bool
-touch_by p c marks l =
-    if nat_le l.var (length (atoms_of p)) then touch_all p c marks l
-    else if l.truth then marks else touch_heads p c marks (l.var - length (atoms_of p) - 1)
+touch_by p c marks l = if nat_le l.var (length (atoms_of p)) then touch_all p c marks l else touch_body p c marks l
 
 -- what a literal that held touches
 abbrev pub touch_back : Program → Parts → List Bool → Literal → List Bool

@@ -5,7 +5,7 @@ ghost use Rattle.std.specs.Prelude.{◌≡◌, ◌+◌, ◌<◌, ◌≤ℤ◌, p
 ghost use Rattle.std.specs.List.{list_any};
 ghost use Rattle.asp_model.specs.Models.{atoms_of};
 ghost use Rattle.asp_vars.specs.Numbering.{bodies_of, nth_body, var_count};
-ghost use Rattle.asp_vars.specs.Tabled.{bound_of};
+ghost use Rattle.asp_vars.specs.Tabled.{bound_of, occurrences_of, IsAtomVar};
 ghost use Rattle.asp_vars.specs.Unfounded.{needs, is_excused};
 ghost use Rattle.asp_loop.specs.Weighing.{weigh};
 ghost use Rattle.asp_source.specs.Marks.{lit_inside, lit_outside, shown};
@@ -14,6 +14,7 @@ use asp_loop::weighing::{take_weight, weight_at};
 use asp_vars::assign::Assign;
 use asp_vars::compiled::Compiled;
 use asp_vars::lit::Lit;
+use asp_vars::occurrence::Occurrence;
 
 fn is_inside(loose: &[bool], lit: Lit) -> bool
     requires { lit.var < length loose.now }
@@ -112,4 +113,13 @@ pub fn is_firm(compiled: &Compiled, values: &Assign, loose: &[bool], body: usize
         return false;
     }
     stands(compiled, values, loose, body)
+}
+
+/// The bodies in which a literal of an atom's variable stands.
+pub fn occurrences(compiled: &Compiled, lit: Lit) -> &[Occurrence]
+    requires { IsAtomVar compiled.now lit.var }
+    ensures occurrences { result.now ≡ occurrences_of compiled.now lit }
+    ensures bodies { All (λ o. o.body < length (bodies_of compiled.now)) result.now }
+{
+    compiled.occurrences(lit)
 }

@@ -2,6 +2,7 @@
 #![tactic(auto)]
 
 mod bodies;
+mod founding;
 mod loose;
 mod queue;
 mod search;

@@ -3,14 +3,15 @@
 //! At the start all of them are candidates. A candidate with a body that isn't excused for the set of all candidates is
 //! in no unfounded set of candidates, since an unfounded set excuses each body that a smaller one excuses; so it goes.
 //! When none goes any more, all bodies of those left are excused: they are unfounded, or there are none.
-ghost use Rattle.std.specs.Prelude.{◌≡◌, ◌+◌, ◌-◌, ◌<◌, ◌≤◌, ◌^◌, ◌++◌, true, false, All, IfNone, IfSome, OnOk, IsTrue, length, fold, count_by, slice_index_or};
+ghost use Rattle.std.specs.Prelude.{◌≡◌, ◌+◌, ◌-◌, ◌<◌, ◌≤◌, ◌^◌, ◌++◌, true, false, All, IfNone, IfSome, OnOk, IsTrue, length, fold, count_by};
 ghost use Rattle.asp_model.specs.Models.{atoms_of};
 ghost use Rattle.asp_vars.specs.Numbering.{var_count, nth_atom};
 ghost use Rattle.asp_vars.specs.Tabled.{IsAtomVar};
-ghost use Rattle.asp_source.specs.Marks.{is_marked, shown, is_founded, is_dropped, drop_at, begin_at, clear_at, atom_if, atoms_in};
+ghost use Rattle.asp_source.specs.Marks.{is_marked, begin_at, clear_at, atom_if, atoms_in};
 ghost use Rattle.asp_source.specs.Narrowing.{Narrows, AreStuck};
 
-use crate::bodies::is_firm;
+use crate::founding::{let_go, spread};
+use crate::queue::Queue;
 use asp_model::program::Atom;
 use asp_vars::assign::Assign;
 use asp_vars::compiled::Compiled;
@@ -39,45 +40,19 @@ pub fn clear(loose: &mut [bool], vars: &[Var])
     }
 }
 
-// Whether a body of a rule for the atom isn't excused for the candidates.
-fn is_founded(compiled: &Compiled, values: &Assign, loose: &[bool], var: Var) -> bool
-    requires var { IsAtomVar compiled.now var }
-    requires values { length values.now ≡ var_count compiled.now + 1 }
-    requires loose { length loose.now ≡ length (atoms_of compiled.now) + 1 }
-    ensures { result ≡ is_founded compiled.now values.now (shown compiled.now loose.now) (nth_atom compiled.now (var - 1)) }
-{
-    let atoms = compiled.atom_count();
-    for body in compiled.supports(var) {
-        if is_firm(compiled, values, loose, *body as usize - atoms - 1) {
-            return true;
-        }
-    }
-    false
-}
-
-// An atom that is founded is a candidate no longer. Says whether it was one.
-fn drop_founded(compiled: &Compiled, values: &Assign, loose: &mut [bool], var: Var) -> bool
-    requires var { IsAtomVar compiled.now var }
-    requires values { length values.now ≡ var_count compiled.now + 1 }
-    requires loose { length loose.old ≡ length (atoms_of compiled.now) + 1 }
-    ensures loose { loose.new ≡ drop_at compiled.now values.now loose.old var }
-    ensures dropped { result ≡ is_dropped compiled.now values.now loose.old var }
-{
-    if !loose[var as usize] {
-        return false;
-    }
-    if !is_founded(compiled, values, loose, var) {
-        return false;
-    }
-    loose[var as usize] = false;
-    true
-}
-
 // Looks at each of the atoms once, and says whether there is a candidate less.
-fn sweep(compiled: &Compiled, values: &Assign, loose: &mut [bool], vars: &[Var]) -> bool
+fn sweep(
+    compiled: &Compiled,
+    values: &Assign,
+    loose: &mut [bool],
+    waiting: &mut Queue,
+    vars: &[Var],
+) -> bool
     requires vars { All (IsAtomVar compiled.now) vars.now }
     requires values { length values.now ≡ var_count compiled.now + 1 }
     requires loose { length loose.old ≡ length (atoms_of compiled.now) + 1 }
+    requires waiting { length waiting.old ≡ length (atoms_of compiled.now) }
+    ensures room { length waiting.new ≡ length waiting.old }
     ensures narrows { Narrows compiled.now values.now loose.old loose.new }
     ensures fewer { result ≡ true → count_by (λ b. b) loose.new < count_by (λ b. b) loose.old }
     ensures stuck { result ≡ false → AreStuck compiled.now values.now loose.new vars.now }
@@ -85,7 +60,7 @@ fn sweep(compiled: &Compiled, values: &Assign, loose: &mut [bool], vars: &[Var])
     let _program = compiled.program();
     let mut dropped = false;
     for var in vars {
-        if drop_founded(compiled, values, loose, *var) {
+        if let_go(compiled, values, loose, waiting, *var) {
             dropped = true;
         }
     }
@@ -93,18 +68,29 @@ fn sweep(compiled: &Compiled, values: &Assign, loose: &mut [bool], vars: &[Var])
 }
 
 /// Leaves those candidates that nothing founds from outside of them.
-pub fn settle(compiled: &Compiled, values: &Assign, loose: &mut [bool], vars: &[Var])
+///
+/// The atoms that a sweep lets go found others, and all that these found; so the next sweep mostly is the last.
+pub fn settle(
+    compiled: &Compiled,
+    values: &Assign,
+    loose: &mut [bool],
+    waiting: &mut Queue,
+    vars: &[Var],
+)
     requires vars { All (IsAtomVar compiled.now) vars.now }
     requires values { length values.now ≡ var_count compiled.now + 1 }
     requires loose { length loose.old ≡ length (atoms_of compiled.now) + 1 }
+    requires waiting { length waiting.old ≡ length (atoms_of compiled.now) }
+    ensures room { length waiting.new ≡ length waiting.old }
     ensures narrows { Narrows compiled.now values.now loose.old loose.new }
     ensures stuck { AreStuck compiled.now values.now loose.new vars.now }
 {
     'rounds: loop {
-        let dropped = sweep(compiled, values, loose, vars);
+        let dropped = sweep(compiled, values, loose, waiting, vars);
         if !dropped {
             break;
         }
+        spread(compiled, values, loose, waiting);
     }
 }
 

@@ -24,6 +24,7 @@ fn look(
     values: &Assign,
     component: u32,
     loose: &mut [bool],
+    waiting: &mut Queue,
     atoms: &mut Vec<Atom>,
 ) -> Result<Option<Atom>, AllocError>
     requires components { AreComponents compiled.now components.now }
@@ -31,6 +32,8 @@ fn look(
     requires values { length values.now ≡ var_count compiled.now + 1 }
     requires loose { length loose.old ≡ length (atoms_of compiled.now) + 1 }
     requires blank { AreBlank loose.old }
+    requires waiting { length waiting.old ≡ length (atoms_of compiled.now) }
+    ensures room { length waiting.new ≡ length waiting.old }
     ensures blank { AreBlank loose.new }
     ensures found { IfOk result (λ o. MatchOption o (HasNone compiled.now components.now values.now component) (λ a. IsFound compiled.now values.now atoms.new.items a)) }
 {
@@ -41,7 +44,7 @@ fn look(
     let _program = compiled.program();
     let vars = components.members(component);
     begin(values, loose, vars);
-    settle(compiled, values, loose, vars);
+    settle(compiled, values, loose, waiting, vars);
     let Some(var) = choose(values, loose, vars) else {
         return Ok(None);
     };
@@ -58,14 +61,17 @@ pub fn first_unfounded(
     values: &Assign,
     queue: &mut Queue,
     loose: &mut [bool],
+    waiting: &mut Queue,
     atoms: &mut Vec<Atom>,
 ) -> Result<Option<Atom>, AllocError>
     requires components { AreComponents compiled.now components.now }
     requires values { length values.now ≡ var_count compiled.now + 1 }
     requires loose { length loose.old ≡ length (atoms_of compiled.now) + 1 }
     requires blank { AreBlank loose.old }
+    requires waiting { length waiting.old ≡ length (atoms_of compiled.now) }
     requires whole { length queue.old ≡ length components.now.members }
     requires queued { AreQueued compiled.now components.now values.now queue.old }
+    ensures room { length waiting.new ≡ length waiting.old }
     ensures blank { AreBlank loose.new }
     ensures whole { length queue.new ≡ length components.now.members }
     ensures queued { AreQueued compiled.now components.now values.now queue.new }
@@ -73,11 +79,17 @@ pub fn first_unfounded(
     ensures some { IfOk result (λ o. IfSome o (λ a. IsFound compiled.now values.now atoms.new.items a)) }
 {
     while let Some(component) = queue.pop() {
-        match look(compiled, components, values, component, loose, atoms) {
+        match look(
+            compiled, components, values, component, loose, waiting, atoms,
+        ) {
             Ok(None) => {}
-            found => {
+            Ok(Some(atom)) => {
                 queue.add(component);
-                return found;
+                return Ok(Some(atom));
+            }
+            Err(error) => {
+                queue.add(component);
+                return Err(error);
             }
         }
     }

@@ -43,6 +43,7 @@ pub struct Sources<'a> {
     queue: Queue,
     tight: bool,
     loose: Vec<bool>,
+    waiting: Queue,
     atoms: Vec<Atom>,
 }
 
@@ -55,7 +56,7 @@ impl<'a> Model for Sources<'a> {
 
     ghost view = { λ s. record { program = s.compiled.now; values = s.values } };
 
-    ghost invariant = { λ s. IsKept s.compiled.now s.components s.values s.queue s.tight s.loose.items };
+    ghost invariant = { λ s. IsKept s.compiled.now s.components s.values s.queue s.tight s.loose.items s.waiting };
 }
 
 impl<'a> Sources<'a> {
@@ -70,6 +71,7 @@ impl<'a> Sources<'a> {
         let queue = queue_of(alloc, compiled, &components)?;
         let tight = queue.is_empty();
         let loose = vec![in alloc; false; compiled.atom_count() + 1]?;
+        let waiting = Queue::new(alloc, compiled.atom_count())?;
         let atoms = Vec::with_capacity(alloc, compiled.atom_count())?;
         Ok(Sources {
             alloc,
@@ -79,6 +81,7 @@ impl<'a> Sources<'a> {
             queue,
             tight,
             loose,
+            waiting,
             atoms,
         })
     }
@@ -126,6 +129,7 @@ impl<'a> Sources<'a> {
             &self.values,
             &mut self.queue,
             self.loose.as_mut_slice(),
+            &mut self.waiting,
             &mut self.atoms,
         )?;
         let Some(atom) = found else {

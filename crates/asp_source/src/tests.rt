@@ -1,9 +1,14 @@
 //! A worked program.
+ghost use Rattle.std.specs.Prelude.{◌≡◌, ◌≤◌, [], IfOk};
+ghost use Rattle.asp_vars.specs.Numbering.{var_count};
+ghost use Rattle.asp_trail.specs.Trails.{IsVar};
+
 use crate::sources::Sources;
 use asp_model::program::{Body, Head, Program, Rule};
 use asp_model::seq::Seq;
 use asp_trail::trail::Trail;
 use asp_vars::compile::compile;
+use asp_vars::compiled::Compiled;
 use asp_vars::lit::Lit;
 use asp_vars::nogood::Nogood;
 use std::alloc::{AllocError, Global};
@@ -49,24 +54,52 @@ fn has_lits(rt: &impl Abort, nogood: Option<Nogood>, wanted: &[Lit]) {
     }
 }
 
+fn compiled_loop(rt: &impl Abort, alloc: Global) -> Result<Compiled, AllocError>
+    ensures { IfOk result (λ p. var_count p ≡ 7) }
+{
+    let program = supported_loop(alloc)?;
+    assert!(rt; program.is_sound());
+    let compiled = compile(alloc, program)?;
+    assert!(rt; compiled.vars() == 7);
+    Ok(compiled)
+}
+
+fn trail_of(alloc: Global, vars: u32) -> Result<Trail, AllocError>
+    ensures vars { IfOk result (λ t. t.vars ≡ vars) }
+    ensures entries { IfOk result (λ t. t.entries ≡ []) }
+    ensures room { IfOk result (λ t. 1 ≤ t.room) }
+{
+    let mut trail = Trail::new(alloc, vars)?;
+    trail.reserve(1)?;
+    Ok(trail)
+}
+
+// What comes where one literal holds, and what comes after that where none does.
+fn next_both(
+    alloc: Global,
+    compiled: &Compiled,
+    lit: Lit,
+) -> Result<(Option<Nogood>, Option<Nogood>), AllocError>
+    requires { IsVar (var_count compiled.now) lit.var }
+{
+    let mut sources = Sources::new(alloc, compiled)?;
+    let mut trail = trail_of(alloc, compiled.vars())?;
+    trail.assume(lit);
+    sources.assign(lit);
+    let held = sources.next(&trail)?;
+    sources.undo(lit);
+    trail.clear();
+    let free = sources.next(&trail)?;
+    Ok((held, free))
+}
+
 #[test]
 fn a_loop_needs_its_support(rt: HostRuntime) -> Result<(), Fail> {
-    let heap = rt.alloc();
-    let program = supported_loop(heap)?;
-    assert!(rt; program.is_sound());
-    let compiled = compile(heap, program)?;
-    assert!(rt; compiled.vars() == 7);
-    let mut sources = Sources::new(heap, &compiled)?;
-    let mut trail = Trail::new(heap, 7)?;
-    trail.reserve(7)?;
-    has_lits(&rt, sources.next(&trail)?, &[]);
+    let alloc = rt.alloc();
+    let compiled = compiled_loop(&rt, alloc)?;
     let false_body = Lit::new(7, false);
-    assert!(rt; trail.value(7).is_none());
-    trail.assume(false_body);
-    sources.assign(false_body);
-    has_lits(&rt, sources.next(&trail)?, &[Lit::new(2, true), false_body]);
-    sources.undo(false_body);
-    trail.clear();
-    has_lits(&rt, sources.next(&trail)?, &[]);
+    let (held, free) = next_both(alloc, &compiled, false_body)?;
+    has_lits(&rt, held, &[Lit::new(2, true), false_body]);
+    has_lits(&rt, free, &[]);
     Ok(())
 }

@@ -6,11 +6,12 @@
 ghost use Rattle.std.specs.Prelude.{◌≡◌, ◌<◌, IfOk, length, slice_index};
 ghost use Rattle.asp_model.specs.Models.{atoms_of};
 ghost use Rattle.asp_vars.specs.Numbering.{bodies_of, var_count};
-ghost use Rattle.asp_vars.specs.Tabled.{IsAtomVar};
+ghost use Rattle.asp_vars.specs.Tabled.{IsAtomVar, IsBodyVar};
 ghost use Rattle.asp_trail.specs.Trails.{IsVar};
 ghost use Rattle.asp_scc.specs.Components.{AreComponents};
-ghost use Rattle.asp_source.specs.Touched.{touch, touch_heads, touch_weighted, touch_all, touch_by, touch_back, AreMarked};
+ghost use Rattle.asp_source.specs.Touched.{touch, touch_heads, touch_weighted, touch_all, touch_body, touch_by, touch_back, AreMarked};
 
+use crate::bodies::occurrences;
 use crate::queue::Queue;
 use asp_scc::components::Components;
 use asp_vars::compiled::Compiled;
@@ -67,9 +68,23 @@ fn touch_all(compiled: &Compiled, components: &Components, queue: &mut Queue, li
     requires atom { IsAtomVar compiled.now lit.var }
     ensures { queue.new ≡ touch_all compiled.now components.now queue.old lit }
 {
-    for occurrence in compiled.occurrences(lit.complement()) {
+    for occurrence in occurrences(compiled, lit.complement()) {
         touch_weighted(compiled, components, queue, *occurrence);
     }
+}
+
+// The components of the heads of a body that comes to be false.
+fn touch_body(compiled: &Compiled, components: &Components, queue: &mut Queue, lit: Lit)
+    requires components { AreComponents compiled.now components.now }
+    requires queue { length queue.old ≡ length components.now.members }
+    requires body { IsBodyVar compiled.now lit.var }
+    ensures { queue.new ≡ touch_body compiled.now components.now queue.old lit }
+{
+    if lit.truth() {
+        return;
+    }
+    let body = lit.var() as usize - compiled.atom_count() - 1;
+    touch_heads(compiled, components, queue, body);
 }
 
 /// The components that a literal touches that comes to hold.
@@ -79,13 +94,11 @@ pub fn touch_by(compiled: &Compiled, components: &Components, queue: &mut Queue,
     requires var { IsVar (var_count compiled.now) lit.var }
     ensures { queue.new ≡ touch_by compiled.now components.now queue.old lit }
 {
-    let atoms = compiled.atom_count();
-    let var = lit.var() as usize;
-    if var <= atoms {
-        touch_all(compiled, components, queue, lit);
-    } else if !lit.truth() {
-        touch_heads(compiled, components, queue, var - atoms - 1);
+    if lit.var() as usize > compiled.atom_count() {
+        touch_body(compiled, components, queue, lit);
+        return;
     }
+    touch_all(compiled, components, queue, lit);
 }
 
 /// The component that a literal touches that held: that of an atom that was false.
@@ -95,12 +108,14 @@ pub fn touch_back(compiled: &Compiled, components: &Components, queue: &mut Queu
     requires var { IsVar (var_count compiled.now) lit.var }
     ensures { queue.new ≡ touch_back compiled.now components.now queue.old lit }
 {
-    if lit.truth() {
+    let was_true = lit.truth();
+    if was_true {
         return;
     }
-    if lit.var() as usize <= compiled.atom_count() {
-        touch(components, queue, lit.var());
+    if lit.var() as usize > compiled.atom_count() {
+        return;
     }
+    touch(components, queue, lit.var());
 }
 
 /// All components but the trivial ones.

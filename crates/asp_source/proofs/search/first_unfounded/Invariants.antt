@@ -8,6 +8,7 @@ abbrev pub invariant-loop-component : goal.invariant-loop-component
 invariant-loop-component l = record {
   size : length l.loose ≡ length (atoms_of l.compiled) + 1;
   blank : AreBlank l.loose;
+  room : length l.waiting ≡ length (atoms_of l.compiled);
   whole : length l.queue ≡ length l.components.members;
   queued : AreQueued l.compiled l.components l.values l.queue;
 }

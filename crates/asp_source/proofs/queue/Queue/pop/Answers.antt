@@ -14,4 +14,4 @@ invariant_of-self-2 c =
 pub returns-clause-fewer : goal.returns-clause-fewer
 returns-clause-fewer c =
     let at = last_within c.self.inside.marks.items c.self.inside.queue.items c.pop.new.self.items _ c.in_ok-number.number c.self.invariant c.in_ok-number.ensures.items in
-    subst (λ (m : List Bool). count_by (λ b. b) (set m c.in_ok-number.number false) < count_by (λ b. b) m) c.self.view_is (fewer c.self.inside.marks.items c.in_ok-number.number at.0 at.1)
+    subst (λ (m : List Bool). count_by (λ b. b) (set c.self.inside.marks.items c.in_ok-number.number false) < count_by (λ b. b) m) c.self.view_is (fewer c.self.inside.marks.items c.in_ok-number.number at.0 at.1)

@@ -5,7 +5,7 @@ use Rattle.asp_vars.specs.Numbering.{nth_atom}
 use Rattle.asp_vars.specs.Unfounded.{is_excused}
 use Rattle.asp_loop.specs.Parts.{form_of}
 use Rattle.asp_source.specs.Marks.{shown}
-use Rattle.asp_source.proofs.loose.is_founded.Given as goal
+use Rattle.asp_source.proofs.founding.is_founded.Given as goal
 
 abbrev pub invariant-loop-body : goal.invariant-loop-body
 invariant-loop-body l =
