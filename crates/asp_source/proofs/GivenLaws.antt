@@ -25,19 +25,16 @@ use Rattle.asp_source.specs.Narrowing.{IsFound}
 
 -- a literal that holds has one of the variables
 held_within : (x : List (Option Bool)) (n : ℕ) (l : Literal) → length x ≡ n + 1 → value_of x 0 ≡ None → holds_in x l ≡ true → IsVar n l.var
-held_within x n l size first e = (positive l.var l.truth e, small x l.var l.truth n size e)
+held_within x n l size first e = (positive l.var e, let h = inside x l.var e in omega (arith, h, size))
   where
-    positive : (v : ℕ) (t : Bool) → holds_in x (record { var = v; truth = t }) ≡ true → 0 < v
-    positive zero t e = absurd (false≢true (sym (ap (λ o. agrees o (record { var = zero; truth = t })) first) ∙ e))
-    positive (suc v) t e = omega arith
+    positive : (v : ℕ) → agrees (value_of x v) l ≡ true → 0 < v
+    positive zero e = absurd (false≢true (sym (ap (λ o. agrees o l) first) ∙ e))
+    positive (suc v) e = omega arith
 
-    inside : (x : List (Option Bool)) (v : ℕ) (t : Bool) → holds_in x (record { var = v; truth = t }) ≡ true → v < length x
-    inside [] v t e = absurd (false≢true e)
-    inside (o ∷ x) zero t e = omega arith
-    inside (o ∷ x) (suc v) t e = let h = inside x v t e in omega (arith, h)
-
-    small : (x : List (Option Bool)) (v : ℕ) (t : Bool) (n : ℕ) → length x ≡ n + 1 → holds_in x (record { var = v; truth = t }) ≡ true → v ≤ n
-    small x v t n size e = let h = inside x v t e in omega (arith, h, size)
+    inside : (x : List (Option Bool)) (v : ℕ) → agrees (value_of x v) l ≡ true → v < length x
+    inside [] v e = absurd (false≢true e)
+    inside (o ∷ x) zero e = omega arith
+    inside (o ∷ x) (suc v) e = let h = inside x v e in omega (arith, h)
 
 all_within : (x : List (Option Bool)) (n : ℕ) (rest : List Literal) → length x ≡ n + 1 → value_of x 0 ≡ None → list_all (holds_in x) rest ≡ true → AllByRecursion (λ (l : Literal). IsVar n l.var) rest
 all_within x n [] size first e = tt

@@ -140,7 +140,10 @@ back-length p c marks l = cases l.truth (leb l.var (length (atoms_of p)))
 at_occurrence : (p : Program) (c : Parts) (m : Literal) (b : Body) (bs : List Body) (marks : List Bool) (v : ℕ) → list_any (body_eq b) bs ≡ true → has_literal (form_literals p b) m ≡ true → nth_body p (place_of (body_eq b) (bodies_of p)) ≡ b → is_some (bound_of b) ≡ true → has (heads_of p b) v ≡ true → get_or c.trivial (get_or c.numbers v 0) false ≡ false → get_or c.numbers v 0 < length marks →
     is_marked (fold (touch_weighted p c) marks (map (λ (d : Body). record { body = place_of (body_eq d) (bodies_of p); place = place_of (λ k. literal_eq k m) (form_literals p d) }) (filter (λ d. has_literal (form_literals p d) m) bs))) (get_or c.numbers v 0) ≡ true
 at_occurrence p c m b [] marks v listed inside at weighted head cyclic lt = absurd (false≢true listed)
-at_occurrence p c m b (d ∷ bs) marks v listed inside at weighted head cyclic lt = cases (has_literal (form_literals p d) m) refl (either (body_eq b d) (list_any (body_eq b) bs) listed)
+at_occurrence p c m b (d ∷ bs) marks v listed inside at weighted head cyclic lt =
+    cases (has_literal (form_literals p d) m) refl (either (body_eq b d) (list_any (body_eq b) bs) listed)
+    (λ (h : list_any (body_eq b) bs ≡ true) (new : List Bool) (size : length new ≡ length marks).
+    at_occurrence p c m b bs new v h inside at weighted head cyclic (subst (λ (n : ℕ). get_or c.numbers v 0 < n) (sym size) lt))
   where
     occurrence : Body → Occurrence
     occurrence e = record { body = place_of (body_eq e) (bodies_of p); place = place_of (λ k. literal_eq k m) (form_literals p e) }
@@ -155,15 +158,13 @@ at_occurrence p c m b (d ∷ bs) marks v listed inside at weighted head cyclic l
         ∙ ap (λ e. is_marked (fold (touch c) marks (heads_of p e)) (get_or c.numbers v 0)) at
         ∙ heads_mark c (heads_of p b) marks v head cyclic lt)
 
-    later : list_any (body_eq b) bs ≡ true → (new : List Bool) → length new ≡ length marks → is_marked (fold (touch_weighted p c) new (map (λ (e : Body). record { body = place_of (body_eq e) (bodies_of p); place = place_of (λ k. literal_eq k m) (form_literals p e) }) (filter (λ e. has_literal (form_literals p e) m) bs))) (get_or c.numbers v 0) ≡ true
-    later h new size = at_occurrence p c m b bs new v h inside at weighted head cyclic (subst (λ (n : ℕ). get_or c.numbers v 0 < n) (sym size) lt)
-
     cases : (t : Bool) → t ≡ has_literal (form_literals p d) m → (body_eq b d ≡ true) ⊎ (list_any (body_eq b) bs ≡ true) →
+        (list_any (body_eq b) bs ≡ true → (new : List Bool) → length new ≡ length marks → is_marked (fold (touch_weighted p c) new (map (λ (e : Body). record { body = place_of (body_eq e) (bodies_of p); place = place_of (λ k. literal_eq k m) (form_literals p e) }) (filter (λ e. has_literal (form_literals p e) m) bs))) (get_or c.numbers v 0) ≡ true) →
         is_marked (fold (touch_weighted p c) marks (map (λ (e : Body). record { body = place_of (body_eq e) (bodies_of p); place = place_of (λ k. literal_eq k m) (form_literals p e) }) (cond (has_literal (form_literals p d) m) (d ∷ filter (λ e. has_literal (form_literals p e) m) bs) (filter (λ e. has_literal (form_literals p e) m) bs)))) (get_or c.numbers v 0) ≡ true
-    cases true q (inl h) = rw (← q) (all_keep p c others (touch_weighted p c marks (occurrence d)) (get_or c.numbers v 0) (here (same_body b d h)))
-    cases true q (inr h) = rw (← q) (later h (touch_weighted p c marks (occurrence d)) (weighted-length p c marks (occurrence d)))
-    cases false q (inl h) = absurd (false≢true (q ∙ (ap (λ e. has_literal (form_literals p e) m) (sym (same_body b d h)) ∙ inside)))
-    cases false q (inr h) = rw (← q) (later h marks refl)
+    cases true q (inl h) later = rw (← q) (all_keep p c others (touch_weighted p c marks (occurrence d)) (get_or c.numbers v 0) (here (same_body b d h)))
+    cases true q (inr h) later = rw (← q) (later h (touch_weighted p c marks (occurrence d)) (weighted-length p c marks (occurrence d)))
+    cases false q (inl h) later = absurd (false≢true (q ∙ (ap (λ e. has_literal (form_literals p e) m) (sym (same_body b d h)) ∙ inside)))
+    cases false q (inr h) later = rw (← q) (later h marks refl)
 
 -- a rule's head stands among those of its body
 head_listed : (p : Program) (r : Rule) (a : ℕ) → Among (rules_in_force p) r → has (head_atoms r.head) a ≡ true → has (heads_of p (normal r.body)) (var_of_atom p a) ≡ true
@@ -239,14 +240,14 @@ kept_on x l m none e = cases (eqb m.var l.var) refl
 
 -- what holds after one is taken back held before
 unset_less : (x : List (Option Bool)) (v : ℕ) (m : Literal) → holds_in (set x v None) m ≡ true → holds_in x m ≡ true
-unset_less x v m e = along x v m.var m.truth e
+unset_less x v m e = along x v m.var e
   where
-    along : (x : List (Option Bool)) (v w : ℕ) (t : Bool) → holds_in (set x v None) (record { var = w; truth = t }) ≡ true → holds_in x (record { var = w; truth = t }) ≡ true
-    along [] v w t e = e
-    along (o ∷ x) zero zero t e = absurd (false≢true e)
-    along (o ∷ x) zero (suc w) t e = e
-    along (o ∷ x) (suc v) zero t e = e
-    along (o ∷ x) (suc v) (suc w) t e = along x v w t e
+    along : (x : List (Option Bool)) (v w : ℕ) → agrees (get_or (set x v None) w None) m ≡ true → agrees (get_or x w None) m ≡ true
+    along [] v w e = e
+    along (o ∷ x) zero zero e = absurd (false≢true e)
+    along (o ∷ x) zero (suc w) e = e
+    along (o ∷ x) (suc v) zero e = e
+    along (o ∷ x) (suc v) (suc w) e = along x v w e
 
 false_to : (a : Bool) (b : Bool) → (b ≡ true → a ≡ true) → a ≡ false → b ≡ false
 false_to a false f e = refl

@@ -1,7 +1,7 @@
 use Rattle.std.proofs.Common.{◌≡◌, Bool, true, false, List, length, set, ap, sym, ◌∙◌, subst, arith}
 use Rattle.std.proofs.lemmas.List.{length-set}
 use Rattle.asp_source.specs.Touched.{AreQueued}
-use Rattle.asp_source.proofs.TouchLaws.{queued_less, queued_again, none_queued}
+use Rattle.asp_source.proofs.TouchLaws.{queued_less, none_queued}
 use Rattle.asp_source.proofs.search.first_unfounded.Goals as goal
 
 pub loop-component-preserved : goal.loop-component-preserved
@@ -15,3 +15,7 @@ loop-component-preserved c =
       queued = subst (AreQueued c.args.compiled.now c.args.components.now c.args.values.now) (sym c.in-Some.ensures.some)
           (queued_less c.args.compiled.now c.args.components.now c.args.values.now c.loop-component.queue c.in-Some.component c.requires.components c.loop-component.invariant.queued none);
     }
+
+pub returns-clause-none : goal.returns-clause-none
+returns-clause-none c =
+    none_queued c.args.compiled.now c.args.components.now c.args.values.now c.loop-component.queue c.loop-component.invariant.queued c.in_default.ensures.none

@@ -6,4 +6,4 @@ use Rattle.asp_source.specs.Touched.{touch_weighted}
 use Rattle.asp_source.proofs.touch.touch_all.Given as goal
 
 abbrev pub invariant-loop-occurrence : goal.invariant-loop-occurrence
-invariant-loop-occurrence l = l.queue ≡ fold (touch_weighted l.compiled l.components) l.initial.queue (take l.occurrence-index (occurrences_of l.compiled (complement l.lit)))
+invariant-loop-occurrence l = l.queue ≡ fold (touch_weighted l.compiled l.components) l.initial.queue (take l.occurrence-index (occurrences_of l.compiled (complement l.fn.lit)))
