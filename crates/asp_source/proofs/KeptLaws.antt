@@ -43,7 +43,7 @@ kept_by p c x y marks new tight loose waiting l sound h is none told touched =
 
 -- in a tight program nothing is queued
 pub kept_tight : (p : Program) (c : Parts) (x y : List (Option Bool)) (marks : List Bool) (tight : Bool) (loose waiting : List Bool) (l : Literal) → IsKept p c x marks tight loose waiting → tight ≡ true → IsVar (var_count p) l.var → y ≡ set x l.var (Some l.truth) → IsKept p c y marks tight loose waiting
-kept_tight p c x y marks tight loose waiting l h yes is told =
+kept_tight p c x y marks tight loose waiting l h is_tight is told =
     subst (λ (z : List (Option Bool)). IsKept p c z marks tight loose waiting) (sym told) (record {
       components = h.components;
       sized = length-set x l.var (Some l.truth) ∙ h.sized;
@@ -52,7 +52,7 @@ kept_tight p c x y marks tight loose waiting l h yes is told =
       marks = h.marks;
       blank = h.blank;
       room = h.room;
-      queued = λ U loop a member. absurd (h.none yes (set x l.var (Some l.truth)) U loop);
+      queued = λ U loop a member. absurd (h.none is_tight (set x l.var (Some l.truth)) U loop);
       none = h.none;
     })
 
@@ -80,7 +80,7 @@ kept_first p c x marks tight loose waiting are is whole marked empty blank free 
   blank = subst AreBlank (sym blank) (blank_at (length (atoms_of p) + 1));
   room = ap length free ∙ length-replicate (length (atoms_of p)) false;
   queued = queued_at_first p c x marks are marked;
-  none = λ yes y U loop. none_queued p c y marks (queued_at_first p c y marks are marked) (empty yes) U loop;
+  none = λ is_tight y U loop. none_queued p c y marks (queued_at_first p c y marks are marked) (empty is_tight) U loop;
 }
 
 -- a look changes the queue and the candidates alone
