@@ -1,9 +1,8 @@
 -- The nogood that is given, and the start.
-use Rattle.std.proofs.Common.{◌≡◌, ◌≢◌, ℕ, zero, suc, ◌+◌, ◌<◌, ◌≤◌, Bool, true, false, not, cond, ◌&&◌, ◌||◌, eqb, List, [], ◌∷◌, length, get_or, set, replicate, Option, Some, None, refl, sym, ap, ◌∙◌, subst, arith, ◌⊎◌, inl, inr, get_or-set_other, get_or-set_same}
+use Rattle.std.proofs.Common.{◌≡◌, ℕ, zero, suc, ◌+◌, ◌<◌, Bool, true, false, not, ◌&&◌, ◌||◌, List, [], ◌∷◌, length, get_or, Option, Some, None, refl, sym, ap, ◌∙◌, subst, arith, ◌⊎◌, inl, inr}
 use Rattle.std.specs.Option.{is_none}
 use Rattle.std.specs.List.{All, list_any, list_all, AllByRecursion}
-use Rattle.std.proofs.lemmas.Bool.{false≢true, and_parts, and_from, eqb-true, eq-eqb}
-use Rattle.std.proofs.lemmas.List.{length-set, length-replicate}
+use Rattle.std.proofs.lemmas.Bool.{false≢true, and_parts, and_from}
 use Rattle.std.proofs.lemmas.List.Elements.{All-from_recursion}
 use Rattle.asp_model.specs.declared.program.Program.{Program}
 use Rattle.asp_model.specs.Sets.{Atoms, has}
@@ -20,7 +19,7 @@ use Rattle.asp_source.proofs.LookLaws.{is_at}
 use Rattle.asp_vars.proofs.SupportLaws.{or_left, or_right}
 use Rattle.asp_loop.specs.LoopNogoods.{IsLoopNogood}
 use Rattle.asp_loop.proofs.WeighLaws.{literal_eq-itself}
-use Rattle.asp_source.specs.Loops.{IsUnfoundedLoop, IsGiven}
+use Rattle.asp_source.specs.Loops.{IsGiven}
 use Rattle.asp_source.specs.Narrowing.{IsFound}
 
 -- a literal that holds has one of the variables

@@ -1,5 +1,5 @@
 -- What the propagator keeps, call by call.
-use Rattle.std.proofs.Common.{◌≡◌, ◌≢◌, ℕ, zero, suc, ◌+◌, ◌<◌, ◌≤◌, Bool, true, false, List, [], length, get_or, set, replicate, Option, Some, None, refl, sym, ap, ◌∙◌, subst, arith, get_or-set_other}
+use Rattle.std.proofs.Common.{◌≡◌, ℕ, zero, suc, ◌+◌, ◌<◌, Bool, true, false, List, length, set, replicate, Option, Some, None, refl, sym, ap, ◌∙◌, subst, arith, get_or-set_other}
 use Rattle.std.proofs.lemmas.List.{length-set, length-replicate}
 use Rattle.asp_model.specs.declared.program.Program.{Program}
 use Rattle.asp_model.specs.Models.{atoms_of}

@@ -1,6 +1,6 @@
 -- What a look at a component finds.
-use Rattle.std.proofs.Common.{◌≡◌, ◌≢◌, ℕ, zero, suc, ◌+◌, ◌-◌, ◌<◌, ◌≤◌, Bool, true, false, not, cond, ◌&&◌, ◌||◌, eqb, ltb, List, [], ◌∷◌, length, set, get_or, Option, refl, sym, ap, ◌∙◌, subst, arith, ◌⊎◌, inl, inr, get_or-set_other, get_or-set_same}
-use Rattle.std.specs.Prelude.{All, fold, flat_map}
+use Rattle.std.proofs.Common.{◌≡◌, ◌≢◌, ℕ, zero, suc, ◌-◌, ◌<◌, Bool, true, false, not, cond, ◌&&◌, ◌||◌, eqb, ltb, List, [], ◌∷◌, length, set, get_or, Option, refl, sym, ap, ◌∙◌, subst, arith, ◌⊎◌, inl, inr, get_or-set_other, get_or-set_same}
+use Rattle.std.specs.Prelude.{All, fold}
 use Rattle.std.specs.List.{list_any, list_all, AllByRecursion}
 use Rattle.std.proofs.lemmas.Bool.{false≢true, and_parts, and_from, eqb-true, eq-eqb}
 use Rattle.std.proofs.lemmas.Bool.Decides.{nat_tests}
@@ -29,7 +29,7 @@ use Rattle.asp_loop.specs.Parts.{form_of}
 use Rattle.asp_loop.proofs.EntailedLaws.{any_of}
 use Rattle.asp_loop.proofs.LoopLaws.{members, rule_excused}
 use Rattle.asp_loop.proofs.WeightedLaws.{form_weighted}
-use Rattle.asp_source.specs.Loops.{IsTrivial, IsUnfoundedLoop}
+use Rattle.asp_source.specs.Loops.{IsTrivial}
 use Rattle.asp_source.specs.Marks.{is_marked, shown, is_founded, is_dropped, begin_at, clear_at, atom_if, atoms_in}
 use Rattle.asp_source.specs.Narrowing.{Narrows, AreStuck, AreBlank, HasNone, IsFound}
 use Rattle.asp_source.proofs.BodyLaws.{has-shown}

@@ -1,12 +1,10 @@
 -- Candidates for an unfounded set, and what is left of them.
-use Rattle.std.proofs.Common.{◌≡◌, ◌≢◌, ℕ, zero, suc, ◌+◌, ◌-◌, ◌<◌, ◌≤◌, Bool, true, false, not, cond, ◌&&◌, ◌||◌, eqb, ltb, List, [], ◌∷◌, length, set, get_or, count_by, Option, refl, sym, ap, ◌∙◌, subst, arith, inl, inr, get_or-set_other, get_or-set_same}
-use Rattle.std.specs.Prelude.{All, fold, ℤ, pos, ◌≤ℤ◌, int_lt}
+use Rattle.std.proofs.Common.{◌≡◌, ◌≢◌, ℕ, zero, suc, ◌+◌, ◌-◌, ◌<◌, ◌≤◌, Bool, true, false, not, cond, ◌&&◌, ◌||◌, eqb, ltb, List, [], ◌∷◌, length, set, get_or, count_by, Option, refl, sym, ap, ◌∙◌, subst, arith, inl, inr, get_or-set_other}
+use Rattle.std.specs.Prelude.{ℤ, pos, ◌≤ℤ◌, int_lt}
 use Rattle.std.specs.List.{list_any, list_all, AllByRecursion}
 use Rattle.std.proofs.lemmas.Bool.{false≢true, and_parts, and_from, eqb-true, eq-eqb}
-use Rattle.std.proofs.lemmas.Bool.Decides.{nat_tests}
 use Rattle.std.proofs.lemmas.Int.{ints}
 use Rattle.std.proofs.lemmas.List.{length-set}
-use Rattle.std.proofs.lemmas.List.Elements.{All-head, All-tail}
 use Rattle.asp_model.specs.declared.program.Body.{Body}
 use Rattle.asp_model.specs.declared.program.Body.TheVariants as body
 use Rattle.asp_model.specs.declared.program.Rule.{Rule}
@@ -18,7 +16,6 @@ use Rattle.asp_model.specs.Sound.{IsSound}
 use Rattle.asp_vars.specs.Literals.{F, holds_in}
 use Rattle.asp_vars.specs.Numbering.{normal, body_eq, bodies_of, place_of, var_of_atom, var_of_form, nth_atom, nth_body}
 use Rattle.asp_vars.specs.Completion.{supports}
-use Rattle.asp_vars.specs.Tabled.{IsAtomVar}
 use Rattle.asp_vars.specs.Unfounded.{is_false, is_inside, outside_weight, needs, is_excused, is_unfounded}
 use Rattle.asp_vars.proofs.NumberingLaws.{same_body}
 use Rattle.asp_vars.proofs.StandingLaws.{Among, each_among}

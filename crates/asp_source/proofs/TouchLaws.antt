@@ -1,6 +1,6 @@
 -- Which components can come to have an unfounded set.
-use Rattle.std.proofs.Common.{◌≡◌, ◌≢◌, ℕ, zero, suc, ◌+◌, ◌-◌, ◌<◌, ◌≤◌, Bool, true, false, not, cond, ◌&&◌, ◌||◌, eqb, leb, ltb, List, [], ◌∷◌, map, filter, length, set, get_or, Option, Some, None, refl, sym, ap, ◌∙◌, subst, arith, ◌⊎◌, inl, inr, get_or-set_other, get_or-set_same}
-use Rattle.std.specs.Prelude.{All, fold, flat_map, is_some, ℤ, pos, ◌+ℤ◌, ◌≤ℤ◌, int_lt}
+use Rattle.std.proofs.Common.{◌≡◌, ◌≢◌, ℕ, zero, suc, ◌+◌, ◌-◌, ◌<◌, ◌≤◌, Bool, true, false, not, cond, ◌||◌, eqb, leb, ltb, List, [], ◌∷◌, map, filter, length, set, get_or, Option, Some, None, refl, sym, ap, ◌∙◌, subst, arith, ◌⊎◌, inl, inr, get_or-set_other, get_or-set_same}
+use Rattle.std.specs.Prelude.{All, fold, flat_map, is_some, ℤ, pos, ◌≤ℤ◌}
 use Rattle.std.specs.List.{list_any, list_all, AllByRecursion}
 use Rattle.std.specs.Bool.{beq}
 use Rattle.std.proofs.lemmas.Bool.{false≢true, and_parts, and_from, eqb-true, eq-eqb}
@@ -19,23 +19,20 @@ use Rattle.asp_model.specs.Models.{rules_in_force, atoms_of, head_atoms}
 use Rattle.asp_model.specs.Sound.{IsSound}
 use Rattle.asp_model.proofs.MemberLaws.{list_any-flat_map}
 use Rattle.asp_vars.specs.Literals.{Literal, F, complement, literal_eq, has_literal, value_of, agrees, holds_in}
-use Rattle.asp_vars.specs.Numbering.{normal, body_eq, bodies_of, var_count, place_of, var_of_atom, var_of_form, literal_of, nth_atom, nth_body}
+use Rattle.asp_vars.specs.Numbering.{normal, body_eq, bodies_of, place_of, var_of_atom, var_of_form, literal_of, nth_atom, nth_body}
 use Rattle.asp_vars.specs.Tabled.{bound_of, form_literals, heads_of, occurrences_of, IsAtomVar, Stands as BodyStands}
 use Rattle.asp_vars.specs.Unfounded.{is_false, is_inside, outside_weight, needs, is_excused, is_unfounded}
 use Rattle.asp_vars.proofs.LiteralLaws.{beq_same, same_literal}
 use Rattle.asp_vars.proofs.NumberingLaws.{same_body, body_eq-itself}
-use Rattle.asp_vars.proofs.RowLaws.{head_vars}
 use Rattle.asp_vars.proofs.PlaceLaws.{place_of-within}
 use Rattle.asp_vars.proofs.StandingLaws.{Among, each_among, rule_has_form, bodies_of-stand, bodies_of-themselves}
 use Rattle.asp_vars.proofs.SupportLaws.{some, either, or_left, or_right, map_in}
-use Rattle.asp_trail.specs.Trails.{IsVar}
-use Rattle.asp_scc.specs.Components.{Parts, component_of, Stands, IsLoop, IsAlone, AreComponents}
+use Rattle.asp_scc.specs.Components.{Parts, component_of, Stands, AreComponents}
 use Rattle.asp_scc.proofs.ReachLaws.{atom_small}
-use Rattle.asp_loop.proofs.EntailedLaws.{any_of}
-use Rattle.asp_loop.proofs.LoopLaws.{members, at_form, rule_excused}
+use Rattle.asp_loop.proofs.LoopLaws.{at_form, rule_excused}
 use Rattle.asp_loop.proofs.WeighLaws.{literal_eq-itself}
 use Rattle.asp_loop.proofs.WeightedLaws.{AreItems, form_items, form_weighted}
-use Rattle.asp_source.specs.Loops.{IsTrivial, IsUnfoundedLoop}
+use Rattle.asp_source.specs.Loops.{IsUnfoundedLoop}
 use Rattle.asp_source.specs.Marks.{is_marked}
 use Rattle.asp_source.specs.Touched.{touch, touch_heads, touch_weighted, touch_all, touch_by, touch_back, AreQueued, AreMarked}
 use Rattle.asp_source.proofs.LooseLaws.{lighter, rule_is_excused}

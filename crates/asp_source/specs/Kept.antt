@@ -1,5 +1,5 @@
 -- What the propagator keeps.
-use Rattle.std.specs.Prelude.{◌≡◌, ℕ, ◌+◌, Bool, true, List, Option, None, length}
+use Rattle.std.specs.Prelude.{◌≡◌, ◌+◌, Bool, true, List, Option, None, length}
 use Rattle.asp_model.specs.declared.program.Program.{Program}
 use Rattle.asp_model.specs.Sets.{Atoms}
 use Rattle.asp_model.specs.Models.{atoms_of}

@@ -1,5 +1,5 @@
 -- Sets of atoms as marks, at the places of their variables, and how bodies are read by them.
-use Rattle.std.specs.Prelude.{◌≡◌, ℕ, ◌-◌, Bool, true, false, not, ◌&&◌, ◌∷◌, [], List, Option, filter, flat_map, fold, if◌then◌else◌, slice_index_or, slice_set}
+use Rattle.std.specs.Prelude.{ℕ, ◌-◌, Bool, false, not, ◌&&◌, ◌∷◌, [], List, Option, filter, flat_map, if◌then◌else◌, slice_index_or, slice_set}
 use Rattle.std.specs.List.{list_any}
 use Rattle.asp_model.specs.declared.program.Program.{Program}
 use Rattle.asp_model.specs.Sets.{Atoms}

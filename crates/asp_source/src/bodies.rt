@@ -70,13 +70,7 @@ fn reaches(values: &Assign, loose: &[bool], lits: &[Lit], weights: &[i64], bound
 }
 
 // Whether a weight body can hold from outside of the set.
-fn is_reached(
-    compiled: &Compiled,
-    values: &Assign,
-    loose: &[bool],
-    body: usize,
-    bound: i32,
-) -> bool
+fn is_reached(compiled: &Compiled, values: &Assign, loose: &[bool], body: usize, bound: i32) -> bool
     requires body { body < length (bodies_of compiled.now) }
     requires values { length values.now ≡ var_count compiled.now + 1 }
     requires loose { length loose.now ≡ length (atoms_of compiled.now) + 1 }

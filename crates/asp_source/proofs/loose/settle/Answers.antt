@@ -1,4 +1,4 @@
-use Rattle.std.proofs.Common.{◌∙◌, refl, arith}
+use Rattle.std.proofs.Common.{◌∙◌, refl}
 use Rattle.asp_source.proofs.LooseLaws.{narrows_same, narrows_then}
 use Rattle.asp_source.proofs.loose.settle.Goals as goal
 

@@ -1,4 +1,4 @@
-use Rattle.std.proofs.Common.{◌≡◌, Bool, true, false, List, length, set, ap, sym, ◌∙◌, subst, arith}
+use Rattle.std.proofs.Common.{false, length, ap, sym, ◌∙◌, subst, arith}
 use Rattle.std.proofs.lemmas.List.{length-set}
 use Rattle.asp_source.specs.Touched.{AreQueued}
 use Rattle.asp_source.proofs.TouchLaws.{queued_less, none_queued}

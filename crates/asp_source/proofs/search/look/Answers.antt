@@ -1,8 +1,8 @@
-use Rattle.std.proofs.Common.{◌≡◌, ◌-◌, ℕ, List, length, sym, ◌∙◌, subst, arith}
+use Rattle.std.proofs.Common.{ℕ, List, length, sym, ◌∙◌, subst, arith}
 use Rattle.asp_vars.specs.Tabled.{IsAtomVar}
 use Rattle.asp_source.specs.Marks.{atoms_in}
 use Rattle.asp_source.specs.Narrowing.{AreBlank, IsFound}
-use Rattle.asp_source.proofs.LookLaws.{Looking, looking, blank_after, blank_left, nothing_left, some_left, at_member, vars_atoms, vars_below}
+use Rattle.asp_source.proofs.LookLaws.{looking, blank_after, blank_left, nothing_left, some_left, at_member, vars_atoms, vars_below}
 use Rattle.asp_source.proofs.search.look.Goals as goal
 
 pub begin-requires-clause-loose : goal.begin-requires-clause-loose

@@ -1,4 +1,4 @@
-use Rattle.std.proofs.Common.{length, arith}
+use Rattle.std.proofs.Common.{arith}
 use Rattle.asp_vars.specs.Tabled.{IsAtomVar}
 use Rattle.asp_source.proofs.TouchLaws.{var_component}
 use Rattle.asp_source.proofs.touch.touch_back.Goals as goal

@@ -1,4 +1,4 @@
-use Rattle.std.proofs.Common.{Bool, List, ℕ, ◌∙◌, sym, ap, arith}
+use Rattle.std.proofs.Common.{Bool, List, ◌∙◌, sym, ap, arith}
 use Rattle.std.proofs.lemmas.Bool.{eqb-true}
 use Rattle.asp_source.specs.Marks.{is_marked}
 use Rattle.asp_source.proofs.QueueLaws.{none_in_empty}

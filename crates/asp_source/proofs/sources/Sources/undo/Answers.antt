@@ -1,4 +1,4 @@
-use Rattle.std.proofs.Common.{◌∙◌, None, set, ap, arith}
+use Rattle.std.proofs.Common.{◌∙◌, None, set, ap}
 use Rattle.asp_source.proofs.KeptLaws.{kept_back}
 use Rattle.asp_source.proofs.sources.Sources.undo.Goals as goal
 
