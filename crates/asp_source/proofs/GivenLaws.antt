@@ -1,21 +1,17 @@
 -- The nogood that is given, and the start.
-use Rattle.std.proofs.Common.{◌≡◌, ℕ, zero, suc, ◌+◌, ◌<◌, Bool, true, false, not, ◌&&◌, ◌||◌, List, [], ◌∷◌, length, get_or, Option, Some, None, refl, sym, ap, ◌∙◌, subst, arith, ◌⊎◌, inl, inr}
+use Rattle.std.proofs.Common.{◌≡◌, ℕ, zero, suc, ◌+◌, ◌<◌, Bool, true, false, not, ◌&&◌, ◌||◌, List, [], ◌∷◌, length, Option, Some, None, refl, sym, ap, ◌∙◌, subst, arith, ◌⊎◌, inl, inr}
 use Rattle.std.specs.Option.{is_none}
 use Rattle.std.specs.List.{All, list_any, list_all, AllByRecursion}
 use Rattle.std.proofs.lemmas.Bool.{false≢true, and_parts, and_from}
 use Rattle.std.proofs.lemmas.List.Elements.{All-from_recursion}
-use Rattle.asp_model.specs.declared.program.Program.{Program}
-use Rattle.asp_model.specs.Sets.{Atoms, has}
+use Rattle.asp_model.specs.Sets.{Atoms}
 use Rattle.asp_vars.specs.declared.nogood.Nogood.{Nogood}
 use Rattle.asp_vars.specs.Literals.{Literal, T, F, literal_eq, value_of, agrees, holds_in}
 use Rattle.asp_vars.specs.Numbering.{var_count, var_of_atom}
 use Rattle.asp_trail.specs.Trails.{IsVar}
 use Rattle.asp_trail.specs.Told.{Told}
 use Rattle.asp_trail.specs.Quiet.{is_open, is_violated, is_unit, is_calm}
-use Rattle.asp_model.specs.Models.{atoms_of}
 use Rattle.asp_scc.proofs.ReachLaws.{atom_small}
-use Rattle.asp_scc.proofs.SearchLaws.{get_or-any}
-use Rattle.asp_source.proofs.LookLaws.{is_at}
 use Rattle.asp_vars.proofs.SupportLaws.{or_left, or_right}
 use Rattle.asp_loop.specs.LoopNogoods.{IsLoopNogood}
 use Rattle.asp_loop.proofs.WeighLaws.{literal_eq-itself}
@@ -82,6 +78,3 @@ given t U a n size first found shape = record {
       ((let some_ : 0 < var_of_atom t.program a = omega arith in some_, let low = atom_small t.program a (found.loop.stand a found.member) in omega (arith, low)), all_within t.values (var_count t.program) shape.rest size first shape.hold));
   wanted = ap (is_calm t.values) shape.literals ∙ wanted t.values (var_of_atom t.program a) shape.rest (found.loop.not_false a found.member) shape.hold;
 }
-
-pub found_stand : (p : Program) (x : List (Option Bool)) (U : Atoms) (a : ℕ) → IsFound p x U a → All (λ b. has (atoms_of p) b ≡ true) U
-found_stand p x U a h i d lt = h.loop.stand (get_or U i d) (ap (has U) (get_or-any U i d 0 lt) ∙ is_at U i lt)

@@ -34,7 +34,7 @@ use Rattle.asp_loop.proofs.WeighLaws.{literal_eq-itself}
 use Rattle.asp_loop.proofs.WeightedLaws.{AreItems, form_items, form_weighted}
 use Rattle.asp_source.specs.Loops.{IsUnfoundedLoop}
 use Rattle.asp_source.specs.Marks.{is_marked}
-use Rattle.asp_source.specs.Touched.{touch, touch_heads, touch_weighted, touch_all, touch_by, touch_back, AreQueued, AreMarked}
+use Rattle.asp_source.specs.Touched.{touch, touch_heads, touch_weighted, touch_all, touch_by, touch_back, AreQueued, AreMarked, AreNormal}
 use Rattle.asp_source.proofs.LooseLaws.{lighter, rule_is_excused}
 use Rattle.asp_source.proofs.LookLaws.{unfounded_from, none_in_trivial, var_at, atom_stands}
 
@@ -457,6 +457,18 @@ occurrences_within p m (d ∷ bs) h = cases (has_literal (form_literals p d) m) 
 pub occurrences_small : (p : Program) (m : Literal) → All (λ (o : Occurrence). o.body < length (bodies_of p)) (occurrences_of p m)
 occurrences_small p m = All-from_recursion (λ (o : Occurrence). o.body < length (bodies_of p)) (occurrences_of p m) (occurrences_within p m (bodies_of p) (bodies_of-themselves p))
 
+-- without weight bodies an atom's literal touches nothing
+none_touched : (p : Program) (c : Parts) (os : List Occurrence) (marks : List Bool) → AreNormal p (length (bodies_of p)) → AllByRecursion (λ (o : Occurrence). o.body < length (bodies_of p)) os → fold (touch_weighted p c) marks os ≡ marks
+none_touched p c [] marks normal h = refl
+none_touched p c (o ∷ os) marks normal h =
+    ap (λ m. fold (touch_weighted p c) m os) (ap (λ t. cond t (touch_heads p c marks o.body) marks) (normal o.body h.0)) ∙ none_touched p c os marks normal h.1
+
+pub all_normal : (p : Program) (c : Parts) (marks : List Bool) (l : Literal) → AreNormal p (length (bodies_of p)) → touch_all p c marks l ≡ marks
+all_normal p c marks l normal = none_touched p c (occurrences_of p (complement l)) marks normal (occurrences_within p (complement l) (bodies_of p) (bodies_of-themselves p))
+
+pub leb_within : (n k : ℕ) → k ≤ n → leb k n ≡ true
+leb_within n k h = grind (arith, nat_tests)
+
 -- at the start
 pub queued_at_first : (p : Program) (c : Parts) (x : List (Option Bool)) (marks : List Bool) → AreComponents p c → AreMarked p c (length (atoms_of p)) marks → AreQueued p c x marks
 queued_at_first p c x marks are h U loop a member =
@@ -480,16 +492,6 @@ queued_less p c x marks k are queued none U loop a member = cases (eqb (componen
     cases : (t : Bool) → t ≡ eqb (component_of p c a) k → is_marked (set marks k false) (component_of p c a) ≡ true
     cases true q = absurd (none U loop a member (eqb-true (component_of p c a) k (sym q)))
     cases false q = get_or-set_other marks k (component_of p c a) false false (λ e. false≢true (q ∙ eq-eqb (component_of p c a) k e)) ∙ queued U loop a member
-
--- a component that leaves the queue and comes back
-pub queued_again : (p : Program) (c : Parts) (x : List (Option Bool)) (marks : List Bool) (k : ℕ) → k < length marks → AreQueued p c x marks → AreQueued p c x (set (set marks k false) k true)
-queued_again p c x marks k lt queued U loop a member = cases (eqb (component_of p c a) k) refl
-  where
-    cases : (t : Bool) → t ≡ eqb (component_of p c a) k → is_marked (set (set marks k false) k true) (component_of p c a) ≡ true
-    cases true q = ap (is_marked (set (set marks k false) k true)) (eqb-true (component_of p c a) k (sym q)) ∙ get_or-set_same (set marks k false) k true false (let size = length-set marks k false in omega (arith, size, lt))
-    cases false q =
-        let ne : component_of p c a ≢ k = λ e. false≢true (q ∙ eq-eqb (component_of p c a) k e) in
-        get_or-set_other (set marks k false) k (component_of p c a) true false ne ∙ get_or-set_other marks k (component_of p c a) false false ne ∙ queued U loop a member
 
 -- with an empty queue there is no unfounded set
 pub none_queued : (p : Program) (c : Parts) (x : List (Option Bool)) (marks : List Bool) → AreQueued p c x marks → ((k : ℕ) → is_marked marks k ≡ false) → (U : Atoms) → IsUnfoundedLoop p x U → ⊥

@@ -44,3 +44,7 @@ AreQueued p c x marks = (U : Atoms) → IsUnfoundedLoop p x U → (a : ℕ) → 
 -- The components of the first n atoms are marked, but for trivial ones.
 abbrev pub AreMarked : Program → Parts → ℕ → List Bool → Type 0
 AreMarked p c n marks = (v : ℕ) → 0 < v → v ≤ n → slice_index_or c.trivial (slice_index c.numbers v) false ≡ false → is_marked marks (slice_index c.numbers v) ≡ true
+
+-- None of the first n bodies is a weight body.
+abbrev pub AreNormal : Program → ℕ → Type 0
+AreNormal p n = (j : ℕ) → j < n → is_some (bound_of (nth_body p j)) ≡ false

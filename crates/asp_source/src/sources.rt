@@ -20,7 +20,7 @@ ghost use Rattle.asp_source.specs.Loops.{IsUnfoundedLoop, IsGiven};
 
 use crate::queue::Queue;
 use crate::search::first_unfounded;
-use crate::touch::{queue_of, touch_back, touch_by};
+use crate::touch::{has_weights, queue_of, touch_back, touch_by};
 use asp_loop::loops::loop_nogood;
 use asp_model::program::Atom;
 use asp_scc::components::Components;
@@ -42,6 +42,7 @@ pub struct Sources<'a> {
     values: Assign,
     queue: Queue,
     tight: bool,
+    weighted: bool,
     loose: Vec<bool>,
     waiting: Queue,
     atoms: Vec<Atom>,
@@ -56,7 +57,7 @@ impl<'a> Model for Sources<'a> {
 
     ghost view = { λ s. record { program = s.compiled.now; values = s.values } };
 
-    ghost invariant = { λ s. IsKept s.compiled.now s.components s.values s.queue s.tight s.loose.items s.waiting };
+    ghost invariant = { λ s. IsKept s.compiled.now s.components s.values s.queue s.tight s.weighted s.loose.items s.waiting };
 }
 
 impl<'a> Sources<'a> {
@@ -70,6 +71,7 @@ impl<'a> Sources<'a> {
         let values = Assign::new(alloc, compiled.vars())?;
         let queue = queue_of(alloc, compiled, &components)?;
         let tight = queue.is_empty();
+        let weighted = has_weights(compiled);
         let loose = vec![in alloc; false; compiled.atom_count() + 1]?;
         let waiting = Queue::new(alloc, compiled.atom_count())?;
         let atoms = Vec::with_capacity(alloc, compiled.atom_count())?;
@@ -80,6 +82,7 @@ impl<'a> Sources<'a> {
             values,
             queue,
             tight,
+            weighted,
             loose,
             waiting,
             atoms,
@@ -97,7 +100,13 @@ impl<'a> Sources<'a> {
         if self.tight {
             return;
         }
-        touch_by(self.compiled, &self.components, &mut self.queue, lit);
+        touch_by(
+            self.compiled,
+            &self.components,
+            self.weighted,
+            &mut self.queue,
+            lit,
+        );
     }
 
     /// The literal, which holds, doesn't hold any more, nor does its complement. It takes no memory.

@@ -3,13 +3,13 @@
 //! A body that comes to be false may have been all that founded its heads, and so may a literal of a weight body that
 //! comes to be false. Where fewer literals hold, fewer bodies are excused; but an atom that was false can now be
 //! unfounded.
-ghost use Rattle.std.specs.Prelude.{◌≡◌, ◌<◌, IfOk, length, slice_index};
+ghost use Rattle.std.specs.Prelude.{◌≡◌, ◌<◌, false, IfOk, length, slice_index};
 ghost use Rattle.asp_model.specs.Models.{atoms_of};
 ghost use Rattle.asp_vars.specs.Numbering.{bodies_of, var_count};
 ghost use Rattle.asp_vars.specs.Tabled.{IsAtomVar, IsBodyVar};
 ghost use Rattle.asp_trail.specs.Trails.{IsVar};
 ghost use Rattle.asp_scc.specs.Components.{AreComponents};
-ghost use Rattle.asp_source.specs.Touched.{touch, touch_heads, touch_weighted, touch_all, touch_body, touch_by, touch_back, AreMarked};
+ghost use Rattle.asp_source.specs.Touched.{touch, touch_heads, touch_weighted, touch_all, touch_body, touch_by, touch_back, AreMarked, AreNormal};
 
 use crate::bodies::occurrences;
 use crate::queue::Queue;
@@ -87,15 +87,38 @@ fn touch_body(compiled: &Compiled, components: &Components, queue: &mut Queue, l
     touch_heads(compiled, components, queue, body);
 }
 
-/// The components that a literal touches that comes to hold.
-pub fn touch_by(compiled: &Compiled, components: &Components, queue: &mut Queue, lit: Lit)
+/// Whether some body is a weight body.
+pub fn has_weights(compiled: &Compiled) -> bool
+    ensures { result ≡ false → AreNormal compiled.now (length (bodies_of compiled.now)) }
+{
+    for form in 0..compiled.body_count() {
+        if compiled.bound(form).is_some() {
+            return true;
+        }
+    }
+    false
+}
+
+/// The components that a literal touches that comes to hold. Where no body is a weight body an atom's literal touches
+/// none.
+pub fn touch_by(
+    compiled: &Compiled,
+    components: &Components,
+    weighted: bool,
+    queue: &mut Queue,
+    lit: Lit,
+)
     requires components { AreComponents compiled.now components.now }
+    requires weighted { weighted ≡ false → AreNormal compiled.now (length (bodies_of compiled.now)) }
     requires queue { length queue.old ≡ length components.now.members }
     requires var { IsVar (var_count compiled.now) lit.var }
     ensures { queue.new ≡ touch_by compiled.now components.now queue.old lit }
 {
     if lit.var() as usize > compiled.atom_count() {
         touch_body(compiled, components, queue, lit);
+        return;
+    }
+    if !weighted {
         return;
     }
     touch_all(compiled, components, queue, lit);
