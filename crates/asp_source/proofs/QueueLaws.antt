@@ -19,18 +19,18 @@ one_if b = cond b 1 0
 abbrev same : ℕ → ℕ → ℕ
 same w q = cond (eqb q w) 1 0
 
--- a marked body is one of the list
+-- a marked number is one of the list
 pub marked_within : (ts : List Bool) (w : ℕ) → (is_marked ts w) ≡ true → w < length ts
 marked_within [] w h = absurd (false≢true h)
 marked_within (t ∷ ts) zero h = omega arith
 marked_within (t ∷ ts) (suc w) h = omega (arith, marked_within ts w h)
 
--- where a body isn't marked there is room
+-- where a number isn't marked there is room
 pub free : (ts : List Bool) (queue : List ℕ) (room w : ℕ) → IsQueue ts queue room → w < length ts → (is_marked ts w) ≡ false → length queue < room
 free ts queue room w q h n =
     omega (arith, q.counted, q.fits, ap one_if n, length-set ts w true, count_by-le-length (λ b. b) (set ts w true), sum_by-set one_if ts w true false h)
 
--- a body that wasn't marked joins the queue
+-- a number that wasn't marked joins the queue
 pub joins : (ts : List Bool) (queue : List ℕ) (room w : ℕ) (t : Bool) → IsQueue ts queue room → w < length ts → (is_marked ts w) ≡ false → t ≡ true →
     IsQueue (set ts w t) (queue ++ w ∷ []) room
 joins ts queue room w t q h n m = record {
@@ -57,7 +57,7 @@ joins ts queue room w t q h n m = record {
         ∙ (omega arith
         ∙ (q.listed v ∙ sym (ap one_if (get_or-set_other ts w v t false ne)))))
 
--- a body that was marked stays where it is
+-- a number that was marked stays where it is
 pub stays : (ts : List Bool) (queue : List ℕ) (room w : ℕ) (t : Bool) → IsQueue ts queue room → w < length ts → (is_marked ts w) ≡ true → t ≡ true →
     IsQueue (set ts w t) queue room
 stays ts queue room w t q h n m = record {
@@ -75,7 +75,7 @@ stays ts queue room w t q h n m = record {
         let ne : v ≢ w = grind (arith, nat_tests) in
         q.listed v ∙ sym (ap one_if (get_or-set_other ts w v t false ne))
 
--- the body that was queued last is marked
+-- the number that was queued last is marked
 pub newest_marked : (ts : List Bool) (queue : List ℕ) (room : ℕ) → IsQueue ts queue room → 0 < length queue → (is_marked ts (newest queue)) ≡ true
 newest_marked ts queue room q h = marked (is_marked ts w) (q.listed w) one
   where
@@ -121,7 +121,7 @@ leaves ts queue rest room w t q e m = record {
         let ne : v ≢ w = grind (arith, nat_tests) in
         omega (arith, split v, ap one_if (sym s')) ∙ sym (ap one_if (get_or-set_other ts w v t false ne))
 
--- with an empty queue no body is marked
+-- with an empty queue no number is marked
 pub none_marked : (ts : List Bool) (room : ℕ) → IsQueue ts [] room → (w : ℕ) → (is_marked ts w) ≡ false
 none_marked ts room q w = unmarked (is_marked ts w) (q.listed w)
   where
