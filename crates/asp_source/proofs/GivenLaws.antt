@@ -1,0 +1,80 @@
+-- The nogood that is given, and the start.
+use Rattle.std.proofs.Common.{◌≡◌, ℕ, zero, suc, ◌+◌, ◌<◌, Bool, true, false, not, ◌&&◌, ◌||◌, List, [], ◌∷◌, length, Option, Some, None, refl, sym, ap, ◌∙◌, subst, arith, ◌⊎◌, inl, inr}
+use Rattle.std.specs.Option.{is_none}
+use Rattle.std.specs.List.{All, list_any, list_all, AllByRecursion}
+use Rattle.std.proofs.lemmas.Bool.{false≢true, and_parts, and_from}
+use Rattle.std.proofs.lemmas.List.Elements.{All-from_recursion}
+use Rattle.asp_model.specs.Sets.{Atoms}
+use Rattle.asp_vars.specs.declared.nogood.Nogood.{Nogood}
+use Rattle.asp_vars.specs.Literals.{Literal, T, F, literal_eq, value_of, agrees, holds_in}
+use Rattle.asp_vars.specs.Numbering.{var_count, var_of_atom}
+use Rattle.asp_trail.specs.Trails.{IsVar}
+use Rattle.asp_trail.specs.Told.{Told}
+use Rattle.asp_trail.specs.Quiet.{is_open, is_violated, is_unit, is_calm}
+use Rattle.asp_scc.proofs.ReachLaws.{atom_small}
+use Rattle.asp_vars.proofs.SupportLaws.{or_left, or_right}
+use Rattle.asp_loop.specs.LoopNogoods.{IsLoopNogood}
+use Rattle.asp_loop.proofs.WeighLaws.{literal_eq-itself}
+use Rattle.asp_source.specs.Loops.{IsGiven}
+use Rattle.asp_source.specs.Narrowing.{IsFound}
+
+-- a literal that holds has one of the variables
+held_within : (x : List (Option Bool)) (n : ℕ) (l : Literal) → length x ≡ n + 1 → value_of x 0 ≡ None → holds_in x l ≡ true → IsVar n l.var
+held_within x n l size first e = (positive l.var e, let h = inside x l.var e in omega (arith, h, size))
+  where
+    positive : (v : ℕ) → agrees (value_of x v) l ≡ true → 0 < v
+    positive zero e = absurd (false≢true (sym (ap (λ o. agrees o l) first) ∙ e))
+    positive (suc v) e = omega arith
+
+    inside : (x : List (Option Bool)) (v : ℕ) → agrees (value_of x v) l ≡ true → v < length x
+    inside [] v e = absurd (false≢true e)
+    inside (o ∷ x) zero e = omega arith
+    inside (o ∷ x) (suc v) e = let h = inside x v e in omega (arith, h)
+
+all_within : (x : List (Option Bool)) (n : ℕ) (rest : List Literal) → length x ≡ n + 1 → value_of x 0 ≡ None → list_all (holds_in x) rest ≡ true → AllByRecursion (λ (l : Literal). IsVar n l.var) rest
+all_within x n [] size first e = tt
+all_within x n (l ∷ rest) size first e =
+    let parts = and_parts (holds_in x l) (list_all (holds_in x) rest) e in
+    (held_within x n l size first parts.0, all_within x n rest size first parts.1)
+
+weaker : (x : List (Option Bool)) (l : Literal) (rest : List Literal) → list_all (holds_in x) rest ≡ true → list_all (λ k. literal_eq k l || holds_in x k) rest ≡ true
+weaker x l [] e = refl
+weaker x l (k ∷ rest) e =
+    let parts = and_parts (holds_in x k) (list_all (holds_in x) rest) e in
+    and_from (literal_eq k l || holds_in x k) (list_all (λ k. literal_eq k l || holds_in x k) rest) (or_right (literal_eq k l) (holds_in x k) parts.0) (weaker x l rest parts.1)
+
+-- a true literal, or one without a value
+true_or_open : (v : ℕ) (o : Option Bool) → agrees o (F v) ≡ false → (agrees o (T v) ≡ true) ⊎ (is_none o ≡ true)
+true_or_open v None e = inr refl
+true_or_open v (Some true) e = inl refl
+true_or_open v (Some false) e = absurd (false≢true (sym e))
+
+calm_not : (v u : Bool) → (v ≡ true) ⊎ (u ≡ true) → (not v && not u) ≡ false
+calm_not true u h = refl
+calm_not false true h = refl
+calm_not false false (inl e) = absurd (false≢true e)
+calm_not false false (inr e) = absurd (false≢true e)
+
+-- the first literal isn't false, and all others hold
+wanted : (x : List (Option Bool)) (v : ℕ) (rest : List Literal) → holds_in x (F v) ≡ false → list_all (holds_in x) rest ≡ true → is_calm x (T v ∷ rest) ≡ false
+wanted x v rest e hold = calm_not (is_violated x (T v ∷ rest)) (is_unit x (T v ∷ rest)) (elim (true_or_open v (value_of x v) e) [
+  | inl holds ↦ inl (and_from (holds_in x (T v)) (list_all (holds_in x) rest) holds hold)
+  | inr open_ ↦ inr (or_left (is_open x (T v) && list_all (λ k. literal_eq k (T v) || holds_in x k) (T v ∷ rest)) (list_any (λ l. is_open x l && list_all (λ k. literal_eq k l || holds_in x k) (T v ∷ rest)) rest)
+      (and_from (is_open x (T v)) (list_all (λ k. literal_eq k (T v) || holds_in x k) (T v ∷ rest)) open_
+      (and_from (literal_eq (T v) (T v) || holds_in x (T v)) (list_all (λ k. literal_eq k (T v) || holds_in x k) rest) (or_left (literal_eq (T v) (T v)) (holds_in x (T v)) (literal_eq-itself (T v))) (weaker x (T v) rest hold))))
+])
+
+pub given : (t : Told) (U : Atoms) (a : ℕ) (n : Nogood) → length t.values ≡ var_count t.program + 1 → value_of t.values 0 ≡ None → IsFound t.program t.values U a → IsLoopNogood t.program t.values U a n → IsGiven t n
+given t U a n size first found shape = record {
+  set = U;
+  atom = a;
+  loop = found.loop;
+  member = found.member;
+  shape = shape;
+  base = shape.pure;
+  entailed = shape.entailed;
+  within = subst (λ (ls : List Literal). All (λ (l : Literal). IsVar (var_count t.program) l.var) ls) (sym shape.literals)
+      (All-from_recursion (λ (l : Literal). IsVar (var_count t.program) l.var) (T (var_of_atom t.program a) ∷ shape.rest)
+      ((let some_ : 0 < var_of_atom t.program a = omega arith in some_, let low = atom_small t.program a (found.loop.stand a found.member) in omega (arith, low)), all_within t.values (var_count t.program) shape.rest size first shape.hold));
+  wanted = ap (is_calm t.values) shape.literals ∙ wanted t.values (var_of_atom t.program a) shape.rest (found.loop.not_false a found.member) shape.hold;
+}

@@ -1,0 +1,216 @@
+-- Candidates for an unfounded set, and what is left of them.
+use Rattle.std.proofs.Common.{◌≡◌, ◌≢◌, ℕ, zero, suc, ◌+◌, ◌-◌, ◌<◌, ◌≤◌, Bool, true, false, not, cond, ◌&&◌, ◌||◌, eqb, ltb, List, [], ◌∷◌, length, set, get_or, count_by, Option, refl, sym, ap, ◌∙◌, subst, arith, inl, inr, get_or-set_other}
+use Rattle.std.specs.Prelude.{ℤ, pos, ◌≤ℤ◌, int_lt}
+use Rattle.std.specs.List.{list_any, list_all, AllByRecursion}
+use Rattle.std.proofs.lemmas.Bool.{false≢true, and_parts, and_from, eqb-true, eq-eqb}
+use Rattle.std.proofs.lemmas.Int.{ints}
+use Rattle.std.proofs.lemmas.List.{length-set}
+use Rattle.asp_model.specs.declared.program.Body.{Body}
+use Rattle.asp_model.specs.declared.program.Body.TheVariants as body
+use Rattle.asp_model.specs.declared.program.Rule.{Rule}
+use Rattle.asp_model.specs.declared.program.Program.{Program}
+use Rattle.asp_model.specs.Sets.{Atoms, has, IsSubset}
+use Rattle.asp_model.specs.Holding.{atom_of, is_positive}
+use Rattle.asp_model.specs.Models.{rules_in_force, atoms_of, head_atoms}
+use Rattle.asp_model.specs.Sound.{IsSound}
+use Rattle.asp_vars.specs.Literals.{F, holds_in}
+use Rattle.asp_vars.specs.Numbering.{normal, body_eq, bodies_of, place_of, var_of_atom, var_of_form, nth_atom, nth_body}
+use Rattle.asp_vars.specs.Completion.{supports}
+use Rattle.asp_vars.specs.Unfounded.{is_false, is_inside, outside_weight, needs, is_excused, is_unfounded}
+use Rattle.asp_vars.proofs.NumberingLaws.{same_body}
+use Rattle.asp_vars.proofs.StandingLaws.{Among, each_among}
+use Rattle.asp_vars.proofs.SupportLaws.{some, either, or_left, or_right, at_place, in_forms}
+use Rattle.asp_loop.specs.Parts.{form_of}
+use Rattle.asp_loop.proofs.EntailedLaws.{any_of}
+use Rattle.asp_loop.proofs.LoopLaws.{members, at_form, rule_excused}
+use Rattle.asp_loop.proofs.WeightedLaws.{AreItems, form_items, form_weighted}
+use Rattle.asp_source.specs.Marks.{is_marked, shown, is_founded, is_dropped, drop_at}
+use Rattle.asp_source.specs.Narrowing.{Narrows, AreStuck}
+use Rattle.asp_source.proofs.BodyLaws.{has-shown}
+use Rattle.asp_source.proofs.QueueLaws.{fewer, marked_within}
+
+-- ---- a greater set excuses more
+inside_more : (U V : Atoms) (l : ℤ) → IsSubset U V → is_inside U l ≡ true → is_inside V l ≡ true
+inside_more U V l sub e =
+    let parts = and_parts (is_positive l) (has U (atom_of l)) e in
+    and_from (is_positive l) (has V (atom_of l)) parts.0 (sub (atom_of l) parts.1)
+
+any_more : (U V : Atoms) (ls : List ℤ) → IsSubset U V → list_any (is_inside U) ls ≡ true → list_any (is_inside V) ls ≡ true
+any_more U V [] sub e = absurd (false≢true e)
+any_more U V (l ∷ ls) sub e = elim (either (is_inside U l) (list_any (is_inside U) ls) e) [
+  | inl h ↦ or_left (is_inside V l) (list_any (is_inside V) ls) (inside_more U V l sub h)
+  | inr h ↦ or_right (is_inside V l) (list_any (is_inside V) ls) (any_more U V ls sub h)
+]
+
+outside_fewer : (p : Program) (x : List (Option Bool)) (U V : Atoms) (items : List (ℤ × ℤ)) → IsSubset U V → AreItems items → outside_weight p x V items ≤ℤ outside_weight p x U items
+outside_fewer p x U V [] sub h = omega (arith, ints)
+outside_fewer p x U V (i ∷ items) sub h =
+    let a = one (is_false p x i.0) (is_inside U i.0) (is_inside V i.0) (inside_more U V i.0 sub) in
+    let b = outside_fewer p x U V items sub h.1 in
+    omega (arith, ints, a, b)
+  where
+    one : (f u v : Bool) → (u ≡ true → v ≡ true) → cond (f || v) (pos 0) i.1 ≤ℤ cond (f || u) (pos 0) i.1
+    one true u v s = omega (arith, ints)
+    one false true true s = omega (arith, ints)
+    one false true false s = absurd (false≢true (s refl))
+    one false false true s = h.0
+    one false false false s = omega (arith, ints)
+
+pub lighter : (c v w : ℤ) → v ≤ℤ w → int_lt w c ≡ true → int_lt v c ≡ true
+lighter c v w h e = grind (arith, ints)
+
+needs_more : (p : Program) (x : List (Option Bool)) (U V : Atoms) (b : Body) → IsSubset U V → AreItems (form_items b) → needs p x U b ≡ true → needs p x V b ≡ true
+needs_more p x U V (body.All ls) sub weighted e = any_more U V ls sub e
+needs_more p x U V (body.AtLeast c items) sub weighted e =
+    lighter c (outside_weight p x V items) (outside_weight p x U items) (outside_fewer p x U V items sub weighted) e
+
+pub excused_more : (p : Program) (x : List (Option Bool)) (U V : Atoms) (b : Body) → IsSubset U V → AreItems (form_items b) → is_excused p x U b ≡ true → is_excused p x V b ≡ true
+excused_more p x U V b sub weighted e = elim (either (holds_in x (F (var_of_form p b))) (needs p x U b) e) [
+  | inl h ↦ or_left (holds_in x (F (var_of_form p b))) (needs p x V b) h
+  | inr h ↦ or_right (holds_in x (F (var_of_form p b))) (needs p x V b) (needs_more p x U V b sub weighted h)
+]
+
+-- ---- rules for an unfounded set
+each_passes : {X : Type 0} (q : X → Bool) (xs : List X) → list_all q xs ≡ true → AllByRecursion (λ x. q x ≡ true) xs
+each_passes q [] e = tt
+each_passes q (x ∷ xs) e = let both = and_parts (q x) (list_all q xs) e in (both.0, each_passes q xs both.1)
+
+pub all_among : {X : Type 0} (q : X → Bool) (xs : List X) (x : X) → list_all q xs ≡ true → Among xs x → q x ≡ true
+all_among q xs x e m = cases (q x) refl
+  where
+    cases : (b : Bool) → b ≡ q x → q x ≡ true
+    cases true t = sym t
+    cases false t =
+        let found = some (λ y. q y ≡ true) (λ y. not (q y)) xs (each_passes q xs e) (m (λ y. not (q y)) (ap not (sym t))) in
+        absurd (false≢true (sym (ap not found.1) ∙ found.2))
+
+or_then : (a b : Bool) → a ≡ true → (not a || b) ≡ true → b ≡ true
+or_then true b e f = f
+or_then false b e f = absurd (false≢true e)
+
+pub rule_is_excused : (p : Program) (x : List (Option Bool)) (U : Atoms) (r : Rule) (a : ℕ) → is_unfounded p x U ≡ true → Among (rules_in_force p) r → has (head_atoms r.head) a ≡ true → has U a ≡ true → is_excused p x U (normal r.body) ≡ true
+rule_is_excused p x U r a unfounded m head member =
+    or_then (list_any (has U) (head_atoms r.head)) (is_excused p x U (normal r.body)) (any_of (has U) (head_atoms r.head) a head member)
+    (all_among (rule_excused p x U) (rules_in_force p) r (and_parts (ltb 0 (length U)) (list_all (rule_excused p x U) (rules_in_force p)) unfounded).1 m)
+
+pub form_of-var : (p : Program) (b : Body) → list_any (body_eq b) (bodies_of p) ≡ true → form_of p (var_of_form p b) ≡ b
+form_of-var p b listed =
+    ap (nth_body p) (let e : var_of_form p b - length (atoms_of p) - 1 ≡ place_of (body_eq b) (bodies_of p) = omega arith in e) ∙ at_form b (bodies_of p) (body.All []) listed
+
+-- what is founded from outside of a set is in no unfounded part of it
+founded_out : (p : Program) (x : List (Option Bool)) (V U : Atoms) (a : ℕ) → IsSound p → is_founded p x V a ≡ true → is_unfounded p x U ≡ true → IsSubset U V → has U a ≡ true → ⊥
+founded_out p x V U a sound founded unfounded sub member =
+    let found = some (λ w. has (supports p a) w ≡ true) (λ w. not (is_excused p x V (form_of p w))) (supports p a) (members (supports p a)) founded in
+    let form = in_forms p a found.0 found.1 in
+    let same : form_of p found.0 ≡ form.0 = ap (form_of p) (sym form.2) ∙ form_of-var p form.0 form.1.0.0 in
+    let rule = some (Among (rules_in_force p)) (λ (r : Rule). has (head_atoms r.head) a && body_eq (normal r.body) form.0) (rules_in_force p) (each_among (rules_in_force p)) form.1.1 in
+    let parts = and_parts (has (head_atoms rule.0.head) a) (body_eq (normal rule.0.body) form.0) rule.2 in
+    let is_form : normal rule.0.body ≡ form.0 = same_body (normal rule.0.body) form.0 parts.1 in
+    let excused = rule_is_excused p x U rule.0 a unfounded rule.1 parts.0 member in
+    let more = excused_more p x U V (normal rule.0.body) sub (form_weighted p rule.0 sound rule.1) excused in
+    false≢true (sym (ap (λ b. not (is_excused p x V b)) (same ∙ sym is_form) ∙ ap not more) ∙ found.2)
+
+-- ---- one mark less
+pub unset_marked : (marks : List Bool) (v w : ℕ) → is_marked (set marks v false) w ≡ true → is_marked marks w ≡ true
+unset_marked [] v w e = e
+unset_marked (m ∷ marks) zero zero e = absurd (false≢true e)
+unset_marked (m ∷ marks) zero (suc w) e = e
+unset_marked (m ∷ marks) (suc v) zero e = e
+unset_marked (m ∷ marks) (suc v) (suc w) e = unset_marked marks v w e
+
+pub atom_of_var : (p : Program) (a v : ℕ) → has (atoms_of p) a ≡ true → var_of_atom p a ≡ v → nth_atom p (v - 1) ≡ a
+atom_of_var p a v stands e =
+    let back : v - 1 ≡ place_of (λ b. eqb b a) (atoms_of p) = omega (arith, e) in
+    ap (nth_atom p) back ∙ at_place (atoms_of p) a stands
+
+pub narrows_same : (p : Program) (x : List (Option Bool)) (marks : List Bool) → Narrows p x marks marks
+narrows_same p x marks = record { size = refl; less = λ v e. e; keeps = λ U unfounded sub. sub }
+
+pub narrows_then : (p : Program) (x : List (Option Bool)) (a b c : List Bool) → Narrows p x a b → Narrows p x b c → Narrows p x a c
+narrows_then p x a b c h k = record {
+  size = k.size ∙ h.size;
+  less = λ v e. h.less v (k.less v e);
+  keeps = λ U unfounded sub. k.keeps U unfounded (h.keeps U unfounded sub);
+}
+
+pub narrows_one : (p : Program) (x : List (Option Bool)) (marks : List Bool) (v : ℕ) → IsSound p → Narrows p x marks (drop_at p x marks v)
+narrows_one p x marks v sound = cases (is_dropped p x marks v) refl
+  where
+    stays : (U : Atoms) (a : ℕ) → is_dropped p x marks v ≡ true → is_unfounded p x U ≡ true → IsSubset U (shown p marks) → has U a ≡ true → (t : Bool) → t ≡ eqb (var_of_atom p a) v → has (shown p (set marks v false)) a ≡ true
+    stays U a dropped unfounded sub member true q =
+        let inside = and_parts (is_marked marks (var_of_atom p a)) (has (atoms_of p) a) (sym (has-shown p marks a) ∙ sub a member) in
+        let same : nth_atom p (v - 1) ≡ a = atom_of_var p a v inside.1 (eqb-true (var_of_atom p a) v (sym q)) in
+        let founded : is_founded p x (shown p marks) a ≡ true = ap (is_founded p x (shown p marks)) (sym same) ∙ (and_parts (is_marked marks v) (is_founded p x (shown p marks) (nth_atom p (v - 1))) dropped).1 in
+        absurd (founded_out p x (shown p marks) U a sound founded unfounded sub member)
+    stays U a dropped unfounded sub member false q =
+        let inside = and_parts (is_marked marks (var_of_atom p a)) (has (atoms_of p) a) (sym (has-shown p marks a) ∙ sub a member) in
+        let ne : var_of_atom p a ≢ v = λ e. false≢true (q ∙ eq-eqb (var_of_atom p a) v e) in
+        has-shown p (set marks v false) a
+        ∙ and_from (is_marked (set marks v false) (var_of_atom p a)) (has (atoms_of p) a) (get_or-set_other marks v (var_of_atom p a) false false ne ∙ inside.0) inside.1
+
+    cases : (b : Bool) → b ≡ is_dropped p x marks v → Narrows p x marks (cond b (set marks v false) marks)
+    cases false q = narrows_same p x marks
+    cases true q = record {
+      size = length-set marks v false;
+      less = λ w e. unset_marked marks v w e;
+      keeps = λ U unfounded sub a member. stays U a (sym q) unfounded sub member (eqb (var_of_atom p a) v) refl;
+    }
+
+-- ---- a sweep
+abbrev pub marks_in : List Bool → ℕ
+marks_in marks = count_by (λ b. b) marks
+
+pub marks_less : (marks : List Bool) (v : ℕ) → is_marked marks v ≡ true → marks_in (set marks v false) < marks_in marks
+marks_less marks v e = fewer marks v (marked_within marks v e) e
+
+pub record Sweeping (p : Program) (x : List (Option Bool)) (initial now : List Bool) (vars : List ℕ) (i : ℕ) (dropped : Bool) : Type 0 where
+  pub narrows : Narrows p x initial now
+  pub most : marks_in now ≤ marks_in initial
+  pub fewer : dropped ≡ true → marks_in now < marks_in initial
+  pub still : dropped ≡ false → now ≡ initial
+  pub stuck : dropped ≡ false → (j : ℕ) (d : ℕ) → j < i → j < length vars → is_dropped p x initial (get_or vars j d) ≡ false
+
+pub sweep_begins : (p : Program) (x : List (Option Bool)) (marks : List Bool) (vars : List ℕ) → Sweeping p x marks marks vars 0 false
+sweep_begins p x marks vars = record {
+  narrows = narrows_same p x marks;
+  most = omega arith;
+  fewer = λ e. absurd (false≢true e);
+  still = λ e. refl;
+  stuck = λ e j d lt within. absurd (omega (arith, lt));
+}
+
+pub sweep_drops : (p : Program) (x : List (Option Bool)) (initial now new : List Bool) (vars : List ℕ) (i v : ℕ) (before : Bool) → IsSound p → new ≡ drop_at p x now v → is_dropped p x now v ≡ true → Sweeping p x initial now vars i before → Sweeping p x initial new vars (i + 1) true
+sweep_drops p x initial now new vars i v before sound is dropped h =
+    let next : new ≡ set now v false = is ∙ ap (λ b. cond b (set now v false) now) dropped in
+    let less = marks_less now v (and_parts (is_marked now v) (is_founded p x (shown p now) (nth_atom p (v - 1))) dropped).0 in
+    let count : marks_in new ≡ marks_in (set now v false) = ap marks_in next in
+    let most = h.most in
+    record {
+      narrows = narrows_then p x initial now new h.narrows (subst (λ (m : List Bool). Narrows p x now m) (sym is) (narrows_one p x now v sound));
+      most = omega (arith, less, count, most);
+      fewer = λ e. omega (arith, less, count, most);
+      still = λ e. absurd (false≢true (sym e));
+      stuck = λ e. absurd (false≢true (sym e));
+    }
+
+pub sweep_passes : (p : Program) (x : List (Option Bool)) (initial now new : List Bool) (vars : List ℕ) (i v : ℕ) (before : Bool) → new ≡ drop_at p x now v → is_dropped p x now v ≡ false → ((d : ℕ) → i < length vars → get_or vars i d ≡ v) → Sweeping p x initial now vars i before → Sweeping p x initial new vars (i + 1) before
+sweep_passes p x initial now new vars i v before is dropped at h =
+    let next : new ≡ now = is ∙ ap (λ b. cond b (set now v false) now) dropped in
+    record {
+      narrows = subst (λ (m : List Bool). Narrows p x initial m) (sym next) h.narrows;
+      most = subst (λ (m : List Bool). marks_in m ≤ marks_in initial) (sym next) h.most;
+      fewer = λ e. subst (λ (m : List Bool). marks_in m < marks_in initial) (sym next) (h.fewer e);
+      still = λ e. next ∙ h.still e;
+      stuck = λ e j d lt within. cases e j d lt within (eqb j i) refl;
+    }
+  where
+    cases : before ≡ false → (j : ℕ) (d : ℕ) → j < i + 1 → j < length vars → (b : Bool) → b ≡ eqb j i → is_dropped p x initial (get_or vars j d) ≡ false
+    cases e j d lt within true q =
+        let same : j ≡ i = eqb-true j i (sym q) in
+        let v_at : get_or vars j d ≡ v = ap (λ k. get_or vars k d) same ∙ at d (omega (arith, same, within)) in
+        ap (is_dropped p x initial) v_at ∙ ap (λ m. is_dropped p x m v) (sym (h.still e)) ∙ dropped
+    cases e j d lt within false q = h.stuck e j d (let ne : j ≢ i = (λ s. false≢true (q ∙ eq-eqb j i s)) in omega (arith, lt, ne)) within
+
+pub sweep_ends : (p : Program) (x : List (Option Bool)) (initial now : List Bool) (vars : List ℕ) (i : ℕ) → length vars ≤ i → Sweeping p x initial now vars i false → AreStuck p x now vars
+sweep_ends p x initial now vars i end h =
+    subst (λ (m : List Bool). AreStuck p x m vars) (sym (h.still refl)) (λ j d lt. h.stuck refl j d (omega (arith, end, lt)) lt)

@@ -1,0 +1,51 @@
+-- Sets of atoms as marks, at the places of their variables, and how bodies are read by them.
+use Rattle.std.specs.Prelude.{ℕ, ◌-◌, Bool, false, not, ◌&&◌, ◌∷◌, [], List, Option, filter, flat_map, if◌then◌else◌, slice_index_or, slice_set}
+use Rattle.std.specs.List.{list_any}
+use Rattle.asp_model.specs.declared.program.Program.{Program}
+use Rattle.asp_model.specs.Sets.{Atoms}
+use Rattle.asp_model.specs.Models.{atoms_of}
+use Rattle.asp_vars.specs.Literals.{Literal, F, complement, holds_in}
+use Rattle.asp_vars.specs.Numbering.{var_of_atom, nth_atom}
+use Rattle.asp_vars.specs.Completion.{supports}
+use Rattle.asp_vars.specs.Unfounded.{is_excused}
+use Rattle.asp_loop.specs.Parts.{form_of}
+
+abbrev pub is_marked : List Bool → ℕ → Bool
+is_marked marks v = slice_index_or marks v false
+
+-- the atoms whose variables are marked
+abbrev pub shown : Program → List Bool → Atoms
+shown p marks = filter (λ a. is_marked marks (var_of_atom p a)) (atoms_of p)
+
+-- whether the literal says that a marked atom is true
+abbrev pub lit_inside : List Bool → Literal → Bool
+lit_inside marks l = l.truth && is_marked marks l.var
+
+-- whether the literal counts from outside of the marked atoms: it isn't false
+abbrev pub lit_outside : List (Option Bool) → List Bool → Literal → Bool
+lit_outside x marks l = not (lit_inside marks l) && not (holds_in x (complement l))
+
+-- whether a body of a rule for the atom isn't excused
+abbrev pub is_founded : Program → List (Option Bool) → Atoms → ℕ → Bool
+is_founded p x U a = list_any (λ v. not (is_excused p x U (form_of p v))) (supports p a)
+
+-- whether the variable's atom is marked, and founded from outside of the marked ones
+abbrev pub is_dropped : Program → List (Option Bool) → List Bool → ℕ → Bool
+is_dropped p x marks v = is_marked marks v && is_founded p x (shown p marks) (nth_atom p (v - 1))
+
+abbrev pub drop_at : Program → List (Option Bool) → List Bool → ℕ → List Bool
+drop_at p x marks v = if is_dropped p x marks v then slice_set marks v false else marks
+
+-- the atom is marked unless it is false
+abbrev pub begin_at : List (Option Bool) → List Bool → ℕ → List Bool
+begin_at x marks v = slice_set marks v (not (holds_in x (F v)))
+
+abbrev pub clear_at : List Bool → ℕ → List Bool
+clear_at marks v = slice_set marks v false
+
+abbrev pub atom_if : Program → List Bool → ℕ → List ℕ
+atom_if p marks v = if is_marked marks v then nth_atom p (v - 1) ∷ [] else []
+
+-- the atoms of those variables that are marked
+abbrev pub atoms_in : Program → List Bool → List ℕ → List ℕ
+atoms_in p marks vars = flat_map (atom_if p marks) vars

@@ -1,0 +1,12 @@
+//! The propagator of unfounded sets.
+#![tactic(auto)]
+
+mod bodies;
+mod founding;
+mod loose;
+mod queue;
+mod search;
+pub mod sources;
+#[cfg(test)]
+mod tests;
+mod touch;

@@ -1,0 +1,159 @@
+//! The propagator of unfounded sets.
+//!
+//! An atom of a component that can found itself has to be founded from outside: each set of atoms within a component
+//! has a body of a rule for one of them that isn't false and doesn't need the set. What has none can't be true, and a
+//! loop nogood says so.
+//!
+//! It keeps true, after every list of calls: a component that isn't queued has no unfounded set of atoms that aren't
+//! false. `assign` queues the components of the heads of a body that comes to be false, and of the heads of a weight
+//! body of which a literal comes to be false. `undo` queues the component of an atom that was false: no other call for
+//! less can make a set unfounded. Trivial components are never queued. Where all components are trivial, the program is
+//! tight: no value makes a set unfounded, and nothing is ever queued.
+ghost use Rattle.std.specs.Prelude.{◌≡◌, ◌+◌, None, IsTrue, IfOk, IfNone, IfSome, replicate};
+ghost use Rattle.asp_model.specs.Sets.{Atoms};
+ghost use Rattle.asp_vars.specs.Literals.{value_of, holds_in};
+ghost use Rattle.asp_vars.specs.Numbering.{var_count};
+ghost use Rattle.asp_trail.specs.Entries.{assignment};
+ghost use Rattle.asp_trail.specs.Trails.{IsVar};
+ghost use Rattle.asp_trail.specs.Told.{told, untold};
+ghost use Rattle.asp_source.specs.Loops.{IsUnfoundedLoop, IsGiven};
+
+use crate::queue::Queue;
+use crate::search::first_unfounded;
+use crate::touch::{has_weights, queue_of, touch_back, touch_by};
+use asp_loop::loops::loop_nogood;
+use asp_model::program::Atom;
+use asp_scc::components::Components;
+use asp_scc::find::components;
+use asp_trail::trail::Trail;
+use asp_vars::assign::Assign;
+use asp_vars::compiled::Compiled;
+use asp_vars::lit::Lit;
+use asp_vars::nogood::Nogood;
+use std::alloc::{AllocError, Global};
+use std::marker::Model;
+
+/// The components of a program, with those that may have an unfounded set under the values told.
+#[derive(Drop)]
+pub struct Sources<'a> {
+    alloc: Global,
+    compiled: &'a Compiled,
+    components: Components,
+    values: Assign,
+    queue: Queue,
+    tight: bool,
+    weighted: bool,
+    loose: Vec<bool>,
+    waiting: Queue,
+    atoms: Vec<Atom>,
+}
+
+impl<'a> Model for Sources<'a> {
+    ghost use Rattle.asp_trail.specs.Told.{Told};
+
+    ghost Value = { Told };
+
+    ghost use Rattle.asp_source.specs.Kept.{IsKept};
+
+    ghost view = { λ s. record { program = s.compiled.now; values = s.values } };
+
+    ghost invariant = { λ s. IsKept s.compiled.now s.components s.values s.queue s.tight s.weighted s.loose.items s.waiting };
+}
+
+impl<'a> Sources<'a> {
+    /// The components of a program, where no variable has a value.
+    ///
+    /// Want of memory is the one error.
+    pub fn new(alloc: Global, compiled: &'a Compiled) -> Result<Sources<'a>, AllocError>
+        ensures { IfOk result (λ s. s ≡ record { program = compiled.now; values = replicate (var_count compiled.now + 1) None }) }
+    {
+        let components = components(alloc, compiled)?;
+        let values = Assign::new(alloc, compiled.vars())?;
+        let queue = queue_of(alloc, compiled, &components)?;
+        let tight = queue.is_empty();
+        let weighted = has_weights(compiled);
+        let loose = vec![in alloc; false; compiled.atom_count() + 1]?;
+        let waiting = Queue::new(alloc, compiled.atom_count())?;
+        let atoms = Vec::with_capacity(alloc, compiled.atom_count())?;
+        Ok(Sources {
+            alloc,
+            compiled,
+            components,
+            values,
+            queue,
+            tight,
+            weighted,
+            loose,
+            waiting,
+            atoms,
+        })
+    }
+
+    /// The literal holds from now on. It takes no memory.
+    pub fn assign(&mut self, lit: Lit)
+        requires var { IsVar (var_count self.old.program) lit.var }
+        requires none { value_of self.old.values lit.var ≡ None }
+        ensures { self.new ≡ told self.old lit }
+    {
+        let _program = self.compiled.program();
+        self.values.set(lit);
+        if self.tight {
+            return;
+        }
+        touch_by(
+            self.compiled,
+            &self.components,
+            self.weighted,
+            &mut self.queue,
+            lit,
+        );
+    }
+
+    /// The literal, which holds, doesn't hold any more, nor does its complement. It takes no memory.
+    pub fn undo(&mut self, lit: Lit)
+        requires var { IsVar (var_count self.old.program) lit.var }
+        requires holds { IsTrue (holds_in self.old.values lit) }
+        ensures { self.new ≡ untold self.old lit }
+    {
+        let _program = self.compiled.program();
+        self.values.unset(lit.var());
+        touch_back(self.compiled, &self.components, &mut self.queue, lit);
+    }
+
+    /// The loop nogood of a set of atoms that aren't false, within a component that isn't trivial, which is unfounded
+    /// under the values told. None exactly where there is no such set.
+    ///
+    /// Want of memory is the one error. Whatever comes, the values stay, and a later call looks again.
+    pub fn next(&mut self, trail: &Trail) -> Result<Option<Nogood>, AllocError>
+        requires { self.old.values ≡ assignment trail.now.vars trail.now.entries }
+        ensures same { self.new ≡ self.old }
+        ensures none { IfOk result (λ n. IfNone n ((U : Atoms) → IsUnfoundedLoop self.old.program self.old.values U → ⊥)) }
+        ensures given { IfOk result (λ n. IfSome n (IsGiven self.old)) }
+    {
+        let _ = trail;
+        let _program = self.compiled.program();
+        let found = first_unfounded(
+            self.compiled,
+            &self.components,
+            &self.values,
+            &mut self.queue,
+            self.loose.as_mut_slice(),
+            &mut self.waiting,
+            &mut self.atoms,
+        )?;
+        let Some(atom) = found else {
+            return Ok(None);
+        };
+        let nogood = loop_nogood(
+            self.alloc,
+            self.compiled,
+            self.atoms.as_slice(),
+            atom,
+            &self.values,
+        )?;
+        match nogood {
+            Some(nogood) => Ok(Some(nogood)),
+            None => unreachable!(),
+        }
+    }
+}
