@@ -1,13 +1,11 @@
 -- The literals that are gathered for a nogood.
-use Rattle.std.proofs.Common.{◌≡◌, ◌≢◌, ℕ, suc, zero, ◌+◌, ◌-◌, ◌<◌, ◌≤◌, Bool, true, false, not, cond, ◌&&◌, leb, List, [], ◌∷◌, ◌++◌, length, take, drop, get_or, sum_by, Option, refl, sym, ap, ◌∙◌, subst, arith}
-use Rattle.std.specs.List.{All, list_all}
-use Rattle.std.proofs.lemmas.Bool.{false≢true}
+use Rattle.std.proofs.Common.{◌≡◌, ℕ, ◌+◌, ◌<◌, ◌≤◌, Bool, true, false, cond, leb, List, [], ◌∷◌, ◌++◌, length, take, drop, get_or, Option, sym, ap, ◌∙◌, arith}
 use Rattle.std.proofs.lemmas.Bool.Decides.{nat_tests}
 use Rattle.std.proofs.lemmas.List.{drop_more, append_assoc}
-use Rattle.std.proofs.lemmas.List.Sums.{sum_by-cons, sum_by_more}
+use Rattle.std.proofs.lemmas.List.Sums.{sum_by_more}
 use Rattle.asp_vars.specs.Literals.{Literal, holds_in}
 use Rattle.asp_weight.specs.declared.item.Item.{Item}
-use Rattle.asp_weight.specs.Rows.{on, weight_if, sum_where, total_of}
+use Rattle.asp_weight.specs.Rows.{on, weight_if, total_of}
 use Rattle.asp_weight.specs.Spoken.{held, gathered}
 
 -- ---- the loop

@@ -1,17 +1,10 @@
 -- Rows of weight bodies.
-use Rattle.std.proofs.Common.{◌≡◌, ◌≢◌, ℕ, suc, zero, ◌+◌, ◌-◌, ◌<◌, ◌≤◌, Bool, true, false, not, cond, ◌&&◌, ◌||◌, eqb, ltb, leb, List, [], ◌∷◌, ◌++◌, length, take, map, sum_by, get_or, Option, Some, None, refl, sym, ap, ◌∙◌, subst, arith}
-use Rattle.std.specs.List.{All, AllPairs, list_all, list_any}
-use Rattle.std.specs.Bool.{beq}
-use Rattle.std.specs.List.Sorted.{IsPermutation}
-use Rattle.std.proofs.lemmas.Bool.{eq-eqb, eqb-true, false≢true}
+use Rattle.std.proofs.Common.{◌≡◌, ℕ, suc, zero, ◌<◌, ◌≤◌, Bool, true, false, not, ◌&&◌, ◌||◌, ltb, List, [], ◌∷◌, length, take, get_or, refl, ap, ◌∙◌, arith}
+use Rattle.std.specs.List.{All, AllPairs, list_all}
 use Rattle.std.proofs.lemmas.Bool.Decides.{nat_tests}
-use Rattle.std.proofs.lemmas.List.Elements.{All-head, All-tail, All-take}
-use Rattle.std.proofs.lemmas.List.Sums.{sum_by-cons, get_or-le-sum_by}
-use Rattle.asp_vars.specs.Literals.{Literal, complement, literal_eq, value_of, holds_in, agrees, is_true}
-use Rattle.asp_trail.specs.Quiet.{is_open}
+use Rattle.std.proofs.lemmas.List.Elements.{All-head, All-tail}
+use Rattle.asp_vars.specs.Literals.{Literal}
 use Rattle.asp_weight.specs.declared.item.Item.{Item}
-use Rattle.asp_weight.specs.declared.item.Shape.{Shape}
-use Rattle.asp_weight.specs.Rows.{on, weight_if, sum_where, total_of, need_of, is_under, is_short, is_quiet_as, is_quiet}
 
 -- the test of a row's items
 abbrev pub passes : (Literal → Bool) → ℕ → Item → Bool

@@ -1,8 +1,7 @@
 -- The silence of a program's weight bodies is that of their rows.
-use Rattle.std.proofs.Common.{◌≡◌, ◌≢◌, ℕ, suc, zero, ◌+◌, ◌-◌, ◌<◌, ◌≤◌, Bool, true, false, not, cond, ◌&&◌, ◌||◌, ltb, leb, List, [], ◌∷◌, ◌++◌, length, map, filter, get_or, sum_by, Option, Some, None, ℤ, pos, negsuc, ◌+ℤ◌, ◌-ℤ◌, int_lt, int_le, refl, sym, ap, ◌∙◌, subst, arith}
-use Rattle.std.specs.List.{All, AllByRecursion, list_all, list_any}
+use Rattle.std.proofs.Common.{◌≡◌, ℕ, suc, ◌+◌, ◌-◌, ◌<◌, ◌≤◌, Bool, true, false, not, cond, ◌&&◌, ◌||◌, ltb, List, [], ◌∷◌, length, map, filter, get_or, Option, Some, None, ℤ, pos, negsuc, ◌+ℤ◌, ◌-ℤ◌, int_lt, int_le, refl, sym, ap, ◌∙◌, arith}
+use Rattle.std.specs.List.{AllByRecursion, list_all, list_any}
 use Rattle.std.specs.List.Sorted.{IsPermutation}
-use Rattle.std.specs.Bool.{beq}
 use Rattle.std.specs.Option.{is_none}
 use Rattle.std.specs.Int.RustNames.{unsigned_abs}
 use Rattle.std.proofs.lemmas.Bool.{false≢true}
@@ -24,9 +23,9 @@ use Rattle.asp_trail.proofs.EntryLaws.{same_default}
 use Rattle.asp_weight.specs.declared.item.Item.{Item}
 use Rattle.asp_weight.specs.declared.item.Shape.{Shape}
 use Rattle.asp_weight.specs.Silence.{weight_that, low_of, high_of, opens_pass, is_silent_as, is_silent_body, is_silent}
-use Rattle.asp_weight.specs.Rows.{on, weight_if, sum_where, total_of, item_of, row_of, is_weighed, weighed_bodies, nth_weighed, clamped, reach_of, IsRow, AreRows, shape_at, row_at, need_of, is_under, is_short, is_quiet_as, is_quiet}
+use Rattle.asp_weight.specs.Rows.{weight_if, sum_where, total_of, item_of, is_weighed, weighed_bodies, nth_weighed, clamped, IsRow, AreRows, shape_at, row_at, need_of, is_under, is_quiet_as, is_quiet}
 use Rattle.asp_weight.proofs.PositiveLaws.{HasPositive, AreWeights, bodies_positive}
-use Rattle.asp_weight.proofs.SumLaws.{list_all_same, total_split, sum_where-le-total}
+use Rattle.asp_weight.proofs.SumLaws.{list_all_same, total_split}
 
 -- ---- from integers to naturals
 sum_pos : (b : Bool) (z : ℤ) (n : ℕ) → z ≡ pos (unsigned_abs z) → cond b z (pos 0) +ℤ pos n ≡ pos (cond b (unsigned_abs z) 0 + n)

@@ -1,5 +1,5 @@
 -- What a body says when it isn't silent, and that its definition excludes the nogood.
-use Rattle.std.proofs.Common.{◌≡◌, ◌≢◌, ℕ, suc, zero, ◌+◌, ◌-◌, ◌<◌, ◌≤◌, Bool, true, false, not, cond, ◌&&◌, ◌||◌, eqb, ltb, leb, List, [], ◌∷◌, ◌++◌, length, get_or, sum_by, Option, Some, None, ℤ, pos, negsuc, ◌+ℤ◌, int_le, inl, inr, ◌⊎◌, refl, sym, ap, ◌∙◌, subst, arith}
+use Rattle.std.proofs.Common.{◌≡◌, ℕ, ◌+◌, ◌-◌, ◌≤◌, Bool, true, false, not, cond, ◌&&◌, ◌||◌, eqb, ltb, leb, List, [], ◌∷◌, ◌++◌, get_or, sum_by, Option, Some, None, ℤ, pos, negsuc, ◌+ℤ◌, int_le, inl, inr, ◌⊎◌, refl, sym, ap, ◌∙◌, subst, arith}
 use Rattle.std.specs.List.{All, AllByRecursion, list_all, list_any}
 use Rattle.std.specs.Bool.{beq}
 use Rattle.std.specs.Option.{is_none}
@@ -13,13 +13,13 @@ use Rattle.asp_model.specs.declared.program.Body.{Body}
 use Rattle.asp_model.specs.declared.program.Body.TheVariants as body
 use Rattle.asp_model.specs.declared.program.Program.{Program}
 use Rattle.asp_model.specs.Sets.{Atoms, has}
-use Rattle.asp_model.specs.Holding.{atom_of, holds, weight_of, body_holds}
-use Rattle.asp_model.specs.Models.{atoms_of, is_stable}
-use Rattle.asp_vars.specs.Literals.{Literal, T, complement, literal_eq, value_of, holds_in, agrees, is_true, hits}
-use Rattle.asp_vars.specs.Numbering.{body_eq, bodies_of, var_count, var_of_form, literal_of, values}
+use Rattle.asp_model.specs.Holding.{atom_of, holds, weight_of}
+use Rattle.asp_model.specs.Models.{atoms_of}
+use Rattle.asp_vars.specs.Literals.{Literal, complement, literal_eq, value_of, holds_in, agrees, is_true, hits}
+use Rattle.asp_vars.specs.Numbering.{body_eq, bodies_of, var_of_form, values}
 use Rattle.asp_vars.specs.Tabled.{Stands}
 use Rattle.asp_vars.specs.Entailment.{Entailed}
-use Rattle.asp_vars.proofs.LiteralLaws.{and_left, and_right, and_both, beq_same, is_true-complement, hits-append}
+use Rattle.asp_vars.proofs.LiteralLaws.{and_left, and_right, and_both, is_true-complement, hits-append}
 use Rattle.asp_vars.proofs.CompletionLaws.{literal-holds, form-true}
 use Rattle.asp_trail.specs.Quiet.{is_open, is_violated, is_unit, is_calm}
 use Rattle.asp_trail.specs.Trails.{IsVar}
@@ -29,9 +29,9 @@ use Rattle.asp_weight.specs.declared.look.Speech.{Speech}
 use Rattle.asp_weight.specs.Silence.{weight_that}
 use Rattle.asp_weight.specs.Definition.{keeps, Excludes}
 use Rattle.asp_weight.specs.Rows.{on, weight_if, sum_where, total_of, is_weighed, clamped, IsRow, need_of, is_under, is_short, is_quiet_as, is_quiet}
-use Rattle.asp_weight.specs.Spoken.{held, gathered, head_of, item_at, spoken_as, spoken, Settles, Speaks}
+use Rattle.asp_weight.specs.Spoken.{held, gathered, head_of, item_at, spoken_as, Settles, Speaks}
 use Rattle.asp_weight.proofs.PositiveLaws.{HasPositive}
-use Rattle.asp_weight.proofs.SumLaws.{list_all_same, sum_le, sum_le_but, total_split}
+use Rattle.asp_weight.proofs.SumLaws.{sum_le, sum_le_but, total_split}
 use Rattle.asp_weight.proofs.SilenceLaws.{weight_that-row}
 
 beq_itself : (b : Bool) → beq b b ≡ true

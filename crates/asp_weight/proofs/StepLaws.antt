@@ -1,14 +1,11 @@
 -- What is kept when a variable gets a value or loses it, and what a call of `next` says.
-use Rattle.std.proofs.Common.{◌≡◌, ◌≢◌, ℕ, suc, zero, ◌+◌, ◌-◌, ◌<◌, ◌≤◌, ◌^◌, Bool, true, false, not, cond, ◌&&◌, ◌||◌, eqb, List, [], ◌∷◌, ◌++◌, length, set, replicate, get_or, sum_by, Option, Some, None, refl, sym, ap, ◌∙◌, subst, arith}
-use Rattle.std.specs.List.{All, AllByRecursion, list_any}
-use Rattle.std.specs.Bool.{beq}
-use Rattle.std.proofs.lemmas.Bool.{eqb-true, false≢true}
-use Rattle.std.proofs.lemmas.Bool.Decides.{nat_tests}
+use Rattle.std.proofs.Common.{◌≡◌, ◌≢◌, ℕ, suc, zero, ◌+◌, ◌<◌, ◌≤◌, ◌^◌, Bool, true, false, not, cond, ◌||◌, List, [], ◌∷◌, length, set, replicate, get_or, Option, Some, None, refl, sym, ap, ◌∙◌, subst, arith}
+use Rattle.std.specs.List.{All, list_any}
+use Rattle.std.proofs.lemmas.Bool.{false≢true}
 use Rattle.std.proofs.lemmas.List.{length-set, set-get_or, get_or_read}
 use Rattle.std.proofs.lemmas.Grind.{common_steps}
 use Rattle.std.proofs.lemmas.List.Elements.{All-from_recursion}
 use Rattle.std.proofs.lemmas.List.Sums.{sum_by-cons, length-filter, count_by-le-length}
-use Rattle.asp_model.specs.declared.program.Body.{Body}
 use Rattle.asp_model.specs.declared.program.Body.TheVariants as body
 use Rattle.asp_model.specs.declared.program.Program.{Program}
 use Rattle.asp_model.specs.Models.{atoms_of}
@@ -24,7 +21,6 @@ use Rattle.asp_vars.proofs.LiteralLaws.{beq_same}
 use Rattle.asp_vars.proofs.StandingLaws.{bodies_of-stand, bodies_of-themselves}
 use Rattle.asp_trail.specs.Quiet.{is_calm}
 use Rattle.asp_trail.specs.Trails.{IsVar}
-use Rattle.asp_trail.specs.Told.{Told}
 use Rattle.asp_trail.proofs.EntryLaws.{set_set}
 use Rattle.asp_weight.specs.declared.item.Item.{Item}
 use Rattle.asp_weight.specs.declared.item.Shape.{Shape}
@@ -32,11 +28,11 @@ use Rattle.asp_weight.specs.declared.item.Place.{Place}
 use Rattle.asp_weight.specs.declared.tally.Tally.{Tally}
 use Rattle.asp_weight.specs.declared.look.Speech.{Speech}
 use Rattle.asp_weight.specs.Silence.{is_silent}
-use Rattle.asp_weight.specs.Definition.{keeps, Excludes, IsGiven}
+use Rattle.asp_weight.specs.Definition.{Excludes, IsGiven}
 use Rattle.asp_weight.specs.Rows.{on, weight_if, sum_where, total_of, IsRow, is_weighed, weighed_bodies, nth_weighed, AreRows, shape_at, row_at, is_quiet}
 use Rattle.asp_weight.specs.Tallied.{fresh, tally_at, raise_all, lower_all, sum_in, CanRaise, CanLower}
-use Rattle.asp_weight.specs.Placed.{places_at, sum_at, touches, ArePlaces, HaveRoom}
-use Rattle.asp_weight.specs.Spoken.{spoken, Speaks, IsReady, AreReady}
+use Rattle.asp_weight.specs.Placed.{places_at, touches, ArePlaces, HaveRoom}
+use Rattle.asp_weight.specs.Spoken.{spoken, Speaks, AreReady}
 use Rattle.asp_weight.specs.Kept.{AreCounted, AreQuiet, IsKept}
 use Rattle.asp_weight.proofs.TallyLaws.{length-raise_all, length-lower_all, raise_all-reached, raise_all-missed, raise_all-queued, lower_all-reached, lower_all-missed, lower_all-queued}
 use Rattle.asp_weight.proofs.SumLaws.{sum_more, turned, value_elsewhere, sum_in-untouched, sum_at-absent, quiet_alike, sum_where-le-total}

@@ -1,13 +1,13 @@
 -- Sums over rows: by two tests, and where one more variable has a value.
-use Rattle.std.proofs.Common.{◌≡◌, ◌≢◌, ℕ, suc, zero, ◌+◌, ◌-◌, ◌<◌, ◌≤◌, ◌^◌, Bool, true, false, not, cond, ◌&&◌, ◌||◌, eqb, ltb, List, [], ◌∷◌, ◌++◌, length, set, get_or, sum_by, Option, Some, None, refl, sym, ap, ◌∙◌, subst, arith, get_or-set_other, get_or-set_same}
-use Rattle.std.specs.List.{All, list_all, list_any}
+use Rattle.std.proofs.Common.{◌≡◌, ◌≢◌, ℕ, suc, zero, ◌+◌, ◌-◌, ◌<◌, ◌≤◌, Bool, true, false, not, cond, ◌&&◌, ◌||◌, eqb, ltb, List, [], ◌∷◌, length, set, get_or, sum_by, Option, Some, None, refl, sym, ap, ◌∙◌, arith, get_or-set_other, get_or-set_same}
+use Rattle.std.specs.List.{All, list_all}
 use Rattle.std.specs.Bool.{beq}
 use Rattle.std.specs.Option.{is_none}
 use Rattle.std.proofs.lemmas.Bool.{eq-eqb, eqb-true, false≢true}
 use Rattle.std.proofs.lemmas.Bool.Decides.{nat_tests}
 use Rattle.std.proofs.lemmas.List.Elements.{All-head, All-tail}
 use Rattle.std.proofs.lemmas.List.Sums.{sum_by-cons, get_or-le-sum_by}
-use Rattle.asp_vars.specs.Literals.{Literal, complement, literal_eq, value_of, holds_in, agrees, is_true}
+use Rattle.asp_vars.specs.Literals.{Literal, complement, value_of, holds_in, agrees}
 use Rattle.asp_trail.specs.Quiet.{is_open}
 use Rattle.asp_weight.specs.declared.item.Item.{Item}
 use Rattle.asp_weight.specs.declared.item.Shape.{Shape}

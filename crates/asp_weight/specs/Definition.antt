@@ -1,5 +1,5 @@
 -- What the definition of a weight body excludes: its variable is true exactly where its weights reach the bound.
-use Rattle.std.specs.Prelude.{◌≡◌, Bool, true, false, List, ℤ, int_le, IsTrue}
+use Rattle.std.specs.Prelude.{◌≡◌, Bool, true, false, List, int_le, IsTrue}
 use Rattle.std.specs.List.{All, list_any}
 use Rattle.std.specs.Bool.{beq}
 use Rattle.asp_model.specs.declared.program.Body.{Body}

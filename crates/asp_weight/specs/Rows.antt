@@ -1,12 +1,12 @@
 -- The literals of a weight body with their weights, which fall.
-use Rattle.std.specs.Prelude.{◌≡◌, ℕ, ◌+◌, ◌-◌, ◌<◌, ◌≤◌, ◌^◌, nat_lt, nat_le, Bool, true, false, not, ◌||◌, ◌&&◌, if◌then◌else◌, List, [], ◌∷◌, map, sum_by, length, take, slice_index_or, filter, Option, Some, None, ℤ, pos, negsuc}
+use Rattle.std.specs.Prelude.{◌≡◌, ℕ, ◌+◌, ◌-◌, ◌<◌, ◌≤◌, ◌^◌, nat_lt, Bool, true, false, not, ◌||◌, ◌&&◌, if◌then◌else◌, List, [], map, sum_by, length, take, slice_index_or, filter, Option, Some, None, ℤ, pos, negsuc}
 use Rattle.std.specs.List.{All, AllPairs, list_all}
 use Rattle.std.specs.List.Sorted.{IsPermutation}
 use Rattle.std.specs.Int.RustNames.{unsigned_abs}
 use Rattle.asp_model.specs.declared.program.Body.{Body}
 use Rattle.asp_model.specs.declared.program.Body.TheVariants as body
 use Rattle.asp_model.specs.declared.program.Program.{Program}
-use Rattle.asp_vars.specs.Literals.{Literal, complement, value_of, holds_in, literal_eq}
+use Rattle.asp_vars.specs.Literals.{Literal, complement, value_of, holds_in}
 use Rattle.asp_vars.specs.Numbering.{bodies_of, var_count, var_of_form, literal_of}
 use Rattle.asp_trail.specs.Quiet.{is_open}
 use Rattle.asp_weight.specs.declared.item.Item.{Item}

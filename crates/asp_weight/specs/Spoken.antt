@@ -1,5 +1,5 @@
 -- What a body that isn't silent says, and the literals that make a nogood of it.
-use Rattle.std.specs.Prelude.{◌≡◌, ℕ, ◌+◌, ◌<◌, ◌≤◌, ◌^◌, nat_le, Bool, true, false, not, if◌then◌else◌, List, [], ◌∷◌, ◌++◌, length, slice_index_or, Option, Some, None}
+use Rattle.std.specs.Prelude.{◌≡◌, ℕ, ◌+◌, ◌<◌, ◌≤◌, ◌^◌, nat_le, Bool, true, not, if◌then◌else◌, List, [], ◌∷◌, ◌++◌, length, slice_index_or, Option, Some, None}
 use Rattle.std.specs.List.{All, AllPairs}
 use Rattle.asp_vars.specs.Literals.{Literal, F, value_of, holds_in}
 use Rattle.asp_trail.specs.Quiet.{is_open}

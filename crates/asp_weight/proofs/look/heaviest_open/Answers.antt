@@ -1,6 +1,5 @@
 -- From the first item that is light enough on all are.
-use Rattle.std.proofs.Common.{◌≡◌, ℕ, suc, zero, ◌<◌, ◌≤◌, Bool, true, not, ◌||◌, ◌&&◌, ltb, List, [], ◌∷◌, length, take, get_or, refl, ap, ◌∙◌, sym, arith}
-use Rattle.std.specs.List.{AllPairs, list_all}
+use Rattle.std.proofs.Common.{ap, arith}
 use Rattle.std.proofs.lemmas.List.{get_or_read}
 use Rattle.asp_weight.proofs.RowLaws.{light_from}
 use Rattle.asp_trail.specs.Quiet.{is_open}

@@ -1,4 +1,4 @@
-use Rattle.std.proofs.Common.{◌≡◌, ap, length, arith}
+use Rattle.std.proofs.Common.{ap, length, arith}
 use Rattle.asp_weight.proofs.PlaceLaws.{length-put_row}
 use Rattle.asp_weight.proofs.places.add_body.Goals as goal
 

@@ -1,4 +1,4 @@
-use Rattle.std.proofs.Common.{◌≡◌, ap, length, take, arith}
+use Rattle.std.proofs.Common.{ap, length, take, arith}
 use Rattle.std.proofs.lemmas.List.{get_or_read}
 use Rattle.asp_vars.specs.Literals.{F}
 use Rattle.asp_weight.specs.declared.item.Item.{Item}

@@ -1,10 +1,9 @@
-use Rattle.std.proofs.Common.{◌≡◌, ◌∙◌, ap, sym, subst, List, length, arith}
-use Rattle.std.specs.List.Sorted.{IsPermutation}
+use Rattle.std.proofs.Common.{◌∙◌, ap, sym, subst, List, length}
 use Rattle.std.proofs.lemmas.List.Sorted.{length_permutation}
 use Rattle.asp_vars.specs.Numbering.{nth_body}
 use Rattle.asp_vars.proofs.RowLaws.{literal_vars}
 use Rattle.asp_weight.specs.declared.item.Item.{Item}
-use Rattle.asp_weight.specs.Rows.{IsOrdered, row_of}
+use Rattle.asp_weight.specs.Rows.{IsOrdered}
 use Rattle.asp_weight.proofs.BuildLaws.{row_items_of, same_items, ordered, sorted_whole}
 use Rattle.asp_weight.proofs.rows.row.Goals as goal
 

@@ -1,4 +1,4 @@
-use Rattle.std.proofs.Common.{◌≡◌, ◌<◌, ◌∙◌, ap, sym, length, take, false, arith}
+use Rattle.std.proofs.Common.{ap, length, take, false, arith}
 use Rattle.asp_weight.proofs.TallyLaws.{length-lower_all, lower_fits}
 use Rattle.asp_weight.proofs.tally.Tallies.lower.Goals as goal
 

@@ -1,7 +1,6 @@
-use Rattle.std.proofs.Common.{◌≡◌, ◌<◌, ◌∙◌, length, ap, sym, rules, arith}
+use Rattle.std.proofs.Common.{◌≡◌, ◌<◌, ◌∙◌, length, ap, rules}
 use Rattle.std.specs.Option.{IfSome}
 use Rattle.std.proofs.lemmas.Option.{IfSome_then}
-use Rattle.asp_weight.specs.declared.tally.Tally.{Tally}
 use Rattle.asp_weight.specs.Tallied.{tally_at, newest}
 use Rattle.asp_weight.proofs.QueueLaws.{newest_marked, marked_within}
 use Rattle.asp_weight.proofs.tally.Tallies.newest.Goals as goal

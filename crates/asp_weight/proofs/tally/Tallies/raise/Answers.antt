@@ -1,4 +1,4 @@
-use Rattle.std.proofs.Common.{◌≡◌, ◌<◌, ◌∙◌, ap, sym, length, take, false, arith}
+use Rattle.std.proofs.Common.{ap, length, take, false, arith}
 use Rattle.asp_weight.proofs.TallyLaws.{length-raise_all, raise_fits}
 use Rattle.asp_weight.proofs.tally.Tallies.raise.Goals as goal
 

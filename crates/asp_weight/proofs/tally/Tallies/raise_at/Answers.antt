@@ -1,8 +1,8 @@
-use Rattle.std.proofs.Common.{◌≡◌, ◌<◌, ◌∙◌, Bool, true, false, length, ap, sym, arith}
+use Rattle.std.proofs.Common.{◌∙◌, false, ap, sym, arith}
 use Rattle.std.proofs.lemmas.List.{get_or_read}
 use Rattle.asp_weight.specs.declared.tally.Tally.{Tally}
 use Rattle.asp_weight.proofs.TallyLaws.{raised-queued}
-use Rattle.asp_weight.proofs.QueueLaws.{free, joins, stays}
+use Rattle.asp_weight.proofs.QueueLaws.{free, stays}
 use Rattle.asp_weight.proofs.tally.Tallies.raise_at.Goals as goal
 
 pub push_reserved-requires : goal.push_reserved-requires

@@ -1,4 +1,3 @@
-use Rattle.std.proofs.Common.{◌≡◌, ap}
 use Rattle.asp_weight.proofs.StepLaws.{can_raise, assigned, kept_as}
 use Rattle.asp_weight.proofs.weights.Weights.assign.Goals as goal
 

@@ -1,4 +1,4 @@
-use Rattle.std.proofs.Common.{◌≡◌, ◌∙◌, length, ap, arith}
+use Rattle.std.proofs.Common.{◌∙◌, length, ap, arith}
 use Rattle.asp_weight.proofs.StepLaws.{have_room, begun_as}
 use Rattle.asp_weight.proofs.weights.Weights.new.Goals as goal
 

@@ -1,4 +1,4 @@
-use Rattle.std.proofs.Common.{◌≡◌, ◌∙◌, None, slice_set, ap}
+use Rattle.std.proofs.Common.{◌∙◌, None, slice_set, ap}
 use Rattle.asp_weight.proofs.StepLaws.{can_lower, undone, kept_as}
 use Rattle.asp_weight.proofs.weights.Weights.undo.Goals as goal
 

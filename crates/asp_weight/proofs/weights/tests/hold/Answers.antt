@@ -1,4 +1,4 @@
-use Rattle.std.proofs.Common.{◌≡◌, ◌∙◌, ◌+◌, List, [], ◌∷◌, Option, Bool, None, Some, replicate, set, ap, sym}
+use Rattle.std.proofs.Common.{◌∙◌, ◌+◌, List, Option, Bool, None, Some, replicate, set, ap, sym}
 use Rattle.std.proofs.lemmas.List.Sums.{fold-append}
 use Rattle.asp_trail.specs.Entries.{assign, assignment}
 use Rattle.asp_trail.specs.Told.{Told}
@@ -10,8 +10,6 @@ returns g c =
     let l = c.args.lit in
     let told = ap (λ (t : Told). t.values) c.assign.ensures in
     let held = ap (λ (t : Trailed). assignment t.vars t.entries) c.decide.ensures in
-    record {
-      told = told
-          ∙ (ap (λ (a : List (Option Bool)). set a l.var (Some l.truth)) c.requires.told
-          ∙ (sym (fold-append assign (replicate (c.args.trail.now.vars + 1) None) c.args.trail.now.entries _) ∙ sym held));
-    }
+    told
+    ∙ (ap (λ (a : List (Option Bool)). set a l.var (Some l.truth)) c.requires.told
+    ∙ (sym (fold-append assign (replicate (c.args.trail.now.vars + 1) None) c.args.trail.now.entries _) ∙ sym held))
