@@ -1,0 +1,11 @@
+pub mod QueueLaws
+pub mod TallyLaws
+pub mod RowLaws
+pub mod PositiveLaws
+pub mod BuildLaws
+pub mod PlaceLaws
+pub mod GatherLaws
+pub mod SumLaws
+pub mod SilenceLaws
+pub mod SpeechLaws
+pub mod StepLaws

@@ -1,0 +1,151 @@
+//! The propagator of weight bodies.
+//!
+//! It keeps true, after every list of calls:
+//! - each weight body's counters are the sums from scratch of the weights of its true and of its false literals;
+//! - each weight body that isn't queued is silent under the values told.
+//!
+//! So `next` has to look at queued bodies alone, and with an empty queue all are silent. `assign` and `undo` queue each
+//! body in which the variable stands, and the body whose variable it is: both can end a body's silence. A silent body
+//! leaves the queue; one that isn't stays there until what it says is heeded or undone.
+ghost use Rattle.std.specs.Prelude.{◌≡◌, ◌+◌, None, ◌↔◌, IsTrue, IsNone, IfOk, IfSome, replicate};
+ghost use Rattle.asp_vars.specs.Literals.{value_of, holds_in};
+ghost use Rattle.asp_vars.specs.Numbering.{var_count};
+ghost use Rattle.asp_trail.specs.Entries.{assignment};
+ghost use Rattle.asp_trail.specs.Trails.{IsVar};
+ghost use Rattle.asp_trail.specs.Told.{told, untold};
+ghost use Rattle.asp_weight.specs.Silence.{is_silent};
+ghost use Rattle.asp_weight.specs.Definition.{IsGiven};
+ghost use Rattle.asp_weight.specs.Tallied.{raise_all, lower_all, CanRaise, CanLower};
+ghost use Rattle.asp_weight.specs.Placed.{places_at};
+
+use crate::item::{Item, Place, Shape};
+use crate::look::first_speech;
+use crate::places::places_of;
+use crate::rows::Rows;
+use crate::speech::speak;
+use crate::tally::Tallies;
+use asp_model::program::Program;
+use asp_table::table::Table;
+use asp_trail::trail::Trail;
+use asp_vars::assign::Assign;
+use asp_vars::compiled::Compiled;
+use asp_vars::lit::Lit;
+use asp_vars::nogood::Nogood;
+use asp_vars::origin::Origin;
+use std::alloc::{AllocError, Global};
+use std::marker::Model;
+
+/// The weight bodies of a program, with the sums that the values told give them.
+#[derive(Drop)]
+pub struct Weights {
+    alloc: Global,
+    program: Origin<Program>,
+    values: Assign,
+    shapes: Vec<Shape>,
+    rows: Table<Item>,
+    places: Table<Place>,
+    tallies: Tallies,
+}
+
+impl Model for Weights {
+    ghost use Rattle.asp_trail.specs.Told.{Told};
+
+    ghost Value = { Told };
+
+    ghost use Rattle.asp_weight.specs.Kept.{IsKept};
+
+    ghost view = { λ w. record { program = w.program.value; values = w.values } };
+
+    ghost invariant = { λ w. IsKept w.program.value w.values w.shapes.items w.rows w.places w.tallies.tallies };
+}
+
+impl Weights {
+    /// The weight bodies of a program, where no variable has a value. It copies them, and doesn't keep the tables.
+    ///
+    /// Want of memory is the one error.
+    pub fn new(alloc: Global, compiled: &Compiled) -> Result<Weights, AllocError>
+        ensures { IfOk result (λ w. w ≡ record { program = compiled.now; values = replicate (var_count compiled.now + 1) None }) }
+    {
+        let Rows { shapes, rows } = Rows::of(alloc, compiled)?;
+        let vars = compiled.vars();
+        let places = places_of(alloc, vars, shapes.as_slice(), &rows)?;
+        let tallies = Tallies::new(alloc, shapes.as_slice().len() as u32)?;
+        let values = Assign::new(alloc, vars)?;
+        Ok(Weights {
+            alloc,
+            program: Origin::of(compiled.program()),
+            values,
+            shapes,
+            rows,
+            places,
+            tallies,
+        })
+    }
+
+    /// The literal holds from now on. It takes no memory.
+    pub fn assign(&mut self, lit: Lit)
+        requires var { IsVar (var_count self.old.program) lit.var }
+        requires none { value_of self.old.values lit.var ≡ None }
+        ensures { self.new ≡ told self.old lit }
+    {
+        self.values.set(lit);
+        raise(&mut self.tallies, &self.places, lit);
+    }
+
+    /// The literal, which holds, doesn't hold any more, nor does its complement. It takes no memory.
+    pub fn undo(&mut self, lit: Lit)
+        requires var { IsVar (var_count self.old.program) lit.var }
+        requires holds { IsTrue (holds_in self.old.values lit) }
+        ensures { self.new ≡ untold self.old lit }
+    {
+        self.values.unset(lit.var());
+        lower(&mut self.tallies, &self.places, lit);
+    }
+
+    /// A nogood that is unit or violated and that the definition of one weight body entails, if there is one.
+    ///
+    /// Want of memory is the one error. Whatever comes, the values stay, and a later call looks again.
+    pub fn next(&mut self, trail: &Trail) -> Result<Option<Nogood>, AllocError>
+        requires { self.old.values ≡ assignment trail.now.vars trail.now.entries }
+        ensures same { self.new ≡ self.old }
+        ensures silent { IfOk result (λ n. IsNone n ↔ IsTrue (is_silent self.old.program self.old.values)) }
+        ensures given { IfOk result (λ n. IfSome n (IsGiven self.old)) }
+    {
+        let values = trail.assignment();
+        let Some((body, speech)) = first_speech(
+            &mut self.tallies,
+            self.shapes.as_slice(),
+            &self.rows,
+            values,
+        ) else {
+            return Ok(None);
+        };
+        let shape = &self.shapes[body];
+        let nogood = speak(self.alloc, &speech, values, shape, self.rows.row(body))?;
+        Ok(Some(nogood))
+    }
+}
+
+// Where there are no weight bodies there are no places.
+fn raise(tallies: &mut Tallies, places: &Table<Place>, lit: Lit)
+    requires { CanRaise lit.truth tallies.old.tallies (places_at places.now lit.var) }
+    ensures { tallies.new.tallies ≡ raise_all lit.truth tallies.old.tallies (places_at places.now lit.var) }
+{
+    let var = lit.var() as usize;
+    if var < places.len() {
+        tallies.raise(places.row(var), lit.truth());
+    }
+}
+
+fn lower(tallies: &mut Tallies, places: &Table<Place>, lit: Lit)
+    requires { CanLower lit.truth tallies.old.tallies (places_at places.now lit.var) }
+    ensures { tallies.new.tallies ≡ lower_all lit.truth tallies.old.tallies (places_at places.now lit.var) }
+{
+    let var = lit.var() as usize;
+    if var < places.len() {
+        tallies.lower(places.row(var), lit.truth());
+    }
+}
+
+#[cfg(test)]
+mod tests;
