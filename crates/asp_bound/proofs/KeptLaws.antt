@@ -1,0 +1,81 @@
+-- What the propagator keeps, as values come and go.
+use Rattle.std.proofs.Common.{◌≡◌, ℕ, zero, suc, ◌+◌, ◌^◌, ◌<◌, ◌≤◌, Bool, List, [], ◌∷◌, map, length, get_or, set, Option, Some, None, ℤ, pos, ◌+ℤ◌, neg_ℤ, ◌≤ℤ◌, ◌<ℤ◌, refl, sym, ap, ◌∙◌, subst, arith}
+use Rattle.std.specs.List.{All}
+use Rattle.std.proofs.lemmas.Int.{ints}
+use Rattle.std.proofs.lemmas.List.{same_lists, get_or-map, length-map, length-set}
+use Rattle.asp_model.specs.declared.program.Program.{Program}
+use Rattle.asp_model.specs.Costs.{priorities}
+use Rattle.asp_vars.specs.Literals.{value_of}
+use Rattle.asp_vars.specs.Numbering.{var_count}
+use Rattle.asp_bound.specs.declared.place.Place.{Place}
+use Rattle.asp_bound.specs.declared.place.Item.{Item}
+use Rattle.asp_bound.specs.Optimism.{items_at, optimistic_at, optimistic}
+use Rattle.asp_bound.specs.Rises.{rise_at, raised, row_at, nth_priority}
+use Rattle.asp_bound.specs.Weights.{size_of}
+use Rattle.asp_bound.specs.Kept.{IsKept}
+use Rattle.asp_bound.proofs.CostLaws.{optimistic_at-set, optimistic_at-unset, optimistic_at-high, optimistic_at-low, rise_at-small}
+
+get_or-any : {X : Type 0} (xs : List X) (k : ℕ) (d e : X) → k < length xs → get_or xs k d ≡ get_or xs k e
+get_or-any [] k d e lt = absurd (omega arith)
+get_or-any (x ∷ xs) zero d e lt = refl
+get_or-any (x ∷ xs) (suc k) d e lt = get_or-any xs k d e (omega arith)
+
+-- sums that are those of some values at each priority
+pub summed_from : (p : Program) (a : List (Option Bool)) (sums : List ℤ) → length sums ≡ length (priorities p.minimize) →
+    ((j : ℕ) → j < length (priorities p.minimize) → get_or sums j (pos 0) ≡ optimistic_at p a (nth_priority p j)) → sums ≡ optimistic p a
+summed_from p a sums counted each =
+    same_lists sums (optimistic p a) (counted ∙ sym (length-map (optimistic_at p a) (priorities p.minimize))) (λ k d lt.
+    let low : k < length (priorities p.minimize) = omega arith in
+    get_or-any sums k d (pos 0) lt ∙ (each k low ∙ sym (get_or-map (optimistic_at p a) (priorities p.minimize) k (pos 0) d low)))
+
+pub sums-count : (p : Program) (a : List (Option Bool)) (rows : List (List Place)) (columns : List (List Item)) (vars : List ℕ) (sums : List ℤ) → IsKept p a rows columns vars sums → length sums ≡ length (priorities p.minimize)
+sums-count p a rows columns vars sums kept = ap length kept.summed ∙ length-map (optimistic_at p a) (priorities p.minimize)
+
+pub sums-at : (p : Program) (a : List (Option Bool)) (rows : List (List Place)) (columns : List (List Item)) (vars : List ℕ) (sums : List ℤ) → IsKept p a rows columns vars sums → (j : ℕ) → j < length sums → get_or sums j (pos 0) ≡ optimistic_at p a (nth_priority p j)
+sums-at p a rows columns vars sums kept j lt =
+    let low : j < length (priorities p.minimize) = omega (arith, sums-count p a rows columns vars sums kept) in
+    ap (λ (s : List ℤ). get_or s j (pos 0)) kept.summed ∙ get_or-map (optimistic_at p a) (priorities p.minimize) j (pos 0) (pos 0) low
+
+pub rows-within : (p : Program) (a : List (Option Bool)) (rows : List (List Place)) (columns : List (List Item)) (vars : List ℕ) (sums : List ℤ) → IsKept p a rows columns vars sums → (v : ℕ) → All (λ (o : Place). o.level < length sums) (row_at rows v)
+rows-within p a rows columns vars sums kept v = subst (λ (n : ℕ). All (λ (o : Place). o.level < n) (row_at rows v)) (sym (sums-count p a rows columns vars sums kept)) (kept.rowed.within v)
+
+-- what a row adds is small
+pub raised-small : (p : Program) (a : List (Option Bool)) (rows : List (List Place)) (columns : List (List Item)) (vars : List ℕ) (sums : List ℤ) → IsKept p a rows columns vars sums →
+    (v j : ℕ) (b : Bool) → 0 < v → v ≤ var_count p → j < length sums → raised (row_at rows v) j b < 2 ^ 60
+raised-small p a rows columns vars sums kept v j b i k lt =
+    let low : j < length (priorities p.minimize) = omega (arith, sums-count p a rows columns vars sums kept) in
+    omega (arith, kept.rowed.sums j v b low i k, rise_at-small p (nth_priority p j) v b, kept.small j low)
+
+-- the sums are small
+pub sums-high : (p : Program) (a : List (Option Bool)) (rows : List (List Place)) (columns : List (List Item)) (vars : List ℕ) (sums : List ℤ) → IsKept p a rows columns vars sums →
+    (j : ℕ) → j < length sums → get_or sums j (pos 0) ≤ℤ pos (2 ^ 55)
+sums-high p a rows columns vars sums kept j lt =
+    let low : j < length (priorities p.minimize) = omega (arith, sums-count p a rows columns vars sums kept) in
+    omega (arith, ints, sums-at p a rows columns vars sums kept j lt, optimistic_at-high p a (nth_priority p j), kept.small j low)
+
+pub sums-low : (p : Program) (a : List (Option Bool)) (rows : List (List Place)) (columns : List (List Item)) (vars : List ℕ) (sums : List ℤ) → IsKept p a rows columns vars sums →
+    (j : ℕ) → j < length sums → (pos 0) ≤ℤ (get_or sums j (pos 0) +ℤ pos (2 ^ 55))
+sums-low p a rows columns vars sums kept j lt =
+    let low : j < length (priorities p.minimize) = omega (arith, sums-count p a rows columns vars sums kept) in
+    omega (arith, ints, sums-at p a rows columns vars sums kept j lt, optimistic_at-low p a (nth_priority p j), kept.small j low)
+
+-- ---- a value comes, and goes
+pub kept-told : (p : Program) (a : List (Option Bool)) (rows : List (List Place)) (columns : List (List Item)) (vars : List ℕ) (sums new : List ℤ) → IsKept p a rows columns vars sums →
+    (v : ℕ) (b : Bool) → 0 < v → v ≤ var_count p → value_of a v ≡ None → length new ≡ length sums →
+    ((j : ℕ) → j < length sums → get_or new j (pos 0) ≡ get_or sums j (pos 0) +ℤ pos (raised (row_at rows v) j b)) → IsKept p (set a v (Some b)) rows columns vars new
+kept-told p a rows columns vars sums new kept v b i k none long each = record kept {
+  sized = length-set a v (Some b) ∙ kept.sized;
+  summed = summed_from p (set a v (Some b)) new (long ∙ sums-count p a rows columns vars sums kept) (λ j low.
+      let lt : j < length sums = omega (arith, sums-count p a rows columns vars sums kept) in
+      omega (arith, ints, each j lt, sums-at p a rows columns vars sums kept j lt, kept.rowed.sums j v b low i k, optimistic_at-set p a v b (nth_priority p j) i k kept.sized none));
+}
+
+pub kept-untold : (p : Program) (a : List (Option Bool)) (rows : List (List Place)) (columns : List (List Item)) (vars : List ℕ) (sums new : List ℤ) → IsKept p a rows columns vars sums →
+    (v : ℕ) (b : Bool) → 0 < v → v ≤ var_count p → value_of a v ≡ Some b → length new ≡ length sums →
+    ((j : ℕ) → j < length sums → get_or new j (pos 0) +ℤ pos (raised (row_at rows v) j b) ≡ get_or sums j (pos 0)) → IsKept p (set a v None) rows columns vars new
+kept-untold p a rows columns vars sums new kept v b i k some long each = record kept {
+  sized = length-set a v None ∙ kept.sized;
+  summed = summed_from p (set a v None) new (long ∙ sums-count p a rows columns vars sums kept) (λ j low.
+      let lt : j < length sums = omega (arith, sums-count p a rows columns vars sums kept) in
+      omega (arith, ints, each j lt, sums-at p a rows columns vars sums kept j lt, kept.rowed.sums j v b low i k, optimistic_at-unset p a v b (nth_priority p j) i k kept.sized some));
+}

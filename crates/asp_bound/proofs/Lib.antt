@@ -1,0 +1,9 @@
+pub mod SumLaws
+pub mod CostLaws
+pub mod WeightLaws
+pub mod LevelLaws
+pub mod ReachLaws
+pub mod StepLaws
+pub mod KeptLaws
+pub mod NogoodLaws
+pub mod SilentLaws

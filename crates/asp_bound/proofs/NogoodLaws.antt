@@ -1,0 +1,164 @@
+-- What the nogoods that the bound gives say.
+use Rattle.std.proofs.Common.{◌≡◌, ◌≢◌, ℕ, zero, suc, ◌+◌, ◌<◌, ◌≤◌, ◌⊎◌, Bool, true, false, cond, not, eqb, ltb, ◌&&◌, ◌||◌, List, [], ◌∷◌, ◌++◌, map, length, get_or, set, Option, Some, None, ℤ, pos, ◌+ℤ◌, ◌≤ℤ◌, refl, sym, ap, ◌∙◌, subst, inl, inr, arith, rules}
+use Rattle.std.specs.List.{All, list_all, list_any, flat_map}
+use Rattle.std.specs.Bool.{beq}
+use Rattle.std.specs.Option.{is_none}
+use Rattle.std.proofs.lemmas.Int.{ints}
+use Rattle.std.proofs.lemmas.Bool.{false≢true, cases_lt, cases_eq, eqb-true, eq-eqb, lt-ltb, ltb-true, cases_Bool}
+use Rattle.std.proofs.lemmas.Bool.Decides.{nat_tests}
+use Rattle.std.proofs.lemmas.List.{get_or-map, get_or_past, length-map}
+use Rattle.std.proofs.lemmas.List.Sums.{sum_by-cons}
+use Rattle.std.proofs.lemmas.List.Folds.{list_any-append, list_all-append}
+use Rattle.asp_model.specs.declared.program.Program.{Program}
+use Rattle.asp_model.specs.Sets.{Atoms}
+use Rattle.asp_model.specs.Costs.{cost, cost_at, priorities, betters}
+use Rattle.asp_model.proofs.MemberLaws.{list_any-flat_map}
+use Rattle.asp_vars.specs.Literals.{Literal, literal_eq, has_literal, value_of, holds_in, agrees}
+use Rattle.asp_vars.specs.Numbering.{var_count, values}
+use Rattle.asp_vars.specs.Entailment.{Below, costs}
+use Rattle.asp_vars.proofs.LiteralLaws.{beq_same, hits-has, and_both, and_left, and_right}
+use Rattle.asp_trail.specs.Trails.{IsVar}
+use Rattle.asp_trail.specs.Quiet.{is_open, is_violated, is_unit, is_calm}
+use Rattle.asp_bound.specs.declared.place.Place.{Place}
+use Rattle.asp_bound.specs.declared.place.Item.{Item}
+use Rattle.asp_bound.specs.Optimism.{optimistic_at, optimistic}
+use Rattle.asp_bound.specs.Rises.{rise_at, rise_by, raised, row_at, nth_priority}
+use Rattle.asp_bound.specs.Reasons.{raises, raising_by, raising_at}
+use Rattle.asp_bound.specs.Reach.{reach}
+use Rattle.asp_bound.specs.Kept.{IsKept}
+use Rattle.asp_bound.proofs.CostLaws.{optimistic_at-le}
+use Rattle.asp_bound.proofs.ReachLaws.{reach-above}
+
+or_left : (a b : Bool) → a ≡ true → (a || b) ≡ true
+or_left true b e = refl
+or_left false b e = absurd (false≢true e)
+
+or_right : (a b : Bool) → b ≡ true → (a || b) ≡ true
+or_right true b e = refl
+or_right false b e = e
+
+-- ---- what a nogood says
+-- Where the literals of values that raise the first priorities are among the nogood's, it is below the bound that they reach.
+pub below_from : (p : Program) (a : List (Option Bool)) (c : List ℤ) (d : ℕ) (n : List Literal) → reach (optimistic p a) c ≡ Some d →
+    ((j v : ℕ) (b : Bool) → j < d → j < length (priorities p.minimize) → 0 < v → v ≤ var_count p → value_of a v ≡ Some b → 0 < rise_at p (nth_priority p j) v b → has_literal n (record { var = v; truth = b }) ≡ true) →
+    Below p c n
+below_from p a c d n r among = record {
+  excused = λ S stable hit.
+      let qs = priorities p.minimize in
+      let same : length (optimistic p a) ≡ length (cost p S) = omega (arith, length-map (optimistic_at p a) qs, length-map (cost_at S p.minimize) qs) in
+      let above : (j : ℕ) → j < d → get_or (optimistic p a) j (pos 0) ≤ℤ get_or (cost p S) j (pos 0) = λ j lt. elim (cases_lt j (length qs)) [
+        | inl low ↦ (
+          let left : get_or (optimistic p a) j (pos 0) ≡ optimistic_at p a (nth_priority p j) = get_or-map (optimistic_at p a) qs j (pos 0) (pos 0) low in
+          let right : get_or (cost p S) j (pos 0) ≡ cost_at S p.minimize (nth_priority p j) = get_or-map (cost_at S p.minimize) qs j (pos 0) (pos 0) low in
+          let le = optimistic_at-le p a S (nth_priority p j) (λ v b i k e up. sym (beq_same (get_or (values p S) v false) b (hits-has (values p S) n (record { var = v; truth = b }) hit (among j v b lt low i k e up)))) in
+          omega (arith, ints, left, right, le))
+        | inr out ↦ (
+          let left : get_or (optimistic p a) j (pos 0) ≡ pos 0 = get_or_past (optimistic p a) j (pos 0) (omega (arith, length-map (optimistic_at p a) qs)) in
+          let right : get_or (cost p S) j (pos 0) ≡ pos 0 = get_or_past (cost p S) j (pos 0) (omega (arith, length-map (cost_at S p.minimize) qs)) in
+          omega (arith, ints, left, right))
+      ] in
+      ap not (reach-above (optimistic p a) (cost p S) c d r same above)
+}
+
+-- ---- the literals that raise the cost
+raised-raises : (row : List Place) (j d : ℕ) (b : Bool) → j < d → 0 < raised row j b → raises row d b ≡ true
+raised-raises [] j d b lt up = absurd (omega arith)
+raised-raises (o ∷ row) j d b lt up =
+    let split : raised (o ∷ row) j b ≡ cond (eqb o.level j) (rise_by b o) 0 + raised row j b = sum_by-cons (λ (x : Place). cond (eqb x.level j) (rise_by b x) 0) o row in
+    elim (cases_lt 0 (cond (eqb o.level j) (rise_by b o) 0)) [
+      | inl here ↦ or_left (ltb o.level d && ltb 0 (rise_by b o)) (raises row d b) (first (eqb o.level j) refl here)
+      | inr none ↦ (
+        let rest : 0 < raised row j b = omega arith in
+        or_right (ltb o.level d && ltb 0 (rise_by b o)) (raises row d b) (raised-raises row j d b lt rest))
+    ]
+  where
+    first : (t : Bool) → eqb o.level j ≡ t → 0 < cond t (rise_by b o) 0 → (ltb o.level d && ltb 0 (rise_by b o)) ≡ true
+    first true e h = and_both (ltb o.level d) (ltb 0 (rise_by b o)) (lt-ltb o.level d (omega (arith, eqb-true o.level j e))) (lt-ltb 0 (rise_by b o) h)
+    first false e h = absurd (omega arith)
+
+raised-some : (row : List Place) (j : ℕ) (b : Bool) → 0 < raised row j b → row ≢ []
+raised-some [] j b up = absurd (omega arith)
+raised-some (o ∷ row) j b up = λ e. false≢true (sym (ap is_long e))
+  where
+    is_long : List Place → Bool
+    is_long [] = false
+    is_long (x ∷ xs) = true
+
+among-any : (vs : List ℕ) (v : ℕ) (q : ℕ → Bool) → list_any (λ x. eqb x v) vs ≡ true → q v ≡ true → list_any q vs ≡ true
+among-any [] v q h e = absurd (false≢true h)
+among-any (x ∷ vs) v q h e = any_by (eqb x v) refl h (λ g. among-any vs v q g e)
+  where
+    any_by : (t : Bool) → eqb x v ≡ t → (t || list_any (λ y. eqb y v) vs) ≡ true → (list_any (λ y. eqb y v) vs ≡ true → list_any q vs ≡ true) → (q x || list_any q vs) ≡ true
+    any_by true f g rest = or_left (q x) (list_any q vs) (ap q (eqb-true x v f) ∙ e)
+    any_by false f g rest = or_right (q x) (list_any q vs) (rest g)
+
+itself : (v : ℕ) (b : Bool) → literal_eq (record { var = v; truth = b }) (record { var = v; truth = b }) ≡ true
+itself v true = and_both (eqb v v) true (eq-eqb v v refl) refl
+itself v false = and_both (eqb v v) true (eq-eqb v v refl) refl
+
+one_has : (t : Bool) (v : ℕ) (b : Bool) → t ≡ true → has_literal (cond t (record { var = v; truth = b } ∷ []) []) (record { var = v; truth = b }) ≡ true
+one_has true v b e = or_left (literal_eq (record { var = v; truth = b }) (record { var = v; truth = b })) false (itself v b)
+one_has false v b e = absurd (false≢true e)
+
+abbrev pub raising_of : List (Option Bool) → List (List Place) → ℕ → List ℕ → List Literal
+raising_of a rows d vs = flat_map (raising_at a rows d) vs
+
+raising_by-has : (row : List Place) (d v : ℕ) (b : Bool) (o : Option Bool) → o ≡ Some b → raises row d b ≡ true → has_literal (raising_by row d v o) (record { var = v; truth = b }) ≡ true
+raising_by-has row d v b o e up = subst (λ o. has_literal (raising_by row d v o) (record { var = v; truth = b }) ≡ true) (sym e) (one_has (raises row d b) v b up)
+
+raising-has : (a : List (Option Bool)) (rows : List (List Place)) (d : ℕ) (vs : List ℕ) (v : ℕ) (b : Bool) → list_any (λ x. eqb x v) vs ≡ true → value_of a v ≡ Some b → raises (row_at rows v) d b ≡ true → has_literal (raising_of a rows d vs) (record { var = v; truth = b }) ≡ true
+raising-has a rows d vs v b among e up =
+    let l : Literal = record { var = v; truth = b } in
+    list_any-flat_map (λ k. literal_eq k l) (raising_at a rows d) vs ∙ among-any vs v (λ x. has_literal (raising_at a rows d x) l) among (raising_by-has (row_at rows v) d v b (value_of a v) e up)
+
+-- all that raise the first priorities are among them
+pub raising-whole : (p : Program) (a : List (Option Bool)) (rows : List (List Place)) (columns : List (List Item)) (vars : List ℕ) (sums : List ℤ) (d : ℕ) → IsKept p a rows columns vars sums →
+    (j v : ℕ) (b : Bool) → j < d → j < length (priorities p.minimize) → 0 < v → v ≤ var_count p → value_of a v ≡ Some b → 0 < rise_at p (nth_priority p j) v b → has_literal (raising_of a rows d vars) (record { var = v; truth = b }) ≡ true
+raising-whole p a rows columns vars sums d kept j v b lt low i k e up =
+    let raise : 0 < raised (row_at rows v) j b = omega (arith, kept.rowed.sums j v b low i k) in
+    raising-has a rows d vars v b (kept.listed.whole v i k (raised-some (row_at rows v) j b raise)) e (raised-raises (row_at rows v) j d b lt raise)
+
+-- ---- they hold
+beq-itself : (b : Bool) → beq b b ≡ true
+beq-itself true = refl
+beq-itself false = refl
+
+raising_by-hold : (a : List (Option Bool)) (row : List Place) (d v : ℕ) (o : Option Bool) → value_of a v ≡ o → list_all (holds_in a) (raising_by row d v o) ≡ true
+raising_by-hold a row d v None e = refl
+raising_by-hold a row d v (Some b) e = by_test (raises row d b)
+  where
+    holds : holds_in a (record { var = v; truth = b }) ≡ true
+    holds = ap (λ o. agrees o (record { var = v; truth = b })) e ∙ beq-itself b
+
+    by_test : (t : Bool) → list_all (holds_in a) (cond t (record { var = v; truth = b } ∷ []) []) ≡ true
+    by_test true = and_both (holds_in a (record { var = v; truth = b })) true holds refl
+    by_test false = refl
+
+pub raising-hold : (a : List (Option Bool)) (rows : List (List Place)) (d : ℕ) (vs : List ℕ) → list_all (holds_in a) (raising_of a rows d vs) ≡ true
+raising-hold a rows d [] = refl
+raising-hold a rows d (v ∷ vs) =
+    list_all-append (holds_in a) (raising_at a rows d v) (raising_of a rows d vs) ∙ and_both (list_all (holds_in a) (raising_at a rows d v)) (list_all (holds_in a) (raising_of a rows d vs)) (raising_by-hold a (row_at rows v) d v (value_of a v) refl) (raising-hold a rows d vs)
+
+-- ---- so they are violated, or unit with one more
+pub violated-loud : (a : List (Option Bool)) (n : List Literal) → list_all (holds_in a) n ≡ true → is_calm a n ≡ false
+violated-loud a n h = ap (λ b. not b && not (is_unit a n)) h
+
+weaker-all : (f g : Literal → Bool) (n : List Literal) → ((k : Literal) → f k ≡ true → g k ≡ true) → list_all f n ≡ true → list_all g n ≡ true
+weaker-all f g [] h e = refl
+weaker-all f g (k ∷ n) h e = and_both (g k) (list_all g n) (h k (and_left (f k) (list_all f n) e)) (weaker-all f g n h (and_right (f k) (list_all f n) e))
+
+pub unit-loud : (a : List (Option Bool)) (n : List Literal) (v : ℕ) (b : Bool) → list_all (holds_in a) n ≡ true → value_of a v ≡ None → is_calm a (n ++ record { var = v; truth = b } ∷ []) ≡ false
+unit-loud a n v b h none =
+    let l : Literal = record { var = v; truth = b } in
+    let test : Literal → Bool = λ k. literal_eq k l || holds_in a k in
+    let others : list_all test (n ++ l ∷ []) ≡ true =
+    list_all-append test n (l ∷ []) ∙ and_both (list_all test n) (list_all test (l ∷ [])) (weaker-all (holds_in a) test n (λ k e. or_right (literal_eq k l) (holds_in a k) e) h) (and_both (test l) true (or_left (literal_eq l l) (holds_in a l) (itself v b)) refl) in
+    let open : is_open a l ≡ true = ap is_none none in
+    let here : (is_open a l && list_all test (n ++ l ∷ [])) ≡ true = and_both (is_open a l) (list_all test (n ++ l ∷ [])) open others in
+    let unit : is_unit a (n ++ l ∷ []) ≡ true =
+    list_any-append (λ x. is_open a x && list_all (λ k. literal_eq k x || holds_in a k) (n ++ l ∷ [])) n (l ∷ []) ∙ or_right (list_any (λ x. is_open a x && list_all (λ k. literal_eq k x || holds_in a k) (n ++ l ∷ [])) n) ((is_open a l && list_all test (n ++ l ∷ [])) || false) (or_left (is_open a l && list_all test (n ++ l ∷ [])) false here) in
+    and_right_false (not (is_violated a (n ++ l ∷ []))) (not (is_unit a (n ++ l ∷ []))) (ap not unit)
+  where
+    and_right_false : (x y : Bool) → y ≡ false → (x && y) ≡ false
+    and_right_false true y e = e
+    and_right_false false y e = refl

@@ -1,0 +1,10 @@
+pub mod Optimism
+pub mod Rises
+pub mod Weights
+pub mod Levels
+pub mod Gathered
+pub mod Reach
+pub mod Reasons
+pub mod Found
+pub mod Bounded
+pub mod Kept
