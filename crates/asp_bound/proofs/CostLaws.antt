@@ -15,7 +15,7 @@ use Rattle.asp_model.specs.declared.program.Program.{Program}
 use Rattle.asp_model.specs.Sets.{Atoms, has}
 use Rattle.asp_model.specs.Holding.{atom_of, body_atoms, holds, weight_of, is_positive}
 use Rattle.asp_model.specs.Models.{atoms_of, head_atoms}
-use Rattle.asp_model.specs.Costs.{cost_at}
+use Rattle.asp_model.specs.Costs.{cost_at, cost, priorities}
 use Rattle.asp_model.proofs.SetLaws.{has-set_of}
 use Rattle.asp_model.proofs.MemberLaws.{each_weaker, each-append, HasAll, HasAll-left, HasAll-right, HasAll-flat_map}
 use Rattle.asp_vars.specs.Literals.{Literal, T, F, literal_eq, value_of, is_true}
@@ -23,10 +23,11 @@ use Rattle.asp_vars.specs.Numbering.{var_count, var_in, place_of, literal_in, li
 use Rattle.asp_vars.proofs.CompletionLaws.{literal-holds}
 use Rattle.asp_vars.proofs.StandingLaws.{each-unmap}
 use Rattle.asp_vars.proofs.PlaceLaws.{place_of-within}
-use Rattle.asp_bound.specs.Optimism.{items_at, weight_in, weight_at, negative, least, sum_to, least_at, optimistic_at}
+use Rattle.asp_bound.specs.Optimism.{items_at, weight_in, weight_at, negative, least, sum_to, least_at, optimistic_at, optimistic}
+use Rattle.asp_bound.specs.Definition.{weight_that, cost_of_at, cost_of}
 use Rattle.asp_bound.specs.Rises.{above, beneath, rise, rise_at}
 use Rattle.asp_bound.specs.Weights.{size_of}
-use Rattle.asp_bound.proofs.SumLaws.{sum_to-le, sum_to-add, sum_to-zero, sum_to-at, picked, picked_by, picked-sum, AreVars}
+use Rattle.asp_bound.proofs.SumLaws.{sum_to-le, sum_to-add, sum_to-zero, sum_to-at, sum_to-same, picked_by, picked-sum, AreVars}
 
 -- ---- the atoms of minimize statements have variables
 abbrev pub AreStanding : Program → List (ℤ × ℤ) → Type 0
@@ -78,15 +79,28 @@ pub cost_at-items : (S : Atoms) (ms : List Minimize) (q : ℤ) → cost_at S ms 
 cost_at-items S [] q = refl
 cost_at-items S (m ∷ ms) q = omega (arith, ints, cost_at-items S ms q, weight_of-append S (cond (int_eq m.priority q) m.items []) (items_at ms q), weight_of-cond S (int_eq m.priority q) m.items)
 
-weight_of-picked : (p : Program) (S : Atoms) (items : List (ℤ × ℤ)) → AreStanding p items → weight_of S items ≡ picked (is_true (values p S)) (atoms_of p) items
+weight_of-picked : (p : Program) (S : Atoms) (items : List (ℤ × ℤ)) → AreStanding p items → weight_of S items ≡ weight_that (is_true (values p S)) (atoms_of p) items
 weight_of-picked p S [] h = refl
 weight_of-picked p S (i ∷ items) h =
     let here : cond (is_true (values p S) (literal_in (atoms_of p) i.0)) i.1 (pos 0) ≡ cond (holds S i.0) i.1 (pos 0) = ap (λ b. cond b i.1 (pos 0)) (literal-holds p S i.0 h.0) in
     omega (arith, ints, here, weight_of-picked p S items h.1)
 
-pub cost_at-sum : (p : Program) (S : Atoms) (q : ℤ) → cost_at S p.minimize q ≡ sum_to (picked_by (is_true (values p S)) (weight_at p q)) (var_count p)
-cost_at-sum p S q =
-    cost_at-items S p.minimize q ∙ (weight_of-picked p S (items_at p.minimize q) (items-stand p q) ∙ picked-sum (is_true (values p S)) (atoms_of p) (var_count p) (items_at p.minimize q) (items-vars p (items_at p.minimize q) (items-stand p q)))
+cost_of_at-sum : (p : Program) (x : List Bool) (q : ℤ) → cost_of_at p x q ≡ sum_to (picked_by (is_true x) (weight_at p q)) (var_count p)
+cost_of_at-sum p x q = picked-sum (is_true x) (atoms_of p) (var_count p) (items_at p.minimize q) (items-vars p (items_at p.minimize q) (items-stand p q))
+
+-- A set costs what the values of the variables in it cost.
+cost_of_at-values : (p : Program) (S : Atoms) (q : ℤ) → cost_of_at p (values p S) q ≡ cost_at S p.minimize q
+cost_of_at-values p S q = sym (cost_at-items S p.minimize q ∙ weight_of-picked p S (items_at p.minimize q) (items-stand p q))
+
+map-same : (f g : ℤ → ℤ) (qs : List ℤ) → ((q : ℤ) → f q ≡ g q) → map f qs ≡ map g qs
+map-same f g [] h = refl
+map-same f g (q ∷ qs) h =
+    let first : f q ≡ g q = h q in
+    let rest : map f qs ≡ map g qs = map-same f g qs h in
+    cc
+
+pub cost_of-values : (p : Program) (S : Atoms) → cost_of p (values p S) ≡ cost p S
+cost_of-values p S = map-same (cost_of_at p (values p S)) (cost_at S p.minimize) (priorities p.minimize) (cost_of_at-values p S)
 
 -- ---- a variable's part
 picked_by-value : (x : Bool) (t f : ℤ) → cond (beq x true) t (pos 0) +ℤ cond (beq x false) f (pos 0) ≡ cond x t f
@@ -140,15 +154,32 @@ least-rise false (negsuc a) (pos b) = omega (arith, ints)
 least-rise false (negsuc a) (negsuc b) = omega (arith, ints)
 
 -- ---- the optimistic cost is the least
-pub optimistic_at-le : (p : Program) (a : List (Option Bool)) (S : Atoms) (q : ℤ) →
-    ((v : ℕ) (b : Bool) → 0 < v → v ≤ var_count p → value_of a v ≡ Some b → 0 < rise_at p q v b → b ≡ get_or (values p S) v false) →
-    optimistic_at p a q ≤ℤ cost_at S p.minimize q
-optimistic_at-le p a S q h =
-    let each : (v : ℕ) → 0 < v → v ≤ var_count p → least_at p a q v ≤ℤ picked_by (is_true (values p S)) (weight_at p q) v = λ v i k.
-    let x = get_or (values p S) v false in
-    let le : least_at p a q v ≤ℤ cond x (weight_at p q (T v)) (weight_at p q (F v)) = least-le (value_of a v) x (weight_at p q (T v)) (weight_at p q (F v)) (λ b e up. h v b i k e up) in
-    omega (arith, ints, le, picked_by-value x (weight_at p q (T v)) (weight_at p q (F v))) in
-    omega (arith, ints, cost_at-sum p S q, sum_to-le (least_at p a q) (picked_by (is_true (values p S)) (weight_at p q)) (var_count p) each)
+pub optimistic_at-le : (p : Program) (a : List (Option Bool)) (x : List Bool) (q : ℤ) →
+    ((v : ℕ) (b : Bool) → 0 < v → v ≤ var_count p → value_of a v ≡ Some b → 0 < rise_at p q v b → b ≡ get_or x v false) →
+    optimistic_at p a q ≤ℤ cost_of_at p x q
+optimistic_at-le p a x q h =
+    let each : (v : ℕ) → 0 < v → v ≤ var_count p → least_at p a q v ≤ℤ picked_by (is_true x) (weight_at p q) v = λ v i k.
+    let le : least_at p a q v ≤ℤ cond (get_or x v false) (weight_at p q (T v)) (weight_at p q (F v)) = least-le (value_of a v) (get_or x v false) (weight_at p q (T v)) (weight_at p q (F v)) (λ b e up. h v b i k e up) in
+    omega (arith, ints, le, picked_by-value (get_or x v false) (weight_at p q (T v)) (weight_at p q (F v))) in
+    omega (arith, ints, cost_of_at-sum p x q, sum_to-le (least_at p a q) (picked_by (is_true x) (weight_at p q)) (var_count p) each)
+
+pub optimistic_at-set_le : (p : Program) (a : List (Option Bool)) (S : Atoms) (q : ℤ) →
+    ((v : ℕ) (b : Bool) → 0 < v → v ≤ var_count p → value_of a v ≡ Some b → b ≡ get_or (values p S) v false) → optimistic_at p a q ≤ℤ cost_at S p.minimize q
+optimistic_at-set_le p a S q h =
+    let P : ℤ → Type 0 = λ x. optimistic_at p a q ≤ℤ x in
+    subst P (cost_of_at-values p S q) (optimistic_at-le p a (values p S) q (λ v b i k e up. h v b i k e))
+
+-- where all variables have values, it is what these cost
+optimistic_at-whole : (p : Program) (a : List (Option Bool)) (x : List Bool) (q : ℤ) → ((v : ℕ) → 0 < v → v ≤ var_count p → value_of a v ≡ Some (get_or x v false)) → optimistic_at p a q ≡ cost_of_at p x q
+optimistic_at-whole p a x q h =
+    let each : (v : ℕ) → 0 < v → v ≤ var_count p → least_at p a q v ≡ picked_by (is_true x) (weight_at p q) v = λ v i k.
+    let t = weight_at p q (T v) in
+    let f = weight_at p q (F v) in
+    ap (λ o. least o t f) (h v i k) ∙ (least-some (get_or x v false) t f ∙ sym (picked_by-value (get_or x v false) t f)) in
+    sum_to-same (least_at p a q) (picked_by (is_true x) (weight_at p q)) (var_count p) each ∙ sym (cost_of_at-sum p x q)
+
+pub optimistic-whole : (p : Program) (a : List (Option Bool)) (x : List Bool) → ((v : ℕ) → 0 < v → v ≤ var_count p → value_of a v ≡ Some (get_or x v false)) → optimistic p a ≡ cost_of p x
+optimistic-whole p a x h = map-same (optimistic_at p a) (cost_of_at p x) (priorities p.minimize) (λ q. optimistic_at-whole p a x q h)
 
 -- ---- a value more
 pub optimistic_at-rise : (p : Program) (a z : List (Option Bool)) (v : ℕ) (b : Bool) (q : ℤ) → 0 < v → v ≤ var_count p → value_of a v ≡ None → value_of z v ≡ Some b →
@@ -185,10 +216,10 @@ absolutes-stand : (p : Program) (items : List (ℤ × ℤ)) → AreStanding p it
 absolutes-stand p [] h = tt
 absolutes-stand p (i ∷ items) h = (h.0, absolutes-stand p items h.1)
 
-absolutes-size : (atoms : Atoms) (items : List (ℤ × ℤ)) → picked (λ l. true) atoms (absolutes items) ≡ pos (size_of items)
+absolutes-size : (atoms : Atoms) (items : List (ℤ × ℤ)) → weight_that (λ l. true) atoms (absolutes items) ≡ pos (size_of items)
 absolutes-size atoms [] = refl
 absolutes-size atoms (i ∷ items) =
-    let left : picked (λ l. true) atoms (absolutes (i ∷ items)) ≡ pos (unsigned_abs i.1) +ℤ picked (λ l. true) atoms (absolutes items) = refl in
+    let left : weight_that (λ l. true) atoms (absolutes (i ∷ items)) ≡ pos (unsigned_abs i.1) +ℤ weight_that (λ l. true) atoms (absolutes items) = refl in
     let right : size_of (i ∷ items) ≡ unsigned_abs i.1 + size_of items = sum_by-cons (λ (x : ℤ × ℤ). unsigned_abs x.1) i items in
     left ∙ (ap (λ x. pos (unsigned_abs i.1) +ℤ x) (absolutes-size atoms items) ∙ sym (ap pos right))
 

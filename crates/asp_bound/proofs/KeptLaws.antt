@@ -2,9 +2,11 @@
 use Rattle.std.proofs.Common.{◌≡◌, ℕ, zero, suc, ◌+◌, ◌^◌, ◌<◌, ◌≤◌, Bool, List, [], ◌∷◌, map, length, get_or, set, Option, Some, None, ℤ, pos, ◌+ℤ◌, neg_ℤ, ◌≤ℤ◌, ◌<ℤ◌, refl, sym, ap, ◌∙◌, subst, arith}
 use Rattle.std.specs.List.{All}
 use Rattle.std.proofs.lemmas.Int.{ints}
-use Rattle.std.proofs.lemmas.List.{same_lists, get_or-map, length-map, length-set}
+use Rattle.std.proofs.lemmas.List.{same_lists, get_or-map, length-map, length-set, length-replicate}
+use Rattle.std.proofs.lemmas.List.Elements.{All-weaker}
 use Rattle.asp_model.specs.declared.program.Program.{Program}
 use Rattle.asp_model.specs.Costs.{priorities}
+use Rattle.asp_model.specs.Sound.{IsSound}
 use Rattle.asp_vars.specs.Literals.{value_of}
 use Rattle.asp_vars.specs.Numbering.{var_count}
 use Rattle.asp_bound.specs.declared.place.Place.{Place}
@@ -13,6 +15,7 @@ use Rattle.asp_bound.specs.Optimism.{items_at, optimistic_at, optimistic}
 use Rattle.asp_bound.specs.Rises.{rise_at, raised, row_at, nth_priority}
 use Rattle.asp_bound.specs.Weights.{size_of}
 use Rattle.asp_bound.specs.Kept.{IsKept}
+use Rattle.asp_bound.specs.Gathered.{valueless, AreGathered, HasEach}
 use Rattle.asp_bound.proofs.CostLaws.{optimistic_at-set, optimistic_at-unset, optimistic_at-high, optimistic_at-low, rise_at-small}
 
 get_or-any : {X : Type 0} (xs : List X) (k : ℕ) (d e : X) → k < length xs → get_or xs k d ≡ get_or xs k e
@@ -24,12 +27,12 @@ get_or-any (x ∷ xs) (suc k) d e lt = get_or-any xs k d e (omega arith)
 pub summed_from : (p : Program) (a : List (Option Bool)) (sums : List ℤ) → length sums ≡ length (priorities p.minimize) →
     ((j : ℕ) → j < length (priorities p.minimize) → get_or sums j (pos 0) ≡ optimistic_at p a (nth_priority p j)) → sums ≡ optimistic p a
 summed_from p a sums counted each =
-    same_lists sums (optimistic p a) (counted ∙ sym (length-map (optimistic_at p a) (priorities p.minimize))) (λ k d lt.
+    same_lists sums (optimistic p a) (counted ∙ sym (length-map (priorities p.minimize) (optimistic_at p a))) (λ k d lt.
     let low : k < length (priorities p.minimize) = omega arith in
     get_or-any sums k d (pos 0) lt ∙ (each k low ∙ sym (get_or-map (optimistic_at p a) (priorities p.minimize) k (pos 0) d low)))
 
 pub sums-count : (p : Program) (a : List (Option Bool)) (rows : List (List Place)) (columns : List (List Item)) (vars : List ℕ) (sums : List ℤ) → IsKept p a rows columns vars sums → length sums ≡ length (priorities p.minimize)
-sums-count p a rows columns vars sums kept = ap length kept.summed ∙ length-map (optimistic_at p a) (priorities p.minimize)
+sums-count p a rows columns vars sums kept = ap length kept.summed ∙ length-map (priorities p.minimize) (optimistic_at p a)
 
 pub sums-at : (p : Program) (a : List (Option Bool)) (rows : List (List Place)) (columns : List (List Item)) (vars : List ℕ) (sums : List ℤ) → IsKept p a rows columns vars sums → (j : ℕ) → j < length sums → get_or sums j (pos 0) ≡ optimistic_at p a (nth_priority p j)
 sums-at p a rows columns vars sums kept j lt =
@@ -41,7 +44,7 @@ rows-within p a rows columns vars sums kept v = subst (λ (n : ℕ). All (λ (o 
 
 -- what a row adds is small
 pub raised-small : (p : Program) (a : List (Option Bool)) (rows : List (List Place)) (columns : List (List Item)) (vars : List ℕ) (sums : List ℤ) → IsKept p a rows columns vars sums →
-    (v j : ℕ) (b : Bool) → 0 < v → v ≤ var_count p → j < length sums → raised (row_at rows v) j b < 2 ^ 60
+    (v j : ℕ) (b : Bool) → 0 < v → v ≤ var_count p → j < length sums → raised (row_at rows v) j b ≤ 2 ^ 56
 raised-small p a rows columns vars sums kept v j b i k lt =
     let low : j < length (priorities p.minimize) = omega (arith, sums-count p a rows columns vars sums kept) in
     omega (arith, kept.rowed.sums j v b low i k, rise_at-small p (nth_priority p j) v b, kept.small j low)
@@ -78,4 +81,21 @@ kept-untold p a rows columns vars sums new kept v b i k some long each = record 
   summed = summed_from p (set a v None) new (long ∙ sums-count p a rows columns vars sums kept) (λ j low.
       let lt : j < length sums = omega (arith, sums-count p a rows columns vars sums kept) in
       omega (arith, ints, each j lt, sums-at p a rows columns vars sums kept j lt, kept.rowed.sums j v b low i k, optimistic_at-unset p a v b (nth_priority p j) i k kept.sized some));
+}
+
+-- ---- at the start
+pub kept-new : (p : Program) (rows : List (List Place)) (columns : List (List Item)) (vars : List ℕ) (sums : List ℤ) → IsSound p → var_count p < 2 ^ 31 → AreGathered p (priorities p.minimize) rows columns sums →
+    All (λ v. (0 < v) × (v < length rows)) vars → HasEach rows (length rows) vars → IsKept p (valueless p) rows columns vars sums
+kept-new p rows columns vars sums sound few g within whole = record {
+  sound = sound;
+  few = few;
+  small = g.small;
+  sized = length-replicate (var_count p + 1) None;
+  rowed = record { count = g.count; within = g.within; sums = g.sums };
+  columned = record { count = g.columned; each = λ j lt. g.columns j (omega (arith, g.columned, lt)) };
+  listed = record {
+    within = All-weaker (λ v. (0 < v) × (v < length rows)) (λ v. (0 < v) × (v ≤ var_count p)) (λ v h. (h.0, omega (arith, g.count, h.1))) vars within;
+    whole = λ v i k some. whole v i (omega (arith, g.count, k)) some;
+  };
+  summed = g.summed;
 }

@@ -1,14 +1,15 @@
 -- The tables, priority by priority.
-use Rattle.std.proofs.Common.{◌≡◌, ◌≢◌, ℕ, zero, suc, ◌+◌, ◌*◌, ◌^◌, ◌<◌, ◌≤◌, ◌⊎◌, Bool, true, false, cond, eqb, ltb, List, [], ◌∷◌, ◌++◌, map, length, get_or, set, take, replicate, Option, None, max, ℤ, pos, negsuc, ◌+ℤ◌, neg_ℤ, ◌≤ℤ◌, refl, sym, ap, ◌∙◌, subst, inl, inr, arith, sum_by, get_or-set_other, get_or-set_same}
-use Rattle.std.specs.List.{All, AllPairs, Contains}
+use Rattle.std.proofs.Common.{◌≡◌, ◌≢◌, ℕ, zero, suc, ◌+◌, ◌*◌, ◌^◌, ◌<◌, ◌≤◌, ◌⊎◌, Bool, true, false, cond, eqb, ltb, List, [], ◌∷◌, ◌++◌, map, length, get_or, set, take, replicate, Option, None, max, ℤ, pos, negsuc, ◌+ℤ◌, neg_ℤ, ◌≤ℤ◌, refl, sym, ap, ◌∙◌, subst, inl, inr, arith, sum_by, get_or-set_other, get_or-set_same, add-one, ◌||◌}
+use Rattle.std.specs.List.{All, AllPairs, Contains, list_any}
 use Rattle.std.specs.List.Sorted.{IsPermutation}
 use Rattle.std.specs.Int.RustNames.{unsigned_abs}
 use Rattle.std.proofs.lemmas.Int.{ints}
 use Rattle.std.proofs.lemmas.Bool.{cases_eq, cases_lt, eq-eqb, ne_eqb, false≢true, ltb-true, lt-ltb}
 use Rattle.std.proofs.lemmas.Bool.Decides.{nat_tests}
-use Rattle.std.proofs.lemmas.List.{length-set, get_or-replicate, append-nil}
+use Rattle.std.proofs.lemmas.List.{length-set, length-replicate, get_or-replicate, append-nil, length_push, get_or_push, get_or_append_left, get_or_past, map_push}
+use Rattle.std.proofs.lemmas.List.Folds.{list_any-append}
 use Rattle.std.proofs.lemmas.List.Sums.{sum_by-append, sum_by-cons}
-use Rattle.std.proofs.lemmas.List.Elements.{All-append, Contains-append_left, Contains-append_right}
+use Rattle.std.proofs.lemmas.List.Elements.{All-append, All-head, All-tail, All-weaker, Contains-append_left, Contains-append_right}
 use Rattle.std.proofs.lemmas.List.Sorted.{All-permutation, Contains-permutation}
 use Rattle.asp_model.specs.declared.program.Program.{Program}
 use Rattle.asp_model.specs.Models.{atoms_of}
@@ -21,7 +22,7 @@ use Rattle.asp_bound.specs.Optimism.{items_at, weight_in, weight_at, negative, l
 use Rattle.asp_bound.specs.Rises.{above, beneath, rise, rise_at, rise_by, raised, row_at, IsColumn}
 use Rattle.asp_bound.specs.Weights.{size_of, AreWeights}
 use Rattle.asp_bound.specs.Levels.{place_of, most_of, places_of, items_of, weight_true, weight_false, rows_to, column_to, least_to}
-use Rattle.asp_bound.specs.Gathered.{valueless, IsGathered}
+use Rattle.asp_bound.specs.Gathered.{valueless, IsGathered, AreGathered, HasEach}
 use Rattle.asp_bound.proofs.CostLaws.{optimistic_at-low, weight_in-small, rise_at-small}
 use Rattle.asp_bound.proofs.SumLaws.{sum_to-same}
 
@@ -185,6 +186,11 @@ least_to-le weights i (suc n) le = elim (cases_eq i (suc n)) [
     omega (arith, least_to-le weights i n within))
 ]
 
+-- what a variable costs more than those before it, within what all cost
+pub least_to-room : (weights : List ℤ) (i n : ℕ) → i < n → least_to weights i + (beneath (weight_true weights (i + 1)) + beneath (weight_false weights (i + 1))) ≤ least_to weights n
+least_to-room weights i n lt =
+    subst (λ (k : ℕ). least_to weights i + (beneath (weight_true weights k) + beneath (weight_false weights k)) ≤ least_to weights n) (sym (add-one i)) (omega (arith, least_to-le weights (suc i) n (omega arith)))
+
 -- each weight is small
 pub weights-small : (p : Program) (q : ℤ) (weights : List ℤ) (c : ℕ) → AreWeights p (items_at p.minimize q) weights → size_of (items_at p.minimize q) ≤ 2 ^ 55 → c < length weights → unsigned_abs (get_or weights c (pos 0)) < 2 ^ 56
 weights-small p q weights c are small lt =
@@ -232,3 +238,82 @@ gathered p level q weights rows items are small whole permuted falling =
       least_is = least_to-is p q weights are;
       least_small = least_to-small p q weights are small;
     }
+
+-- ---- priority after priority
+raised-none : (row : List Place) (j : ℕ) (b : Bool) → All (λ (o : Place). o.level < j) row → raised row j b ≡ 0
+raised-none [] j b all = refl
+raised-none (o ∷ row) j b all =
+    let low : o.level < j = All-head (λ (x : Place). x.level < j) o row all in
+    let off : cond (eqb o.level j) (rise_by b o) 0 ≡ 0 = ap (λ (c : Bool). cond c (rise_by b o) 0) (ne_eqb o.level j (λ (e : o.level ≡ j). omega arith)) in
+    omega (arith, sum_by-cons (λ (x : Place). cond (eqb x.level j) (rise_by b x) 0) o row, off, raised-none row j b (All-tail (λ (x : Place). x.level < j) o row all))
+
+-- what holds of each priority and its place, with one priority more
+each_push : (qs : List ℤ) (q : ℤ) (P : ℕ → ℤ → Type 0) → ((j : ℕ) → j < length qs → P j (get_or qs j (pos 0))) → P (length qs) q → (j : ℕ) → j < length (qs ++ q ∷ []) → P j (get_or (qs ++ q ∷ []) j (pos 0))
+each_push qs q P before here j lt = elim (cases_lt j (length qs)) [
+  | inl low ↦ subst (P j) (sym (get_or_append_left qs (q ∷ []) (pos 0) j low)) (before j low)
+  | inr out ↦ (
+    let e : length qs ≡ j = omega (arith, length_push qs q) in
+    subst (λ (k : ℕ). P k (get_or (qs ++ q ∷ []) k (pos 0))) e (subst (P (length qs)) (sym (get_or_push qs q (pos 0) (length qs) refl)) here))
+]
+
+pub gathered_none : (p : Program) → AreGathered p [] (replicate (var_count p + 1) []) [] []
+gathered_none p = record {
+  count = length-replicate (var_count p + 1) [];
+  small = λ j lt. absurd (omega arith);
+  within = λ v. within_by v (cases_lt v (var_count p + 1));
+  sums = λ j v b lt i k. absurd (omega arith);
+  columned = refl;
+  columns = λ j lt. absurd (omega arith);
+  summed = refl;
+}
+  where
+    nothing : All (λ (o : Place). o.level < 0) []
+    nothing k d lt = absurd (omega arith)
+
+    within_by : (v : ℕ) → (v < var_count p + 1) ⊎ (var_count p + 1 ≤ v) → All (λ (o : Place). o.level < 0) (row_at (replicate (var_count p + 1) []) v)
+    within_by v (inl lt) = subst (All (λ (o : Place). o.level < 0)) (sym (get_or-replicate (var_count p + 1) v [] [] lt)) nothing
+    within_by v (inr le) = subst (All (λ (o : Place). o.level < 0)) (sym (get_or_past (replicate (var_count p + 1) []) v [] (omega (arith, length-replicate {A = List Place} (var_count p + 1) [], le)))) nothing
+
+pub gathered_more : (p : Program) (qs : List ℤ) (q : ℤ) (rows new : List (List Place)) (items : List (List Item)) (costs : List ℤ) (column : List Item) (least : ℕ) →
+    AreGathered p qs rows items costs → IsGathered p (length qs) q rows new column least → AreGathered p (qs ++ q ∷ []) new (items ++ column ∷ []) (costs ++ neg_ℤ (pos least) ∷ [])
+gathered_more p qs q rows new items costs column least g h =
+    let long : length (qs ++ q ∷ []) ≡ length qs + 1 = length_push qs q in
+    record {
+      count = h.count ∙ g.count;
+      small = each_push qs q (λ (j : ℕ) (r : ℤ). size_of (items_at p.minimize r) ≤ 2 ^ 55) g.small h.small;
+      within = λ v. h.within (length (qs ++ q ∷ [])) v (omega (arith, long)) (All-weaker (λ (o : Place). o.level < length qs) (λ (o : Place). o.level < length (qs ++ q ∷ [])) (λ o lt. omega (arith, long, lt)) (row_at rows v) (g.within v));
+      sums = λ j v b lt i k. each_push qs q (λ (j : ℕ) (r : ℤ). raised (row_at new v) j b ≡ rise_at p r v b)
+          (λ j lt. h.kept j v b (λ (e : j ≡ length qs). omega arith) ∙ g.sums j v b lt i k)
+          (omega (arith, h.sums v b i k, raised-none (row_at rows v) (length qs) b (g.within v))) j lt;
+      columned = omega (arith, long, length_push items column, g.columned);
+      columns = each_push qs q (λ (j : ℕ) (r : ℤ). IsColumn p r (get_or (items ++ column ∷ []) j []))
+          (λ j lt. subst (IsColumn p (get_or qs j (pos 0))) (sym (get_or_append_left items (column ∷ []) [] j (omega (arith, g.columned, lt)))) (g.columns j lt))
+          (subst (IsColumn p q) (sym (get_or_push items column [] (length qs) g.columned)) h.column);
+      summed =
+          let last : optimistic_at p (valueless p) q ≡ neg_ℤ (pos least) = h.least_is in
+          let all = g.summed in
+          let pushed : map (optimistic_at p (valueless p)) (qs ++ q ∷ []) ≡ map (optimistic_at p (valueless p)) qs ++ optimistic_at p (valueless p) q ∷ [] = map_push (optimistic_at p (valueless p)) qs q in
+          ap (λ (xs : List ℤ). xs ++ neg_ℤ (pos least) ∷ []) all ∙ (ap (λ (x : ℤ). map (optimistic_at p (valueless p)) qs ++ x ∷ []) (sym last) ∙ sym pushed);
+    }
+
+-- ---- the variables that have places
+pub each_skipped : (rows : List (List Place)) (n : ℕ) (vars : List ℕ) → row_at rows n ≡ [] → HasEach rows n vars → HasEach rows (n + 1) vars
+each_skipped rows n vars none h v i lt some = elim (cases_eq v n) [
+  | inl e ↦ absurd (some (ap (λ (k : ℕ). row_at rows k) e ∙ none))
+  | inr ne ↦ h v i (omega arith) some
+]
+
+pub each_listed : (rows : List (List Place)) (n : ℕ) (vars : List ℕ) → HasEach rows n vars → HasEach rows (n + 1) (vars ++ n ∷ [])
+each_listed rows n vars h v i lt some =
+    list_any-append (λ (x : ℕ). eqb x v) vars (n ∷ []) ∙ elim (cases_eq v n) [
+      | inl e ↦ or_right (list_any (λ (x : ℕ). eqb x v) vars) (eqb n v || false) (or_left (eqb n v) false (eq-eqb n v (sym e)))
+      | inr ne ↦ or_left (list_any (λ (x : ℕ). eqb x v) vars) (eqb n v || false) (h v i (omega arith) some)
+    ]
+  where
+    or_left : (a b : Bool) → a ≡ true → (a || b) ≡ true
+    or_left true b e = refl
+    or_left false b e = absurd (false≢true e)
+
+    or_right : (a b : Bool) → b ≡ true → (a || b) ≡ true
+    or_right true b e = refl
+    or_right false b e = e

@@ -1,33 +1,41 @@
 -- What the nogoods that the bound gives say.
-use Rattle.std.proofs.Common.{◌≡◌, ◌≢◌, ℕ, zero, suc, ◌+◌, ◌<◌, ◌≤◌, ◌⊎◌, Bool, true, false, cond, not, eqb, ltb, ◌&&◌, ◌||◌, List, [], ◌∷◌, ◌++◌, map, length, get_or, set, Option, Some, None, ℤ, pos, ◌+ℤ◌, ◌≤ℤ◌, refl, sym, ap, ◌∙◌, subst, inl, inr, arith, rules}
+use Rattle.std.proofs.Common.{◌≡◌, ◌≢◌, ℕ, zero, suc, ◌+◌, ◌<◌, ◌≤◌, ◌⊎◌, Bool, true, false, cond, not, eqb, ltb, ◌&&◌, ◌||◌, List, [], ◌∷◌, ◌++◌, map, length, get_or, set, Option, Some, None, ℤ, pos, ◌+ℤ◌, ◌≤ℤ◌, refl, sym, ap, ◌∙◌, subst, inl, inr, arith, rules, get_or-set_same, get_or-set_other}
 use Rattle.std.specs.List.{All, list_all, list_any, flat_map}
 use Rattle.std.specs.Bool.{beq}
 use Rattle.std.specs.Option.{is_none}
 use Rattle.std.proofs.lemmas.Int.{ints}
 use Rattle.std.proofs.lemmas.Bool.{false≢true, cases_lt, cases_eq, eqb-true, eq-eqb, lt-ltb, ltb-true, cases_Bool}
 use Rattle.std.proofs.lemmas.Bool.Decides.{nat_tests}
-use Rattle.std.proofs.lemmas.List.{get_or-map, get_or_past, length-map}
+use Rattle.std.proofs.lemmas.List.{get_or-map, get_or_past, length-map, append-nil}
+use Rattle.std.proofs.lemmas.List.Elements.{All-append, All-head, All-tail, All-push}
 use Rattle.std.proofs.lemmas.List.Sums.{sum_by-cons}
 use Rattle.std.proofs.lemmas.List.Folds.{list_any-append, list_all-append}
 use Rattle.asp_model.specs.declared.program.Program.{Program}
 use Rattle.asp_model.specs.Sets.{Atoms}
-use Rattle.asp_model.specs.Costs.{cost, cost_at, priorities, betters}
+use Rattle.asp_model.specs.Costs.{priorities, betters}
 use Rattle.asp_model.proofs.MemberLaws.{list_any-flat_map}
 use Rattle.asp_vars.specs.Literals.{Literal, literal_eq, has_literal, value_of, holds_in, agrees}
 use Rattle.asp_vars.specs.Numbering.{var_count, values}
-use Rattle.asp_vars.specs.Entailment.{Below, costs}
+use Rattle.asp_vars.specs.Entailment.{Below}
+use Rattle.asp_vars.specs.declared.nogood.Base.TheVariants as base
+use Rattle.asp_vars.specs.declared.nogood.Nogood.{Nogood}
 use Rattle.asp_vars.proofs.LiteralLaws.{beq_same, hits-has, and_both, and_left, and_right}
 use Rattle.asp_trail.specs.Trails.{IsVar}
 use Rattle.asp_trail.specs.Quiet.{is_open, is_violated, is_unit, is_calm}
 use Rattle.asp_bound.specs.declared.place.Place.{Place}
 use Rattle.asp_bound.specs.declared.place.Item.{Item}
 use Rattle.asp_bound.specs.Optimism.{optimistic_at, optimistic}
+use Rattle.asp_bound.specs.Definition.{cost_of_at, cost_of, ExcludesBelow}
 use Rattle.asp_bound.specs.Rises.{rise_at, rise_by, raised, row_at, nth_priority}
 use Rattle.asp_bound.specs.Reasons.{raises, raising_by, raising_at}
 use Rattle.asp_bound.specs.Reach.{reach}
 use Rattle.asp_bound.specs.Kept.{IsKept}
-use Rattle.asp_bound.proofs.CostLaws.{optimistic_at-le}
+use Rattle.asp_bound.specs.Found.{Reaches}
+use Rattle.asp_bound.specs.Bounded.{IsGivenBy}
+use Rattle.asp_bound.specs.declared.find.Implied.{Implied}
+use Rattle.asp_bound.proofs.CostLaws.{optimistic_at-le, cost_of-values}
 use Rattle.asp_bound.proofs.ReachLaws.{reach-above}
+use Rattle.asp_bound.proofs.SilentLaws.{reach_at-set}
 
 or_left : (a b : Bool) → a ≡ true → (a || b) ≡ true
 or_left true b e = refl
@@ -38,26 +46,35 @@ or_right true b e = refl
 or_right false b e = e
 
 -- ---- what a nogood says
--- Where the literals of values that raise the first priorities are among the nogood's, it is below the bound that they reach.
-pub below_from : (p : Program) (a : List (Option Bool)) (c : List ℤ) (d : ℕ) (n : List Literal) → reach (optimistic p a) c ≡ Some d →
-    ((j v : ℕ) (b : Bool) → j < d → j < length (priorities p.minimize) → 0 < v → v ≤ var_count p → value_of a v ≡ Some b → 0 < rise_at p (nth_priority p j) v b → has_literal n (record { var = v; truth = b }) ≡ true) →
-    Below p c n
-below_from p a c d n r among = record {
-  excused = λ S stable hit.
+-- the literals of values that raise the first priorities are among the nogood's
+abbrev HasRaising : Program → List (Option Bool) → ℕ → List Literal → Type 0
+HasRaising p a d n =
+    (j v : ℕ) (b : Bool) → j < d → j < length (priorities p.minimize) → 0 < v → v ≤ var_count p → value_of a v ≡ Some b → 0 < rise_at p (nth_priority p j) v b → has_literal n (record { var = v; truth = b }) ≡ true
+
+-- Such a nogood excludes what is below the bound that the first priorities reach.
+pub excludes_from : (p : Program) (a : List (Option Bool)) (c : List ℤ) (d : ℕ) (n : List Literal) → reach (optimistic p a) c ≡ Some d → HasRaising p a d n → ExcludesBelow p c n
+excludes_from p a c d n r among = record {
+  excluded = λ x hit.
       let qs = priorities p.minimize in
-      let same : length (optimistic p a) ≡ length (cost p S) = omega (arith, length-map (optimistic_at p a) qs, length-map (cost_at S p.minimize) qs) in
-      let above : (j : ℕ) → j < d → get_or (optimistic p a) j (pos 0) ≤ℤ get_or (cost p S) j (pos 0) = λ j lt. elim (cases_lt j (length qs)) [
+      let same : length (optimistic p a) ≡ length (cost_of p x) = length-map qs (optimistic_at p a) ∙ sym (length-map qs (cost_of_at p x)) in
+      let above : (j : ℕ) → j < d → get_or (optimistic p a) j (pos 0) ≤ℤ get_or (cost_of p x) j (pos 0) = λ j lt. elim (cases_lt j (length qs)) [
         | inl low ↦ (
           let left : get_or (optimistic p a) j (pos 0) ≡ optimistic_at p a (nth_priority p j) = get_or-map (optimistic_at p a) qs j (pos 0) (pos 0) low in
-          let right : get_or (cost p S) j (pos 0) ≡ cost_at S p.minimize (nth_priority p j) = get_or-map (cost_at S p.minimize) qs j (pos 0) (pos 0) low in
-          let le = optimistic_at-le p a S (nth_priority p j) (λ v b i k e up. sym (beq_same (get_or (values p S) v false) b (hits-has (values p S) n (record { var = v; truth = b }) hit (among j v b lt low i k e up)))) in
+          let right : get_or (cost_of p x) j (pos 0) ≡ cost_of_at p x (nth_priority p j) = get_or-map (cost_of_at p x) qs j (pos 0) (pos 0) low in
+          let le = optimistic_at-le p a x (nth_priority p j) (λ v b i k e up. sym (beq_same (get_or x v false) b (hits-has x n (record { var = v; truth = b }) hit (among j v b lt low i k e up)))) in
           omega (arith, ints, left, right, le))
         | inr out ↦ (
-          let left : get_or (optimistic p a) j (pos 0) ≡ pos 0 = get_or_past (optimistic p a) j (pos 0) (omega (arith, length-map (optimistic_at p a) qs)) in
-          let right : get_or (cost p S) j (pos 0) ≡ pos 0 = get_or_past (cost p S) j (pos 0) (omega (arith, length-map (cost_at S p.minimize) qs)) in
+          let left : get_or (optimistic p a) j (pos 0) ≡ pos 0 = get_or_past (optimistic p a) j (pos 0) (omega (arith, length-map qs (optimistic_at p a), out)) in
+          let right : get_or (cost_of p x) j (pos 0) ≡ pos 0 = get_or_past (cost_of p x) j (pos 0) (omega (arith, length-map qs (cost_of_at p x), out)) in
           omega (arith, ints, left, right))
       ] in
-      ap not (reach-above (optimistic p a) (cost p S) c d r same above)
+      reach-above (optimistic p a) (cost_of p x) c d r same above
+}
+
+-- It is below the cost.
+pub excludes_below : (p : Program) (c : List ℤ) (n : List Literal) → ExcludesBelow p c n → Below p c n
+excludes_below p c n h = record {
+  excused = λ S stable hit. ap not (subst (λ (k : List ℤ). betters k c ≡ false) (cost_of-values p S) (h.excluded (values p S) hit))
 }
 
 -- ---- the literals that raise the cost
@@ -162,3 +179,75 @@ unit-loud a n v b h none =
     and_right_false : (x y : Bool) → y ≡ false → (x && y) ≡ false
     and_right_false true y e = e
     and_right_false false y e = refl
+
+-- ---- their variables are the program's
+raising_by-within : (P : ℕ → Type 0) (row : List Place) (d v : ℕ) (o : Option Bool) → P v → All (λ (l : Literal). P l.var) (raising_by row d v o)
+raising_by-within P row d v None h = λ k e lt. absurd (omega arith)
+raising_by-within P row d v (Some b) h = by_test (raises row d b)
+  where
+    by_test : (t : Bool) → All (λ (l : Literal). P l.var) (cond t (record { var = v; truth = b } ∷ []) [])
+    by_test true zero e lt = h
+    by_test true (suc k) e lt = absurd (omega arith)
+    by_test false k e lt = absurd (omega arith)
+
+raising-within : (P : ℕ → Type 0) (a : List (Option Bool)) (rows : List (List Place)) (d : ℕ) (vs : List ℕ) → All P vs → All (λ (l : Literal). P l.var) (raising_of a rows d vs)
+raising-within P a rows d [] h = λ k e lt. absurd (omega arith)
+raising-within P a rows d (v ∷ vs) h =
+    All-append (λ (l : Literal). P l.var) (raising_at a rows d v) (raising_of a rows d vs) (raising_by-within P (row_at rows v) d v (value_of a v) (All-head P v vs h)) (raising-within P a rows d vs (All-tail P v vs h))
+
+-- ---- with one literal more
+more_raising : (p : Program) (a : List (Option Bool)) (d : ℕ) (n m : List Literal) → HasRaising p a d n → HasRaising p a d (n ++ m)
+more_raising p a d n m h = λ j v b lt low i k e up.
+    let l : Literal = record { var = v; truth = b } in
+    list_any-append (λ (x : Literal). literal_eq x l) n m ∙ or_left (has_literal n l) (has_literal m l) (h j v b lt low i k e up)
+
+same_inside : (x y : Bool) → Some x ≡ Some y → x ≡ y
+same_inside x y e = cc
+
+set_raising : (p : Program) (a : List (Option Bool)) (d : ℕ) (n : List Literal) (u : ℕ) (c : Bool) → u < length a → HasRaising p a d n → HasRaising p (set a u (Some c)) d (n ++ record { var = u; truth = c } ∷ [])
+set_raising p a d n u c inside h = λ j v b lt low i k e up.
+    let l : Literal = record { var = v; truth = b } in
+    let one : Literal = record { var = u; truth = c } in
+    elim (cases_eq v u) [
+      | inl is ↦ (
+        let here : value_of (set a u (Some c)) u ≡ Some b = subst (λ (w : ℕ). value_of (set a u (Some c)) w ≡ Some b) is e in
+        let same : c ≡ b = same_inside c b (sym (get_or-set_same a u (Some c) None inside) ∙ here) in
+        let eq : literal_eq one l ≡ true = and_both (eqb u v) (beq c b) (eq-eqb u v (sym is)) (subst (λ (x : Bool). beq c x ≡ true) same (beq-itself c)) in
+        list_any-append (λ (x : Literal). literal_eq x l) n (one ∷ []) ∙ or_right (has_literal n l) (literal_eq one l || false) (or_left (literal_eq one l) false eq))
+      | inr ne ↦ more_raising p a d n (one ∷ []) h j v b lt low i k (sym (get_or-set_other a u v (Some c) None ne) ∙ e) up
+    ]
+
+-- ---- what is given
+pub given-now : (p : Program) (a : List (Option Bool)) (rows : List (List Place)) (columns : List (List Item)) (vars : List ℕ) (sums : List ℤ) → IsKept p a rows columns vars sums →
+    (c : List ℤ) (d : ℕ) (n : Nogood) → reach sums c ≡ Some d → n ≡ record { lits = raising_of a rows d vars ++ []; base = base.Below c } → IsGivenBy (record { program = p; values = a }) c n
+given-now p a rows columns vars sums kept c d n r e =
+    let lits : List Literal = raising_of a rows d vars in
+    let plain : lits ++ [] ≡ lits = append-nil lits in
+    let excluded : ExcludesBelow p c (lits ++ []) = excludes_from p a c d (lits ++ []) (ap (λ (s : List ℤ). reach s c) (sym kept.summed) ∙ r) (more_raising p a d lits [] (raising-whole p a rows columns vars sums d kept)) in
+    let is : IsGivenBy (record { program = p; values = a }) c (record { lits = lits ++ []; base = base.Below c }) = record {
+      base = refl;
+      excluded = excluded;
+      below = excludes_below p c (lits ++ []) excluded;
+      within = subst (All (λ (l : Literal). IsVar (var_count p) l.var)) (sym plain) (raising-within (IsVar (var_count p)) a rows d vars kept.listed.within);
+      wanted = violated-loud a (lits ++ []) (subst (λ (m : List Literal). list_all (holds_in a) m ≡ true) (sym plain) (raising-hold a rows d vars));
+    } in
+    subst (IsGivenBy (record { program = p; values = a }) c) (sym e) is
+
+pub given-with : (p : Program) (a : List (Option Bool)) (rows : List (List Place)) (columns : List (List Item)) (vars : List ℕ) (sums : List ℤ) → IsKept p a rows columns vars sums →
+    (c : List ℤ) (x : Implied) (n : Nogood) → Reaches a rows sums c x → 0 < x.lit.var → x.lit.var ≤ var_count p →
+    n ≡ record { lits = raising_of a rows x.depth vars ++ x.lit ∷ []; base = base.Below c } → IsGivenBy (record { program = p; values = a }) c n
+given-with p a rows columns vars sums kept c x n r i k e =
+    let d = x.depth in
+    let lits : List Literal = raising_of a rows d vars in
+    let inside : x.lit.var < length a = omega (arith, kept.sized, k) in
+    let reached : reach (optimistic p (set a x.lit.var (Some x.lit.truth))) c ≡ Some d = sym (reach_at-set p a rows columns vars sums kept c x.lit.var x.lit.truth i k r.no_value) ∙ r.reached in
+    let excluded : ExcludesBelow p c (lits ++ x.lit ∷ []) =
+    excludes_from p (set a x.lit.var (Some x.lit.truth)) c d (lits ++ x.lit ∷ []) reached (set_raising p a d lits x.lit.var x.lit.truth inside (raising-whole p a rows columns vars sums d kept)) in
+    let is : IsGivenBy (record { program = p; values = a }) c (record { lits = lits ++ x.lit ∷ []; base = base.Below c }) = record {
+      base = refl;
+      excluded = excluded;
+      below = excludes_below p c (lits ++ x.lit ∷ []) excluded;
+      within = All-push (λ (l : Literal). IsVar (var_count p) l.var) lits x.lit (raising-within (IsVar (var_count p)) a rows d vars kept.listed.within) (i, k);
+      wanted = unit-loud a lits x.lit.var x.lit.truth (raising-hold a rows d vars) r.no_value;
+    } in
+    subst (IsGivenBy (record { program = p; values = a }) c) (sym e) is

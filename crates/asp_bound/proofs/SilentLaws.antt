@@ -6,19 +6,22 @@ use Rattle.std.proofs.lemmas.Int.{ints}
 use Rattle.std.proofs.lemmas.Bool.{false≢true, cases_eq}
 use Rattle.std.proofs.lemmas.List.{get_or-map, length-map}
 use Rattle.asp_model.specs.declared.program.Program.{Program}
-use Rattle.asp_model.specs.Costs.{priorities, betters}
+use Rattle.asp_model.specs.Sets.{Atoms}
+use Rattle.asp_model.specs.Costs.{priorities, betters, cost}
 use Rattle.asp_vars.specs.Literals.{value_of}
-use Rattle.asp_vars.specs.Numbering.{var_count}
-use Rattle.asp_vars.proofs.LiteralLaws.{and_both}
+use Rattle.asp_vars.specs.Numbering.{var_count, values}
+use Rattle.asp_vars.proofs.LiteralLaws.{and_both, and_left}
 use Rattle.asp_bound.specs.declared.place.Place.{Place}
 use Rattle.asp_bound.specs.declared.place.Item.{Item}
 use Rattle.asp_bound.specs.declared.find.Implied.{Implied}
-use Rattle.asp_bound.specs.Optimism.{optimistic_at, optimistic, is_below, stays, each_to, is_silent}
+use Rattle.asp_bound.specs.Optimism.{optimistic_at, optimistic}
+use Rattle.asp_bound.specs.Silence.{is_below, stays, each_to, is_silent}
 use Rattle.asp_bound.specs.Rises.{rise_at, raised, row_at, nth_priority}
 use Rattle.asp_bound.specs.Reach.{reach, depth, lifted}
 use Rattle.asp_bound.specs.Found.{reach_at, IsNear, Passes, Reaches}
 use Rattle.asp_bound.specs.Kept.{IsKept}
-use Rattle.asp_bound.proofs.CostLaws.{optimistic_at-set}
+use Rattle.asp_bound.specs.Bounded.{IsSmaller}
+use Rattle.asp_bound.proofs.CostLaws.{optimistic_at-set, optimistic-whole, cost_of-values}
 use Rattle.asp_bound.proofs.ReachLaws.{betters-reach, lifted-map, reach-near, IsNearAt}
 
 -- ---- a test of all numbers up to n
@@ -55,9 +58,10 @@ reach_at-set p a rows columns vars sums kept c v b i k none =
     ap (λ s. reach (lifted f s) c) kept.summed ∙ ap (λ s. reach s c) same
 
 -- ---- where it isn't silent
-pub loud-now : (p : Program) (a : List (Option Bool)) (c : List ℤ) (d : ℕ) → reach (optimistic p a) c ≡ Some d → is_silent p a (Some c) ≡ false
+pub loud-now : (p : Program) (a : List (Option Bool)) (c : List ℤ) (d : ℕ) → reach (optimistic p a) c ≡ Some d → is_silent p (Some c) a ≡ false
 loud-now p a c d e = and_false_left (is_below p a c) (each_to (stays p a c) (var_count p)) (betters-reach (optimistic p a) c ∙ ap is_none e)
 
+-- where a variable without a value reaches the bound by one
 not_stays : (o : Option Bool) (x y : Bool) → o ≡ None → (x ≡ false) ⊎ (y ≡ false) → (not (is_none o) || (x && y)) ≡ false
 not_stays o x y e (inl f) = subst (λ o. (not (is_none o) || (x && y)) ≡ false) (sym e) (and_false_left x y f)
 not_stays o x y e (inr f) = subst (λ o. (not (is_none o) || (x && y)) ≡ false) (sym e) (and_false_right x y f)
@@ -66,11 +70,16 @@ either : (p : Program) (a : List (Option Bool)) (c : List ℤ) (v : ℕ) (b : Bo
 either p a c v true e = inl e
 either p a c v false e = inr e
 
-pub loud-with : (p : Program) (a : List (Option Bool)) (c : List ℤ) (v : ℕ) (b : Bool) (d : ℕ) → 0 < v → v ≤ var_count p → value_of a v ≡ None → reach (optimistic p (set a v (Some b))) c ≡ Some d → is_silent p a (Some c) ≡ false
+pub loud-with : (p : Program) (a : List (Option Bool)) (c : List ℤ) (v : ℕ) (b : Bool) (d : ℕ) → 0 < v → v ≤ var_count p → value_of a v ≡ None → reach (optimistic p (set a v (Some b))) c ≡ Some d → is_silent p (Some c) a ≡ false
 loud-with p a c v b d i k none e =
     and_false_right (is_below p a c) (each_to (stays p a c) (var_count p)) (each_to-not (stays p a c) (var_count p) v i k
     (not_stays (value_of a v) (is_below p (set a v (Some true)) c) (is_below p (set a v (Some false)) c) none
     (either p a c v b (betters-reach (optimistic p (set a v (Some b))) c ∙ ap is_none e))))
+
+pub loud-implied : (p : Program) (a : List (Option Bool)) (rows : List (List Place)) (columns : List (List Item)) (vars : List ℕ) (sums : List ℤ) → IsKept p a rows columns vars sums →
+    (c : List ℤ) (x : Implied) → Reaches a rows sums c x → 0 < x.lit.var → x.lit.var ≤ var_count p → is_silent p (Some c) a ≡ false
+loud-implied p a rows columns vars sums kept c x r i k =
+    loud-with p a c x.lit.var x.lit.truth x.depth i k r.no_value (sym (reach_at-set p a rows columns vars sums kept c x.lit.var x.lit.truth i k r.no_value) ∙ r.reached)
 
 -- ---- where it is
 -- Each variable that may reach the bound was looked at.
@@ -104,7 +113,7 @@ none_reaches p a rows columns vars sums c kept passed below v b i k none (Some d
     let f : ℕ → ℕ = λ j. raised (row_at rows v) j b in
     let near = reach-near f sums c d below e in
     let j = near.0 in
-    let counted : length sums ≡ length (priorities p.minimize) = ap length kept.summed ∙ length-map (optimistic_at p a) (priorities p.minimize) in
+    let counted : length sums ≡ length (priorities p.minimize) = ap length kept.summed ∙ length-map (priorities p.minimize) (optimistic_at p a) in
     let low : j < length (priorities p.minimize) = omega (arith, near.1.within, depth-within sums c) in
     let here : j < length columns = omega (arith, kept.columned.count) in
     let is : raised (row_at rows v) j b ≡ rise_at p (nth_priority p j) v b = kept.rowed.sums j v b low i k in
@@ -124,10 +133,17 @@ stays_by None x y f g = and_both x y (f refl) (g refl)
 stays_by (Some b) x y f g = refl
 
 pub silent-now : (p : Program) (a : List (Option Bool)) (rows : List (List Place)) (columns : List (List Item)) (vars : List ℕ) (sums c : List ℤ) → IsKept p a rows columns vars sums → reach sums c ≡ None → ArePassed a rows columns sums c →
-    is_silent p a (Some c) ≡ true
+    is_silent p (Some c) a ≡ true
 silent-now p a rows columns vars sums c kept below passed =
     let now : is_below p a c ≡ true = betters-reach (optimistic p a) c ∙ ap is_none (ap (λ s. reach s c) (sym kept.summed) ∙ below) in
     let with_value : (v : ℕ) (b : Bool) → 0 < v → v ≤ var_count p → value_of a v ≡ None → is_below p (set a v (Some b)) c ≡ true = λ v b i k none.
     betters-reach (optimistic p (set a v (Some b))) c ∙ (ap is_none (sym (reach_at-set p a rows columns vars sums kept c v b i k none)) ∙ none_reaches p a rows columns vars sums c kept passed below v b i k none (reach_at rows sums c v b) refl) in
     and_both (is_below p a c) (each_to (stays p a c) (var_count p)) now
     (each_to-all (stays p a c) (var_count p) (λ v i k. stays_by (value_of a v) (is_below p (set a v (Some true)) c) (is_below p (set a v (Some false)) c) (with_value v true i k) (with_value v false i k)))
+
+-- ---- where all variables have values
+pub silent_costs_less : (p : Program) (bound : Option (List ℤ)) (a : List (Option Bool)) (S : Atoms) → ((v : ℕ) → 0 < v → v ≤ var_count p → value_of a v ≡ Some (get_or (values p S) v false)) →
+    is_silent p bound a ≡ true → IsSmaller (cost p S) bound
+silent_costs_less p None a S h e = tt
+silent_costs_less p (Some c) a S h e =
+    ap (λ (s : List ℤ). betters s c) (sym (optimistic-whole p a (values p S) h ∙ cost_of-values p S)) ∙ and_left (is_below p a c) (each_to (stays p a c) (var_count p)) e

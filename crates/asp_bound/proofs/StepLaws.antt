@@ -1,7 +1,7 @@
 -- Steps of the loops over sums and places.
 use Rattle.std.proofs.Common.{◌≡◌, ◌≢◌, ℕ, zero, suc, ◌+◌, ◌^◌, ◌<◌, ◌≤◌, Bool, true, false, cond, eqb, List, [], ◌∷◌, ◌++◌, length, get_or, set, take, drop, Option, Some, None, ℤ, pos, ◌+ℤ◌, ◌-ℤ◌, neg_ℤ, ◌≤ℤ◌, ◌<ℤ◌, refl, sym, ap, ◌∙◌, subst, inl, inr, arith, add-one, drop-cons, get_or-set_other, get_or-set_same, sum_by}
 use Rattle.std.specs.Option.{option_map}
-use Rattle.std.specs.Ordering.{int_cmp}
+use Rattle.std.specs.Ordering.{int_cmp, int_eq}
 use Rattle.std.specs.declared.cmp.Ordering.{Ordering}
 use Rattle.std.specs.declared.cmp.Ordering.TheVariants.{Less, Equal, Greater}
 use Rattle.std.proofs.lemmas.Int.{ints}
@@ -31,6 +31,55 @@ raised-there row i j b d lt ne =
     let more = raised-more row i j b d lt in
     let off : cond (eqb (get_or row i d).level j) (rise_by b (get_or row i d)) 0 ≡ 0 = ap (λ (t : Bool). cond t (rise_by b (get_or row i d)) 0) (ne_eqb (get_or row i d).level j ne) in
     omega (arith, more, off)
+
+-- what the place adds, within what the row does
+pub raised-within : (row : List Place) (i : ℕ) (b : Bool) (d : Place) → i < length row → raised (take i row) (get_or row i d).level b + rise_by b (get_or row i d) ≤ raised row (get_or row i d).level b
+raised-within row i b d lt = omega (arith, raised-here row i b d lt, raised-take row (i + 1) (get_or row i d).level b)
+
+-- ---- sums with a place more, and with one less
+abbrev pub IsRaised : List ℤ → List ℤ → List Place → ℕ → Bool → Type 0
+IsRaised old new row i b = (j : ℕ) → j < length new → get_or new j (pos 0) ≡ get_or old j (pos 0) +ℤ pos (raised (take i row) j b)
+
+pub raise-more : (old new : List ℤ) (row : List Place) (i : ℕ) (b : Bool) (o : Place) → i < length row → get_or row i o ≡ o → o.level < length new → IsRaised old new row i b →
+    IsRaised old (set new o.level (get_or new o.level (pos 0) +ℤ pos (rise_by b o))) row (i + 1) b
+raise-more old new row i b o lt is low before = λ j within.
+    let w = get_or new o.level (pos 0) +ℤ pos (rise_by b o) in
+    let inside : j < length new = omega (arith, length-set new o.level w, within) in
+    let P : Place → Type 0 = λ (x : Place). raised (take (i + 1) row) j b ≡ raised (take i row) j b + cond (eqb x.level j) (rise_by b x) 0 in
+    let more : raised (take (i + 1) row) j b ≡ raised (take i row) j b + cond (eqb o.level j) (rise_by b o) 0 = subst P is (raised-more row i j b o lt) in
+    elim (cases_eq o.level j) [
+      | inl e ↦ (
+        let same : get_or (set new o.level w) o.level (pos 0) ≡ w = get_or-set_same new o.level w (pos 0) low in
+        let here : get_or (set new o.level w) j (pos 0) ≡ get_or new j (pos 0) +ℤ pos (rise_by b o) = subst (λ (k : ℕ). get_or (set new o.level w) k (pos 0) ≡ get_or new k (pos 0) +ℤ pos (rise_by b o)) e same in
+        let adds : cond (eqb o.level j) (rise_by b o) 0 ≡ rise_by b o = ap (λ (t : Bool). cond t (rise_by b o) 0) (eq-eqb o.level j e) in
+        omega (arith, ints, here, before j inside, more, adds))
+      | inr ne ↦ (
+        let there : get_or (set new o.level w) j (pos 0) ≡ get_or new j (pos 0) = get_or-set_other new o.level j w (pos 0) (λ (e : j ≡ o.level). ne (sym e)) in
+        let adds : cond (eqb o.level j) (rise_by b o) 0 ≡ 0 = ap (λ (t : Bool). cond t (rise_by b o) 0) (ne_eqb o.level j ne) in
+        omega (arith, ints, there, before j inside, more, adds))
+    ]
+
+abbrev pub IsLowered : List ℤ → List ℤ → List Place → ℕ → Bool → Type 0
+IsLowered old new row i b = (j : ℕ) → j < length new → get_or new j (pos 0) +ℤ pos (raised (take i row) j b) ≡ get_or old j (pos 0)
+
+pub lower-more : (old new : List ℤ) (row : List Place) (i : ℕ) (b : Bool) (o : Place) → i < length row → get_or row i o ≡ o → o.level < length new → IsLowered old new row i b →
+    IsLowered old (set new o.level (get_or new o.level (pos 0) -ℤ pos (rise_by b o))) row (i + 1) b
+lower-more old new row i b o lt is low before = λ j within.
+    let w = get_or new o.level (pos 0) -ℤ pos (rise_by b o) in
+    let inside : j < length new = omega (arith, length-set new o.level w, within) in
+    let P : Place → Type 0 = λ (x : Place). raised (take (i + 1) row) j b ≡ raised (take i row) j b + cond (eqb x.level j) (rise_by b x) 0 in
+    let more : raised (take (i + 1) row) j b ≡ raised (take i row) j b + cond (eqb o.level j) (rise_by b o) 0 = subst P is (raised-more row i j b o lt) in
+    elim (cases_eq o.level j) [
+      | inl e ↦ (
+        let same : get_or (set new o.level w) o.level (pos 0) ≡ w = get_or-set_same new o.level w (pos 0) low in
+        let here : get_or (set new o.level w) j (pos 0) ≡ get_or new j (pos 0) -ℤ pos (rise_by b o) = subst (λ (k : ℕ). get_or (set new o.level w) k (pos 0) ≡ get_or new k (pos 0) -ℤ pos (rise_by b o)) e same in
+        let adds : cond (eqb o.level j) (rise_by b o) 0 ≡ rise_by b o = ap (λ (t : Bool). cond t (rise_by b o) 0) (eq-eqb o.level j e) in
+        omega (arith, ints, here, before j inside, more, adds))
+      | inr ne ↦ (
+        let there : get_or (set new o.level w) j (pos 0) ≡ get_or new j (pos 0) = get_or-set_other new o.level j w (pos 0) (λ (e : j ≡ o.level). ne (sym e)) in
+        let adds : cond (eqb o.level j) (rise_by b o) 0 ≡ 0 = ap (λ (t : Bool). cond t (rise_by b o) 0) (ne_eqb o.level j ne) in
+        omega (arith, ints, there, before j inside, more, adds))
+    ]
 
 -- ---- raised sums by their places
 pub length-lifted : (f : ℕ → ℕ) (x : List ℤ) → length (lifted f x) ≡ length x
@@ -76,3 +125,53 @@ depth-past x c j lx = ap (λ (xs : List ℤ). depth xs (drop j c)) (drop-all x j
     depth-nil : (y : List ℤ) → depth [] y ≡ 0
     depth-nil [] = refl
     depth-nil (k ∷ y) = refl
+
+-- ---- the turns of the loop that compares, by its invariant
+abbrev pub Reaching : List ℤ → List ℤ → ℕ → Type 0
+Reaching x c j = reach x c ≡ option_map (λ (n : ℕ). j + n) (reach (drop j x) (drop j c))
+
+-- the result of the rest, by its first comparison
+reaching-by : (x c : List ℤ) (j : ℕ) (o : Ordering) → j < length x → j < length c → Reaching x c j → int_cmp (get_or x j (pos 0)) (get_or c j (pos 0)) ≡ o →
+    reach x c ≡ option_map (λ (n : ℕ). j + n) (reach_by o (reach (drop (j + 1) x) (drop (j + 1) c)))
+reaching-by x c j o lx lc h e =
+    h ∙ ap (λ (r : Option ℕ). option_map (λ (n : ℕ). j + n) r) (reach-step x c j lx lc ∙ ap (λ (p : Ordering). reach_by p (reach (drop (j + 1) x) (drop (j + 1) c))) e)
+
+pub reaching-past : (x c : List ℤ) (j : ℕ) → length x ≤ j → j < length c → Reaching x c j → None ≡ reach x c
+reaching-past x c j lx lc h = sym (h ∙ ap (λ (r : Option ℕ). option_map (λ (n : ℕ). j + n) r) (reach-past x c j lx lc))
+
+pub reaching-less : (x c : List ℤ) (j : ℕ) → j < length x → j < length c → Reaching x c j → int_cmp (get_or x j (pos 0)) (get_or c j (pos 0)) ≡ Less → None ≡ reach x c
+reaching-less x c j lx lc h e = sym (reaching-by x c j Less lx lc h e)
+
+pub reaching-greater : (x c : List ℤ) (j : ℕ) → j < length x → j < length c → Reaching x c j → int_cmp (get_or x j (pos 0)) (get_or c j (pos 0)) ≡ Greater → Some (j + 1) ≡ reach x c
+reaching-greater x c j lx lc h e = sym (reaching-by x c j Greater lx lc h e)
+
+pub reaching-equal : (x c : List ℤ) (j : ℕ) → j < length x → j < length c → Reaching x c j → int_cmp (get_or x j (pos 0)) (get_or c j (pos 0)) ≡ Equal → Reaching x c (j + 1)
+reaching-equal x c j lx lc h e = reaching-by x c j Equal lx lc h e ∙ counted-on j (reach (drop (j + 1) x) (drop (j + 1) c))
+
+pub reaching-end : (x c : List ℤ) (j : ℕ) → length c ≤ j → Reaching x c j → Some j ≡ reach x c
+reaching-end x c j le h =
+    let e : j + 0 ≡ j = omega arith in
+    sym (h ∙ (ap (λ (r : Option ℕ). option_map (λ (n : ℕ). j + n) r) (reach-end x c j le) ∙ ap (λ (m : ℕ). let o : Option ℕ = Some m in o) e))
+
+-- where nothing has been compared yet
+pub reaching-none : (x c : List ℤ) → Reaching x c 0
+reaching-none x c = none_by (reach x c)
+  where
+    none_by : (r : Option ℕ) → r ≡ option_map (λ (n : ℕ). 0 + n) r
+    none_by None = refl
+    none_by (Some n) =
+        let e : n ≡ 0 + n = omega arith in
+        ap (λ (m : ℕ). let o : Option ℕ = Some m in o) e
+
+-- ---- the same for the depth
+pub depth-step : (x c : List ℤ) (j : ℕ) → j < length x → j < length c → depth (drop j x) (drop j c) ≡ cond (int_eq (get_or x j (pos 0)) (get_or c j (pos 0))) (suc (depth (drop (j + 1) x) (drop (j + 1) c))) 1
+depth-step x c j lx lc =
+    let P : ℕ → Type 0 = λ (n : ℕ). depth (drop j x) (drop j c) ≡ cond (int_eq (get_or x j (pos 0)) (get_or c j (pos 0))) (suc (depth (drop n x) (drop n c))) 1 in
+    subst P (sym (add-one j)) (ap (λ (xs : List ℤ). depth xs (drop j c)) (drop-cons x j (pos 0) lx) ∙ ap (λ (cs : List ℤ). depth (get_or x j (pos 0) ∷ drop (suc j) x) cs) (drop-cons c j (pos 0) lc))
+
+pub depth-end : (x c : List ℤ) (j : ℕ) → length c ≤ j → depth (drop j x) (drop j c) ≡ 0
+depth-end x c j le = ap (depth (drop j x)) (drop-all c j le) ∙ depth-nil (drop j x)
+  where
+    depth-nil : (y : List ℤ) → depth y [] ≡ 0
+    depth-nil [] = refl
+    depth-nil (s ∷ y) = refl

@@ -9,6 +9,7 @@ use Rattle.asp_model.specs.Sets.{Atoms}
 use Rattle.asp_vars.specs.Literals.{Literal, T, F, literal_eq}
 use Rattle.asp_vars.specs.Numbering.{literal_in}
 use Rattle.asp_bound.specs.Optimism.{sum_to, weight_in}
+use Rattle.asp_bound.specs.Definition.{weight_that}
 
 pub sum_to-same : (f g : ℕ → ℤ) (n : ℕ) → ((v : ℕ) → 0 < v → v ≤ n → f v ≡ g v) → sum_to f n ≡ sum_to g n
 sum_to-same f g zero h = refl
@@ -50,10 +51,6 @@ pub sum_to-one : (f : ℕ → ℤ) (n u : ℕ) → 0 < u → u ≤ n → ((v : �
 sum_to-one f n u a b h = omega (arith, ints, sum_to-at f (λ v. pos 0) n u a b h, sum_to-zero (λ v. pos 0) n (λ v. refl))
 
 -- ---- weights of the literals that pass a test
-abbrev pub picked : (Literal → Bool) → Atoms → List (ℤ × ℤ) → ℤ
-picked t atoms [] = pos 0
-picked t atoms (i ∷ items) = cond (t (literal_in atoms i.0)) i.1 (pos 0) +ℤ picked t atoms items
-
 abbrev pub picked_by : (Literal → Bool) → (Literal → ℤ) → ℕ → ℤ
 picked_by t w v = cond (t (T v)) (w (T v)) (pos 0) +ℤ cond (t (F v)) (w (F v)) (pos 0)
 
@@ -95,7 +92,7 @@ picked_by-here t v true w = rw (itself v) (omega (arith, ints, cond-none (t (F v
 picked_by-here t v false w = rw (itself v) (omega (arith, ints, cond-none (t (T v))))
 
 -- Each literal's weights add up at its variable.
-pub picked-sum : (t : Literal → Bool) (atoms : Atoms) (n : ℕ) (items : List (ℤ × ℤ)) → AreVars atoms n items → picked t atoms items ≡ sum_to (picked_by t (weight_in atoms items)) n
+pub picked-sum : (t : Literal → Bool) (atoms : Atoms) (n : ℕ) (items : List (ℤ × ℤ)) → AreVars atoms n items → weight_that t atoms items ≡ sum_to (picked_by t (weight_in atoms items)) n
 picked-sum t atoms n [] h = sym (sum_to-zero (picked_by t (weight_in atoms [])) n (λ v. omega (arith, ints, cond-none (t (T v)), cond-none (t (F v)))))
 picked-sum t atoms n (i ∷ items) h =
     let k = literal_in atoms i.0 in

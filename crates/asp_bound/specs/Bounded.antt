@@ -9,6 +9,7 @@ use Rattle.asp_model.specs.Costs.{betters}
 use Rattle.asp_trail.specs.Trails.{IsVar}
 use Rattle.asp_trail.specs.Told.{Told}
 use Rattle.asp_trail.specs.Quiet.{is_calm}
+use Rattle.asp_bound.specs.Definition.{ExcludesBelow}
 
 -- the values told, and the bound that stands
 pub record Bounded : Type 0 where
@@ -23,6 +24,7 @@ IsSmaller c (Some d) = betters c d ≡ true
 -- A nogood that follows by the bound c, and isn't calm.
 pub record IsGivenBy (t : Told) (c : List ℤ) (n : Nogood) : Type 0 where
   pub base : n.base ≡ base.Below c
+  pub excluded : ExcludesBelow t.program c n.lits
   pub below : Below t.program c n.lits
   pub within : All (λ l. IsVar (var_count t.program) l.var) n.lits
   pub wanted : is_calm t.values n.lits ≡ false

@@ -1,4 +1,6 @@
 pub mod Optimism
+pub mod Definition
+pub mod Silence
 pub mod Rises
 pub mod Weights
 pub mod Levels

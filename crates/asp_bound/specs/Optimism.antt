@@ -1,12 +1,11 @@
 -- What the sets that agree with some values cost at least.
-use Rattle.std.specs.Prelude.{ℕ, zero, suc, Bool, true, false, not, ◌||◌, ◌&&◌, if◌then◌else◌, List, [], ◌∷◌, ◌++◌, map, Option, Some, None, slice_set, ℤ, pos, negsuc, ◌+ℤ◌}
-use Rattle.std.specs.Option.{is_none}
+use Rattle.std.specs.Prelude.{ℕ, zero, suc, Bool, true, false, if◌then◌else◌, List, [], ◌∷◌, ◌++◌, map, Option, Some, None, ℤ, pos, negsuc, ◌+ℤ◌}
 use Rattle.std.specs.Ordering.{int_eq}
 use Rattle.asp_model.specs.declared.program.Minimize.{Minimize}
 use Rattle.asp_model.specs.declared.program.Program.{Program}
 use Rattle.asp_model.specs.Sets.{Atoms}
 use Rattle.asp_model.specs.Models.{atoms_of}
-use Rattle.asp_model.specs.Costs.{priorities, betters}
+use Rattle.asp_model.specs.Costs.{priorities}
 use Rattle.asp_vars.specs.Literals.{Literal, T, F, literal_eq, value_of}
 use Rattle.asp_vars.specs.Numbering.{literal_in, var_count}
 
@@ -49,22 +48,3 @@ optimistic_at p a q = sum_to (least_at p a q) (var_count p)
 -- the optimistic cost, the greatest priority first
 abbrev pub optimistic : Program → List (Option Bool) → List ℤ
 optimistic p a = map (optimistic_at p a) (priorities p.minimize)
-
--- whether the optimistic cost is smaller than c
-abbrev pub is_below : Program → List (Option Bool) → List ℤ → Bool
-is_below p a c = betters (optimistic p a) c
-
--- whether the variable has a value, or keeps the optimistic cost smaller than c by either one
-abbrev pub stays : Program → List (Option Bool) → List ℤ → ℕ → Bool
-stays p a c v =
-    not (is_none (value_of a v)) || (is_below p (slice_set a v (Some true)) c && is_below p (slice_set a v (Some false)) c)
-
--- whether the test passes for the numbers from 1 to n
-abbrev pub each_to : (ℕ → Bool) → ℕ → Bool
-each_to f zero = true
-each_to f (suc n) = each_to f n && f (suc n)
-
--- No bound stands, or the optimistic cost is smaller and stays so with any one more variable.
-abbrev pub is_silent : Program → List (Option Bool) → Option (List ℤ) → Bool
-is_silent p a None = true
-is_silent p a (Some c) = is_below p a c && each_to (stays p a c) (var_count p)

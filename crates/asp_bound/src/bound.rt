@@ -11,7 +11,7 @@ ghost use Rattle.asp_trail.specs.Told.{told, untold};
 ghost use Rattle.asp_trail.specs.Trails.{IsVar};
 ghost use Rattle.asp_vars.specs.Literals.{value_of, holds_in};
 ghost use Rattle.asp_vars.specs.Numbering.{var_count};
-ghost use Rattle.asp_bound.specs.Optimism.{is_silent};
+ghost use Rattle.asp_bound.specs.Silence.{is_silent};
 ghost use Rattle.asp_bound.specs.Bounded.{IsSmaller, IsGiven};
 ghost use Rattle.asp_bound.specs.Gathered.{valueless};
 
@@ -113,7 +113,7 @@ impl Bound {
     pub fn next(&mut self, trail: &Trail) -> Result<Option<Nogood>, AllocError>
         requires { self.old.told.values ≡ assignment trail.now.vars trail.now.entries }
         ensures same { self.new ≡ self.old }
-        ensures silent { IfOk result (λ n. is_none n ≡ is_silent self.old.told.program self.old.told.values self.old.bound) }
+        ensures silent { IfOk result (λ n. is_none n ≡ is_silent self.old.told.program self.old.bound self.old.told.values) }
         ensures given { IfOk result (λ n. IfSome n (IsGiven self.old)) }
     {
         let _ = trail;

@@ -1,12 +1,18 @@
-//! A worked program through each call.
+//! A worked program.
+ghost use Rattle.std.specs.Prelude.{◌≡◌, ◌≤◌, None, IfOk};
+ghost use Rattle.asp_vars.specs.Numbering.{var_count};
+ghost use Rattle.asp_trail.specs.Entries.{assignment};
+
 use crate::bound::Bound;
 use asp_model::cost::Cost;
 use asp_model::program::{Body, Head, Minimize, Program, Rule};
 use asp_model::seq::Seq;
 use asp_trail::trail::Trail;
 use asp_vars::compile::compile;
-use asp_vars::lit::Lit;
+use asp_vars::compiled::Compiled;
+use asp_vars::lit::{Lit, Var};
 use std::alloc::{AllocError, Global};
+use std::process::Abort;
 use std::test::Fail;
 
 fn minimize(alloc: Global, priority: i32, items: &[(i32, i32)]) -> Result<Minimize, AllocError> {
@@ -33,29 +39,55 @@ fn program(alloc: Global) -> Result<Program, AllocError> {
     })
 }
 
+// A trail and the propagator beside it, with no values and no bound.
+#[tactic(none)]
+fn begin(alloc: Global, compiled: &Compiled, vars: Var) -> Result<(Trail, Bound), AllocError>
+    requires { vars ≡ var_count compiled.now }
+    ensures told { IfOk result (λ r. r.1.told.values ≡ assignment r.0.vars r.0.entries) }
+    ensures vars { IfOk result (λ r. r.0.vars ≡ vars) }
+    ensures program { IfOk result (λ r. r.1.told.program ≡ compiled.now) }
+    ensures bound { IfOk result (λ r. r.1.bound ≡ None) }
+    ensures room { IfOk result (λ r. vars ≤ r.0.room) }
+{
+    let bound = Bound::new(alloc, compiled)?;
+    let mut trail = Trail::new(alloc, vars)?;
+    trail.reserve(vars as usize)?;
+    Ok((trail, bound))
+}
+
+// The literal gets to hold, where it may.
+fn hold(rt: &impl Abort, trail: &mut Trail, bound: &mut Bound, lit: Lit, vars: Var)
+    requires told { bound.old.told.values ≡ assignment trail.old.vars trail.old.entries }
+    requires vars { trail.old.vars ≡ vars }
+    requires count { var_count bound.old.told.program ≡ vars }
+    requires room { vars ≤ trail.old.room }
+    ensures told { bound.new.told.values ≡ assignment trail.new.vars trail.new.entries }
+{
+    let var = lit.var();
+    assert!(rt; 0 < var && var <= vars);
+    assert!(rt; trail.value(var).is_none());
+    trail.decide(lit);
+    bound.assign(lit);
+}
+
+// With a bound of 1 and 1 the atom that costs 2 can't be true. Once it is, that is a conflict.
+#[tactic(none)]
 #[test]
 fn gives_the_literal_that_costs_too_much(rt: HostRuntime) -> Result<(), Fail> {
     let heap = rt.alloc();
     let program = program(heap)?;
     assert!(rt; program.is_sound());
     let compiled = compile(heap, program)?;
-    let vars = compiled.vars();
-    assert!(rt; vars >= 2);
-    let mut trail = Trail::new(heap, vars)?;
-    trail.reserve(vars as usize)?;
-    let mut bound = Bound::new(heap, &compiled)?;
-    assert!(rt; bound.next(&trail)?.is_none());
+    assert!(rt; compiled.vars() == 3);
+    let (mut trail, mut bound) = begin(heap, &compiled, 3)?;
+    let silent = bound.next(&trail)?;
+    assert!(rt; silent.is_none());
     bound.set(Cost::from_vec(vec![in heap; 1, 1]?));
-    for _ in 0..2 {
-        match bound.next(&trail)? {
-            None => assert!(rt; false),
-            Some(nogood) => {
-                assert_eq!(rt; nogood.lits.as_slice().len(), 1);
-                assert!(rt; nogood.lits.as_slice()[0] == Lit::new(2, true));
-            }
-        }
-        bound.assign(Lit::new(2, true));
-        trail.decide(Lit::new(2, true));
-    }
+    let dear = [Lit::new(2, true)];
+    let unit = bound.next(&trail)?.ok_or("silent")?;
+    assert!(rt; unit.lits.as_slice() == dear.as_slice());
+    hold(&rt, &mut trail, &mut bound, dear[0], 3);
+    let violated = bound.next(&trail)?.ok_or("silent")?;
+    assert!(rt; violated.lits.as_slice() == dear.as_slice());
     Ok(())
 }
