@@ -1,14 +1,16 @@
 -- What the propagator keeps, as values come and go.
-use Rattle.std.proofs.Common.{◌≡◌, ℕ, zero, suc, ◌+◌, ◌^◌, ◌<◌, ◌≤◌, Bool, List, [], ◌∷◌, map, length, get_or, set, Option, Some, None, ℤ, pos, ◌+ℤ◌, neg_ℤ, ◌≤ℤ◌, ◌<ℤ◌, refl, sym, ap, ◌∙◌, subst, arith}
+use Rattle.std.proofs.Common.{◌≡◌, ℕ, zero, suc, ◌+◌, ◌^◌, ◌<◌, ◌≤◌, Bool, true, List, [], ◌∷◌, map, length, get_or, set, Option, Some, None, ℤ, pos, ◌+ℤ◌, neg_ℤ, ◌≤ℤ◌, ◌<ℤ◌, refl, sym, ap, ◌∙◌, subst, arith}
 use Rattle.std.specs.List.{All}
 use Rattle.std.proofs.lemmas.Int.{ints}
+use Rattle.std.proofs.lemmas.Bool.{false≢true}
 use Rattle.std.proofs.lemmas.List.{same_lists, get_or-map, length-map, length-set, length-replicate}
 use Rattle.std.proofs.lemmas.List.Elements.{All-weaker}
 use Rattle.asp_model.specs.declared.program.Program.{Program}
 use Rattle.asp_model.specs.Costs.{priorities}
 use Rattle.asp_model.specs.Sound.{IsSound}
-use Rattle.asp_vars.specs.Literals.{value_of}
+use Rattle.asp_vars.specs.Literals.{Literal, value_of, agrees, holds_in}
 use Rattle.asp_vars.specs.Numbering.{var_count}
+use Rattle.asp_vars.proofs.LiteralLaws.{beq_same}
 use Rattle.asp_bound.specs.declared.place.Place.{Place}
 use Rattle.asp_bound.specs.declared.place.Item.{Item}
 use Rattle.asp_bound.specs.Optimism.{items_at, optimistic_at, optimistic}
@@ -61,6 +63,49 @@ pub sums-low : (p : Program) (a : List (Option Bool)) (rows : List (List Place))
 sums-low p a rows columns vars sums kept j lt =
     let low : j < length (priorities p.minimize) = omega (arith, sums-count p a rows columns vars sums kept) in
     omega (arith, ints, sums-at p a rows columns vars sums kept j lt, optimistic_at-low p a (nth_priority p j), kept.small j low)
+
+-- ---- what the calls ask for
+pub rows-small : (p : Program) (a : List (Option Bool)) (rows : List (List Place)) (columns : List (List Item)) (vars : List ℕ) (sums : List ℤ) → IsKept p a rows columns vars sums →
+    (v j : ℕ) (b : Bool) → 0 < v → v < length rows → j < length sums → raised (row_at rows v) j b < 2 ^ 60
+rows-small p a rows columns vars sums kept v j b i k lt =
+    let within : v ≤ var_count p = omega (arith, kept.rowed.count, k) in
+    omega (arith, raised-small p a rows columns vars sums kept v j b i within lt)
+
+pub sums-room : (p : Program) (a : List (Option Bool)) (rows : List (List Place)) (columns : List (List Item)) (vars : List ℕ) (sums : List ℤ) → IsKept p a rows columns vars sums →
+    (j : ℕ) → j < length sums → get_or sums j (pos 0) <ℤ pos (2 ^ 60)
+sums-room p a rows columns vars sums kept j lt = omega (arith, ints, sums-high p a rows columns vars sums kept j lt)
+
+pub raise-room : (p : Program) (a : List (Option Bool)) (rows : List (List Place)) (columns : List (List Item)) (vars : List ℕ) (sums : List ℤ) → IsKept p a rows columns vars sums →
+    (v : ℕ) (b : Bool) → 0 < v → v ≤ var_count p → (j : ℕ) → j < length sums → (get_or sums j (pos 0) +ℤ pos (raised (row_at rows v) j b)) <ℤ pos (2 ^ 60)
+raise-room p a rows columns vars sums kept v b i k j lt = omega (arith, ints, sums-high p a rows columns vars sums kept j lt, raised-small p a rows columns vars sums kept v j b i k lt)
+
+pub lower-room : (p : Program) (a : List (Option Bool)) (rows : List (List Place)) (columns : List (List Item)) (vars : List ℕ) (sums : List ℤ) → IsKept p a rows columns vars sums →
+    (v : ℕ) (b : Bool) → 0 < v → v ≤ var_count p → (j : ℕ) → j < length sums → (neg_ℤ (pos (2 ^ 60)) +ℤ pos (raised (row_at rows v) j b)) ≤ℤ get_or sums j (pos 0)
+lower-room p a rows columns vars sums kept v b i k j lt = omega (arith, ints, sums-low p a rows columns vars sums kept j lt, raised-small p a rows columns vars sums kept v j b i k lt)
+
+pub columns-within : (p : Program) (a : List (Option Bool)) (rows : List (List Place)) (columns : List (List Item)) (vars : List ℕ) (sums : List ℤ) → IsKept p a rows columns vars sums →
+    (j : ℕ) → j < length columns → All (λ (i : Item). (0 < i.var) × (i.var < length a)) (get_or columns j [])
+columns-within p a rows columns vars sums kept j lt =
+    All-weaker (λ (i : Item). (0 < i.var) × (i.var ≤ var_count p)) (λ (i : Item). (0 < i.var) × (i.var < length a)) (λ i h. (h.0, omega (arith, kept.sized, h.1))) (get_or columns j []) (kept.columned.each j lt).within
+
+pub columns-count : (p : Program) (a : List (Option Bool)) (rows : List (List Place)) (columns : List (List Item)) (vars : List ℕ) (sums : List ℤ) → IsKept p a rows columns vars sums → length columns ≡ length sums
+columns-count p a rows columns vars sums kept = kept.columned.count ∙ sym (sums-count p a rows columns vars sums kept)
+
+pub rows-count : (p : Program) (a : List (Option Bool)) (rows : List (List Place)) (columns : List (List Item)) (vars : List ℕ) (sums : List ℤ) → IsKept p a rows columns vars sums → length rows ≡ length a
+rows-count p a rows columns vars sums kept = kept.rowed.count ∙ sym kept.sized
+
+pub vars-within : (p : Program) (a : List (Option Bool)) (rows : List (List Place)) (columns : List (List Item)) (vars : List ℕ) (sums : List ℤ) → IsKept p a rows columns vars sums → All (λ v. v < length a) vars
+vars-within p a rows columns vars sums kept =
+    All-weaker (λ v. (0 < v) × (v ≤ var_count p)) (λ v. v < length a) (λ v h. omega (arith, kept.sized, h.1)) vars kept.listed.within
+
+pub held-value : (a : List (Option Bool)) (l : Literal) → holds_in a l ≡ true → value_of a l.var ≡ Some l.truth
+held-value a l e = held_by (value_of a l.var) e
+  where
+    held_by : (o : Option Bool) → agrees o l ≡ true → o ≡ Some l.truth
+    held_by None h = absurd (false≢true h)
+    held_by (Some b) h =
+        let same : b ≡ l.truth = beq_same b l.truth h in
+        ap (λ (x : Bool). let o : Option Bool = Some x in o) same
 
 -- ---- a value comes, and goes
 pub kept-told : (p : Program) (a : List (Option Bool)) (rows : List (List Place)) (columns : List (List Item)) (vars : List ℕ) (sums new : List ℤ) → IsKept p a rows columns vars sums →

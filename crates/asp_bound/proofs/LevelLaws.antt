@@ -4,9 +4,9 @@ use Rattle.std.specs.List.{All, AllPairs, Contains, list_any}
 use Rattle.std.specs.List.Sorted.{IsPermutation}
 use Rattle.std.specs.Int.RustNames.{unsigned_abs}
 use Rattle.std.proofs.lemmas.Int.{ints}
-use Rattle.std.proofs.lemmas.Bool.{cases_eq, cases_lt, eq-eqb, ne_eqb, false≢true, ltb-true, lt-ltb}
+use Rattle.std.proofs.lemmas.Bool.{cases_eq, cases_lt, eq-eqb, ne_eqb, false≢true, ltb-true, lt-ltb, or_left, or_right}
 use Rattle.std.proofs.lemmas.Bool.Decides.{nat_tests}
-use Rattle.std.proofs.lemmas.List.{length-set, length-replicate, get_or-replicate, append-nil, length_push, get_or_push, get_or_append_left, get_or_past, map_push}
+use Rattle.std.proofs.lemmas.List.{length-set, length-replicate, get_or-replicate, append-nil, length_push, get_or_push, get_or_append_left, get_or_past, map_push, take_more, length-take-le}
 use Rattle.std.proofs.lemmas.List.Folds.{list_any-append}
 use Rattle.std.proofs.lemmas.List.Sums.{sum_by-append, sum_by-cons}
 use Rattle.std.proofs.lemmas.List.Elements.{All-append, All-head, All-tail, All-weaker, Contains-append_left, Contains-append_right}
@@ -239,6 +239,15 @@ gathered p level q weights rows items are small whole permuted falling =
       least_small = least_to-small p q weights are small;
     }
 
+-- the same, by what the calls say
+pub gathered_as : (p : Program) (level : ℕ) (q : ℤ) (weights : List ℤ) (rows new : List (List Place)) (items : List Item) (least vars : ℕ) → vars ≡ var_count p →
+    AreWeights p (items_at p.minimize q) weights → size_of (items_at p.minimize q) ≤ 2 ^ 55 → length rows ≡ var_count p + 1 → new ≡ rows_to weights level rows vars →
+    IsPermutation (column_to weights vars) items → AllPairs (λ i k. k.most ≤ i.most) items → least ≡ least_to weights vars → IsGathered p level q rows new items least
+gathered_as p level q weights rows new items least vars e are small whole made permuted falling sum =
+    let all = gathered p level q weights rows items are small whole (subst (λ (n : ℕ). IsPermutation (column_to weights n) items) e permuted) falling in
+    let rowed = subst (λ (z : List (List Place)). IsGathered p level q rows z items (least_to weights (var_count p))) (sym (made ∙ ap (rows_to weights level rows) e)) all in
+    subst (λ (n : ℕ). IsGathered p level q rows new items n) (sym (sum ∙ ap (least_to weights) e)) rowed
+
 -- ---- priority after priority
 raised-none : (row : List Place) (j : ℕ) (b : Bool) → All (λ (o : Place). o.level < j) row → raised row j b ≡ 0
 raised-none [] j b all = refl
@@ -258,7 +267,7 @@ each_push qs q P before here j lt = elim (cases_lt j (length qs)) [
 
 pub gathered_none : (p : Program) → AreGathered p [] (replicate (var_count p + 1) []) [] []
 gathered_none p = record {
-  count = length-replicate (var_count p + 1) [];
+  count = length-replicate {A = List Place} (var_count p + 1) [];
   small = λ j lt. absurd (omega arith);
   within = λ v. within_by v (cases_lt v (var_count p + 1));
   sums = λ j v b lt i k. absurd (omega arith);
@@ -271,7 +280,7 @@ gathered_none p = record {
     nothing k d lt = absurd (omega arith)
 
     within_by : (v : ℕ) → (v < var_count p + 1) ⊎ (var_count p + 1 ≤ v) → All (λ (o : Place). o.level < 0) (row_at (replicate (var_count p + 1) []) v)
-    within_by v (inl lt) = subst (All (λ (o : Place). o.level < 0)) (sym (get_or-replicate (var_count p + 1) v [] [] lt)) nothing
+    within_by v (inl lt) = subst (All (λ (o : Place). o.level < 0)) (sym (get_or-replicate {A = List Place} (var_count p + 1) v [] [] lt)) nothing
     within_by v (inr le) = subst (All (λ (o : Place). o.level < 0)) (sym (get_or_past (replicate (var_count p + 1) []) v [] (omega (arith, length-replicate {A = List Place} (var_count p + 1) [], le)))) nothing
 
 pub gathered_more : (p : Program) (qs : List ℤ) (q : ℤ) (rows new : List (List Place)) (items : List (List Item)) (costs : List ℤ) (column : List Item) (least : ℕ) →
@@ -296,6 +305,24 @@ gathered_more p qs q rows new items costs column least g h =
           ap (λ (xs : List ℤ). xs ++ neg_ℤ (pos least) ∷ []) all ∙ (ap (λ (x : ℤ). map (optimistic_at p (valueless p)) qs ++ x ∷ []) (sym last) ∙ sym pushed);
     }
 
+-- the same, by what the calls of a turn say
+pub gathered_start : (p : Program) (rows : List (List Place)) (items : List (List Item)) (costs : List ℤ) → rows ≡ replicate (var_count p + 1) [] → items ≡ [] → costs ≡ [] → AreGathered p [] rows items costs
+gathered_start p rows items costs er ei ec =
+    let a = subst (λ (z : List (List Place)). AreGathered p [] z [] []) (sym er) (gathered_none p) in
+    let b = subst (λ (z : List (List Item)). AreGathered p [] rows z []) (sym ei) a in
+    subst (AreGathered p [] rows items) (sym ec) b
+
+pub gathered_step : (p : Program) (qs : List ℤ) (i : ℕ) (q : ℤ) (rows new : List (List Place)) (items items' : List (List Item)) (costs costs' : List ℤ) (column column' : List Item) (least : ℕ) →
+    i < length qs → get_or qs i q ≡ q → AreGathered p (take i qs) rows items costs → IsGathered p i q rows new column least →
+    items' ≡ items ++ column' ∷ [] → column' ≡ column → costs' ≡ costs ++ neg_ℤ (pos least) ∷ [] → AreGathered p (take (i + 1) qs) new items' costs'
+gathered_step p qs i q rows new items items' costs costs' column column' least lt is g h ei ek ec =
+    let n : length (take i qs) ≡ i = length-take-le i qs (omega arith) in
+    let more = gathered_more p (take i qs) q rows new items costs column least g (subst (λ (k : ℕ). IsGathered p k q rows new column least) (sym n) h) in
+    let list : take (i + 1) qs ≡ take i qs ++ q ∷ [] = take_more qs i q lt ∙ ap (λ (x : ℤ). take i qs ++ x ∷ []) is in
+    let a = subst (λ (z : List ℤ). AreGathered p z new (items ++ column ∷ []) (costs ++ neg_ℤ (pos least) ∷ [])) (sym list) more in
+    let b = subst (λ (z : List (List Item)). AreGathered p (take (i + 1) qs) new z (costs ++ neg_ℤ (pos least) ∷ [])) (sym (ei ∙ ap (λ (k : List Item). items ++ k ∷ []) ek)) a in
+    subst (AreGathered p (take (i + 1) qs) new items') (sym ec) b
+
 -- ---- the variables that have places
 pub each_skipped : (rows : List (List Place)) (n : ℕ) (vars : List ℕ) → row_at rows n ≡ [] → HasEach rows n vars → HasEach rows (n + 1) vars
 each_skipped rows n vars none h v i lt some = elim (cases_eq v n) [
@@ -309,11 +336,6 @@ each_listed rows n vars h v i lt some =
       | inl e ↦ or_right (list_any (λ (x : ℕ). eqb x v) vars) (eqb n v || false) (or_left (eqb n v) false (eq-eqb n v (sym e)))
       | inr ne ↦ or_left (list_any (λ (x : ℕ). eqb x v) vars) (eqb n v || false) (h v i (omega arith) some)
     ]
-  where
-    or_left : (a b : Bool) → a ≡ true → (a || b) ≡ true
-    or_left true b e = refl
-    or_left false b e = absurd (false≢true e)
 
-    or_right : (a b : Bool) → b ≡ true → (a || b) ≡ true
-    or_right true b e = refl
-    or_right false b e = e
+pub each_within : (rows : List (List Place)) (n m : ℕ) (vars : List ℕ) → m ≤ n → HasEach rows n vars → HasEach rows m vars
+each_within rows n m vars le h v i lt some = h v i (omega arith) some

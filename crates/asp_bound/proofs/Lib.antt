@@ -5,5 +5,6 @@ pub mod LevelLaws
 pub mod ReachLaws
 pub mod StepLaws
 pub mod KeptLaws
+pub mod FindLaws
 pub mod NogoodLaws
 pub mod SilentLaws

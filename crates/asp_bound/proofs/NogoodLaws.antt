@@ -4,7 +4,7 @@ use Rattle.std.specs.List.{All, list_all, list_any, flat_map}
 use Rattle.std.specs.Bool.{beq}
 use Rattle.std.specs.Option.{is_none}
 use Rattle.std.proofs.lemmas.Int.{ints}
-use Rattle.std.proofs.lemmas.Bool.{false≢true, cases_lt, cases_eq, eqb-true, eq-eqb, lt-ltb, ltb-true, cases_Bool}
+use Rattle.std.proofs.lemmas.Bool.{false≢true, cases_lt, cases_eq, eqb-true, eq-eqb, lt-ltb, ltb-true, or_left, or_right}
 use Rattle.std.proofs.lemmas.Bool.Decides.{nat_tests}
 use Rattle.std.proofs.lemmas.List.{get_or-map, get_or_past, length-map, append-nil}
 use Rattle.std.proofs.lemmas.List.Elements.{All-append, All-head, All-tail, All-push}
@@ -36,14 +36,6 @@ use Rattle.asp_bound.specs.declared.find.Implied.{Implied}
 use Rattle.asp_bound.proofs.CostLaws.{optimistic_at-le, cost_of-values}
 use Rattle.asp_bound.proofs.ReachLaws.{reach-above}
 use Rattle.asp_bound.proofs.SilentLaws.{reach_at-set}
-
-or_left : (a b : Bool) → a ≡ true → (a || b) ≡ true
-or_left true b e = refl
-or_left false b e = absurd (false≢true e)
-
-or_right : (a b : Bool) → b ≡ true → (a || b) ≡ true
-or_right true b e = refl
-or_right false b e = e
 
 -- ---- what a nogood says
 -- the literals of values that raise the first priorities are among the nogood's

@@ -3,14 +3,14 @@ use Rattle.std.proofs.Common.{◌≡◌, ◌≢◌, ℕ, zero, suc, ◌+◌, ◌
 use Rattle.std.specs.Option.{is_none}
 use Rattle.std.specs.Ordering.{int_eq}
 use Rattle.std.proofs.lemmas.Int.{ints}
-use Rattle.std.proofs.lemmas.Bool.{false≢true, cases_eq}
+use Rattle.std.proofs.lemmas.Bool.{false≢true, cases_eq, and_left, and_right}
 use Rattle.std.proofs.lemmas.List.{get_or-map, length-map}
 use Rattle.asp_model.specs.declared.program.Program.{Program}
 use Rattle.asp_model.specs.Sets.{Atoms}
 use Rattle.asp_model.specs.Costs.{priorities, betters, cost}
 use Rattle.asp_vars.specs.Literals.{value_of}
 use Rattle.asp_vars.specs.Numbering.{var_count, values}
-use Rattle.asp_vars.proofs.LiteralLaws.{and_both, and_left}
+use Rattle.asp_vars.proofs.LiteralLaws.{and_both, and_left as first_of_both}
 use Rattle.asp_bound.specs.declared.place.Place.{Place}
 use Rattle.asp_bound.specs.declared.place.Item.{Item}
 use Rattle.asp_bound.specs.declared.find.Implied.{Implied}
@@ -29,21 +29,13 @@ each_to-all : (f : ℕ → Bool) (n : ℕ) → ((v : ℕ) → 0 < v → v ≤ n 
 each_to-all f zero h = refl
 each_to-all f (suc n) h = and_both (each_to f n) (f (suc n)) (each_to-all f n (λ v i k. h v i (omega arith))) (h (suc n) (omega arith) (omega arith))
 
-and_false_right : (x y : Bool) → y ≡ false → (x && y) ≡ false
-and_false_right true y e = e
-and_false_right false y e = refl
-
-and_false_left : (x y : Bool) → x ≡ false → (x && y) ≡ false
-and_false_left true y e = absurd (false≢true (sym e))
-and_false_left false y e = refl
-
 each_to-not : (f : ℕ → Bool) (n v : ℕ) → 0 < v → v ≤ n → f v ≡ false → each_to f n ≡ false
 each_to-not f zero v i k e = absurd (omega arith)
 each_to-not f (suc n) v i k e = elim (cases_eq v (suc n)) [
-  | inl is ↦ and_false_right (each_to f n) (f (suc n)) (ap f (sym is) ∙ e)
+  | inl is ↦ and_right (each_to f n) (f (suc n)) (ap f (sym is) ∙ e)
   | inr ne ↦ (
     let within : v ≤ n = omega arith in
-    and_false_left (each_to f n) (f (suc n)) (each_to-not f n v i within e))
+    and_left (each_to f n) (f (suc n)) (each_to-not f n v i within e))
 ]
 
 -- ---- raised sums are the optimistic cost with the value
@@ -59,12 +51,12 @@ reach_at-set p a rows columns vars sums kept c v b i k none =
 
 -- ---- where it isn't silent
 pub loud-now : (p : Program) (a : List (Option Bool)) (c : List ℤ) (d : ℕ) → reach (optimistic p a) c ≡ Some d → is_silent p (Some c) a ≡ false
-loud-now p a c d e = and_false_left (is_below p a c) (each_to (stays p a c) (var_count p)) (betters-reach (optimistic p a) c ∙ ap is_none e)
+loud-now p a c d e = and_left (is_below p a c) (each_to (stays p a c) (var_count p)) (betters-reach (optimistic p a) c ∙ ap is_none e)
 
 -- where a variable without a value reaches the bound by one
 not_stays : (o : Option Bool) (x y : Bool) → o ≡ None → (x ≡ false) ⊎ (y ≡ false) → (not (is_none o) || (x && y)) ≡ false
-not_stays o x y e (inl f) = subst (λ o. (not (is_none o) || (x && y)) ≡ false) (sym e) (and_false_left x y f)
-not_stays o x y e (inr f) = subst (λ o. (not (is_none o) || (x && y)) ≡ false) (sym e) (and_false_right x y f)
+not_stays o x y e (inl f) = subst (λ o. (not (is_none o) || (x && y)) ≡ false) (sym e) (and_left x y f)
+not_stays o x y e (inr f) = subst (λ o. (not (is_none o) || (x && y)) ≡ false) (sym e) (and_right x y f)
 
 either : (p : Program) (a : List (Option Bool)) (c : List ℤ) (v : ℕ) (b : Bool) → is_below p (set a v (Some b)) c ≡ false → (is_below p (set a v (Some true)) c ≡ false) ⊎ (is_below p (set a v (Some false)) c ≡ false)
 either p a c v true e = inl e
@@ -72,7 +64,7 @@ either p a c v false e = inr e
 
 pub loud-with : (p : Program) (a : List (Option Bool)) (c : List ℤ) (v : ℕ) (b : Bool) (d : ℕ) → 0 < v → v ≤ var_count p → value_of a v ≡ None → reach (optimistic p (set a v (Some b))) c ≡ Some d → is_silent p (Some c) a ≡ false
 loud-with p a c v b d i k none e =
-    and_false_right (is_below p a c) (each_to (stays p a c) (var_count p)) (each_to-not (stays p a c) (var_count p) v i k
+    and_right (is_below p a c) (each_to (stays p a c) (var_count p)) (each_to-not (stays p a c) (var_count p) v i k
     (not_stays (value_of a v) (is_below p (set a v (Some true)) c) (is_below p (set a v (Some false)) c) none
     (either p a c v b (betters-reach (optimistic p (set a v (Some b))) c ∙ ap is_none e))))
 
@@ -146,4 +138,4 @@ pub silent_costs_less : (p : Program) (bound : Option (List ℤ)) (a : List (Opt
     is_silent p bound a ≡ true → IsSmaller (cost p S) bound
 silent_costs_less p None a S h e = tt
 silent_costs_less p (Some c) a S h e =
-    ap (λ (s : List ℤ). betters s c) (sym (optimistic-whole p a (values p S) h ∙ cost_of-values p S)) ∙ and_left (is_below p a c) (each_to (stays p a c) (var_count p)) e
+    ap (λ (s : List ℤ). betters s c) (sym (optimistic-whole p a (values p S) h ∙ cost_of-values p S)) ∙ first_of_both (is_below p a c) (each_to (stays p a c) (var_count p)) e

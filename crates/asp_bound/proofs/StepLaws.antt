@@ -175,3 +175,28 @@ depth-end x c j le = ap (depth (drop j x)) (drop-all c j le) ∙ depth-nil (drop
     depth-nil : (y : List ℤ) → depth y [] ≡ 0
     depth-nil [] = refl
     depth-nil (s ∷ y) = refl
+
+abbrev pub Deepening : List ℤ → List ℤ → ℕ → Type 0
+Deepening x c j = depth x c ≡ j + depth (drop j x) (drop j c)
+
+pub deepening-past : (x c : List ℤ) (j : ℕ) → length x ≤ j → j < length c → Deepening x c j → j ≡ depth x c
+deepening-past x c j lx lc h = omega (arith, h, depth-past x c j lx)
+
+pub deepening-differs : (x c : List ℤ) (j : ℕ) → j < length x → j < length c → Deepening x c j → int_eq (get_or x j (pos 0)) (get_or c j (pos 0)) ≡ false → j + 1 ≡ depth x c
+deepening-differs x c j lx lc h e =
+    let step : depth (drop j x) (drop j c) ≡ 1 = depth-step x c j lx lc ∙ ap (λ (t : Bool). cond t (suc (depth (drop (j + 1) x) (drop (j + 1) c))) 1) e in
+    omega (arith, h, step)
+
+pub deepening-equal : (x c : List ℤ) (j : ℕ) → j < length x → j < length c → Deepening x c j → int_eq (get_or x j (pos 0)) (get_or c j (pos 0)) ≡ true → Deepening x c (j + 1)
+deepening-equal x c j lx lc h e =
+    let step : depth (drop j x) (drop j c) ≡ suc (depth (drop (j + 1) x) (drop (j + 1) c)) = depth-step x c j lx lc ∙ ap (λ (t : Bool). cond t (suc (depth (drop (j + 1) x) (drop (j + 1) c))) 1) e in
+    omega (arith, h, step)
+
+pub deepening-end : (x c : List ℤ) (j : ℕ) → length c ≤ j → Deepening x c j → j ≡ depth x c
+deepening-end x c j le h = omega (arith, h, depth-end x c j le)
+
+pub same-int_eq : (a b : ℤ) → a ≡ b → int_eq a b ≡ true
+same-int_eq a b e = grind (arith, ints)
+
+pub apart-int_eq : (a b : ℤ) → (a ≡ b → ⊥) → int_eq a b ≡ false
+apart-int_eq a b e = grind (arith, ints)

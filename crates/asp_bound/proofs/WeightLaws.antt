@@ -1,23 +1,25 @@
 -- The weights of the literals, item by item.
-use Rattle.std.proofs.Common.{◌≡◌, ◌≢◌, ℕ, suc, ◌+◌, ◌*◌, ◌/◌, ◌%◌, ◌^◌, ◌<◌, ◌≤◌, Bool, true, false, cond, eqb, ◌&&◌, List, [], ◌∷◌, ◌++◌, length, get_or, set, take, ℤ, pos, ◌+ℤ◌, refl, sym, ap, ◌∙◌, subst, inl, inr, arith, sum_by, append_assoc, get_or-set_other, get_or-set_same}
+use Rattle.std.proofs.Common.{◌≡◌, ◌≢◌, ℕ, suc, ◌+◌, ◌*◌, ◌/◌, ◌%◌, ◌^◌, ◌<◌, ◌≤◌, Bool, true, false, cond, eqb, ◌&&◌, List, [], ◌∷◌, ◌++◌, length, get_or, set, take, ℤ, pos, ◌+ℤ◌, refl, sym, ap, ◌∙◌, subst, inl, inr, arith, sum_by, append_assoc, get_or-set_other, get_or-set_same, replicate}
 use Rattle.std.specs.List.{AllByRecursion}
 use Rattle.std.specs.Bool.{beq}
 use Rattle.std.specs.Int.RustNames.{unsigned_abs}
 use Rattle.std.specs.Ordering.{int_eq}
 use Rattle.std.proofs.lemmas.Int.{ints}
-use Rattle.std.proofs.lemmas.Bool.{cases_eq, eqb-true, eq-eqb, ne_eqb}
+use Rattle.std.proofs.lemmas.Bool.{cases_eq, eqb-true, eq-eqb, ne_eqb, leb-true}
 use Rattle.std.proofs.lemmas.Bool.Decides.{nat_tests}
-use Rattle.std.proofs.lemmas.List.{append-nil, take_more, length-append, length-set}
+use Rattle.std.proofs.lemmas.List.{append-nil, take_more, length-append, length-set, length-replicate, get_or-replicate}
 use Rattle.std.proofs.lemmas.List.Sums.{sum_by_push, sum_by-cons}
 use Rattle.asp_model.specs.declared.program.Minimize.{Minimize}
 use Rattle.asp_model.specs.declared.program.Program.{Program}
 use Rattle.asp_model.specs.Sets.{Atoms}
 use Rattle.asp_model.specs.Models.{atoms_of}
+use Rattle.asp_model.specs.Sound.{IsSound, weighted_total}
 use Rattle.asp_vars.specs.Literals.{Literal, literal_eq}
 use Rattle.asp_vars.specs.Codes.{code_of, literal_of as literal_by}
 use Rattle.asp_vars.specs.Numbering.{literal_in, literal_of, var_count}
 use Rattle.asp_bound.specs.Optimism.{items_at, weight_in}
 use Rattle.asp_bound.specs.Weights.{size_of, AreWeights}
+use Rattle.asp_bound.proofs.CostLaws.{weight_in-small}
 
 pub items_at-push : (ms : List Minimize) (m : Minimize) (q : ℤ) → items_at (ms ++ m ∷ []) q ≡ items_at ms q ++ cond (int_eq m.priority q) m.items []
 items_at-push [] m q = append-nil (cond (int_eq m.priority q) m.items [])
@@ -79,3 +81,35 @@ AreWeights-push p items weights i are le =
 
 pub size_of-push : (items : List (ℤ × ℤ)) (i : ℤ × ℤ) → size_of (items ++ i ∷ []) ≡ size_of items + unsigned_abs i.1
 size_of-push items i = sum_by_push (λ (x : ℤ × ℤ). unsigned_abs x.1) items i
+
+-- ---- the turns of the loop over the items
+pub AreWeights-none : (p : Program) (weights : List ℤ) → weights ≡ replicate (2 * var_count p + 2) (pos 0) → AreWeights p [] weights
+AreWeights-none p weights e = record {
+  count = ap length e ∙ length-replicate (2 * var_count p + 2) (pos 0);
+  each = λ c lt. ap (λ (ws : List ℤ). get_or ws c (pos 0)) e ∙ get_or-replicate (2 * var_count p + 2) c (pos 0) (pos 0) lt;
+}
+
+pub AreWeights-more : (p : Program) (items : List (ℤ × ℤ)) (weights new : List ℤ) (i : ℕ) (x : ℤ × ℤ) (l : Literal) → i < length items → get_or items i x ≡ x → AreWeights p (take i items) weights →
+    l ≡ literal_of p x.0 → l.var ≤ var_count p → new ≡ set weights (code_of l) (get_or weights (code_of l) (pos 0) +ℤ x.1) → AreWeights p (take (i + 1) items) new
+AreWeights-more p items weights new i x l lt is are at within made =
+    let list : take (i + 1) items ≡ take i items ++ x ∷ [] = take_more items i x lt ∙ ap (λ (y : ℤ × ℤ). take i items ++ y ∷ []) is in
+    let pushed = AreWeights-push p (take i items) weights x are (subst (λ (k : Literal). k.var ≤ var_count p) at within) in
+    let named = subst (λ (k : Literal). AreWeights p (take i items ++ x ∷ []) (set weights (code_of k) (get_or weights (code_of k) (pos 0) +ℤ x.1))) (sym at) pushed in
+    subst (AreWeights p (take (i + 1) items)) (sym made) (subst (λ (z : List (ℤ × ℤ)). AreWeights p z (set weights (code_of l) (get_or weights (code_of l) (pos 0) +ℤ x.1))) (sym list) named)
+
+pub size_of-more : (items : List (ℤ × ℤ)) (i : ℕ) (x : ℤ × ℤ) → i < length items → get_or items i x ≡ x → unsigned_abs x.1 ≤ 2 ^ 31 → size_of (take i items) ≤ 2 ^ 31 * i → size_of (take (i + 1) items) ≤ 2 ^ 31 * (i + 1)
+size_of-more items i x lt is small le =
+    let list : take (i + 1) items ≡ take i items ++ x ∷ [] = take_more items i x lt ∙ ap (λ (y : ℤ × ℤ). take i items ++ y ∷ []) is in
+    let size : size_of (take (i + 1) items) ≡ size_of (take i items) + unsigned_abs x.1 = ap size_of list ∙ size_of-push (take i items) x in
+    omega (arith, size, small, le)
+
+pub weights-room : (p : Program) (items : List (ℤ × ℤ)) (weights : List ℤ) (i c : ℕ) → AreWeights p (take i items) weights → size_of (take i items) ≤ 2 ^ 31 * i → i < length items → length items ≤ 2 ^ 24 → c < length weights →
+    unsigned_abs (get_or weights c (pos 0)) < 2 ^ 60
+weights-room p items weights i c are size lt few within =
+    let is = are.each c (omega (arith, are.count, within)) in
+    let le : unsigned_abs (get_or weights c (pos 0)) ≤ size_of (take i items) = subst (λ (w : ℤ). unsigned_abs w ≤ size_of (take i items)) (sym is) (weight_in-small (atoms_of p) (take i items) (literal_by c)) in
+    omega (arith, le, size, lt, few)
+
+-- ---- a sound program has few items
+pub few-items : (p : Program) (q : ℤ) → IsSound p → length (items_at p.minimize q) ≤ 2 ^ 24
+few-items p q sound = omega (arith, length-items_at p.minimize q, leb-true (weighted_total p) 16777216 sound.weighted)

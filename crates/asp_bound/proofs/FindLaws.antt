@@ -1,0 +1,71 @@
+-- Which variables reach the bound, item by item.
+use Rattle.std.proofs.Common.{◌≡◌, ◌≢◌, ℕ, ◌+◌, ◌<◌, ◌≤◌, ◌⊎◌, Bool, true, false, List, [], length, get_or, Option, Some, None, IsSome, ℤ, pos, ◌+ℤ◌, ◌≤ℤ◌, refl, sym, ap, ◌∙◌, subst, inl, inr, arith}
+use Rattle.std.specs.List.{AllPairs}
+use Rattle.std.proofs.lemmas.Int.{ints}
+use Rattle.std.proofs.lemmas.Bool.{cases_eq, cases_lt, false≢true}
+use Rattle.std.proofs.lemmas.List.{get_or_default}
+use Rattle.asp_vars.specs.Literals.{value_of}
+use Rattle.asp_bound.specs.declared.place.Place.{Place}
+use Rattle.asp_bound.specs.declared.place.Item.{Item}
+use Rattle.asp_bound.specs.Rises.{raised, row_at}
+use Rattle.asp_bound.specs.Reach.{reach, lifted}
+use Rattle.asp_bound.specs.Found.{reach_at, IsNear, Passes}
+
+-- what the row of a variable reaches
+pub reached_by : (rows : List (List Place)) (sums bound : List ℤ) (v : ℕ) (b : Bool) (row : List Place) (r : Option ℕ) → row ≡ row_at rows v → r ≡ reach (lifted (λ j. raised row j b) sums) bound → reach_at rows sums bound v b ≡ r
+reached_by rows sums bound v b row r e h = sym (h ∙ ap (λ (o : List Place). reach (lifted (λ j. raised o j b) sums) bound) e)
+
+-- An item from a place on is no nearer than the one at that place.
+pub nearer : (column : List Item) (i k : ℕ) (x d : Item) (s l : ℤ) → AllPairs (λ a b. b.most ≤ a.most) column → get_or column i x ≡ x → i ≤ k → k < length column → IsNear s l (get_or column k d).most → IsNear s l x.most
+nearer column i k x d s l falling is le lt near = elim (cases_eq i k) [
+  | inl e ↦ subst (λ (y : Item). IsNear s l y.most) (get_or_default column k d x lt ∙ subst (λ (m : ℕ). get_or column m x ≡ x) e is) near
+  | inr ne ↦ (
+    let low : (get_or column k d).most ≤ (get_or column i d).most = falling i k d (omega arith) lt in
+    let here : get_or column i d ≡ x = get_or_default column i d x (omega arith) ∙ is in
+    let most : (get_or column k d).most ≤ x.most = subst (λ (y : Item). (get_or column k d).most ≤ y.most) here low in
+    (omega (arith, near.0, most), omega (arith, ints, near.1, most)))
+]
+
+-- Each item that is near passes.
+abbrev pub NearPass : List (Option Bool) → List (List Place) → List ℤ → List ℤ → List Item → ℤ → ℤ → Type 0
+NearPass a rows sums bound column s l = (i : ℕ) (d : Item) → i < length column → IsNear s l (get_or column i d).most → Passes a rows sums bound (get_or column i d).var
+
+-- the items before a place pass
+abbrev pub FirstPass : List (Option Bool) → List (List Place) → List ℤ → List ℤ → List Item → ℕ → Type 0
+FirstPass a rows sums bound column n = (i : ℕ) (d : Item) → i < n → Passes a rows sums bound (get_or column i d).var
+
+pub near-far : (a : List (Option Bool)) (rows : List (List Place)) (sums bound : List ℤ) (column : List Item) (n : ℕ) (x : Item) (s l : ℤ) (r : Bool) → AllPairs (λ a b. b.most ≤ a.most) column → get_or column n x ≡ x →
+    FirstPass a rows sums bound column n → (IsNear s l x.most → r ≡ true) → r ≡ false → NearPass a rows sums bound column s l
+near-far a rows sums bound column n x s l r falling is first near no i d lt h = elim (cases_lt i n) [
+  | inl low ↦ first i d low
+  | inr out ↦ absurd (false≢true (sym no ∙ near (nearer column n i x d s l falling is out lt h)))
+]
+
+pub first-more : (a : List (Option Bool)) (rows : List (List Place)) (sums bound : List ℤ) (column : List Item) (n : ℕ) (x : Item) → n < length column → get_or column n x ≡ x → FirstPass a rows sums bound column n → Passes a rows sums bound x.var →
+    FirstPass a rows sums bound column (n + 1)
+first-more a rows sums bound column n x lt is first here i d low = elim (cases_lt i n) [
+  | inl before ↦ first i d before
+  | inr out ↦ (
+    let e : n ≡ i = omega arith in
+    let same : get_or column n d ≡ x = get_or_default column n d x lt ∙ is in
+    let passes : Passes a rows sums bound (get_or column n d).var = subst (λ (y : Item). Passes a rows sums bound y.var) (sym same) here in
+    subst (λ (m : ℕ). Passes a rows sums bound (get_or column m d).var) e passes)
+]
+
+-- ---- priority after priority
+abbrev pub LevelsPass : List (Option Bool) → List (List Place) → List (List Item) → List ℤ → List ℤ → ℕ → Type 0
+LevelsPass a rows columns sums bound n = (j i : ℕ) (d : Item) → j < n → i < length (get_or columns j []) →
+    IsNear (get_or sums j (pos 0)) (get_or bound j (pos 0)) (get_or (get_or columns j []) i d).most → Passes a rows sums bound (get_or (get_or columns j []) i d).var
+
+pub levels-more : (a : List (Option Bool)) (rows : List (List Place)) (columns : List (List Item)) (sums bound : List ℤ) (n : ℕ) (column : List Item) → column ≡ get_or columns n [] → LevelsPass a rows columns sums bound n →
+    NearPass a rows sums bound column (get_or sums n (pos 0)) (get_or bound n (pos 0)) → LevelsPass a rows columns sums bound (n + 1)
+levels-more a rows columns sums bound n column is before here j i d low lt near = elim (cases_lt j n) [
+  | inl first ↦ before j i d first lt near
+  | inr out ↦ (
+    let e : n ≡ j = omega arith in
+    let at : NearPass a rows sums bound (get_or columns n []) (get_or sums n (pos 0)) (get_or bound n (pos 0)) =
+    subst (λ (z : List Item). NearPass a rows sums bound z (get_or sums n (pos 0)) (get_or bound n (pos 0))) is here in
+    let there : NearPass a rows sums bound (get_or columns j []) (get_or sums j (pos 0)) (get_or bound j (pos 0)) =
+    subst (λ (m : ℕ). NearPass a rows sums bound (get_or columns m []) (get_or sums m (pos 0)) (get_or bound m (pos 0))) e at in
+    there i d lt near)
+]
