@@ -36,14 +36,14 @@ FirstPass a rows sums bound column n = (i : ℕ) (d : Item) → i < n → Passes
 
 pub near-far : (a : List (Option Bool)) (rows : List (List Place)) (sums bound : List ℤ) (column : List Item) (n : ℕ) (x : Item) (s l : ℤ) (r : Bool) → AllPairs (λ a b. b.most ≤ a.most) column → get_or column n x ≡ x →
     FirstPass a rows sums bound column n → (IsNear s l x.most → r ≡ true) → r ≡ false → NearPass a rows sums bound column s l
-near-far a rows sums bound column n x s l r falling is first near no i d lt h = elim (cases_lt i n) [
+near-far a rows sums bound column n x s l r falling is first near no = λ i d lt h. elim (cases_lt i n) [
   | inl low ↦ first i d low
   | inr out ↦ absurd (false≢true (sym no ∙ near (nearer column n i x d s l falling is out lt h)))
 ]
 
 pub first-more : (a : List (Option Bool)) (rows : List (List Place)) (sums bound : List ℤ) (column : List Item) (n : ℕ) (x : Item) → n < length column → get_or column n x ≡ x → FirstPass a rows sums bound column n → Passes a rows sums bound x.var →
     FirstPass a rows sums bound column (n + 1)
-first-more a rows sums bound column n x lt is first here i d low = elim (cases_lt i n) [
+first-more a rows sums bound column n x lt is first here = λ i d low. elim (cases_lt i n) [
   | inl before ↦ first i d before
   | inr out ↦ (
     let e : n ≡ i = omega arith in
@@ -59,7 +59,7 @@ LevelsPass a rows columns sums bound n = (j i : ℕ) (d : Item) → j < n → i 
 
 pub levels-more : (a : List (Option Bool)) (rows : List (List Place)) (columns : List (List Item)) (sums bound : List ℤ) (n : ℕ) (column : List Item) → column ≡ get_or columns n [] → LevelsPass a rows columns sums bound n →
     NearPass a rows sums bound column (get_or sums n (pos 0)) (get_or bound n (pos 0)) → LevelsPass a rows columns sums bound (n + 1)
-levels-more a rows columns sums bound n column is before here j i d low lt near = elim (cases_lt j n) [
+levels-more a rows columns sums bound n column is before here = λ j i d low lt near. elim (cases_lt j n) [
   | inl first ↦ before j i d first lt near
   | inr out ↦ (
     let e : n ≡ j = omega arith in

@@ -3,7 +3,7 @@ use Rattle.std.proofs.Common.{◌≡◌, ℕ, zero, suc, ◌+◌, ◌^◌, ◌<�
 use Rattle.std.specs.List.{All}
 use Rattle.std.proofs.lemmas.Int.{ints}
 use Rattle.std.proofs.lemmas.Bool.{false≢true}
-use Rattle.std.proofs.lemmas.List.{same_lists, get_or-map, length-map, length-set, length-replicate}
+use Rattle.std.proofs.lemmas.List.{get_or_default, same_lists, get_or-map, length-map, length-set, length-replicate}
 use Rattle.std.proofs.lemmas.List.Elements.{All-weaker}
 use Rattle.asp_model.specs.declared.program.Program.{Program}
 use Rattle.asp_model.specs.Costs.{priorities}
@@ -20,18 +20,13 @@ use Rattle.asp_bound.specs.Kept.{IsKept}
 use Rattle.asp_bound.specs.Gathered.{valueless, AreGathered, HasEach}
 use Rattle.asp_bound.proofs.CostLaws.{optimistic_at-set, optimistic_at-unset, optimistic_at-high, optimistic_at-low, rise_at-small}
 
-get_or-any : {X : Type 0} (xs : List X) (k : ℕ) (d e : X) → k < length xs → get_or xs k d ≡ get_or xs k e
-get_or-any [] k d e lt = absurd (omega arith)
-get_or-any (x ∷ xs) zero d e lt = refl
-get_or-any (x ∷ xs) (suc k) d e lt = get_or-any xs k d e (omega arith)
-
 -- sums that are those of some values at each priority
 pub summed_from : (p : Program) (a : List (Option Bool)) (sums : List ℤ) → length sums ≡ length (priorities p.minimize) →
     ((j : ℕ) → j < length (priorities p.minimize) → get_or sums j (pos 0) ≡ optimistic_at p a (nth_priority p j)) → sums ≡ optimistic p a
 summed_from p a sums counted each =
     same_lists sums (optimistic p a) (counted ∙ sym (length-map (priorities p.minimize) (optimistic_at p a))) (λ k d lt.
     let low : k < length (priorities p.minimize) = omega arith in
-    get_or-any sums k d (pos 0) lt ∙ (each k low ∙ sym (get_or-map (optimistic_at p a) (priorities p.minimize) k (pos 0) d low)))
+    get_or_default sums k d (pos 0) lt ∙ (each k low ∙ sym (get_or-map (optimistic_at p a) (priorities p.minimize) k (pos 0) d low)))
 
 pub sums-count : (p : Program) (a : List (Option Bool)) (rows : List (List Place)) (columns : List (List Item)) (vars : List ℕ) (sums : List ℤ) → IsKept p a rows columns vars sums → length sums ≡ length (priorities p.minimize)
 sums-count p a rows columns vars sums kept = ap length kept.summed ∙ length-map (priorities p.minimize) (optimistic_at p a)

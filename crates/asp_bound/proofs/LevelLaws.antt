@@ -325,17 +325,17 @@ gathered_step p qs i q rows new items items' costs costs' column column' least l
 
 -- ---- the variables that have places
 pub each_skipped : (rows : List (List Place)) (n : ℕ) (vars : List ℕ) → row_at rows n ≡ [] → HasEach rows n vars → HasEach rows (n + 1) vars
-each_skipped rows n vars none h v i lt some = elim (cases_eq v n) [
+each_skipped rows n vars none h = λ v i lt some. elim (cases_eq v n) [
   | inl e ↦ absurd (some (ap (λ (k : ℕ). row_at rows k) e ∙ none))
   | inr ne ↦ h v i (omega arith) some
 ]
 
 pub each_listed : (rows : List (List Place)) (n : ℕ) (vars : List ℕ) → HasEach rows n vars → HasEach rows (n + 1) (vars ++ n ∷ [])
-each_listed rows n vars h v i lt some =
+each_listed rows n vars h = λ v i lt some.
     list_any-append (λ (x : ℕ). eqb x v) vars (n ∷ []) ∙ elim (cases_eq v n) [
       | inl e ↦ or_right (list_any (λ (x : ℕ). eqb x v) vars) (eqb n v || false) (or_left (eqb n v) false (eq-eqb n v (sym e)))
       | inr ne ↦ or_left (list_any (λ (x : ℕ). eqb x v) vars) (eqb n v || false) (h v i (omega arith) some)
     ]
 
 pub each_within : (rows : List (List Place)) (n m : ℕ) (vars : List ℕ) → m ≤ n → HasEach rows n vars → HasEach rows m vars
-each_within rows n m vars le h v i lt some = h v i (omega arith) some
+each_within rows n m vars le h = λ v i lt some. h v i (omega arith) some

@@ -162,8 +162,8 @@ unit-loud a n v b h none =
     let test : Literal → Bool = λ k. literal_eq k l || holds_in a k in
     let others : list_all test (n ++ l ∷ []) ≡ true =
     list_all-append test n (l ∷ []) ∙ and_both (list_all test n) (list_all test (l ∷ [])) (weaker-all (holds_in a) test n (λ k e. or_right (literal_eq k l) (holds_in a k) e) h) (and_both (test l) true (or_left (literal_eq l l) (holds_in a l) (itself v b)) refl) in
-    let open : is_open a l ≡ true = ap is_none none in
-    let here : (is_open a l && list_all test (n ++ l ∷ [])) ≡ true = and_both (is_open a l) (list_all test (n ++ l ∷ [])) open others in
+    let free : is_open a l ≡ true = ap is_none none in
+    let here : (is_open a l && list_all test (n ++ l ∷ [])) ≡ true = and_both (is_open a l) (list_all test (n ++ l ∷ [])) free others in
     let unit : is_unit a (n ++ l ∷ []) ≡ true =
     list_any-append (λ x. is_open a x && list_all (λ k. literal_eq k x || holds_in a k) (n ++ l ∷ [])) n (l ∷ []) ∙ or_right (list_any (λ x. is_open a x && list_all (λ k. literal_eq k x || holds_in a k) (n ++ l ∷ [])) n) ((is_open a l && list_all test (n ++ l ∷ [])) || false) (or_left (is_open a l && list_all test (n ++ l ∷ [])) false here) in
     and_right_false (not (is_violated a (n ++ l ∷ []))) (not (is_unit a (n ++ l ∷ []))) (ap not unit)

@@ -89,7 +89,7 @@ depth-within (s ∷ x) (k ∷ c) = depth_by (int_eq s k) (depth x c) (length x) 
     depth_by false m n h = omega arith
 
 not_both : (o : Option Bool) → o ≡ None → IsSome o → ⊥
-not_both None e h = absurd h
+not_both None e h = false≢true h
 not_both (Some b) e h = absurd (false≢true (ap is_none e))
 
 one_of : (a : List (Option Bool)) (rows : List (List Place)) (sums c : List ℤ) (v : ℕ) (b : Bool) → value_of a v ≡ None → Passes a rows sums c v → reach_at rows sums c v b ≡ None
@@ -118,7 +118,7 @@ none_reaches p a rows columns vars sums c kept passed below v b i k none (Some d
     let passes_x : Passes a rows sums c x.var =
     subst (λ (y : Item). Passes a rows sums c y.var) at (passed j place x near.1.within item.1.1 (subst (λ (y : Item). IsNear (get_or sums j (pos 0)) (get_or c j (pos 0)) y.most) (sym at) is_near)) in
     let passes : Passes a rows sums c v = subst (Passes a rows sums c) item.2 passes_x in
-    absurd (false≢true (sym (ap is_none (sym e ∙ one_of a rows sums c v b none passes))))
+    absurd (false≢true (ap is_none (sym e ∙ one_of a rows sums c v b none passes)))
 
 stays_by : (o : Option Bool) (x y : Bool) → (o ≡ None → x ≡ true) → (o ≡ None → y ≡ true) → (not (is_none o) || (x && y)) ≡ true
 stays_by None x y f g = and_both x y (f refl) (g refl)

@@ -1,5 +1,5 @@
 -- Steps of the loops over sums and places.
-use Rattle.std.proofs.Common.{◌≡◌, ◌≢◌, ℕ, zero, suc, ◌+◌, ◌^◌, ◌<◌, ◌≤◌, Bool, true, false, cond, eqb, List, [], ◌∷◌, ◌++◌, length, get_or, set, take, drop, Option, Some, None, ℤ, pos, ◌+ℤ◌, ◌-ℤ◌, neg_ℤ, ◌≤ℤ◌, ◌<ℤ◌, refl, sym, ap, ◌∙◌, subst, inl, inr, arith, add-one, drop-cons, get_or-set_other, get_or-set_same, sum_by}
+use Rattle.std.proofs.Common.{◌≡◌, ◌≢◌, ℕ, zero, suc, ◌+◌, ◌^◌, ◌<◌, ◌≤◌, Bool, true, false, cond, eqb, List, [], ◌∷◌, ◌++◌, length, get_or, set, take, drop, Option, Some, None, ℤ, pos, ◌+ℤ◌, ◌-ℤ◌, neg_ℤ, ◌≤ℤ◌, ◌<ℤ◌, refl, sym, ap, ◌∙◌, subst, inl, inr, arith, add-one, drop-cons, get_or-set_other, get_or-set_same, length-set, sum_by}
 use Rattle.std.specs.Option.{option_map}
 use Rattle.std.specs.Ordering.{int_cmp, int_eq}
 use Rattle.std.specs.declared.cmp.Ordering.{Ordering}
@@ -40,46 +40,57 @@ raised-within row i b d lt = omega (arith, raised-here row i b d lt, raised-take
 abbrev pub IsRaised : List ℤ → List ℤ → List Place → ℕ → Bool → Type 0
 IsRaised old new row i b = (j : ℕ) → j < length new → get_or new j (pos 0) ≡ get_or old j (pos 0) +ℤ pos (raised (take i row) j b)
 
-pub raise-more : (old new : List ℤ) (row : List Place) (i : ℕ) (b : Bool) (o : Place) → i < length row → get_or row i o ≡ o → o.level < length new → IsRaised old new row i b →
-    IsRaised old (set new o.level (get_or new o.level (pos 0) +ℤ pos (rise_by b o))) row (i + 1) b
-raise-more old new row i b o lt is low before = λ j within.
-    let w = get_or new o.level (pos 0) +ℤ pos (rise_by b o) in
-    let inside : j < length new = omega (arith, length-set new o.level w, within) in
-    let P : Place → Type 0 = λ (x : Place). raised (take (i + 1) row) j b ≡ raised (take i row) j b + cond (eqb x.level j) (rise_by b x) 0 in
-    let more : raised (take (i + 1) row) j b ≡ raised (take i row) j b + cond (eqb o.level j) (rise_by b o) 0 = subst P is (raised-more row i j b o lt) in
-    elim (cases_eq o.level j) [
+pub raise-more : (old new last : List ℤ) (row : List Place) (i : ℕ) (b : Bool) (d : Place) (rise : ℕ) → i < length row → (get_or row i d).level < length new → IsRaised old new row i b → rise ≡ rise_by b (get_or row i d) →
+    last ≡ set new (get_or row i d).level (get_or new (get_or row i d).level (pos 0) +ℤ pos rise) → IsRaised old last row (i + 1) b
+raise-more old new last row i b d rise lt low before is made = λ j within.
+    let k = (get_or row i d).level in
+    let w = get_or new k (pos 0) +ℤ pos rise in
+    let inside : j < length new = omega (arith, length-set new k w, ap length made, within) in
+    let at : get_or last j (pos 0) ≡ get_or (set new k w) j (pos 0) = ap (λ (xs : List ℤ). get_or xs j (pos 0)) made in
+    let more = raised-more row i j b d lt in
+    elim (cases_eq k j) [
       | inl e ↦ (
-        let same : get_or (set new o.level w) o.level (pos 0) ≡ w = get_or-set_same new o.level w (pos 0) low in
-        let here : get_or (set new o.level w) j (pos 0) ≡ get_or new j (pos 0) +ℤ pos (rise_by b o) = subst (λ (k : ℕ). get_or (set new o.level w) k (pos 0) ≡ get_or new k (pos 0) +ℤ pos (rise_by b o)) e same in
-        let adds : cond (eqb o.level j) (rise_by b o) 0 ≡ rise_by b o = ap (λ (t : Bool). cond t (rise_by b o) 0) (eq-eqb o.level j e) in
-        omega (arith, ints, here, before j inside, more, adds))
+        let same : get_or (set new k w) k (pos 0) ≡ w = get_or-set_same new k w (pos 0) low in
+        let here : get_or (set new k w) j (pos 0) ≡ get_or new j (pos 0) +ℤ pos rise = subst (λ (m : ℕ). get_or (set new k w) m (pos 0) ≡ get_or new m (pos 0) +ℤ pos rise) e same in
+        let adds : cond (eqb k j) (rise_by b (get_or row i d)) 0 ≡ rise_by b (get_or row i d) = ap (λ (t : Bool). cond t (rise_by b (get_or row i d)) 0) (eq-eqb k j e) in
+        omega (arith, ints, at, here, before j inside, more, adds, is))
       | inr ne ↦ (
-        let there : get_or (set new o.level w) j (pos 0) ≡ get_or new j (pos 0) = get_or-set_other new o.level j w (pos 0) (λ (e : j ≡ o.level). ne (sym e)) in
-        let adds : cond (eqb o.level j) (rise_by b o) 0 ≡ 0 = ap (λ (t : Bool). cond t (rise_by b o) 0) (ne_eqb o.level j ne) in
-        omega (arith, ints, there, before j inside, more, adds))
+        let there : get_or (set new k w) j (pos 0) ≡ get_or new j (pos 0) = get_or-set_other new k j w (pos 0) (λ (e : j ≡ k). ne (sym e)) in
+        let adds : cond (eqb k j) (rise_by b (get_or row i d)) 0 ≡ 0 = ap (λ (t : Bool). cond t (rise_by b (get_or row i d)) 0) (ne_eqb k j ne) in
+        omega (arith, ints, at, there, before j inside, more, adds))
     ]
+
+-- the sum with the place fits where the sum with the row does
+pub raise-fits : (old new : List ℤ) (row : List Place) (i : ℕ) (b : Bool) (d : Place) (rise : ℕ) (m : ℤ) → i < length row → (get_or row i d).level < length new → IsRaised old new row i b → rise ≡ rise_by b (get_or row i d) →
+    (get_or old (get_or row i d).level (pos 0) +ℤ pos (raised row (get_or row i d).level b)) <ℤ m → (get_or new (get_or row i d).level (pos 0) +ℤ pos rise) <ℤ m
+raise-fits old new row i b d rise m lt low before is room = omega (arith, ints, before (get_or row i d).level low, raised-within row i b d lt, is, room)
 
 abbrev pub IsLowered : List ℤ → List ℤ → List Place → ℕ → Bool → Type 0
 IsLowered old new row i b = (j : ℕ) → j < length new → get_or new j (pos 0) +ℤ pos (raised (take i row) j b) ≡ get_or old j (pos 0)
 
-pub lower-more : (old new : List ℤ) (row : List Place) (i : ℕ) (b : Bool) (o : Place) → i < length row → get_or row i o ≡ o → o.level < length new → IsLowered old new row i b →
-    IsLowered old (set new o.level (get_or new o.level (pos 0) -ℤ pos (rise_by b o))) row (i + 1) b
-lower-more old new row i b o lt is low before = λ j within.
-    let w = get_or new o.level (pos 0) -ℤ pos (rise_by b o) in
-    let inside : j < length new = omega (arith, length-set new o.level w, within) in
-    let P : Place → Type 0 = λ (x : Place). raised (take (i + 1) row) j b ≡ raised (take i row) j b + cond (eqb x.level j) (rise_by b x) 0 in
-    let more : raised (take (i + 1) row) j b ≡ raised (take i row) j b + cond (eqb o.level j) (rise_by b o) 0 = subst P is (raised-more row i j b o lt) in
-    elim (cases_eq o.level j) [
+pub lower-more : (old new last : List ℤ) (row : List Place) (i : ℕ) (b : Bool) (d : Place) (rise : ℕ) → i < length row → (get_or row i d).level < length new → IsLowered old new row i b → rise ≡ rise_by b (get_or row i d) →
+    last ≡ set new (get_or row i d).level (get_or new (get_or row i d).level (pos 0) -ℤ pos rise) → IsLowered old last row (i + 1) b
+lower-more old new last row i b d rise lt low before is made = λ j within.
+    let k = (get_or row i d).level in
+    let w = get_or new k (pos 0) -ℤ pos rise in
+    let inside : j < length new = omega (arith, length-set new k w, ap length made, within) in
+    let at : get_or last j (pos 0) ≡ get_or (set new k w) j (pos 0) = ap (λ (xs : List ℤ). get_or xs j (pos 0)) made in
+    let more = raised-more row i j b d lt in
+    elim (cases_eq k j) [
       | inl e ↦ (
-        let same : get_or (set new o.level w) o.level (pos 0) ≡ w = get_or-set_same new o.level w (pos 0) low in
-        let here : get_or (set new o.level w) j (pos 0) ≡ get_or new j (pos 0) -ℤ pos (rise_by b o) = subst (λ (k : ℕ). get_or (set new o.level w) k (pos 0) ≡ get_or new k (pos 0) -ℤ pos (rise_by b o)) e same in
-        let adds : cond (eqb o.level j) (rise_by b o) 0 ≡ rise_by b o = ap (λ (t : Bool). cond t (rise_by b o) 0) (eq-eqb o.level j e) in
-        omega (arith, ints, here, before j inside, more, adds))
+        let same : get_or (set new k w) k (pos 0) ≡ w = get_or-set_same new k w (pos 0) low in
+        let here : get_or (set new k w) j (pos 0) ≡ get_or new j (pos 0) -ℤ pos rise = subst (λ (m : ℕ). get_or (set new k w) m (pos 0) ≡ get_or new m (pos 0) -ℤ pos rise) e same in
+        let adds : cond (eqb k j) (rise_by b (get_or row i d)) 0 ≡ rise_by b (get_or row i d) = ap (λ (t : Bool). cond t (rise_by b (get_or row i d)) 0) (eq-eqb k j e) in
+        omega (arith, ints, at, here, before j inside, more, adds, is))
       | inr ne ↦ (
-        let there : get_or (set new o.level w) j (pos 0) ≡ get_or new j (pos 0) = get_or-set_other new o.level j w (pos 0) (λ (e : j ≡ o.level). ne (sym e)) in
-        let adds : cond (eqb o.level j) (rise_by b o) 0 ≡ 0 = ap (λ (t : Bool). cond t (rise_by b o) 0) (ne_eqb o.level j ne) in
-        omega (arith, ints, there, before j inside, more, adds))
+        let there : get_or (set new k w) j (pos 0) ≡ get_or new j (pos 0) = get_or-set_other new k j w (pos 0) (λ (e : j ≡ k). ne (sym e)) in
+        let adds : cond (eqb k j) (rise_by b (get_or row i d)) 0 ≡ 0 = ap (λ (t : Bool). cond t (rise_by b (get_or row i d)) 0) (ne_eqb k j ne) in
+        omega (arith, ints, at, there, before j inside, more, adds))
     ]
+
+pub lower-fits : (old new : List ℤ) (row : List Place) (i : ℕ) (b : Bool) (d : Place) (rise : ℕ) (m : ℤ) → i < length row → (get_or row i d).level < length new → IsLowered old new row i b → rise ≡ rise_by b (get_or row i d) →
+    (m +ℤ pos (raised row (get_or row i d).level b)) ≤ℤ get_or old (get_or row i d).level (pos 0) → (m +ℤ pos rise) ≤ℤ get_or new (get_or row i d).level (pos 0)
+lower-fits old new row i b d rise m lt low before is room = omega (arith, ints, before (get_or row i d).level low, raised-within row i b d lt, is, room)
 
 -- ---- raised sums by their places
 pub length-lifted : (f : ℕ → ℕ) (x : List ℤ) → length (lifted f x) ≡ length x
@@ -152,6 +163,10 @@ pub reaching-end : (x c : List ℤ) (j : ℕ) → length c ≤ j → Reaching x 
 reaching-end x c j le h =
     let e : j + 0 ≡ j = omega arith in
     sym (h ∙ (ap (λ (r : Option ℕ). option_map (λ (n : ℕ). j + n) r) (reach-end x c j le) ∙ ap (λ (m : ℕ). let o : Option ℕ = Some m in o) e))
+
+-- a comparison of what stands at a place
+pub compared-at : (s : ℤ) (x c : List ℤ) (j : ℕ) (o : Ordering) → o ≡ int_cmp s (get_or c j (pos 0)) → s ≡ get_or x j (pos 0) → int_cmp (get_or x j (pos 0)) (get_or c j (pos 0)) ≡ o
+compared-at s x c j o h e = ap (λ (z : ℤ). int_cmp z (get_or c j (pos 0))) (sym e) ∙ sym h
 
 -- where nothing has been compared yet
 pub reaching-none : (x c : List ℤ) → Reaching x c 0
