@@ -1,10 +1,10 @@
 -- The tables, priority by priority.
-use Rattle.std.proofs.Common.{◌≡◌, ◌≢◌, ℕ, zero, suc, ◌+◌, ◌*◌, ◌^◌, ◌<◌, ◌≤◌, ◌⊎◌, Bool, true, false, cond, eqb, ltb, List, [], ◌∷◌, ◌++◌, map, length, get_or, set, take, replicate, Option, None, max, ℤ, pos, negsuc, ◌+ℤ◌, neg_ℤ, ◌≤ℤ◌, refl, sym, ap, ◌∙◌, subst, inl, inr, arith, sum_by, get_or-set_other, get_or-set_same, add-one, ◌||◌}
+use Rattle.std.proofs.Common.{◌≡◌, ◌≢◌, ℕ, zero, suc, ◌+◌, ◌*◌, ◌/◌, ◌%◌, ◌^◌, ◌<◌, ◌≤◌, ◌⊎◌, Bool, true, false, cond, eqb, ltb, List, [], ◌∷◌, ◌++◌, map, length, get_or, set, take, replicate, Option, None, max, ℤ, pos, negsuc, ◌+ℤ◌, neg_ℤ, ◌≤ℤ◌, refl, sym, ap, ◌∙◌, subst, inl, inr, arith, sum_by, get_or-set_other, get_or-set_same, add-one, ◌||◌}
 use Rattle.std.specs.List.{All, AllPairs, Contains, list_any}
 use Rattle.std.specs.List.Sorted.{IsPermutation}
 use Rattle.std.specs.Int.RustNames.{unsigned_abs}
 use Rattle.std.proofs.lemmas.Int.{ints}
-use Rattle.std.proofs.lemmas.Bool.{cases_eq, cases_lt, eq-eqb, ne_eqb, false≢true, ltb-true, lt-ltb, or_left, or_right}
+use Rattle.std.proofs.lemmas.Bool.{cases_eq, cases_lt, eq-eqb, ne_eqb, false≢true, ltb-true, ltb-false, lt-ltb, or_left, or_right}
 use Rattle.std.proofs.lemmas.Bool.Decides.{nat_tests}
 use Rattle.std.proofs.lemmas.List.{length-set, length-replicate, get_or-replicate, append-nil, length_push, get_or_push, get_or_append_left, get_or_past, map_push, take_more, length-take-le}
 use Rattle.std.proofs.lemmas.List.Folds.{list_any-append}
@@ -65,7 +65,7 @@ raised-places j b t f = places_by (ltb 0 (most_of t f)) refl
   where
     places_by : (c : Bool) → ltb 0 (most_of t f) ≡ c → raised (cond c (place_of j t f ∷ []) []) j b ≡ rise b t f
     places_by true e = raised-one (place_of j t f) j b ∙ (ap (λ (c : Bool). cond c (rise_by b (place_of j t f)) 0) (eq-eqb j j refl) ∙ rise_by-place j b t f)
-    places_by false e = omega (arith, rise-most b t f, nat_tests)
+    places_by false e = omega (arith, rise-most b t f, ltb-false 0 (most_of t f) e)
 
 raised-elsewhere : (i j : ℕ) (b : Bool) (t f : ℤ) → j ≢ i → raised (places_of i t f) j b ≡ 0
 raised-elsewhere i j b t f ne = places_by (ltb 0 (most_of t f))
@@ -83,7 +83,7 @@ places-within i n t f lt = places_by (ltb 0 (most_of t f))
     places_by false k d h = absurd (omega arith)
 
 -- ---- the rows
-rows_to-length : (weights : List ℤ) (j : ℕ) (rows : List (List Place)) (n : ℕ) → length (rows_to weights j rows n) ≡ length rows
+pub rows_to-length : (weights : List ℤ) (j : ℕ) (rows : List (List Place)) (n : ℕ) → length (rows_to weights j rows n) ≡ length rows
 rows_to-length weights j rows zero = refl
 rows_to-length weights j rows (suc n) = length-set (rows_to weights j rows n) (suc n) (row_at (rows_to weights j rows n) (suc n) ++ places_of j (weight_true weights (suc n)) (weight_false weights (suc n))) ∙ rows_to-length weights j rows n
 
@@ -118,6 +118,22 @@ rows_to-at weights j rows (suc n) v lt i k = elim (cases_eq v (suc n)) [
     ∙ rows_to-at weights j rows n v shorter i within)
 ]
 
+pub rows_to-step : (weights : List ℤ) (j : ℕ) (rows old new : List (List Place)) (i : ℕ) (t f : ℤ) → old ≡ rows_to weights j rows i → new ≡ set old (i + 1) (row_at old (i + 1) ++ places_of j t f) →
+    t ≡ weight_true weights (i + 1) → f ≡ weight_false weights (i + 1) → new ≡ rows_to weights j rows (i + 1)
+rows_to-step weights j rows old new i t f before made et ef =
+    let R = rows_to weights j rows i in
+    let P : ℕ → Type 0 = λ (k : ℕ). rows_to weights j rows k ≡ set R k (row_at R k ++ places_of j (weight_true weights k) (weight_false weights k)) in
+    let more : P (i + 1) = subst P (sym (add-one i)) refl in
+    made ∙ (ap (λ (o : List (List Place)). set o (i + 1) (row_at o (i + 1) ++ places_of j t f)) before
+    ∙ (ap (λ (x : ℤ). set R (i + 1) (row_at R (i + 1) ++ places_of j x f)) et ∙ (ap (λ (x : ℤ). set R (i + 1) (row_at R (i + 1) ++ places_of j (weight_true weights (i + 1)) x)) ef ∙ sym more)))
+
+pub column_to-step : (weights : List ℤ) (old new : List Item) (i : ℕ) (t f : ℤ) → old ≡ column_to weights i → new ≡ old ++ items_of (i + 1) t f → t ≡ weight_true weights (i + 1) → f ≡ weight_false weights (i + 1) → new ≡ column_to weights (i + 1)
+column_to-step weights old new i t f before made et ef =
+    let C = column_to weights i in
+    let P : ℕ → Type 0 = λ (k : ℕ). column_to weights k ≡ C ++ items_of k (weight_true weights k) (weight_false weights k) in
+    let more : P (i + 1) = subst P (sym (add-one i)) refl in
+    made ∙ (ap (λ (o : List Item). o ++ items_of (i + 1) t f) before ∙ (ap (λ (x : ℤ). C ++ items_of (i + 1) x f) et ∙ (ap (λ (x : ℤ). C ++ items_of (i + 1) (weight_true weights (i + 1)) x) ef ∙ sym more)))
+
 -- ---- the items
 items-all : (P : Item → Type 0) (v : ℕ) (t f : ℤ) → P (record { var = v; most = most_of t f }) → All P (items_of v t f)
 items-all P v t f h = items_by (ltb 0 (most_of t f))
@@ -133,19 +149,19 @@ column_to-all P weights (suc n) h =
     All-append P (column_to weights n) (items_of (suc n) (weight_true weights (suc n)) (weight_false weights (suc n)))
     (column_to-all P weights n (λ v i k. h v i (omega arith))) (items-all P (suc n) (weight_true weights (suc n)) (weight_false weights (suc n)) (h (suc n) (omega arith) (omega arith)))
 
-items-contain : (v : ℕ) (t f : ℤ) → 0 < most_of t f → Contains (items_of v t f) (record { var = v; most = most_of t f })
+items-contain : (v : ℕ) (t f : ℤ) → 0 < most_of t f → Contains {X = Item} (items_of v t f) (record { var = v; most = most_of t f })
 items-contain v t f up = items_by (ltb 0 (most_of t f)) (lt-ltb 0 (most_of t f) up)
   where
-    items_by : (c : Bool) → c ≡ true → Contains (cond c (record { var = v; most = most_of t f } ∷ []) []) (record { var = v; most = most_of t f })
+    items_by : (c : Bool) → c ≡ true → Contains {X = Item} (cond c (record { var = v; most = most_of t f } ∷ []) []) (record { var = v; most = most_of t f })
     items_by true e = (0, omega arith, refl)
     items_by false e = absurd (false≢true e)
 
-column_to-contains : (weights : List ℤ) (n v : ℕ) → 0 < v → v ≤ n → 0 < most_of (weight_true weights v) (weight_false weights v) → Contains (column_to weights n) (record { var = v; most = most_of (weight_true weights v) (weight_false weights v) })
+column_to-contains : (weights : List ℤ) (n v : ℕ) → 0 < v → v ≤ n → 0 < most_of (weight_true weights v) (weight_false weights v) → Contains {X = Item} (column_to weights n) (record { var = v; most = most_of (weight_true weights v) (weight_false weights v) })
 column_to-contains weights zero v i k up = absurd (omega arith)
 column_to-contains weights (suc n) v i k up = elim (cases_eq v (suc n)) [
   | inl e ↦ (
     let last = items_of (suc n) (weight_true weights (suc n)) (weight_false weights (suc n)) in
-    let P : ℕ → Type 0 = λ (u : ℕ). 0 < most_of (weight_true weights u) (weight_false weights u) → Contains (column_to weights (suc n)) (record { var = u; most = most_of (weight_true weights u) (weight_false weights u) }) in
+    let P : ℕ → Type 0 = λ (u : ℕ). 0 < most_of (weight_true weights u) (weight_false weights u) → Contains {X = Item} (column_to weights (suc n)) (record { var = u; most = most_of (weight_true weights u) (weight_false weights u) }) in
     subst P (sym e) (λ (h : 0 < most_of (weight_true weights (suc n)) (weight_false weights (suc n))).
     Contains-append_right (column_to weights n) last (record { var = suc n; most = most_of (weight_true weights (suc n)) (weight_false weights (suc n)) }) (items-contain (suc n) (weight_true weights (suc n)) (weight_false weights (suc n)) h)) up)
   | inr ne ↦ (
@@ -312,30 +328,15 @@ gathered_start p rows items costs er ei ec =
     let b = subst (λ (z : List (List Item)). AreGathered p [] rows z []) (sym ei) a in
     subst (AreGathered p [] rows items) (sym ec) b
 
-pub gathered_step : (p : Program) (qs : List ℤ) (i : ℕ) (q : ℤ) (rows new : List (List Place)) (items items' : List (List Item)) (costs costs' : List ℤ) (column column' : List Item) (least : ℕ) →
-    i < length qs → get_or qs i q ≡ q → AreGathered p (take i qs) rows items costs → IsGathered p i q rows new column least →
-    items' ≡ items ++ column' ∷ [] → column' ≡ column → costs' ≡ costs ++ neg_ℤ (pos least) ∷ [] → AreGathered p (take (i + 1) qs) new items' costs'
-gathered_step p qs i q rows new items items' costs costs' column column' least lt is g h ei ek ec =
+pub gathered_step : (p : Program) (qs : List ℤ) (i : ℕ) (q d : ℤ) (rows new : List (List Place)) (items items' : List (List Item)) (costs costs' : List ℤ) (column column' : List Item) (least : ℕ) (x : ℤ) →
+    i < length qs → q ≡ get_or qs i d → AreGathered p (take i qs) rows items costs → IsGathered p i q rows new column least →
+    items' ≡ items ++ column' ∷ [] → column' ≡ column → costs' ≡ costs ++ x ∷ [] → x ≡ neg_ℤ (pos least) → AreGathered p (take (i + 1) qs) new items' costs'
+gathered_step p qs i q d rows new items items' costs costs' column column' least x lt is g h ei ek ec ex =
     let n : length (take i qs) ≡ i = length-take-le i qs (omega arith) in
     let more = gathered_more p (take i qs) q rows new items costs column least g (subst (λ (k : ℕ). IsGathered p k q rows new column least) (sym n) h) in
-    let list : take (i + 1) qs ≡ take i qs ++ q ∷ [] = take_more qs i q lt ∙ ap (λ (x : ℤ). take i qs ++ x ∷ []) is in
+    let list : take (i + 1) qs ≡ take i qs ++ q ∷ [] = take_more qs i d lt ∙ ap (λ (z : ℤ). take i qs ++ z ∷ []) (sym is) in
+    let columns : items' ≡ items ++ column ∷ [] = ei ∙ ap (λ (k : List Item). items ++ k ∷ []) ek in
+    let sums : costs' ≡ costs ++ neg_ℤ (pos least) ∷ [] = ec ∙ ap (λ (z : ℤ). costs ++ z ∷ []) ex in
     let a = subst (λ (z : List ℤ). AreGathered p z new (items ++ column ∷ []) (costs ++ neg_ℤ (pos least) ∷ [])) (sym list) more in
-    let b = subst (λ (z : List (List Item)). AreGathered p (take (i + 1) qs) new z (costs ++ neg_ℤ (pos least) ∷ [])) (sym (ei ∙ ap (λ (k : List Item). items ++ k ∷ []) ek)) a in
-    subst (AreGathered p (take (i + 1) qs) new items') (sym ec) b
-
--- ---- the variables that have places
-pub each_skipped : (rows : List (List Place)) (n : ℕ) (vars : List ℕ) → row_at rows n ≡ [] → HasEach rows n vars → HasEach rows (n + 1) vars
-each_skipped rows n vars none h = λ v i lt some. elim (cases_eq v n) [
-  | inl e ↦ absurd (some (ap (λ (k : ℕ). row_at rows k) e ∙ none))
-  | inr ne ↦ h v i (omega arith) some
-]
-
-pub each_listed : (rows : List (List Place)) (n : ℕ) (vars : List ℕ) → HasEach rows n vars → HasEach rows (n + 1) (vars ++ n ∷ [])
-each_listed rows n vars h = λ v i lt some.
-    list_any-append (λ (x : ℕ). eqb x v) vars (n ∷ []) ∙ elim (cases_eq v n) [
-      | inl e ↦ or_right (list_any (λ (x : ℕ). eqb x v) vars) (eqb n v || false) (or_left (eqb n v) false (eq-eqb n v (sym e)))
-      | inr ne ↦ or_left (list_any (λ (x : ℕ). eqb x v) vars) (eqb n v || false) (h v i (omega arith) some)
-    ]
-
-pub each_within : (rows : List (List Place)) (n m : ℕ) (vars : List ℕ) → m ≤ n → HasEach rows n vars → HasEach rows m vars
-each_within rows n m vars le h = λ v i lt some. h v i (omega arith) some
+    let b = subst (λ (z : List (List Item)). AreGathered p (take (i + 1) qs) new z (costs ++ neg_ℤ (pos least) ∷ [])) (sym columns) a in
+    subst (AreGathered p (take (i + 1) qs) new items') (sym sums) b

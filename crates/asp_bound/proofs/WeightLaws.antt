@@ -1,6 +1,6 @@
 -- The weights of the literals, item by item.
-use Rattle.std.proofs.Common.{◌≡◌, ◌≢◌, ℕ, suc, ◌+◌, ◌*◌, ◌/◌, ◌%◌, ◌^◌, ◌<◌, ◌≤◌, Bool, true, false, cond, eqb, ◌&&◌, List, [], ◌∷◌, ◌++◌, length, get_or, set, take, ℤ, pos, ◌+ℤ◌, refl, sym, ap, ◌∙◌, subst, inl, inr, arith, sum_by, append_assoc, get_or-set_other, get_or-set_same, replicate}
-use Rattle.std.specs.List.{AllByRecursion}
+use Rattle.std.proofs.Common.{◌≡◌, ◌≢◌, ℕ, suc, ◌+◌, ◌*◌, ◌/◌, ◌%◌, ◌^◌, ◌<◌, ◌≤◌, Bool, true, false, cond, eqb, ◌&&◌, List, [], ◌∷◌, ◌++◌, length, get_or, set, take, ℤ, pos, ◌+ℤ◌, refl, sym, ap, ◌∙◌, subst, inl, inr, arith, sum_by, SFits, w32, negsuc, append_assoc, get_or-set_other, get_or-set_same, replicate}
+use Rattle.std.specs.List.{All}
 use Rattle.std.specs.Bool.{beq}
 use Rattle.std.specs.Int.RustNames.{unsigned_abs}
 use Rattle.std.specs.Ordering.{int_eq}
@@ -8,10 +8,12 @@ use Rattle.std.proofs.lemmas.Int.{ints}
 use Rattle.std.proofs.lemmas.Bool.{cases_eq, eqb-true, eq-eqb, ne_eqb, leb-true}
 use Rattle.std.proofs.lemmas.Bool.Decides.{nat_tests}
 use Rattle.std.proofs.lemmas.List.{append-nil, take_more, length-append, length-set, length-replicate, get_or-replicate}
+use Rattle.std.proofs.lemmas.List.Elements.{All-from_recursion}
 use Rattle.std.proofs.lemmas.List.Sums.{sum_by_push, sum_by-cons}
 use Rattle.asp_model.specs.declared.program.Minimize.{Minimize}
 use Rattle.asp_model.specs.declared.program.Program.{Program}
-use Rattle.asp_model.specs.Sets.{Atoms}
+use Rattle.asp_model.specs.Sets.{Atoms, has}
+use Rattle.asp_model.specs.Holding.{atom_of}
 use Rattle.asp_model.specs.Models.{atoms_of}
 use Rattle.asp_model.specs.Sound.{IsSound, weighted_total}
 use Rattle.asp_vars.specs.Literals.{Literal, literal_eq}
@@ -19,7 +21,7 @@ use Rattle.asp_vars.specs.Codes.{code_of, literal_of as literal_by}
 use Rattle.asp_vars.specs.Numbering.{literal_in, literal_of, var_count}
 use Rattle.asp_bound.specs.Optimism.{items_at, weight_in}
 use Rattle.asp_bound.specs.Weights.{size_of, AreWeights}
-use Rattle.asp_bound.proofs.CostLaws.{weight_in-small}
+use Rattle.asp_bound.proofs.CostLaws.{weight_in-small, items-stand}
 
 pub items_at-push : (ms : List Minimize) (m : Minimize) (q : ℤ) → items_at (ms ++ m ∷ []) q ≡ items_at ms q ++ cond (int_eq m.priority q) m.items []
 items_at-push [] m q = append-nil (cond (int_eq m.priority q) m.items [])
@@ -28,6 +30,12 @@ items_at-push (n ∷ ms) m q =
 
 pub items_at-more : (ms : List Minimize) (i : ℕ) (d : Minimize) (q : ℤ) → i < length ms → items_at (take (i + 1) ms) q ≡ items_at (take i ms) q ++ cond (int_eq (get_or ms i d).priority q) (get_or ms i d).items []
 items_at-more ms i d q lt = ap (λ (xs : List Minimize). items_at xs q) (take_more ms i d lt) ∙ items_at-push (take i ms) (get_or ms i d) q
+
+pub items_at-step : (ms : List Minimize) (i : ℕ) (m : Minimize) (q : ℤ) (old new : List (ℤ × ℤ)) → i < length ms → m ≡ get_or ms i m → old ≡ items_at (take i ms) q → new ≡ old ++ cond (int_eq m.priority q) m.items [] → new ≡ items_at (take (i + 1) ms) q
+items_at-step ms i m q old new lt is before made =
+    let more : items_at (take (i + 1) ms) q ≡ items_at (take i ms) q ++ cond (int_eq m.priority q) m.items [] =
+    subst (λ (x : Minimize). items_at (take (i + 1) ms) q ≡ items_at (take i ms) q ++ cond (int_eq x.priority q) x.items []) (sym is) (items_at-more ms i m q lt) in
+    made ∙ (ap (λ (xs : List (ℤ × ℤ)). xs ++ cond (int_eq m.priority q) m.items []) before ∙ sym more)
 
 -- no more items than all statements have
 pub length-items_at : (ms : List Minimize) (q : ℤ) → length (items_at ms q) ≤ sum_by (λ m. length m.items) ms
@@ -89,19 +97,26 @@ AreWeights-none p weights e = record {
   each = λ c lt. ap (λ (ws : List ℤ). get_or ws c (pos 0)) e ∙ get_or-replicate (2 * var_count p + 2) c (pos 0) (pos 0) lt;
 }
 
-pub AreWeights-more : (p : Program) (items : List (ℤ × ℤ)) (weights new : List ℤ) (i : ℕ) (x : ℤ × ℤ) (l : Literal) → i < length items → get_or items i x ≡ x → AreWeights p (take i items) weights →
-    l ≡ literal_of p x.0 → l.var ≤ var_count p → new ≡ set weights (code_of l) (get_or weights (code_of l) (pos 0) +ℤ x.1) → AreWeights p (take (i + 1) items) new
-AreWeights-more p items weights new i x l lt is are at within made =
+-- by what the calls of a turn say
+pub AreWeights-more : (p : Program) (items : List (ℤ × ℤ)) (weights base new : List ℤ) (i c : ℕ) (x : ℤ × ℤ) (w : ℤ) (l : Literal) → i < length items → get_or items i x ≡ x → AreWeights p (take i items) weights →
+    l ≡ literal_of p x.0 → l.var ≤ var_count p → base ≡ weights → c ≡ code_of l → new ≡ set base c (get_or base c (pos 0) +ℤ w) → w ≡ x.1 → AreWeights p (take (i + 1) items) new
+AreWeights-more p items weights base new i c x w l lt is are at within eb ec made ew =
     let list : take (i + 1) items ≡ take i items ++ x ∷ [] = take_more items i x lt ∙ ap (λ (y : ℤ × ℤ). take i items ++ y ∷ []) is in
     let pushed = AreWeights-push p (take i items) weights x are (subst (λ (k : Literal). k.var ≤ var_count p) at within) in
-    let named = subst (λ (k : Literal). AreWeights p (take i items ++ x ∷ []) (set weights (code_of k) (get_or weights (code_of k) (pos 0) +ℤ x.1))) (sym at) pushed in
-    subst (AreWeights p (take (i + 1) items)) (sym made) (subst (λ (z : List (ℤ × ℤ)). AreWeights p z (set weights (code_of l) (get_or weights (code_of l) (pos 0) +ℤ x.1))) (sym list) named)
+    let place : c ≡ code_of (literal_of p x.0) = ec ∙ ap code_of at in
+    let new_is : new ≡ set weights (code_of (literal_of p x.0)) (get_or weights (code_of (literal_of p x.0)) (pos 0) +ℤ x.1) =
+    made ∙ (ap (λ (z : List ℤ). set z c (get_or z c (pos 0) +ℤ w)) eb ∙ (ap (λ (n : ℕ). set weights n (get_or weights n (pos 0) +ℤ w)) place ∙ ap (λ (v : ℤ). set weights (code_of (literal_of p x.0)) (get_or weights (code_of (literal_of p x.0)) (pos 0) +ℤ v)) ew)) in
+    subst (λ (z : List (ℤ × ℤ)). AreWeights p z new) (sym list) (subst (AreWeights p (take i items ++ x ∷ [])) (sym new_is) pushed)
 
 pub size_of-more : (items : List (ℤ × ℤ)) (i : ℕ) (x : ℤ × ℤ) → i < length items → get_or items i x ≡ x → unsigned_abs x.1 ≤ 2 ^ 31 → size_of (take i items) ≤ 2 ^ 31 * i → size_of (take (i + 1) items) ≤ 2 ^ 31 * (i + 1)
 size_of-more items i x lt is small le =
     let list : take (i + 1) items ≡ take i items ++ x ∷ [] = take_more items i x lt ∙ ap (λ (y : ℤ × ℤ). take i items ++ y ∷ []) is in
     let size : size_of (take (i + 1) items) ≡ size_of (take i items) + unsigned_abs x.1 = ap size_of list ∙ size_of-push (take i items) x in
     omega (arith, size, small, le)
+
+pub abs-small : (z : ℤ) → SFits w32 z → unsigned_abs z ≤ 2 ^ 31
+abs-small (pos n) f = omega (arith, f.sfits)
+abs-small (negsuc n) f = omega (arith, f.sfits)
 
 pub weights-room : (p : Program) (items : List (ℤ × ℤ)) (weights : List ℤ) (i c : ℕ) → AreWeights p (take i items) weights → size_of (take i items) ≤ 2 ^ 31 * i → i < length items → length items ≤ 2 ^ 24 → c < length weights →
     unsigned_abs (get_or weights c (pos 0)) < 2 ^ 60
@@ -113,3 +128,22 @@ weights-room p items weights i c are size lt few within =
 -- ---- a sound program has few items
 pub few-items : (p : Program) (q : ℤ) → IsSound p → length (items_at p.minimize q) ≤ 2 ^ 24
 few-items p q sound = omega (arith, length-items_at p.minimize q, leb-true (weighted_total p) 16777216 sound.weighted)
+
+-- ---- the same, by what the calls say
+pub items-all : (p : Program) (q : ℤ) (xs : List (ℤ × ℤ)) → xs ≡ items_at p.minimize q → All (λ (i : ℤ × ℤ). has (atoms_of p) (atom_of i.0) ≡ true) xs
+items-all p q xs e =
+    subst (All (λ (i : ℤ × ℤ). has (atoms_of p) (atom_of i.0) ≡ true)) (sym e) (All-from_recursion (λ (i : ℤ × ℤ). has (atoms_of p) (atom_of i.0) ≡ true) (items_at p.minimize q) (items-stand p q))
+
+pub items-few : (p : Program) (q : ℤ) (xs : List (ℤ × ℤ)) → xs ≡ items_at p.minimize q → IsSound p → length xs ≤ 2 ^ 24
+items-few p q xs e sound = omega (arith, ap length e, few-items p q sound)
+
+pub size-small : (p : Program) (q : ℤ) (xs : List (ℤ × ℤ)) → xs ≡ items_at p.minimize q → IsSound p → size_of xs ≤ 2 ^ 31 * length xs → size_of (items_at p.minimize q) ≤ 2 ^ 55
+size-small p q xs e sound le =
+    let size : size_of xs ≡ size_of (items_at p.minimize q) = ap size_of e in
+    omega (arith, size, items-few p q xs e sound, le)
+
+pub weights_as : (p : Program) (q r : ℤ) (now weights : List ℤ) → r ≡ q → now ≡ weights → AreWeights p (items_at p.minimize r) weights → AreWeights p (items_at p.minimize q) now
+weights_as p q r now weights e en h = subst (AreWeights p (items_at p.minimize q)) (sym en) (subst (λ (z : ℤ). AreWeights p (items_at p.minimize z) weights) e h)
+
+pub small_as : (p : Program) (q r : ℤ) → r ≡ q → size_of (items_at p.minimize r) ≤ 2 ^ 55 → size_of (items_at p.minimize q) ≤ 2 ^ 55
+small_as p q r e h = subst (λ (z : ℤ). size_of (items_at p.minimize z) ≤ 2 ^ 55) e h
