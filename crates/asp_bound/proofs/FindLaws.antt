@@ -26,6 +26,9 @@ nearer column i k x d s l falling is le lt near = elim (cases_eq i k) [
     (omega (arith, near.0, most), omega (arith, ints, near.1, most)))
 ]
 
+pub near_as : (s z l k : ℤ) (m : ℕ) → z ≡ s → k ≡ l → IsNear s l m → IsNear z k m
+near_as s z l k m e f h = subst (λ (y : ℤ). IsNear z y m) (sym f) (subst (λ (y : ℤ). IsNear y l m) (sym e) h)
+
 -- Each item that is near passes.
 abbrev pub NearPass : List (Option Bool) → List (List Place) → List ℤ → List ℤ → List Item → ℤ → ℤ → Type 0
 NearPass a rows sums bound column s l = (i : ℕ) (d : Item) → i < length column → IsNear s l (get_or column i d).most → Passes a rows sums bound (get_or column i d).var
@@ -36,9 +39,9 @@ FirstPass a rows sums bound column n = (i : ℕ) (d : Item) → i < n → Passes
 
 pub near-far : (a : List (Option Bool)) (rows : List (List Place)) (sums bound : List ℤ) (column : List Item) (n : ℕ) (x : Item) (s l : ℤ) (r : Bool) → AllPairs (λ a b. b.most ≤ a.most) column → get_or column n x ≡ x →
     FirstPass a rows sums bound column n → (IsNear s l x.most → r ≡ true) → r ≡ false → NearPass a rows sums bound column s l
-near-far a rows sums bound column n x s l r falling is first near no = λ i d lt h. elim (cases_lt i n) [
+near-far a rows sums bound column n x s l r falling is first near fails = λ i d lt h. elim (cases_lt i n) [
   | inl low ↦ first i d low
-  | inr out ↦ absurd (false≢true (sym no ∙ near (nearer column n i x d s l falling is out lt h)))
+  | inr out ↦ absurd (false≢true (sym fails ∙ near (nearer column n i x d s l falling is out lt h)))
 ]
 
 pub first-more : (a : List (Option Bool)) (rows : List (List Place)) (sums bound : List ℤ) (column : List Item) (n : ℕ) (x : Item) → n < length column → get_or column n x ≡ x → FirstPass a rows sums bound column n → Passes a rows sums bound x.var →

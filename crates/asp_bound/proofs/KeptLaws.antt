@@ -1,5 +1,5 @@
 -- What the propagator keeps, as values come and go.
-use Rattle.std.proofs.Common.{◌≡◌, ℕ, zero, suc, ◌+◌, ◌^◌, ◌<◌, ◌≤◌, Bool, true, List, [], ◌∷◌, map, length, get_or, set, Option, Some, None, ℤ, pos, ◌+ℤ◌, neg_ℤ, ◌≤ℤ◌, ◌<ℤ◌, refl, sym, ap, ◌∙◌, subst, arith}
+use Rattle.std.proofs.Common.{◌≡◌, ℕ, zero, suc, ◌+◌, ◌^◌, ◌<◌, ◌≤◌, Bool, true, List, [], ◌∷◌, map, length, get_or, set, Option, Some, None, ℤ, pos, ◌+ℤ◌, neg_ℤ, ◌≤ℤ◌, ◌<ℤ◌, refl, sym, ap, ◌∙◌, subst, arith, replicate}
 use Rattle.std.specs.List.{All}
 use Rattle.std.proofs.lemmas.Int.{ints}
 use Rattle.std.proofs.lemmas.Bool.{false≢true}
@@ -106,7 +106,13 @@ held-value a l e = held_by (value_of a l.var) e
 pub kept-told : (p : Program) (a : List (Option Bool)) (rows : List (List Place)) (columns : List (List Item)) (vars : List ℕ) (sums new : List ℤ) → IsKept p a rows columns vars sums →
     (v : ℕ) (b : Bool) → 0 < v → v ≤ var_count p → value_of a v ≡ None → length new ≡ length sums →
     ((j : ℕ) → j < length sums → get_or new j (pos 0) ≡ get_or sums j (pos 0) +ℤ pos (raised (row_at rows v) j b)) → IsKept p (set a v (Some b)) rows columns vars new
-kept-told p a rows columns vars sums new kept v b i k none long each = record kept {
+kept-told p a rows columns vars sums new kept v b i k none long each = record {
+  sound = kept.sound;
+  few = kept.few;
+  small = kept.small;
+  rowed = kept.rowed;
+  columned = kept.columned;
+  listed = kept.listed;
   sized = length-set a v (Some b) ∙ kept.sized;
   summed = summed_from p (set a v (Some b)) new (long ∙ sums-count p a rows columns vars sums kept) (λ j low.
       let lt : j < length sums = omega (arith, sums-count p a rows columns vars sums kept) in
@@ -116,7 +122,13 @@ kept-told p a rows columns vars sums new kept v b i k none long each = record ke
 pub kept-untold : (p : Program) (a : List (Option Bool)) (rows : List (List Place)) (columns : List (List Item)) (vars : List ℕ) (sums new : List ℤ) → IsKept p a rows columns vars sums →
     (v : ℕ) (b : Bool) → 0 < v → v ≤ var_count p → value_of a v ≡ Some b → length new ≡ length sums →
     ((j : ℕ) → j < length sums → get_or new j (pos 0) +ℤ pos (raised (row_at rows v) j b) ≡ get_or sums j (pos 0)) → IsKept p (set a v None) rows columns vars new
-kept-untold p a rows columns vars sums new kept v b i k some long each = record kept {
+kept-untold p a rows columns vars sums new kept v b i k some long each = record {
+  sound = kept.sound;
+  few = kept.few;
+  small = kept.small;
+  rowed = kept.rowed;
+  columned = kept.columned;
+  listed = kept.listed;
   sized = length-set a v None ∙ kept.sized;
   summed = summed_from p (set a v None) new (long ∙ sums-count p a rows columns vars sums kept) (λ j low.
       let lt : j < length sums = omega (arith, sums-count p a rows columns vars sums kept) in
@@ -139,3 +151,18 @@ kept-new p rows columns vars sums sound few g within whole = record {
   };
   summed = g.summed;
 }
+
+-- ---- the same, by what the calls say
+pub kept_as : (p : Program) (a z : List (Option Bool)) (rows : List (List Place)) (columns : List (List Item)) (vars : List ℕ) (sums new : List ℤ) → z ≡ a → new ≡ sums → IsKept p a rows columns vars sums → IsKept p z rows columns vars new
+kept_as p a z rows columns vars sums new ez en kept = subst (IsKept p z rows columns vars) (sym en) (subst (λ (y : List (Option Bool)). IsKept p y rows columns vars sums) (sym ez) kept)
+
+pub begun_as : (p o : Program) (a : List (Option Bool)) (count : ℕ) (rows made : List (List Place)) (columns : List (List Item)) (vars : List ℕ) (sums : List ℤ) → o ≡ p → count ≡ var_count p → var_count p < 2 ^ 31 → a ≡ replicate (count + 1) None →
+    rows ≡ made → IsSound p → AreGathered p (priorities p.minimize) made columns sums → All (λ v. (0 < v) × (v < length rows)) vars → HasEach rows (length rows) vars → IsKept o a rows columns vars sums
+begun_as p o a count rows made columns vars sums eo ec few ea er sound g within whole =
+    let gathered = subst (λ (z : List (List Place)). AreGathered p (priorities p.minimize) z columns sums) (sym er) g in
+    let kept = kept-new p rows columns vars sums sound few gathered within whole in
+    let values = ea ∙ ap (λ (n : ℕ). let z : List (Option Bool) = replicate (n + 1) None in z) ec in
+    subst (λ (q : Program). IsKept q a rows columns vars sums) (sym eo) (kept_as p (valueless p) a rows columns vars sums sums values refl kept)
+
+pub raised_as : (rows : List (List Place)) (v : ℕ) (b : Bool) (row : List Place) (u : ℕ) (t : Bool) → row ≡ row_at rows u → u ≡ v → t ≡ b → (j : ℕ) → raised row j t ≡ raised (row_at rows v) j b
+raised_as rows v b row u t er eu et j = ap (λ (r : List Place). raised r j t) (er ∙ ap (row_at rows) eu) ∙ ap (raised (row_at rows v) j) et

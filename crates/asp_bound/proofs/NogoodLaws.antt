@@ -28,13 +28,13 @@ use Rattle.asp_bound.specs.Optimism.{optimistic_at, optimistic}
 use Rattle.asp_bound.specs.Definition.{cost_of_at, cost_of, ExcludesBelow}
 use Rattle.asp_bound.specs.Rises.{rise_at, rise_by, raised, row_at, nth_priority}
 use Rattle.asp_bound.specs.Reasons.{raises, raising_by, raising_at}
-use Rattle.asp_bound.specs.Reach.{reach}
+use Rattle.asp_bound.specs.Reach.{reach, lifted}
 use Rattle.asp_bound.specs.Kept.{IsKept}
 use Rattle.asp_bound.specs.Found.{Reaches}
 use Rattle.asp_bound.specs.Bounded.{IsGivenBy}
 use Rattle.asp_bound.specs.declared.find.Implied.{Implied}
 use Rattle.asp_bound.proofs.CostLaws.{optimistic_at-le, cost_of-values}
-use Rattle.asp_bound.proofs.ReachLaws.{reach-above}
+use Rattle.asp_bound.proofs.ReachLaws.{reach-above, reached_now}
 use Rattle.asp_bound.proofs.SilentLaws.{reach_at-set}
 
 -- ---- what a nogood says
@@ -243,3 +243,20 @@ given-with p a rows columns vars sums kept c x n r i k e =
       wanted = unit-loud a lits x.lit.var x.lit.truth (raising-hold a rows d vars) r.no_value;
     } in
     subst (IsGivenBy (record { program = p; values = a }) c) (sym e) is
+
+-- ---- the same, by what the calls say
+abbrev nogood_of : List ℤ → List Literal → Nogood
+nogood_of c n = record { lits = n; base = base.Below c }
+
+pub given_now_as : (p : Program) (a : List (Option Bool)) (rows : List (List Place)) (columns : List (List Item)) (vars : List ℕ) (sums : List ℤ) → IsKept p a rows columns vars sums →
+    (c s limits : List ℤ) (d : ℕ) (n : Nogood) (lits : List Literal) (vs : List ℕ) → s ≡ sums → limits ≡ c → Some d ≡ reach (lifted (λ j. 0) s) limits → vs ≡ vars → lits ≡ raising_of a rows d vs →
+    n ≡ record { lits = lits ++ []; base = base.Below c } → IsGivenBy (record { program = p; values = a }) c n
+given_now_as p a rows columns vars sums kept c s limits d n lits vs es el r ev elits e =
+    given-now p a rows columns vars sums kept c d n (reached_now sums c s limits (Some d) es el r) (e ∙ ap (λ (ls : List Literal). nogood_of c (ls ++ [])) (elits ∙ ap (raising_of a rows d) ev))
+
+pub given_with_as : (p : Program) (a : List (Option Bool)) (rows : List (List Place)) (columns : List (List Item)) (vars : List ℕ) (sums : List ℤ) → IsKept p a rows columns vars sums →
+    (c s limits : List ℤ) (x : Implied) (n : Nogood) (lits : List Literal) (vs : List ℕ) → s ≡ sums → limits ≡ c → Reaches a rows s limits x → (0 < x.lit.var) × (x.lit.var < length a) → vs ≡ vars → lits ≡ raising_of a rows x.depth vs →
+    n ≡ record { lits = lits ++ x.lit ∷ []; base = base.Below c } → IsGivenBy (record { program = p; values = a }) c n
+given_with_as p a rows columns vars sums kept c s limits x n lits vs es el r within ev elits e =
+    let reaches : Reaches a rows sums c x = subst (λ (l : List ℤ). Reaches a rows sums l x) el (subst (λ (z : List ℤ). Reaches a rows z limits x) es r) in
+    given-with p a rows columns vars sums kept c x n reaches within.0 (omega (arith, kept.sized, within.1)) (e ∙ ap (λ (ls : List Literal). nogood_of c (ls ++ x.lit ∷ [])) (elits ∙ ap (raising_of a rows x.depth) ev))

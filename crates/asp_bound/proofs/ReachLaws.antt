@@ -161,3 +161,7 @@ lifted-zero (s ∷ x) =
     let first : s +ℤ pos 0 ≡ s = omega (arith, ints) in
     let rest : lifted (λ j. 0) x ≡ x = lifted-zero x in
     cc
+
+-- what the sums reach, by what the calls say
+pub reached_now : (sums bound s limits : List ℤ) (r : Option ℕ) → s ≡ sums → limits ≡ bound → r ≡ reach (lifted (λ j. 0) s) limits → reach sums bound ≡ r
+reached_now sums bound s limits r es el e = sym (e ∙ (ap (λ (x : List ℤ). reach x limits) (lifted-zero s ∙ es) ∙ ap (reach sums) el))

@@ -22,7 +22,7 @@ use Rattle.asp_bound.specs.Found.{reach_at, IsNear, Passes, Reaches}
 use Rattle.asp_bound.specs.Kept.{IsKept}
 use Rattle.asp_bound.specs.Bounded.{IsSmaller}
 use Rattle.asp_bound.proofs.CostLaws.{optimistic_at-set, optimistic-whole, cost_of-values}
-use Rattle.asp_bound.proofs.ReachLaws.{betters-reach, lifted-map, reach-near, IsNearAt}
+use Rattle.asp_bound.proofs.ReachLaws.{reached_now, betters-reach, lifted-map, reach-near, IsNearAt}
 
 -- ---- a test of all numbers up to n
 each_to-all : (f : ℕ → Bool) (n : ℕ) → ((v : ℕ) → 0 < v → v ≤ n → f v ≡ true) → each_to f n ≡ true
@@ -132,6 +132,24 @@ silent-now p a rows columns vars sums c kept below passed =
     betters-reach (optimistic p (set a v (Some b))) c ∙ (ap is_none (sym (reach_at-set p a rows columns vars sums kept c v b i k none)) ∙ none_reaches p a rows columns vars sums c kept passed below v b i k none (reach_at rows sums c v b) refl) in
     and_both (is_below p a c) (each_to (stays p a c) (var_count p)) now
     (each_to-all (stays p a c) (var_count p) (λ v i k. stays_by (value_of a v) (is_below p (set a v (Some true)) c) (is_below p (set a v (Some false)) c) (with_value v true i k) (with_value v false i k)))
+
+-- ---- the same, by what the calls say
+pub loud_now_as : (p : Program) (a : List (Option Bool)) (rows : List (List Place)) (columns : List (List Item)) (vars : List ℕ) (sums : List ℤ) → IsKept p a rows columns vars sums →
+    (bound : Option (List ℤ)) (c s limits : List ℤ) (d : ℕ) → bound ≡ Some c → s ≡ sums → limits ≡ c → Some d ≡ reach (lifted (λ j. 0) s) limits → false ≡ is_silent p bound a
+loud_now_as p a rows columns vars sums kept bound c s limits d eb es el e =
+    sym (ap (λ (b : Option (List ℤ)). is_silent p b a) eb ∙ loud-now p a c d (ap (λ (x : List ℤ). reach x c) (sym kept.summed) ∙ reached_now sums c s limits (Some d) es el e))
+
+pub loud_with_as : (p : Program) (a : List (Option Bool)) (rows : List (List Place)) (columns : List (List Item)) (vars : List ℕ) (sums : List ℤ) → IsKept p a rows columns vars sums →
+    (bound : Option (List ℤ)) (c s limits : List ℤ) (x : Implied) → bound ≡ Some c → s ≡ sums → limits ≡ c → Reaches a rows s limits x → (0 < x.lit.var) × (x.lit.var < length a) → false ≡ is_silent p bound a
+loud_with_as p a rows columns vars sums kept bound c s limits x eb es el r within =
+    let reaches : Reaches a rows sums c x = subst (λ (l : List ℤ). Reaches a rows sums l x) el (subst (λ (z : List ℤ). Reaches a rows z limits x) es r) in
+    sym (ap (λ (b : Option (List ℤ)). is_silent p b a) eb ∙ loud-implied p a rows columns vars sums kept c x reaches within.0 (omega (arith, kept.sized, within.1)))
+
+pub silent_now_as : (p : Program) (a : List (Option Bool)) (rows : List (List Place)) (columns : List (List Item)) (vars : List ℕ) (sums : List ℤ) → IsKept p a rows columns vars sums →
+    (bound : Option (List ℤ)) (c s limits : List ℤ) → bound ≡ Some c → s ≡ sums → limits ≡ c → None ≡ reach (lifted (λ j. 0) s) limits → ArePassed a rows columns s limits → true ≡ is_silent p bound a
+silent_now_as p a rows columns vars sums kept bound c s limits eb es el e passed =
+    let all : ArePassed a rows columns sums c = subst (ArePassed a rows columns sums) el (subst (λ (z : List ℤ). ArePassed a rows columns z limits) es passed) in
+    sym (ap (λ (b : Option (List ℤ)). is_silent p b a) eb ∙ silent-now p a rows columns vars sums c kept (reached_now sums c s limits None es el e) all)
 
 -- ---- where all variables have values
 pub silent_costs_less : (p : Program) (bound : Option (List ℤ)) (a : List (Option Bool)) (S : Atoms) → ((v : ℕ) → 0 < v → v ≤ var_count p → value_of a v ≡ Some (get_or (values p S) v false)) →

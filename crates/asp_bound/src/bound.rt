@@ -62,13 +62,14 @@ impl Bound {
     pub fn new(alloc: Global, compiled: &Compiled) -> Result<Bound, AllocError>
         ensures { IfOk result (λ b. b ≡ record { told = record { program = compiled.now; values = valueless compiled.now }; bound = None }) }
     {
+        let count = compiled.vars();
         let levels = all_levels(alloc, compiled)?;
         let rows = levels.rows.into_table(alloc)?;
         let vars = vars_of(alloc, &rows)?;
         Ok(Bound {
             origin: Origin::of(compiled.program()),
             alloc,
-            values: Assign::new(alloc, compiled.vars())?,
+            values: Assign::new(alloc, count)?,
             rows,
             columns: levels.columns,
             vars,
@@ -132,19 +133,17 @@ impl Bound {
             let nogood = below(lits, cost, None)?;
             return Ok(Some(nogood));
         }
-        match find(&self.values, &self.rows, &self.columns, sums, limits) {
-            None => Ok(None),
-            Some(implied) => {
-                let lits = raising(
-                    self.alloc,
-                    &self.values,
-                    &self.rows,
-                    self.vars.as_slice(),
-                    implied.depth,
-                )?;
-                let nogood = below(lits, cost, Some(implied.lit))?;
-                Ok(Some(nogood))
-            }
-        }
+        let Some(implied) = find(&self.values, &self.rows, &self.columns, sums, limits) else {
+            return Ok(None);
+        };
+        let lits = raising(
+            self.alloc,
+            &self.values,
+            &self.rows,
+            self.vars.as_slice(),
+            implied.depth,
+        )?;
+        let nogood = below(lits, cost, Some(implied.lit))?;
+        Ok(Some(nogood))
     }
 }
