@@ -20,10 +20,10 @@ pub nearer : (column : List Item) (i k : ℕ) (x d : Item) (s l : ℤ) → AllPa
 nearer column i k x d s l falling is le lt near = elim (cases_eq i k) [
   | inl e ↦ subst (λ (y : Item). IsNear s l y.most) (get_or_default column k d x lt ∙ subst (λ (m : ℕ). get_or column m x ≡ x) e is) near
   | inr ne ↦ (
-    let low : (get_or column k d).most ≤ (get_or column i d).most = falling i k d (omega arith) lt in
-    let here : get_or column i d ≡ x = get_or_default column i d x (omega arith) ∙ is in
-    let most : (get_or column k d).most ≤ x.most = subst (λ (y : Item). (get_or column k d).most ≤ y.most) here low in
-    (omega (arith, near.0, most), omega (arith, ints, near.1, most)))
+      let low : (get_or column k d).most ≤ (get_or column i d).most = falling i k d (omega arith) lt in
+      let here : get_or column i d ≡ x = get_or_default column i d x (omega arith) ∙ is in
+      let most : (get_or column k d).most ≤ x.most = subst (λ (y : Item). (get_or column k d).most ≤ y.most) here low in
+      (omega (arith, near.0, most), omega (arith, ints, near.1, most)))
 ]
 
 pub near_as : (s z l k : ℤ) (m : ℕ) → z ≡ s → k ≡ l → IsNear s l m → IsNear z k m
@@ -49,10 +49,10 @@ pub first-more : (a : List (Option Bool)) (rows : List (List Place)) (sums bound
 first-more a rows sums bound column n x lt is first here = λ i d low. elim (cases_lt i n) [
   | inl before ↦ first i d before
   | inr out ↦ (
-    let e : n ≡ i = omega arith in
-    let same : get_or column n d ≡ x = get_or_default column n d x lt ∙ is in
-    let passes : Passes a rows sums bound (get_or column n d).var = subst (λ (y : Item). Passes a rows sums bound y.var) (sym same) here in
-    subst (λ (m : ℕ). Passes a rows sums bound (get_or column m d).var) e passes)
+      let e : n ≡ i = omega arith in
+      let same : get_or column n d ≡ x = get_or_default column n d x lt ∙ is in
+      let passes : Passes a rows sums bound (get_or column n d).var = subst (λ (y : Item). Passes a rows sums bound y.var) (sym same) here in
+      subst (λ (m : ℕ). Passes a rows sums bound (get_or column m d).var) e passes)
 ]
 
 -- ---- priority after priority
@@ -65,10 +65,10 @@ pub levels-more : (a : List (Option Bool)) (rows : List (List Place)) (columns :
 levels-more a rows columns sums bound n column is before here = λ j i d low lt near. elim (cases_lt j n) [
   | inl first ↦ before j i d first lt near
   | inr out ↦ (
-    let e : n ≡ j = omega arith in
-    let at : NearPass a rows sums bound (get_or columns n []) (get_or sums n (pos 0)) (get_or bound n (pos 0)) =
-    subst (λ (z : List Item). NearPass a rows sums bound z (get_or sums n (pos 0)) (get_or bound n (pos 0))) is here in
-    let there : NearPass a rows sums bound (get_or columns j []) (get_or sums j (pos 0)) (get_or bound j (pos 0)) =
-    subst (λ (m : ℕ). NearPass a rows sums bound (get_or columns m []) (get_or sums m (pos 0)) (get_or bound m (pos 0))) e at in
-    there i d lt near)
+      let e : n ≡ j = omega arith in
+      let at : NearPass a rows sums bound (get_or columns n []) (get_or sums n (pos 0)) (get_or bound n (pos 0)) =
+      subst (λ (z : List Item). NearPass a rows sums bound z (get_or sums n (pos 0)) (get_or bound n (pos 0))) is here in
+      let there : NearPass a rows sums bound (get_or columns j []) (get_or sums j (pos 0)) (get_or bound j (pos 0)) =
+      subst (λ (m : ℕ). NearPass a rows sums bound (get_or columns m []) (get_or sums m (pos 0)) (get_or bound m (pos 0))) e at in
+      there i d lt near)
 ]

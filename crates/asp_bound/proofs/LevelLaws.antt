@@ -105,17 +105,17 @@ rows_to-at : (weights : List ℤ) (j : ℕ) (rows : List (List Place)) (n v : �
 rows_to-at weights j rows zero v lt i k = absurd (omega arith)
 rows_to-at weights j rows (suc n) v lt i k = elim (cases_eq v (suc n)) [
   | inl e ↦ (
-    let new : List Place = row_at (rows_to weights j rows n) (suc n) ++ places_of j (weight_true weights (suc n)) (weight_false weights (suc n)) in
-    let within : suc n < length (rows_to weights j rows n) = omega (arith, rows_to-length weights j rows n) in
-    let here : row_at (rows_to weights j rows (suc n)) (suc n) ≡ new = get_or-set_same (rows_to weights j rows n) (suc n) new [] within in
-    let old : row_at (rows_to weights j rows n) (suc n) ≡ row_at rows (suc n) = rows_to-past weights j rows n (suc n) (inr (omega arith)) in
-    let P : ℕ → Type 0 = λ (u : ℕ). row_at (rows_to weights j rows (suc n)) u ≡ row_at rows u ++ places_of j (weight_true weights u) (weight_false weights u) in
-    subst P (sym e) (here ∙ ap (λ (xs : List Place). xs ++ places_of j (weight_true weights (suc n)) (weight_false weights (suc n))) old))
+      let new : List Place = row_at (rows_to weights j rows n) (suc n) ++ places_of j (weight_true weights (suc n)) (weight_false weights (suc n)) in
+      let within : suc n < length (rows_to weights j rows n) = omega (arith, rows_to-length weights j rows n) in
+      let here : row_at (rows_to weights j rows (suc n)) (suc n) ≡ new = get_or-set_same (rows_to weights j rows n) (suc n) new [] within in
+      let old : row_at (rows_to weights j rows n) (suc n) ≡ row_at rows (suc n) = rows_to-past weights j rows n (suc n) (inr (omega arith)) in
+      let P : ℕ → Type 0 = λ (u : ℕ). row_at (rows_to weights j rows (suc n)) u ≡ row_at rows u ++ places_of j (weight_true weights u) (weight_false weights u) in
+      subst P (sym e) (here ∙ ap (λ (xs : List Place). xs ++ places_of j (weight_true weights (suc n)) (weight_false weights (suc n))) old))
   | inr ne ↦ (
-    let shorter : n < length rows = omega arith in
-    let within : v ≤ n = omega arith in
-    get_or-set_other (rows_to weights j rows n) (suc n) v (row_at (rows_to weights j rows n) (suc n) ++ places_of j (weight_true weights (suc n)) (weight_false weights (suc n))) [] ne
-    ∙ rows_to-at weights j rows n v shorter i within)
+      let shorter : n < length rows = omega arith in
+      let within : v ≤ n = omega arith in
+      get_or-set_other (rows_to weights j rows n) (suc n) v (row_at (rows_to weights j rows n) (suc n) ++ places_of j (weight_true weights (suc n)) (weight_false weights (suc n))) [] ne
+      ∙ rows_to-at weights j rows n v shorter i within)
 ]
 
 pub rows_to-step : (weights : List ℤ) (j : ℕ) (rows old new : List (List Place)) (i : ℕ) (t f : ℤ) → old ≡ rows_to weights j rows i → new ≡ set old (i + 1) (row_at old (i + 1) ++ places_of j t f) →
@@ -160,13 +160,13 @@ column_to-contains : (weights : List ℤ) (n v : ℕ) → 0 < v → v ≤ n → 
 column_to-contains weights zero v i k up = absurd (omega arith)
 column_to-contains weights (suc n) v i k up = elim (cases_eq v (suc n)) [
   | inl e ↦ (
-    let last = items_of (suc n) (weight_true weights (suc n)) (weight_false weights (suc n)) in
-    let P : ℕ → Type 0 = λ (u : ℕ). 0 < most_of (weight_true weights u) (weight_false weights u) → Contains {X = Item} (column_to weights (suc n)) (record { var = u; most = most_of (weight_true weights u) (weight_false weights u) }) in
-    subst P (sym e) (λ (h : 0 < most_of (weight_true weights (suc n)) (weight_false weights (suc n))).
-    Contains-append_right (column_to weights n) last (record { var = suc n; most = most_of (weight_true weights (suc n)) (weight_false weights (suc n)) }) (items-contain (suc n) (weight_true weights (suc n)) (weight_false weights (suc n)) h)) up)
+      let last = items_of (suc n) (weight_true weights (suc n)) (weight_false weights (suc n)) in
+      let P : ℕ → Type 0 = λ (u : ℕ). 0 < most_of (weight_true weights u) (weight_false weights u) → Contains {X = Item} (column_to weights (suc n)) (record { var = u; most = most_of (weight_true weights u) (weight_false weights u) }) in
+      subst P (sym e) (λ (h : 0 < most_of (weight_true weights (suc n)) (weight_false weights (suc n))).
+      Contains-append_right (column_to weights n) last (record { var = suc n; most = most_of (weight_true weights (suc n)) (weight_false weights (suc n)) }) (items-contain (suc n) (weight_true weights (suc n)) (weight_false weights (suc n)) h)) up)
   | inr ne ↦ (
-    let within : v ≤ n = omega arith in
-    Contains-append_left (column_to weights n) (items_of (suc n) (weight_true weights (suc n)) (weight_false weights (suc n))) (record { var = v; most = most_of (weight_true weights v) (weight_false weights v) }) (column_to-contains weights n v i within up))
+      let within : v ≤ n = omega arith in
+      Contains-append_left (column_to weights n) (items_of (suc n) (weight_true weights (suc n)) (weight_false weights (suc n))) (record { var = v; most = most_of (weight_true weights v) (weight_false weights v) }) (column_to-contains weights n v i within up))
 ]
 
 -- ---- what is negative
@@ -198,8 +198,8 @@ least_to-le weights i zero le =
 least_to-le weights i (suc n) le = elim (cases_eq i (suc n)) [
   | inl e ↦ subst (λ (k : ℕ). least_to weights k ≤ least_to weights (suc n)) (sym e) (omega arith)
   | inr ne ↦ (
-    let within : i ≤ n = omega arith in
-    omega (arith, least_to-le weights i n within))
+      let within : i ≤ n = omega arith in
+      omega (arith, least_to-le weights i n within))
 ]
 
 -- what a variable costs more than those before it, within what all cost
@@ -277,8 +277,8 @@ each_push : (qs : List ℤ) (q : ℤ) (P : ℕ → ℤ → Type 0) → ((j : ℕ
 each_push qs q P before here j lt = elim (cases_lt j (length qs)) [
   | inl low ↦ subst (P j) (sym (get_or_append_left qs (q ∷ []) (pos 0) j low)) (before j low)
   | inr out ↦ (
-    let e : length qs ≡ j = omega (arith, length_push qs q) in
-    subst (λ (k : ℕ). P k (get_or (qs ++ q ∷ []) k (pos 0))) e (subst (P (length qs)) (sym (get_or_push qs q (pos 0) (length qs) refl)) here))
+      let e : length qs ≡ j = omega (arith, length_push qs q) in
+      subst (λ (k : ℕ). P k (get_or (qs ++ q ∷ []) k (pos 0))) e (subst (P (length qs)) (sym (get_or_push qs q (pos 0) (length qs) refl)) here))
 ]
 
 pub gathered_none : (p : Program) → AreGathered p [] (replicate (var_count p + 1) []) [] []

@@ -51,22 +51,22 @@ excludes_from p a c d n r among = record {
       let same : length (optimistic p a) ≡ length (cost_of p x) = length-map qs (optimistic_at p a) ∙ sym (length-map qs (cost_of_at p x)) in
       let above : (j : ℕ) → j < d → get_or (optimistic p a) j (pos 0) ≤ℤ get_or (cost_of p x) j (pos 0) = λ j lt. elim (cases_lt j (length qs)) [
         | inl low ↦ (
-          let left : get_or (optimistic p a) j (pos 0) ≡ optimistic_at p a (nth_priority p j) = get_or-map (optimistic_at p a) qs j (pos 0) (pos 0) low in
-          let right : get_or (cost_of p x) j (pos 0) ≡ cost_of_at p x (nth_priority p j) = get_or-map (cost_of_at p x) qs j (pos 0) (pos 0) low in
-          let le = optimistic_at-le p a x (nth_priority p j) (λ v b i k e up. sym (beq_same (get_or x v false) b (hits-has x n (record { var = v; truth = b }) hit (among j v b lt low i k e up)))) in
-          omega (arith, ints, left, right, le))
+            let left : get_or (optimistic p a) j (pos 0) ≡ optimistic_at p a (nth_priority p j) = get_or-map (optimistic_at p a) qs j (pos 0) (pos 0) low in
+            let right : get_or (cost_of p x) j (pos 0) ≡ cost_of_at p x (nth_priority p j) = get_or-map (cost_of_at p x) qs j (pos 0) (pos 0) low in
+            let le = optimistic_at-le p a x (nth_priority p j) (λ v b i k e up. sym (beq_same (get_or x v false) b (hits-has x n (record { var = v; truth = b }) hit (among j v b lt low i k e up)))) in
+            omega (arith, ints, left, right, le))
         | inr out ↦ (
-          let left : get_or (optimistic p a) j (pos 0) ≡ pos 0 = get_or_past (optimistic p a) j (pos 0) (omega (arith, length-map qs (optimistic_at p a), out)) in
-          let right : get_or (cost_of p x) j (pos 0) ≡ pos 0 = get_or_past (cost_of p x) j (pos 0) (omega (arith, length-map qs (cost_of_at p x), out)) in
-          omega (arith, ints, left, right))
+            let left : get_or (optimistic p a) j (pos 0) ≡ pos 0 = get_or_past (optimistic p a) j (pos 0) (omega (arith, length-map qs (optimistic_at p a), out)) in
+            let right : get_or (cost_of p x) j (pos 0) ≡ pos 0 = get_or_past (cost_of p x) j (pos 0) (omega (arith, length-map qs (cost_of_at p x), out)) in
+            omega (arith, ints, left, right))
       ] in
-      reach-above (optimistic p a) (cost_of p x) c d r same above
+      reach-above (optimistic p a) (cost_of p x) c d r same above;
 }
 
 -- It is below the cost.
 pub excludes_below : (p : Program) (c : List ℤ) (n : List Literal) → ExcludesBelow p c n → Below p c n
 excludes_below p c n h = record {
-  excused = λ S stable hit. ap not (subst (λ (k : List ℤ). betters k c ≡ false) (cost_of-values p S) (h.excluded (values p S) hit))
+  excused = λ S stable hit. ap not (subst (λ (k : List ℤ). betters k c ≡ false) (cost_of-values p S) (h.excluded (values p S) hit));
 }
 
 -- ---- the literals that raise the cost
@@ -77,8 +77,8 @@ raised-raises (o ∷ row) j d b lt up =
     elim (cases_lt 0 (cond (eqb o.level j) (rise_by b o) 0)) [
       | inl here ↦ or_left (ltb o.level d && ltb 0 (rise_by b o)) (raises row d b) (first (eqb o.level j) refl here)
       | inr none ↦ (
-        let rest : 0 < raised row j b = omega arith in
-        or_right (ltb o.level d && ltb 0 (rise_by b o)) (raises row d b) (raised-raises row j d b lt rest))
+          let rest : 0 < raised row j b = omega arith in
+          or_right (ltb o.level d && ltb 0 (rise_by b o)) (raises row d b) (raised-raises row j d b lt rest))
     ]
   where
     first : (t : Bool) → eqb o.level j ≡ t → 0 < cond t (rise_by b o) 0 → (ltb o.level d && ltb 0 (rise_by b o)) ≡ true
@@ -202,10 +202,10 @@ set_raising p a d n u c inside h = λ j v b lt low i k e up.
     let one : Literal = record { var = u; truth = c } in
     elim (cases_eq v u) [
       | inl is ↦ (
-        let here : value_of (set a u (Some c)) u ≡ Some b = subst (λ (w : ℕ). value_of (set a u (Some c)) w ≡ Some b) is e in
-        let same : c ≡ b = same_inside c b (sym (get_or-set_same a u (Some c) None inside) ∙ here) in
-        let eq : literal_eq one l ≡ true = and_both (eqb u v) (beq c b) (eq-eqb u v (sym is)) (subst (λ (x : Bool). beq c x ≡ true) same (beq-itself c)) in
-        list_any-append (λ (x : Literal). literal_eq x l) n (one ∷ []) ∙ or_right (has_literal n l) (literal_eq one l || false) (or_left (literal_eq one l) false eq))
+          let here : value_of (set a u (Some c)) u ≡ Some b = subst (λ (w : ℕ). value_of (set a u (Some c)) w ≡ Some b) is e in
+          let same : c ≡ b = same_inside c b (sym (get_or-set_same a u (Some c) None inside) ∙ here) in
+          let eq : literal_eq one l ≡ true = and_both (eqb u v) (beq c b) (eq-eqb u v (sym is)) (subst (λ (x : Bool). beq c x ≡ true) same (beq-itself c)) in
+          list_any-append (λ (x : Literal). literal_eq x l) n (one ∷ []) ∙ or_right (has_literal n l) (literal_eq one l || false) (or_left (literal_eq one l) false eq))
       | inr ne ↦ more_raising p a d n (one ∷ []) h j v b lt low i k (sym (get_or-set_other a u v (Some c) None ne) ∙ e) up
     ]
 

@@ -34,8 +34,8 @@ each_to-not f zero v i k e = absurd (omega arith)
 each_to-not f (suc n) v i k e = elim (cases_eq v (suc n)) [
   | inl is ↦ and_right (each_to f n) (f (suc n)) (ap f (sym is) ∙ e)
   | inr ne ↦ (
-    let within : v ≤ n = omega arith in
-    and_left (each_to f n) (f (suc n)) (each_to-not f n v i within e))
+      let within : v ≤ n = omega arith in
+      and_left (each_to f n) (f (suc n)) (each_to-not f n v i within e))
 ]
 
 -- ---- raised sums are the optimistic cost with the value

@@ -50,14 +50,14 @@ raise-more old new last row i b d rise lt low before is made = λ j within.
     let more = raised-more row i j b d lt in
     elim (cases_eq k j) [
       | inl e ↦ (
-        let same : get_or (set new k w) k (pos 0) ≡ w = get_or-set_same new k w (pos 0) low in
-        let here : get_or (set new k w) j (pos 0) ≡ get_or new j (pos 0) +ℤ pos rise = subst (λ (m : ℕ). get_or (set new k w) m (pos 0) ≡ get_or new m (pos 0) +ℤ pos rise) e same in
-        let adds : cond (eqb k j) (rise_by b (get_or row i d)) 0 ≡ rise_by b (get_or row i d) = ap (λ (t : Bool). cond t (rise_by b (get_or row i d)) 0) (eq-eqb k j e) in
-        omega (arith, ints, at, here, before j inside, more, adds, is))
+          let same : get_or (set new k w) k (pos 0) ≡ w = get_or-set_same new k w (pos 0) low in
+          let here : get_or (set new k w) j (pos 0) ≡ get_or new j (pos 0) +ℤ pos rise = subst (λ (m : ℕ). get_or (set new k w) m (pos 0) ≡ get_or new m (pos 0) +ℤ pos rise) e same in
+          let adds : cond (eqb k j) (rise_by b (get_or row i d)) 0 ≡ rise_by b (get_or row i d) = ap (λ (t : Bool). cond t (rise_by b (get_or row i d)) 0) (eq-eqb k j e) in
+          omega (arith, ints, at, here, before j inside, more, adds, is))
       | inr ne ↦ (
-        let there : get_or (set new k w) j (pos 0) ≡ get_or new j (pos 0) = get_or-set_other new k j w (pos 0) (λ (e : j ≡ k). ne (sym e)) in
-        let adds : cond (eqb k j) (rise_by b (get_or row i d)) 0 ≡ 0 = ap (λ (t : Bool). cond t (rise_by b (get_or row i d)) 0) (ne_eqb k j ne) in
-        omega (arith, ints, at, there, before j inside, more, adds))
+          let there : get_or (set new k w) j (pos 0) ≡ get_or new j (pos 0) = get_or-set_other new k j w (pos 0) (λ (e : j ≡ k). ne (sym e)) in
+          let adds : cond (eqb k j) (rise_by b (get_or row i d)) 0 ≡ 0 = ap (λ (t : Bool). cond t (rise_by b (get_or row i d)) 0) (ne_eqb k j ne) in
+          omega (arith, ints, at, there, before j inside, more, adds))
     ]
 
 -- the sum with the place fits where the sum with the row does
@@ -78,14 +78,14 @@ lower-more old new last row i b d rise lt low before is made = λ j within.
     let more = raised-more row i j b d lt in
     elim (cases_eq k j) [
       | inl e ↦ (
-        let same : get_or (set new k w) k (pos 0) ≡ w = get_or-set_same new k w (pos 0) low in
-        let here : get_or (set new k w) j (pos 0) ≡ get_or new j (pos 0) -ℤ pos rise = subst (λ (m : ℕ). get_or (set new k w) m (pos 0) ≡ get_or new m (pos 0) -ℤ pos rise) e same in
-        let adds : cond (eqb k j) (rise_by b (get_or row i d)) 0 ≡ rise_by b (get_or row i d) = ap (λ (t : Bool). cond t (rise_by b (get_or row i d)) 0) (eq-eqb k j e) in
-        omega (arith, ints, at, here, before j inside, more, adds, is))
+          let same : get_or (set new k w) k (pos 0) ≡ w = get_or-set_same new k w (pos 0) low in
+          let here : get_or (set new k w) j (pos 0) ≡ get_or new j (pos 0) -ℤ pos rise = subst (λ (m : ℕ). get_or (set new k w) m (pos 0) ≡ get_or new m (pos 0) -ℤ pos rise) e same in
+          let adds : cond (eqb k j) (rise_by b (get_or row i d)) 0 ≡ rise_by b (get_or row i d) = ap (λ (t : Bool). cond t (rise_by b (get_or row i d)) 0) (eq-eqb k j e) in
+          omega (arith, ints, at, here, before j inside, more, adds, is))
       | inr ne ↦ (
-        let there : get_or (set new k w) j (pos 0) ≡ get_or new j (pos 0) = get_or-set_other new k j w (pos 0) (λ (e : j ≡ k). ne (sym e)) in
-        let adds : cond (eqb k j) (rise_by b (get_or row i d)) 0 ≡ 0 = ap (λ (t : Bool). cond t (rise_by b (get_or row i d)) 0) (ne_eqb k j ne) in
-        omega (arith, ints, at, there, before j inside, more, adds))
+          let there : get_or (set new k w) j (pos 0) ≡ get_or new j (pos 0) = get_or-set_other new k j w (pos 0) (λ (e : j ≡ k). ne (sym e)) in
+          let adds : cond (eqb k j) (rise_by b (get_or row i d)) 0 ≡ 0 = ap (λ (t : Bool). cond t (rise_by b (get_or row i d)) 0) (ne_eqb k j ne) in
+          omega (arith, ints, at, there, before j inside, more, adds))
     ]
 
 pub lower-fits : (old new : List ℤ) (row : List Place) (i : ℕ) (b : Bool) (d : Place) (rise : ℕ) (m : ℤ) → i < length row → (get_or row i d).level < length new → IsLowered old new row i b → rise ≡ rise_by b (get_or row i d) →

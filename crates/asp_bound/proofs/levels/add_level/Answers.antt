@@ -31,7 +31,7 @@ returns c =
     let permuted = subst (λ (xs : List Item). IsPermutation xs c.sort.new.items) (c.as_mut_slice.ensures.value ∙ c.in_ok-column.ensures.column) c.sort.ensures.items in
     let long : length c.sort.new.items ≡ c.in_ok-column.column.len = c.sort.auto.items ∙ c.as_mut_slice.ensures.len in
     let all = gathered_as c.args.compiled.now c.args.level c.args.priority c.as_slice-weights.result.now c.args.rows.now c.add_places.new.rows c.sort.new.items c.least.result c.vars-vars.result
-        c.vars-vars.ensures.count are small c.requires.rows c.in_ok-column.ensures.rows permuted c.sort.ensures.falling c.least.ensures in
+    c.vars-vars.ensures.count are small c.requires.rows c.in_ok-column.ensures.rows permuted c.sort.ensures.falling c.least.ensures in
     record {
       gathered = subst (λ (xs : List Item). IsGathered c.args.compiled.now c.args.level c.args.priority c.args.rows.now c.add_places.new.rows xs c.least.result) (sym (take_at c.sort.new.items (drop (length c.sort.new.items) c.in_ok-column.column.items) c.in_ok-column.column.len long)) all;
     }

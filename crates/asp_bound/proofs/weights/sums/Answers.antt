@@ -24,7 +24,8 @@ loop-literal-preserved c =
     let literal = to_z-of_z w32 (get_or items i (pos 0, pos 0)).0 (search rules) in
     let weight = to_z-of_z w32 (get_or items i (pos 0, pos 0)).1 fits in
     let are = AreWeights-more c.args.compiled.now items c.loop-literal.weights.items c.as_mut_slice.result.now c.add.new.weights i c.code.result x _ c.lit_of-lit.result lt is c.loop-literal.invariant.0
-        (c.lit_of-lit.ensures.lit ∙ ap (literal_of c.args.compiled.now) literal) c.lit_of-lit.ensures.within c.as_mut_slice.ensures.value c.code.ensures.code c.add.ensures weight in
-    let long : length c.add.new.weights ≡ c.loop-literal.weights.len = c.add.auto.weights ∙ c.as_mut_slice.ensures.len in
-    (subst (AreWeights c.args.compiled.now (take (i + 1) items)) (sym (take_at c.add.new.weights (drop (length c.add.new.weights) c.loop-literal.weights.items) c.loop-literal.weights.len long)) are,
-    size_of-more items i x lt is (abs-small x.1 fits) c.loop-literal.invariant.1)
+    (c.lit_of-lit.ensures.lit ∙ ap (literal_of c.args.compiled.now) literal) c.lit_of-lit.ensures.within c.as_mut_slice.ensures.value c.code.ensures.code c.add.ensures weight in
+    let long : length c.add.new.weights ≡ c.loop-literal.weights.len = c.add.auto.weights ∙ c.as_mut_slice.ensures.len in (
+      subst (AreWeights c.args.compiled.now (take (i + 1) items)) (sym (take_at c.add.new.weights (drop (length c.add.new.weights) c.loop-literal.weights.items) c.loop-literal.weights.len long)) are,
+      size_of-more items i x lt is (abs-small x.1 fits) c.loop-literal.invariant.1,
+    )

@@ -25,7 +25,7 @@ returns-in-Some-reach-clause-given c =
     let reached : Some c.in-Some-reach.depth ≡ reach (lifted (λ j. 0) c.as_slice-sums.result.now) c.as_slice-limits.result.now = c.in-Some-reach.ensures in
     let made : c.in_ok-nogood.nogood ≡ record { lits = c.in_ok-lits.lits ++ []; base = base.Below c.in-Some.cost } = c.in_ok-nogood.ensures in
     let given = given_now_as c.self.inside.origin.value c.self.inside.values c.self.inside.rows c.self.inside.columns c.self.inside.vars.items c.self.inside.sums.items c.self.invariant c.in-Some.cost c.as_slice-sums.result.now c.as_slice-limits.result.now c.in-Some-reach.depth c.in_ok-nogood.nogood c.in_ok-lits.lits c.as_slice.result.now
-        c.as_slice-sums.ensures.value c.as_slice-limits.ensures reached c.as_slice.ensures.value c.in_ok-lits.ensures made in
+    c.as_slice-sums.ensures.value c.as_slice-limits.ensures reached c.as_slice.ensures.value c.in_ok-lits.ensures made in
     subst (λ (b : Bounded). IsGiven b c.in_ok-nogood.nogood) c.self.view_is (c.in-Some.cost, c.in-Some.is, given)
 
 pub find-requires-clause-small : goal.find-requires-clause-small
@@ -56,12 +56,12 @@ returns-in_default-find-clause-silent c =
 pub returns-clause-silent : goal.returns-clause-silent
 returns-clause-silent c =
     let loud = loud_with_as c.self.inside.origin.value c.self.inside.values c.self.inside.rows c.self.inside.columns c.self.inside.vars.items c.self.inside.sums.items c.self.invariant c.self.inside.bound c.in-Some.cost c.as_slice-sums.result.now c.as_slice-limits.result.now c.in-Some-find.implied c.in-Some.is c.as_slice-sums.ensures.value c.as_slice-limits.ensures
-        c.in-Some-find.ensures.reaches c.in-Some-find.ensures.within in
+    c.in-Some-find.ensures.reaches c.in-Some-find.ensures.within in
     subst (λ (b : Bounded). false ≡ is_silent b.told.program b.bound b.told.values) c.self.view_is loud
 
 pub returns-clause-given : goal.returns-clause-given
 returns-clause-given c =
     let made : c.in_ok-nogood-2.nogood ≡ record { lits = c.in_ok-lits-2.lits ++ c.in-Some-find.implied.lit ∷ []; base = base.Below c.in-Some.cost } = c.in_ok-nogood-2.ensures in
     let given = given_with_as c.self.inside.origin.value c.self.inside.values c.self.inside.rows c.self.inside.columns c.self.inside.vars.items c.self.inside.sums.items c.self.invariant c.in-Some.cost c.as_slice-sums.result.now c.as_slice-limits.result.now c.in-Some-find.implied c.in_ok-nogood-2.nogood c.in_ok-lits-2.lits c.as_slice-2.result.now
-        c.as_slice-sums.ensures.value c.as_slice-limits.ensures c.in-Some-find.ensures.reaches c.in-Some-find.ensures.within c.as_slice-2.ensures.value c.in_ok-lits-2.ensures made in
+    c.as_slice-sums.ensures.value c.as_slice-limits.ensures c.in-Some-find.ensures.reaches c.in-Some-find.ensures.within c.as_slice-2.ensures.value c.in_ok-lits-2.ensures made in
     subst (λ (b : Bounded). IsGiven b c.in_ok-nogood-2.nogood) c.self.view_is (c.in-Some.cost, c.in-Some.is, given)
