@@ -1,6 +1,6 @@
 -- The optimistic cost, and what sets cost.
-use Rattle.std.proofs.Common.{◌≡◌, ◌≢◌, ℕ, zero, suc, ◌+◌, ◌<◌, ◌≤◌, ◌⊎◌, Bool, true, false, cond, not, eqb, List, [], ◌∷◌, ◌++◌, map, length, get_or, set, Option, Some, None, ℤ, pos, negsuc, ◌+ℤ◌, neg_ℤ, ◌≤ℤ◌, refl, sym, ap, ◌∙◌, subst, inl, inr, arith, rules, get_or-set_other, get_or-set_same, sum_by}
-use Rattle.std.specs.List.{AllByRecursion, flat_map, list_any}
+use Rattle.std.proofs.Common.{◌≡◌, ◌≢◌, ℕ, ◌+◌, ◌<◌, ◌≤◌, Bool, true, false, cond, eqb, List, [], ◌∷◌, ◌++◌, map, length, get_or, set, Option, Some, None, ℤ, pos, negsuc, ◌+ℤ◌, ◌≤ℤ◌, refl, sym, ap, ◌∙◌, subst, inl, inr, arith, get_or-set_other, get_or-set_same}
+use Rattle.std.specs.List.{AllByRecursion, flat_map}
 use Rattle.std.specs.Bool.{beq}
 use Rattle.std.specs.Int.RustNames.{unsigned_abs}
 use Rattle.std.specs.Ordering.{int_eq}
@@ -13,19 +13,19 @@ use Rattle.asp_model.specs.declared.program.External.{External}
 use Rattle.asp_model.specs.declared.program.Rule.{Rule}
 use Rattle.asp_model.specs.declared.program.Program.{Program}
 use Rattle.asp_model.specs.Sets.{Atoms, has}
-use Rattle.asp_model.specs.Holding.{atom_of, body_atoms, holds, weight_of, is_positive}
+use Rattle.asp_model.specs.Holding.{atom_of, body_atoms, holds, weight_of}
 use Rattle.asp_model.specs.Models.{atoms_of, head_atoms}
 use Rattle.asp_model.specs.Costs.{cost_at, cost, priorities}
 use Rattle.asp_model.proofs.SetLaws.{has-set_of}
 use Rattle.asp_model.proofs.MemberLaws.{each_weaker, each-append, HasAll, HasAll-left, HasAll-right, HasAll-flat_map}
 use Rattle.asp_vars.specs.Literals.{Literal, T, F, literal_eq, value_of, is_true}
-use Rattle.asp_vars.specs.Numbering.{var_count, var_in, place_of, literal_in, literal_of, values, bodies_of}
+use Rattle.asp_vars.specs.Numbering.{var_count, place_of, literal_in, values}
 use Rattle.asp_vars.proofs.CompletionLaws.{literal-holds}
 use Rattle.asp_vars.proofs.StandingLaws.{each-unmap}
 use Rattle.asp_vars.proofs.PlaceLaws.{place_of-within}
 use Rattle.asp_bound.specs.Optimism.{items_at, weight_in, weight_at, negative, least, sum_to, least_at, optimistic_at, optimistic}
 use Rattle.asp_bound.specs.Definition.{weight_that, cost_of_at, cost_of}
-use Rattle.asp_bound.specs.Rises.{above, beneath, rise, rise_at}
+use Rattle.asp_bound.specs.Rises.{rise, rise_at}
 use Rattle.asp_bound.specs.Weights.{size_of}
 use Rattle.asp_bound.proofs.SumLaws.{sum_to-le, sum_to-add, sum_to-zero, sum_to-at, sum_to-same, picked_by, picked-sum, AreVars}
 

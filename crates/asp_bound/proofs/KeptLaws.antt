@@ -1,5 +1,5 @@
 -- What the propagator keeps, as values come and go.
-use Rattle.std.proofs.Common.{◌≡◌, ℕ, zero, suc, ◌+◌, ◌^◌, ◌<◌, ◌≤◌, Bool, true, List, [], ◌∷◌, map, length, get_or, set, Option, Some, None, ℤ, pos, ◌+ℤ◌, neg_ℤ, ◌≤ℤ◌, ◌<ℤ◌, refl, sym, ap, ◌∙◌, subst, arith, replicate}
+use Rattle.std.proofs.Common.{◌≡◌, ℕ, ◌+◌, ◌^◌, ◌<◌, ◌≤◌, Bool, true, List, [], length, get_or, set, Option, Some, None, ℤ, pos, ◌+ℤ◌, neg_ℤ, ◌≤ℤ◌, ◌<ℤ◌, refl, sym, ap, ◌∙◌, subst, arith, replicate}
 use Rattle.std.specs.List.{All}
 use Rattle.std.proofs.lemmas.Int.{ints}
 use Rattle.std.proofs.lemmas.Bool.{false≢true}
@@ -13,9 +13,8 @@ use Rattle.asp_vars.specs.Numbering.{var_count}
 use Rattle.asp_vars.proofs.LiteralLaws.{beq_same}
 use Rattle.asp_bound.specs.declared.place.Place.{Place}
 use Rattle.asp_bound.specs.declared.place.Item.{Item}
-use Rattle.asp_bound.specs.Optimism.{items_at, optimistic_at, optimistic}
-use Rattle.asp_bound.specs.Rises.{rise_at, raised, row_at, nth_priority}
-use Rattle.asp_bound.specs.Weights.{size_of}
+use Rattle.asp_bound.specs.Optimism.{optimistic_at, optimistic}
+use Rattle.asp_bound.specs.Rises.{raised, row_at, nth_priority}
 use Rattle.asp_bound.specs.Kept.{IsKept}
 use Rattle.asp_bound.specs.Gathered.{valueless, AreGathered, HasEach}
 use Rattle.asp_bound.proofs.CostLaws.{optimistic_at-set, optimistic_at-unset, optimistic_at-high, optimistic_at-low, rise_at-small}

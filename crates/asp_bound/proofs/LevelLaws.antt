@@ -1,28 +1,26 @@
 -- The tables, priority by priority.
-use Rattle.std.proofs.Common.{◌≡◌, ◌≢◌, ℕ, zero, suc, ◌+◌, ◌*◌, ◌/◌, ◌%◌, ◌^◌, ◌<◌, ◌≤◌, ◌⊎◌, Bool, true, false, cond, eqb, ltb, List, [], ◌∷◌, ◌++◌, map, length, get_or, set, take, replicate, Option, None, max, ℤ, pos, negsuc, ◌+ℤ◌, neg_ℤ, ◌≤ℤ◌, refl, sym, ap, ◌∙◌, subst, inl, inr, arith, sum_by, get_or-set_other, get_or-set_same, add-one, ◌||◌}
-use Rattle.std.specs.List.{All, AllPairs, Contains, list_any}
+use Rattle.std.proofs.Common.{◌≡◌, ◌≢◌, ℕ, zero, suc, ◌+◌, ◌*◌, ◌/◌, ◌%◌, ◌^◌, ◌<◌, ◌≤◌, ◌⊎◌, Bool, true, false, cond, eqb, ltb, List, [], ◌∷◌, ◌++◌, map, length, get_or, set, take, replicate, Option, None, ℤ, pos, negsuc, neg_ℤ, refl, sym, ap, ◌∙◌, subst, inl, inr, arith, get_or-set_other, get_or-set_same, add-one}
+use Rattle.std.specs.List.{All, AllPairs, Contains}
 use Rattle.std.specs.List.Sorted.{IsPermutation}
 use Rattle.std.specs.Int.RustNames.{unsigned_abs}
 use Rattle.std.proofs.lemmas.Int.{ints}
-use Rattle.std.proofs.lemmas.Bool.{cases_eq, cases_lt, eq-eqb, ne_eqb, false≢true, ltb-true, ltb-false, lt-ltb, or_left, or_right}
-use Rattle.std.proofs.lemmas.Bool.Decides.{nat_tests}
-use Rattle.std.proofs.lemmas.List.{length-set, length-replicate, get_or-replicate, append-nil, length_push, get_or_push, get_or_append_left, get_or_past, map_push, take_more, length-take-le}
-use Rattle.std.proofs.lemmas.List.Folds.{list_any-append}
+use Rattle.std.proofs.lemmas.Bool.{cases_eq, cases_lt, eq-eqb, ne_eqb, false≢true, ltb-false, lt-ltb}
+use Rattle.std.proofs.lemmas.List.{length-set, length-replicate, get_or-replicate, length_push, get_or_push, get_or_append_left, get_or_past, map_push, take_more, length-take-le}
 use Rattle.std.proofs.lemmas.List.Sums.{sum_by-append, sum_by-cons}
 use Rattle.std.proofs.lemmas.List.Elements.{All-append, All-head, All-tail, All-weaker, Contains-append_left, Contains-append_right}
 use Rattle.std.proofs.lemmas.List.Sorted.{All-permutation, Contains-permutation}
 use Rattle.asp_model.specs.declared.program.Program.{Program}
 use Rattle.asp_model.specs.Models.{atoms_of}
-use Rattle.asp_vars.specs.Literals.{Literal, T, F, value_of}
+use Rattle.asp_vars.specs.Literals.{T, F}
 use Rattle.asp_vars.specs.Codes.{literal_of as literal_by}
 use Rattle.asp_vars.specs.Numbering.{var_count}
 use Rattle.asp_bound.specs.declared.place.Place.{Place}
 use Rattle.asp_bound.specs.declared.place.Item.{Item}
 use Rattle.asp_bound.specs.Optimism.{items_at, weight_in, weight_at, negative, least, least_at, sum_to, optimistic_at}
-use Rattle.asp_bound.specs.Rises.{above, beneath, rise, rise_at, rise_by, raised, row_at, IsColumn}
+use Rattle.asp_bound.specs.Rises.{beneath, rise, rise_at, rise_by, raised, row_at, IsColumn}
 use Rattle.asp_bound.specs.Weights.{size_of, AreWeights}
 use Rattle.asp_bound.specs.Levels.{place_of, most_of, places_of, items_of, weight_true, weight_false, rows_to, column_to, least_to}
-use Rattle.asp_bound.specs.Gathered.{valueless, IsGathered, AreGathered, HasEach}
+use Rattle.asp_bound.specs.Gathered.{valueless, IsGathered, AreGathered}
 use Rattle.asp_bound.proofs.CostLaws.{optimistic_at-low, weight_in-small, rise_at-small}
 use Rattle.asp_bound.proofs.SumLaws.{sum_to-same}
 

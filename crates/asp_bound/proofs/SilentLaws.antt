@@ -1,10 +1,10 @@
 -- When the bound is silent.
-use Rattle.std.proofs.Common.{◌≡◌, ◌≢◌, ℕ, zero, suc, ◌+◌, ◌<◌, ◌≤◌, ◌⊎◌, Bool, true, false, cond, not, ◌&&◌, ◌||◌, List, [], ◌∷◌, map, length, get_or, set, Option, Some, None, IsSome, ℤ, pos, ◌+ℤ◌, ◌≤ℤ◌, refl, sym, ap, ◌∙◌, subst, inl, inr, arith}
+use Rattle.std.proofs.Common.{◌≡◌, ℕ, zero, suc, ◌<◌, ◌≤◌, ◌⊎◌, Bool, true, false, cond, not, ◌&&◌, ◌||◌, List, [], ◌∷◌, length, get_or, set, Option, Some, None, IsSome, ℤ, pos, ◌+ℤ◌, refl, sym, ap, ◌∙◌, subst, inl, inr, arith}
 use Rattle.std.specs.Option.{is_none}
 use Rattle.std.specs.Ordering.{int_eq}
 use Rattle.std.proofs.lemmas.Int.{ints}
 use Rattle.std.proofs.lemmas.Bool.{false≢true, cases_eq, and_left, and_right}
-use Rattle.std.proofs.lemmas.List.{get_or-map, length-map}
+use Rattle.std.proofs.lemmas.List.{length-map}
 use Rattle.asp_model.specs.declared.program.Program.{Program}
 use Rattle.asp_model.specs.Sets.{Atoms}
 use Rattle.asp_model.specs.Costs.{priorities, betters, cost}
@@ -22,7 +22,7 @@ use Rattle.asp_bound.specs.Found.{reach_at, IsNear, Passes, Reaches}
 use Rattle.asp_bound.specs.Kept.{IsKept}
 use Rattle.asp_bound.specs.Bounded.{IsSmaller}
 use Rattle.asp_bound.proofs.CostLaws.{optimistic_at-set, optimistic-whole, cost_of-values}
-use Rattle.asp_bound.proofs.ReachLaws.{reached_now, betters-reach, lifted-map, reach-near, IsNearAt}
+use Rattle.asp_bound.proofs.ReachLaws.{reached_now, betters-reach, lifted-map, reach-near}
 
 -- ---- a test of all numbers up to n
 each_to-all : (f : ℕ → Bool) (n : ℕ) → ((v : ℕ) → 0 < v → v ≤ n → f v ≡ true) → each_to f n ≡ true

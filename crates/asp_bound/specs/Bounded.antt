@@ -1,5 +1,5 @@
 -- What the propagator of the cost bound was told, and what it gives.
-use Rattle.std.specs.Prelude.{◌≡◌, Bool, true, false, List, Option, Some, None, ℤ}
+use Rattle.std.specs.Prelude.{◌≡◌, true, false, List, Option, Some, None, ℤ}
 use Rattle.std.specs.List.{All}
 use Rattle.asp_vars.specs.declared.nogood.Base.TheVariants as base
 use Rattle.asp_vars.specs.declared.nogood.Nogood.{Nogood}

@@ -1,6 +1,6 @@
 -- Which variables reach the bound by a value.
-use Rattle.std.specs.Prelude.{◌≡◌, ℕ, ◌<◌, ◌≤◌, Bool, true, false, List, Option, Some, None, ℤ, pos, ◌+ℤ◌, ◌≤ℤ◌, ◌⊎◌, IsSome}
-use Rattle.asp_vars.specs.Literals.{Literal, value_of}
+use Rattle.std.specs.Prelude.{◌≡◌, ℕ, ◌<◌, Bool, true, false, List, Option, Some, None, ℤ, pos, ◌+ℤ◌, ◌≤ℤ◌, ◌⊎◌, IsSome}
+use Rattle.asp_vars.specs.Literals.{value_of}
 use Rattle.asp_bound.specs.declared.place.Place.{Place}
 use Rattle.asp_bound.specs.declared.find.Implied.{Implied}
 use Rattle.asp_bound.specs.Rises.{raised, row_at}

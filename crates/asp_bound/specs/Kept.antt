@@ -1,5 +1,5 @@
 -- What the propagator keeps.
-use Rattle.std.specs.Prelude.{◌≡◌, ◌≢◌, ℕ, ◌+◌, ◌<◌, ◌≤◌, ◌==◌, ◌^◌, true, Bool, List, [], Option, length, ℤ, pos, ◌*◌, sum_by}
+use Rattle.std.specs.Prelude.{◌≡◌, ◌≢◌, ℕ, ◌+◌, ◌<◌, ◌≤◌, ◌==◌, ◌^◌, true, Bool, List, [], Option, length, ℤ}
 use Rattle.std.specs.List.{All, list_any}
 use Rattle.asp_model.specs.declared.program.Program.{Program}
 use Rattle.asp_model.specs.Sound.{IsSound}

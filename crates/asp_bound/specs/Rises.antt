@@ -1,5 +1,5 @@
 -- By how much a value raises the optimistic cost.
-use Rattle.std.specs.Prelude.{◌≡◌, ℕ, suc, ◌+◌, ◌<◌, ◌≤◌, ◌^◌, ◌==◌, Bool, true, false, if◌then◌else◌, List, [], ◌∷◌, length, sum_by, slice_index_or, max, ℤ, pos, negsuc, IsTrue}
+use Rattle.std.specs.Prelude.{◌≡◌, ℕ, suc, ◌+◌, ◌<◌, ◌≤◌, ◌^◌, ◌==◌, Bool, true, false, if◌then◌else◌, List, [], length, sum_by, slice_index_or, ℤ, pos, negsuc}
 use Rattle.std.specs.List.{All, AllPairs, Contains}
 use Rattle.asp_model.specs.declared.program.Program.{Program}
 use Rattle.asp_model.specs.Costs.{priorities}

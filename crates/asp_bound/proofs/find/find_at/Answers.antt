@@ -1,4 +1,4 @@
-use Rattle.std.proofs.Common.{◌≡◌, ◌<◌, length, get_or, pos, w64, arith, rules}
+use Rattle.std.proofs.Common.{◌<◌, length, get_or, pos, w64, arith, rules}
 use Rattle.std.proofs.lemmas.Int.{to_z-of_z}
 use Rattle.std.proofs.lemmas.List.{get_or_default}
 use Rattle.asp_bound.specs.declared.place.Item.{Item}

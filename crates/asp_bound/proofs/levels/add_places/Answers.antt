@@ -1,4 +1,4 @@
-use Rattle.std.proofs.Common.{◌≡◌, ℕ, ◌+◌, ◌*◌, ◌∙◌, get_or, ℤ, pos, to_z, of_z, w64, arith, rules, ap, length}
+use Rattle.std.proofs.Common.{◌≡◌, ◌+◌, ◌*◌, get_or, pos, to_z, of_z, w64, arith, rules, ap, length}
 use Rattle.std.proofs.lemmas.Int.{to_z-of_z}
 use Rattle.asp_bound.proofs.LevelLaws.{rows_to-length, rows_to-step, column_to-step}
 use Rattle.asp_bound.proofs.levels.add_places.Goals as goal

@@ -1,4 +1,4 @@
-use Rattle.std.proofs.Common.{◌≡◌, ℕ, ◌+◌, ◌*◌, ◌∙◌, get_or, ℤ, pos, to_z, of_z, w64, arith, rules, ap}
+use Rattle.std.proofs.Common.{◌≡◌, ◌+◌, ◌*◌, get_or, pos, to_z, of_z, w64, arith, rules, ap}
 use Rattle.std.proofs.lemmas.Int.{to_z-of_z}
 use Rattle.asp_bound.specs.Rises.{beneath}
 use Rattle.asp_bound.proofs.LevelLaws.{least_to-room}

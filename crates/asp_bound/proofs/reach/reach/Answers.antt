@@ -1,4 +1,4 @@
-use Rattle.std.proofs.Common.{◌≡◌, ◌<◌, ◌≤◌, ℕ, List, ℤ, length, pos, get_or, arith, ◌+ℤ◌, ◌<ℤ◌, ◌^◌}
+use Rattle.std.proofs.Common.{◌≡◌, ◌<◌, ℕ, List, ℤ, length, pos, get_or, arith, ◌+ℤ◌, ◌<ℤ◌, ◌^◌}
 use Rattle.std.specs.declared.cmp.Ordering.TheVariants.{Less, Equal, Greater}
 use Rattle.std.proofs.lemmas.Int.{ints}
 use Rattle.asp_bound.specs.Rises.{raised}

@@ -1,4 +1,4 @@
-use Rattle.std.proofs.Common.{ℕ, ◌<◌, length, get_or, ℤ, pos, neg_ℤ, arith, ◌^◌}
+use Rattle.std.proofs.Common.{◌<◌, length, get_or, pos, neg_ℤ, arith, ◌^◌}
 use Rattle.asp_bound.specs.declared.place.Place.{Place}
 use Rattle.asp_bound.proofs.StepLaws.{raised-within, lower-fits, lower-more}
 use Rattle.asp_bound.proofs.sums.lower.Goals as goal

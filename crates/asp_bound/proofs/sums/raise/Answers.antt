@@ -1,4 +1,4 @@
-use Rattle.std.proofs.Common.{ℕ, ◌<◌, length, get_or, ℤ, pos, arith, ◌^◌}
+use Rattle.std.proofs.Common.{◌<◌, length, get_or, pos, arith, ◌^◌}
 use Rattle.asp_bound.specs.declared.place.Place.{Place}
 use Rattle.asp_bound.proofs.StepLaws.{raised-within, raise-fits, raise-more}
 use Rattle.asp_bound.proofs.sums.raise.Goals as goal

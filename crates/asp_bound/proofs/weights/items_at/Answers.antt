@@ -1,4 +1,4 @@
-use Rattle.std.proofs.Common.{◌≡◌, ◌∙◌, ℤ, List, to_z, of_z, w32, arith, ap}
+use Rattle.std.proofs.Common.{◌∙◌, List, to_z, of_z, w32, arith, ap}
 use Rattle.std.proofs.lemmas.Int.{to_z-of_z}
 use Rattle.std.proofs.lemmas.List.{take_all}
 use Rattle.asp_model.specs.declared.program.Minimize.{Minimize}

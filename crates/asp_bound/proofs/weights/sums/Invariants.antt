@@ -1,4 +1,4 @@
-use Rattle.std.proofs.Common.{◌≤◌, ◌*◌, ◌^◌, take, length}
+use Rattle.std.proofs.Common.{◌≤◌, ◌*◌, ◌^◌, take}
 use Rattle.asp_bound.specs.Weights.{size_of, AreWeights}
 use Rattle.asp_bound.proofs.weights.sums.Given as goal
 

@@ -1,4 +1,4 @@
-use Rattle.std.proofs.Common.{◌≡◌, ◌∙◌, ℤ, List, w32, ap}
+use Rattle.std.proofs.Common.{◌∙◌, List, w32, ap}
 use Rattle.std.proofs.lemmas.Int.{to_z-of_z}
 use Rattle.std.proofs.lemmas.Result.{on_ok_weaker}
 use Rattle.asp_model.specs.declared.program.Minimize.{Minimize}

@@ -1,4 +1,4 @@
-use Rattle.std.proofs.Common.{◌≡◌, ◌∙◌, ◌+◌, ◌<◌, ◌^◌, ℕ, ◌+ℤ◌, List, ℤ, Bool, Option, None, Some, length, get_or, set, drop, pos, ap, arith}
+use Rattle.std.proofs.Common.{◌≡◌, ◌∙◌, ◌<◌, ℕ, ◌+ℤ◌, List, ℤ, length, get_or, drop, pos, ap, arith}
 use Rattle.std.proofs.lemmas.Int.{ints}
 use Rattle.std.proofs.lemmas.List.{take_at}
 use Rattle.asp_bound.specs.Rises.{raised, row_at}

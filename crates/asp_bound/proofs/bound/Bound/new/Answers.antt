@@ -1,4 +1,4 @@
-use Rattle.std.proofs.Common.{◌≡◌, ◌∙◌, length, ap, arith}
+use Rattle.std.proofs.Common.{◌∙◌, length, ap, arith}
 use Rattle.asp_bound.proofs.KeptLaws.{begun_as}
 use Rattle.asp_bound.proofs.bound.Bound.new.Goals as goal
 
