@@ -1,5 +1,5 @@
 -- Which variables reach the bound, item by item.
-use Rattle.std.proofs.Common.{◌≡◌, ℕ, ◌+◌, ◌<◌, ◌≤◌, Bool, true, false, List, [], length, get_or, Option, ℤ, pos, sym, ap, ◌∙◌, subst, inl, inr, arith}
+use Rattle.std.proofs.Common.{◌≡◌, ℕ, ◌+◌, ◌<◌, ◌≤◌, Bool, true, false, List, length, get_or, Option, ℤ, sym, ap, ◌∙◌, subst, inl, inr, arith}
 use Rattle.std.specs.List.{AllPairs}
 use Rattle.std.proofs.lemmas.Int.{ints}
 use Rattle.std.proofs.lemmas.Bool.{cases_eq, cases_lt, false≢true}
@@ -52,22 +52,4 @@ first-more a rows sums bound column n x lt is first here = λ i d low. elim (cas
       let same : get_or column n d ≡ x = get_or_default column n d x lt ∙ is in
       let passes : Passes a rows sums bound (get_or column n d).var = subst (λ (y : Item). Passes a rows sums bound y.var) (sym same) here in
       subst (λ (m : ℕ). Passes a rows sums bound (get_or column m d).var) e passes)
-]
-
--- ---- priority after priority
-abbrev pub LevelsPass : List (Option Bool) → List (List Place) → List (List Item) → List ℤ → List ℤ → ℕ → Type 0
-LevelsPass a rows columns sums bound n = (j i : ℕ) (d : Item) → j < n → i < length (get_or columns j []) →
-    IsNear (get_or sums j (pos 0)) (get_or bound j (pos 0)) (get_or (get_or columns j []) i d).most → Passes a rows sums bound (get_or (get_or columns j []) i d).var
-
-pub levels-more : (a : List (Option Bool)) (rows : List (List Place)) (columns : List (List Item)) (sums bound : List ℤ) (n : ℕ) (column : List Item) → column ≡ get_or columns n [] → LevelsPass a rows columns sums bound n →
-    NearPass a rows sums bound column (get_or sums n (pos 0)) (get_or bound n (pos 0)) → LevelsPass a rows columns sums bound (n + 1)
-levels-more a rows columns sums bound n column is before here = λ j i d low lt near. elim (cases_lt j n) [
-  | inl first ↦ before j i d first lt near
-  | inr out ↦ (
-      let e : n ≡ j = omega arith in
-      let at : NearPass a rows sums bound (get_or columns n []) (get_or sums n (pos 0)) (get_or bound n (pos 0)) =
-      subst (λ (z : List Item). NearPass a rows sums bound z (get_or sums n (pos 0)) (get_or bound n (pos 0))) is here in
-      let there : NearPass a rows sums bound (get_or columns j []) (get_or sums j (pos 0)) (get_or bound j (pos 0)) =
-      subst (λ (m : ℕ). NearPass a rows sums bound (get_or columns m []) (get_or sums m (pos 0)) (get_or bound m (pos 0))) e at in
-      there i d lt near)
 ]

@@ -35,9 +35,6 @@ sums-at p a rows columns vars sums kept j lt =
     let low : j < length (priorities p.minimize) = omega (arith, sums-count p a rows columns vars sums kept) in
     ap (λ (s : List ℤ). get_or s j (pos 0)) kept.summed ∙ get_or-map (optimistic_at p a) (priorities p.minimize) j (pos 0) (pos 0) low
 
-pub rows-within : (p : Program) (a : List (Option Bool)) (rows : List (List Place)) (columns : List (List Item)) (vars : List ℕ) (sums : List ℤ) → IsKept p a rows columns vars sums → (v : ℕ) → All (λ (o : Place). o.level < length sums) (row_at rows v)
-rows-within p a rows columns vars sums kept v = subst (λ (n : ℕ). All (λ (o : Place). o.level < n) (row_at rows v)) (sym (sums-count p a rows columns vars sums kept)) (kept.rowed.within v)
-
 -- what a row adds is small
 pub raised-small : (p : Program) (a : List (Option Bool)) (rows : List (List Place)) (columns : List (List Item)) (vars : List ℕ) (sums : List ℤ) → IsKept p a rows columns vars sums →
     (v j : ℕ) (b : Bool) → 0 < v → v ≤ var_count p → j < length sums → raised (row_at rows v) j b ≤ 2 ^ 56
@@ -81,16 +78,6 @@ pub columns-within : (p : Program) (a : List (Option Bool)) (rows : List (List P
     (j : ℕ) → j < length columns → All (λ (i : Item). (0 < i.var) × (i.var < length a)) (get_or columns j [])
 columns-within p a rows columns vars sums kept j lt =
     All-weaker (λ (i : Item). (0 < i.var) × (i.var ≤ var_count p)) (λ (i : Item). (0 < i.var) × (i.var < length a)) (λ i h. (h.0, omega (arith, kept.sized, h.1))) (get_or columns j []) (kept.columned.each j lt).within
-
-pub columns-count : (p : Program) (a : List (Option Bool)) (rows : List (List Place)) (columns : List (List Item)) (vars : List ℕ) (sums : List ℤ) → IsKept p a rows columns vars sums → length columns ≡ length sums
-columns-count p a rows columns vars sums kept = kept.columned.count ∙ sym (sums-count p a rows columns vars sums kept)
-
-pub rows-count : (p : Program) (a : List (Option Bool)) (rows : List (List Place)) (columns : List (List Item)) (vars : List ℕ) (sums : List ℤ) → IsKept p a rows columns vars sums → length rows ≡ length a
-rows-count p a rows columns vars sums kept = kept.rowed.count ∙ sym kept.sized
-
-pub vars-within : (p : Program) (a : List (Option Bool)) (rows : List (List Place)) (columns : List (List Item)) (vars : List ℕ) (sums : List ℤ) → IsKept p a rows columns vars sums → All (λ v. v < length a) vars
-vars-within p a rows columns vars sums kept =
-    All-weaker (λ v. (0 < v) × (v ≤ var_count p)) (λ v. v < length a) (λ v h. omega (arith, kept.sized, h.1)) vars kept.listed.within
 
 pub held-value : (a : List (Option Bool)) (l : Literal) → holds_in a l ≡ true → value_of a l.var ≡ Some l.truth
 held-value a l e = held_by (value_of a l.var) e

@@ -1,11 +1,11 @@
 -- The tables, priority by priority.
-use Rattle.std.proofs.Common.{◌≡◌, ◌≢◌, ℕ, zero, suc, ◌+◌, ◌*◌, ◌/◌, ◌%◌, ◌^◌, ◌<◌, ◌≤◌, ◌⊎◌, Bool, true, false, cond, eqb, ltb, List, [], ◌∷◌, ◌++◌, map, length, get_or, set, take, replicate, Option, None, ℤ, pos, negsuc, neg_ℤ, refl, sym, ap, ◌∙◌, subst, inl, inr, arith, get_or-set_other, get_or-set_same, add-one}
+use Rattle.std.proofs.Common.{◌≡◌, ◌≢◌, ℕ, zero, suc, ◌+◌, ◌*◌, ◌/◌, ◌%◌, ◌^◌, ◌<◌, ◌≤◌, ◌⊎◌, Bool, true, false, cond, eqb, ltb, List, [], ◌∷◌, ◌++◌, map, length, get_or, set, take, Option, None, ℤ, pos, negsuc, neg_ℤ, refl, sym, ap, ◌∙◌, subst, inl, inr, arith, get_or-set_other, get_or-set_same, add-one}
 use Rattle.std.specs.List.{All, AllPairs, Contains}
 use Rattle.std.specs.List.Sorted.{IsPermutation}
 use Rattle.std.specs.Int.RustNames.{unsigned_abs}
 use Rattle.std.proofs.lemmas.Int.{ints}
 use Rattle.std.proofs.lemmas.Bool.{cases_eq, cases_lt, eq-eqb, ne_eqb, false≢true, ltb-false, lt-ltb}
-use Rattle.std.proofs.lemmas.List.{length-set, length-replicate, get_or-replicate, length_push, get_or_push, get_or_append_left, get_or_past, map_push, take_more, length-take-le}
+use Rattle.std.proofs.lemmas.List.{length-set, get_or-replicate, length_push, get_or_push, get_or_append_left, map_push, take_more, length-take-le}
 use Rattle.std.proofs.lemmas.List.Sums.{sum_by-append, sum_by-cons}
 use Rattle.std.proofs.lemmas.List.Elements.{All-append, All-head, All-tail, All-weaker, Contains-append_left, Contains-append_right}
 use Rattle.std.proofs.lemmas.List.Sorted.{All-permutation, Contains-permutation}
@@ -279,24 +279,6 @@ each_push qs q P before here j lt = elim (cases_lt j (length qs)) [
       subst (λ (k : ℕ). P k (get_or (qs ++ q ∷ []) k (pos 0))) e (subst (P (length qs)) (sym (get_or_push qs q (pos 0) (length qs) refl)) here))
 ]
 
-pub gathered_none : (p : Program) → AreGathered p [] (replicate (var_count p + 1) []) [] []
-gathered_none p = record {
-  count = length-replicate {A = List Place} (var_count p + 1) [];
-  small = λ j lt. absurd (omega arith);
-  within = λ v. within_by v (cases_lt v (var_count p + 1));
-  sums = λ j v b lt i k. absurd (omega arith);
-  columned = refl;
-  columns = λ j lt. absurd (omega arith);
-  summed = refl;
-}
-  where
-    nothing : All (λ (o : Place). o.level < 0) []
-    nothing k d lt = absurd (omega arith)
-
-    within_by : (v : ℕ) → (v < var_count p + 1) ⊎ (var_count p + 1 ≤ v) → All (λ (o : Place). o.level < 0) (row_at (replicate (var_count p + 1) []) v)
-    within_by v (inl lt) = subst (All (λ (o : Place). o.level < 0)) (sym (get_or-replicate {A = List Place} (var_count p + 1) v [] [] lt)) nothing
-    within_by v (inr le) = subst (All (λ (o : Place). o.level < 0)) (sym (get_or_past (replicate (var_count p + 1) []) v [] (omega (arith, length-replicate {A = List Place} (var_count p + 1) [], le)))) nothing
-
 pub gathered_more : (p : Program) (qs : List ℤ) (q : ℤ) (rows new : List (List Place)) (items : List (List Item)) (costs : List ℤ) (column : List Item) (least : ℕ) →
     AreGathered p qs rows items costs → IsGathered p (length qs) q rows new column least → AreGathered p (qs ++ q ∷ []) new (items ++ column ∷ []) (costs ++ neg_ℤ (pos least) ∷ [])
 gathered_more p qs q rows new items costs column least g h =
@@ -318,13 +300,6 @@ gathered_more p qs q rows new items costs column least g h =
           let pushed : map (optimistic_at p (valueless p)) (qs ++ q ∷ []) ≡ map (optimistic_at p (valueless p)) qs ++ optimistic_at p (valueless p) q ∷ [] = map_push (optimistic_at p (valueless p)) qs q in
           ap (λ (xs : List ℤ). xs ++ neg_ℤ (pos least) ∷ []) all ∙ (ap (λ (x : ℤ). map (optimistic_at p (valueless p)) qs ++ x ∷ []) (sym last) ∙ sym pushed);
     }
-
--- the same, by what the calls of a turn say
-pub gathered_start : (p : Program) (rows : List (List Place)) (items : List (List Item)) (costs : List ℤ) → rows ≡ replicate (var_count p + 1) [] → items ≡ [] → costs ≡ [] → AreGathered p [] rows items costs
-gathered_start p rows items costs er ei ec =
-    let a = subst (λ (z : List (List Place)). AreGathered p [] z [] []) (sym er) (gathered_none p) in
-    let b = subst (λ (z : List (List Item)). AreGathered p [] rows z []) (sym ei) a in
-    subst (AreGathered p [] rows items) (sym ec) b
 
 pub gathered_step : (p : Program) (qs : List ℤ) (i : ℕ) (q d : ℤ) (rows new : List (List Place)) (items items' : List (List Item)) (costs costs' : List ℤ) (column column' : List Item) (least : ℕ) (x : ℤ) →
     i < length qs → q ≡ get_or qs i d → AreGathered p (take i qs) rows items costs → IsGathered p i q rows new column least →

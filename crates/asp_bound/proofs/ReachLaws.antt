@@ -20,15 +20,6 @@ cmp-equal s c e = grind (arith, ints)
 cmp-greater : (s c : ℤ) → int_cmp s c ≡ Greater → c <ℤ s
 cmp-greater s c e = grind (arith, ints)
 
-less-cmp : (s c : ℤ) → s <ℤ c → int_cmp s c ≡ Less
-less-cmp s c h = grind (arith, ints)
-
-greater-cmp : (s c : ℤ) → c <ℤ s → int_cmp s c ≡ Greater
-greater-cmp s c h = grind (arith, ints)
-
-equal-cmp : (s : ℤ) → int_cmp s s ≡ Equal
-equal-cmp s = grind (arith, ints)
-
 -- ---- the sums aren't smaller exactly where they reach the bound
 betters_by : (o p : Ordering) (r : Option ℕ) → is_lt p ≡ is_none r → is_lt (ordering_then o p) ≡ is_none (reach_by o r)
 betters_by Less p r e = refl

@@ -1,7 +1,7 @@
 -- Steps of the loops over sums and places.
-use Rattle.std.proofs.Common.{◌≡◌, ◌≢◌, ℕ, zero, suc, ◌+◌, ◌<◌, ◌≤◌, Bool, true, false, cond, eqb, List, [], ◌∷◌, length, get_or, set, take, drop, Option, Some, None, ℤ, pos, ◌+ℤ◌, ◌-ℤ◌, ◌≤ℤ◌, ◌<ℤ◌, refl, sym, ap, ◌∙◌, subst, inl, inr, arith, add-one, drop-cons, get_or-set_other, get_or-set_same, length-set}
+use Rattle.std.proofs.Common.{◌≡◌, ℕ, zero, suc, ◌+◌, ◌<◌, ◌≤◌, Bool, cond, eqb, List, [], ◌∷◌, length, get_or, set, take, drop, Option, Some, None, ℤ, pos, ◌+ℤ◌, ◌-ℤ◌, ◌≤ℤ◌, ◌<ℤ◌, refl, sym, ap, ◌∙◌, subst, inl, inr, arith, add-one, drop-cons, get_or-set_other, get_or-set_same, length-set}
 use Rattle.std.specs.Option.{option_map}
-use Rattle.std.specs.Ordering.{int_cmp, int_eq}
+use Rattle.std.specs.Ordering.{int_cmp}
 use Rattle.std.specs.declared.cmp.Ordering.{Ordering}
 use Rattle.std.specs.declared.cmp.Ordering.TheVariants.{Less, Equal, Greater}
 use Rattle.std.proofs.lemmas.Int.{ints}
@@ -25,12 +25,6 @@ raised-take row i j b = sum_by-take-le (λ (o : Place). cond (eqb o.level j) (ri
 pub raised-here : (row : List Place) (i : ℕ) (b : Bool) (d : Place) → i < length row → raised (take (i + 1) row) (get_or row i d).level b ≡ raised (take i row) (get_or row i d).level b + rise_by b (get_or row i d)
 raised-here row i b d lt =
     raised-more row i (get_or row i d).level b d lt ∙ ap (λ (t : Bool). raised (take i row) (get_or row i d).level b + cond t (rise_by b (get_or row i d)) 0) (eq-eqb (get_or row i d).level (get_or row i d).level refl)
-
-pub raised-there : (row : List Place) (i j : ℕ) (b : Bool) (d : Place) → i < length row → (get_or row i d).level ≢ j → raised (take (i + 1) row) j b ≡ raised (take i row) j b
-raised-there row i j b d lt ne =
-    let more = raised-more row i j b d lt in
-    let off : cond (eqb (get_or row i d).level j) (rise_by b (get_or row i d)) 0 ≡ 0 = ap (λ (t : Bool). cond t (rise_by b (get_or row i d)) 0) (ne_eqb (get_or row i d).level j ne) in
-    omega (arith, more, off)
 
 -- what the place adds, within what the row does
 pub raised-within : (row : List Place) (i : ℕ) (b : Bool) (d : Place) → i < length row → raised (take i row) (get_or row i d).level b + rise_by b (get_or row i d) ≤ raised row (get_or row i d).level b
@@ -117,13 +111,6 @@ reach-step x c j lx lc =
 pub reach-past : (x c : List ℤ) (j : ℕ) → length x ≤ j → j < length c → reach (drop j x) (drop j c) ≡ None
 reach-past x c j lx lc = ap (λ (xs : List ℤ). reach xs (drop j c)) (drop-all x j lx) ∙ ap (reach []) (drop-cons c j (pos 0) lc)
 
-pub reach-end : (x c : List ℤ) (j : ℕ) → length c ≤ j → reach (drop j x) (drop j c) ≡ Some 0
-reach-end x c j le = ap (reach (drop j x)) (drop-all c j le) ∙ reach-nil (drop j x)
-  where
-    reach-nil : (y : List ℤ) → reach y [] ≡ Some 0
-    reach-nil [] = refl
-    reach-nil (s ∷ y) = refl
-
 pub counted-on : (j : ℕ) (r : Option ℕ) → option_map (λ (n : ℕ). j + n) (option_map (λ (n : ℕ). suc n) r) ≡ option_map (λ (n : ℕ). j + 1 + n) r
 counted-on j None = refl
 counted-on j (Some n) =
@@ -159,59 +146,13 @@ reaching-greater x c j lx lc h e = sym (reaching-by x c j Greater lx lc h e)
 pub reaching-equal : (x c : List ℤ) (j : ℕ) → j < length x → j < length c → Reaching x c j → int_cmp (get_or x j (pos 0)) (get_or c j (pos 0)) ≡ Equal → Reaching x c (j + 1)
 reaching-equal x c j lx lc h e = reaching-by x c j Equal lx lc h e ∙ counted-on j (reach (drop (j + 1) x) (drop (j + 1) c))
 
-pub reaching-end : (x c : List ℤ) (j : ℕ) → length c ≤ j → Reaching x c j → Some j ≡ reach x c
-reaching-end x c j le h =
-    let e : j + 0 ≡ j = omega arith in
-    sym (h ∙ (ap (λ (r : Option ℕ). option_map (λ (n : ℕ). j + n) r) (reach-end x c j le) ∙ ap (λ (m : ℕ). let o : Option ℕ = Some m in o) e))
-
 -- a comparison of what stands at a place
 pub compared-at : (s : ℤ) (x c : List ℤ) (j : ℕ) (o : Ordering) → o ≡ int_cmp s (get_or c j (pos 0)) → s ≡ get_or x j (pos 0) → int_cmp (get_or x j (pos 0)) (get_or c j (pos 0)) ≡ o
 compared-at s x c j o h e = ap (λ (z : ℤ). int_cmp z (get_or c j (pos 0))) (sym e) ∙ sym h
 
--- where nothing has been compared yet
-pub reaching-none : (x c : List ℤ) → Reaching x c 0
-reaching-none x c = none_by (reach x c)
-  where
-    none_by : (r : Option ℕ) → r ≡ option_map (λ (n : ℕ). 0 + n) r
-    none_by None = refl
-    none_by (Some n) =
-        let e : n ≡ 0 + n = omega arith in
-        ap (λ (m : ℕ). let o : Option ℕ = Some m in o) e
-
 -- ---- the same for the depth
-pub depth-step : (x c : List ℤ) (j : ℕ) → j < length x → j < length c → depth (drop j x) (drop j c) ≡ cond (int_eq (get_or x j (pos 0)) (get_or c j (pos 0))) (suc (depth (drop (j + 1) x) (drop (j + 1) c))) 1
-depth-step x c j lx lc =
-    let P : ℕ → Type 0 = λ (n : ℕ). depth (drop j x) (drop j c) ≡ cond (int_eq (get_or x j (pos 0)) (get_or c j (pos 0))) (suc (depth (drop n x) (drop n c))) 1 in
-    subst P (sym (add-one j)) (ap (λ (xs : List ℤ). depth xs (drop j c)) (drop-cons x j (pos 0) lx) ∙ ap (λ (cs : List ℤ). depth (get_or x j (pos 0) ∷ drop (suc j) x) cs) (drop-cons c j (pos 0) lc))
-
-pub depth-end : (x c : List ℤ) (j : ℕ) → length c ≤ j → depth (drop j x) (drop j c) ≡ 0
-depth-end x c j le = ap (depth (drop j x)) (drop-all c j le) ∙ depth-nil (drop j x)
-  where
-    depth-nil : (y : List ℤ) → depth y [] ≡ 0
-    depth-nil [] = refl
-    depth-nil (s ∷ y) = refl
-
 abbrev pub Deepening : List ℤ → List ℤ → ℕ → Type 0
 Deepening x c j = depth x c ≡ j + depth (drop j x) (drop j c)
 
 pub deepening-past : (x c : List ℤ) (j : ℕ) → length x ≤ j → j < length c → Deepening x c j → j ≡ depth x c
 deepening-past x c j lx lc h = omega (arith, h, depth-past x c j lx)
-
-pub deepening-differs : (x c : List ℤ) (j : ℕ) → j < length x → j < length c → Deepening x c j → int_eq (get_or x j (pos 0)) (get_or c j (pos 0)) ≡ false → j + 1 ≡ depth x c
-deepening-differs x c j lx lc h e =
-    let step : depth (drop j x) (drop j c) ≡ 1 = depth-step x c j lx lc ∙ ap (λ (t : Bool). cond t (suc (depth (drop (j + 1) x) (drop (j + 1) c))) 1) e in
-    omega (arith, h, step)
-
-pub deepening-equal : (x c : List ℤ) (j : ℕ) → j < length x → j < length c → Deepening x c j → int_eq (get_or x j (pos 0)) (get_or c j (pos 0)) ≡ true → Deepening x c (j + 1)
-deepening-equal x c j lx lc h e =
-    let step : depth (drop j x) (drop j c) ≡ suc (depth (drop (j + 1) x) (drop (j + 1) c)) = depth-step x c j lx lc ∙ ap (λ (t : Bool). cond t (suc (depth (drop (j + 1) x) (drop (j + 1) c))) 1) e in
-    omega (arith, h, step)
-
-pub deepening-end : (x c : List ℤ) (j : ℕ) → length c ≤ j → Deepening x c j → j ≡ depth x c
-deepening-end x c j le h = omega (arith, h, depth-end x c j le)
-
-pub same-int_eq : (a b : ℤ) → a ≡ b → int_eq a b ≡ true
-same-int_eq a b e = grind (arith, ints)
-
-pub apart-int_eq : (a b : ℤ) → (a ≡ b → ⊥) → int_eq a b ≡ false
-apart-int_eq a b e = grind (arith, ints)

@@ -1,5 +1,5 @@
 -- The weights of the literals, item by item.
-use Rattle.std.proofs.Common.{◌≡◌, ℕ, ◌+◌, ◌*◌, ◌/◌, ◌%◌, ◌^◌, ◌<◌, ◌≤◌, Bool, true, false, cond, eqb, ◌&&◌, List, [], ◌∷◌, ◌++◌, length, get_or, set, take, ℤ, pos, ◌+ℤ◌, sym, ap, ◌∙◌, subst, inl, inr, arith, sum_by, SFits, w32, negsuc, append_assoc, get_or-set_other, get_or-set_same, replicate}
+use Rattle.std.proofs.Common.{◌≡◌, ℕ, ◌+◌, ◌*◌, ◌/◌, ◌%◌, ◌^◌, ◌<◌, ◌≤◌, Bool, true, false, cond, eqb, ◌&&◌, List, [], ◌∷◌, ◌++◌, length, get_or, set, take, ℤ, pos, ◌+ℤ◌, sym, ap, ◌∙◌, subst, inl, inr, arith, sum_by, SFits, w32, negsuc, append_assoc, get_or-set_other, get_or-set_same}
 use Rattle.std.specs.List.{All}
 use Rattle.std.specs.Bool.{beq}
 use Rattle.std.specs.Int.RustNames.{unsigned_abs}
@@ -7,7 +7,7 @@ use Rattle.std.specs.Ordering.{int_eq}
 use Rattle.std.proofs.lemmas.Int.{ints}
 use Rattle.std.proofs.lemmas.Bool.{cases_eq, eq-eqb, ne_eqb, leb-true}
 use Rattle.std.proofs.lemmas.Bool.Decides.{nat_tests}
-use Rattle.std.proofs.lemmas.List.{append-nil, take_more, length-append, length-set, length-replicate, get_or-replicate}
+use Rattle.std.proofs.lemmas.List.{append-nil, take_more, length-append, length-set}
 use Rattle.std.proofs.lemmas.List.Elements.{All-from_recursion}
 use Rattle.std.proofs.lemmas.List.Sums.{sum_by_push, sum_by-cons}
 use Rattle.asp_model.specs.declared.program.Minimize.{Minimize}
@@ -91,12 +91,6 @@ pub size_of-push : (items : List (ℤ × ℤ)) (i : ℤ × ℤ) → size_of (ite
 size_of-push items i = sum_by_push (λ (x : ℤ × ℤ). unsigned_abs x.1) items i
 
 -- ---- the turns of the loop over the items
-pub AreWeights-none : (p : Program) (weights : List ℤ) → weights ≡ replicate (2 * var_count p + 2) (pos 0) → AreWeights p [] weights
-AreWeights-none p weights e = record {
-  count = ap length e ∙ length-replicate (2 * var_count p + 2) (pos 0);
-  each = λ c lt. ap (λ (ws : List ℤ). get_or ws c (pos 0)) e ∙ get_or-replicate (2 * var_count p + 2) c (pos 0) (pos 0) lt;
-}
-
 -- by what the calls of a turn say
 pub AreWeights-more : (p : Program) (items : List (ℤ × ℤ)) (weights base new : List ℤ) (i c : ℕ) (x : ℤ × ℤ) (w : ℤ) (l : Literal) → i < length items → get_or items i x ≡ x → AreWeights p (take i items) weights →
     l ≡ literal_of p x.0 → l.var ≤ var_count p → base ≡ weights → c ≡ code_of l → new ≡ set base c (get_or base c (pos 0) +ℤ w) → w ≡ x.1 → AreWeights p (take (i + 1) items) new
