@@ -1,0 +1,10 @@
+pub mod SumLaws
+pub mod CostLaws
+pub mod WeightLaws
+pub mod LevelLaws
+pub mod ReachLaws
+pub mod StepLaws
+pub mod KeptLaws
+pub mod FindLaws
+pub mod NogoodLaws
+pub mod SilentLaws

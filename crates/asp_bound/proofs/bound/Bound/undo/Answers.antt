@@ -1,0 +1,35 @@
+use Rattle.std.proofs.Common.{◌≡◌, ◌∙◌, ◌<◌, ℕ, ◌+ℤ◌, List, ℤ, None, length, get_or, set, drop, pos, ap, arith}
+use Rattle.std.proofs.lemmas.Int.{ints}
+use Rattle.std.proofs.lemmas.List.{take_at}
+use Rattle.asp_bound.specs.Rises.{raised, row_at}
+use Rattle.asp_bound.proofs.KeptLaws.{raised-small, lower-room, raised_as, kept-untold, kept_as, held-value}
+use Rattle.asp_bound.proofs.bound.Bound.undo.Goals as goal
+
+pub lower-requires-clause-small : goal.lower-requires-clause-small
+lower-requires-clause-small c = λ j lt.
+    let v = rw (← c.self.view_is) at c.requires.var in
+    let at = raised_as c.self.inside.rows c.args.lit.var c.args.lit.truth c.row-row.result.now c.var.result c.truth.result c.row-row.ensures c.var.ensures c.truth.ensures j in
+    let within : j < length c.self.inside.sums.items = omega (arith, lt, ap length c.as_mut_slice.ensures.value) in
+    omega (arith, at, raised-small c.self.inside.origin.value c.self.inside.values c.self.inside.rows c.self.inside.columns c.self.inside.vars.items c.self.inside.sums.items c.self.invariant c.args.lit.var j c.args.lit.truth v.0 v.1 within)
+
+pub lower-requires-clause-room : goal.lower-requires-clause-room
+lower-requires-clause-room c = λ j lt.
+    let v = rw (← c.self.view_is) at c.requires.var in
+    let at = raised_as c.self.inside.rows c.args.lit.var c.args.lit.truth c.row-row.result.now c.var.result c.truth.result c.row-row.ensures c.var.ensures c.truth.ensures j in
+    let within : j < length c.self.inside.sums.items = omega (arith, lt, ap length c.as_mut_slice.ensures.value) in
+    omega (arith, ints, at, ap (λ (s : List ℤ). get_or s j (pos 0)) c.as_mut_slice.ensures.value, lower-room c.self.inside.origin.value c.self.inside.values c.self.inside.rows c.self.inside.columns c.self.inside.vars.items c.self.inside.sums.items c.self.invariant c.args.lit.var c.args.lit.truth v.0 v.1 j within)
+
+pub invariant_of-self : goal.invariant_of-self
+invariant_of-self c =
+    let v = rw (← c.self.view_is) at c.requires.var in
+    let held = held-value c.self.inside.values c.args.lit (rw (← c.self.view_is) at c.requires.holds) in
+    let new = c.lower.new.sums in
+    let long : length new ≡ length c.self.inside.sums.items = c.lower.auto.sums ∙ ap length c.as_mut_slice.ensures.value in
+    let each = λ (j : ℕ) (within : j < length c.self.inside.sums.items).
+    let at = raised_as c.self.inside.rows c.args.lit.var c.args.lit.truth c.row-row.result.now c.var.result c.truth.result c.row-row.ensures c.var.ensures c.truth.ensures j in
+    let lt : j < length c.as_mut_slice.result.now = omega (arith, within, ap length c.as_mut_slice.ensures.value) in
+    let step : get_or new j (pos 0) +ℤ pos (raised (row_at c.self.inside.rows c.args.lit.var) j c.args.lit.truth) ≡ get_or c.self.inside.sums.items j (pos 0) =
+    omega (arith, ints, c.lower.ensures j lt, at, ap (λ (s : List ℤ). get_or s j (pos 0)) c.as_mut_slice.ensures.value) in
+    step in
+    let kept = kept-untold c.self.inside.origin.value c.self.inside.values c.self.inside.rows c.self.inside.columns c.self.inside.vars.items c.self.inside.sums.items new c.self.invariant c.args.lit.var c.args.lit.truth v.0 v.1 held long each in
+    kept_as c.self.inside.origin.value _ c.unset.new.self c.self.inside.rows c.self.inside.columns c.self.inside.vars.items new _ (c.unset.ensures ∙ ap (λ (u : ℕ). set c.self.inside.values u None) c.var-2.ensures) (take_at new (drop (length new) c.self.inside.sums.items) c.self.inside.sums.len (c.lower.auto.sums ∙ c.as_mut_slice.ensures.len)) kept

@@ -1,0 +1,12 @@
+pub mod Optimism
+pub mod Definition
+pub mod Silence
+pub mod Rises
+pub mod Weights
+pub mod Levels
+pub mod Gathered
+pub mod Reach
+pub mod Reasons
+pub mod Found
+pub mod Bounded
+pub mod Kept

@@ -1,0 +1,18 @@
+-- The literals that raise the optimistic cost.
+use Rattle.std.specs.Prelude.{ℕ, nat_lt, Bool, ◌&&◌, if◌then◌else◌, List, [], ◌∷◌, Option, Some, None}
+use Rattle.std.specs.List.{list_any}
+use Rattle.asp_vars.specs.Literals.{Literal, value_of}
+use Rattle.asp_bound.specs.declared.place.Place.{Place}
+use Rattle.asp_bound.specs.Rises.{rise_by, row_at}
+
+-- whether a place in the row adds something by the value, at one of the first priorities
+abbrev pub raises : List Place → ℕ → Bool → Bool
+raises row depth b = list_any (λ o. nat_lt o.level depth && nat_lt 0 (rise_by b o)) row
+
+-- the literal of the variable's value, if it adds something
+abbrev pub raising_by : List Place → ℕ → ℕ → Option Bool → List Literal
+raising_by row depth v None = []
+raising_by row depth v (Some b) = if raises row depth b then record { var = v; truth = b } ∷ [] else []
+
+abbrev pub raising_at : List (Option Bool) → List (List Place) → ℕ → ℕ → List Literal
+raising_at a rows depth v = raising_by (row_at rows v) depth v (value_of a v)

@@ -1,0 +1,149 @@
+//! The propagator of the cost bound.
+//!
+//! It keeps the optimistic cost of the values that it was told: at each priority the weights of the true literals, and of
+//! those without a value the negative ones. A value only raises it, by what stands in the variable's row. Where the
+//! optimistic cost isn't smaller than the bound, the true literals that raised it make a nogood; where it wouldn't be with
+//! one more literal, they make one together with that literal. At each priority the variables stand in the order of what
+//! they can add, so only those that may reach the bound are looked at.
+ghost use Rattle.std.specs.Prelude.{◌≡◌, ◌<◌, ◌≤◌, ◌^◌, ◌+◌, IfOk, IfSome, Some, None, true, length, is_none};
+ghost use Rattle.asp_trail.specs.Entries.{assignment};
+ghost use Rattle.asp_trail.specs.Told.{told, untold};
+ghost use Rattle.asp_trail.specs.Trails.{IsVar};
+ghost use Rattle.asp_vars.specs.Literals.{value_of, holds_in};
+ghost use Rattle.asp_vars.specs.Numbering.{var_count};
+ghost use Rattle.asp_bound.specs.Silence.{is_silent};
+ghost use Rattle.asp_bound.specs.Bounded.{IsSmaller, IsGiven};
+ghost use Rattle.asp_bound.specs.Gathered.{valueless};
+
+use crate::find::find;
+use crate::levels::{all_levels, vars_of};
+use crate::place::{Item, Place};
+use crate::reach::reach;
+use crate::reasons::{below, raising};
+use crate::sums::{lower, raise};
+use asp_model::cost::Cost;
+use asp_model::program::Program;
+use asp_table::table::Table;
+use asp_trail::trail::Trail;
+use asp_vars::assign::Assign;
+use asp_vars::compiled::Compiled;
+use asp_vars::lit::{Lit, Var};
+use asp_vars::nogood::Nogood;
+use asp_vars::origin::Origin;
+use std::alloc::{AllocError, Global};
+use std::marker::Model;
+
+/// The values told, the places of the weights, the optimistic cost, and the bound.
+#[derive(Drop)]
+pub struct Bound {
+    origin: Origin<Program>,
+    alloc: Global,
+    values: Assign,
+    rows: Table<Place>,
+    columns: Table<Item>,
+    vars: Vec<Var>,
+    sums: Vec<i64>,
+    bound: Option<Cost>,
+}
+
+impl Model for Bound {
+    ghost use Rattle.asp_bound.specs.Bounded.{Bounded};
+    ghost use Rattle.asp_bound.specs.Kept.{IsKept};
+
+    ghost Value = { Bounded };
+
+    ghost view = { λ b. record { told = record { program = b.origin.value; values = b.values }; bound = b.bound } };
+
+    ghost invariant = { λ b. IsKept b.origin.value b.values b.rows b.columns b.vars.items b.sums.items };
+}
+
+impl Bound {
+    /// Nothing is told, and no bound stands.
+    pub fn new(alloc: Global, compiled: &Compiled) -> Result<Bound, AllocError>
+        ensures { IfOk result (λ b. b ≡ record { told = record { program = compiled.now; values = valueless compiled.now }; bound = None }) }
+    {
+        let count = compiled.vars();
+        let levels = all_levels(alloc, compiled)?;
+        let rows = levels.rows.into_table(alloc)?;
+        let vars = vars_of(alloc, &rows)?;
+        Ok(Bound {
+            origin: Origin::of(compiled.program()),
+            alloc,
+            values: Assign::new(alloc, count)?,
+            rows,
+            columns: levels.columns,
+            vars,
+            sums: levels.sums,
+            bound: None,
+        })
+    }
+
+    /// The literal holds from now on.
+    pub fn assign(&mut self, lit: Lit)
+        requires var { IsVar (var_count self.old.told.program) lit.var }
+        requires none { value_of self.old.told.values lit.var ≡ None }
+        ensures { self.new ≡ record self.old { told = told self.old.told lit } }
+    {
+        let row = self.rows.row(lit.var() as usize);
+        raise(self.sums.as_mut_slice(), row, lit.truth());
+        self.values.set(lit);
+    }
+
+    /// The literal, which held, has no value from now on.
+    pub fn undo(&mut self, lit: Lit)
+        requires var { IsVar (var_count self.old.told.program) lit.var }
+        requires holds { holds_in self.old.told.values lit ≡ true }
+        ensures { self.new ≡ record self.old { told = untold self.old.told lit } }
+    {
+        let row = self.rows.row(lit.var() as usize);
+        lower(self.sums.as_mut_slice(), row, lit.truth());
+        self.values.unset(lit.var());
+    }
+
+    /// From now on smaller costs than this one are wanted.
+    pub fn set(&mut self, cost: Cost)
+        requires { IsSmaller cost self.old.bound }
+        ensures { self.new ≡ record self.old { bound = Some cost } }
+    {
+        let _ = &self.sums;
+        self.bound = Some(cost);
+    }
+
+    /// A nogood by the bound that stands, which is unit or violated. None exactly where no bound stands, or the optimistic
+    /// cost is smaller and stays so with any one more variable.
+    pub fn next(&mut self, trail: &Trail) -> Result<Option<Nogood>, AllocError>
+        requires { self.old.told.values ≡ assignment trail.now.vars trail.now.entries }
+        ensures same { self.new ≡ self.old }
+        ensures silent { IfOk result (λ n. is_none n ≡ is_silent self.old.told.program self.old.bound self.old.told.values) }
+        ensures given { IfOk result (λ n. IfSome n (IsGiven self.old)) }
+    {
+        let _ = trail;
+        let Some(cost) = &self.bound else {
+            return Ok(None);
+        };
+        let (sums, limits) = (self.sums.as_slice(), cost.as_slice());
+        if let Some(depth) = reach(sums, limits, &[], true) {
+            let lits = raising(
+                self.alloc,
+                &self.values,
+                &self.rows,
+                self.vars.as_slice(),
+                depth,
+            )?;
+            let nogood = below(lits, cost, None)?;
+            return Ok(Some(nogood));
+        }
+        let Some(implied) = find(&self.values, &self.rows, &self.columns, sums, limits) else {
+            return Ok(None);
+        };
+        let lits = raising(
+            self.alloc,
+            &self.values,
+            &self.rows,
+            self.vars.as_slice(),
+            implied.depth,
+        )?;
+        let nogood = below(lits, cost, Some(implied.lit))?;
+        Ok(Some(nogood))
+    }
+}

@@ -1,0 +1,16 @@
+//! The bound of a search for an optimum: which values can't lead to a smaller cost.
+#![tactic(auto)]
+
+pub mod bound;
+mod find;
+pub mod laws;
+mod levels;
+mod place;
+mod priorities;
+mod reach;
+mod reasons;
+mod rise;
+mod sums;
+#[cfg(test)]
+mod tests;
+mod weights;

@@ -1,0 +1,82 @@
+//! Nogoods that the bound gives.
+ghost use Rattle.std.specs.Prelude.{◌≡◌, ◌<◌, ◌≤◌, ◌^◌, ◌++◌, IfOk, OnOk, length};
+ghost use Rattle.std.specs.List.{All, flat_map};
+ghost use Rattle.std.specs.Option.{option_to_list};
+ghost use Rattle.asp_vars.specs.Literals.{value_of};
+ghost use Rattle.asp_vars.specs.declared.nogood.Base.TheVariants as base;
+ghost use Rattle.asp_bound.specs.Rises.{row_at};
+ghost use Rattle.asp_bound.specs.Reasons.{raises, raising_at};
+
+use crate::place::Place;
+use crate::sums::rise_by;
+use asp_model::cost::Cost;
+use asp_table::table::Table;
+use asp_vars::assign::Assign;
+use asp_vars::lit::{Lit, Var};
+use asp_vars::nogood::{Base, Lits, Nogood};
+use std::alloc::{AllocError, Global};
+
+// Whether a place in the row adds something by the value, at one of the first priorities.
+fn raises(row: &[Place], depth: usize, truth: bool) -> bool
+    ensures { result ≡ raises row.now depth truth }
+{
+    for place in row {
+        if place.level < depth && rise_by(place, truth) > 0 {
+            return true;
+        }
+    }
+    false
+}
+
+// Adds the literal of the variable's value, if it adds something.
+fn add_raising(
+    lits: &mut Lits,
+    values: &Assign,
+    rows: &Table<Place>,
+    depth: usize,
+    var: Var,
+) -> Result<(), AllocError>
+    requires few { var < 2 ^ 31 }
+    requires var { var < length values.now }
+    requires row { var < length rows.now }
+    ensures { OnOk result (lits.new ≡ lits.old ++ raising_at values.now rows.now depth var) }
+{
+    if let Some(truth) = values.value(var) {
+        if raises(rows.row(var as usize), depth, truth) {
+            lits.push(Lit::new(var, truth))?;
+        }
+    }
+    Ok(())
+}
+
+/// The true literals that raise the cost at one of the first priorities.
+pub fn raising(
+    alloc: Global,
+    values: &Assign,
+    rows: &Table<Place>,
+    vars: &[Var],
+    depth: usize,
+) -> Result<Lits, AllocError>
+    requires few { length values.now ≤ 2 ^ 31 }
+    requires rows { length rows.now ≡ length values.now }
+    requires within { All (λ v. v < length values.now) vars.now }
+    ensures { IfOk result (λ lits. lits ≡ flat_map (raising_at values.now rows.now depth) vars.now) }
+{
+    let mut lits = Lits::new(alloc);
+    for var in vars {
+        add_raising(&mut lits, values, rows, depth, *var)?;
+    }
+    Ok(lits)
+}
+
+/// The nogood of these literals, and maybe one more, that is below the cost.
+pub fn below(lits: Lits, cost: &Cost, more: Option<Lit>) -> Result<Nogood, AllocError>
+    ensures { IfOk result (λ n. n ≡ record { lits = lits ++ option_to_list more; base = base.Below cost.now }) }
+{
+    let mut lits = lits;
+    if let Some(lit) = more {
+        lits.push(lit)?;
+    }
+    let base = Base::Below(cost.copy()?);
+    Ok(Nogood { lits, base })
+}
