@@ -20,6 +20,7 @@ ghost use Rattle.asp_store.specs.Visiting.{AreSmall};
 ghost use Rattle.asp_store.specs.Walking.{IsViolated};
 ghost use Rattle.asp_choice.specs.Waiting.{fresh, learnt, AreAssigned, IsFuller, IsNext};
 ghost use Rattle.asp_follow.specs.Useful.{IsSmaller};
+ghost use Rattle.asp_follow.specs.Locking.{thinned};
 ghost use Rattle.asp_follow.specs.Following.{Adds, AreCalm, Implies, IsImplied, IsQuiet, IsReduced};
 ghost use Rattle.asp_track.specs.Tracking.{forever, path_of, values_of, AreOf, Clashes, IsBegun, IsUnder};
 
@@ -277,7 +278,7 @@ impl<P: Propagator> Track<P> {
     /// Drops the older half, rounded down, of the nogoods that weren't added forever, aren't reasons and have more than
     /// two literals.
     pub fn reduce(&mut self)
-        ensures same { self.new ≡ record self.old { slots = self.new.slots } }
+        ensures thinned { self.new ≡ record self.old { slots = thinned self.old.entries self.old.slots } }
         ensures kept { IsReduced self.old.entries self.old.slots self.new.slots }
     {
         self.path.reduce();
