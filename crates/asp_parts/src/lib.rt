@@ -1,0 +1,6 @@
+//! The propagators of a program as one: weight bodies, the cost bound, and unfounded sets.
+#![tactic(auto)]
+
+pub mod parts;
+#[cfg(test)]
+mod tests;

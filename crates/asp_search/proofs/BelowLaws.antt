@@ -1,0 +1,68 @@
+-- What the parts of a step know of each other.
+use Rattle.std.proofs.Common.{◌≡◌, ℕ, List, [], ◌∷◌, ◌++◌, length, Option, Some, None, refl, sym, ap, subst, arith}
+use Rattle.std.specs.Prelude.{ℤ}
+use Rattle.std.proofs.lemmas.List.{length-append}
+use Rattle.asp_model.specs.declared.program.Program.{Program}
+use Rattle.asp_model.specs.declared.results.Mode.{Mode}
+use Rattle.asp_model.specs.Sets.{Atoms}
+use Rattle.asp_vars.specs.Literals.{Literal}
+use Rattle.asp_vars.specs.Numbering.{var_count}
+use Rattle.asp_vars.specs.Entailment.{HitsOnly, excuse}
+use Rattle.asp_vars.specs.Paid.{Units}
+use Rattle.asp_vars.specs.declared.nogood.Base.{Base}
+use Rattle.asp_vars.specs.declared.nogood.Nogood.{Nogood}
+use Rattle.asp_trail.specs.declared.trail.Entry.{Entry}
+use Rattle.asp_store.specs.Walking.{IsViolated}
+use Rattle.asp_choice.specs.Pacing.{Paced}
+use Rattle.asp_follow.specs.Following.{Adds, Implies}
+use Rattle.asp_follow.specs.Useful.{Counts, IsUseful}
+use Rattle.asp_step.specs.Axioms.{IsDerived}
+use Rattle.asp_step.specs.Faults.{IsFault}
+use Rattle.asp_step.specs.Steps.{Fails}
+use Rattle.asp_step.proofs.DerivedLaws.{derived_adds, derived_push}
+use Rattle.asp_step.proofs.SlotLaws.{grows_adds, nogood_kept, push_newest}
+use Rattle.asp_step.proofs.StepLaws.{Continues, fails_after}
+use Rattle.asp_track.specs.Tracking.{Tracked}
+use Rattle.asp_search.specs.Invariants.{view_of}
+use Rattle.asp_search.proofs.JumpedLaws.{for_now}
+use Rattle.asp_search.proofs.StepsLaws.{continues_from, fails_same}
+
+-- ---- a nogood that shows a set unstable
+pub fault_useful : (p : Program) (known : List Atoms) (bound : Option (List ℤ)) (gives : Nogood → Type 0) (vars : ℕ) (es : List Entry) (n : Nogood) → IsFault p gives vars es n → IsUseful p known bound n
+fault_useful p known bound gives vars es n f = record {
+  good = subst (λ (b : Base). HitsOnly p (excuse p known bound b) n.lits) (sym f.pure) f.entailed;
+  counts = subst (Counts bound) (sym f.pure) tt;
+}
+
+fault_counts : (p : Program) (bound : Option (List ℤ)) (gives : Nogood → Type 0) (vars : ℕ) (es : List Entry) (n : Nogood) → IsFault p gives vars es n → Counts bound n.base
+fault_counts p bound gives vars es n f = subst (Counts bound) (sym f.pure) tt
+
+module _ (gives : Nogood → Type 0) (md : Mode) (t u : Tracked) (c : Paced) (known : List Atoms) (last : Option ℕ) where
+  -- it is kept
+  pub fault_continues : (n : Nogood) → IsFault t.program gives (var_count t.program) t.entries n → u ≡ record t { slots = t.slots ++ Some (for_now n) ∷ [] } →
+      Continues gives (view_of md t c known last) (view_of md u c known last)
+  fault_continues n f e =
+      continues_from gives md t c known last t.entries (t.slots ++ Some (for_now n) ∷ []) last u e (Some (for_now n) ∷ [], refl)
+      (derived_push t.program gives t.bound t.slots (for_now n) (IsDerived.given f.why (fault_counts t.program t.bound gives (var_count t.program) t.entries n f))) (omega arith)
+
+  -- and is violated
+  pub fault_violated : (n : Nogood) (id : ℕ) → IsFault t.program gives (var_count t.program) t.entries n → id ≡ length t.slots → u ≡ record t { slots = t.slots ++ Some (for_now n) ∷ [] } →
+      IsViolated (var_count u.program) u.slots u.entries id
+  fault_violated n id f q e =
+      subst (λ (x : Tracked). IsViolated (var_count x.program) x.slots x.entries id) (sym e)
+      (subst (λ (i : ℕ). IsViolated (var_count t.program) (t.slots ++ Some (for_now n) ∷ []) t.entries i) (sym q)
+      (n, nogood_kept (t.slots ++ Some (for_now n) ∷ []) (length t.slots) (for_now n) (push_newest t.slots (for_now n)), f.violated))
+
+  -- ---- propagation
+  pub adds_continue : ((n : Nogood) → gives n → Counts t.bound n.base) → Adds gives t.slots u.slots → Implies t.entries u.entries → u ≡ record t { entries = u.entries; slots = u.slots } →
+      Continues gives (view_of md t c known last) (view_of md u c known None)
+  adds_continue counts adds implies e =
+      continues_from gives md t c known last u.entries u.slots None u e (grows_adds gives t.slots u.slots adds)
+      (derived_adds t.program gives t.bound t.slots u.slots counts adds)
+      (omega (arith, ap (length {A = Entry}) implies.1, length-append t.entries implies.0))
+
+  -- and memory is wanting then
+  pub adds_fail : (q : List Literal) (f : Units) → ((n : Nogood) → gives n → Counts t.bound n.base) → Adds gives t.slots u.slots → Implies t.entries u.entries → u ≡ record t { entries = u.entries; slots = u.slots } →
+      Fails gives (view_of md t c known last) (view_of md u c known None) q f f
+  adds_fail q f counts adds implies e =
+      fails_after gives (view_of md t c known last) (view_of md u c known None) (view_of md u c known None) q f f (adds_continue counts adds implies e) (fails_same gives md u c known None q f)

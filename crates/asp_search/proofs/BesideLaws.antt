@@ -1,0 +1,125 @@
+-- The calls beside a step.
+use Rattle.std.proofs.Common.{◌≡◌, ◌≢◌, ℕ, zero, suc, ◌<◌, true, false, cond, List, ◌∷◌, map, Option, Some, None, refl, sym, ap, ◌∙◌, subst, arith, []}
+use Rattle.std.specs.Prelude.{ℤ, option_and_then}
+use Rattle.std.specs.List.{AllByRecursion}
+use Rattle.std.specs.Option.{unwrap_or}
+use Rattle.std.proofs.lemmas.Bool.{false≢true}
+use Rattle.asp_model.specs.declared.program.Program.{Program}
+use Rattle.asp_model.specs.declared.results.Mode.{Mode}
+use Rattle.asp_model.specs.declared.results.Mode.TheVariants as mode
+use Rattle.asp_model.specs.Sets.{Atoms}
+use Rattle.asp_model.specs.Sound.{IsSound}
+use Rattle.asp_vars.specs.Literals.{Literal}
+use Rattle.asp_vars.specs.Numbering.{var_count}
+use Rattle.asp_vars.specs.Completion.{completion}
+use Rattle.asp_vars.specs.Entailment.{Entailed, IsGood}
+use Rattle.asp_vars.specs.Paid.{Units}
+use Rattle.asp_vars.specs.declared.nogood.Base.{Base}
+use Rattle.asp_vars.specs.declared.nogood.Base.TheVariants as base
+use Rattle.asp_vars.specs.declared.nogood.Nogood.{Nogood}
+use Rattle.asp_vars.proofs.CompletionLaws.{completion_entailed}
+use Rattle.asp_trail.specs.Entries.{level}
+use Rattle.asp_store.specs.declared.kept.Kept.{Kept}
+use Rattle.asp_store.specs.Keeping.{nogood_at}
+use Rattle.asp_choice.specs.Pacing.{Paced}
+use Rattle.asp_choice.specs.Waiting.{fresh}
+use Rattle.asp_follow.specs.Useful.{Counts, IsUseful}
+use Rattle.asp_step.specs.Axioms.{AreDerived}
+use Rattle.asp_step.specs.Keeping.{AreUseful}
+use Rattle.asp_step.specs.Searching.{Searching}
+use Rattle.asp_step.specs.Steps.{Fails, is_of_use}
+use Rattle.asp_track.specs.Tracking.{Tracked, forever}
+use Rattle.asp_search.specs.Beside.{Enters, Leaves, new_search, is_shared, only_shared, exported}
+use Rattle.asp_search.specs.Invariants.{IsSearch, view_of}
+
+-- ---- a new search
+none_some : {X : Type 0} (x : X) → None ≡ Some x → ⊥
+none_some x q = cc
+
+useful_forever : (p : Program) (known : List Atoms) (bound : Option (List ℤ)) (ns : List (List Literal)) → AllByRecursion (Entailed p) ns → AreUseful p known bound (map forever ns)
+useful_forever p known bound [] a id n q = absurd (none_some n q)
+useful_forever p known bound (m ∷ ns) a zero n q =
+    let same : ◌≡◌ {A = Nogood} (record { lits = m; base = base.Pure }) n = ap (λ (o : Option Nogood). unwrap_or o (record { lits = m; base = base.Pure })) q in
+    subst (IsUseful p known bound) same (record { good = a.0; counts = tt })
+useful_forever p known bound (m ∷ ns) a (suc id) n q = useful_forever p known bound ns a.1 id n q
+
+pub search_begins : (p : Program) (m : Mode) (t : Tracked) (vars : ℕ) → IsSound p → vars ≡ var_count p →
+    t ≡ record { program = p; bound = None; cube = None; clashing = false; decisions = []; entries = []; slots = map forever (completion p); ranking = fresh (var_count p) } →
+    IsSearch p m t vars [] [] None None
+search_begins p m t vars sound count e =
+    subst (λ (x : Tracked). IsSearch p m x vars [] [] None None) (sym e)
+    (record {
+      program = refl;
+      bounded = refl;
+      counted = count;
+      useful = useful_forever p [] None (completion p) (completion_entailed p sound);
+      barred = tt;
+      bars_stand = record { each = λ i d h. absurd (no_index i h); rising = λ i j d l h. absurd (no_index j h) };
+      last_stands = tt;
+      alone = λ q. refl;
+    })
+  where
+    no_index : (i : ℕ) → i < 0 → ⊥
+    no_index i h = omega arith
+
+pub search_is_new : (p : Program) (m : Mode) (t : Tracked) (c : Paced) →
+    t ≡ record { program = p; bound = None; cube = None; clashing = false; decisions = []; entries = []; slots = map forever (completion p); ranking = fresh (var_count p) } →
+    c ≡ record { restarts = 0; learnt = 0; reductions = 0 } → view_of m t c [] None ≡ new_search p m
+search_is_new p m t c e f =
+    ap (λ (x : Tracked). view_of m x c [] None) e
+    ∙ ap (λ (x : Paced). view_of m (record { program = p; bound = None; cube = None; clashing = false; decisions = []; entries = []; slots = map forever (completion p); ranking = fresh (var_count p) }) x [] None) f
+
+-- ---- a path is entered, or left
+module _ (md : Mode) (t u : Tracked) (c : Paced) (known : List Atoms) (last : Option ℕ)
+    (same : u ≡ record t { cube = u.cube; clashing = u.clashing; decisions = []; entries = u.entries; ranking = u.ranking }) where
+  with_cube : (o : Option (List Literal)) → u.cube ≡ o → u ≡ record t { cube = o; clashing = u.clashing; decisions = []; entries = u.entries; ranking = u.ranking }
+  with_cube o e = same ∙ ap (λ (x : Option (List Literal)). let y : Tracked = record t { cube = x; clashing = u.clashing; decisions = []; entries = u.entries; ranking = u.ranking } in y) e
+
+  pub leaves_from : u.cube ≡ None → Leaves (view_of md t c known last) (view_of md u c known None)
+  leaves_from e = ap (λ (x : Tracked). view_of md x c known None) (with_cube None e)
+
+  pub enters_from : (q : List Literal) (d : Paced) → u.cube ≡ Some q → level u.entries ≡ 0 → d ≡ record c { learnt = 0 } → Enters (view_of md t c known last) (view_of md u d known None) q
+  enters_from q d e zero_ pace = record {
+    same =
+        ap (λ (x : Tracked). view_of md x d known None) (with_cube (Some q) e)
+        ∙ ap (λ (x : Paced). view_of md (record t { cube = Some q; clashing = u.clashing; decisions = []; entries = u.entries; ranking = u.ranking }) x known None) pace;
+    level = zero_;
+  }
+
+-- ---- nogoods of others
+of_use_counts : (m : Mode) (bound : Option (List ℤ)) (b : Base) → is_of_use m bound b ≡ true → Counts bound b
+of_use_counts m bound base.Pure h = tt
+of_use_counts mode.Enum bound (base.Below c) h = absurd (false≢true h)
+of_use_counts mode.Opt bound (base.Below c) h = h
+of_use_counts m bound base.Local h = tt
+
+pub of_use_not_local : (m : Mode) (bound : Option (List ℤ)) (b : Base) → is_of_use m bound b ≡ true → b ≢ base.Local
+of_use_not_local m bound b h e = false≢true (ap (is_of_use m bound) (sym e) ∙ h)
+
+pub of_use : (p : Program) (known : List Atoms) (m : Mode) (bound : Option (List ℤ)) (n : Nogood) → is_of_use m bound n.base ≡ true → IsGood p known bound n → IsUseful p known bound n
+of_use p known m bound n h good = record { good = good; counts = of_use_counts m bound n.base h }
+
+-- ---- where memory was wanting, the path is left
+pub fails_left : (gives : Nogood → Type 0) (s m t : Searching) (q : List Literal) (f g : Units) → Leaves m t → Fails gives s m q f g → Fails gives s t q f g
+fails_left gives s m t q f g l h = record {
+  program = ap (λ (x : Searching). x.program) l ∙ h.program;
+  mode = ap (λ (x : Searching). x.mode) l ∙ h.mode;
+  known = ap (λ (x : Searching). x.known) l ∙ h.known;
+  bound = ap (λ (x : Searching). x.bound) l ∙ h.bound;
+  fuel = h.fuel;
+  derived = subst (λ (xs : List (Option Kept)). AreDerived s.program gives s.bound (nogood_at s.slots) (nogood_at xs)) (sym (ap (λ (x : Searching). x.slots) l)) h.derived;
+}
+
+-- the same, of what callers see
+pub left_from : (md : Mode) (t u : Tracked) (c : Paced) (known : List Atoms) (last : Option ℕ) (s : Searching) → view_of md t c known last ≡ s →
+    u ≡ record t { cube = None; clashing = false; decisions = []; entries = []; ranking = u.ranking } → Leaves s (view_of md u c known None)
+left_from md t u c known last s v e =
+    subst (λ (x : Searching). Leaves x (view_of md u c known None)) v
+    (subst (λ (x : Tracked). Leaves (view_of md t c known last) (view_of md x c known None)) (sym e) refl)
+
+-- ---- what is exported
+pub exported_none : (s : Searching) → s.last ≡ None → exported s ≡ None
+exported_none s l = ap (λ (o : Option ℕ). only_shared (option_and_then (λ i. nogood_at s.slots i) o)) l
+
+pub exported_is : (s : Searching) (id : ℕ) (n : Nogood) → s.last ≡ Some id → nogood_at s.slots id ≡ Some n → exported s ≡ cond (is_shared n) (Some n) None
+exported_is s id n l k = ap (λ (o : Option ℕ). only_shared (option_and_then (λ i. nogood_at s.slots i) o)) l ∙ ap only_shared k

@@ -1,0 +1,213 @@
+-- How an answer is kept from being found again.
+use Rattle.std.proofs.Common.{◌≡◌, ◌≢◌, ℕ, zero, suc, ◌+◌, ◌-◌, ◌<◌, Bool, true, false, cond, eqb, List, ◌∷◌, ◌++◌, length, get_or, set, take, drop, Option, Some, None, IsSome, find, inl, inr, ◌⊎◌, refl, sym, ap, ◌∙◌, subst, arith, take-append-drop, []}
+use Rattle.std.specs.List.{All, starts_with}
+use Rattle.std.specs.Option.{unwrap_or}
+use Rattle.std.proofs.lemmas.Bool.{eqb-true}
+use Rattle.std.proofs.lemmas.List.{length-set, length-append, get_or_append_left}
+use Rattle.asp_vars.specs.Literals.{Literal, complement, has_literal, literal_eq, value_of}
+use Rattle.asp_vars.specs.Resolution.{IsWithin}
+use Rattle.asp_vars.specs.declared.nogood.Base.TheVariants as base
+use Rattle.asp_vars.specs.declared.nogood.Nogood.{Nogood}
+use Rattle.asp_vars.proofs.LiteralLaws.{same_literal}
+use Rattle.asp_vars.proofs.NumberingLaws.{same_lists}
+use Rattle.asp_trail.specs.declared.trail.Entry.{Entry}
+use Rattle.asp_trail.specs.Entries.{assignment, cut, reason_in, reason_or_none}
+use Rattle.asp_trail.specs.Reasons.{AreReasoned}
+use Rattle.asp_trail.specs.Trails.{IsOrdered, IsVar}
+use Rattle.asp_trail.proofs.HoldLaws.{value_at}
+use Rattle.asp_store.specs.declared.kept.Kept.{Kept}
+use Rattle.asp_store.specs.Keeping.{nogood_at}
+use Rattle.asp_order.specs.Heaps.{Ranking}
+use Rattle.asp_settle.specs.Starts.{AreStarts}
+use Rattle.asp_settle.proofs.LitLaws.{all_has, has_more, has_append, has_place, has_at}
+use Rattle.asp_settle.proofs.PlaceLaws.{blank, reason_at}
+use Rattle.asp_follow.specs.Following.{IsUnnamed}
+use Rattle.asp_step.specs.Keeping.{IsBar, AreBars}
+use Rattle.asp_step.proofs.SlotLaws.{nogood_kept, kept_nogood, kept_within, push_each, push_newest, grows_forever, barred_stay, bars_stay, bar_within, bars_push, bars_pop, removed_none, removed_other, removed_barred, removed_bars}
+use Rattle.asp_track.specs.Tracking.{Tracked}
+use Rattle.asp_search.specs.Blocking.{IsSpare, kept_way, Drops, Blocks}
+
+-- ---- reasons
+-- a variable that was implied has a value
+reason_found : (es : List Entry) (v id : ℕ) → reason_in es v ≡ Some id → (i : ℕ) × (i < length es) × ((d : Entry) → (get_or es i d).lit.var ≡ v)
+reason_found [] v id q = absurd (none q)
+  where
+    none : None ≡ Some id → ⊥
+    none e = cc
+reason_found (e ∷ es) v id q = cases (eqb e.lit.var v) refl (reason_found es v id)
+  where
+    cases : (b : Bool) → b ≡ eqb e.lit.var v → (reason_in es v ≡ Some id → (i : ℕ) × (i < length es) × ((d : Entry) → (get_or es i d).lit.var ≡ v)) →
+        (i : ℕ) × (i < length (e ∷ es)) × ((d : Entry) → (get_or (e ∷ es) i d).lit.var ≡ v)
+    cases true p rest = (0, omega arith, λ d. eqb-true e.lit.var v (sym p))
+    cases false p rest =
+        let r = rest (ap (λ (b : Bool). reason_or_none (cond b (Some e) (find (λ (x : Entry). eqb x.lit.var v) es))) p ∙ q) in
+        (suc r.0, omega (arith, r.1), λ d. r.2 d)
+
+pub unvalued_no_reason : (vars : ℕ) (es : List Entry) (v id : ℕ) → IsOrdered vars es → value_of (assignment vars es) v ≡ None → reason_in es v ≢ Some id
+unvalued_no_reason vars es v id o none q =
+    let f = reason_found es v id q in
+    clash (get_or es f.0 blank).lit.truth (sym none ∙ (ap (λ (x : ℕ). get_or (assignment vars es) x None) (sym (f.2 blank)) ∙ value_at vars es f.0 blank o f.1))
+  where
+    clash : (b : Bool) → None ≡ Some b → ⊥
+    clash b e = cc
+
+-- an entry that names a nogood has its variable there
+pub unnamed : (vars : ℕ) (kept : ℕ → Option Nogood) (es : List Entry) (id : ℕ) (n : Nogood) → IsOrdered vars es → AreReasoned kept es → kept id ≡ Some n →
+    All (λ l. reason_in es l.var ≢ Some id) n.lits → IsUnnamed es id
+unnamed vars kept es id n o r k none i d h q =
+    let w = r i d id h q in
+    let same : w.0 ≡ n = some_is w.0 n (sym w.1 ∙ k) in
+    let has : has_literal n.lits (complement (get_or es i d).lit) ≡ true = subst (λ (m : Nogood). has_literal m.lits (complement (get_or es i d).lit) ≡ true) same w.2.has in
+    all_has (λ l. reason_in es l.var ≢ Some id) n.lits (complement (get_or es i d).lit) none has (reason_at vars es i d (get_or es i d).lit o h refl ∙ q)
+  where
+    some_is : (x y : Nogood) → Some x ≡ Some y → x ≡ y
+    some_is x y e = ap (λ (o : Option Nogood). unwrap_or o x) e
+
+-- ---- nogoods that begin with these literals
+pub begins_within : (old lits : List Literal) → starts_with literal_eq old lits ≡ true → IsWithin lits old
+begins_within old lits h l has =
+    let same : lits ≡ take (length lits) old = same_lists literal_eq same_literal lits (take (length lits) old) h in
+    subst (λ (n : List Literal). has_literal n l ≡ true) (take-append-drop (length lits) old)
+    (has_more (take (length lits) old) (drop (length lits) old) l (subst (λ (n : List Literal). has_literal n l ≡ true) same has))
+
+-- ---- dropping one
+pub drop_one : (way : Nogood) (id old : ℕ) (first slots : List (Option Kept)) (bars : List ℕ) (n : Nogood) → AreBars slots (bars ++ old ∷ []) → nogood_at slots old ≡ Some n → IsWithin way.lits n.lits →
+    Drops way id first slots (bars ++ old ∷ []) → Drops way id first (set slots old None) bars
+drop_one way id old first slots bars n b k within d =
+    let parts = bars_pop slots bars old b in
+    let x = kept_nogood slots old n k in
+    let small : old < length slots = kept_within slots old x.0 x.1 in
+    let low : old < id = newest old in
+    let ne : id ≢ old = apart low in
+    record {
+      none = λ j m q. d.none j m (removed_none slots old small j m q);
+      count = length-set slots old None ∙ d.count;
+      stands = removed_other slots old id ne ∙ d.stands;
+      barred = λ p S s.
+          removed_barred p slots old id x.0 (record { nogood = way; forever = true; locked = false }) S x.1 d.stands refl ne
+          (subst (λ (m : Nogood). IsWithin way.lits m.lits) (sym x.2) within) (d.barred p S s);
+      bars_stand = removed_bars slots bars old parts.1 parts.0;
+      below = λ i e h. omega (arith, d.below i e (omega (arith, h, length-append bars (old ∷ []))), get_or_append_left bars (old ∷ []) e i h);
+    }
+  where
+    at : (xs : List ℕ) (e : ℕ) → get_or (xs ++ old ∷ []) (length xs) e ≡ old
+    at [] e = refl
+    at (x ∷ xs) e = at xs e
+
+    newest : (e : ℕ) → old < id
+    newest e = omega (arith, d.below (length bars) e (omega (arith, length-append bars (old ∷ []))), at bars e)
+
+    apart : old < id → id ≢ old
+    apart h q = omega (arith, h, q)
+
+-- ---- the way
+-- its literals are variables'
+pub way_vars : (vars : ℕ) (q decisions : List Literal) (es : List Entry) → IsOrdered vars es → AreStarts q decisions es → All (λ l. IsVar vars l.var) (q ++ decisions)
+way_vars vars q decisions es o s i d h = each (get_or (q ++ decisions) i d) (has_append q decisions (get_or (q ++ decisions) i d) (has_at (q ++ decisions) i d h))
+  where
+    place : (l : Literal) (j : ℕ) → j < length es → (get_or es j blank).lit ≡ l → IsVar vars l.var
+    place l j k e = subst (λ (m : Literal). IsVar vars m.var) e (o.within j blank k)
+
+    each : (l : Literal) → (has_literal q l ≡ true) ⊎ (has_literal decisions l ≡ true) → IsVar vars l.var
+    each l (inl x) = let f = s.cube_stands l x in place l f.0 f.1.within (f.1.lit blank)
+    each l (inr x) =
+        let f = has_place decisions l x in
+        let b = s.decisions_stand f.0 f.1 in
+        place l b.place b.stands.within (b.stands.lit blank ∙ f.2 (record { var = 0; truth = false }))
+
+-- before any is dropped
+pub drop_none : (way : Nogood) (slots : List (Option Kept)) (bars : List ℕ) → AreBars slots bars →
+    Drops way (length slots) (slots ++ kept_way way ∷ []) (slots ++ kept_way way ∷ []) bars
+drop_none way slots bars b = record {
+  none = λ j n q. q;
+  count = refl;
+  stands = push_newest slots (record { nogood = way; forever = true; locked = false });
+  barred = λ p S x. x;
+  bars_stand = bars_stay slots (slots ++ kept_way way ∷ []) bars (grows_forever slots (slots ++ kept_way way ∷ []) (kept_way way ∷ [], refl)) b;
+  below = λ i d h. bar_within slots (get_or bars i d) (b.each i d h);
+}
+
+-- after all
+pub drop_done : (way : Nogood) (old new : Tracked) (slots : List (Option Kept)) (bars : List ℕ) → way.base ≡ base.Local → slots ≡ old.slots ++ kept_way way ∷ [] →
+    new ≡ record old {
+      entries = cut (length old.decisions - 1) old.entries;
+      decisions = take (length old.decisions - 1) old.decisions;
+      slots = new.slots;
+      ranking = new.ranking;
+    } → Drops way (length old.slots) slots new.slots bars → Blocks way old new (bars ++ length old.slots ∷ [])
+drop_done way old new slots bars local kept same d = record {
+  same = same;
+  nogoods = λ j n q. cases j n (push_each old.slots (record { nogood = way; forever = true; locked = false }) j n (sym (ap (λ (x : List (Option Kept)). nogood_at x j) kept) ∙ d.none j n q));
+  id = length old.slots;
+  stands = d.stands;
+  barred = λ p S b. d.barred p S (barred_stay p old.slots slots S (grows_forever old.slots slots (kept_way way ∷ [], kept)) b);
+  bars_stand = bars_push new.slots bars (length old.slots) d.bars_stand (record { kept = record { nogood = way; forever = true; locked = false }; stands = d.stands; forever = refl; local = local }) d.below;
+}
+  where
+    cases : (j : ℕ) (n : Nogood) → (nogood_at old.slots j ≡ Some n) ⊎ (way ≡ n) → (nogood_at old.slots j ≡ Some n) ⊎ (n ≡ way)
+    cases j n (inl q) = inl q
+    cases j n (inr e) = inr (sym e)
+
+-- ---- the newest of the list
+pub init_last : (xs : List ℕ) (n d : ℕ) → n + 1 ≡ length xs → xs ≡ take n xs ++ get_or xs n d ∷ []
+init_last [] n d h = absurd (omega (arith, h))
+init_last (x ∷ []) zero d h = refl
+init_last (x ∷ y ∷ ys) zero d h = absurd (omega (arith, h))
+init_last (x ∷ xs) (suc n) d h = ap (λ (zs : List ℕ). x ∷ zs) (init_last xs n d (omega (arith, h)))
+
+-- dropping it
+module _ (slots : List (Option Kept)) (bars rest : List ℕ) (id : ℕ) (lits : List Literal) (es : List Entry) (is : bars ≡ rest ++ id ∷ []) (b : AreBars slots bars) (spare : IsSpare slots es lits id) where
+  split : AreBars slots (rest ++ id ∷ [])
+  split = subst (AreBars slots) is b
+
+  pub newest_bar : IsBar slots id
+  newest_bar = subst (IsBar slots) (end rest) (split.each (length rest) id (omega (arith, length-append rest (id ∷ []))))
+    where
+      end : (xs : List ℕ) → get_or (xs ++ id ∷ []) (length xs) id ≡ id
+      end [] = refl
+      end (x ∷ xs) = end xs
+
+  pub newest_drops : (way : Nogood) (n : ℕ) (first : List (Option Kept)) → way.lits ≡ lits → Drops way n first slots bars → Drops way n first (set slots id None) rest
+  newest_drops way n first same d =
+      let k : nogood_at slots id ≡ Some newest_bar.kept.nogood = nogood_kept slots id newest_bar.kept newest_bar.stands in
+      drop_one way n id first slots rest newest_bar.kept.nogood split k
+      (subst (λ (xs : List Literal). IsWithin xs newest_bar.kept.nogood.lits) (sym same) (spare.within newest_bar.kept.nogood k))
+      (subst (Drops way n first slots) is d)
+
+  pub newest_gone : AreBars (set slots id None) rest
+  newest_gone = let parts = bars_pop slots rest id split in removed_bars slots rest id parts.1 parts.0
+
+-- a bar is a nogood
+pub bar_has : (slots : List (Option Kept)) (id : ℕ) → IsBar slots id → IsSome (nogood_at slots id)
+bar_has slots id b = some (nogood_at slots id) b.kept.nogood (nogood_kept slots id b.kept b.stands)
+  where
+    some : (o : Option Nogood) (n : Nogood) → o ≡ Some n → IsSome o
+    some None n q = absurd (none n q)
+      where
+        none : (m : Nogood) → None ≡ Some m → ⊥
+        none m e = cc
+    some (Some m) n q = tt
+
+-- ---- a nogood that can be dropped
+pub same_nogood : (n m : Nogood) → Some n ≡ Some m → n ≡ m
+same_nogood n m q = ap (λ (o : Option Nogood). unwrap_or o n) q
+
+-- one that begins with the literals, and whose variables it didn't imply
+pub spare_from : (vars : ℕ) (slots : List (Option Kept)) (es : List Entry) (lits : List Literal) (id : ℕ) (n : Nogood) → IsOrdered vars es → AreReasoned (nogood_at slots) es → nogood_at slots id ≡ Some n →
+    starts_with literal_eq n.lits lits ≡ true → All (λ l. reason_in es l.var ≢ Some id) n.lits → IsSpare slots es lits id
+spare_from vars slots es lits id n o r k begins none = record {
+  within = λ m q. subst (λ (x : Nogood). IsWithin lits x.lits) (same_nogood n m (sym k ∙ q)) (begins_within n.lits lits begins);
+  unnamed = unnamed vars (nogood_at slots) es id n o r k none;
+}
+
+-- ---- the track, where the way was kept, a level taken back, and bars were dropped
+pub block_same : (t a b u : Tracked) (k : ℕ) (way : Nogood) → k ≡ length t.decisions - 1 → a ≡ record t { slots = t.slots ++ kept_way way ∷ [] } →
+    b ≡ record a { decisions = take k a.decisions; entries = cut k a.entries; ranking = b.ranking } → u ≡ record b { slots = u.slots } →
+    u ≡ record t { entries = cut (length t.decisions - 1) t.entries; decisions = take (length t.decisions - 1) t.decisions; slots = u.slots; ranking = u.ranking }
+block_same t a b u k way count keep undo drop =
+    let order : b.ranking ≡ u.ranking = sym (ap (λ (x : Tracked). x.ranking) drop) in
+    let first : Tracked → Tracked = λ x. record x { decisions = take k x.decisions; entries = cut k x.entries; ranking = b.ranking } in
+    let second : Tracked → Tracked = λ x. record x { slots = u.slots } in
+    let third : ℕ → Tracked = λ i. record t { entries = cut i t.entries; decisions = take i t.decisions; slots = u.slots; ranking = b.ranking } in
+    let fourth : Ranking → Tracked = λ r. record t { entries = cut (length t.decisions - 1) t.entries; decisions = take (length t.decisions - 1) t.decisions; slots = u.slots; ranking = r } in
+    drop ∙ (ap second (undo ∙ ap first keep) ∙ (ap third count ∙ ap fourth order))

@@ -1,0 +1,88 @@
+-- What is asked for learning, for a conflict and for a jump, and what they give.
+use Rattle.std.proofs.Common.{◌≡◌, ℕ, ◌≤◌, true, List, length, take, Option, Some, None, IsSome, sym, ap, ◌∙◌, subst}
+use Rattle.std.specs.Prelude.{ℤ, Result, Ok, Err}
+use Rattle.std.specs.List.{All}
+use Rattle.std.specs.Option.{unwrap_or}
+use Rattle.std.specs.Result.{IfOk}
+use Rattle.std.proofs.lemmas.List.Elements.{All-weaker}
+use Rattle.asp_model.specs.declared.program.Program.{Program}
+use Rattle.asp_model.specs.Sets.{Atoms}
+use Rattle.asp_vars.specs.Literals.{Literal, holds_in}
+use Rattle.asp_vars.specs.Paid.{Clash}
+use Rattle.asp_vars.specs.declared.nogood.Nogood.{Nogood}
+use Rattle.asp_trail.specs.declared.trail.Entry.{Entry}
+use Rattle.asp_trail.specs.Entries.{assignment, level_in}
+use Rattle.asp_trail.specs.Quiet.{is_violated}
+use Rattle.asp_trail.specs.Trails.{IsOrdered, IsVar}
+use Rattle.asp_trail.proofs.QuietLaws.{list_all_at}
+use Rattle.asp_trail.proofs.HoldLaws.{holds_found}
+use Rattle.asp_store.specs.declared.kept.Kept.{Kept}
+use Rattle.asp_store.specs.Keeping.{nogood_at}
+use Rattle.asp_store.specs.Walking.{IsViolated}
+use Rattle.asp_analyze.specs.Learning.{Used, IsReached, AreContained, AreAssumed, IsLearned, nogood_of}
+use Rattle.asp_analyze.specs.Way.{AreUpTo}
+use Rattle.asp_analyze.specs.declared.learn.Learned.{Learned}
+use Rattle.asp_settle.proofs.LitLaws.{has_at}
+use Rattle.asp_settle.proofs.PlaceLaws.{blank}
+use Rattle.asp_step.specs.Explaining.{Explains}
+use Rattle.asp_track.specs.Tracking.{Tracked}
+use Rattle.asp_search.specs.Meeting.{IsClashOf}
+
+pub has_some : {X : Type 0} → (o : Option X) (x : X) → o ≡ Some x → IsSome o
+has_some None x q = absurd (none x q)
+  where
+    none : {X : Type 0} → (y : X) → None ≡ Some y → ⊥
+    none y e = cc
+has_some (Some y) x q = tt
+
+-- ---- learning
+pub up_to : (vars : ℕ) (es : List Entry) → IsOrdered vars es → AreUpTo vars es
+up_to vars es o = All-weaker (λ (e : Entry). IsVar vars e.lit.var) (λ (e : Entry). e.lit.var ≤ vars) (λ e v. v.1) es o.within
+
+pub contained : (vars : ℕ) (es : List Entry) (n : List Literal) → is_violated (assignment vars es) n ≡ true → AreContained vars es n
+contained vars es n h i d k = list_all_at (holds_in (assignment vars es)) n _ h (has_at n i d k)
+
+-- the violated nogood is the one that the store gives
+pub violated_is : (vars : ℕ) (slots : List (Option Kept)) (es : List Entry) (id : ℕ) (n : Nogood) → Some n ≡ nogood_at slots id → IsViolated vars slots es id → is_violated (assignment vars es) n.lits ≡ true
+violated_is vars slots es id n q v =
+    subst (λ (m : Nogood). is_violated (assignment vars es) m.lits ≡ true) (ap (λ (o : Option Nogood). unwrap_or o n) (sym v.1 ∙ sym q)) v.2
+
+pub violated_at : (vars wars : ℕ) (slots tlots : List (Option Kept)) (es fs : List Entry) (id : ℕ) → wars ≡ vars → tlots ≡ slots → fs ≡ es → IsViolated vars slots es id → IsViolated wars tlots fs id
+violated_at vars wars slots tlots es fs id v s e h =
+    subst (λ (n : ℕ). IsViolated n tlots fs id) (sym v)
+    (subst (λ (xs : List (Option Kept)). IsViolated vars xs fs id) (sym s) (subst (λ (xs : List Entry). IsViolated vars slots xs id) (sym e) h))
+
+pub explained : {E : Type 0} (r : Result Learned E) (vars : ℕ) (slots : List (Option Kept)) (es : List Entry) (id : ℕ) (from : Nogood) → Some from ≡ nogood_at slots id →
+    is_violated (assignment vars es) from.lits ≡ true → IfOk r (λ l. (used : List Used) × IsReached (nogood_at slots) es from used (nogood_of l)) →
+    IfOk r (λ l. AreContained vars es (nogood_of l).lits) → IfOk r (λ l. AreAssumed es (nogood_of l).lits) → IfOk r (IsLearned es from.lits) → IfOk r (Explains vars slots es id)
+explained (Ok l) vars slots es id from q v reached contained assumed learned =
+    record { from = from; stands = sym q; violated = v; used = reached.0; reached = reached.1; contained = contained; assumed = assumed; learned = learned }
+explained (Err e) vars slots es id from q v reached contained assumed learned = tt
+
+-- the same, where the trail and the store are the track's
+pub explained_at : {E : Type 0} (r : Result Learned E) (vars wars : ℕ) (slots tlots : List (Option Kept)) (es fs : List Entry) (id : ℕ) (from : Nogood) → wars ≡ vars → tlots ≡ slots → fs ≡ es →
+    Some from ≡ nogood_at tlots id → IsViolated vars slots es id → IfOk r (λ l. (used : List Used) × IsReached (nogood_at tlots) fs from used (nogood_of l)) →
+    IfOk r (λ l. AreContained wars fs (nogood_of l).lits) → IfOk r (λ l. AreAssumed fs (nogood_of l).lits) → IfOk r (IsLearned fs from.lits) → IfOk r (Explains vars slots es id)
+explained_at r vars wars slots tlots es fs id from v s e q violated reached contained assumed learned =
+    subst (λ (n : ℕ). IfOk r (Explains n slots es id)) v
+    (subst (λ (xs : List (Option Kept)). IfOk r (Explains wars xs es id)) s
+    (subst (λ (xs : List Entry). IfOk r (Explains wars tlots xs id)) e
+    (explained r wars tlots fs id from q (violated_is wars tlots fs id from q (violated_at vars wars slots tlots es fs id v s e violated)) reached contained assumed learned)))
+
+-- ---- a conflict
+pub clash_of : (p : Program) (known : List Atoms) (bound : Option (List ℤ)) (t : Tracked) (id : ℕ) (lit : Literal) (cube decisions nogood : List Literal) (n : Nogood) →
+    Some cube ≡ t.cube → decisions ≡ take (level_in t.entries lit.var) t.decisions → nogood ≡ n.lits → Some n ≡ nogood_at t.slots id →
+    IsClashOf p known bound t id lit (record { program = p; cube = cube; decisions = decisions; nogood = nogood; known = length known; bound = bound })
+clash_of p known bound t id lit cube decisions nogood n c d k s m =
+    let one : cube ≡ m.cube = ap (λ (o : Option (List Literal)). unwrap_or o cube) (c ∙ m.entered) in
+    let two : n ≡ m.from = ap (λ (o : Option Nogood). unwrap_or o n) (s ∙ m.stands) in
+    let first : List Literal → Clash = λ x. record { program = p; cube = x; decisions = decisions; nogood = nogood; known = length known; bound = bound } in
+    let second : List Literal → Clash = λ x. record { program = p; cube = m.cube; decisions = x; nogood = nogood; known = length known; bound = bound } in
+    let third : List Literal → Clash = λ x. record { program = p; cube = m.cube; decisions = take (level_in t.entries lit.var) t.decisions; nogood = x; known = length known; bound = bound } in
+    ap first one ∙ (ap second d ∙ ap third (k ∙ ap (λ (x : Nogood). x.lits) two))
+
+-- ---- a jump
+pub contained_vars : (vars : ℕ) (es : List Entry) (n : List Literal) → IsOrdered vars es → AreContained vars es n → All (λ l. IsVar vars l.var) n
+contained_vars vars es n o c i d h =
+    let f = holds_found vars es _ o (c i d h) in
+    subst (λ (l : Literal). IsVar vars l.var) (f.2 blank) (o.within f.0 blank f.1)

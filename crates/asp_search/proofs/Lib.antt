@@ -1,0 +1,10 @@
+pub mod SearchLaws
+pub mod MeetLaws
+pub mod LearnLaws
+pub mod JumpedLaws
+pub mod TrueLaws
+pub mod BlockLaws
+pub mod WholeLaws
+pub mod StepsLaws
+pub mod BelowLaws
+pub mod BesideLaws

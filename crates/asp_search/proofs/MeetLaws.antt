@@ -1,0 +1,112 @@
+-- What follows from a violated nogood: the cube is settled, or a conflict is shown and a nogood learnt.
+use Rattle.std.proofs.Common.{◌≡◌, ℕ, Bool, true, List, ◌++◌, take, Option, Some, None, IsSome, sym, subst, arith}
+use Rattle.std.specs.Prelude.{ℤ}
+use Rattle.std.proofs.lemmas.Bool.{false≢true}
+use Rattle.asp_model.specs.declared.program.Program.{Program}
+use Rattle.asp_model.specs.declared.results.Mode.{Mode}
+use Rattle.asp_model.specs.Sets.{Atoms}
+use Rattle.asp_vars.specs.Literals.{Literal, complement, holds_in, agrees, value_of}
+use Rattle.asp_vars.specs.Numbering.{var_count}
+use Rattle.asp_vars.specs.Entailment.{Settled}
+use Rattle.asp_vars.specs.Paid.{Clash}
+use Rattle.asp_vars.specs.Resolution.{IsWithin}
+use Rattle.asp_vars.specs.declared.nogood.Nogood.{Nogood}
+use Rattle.asp_trail.specs.Entries.{assignment, level_in}
+use Rattle.asp_store.specs.Keeping.{nogood_at}
+use Rattle.asp_analyze.specs.Learning.{IsJump, nogood_of}
+use Rattle.asp_analyze.specs.declared.learn.Learned.{Learned}
+use Rattle.asp_analyze.specs.declared.learn.Learned.TheVariants as learned
+use Rattle.asp_settle.specs.Settling.{KeepsSettled}
+use Rattle.asp_settle.proofs.LitLaws.{all_has}
+use Rattle.asp_settle.proofs.PlaceLaws.{level_in_top}
+use Rattle.asp_settle.proofs.ViolatedLaws.{way_settled, cube_settled, within_cube}
+use Rattle.asp_settle.proofs.ConflictLaws.{conflict}
+use Rattle.asp_choice.specs.Pacing.{Paced}
+use Rattle.asp_follow.specs.Useful.{IsUseful}
+use Rattle.asp_follow.proofs.UsefulLaws.{useful_settles}
+use Rattle.asp_store.specs.Fitting.{HaveReasons}
+use Rattle.asp_trail.specs.Trails.{IsOrdered}
+use Rattle.asp_step.specs.Axioms.{IsDerived}
+use Rattle.asp_step.specs.Explaining.{Explains}
+use Rattle.asp_step.specs.Keeping.{AreUseful}
+use Rattle.asp_step.proofs.UsefulLaws.{learnt_useful}
+use Rattle.asp_step.proofs.DerivedLaws.{learnt_derived}
+use Rattle.asp_step.proofs.JumpLaws.{jump_var}
+use Rattle.asp_track.specs.Tracking.{Tracked, values_of, IsUnder, IsBegun}
+use Rattle.asp_search.specs.Invariants.{view_of}
+use Rattle.asp_search.specs.Meeting.{IsMet, ShowsConflict, IsClashOf}
+use Rattle.asp_search.specs.Stepping.{IsEntered}
+
+module _ (md : Mode) (t : Tracked) (c : Paced) (known : List Atoms) (last : Option ℕ) (q : List Literal) (id : ℕ) where
+  all_settled : (l : Learned) → IsMet (view_of md t c known last) q id l → KeepsSettled t.program known t.bound (nogood_at t.slots)
+  all_settled l m j n k = useful_settles t.program known t.bound n (m.useful j n k)
+
+  from_settled : (l : Learned) → (m : IsMet (view_of md t c known last) q id l) → Settled t.program known t.bound m.explains.from.lits
+  from_settled l m = useful_settles t.program known t.bound m.explains.from (m.useful id m.explains.from m.explains.stands)
+
+  pub met_useful : (l : Learned) → IsMet (view_of md t c known last) q id l → IsUseful t.program known t.bound (nogood_of l)
+  met_useful l m =
+      learnt_useful t.program known t.bound (var_count t.program) t.slots t.entries m.explains.from (nogood_of l) m.explains.used m.ordered m.reasons m.useful
+      (m.useful id m.explains.from m.explains.stands) m.explains.reached
+
+  pub met_derived : (gives : Nogood → Type 0) (l : Learned) → IsMet (view_of md t c known last) q id l → IsDerived t.program gives t.bound (nogood_at t.slots) (nogood_of l)
+  met_derived gives l m = learnt_derived t.program gives t.bound (var_count t.program) t.slots t.entries id l m.explains
+
+  pub met_of : (l : Learned) → IsEntered (view_of md t c known last) q → IsOrdered (var_count t.program) t.entries → ((r : List Literal) → IsUnder t r → IsBegun t.program r t.decisions t.entries) →
+      HaveReasons t.slots t.entries → AreUseful t.program known t.bound t.slots → Explains (var_count t.program) t.slots t.entries id l → IsMet (view_of md t c known last) q id l
+  met_of l e o begun r u x =
+      let b = begun q (record { cube_is = e.cube; calm = e.clear }) in
+      record { entered = e.cube; clear = e.clear; last = e.last; ordered = o; starts = b.starts; calm = b.calm; reasons = r; useful = u; explains = x }
+
+  -- ---- all at level 0
+  pub met_within : (n : Nogood) → IsMet (view_of md t c known last) q id (learned.InCube n) → IsWithin n.lits q
+  met_within n m =
+      within_cube (var_count t.program) q t.decisions t.entries n.lits m.ordered m.starts m.explains.contained m.explains.learned.1 m.explains.assumed
+
+  pub met_settled : (n : Nogood) → IsMet (view_of md t c known last) q id (learned.InCube n) → Settled t.program known t.bound q
+  met_settled n m =
+      cube_settled t.program known t.bound (var_count t.program) (nogood_at t.slots) q t.decisions t.entries m.explains.from.lits m.ordered m.reasons
+      (all_settled (learned.InCube n) m) m.starts (from_settled (learned.InCube n) m) m.explains.violated m.explains.learned.0
+
+  -- ---- a jump
+  has_value : (o : Option Bool) (l : Literal) → agrees o l ≡ true → IsSome o
+  has_value None l h = absurd (false≢true h)
+  has_value (Some b) l h = tt
+
+  pub met_jump : (n : Nogood) (to : ℕ) (lit : Literal) → (m : IsMet (view_of md t c known last) q id (learned.Jump n to lit)) → IsJump t.entries m.explains.from.lits n.lits to lit
+  met_jump n to lit m = m.explains.learned
+
+  pub met_shows : (n : Nogood) (to : ℕ) (lit : Literal) → IsMet (view_of md t c known last) q id (learned.Jump n to lit) → ShowsConflict t.program known t.bound t id lit
+  met_shows n to lit m =
+      let x = m.explains in
+      let vars = var_count t.program in
+      let j : IsJump t.entries x.from.lits n.lits to lit = x.learned in
+      let holds : holds_in (assignment vars t.entries) (complement lit) ≡ true =
+      all_has (λ l. holds_in (assignment vars t.entries) l ≡ true) n.lits (complement lit) x.contained j.has in
+      let top = level_in t.entries lit.var in
+      let settled : Settled t.program known t.bound (q ++ take top t.decisions) =
+      way_settled t.program known t.bound vars (nogood_at t.slots) q t.decisions t.entries top x.from.lits m.ordered m.reasons (all_settled (learned.Jump n to lit) m) m.starts
+      (from_settled (learned.Jump n to lit) m) x.violated j.topmost in
+      record {
+        cube = q;
+        entered = m.entered;
+        from = x.from;
+        stands = x.stands;
+        small = (jump_var vars t.entries x.from.lits n.lits to lit m.ordered x.contained j).1;
+        has = has_value (value_of (values_of t) lit.var) (complement lit) holds;
+        low = omega (arith, level_in_top t.entries lit.var m.ordered.rising, m.starts.counted);
+        conflict = conflict t.program vars q t.decisions t.entries x.from.lits j.top.0 top m.ordered m.starts m.calm (omega (arith, j.above)) j.top.1 j.top.2 known t.bound settled;
+      }
+
+-- ---- of what the code has in its hands
+pub shows_for : (p : Program) (ks known : List Atoms) (bound : Option (List ℤ)) (t : Tracked) (id : ℕ) (lit : Literal) → p ≡ t.program → ks ≡ known → bound ≡ t.bound →
+    ShowsConflict t.program known t.bound t id lit → ShowsConflict p ks bound t id lit
+shows_for p ks known bound t id lit program same bounded m =
+    subst (λ (x : Program). ShowsConflict x ks bound t id lit) (sym program)
+    (subst (λ (x : List Atoms). ShowsConflict t.program x bound t id lit) (sym same) (subst (λ (x : Option (List ℤ)). ShowsConflict t.program known x t id lit) (sym bounded) m))
+
+pub clash_for : (p : Program) (ks known : List Atoms) (bound : Option (List ℤ)) (t : Tracked) (id : ℕ) (lit : Literal) (x : Clash) → p ≡ t.program → ks ≡ known → bound ≡ t.bound →
+    IsClashOf p ks bound t id lit x → IsClashOf t.program known t.bound t id lit x
+clash_for p ks known bound t id lit x program same bounded c =
+    subst (λ (y : Program). IsClashOf y known t.bound t id lit x) program
+    (subst (λ (y : List Atoms). IsClashOf p y t.bound t id lit x) same (subst (λ (y : Option (List ℤ)). IsClashOf p ks y t id lit x) bounded c))

@@ -1,0 +1,320 @@
+-- What the parts of a step promise of a search whose parts changed so.
+use Rattle.std.proofs.Common.{◌≡◌, ℕ, ◌+◌, ◌-◌, ◌^◌, ◌<◌, ◌≤◌, min, Bool, true, false, leb, List, ◌∷◌, ◌++◌, length, get_or, take, Option, Some, None, inl, inr, ◌⊎◌, refl, sym, ap, ◌∙◌, subst, arith, []}
+use Rattle.std.specs.List.{All}
+use Rattle.std.specs.Option.{unwrap_or}
+use Rattle.std.proofs.lemmas.Bool.{and_parts, or_cases}
+use Rattle.std.proofs.lemmas.Bool.Decides.{nat_tests}
+use Rattle.std.proofs.lemmas.List.{length-append}
+use Rattle.std.proofs.lemmas.List.Elements.{filter_passes}
+use Rattle.asp_model.specs.declared.results.Mode.{Mode}
+use Rattle.asp_model.specs.declared.results.Mode.TheVariants as mode
+use Rattle.asp_model.specs.Sets.{Atoms}
+use Rattle.asp_model.specs.Costs.{cost}
+use Rattle.asp_vars.specs.Literals.{Literal, F, complement, literal_eq, has_literal, hits}
+use Rattle.asp_vars.specs.Numbering.{values, var_count}
+use Rattle.asp_vars.specs.Conflicts.{IsConflict}
+use Rattle.asp_vars.specs.Entailment.{is_done}
+use Rattle.asp_vars.specs.Paid.{Clash, Units}
+use Rattle.asp_vars.specs.declared.nogood.Base.TheVariants as base
+use Rattle.asp_vars.specs.declared.nogood.Nogood.{Nogood}
+use Rattle.asp_vars.proofs.LiteralLaws.{hits-append, same_literal}
+use Rattle.asp_trail.specs.declared.trail.Entry.{Entry}
+use Rattle.asp_trail.specs.Entries.{assignment, level, level_in, cut}
+use Rattle.asp_store.specs.declared.kept.Kept.{Kept}
+use Rattle.asp_store.specs.Keeping.{nogood_at}
+use Rattle.asp_order.specs.Heaps.{Ranking}
+use Rattle.asp_analyze.specs.Learning.{AreContained, IsJump}
+use Rattle.asp_analyze.specs.declared.learn.Learned.TheVariants as learned
+use Rattle.asp_choice.specs.Pacing.{Paced}
+use Rattle.asp_choice.specs.Waiting.{IsNext}
+use Rattle.asp_follow.specs.Following.{IsQuiet}
+use Rattle.asp_settle.proofs.HitLaws.{clash_settled}
+use Rattle.asp_settle.proofs.LitLaws.{only_one}
+use Rattle.asp_settle.proofs.PlaceLaws.{level_last}
+use Rattle.asp_step.specs.Axioms.{IsAxiom, AreDerived, IsDerived}
+use Rattle.asp_step.specs.Keeping.{Grows}
+use Rattle.asp_step.specs.Searching.{Searching}
+use Rattle.asp_step.specs.Steps.{HasSameTask, IsBeside, IsConflictOf, burnt, FollowsByLast, Learns, Stops, Closes, Decides, Restarts, IsDue, Answers, way_of, Fails}
+use Rattle.asp_step.proofs.DerivedLaws.{derived_same, derived_push, derived_none}
+use Rattle.asp_step.proofs.JumpLaws.{before_newest, jump_beside}
+use Rattle.asp_step.proofs.SlotLaws.{nogood_kept, push_newest, reduced_none, grows_none}
+use Rattle.asp_step.proofs.StepLaws.{Continues}
+use Rattle.asp_track.specs.Tracking.{Tracked, values_of, Clashes}
+use Rattle.asp_search.specs.Blocking.{Blocks}
+use Rattle.asp_search.specs.Invariants.{view_of}
+use Rattle.asp_search.specs.Meeting.{IsMet, ShowsConflict, IsClashOf}
+use Rattle.asp_search.specs.Stepping.{IsFound, MayReduce}
+use Rattle.asp_search.proofs.MeetLaws.{met_within, met_settled, met_derived, met_jump}
+
+module _ (gives : Nogood → Type 0) (md : Mode) (t : Tracked) (c : Paced) (known : List Atoms) (last : Option ℕ) where
+  -- ---- nothing changed
+  pub fails_same : (q : List Literal) (f : Units) → Fails gives (view_of md t c known last) (view_of md t c known last) q f f
+  fails_same q f = record {
+    program = refl;
+    mode = refl;
+    known = refl;
+    bound = refl;
+    fuel = inl refl;
+    derived = derived_same t.program gives t.bound t.slots;
+  }
+
+  same_task : HasSameTask (view_of md t c known last) (view_of md t c known last)
+  same_task = record { program = refl; mode = refl; cube = refl; known = refl; bound = refl }
+
+  -- ---- closed
+  pub met_closes : (q : List Literal) (f : Units) (id : ℕ) (n : Nogood) → IsMet (view_of md t c known last) q id (learned.InCube n) →
+      Closes gives (view_of md t c known last) (view_of md t c known last) q f f
+  met_closes q f id n m = record {
+    same = same_task;
+    fuel = refl;
+    closing = n;
+    within = met_within md t c known last q id n m;
+    why = met_derived md t c known last q id gives (learned.InCube n) m;
+    settled = met_settled md t c known last q id n m;
+    decisions = refl;
+    derived = derived_same t.program gives t.bound t.slots;
+    learnt = refl;
+    restarts = refl;
+    last = m.last;
+  }
+
+  -- a cube with a literal and its complement
+  pub clash_closes : (q : List Literal) (f : Units) → Clashes q → Closes gives (view_of md t c known last) (view_of md t c known None) q f f
+  clash_closes q f x = record {
+    same = record { program = refl; mode = refl; cube = refl; known = refl; bound = refl };
+    fuel = refl;
+    closing = record { lits = x.lit ∷ complement x.lit ∷ []; base = base.Pure };
+    within = λ k h. pair_within k (or_cases (literal_eq x.lit k) (has_literal (complement x.lit ∷ []) k) h);
+    why = IsDerived.given (IsAxiom.pair x.lit) tt;
+    settled = clash_settled t.program (is_done t.program known t.bound) q x.lit x.has x.opposite;
+    decisions = refl;
+    derived = derived_same t.program gives t.bound t.slots;
+    learnt = refl;
+    restarts = refl;
+    last = refl;
+  }
+    where
+      pair_within : (k : Literal) → (literal_eq x.lit k ≡ true) ⊎ (has_literal (complement x.lit ∷ []) k ≡ true) → has_literal q k ≡ true
+      pair_within k (inl e) = subst (λ (l : Literal). has_literal q l ≡ true) (same_literal x.lit k e) x.has
+      pair_within k (inr h) = subst (λ (l : Literal). has_literal q l ≡ true) (only_one (complement x.lit) k h) x.opposite
+
+  -- ---- a conflict
+  pub conflict_of : (q : List Literal) (id : ℕ) (lit : Literal) (x : Clash) → t.cube ≡ Some q → ShowsConflict t.program known t.bound t id lit → IsClashOf t.program known t.bound t id lit x →
+      IsConflictOf (view_of md t c known last) q x
+  conflict_of q id lit x entered m is =
+      let e = is m in
+      record {
+        program = ap (λ (y : Clash). y.program) e;
+        cube = ap (λ (y : Clash). y.cube) e ∙ ap (λ (o : Option (List Literal)). unwrap_or o q) (sym m.entered ∙ entered);
+        known = ap (λ (y : Clash). y.known) e;
+        bound = ap (λ (y : Clash). y.bound) e;
+        level = level_in t.entries lit.var;
+        decisions = ap (λ (y : Clash). y.decisions) e;
+        conflict = subst (λ (y : Clash). IsConflict t.program known t.bound y.cube y.decisions y.nogood) (sym e) m.conflict;
+      }
+
+  pub met_stops : (q : List Literal) (f : Units) (id : ℕ) (lit : Literal) (x : Clash) → last ≡ None → f.left ≡ 0 → t.cube ≡ Some q → (m : ShowsConflict t.program known t.bound t id lit) →
+      IsClashOf t.program known t.bound t id lit x → AreContained (var_count t.program) t.entries m.from.lits →
+      Stops gives (view_of md t c known last) (view_of md t c known last) q f f x
+  met_stops q f id lit x none empty entered m is holds = record {
+    same = same_task;
+    fuel = refl;
+    none = empty;
+    conflict = conflict_of q id lit x entered m is;
+    contained = subst (λ (n : List Literal). AreContained (var_count t.program) t.entries n) (sym (ap (λ (y : Clash). y.nogood) (is m))) holds;
+    decisions = refl;
+    derived = derived_same t.program gives t.bound t.slots;
+    learnt = refl;
+    restarts = refl;
+    last = none;
+  }
+
+  -- a unit is burnt, and then memory is wanting
+  pub fails_paid : (q : List Literal) (f g : Units) (x : Clash) (u : Tracked) (d : Paced) (ranking : Ranking) → IsConflictOf (view_of md t c known last) q x → 0 < f.left → g ≡ burnt f x →
+      u ≡ record t { ranking = ranking } → Fails gives (view_of md t c known last) (view_of md u d known last) q f g
+  fails_paid q f g x u d ranking conflict left paid e =
+      subst (λ (y : Tracked). Fails gives (view_of md t c known last) (view_of md y d known last) q f g) (sym e)
+      (record {
+        program = refl;
+        mode = refl;
+        known = refl;
+        bound = refl;
+        fuel = inr (record { clash = x; conflict = conflict; left = left; paid = paid });
+        derived = derived_same t.program gives t.bound t.slots;
+      })
+
+  -- ---- learnt
+  pub met_learns : (q : List Literal) (f g : Units) (x : Clash) (u : Tracked) (d : Paced) (ranking : Ranking) (id new to : ℕ) (n : Nogood) (lit : Literal) →
+      IsMet (view_of md t c known last) q id (learned.Jump n to lit) → IsConflictOf (view_of md t c known last) q x → 0 < f.left → g ≡ burnt f x → new ≡ length t.slots →
+      u ≡ record t {
+        entries = cut to t.entries ++ record { lit = lit; level = level (cut to t.entries); reason = Some new } ∷ [];
+        decisions = take to t.decisions;
+        slots = t.slots ++ Some (record { nogood = n; forever = false; locked = false }) ∷ [];
+        ranking = ranking;
+      } → d ≡ record c { learnt = min (c.learnt + 1) (2 ^ 64 - 1) } → Learns gives (view_of md t c known last) (view_of md u d known (Some new)) q f g
+  met_learns q f g x u d ranking id new to n lit m conflict left paid number e pace =
+      let s : Searching = view_of md t c known last in
+      let vars = var_count t.program in
+      let entry : Entry = record { lit = lit; level = level (cut to t.entries); reason = Some new } in
+      let k : Kept = record { nogood = n; forever = false; locked = false } in
+      let after : Tracked = record t { entries = cut to t.entries ++ entry ∷ []; decisions = take to t.decisions; slots = t.slots ++ Some k ∷ []; ranking = ranking } in
+      let later : Paced = record c { learnt = min (c.learnt + 1) (2 ^ 64 - 1) } in
+      let j : IsJump t.entries m.explains.from.lits n.lits to lit = met_jump md t c known last q id n to lit m in
+      let start : take (length (cut to t.entries ++ entry ∷ []) - 1) (cut to t.entries ++ entry ∷ []) ≡ cut to t.entries = before_newest (cut to t.entries) (cut to t.entries ++ entry ∷ []) entry refl in
+      let beside : All (IsBeside (assignment vars (cut to t.entries)) lit) n.lits = jump_beside vars t.entries m.explains.from.lits n.lits to lit m.ordered m.explains.contained j in
+      let follows : FollowsByLast (view_of md after later known (Some new)) = record {
+        id = new;
+        nogood = n;
+        last = refl;
+        kept = ap (nogood_at (t.slots ++ Some k ∷ [])) number ∙ nogood_kept (t.slots ++ Some k ∷ []) (length t.slots) k (push_newest t.slots k);
+        entry = entry;
+        newest = ap (λ (xs : List Entry). xs ++ entry ∷ []) (sym start);
+        has = j.has;
+        others = subst (λ (xs : List Entry). All (IsBeside (assignment vars xs) lit) n.lits) (sym start) beside;
+      } in
+      let learns : Learns gives s (view_of md after later known (Some new)) q f g = record {
+        same = record { program = refl; mode = refl; cube = refl; known = refl; bound = refl };
+        burns = record { clash = x; conflict = conflict; left = left; paid = paid };
+        follows = follows;
+        decisions = (to, refl);
+        grows = (Some k ∷ [], refl);
+        derived = derived_push t.program gives t.bound t.slots k (met_derived md t c known last q id gives (learned.Jump n to lit) m);
+        learnt = refl;
+        restarts = refl;
+      } in
+      subst (λ (y : Tracked). Learns gives s (view_of md y d known (Some new)) q f g) (sym e)
+      (subst (λ (y : Paced). Learns gives s (view_of md after y known (Some new)) q f g) (sym pace) learns)
+
+  -- ---- decided
+  pub decides_from : (silent : List (Option Bool) → Type 0) (f : Units) (u : Tracked) (l : Literal) (v : ℕ) (members : List Bool) → last ≡ None → IsQuiet silent t.slots (values_of t) →
+      l ≡ F v → IsNext (var_count t.program) (values_of t) t.ranking.activities v →
+      u ≡ record t {
+        entries = t.entries ++ record { lit = l; level = length t.decisions + 1; reason = None } ∷ [];
+        decisions = t.decisions ++ l ∷ [];
+        ranking = record t.ranking { members = members };
+      } → Decides gives silent (view_of md t c known last) (view_of md u c known last) f f
+  decides_from silent f u l v members none quiet false_ next e =
+      let s : Searching = view_of md t c known last in
+      let after : Literal → Tracked = λ x. record t {
+        entries = t.entries ++ record { lit = x; level = length t.decisions + 1; reason = None } ∷ [];
+        decisions = t.decisions ++ x ∷ [];
+        ranking = record t.ranking { members = members };
+      } in
+      let entry : Entry = record { lit = F v; level = length t.decisions + 1; reason = None } in
+      let start : take (length (t.entries ++ entry ∷ []) - 1) (t.entries ++ entry ∷ []) ≡ t.entries = before_newest t.entries (t.entries ++ entry ∷ []) entry refl in
+      let decides : Decides gives silent s (view_of md (after (F v)) c known last) f f = record {
+        same = record { program = refl; mode = refl; cube = refl; known = refl; bound = refl };
+        fuel = refl;
+        quiet = subst (λ (xs : List Entry). IsQuiet silent t.slots (assignment (var_count t.program) xs)) (sym start) quiet;
+        var = v;
+        next = subst (λ (xs : List Entry). IsNext (var_count t.program) (assignment (var_count t.program) xs) t.ranking.activities v) (sym start) next;
+        entry = ap (λ (xs : List Entry). xs ++ entry ∷ []) (sym start);
+        decisions = refl;
+        longer = omega (arith, length-append t.entries (entry ∷ []));
+        grows = grows_none t.slots;
+        derived = derived_same t.program gives t.bound t.slots;
+        learnt = refl;
+        restarts = refl;
+        last = none;
+      } in
+      subst (λ (y : Tracked). Decides gives silent s (view_of md y c known last) f f) (sym e)
+      (subst (λ (x : Literal). Decides gives silent s (view_of md (after x) c known last) f f) (sym false_) decides)
+
+  -- ---- propagation
+  pub continues_from : (es : List Entry) (slots : List (Option Kept)) (new : Option ℕ) (u : Tracked) → u ≡ record t { entries = es; slots = slots } → Grows t.slots slots →
+      AreDerived t.program gives t.bound (nogood_at t.slots) (nogood_at slots) → length t.entries ≤ length es →
+      Continues gives (view_of md t c known last) (view_of md u c known new)
+  continues_from es slots new u e grows derived longer =
+      subst (λ (y : Tracked). Continues gives (view_of md t c known last) (view_of md y c known new)) (sym e)
+      (record { same = refl; grows = grows; derived = derived; longer = longer })
+
+-- ---- restarted
+all_low : (xs : List Entry) → All (λ e. leb e.level 0 ≡ true) xs → level xs ≡ 0
+all_low [] a = refl
+all_low (x ∷ xs) a =
+    let low : leb (get_or (x ∷ xs) (length (x ∷ xs) - 1) x).level 0 ≡ true = a (length (x ∷ xs) - 1) x (omega arith) in
+    let zero_ : (get_or (x ∷ xs) (length (x ∷ xs) - 1) x).level ≡ 0 = grind (arith, nat_tests) in
+    level_last (x ∷ xs) x (omega arith) ∙ zero_
+
+pub level_cut : (es : List Entry) → level (cut 0 es) ≡ 0
+level_cut es = all_low (cut 0 es) (filter_passes (λ (e : Entry). leb e.level 0) es)
+
+reduced_derived : (gives : Nogood → Type 0) (s : Searching) (es : List Entry) (new : List (Option Kept)) → MayReduce es s.slots new →
+    AreDerived s.program gives s.bound (nogood_at s.slots) (nogood_at new)
+reduced_derived gives s es new (inl e) =
+    subst (λ (xs : List (Option Kept)). AreDerived s.program gives s.bound (nogood_at s.slots) (nogood_at xs)) (sym e) (derived_same s.program gives s.bound s.slots)
+reduced_derived gives s es new (inr r) = derived_none s.program gives s.bound s.slots new (reduced_none es s.slots new r)
+
+pub restarts_from : (gives : Nogood → Type 0) (s t : Searching) (f : Units) (slots : List (Option Kept)) (ranking : Ranking) → s.last ≡ None → IsDue s.restarts s.learnt →
+    MayReduce (cut 0 s.entries) s.slots slots →
+    t ≡ record s {
+      entries = cut 0 s.entries;
+      decisions = [];
+      slots = slots;
+      ranking = ranking;
+      restarts = min (s.restarts + 1) (2 ^ 64 - 1);
+      learnt = 0;
+    } → Restarts gives s t f f
+restarts_from gives s t f slots ranking none due reduced e =
+    subst (λ (y : Searching). Restarts gives s y f f) (sym e)
+    (record {
+      same = record { program = refl; mode = refl; cube = refl; known = refl; bound = refl };
+      fuel = refl;
+      due = due;
+      level = level_cut s.entries;
+      decisions = refl;
+      derived = reduced_derived gives s (cut 0 s.entries) slots reduced;
+      learnt = refl;
+      restarts = refl;
+      last = none;
+    })
+
+-- ---- an answer
+way_hits : (v : List Bool) (q decisions : List Literal) → hits v (q ++ decisions) ≡ true → hits v q ≡ true
+way_hits v q decisions h = (and_parts (hits v q) (hits v decisions) (sym (hits-append v q decisions) ∙ h)).0
+
+module _ (gives : Nogood → Type 0) (t u : Tracked) (c : Paced) (known : List Atoms) (last : Option ℕ) (q : List Literal) (S : Atoms) (f : Units) (none : last ≡ None) where
+  pub lists : (bars : List ℕ) → IsFound (view_of mode.Enum t c known last) q S → Blocks (way_of q t.decisions) t u bars →
+      Answers gives (view_of mode.Enum t c known last) (view_of mode.Enum u c (known ++ S ∷ []) last) q f f S
+  lists bars found b = record {
+    program = ap (λ (y : Tracked). y.program) b.same;
+    mode = refl;
+    cube = ap (λ (y : Tracked). y.cube) b.same;
+    fuel = refl;
+    stable = found.stable;
+    hit = way_hits (values t.program S) q t.decisions found.hit;
+    new = found.new;
+    cheaper = found.cheaper;
+    settled = found.settled;
+    records = (refl, ap (λ (y : Tracked). y.bound) b.same, (b.id, nogood_kept u.slots b.id (record { nogood = way_of q t.decisions; forever = true; locked = false }) b.stands));
+    derived = λ id n k. cases id n (b.nogoods id n k);
+    learnt = refl;
+    restarts = refl;
+    last = none;
+  }
+    where
+      cases : (id : ℕ) (n : Nogood) → (nogood_at t.slots id ≡ Some n) ⊎ (n ≡ way_of q t.decisions) → IsDerived t.program gives t.bound (nogood_at t.slots) n ⊎ (n ≡ way_of q t.decisions)
+      cases id n (inl e) = inl (IsDerived.stands id e)
+      cases id n (inr e) = inr e
+
+  pub improves : (ranking : Ranking) → IsFound (view_of mode.Opt t c known last) q S →
+      u ≡ record t { bound = Some (cost t.program S); entries = cut 0 t.entries; decisions = []; ranking = ranking } →
+      Answers gives (view_of mode.Opt t c known last) (view_of mode.Opt u c known last) q f f S
+  improves ranking found e =
+      subst (λ (y : Tracked). Answers gives (view_of mode.Opt t c known last) (view_of mode.Opt y c known last) q f f S) (sym e)
+      (record {
+        program = refl;
+        mode = refl;
+        cube = refl;
+        fuel = refl;
+        stable = found.stable;
+        hit = way_hits (values t.program S) q t.decisions found.hit;
+        new = found.new;
+        cheaper = found.cheaper;
+        settled = found.settled;
+        records = (refl, refl);
+        derived = λ id n k. IsDerived.stands id k;
+        learnt = refl;
+        restarts = refl;
+        last = none;
+      })

@@ -1,0 +1,64 @@
+-- The atoms that are true.
+use Rattle.std.proofs.Common.{◌≡◌, ℕ, ◌+◌, ◌<◌, Bool, true, false, cond, List, ◌∷◌, ◌++◌, filter, length, get_or, take, Option, Some, None, refl, sym, ap, ◌∙◌, arith, add-one, []}
+use Rattle.std.specs.List.{AllByRecursion}
+use Rattle.std.specs.Bool.{beq}
+use Rattle.std.specs.Option.{unwrap_or}
+use Rattle.std.proofs.lemmas.List.{take_all}
+use Rattle.std.proofs.lemmas.List.Elements.{filter_more}
+use Rattle.asp_model.specs.declared.program.Program.{Program}
+use Rattle.asp_model.specs.Sets.{Atoms, IsAscending}
+use Rattle.asp_model.specs.Models.{atoms_of, mentions}
+use Rattle.asp_model.proofs.SetLaws.{IsAscending-set_of}
+use Rattle.asp_vars.specs.Literals.{T, is_true, value_of}
+use Rattle.asp_vars.specs.Numbering.{var_of_atom}
+use Rattle.asp_vars.proofs.PlaceLaws.{var_of_nth_atom}
+use Rattle.asp_settle.specs.Whole.{truths, truth_of}
+use Rattle.asp_settle.proofs.WholeLaws.{truth_at}
+
+-- whether a variable is true
+pub held_is : (a : List (Option Bool)) (v : ℕ) → unwrap_or (value_of a v) false ≡ is_true (truths a) (T v)
+held_is a v = cases (value_of a v) ∙ sym (ap (λ (b : Bool). beq b true) (truth_at a v))
+  where
+    same : (b : Bool) → b ≡ beq b true
+    same true = refl
+    same false = refl
+
+    cases : (o : Option Bool) → unwrap_or o false ≡ beq (truth_of o) true
+    cases None = refl
+    cases (Some b) = same b
+
+-- whether an atom's variable is
+abbrev pub is_held : Program → List (Option Bool) → ℕ → Bool
+is_held p a b = is_true (truths a) (T (var_of_atom p b))
+
+pub held_more : (p : Program) (a : List (Option Bool)) (held new : List ℕ) (i var atom : ℕ) → i < length (atoms_of p) → atom ≡ get_or (atoms_of p) i 0 → var ≡ i + 1 →
+    held ≡ filter (is_held p a) (take i (atoms_of p)) → new ≡ held ++ cond (is_true (truths a) (T var)) (atom ∷ []) [] → new ≡ filter (is_held p a) (take (i + 1) (atoms_of p))
+held_more p a held new i var atom h is v e q =
+    q
+    ∙ (ap (λ (xs : List ℕ). xs ++ cond (is_true (truths a) (T var)) (atom ∷ []) []) e
+    ∙ (ap (λ (x : ℕ). filter (is_held p a) (take i (atoms_of p)) ++ cond (is_true (truths a) (T x)) (atom ∷ []) []) (v ∙ (add-one i ∙ sym (var_of_nth_atom p i h)))
+    ∙ (ap (λ (x : ℕ). filter (is_held p a) (take i (atoms_of p)) ++ cond (is_held p a (get_or (atoms_of p) i 0)) (x ∷ []) []) is
+    ∙ sym (filter_more (is_held p a) (atoms_of p) i 0 h))))
+
+pub held_all : (p : Program) (a : List (Option Bool)) (held : List ℕ) (i : ℕ) → length (atoms_of p) ≡ i → held ≡ filter (is_held p a) (take i (atoms_of p)) → held ≡ filter (is_held p a) (atoms_of p)
+held_all p a held i q e = e ∙ ap (filter (is_held p a)) (take_all i (atoms_of p) (omega (arith, q)))
+
+-- what passes a test ascends as all does
+above : (q : ℕ → Bool) (a : ℕ) (S : Atoms) → AllByRecursion (λ b. a < b) S → AllByRecursion (λ b. a < b) (filter q S)
+above q a [] h = tt
+above q a (b ∷ S) h = cases (q b) (above q a S h.1)
+  where
+    cases : (t : Bool) → AllByRecursion (λ c. a < c) (filter q S) → AllByRecursion (λ c. a < c) (cond t (b ∷ filter q S) (filter q S))
+    cases true rest = (h.0, rest)
+    cases false rest = rest
+
+ascends : (q : ℕ → Bool) (S : Atoms) → IsAscending S → IsAscending (filter q S)
+ascends q [] h = tt
+ascends q (a ∷ S) h = cases (q a) (ascends q S h.1)
+  where
+    cases : (t : Bool) → IsAscending (filter q S) → IsAscending (cond t (a ∷ filter q S) (filter q S))
+    cases true rest = (above q a S h.0, rest)
+    cases false rest = rest
+
+pub held_ascends : (p : Program) (a : List (Option Bool)) → IsAscending (filter (is_held p a) (atoms_of p))
+held_ascends p a = ascends (is_held p a) (atoms_of p) (IsAscending-set_of (mentions p))

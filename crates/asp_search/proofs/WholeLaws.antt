@@ -1,0 +1,105 @@
+-- A trail on which all variables have values, while all is quiet.
+use Rattle.std.proofs.Common.{◌≡◌, ℕ, Bool, true, List, ◌∷◌, Option, Some, refl, sym, ap, ◌∙◌, subst, []}
+use Rattle.asp_model.specs.declared.program.Program.{Program}
+use Rattle.asp_model.specs.declared.results.Mode.{Mode}
+use Rattle.asp_model.specs.Sets.{Atoms}
+use Rattle.asp_model.specs.Models.{is_stable}
+use Rattle.asp_model.proofs.MemberLaws.{each_weaker}
+use Rattle.asp_vars.specs.Literals.{Literal}
+use Rattle.asp_vars.specs.Numbering.{var_count}
+use Rattle.asp_vars.specs.Completion.{completion}
+use Rattle.asp_vars.specs.declared.nogood.Base.TheVariants as base
+use Rattle.asp_vars.specs.declared.nogood.Nogood.{Nogood}
+use Rattle.asp_trail.specs.declared.trail.Entry.{Entry}
+use Rattle.asp_trail.specs.Quiet.{is_calm}
+use Rattle.asp_trail.specs.Trails.{IsOrdered}
+use Rattle.asp_store.specs.Fitting.{HaveReasons}
+use Rattle.asp_store.specs.Keeping.{nogood_at}
+use Rattle.asp_store.specs.Visiting.{AreSmall}
+use Rattle.asp_store.specs.declared.kept.Kept.{Kept}
+use Rattle.asp_choice.specs.Pacing.{Paced}
+use Rattle.asp_choice.specs.Waiting.{AreAssigned}
+use Rattle.asp_settle.specs.Calm.{AreCalm}
+use Rattle.asp_settle.specs.Settling.{KeepsSettled}
+use Rattle.asp_settle.specs.Starts.{AreStarts}
+use Rattle.asp_settle.specs.Whole.{AreBlocked, IsWhole, truths, atoms_on}
+use Rattle.asp_settle.proofs.WholeLaws.{trail_valuation, set_value, whole_way}
+use Rattle.asp_settle.proofs.AnswerLaws.{answer_new, answer_settles}
+use Rattle.asp_follow.specs.Following.{IsQuiet}
+use Rattle.asp_follow.specs.Whole.{KeepsAll}
+use Rattle.asp_follow.specs.Whole as follow
+use Rattle.asp_follow.proofs.UsefulLaws.{useful_settles}
+use Rattle.asp_step.specs.Keeping.{AreUseful, AreBarred}
+use Rattle.asp_step.specs.Searching.{Searching}
+use Rattle.asp_step.proofs.SlotLaws.{nogood_kept}
+use Rattle.asp_track.specs.Tracking.{Tracked, values_of, IsForever, KeepsCompletion}
+use Rattle.asp_search.specs.Invariants.{view_of}
+use Rattle.asp_search.specs.Stepping.{IsFound}
+
+-- What is known where all variables have values.
+pub record IsFull (silent : List (Option Bool) → Type 0) (known : List Atoms) (t : Tracked) (q : List Literal) : Type 0 where
+  pub ordered : IsOrdered (var_count t.program) t.entries
+  pub starts : AreStarts q t.decisions t.entries
+  pub reasons : HaveReasons t.slots t.entries
+  pub small : AreSmall (var_count t.program) t.slots
+  pub completed : KeepsCompletion t.program t.slots
+  pub quiet : IsQuiet silent t.slots (values_of t)
+  pub assigned : AreAssigned (var_count t.program) (values_of t)
+  pub useful : AreUseful t.program known t.bound t.slots
+  pub barred : AreBarred t.program t.slots known
+
+-- each answer that is barred is so by a kept nogood
+pub all_blocked : (p : Program) (slots : List (Option Kept)) (known : List Atoms) → AreBarred p slots known → AreBlocked p (nogood_at slots) known
+all_blocked p slots [] b = tt
+all_blocked p slots (S ∷ known) b = ((b.0.id, b.0.kept.nogood, nogood_kept slots b.0.id b.0.kept b.0.stands, b.0.hit), all_blocked p slots known b.1)
+
+module _ (silent : List (Option Bool) → Type 0) (known : List Atoms) (t : Tracked) (q : List Literal) (f : IsFull silent known t q)
+    (whole : (v : List Bool) → follow.IsWhole t.program (values_of t) v → silent (values_of t) → KeepsAll t.program t.bound v) where
+  -- the completion is calm, since all of it is kept
+  calm_completion : AreCalm (var_count t.program) (completion t.program) t.entries
+  calm_completion =
+      each_weaker (IsForever t.slots) (λ n. is_calm (values_of t) n ≡ true)
+      (λ n c. f.quiet.calm c.id (record { lits = n; base = base.Pure }) (nogood_kept t.slots c.id c.kept c.stands ∙ ap (λ (m : Nogood). Some m) c.nogood))
+      (completion t.program) f.completed
+
+  keeps : KeepsAll t.program t.bound (truths (values_of t))
+  keeps =
+      whole (truths (values_of t))
+      (record {
+        valuation = trail_valuation t.program (var_count t.program) t.entries refl f.ordered;
+        values = λ x v. set_value (values_of t) x (f.assigned x v);
+      })
+      f.quiet.says_nothing
+
+  pub full_whole : IsWhole t.program (var_count t.program) t.entries
+  full_whole = record { counted = refl; ordered = f.ordered; full = f.assigned; calm = calm_completion; weights = keeps.weights }
+
+  settled : KeepsSettled t.program known t.bound (nogood_at t.slots)
+  settled id n k = useful_settles t.program known t.bound n (f.useful id n k)
+
+  pub full_found : (m : Mode) (c : Paced) (last : Option ℕ) → is_stable t.program (atoms_on t.program (var_count t.program) t.entries) ≡ true →
+      IsFound (view_of m t c known last) q (atoms_on t.program (var_count t.program) t.entries)
+  full_found m c last stable = record {
+    stable = stable;
+    hit = whole_way t.program (var_count t.program) t.entries full_whole q t.decisions f.starts;
+    new = answer_new t.program known (var_count t.program) (nogood_at t.slots) t.entries full_whole (all_blocked t.program t.slots known f.barred) f.small f.quiet.calm;
+    cheaper = keeps.cheaper;
+    settled = answer_settles t.program known t.bound (var_count t.program) (nogood_at t.slots) q t.decisions t.entries full_whole f.reasons settled f.starts;
+  }
+
+-- ---- of the program that the code has in its hands
+pub whole_for : (p : Program) (t : Tracked) → p ≡ t.program → IsWhole t.program (var_count t.program) t.entries → IsWhole p (var_count p) t.entries
+whole_for p t e w = subst (λ (x : Program). IsWhole x (var_count x) t.entries) (sym e) w
+
+pub atoms_for : (p : Program) (vars : ℕ) (t : Tracked) (es : List Entry) (S : Atoms) → p ≡ t.program → vars ≡ var_count t.program → es ≡ t.entries → S ≡ atoms_on p vars es →
+    S ≡ atoms_on p (var_count p) t.entries
+atoms_for p vars t es S e v f q =
+    q ∙ (ap (λ (n : ℕ). atoms_on p n es) (v ∙ ap var_count (sym e)) ∙ ap (λ (xs : List Entry). atoms_on p (var_count p) xs) f)
+
+-- the answer that was found, by the set that the code has
+pub found_for : (s : Searching) (q : List Literal) (S T : Atoms) → S ≡ T → IsFound s q T → IsFound s q S
+found_for s q S T e f = subst (IsFound s q) (sym e) f
+
+pub stable_for : (p : Program) (t : Tracked) (S : Atoms) → p ≡ t.program → S ≡ atoms_on p (var_count p) t.entries → is_stable p S ≡ true →
+    is_stable t.program (atoms_on t.program (var_count t.program) t.entries) ≡ true
+stable_for p t S e q h = subst (λ (x : Program). is_stable x (atoms_on x (var_count x) t.entries) ≡ true) e (subst (λ (T : Atoms). is_stable p T ≡ true) q h)

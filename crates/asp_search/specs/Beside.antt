@@ -1,0 +1,60 @@
+-- The calls beside a step.
+use Rattle.std.specs.Prelude.{◌≡◌, nat_le, Bool, true, false, ◌&&◌, not, List, length, map, Option, Some, None, option_and_then, if◌then◌else◌, []}
+use Rattle.asp_model.specs.declared.program.Program.{Program}
+use Rattle.asp_model.specs.declared.results.Mode.{Mode}
+use Rattle.asp_vars.specs.Literals.{Literal}
+use Rattle.asp_vars.specs.Completion.{completion}
+use Rattle.asp_vars.specs.Numbering.{var_count}
+use Rattle.asp_vars.specs.declared.nogood.Base.{Base}
+use Rattle.asp_vars.specs.declared.nogood.Base.TheVariants as base
+use Rattle.asp_vars.specs.declared.nogood.Nogood.{Nogood}
+use Rattle.asp_trail.specs.Entries.{level}
+use Rattle.asp_store.specs.Keeping.{nogood_at}
+use Rattle.asp_choice.specs.Waiting.{fresh}
+use Rattle.asp_step.specs.Searching.{Searching}
+use Rattle.asp_track.specs.Tracking.{forever}
+
+-- a search that knows no answer, has no bound and has entered no path
+abbrev pub new_search : Program → Mode → Searching
+new_search p m = record {
+  program = p;
+  mode = m;
+  cube = None;
+  clashing = false;
+  known = [];
+  bound = None;
+  entries = [];
+  decisions = [];
+  slots = map forever (completion p);
+  ranking = fresh (var_count p);
+  restarts = 0;
+  learnt = 0;
+  last = None;
+}
+
+-- A path is entered, and else nothing has changed but the order.
+pub record Enters (s t : Searching) (q : List Literal) : Type 0 where
+  pub same : t ≡ record s { cube = Some q; clashing = t.clashing; entries = t.entries; decisions = []; ranking = t.ranking; learnt = 0; last = None }
+  pub level : level t.entries ≡ 0
+
+-- No path is entered, and else nothing has changed but the order.
+abbrev pub Leaves : Searching → Searching → Type 0
+Leaves s t = t ≡ record s { cube = None; clashing = t.clashing; entries = t.entries; decisions = []; ranking = t.ranking; last = None }
+
+-- ---- nogoods for others
+abbrev pub is_local : Base → Bool
+is_local base.Pure = false
+is_local (base.Below c) = false
+is_local base.Local = true
+
+-- It counts for other searches, and has no more than 8 literals.
+abbrev pub is_shared : Nogood → Bool
+is_shared n = not (is_local n.base) && nat_le (length n.lits) 8
+
+abbrev pub only_shared : Option Nogood → Option Nogood
+only_shared None = None
+only_shared (Some n) = if is_shared n then Some n else None
+
+-- the nogood that the last step learnt, if others can use it
+abbrev pub exported : Searching → Option Nogood
+exported s = only_shared (option_and_then (λ id. nogood_at s.slots id) s.last)

@@ -1,0 +1,41 @@
+-- What every search keeps.
+use Rattle.std.specs.Prelude.{◌≡◌, ℕ, List, Option, ℤ, []}
+use Rattle.asp_model.specs.declared.program.Program.{Program}
+use Rattle.asp_model.specs.declared.results.Mode.{Mode}
+use Rattle.asp_model.specs.declared.results.Mode.TheVariants as mode
+use Rattle.asp_model.specs.Sets.{Atoms}
+use Rattle.asp_vars.specs.Numbering.{var_count}
+use Rattle.asp_choice.specs.Pacing.{Paced}
+use Rattle.asp_step.specs.Keeping.{AreUseful, AreBarred, AreBars, IsLast}
+use Rattle.asp_step.specs.Searching.{Searching}
+use Rattle.asp_track.specs.Tracking.{Tracked}
+
+-- The track is of the program and the bound, its nogoods count for the search, each answer known is barred by one that is kept forever,
+-- and those that bar one are listed. In an optimisation no answer is known.
+pub record IsSearch (p : Program) (m : Mode) (t : Tracked) (vars : ℕ) (known : List Atoms) (bars : List ℕ) (bound : Option (List ℤ)) (last : Option ℕ) : Type 0 where
+  pub program : p ≡ t.program
+  pub bounded : bound ≡ t.bound
+  pub counted : vars ≡ var_count t.program
+  pub useful : AreUseful t.program known t.bound t.slots
+  pub barred : AreBarred t.program t.slots known
+  pub bars_stand : AreBars t.slots bars
+  pub last_stands : IsLast t.slots last
+  pub alone : m ≡ mode.Opt → known ≡ []
+
+-- what callers see
+abbrev pub view_of : Mode → Tracked → Paced → List Atoms → Option ℕ → Searching
+view_of m t c known last = record {
+  program = t.program;
+  mode = m;
+  cube = t.cube;
+  clashing = t.clashing;
+  known = known;
+  bound = t.bound;
+  entries = t.entries;
+  decisions = t.decisions;
+  slots = t.slots;
+  ranking = t.ranking;
+  restarts = c.restarts;
+  learnt = c.learnt;
+  last = last;
+}

@@ -1,0 +1,5 @@
+pub mod Invariants
+pub mod Meeting
+pub mod Blocking
+pub mod Beside
+pub mod Stepping

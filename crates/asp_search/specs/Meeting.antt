@@ -1,0 +1,49 @@
+-- A violated nogood, and the conflict that it shows.
+use Rattle.std.specs.Prelude.{◌≡◌, ℕ, ◌≤◌, false, List, length, take, Option, Some, None, ℤ, IsSome}
+use Rattle.asp_model.specs.declared.program.Program.{Program}
+use Rattle.asp_model.specs.Sets.{Atoms}
+use Rattle.asp_vars.specs.Literals.{Literal, value_of}
+use Rattle.asp_vars.specs.Numbering.{var_count}
+use Rattle.asp_vars.specs.Completion.{completion}
+use Rattle.asp_vars.specs.Conflicts.{IsConflict}
+use Rattle.asp_vars.specs.Paid.{Clash}
+use Rattle.asp_vars.specs.declared.nogood.Nogood.{Nogood}
+use Rattle.asp_trail.specs.Entries.{level_in}
+use Rattle.asp_trail.specs.Trails.{IsOrdered}
+use Rattle.asp_store.specs.Fitting.{HaveReasons}
+use Rattle.asp_store.specs.Keeping.{nogood_at}
+use Rattle.asp_analyze.specs.declared.learn.Learned.{Learned}
+use Rattle.asp_settle.specs.Calm.{WereCalm}
+use Rattle.asp_settle.specs.Starts.{AreStarts}
+use Rattle.asp_step.specs.Explaining.{Explains}
+use Rattle.asp_step.specs.Keeping.{AreUseful}
+use Rattle.asp_step.specs.Searching.{Searching}
+use Rattle.asp_track.specs.Tracking.{Tracked, values_of}
+
+-- What is known where a violated nogood was analysed.
+pub record IsMet (s : Searching) (q : List Literal) (id : ℕ) (l : Learned) : Type 0 where
+  pub entered : s.cube ≡ Some q
+  pub clear : s.clashing ≡ false
+  pub last : s.last ≡ None
+  pub ordered : IsOrdered (var_count s.program) s.entries
+  pub starts : AreStarts q s.decisions s.entries
+  pub calm : WereCalm (var_count s.program) (completion s.program) s.entries
+  pub reasons : HaveReasons s.slots s.entries
+  pub useful : AreUseful s.program s.known s.bound s.slots
+  pub explains : Explains (var_count s.program) s.slots s.entries id l
+
+-- The nogood under this number shows a conflict of the cube and the decisions up to the literal's level.
+pub record ShowsConflict (p : Program) (known : List Atoms) (bound : Option (List ℤ)) (t : Tracked) (id : ℕ) (lit : Literal) : Type 0 where
+  pub cube : List Literal
+  pub entered : t.cube ≡ Some cube
+  pub from : Nogood
+  pub stands : nogood_at t.slots id ≡ Some from
+  pub small : lit.var ≤ var_count t.program
+  pub has : IsSome (value_of (values_of t) lit.var)
+  pub low : level_in t.entries lit.var ≤ length t.decisions
+  pub conflict : IsConflict p known bound cube (take (level_in t.entries lit.var) t.decisions) from.lits
+
+-- that conflict
+abbrev pub IsClashOf : (p : Program) (known : List Atoms) (bound : Option (List ℤ)) (t : Tracked) (id : ℕ) (lit : Literal) → Clash → Type 0
+IsClashOf p known bound t id lit x = (m : ShowsConflict p known bound t id lit) →
+    x ≡ record { program = p; cube = m.cube; decisions = take (level_in t.entries lit.var) t.decisions; nogood = m.from.lits; known = length known; bound = bound }

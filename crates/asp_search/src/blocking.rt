@@ -1,0 +1,119 @@
+//! How an answer is kept from being found again.
+//!
+//! After an answer the nogood of the cube and the decisions is kept. The answers of the whole subtree below a decision
+//! are found before it is taken back, and each has a nogood that begins with the same literals; the one for the last of
+//! them is the shortest, and says all that they say. So the list of these nogoods is looked at from its end, and those
+//! are dropped that begin with the new one: a search of a million answers keeps as many of them as it has levels.
+ghost use Rattle.std.specs.Prelude.{◌≡◌, ◌≢◌, ◌<◌, ◌≤◌, ℕ, List, Some, false, OnOk, OnErr, Option, IsTrue, IsSome, vec_len, vec_capacity};
+ghost use Rattle.std.specs.List.{All};
+ghost use Rattle.asp_vars.specs.Literals.{Literal};
+ghost use Rattle.asp_vars.specs.declared.nogood.Nogood.{Nogood};
+ghost use Rattle.asp_trail.specs.Entries.{reason_in};
+ghost use Rattle.asp_trail.specs.Trails.{IsVar};
+ghost use Rattle.asp_store.specs.declared.kept.Kept.{Kept};
+ghost use Rattle.asp_store.specs.Keeping.{nogood_at};
+ghost use Rattle.asp_step.specs.Keeping.{AreBars};
+ghost use Rattle.asp_step.specs.Steps.{way_of};
+ghost use Rattle.asp_track.specs.Tracking.{IsUnder};
+ghost use Rattle.asp_search.specs.Blocking.{IsSpare, Drops, Blocks};
+
+use asp_follow::propagator::Propagator;
+use asp_track::track::Track;
+use asp_trail::reasons::{NogoodId, Reasons};
+use asp_trail::trail::Trail;
+use asp_vars::lit::{Lit, Var};
+use std::alloc::{AllocError, Global};
+
+// Whether the nogood implied the variable.
+fn is_implied_by(trail: &Trail, var: Var, id: NogoodId) -> bool
+    requires { IsVar trail.now.vars var }
+    ensures { result ≡ false → reason_in trail.now.entries var ≢ Some id }
+{
+    let _len = trail.len();
+    match trail.value(var) {
+        None => false,
+        Some(_) => trail.reason_of(var) == Some(id),
+    }
+}
+
+// Whether the nogood implied one of its variables.
+fn is_reason(trail: &Trail, lits: &[Lit], id: NogoodId) -> bool
+    requires { All (λ l. IsVar trail.now.vars l.var) lits.now }
+    ensures { result ≡ false → All (λ l. reason_in trail.now.entries l.var ≢ Some id) lits.now }
+{
+    for lit in lits {
+        if is_implied_by(trail, lit.var(), id) {
+            return true;
+        }
+    }
+    false
+}
+
+// Whether the kept nogood begins with these literals and is no reason.
+fn is_spare<P: Propagator>(track: &Track<P>, lits: &[Lit], id: NogoodId) -> bool
+    requires { IsSome (nogood_at track.now.slots id) }
+    ensures { IsTrue result → IsSpare track.now.slots track.now.entries lits.now id }
+{
+    let old = track.store().reason(id).lits.as_slice();
+    if !old.starts_with(lits) {
+        return false;
+    }
+    !is_reason(track.trail(), old, id)
+}
+
+// Drops the newest nogood of the list if it begins with these literals and is no reason. Says whether it was dropped.
+fn drop_last<P: Propagator>(track: &mut Track<P>, bars: &mut Vec<NogoodId>, lits: &[Lit]) -> bool
+    requires { AreBars track.old.slots bars.old.items }
+    ensures bars { AreBars track.new.slots bars.new.items }
+    ensures same { track.new ≡ record track.old { slots = track.new.slots } }
+    ensures drops { (way : Nogood) (id : ℕ) (first : List (Option Kept)) → way.lits ≡ lits.now →
+        Drops way id first track.old.slots bars.old.items → Drops way id first track.new.slots bars.new.items }
+    ensures fewer { IsTrue result → vec_len bars.new < vec_len bars.old }
+    ensures len { vec_len bars.new ≤ vec_len bars.old }
+    ensures room { vec_capacity bars.new ≡ vec_capacity bars.old }
+{
+    let len = bars.len();
+    if len == 0 {
+        return false;
+    }
+    let id = bars[len - 1];
+    if !is_spare(track, lits, id) {
+        return false;
+    }
+    track.remove(id);
+    bars.truncate(len - 1);
+    true
+}
+
+// Drops those that begin with these literals and are no reasons, from the newest on.
+fn drop_all<P: Propagator>(track: &mut Track<P>, bars: &mut Vec<NogoodId>, lits: &[Lit])
+    requires { AreBars track.old.slots bars.old.items }
+    ensures same { track.new ≡ record track.old { slots = track.new.slots } }
+    ensures drops { (way : Nogood) (id : ℕ) (first : List (Option Kept)) → way.lits ≡ lits.now →
+        Drops way id first track.old.slots bars.old.items → Drops way id first track.new.slots bars.new.items }
+    ensures len { vec_len bars.new ≤ vec_len bars.old }
+    ensures room { vec_capacity bars.new ≡ vec_capacity bars.old }
+{
+    while drop_last(track, bars, lits) {}
+}
+
+/// Keeps the nogood of the way to an answer, and goes back one level.
+pub(crate) fn block<P: Propagator>(
+    alloc: Global,
+    track: &mut Track<P>,
+    bars: &mut Vec<NogoodId>,
+) -> Result<(), AllocError>
+    requires path { (q : List Literal) × IsUnder track.old q }
+    requires bars { AreBars track.old.slots bars.old.items }
+    ensures ok { OnOk result ((q : List Literal) → track.old.cube ≡ Some q → Blocks (way_of q track.old.decisions) track.old track.new bars.new.items) }
+    ensures err { OnErr result ((track.new ≡ track.old) × (bars.new.items ≡ bars.old.items)) }
+{
+    let way = track.way(alloc)?;
+    let lits = way.lits.copy()?;
+    bars.reserve(1)?;
+    let id = track.keep(way, true)?;
+    track.undo_to(track.decisions().len().saturating_sub(1));
+    drop_all(track, bars, lits.as_slice());
+    bars.push_reserved(id);
+    Ok(())
+}

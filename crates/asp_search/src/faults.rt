@@ -1,0 +1,106 @@
+//! A trail on which all variables have values: the set of its true atoms, and a nogood that it hits where that isn't
+//! stable.
+ghost use Rattle.std.specs.Prelude.{◌≡◌, ◌+◌, ◌≤◌, ◌∷◌, ◌++◌, ℕ, [], IfOk, OnOk, MatchOption, IsTrue, if◌then◌else◌, length};
+ghost use Rattle.std.specs.List.{All};
+ghost use Rattle.asp_model.specs.Sets.{has};
+ghost use Rattle.asp_model.specs.Models.{atoms_of, is_stable};
+ghost use Rattle.asp_vars.specs.Literals.{T, is_true};
+ghost use Rattle.asp_vars.specs.Numbering.{var_count};
+ghost use Rattle.asp_vars.specs.Unfounded.{is_unfounded};
+ghost use Rattle.asp_trail.specs.Entries.{assignment};
+ghost use Rattle.asp_loop.specs.LoopNogoods.{IsLoopNogood};
+ghost use Rattle.asp_settle.specs.Whole.{IsWhole, truths, atoms_on};
+ghost use Rattle.asp_step.specs.Faults.{IsFault};
+
+use asp_follow::propagator::Propagator;
+use asp_found::check::Verdict;
+use asp_found::found::check;
+use asp_loop::loops::loop_nogood;
+use asp_model::interp::Interp;
+use asp_model::program::Atom;
+use asp_track::track::Track;
+use asp_trail::trail::Trail;
+use asp_vars::assign::Assign;
+use asp_vars::compiled::Compiled;
+use asp_vars::lit::Var;
+use asp_vars::nogood::Nogood;
+use std::alloc::{AllocError, Global};
+
+// Whether the variable is true.
+fn is_held(trail: &Trail, var: Var) -> bool
+    requires { var ≤ trail.now.vars }
+    ensures { result ≡ is_true (truths (assignment trail.now.vars trail.now.entries)) (T var) }
+{
+    trail.value(var).unwrap_or(false)
+}
+
+// Adds an atom whose variable is true.
+fn add_if_held(held: &mut Vec<Atom>, trail: &Trail, atom: Atom, var: Var) -> Result<(), AllocError>
+    requires { var ≤ trail.now.vars }
+    ensures { OnOk result (held.new.items ≡ held.old.items ++ (if is_true (truths (assignment trail.now.vars trail.now.entries)) (T var) then atom ∷ [] else [])) }
+{
+    if !is_held(trail, var) {
+        return Ok(());
+    }
+    held.push(atom)?;
+    Ok(())
+}
+
+/// The set of the atoms that are true on the trail.
+pub(crate) fn true_atoms(
+    alloc: Global,
+    compiled: &Compiled,
+    trail: &Trail,
+) -> Result<Interp, AllocError>
+    requires { trail.now.vars ≡ var_count compiled.now }
+    ensures { IfOk result (λ s. s ≡ atoms_on compiled.now trail.now.vars trail.now.entries) }
+{
+    let _count = compiled.atom_count();
+    let atoms = compiled.atoms().as_slice();
+    let mut held = Vec::new(alloc);
+    for i in 0..atoms.len() {
+        add_if_held(&mut held, trail, atoms[i], i as u32 + 1)?;
+    }
+    Ok(Interp::from_ascending(held))
+}
+
+// The loop nogood of an unfounded set.
+fn unfounded(
+    alloc: Global,
+    compiled: &Compiled,
+    assign: &Assign,
+    set: &[Atom],
+) -> Result<Nogood, AllocError>
+    requires atoms { All (λ a. IsTrue (has (atoms_of compiled.now) a)) set.now }
+    requires unfounded { IsTrue (is_unfounded compiled.now assign.now set.now) }
+    requires vars { length assign.now ≡ var_count compiled.now + 1 }
+    ensures { IfOk result (λ n. (a : ℕ) × IsTrue (has set.now a) × IsLoopNogood compiled.now assign.now set.now a n) }
+{
+    match loop_nogood(alloc, compiled, set, set[0], assign)? {
+        Some(nogood) => Ok(nogood),
+        None => unreachable!(),
+    }
+}
+
+/// A nogood that the set of a whole trail hits, if it isn't stable.
+pub(crate) fn fault<P: Propagator>(
+    alloc: Global,
+    compiled: &Compiled,
+    track: &Track<P>,
+    interp: &Interp,
+) -> Result<Option<Nogood>, AllocError>
+    requires program { track.now.program ≡ compiled.now }
+    requires whole { IsWhole compiled.now (var_count compiled.now) track.now.entries }
+    requires atoms { interp.now ≡ atoms_on compiled.now (var_count compiled.now) track.now.entries }
+    ensures { IfOk result (λ r. MatchOption r (IsTrue (is_stable compiled.now interp.now))
+        (IsFault compiled.now (P.gives compiled.now track.now.bound) (var_count compiled.now) track.now.entries)) }
+{
+    match check(alloc, compiled, interp)? {
+        Verdict::Stable => Ok(None),
+        Verdict::Broken(nogood) => Ok(Some(nogood)),
+        Verdict::Unfounded(set) => {
+            let nogood = unfounded(alloc, compiled, track.trail().assignment(), set.as_slice())?;
+            Ok(Some(nogood))
+        }
+    }
+}

@@ -1,0 +1,218 @@
+//! The search: what it keeps, and the calls beside its step.
+ghost use Rattle.std.specs.Prelude.{◌≡◌, ◌≢◌, ◌∷◌, ◌++◌, [], None, Some, true, false, IfOk, OnOk, OnErr, MatchBool, replicate, slice_get};
+ghost use Rattle.std.specs.List.{All};
+ghost use Rattle.std.specs.Option.{option_copied};
+ghost use Rattle.asp_vars.specs.Entailment.{IsGood};
+ghost use Rattle.asp_vars.specs.Numbering.{var_count};
+ghost use Rattle.asp_vars.specs.declared.nogood.Base.TheVariants as base;
+ghost use Rattle.asp_trail.specs.Trails.{IsVar};
+ghost use Rattle.asp_follow.specs.Useful.{IsSmaller};
+ghost use Rattle.asp_step.specs.Steps.{is_of_use};
+ghost use Rattle.asp_search.specs.Beside.{new_search, Enters, Leaves, is_local, is_shared, exported};
+
+use asp_analyze::learn::Learner;
+use asp_choice::pace::Pace;
+use asp_follow::propagator::Propagator;
+use asp_model::cost::Cost;
+use asp_model::interp::Interp;
+use asp_model::results::Mode;
+use asp_track::track::Track;
+use asp_trail::reasons::{NogoodId, Reasons};
+use asp_vars::compiled::Compiled;
+use asp_vars::lit::Lit;
+use asp_vars::nogood::{Base, Nogood};
+use std::alloc::{AllocError, Global};
+use std::marker::Model;
+
+/// A nogood with more literals isn't handed to other searches.
+pub const LONGEST_EXPORT: usize = 8;
+
+/// A search of a program's answers under a cube, a step at a time.
+#[derive(Drop)]
+pub struct Search<'a, P: Propagator> {
+    pub(crate) alloc: Global,
+    pub(crate) compiled: &'a Compiled,
+    pub(crate) mode: Mode,
+    pub(crate) track: Track<P>,
+    pub(crate) pace: Pace,
+    pub(crate) learner: Learner,
+    pub(crate) known: Vec<Interp>,
+    pub(crate) bars: Vec<NogoodId>,
+    pub(crate) bound: Option<Cost>,
+    pub(crate) last: Option<NogoodId>,
+}
+
+impl<'a, P: Propagator> Model for Search<'a, P> {
+    ghost use Rattle.asp_step.specs.Searching.{Searching};
+    ghost use Rattle.asp_search.specs.Invariants.{IsSearch, view_of};
+
+    ghost Value = { Searching };
+
+    ghost view = { λ s. view_of s.mode s.track s.pace s.known.items s.last };
+
+    ghost invariant = { λ s. IsSearch s.compiled.now s.mode s.track s.learner s.known.items s.bars.items s.bound s.last };
+}
+
+// Whether a nogood of this base counts for a search, whatever answers it knows.
+fn is_of_use(mode: Mode, bound: &Option<Cost>, base: &Base) -> bool
+    ensures { result ≡ is_of_use mode bound.now base.now }
+{
+    match base {
+        Base::Pure => true,
+        Base::Local => false,
+        Base::Below(cost) => is_reached(mode, bound, cost),
+    }
+}
+
+// Whether the bound of an optimisation has reached the cost.
+fn is_reached(mode: Mode, bound: &Option<Cost>, cost: &Cost) -> bool
+    ensures { result ≡ is_of_use mode bound.now (base.Below cost.now) }
+{
+    match (mode, bound) {
+        (Mode::Opt, Some(bound)) => !(cost < bound),
+        _ => false,
+    }
+}
+
+fn is_local(base: &Base) -> bool
+    ensures { result ≡ is_local base.now }
+{
+    match base {
+        Base::Local => true,
+        Base::Pure | Base::Below(_) => false,
+    }
+}
+
+// Whether other searches can use the nogood.
+fn is_shared(nogood: &Nogood) -> bool
+    ensures { result ≡ is_shared nogood.now }
+{
+    !is_local(&nogood.base) && nogood.lits.as_slice().len() <= LONGEST_EXPORT
+}
+
+impl<'a, P: Propagator> Search<'a, P> {
+    /// A search that knows no answer, has no bound and has entered no path.
+    pub fn new(
+        alloc: Global,
+        compiled: &'a Compiled,
+        mode: Mode,
+        propagator: P,
+    ) -> Result<Search<'a, P>, AllocError>
+        requires program { (P.told propagator).program ≡ compiled.now }
+        requires fresh { (P.told propagator).values ≡ replicate (var_count compiled.now + 1) None }
+        requires unbounded { P.bound propagator ≡ None }
+        ensures { IfOk result (λ s. s ≡ new_search compiled.now mode) }
+    {
+        let vars = compiled.vars();
+        let _program = compiled.program();
+        let track = Track::new(alloc, compiled, propagator)?;
+        let learner = Learner::new(alloc, vars)?;
+        Ok(Search {
+            alloc,
+            compiled,
+            mode,
+            track,
+            pace: Pace::new(),
+            learner,
+            known: Vec::new(alloc),
+            bars: Vec::new(alloc),
+            bound: None,
+            last: None,
+        })
+    }
+
+    /// Leaves the path, if one is entered.
+    pub(crate) fn leave(&mut self)
+        ensures { Leaves self.old self.new }
+    {
+        self.track.leave();
+        self.last = None;
+    }
+
+    /// Begins a path: all literals of the cube are to hold. After want of memory no path is entered.
+    pub fn enter(&mut self, cube: &[Lit]) -> Result<(), AllocError>
+        requires { All (λ l. IsVar (var_count self.old.program) l.var) cube.now }
+        ensures ok { OnOk result (Enters self.old self.new cube.now) }
+        ensures err { OnErr result (Leaves self.old self.new) }
+    {
+        self.last = None;
+        self.track.enter(self.alloc, cube)?;
+        self.pace.begin();
+        Ok(())
+    }
+
+    /// From now on only answers that cost less are sought. After want of memory no path is entered.
+    pub fn set_bound(&mut self, cost: Cost) -> Result<(), AllocError>
+        requires { IsSmaller cost self.old.bound }
+        ensures ok { OnOk result (self.new ≡ record self.old { bound = Some cost }) }
+        ensures err { OnErr result (Leaves self.old self.new) }
+    {
+        match cost.copy() {
+            Ok(copy) => {
+                self.track.set_bound(copy);
+                self.bound = Some(cost);
+                Ok(())
+            }
+            Err(error) => {
+                self.leave();
+                Err(error)
+            }
+        }
+    }
+
+    // Keeps another search's nogood.
+    fn keep(&mut self, nogood: &Nogood) -> Result<(), AllocError>
+        requires vars { All (λ l. IsVar (var_count self.old.program) l.var) nogood.now.lits }
+        requires good { IsGood self.old.program self.old.known self.old.bound nogood.now }
+        requires useful { is_of_use self.old.mode self.old.bound nogood.now.base ≡ true }
+        ensures ok { OnOk result (self.new ≡ record self.old { slots = self.old.slots ++ Some (record { nogood = nogood.now; forever = false; locked = false }) ∷ [] }) }
+        ensures err { OnErr result (self.new ≡ self.old) }
+    {
+        let _mode = self.mode;
+        let copy = nogood.copy()?;
+        self.track.keep(copy, false)?;
+        Ok(())
+    }
+
+    /// Keeps a nogood that another search found. False where it doesn't count for this one: it is local, or below a
+    /// cost that no bound of an optimisation has reached. After want of memory no path is entered.
+    pub fn import(&mut self, nogood: &Nogood) -> Result<bool, AllocError>
+        requires vars { All (λ l. IsVar (var_count self.old.program) l.var) nogood.now.lits }
+        requires good { nogood.now.base ≢ base.Local → IsGood self.old.program self.old.known self.old.bound nogood.now }
+        ensures counts { IfOk result (λ b. b ≡ is_of_use self.old.mode self.old.bound nogood.now.base) }
+        ensures ok { IfOk result (λ b. MatchBool b (self.new ≡ record self.old { slots = self.old.slots ++ Some (record { nogood = nogood.now; forever = false; locked = false }) ∷ [] })
+            (self.new ≡ self.old)) }
+        ensures err { OnErr result (Leaves self.old self.new) }
+    {
+        if !is_of_use(self.mode, &self.bound, &nogood.base) {
+            return Ok(false);
+        }
+        match self.keep(nogood) {
+            Ok(()) => Ok(true),
+            Err(error) => {
+                self.leave();
+                Err(error)
+            }
+        }
+    }
+
+    /// The nogood that the last step learnt, if it has at most 8 literals and isn't local.
+    pub fn export(&self) -> Option<&Nogood>
+        ensures { option_copied result ≡ exported self.now }
+    {
+        let _mode = self.mode;
+        let nogood = self.track.store().reason(self.last?);
+        if is_shared(nogood) {
+            Some(nogood)
+        } else {
+            None
+        }
+    }
+
+    /// The first decision, if one stands.
+    pub fn first(&self) -> Option<Lit>
+        ensures { result ≡ slice_get self.now.decisions 0 }
+    {
+        self.track.decisions().first().copied()
+    }
+}

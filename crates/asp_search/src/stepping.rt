@@ -1,0 +1,248 @@
+//! One step of the search.
+//!
+//! A stable model that hits the cube and the decisions, and isn't known nor too dear, hits each entry of the trail in
+//! turn: a reason whose other literals are hit can't be hit whole. So it hits a violated nogood, and there is none: a
+//! conflict is settled. On a whole trail it is the set of the true atoms. A known answer hits a kept nogood, and none is
+//! violated when an answer is found: that is another set.
+ghost use Rattle.std.specs.Prelude.{◌≡◌, ◌+◌, ◌-◌, ◌^◌, List, [], None, Some, min, IfOk, OnOk, OnErr, IsSome, IsTrue};
+ghost use Rattle.asp_model.specs.declared.results.Mode.TheVariants as mode;
+ghost use Rattle.asp_vars.specs.Literals.{Literal};
+ghost use Rattle.asp_vars.specs.Numbering.{var_count};
+ghost use Rattle.asp_vars.specs.Paid.{Units};
+ghost use Rattle.asp_trail.specs.Entries.{cut};
+ghost use Rattle.asp_store.specs.Walking.{IsViolated};
+ghost use Rattle.asp_choice.specs.Waiting.{AreAssigned};
+ghost use Rattle.asp_follow.specs.Following.{IsQuiet};
+ghost use Rattle.asp_step.specs.Searching.{values_now};
+ghost use Rattle.asp_step.specs.Steps.{Answers, IsDue, IsStep, IsFailure};
+ghost use Rattle.asp_analyze.specs.declared.learn.Learned.TheVariants as learned;
+ghost use Rattle.asp_search.specs.Meeting.{IsMet};
+ghost use Rattle.asp_search.specs.Stepping.{IsEntered, IsFound, MayReduce};
+
+use crate::blocking::block;
+use crate::conflicts::{conflict, jump, learn};
+use crate::faults::{fault, true_atoms};
+use crate::search::Search;
+use asp_analyze::learn::Learned;
+use asp_choice::pace::Pace;
+use asp_follow::propagator::Propagator;
+use asp_model::cost::cost_of;
+use asp_model::interp::Interp;
+use asp_model::results::Mode;
+use asp_step::step::Step;
+use asp_track::track::Track;
+use asp_trail::reasons::NogoodId;
+use asp_vars::fuel::Fuel;
+use asp_vars::lit::Lit;
+use asp_vars::nogood::Nogood;
+use std::alloc::AllocError;
+
+// Whether a restart is due, and would take something back.
+fn is_due<P: Propagator>(pace: &Pace, track: &Track<P>) -> bool
+    ensures { IsTrue result → IsDue pace.now.restarts pace.now.learnt }
+{
+    if track.trail().level() == 0 {
+        return false;
+    }
+    pace.is_due()
+}
+
+// Drops nogoods where too many are kept.
+fn reduce<P: Propagator>(track: &mut Track<P>, pace: &mut Pace)
+    ensures same { track.new ≡ record track.old { slots = track.new.slots } }
+    ensures reduced { MayReduce track.old.entries track.old.slots track.new.slots }
+    ensures restarts { pace.new.restarts ≡ pace.old.restarts }
+    ensures learnt { pace.new.learnt ≡ pace.old.learnt }
+{
+    if !pace.is_full(track.store().extra()) {
+        return;
+    }
+    track.reduce();
+    pace.reduced();
+}
+
+impl<'a, P: Propagator> Search<'a, P> {
+    // Burns a unit for the conflict that a nogood shows, and keeps what was learnt from it.
+    fn pay(
+        &mut self,
+        id: NogoodId,
+        nogood: Nogood,
+        to: usize,
+        lit: Lit,
+        fuel: &mut Fuel,
+    ) -> Result<Step, AllocError>
+        requires met { (q : List Literal) × IsMet self.old q id (learned.Jump nogood to lit) }
+        requires program { fuel.old.program ≡ self.old.program }
+        ensures ok { IfOk result (IsStep (P.gives self.old.program self.old.bound) (P.silent self.old.program self.old.bound) self.old self.new fuel.old fuel.new) }
+        ensures err { OnErr result (IsFailure (P.gives self.old.program self.old.bound) self.old self.new fuel.old fuel.new) }
+    {
+        let conflict = conflict(
+            self.alloc,
+            self.compiled,
+            &self.track,
+            self.known.as_slice(),
+            &self.bound,
+            id,
+            lit,
+        )?;
+        if fuel.left() == 0 {
+            return Ok(Step::NoFuel(conflict));
+        }
+        fuel.burn(conflict);
+        self.pace.count();
+        let new = jump(&mut self.track, nogood, to, lit)?;
+        self.last = Some(new);
+        Ok(Step::Learnt)
+    }
+
+    // Learns from a violated nogood.
+    fn meet(&mut self, id: NogoodId, fuel: &mut Fuel) -> Result<Step, AllocError>
+        requires entered { (q : List Literal) × IsEntered self.old q }
+        requires program { fuel.old.program ≡ self.old.program }
+        requires violated { IsViolated (var_count self.old.program) self.old.slots self.old.entries id }
+        ensures ok { IfOk result (IsStep (P.gives self.old.program self.old.bound) (P.silent self.old.program self.old.bound) self.old self.new fuel.old fuel.new) }
+        ensures err { OnErr result (IsFailure (P.gives self.old.program self.old.bound) self.old self.new fuel.old fuel.new) }
+    {
+        let _trail = self.track.trail();
+        let _store = self.track.store();
+        match learn(&mut self.learner, &self.track, id)? {
+            Learned::InCube(_) => Ok(Step::Closed),
+            Learned::Jump { nogood, level, lit } => self.pay(id, nogood, level, lit, fuel),
+        }
+    }
+
+    // In an enumeration the answer is known from now on.
+    fn list(&mut self, interp: &Interp) -> Result<(), AllocError>
+        requires mode { self.old.mode ≡ mode.Enum }
+        requires found { (q : List Literal) × IsEntered self.old q × IsFound self.old q interp.now }
+        ensures ok { OnOk result ((q : List Literal) (f : Units) → self.old.cube ≡ Some q → Answers (P.gives self.old.program self.old.bound) self.old self.new q f f interp.now) }
+        ensures err { OnErr result (self.new ≡ self.old) }
+    {
+        let copy = interp.copy()?;
+        self.known.reserve(1)?;
+        block(self.alloc, &mut self.track, &mut self.bars)?;
+        self.known.push_reserved(copy);
+        Ok(())
+    }
+
+    // In an optimisation its cost is the bound from now on.
+    fn improve(&mut self, interp: &Interp) -> Result<(), AllocError>
+        requires mode { self.old.mode ≡ mode.Opt }
+        requires found { (q : List Literal) × IsEntered self.old q × IsFound self.old q interp.now }
+        ensures ok { OnOk result ((q : List Literal) (f : Units) → self.old.cube ≡ Some q → Answers (P.gives self.old.program self.old.bound) self.old self.new q f f interp.now) }
+        ensures err { OnErr result (self.new ≡ self.old) }
+    {
+        let cost = cost_of(self.alloc, self.compiled.program(), interp)?;
+        let copy = cost.copy()?;
+        self.track.set_bound(copy);
+        self.bound = Some(cost);
+        self.track.undo_to(0);
+        Ok(())
+    }
+
+    fn answer(&mut self, interp: &Interp) -> Result<(), AllocError>
+        requires { (q : List Literal) × IsEntered self.old q × IsFound self.old q interp.now }
+        ensures ok { OnOk result ((q : List Literal) (f : Units) → self.old.cube ≡ Some q → Answers (P.gives self.old.program self.old.bound) self.old self.new q f f interp.now) }
+        ensures err { OnErr result (self.new ≡ self.old) }
+    {
+        match self.mode {
+            Mode::Enum => self.list(interp),
+            Mode::Opt => self.improve(interp),
+        }
+    }
+
+    // All variables have values.
+    fn complete(&mut self, fuel: &mut Fuel) -> Result<Step, AllocError>
+        requires entered { (q : List Literal) × IsEntered self.old q }
+        requires program { fuel.old.program ≡ self.old.program }
+        requires quiet { IsQuiet (P.silent self.old.program self.old.bound) self.old.slots (values_now self.old) }
+        requires assigned { AreAssigned (var_count self.old.program) (values_now self.old) }
+        ensures ok { IfOk result (IsStep (P.gives self.old.program self.old.bound) (P.silent self.old.program self.old.bound) self.old self.new fuel.old fuel.new) }
+        ensures err { OnErr result (IsFailure (P.gives self.old.program self.old.bound) self.old self.new fuel.old fuel.new) }
+    {
+        let _program = self.compiled.program();
+        let _store = self.track.store();
+        let interp = true_atoms(self.alloc, self.compiled, self.track.trail())?;
+        match fault(self.alloc, self.compiled, &self.track, &interp)? {
+            None => {
+                self.answer(&interp)?;
+                Ok(Step::Answer(interp))
+            }
+            Some(nogood) => {
+                let id = self.track.keep(nogood, false)?;
+                self.meet(id, fuel)
+            }
+        }
+    }
+
+    // Takes all decisions back, and drops nogoods where too many are kept.
+    fn restart(&mut self)
+        ensures same { self.new ≡ record self.old {
+          entries = cut 0 self.old.entries;
+          decisions = [];
+          slots = self.new.slots;
+          ranking = self.new.ranking;
+          restarts = min (self.old.restarts + 1) (2 ^ 64 - 1);
+          learnt = 0;
+        } }
+        ensures reduced { MayReduce (cut 0 self.old.entries) self.old.slots self.new.slots }
+    {
+        self.track.undo_to(0);
+        self.pace.restarted();
+        reduce(&mut self.track, &mut self.pace);
+    }
+
+    // No conflict: goes on.
+    fn go_on(&mut self, fuel: &mut Fuel) -> Result<Step, AllocError>
+        requires entered { (q : List Literal) × IsEntered self.old q }
+        requires program { fuel.old.program ≡ self.old.program }
+        requires quiet { IsQuiet (P.silent self.old.program self.old.bound) self.old.slots (values_now self.old) }
+        ensures ok { IfOk result (IsStep (P.gives self.old.program self.old.bound) (P.silent self.old.program self.old.bound) self.old self.new fuel.old fuel.new) }
+        ensures err { OnErr result (IsFailure (P.gives self.old.program self.old.bound) self.old self.new fuel.old fuel.new) }
+    {
+        if is_due(&self.pace, &self.track) {
+            self.restart();
+            return Ok(Step::Restarted);
+        }
+        match self.track.decide()? {
+            Some(_) => Ok(Step::Decided),
+            None => self.complete(fuel),
+        }
+    }
+
+    fn advance(&mut self, fuel: &mut Fuel) -> Result<Step, AllocError>
+        requires entered { IsSome self.old.cube }
+        requires program { fuel.old.program ≡ self.old.program }
+        ensures ok { IfOk result (IsStep (P.gives self.old.program self.old.bound) (P.silent self.old.program self.old.bound) self.old self.new fuel.old fuel.new) }
+        ensures err { OnErr result (IsFailure (P.gives self.old.program self.old.bound) self.old self.new fuel.old fuel.new) }
+    {
+        let _program = self.compiled.program();
+        self.last = None;
+        if self.track.is_clashing() {
+            return Ok(Step::Closed);
+        }
+        match self.track.propagate()? {
+            Some(id) => self.meet(id, fuel),
+            None => self.go_on(fuel),
+        }
+    }
+
+    /// Goes on until something is decided, learnt or found.
+    ///
+    /// Want of memory is the one error: then no path is entered, and one unit may be burnt.
+    pub fn step(&mut self, fuel: &mut Fuel) -> Result<Step, AllocError>
+        requires entered { IsSome self.old.cube }
+        requires program { fuel.old.program ≡ self.old.program }
+        ensures ok { IfOk result (IsStep (P.gives self.old.program self.old.bound) (P.silent self.old.program self.old.bound) self.old self.new fuel.old fuel.new) }
+        ensures err { OnErr result (IsFailure (P.gives self.old.program self.old.bound) self.old self.new fuel.old fuel.new) }
+        ensures lost { OnErr result (self.new.cube ≡ None) }
+    {
+        match self.advance(fuel) {
+            Ok(step) => Ok(step),
+            Err(error) => {
+                self.leave();
+                Err(error)
+            }
+        }
+    }
+}

@@ -1,0 +1,6 @@
+pub mod UsefulLaws
+pub mod SlotLaws
+pub mod DerivedLaws
+pub mod JumpLaws
+pub mod StepLaws
+pub mod FaultLaws
