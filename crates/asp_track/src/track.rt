@@ -22,7 +22,7 @@ ghost use Rattle.asp_choice.specs.Waiting.{fresh, learnt, AreAssigned, IsFuller,
 ghost use Rattle.asp_follow.specs.Useful.{IsSmaller};
 ghost use Rattle.asp_follow.specs.Locking.{thinned};
 ghost use Rattle.asp_follow.specs.Following.{Adds, AreCalm, Implies, IsImplied, IsQuiet, IsReduced};
-ghost use Rattle.asp_track.specs.Tracking.{forever, path_of, values_of, AreOf, Clashes, IsBegun, IsUnder};
+ghost use Rattle.asp_track.specs.Tracking.{forever, path_of, values_of, AreOf, Clashes, IsBegun, IsUnder, KeepsCompletion};
 
 use crate::assume::assume_all;
 use crate::completed::completed;
@@ -163,6 +163,7 @@ impl<P: Propagator> Track<P> {
         ensures slots { result.now.slots ≡ self.now.slots }
         ensures reasons { HaveReasons self.now.slots self.now.entries }
         ensures small { AreSmall (var_count self.now.program) self.now.slots }
+        ensures completed { KeepsCompletion self.now.program self.now.slots }
     {
         let _extra = self.path.store().extra();
         self.path.store()

@@ -3,7 +3,7 @@ use Rattle.asp_vars.specs.Numbering.{var_count}
 use Rattle.asp_store.specs.declared.kept.Kept.{Kept}
 use Rattle.asp_store.specs.Fitting.{HaveReasons}
 use Rattle.asp_store.specs.Visiting.{AreSmall}
-use Rattle.asp_track.specs.Tracking.{Tracked}
+use Rattle.asp_track.specs.Tracking.{Tracked, KeepsCompletion}
 use Rattle.asp_track.proofs.track.Track.store.Goals as goal
 
 pub returns-clause-reasons : goal.returns-clause-reasons
@@ -13,3 +13,6 @@ pub returns-clause-small : goal.returns-clause-small
 returns-clause-small g c =
     subst (λ (t : Tracked). AreSmall (var_count t.program) t.slots) c.self.view_is
     (subst (λ (n : ℕ). AreSmall n c.self.inside.path.slots) c.store.ensures.vars (subst (λ (xs : List (Option Kept)). AreSmall c.store.result.now.vars xs) c.store.ensures.slots c.extra-extra.ensures.small))
+
+pub returns-clause-completed : goal.returns-clause-completed
+returns-clause-completed g c = subst (λ (t : Tracked). KeepsCompletion t.program t.slots) c.self.view_is c.self.invariant.completed
