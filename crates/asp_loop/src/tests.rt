@@ -1,5 +1,5 @@
-//! Loop nogoods of worked programs.
-ghost use Rattle.std.specs.Prelude.{◌≡◌, ◌+◌, All, IfOk, IsTrue, length};
+//! Loop nogoods of worked programs. Want of memory ends a test.
+ghost use Rattle.std.specs.Prelude.{◌≡◌, ◌+◌, All, IsTrue, length};
 ghost use Rattle.asp_model.specs.Sets.{has};
 ghost use Rattle.asp_model.specs.Models.{atoms_of};
 
@@ -11,58 +11,65 @@ use asp_vars::compile::compile;
 use asp_vars::compiled::Compiled;
 use asp_vars::lit::Lit;
 use asp_vars::nogood::Nogood;
-use std::alloc::{AllocError, Global};
+use std::alloc::Global;
 use std::process::Abort;
-use std::test::Fail;
 
-// A rule for an atom, which is chosen freely or follows, where these literals hold.
-fn rule(alloc: Global, atom: Atom, is_free: bool, literals: &[i32]) -> Result<Rule, AllocError> {
-    let body = Body::All(Seq::from_vec(literals.to_vec(alloc)?));
+fn seq<T: Copy>(rt: &impl Abort, alloc: Global, items: &[T]) -> Seq<T> {
+    Seq::from_vec(items.to_vec(alloc).expect(rt, "memory"))
+}
+
+// The atom is chosen freely or follows.
+fn head(rt: &impl Abort, alloc: Global, atom: Atom, is_free: bool) -> Head {
     if is_free {
-        let atoms = Seq::from_vec([atom].to_vec(alloc)?);
-        Ok(Rule {
-            head: Head::Choice(atoms),
-            body,
-        })
+        Head::Choice(seq(rt, alloc, &[atom]))
     } else {
-        Ok(Rule {
-            head: Head::One(atom),
-            body,
-        })
+        Head::One(atom)
     }
 }
 
 // Atom 1 where these weights reach 2, unless there are none.
-fn add_weights(
-    alloc: Global,
-    rules: &mut Vec<Rule>,
-    weights: &[(i32, i32)],
-) -> Result<(), AllocError> {
-    if weights.is_empty() {
-        return Ok(());
+fn add_weights(rt: &impl Abort, alloc: Global, rules: &mut Vec<Rule>, weights: &[(i32, i32)]) {
+    if !weights.is_empty() {
+        let rule = Rule {
+            head: Head::One(1),
+            body: Body::AtLeast(2, seq(rt, alloc, weights)),
+        };
+        rules.push(rule).expect(rt, "memory");
     }
-    let items = Seq::from_vec(weights.to_vec(alloc)?);
-    rules.push(Rule {
-        head: Head::One(1),
-        body: Body::AtLeast(2, items),
-    })?;
-    Ok(())
 }
 
+// A rule for an atom, which is chosen freely or follows, where these literals hold.
+fn add_rule(
+    rt: &impl Abort,
+    alloc: Global,
+    rules: &mut Vec<Rule>,
+    atom: Atom,
+    is_free: bool,
+    literals: &[i32],
+) {
+    let rule = Rule {
+        head: head(rt, alloc, atom, is_free),
+        body: Body::All(seq(rt, alloc, literals)),
+    };
+    rules.push(rule).expect(rt, "memory");
+}
+
+// These weights, and a rule for each further row.
 fn rules(
+    rt: &impl Abort,
     alloc: Global,
     weights: &[(i32, i32)],
     others: &[(Atom, bool, &[i32])],
-) -> Result<Vec<Rule>, AllocError> {
+) -> Vec<Rule> {
     let mut rules = Vec::new(alloc);
-    add_weights(alloc, &mut rules, weights)?;
+    add_weights(rt, alloc, &mut rules, weights);
     for (atom, is_free, literals) in others {
-        rules.push(rule(alloc, *atom, *is_free, literals)?)?;
+        add_rule(rt, alloc, &mut rules, *atom, *is_free, literals);
     }
-    Ok(rules)
+    rules
 }
 
-fn compiled(rt: &impl Abort, alloc: Global, rules: Vec<Rule>) -> Result<Compiled, AllocError> {
+fn compiled(rt: &impl Abort, alloc: Global, rules: Vec<Rule>) -> Compiled {
     let program = Program {
         rules: Seq::from_vec(rules),
         minimize: Seq::from_vec(Vec::new(alloc)),
@@ -71,23 +78,18 @@ fn compiled(rt: &impl Abort, alloc: Global, rules: Vec<Rule>) -> Result<Compiled
         assumptions: Seq::from_vec(Vec::new(alloc)),
     };
     assert!(rt; program.is_sound());
-    compile(alloc, program)
+    compile(alloc, program).expect(rt, "memory")
 }
 
-fn assigned(
-    rt: &impl Abort,
-    alloc: Global,
-    vars: u32,
-    held: &[(u32, bool)],
-) -> Result<Assign, AllocError>
-    ensures { IfOk result (λ a. length a ≡ vars + 1) }
+fn assigned(rt: &impl Abort, alloc: Global, vars: u32, held: &[(u32, bool)]) -> Assign
+    ensures { length result ≡ vars + 1 }
 {
-    let mut assign = Assign::new(alloc, vars)?;
+    let mut assign = Assign::new(alloc, vars).expect(rt, "memory");
     for (var, truth) in held {
         assert!(rt; *var <= vars && *var < 100);
         assign.set(Lit::new(*var, *truth));
     }
-    Ok(assign)
+    assign
 }
 
 fn all_stand(rt: &impl Abort, compiled: &Compiled, atoms: &[Atom])
@@ -105,11 +107,11 @@ fn found(
     compiled: &Compiled,
     set: &[Atom],
     held: &[(u32, bool)],
-) -> Result<Option<Nogood>, AllocError> {
-    let assign = assigned(rt, alloc, compiled.vars(), held)?;
+) -> Option<Nogood> {
+    let assign = assigned(rt, alloc, compiled.vars(), held);
     all_stand(rt, compiled, set);
     assert!(rt; set.contains(&1));
-    loop_nogood(alloc, compiled, set, 1, &assign)
+    loop_nogood(alloc, compiled, set, 1, &assign).expect(rt, "memory")
 }
 
 // The nogood has these literals; where none are given there is no nogood.
@@ -128,7 +130,7 @@ fn has_lits(rt: &impl Abort, found: Option<Nogood>, expected: &[(u32, bool)]) {
 
 // a1 <- a2. a2 <- a1. { a3 }. a1 <- a3. The last body is the variable 7.
 #[test]
-fn supported_loop(rt: HostRuntime) -> Result<(), Fail> {
+fn supported_loop(rt: HostRuntime) {
     let alloc = rt.alloc();
     let others: [(Atom, bool, &[i32]); 4] = [
         (1, false, &[2]),
@@ -136,43 +138,33 @@ fn supported_loop(rt: HostRuntime) -> Result<(), Fail> {
         (3, true, &[]),
         (1, false, &[3]),
     ];
-    let compiled = compiled(&rt, alloc, rules(alloc, &[], &others)?)?;
-    let lacking = found(&rt, alloc, &compiled, &[1, 2], &[(3, false), (7, false)])?;
+    let compiled = compiled(&rt, alloc, rules(&rt, alloc, &[], &others));
+    let lacking = found(&rt, alloc, &compiled, &[1, 2], &[(3, false), (7, false)]);
     has_lits(&rt, lacking, &[(1, true), (7, false)]);
-    let supported = found(&rt, alloc, &compiled, &[1, 2], &[(3, true), (7, true)])?;
+    let supported = found(&rt, alloc, &compiled, &[1, 2], &[(3, true), (7, true)]);
     has_lits(&rt, supported, &[]);
-    Ok(())
 }
 
 // a1 <- 2 { a1 = 2, a2 = 1 }. { a2 }.
 #[test]
-fn own_weight(rt: HostRuntime) -> Result<(), Fail> {
+fn own_weight(rt: HostRuntime) {
     let alloc = rt.alloc();
-    let compiled = compiled(
-        &rt,
-        alloc,
-        rules(alloc, &[(1, 2), (2, 1)], &[(2, true, &[])])?,
-    )?;
-    let nogood = found(&rt, alloc, &compiled, &[1], &[])?;
-    has_lits(&rt, nogood, &[(1, true)]);
-    Ok(())
+    let rules = rules(&rt, alloc, &[(1, 2), (2, 1)], &[(2, true, &[])]);
+    let compiled = compiled(&rt, alloc, rules);
+    has_lits(&rt, found(&rt, alloc, &compiled, &[1], &[]), &[(1, true)]);
 }
 
 // a1 <- 2 { a1 = 2, a2 = 1, a3 = 1 }. { a2 }. { a3 }. The weight body is the variable 4.
 #[test]
-fn weights_outside(rt: HostRuntime) -> Result<(), Fail> {
+fn weights_outside(rt: HostRuntime) {
     let alloc = rt.alloc();
     let weights = [(1, 2), (2, 1), (3, 1)];
-    let compiled = compiled(
-        &rt,
-        alloc,
-        rules(alloc, &weights, &[(2, true, &[]), (3, true, &[])])?,
-    )?;
-    let reached = found(&rt, alloc, &compiled, &[1], &[])?;
+    let rules = rules(&rt, alloc, &weights, &[(2, true, &[]), (3, true, &[])]);
+    let compiled = compiled(&rt, alloc, rules);
+    let reached = found(&rt, alloc, &compiled, &[1], &[]);
     has_lits(&rt, reached, &[]);
-    let lacking = found(&rt, alloc, &compiled, &[1], &[(2, false)])?;
+    let lacking = found(&rt, alloc, &compiled, &[1], &[(2, false)]);
     has_lits(&rt, lacking, &[(1, true), (2, false)]);
-    let failing = found(&rt, alloc, &compiled, &[1], &[(2, false), (4, false)])?;
+    let failing = found(&rt, alloc, &compiled, &[1], &[(2, false), (4, false)]);
     has_lits(&rt, failing, &[(1, true), (4, false)]);
-    Ok(())
 }
