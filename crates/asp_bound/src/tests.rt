@@ -1,7 +1,7 @@
 //! Each call, on a program whose answers were worked out by hand.
 //!
 //! The program is `{ a1; a2 }.` At priority 2 its atoms cost 1 and 2, at priority 1 they cost 1 and -1.
-ghost use Rattle.std.specs.Prelude.{◌≡◌, ◌≤◌, [], None, IfOk, OnOk};
+ghost use Rattle.std.specs.Prelude.{◌≡◌, ◌≤◌, [], None, Some, IfOk, OnOk, slice_set};
 ghost use Rattle.asp_vars.specs.Literals.{value_of};
 ghost use Rattle.asp_vars.specs.Numbering.{var_count};
 ghost use Rattle.asp_trail.specs.Entries.{assignment};
@@ -65,7 +65,7 @@ fn begin(alloc: Global, compiled: &Compiled) -> Result<(Trail, Bound), AllocErro
     ensures none { IfOk result (λ r. r.0.entries ≡ []) }
     ensures room { IfOk result (λ r. r.0.vars ≤ r.0.room) }
     ensures count { IfOk result (λ r. var_count r.1.told.program ≡ r.0.vars) }
-    ensures told { IfOk result (λ r. r.1.told.values ≡ assignment r.0.vars []) }
+    ensures told { IfOk result (λ r. r.1.told.values ≡ assignment r.0.vars r.0.entries) }
     ensures bound { IfOk result (λ r. r.1.bound ≡ None) }
 {
     let trail = roomy(alloc, compiled.vars())?;
@@ -128,11 +128,10 @@ fn ask(
 // The literal gets to hold, where it may.
 fn hold(rt: &impl Abort, trail: &mut Trail, bound: &mut Bound, lit: Lit)
     requires var { IsVar trail.old.vars lit.var }
-    requires none { trail.old.entries ≡ [] }
     requires room { trail.old.vars ≤ trail.old.room }
     requires count { var_count bound.old.told.program ≡ trail.old.vars }
-    requires told { bound.old.told.values ≡ assignment trail.old.vars [] }
-    ensures same { trail.new.vars ≡ trail.old.vars }
+    requires told { bound.old.told.values ≡ assignment trail.old.vars trail.old.entries }
+    ensures vars { trail.new.vars ≡ trail.old.vars }
     ensures none { value_of bound.old.told.values lit.var ≡ None }
     ensures held { bound.new ≡ record bound.old { told = told bound.old.told lit } }
     ensures told { bound.new.told.values ≡ assignment trail.new.vars trail.new.entries }
@@ -140,6 +139,20 @@ fn hold(rt: &impl Abort, trail: &mut Trail, bound: &mut Bound, lit: Lit)
     assert!(rt; trail.value(lit.var()).is_none());
     trail.decide(lit);
     bound.assign(lit);
+}
+
+// The literal, which was the only one, doesn't hold any more.
+fn let_go(rt: &impl Abort, trail: &mut Trail, bound: &mut Bound, lit: Lit)
+    requires var { IsVar trail.old.vars lit.var }
+    requires count { var_count bound.old.told.program ≡ trail.old.vars }
+    requires told { bound.old.told.values ≡ assignment trail.old.vars trail.old.entries }
+    requires none { value_of (assignment trail.old.vars []) lit.var ≡ None }
+    requires held { bound.old.told.values ≡ slice_set (assignment trail.old.vars []) lit.var (Some lit.truth) }
+    ensures { bound.new.told.values ≡ assignment trail.new.vars trail.new.entries }
+{
+    assert!(rt; trail.assignment().holds(lit));
+    bound.undo(lit);
+    trail.clear();
 }
 
 // What is given while the literal holds, which it doesn't from then on.
@@ -155,14 +168,12 @@ fn ask_while(
     requires none { trail.old.entries ≡ [] }
     requires room { trail.old.vars ≤ trail.old.room }
     requires count { var_count bound.old.told.program ≡ trail.old.vars }
-    requires told { bound.old.told.values ≡ assignment trail.old.vars [] }
+    requires told { bound.old.told.values ≡ assignment trail.old.vars trail.old.entries }
     ensures { OnOk result (bound.new.told.values ≡ assignment trail.new.vars trail.new.entries) }
 {
     hold(rt, trail, bound, lit);
     ask(rt, trail, bound, cost, lits)?;
-    assert!(rt; trail.assignment().holds(lit));
-    bound.undo(lit);
-    trail.clear();
+    let_go(rt, trail, bound, lit);
     Ok(())
 }
 
@@ -186,7 +197,7 @@ fn ask_all(
     requires none { trail.old.entries ≡ [] }
     requires room { trail.old.vars ≤ trail.old.room }
     requires count { var_count bound.old.told.program ≡ trail.old.vars }
-    requires told { bound.old.told.values ≡ assignment trail.old.vars [] }
+    requires told { bound.old.told.values ≡ assignment trail.old.vars trail.old.entries }
     requires bound { bound.old.bound ≡ None }
 {
     ask(rt, trail, bound, row.cost, &[])?;

@@ -211,14 +211,22 @@ fn walk(rt: &impl Abort, weights: &mut Weights, vars: Var, steps: &[Step])
     }
 }
 
-// a1 <- 5 { a2 = 3; not a3 = 2; a4 = 4; not a2 = 1 }. { a2; a3; a4 }. The body is variable 5.
-fn walk_all(rt: &impl Abort, alloc: Global, steps: &[Step]) -> Result<(), AllocError> {
-    let items = [(2, 3), (-3, 2), (4, 4), (-2, 1)];
-    let rules = rules(alloc, 5, &items, &[2, 3, 4])?;
-    let compiled = compiled(rt, alloc, rules)?;
-    let mut weights = Weights::new(alloc, &compiled)?;
+fn follow(
+    rt: &impl Abort,
+    alloc: Global,
+    compiled: &Compiled,
+    steps: &[Step],
+) -> Result<(), AllocError> {
+    let mut weights = Weights::new(alloc, compiled)?;
     walk(rt, &mut weights, compiled.vars(), steps);
     Ok(())
+}
+
+// a1 <- 5 { a2 = 3; not a3 = 2; a4 = 4; not a2 = 1 }. { a2; a3; a4 }. The body is variable 5.
+fn walk_all(rt: &impl Abort, alloc: Global, steps: &[Step]) -> Result<(), AllocError> {
+    let rules = rules(alloc, 5, &[(2, 3), (-3, 2), (4, 4), (-2, 1)], &[2, 3, 4])?;
+    let compiled = compiled(rt, alloc, rules)?;
+    follow(rt, alloc, &compiled, steps)
 }
 
 #[test]
