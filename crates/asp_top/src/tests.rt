@@ -1,6 +1,6 @@
 //! Whole runs: words and a text, and what is written and answered.
 use crate::{OpenGate, Outcome, Status, run};
-use asp_io::{CleanSource, MemSink, MemSource, Sink, Source};
+use asp_io::{CleanSource, MemSink, MemSource, Source};
 use asp_model::fault::Fault;
 use std::alloc::{AllocError, Global};
 use std::process::Abort;
@@ -196,81 +196,162 @@ fn words(alloc: Global, line: &str) -> Result<Vec<String>, AllocError> {
     Ok(words)
 }
 
-fn run_on<R: Threads + Wait + Sync, S: Source, K: Sink, N: Sink>(
-    rt: &R,
-    alloc: Global,
-    line: &str,
-    source: &mut S,
-    sink: &mut K,
-    notes: &mut N,
-) -> Result<Outcome, AllocError> {
-    let words = words(alloc, line)?;
-    Ok(run(rt, alloc, words.as_slice(), source, sink, notes, &OpenGate))
-}
-
-fn check<R: Threads + Wait + Sync + Abort>(rt: &R, alloc: Global, case: Case) -> Result<(), Fail> {
+// A run of these words, where nothing fails.
+fn answer<R: Threads + Wait + Sync + Abort>(rt: &R, alloc: Global, words: &[String], case: &Case) {
     let mut source = CleanSource::new(case.text.as_bytes());
     let mut sink = MemSink::new(alloc, 1000, Vec::new(alloc));
     let mut notes = MemSink::new(alloc, 1000, Vec::new(alloc));
-    let outcome = run_on(rt, alloc, case.words, &mut source, &mut sink, &mut notes)?;
+    let outcome = run(rt, alloc, words, &mut source, &mut sink, &mut notes, &OpenGate);
     assert!(rt; outcome.status == case.status);
     assert!(rt; sink.bytes() == case.output.as_bytes());
+}
+
+fn check<R: Threads + Wait + Sync + Abort>(
+    rt: &R,
+    alloc: Global,
+    case: &Case,
+) -> Result<(), AllocError> {
+    let words = words(alloc, case.words)?;
+    answer(rt, alloc, words.as_slice(), case);
+    Ok(())
+}
+
+fn check_all<R: Threads + Wait + Sync + Abort>(
+    rt: &R,
+    alloc: Global,
+    cases: &[Case],
+) -> Result<(), AllocError> {
+    for case in cases {
+        check(rt, alloc, case)?;
+    }
     Ok(())
 }
 
 #[test]
 fn worked_texts_are_answered(rt: HostRuntime) -> Result<(), Fail> {
-    let alloc = rt.alloc();
-    for case in CASES {
-        check(&rt, alloc, case)?;
-    }
+    check_all(&rt, rt.alloc(), &CASES)?;
     Ok(())
 }
 
 const TWO_WAYS: &str = "asp 1 0 0\n1 0 1 1 0 1 -2\n1 0 1 2 0 1 -1\n4 1 a 1 1\n4 1 b 1 2\n0\n";
 
-const LINE: &str = "aspenum";
+const BOTH_ANSWERS: &str = "Answer: 1\nb\nAnswer: 2\na\nSATISFIABLE\nModels: 2\n";
 
-#[test]
-fn faults_have_their_statuses(rt: HostRuntime) -> Result<(), Fail> {
-    let alloc = rt.alloc();
-    // The sink takes one byte a call, and its second call fails.
+const BROKEN: &str = "asp 1 0 0\n1 0 1\n0\n";
+
+// The exit status, and what is written to the sink and to the notes.
+#[derive(Clone, Copy)]
+struct End {
+    code: u8,
+    output: &'static str,
+    notes: &'static str,
+}
+
+// A run that has nothing to write answers without a report.
+fn has_ended(rt: &impl Abort, outcome: &Outcome, sink: &MemSink, notes: &MemSink, end: End) {
+    assert!(rt; outcome.status.code() == end.code);
+    assert!(rt; outcome.report.is_some() == !end.output.is_empty());
+    assert!(rt; sink.bytes() == end.output.as_bytes());
+    assert!(rt; notes.bytes() == end.notes.as_bytes());
+}
+
+fn check_end<R: Threads + Wait + Sync + Abort, S: Source>(
+    rt: &R,
+    alloc: Global,
+    source: &mut S,
+    sink: &mut MemSink,
+    notes: &mut MemSink,
+    end: End,
+) -> Result<(), AllocError> {
+    let words = words(alloc, "aspenum")?;
+    let outcome = run(rt, alloc, words.as_slice(), source, sink, notes, &OpenGate);
+    has_ended(rt, &outcome, sink, notes, end);
+    Ok(())
+}
+
+// The sink takes one byte a call, and its second call fails.
+fn fail_second_write<R: Threads + Wait + Sync + Abort>(
+    rt: &R,
+    alloc: Global,
+) -> Result<(), AllocError> {
+    let end = End {
+        code: 74,
+        output: "A",
+        notes: "aspenum: write failed\n",
+    };
     let mut source = CleanSource::new(TWO_WAYS.as_bytes());
     let mut sink = MemSink::new(alloc, 1, vec![in alloc; 2]?);
     let mut notes = MemSink::new(alloc, 1, Vec::new(alloc));
-    let outcome = run_on(&rt, alloc, LINE, &mut source, &mut sink, &mut notes)?;
-    assert!(rt; outcome.status.code() == 74);
-    assert!(rt; outcome.report.is_some());
-    assert!(rt; sink.bytes() == b"A".as_slice());
-    assert!(rt; notes.bytes() == b"aspenum: write failed\n".as_slice());
-    // The sink takes everything, and its flush fails.
+    check_end(rt, alloc, &mut source, &mut sink, &mut notes, end)
+}
+
+// The sink takes everything, and its flush fails.
+fn fail_flush<R: Threads + Wait + Sync + Abort>(rt: &R, alloc: Global) -> Result<(), AllocError> {
+    let end = End {
+        code: 74,
+        output: BOTH_ANSWERS,
+        notes: "aspenum: write failed\n",
+    };
     let mut source = CleanSource::new(TWO_WAYS.as_bytes());
     let mut sink = MemSink::new(alloc, 1000, Vec::new(alloc));
     sink.fail_flushes();
-    let outcome = run_on(&rt, alloc, LINE, &mut source, &mut sink, &mut notes)?;
-    assert!(rt; outcome.status == Status::WriteFault);
-    assert!(rt; sink.bytes().len() == 46);
-    // The first read fails, and then the third.
-    for failing in [1, 3] {
-        let bytes = TWO_WAYS.as_bytes().to_vec(alloc)?;
-        let mut source = MemSource::new(bytes, 10, vec![in alloc; failing]?);
-        let mut sink = MemSink::new(alloc, 1000, Vec::new(alloc));
-        let mut notes = MemSink::new(alloc, 1000, Vec::new(alloc));
-        let outcome = run_on(&rt, alloc, LINE, &mut source, &mut sink, &mut notes)?;
-        assert!(rt; outcome.status.code() == 66);
-        assert!(rt; sink.bytes().is_empty());
-        assert!(rt; notes.bytes() == b"aspenum: read failed\n".as_slice());
-    }
-    // The notes say which line is refused; that they fail changes nothing.
-    let mut source = CleanSource::new(b"asp 1 0 0\n1 0 1\n0\n");
-    let mut notes = MemSink::new(alloc, 3, Vec::new(alloc));
-    let outcome = run_on(&rt, alloc, LINE, &mut source, &mut sink, &mut notes)?;
-    assert!(rt; outcome.status.code() == 65);
-    assert!(rt; notes.bytes() == b"aspenum: line 2: integer expected\n".as_slice());
-    let mut source = CleanSource::new(b"asp 1 0 0\n1 0 1\n0\n");
-    let mut notes = MemSink::new(alloc, 3, vec![in alloc; 2]?);
-    let outcome = run_on(&rt, alloc, LINE, &mut source, &mut sink, &mut notes)?;
-    assert!(rt; outcome.status.code() == 65);
-    assert!(rt; notes.bytes() == b"asp".as_slice());
+    let mut notes = MemSink::new(alloc, 1000, Vec::new(alloc));
+    check_end(rt, alloc, &mut source, &mut sink, &mut notes, end)
+}
+
+fn fail_read<R: Threads + Wait + Sync + Abort>(
+    rt: &R,
+    alloc: Global,
+    call: u64,
+) -> Result<(), AllocError> {
+    let end = End {
+        code: 66,
+        output: "",
+        notes: "aspenum: read failed\n",
+    };
+    let bytes = TWO_WAYS.as_bytes().to_vec(alloc)?;
+    let mut source = MemSource::new(bytes, 10, vec![in alloc; call]?);
+    let mut sink = MemSink::new(alloc, 1000, Vec::new(alloc));
+    let mut notes = MemSink::new(alloc, 1000, Vec::new(alloc));
+    check_end(rt, alloc, &mut source, &mut sink, &mut notes, end)
+}
+
+// The notes say which line is refused; that a call of theirs fails changes nothing.
+fn refuse<R: Threads + Wait + Sync + Abort>(
+    rt: &R,
+    alloc: Global,
+    failing: Vec<u64>,
+    notes: &'static str,
+) -> Result<(), AllocError> {
+    let end = End {
+        code: 65,
+        output: "",
+        notes,
+    };
+    let mut source = CleanSource::new(BROKEN.as_bytes());
+    let mut sink = MemSink::new(alloc, 1000, Vec::new(alloc));
+    let mut notes = MemSink::new(alloc, 3, failing);
+    check_end(rt, alloc, &mut source, &mut sink, &mut notes, end)
+}
+
+#[test]
+fn a_failed_write_ends_the_run(rt: HostRuntime) -> Result<(), Fail> {
+    fail_second_write(&rt, rt.alloc())?;
+    fail_flush(&rt, rt.alloc())?;
+    Ok(())
+}
+
+#[test]
+fn a_failed_read_ends_the_run(rt: HostRuntime) -> Result<(), Fail> {
+    fail_read(&rt, rt.alloc(), 1)?;
+    fail_read(&rt, rt.alloc(), 3)?;
+    Ok(())
+}
+
+#[test]
+fn the_notes_name_the_line(rt: HostRuntime) -> Result<(), Fail> {
+    let alloc = rt.alloc();
+    refuse(&rt, alloc, Vec::new(alloc), "aspenum: line 2: integer expected\n")?;
+    refuse(&rt, alloc, vec![in alloc; 2]?, "asp")?;
     Ok(())
 }

@@ -70,22 +70,6 @@ fn hold(rt: &impl Abort, trail: &mut Trail, weights: &mut Weights, vars: Var, li
     weights.assign(lit);
 }
 
-// What is said first, and where the literal holds.
-fn said(
-    rt: &impl Abort,
-    alloc: Global,
-    compiled: &Compiled,
-    lit: Lit,
-) -> Result<(Option<Nogood>, Option<Nogood>), AllocError> {
-    let mut weights = Weights::new(alloc, compiled)?;
-    let vars = compiled.vars();
-    let mut trail = trail(alloc, vars)?;
-    let first = weights.next(&trail)?;
-    hold(rt, &mut trail, &mut weights, vars, lit);
-    let second = weights.next(&trail)?;
-    Ok((first, second))
-}
-
 fn is_pure(base: &Base) -> bool {
     match base {
         Base::Pure => true,
@@ -93,21 +77,73 @@ fn is_pure(base: &Base) -> bool {
     }
 }
 
-// The nogood has these literals.
-fn has_lits(rt: &impl Abort, nogood: &Nogood, lits: &[Lit]) {
-    assert!(rt; nogood.lits.as_slice() == lits);
-    assert!(rt; is_pure(&nogood.base));
+// A pure nogood of these literals, or nothing where there are no literals.
+fn is_as_wanted(given: &Option<Nogood>, lits: &[Lit]) -> bool {
+    match given {
+        Some(nogood) => {
+            !lits.is_empty() && nogood.lits.as_slice() == lits && is_pure(&nogood.base)
+        }
+        None => lits.is_empty(),
+    }
+}
+
+fn ask(
+    rt: &impl Abort,
+    trail: &Trail,
+    weights: &mut Weights,
+    lits: &[Lit],
+) -> Result<(), AllocError>
+    requires { weights.old.values ≡ assignment trail.now.vars trail.now.entries }
+    ensures { weights.new ≡ weights.old }
+{
+    let given = weights.next(trail)?;
+    assert!(rt; is_as_wanted(&given, lits));
+    Ok(())
+}
+
+// Nothing is said first, and this nogood where the literal holds.
+fn ask_twice(
+    rt: &impl Abort,
+    trail: &mut Trail,
+    weights: &mut Weights,
+    vars: Var,
+    lit: Lit,
+    lits: &[Lit],
+) -> Result<(), AllocError>
+    requires told { weights.old.values ≡ assignment trail.old.vars trail.old.entries }
+    requires count { var_count weights.old.program ≡ vars }
+    requires vars { trail.old.vars ≡ vars }
+    requires room { vars ≤ trail.old.room }
+{
+    ask(rt, trail, weights, &[])?;
+    hold(rt, trail, weights, vars, lit);
+    ask(rt, trail, weights, lits)
+}
+
+fn says(
+    rt: &impl Abort,
+    alloc: Global,
+    compiled: &Compiled,
+    lit: Lit,
+    lits: &[Lit],
+) -> Result<(), AllocError> {
+    let vars = compiled.vars();
+    let mut trail = trail(alloc, vars)?;
+    let mut weights = Weights::new(alloc, compiled)?;
+    ask_twice(rt, &mut trail, &mut weights, vars, lit, lits)
 }
 
 // a1 <- 2 { a1 = 2; a2 = 1 }. { a2 }. The body, variable 3, can't hold without a1.
+fn deny(rt: &impl Abort, alloc: Global, lit: Lit, lits: &[Lit]) -> Result<(), AllocError> {
+    let rules = rules(alloc, 2, &[(1, 2), (2, 1)], &[2])?;
+    let compiled = compiled(rt, alloc, rules)?;
+    says(rt, alloc, &compiled, lit, lits)
+}
+
 #[test]
 fn a_body_without_its_own_atom_is_false(rt: HostRuntime) -> Result<(), Fail> {
-    let alloc = rt.alloc();
-    let compiled = compiled(&rt, alloc, rules(alloc, 2, &[(1, 2), (2, 1)], &[2])?)?;
     let f1 = Lit::new(1, false);
-    let (first, second) = said(&rt, alloc, &compiled, f1)?;
-    assert!(rt; first.is_none());
-    has_lits(&rt, &second.ok_or("silent")?, &[Lit::new(3, true), f1]);
+    deny(&rt, rt.alloc(), f1, &[Lit::new(3, true), f1])?;
     Ok(())
 }
 
@@ -175,13 +211,26 @@ fn walk(rt: &impl Abort, weights: &mut Weights, vars: Var, steps: &[Step])
     }
 }
 
+fn follow(
+    rt: &impl Abort,
+    alloc: Global,
+    compiled: &Compiled,
+    steps: &[Step],
+) -> Result<(), AllocError> {
+    let mut weights = Weights::new(alloc, compiled)?;
+    walk(rt, &mut weights, compiled.vars(), steps);
+    Ok(())
+}
+
 // a1 <- 5 { a2 = 3; not a3 = 2; a4 = 4; not a2 = 1 }. { a2; a3; a4 }. The body is variable 5.
+fn walk_all(rt: &impl Abort, alloc: Global, steps: &[Step]) -> Result<(), AllocError> {
+    let rules = rules(alloc, 5, &[(2, 3), (-3, 2), (4, 4), (-2, 1)], &[2, 3, 4])?;
+    let compiled = compiled(rt, alloc, rules)?;
+    follow(rt, alloc, &compiled, steps)
+}
+
 #[test]
 fn sums_follow_what_is_told(rt: HostRuntime) -> Result<(), Fail> {
-    let alloc = rt.alloc();
-    let items = [(2, 3), (-3, 2), (4, 4), (-2, 1)];
-    let compiled = compiled(&rt, alloc, rules(alloc, 5, &items, &[2, 3, 4])?)?;
-    let mut weights = Weights::new(alloc, &compiled)?;
     let steps = [
         (true, 4, true, 4, 0),
         (true, 2, false, 5, 3),
@@ -191,6 +240,6 @@ fn sums_follow_what_is_told(rt: HostRuntime) -> Result<(), Fail> {
         (true, 2, true, 7, 3),
         (false, 4, true, 3, 3),
     ];
-    walk(&rt, &mut weights, compiled.vars(), &steps);
+    walk_all(&rt, rt.alloc(), &steps)?;
     Ok(())
 }
