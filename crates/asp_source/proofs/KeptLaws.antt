@@ -14,7 +14,7 @@ use Rattle.asp_source.specs.Marks.{is_marked}
 use Rattle.asp_source.specs.Narrowing.{AreBlank}
 use Rattle.asp_source.specs.Loops.{AreJoined}
 use Rattle.asp_source.specs.Kept.{IsKept}
-use Rattle.asp_source.proofs.RestLaws.{none_joined}
+use Rattle.asp_source.proofs.RestLaws.{none_joined, open_of, rest_joined}
 use Rattle.asp_source.proofs.TouchLaws.{queued_by, queued_back, by-length, back-length, queued_at_first, none_queued}
 
 none_at : (n v : ℕ) → value_of (replicate n None) v ≡ None
@@ -93,3 +93,23 @@ kept_first p c x marks tight weighted loose waiting atoms are is whole marked em
   plain = normal;
   joined = subst (AreJoined p) (sym nothing) (none_joined p);
 }
+
+-- another set was found, or none
+pub kept_found : (p : Program) (c : Parts) (x : List (Option Bool)) (marks : List Bool) (tight weighted : Bool) (loose waiting : List Bool) (atoms found : Atoms) → IsKept p c x marks tight weighted loose waiting atoms → AreJoined p found → IsKept p c x marks tight weighted loose waiting found
+kept_found p c x marks tight weighted loose waiting atoms found h joined = record {
+  components = h.components;
+  sized = h.sized;
+  first = h.first;
+  whole = h.whole;
+  marks = h.marks;
+  blank = h.blank;
+  room = h.room;
+  queued = h.queued;
+  none = h.none;
+  plain = h.plain;
+  joined = joined;
+}
+
+pub kept_rest : (p : Program) (c : Parts) (x : List (Option Bool)) (marks : List Bool) (tight weighted : Bool) (loose waiting : List Bool) (atoms whole new : Atoms) → IsKept p c x marks tight weighted loose waiting atoms → whole ≡ atoms → new ≡ open_of p x whole → IsKept p c x marks tight weighted loose waiting new
+kept_rest p c x marks tight weighted loose waiting atoms whole new h same is =
+    kept_found p c x marks tight weighted loose waiting atoms new h (rest_joined p x atoms whole new same is h.joined)

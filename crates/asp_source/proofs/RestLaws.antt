@@ -1,5 +1,5 @@
 -- What is left of an unfounded set that was found.
-use Rattle.std.proofs.Common.{◌≡◌, ℕ, ◌+◌, ◌<◌, Bool, true, false, not, ◌&&◌, List, [], ◌∷◌, filter, length, get_or, Option, ◌∙◌, sym, ap, refl, arith}
+use Rattle.std.proofs.Common.{◌≡◌, ℕ, ◌+◌, ◌<◌, Bool, true, false, not, ◌&&◌, List, [], ◌∷◌, filter, length, get_or, Option, ◌∙◌, sym, ap, refl, subst, arith}
 use Rattle.std.specs.Prelude.{All}
 use Rattle.std.proofs.lemmas.Bool.{false≢true, and_parts}
 use Rattle.asp_model.specs.declared.program.Program.{Program}
@@ -59,3 +59,15 @@ open_found p x U a h unfounded member =
       };
       member = member;
     }
+
+pub rest_joined : (p : Program) (x : List (Option Bool)) (U whole new : Atoms) → whole ≡ U → new ≡ open_of p x whole → AreJoined p U → AreJoined p new
+rest_joined p x U whole new same is h = subst (AreJoined p) (sym (is ∙ ap (open_of p x) same)) (open_joined p x U h)
+
+pub rest_stand : (p : Program) (x : List (Option Bool)) (U whole new asked : Atoms) → whole ≡ U → new ≡ open_of p x whole → asked ≡ new → AreJoined p U → All (Stands p) asked
+rest_stand p x U whole new asked same is read h = all_stand p asked (subst (AreJoined p) (sym read) (rest_joined p x U whole new same is h))
+
+pub rest_found : (p : Program) (x : List (Option Bool)) (U whole new : Atoms) (a : ℕ) → whole ≡ U → new ≡ open_of p x whole → AreJoined p U → is_unfounded p x new ≡ true → has new a ≡ true → IsFound p x new a
+rest_found p x U whole new a same is h unfounded member =
+    let at : new ≡ open_of p x U = is ∙ ap (open_of p x) same in
+    subst (λ (V : Atoms). IsFound p x V a) (sym at)
+    (open_found p x U a h (subst (λ (V : Atoms). is_unfounded p x V ≡ true) at unfounded) (subst (λ (V : Atoms). has V a ≡ true) at member))

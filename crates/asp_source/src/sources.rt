@@ -137,13 +137,17 @@ impl<'a> Sources<'a> {
         let Some(atom) = choose_atom(self.compiled, &self.values, self.atoms.as_slice()) else {
             return Ok(None);
         };
-        loop_nogood(
+        let nogood = loop_nogood(
             self.alloc,
             self.compiled,
             self.atoms.as_slice(),
             atom,
             &self.values,
-        )
+        )?;
+        let Some(nogood) = nogood else {
+            return Ok(None);
+        };
+        Ok(Some(nogood))
     }
 
     // The loop nogood of a set that queued components have.
@@ -162,16 +166,16 @@ impl<'a> Sources<'a> {
             &mut self.waiting,
             &mut self.atoms,
         );
-        let atom = match found {
-            Ok(Some(atom)) => atom,
-            Ok(None) => {
-                self.atoms.clear();
-                return Ok(None);
-            }
+        let found = match found {
+            Ok(found) => found,
             Err(error) => {
                 self.atoms.clear();
                 return Err(error);
             }
+        };
+        let Some(atom) = found else {
+            self.atoms.clear();
+            return Ok(None);
         };
         let nogood = loop_nogood(
             self.alloc,
