@@ -5,4 +5,5 @@ pub mod SpreadLaws
 pub mod LookLaws
 pub mod TouchLaws
 pub mod GivenLaws
+pub mod RestLaws
 pub mod KeptLaws

@@ -21,6 +21,12 @@ pub record IsTrivial (p : Program) (a : ℕ) : Type 0 where
   pub only : (b : ℕ) → Stands p b → IsLoop p a b → b ≡ a
   pub acyclic : Reaches p a a → ⊥
 
+-- Atoms within one component, which isn't trivial.
+pub record AreJoined (p : Program) (U : Atoms) : Type 0 where
+  pub stand : (a : ℕ) → IsTrue (has U a) → Stands p a
+  pub joined : (a b : ℕ) → IsTrue (has U a) → IsTrue (has U b) → (a ≡ b) ⊎ IsLoop p a b
+  pub cyclic : (a : ℕ) → IsTrue (has U a) → IsTrivial p a → ⊥
+
 -- Atoms within one component, which isn't trivial, of which none is false, and which are unfounded. An unfounded set isn't empty.
 pub record IsUnfoundedLoop (p : Program) (x : List (Option Bool)) (U : Atoms) : Type 0 where
   pub stand : (a : ℕ) → IsTrue (has U a) → Stands p a

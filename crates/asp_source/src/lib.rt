@@ -5,6 +5,7 @@ mod bodies;
 mod founding;
 mod loose;
 mod queue;
+mod rest;
 mod search;
 pub mod sources;
 #[cfg(test)]

@@ -19,6 +19,7 @@ ghost use Rattle.asp_trail.specs.Told.{told, untold};
 ghost use Rattle.asp_source.specs.Loops.{IsUnfoundedLoop, IsGiven};
 
 use crate::queue::Queue;
+use crate::rest::{choose_atom, open_atoms};
 use crate::search::first_unfounded;
 use crate::touch::{has_weights, queue_of, touch_back, touch_by};
 use asp_loop::loops::loop_nogood;
@@ -57,7 +58,7 @@ impl<'a> Model for Sources<'a> {
 
     ghost view = { λ s. record { program = s.compiled.now; values = s.values } };
 
-    ghost invariant = { λ s. IsKept s.compiled.now s.components s.values s.queue s.tight s.weighted s.loose.items s.waiting };
+    ghost invariant = { λ s. IsKept s.compiled.now s.components s.values s.queue s.tight s.weighted s.loose.items s.waiting s.atoms.items };
 }
 
 impl<'a> Sources<'a> {
@@ -120,17 +121,41 @@ impl<'a> Sources<'a> {
         touch_back(self.compiled, &self.components, &mut self.queue, lit);
     }
 
-    /// The loop nogood of a set of atoms that aren't false, within a component that isn't trivial, which is unfounded
-    /// under the values told. None exactly where there is no such set.
-    ///
-    /// Want of memory is the one error. Whatever comes, the values stay, and a later call looks again.
-    pub fn next(&mut self, trail: &Trail) -> Result<Option<Nogood>, AllocError>
-        requires { self.old.values ≡ assignment trail.now.vars trail.now.entries }
+    // The loop nogood of what is left of the set that was found last, if it is unfounded still.
+    fn again(&mut self) -> Result<Option<Nogood>, AllocError>
+        ensures same { self.new ≡ self.old }
+        ensures given { IfOk result (λ n. IfSome n (IsGiven self.old)) }
+    {
+        let _program = self.compiled.program();
+        let open = open_atoms(
+            self.alloc,
+            self.compiled,
+            &self.values,
+            self.atoms.as_slice(),
+        )?;
+        self.atoms = open;
+        let Some(atom) = choose_atom(self.compiled, &self.values, self.atoms.as_slice()) else {
+            return Ok(None);
+        };
+        let nogood = loop_nogood(
+            self.alloc,
+            self.compiled,
+            self.atoms.as_slice(),
+            atom,
+            &self.values,
+        )?;
+        let Some(nogood) = nogood else {
+            return Ok(None);
+        };
+        Ok(Some(nogood))
+    }
+
+    // The loop nogood of a set that queued components have.
+    fn search(&mut self) -> Result<Option<Nogood>, AllocError>
         ensures same { self.new ≡ self.old }
         ensures none { IfOk result (λ n. IfNone n ((U : Atoms) → IsUnfoundedLoop self.old.program self.old.values U → ⊥)) }
         ensures given { IfOk result (λ n. IfSome n (IsGiven self.old)) }
     {
-        let _ = trail;
         let _program = self.compiled.program();
         let found = first_unfounded(
             self.compiled,
@@ -140,8 +165,16 @@ impl<'a> Sources<'a> {
             self.loose.as_mut_slice(),
             &mut self.waiting,
             &mut self.atoms,
-        )?;
+        );
+        let found = match found {
+            Ok(found) => found,
+            Err(error) => {
+                self.atoms.clear();
+                return Err(error);
+            }
+        };
         let Some(atom) = found else {
+            self.atoms.clear();
             return Ok(None);
         };
         let nogood = loop_nogood(
@@ -155,5 +188,22 @@ impl<'a> Sources<'a> {
             Some(nogood) => Ok(Some(nogood)),
             None => unreachable!(),
         }
+    }
+
+    /// The loop nogood of a set of atoms that aren't false, within a component that isn't trivial, which is unfounded
+    /// under the values told. None exactly where there is no such set.
+    ///
+    /// Want of memory is the one error. Whatever comes, the values stay, and a later call looks again.
+    pub fn next(&mut self, trail: &Trail) -> Result<Option<Nogood>, AllocError>
+        requires { self.old.values ≡ assignment trail.now.vars trail.now.entries }
+        ensures same { self.new ≡ self.old }
+        ensures none { IfOk result (λ n. IfNone n ((U : Atoms) → IsUnfoundedLoop self.old.program self.old.values U → ⊥)) }
+        ensures given { IfOk result (λ n. IfSome n (IsGiven self.old)) }
+    {
+        let _ = trail;
+        if let Some(nogood) = self.again()? {
+            return Ok(Some(nogood));
+        }
+        self.search()
     }
 }

@@ -5,7 +5,7 @@ use Rattle.asp_source.proofs.sources.Sources.new.Goals as goal
 pub invariant_of-result : goal.invariant_of-result
 invariant_of-result c =
     let none : Option Bool = None in
-    kept_first c.args.compiled.now c.in_ok-components.components c.in_ok-values.values c.in_ok-queue.queue c.is_empty-tight.result c.has_weights-weighted.result c.in_ok-loose.loose.items c.in_ok-waiting.waiting
+    kept_first c.args.compiled.now c.in_ok-components.components c.in_ok-values.values c.in_ok-queue.queue c.is_empty-tight.result c.has_weights-weighted.result c.in_ok-loose.loose.items c.in_ok-waiting.waiting c.in_ok-atoms.atoms.items
     c.in_ok-components.ensures
     (c.in_ok-values.ensures ∙ ap (λ n. replicate (n + 1) none) c.vars.ensures.count)
     c.in_ok-queue.ensures.size
@@ -14,3 +14,4 @@ invariant_of-result c =
     c.has_weights-weighted.ensures
     (c.in_ok-loose.ensures.items_if_clones_equal (λ y q. q) ∙ ap (λ n. replicate (n + 1) false) c.atom_count.ensures.count)
     (c.in_ok-waiting.ensures ∙ ap (λ n. replicate n false) c.atom_count-2.ensures.count)
+    c.in_ok-atoms.ensures.items
