@@ -98,6 +98,9 @@ impl<'a> Propagator for Parts<'a> {
         if let Some(nogood) = self.bound.next(trail)? {
             return Ok(Some(nogood));
         }
-        self.sources.next(trail)
+        if let Some(nogood) = self.sources.next(trail)? {
+            return Ok(Some(nogood));
+        }
+        Ok(None)
     }
 }
