@@ -1,10 +1,9 @@
 -- Where all variables have values and the propagators are silent, the weight bodies are kept, and the cost is below the bound.
-use Rattle.std.proofs.Common.{◌≡◌, ℕ, suc, Bool, true, false, not, cond, ◌&&◌, ◌||◌, List, [], ◌∷◌, map, length, get_or, Option, Some, None, ℤ, pos, negsuc, ◌+ℤ◌, ◌-ℤ◌, int_lt, int_le, refl, sym, ap, ◌∙◌, subst, arith, le-add_right, zero-lt-suc}
+use Rattle.std.proofs.Common.{◌≡◌, ℕ, suc, Bool, true, false, not, cond, ◌&&◌, ◌||◌, ltb, leb, List, [], ◌∷◌, map, length, get_or, Option, Some, None, ℤ, pos, negsuc, ◌+ℤ◌, ◌-ℤ◌, int_lt, int_le, refl, sym, ap, ◌∙◌, subst, le-add_right, zero-lt-suc}
 use Rattle.std.specs.List.{AllByRecursion, list_all, list_any}
 use Rattle.std.specs.Bool.{beq}
-use Rattle.std.proofs.lemmas.Bool.{false≢true}
-use Rattle.std.proofs.lemmas.Bool.Decides.{nat_tests}
-use Rattle.std.proofs.lemmas.Int.{ints}
+use Rattle.std.proofs.Math.Nat.{not-le_of_lt}
+use Rattle.std.proofs.lemmas.Bool.{false≢true, false_from_ne_true, ltb-true, leb-true}
 use Rattle.asp_model.specs.declared.program.Body.{Body}
 use Rattle.asp_model.specs.declared.program.Body.TheVariants as body
 use Rattle.asp_model.specs.declared.program.Program.{Program}
@@ -87,8 +86,14 @@ weighs_among p v (i ∷ items) h =
     ∙ ap (λ z. cond (holds (true_atoms p v) i.0) i.1 (pos 0) +ℤ z) (weighs_among p v items h.1)
 
 -- ---- weight bodies
+not_reached : (a b : ℕ) → ltb a b ≡ true → leb b a ≡ false
+not_reached a b e = false_from_ne_true (leb b a) (λ h. not-le_of_lt (ltb-true a b e) (leb-true b a h))
+
 turned : (x y : ℤ) → int_lt x y ≡ true → int_le y x ≡ false
-turned x y e = grind (arith, ints, nat_tests)
+turned (pos a) (pos b) e = not_reached a b e
+turned (pos a) (negsuc b) e = absurd (false≢true e)
+turned (negsuc a) (pos b) e = refl
+turned (negsuc a) (negsuc b) e = not_reached b a e
 
 kept_as : (x : Bool) (p : Program) (a : List (Option Bool)) (bound : ℤ) (items : List (ℤ × ℤ)) (s : ℤ) → low_of p a items ≡ s → high_of p a items ≡ s →
     is_silent_as (Some x) p a bound items ≡ true → beq x true ≡ int_le bound s

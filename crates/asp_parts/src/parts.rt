@@ -3,6 +3,9 @@
 //! It keeps true, after every list of calls: each of the three was told of the same program, and of the same values. So
 //! a call that tells has to tell all three. Asked, the costlier answer only where the others are silent: weight bodies
 //! first, then the bound, then unfounded sets.
+//!
+//! Only `new` and `next` take memory. After want of it the values told and the bound are those before the call, so a
+//! search can go on, or take back what it told.
 ghost use Rattle.std.specs.Prelude.{◌≡◌, None, IfOk};
 ghost use Rattle.asp_bound.specs.Gathered.{valueless};
 
@@ -38,7 +41,7 @@ impl<'a> Model for Parts<'a> {
 }
 
 impl<'a> Parts<'a> {
-    /// The propagators of a program, told of no values and of no bound.
+    /// The propagators of a program, told of no values and of no bound, as a search begins. The tables are borrowed.
     ///
     /// Want of memory is the one error.
     pub fn new(alloc: Global, compiled: &'a Compiled) -> Result<Parts<'a>, AllocError>
@@ -95,6 +98,9 @@ impl<'a> Propagator for Parts<'a> {
         if let Some(nogood) = self.bound.next(trail)? {
             return Ok(Some(nogood));
         }
-        self.sources.next(trail)
+        if let Some(nogood) = self.sources.next(trail)? {
+            return Ok(Some(nogood));
+        }
+        Ok(None)
     }
 }

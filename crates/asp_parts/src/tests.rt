@@ -13,7 +13,7 @@ use std::alloc::{AllocError, Global};
 use std::process::Abort;
 use std::test::Fail;
 
-fn rule(heap: Global, atom: i32, literal: i32) -> Result<Rule, AllocError> {
+fn rule(heap: Global, atom: u32, literal: i32) -> Result<Rule, AllocError> {
     let literals = Seq::from_vec(vec![in heap; literal]?);
     Ok(Rule {
         head: Head::One(atom),
@@ -31,7 +31,8 @@ fn rules(heap: Global) -> Result<Vec<Rule>, AllocError> {
         head: Head::One(3),
         body: Body::AtLeast(1, Seq::from_vec(vec![in heap; (1, 1), (2, 1)]?)),
     };
-    vec![in heap; free, weighed, rule(heap, 4, 5)?, rule(heap, 5, 4)?]
+    let rules = vec![in heap; free, weighed, rule(heap, 4, 5)?, rule(heap, 5, 4)?]?;
+    Ok(rules)
 }
 
 // Each free atom costs 1. The variables of the bodies are 6 to 9.
@@ -67,18 +68,41 @@ fn start<'a>(heap: Global, compiled: &'a Compiled) -> Result<Path<Parts<'a>>, Al
     Path::new(heap, compiled.vars(), parts)
 }
 
-// The loop can't be true. With a bound of 1 no free atom can, and so the weight body isn't.
+// With no bound: the loop can't be true, and nothing else follows.
+fn follow_freely(rt: &impl Abort, path: &mut Path<Parts<'_>>) -> Result<(), AllocError>
+    ensures program { path.new.program ≡ path.old.program }
+    ensures bound { path.new.bound ≡ path.old.bound }
+{
+    let violated = path.propagate()?;
+    assert!(rt; violated.is_none());
+    assert!(rt; path.trail().len() == 1);
+    Ok(())
+}
+
+// With a bound of 1: no free atom can be true, and so the weight body isn't.
+fn follow_below_one(
+    rt: &impl Abort,
+    heap: Global,
+    path: &mut Path<Parts<'_>>,
+) -> Result<(), AllocError>
+    requires vars { var_count path.old.program ≡ 9 }
+    requires bound { path.old.bound ≡ None }
+{
+    path.set_bound(Cost::from_vec(vec![in heap; 1]?));
+    let violated = path.propagate()?;
+    assert!(rt; violated.is_none());
+    assert!(rt; path.trail().len() == 4);
+    assert!(rt; path.trail().value(7) == Some(false));
+    Ok(())
+}
+
 #[test]
 fn each_of_them_speaks(rt: HostRuntime) -> Result<(), Fail> {
     let heap = rt.alloc();
     let compiled = compiled(&rt, heap)?;
     let mut path = start(heap, &compiled)?;
-    assert_eq!(rt; path.propagate()?, None);
-    assert_eq!(rt; path.trail().len(), 1);
-    path.set_bound(Cost::from_vec(vec![in heap; 1]?));
-    assert_eq!(rt; path.propagate()?, None);
-    assert_eq!(rt; path.trail().value(1), Some(false));
-    assert_eq!(rt; path.trail().value(7), Some(false));
+    follow_freely(&rt, &mut path)?;
+    follow_below_one(&rt, heap, &mut path)?;
     path.clear();
     Ok(())
 }
