@@ -1,0 +1,32 @@
+-- The literals of the assumptions, and a run's start.
+use Rattle.std.proofs.Common.{◌≡◌, ℕ, ◌+◌, ◌<◌, ◌≤◌, ◌^◌, Bool, true, false, List, [], ◌∷◌, ◌++◌, length, map, Option, Some, None, All, refl, sym, ap, ◌∙◌, subst, arith}
+use Rattle.std.specs.Prelude.{ℤ, IsTrue}
+use Rattle.std.specs.List.{AllByRecursion}
+use Rattle.std.proofs.lemmas.List.Elements.{All-nil}
+use Rattle.asp_model.specs.declared.program.Program.{Program}
+use Rattle.asp_model.specs.declared.results.Mode.{Mode}
+use Rattle.asp_model.specs.declared.results.Mode.TheVariants.{Enum, Opt}
+use Rattle.asp_model.specs.Sets.{Atoms, has}
+use Rattle.asp_model.specs.Holding.{atom_of, all_hold}
+use Rattle.asp_model.specs.Models.{mentions, atoms_of}
+use Rattle.asp_model.proofs.SetLaws.{has-set_of}
+use Rattle.asp_model.proofs.MemberLaws.{each_weaker, HasAll, HasAll-right, HasAll-itself}
+use Rattle.asp_vars.specs.Literals.{hits}
+use Rattle.asp_vars.specs.Numbering.{values, literal_of}
+use Rattle.asp_vars.proofs.CompletionLaws.{hits-literals}
+use Rattle.asp_crew.specs.Running.{root_cube}
+
+each-of-map : (p : Program) (ls : List ℤ) → HasAll (atoms_of p) (map atom_of ls) → AllByRecursion (λ l. has (atoms_of p) (atom_of l) ≡ true) ls
+each-of-map p [] h = tt
+each-of-map p (l ∷ ls) h = (h.0, each-of-map p ls h.1)
+
+-- The assumptions' atoms stand in the program.
+pub assumptions-stand : (p : Program) → AllByRecursion (λ l. has (atoms_of p) (atom_of l) ≡ true) p.assumptions
+assumptions-stand p =
+    let atoms : List ℕ = map atom_of p.assumptions in
+    each-of-map p p.assumptions
+    (each_weaker (λ a. has (mentions p) a ≡ true) (λ a. has (atoms_of p) a ≡ true) (λ a h. has-set_of (mentions p) a ∙ h) atoms (HasAll-right _ atoms atoms (HasAll-itself atoms)))
+
+-- A set hits the literals where the assumptions hold in it.
+pub root-holds : (p : Program) (S : Atoms) → hits (values p S) (root_cube p) ≡ all_hold S p.assumptions
+root-holds p S = hits-literals p S p.assumptions (assumptions-stand p)
