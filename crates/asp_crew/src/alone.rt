@@ -124,8 +124,7 @@ fn reported(mode: Mode, unpaid: Option<Conflict>, fuel: Fuel, found: Found) -> R
 // An assumption as a literal of its variable.
 fn literal(compiled: &Compiled, literal: i32) -> Lit
     requires { has (atoms_of compiled.now) (atom_of literal) ≡ true }
-    ensures lit { result ≡ literal_of compiled.now literal }
-    ensures var { IsVar (var_count compiled.now) result.var }
+    ensures { result ≡ literal_of compiled.now literal }
 {
     let var = compiled.atom_var(literal.unsigned_abs());
     Lit::new(var, literal >= 0)
@@ -133,10 +132,8 @@ fn literal(compiled: &Compiled, literal: i32) -> Lit
 
 // Adds the literals behind the others.
 fn add_all(lits: &mut Vec<Lit>, compiled: &Compiled, literals: &[i32]) -> Result<(), AllocError>
-    requires stand { AllByRecursion (λ l. has (atoms_of compiled.now) (atom_of l) ≡ true) literals.now }
-    requires vars { All (λ l. IsVar (var_count compiled.now) l.var) lits.old.items }
-    ensures lits { OnOk result (lits.new.items ≡ lits.old.items ++ map (literal_of compiled.now) literals.now) }
-    ensures vars { OnOk result (All (λ l. IsVar (var_count compiled.now) l.var) lits.new.items) }
+    requires { AllByRecursion (λ l. has (atoms_of compiled.now) (atom_of l) ≡ true) literals.now }
+    ensures { OnOk result (lits.new.items ≡ lits.old.items ++ map (literal_of compiled.now) literals.now) }
 {
     for l in literals {
         lits.push(literal(compiled, *l))?;
