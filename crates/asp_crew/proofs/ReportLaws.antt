@@ -1,10 +1,10 @@
 -- What a run that is over says.
-use Rattle.std.proofs.Common.{◌≡◌, ◌↔◌, ℕ, ◌+◌, ◌<◌, ◌≤◌, Bool, true, false, not, ◌||◌, List, [], ◌∷◌, length, get_or, filter, Option, Some, None, Contains, All, refl, sym, ap, ◌∙◌, subst, arith}
-use Rattle.std.specs.Prelude.{ℤ, IsTrue, IfSome, option_map}
+use Rattle.std.proofs.Common.{◌≡◌, ◌+◌, ◌≤◌, Bool, true, false, ◌||◌, List, [], ◌∷◌, length, get_or, filter, Option, Some, None, All, refl, sym, ap, ◌∙◌, subst, arith}
+use Rattle.std.specs.Prelude.{ℤ, IfSome, option_map}
 use Rattle.std.specs.List.{list_any}
 use Rattle.std.specs.List.Sorted.{IsPermutation, IsSorted}
-use Rattle.std.proofs.lemmas.Bool.{false≢true, not-true}
-use Rattle.std.proofs.lemmas.List.Elements.{All-contains, All-nil, Contains-get_or}
+use Rattle.std.proofs.lemmas.Bool.{not-true}
+use Rattle.std.proofs.lemmas.List.Elements.{All-nil, Contains-get_or}
 use Rattle.std.proofs.lemmas.List.Folds.{list_any_none}
 use Rattle.std.proofs.lemmas.List.Sorted.{length_permutation, list_any-IsPermutation, IsPermutation-refl}
 use Rattle.asp_model.specs.declared.program.Program.{Program}
@@ -13,13 +13,13 @@ use Rattle.asp_model.specs.declared.results.Mode.TheVariants.{Enum, Opt}
 use Rattle.asp_model.specs.declared.results.Results.{Results}
 use Rattle.asp_model.specs.Sets.{Atoms, same_set, set_cmp}
 use Rattle.asp_model.specs.Models.{answers}
-use Rattle.asp_model.specs.Costs.{cost, betters, IsOptimum}
+use Rattle.asp_model.specs.Costs.{cost, betters}
 use Rattle.asp_model.proofs.ListedLaws.{contains_from_test, test_from_contains}
 use Rattle.asp_model.proofs.ModelLaws.{answers-are}
 use Rattle.asp_vars.specs.Literals.{Literal}
 use Rattle.asp_vars.specs.Entailment.{costs_bound, is_done, Settled}
 use Rattle.asp_vars.specs.Conflicts.{IsConflict}
-use Rattle.asp_vars.specs.Paid.{Clash, Units, IsAtLeast}
+use Rattle.asp_vars.specs.Paid.{Clash, IsAtLeast}
 use Rattle.asp_vars.proofs.ResolutionLaws.{HitsOnly-weaker}
 use Rattle.asp_step.specs.Searching.{Searching}
 use Rattle.asp_crew.specs.declared.report.Report.{Report}
@@ -104,8 +104,7 @@ all-found Enum p known bound K r found moved sorted settled =
     let known_settled : Settled p known None (root_cube p) = subst (λ (b : Option (List ℤ)). Settled p known b (root_cube p)) found.2 settled in
     (all-listed p K r.answers found.3 found.4 moved sorted (subst (λ (k : List Atoms). Settled p k None (root_cube p)) (sym found.0) known_settled), found.1)
 all-found Opt p known bound K r found moved sorted settled =
-    let none_settled : Settled p [] bound (root_cube p) = subst (λ (k : List Atoms). Settled p k bound (root_cube p)) found.1 settled in
-    (
+    let none_settled : Settled p [] bound (root_cube p) = subst (λ (k : List Atoms). Settled p k bound (root_cube p)) found.1 settled in (
       empty-moved r.answers (subst (λ (k : List Atoms). IsPermutation k r.answers) found.0 moved),
       best-left p r.best found.3 (subst (λ (b : Option (List ℤ)). Settled p [] b (root_cube p)) found.2 none_settled),
     )

@@ -1,18 +1,16 @@
 -- The literals of the assumptions, and a run's start.
-use Rattle.std.proofs.Common.{◌≡◌, ℕ, ◌+◌, ◌<◌, ◌≤◌, ◌^◌, Bool, true, false, List, [], ◌∷◌, ◌++◌, length, map, Option, Some, None, All, refl, sym, ap, ◌∙◌, subst, arith}
-use Rattle.std.specs.Prelude.{ℤ, IsTrue}
+use Rattle.std.proofs.Common.{◌≡◌, ℕ, true, List, [], ◌∷◌, map, All, ◌∙◌, arith}
+use Rattle.std.specs.Prelude.{ℤ}
 use Rattle.std.specs.List.{AllByRecursion}
 use Rattle.std.proofs.lemmas.List.Elements.{All-nil, All-cons}
 use Rattle.asp_model.specs.declared.program.Program.{Program}
-use Rattle.asp_model.specs.declared.results.Mode.{Mode}
-use Rattle.asp_model.specs.declared.results.Mode.TheVariants.{Enum, Opt}
 use Rattle.asp_model.specs.Sets.{Atoms, has}
 use Rattle.asp_model.specs.Holding.{atom_of, all_hold}
 use Rattle.asp_model.specs.Models.{mentions, atoms_of}
 use Rattle.asp_model.proofs.SetLaws.{has-set_of}
 use Rattle.asp_model.proofs.MemberLaws.{each_weaker, HasAll, HasAll-right, HasAll-itself}
 use Rattle.asp_vars.specs.Literals.{Literal, hits}
-use Rattle.asp_vars.specs.Numbering.{values, literal_of, var_of_atom, var_count}
+use Rattle.asp_vars.specs.Numbering.{values, literal_of, var_count}
 use Rattle.asp_vars.proofs.CompletionLaws.{hits-literals}
 use Rattle.asp_vars.proofs.PlaceLaws.{atom-within}
 use Rattle.asp_trail.specs.Trails.{IsVar}

@@ -1,29 +1,27 @@
 -- What each answer of a step makes of a run.
-use Rattle.std.proofs.Common.{◌≡◌, ℕ, ◌+◌, ◌-◌, ◌^◌, ◌<◌, ◌≤◌, max, min, Bool, true, false, not, List, [], ◌∷◌, ◌++◌, length, map, Option, Some, None, All, refl, sym, ap, ◌∙◌, subst, arith}
+use Rattle.std.proofs.Common.{◌≡◌, ◌-◌, ◌^◌, ◌<◌, ◌≤◌, Bool, false, not, List, [], ◌∷◌, ◌++◌, length, Option, Some, All, refl, sym, ap, ◌∙◌, subst, arith}
 use Rattle.std.specs.Prelude.{ℤ, IsTrue, IfSome, option_map}
 use Rattle.std.proofs.lemmas.List.{length-append}
 use Rattle.std.proofs.lemmas.List.Sums.{length-filter, count_by-le-length}
 use Rattle.std.proofs.lemmas.List.Elements.{All-push}
-use Rattle.std.specs.List.{list_any, AllByRecursion}
+use Rattle.std.specs.List.{list_any}
 use Rattle.asp_model.specs.declared.program.Program.{Program}
 use Rattle.asp_model.specs.declared.results.Mode.{Mode}
 use Rattle.asp_model.specs.declared.results.Mode.TheVariants.{Enum, Opt}
-use Rattle.asp_model.specs.Sets.{Atoms, has, same_set}
-use Rattle.asp_model.specs.Holding.{atom_of, all_hold}
+use Rattle.asp_model.specs.Sets.{Atoms, same_set}
 use Rattle.asp_model.specs.Models.{is_stable, models}
 use Rattle.asp_model.specs.Costs.{cost}
-use Rattle.asp_vars.specs.Literals.{Literal, hits}
+use Rattle.asp_vars.specs.Literals.{hits}
 use Rattle.asp_vars.specs.Numbering.{values, var_count}
 use Rattle.asp_vars.specs.Conflicts.{IsConflict}
 use Rattle.asp_vars.specs.Entailment.{Settled, is_done}
-use Rattle.asp_vars.specs.Paid.{Clash, Units, least_of, IsAtLeast}
+use Rattle.asp_vars.specs.Paid.{Clash, Units, IsAtLeast}
 use Rattle.asp_vars.specs.declared.nogood.Nogood.{Nogood}
 use Rattle.asp_follow.specs.Useful.{IsSmaller}
 use Rattle.asp_step.specs.Searching.{Searching}
 use Rattle.asp_step.specs.Steps.{HasSameTask, IsConflictOf, burnt, IsStep, Answers, Records as Recorded}
 use Rattle.asp_step.specs.declared.step.Step.{Step}
 use Rattle.asp_step.specs.declared.step.Step.TheVariants as step
-use Rattle.asp_crew.specs.declared.alone.Course.{Course}
 use Rattle.asp_crew.specs.declared.alone.Course.TheVariants.{Open, Closed, Unpaid}
 use Rattle.asp_crew.specs.Running.{root_cube, IsAnswer, IsOnce, HasCost, IsFoundBy, IsUnderway, unfound, work, work_left, Records, IsMetBy, Goes}
 use Rattle.asp_crew.proofs.SortLaws.{once-push}

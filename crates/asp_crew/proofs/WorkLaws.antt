@@ -1,10 +1,10 @@
 -- What is left to do falls with each step.
-use Rattle.std.proofs.Common.{◌≡◌, ℕ, zero, suc, ◌+◌, ◌-◌, ◌*◌, ◌^◌, ◌<◌, ◌≤◌, List, [], ◌∷◌, ◌++◌, All, length, refl, sym, ap, ◌∙◌, subst, inl, inr, arith}
+use Rattle.std.proofs.Common.{ℕ, zero, suc, ◌+◌, ◌-◌, ◌*◌, ◌^◌, ◌<◌, ◌≤◌, [], ◌∷◌, ◌++◌, All, inl, inr, arith}
 use Rattle.std.proofs.Math.Nat.{pow-suc, mul-le-mul_left}
 use Rattle.std.proofs.lemmas.Bool.{cases_lt}
 use Rattle.std.proofs.lemmas.List.Elements.{All-nil, All-cons, All-append}
 use Rattle.asp_order.specs.Luby.{terms, term}
-use Rattle.asp_order.proofs.LubyLaws.{terms_more, length-terms}
+use Rattle.asp_order.proofs.LubyLaws.{length-terms}
 use Rattle.asp_step.specs.Steps.{IsDue}
 use Rattle.asp_crew.specs.Running.{work}
 

@@ -19,7 +19,6 @@ ghost use Rattle.asp_crew.specs.Running.{root_cube, IsUnderway, Goes, Ends, IsOv
 use crate::found::{Found, keep_answer};
 use crate::report::Report;
 use asp_follow::propagator::Propagator;
-use asp_model::interp::Interp;
 use asp_model::program::Program;
 use asp_model::results::{End, Mode, Results};
 use asp_model::seq::Seq;
