@@ -46,7 +46,7 @@ fn priced(heap: Global) -> Result<Vec<Minimize>, AllocError> {
         priority: 0,
         items: Seq::from_vec(items),
     };
-    vec![in heap; minimize]
+    Ok(vec![in heap; minimize]?)
 }
 
 fn solved(
