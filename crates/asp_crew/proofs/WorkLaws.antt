@@ -1,0 +1,53 @@
+-- What is left to do falls with each step.
+use Rattle.std.proofs.Common.{ℕ, zero, suc, ◌+◌, ◌-◌, ◌*◌, ◌^◌, ◌<◌, ◌≤◌, [], ◌∷◌, ◌++◌, All, inl, inr, arith}
+use Rattle.std.proofs.Math.Nat.{pow-suc, mul-le-mul_left}
+use Rattle.std.proofs.lemmas.Bool.{cases_lt}
+use Rattle.std.proofs.lemmas.List.Elements.{All-nil, All-cons, All-append}
+use Rattle.asp_order.specs.Luby.{terms, term}
+use Rattle.asp_order.proofs.LubyLaws.{length-terms}
+use Rattle.asp_step.specs.Steps.{IsDue}
+use Rattle.asp_crew.specs.Running.{work}
+
+-- The number whose first digit is smaller is smaller.
+digits : (x y w r s : ℕ) → x < y → r < w → x * w + r < y * w + s
+digits x y w r s less small = omega (arith, mul-le-mul_left w (let up : x + 1 ≤ y = omega arith in up))
+
+pub work-paid : (l m u r v e l' u' r' e' : ℕ) → l' < l → u' ≤ m → r' < 2 ^ 64 → work l' m u' r' v e' < work l m u r v e
+work-paid l m u r v e l' u' r' e' less within small =
+    digits ((l' * (m + 1) + u') * 2 ^ 64 + r') ((l * (m + 1) + u) * 2 ^ 64 + r) (v + 1) (v - e') (v - e)
+    (digits (l' * (m + 1) + u') (l * (m + 1) + u) (2 ^ 64) r' r (digits l' l (m + 1) u' u less (omega arith)) small) (omega arith)
+
+pub work-found : (l m u r v e u' r' e' : ℕ) → u' < u → r' < 2 ^ 64 → work l m u' r' v e' < work l m u r v e
+work-found l m u r v e u' r' e' less small =
+    digits ((l * (m + 1) + u') * 2 ^ 64 + r') ((l * (m + 1) + u) * 2 ^ 64 + r) (v + 1) (v - e') (v - e) (digits (l * (m + 1) + u') (l * (m + 1) + u) (2 ^ 64) r' r (omega arith) small) (omega arith)
+
+pub work-restarted : (l m u r v e e' : ℕ) → 0 < r → work l m u 0 v e' < work l m u r v e
+work-restarted l m u r v e e' some =
+    digits ((l * (m + 1) + u) * 2 ^ 64 + 0) ((l * (m + 1) + u) * 2 ^ 64 + r) (v + 1) (v - e') (v - e) (more ((l * (m + 1) + u) * 2 ^ 64)) (omega arith)
+  where
+    more : (x : ℕ) → x + 0 < x + r
+    more x = omega arith
+
+pub work-decided : (l m u r v e e' : ℕ) → e < e' → e' ≤ v → work l m u r v e' < work l m u r v e
+work-decided l m u r v e e' longer within = more (((l * (m + 1) + u) * 2 ^ 64 + r) * (v + 1))
+  where
+    more : (x : ℕ) → x + (v - e') < x + (v - e)
+    more x = omega arith
+
+-- ---- a restart is due after a nogood at least
+less_pow : (i : ℕ) → i < 2 ^ i
+less_pow zero = omega arith
+less_pow (suc i) = omega (arith, less_pow i, pow-suc 2 i)
+
+positive : (k : ℕ) → All (λ x. 0 < x) (terms k)
+unfolding terms
+positive zero = All-nil (λ x. 0 < x)
+positive (suc k) =
+    let P : ℕ → Type 0 = λ x. 0 < x in
+    All-append P (terms k ++ terms k) (2 ^ k ∷ []) (All-append P (terms k) (terms k) (positive k) (positive k)) (All-cons P (2 ^ k) [] (omega (arith, less_pow k)) (All-nil P))
+
+term_positive : (i : ℕ) → 0 < term i
+term_positive i = positive (suc i) i 0 (omega (arith, length-terms (suc i), less_pow i, pow-suc 2 i))
+
+pub some_learnt : (restarts learnt : ℕ) → IsDue restarts learnt → 0 < learnt
+some_learnt restarts learnt due = elim (cases_lt restarts (2 ^ 32 - 1)) [ inl few ↦ omega (arith, due.early few, term_positive restarts) | inr many ↦ omega (arith, due.late many) ]
