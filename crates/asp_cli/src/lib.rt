@@ -27,8 +27,16 @@ pub fn usage() -> &'static [u8]
 /// What the command line asks for.
 #[derive(Clone, Copy, Debug, PartialEq, Eq)]
 pub struct Options {
+    /// How many threads may search: 1.
+    pub workers: u32,
     /// What is sought; None leaves it to the program: an optimum exactly where it minimises something.
     pub mode: Option<Mode>,
+    /// How many units of work there are, each of which a conflict costs. The greatest number is 2^63 - 1, which also stands where none was given.
+    pub budget: u64,
+    /// The number of nodes of the ring that is solved in place of a program that is read, if one is: 3 to 2000.
+    pub make: Option<u32>,
+    /// Whether the notes get counts of the run.
+    pub stats: bool,
 }
 
 /// Why the words of a command line give no options.
