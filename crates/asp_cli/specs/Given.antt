@@ -1,5 +1,5 @@
 -- What the words of a command line give: help, the options, or neither.
-use Rattle.std.specs.Prelude.{◌≡◌, ◌||◌, ℕ, Bool, true, false, List, [], ◌∷◌}
+use Rattle.std.specs.Prelude.{◌≡◌, ◌||◌, ℕ, ◌≤◌, Bool, true, false, List, [], ◌∷◌}
 use Rattle.std.specs.Prelude.{Option, Some, None, Result, Ok, Err, codes, if◌then◌else◌, option_map, option_and_then}
 use Rattle.std.specs.Str.{bytes_eq}
 use Rattle.std.specs.Str.Parse.{digits_value, without_leading_plus}
@@ -29,6 +29,11 @@ number_within least most t = if is_unsigned_in least most t then Some (digits_va
 
 abbrev pub number_if_given : Text → ℕ → ℕ → List Row → Option ℕ
 number_if_given name least most rows = option_and_then (number_within least most) (first_of name rows)
+
+-- the ring that is asked for, if one is, has 3 to 2000 nodes
+abbrev pub IsRing : Option ℕ → Type 0
+IsRing None = Unit {0}
+IsRing (Some n) = (3 ≤ n) × (n ≤ 2000)
 
 -- none is asked for, or one with 3 to 2000 nodes
 abbrev pub ring_named : Option Text → Option (Option ℕ)

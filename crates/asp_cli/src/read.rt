@@ -1,7 +1,7 @@
 //! The options as the matches hold them.
 ghost use Rattle.std.specs.Prelude.{◌≡◌, ◌≤◌, ◌&&◌, nat_le, Some, None, IfSome, if◌then◌else◌};
 ghost use Rattle.clap.specs.Words.{found_of, rows_of};
-ghost use Rattle.asp_cli.specs.Given.{is_set, make_if_given, mode_if_known, mode_named, number_if_given, number_within, options_in, ring_named};
+ghost use Rattle.asp_cli.specs.Given.{is_set, make_if_given, mode_if_known, mode_named, number_if_given, number_within, options_in, ring_named, IsRing};
 
 use crate::Options;
 use asp_model::results::Mode;
@@ -42,7 +42,7 @@ fn chosen_mode(matches: &ArgMatches<'_>, name: &str) -> Option<Option<Mode>>
 // The number, if it lies within these.
 fn within(n: u64, least: u64, most: u64) -> Option<u64>
     ensures value { result ≡ (if nat_le least n && nat_le n most then Some n else None) }
-    ensures most { IfSome result (λ m. m ≤ most) }
+    ensures within { IfSome result (λ m. (least ≤ m) × (m ≤ most)) }
 {
     if least <= n && n <= most {
         Some(n)
@@ -54,7 +54,7 @@ fn within(n: u64, least: u64, most: u64) -> Option<u64>
 // The number that the text writes, if it lies within these.
 fn number(text: &str, least: u64, most: u64) -> Option<u64>
     ensures value { result ≡ number_within least most text.now }
-    ensures most { IfSome result (λ n. n ≤ most) }
+    ensures within { IfSome result (λ n. (least ≤ n) × (n ≤ most)) }
 {
     match text.parse::<u64>() {
         Ok(n) => within(n, least, most),
@@ -64,7 +64,7 @@ fn number(text: &str, least: u64, most: u64) -> Option<u64>
 
 fn chosen_number(matches: &ArgMatches<'_>, name: &str, least: u64, most: u64) -> Option<u64>
     ensures value { result ≡ number_if_given name.now least most (rows_of (found_of matches.now)) }
-    ensures most { IfSome result (λ n. n ≤ most) }
+    ensures within { IfSome result (λ n. (least ≤ n) × (n ≤ most)) }
 {
     match matches.get_str(name) {
         Some(text) => number(text, least, most),
@@ -74,7 +74,8 @@ fn chosen_number(matches: &ArgMatches<'_>, name: &str, least: u64, most: u64) ->
 
 // The ring of so many nodes, if there is one.
 fn ring(text: &str) -> Option<Option<u32>>
-    ensures { result ≡ ring_named (Some text.now) }
+    ensures value { result ≡ ring_named (Some text.now) }
+    ensures ring { IfSome result IsRing }
 {
     match number(text, LEAST_RING, LARGEST_RING) {
         Some(nodes) => Some(Some(nodes as u32)),
@@ -84,7 +85,8 @@ fn ring(text: &str) -> Option<Option<u32>>
 
 // The ring that is asked for, if one is. None where its number of nodes is none that a ring has.
 fn chosen_ring(matches: &ArgMatches<'_>, name: &str) -> Option<Option<u32>>
-    ensures { result ≡ make_if_given name.now (rows_of (found_of matches.now)) }
+    ensures value { result ≡ make_if_given name.now (rows_of (found_of matches.now)) }
+    ensures ring { IfSome result IsRing }
 {
     match matches.get_str(name) {
         Some(text) => ring(text),
@@ -103,7 +105,8 @@ fn is_set(matches: &ArgMatches<'_>, name: &str) -> bool
 
 /// The options that the matches hold: one line for each. None where a value is none that its option takes.
 pub fn options(matches: &ArgMatches<'_>) -> Option<Options>
-    ensures { result ≡ options_in (rows_of (found_of matches.now)) }
+    ensures value { result ≡ options_in (rows_of (found_of matches.now)) }
+    ensures ring { IfSome result (λ o. IsRing o.make) }
 {
     let workers = chosen_number(matches, "workers", 1, MOST_WORKERS)?;
     let mode = chosen_mode(matches, "mode")?;

@@ -5,8 +5,8 @@ use Rattle.clap.proofs.WalkLemmas.{first_value-rows}
 use Rattle.asp_cli.specs.Given.{ring_named}
 use Rattle.asp_cli.proofs.read.chosen_ring.Goals as goal
 
-pub returns-in-Some : goal.returns-in-Some
-returns-in-Some c = c.ring.ensures ∙ ap ring_named (c.in-Some.ensures ∙ first_value-rows (found_of c.args.matches.now) c.args.name.now)
+pub returns-in-Some-clause-value : goal.returns-in-Some-clause-value
+returns-in-Some-clause-value c = c.ring.ensures.value ∙ ap ring_named (c.in-Some.ensures ∙ first_value-rows (found_of c.args.matches.now) c.args.name.now)
 
-pub returns-in-None : goal.returns-in-None
-returns-in-None c = ap ring_named (c.in-None.ensures ∙ first_value-rows (found_of c.args.matches.now) c.args.name.now)
+pub returns-in-None-clause-value : goal.returns-in-None-clause-value
+returns-in-None-clause-value c = ap ring_named (c.in-None.ensures ∙ first_value-rows (found_of c.args.matches.now) c.args.name.now)
