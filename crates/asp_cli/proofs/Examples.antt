@@ -1,17 +1,22 @@
 -- What some command lines give, computed by the definition.
-use Rattle.std.proofs.Common.{◌≡◌, [], ◌∷◌, Some, None, codes, refl}
+use Rattle.std.proofs.Common.{◌≡◌, [], ◌∷◌, true, false, Some, None, codes, refl}
 use Rattle.clap.proofs.OnLiterals.{clap_on_literals}
 use Rattle.clap.specs.Words.{fault_of}
 use Rattle.clap.specs.declared.error.kind.ErrorKind.TheVariants.{ArgumentConflict, DisplayHelp, InvalidValue, UnknownArgument}
 use Rattle.asp_model.specs.declared.results.Mode.TheVariants.{Enum, Opt}
 use Rattle.asp_cli.specs.Table.{app}
+use Rattle.asp_cli.specs.declared.Options.{Options}
 use Rattle.asp_cli.specs.Given.{help, is_taken, options, rows_of_words, usage, words_give}
+
+-- what is asked for where no option is given
+abbrev standard : Options
+standard = record { workers = 1; mode = None; budget = 9223372036854775807; make = None; stats = false }
 
 no_words : words_give ([]) ≡ usage
 unfolding clap_on_literals app is_taken rows_of_words
 no_words = refl
 
-alone : words_give (codes "aspenum" ∷ []) ≡ options (record { mode = None })
+alone : words_give (codes "aspenum" ∷ []) ≡ options standard
 unfolding clap_on_literals app is_taken rows_of_words
 alone = refl
 
@@ -31,15 +36,15 @@ help_after_option : words_give (codes "aspenum" ∷ codes "--mode=opt" ∷ codes
 unfolding clap_on_literals app is_taken rows_of_words
 help_after_option = refl
 
-mode_auto : words_give (codes "aspenum" ∷ codes "--mode" ∷ codes "auto" ∷ []) ≡ options (record { mode = None })
+mode_auto : words_give (codes "aspenum" ∷ codes "--mode" ∷ codes "auto" ∷ []) ≡ options standard
 unfolding clap_on_literals app is_taken rows_of_words
 mode_auto = refl
 
-mode_enum : words_give (codes "aspenum" ∷ codes "--mode" ∷ codes "enum" ∷ []) ≡ options (record { mode = Some Enum })
+mode_enum : words_give (codes "aspenum" ∷ codes "--mode" ∷ codes "enum" ∷ []) ≡ options (record standard { mode = Some Enum })
 unfolding clap_on_literals app is_taken rows_of_words
 mode_enum = refl
 
-mode_opt_equals : words_give (codes "aspenum" ∷ codes "--mode=opt" ∷ []) ≡ options (record { mode = Some Opt })
+mode_opt_equals : words_give (codes "aspenum" ∷ codes "--mode=opt" ∷ []) ≡ options (record standard { mode = Some Opt })
 unfolding clap_on_literals app is_taken rows_of_words
 mode_opt_equals = refl
 
@@ -71,7 +76,7 @@ short_option : words_give (codes "aspenum" ∷ codes "-m" ∷ codes "opt" ∷ []
 unfolding clap_on_literals app is_taken rows_of_words
 short_option = refl
 
-dashes_last : words_give (codes "aspenum" ∷ codes "--" ∷ []) ≡ options (record { mode = None })
+dashes_last : words_give (codes "aspenum" ∷ codes "--" ∷ []) ≡ options standard
 unfolding clap_on_literals app is_taken rows_of_words
 dashes_last = refl
 
@@ -99,9 +104,57 @@ version : words_give (codes "aspenum" ∷ codes "--version" ∷ []) ≡ usage
 unfolding clap_on_literals app is_taken rows_of_words
 version = refl
 
-later_option : words_give (codes "aspenum" ∷ codes "--stats" ∷ []) ≡ usage
+stats : words_give (codes "aspenum" ∷ codes "--stats" ∷ []) ≡ options (record standard { stats = true })
 unfolding clap_on_literals app is_taken rows_of_words
-later_option = refl
+stats = refl
+
+stats_of_one : words_give (codes "aspenum" ∷ codes "--stats=true" ∷ []) ≡ usage
+unfolding clap_on_literals app is_taken rows_of_words
+stats_of_one = refl
+
+budget_none : words_give (codes "aspenum" ∷ codes "--budget=0" ∷ []) ≡ options (record standard { budget = 0 })
+unfolding clap_on_literals app is_taken rows_of_words
+budget_none = refl
+
+budget_greatest : words_give (codes "aspenum" ∷ codes "--budget" ∷ codes "9223372036854775807" ∷ []) ≡ options standard
+unfolding clap_on_literals app is_taken rows_of_words
+budget_greatest = refl
+
+budget_too_great : words_give (codes "aspenum" ∷ codes "--budget" ∷ codes "9223372036854775808" ∷ []) ≡ usage
+unfolding clap_on_literals app is_taken rows_of_words
+budget_too_great = refl
+
+budget_negative : words_give (codes "aspenum" ∷ codes "--budget" ∷ codes "-1" ∷ []) ≡ usage
+unfolding clap_on_literals app is_taken rows_of_words
+budget_negative = refl
+
+one_worker : words_give (codes "aspenum" ∷ codes "--workers" ∷ codes "1" ∷ []) ≡ options standard
+unfolding clap_on_literals app is_taken rows_of_words
+one_worker = refl
+
+two_workers : words_give (codes "aspenum" ∷ codes "--workers" ∷ codes "2" ∷ []) ≡ usage
+unfolding clap_on_literals app is_taken rows_of_words
+two_workers = refl
+
+no_worker : words_give (codes "aspenum" ∷ codes "--workers=0" ∷ []) ≡ usage
+unfolding clap_on_literals app is_taken rows_of_words
+no_worker = refl
+
+ring_least : words_give (codes "aspenum" ∷ codes "--make" ∷ codes "3" ∷ []) ≡ options (record standard { make = Some 3 })
+unfolding clap_on_literals app is_taken rows_of_words
+ring_least = refl
+
+ring_small : words_give (codes "aspenum" ∷ codes "--make" ∷ codes "2" ∷ []) ≡ usage
+unfolding clap_on_literals app is_taken rows_of_words
+ring_small = refl
+
+ring_large : words_give (codes "aspenum" ∷ codes "--make=2001" ∷ []) ≡ usage
+unfolding clap_on_literals app is_taken rows_of_words
+ring_large = refl
+
+all_options : words_give (codes "aspenum" ∷ codes "--make=2000" ∷ codes "--stats" ∷ codes "--mode=enum" ∷ codes "--budget=7" ∷ codes "--workers=1" ∷ []) ≡ options (record { workers = 1; mode = Some Enum; budget = 7; make = Some 2000; stats = true })
+unfolding clap_on_literals app is_taken rows_of_words
+all_options = refl
 
 -- the kinds of fault that clap names
 

@@ -1,4 +1,5 @@
 pub mod TableLemmas
 pub mod ParseLemmas
 pub mod GivenLemmas
+pub mod NumberLemmas
 pub mod Examples

@@ -1,7 +1,9 @@
 -- What the words of a command line give: help, the options, or neither.
-use Rattle.std.specs.Prelude.{◌≡◌, ◌||◌, Bool, true, false, List, [], ◌∷◌}
+use Rattle.std.specs.Prelude.{◌≡◌, ◌||◌, ℕ, ◌≤◌, Bool, true, false, List, [], ◌∷◌}
 use Rattle.std.specs.Prelude.{Option, Some, None, Result, Ok, Err, codes, if◌then◌else◌, option_map, option_and_then}
 use Rattle.std.specs.Str.{bytes_eq}
+use Rattle.std.specs.Str.Parse.{digits_value, without_leading_plus}
+use Rattle.clap.specs.ValueTests.{is_unsigned_in}
 use Rattle.clap.specs.Words.{Kinds, Row, Text, fault_of, first_of, matches_of}
 use Rattle.asp_model.specs.declared.results.Mode.{Mode}
 use Rattle.asp_model.specs.declared.results.Mode.TheVariants.{Enum, Opt}
@@ -21,11 +23,50 @@ mode_named t = if bytes_eq t (codes "auto") then Some None
 abbrev pub mode_if_known : Text → List Row → Option (Option Mode)
 mode_if_known name rows = option_and_then mode_named (first_of name rows)
 
--- the options that the matches hold, one line for each; none where the mode is unknown
+-- the number that a text writes, if it lies within these
+abbrev pub number_within : ℕ → ℕ → Text → Option ℕ
+number_within least most t = if is_unsigned_in least most t then Some (digits_value 10 (without_leading_plus t)) else None
+
+abbrev pub number_if_given : Text → ℕ → ℕ → List Row → Option ℕ
+number_if_given name least most rows = option_and_then (number_within least most) (first_of name rows)
+
+-- the ring that is asked for, if one is, has 3 to 2000 nodes
+abbrev pub IsRing : Option ℕ → Type 0
+IsRing None = Unit {0}
+IsRing (Some n) = (3 ≤ n) × (n ≤ 2000)
+
+-- none is asked for, or one with 3 to 2000 nodes
+abbrev pub ring_named : Option Text → Option (Option ℕ)
+ring_named None = Some None
+ring_named (Some t) = option_map (λ n. Some n) (number_within 3 2000 t)
+
+abbrev pub make_if_given : Text → List Row → Option (Option ℕ)
+make_if_given name rows = ring_named (first_of name rows)
+
+abbrev pub is_true_text : Option Text → Bool
+is_true_text None = false
+is_true_text (Some t) = bytes_eq t (codes "true")
+
+-- whether the flag was given
+abbrev pub is_set : Text → List Row → Bool
+is_set name rows = is_true_text (first_of name rows)
+
+-- the options that the matches hold, one line for each; none where a value is none that its option takes
 abbrev pub options_in : List Row → Option Options
-options_in rows = option_map (λ mode. record {
-  mode = mode;
-}) (mode_if_known (codes "mode") rows)
+options_in rows =
+    option_and_then (λ workers.
+    option_and_then (λ mode.
+    option_and_then (λ budget.
+    option_map (λ make. record {
+      workers = workers;
+      mode = mode;
+      budget = budget;
+      make = make;
+      stats = is_set (codes "stats") rows;
+    }) (make_if_given (codes "make") rows))
+    (number_if_given (codes "budget") 0 9223372036854775807 rows))
+    (mode_if_known (codes "mode") rows))
+    (number_if_given (codes "workers") 1 1 rows)
 
 -- ---- the words
 

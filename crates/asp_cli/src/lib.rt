@@ -5,9 +5,9 @@ mod parse;
 mod read;
 mod table;
 
-ghost use Rattle.std.specs.Prelude.{◌≡◌, map, string_bytes};
+ghost use Rattle.std.specs.Prelude.{◌≡◌, IfOk, map, string_bytes};
 ghost use Rattle.asp_cli.specs.Usage.{usage_line};
-ghost use Rattle.asp_cli.specs.Given.{Answers, asks_help, asks_only_help, parsed, words_give};
+ghost use Rattle.asp_cli.specs.Given.{Answers, IsRing, asks_help, asks_only_help, parsed, words_give};
 
 use asp_model::results::Mode;
 use std::alloc::Global;
@@ -27,8 +27,16 @@ pub fn usage() -> &'static [u8]
 /// What the command line asks for.
 #[derive(Clone, Copy, Debug, PartialEq, Eq)]
 pub struct Options {
+    /// How many threads may search: 1.
+    pub workers: u32,
     /// What is sought; None leaves it to the program: an optimum exactly where it minimises something.
     pub mode: Option<Mode>,
+    /// How many units of work there are, each of which a conflict costs. The greatest number is 2^63 - 1, which also stands where none was given.
+    pub budget: u64,
+    /// The number of nodes of the ring that is solved in place of a program that is read, if one is: 3 to 2000.
+    pub make: Option<u32>,
+    /// Whether the notes get counts of the run.
+    pub stats: bool,
 }
 
 /// Why the words of a command line give no options.
@@ -60,7 +68,8 @@ fn asks_only_for_help(words: &[String]) -> bool
 }
 
 fn read_words(alloc: Global, words: &[String]) -> Result<Options, CliError>
-    ensures { Answers (parsed (map string_bytes words.now)) result }
+    ensures answers { Answers (parsed (map string_bytes words.now)) result }
+    ensures ring { IfOk result (λ o. IsRing o.make) }
 {
     let matches = parse::matches(alloc, words)?;
     match read::options(&matches) {
@@ -72,7 +81,8 @@ fn read_words(alloc: Global, words: &[String]) -> Result<Options, CliError>
 /// What the words of a command line give, the program's name first. Help comes exactly where one word follows the
 /// name and is `--help` or `-h`, Usage exactly where the words give neither help nor options, want of memory aside.
 pub fn words(alloc: Global, words: &[String]) -> Result<Options, CliError>
-    ensures { Answers (words_give (map string_bytes words.now)) result }
+    ensures answers { Answers (words_give (map string_bytes words.now)) result }
+    ensures ring { IfOk result (λ o. IsRing o.make) }
 {
     match words {
         [] => Err(CliError::Usage),

@@ -1,22 +1,26 @@
 -- What each status means, from what reading, solving and writing did.
-use Rattle.std.proofs.Common.{◌≡◌, ℕ, ◌≤◌, List, refl, subst, inl, inr, arith}
+use Rattle.std.proofs.Common.{◌≡◌, ℕ, ◌≤◌, Bool, true, false, List, refl, sym, subst, inl, inr, arith}
 use Rattle.std.specs.Prelude.{◌⊎◌, Option, None, Some, Result, Ok, Err, IfSome, IsSome, IsErrOf}
-use Rattle.std.specs.Io.KnownBytes.{Keeps, IsAtEnd}
+use Rattle.std.specs.Io.KnownBytes.{Appends, Keeps, IsAtEnd}
 use Rattle.asp_io.specs.Causes.{Rose}
 use Rattle.asp_model.specs.declared.fault.ReadError.{ReadError}
 use Rattle.asp_model.specs.declared.fault.ReadError.TheVariants as errors
 use Rattle.asp_model.specs.declared.program.Program.{Program}
-use Rattle.asp_model.specs.declared.results.Mode.{Mode}
-use Rattle.asp_model.specs.declared.results.Results.{Results}
+use Rattle.asp_model.specs.declared.results.End.{End}
+use Rattle.asp_model.specs.declared.results.End.TheVariants.{Finished, Unfinished}
+use Rattle.asp_model.specs.Texts.{results_text}
 use Rattle.asp_read.specs.Outcome.{outcome, most_bytes}
 use Rattle.asp_read.specs.Stream.{ReadsText, StopsAt}
+use Rattle.asp_make.specs.Ring.{ring}
+use Rattle.asp_crew.specs.declared.report.Report.{Report}
 use Rattle.asp_top.specs.declared.status.Status.{Status}
-use Rattle.asp_top.specs.declared.status.Status.TheVariants.{All, NoModel, Help, Memory, Usage, Refused, ReadFault, TooLong, WriteFault}
-use Rattle.asp_top.specs.declared.status.Report.{Report}
+use Rattle.asp_top.specs.declared.status.Status.TheVariants.{All, NoModel, Partial, Unknown, Help, Memory, Usage, Refused, ReadFault, TooLong, WriteFault}
 use Rattle.asp_top.specs.declared.status.Outcome.{Outcome}
-use Rattle.asp_top.specs.Meaning.{IsFinished, mode_of}
-use Rattle.asp_top.specs.Runs.{Around, Delivers, DeliveryMeans, IsExact, IsSaid, IsSolved, Means, Runs, RunsOn, Says, status_of}
+use Rattle.asp_top.specs.Meaning.{has_model, status_for}
+use Rattle.asp_top.specs.Notes.{is_answered, notes_of}
+use Rattle.asp_top.specs.Runs.{Around, DeliveryMeans, IsExact, IsGiven, IsSaid, IsSolved, Means, Runs, RunsOn, Says, Solves, is_brief, status_of}
 use Rattle.asp_cli.specs.Given.{Given, help, usage, options}
+use Rattle.asp_cli.specs.declared.Options.{Options}
 
 says-at : (a : Around) (text : List ℕ) (said : Result Program ReadError) → a.left ≡ Some text → Says a said → outcome text ≡ said
 says-at a text said is h = subst (λ (l : Option (List ℕ)). IfSome l (λ t. outcome t ≡ said)) is h
@@ -30,43 +34,50 @@ one-error o e f p q = cc
 abbrev Quiet : Around → Status → Type 0
 Quiet a status = IsSome a.left → ¬ (status ≡ ReadFault) → a.reads' ≡ a.reads
 
-solved-exact : (mode : Option Mode) (a : Around) (report : Option Report) (status : Status) → IsSolved mode a report
-    → (¬ Rose a.writes a.writes' → (status ≡ All) ⊎ (status ≡ NoModel)) → Quiet a status → IsExact a status
-solved-exact mode a report status s done quiet = record {
-  accepted = λ text p is out r w. inl (done w);
-  refused = λ text fault line is out r. absurd (ok-or-err (outcome text) s.program (errors.Refused fault line) (says-at a text _ is s.says) out);
-  too_long = λ text is out r. absurd (ok-or-err (outcome text) s.program errors.TooLong (says-at a text _ is s.says) out);
+-- an accepted text says the program that was solved, so no other is said
+solved-exact : (given : Options) (a : Around) (report : Option Report) (status : Status) → IsSolved given a report
+    → (¬ Rose a.writes a.writes' → is_answered status ≡ true) → Quiet a status → IsExact given a status
+solved-exact given a report status s done quiet = record {
+  accepted = λ text r w. inl (done w);
+  refused = λ reads text fault line is out r. absurd (said given.make reads s.program s.source text is (errors.Refused fault line) out);
+  too_long = λ reads text is out r. absurd (said given.make reads s.program s.source text is errors.TooLong out);
   quiet = quiet;
 }
+  where
+    said : (m : Option ℕ) → m ≡ None → (p : Program) → IsGiven m a p → (text : List ℕ) → a.left ≡ Some text → (e : ReadError) → outcome text ≡ Err e → ⊥
+    said None none p from text is e out = ok-or-err (outcome text) p e (says-at a text _ is from.says) out
+    said (Some n) none p from text is e out = absurd cc
 
-pub exact : (mode : Option Mode) (a : Around) (report : Option Report) (status : Status) → Means mode a report status → Quiet a status → IsExact a status
-exact mode a report All m quiet = solved-exact mode a report All m.solved (λ w. inl refl) quiet
-exact mode a report NoModel m quiet = solved-exact mode a report NoModel m.solved (λ w. inr refl) quiet
-exact mode a report WriteFault m quiet = solved-exact mode a report WriteFault m.solved (λ w. absurd (w m.cause)) quiet
-exact mode a report Help m quiet = absurd m
-exact mode a report Usage m quiet = absurd m
-exact mode a report Memory m quiet = record {
-  accepted = λ text p is out r w. inr refl;
-  refused = λ text fault line is out r. inr refl;
-  too_long = λ text is out r. inr refl;
+pub exact : (given : Options) (a : Around) (report : Option Report) (status : Status) → Means given a report status → Quiet a status → IsExact given a status
+exact given a report All m quiet = solved-exact given a report All m.solved (λ w. refl) quiet
+exact given a report NoModel m quiet = solved-exact given a report NoModel m.solved (λ w. refl) quiet
+exact given a report Partial m quiet = solved-exact given a report Partial m.solved (λ w. refl) quiet
+exact given a report Unknown m quiet = solved-exact given a report Unknown m.solved (λ w. refl) quiet
+exact given a report WriteFault m quiet = solved-exact given a report WriteFault m.solved (λ w. absurd (w m.cause)) quiet
+exact given a report Help m quiet = absurd m
+exact given a report Usage m quiet = absurd m
+exact given a report Memory m quiet = record {
+  accepted = λ text r w. inr refl;
+  refused = λ reads text fault line is out r. inr refl;
+  too_long = λ reads text is out r. inr refl;
   quiet = quiet;
 }
-exact mode a report ReadFault m quiet = record {
-  accepted = λ text p is out r w. absurd (r m.cause);
-  refused = λ text fault line is out r. absurd (r m.cause);
-  too_long = λ text is out r. absurd (r m.cause);
+exact given a report ReadFault m quiet = record {
+  accepted = λ text r w. absurd (r m.1.cause);
+  refused = λ reads text fault line is out r. absurd (r m.1.cause);
+  too_long = λ reads text is out r. absurd (r m.1.cause);
   quiet = quiet;
 }
-exact mode a report TooLong m quiet = record {
-  accepted = λ text p is out r w. absurd (ok-or-err (outcome text) p errors.TooLong out (says-at a text _ is m.says));
-  refused = λ text fault line is out r. let same : errors.TooLong ≡ errors.Refused fault line = one-error (outcome text) _ _ (says-at a text _ is m.says) out in absurd cc;
-  too_long = λ text is out r. inl refl;
+exact given a report TooLong m quiet = record {
+  accepted = λ told r w. let t = told m.0 in absurd (ok-or-err (outcome t.0) t.1 errors.TooLong t.3 (says-at a t.0 _ t.2 m.1.says));
+  refused = λ reads text fault line is out r. let same : errors.TooLong ≡ errors.Refused fault line = one-error (outcome text) _ _ (says-at a text _ is m.1.says) out in absurd cc;
+  too_long = λ reads text is out r. inl refl;
   quiet = quiet;
 }
-exact mode a report (Refused f l) m quiet = record {
-  accepted = λ text p is out r w. absurd (ok-or-err (outcome text) p (errors.Refused f l) out (says-at a text _ is m.says));
-  refused = λ text fault line is out r. let same : errors.Refused f l ≡ errors.Refused fault line = one-error (outcome text) _ _ (says-at a text _ is m.says) out in inl cc;
-  too_long = λ text is out r. let same : errors.Refused f l ≡ errors.TooLong = one-error (outcome text) _ _ (says-at a text _ is m.says) out in absurd cc;
+exact given a report (Refused f l) m quiet = record {
+  accepted = λ told r w. let t = told m.0 in absurd (ok-or-err (outcome t.0) t.1 (errors.Refused f l) t.3 (says-at a t.0 _ t.2 m.1.says));
+  refused = λ reads text fault line is out r. let same : errors.Refused f l ≡ errors.Refused fault line = one-error (outcome text) _ _ (says-at a text _ is m.1.says) out in inl cc;
+  too_long = λ reads text is out r. let same : errors.Refused f l ≡ errors.TooLong = one-error (outcome text) _ _ (says-at a text _ is m.1.says) out in absurd cc;
   quiet = quiet;
 }
 
@@ -79,54 +90,62 @@ pub record Unread (a : Around) (e : ReadError) : Type 0 where
   pub stops : StopsAt most_bytes a.left a.left' (Err e)
   pub quiet : IsSome a.left → ¬ (e ≡ errors.ReadFault) → a.reads' ≡ a.reads
 
-unread-means : (mode : Option Mode) (a : Around) (e : ReadError) → Keeps a.held a.held' → Unread a e → Means mode a None (status_of e)
-unread-means mode a errors.Memory kept u = record { none = refl; kept = kept }
-unread-means mode a errors.ReadFault kept u = record { untouched = record { none = refl; kept = kept }; cause = u.cause refl; stops = u.stops }
-unread-means mode a errors.TooLong kept u = record { untouched = record { none = refl; kept = kept }; says = u.text; said = u.some_text; stops = u.stops }
-unread-means mode a (errors.Refused f l) kept u = record { untouched = record { none = refl; kept = kept }; says = u.text; said = u.some_text; stops = u.stops }
+unread-means : (given : Options) (a : Around) (e : ReadError) → given.make ≡ None → Keeps a.held a.held' → Unread a e → Means given a None (status_of e)
+unread-means given a errors.Memory reads kept u = record { none = refl; kept = kept }
+unread-means given a errors.ReadFault reads kept u = (reads, record { untouched = record { none = refl; kept = kept }; cause = u.cause refl; stops = u.stops })
+unread-means given a errors.TooLong reads kept u = (reads, record { untouched = record { none = refl; kept = kept }; says = u.text; said = u.some_text; stops = u.stops })
+unread-means given a (errors.Refused f l) reads kept u = (reads, record { untouched = record { none = refl; kept = kept }; says = u.text; said = u.some_text; stops = u.stops })
 
 fault-status : (e : ReadError) → e ≡ errors.ReadFault → status_of e ≡ ReadFault
 fault-status e is = rw is refl
 
-pub runs-unread : (mode : Option Mode) (a : Around) (e : ReadError) → Keeps a.held a.held' → a.writes ≤ a.writes' → Unread a e
-    → Runs mode a (record { status = status_of e; report = None })
-runs-unread mode a e kept writes u =
-    let means = unread-means mode a e kept u in
+pub runs-unread : (given : Options) (a : Around) (e : ReadError) → given.make ≡ None → Keeps a.held a.held' → a.writes ≤ a.writes' → Unread a e
+    → Runs given a (record { status = status_of e; report = None })
+runs-unread given a e reads kept writes u =
+    let means = unread-means given a e reads kept u in
     record {
       means = means;
-      exact = exact mode a None (status_of e) means (λ told isn't. u.quiet told (λ is. isn't (fault-status e is)));
+      exact = exact given a None (status_of e) means (λ told isn't. u.quiet told (λ is. isn't (fault-status e is)));
       later = (u.later, writes);
     }
 
-pub runs-memory : (mode : Option Mode) (a : Around) → Keeps a.held a.held' → a.reads ≤ a.reads' → a.writes ≤ a.writes' → (IsSome a.left → a.reads' ≡ a.reads)
-    → Runs mode a (record { status = Memory; report = None })
-runs-memory mode a kept reads writes quiet =
-    let means : Means mode a None Memory = record { none = refl; kept = kept } in
-    record { means = means; exact = exact mode a None Memory means (λ told isn't. quiet told); later = (reads, writes) }
+pub runs-memory : (given : Options) (a : Around) → Keeps a.held a.held' → a.reads ≤ a.reads' → a.writes ≤ a.writes' → (IsSome a.left → a.reads' ≡ a.reads)
+    → Runs given a (record { status = Memory; report = None })
+runs-memory given a kept reads writes quiet =
+    let means : Means given a None Memory = record { none = refl; kept = kept } in
+    record { means = means; exact = exact given a None Memory means (λ told isn't. quiet told); later = (reads, writes) }
 
-delivered : (mode : Option Mode) (a : Around) (p : Program) (r : Results) (report : Option Report) (status : Status) → Says a (Ok p) → IsSaid (Ok p) → IsAtEnd a.left'
-    → IsFinished p (mode_of mode p) r → report ≡ Some (record { results = r }) → DeliveryMeans p r a.held a.held' a.writes a.writes' status → Means mode a report status
-delivered mode a p r report status says said end finished reports m = go status m
-  where
-    solved : IsSolved mode a report
-    solved = record { program = p; says = says; said = said; end = end; done = record { results = r }; reports = reports; finished = finished }
+written : (given : Options) (a : Around) (report : Option Report) → (s : IsSolved given a report) → (end : End) (model : Bool) → s.done.results.end ≡ end → has_model s.done.results ≡ model
+    → Appends a.held a.held' (results_text s.program s.done.results (is_brief given)) → Means given a report (status_for end model)
+written given a report s Finished true e m text = record { solved = s; end_is = e; model_is = m; text = text }
+written given a report s Finished false e m text = record { solved = s; end_is = e; model_is = m; text = text }
+written given a report s Unfinished true e m text = record { solved = s; end_is = e; model_is = m; text = text }
+written given a report s Unfinished false e m text = record { solved = s; end_is = e; model_is = m; text = text }
 
-    go : (status : Status) → DeliveryMeans p r a.held a.held' a.writes a.writes' status → Means mode a report status
-    go All m = record { solved = solved; model_is = m.0; text = m.1 }
-    go NoModel m = record { solved = solved; model_is = m.0; text = m.1 }
-    go WriteFault m = record { solved = solved; text = m.0; cause = m.1 }
-    go Help m = absurd m
-    go Memory m = absurd m
-    go Usage m = absurd m
-    go (Refused f l) m = absurd m
-    go ReadFault m = absurd m
-    go TooLong m = absurd m
+delivered : (given : Options) (a : Around) (s : Status) (report : Option Report) → (solved : IsSolved given a report)
+    → DeliveryMeans (is_brief given) solved.program solved.done.results a.held a.held' a.writes a.writes' s → Means given a report s
+delivered given a s report solved (inl m) = subst (Means given a report) (sym m.0) (written given a report solved solved.done.results.end (has_model solved.done.results) refl refl m.1)
+delivered given a s report solved (inr m) = subst (Means given a report) (sym m.0) (record { solved = solved; text = m.1; cause = m.2 })
 
-pub runs-solved : (mode : Option Mode) (a : Around) (p : Program) (r : Results) (o : Outcome) → Says a (Ok p) → IsSaid (Ok p) → IsAtEnd a.left' → a.reads ≤ a.reads' → (IsSome a.left → a.reads' ≡ a.reads)
-    → IsFinished p (mode_of mode p) r → Delivers p r a.held a.held' a.writes a.writes' o → Runs mode a o
-runs-solved mode a p r o says said end reads quiet finished d =
-    let means = delivered mode a p r o.report o.status says said end finished d.reports d.means in
-    record { means = means; exact = exact mode a o.report o.status means (λ told isn't. quiet told); later = (reads, d.later) }
+pub runs-solved : (given : Options) (a : Around) (p : Program) (o : Outcome) → IsGiven given.make a p → a.reads ≤ a.reads' → (IsSome a.left → a.reads' ≡ a.reads)
+    → Solves given p a.held a.held' a.writes a.writes' o → Runs given a o
+runs-solved given a p o from reads quiet (inl m) = subst (Runs given a) (sym m.0) (runs-memory given a m.1 reads (omega (arith, m.2)) quiet)
+runs-solved given a p o from reads quiet (inr s) =
+    let solved : IsSolved given a o.report = record { program = p; source = from; done = s.0; reports = s.2.reports; is = s.1 } in
+    let means = delivered given a o.status o.report solved s.2.means in
+    record { means = means; exact = exact given a o.report o.status means (λ told isn't. quiet told); later = (reads, s.2.later) }
+
+-- the program of a text is solved
+pub runs-read : (given : Options) (a : Around) (p : Program) (o : Outcome) → given.make ≡ None → Says a (Ok p) → IsSaid (Ok p) → IsAtEnd a.left' → a.reads ≤ a.reads' → (IsSome a.left → a.reads' ≡ a.reads)
+    → Solves given p a.held a.held' a.writes a.writes' o → Runs given a o
+runs-read given a p o none says said end reads quiet s =
+    runs-solved given a p o (subst (λ (m : Option ℕ). IsGiven m a p) (sym none) (record { says = says; said = said; end = end })) reads quiet s
+
+-- a ring is solved, and nothing read
+pub runs-ring : (given : Options) (a : Around) (n : ℕ) (p : Program) (o : Outcome) → given.make ≡ Some n → p ≡ ring n → Keeps a.left a.left' → a.reads' ≡ a.reads
+    → Solves given p a.held a.held' a.writes a.writes' o → Runs given a o
+runs-ring given a n p o make is left reads s =
+    runs-solved given a p o (subst (λ (m : Option ℕ). IsGiven m a p) (sym make) (is, record { left = left; reads = reads })) (omega (arith, reads)) (λ told. reads) s
 
 pub ok-no-fault : (p : Program) (e : ReadError) → ¬ IsErrOf (Ok p) e
 ok-no-fault p e is = cc
@@ -135,4 +154,9 @@ ok-no-fault p e is = cc
 pub runs-on-memory : (given : Given) (a : Around) → ¬ (given ≡ help) → Keeps a.left a.left' → a.reads' ≡ a.reads → Keeps a.held a.held' → a.writes' ≡ a.writes → RunsOn given a (record { status = Memory; report = None })
 runs-on-memory help a asked left reads held writes = absurd (asked refl)
 runs-on-memory usage a asked left reads held writes = record { status = inr refl; untouched = record { none = refl; kept = held }; unasked = record { left = left; reads = reads } }
-runs-on-memory (options given) a asked left reads held writes = runs-memory given.mode a held (omega arith) (omega arith) (λ told. reads)
+runs-on-memory (options given) a asked left reads held writes = runs-memory given a held (omega arith) (omega arith) (λ told. reads)
+
+-- no counts are written where no results were
+pub unanswered-notes : (stats : Bool) (status : Status) → is_answered status ≡ false → notes_of stats (record { status = status; report = None }) ≡ notes_of false (record { status = status; report = None })
+unanswered-notes true status e = rw e refl
+unanswered-notes false status e = refl

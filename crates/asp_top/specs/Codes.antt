@@ -1,11 +1,13 @@
 -- The exit statuses.
 use Rattle.std.specs.Prelude.{ℕ}
 use Rattle.asp_top.specs.declared.status.Status.{Status}
-use Rattle.asp_top.specs.declared.status.Status.TheVariants.{All, NoModel, Help, Memory, Usage, Refused, ReadFault, TooLong, WriteFault}
+use Rattle.asp_top.specs.declared.status.Status.TheVariants.{All, NoModel, Partial, Unknown, Help, Memory, Usage, Refused, ReadFault, TooLong, WriteFault}
 
 abbrev pub code_of : Status → ℕ
 code_of All = 30
 code_of NoModel = 20
+code_of Partial = 10
+code_of Unknown = 1
 code_of Help = 0
 code_of Memory = 33
 code_of Usage = 64

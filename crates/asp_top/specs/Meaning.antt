@@ -1,15 +1,15 @@
--- What the results of a finished run say of a program.
-use Rattle.std.specs.Prelude.{◌≡◌, Bool, true, false, List, [], ◌∷◌, ℤ, Option, None, Some}
+-- What is asked of a program, and whether a model was recorded.
+use Rattle.std.specs.Prelude.{Bool, true, false, List, [], ◌∷◌, Option, None, Some}
 use Rattle.asp_model.specs.declared.program.Program.{Program}
 use Rattle.asp_model.specs.declared.program.Minimize.{Minimize}
 use Rattle.asp_model.specs.declared.results.Mode.{Mode}
 use Rattle.asp_model.specs.declared.results.Mode.TheVariants.{Enum, Opt}
-use Rattle.asp_model.specs.declared.results.End.TheVariants.{Finished}
+use Rattle.asp_model.specs.declared.results.End.{End}
+use Rattle.asp_model.specs.declared.results.End.TheVariants.{Finished, Unfinished}
 use Rattle.asp_model.specs.declared.results.Results.{Results}
-use Rattle.asp_model.specs.Sets.{Atoms}
-use Rattle.asp_model.specs.Models.{answers}
-use Rattle.asp_model.specs.Costs.{IsOptimum}
 use Rattle.asp_model.specs.Texts.{recorded}
+use Rattle.asp_top.specs.declared.status.Status.{Status}
+use Rattle.asp_top.specs.declared.status.Status.TheVariants.{All, NoModel, Partial, Unknown}
 
 -- an optimum exactly where something is minimised
 abbrev pub mode_by : List Minimize → Mode
@@ -21,21 +21,6 @@ abbrev pub mode_of : Option Mode → Program → Mode
 mode_of (Some mode) p = mode
 mode_of None p = mode_by p.minimize
 
--- no answer, where there is none, or one with its cost that no answer betters
-abbrev pub IsBest : Program → Option (Atoms × List ℤ) → Type 0
-IsBest p None = answers p ≡ []
-IsBest p (Some best) = IsOptimum p best.0 best.1
-
--- in an enumeration all answers, each once, in their order; in an optimisation a best one alone
-abbrev pub IsFound : Program → Mode → Results → Type 0
-IsFound p Enum r = (r.answers ≡ answers p) × (r.best ≡ None)
-IsFound p Opt r = (r.answers ≡ []) × IsBest p r.best
-
-pub record IsFinished (p : Program) (mode : Mode) (r : Results) : Type 0 where
-  pub mode_is : r.mode ≡ mode
-  pub end : r.end ≡ Finished
-  pub found : IsFound p mode r
-
 abbrev pub is_some_of : {A : Type 0} → List A → Bool
 is_some_of [] = false
 is_some_of (x ∷ xs) = true
@@ -43,3 +28,10 @@ is_some_of (x ∷ xs) = true
 -- whether a model was recorded
 abbrev pub has_model : Results → Bool
 has_model r = is_some_of (recorded r.mode r)
+
+-- a status that tells whether the run came to its end, and whether it has a model
+abbrev pub status_for : End → Bool → Status
+status_for Finished true = All
+status_for Finished false = NoModel
+status_for Unfinished true = Partial
+status_for Unfinished false = Unknown

@@ -1,12 +1,14 @@
 -- What the notes say of a run.
-use Rattle.std.specs.Prelude.{ℕ, ◌≤◌, List, [], ◌++◌, codes, decimal, Option, Result, OnOk, OnErr}
+use Rattle.std.specs.Prelude.{ℕ, ◌≤◌, Bool, true, false, ◌&&◌, if◌then◌else◌, List, [], ◌++◌, codes, decimal, Option, None, Some, Result, OnOk, OnErr}
 use Rattle.std.specs.Io.KnownBytes.{Appends}
 use Rattle.asp_io.specs.Causes.{Rose, AppendsFront}
 use Rattle.asp_model.specs.declared.fault.Fault.{Fault}
 use Rattle.asp_model.specs.declared.fault.Fault.TheVariants as fault
 use Rattle.asp_cli.specs.Usage.{usage_line}
+use Rattle.asp_crew.specs.declared.report.Report.{Report}
+use Rattle.asp_top.specs.declared.status.Outcome.{Outcome}
 use Rattle.asp_top.specs.declared.status.Status.{Status}
-use Rattle.asp_top.specs.declared.status.Status.TheVariants.{All, NoModel, Help, Memory, Usage, Refused, ReadFault, TooLong, WriteFault}
+use Rattle.asp_top.specs.declared.status.Status.TheVariants.{All, NoModel, Partial, Unknown, Help, Memory, Usage, Refused, ReadFault, TooLong, WriteFault}
 
 abbrev pub fault_text : Fault → List ℕ
 fault_text fault.Header = codes "not an aspif 1.0 header"
@@ -30,6 +32,8 @@ fault_text fault.Size = codes "program too large"
 abbrev pub note_of : Status → List ℕ
 note_of All = []
 note_of NoModel = []
+note_of Partial = []
+note_of Unknown = []
 note_of Help = []
 note_of Memory = codes "aspenum: out of memory\n"
 note_of Usage = codes "aspenum: " ++ usage_line ++ codes "\n"
@@ -37,6 +41,30 @@ note_of (Refused f line) = codes "aspenum: line " ++ decimal line ++ (codes ": "
 note_of ReadFault = codes "aspenum: read failed\n"
 note_of TooLong = codes "aspenum: input too long\n"
 note_of WriteFault = codes "aspenum: write failed\n"
+
+-- The counts of a run: the units that were burnt; one search works on one leaf, and shares no nogood.
+abbrev pub stats_of : Report → List ℕ
+stats_of r = codes "Conflicts: " ++ decimal r.spent ++ codes "\nLeaves: 1\nLog: 0\n"
+
+abbrev pub counts_of : Option Report → List ℕ
+counts_of None = []
+counts_of (Some r) = stats_of r
+
+-- whether results were written
+abbrev pub is_answered : Status → Bool
+is_answered All = true
+is_answered NoModel = true
+is_answered Partial = true
+is_answered Unknown = true
+is_answered _ = false
+
+-- the counts, where they are asked for and results were written
+abbrev pub counts_if : Bool → Outcome → List ℕ
+counts_if stats o = if stats && is_answered o.status then counts_of o.report else []
+
+-- what the notes get of an outcome
+abbrev pub notes_of : Bool → Outcome → List ℕ
+notes_of stats o = note_of o.status ++ counts_if stats o
 
 -- a call wrote all of the bytes, or failed with a front of them out, and only where a fault was counted
 pub record Writes {T E : Type 0} (held held' : Option (List ℕ)) (faults faults' : ℕ) (result : Result T E) (bytes : List ℕ) : Type 0 where

@@ -1,23 +1,28 @@
 -- What each status of a run says of the words, of the bytes read and of the bytes written.
-use Rattle.std.specs.Prelude.{◌≡◌, ◌⊎◌, ℕ, ◌≤◌, Bool, true, false, List, ◌++◌, codes, Option, None, Some, Result, Ok, Err, IfSome, IsSome}
+use Rattle.std.specs.Prelude.{◌≡◌, ◌⊎◌, ℕ, ◌≤◌, Bool, true, false, List, ◌++◌, codes, Option, None, Some, Result, Ok, Err, IfSome, IsSome, is_some}
 use Rattle.std.specs.Io.KnownBytes.{Appends, Keeps, IsAtEnd}
 use Rattle.asp_io.specs.Causes.{Rose, AppendsFront}
 use Rattle.asp_model.specs.declared.fault.Fault.{Fault}
 use Rattle.asp_model.specs.declared.fault.ReadError.{ReadError}
 use Rattle.asp_model.specs.declared.fault.ReadError.TheVariants as errors
 use Rattle.asp_model.specs.declared.program.Program.{Program}
-use Rattle.asp_model.specs.declared.results.Mode.{Mode}
+use Rattle.asp_model.specs.declared.results.End.{End}
+use Rattle.asp_model.specs.declared.results.End.TheVariants.{Finished, Unfinished}
 use Rattle.asp_model.specs.declared.results.Results.{Results}
 use Rattle.asp_model.specs.Texts.{results_text}
 use Rattle.asp_read.specs.Outcome.{outcome, most_bytes}
 use Rattle.asp_read.specs.Stream.{StopsAt}
+use Rattle.asp_make.specs.Ring.{ring}
 use Rattle.asp_cli.specs.Given.{Given, help, usage, options}
+use Rattle.asp_cli.specs.declared.Options.{Options}
 use Rattle.asp_cli.specs.Usage.{usage_line}
+use Rattle.asp_crew.specs.declared.report.Report.{Report}
+use Rattle.asp_crew.specs.Reports.{IsReport}
 use Rattle.asp_top.specs.declared.status.Status.{Status}
-use Rattle.asp_top.specs.declared.status.Status.TheVariants.{All, NoModel, Help, Memory, Usage, Refused, ReadFault, TooLong, WriteFault}
-use Rattle.asp_top.specs.declared.status.Report.{Report}
+use Rattle.asp_top.specs.declared.status.Status.TheVariants.{All, NoModel, Partial, Unknown, Help, Memory, Usage, Refused, ReadFault, TooLong, WriteFault}
 use Rattle.asp_top.specs.declared.status.Outcome.{Outcome}
-use Rattle.asp_top.specs.Meaning.{IsFinished, has_model, mode_of}
+use Rattle.asp_top.specs.Meaning.{has_model, mode_of, status_for}
+use Rattle.asp_top.specs.Notes.{is_answered}
 
 -- the source and the sink before and after a run: the bytes that are left and held, where they are told, and the counts of faults
 pub record Around : Type 0 where
@@ -42,26 +47,45 @@ Says a said = IfSome a.left (λ text. outcome text ≡ said)
 abbrev pub IsSaid : Result Program ReadError → Type 0
 IsSaid said = (text : List ℕ) × (outcome text ≡ said)
 
--- the report is that of a finished run on the accepted text, which was read to its end; where the source doesn't tell its bytes, on the program of some text
-pub record IsSolved (mode : Option Mode) (a : Around) (report : Option Report) : Type 0 where
-  pub program : Program
-  pub says : Says a (Ok program)
-  pub said : IsSaid (Ok program)
+-- the source wasn't read
+pub record IsUnasked (a : Around) : Type 0 where
+  pub left : Keeps a.left a.left'
+  pub reads : a.reads' ≡ a.reads
+
+-- the text says the program, and was read to its end; where the source doesn't tell its bytes, some text says it
+pub record IsRead (a : Around) (p : Program) : Type 0 where
+  pub says : Says a (Ok p)
+  pub said : IsSaid (Ok p)
   pub end : IsAtEnd a.left'
+
+-- the program of the text, or the ring that is asked for, and then nothing is read
+abbrev pub IsGiven : Option ℕ → Around → Program → Type 0
+IsGiven None a p = IsRead a p
+IsGiven (Some n) a p = (p ≡ ring n) × IsUnasked a
+
+-- the report is that of a run on the program, in the mode and with the units that were given
+pub record IsSolved (given : Options) (a : Around) (report : Option Report) : Type 0 where
+  pub program : Program
+  pub source : IsGiven given.make a program
   pub done : Report
   pub reports : report ≡ Some done
-  pub finished : IsFinished program (mode_of mode program) done.results
+  pub is : IsReport program (mode_of given.mode program) given.budget done
+
+-- the lines of a ring's answers are left out
+abbrev pub is_brief : Options → Bool
+is_brief given = is_some given.make
 
 -- exactly the text of the report's results was written
-pub record IsWritten (mode : Option Mode) (a : Around) (report : Option Report) (model : Bool) : Type 0 where
-  pub solved : IsSolved mode a report
+pub record IsWritten (given : Options) (a : Around) (report : Option Report) (end : End) (model : Bool) : Type 0 where
+  pub solved : IsSolved given a report
+  pub end_is : solved.done.results.end ≡ end
   pub model_is : has_model solved.done.results ≡ model
-  pub text : Appends a.held a.held' (results_text solved.program solved.done.results false)
+  pub text : Appends a.held a.held' (results_text solved.program solved.done.results (is_brief given))
 
 -- a front of that text was written, and a fault counted
-pub record IsCutOff (mode : Option Mode) (a : Around) (report : Option Report) : Type 0 where
-  pub solved : IsSolved mode a report
-  pub text : AppendsFront a.held a.held' (results_text solved.program solved.done.results false)
+pub record IsCutOff (given : Options) (a : Around) (report : Option Report) : Type 0 where
+  pub solved : IsSolved given a report
+  pub text : AppendsFront a.held a.held' (results_text solved.program solved.done.results (is_brief given))
   pub cause : Rose a.writes a.writes'
 
 -- nothing was solved and nothing written
@@ -89,57 +113,65 @@ status_of errors.ReadFault = ReadFault
 status_of errors.TooLong = TooLong
 status_of (errors.Refused fault line) = Refused fault line
 
--- each status after the words, and what it says
-abbrev pub Means : Option Mode → Around → Option Report → Status → Type 0
-Means mode a report All = IsWritten mode a report true
-Means mode a report NoModel = IsWritten mode a report false
-Means mode a report Help = ⊥
-Means mode a report Memory = IsUntouched a report
-Means mode a report Usage = ⊥
-Means mode a report (Refused fault line) = IsRefused a report (errors.Refused fault line)
-Means mode a report ReadFault = IsUnread a report
-Means mode a report TooLong = IsRefused a report errors.TooLong
-Means mode a report WriteFault = IsCutOff mode a report
+-- a text is read
+abbrev pub Reads : Options → Type 0
+Reads given = given.make ≡ None
 
-abbrev pub IsAnswered : Status → Type 0
-IsAnswered status = (status ≡ All) ⊎ (status ≡ NoModel)
+-- each status after the words, and what it says
+abbrev pub Means : Options → Around → Option Report → Status → Type 0
+Means given a report All = IsWritten given a report Finished true
+Means given a report NoModel = IsWritten given a report Finished false
+Means given a report Partial = IsWritten given a report Unfinished true
+Means given a report Unknown = IsWritten given a report Unfinished false
+Means given a report Help = ⊥
+Means given a report Memory = IsUntouched a report
+Means given a report Usage = ⊥
+Means given a report (Refused fault line) = Reads given × IsRefused a report (errors.Refused fault line)
+Means given a report ReadFault = Reads given × IsUnread a report
+Means given a report TooLong = Reads given × IsRefused a report errors.TooLong
+Means given a report WriteFault = IsCutOff given a report
+
+-- an accepted text, where one is read
+abbrev pub IsAccepted : Options → Around → Type 0
+IsAccepted given a = Reads given → (text : List ℕ) × (p : Program) × (a.left ≡ Some text) × (outcome text ≡ Ok p)
 
 -- which status comes, but for want of memory
-pub record IsExact (a : Around) (status : Status) : Type 0 where
-  -- an accepted text, where neither count rose, is answered
-  pub accepted : (text : List ℕ) (p : Program) → a.left ≡ Some text → outcome text ≡ Ok p → ¬ Rose a.reads a.reads' → ¬ Rose a.writes a.writes' → IsAnswered status ⊎ (status ≡ Memory)
+pub record IsExact (given : Options) (a : Around) (status : Status) : Type 0 where
+  -- an accepted text, or a ring, where neither count rose, is answered
+  pub accepted : IsAccepted given a → ¬ Rose a.reads a.reads' → ¬ Rose a.writes a.writes' → (is_answered status ≡ true) ⊎ (status ≡ Memory)
   -- a faulty text, where the source's count didn't rise, is refused
-  pub refused : (text : List ℕ) (fault : Fault) (line : ℕ) → a.left ≡ Some text → outcome text ≡ Err (errors.Refused fault line) → ¬ Rose a.reads a.reads' → (status ≡ Refused fault line) ⊎ (status ≡ Memory)
-  pub too_long : (text : List ℕ) → a.left ≡ Some text → outcome text ≡ Err errors.TooLong → ¬ Rose a.reads a.reads' → (status ≡ TooLong) ⊎ (status ≡ Memory)
+  pub refused : Reads given → (text : List ℕ) (fault : Fault) (line : ℕ) → a.left ≡ Some text → outcome text ≡ Err (errors.Refused fault line) → ¬ Rose a.reads a.reads' → (status ≡ Refused fault line) ⊎ (status ≡ Memory)
+  pub too_long : Reads given → (text : List ℕ) → a.left ≡ Some text → outcome text ≡ Err errors.TooLong → ¬ Rose a.reads a.reads' → (status ≡ TooLong) ⊎ (status ≡ Memory)
   -- of a source that tells its bytes, a fault is counted at a failed read alone
   pub quiet : IsSome a.left → ¬ (status ≡ ReadFault) → a.reads' ≡ a.reads
 
-abbrev pub DeliveryMeans : Program → Results → Option (List ℕ) → Option (List ℕ) → ℕ → ℕ → Status → Type 0
-DeliveryMeans p r held held' writes writes' All = (has_model r ≡ true) × Appends held held' (results_text p r false)
-DeliveryMeans p r held held' writes writes' NoModel = (has_model r ≡ false) × Appends held held' (results_text p r false)
-DeliveryMeans p r held held' writes writes' WriteFault = AppendsFront held held' (results_text p r false) × Rose writes writes'
-DeliveryMeans p r held held' writes writes' status = ⊥
+-- the text of the results was written, or cut off by a fault
+abbrev pub DeliveryMeans : Bool → Program → Results → Option (List ℕ) → Option (List ℕ) → ℕ → ℕ → Status → Type 0
+DeliveryMeans brief p r held held' writes writes' status =
+    ((status ≡ status_for r.end (has_model r)) × Appends held held' (results_text p r brief))
+    ⊎ ((status ≡ WriteFault) × AppendsFront held held' (results_text p r brief) × Rose writes writes')
 
 -- results that were to be written
-pub record Delivers (p : Program) (r : Results) (held held' : Option (List ℕ)) (writes writes' : ℕ) (o : Outcome) : Type 0 where
-  pub reports : o.report ≡ Some (record { results = r })
-  pub means : DeliveryMeans p r held held' writes writes' o.status
+pub record Delivers (brief : Bool) (p : Program) (r : Report) (held held' : Option (List ℕ)) (writes writes' : ℕ) (o : Outcome) : Type 0 where
+  pub reports : o.report ≡ Some r
+  pub means : DeliveryMeans brief p r.results held held' writes writes' o.status
   pub later : writes ≤ writes'
 
+-- The program was solved as was asked, or memory ran out and nothing was written.
+abbrev pub Solves : Options → Program → Option (List ℕ) → Option (List ℕ) → ℕ → ℕ → Outcome → Type 0
+Solves given p held held' writes writes' o =
+    ((o ≡ record { status = Memory; report = None }) × Keeps held held' × (writes' ≡ writes))
+    ⊎ ((r : Report) × IsReport p (mode_of given.mode p) given.budget r × Delivers (is_brief given) p r held held' writes writes' o)
+
 -- a run after the words
-pub record Runs (mode : Option Mode) (a : Around) (o : Outcome) : Type 0 where
-  pub means : Means mode a o.report o.status
-  pub exact : IsExact a o.status
+pub record Runs (given : Options) (a : Around) (o : Outcome) : Type 0 where
+  pub means : Means given a o.report o.status
+  pub exact : IsExact given a o.status
   pub later : (a.reads ≤ a.reads') × (a.writes ≤ a.writes')
 
 -- the line of help
 abbrev pub help_text : List ℕ
 help_text = usage_line ++ codes "\n"
-
--- the source wasn't read
-pub record IsUnasked (a : Around) : Type 0 where
-  pub left : Keeps a.left a.left'
-  pub reads : a.reads' ≡ a.reads
 
 abbrev pub HelpMeans : Option (List ℕ) → Option (List ℕ) → ℕ → ℕ → Status → Type 0
 HelpMeans held held' writes writes' Help = Appends held held' help_text
@@ -162,4 +194,10 @@ pub record Misuses (a : Around) (o : Outcome) : Type 0 where
 abbrev pub RunsOn : Given → Around → Outcome → Type 0
 RunsOn help a o = Helps a o
 RunsOn usage a o = Misuses a o
-RunsOn (options given) a o = Runs given.mode a o
+RunsOn (options given) a o = Runs given a o
+
+-- whether the words ask for counts
+abbrev pub asks_stats : Given → Bool
+asks_stats help = false
+asks_stats usage = false
+asks_stats (options given) = given.stats

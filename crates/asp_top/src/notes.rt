@@ -1,10 +1,11 @@
-//! The line on the notes for each status.
+//! The line on the notes for each status, and the counts of a run.
 ghost use Rattle.std.specs.Prelude.{◌≡◌, ◌++◌, codes, decimal};
 ghost use Rattle.asp_cli.specs.Usage.{usage_line};
-ghost use Rattle.asp_top.specs.Notes.{IsNoted, Writes, fault_text, note_of};
+ghost use Rattle.asp_top.specs.Notes.{IsNoted, Writes, counts_if, counts_of, fault_text, is_answered, note_of, notes_of, stats_of};
 
-use crate::status::Status;
+use crate::status::{Outcome, Status};
 use asp_cli::usage;
+use asp_crew::report::Report;
 use asp_io::{Failed, Sink, write_all};
 use asp_model::fault::Fault;
 use itoa::Buffer;
@@ -88,7 +89,9 @@ fn write_note<N: Sink>(notes: &mut N, status: Status) -> Result<(), Failed>
         result (note_of status) }
 {
     match status {
-        Status::All | Status::NoModel | Status::Help => write(notes, b""),
+        Status::All | Status::NoModel | Status::Partial | Status::Unknown | Status::Help => write(
+            notes, b"",
+        ),
         Status::Memory => write(notes, b"aspenum: out of memory\n"),
         Status::Usage => write_usage(notes),
         Status::Refused(fault, line) => write_refused(notes, fault, line),
@@ -98,10 +101,69 @@ fn write_note<N: Sink>(notes: &mut N, status: Status) -> Result<(), Failed>
     }
 }
 
-/// Writes the line for a status. That the notes fail changes nothing.
-pub fn note<N: Sink>(notes: &mut N, status: Status)
-    ensures { IsNoted (N.held notes.old) (N.held notes.new) (N.faults notes.old) (N.faults notes.new)
-        (note_of status) }
+// Whether results were written.
+fn is_answered(status: Status) -> bool
+    ensures { result ≡ is_answered status }
 {
-    let _ = write_note(notes, status);
+    match status {
+        Status::All | Status::NoModel | Status::Partial | Status::Unknown => true,
+        _ => false,
+    }
+}
+
+fn write_spent<N: Sink>(notes: &mut N, spent: u64) -> Result<(), Failed>
+    ensures { Writes (N.held notes.old) (N.held notes.new) (N.faults notes.old) (N.faults notes.new)
+        result (codes "Conflicts: " ++ decimal spent) }
+{
+    write_both(
+        notes,
+        b"Conflicts: ",
+        Buffer::new().format(spent).as_bytes(),
+    )
+}
+
+fn write_counts<N: Sink>(notes: &mut N, report: &Report) -> Result<(), Failed>
+    ensures { Writes (N.held notes.old) (N.held notes.new) (N.faults notes.old) (N.faults notes.new)
+        result (stats_of report.now) }
+{
+    write_spent(notes, report.spent)?;
+    write(notes, b"\nLeaves: 1\nLog: 0\n")
+}
+
+fn write_report<N: Sink>(notes: &mut N, report: &Option<Report>) -> Result<(), Failed>
+    ensures { Writes (N.held notes.old) (N.held notes.new) (N.faults notes.old) (N.faults notes.new)
+        result (counts_of report.now) }
+{
+    match report {
+        Some(report) => write_counts(notes, report),
+        None => write(notes, b""),
+    }
+}
+
+fn write_counts_if<N: Sink>(notes: &mut N, stats: bool, outcome: &Outcome) -> Result<(), Failed>
+    ensures { Writes (N.held notes.old) (N.held notes.new) (N.faults notes.old) (N.faults notes.new)
+        result (counts_if stats outcome.now) }
+{
+    if stats && is_answered(outcome.status) {
+        write_report(notes, &outcome.report)
+    } else {
+        write(notes, b"")
+    }
+}
+
+fn write_notes<N: Sink>(notes: &mut N, stats: bool, outcome: &Outcome) -> Result<(), Failed>
+    ensures { Writes (N.held notes.old) (N.held notes.new) (N.faults notes.old) (N.faults notes.new)
+        result (notes_of stats outcome.now) }
+{
+    write_note(notes, outcome.status)?;
+    write_counts_if(notes, stats, outcome)
+}
+
+/// Writes the line for an outcome's status, and the counts where they are asked for. That the notes fail changes
+/// nothing.
+pub fn note<N: Sink>(notes: &mut N, stats: bool, outcome: &Outcome)
+    ensures { IsNoted (N.held notes.old) (N.held notes.new) (N.faults notes.old) (N.faults notes.new)
+        (notes_of stats outcome.now) }
+{
+    let _ = write_notes(notes, stats, outcome);
 }

@@ -1,38 +1,30 @@
 //! A whole run: words, reading, solving and writing, in this order; the first that doesn't succeed decides.
-ghost use Rattle.std.specs.Prelude.{◌≡◌, ◌++◌, None, Some, false, map, string_bytes};
+ghost use Rattle.std.specs.Prelude.{◌≡◌, ◌++◌, ℕ, List, Option, None, Some, false, map, string_bytes};
 ghost use Rattle.asp_model.specs.Sound.{IsSound};
 ghost use Rattle.asp_model.specs.Texts.{results_text};
-ghost use Rattle.asp_cli.specs.Given.{words_give};
-ghost use Rattle.asp_top.specs.Notes.{IsNoted, Writes, note_of};
-ghost use Rattle.asp_top.specs.Runs.{Delivers, HelpMeans, Runs, RunsOn, around, help_text, status_of};
+ghost use Rattle.asp_cli.specs.Given.{IsRing, words_give};
+ghost use Rattle.asp_top.specs.Notes.{IsNoted, Writes, notes_of};
+ghost use Rattle.asp_top.specs.Runs.{Delivers, HelpMeans, Runs, RunsOn, Solves, around, asks_stats, help_text, status_of};
 
 use crate::notes::{note, write_both};
-use crate::solve::{has_model, mode_of, solve};
-use crate::status::{Outcome, Report, Status};
+use crate::solve::{mode_of, status_for};
+use crate::status::{Outcome, Status};
 use asp_cli::{CliError, Options, usage};
+use asp_crew::alone::solve_alone;
+use asp_crew::gate::Gate;
+use asp_crew::report::Report;
 use asp_io::{Failed, Sink, Source};
+use asp_make::ring;
 use asp_model::fault::ReadError;
 use asp_model::program::Program;
 use asp_model::results::Results;
 use asp_print::print;
 use asp_read::read_program;
+use asp_vars::compile::compile;
+use asp_vars::compiled::Compiled;
 use std::alloc::Global;
 use std::sync::Wait;
 use std::thread::Threads;
-
-/// What each worker passes before it takes on a part of the search.
-pub trait Gate {
-    /// A worker with this number comes for the given time, both counted from 0.
-    fn pass(&self, worker: u32, turn: u64);
-}
-
-/// A gate that lets everybody through.
-#[derive(Clone, Copy)]
-pub struct OpenGate;
-
-impl Gate for OpenGate {
-    fn pass(&self, _worker: u32, _turn: u64) {}
-}
 
 fn status_of(error: ReadError) -> Status
     ensures { result ≡ status_of error }
@@ -54,19 +46,29 @@ fn failed(status: Status) -> Outcome
     }
 }
 
-fn write_text<K: Sink>(sink: &mut K, program: &Program, results: &Results) -> Result<(), Failed>
+fn write_text<K: Sink>(
+    sink: &mut K,
+    brief: bool,
+    program: &Program,
+    results: &Results,
+) -> Result<(), Failed>
     ensures { Writes (K.held sink.old) (K.held sink.new) (K.faults sink.old) (K.faults sink.new)
-        result (results_text program.now results.now false) }
+        result (results_text program.now results.now brief) }
 {
-    print(sink, program, results, false)
+    print(sink, program, results, brief)
 }
 
 // Writes the text of the results, and flushes the sink.
-fn write_results<K: Sink>(sink: &mut K, program: &Program, results: &Results) -> Result<(), Failed>
+fn write_results<K: Sink>(
+    sink: &mut K,
+    brief: bool,
+    program: &Program,
+    results: &Results,
+) -> Result<(), Failed>
     ensures { Writes (K.held sink.old) (K.held sink.new) (K.faults sink.old) (K.faults sink.new)
-        result (results_text program.now results.now false) }
+        result (results_text program.now results.now brief) }
 {
-    write_text(sink, program, results)?;
+    write_text(sink, brief, program, results)?;
     sink.flush()
 }
 
@@ -79,39 +81,91 @@ fn write_help<K: Sink>(sink: &mut K) -> Result<(), Failed>
     sink.flush()
 }
 
-fn deliver<K: Sink>(sink: &mut K, program: &Program, results: Results) -> Outcome
-    ensures { Delivers program.now results (K.held sink.old) (K.held sink.new) (K.faults sink.old) (K.faults sink.new) result }
+fn deliver<K: Sink>(sink: &mut K, brief: bool, program: &Program, report: Report) -> Outcome
+    ensures { Delivers brief program.now report (K.held sink.old) (K.held sink.new) (K.faults sink.old) (K.faults sink.new) result }
 {
-    let status = match write_results(sink, program, &results) {
+    let status = match write_results(sink, brief, program, &report.results) {
+        Ok(()) => status_for(&report.results),
         Err(Failed) => Status::WriteFault,
-        Ok(()) if has_model(&results) => Status::All,
-        Ok(()) => Status::NoModel,
     };
-    let report = Some(Report { results });
-    Outcome { status, report }
+    Outcome {
+        status,
+        report: Some(report),
+    }
 }
 
-fn answer<S: Source, K: Sink>(
+// Solves a program that was compiled, and writes its results.
+fn solve<K: Sink>(alloc: Global, options: &Options, compiled: &Compiled, sink: &mut K) -> Outcome
+    ensures { Solves options.now compiled.now (K.held sink.old) (K.held sink.new) (K.faults sink.old) (K.faults sink.new) result }
+{
+    let program = compiled.program();
+    let mode = mode_of(options.mode, program);
+    match solve_alone(alloc, compiled, mode, options.budget) {
+        Ok(report) => deliver(sink, options.make.is_some(), program, report),
+        Err(_) => failed(Status::Memory),
+    }
+}
+
+// Solves a program, and writes its results.
+fn answer<K: Sink>(alloc: Global, options: &Options, program: Program, sink: &mut K) -> Outcome
+    requires { IsSound program }
+    ensures { Solves options.now program (K.held sink.old) (K.held sink.new) (K.faults sink.old) (K.faults sink.new) result }
+{
+    match compile(alloc, program) {
+        Ok(compiled) => solve(alloc, options, &compiled, sink),
+        Err(_) => failed(Status::Memory),
+    }
+}
+
+// Reads a program, and answers it.
+fn read_and_answer<S: Source, K: Sink>(
     alloc: Global,
     options: &Options,
     source: &mut S,
     sink: &mut K,
 ) -> Outcome
-    ensures { Runs options.now.mode (around (S.left source.old) (S.left source.new) (S.faults source.old) (S.faults source.new)
+    requires { options.now.make ≡ None }
+    ensures { Runs options.now (around (S.left source.old) (S.left source.new) (S.faults source.old) (S.faults source.new)
         (K.held sink.old) (K.held sink.new) (K.faults sink.old) (K.faults sink.new)) result }
 {
-    let program = match read_program(alloc, source) {
-        Ok(program) => program,
-        Err(error) => return failed(status_of(error)),
-    };
-    match solve(alloc, &program, mode_of(options.mode, &program)) {
-        Ok(results) => deliver(sink, &program, results),
+    match read_program(alloc, source) {
+        Ok(program) => answer(alloc, options, program, sink),
+        Err(error) => failed(status_of(error)),
+    }
+}
+
+// Answers the ring of so many nodes. The source isn't read.
+fn make_and_answer<K: Sink>(alloc: Global, options: &Options, nodes: u32, sink: &mut K) -> Outcome
+    requires given { options.now.make ≡ Some nodes }
+    requires ring { IsRing (Some nodes) }
+    ensures { (left : Option (List ℕ)) (reads : ℕ) → Runs options.now (around left left reads reads
+        (K.held sink.old) (K.held sink.new) (K.faults sink.old) (K.faults sink.new)) result }
+{
+    match ring(alloc, nodes) {
+        Ok(program) => answer(alloc, options, program, sink),
         Err(_) => failed(Status::Memory),
     }
 }
 
-/// A run after the words. It reads a program from the source, writes the text of its results to the sink and flushes
-/// it, and writes a line to the notes for each status but All and NoModel.
+fn outcome_of<S: Source, K: Sink>(
+    alloc: Global,
+    options: &Options,
+    source: &mut S,
+    sink: &mut K,
+) -> Outcome
+    requires { IsRing options.now.make }
+    ensures { Runs options.now (around (S.left source.old) (S.left source.new) (S.faults source.old) (S.faults source.new)
+        (K.held sink.old) (K.held sink.new) (K.faults sink.old) (K.faults sink.new)) result }
+{
+    match options.make {
+        None => read_and_answer(alloc, options, source, sink),
+        Some(nodes) => make_and_answer(alloc, options, nodes, sink),
+    }
+}
+
+/// A run after the words. It reads a program from the source, or makes a ring, solves it with one search, writes the text
+/// of its results to the sink and flushes it. The notes get a line for each status that isn't one of results, and the
+/// counts where they are asked for.
 pub fn run_alone<S: Source, K: Sink, N: Sink>(
     alloc: Global,
     options: &Options,
@@ -119,12 +173,13 @@ pub fn run_alone<S: Source, K: Sink, N: Sink>(
     sink: &mut K,
     notes: &mut N,
 ) -> Outcome
-    ensures runs { Runs options.now.mode (around (S.left source.old) (S.left source.new) (S.faults source.old) (S.faults source.new)
+    requires { IsRing options.now.make }
+    ensures runs { Runs options.now (around (S.left source.old) (S.left source.new) (S.faults source.old) (S.faults source.new)
         (K.held sink.old) (K.held sink.new) (K.faults sink.old) (K.faults sink.new)) result }
-    ensures notes { IsNoted (N.held notes.old) (N.held notes.new) (N.faults notes.old) (N.faults notes.new) (note_of result.status) }
+    ensures notes { IsNoted (N.held notes.old) (N.held notes.new) (N.faults notes.old) (N.faults notes.new) (notes_of options.now.stats result) }
 {
-    let outcome = answer(alloc, options, source, sink);
-    note(notes, outcome.status);
+    let outcome = outcome_of(alloc, options, source, sink);
+    note(notes, options.stats, &outcome);
     outcome
 }
 
@@ -140,10 +195,11 @@ fn help<K: Sink>(sink: &mut K) -> Status
 // The end of a run that solved nothing.
 fn ended<N: Sink>(notes: &mut N, status: Status) -> Outcome
     ensures outcome { result ≡ record { status = status; report = None } }
-    ensures notes { IsNoted (N.held notes.old) (N.held notes.new) (N.faults notes.old) (N.faults notes.new) (note_of status) }
+    ensures notes { IsNoted (N.held notes.old) (N.held notes.new) (N.faults notes.old) (N.faults notes.new) (notes_of false result) }
 {
-    note(notes, status);
-    failed(status)
+    let outcome = failed(status);
+    note(notes, false, &outcome);
+    outcome
 }
 
 /// A whole run of the program.
@@ -158,7 +214,8 @@ pub fn run<R: Threads + Wait + Sync, S: Source, K: Sink, N: Sink, G: Gate + Sync
 ) -> Outcome
     ensures runs { RunsOn (words_give (map string_bytes words.now)) (around (S.left source.old) (S.left source.new) (S.faults source.old) (S.faults source.new)
         (K.held sink.old) (K.held sink.new) (K.faults sink.old) (K.faults sink.new)) result }
-    ensures notes { IsNoted (N.held notes.old) (N.held notes.new) (N.faults notes.old) (N.faults notes.new) (note_of result.status) }
+    ensures notes { IsNoted (N.held notes.old) (N.held notes.new) (N.faults notes.old) (N.faults notes.new)
+        (notes_of (asks_stats (words_give (map string_bytes words.now))) result) }
 {
     let _ = rt;
     let _ = gate;

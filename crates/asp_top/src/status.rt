@@ -2,8 +2,8 @@
 ghost use Rattle.std.specs.Prelude.{◌≡◌};
 ghost use Rattle.asp_top.specs.Codes.{code_of};
 
+use asp_crew::report::Report;
 use asp_model::fault::Fault;
-use asp_model::results::Results;
 
 /// How a run ended.
 #[derive(Clone, Copy, Debug, PartialEq, Eq)]
@@ -12,6 +12,10 @@ pub enum Status {
     All,
     /// Finished without a model.
     NoModel,
+    /// The budget was spent with a model recorded, which was written.
+    Partial,
+    /// The budget was spent with no model recorded.
+    Unknown,
     /// The help line was asked for and written.
     Help,
     /// Memory ran out, and nothing was written to the sink.
@@ -36,6 +40,8 @@ impl Status {
         match self {
             Status::All => 30,
             Status::NoModel => 20,
+            Status::Partial => 10,
+            Status::Unknown => 1,
             Status::Help => 0,
             Status::Memory => 33,
             Status::Usage => 64,
@@ -47,15 +53,8 @@ impl Status {
     }
 }
 
-/// What a run that ended its search has to say.
-#[derive(Drop)]
-pub struct Report {
-    /// What was found.
-    pub results: Results,
-}
-
-/// How a run ended, and its report where the search ended: with the statuses All and NoModel, and where the results
-/// could not be written.
+/// How a run ended, and its report where the search ended: with the statuses All, NoModel, Partial and Unknown, and where
+/// the results could not be written.
 #[derive(Drop)]
 pub struct Outcome {
     pub status: Status,
