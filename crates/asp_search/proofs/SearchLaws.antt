@@ -122,3 +122,14 @@ search_lists p t u vars known bars new bound q S settled hit b s =
     useful : (id : ℕ) (n : Nogood) → (nogood_at t.slots id ≡ Some n) ⊎ (n ≡ way_of q t.decisions) → IsUseful t.program (known ++ S ∷ []) t.bound n
     useful id n (inl k) = useful_more t.program known S t.bound n (s.useful id n k)
     useful id n (inr e) = subst (IsUseful t.program (known ++ S ∷ []) t.bound) (sym e) (record { good = settled; counts = tt })
+
+-- the same, of what the code has in its hands
+pub search_listed : (p : Program) (m : Mode) (t u : Tracked) (vars : ℕ) (known ks : List Atoms) (bars new : List ℕ) (bound : Option (List ℤ)) (last : Option ℕ) (q : List Literal) (S : Atoms) →
+    m ≡ mode.Enum → last ≡ None → ks ≡ known ++ S ∷ [] → Settled t.program (known ++ S ∷ []) t.bound (q ++ t.decisions) → hits (values t.program S) (q ++ t.decisions) ≡ true →
+    Blocks (way_of q t.decisions) t u new → IsSearch p m t vars known bars bound last → IsSearch p m u vars ks new bound last
+search_listed p m t u vars known ks bars new bound last q S enum none more settled hit b s =
+    let first : IsSearch p mode.Enum t vars known bars bound None =
+    subst (λ (x : Mode). IsSearch p x t vars known bars bound None) enum (subst (λ (x : Option ℕ). IsSearch p m t vars known bars bound x) none s) in
+    subst (λ (x : Option ℕ). IsSearch p m u vars ks new bound x) (sym none)
+    (subst (λ (x : Mode). IsSearch p x u vars ks new bound None) (sym enum)
+    (subst (λ (x : List Atoms). IsSearch p mode.Enum u vars x new bound None) (sym more) (search_lists p t u vars known bars new bound q S settled hit b first)))

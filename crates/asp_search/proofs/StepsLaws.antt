@@ -1,11 +1,13 @@
 -- What the parts of a step promise of a search whose parts changed so.
 use Rattle.std.proofs.Common.{◌≡◌, ℕ, ◌+◌, ◌-◌, ◌^◌, ◌<◌, ◌≤◌, min, Bool, true, false, leb, List, ◌∷◌, ◌++◌, length, get_or, take, Option, Some, None, inl, inr, ◌⊎◌, refl, sym, ap, ◌∙◌, subst, arith, []}
+use Rattle.std.specs.Prelude.{ℤ}
 use Rattle.std.specs.List.{All}
 use Rattle.std.specs.Option.{unwrap_or}
 use Rattle.std.proofs.lemmas.Bool.{and_parts, or_cases}
 use Rattle.std.proofs.lemmas.Bool.Decides.{nat_tests}
 use Rattle.std.proofs.lemmas.List.{length-append}
 use Rattle.std.proofs.lemmas.List.Elements.{filter_passes}
+use Rattle.asp_model.specs.declared.program.Program.{Program}
 use Rattle.asp_model.specs.declared.results.Mode.{Mode}
 use Rattle.asp_model.specs.declared.results.Mode.TheVariants as mode
 use Rattle.asp_model.specs.Sets.{Atoms}
@@ -228,7 +230,40 @@ module _ (gives : Nogood → Type 0) (md : Mode) (t : Tracked) (c : Paced) (know
       subst (λ (y : Tracked). Continues gives (view_of md t c known last) (view_of md y c known new)) (sym e)
       (record { same = refl; grows = grows; derived = derived; longer = longer })
 
+  -- ---- no variable to decide
+  pub continues_ranked : (u : Tracked) (ranking : Ranking) → u ≡ record t { ranking = ranking } → Continues gives (view_of md t c known last) (view_of md u c known last)
+  continues_ranked u ranking e =
+      subst (λ (y : Tracked). Continues gives (view_of md t c known last) (view_of md y c known last)) (sym e)
+      (record { same = refl; grows = grows_none t.slots; derived = derived_same t.program gives t.bound t.slots; longer = omega arith })
+
+pub decided_none : (t u : Tracked) (ranking : Ranking) → u ≡ record t { decisions = u.decisions; entries = u.entries; ranking = ranking } → u.entries ≡ t.entries → u.decisions ≡ t.decisions →
+    u ≡ record t { ranking = ranking }
+decided_none t u ranking e entries decisions =
+    e
+    ∙ (ap (λ (xs : List Entry). let y : Tracked = record t { decisions = u.decisions; entries = xs; ranking = ranking } in y) entries
+    ∙ ap (λ (ds : List Literal). let y : Tracked = record t { decisions = ds; ranking = ranking } in y) decisions)
+
 -- ---- restarted
+-- the track is taken back and then some nogoods are dropped
+pub restarted_view : (md : Mode) (t u w : Tracked) (c d e : Paced) (known : List Atoms) (last : Option ℕ) → u ≡ record t { decisions = take 0 t.decisions; entries = cut 0 t.entries; ranking = u.ranking } →
+    w ≡ record u { slots = w.slots } → d ≡ record c { restarts = min (c.restarts + 1) (2 ^ 64 - 1); learnt = 0 } → e.restarts ≡ d.restarts → e.learnt ≡ d.learnt →
+    view_of md w e known last ≡ record (view_of md t c known last) {
+      entries = cut 0 t.entries;
+      decisions = [];
+      slots = w.slots;
+      ranking = w.ranking;
+      restarts = min (c.restarts + 1) (2 ^ 64 - 1);
+      learnt = 0;
+    }
+restarted_view md t u w c d e known last undo reduce pace restarts learnt =
+    let put : Ranking → Tracked = λ r. record t { decisions = []; entries = cut 0 t.entries; slots = w.slots; ranking = r } in
+    let all : w ≡ put w.ranking =
+    reduce ∙ (ap (λ (x : Tracked). let y : Tracked = record x { slots = w.slots } in y) undo ∙ ap put (sym (ap (λ (x : Tracked). x.ranking) reduce))) in
+    let seen : ℕ → ℕ → Searching = λ a b. record (view_of md t c known last) { entries = cut 0 t.entries; decisions = []; slots = w.slots; ranking = w.ranking; restarts = a; learnt = b } in
+    ap (λ (x : Tracked). view_of md x e known last) all
+    ∙ (ap (λ (a : ℕ). seen a e.learnt) (restarts ∙ ap (λ (x : Paced). x.restarts) pace)
+    ∙ ap (λ (b : ℕ). seen (min (c.restarts + 1) (2 ^ 64 - 1)) b) (learnt ∙ ap (λ (x : Paced). x.learnt) pace))
+
 all_low : (xs : List Entry) → All (λ e. leb e.level 0 ≡ true) xs → level xs ≡ 0
 all_low [] a = refl
 all_low (x ∷ xs) a =
@@ -318,3 +353,32 @@ module _ (gives : Nogood → Type 0) (t u : Tracked) (c : Paced) (known : List A
         restarts = refl;
         last = none;
       })
+
+-- ---- of what the code has in its hands
+pub same_cube : (o : Option (List Literal)) (r q : List Literal) → o ≡ Some r → o ≡ Some q → r ≡ q
+same_cube o r q e f = ap (λ (x : Option (List Literal)). unwrap_or x r) (sym e ∙ f)
+
+pub listed : (gives : Nogood → Type 0) (m : Mode) (t u : Tracked) (c : Paced) (known ks : List Atoms) (last : Option ℕ) (q : List Literal) (S : Atoms) (f : Units) (bars : List ℕ) →
+    m ≡ mode.Enum → last ≡ None → IsFound (view_of m t c known last) q S → ks ≡ known ++ S ∷ [] → Blocks (way_of q t.decisions) t u bars →
+    Answers gives (view_of m t c known last) (view_of m u c ks last) q f f S
+listed gives m t u c known ks last q S f bars enum none found more b =
+    subst (λ (x : List Atoms). Answers gives (view_of m t c known last) (view_of m u c x last) q f f S) (sym more)
+    (subst (λ (x : Mode). Answers gives (view_of x t c known last) (view_of x u c (known ++ S ∷ []) last) q f f S) (sym enum)
+    (lists gives t u c known last q S f none bars (subst (λ (x : Mode). IsFound (view_of x t c known last) q S) enum found) b))
+
+-- the track where a smaller bound was set and all decisions were taken back
+pub improved_track : (p : Program) (t a u : Tracked) (d : List ℤ) (S : Atoms) → p ≡ t.program → d ≡ cost p S → a ≡ record t { bound = Some d } →
+    u ≡ record a { decisions = take 0 a.decisions; entries = cut 0 a.entries; ranking = u.ranking } →
+    u ≡ record t { bound = Some (cost t.program S); entries = cut 0 t.entries; decisions = []; ranking = u.ranking }
+improved_track p t a u d S program is set undo =
+    undo
+    ∙ (ap (λ (x : Tracked). let y : Tracked = record x { decisions = take 0 x.decisions; entries = cut 0 x.entries; ranking = u.ranking } in y) set
+    ∙ ap (λ (x : List ℤ). let y : Tracked = record t { bound = Some x; entries = cut 0 t.entries; decisions = []; ranking = u.ranking } in y)
+    (is ∙ ap (λ (x : Program). cost x S) program))
+
+pub improved : (gives : Nogood → Type 0) (m : Mode) (t u : Tracked) (c : Paced) (known : List Atoms) (last : Option ℕ) (q : List Literal) (S : Atoms) (f : Units) →
+    m ≡ mode.Opt → last ≡ None → IsFound (view_of m t c known last) q S →
+    u ≡ record t { bound = Some (cost t.program S); entries = cut 0 t.entries; decisions = []; ranking = u.ranking } → Answers gives (view_of m t c known last) (view_of m u c known last) q f f S
+improved gives m t u c known last q S f opt none found e =
+    subst (λ (x : Mode). Answers gives (view_of x t c known last) (view_of x u c known last) q f f S) (sym opt)
+    (improves gives t u c known last q S f none u.ranking (subst (λ (x : Mode). IsFound (view_of x t c known last) q S) opt found) e)
