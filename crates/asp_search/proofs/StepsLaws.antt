@@ -243,6 +243,20 @@ decided_none t u ranking e entries decisions =
     ∙ (ap (λ (xs : List Entry). let y : Tracked = record t { decisions = u.decisions; entries = xs; ranking = ranking } in y) entries
     ∙ ap (λ (ds : List Literal). let y : Tracked = record t { decisions = ds; ranking = ranking } in y) decisions)
 
+pub decided_some : (t u : Tracked) (l : Literal) (members : List Bool) → u ≡ record t { decisions = u.decisions; entries = u.entries; ranking = record t.ranking { members = members } } →
+    u.entries ≡ t.entries ++ record { lit = l; level = length t.decisions + 1; reason = None } ∷ [] → u.decisions ≡ t.decisions ++ l ∷ [] →
+    u ≡ record t {
+      entries = t.entries ++ record { lit = l; level = length t.decisions + 1; reason = None } ∷ [];
+      decisions = t.decisions ++ l ∷ [];
+      ranking = record t.ranking { members = members };
+    }
+decided_some t u l members e entries decisions =
+    let order : Ranking = record t.ranking { members = members } in
+    let more : List Entry = t.entries ++ record { lit = l; level = length t.decisions + 1; reason = None } ∷ [] in
+    e
+    ∙ (ap (λ (xs : List Entry). let y : Tracked = record t { decisions = u.decisions; entries = xs; ranking = order } in y) entries
+    ∙ ap (λ (ds : List Literal). let y : Tracked = record t { decisions = ds; entries = more; ranking = order } in y) decisions)
+
 -- ---- restarted
 -- the track is taken back and then some nogoods are dropped
 pub restarted_view : (md : Mode) (t u w : Tracked) (c d e : Paced) (known : List Atoms) (last : Option ℕ) → u ≡ record t { decisions = take 0 t.decisions; entries = cut 0 t.entries; ranking = u.ranking } →

@@ -11,11 +11,11 @@ pub invariant_of-result : goal.invariant_of-result
 invariant_of-result g c =
     let p = c.args.compiled.now in
     let t : Option (List ℤ) → Tracked = λ b. record { program = p; bound = b; cube = None; clashing = false; decisions = []; entries = []; slots = map forever (completion p); ranking = fresh (var_count p) } in
-    search_begins p c.args.mode c.in_ok-track.track c.in_ok-learner.learner c.program-_program.ensures.sound (c.in_ok-learner.ensures ∙ c.vars-vars.ensures.count)
+    search_begins p c.args.mode c.in_ok-track.track c.in_ok-learner.learner c.program-program.ensures.sound (c.in_ok-learner.ensures ∙ c.vars-vars.ensures.count)
     (c.in_ok-track.ensures ∙ ap t c.requires.unbounded)
 
 pub returns : goal.returns
 returns g c =
     let p = c.args.compiled.now in
     let t : Option (List ℤ) → Tracked = λ b. record { program = p; bound = b; cube = None; clashing = false; decisions = []; entries = []; slots = map forever (completion p); ranking = fresh (var_count p) } in
-    search_is_new p c.args.mode c.in_ok-track.track c.new.result (c.in_ok-track.ensures ∙ ap t c.requires.unbounded) c.new.ensures
+    search_is_new p c.args.mode c.in_ok-track.track c.new-3.result (c.in_ok-track.ensures ∙ ap t c.requires.unbounded) c.new-3.ensures
