@@ -1,5 +1,5 @@
 -- What follows from a violated nogood: the cube is settled, or a conflict is shown and a nogood learnt.
-use Rattle.std.proofs.Common.{◌≡◌, ℕ, Bool, true, List, ◌++◌, take, Option, Some, None, IsSome, sym, ap, ◌∙◌, subst, arith}
+use Rattle.std.proofs.Common.{◌≡◌, ℕ, Bool, true, List, ◌++◌, take, Option, Some, None, IsSome, refl, sym, ap, ◌∙◌, subst, arith}
 use Rattle.std.specs.Prelude.{ℤ}
 use Rattle.std.specs.Option.{unwrap_or}
 use Rattle.std.proofs.lemmas.Bool.{false≢true}
@@ -73,7 +73,7 @@ module _ (md : Mode) (t : Tracked) (c : Paced) (known : List Atoms) (last : Opti
   -- ---- a jump
   has_value : (o : Option Bool) (l : Literal) → agrees o l ≡ true → IsSome o
   has_value None l h = absurd (false≢true h)
-  has_value (Some b) l h = tt
+  has_value (Some b) l h = refl
 
   pub met_jump : (n : Nogood) (to : ℕ) (lit : Literal) → (m : IsMet (view_of md t c known last) q id (learned.Jump n to lit)) → IsJump t.entries m.explains.from.lits n.lits to lit
   met_jump n to lit m = m.explains.learned

@@ -1,8 +1,10 @@
 -- What the parts of a step promise of a search whose parts changed so.
 use Rattle.std.proofs.Common.{◌≡◌, ℕ, ◌+◌, ◌-◌, ◌^◌, ◌<◌, ◌≤◌, min, Bool, true, false, leb, List, ◌∷◌, ◌++◌, length, get_or, take, Option, Some, None, inl, inr, ◌⊎◌, refl, sym, ap, ◌∙◌, subst, arith, []}
-use Rattle.std.specs.Prelude.{ℤ}
+use Rattle.std.specs.Prelude.{ℤ, IfSome, IsSome, Result, Ok, Err}
 use Rattle.std.specs.List.{All}
 use Rattle.std.specs.Option.{unwrap_or}
+use Rattle.std.specs.Result.{OnErr}
+use Rattle.std.proofs.lemmas.Bool.{false≢true}
 use Rattle.std.proofs.lemmas.Bool.{and_parts, or_cases}
 use Rattle.std.proofs.lemmas.Bool.Decides.{nat_tests}
 use Rattle.std.proofs.lemmas.List.{length-append}
@@ -36,7 +38,7 @@ use Rattle.asp_settle.proofs.PlaceLaws.{level_last}
 use Rattle.asp_step.specs.Axioms.{IsAxiom, AreDerived, IsDerived}
 use Rattle.asp_step.specs.Keeping.{Grows}
 use Rattle.asp_step.specs.Searching.{Searching}
-use Rattle.asp_step.specs.Steps.{HasSameTask, IsBeside, IsConflictOf, burnt, FollowsByLast, Learns, Stops, Closes, Decides, Restarts, IsDue, Answers, way_of, Fails}
+use Rattle.asp_step.specs.Steps.{HasSameTask, IsBeside, IsConflictOf, burnt, FollowsByLast, Learns, Stops, Closes, Decides, Restarts, IsDue, Answers, way_of, Fails, IsFailure}
 use Rattle.asp_step.proofs.DerivedLaws.{derived_same, derived_push, derived_none}
 use Rattle.asp_step.proofs.JumpLaws.{before_newest, jump_beside}
 use Rattle.asp_step.proofs.SlotLaws.{nogood_kept, push_newest, reduced_none, grows_none}
@@ -257,27 +259,21 @@ decided_some t u l members e entries decisions =
     ∙ (ap (λ (xs : List Entry). let y : Tracked = record t { decisions = u.decisions; entries = xs; ranking = order } in y) entries
     ∙ ap (λ (ds : List Literal). let y : Tracked = record t { decisions = ds; entries = more; ranking = order } in y) decisions)
 
--- ---- restarted
--- the track is taken back and then some nogoods are dropped
-pub restarted_view : (md : Mode) (t u w : Tracked) (c d e : Paced) (known : List Atoms) (last : Option ℕ) → u ≡ record t { decisions = take 0 t.decisions; entries = cut 0 t.entries; ranking = u.ranking } →
-    w ≡ record u { slots = w.slots } → d ≡ record c { restarts = min (c.restarts + 1) (2 ^ 64 - 1); learnt = 0 } → e.restarts ≡ d.restarts → e.learnt ≡ d.learnt →
-    view_of md w e known last ≡ record (view_of md t c known last) {
-      entries = cut 0 t.entries;
-      decisions = [];
-      slots = w.slots;
-      ranking = w.ranking;
-      restarts = min (c.restarts + 1) (2 ^ 64 - 1);
-      learnt = 0;
-    }
-restarted_view md t u w c d e known last undo reduce pace restarts learnt =
-    let put : Ranking → Tracked = λ r. record t { decisions = []; entries = cut 0 t.entries; slots = w.slots; ranking = r } in
-    let all : w ≡ put w.ranking =
-    reduce ∙ (ap (λ (x : Tracked). let y : Tracked = record x { slots = w.slots } in y) undo ∙ ap put (sym (ap (λ (x : Tracked). x.ranking) reduce))) in
-    let seen : ℕ → ℕ → Searching = λ a b. record (view_of md t c known last) { entries = cut 0 t.entries; decisions = []; slots = w.slots; ranking = w.ranking; restarts = a; learnt = b } in
-    ap (λ (x : Tracked). view_of md x e known last) all
-    ∙ (ap (λ (a : ℕ). seen a e.learnt) (restarts ∙ ap (λ (x : Paced). x.restarts) pace)
-    ∙ ap (λ (b : ℕ). seen (min (c.restarts + 1) (2 ^ 64 - 1)) b) (learnt ∙ ap (λ (x : Paced). x.learnt) pace))
+pub decides_now : (gives : Nogood → Type 0) (silent : List (Option Bool) → Type 0) (md : Mode) (t u : Tracked) (c : Paced) (known : List Atoms) (last : Option ℕ) (f : Units) (r : Option Literal) (l : Literal) →
+    r ≡ Some l → last ≡ None → IsQuiet silent t.slots (values_of t) →
+    u ≡ record t { decisions = u.decisions; entries = u.entries; ranking = record t.ranking { members = u.ranking.members } } →
+    IfSome r (λ k. (k ≡ F k.var) × IsNext (var_count t.program) (values_of t) t.ranking.activities k.var) →
+    IfSome r (λ k. u.entries ≡ t.entries ++ record { lit = k; level = length t.decisions + 1; reason = None } ∷ []) →
+    IfSome r (λ k. u.decisions ≡ t.decisions ++ k ∷ []) → Decides gives silent (view_of md t c known last) (view_of md u c known last) f f
+decides_now gives silent md t u c known last f r l is none quiet same next entries decisions =
+    let n : (l ≡ F l.var) × IsNext (var_count t.program) (values_of t) t.ranking.activities l.var =
+    subst (λ (x : Option Literal). IfSome x (λ k. (k ≡ F k.var) × IsNext (var_count t.program) (values_of t) t.ranking.activities k.var)) is next in
+    let e : u.entries ≡ t.entries ++ record { lit = l; level = length t.decisions + 1; reason = None } ∷ [] =
+    subst (λ (x : Option Literal). IfSome x (λ k. u.entries ≡ t.entries ++ record { lit = k; level = length t.decisions + 1; reason = None } ∷ [])) is entries in
+    let d : u.decisions ≡ t.decisions ++ l ∷ [] = subst (λ (x : Option Literal). IfSome x (λ k. u.decisions ≡ t.decisions ++ k ∷ [])) is decisions in
+    decides_from gives md t c known last silent f u l l.var u.ranking.members none quiet n.0 n.1 (decided_some t u l u.ranking.members same e d)
 
+-- ---- restarted
 all_low : (xs : List Entry) → All (λ e. leb e.level 0 ≡ true) xs → level xs ≡ 0
 all_low [] a = refl
 all_low (x ∷ xs) a =
@@ -396,3 +392,19 @@ pub improved : (gives : Nogood → Type 0) (m : Mode) (t u : Tracked) (c : Paced
 improved gives m t u c known last q S f opt none found e =
     subst (λ (x : Mode). Answers gives (view_of x t c known last) (view_of x u c known last) q f f S) (sym opt)
     (improves gives t u c known last q S f none u.ranking (subst (λ (x : Mode). IsFound (view_of x t c known last) q S) opt found) e)
+
+-- ---- memory is wanting, and nothing changed
+pub always_err : {X Y : Type 0} (r : Result X Y) (P : Type 0) → P → OnErr r P
+always_err (Ok x) P p = tt
+always_err (Err e) P p = p
+
+pub fails_here : (gives : Nogood → Type 0) (s : Searching) (f : Units) → IsFailure gives s s f f
+fails_here gives s f q e = record { program = refl; mode = refl; known = refl; bound = refl; fuel = inl refl; derived = derived_same s.program gives s.bound s.slots }
+
+pub fails_still : (gives : Nogood → Type 0) (s t : Searching) (f : Units) → t ≡ s → IsFailure gives s t f f
+fails_still gives s t f e = subst (λ (x : Searching). IsFailure gives s x f f) (sym e) (fails_here gives s f)
+
+-- a path is entered
+pub some_of : {X : Type 0} (o : Option X) → IsSome o → (x : X) × (o ≡ Some x)
+some_of None h = absurd (false≢true h)
+some_of (Some x) h = (x, refl)
