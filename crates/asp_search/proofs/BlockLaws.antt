@@ -178,6 +178,20 @@ module _ (slots : List (Option Kept)) (bars rest : List ℕ) (id : ℕ) (lits : 
   pub newest_gone : AreBars (set slots id None) rest
   newest_gone = let parts = bars_pop slots rest id split in removed_bars slots rest id parts.1 parts.0
 
+-- the last of the list, where it was dropped
+pub last_dropped : (t u : Tracked) (bars new : List ℕ) (n id : ℕ) (lits : List Literal) → n + 1 ≡ length bars → id ≡ get_or bars n id → AreBars t.slots bars → IsSpare t.slots t.entries lits id →
+    u ≡ record t { slots = set t.slots id None } → new ≡ take n bars →
+    AreBars u.slots new × ((way : Nogood) (j : ℕ) (first : List (Option Kept)) → way.lits ≡ lits → Drops way j first t.slots bars → Drops way j first u.slots new)
+last_dropped t u bars new n id lits size at stand spare gone short =
+    let is : bars ≡ take n bars ++ id ∷ [] = init_last bars n id size ∙ ap (λ (i : ℕ). take n bars ++ i ∷ []) (sym at) in
+    let slots : set t.slots id None ≡ u.slots = sym (ap (λ (x : Tracked). x.slots) gone) in
+    (
+      subst (AreBars u.slots) (sym short) (subst (λ (xs : List (Option Kept)). AreBars xs (take n bars)) slots (newest_gone t.slots bars (take n bars) id lits t.entries is stand spare)),
+      λ way j first same d.
+          subst (Drops way j first u.slots) (sym short)
+          (subst (λ (xs : List (Option Kept)). Drops way j first xs (take n bars)) slots (newest_drops t.slots bars (take n bars) id lits t.entries is stand spare way j first same d)),
+    )
+
 -- a bar is a nogood
 pub bar_has : (slots : List (Option Kept)) (id : ℕ) → IsBar slots id → IsSome (nogood_at slots id)
 bar_has slots id b = some (nogood_at slots id) b.kept.nogood (nogood_kept slots id b.kept b.stands)
