@@ -192,6 +192,10 @@ last_dropped t u bars new n id lits size at stand spare gone short =
           (subst (λ (xs : List (Option Kept)). Drops way j first xs (take n bars)) slots (newest_drops t.slots bars (take n bars) id lits t.entries is stand spare way j first same d)),
     )
 
+-- the slots alone changed, and then once more
+pub slots_twice : (t a b : Tracked) → a ≡ record t { slots = a.slots } → b ≡ record a { slots = b.slots } → b ≡ record t { slots = b.slots }
+slots_twice t a b first second = second ∙ ap (λ (x : Tracked). let y : Tracked = record x { slots = b.slots } in y) first
+
 -- a bar is a nogood
 pub bar_has : (slots : List (Option Kept)) (id : ℕ) → IsBar slots id → IsSome (nogood_at slots id)
 bar_has slots id b = some (nogood_at slots id) b.kept.nogood (nogood_kept slots id b.kept b.stands)
