@@ -43,8 +43,8 @@ returns-in_err-id-clause-err g c =
     let sound : IsSound t.program = subst IsSound c.self.invariant.program c.program-program.ensures.sound in
     let counts : (n : Nogood) → g.P.Propagator.gives t.program t.bound n → Counts t.bound n.base = λ n h. (g.met.P.Propagator.sound t.program t.bound n i.known.items sound h).counts in
     let fails : IsFailure (g.P.Propagator.gives s.program s.bound) s new f f = λ q e.
-        subst (λ (z : Searching). Fails (g.P.Propagator.gives z.program z.bound) z new q f f) c.self.view_is
-        (adds_fail (g.P.Propagator.gives t.program t.bound) i.mode t u i.pace i.known.items i.last q f counts p.adds p.implies p.same) in
+    subst (λ (z : Searching). Fails (g.P.Propagator.gives z.program z.bound) z new q f f) c.self.view_is
+    (adds_fail (g.P.Propagator.gives t.program t.bound) i.mode t u i.pace i.known.items i.last q f counts p.adds p.implies p.same) in
     always_err c.from_residual.result (IsFailure (g.P.Propagator.gives s.program s.bound) s new f f) fails
 
 pub invariant_of-self-in-Some : goal.invariant_of-self-in-Some
@@ -60,12 +60,14 @@ pub meet-requires-clause-entered : goal.meet-requires-clause-entered
 meet-requires-clause-entered g c =
     let i = c.self.inside in
     let q = some_of c.args.self.now.cube c.requires.entered in
-    let same = c.propagate.ensures.same in
-    (q.0, record {
-      cube = ap (λ (x : Tracked). x.cube) same ∙ (ap (λ (x : Searching). x.cube) c.self.view_is ∙ q.1);
-      clear = ap (λ (x : Tracked). x.clashing) same ∙ (sym c.is_clashing.ensures.same ∙ c.if-is_clashing.false);
-      last = refl;
-    })
+    let same = c.propagate.ensures.same in (
+      q.0,
+      record {
+        cube = ap (λ (x : Tracked). x.cube) same ∙ (ap (λ (x : Searching). x.cube) c.self.view_is ∙ q.1);
+        clear = ap (λ (x : Tracked). x.clashing) same ∙ (sym c.is_clashing.ensures.same ∙ c.if-is_clashing.false);
+        last = refl;
+      },
+    )
 
 pub invariant_of-self-in-None : goal.invariant_of-self-in-None
 invariant_of-self-in-None g c =
@@ -80,12 +82,14 @@ pub go_on-requires-clause-entered : goal.go_on-requires-clause-entered
 go_on-requires-clause-entered g c =
     let i = c.self.inside in
     let q = some_of c.args.self.now.cube c.requires.entered in
-    let same = c.propagate.ensures.same in
-    (q.0, record {
-      cube = ap (λ (x : Tracked). x.cube) same ∙ (ap (λ (x : Searching). x.cube) c.self.view_is ∙ q.1);
-      clear = ap (λ (x : Tracked). x.clashing) same ∙ (sym c.is_clashing.ensures.same ∙ c.if-is_clashing.false);
-      last = refl;
-    })
+    let same = c.propagate.ensures.same in (
+      q.0,
+      record {
+        cube = ap (λ (x : Tracked). x.cube) same ∙ (ap (λ (x : Searching). x.cube) c.self.view_is ∙ q.1);
+        clear = ap (λ (x : Tracked). x.clashing) same ∙ (sym c.is_clashing.ensures.same ∙ c.if-is_clashing.false);
+        last = refl;
+      },
+    )
 
 pub returns-in-Some-clause-ok : goal.returns-in-Some-clause-ok
 returns-in-Some-clause-ok g c =

@@ -94,10 +94,13 @@ answer-requires g c =
     let atoms = atoms_for p c.trail.result.now.vars t c.trail.result.now.entries S c.self.invariant.program c.trail.ensures.vars c.trail.ensures.entries c.in_ok-interp.ensures in
     let verdict = subst (λ (r : Option Nogood). MatchOption r (IsTrue (is_stable p S)) (IsFault p (g.P.Propagator.gives p t.bound) (var_count p) t.entries)) c.in-None.is c.in_ok-fault.ensures in
     let found = full_found silent i.known.items t q full (λ v w h. g.met.P.Propagator.whole t.program t.bound (values_of t) v sound w h) i.mode i.pace i.last
-    (stable_for p t S c.self.invariant.program atoms verdict) in
-    (q, c.requires.entered.1, subst (λ (x : Searching). IsFound x q S) c.self.view_is
-    (found_for (view_of i.mode t i.pace i.known.items i.last) q S (atoms_on t.program (var_count t.program) t.entries)
-    (atoms ∙ ap (λ (x : Program). atoms_on x (var_count x) t.entries) c.self.invariant.program) found))
+    (stable_for p t S c.self.invariant.program atoms verdict) in (
+      q,
+      c.requires.entered.1,
+      subst (λ (x : Searching). IsFound x q S) c.self.view_is
+          (found_for (view_of i.mode t i.pace i.known.items i.last) q S (atoms_on t.program (var_count t.program) t.entries)
+          (atoms ∙ ap (λ (x : Program). atoms_on x (var_count x) t.entries) c.self.invariant.program) found),
+    )
 
 pub returns-in_err-answer-in-None-clause-err : goal.returns-in_err-answer-in-None-clause-err
 returns-in_err-answer-in-None-clause-err g c =

@@ -100,8 +100,8 @@ returns-in_err-new-clause-err g c =
     let paid = fails_paid (g.P.Propagator.gives i.track.program i.track.bound) i.mode i.track i.pace i.known.items i.last q f h x u c.count.new.self u.ranking is left c.burn.ensures
     c.in_err-new.ensures.err in
     let fails : IsFailure (g.P.Propagator.gives s.program s.bound) s new f h = λ r e.
-        subst (λ (y : List Literal). Fails (g.P.Propagator.gives s.program s.bound) s new y f h) (same_cube s.cube q r c.requires.met.1.entered e)
-        (subst (λ (z : Searching). Fails (g.P.Propagator.gives z.program z.bound) z new q f h) c.self.view_is paid) in
+    subst (λ (y : List Literal). Fails (g.P.Propagator.gives s.program s.bound) s new y f h) (same_cube s.cube q r c.requires.met.1.entered e)
+    (subst (λ (z : Searching). Fails (g.P.Propagator.gives z.program z.bound) z new q f h) c.self.view_is paid) in
     always_err c.from_residual-in_err-new.result (IsFailure (g.P.Propagator.gives s.program s.bound) s new f h) fails
 
 pub invariant_of-self-2 : goal.invariant_of-self-2
