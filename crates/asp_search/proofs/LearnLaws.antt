@@ -1,17 +1,14 @@
 -- What is asked for learning, for a conflict and for a jump, and what they give.
-use Rattle.std.proofs.Common.{◌≡◌, ℕ, ◌≤◌, true, List, length, take, Option, Some, None, IsSome, sym, ap, ◌∙◌, subst}
-use Rattle.std.specs.Prelude.{ℤ, Result, Ok, Err}
+use Rattle.std.proofs.Common.{◌≡◌, ℕ, ◌≤◌, true, List, Option, Some, None, IsSome, sym, ap, ◌∙◌, refl, subst}
+use Rattle.std.specs.Prelude.{Result, Ok, Err}
 use Rattle.std.specs.List.{All}
 use Rattle.std.specs.Option.{unwrap_or}
 use Rattle.std.specs.Result.{IfOk}
 use Rattle.std.proofs.lemmas.List.Elements.{All-weaker}
-use Rattle.asp_model.specs.declared.program.Program.{Program}
-use Rattle.asp_model.specs.Sets.{Atoms}
 use Rattle.asp_vars.specs.Literals.{Literal, holds_in}
-use Rattle.asp_vars.specs.Paid.{Clash}
 use Rattle.asp_vars.specs.declared.nogood.Nogood.{Nogood}
 use Rattle.asp_trail.specs.declared.trail.Entry.{Entry}
-use Rattle.asp_trail.specs.Entries.{assignment, level_in}
+use Rattle.asp_trail.specs.Entries.{assignment}
 use Rattle.asp_trail.specs.Quiet.{is_violated}
 use Rattle.asp_trail.specs.Trails.{IsOrdered, IsVar}
 use Rattle.asp_trail.proofs.QuietLaws.{list_all_at}
@@ -25,15 +22,13 @@ use Rattle.asp_analyze.specs.declared.learn.Learned.{Learned}
 use Rattle.asp_settle.proofs.LitLaws.{has_at}
 use Rattle.asp_settle.proofs.PlaceLaws.{blank}
 use Rattle.asp_step.specs.Explaining.{Explains}
-use Rattle.asp_track.specs.Tracking.{Tracked}
-use Rattle.asp_search.specs.Meeting.{IsClashOf}
 
 pub has_some : {X : Type 0} → (o : Option X) (x : X) → o ≡ Some x → IsSome o
 has_some None x q = absurd (none x q)
   where
     none : {X : Type 0} → (y : X) → None ≡ Some y → ⊥
     none y e = cc
-has_some (Some y) x q = tt
+has_some (Some y) x q = refl
 
 -- ---- learning
 pub up_to : (vars : ℕ) (es : List Entry) → IsOrdered vars es → AreUpTo vars es
@@ -68,18 +63,6 @@ explained_at r vars wars slots tlots es fs id from v s e q violated reached cont
     (subst (λ (xs : List (Option Kept)). IfOk r (Explains wars xs es id)) s
     (subst (λ (xs : List Entry). IfOk r (Explains wars tlots xs id)) e
     (explained r wars tlots fs id from q (violated_is wars tlots fs id from q (violated_at vars wars slots tlots es fs id v s e violated)) reached contained assumed learned)))
-
--- ---- a conflict
-pub clash_of : (p : Program) (known : List Atoms) (bound : Option (List ℤ)) (t : Tracked) (id : ℕ) (lit : Literal) (cube decisions nogood : List Literal) (n : Nogood) →
-    Some cube ≡ t.cube → decisions ≡ take (level_in t.entries lit.var) t.decisions → nogood ≡ n.lits → Some n ≡ nogood_at t.slots id →
-    IsClashOf p known bound t id lit (record { program = p; cube = cube; decisions = decisions; nogood = nogood; known = length known; bound = bound })
-clash_of p known bound t id lit cube decisions nogood n c d k s m =
-    let one : cube ≡ m.cube = ap (λ (o : Option (List Literal)). unwrap_or o cube) (c ∙ m.entered) in
-    let two : n ≡ m.from = ap (λ (o : Option Nogood). unwrap_or o n) (s ∙ m.stands) in
-    let first : List Literal → Clash = λ x. record { program = p; cube = x; decisions = decisions; nogood = nogood; known = length known; bound = bound } in
-    let second : List Literal → Clash = λ x. record { program = p; cube = m.cube; decisions = x; nogood = nogood; known = length known; bound = bound } in
-    let third : List Literal → Clash = λ x. record { program = p; cube = m.cube; decisions = take (level_in t.entries lit.var) t.decisions; nogood = x; known = length known; bound = bound } in
-    ap first one ∙ (ap second d ∙ ap third (k ∙ ap (λ (x : Nogood). x.lits) two))
 
 -- ---- a jump
 pub contained_vars : (vars : ℕ) (es : List Entry) (n : List Literal) → IsOrdered vars es → AreContained vars es n → All (λ l. IsVar vars l.var) n

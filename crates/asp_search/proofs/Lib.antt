@@ -8,3 +8,4 @@ pub mod WholeLaws
 pub mod StepsLaws
 pub mod BelowLaws
 pub mod BesideLaws
+pub mod FaultLaws

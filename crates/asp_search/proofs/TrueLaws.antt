@@ -1,5 +1,5 @@
 -- The atoms that are true.
-use Rattle.std.proofs.Common.{◌≡◌, ℕ, ◌+◌, ◌<◌, Bool, true, false, cond, List, ◌∷◌, ◌++◌, filter, length, get_or, take, Option, Some, None, refl, sym, ap, ◌∙◌, arith, add-one, []}
+use Rattle.std.proofs.Common.{◌≡◌, ℕ, ◌+◌, ◌<◌, ◌≤◌, Bool, true, false, cond, List, ◌∷◌, ◌++◌, filter, length, get_or, take, Option, Some, None, refl, sym, ap, ◌∙◌, subst, arith, add-one, []}
 use Rattle.std.specs.List.{AllByRecursion}
 use Rattle.std.specs.Bool.{beq}
 use Rattle.std.specs.Option.{unwrap_or}
@@ -42,6 +42,15 @@ held_more p a held new i var atom h is v e q =
 
 pub held_all : (p : Program) (a : List (Option Bool)) (held : List ℕ) (i : ℕ) → length (atoms_of p) ≡ i → held ≡ filter (is_held p a) (take i (atoms_of p)) → held ≡ filter (is_held p a) (atoms_of p)
 held_all p a held i q e = e ∙ ap (filter (is_held p a)) (take_all i (atoms_of p) (omega (arith, q)))
+
+-- the same, where the code has the atoms in a list
+pub held_step : (p : Program) (a : List (Option Bool)) (xs held new : List ℕ) (i var atom : ℕ) → xs ≡ atoms_of p → i < length xs → atom ≡ get_or xs i 0 → var ≡ i + 1 →
+    held ≡ filter (is_held p a) (take i (atoms_of p)) → new ≡ held ++ cond (is_true (truths a) (T var)) (atom ∷ []) [] → new ≡ filter (is_held p a) (take (i + 1) (atoms_of p))
+held_step p a xs held new i var atom same h is v e q =
+    held_more p a held new i var atom (subst (λ (ys : List ℕ). i < length ys) same h) (is ∙ ap (λ (ys : List ℕ). get_or ys i 0) same) v e q
+
+pub held_end : (p : Program) (a : List (Option Bool)) (xs held : List ℕ) (i : ℕ) → xs ≡ atoms_of p → length xs ≤ i → i ≤ length xs → held ≡ filter (is_held p a) (take i (atoms_of p)) → held ≡ filter (is_held p a) (atoms_of p)
+held_end p a xs held i same low high e = held_all p a held i (subst (λ (ys : List ℕ). length ys ≡ i) same (omega (arith, low, high))) e
 
 -- what passes a test ascends as all does
 above : (q : ℕ → Bool) (a : ℕ) (S : Atoms) → AllByRecursion (λ b. a < b) S → AllByRecursion (λ b. a < b) (filter q S)

@@ -108,6 +108,7 @@ pub(crate) fn block<P: Propagator>(
     ensures ok { OnOk result ((q : List Literal) → track.old.cube ≡ Some q → Blocks (way_of q track.old.decisions) track.old track.new bars.new.items) }
     ensures err { OnErr result ((track.new ≡ track.old) × (bars.new.items ≡ bars.old.items)) }
 {
+    let _trail = track.trail();
     let way = track.way(alloc)?;
     let lits = way.lits.copy()?;
     bars.reserve(1)?;

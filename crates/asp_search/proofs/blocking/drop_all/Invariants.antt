@@ -5,8 +5,8 @@ use Rattle.asp_step.specs.Keeping.{AreBars}
 use Rattle.asp_search.specs.Blocking.{Drops}
 use Rattle.asp_search.proofs.blocking.drop_all.Given as goal
 
-abbrev pub invariant-loop-track : goal.invariant-loop-track
-invariant-loop-track g l = record {
+abbrev pub invariant-loop : goal.invariant-loop
+invariant-loop g l = record {
   bars_stand : AreBars l.track.slots l.bars.items;
   same : l.track ≡ record l.fn.track { slots = l.track.slots };
   drops : (way : Nogood) (id : ℕ) (first : List (Option Kept)) → way.lits ≡ l.lits → Drops way id first l.fn.track.slots l.fn.bars.items → Drops way id first l.track.slots l.bars.items;
@@ -14,5 +14,5 @@ invariant-loop-track g l = record {
   room : vec_capacity l.bars ≡ vec_capacity l.fn.bars;
 }
 
-abbrev pub decreases-loop-track : goal.decreases-loop-track
-decreases-loop-track g l = vec_len l.bars
+abbrev pub decreases-loop : goal.decreases-loop
+decreases-loop g l = vec_len l.bars

@@ -31,7 +31,7 @@ returns g c = λ yes.
     let k : nogood_at t.slots c.args.id ≡ Some n = kept_is t.slots c.store.result.now.slots c.args.id n c.store.ensures.slots c.reason.ensures in
     let none = c.is_reason.ensures (not_true c.is_reason.result yes) in
     let begins : starts_with literal_eq n.lits c.args.lits.now ≡ true =
-    subst (λ (ls : List Literal). starts_with literal_eq ls c.args.lits.now ≡ true) c.as_slice-old.ensures.value (sym c.starts_with.ensures.value ∙ c.if-starts_with.true) in
+    subst (λ (ls : List Literal). starts_with literal_eq ls c.args.lits.now ≡ true) c.as_slice-old.ensures.value (sym c.starts_with.ensures.value ∙ c.if-not-starts_with.false) in
     let here : All (λ (l : Literal). reason_in t.entries l.var ≢ Some c.args.id) n.lits =
     subst (λ (es : List Entry). All (λ (l : Literal). reason_in es l.var ≢ Some c.args.id) n.lits) c.trail.ensures.entries
     (subst (λ (ls : List Literal). All (λ (l : Literal). reason_in c.trail.result.now.entries l.var ≢ Some c.args.id) ls) c.as_slice-old.ensures.value none) in

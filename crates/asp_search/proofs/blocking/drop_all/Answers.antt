@@ -1,0 +1,18 @@
+use Rattle.std.proofs.Common.{◌∙◌, arith}
+use Rattle.asp_search.proofs.BlockLaws.{slots_twice}
+use Rattle.asp_search.proofs.blocking.drop_all.Goals as goal
+
+pub loop-preserved : goal.loop-preserved
+loop-preserved g c =
+    let i = c.loop.invariant in
+    let e = c.drop_last.ensures in
+    record {
+      bars_stand = e.bars;
+      same = slots_twice c.args.track.now c.loop.track c.drop_last.new.track i.same e.same;
+      drops = λ way id first same d. e.drops way id first same (i.drops way id first same d);
+      len = omega (arith, e.len, i.len);
+      room = e.room ∙ i.room;
+    }
+
+pub returns-clause-drops : goal.returns-clause-drops
+returns-clause-drops g c = λ way id first same d. c.drop_last.ensures.drops way id first same (c.loop.invariant.drops way id first same d)
