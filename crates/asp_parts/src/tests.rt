@@ -96,13 +96,27 @@ fn follow_below_one(
     Ok(())
 }
 
+fn follow(rt: &impl Abort, heap: Global, path: &mut Path<Parts<'_>>) -> Result<(), AllocError>
+    requires vars { var_count path.old.program ≡ 9 }
+    requires bound { path.old.bound ≡ None }
+{
+    follow_freely(rt, path)?;
+    follow_below_one(rt, heap, path)
+}
+
+fn speak(rt: &impl Abort, heap: Global, compiled: &Compiled) -> Result<(), AllocError>
+    requires { var_count compiled.now ≡ 9 }
+{
+    let mut path = start(heap, compiled)?;
+    let followed = follow(rt, heap, &mut path);
+    path.clear();
+    followed
+}
+
 #[test]
 fn each_of_them_speaks(rt: HostRuntime) -> Result<(), Fail> {
     let heap = rt.alloc();
     let compiled = compiled(&rt, heap)?;
-    let mut path = start(heap, &compiled)?;
-    follow_freely(&rt, &mut path)?;
-    follow_below_one(&rt, heap, &mut path)?;
-    path.clear();
+    speak(&rt, heap, &compiled)?;
     Ok(())
 }
