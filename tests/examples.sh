@@ -63,6 +63,11 @@ echo 'aspenum: read failed' > "$wanted"
 "$program" < examples 2> "$notes" > "$given"
 check "a folder as input" 66 "$wanted" "$?" "$notes"
 
+# The counts of a run.
+printf 'Conflicts: 0\nLeaves: 1\nLog: 0\n' > "$wanted"
+"$program" --stats < examples/two_rules.aspif > "$given" 2> "$notes"
+check "counts" 30 "$wanted" "$?" "$notes"
+
 # The commands of the README: each line '$ COMMAND' of its text blocks, with what follows it.
 python3 tests/readme.py "$program" README.md || failed=$((failed + 1))
 
