@@ -207,12 +207,7 @@ fn ask_all(
     ask(rt, trail, bound, row.cost, row.first)
 }
 
-fn play(
-    rt: &impl Abort,
-    alloc: Global,
-    compiled: &Compiled,
-    row: &Row,
-) -> Result<(), AllocError> {
+fn play(rt: &impl Abort, alloc: Global, compiled: &Compiled, row: &Row) -> Result<(), AllocError> {
     assert!(rt; 0 < row.lit.var() && row.lit.var() <= compiled.vars());
     let (mut trail, mut bound) = begin(alloc, compiled)?;
     ask_all(rt, alloc, &mut trail, &mut bound, row)

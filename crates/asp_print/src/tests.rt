@@ -155,7 +155,13 @@ fn optima_are_written(rt: HostRuntime) -> Result<(), Fail> {
 }
 
 // The whole text passes, and where the fifth call fails four pieces of it are out.
-fn print_long(rt: &impl Abort, alloc: Global, program: &Program, results: &Results, failing: Vec<u64>) {
+fn print_long(
+    rt: &impl Abort,
+    alloc: Global,
+    program: &Program,
+    results: &Results,
+    failing: Vec<u64>,
+) {
     let mut clean = CleanSink::new();
     assert!(rt; print(&mut clean, program, results, false) == Ok(()));
     assert!(rt; clean.count() == 2 * 20017 + 22);

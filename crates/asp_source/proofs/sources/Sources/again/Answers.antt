@@ -39,6 +39,6 @@ returns-clause-given c =
     let member = rw c.in-Some.is at c.choose_atom.ensures in
     let shape = subst (λ (U : List ℕ). IsLoopNogood t.program t.values U c.in-Some.atom c.in-Some-nogood.nogood) c.as_slice-3.ensures.value made in
     let found = rest_found t.program t.values c.self.inside.atoms.items c.as_slice.result.now c.in_ok-open.open.items c.in-Some.atom c.as_slice.ensures.value c.in_ok-open.ensures c.self.invariant.joined shape.unfounded
-        (subst (λ (U : List ℕ). has U c.in-Some.atom ≡ true) c.as_slice-2.ensures.value member) in
+    (subst (λ (U : List ℕ). has U c.in-Some.atom ≡ true) c.as_slice-2.ensures.value member) in
     subst (λ (t : Told). IsGiven t c.in-Some-nogood.nogood) c.self.view_is
     (given t c.in_ok-open.open.items c.in-Some.atom c.in-Some-nogood.nogood c.self.invariant.sized c.self.invariant.first found shape)
