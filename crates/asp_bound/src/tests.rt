@@ -207,23 +207,27 @@ fn ask_all(
     ask(rt, trail, bound, row.cost, row.first)
 }
 
-fn play(
-    rt: &impl Abort,
-    alloc: Global,
-    compiled: &Compiled,
-    row: &Row,
-) -> Result<(), AllocError> {
+fn play(rt: &impl Abort, alloc: Global, compiled: &Compiled, row: &Row) -> Result<(), AllocError> {
     assert!(rt; 0 < row.lit.var() && row.lit.var() <= compiled.vars());
     let (mut trail, mut bound) = begin(alloc, compiled)?;
     ask_all(rt, alloc, &mut trail, &mut bound, row)
 }
 
-fn play_all(rt: &impl Abort, alloc: Global, rows: &[Row]) -> Result<(), AllocError> {
-    let compiled = compiled(rt, alloc)?;
+fn play_each(
+    rt: &impl Abort,
+    alloc: Global,
+    compiled: &Compiled,
+    rows: &[Row],
+) -> Result<(), AllocError> {
     for row in rows {
-        play(rt, alloc, &compiled, row)?;
+        play(rt, alloc, compiled, row)?;
     }
     Ok(())
+}
+
+fn play_all(rt: &impl Abort, alloc: Global, rows: &[Row]) -> Result<(), AllocError> {
+    let compiled = compiled(rt, alloc)?;
+    play_each(rt, alloc, &compiled, rows)
 }
 
 #[test]
