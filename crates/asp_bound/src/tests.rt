@@ -213,12 +213,21 @@ fn play(rt: &impl Abort, alloc: Global, compiled: &Compiled, row: &Row) -> Resul
     ask_all(rt, alloc, &mut trail, &mut bound, row)
 }
 
-fn play_all(rt: &impl Abort, alloc: Global, rows: &[Row]) -> Result<(), AllocError> {
-    let compiled = compiled(rt, alloc)?;
+fn play_each(
+    rt: &impl Abort,
+    alloc: Global,
+    compiled: &Compiled,
+    rows: &[Row],
+) -> Result<(), AllocError> {
     for row in rows {
-        play(rt, alloc, &compiled, row)?;
+        play(rt, alloc, compiled, row)?;
     }
     Ok(())
+}
+
+fn play_all(rt: &impl Abort, alloc: Global, rows: &[Row]) -> Result<(), AllocError> {
+    let compiled = compiled(rt, alloc)?;
+    play_each(rt, alloc, &compiled, rows)
 }
 
 #[test]
