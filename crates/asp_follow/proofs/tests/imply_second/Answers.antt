@@ -20,7 +20,7 @@ alone es i = record {
   others = λ k h ne. absurd (ne (sym (same_literal (T 2) k (first_of _ h))));
 }
 
-second : Nogood
+abbrev second : Nogood
 second = record { lits = T 2 ∷ []; base = base.Pure }
 
 implied : (p q : Following) (l : Literal) (id : ℕ) → q ≡ with_nogood p second false → id ≡ length p.slots → l ≡ F 2 → IsImplied q l id
