@@ -17,7 +17,7 @@ use Rattle.asp_core.proofs.RowLaws.{HitsOnly-listed}
 use Rattle.asp_book.specs.Books.{Booked, board, with_events}
 use Rattle.asp_book.specs.Fuels.{ComesBack}
 use Rattle.asp_book.specs.Replies.{Divides, Improves, taken, taken_this, divided, improved, leased_out}
-use Rattle.asp_book.specs.Rows.{fresh, searched}
+use Rattle.asp_book.specs.Rows.{fresh, searched, no_models}
 
 -- ---- guards
 pub guard-at : (b d : Booked) (e : Event) → b ≡ d → Guard (board d) e → Guard (board b) e
@@ -76,3 +76,7 @@ leases-at b c d s n u e reply next = next ∙ (λ k. with_events (e k) (leased_o
 -- after the optimum of one search each model is excused
 pub all_excused : HitsOnly (board (searched 3)).task.program (is_excused (board (searched 3))) []
 all_excused = HitsOnly-listed (board (searched 3)).task.program (is_excused (board (searched 3))) [] refl
+
+-- where there is no model
+pub none_hits : (excuse : Atoms → Bool) → HitsOnly no_models excuse []
+none_hits excuse = HitsOnly-listed no_models excuse [] refl

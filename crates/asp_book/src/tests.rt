@@ -18,6 +18,8 @@ use std::alloc::{AllocError, Global};
 use std::process::Abort;
 use std::test::Fail;
 
+mod seats;
+
 // Two atoms that are free.
 fn free_atoms(heap: Global) -> Result<Program, AllocError>
     ensures { IfOk result (λ p. p ≡ two_atoms) }

@@ -1,6 +1,5 @@
 use Rattle.std.proofs.Common.{◌<◌, length, sym, subst, arith}
 use Rattle.asp_book.specs.Books.{Booked, board}
-use Rattle.asp_book.specs.Rows.{searched}
 use Rattle.asp_book.proofs.tests.look.Goals as goal
 
 pub cube-requires : goal.cube-requires
