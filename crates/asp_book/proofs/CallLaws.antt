@@ -18,11 +18,11 @@ use Rattle.asp_core.proofs.GrowthLaws.{Grows-run, Spares-run}
 use Rattle.asp_book.specs.Books.{Booked, board, with_events, signed, IsJournalOf}
 use Rattle.asp_book.specs.Calls.{Knows, no_task, task_of, seen_board, IsCall}
 
-run-append : (b : Board) (xs ys : List Event) → run b (xs ++ ys) ≡ run (run b xs) ys
+pub run-append : (b : Board) (xs ys : List Event) → run b (xs ++ ys) ≡ run (run b xs) ys
 run-append b [] ys = refl
 run-append b (e ∷ xs) ys = run-append (happens b e) xs ys
 
-lawful-rest : (b : Board) (xs ys : List Event) → IsLawful b (xs ++ ys) → IsLawful (run b xs) ys
+pub lawful-rest : (b : Board) (xs ys : List Event) → IsLawful b (xs ++ ys) → IsLawful (run b xs) ys
 lawful-rest b [] ys h = h
 lawful-rest b (e ∷ xs) ys h = lawful-rest (happens b e) xs ys h.1
 

@@ -4,3 +4,4 @@ pub mod CallLaws
 pub mod DeskLaws
 pub mod ReplyLaws
 pub mod RowLaws
+pub mod SeatLaws

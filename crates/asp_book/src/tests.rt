@@ -1,18 +1,24 @@
-//! Two numbers lease all three units of a book, and give them back.
-ghost use Rattle.std.specs.Prelude.{◌≡◌, [], ◌∷◌, IfOk, OnOk};
-ghost use Rattle.asp_core.specs.declared.event.Event.TheVariants as event;
+//! Each call of a book once, with answers worked out by hand.
+ghost use Rattle.std.specs.Prelude.{◌≡◌, [], IfOk, OnOk};
+ghost use Rattle.asp_model.specs.Sound.{IsSound};
+ghost use Rattle.asp_core.specs.Boards.{goal_of};
 ghost use Rattle.asp_core.specs.Rows.{two_atoms};
-ghost use Rattle.asp_book.specs.Rows.{after, fresh};
+ghost use Rattle.asp_book.specs.Rows.{task_for, over, after, searched};
 
 use crate::book::Book;
 use asp_core::goal::Goal;
 use asp_core::state::State;
+use asp_model::interp::Interp;
 use asp_model::program::{Body, Head, Program, Rule};
+use asp_model::results::Mode;
 use asp_model::seq::Seq;
 use asp_vars::compile::compile;
-use asp_vars::fuel::Fuel;
+use asp_vars::lit::Lit;
 use std::alloc::{AllocError, Global};
+use std::process::Abort;
 use std::test::Fail;
+
+mod seats;
 
 // Two atoms that are free.
 fn free_atoms(heap: Global) -> Result<Program, AllocError>
@@ -33,62 +39,136 @@ fn free_atoms(heap: Global) -> Result<Program, AllocError>
     })
 }
 
-fn new_book(heap: Global) -> Result<Book, AllocError>
-    ensures { IfOk result (λ b. b ≡ after []) }
+// A book of three units.
+fn book_of(heap: Global, program: Program, mode: Mode) -> Result<Book, AllocError>
+    requires { IsSound program }
+    ensures { IfOk result (λ b. b ≡ record { task = task_for program (goal_of mode); journal = [] }) }
 {
-    let compiled = compile(heap, free_atoms(heap)?)?;
-    let state = State::start(heap, &compiled, Goal::Enum, 3, 0, &[])?;
+    let compiled = compile(heap, program)?;
+    let state = State::start(heap, &compiled, Goal::of(mode), 3, 0, &[])?;
     Ok(Book::new(heap, &compiled, state))
 }
 
-// The first takes the root. Nothing is left for the second.
-fn take_root(book: &mut Book) -> Result<(Option<u32>, Option<u32>), AllocError>
+fn new_book(heap: Global, mode: Mode) -> Result<Book, AllocError>
+    ensures { IfOk result (λ b. b ≡ over (goal_of mode) []) }
+{
+    book_of(heap, free_atoms(heap)?, mode)
+}
+
+// All units are leased, and come back.
+fn lease_all(rt: &impl Abort, book: &mut Book) -> Result<(), AllocError>
     requires { book.old ≡ after [] }
-    ensures { OnOk result (book.new ≡ after (event.Take 1 0 ∷ [])) }
 {
-    let first = book.take(1)?;
-    let second = book.take(2)?;
-    Ok((first, second))
+    let fuel = book.lease(1, 5)?;
+    assert!(rt; fuel.left() == 3);
+    book.back(1, fuel);
+    Ok(())
 }
 
-fn lease_all(book: &mut Book) -> Result<(Fuel, Fuel), AllocError>
-    requires { book.old ≡ after (event.Take 1 0 ∷ []) }
-    ensures book { OnOk result (book.new ≡ after (event.Take 1 0 ∷ event.Lease 1 2 ∷ event.Lease 2 1 ∷ [])) }
-    ensures two { IfOk result (λ r. r.0 ≡ fresh 2) }
-    ensures one { IfOk result (λ r. r.1 ≡ fresh 1) }
+fn deliver_none(rt: &impl Abort, heap: Global, book: &mut Book) -> Result<(), AllocError>
+    requires { book.old ≡ after [] }
 {
-    let two = book.lease(1, 2)?;
-    let one = book.lease(2, 5)?;
-    Ok((two, one))
+    let is_delivered = book.deliver(1, Interp::new(heap))?;
+    assert!(rt; is_delivered);
+    Ok(())
 }
 
-// The second's unit goes back, and to the first.
-fn pass_on(book: &mut Book, mut two: Fuel, one: Fuel) -> Result<Fuel, AllocError>
-    requires book { book.old ≡ after (event.Take 1 0 ∷ event.Lease 1 2 ∷ event.Lease 2 1 ∷ []) }
-    requires two { two ≡ fresh 2 }
-    requires one { one ≡ fresh 1 }
-    ensures book { OnOk result (book.new ≡ after (event.Take 1 0 ∷ event.Lease 1 2 ∷ event.Lease 2 1 ∷ event.Back 2 1 0 ∷ event.Lease 1 1 ∷ [])) }
-    ensures all { IfOk result (λ all. all ≡ fresh 3) }
-{
-    book.back(2, one);
-    let more = book.lease(1, 1)?;
-    two.merge(more);
-    Ok(two)
+fn end(rt: &impl Abort, book: Book) {
+    let (state, journal, fuel) = book.end();
+    assert!(rt; state.pool() == 3 && journal.len() == 2);
+    assert!(rt; fuel.left() == 3 && fuel.burnt() == 0);
+}
+
+fn units(rt: &impl Abort, heap: Global) -> Result<(), AllocError> {
+    let mut book = new_book(heap, Mode::Enum)?;
+    lease_all(rt, &mut book)?;
+    end(rt, book);
+    Ok(())
 }
 
 #[test]
-fn two_leases_come_back(rt: HostRuntime) -> Result<(), Fail> {
-    let mut book = new_book(rt.alloc())?;
-    let (first, second) = take_root(&mut book)?;
-    assert!(rt; first == Some(0) && second.is_none());
-    let (two, one) = lease_all(&mut book)?;
-    let none = book.lease(1, 1)?;
-    assert!(rt; two.left() == 2 && one.left() == 1 && none.left() == 0);
-    let all = pass_on(&mut book, two, one)?;
-    assert!(rt; all.left() == 3);
-    book.back(1, all);
-    let (state, journal, fuel) = book.end();
-    assert!(rt; state.pool() == 3 && state.spent() == 0 && journal.len() == 6);
-    assert!(rt; fuel.left() == 3 && fuel.burnt() == 0);
+fn units_come_back(rt: HostRuntime) -> Result<(), Fail> {
+    units(&rt, rt.alloc())?;
+    Ok(())
+}
+
+fn deliver(rt: &impl Abort, heap: Global) -> Result<(), AllocError> {
+    let mut book = new_book(heap, Mode::Enum)?;
+    deliver_none(rt, heap, &mut book)
+}
+
+#[test]
+fn an_answer_is_delivered(rt: HostRuntime) -> Result<(), Fail> {
+    deliver(&rt, rt.alloc())?;
+    Ok(())
+}
+
+// A number takes the root, and splits it.
+fn divide(rt: &impl Abort, book: &mut Book) -> Result<(), AllocError>
+    requires { book.old ≡ searched 0 }
+    ensures { OnOk result (book.new ≡ searched 2) }
+{
+    let leaf = book.take(1)?;
+    let leaves = book.split(1, 0, Lit::new(1, false))?;
+    assert!(rt; leaf == Some(0) && leaves == Some((1, 2)));
+    Ok(())
+}
+
+// The first of its leaves has one literal.
+fn look(rt: &impl Abort, book: &Book) -> Result<(), AllocError>
+    requires { book.now ≡ searched 2 }
+{
+    let cube = book.cube(1)?;
+    assert!(rt; cube.len() == 1);
+    Ok(())
+}
+
+// It finds an optimum, and closes a leaf by it.
+fn settle(rt: &impl Abort, heap: Global, book: &mut Book) -> Result<(), AllocError>
+    requires { book.old ≡ searched 2 }
+    ensures { OnOk result (book.new ≡ searched 4) }
+{
+    let better = book.improve(1, Interp::new(heap))?;
+    book.close(1, 1, &[])?;
+    assert!(rt; better.is_none());
+    Ok(())
+}
+
+// It takes the other leaf, and opens it again.
+fn leave(rt: &impl Abort, book: &mut Book) -> Result<(), AllocError>
+    requires { book.old ≡ searched 4 }
+{
+    let taken = book.take_this(1, 2)?;
+    book.release(1, 2);
+    assert!(rt; taken);
+    Ok(())
+}
+
+// How the book stands at the end.
+fn rest(rt: &impl Abort, book: &Book) -> Result<(), AllocError> {
+    let best = book.best()?;
+    assert!(rt; best.is_some() && book.open_leaves() == 1 && book.held_leaves() == 0);
+    assert!(rt; book.room() && !book.enough() && book.journal().len() == 6);
+    Ok(())
+}
+
+fn search(rt: &impl Abort, heap: Global, book: &mut Book) -> Result<(), AllocError>
+    requires { book.old ≡ searched 0 }
+{
+    divide(rt, book)?;
+    look(rt, book)?;
+    settle(rt, heap, book)?;
+    leave(rt, book)?;
+    rest(rt, book)
+}
+
+fn search_anew(rt: &impl Abort, heap: Global) -> Result<(), AllocError> {
+    let mut book = new_book(heap, Mode::Opt)?;
+    search(rt, heap, &mut book)
+}
+
+#[test]
+fn one_number_searches_two_leaves(rt: HostRuntime) -> Result<(), Fail> {
+    search_anew(&rt, rt.alloc())?;
     Ok(())
 }
