@@ -12,7 +12,6 @@ use Rattle.asp_vars.specs.Paid.{Units}
 use Rattle.asp_vars.specs.declared.nogood.Base.{Base}
 use Rattle.asp_vars.specs.declared.nogood.Nogood.{Nogood}
 use Rattle.asp_trail.specs.declared.trail.Entry.{Entry}
-use Rattle.asp_store.specs.Walking.{IsViolated}
 use Rattle.asp_choice.specs.Pacing.{Paced}
 use Rattle.asp_follow.specs.Following.{Adds, Implies}
 use Rattle.asp_follow.specs.Useful.{Counts, IsUseful}
@@ -20,7 +19,7 @@ use Rattle.asp_step.specs.Axioms.{IsDerived}
 use Rattle.asp_step.specs.Faults.{IsFault}
 use Rattle.asp_step.specs.Steps.{Fails}
 use Rattle.asp_step.proofs.DerivedLaws.{derived_adds, derived_push}
-use Rattle.asp_step.proofs.SlotLaws.{grows_adds, nogood_kept, push_newest}
+use Rattle.asp_step.proofs.SlotLaws.{grows_adds}
 use Rattle.asp_step.proofs.StepLaws.{Continues, fails_after}
 use Rattle.asp_track.specs.Tracking.{Tracked}
 use Rattle.asp_search.specs.Invariants.{view_of}
@@ -44,14 +43,6 @@ module _ (gives : Nogood → Type 0) (md : Mode) (t u : Tracked) (c : Paced) (kn
   fault_continues n f e =
       continues_from gives md t c known last t.entries (t.slots ++ Some (for_now n) ∷ []) last u e (Some (for_now n) ∷ [], refl)
       (derived_push t.program gives t.bound t.slots (for_now n) (IsDerived.given f.why (fault_counts t.program t.bound gives (var_count t.program) t.entries n f))) (omega arith)
-
-  -- and is violated
-  pub fault_violated : (n : Nogood) (id : ℕ) → IsFault t.program gives (var_count t.program) t.entries n → id ≡ length t.slots → u ≡ record t { slots = t.slots ++ Some (for_now n) ∷ [] } →
-      IsViolated (var_count u.program) u.slots u.entries id
-  fault_violated n id f q e =
-      subst (λ (x : Tracked). IsViolated (var_count x.program) x.slots x.entries id) (sym e)
-      (subst (λ (i : ℕ). IsViolated (var_count t.program) (t.slots ++ Some (for_now n) ∷ []) t.entries i) (sym q)
-      (n, nogood_kept (t.slots ++ Some (for_now n) ∷ []) (length t.slots) (for_now n) (push_newest t.slots (for_now n)), f.violated))
 
   -- ---- propagation
   pub adds_continue : ((n : Nogood) → gives n → Counts t.bound n.base) → Adds gives t.slots u.slots → Implies t.entries u.entries → u ≡ record t { entries = u.entries; slots = u.slots } →

@@ -1,6 +1,6 @@
 -- The calls beside a step.
-use Rattle.std.proofs.Common.{◌≡◌, ◌≢◌, ℕ, zero, suc, ◌<◌, true, false, cond, List, ◌∷◌, map, Option, Some, None, refl, sym, ap, ◌∙◌, subst, arith, []}
-use Rattle.std.specs.Prelude.{ℤ, option_and_then}
+use Rattle.std.proofs.Common.{◌≡◌, ℕ, zero, suc, ◌<◌, true, false, List, ◌∷◌, map, Option, Some, None, refl, sym, ap, ◌∙◌, subst, arith, []}
+use Rattle.std.specs.Prelude.{ℤ}
 use Rattle.std.specs.List.{AllByRecursion}
 use Rattle.std.specs.Option.{unwrap_or}
 use Rattle.std.proofs.lemmas.Bool.{false≢true}
@@ -18,7 +18,6 @@ use Rattle.asp_vars.specs.declared.nogood.Base.{Base}
 use Rattle.asp_vars.specs.declared.nogood.Base.TheVariants as base
 use Rattle.asp_vars.specs.declared.nogood.Nogood.{Nogood}
 use Rattle.asp_vars.proofs.CompletionLaws.{completion_entailed}
-use Rattle.asp_trail.specs.Entries.{level}
 use Rattle.asp_store.specs.declared.kept.Kept.{Kept}
 use Rattle.asp_store.specs.Keeping.{nogood_at}
 use Rattle.asp_choice.specs.Pacing.{Paced}
@@ -29,7 +28,7 @@ use Rattle.asp_step.specs.Keeping.{AreUseful}
 use Rattle.asp_step.specs.Searching.{Searching}
 use Rattle.asp_step.specs.Steps.{Fails, is_of_use}
 use Rattle.asp_track.specs.Tracking.{Tracked, forever}
-use Rattle.asp_search.specs.Beside.{Enters, Leaves, new_search, is_shared, only_shared, exported}
+use Rattle.asp_search.specs.Beside.{Leaves, new_search}
 use Rattle.asp_search.specs.Invariants.{IsSearch, view_of}
 
 -- ---- a new search
@@ -69,32 +68,12 @@ search_is_new p m t c e f =
     ap (λ (x : Tracked). view_of m x c [] None) e
     ∙ ap (λ (x : Paced). view_of m (record { program = p; bound = None; cube = None; clashing = false; decisions = []; entries = []; slots = map forever (completion p); ranking = fresh (var_count p) }) x [] None) f
 
--- ---- a path is entered, or left
-module _ (md : Mode) (t u : Tracked) (c : Paced) (known : List Atoms) (last : Option ℕ)
-    (same : u ≡ record t { cube = u.cube; clashing = u.clashing; decisions = []; entries = u.entries; ranking = u.ranking }) where
-  with_cube : (o : Option (List Literal)) → u.cube ≡ o → u ≡ record t { cube = o; clashing = u.clashing; decisions = []; entries = u.entries; ranking = u.ranking }
-  with_cube o e = same ∙ ap (λ (x : Option (List Literal)). let y : Tracked = record t { cube = x; clashing = u.clashing; decisions = []; entries = u.entries; ranking = u.ranking } in y) e
-
-  pub leaves_from : u.cube ≡ None → Leaves (view_of md t c known last) (view_of md u c known None)
-  leaves_from e = ap (λ (x : Tracked). view_of md x c known None) (with_cube None e)
-
-  pub enters_from : (q : List Literal) (d : Paced) → u.cube ≡ Some q → level u.entries ≡ 0 → d ≡ record c { learnt = 0 } → Enters (view_of md t c known last) (view_of md u d known None) q
-  enters_from q d e zero_ pace = record {
-    same =
-        ap (λ (x : Tracked). view_of md x d known None) (with_cube (Some q) e)
-        ∙ ap (λ (x : Paced). view_of md (record t { cube = Some q; clashing = u.clashing; decisions = []; entries = u.entries; ranking = u.ranking }) x known None) pace;
-    level = zero_;
-  }
-
 -- ---- nogoods of others
 of_use_counts : (m : Mode) (bound : Option (List ℤ)) (b : Base) → is_of_use m bound b ≡ true → Counts bound b
 of_use_counts m bound base.Pure h = tt
 of_use_counts mode.Enum bound (base.Below c) h = absurd (false≢true h)
 of_use_counts mode.Opt bound (base.Below c) h = h
 of_use_counts m bound base.Local h = tt
-
-pub of_use_not_local : (m : Mode) (bound : Option (List ℤ)) (b : Base) → is_of_use m bound b ≡ true → b ≢ base.Local
-of_use_not_local m bound b h e = false≢true (ap (is_of_use m bound) (sym e) ∙ h)
 
 pub of_use : (p : Program) (known : List Atoms) (m : Mode) (bound : Option (List ℤ)) (n : Nogood) → is_of_use m bound n.base ≡ true → IsGood p known bound n → IsUseful p known bound n
 of_use p known m bound n h good = record { good = good; counts = of_use_counts m bound n.base h }
@@ -116,10 +95,3 @@ pub left_from : (md : Mode) (t u : Tracked) (c : Paced) (known : List Atoms) (la
 left_from md t u c known last s v e =
     subst (λ (x : Searching). Leaves x (view_of md u c known None)) v
     (subst (λ (x : Tracked). Leaves (view_of md t c known last) (view_of md x c known None)) (sym e) refl)
-
--- ---- what is exported
-pub exported_none : (s : Searching) → s.last ≡ None → exported s ≡ None
-exported_none s l = ap (λ (o : Option ℕ). only_shared (option_and_then (λ i. nogood_at s.slots i) o)) l
-
-pub exported_is : (s : Searching) (id : ℕ) (n : Nogood) → s.last ≡ Some id → nogood_at s.slots id ≡ Some n → exported s ≡ cond (is_shared n) (Some n) None
-exported_is s id n l k = ap (λ (o : Option ℕ). only_shared (option_and_then (λ i. nogood_at s.slots i) o)) l ∙ ap only_shared k

@@ -1,6 +1,7 @@
 -- What follows from a violated nogood: the cube is settled, or a conflict is shown and a nogood learnt.
-use Rattle.std.proofs.Common.{◌≡◌, ℕ, Bool, true, List, ◌++◌, take, Option, Some, None, IsSome, sym, subst, arith}
+use Rattle.std.proofs.Common.{◌≡◌, ℕ, Bool, true, List, ◌++◌, take, Option, Some, None, IsSome, refl, sym, ap, ◌∙◌, subst, arith}
 use Rattle.std.specs.Prelude.{ℤ}
+use Rattle.std.specs.Option.{unwrap_or}
 use Rattle.std.proofs.lemmas.Bool.{false≢true}
 use Rattle.asp_model.specs.declared.program.Program.{Program}
 use Rattle.asp_model.specs.declared.results.Mode.{Mode}
@@ -13,7 +14,7 @@ use Rattle.asp_vars.specs.Resolution.{IsWithin}
 use Rattle.asp_vars.specs.declared.nogood.Nogood.{Nogood}
 use Rattle.asp_trail.specs.Entries.{assignment, level_in}
 use Rattle.asp_store.specs.Keeping.{nogood_at}
-use Rattle.asp_analyze.specs.Learning.{IsJump, nogood_of}
+use Rattle.asp_analyze.specs.Learning.{AreContained, IsJump, nogood_of}
 use Rattle.asp_analyze.specs.declared.learn.Learned.{Learned}
 use Rattle.asp_analyze.specs.declared.learn.Learned.TheVariants as learned
 use Rattle.asp_settle.specs.Settling.{KeepsSettled}
@@ -36,6 +37,7 @@ use Rattle.asp_track.specs.Tracking.{Tracked, values_of, IsUnder, IsBegun}
 use Rattle.asp_search.specs.Invariants.{view_of}
 use Rattle.asp_search.specs.Meeting.{IsMet, ShowsConflict, IsClashOf}
 use Rattle.asp_search.specs.Stepping.{IsEntered}
+use Rattle.asp_search.proofs.LearnLaws.{contained}
 
 module _ (md : Mode) (t : Tracked) (c : Paced) (known : List Atoms) (last : Option ℕ) (q : List Literal) (id : ℕ) where
   all_settled : (l : Learned) → IsMet (view_of md t c known last) q id l → KeepsSettled t.program known t.bound (nogood_at t.slots)
@@ -71,7 +73,7 @@ module _ (md : Mode) (t : Tracked) (c : Paced) (known : List Atoms) (last : Opti
   -- ---- a jump
   has_value : (o : Option Bool) (l : Literal) → agrees o l ≡ true → IsSome o
   has_value None l h = absurd (false≢true h)
-  has_value (Some b) l h = tt
+  has_value (Some b) l h = refl
 
   pub met_jump : (n : Nogood) (to : ℕ) (lit : Literal) → (m : IsMet (view_of md t c known last) q id (learned.Jump n to lit)) → IsJump t.entries m.explains.from.lits n.lits to lit
   met_jump n to lit m = m.explains.learned
@@ -97,6 +99,13 @@ module _ (md : Mode) (t : Tracked) (c : Paced) (known : List Atoms) (last : Opti
         low = omega (arith, level_in_top t.entries lit.var m.ordered.rising, m.starts.counted);
         conflict = conflict t.program vars q t.decisions t.entries x.from.lits j.top.0 top m.ordered m.starts m.calm (omega (arith, j.above)) j.top.1 j.top.2 known t.bound settled;
       }
+
+  -- the nogood that shows the conflict holds on the trail
+  pub shown_holds : (l : Learned) → (m : IsMet (view_of md t c known last) q id l) (lit : Literal) (x : ShowsConflict t.program known t.bound t id lit) →
+      AreContained (var_count t.program) t.entries x.from.lits
+  shown_holds l m lit x =
+      subst (λ (n : Nogood). AreContained (var_count t.program) t.entries n.lits) (ap (λ (o : Option Nogood). unwrap_or o m.explains.from) (sym m.explains.stands ∙ x.stands))
+      (contained (var_count t.program) t.entries m.explains.from.lits m.explains.violated)
 
 -- ---- of what the code has in its hands
 pub shows_for : (p : Program) (ks known : List Atoms) (bound : Option (List ℤ)) (t : Tracked) (id : ℕ) (lit : Literal) → p ≡ t.program → ks ≡ known → bound ≡ t.bound →

@@ -1,5 +1,5 @@
 -- What every search keeps, where its track changes.
-use Rattle.std.proofs.Common.{◌≡◌, ℕ, true, false, List, ◌∷◌, ◌++◌, Option, Some, None, inl, inr, ◌⊎◌, refl, sym, ap, ◌∙◌, subst, []}
+use Rattle.std.proofs.Common.{◌≡◌, ℕ, true, false, List, ◌∷◌, ◌++◌, length, Option, Some, None, inl, inr, ◌⊎◌, refl, sym, ap, ◌∙◌, subst, []}
 use Rattle.std.specs.Prelude.{ℤ}
 use Rattle.asp_model.specs.declared.program.Program.{Program}
 use Rattle.asp_model.specs.declared.results.Mode.{Mode}
@@ -16,7 +16,7 @@ use Rattle.asp_follow.specs.Following.{Adds}
 use Rattle.asp_follow.specs.Useful.{IsUseful, IsSmaller}
 use Rattle.asp_follow.proofs.UsefulLaws.{useful_lower, useful_more}
 use Rattle.asp_step.specs.Keeping.{AreUseful, AreBarred, IsLast, Grows}
-use Rattle.asp_step.proofs.SlotLaws.{KeepsForever, grows_forever, grows_adds, reduced_none, useful_none, useful_push, useful_adds, all_barred, all_barred_stay, barred_more, bars_stay, last_stays}
+use Rattle.asp_step.proofs.SlotLaws.{KeepsForever, nogood_kept, push_newest, grows_forever, grows_adds, reduced_none, useful_none, useful_push, useful_adds, all_barred, all_barred_stay, barred_more, bars_stay, last_stays}
 use Rattle.asp_track.specs.Tracking.{Tracked}
 use Rattle.asp_step.specs.Steps.{way_of}
 use Rattle.asp_search.specs.Blocking.{Blocks}
@@ -47,6 +47,11 @@ search_same p m t u vars known bars bound last new program bounded slots stands 
     search_from p m t u vars known bars bound last new program bounded (subst (λ (x : List (Option Kept)). AreUseful t.program known t.bound x) (sym slots) s.useful)
     (λ id k q f. ap (λ (x : List (Option Kept)). kept_at x id) slots ∙ q) stands s
 
+pub search_stays : (p : Program) (m : Mode) (t u : Tracked) (vars : ℕ) (known : List Atoms) (bars : List ℕ) (bound : Option (List ℤ)) (last : Option ℕ) → u.program ≡ t.program → u.bound ≡ t.bound →
+    u.slots ≡ t.slots → IsSearch p m t vars known bars bound last → IsSearch p m u vars known bars bound last
+search_stays p m t u vars known bars bound last program bounded slots s =
+    search_same p m t u vars known bars bound last last program bounded slots (subst (λ (x : List (Option Kept)). IsLast x last) (sym slots) s.last_stands) s
+
 -- those that a propagator gave
 pub search_adds : (p : Program) (m : Mode) (t u : Tracked) (vars : ℕ) (known : List Atoms) (bars : List ℕ) (bound : Option (List ℤ)) (last : Option ℕ) (gives : Nogood → Type 0) →
     u.program ≡ t.program → u.bound ≡ t.bound → ((n : Nogood) → gives n → IsUseful t.program known t.bound n) → Adds gives t.slots u.slots →
@@ -55,6 +60,12 @@ search_adds p m t u vars known bars bound last gives program bounded sound adds 
     let g : Grows t.slots u.slots = grows_adds gives t.slots u.slots adds in
     search_from p m t u vars known bars bound last last program bounded (useful_adds t.program known t.bound gives t.slots u.slots sound adds s.useful)
     (grows_forever t.slots u.slots g) (last_stays t.slots u.slots last g s.last_stands) s
+
+pub search_told : (p : Program) (m : Mode) (t u : Tracked) (vars : ℕ) (known : List Atoms) (bars : List ℕ) (bound : Option (List ℤ)) (last : Option ℕ) (gives : Nogood → Type 0) →
+    u.program ≡ t.program → u.bound ≡ t.bound → ((n : Nogood) → gives n → IsUseful t.program known t.bound n) → Adds gives t.slots u.slots →
+    IsSearch p m t vars known bars bound last → IsSearch p m u vars known bars bound None
+search_told p m t u vars known bars bound last gives program bounded sound adds s =
+    search_same p m u u vars known bars bound last None refl refl refl tt (search_adds p m t u vars known bars bound last gives program bounded sound adds s)
 
 -- one more
 pub search_push : (p : Program) (m : Mode) (t u : Tracked) (vars : ℕ) (known : List Atoms) (bars : List ℕ) (bound : Option (List ℤ)) (last new : Option ℕ) (k : Kept) →
@@ -67,6 +78,12 @@ search_push p m t u vars known bars bound last new k program bounded slots usefu
 
 pub push_last : (t u : List (Option Kept)) (k : Kept) (last : Option ℕ) → u ≡ t ++ Some k ∷ [] → IsLast t last → IsLast u last
 push_last t u k last slots l = last_stays t u last (Some k ∷ [], slots) l
+
+-- the newest nogood is one
+pub newest_last : (t u : List (Option Kept)) (k : Kept) (id : ℕ) → u ≡ t ++ Some k ∷ [] → id ≡ length t → IsLast u (Some id)
+newest_last t u k id slots number =
+    subst (λ (i : ℕ). IsLast u (Some i)) (sym number)
+    (subst (λ (x : List (Option Kept)). IsLast x (Some (length t))) (sym slots) (k.nogood, nogood_kept (t ++ Some k ∷ []) (length t) k (push_newest t k)))
 
 -- some fewer
 pub search_reduced : (p : Program) (m : Mode) (t u : Tracked) (vars : ℕ) (known : List Atoms) (bars : List ℕ) (bound : Option (List ℤ)) (last : Option ℕ) (es : List Entry) →
@@ -122,3 +139,14 @@ search_lists p t u vars known bars new bound q S settled hit b s =
     useful : (id : ℕ) (n : Nogood) → (nogood_at t.slots id ≡ Some n) ⊎ (n ≡ way_of q t.decisions) → IsUseful t.program (known ++ S ∷ []) t.bound n
     useful id n (inl k) = useful_more t.program known S t.bound n (s.useful id n k)
     useful id n (inr e) = subst (IsUseful t.program (known ++ S ∷ []) t.bound) (sym e) (record { good = settled; counts = tt })
+
+-- the same, of what the code has in its hands
+pub search_listed : (p : Program) (m : Mode) (t u : Tracked) (vars : ℕ) (known ks : List Atoms) (bars new : List ℕ) (bound : Option (List ℤ)) (last : Option ℕ) (q : List Literal) (S : Atoms) →
+    m ≡ mode.Enum → last ≡ None → ks ≡ known ++ S ∷ [] → Settled t.program (known ++ S ∷ []) t.bound (q ++ t.decisions) → hits (values t.program S) (q ++ t.decisions) ≡ true →
+    Blocks (way_of q t.decisions) t u new → IsSearch p m t vars known bars bound last → IsSearch p m u vars ks new bound last
+search_listed p m t u vars known ks bars new bound last q S enum none more settled hit b s =
+    let first : IsSearch p mode.Enum t vars known bars bound None =
+    subst (λ (x : Mode). IsSearch p x t vars known bars bound None) enum (subst (λ (x : Option ℕ). IsSearch p m t vars known bars bound x) none s) in
+    subst (λ (x : Option ℕ). IsSearch p m u vars ks new bound x) (sym none)
+    (subst (λ (x : Mode). IsSearch p x u vars ks new bound None) (sym enum)
+    (subst (λ (x : List Atoms). IsSearch p mode.Enum u vars x new bound None) (sym more) (search_lists p t u vars known bars new bound q S settled hit b first)))

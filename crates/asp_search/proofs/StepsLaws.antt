@@ -1,11 +1,15 @@
 -- What the parts of a step promise of a search whose parts changed so.
 use Rattle.std.proofs.Common.{◌≡◌, ℕ, ◌+◌, ◌-◌, ◌^◌, ◌<◌, ◌≤◌, min, Bool, true, false, leb, List, ◌∷◌, ◌++◌, length, get_or, take, Option, Some, None, inl, inr, ◌⊎◌, refl, sym, ap, ◌∙◌, subst, arith, []}
+use Rattle.std.specs.Prelude.{ℤ, IfSome, IsSome, Result, Ok, Err}
 use Rattle.std.specs.List.{All}
 use Rattle.std.specs.Option.{unwrap_or}
+use Rattle.std.specs.Result.{OnErr}
+use Rattle.std.proofs.lemmas.Bool.{false≢true}
 use Rattle.std.proofs.lemmas.Bool.{and_parts, or_cases}
 use Rattle.std.proofs.lemmas.Bool.Decides.{nat_tests}
 use Rattle.std.proofs.lemmas.List.{length-append}
 use Rattle.std.proofs.lemmas.List.Elements.{filter_passes}
+use Rattle.asp_model.specs.declared.program.Program.{Program}
 use Rattle.asp_model.specs.declared.results.Mode.{Mode}
 use Rattle.asp_model.specs.declared.results.Mode.TheVariants as mode
 use Rattle.asp_model.specs.Sets.{Atoms}
@@ -34,7 +38,7 @@ use Rattle.asp_settle.proofs.PlaceLaws.{level_last}
 use Rattle.asp_step.specs.Axioms.{IsAxiom, AreDerived, IsDerived}
 use Rattle.asp_step.specs.Keeping.{Grows}
 use Rattle.asp_step.specs.Searching.{Searching}
-use Rattle.asp_step.specs.Steps.{HasSameTask, IsBeside, IsConflictOf, burnt, FollowsByLast, Learns, Stops, Closes, Decides, Restarts, IsDue, Answers, way_of, Fails}
+use Rattle.asp_step.specs.Steps.{HasSameTask, IsBeside, IsConflictOf, burnt, FollowsByLast, Learns, Stops, Closes, Decides, Restarts, IsDue, Answers, way_of, Fails, IsFailure}
 use Rattle.asp_step.proofs.DerivedLaws.{derived_same, derived_push, derived_none}
 use Rattle.asp_step.proofs.JumpLaws.{before_newest, jump_beside}
 use Rattle.asp_step.proofs.SlotLaws.{nogood_kept, push_newest, reduced_none, grows_none}
@@ -228,6 +232,47 @@ module _ (gives : Nogood → Type 0) (md : Mode) (t : Tracked) (c : Paced) (know
       subst (λ (y : Tracked). Continues gives (view_of md t c known last) (view_of md y c known new)) (sym e)
       (record { same = refl; grows = grows; derived = derived; longer = longer })
 
+  -- ---- no variable to decide
+  pub continues_ranked : (u : Tracked) (ranking : Ranking) → u ≡ record t { ranking = ranking } → Continues gives (view_of md t c known last) (view_of md u c known last)
+  continues_ranked u ranking e =
+      subst (λ (y : Tracked). Continues gives (view_of md t c known last) (view_of md y c known last)) (sym e)
+      (record { same = refl; grows = grows_none t.slots; derived = derived_same t.program gives t.bound t.slots; longer = omega arith })
+
+pub decided_none : (t u : Tracked) (ranking : Ranking) → u ≡ record t { decisions = u.decisions; entries = u.entries; ranking = ranking } → u.entries ≡ t.entries → u.decisions ≡ t.decisions →
+    u ≡ record t { ranking = ranking }
+decided_none t u ranking e entries decisions =
+    e
+    ∙ (ap (λ (xs : List Entry). let y : Tracked = record t { decisions = u.decisions; entries = xs; ranking = ranking } in y) entries
+    ∙ ap (λ (ds : List Literal). let y : Tracked = record t { decisions = ds; ranking = ranking } in y) decisions)
+
+pub decided_some : (t u : Tracked) (l : Literal) (members : List Bool) → u ≡ record t { decisions = u.decisions; entries = u.entries; ranking = record t.ranking { members = members } } →
+    u.entries ≡ t.entries ++ record { lit = l; level = length t.decisions + 1; reason = None } ∷ [] → u.decisions ≡ t.decisions ++ l ∷ [] →
+    u ≡ record t {
+      entries = t.entries ++ record { lit = l; level = length t.decisions + 1; reason = None } ∷ [];
+      decisions = t.decisions ++ l ∷ [];
+      ranking = record t.ranking { members = members };
+    }
+decided_some t u l members e entries decisions =
+    let order : Ranking = record t.ranking { members = members } in
+    let more : List Entry = t.entries ++ record { lit = l; level = length t.decisions + 1; reason = None } ∷ [] in
+    e
+    ∙ (ap (λ (xs : List Entry). let y : Tracked = record t { decisions = u.decisions; entries = xs; ranking = order } in y) entries
+    ∙ ap (λ (ds : List Literal). let y : Tracked = record t { decisions = ds; entries = more; ranking = order } in y) decisions)
+
+pub decides_now : (gives : Nogood → Type 0) (silent : List (Option Bool) → Type 0) (md : Mode) (t u : Tracked) (c : Paced) (known : List Atoms) (last : Option ℕ) (f : Units) (r : Option Literal) (l : Literal) →
+    r ≡ Some l → last ≡ None → IsQuiet silent t.slots (values_of t) →
+    u ≡ record t { decisions = u.decisions; entries = u.entries; ranking = record t.ranking { members = u.ranking.members } } →
+    IfSome r (λ k. (k ≡ F k.var) × IsNext (var_count t.program) (values_of t) t.ranking.activities k.var) →
+    IfSome r (λ k. u.entries ≡ t.entries ++ record { lit = k; level = length t.decisions + 1; reason = None } ∷ []) →
+    IfSome r (λ k. u.decisions ≡ t.decisions ++ k ∷ []) → Decides gives silent (view_of md t c known last) (view_of md u c known last) f f
+decides_now gives silent md t u c known last f r l is none quiet same next entries decisions =
+    let n : (l ≡ F l.var) × IsNext (var_count t.program) (values_of t) t.ranking.activities l.var =
+    subst (λ (x : Option Literal). IfSome x (λ k. (k ≡ F k.var) × IsNext (var_count t.program) (values_of t) t.ranking.activities k.var)) is next in
+    let e : u.entries ≡ t.entries ++ record { lit = l; level = length t.decisions + 1; reason = None } ∷ [] =
+    subst (λ (x : Option Literal). IfSome x (λ k. u.entries ≡ t.entries ++ record { lit = k; level = length t.decisions + 1; reason = None } ∷ [])) is entries in
+    let d : u.decisions ≡ t.decisions ++ l ∷ [] = subst (λ (x : Option Literal). IfSome x (λ k. u.decisions ≡ t.decisions ++ k ∷ [])) is decisions in
+    decides_from gives md t c known last silent f u l l.var u.ranking.members none quiet n.0 n.1 (decided_some t u l u.ranking.members same e d)
+
 -- ---- restarted
 all_low : (xs : List Entry) → All (λ e. leb e.level 0 ≡ true) xs → level xs ≡ 0
 all_low [] a = refl
@@ -318,3 +363,48 @@ module _ (gives : Nogood → Type 0) (t u : Tracked) (c : Paced) (known : List A
         restarts = refl;
         last = none;
       })
+
+-- ---- of what the code has in its hands
+pub same_cube : (o : Option (List Literal)) (r q : List Literal) → o ≡ Some r → o ≡ Some q → r ≡ q
+same_cube o r q e f = ap (λ (x : Option (List Literal)). unwrap_or x r) (sym e ∙ f)
+
+pub listed : (gives : Nogood → Type 0) (m : Mode) (t u : Tracked) (c : Paced) (known ks : List Atoms) (last : Option ℕ) (q : List Literal) (S : Atoms) (f : Units) (bars : List ℕ) →
+    m ≡ mode.Enum → last ≡ None → IsFound (view_of m t c known last) q S → ks ≡ known ++ S ∷ [] → Blocks (way_of q t.decisions) t u bars →
+    Answers gives (view_of m t c known last) (view_of m u c ks last) q f f S
+listed gives m t u c known ks last q S f bars enum none found more b =
+    subst (λ (x : List Atoms). Answers gives (view_of m t c known last) (view_of m u c x last) q f f S) (sym more)
+    (subst (λ (x : Mode). Answers gives (view_of x t c known last) (view_of x u c (known ++ S ∷ []) last) q f f S) (sym enum)
+    (lists gives t u c known last q S f none bars (subst (λ (x : Mode). IsFound (view_of x t c known last) q S) enum found) b))
+
+-- the track where a smaller bound was set and all decisions were taken back
+pub improved_track : (p : Program) (t a u : Tracked) (d : List ℤ) (S : Atoms) → p ≡ t.program → d ≡ cost p S → a ≡ record t { bound = Some d } →
+    u ≡ record a { decisions = take 0 a.decisions; entries = cut 0 a.entries; ranking = u.ranking } →
+    u ≡ record t { bound = Some (cost t.program S); entries = cut 0 t.entries; decisions = []; ranking = u.ranking }
+improved_track p t a u d S program is set undo =
+    undo
+    ∙ (ap (λ (x : Tracked). let y : Tracked = record x { decisions = take 0 x.decisions; entries = cut 0 x.entries; ranking = u.ranking } in y) set
+    ∙ ap (λ (x : List ℤ). let y : Tracked = record t { bound = Some x; entries = cut 0 t.entries; decisions = []; ranking = u.ranking } in y)
+    (is ∙ ap (λ (x : Program). cost x S) program))
+
+pub improved : (gives : Nogood → Type 0) (m : Mode) (t u : Tracked) (c : Paced) (known : List Atoms) (last : Option ℕ) (q : List Literal) (S : Atoms) (f : Units) →
+    m ≡ mode.Opt → last ≡ None → IsFound (view_of m t c known last) q S →
+    u ≡ record t { bound = Some (cost t.program S); entries = cut 0 t.entries; decisions = []; ranking = u.ranking } → Answers gives (view_of m t c known last) (view_of m u c known last) q f f S
+improved gives m t u c known last q S f opt none found e =
+    subst (λ (x : Mode). Answers gives (view_of x t c known last) (view_of x u c known last) q f f S) (sym opt)
+    (improves gives t u c known last q S f none u.ranking (subst (λ (x : Mode). IsFound (view_of x t c known last) q S) opt found) e)
+
+-- ---- memory is wanting, and nothing changed
+pub always_err : {X Y : Type 0} (r : Result X Y) (P : Type 0) → P → OnErr r P
+always_err (Ok x) P p = tt
+always_err (Err e) P p = p
+
+pub fails_here : (gives : Nogood → Type 0) (s : Searching) (f : Units) → IsFailure gives s s f f
+fails_here gives s f q e = record { program = refl; mode = refl; known = refl; bound = refl; fuel = inl refl; derived = derived_same s.program gives s.bound s.slots }
+
+pub fails_still : (gives : Nogood → Type 0) (s t : Searching) (f : Units) → t ≡ s → IsFailure gives s t f f
+fails_still gives s t f e = subst (λ (x : Searching). IsFailure gives s x f f) (sym e) (fails_here gives s f)
+
+-- a path is entered
+pub some_of : {X : Type 0} (o : Option X) → IsSome o → (x : X) × (o ≡ Some x)
+some_of None h = absurd (false≢true h)
+some_of (Some x) h = (x, refl)

@@ -1,10 +1,11 @@
 //! The search: what it keeps, and the calls beside its step.
-ghost use Rattle.std.specs.Prelude.{◌≡◌, ◌≢◌, ◌∷◌, ◌++◌, [], None, Some, true, false, IfOk, OnOk, OnErr, MatchBool, replicate, slice_get};
+ghost use Rattle.std.specs.Prelude.{◌≡◌, ◌≢◌, ◌+◌, ◌≤◌, ◌∷◌, ◌++◌, [], None, Some, true, false, IfOk, OnOk, OnErr, MatchBool, length, replicate, slice_get};
 ghost use Rattle.std.specs.List.{All};
 ghost use Rattle.std.specs.Option.{option_copied};
 ghost use Rattle.asp_vars.specs.Entailment.{IsGood};
 ghost use Rattle.asp_vars.specs.Numbering.{var_count};
 ghost use Rattle.asp_vars.specs.declared.nogood.Base.TheVariants as base;
+ghost use Rattle.asp_trail.specs.Entries.{level};
 ghost use Rattle.asp_trail.specs.Trails.{IsVar};
 ghost use Rattle.asp_follow.specs.Useful.{IsSmaller};
 ghost use Rattle.asp_step.specs.Steps.{is_of_use};
@@ -207,6 +208,15 @@ impl<'a, P: Propagator> Search<'a, P> {
         } else {
             None
         }
+    }
+
+    // How many decisions stand. No variable has two entries.
+    pub(crate) fn level(&self) -> usize
+        ensures level { result ≡ level self.now.entries }
+        ensures few { length self.now.entries ≤ var_count self.now.program + 1 }
+    {
+        let _program = self.compiled.program();
+        self.track.trail().level()
     }
 
     /// The first decision, if one stands.

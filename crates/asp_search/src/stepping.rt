@@ -4,7 +4,7 @@
 //! turn: a reason whose other literals are hit can't be hit whole. So it hits a violated nogood, and there is none: a
 //! conflict is settled. On a whole trail it is the set of the true atoms. A known answer hits a kept nogood, and none is
 //! violated when an answer is found: that is another set.
-ghost use Rattle.std.specs.Prelude.{◌≡◌, ◌+◌, ◌-◌, ◌^◌, List, [], None, Some, min, IfOk, OnOk, OnErr, IsSome, IsTrue};
+ghost use Rattle.std.specs.Prelude.{◌≡◌, ◌+◌, ◌-◌, ◌^◌, ◌≤◌, List, [], None, Some, length, min, IfOk, OnOk, OnErr, IsSome, IsTrue};
 ghost use Rattle.asp_model.specs.declared.results.Mode.TheVariants as mode;
 ghost use Rattle.asp_vars.specs.Literals.{Literal};
 ghost use Rattle.asp_vars.specs.Numbering.{var_count};
@@ -177,6 +177,7 @@ impl<'a, P: Propagator> Search<'a, P> {
 
     // Takes all decisions back, and drops nogoods where too many are kept.
     fn restart(&mut self)
+        requires last { self.old.last ≡ None }
         ensures same { self.new ≡ record self.old {
           entries = cut 0 self.old.entries;
           decisions = [];
@@ -236,9 +237,13 @@ impl<'a, P: Propagator> Search<'a, P> {
         ensures ok { IfOk result (IsStep (P.gives self.old.program self.old.bound) (P.silent self.old.program self.old.bound) self.old self.new fuel.old fuel.new) }
         ensures err { OnErr result (IsFailure (P.gives self.old.program self.old.bound) self.old self.new fuel.old fuel.new) }
         ensures lost { OnErr result (self.new.cube ≡ None) }
+        ensures few { IfOk result (λ r. length self.new.entries ≤ var_count self.new.program + 1) }
     {
         match self.advance(fuel) {
-            Ok(step) => Ok(step),
+            Ok(step) => {
+                let _level = self.level();
+                Ok(step)
+            }
             Err(error) => {
                 self.leave();
                 Err(error)

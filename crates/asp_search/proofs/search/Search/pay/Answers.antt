@@ -1,40 +1,138 @@
-use Rattle.std.proofs.Common.{◌≡◌, ℕ, List, Option, Some, None, sym, ap, ◌∙◌, subst, arith}
+use Rattle.std.proofs.Common.{◌≡◌, ◌<◌, false, List, None, Some, sym, ap, ◌∙◌, subst, arith}
 use Rattle.asp_vars.specs.Literals.{Literal}
-use Rattle.asp_vars.specs.Paid.{Clash}
-use Rattle.asp_analyze.specs.Learning.{IsJump}
+use Rattle.asp_vars.specs.declared.nogood.Nogood.{Nogood}
 use Rattle.asp_analyze.specs.declared.learn.Learned.TheVariants as learned
+use Rattle.asp_follow.specs.Useful.{IsUseful}
 use Rattle.asp_step.specs.Searching.{Searching}
-use Rattle.asp_step.specs.Steps.{IsStep, IsFailure}
-use Rattle.asp_search.specs.Invariants.{IsSearch, view_of}
+use Rattle.asp_step.specs.Steps.{Learns, Stops, Fails, IsFailure}
+use Rattle.asp_store.specs.declared.kept.Kept.{Kept}
+use Rattle.asp_track.specs.Tracking.{Tracked}
+use Rattle.asp_search.specs.Invariants.{view_of}
 use Rattle.asp_search.specs.Meeting.{IsMet, ShowsConflict, IsClashOf}
-use Rattle.asp_search.proofs.LearnLaws.{contained}
-use Rattle.asp_search.proofs.MeetLaws.{met_shows, met_useful, shows_for, clash_for}
-use Rattle.asp_search.proofs.SearchLaws.{search_push, search_same}
-use Rattle.asp_search.proofs.StepsLaws.{conflict_of, fails_same, fails_paid, met_stops, met_learns}
+use Rattle.asp_search.proofs.MeetLaws.{met_shows, met_useful, shown_holds, shows_for, clash_for}
+use Rattle.asp_search.proofs.SearchLaws.{search_push, search_stays, newest_last}
+use Rattle.asp_search.proofs.StepsLaws.{same_cube, always_err, conflict_of, fails_here, fails_paid, met_stops, met_learns}
 use Rattle.asp_search.proofs.search.Search.pay.Goals as goal
 
-pub conflict-conflict-requires : goal.conflict-conflict-requires
-conflict-conflict-requires g c =
+pub conflict-requires : goal.conflict-requires
+conflict-requires g c =
     let i = c.self.inside in
     let q = c.requires.met.0 in
     let m = subst (λ (s : Searching). IsMet s q c.args.id (learned.Jump c.args.nogood c.args.to c.args.lit)) (sym c.self.view_is) c.requires.met.1 in
     shows_for i.compiled.now c.as_slice.result.now i.known.items i.bound i.track c.args.id c.args.lit c.self.invariant.program c.as_slice.ensures.value c.self.invariant.bounded
     (met_shows i.mode i.track i.pace i.known.items i.last q c.args.id c.args.nogood c.args.to c.args.lit m)
 
-pub jump-new-requires-clause-path : goal.jump-new-requires-clause-path
-jump-new-requires-clause-path g c =
+pub burn-requires-clause-program : goal.burn-requires-clause-program
+burn-requires-clause-program g c =
+    let i = c.self.inside in
+    let q = c.requires.met.0 in
+    let m = subst (λ (s : Searching). IsMet s q c.args.id (learned.Jump c.args.nogood c.args.to c.args.lit)) (sym c.self.view_is) c.requires.met.1 in
+    let shows = met_shows i.mode i.track i.pace i.known.items i.last q c.args.id c.args.nogood c.args.to c.args.lit m in
+    let clash = clash_for i.compiled.now c.as_slice.result.now i.known.items i.bound i.track c.args.id c.args.lit c.in_ok-conflict.conflict c.self.invariant.program c.as_slice.ensures.value
+    c.self.invariant.bounded c.in_ok-conflict.ensures in
+    let is = conflict_of (g.P.Propagator.gives i.track.program i.track.bound) i.mode i.track i.pace i.known.items i.last q c.args.id c.args.lit c.in_ok-conflict.conflict m.entered shows clash in
+    is.program ∙ (ap (λ (s : Searching). s.program) c.self.view_is ∙ sym c.requires.program)
+
+pub jump-requires-clause-path : goal.jump-requires-clause-path
+jump-requires-clause-path g c =
     let q = c.requires.met.0 in
     let m = subst (λ (s : Searching). IsMet s q c.args.id (learned.Jump c.args.nogood c.args.to c.args.lit)) (sym c.self.view_is) c.requires.met.1 in
     (q, record { cube_is = m.entered; calm = m.clear })
 
-pub jump-new-requires-clause-contained : goal.jump-new-requires-clause-contained
-jump-new-requires-clause-contained g c =
+pub jump-requires-clause-contained : goal.jump-requires-clause-contained
+jump-requires-clause-contained g c =
     let q = c.requires.met.0 in
     let m = subst (λ (s : Searching). IsMet s q c.args.id (learned.Jump c.args.nogood c.args.to c.args.lit)) (sym c.self.view_is) c.requires.met.1 in
     m.explains.contained
 
-pub jump-new-requires-clause-jumps : goal.jump-new-requires-clause-jumps
-jump-new-requires-clause-jumps g c =
+pub jump-requires-clause-jumps : goal.jump-requires-clause-jumps
+jump-requires-clause-jumps g c =
     let q = c.requires.met.0 in
     let m = subst (λ (s : Searching). IsMet s q c.args.id (learned.Jump c.args.nogood c.args.to c.args.lit)) (sym c.self.view_is) c.requires.met.1 in
     (m.explains.from.lits, m.explains.learned)
+
+pub returns-in_err-conflict-clause-err : goal.returns-in_err-conflict-clause-err
+returns-in_err-conflict-clause-err g c =
+    let s = c.args.self.now in
+    let G = g.P.Propagator.gives s.program s.bound in
+    always_err c.from_residual.result (IsFailure G s s c.args.fuel.now c.args.fuel.now) (fails_here G s c.args.fuel.now)
+
+pub returns-then-left-eq0-clause-ok : goal.returns-then-left-eq0-clause-ok
+returns-then-left-eq0-clause-ok g c = λ r e.
+    let i = c.self.inside in
+    let s = c.args.self.now in
+    let q = c.requires.met.0 in
+    let f = c.args.fuel.now in
+    let x = c.in_ok-conflict.conflict in
+    let m = subst (λ (s : Searching). IsMet s q c.args.id (learned.Jump c.args.nogood c.args.to c.args.lit)) (sym c.self.view_is) c.requires.met.1 in
+    let shows = met_shows i.mode i.track i.pace i.known.items i.last q c.args.id c.args.nogood c.args.to c.args.lit m in
+    let clash = clash_for i.compiled.now c.as_slice.result.now i.known.items i.bound i.track c.args.id c.args.lit x c.self.invariant.program c.as_slice.ensures.value
+    c.self.invariant.bounded c.in_ok-conflict.ensures in
+    let stops = met_stops (g.P.Propagator.gives i.track.program i.track.bound) i.mode i.track i.pace i.known.items i.last q f c.args.id c.args.lit x m.last
+    (sym c.left.ensures.left ∙ c.if-left-eq0.true) m.entered shows clash
+    (shown_holds i.mode i.track i.pace i.known.items i.last q c.args.id (learned.Jump c.args.nogood c.args.to c.args.lit) m c.args.lit shows) in
+    subst (λ (y : List Literal). Stops (g.P.Propagator.gives s.program s.bound) s s y f f x) (same_cube s.cube q r c.requires.met.1.entered e)
+    (subst (λ (z : Searching). Stops (g.P.Propagator.gives z.program z.bound) z z q f f x) c.self.view_is stops)
+
+pub invariant_of-self : goal.invariant_of-self
+invariant_of-self g c =
+    let i = c.self.inside in
+    let e = c.in_err-new.ensures.err in
+    search_stays i.compiled.now i.mode i.track c.jump.new.track i.learner i.known.items i.bars.items i.bound i.last (ap (λ (x : Tracked). x.program) e)
+    (ap (λ (x : Tracked). x.bound) e) (ap (λ (x : Tracked). x.slots) e) c.self.invariant
+
+pub returns-in_err-new-clause-err : goal.returns-in_err-new-clause-err
+returns-in_err-new-clause-err g c =
+    let i = c.self.inside in
+    let s = c.args.self.now in
+    let q = c.requires.met.0 in
+    let f = c.args.fuel.now in
+    let h = c.burn.new.self in
+    let x = c.in_ok-conflict.conflict in
+    let u = c.jump.new.track in
+    let m = subst (λ (s : Searching). IsMet s q c.args.id (learned.Jump c.args.nogood c.args.to c.args.lit)) (sym c.self.view_is) c.requires.met.1 in
+    let shows = met_shows i.mode i.track i.pace i.known.items i.last q c.args.id c.args.nogood c.args.to c.args.lit m in
+    let clash = clash_for i.compiled.now c.as_slice.result.now i.known.items i.bound i.track c.args.id c.args.lit x c.self.invariant.program c.as_slice.ensures.value
+    c.self.invariant.bounded c.in_ok-conflict.ensures in
+    let is = conflict_of (g.P.Propagator.gives i.track.program i.track.bound) i.mode i.track i.pace i.known.items i.last q c.args.id c.args.lit x m.entered shows clash in
+    let left : 0 < f.left = omega (arith, c.left.ensures.left, c.if-left-eq0.false) in
+    let new : Searching = view_of i.mode u c.count.new.self i.known.items i.last in
+    let paid = fails_paid (g.P.Propagator.gives i.track.program i.track.bound) i.mode i.track i.pace i.known.items i.last q f h x u c.count.new.self u.ranking is left c.burn.ensures
+    c.in_err-new.ensures.err in
+    let fails : IsFailure (g.P.Propagator.gives s.program s.bound) s new f h = λ r e.
+    subst (λ (y : List Literal). Fails (g.P.Propagator.gives s.program s.bound) s new y f h) (same_cube s.cube q r c.requires.met.1.entered e)
+    (subst (λ (z : Searching). Fails (g.P.Propagator.gives z.program z.bound) z new q f h) c.self.view_is paid) in
+    always_err c.from_residual-in_err-new.result (IsFailure (g.P.Propagator.gives s.program s.bound) s new f h) fails
+
+pub invariant_of-self-2 : goal.invariant_of-self-2
+invariant_of-self-2 g c =
+    let i = c.self.inside in
+    let q = c.requires.met.0 in
+    let m = subst (λ (s : Searching). IsMet s q c.args.id (learned.Jump c.args.nogood c.args.to c.args.lit)) (sym c.self.view_is) c.requires.met.1 in
+    let k : Kept = record { nogood = c.args.nogood; forever = false; locked = false } in
+    let e = c.in_ok-new.ensures.ok in
+    let slots = ap (λ (x : Tracked). x.slots) e in
+    search_push i.compiled.now i.mode i.track c.jump.new.track i.learner i.known.items i.bars.items i.bound i.last (Some c.in_ok-new.new) k (ap (λ (x : Tracked). x.program) e)
+    (ap (λ (x : Tracked). x.bound) e) slots (met_useful i.mode i.track i.pace i.known.items i.last q c.args.id (learned.Jump c.args.nogood c.args.to c.args.lit) m)
+    (newest_last i.track.slots c.jump.new.track.slots k c.in_ok-new.new slots c.in_ok-new.ensures.id) c.self.invariant
+
+pub returns-clause-ok : goal.returns-clause-ok
+returns-clause-ok g c = λ r e.
+    let i = c.self.inside in
+    let s = c.args.self.now in
+    let q = c.requires.met.0 in
+    let f = c.args.fuel.now in
+    let h = c.burn.new.self in
+    let x = c.in_ok-conflict.conflict in
+    let u = c.jump.new.track in
+    let m = subst (λ (s : Searching). IsMet s q c.args.id (learned.Jump c.args.nogood c.args.to c.args.lit)) (sym c.self.view_is) c.requires.met.1 in
+    let shows = met_shows i.mode i.track i.pace i.known.items i.last q c.args.id c.args.nogood c.args.to c.args.lit m in
+    let clash = clash_for i.compiled.now c.as_slice.result.now i.known.items i.bound i.track c.args.id c.args.lit x c.self.invariant.program c.as_slice.ensures.value
+    c.self.invariant.bounded c.in_ok-conflict.ensures in
+    let is = conflict_of (g.P.Propagator.gives i.track.program i.track.bound) i.mode i.track i.pace i.known.items i.last q c.args.id c.args.lit x m.entered shows clash in
+    let left : 0 < f.left = omega (arith, c.left.ensures.left, c.if-left-eq0.false) in
+    let new : Searching = view_of i.mode u c.count.new.self i.known.items (Some c.in_ok-new.new) in
+    let learns = met_learns (g.P.Propagator.gives i.track.program i.track.bound) i.mode i.track i.pace i.known.items i.last q f h x u c.count.new.self u.ranking c.args.id c.in_ok-new.new
+    c.args.to c.args.nogood c.args.lit m is left c.burn.ensures c.in_ok-new.ensures.id c.in_ok-new.ensures.ok c.count.ensures in
+    subst (λ (y : List Literal). Learns (g.P.Propagator.gives s.program s.bound) s new y f h) (same_cube s.cube q r c.requires.met.1.entered e)
+    (subst (λ (z : Searching). Learns (g.P.Propagator.gives z.program z.bound) z new q f h) c.self.view_is learns)

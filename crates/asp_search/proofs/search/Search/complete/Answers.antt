@@ -1,0 +1,181 @@
+use Rattle.std.proofs.Common.{◌≡◌, ℕ, Bool, List, Option, Some, None, IsTrue, sym, ap, ◌∙◌, subst}
+use Rattle.std.specs.Prelude.{MatchOption}
+use Rattle.std.proofs.lemmas.Result.{IfOk-weaker, on_err_weaker}
+use Rattle.asp_model.specs.declared.program.Program.{Program}
+use Rattle.asp_model.specs.Models.{is_stable}
+use Rattle.asp_model.specs.Sound.{IsSound}
+use Rattle.asp_vars.specs.Literals.{Literal}
+use Rattle.asp_vars.specs.Numbering.{var_count}
+use Rattle.asp_vars.specs.declared.nogood.Nogood.{Nogood}
+use Rattle.asp_choice.specs.Waiting.{AreAssigned}
+use Rattle.asp_follow.specs.Following.{IsQuiet}
+use Rattle.asp_follow.specs.Whole.{KeepsAll}
+use Rattle.asp_follow.specs.Whole as follow
+use Rattle.asp_settle.specs.Whole.{atoms_on}
+use Rattle.asp_step.specs.Faults.{IsFault}
+use Rattle.asp_step.specs.Searching.{Searching, values_now}
+use Rattle.asp_step.specs.Steps.{IsStep, IsFailure}
+use Rattle.asp_step.proofs.StepLaws.{Continues, steps_on, fails_on}
+use Rattle.asp_track.specs.Tracking.{Tracked, values_of, IsUnder}
+use Rattle.asp_search.specs.Invariants.{view_of}
+use Rattle.asp_search.specs.Stepping.{IsEntered, IsFound}
+use Rattle.asp_search.proofs.BelowLaws.{fault_useful, fault_continues}
+use Rattle.asp_search.proofs.JumpedLaws.{for_now}
+use Rattle.asp_search.proofs.SearchLaws.{search_push, push_last}
+use Rattle.asp_search.proofs.StepsLaws.{always_err, fails_here, fails_still}
+use Rattle.asp_search.proofs.WholeLaws.{IsFull, full_whole, full_found, whole_for, atoms_for, found_for, stable_for}
+use Rattle.asp_search.proofs.search.Search.complete.Goals as goal
+
+pub returns-in_err-interp-clause-err : goal.returns-in_err-interp-clause-err
+returns-in_err-interp-clause-err g c =
+    let s = c.args.self.now in
+    let f = c.args.fuel.now in
+    let G = g.P.Propagator.gives s.program s.bound in
+    always_err c.from_residual.result (IsFailure G s s f f) (fails_here G s f)
+
+pub fault-requires-clause-whole : goal.fault-requires-clause-whole
+fault-requires-clause-whole g c =
+    let i = c.self.inside in
+    let t = i.track in
+    let q = c.requires.entered.0 in
+    let e = subst (λ (s : Searching). IsEntered s q) (sym c.self.view_is) c.requires.entered.1 in
+    let under : IsUnder t q = record { cube_is = e.cube; calm = e.clear } in
+    let silent = g.P.Propagator.silent t.program t.bound in
+    let quiet : IsQuiet silent t.slots (values_of t) =
+    subst (λ (x : Searching). IsQuiet (g.P.Propagator.silent x.program x.bound) x.slots (values_now x)) (sym c.self.view_is) c.requires.quiet in
+    let assigned : AreAssigned (var_count t.program) (values_of t) = subst (λ (x : Searching). AreAssigned (var_count x.program) (values_now x)) (sym c.self.view_is) c.requires.assigned in
+    let sound : IsSound t.program = subst IsSound c.self.invariant.program c.program-program.ensures.sound in
+    let full : IsFull silent i.known.items t q = record {
+      ordered = c.trail.ensures.ordered;
+      starts = (c.trail.ensures.begun q under).starts;
+      reasons = c.store-store.ensures.reasons;
+      small = c.store-store.ensures.small;
+      completed = c.store-store.ensures.completed;
+      quiet = quiet;
+      assigned = assigned;
+      useful = c.self.invariant.useful;
+      barred = c.self.invariant.barred;
+    } in
+    whole_for i.compiled.now t c.self.invariant.program
+    (full_whole silent i.known.items t q full (λ v w h. g.met.P.Propagator.whole t.program t.bound (values_of t) v sound w h))
+
+pub returns-in_err-fault-clause-err : goal.returns-in_err-fault-clause-err
+returns-in_err-fault-clause-err g c =
+    let s = c.args.self.now in
+    let f = c.args.fuel.now in
+    let G = g.P.Propagator.gives s.program s.bound in
+    always_err c.from_residual-in_err-fault.result (IsFailure G s s f f) (fails_here G s f)
+
+pub answer-requires : goal.answer-requires
+answer-requires g c =
+    let i = c.self.inside in
+    let t = i.track in
+    let p = i.compiled.now in
+    let S = c.in_ok-interp.interp in
+    let q = c.requires.entered.0 in
+    let e = subst (λ (s : Searching). IsEntered s q) (sym c.self.view_is) c.requires.entered.1 in
+    let under : IsUnder t q = record { cube_is = e.cube; calm = e.clear } in
+    let silent = g.P.Propagator.silent t.program t.bound in
+    let quiet : IsQuiet silent t.slots (values_of t) =
+    subst (λ (x : Searching). IsQuiet (g.P.Propagator.silent x.program x.bound) x.slots (values_now x)) (sym c.self.view_is) c.requires.quiet in
+    let assigned : AreAssigned (var_count t.program) (values_of t) = subst (λ (x : Searching). AreAssigned (var_count x.program) (values_now x)) (sym c.self.view_is) c.requires.assigned in
+    let sound : IsSound t.program = subst IsSound c.self.invariant.program c.program-program.ensures.sound in
+    let full : IsFull silent i.known.items t q = record {
+      ordered = c.trail.ensures.ordered;
+      starts = (c.trail.ensures.begun q under).starts;
+      reasons = c.store-store.ensures.reasons;
+      small = c.store-store.ensures.small;
+      completed = c.store-store.ensures.completed;
+      quiet = quiet;
+      assigned = assigned;
+      useful = c.self.invariant.useful;
+      barred = c.self.invariant.barred;
+    } in
+    let atoms = atoms_for p c.trail.result.now.vars t c.trail.result.now.entries S c.self.invariant.program c.trail.ensures.vars c.trail.ensures.entries c.in_ok-interp.ensures in
+    let verdict = subst (λ (r : Option Nogood). MatchOption r (IsTrue (is_stable p S)) (IsFault p (g.P.Propagator.gives p t.bound) (var_count p) t.entries)) c.in-None.is c.in_ok-fault.ensures in
+    let found = full_found silent i.known.items t q full (λ v w h. g.met.P.Propagator.whole t.program t.bound (values_of t) v sound w h) i.mode i.pace i.last
+    (stable_for p t S c.self.invariant.program atoms verdict) in (
+      q,
+      c.requires.entered.1,
+      subst (λ (x : Searching). IsFound x q S) c.self.view_is
+          (found_for (view_of i.mode t i.pace i.known.items i.last) q S (atoms_on t.program (var_count t.program) t.entries)
+          (atoms ∙ ap (λ (x : Program). atoms_on x (var_count x) t.entries) c.self.invariant.program) found),
+    )
+
+pub returns-in_err-answer-in-None-clause-err : goal.returns-in_err-answer-in-None-clause-err
+returns-in_err-answer-in-None-clause-err g c =
+    let s = c.args.self.now in
+    let f = c.args.fuel.now in
+    let G = g.P.Propagator.gives s.program s.bound in
+    always_err c.from_residual-in_err-answer-in-None.result (IsFailure G s c.answer.new.self f f) (fails_still G s c.answer.new.self f c.in_err-answer-in-None.ensures.err)
+
+pub returns-in_err-id-in-Some-clause-err : goal.returns-in_err-id-in-Some-clause-err
+returns-in_err-id-in-Some-clause-err g c =
+    let i = c.self.inside in
+    let s = c.args.self.now in
+    let f = c.args.fuel.now in
+    let G = g.P.Propagator.gives s.program s.bound in
+    let new : Searching = view_of i.mode c.keep.new.self i.pace i.known.items i.last in
+    let same : new ≡ s = ap (λ (x : Tracked). view_of i.mode x i.pace i.known.items i.last) c.in_err-id-in-Some.ensures.err ∙ c.self.view_is in
+    always_err c.from_residual-in_err-id-in-Some.result (IsFailure G s new f f) (fails_still G s new f same)
+
+pub invariant_of-self-in-Some : goal.invariant_of-self-in-Some
+invariant_of-self-in-Some g c =
+    let i = c.self.inside in
+    let t = i.track in
+    let p = i.compiled.now in
+    let n = c.in-Some.nogood in
+    let u = c.keep.new.self in
+    let e = c.in_ok-id-in-Some.ensures.ok in
+    let verdict = subst (λ (r : Option Nogood). MatchOption r (IsTrue (is_stable p c.in_ok-interp.interp)) (IsFault p (g.P.Propagator.gives p t.bound) (var_count p) t.entries)) c.in-Some.is
+    c.in_ok-fault.ensures in
+    let fault : IsFault t.program (g.P.Propagator.gives t.program t.bound) (var_count t.program) t.entries n =
+    subst (λ (x : Program). IsFault x (g.P.Propagator.gives x t.bound) (var_count x) t.entries n) c.self.invariant.program verdict in
+    let slots = ap (λ (x : Tracked). x.slots) e in
+    search_push p i.mode t u i.learner i.known.items i.bars.items i.bound i.last i.last (for_now n) (ap (λ (x : Tracked). x.program) e) (ap (λ (x : Tracked). x.bound) e) slots
+    (fault_useful t.program i.known.items t.bound (g.P.Propagator.gives t.program t.bound) (var_count t.program) t.entries n fault)
+    (push_last t.slots u.slots (for_now n) i.last slots c.self.invariant.last_stands) c.self.invariant
+
+pub returns-in_ok-answer-in-None-clause-ok : goal.returns-in_ok-answer-in-None-clause-ok
+returns-in_ok-answer-in-None-clause-ok g c = λ q e. c.in_ok-answer-in-None.ensures.ok q c.args.fuel.now e
+
+pub returns-in_ok-id-in-Some-clause-ok : goal.returns-in_ok-id-in-Some-clause-ok
+returns-in_ok-id-in-Some-clause-ok g c =
+    let i = c.self.inside in
+    let t = i.track in
+    let p = i.compiled.now in
+    let s = c.args.self.now in
+    let f = c.args.fuel.now in
+    let n = c.in-Some.nogood in
+    let u = c.keep.new.self in
+    let m : Searching = view_of i.mode u i.pace i.known.items i.last in
+    let verdict = subst (λ (r : Option Nogood). MatchOption r (IsTrue (is_stable p c.in_ok-interp.interp)) (IsFault p (g.P.Propagator.gives p t.bound) (var_count p) t.entries)) c.in-Some.is
+    c.in_ok-fault.ensures in
+    let fault : IsFault t.program (g.P.Propagator.gives t.program t.bound) (var_count t.program) t.entries n =
+    subst (λ (x : Program). IsFault x (g.P.Propagator.gives x t.bound) (var_count x) t.entries n) c.self.invariant.program verdict in
+    let on : Continues (g.P.Propagator.gives s.program s.bound) s m =
+    subst (λ (z : Searching). Continues (g.P.Propagator.gives z.program z.bound) z m) c.self.view_is
+    (fault_continues (g.P.Propagator.gives t.program t.bound) i.mode t u i.pace i.known.items i.last n fault c.in_ok-id-in-Some.ensures.ok) in
+    IfOk-weaker c.meet.result
+    (IsStep (g.P.Propagator.gives m.program m.bound) (g.P.Propagator.silent m.program m.bound) m c.meet.new.self f c.meet.new.fuel)
+    (IsStep (g.P.Propagator.gives s.program s.bound) (g.P.Propagator.silent s.program s.bound) s c.meet.new.self f c.meet.new.fuel)
+    (steps_on g.P.Propagator.gives g.P.Propagator.silent s m c.meet.new.self f c.meet.new.fuel on) c.meet.ensures.ok
+
+pub returns-in_ok-id-in-Some-clause-err : goal.returns-in_ok-id-in-Some-clause-err
+returns-in_ok-id-in-Some-clause-err g c =
+    let i = c.self.inside in
+    let t = i.track in
+    let p = i.compiled.now in
+    let s = c.args.self.now in
+    let f = c.args.fuel.now in
+    let n = c.in-Some.nogood in
+    let u = c.keep.new.self in
+    let m : Searching = view_of i.mode u i.pace i.known.items i.last in
+    let verdict = subst (λ (r : Option Nogood). MatchOption r (IsTrue (is_stable p c.in_ok-interp.interp)) (IsFault p (g.P.Propagator.gives p t.bound) (var_count p) t.entries)) c.in-Some.is
+    c.in_ok-fault.ensures in
+    let fault : IsFault t.program (g.P.Propagator.gives t.program t.bound) (var_count t.program) t.entries n =
+    subst (λ (x : Program). IsFault x (g.P.Propagator.gives x t.bound) (var_count x) t.entries n) c.self.invariant.program verdict in
+    let on : Continues (g.P.Propagator.gives s.program s.bound) s m =
+    subst (λ (z : Searching). Continues (g.P.Propagator.gives z.program z.bound) z m) c.self.view_is
+    (fault_continues (g.P.Propagator.gives t.program t.bound) i.mode t u i.pace i.known.items i.last n fault c.in_ok-id-in-Some.ensures.ok) in
+    on_err_weaker c.meet.result (fails_on g.P.Propagator.gives g.P.Propagator.silent s m c.meet.new.self f c.meet.new.fuel on) c.meet.ensures.err

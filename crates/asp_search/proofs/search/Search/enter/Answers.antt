@@ -1,0 +1,18 @@
+use Rattle.std.proofs.Common.{None, ap}
+use Rattle.asp_track.specs.Tracking.{Tracked}
+use Rattle.asp_search.proofs.SearchLaws.{search_same}
+use Rattle.asp_search.proofs.search.Search.enter.Goals as goal
+
+pub invariant_of-self : goal.invariant_of-self
+invariant_of-self g c =
+    let i = c.self.inside in
+    let e = c.enter.ensures.same in
+    search_same i.compiled.now i.mode i.track c.enter.new.self i.learner i.known.items i.bars.items i.bound i.last None (ap (λ (x : Tracked). x.program) e)
+    (ap (λ (x : Tracked). x.bound) e) (ap (λ (x : Tracked). x.slots) e) tt c.self.invariant
+
+pub invariant_of-self-2 : goal.invariant_of-self-2
+invariant_of-self-2 g c =
+    let i = c.self.inside in
+    let e = c.enter.ensures.same in
+    search_same i.compiled.now i.mode i.track c.enter.new.self i.learner i.known.items i.bars.items i.bound i.last None (ap (λ (x : Tracked). x.program) e)
+    (ap (λ (x : Tracked). x.bound) e) (ap (λ (x : Tracked). x.slots) e) tt c.self.invariant
