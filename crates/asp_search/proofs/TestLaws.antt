@@ -44,3 +44,7 @@ module _ (gives : Nogood → Type 0) (silent : List (Option Bool) → Type 0) (s
   pub can_step : {E : Type 0} (r : Result Step E) → IfOk r (IsStep gives silent s t f g) → OnOk r (CanStep t g)
   can_step (Ok r) h = let q = the_cube s.cube can.0 in by_step q.0 r (h q.0 q.1)
   can_step (Err e) h = tt
+
+pub halves : {E : Type 0} (r : Result Step E) (A B : Type 0) → OnOk r (A × B) → OnOk r A × OnOk r B
+halves (Ok r) A B h = h
+halves (Err e) A B h = (tt, tt)

@@ -137,7 +137,8 @@ fn start<'a>(heap: Global, compiled: &'a Compiled) -> Result<Search<'a, Plain>, 
         bound: None,
     };
     let mut search = Search::new(heap, compiled, Mode::Enum, plain)?;
-    search.enter([].as_slice())?;
+    let cube: Vec<Lit> = Vec::new(heap);
+    search.enter(cube.as_slice())?;
     Ok(search)
 }
 
