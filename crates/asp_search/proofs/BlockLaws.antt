@@ -184,8 +184,7 @@ pub last_dropped : (t u : Tracked) (bars new : List ℕ) (n id : ℕ) (lits : Li
     AreBars u.slots new × ((way : Nogood) (j : ℕ) (first : List (Option Kept)) → way.lits ≡ lits → Drops way j first t.slots bars → Drops way j first u.slots new)
 last_dropped t u bars new n id lits size at stand spare gone short =
     let is : bars ≡ take n bars ++ id ∷ [] = init_last bars n id size ∙ ap (λ (i : ℕ). take n bars ++ i ∷ []) (sym at) in
-    let slots : set t.slots id None ≡ u.slots = sym (ap (λ (x : Tracked). x.slots) gone) in
-    (
+    let slots : set t.slots id None ≡ u.slots = sym (ap (λ (x : Tracked). x.slots) gone) in (
       subst (AreBars u.slots) (sym short) (subst (λ (xs : List (Option Kept)). AreBars xs (take n bars)) slots (newest_gone t.slots bars (take n bars) id lits t.entries is stand spare)),
       λ way j first same d.
           subst (Drops way j first u.slots) (sym short)

@@ -20,8 +20,7 @@ pub imply-requires-clause-under : goal.imply-requires-clause-under
 imply-requires-clause-under g c =
     let t = c.args.track.now in
     let u : Tracked = c.undo_to.new.self in
-    let e : u ≡ back t c.args.to c.args.nogood u.ranking = jump_back t c.bump.new.self c.keep.new.self u c.args.to c.args.nogood _ c.bump.ensures c.in_ok-id.ensures.ok c.undo_to.ensures.same in
-    (
+    let e : u ≡ back t c.args.to c.args.nogood u.ranking = jump_back t c.bump.new.self c.keep.new.self u c.args.to c.args.nogood _ c.bump.ensures c.in_ok-id.ensures.ok c.undo_to.ensures.same in (
       c.requires.path.0,
       back_under t u c.requires.jumps.0 c.args.to c.args.nogood c.args.lit e c.trail-trail.ensures.ordered c.requires.contained c.requires.jumps.1 c.requires.path.0 c.requires.path.1,
     )
