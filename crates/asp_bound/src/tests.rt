@@ -177,96 +177,68 @@ fn ask_while(
     Ok(())
 }
 
-// A bound, what it gives where nothing holds, and what while one literal holds.
-#[derive(Clone, Copy)]
-struct Row<'a> {
-    cost: &'a [i64],
-    first: &'a [Lit],
-    lit: Lit,
-    while_held: &'a [Lit],
-}
-
+// What a bound gives: nothing before it stands, these literals then, others while one literal holds, and again the first.
 fn ask_all(
     rt: &impl Abort,
     alloc: Global,
     trail: &mut Trail,
     bound: &mut Bound,
-    row: &Row,
+    cost: &[i64],
+    first: &[Lit],
+    lit: Lit,
+    while_held: &[Lit],
 ) -> Result<(), AllocError>
-    requires var { IsVar trail.old.vars row.now.lit.var }
+    requires var { IsVar trail.old.vars lit.var }
     requires none { trail.old.entries ≡ [] }
     requires room { trail.old.vars ≤ trail.old.room }
     requires count { var_count bound.old.told.program ≡ trail.old.vars }
     requires told { bound.old.told.values ≡ assignment trail.old.vars trail.old.entries }
     requires bound { bound.old.bound ≡ None }
 {
-    ask(rt, trail, bound, row.cost, &[])?;
-    want_below(alloc, bound, row.cost)?;
-    ask(rt, trail, bound, row.cost, row.first)?;
-    ask_while(rt, trail, bound, row.cost, row.lit, row.while_held)?;
-    ask(rt, trail, bound, row.cost, row.first)
+    ask(rt, trail, bound, cost, &[])?;
+    want_below(alloc, bound, cost)?;
+    ask(rt, trail, bound, cost, first)?;
+    ask_while(rt, trail, bound, cost, lit, while_held)?;
+    ask(rt, trail, bound, cost, first)
 }
 
-fn play(rt: &impl Abort, alloc: Global, compiled: &Compiled, row: &Row) -> Result<(), AllocError> {
-    assert!(rt; 0 < row.lit.var() && row.lit.var() <= compiled.vars());
-    let (mut trail, mut bound) = begin(alloc, compiled)?;
-    ask_all(rt, alloc, &mut trail, &mut bound, row)
-}
-
-fn play_each(
+fn play(
     rt: &impl Abort,
     alloc: Global,
     compiled: &Compiled,
-    rows: &[Row],
+    cost: &[i64],
+    first: &[Lit],
+    lit: Lit,
+    while_held: &[Lit],
 ) -> Result<(), AllocError> {
-    for row in rows {
-        play(rt, alloc, compiled, row)?;
-    }
-    Ok(())
+    assert!(rt; 0 < lit.var() && lit.var() <= compiled.vars());
+    let (mut trail, mut bound) = begin(alloc, compiled)?;
+    ask_all(
+        rt, alloc, &mut trail, &mut bound, cost, first, lit, while_held,
+    )
 }
 
-fn play_all(rt: &impl Abort, alloc: Global, rows: &[Row]) -> Result<(), AllocError> {
+fn play_each(rt: &impl Abort, alloc: Global, compiled: &Compiled) -> Result<(), AllocError> {
+    let t1 = Lit::new(1, true);
+    let t2 = Lit::new(2, true);
+    let f1 = Lit::new(1, false);
+    let f2 = Lit::new(2, false);
+    // The second atom alone costs 2 at the first priority.
+    play(rt, alloc, compiled, &[1, 1], &[t2], t2, &[t2])?;
+    // Without it, the first atom costs all that the bound allows.
+    play(rt, alloc, compiled, &[1, 1], &[t2], f2, &[f2, t1])?;
+    // Either atom may be true, but not both.
+    play(rt, alloc, compiled, &[2, 0], &[], t2, &[t2, t1])?;
+    play(rt, alloc, compiled, &[2, 0], &[], f1, &[])
+}
+
+fn play_all(rt: &impl Abort, alloc: Global) -> Result<(), AllocError> {
     let compiled = compiled(rt, alloc)?;
-    play_each(rt, alloc, &compiled, rows)
+    play_each(rt, alloc, &compiled)
 }
 
 #[test]
 fn gives_what_costs_too_much(rt: HostRuntime) -> Result<(), Fail> {
-    let (t1, t2, f1, f2) = (
-        Lit::new(1, true),
-        Lit::new(2, true),
-        Lit::new(1, false),
-        Lit::new(2, false),
-    );
-    let rows = [
-        // The second atom alone costs 2 at the first priority.
-        Row {
-            cost: &[1, 1],
-            first: &[t2],
-            lit: t2,
-            while_held: &[t2],
-        },
-        // Without it, the first atom costs all that the bound allows.
-        Row {
-            cost: &[1, 1],
-            first: &[t2],
-            lit: f2,
-            while_held: &[f2, t1],
-        },
-        // Either atom may be true, but not both.
-        Row {
-            cost: &[2, 0],
-            first: &[],
-            lit: t2,
-            while_held: &[t2, t1],
-        },
-        Row {
-            cost: &[2, 0],
-            first: &[],
-            lit: f1,
-            while_held: &[],
-        },
-    ];
-    play_all(&rt, rt.alloc(), &rows)?;
+    play_all(&rt, rt.alloc())?;
     Ok(())
 }
