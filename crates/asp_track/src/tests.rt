@@ -1,11 +1,7 @@
-//! Each call once, with a propagator that has nothing to say while the second variable has no value. Want of memory ends
-//! a test.
-ghost use Rattle.std.specs.Prelude.{◌≡◌, ◌++◌, ◌∷◌, [], ℕ, List, None, Some, false, length};
-ghost use Rattle.asp_vars.specs.Literals.{Literal, T};
+//! A cube, a decision, the nogood of both, and back.
+ghost use Rattle.std.specs.Prelude.{◌≡◌, ◌∷◌, [], ℕ, List, None, Some, IfOk, length};
+ghost use Rattle.asp_vars.specs.Literals.{Literal};
 ghost use Rattle.asp_vars.specs.Numbering.{var_count};
-ghost use Rattle.asp_vars.specs.declared.nogood.Base.TheVariants as base;
-ghost use Rattle.asp_store.specs.declared.kept.Kept.{Kept};
-ghost use Rattle.asp_store.specs.Keeping.{kept_at};
 ghost use Rattle.asp_track.specs.Tracking.{IsUnder};
 
 use crate::track::Track;
@@ -13,17 +9,17 @@ use asp_follow::propagator::Propagator;
 use asp_model::cost::Cost;
 use asp_model::program::{Body, Head, Program, Rule};
 use asp_model::seq::Seq;
-use asp_trail::reasons::NogoodId;
 use asp_trail::trail::Trail;
 use asp_vars::assign::Assign;
 use asp_vars::compile::compile;
 use asp_vars::lit::Lit;
-use asp_vars::nogood::{Base, Lits, Nogood};
+use asp_vars::nogood::Nogood;
 use asp_vars::origin::Origin;
 use std::alloc::{AllocError, Global};
 use std::process::Abort;
+use std::test::Fail;
 
-// It has no nogoods, and fails where the second variable has a value or a bound stands.
+// It has no nogoods, and fails where the second variable has a value.
 #[derive(Drop)]
 struct Mute {
     origin: Origin<Program>,
@@ -66,7 +62,7 @@ impl Propagator for Mute {
 
     fn next(&mut self, trail: &Trail) -> Result<Option<Nogood>, AllocError> {
         let _ = trail;
-        if self.bound.is_some() || self.values.value(2) != None {
+        if self.values.value(2) != None {
             return Err(AllocError);
         }
         Ok(None)
@@ -74,74 +70,62 @@ impl Propagator for Mute {
 }
 
 // Two atoms that are free.
-fn free_atoms(rt: &impl Abort, heap: Global) -> Program
-    ensures { var_count result ≡ 3 }
+fn free_atoms(heap: Global) -> Result<Program, AllocError>
+    ensures { IfOk result (λ p. var_count p ≡ 3) }
 {
-    let atoms = [1, 2].to_vec(heap).expect(rt, "memory");
+    let atoms = vec![in heap; 1, 2]?;
     let rule = Rule {
         head: Head::Choice(Seq::from_vec(atoms)),
         body: Body::All(Seq::from_vec(Vec::new(heap))),
     };
-    let rules = vec![in heap; rule].expect(rt, "memory");
-    Program {
+    let rules = vec![in heap; rule]?;
+    Ok(Program {
         rules: Seq::from_vec(rules),
         minimize: Seq::from_vec(Vec::new(heap)),
         outputs: Seq::from_vec(Vec::new(heap)),
         externals: Seq::from_vec(Vec::new(heap)),
         assumptions: Seq::from_vec(Vec::new(heap)),
-    }
+    })
 }
 
-fn start(rt: &impl Abort, heap: Global) -> Track<Mute>
-    ensures vars { var_count result.program ≡ 3 }
-    ensures bound { result.bound ≡ None }
+fn start(rt: &impl Abort, heap: Global) -> Result<Track<Mute>, AllocError>
+    ensures { IfOk result (λ t. var_count t.program ≡ 3) }
 {
-    let program = free_atoms(rt, heap);
+    let program = free_atoms(heap)?;
     assert!(rt; program.is_sound());
-    let compiled = compile(heap, program).expect(rt, "memory");
+    let compiled = compile(heap, program)?;
     let mute = Mute {
         origin: Origin::of(compiled.program()),
-        values: Assign::new(heap, 3).expect(rt, "memory"),
+        values: Assign::new(heap, 3)?,
         bound: None,
     };
-    Track::new(heap, &compiled, mute).expect(rt, "memory")
+    Track::new(heap, &compiled, mute)
 }
 
 // Under the cube in which the first atom is true.
-fn under_first(rt: &impl Abort, heap: Global) -> Track<Mute>
-    ensures vars { var_count result.program ≡ 3 }
-    ensures under { (q : List Literal) × IsUnder result q }
+fn entered(rt: &impl Abort, heap: Global) -> Result<Track<Mute>, AllocError>
+    ensures { IfOk result (λ t. (q : List Literal) × IsUnder t q) }
 {
-    let mut track = start(rt, heap);
-    track
-        .enter(heap, [Lit::new(1, true)].as_slice())
-        .expect(rt, "memory");
+    let mut track = start(rt, heap)?;
+    track.enter(heap, [Lit::new(1, true)].as_slice())?;
     assert!(rt; !track.is_clashing());
-    track
-}
-
-// Under the cube of no literals.
-fn enter_none(rt: &impl Abort, heap: Global, track: &mut Track<Mute>)
-    ensures program { track.new.program ≡ track.old.program }
-    ensures under { (q : List Literal) × IsUnder track.new q }
-{
-    track.enter(heap, &[]).expect(rt, "memory");
-    assert!(rt; !track.is_clashing());
+    Ok(track)
 }
 
 // Propagates, and decides where nothing is violated.
-fn go_on(track: &mut Track<Mute>) -> Result<Option<Lit>, AllocError>
+fn go_on(track: &mut Track<Mute>) -> Result<bool, AllocError>
     requires { (q : List Literal) × IsUnder track.old q }
 {
     match track.propagate()? {
-        Some(_) => Ok(None),
-        None => track.decide(),
+        Some(_) => Ok(false),
+        None => Ok(track.decide()?.is_some()),
     }
 }
 
-fn has_way(rt: &impl Abort, heap: Global, track: &Track<Mute>) {
-    let nogood = track.way(heap).expect(rt, "memory");
+fn has_way(rt: &impl Abort, heap: Global, track: &Track<Mute>) -> Result<(), AllocError> {
+    let nogood = track.way(heap)?;
     assert!(rt; nogood.lits.as_slice() == [Lit::new(1, true), Lit::new(2, false)].as_slice());
+    Ok(())
 }
 
 fn take_back(rt: &impl Abort, track: &mut Track<Mute>) {
@@ -151,112 +135,12 @@ fn take_back(rt: &impl Abort, track: &mut Track<Mute>) {
 }
 
 #[test]
-fn enters_decides_and_leaves(rt: HostRuntime) {
+fn enters_decides_and_leaves(rt: HostRuntime) -> Result<(), Fail> {
     let heap = rt.alloc();
-    let mut track = under_first(&rt, heap);
-    let decided = go_on(&mut track).expect(&rt, "memory");
-    assert!(rt; decided == Some(Lit::new(2, false)));
-    has_way(&rt, heap, &track);
+    let mut track = entered(&rt, heap)?;
+    let is_decided = go_on(&mut track)?;
+    assert!(rt; is_decided);
+    has_way(&rt, heap, &track)?;
     take_back(&rt, &mut track);
-}
-
-// The second atom alone, local.
-fn second(rt: &impl Abort, heap: Global) -> Nogood
-    ensures { result ≡ record { lits = T 2 ∷ []; base = base.Local } }
-{
-    let lits = [Lit::new(2, true)];
-    Nogood {
-        lits: Lits::from_slice(heap, lits.as_slice()).expect(rt, "memory"),
-        base: Base::Local,
-    }
-}
-
-fn keep_second(rt: &impl Abort, heap: Global, track: &mut Track<Mute>) -> NogoodId
-    requires { var_count track.old.program ≡ 3 }
-    ensures kept { track.new ≡ record track.old { slots = track.old.slots ++ Some (record { nogood = record { lits = T 2 ∷ []; base = base.Local }; forever = false; locked = false }) ∷ [] } }
-    ensures id { result ≡ length track.old.slots }
-{
-    track.keep(second(rt, heap), false).expect(rt, "memory")
-}
-
-// Implies that the second atom is false, by the nogood that `keep_second` keeps.
-fn imply_second(rt: &impl Abort, heap: Global, track: &mut Track<Mute>) -> NogoodId
-    requires vars { var_count track.old.program ≡ 3 }
-    requires under { (q : List Literal) × IsUnder track.old q }
-    ensures program { track.new.program ≡ track.old.program }
-    ensures local { (k : Kept) × (kept_at track.new.slots result ≡ Some k) × (k.nogood.base ≡ base.Local) }
-{
-    let id = keep_second(rt, heap, track);
-    assert!(rt; track.trail().value(2).is_none());
-    track.imply(Lit::new(2, false), id);
-    id
-}
-
-fn has_second(rt: &impl Abort, track: &Track<Mute>, id: NogoodId)
-    requires { var_count track.now.program ≡ 3 }
-{
-    let trail = track.trail();
-    assert!(rt; trail.len() == 2 && trail.value(2) == Some(false));
-    assert!(rt; trail.reason_of(2) == Some(id));
-    assert!(rt; track.store().extra() == 1);
-}
-
-#[test]
-fn keeps_implies_and_removes(rt: HostRuntime) {
-    let heap = rt.alloc();
-    let mut track = under_first(&rt, heap);
-    let id = imply_second(&rt, heap, &mut track);
-    has_second(&rt, &track, id);
-    track.leave();
-    track.remove(id);
-    assert!(rt; track.store().extra() == 0);
-}
-
-// All three variables.
-fn three(rt: &impl Abort, heap: Global) -> Nogood
-    ensures { result.lits ≡ T 1 ∷ T 2 ∷ T 3 ∷ [] }
-{
-    let lits = [Lit::new(1, true), Lit::new(2, true), Lit::new(3, true)];
-    Nogood {
-        lits: Lits::from_slice(heap, lits.as_slice()).expect(rt, "memory"),
-        base: Base::Local,
-    }
-}
-
-fn keep_three(rt: &impl Abort, heap: Global, track: &mut Track<Mute>)
-    requires { var_count track.old.program ≡ 3 }
-    ensures { track.new.program ≡ track.old.program }
-{
-    track.keep(three(rt, heap), false).expect(rt, "memory");
-}
-
-#[test]
-fn drops_the_older_of_two(rt: HostRuntime) {
-    let heap = rt.alloc();
-    let mut track = start(&rt, heap);
-    keep_three(&rt, heap, &mut track);
-    keep_three(&rt, heap, &mut track);
-    assert!(rt; track.store().extra() == 2);
-    track.reduce();
-    assert!(rt; track.store().extra() == 1);
-}
-
-// Of two free atoms the first is decided first, unless the second was bumped.
-#[test]
-fn decides_what_was_bumped(rt: HostRuntime) {
-    let heap = rt.alloc();
-    let mut track = start(&rt, heap);
-    enter_none(&rt, heap, &mut track);
-    track.bump([Lit::new(2, true)].as_slice());
-    let decided = go_on(&mut track).expect(&rt, "memory");
-    assert!(rt; decided == Some(Lit::new(2, false)));
-}
-
-#[test]
-fn tells_the_bound(rt: HostRuntime) {
-    let heap = rt.alloc();
-    let mut track = start(&rt, heap);
-    track.set_bound(Cost::from_vec(Vec::new(heap)));
-    enter_none(&rt, heap, &mut track);
-    assert!(rt; track.propagate().is_err());
+    Ok(())
 }
