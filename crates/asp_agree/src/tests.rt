@@ -13,7 +13,9 @@ use std::process::Abort;
 use std::test::Fail;
 
 const ATOMS: u64 = 5;
+
 const PROGRAMS: u64 = 300;
+
 const BUDGET: u64 = 1000000;
 
 // The next number of a row that is as good as random.
@@ -133,7 +135,10 @@ fn list_the_same(rt: &impl Abort, alloc: Global, number: u64) -> Result<(), Allo
     assert!(rt; program.is_sound());
     let answers = answers_plain(alloc, &program)?;
     let report = searched(alloc, program, Mode::Enum)?;
-    assert!(rt; report.results.answers.as_slice() == answers.as_slice(), "{number}");
+    assert!(rt;
+        report.results.answers.as_slice() == answers.as_slice(),
+        "{number}"
+    );
     Ok(())
 }
 
