@@ -77,17 +77,17 @@ at : (gives : Nogood → Type 0) (silent : List (Option Bool) → Type 0) (s t :
 at gives silent s t f g r v e h = subst (λ (x : Step). IsStep gives silent s t f g x) e h
 
 pub decided : (gives : Nogood → Type 0) (silent : List (Option Bool) → Type 0) (p : Program) (mode : Mode) (s t : Searching) (f g : Units) (K : List Atoms) (best : Option (Atoms × List ℤ)) →
-    IsUnderway p mode s f K best → (r : Step) → r ≡ step.Decided → IsStep gives silent s t f g r → length t.entries ≤ var_count t.program → Goes p mode s t f g K best Open
+    IsUnderway p mode s f K best → (r : Step) → r ≡ step.Decided → IsStep gives silent s t f g r → length t.entries ≤ var_count t.program + 1 → Goes p mode s t f g K best Open
 decided gives silent p mode s t f g K best is r e h len =
     let d = at gives silent s t f g r step.Decided e h (root_cube p) is.cube in
     subst (λ (u : Units). Goes p mode s t f u K best Open) (sym d.fuel) (record {
       underway = stays p mode s t f K best is d.same (subst (λ k. k < 2 ^ 64) (sym d.learnt) is.learnt);
       budget = refl;
       course =
-          subst (λ u. work f.left (length (models p)) u t.learnt (var_count p) (length t.entries) < work_left p s f) (sym (unfound-same p s t d.same))
-          (subst (λ k. work f.left (length (models p)) (unfound p s.known s.bound) k (var_count p) (length t.entries) < work_left p s f) (sym d.learnt)
-          (work-decided f.left (length (models p)) (unfound p s.known s.bound) s.learnt (var_count p) (length s.entries) (length t.entries) d.longer
-          (subst (λ (q : Program). length t.entries ≤ var_count q) (d.same.program ∙ is.program) len)));
+          subst (λ u. work f.left (length (models p)) u t.learnt (var_count p + 1) (length t.entries) < work_left p s f) (sym (unfound-same p s t d.same))
+          (subst (λ k. work f.left (length (models p)) (unfound p s.known s.bound) k (var_count p + 1) (length t.entries) < work_left p s f) (sym d.learnt)
+          (work-decided f.left (length (models p)) (unfound p s.known s.bound) s.learnt (var_count p + 1) (length s.entries) (length t.entries) d.longer
+          (subst (λ (q : Program). length t.entries ≤ var_count q + 1) (d.same.program ∙ is.program) len)));
     })
 
 pub restarted : (gives : Nogood → Type 0) (silent : List (Option Bool) → Type 0) (p : Program) (mode : Mode) (s t : Searching) (f g : Units) (K : List Atoms) (best : Option (Atoms × List ℤ)) →
@@ -98,9 +98,9 @@ restarted gives silent p mode s t f g K best is r e h =
       underway = stays p mode s t f K best is d.same (omega (arith, d.learnt));
       budget = refl;
       course =
-          subst (λ u. work f.left (length (models p)) u t.learnt (var_count p) (length t.entries) < work_left p s f) (sym (unfound-same p s t d.same))
-          (subst (λ k. work f.left (length (models p)) (unfound p s.known s.bound) k (var_count p) (length t.entries) < work_left p s f) (sym d.learnt)
-          (work-restarted f.left (length (models p)) (unfound p s.known s.bound) s.learnt (var_count p) (length s.entries) (length t.entries) (some_learnt s.restarts s.learnt d.due)));
+          subst (λ u. work f.left (length (models p)) u t.learnt (var_count p + 1) (length t.entries) < work_left p s f) (sym (unfound-same p s t d.same))
+          (subst (λ k. work f.left (length (models p)) (unfound p s.known s.bound) k (var_count p + 1) (length t.entries) < work_left p s f) (sym d.learnt)
+          (work-restarted f.left (length (models p)) (unfound p s.known s.bound) s.learnt (var_count p + 1) (length s.entries) (length t.entries) (some_learnt s.restarts s.learnt d.due)));
     })
 
 pub learnt : (gives : Nogood → Type 0) (silent : List (Option Bool) → Type 0) (p : Program) (mode : Mode) (s t : Searching) (f g : Units) (K : List Atoms) (best : Option (Atoms × List ℤ)) →
@@ -113,7 +113,7 @@ learnt gives silent p mode s t f g K best is r e h =
       underway = moved p mode s t f (burnt f x) K best is d.same small is.of_program (omega (arith, is.known, d.burns.conflict.known))
           (at_least-join s.bound f.least x.bound is.least (subst (IsAtLeast s.bound) (sym d.burns.conflict.bound) (at_least-itself s.bound)));
       budget = omega (arith, d.burns.left);
-      course = work-paid f.left (length (models p)) (unfound p s.known s.bound) s.learnt (var_count p) (length s.entries) (f.left - 1) (unfound p t.known t.bound) t.learnt (length t.entries) (omega (arith, d.burns.left))
+      course = work-paid f.left (length (models p)) (unfound p s.known s.bound) s.learnt (var_count p + 1) (length s.entries) (f.left - 1) (unfound p t.known t.bound) t.learnt (length t.entries) (omega (arith, d.burns.left))
           (unfound-le p t.known t.bound) small;
     })
 
@@ -204,5 +204,5 @@ answered gives silent p mode s t f g S K L best c is r e h m =
         learnt = small;
       };
       budget = refl;
-      course = work-found f.left (length (models p)) (unfound p s.known s.bound) s.learnt (var_count p) (length s.entries) (unfound p t.known t.bound) t.learnt (length t.entries) found.fewer small;
+      course = work-found f.left (length (models p)) (unfound p s.known s.bound) s.learnt (var_count p + 1) (length s.entries) (unfound p t.known t.bound) t.learnt (length t.entries) found.fewer small;
     })

@@ -55,13 +55,13 @@ pub record IsUnderway (p : Program) (mode : Mode) (s : Searching) (f : Units) (a
 abbrev pub unfound : Program → List Atoms → Option (List ℤ) → ℕ
 unfound p known bound = length (filter (λ S. not (is_done p known bound S)) (models p))
 
--- Units, models not yet found of so many models, nogoods learnt since the last restart, and variables without a value: a step
--- lowers the first of them that it changes, and so this number.
+-- Units, models not yet found of so many models, nogoods learnt since the last restart, and entries that have room yet: a step
+-- lowers the first of them that it changes, and so this number. (A trail has no more entries than variables and one.)
 abbrev pub work : ℕ → ℕ → ℕ → ℕ → ℕ → ℕ → ℕ
 work units models unseen learnt vars entries = ((units * (models + 1) + unseen) * 2 ^ 64 + learnt) * (vars + 1) + (vars - entries)
 
 abbrev pub work_left : Program → Searching → Units → ℕ
-work_left p s f = work f.left (length (models p)) (unfound p s.known s.bound) s.learnt (var_count p) (length s.entries)
+work_left p s f = work f.left (length (models p)) (unfound p s.known s.bound) s.learnt (var_count p + 1) (length s.entries)
 
 -- an answer was added, or is the best
 abbrev pub Records : Program → Mode → Atoms → List Atoms → Option (Atoms × List ℤ) → List Atoms → Option (Atoms × List ℤ) → Type 0

@@ -2,7 +2,7 @@ use Rattle.asp_crew.proofs.StepLaws.{decided, learnt, restarted, answered, close
 use Rattle.asp_crew.proofs.alone.advance.Goals as goal
 
 pub returns-in-Decided : goal.returns-in-Decided
-returns-in-Decided g c = decided _ _ c.args.program.now c.args.mode c.args.search.now c.step.new.self c.args.fuel.now c.step.new.fuel c.args.found.now.answers.items c.args.found.now.best c.requires.underway _ c.in-Decided.is c.in_ok-step.ensures.ok c.in_ok-step.ensures.len
+returns-in-Decided g c = decided _ _ c.args.program.now c.args.mode c.args.search.now c.step.new.self c.args.fuel.now c.step.new.fuel c.args.found.now.answers.items c.args.found.now.best c.requires.underway _ c.in-Decided.is c.in_ok-step.ensures.ok c.in_ok-step.ensures.few
 
 pub returns-in-Learnt : goal.returns-in-Learnt
 returns-in-Learnt g c = learnt _ _ c.args.program.now c.args.mode c.args.search.now c.step.new.self c.args.fuel.now c.step.new.fuel c.args.found.now.answers.items c.args.found.now.best c.requires.underway _ c.in-Learnt.is c.in_ok-step.ensures.ok
