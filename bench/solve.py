@@ -28,7 +28,7 @@ def encoded(name, *words):
     return lambda: subprocess.run(["gringo", *words, f"{HERE}/lp/{name}.lp"], capture_output=True, check=True).stdout
 
 
-def random_sat(atoms, seed, ratio=4.26):
+def random_sat(atoms, seed, ratio):
     def text():
         choose = random.Random(seed)
         lines = ["asp 1 0 0", f"1 1 {atoms} {' '.join(map(str, range(1, atoms + 1)))} 0 0"]
@@ -55,8 +55,9 @@ PROGRAMS = {
     "queens-10": encoded("queens", "-c", "n=10"),
     "spanning-12": encoded("span", "-c", "n=12"),
     "spanning-14": encoded("span", "-c", "n=14"),
-    "sat-200": random_sat(200, 1),
-    "sat-250": random_sat(250, 1),
+    "sat-200": random_sat(200, 2, 4.8),
+    "sat-250": random_sat(250, 2, 4.8),
+    "sat-300": random_sat(300, 3, 5.2),
     "free-20": free_atoms(20),
 }
 
