@@ -8,4 +8,3 @@ pub mod GoesLaws
 pub mod MinimiseLaws
 pub mod EndLaws
 pub mod LearnLaws
-pub mod TestLaws

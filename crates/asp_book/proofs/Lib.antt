@@ -3,5 +3,3 @@ pub mod BookLaws
 pub mod CallLaws
 pub mod DeskLaws
 pub mod ReplyLaws
-pub mod RowLaws
-pub mod SeatLaws

@@ -3,4 +3,3 @@ pub mod Fuels
 pub mod Replies
 pub mod Stored
 pub mod Calls
-pub mod Rows

@@ -11,6 +11,4 @@ mod reach;
 mod reasons;
 mod rise;
 mod sums;
-#[cfg(test)]
-mod tests;
 mod weights;

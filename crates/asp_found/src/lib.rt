@@ -8,5 +8,3 @@ mod least;
 mod marks;
 mod parts;
 pub mod rows;
-#[cfg(test)]
-mod tests;

@@ -2,4 +2,3 @@ pub mod Blocks
 pub mod Entries
 pub mod Stored
 pub mod Shown
-pub mod Together

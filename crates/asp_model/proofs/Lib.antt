@@ -12,6 +12,5 @@ pub mod LimitLaws
 pub mod OpeningLaws
 pub mod SoundLaws
 pub mod CostLaws
-pub mod TextLaws
 pub mod WalkLaws
 pub mod BestLaws

@@ -16,5 +16,3 @@ pub mod seq;
 pub mod sound;
 pub mod stable;
 mod subsets;
-#[cfg(test)]
-mod tests;

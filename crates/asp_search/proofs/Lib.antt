@@ -9,4 +9,3 @@ pub mod StepsLaws
 pub mod BelowLaws
 pub mod BesideLaws
 pub mod FaultLaws
-pub mod TestLaws

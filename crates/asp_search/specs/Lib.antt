@@ -3,4 +3,3 @@ pub mod Meeting
 pub mod Blocking
 pub mod Beside
 pub mod Stepping
-pub mod Weightless

@@ -8,6 +8,4 @@ mod queue;
 mod rest;
 mod search;
 pub mod sources;
-#[cfg(test)]
-mod tests;
 mod touch;

@@ -10,7 +10,5 @@ pub mod propagation;
 pub mod retired;
 pub mod slots;
 pub mod store;
-#[cfg(test)]
-mod tests;
 pub mod visits;
 pub mod walks;

@@ -3,6 +3,4 @@
 
 pub mod assume;
 pub mod completed;
-#[cfg(test)]
-mod tests;
 pub mod track;

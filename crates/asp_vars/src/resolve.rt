@@ -8,8 +8,6 @@ ghost use Rattle.asp_vars.specs.Entailment.{IsGood};
 
 use crate::lit::Lit;
 use crate::nogood::{Base, Lits, Nogood};
-#[cfg(test)]
-use asp_model::cost::Cost;
 use std::alloc::{AllocError, Global};
 
 // The base of what two nogoods with these bases give.
@@ -88,37 +86,4 @@ pub fn resolve(
     let lits = both(alloc, &first.lits, &second.lits, lit)?;
     let base = join(&first.base, &second.base)?;
     Ok(Nogood { lits, base })
-}
-
-#[cfg(test)]
-mod tests {
-    use super::*;
-    use std::test::Fail;
-
-    #[test]
-    fn a_chain_of_two_below_a_cost(rt: HostRuntime) -> Result<(), Fail> {
-        let heap = rt.alloc();
-        let t1 = Lit::new(1, true);
-        let f2 = Lit::new(2, false);
-        let t2 = Lit::new(2, true);
-        let f3 = Lit::new(3, false);
-        let first = Nogood {
-            lits: Lits::from_slice(heap, [t1, f2].as_slice())?,
-            base: Base::Pure,
-        };
-        let second = Nogood {
-            lits: Lits::from_slice(heap, [t2, f3].as_slice())?,
-            base: Base::Below(Cost::from_vec(vec![in heap; 5]?)),
-        };
-        assert!(rt; has(first.lits.as_slice(), f2));
-        assert!(rt; has(second.lits.as_slice(), f2.complement()));
-        let both = resolve(heap, &first, &second, f2)?;
-        assert!(rt; both.lits.as_slice() == [t1, f3].as_slice());
-        let five = match &both.base {
-            Base::Below(cost) => cost.as_slice() == [5].as_slice(),
-            _ => false,
-        };
-        assert!(rt; five);
-        Ok(())
-    }
 }

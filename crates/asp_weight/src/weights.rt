@@ -146,6 +146,3 @@ fn lower(tallies: &mut Tallies, places: &Table<Place>, lit: Lit)
         tallies.lower(places.row(var), lit.truth());
     }
 }
-
-#[cfg(test)]
-mod tests;
