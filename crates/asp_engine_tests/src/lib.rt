@@ -1,0 +1,23 @@
+//! Tests of the parts of the search: the trail, the order, and all that propagates and learns.
+#![tactic(auto)]
+
+#[cfg(test)]
+mod analysis;
+#[cfg(test)]
+mod bound;
+#[cfg(test)]
+mod choice;
+#[cfg(test)]
+mod following;
+#[cfg(test)]
+mod order;
+#[cfg(test)]
+mod sources;
+#[cfg(test)]
+mod store;
+#[cfg(test)]
+mod track;
+#[cfg(test)]
+mod trail;
+#[cfg(test)]
+mod weights;

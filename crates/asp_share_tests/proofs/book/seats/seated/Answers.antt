@@ -1,0 +1,10 @@
+use Rattle.std.proofs.Common.{sym, subst}
+use Rattle.asp_vault.specs.Makers.{Unnamed}
+use Rattle.asp_book.specs.Books.{Booked, signed, IsJournalOf}
+use Rattle.asp_share_tests.proofs.book.seats.seated.Goals as goal
+
+pub make-requires-clause-sound : goal.make-requires-clause-sound
+make-requires-clause-sound c = subst (λ (b : Booked). IsJournalOf b.task b.journal) (sym c.in_ok-book_of.ensures) tt
+
+pub make-requires-clause-unnamed : goal.make-requires-clause-unnamed
+make-requires-clause-unnamed c = subst (λ (b : Booked). Unnamed signed b.journal) (sym c.in_ok-book_of.ensures) tt

@@ -1,0 +1,16 @@
+use Rattle.std.proofs.Common.{refl, sym, ◌∙◌, subst}
+use Rattle.asp_model.specs.Sets.{Atoms}
+use Rattle.asp_core.specs.declared.event.Event.TheVariants as event
+use Rattle.asp_core.specs.declared.goal.Goal.TheVariants as sought
+use Rattle.asp_core.specs.Boards.{Board, start}
+use Rattle.asp_core.specs.Events.{Guard, happens}
+use Rattle.asp_core.specs.Rows.{over_two_atoms}
+use Rattle.asp_share_tests.proofs.core.improved.Goals as goal
+
+pub apply-requires : goal.apply-requires
+apply-requires c =
+    subst (λ (b : Board). Guard b (event.Improve 1 c.in_ok-best.best)) (sym c.in_ok-state.ensures)
+    (subst (λ (S : Atoms). Guard (start (over_two_atoms sought.Opt 0)) (event.Improve 1 S)) (sym c.in_ok-best.ensures) (refl, refl, refl))
+
+pub returns : goal.returns
+returns c = c.in_ok-apply.ensures.ok ∙ (λ k. happens (c.in_ok-state.ensures k) (event.Improve 1 (c.in_ok-best.ensures k)))

@@ -1,0 +1,134 @@
+//! The log by one seat, and by two threads.
+ghost use Rattle.std.specs.Prelude.{◌≡◌, ◌<◌, ◌^◌, false};
+ghost use Rattle.asp_log.specs.Entries.{IsLogFor, unsigned};
+ghost use Rattle.asp_vault.specs.Makers.{Unnamed};
+ghost use Rattle.asp_vault.specs.Seats.{view, IsOf, IsBeside};
+
+use crate::together::{append_clash, both, clashing};
+use asp_log::{AppendError, Log, View, append, glance, read};
+use asp_model::program::Program;
+use asp_model::seq::Seq;
+use asp_vars::compile::compile;
+use asp_vars::nogood::Nogood;
+use asp_vault::{Seat, Vault};
+use std::alloc::Global;
+use std::process::Abort;
+use std::sync::Wait;
+use std::test::Fail;
+
+// A log for a program of no rules, which may have so many entries.
+fn new_log(rt: &impl Abort, heap: Global, limit: u32) -> Log
+    ensures keeps { IsLogFor result.scope result.entries }
+    ensures unnamed { Unnamed unsigned result.entries }
+{
+    let program = Program {
+        rules: Seq::from_vec(Vec::new(heap)),
+        minimize: Seq::from_vec(Vec::new(heap)),
+        outputs: Seq::from_vec(Vec::new(heap)),
+        externals: Seq::from_vec(Vec::new(heap)),
+        assumptions: Seq::from_vec(Vec::new(heap)),
+    };
+    assert!(rt; program.is_sound());
+    let compiled = compile(heap, program).expect(rt, "memory");
+    Log::new(heap, &compiled, limit)
+}
+
+// Such a log in a vault, and its first seat.
+fn seated(rt: &impl Abort, heap: Global, limit: u32) -> (Vault<Log>, Seat<Log>)
+    ensures of { IsOf result.0 result.1 }
+    ensures rests { (view result.1).holds ≡ false }
+{
+    Vault::make(heap, new_log(rt, heap, limit)).expect(rt, "memory")
+}
+
+fn variable(nogood: &Nogood) -> u32 {
+    match nogood.lits.as_slice().first() {
+        Some(lit) => lit.var(),
+        None => 0,
+    }
+}
+
+// Appends entries 0 to n - 1, of which each names its own position.
+fn fill<R: Wait + Abort>(rt: &R, heap: Global, vault: &Vault<Log>, seat: &mut Seat<Log>, n: u32)
+    requires of { IsOf vault.now seat.old }
+    requires rests { (view seat.old).holds ≡ false }
+    requires few { n < 2 ^ 31 }
+    ensures of { IsBeside seat.old seat.new }
+    ensures rests { (view seat.new).holds ≡ false }
+{
+    for i in 0..n {
+        let at = append_clash(rt, heap, vault, seat, i);
+        assert!(rt; at == Ok(i));
+    }
+}
+
+fn each_names_its_position(rt: &impl Abort, shown: &View, from: u32) {
+    for i in 0..shown.len() {
+        assert!(rt; variable(shown.entry(i)) == from.wrapping_add(i));
+    }
+}
+
+// Glances at the entries from a position on, and finds so many.
+fn shows<R: Wait + Abort>(rt: &R, vault: &Vault<Log>, seat: &mut Seat<Log>, from: u32, len: u32)
+    requires of { IsOf vault.now seat.old }
+    requires rests { (view seat.old).holds ≡ false }
+    ensures of { IsBeside seat.old seat.new }
+    ensures rests { (view seat.new).holds ≡ false }
+{
+    let there = vault.look(seat);
+    assert!(rt; u64::from(from) <= there);
+    let shown = glance(rt, vault, seat, from).expect(rt, "memory");
+    assert!(rt; shown.len() == len && shown.is_empty() == (len == 0));
+    each_names_its_position(rt, &shown, from);
+}
+
+#[test]
+fn a_full_log_gives_the_nogood_back(rt: HostRuntime) -> Result<(), Fail> {
+    let heap = rt.alloc();
+    let (vault, mut seat) = seated(&rt, heap, 2);
+    fill(&rt, heap, &vault, &mut seat, 2);
+    match append(&rt, &vault, &mut seat, clashing(heap, 3)?) {
+        Ok(_) => assert!(rt; false),
+        Err((error, nogood)) => {
+            assert!(rt; error == AppendError::Full && variable(&nogood) == 3);
+        }
+    }
+    assert!(rt; vault.look(&mut seat) == 2);
+    let mut entries = Vec::new(heap);
+    assert!(rt; read(&rt, &vault, &mut seat, 1, &mut entries)? == 2);
+    assert!(rt; entries.len() == 1);
+    assert!(rt; variable(&entries[0]) == 1);
+    Ok(())
+}
+
+#[test]
+fn blocks_and_tail_show_each_entry(rt: HostRuntime) -> Result<(), Fail> {
+    let heap = rt.alloc();
+    let (vault, mut seat) = seated(&rt, heap, 200);
+    fill(&rt, heap, &vault, &mut seat, 130);
+    shows(&rt, &vault, &mut seat, 60, 70);
+    shows(&rt, &vault, &mut seat, 130, 0);
+    Ok(())
+}
+
+#[test]
+fn two_threads_append_in_their_order(rt: HostRuntime) -> Result<(), Fail> {
+    let heap = rt.alloc();
+    let log = new_log(&rt, heap, 8);
+    let (log, first, second) = both(&rt, heap, log, &[1, 2, 3, 4, 5], &[10, 20, 30])?;
+    assert!(rt; first == 5 && second == 3 && log.count() == 8);
+    let shown = log.shown(0)?;
+    let mut next = 1;
+    let mut other = 10;
+    for i in 0..shown.len() {
+        let var = variable(shown.entry(i));
+        if var == next {
+            next = next.wrapping_add(1);
+        } else {
+            assert!(rt; var == other);
+            other = other.wrapping_add(10);
+        }
+    }
+    assert!(rt; next == 6 && other == 40);
+    Ok(())
+}
