@@ -3,9 +3,9 @@ ghost use Rattle.std.specs.Prelude.{◌≡◌, ◌≤◌, [], IfOk};
 ghost use Rattle.asp_vars.specs.Numbering.{var_count};
 ghost use Rattle.asp_trail.specs.Trails.{IsVar};
 
-use asp_source::sources::Sources;
 use asp_model::program::{Body, Head, Program, Rule};
 use asp_model::seq::Seq;
+use asp_source::sources::Sources;
 use asp_trail::trail::Trail;
 use asp_vars::compile::compile;
 use asp_vars::compiled::Compiled;

@@ -8,11 +8,11 @@ ghost use Rattle.asp_store.specs.declared.kept.Kept.{Kept};
 ghost use Rattle.asp_store.specs.Keeping.{kept_at};
 ghost use Rattle.asp_track.specs.Tracking.{IsUnder};
 
-use asp_track::track::Track;
 use asp_follow::propagator::Propagator;
 use asp_model::cost::Cost;
 use asp_model::program::{Body, Head, Program, Rule};
 use asp_model::seq::Seq;
+use asp_track::track::Track;
 use asp_trail::reasons::NogoodId;
 use asp_trail::trail::Trail;
 use asp_vars::assign::Assign;

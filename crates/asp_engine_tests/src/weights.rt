@@ -146,14 +146,7 @@ fn ask(rt: &impl Abort, trail: &Trail, weights: &mut Weights, lits: &[Lit])
 }
 
 // The literal holds from now on, and then the nogood of these literals comes, or none.
-fn say(
-    rt: &impl Abort,
-    trail: &mut Trail,
-    weights: &mut Weights,
-    vars: Var,
-    lit: Lit,
-    lits: &[Lit],
-)
+fn say(rt: &impl Abort, trail: &mut Trail, weights: &mut Weights, vars: Var, lit: Lit, lits: &[Lit])
     requires told { weights.old.values ≡ assignment trail.old.vars trail.old.entries }
     requires count { var_count weights.old.program ≡ vars }
     requires vars { trail.old.vars ≡ vars }

@@ -6,11 +6,11 @@ use Rattle.asp_track.specs.Tracking.{Tracked}
 use Rattle.asp_engine_tests.proofs.track.keeps_implies_and_removes.Goals as goal
 
 pub remove-requires-clause-local : goal.remove-requires-clause-local
-remove-requires-clause-local c =
+remove-requires-clause-local g c =
     subst (λ (t : Tracked). (k : Kept) × (kept_at t.slots c.imply_second-id.result ≡ Some k) × (k.nogood.base ≡ base.Local)) (sym c.leave.ensures.same)
     c.imply_second-id.ensures.local
 
 pub remove-requires-clause-unnamed : goal.remove-requires-clause-unnamed
-remove-requires-clause-unnamed c =
-    let none : length c.leave.new.track.entries ≡ 0 = ap (λ (t : Tracked). length t.entries) c.leave.ensures.same in
+remove-requires-clause-unnamed g c =
+    let none : length c.leave.new.self.entries ≡ 0 = ap (λ (t : Tracked). length t.entries) c.leave.ensures.same in
     λ i d h q. absurd (omega arith)
