@@ -12,7 +12,7 @@ use Rattle.asp_weight.specs.declared.tally.Tally.{Tally}
 use Rattle.asp_weight.specs.Tallied.{IsQueue, tally_at, fresh, newest}
 
 abbrev none : Tally
-none = record { reached = 0; missed = 0; queued = false }
+none = record { reached = 0; missed = 0; start = 0; queued = false }
 
 abbrev one_if : Bool → ℕ
 one_if b = cond b 1 0
@@ -62,11 +62,10 @@ joins ts queue room w t q h n m = record {
         ∙ (omega arith
         ∙ (q.listed v ∙ sym (ap ones (get_or-set_other ts w v t none ne)))))
 
--- a body that was marked stays where it is
-pub stays : (ts : List Tally) (queue : List ℕ) (room w : ℕ) (t : Tally) → IsQueue ts queue room → w < length ts → (tally_at ts w).queued ≡ true → t.queued ≡ true →
-    IsQueue (set ts w t) queue room
-stays ts queue room w t q h n m = record {
-  counted = omega (arith, q.counted, ap one_if n, ap one_if m, sum_by-set ones ts w t none h);
+-- a write that leaves the mark leaves the queue
+pub stays_as : (ts : List Tally) (queue : List ℕ) (room w : ℕ) (t : Tally) → IsQueue ts queue room → w < length ts → t.queued ≡ (tally_at ts w).queued → IsQueue (set ts w t) queue room
+stays_as ts queue room w t q h m = record {
+  counted = omega (arith, q.counted, ap one_if m, sum_by-set ones ts w t none h);
   listed = λ v. at v (eqb w v) refl;
   fits = omega (arith, q.fits, length-set ts w t);
 }
@@ -75,10 +74,15 @@ stays ts queue room w t q h n m = record {
     at v true e =
         let s : w ≡ v = eqb-true w v (sym e) in
         subst (λ (u : ℕ). count_by (λ x. eqb x u) queue ≡ cond (tally_at (set ts w t) u).queued 1 0) s
-        (q.listed w ∙ (ap one_if n ∙ sym (ap ones (get_or-set_same ts w t none h) ∙ ap one_if m)))
+        (q.listed w ∙ sym (ap ones (get_or-set_same ts w t none h) ∙ ap one_if m))
     at v false e =
         let ne : v ≢ w = grind (arith, nat_tests) in
         q.listed v ∙ sym (ap ones (get_or-set_other ts w v t none ne))
+
+-- a body that was marked stays where it is
+pub stays : (ts : List Tally) (queue : List ℕ) (room w : ℕ) (t : Tally) → IsQueue ts queue room → w < length ts → (tally_at ts w).queued ≡ true → t.queued ≡ true →
+    IsQueue (set ts w t) queue room
+stays ts queue room w t q h n m = stays_as ts queue room w t q h (m ∙ sym n)
 
 -- the body that was queued last is marked
 pub newest_marked : (ts : List Tally) (queue : List ℕ) (room : ℕ) → IsQueue ts queue room → 0 < length queue → (tally_at ts (newest queue)).queued ≡ true

@@ -5,6 +5,7 @@ use Rattle.std.proofs.lemmas.Bool.Decides.{nat_tests}
 use Rattle.std.proofs.lemmas.List.Elements.{All-head, All-tail}
 use Rattle.asp_vars.specs.Literals.{Literal}
 use Rattle.asp_weight.specs.declared.item.Item.{Item}
+use Rattle.asp_weight.specs.Spoken.{item_at}
 
 -- the test of a row's items
 abbrev pub passes : (Literal → Bool) → ℕ → Item → Bool
@@ -26,6 +27,14 @@ all_light free least (i ∷ row) a =
 
 falling_tail : (i : Item) (row : List Item) → AllPairs (λ i j. j.weight ≤ i.weight) (i ∷ row) → AllPairs (λ i j. j.weight ≤ i.weight) row
 falling_tail i row f j k d l h = f (suc j) (suc k) d (omega arith) (omega arith)
+
+-- the first items pass where they have values
+pub none_open : (free : Literal → Bool) (least : ℕ) (row : List Item) (n : ℕ) → ((k : ℕ) → k < n → free (item_at row k).lit ≡ false) → list_all (passes free least) (take n row) ≡ true
+none_open free least [] zero f = refl
+none_open free least [] (suc n) f = refl
+none_open free least (i ∷ row) zero f = refl
+none_open free least (i ∷ row) (suc n) f =
+    ap (λ b. (not b || ltb i.weight least) && list_all (passes free least) (take n row)) (f 0 (omega arith)) ∙ none_open free least row n (λ k h. f (suc k) (omega (arith, h)))
 
 pub light_from : (free : Literal → Bool) (least : ℕ) (row : List Item) (n : ℕ) → AllPairs (λ i j. j.weight ≤ i.weight) row → list_all (passes free least) (take n row) ≡ true →
     ((d : Item) → n < length row → (get_or row n d).weight < least) → list_all (passes free least) row ≡ true

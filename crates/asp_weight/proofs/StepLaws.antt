@@ -33,14 +33,15 @@ use Rattle.asp_weight.specs.Rows.{on, weight_if, sum_where, total_of, IsRow, is_
 use Rattle.asp_weight.specs.Tallied.{fresh, tally_at, raise_all, lower_all, sum_in, CanRaise, CanLower}
 use Rattle.asp_weight.specs.Placed.{places_at, touches, ArePlaces, HaveRoom}
 use Rattle.asp_weight.specs.Spoken.{spoken, Speaks, AreReady}
-use Rattle.asp_weight.specs.Kept.{AreCounted, AreQuiet, IsKept}
-use Rattle.asp_weight.proofs.TallyLaws.{length-raise_all, length-lower_all, raise_all-reached, raise_all-missed, raise_all-queued, lower_all-reached, lower_all-missed, lower_all-queued}
+use Rattle.asp_weight.specs.Kept.{ArePassed, AreCounted, AreQuiet, IsKept}
+use Rattle.asp_weight.proofs.TallyLaws.{length-raise_all, length-lower_all, raise_all-reached, raise_all-missed, raise_all-queued, lower_all-reached, lower_all-missed, lower_all-queued, raise_all-start, lower_all-start}
 use Rattle.asp_weight.proofs.SumLaws.{sum_more, turned, value_elsewhere, sum_in-untouched, sum_at-absent, quiet_alike, sum_where-le-total}
+use Rattle.asp_weight.proofs.PassLaws.{passed_none, passed_more, passed_alike}
 use Rattle.asp_weight.proofs.SilenceLaws.{weighed_at, positive_at, all_silent, one_speaks}
 use Rattle.asp_weight.proofs.SpeechLaws.{speaks_not_quiet, spoken_wanted, spoken_vars, spoken_excluded, excluded_entailed}
 
 none : Tally
-none = record { reached = 0; missed = 0; queued = false }
+none = record { reached = 0; missed = 0; start = 0; queued = false }
 
 -- ---- the rows' parts, for any number
 fits_anywhere : (p : Program) (shapes : List Shape) (rows : List (List Item)) (w : ℕ) → AreRows p (weighed_bodies p) shapes rows → w < length rows → total_of (row_at rows w) < 2 ^ 63
@@ -57,20 +58,24 @@ or_parts : (a b : Bool) → (a || b) ≡ false → (a ≡ false) × (b ≡ false
 or_parts true b e = absurd (false≢true (sym e))
 or_parts false b e = (refl, e)
 
--- a body that the variable's places don't touch is as silent with any value of it
-quiet_untouched : (p : Program) (a b : List (Option Bool)) (shapes : List Shape) (rows : List (List Item)) (places : List (List Place)) (v w : ℕ) → AreRows p (weighed_bodies p) shapes rows → ArePlaces shapes rows places →
-    ((u : ℕ) → u ≢ v → value_of a u ≡ value_of b u) → w < length rows → touches w (places_at places v) ≡ false → is_quiet a (shape_at shapes w) (row_at rows w) ≡ is_quiet b (shape_at shapes w) (row_at rows w)
-quiet_untouched p a b shapes rows places v w r pl alike h un =
-    quiet_alike a b (shape_at shapes w) (row_at rows w) (alike (shape_at shapes w).var other)
-    (λ k d l. alike (get_or (row_at rows w) k d).lit.var (absent k d l))
+-- in a body that the variable's places don't touch it doesn't stand, so the literals have the values that they have with any value of it
+alike_untouched : (p : Program) (a b : List (Option Bool)) (shapes : List Shape) (rows : List (List Item)) (places : List (List Place)) (v w : ℕ) → AreRows p (weighed_bodies p) shapes rows → ArePlaces shapes rows places →
+    ((u : ℕ) → u ≢ v → value_of a u ≡ value_of b u) → w < length rows → touches w (places_at places v) ≡ false → All (λ i. value_of a i.lit.var ≡ value_of b i.lit.var) (row_at rows w)
+alike_untouched p a b shapes rows places v w r pl alike h un k d l = alike (get_or (row_at rows w) k d).lit.var (absent k d l)
   where
-    other : (shape_at shapes w).var ≢ v
-    other e = false≢true (sym un ∙ (ap (λ u. touches w (places_at places u)) (sym e) ∙ pl.own w h))
-
     absent : All (λ (i : Item). i.lit.var ≢ v) (row_at rows w)
     absent =
         sum_at-absent v (row_at rows w) (r.row w (omega (arith, h, r.whole))).ordered.positive
         (sym (pl.sums w v true) ∙ sum_in-untouched w true (places_at places v) un) (sym (pl.sums w v false) ∙ sum_in-untouched w false (places_at places v) un)
+
+-- and it is as silent
+quiet_untouched : (p : Program) (a b : List (Option Bool)) (shapes : List Shape) (rows : List (List Item)) (places : List (List Place)) (v w : ℕ) → AreRows p (weighed_bodies p) shapes rows → ArePlaces shapes rows places →
+    ((u : ℕ) → u ≢ v → value_of a u ≡ value_of b u) → w < length rows → touches w (places_at places v) ≡ false → is_quiet a (shape_at shapes w) (row_at rows w) ≡ is_quiet b (shape_at shapes w) (row_at rows w)
+quiet_untouched p a b shapes rows places v w r pl alike h un =
+    quiet_alike a b (shape_at shapes w) (row_at rows w) (alike (shape_at shapes w).var other) (alike_untouched p a b shapes rows places v w r pl alike h un)
+  where
+    other : (shape_at shapes w).var ≢ v
+    other e = false≢true (sym un ∙ (ap (λ u. touches w (places_at places u)) (sym e) ∙ pl.own w h))
 
 within_tallies : (rows : List (List Item)) (places : List Place) (tallies : List Tally) → length tallies ≡ length rows → All (λ o. o.body < length rows) places → All (λ o. o.body < length tallies) places
 within_tallies rows places tallies e a k d h = omega (arith, e, a k d h)
@@ -98,6 +103,8 @@ assigned p a shapes rows places tallies v t k h n = record {
     whole = length-raise_all t tallies (places_at places v) ∙ k.counted.whole;
     reached = λ w. raise_all-reached t tallies (places_at places v) w within ∙ (ap (λ m. m + sum_in w t (places_at places v)) (k.counted.reached w) ∙ sym (sums_more p a shapes rows places v w t true k.placed small n));
     missed = λ w. raise_all-missed t tallies (places_at places v) w within ∙ (ap (λ m. m + sum_in w (not t) (places_at places v)) (k.counted.missed w) ∙ sym (sums_more p a shapes rows places v w t false k.placed small n));
+    passed = λ w l.
+        subst (ArePassed (set a v (Some t)) (row_at rows w)) (sym (raise_all-start t tallies (places_at places v) w within)) (passed_more a v t (row_at rows w) (tally_at tallies w).start small (k.counted.passed w l));
   };
   quiet = λ w l q.
       let parts = or_parts (touches w (places_at places v)) (tally_at tallies w).queued (sym (raise_all-queued t tallies (places_at places v) w within) ∙ q) in
@@ -155,6 +162,7 @@ undone p a shapes rows places tallies l k h e = record {
     whole = length-lower_all l.truth tallies (places_at places l.var) ∙ k.counted.whole;
     reached = λ w. omega (arith, lower_all-reached l.truth tallies (places_at places l.var) w within, k.counted.reached w, sums_less p a shapes rows places l w true k.placed small e);
     missed = λ w. omega (arith, lower_all-missed l.truth tallies (places_at places l.var) w within, k.counted.missed w, sums_less p a shapes rows places l w false k.placed small e);
+    passed = λ w m. subst (ArePassed (set a l.var None) (row_at rows w)) (sym (lower_all-start l.truth tallies (places_at places l.var) w within)) (passed w m (touches w (places_at places l.var)) refl);
   };
   quiet = λ w m q.
       let parts = or_parts (touches w (places_at places l.var)) (tally_at tallies w).queued (sym (lower_all-queued l.truth tallies (places_at places l.var) w within) ∙ q) in
@@ -166,6 +174,12 @@ undone p a shapes rows places tallies l k h e = record {
 
     within : All (λ o. o.body < length tallies) (places_at places l.var)
     within = within_tallies rows (places_at places l.var) tallies k.counted.whole (k.placed.within l.var)
+
+    passed : (w : ℕ) → w < length rows → (b : Bool) → b ≡ touches w (places_at places l.var) → ArePassed (set a l.var None) (row_at rows w) (cond b 0 (tally_at tallies w).start)
+    passed w m true q = passed_none (set a l.var None) (row_at rows w)
+    passed w m false q =
+        passed_alike (set a l.var None) a (row_at rows w) (tally_at tallies w).start
+        (alike_untouched p (set a l.var None) a shapes rows places l.var w k.rowed k.placed (λ u ne. value_elsewhere a l.var u None ne) m (sym q)) (k.counted.passed w m)
 
 -- ---- the start
 no_values : (n v : ℕ) → (let o : Option Bool = None in get_or (replicate n o) v o) ≡ None
@@ -182,9 +196,9 @@ nothing_holds a side (i ∷ row) f =
 length-none : (n : ℕ) → (let o : Option Bool = None in length (replicate n o)) ≡ n
 length-none n = grind (arith, common_steps)
 
-fresh_at : (n w : ℕ) → ((tally_at (replicate n fresh) w).reached ≡ 0) × ((tally_at (replicate n fresh) w).missed ≡ 0)
-fresh_at zero w = (refl, refl)
-fresh_at (suc n) zero = (refl, refl)
+fresh_at : (n w : ℕ) → ((tally_at (replicate n fresh) w).reached ≡ 0) × ((tally_at (replicate n fresh) w).missed ≡ 0) × ((tally_at (replicate n fresh) w).start ≡ 0)
+fresh_at zero w = (refl, refl, refl)
+fresh_at (suc n) zero = (refl, refl, refl)
 fresh_at (suc n) (suc w) = fresh_at n w
 
 fresh_queued : (n w : ℕ) → w < n → (tally_at (replicate n fresh) w).queued ≡ true
@@ -207,6 +221,7 @@ begun p a shapes rows places tallies n sound few r pl e f g = record {
     whole = ap length f ∙ (length-fresh n ∙ (g ∙ (r.shaped ∙ sym r.whole)));
     reached = λ w. ap (λ ts. (tally_at ts w).reached) f ∙ ((fresh_at n w).0 ∙ sym (nothing_holds a true (row_at rows w) all_none));
     missed = λ w. ap (λ ts. (tally_at ts w).missed) f ∙ ((fresh_at n w).1 ∙ sym (nothing_holds a false (row_at rows w) all_none));
+    passed = λ w h. subst (ArePassed a (row_at rows w)) (sym (ap (λ ts. (tally_at ts w).start) f ∙ (fresh_at n w).2)) (passed_none a (row_at rows w));
   };
   quiet = λ w h q. absurd (false≢true (sym q ∙ (ap (λ ts. (tally_at ts w).queued) f ∙ fresh_queued n w (omega (arith, h, g, r.shaped, r.whole)))));
 }
@@ -298,7 +313,7 @@ begun_as p q a shapes also rows places tallies n vars sound few r pl s e v f g s
 pub silent_when_none : (p : Program) (a : List (Option Bool)) (shapes : List Shape) (rows : List (List Item)) (places : List (List Place)) (tallies : List Tally) → IsKept p a shapes rows places tallies →
     All (λ t. t.queued ≡ false) tallies → is_silent p a ≡ true
 silent_when_none p a shapes rows places tallies k none_queued =
-    all_silent p a shapes rows k.sound k.rowed (λ w h. k.quiet w h (none_queued w (record { reached = 0; missed = 0; queued = false }) (omega (arith, h, k.counted.whole))))
+    all_silent p a shapes rows k.sound k.rowed (λ w h. k.quiet w h (none_queued w (record { reached = 0; missed = 0; start = 0; queued = false }) (omega (arith, h, k.counted.whole))))
 
 pub not_silent : (p : Program) (a : List (Option Bool)) (shapes : List Shape) (rows : List (List Item)) (places : List (List Place)) (tallies : List Tally) (w : ℕ) (x : Speech) → IsKept p a shapes rows places tallies →
     w < length rows → Speaks x a (shape_at shapes w) (row_at rows w) → is_silent p a ≡ false

@@ -77,7 +77,7 @@ on-var : (side : Bool) (l : Literal) → (on side l).var ≡ l.var
 on-var true l = refl
 on-var false l = refl
 
-value_there : (a : List (Option Bool)) (v : ℕ) (t : Bool) → v < length a → value_of (set a v (Some t)) v ≡ Some t
+pub value_there : (a : List (Option Bool)) (v : ℕ) (t : Bool) → v < length a → value_of (set a v (Some t)) v ≡ Some t
 value_there a v t h = get_or-set_same a v (Some t) None h
 
 pub value_elsewhere : (a : List (Option Bool)) (v u : ℕ) (o : Option Bool) → u ≢ v → value_of (set a v o) u ≡ value_of a u

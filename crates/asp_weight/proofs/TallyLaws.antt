@@ -13,7 +13,7 @@ use Rattle.asp_weight.specs.Tallied.{tally_at, raised, lowered, raise, lower, ra
 use Rattle.asp_weight.specs.Placed.{touches}
 
 abbrev none : Tally
-none = record { reached = 0; missed = 0; queued = false }
+none = record { reached = 0; missed = 0; start = 0; queued = false }
 
 beq_not : (a b : Bool) → beq a (not b) ≡ not (beq a b)
 beq_not true true = refl
@@ -29,6 +29,14 @@ raised-reached false n t = omega arith
 raised-missed : (b : Bool) (n : ℕ) (t : Tally) → (raised b n t).missed ≡ t.missed + cond (not b) n 0
 raised-missed true n t = omega arith
 raised-missed false n t = refl
+
+raised-start : (b : Bool) (n : ℕ) (t : Tally) → (raised b n t).start ≡ t.start
+raised-start true n t = refl
+raised-start false n t = refl
+
+lowered-start : (b : Bool) (n : ℕ) (t : Tally) → (lowered b n t).start ≡ 0
+lowered-start true n t = refl
+lowered-start false n t = refl
 
 pub raised-queued : (b : Bool) (n : ℕ) (t : Tally) → (raised b n t).queued ≡ true
 raised-queued true n t = refl
@@ -78,6 +86,10 @@ raise-missed truth ts o w h =
     written (λ t. t.missed) (λ a b. a + b) ts o.body w (cond (beq o.truth (not truth)) o.weight 0) (raised (beq o.truth truth) o.weight (tally_at ts o.body)) h
     (raised-missed (beq o.truth truth) o.weight (tally_at ts o.body) ∙ ap (λ b. (tally_at ts o.body).missed + cond b o.weight 0) (sym (beq_not o.truth truth))) plus_zero
 
+raise-start : (truth : Bool) (ts : List Tally) (o : Place) (w : ℕ) → o.body < length ts → (tally_at (raise truth ts o) w).start ≡ (tally_at ts w).start
+raise-start truth ts o w h =
+    written (λ t. t.start) (λ a b. a) ts o.body w 0 (raised (beq o.truth truth) o.weight (tally_at ts o.body)) h (raised-start (beq o.truth truth) o.weight (tally_at ts o.body)) (λ m. refl)
+
 lower-reached : (truth : Bool) (ts : List Tally) (o : Place) (w : ℕ) → o.body < length ts → (tally_at (lower truth ts o) w).reached ≡ (tally_at ts w).reached - weight_in w truth o
 lower-reached truth ts o w h =
     written (λ t. t.reached) (λ a b. a - b) ts o.body w (cond (beq o.truth truth) o.weight 0) (lowered (beq o.truth truth) o.weight (tally_at ts o.body)) h
@@ -99,6 +111,18 @@ marked ts i w t h m = cases (eqb i w) refl
     cases false q =
         let ne : w ≢ i = grind (arith, nat_tests) in
         ap (λ (x : Tally). x.queued) (get_or-set_other ts i w t none ne)
+
+-- where the next look begins, after a write
+started : (ts : List Tally) (i w n : ℕ) (t : Tally) → i < length ts → t.start ≡ n → (tally_at (set ts i t) w).start ≡ cond (eqb i w) n (tally_at ts w).start
+started ts i w n t h e = cases (eqb i w) refl
+  where
+    cases : (b : Bool) → b ≡ eqb i w → (tally_at (set ts i t) w).start ≡ cond b n (tally_at ts w).start
+    cases true q =
+        let s : i ≡ w = eqb-true i w (sym q) in
+        subst (λ (v : ℕ). (tally_at (set ts i t) v).start ≡ n) s (ap (λ (x : Tally). x.start) (get_or-set_same ts i t none h) ∙ e)
+    cases false q =
+        let ne : w ≢ i = grind (arith, nat_tests) in
+        ap (λ (x : Tally). x.start) (get_or-set_other ts i w t none ne)
 
 -- ---- a list of places
 within_set : (ts : List Tally) (i : ℕ) (t : Tally) (places : List Place) → All (λ o. o.body < length ts) places → All (λ o. o.body < length (set ts i t)) places
@@ -163,6 +187,26 @@ lower_all-queued truth ts (o ∷ places) w a =
     lower_all-queued truth (lower truth ts o) places w (within_set ts o.body _ places (All-tail (λ x. x.body < length ts) o places a))
     ∙ (ap (λ b. touches w places || b) (marked ts o.body w _ (All-head (λ x. x.body < length ts) o places a) (lowered-queued (beq o.truth truth) o.weight (tally_at ts o.body)))
     ∙ or_turn (touches w places) (eqb o.body w) (tally_at ts w).queued)
+
+pub raise_all-start : (truth : Bool) (ts : List Tally) (places : List Place) (w : ℕ) → All (λ o. o.body < length ts) places → (tally_at (raise_all truth ts places) w).start ≡ (tally_at ts w).start
+raise_all-start truth ts [] w a = refl
+raise_all-start truth ts (o ∷ places) w a =
+    raise_all-start truth (raise truth ts o) places w (within_set ts o.body _ places (All-tail (λ x. x.body < length ts) o places a))
+    ∙ raise-start truth ts o w (All-head (λ x. x.body < length ts) o places a)
+
+first_again : (a b : Bool) (n : ℕ) → cond a 0 (cond b 0 n) ≡ cond (b || a) 0 n
+first_again true true n = refl
+first_again true false n = refl
+first_again false true n = refl
+first_again false false n = refl
+
+pub lower_all-start : (truth : Bool) (ts : List Tally) (places : List Place) (w : ℕ) → All (λ o. o.body < length ts) places →
+    (tally_at (lower_all truth ts places) w).start ≡ cond (touches w places) 0 (tally_at ts w).start
+lower_all-start truth ts [] w a = refl
+lower_all-start truth ts (o ∷ places) w a =
+    lower_all-start truth (lower truth ts o) places w (within_set ts o.body _ places (All-tail (λ x. x.body < length ts) o places a))
+    ∙ (ap (λ n. cond (touches w places) 0 n) (started ts o.body w 0 _ (All-head (λ x. x.body < length ts) o places a) (lowered-start (beq o.truth truth) o.weight (tally_at ts o.body)))
+    ∙ first_again (touches w places) (eqb o.body w) (tally_at ts w).start)
 
 -- ---- the numbers fit
 within_take : (n : ℕ) (places : List Place) (i : ℕ) → All (λ o. o.body < n) places → All (λ o. o.body < n) (take i places)

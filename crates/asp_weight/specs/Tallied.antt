@@ -10,10 +10,10 @@ pub record Tallied : Type 0 where
   pub queue : List ℕ
 
 abbrev pub fresh : Tally
-fresh = record { reached = 0; missed = 0; queued = true }
+fresh = record { reached = 0; missed = 0; start = 0; queued = true }
 
 abbrev pub tally_at : List Tally → ℕ → Tally
-tally_at ts w = slice_index_or ts w (record { reached = 0; missed = 0; queued = false })
+tally_at ts w = slice_index_or ts w (record { reached = 0; missed = 0; start = 0; queued = false })
 
 -- Each body that is marked stands once in the queue, and no other does.
 pub record IsQueue (tallies : List Tally) (queue : List ℕ) (room : ℕ) : Type 0 where
@@ -22,12 +22,13 @@ pub record IsQueue (tallies : List Tally) (queue : List ℕ) (room : ℕ) : Type
   pub fits : length tallies ≤ room
 
 abbrev pub raised : Bool → ℕ → Tally → Tally
-raised true n t = record { reached = t.reached + n; missed = t.missed; queued = true }
-raised false n t = record { reached = t.reached; missed = t.missed + n; queued = true }
+raised true n t = record { reached = t.reached + n; missed = t.missed; start = t.start; queued = true }
+raised false n t = record { reached = t.reached; missed = t.missed + n; start = t.start; queued = true }
 
+-- The variable may stand anywhere in the row.
 abbrev pub lowered : Bool → ℕ → Tally → Tally
-lowered true n t = record { reached = t.reached - n; missed = t.missed; queued = true }
-lowered false n t = record { reached = t.reached; missed = t.missed - n; queued = true }
+lowered true n t = record { reached = t.reached - n; missed = t.missed; start = 0; queued = true }
+lowered false n t = record { reached = t.reached; missed = t.missed - n; start = 0; queued = true }
 
 -- a literal got the value, or lost it
 abbrev pub raise : Bool → List Tally → Place → List Tally
@@ -43,7 +44,11 @@ abbrev pub lower_all : Bool → List Tally → List Place → List Tally
 lower_all truth ts places = fold (lower truth) ts places
 
 abbrev pub settled : ℕ → List Tally → List Tally
-settled w ts = slice_set ts w (record { reached = (tally_at ts w).reached; missed = (tally_at ts w).missed; queued = false })
+settled w ts = slice_set ts w (record { reached = (tally_at ts w).reached; missed = (tally_at ts w).missed; start = (tally_at ts w).start; queued = false })
+
+-- The next look at the body begins at that item.
+abbrev pub begin : ℕ → ℕ → List Tally → List Tally
+begin w n ts = slice_set ts w (record { reached = (tally_at ts w).reached; missed = (tally_at ts w).missed; start = n; queued = (tally_at ts w).queued })
 
 -- the body that was queued last
 abbrev pub newest : List ℕ → ℕ

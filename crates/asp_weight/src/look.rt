@@ -6,7 +6,7 @@ ghost use Rattle.asp_trail.specs.Quiet.{is_open};
 ghost use Rattle.asp_weight.specs.Rows.{sum_where, need_of, is_short, is_quiet, shape_at, row_at};
 ghost use Rattle.asp_weight.specs.Tallied.{sum_for};
 ghost use Rattle.asp_weight.specs.Spoken.{item_at, Speaks, AreReady};
-ghost use Rattle.asp_weight.specs.Kept.{AreCounted, AreQuiet};
+ghost use Rattle.asp_weight.specs.Kept.{ArePassed, AreCounted, AreQuiet};
 
 use crate::item::{Item, Shape};
 use crate::tally::{Tallies, Tally};
@@ -20,22 +20,48 @@ pub struct Speech {
     pub open: Option<usize>,
 }
 
-// The first item without a value, if it weighs so much.
-fn heaviest_open(row: &[Item], values: &Assign, least: u64) -> Option<usize>
+/// What a body says, unless it is silent, and how many of its first items are known to have values.
+#[derive(Clone, Copy)]
+pub struct Finding {
+    pub speech: Option<Speech>,
+    pub start: usize,
+}
+
+// The first item without a value, if it weighs so much, and how many items before it have values.
+#[derive(Clone, Copy)]
+struct Search {
+    open: Option<usize>,
+    start: usize,
+}
+
+// The search begins behind items that have values.
+fn heaviest_open(row: &[Item], values: &Assign, least: u64, start: usize) -> Search
     requires within { All (λ i. i.lit.var < length values.now) row.now }
     requires falling { AllPairs (λ i j. j.weight ≤ i.weight) row.now }
-    ensures none { IfNone result (list_all (λ i. not (is_open values.now i.lit) || nat_lt i.weight least) row.now ≡ true) }
-    ensures some { IfSome result (λ j. (j < length row.now) × (is_open values.now (item_at row.now j).lit ≡ true) × (least ≤ (item_at row.now j).weight)) }
+    requires passed { ArePassed values.now row.now start }
+    ensures none { IfNone result.open (list_all (λ i. not (is_open values.now i.lit) || nat_lt i.weight least) row.now ≡ true) }
+    ensures some { IfSome result.open (λ j. (j < length row.now) × (is_open values.now (item_at row.now j).lit ≡ true) × (least ≤ (item_at row.now j).weight)) }
+    ensures passed { ArePassed values.now row.now result.start }
 {
-    for (i, item) in row.iter().enumerate() {
+    for i in start..row.len() {
+        let item = &row[i];
         if item.weight < least {
-            return None;
+            return Search {
+                open: None,
+                start: i,
+            };
         }
         if values.value(item.lit.var()).is_none() {
-            return Some(i);
+            return Search {
+                open: Some(i),
+                start: i,
+            };
         }
     }
-    None
+    Search {
+        open: None,
+        start: row.len(),
+    }
 }
 
 fn sum(tally: &Tally, side: bool) -> u64
@@ -51,30 +77,39 @@ pub fn need(shape: &Shape, side: bool) -> u64
 }
 
 // A body whose variable has the value that the side would rule out.
-fn look_at_side(
-    side: bool,
-    tally: &Tally,
-    shape: &Shape,
-    row: &[Item],
-    values: &Assign,
-) -> Option<Speech>
+fn look_at_side(side: bool, tally: &Tally, shape: &Shape, row: &[Item], values: &Assign) -> Finding
     requires within { All (λ i. i.lit.var < length values.now) row.now }
     requires falling { AllPairs (λ i j. j.weight ≤ i.weight) row.now }
     requires counted { sum_for side tally.now ≡ sum_where (holds_in values.now) side row.now }
     requires valued { value_of values.now shape.now.var ≡ Some (not side) }
-    ensures none { IfNone result (is_short side values.now shape.now row.now ≡ true) }
-    ensures some { IfSome result (λ x. Speaks x values.now shape.now row.now) }
+    requires passed { ArePassed values.now row.now tally.now.start }
+    ensures none { IfNone result.speech (is_short side values.now shape.now row.now ≡ true) }
+    ensures some { IfSome result.speech (λ x. Speaks x values.now shape.now row.now) }
+    ensures passed { ArePassed values.now row.now result.start }
 {
     let sum = sum(tally, side);
     let need = need(shape, side);
+    let start = tally.start as usize;
     if need <= sum {
-        return Some(Speech { side, open: None });
+        return Finding {
+            speech: Some(Speech { side, open: None }),
+            start,
+        };
     }
-    let open = heaviest_open(row, values, need - sum)?;
-    Some(Speech {
-        side,
-        open: Some(open),
-    })
+    let Search { open, start } = heaviest_open(row, values, need - sum, start);
+    match open {
+        None => Finding {
+            speech: None,
+            start,
+        },
+        Some(place) => Finding {
+            speech: Some(Speech {
+                side,
+                open: Some(place),
+            }),
+            start,
+        },
+    }
 }
 
 // A body whose variable has no value.
@@ -102,21 +137,60 @@ fn look_at_both(tally: &Tally, shape: &Shape, row: &[Item], values: &Assign) -> 
     None
 }
 
-/// What the body says, unless it is silent.
-pub fn look(tally: &Tally, shape: &Shape, row: &[Item], values: &Assign) -> Option<Speech>
+/// What the body says, unless it is silent, and where the next look may begin.
+pub fn look(tally: &Tally, shape: &Shape, row: &[Item], values: &Assign) -> Finding
     requires var { shape.now.var < length values.now }
     requires within { All (λ i. i.lit.var < length values.now) row.now }
     requires falling { AllPairs (λ i j. j.weight ≤ i.weight) row.now }
     requires reached { tally.now.reached ≡ sum_where (holds_in values.now) true row.now }
     requires missed { tally.now.missed ≡ sum_where (holds_in values.now) false row.now }
-    ensures none { IfNone result (is_quiet values.now shape.now row.now ≡ true) }
-    ensures some { IfSome result (λ x. Speaks x values.now shape.now row.now) }
+    requires passed { ArePassed values.now row.now tally.now.start }
+    ensures none { IfNone result.speech (is_quiet values.now shape.now row.now ≡ true) }
+    ensures some { IfSome result.speech (λ x. Speaks x values.now shape.now row.now) }
+    ensures passed { ArePassed values.now row.now result.start }
 {
     match values.value(shape.var) {
-        None => look_at_both(tally, shape, row, values),
+        None => Finding {
+            speech: look_at_both(tally, shape, row, values),
+            start: tally.start as usize,
+        },
         Some(true) => look_at_side(false, tally, shape, row, values),
         Some(false) => look_at_side(true, tally, shape, row, values),
     }
+}
+
+// The place in the 32 bits of a counter, or the last one that they have.
+fn short(place: usize) -> u32
+    ensures { result ≤ place }
+{
+    if place <= u32::MAX as usize {
+        place as u32
+    } else {
+        u32::MAX
+    }
+}
+
+// What the body says, unless it is silent. It keeps where the next look is to begin.
+fn look_at(
+    tallies: &mut Tallies,
+    body: usize,
+    shapes: &[Shape],
+    rows: &Table<Item>,
+    values: &Assign,
+) -> Option<Speech>
+    requires body { body < length rows.now }
+    requires ready { AreReady values.now shapes.now rows.now }
+    requires counted { AreCounted values.now rows.now tallies.old.tallies }
+    requires quiet { AreQuiet values.now shapes.now rows.now tallies.old.tallies }
+    ensures queue { tallies.new.queue ≡ tallies.old.queue }
+    ensures counted { AreCounted values.now rows.now tallies.new.tallies }
+    ensures quiet { AreQuiet values.now shapes.now rows.now tallies.new.tallies }
+    ensures none { IfNone result (is_quiet values.now (shape_at shapes.now body) (row_at rows.now body) ≡ true) }
+    ensures some { IfSome result (λ x. Speaks x values.now (shape_at shapes.now body) (row_at rows.now body)) }
+{
+    let Finding { speech, start } = look(tallies.at(body), &shapes[body], rows.row(body), values);
+    tallies.begin_at(body, short(start));
+    speech
 }
 
 /// What the newest queued body that isn't silent says. The silent ones before it leave the queue.
@@ -135,7 +209,7 @@ pub fn first_speech(
     ensures some { IfSome result (λ r. (r.0 < length rows.now) × Speaks r.1 values.now (shape_at shapes.now r.0) (row_at rows.now r.0)) }
 {
     while let Some(body) = tallies.newest() {
-        if let Some(speech) = look(tallies.at(body), &shapes[body], rows.row(body), values) {
+        if let Some(speech) = look_at(tallies, body, shapes, rows, values) {
             return Some((body, speech));
         }
         tallies.settle();

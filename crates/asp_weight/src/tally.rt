@@ -2,17 +2,19 @@
 ghost use Rattle.std.specs.Prelude.{◌≡◌, ◌<◌, ◌≤◌, ◌+◌, ◌^◌, [], false, IfOk, IfNone, IfSome, length, replicate};
 ghost use Rattle.std.specs.List.{All, range_with_len};
 ghost use Rattle.std.specs.Bool.{beq};
-ghost use Rattle.asp_weight.specs.Tallied.{fresh, tally_at, sum_for, raised, lowered, raise, lower, raise_all, lower_all, settled, newest, CanRaise, CanLower};
+ghost use Rattle.asp_weight.specs.Tallied.{fresh, tally_at, sum_for, raised, lowered, raise, lower, raise_all, lower_all, settled, begin, newest, CanRaise, CanLower};
 
 use crate::item::Place;
 use std::alloc::{AllocError, Global};
 use std::marker::Model;
 
-/// The sums of the weights of a body's true literals and of its false ones, and whether it is to be looked at.
+/// The sums of the weights of a body's true literals and of its false ones, and whether it is to be looked at. The items
+/// before the start have values.
 #[derive(Clone, Copy)]
 pub struct Tally {
     pub reached: u64,
     pub missed: u64,
+    pub start: u32,
     pub queued: bool,
 }
 
@@ -42,6 +44,7 @@ impl Tallies {
         let tallies = vec![in alloc; Tally {
             reached: 0,
             missed: 0,
+            start: 0,
             queued: true
         }; count as usize]?;
         let queue = numbers(alloc, count)?;
@@ -75,6 +78,15 @@ impl Tallies {
         if let Some(body) = self.queue.pop() {
             self.tallies[body as usize].queued = false;
         }
+    }
+
+    /// The next look at the body begins at that item.
+    pub fn begin_at(&mut self, body: usize, start: u32)
+        requires { body < length self.old.tallies }
+        ensures tallies { self.new.tallies ≡ begin body start self.old.tallies }
+        ensures queue { self.new.queue ≡ self.old.queue }
+    {
+        self.tallies[body].start = start;
     }
 
     // Adds a literal's weight to its side, and queues the body.
@@ -147,31 +159,37 @@ fn raised(tally: &Tally, side: bool, weight: u64) -> Tally
         Tally {
             reached: tally.reached + weight,
             missed: tally.missed,
+            start: tally.start,
             queued: true,
         }
     } else {
         Tally {
             reached: tally.reached,
             missed: tally.missed + weight,
+            start: tally.start,
             queued: true,
         }
     }
 }
 
+// The variable may stand anywhere in the row, so the next look begins at the first item.
 fn lowered(tally: &Tally, side: bool, weight: u64) -> Tally
     requires { weight ≤ sum_for side tally.now }
     ensures { result ≡ lowered side weight tally.now }
 {
+    let start = 0;
     if side {
         Tally {
             reached: tally.reached - weight,
             missed: tally.missed,
+            start,
             queued: true,
         }
     } else {
         Tally {
             reached: tally.reached,
             missed: tally.missed - weight,
+            start,
             queued: true,
         }
     }

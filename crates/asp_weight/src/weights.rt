@@ -2,11 +2,13 @@
 //!
 //! It keeps true, after every list of calls:
 //! - each weight body's counters are the sums from scratch of the weights of its true and of its false literals;
+//! - the first literals of each weight body, up to where the next look at it begins, have values;
 //! - each weight body that isn't queued is silent under the values told.
 //!
 //! So `next` has to look at queued bodies alone, and with an empty queue all are silent. `assign` and `undo` queue each
 //! body in which the variable stands, and the body whose variable it is: both can end a body's silence. A silent body
-//! leaves the queue; one that isn't stays there until what it says is heeded or undone.
+//! leaves the queue; one that isn't stays there until what it says is heeded or undone. A look begins where the last one
+//! ended, unless an `undo` touched the body since.
 ghost use Rattle.std.specs.Prelude.{◌≡◌, ◌+◌, None, ◌↔◌, IsTrue, IsNone, IfOk, IfSome, replicate};
 ghost use Rattle.asp_vars.specs.Literals.{value_of, holds_in};
 ghost use Rattle.asp_vars.specs.Numbering.{var_count};
