@@ -99,6 +99,7 @@ kept-told p a rows columns vars sums new kept v b i k none long each = record {
   rowed = kept.rowed;
   columned = kept.columned;
   listed = kept.listed;
+  linked = kept.linked;
   sized = length-set a v (Some b) ∙ kept.sized;
   summed = summed_from p (set a v (Some b)) new (long ∙ sums-count p a rows columns vars sums kept) (λ j low.
       let lt : j < length sums = omega (arith, sums-count p a rows columns vars sums kept) in
@@ -115,6 +116,7 @@ kept-untold p a rows columns vars sums new kept v b i k some long each = record 
   rowed = kept.rowed;
   columned = kept.columned;
   listed = kept.listed;
+  linked = kept.linked;
   sized = length-set a v None ∙ kept.sized;
   summed = summed_from p (set a v None) new (long ∙ sums-count p a rows columns vars sums kept) (λ j low.
       let lt : j < length sums = omega (arith, sums-count p a rows columns vars sums kept) in
@@ -135,6 +137,7 @@ kept-new p rows columns vars sums sound few g within whole = record {
     within = All-weaker (λ v. (0 < v) × (v < length rows)) (λ v. (0 < v) × (v ≤ var_count p)) (λ v h. (h.0, omega (arith, g.count, h.1))) vars within;
     whole = λ v i k some. whole v i (omega (arith, g.count, k)) some;
   };
+  linked = g.linked;
   summed = g.summed;
 }
 

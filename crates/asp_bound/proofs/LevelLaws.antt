@@ -4,7 +4,7 @@ use Rattle.std.specs.List.{All, AllPairs, Contains}
 use Rattle.std.specs.List.Sorted.{IsPermutation}
 use Rattle.std.specs.Int.RustNames.{unsigned_abs}
 use Rattle.std.proofs.lemmas.Int.{ints}
-use Rattle.std.proofs.lemmas.Bool.{cases_eq, cases_lt, eq-eqb, ne_eqb, false≢true, ltb-false, lt-ltb}
+use Rattle.std.proofs.lemmas.Bool.{cases_eq, cases_lt, eq-eqb, ne_eqb, false≢true, ltb-true, ltb-false, lt-ltb}
 use Rattle.std.proofs.lemmas.List.{length-set, get_or-replicate, length_push, get_or_push, get_or_append_left, map_push, take_more, length-take-le}
 use Rattle.std.proofs.lemmas.List.Sums.{sum_by-append, sum_by-cons}
 use Rattle.std.proofs.lemmas.List.Elements.{All-append, All-head, All-tail, All-weaker, Contains-append_left, Contains-append_right}
@@ -20,6 +20,7 @@ use Rattle.asp_bound.specs.Optimism.{items_at, weight_in, weight_at, negative, l
 use Rattle.asp_bound.specs.Rises.{beneath, rise, rise_at, rise_by, raised, row_at, IsColumn}
 use Rattle.asp_bound.specs.Weights.{size_of, AreWeights}
 use Rattle.asp_bound.specs.Levels.{place_of, most_of, places_of, items_of, weight_true, weight_false, rows_to, column_to, least_to}
+use Rattle.asp_bound.specs.Starts.{IsLinked, AreLinked}
 use Rattle.asp_bound.specs.Gathered.{valueless, IsGathered, AreGathered}
 use Rattle.asp_bound.proofs.CostLaws.{optimistic_at-low, weight_in-small, rise_at-small}
 use Rattle.asp_bound.proofs.SumLaws.{sum_to-same}
@@ -80,6 +81,13 @@ places-within i n t f lt = places_by (ltb 0 (most_of t f))
     places_by true (suc k) d h = absurd (omega arith)
     places_by false k d h = absurd (omega arith)
 
+places-contain : (j : ℕ) (t f : ℤ) → 0 < most_of t f → Contains {X = Place} (places_of j t f) (place_of j t f)
+places-contain j t f up = places_by (ltb 0 (most_of t f)) (lt-ltb 0 (most_of t f) up)
+  where
+    places_by : (c : Bool) → c ≡ true → Contains {X = Place} (cond c (place_of j t f ∷ []) []) (place_of j t f)
+    places_by true e = (0, omega arith, refl)
+    places_by false e = absurd (false≢true e)
+
 -- ---- the rows
 pub rows_to-length : (weights : List ℤ) (j : ℕ) (rows : List (List Place)) (n : ℕ) → length (rows_to weights j rows n) ≡ length rows
 rows_to-length weights j rows zero = refl
@@ -133,15 +141,15 @@ column_to-step weights old new i t f before made et ef =
     made ∙ (ap (λ (o : List Item). o ++ items_of (i + 1) t f) before ∙ (ap (λ (x : ℤ). C ++ items_of (i + 1) x f) et ∙ (ap (λ (x : ℤ). C ++ items_of (i + 1) (weight_true weights (i + 1)) x) ef ∙ sym more)))
 
 -- ---- the items
-items-all : (P : Item → Type 0) (v : ℕ) (t f : ℤ) → P (record { var = v; most = most_of t f }) → All P (items_of v t f)
-items-all P v t f h = items_by (ltb 0 (most_of t f))
+items-all : (P : Item → Type 0) (v : ℕ) (t f : ℤ) → (0 < most_of t f → P (record { var = v; most = most_of t f })) → All P (items_of v t f)
+items-all P v t f h = items_by (ltb 0 (most_of t f)) refl
   where
-    items_by : (c : Bool) → All P (cond c (record { var = v; most = most_of t f } ∷ []) [])
-    items_by true zero d lt = h
-    items_by true (suc k) d lt = absurd (omega arith)
-    items_by false k d lt = absurd (omega arith)
+    items_by : (c : Bool) → ltb 0 (most_of t f) ≡ c → All P (cond c (record { var = v; most = most_of t f } ∷ []) [])
+    items_by true e zero d lt = h (ltb-true 0 (most_of t f) e)
+    items_by true e (suc k) d lt = absurd (omega arith)
+    items_by false e k d lt = absurd (omega arith)
 
-column_to-all : (P : Item → Type 0) (weights : List ℤ) (n : ℕ) → ((v : ℕ) → 0 < v → v ≤ n → P (record { var = v; most = most_of (weight_true weights v) (weight_false weights v) })) → All P (column_to weights n)
+column_to-all : (P : Item → Type 0) (weights : List ℤ) (n : ℕ) → ((v : ℕ) → 0 < v → v ≤ n → 0 < most_of (weight_true weights v) (weight_false weights v) → P (record { var = v; most = most_of (weight_true weights v) (weight_false weights v) })) → All P (column_to weights n)
 column_to-all P weights zero h = λ k d lt. absurd (omega arith)
 column_to-all P weights (suc n) h =
     All-append P (column_to weights n) (items_of (suc n) (weight_true weights (suc n)) (weight_false weights (suc n)))
@@ -241,14 +249,20 @@ gathered p level q weights rows items are small whole permuted falling =
       kept = λ j v b ne. level_row p level weights rows v whole (λ (xs : List Place). raised xs j b ≡ raised (row_at rows v) j b) refl (raised-append (row_at rows v) (places_of level (weight_true weights v) (weight_false weights v)) j b ∙ omega (arith, raised-elsewhere level j b (weight_true weights v) (weight_false weights v) ne));
       sums = λ v b i k. ap (λ (xs : List Place). raised xs level b) (at v i k) ∙ (raised-append (row_at rows v) (places_of level (weight_true weights v) (weight_false weights v)) level b ∙ ap (λ (m : ℕ). raised (row_at rows v) level b + m) (raised-places level b (weight_true weights v) (weight_false weights v) ∙ rises v b k));
       column = record {
-        within = All-permutation (λ (i : Item). (0 < i.var) × (i.var ≤ n)) (column_to weights n) items permuted (column_to-all (λ (i : Item). (0 < i.var) × (i.var ≤ n)) weights n (λ v i k. (i, k)));
-        small = All-permutation (λ (i : Item). i.most < 2 ^ 57) (column_to weights n) items permuted (column_to-all (λ (i : Item). i.most < 2 ^ 57) weights n (λ v i k. most_small v k));
+        within = All-permutation (λ (i : Item). (0 < i.var) × (i.var ≤ n)) (column_to weights n) items permuted (column_to-all (λ (i : Item). (0 < i.var) × (i.var ≤ n)) weights n (λ v i k up. (i, k)));
+        small = All-permutation (λ (i : Item). i.most < 2 ^ 57) (column_to weights n) items permuted (column_to-all (λ (i : Item). i.most < 2 ^ 57) weights n (λ v i k up. most_small v k));
         falling = falling;
         whole = λ v b i k up.
             let x : Item = record { var = v; most = most_of (weight_true weights v) (weight_false weights v) } in
             let le : rise_at p q v b ≤ x.most = omega (arith, rises v b k, rise-most b (weight_true weights v) (weight_false weights v)) in
             (x, Contains-permutation (column_to weights n) items x permuted (column_to-contains weights n v i k (omega arith)), refl, le);
       };
+      grown = λ v o h. level_row p level weights rows v whole (λ (xs : List Place). Contains xs o) h (Contains-append_left (row_at rows v) (places_of level (weight_true weights v) (weight_false weights v)) o h);
+      linked = All-permutation (λ (x : Item). (o : Place) × Contains (row_at (rows_to weights level rows n) x.var) o × (o.level ≡ level)) (column_to weights n) items permuted
+          (column_to-all (λ (x : Item). (o : Place) × Contains (row_at (rows_to weights level rows n) x.var) o × (o.level ≡ level)) weights n (λ v i k up.
+          let o : Place = place_of level (weight_true weights v) (weight_false weights v) in
+          let last : Contains (row_at rows v ++ places_of level (weight_true weights v) (weight_false weights v)) o = Contains-append_right (row_at rows v) (places_of level (weight_true weights v) (weight_false weights v)) o (places-contain level (weight_true weights v) (weight_false weights v) up) in
+          (o, subst (λ (xs : List Place). Contains xs o) (sym (at v i k)) last, refl)));
       least_is = least_to-is p q weights are;
       least_small = least_to-small p q weights are small;
     }
@@ -279,6 +293,11 @@ each_push qs q P before here j lt = elim (cases_lt j (length qs)) [
       subst (λ (k : ℕ). P k (get_or (qs ++ q ∷ []) k (pos 0))) e (subst (P (length qs)) (sym (get_or_push qs q (pos 0) (length qs) refl)) here))
 ]
 
+linked-grown : (rows new : List (List Place)) (j : ℕ) (column : List Item) → ((v : ℕ) (o : Place) → Contains (row_at rows v) o → Contains (row_at new v) o) → IsLinked rows j column → IsLinked new j column
+linked-grown rows new j column grown linked = λ i d lt.
+    let link = linked i d lt in
+    (link.0, grown (get_or column i d).var link.0 link.1, link.2)
+
 pub gathered_more : (p : Program) (qs : List ℤ) (q : ℤ) (rows new : List (List Place)) (items : List (List Item)) (costs : List ℤ) (column : List Item) (least : ℕ) →
     AreGathered p qs rows items costs → IsGathered p (length qs) q rows new column least → AreGathered p (qs ++ q ∷ []) new (items ++ column ∷ []) (costs ++ neg_ℤ (pos least) ∷ [])
 gathered_more p qs q rows new items costs column least g h =
@@ -294,6 +313,11 @@ gathered_more p qs q rows new items costs column least g h =
       columns = each_push qs q (λ (j : ℕ) (r : ℤ). IsColumn p r (get_or (items ++ column ∷ []) j []))
           (λ j lt. subst (IsColumn p (get_or qs j (pos 0))) (sym (get_or_append_left items (column ∷ []) [] j (omega (arith, g.columned, lt)))) (g.columns j lt))
           (subst (IsColumn p q) (sym (get_or_push items column [] (length qs) g.columned)) h.column);
+      linked = record {
+        each = λ k within. each_push qs q (λ (j : ℕ) (r : ℤ). IsLinked new j (get_or (items ++ column ∷ []) j []))
+            (λ j lt. subst (IsLinked new j) (sym (get_or_append_left items (column ∷ []) [] j (omega (arith, g.columned, lt)))) (linked-grown rows new j (get_or items j []) h.grown (g.linked.each j (omega (arith, g.columned, lt)))))
+            (subst (IsLinked new (length qs)) (sym (get_or_push items column [] (length qs) g.columned)) h.linked) k (omega (arith, long, length_push items column, g.columned, within));
+      };
       summed =
           let last : optimistic_at p (valueless p) q ≡ neg_ℤ (pos least) = h.least_is in
           let all = g.summed in

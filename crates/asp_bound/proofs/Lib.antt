@@ -5,6 +5,7 @@ pub mod LevelLaws
 pub mod ReachLaws
 pub mod StepLaws
 pub mod KeptLaws
+pub mod StartLaws
 pub mod FindLaws
 pub mod NogoodLaws
 pub mod SilentLaws

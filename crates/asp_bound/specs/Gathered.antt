@@ -1,6 +1,6 @@
 -- What the tables of a program have.
 use Rattle.std.specs.Prelude.{◌≡◌, ◌≢◌, ℕ, ◌+◌, ◌<◌, ◌≤◌, ◌^◌, ◌==◌, Bool, true, None, Option, List, [], length, map, replicate, slice_index_or, ℤ, pos, neg_ℤ}
-use Rattle.std.specs.List.{All, list_any}
+use Rattle.std.specs.List.{All, Contains, list_any}
 use Rattle.asp_model.specs.declared.program.Program.{Program}
 use Rattle.asp_vars.specs.Numbering.{var_count}
 use Rattle.asp_bound.specs.declared.place.Place.{Place}
@@ -8,6 +8,7 @@ use Rattle.asp_bound.specs.declared.place.Item.{Item}
 use Rattle.asp_bound.specs.Optimism.{items_at, optimistic_at}
 use Rattle.asp_bound.specs.Rises.{rise_at, raised, row_at, IsColumn}
 use Rattle.asp_bound.specs.Weights.{size_of}
+use Rattle.asp_bound.specs.Starts.{IsLinked, AreLinked}
 
 abbrev pub valueless : Program → List (Option Bool)
 valueless p = replicate (var_count p + 1) None
@@ -20,6 +21,8 @@ pub record IsGathered (p : Program) (level : ℕ) (q : ℤ) (rows new : List (Li
   pub kept : (j v : ℕ) (b : Bool) → j ≢ level → raised (row_at new v) j b ≡ raised (row_at rows v) j b
   pub sums : (v : ℕ) (b : Bool) → 0 < v → v ≤ var_count p → raised (row_at new v) level b ≡ raised (row_at rows v) level b + rise_at p q v b
   pub column : IsColumn p q items
+  pub grown : (v : ℕ) (o : Place) → Contains (row_at rows v) o → Contains (row_at new v) o
+  pub linked : IsLinked new level items
   pub least_is : optimistic_at p (valueless p) q ≡ neg_ℤ (pos least)
   pub least_small : least < 2 ^ 60
 
@@ -30,6 +33,7 @@ pub record AreGathered (p : Program) (qs : List ℤ) (rows : List (List Place)) 
   pub sums : (j v : ℕ) (b : Bool) → j < length qs → 0 < v → v ≤ var_count p → raised (row_at rows v) j b ≡ rise_at p (slice_index_or qs j (pos 0)) v b
   pub columned : length items ≡ length qs
   pub columns : (j : ℕ) → j < length qs → IsColumn p (slice_index_or qs j (pos 0)) (slice_index_or items j [])
+  pub linked : AreLinked rows items
   pub summed : costs ≡ map (optimistic_at p (valueless p)) qs
 
 -- Each number below n whose row has places is among these.

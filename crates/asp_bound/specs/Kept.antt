@@ -9,6 +9,7 @@ use Rattle.asp_bound.specs.declared.place.Item.{Item}
 use Rattle.asp_bound.specs.Optimism.{items_at, optimistic}
 use Rattle.asp_bound.specs.Weights.{size_of}
 use Rattle.asp_model.specs.Costs.{priorities}
+use Rattle.asp_bound.specs.Starts.{AreLinked}
 use Rattle.asp_bound.specs.Rises.{nth_priority, AreRows, AreColumns, row_at}
 
 abbrev pub AreSmall : Program → Type 0
@@ -27,4 +28,5 @@ pub record IsKept (p : Program) (a : List (Option Bool)) (rows : List (List Plac
   pub rowed : AreRows p rows
   pub columned : AreColumns p columns
   pub listed : AreVars p rows vars
+  pub linked : AreLinked rows columns
   pub summed : sums ≡ optimistic p a

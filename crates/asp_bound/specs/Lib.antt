@@ -9,4 +9,5 @@ pub mod Reach
 pub mod Reasons
 pub mod Found
 pub mod Bounded
+pub mod Starts
 pub mod Kept

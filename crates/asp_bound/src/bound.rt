@@ -4,7 +4,7 @@
 //! those without a value the negative ones. A value only raises it, by what stands in the variable's row. Where the
 //! optimistic cost isn't smaller than the bound, the true literals that raised it make a nogood; where it wouldn't be with
 //! one more literal, they make one together with that literal. At each priority the variables stand in the order of what
-//! they can add, so only those that may reach the bound are looked at.
+//! they can add, so only those that may reach the bound are looked at, from a start on: those before it have values.
 ghost use Rattle.std.specs.Prelude.{◌≡◌, ◌<◌, ◌≤◌, ◌^◌, ◌+◌, IfOk, IfSome, Some, None, true, length, is_none};
 ghost use Rattle.asp_trail.specs.Entries.{assignment};
 ghost use Rattle.asp_trail.specs.Told.{told, untold};
@@ -20,6 +20,7 @@ use crate::levels::{all_levels, vars_of};
 use crate::place::{Item, Place};
 use crate::reach::reach;
 use crate::reasons::{below, raising};
+use crate::starts::take_back;
 use crate::sums::{lower, raise};
 use asp_model::cost::Cost;
 use asp_model::program::Program;
@@ -43,18 +44,20 @@ pub struct Bound {
     columns: Table<Item>,
     vars: Vec<Var>,
     sums: Vec<i64>,
+    starts: Vec<usize>,
     bound: Option<Cost>,
 }
 
 impl Model for Bound {
     ghost use Rattle.asp_bound.specs.Bounded.{Bounded};
     ghost use Rattle.asp_bound.specs.Kept.{IsKept};
+    ghost use Rattle.asp_bound.specs.Starts.{AreStarts};
 
     ghost Value = { Bounded };
 
     ghost view = { λ b. record { told = record { program = b.origin.value; values = b.values }; bound = b.bound } };
 
-    ghost invariant = { λ b. IsKept b.origin.value b.values b.rows b.columns b.vars.items b.sums.items };
+    ghost invariant = { λ b. IsKept b.origin.value b.values b.rows b.columns b.vars.items b.sums.items × AreStarts b.values b.columns b.starts.items };
 }
 
 impl Bound {
@@ -66,6 +69,7 @@ impl Bound {
         let levels = all_levels(alloc, compiled)?;
         let rows = levels.rows.into_table(alloc)?;
         let vars = vars_of(alloc, &rows)?;
+        let starts = vec![in alloc; 0; levels.columns.len()]?;
         Ok(Bound {
             origin: Origin::of(compiled.program()),
             alloc,
@@ -74,6 +78,7 @@ impl Bound {
             columns: levels.columns,
             vars,
             sums: levels.sums,
+            starts,
             bound: None,
         })
     }
@@ -97,6 +102,7 @@ impl Bound {
     {
         let row = self.rows.row(lit.var() as usize);
         lower(self.sums.as_mut_slice(), row, lit.truth());
+        take_back(self.starts.as_mut_slice(), row);
         self.values.unset(lit.var());
     }
 
@@ -133,7 +139,14 @@ impl Bound {
             let nogood = below(lits, cost, None)?;
             return Ok(Some(nogood));
         }
-        let Some(implied) = find(&self.values, &self.rows, &self.columns, sums, limits) else {
+        let Some(implied) = find(
+            &self.values,
+            &self.rows,
+            &self.columns,
+            sums,
+            limits,
+            self.starts.as_mut_slice(),
+        ) else {
             return Ok(None);
         };
         let lits = raising(

@@ -5,9 +5,12 @@ ghost use Rattle.asp_bound.specs.declared.place.Item.{Item};
 ghost use Rattle.asp_bound.specs.Rises.{raised, row_at};
 ghost use Rattle.asp_bound.specs.Found.{IsNear, Passes, Reaches};
 ghost use Rattle.asp_bound.specs.Reach.{depth};
+ghost use Rattle.asp_bound.specs.Starts.{ArePassed, AreStarts};
 
+use crate::near::is_near;
 use crate::place::{Item, Place};
 use crate::reach::{depth, reach};
+use crate::starts::first_open;
 use asp_table::table::Table;
 use asp_vars::assign::Assign;
 use asp_vars::lit::{Lit, Var};
@@ -52,22 +55,14 @@ fn find_by(
     None
 }
 
-// Whether a variable that adds so much at a priority may reach the bound there.
-fn is_near(sum: i64, limit: i64, most: u64) -> bool
-    requires sum { sum <ℤ pos (2 ^ 60) }
-    requires most { most < 2 ^ 60 }
-    ensures { IsNear sum limit most → IsTrue result }
-{
-    most > 0 && limit <= sum + most as i64
-}
-
-// Looks at the items of a priority that may reach the bound, those that add most first.
+// Looks at the items of a priority that may reach the bound, those that add most first. Those before the start have values.
 fn find_at(
     values: &Assign,
     rows: &Table<Place>,
     sums: &[i64],
     bound: &[i64],
     column: &[Item],
+    start: usize,
     level: usize,
 ) -> Option<Implied>
     requires few { length values.now ≤ 2 ^ 31 }
@@ -79,13 +74,16 @@ fn find_at(
     requires within { All (λ i. (0 < i.var) × (i.var < length values.now)) column.now }
     requires most { All (λ i. i.most < 2 ^ 57) column.now }
     requires falling { AllPairs (λ i k. k.most ≤ i.most) column.now }
+    requires start { start ≤ length column.now }
+    requires passed { ArePassed values.now column.now start }
     ensures within { IfSome result (λ i. (0 < i.lit.var) × (i.lit.var < length values.now)) }
     ensures reaches { IfSome result (Reaches values.now rows.now sums.now bound.now) }
     ensures pass { IfNone result ((i : ℕ) (d : Item) → i < length column.now →
         IsNear (slice_index_or sums.now level (pos 0)) (slice_index_or bound.now level (pos 0)) (slice_index_or column.now i d).most →
         Passes values.now rows.now sums.now bound.now (slice_index_or column.now i d).var) }
 {
-    for item in column {
+    for index in start..column.len() {
+        let item = column[index];
         if !is_near(sums[level], bound[level], item.most) {
             return None;
         }
@@ -96,13 +94,14 @@ fn find_at(
     None
 }
 
-/// A literal that reaches the bound. Asks that the sums themselves don't.
+/// A literal that reaches the bound. Asks that the sums themselves don't. The starts pass over what has a value.
 pub fn find(
     values: &Assign,
     rows: &Table<Place>,
     columns: &Table<Item>,
     sums: &[i64],
     bound: &[i64],
+    starts: &mut [usize],
 ) -> Option<Implied>
     requires few { length values.now ≤ 2 ^ 31 }
     requires rows { length rows.now ≡ length values.now }
@@ -112,6 +111,8 @@ pub fn find(
     requires within { (j : ℕ) → j < length columns.now → All (λ i. (0 < i.var) × (i.var < length values.now)) (slice_index_or columns.now j []) }
     requires most { (j : ℕ) → j < length columns.now → All (λ i. i.most < 2 ^ 57) (slice_index_or columns.now j []) }
     requires falling { (j : ℕ) → j < length columns.now → AllPairs (λ i k. k.most ≤ i.most) (slice_index_or columns.now j []) }
+    requires starts { AreStarts values.now columns.now starts.old }
+    ensures starts { AreStarts values.now columns.now starts.new }
     ensures within { IfSome result (λ i. (0 < i.lit.var) × (i.lit.var < length values.now)) }
     ensures reaches { IfSome result (Reaches values.now rows.now sums.now bound.now) }
     ensures pass { IfNone result ((j i : ℕ) (d : Item) → j < depth sums.now bound.now → i < length (slice_index_or columns.now j []) →
@@ -119,7 +120,10 @@ pub fn find(
         Passes values.now rows.now sums.now bound.now (slice_index_or (slice_index_or columns.now j []) i d).var) }
 {
     for level in 0..depth(sums, bound) {
-        if let Some(implied) = find_at(values, rows, sums, bound, columns.row(level), level) {
+        let column = columns.row(level);
+        let start = first_open(values, column, starts[level], sums[level], bound[level]);
+        starts[level] = start;
+        if let Some(implied) = find_at(values, rows, sums, bound, column, start, level) {
             return Some(implied);
         }
     }

@@ -3,5 +3,5 @@ use Rattle.asp_bound.specs.declared.place.Item.{Item}
 use Rattle.asp_bound.specs.Found.{Passes}
 use Rattle.asp_bound.proofs.find.find_at.Given as goal
 
-abbrev pub invariant-loop-item : goal.invariant-loop-item
-invariant-loop-item l = (i : ℕ) (d : Item) → i < l.item-index → Passes l.values l.rows l.sums l.bound (get_or l.column i d).var
+abbrev pub invariant-loop-index : goal.invariant-loop-index
+invariant-loop-index l = (i : ℕ) (d : Item) → i < l.index → Passes l.values l.rows l.sums l.bound (get_or l.column i d).var

@@ -3,6 +3,7 @@ use Rattle.std.proofs.lemmas.Int.{ints}
 use Rattle.std.proofs.lemmas.List.{take_at}
 use Rattle.asp_bound.specs.Rises.{raised, row_at}
 use Rattle.asp_bound.proofs.KeptLaws.{raised-small, raise-room, raised_as, kept-told, kept_as}
+use Rattle.asp_bound.proofs.StartLaws.{starts-told}
 use Rattle.asp_bound.proofs.bound.Bound.assign.Goals as goal
 
 pub raise-requires-clause-small : goal.raise-requires-clause-small
@@ -10,14 +11,14 @@ raise-requires-clause-small c = λ j lt.
     let v = rw (← c.self.view_is) at c.requires.var in
     let at = raised_as c.self.inside.rows c.args.lit.var c.args.lit.truth c.row-row.result.now c.var.result c.truth.result c.row-row.ensures c.var.ensures c.truth.ensures j in
     let within : j < length c.self.inside.sums.items = omega (arith, lt, ap length c.as_mut_slice.ensures.value) in
-    omega (arith, at, raised-small c.self.inside.origin.value c.self.inside.values c.self.inside.rows c.self.inside.columns c.self.inside.vars.items c.self.inside.sums.items c.self.invariant c.args.lit.var j c.args.lit.truth v.0 v.1 within)
+    omega (arith, at, raised-small c.self.inside.origin.value c.self.inside.values c.self.inside.rows c.self.inside.columns c.self.inside.vars.items c.self.inside.sums.items c.self.invariant.0 c.args.lit.var j c.args.lit.truth v.0 v.1 within)
 
 pub raise-requires-clause-room : goal.raise-requires-clause-room
 raise-requires-clause-room c = λ j lt.
     let v = rw (← c.self.view_is) at c.requires.var in
     let at = raised_as c.self.inside.rows c.args.lit.var c.args.lit.truth c.row-row.result.now c.var.result c.truth.result c.row-row.ensures c.var.ensures c.truth.ensures j in
     let within : j < length c.self.inside.sums.items = omega (arith, lt, ap length c.as_mut_slice.ensures.value) in
-    omega (arith, ints, at, ap (λ (s : List ℤ). get_or s j (pos 0)) c.as_mut_slice.ensures.value, raise-room c.self.inside.origin.value c.self.inside.values c.self.inside.rows c.self.inside.columns c.self.inside.vars.items c.self.inside.sums.items c.self.invariant c.args.lit.var c.args.lit.truth v.0 v.1 j within)
+    omega (arith, ints, at, ap (λ (s : List ℤ). get_or s j (pos 0)) c.as_mut_slice.ensures.value, raise-room c.self.inside.origin.value c.self.inside.values c.self.inside.rows c.self.inside.columns c.self.inside.vars.items c.self.inside.sums.items c.self.invariant.0 c.args.lit.var c.args.lit.truth v.0 v.1 j within)
 
 pub invariant_of-self : goal.invariant_of-self
 invariant_of-self c =
@@ -31,5 +32,7 @@ invariant_of-self c =
     let step : get_or new j (pos 0) ≡ get_or c.self.inside.sums.items j (pos 0) +ℤ pos (raised (row_at c.self.inside.rows c.args.lit.var) j c.args.lit.truth) =
     omega (arith, ints, c.raise.ensures j lt, at, ap (λ (s : List ℤ). get_or s j (pos 0)) c.as_mut_slice.ensures.value) in
     step in
-    let kept = kept-told c.self.inside.origin.value c.self.inside.values c.self.inside.rows c.self.inside.columns c.self.inside.vars.items c.self.inside.sums.items new c.self.invariant c.args.lit.var c.args.lit.truth v.0 v.1 held long each in
-    kept_as c.self.inside.origin.value _ c.set.new.self c.self.inside.rows c.self.inside.columns c.self.inside.vars.items new _ c.set.ensures (take_at new (drop (length new) c.self.inside.sums.items) c.self.inside.sums.len (c.raise.auto.sums ∙ c.as_mut_slice.ensures.len)) kept
+    let kept = kept-told c.self.inside.origin.value c.self.inside.values c.self.inside.rows c.self.inside.columns c.self.inside.vars.items c.self.inside.sums.items new c.self.invariant.0 c.args.lit.var c.args.lit.truth v.0 v.1 held long each in
+    let within : c.args.lit.var < length c.self.inside.values = omega (arith, c.self.invariant.0.sized, v.1) in
+    let starts = starts-told c.self.inside.values c.set.new.self c.self.inside.columns c.self.inside.starts.items c.args.lit.var c.args.lit.truth c.self.invariant.1 within c.set.ensures in
+    (kept_as c.self.inside.origin.value _ c.set.new.self c.self.inside.rows c.self.inside.columns c.self.inside.vars.items new _ c.set.ensures (take_at new (drop (length new) c.self.inside.sums.items) c.self.inside.sums.len (c.raise.auto.sums ∙ c.as_mut_slice.ensures.len)) kept, starts)

@@ -1,8 +1,11 @@
-use Rattle.std.proofs.Common.{◌≡◌, ◌∙◌, ◌<◌, ℕ, ◌+ℤ◌, List, ℤ, None, length, get_or, set, drop, pos, ap, arith}
+use Rattle.std.proofs.Common.{◌≡◌, ◌∙◌, ◌<◌, ◌≤◌, ℕ, ◌+ℤ◌, List, ℤ, None, length, get_or, set, drop, pos, ap, subst, arith}
+use Rattle.std.specs.List.{All}
 use Rattle.std.proofs.lemmas.Int.{ints}
 use Rattle.std.proofs.lemmas.List.{take_at}
+use Rattle.asp_bound.specs.declared.place.Place.{Place}
 use Rattle.asp_bound.specs.Rises.{raised, row_at}
 use Rattle.asp_bound.proofs.KeptLaws.{raised-small, lower-room, raised_as, kept-untold, kept_as, held-value}
+use Rattle.asp_bound.proofs.StartLaws.{starts-untold, starts_as}
 use Rattle.asp_bound.proofs.bound.Bound.undo.Goals as goal
 
 pub lower-requires-clause-small : goal.lower-requires-clause-small
@@ -10,14 +13,14 @@ lower-requires-clause-small c = λ j lt.
     let v = rw (← c.self.view_is) at c.requires.var in
     let at = raised_as c.self.inside.rows c.args.lit.var c.args.lit.truth c.row-row.result.now c.var.result c.truth.result c.row-row.ensures c.var.ensures c.truth.ensures j in
     let within : j < length c.self.inside.sums.items = omega (arith, lt, ap length c.as_mut_slice.ensures.value) in
-    omega (arith, at, raised-small c.self.inside.origin.value c.self.inside.values c.self.inside.rows c.self.inside.columns c.self.inside.vars.items c.self.inside.sums.items c.self.invariant c.args.lit.var j c.args.lit.truth v.0 v.1 within)
+    omega (arith, at, raised-small c.self.inside.origin.value c.self.inside.values c.self.inside.rows c.self.inside.columns c.self.inside.vars.items c.self.inside.sums.items c.self.invariant.0 c.args.lit.var j c.args.lit.truth v.0 v.1 within)
 
 pub lower-requires-clause-room : goal.lower-requires-clause-room
 lower-requires-clause-room c = λ j lt.
     let v = rw (← c.self.view_is) at c.requires.var in
     let at = raised_as c.self.inside.rows c.args.lit.var c.args.lit.truth c.row-row.result.now c.var.result c.truth.result c.row-row.ensures c.var.ensures c.truth.ensures j in
     let within : j < length c.self.inside.sums.items = omega (arith, lt, ap length c.as_mut_slice.ensures.value) in
-    omega (arith, ints, at, ap (λ (s : List ℤ). get_or s j (pos 0)) c.as_mut_slice.ensures.value, lower-room c.self.inside.origin.value c.self.inside.values c.self.inside.rows c.self.inside.columns c.self.inside.vars.items c.self.inside.sums.items c.self.invariant c.args.lit.var c.args.lit.truth v.0 v.1 j within)
+    omega (arith, ints, at, ap (λ (s : List ℤ). get_or s j (pos 0)) c.as_mut_slice.ensures.value, lower-room c.self.inside.origin.value c.self.inside.values c.self.inside.rows c.self.inside.columns c.self.inside.vars.items c.self.inside.sums.items c.self.invariant.0 c.args.lit.var c.args.lit.truth v.0 v.1 j within)
 
 pub invariant_of-self : goal.invariant_of-self
 invariant_of-self c =
@@ -31,5 +34,13 @@ invariant_of-self c =
     let step : get_or new j (pos 0) +ℤ pos (raised (row_at c.self.inside.rows c.args.lit.var) j c.args.lit.truth) ≡ get_or c.self.inside.sums.items j (pos 0) =
     omega (arith, ints, c.lower.ensures j lt, at, ap (λ (s : List ℤ). get_or s j (pos 0)) c.as_mut_slice.ensures.value) in
     step in
-    let kept = kept-untold c.self.inside.origin.value c.self.inside.values c.self.inside.rows c.self.inside.columns c.self.inside.vars.items c.self.inside.sums.items new c.self.invariant c.args.lit.var c.args.lit.truth v.0 v.1 held long each in
-    kept_as c.self.inside.origin.value _ c.unset.new.self c.self.inside.rows c.self.inside.columns c.self.inside.vars.items new _ (c.unset.ensures ∙ ap (λ (u : ℕ). set c.self.inside.values u None) c.var-2.ensures) (take_at new (drop (length new) c.self.inside.sums.items) c.self.inside.sums.len (c.lower.auto.sums ∙ c.as_mut_slice.ensures.len)) kept
+    let kept = kept-untold c.self.inside.origin.value c.self.inside.values c.self.inside.rows c.self.inside.columns c.self.inside.vars.items c.self.inside.sums.items new c.self.invariant.0 c.args.lit.var c.args.lit.truth v.0 v.1 held long each in
+    let values = c.unset.ensures ∙ ap (λ (u : ℕ). set c.self.inside.values u None) c.var-2.ensures in
+    let back = c.take_back.new.starts in
+    let many : length back ≡ length c.self.inside.starts.items = c.take_back.auto.starts ∙ ap length c.as_mut_slice-2.ensures.value in
+    let fewer = λ (j : ℕ).
+    let step : get_or back j 0 ≤ get_or c.self.inside.starts.items j 0 = omega (arith, c.take_back.ensures.lower j, ap (λ (s : List ℕ). get_or s j 0) c.as_mut_slice-2.ensures.value) in
+    step in
+    let taken = subst (λ (r : List Place). All (λ (o : Place). get_or back o.level 0 ≤ 0) r) (c.row-row.ensures ∙ ap (row_at c.self.inside.rows) c.var.ensures) c.take_back.ensures.taken in
+    let starts = starts-untold c.self.inside.values c.self.inside.rows c.self.inside.columns c.self.inside.starts.items back c.args.lit.var c.self.invariant.1 c.self.invariant.0.linked many fewer taken in
+    (kept_as c.self.inside.origin.value _ c.unset.new.self c.self.inside.rows c.self.inside.columns c.self.inside.vars.items new _ values (take_at new (drop (length new) c.self.inside.sums.items) c.self.inside.sums.len (c.lower.auto.sums ∙ c.as_mut_slice.ensures.len)) kept, starts_as (set c.self.inside.values c.args.lit.var None) c.unset.new.self c.self.inside.columns back _ values (take_at back (drop (length back) c.self.inside.starts.items) c.self.inside.starts.len (c.take_back.auto.starts ∙ c.as_mut_slice-2.ensures.len)) starts)
