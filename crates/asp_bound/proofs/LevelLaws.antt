@@ -1,14 +1,14 @@
 -- The tables, priority by priority.
-use Rattle.std.proofs.Common.{◌≡◌, ◌≢◌, ℕ, zero, suc, ◌+◌, ◌*◌, ◌/◌, ◌%◌, ◌^◌, ◌<◌, ◌≤◌, ◌⊎◌, Bool, true, false, cond, eqb, ltb, List, [], ◌∷◌, ◌++◌, map, length, get_or, set, take, Option, None, ℤ, pos, negsuc, neg_ℤ, refl, sym, ap, ◌∙◌, subst, inl, inr, arith, get_or-set_other, get_or-set_same, add-one}
+use Rattle.std.proofs.Common.{◌≡◌, ◌≢◌, ℕ, zero, suc, ◌+◌, ◌*◌, ◌/◌, ◌%◌, ◌^◌, ◌<◌, ◌≤◌, ◌⊎◌, Bool, true, false, cond, eqb, ltb, List, [], ◌∷◌, ◌++◌, map, length, get_or, take, sum_by, Option, None, ℤ, pos, negsuc, neg_ℤ, refl, sym, ap, ◌∙◌, subst, inl, inr, arith, add-one}
 use Rattle.std.specs.List.{All, AllPairs, Contains}
 use Rattle.std.specs.List.Sorted.{IsPermutation}
 use Rattle.std.specs.Int.RustNames.{unsigned_abs}
 use Rattle.std.proofs.lemmas.Int.{ints}
-use Rattle.std.proofs.lemmas.Bool.{cases_eq, cases_lt, eq-eqb, ne_eqb, false≢true, ltb-true, ltb-false, lt-ltb}
-use Rattle.std.proofs.lemmas.List.{length-set, get_or-replicate, length_push, get_or_push, get_or_append_left, map_push, take_more, length-take-le}
+use Rattle.std.proofs.lemmas.Bool.{cases_eq, cases_lt, eq-eqb, ne_eqb, false≢true, ltb-false, lt-ltb}
+use Rattle.std.proofs.lemmas.List.{length-append, length-map, get_or-map, get_or-replicate, length_push, get_or_push, get_or_append_left, map_push, take_more, length-take-le}
 use Rattle.std.proofs.lemmas.List.Sums.{sum_by-append, sum_by-cons}
-use Rattle.std.proofs.lemmas.List.Elements.{All-append, All-head, All-tail, All-weaker, Contains-append_left, Contains-append_right}
-use Rattle.std.proofs.lemmas.List.Sorted.{All-permutation, Contains-permutation}
+use Rattle.std.proofs.lemmas.List.Elements.{All-append, All-head, All-tail, All-weaker, All-map, Contains-append_left, Contains-append_right}
+use Rattle.std.proofs.lemmas.List.Sorted.{All-permutation, Contains-permutation, sum_by-IsPermutation, length_permutation}
 use Rattle.asp_model.specs.declared.program.Program.{Program}
 use Rattle.asp_model.specs.Models.{atoms_of}
 use Rattle.asp_vars.specs.Literals.{T, F}
@@ -16,10 +16,11 @@ use Rattle.asp_vars.specs.Codes.{literal_of as literal_by}
 use Rattle.asp_vars.specs.Numbering.{var_count}
 use Rattle.asp_bound.specs.declared.place.Place.{Place}
 use Rattle.asp_bound.specs.declared.place.Item.{Item}
+use Rattle.asp_bound.specs.declared.place.Addition.{Addition}
 use Rattle.asp_bound.specs.Optimism.{items_at, weight_in, weight_at, negative, least, least_at, sum_to, optimistic_at}
 use Rattle.asp_bound.specs.Rises.{beneath, rise, rise_at, rise_by, raised, row_at, IsColumn}
 use Rattle.asp_bound.specs.Weights.{size_of, AreWeights}
-use Rattle.asp_bound.specs.Levels.{place_of, most_of, places_of, items_of, weight_true, weight_false, rows_to, column_to, least_to}
+use Rattle.asp_bound.specs.Levels.{most_of, addition_of, additions_of, additions_to, weight_true, weight_false, added_by, added_at, item_of, place_of, ArePlaced, least_to}
 use Rattle.asp_bound.specs.Starts.{IsLinked, AreLinked}
 use Rattle.asp_bound.specs.Gathered.{valueless, IsGathered, AreGathered}
 use Rattle.asp_bound.proofs.CostLaws.{optimistic_at-low, weight_in-small, rise_at-small}
@@ -44,136 +45,107 @@ weight_true-is p q weights v are k = are.each (2 * v) (omega arith) ∙ ap (weig
 pub weight_false-is : (p : Program) (q : ℤ) (weights : List ℤ) (v : ℕ) → AreWeights p (items_at p.minimize q) weights → v ≤ var_count p → weight_false weights v ≡ weight_at p q (F v)
 weight_false-is p q weights v are k = are.each (2 * v + 1) (omega arith) ∙ ap (weight_in (atoms_of p) (items_at p.minimize q)) (code_false v)
 
--- ---- a variable's place
-raised-append : (xs ys : List Place) (j : ℕ) (b : Bool) → raised (xs ++ ys) j b ≡ raised xs j b + raised ys j b
-raised-append xs ys j b = sum_by-append (λ (o : Place). cond (eqb o.level j) (rise_by b o) 0) xs ys
-
+-- ---- what a variable adds
 rise-most : (b : Bool) (t f : ℤ) → rise b t f ≤ most_of t f
 rise-most true t f = omega arith
 rise-most false t f = omega arith
 
-rise_by-place : (j : ℕ) (b : Bool) (t f : ℤ) → rise_by b (place_of j t f) ≡ rise b t f
-rise_by-place j true t f = refl
-rise_by-place j false t f = refl
+added_by-rise : (v : ℕ) (b : Bool) (t f : ℤ) → added_by b (addition_of v t f) ≡ rise b t f
+added_by-rise v true t f = refl
+added_by-rise v false t f = refl
 
-raised-one : (o : Place) (j : ℕ) (b : Bool) → raised (o ∷ []) j b ≡ cond (eqb o.level j) (rise_by b o) 0
-raised-one o j b = omega (arith, sum_by-cons (λ (x : Place). cond (eqb x.level j) (rise_by b x) 0) o [])
+cond-zero : (c : Bool) (n : ℕ) → n ≡ 0 → cond c n 0 ≡ 0
+cond-zero true n e = e
+cond-zero false n e = refl
 
-pub raised-places : (j : ℕ) (b : Bool) (t f : ℤ) → raised (places_of j t f) j b ≡ rise b t f
-raised-places j b t f = places_by (ltb 0 (most_of t f)) refl
+additions-sum : (u v : ℕ) (b : Bool) (t f : ℤ) → sum_by (added_at v b) (additions_of u t f) ≡ cond (eqb u v) (rise b t f) 0
+additions-sum u v b t f = additions_by (ltb 0 (most_of t f)) refl
   where
-    places_by : (c : Bool) → ltb 0 (most_of t f) ≡ c → raised (cond c (place_of j t f ∷ []) []) j b ≡ rise b t f
-    places_by true e = raised-one (place_of j t f) j b ∙ (ap (λ (c : Bool). cond c (rise_by b (place_of j t f)) 0) (eq-eqb j j refl) ∙ rise_by-place j b t f)
-    places_by false e = omega (arith, rise-most b t f, ltb-false 0 (most_of t f) e)
+    additions_by : (c : Bool) → ltb 0 (most_of t f) ≡ c → sum_by (added_at v b) (cond c (addition_of u t f ∷ []) []) ≡ cond (eqb u v) (rise b t f) 0
+    additions_by true e = omega (arith, sum_by-cons (added_at v b) (addition_of u t f) [], ap (λ (n : ℕ). cond (eqb u v) n 0) (added_by-rise u b t f))
+    additions_by false e = sym (cond-zero (eqb u v) (rise b t f) (omega (arith, rise-most b t f, ltb-false 0 (most_of t f) e)))
 
-raised-elsewhere : (i j : ℕ) (b : Bool) (t f : ℤ) → j ≢ i → raised (places_of i t f) j b ≡ 0
-raised-elsewhere i j b t f ne = places_by (ltb 0 (most_of t f))
+additions-all : (P : Addition → Type 0) (v : ℕ) (t f : ℤ) → P (addition_of v t f) → All P (additions_of v t f)
+additions-all P v t f h = additions_by (ltb 0 (most_of t f))
   where
-    places_by : (c : Bool) → raised (cond c (place_of i t f ∷ []) []) j b ≡ 0
-    places_by true = raised-one (place_of i t f) j b ∙ ap (λ (c : Bool). cond c (rise_by b (place_of i t f)) 0) (ne_eqb i j (λ (e : i ≡ j). ne (sym e)))
-    places_by false = refl
+    additions_by : (c : Bool) → All P (cond c (addition_of v t f ∷ []) [])
+    additions_by true zero d lt = h
+    additions_by true (suc k) d lt = absurd (omega arith)
+    additions_by false k d lt = absurd (omega arith)
 
-places-within : (i n : ℕ) (t f : ℤ) → i < n → All (λ (o : Place). o.level < n) (places_of i t f)
-places-within i n t f lt = places_by (ltb 0 (most_of t f))
+additions-contain : (v : ℕ) (t f : ℤ) → 0 < most_of t f → Contains {X = Addition} (additions_of v t f) (addition_of v t f)
+additions-contain v t f up = additions_by (ltb 0 (most_of t f)) (lt-ltb 0 (most_of t f) up)
   where
-    places_by : (c : Bool) → All (λ (o : Place). o.level < n) (cond c (place_of i t f ∷ []) [])
-    places_by true zero d h = lt
-    places_by true (suc k) d h = absurd (omega arith)
-    places_by false k d h = absurd (omega arith)
+    additions_by : (c : Bool) → c ≡ true → Contains {X = Addition} (cond c (addition_of v t f ∷ []) []) (addition_of v t f)
+    additions_by true e = (0, omega arith, refl)
+    additions_by false e = absurd (false≢true e)
 
-places-contain : (j : ℕ) (t f : ℤ) → 0 < most_of t f → Contains {X = Place} (places_of j t f) (place_of j t f)
-places-contain j t f up = places_by (ltb 0 (most_of t f)) (lt-ltb 0 (most_of t f) up)
+additions-few : (v : ℕ) (t f : ℤ) → length (additions_of v t f) ≤ 1
+additions-few v t f = additions_by (ltb 0 (most_of t f))
   where
-    places_by : (c : Bool) → c ≡ true → Contains {X = Place} (cond c (place_of j t f ∷ []) []) (place_of j t f)
-    places_by true e = (0, omega arith, refl)
-    places_by false e = absurd (false≢true e)
+    additions_by : (c : Bool) → length (cond c (addition_of v t f ∷ []) []) ≤ 1
+    additions_by true = omega arith
+    additions_by false = omega arith
 
--- ---- the rows
-pub rows_to-length : (weights : List ℤ) (j : ℕ) (rows : List (List Place)) (n : ℕ) → length (rows_to weights j rows n) ≡ length rows
-rows_to-length weights j rows zero = refl
-rows_to-length weights j rows (suc n) = length-set (rows_to weights j rows n) (suc n) (row_at (rows_to weights j rows n) (suc n) ++ places_of j (weight_true weights (suc n)) (weight_false weights (suc n))) ∙ rows_to-length weights j rows n
+-- ---- what the variables add
+abbrev addition_at : List ℤ → ℕ → Addition
+addition_at weights v = addition_of v (weight_true weights v) (weight_false weights v)
 
-rows_to-past : (weights : List ℤ) (j : ℕ) (rows : List (List Place)) (n v : ℕ) → (v ≡ 0) ⊎ (n < v) → row_at (rows_to weights j rows n) v ≡ row_at rows v
-rows_to-past weights j rows zero v out = refl
-rows_to-past weights j rows (suc n) v out =
-    get_or-set_other (rows_to weights j rows n) (suc n) v (row_at (rows_to weights j rows n) (suc n) ++ places_of j (weight_true weights (suc n)) (weight_false weights (suc n))) [] (apart out)
-    ∙ rows_to-past weights j rows n v (before out)
-  where
-    apart : (v ≡ 0) ⊎ (suc n < v) → v ≢ suc n
-    apart (inl e) = λ (q : v ≡ suc n). omega arith
-    apart (inr lt) = λ (q : v ≡ suc n). omega arith
-
-    before : (v ≡ 0) ⊎ (suc n < v) → (v ≡ 0) ⊎ (n < v)
-    before (inl e) = inl e
-    before (inr lt) = inr (omega arith)
-
-rows_to-at : (weights : List ℤ) (j : ℕ) (rows : List (List Place)) (n v : ℕ) → n < length rows → 0 < v → v ≤ n → row_at (rows_to weights j rows n) v ≡ row_at rows v ++ places_of j (weight_true weights v) (weight_false weights v)
-rows_to-at weights j rows zero v lt i k = absurd (omega arith)
-rows_to-at weights j rows (suc n) v lt i k = elim (cases_eq v (suc n)) [
-  | inl e ↦ (
-      let new : List Place = row_at (rows_to weights j rows n) (suc n) ++ places_of j (weight_true weights (suc n)) (weight_false weights (suc n)) in
-      let within : suc n < length (rows_to weights j rows n) = omega (arith, rows_to-length weights j rows n) in
-      let here : row_at (rows_to weights j rows (suc n)) (suc n) ≡ new = get_or-set_same (rows_to weights j rows n) (suc n) new [] within in
-      let old : row_at (rows_to weights j rows n) (suc n) ≡ row_at rows (suc n) = rows_to-past weights j rows n (suc n) (inr (omega arith)) in
-      let P : ℕ → Type 0 = λ (u : ℕ). row_at (rows_to weights j rows (suc n)) u ≡ row_at rows u ++ places_of j (weight_true weights u) (weight_false weights u) in
-      subst P (sym e) (here ∙ ap (λ (xs : List Place). xs ++ places_of j (weight_true weights (suc n)) (weight_false weights (suc n))) old))
-  | inr ne ↦ (
-      let shorter : n < length rows = omega arith in
-      let within : v ≤ n = omega arith in
-      get_or-set_other (rows_to weights j rows n) (suc n) v (row_at (rows_to weights j rows n) (suc n) ++ places_of j (weight_true weights (suc n)) (weight_false weights (suc n))) [] ne
-      ∙ rows_to-at weights j rows n v shorter i within)
-]
-
-pub rows_to-step : (weights : List ℤ) (j : ℕ) (rows old new : List (List Place)) (i : ℕ) (t f : ℤ) → old ≡ rows_to weights j rows i → new ≡ set old (i + 1) (row_at old (i + 1) ++ places_of j t f) →
-    t ≡ weight_true weights (i + 1) → f ≡ weight_false weights (i + 1) → new ≡ rows_to weights j rows (i + 1)
-rows_to-step weights j rows old new i t f before made et ef =
-    let R = rows_to weights j rows i in
-    let P : ℕ → Type 0 = λ (k : ℕ). rows_to weights j rows k ≡ set R k (row_at R k ++ places_of j (weight_true weights k) (weight_false weights k)) in
+pub additions_to-step : (weights : List ℤ) (old new : List Addition) (i : ℕ) (t f : ℤ) → old ≡ additions_to weights i → new ≡ old ++ additions_of (i + 1) t f → t ≡ weight_true weights (i + 1) → f ≡ weight_false weights (i + 1) → new ≡ additions_to weights (i + 1)
+additions_to-step weights old new i t f before made et ef =
+    let A = additions_to weights i in
+    let P : ℕ → Type 0 = λ (k : ℕ). additions_to weights k ≡ A ++ additions_of k (weight_true weights k) (weight_false weights k) in
     let more : P (i + 1) = subst P (sym (add-one i)) refl in
-    made ∙ (ap (λ (o : List (List Place)). set o (i + 1) (row_at o (i + 1) ++ places_of j t f)) before
-    ∙ (ap (λ (x : ℤ). set R (i + 1) (row_at R (i + 1) ++ places_of j x f)) et ∙ (ap (λ (x : ℤ). set R (i + 1) (row_at R (i + 1) ++ places_of j (weight_true weights (i + 1)) x)) ef ∙ sym more)))
+    made ∙ (ap (λ (o : List Addition). o ++ additions_of (i + 1) t f) before ∙ (ap (λ (x : ℤ). A ++ additions_of (i + 1) x f) et ∙ (ap (λ (x : ℤ). A ++ additions_of (i + 1) (weight_true weights (i + 1)) x) ef ∙ sym more)))
 
-pub column_to-step : (weights : List ℤ) (old new : List Item) (i : ℕ) (t f : ℤ) → old ≡ column_to weights i → new ≡ old ++ items_of (i + 1) t f → t ≡ weight_true weights (i + 1) → f ≡ weight_false weights (i + 1) → new ≡ column_to weights (i + 1)
-column_to-step weights old new i t f before made et ef =
-    let C = column_to weights i in
-    let P : ℕ → Type 0 = λ (k : ℕ). column_to weights k ≡ C ++ items_of k (weight_true weights k) (weight_false weights k) in
-    let more : P (i + 1) = subst P (sym (add-one i)) refl in
-    made ∙ (ap (λ (o : List Item). o ++ items_of (i + 1) t f) before ∙ (ap (λ (x : ℤ). C ++ items_of (i + 1) x f) et ∙ (ap (λ (x : ℤ). C ++ items_of (i + 1) (weight_true weights (i + 1)) x) ef ∙ sym more)))
+pub additions_to-few : (weights : List ℤ) (n : ℕ) → length (additions_to weights n) ≤ n
+additions_to-few weights zero = omega arith
+additions_to-few weights (suc n) =
+    omega (arith, length-append (additions_to weights n) (additions_of (suc n) (weight_true weights (suc n)) (weight_false weights (suc n))), additions_to-few weights n, additions-few (suc n) (weight_true weights (suc n)) (weight_false weights (suc n)))
 
--- ---- the items
-items-all : (P : Item → Type 0) (v : ℕ) (t f : ℤ) → (0 < most_of t f → P (record { var = v; most = most_of t f })) → All P (items_of v t f)
-items-all P v t f h = items_by (ltb 0 (most_of t f)) refl
-  where
-    items_by : (c : Bool) → ltb 0 (most_of t f) ≡ c → All P (cond c (record { var = v; most = most_of t f } ∷ []) [])
-    items_by true e zero d lt = h (ltb-true 0 (most_of t f) e)
-    items_by true e (suc k) d lt = absurd (omega arith)
-    items_by false e k d lt = absurd (omega arith)
+pub additions_to-all : (P : Addition → Type 0) (weights : List ℤ) (n : ℕ) → ((v : ℕ) → 0 < v → v ≤ n → P (addition_at weights v)) → All P (additions_to weights n)
+additions_to-all P weights zero h = λ k d lt. absurd (omega arith)
+additions_to-all P weights (suc n) h =
+    All-append P (additions_to weights n) (additions_of (suc n) (weight_true weights (suc n)) (weight_false weights (suc n)))
+    (additions_to-all P weights n (λ v i k. h v i (omega arith))) (additions-all P (suc n) (weight_true weights (suc n)) (weight_false weights (suc n)) (h (suc n) (omega arith) (omega arith)))
 
-column_to-all : (P : Item → Type 0) (weights : List ℤ) (n : ℕ) → ((v : ℕ) → 0 < v → v ≤ n → 0 < most_of (weight_true weights v) (weight_false weights v) → P (record { var = v; most = most_of (weight_true weights v) (weight_false weights v) })) → All P (column_to weights n)
-column_to-all P weights zero h = λ k d lt. absurd (omega arith)
-column_to-all P weights (suc n) h =
-    All-append P (column_to weights n) (items_of (suc n) (weight_true weights (suc n)) (weight_false weights (suc n)))
-    (column_to-all P weights n (λ v i k. h v i (omega arith))) (items-all P (suc n) (weight_true weights (suc n)) (weight_false weights (suc n)) (h (suc n) (omega arith) (omega arith)))
-
-items-contain : (v : ℕ) (t f : ℤ) → 0 < most_of t f → Contains {X = Item} (items_of v t f) (record { var = v; most = most_of t f })
-items-contain v t f up = items_by (ltb 0 (most_of t f)) (lt-ltb 0 (most_of t f) up)
-  where
-    items_by : (c : Bool) → c ≡ true → Contains {X = Item} (cond c (record { var = v; most = most_of t f } ∷ []) []) (record { var = v; most = most_of t f })
-    items_by true e = (0, omega arith, refl)
-    items_by false e = absurd (false≢true e)
-
-column_to-contains : (weights : List ℤ) (n v : ℕ) → 0 < v → v ≤ n → 0 < most_of (weight_true weights v) (weight_false weights v) → Contains {X = Item} (column_to weights n) (record { var = v; most = most_of (weight_true weights v) (weight_false weights v) })
-column_to-contains weights zero v i k up = absurd (omega arith)
-column_to-contains weights (suc n) v i k up = elim (cases_eq v (suc n)) [
+additions_to-contains : (weights : List ℤ) (n v : ℕ) → 0 < v → v ≤ n → 0 < most_of (weight_true weights v) (weight_false weights v) → Contains {X = Addition} (additions_to weights n) (addition_at weights v)
+additions_to-contains weights zero v i k up = absurd (omega arith)
+additions_to-contains weights (suc n) v i k up = elim (cases_eq v (suc n)) [
   | inl e ↦ (
-      let last = items_of (suc n) (weight_true weights (suc n)) (weight_false weights (suc n)) in
-      let P : ℕ → Type 0 = λ (u : ℕ). 0 < most_of (weight_true weights u) (weight_false weights u) → Contains {X = Item} (column_to weights (suc n)) (record { var = u; most = most_of (weight_true weights u) (weight_false weights u) }) in
+      let last = additions_of (suc n) (weight_true weights (suc n)) (weight_false weights (suc n)) in
+      let P : ℕ → Type 0 = λ (u : ℕ). 0 < most_of (weight_true weights u) (weight_false weights u) → Contains {X = Addition} (additions_to weights (suc n)) (addition_at weights u) in
       subst P (sym e) (λ (h : 0 < most_of (weight_true weights (suc n)) (weight_false weights (suc n))).
-      Contains-append_right (column_to weights n) last (record { var = suc n; most = most_of (weight_true weights (suc n)) (weight_false weights (suc n)) }) (items-contain (suc n) (weight_true weights (suc n)) (weight_false weights (suc n)) h)) up)
+      Contains-append_right (additions_to weights n) last (addition_at weights (suc n)) (additions-contain (suc n) (weight_true weights (suc n)) (weight_false weights (suc n)) h)) up)
   | inr ne ↦ (
       let within : v ≤ n = omega arith in
-      Contains-append_left (column_to weights n) (items_of (suc n) (weight_true weights (suc n)) (weight_false weights (suc n))) (record { var = v; most = most_of (weight_true weights v) (weight_false weights v) }) (column_to-contains weights n v i within up))
+      Contains-append_left (additions_to weights n) (additions_of (suc n) (weight_true weights (suc n)) (weight_false weights (suc n))) (addition_at weights v) (additions_to-contains weights n v i within up))
 ]
+
+-- what a variable adds among those up to n, past it and within
+additions_to-past : (weights : List ℤ) (n v : ℕ) (b : Bool) → n < v → sum_by (added_at v b) (additions_to weights n) ≡ 0
+additions_to-past weights zero v b lt = refl
+additions_to-past weights (suc n) v b lt =
+    let t = weight_true weights (suc n) in
+    let f = weight_false weights (suc n) in
+    let off : cond (eqb (suc n) v) (rise b t f) 0 ≡ 0 = ap (λ (c : Bool). cond c (rise b t f) 0) (ne_eqb (suc n) v (λ (e : suc n ≡ v). omega arith)) in
+    omega (arith, sum_by-append (added_at v b) (additions_to weights n) (additions_of (suc n) t f), additions_to-past weights n v b (omega arith), additions-sum (suc n) v b t f, off)
+
+additions_to-sum : (weights : List ℤ) (n v : ℕ) (b : Bool) → 0 < v → v ≤ n → sum_by (added_at v b) (additions_to weights n) ≡ rise b (weight_true weights v) (weight_false weights v)
+additions_to-sum weights zero v b i k = absurd (omega arith)
+additions_to-sum weights (suc n) v b i k =
+    let t = weight_true weights (suc n) in
+    let f = weight_false weights (suc n) in
+    elim (cases_eq v (suc n)) [
+      | inl e ↦ (
+          let P : ℕ → Type 0 = λ (u : ℕ). sum_by (added_at u b) (additions_to weights (suc n)) ≡ rise b (weight_true weights u) (weight_false weights u) in
+          let on : cond (eqb (suc n) (suc n)) (rise b t f) 0 ≡ rise b t f = ap (λ (c : Bool). cond c (rise b t f) 0) (eq-eqb (suc n) (suc n) refl) in
+          subst P (sym e) (omega (arith, sum_by-append (added_at (suc n) b) (additions_to weights n) (additions_of (suc n) t f), additions_to-past weights n (suc n) b (omega arith), additions-sum (suc n) (suc n) b t f, on)))
+      | inr ne ↦ (
+          let within : v ≤ n = omega arith in
+          let off : cond (eqb (suc n) v) (rise b t f) 0 ≡ 0 = ap (λ (c : Bool). cond c (rise b t f) 0) (ne_eqb (suc n) v (λ (e : suc n ≡ v). ne (sym e))) in
+          omega (arith, sum_by-append (added_at v b) (additions_to weights n) (additions_of (suc n) t f), additions_to-sum weights n v b i within, additions-sum (suc n) v b t f, off))
+    ]
 
 -- ---- what is negative
 negative-beneath : (t : ℤ) → negative t ≡ neg_ℤ (pos (beneath t))
@@ -221,60 +193,81 @@ weights-small p q weights c are small lt =
     omega (arith, le, small)
 
 -- ---- a priority's tables
--- a variable's row, where it is one, and where it isn't
-level_row : (p : Program) (level : ℕ) (weights : List ℤ) (rows : List (List Place)) (v : ℕ) → length rows ≡ var_count p + 1 → (Q : List Place → Type 0) →
-    Q (row_at rows v) → Q (row_at rows v ++ places_of level (weight_true weights v) (weight_false weights v)) → Q (row_at (rows_to weights level rows (var_count p)) v)
-level_row p level weights rows v whole Q out inside = elim (cases_eq v 0) [
-  | inl e ↦ subst Q (sym (rows_to-past weights level rows (var_count p) v (inl e))) out
-  | inr ne ↦ elim (cases_lt (var_count p) v) [
-    | inl lt ↦ subst Q (sym (rows_to-past weights level rows (var_count p) v (inr lt))) out
-    | inr le ↦ subst Q (sym (rows_to-at weights level rows (var_count p) v (omega arith) (omega arith) le)) inside
-  ]
-]
+-- the same variables in another order
+pub additions-few_as : (weights : List ℤ) (additions : List Addition) (n : ℕ) → IsPermutation (additions_to weights n) additions → length additions ≤ n
+additions-few_as weights additions n permuted = omega (arith, length_permutation (additions_to weights n) additions permuted, additions_to-few weights n)
 
-pub gathered : (p : Program) (level : ℕ) (q : ℤ) (weights : List ℤ) (rows : List (List Place)) (items : List Item) → AreWeights p (items_at p.minimize q) weights → size_of (items_at p.minimize q) ≤ 2 ^ 55 →
-    length rows ≡ var_count p + 1 → IsPermutation (column_to weights (var_count p)) items → AllPairs (λ i k. k.most ≤ i.most) items →
-    IsGathered p level q rows (rows_to weights level rows (var_count p)) items (least_to weights (var_count p))
-gathered p level q weights rows items are small whole permuted falling =
+pub additions-vars : (weights : List ℤ) (additions : List Addition) (n : ℕ) → IsPermutation (additions_to weights n) additions → All (λ (a : Addition). (0 < a.var) × (a.var ≤ n)) additions
+additions-vars weights additions n permuted =
+    All-permutation (λ (a : Addition). (0 < a.var) × (a.var ≤ n)) (additions_to weights n) additions permuted (additions_to-all (λ (a : Addition). (0 < a.var) × (a.var ≤ n)) weights n (λ v i k. (i, k)))
+
+-- what the values of a variable add, by its weights
+rises-at : (p : Program) (q : ℤ) (weights : List ℤ) (v : ℕ) (b : Bool) → AreWeights p (items_at p.minimize q) weights → v ≤ var_count p → rise b (weight_true weights v) (weight_false weights v) ≡ rise_at p q v b
+rises-at p q weights v b are k =
+    ap (λ (t : ℤ). rise b t (weight_false weights v)) (weight_true-is p q weights v are k) ∙ ap (λ (f : ℤ). rise b (weight_at p q (T v)) f) (weight_false-is p q weights v are k)
+
+most-small : (p : Program) (q : ℤ) (weights : List ℤ) (v : ℕ) → AreWeights p (items_at p.minimize q) weights → size_of (items_at p.minimize q) ≤ 2 ^ 55 → v ≤ var_count p → most_of (weight_true weights v) (weight_false weights v) < 2 ^ 57
+most-small p q weights v are small k = omega (arith, rises-at p q weights v true are k, rises-at p q weights v false are k, rise_at-small p q v true, rise_at-small p q v false, small)
+
+contains-item : (additions : List Addition) (a : Addition) → Contains additions a → Contains (map item_of additions) (item_of a)
+contains-item additions a h = (h.0, omega (arith, length-map additions item_of, h.1), get_or-map item_of additions h.0 a (item_of a) h.1 ∙ ap item_of h.2)
+
+falling-items : (additions : List Addition) → AllPairs (λ (i k : Addition). k.most ≤ i.most) additions → AllPairs (λ (i k : Item). k.most ≤ i.most) (map item_of additions)
+falling-items additions falling = λ i k d lt within.
+    let none : Addition = record { var = 0; if_true = 0; if_false = 0; most = 0 } in
+    let inside : k < length additions = omega (arith, length-map additions item_of, within) in
+    let left : get_or (map item_of additions) i d ≡ item_of (get_or additions i none) = get_or-map item_of additions i none d (omega arith) in
+    let right : get_or (map item_of additions) k d ≡ item_of (get_or additions k none) = get_or-map item_of additions k none d inside in
+    omega (arith, falling i k none lt inside, ap (λ (x : Item). x.most) left, ap (λ (x : Item). x.most) right)
+
+column-is : (p : Program) (q : ℤ) (weights : List ℤ) (additions : List Addition) → AreWeights p (items_at p.minimize q) weights → size_of (items_at p.minimize q) ≤ 2 ^ 55 → IsPermutation (additions_to weights (var_count p)) additions →
+    AllPairs (λ (i k : Addition). k.most ≤ i.most) additions → IsColumn p q (map item_of additions)
+column-is p q weights additions are small permuted falling =
     let n = var_count p in
-    let at : (v : ℕ) → 0 < v → v ≤ n → row_at (rows_to weights level rows n) v ≡ row_at rows v ++ places_of level (weight_true weights v) (weight_false weights v) = λ v i k. rows_to-at weights level rows n v (omega arith) i k in
-    let rises : (v : ℕ) (b : Bool) → v ≤ n → rise b (weight_true weights v) (weight_false weights v) ≡ rise_at p q v b = λ v b k.
-    ap (λ (t : ℤ). rise b t (weight_false weights v)) (weight_true-is p q weights v are k) ∙ ap (λ (f : ℤ). rise b (weight_at p q (T v)) f) (weight_false-is p q weights v are k) in
-    let most_small : (v : ℕ) → v ≤ n → most_of (weight_true weights v) (weight_false weights v) < 2 ^ 57 = λ v k.
-    omega (arith, rises v true k, rises v false k, rise_at-small p q v true, rise_at-small p q v false, small) in
     record {
-      count = rows_to-length weights level rows n;
+      within = All-map (λ (i : Item). (0 < i.var) × (i.var ≤ n)) item_of additions (additions-vars weights additions n permuted);
+      small = All-map (λ (i : Item). i.most < 2 ^ 57) item_of additions (All-permutation (λ (a : Addition). a.most < 2 ^ 57) (additions_to weights n) additions permuted (additions_to-all (λ (a : Addition). a.most < 2 ^ 57) weights n (λ v i k. most-small p q weights v are small k)));
+      falling = falling-items additions falling;
+      whole = λ v b i k up.
+          let a : Addition = addition_at weights v in
+          let le : rise_at p q v b ≤ a.most = omega (arith, rises-at p q weights v b are k, rise-most b (weight_true weights v) (weight_false weights v)) in
+          (item_of a, contains-item additions a (Contains-permutation (additions_to weights n) additions a permuted (additions_to-contains weights n v i k (omega arith))), refl, le);
+    }
+
+linked-items : (level : ℕ) (rows new : List (List Place)) (additions : List Addition) → ArePlaced level additions rows new → IsLinked new level (map item_of additions)
+linked-items level rows new additions placed = λ i d within.
+    let none : Addition = record { var = 0; if_true = 0; if_false = 0; most = 0 } in
+    let a : Addition = get_or additions i none in
+    let inside : i < length additions = omega (arith, length-map additions item_of, within) in
+    let is : get_or (map item_of additions) i d ≡ item_of a = get_or-map item_of additions i none d inside in
+    (place_of level i a, subst (λ (x : Item). Contains (row_at new x.var) (place_of level i a)) (sym is) (placed.linked i none inside), refl, refl)
+
+pub gathered : (p : Program) (level : ℕ) (q : ℤ) (weights : List ℤ) (rows new : List (List Place)) (additions : List Addition) → AreWeights p (items_at p.minimize q) weights → size_of (items_at p.minimize q) ≤ 2 ^ 55 →
+    IsPermutation (additions_to weights (var_count p)) additions → AllPairs (λ (i k : Addition). k.most ≤ i.most) additions → ArePlaced level additions rows new → IsGathered p level q rows new (map item_of additions) (least_to weights (var_count p))
+gathered p level q weights rows new additions are small permuted falling placed =
+    let n = var_count p in
+    record {
+      count = placed.count;
       small = small;
-      within = λ m v lt all. level_row p level weights rows v whole (All (λ (o : Place). o.level < m)) all (All-append (λ (o : Place). o.level < m) (row_at rows v) (places_of level (weight_true weights v) (weight_false weights v)) all (places-within level m (weight_true weights v) (weight_false weights v) lt));
-      kept = λ j v b ne. level_row p level weights rows v whole (λ (xs : List Place). raised xs j b ≡ raised (row_at rows v) j b) refl (raised-append (row_at rows v) (places_of level (weight_true weights v) (weight_false weights v)) j b ∙ omega (arith, raised-elsewhere level j b (weight_true weights v) (weight_false weights v) ne));
-      sums = λ v b i k. ap (λ (xs : List Place). raised xs level b) (at v i k) ∙ (raised-append (row_at rows v) (places_of level (weight_true weights v) (weight_false weights v)) level b ∙ ap (λ (m : ℕ). raised (row_at rows v) level b + m) (raised-places level b (weight_true weights v) (weight_false weights v) ∙ rises v b k));
-      column = record {
-        within = All-permutation (λ (i : Item). (0 < i.var) × (i.var ≤ n)) (column_to weights n) items permuted (column_to-all (λ (i : Item). (0 < i.var) × (i.var ≤ n)) weights n (λ v i k up. (i, k)));
-        small = All-permutation (λ (i : Item). i.most < 2 ^ 57) (column_to weights n) items permuted (column_to-all (λ (i : Item). i.most < 2 ^ 57) weights n (λ v i k up. most_small v k));
-        falling = falling;
-        whole = λ v b i k up.
-            let x : Item = record { var = v; most = most_of (weight_true weights v) (weight_false weights v) } in
-            let le : rise_at p q v b ≤ x.most = omega (arith, rises v b k, rise-most b (weight_true weights v) (weight_false weights v)) in
-            (x, Contains-permutation (column_to weights n) items x permuted (column_to-contains weights n v i k (omega arith)), refl, le);
-      };
-      grown = λ v o h. level_row p level weights rows v whole (λ (xs : List Place). Contains xs o) h (Contains-append_left (row_at rows v) (places_of level (weight_true weights v) (weight_false weights v)) o h);
-      linked = All-permutation (λ (x : Item). (o : Place) × Contains (row_at (rows_to weights level rows n) x.var) o × (o.level ≡ level)) (column_to weights n) items permuted
-          (column_to-all (λ (x : Item). (o : Place) × Contains (row_at (rows_to weights level rows n) x.var) o × (o.level ≡ level)) weights n (λ v i k up.
-          let o : Place = place_of level (weight_true weights v) (weight_false weights v) in
-          let last : Contains (row_at rows v ++ places_of level (weight_true weights v) (weight_false weights v)) o = Contains-append_right (row_at rows v) (places_of level (weight_true weights v) (weight_false weights v)) o (places-contain level (weight_true weights v) (weight_false weights v) up) in
-          (o, subst (λ (xs : List Place). Contains xs o) (sym (at v i k)) last, refl)));
+      within = placed.within;
+      kept = placed.kept;
+      sums = λ v b i k. placed.sums v b ∙ ap (λ (m : ℕ). raised (row_at rows v) level b + m)
+          (sum_by-IsPermutation (added_at v b) (additions_to weights n) additions permuted ∙ (additions_to-sum weights n v b i k ∙ rises-at p q weights v b are k));
+      column = column-is p q weights additions are small permuted falling;
+      grown = placed.grown;
+      linked = linked-items level rows new additions placed;
       least_is = least_to-is p q weights are;
       least_small = least_to-small p q weights are small;
     }
 
 -- the same, by what the calls say
-pub gathered_as : (p : Program) (level : ℕ) (q : ℤ) (weights : List ℤ) (rows new : List (List Place)) (items : List Item) (least vars : ℕ) → vars ≡ var_count p →
-    AreWeights p (items_at p.minimize q) weights → size_of (items_at p.minimize q) ≤ 2 ^ 55 → length rows ≡ var_count p + 1 → new ≡ rows_to weights level rows vars →
-    IsPermutation (column_to weights vars) items → AllPairs (λ i k. k.most ≤ i.most) items → least ≡ least_to weights vars → IsGathered p level q rows new items least
-gathered_as p level q weights rows new items least vars e are small whole made permuted falling sum =
-    let all = gathered p level q weights rows items are small whole (subst (λ (n : ℕ). IsPermutation (column_to weights n) items) e permuted) falling in
-    let rowed = subst (λ (z : List (List Place)). IsGathered p level q rows z items (least_to weights (var_count p))) (sym (made ∙ ap (rows_to weights level rows) e)) all in
-    subst (λ (n : ℕ). IsGathered p level q rows new items n) (sym (sum ∙ ap (least_to weights) e)) rowed
+pub gathered_as : (p : Program) (level : ℕ) (q : ℤ) (weights : List ℤ) (rows new : List (List Place)) (additions : List Addition) (items : List Item) (least vars : ℕ) → vars ≡ var_count p →
+    AreWeights p (items_at p.minimize q) weights → size_of (items_at p.minimize q) ≤ 2 ^ 55 → IsPermutation (additions_to weights vars) additions → AllPairs (λ (i k : Addition). k.most ≤ i.most) additions →
+    ArePlaced level additions rows new → items ≡ map item_of additions → least ≡ least_to weights vars → IsGathered p level q rows new items least
+gathered_as p level q weights rows new additions items least vars e are small permuted falling placed made sum =
+    let all = gathered p level q weights rows new additions are small (subst (λ (n : ℕ). IsPermutation (additions_to weights n) additions) e permuted) falling placed in
+    let listed = subst (λ (z : List Item). IsGathered p level q rows new z (least_to weights (var_count p))) (sym made) all in
+    subst (λ (n : ℕ). IsGathered p level q rows new items n) (sym (sum ∙ ap (least_to weights) e)) listed
 
 -- ---- priority after priority
 raised-none : (row : List Place) (j : ℕ) (b : Bool) → All (λ (o : Place). o.level < j) row → raised row j b ≡ 0
@@ -296,7 +289,7 @@ each_push qs q P before here j lt = elim (cases_lt j (length qs)) [
 linked-grown : (rows new : List (List Place)) (j : ℕ) (column : List Item) → ((v : ℕ) (o : Place) → Contains (row_at rows v) o → Contains (row_at new v) o) → IsLinked rows j column → IsLinked new j column
 linked-grown rows new j column grown linked = λ i d lt.
     let link = linked i d lt in
-    (link.0, grown (get_or column i d).var link.0 link.1, link.2)
+    (link.0, grown (get_or column i d).var link.0 link.1, link.2, link.3)
 
 pub gathered_more : (p : Program) (qs : List ℤ) (q : ℤ) (rows new : List (List Place)) (items : List (List Item)) (costs : List ℤ) (column : List Item) (least : ℕ) →
     AreGathered p qs rows items costs → IsGathered p (length qs) q rows new column least → AreGathered p (qs ++ q ∷ []) new (items ++ column ∷ []) (costs ++ neg_ℤ (pos least) ∷ [])

@@ -1,6 +1,7 @@
 pub mod SumLaws
 pub mod CostLaws
 pub mod WeightLaws
+pub mod PlaceLaws
 pub mod LevelLaws
 pub mod ReachLaws
 pub mod StepLaws

@@ -88,7 +88,7 @@ starts-told a z columns starts v b are lt e =
     subst (λ (y : List (Option Bool)). AreStarts y columns starts) (sym e) told
 
 pub starts-untold : (a : List (Option Bool)) (rows : List (List Place)) (columns : List (List Item)) (starts new : List ℕ) (v : ℕ) → AreStarts a columns starts → AreLinked rows columns → length new ≡ length starts →
-    ((j : ℕ) → get_or new j 0 ≤ get_or starts j 0) → All (λ (o : Place). get_or new o.level 0 ≤ 0) (row_at rows v) → AreStarts (set a v None) columns new
+    ((j : ℕ) → get_or new j 0 ≤ get_or starts j 0) → All (λ (o : Place). get_or new o.level 0 ≤ o.index) (row_at rows v) → AreStarts (set a v None) columns new
 starts-untold a rows columns starts new v are linked long lower taken = record {
   count = long ∙ are.count;
   passed = λ j low i d before within.
@@ -97,9 +97,9 @@ starts-untold a rows columns starts new v are linked long lower taken = record {
         | inl e ↦ (
             let link = linked.each j low i d within in
             let at : Contains (row_at rows v) link.0 = subst (λ (u : ℕ). Contains (row_at rows u) link.0) e link.1 in
-            let back : get_or new link.0.level 0 ≤ 0 = All-contains (λ (o : Place). get_or new o.level 0 ≤ 0) (row_at rows v) link.0 taken at in
+            let back : get_or new link.0.level 0 ≤ link.0.index = All-contains (λ (o : Place). get_or new o.level 0 ≤ o.index) (row_at rows v) link.0 taken at in
             let here : get_or new link.0.level 0 ≡ get_or new j 0 = ap (λ (k : ℕ). get_or new k 0) link.2 in
-            absurd (omega arith))
+            absurd (omega (arith, back, here, link.3, before)))
         | inr ne ↦ subst (λ (o : Option Bool). IsSome o) (sym (get_or-set_other a v x.var None None ne)) (are.passed j low i d (omega (arith, lower j, before)) within)
       ];
 }

@@ -15,9 +15,9 @@ pub record AreStarts (a : List (Option Bool)) (columns : List (List Item)) (star
   pub count : length starts ≡ length columns
   pub passed : (j : ℕ) → j < length columns → ArePassed a (slice_index_or columns j []) (slice_index_or starts j 0)
 
--- Each item of the j-th priority has a place at it in its variable's row.
+-- Each item of the j-th priority has its place in its variable's row.
 abbrev pub IsLinked : List (List Place) → ℕ → List Item → Type 0
-IsLinked rows j column = (i : ℕ) (d : Item) → i < length column → (o : Place) × Contains (row_at rows (slice_index_or column i d).var) o × (o.level ≡ j)
+IsLinked rows j column = (i : ℕ) (d : Item) → i < length column → (o : Place) × Contains (row_at rows (slice_index_or column i d).var) o × (o.level ≡ j) × (o.index ≡ i)
 
 pub record AreLinked (rows : List (List Place)) (columns : List (List Item)) : Type 0 where
   pub each : (j : ℕ) → j < length columns → IsLinked rows j (slice_index_or columns j [])

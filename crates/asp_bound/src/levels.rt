@@ -5,14 +5,14 @@ ghost use Rattle.std.specs.List.Sorted.{IsPermutation};
 ghost use Rattle.std.specs.Int.RustNames.{unsigned_abs};
 ghost use Rattle.asp_model.specs.Costs.{priorities};
 ghost use Rattle.asp_vars.specs.Numbering.{var_count};
-ghost use Rattle.asp_bound.specs.Levels.{places_of, items_of, weight_true, weight_false, rows_to, column_to, least_to};
+ghost use Rattle.asp_bound.specs.Levels.{additions_of, additions_to, item_of, place_of, least_to, ArePlaced};
 ghost use Rattle.asp_bound.specs.Optimism.{items_at, optimistic};
 ghost use Rattle.asp_bound.specs.Rises.{row_at, AreRows, AreColumns, IsColumn, nth_priority};
 ghost use Rattle.asp_bound.specs.Weights.{size_of, AreWeights};
 ghost use Rattle.asp_bound.specs.Kept.{AreSmall, AreVars};
 ghost use Rattle.asp_bound.specs.Gathered.{IsGathered, AreGathered, HasEach};
 
-use crate::place::{Item, Place};
+use crate::place::{Addition, Item, Place};
 use crate::priorities::priorities;
 use crate::rise::{beneath, rise};
 use crate::weights::weights_at;
@@ -23,60 +23,95 @@ use asp_vars::lit::Var;
 use std::alloc::{AllocError, Global};
 use std::cmp::Reverse;
 
-// Adds the place of a variable at a priority, if either value adds something.
-fn add_place(
-    rows: &mut Buckets<Place>,
-    column: &mut Vec<Item>,
-    level: usize,
+// Adds what a variable adds at a priority, if either value adds something.
+fn add_addition(
+    additions: &mut Vec<Addition>,
     var: Var,
     if_true: i64,
     if_false: i64,
 ) -> Result<(), AllocError>
-    requires var { var < length rows.old }
     requires if_true { unsigned_abs if_true < 2 ^ 56 }
     requires if_false { unsigned_abs if_false < 2 ^ 56 }
-    ensures rows { OnOk result (rows.new ≡ slice_set rows.old var (row_at rows.old var ++ places_of level if_true if_false)) }
-    ensures column { OnOk result (column.new.items ≡ column.old.items ++ items_of var if_true if_false) }
+    ensures { OnOk result (additions.new.items ≡ additions.old.items ++ additions_of var if_true if_false) }
 {
-    let place = Place {
-        level,
-        if_true: rise(true, if_true, if_false),
-        if_false: rise(false, if_true, if_false),
-    };
-    let most = place.if_true.max(place.if_false);
+    let on_true = rise(true, if_true, if_false);
+    let on_false = rise(false, if_true, if_false);
+    let most = on_true.max(on_false);
     if most > 0 {
-        rows.push(var as usize, place)?;
-        column.push(Item { var, most })?;
+        additions.push(Addition {
+            var,
+            if_true: on_true,
+            if_false: on_false,
+            most,
+        })?;
     }
     Ok(())
 }
 
-// Adds the places of all variables at a priority.
+// What the variables add at a priority.
+fn all_additions(alloc: Global, vars: Var, weights: &[i64]) -> Result<Vec<Addition>, AllocError>
+    requires few { vars < 2 ^ 31 }
+    requires count { length weights.now ≡ 2 * vars + 2 }
+    requires small { (c : ℕ) → c < length weights.now → unsigned_abs (slice_index_or weights.now c (pos 0)) < 2 ^ 56 }
+    ensures { IfOk result (λ additions. additions.items ≡ additions_to weights.now vars) }
+{
+    let mut additions = Vec::new(alloc);
+    for i in 0..vars {
+        let place = 2 * (i as usize + 1);
+        add_addition(&mut additions, i + 1, weights[place], weights[place + 1])?;
+    }
+    Ok(additions)
+}
+
+// Puts those that add most first.
+fn sort(additions: &mut [Addition])
+    ensures permutation { IsPermutation additions.old additions.new }
+    ensures falling { AllPairs (λ i k. k.most ≤ i.most) additions.new }
+{
+    additions.sort_unstable_by_key(|addition| Reverse(addition.most));
+}
+
+// Adds the place and the item of a variable at a priority.
+fn add_place(
+    rows: &mut Buckets<Place>,
+    column: &mut Vec<Item>,
+    level: u32,
+    index: u32,
+    addition: &Addition,
+) -> Result<(), AllocError>
+    requires var { addition.now.var < length rows.old }
+    ensures rows { OnOk result (rows.new ≡ slice_set rows.old addition.now.var (row_at rows.old addition.now.var ++ place_of level index addition.now ∷ [])) }
+    ensures column { OnOk result (column.new.items ≡ column.old.items ++ item_of addition.now ∷ []) }
+{
+    let place = Place {
+        level,
+        index,
+        if_true: addition.if_true,
+        if_false: addition.if_false,
+    };
+    rows.push(addition.var as usize, place)?;
+    column.push(Item {
+        var: addition.var,
+        most: addition.most,
+    })?;
+    Ok(())
+}
+
+// Adds the places and the items at a priority, in their order.
 fn add_places(
     alloc: Global,
     rows: &mut Buckets<Place>,
-    level: usize,
-    vars: Var,
-    weights: &[i64],
+    level: u32,
+    additions: &[Addition],
 ) -> Result<Vec<Item>, AllocError>
-    requires few { vars < 2 ^ 31 }
-    requires rows { length rows.old ≡ vars + 1 }
-    requires count { length weights.now ≡ 2 * vars + 2 }
-    requires small { (c : ℕ) → c < length weights.now → unsigned_abs (slice_index_or weights.now c (pos 0)) < 2 ^ 56 }
-    ensures rows { OnOk result (rows.new ≡ rows_to weights.now level rows.old vars) }
-    ensures column { IfOk result (λ column. column.items ≡ column_to weights.now vars) }
+    requires few { length additions.now < 2 ^ 32 }
+    requires vars { All (λ a. a.var < length rows.old) additions.now }
+    ensures rows { OnOk result (ArePlaced level additions.now rows.old rows.new) }
+    ensures column { IfOk result (λ column. column.items ≡ map item_of additions.now) }
 {
     let mut column = Vec::new(alloc);
-    for i in 0..vars {
-        let place = 2 * (i as usize + 1);
-        add_place(
-            rows,
-            &mut column,
-            level,
-            i + 1,
-            weights[place],
-            weights[place + 1],
-        )?;
+    for (index, addition) in additions.iter().enumerate() {
+        add_place(rows, &mut column, level, index as u32, addition)?;
     }
     Ok(column)
 }
@@ -96,14 +131,6 @@ fn least(weights: &[i64], vars: Var) -> u64
     sum
 }
 
-// Puts those that add most first.
-fn sort(items: &mut [Item])
-    ensures items { IsPermutation items.old items.new }
-    ensures falling { AllPairs (λ i k. k.most ≤ i.most) items.new }
-{
-    items.sort_unstable_by_key(|item| Reverse(item.most));
-}
-
 // A priority's items, and the sum of what is negative at it.
 #[derive(Drop)]
 struct Level {
@@ -115,7 +142,7 @@ fn add_level(
     alloc: Global,
     compiled: &Compiled,
     rows: &mut Buckets<Place>,
-    level: usize,
+    level: u32,
     priority: i32,
 ) -> Result<Level, AllocError>
     requires rows { length rows.old ≡ var_count compiled.now + 1 }
@@ -124,8 +151,9 @@ fn add_level(
     let weights = weights_at(alloc, compiled, priority)?;
     let weights = weights.as_slice();
     let vars = compiled.vars();
-    let mut column = add_places(alloc, rows, level, vars, weights)?;
-    sort(column.as_mut_slice());
+    let mut additions = all_additions(alloc, vars, weights)?;
+    sort(additions.as_mut_slice());
+    let column = add_places(alloc, rows, level, additions.as_slice())?;
     Ok(Level {
         column,
         least: least(weights, vars),
@@ -140,14 +168,18 @@ pub struct Levels {
     pub sums: Vec<i64>,
 }
 
+// Want of memory is also the answer where there are 4294967296 priorities or more.
 fn levels_of(alloc: Global, compiled: &Compiled, priorities: &[i32]) -> Result<Levels, AllocError>
     ensures { IfOk result (λ l. AreGathered compiled.now priorities.now l.rows l.columns l.sums.items) }
 {
+    if priorities.len() > u32::MAX as usize {
+        return Err(AllocError);
+    }
     let mut rows = Buckets::new(alloc, compiled.vars() as usize + 1)?;
     let mut columns = Table::new(alloc)?;
     let mut sums = Vec::new(alloc);
     for (level, priority) in priorities.iter().enumerate() {
-        let added = add_level(alloc, compiled, &mut rows, level, *priority)?;
+        let added = add_level(alloc, compiled, &mut rows, level as u32, *priority)?;
         columns = columns.with_row(added.column.as_slice())?;
         sums.push(-(added.least as i64))?;
     }

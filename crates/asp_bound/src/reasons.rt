@@ -21,7 +21,7 @@ fn raises(row: &[Place], depth: usize, truth: bool) -> bool
     ensures { result ≡ raises row.now depth truth }
 {
     for place in row {
-        if place.level < depth && rise_by(place, truth) > 0 {
+        if (place.level as usize) < depth && rise_by(place, truth) > 0 {
             return true;
         }
     }

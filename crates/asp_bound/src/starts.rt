@@ -35,21 +35,21 @@ pub fn first_open(values: &Assign, column: &[Item], start: usize, sum: i64, limi
     column.len()
 }
 
-// A start is no later than the place.
-fn lower_start(starts: &mut [usize], level: usize, place: usize)
+// A start is no later than the item.
+fn lower_start(starts: &mut [usize], level: usize, index: usize)
     requires { level < length starts.old }
-    ensures { starts.new ≡ slice_set starts.old level (min (slice_index_or starts.old level 0) place) }
+    ensures { starts.new ≡ slice_set starts.old level (min (slice_index_or starts.old level 0) index) }
 {
-    starts[level] = starts[level].min(place);
+    starts[level] = starts[level].min(index);
 }
 
-/// The start of each priority at which the row has a place is the first item.
+/// The start of each priority at which the row has a place is no later than the place's item.
 pub fn take_back(starts: &mut [usize], row: &[Place])
     requires within { All (λ o. o.level < length starts.old) row.now }
     ensures lower { (j : ℕ) → slice_index_or starts.new j 0 ≤ slice_index_or starts.old j 0 }
-    ensures taken { All (λ o. slice_index_or starts.new o.level 0 ≤ 0) row.now }
+    ensures taken { All (λ o. slice_index_or starts.new o.level 0 ≤ o.index) row.now }
 {
     for place in row {
-        lower_start(starts, place.level, 0);
+        lower_start(starts, place.level as usize, place.index as usize);
     }
 }

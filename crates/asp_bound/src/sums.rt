@@ -19,7 +19,7 @@ pub fn raised(row: &[Place], level: usize, truth: bool) -> u64
 {
     let mut sum = 0;
     for place in row {
-        if place.level == level {
+        if place.level as usize == level {
             sum += rise_by(place, truth);
         }
     }
@@ -52,7 +52,7 @@ pub fn raise(sums: &mut [i64], row: &[Place], truth: bool)
     ensures { (j : ℕ) → j < length sums.old → slice_index_or sums.new j (pos 0) ≡ slice_index_or sums.old j (pos 0) +ℤ pos (raised row.now j truth) }
 {
     for place in row {
-        add(sums, place.level, rise_by(place, truth));
+        add(sums, place.level as usize, rise_by(place, truth));
     }
 }
 
@@ -64,6 +64,6 @@ pub fn lower(sums: &mut [i64], row: &[Place], truth: bool)
     ensures { (j : ℕ) → j < length sums.old → slice_index_or sums.new j (pos 0) +ℤ pos (raised row.now j truth) ≡ slice_index_or sums.old j (pos 0) }
 {
     for place in row {
-        take(sums, place.level, rise_by(place, truth));
+        take(sums, place.level as usize, rise_by(place, truth));
     }
 }

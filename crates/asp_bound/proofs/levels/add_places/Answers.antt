@@ -1,15 +1,28 @@
-use Rattle.std.proofs.Common.{◌≡◌, ◌+◌, ◌*◌, get_or, pos, to_z, of_z, w64, arith, rules, ap, length}
-use Rattle.std.proofs.lemmas.Int.{to_z-of_z}
-use Rattle.asp_bound.proofs.LevelLaws.{rows_to-length, rows_to-step, column_to-step}
+use Rattle.std.proofs.Common.{◌<◌, ◌∙◌, List, [], ◌∷◌, ◌++◌, length, get_or, arith, rules, ap, sym}
+use Rattle.std.proofs.lemmas.List.{map_more}
+use Rattle.asp_bound.specs.declared.place.Addition.{Addition}
+use Rattle.asp_bound.specs.declared.place.Item.{Item}
+use Rattle.asp_bound.specs.Levels.{item_of}
+use Rattle.asp_bound.proofs.PlaceLaws.{placed-none, placed-more}
 use Rattle.asp_bound.proofs.levels.add_places.Goals as goal
 
-pub add_place-requires-clause-var : goal.add_place-requires-clause-var
-add_place-requires-clause-var c = omega (arith, ap length c.loop-i.invariant.0, rows_to-length c.args.weights.now c.args.level c.args.rows.now c.loop-i.i, c.requires.rows)
+-- the addition past the end
+abbrev none : Addition
+none = record { var = 0; if_true = 0; if_false = 0; most = 0 }
 
-pub loop-i-preserved : goal.loop-i-preserved
-loop-i-preserved c =
-    let read_t : to_z w64 (of_z w64 (get_or c.args.weights.now (2 * (c.loop-i.i + 1)) (pos 0))) ≡ get_or c.args.weights.now (2 * (c.loop-i.i + 1)) (pos 0) = to_z-of_z w64 _ (search rules) in
-    let read_f : to_z w64 (of_z w64 (get_or c.args.weights.now (2 * (c.loop-i.i + 1) + 1) (pos 0))) ≡ get_or c.args.weights.now (2 * (c.loop-i.i + 1) + 1) (pos 0) = to_z-of_z w64 _ (search rules) in (
-      rows_to-step c.args.weights.now c.args.level c.args.rows.now c.loop-i.rows c.add_place.new.rows c.loop-i.i _ _ c.loop-i.invariant.0 c.in_ok-add_place.ensures.rows read_t read_f,
-      column_to-step c.args.weights.now c.loop-i.column.items c.add_place.new.column.items c.loop-i.i _ _ c.loop-i.invariant.1 c.in_ok-add_place.ensures.column read_t read_f,
+pub add_place-requires : goal.add_place-requires
+add_place-requires c =
+    let within : c.loop-index.index < length c.args.additions.now = omega arith in
+    record { var = omega (arith, c.requires.vars c.loop-index.index none within, c.loop-index.invariant.0.count) }
+
+pub loop-index-init : goal.loop-index-init
+loop-index-init c = (placed-none c.args.level c.args.rows.now, search rules)
+
+pub loop-index-preserved : goal.loop-index-preserved
+loop-index-preserved c =
+    let x : Addition = get_or c.args.additions.now c.loop-index.index none in
+    let within : c.loop-index.index < length c.args.additions.now = omega arith in
+    let inside : x.var < length c.loop-index.rows = omega (arith, c.requires.vars c.loop-index.index none within, c.loop-index.invariant.0.count) in (
+      placed-more c.args.level c.loop-index.index c.args.additions.now c.args.rows.now c.loop-index.rows c.add_place.new.rows none within inside c.loop-index.invariant.0 c.in_ok-add_place.ensures.rows,
+      c.in_ok-add_place.ensures.column ∙ (ap (λ (xs : List Item). xs ++ item_of x ∷ []) c.loop-index.invariant.1 ∙ sym (map_more item_of c.args.additions.now c.loop-index.index none within)),
     )

@@ -1,6 +1,6 @@
-use Rattle.std.proofs.Common.{◌≡◌}
-use Rattle.asp_bound.specs.Levels.{rows_to, column_to}
+use Rattle.std.proofs.Common.{◌≡◌, map, take}
+use Rattle.asp_bound.specs.Levels.{item_of, ArePlaced}
 use Rattle.asp_bound.proofs.levels.add_places.Given as goal
 
-abbrev pub invariant-loop-i : goal.invariant-loop-i
-invariant-loop-i l = (l.rows ≡ rows_to l.weights l.level l.initial.rows l.i) × (l.column.items ≡ column_to l.weights l.i)
+abbrev pub invariant-loop-index : goal.invariant-loop-index
+invariant-loop-index l = ArePlaced l.level (take l.index l.additions) l.initial.rows l.rows × (l.column.items ≡ map item_of (take l.index l.additions))

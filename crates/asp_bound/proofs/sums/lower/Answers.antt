@@ -5,7 +5,7 @@ use Rattle.asp_bound.proofs.sums.lower.Goals as goal
 
 -- the item past the row's end
 abbrev none : Place
-none = record { level = 0; if_true = 0; if_false = 0 }
+none = record { level = 0; index = 0; if_true = 0; if_false = 0 }
 
 pub take-requires-clause-small : goal.take-requires-clause-small
 take-requires-clause-small c =

@@ -5,7 +5,7 @@ use Rattle.asp_bound.proofs.sums.raise.Goals as goal
 
 -- the item past the row's end
 abbrev none : Place
-none = record { level = 0; if_true = 0; if_false = 0 }
+none = record { level = 0; index = 0; if_true = 0; if_false = 0 }
 
 pub add-requires-clause-small : goal.add-requires-clause-small
 add-requires-clause-small c =

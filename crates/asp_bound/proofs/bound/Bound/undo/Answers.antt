@@ -41,6 +41,6 @@ invariant_of-self c =
     let fewer = λ (j : ℕ).
     let step : get_or back j 0 ≤ get_or c.self.inside.starts.items j 0 = omega (arith, c.take_back.ensures.lower j, ap (λ (s : List ℕ). get_or s j 0) c.as_mut_slice-2.ensures.value) in
     step in
-    let taken = subst (λ (r : List Place). All (λ (o : Place). get_or back o.level 0 ≤ 0) r) (c.row-row.ensures ∙ ap (row_at c.self.inside.rows) c.var.ensures) c.take_back.ensures.taken in
+    let taken = subst (λ (r : List Place). All (λ (o : Place). get_or back o.level 0 ≤ o.index) r) (c.row-row.ensures ∙ ap (row_at c.self.inside.rows) c.var.ensures) c.take_back.ensures.taken in
     let starts = starts-untold c.self.inside.values c.self.inside.rows c.self.inside.columns c.self.inside.starts.items back c.args.lit.var c.self.invariant.1 c.self.invariant.0.linked many fewer taken in
     (kept_as c.self.inside.origin.value _ c.unset.new.self c.self.inside.rows c.self.inside.columns c.self.inside.vars.items new _ values (take_at new (drop (length new) c.self.inside.sums.items) c.self.inside.sums.len (c.lower.auto.sums ∙ c.as_mut_slice.ensures.len)) kept, starts_as (set c.self.inside.values c.args.lit.var None) c.unset.new.self c.self.inside.columns back _ values (take_at back (drop (length back) c.self.inside.starts.items) c.self.inside.starts.len (c.take_back.auto.starts ∙ c.as_mut_slice-2.ensures.len)) starts)
