@@ -1,5 +1,5 @@
 -- The tables, priority by priority.
-use Rattle.std.proofs.Common.{◌≡◌, ◌≢◌, ℕ, zero, suc, ◌+◌, ◌*◌, ◌/◌, ◌%◌, ◌^◌, ◌<◌, ◌≤◌, ◌⊎◌, Bool, true, false, cond, eqb, ltb, List, [], ◌∷◌, ◌++◌, map, length, get_or, take, sum_by, Option, None, ℤ, pos, negsuc, neg_ℤ, refl, sym, ap, ◌∙◌, subst, inl, inr, arith, add-one}
+use Rattle.std.proofs.Common.{◌≡◌, ◌≢◌, ℕ, zero, suc, ◌+◌, ◌*◌, ◌/◌, ◌%◌, ◌^◌, ◌<◌, ◌≤◌, Bool, true, false, cond, eqb, ltb, List, [], ◌∷◌, ◌++◌, map, length, get_or, take, sum_by, Option, None, ℤ, pos, negsuc, neg_ℤ, refl, sym, ap, ◌∙◌, subst, inl, inr, arith, add-one}
 use Rattle.std.specs.List.{All, AllPairs, Contains}
 use Rattle.std.specs.List.Sorted.{IsPermutation}
 use Rattle.std.specs.Int.RustNames.{unsigned_abs}
@@ -21,7 +21,7 @@ use Rattle.asp_bound.specs.Optimism.{items_at, weight_in, weight_at, negative, l
 use Rattle.asp_bound.specs.Rises.{beneath, rise, rise_at, rise_by, raised, row_at, IsColumn}
 use Rattle.asp_bound.specs.Weights.{size_of, AreWeights}
 use Rattle.asp_bound.specs.Levels.{most_of, addition_of, additions_of, additions_to, weight_true, weight_false, added_by, added_at, item_of, place_of, ArePlaced, least_to}
-use Rattle.asp_bound.specs.Starts.{IsLinked, AreLinked}
+use Rattle.asp_bound.specs.Starts.{IsLinked}
 use Rattle.asp_bound.specs.Gathered.{valueless, IsGathered, AreGathered}
 use Rattle.asp_bound.proofs.CostLaws.{optimistic_at-low, weight_in-small, rise_at-small}
 use Rattle.asp_bound.proofs.SumLaws.{sum_to-same}

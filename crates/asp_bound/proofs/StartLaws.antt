@@ -8,7 +8,7 @@ use Rattle.asp_vars.specs.Literals.{value_of}
 use Rattle.asp_bound.specs.declared.place.Place.{Place}
 use Rattle.asp_bound.specs.declared.place.Item.{Item}
 use Rattle.asp_bound.specs.Rises.{row_at}
-use Rattle.asp_bound.specs.Starts.{ArePassed, AreStarts, IsLinked, AreLinked}
+use Rattle.asp_bound.specs.Starts.{ArePassed, AreStarts, AreLinked}
 
 -- ---- a start moves on
 pub passed-more : (a : List (Option Bool)) (column : List Item) (n : ℕ) (x : Item) → n < length column → get_or column n x ≡ x → ArePassed a column n → IsSome (value_of a x.var) → ArePassed a column (n + 1)
