@@ -16,7 +16,7 @@ use Rattle.asp_vars.proofs.SupportLaws.{or_left, or_right}
 use Rattle.asp_loop.specs.LoopNogoods.{IsLoopNogood}
 use Rattle.asp_loop.proofs.WeighLaws.{literal_eq-itself}
 use Rattle.asp_source.specs.Loops.{IsGiven}
-use Rattle.asp_source.specs.Narrowing.{IsFound}
+use Rattle.asp_source.specs.Loops.{IsFound}
 
 -- a literal that holds has one of the variables
 held_within : (x : List (Option Bool)) (n : ℕ) (l : Literal) → length x ≡ n + 1 → value_of x 0 ≡ None → holds_in x l ≡ true → IsVar n l.var

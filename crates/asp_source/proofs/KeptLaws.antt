@@ -1,26 +1,40 @@
 -- What the propagator keeps, call by call.
-use Rattle.std.proofs.Common.{◌≡◌, ℕ, zero, suc, ◌+◌, ◌<◌, Bool, true, false, List, [], length, set, replicate, Option, Some, None, refl, sym, ap, ◌∙◌, subst, arith, get_or-set_other}
+use Rattle.std.proofs.Common.{◌≡◌, ℕ, zero, suc, ◌+◌, ◌-◌, ◌<◌, ◌≤◌, Bool, true, false, not, cond, eqb, leb, List, [], length, get_or, set, replicate, Option, Some, None, refl, sym, ap, ◌∙◌, subst, arith, inl, get_or-set_other}
+use Rattle.std.specs.List.{All}
+use Rattle.std.proofs.lemmas.Bool.{false≢true}
 use Rattle.std.proofs.lemmas.List.{length-set, length-replicate}
 use Rattle.asp_model.specs.declared.program.Program.{Program}
 use Rattle.asp_model.specs.Sets.{Atoms}
 use Rattle.asp_model.specs.Models.{atoms_of}
 use Rattle.asp_model.specs.Sound.{IsSound}
-use Rattle.asp_vars.specs.Literals.{Literal, value_of, holds_in}
-use Rattle.asp_vars.specs.Numbering.{bodies_of, var_count}
+use Rattle.asp_vars.specs.Literals.{Literal, complement, value_of, holds_in}
+use Rattle.asp_vars.specs.Numbering.{bodies_of, var_count, var_of_atom}
+use Rattle.asp_vars.specs.Tabled.{IsAtomVar, occurrences_of}
 use Rattle.asp_trail.specs.Trails.{IsVar}
 use Rattle.asp_scc.specs.Components.{Parts, AreComponents}
-use Rattle.asp_source.specs.Touched.{touch_by, touch_back, AreMarked, AreNormal}
+use Rattle.asp_source.specs.Pointers.{AreNormal}
 use Rattle.asp_source.specs.Marks.{is_marked}
-use Rattle.asp_source.specs.Narrowing.{AreBlank}
-use Rattle.asp_source.specs.Loops.{AreJoined}
+use Rattle.asp_source.specs.Marks.{AreBlank}
+use Rattle.asp_source.specs.Loops.{AreJoined, IsUnfoundedLoop}
+use Rattle.asp_source.specs.Pointers.{ArePointers, Loses, AreGone, IsGoneBy, AreMarked, seek, regain}
 use Rattle.asp_source.specs.Kept.{IsKept}
+use Rattle.asp_source.proofs.AssignLaws.{assigned, undone}
+use Rattle.asp_source.proofs.PointerLaws.{atom_var}
 use Rattle.asp_source.proofs.RestLaws.{none_joined, open_of, rest_joined}
-use Rattle.asp_source.proofs.TouchLaws.{queued_by, queued_back, by-length, back-length, queued_at_first, none_queued}
+use Rattle.asp_source.proofs.ChangeLaws.{some_member, cyclic_of}
 
 none_at : (n v : ℕ) → value_of (replicate n None) v ≡ None
 none_at zero v = refl
 none_at (suc n) zero = refl
 none_at (suc n) (suc v) = none_at n v
+
+abbrev AreBare : List ℕ → Type 0
+AreBare s = (v : ℕ) → get_or s v 0 ≡ 0
+
+zero_at : (n : ℕ) → AreBare (replicate n 0)
+zero_at zero v = refl
+zero_at (suc n) zero = refl
+zero_at (suc n) (suc v) = zero_at n v
 
 blank_at : (n : ℕ) → AreBlank (replicate n false)
 blank_at zero v = refl
@@ -30,86 +44,137 @@ blank_at (suc n) (suc v) = blank_at n v
 first_kept : (x : List (Option Bool)) (v : ℕ) (t : Option Bool) → 0 < v → value_of x 0 ≡ None → value_of (set x v t) 0 ≡ None
 first_kept x v t some_ e = get_or-set_other x v 0 t None (λ z. omega (arith, some_, z)) ∙ e
 
-pub kept_by : (p : Program) (c : Parts) (x y : List (Option Bool)) (marks new : List Bool) (tight weighted : Bool) (loose waiting : List Bool) (atoms : Atoms) (l : Literal) → IsSound p → IsKept p c x marks tight weighted loose waiting atoms → IsVar (var_count p) l.var → value_of x l.var ≡ None → y ≡ set x l.var (Some l.truth) → new ≡ touch_by p c marks l → IsKept p c y new tight weighted loose waiting atoms
-kept_by p c x y marks new tight weighted loose waiting atoms l sound h is none told touched =
-    subst (λ (z : List (Option Bool)). IsKept p c z new tight weighted loose waiting atoms) (sym told) (subst (λ (m : List Bool). IsKept p c (set x l.var (Some l.truth)) m tight weighted loose waiting atoms) (sym touched) (record {
-      components = h.components;
-      sized = length-set x l.var (Some l.truth) ∙ h.sized;
-      first = first_kept x l.var (Some l.truth) is.0 h.first;
-      whole = by-length p c marks l ∙ h.whole;
-      marks = h.marks;
-      blank = h.blank;
-      room = h.room;
-      queued = queued_by p c x marks l h.components sound (let small = is.1 in let size = h.sized in omega (arith, small, size)) none h.whole h.queued;
-      none = h.none;
-      plain = h.plain;
-      joined = h.joined;
-    }))
+-- where no atom has a source it is enough that each is queued, unless it is alone
+bare_pointers : (p : Program) (c : Parts) (x : List (Option Bool)) (s : List ℕ) (q : List Bool) → length s ≡ length (atoms_of p) + 1 → length q ≡ length (atoms_of p) → AreBare s → ((v : ℕ) → IsAtomVar p v → get_or c.trivial (get_or c.numbers v 0) false ≡ false → is_marked q (v - 1) ≡ true) → ArePointers p c x s q []
+bare_pointers p c x s q size room bare queued = record {
+  size = size;
+  room = room;
+  supports = λ v at nz. absurd (nz (bare v));
+  grounded = λ U h a member nz. absurd (nz (bare (var_of_atom p a)));
+  sought = λ v at z cyclic alive. inl (queued v at cyclic);
+}
 
--- in a tight program nothing is queued
-pub kept_tight : (p : Program) (c : Parts) (x y : List (Option Bool)) (marks : List Bool) (tight weighted : Bool) (loose waiting : List Bool) (atoms : Atoms) (l : Literal) → IsKept p c x marks tight weighted loose waiting atoms → tight ≡ true → IsVar (var_count p) l.var → y ≡ set x l.var (Some l.truth) → IsKept p c y marks tight weighted loose waiting atoms
-kept_tight p c x y marks tight weighted loose waiting atoms l h is_tight is told =
-    subst (λ (z : List (Option Bool)). IsKept p c z marks tight weighted loose waiting atoms) (sym told) (record {
+-- ---- a literal comes to hold
+pub kept_by : (p : Program) (c : Parts) (x y : List (Option Bool)) (s : List ℕ) (q : List Bool) (t : List ℕ) (r : List Bool) (tight weighted : Bool) (loose waiting joined : List Bool) (atoms : Atoms) (l : Literal) → IsSound p → IsKept p c x s q tight weighted loose waiting joined atoms → tight ≡ false → IsVar (var_count p) l.var → value_of x l.var ≡ None → y ≡ set x l.var (Some l.truth) → Loses s q t r →
+    (length (atoms_of p) < l.var → l.truth ≡ false → AreGone p t (l.var - length (atoms_of p) - 1)) →
+    (l.var ≤ length (atoms_of p) → All (IsGoneBy p t) (occurrences_of p (complement l))) →
+    IsKept p c y t r tight weighted loose waiting joined atoms
+kept_by p c x y s q t r tight weighted loose waiting joined atoms l sound h loose_ is none told loses body_gone lighter =
+    subst (λ (z : List (Option Bool)). IsKept p c z t r tight weighted loose waiting joined atoms) (sym told) (record {
       components = h.components;
       sized = length-set x l.var (Some l.truth) ∙ h.sized;
       first = first_kept x l.var (Some l.truth) is.0 h.first;
-      whole = h.whole;
+      pointers = assigned p c x s q t r l sound (let small = is.1 in let size = h.sized in omega (arith, small, size)) none loses body_gone lighter h.pointers;
       marks = h.marks;
       blank = h.blank;
       room = h.room;
-      queued = λ U loop a member. absurd (h.none is_tight (set x l.var (Some l.truth)) U loop);
-      none = h.none;
+      seats = h.seats;
+      none = λ e v. absurd (false≢true (sym loose_ ∙ e));
+      trivial = h.trivial;
       plain = h.plain;
-      joined = h.joined;
+      found = h.found;
     })
 
-pub kept_back : (p : Program) (c : Parts) (x y : List (Option Bool)) (marks new : List Bool) (tight weighted : Bool) (loose waiting : List Bool) (atoms : Atoms) (l : Literal) → IsSound p → IsKept p c x marks tight weighted loose waiting atoms → IsVar (var_count p) l.var → holds_in x l ≡ true → y ≡ set x l.var None → new ≡ touch_back p c marks l → IsKept p c y new tight weighted loose waiting atoms
-kept_back p c x y marks new tight weighted loose waiting atoms l sound h is holds told touched =
-    subst (λ (z : List (Option Bool)). IsKept p c z new tight weighted loose waiting atoms) (sym told) (subst (λ (m : List Bool). IsKept p c (set x l.var None) m tight weighted loose waiting atoms) (sym touched) (record {
+-- in a tight program no atom has a source
+pub kept_tight : (p : Program) (c : Parts) (x y : List (Option Bool)) (s : List ℕ) (q : List Bool) (tight weighted : Bool) (loose waiting joined : List Bool) (atoms : Atoms) (l : Literal) → IsKept p c x s q tight weighted loose waiting joined atoms → tight ≡ true → IsVar (var_count p) l.var → y ≡ set x l.var (Some l.truth) → IsKept p c y s q tight weighted loose waiting joined atoms
+kept_tight p c x y s q tight weighted loose waiting joined atoms l h is_tight is told =
+    subst (λ (z : List (Option Bool)). IsKept p c z s q tight weighted loose waiting joined atoms) (sym told) (record {
+      components = h.components;
+      sized = length-set x l.var (Some l.truth) ∙ h.sized;
+      first = first_kept x l.var (Some l.truth) is.0 h.first;
+      pointers = bare_pointers p c (set x l.var (Some l.truth)) s q h.pointers.size h.pointers.room (h.none is_tight) (λ v at cyclic. absurd (false≢true (sym cyclic ∙ h.trivial is_tight v at)));
+      marks = h.marks;
+      blank = h.blank;
+      room = h.room;
+      seats = h.seats;
+      none = h.none;
+      trivial = h.trivial;
+      plain = h.plain;
+      found = h.found;
+    })
+
+-- the same sources, read in another way
+pub kept_as : (p : Program) (c : Parts) (x : List (Option Bool)) (s t : List ℕ) (q : List Bool) (tight weighted : Bool) (loose waiting joined : List Bool) (atoms : Atoms) → t ≡ s → IsKept p c x s q tight weighted loose waiting joined atoms → IsKept p c x t q tight weighted loose waiting joined atoms
+kept_as p c x s t q tight weighted loose waiting joined atoms same h = subst (λ (u : List ℕ). IsKept p c x u q tight weighted loose waiting joined atoms) (sym same) h
+
+-- ---- a literal that held is taken back
+seek-length : (c : Parts) (s : List ℕ) (q : List Bool) (v : ℕ) → length (seek c s q v) ≡ length q
+seek-length c s q v = cases (not (eqb (get_or s v 0) 0)) (get_or c.trivial (get_or c.numbers v 0) false)
+  where
+    cases : (a b : Bool) → length (cond a q (cond b q (set q (v - 1) true))) ≡ length q
+    cases true b = refl
+    cases false true = refl
+    cases false false = length-set q (v - 1) true
+
+regain-length : (p : Program) (c : Parts) (s : List ℕ) (q : List Bool) (l : Literal) → length (regain p c s q l) ≡ length q
+regain-length p c s q l = cases l.truth (leb l.var (length (atoms_of p)))
+  where
+    cases : (t a : Bool) → length (cond t q (cond a (seek c s q l.var) q)) ≡ length q
+    cases true a = refl
+    cases false true = seek-length c s q l.var
+    cases false false = refl
+
+pub kept_back : (p : Program) (c : Parts) (x y : List (Option Bool)) (s : List ℕ) (q r : List Bool) (tight weighted : Bool) (loose waiting joined : List Bool) (atoms : Atoms) (l : Literal) → IsSound p → IsKept p c x s q tight weighted loose waiting joined atoms → IsVar (var_count p) l.var → holds_in x l ≡ true → y ≡ set x l.var None → r ≡ regain p c s q l → IsKept p c y s r tight weighted loose waiting joined atoms
+kept_back p c x y s q r tight weighted loose waiting joined atoms l sound h is holds told regained =
+    subst (λ (z : List (Option Bool)). IsKept p c z s r tight weighted loose waiting joined atoms) (sym told) (record {
       components = h.components;
       sized = length-set x l.var None ∙ h.sized;
       first = first_kept x l.var None is.0 h.first;
-      whole = back-length p c marks l ∙ h.whole;
+      pointers = undone p c x s q r l sound holds regained (ap length regained ∙ regain-length p c s q l) h.pointers;
       marks = h.marks;
       blank = h.blank;
       room = h.room;
-      queued = queued_back p c x marks l h.components sound holds h.whole h.queued;
+      seats = h.seats;
       none = h.none;
+      trivial = h.trivial;
       plain = h.plain;
-      joined = h.joined;
-    }))
+      found = h.found;
+    })
 
-pub kept_first : (p : Program) (c : Parts) (x : List (Option Bool)) (marks : List Bool) (tight weighted : Bool) (loose waiting : List Bool) (atoms : Atoms) → AreComponents p c → x ≡ replicate (var_count p + 1) None → length marks ≡ length c.members → AreMarked p c (length (atoms_of p)) marks → (tight ≡ true → (k : ℕ) → is_marked marks k ≡ false) → (weighted ≡ false → AreNormal p (length (bodies_of p))) → loose ≡ replicate (length (atoms_of p) + 1) false → waiting ≡ replicate (length (atoms_of p)) false → atoms ≡ [] → IsKept p c x marks tight weighted loose waiting atoms
-kept_first p c x marks tight weighted loose waiting atoms are is whole marked empty normal blank free nothing = record {
+-- ---- the start
+pub kept_first : (p : Program) (c : Parts) (x : List (Option Bool)) (s : List ℕ) (q : List Bool) (tight weighted : Bool) (loose waiting joined : List Bool) (atoms : Atoms) → AreComponents p c → x ≡ replicate (var_count p + 1) None → s ≡ replicate (length (atoms_of p) + 1) 0 → length q ≡ length (atoms_of p) → AreMarked c (length (atoms_of p)) q → (tight ≡ true → (k : ℕ) → is_marked q k ≡ false) → (weighted ≡ false → AreNormal p (length (bodies_of p))) → loose ≡ replicate (length (atoms_of p) + 1) false → waiting ≡ replicate (length (atoms_of p)) false → joined ≡ replicate (length (atoms_of p)) false → atoms ≡ [] → IsKept p c x s q tight weighted loose waiting joined atoms
+kept_first p c x s q tight weighted loose waiting joined atoms are is bare whole marked empty normal blank free seated nothing = record {
   components = are;
   sized = ap length is ∙ length-replicate (var_count p + 1) None;
   first = ap (λ (z : List (Option Bool)). value_of z 0) is ∙ none_at (var_count p + 1) 0;
-  whole = whole;
+  pointers = bare_pointers p c x s q (let none : ℕ = 0 in ap length bare ∙ length-replicate (length (atoms_of p) + 1) none) whole without (λ v at cyclic. marked v at.0 at.1 cyclic);
   marks = ap length blank ∙ length-replicate (length (atoms_of p) + 1) false;
   blank = subst AreBlank (sym blank) (blank_at (length (atoms_of p) + 1));
   room = ap length free ∙ length-replicate (length (atoms_of p)) false;
-  queued = queued_at_first p c x marks are marked;
-  none = λ is_tight y U loop. none_queued p c y marks (queued_at_first p c y marks are marked) (empty is_tight) U loop;
+  seats = ap length seated ∙ length-replicate (length (atoms_of p)) false;
+  none = λ e. without;
+  trivial = λ e v at. alone e v at (get_or c.trivial (get_or c.numbers v 0) false) refl;
   plain = normal;
-  joined = subst (AreJoined p) (sym nothing) (none_joined p);
+  found = subst (AreJoined p) (sym nothing) (none_joined p);
 }
+  where
+    without : AreBare s
+    without = subst AreBare (sym bare) (zero_at (length (atoms_of p) + 1))
 
--- another set was found, or none
-pub kept_found : (p : Program) (c : Parts) (x : List (Option Bool)) (marks : List Bool) (tight weighted : Bool) (loose waiting : List Bool) (atoms found : Atoms) → IsKept p c x marks tight weighted loose waiting atoms → AreJoined p found → IsKept p c x marks tight weighted loose waiting found
-kept_found p c x marks tight weighted loose waiting atoms found h joined = record {
+    alone : tight ≡ true → (v : ℕ) → IsAtomVar p v → (b : Bool) → b ≡ get_or c.trivial (get_or c.numbers v 0) false → get_or c.trivial (get_or c.numbers v 0) false ≡ true
+    alone is_tight v at true e = sym e
+    alone is_tight v at false e = absurd (false≢true (sym (empty is_tight (v - 1)) ∙ marked v at.0 at.1 (sym e)))
+
+-- ---- what is looked for
+-- what is left of the set that was found
+pub kept_rest : (p : Program) (c : Parts) (x : List (Option Bool)) (s : List ℕ) (q : List Bool) (tight weighted : Bool) (loose waiting joined : List Bool) (atoms whole new : Atoms) → IsKept p c x s q tight weighted loose waiting joined atoms → whole ≡ atoms → new ≡ open_of p x whole → IsKept p c x s q tight weighted loose waiting joined new
+kept_rest p c x s q tight weighted loose waiting joined atoms whole new h same is = record {
   components = h.components;
   sized = h.sized;
   first = h.first;
-  whole = h.whole;
+  pointers = h.pointers;
   marks = h.marks;
   blank = h.blank;
   room = h.room;
-  queued = h.queued;
+  seats = h.seats;
   none = h.none;
+  trivial = h.trivial;
   plain = h.plain;
-  joined = joined;
+  found = rest_joined p x atoms whole new same is h.found;
 }
 
-pub kept_rest : (p : Program) (c : Parts) (x : List (Option Bool)) (marks : List Bool) (tight weighted : Bool) (loose waiting : List Bool) (atoms whole new : Atoms) → IsKept p c x marks tight weighted loose waiting atoms → whole ≡ atoms → new ≡ open_of p x whole → IsKept p c x marks tight weighted loose waiting new
-kept_rest p c x marks tight weighted loose waiting atoms whole new h same is =
-    kept_found p c x marks tight weighted loose waiting atoms new h (rest_joined p x atoms whole new same is h.joined)
+-- a tight program has no unfounded set
+pub tight_none : (p : Program) (c : Parts) (x : List (Option Bool)) (s : List ℕ) (q : List Bool) (tight weighted : Bool) (loose waiting joined : List Bool) (atoms : Atoms) → IsKept p c x s q tight weighted loose waiting joined atoms → tight ≡ true → (U : Atoms) → IsUnfoundedLoop p x U → ⊥
+tight_none p c x s q tight weighted loose waiting joined atoms h is_tight U loop =
+    let a = some_member p x U loop.unfounded in
+    false≢true (sym (cyclic_of p c x U a.0 h.components loop a.1) ∙ h.trivial is_tight (var_of_atom p a.0) (atom_var p a.0 (loop.stand a.0 a.1)))

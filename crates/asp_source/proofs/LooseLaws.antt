@@ -24,8 +24,7 @@ use Rattle.asp_loop.specs.Parts.{form_of}
 use Rattle.asp_loop.proofs.EntailedLaws.{any_of}
 use Rattle.asp_loop.proofs.LoopLaws.{members, at_form, rule_excused}
 use Rattle.asp_loop.proofs.WeightedLaws.{AreItems, form_items, form_weighted}
-use Rattle.asp_source.specs.Marks.{is_marked, shown, is_founded, is_dropped, drop_at}
-use Rattle.asp_source.specs.Narrowing.{Narrows, AreStuck}
+use Rattle.asp_source.specs.Marks.{is_marked, shown, is_founded, is_dropped}
 use Rattle.asp_source.proofs.BodyLaws.{has-shown}
 use Rattle.asp_source.proofs.QueueLaws.{fewer, marked_within}
 
@@ -98,7 +97,7 @@ form_of-var p b listed =
     ap (nth_body p) (let e : var_of_form p b - length (atoms_of p) - 1 ≡ place_of (body_eq b) (bodies_of p) = omega arith in e) ∙ at_form b (bodies_of p) (body.All []) listed
 
 -- what is founded from outside of a set is in no unfounded part of it
-founded_out : (p : Program) (x : List (Option Bool)) (V U : Atoms) (a : ℕ) → IsSound p → is_founded p x V a ≡ true → is_unfounded p x U ≡ true → IsSubset U V → has U a ≡ true → ⊥
+pub founded_out : (p : Program) (x : List (Option Bool)) (V U : Atoms) (a : ℕ) → IsSound p → is_founded p x V a ≡ true → is_unfounded p x U ≡ true → IsSubset U V → has U a ≡ true → ⊥
 founded_out p x V U a sound founded unfounded sub member =
     let found = some (λ w. has (supports p a) w ≡ true) (λ w. not (is_excused p x V (form_of p w))) (supports p a) (members (supports p a)) founded in
     let form = in_forms p a found.0 found.1 in
@@ -123,94 +122,9 @@ atom_of_var p a v stands e =
     let back : v - 1 ≡ place_of (λ b. eqb b a) (atoms_of p) = omega (arith, e) in
     ap (nth_atom p) back ∙ at_place (atoms_of p) a stands
 
-pub narrows_same : (p : Program) (x : List (Option Bool)) (marks : List Bool) → Narrows p x marks marks
-narrows_same p x marks = record { size = refl; less = λ v e. e; keeps = λ U unfounded sub. sub }
-
-pub narrows_then : (p : Program) (x : List (Option Bool)) (a b c : List Bool) → Narrows p x a b → Narrows p x b c → Narrows p x a c
-narrows_then p x a b c h k = record {
-  size = k.size ∙ h.size;
-  less = λ v e. h.less v (k.less v e);
-  keeps = λ U unfounded sub. k.keeps U unfounded (h.keeps U unfounded sub);
-}
-
-pub narrows_one : (p : Program) (x : List (Option Bool)) (marks : List Bool) (v : ℕ) → IsSound p → Narrows p x marks (drop_at p x marks v)
-narrows_one p x marks v sound = cases (is_dropped p x marks v) refl
-  where
-    stays : (U : Atoms) (a : ℕ) → is_dropped p x marks v ≡ true → is_unfounded p x U ≡ true → IsSubset U (shown p marks) → has U a ≡ true → (t : Bool) → t ≡ eqb (var_of_atom p a) v → has (shown p (set marks v false)) a ≡ true
-    stays U a dropped unfounded sub member true q =
-        let inside = and_parts (is_marked marks (var_of_atom p a)) (has (atoms_of p) a) (sym (has-shown p marks a) ∙ sub a member) in
-        let same : nth_atom p (v - 1) ≡ a = atom_of_var p a v inside.1 (eqb-true (var_of_atom p a) v (sym q)) in
-        let founded : is_founded p x (shown p marks) a ≡ true = ap (is_founded p x (shown p marks)) (sym same) ∙ (and_parts (is_marked marks v) (is_founded p x (shown p marks) (nth_atom p (v - 1))) dropped).1 in
-        absurd (founded_out p x (shown p marks) U a sound founded unfounded sub member)
-    stays U a dropped unfounded sub member false q =
-        let inside = and_parts (is_marked marks (var_of_atom p a)) (has (atoms_of p) a) (sym (has-shown p marks a) ∙ sub a member) in
-        let ne : var_of_atom p a ≢ v = λ e. false≢true (q ∙ eq-eqb (var_of_atom p a) v e) in
-        has-shown p (set marks v false) a
-        ∙ and_from (is_marked (set marks v false) (var_of_atom p a)) (has (atoms_of p) a) (get_or-set_other marks v (var_of_atom p a) false false ne ∙ inside.0) inside.1
-
-    cases : (b : Bool) → b ≡ is_dropped p x marks v → Narrows p x marks (cond b (set marks v false) marks)
-    cases false q = narrows_same p x marks
-    cases true q = record {
-      size = length-set marks v false;
-      less = λ w e. unset_marked marks v w e;
-      keeps = λ U unfounded sub a member. stays U a (sym q) unfounded sub member (eqb (var_of_atom p a) v) refl;
-    }
-
 -- ---- a sweep
 abbrev pub marks_in : List Bool → ℕ
 marks_in marks = count_by (λ b. b) marks
 
 pub marks_less : (marks : List Bool) (v : ℕ) → is_marked marks v ≡ true → marks_in (set marks v false) < marks_in marks
 marks_less marks v e = fewer marks v (marked_within marks v e) e
-
-pub record Sweeping (p : Program) (x : List (Option Bool)) (initial now : List Bool) (vars : List ℕ) (i : ℕ) (dropped : Bool) : Type 0 where
-  pub narrows : Narrows p x initial now
-  pub most : marks_in now ≤ marks_in initial
-  pub fewer : dropped ≡ true → marks_in now < marks_in initial
-  pub still : dropped ≡ false → now ≡ initial
-  pub stuck : dropped ≡ false → (j : ℕ) (d : ℕ) → j < i → j < length vars → is_dropped p x initial (get_or vars j d) ≡ false
-
-pub sweep_begins : (p : Program) (x : List (Option Bool)) (marks : List Bool) (vars : List ℕ) → Sweeping p x marks marks vars 0 false
-sweep_begins p x marks vars = record {
-  narrows = narrows_same p x marks;
-  most = omega arith;
-  fewer = λ e. absurd (false≢true e);
-  still = λ e. refl;
-  stuck = λ e j d lt within. absurd (omega (arith, lt));
-}
-
-pub sweep_drops : (p : Program) (x : List (Option Bool)) (initial now new : List Bool) (vars : List ℕ) (i v : ℕ) (before : Bool) → IsSound p → new ≡ drop_at p x now v → is_dropped p x now v ≡ true → Sweeping p x initial now vars i before → Sweeping p x initial new vars (i + 1) true
-sweep_drops p x initial now new vars i v before sound is dropped h =
-    let next : new ≡ set now v false = is ∙ ap (λ b. cond b (set now v false) now) dropped in
-    let less = marks_less now v (and_parts (is_marked now v) (is_founded p x (shown p now) (nth_atom p (v - 1))) dropped).0 in
-    let count : marks_in new ≡ marks_in (set now v false) = ap marks_in next in
-    let most = h.most in
-    record {
-      narrows = narrows_then p x initial now new h.narrows (subst (λ (m : List Bool). Narrows p x now m) (sym is) (narrows_one p x now v sound));
-      most = omega (arith, less, count, most);
-      fewer = λ e. omega (arith, less, count, most);
-      still = λ e. absurd (false≢true (sym e));
-      stuck = λ e. absurd (false≢true (sym e));
-    }
-
-pub sweep_passes : (p : Program) (x : List (Option Bool)) (initial now new : List Bool) (vars : List ℕ) (i v : ℕ) (before : Bool) → new ≡ drop_at p x now v → is_dropped p x now v ≡ false → ((d : ℕ) → i < length vars → get_or vars i d ≡ v) → Sweeping p x initial now vars i before → Sweeping p x initial new vars (i + 1) before
-sweep_passes p x initial now new vars i v before is dropped at h =
-    let next : new ≡ now = is ∙ ap (λ b. cond b (set now v false) now) dropped in
-    record {
-      narrows = subst (λ (m : List Bool). Narrows p x initial m) (sym next) h.narrows;
-      most = subst (λ (m : List Bool). marks_in m ≤ marks_in initial) (sym next) h.most;
-      fewer = λ e. subst (λ (m : List Bool). marks_in m < marks_in initial) (sym next) (h.fewer e);
-      still = λ e. next ∙ h.still e;
-      stuck = λ e j d lt within. cases e j d lt within (eqb j i) refl;
-    }
-  where
-    cases : before ≡ false → (j : ℕ) (d : ℕ) → j < i + 1 → j < length vars → (b : Bool) → b ≡ eqb j i → is_dropped p x initial (get_or vars j d) ≡ false
-    cases e j d lt within true q =
-        let same : j ≡ i = eqb-true j i (sym q) in
-        let v_at : get_or vars j d ≡ v = ap (λ k. get_or vars k d) same ∙ at d (omega (arith, same, within)) in
-        ap (is_dropped p x initial) v_at ∙ ap (λ m. is_dropped p x m v) (sym (h.still e)) ∙ dropped
-    cases e j d lt within false q = h.stuck e j d (let ne : j ≢ i = (λ s. false≢true (q ∙ eq-eqb j i s)) in omega (arith, lt, ne)) within
-
-pub sweep_ends : (p : Program) (x : List (Option Bool)) (initial now : List Bool) (vars : List ℕ) (i : ℕ) → length vars ≤ i → Sweeping p x initial now vars i false → AreStuck p x now vars
-sweep_ends p x initial now vars i end h =
-    subst (λ (m : List Bool). AreStuck p x m vars) (sym (h.still refl)) (λ j d lt. h.stuck refl j d (omega (arith, end, lt)) lt)

@@ -1,11 +1,12 @@
 -- The queue of numbers: one that is marked stands in it once.
-use Rattle.std.proofs.Common.{◌≡◌, ◌≢◌, ℕ, suc, zero, ◌+◌, ◌-◌, ◌<◌, ◌≤◌, Bool, true, false, cond, eqb, List, [], ◌∷◌, ◌++◌, length, replicate, set, get_or, count_by, refl, sym, ap, ◌∙◌, subst, arith, get_or-set_other, get_or-set_same}
+use Rattle.std.proofs.Common.{◌≡◌, ◌≢◌, ℕ, suc, zero, ◌+◌, ◌-◌, ◌<◌, ◌≤◌, Bool, true, false, cond, ◌||◌, eqb, List, [], ◌∷◌, ◌++◌, length, replicate, set, get_or, count_by, refl, sym, ap, ◌∙◌, subst, arith, get_or-set_other, get_or-set_same}
+use Rattle.std.specs.List.{list_any}
 use Rattle.std.proofs.lemmas.Bool.{eq-eqb, eqb-true, false≢true}
 use Rattle.std.proofs.lemmas.Bool.Decides.{nat_tests}
 use Rattle.std.proofs.lemmas.Grind.{common_steps}
 use Rattle.std.proofs.lemmas.List.{length-set, get_or_push, length-replicate}
 use Rattle.std.proofs.lemmas.List.Folds.{sum_by-replicate}
-use Rattle.std.proofs.lemmas.List.Sums.{sum_by-set, sum_by_push, count_by-le-length, get_or-le-sum_by}
+use Rattle.std.proofs.lemmas.List.Sums.{sum_by-cons, sum_by-set, sum_by_push, count_by-le-length, get_or-le-sum_by}
 use Rattle.asp_source.specs.Queues.{IsQueue}
 use Rattle.asp_source.specs.Marks.{is_marked}
 
@@ -166,3 +167,28 @@ starts ts queue room n e f h = record {
   listed = λ w. ap (λ xs. count_by (λ x. eqb x w) xs) f ∙ sym (ap (λ xs. one_if (is_marked xs w)) e ∙ ap one_if (none_at n w));
   fits = omega (arith, h, ap length e, length-replicate n false);
 }
+
+-- what stands in the queue is marked, and all that is marked stands there
+pub queue_within : (ts : List Bool) (queue : List ℕ) (room i d : ℕ) → IsQueue ts queue room → i < length queue → get_or queue i d < length ts
+queue_within ts queue room i d q lt = marked_within ts w (marked (is_marked ts w) (q.listed w) one)
+  where
+    w : ℕ
+    w = get_or queue i d
+
+    one : 1 ≤ count_by (λ x. eqb x w) queue
+    one = omega (arith, ap one_if (eq-eqb w w refl), get_or-le-sum_by (same w) queue i d lt)
+
+    marked : (b : Bool) → count_by (λ x. eqb x w) queue ≡ cond b 1 0 → 1 ≤ count_by (λ x. eqb x w) queue → b ≡ true
+    marked true e l = refl
+    marked false e l = absurd (omega (arith, e, l))
+
+counted_there : (xs : List ℕ) (k : ℕ) → 1 ≤ count_by (λ x. eqb x k) xs → list_any (λ x. eqb x k) xs ≡ true
+counted_there [] k h = absurd (omega (arith, h))
+counted_there (x ∷ xs) k h = cases (eqb x k) (subst (λ (n : ℕ). 1 ≤ n) (sum_by-cons (same k) x xs) h) (counted_there xs k)
+  where
+    cases : (b : Bool) → 1 ≤ cond b 1 0 + count_by (λ x. eqb x k) xs → (1 ≤ count_by (λ x. eqb x k) xs → list_any (λ x. eqb x k) xs ≡ true) → (b || list_any (λ x. eqb x k) xs) ≡ true
+    cases true l later = refl
+    cases false l later = later (omega (arith, l))
+
+pub queue_all : (ts : List Bool) (queue : List ℕ) (room k : ℕ) → IsQueue ts queue room → is_marked ts k ≡ true → list_any (λ x. eqb x k) queue ≡ true
+queue_all ts queue room k q marked = counted_there queue k (let e = q.listed k ∙ ap one_if marked in omega (arith, e))

@@ -10,7 +10,7 @@ use Rattle.asp_vars.specs.Unfounded.{is_unfounded}
 use Rattle.asp_scc.specs.Components.{Stands}
 use Rattle.asp_loop.proofs.FoundedLaws.{has-filter}
 use Rattle.asp_source.specs.Loops.{AreJoined, IsUnfoundedLoop}
-use Rattle.asp_source.specs.Narrowing.{IsFound}
+use Rattle.asp_source.specs.Loops.{IsFound}
 use Rattle.asp_source.proofs.LookLaws.{is_at}
 use Rattle.asp_scc.proofs.SearchLaws.{get_or-any}
 

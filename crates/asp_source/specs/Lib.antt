@@ -1,6 +1,7 @@
 pub mod Loops
 pub mod Marks
 pub mod Queues
-pub mod Narrowing
-pub mod Touched
+pub mod Pointers
+pub mod Gathering
+pub mod Founding
 pub mod Kept

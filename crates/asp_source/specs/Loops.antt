@@ -13,7 +13,7 @@ use Rattle.asp_trail.specs.Trails.{IsVar}
 use Rattle.asp_trail.specs.Told.{Told}
 use Rattle.asp_trail.specs.Quiet.{is_calm}
 use Rattle.asp_scc.specs.Dependencies.{Reaches}
-use Rattle.asp_scc.specs.Components.{Stands, IsLoop}
+use Rattle.asp_scc.specs.Components.{Parts, component_of, Stands, IsLoop}
 use Rattle.asp_loop.specs.LoopNogoods.{IsLoopNogood}
 
 -- The atom is alone in its component, and doesn't reach itself.
@@ -46,3 +46,12 @@ pub record IsGiven (t : Told) (n : Nogood) : Type 0 where
   pub entailed : Entailed t.program n.lits
   pub within : All (λ l. IsVar (var_count t.program) l.var) n.lits
   pub wanted : is_calm t.values n.lits ≡ false
+
+-- No unfounded set has an atom in the component.
+abbrev pub HasNone : Program → Parts → List (Option Bool) → ℕ → Type 0
+HasNone p c x k = (U : Atoms) → IsUnfoundedLoop p x U → (a : ℕ) → IsTrue (has U a) → component_of p c a ≡ k → ⊥
+
+-- The set is unfounded, and has the atom.
+pub record IsFound (p : Program) (x : List (Option Bool)) (U : Atoms) (a : ℕ) : Type 0 where
+  pub loop : IsUnfoundedLoop p x U
+  pub member : IsTrue (has U a)

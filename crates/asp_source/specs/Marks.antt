@@ -1,5 +1,5 @@
 -- Sets of atoms as marks, at the places of their variables, and how bodies are read by them.
-use Rattle.std.specs.Prelude.{ℕ, ◌-◌, Bool, false, not, ◌&&◌, ◌∷◌, [], List, Option, filter, flat_map, if◌then◌else◌, slice_index_or, slice_set}
+use Rattle.std.specs.Prelude.{◌≡◌, ℕ, ◌+◌, ◌-◌, true, Bool, false, not, ◌&&◌, ◌∷◌, [], List, Option, filter, flat_map, if◌then◌else◌, slice_index_or, slice_set}
 use Rattle.std.specs.List.{list_any}
 use Rattle.asp_model.specs.declared.program.Program.{Program}
 use Rattle.asp_model.specs.Sets.{Atoms}
@@ -12,6 +12,10 @@ use Rattle.asp_loop.specs.Parts.{form_of}
 
 abbrev pub is_marked : List Bool → ℕ → Bool
 is_marked marks v = slice_index_or marks v false
+
+-- Nothing is marked.
+abbrev pub AreBlank : List Bool → Type 0
+AreBlank marks = (v : ℕ) → is_marked marks v ≡ false
 
 -- the atoms whose variables are marked
 abbrev pub shown : Program → List Bool → Atoms
@@ -33,19 +37,13 @@ is_founded p x U a = list_any (λ v. not (is_excused p x U (form_of p v))) (supp
 abbrev pub is_dropped : Program → List (Option Bool) → List Bool → ℕ → Bool
 is_dropped p x marks v = is_marked marks v && is_founded p x (shown p marks) (nth_atom p (v - 1))
 
-abbrev pub drop_at : Program → List (Option Bool) → List Bool → ℕ → List Bool
-drop_at p x marks v = if is_dropped p x marks v then slice_set marks v false else marks
-
--- the atom is marked unless it is false
-abbrev pub begin_at : List (Option Bool) → List Bool → ℕ → List Bool
-begin_at x marks v = slice_set marks v (not (holds_in x (F v)))
-
-abbrev pub clear_at : List Bool → ℕ → List Bool
-clear_at marks v = slice_set marks v false
-
 abbrev pub atom_if : Program → List Bool → ℕ → List ℕ
 atom_if p marks v = if is_marked marks v then nth_atom p (v - 1) ∷ [] else []
 
--- the atoms of those variables that are marked
-abbrev pub atoms_in : Program → List Bool → List ℕ → List ℕ
-atoms_in p marks vars = flat_map (atom_if p marks) vars
+-- the atoms of those places of which the variable is marked
+abbrev pub atoms_at : Program → List Bool → List ℕ → List ℕ
+atoms_at p marks places = flat_map (λ k. atom_if p marks (k + 1)) places
+
+-- places, where an atom that is marked is queued
+abbrev pub requeue_places : List Bool → List Bool → ℕ → List Bool
+requeue_places places marks v = if is_marked marks v then slice_set places (v - 1) true else places

@@ -1,14 +1,18 @@
-//! Candidates that are founded, and what they found in turn.
+//! Candidates that get a source, and what they found in turn.
 //!
 //! An atom that is a candidate no longer waits until the bodies were looked at in which it stands: they may found their
 //! heads now.
-ghost use Rattle.std.specs.Prelude.{◌≡◌, ◌+◌, ◌-◌, ◌<◌, All, length};
+ghost use Rattle.std.specs.Prelude.{◌≡◌, ◌+◌, ◌-◌, ◌<◌, true, false, All, IfNone, IfSome, IsTrue, length, count_by};
 ghost use Rattle.std.specs.List.{list_any};
 ghost use Rattle.asp_model.specs.Models.{atoms_of};
+ghost use Rattle.asp_model.specs.Sets.{has};
+ghost use Rattle.asp_vars.specs.Completion.{supports};
 ghost use Rattle.asp_vars.specs.Numbering.{bodies_of, var_count, nth_atom};
 ghost use Rattle.asp_vars.specs.Tabled.{IsAtomVar};
-ghost use Rattle.asp_source.specs.Marks.{is_marked, shown, is_founded, is_dropped, drop_at};
-ghost use Rattle.asp_source.specs.Narrowing.{Spreads};
+ghost use Rattle.asp_vars.specs.Unfounded.{is_excused};
+ghost use Rattle.asp_loop.specs.Parts.{form_of};
+ghost use Rattle.asp_source.specs.Marks.{is_marked, shown, is_founded, is_dropped};
+ghost use Rattle.asp_source.specs.Founding.{Founds, IsFoundBy};
 
 use crate::bodies::{is_firm, occurrences};
 use crate::queue::Queue;
@@ -16,62 +20,52 @@ use asp_vars::assign::Assign;
 use asp_vars::compiled::Compiled;
 use asp_vars::lit::{Lit, Var};
 
-// Whether a body of a rule for the atom isn't excused for the candidates.
-fn is_founded(compiled: &Compiled, values: &Assign, loose: &[bool], var: Var) -> bool
+// A body of a rule for the atom that isn't excused for the candidates.
+fn find_source(compiled: &Compiled, values: &Assign, loose: &[bool], var: Var) -> Option<Var>
     requires var { IsAtomVar compiled.now var }
     requires values { length values.now ≡ var_count compiled.now + 1 }
     requires loose { length loose.now ≡ length (atoms_of compiled.now) + 1 }
-    ensures { result ≡ is_founded compiled.now values.now (shown compiled.now loose.now) (nth_atom compiled.now (var - 1)) }
+    ensures none { IfNone result (is_founded compiled.now values.now (shown compiled.now loose.now) (nth_atom compiled.now (var - 1)) ≡ false) }
+    ensures some { IfSome result (IsFoundBy compiled.now values.now loose.now var) }
 {
     let atoms = compiled.atom_count();
     for body in compiled.supports(var) {
         if is_firm(compiled, values, loose, *body as usize - atoms - 1) {
-            return true;
+            return Some(*body);
         }
     }
-    false
+    None
 }
 
-// An atom that is founded is a candidate no longer. Says whether it was one.
-fn drop_founded(compiled: &Compiled, values: &Assign, loose: &mut [bool], var: Var) -> bool
-    requires var { IsAtomVar compiled.now var }
-    requires values { length values.now ≡ var_count compiled.now + 1 }
-    requires loose { length loose.old ≡ length (atoms_of compiled.now) + 1 }
-    ensures loose { loose.new ≡ drop_at compiled.now values.now loose.old var }
-    ensures dropped { result ≡ is_dropped compiled.now values.now loose.old var }
-{
-    if !loose[var as usize] {
-        return false;
-    }
-    if !is_founded(compiled, values, loose, var) {
-        return false;
-    }
-    loose[var as usize] = false;
-    true
-}
-
-/// An atom that is founded is a candidate no longer, and waits. Says whether it was one.
-pub fn let_go(
+/// A candidate that a body founds gets it as its source, is a candidate no longer, and waits. Says whether it was one.
+pub fn found_one(
     compiled: &Compiled,
     values: &Assign,
+    sources: &mut [Var],
     loose: &mut [bool],
     waiting: &mut Queue,
     var: Var,
 ) -> bool
     requires var { IsAtomVar compiled.now var }
     requires values { length values.now ≡ var_count compiled.now + 1 }
+    requires sources { length sources.old ≡ length (atoms_of compiled.now) + 1 }
     requires loose { length loose.old ≡ length (atoms_of compiled.now) + 1 }
     requires waiting { length waiting.old ≡ length (atoms_of compiled.now) }
-    ensures loose { loose.new ≡ drop_at compiled.now values.now loose.old var }
-    ensures dropped { result ≡ is_dropped compiled.now values.now loose.old var }
-    ensures spreads { Spreads compiled.now values.now loose.old waiting.old loose.new waiting.new }
+    ensures founds { Founds compiled.now values.now sources.old loose.old waiting.old sources.new loose.new waiting.new }
+    ensures founded { result ≡ is_dropped compiled.now values.now loose.old var }
+    ensures same { result ≡ false → loose.new ≡ loose.old }
+    ensures fewer { result ≡ true → count_by (λ b. b) loose.new < count_by (λ b. b) loose.old }
 {
-    let _program = compiled.program();
-    if drop_founded(compiled, values, loose, var) {
-        waiting.add(var - 1);
-        return true;
+    if !loose[var as usize] {
+        return false;
     }
-    false
+    let Some(body) = find_source(compiled, values, loose, var) else {
+        return false;
+    };
+    sources[var as usize] = body;
+    loose[var as usize] = false;
+    waiting.add(var - 1);
+    true
 }
 
 // Whether one of these atoms is a candidate.
@@ -87,22 +81,24 @@ fn is_some_loose(loose: &[bool], vars: &[Var]) -> bool
     false
 }
 
-// Lets those of these atoms go that are founded.
-fn let_each_go(
+// Those of these atoms get a source that a body founds.
+fn found_each(
     compiled: &Compiled,
     values: &Assign,
+    sources: &mut [Var],
     loose: &mut [bool],
     waiting: &mut Queue,
     vars: &[Var],
 )
     requires vars { All (IsAtomVar compiled.now) vars.now }
     requires values { length values.now ≡ var_count compiled.now + 1 }
+    requires sources { length sources.old ≡ length (atoms_of compiled.now) + 1 }
     requires loose { length loose.old ≡ length (atoms_of compiled.now) + 1 }
     requires waiting { length waiting.old ≡ length (atoms_of compiled.now) }
-    ensures { Spreads compiled.now values.now loose.old waiting.old loose.new waiting.new }
+    ensures { Founds compiled.now values.now sources.old loose.old waiting.old sources.new loose.new waiting.new }
 {
     for var in vars {
-        let_go(compiled, values, loose, waiting, *var);
+        found_one(compiled, values, sources, loose, waiting, *var);
     }
 }
 
@@ -115,55 +111,80 @@ fn is_founding(compiled: &Compiled, values: &Assign, loose: &[bool], body: usize
     is_some_loose(loose, compiled.heads(body)) && is_firm(compiled, values, loose, body)
 }
 
-// Lets the heads of a body go if it founds them.
-fn let_heads_go(
+// The heads of a body get sources if it founds them.
+fn found_heads(
     compiled: &Compiled,
     values: &Assign,
+    sources: &mut [Var],
     loose: &mut [bool],
     waiting: &mut Queue,
     body: usize,
 )
     requires body { body < length (bodies_of compiled.now) }
     requires values { length values.now ≡ var_count compiled.now + 1 }
+    requires sources { length sources.old ≡ length (atoms_of compiled.now) + 1 }
     requires loose { length loose.old ≡ length (atoms_of compiled.now) + 1 }
     requires waiting { length waiting.old ≡ length (atoms_of compiled.now) }
-    ensures { Spreads compiled.now values.now loose.old waiting.old loose.new waiting.new }
+    ensures { Founds compiled.now values.now sources.old loose.old waiting.old sources.new loose.new waiting.new }
 {
     if !is_founding(compiled, values, loose, body) {
         return;
     }
-    let_each_go(compiled, values, loose, waiting, compiled.heads(body));
+    found_each(
+        compiled,
+        values,
+        sources,
+        loose,
+        waiting,
+        compiled.heads(body),
+    );
 }
 
 // Looks at the bodies in which an atom stands.
 fn spread_from(
     compiled: &Compiled,
     values: &Assign,
+    sources: &mut [Var],
     loose: &mut [bool],
     waiting: &mut Queue,
     var: Var,
 )
     requires var { IsAtomVar compiled.now var }
     requires values { length values.now ≡ var_count compiled.now + 1 }
+    requires sources { length sources.old ≡ length (atoms_of compiled.now) + 1 }
     requires loose { length loose.old ≡ length (atoms_of compiled.now) + 1 }
     requires waiting { length waiting.old ≡ length (atoms_of compiled.now) }
-    ensures { Spreads compiled.now values.now loose.old waiting.old loose.new waiting.new }
+    ensures { Founds compiled.now values.now sources.old loose.old waiting.old sources.new loose.new waiting.new }
 {
     let _vars = compiled.vars();
     for occurrence in occurrences(compiled, Lit::new(var, true)) {
-        let_heads_go(compiled, values, loose, waiting, occurrence.body as usize);
+        found_heads(
+            compiled,
+            values,
+            sources,
+            loose,
+            waiting,
+            occurrence.body as usize,
+        );
     }
 }
 
 /// Looks at the bodies in which waiting atoms stand, until none waits.
-pub fn spread(compiled: &Compiled, values: &Assign, loose: &mut [bool], waiting: &mut Queue)
+pub fn spread(
+    compiled: &Compiled,
+    values: &Assign,
+    sources: &mut [Var],
+    loose: &mut [bool],
+    waiting: &mut Queue,
+)
     requires values { length values.now ≡ var_count compiled.now + 1 }
+    requires sources { length sources.old ≡ length (atoms_of compiled.now) + 1 }
     requires loose { length loose.old ≡ length (atoms_of compiled.now) + 1 }
     requires waiting { length waiting.old ≡ length (atoms_of compiled.now) }
-    ensures { Spreads compiled.now values.now loose.old waiting.old loose.new waiting.new }
+    ensures { Founds compiled.now values.now sources.old loose.old waiting.old sources.new loose.new waiting.new }
 {
     let _vars = compiled.vars();
     while let Some(place) = waiting.pop() {
-        spread_from(compiled, values, loose, waiting, place + 1);
+        spread_from(compiled, values, sources, loose, waiting, place + 1);
     }
 }

@@ -1,66 +1,45 @@
-//! Candidates for an unfounded set: atoms of a component that aren't false, and that nothing has founded yet.
+//! Candidates for an unfounded set: atoms of a component that aren't false, and that have no source yet.
 //!
-//! At the start all of them are candidates. A candidate with a body that isn't excused for the set of all candidates is
-//! in no unfounded set of candidates, since an unfounded set excuses each body that a smaller one excuses; so it goes.
-//! When none goes any more, all bodies of those left are excused: they are unfounded, or there are none.
-ghost use Rattle.std.specs.Prelude.{◌≡◌, ◌+◌, ◌-◌, ◌<◌, ◌≤◌, ◌^◌, ◌++◌, true, false, All, IfNone, IfSome, OnOk, IsTrue, length, fold, count_by};
+//! A candidate with a body that isn't excused for the set of all candidates gets it as its source; so it goes. When none
+//! goes any more, all bodies of those left are excused: they are unfounded, or there are none.
+ghost use Rattle.std.specs.Prelude.{◌≡◌, ℕ, ◌+◌, ◌-◌, ◌<◌, ◌≤◌, ◌^◌, ◌++◌, true, false, All, IfNone, IfSome, OnOk, length, count_by, slice_set};
 ghost use Rattle.asp_model.specs.Models.{atoms_of};
 ghost use Rattle.asp_vars.specs.Numbering.{var_count, nth_atom};
 ghost use Rattle.asp_vars.specs.Tabled.{IsAtomVar};
-ghost use Rattle.asp_source.specs.Marks.{is_marked, begin_at, clear_at, atom_if, atoms_in};
-ghost use Rattle.asp_source.specs.Narrowing.{Narrows, AreStuck};
+ghost use Rattle.asp_source.specs.Marks.{is_marked, atom_if, atoms_at, requeue_places};
+ghost use Rattle.asp_source.specs.Marks.{AreBlank};
+ghost use Rattle.asp_source.specs.Founding.{Founds, AreStuck};
 
-use crate::founding::{let_go, spread};
+use crate::founding::{found_one, spread};
 use crate::queue::Queue;
 use asp_model::program::Atom;
 use asp_vars::assign::Assign;
 use asp_vars::compiled::Compiled;
-use asp_vars::lit::{Lit, Var};
+use asp_vars::lit::Var;
 use std::alloc::AllocError;
-
-/// Makes candidates of those atoms that aren't false.
-pub fn begin(values: &Assign, loose: &mut [bool], vars: &[Var])
-    requires loose { All (λ v. v < length loose.old) vars.now }
-    requires values { All (λ v. v < length values.now) vars.now }
-    requires few { length values.now ≤ 2 ^ 31 }
-    ensures { loose.new ≡ fold (begin_at values.now) loose.old vars.now }
-{
-    for var in vars {
-        loose[*var as usize] = !values.holds(Lit::new(*var, false));
-    }
-}
-
-/// Makes candidates of none of these atoms.
-pub fn clear(loose: &mut [bool], vars: &[Var])
-    requires { All (λ v. v < length loose.old) vars.now }
-    ensures { loose.new ≡ fold clear_at loose.old vars.now }
-{
-    for var in vars {
-        loose[*var as usize] = false;
-    }
-}
 
 // Looks at each of the atoms once, and says whether there is a candidate less.
 fn sweep(
     compiled: &Compiled,
     values: &Assign,
+    sources: &mut [Var],
     loose: &mut [bool],
     waiting: &mut Queue,
-    vars: &[Var],
+    places: &[u32],
 ) -> bool
-    requires vars { All (IsAtomVar compiled.now) vars.now }
+    requires places { All (λ k. k < length (atoms_of compiled.now)) places.now }
     requires values { length values.now ≡ var_count compiled.now + 1 }
+    requires sources { length sources.old ≡ length (atoms_of compiled.now) + 1 }
     requires loose { length loose.old ≡ length (atoms_of compiled.now) + 1 }
     requires waiting { length waiting.old ≡ length (atoms_of compiled.now) }
-    ensures room { length waiting.new ≡ length waiting.old }
-    ensures narrows { Narrows compiled.now values.now loose.old loose.new }
+    ensures founds { Founds compiled.now values.now sources.old loose.old waiting.old sources.new loose.new waiting.new }
     ensures fewer { result ≡ true → count_by (λ b. b) loose.new < count_by (λ b. b) loose.old }
-    ensures stuck { result ≡ false → AreStuck compiled.now values.now loose.new vars.now }
+    ensures stuck { result ≡ false → AreStuck compiled.now values.now loose.new places.now }
 {
-    let _program = compiled.program();
+    let _vars = compiled.vars();
     let mut dropped = false;
-    for var in vars {
-        if let_go(compiled, values, loose, waiting, *var) {
+    for place in places {
+        if found_one(compiled, values, sources, loose, waiting, *place + 1) {
             dropped = true;
         }
     }
@@ -69,45 +48,48 @@ fn sweep(
 
 /// Leaves those candidates that nothing founds from outside of them.
 ///
-/// The atoms that a sweep lets go found others, and all that these found; so the next sweep mostly is the last.
+/// The atoms that get a source in a sweep found others, and all that these found; so the next sweep mostly is the last.
 pub fn settle(
     compiled: &Compiled,
     values: &Assign,
+    sources: &mut [Var],
     loose: &mut [bool],
     waiting: &mut Queue,
-    vars: &[Var],
+    places: &[u32],
 )
-    requires vars { All (IsAtomVar compiled.now) vars.now }
+    requires places { All (λ k. k < length (atoms_of compiled.now)) places.now }
     requires values { length values.now ≡ var_count compiled.now + 1 }
+    requires sources { length sources.old ≡ length (atoms_of compiled.now) + 1 }
     requires loose { length loose.old ≡ length (atoms_of compiled.now) + 1 }
     requires waiting { length waiting.old ≡ length (atoms_of compiled.now) }
-    ensures room { length waiting.new ≡ length waiting.old }
-    ensures narrows { Narrows compiled.now values.now loose.old loose.new }
-    ensures stuck { AreStuck compiled.now values.now loose.new vars.now }
+    ensures founds { Founds compiled.now values.now sources.old loose.old waiting.old sources.new loose.new waiting.new }
+    ensures stuck { AreStuck compiled.now values.now loose.new places.now }
 {
     'rounds: loop {
-        let dropped = sweep(compiled, values, loose, waiting, vars);
+        let dropped = sweep(compiled, values, sources, loose, waiting, places);
         if !dropped {
             break;
         }
-        spread(compiled, values, loose, waiting);
+        spread(compiled, values, sources, loose, waiting);
     }
 }
 
 /// A candidate among these atoms, a true one if there is one.
-pub fn choose(values: &Assign, loose: &[bool], vars: &[Var]) -> Option<Var>
-    requires loose { All (λ v. v < length loose.now) vars.now }
-    requires values { All (λ v. v < length values.now) vars.now }
-    ensures none { IfNone result (All (λ v. is_marked loose.now v ≡ false) vars.now) }
+pub fn choose(values: &Assign, loose: &[bool], places: &[u32]) -> Option<Var>
+    requires few { length loose.now ≤ 2 ^ 32 }
+    requires loose { All (λ k. k + 1 < length loose.now) places.now }
+    requires values { All (λ k. k + 1 < length values.now) places.now }
+    ensures none { IfNone result (All (λ k. is_marked loose.now (k + 1) ≡ false) places.now) }
     ensures some { IfSome result (λ v. is_marked loose.now v ≡ true) }
 {
     let mut chosen = None;
-    for var in vars {
-        if loose[*var as usize] {
-            if values.value(*var) == Some(true) {
-                return Some(*var);
+    for place in places {
+        let var = *place + 1;
+        if loose[var as usize] {
+            if values.value(var) == Some(true) {
+                return Some(var);
             }
-            chosen = Some(*var);
+            chosen = Some(var);
         }
     }
     chosen
@@ -141,16 +123,50 @@ fn push_candidate(
 pub fn collect(
     compiled: &Compiled,
     loose: &[bool],
-    vars: &[Var],
+    places: &[u32],
     atoms: &mut Vec<Atom>,
 ) -> Result<(), AllocError>
-    requires vars { All (IsAtomVar compiled.now) vars.now }
+    requires places { All (λ k. k < length (atoms_of compiled.now)) places.now }
     requires loose { length loose.now ≡ length (atoms_of compiled.now) + 1 }
-    ensures { OnOk result (atoms.new.items ≡ atoms_in compiled.now loose.now vars.now) }
+    ensures { OnOk result (atoms.new.items ≡ atoms_at compiled.now loose.now places.now) }
 {
+    let _vars = compiled.vars();
     atoms.clear();
-    for var in vars {
-        push_candidate(compiled, loose, *var, atoms)?;
+    for place in places {
+        push_candidate(compiled, loose, *place + 1, atoms)?;
     }
     Ok(())
+}
+
+// An atom that is a candidate still is queued, and is a candidate no longer.
+fn requeue(queue: &mut Queue, loose: &mut [bool], var: Var)
+    requires var { 0 < var }
+    requires loose { var < length loose.old }
+    requires queue { length queue.old + 1 ≡ length loose.old }
+    ensures queue { queue.new ≡ requeue_places queue.old loose.old var }
+    ensures loose { loose.new ≡ slice_set loose.old var false }
+{
+    let was = loose[var as usize];
+    loose[var as usize] = false;
+    if was {
+        queue.add(var - 1);
+    }
+}
+
+/// All that joined leave: those that are candidates still are queued, and none is one any longer.
+pub fn drain(queue: &mut Queue, loose: &mut [bool], joined: &mut Queue)
+    requires queue { length queue.old + 1 ≡ length loose.old }
+    requires joined { length joined.old ≡ length queue.old }
+    requires few { length loose.old ≤ 2 ^ 31 }
+    requires listed { (v : ℕ) → is_marked loose.old v ≡ true → (0 < v) × (is_marked joined.old (v - 1) ≡ true) }
+    ensures room { length queue.new ≡ length queue.old }
+    ensures seats { length joined.new ≡ length joined.old }
+    ensures blank { AreBlank loose.new }
+    ensures more { (k : ℕ) → is_marked queue.old k ≡ true → is_marked queue.new k ≡ true }
+    ensures queued { (v : ℕ) → is_marked loose.old v ≡ true → is_marked queue.new (v - 1) ≡ true }
+    ensures same { AreBlank loose.old → queue.new ≡ queue.old }
+{
+    while let Some(place) = joined.pop() {
+        requeue(queue, loose, place + 1);
+    }
 }

@@ -1,5 +1,6 @@
 //! A queue of numbers, each of which stands in it once.
-ghost use Rattle.std.specs.Prelude.{◌≡◌, ℕ, ◌<◌, false, true, IfOk, IfNone, IfSome, length, replicate, slice_set, count_by};
+ghost use Rattle.std.specs.Prelude.{◌≡◌, ℕ, ◌<◌, false, true, All, IfOk, IfNone, IfSome, IsTrue, length, replicate, slice_set, count_by};
+ghost use Rattle.asp_model.specs.Sets.{has};
 ghost use Rattle.asp_source.specs.Marks.{is_marked};
 
 use std::alloc::{AllocError, Global};
@@ -39,6 +40,14 @@ impl Queue {
         ensures { result ≡ true → (k : ℕ) → is_marked self.now k ≡ false }
     {
         self.queue.is_empty()
+    }
+
+    /// The numbers, in some order.
+    pub fn as_slice(&self) -> &[u32]
+        ensures within { All (λ k. k < length self.now) result.now }
+        ensures all { (k : ℕ) → is_marked self.now k ≡ true → IsTrue (has result.now k) }
+    {
+        self.queue.as_slice()
     }
 
     /// Adds a number, if it isn't there. It takes no memory.

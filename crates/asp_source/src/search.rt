@@ -1,67 +1,86 @@
-//! The search for an unfounded set, component by component.
-ghost use Rattle.std.specs.Prelude.{◌≡◌, ◌+◌, ◌<◌, IfOk, IfNone, IfSome, MatchOption, length};
+//! The search for an unfounded set, from atoms without a source.
+ghost use Rattle.std.specs.Prelude.{◌≡◌, ◌+◌, ◌-◌, true, [], IfOk, IfNone, IfSome, length, slice_set};
 ghost use Rattle.asp_model.specs.Models.{atoms_of};
 ghost use Rattle.asp_vars.specs.Numbering.{var_count};
+ghost use Rattle.asp_vars.specs.Tabled.{IsAtomVar};
 ghost use Rattle.asp_scc.specs.Components.{AreComponents};
 ghost use Rattle.asp_source.specs.Loops.{IsUnfoundedLoop};
-ghost use Rattle.asp_source.specs.Narrowing.{AreBlank, HasNone, IsFound};
-ghost use Rattle.asp_source.specs.Touched.{AreQueued};
+ghost use Rattle.asp_source.specs.Marks.{AreBlank};
+ghost use Rattle.asp_source.specs.Loops.{IsFound};
+ghost use Rattle.asp_source.specs.Pointers.{ArePointers};
 ghost use Rattle.asp_model.specs.Sets.{Atoms};
 
-use crate::loose::{atom_at, begin, choose, clear, collect, settle};
+use crate::gather::{gather, join};
+use crate::loose::{atom_at, choose, collect, drain, settle};
 use crate::queue::Queue;
 use asp_model::program::Atom;
 use asp_scc::components::Components;
 use asp_vars::assign::Assign;
 use asp_vars::compiled::Compiled;
+use asp_vars::lit::Var;
 use std::alloc::AllocError;
 
-// The greatest unfounded set within a component, and an atom of it, a true one if there is one. No atom is a candidate
-// before or after it.
+// An unfounded set and an atom of it, a true one if there is one: of those that join an atom without source. If there
+// is none, all of them have a source then, and the queue is as it was. No atom is a candidate before or after it.
 fn look(
     compiled: &Compiled,
     components: &Components,
     values: &Assign,
-    component: u32,
+    var: Var,
+    sources: &mut [Var],
+    queue: &mut Queue,
     loose: &mut [bool],
     waiting: &mut Queue,
+    joined: &mut Queue,
     atoms: &mut Vec<Atom>,
 ) -> Result<Option<Atom>, AllocError>
     requires components { AreComponents compiled.now components.now }
-    requires component { component < length components.now.members }
     requires values { length values.now ≡ var_count compiled.now + 1 }
     requires loose { length loose.old ≡ length (atoms_of compiled.now) + 1 }
     requires blank { AreBlank loose.old }
     requires waiting { length waiting.old ≡ length (atoms_of compiled.now) }
+    requires joined { length joined.old ≡ length (atoms_of compiled.now) }
+    requires var { IsAtomVar compiled.now var }
+    requires pointers { ArePointers compiled.now components.now values.now sources.old (slice_set queue.old (var - 1) true) [] }
     ensures room { length waiting.new ≡ length waiting.old }
+    ensures seats { length joined.new ≡ length joined.old }
     ensures blank { AreBlank loose.new }
-    ensures found { IfOk result (λ o. MatchOption o (HasNone compiled.now components.now values.now component) (λ a. IsFound compiled.now values.now atoms.new.items a)) }
+    ensures pointers { ArePointers compiled.now components.now values.now sources.new queue.new [] }
+    ensures same { IfOk result (λ o. IfNone o (queue.new ≡ queue.old)) }
+    ensures found { IfOk result (λ o. IfSome o (λ a. IsFound compiled.now values.now atoms.new.items a)) }
 {
-    if components.trivial(component) {
+    let _program = compiled.program();
+    let _vars = compiled.vars();
+    let component = components.of(var);
+    if sources[var as usize] != 0 || components.trivial(component) {
         return Ok(None);
     }
-    let _vars = compiled.vars();
-    let _program = compiled.program();
-    let vars = components.members(component);
-    begin(values, loose, vars);
-    settle(compiled, values, loose, waiting, vars);
-    let Some(var) = choose(values, loose, vars) else {
+    join(values, loose, waiting, joined, var);
+    gather(
+        compiled, components, values, component, sources, loose, waiting, joined,
+    );
+    let places = joined.as_slice();
+    settle(compiled, values, sources, loose, waiting, places);
+    let chosen = choose(values, loose, places);
+    let collected = collect(compiled, loose, places, atoms);
+    drain(queue, loose, joined);
+    collected?;
+    let Some(var) = chosen else {
         return Ok(None);
     };
-    let collected = collect(compiled, loose, vars, atoms);
-    clear(loose, vars);
-    collected?;
     Ok(Some(atom_at(compiled, var)))
 }
 
-/// An unfounded set within a component, and an atom of it, if there is one. Components without one leave the queue.
+/// An unfounded set, and an atom of it, if there is one. Atoms that get a source leave the queue, and false ones.
 pub fn first_unfounded(
     compiled: &Compiled,
     components: &Components,
     values: &Assign,
+    sources: &mut [Var],
     queue: &mut Queue,
     loose: &mut [bool],
     waiting: &mut Queue,
+    joined: &mut Queue,
     atoms: &mut Vec<Atom>,
 ) -> Result<Option<Atom>, AllocError>
     requires components { AreComponents compiled.now components.now }
@@ -69,28 +88,32 @@ pub fn first_unfounded(
     requires loose { length loose.old ≡ length (atoms_of compiled.now) + 1 }
     requires blank { AreBlank loose.old }
     requires waiting { length waiting.old ≡ length (atoms_of compiled.now) }
-    requires whole { length queue.old ≡ length components.now.members }
-    requires queued { AreQueued compiled.now components.now values.now queue.old }
+    requires joined { length joined.old ≡ length (atoms_of compiled.now) }
+    requires pointers { ArePointers compiled.now components.now values.now sources.old queue.old [] }
     ensures room { length waiting.new ≡ length waiting.old }
+    ensures seats { length joined.new ≡ length joined.old }
     ensures blank { AreBlank loose.new }
-    ensures whole { length queue.new ≡ length components.now.members }
-    ensures queued { AreQueued compiled.now components.now values.now queue.new }
+    ensures pointers { ArePointers compiled.now components.now values.now sources.new queue.new [] }
     ensures none { IfOk result (λ o. IfNone o ((U : Atoms) → IsUnfoundedLoop compiled.now values.now U → ⊥)) }
     ensures some { IfOk result (λ o. IfSome o (λ a. IsFound compiled.now values.now atoms.new.items a)) }
 {
-    while let Some(component) = queue.pop() {
-        match look(
-            compiled, components, values, component, loose, waiting, atoms,
-        ) {
-            Ok(None) => {}
-            Ok(Some(atom)) => {
-                queue.add(component);
-                return Ok(Some(atom));
-            }
-            Err(error) => {
-                queue.add(component);
-                return Err(error);
-            }
+    let _program = compiled.program();
+    let _vars = compiled.vars();
+    while let Some(place) = queue.pop() {
+        let found = look(
+            compiled,
+            components,
+            values,
+            place + 1,
+            sources,
+            queue,
+            loose,
+            waiting,
+            joined,
+            atoms,
+        )?;
+        if let Some(atom) = found {
+            return Ok(Some(atom));
         }
     }
     Ok(None)

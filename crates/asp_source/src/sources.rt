@@ -4,11 +4,10 @@
 //! has a body of a rule for one of them that isn't false and doesn't need the set. What has none can't be true, and a
 //! loop nogood says so.
 //!
-//! It keeps true, after every list of calls: a component that isn't queued has no unfounded set of atoms that aren't
-//! false. `assign` queues the components of the heads of a body that comes to be false, and of the heads of a weight
-//! body of which a literal comes to be false. `undo` queues the component of an atom that was false: no other call for
-//! less can make a set unfounded. Trivial components are never queued. Where all components are trivial, the program is
-//! tight: no value makes a set unfounded, and nothing is ever queued.
+//! It keeps source pointers: see `pointers`. `assign` queues the atoms that a false body founded, and those that a weight
+//! body founded of which a literal comes to be false. `undo` queues an atom that was false, if it lost its source
+//! meanwhile. Atoms of trivial components have no source, and are never queued. Where all components are trivial, the
+//! program is tight: no value makes a set unfounded, and nothing is ever queued.
 ghost use Rattle.std.specs.Prelude.{◌≡◌, ◌+◌, None, IsTrue, IfOk, IfNone, IfSome, replicate};
 ghost use Rattle.asp_model.specs.Sets.{Atoms};
 ghost use Rattle.asp_vars.specs.Literals.{value_of, holds_in};
@@ -18,10 +17,11 @@ ghost use Rattle.asp_trail.specs.Trails.{IsVar};
 ghost use Rattle.asp_trail.specs.Told.{told, untold};
 ghost use Rattle.asp_source.specs.Loops.{IsUnfoundedLoop, IsGiven};
 
+use crate::pointers::{lose_by, regain};
 use crate::queue::Queue;
 use crate::rest::{choose_atom, open_atoms};
 use crate::search::first_unfounded;
-use crate::touch::{has_weights, queue_of, touch_back, touch_by};
+use crate::start::{has_weights, queue_of};
 use asp_loop::loops::loop_nogood;
 use asp_model::program::Atom;
 use asp_scc::components::Components;
@@ -29,7 +29,7 @@ use asp_scc::find::components;
 use asp_trail::trail::Trail;
 use asp_vars::assign::Assign;
 use asp_vars::compiled::Compiled;
-use asp_vars::lit::Lit;
+use asp_vars::lit::{Lit, Var};
 use asp_vars::nogood::Nogood;
 use std::alloc::{AllocError, Global};
 use std::marker::Model;
@@ -41,11 +41,13 @@ pub struct Sources<'a> {
     compiled: &'a Compiled,
     components: Components,
     values: Assign,
+    sources: Vec<Var>,
     queue: Queue,
     tight: bool,
     weighted: bool,
     loose: Vec<bool>,
     waiting: Queue,
+    joined: Queue,
     atoms: Vec<Atom>,
 }
 
@@ -58,7 +60,7 @@ impl<'a> Model for Sources<'a> {
 
     ghost view = { λ s. record { program = s.compiled.now; values = s.values } };
 
-    ghost invariant = { λ s. IsKept s.compiled.now s.components s.values s.queue s.tight s.weighted s.loose.items s.waiting s.atoms.items };
+    ghost invariant = { λ s. IsKept s.compiled.now s.components s.values s.sources.items s.queue s.tight s.weighted s.loose.items s.waiting s.joined s.atoms.items };
 }
 
 impl<'a> Sources<'a> {
@@ -70,22 +72,26 @@ impl<'a> Sources<'a> {
     {
         let components = components(alloc, compiled)?;
         let values = Assign::new(alloc, compiled.vars())?;
+        let sources = vec![in alloc; 0 as u32; compiled.atom_count() + 1]?;
         let queue = queue_of(alloc, compiled, &components)?;
         let tight = queue.is_empty();
         let weighted = has_weights(compiled);
         let loose = vec![in alloc; false; compiled.atom_count() + 1]?;
         let waiting = Queue::new(alloc, compiled.atom_count())?;
+        let joined = Queue::new(alloc, compiled.atom_count())?;
         let atoms = Vec::with_capacity(alloc, compiled.atom_count())?;
         Ok(Sources {
             alloc,
             compiled,
             components,
             values,
+            sources,
             queue,
             tight,
             weighted,
             loose,
             waiting,
+            joined,
             atoms,
         })
     }
@@ -101,10 +107,10 @@ impl<'a> Sources<'a> {
         if self.tight {
             return;
         }
-        touch_by(
+        lose_by(
             self.compiled,
-            &self.components,
             self.weighted,
+            self.sources.as_mut_slice(),
             &mut self.queue,
             lit,
         );
@@ -118,7 +124,13 @@ impl<'a> Sources<'a> {
     {
         let _program = self.compiled.program();
         self.values.unset(lit.var());
-        touch_back(self.compiled, &self.components, &mut self.queue, lit);
+        regain(
+            self.compiled,
+            &self.components,
+            self.sources.as_slice(),
+            &mut self.queue,
+            lit,
+        );
     }
 
     // The loop nogood of what is left of the set that was found last, if it is unfounded still.
@@ -150,20 +162,25 @@ impl<'a> Sources<'a> {
         Ok(Some(nogood))
     }
 
-    // The loop nogood of a set that queued components have.
+    // The loop nogood of a set that a queued atom brings with it.
     fn search(&mut self) -> Result<Option<Nogood>, AllocError>
         ensures same { self.new ≡ self.old }
         ensures none { IfOk result (λ n. IfNone n ((U : Atoms) → IsUnfoundedLoop self.old.program self.old.values U → ⊥)) }
         ensures given { IfOk result (λ n. IfSome n (IsGiven self.old)) }
     {
         let _program = self.compiled.program();
+        if self.tight {
+            return Ok(None);
+        }
         let found = first_unfounded(
             self.compiled,
             &self.components,
             &self.values,
+            self.sources.as_mut_slice(),
             &mut self.queue,
             self.loose.as_mut_slice(),
             &mut self.waiting,
+            &mut self.joined,
             &mut self.atoms,
         );
         let found = match found {

@@ -2,7 +2,7 @@ use Rattle.std.proofs.Common.{◌<◌, List, length, sym, subst}
 use Rattle.std.specs.Prelude.{All}
 use Rattle.asp_table.specs.declared.columns.Occurrence.{Occurrence}
 use Rattle.asp_vars.specs.Numbering.{bodies_of}
-use Rattle.asp_source.proofs.TouchLaws.{occurrences_small}
+use Rattle.asp_source.proofs.ChangeLaws.{occurrences_small}
 use Rattle.asp_source.proofs.bodies.occurrences.Goals as goal
 
 pub returns-clause-bodies : goal.returns-clause-bodies

@@ -1,29 +1,25 @@
-use Rattle.std.proofs.Common.{◌+◌, Bool, get_or, refl, sym, ◌∙◌, subst, arith}
+use Rattle.std.proofs.Common.{◌+◌, Bool, get_or, sym, ◌∙◌, subst, arith}
 use Rattle.asp_scc.proofs.SearchLaws.{get_or-any}
-use Rattle.asp_source.proofs.LooseLaws.{Sweeping, sweep_begins, sweep_drops, sweep_passes, sweep_ends}
+use Rattle.asp_source.proofs.FoundLaws.{Sweeping, sweep_begins, sweep_drops, sweep_passes, sweep_ends}
 use Rattle.asp_source.proofs.loose.sweep.Goals as goal
-use Rattle.asp_source.proofs.loose.sweep.Goals.{then-let_go, else-let_go}
+use Rattle.asp_source.proofs.loose.sweep.Goals.{then-found_one, else-found_one}
 
-pub loop-var-init : goal.loop-var-init
-loop-var-init c = (sweep_begins c.args.compiled.now c.args.values.now c.args.loose.now c.args.vars.now, refl)
+pub overflow_add-place : goal.overflow_add-place
+overflow_add-place c = omega (arith, c.vars-vars.ensures.few, c.requires.places c.loop-place.place-index 0 c.loop-place-test.true)
 
-pub loop-var-preserved : goal.loop-var-preserved
-loop-var-preserved c = elim c.if-let_go.branch [
-  | then-let_go w ↦ (
-    subst (λ (b : Bool). Sweeping c.args.compiled.now c.args.values.now c.args.loose.now c.let_go.new.loose c.args.vars.now (c.loop-var.var-index + 1) b) (sym w.dropped-is)
-        (sweep_drops c.args.compiled.now c.args.values.now c.args.loose.now c.loop-var.loose c.let_go.new.loose c.args.vars.now c.loop-var.var-index (get_or c.args.vars.now c.loop-var.var-index 0) c.loop-var.dropped
-        c.program-program.ensures.sound c.let_go.ensures.loose (sym c.let_go.ensures.dropped ∙ w.if-let_go.true) c.loop-var.invariant.0),
-    c.let_go.ensures.spreads.room ∙ c.loop-var.invariant.1,
-  )
-  | else-let_go w ↦ (
-    subst (λ (b : Bool). Sweeping c.args.compiled.now c.args.values.now c.args.loose.now c.let_go.new.loose c.args.vars.now (c.loop-var.var-index + 1) b) (sym w.dropped-is)
-        (sweep_passes c.args.compiled.now c.args.values.now c.args.loose.now c.loop-var.loose c.let_go.new.loose c.args.vars.now c.loop-var.var-index (get_or c.args.vars.now c.loop-var.var-index 0) c.loop-var.dropped
-        c.let_go.ensures.loose (sym c.let_go.ensures.dropped ∙ w.if-let_go.false) (λ d lt. get_or-any c.args.vars.now c.loop-var.var-index d 0 lt) c.loop-var.invariant.0),
-    c.let_go.ensures.spreads.room ∙ c.loop-var.invariant.1,
-  )
+pub loop-place-init : goal.loop-place-init
+loop-place-init c = sweep_begins c.args.compiled.now c.args.values.now c.args.sources.now c.args.loose.now c.args.waiting.now c.args.places.now
+
+pub loop-place-preserved : goal.loop-place-preserved
+loop-place-preserved c = elim c.if-found_one.branch [
+  | then-found_one w ↦ subst (λ (b : Bool). Sweeping c.args.compiled.now c.args.values.now c.args.sources.now c.args.loose.now c.args.waiting.now c.found_one.new.sources c.found_one.new.loose c.found_one.new.waiting c.args.places.now (c.loop-place.place-index + 1) b) (sym w.dropped-is)
+      (sweep_drops c.args.compiled.now c.args.values.now c.args.sources.now c.args.loose.now c.args.waiting.now c.loop-place.sources c.loop-place.loose c.loop-place.waiting c.found_one.new.sources c.found_one.new.loose c.found_one.new.waiting c.args.places.now c.loop-place.place-index c.loop-place.dropped c.found_one.ensures.founds (c.found_one.ensures.fewer w.if-found_one.true) c.loop-place.invariant)
+  | else-found_one w ↦ subst (λ (b : Bool). Sweeping c.args.compiled.now c.args.values.now c.args.sources.now c.args.loose.now c.args.waiting.now c.found_one.new.sources c.found_one.new.loose c.found_one.new.waiting c.args.places.now (c.loop-place.place-index + 1) b) (sym w.dropped-is)
+      (sweep_passes c.args.compiled.now c.args.values.now c.args.sources.now c.args.loose.now c.args.waiting.now c.loop-place.sources c.loop-place.loose c.loop-place.waiting c.found_one.new.sources c.found_one.new.loose c.found_one.new.waiting c.args.places.now c.loop-place.place-index (get_or c.args.places.now c.loop-place.place-index 0) c.loop-place.dropped c.found_one.ensures.founds (c.found_one.ensures.same w.if-found_one.false)
+      (sym c.found_one.ensures.founded ∙ w.if-found_one.false) (λ d lt. get_or-any c.args.places.now c.loop-place.place-index d 0 lt) c.loop-place.invariant)
 ]
 
 pub returns-clause-stuck : goal.returns-clause-stuck
 returns-clause-stuck c = λ e.
-    sweep_ends c.args.compiled.now c.args.values.now c.args.loose.now c.loop-var.loose c.args.vars.now c.loop-var.var-index (omega (arith, c.loop-var-test.false))
-    (subst (λ (b : Bool). Sweeping c.args.compiled.now c.args.values.now c.args.loose.now c.loop-var.loose c.args.vars.now c.loop-var.var-index b) e c.loop-var.invariant.0)
+    sweep_ends c.args.compiled.now c.args.values.now c.args.sources.now c.args.loose.now c.args.waiting.now c.loop-place.sources c.loop-place.loose c.loop-place.waiting c.args.places.now c.loop-place.place-index (omega (arith, c.loop-place-test.false))
+    (subst (λ (b : Bool). Sweeping c.args.compiled.now c.args.values.now c.args.sources.now c.args.loose.now c.args.waiting.now c.loop-place.sources c.loop-place.loose c.loop-place.waiting c.args.places.now c.loop-place.place-index b) e c.loop-place.invariant)

@@ -1,21 +1,44 @@
-use Rattle.std.proofs.Common.{false, length, ap, sym, ◌∙◌, subst, arith}
+use Rattle.std.proofs.Common.{◌≡◌, ◌≢◌, ℕ, ◌+◌, ◌-◌, ◌<◌, Bool, true, false, eqb, List, [], length, set, Option, refl, sym, ap, ◌∙◌, arith, inl, inr, get_or-set_other, get_or-set_same}
+use Rattle.std.proofs.lemmas.Bool.{false≢true, eqb-true, eq-eqb}
 use Rattle.std.proofs.lemmas.List.{length-set}
-use Rattle.asp_source.specs.Touched.{AreQueued}
-use Rattle.asp_source.proofs.TouchLaws.{queued_less, none_queued}
+use Rattle.asp_model.specs.declared.program.Program.{Program}
+use Rattle.asp_scc.specs.Components.{Parts}
+use Rattle.asp_source.specs.Marks.{is_marked}
+use Rattle.asp_source.specs.Pointers.{ArePointers}
+use Rattle.asp_source.proofs.PointerLaws.{none_unfounded}
 use Rattle.asp_source.proofs.search.first_unfounded.Goals as goal
 
-pub loop-component-preserved : goal.loop-component-preserved
-loop-component-preserved c =
-    let none = rw c.in-Ok-None.field-0-is at c.in-Ok-None.ensures.found in
-    record {
-      size = omega (arith, c.look.auto.loose, c.loop-component.invariant.size);
-      blank = c.look.ensures.blank;
-      room = c.look.ensures.room ∙ c.loop-component.invariant.room;
-      whole = ap length c.in-Some.ensures.some ∙ (length-set c.loop-component.queue c.in-Some.component false ∙ c.loop-component.invariant.whole);
-      queued = subst (AreQueued c.args.compiled.now c.args.components.now c.args.values.now) (sym c.in-Some.ensures.some)
-          (queued_less c.args.compiled.now c.args.components.now c.args.values.now c.loop-component.queue c.in-Some.component c.requires.components c.loop-component.invariant.queued none);
-    }
+-- what was queued before a place left is queued once the place is back
+queued_again : (q r : List Bool) (k j i : ℕ) → r ≡ set q k false → k < length q → j ≡ k → is_marked q i ≡ true → is_marked (set r j true) i ≡ true
+queued_again q r k j i is lt at e = cases (eqb i j) refl
+  where
+    cases : (b : Bool) → b ≡ eqb i j → is_marked (set r j true) i ≡ true
+    cases true same =
+        ap (is_marked (set r j true)) (eqb-true i j (sym same))
+        ∙ get_or-set_same r j true false (omega (arith, at, lt, ap length is, length-set q k false))
+    cases false differ =
+        let ne : i ≢ j = (λ a. false≢true (differ ∙ eq-eqb i j a)) in
+        get_or-set_other r j i true false ne
+        ∙ (ap (λ (marks : List Bool). is_marked marks i) is
+        ∙ (get_or-set_other q k i false false (λ a. ne (a ∙ sym at)) ∙ e))
+
+-- the pointers when the place that was popped is looked at
+popped : (p : Program) (c : Parts) (x : List (Option Bool)) (s : List ℕ) (q r : List Bool) (k : ℕ) → r ≡ set q k false → k < length q → ArePointers p c x s q [] → ArePointers p c x s (set r ((k + 1) - 1) true) []
+popped p c x s q r k is lt h = record {
+  size = h.size;
+  room = length-set r ((k + 1) - 1) true ∙ (ap length is ∙ (length-set q k false ∙ h.room));
+  supports = h.supports;
+  grounded = h.grounded;
+  sought = λ v at none cyclic alive. elim (h.sought v at none cyclic alive) [
+    | inl e ↦ inl (queued_again q r k ((k + 1) - 1) (v - 1) is lt (omega arith) e)
+    | inr e ↦ inr e
+  ];
+}
+
+pub look-requires-clause-pointers : goal.look-requires-clause-pointers
+look-requires-clause-pointers c =
+    popped c.args.compiled.now c.args.components.now c.args.values.now c.loop-place.sources c.loop-place.queue c.pop.new.self c.in-Some.place c.in-Some.ensures.some c.in-Some.ensures.within c.loop-place.invariant.pointers
 
 pub returns-clause-none : goal.returns-clause-none
 returns-clause-none c =
-    none_queued c.args.compiled.now c.args.components.now c.args.values.now c.loop-component.queue c.loop-component.invariant.queued c.in_default.ensures.none
+    none_unfounded c.args.compiled.now c.args.components.now c.args.values.now c.loop-place.sources c.loop-place.queue c.program-program.ensures.sound c.requires.components c.loop-place.invariant.pointers.supports c.loop-place.invariant.pointers.grounded c.loop-place.invariant.pointers.sought c.in_default.ensures.none

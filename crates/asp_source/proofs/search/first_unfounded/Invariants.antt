@@ -1,17 +1,17 @@
-use Rattle.std.proofs.Common.{◌≡◌, ◌+◌, length, count_by}
+use Rattle.std.proofs.Common.{◌≡◌, ◌+◌, length, [], count_by}
 use Rattle.asp_model.specs.Models.{atoms_of}
-use Rattle.asp_source.specs.Narrowing.{AreBlank}
-use Rattle.asp_source.specs.Touched.{AreQueued}
+use Rattle.asp_source.specs.Marks.{AreBlank}
+use Rattle.asp_source.specs.Pointers.{ArePointers}
 use Rattle.asp_source.proofs.search.first_unfounded.Given as goal
 
-abbrev pub invariant-loop-component : goal.invariant-loop-component
-invariant-loop-component l = record {
+abbrev pub invariant-loop-place : goal.invariant-loop-place
+invariant-loop-place l = record {
   size : length l.loose ≡ length (atoms_of l.compiled) + 1;
   blank : AreBlank l.loose;
   room : length l.waiting ≡ length (atoms_of l.compiled);
-  whole : length l.queue ≡ length l.components.members;
-  queued : AreQueued l.compiled l.components l.values l.queue;
+  seats : length l.joined ≡ length (atoms_of l.compiled);
+  pointers : ArePointers l.compiled l.components l.values l.sources l.queue [];
 }
 
-abbrev pub decreases-loop-component : goal.decreases-loop-component
-decreases-loop-component l = count_by (λ b. b) l.queue
+abbrev pub decreases-loop-place : goal.decreases-loop-place
+decreases-loop-place l = count_by (λ b. b) l.queue

@@ -1,72 +1,56 @@
-use Rattle.std.proofs.Common.{ℕ, List, length, sym, ◌∙◌, subst, arith}
-use Rattle.asp_vars.specs.Tabled.{IsAtomVar}
-use Rattle.asp_source.specs.Marks.{atoms_in}
-use Rattle.asp_source.specs.Narrowing.{AreBlank, IsFound}
-use Rattle.asp_source.proofs.LookLaws.{looking, blank_after, blank_left, nothing_left, some_left, at_member, vars_atoms, vars_below}
+use Rattle.std.proofs.Common.{ℕ, ◌-◌, ◌<◌, true, List, length, set, sym, ◌∙◌, subst}
+use Rattle.asp_source.specs.Marks.{atoms_at}
+use Rattle.asp_source.specs.Loops.{IsFound}
+use Rattle.asp_source.proofs.ChangeLaws.{var_component}
+use Rattle.asp_source.proofs.GatherLaws.{gathered_as, drops_none}
+use Rattle.asp_source.proofs.SettleLaws.{gathering_begins, gets_less, look_settles, look_ends, left_listed, none_left}
+use Rattle.asp_source.proofs.LeftLaws.{left_found}
 use Rattle.asp_source.proofs.search.look.Goals as goal
 
-pub begin-requires-clause-loose : goal.begin-requires-clause-loose
-begin-requires-clause-loose c =
-    vars_below c.args.compiled.now c.args.components.now c.args.component (length c.args.loose.now) c.members-vars.result.now c.requires.components c.requires.component c.members-vars.ensures (omega (arith, c.requires.loose))
+pub trivial-requires : goal.trivial-requires
+trivial-requires c =
+    subst (λ (k : ℕ). k < length c.args.components.now.trivial) (sym c.of-component.ensures) (var_component c.args.compiled.now c.args.components.now c.args.var c.requires.components c.requires.var).1
 
-pub begin-requires-clause-values : goal.begin-requires-clause-values
-begin-requires-clause-values c =
-    vars_below c.args.compiled.now c.args.components.now c.args.component (length c.args.values.now) c.members-vars.result.now c.requires.components c.requires.component c.members-vars.ensures (omega (arith, c.requires.values))
+pub gather-requires-clause-gathering : goal.gather-requires-clause-gathering
+gather-requires-clause-gathering c =
+    gathered_as c.args.compiled.now c.args.components.now c.args.values.now c.of-component.result 0 c.args.sources.now c.args.loose.now c.args.waiting.now c.args.joined.now c.args.sources.now c.join.new.loose c.join.new.waiting c.join.new.joined c.args.var c.join.ensures.loose c.join.ensures.waiting c.join.ensures.joined
+    c.requires.var (sym c.of-component.ensures) (drops_none c.args.sources.now c.args.var c.if-sources-var-ne0.false)
+    (gathering_begins c.args.compiled.now c.args.components.now c.args.values.now c.of-component.result c.args.sources.now (set c.args.queue.now (c.args.var - 1) true) c.args.loose.now c.args.waiting.now c.args.joined.now c.requires.pointers c.requires.blank c.requires.loose c.requires.waiting c.requires.joined)
 
-pub settle-requires-clause-vars : goal.settle-requires-clause-vars
-settle-requires-clause-vars c = vars_atoms c.args.compiled.now c.args.components.now c.args.component c.members-vars.result.now c.requires.components c.requires.component c.members-vars.ensures
+pub drain-requires-clause-listed : goal.drain-requires-clause-listed
+drain-requires-clause-listed c =
+    left_listed c.args.compiled.now c.args.components.now c.args.values.now c.of-component.result c.gather.new.sources c.gather.new.loose c.gather.new.waiting c.gather.new.joined c.settle.new.sources c.settle.new.loose c.gather.ensures.gathering c.settle.ensures.founds.gets
 
-pub choose-requires-clause-loose : goal.choose-requires-clause-loose
-choose-requires-clause-loose c =
-    vars_below c.args.compiled.now c.args.components.now c.args.component (length c.settle.new.loose) c.members-vars.result.now c.requires.components c.requires.component c.members-vars.ensures (omega (arith, c.requires.loose, c.begin.auto.loose, c.settle.auto.loose))
+pub returns-in_err-collected-clause-pointers : goal.returns-in_err-collected-clause-pointers
+returns-in_err-collected-clause-pointers c =
+    look_ends c.args.compiled.now c.args.components.now c.args.values.now c.of-component.result c.args.var c.args.sources.now c.args.queue.now c.args.loose.now c.join.new.loose c.join.new.waiting c.gather.new.sources c.gather.new.loose c.gather.new.waiting c.gather.new.joined c.settle.new.sources c.settle.new.loose c.drain.new.queue c.program-program.ensures.sound c.requires.pointers c.requires.blank c.requires.loose c.requires.var c.join.ensures.loose c.gather.ensures.gathers c.gather.ensures.gathering c.gather.ensures.done c.settle.ensures.founds.gets
+    c.drain.ensures.room c.drain.ensures.more c.drain.ensures.queued
 
-pub choose-requires-clause-values : goal.choose-requires-clause-values
-choose-requires-clause-values c =
-    vars_below c.args.compiled.now c.args.components.now c.args.component (length c.args.values.now) c.members-vars.result.now c.requires.components c.requires.component c.members-vars.ensures (omega (arith, c.requires.values))
+pub returns-in_default-clause-pointers : goal.returns-in_default-clause-pointers
+returns-in_default-clause-pointers c =
+    look_ends c.args.compiled.now c.args.components.now c.args.values.now c.of-component.result c.args.var c.args.sources.now c.args.queue.now c.args.loose.now c.join.new.loose c.join.new.waiting c.gather.new.sources c.gather.new.loose c.gather.new.waiting c.gather.new.joined c.settle.new.sources c.settle.new.loose c.drain.new.queue c.program-program.ensures.sound c.requires.pointers c.requires.blank c.requires.loose c.requires.var c.join.ensures.loose c.gather.ensures.gathers c.gather.ensures.gathering c.gather.ensures.done c.settle.ensures.founds.gets
+    c.drain.ensures.room c.drain.ensures.more c.drain.ensures.queued
 
-pub returns-in_default-clause-blank : goal.returns-in_default-clause-blank
-returns-in_default-clause-blank c =
-    let small = vars_below c.args.compiled.now c.args.components.now c.args.component (length c.args.loose.now) c.members-vars.result.now c.requires.components c.requires.component c.members-vars.ensures (omega (arith, c.requires.loose)) in
-    blank_left c.args.compiled.now c.args.components.now c.args.values.now c.args.component c.members-vars.result.now c.settle.new.loose
-    (looking c.args.compiled.now c.args.components.now c.args.values.now c.args.component c.members-vars.result.now c.args.loose.now c.begin.new.loose c.settle.new.loose c.requires.blank small c.begin.ensures c.settle.ensures.narrows)
-    c.in_default.ensures.none
-
-pub returns-in_default-clause-found : goal.returns-in_default-clause-found
-returns-in_default-clause-found c =
-    let small = vars_below c.args.compiled.now c.args.components.now c.args.component (length c.args.loose.now) c.members-vars.result.now c.requires.components c.requires.component c.members-vars.ensures (omega (arith, c.requires.loose)) in
-    nothing_left c.args.compiled.now c.args.components.now c.args.values.now c.args.component c.members-vars.result.now c.settle.new.loose c.requires.components c.requires.component c.members-vars.ensures
-    (looking c.args.compiled.now c.args.components.now c.args.values.now c.args.component c.members-vars.result.now c.args.loose.now c.begin.new.loose c.settle.new.loose c.requires.blank small c.begin.ensures c.settle.ensures.narrows)
-    c.in_default.ensures.none
-
-pub collect-collected-requires-clause-vars : goal.collect-collected-requires-clause-vars
-collect-collected-requires-clause-vars c = vars_atoms c.args.compiled.now c.args.components.now c.args.component c.members-vars.result.now c.requires.components c.requires.component c.members-vars.ensures
-
-pub clear-requires : goal.clear-requires
-clear-requires c =
-    vars_below c.args.compiled.now c.args.components.now c.args.component (length c.settle.new.loose) c.members-vars.result.now c.requires.components c.requires.component c.members-vars.ensures (omega (arith, c.requires.loose, c.begin.auto.loose, c.settle.auto.loose))
-
-pub returns-in_err-collected-clause-blank : goal.returns-in_err-collected-clause-blank
-returns-in_err-collected-clause-blank c =
-    let small = vars_below c.args.compiled.now c.args.components.now c.args.component (length c.args.loose.now) c.members-vars.result.now c.requires.components c.requires.component c.members-vars.ensures (omega (arith, c.requires.loose)) in
-    let h = looking c.args.compiled.now c.args.components.now c.args.values.now c.args.component c.members-vars.result.now c.args.loose.now c.begin.new.loose c.settle.new.loose c.requires.blank small c.begin.ensures c.settle.ensures.narrows in
-    subst AreBlank (sym c.clear.ensures) (blank_after c.members-vars.result.now c.settle.new.loose (λ v e. (h.only v e).0))
+pub returns-in_default-clause-same : goal.returns-in_default-clause-same
+returns-in_default-clause-same c =
+    c.drain.ensures.same
+    (none_left c.settle.new.loose c.as_slice-places.result.now c.in_default.ensures.none
+    (λ v e. let joined = left_listed c.args.compiled.now c.args.components.now c.args.values.now c.of-component.result c.gather.new.sources c.gather.new.loose c.gather.new.waiting c.gather.new.joined c.settle.new.sources c.settle.new.loose c.gather.ensures.gathering c.settle.ensures.founds.gets v e in (joined.0, c.as_slice-places.ensures.all (v - 1) joined.1)))
 
 pub atom_at-requires : goal.atom_at-requires
 atom_at-requires c =
-    let small = vars_below c.args.compiled.now c.args.components.now c.args.component (length c.args.loose.now) c.members-vars.result.now c.requires.components c.requires.component c.members-vars.ensures (omega (arith, c.requires.loose)) in
-    let h = looking c.args.compiled.now c.args.components.now c.args.values.now c.args.component c.members-vars.result.now c.args.loose.now c.begin.new.loose c.settle.new.loose c.requires.blank small c.begin.ensures c.settle.ensures.narrows in
-    at_member (IsAtomVar c.args.compiled.now) c.members-vars.result.now c.in-Some.var (vars_atoms c.args.compiled.now c.args.components.now c.args.component c.members-vars.result.now c.requires.components c.requires.component c.members-vars.ensures) (h.only c.in-Some.var c.in-Some.ensures.some).0
+    c.gather.ensures.gathering.candidates.atoms c.in-Some.var (gets_less c.args.compiled.now c.args.values.now c.gather.new.sources c.gather.new.loose c.settle.new.sources c.settle.new.loose c.settle.ensures.founds.gets c.in-Some.var c.in-Some.ensures.some)
 
-pub returns-clause-blank : goal.returns-clause-blank
-returns-clause-blank c =
-    let small = vars_below c.args.compiled.now c.args.components.now c.args.component (length c.args.loose.now) c.members-vars.result.now c.requires.components c.requires.component c.members-vars.ensures (omega (arith, c.requires.loose)) in
-    let h = looking c.args.compiled.now c.args.components.now c.args.values.now c.args.component c.members-vars.result.now c.args.loose.now c.begin.new.loose c.settle.new.loose c.requires.blank small c.begin.ensures c.settle.ensures.narrows in
-    subst AreBlank (sym c.clear.ensures) (blank_after c.members-vars.result.now c.settle.new.loose (λ v e. (h.only v e).0))
+pub returns-clause-pointers : goal.returns-clause-pointers
+returns-clause-pointers c =
+    look_ends c.args.compiled.now c.args.components.now c.args.values.now c.of-component.result c.args.var c.args.sources.now c.args.queue.now c.args.loose.now c.join.new.loose c.join.new.waiting c.gather.new.sources c.gather.new.loose c.gather.new.waiting c.gather.new.joined c.settle.new.sources c.settle.new.loose c.drain.new.queue c.program-program.ensures.sound c.requires.pointers c.requires.blank c.requires.loose c.requires.var c.join.ensures.loose c.gather.ensures.gathers c.gather.ensures.gathering c.gather.ensures.done c.settle.ensures.founds.gets
+    c.drain.ensures.room c.drain.ensures.more c.drain.ensures.queued
 
 pub returns-clause-found : goal.returns-clause-found
 returns-clause-found c =
-    let small = vars_below c.args.compiled.now c.args.components.now c.args.component (length c.args.loose.now) c.members-vars.result.now c.requires.components c.requires.component c.members-vars.ensures (omega (arith, c.requires.loose)) in
-    let h = looking c.args.compiled.now c.args.components.now c.args.values.now c.args.component c.members-vars.result.now c.args.loose.now c.begin.new.loose c.settle.new.loose c.requires.blank small c.begin.ensures c.settle.ensures.narrows in
-    let found = some_left c.args.compiled.now c.args.components.now c.args.values.now c.args.component c.members-vars.result.now c.settle.new.loose c.in-Some.var c.program-program.ensures.sound c.requires.components c.requires.component (sym c.trivial.ensures ∙ c.if-trivial.false) c.members-vars.ensures h c.settle.ensures.stuck c.in-Some.ensures.some in
-    subst (λ (U : List ℕ). IsFound c.args.compiled.now c.args.values.now U c.atom_at.result) (sym c.in_ok-collected.ensures)
-    (subst (λ (a : ℕ). IsFound c.args.compiled.now c.args.values.now (atoms_in c.args.compiled.now c.settle.new.loose c.members-vars.result.now) a) (sym c.atom_at.ensures) found)
+    subst (λ (us : List ℕ). IsFound c.args.compiled.now c.args.values.now us c.atom_at.result) (sym c.in_ok-collected.ensures)
+    (subst (λ (a : ℕ). IsFound c.args.compiled.now c.args.values.now (atoms_at c.args.compiled.now c.settle.new.loose c.as_slice-places.result.now) a) (sym c.atom_at.ensures)
+    (left_found c.args.compiled.now c.args.components.now c.args.values.now c.of-component.result c.settle.new.sources c.settle.new.loose c.as_slice-places.result.now c.in-Some.var c.program-program.ensures.sound c.requires.components (sym c.trivial.ensures ∙ c.if-trivial.false)
+    (look_settles c.args.compiled.now c.args.components.now c.args.values.now c.of-component.result c.args.var c.args.sources.now c.args.queue.now c.args.loose.now c.join.new.loose c.join.new.waiting c.gather.new.sources c.gather.new.loose c.gather.new.waiting c.gather.new.joined c.settle.new.sources c.settle.new.loose c.program-program.ensures.sound c.requires.pointers c.requires.blank c.requires.loose c.requires.var c.join.ensures.loose c.gather.ensures.gathers c.gather.ensures.gathering c.gather.ensures.done c.settle.ensures.founds.gets).candidates
+    (λ u e. c.as_slice-places.ensures.all (u - 1) (left_listed c.args.compiled.now c.args.components.now c.args.values.now c.of-component.result c.gather.new.sources c.gather.new.loose c.gather.new.waiting c.gather.new.joined c.settle.new.sources c.settle.new.loose c.gather.ensures.gathering c.settle.ensures.founds.gets u e).1)
+    c.settle.ensures.stuck c.in-Some.ensures.some))

@@ -1,7 +1,0 @@
-use Rattle.std.proofs.Common.{◌≡◌, take}
-use Rattle.std.specs.Prelude.{fold}
-use Rattle.asp_source.specs.Marks.{clear_at}
-use Rattle.asp_source.proofs.loose.clear.Given as goal
-
-abbrev pub invariant-loop-var : goal.invariant-loop-var
-invariant-loop-var l = l.loose ≡ fold clear_at l.initial.loose (take l.var-index l.vars)

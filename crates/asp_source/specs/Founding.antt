@@ -1,0 +1,35 @@
+-- How candidates get sources.
+use Rattle.std.specs.Prelude.{◌≡◌, ℕ, ◌+◌, ◌-◌, ◌<◌, ◌≤◌, Bool, true, false, List, Option, length, count_by, slice_index, slice_set, IsTrue}
+use Rattle.asp_model.specs.declared.program.Program.{Program}
+use Rattle.asp_model.specs.Sets.{has}
+use Rattle.asp_model.specs.Models.{atoms_of}
+use Rattle.asp_vars.specs.Completion.{supports}
+use Rattle.asp_vars.specs.Numbering.{nth_atom}
+use Rattle.asp_vars.specs.Tabled.{IsAtomVar}
+use Rattle.asp_vars.specs.Unfounded.{is_excused}
+use Rattle.asp_loop.specs.Parts.{form_of}
+use Rattle.std.specs.List.{All}
+use Rattle.asp_source.specs.Marks.{is_marked, shown, is_dropped}
+
+-- The body, of a rule for the variable's atom, isn't excused for the candidates.
+pub record IsFoundBy (p : Program) (x : List (Option Bool)) (loose : List Bool) (v b : ℕ) : Type 0 where
+  pub support : IsTrue (has (supports p (nth_atom p (v - 1))) b)
+  pub firm : is_excused p x (shown p loose) (form_of p b) ≡ false
+
+-- Candidates get sources, one after another, each a body that isn't excused for those that are candidates then.
+pub data GetSources (p : Program) (x : List (Option Bool)) (sources : List ℕ) (loose : List Bool) : List ℕ → List Bool → Type 0 where
+  gets_none : GetSources p x sources loose sources loose
+  gets_one : {s : List ℕ} {l : List Bool} {v b : ℕ} → GetSources p x sources loose s l → IsAtomVar p v → is_marked l v ≡ true → IsFoundBy p x l v b → GetSources p x sources loose (slice_set s v b) (slice_set l v false)
+
+-- They do so, and wait for it, no more than get one.
+pub record Founds (p : Program) (x : List (Option Bool)) (sources : List ℕ) (loose waiting : List Bool) (sources_then : List ℕ) (loose_then waiting_then : List Bool) : Type 0 where
+  pub gets : GetSources p x sources loose sources_then loose_then
+  pub size : length sources_then ≡ length sources
+  pub marks : length loose_then ≡ length loose
+  pub room : length waiting_then ≡ length waiting
+  pub fewer : count_by (λ b. b) loose_then ≤ count_by (λ b. b) loose
+  pub paid : count_by (λ b. b) waiting_then + count_by (λ b. b) loose_then ≤ count_by (λ b. b) waiting + count_by (λ b. b) loose
+
+-- Of the atoms of these places none is a candidate that a body founds.
+abbrev pub AreStuck : Program → List (Option Bool) → List Bool → List ℕ → Type 0
+AreStuck p x loose places = All (λ k. is_dropped p x loose (k + 1) ≡ false) places

@@ -1,0 +1,180 @@
+//! Source pointers: for an atom the body of a rule that founds it, as the body's variable, or 0 for none.
+//!
+//! An atom of a component that isn't trivial has a source, or is false, or is queued. A source isn't false, and rests on
+//! atoms of its component that don't rest on its head: so a set of atoms with sources always has one whose source is
+//! outside of the set. What can take that away is that the body comes to be false, or that a weight body loses weight:
+//! then its heads lose it.
+ghost use Rattle.std.specs.Prelude.{◌≡◌, ◌+◌, ◌-◌, ◌<◌, ◌==◌, ◌≤◌, false, All, length, slice_index, slice_set, if◌then◌else◌};
+ghost use Rattle.asp_model.specs.Models.{atoms_of};
+ghost use Rattle.asp_vars.specs.Literals.{complement};
+ghost use Rattle.asp_vars.specs.Numbering.{bodies_of, var_count};
+ghost use Rattle.asp_vars.specs.Tabled.{IsAtomVar, IsBodyVar, occurrences_of};
+ghost use Rattle.asp_trail.specs.Trails.{IsVar};
+ghost use Rattle.asp_scc.specs.Components.{AreComponents};
+ghost use Rattle.asp_source.specs.Pointers.{Loses, IsGone, AreGone, IsGoneBy, seek, regain};
+ghost use Rattle.asp_source.specs.Pointers.{AreNormal};
+
+use crate::bodies::occurrences;
+use crate::queue::Queue;
+use asp_scc::components::Components;
+use asp_vars::compiled::Compiled;
+use asp_vars::lit::{Lit, Var};
+use asp_vars::occurrence::Occurrence;
+
+/// Takes an atom's source away if it is this body. Says whether it was.
+pub fn lose(sources: &mut [Var], body: Var, var: Var) -> bool
+    requires { var < length sources.old }
+    ensures lost { result ≡ (slice_index sources.old var == body) }
+    ensures sources { sources.new ≡ (if slice_index sources.old var == body then slice_set sources.old var 0 else sources.old) }
+{
+    if sources[var as usize] != body {
+        return false;
+    }
+    sources[var as usize] = 0;
+    true
+}
+
+// An atom that loses its source is queued.
+fn lose_queued(sources: &mut [Var], queue: &mut Queue, body: Var, var: Var)
+    requires var { 0 < var }
+    requires sources { var < length sources.old }
+    requires queue { length queue.old + 1 ≡ length sources.old }
+    requires body { 0 < body }
+    ensures loses { Loses sources.old queue.old sources.new queue.new }
+    ensures gone { IsGone sources.new body var }
+{
+    if !lose(sources, body, var) {
+        return;
+    }
+    queue.add(var - 1);
+}
+
+// The heads of a body lose it.
+fn lose_heads(compiled: &Compiled, sources: &mut [Var], queue: &mut Queue, body: usize)
+    requires body { body < length (bodies_of compiled.now) }
+    requires sources { length sources.old ≡ length (atoms_of compiled.now) + 1 }
+    requires queue { length queue.old ≡ length (atoms_of compiled.now) }
+    ensures loses { Loses sources.old queue.old sources.new queue.new }
+    ensures gone { AreGone compiled.now sources.new body }
+{
+    let _vars = compiled.vars();
+    let var_of_body = compiled.body_var(body);
+    for var in compiled.heads(body) {
+        lose_queued(sources, queue, var_of_body, *var);
+    }
+}
+
+// The heads of a weight body lose it.
+fn lose_weighted(
+    compiled: &Compiled,
+    sources: &mut [Var],
+    queue: &mut Queue,
+    occurrence: Occurrence,
+)
+    requires body { occurrence.body < length (bodies_of compiled.now) }
+    requires sources { length sources.old ≡ length (atoms_of compiled.now) + 1 }
+    requires queue { length queue.old ≡ length (atoms_of compiled.now) }
+    ensures loses { Loses sources.old queue.old sources.new queue.new }
+    ensures gone { IsGoneBy compiled.now sources.new occurrence }
+{
+    let body = occurrence.body as usize;
+    if compiled.bound(body).is_some() {
+        lose_heads(compiled, sources, queue, body);
+    }
+}
+
+// The heads of those weight bodies lose them in which the literal's complement stands.
+fn lose_all(compiled: &Compiled, sources: &mut [Var], queue: &mut Queue, lit: Lit)
+    requires sources { length sources.old ≡ length (atoms_of compiled.now) + 1 }
+    requires queue { length queue.old ≡ length (atoms_of compiled.now) }
+    requires atom { IsAtomVar compiled.now lit.var }
+    ensures loses { Loses sources.old queue.old sources.new queue.new }
+    ensures gone { All (IsGoneBy compiled.now sources.new) (occurrences_of compiled.now (complement lit)) }
+{
+    for occurrence in occurrences(compiled, lit.complement()) {
+        lose_weighted(compiled, sources, queue, *occurrence);
+    }
+}
+
+// The heads of a body that comes to be false lose it.
+fn lose_body(compiled: &Compiled, sources: &mut [Var], queue: &mut Queue, lit: Lit)
+    requires sources { length sources.old ≡ length (atoms_of compiled.now) + 1 }
+    requires queue { length queue.old ≡ length (atoms_of compiled.now) }
+    requires body { IsBodyVar compiled.now lit.var }
+    ensures loses { Loses sources.old queue.old sources.new queue.new }
+    ensures gone { lit.truth ≡ false → AreGone compiled.now sources.new (lit.var - length (atoms_of compiled.now) - 1) }
+{
+    if lit.truth() {
+        return;
+    }
+    let body = lit.var() as usize - compiled.atom_count() - 1;
+    lose_heads(compiled, sources, queue, body);
+}
+
+/// What a literal that comes to hold takes away: a false body its heads' source, and a false literal of a weight body
+/// too. Where no body is a weight body an atom's literal takes nothing.
+pub fn lose_by(
+    compiled: &Compiled,
+    weighted: bool,
+    sources: &mut [Var],
+    queue: &mut Queue,
+    lit: Lit,
+)
+    requires weighted { weighted ≡ false → AreNormal compiled.now (length (bodies_of compiled.now)) }
+    requires sources { length sources.old ≡ length (atoms_of compiled.now) + 1 }
+    requires queue { length queue.old ≡ length (atoms_of compiled.now) }
+    requires var { IsVar (var_count compiled.now) lit.var }
+    ensures loses { Loses sources.old queue.old sources.new queue.new }
+    ensures body { length (atoms_of compiled.now) < lit.var → lit.truth ≡ false → AreGone compiled.now sources.new (lit.var - length (atoms_of compiled.now) - 1) }
+    ensures atom { lit.var ≤ length (atoms_of compiled.now) → All (IsGoneBy compiled.now sources.new) (occurrences_of compiled.now (complement lit)) }
+{
+    if lit.var() as usize > compiled.atom_count() {
+        lose_body(compiled, sources, queue, lit);
+        return;
+    }
+    if !weighted {
+        return;
+    }
+    lose_all(compiled, sources, queue, lit);
+}
+
+/// An atom that was false is queued if it has no source, unless its component is trivial.
+pub fn regain(
+    compiled: &Compiled,
+    components: &Components,
+    sources: &[Var],
+    queue: &mut Queue,
+    lit: Lit,
+)
+    requires components { AreComponents compiled.now components.now }
+    requires sources { length sources.now ≡ length (atoms_of compiled.now) + 1 }
+    requires queue { length queue.old ≡ length (atoms_of compiled.now) }
+    requires var { IsVar (var_count compiled.now) lit.var }
+    ensures { queue.new ≡ regain compiled.now components.now sources.now queue.old lit }
+{
+    let was_true = lit.truth();
+    if was_true {
+        return;
+    }
+    if lit.var() as usize > compiled.atom_count() {
+        return;
+    }
+    seek(components, sources, queue, lit.var());
+}
+
+// An atom without a source is queued, unless its component is trivial.
+fn seek(components: &Components, sources: &[Var], queue: &mut Queue, var: Var)
+    requires var { var < length components.now.numbers }
+    requires trivial { slice_index components.now.numbers var < length components.now.trivial }
+    requires positive { 0 < var }
+    requires sources { var < length sources.now }
+    requires queue { length queue.old + 1 ≡ length sources.now }
+    ensures { queue.new ≡ seek components.now sources.now queue.old var }
+{
+    if sources[var as usize] != 0 {
+        return;
+    }
+    if !components.trivial(components.of(var)) {
+        queue.add(var - 1);
+    }
+}
