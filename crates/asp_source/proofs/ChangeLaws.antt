@@ -1,12 +1,10 @@
 -- What is excused when literals come to hold, and what isn't any more when they go.
-use Rattle.std.proofs.Common.{◌≡◌, ◌≢◌, ℕ, zero, suc, ◌+◌, ◌-◌, ◌<◌, ◌≤◌, Bool, true, false, not, cond, ◌||◌, eqb, leb, ltb, List, [], ◌∷◌, map, filter, length, set, get_or, Option, Some, None, refl, sym, ap, ◌∙◌, subst, arith, ◌⊎◌, inl, inr, get_or-set_other, get_or-set_same}
-use Rattle.std.specs.Prelude.{All, fold, flat_map, is_some, ℤ, pos, ◌≤ℤ◌}
+use Rattle.std.proofs.Common.{◌≡◌, ◌≢◌, ℕ, zero, suc, ◌-◌, ◌<◌, Bool, true, false, not, cond, ◌||◌, eqb, ltb, List, [], ◌∷◌, map, filter, length, set, get_or, Option, Some, None, refl, sym, ap, ◌∙◌, subst, arith, ◌⊎◌, inl, inr, get_or-set_other, get_or-set_same}
+use Rattle.std.specs.Prelude.{All, flat_map, ℤ, pos, ◌≤ℤ◌}
 use Rattle.std.specs.List.{list_any, list_all, AllByRecursion}
 use Rattle.std.specs.Bool.{beq}
 use Rattle.std.proofs.lemmas.Bool.{false≢true, and_parts, and_from, eqb-true, eq-eqb}
-use Rattle.std.proofs.lemmas.Bool.Decides.{nat_tests}
 use Rattle.std.proofs.lemmas.Int.{ints}
-use Rattle.std.proofs.lemmas.List.{length-set}
 use Rattle.std.proofs.lemmas.List.Elements.{All-from_recursion}
 use Rattle.asp_table.specs.declared.columns.Occurrence.{Occurrence}
 use Rattle.asp_model.specs.declared.program.Body.{Body}
@@ -14,29 +12,25 @@ use Rattle.asp_model.specs.declared.program.Body.TheVariants as body
 use Rattle.asp_model.specs.declared.program.Rule.{Rule}
 use Rattle.asp_model.specs.declared.program.Program.{Program}
 use Rattle.asp_model.specs.Sets.{Atoms, has}
-use Rattle.asp_model.specs.Holding.{atom_of}
-use Rattle.asp_model.specs.Models.{rules_in_force, atoms_of, head_atoms}
-use Rattle.asp_model.specs.Sound.{IsSound}
+use Rattle.asp_model.specs.Models.{rules_in_force, head_atoms}
 use Rattle.asp_model.proofs.MemberLaws.{list_any-flat_map}
 use Rattle.asp_vars.specs.Literals.{Literal, F, complement, literal_eq, has_literal, value_of, agrees, holds_in}
-use Rattle.asp_vars.specs.Numbering.{normal, body_eq, bodies_of, place_of, var_of_atom, var_of_form, literal_of, nth_atom, nth_body}
-use Rattle.asp_vars.specs.Tabled.{bound_of, form_literals, heads_of, occurrences_of, IsAtomVar, Stands as BodyStands}
+use Rattle.asp_vars.specs.Numbering.{normal, body_eq, bodies_of, place_of, var_of_atom, var_of_form, literal_of, nth_atom}
+use Rattle.asp_vars.specs.Tabled.{form_literals, heads_of, occurrences_of, IsAtomVar}
 use Rattle.asp_vars.specs.Unfounded.{is_false, is_inside, outside_weight, needs, is_excused, is_unfounded}
 use Rattle.asp_vars.proofs.LiteralLaws.{beq_same, same_literal}
-use Rattle.asp_vars.proofs.NumberingLaws.{same_body, body_eq-itself}
+use Rattle.asp_vars.proofs.NumberingLaws.{body_eq-itself}
 use Rattle.asp_vars.proofs.PlaceLaws.{place_of-within}
-use Rattle.asp_vars.proofs.StandingLaws.{Among, each_among, rule_has_form, bodies_of-stand, bodies_of-themselves}
-use Rattle.asp_vars.proofs.SupportLaws.{some, either, or_left, or_right, map_in}
-use Rattle.asp_scc.specs.Components.{Parts, component_of, Stands, AreComponents}
-use Rattle.asp_scc.proofs.ReachLaws.{atom_small}
-use Rattle.asp_loop.proofs.LoopLaws.{at_form, rule_excused}
+use Rattle.asp_vars.proofs.StandingLaws.{Among, each_among, bodies_of-themselves}
+use Rattle.asp_vars.proofs.SupportLaws.{either, or_left, or_right, map_in}
+use Rattle.asp_scc.specs.Components.{Parts, component_of, AreComponents}
+use Rattle.asp_loop.proofs.LoopLaws.{rule_excused}
 use Rattle.asp_loop.proofs.WeighLaws.{literal_eq-itself}
-use Rattle.asp_loop.proofs.WeightedLaws.{AreItems, form_items, form_weighted}
+use Rattle.asp_loop.proofs.WeightedLaws.{AreItems, form_items}
 use Rattle.asp_source.specs.Loops.{IsUnfoundedLoop}
 use Rattle.asp_source.specs.Marks.{is_marked}
-use Rattle.asp_source.specs.Pointers.{AreNormal}
-use Rattle.asp_source.proofs.LooseLaws.{lighter, rule_is_excused}
-use Rattle.asp_source.proofs.LookLaws.{unfounded_from, none_in_trivial, var_at, atom_stands}
+use Rattle.asp_source.proofs.LooseLaws.{lighter}
+use Rattle.asp_source.proofs.LookLaws.{none_in_trivial, var_at, atom_stands}
 
 -- ---- marks that stay and come
 pub set_marked : (marks : List Bool) (w k : ℕ) → is_marked marks k ≡ true → is_marked (set marks w true) k ≡ true

@@ -1,40 +1,24 @@
 -- What a look at a component finds.
-use Rattle.std.proofs.Common.{◌≡◌, ◌≢◌, ℕ, zero, suc, ◌-◌, ◌<◌, Bool, true, false, not, cond, ◌&&◌, ◌||◌, eqb, ltb, List, [], ◌∷◌, length, set, get_or, Option, refl, sym, ap, ◌∙◌, subst, arith, ◌⊎◌, inl, inr, get_or-set_other, get_or-set_same}
-use Rattle.std.specs.Prelude.{All, fold}
+use Rattle.std.proofs.Common.{◌≡◌, ℕ, zero, suc, ◌-◌, ◌<◌, Bool, true, false, not, ◌&&◌, ◌||◌, eqb, ltb, List, [], ◌∷◌, length, get_or, Option, refl, sym, ap, ◌∙◌, subst, arith, ◌⊎◌, inl, inr}
+use Rattle.std.specs.Prelude.{All}
 use Rattle.std.specs.List.{list_any, list_all, AllByRecursion}
-use Rattle.std.proofs.lemmas.Bool.{false≢true, and_parts, and_from, eqb-true, eq-eqb}
+use Rattle.std.proofs.lemmas.Bool.{false≢true, and_from, eqb-true, eq-eqb}
 use Rattle.std.proofs.lemmas.Bool.Decides.{nat_tests}
-use Rattle.std.proofs.lemmas.List.{length-set}
-use Rattle.std.proofs.lemmas.List.Elements.{All-head, All-tail, All-weaker}
-use Rattle.asp_model.specs.declared.program.Body.{Body}
+use Rattle.std.proofs.lemmas.List.Elements.{All-head, All-tail}
 use Rattle.asp_model.specs.declared.program.Rule.{Rule}
 use Rattle.asp_model.specs.declared.program.Program.{Program}
-use Rattle.asp_model.specs.Sets.{Atoms, has, IsSubset}
+use Rattle.asp_model.specs.Sets.{Atoms, has}
 use Rattle.asp_model.specs.Models.{rules_in_force, atoms_of, head_atoms}
-use Rattle.asp_model.specs.Sound.{IsSound}
-use Rattle.asp_model.proofs.MemberLaws.{list_any-flat_map}
-use Rattle.asp_vars.specs.Literals.{F, holds_in}
-use Rattle.asp_vars.specs.Numbering.{normal, body_eq, bodies_of, var_of_atom, var_of_form, nth_atom}
-use Rattle.asp_vars.specs.Completion.{supports}
+use Rattle.asp_vars.specs.Numbering.{normal, var_of_atom, nth_atom}
 use Rattle.asp_vars.specs.Tabled.{IsAtomVar}
 use Rattle.asp_vars.specs.Unfounded.{is_excused, is_unfounded}
-use Rattle.asp_vars.proofs.NumberingLaws.{body_eq-itself}
 use Rattle.asp_vars.proofs.PlaceLaws.{var_of_nth_atom}
-use Rattle.asp_vars.proofs.StandingLaws.{Among, each_among, rule_has_form}
-use Rattle.asp_vars.proofs.SupportLaws.{some, either, or_left, or_right, form_in}
+use Rattle.asp_vars.proofs.StandingLaws.{Among, each_among}
+use Rattle.asp_vars.proofs.SupportLaws.{some, either, or_left, or_right}
 use Rattle.asp_scc.specs.Components.{Parts, component_of, Stands, IsLoop, IsAlone, AreComponents}
-use Rattle.asp_scc.proofs.ReachLaws.{atom_small}
-use Rattle.asp_scc.proofs.SearchLaws.{get_or-any}
-use Rattle.asp_loop.specs.Parts.{form_of}
 use Rattle.asp_loop.proofs.EntailedLaws.{any_of}
 use Rattle.asp_loop.proofs.LoopLaws.{members, rule_excused}
-use Rattle.asp_loop.proofs.WeightedLaws.{form_weighted}
-use Rattle.asp_source.specs.Loops.{IsTrivial}
-use Rattle.asp_source.specs.Marks.{is_marked, shown, is_founded, is_dropped, atom_if}
-use Rattle.asp_source.specs.Marks.{AreBlank}
-use Rattle.asp_source.specs.Loops.{HasNone, IsFound}
-use Rattle.asp_source.proofs.BodyLaws.{has-shown}
-use Rattle.asp_source.proofs.LooseLaws.{excused_more, unset_marked, atom_of_var, form_of-var}
+use Rattle.asp_source.specs.Loops.{HasNone}
 
 pub at_member : (P : ℕ → Type 0) (xs : List ℕ) (v : ℕ) → All P xs → has xs v ≡ true → P v
 at_member P [] v h e = absurd (false≢true e)

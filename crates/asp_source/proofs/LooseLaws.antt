@@ -1,10 +1,9 @@
 -- Candidates for an unfounded set, and what is left of them.
-use Rattle.std.proofs.Common.{◌≡◌, ◌≢◌, ℕ, zero, suc, ◌+◌, ◌-◌, ◌<◌, ◌≤◌, Bool, true, false, not, cond, ◌&&◌, ◌||◌, eqb, ltb, List, [], ◌∷◌, length, set, get_or, count_by, Option, refl, sym, ap, ◌∙◌, subst, arith, inl, inr, get_or-set_other}
+use Rattle.std.proofs.Common.{◌≡◌, ℕ, zero, suc, ◌-◌, ◌<◌, Bool, true, false, not, cond, ◌&&◌, ◌||◌, eqb, ltb, List, [], ◌∷◌, length, set, count_by, Option, refl, sym, ap, ◌∙◌, arith, inl, inr}
 use Rattle.std.specs.Prelude.{ℤ, pos, ◌≤ℤ◌, int_lt}
 use Rattle.std.specs.List.{list_any, list_all, AllByRecursion}
-use Rattle.std.proofs.lemmas.Bool.{false≢true, and_parts, and_from, eqb-true, eq-eqb}
+use Rattle.std.proofs.lemmas.Bool.{false≢true, and_parts, and_from}
 use Rattle.std.proofs.lemmas.Int.{ints}
-use Rattle.std.proofs.lemmas.List.{length-set}
 use Rattle.asp_model.specs.declared.program.Body.{Body}
 use Rattle.asp_model.specs.declared.program.Body.TheVariants as body
 use Rattle.asp_model.specs.declared.program.Rule.{Rule}
@@ -24,8 +23,7 @@ use Rattle.asp_loop.specs.Parts.{form_of}
 use Rattle.asp_loop.proofs.EntailedLaws.{any_of}
 use Rattle.asp_loop.proofs.LoopLaws.{members, at_form, rule_excused}
 use Rattle.asp_loop.proofs.WeightedLaws.{AreItems, form_items, form_weighted}
-use Rattle.asp_source.specs.Marks.{is_marked, shown, is_founded, is_dropped}
-use Rattle.asp_source.proofs.BodyLaws.{has-shown}
+use Rattle.asp_source.specs.Marks.{is_marked, is_founded}
 use Rattle.asp_source.proofs.QueueLaws.{fewer, marked_within}
 
 -- ---- a greater set excuses more

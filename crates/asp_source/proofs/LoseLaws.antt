@@ -1,11 +1,8 @@
 -- How atoms lose their sources.
-use Rattle.std.proofs.Common.{◌≡◌, ◌≢◌, ℕ, ◌+◌, ◌-◌, ◌<◌, Bool, true, false, eqb, List, length, set, get_or, refl, sym, ap, ◌∙◌, arith, ◌⊎◌, inl, inr, get_or-set_other, get_or-set_same}
+use Rattle.std.proofs.Common.{◌≡◌, ◌≢◌, ℕ, ◌+◌, ◌-◌, ◌<◌, Bool, true, false, eqb, List, length, get_or, refl, sym, ap, ◌∙◌, arith, inl, inr}
 use Rattle.std.proofs.lemmas.Bool.{false≢true, eqb-true, eq-eqb}
-use Rattle.std.proofs.lemmas.List.{length-set}
 use Rattle.asp_scc.proofs.SearchLaws.{get_or-any}
-use Rattle.asp_source.specs.Marks.{is_marked}
 use Rattle.asp_source.specs.Pointers.{Loses, IsGone}
-use Rattle.asp_source.proofs.ChangeLaws.{set_marked}
 use Rattle.asp_source.proofs.PointerLaws.{IsLess}
 
 pub loses_then : (s : List ℕ) (q : List Bool) (t : List ℕ) (r : List Bool) (u : List ℕ) (y : List Bool) → Loses s q t r → Loses t r u y → Loses s q u y

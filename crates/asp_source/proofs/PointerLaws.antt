@@ -1,21 +1,20 @@
 -- Source pointers: with them no set within a component is unfounded.
-use Rattle.std.proofs.Common.{◌≡◌, ◌≢◌, ℕ, zero, suc, ◌+◌, ◌-◌, ◌<◌, ◌≤◌, Bool, true, false, not, cond, ◌&&◌, ◌||◌, eqb, List, [], ◌∷◌, filter, length, set, get_or, Option, refl, sym, ap, ◌∙◌, subst, arith, ◌⊎◌, inl, inr, get_or-set_other, get_or-set_same}
-use Rattle.std.specs.List.{list_any, AllByRecursion}
+use Rattle.std.proofs.Common.{◌≡◌, ◌≢◌, ℕ, ◌-◌, ◌<◌, Bool, true, false, not, ◌&&◌, eqb, List, [], filter, length, set, get_or, Option, refl, sym, ap, ◌∙◌, subst, arith, ◌⊎◌, inl, inr, get_or-set_other, get_or-set_same}
+use Rattle.std.specs.List.{list_any}
 use Rattle.std.proofs.lemmas.Bool.{false≢true, and_parts, and_from, eqb-true, eq-eqb}
 use Rattle.asp_model.specs.declared.program.Rule.{Rule}
 use Rattle.asp_model.specs.declared.program.Program.{Program}
 use Rattle.asp_model.specs.Sets.{Atoms, has}
 use Rattle.asp_model.specs.Models.{rules_in_force, atoms_of, head_atoms}
 use Rattle.asp_model.specs.Sound.{IsSound}
-use Rattle.asp_vars.specs.Literals.{T, F, has_literal, holds_in}
 use Rattle.asp_vars.specs.Numbering.{normal, body_eq, var_of_atom, nth_atom}
 use Rattle.asp_vars.specs.Completion.{supports}
-use Rattle.asp_vars.specs.Tabled.{form_literals, IsAtomVar}
-use Rattle.asp_vars.specs.Unfounded.{is_excused, is_unfounded}
+use Rattle.asp_vars.specs.Tabled.{IsAtomVar}
+use Rattle.asp_vars.specs.Unfounded.{is_excused}
 use Rattle.asp_vars.proofs.NumberingLaws.{same_body}
 use Rattle.asp_vars.proofs.StandingLaws.{Among, each_among}
-use Rattle.asp_vars.proofs.SupportLaws.{some, either, or_left, or_right, in_forms}
-use Rattle.asp_scc.specs.Components.{Parts, component_of, Stands, AreComponents}
+use Rattle.asp_vars.proofs.SupportLaws.{some, in_forms}
+use Rattle.asp_scc.specs.Components.{Parts, Stands, AreComponents}
 use Rattle.asp_scc.proofs.ReachLaws.{atom_small}
 use Rattle.asp_loop.specs.Parts.{form_of}
 use Rattle.asp_loop.proofs.EntailedLaws.{any_of}

@@ -1,5 +1,5 @@
 -- What is left of an unfounded set that was found.
-use Rattle.std.proofs.Common.{◌≡◌, ℕ, ◌+◌, ◌<◌, Bool, true, false, not, ◌&&◌, List, [], ◌∷◌, filter, length, get_or, Option, ◌∙◌, sym, ap, refl, subst, arith}
+use Rattle.std.proofs.Common.{◌≡◌, ℕ, Bool, true, false, not, List, [], filter, get_or, Option, ◌∙◌, sym, ap, refl, subst}
 use Rattle.std.specs.Prelude.{All}
 use Rattle.std.proofs.lemmas.Bool.{false≢true, and_parts}
 use Rattle.asp_model.specs.declared.program.Program.{Program}
@@ -9,7 +9,7 @@ use Rattle.asp_vars.specs.Numbering.{var_of_atom}
 use Rattle.asp_vars.specs.Unfounded.{is_unfounded}
 use Rattle.asp_scc.specs.Components.{Stands}
 use Rattle.asp_loop.proofs.FoundedLaws.{has-filter}
-use Rattle.asp_source.specs.Loops.{AreJoined, IsUnfoundedLoop}
+use Rattle.asp_source.specs.Loops.{AreJoined}
 use Rattle.asp_source.specs.Loops.{IsFound}
 use Rattle.asp_source.proofs.LookLaws.{is_at}
 use Rattle.asp_scc.proofs.SearchLaws.{get_or-any}

@@ -1,8 +1,7 @@
 -- How candidates get sources.
-use Rattle.std.specs.Prelude.{◌≡◌, ℕ, ◌+◌, ◌-◌, ◌<◌, ◌≤◌, Bool, true, false, List, Option, length, count_by, slice_index, slice_set, IsTrue}
+use Rattle.std.specs.Prelude.{◌≡◌, ℕ, ◌+◌, ◌-◌, ◌≤◌, Bool, true, false, List, Option, length, count_by, slice_set, IsTrue}
 use Rattle.asp_model.specs.declared.program.Program.{Program}
 use Rattle.asp_model.specs.Sets.{has}
-use Rattle.asp_model.specs.Models.{atoms_of}
 use Rattle.asp_vars.specs.Completion.{supports}
 use Rattle.asp_vars.specs.Numbering.{nth_atom}
 use Rattle.asp_vars.specs.Tabled.{IsAtomVar}

@@ -4,7 +4,7 @@ use Rattle.std.specs.List.{list_any}
 use Rattle.asp_model.specs.declared.program.Program.{Program}
 use Rattle.asp_model.specs.Sets.{Atoms}
 use Rattle.asp_model.specs.Models.{atoms_of}
-use Rattle.asp_vars.specs.Literals.{Literal, F, complement, holds_in}
+use Rattle.asp_vars.specs.Literals.{Literal, complement, holds_in}
 use Rattle.asp_vars.specs.Numbering.{var_of_atom, nth_atom}
 use Rattle.asp_vars.specs.Completion.{supports}
 use Rattle.asp_vars.specs.Unfounded.{is_excused}

@@ -1,4 +1,4 @@
-use Rattle.std.proofs.Common.{ℕ, get_or, sym, ap, ◌∙◌, subst, arith}
+use Rattle.std.proofs.Common.{ℕ, sym, ◌∙◌, subst, arith}
 use Rattle.asp_vars.specs.Tabled.{IsAtomVar}
 use Rattle.asp_source.proofs.GatherLaws.{gathered_as, gathers_as, drops_none}
 use Rattle.asp_source.proofs.gather.draw.Goals as goal

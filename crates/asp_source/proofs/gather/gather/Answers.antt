@@ -1,5 +1,4 @@
-use Rattle.std.proofs.Common.{◌∙◌}
-use Rattle.asp_source.proofs.GatherLaws.{gathers_then, gathers_less, looked_at}
+use Rattle.asp_source.proofs.GatherLaws.{gathers_then, gathers_less}
 use Rattle.asp_source.proofs.gather.gather.Goals as goal
 
 pub loop-place-preserved : goal.loop-place-preserved

@@ -1,4 +1,4 @@
-use Rattle.std.proofs.Common.{length, get_or, ap, ◌∙◌, sym, arith}
+use Rattle.std.proofs.Common.{length, ap, ◌∙◌, arith}
 use Rattle.asp_vars.specs.Numbering.{nth_body}
 use Rattle.asp_vars.specs.Tabled.{heads_of}
 use Rattle.asp_source.proofs.LoseLaws.{loses_then, less_of, gone_more, item_at}

@@ -1,4 +1,4 @@
-use Rattle.std.proofs.Common.{◌≡◌, ℕ, ◌<◌, get_or, length}
+use Rattle.std.proofs.Common.{ℕ, ◌<◌, get_or, length}
 use Rattle.asp_vars.specs.Numbering.{nth_body}
 use Rattle.asp_vars.specs.Tabled.{heads_of}
 use Rattle.asp_source.specs.Pointers.{Loses, IsGone}
