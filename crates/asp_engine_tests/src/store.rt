@@ -89,6 +89,24 @@ fn implies_again_after_a_recall(rt: HostRuntime) -> Result<(), Fail> {
 }
 
 #[test]
+fn two_nogoods_leave_no_value(rt: HostRuntime) -> Result<(), Fail> {
+    let heap = rt.alloc();
+    let mut store = Store::new(heap, 2)?;
+    let mut trail = Trail::new(heap, 2)?;
+    trail.reserve(2)?;
+    store.add(pair(heap, Lit::new(1, true), Lit::new(2, true))?, true)?;
+    trail.decide(Lit::new(1, true));
+    assert!(rt; matches!(store.propagate(&mut trail), Propagated::Quiet));
+    assert!(rt; trail.value(2) == Some(false));
+    start_over(&mut store, &mut trail);
+    store.add(pair(heap, Lit::new(1, true), Lit::new(2, false))?, true)?;
+    assert!(rt; trail.value(1) == None);
+    trail.decide(Lit::new(1, true));
+    assert!(rt; matches!(store.propagate(&mut trail), Propagated::Violated(_)));
+    Ok(())
+}
+
+#[test]
 fn removes_one(rt: HostRuntime) -> Result<(), Fail> {
     let heap = rt.alloc();
     let mut store = Store::new(heap, 2)?;
