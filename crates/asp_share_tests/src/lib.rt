@@ -2,9 +2,9 @@
 #![tactic(auto)]
 
 #[cfg(test)]
-mod book;
+mod board;
 #[cfg(test)]
-mod core;
+mod book;
 #[cfg(test)]
 mod log;
 #[cfg(test)]

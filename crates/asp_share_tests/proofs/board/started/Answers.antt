@@ -6,7 +6,7 @@ use Rattle.asp_core.specs.declared.goal.Goal.{Goal}
 use Rattle.asp_core.specs.Boards.{start}
 use Rattle.asp_core.specs.Rows.{two_atoms}
 use Rattle.asp_core.proofs.RowLaws.{two_atoms-sound}
-use Rattle.asp_share_tests.proofs.core.started.Goals as goal
+use Rattle.asp_share_tests.proofs.board.started.Goals as goal
 
 pub compile-requires : goal.compile-requires
 compile-requires c = subst IsSound (sym c.in_ok-free_atoms.ensures) two_atoms-sound

@@ -4,7 +4,7 @@ use Rattle.asp_core.specs.declared.goal.Goal.TheVariants as sought
 use Rattle.asp_core.specs.Boards.{Board, start}
 use Rattle.asp_core.specs.Events.{run, IsLawful}
 use Rattle.asp_core.specs.Rows.{over_two_atoms}
-use Rattle.asp_share_tests.proofs.core.listed.Goals as goal
+use Rattle.asp_share_tests.proofs.board.listed.Goals as goal
 
 pub apply_all-requires : goal.apply_all-requires
 apply_all-requires c =

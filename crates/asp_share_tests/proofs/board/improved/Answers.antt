@@ -5,7 +5,7 @@ use Rattle.asp_core.specs.declared.goal.Goal.TheVariants as sought
 use Rattle.asp_core.specs.Boards.{Board, start}
 use Rattle.asp_core.specs.Events.{Guard, happens}
 use Rattle.asp_core.specs.Rows.{over_two_atoms}
-use Rattle.asp_share_tests.proofs.core.improved.Goals as goal
+use Rattle.asp_share_tests.proofs.board.improved.Goals as goal
 
 pub apply-requires : goal.apply-requires
 apply-requires c =

@@ -4,7 +4,7 @@ use Rattle.asp_core.specs.Boards.{Board, start}
 use Rattle.asp_core.specs.Events.{run, IsLawful}
 use Rattle.asp_core.specs.Rows.{two_atoms_listed}
 use Rattle.asp_core.proofs.RowLaws.{two_leases-lawful}
-use Rattle.asp_share_tests.proofs.core.leased.Goals as goal
+use Rattle.asp_share_tests.proofs.board.leased.Goals as goal
 
 pub apply_all-requires : goal.apply_all-requires
 apply_all-requires c =
