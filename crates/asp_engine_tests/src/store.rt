@@ -99,6 +99,7 @@ fn two_nogoods_leave_no_value(rt: HostRuntime) -> Result<(), Fail> {
     assert!(rt; matches!(store.propagate(&mut trail), Propagated::Quiet));
     assert!(rt; trail.value(2) == Some(false));
     start_over(&mut store, &mut trail);
+    assert_eq!(rt; trail.len(), 0);
     store.add(pair(heap, Lit::new(1, true), Lit::new(2, false))?, true)?;
     assert!(rt; trail.value(1) == None);
     trail.decide(Lit::new(1, true));
