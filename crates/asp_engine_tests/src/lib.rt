@@ -8,15 +8,11 @@ mod bound;
 #[cfg(test)]
 mod choice;
 #[cfg(test)]
-mod following;
-#[cfg(test)]
 mod order;
 #[cfg(test)]
 mod sources;
 #[cfg(test)]
 mod store;
-#[cfg(test)]
-mod track;
 #[cfg(test)]
 mod trail;
 #[cfg(test)]

@@ -93,13 +93,27 @@ fn next_both(
     Ok((held, free))
 }
 
+fn is_of(nogood: &Nogood, wanted: &[Lit]) -> bool {
+    nogood.lits.as_slice() == wanted
+}
+
+// Which atom's nogood comes isn't said.
+fn has_either(rt: &impl Abort, nogood: Option<Nogood>, first: &[Lit], second: &[Lit]) {
+    match nogood {
+        None => panic!(rt; "no nogood is given"),
+        Some(nogood) => assert!(rt; is_of(&nogood, first) || is_of(&nogood, second)),
+    }
+}
+
 #[test]
 fn a_loop_needs_its_support(rt: HostRuntime) -> Result<(), Fail> {
     let alloc = rt.alloc();
     let compiled = compiled_loop(&rt, alloc)?;
     let false_body = Lit::new(7, false);
     let (held, free) = next_both(alloc, &compiled, false_body)?;
-    has_lits(&rt, held, &[Lit::new(2, true), false_body]);
+    let first = [Lit::new(1, true), false_body];
+    let second = [Lit::new(2, true), false_body];
+    has_either(&rt, held, first.as_slice(), second.as_slice());
     has_lits(&rt, free, &[]);
     Ok(())
 }

@@ -9,7 +9,7 @@ use Rattle.asp_store.specs.Keeping.{kept_at}
 use Rattle.asp_follow.specs.Following.{IsImplied}
 use Rattle.asp_follow.proofs.AddLaws.{newest}
 use Rattle.asp_track.specs.Tracking.{Tracked, path_of, IsUnder}
-use Rattle.asp_engine_tests.proofs.track.imply_second.Goals as goal
+use Rattle.asp_track_tests.proofs.track.imply_second.Goals as goal
 
 first_of : (b : Bool) → (b || false) ≡ true → b ≡ true
 first_of true h = refl

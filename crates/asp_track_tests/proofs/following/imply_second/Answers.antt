@@ -7,7 +7,7 @@ use Rattle.asp_trail.specs.declared.trail.Entry.{Entry}
 use Rattle.asp_trail.specs.Reasons.{IsReason}
 use Rattle.asp_follow.specs.Following.{Following, with_nogood, IsImplied}
 use Rattle.asp_follow.proofs.AddLaws.{newest}
-use Rattle.asp_engine_tests.proofs.following.imply_second.Goals as goal
+use Rattle.asp_track_tests.proofs.following.imply_second.Goals as goal
 
 first_of : (b : Bool) → (b || false) ≡ true → b ≡ true
 first_of true h = refl

@@ -3,7 +3,7 @@ use Rattle.asp_vars.specs.declared.nogood.Base.TheVariants as base
 use Rattle.asp_store.specs.declared.kept.Kept.{Kept}
 use Rattle.asp_store.specs.Keeping.{kept_at}
 use Rattle.asp_track.specs.Tracking.{Tracked}
-use Rattle.asp_engine_tests.proofs.track.keeps_implies_and_removes.Goals as goal
+use Rattle.asp_track_tests.proofs.track.keeps_implies_and_removes.Goals as goal
 
 pub remove-requires-clause-local : goal.remove-requires-clause-local
 remove-requires-clause-local g c =
