@@ -25,10 +25,10 @@ use asp_path::tree::{Leaf, Tree};
 use asp_vars::compiled::Compiled;
 use asp_vars::lit::Lit;
 use asp_vars::nogood::Lits;
+use asp_vars::origin::Origin;
 use std::alloc::{AllocError, Global};
 use std::collections::BTreeSet;
 use std::marker::Model;
-use std::snapshot::Snapshot;
 
 /// The state of a search, which contracts see as its board.
 ///
@@ -36,7 +36,7 @@ use std::snapshot::Snapshot;
 #[derive(Drop)]
 pub struct State {
     alloc: Global,
-    program: Snapshot<Program>,
+    program: Origin<Program>,
     goal: Goal,
     budget: u64,
     limit: u64,
@@ -98,7 +98,7 @@ impl State {
         let tree = Tree::root(alloc, root)?;
         Ok(State {
             alloc,
-            program: Snapshot::of(program),
+            program: Origin::of(program),
             goal,
             budget,
             limit,

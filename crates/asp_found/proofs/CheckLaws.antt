@@ -28,7 +28,7 @@ broken_unstable p S n b = cases (is_stable p S) refl
 rest_is : (p : Program) (S L xs : Atoms) → L ≡ least_model p S → xs ≡ filter (λ a. not (has L a)) S → xs ≡ rest p S
 rest_is p S L xs least e = e ∙ ap (λ T. filter (λ a. not (has T a)) S) least
 
-empty_list : (xs : List ℕ) → eqb (length xs) 0 ≡ true → xs ≡ []
+pub empty_list : (xs : List ℕ) → eqb (length xs) 0 ≡ true → xs ≡ []
 empty_list [] e = refl
 empty_list (x ∷ xs) e = absurd (zero_suc (eqb-true (length (x ∷ xs)) 0 e))
   where

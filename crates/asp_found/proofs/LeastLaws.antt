@@ -1,5 +1,5 @@
 -- What is marked at the end is the least model.
-use Rattle.std.proofs.Common.{◌≡◌, ℕ, zero, suc, ◌+◌, ◌<◌, ◌≤◌, Bool, true, false, not, cond, ◌&&◌, ◌||◌, eqb, List, [], ◌∷◌, ◌++◌, map, filter, length, get_or, take, drop, replicate, refl, sym, ap, ◌∙◌, subst, arith, inl, inr}
+use Rattle.std.proofs.Common.{◌≡◌, ℕ, zero, suc, ◌+◌, ◌<◌, ◌≤◌, Bool, true, false, not, cond, ◌&&◌, ◌||◌, eqb, List, [], ◌∷◌, ◌++◌, map, length, get_or, take, drop, replicate, refl, sym, ap, ◌∙◌, subst, arith, inl, inr}
 use Rattle.std.specs.Prelude.{All, ℤ, pos, negsuc, ◌+ℤ◌, int_le}
 use Rattle.std.specs.List.{list_any, list_all, flat_map, count_by, AllByRecursion}
 use Rattle.std.proofs.lemmas.Bool.{false≢true, and_parts, and_from, eqb-true, eq-eqb}
@@ -37,7 +37,7 @@ use Rattle.asp_loop.proofs.FoundedLaws.{has-filter}
 use Rattle.asp_loop.proofs.EntailedLaws.{weight_less, reached}
 use Rattle.asp_loop.proofs.LoopLaws.{at_form, members}
 use Rattle.asp_loop.proofs.WeightedLaws.{AreItems, form_items, nth_weighted, form_weighted, body_stands}
-use Rattle.asp_found.specs.Marks.{is_marked, Shows, lit_between, marks_hold, derive_by}
+use Rattle.asp_found.specs.Marks.{is_marked, Shows, shown, lit_between, marks_hold, derive_by}
 use Rattle.asp_found.specs.Derivings.{IsDeriving, AreDerived}
 use Rattle.asp_found.specs.Verdicts.{is_kept, keeps}
 use Rattle.asp_found.proofs.DeriveLaws.{all_derived}
@@ -63,10 +63,6 @@ marks_link p S T set marks (body.AtLeast c items) s t stand = ap (int_le c) (alo
     along (i ∷ is) h =
         ap (λ b. cond b i.1 (pos 0) +ℤ weigh (lit_between set marks) (map (λ i. literal_of p i.0) is) (map (λ i. i.1) is)) (lit_link p S T set marks i.0 s t h.0)
         ∙ ap (λ w. cond (holds_between S T i.0) i.1 (pos 0) +ℤ w) (along is h.1)
-
--- the set that marks show
-abbrev pub shown : Program → List Bool → Atoms
-shown p marks = filter (λ a. is_marked marks (var_of_atom p a)) (atoms_of p)
 
 pub has-shown : (p : Program) (marks : List Bool) (a : ℕ) → has (shown p marks) a ≡ (is_marked marks (var_of_atom p a) && has (atoms_of p) a)
 has-shown p marks a = has-filter (λ a. is_marked marks (var_of_atom p a)) (atoms_of p) a
@@ -323,7 +319,7 @@ nothing_derived p set marks is = subst (λ (m : List Bool). IsDeriving p set m [
     all_open n = let e = sum_by-replicate (λ (b : Bool). cond (not b) 1 0) n false in omega (arith, e)
 
 -- ---- what the calls hand on
-pub looks : (p : Program) (set marks marks' : List Bool) (found found' : List ℕ) (j : ℕ) → IsSound p → j < length (bodies_of p) → length set ≡ length (atoms_of p) + 1 → IsDeriving p set marks found → (marks', found') ≡ derive_by p set (marks, found) j → Looked p set (marks, found) (marks', found') j
+pub looks : (p : Program) (set marks marks' : List Bool) (found found' : List ℕ) (j : ℕ) → IsSound p → j < length (bodies_of p) → length (atoms_of p) < length set → IsDeriving p set marks found → (marks', found') ≡ derive_by p set (marks, found) j → Looked p set (marks, found) (marks', found') j
 looks p set marks marks' found found' j sound lt size h is =
     looked p set (marks, found) (marks', found') j sound lt (heads_small p (nth_body p j) (length set) size) h is
 
@@ -340,3 +336,7 @@ written_back new old n whole same = ap (λ k. take k (new ++ drop (length new) o
     front : (xs zs : List Bool) → take (length xs) (xs ++ zs) ≡ xs
     front [] zs = refl
     front (x ∷ xs) zs = ap (λ ys. x ∷ ys) (front xs zs)
+
+pub lent_back : (p : Program) (set new old : List Bool) (found : List ℕ) (n : ℕ) → n ≡ length old → length old ≡ length set → IsDeriving p set new found → IsDeriving p set (take n (new ++ drop (length new) old)) found
+lent_back p set new old found n whole size h =
+    subst (λ (m : List Bool). IsDeriving p set m found) (sym (written_back new old n whole (h.size ∙ sym size))) h

@@ -7,3 +7,6 @@ pub mod MarkLaws
 pub mod DeriveLaws
 pub mod LeastLaws
 pub mod ValuationLaws
+pub mod ValueLaws
+pub mod MergeLaws
+pub mod LeftLaws

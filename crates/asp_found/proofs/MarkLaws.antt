@@ -46,12 +46,12 @@ pub same_places : (p : Program) (b : Body) (c : ℤ) → bound_of b ≡ Some c �
 same_places p (body.All ls) c e = cc e
 same_places p (body.AtLeast bound items) c e = length-map items (λ i. i.1) ∙ sym (length-map items (λ i. literal_of p i.0))
 
-pub literals_small : (p : Program) (lits : List Literal) (n : ℕ) → n ≡ length (atoms_of p) + 1 → All (λ l. IsAtomVar p l.var) lits → All (λ l. l.var < n) lits
-literals_small p lits n e h = All-weaker (λ (l : Literal). IsAtomVar p l.var) (λ l. l.var < n) (λ l a. let small = a.1 in omega (arith, small, e)) lits h
+pub literals_small : (p : Program) (lits : List Literal) (n : ℕ) → length (atoms_of p) < n → All (λ l. IsAtomVar p l.var) lits → All (λ l. l.var < n) lits
+literals_small p lits n room h = All-weaker (λ (l : Literal). IsAtomVar p l.var) (λ l. l.var < n) (λ l a. let small = a.1 in omega (arith, small, room)) lits h
 
-pub heads_small : (p : Program) (b : Body) (n : ℕ) → n ≡ length (atoms_of p) + 1 → All (λ v. v < n) (heads_of p b)
-heads_small p b n e =
-    All-weaker (IsAtomVar p) (λ v. v < n) (λ v a. let small = a.1 in omega (arith, small, e)) (heads_of p b) (All-from_recursion (IsAtomVar p) (heads_of p b) (head_vars p b))
+pub heads_small : (p : Program) (b : Body) (n : ℕ) → length (atoms_of p) < n → All (λ v. v < n) (heads_of p b)
+heads_small p b n room =
+    All-weaker (IsAtomVar p) (λ v. v < n) (λ v a. let small = a.1 in omega (arith, small, room)) (heads_of p b) (All-from_recursion (IsAtomVar p) (heads_of p b) (head_vars p b))
 
 pub mark_at : (p : Program) (marks : List Bool) (i : ℕ) → i < length (atoms_of p) → is_marked marks (i + 1) ≡ is_marked marks (var_of_atom p (nth_atom p i))
 mark_at p marks i lt = ap (is_marked marks) (let e = var_of_nth_atom p i lt in omega (arith, e))

@@ -113,13 +113,17 @@ falses_hit p S q (b ∷ bs) stand f = cases (q b) refl (falses_hit p S q bs stan
         ∙ and_from (is_true (values p S) (F (var_of_form p b))) (hits (values p S) (map F (map (var_of_form p) (filter q bs)))) (form-false p S b stand.0 ∙ ap not (f b (sym e))) rest_hit
     cases false e rest_hit = ap (λ t. hits (values p S) (map F (map (var_of_form p) (cond t (b ∷ filter q bs) (filter q bs))))) (sym e) ∙ rest_hit
 
+pub supports_hit : (p : Program) (S : Atoms) (a : ℕ) → is_supported p S a ≡ false → hits (values p S) (map F (supports p a)) ≡ true
+supports_hit p S a none =
+    falses_hit p S (λ b. list_any (λ (r : Rule). has (head_atoms r.head) a && body_eq (normal r.body) b) (rules_in_force p)) (bodies_of p) (bodies_of-themselves p) (λ b e. supported_false p S a b none e)
+
 pub atom_broken : (p : Program) (S : Atoms) (a : ℕ) → IsSound p → Among (atoms_of p) a → has (atoms_of p) a ≡ true → has S a ≡ true → is_supported p S a ≡ false → IsBroken p S (record { lits = atom_nogood p a; base = base.Pure })
 atom_broken p S a sound m stands in_set none = record {
   pure = refl;
   listed = atom_listed p a m;
   entailed = atom_entailed p a sound stands;
   hit = and_from (is_true (values p S) (T (var_of_atom p a))) (hits (values p S) (map F (supports p a))) (atom-true p S a stands ∙ in_set)
-      (falses_hit p S (λ b. list_any (λ (r : Rule). has (head_atoms r.head) a && body_eq (normal r.body) b) (rules_in_force p)) (bodies_of p) (bodies_of-themselves p) (λ b e. supported_false p S a b none e));
+      (supports_hit p S a none);
 }
 
 -- ---- where nothing is broken
@@ -165,8 +169,8 @@ rule_unhit p S r (head.Choice atoms) m stand kept = tt
 rule_unhit p S r head.Never m stand kept = (ap (λ b. b && true) (rule-true p S r m) ∙ never_no (body_holds S r.body) kept, tt)
 
 -- where all supports fail, so does each rule for the atom
-unsupported : (p : Program) (S : Atoms) (a : ℕ) → hits (values p S) (map F (supports p a)) ≡ true → is_supported p S a ≡ true → ⊥
-unsupported p S a h supported =
+pub supports_unhit : (p : Program) (S : Atoms) (a : ℕ) → hits (values p S) (map F (supports p a)) ≡ true → is_supported p S a ≡ true → ⊥
+supports_unhit p S a h supported =
     let test : Body → Bool = λ b. list_any (λ (r : Rule). has (head_atoms r.head) a && body_eq (normal r.body) b) (rules_in_force p) in
     let all_fail : AllByRecursion (λ b. test b ≡ true → body_holds S b ≡ false) (bodies_of p) = bodies_fail p S test (bodies_of p) (bodies_of-themselves p) h in
     one_passes ⊥ (λ r. has (head_atoms r.head) a && body_holds S r.body) (rules_in_force p)
@@ -189,7 +193,7 @@ atom_unhit p S a stands kept = cases (has S a) (hits (values p S) (map F (suppor
         never : (b : Bool) → (b && false) ≡ false
         never true = refl
         never false = refl
-    cases true true q r = absurd (unsupported p S a (sym r) (ap (λ b. not b || is_supported p S a) q ∙ kept))
+    cases true true q r = absurd (supports_unhit p S a (sym r) (ap (λ b. not b || is_supported p S a) q ∙ kept))
 
 each_passes : {X : Type 0} (q : X → Bool) (xs : List X) → list_all q xs ≡ true → AllByRecursion (λ x. q x ≡ true) xs
 each_passes q [] e = tt

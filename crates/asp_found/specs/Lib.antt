@@ -3,3 +3,4 @@ pub mod Verdicts
 pub mod Marks
 pub mod Derivings
 pub mod Valuations
+pub mod Merges

@@ -1,5 +1,5 @@
 -- Sets of atoms as marks, at the places of their variables.
-use Rattle.std.specs.Prelude.{◌≡◌, ℕ, Bool, true, false, not, ◌&&◌, ◌∷◌, [], ◌++◌, List, IsTrue, if◌then◌else◌, fold, slice_index_or, slice_set, int_le}
+use Rattle.std.specs.Prelude.{◌≡◌, ℕ, Bool, true, false, not, ◌&&◌, ◌∷◌, [], ◌++◌, List, IsTrue, if◌then◌else◌, filter, fold, slice_index_or, slice_set, int_le}
 use Rattle.std.specs.List.{list_all}
 use Rattle.asp_model.specs.declared.program.Body.{Body}
 use Rattle.asp_model.specs.declared.program.Body.TheVariants as body
@@ -17,6 +17,10 @@ is_marked marks v = slice_index_or marks v false
 -- The marks show which atoms are in the set.
 abbrev pub Shows : Program → Atoms → List Bool → Type 0
 Shows p S marks = (a : ℕ) → IsTrue (has (atoms_of p) a) → is_marked marks (var_of_atom p a) ≡ has S a
+
+-- the atoms that are marked
+abbrev pub shown : Program → List Bool → Atoms
+shown p marks = filter (λ a. is_marked marks (var_of_atom p a)) (atoms_of p)
 
 -- positive literals are read in the derived atoms, negative ones in the set
 abbrev pub lit_between : List Bool → List Bool → Literal → Bool

@@ -3,8 +3,9 @@ ghost use Rattle.std.specs.Prelude.{IfOk};
 ghost use Rattle.asp_found.specs.Verdicts.{IsVerdict};
 
 use crate::check::Verdict;
-use crate::least::least;
-use crate::parts::{broken_rule, rest, supported, unsupported_atom};
+use crate::least::rest;
+use crate::parts::{broken_rule, unsupported_atom};
+use crate::values::values_of;
 use asp_model::interp::Interp;
 use asp_model::seq::Seq;
 use asp_vars::compiled::Compiled;
@@ -16,15 +17,14 @@ pub fn check(alloc: Global, compiled: &Compiled, interp: &Interp) -> Result<Verd
 {
     let _program = compiled.program();
     let _atoms = interp.as_slice();
-    if let Some(nogood) = broken_rule(alloc, compiled, interp)? {
+    let values = values_of(alloc, compiled, interp)?;
+    if let Some(nogood) = broken_rule(alloc, compiled, interp, values.as_slice())? {
         return Ok(Verdict::Broken(nogood));
     }
-    let reasoned = supported(alloc, compiled, interp)?;
-    if let Some(nogood) = unsupported_atom(alloc, compiled, interp, &reasoned)? {
+    if let Some(nogood) = unsupported_atom(alloc, compiled, interp, values.as_slice())? {
         return Ok(Verdict::Broken(nogood));
     }
-    let least = least(alloc, compiled, interp)?;
-    let others = rest(alloc, interp, &least)?;
+    let others = rest(alloc, compiled, interp, values.as_slice())?;
     let is_stable = others.as_slice().is_empty();
     if is_stable {
         Ok(Verdict::Stable)

@@ -1,19 +1,22 @@
 //! The least model of a reduct, in time linear in the program.
 //!
-//! For each body is counted what it still lacks: literals, or weight. An atom that is derived is counted off in the
-//! bodies where it stands, and a body that lacks nothing is looked at and derives its heads. The counts decide when a
-//! body is looked at, and nothing more: a sweep over all bodies begins the work, and a sweep that derives nothing ends
-//! it. With right counts that is the second one.
-ghost use Rattle.std.specs.Prelude.{◌≡◌, ◌+◌, ◌<◌, ◌≤◌, ◌^◌, All, List, IfOk, OnOk, fold, length, IsTrue};
+//! The bodies that hold in the set are looked at once, in the order of the rules, and derive their heads. Where atoms of
+//! the set are then missing, it is counted for each body what it still lacks: literals, or weight. An atom that is derived
+//! is counted off in the bodies where it stands, and a body that lacks nothing is looked at again. All this decides when a
+//! body is looked at, and nothing more: what is derived is in the least model. Where it is all of the set, that is enough.
+//! Else a sweep over all bodies that derives nothing ends the work; with right counts that is the first one.
+ghost use Rattle.std.specs.Prelude.{◌≡◌, ◌+◌, ◌<◌, ◌≤◌, ◌^◌, [], All, List, IfOk, OnOk, fold, length, IsTrue};
 ghost use Rattle.std.specs.List.{list_all, list_any};
-ghost use Rattle.asp_model.specs.Models.{atoms_of, rules_in_force, least_model};
-ghost use Rattle.asp_vars.specs.Numbering.{bodies_of};
+ghost use Rattle.asp_model.specs.Models.{atoms_of, rules_in_force};
+ghost use Rattle.asp_vars.specs.Numbering.{bodies_of, values};
 ghost use Rattle.asp_found.specs.Marks.{derive, derive_by};
+ghost use Rattle.asp_found.specs.Rests.{rest};
 ghost use Rattle.asp_found.specs.Verdicts.{keeps};
 ghost use Rattle.asp_found.specs.Derivings.{IsDeriving, AreDerived};
 
-use crate::marks::{holds, marks_of, shown};
+use crate::marks::{holds, underived};
 use asp_model::interp::Interp;
+use asp_model::program::Atom;
 use asp_vars::compiled::Compiled;
 use asp_vars::lit::{Lit, Var};
 use asp_vars::occurrence::Occurrence;
@@ -62,7 +65,7 @@ fn derive_by(
     body: usize,
 ) -> Result<(), AllocError>
     requires body { body < length (bodies_of compiled.now) }
-    requires set { length set.now ≡ length (atoms_of compiled.now) + 1 }
+    requires set { length (atoms_of compiled.now) < length set.now }
     requires marks { length marks.old ≡ length set.now }
     ensures { OnOk result ((marks.new, found.new.items) ≡ derive_by compiled.now set.now (marks.old, found.old.items) body) }
 {
@@ -74,10 +77,17 @@ fn derive_by(
 }
 
 // What a body lacks before anything is derived. A normal body lacks its positive literals, a weight body what its
-// negative literals leave of the bound.
+// negative literals leave of the bound. A body that doesn't hold in the set never comes to hold.
 fn missing(compiled: &Compiled, set: &[bool], body: usize) -> i64
     requires { body < length (bodies_of compiled.now) }
 {
+    let holds = set
+        .get(compiled.body_var(body) as usize)
+        .copied()
+        .unwrap_or(true);
+    if !holds {
+        return i64::MAX;
+    }
     let lits = compiled.literals(body);
     match compiled.bound(body) {
         Some(bound) => unreached(set, lits, compiled.weights(body), i64::from(bound)),
@@ -145,7 +155,7 @@ fn follow_one(
     counts: &mut [i64],
     occurrence: Occurrence,
 ) -> Result<(), AllocError>
-    requires set { length set.now ≡ length (atoms_of compiled.now) + 1 }
+    requires set { length (atoms_of compiled.now) < length set.now }
     requires sound { IsDeriving compiled.now set.now marks.old found.old.items }
     ensures sound { OnOk result (IsDeriving compiled.now set.now marks.new found.new.items) }
     ensures grows { OnOk result (length found.old.items ≤ length found.new.items) }
@@ -168,7 +178,7 @@ fn follow(
     counts: &mut [i64],
     var: Var,
 ) -> Result<(), AllocError>
-    requires set { length set.now ≡ length (atoms_of compiled.now) + 1 }
+    requires set { length (atoms_of compiled.now) < length set.now }
     requires sound { IsDeriving compiled.now set.now marks.old found.old.items }
     ensures sound { OnOk result (IsDeriving compiled.now set.now marks.new found.new.items) }
     ensures grows { OnOk result (length found.old.items ≤ length found.new.items) }
@@ -191,7 +201,7 @@ fn propagate(
     counts: &mut [i64],
     from: usize,
 ) -> Result<(), AllocError>
-    requires set { length set.now ≡ length (atoms_of compiled.now) + 1 }
+    requires set { length (atoms_of compiled.now) < length set.now }
     requires sound { IsDeriving compiled.now set.now marks.old found.old.items }
     ensures sound { OnOk result (IsDeriving compiled.now set.now marks.new found.new.items) }
     ensures grows { OnOk result (length found.old.items ≤ length found.new.items) }
@@ -213,7 +223,7 @@ fn sweep(
     marks: &mut [bool],
     found: &mut Vec<Var>,
 ) -> Result<(), AllocError>
-    requires set { length set.now ≡ length (atoms_of compiled.now) + 1 }
+    requires set { length (atoms_of compiled.now) < length set.now }
     requires sound { IsDeriving compiled.now set.now marks.old found.old.items }
     ensures sound { OnOk result (IsDeriving compiled.now set.now marks.new found.new.items) }
     ensures grows { OnOk result (length found.old.items ≤ length found.new.items) }
@@ -226,35 +236,184 @@ fn sweep(
     Ok(())
 }
 
-/// The least model of the reduct by a set that keeps the rules.
-pub(crate) fn least(
-    alloc: Global,
+// Looks at a body that lacks nothing from the start.
+fn begin_one(
     compiled: &Compiled,
-    interp: &Interp,
-) -> Result<Interp, AllocError>
-    requires { IsTrue (list_all (keeps interp.now) (rules_in_force compiled.now)) }
-    ensures { IfOk result (λ atoms. atoms ≡ least_model compiled.now interp.now) }
+    set: &[bool],
+    marks: &mut [bool],
+    found: &mut Vec<Var>,
+    counts: &[i64],
+    body: usize,
+) -> Result<(), AllocError>
+    requires body { body < length (bodies_of compiled.now) }
+    requires set { length (atoms_of compiled.now) < length set.now }
+    requires sound { IsDeriving compiled.now set.now marks.old found.old.items }
+    ensures { OnOk result (IsDeriving compiled.now set.now marks.new found.new.items) }
 {
     let _program = compiled.program();
-    let set = marks_of(alloc, compiled, interp)?;
-    let mut counts = counts(alloc, compiled, set.as_slice())?;
+    let lacks = counts.get(body).copied().unwrap_or(0) > 0;
+    if lacks {
+        return Ok(());
+    }
+    derive_by(compiled, set, marks, found, body)
+}
+
+// Looks at the bodies that lack nothing from the start.
+fn begin(
+    compiled: &Compiled,
+    set: &[bool],
+    marks: &mut [bool],
+    found: &mut Vec<Var>,
+    counts: &[i64],
+) -> Result<(), AllocError>
+    requires set { length (atoms_of compiled.now) < length set.now }
+    requires sound { IsDeriving compiled.now set.now marks.old found.old.items }
+    ensures { OnOk result (IsDeriving compiled.now set.now marks.new found.new.items) }
+{
+    for body in 0..compiled.body_count() {
+        begin_one(compiled, set, marks, found, counts, body)?;
+    }
+    Ok(())
+}
+
+// Derives what the counts lead to.
+fn follow_counts(
+    alloc: Global,
+    compiled: &Compiled,
+    set: &[bool],
+    marks: &mut [bool],
+    found: &mut Vec<Var>,
+) -> Result<(), AllocError>
+    requires set { length (atoms_of compiled.now) < length set.now }
+    requires sound { IsDeriving compiled.now set.now marks.old found.old.items }
+    ensures { OnOk result (IsDeriving compiled.now set.now marks.new found.new.items) }
+{
+    let mut counts = counts(alloc, compiled, set)?;
+    begin(compiled, set, marks, found, counts.as_slice())?;
+    propagate(compiled, set, marks, found, counts.as_mut_slice(), 0)
+}
+
+// Looks at a body, if it holds in the set.
+fn pass_one(
+    compiled: &Compiled,
+    set: &[bool],
+    marks: &mut [bool],
+    found: &mut Vec<Var>,
+    body: usize,
+) -> Result<(), AllocError>
+    requires body { body < length (bodies_of compiled.now) }
+    requires set { length (atoms_of compiled.now) < length set.now }
+    requires sound { IsDeriving compiled.now set.now marks.old found.old.items }
+    ensures { OnOk result (IsDeriving compiled.now set.now marks.new found.new.items) }
+{
+    let _program = compiled.program();
+    let holds = set
+        .get(compiled.body_var(body) as usize)
+        .copied()
+        .unwrap_or(true);
+    if !holds {
+        return Ok(());
+    }
+    derive_by(compiled, set, marks, found, body)
+}
+
+// Looks once at each body that holds in the set, in the order of the rules.
+fn pass(
+    compiled: &Compiled,
+    set: &[bool],
+    marks: &mut [bool],
+    found: &mut Vec<Var>,
+) -> Result<(), AllocError>
+    requires set { length (atoms_of compiled.now) < length set.now }
+    requires sound { IsDeriving compiled.now set.now marks.old found.old.items }
+    ensures { OnOk result (IsDeriving compiled.now set.now marks.new found.new.items) }
+{
+    for body in 0..compiled.body_count() {
+        pass_one(compiled, set, marks, found, body)?;
+    }
+    Ok(())
+}
+
+// One pass, and the counts where it derives fewer atoms than are wanted.
+fn derive_wanted(
+    alloc: Global,
+    compiled: &Compiled,
+    set: &[bool],
+    marks: &mut [bool],
+    found: &mut Vec<Var>,
+    wanted: usize,
+) -> Result<(), AllocError>
+    requires set { length (atoms_of compiled.now) < length set.now }
+    requires sound { IsDeriving compiled.now set.now marks.old found.old.items }
+    ensures { OnOk result (IsDeriving compiled.now set.now marks.new found.new.items) }
+{
+    pass(compiled, set, marks, found)?;
+    if found.len() >= wanted {
+        return Ok(());
+    }
+    follow_counts(alloc, compiled, set, marks, found)
+}
+
+// The marks of what is derived before any sweep.
+fn first_marks(
+    alloc: Global,
+    compiled: &Compiled,
+    set: &[bool],
+    found: &mut Vec<Var>,
+    wanted: usize,
+) -> Result<Vec<bool>, AllocError>
+    requires set { length (atoms_of compiled.now) < length set.now }
+    requires none { found.old.items ≡ [] }
+    ensures { IfOk result (λ marks. IsDeriving compiled.now set.now marks.items found.new.items) }
+{
     let mut marks = vec![in alloc; false; set.len()]?;
-    let mut found = Vec::new(alloc);
+    derive_wanted(alloc, compiled, set, marks.as_mut_slice(), found, wanted)?;
+    Ok(marks)
+}
+
+// Sweeps until nothing is left to derive.
+fn close(
+    compiled: &Compiled,
+    set: &[bool],
+    marks: &mut [bool],
+    found: &mut Vec<Var>,
+) -> Result<(), AllocError>
+    requires set { length (atoms_of compiled.now) < length set.now }
+    requires sound { IsDeriving compiled.now set.now marks.old found.old.items }
+    ensures sound { OnOk result (IsDeriving compiled.now set.now marks.new found.new.items) }
+    ensures closed { OnOk result (AreDerived compiled.now set.now marks.new (length (bodies_of compiled.now))) }
+{
     'rounds: loop {
         let before = found.len();
-        sweep(compiled, set.as_slice(), marks.as_mut_slice(), &mut found)?;
+        sweep(compiled, set, marks, found)?;
         if found.len() == before {
             break;
         }
-        propagate(
-            compiled,
-            set.as_slice(),
-            marks.as_mut_slice(),
-            &mut found,
-            counts.as_mut_slice(),
-            before,
-        )?;
     }
-    let atoms = shown(alloc, compiled, marks.as_slice())?;
-    Ok(atoms)
+    Ok(())
+}
+
+/// What a set that keeps the rules has beyond the least model of its reduct. Where all of the set is derived, no sweep is
+/// made.
+pub(crate) fn rest(
+    alloc: Global,
+    compiled: &Compiled,
+    interp: &Interp,
+    truths: &[bool],
+) -> Result<Vec<Atom>, AllocError>
+    requires truths { truths.now ≡ values compiled.now interp.now }
+    requires kept { IsTrue (list_all (keeps interp.now) (rules_in_force compiled.now)) }
+    ensures { IfOk result (λ others. others.items ≡ rest compiled.now interp.now) }
+{
+    let _program = compiled.program();
+    let wanted = interp.as_slice().len();
+    let mut found = Vec::with_capacity(alloc, wanted)?;
+    let mut marks = first_marks(alloc, compiled, truths, &mut found, wanted)?;
+    let others = underived(alloc, compiled, interp, marks.as_slice())?;
+    let is_whole = others.as_slice().is_empty();
+    if is_whole {
+        return Ok(others);
+    }
+    close(compiled, truths, marks.as_mut_slice(), &mut found)?;
+    underived(alloc, compiled, interp, marks.as_slice())
 }

@@ -6,5 +6,7 @@ pub mod found;
 pub mod laws;
 mod least;
 mod marks;
+mod merge;
 mod parts;
 pub mod rows;
+mod values;

@@ -1,21 +1,24 @@
 //! Sets of atoms as marks, at the places of their variables.
-ghost use Rattle.std.specs.Prelude.{◌≡◌, ◌+◌, ◌<◌, ◌∷◌, ◌++◌, false, pos, Some, List, All, IfOk, int_le, length, map, filter, slice_index_or};
-ghost use Rattle.std.specs.Prelude.{◌≤ℤ◌};
+ghost use Rattle.std.specs.Prelude.{◌≡◌, ◌+◌, ◌<◌, ◌∷◌, ◌++◌, false, not, pos, Some, List, All, IfOk, int_le, length, map, filter, slice_index_or};
+ghost use Rattle.std.specs.Prelude.{◌≤ℤ◌, [], OnOk};
 ghost use Rattle.std.specs.List.{list_all};
-ghost use Rattle.asp_model.specs.Sets.{has, set_of};
+ghost use Rattle.asp_model.specs.Sets.{has};
 ghost use Rattle.asp_model.specs.Models.{atoms_of};
-ghost use Rattle.asp_vars.specs.Numbering.{bodies_of, nth_atom, nth_body, var_of_atom};
+ghost use Rattle.asp_vars.specs.Numbering.{bodies_of, nth_body};
 ghost use Rattle.asp_vars.specs.Tabled.{bound_of};
 ghost use Rattle.asp_loop.specs.Weighing.{weigh};
-ghost use Rattle.asp_found.specs.Marks.{is_marked, lit_between, marks_hold};
+ghost use Rattle.asp_found.specs.Marks.{lit_between, marks_hold, shown};
+ghost use Rattle.asp_found.specs.Merges.{IsReached};
 
+use crate::merge::{skip, stands_at};
 use asp_loop::weighing::{take_weight, weight_at};
 use asp_model::interp::Interp;
+use asp_model::program::Atom;
 use asp_vars::compiled::Compiled;
 use asp_vars::lit::Lit;
 use std::alloc::{AllocError, Global};
 
-/// The marks of a set.
+/// The marks of a set. There is room for the variables of the bodies.
 pub(crate) fn marks_of(
     alloc: Global,
     compiled: &Compiled,
@@ -23,9 +26,13 @@ pub(crate) fn marks_of(
 ) -> Result<Vec<bool>, AllocError>
     ensures { IfOk result (λ marks. marks.items ≡ false ∷ map (has interp.now) (atoms_of compiled.now)) }
 {
-    let mut marks = vec![in alloc; false]?;
+    let set = interp.as_slice();
+    let mut marks = Vec::with_capacity(alloc, compiled.vars() as usize + 1)?;
+    marks.push(false)?;
+    let mut place = 0;
     for atom in compiled.atoms().as_slice() {
-        marks.push(interp.has(*atom))?;
+        place = skip(set, place, *atom);
+        marks.push(stands_at(set, place, *atom))?;
     }
     Ok(marks)
 }
@@ -86,7 +93,7 @@ fn weights_hold(
     bound: i32,
 ) -> bool
     requires body { body < length (bodies_of compiled.now) }
-    requires set { length set.now ≡ length (atoms_of compiled.now) + 1 }
+    requires set { length (atoms_of compiled.now) < length set.now }
     requires derived { length derived.now ≡ length set.now }
     requires weighted { bound_of (nth_body compiled.now body) ≡ Some bound }
     ensures { result ≡ marks_hold compiled.now set.now derived.now (nth_body compiled.now body) }
@@ -99,7 +106,7 @@ fn weights_hold(
 /// Whether a body holds, with positive literals read in the derived atoms, and negative ones in the set.
 pub(crate) fn holds(compiled: &Compiled, set: &[bool], derived: &[bool], body: usize) -> bool
     requires body { body < length (bodies_of compiled.now) }
-    requires set { length set.now ≡ length (atoms_of compiled.now) + 1 }
+    requires set { length (atoms_of compiled.now) < length set.now }
     requires derived { length derived.now ≡ length set.now }
     ensures { result ≡ marks_hold compiled.now set.now derived.now (nth_body compiled.now body) }
 {
@@ -109,30 +116,49 @@ pub(crate) fn holds(compiled: &Compiled, set: &[bool], derived: &[bool], body: u
     }
 }
 
-// Whether the atom at a place is marked.
-fn is_marked_at(compiled: &Compiled, marks: &[bool], place: usize) -> bool
-    requires place { place < length (atoms_of compiled.now) }
-    requires marks { length marks.now ≡ length (atoms_of compiled.now) + 1 }
-    ensures { result ≡ is_marked marks.now (var_of_atom compiled.now (nth_atom compiled.now place)) }
+// Whether the atom is marked, where those below it were skipped.
+fn is_derived(compiled: &Compiled, derived: &[bool], place: usize, atom: Atom) -> bool
+    requires derived { length (atoms_of compiled.now) < length derived.now }
+    requires reached { IsReached (atoms_of compiled.now) place atom }
+    ensures { result ≡ has (shown compiled.now derived.now) atom }
 {
-    let _atoms = compiled.atoms();
-    marks[place + 1]
+    stands_at(compiled.atoms().as_slice(), place, atom) && derived[place + 1]
 }
 
-/// The set of the atoms that are marked.
-pub(crate) fn shown(
+// Adds the atom if it isn't marked.
+fn push_underived(
+    rest: &mut Vec<Atom>,
+    compiled: &Compiled,
+    derived: &[bool],
+    place: usize,
+    atom: Atom,
+) -> Result<(), AllocError>
+    requires derived { length (atoms_of compiled.now) < length derived.now }
+    requires reached { IsReached (atoms_of compiled.now) place atom }
+    ensures { OnOk result (rest.new.items ≡ rest.old.items ++ filter (λ a. not (has (shown compiled.now derived.now) a)) (atom ∷ [])) }
+{
+    if !is_derived(compiled, derived, place, atom) {
+        rest.push(atom)?;
+    }
+    Ok(())
+}
+
+/// The atoms of the set that aren't marked.
+pub(crate) fn underived(
     alloc: Global,
     compiled: &Compiled,
-    marks: &[bool],
-) -> Result<Interp, AllocError>
-    requires { length marks.now ≡ length (atoms_of compiled.now) + 1 }
-    ensures { IfOk result (λ atoms. atoms ≡ set_of (filter (λ a. is_marked marks.now (var_of_atom compiled.now a)) (atoms_of compiled.now))) }
+    interp: &Interp,
+    derived: &[bool],
+) -> Result<Vec<Atom>, AllocError>
+    requires { length (atoms_of compiled.now) < length derived.now }
+    ensures { IfOk result (λ rest. rest.items ≡ filter (λ a. not (has (shown compiled.now derived.now) a)) interp.now) }
 {
-    let mut atoms = Vec::new(alloc);
-    for (i, atom) in compiled.atoms().as_slice().iter().enumerate() {
-        if is_marked_at(compiled, marks, i) {
-            atoms.push(*atom)?;
-        }
+    let atoms = compiled.atoms().as_slice();
+    let mut rest = Vec::new(alloc);
+    let mut place = 0;
+    for atom in interp.as_slice() {
+        place = skip(atoms, place, *atom);
+        push_underived(&mut rest, compiled, derived, place, *atom)?;
     }
-    Ok(Interp::from_atoms(atoms))
+    Ok(rest)
 }

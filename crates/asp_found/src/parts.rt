@@ -1,49 +1,60 @@
 //! The parts of the check.
-ghost use Rattle.std.specs.Prelude.{◌≡◌, ℕ, ◌<◌, ◌^◌, ◌∷◌, ◌++◌, ◌||◌, not, List, All, IsTrue, IfOk, OnOk, MatchOption, length, map, filter};
-ghost use Rattle.std.specs.List.{list_all, AllByRecursion};
-ghost use Rattle.std.specs.Prelude.{if◌then◌else◌, []};
+ghost use Rattle.std.specs.Prelude.{◌≡◌, ◌<◌, ◌≤◌, ◌-◌, slice_index, ◌^◌, ◌∷◌, ◌++◌, ◌||◌, not, List, All, IsTrue, IfOk, OnOk, MatchOption, length, map};
+ghost use Rattle.std.specs.List.{list_all, list_any, AllByRecursion};
 ghost use Rattle.asp_model.specs.Sets.{has};
-ghost use Rattle.asp_model.specs.Holding.{body_holds};
 ghost use Rattle.asp_model.specs.Models.{rules_in_force, atoms_of, head_atoms};
-ghost use Rattle.asp_model.specs.Sound.{HasFewItems};
 ghost use Rattle.asp_vars.specs.Literals.{F};
-ghost use Rattle.asp_vars.specs.Numbering.{var_of_body, nth_rule, nth_atom};
+ghost use Rattle.asp_vars.specs.Numbering.{values, var_of_body, nth_rule, nth_atom};
 ghost use Rattle.asp_vars.specs.Completion.{atom_nogood};
 ghost use Rattle.asp_vars.specs.declared.nogood.Base.TheVariants as base;
+ghost use Rattle.asp_found.specs.Marks.{is_marked};
 ghost use Rattle.asp_found.specs.Verdicts.{is_kept, keeps, is_supported, rule_literals, IsBroken};
 
-use asp_model::holding::body_holds_between;
 use asp_model::interp::Interp;
-use asp_model::program::{Atom, Head, Rule};
+use asp_model::program::{Atom, Head};
 use asp_vars::compiled::Compiled;
 use asp_vars::lit::{Lit, Var};
 use asp_vars::nogood::{Base, Lits, Nogood};
 use std::alloc::{AllocError, Global};
 
-fn is_kept(interp: &Interp, head: &Head) -> bool
+// Whether the atom's number is its place, counted from 1, as it is where the program's atoms have no gaps.
+fn is_numbered(atoms: &[Atom], atom: Atom) -> bool
+    ensures { IsTrue result → (0 < atom) × (atom ≤ length atoms.now) × (slice_index atoms.now (atom - 1) ≡ atom) }
+{
+    atom > 0 && atom as usize <= atoms.len() && atoms[atom as usize - 1] == atom
+}
+
+// Whether the atom is in the set. An atom whose number is its variable needs no search.
+fn has_atom(compiled: &Compiled, interp: &Interp, truths: &[bool], atom: Atom) -> bool
+    requires { truths.now ≡ values compiled.now interp.now }
+    ensures { result ≡ has interp.now atom }
+{
+    if is_numbered(compiled.atoms().as_slice(), atom) {
+        truths[atom as usize]
+    } else {
+        interp.has(atom)
+    }
+}
+
+fn is_kept(compiled: &Compiled, interp: &Interp, truths: &[bool], head: &Head) -> bool
+    requires { truths.now ≡ values compiled.now interp.now }
     ensures { result ≡ is_kept interp.now head.now }
 {
     match head {
-        Head::One(atom) => interp.has(*atom),
+        Head::One(atom) => has_atom(compiled, interp, truths, *atom),
         Head::Choice(_) => true,
         Head::Never => false,
     }
 }
 
-fn holds(interp: &Interp, rule: &Rule) -> bool
-    requires { HasFewItems rule.now }
-    ensures { result ≡ body_holds interp.now rule.now.body }
+// Whether a rule is kept. The head is looked at only where the body holds.
+fn keeps(compiled: &Compiled, interp: &Interp, truths: &[bool], rule: usize) -> bool
+    requires rule { rule < length (rules_in_force compiled.now) }
+    requires truths { truths.now ≡ values compiled.now interp.now }
+    ensures { result ≡ keeps interp.now (nth_rule compiled.now rule) }
 {
-    body_holds_between(interp, interp, &rule.body)
-}
-
-fn keeps(interp: &Interp, rule: &Rule) -> bool
-    requires { HasFewItems rule.now }
-    ensures { result ≡ keeps interp.now rule.now }
-{
-    let holds = holds(interp, rule);
-    let kept = is_kept(interp, &rule.head);
-    !holds || kept
+    let holds = truths[compiled.rule_body(rule) as usize];
+    !holds || is_kept(compiled, interp, truths, &compiled.rule(rule).head)
 }
 
 fn rule_nogood(
@@ -72,68 +83,20 @@ pub fn broken_rule(
     alloc: Global,
     compiled: &Compiled,
     interp: &Interp,
+    truths: &[bool],
 ) -> Result<Option<Nogood>, AllocError>
+    requires { truths.now ≡ values compiled.now interp.now }
     ensures { IfOk result (λ found. MatchOption found (IsTrue (list_all (keeps interp.now) (rules_in_force compiled.now))) (IsBroken compiled.now interp.now)) }
 {
     let _program = compiled.program();
     for i in 0..compiled.rule_count() {
-        let rule = compiled.rule(i);
-        let kept = keeps(interp, rule);
+        let kept = keeps(compiled, interp, truths, i);
         if !kept {
-            let nogood = rule_nogood(alloc, compiled, i, &rule.head)?;
+            let nogood = rule_nogood(alloc, compiled, i, &compiled.rule(i).head)?;
             return Ok(Some(nogood));
         }
     }
     Ok(None)
-}
-
-fn push_head(atoms: &mut Vec<Atom>, head: &Head) -> Result<(), AllocError>
-    ensures { OnOk result (atoms.new.items ≡ atoms.old.items ++ head_atoms head.now) }
-{
-    match head {
-        Head::One(atom) => {
-            atoms.push(*atom)?;
-            Ok(())
-        }
-        Head::Choice(more) => atoms.extend_from_slice(more.as_slice()),
-        Head::Never => Ok(()),
-    }
-}
-
-// Adds the head's atoms where the body holds.
-fn push_supported(atoms: &mut Vec<Atom>, interp: &Interp, rule: &Rule) -> Result<(), AllocError>
-    requires { HasFewItems rule.now }
-    ensures { OnOk result (atoms.new.items ≡ atoms.old.items ++ (if body_holds interp.now rule.now.body then head_atoms rule.now.head else [])) }
-{
-    if holds(interp, rule) {
-        push_head(atoms, &rule.head)?;
-    }
-    Ok(())
-}
-
-/// The atoms in heads of rules whose bodies hold.
-pub fn supported(alloc: Global, compiled: &Compiled, interp: &Interp) -> Result<Interp, AllocError>
-    ensures { IfOk result (λ atoms. (a : ℕ) → has atoms a ≡ is_supported compiled.now interp.now a) }
-{
-    let _program = compiled.program();
-    let mut atoms = Vec::new(alloc);
-    for i in 0..compiled.rule_count() {
-        push_supported(&mut atoms, interp, compiled.rule(i))?;
-    }
-    Ok(Interp::from_atoms(atoms))
-}
-
-/// The atoms of the one set that the other lacks.
-pub fn rest(alloc: Global, interp: &Interp, least: &Interp) -> Result<Vec<Atom>, AllocError>
-    ensures { IfOk result (λ rest. rest.items ≡ filter (λ a. not (has least.now a)) interp.now) }
-{
-    let mut rest = Vec::new(alloc);
-    for atom in interp.as_slice() {
-        if !least.has(*atom) {
-            rest.push(*atom)?;
-        }
-    }
-    Ok(rest)
 }
 
 // Adds that each of these variables is false.
@@ -164,13 +127,30 @@ fn atom_nogood(alloc: Global, compiled: &Compiled, atom: usize) -> Result<Nogood
     })
 }
 
-// Whether the atom, if it is in the set, is supported.
-fn is_reasoned(interp: &Interp, supported: &Interp, atom: Atom) -> bool
-    ensures { result ≡ (not (has interp.now atom) || has supported.now atom) }
+// Whether one of the variables is true.
+fn any_true(truths: &[bool], vars: &[Var]) -> bool
+    requires { All (λ v. v < length truths.now) vars.now }
+    ensures { result ≡ list_any (is_marked truths.now) vars.now }
 {
-    let stands = interp.has(atom);
-    let supported = supported.has(atom);
-    !stands || supported
+    for var in vars {
+        if truths[*var as usize] {
+            return true;
+        }
+    }
+    false
+}
+
+// Whether the atom at a place, if it is in the set, is in the head of a rule whose body holds.
+fn is_reasoned(compiled: &Compiled, interp: &Interp, truths: &[bool], place: usize) -> bool
+    requires place { place < length (atoms_of compiled.now) }
+    requires truths { truths.now ≡ values compiled.now interp.now }
+    ensures { result ≡ (not (has interp.now (nth_atom compiled.now place)) || is_supported compiled.now interp.now (nth_atom compiled.now place)) }
+{
+    let _atoms = interp.as_slice();
+    let count = compiled.atom_count();
+    prove!(place < count);
+    let stands = truths[place + 1];
+    !stands || any_true(truths, compiled.supports(place as u32 + 1))
 }
 
 /// The nogood of an atom in the set that no rule supports, if there is one.
@@ -178,15 +158,15 @@ pub fn unsupported_atom(
     alloc: Global,
     compiled: &Compiled,
     interp: &Interp,
-    supported: &Interp,
+    truths: &[bool],
 ) -> Result<Option<Nogood>, AllocError>
-    requires { (a : ℕ) → has supported.now a ≡ is_supported compiled.now interp.now a }
+    requires { truths.now ≡ values compiled.now interp.now }
     ensures { IfOk result (λ found. MatchOption found (IsTrue (list_all (λ a. not (has interp.now a) || is_supported compiled.now interp.now a) (atoms_of compiled.now))) (IsBroken compiled.now interp.now)) }
 {
     let _program = compiled.program();
-    for (i, atom) in compiled.atoms().as_slice().iter().enumerate() {
-        let holds = is_reasoned(interp, supported, *atom);
-        if !holds {
+    for i in 0..compiled.atom_count() {
+        let reasoned = is_reasoned(compiled, interp, truths, i);
+        if !reasoned {
             let nogood = atom_nogood(alloc, compiled, i)?;
             return Ok(Some(nogood));
         }

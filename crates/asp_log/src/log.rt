@@ -11,10 +11,10 @@ use crate::storing::store;
 use asp_model::program::Program;
 use asp_vars::compiled::Compiled;
 use asp_vars::nogood::Nogood;
+use asp_vars::origin::Origin;
 use asp_vault::Kept;
 use std::alloc::{AllocError, Global};
 use std::marker::Model;
-use std::snapshot::Snapshot;
 use std::sync::Arc;
 
 /// Why an append was refused.
@@ -30,7 +30,7 @@ pub enum AppendError {
 #[derive(Drop)]
 pub struct Log {
     alloc: Global,
-    program: Snapshot<Program>,
+    program: Origin<Program>,
     limit: u32,
     blocks: Vec<Arc<Block, Global>>,
     tail: Vec<Nogood>,
@@ -86,7 +86,7 @@ impl Log {
     {
         Log {
             alloc,
-            program: Snapshot::of(program),
+            program: Origin::of(program),
             limit,
             blocks: Vec::new(alloc),
             tail: Vec::new(alloc),

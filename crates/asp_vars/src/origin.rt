@@ -41,3 +41,7 @@ impl<T> Drop for Origin<T> {
         let Self { marker: _ } = self;
     }
 }
+
+unsafe impl<T> Send for Origin<T> {}
+
+unsafe impl<T> Sync for Origin<T> {}

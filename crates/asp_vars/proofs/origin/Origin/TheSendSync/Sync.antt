@@ -1,0 +1,8 @@
+-- An origin owns nothing, so any thread may share it.
+use denote.RattleType.{RattleType}
+use denote.Param.Send.{IsSync, part_keyless}
+use Rattle.asp_vars.specs.contracts.origin.Origin.{the_row}
+use Rattle.asp_vars.proofs.origin.Origin.TheSendSync.Send.{send}
+
+pub sync : (T : RattleType) → IsSync (the_row T)
+sync T = record { shared = λ d b o κ q. part_keyless (the_row T) (send T) q d b o }
