@@ -2,11 +2,11 @@
 ghost use Rattle.std.specs.Prelude.{◌≡◌, None, IfOk};
 ghost use Rattle.asp_vars.specs.Numbering.{var_count};
 
-use asp_follow::path::Path;
+use asp_propagate::engine::Engine;
 use asp_model::cost::Cost;
 use asp_model::program::{Body, Head, Minimize, Program, Rule};
 use asp_model::seq::Seq;
-use asp_parts::parts::Parts;
+use asp_propagators::propagators::Propagators;
 use asp_vars::compile::compile;
 use asp_vars::compiled::Compiled;
 use std::alloc::{AllocError, Global};
@@ -60,22 +60,22 @@ fn compiled(rt: &impl Abort, heap: Global) -> Result<Compiled, AllocError>
     Ok(compiled)
 }
 
-fn start<'a>(heap: Global, compiled: &'a Compiled) -> Result<Path<Parts<'a>>, AllocError>
+fn start<'a>(heap: Global, compiled: &'a Compiled) -> Result<Engine<Propagators<'a>>, AllocError>
     ensures program { IfOk result (λ p. p.program ≡ compiled.now) }
     ensures bound { IfOk result (λ p. p.bound ≡ None) }
 {
-    let parts = Parts::new(heap, compiled)?;
-    Path::new(heap, compiled.vars(), parts)
+    let parts = Propagators::new(heap, compiled)?;
+    Engine::new(heap, compiled.vars(), parts)
 }
 
 // With no bound: the loop can't be true, and nothing else follows.
-fn follow_freely(rt: &impl Abort, path: &mut Path<Parts<'_>>) -> Result<(), AllocError>
-    ensures program { path.new.program ≡ path.old.program }
-    ensures bound { path.new.bound ≡ path.old.bound }
+fn follow_freely(rt: &impl Abort, engine: &mut Engine<Propagators<'_>>) -> Result<(), AllocError>
+    ensures program { engine.new.program ≡ engine.old.program }
+    ensures bound { engine.new.bound ≡ engine.old.bound }
 {
-    let violated = path.propagate()?;
+    let violated = engine.propagate()?;
     assert!(rt; violated.is_none());
-    assert!(rt; path.trail().len() == 1);
+    assert!(rt; engine.trail().len() == 1);
     Ok(())
 }
 
@@ -83,33 +83,33 @@ fn follow_freely(rt: &impl Abort, path: &mut Path<Parts<'_>>) -> Result<(), Allo
 fn follow_below_one(
     rt: &impl Abort,
     heap: Global,
-    path: &mut Path<Parts<'_>>,
+    engine: &mut Engine<Propagators<'_>>,
 ) -> Result<(), AllocError>
-    requires vars { var_count path.old.program ≡ 9 }
-    requires bound { path.old.bound ≡ None }
+    requires vars { var_count engine.old.program ≡ 9 }
+    requires bound { engine.old.bound ≡ None }
 {
-    path.set_bound(Cost::from_vec(vec![in heap; 1]?));
-    let violated = path.propagate()?;
+    engine.set_bound(Cost::from_vec(vec![in heap; 1]?));
+    let violated = engine.propagate()?;
     assert!(rt; violated.is_none());
-    assert!(rt; path.trail().len() == 4);
-    assert!(rt; path.trail().value(7) == Some(false));
+    assert!(rt; engine.trail().len() == 4);
+    assert!(rt; engine.trail().value(7) == Some(false));
     Ok(())
 }
 
-fn follow(rt: &impl Abort, heap: Global, path: &mut Path<Parts<'_>>) -> Result<(), AllocError>
-    requires vars { var_count path.old.program ≡ 9 }
-    requires bound { path.old.bound ≡ None }
+fn follow(rt: &impl Abort, heap: Global, engine: &mut Engine<Propagators<'_>>) -> Result<(), AllocError>
+    requires vars { var_count engine.old.program ≡ 9 }
+    requires bound { engine.old.bound ≡ None }
 {
-    follow_freely(rt, path)?;
-    follow_below_one(rt, heap, path)
+    follow_freely(rt, engine)?;
+    follow_below_one(rt, heap, engine)
 }
 
 fn speak(rt: &impl Abort, heap: Global, compiled: &Compiled) -> Result<(), AllocError>
     requires { var_count compiled.now ≡ 9 }
 {
-    let mut path = start(heap, compiled)?;
-    let followed = follow(rt, heap, &mut path);
-    path.clear();
+    let mut engine = start(heap, compiled)?;
+    let followed = follow(rt, heap, &mut engine);
+    engine.clear();
     followed
 }
 

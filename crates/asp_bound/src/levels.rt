@@ -13,7 +13,7 @@ ghost use Rattle.asp_bound.specs.Kept.{AreSmall, AreVars};
 ghost use Rattle.asp_bound.specs.Gathered.{IsGathered, AreGathered, HasEach};
 
 use crate::place::{Addition, Item, Place};
-use crate::priorities::priorities;
+use asp_model::cost::priorities;
 use crate::rise::{beneath, rise};
 use crate::weights::weights_at;
 use asp_table::buckets::Buckets;

@@ -7,7 +7,6 @@ pub mod laws;
 mod levels;
 mod near;
 mod place;
-mod priorities;
 mod reach;
 mod reasons;
 mod rise;

@@ -15,7 +15,7 @@ use Rattle.asp_vars.specs.Resolution.{is_bound_within}
 use Rattle.asp_vars.specs.Entailment.{costs, costs_bound, is_done}
 use Rattle.asp_vars.specs.Paid.{least_of, IsAtLeast}
 use Rattle.asp_vars.proofs.ResolutionLaws.{betters_trans, betters_itself, costs_within, smaller_left, not_true}
-use Rattle.asp_follow.specs.Useful.{IsSmaller}
+use Rattle.asp_propagate.specs.Useful.{IsSmaller}
 use Rattle.asp_crew.specs.Running.{unfound}
 use Rattle.asp_crew.proofs.SortLaws.{same_itself}
 

@@ -21,7 +21,7 @@ use Rattle.asp_vars.specs.Entailment.{costs_bound, is_done, Settled}
 use Rattle.asp_vars.specs.Conflicts.{IsConflict}
 use Rattle.asp_vars.specs.Paid.{Clash, IsAtLeast}
 use Rattle.asp_vars.proofs.ResolutionLaws.{HitsOnly-weaker}
-use Rattle.asp_step.specs.Searching.{Searching}
+use Rattle.asp_search_laws.specs.Searching.{Searching}
 use Rattle.asp_crew.specs.declared.report.Report.{Report}
 use Rattle.asp_crew.specs.Running.{root_cube, IsAnswer, IsOnce, HasCost, IsFoundBy, IsUnderway, IsMetBy, IsOver, end_of}
 use Rattle.asp_crew.specs.Reports.{IsBest, IsFound, IsPart, IsPriced, IsUnpaid, best_cost, Says, IsReport}

@@ -17,11 +17,11 @@ use Rattle.asp_vars.specs.Conflicts.{IsConflict}
 use Rattle.asp_vars.specs.Entailment.{Settled, is_done}
 use Rattle.asp_vars.specs.Paid.{Clash, Units, IsAtLeast}
 use Rattle.asp_vars.specs.declared.nogood.Nogood.{Nogood}
-use Rattle.asp_follow.specs.Useful.{IsSmaller}
-use Rattle.asp_step.specs.Searching.{Searching}
-use Rattle.asp_step.specs.Steps.{HasSameTask, IsConflictOf, burnt, IsStep, Answers, Records as Recorded}
-use Rattle.asp_step.specs.declared.step.Step.{Step}
-use Rattle.asp_step.specs.declared.step.Step.TheVariants as step
+use Rattle.asp_propagate.specs.Useful.{IsSmaller}
+use Rattle.asp_search_laws.specs.Searching.{Searching}
+use Rattle.asp_search_laws.specs.Steps.{HasSameTask, IsConflictOf, burnt, IsStep, Answers, Records as Recorded}
+use Rattle.asp_search_laws.specs.declared.step.Step.{Step}
+use Rattle.asp_search_laws.specs.declared.step.Step.TheVariants as step
 use Rattle.asp_crew.specs.declared.alone.Course.TheVariants.{Open, Closed, Unpaid}
 use Rattle.asp_crew.specs.Running.{root_cube, IsAnswer, IsOnce, HasCost, IsFoundBy, IsUnderway, unfound, work, work_left, Records, IsMetBy, Goes}
 use Rattle.asp_crew.proofs.SortLaws.{once-push}

@@ -5,7 +5,7 @@ use Rattle.std.proofs.lemmas.Bool.{cases_lt}
 use Rattle.std.proofs.lemmas.List.Elements.{All-nil, All-cons, All-append}
 use Rattle.asp_order.specs.Luby.{terms, term}
 use Rattle.asp_order.proofs.LubyLaws.{length-terms}
-use Rattle.asp_step.specs.Steps.{IsDue}
+use Rattle.asp_search_laws.specs.Steps.{IsDue}
 use Rattle.asp_crew.specs.Running.{work}
 
 -- The number whose first digit is smaller is smaller.

@@ -15,7 +15,7 @@ use Rattle.asp_vars.specs.Conflicts.{IsConflict}
 use Rattle.asp_vars.specs.Entailment.{is_done, Settled}
 use Rattle.asp_vars.specs.Literals.{Literal}
 use Rattle.asp_vars.specs.Paid.{Clash, Units, IsAtLeast}
-use Rattle.asp_step.specs.Searching.{Searching}
+use Rattle.asp_search_laws.specs.Searching.{Searching}
 use Rattle.asp_crew.specs.declared.alone.Course.{Course}
 use Rattle.asp_crew.specs.declared.alone.Course.TheVariants.{Open, Closed, Unpaid}
 

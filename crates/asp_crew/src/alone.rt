@@ -12,19 +12,20 @@ ghost use Rattle.asp_model.specs.Models.{atoms_of};
 ghost use Rattle.asp_model.specs.Sound.{IsSound};
 ghost use Rattle.asp_vars.specs.Numbering.{literal_of, var_count};
 ghost use Rattle.asp_trail.specs.Trails.{IsVar};
-ghost use Rattle.asp_step.specs.Searching.{Searching};
+ghost use Rattle.asp_search_laws.specs.Searching.{Searching};
 ghost use Rattle.asp_crew.specs.Reports.{IsReport};
 ghost use Rattle.asp_crew.specs.Running.{root_cube, IsUnderway, Goes, Ends, IsOver, end_of};
 
 use crate::found::{Found, keep_answer};
 use crate::report::Report;
-use asp_follow::propagator::Propagator;
+use asp_propagate::propagator::Propagator;
 use asp_model::program::Program;
 use asp_model::results::{End, Mode, Results};
 use asp_model::seq::Seq;
-use asp_parts::parts::Parts;
+use asp_propagators::propagators::Propagators;
 use asp_search::search::Search;
-use asp_step::step::Step;
+use asp_search_laws::step::Step;
+use asp_vars::assumed::add_all;
 use asp_vars::compiled::Compiled;
 use asp_vars::fuel::{Conflict, Fuel};
 use asp_vars::lit::Lit;
@@ -120,26 +121,6 @@ fn reported(mode: Mode, unpaid: Option<Conflict>, fuel: Fuel, found: Found) -> R
     }
 }
 
-// An assumption as a literal of its variable.
-fn literal(compiled: &Compiled, literal: i32) -> Lit
-    requires { has (atoms_of compiled.now) (atom_of literal) ≡ true }
-    ensures { result ≡ literal_of compiled.now literal }
-{
-    let var = compiled.atom_var(literal.unsigned_abs());
-    Lit::new(var, literal >= 0)
-}
-
-// Adds the literals behind the others.
-fn add_all(lits: &mut Vec<Lit>, compiled: &Compiled, literals: &[i32]) -> Result<(), AllocError>
-    requires { AllByRecursion (λ l. has (atoms_of compiled.now) (atom_of l) ≡ true) literals.now }
-    ensures { OnOk result (lits.new.items ≡ lits.old.items ++ map (literal_of compiled.now) literals.now) }
-{
-    for l in literals {
-        lits.push(literal(compiled, *l))?;
-    }
-    Ok(())
-}
-
 // The assumptions as literals of variables.
 fn root_cube(alloc: Global, compiled: &Compiled) -> Result<Vec<Lit>, AllocError>
     ensures cube { IfOk result (λ cube. cube.items ≡ root_cube compiled.now) }
@@ -192,6 +173,6 @@ pub fn solve_alone(
 ) -> Result<Report, AllocError>
     ensures { IfOk result (IsReport compiled.now mode budget) }
 {
-    let propagator = Parts::new(alloc, compiled)?;
+    let propagator = Propagators::new(alloc, compiled)?;
     solve_with(alloc, compiled, mode, budget, propagator)
 }

@@ -1,9 +1,9 @@
 //! Each call once, with answers worked out by hand.
 ghost use Rattle.std.specs.Prelude.{◌≡◌, ◌^◌, ◌<◌, ◌≤◌};
-ghost use Rattle.asp_choice.specs.Waiting.{HasVars, AreWaiting};
+ghost use Rattle.asp_order.specs.Waiting.{HasVars, AreWaiting};
 
-use asp_choice::order::Order;
-use asp_choice::pace::Pace;
+use asp_order::order::Order;
+use asp_order::pace::Pace;
 use asp_trail::trail::Trail;
 use asp_vars::lit::{Lit, Var};
 use std::test::Fail;

@@ -1,3 +1,5 @@
 pub mod Heaps
 pub mod Luby
 pub mod Sifting
+pub mod Pacing
+pub mod Waiting

@@ -12,16 +12,16 @@ use Rattle.asp_vars.specs.Paid.{Units}
 use Rattle.asp_vars.specs.declared.nogood.Base.{Base}
 use Rattle.asp_vars.specs.declared.nogood.Nogood.{Nogood}
 use Rattle.asp_trail.specs.declared.trail.Entry.{Entry}
-use Rattle.asp_choice.specs.Pacing.{Paced}
-use Rattle.asp_follow.specs.Following.{Adds, Implies}
-use Rattle.asp_follow.specs.Useful.{Counts, IsUseful}
-use Rattle.asp_step.specs.Axioms.{IsDerived}
-use Rattle.asp_step.specs.Faults.{IsFault}
-use Rattle.asp_step.specs.Steps.{Fails}
-use Rattle.asp_step.proofs.DerivedLaws.{derived_adds, derived_push}
-use Rattle.asp_step.proofs.SlotLaws.{grows_adds}
-use Rattle.asp_step.proofs.StepLaws.{Continues, fails_after}
-use Rattle.asp_track.specs.Tracking.{Tracked}
+use Rattle.asp_order.specs.Pacing.{Paced}
+use Rattle.asp_propagate.specs.Propagating.{Adds, Implies}
+use Rattle.asp_propagate.specs.Useful.{Counts, IsUseful}
+use Rattle.asp_search_laws.specs.Axioms.{IsDerived}
+use Rattle.asp_search_laws.specs.Faults.{IsFault}
+use Rattle.asp_search_laws.specs.Steps.{Fails}
+use Rattle.asp_search_laws.proofs.DerivedLaws.{derived_adds, derived_push}
+use Rattle.asp_search_laws.proofs.SlotLaws.{grows_adds}
+use Rattle.asp_search_laws.proofs.StepLaws.{Continues, fails_after}
+use Rattle.asp_state.specs.SearchStates.{SearchView}
 use Rattle.asp_search.specs.Invariants.{view_of}
 use Rattle.asp_search.proofs.JumpedLaws.{for_now}
 use Rattle.asp_search.proofs.StepsLaws.{continues_from, fails_same}
@@ -36,7 +36,7 @@ fault_useful p known bound gives vars es n f = record {
 fault_counts : (p : Program) (bound : Option (List ℤ)) (gives : Nogood → Type 0) (vars : ℕ) (es : List Entry) (n : Nogood) → IsFault p gives vars es n → Counts bound n.base
 fault_counts p bound gives vars es n f = subst (Counts bound) (sym f.pure) tt
 
-module _ (gives : Nogood → Type 0) (md : Mode) (t u : Tracked) (c : Paced) (known : List Atoms) (last : Option ℕ) where
+module _ (gives : Nogood → Type 0) (md : Mode) (t u : SearchView) (c : Paced) (known : List Atoms) (last : Option ℕ) where
   -- it is kept
   pub fault_continues : (n : Nogood) → IsFault t.program gives (var_count t.program) t.entries n → u ≡ record t { slots = t.slots ++ Some (for_now n) ∷ [] } →
       Continues gives (view_of md t c known last) (view_of md u c known last)

@@ -20,14 +20,14 @@ use Rattle.asp_vars.specs.declared.nogood.Nogood.{Nogood}
 use Rattle.asp_vars.proofs.CompletionLaws.{completion_entailed}
 use Rattle.asp_store.specs.declared.kept.Kept.{Kept}
 use Rattle.asp_store.specs.Keeping.{nogood_at}
-use Rattle.asp_choice.specs.Pacing.{Paced}
-use Rattle.asp_choice.specs.Waiting.{fresh}
-use Rattle.asp_follow.specs.Useful.{Counts, IsUseful}
-use Rattle.asp_step.specs.Axioms.{AreDerived}
-use Rattle.asp_step.specs.Keeping.{AreUseful}
-use Rattle.asp_step.specs.Searching.{Searching}
-use Rattle.asp_step.specs.Steps.{Fails, is_of_use}
-use Rattle.asp_track.specs.Tracking.{Tracked, forever}
+use Rattle.asp_order.specs.Pacing.{Paced}
+use Rattle.asp_order.specs.Waiting.{fresh}
+use Rattle.asp_propagate.specs.Useful.{Counts, IsUseful}
+use Rattle.asp_search_laws.specs.Axioms.{AreDerived}
+use Rattle.asp_search_laws.specs.Keeping.{AreUseful}
+use Rattle.asp_search_laws.specs.Searching.{Searching}
+use Rattle.asp_search_laws.specs.Steps.{Fails, is_of_use}
+use Rattle.asp_state.specs.SearchStates.{SearchView, forever}
 use Rattle.asp_search.specs.Beside.{Leaves, new_search}
 use Rattle.asp_search.specs.Invariants.{IsSearch, view_of}
 
@@ -42,11 +42,11 @@ useful_forever p known bound (m ∷ ns) a zero n q =
     subst (IsUseful p known bound) same (record { good = a.0; counts = tt })
 useful_forever p known bound (m ∷ ns) a (suc id) n q = useful_forever p known bound ns a.1 id n q
 
-pub search_begins : (p : Program) (m : Mode) (t : Tracked) (vars : ℕ) → IsSound p → vars ≡ var_count p →
+pub search_begins : (p : Program) (m : Mode) (t : SearchView) (vars : ℕ) → IsSound p → vars ≡ var_count p →
     t ≡ record { program = p; bound = None; cube = None; clashing = false; decisions = []; entries = []; slots = map forever (completion p); ranking = fresh (var_count p) } →
     IsSearch p m t vars [] [] None None
 search_begins p m t vars sound count e =
-    subst (λ (x : Tracked). IsSearch p m x vars [] [] None None) (sym e)
+    subst (λ (x : SearchView). IsSearch p m x vars [] [] None None) (sym e)
     (record {
       program = refl;
       bounded = refl;
@@ -61,11 +61,11 @@ search_begins p m t vars sound count e =
     no_index : (i : ℕ) → i < 0 → ⊥
     no_index i h = omega arith
 
-pub search_is_new : (p : Program) (m : Mode) (t : Tracked) (c : Paced) →
+pub search_is_new : (p : Program) (m : Mode) (t : SearchView) (c : Paced) →
     t ≡ record { program = p; bound = None; cube = None; clashing = false; decisions = []; entries = []; slots = map forever (completion p); ranking = fresh (var_count p) } →
     c ≡ record { restarts = 0; learnt = 0; reductions = 0 } → view_of m t c [] None ≡ new_search p m
 search_is_new p m t c e f =
-    ap (λ (x : Tracked). view_of m x c [] None) e
+    ap (λ (x : SearchView). view_of m x c [] None) e
     ∙ ap (λ (x : Paced). view_of m (record { program = p; bound = None; cube = None; clashing = false; decisions = []; entries = []; slots = map forever (completion p); ranking = fresh (var_count p) }) x [] None) f
 
 -- ---- nogoods of others
@@ -90,8 +90,8 @@ fails_left gives s m t q f g l h = record {
 }
 
 -- the same, of what callers see
-pub left_from : (md : Mode) (t u : Tracked) (c : Paced) (known : List Atoms) (last : Option ℕ) (s : Searching) → view_of md t c known last ≡ s →
+pub left_from : (md : Mode) (t u : SearchView) (c : Paced) (known : List Atoms) (last : Option ℕ) (s : Searching) → view_of md t c known last ≡ s →
     u ≡ record t { cube = None; clashing = false; decisions = []; entries = []; ranking = u.ranking } → Leaves s (view_of md u c known None)
 left_from md t u c known last s v e =
     subst (λ (x : Searching). Leaves x (view_of md u c known None)) v
-    (subst (λ (x : Tracked). Leaves (view_of md t c known last) (view_of md x c known None)) (sym e) refl)
+    (subst (λ (x : SearchView). Leaves (view_of md t c known last) (view_of md x c known None)) (sym e) refl)

@@ -18,14 +18,14 @@ use Rattle.asp_trail.proofs.HoldLaws.{value_at}
 use Rattle.asp_store.specs.declared.kept.Kept.{Kept}
 use Rattle.asp_store.specs.Keeping.{nogood_at}
 use Rattle.asp_order.specs.Heaps.{Ranking}
-use Rattle.asp_settle.specs.Starts.{AreStarts}
-use Rattle.asp_settle.proofs.LitLaws.{all_has, has_more, has_append, has_place, has_at}
-use Rattle.asp_settle.proofs.PlaceLaws.{blank, reason_at}
-use Rattle.asp_follow.specs.Following.{IsUnnamed}
-use Rattle.asp_step.specs.Keeping.{IsBar, AreBars}
-use Rattle.asp_step.specs.Steps.{way_of}
-use Rattle.asp_step.proofs.SlotLaws.{nogood_kept, kept_nogood, kept_within, push_each, push_newest, grows_forever, barred_stay, bars_stay, bar_within, bars_push, bars_pop, removed_none, removed_other, removed_barred, removed_bars}
-use Rattle.asp_track.specs.Tracking.{Tracked}
+use Rattle.asp_trail_laws.specs.Starts.{AreStarts}
+use Rattle.asp_trail_laws.proofs.LitLaws.{all_has, has_more, has_append, has_place, has_at}
+use Rattle.asp_trail_laws.proofs.PlaceLaws.{blank, reason_at}
+use Rattle.asp_propagate.specs.Propagating.{IsUnnamed}
+use Rattle.asp_search_laws.specs.Keeping.{IsBar, AreBars}
+use Rattle.asp_search_laws.specs.Steps.{way_of}
+use Rattle.asp_search_laws.proofs.SlotLaws.{nogood_kept, kept_nogood, kept_within, push_each, push_newest, grows_forever, barred_stay, bars_stay, bar_within, bars_push, bars_pop, removed_none, removed_other, removed_barred, removed_bars}
+use Rattle.asp_state.specs.SearchStates.{SearchView}
 use Rattle.asp_search.specs.Blocking.{IsSpare, kept_way, Drops, Blocks}
 
 -- ---- reasons
@@ -129,7 +129,7 @@ drop_none way slots bars b = record {
 }
 
 -- after all
-pub drop_done : (way : Nogood) (old new : Tracked) (slots : List (Option Kept)) (bars : List ℕ) → way.base ≡ base.Local → slots ≡ old.slots ++ kept_way way ∷ [] →
+pub drop_done : (way : Nogood) (old new : SearchView) (slots : List (Option Kept)) (bars : List ℕ) → way.base ≡ base.Local → slots ≡ old.slots ++ kept_way way ∷ [] →
     new ≡ record old {
       entries = cut (length old.decisions - 1) old.entries;
       decisions = take (length old.decisions - 1) old.decisions;
@@ -179,12 +179,12 @@ module _ (slots : List (Option Kept)) (bars rest : List ℕ) (id : ℕ) (lits : 
   newest_gone = let parts = bars_pop slots rest id split in removed_bars slots rest id parts.1 parts.0
 
 -- the last of the list, where it was dropped
-pub last_dropped : (t u : Tracked) (bars new : List ℕ) (n id : ℕ) (lits : List Literal) → n + 1 ≡ length bars → id ≡ get_or bars n id → AreBars t.slots bars → IsSpare t.slots t.entries lits id →
+pub last_dropped : (t u : SearchView) (bars new : List ℕ) (n id : ℕ) (lits : List Literal) → n + 1 ≡ length bars → id ≡ get_or bars n id → AreBars t.slots bars → IsSpare t.slots t.entries lits id →
     u ≡ record t { slots = set t.slots id None } → new ≡ take n bars →
     AreBars u.slots new × ((way : Nogood) (j : ℕ) (first : List (Option Kept)) → way.lits ≡ lits → Drops way j first t.slots bars → Drops way j first u.slots new)
 last_dropped t u bars new n id lits size at stand spare gone short =
     let is : bars ≡ take n bars ++ id ∷ [] = init_last bars n id size ∙ ap (λ (i : ℕ). take n bars ++ i ∷ []) (sym at) in
-    let slots : set t.slots id None ≡ u.slots = sym (ap (λ (x : Tracked). x.slots) gone) in (
+    let slots : set t.slots id None ≡ u.slots = sym (ap (λ (x : SearchView). x.slots) gone) in (
       subst (AreBars u.slots) (sym short) (subst (λ (xs : List (Option Kept)). AreBars xs (take n bars)) slots (newest_gone t.slots bars (take n bars) id lits t.entries is stand spare)),
       λ way j first same d.
           subst (Drops way j first u.slots) (sym short)
@@ -192,8 +192,8 @@ last_dropped t u bars new n id lits size at stand spare gone short =
     )
 
 -- the slots alone changed, and then once more
-pub slots_twice : (t a b : Tracked) → a ≡ record t { slots = a.slots } → b ≡ record a { slots = b.slots } → b ≡ record t { slots = b.slots }
-slots_twice t a b first second = second ∙ ap (λ (x : Tracked). let y : Tracked = record x { slots = b.slots } in y) first
+pub slots_twice : (t a b : SearchView) → a ≡ record t { slots = a.slots } → b ≡ record a { slots = b.slots } → b ≡ record t { slots = b.slots }
+slots_twice t a b first second = second ∙ ap (λ (x : SearchView). let y : SearchView = record x { slots = b.slots } in y) first
 
 -- a bar is a nogood
 pub bar_has : (slots : List (Option Kept)) (id : ℕ) → IsBar slots id → IsSome (nogood_at slots id)
@@ -218,33 +218,33 @@ spare_from vars slots es lits id n o r k begins none = record {
   unnamed = unnamed vars (nogood_at slots) es id n o r k none;
 }
 
--- ---- the track, where the way was kept, a level taken back, and bars were dropped
-pub block_same : (t a b u : Tracked) (k : ℕ) (way : Nogood) → k ≡ length t.decisions - 1 → a ≡ record t { slots = t.slots ++ kept_way way ∷ [] } →
+-- ---- the state, where the way was kept, a level taken back, and bars were dropped
+pub block_same : (t a b u : SearchView) (k : ℕ) (way : Nogood) → k ≡ length t.decisions - 1 → a ≡ record t { slots = t.slots ++ kept_way way ∷ [] } →
     b ≡ record a { decisions = take k a.decisions; entries = cut k a.entries; ranking = b.ranking } → u ≡ record b { slots = u.slots } →
     u ≡ record t { entries = cut (length t.decisions - 1) t.entries; decisions = take (length t.decisions - 1) t.decisions; slots = u.slots; ranking = u.ranking }
 block_same t a b u k way count keep undo drop =
-    let order : b.ranking ≡ u.ranking = sym (ap (λ (x : Tracked). x.ranking) drop) in
-    let first : Tracked → Tracked = λ x. record x { decisions = take k x.decisions; entries = cut k x.entries; ranking = b.ranking } in
-    let second : Tracked → Tracked = λ x. record x { slots = u.slots } in
-    let third : ℕ → Tracked = λ i. record t { entries = cut i t.entries; decisions = take i t.decisions; slots = u.slots; ranking = b.ranking } in
-    let fourth : Ranking → Tracked = λ r. record t { entries = cut (length t.decisions - 1) t.entries; decisions = take (length t.decisions - 1) t.decisions; slots = u.slots; ranking = r } in
+    let order : b.ranking ≡ u.ranking = sym (ap (λ (x : SearchView). x.ranking) drop) in
+    let first : SearchView → SearchView = λ x. record x { decisions = take k x.decisions; entries = cut k x.entries; ranking = b.ranking } in
+    let second : SearchView → SearchView = λ x. record x { slots = u.slots } in
+    let third : ℕ → SearchView = λ i. record t { entries = cut i t.entries; decisions = take i t.decisions; slots = u.slots; ranking = b.ranking } in
+    let fourth : Ranking → SearchView = λ r. record t { entries = cut (length t.decisions - 1) t.entries; decisions = take (length t.decisions - 1) t.decisions; slots = u.slots; ranking = r } in
     drop ∙ (ap second (undo ∙ ap first keep) ∙ (ap third count ∙ ap fourth order))
 
 -- the bars stand there
-pub block_bars : (t a b : Tracked) (k : ℕ) (way : Nogood) (bars : List ℕ) → AreBars t.slots bars → a ≡ record t { slots = t.slots ++ kept_way way ∷ [] } →
+pub block_bars : (t a b : SearchView) (k : ℕ) (way : Nogood) (bars : List ℕ) → AreBars t.slots bars → a ≡ record t { slots = t.slots ++ kept_way way ∷ [] } →
     b ≡ record a { decisions = take k a.decisions; entries = cut k a.entries; ranking = b.ranking } → AreBars b.slots bars
 block_bars t a b k way bars stand keep undo =
-    subst (λ (xs : List (Option Kept)). AreBars xs bars) (sym (ap (λ (x : Tracked). x.slots) undo ∙ ap (λ (x : Tracked). x.slots) keep)) (drop_none way t.slots bars stand).bars_stand
+    subst (λ (xs : List (Option Kept)). AreBars xs bars) (sym (ap (λ (x : SearchView). x.slots) undo ∙ ap (λ (x : SearchView). x.slots) keep)) (drop_none way t.slots bars stand).bars_stand
 
 -- all of it, where the new nogood is listed
-pub block_done : (t a b u : Tracked) (k id : ℕ) (q : List Literal) (way : Nogood) (lits : List Literal) (old bars new : List ℕ) → way ≡ way_of q t.decisions → lits ≡ way.lits → AreBars t.slots old →
+pub block_done : (t a b u : SearchView) (k id : ℕ) (q : List Literal) (way : Nogood) (lits : List Literal) (old bars new : List ℕ) → way ≡ way_of q t.decisions → lits ≡ way.lits → AreBars t.slots old →
     k ≡ length t.decisions - 1 → a ≡ record t { slots = t.slots ++ kept_way way ∷ [] } → b ≡ record a { decisions = take k a.decisions; entries = cut k a.entries; ranking = b.ranking } →
     u ≡ record b { slots = u.slots } → ((w : Nogood) (j : ℕ) (first : List (Option Kept)) → w.lits ≡ lits → Drops w j first b.slots old → Drops w j first u.slots bars) →
     id ≡ length t.slots → new ≡ bars ++ id ∷ [] → Blocks (way_of q t.decisions) t u new
 block_done t a b u k id q way lits old bars new is same stand count keep undo drop step number pushed =
     let first : List (Option Kept) = t.slots ++ kept_way way ∷ [] in
     let begun : Drops way (length t.slots) first b.slots old =
-    subst (λ (xs : List (Option Kept)). Drops way (length t.slots) first xs old) (sym (ap (λ (x : Tracked). x.slots) undo ∙ ap (λ (x : Tracked). x.slots) keep)) (drop_none way t.slots old stand) in
+    subst (λ (xs : List (Option Kept)). Drops way (length t.slots) first xs old) (sym (ap (λ (x : SearchView). x.slots) undo ∙ ap (λ (x : SearchView). x.slots) keep)) (drop_none way t.slots old stand) in
     let done : Blocks way t u (bars ++ length t.slots ∷ []) =
     drop_done way t u first bars (ap (λ (n : Nogood). n.base) is) refl (block_same t a b u k way count keep undo drop) (step way (length t.slots) first (sym same) begun) in
     subst (λ (n : Nogood). Blocks n t u new) is (subst (Blocks way t u) (sym (pushed ∙ ap (λ (i : ℕ). bars ++ i ∷ []) number)) done)

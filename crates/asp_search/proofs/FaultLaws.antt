@@ -15,9 +15,9 @@ use Rattle.asp_found.proofs.RestLaws.{has-filtered}
 use Rattle.asp_loop.specs.LoopNogoods.{IsLoopNogood}
 use Rattle.asp_trail.specs.declared.trail.Entry.{Entry}
 use Rattle.asp_trail.specs.Entries.{assignment}
-use Rattle.asp_settle.specs.Whole.{IsWhole, truths, atoms_on}
-use Rattle.asp_step.specs.Faults.{IsFault}
-use Rattle.asp_step.proofs.FaultLaws.{whole_unfounded, broken_fault, loop_fault}
+use Rattle.asp_trail_laws.specs.Whole.{IsWhole, truths, atoms_on}
+use Rattle.asp_search_laws.specs.Faults.{IsFault}
+use Rattle.asp_search_laws.proofs.FaultLaws.{whole_unfounded, broken_fault, loop_fault}
 
 -- an unfounded set has an atom
 pub unfounded_some : (p : Program) (x : List (Option Bool)) (U : Atoms) → is_unfounded p x U ≡ true → 0 < length U

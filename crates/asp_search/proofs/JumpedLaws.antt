@@ -1,4 +1,4 @@
--- What a jump does to the track, and that the learnt nogood implies its literal there.
+-- What a jump does to the state, and that the learnt nogood implies its literal there.
 use Rattle.std.proofs.Common.{◌≡◌, ℕ, false, List, ◌∷◌, ◌++◌, length, take, Some, None, sym, ap, ◌∙◌, subst, []}
 use Rattle.asp_vars.specs.Literals.{Literal, value_of}
 use Rattle.asp_vars.specs.Numbering.{var_count}
@@ -9,28 +9,28 @@ use Rattle.asp_store.specs.declared.kept.Kept.{Kept}
 use Rattle.asp_store.specs.Keeping.{nogood_at}
 use Rattle.asp_order.specs.Heaps.{Ranking}
 use Rattle.asp_analyze.specs.Learning.{AreContained, IsJump}
-use Rattle.asp_follow.specs.Following.{IsImplied}
-use Rattle.asp_step.proofs.JumpLaws.{jump_var, jump_none, jump_reason}
-use Rattle.asp_step.proofs.SlotLaws.{nogood_kept, push_newest}
-use Rattle.asp_track.specs.Tracking.{Tracked, values_of, path_of, IsUnder}
+use Rattle.asp_propagate.specs.Propagating.{IsImplied}
+use Rattle.asp_search_laws.proofs.JumpLaws.{jump_var, jump_none, jump_reason}
+use Rattle.asp_search_laws.proofs.SlotLaws.{nogood_kept, push_newest}
+use Rattle.asp_state.specs.SearchStates.{SearchView, values_of, path_of, IsUnder}
 
 -- a learnt nogood as it is kept
 abbrev pub for_now : Nogood → Kept
 for_now n = record { nogood = n; forever = false; locked = false }
 
--- the track where it was taken back
-abbrev pub back : Tracked → ℕ → Nogood → Ranking → Tracked
+-- the state where it was taken back
+abbrev pub back : SearchView → ℕ → Nogood → Ranking → SearchView
 back t to n ranking = record t { entries = cut to t.entries; decisions = take to t.decisions; slots = t.slots ++ Some (for_now n) ∷ []; ranking = ranking }
 
 -- ---- the steps of a jump
-pub jump_back : (t a b u : Tracked) (to : ℕ) (n : Nogood) (ranking : Ranking) → a ≡ record t { ranking = ranking } → b ≡ record a { slots = a.slots ++ Some (for_now n) ∷ [] } →
+pub jump_back : (t a b u : SearchView) (to : ℕ) (n : Nogood) (ranking : Ranking) → a ≡ record t { ranking = ranking } → b ≡ record a { slots = a.slots ++ Some (for_now n) ∷ [] } →
     u ≡ record b { decisions = take to b.decisions; entries = cut to b.entries; ranking = u.ranking } → u ≡ back t to n u.ranking
 jump_back t a b u to n ranking bump keep undo =
     undo
-    ∙ ap (λ (x : Tracked). let y : Tracked = record x { decisions = take to x.decisions; entries = cut to x.entries; ranking = u.ranking } in y)
-    (keep ∙ ap (λ (x : Tracked). let y : Tracked = record x { slots = x.slots ++ Some (for_now n) ∷ [] } in y) bump)
+    ∙ ap (λ (x : SearchView). let y : SearchView = record x { decisions = take to x.decisions; entries = cut to x.entries; ranking = u.ranking } in y)
+    (keep ∙ ap (λ (x : SearchView). let y : SearchView = record x { slots = x.slots ++ Some (for_now n) ∷ [] } in y) bump)
 
-pub jump_done : (t u w : Tracked) (to id : ℕ) (n : Nogood) (lit : Literal) → u ≡ back t to n u.ranking →
+pub jump_done : (t u w : SearchView) (to id : ℕ) (n : Nogood) (lit : Literal) → u ≡ back t to n u.ranking →
     w ≡ record u { entries = u.entries ++ record { lit = lit; level = level u.entries; reason = Some id } ∷ [] } →
     w ≡ record t {
       entries = cut to t.entries ++ record { lit = lit; level = level (cut to t.entries); reason = Some id } ∷ [];
@@ -39,32 +39,32 @@ pub jump_done : (t u w : Tracked) (to id : ℕ) (n : Nogood) (lit : Literal) →
       ranking = w.ranking;
     }
 jump_done t u w to id n lit e imply =
-    let order : u.ranking ≡ w.ranking = sym (ap (λ (x : Tracked). x.ranking) imply) in
-    let last : Ranking → Tracked = λ r. record t {
+    let order : u.ranking ≡ w.ranking = sym (ap (λ (x : SearchView). x.ranking) imply) in
+    let last : Ranking → SearchView = λ r. record t {
       entries = cut to t.entries ++ record { lit = lit; level = level (cut to t.entries); reason = Some id } ∷ [];
       decisions = take to t.decisions;
       slots = t.slots ++ Some (for_now n) ∷ [];
       ranking = r;
     } in
     imply
-    ∙ (ap (λ (x : Tracked). let y : Tracked = record x { entries = x.entries ++ record { lit = lit; level = level x.entries; reason = Some id } ∷ [] } in y) e
+    ∙ (ap (λ (x : SearchView). let y : SearchView = record x { entries = x.entries ++ record { lit = lit; level = level x.entries; reason = Some id } ∷ [] } in y) e
     ∙ ap last order)
 
 -- ---- what is asked for implying the literal
-module _ (t u : Tracked) (from : List Literal) (to : ℕ) (n : Nogood) (lit : Literal) (e : u ≡ back t to n u.ranking) (o : IsOrdered (var_count t.program) t.entries)
+module _ (t u : SearchView) (from : List Literal) (to : ℕ) (n : Nogood) (lit : Literal) (e : u ≡ back t to n u.ranking) (o : IsOrdered (var_count t.program) t.entries)
     (c : AreContained (var_count t.program) t.entries n.lits) (j : IsJump t.entries from n.lits to lit) where
   pub back_under : (q : List Literal) → IsUnder t q → IsUnder u q
-  back_under q x = subst (λ (y : Tracked). IsUnder y q) (sym e) (record { cube_is = x.cube_is; calm = x.calm })
+  back_under q x = subst (λ (y : SearchView). IsUnder y q) (sym e) (record { cube_is = x.cube_is; calm = x.calm })
 
   pub back_var : IsVar (var_count u.program) lit.var
-  back_var = subst (λ (y : Tracked). IsVar (var_count y.program) lit.var) (sym e) (jump_var (var_count t.program) t.entries from n.lits to lit o c j)
+  back_var = subst (λ (y : SearchView). IsVar (var_count y.program) lit.var) (sym e) (jump_var (var_count t.program) t.entries from n.lits to lit o c j)
 
   pub back_none : value_of (values_of u) lit.var ≡ None
-  back_none = subst (λ (y : Tracked). value_of (values_of y) lit.var ≡ None) (sym e) (jump_none (var_count t.program) t.entries from n.lits to lit o c j)
+  back_none = subst (λ (y : SearchView). value_of (values_of y) lit.var ≡ None) (sym e) (jump_none (var_count t.program) t.entries from n.lits to lit o c j)
 
   pub back_implied : (id : ℕ) → id ≡ length t.slots → IsImplied (path_of u) lit id
   back_implied id q =
-      subst (λ (y : Tracked). IsImplied (path_of y) lit id) (sym e) (
+      subst (λ (y : SearchView). IsImplied (path_of y) lit id) (sym e) (
         n,
         ap (nogood_at (t.slots ++ Some (for_now n) ∷ [])) q ∙ nogood_kept (t.slots ++ Some (for_now n) ∷ []) (length t.slots) (for_now n) (push_newest t.slots (for_now n)),
         jump_reason (var_count t.program) t.entries from n.lits to lit o c j (record { lit = lit; level = level (cut to t.entries); reason = Some id }),

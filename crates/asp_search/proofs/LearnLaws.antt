@@ -19,9 +19,9 @@ use Rattle.asp_store.specs.Walking.{IsViolated}
 use Rattle.asp_analyze.specs.Learning.{Used, IsReached, AreContained, AreAssumed, IsLearned, nogood_of}
 use Rattle.asp_analyze.specs.Way.{AreUpTo}
 use Rattle.asp_analyze.specs.declared.learn.Learned.{Learned}
-use Rattle.asp_settle.proofs.LitLaws.{has_at}
-use Rattle.asp_settle.proofs.PlaceLaws.{blank}
-use Rattle.asp_step.specs.Explaining.{Explains}
+use Rattle.asp_trail_laws.proofs.LitLaws.{has_at}
+use Rattle.asp_trail_laws.proofs.PlaceLaws.{blank}
+use Rattle.asp_search_laws.specs.Explaining.{Explains}
 
 pub has_some : {X : Type 0} → (o : Option X) (x : X) → o ≡ Some x → IsSome o
 has_some None x q = absurd (none x q)
@@ -54,7 +54,7 @@ explained (Ok l) vars slots es id from q v reached contained assumed learned =
     record { from = from; stands = sym q; violated = v; used = reached.0; reached = reached.1; contained = contained; assumed = assumed; learned = learned }
 explained (Err e) vars slots es id from q v reached contained assumed learned = tt
 
--- the same, where the trail and the store are the track's
+-- the same, where the trail and the store are the state's
 pub explained_at : {E : Type 0} (r : Result Learned E) (vars wars : ℕ) (slots tlots : List (Option Kept)) (es fs : List Entry) (id : ℕ) (from : Nogood) → wars ≡ vars → tlots ≡ slots → fs ≡ es →
     Some from ≡ nogood_at tlots id → IsViolated vars slots es id → IfOk r (λ l. (used : List Used) × IsReached (nogood_at tlots) fs from used (nogood_of l)) →
     IfOk r (λ l. AreContained wars fs (nogood_of l).lits) → IfOk r (λ l. AreAssumed fs (nogood_of l).lits) → IfOk r (IsLearned fs from.lits) → IfOk r (Explains vars slots es id)

@@ -17,29 +17,29 @@ use Rattle.asp_store.specs.Keeping.{nogood_at}
 use Rattle.asp_analyze.specs.Learning.{AreContained, IsJump, nogood_of}
 use Rattle.asp_analyze.specs.declared.learn.Learned.{Learned}
 use Rattle.asp_analyze.specs.declared.learn.Learned.TheVariants as learned
-use Rattle.asp_settle.specs.Settling.{KeepsSettled}
-use Rattle.asp_settle.proofs.LitLaws.{all_has}
-use Rattle.asp_settle.proofs.PlaceLaws.{level_in_top}
-use Rattle.asp_settle.proofs.ViolatedLaws.{way_settled, cube_settled, within_cube}
-use Rattle.asp_settle.proofs.ConflictLaws.{conflict}
-use Rattle.asp_choice.specs.Pacing.{Paced}
-use Rattle.asp_follow.specs.Useful.{IsUseful}
-use Rattle.asp_follow.proofs.UsefulLaws.{useful_settles}
+use Rattle.asp_trail_laws.specs.Settling.{KeepsSettled}
+use Rattle.asp_trail_laws.proofs.LitLaws.{all_has}
+use Rattle.asp_trail_laws.proofs.PlaceLaws.{level_in_top}
+use Rattle.asp_trail_laws.proofs.ViolatedLaws.{way_settled, cube_settled, within_cube}
+use Rattle.asp_trail_laws.proofs.ConflictLaws.{conflict}
+use Rattle.asp_order.specs.Pacing.{Paced}
+use Rattle.asp_propagate.specs.Useful.{IsUseful}
+use Rattle.asp_propagate.proofs.UsefulLaws.{useful_settles}
 use Rattle.asp_store.specs.Fitting.{HaveReasons}
 use Rattle.asp_trail.specs.Trails.{IsOrdered}
-use Rattle.asp_step.specs.Axioms.{IsDerived}
-use Rattle.asp_step.specs.Explaining.{Explains}
-use Rattle.asp_step.specs.Keeping.{AreUseful}
-use Rattle.asp_step.proofs.UsefulLaws.{learnt_useful}
-use Rattle.asp_step.proofs.DerivedLaws.{learnt_derived}
-use Rattle.asp_step.proofs.JumpLaws.{jump_var}
-use Rattle.asp_track.specs.Tracking.{Tracked, values_of, IsUnder, IsBegun}
+use Rattle.asp_search_laws.specs.Axioms.{IsDerived}
+use Rattle.asp_search_laws.specs.Explaining.{Explains}
+use Rattle.asp_search_laws.specs.Keeping.{AreUseful}
+use Rattle.asp_search_laws.proofs.UsefulLaws.{learnt_useful}
+use Rattle.asp_search_laws.proofs.DerivedLaws.{learnt_derived}
+use Rattle.asp_search_laws.proofs.JumpLaws.{jump_var}
+use Rattle.asp_state.specs.SearchStates.{SearchView, values_of, IsUnder, IsBegun}
 use Rattle.asp_search.specs.Invariants.{view_of}
 use Rattle.asp_search.specs.Meeting.{IsMet, ShowsConflict, IsClashOf}
 use Rattle.asp_search.specs.Stepping.{IsEntered}
 use Rattle.asp_search.proofs.LearnLaws.{contained}
 
-module _ (md : Mode) (t : Tracked) (c : Paced) (known : List Atoms) (last : Option ℕ) (q : List Literal) (id : ℕ) where
+module _ (md : Mode) (t : SearchView) (c : Paced) (known : List Atoms) (last : Option ℕ) (q : List Literal) (id : ℕ) where
   all_settled : (l : Learned) → IsMet (view_of md t c known last) q id l → KeepsSettled t.program known t.bound (nogood_at t.slots)
   all_settled l m j n k = useful_settles t.program known t.bound n (m.useful j n k)
 
@@ -108,13 +108,13 @@ module _ (md : Mode) (t : Tracked) (c : Paced) (known : List Atoms) (last : Opti
       (contained (var_count t.program) t.entries m.explains.from.lits m.explains.violated)
 
 -- ---- of what the code has in its hands
-pub shows_for : (p : Program) (ks known : List Atoms) (bound : Option (List ℤ)) (t : Tracked) (id : ℕ) (lit : Literal) → p ≡ t.program → ks ≡ known → bound ≡ t.bound →
+pub shows_for : (p : Program) (ks known : List Atoms) (bound : Option (List ℤ)) (t : SearchView) (id : ℕ) (lit : Literal) → p ≡ t.program → ks ≡ known → bound ≡ t.bound →
     ShowsConflict t.program known t.bound t id lit → ShowsConflict p ks bound t id lit
 shows_for p ks known bound t id lit program same bounded m =
     subst (λ (x : Program). ShowsConflict x ks bound t id lit) (sym program)
     (subst (λ (x : List Atoms). ShowsConflict t.program x bound t id lit) (sym same) (subst (λ (x : Option (List ℤ)). ShowsConflict t.program known x t id lit) (sym bounded) m))
 
-pub clash_for : (p : Program) (ks known : List Atoms) (bound : Option (List ℤ)) (t : Tracked) (id : ℕ) (lit : Literal) (x : Clash) → p ≡ t.program → ks ≡ known → bound ≡ t.bound →
+pub clash_for : (p : Program) (ks known : List Atoms) (bound : Option (List ℤ)) (t : SearchView) (id : ℕ) (lit : Literal) (x : Clash) → p ≡ t.program → ks ≡ known → bound ≡ t.bound →
     IsClashOf p ks bound t id lit x → IsClashOf t.program known t.bound t id lit x
 clash_for p ks known bound t id lit x program same bounded c =
     subst (λ (y : Program). IsClashOf y known t.bound t id lit x) program

@@ -29,28 +29,28 @@ use Rattle.asp_store.specs.Keeping.{nogood_at}
 use Rattle.asp_order.specs.Heaps.{Ranking}
 use Rattle.asp_analyze.specs.Learning.{AreContained, IsJump}
 use Rattle.asp_analyze.specs.declared.learn.Learned.TheVariants as learned
-use Rattle.asp_choice.specs.Pacing.{Paced}
-use Rattle.asp_choice.specs.Waiting.{IsNext}
-use Rattle.asp_follow.specs.Following.{IsQuiet}
-use Rattle.asp_settle.proofs.HitLaws.{clash_settled}
-use Rattle.asp_settle.proofs.LitLaws.{only_one}
-use Rattle.asp_settle.proofs.PlaceLaws.{level_last}
-use Rattle.asp_step.specs.Axioms.{IsAxiom, AreDerived, IsDerived}
-use Rattle.asp_step.specs.Keeping.{Grows}
-use Rattle.asp_step.specs.Searching.{Searching}
-use Rattle.asp_step.specs.Steps.{HasSameTask, IsBeside, IsConflictOf, burnt, FollowsByLast, Learns, Stops, Closes, Decides, Restarts, IsDue, Answers, way_of, Fails, IsFailure}
-use Rattle.asp_step.proofs.DerivedLaws.{derived_same, derived_push, derived_none}
-use Rattle.asp_step.proofs.JumpLaws.{before_newest, jump_beside}
-use Rattle.asp_step.proofs.SlotLaws.{nogood_kept, push_newest, reduced_none, grows_none}
-use Rattle.asp_step.proofs.StepLaws.{Continues}
-use Rattle.asp_track.specs.Tracking.{Tracked, values_of, Clashes}
+use Rattle.asp_order.specs.Pacing.{Paced}
+use Rattle.asp_order.specs.Waiting.{IsNext}
+use Rattle.asp_propagate.specs.Propagating.{IsQuiet}
+use Rattle.asp_trail_laws.proofs.HitLaws.{clash_settled}
+use Rattle.asp_trail_laws.proofs.LitLaws.{only_one}
+use Rattle.asp_trail_laws.proofs.PlaceLaws.{level_last}
+use Rattle.asp_search_laws.specs.Axioms.{IsAxiom, AreDerived, IsDerived}
+use Rattle.asp_search_laws.specs.Keeping.{Grows}
+use Rattle.asp_search_laws.specs.Searching.{Searching}
+use Rattle.asp_search_laws.specs.Steps.{HasSameTask, IsBeside, IsConflictOf, burnt, FollowsByLast, Learns, Stops, Closes, Decides, Restarts, IsDue, Answers, way_of, Fails, IsFailure}
+use Rattle.asp_search_laws.proofs.DerivedLaws.{derived_same, derived_push, derived_none}
+use Rattle.asp_search_laws.proofs.JumpLaws.{before_newest, jump_beside}
+use Rattle.asp_search_laws.proofs.SlotLaws.{nogood_kept, push_newest, reduced_none, grows_none}
+use Rattle.asp_search_laws.proofs.StepLaws.{Continues}
+use Rattle.asp_state.specs.SearchStates.{SearchView, values_of, Clashes}
 use Rattle.asp_search.specs.Blocking.{Blocks}
 use Rattle.asp_search.specs.Invariants.{view_of}
 use Rattle.asp_search.specs.Meeting.{IsMet, ShowsConflict, IsClashOf}
 use Rattle.asp_search.specs.Stepping.{IsFound, MayReduce}
 use Rattle.asp_search.proofs.MeetLaws.{met_within, met_settled, met_derived, met_jump}
 
-module _ (gives : Nogood → Type 0) (md : Mode) (t : Tracked) (c : Paced) (known : List Atoms) (last : Option ℕ) where
+module _ (gives : Nogood → Type 0) (md : Mode) (t : SearchView) (c : Paced) (known : List Atoms) (last : Option ℕ) where
   -- ---- nothing changed
   pub fails_same : (q : List Literal) (f : Units) → Fails gives (view_of md t c known last) (view_of md t c known last) q f f
   fails_same q f = record {
@@ -134,10 +134,10 @@ module _ (gives : Nogood → Type 0) (md : Mode) (t : Tracked) (c : Paced) (know
   }
 
   -- a unit is burnt, and then memory is wanting
-  pub fails_paid : (q : List Literal) (f g : Units) (x : Clash) (u : Tracked) (d : Paced) (ranking : Ranking) → IsConflictOf (view_of md t c known last) q x → 0 < f.left → g ≡ burnt f x →
+  pub fails_paid : (q : List Literal) (f g : Units) (x : Clash) (u : SearchView) (d : Paced) (ranking : Ranking) → IsConflictOf (view_of md t c known last) q x → 0 < f.left → g ≡ burnt f x →
       u ≡ record t { ranking = ranking } → Fails gives (view_of md t c known last) (view_of md u d known last) q f g
   fails_paid q f g x u d ranking conflict left paid e =
-      subst (λ (y : Tracked). Fails gives (view_of md t c known last) (view_of md y d known last) q f g) (sym e)
+      subst (λ (y : SearchView). Fails gives (view_of md t c known last) (view_of md y d known last) q f g) (sym e)
       (record {
         program = refl;
         mode = refl;
@@ -148,7 +148,7 @@ module _ (gives : Nogood → Type 0) (md : Mode) (t : Tracked) (c : Paced) (know
       })
 
   -- ---- learnt
-  pub met_learns : (q : List Literal) (f g : Units) (x : Clash) (u : Tracked) (d : Paced) (ranking : Ranking) (id new to : ℕ) (n : Nogood) (lit : Literal) →
+  pub met_learns : (q : List Literal) (f g : Units) (x : Clash) (u : SearchView) (d : Paced) (ranking : Ranking) (id new to : ℕ) (n : Nogood) (lit : Literal) →
       IsMet (view_of md t c known last) q id (learned.Jump n to lit) → IsConflictOf (view_of md t c known last) q x → 0 < f.left → g ≡ burnt f x → new ≡ length t.slots →
       u ≡ record t {
         entries = cut to t.entries ++ record { lit = lit; level = level (cut to t.entries); reason = Some new } ∷ [];
@@ -161,7 +161,7 @@ module _ (gives : Nogood → Type 0) (md : Mode) (t : Tracked) (c : Paced) (know
       let vars = var_count t.program in
       let entry : Entry = record { lit = lit; level = level (cut to t.entries); reason = Some new } in
       let k : Kept = record { nogood = n; forever = false; locked = false } in
-      let after : Tracked = record t { entries = cut to t.entries ++ entry ∷ []; decisions = take to t.decisions; slots = t.slots ++ Some k ∷ []; ranking = ranking } in
+      let after : SearchView = record t { entries = cut to t.entries ++ entry ∷ []; decisions = take to t.decisions; slots = t.slots ++ Some k ∷ []; ranking = ranking } in
       let later : Paced = record c { learnt = min (c.learnt + 1) (2 ^ 64 - 1) } in
       let j : IsJump t.entries m.explains.from.lits n.lits to lit = met_jump md t c known last q id n to lit m in
       let start : take (length (cut to t.entries ++ entry ∷ []) - 1) (cut to t.entries ++ entry ∷ []) ≡ cut to t.entries = before_newest (cut to t.entries) (cut to t.entries ++ entry ∷ []) entry refl in
@@ -186,11 +186,11 @@ module _ (gives : Nogood → Type 0) (md : Mode) (t : Tracked) (c : Paced) (know
         learnt = refl;
         restarts = refl;
       } in
-      subst (λ (y : Tracked). Learns gives s (view_of md y d known (Some new)) q f g) (sym e)
+      subst (λ (y : SearchView). Learns gives s (view_of md y d known (Some new)) q f g) (sym e)
       (subst (λ (y : Paced). Learns gives s (view_of md after y known (Some new)) q f g) (sym pace) learns)
 
   -- ---- decided
-  pub decides_from : (silent : List (Option Bool) → Type 0) (f : Units) (u : Tracked) (l : Literal) (v : ℕ) (members : List Bool) → last ≡ None → IsQuiet silent t.slots (values_of t) →
+  pub decides_from : (silent : List (Option Bool) → Type 0) (f : Units) (u : SearchView) (l : Literal) (v : ℕ) (members : List Bool) → last ≡ None → IsQuiet silent t.slots (values_of t) →
       l ≡ F v → IsNext (var_count t.program) (values_of t) t.ranking.activities v →
       u ≡ record t {
         entries = t.entries ++ record { lit = l; level = length t.decisions + 1; reason = None } ∷ [];
@@ -199,7 +199,7 @@ module _ (gives : Nogood → Type 0) (md : Mode) (t : Tracked) (c : Paced) (know
       } → Decides gives silent (view_of md t c known last) (view_of md u c known last) f f
   decides_from silent f u l v members none quiet false_ next e =
       let s : Searching = view_of md t c known last in
-      let after : Literal → Tracked = λ x. record t {
+      let after : Literal → SearchView = λ x. record t {
         entries = t.entries ++ record { lit = x; level = length t.decisions + 1; reason = None } ∷ [];
         decisions = t.decisions ++ x ∷ [];
         ranking = record t.ranking { members = members };
@@ -221,31 +221,31 @@ module _ (gives : Nogood → Type 0) (md : Mode) (t : Tracked) (c : Paced) (know
         restarts = refl;
         last = none;
       } in
-      subst (λ (y : Tracked). Decides gives silent s (view_of md y c known last) f f) (sym e)
+      subst (λ (y : SearchView). Decides gives silent s (view_of md y c known last) f f) (sym e)
       (subst (λ (x : Literal). Decides gives silent s (view_of md (after x) c known last) f f) (sym false_) decides)
 
   -- ---- propagation
-  pub continues_from : (es : List Entry) (slots : List (Option Kept)) (new : Option ℕ) (u : Tracked) → u ≡ record t { entries = es; slots = slots } → Grows t.slots slots →
+  pub continues_from : (es : List Entry) (slots : List (Option Kept)) (new : Option ℕ) (u : SearchView) → u ≡ record t { entries = es; slots = slots } → Grows t.slots slots →
       AreDerived t.program gives t.bound (nogood_at t.slots) (nogood_at slots) → length t.entries ≤ length es →
       Continues gives (view_of md t c known last) (view_of md u c known new)
   continues_from es slots new u e grows derived longer =
-      subst (λ (y : Tracked). Continues gives (view_of md t c known last) (view_of md y c known new)) (sym e)
+      subst (λ (y : SearchView). Continues gives (view_of md t c known last) (view_of md y c known new)) (sym e)
       (record { same = refl; grows = grows; derived = derived; longer = longer })
 
   -- ---- no variable to decide
-  pub continues_ranked : (u : Tracked) (ranking : Ranking) → u ≡ record t { ranking = ranking } → Continues gives (view_of md t c known last) (view_of md u c known last)
+  pub continues_ranked : (u : SearchView) (ranking : Ranking) → u ≡ record t { ranking = ranking } → Continues gives (view_of md t c known last) (view_of md u c known last)
   continues_ranked u ranking e =
-      subst (λ (y : Tracked). Continues gives (view_of md t c known last) (view_of md y c known last)) (sym e)
+      subst (λ (y : SearchView). Continues gives (view_of md t c known last) (view_of md y c known last)) (sym e)
       (record { same = refl; grows = grows_none t.slots; derived = derived_same t.program gives t.bound t.slots; longer = omega arith })
 
-pub decided_none : (t u : Tracked) (ranking : Ranking) → u ≡ record t { decisions = u.decisions; entries = u.entries; ranking = ranking } → u.entries ≡ t.entries → u.decisions ≡ t.decisions →
+pub decided_none : (t u : SearchView) (ranking : Ranking) → u ≡ record t { decisions = u.decisions; entries = u.entries; ranking = ranking } → u.entries ≡ t.entries → u.decisions ≡ t.decisions →
     u ≡ record t { ranking = ranking }
 decided_none t u ranking e entries decisions =
     e
-    ∙ (ap (λ (xs : List Entry). let y : Tracked = record t { decisions = u.decisions; entries = xs; ranking = ranking } in y) entries
-    ∙ ap (λ (ds : List Literal). let y : Tracked = record t { decisions = ds; ranking = ranking } in y) decisions)
+    ∙ (ap (λ (xs : List Entry). let y : SearchView = record t { decisions = u.decisions; entries = xs; ranking = ranking } in y) entries
+    ∙ ap (λ (ds : List Literal). let y : SearchView = record t { decisions = ds; ranking = ranking } in y) decisions)
 
-pub decided_some : (t u : Tracked) (l : Literal) (members : List Bool) → u ≡ record t { decisions = u.decisions; entries = u.entries; ranking = record t.ranking { members = members } } →
+pub decided_some : (t u : SearchView) (l : Literal) (members : List Bool) → u ≡ record t { decisions = u.decisions; entries = u.entries; ranking = record t.ranking { members = members } } →
     u.entries ≡ t.entries ++ record { lit = l; level = length t.decisions + 1; reason = None } ∷ [] → u.decisions ≡ t.decisions ++ l ∷ [] →
     u ≡ record t {
       entries = t.entries ++ record { lit = l; level = length t.decisions + 1; reason = None } ∷ [];
@@ -256,10 +256,10 @@ decided_some t u l members e entries decisions =
     let order : Ranking = record t.ranking { members = members } in
     let more : List Entry = t.entries ++ record { lit = l; level = length t.decisions + 1; reason = None } ∷ [] in
     e
-    ∙ (ap (λ (xs : List Entry). let y : Tracked = record t { decisions = u.decisions; entries = xs; ranking = order } in y) entries
-    ∙ ap (λ (ds : List Literal). let y : Tracked = record t { decisions = ds; entries = more; ranking = order } in y) decisions)
+    ∙ (ap (λ (xs : List Entry). let y : SearchView = record t { decisions = u.decisions; entries = xs; ranking = order } in y) entries
+    ∙ ap (λ (ds : List Literal). let y : SearchView = record t { decisions = ds; entries = more; ranking = order } in y) decisions)
 
-pub decides_now : (gives : Nogood → Type 0) (silent : List (Option Bool) → Type 0) (md : Mode) (t u : Tracked) (c : Paced) (known : List Atoms) (last : Option ℕ) (f : Units) (r : Option Literal) (l : Literal) →
+pub decides_now : (gives : Nogood → Type 0) (silent : List (Option Bool) → Type 0) (md : Mode) (t u : SearchView) (c : Paced) (known : List Atoms) (last : Option ℕ) (f : Units) (r : Option Literal) (l : Literal) →
     r ≡ Some l → last ≡ None → IsQuiet silent t.slots (values_of t) →
     u ≡ record t { decisions = u.decisions; entries = u.entries; ranking = record t.ranking { members = u.ranking.members } } →
     IfSome r (λ k. (k ≡ F k.var) × IsNext (var_count t.program) (values_of t) t.ranking.activities k.var) →
@@ -318,20 +318,20 @@ restarts_from gives s t f slots ranking none due reduced e =
 way_hits : (v : List Bool) (q decisions : List Literal) → hits v (q ++ decisions) ≡ true → hits v q ≡ true
 way_hits v q decisions h = (and_parts (hits v q) (hits v decisions) (sym (hits-append v q decisions) ∙ h)).0
 
-module _ (gives : Nogood → Type 0) (t u : Tracked) (c : Paced) (known : List Atoms) (last : Option ℕ) (q : List Literal) (S : Atoms) (f : Units) (none : last ≡ None) where
+module _ (gives : Nogood → Type 0) (t u : SearchView) (c : Paced) (known : List Atoms) (last : Option ℕ) (q : List Literal) (S : Atoms) (f : Units) (none : last ≡ None) where
   pub lists : (bars : List ℕ) → IsFound (view_of mode.Enum t c known last) q S → Blocks (way_of q t.decisions) t u bars →
       Answers gives (view_of mode.Enum t c known last) (view_of mode.Enum u c (known ++ S ∷ []) last) q f f S
   lists bars found b = record {
-    program = ap (λ (y : Tracked). y.program) b.same;
+    program = ap (λ (y : SearchView). y.program) b.same;
     mode = refl;
-    cube = ap (λ (y : Tracked). y.cube) b.same;
+    cube = ap (λ (y : SearchView). y.cube) b.same;
     fuel = refl;
     stable = found.stable;
     hit = way_hits (values t.program S) q t.decisions found.hit;
     new = found.new;
     cheaper = found.cheaper;
     settled = found.settled;
-    records = (refl, ap (λ (y : Tracked). y.bound) b.same, (b.id, nogood_kept u.slots b.id (record { nogood = way_of q t.decisions; forever = true; locked = false }) b.stands));
+    records = (refl, ap (λ (y : SearchView). y.bound) b.same, (b.id, nogood_kept u.slots b.id (record { nogood = way_of q t.decisions; forever = true; locked = false }) b.stands));
     derived = λ id n k. cases id n (b.nogoods id n k);
     learnt = refl;
     restarts = refl;
@@ -346,7 +346,7 @@ module _ (gives : Nogood → Type 0) (t u : Tracked) (c : Paced) (known : List A
       u ≡ record t { bound = Some (cost t.program S); entries = cut 0 t.entries; decisions = []; ranking = ranking } →
       Answers gives (view_of mode.Opt t c known last) (view_of mode.Opt u c known last) q f f S
   improves ranking found e =
-      subst (λ (y : Tracked). Answers gives (view_of mode.Opt t c known last) (view_of mode.Opt y c known last) q f f S) (sym e)
+      subst (λ (y : SearchView). Answers gives (view_of mode.Opt t c known last) (view_of mode.Opt y c known last) q f f S) (sym e)
       (record {
         program = refl;
         mode = refl;
@@ -368,7 +368,7 @@ module _ (gives : Nogood → Type 0) (t u : Tracked) (c : Paced) (known : List A
 pub same_cube : (o : Option (List Literal)) (r q : List Literal) → o ≡ Some r → o ≡ Some q → r ≡ q
 same_cube o r q e f = ap (λ (x : Option (List Literal)). unwrap_or x r) (sym e ∙ f)
 
-pub listed : (gives : Nogood → Type 0) (m : Mode) (t u : Tracked) (c : Paced) (known ks : List Atoms) (last : Option ℕ) (q : List Literal) (S : Atoms) (f : Units) (bars : List ℕ) →
+pub listed : (gives : Nogood → Type 0) (m : Mode) (t u : SearchView) (c : Paced) (known ks : List Atoms) (last : Option ℕ) (q : List Literal) (S : Atoms) (f : Units) (bars : List ℕ) →
     m ≡ mode.Enum → last ≡ None → IsFound (view_of m t c known last) q S → ks ≡ known ++ S ∷ [] → Blocks (way_of q t.decisions) t u bars →
     Answers gives (view_of m t c known last) (view_of m u c ks last) q f f S
 listed gives m t u c known ks last q S f bars enum none found more b =
@@ -376,17 +376,17 @@ listed gives m t u c known ks last q S f bars enum none found more b =
     (subst (λ (x : Mode). Answers gives (view_of x t c known last) (view_of x u c (known ++ S ∷ []) last) q f f S) (sym enum)
     (lists gives t u c known last q S f none bars (subst (λ (x : Mode). IsFound (view_of x t c known last) q S) enum found) b))
 
--- the track where a smaller bound was set and all decisions were taken back
-pub improved_track : (p : Program) (t a u : Tracked) (d : List ℤ) (S : Atoms) → p ≡ t.program → d ≡ cost p S → a ≡ record t { bound = Some d } →
+-- the state where a smaller bound was set and all decisions were taken back
+pub improved_track : (p : Program) (t a u : SearchView) (d : List ℤ) (S : Atoms) → p ≡ t.program → d ≡ cost p S → a ≡ record t { bound = Some d } →
     u ≡ record a { decisions = take 0 a.decisions; entries = cut 0 a.entries; ranking = u.ranking } →
     u ≡ record t { bound = Some (cost t.program S); entries = cut 0 t.entries; decisions = []; ranking = u.ranking }
 improved_track p t a u d S program is set undo =
     undo
-    ∙ (ap (λ (x : Tracked). let y : Tracked = record x { decisions = take 0 x.decisions; entries = cut 0 x.entries; ranking = u.ranking } in y) set
-    ∙ ap (λ (x : List ℤ). let y : Tracked = record t { bound = Some x; entries = cut 0 t.entries; decisions = []; ranking = u.ranking } in y)
+    ∙ (ap (λ (x : SearchView). let y : SearchView = record x { decisions = take 0 x.decisions; entries = cut 0 x.entries; ranking = u.ranking } in y) set
+    ∙ ap (λ (x : List ℤ). let y : SearchView = record t { bound = Some x; entries = cut 0 t.entries; decisions = []; ranking = u.ranking } in y)
     (is ∙ ap (λ (x : Program). cost x S) program))
 
-pub improved : (gives : Nogood → Type 0) (m : Mode) (t u : Tracked) (c : Paced) (known : List Atoms) (last : Option ℕ) (q : List Literal) (S : Atoms) (f : Units) →
+pub improved : (gives : Nogood → Type 0) (m : Mode) (t u : SearchView) (c : Paced) (known : List Atoms) (last : Option ℕ) (q : List Literal) (S : Atoms) (f : Units) →
     m ≡ mode.Opt → last ≡ None → IsFound (view_of m t c known last) q S →
     u ≡ record t { bound = Some (cost t.program S); entries = cut 0 t.entries; decisions = []; ranking = u.ranking } → Answers gives (view_of m t c known last) (view_of m u c known last) q f f S
 improved gives m t u c known last q S f opt none found e =

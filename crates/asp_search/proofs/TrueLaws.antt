@@ -12,8 +12,8 @@ use Rattle.asp_model.proofs.SetLaws.{IsAscending-set_of}
 use Rattle.asp_vars.specs.Literals.{T, is_true, value_of}
 use Rattle.asp_vars.specs.Numbering.{var_of_atom}
 use Rattle.asp_vars.proofs.PlaceLaws.{var_of_nth_atom}
-use Rattle.asp_settle.specs.Whole.{truths, truth_of}
-use Rattle.asp_settle.proofs.WholeLaws.{truth_at}
+use Rattle.asp_trail_laws.specs.Whole.{truths, truth_of}
+use Rattle.asp_trail_laws.proofs.WholeLaws.{truth_at}
 
 -- whether a variable is true
 pub held_is : (a : List (Option Bool)) (v : ℕ) → unwrap_or (value_of a v) false ≡ is_true (truths a) (T v)

@@ -17,27 +17,27 @@ use Rattle.asp_store.specs.Fitting.{HaveReasons}
 use Rattle.asp_store.specs.Keeping.{nogood_at}
 use Rattle.asp_store.specs.Visiting.{AreSmall}
 use Rattle.asp_store.specs.declared.kept.Kept.{Kept}
-use Rattle.asp_choice.specs.Pacing.{Paced}
-use Rattle.asp_choice.specs.Waiting.{AreAssigned}
-use Rattle.asp_settle.specs.Calm.{AreCalm}
-use Rattle.asp_settle.specs.Settling.{KeepsSettled}
-use Rattle.asp_settle.specs.Starts.{AreStarts}
-use Rattle.asp_settle.specs.Whole.{AreBlocked, IsWhole, truths, atoms_on}
-use Rattle.asp_settle.proofs.WholeLaws.{trail_valuation, set_value, whole_way}
-use Rattle.asp_settle.proofs.AnswerLaws.{answer_new, answer_settles}
-use Rattle.asp_follow.specs.Following.{IsQuiet}
-use Rattle.asp_follow.specs.Whole.{KeepsAll}
-use Rattle.asp_follow.specs.Whole as follow
-use Rattle.asp_follow.proofs.UsefulLaws.{useful_settles}
-use Rattle.asp_step.specs.Keeping.{AreUseful, AreBarred}
-use Rattle.asp_step.specs.Searching.{Searching}
-use Rattle.asp_step.proofs.SlotLaws.{nogood_kept}
-use Rattle.asp_track.specs.Tracking.{Tracked, values_of, IsForever, KeepsCompletion}
+use Rattle.asp_order.specs.Pacing.{Paced}
+use Rattle.asp_order.specs.Waiting.{AreAssigned}
+use Rattle.asp_trail_laws.specs.Calm.{AreCalm}
+use Rattle.asp_trail_laws.specs.Settling.{KeepsSettled}
+use Rattle.asp_trail_laws.specs.Starts.{AreStarts}
+use Rattle.asp_trail_laws.specs.Whole.{AreBlocked, IsWhole, truths, atoms_on}
+use Rattle.asp_trail_laws.proofs.WholeLaws.{trail_valuation, set_value, whole_way}
+use Rattle.asp_trail_laws.proofs.AnswerLaws.{answer_new, answer_settles}
+use Rattle.asp_propagate.specs.Propagating.{IsQuiet}
+use Rattle.asp_propagate.specs.Whole.{KeepsAll}
+use Rattle.asp_propagate.specs.Whole as follow
+use Rattle.asp_propagate.proofs.UsefulLaws.{useful_settles}
+use Rattle.asp_search_laws.specs.Keeping.{AreUseful, AreBarred}
+use Rattle.asp_search_laws.specs.Searching.{Searching}
+use Rattle.asp_search_laws.proofs.SlotLaws.{nogood_kept}
+use Rattle.asp_state.specs.SearchStates.{SearchView, values_of, IsForever, KeepsCompletion}
 use Rattle.asp_search.specs.Invariants.{view_of}
 use Rattle.asp_search.specs.Stepping.{IsFound}
 
 -- What is known where all variables have values.
-pub record IsFull (silent : List (Option Bool) → Type 0) (known : List Atoms) (t : Tracked) (q : List Literal) : Type 0 where
+pub record IsFull (silent : List (Option Bool) → Type 0) (known : List Atoms) (t : SearchView) (q : List Literal) : Type 0 where
   pub ordered : IsOrdered (var_count t.program) t.entries
   pub starts : AreStarts q t.decisions t.entries
   pub reasons : HaveReasons t.slots t.entries
@@ -53,7 +53,7 @@ pub all_blocked : (p : Program) (slots : List (Option Kept)) (known : List Atoms
 all_blocked p slots [] b = tt
 all_blocked p slots (S ∷ known) b = ((b.0.id, b.0.kept.nogood, nogood_kept slots b.0.id b.0.kept b.0.stands, b.0.hit), all_blocked p slots known b.1)
 
-module _ (silent : List (Option Bool) → Type 0) (known : List Atoms) (t : Tracked) (q : List Literal) (f : IsFull silent known t q)
+module _ (silent : List (Option Bool) → Type 0) (known : List Atoms) (t : SearchView) (q : List Literal) (f : IsFull silent known t q)
     (whole : (v : List Bool) → follow.IsWhole t.program (values_of t) v → silent (values_of t) → KeepsAll t.program t.bound v) where
   -- the completion is calm, since all of it is kept
   calm_completion : AreCalm (var_count t.program) (completion t.program) t.entries
@@ -88,10 +88,10 @@ module _ (silent : List (Option Bool) → Type 0) (known : List Atoms) (t : Trac
   }
 
 -- ---- of the program that the code has in its hands
-pub whole_for : (p : Program) (t : Tracked) → p ≡ t.program → IsWhole t.program (var_count t.program) t.entries → IsWhole p (var_count p) t.entries
+pub whole_for : (p : Program) (t : SearchView) → p ≡ t.program → IsWhole t.program (var_count t.program) t.entries → IsWhole p (var_count p) t.entries
 whole_for p t e w = subst (λ (x : Program). IsWhole x (var_count x) t.entries) (sym e) w
 
-pub atoms_for : (p : Program) (vars : ℕ) (t : Tracked) (es : List Entry) (S : Atoms) → p ≡ t.program → vars ≡ var_count t.program → es ≡ t.entries → S ≡ atoms_on p vars es →
+pub atoms_for : (p : Program) (vars : ℕ) (t : SearchView) (es : List Entry) (S : Atoms) → p ≡ t.program → vars ≡ var_count t.program → es ≡ t.entries → S ≡ atoms_on p vars es →
     S ≡ atoms_on p (var_count p) t.entries
 atoms_for p vars t es S e v f q =
     q ∙ (ap (λ (n : ℕ). atoms_on p n es) (v ∙ ap var_count (sym e)) ∙ ap (λ (xs : List Entry). atoms_on p (var_count p) xs) f)
@@ -100,6 +100,6 @@ atoms_for p vars t es S e v f q =
 pub found_for : (s : Searching) (q : List Literal) (S T : Atoms) → S ≡ T → IsFound s q T → IsFound s q S
 found_for s q S T e f = subst (IsFound s q) (sym e) f
 
-pub stable_for : (p : Program) (t : Tracked) (S : Atoms) → p ≡ t.program → S ≡ atoms_on p (var_count p) t.entries → is_stable p S ≡ true →
+pub stable_for : (p : Program) (t : SearchView) (S : Atoms) → p ≡ t.program → S ≡ atoms_on p (var_count p) t.entries → is_stable p S ≡ true →
     is_stable t.program (atoms_on t.program (var_count t.program) t.entries) ≡ true
 stable_for p t S e q h = subst (λ (x : Program). is_stable x (atoms_on x (var_count x) t.entries) ≡ true) e (subst (λ (T : Atoms). is_stable p T ≡ true) q h)

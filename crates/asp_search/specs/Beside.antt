@@ -10,9 +10,9 @@ use Rattle.asp_vars.specs.declared.nogood.Base.TheVariants as base
 use Rattle.asp_vars.specs.declared.nogood.Nogood.{Nogood}
 use Rattle.asp_trail.specs.Entries.{level}
 use Rattle.asp_store.specs.Keeping.{nogood_at}
-use Rattle.asp_choice.specs.Waiting.{fresh}
-use Rattle.asp_step.specs.Searching.{Searching}
-use Rattle.asp_track.specs.Tracking.{forever}
+use Rattle.asp_order.specs.Waiting.{fresh}
+use Rattle.asp_search_laws.specs.Searching.{Searching}
+use Rattle.asp_state.specs.SearchStates.{forever}
 
 -- a search that knows no answer, has no bound and has entered no path
 abbrev pub new_search : Program → Mode → Searching

@@ -10,9 +10,9 @@ use Rattle.asp_trail.specs.declared.trail.Entry.{Entry}
 use Rattle.asp_trail.specs.Entries.{cut}
 use Rattle.asp_store.specs.declared.kept.Kept.{Kept}
 use Rattle.asp_store.specs.Keeping.{kept_at, nogood_at}
-use Rattle.asp_follow.specs.Following.{IsUnnamed}
-use Rattle.asp_step.specs.Keeping.{IsBarred, AreBars}
-use Rattle.asp_track.specs.Tracking.{Tracked}
+use Rattle.asp_propagate.specs.Propagating.{IsUnnamed}
+use Rattle.asp_search_laws.specs.Keeping.{IsBarred, AreBars}
+use Rattle.asp_state.specs.SearchStates.{SearchView}
 
 -- The nogood has all of these literals, and no entry names it.
 pub record IsSpare (slots : List (Option Kept)) (entries : List Entry) (lits : List Literal) (id : ℕ) : Type 0 where
@@ -33,7 +33,7 @@ pub record Drops (way : Nogood) (id : ℕ) (old new : List (Option Kept)) (bars 
   pub below : All (λ i. i < id) bars
 
 -- The nogood of the way is kept, and the search is back one level. Others that barred answers may have gone, which stay barred.
-pub record Blocks (way : Nogood) (old new : Tracked) (bars : List ℕ) : Type 0 where
+pub record Blocks (way : Nogood) (old new : SearchView) (bars : List ℕ) : Type 0 where
   pub same : new ≡ record old {
     entries = cut (length old.decisions - 1) old.entries;
     decisions = take (length old.decisions - 1) old.decisions;

@@ -5,14 +5,14 @@ use Rattle.asp_model.specs.declared.results.Mode.{Mode}
 use Rattle.asp_model.specs.declared.results.Mode.TheVariants as mode
 use Rattle.asp_model.specs.Sets.{Atoms}
 use Rattle.asp_vars.specs.Numbering.{var_count}
-use Rattle.asp_choice.specs.Pacing.{Paced}
-use Rattle.asp_step.specs.Keeping.{AreUseful, AreBarred, AreBars, IsLast}
-use Rattle.asp_step.specs.Searching.{Searching}
-use Rattle.asp_track.specs.Tracking.{Tracked}
+use Rattle.asp_order.specs.Pacing.{Paced}
+use Rattle.asp_search_laws.specs.Keeping.{AreUseful, AreBarred, AreBars, IsLast}
+use Rattle.asp_search_laws.specs.Searching.{Searching}
+use Rattle.asp_state.specs.SearchStates.{SearchView}
 
--- The track is of the program and the bound, its nogoods count for the search, each answer known is barred by one that is kept forever,
+-- The state is of the program and the bound, its nogoods count for the search, each answer known is barred by one that is kept forever,
 -- and those that bar one are listed. In an optimisation no answer is known.
-pub record IsSearch (p : Program) (m : Mode) (t : Tracked) (vars : ℕ) (known : List Atoms) (bars : List ℕ) (bound : Option (List ℤ)) (last : Option ℕ) : Type 0 where
+pub record IsSearch (p : Program) (m : Mode) (t : SearchView) (vars : ℕ) (known : List Atoms) (bars : List ℕ) (bound : Option (List ℤ)) (last : Option ℕ) : Type 0 where
   pub program : p ≡ t.program
   pub bounded : bound ≡ t.bound
   pub counted : vars ≡ var_count t.program
@@ -23,7 +23,7 @@ pub record IsSearch (p : Program) (m : Mode) (t : Tracked) (vars : ℕ) (known :
   pub alone : m ≡ mode.Opt → known ≡ []
 
 -- what callers see
-abbrev pub view_of : Mode → Tracked → Paced → List Atoms → Option ℕ → Searching
+abbrev pub view_of : Mode → SearchView → Paced → List Atoms → Option ℕ → Searching
 view_of m t c known last = record {
   program = t.program;
   mode = m;

@@ -13,12 +13,12 @@ use Rattle.asp_trail.specs.Trails.{IsOrdered}
 use Rattle.asp_store.specs.Fitting.{HaveReasons}
 use Rattle.asp_store.specs.Keeping.{nogood_at}
 use Rattle.asp_analyze.specs.declared.learn.Learned.{Learned}
-use Rattle.asp_settle.specs.Calm.{WereCalm}
-use Rattle.asp_settle.specs.Starts.{AreStarts}
-use Rattle.asp_step.specs.Explaining.{Explains}
-use Rattle.asp_step.specs.Keeping.{AreUseful}
-use Rattle.asp_step.specs.Searching.{Searching}
-use Rattle.asp_track.specs.Tracking.{Tracked, values_of}
+use Rattle.asp_trail_laws.specs.Calm.{WereCalm}
+use Rattle.asp_trail_laws.specs.Starts.{AreStarts}
+use Rattle.asp_search_laws.specs.Explaining.{Explains}
+use Rattle.asp_search_laws.specs.Keeping.{AreUseful}
+use Rattle.asp_search_laws.specs.Searching.{Searching}
+use Rattle.asp_state.specs.SearchStates.{SearchView, values_of}
 
 -- What is known where a violated nogood was analysed.
 pub record IsMet (s : Searching) (q : List Literal) (id : ℕ) (l : Learned) : Type 0 where
@@ -33,7 +33,7 @@ pub record IsMet (s : Searching) (q : List Literal) (id : ℕ) (l : Learned) : T
   pub explains : Explains (var_count s.program) s.slots s.entries id l
 
 -- The nogood under this number shows a conflict of the cube and the decisions up to the literal's level.
-pub record ShowsConflict (p : Program) (known : List Atoms) (bound : Option (List ℤ)) (t : Tracked) (id : ℕ) (lit : Literal) : Type 0 where
+pub record ShowsConflict (p : Program) (known : List Atoms) (bound : Option (List ℤ)) (t : SearchView) (id : ℕ) (lit : Literal) : Type 0 where
   pub cube : List Literal
   pub entered : t.cube ≡ Some cube
   pub from : Nogood
@@ -44,6 +44,6 @@ pub record ShowsConflict (p : Program) (known : List Atoms) (bound : Option (Lis
   pub conflict : IsConflict p known bound cube (take (level_in t.entries lit.var) t.decisions) from.lits
 
 -- that conflict
-abbrev pub IsClashOf : (p : Program) (known : List Atoms) (bound : Option (List ℤ)) (t : Tracked) (id : ℕ) (lit : Literal) → Clash → Type 0
+abbrev pub IsClashOf : (p : Program) (known : List Atoms) (bound : Option (List ℤ)) (t : SearchView) (id : ℕ) (lit : Literal) → Clash → Type 0
 IsClashOf p known bound t id lit x = (m : ShowsConflict p known bound t id lit) →
     x ≡ record { program = p; cube = m.cube; decisions = take (level_in t.entries lit.var) t.decisions; nogood = m.from.lits; known = length known; bound = bound }

@@ -9,9 +9,9 @@ use Rattle.asp_vars.specs.Numbering.{values}
 use Rattle.asp_vars.specs.Entailment.{Settled}
 use Rattle.asp_trail.specs.declared.trail.Entry.{Entry}
 use Rattle.asp_store.specs.declared.kept.Kept.{Kept}
-use Rattle.asp_follow.specs.Following.{IsReduced}
-use Rattle.asp_follow.specs.Useful.{IsSmaller}
-use Rattle.asp_step.specs.Searching.{Searching}
+use Rattle.asp_propagate.specs.Propagating.{IsReduced}
+use Rattle.asp_propagate.specs.Useful.{IsSmaller}
+use Rattle.asp_search_laws.specs.Searching.{Searching}
 
 -- A path is entered, under a cube that can be tried, and nothing was learnt in this step.
 pub record IsEntered (s : Searching) (q : List Literal) : Type 0 where

@@ -12,13 +12,13 @@ ghost use Rattle.asp_trail.specs.Entries.{reason_in};
 ghost use Rattle.asp_trail.specs.Trails.{IsVar};
 ghost use Rattle.asp_store.specs.declared.kept.Kept.{Kept};
 ghost use Rattle.asp_store.specs.Keeping.{nogood_at};
-ghost use Rattle.asp_step.specs.Keeping.{AreBars};
-ghost use Rattle.asp_step.specs.Steps.{way_of};
-ghost use Rattle.asp_track.specs.Tracking.{IsUnder};
+ghost use Rattle.asp_search_laws.specs.Keeping.{AreBars};
+ghost use Rattle.asp_search_laws.specs.Steps.{way_of};
+ghost use Rattle.asp_state.specs.SearchStates.{IsUnder};
 ghost use Rattle.asp_search.specs.Blocking.{IsSpare, Drops, Blocks};
 
-use asp_follow::propagator::Propagator;
-use asp_track::track::Track;
+use asp_propagate::propagator::Propagator;
+use asp_state::state::SearchState;
 use asp_trail::reasons::{NogoodId, Reasons};
 use asp_trail::trail::Trail;
 use asp_vars::lit::{Lit, Var};
@@ -50,24 +50,24 @@ fn is_reason(trail: &Trail, lits: &[Lit], id: NogoodId) -> bool
 }
 
 // Whether the kept nogood begins with these literals and is no reason.
-fn is_spare<P: Propagator>(track: &Track<P>, lits: &[Lit], id: NogoodId) -> bool
-    requires { IsSome (nogood_at track.now.slots id) }
-    ensures { IsTrue result → IsSpare track.now.slots track.now.entries lits.now id }
+fn is_spare<P: Propagator>(state: &SearchState<P>, lits: &[Lit], id: NogoodId) -> bool
+    requires { IsSome (nogood_at state.now.slots id) }
+    ensures { IsTrue result → IsSpare state.now.slots state.now.entries lits.now id }
 {
-    let old = track.store().reason(id).lits.as_slice();
+    let old = state.store().reason(id).lits.as_slice();
     if !old.starts_with(lits) {
         return false;
     }
-    !is_reason(track.trail(), old, id)
+    !is_reason(state.trail(), old, id)
 }
 
 // Drops the newest nogood of the list if it begins with these literals and is no reason. Says whether it was dropped.
-fn drop_last<P: Propagator>(track: &mut Track<P>, bars: &mut Vec<NogoodId>, lits: &[Lit]) -> bool
-    requires { AreBars track.old.slots bars.old.items }
-    ensures bars { AreBars track.new.slots bars.new.items }
-    ensures same { track.new ≡ record track.old { slots = track.new.slots } }
+fn drop_last<P: Propagator>(state: &mut SearchState<P>, bars: &mut Vec<NogoodId>, lits: &[Lit]) -> bool
+    requires { AreBars state.old.slots bars.old.items }
+    ensures bars { AreBars state.new.slots bars.new.items }
+    ensures same { state.new ≡ record state.old { slots = state.new.slots } }
     ensures drops { (way : Nogood) (id : ℕ) (first : List (Option Kept)) → way.lits ≡ lits.now →
-        Drops way id first track.old.slots bars.old.items → Drops way id first track.new.slots bars.new.items }
+        Drops way id first state.old.slots bars.old.items → Drops way id first state.new.slots bars.new.items }
     ensures fewer { IsTrue result → vec_len bars.new < vec_len bars.old }
     ensures len { vec_len bars.new ≤ vec_len bars.old }
     ensures room { vec_capacity bars.new ≡ vec_capacity bars.old }
@@ -77,44 +77,44 @@ fn drop_last<P: Propagator>(track: &mut Track<P>, bars: &mut Vec<NogoodId>, lits
         return false;
     }
     let id = bars[len - 1];
-    if !is_spare(track, lits, id) {
+    if !is_spare(state, lits, id) {
         return false;
     }
-    track.remove(id);
+    state.remove(id);
     bars.truncate(len - 1);
     true
 }
 
 // Drops those that begin with these literals and are no reasons, from the newest on.
-fn drop_all<P: Propagator>(track: &mut Track<P>, bars: &mut Vec<NogoodId>, lits: &[Lit])
-    requires { AreBars track.old.slots bars.old.items }
-    ensures same { track.new ≡ record track.old { slots = track.new.slots } }
+fn drop_all<P: Propagator>(state: &mut SearchState<P>, bars: &mut Vec<NogoodId>, lits: &[Lit])
+    requires { AreBars state.old.slots bars.old.items }
+    ensures same { state.new ≡ record state.old { slots = state.new.slots } }
     ensures drops { (way : Nogood) (id : ℕ) (first : List (Option Kept)) → way.lits ≡ lits.now →
-        Drops way id first track.old.slots bars.old.items → Drops way id first track.new.slots bars.new.items }
+        Drops way id first state.old.slots bars.old.items → Drops way id first state.new.slots bars.new.items }
     ensures len { vec_len bars.new ≤ vec_len bars.old }
     ensures room { vec_capacity bars.new ≡ vec_capacity bars.old }
 {
-    while drop_last(track, bars, lits) {}
+    while drop_last(state, bars, lits) {}
 }
 
 /// Keeps the nogood of the way to an answer, and goes back one level.
 pub(crate) fn block<P: Propagator>(
     alloc: Global,
-    track: &mut Track<P>,
+    state: &mut SearchState<P>,
     bars: &mut Vec<NogoodId>,
 ) -> Result<(), AllocError>
-    requires path { (q : List Literal) × IsUnder track.old q }
-    requires bars { AreBars track.old.slots bars.old.items }
-    ensures ok { OnOk result ((q : List Literal) → track.old.cube ≡ Some q → Blocks (way_of q track.old.decisions) track.old track.new bars.new.items) }
-    ensures err { OnErr result ((track.new ≡ track.old) × (bars.new.items ≡ bars.old.items)) }
+    requires path { (q : List Literal) × IsUnder state.old q }
+    requires bars { AreBars state.old.slots bars.old.items }
+    ensures ok { OnOk result ((q : List Literal) → state.old.cube ≡ Some q → Blocks (way_of q state.old.decisions) state.old state.new bars.new.items) }
+    ensures err { OnErr result ((state.new ≡ state.old) × (bars.new.items ≡ bars.old.items)) }
 {
-    let _trail = track.trail();
-    let way = track.way(alloc)?;
+    let _trail = state.trail();
+    let way = state.way(alloc)?;
     let lits = way.lits.copy()?;
     bars.reserve(1)?;
-    let id = track.keep(way, true)?;
-    track.undo_to(track.decisions().len().saturating_sub(1));
-    drop_all(track, bars, lits.as_slice());
+    let id = state.keep(way, true)?;
+    state.undo_to(state.decisions().len().saturating_sub(1));
+    drop_all(state, bars, lits.as_slice());
     bars.push_reserved(id);
     Ok(())
 }

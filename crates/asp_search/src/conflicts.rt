@@ -5,15 +5,15 @@ ghost use Rattle.asp_vars.specs.Numbering.{var_count};
 ghost use Rattle.asp_trail.specs.Entries.{level, cut};
 ghost use Rattle.asp_store.specs.Walking.{IsViolated};
 ghost use Rattle.asp_analyze.specs.Learning.{AreContained, IsJump};
-ghost use Rattle.asp_step.specs.Explaining.{Explains};
-ghost use Rattle.asp_track.specs.Tracking.{IsUnder};
+ghost use Rattle.asp_search_laws.specs.Explaining.{Explains};
+ghost use Rattle.asp_state.specs.SearchStates.{IsUnder};
 ghost use Rattle.asp_search.specs.Meeting.{ShowsConflict, IsClashOf};
 
 use asp_analyze::learn::{Learned, Learner};
-use asp_follow::propagator::Propagator;
+use asp_propagate::propagator::Propagator;
 use asp_model::cost::Cost;
 use asp_model::interp::Interp;
-use asp_track::track::Track;
+use asp_state::state::SearchState;
 use asp_trail::reasons::{NogoodId, Reasons};
 use asp_vars::compiled::Compiled;
 use asp_vars::fuel::Conflict;
@@ -24,16 +24,16 @@ use std::alloc::{AllocError, Global};
 /// Learns from a kept nogood that is violated.
 pub(crate) fn learn<P: Propagator>(
     learner: &mut Learner,
-    track: &Track<P>,
+    state: &SearchState<P>,
     id: NogoodId,
 ) -> Result<Learned, AllocError>
-    requires vars { learner.old ≡ var_count track.now.program }
-    requires violated { IsViolated (var_count track.now.program) track.now.slots track.now.entries id }
+    requires vars { learner.old ≡ var_count state.now.program }
+    requires violated { IsViolated (var_count state.now.program) state.now.slots state.now.entries id }
     ensures same { learner.new ≡ learner.old }
-    ensures explains { IfOk result (Explains (var_count track.now.program) track.now.slots track.now.entries id) }
+    ensures explains { IfOk result (Explains (var_count state.now.program) state.now.slots state.now.entries id) }
 {
-    let store = track.store();
-    learner.learn(track.trail(), store, store.reason(id))
+    let store = state.store();
+    learner.learn(state.trail(), store, store.reason(id))
 }
 
 fn copy_bound(bound: &Option<Cost>) -> Result<Option<Cost>, AllocError>
@@ -52,46 +52,46 @@ fn copy_bound(bound: &Option<Cost>) -> Result<Option<Cost>, AllocError>
 pub(crate) fn conflict<P: Propagator>(
     alloc: Global,
     compiled: &Compiled,
-    track: &Track<P>,
+    state: &SearchState<P>,
     known: &[Interp],
     bound: &Option<Cost>,
     id: NogoodId,
     lit: Lit,
 ) -> Result<Conflict, AllocError>
-    requires { ShowsConflict compiled.now known.now bound.now track.now id lit }
-    ensures { IfOk result (IsClashOf compiled.now known.now bound.now track.now id lit) }
+    requires { ShowsConflict compiled.now known.now bound.now state.now id lit }
+    ensures { IfOk result (IsClashOf compiled.now known.now bound.now state.now id lit) }
 {
-    let top = track.trail().level_of(lit.var());
-    let cube = track.cube().to_vec(alloc)?;
-    let decisions = track.decisions()[..top].to_vec(alloc)?;
-    let nogood = track.store().reason(id).lits.as_slice().to_vec(alloc)?;
+    let top = state.trail().level_of(lit.var());
+    let cube = state.cube().to_vec(alloc)?;
+    let decisions = state.decisions()[..top].to_vec(alloc)?;
+    let nogood = state.store().reason(id).lits.as_slice().to_vec(alloc)?;
     let bound = copy_bound(bound)?;
     Ok(Conflict::of(compiled, cube, decisions, nogood, known, bound))
 }
 
 /// Keeps what was learnt, and goes back to where it implies the literal.
 pub(crate) fn jump<P: Propagator>(
-    track: &mut Track<P>,
+    state: &mut SearchState<P>,
     nogood: Nogood,
     to: usize,
     lit: Lit,
 ) -> Result<NogoodId, AllocError>
-    requires path { (q : List Literal) × IsUnder track.old q }
-    requires contained { AreContained (var_count track.old.program) track.old.entries nogood.lits }
-    requires jumps { (from : List Literal) × IsJump track.old.entries from nogood.lits to lit }
-    ensures id { IfOk result (λ id. id ≡ length track.old.slots) }
-    ensures ok { IfOk result (λ id. track.new ≡ record track.old {
-      entries = cut to track.old.entries ++ record { lit = lit; level = level (cut to track.old.entries); reason = Some id } ∷ [];
-      decisions = take to track.old.decisions;
-      slots = track.old.slots ++ Some (record { nogood = nogood; forever = false; locked = false }) ∷ [];
-      ranking = track.new.ranking;
+    requires path { (q : List Literal) × IsUnder state.old q }
+    requires contained { AreContained (var_count state.old.program) state.old.entries nogood.lits }
+    requires jumps { (from : List Literal) × IsJump state.old.entries from nogood.lits to lit }
+    ensures id { IfOk result (λ id. id ≡ length state.old.slots) }
+    ensures ok { IfOk result (λ id. state.new ≡ record state.old {
+      entries = cut to state.old.entries ++ record { lit = lit; level = level (cut to state.old.entries); reason = Some id } ∷ [];
+      decisions = take to state.old.decisions;
+      slots = state.old.slots ++ Some (record { nogood = nogood; forever = false; locked = false }) ∷ [];
+      ranking = state.new.ranking;
     }) }
-    ensures err { OnErr result (track.new ≡ record track.old { ranking = track.new.ranking }) }
+    ensures err { OnErr result (state.new ≡ record state.old { ranking = state.new.ranking }) }
 {
-    let _trail = track.trail();
-    track.bump(nogood.lits.as_slice());
-    let id = track.keep(nogood, false)?;
-    track.undo_to(to);
-    track.imply(lit, id);
+    let _trail = state.trail();
+    state.bump(nogood.lits.as_slice());
+    let id = state.keep(nogood, false)?;
+    state.undo_to(to);
+    state.imply(lit, id);
     Ok(id)
 }

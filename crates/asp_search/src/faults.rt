@@ -9,16 +9,16 @@ ghost use Rattle.asp_vars.specs.Numbering.{var_count};
 ghost use Rattle.asp_vars.specs.Unfounded.{is_unfounded};
 ghost use Rattle.asp_trail.specs.Entries.{assignment};
 ghost use Rattle.asp_loop.specs.LoopNogoods.{IsLoopNogood};
-ghost use Rattle.asp_settle.specs.Whole.{IsWhole, truths, atoms_on};
-ghost use Rattle.asp_step.specs.Faults.{IsFault};
+ghost use Rattle.asp_trail_laws.specs.Whole.{IsWhole, truths, atoms_on};
+ghost use Rattle.asp_search_laws.specs.Faults.{IsFault};
 
-use asp_follow::propagator::Propagator;
+use asp_propagate::propagator::Propagator;
 use asp_found::check::Verdict;
 use asp_found::found::check;
 use asp_loop::loops::loop_nogood;
 use asp_model::interp::Interp;
 use asp_model::program::Atom;
-use asp_track::track::Track;
+use asp_state::state::SearchState;
 use asp_trail::trail::Trail;
 use asp_vars::assign::Assign;
 use asp_vars::compiled::Compiled;
@@ -86,20 +86,20 @@ fn unfounded(
 pub(crate) fn fault<P: Propagator>(
     alloc: Global,
     compiled: &Compiled,
-    track: &Track<P>,
+    state: &SearchState<P>,
     interp: &Interp,
 ) -> Result<Option<Nogood>, AllocError>
-    requires program { track.now.program ≡ compiled.now }
-    requires whole { IsWhole compiled.now (var_count compiled.now) track.now.entries }
-    requires atoms { interp.now ≡ atoms_on compiled.now (var_count compiled.now) track.now.entries }
+    requires program { state.now.program ≡ compiled.now }
+    requires whole { IsWhole compiled.now (var_count compiled.now) state.now.entries }
+    requires atoms { interp.now ≡ atoms_on compiled.now (var_count compiled.now) state.now.entries }
     ensures { IfOk result (λ r. MatchOption r (IsTrue (is_stable compiled.now interp.now))
-        (IsFault compiled.now (P.gives compiled.now track.now.bound) (var_count compiled.now) track.now.entries)) }
+        (IsFault compiled.now (P.gives compiled.now state.now.bound) (var_count compiled.now) state.now.entries)) }
 {
     match check(alloc, compiled, interp)? {
         Verdict::Stable => Ok(None),
         Verdict::Broken(nogood) => Ok(Some(nogood)),
         Verdict::Unfounded(set) => {
-            let nogood = unfounded(alloc, compiled, track.trail().assignment(), set.as_slice())?;
+            let nogood = unfounded(alloc, compiled, state.trail().assignment(), set.as_slice())?;
             Ok(Some(nogood))
         }
     }

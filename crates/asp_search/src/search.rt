@@ -7,17 +7,17 @@ ghost use Rattle.asp_vars.specs.Numbering.{var_count};
 ghost use Rattle.asp_vars.specs.declared.nogood.Base.TheVariants as base;
 ghost use Rattle.asp_trail.specs.Entries.{level};
 ghost use Rattle.asp_trail.specs.Trails.{IsVar};
-ghost use Rattle.asp_follow.specs.Useful.{IsSmaller};
-ghost use Rattle.asp_step.specs.Steps.{is_of_use};
+ghost use Rattle.asp_propagate.specs.Useful.{IsSmaller};
+ghost use Rattle.asp_search_laws.specs.Steps.{is_of_use};
 ghost use Rattle.asp_search.specs.Beside.{new_search, Enters, Leaves, is_local, is_shared, exported};
 
 use asp_analyze::learn::Learner;
-use asp_choice::pace::Pace;
-use asp_follow::propagator::Propagator;
+use asp_order::pace::Pace;
+use asp_propagate::propagator::Propagator;
 use asp_model::cost::Cost;
 use asp_model::interp::Interp;
 use asp_model::results::Mode;
-use asp_track::track::Track;
+use asp_state::state::SearchState;
 use asp_trail::reasons::{NogoodId, Reasons};
 use asp_vars::compiled::Compiled;
 use asp_vars::lit::Lit;
@@ -34,7 +34,7 @@ pub struct Search<'a, P: Propagator> {
     pub(crate) alloc: Global,
     pub(crate) compiled: &'a Compiled,
     pub(crate) mode: Mode,
-    pub(crate) track: Track<P>,
+    pub(crate) state: SearchState<P>,
     pub(crate) pace: Pace,
     pub(crate) learner: Learner,
     pub(crate) known: Vec<Interp>,
@@ -44,14 +44,14 @@ pub struct Search<'a, P: Propagator> {
 }
 
 impl<'a, P: Propagator> Model for Search<'a, P> {
-    ghost use Rattle.asp_step.specs.Searching.{Searching};
+    ghost use Rattle.asp_search_laws.specs.Searching.{Searching};
     ghost use Rattle.asp_search.specs.Invariants.{IsSearch, view_of};
 
     ghost Value = { Searching };
 
-    ghost view = { λ s. view_of s.mode s.track s.pace s.known.items s.last };
+    ghost view = { λ s. view_of s.mode s.state s.pace s.known.items s.last };
 
-    ghost invariant = { λ s. IsSearch s.compiled.now s.mode s.track s.learner s.known.items s.bars.items s.bound s.last };
+    ghost invariant = { λ s. IsSearch s.compiled.now s.mode s.state s.learner s.known.items s.bars.items s.bound s.last };
 }
 
 // Whether a nogood of this base counts for a search, whatever answers it knows.
@@ -106,13 +106,13 @@ impl<'a, P: Propagator> Search<'a, P> {
     {
         let vars = compiled.vars();
         let _program = compiled.program();
-        let track = Track::new(alloc, compiled, propagator)?;
+        let state = SearchState::new(alloc, compiled, propagator)?;
         let learner = Learner::new(alloc, vars)?;
         Ok(Search {
             alloc,
             compiled,
             mode,
-            track,
+            state,
             pace: Pace::new(),
             learner,
             known: Vec::new(alloc),
@@ -126,7 +126,7 @@ impl<'a, P: Propagator> Search<'a, P> {
     pub(crate) fn leave(&mut self)
         ensures { Leaves self.old self.new }
     {
-        self.track.leave();
+        self.state.leave();
         self.last = None;
     }
 
@@ -137,7 +137,7 @@ impl<'a, P: Propagator> Search<'a, P> {
         ensures err { OnErr result (Leaves self.old self.new) }
     {
         self.last = None;
-        self.track.enter(self.alloc, cube)?;
+        self.state.enter(self.alloc, cube)?;
         self.pace.begin();
         Ok(())
     }
@@ -150,7 +150,7 @@ impl<'a, P: Propagator> Search<'a, P> {
     {
         match cost.copy() {
             Ok(copy) => {
-                self.track.set_bound(copy);
+                self.state.set_bound(copy);
                 self.bound = Some(cost);
                 Ok(())
             }
@@ -171,7 +171,7 @@ impl<'a, P: Propagator> Search<'a, P> {
     {
         let _mode = self.mode;
         let copy = nogood.copy()?;
-        self.track.keep(copy, false)?;
+        self.state.keep(copy, false)?;
         Ok(())
     }
 
@@ -202,7 +202,7 @@ impl<'a, P: Propagator> Search<'a, P> {
         ensures { option_copied result ≡ exported self.now }
     {
         let _mode = self.mode;
-        let nogood = self.track.store().reason(self.last?);
+        let nogood = self.state.store().reason(self.last?);
         if is_shared(nogood) {
             Some(nogood)
         } else {
@@ -216,13 +216,13 @@ impl<'a, P: Propagator> Search<'a, P> {
         ensures few { length self.now.entries ≤ var_count self.now.program + 1 }
     {
         let _program = self.compiled.program();
-        self.track.trail().level()
+        self.state.trail().level()
     }
 
     /// The first decision, if one stands.
     pub fn first(&self) -> Option<Lit>
         ensures { result ≡ slice_get self.now.decisions 0 }
     {
-        self.track.decisions().first().copied()
+        self.state.decisions().first().copied()
     }
 }

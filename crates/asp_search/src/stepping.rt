@@ -11,10 +11,10 @@ ghost use Rattle.asp_vars.specs.Numbering.{var_count};
 ghost use Rattle.asp_vars.specs.Paid.{Units};
 ghost use Rattle.asp_trail.specs.Entries.{cut};
 ghost use Rattle.asp_store.specs.Walking.{IsViolated};
-ghost use Rattle.asp_choice.specs.Waiting.{AreAssigned};
-ghost use Rattle.asp_follow.specs.Following.{IsQuiet};
-ghost use Rattle.asp_step.specs.Searching.{values_now};
-ghost use Rattle.asp_step.specs.Steps.{Answers, IsDue, IsStep, IsFailure};
+ghost use Rattle.asp_order.specs.Waiting.{AreAssigned};
+ghost use Rattle.asp_propagate.specs.Propagating.{IsQuiet};
+ghost use Rattle.asp_search_laws.specs.Searching.{values_now};
+ghost use Rattle.asp_search_laws.specs.Steps.{Answers, IsDue, IsStep, IsFailure};
 ghost use Rattle.asp_analyze.specs.declared.learn.Learned.TheVariants as learned;
 ghost use Rattle.asp_search.specs.Meeting.{IsMet};
 ghost use Rattle.asp_search.specs.Stepping.{IsEntered, IsFound, MayReduce};
@@ -24,13 +24,13 @@ use crate::conflicts::{conflict, jump, learn};
 use crate::faults::{fault, true_atoms};
 use crate::search::Search;
 use asp_analyze::learn::Learned;
-use asp_choice::pace::Pace;
-use asp_follow::propagator::Propagator;
+use asp_order::pace::Pace;
+use asp_propagate::propagator::Propagator;
 use asp_model::cost::cost_of;
 use asp_model::interp::Interp;
 use asp_model::results::Mode;
-use asp_step::step::Step;
-use asp_track::track::Track;
+use asp_search_laws::step::Step;
+use asp_state::state::SearchState;
 use asp_trail::reasons::NogoodId;
 use asp_vars::fuel::Fuel;
 use asp_vars::lit::Lit;
@@ -38,26 +38,26 @@ use asp_vars::nogood::Nogood;
 use std::alloc::AllocError;
 
 // Whether a restart is due, and would take something back.
-fn is_due<P: Propagator>(pace: &Pace, track: &Track<P>) -> bool
+fn is_due<P: Propagator>(pace: &Pace, state: &SearchState<P>) -> bool
     ensures { IsTrue result → IsDue pace.now.restarts pace.now.learnt }
 {
-    if track.trail().level() == 0 {
+    if state.trail().level() == 0 {
         return false;
     }
     pace.is_due()
 }
 
 // Drops nogoods where too many are kept.
-fn reduce<P: Propagator>(track: &mut Track<P>, pace: &mut Pace)
-    ensures same { track.new ≡ record track.old { slots = track.new.slots } }
-    ensures reduced { MayReduce track.old.entries track.old.slots track.new.slots }
+fn reduce<P: Propagator>(state: &mut SearchState<P>, pace: &mut Pace)
+    ensures same { state.new ≡ record state.old { slots = state.new.slots } }
+    ensures reduced { MayReduce state.old.entries state.old.slots state.new.slots }
     ensures restarts { pace.new.restarts ≡ pace.old.restarts }
     ensures learnt { pace.new.learnt ≡ pace.old.learnt }
 {
-    if !pace.is_full(track.store().extra()) {
+    if !pace.is_full(state.store().extra()) {
         return;
     }
-    track.reduce();
+    state.reduce();
     pace.reduced();
 }
 
@@ -79,7 +79,7 @@ impl<'a, P: Propagator> Search<'a, P> {
         let conflict = conflict(
             self.alloc,
             self.compiled,
-            &self.track,
+            &self.state,
             self.known.as_slice(),
             &self.bound,
             id,
@@ -90,7 +90,7 @@ impl<'a, P: Propagator> Search<'a, P> {
         }
         fuel.burn(conflict);
         self.pace.count();
-        let new = jump(&mut self.track, nogood, to, lit)?;
+        let new = jump(&mut self.state, nogood, to, lit)?;
         self.last = Some(new);
         Ok(Step::Learnt)
     }
@@ -103,9 +103,9 @@ impl<'a, P: Propagator> Search<'a, P> {
         ensures ok { IfOk result (IsStep (P.gives self.old.program self.old.bound) (P.silent self.old.program self.old.bound) self.old self.new fuel.old fuel.new) }
         ensures err { OnErr result (IsFailure (P.gives self.old.program self.old.bound) self.old self.new fuel.old fuel.new) }
     {
-        let _trail = self.track.trail();
-        let _store = self.track.store();
-        match learn(&mut self.learner, &self.track, id)? {
+        let _trail = self.state.trail();
+        let _store = self.state.store();
+        match learn(&mut self.learner, &self.state, id)? {
             Learned::InCube(_) => Ok(Step::Closed),
             Learned::Jump { nogood, level, lit } => self.pay(id, nogood, level, lit, fuel),
         }
@@ -120,7 +120,7 @@ impl<'a, P: Propagator> Search<'a, P> {
     {
         let copy = interp.copy()?;
         self.known.reserve(1)?;
-        block(self.alloc, &mut self.track, &mut self.bars)?;
+        block(self.alloc, &mut self.state, &mut self.bars)?;
         self.known.push_reserved(copy);
         Ok(())
     }
@@ -134,9 +134,9 @@ impl<'a, P: Propagator> Search<'a, P> {
     {
         let cost = cost_of(self.alloc, self.compiled.program(), interp)?;
         let copy = cost.copy()?;
-        self.track.set_bound(copy);
+        self.state.set_bound(copy);
         self.bound = Some(cost);
-        self.track.undo_to(0);
+        self.state.undo_to(0);
         Ok(())
     }
 
@@ -161,15 +161,15 @@ impl<'a, P: Propagator> Search<'a, P> {
         ensures err { OnErr result (IsFailure (P.gives self.old.program self.old.bound) self.old self.new fuel.old fuel.new) }
     {
         let _program = self.compiled.program();
-        let _store = self.track.store();
-        let interp = true_atoms(self.alloc, self.compiled, self.track.trail())?;
-        match fault(self.alloc, self.compiled, &self.track, &interp)? {
+        let _store = self.state.store();
+        let interp = true_atoms(self.alloc, self.compiled, self.state.trail())?;
+        match fault(self.alloc, self.compiled, &self.state, &interp)? {
             None => {
                 self.answer(&interp)?;
                 Ok(Step::Answer(interp))
             }
             Some(nogood) => {
-                let id = self.track.keep(nogood, false)?;
+                let id = self.state.keep(nogood, false)?;
                 self.meet(id, fuel)
             }
         }
@@ -188,9 +188,9 @@ impl<'a, P: Propagator> Search<'a, P> {
         } }
         ensures reduced { MayReduce (cut 0 self.old.entries) self.old.slots self.new.slots }
     {
-        self.track.undo_to(0);
+        self.state.undo_to(0);
         self.pace.restarted();
-        reduce(&mut self.track, &mut self.pace);
+        reduce(&mut self.state, &mut self.pace);
     }
 
     // No conflict: goes on.
@@ -201,11 +201,11 @@ impl<'a, P: Propagator> Search<'a, P> {
         ensures ok { IfOk result (IsStep (P.gives self.old.program self.old.bound) (P.silent self.old.program self.old.bound) self.old self.new fuel.old fuel.new) }
         ensures err { OnErr result (IsFailure (P.gives self.old.program self.old.bound) self.old self.new fuel.old fuel.new) }
     {
-        if is_due(&self.pace, &self.track) {
+        if is_due(&self.pace, &self.state) {
             self.restart();
             return Ok(Step::Restarted);
         }
-        match self.track.decide()? {
+        match self.state.decide()? {
             Some(_) => Ok(Step::Decided),
             None => self.complete(fuel),
         }
@@ -219,10 +219,10 @@ impl<'a, P: Propagator> Search<'a, P> {
     {
         let _program = self.compiled.program();
         self.last = None;
-        if self.track.is_clashing() {
+        if self.state.is_clashing() {
             return Ok(Step::Closed);
         }
-        match self.track.propagate()? {
+        match self.state.propagate()? {
             Some(id) => self.meet(id, fuel),
             None => self.go_on(fuel),
         }

@@ -68,7 +68,7 @@ fn least(first: Option<Cost>, second: Option<Cost>) -> Option<Cost>
     }
 }
 
-/// Units of a program's search. Each that was burnt took a conflict of its own.
+/// Units of a program's search. For each that was burnt a conflict was spent; that these differ isn't said.
 #[derive(Drop)]
 pub struct Fuel {
     program: Origin<Program>,

@@ -37,7 +37,7 @@ pub fn completion_is_entailed()
 /// A set that is closed under the completion shows a conflict: no least one has to be found.
 pub fn closed_set_shows_a_conflict()
     ensures { (p : Program) (known : List Atoms) (bound : Option (List ℤ)) (cube decisions nogood Z : List Literal) →
-        Shows p cube decisions nogood Z → Settled p known bound (cube ++ decisions) → IsConflict p known bound cube decisions nogood }
+        Shows p cube decisions nogood Z → Settled p known bound (cube ++ decisions) → Settled p known bound nogood → IsConflict p known bound cube decisions nogood }
 {}
 
 /// What a nogood says goes over to one with more literals; a settled one stays so when an answer is added or the

@@ -8,7 +8,7 @@ loop-preserved g c =
     let e = c.drop_last.ensures in
     record {
       bars_stand = e.bars;
-      same = slots_twice c.args.track.now c.loop.track c.drop_last.new.track i.same e.same;
+      same = slots_twice c.args.state.now c.loop.state c.drop_last.new.state i.same e.same;
       drops = λ way id first same d. e.drops way id first same (i.drops way id first same d);
       len = omega (arith, e.len, i.len);
       room = e.room ∙ i.room;

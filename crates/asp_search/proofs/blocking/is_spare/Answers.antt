@@ -12,13 +12,13 @@ use Rattle.asp_store.specs.Keeping.{nogood_at}
 use Rattle.asp_search.proofs.BlockLaws.{spare_from}
 use Rattle.asp_search.proofs.blocking.is_spare.Goals as goal
 
--- the store's nogood is the track's
+-- the store's nogood is the state's
 kept_is : (slots tlots : List (Option Kept)) (id : ℕ) (n : Nogood) → tlots ≡ slots → Some n ≡ nogood_at tlots id → nogood_at slots id ≡ Some n
 kept_is slots tlots id n e q = ap (λ (xs : List (Option Kept)). nogood_at xs id) (sym e) ∙ sym q
 
 pub is_reason-requires : goal.is_reason-requires
 is_reason-requires g c =
-    let t = c.args.track.now in
+    let t = c.args.state.now in
     let n : Nogood = c.reason.result.now in
     subst (λ (k : ℕ). All (λ (l : Literal). IsVar k l.var) c.as_slice-old.result.now) (sym c.trail.ensures.vars)
     (subst (λ (ls : List Literal). All (λ (l : Literal). IsVar (var_count t.program) l.var) ls) (sym c.as_slice-old.ensures.value)
@@ -26,7 +26,7 @@ is_reason-requires g c =
 
 pub returns : goal.returns
 returns g c = λ yes.
-    let t = c.args.track.now in
+    let t = c.args.state.now in
     let n : Nogood = c.reason.result.now in
     let k : nogood_at t.slots c.args.id ≡ Some n = kept_is t.slots c.store.result.now.slots c.args.id n c.store.ensures.slots c.reason.ensures in
     let none = c.is_reason.ensures (not_true c.is_reason.result yes) in

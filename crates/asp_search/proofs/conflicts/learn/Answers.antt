@@ -16,13 +16,13 @@ reason-requires g c =
 
 pub learn-requires-clause-vars : goal.learn-requires-clause-vars
 learn-requires-clause-vars g c =
-    let t = c.args.track.now in
+    let t = c.args.state.now in
     subst (λ (n : ℕ). AreUpTo n c.trail.result.now.entries) (sym c.requires.vars)
     (subst (λ (es : List Entry). AreUpTo (var_count t.program) es) (sym c.trail.ensures.entries) (up_to (var_count t.program) t.entries c.trail.ensures.ordered))
 
 pub learn-requires-clause-contained : goal.learn-requires-clause-contained
 learn-requires-clause-contained g c =
-    let t = c.args.track.now in
+    let t = c.args.state.now in
     let r = c.trail.result.now in
     let s = c.store-store.result.now in
     contained r.vars r.entries c.reason.result.now.lits
@@ -31,13 +31,13 @@ learn-requires-clause-contained g c =
 
 pub learn-requires-clause-reasons : goal.learn-requires-clause-reasons
 learn-requires-clause-reasons g c =
-    let t = c.args.track.now in
+    let t = c.args.state.now in
     subst (λ (xs : List (Option Kept)). AreReasoned (nogood_at xs) c.trail.result.now.entries) (sym c.store-store.ensures.slots)
     (subst (λ (es : List Entry). AreReasoned (nogood_at t.slots) es) (sym c.trail.ensures.entries) c.store-store.ensures.reasons)
 
 pub returns-clause-explains : goal.returns-clause-explains
 returns-clause-explains g c =
-    let t = c.args.track.now in
+    let t = c.args.state.now in
     let r = c.trail.result.now in
     let s = c.store-store.result.now in
     explained_at c.learn.result (var_count t.program) r.vars t.slots s.slots t.entries r.entries c.args.id c.reason.result.now c.trail.ensures.vars c.store-store.ensures.slots c.trail.ensures.entries

@@ -2,11 +2,11 @@ use Rattle.std.proofs.Common.{◌≡◌, None, refl, sym, ap, ◌∙◌, subst}
 use Rattle.std.proofs.lemmas.Result.{IfOk-weaker, on_err_weaker}
 use Rattle.asp_model.specs.Sound.{IsSound}
 use Rattle.asp_vars.specs.declared.nogood.Nogood.{Nogood}
-use Rattle.asp_follow.specs.Useful.{Counts}
-use Rattle.asp_step.specs.Searching.{Searching}
-use Rattle.asp_step.specs.Steps.{Closes, Fails, IsStep, IsFailure}
-use Rattle.asp_step.proofs.StepLaws.{Continues, steps_on, fails_on}
-use Rattle.asp_track.specs.Tracking.{Tracked}
+use Rattle.asp_propagate.specs.Useful.{Counts}
+use Rattle.asp_search_laws.specs.Searching.{Searching}
+use Rattle.asp_search_laws.specs.Steps.{Closes, Fails, IsStep, IsFailure}
+use Rattle.asp_search_laws.proofs.StepLaws.{Continues, steps_on, fails_on}
+use Rattle.asp_state.specs.SearchStates.{SearchView}
 use Rattle.asp_search.specs.Invariants.{view_of}
 use Rattle.asp_search.proofs.BelowLaws.{adds_continue, adds_fail}
 use Rattle.asp_search.proofs.SearchLaws.{search_told}
@@ -17,24 +17,24 @@ pub returns-then-is_clashing-clause-ok : goal.returns-then-is_clashing-clause-ok
 returns-then-is_clashing-clause-ok g c = λ q e.
     let i = c.self.inside in
     let f = c.args.fuel.now in
-    let new : Searching = view_of i.mode i.track i.pace i.known.items None in
+    let new : Searching = view_of i.mode i.state i.pace i.known.items None in
     let clashes = c.is_clashing.ensures.clashes q (ap (λ (x : Searching). x.cube) c.self.view_is ∙ e) c.if-is_clashing.true in
     subst (λ (z : Searching). Closes (g.P.Propagator.gives z.program z.bound) z new q f f) c.self.view_is
-    (clash_closes (g.P.Propagator.gives i.track.program i.track.bound) i.mode i.track i.pace i.known.items i.last q f clashes)
+    (clash_closes (g.P.Propagator.gives i.state.program i.state.bound) i.mode i.state i.pace i.known.items i.last q f clashes)
 
 pub invariant_of-self-in_err-id : goal.invariant_of-self-in_err-id
 invariant_of-self-in_err-id g c =
     let i = c.self.inside in
-    let t = i.track in
+    let t = i.state in
     let sound : IsSound t.program = subst IsSound c.self.invariant.program c.program-program.ensures.sound in
     search_told i.compiled.now i.mode t c.propagate.new.self i.learner i.known.items i.bars.items i.bound i.last (g.P.Propagator.gives t.program t.bound)
-    (ap (λ (x : Tracked). x.program) c.propagate.ensures.same) (ap (λ (x : Tracked). x.bound) c.propagate.ensures.same)
+    (ap (λ (x : SearchView). x.program) c.propagate.ensures.same) (ap (λ (x : SearchView). x.bound) c.propagate.ensures.same)
     (λ n h. g.met.P.Propagator.sound t.program t.bound n i.known.items sound h) c.propagate.ensures.adds c.self.invariant
 
 pub returns-in_err-id-clause-err : goal.returns-in_err-id-clause-err
 returns-in_err-id-clause-err g c =
     let i = c.self.inside in
-    let t = i.track in
+    let t = i.state in
     let s = c.args.self.now in
     let f = c.args.fuel.now in
     let u = c.propagate.new.self in
@@ -50,10 +50,10 @@ returns-in_err-id-clause-err g c =
 pub invariant_of-self-in-Some : goal.invariant_of-self-in-Some
 invariant_of-self-in-Some g c =
     let i = c.self.inside in
-    let t = i.track in
+    let t = i.state in
     let sound : IsSound t.program = subst IsSound c.self.invariant.program c.program-program.ensures.sound in
     search_told i.compiled.now i.mode t c.propagate.new.self i.learner i.known.items i.bars.items i.bound i.last (g.P.Propagator.gives t.program t.bound)
-    (ap (λ (x : Tracked). x.program) c.propagate.ensures.same) (ap (λ (x : Tracked). x.bound) c.propagate.ensures.same)
+    (ap (λ (x : SearchView). x.program) c.propagate.ensures.same) (ap (λ (x : SearchView). x.bound) c.propagate.ensures.same)
     (λ n h. g.met.P.Propagator.sound t.program t.bound n i.known.items sound h) c.propagate.ensures.adds c.self.invariant
 
 pub meet-requires-clause-entered : goal.meet-requires-clause-entered
@@ -63,8 +63,8 @@ meet-requires-clause-entered g c =
     let same = c.propagate.ensures.same in (
       q.0,
       record {
-        cube = ap (λ (x : Tracked). x.cube) same ∙ (ap (λ (x : Searching). x.cube) c.self.view_is ∙ q.1);
-        clear = ap (λ (x : Tracked). x.clashing) same ∙ (sym c.is_clashing.ensures.same ∙ c.if-is_clashing.false);
+        cube = ap (λ (x : SearchView). x.cube) same ∙ (ap (λ (x : Searching). x.cube) c.self.view_is ∙ q.1);
+        clear = ap (λ (x : SearchView). x.clashing) same ∙ (sym c.is_clashing.ensures.same ∙ c.if-is_clashing.false);
         last = refl;
       },
     )
@@ -72,10 +72,10 @@ meet-requires-clause-entered g c =
 pub invariant_of-self-in-None : goal.invariant_of-self-in-None
 invariant_of-self-in-None g c =
     let i = c.self.inside in
-    let t = i.track in
+    let t = i.state in
     let sound : IsSound t.program = subst IsSound c.self.invariant.program c.program-program.ensures.sound in
     search_told i.compiled.now i.mode t c.propagate.new.self i.learner i.known.items i.bars.items i.bound i.last (g.P.Propagator.gives t.program t.bound)
-    (ap (λ (x : Tracked). x.program) c.propagate.ensures.same) (ap (λ (x : Tracked). x.bound) c.propagate.ensures.same)
+    (ap (λ (x : SearchView). x.program) c.propagate.ensures.same) (ap (λ (x : SearchView). x.bound) c.propagate.ensures.same)
     (λ n h. g.met.P.Propagator.sound t.program t.bound n i.known.items sound h) c.propagate.ensures.adds c.self.invariant
 
 pub go_on-requires-clause-entered : goal.go_on-requires-clause-entered
@@ -85,8 +85,8 @@ go_on-requires-clause-entered g c =
     let same = c.propagate.ensures.same in (
       q.0,
       record {
-        cube = ap (λ (x : Tracked). x.cube) same ∙ (ap (λ (x : Searching). x.cube) c.self.view_is ∙ q.1);
-        clear = ap (λ (x : Tracked). x.clashing) same ∙ (sym c.is_clashing.ensures.same ∙ c.if-is_clashing.false);
+        cube = ap (λ (x : SearchView). x.cube) same ∙ (ap (λ (x : Searching). x.cube) c.self.view_is ∙ q.1);
+        clear = ap (λ (x : SearchView). x.clashing) same ∙ (sym c.is_clashing.ensures.same ∙ c.if-is_clashing.false);
         last = refl;
       },
     )
@@ -94,7 +94,7 @@ go_on-requires-clause-entered g c =
 pub returns-in-Some-clause-ok : goal.returns-in-Some-clause-ok
 returns-in-Some-clause-ok g c =
     let i = c.self.inside in
-    let t = i.track in
+    let t = i.state in
     let s = c.args.self.now in
     let f = c.args.fuel.now in
     let u = c.propagate.new.self in
@@ -113,7 +113,7 @@ returns-in-Some-clause-ok g c =
 pub returns-in-Some-clause-err : goal.returns-in-Some-clause-err
 returns-in-Some-clause-err g c =
     let i = c.self.inside in
-    let t = i.track in
+    let t = i.state in
     let s = c.args.self.now in
     let f = c.args.fuel.now in
     let u = c.propagate.new.self in
@@ -129,7 +129,7 @@ returns-in-Some-clause-err g c =
 pub returns-in-None-clause-ok : goal.returns-in-None-clause-ok
 returns-in-None-clause-ok g c =
     let i = c.self.inside in
-    let t = i.track in
+    let t = i.state in
     let s = c.args.self.now in
     let f = c.args.fuel.now in
     let u = c.propagate.new.self in
@@ -148,7 +148,7 @@ returns-in-None-clause-ok g c =
 pub returns-in-None-clause-err : goal.returns-in-None-clause-err
 returns-in-None-clause-err g c =
     let i = c.self.inside in
-    let t = i.track in
+    let t = i.state in
     let s = c.args.self.now in
     let f = c.args.fuel.now in
     let u = c.propagate.new.self in

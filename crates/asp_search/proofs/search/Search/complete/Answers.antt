@@ -7,16 +7,16 @@ use Rattle.asp_model.specs.Sound.{IsSound}
 use Rattle.asp_vars.specs.Literals.{Literal}
 use Rattle.asp_vars.specs.Numbering.{var_count}
 use Rattle.asp_vars.specs.declared.nogood.Nogood.{Nogood}
-use Rattle.asp_choice.specs.Waiting.{AreAssigned}
-use Rattle.asp_follow.specs.Following.{IsQuiet}
-use Rattle.asp_follow.specs.Whole.{KeepsAll}
-use Rattle.asp_follow.specs.Whole as follow
-use Rattle.asp_settle.specs.Whole.{atoms_on}
-use Rattle.asp_step.specs.Faults.{IsFault}
-use Rattle.asp_step.specs.Searching.{Searching, values_now}
-use Rattle.asp_step.specs.Steps.{IsStep, IsFailure}
-use Rattle.asp_step.proofs.StepLaws.{Continues, steps_on, fails_on}
-use Rattle.asp_track.specs.Tracking.{Tracked, values_of, IsUnder}
+use Rattle.asp_order.specs.Waiting.{AreAssigned}
+use Rattle.asp_propagate.specs.Propagating.{IsQuiet}
+use Rattle.asp_propagate.specs.Whole.{KeepsAll}
+use Rattle.asp_propagate.specs.Whole as follow
+use Rattle.asp_trail_laws.specs.Whole.{atoms_on}
+use Rattle.asp_search_laws.specs.Faults.{IsFault}
+use Rattle.asp_search_laws.specs.Searching.{Searching, values_now}
+use Rattle.asp_search_laws.specs.Steps.{IsStep, IsFailure}
+use Rattle.asp_search_laws.proofs.StepLaws.{Continues, steps_on, fails_on}
+use Rattle.asp_state.specs.SearchStates.{SearchView, values_of, IsUnder}
 use Rattle.asp_search.specs.Invariants.{view_of}
 use Rattle.asp_search.specs.Stepping.{IsEntered, IsFound}
 use Rattle.asp_search.proofs.BelowLaws.{fault_useful, fault_continues}
@@ -36,7 +36,7 @@ returns-in_err-interp-clause-err g c =
 pub fault-requires-clause-whole : goal.fault-requires-clause-whole
 fault-requires-clause-whole g c =
     let i = c.self.inside in
-    let t = i.track in
+    let t = i.state in
     let q = c.requires.entered.0 in
     let e = subst (λ (s : Searching). IsEntered s q) (sym c.self.view_is) c.requires.entered.1 in
     let under : IsUnder t q = record { cube_is = e.cube; calm = e.clear } in
@@ -69,7 +69,7 @@ returns-in_err-fault-clause-err g c =
 pub answer-requires : goal.answer-requires
 answer-requires g c =
     let i = c.self.inside in
-    let t = i.track in
+    let t = i.state in
     let p = i.compiled.now in
     let S = c.in_ok-interp.interp in
     let q = c.requires.entered.0 in
@@ -116,13 +116,13 @@ returns-in_err-id-in-Some-clause-err g c =
     let f = c.args.fuel.now in
     let G = g.P.Propagator.gives s.program s.bound in
     let new : Searching = view_of i.mode c.keep.new.self i.pace i.known.items i.last in
-    let same : new ≡ s = ap (λ (x : Tracked). view_of i.mode x i.pace i.known.items i.last) c.in_err-id-in-Some.ensures.err ∙ c.self.view_is in
+    let same : new ≡ s = ap (λ (x : SearchView). view_of i.mode x i.pace i.known.items i.last) c.in_err-id-in-Some.ensures.err ∙ c.self.view_is in
     always_err c.from_residual-in_err-id-in-Some.result (IsFailure G s new f f) (fails_still G s new f same)
 
 pub invariant_of-self-in-Some : goal.invariant_of-self-in-Some
 invariant_of-self-in-Some g c =
     let i = c.self.inside in
-    let t = i.track in
+    let t = i.state in
     let p = i.compiled.now in
     let n = c.in-Some.nogood in
     let u = c.keep.new.self in
@@ -131,8 +131,8 @@ invariant_of-self-in-Some g c =
     c.in_ok-fault.ensures in
     let fault : IsFault t.program (g.P.Propagator.gives t.program t.bound) (var_count t.program) t.entries n =
     subst (λ (x : Program). IsFault x (g.P.Propagator.gives x t.bound) (var_count x) t.entries n) c.self.invariant.program verdict in
-    let slots = ap (λ (x : Tracked). x.slots) e in
-    search_push p i.mode t u i.learner i.known.items i.bars.items i.bound i.last i.last (for_now n) (ap (λ (x : Tracked). x.program) e) (ap (λ (x : Tracked). x.bound) e) slots
+    let slots = ap (λ (x : SearchView). x.slots) e in
+    search_push p i.mode t u i.learner i.known.items i.bars.items i.bound i.last i.last (for_now n) (ap (λ (x : SearchView). x.program) e) (ap (λ (x : SearchView). x.bound) e) slots
     (fault_useful t.program i.known.items t.bound (g.P.Propagator.gives t.program t.bound) (var_count t.program) t.entries n fault)
     (push_last t.slots u.slots (for_now n) i.last slots c.self.invariant.last_stands) c.self.invariant
 
@@ -142,7 +142,7 @@ returns-in_ok-answer-in-None-clause-ok g c = λ q e. c.in_ok-answer-in-None.ensu
 pub returns-in_ok-id-in-Some-clause-ok : goal.returns-in_ok-id-in-Some-clause-ok
 returns-in_ok-id-in-Some-clause-ok g c =
     let i = c.self.inside in
-    let t = i.track in
+    let t = i.state in
     let p = i.compiled.now in
     let s = c.args.self.now in
     let f = c.args.fuel.now in
@@ -164,7 +164,7 @@ returns-in_ok-id-in-Some-clause-ok g c =
 pub returns-in_ok-id-in-Some-clause-err : goal.returns-in_ok-id-in-Some-clause-err
 returns-in_ok-id-in-Some-clause-err g c =
     let i = c.self.inside in
-    let t = i.track in
+    let t = i.state in
     let p = i.compiled.now in
     let s = c.args.self.now in
     let f = c.args.fuel.now in

@@ -1,5 +1,5 @@
 use Rattle.std.proofs.Common.{None, ap}
-use Rattle.asp_track.specs.Tracking.{Tracked}
+use Rattle.asp_state.specs.SearchStates.{SearchView}
 use Rattle.asp_search.proofs.SearchLaws.{search_same}
 use Rattle.asp_search.proofs.search.Search.enter.Goals as goal
 
@@ -7,12 +7,12 @@ pub invariant_of-self : goal.invariant_of-self
 invariant_of-self g c =
     let i = c.self.inside in
     let e = c.enter.ensures.same in
-    search_same i.compiled.now i.mode i.track c.enter.new.self i.learner i.known.items i.bars.items i.bound i.last None (ap (λ (x : Tracked). x.program) e)
-    (ap (λ (x : Tracked). x.bound) e) (ap (λ (x : Tracked). x.slots) e) tt c.self.invariant
+    search_same i.compiled.now i.mode i.state c.enter.new.self i.learner i.known.items i.bars.items i.bound i.last None (ap (λ (x : SearchView). x.program) e)
+    (ap (λ (x : SearchView). x.bound) e) (ap (λ (x : SearchView). x.slots) e) tt c.self.invariant
 
 pub invariant_of-self-2 : goal.invariant_of-self-2
 invariant_of-self-2 g c =
     let i = c.self.inside in
     let e = c.enter.ensures.same in
-    search_same i.compiled.now i.mode i.track c.enter.new.self i.learner i.known.items i.bars.items i.bound i.last None (ap (λ (x : Tracked). x.program) e)
-    (ap (λ (x : Tracked). x.bound) e) (ap (λ (x : Tracked). x.slots) e) tt c.self.invariant
+    search_same i.compiled.now i.mode i.state c.enter.new.self i.learner i.known.items i.bars.items i.bound i.last None (ap (λ (x : SearchView). x.program) e)
+    (ap (λ (x : SearchView). x.bound) e) (ap (λ (x : SearchView). x.slots) e) tt c.self.invariant

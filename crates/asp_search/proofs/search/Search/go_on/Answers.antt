@@ -3,12 +3,12 @@ use Rattle.std.specs.Prelude.{IfNone}
 use Rattle.std.proofs.lemmas.Result.{IfOk-weaker, on_err_weaker}
 use Rattle.asp_vars.specs.Literals.{Literal}
 use Rattle.asp_vars.specs.Numbering.{var_count}
-use Rattle.asp_choice.specs.Waiting.{AreAssigned}
-use Rattle.asp_follow.specs.Following.{IsQuiet}
-use Rattle.asp_step.specs.Searching.{Searching, values_now}
-use Rattle.asp_step.specs.Steps.{Decides, IsDue, IsStep, IsFailure}
-use Rattle.asp_step.proofs.StepLaws.{Continues, steps_on, fails_on}
-use Rattle.asp_track.specs.Tracking.{Tracked, values_of}
+use Rattle.asp_order.specs.Waiting.{AreAssigned}
+use Rattle.asp_propagate.specs.Propagating.{IsQuiet}
+use Rattle.asp_search_laws.specs.Searching.{Searching, values_now}
+use Rattle.asp_search_laws.specs.Steps.{Decides, IsDue, IsStep, IsFailure}
+use Rattle.asp_search_laws.proofs.StepLaws.{Continues, steps_on, fails_on}
+use Rattle.asp_state.specs.SearchStates.{SearchView, values_of}
 use Rattle.asp_search.specs.Invariants.{view_of}
 use Rattle.asp_search.specs.Stepping.{IsEntered}
 use Rattle.asp_search.proofs.SearchLaws.{search_stays}
@@ -34,22 +34,22 @@ returns-in_err-decide-clause-err g c =
     let s = c.args.self.now in
     let f = c.args.fuel.now in
     let new : Searching = view_of i.mode c.decide.new.self i.pace i.known.items i.last in
-    let same : new ≡ s = ap (λ (x : Tracked). view_of i.mode x i.pace i.known.items i.last) c.in_err-decide.ensures.err ∙ c.self.view_is in
+    let same : new ≡ s = ap (λ (x : SearchView). view_of i.mode x i.pace i.known.items i.last) c.in_err-decide.ensures.err ∙ c.self.view_is in
     always_err c.from_residual.result (IsFailure (g.P.Propagator.gives s.program s.bound) s new f f) (fails_still (g.P.Propagator.gives s.program s.bound) s new f same)
 
 pub invariant_of-self-in-Some : goal.invariant_of-self-in-Some
 invariant_of-self-in-Some g c =
     let i = c.self.inside in
     let e = c.in_ok-decide.ensures.same in
-    search_stays i.compiled.now i.mode i.track c.decide.new.self i.learner i.known.items i.bars.items i.bound i.last (ap (λ (x : Tracked). x.program) e)
-    (ap (λ (x : Tracked). x.bound) e) (ap (λ (x : Tracked). x.slots) e) c.self.invariant
+    search_stays i.compiled.now i.mode i.state c.decide.new.self i.learner i.known.items i.bars.items i.bound i.last (ap (λ (x : SearchView). x.program) e)
+    (ap (λ (x : SearchView). x.bound) e) (ap (λ (x : SearchView). x.slots) e) c.self.invariant
 
 pub invariant_of-self-in-None : goal.invariant_of-self-in-None
 invariant_of-self-in-None g c =
     let i = c.self.inside in
     let e = c.in_ok-decide.ensures.same in
-    search_stays i.compiled.now i.mode i.track c.decide.new.self i.learner i.known.items i.bars.items i.bound i.last (ap (λ (x : Tracked). x.program) e)
-    (ap (λ (x : Tracked). x.bound) e) (ap (λ (x : Tracked). x.slots) e) c.self.invariant
+    search_stays i.compiled.now i.mode i.state c.decide.new.self i.learner i.known.items i.bars.items i.bound i.last (ap (λ (x : SearchView). x.program) e)
+    (ap (λ (x : SearchView). x.bound) e) (ap (λ (x : SearchView). x.slots) e) c.self.invariant
 
 pub returns-in-Some-clause-ok : goal.returns-in-Some-clause-ok
 returns-in-Some-clause-ok g c = λ q e.
@@ -60,9 +60,9 @@ returns-in-Some-clause-ok g c = λ q e.
     let d = c.in_ok-decide.ensures in
     let new : Searching = view_of i.mode u i.pace i.known.items i.last in
     let last : i.last ≡ None = ap (λ (x : Searching). x.last) c.self.view_is ∙ c.requires.entered.1.last in
-    let quiet : IsQuiet (g.P.Propagator.silent i.track.program i.track.bound) i.track.slots (values_of i.track) =
+    let quiet : IsQuiet (g.P.Propagator.silent i.state.program i.state.bound) i.state.slots (values_of i.state) =
     subst (λ (x : Searching). IsQuiet (g.P.Propagator.silent x.program x.bound) x.slots (values_now x)) (sym c.self.view_is) c.requires.quiet in
-    let decides = decides_now (g.P.Propagator.gives i.track.program i.track.bound) (g.P.Propagator.silent i.track.program i.track.bound) i.mode i.track u i.pace i.known.items i.last f
+    let decides = decides_now (g.P.Propagator.gives i.state.program i.state.bound) (g.P.Propagator.silent i.state.program i.state.bound) i.mode i.state u i.pace i.known.items i.last f
     c.in_ok-decide.field-0 c.in-Some.field-0 c.in-Some.is last quiet d.same d.next d.entries d.decisions in
     subst (λ (z : Searching). Decides (g.P.Propagator.gives z.program z.bound) (g.P.Propagator.silent z.program z.bound) z new f f) c.self.view_is decides
 
@@ -74,12 +74,12 @@ returns-in-None-clause-ok g c =
     let u = c.decide.new.self in
     let d = c.in_ok-decide.ensures in
     let m : Searching = view_of i.mode u i.pace i.known.items i.last in
-    let none : AreAssigned (var_count i.track.program) (values_of i.track) × (u.entries ≡ i.track.entries) × (u.decisions ≡ i.track.decisions) =
-    subst (λ (x : Option Literal). IfNone x (AreAssigned (var_count i.track.program) (values_of i.track) × (u.entries ≡ i.track.entries) × (u.decisions ≡ i.track.decisions))) c.in-None.is d.none in
+    let none : AreAssigned (var_count i.state.program) (values_of i.state) × (u.entries ≡ i.state.entries) × (u.decisions ≡ i.state.decisions) =
+    subst (λ (x : Option Literal). IfNone x (AreAssigned (var_count i.state.program) (values_of i.state) × (u.entries ≡ i.state.entries) × (u.decisions ≡ i.state.decisions))) c.in-None.is d.none in
     let on : Continues (g.P.Propagator.gives s.program s.bound) s m =
     subst (λ (z : Searching). Continues (g.P.Propagator.gives z.program z.bound) z m) c.self.view_is
-    (continues_ranked (g.P.Propagator.gives i.track.program i.track.bound) i.mode i.track i.pace i.known.items i.last u (record i.track.ranking { members = u.ranking.members })
-    (decided_none i.track u (record i.track.ranking { members = u.ranking.members }) d.same none.1 none.2)) in
+    (continues_ranked (g.P.Propagator.gives i.state.program i.state.bound) i.mode i.state i.pace i.known.items i.last u (record i.state.ranking { members = u.ranking.members })
+    (decided_none i.state u (record i.state.ranking { members = u.ranking.members }) d.same none.1 none.2)) in
     IfOk-weaker c.complete.result
     (IsStep (g.P.Propagator.gives m.program m.bound) (g.P.Propagator.silent m.program m.bound) m c.complete.new.self f c.complete.new.fuel)
     (IsStep (g.P.Propagator.gives s.program s.bound) (g.P.Propagator.silent s.program s.bound) s c.complete.new.self f c.complete.new.fuel)
@@ -93,10 +93,10 @@ returns-in-None-clause-err g c =
     let u = c.decide.new.self in
     let d = c.in_ok-decide.ensures in
     let m : Searching = view_of i.mode u i.pace i.known.items i.last in
-    let none : AreAssigned (var_count i.track.program) (values_of i.track) × (u.entries ≡ i.track.entries) × (u.decisions ≡ i.track.decisions) =
-    subst (λ (x : Option Literal). IfNone x (AreAssigned (var_count i.track.program) (values_of i.track) × (u.entries ≡ i.track.entries) × (u.decisions ≡ i.track.decisions))) c.in-None.is d.none in
+    let none : AreAssigned (var_count i.state.program) (values_of i.state) × (u.entries ≡ i.state.entries) × (u.decisions ≡ i.state.decisions) =
+    subst (λ (x : Option Literal). IfNone x (AreAssigned (var_count i.state.program) (values_of i.state) × (u.entries ≡ i.state.entries) × (u.decisions ≡ i.state.decisions))) c.in-None.is d.none in
     let on : Continues (g.P.Propagator.gives s.program s.bound) s m =
     subst (λ (z : Searching). Continues (g.P.Propagator.gives z.program z.bound) z m) c.self.view_is
-    (continues_ranked (g.P.Propagator.gives i.track.program i.track.bound) i.mode i.track i.pace i.known.items i.last u (record i.track.ranking { members = u.ranking.members })
-    (decided_none i.track u (record i.track.ranking { members = u.ranking.members }) d.same none.1 none.2)) in
+    (continues_ranked (g.P.Propagator.gives i.state.program i.state.bound) i.mode i.state i.pace i.known.items i.last u (record i.state.ranking { members = u.ranking.members })
+    (decided_none i.state u (record i.state.ranking { members = u.ranking.members }) d.same none.1 none.2)) in
     on_err_weaker c.complete.result (fails_on g.P.Propagator.gives g.P.Propagator.silent s m c.complete.new.self f c.complete.new.fuel on) c.complete.ensures.err

@@ -1,6 +1,6 @@
 use Rattle.std.proofs.Common.{None, ap, ◌∙◌, refl}
-use Rattle.asp_step.specs.Searching.{Searching}
-use Rattle.asp_track.specs.Tracking.{Tracked}
+use Rattle.asp_search_laws.specs.Searching.{Searching}
+use Rattle.asp_state.specs.SearchStates.{SearchView}
 use Rattle.asp_search.proofs.SearchLaws.{search_same}
 use Rattle.asp_search.proofs.BesideLaws.{left_from}
 use Rattle.asp_search.proofs.search.Search.leave.Goals as goal
@@ -8,11 +8,11 @@ use Rattle.asp_search.proofs.search.Search.leave.Goals as goal
 pub invariant_of-self : goal.invariant_of-self
 invariant_of-self g c =
     let i = c.self.inside in
-    let u : Tracked = c.leave.new.self in
-    search_same i.compiled.now i.mode i.track u i.learner i.known.items i.bars.items i.bound i.last None (ap (λ (x : Tracked). x.program) c.leave.ensures.same)
-    (ap (λ (x : Tracked). x.bound) c.leave.ensures.same) (ap (λ (x : Tracked). x.slots) c.leave.ensures.same) tt c.self.invariant
+    let u : SearchView = c.leave.new.self in
+    search_same i.compiled.now i.mode i.state u i.learner i.known.items i.bars.items i.bound i.last None (ap (λ (x : SearchView). x.program) c.leave.ensures.same)
+    (ap (λ (x : SearchView). x.bound) c.leave.ensures.same) (ap (λ (x : SearchView). x.slots) c.leave.ensures.same) tt c.self.invariant
 
 pub returns : goal.returns
 returns g c =
     let i = c.self.inside in
-    left_from i.mode i.track c.leave.new.self i.pace i.known.items i.last c.args.self.now c.self.view_is c.leave.ensures.same
+    left_from i.mode i.state c.leave.new.self i.pace i.known.items i.last c.args.self.now c.self.view_is c.leave.ensures.same

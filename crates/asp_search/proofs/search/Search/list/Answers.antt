@@ -2,8 +2,8 @@ use Rattle.std.proofs.Common.{◌≡◌, ◌∷◌, ◌++◌, List, None, sym, a
 use Rattle.asp_model.specs.Sets.{Atoms}
 use Rattle.asp_model.specs.declared.results.Mode.TheVariants as mode
 use Rattle.asp_vars.specs.Literals.{Literal}
-use Rattle.asp_step.specs.Searching.{Searching}
-use Rattle.asp_step.specs.Steps.{Answers}
+use Rattle.asp_search_laws.specs.Searching.{Searching}
+use Rattle.asp_search_laws.specs.Steps.{Answers}
 use Rattle.asp_search.specs.Invariants.{view_of}
 use Rattle.asp_search.specs.Stepping.{IsEntered, IsFound}
 use Rattle.asp_search.proofs.SearchLaws.{search_listed}
@@ -19,7 +19,7 @@ invariant_of-self-2 g c =
     let enum : i.mode ≡ mode.Enum = ap (λ (s : Searching). s.mode) c.self.view_is ∙ c.requires.mode in
     let more : c.push_reserved.new.self.items ≡ i.known.items ++ c.args.interp.now ∷ [] =
     c.push_reserved.ensures.items ∙ (ap (λ (xs : List Atoms). xs ++ c.in_ok-copy.copy ∷ []) c.reserve.ensures.items ∙ ap (λ (x : Atoms). i.known.items ++ x ∷ []) c.in_ok-copy.ensures) in
-    search_listed i.compiled.now i.mode i.track c.block.new.track i.learner i.known.items c.push_reserved.new.self.items i.bars.items c.block.new.bars.items i.bound i.last q c.args.interp.now
+    search_listed i.compiled.now i.mode i.state c.block.new.state i.learner i.known.items c.push_reserved.new.self.items i.bars.items c.block.new.bars.items i.bound i.last q c.args.interp.now
     enum entered.last more found.settled found.hit (c.in_ok-block.ensures.ok q entered.cube) c.self.invariant
 
 pub returns-clause-ok : goal.returns-clause-ok
@@ -31,8 +31,8 @@ returns-clause-ok g c = λ r f e.
     let enum : i.mode ≡ mode.Enum = ap (λ (s : Searching). s.mode) c.self.view_is ∙ c.requires.mode in
     let more : c.push_reserved.new.self.items ≡ i.known.items ++ c.args.interp.now ∷ [] =
     c.push_reserved.ensures.items ∙ (ap (λ (xs : List Atoms). xs ++ c.in_ok-copy.copy ∷ []) c.reserve.ensures.items ∙ ap (λ (x : Atoms). i.known.items ++ x ∷ []) c.in_ok-copy.ensures) in
-    let new : Searching = view_of i.mode c.block.new.track i.pace c.push_reserved.new.self.items i.last in
-    let first = listed (g.P.Propagator.gives i.track.program i.track.bound) i.mode i.track c.block.new.track i.pace i.known.items c.push_reserved.new.self.items i.last q c.args.interp.now f
+    let new : Searching = view_of i.mode c.block.new.state i.pace c.push_reserved.new.self.items i.last in
+    let first = listed (g.P.Propagator.gives i.state.program i.state.bound) i.mode i.state c.block.new.state i.pace i.known.items c.push_reserved.new.self.items i.last q c.args.interp.now f
     c.block.new.bars.items enum entered.last found more (c.in_ok-block.ensures.ok q entered.cube) in
     subst (λ (x : List Literal). Answers (g.P.Propagator.gives c.args.self.now.program c.args.self.now.bound) c.args.self.now new x f f c.args.interp.now)
     (same_cube c.args.self.now.cube q r c.requires.found.1.cube e)

@@ -5,9 +5,9 @@ use Rattle.asp_vars.specs.Numbering.{var_count}
 use Rattle.asp_store.specs.Walking.{IsViolated}
 use Rattle.asp_analyze.specs.declared.learn.Learned.{Learned}
 use Rattle.asp_analyze.specs.declared.learn.Learned.TheVariants as learned
-use Rattle.asp_step.specs.Explaining.{Explains}
-use Rattle.asp_step.specs.Searching.{Searching}
-use Rattle.asp_step.specs.Steps.{Closes, IsFailure}
+use Rattle.asp_search_laws.specs.Explaining.{Explains}
+use Rattle.asp_search_laws.specs.Searching.{Searching}
+use Rattle.asp_search_laws.specs.Steps.{Closes, IsFailure}
 use Rattle.asp_search.specs.Invariants.{view_of}
 use Rattle.asp_search.specs.Stepping.{IsEntered}
 use Rattle.asp_search.proofs.MeetLaws.{met_of}
@@ -26,15 +26,15 @@ pay-requires-clause-met g c =
     let q = c.requires.entered.0 in
     let e = subst (λ (s : Searching). IsEntered s q) (sym c.self.view_is) c.requires.entered.1 in
     let l : Learned = learned.Jump c.in-Jump.nogood c.in-Jump.level c.in-Jump.lit in
-    let x = subst (λ (y : Learned). Explains (var_count i.track.program) i.track.slots i.track.entries c.args.id y) c.in-Jump.is c.in_ok-learn.ensures.explains in
-    (q, met_of i.mode i.track i.pace i.known.items i.last q c.args.id l e c.trail-trail.ensures.ordered c.trail-trail.ensures.begun c.store-store.ensures.reasons c.self.invariant.useful x)
+    let x = subst (λ (y : Learned). Explains (var_count i.state.program) i.state.slots i.state.entries c.args.id y) c.in-Jump.is c.in_ok-learn.ensures.explains in
+    (q, met_of i.mode i.state i.pace i.known.items i.last q c.args.id l e c.trail-trail.ensures.ordered c.trail-trail.ensures.begun c.store-store.ensures.reasons c.self.invariant.useful x)
 
 pub returns-in_err-learn-clause-err : goal.returns-in_err-learn-clause-err
 returns-in_err-learn-clause-err g c =
     let i = c.self.inside in
     let s = c.args.self.now in
     let G = g.P.Propagator.gives s.program s.bound in
-    let new : Searching = view_of i.mode i.track i.pace i.known.items i.last in
+    let new : Searching = view_of i.mode i.state i.pace i.known.items i.last in
     always_err c.from_residual.result (IsFailure G s new c.args.fuel.now c.args.fuel.now) (fails_still G s new c.args.fuel.now c.self.view_is)
 
 pub returns-in-InCube-clause-ok : goal.returns-in-InCube-clause-ok
@@ -45,11 +45,11 @@ returns-in-InCube-clause-ok g c = λ r h.
     let f = c.args.fuel.now in
     let e = subst (λ (s : Searching). IsEntered s q) (sym c.self.view_is) c.requires.entered.1 in
     let n = c.in-InCube.field-0 in
-    let x = subst (λ (y : Learned). Explains (var_count i.track.program) i.track.slots i.track.entries c.args.id y) c.in-InCube.is c.in_ok-learn.ensures.explains in
-    let m = met_of i.mode i.track i.pace i.known.items i.last q c.args.id (learned.InCube n) e c.trail-trail.ensures.ordered c.trail-trail.ensures.begun c.store-store.ensures.reasons
+    let x = subst (λ (y : Learned). Explains (var_count i.state.program) i.state.slots i.state.entries c.args.id y) c.in-InCube.is c.in_ok-learn.ensures.explains in
+    let m = met_of i.mode i.state i.pace i.known.items i.last q c.args.id (learned.InCube n) e c.trail-trail.ensures.ordered c.trail-trail.ensures.begun c.store-store.ensures.reasons
     c.self.invariant.useful x in
-    let new : Searching = view_of i.mode i.track i.pace i.known.items i.last in
-    let closes = met_closes (g.P.Propagator.gives i.track.program i.track.bound) i.mode i.track i.pace i.known.items i.last q f c.args.id n m in
+    let new : Searching = view_of i.mode i.state i.pace i.known.items i.last in
+    let closes = met_closes (g.P.Propagator.gives i.state.program i.state.bound) i.mode i.state i.pace i.known.items i.last q f c.args.id n m in
     subst (λ (y : List Literal). Closes (g.P.Propagator.gives s.program s.bound) s new y f f) (same_cube s.cube q r c.requires.entered.1.cube h)
     (subst (λ (z : Searching). Closes (g.P.Propagator.gives z.program z.bound) z new q f f) c.self.view_is closes)
 

@@ -3,8 +3,8 @@ use Rattle.std.specs.Prelude.{ℕ, ℤ}
 use Rattle.asp_model.specs.Sets.{Atoms}
 use Rattle.asp_vars.specs.Completion.{completion}
 use Rattle.asp_vars.specs.Numbering.{var_count}
-use Rattle.asp_choice.specs.Waiting.{fresh}
-use Rattle.asp_track.specs.Tracking.{Tracked, forever}
+use Rattle.asp_order.specs.Waiting.{fresh}
+use Rattle.asp_state.specs.SearchStates.{SearchView, forever}
 use Rattle.asp_search.specs.Beside.{new_search}
 use Rattle.asp_search.specs.Invariants.{IsSearch, view_of}
 use Rattle.asp_search.proofs.BesideLaws.{search_begins, search_is_new}
@@ -13,16 +13,16 @@ use Rattle.asp_search.proofs.search.Search.new.Goals as goal
 pub invariant_of-result : goal.invariant_of-result
 invariant_of-result g c =
     let p = c.args.compiled.now in
-    let t : Option (List ℤ) → Tracked = λ b. record { program = p; bound = b; cube = None; clashing = false; decisions = []; entries = []; slots = map forever (completion p); ranking = fresh (var_count p) } in
-    let first : IsSearch p c.args.mode c.in_ok-track.track c.in_ok-learner.learner [] [] None None =
-    search_begins p c.args.mode c.in_ok-track.track c.in_ok-learner.learner c.program-program.ensures.sound (c.in_ok-learner.ensures ∙ c.vars-vars.ensures.count)
-    (c.in_ok-track.ensures ∙ ap t c.requires.unbounded) in
-    subst (λ (ks : List Atoms). IsSearch p c.args.mode c.in_ok-track.track c.in_ok-learner.learner ks c.new-5.result.items None None) (sym c.new-4.ensures.items)
-    (subst (λ (bars : List ℕ). IsSearch p c.args.mode c.in_ok-track.track c.in_ok-learner.learner [] bars None None) (sym c.new-5.ensures.items) first)
+    let t : Option (List ℤ) → SearchView = λ b. record { program = p; bound = b; cube = None; clashing = false; decisions = []; entries = []; slots = map forever (completion p); ranking = fresh (var_count p) } in
+    let first : IsSearch p c.args.mode c.in_ok-state.state c.in_ok-learner.learner [] [] None None =
+    search_begins p c.args.mode c.in_ok-state.state c.in_ok-learner.learner c.program-program.ensures.sound (c.in_ok-learner.ensures ∙ c.vars-vars.ensures.count)
+    (c.in_ok-state.ensures ∙ ap t c.requires.unbounded) in
+    subst (λ (ks : List Atoms). IsSearch p c.args.mode c.in_ok-state.state c.in_ok-learner.learner ks c.new-5.result.items None None) (sym c.new-4.ensures.items)
+    (subst (λ (bars : List ℕ). IsSearch p c.args.mode c.in_ok-state.state c.in_ok-learner.learner [] bars None None) (sym c.new-5.ensures.items) first)
 
 pub returns : goal.returns
 returns g c =
     let p = c.args.compiled.now in
-    let t : Option (List ℤ) → Tracked = λ b. record { program = p; bound = b; cube = None; clashing = false; decisions = []; entries = []; slots = map forever (completion p); ranking = fresh (var_count p) } in
-    subst (λ (ks : List Atoms). view_of c.args.mode c.in_ok-track.track c.new-3.result ks None ≡ new_search p c.args.mode) (sym c.new-4.ensures.items)
-    (search_is_new p c.args.mode c.in_ok-track.track c.new-3.result (c.in_ok-track.ensures ∙ ap t c.requires.unbounded) c.new-3.ensures)
+    let t : Option (List ℤ) → SearchView = λ b. record { program = p; bound = b; cube = None; clashing = false; decisions = []; entries = []; slots = map forever (completion p); ranking = fresh (var_count p) } in
+    subst (λ (ks : List Atoms). view_of c.args.mode c.in_ok-state.state c.new-3.result ks None ≡ new_search p c.args.mode) (sym c.new-4.ensures.items)
+    (search_is_new p c.args.mode c.in_ok-state.state c.new-3.result (c.in_ok-state.ensures ∙ ap t c.requires.unbounded) c.new-3.ensures)

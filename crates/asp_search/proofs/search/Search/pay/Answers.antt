@@ -2,11 +2,11 @@ use Rattle.std.proofs.Common.{◌≡◌, ◌<◌, false, List, None, Some, sym, 
 use Rattle.asp_vars.specs.Literals.{Literal}
 use Rattle.asp_vars.specs.declared.nogood.Nogood.{Nogood}
 use Rattle.asp_analyze.specs.declared.learn.Learned.TheVariants as learned
-use Rattle.asp_follow.specs.Useful.{IsUseful}
-use Rattle.asp_step.specs.Searching.{Searching}
-use Rattle.asp_step.specs.Steps.{Learns, Stops, Fails, IsFailure}
+use Rattle.asp_propagate.specs.Useful.{IsUseful}
+use Rattle.asp_search_laws.specs.Searching.{Searching}
+use Rattle.asp_search_laws.specs.Steps.{Learns, Stops, Fails, IsFailure}
 use Rattle.asp_store.specs.declared.kept.Kept.{Kept}
-use Rattle.asp_track.specs.Tracking.{Tracked}
+use Rattle.asp_state.specs.SearchStates.{SearchView}
 use Rattle.asp_search.specs.Invariants.{view_of}
 use Rattle.asp_search.specs.Meeting.{IsMet, ShowsConflict, IsClashOf}
 use Rattle.asp_search.proofs.MeetLaws.{met_shows, met_useful, shown_holds, shows_for, clash_for}
@@ -19,18 +19,18 @@ conflict-requires g c =
     let i = c.self.inside in
     let q = c.requires.met.0 in
     let m = subst (λ (s : Searching). IsMet s q c.args.id (learned.Jump c.args.nogood c.args.to c.args.lit)) (sym c.self.view_is) c.requires.met.1 in
-    shows_for i.compiled.now c.as_slice.result.now i.known.items i.bound i.track c.args.id c.args.lit c.self.invariant.program c.as_slice.ensures.value c.self.invariant.bounded
-    (met_shows i.mode i.track i.pace i.known.items i.last q c.args.id c.args.nogood c.args.to c.args.lit m)
+    shows_for i.compiled.now c.as_slice.result.now i.known.items i.bound i.state c.args.id c.args.lit c.self.invariant.program c.as_slice.ensures.value c.self.invariant.bounded
+    (met_shows i.mode i.state i.pace i.known.items i.last q c.args.id c.args.nogood c.args.to c.args.lit m)
 
 pub burn-requires-clause-program : goal.burn-requires-clause-program
 burn-requires-clause-program g c =
     let i = c.self.inside in
     let q = c.requires.met.0 in
     let m = subst (λ (s : Searching). IsMet s q c.args.id (learned.Jump c.args.nogood c.args.to c.args.lit)) (sym c.self.view_is) c.requires.met.1 in
-    let shows = met_shows i.mode i.track i.pace i.known.items i.last q c.args.id c.args.nogood c.args.to c.args.lit m in
-    let clash = clash_for i.compiled.now c.as_slice.result.now i.known.items i.bound i.track c.args.id c.args.lit c.in_ok-conflict.conflict c.self.invariant.program c.as_slice.ensures.value
+    let shows = met_shows i.mode i.state i.pace i.known.items i.last q c.args.id c.args.nogood c.args.to c.args.lit m in
+    let clash = clash_for i.compiled.now c.as_slice.result.now i.known.items i.bound i.state c.args.id c.args.lit c.in_ok-conflict.conflict c.self.invariant.program c.as_slice.ensures.value
     c.self.invariant.bounded c.in_ok-conflict.ensures in
-    let is = conflict_of (g.P.Propagator.gives i.track.program i.track.bound) i.mode i.track i.pace i.known.items i.last q c.args.id c.args.lit c.in_ok-conflict.conflict m.entered shows clash in
+    let is = conflict_of (g.P.Propagator.gives i.state.program i.state.bound) i.mode i.state i.pace i.known.items i.last q c.args.id c.args.lit c.in_ok-conflict.conflict m.entered shows clash in
     is.program ∙ (ap (λ (s : Searching). s.program) c.self.view_is ∙ sym c.requires.program)
 
 pub jump-requires-clause-path : goal.jump-requires-clause-path
@@ -65,12 +65,12 @@ returns-then-left-eq0-clause-ok g c = λ r e.
     let f = c.args.fuel.now in
     let x = c.in_ok-conflict.conflict in
     let m = subst (λ (s : Searching). IsMet s q c.args.id (learned.Jump c.args.nogood c.args.to c.args.lit)) (sym c.self.view_is) c.requires.met.1 in
-    let shows = met_shows i.mode i.track i.pace i.known.items i.last q c.args.id c.args.nogood c.args.to c.args.lit m in
-    let clash = clash_for i.compiled.now c.as_slice.result.now i.known.items i.bound i.track c.args.id c.args.lit x c.self.invariant.program c.as_slice.ensures.value
+    let shows = met_shows i.mode i.state i.pace i.known.items i.last q c.args.id c.args.nogood c.args.to c.args.lit m in
+    let clash = clash_for i.compiled.now c.as_slice.result.now i.known.items i.bound i.state c.args.id c.args.lit x c.self.invariant.program c.as_slice.ensures.value
     c.self.invariant.bounded c.in_ok-conflict.ensures in
-    let stops = met_stops (g.P.Propagator.gives i.track.program i.track.bound) i.mode i.track i.pace i.known.items i.last q f c.args.id c.args.lit x m.last
+    let stops = met_stops (g.P.Propagator.gives i.state.program i.state.bound) i.mode i.state i.pace i.known.items i.last q f c.args.id c.args.lit x m.last
     (sym c.left.ensures.left ∙ c.if-left-eq0.true) m.entered shows clash
-    (shown_holds i.mode i.track i.pace i.known.items i.last q c.args.id (learned.Jump c.args.nogood c.args.to c.args.lit) m c.args.lit shows) in
+    (shown_holds i.mode i.state i.pace i.known.items i.last q c.args.id (learned.Jump c.args.nogood c.args.to c.args.lit) m c.args.lit shows) in
     subst (λ (y : List Literal). Stops (g.P.Propagator.gives s.program s.bound) s s y f f x) (same_cube s.cube q r c.requires.met.1.entered e)
     (subst (λ (z : Searching). Stops (g.P.Propagator.gives z.program z.bound) z z q f f x) c.self.view_is stops)
 
@@ -78,8 +78,8 @@ pub invariant_of-self : goal.invariant_of-self
 invariant_of-self g c =
     let i = c.self.inside in
     let e = c.in_err-new.ensures.err in
-    search_stays i.compiled.now i.mode i.track c.jump.new.track i.learner i.known.items i.bars.items i.bound i.last (ap (λ (x : Tracked). x.program) e)
-    (ap (λ (x : Tracked). x.bound) e) (ap (λ (x : Tracked). x.slots) e) c.self.invariant
+    search_stays i.compiled.now i.mode i.state c.jump.new.state i.learner i.known.items i.bars.items i.bound i.last (ap (λ (x : SearchView). x.program) e)
+    (ap (λ (x : SearchView). x.bound) e) (ap (λ (x : SearchView). x.slots) e) c.self.invariant
 
 pub returns-in_err-new-clause-err : goal.returns-in_err-new-clause-err
 returns-in_err-new-clause-err g c =
@@ -89,15 +89,15 @@ returns-in_err-new-clause-err g c =
     let f = c.args.fuel.now in
     let h = c.burn.new.self in
     let x = c.in_ok-conflict.conflict in
-    let u = c.jump.new.track in
+    let u = c.jump.new.state in
     let m = subst (λ (s : Searching). IsMet s q c.args.id (learned.Jump c.args.nogood c.args.to c.args.lit)) (sym c.self.view_is) c.requires.met.1 in
-    let shows = met_shows i.mode i.track i.pace i.known.items i.last q c.args.id c.args.nogood c.args.to c.args.lit m in
-    let clash = clash_for i.compiled.now c.as_slice.result.now i.known.items i.bound i.track c.args.id c.args.lit x c.self.invariant.program c.as_slice.ensures.value
+    let shows = met_shows i.mode i.state i.pace i.known.items i.last q c.args.id c.args.nogood c.args.to c.args.lit m in
+    let clash = clash_for i.compiled.now c.as_slice.result.now i.known.items i.bound i.state c.args.id c.args.lit x c.self.invariant.program c.as_slice.ensures.value
     c.self.invariant.bounded c.in_ok-conflict.ensures in
-    let is = conflict_of (g.P.Propagator.gives i.track.program i.track.bound) i.mode i.track i.pace i.known.items i.last q c.args.id c.args.lit x m.entered shows clash in
+    let is = conflict_of (g.P.Propagator.gives i.state.program i.state.bound) i.mode i.state i.pace i.known.items i.last q c.args.id c.args.lit x m.entered shows clash in
     let left : 0 < f.left = omega (arith, c.left.ensures.left, c.if-left-eq0.false) in
     let new : Searching = view_of i.mode u c.count.new.self i.known.items i.last in
-    let paid = fails_paid (g.P.Propagator.gives i.track.program i.track.bound) i.mode i.track i.pace i.known.items i.last q f h x u c.count.new.self u.ranking is left c.burn.ensures
+    let paid = fails_paid (g.P.Propagator.gives i.state.program i.state.bound) i.mode i.state i.pace i.known.items i.last q f h x u c.count.new.self u.ranking is left c.burn.ensures
     c.in_err-new.ensures.err in
     let fails : IsFailure (g.P.Propagator.gives s.program s.bound) s new f h = λ r e.
     subst (λ (y : List Literal). Fails (g.P.Propagator.gives s.program s.bound) s new y f h) (same_cube s.cube q r c.requires.met.1.entered e)
@@ -111,10 +111,10 @@ invariant_of-self-2 g c =
     let m = subst (λ (s : Searching). IsMet s q c.args.id (learned.Jump c.args.nogood c.args.to c.args.lit)) (sym c.self.view_is) c.requires.met.1 in
     let k : Kept = record { nogood = c.args.nogood; forever = false; locked = false } in
     let e = c.in_ok-new.ensures.ok in
-    let slots = ap (λ (x : Tracked). x.slots) e in
-    search_push i.compiled.now i.mode i.track c.jump.new.track i.learner i.known.items i.bars.items i.bound i.last (Some c.in_ok-new.new) k (ap (λ (x : Tracked). x.program) e)
-    (ap (λ (x : Tracked). x.bound) e) slots (met_useful i.mode i.track i.pace i.known.items i.last q c.args.id (learned.Jump c.args.nogood c.args.to c.args.lit) m)
-    (newest_last i.track.slots c.jump.new.track.slots k c.in_ok-new.new slots c.in_ok-new.ensures.id) c.self.invariant
+    let slots = ap (λ (x : SearchView). x.slots) e in
+    search_push i.compiled.now i.mode i.state c.jump.new.state i.learner i.known.items i.bars.items i.bound i.last (Some c.in_ok-new.new) k (ap (λ (x : SearchView). x.program) e)
+    (ap (λ (x : SearchView). x.bound) e) slots (met_useful i.mode i.state i.pace i.known.items i.last q c.args.id (learned.Jump c.args.nogood c.args.to c.args.lit) m)
+    (newest_last i.state.slots c.jump.new.state.slots k c.in_ok-new.new slots c.in_ok-new.ensures.id) c.self.invariant
 
 pub returns-clause-ok : goal.returns-clause-ok
 returns-clause-ok g c = λ r e.
@@ -124,15 +124,15 @@ returns-clause-ok g c = λ r e.
     let f = c.args.fuel.now in
     let h = c.burn.new.self in
     let x = c.in_ok-conflict.conflict in
-    let u = c.jump.new.track in
+    let u = c.jump.new.state in
     let m = subst (λ (s : Searching). IsMet s q c.args.id (learned.Jump c.args.nogood c.args.to c.args.lit)) (sym c.self.view_is) c.requires.met.1 in
-    let shows = met_shows i.mode i.track i.pace i.known.items i.last q c.args.id c.args.nogood c.args.to c.args.lit m in
-    let clash = clash_for i.compiled.now c.as_slice.result.now i.known.items i.bound i.track c.args.id c.args.lit x c.self.invariant.program c.as_slice.ensures.value
+    let shows = met_shows i.mode i.state i.pace i.known.items i.last q c.args.id c.args.nogood c.args.to c.args.lit m in
+    let clash = clash_for i.compiled.now c.as_slice.result.now i.known.items i.bound i.state c.args.id c.args.lit x c.self.invariant.program c.as_slice.ensures.value
     c.self.invariant.bounded c.in_ok-conflict.ensures in
-    let is = conflict_of (g.P.Propagator.gives i.track.program i.track.bound) i.mode i.track i.pace i.known.items i.last q c.args.id c.args.lit x m.entered shows clash in
+    let is = conflict_of (g.P.Propagator.gives i.state.program i.state.bound) i.mode i.state i.pace i.known.items i.last q c.args.id c.args.lit x m.entered shows clash in
     let left : 0 < f.left = omega (arith, c.left.ensures.left, c.if-left-eq0.false) in
     let new : Searching = view_of i.mode u c.count.new.self i.known.items (Some c.in_ok-new.new) in
-    let learns = met_learns (g.P.Propagator.gives i.track.program i.track.bound) i.mode i.track i.pace i.known.items i.last q f h x u c.count.new.self u.ranking c.args.id c.in_ok-new.new
+    let learns = met_learns (g.P.Propagator.gives i.state.program i.state.bound) i.mode i.state i.pace i.known.items i.last q f h x u c.count.new.self u.ranking c.args.id c.in_ok-new.new
     c.args.to c.args.nogood c.args.lit m is left c.burn.ensures c.in_ok-new.ensures.id c.in_ok-new.ensures.ok c.count.ensures in
     subst (λ (y : List Literal). Learns (g.P.Propagator.gives s.program s.bound) s new y f h) (same_cube s.cube q r c.requires.met.1.entered e)
     (subst (λ (z : Searching). Learns (g.P.Propagator.gives z.program z.bound) z new q f h) c.self.view_is learns)

@@ -1,5 +1,5 @@
 use Rattle.std.proofs.Common.{◌≡◌, Some, ap, ◌∙◌, subst}
-use Rattle.asp_step.specs.Searching.{Searching}
+use Rattle.asp_search_laws.specs.Searching.{Searching}
 use Rattle.asp_search.proofs.BesideLaws.{fails_left}
 use Rattle.asp_search.proofs.search.Search.step.Goals as goal
 

@@ -1,2 +1,0 @@
-pub mod WaitingLaws
-pub mod HeapLaws

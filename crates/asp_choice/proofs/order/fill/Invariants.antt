@@ -1,7 +1,0 @@
-use Rattle.std.proofs.Common.{◌≡◌, ◌-◌}
-use Rattle.asp_choice.specs.Waiting.{fresh}
-use Rattle.asp_choice.proofs.HeapLaws.{filled}
-use Rattle.asp_choice.proofs.order.fill.Given as goal
-
-abbrev pub invariant-loop-i : goal.invariant-loop-i
-invariant-loop-i l = l.heap ≡ record (fresh l.vars) { members = filled l.i (l.vars - l.i) }

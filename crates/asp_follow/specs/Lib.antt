@@ -1,4 +1,0 @@
-pub mod Useful
-pub mod Whole
-pub mod Following
-pub mod Locking

@@ -1,0 +1,164 @@
+//! Which variable is decided next.
+//!
+//! Each variable without a value is in the heap. One that gets a value stays there until it comes first and is
+//! skipped, so nothing is done when a literal comes to hold. Before literals are taken back, their variables are put
+//! into the heap again.
+ghost use Rattle.std.specs.Prelude.{◌≡◌, ◌+◌, ◌<◌, ◌↔◌, ◌++◌, ◌∷◌, [], ℕ, All, length, slice_set, slice_index_or, false, IsTrue, IfOk, IfSome, IfNone};
+ghost use Rattle.asp_trail.specs.declared.trail.Entry.{Entry};
+ghost use Rattle.asp_trail.specs.Entries.{assignment, cut};
+ghost use Rattle.asp_trail.specs.Trails.{IsVar, IsOrdered};
+ghost use Rattle.asp_order.specs.Heaps.{is_in, IsFirst, reserved};
+ghost use Rattle.asp_order.specs.Waiting.{HasVars, AreWaiting, AreAssigned, IsNext, IsFuller, fresh, all_bumped, learnt};
+
+use crate::heap::Heap;
+use asp_trail::trail::Trail;
+use asp_vars::lit::{Lit, Var};
+use std::alloc::{AllocError, Global};
+use std::marker::Model;
+
+/// The variables by activity, among them all that have no value.
+#[derive(Drop)]
+pub struct Order {
+    heap: Heap,
+}
+
+impl Model for Order {
+    ghost use Rattle.asp_order.specs.Heaps.{Ranking};
+    ghost use Rattle.asp_order.specs.Waiting.{IsOrder};
+
+    ghost Value = { Ranking };
+
+    ghost view = { λ o. o.heap };
+
+    ghost invariant = { λ o. IsOrder o.heap };
+}
+
+// Puts the variables 1 to `vars` into the heap.
+fn fill(heap: &mut Heap, vars: Var)
+    requires { heap.old ≡ reserved (record { activities = []; members = []; increment = 1024 }) vars }
+    ensures { heap.new ≡ fresh vars }
+{
+    for i in 0..vars {
+        heap.push(i + 1);
+    }
+}
+
+// Bumps the variables in turn.
+fn bump_all(heap: &mut Heap, lits: &[Lit])
+    requires { All (λ l. l.var < length heap.old.activities) lits.now }
+    ensures { heap.new ≡ all_bumped heap.old lits.now }
+{
+    for lit in lits {
+        heap.bump(lit.var());
+    }
+}
+
+// Bumps the variables in turn, and lets later bumps count for more.
+fn bump_and_decay(heap: &mut Heap, lits: &[Lit])
+    requires { All (λ l. l.var < length heap.old.activities) lits.now }
+    ensures { heap.new ≡ learnt heap.old lits.now }
+{
+    bump_all(heap, lits);
+    heap.decay();
+}
+
+// Whether the entry is above the level.
+fn is_above(trail: &Trail, i: usize, level: usize) -> bool
+    requires ordered { IsOrdered trail.now.vars trail.now.entries }
+    requires within { i < length trail.now.entries }
+    ensures { (d : Entry) → IsTrue result ↔ (level < (slice_index_or trail.now.entries i d).level) }
+{
+    trail.level_of(trail.lit(i).var()) > level
+}
+
+impl Order {
+    /// All variables, with the activity 0.
+    pub fn new(alloc: Global, vars: Var) -> Result<Order, AllocError>
+        ensures fresh { IfOk result (λ order. order ≡ fresh vars) }
+        ensures vars { IfOk result (HasVars vars) }
+        ensures all { IfOk result (λ order. (v : ℕ) → IsVar vars v → IsTrue (is_in order.members v)) }
+    {
+        let mut heap = Heap::new(alloc);
+        heap.reserve(vars as usize)?;
+        fill(&mut heap, vars);
+        Ok(Order { heap })
+    }
+
+    // Takes the first variable out of the heap.
+    fn pop(&mut self) -> Option<Var>
+        ensures var { IfSome result (λ v. (0 < v) × (v < length self.old.activities)) }
+        ensures first { IfSome result (IsFirst self.old) }
+        ensures some { IfSome result (λ v. self.new ≡ record self.old { members = slice_set self.old.members v false }) }
+        ensures none { IfNone result (self.new ≡ self.old) }
+        ensures empty { IfNone result (All (λ m. m ≡ false) self.old.members) }
+    {
+        self.heap.pop()
+    }
+
+    /// The first variable that has no value. The caller gives it one: it is out of the heap now.
+    pub fn next(&mut self, trail: &Trail) -> Option<Var>
+        requires vars { HasVars trail.now.vars self.old }
+        requires waiting { AreWaiting trail.now.vars trail.now.entries self.old }
+        ensures next { IfSome result (IsNext trail.now.vars (assignment trail.now.vars trail.now.entries) self.old.activities) }
+        ensures room { IfSome result (λ _. length trail.now.entries < trail.now.vars) }
+        ensures none { IfNone result (AreAssigned trail.now.vars (assignment trail.now.vars trail.now.entries)) }
+        ensures same { self.new ≡ record self.old { members = self.new.members } }
+        ensures waiting { IfSome result (λ v. (e : Entry) → e.lit.var ≡ v → AreWaiting trail.now.vars (trail.now.entries ++ e ∷ []) self.new) }
+    {
+        while let Some(var) = self.pop() {
+            if trail.value(var).is_none() {
+                return Some(var);
+            }
+        }
+        None
+    }
+
+    // The variable is in the heap from now on.
+    fn restore(&mut self, var: Var)
+        requires some { 0 < var }
+        requires known { var < length self.old.activities }
+        ensures fuller { IsFuller self.old self.new }
+        ensures has { IsTrue (is_in self.new.members var) }
+    {
+        if !self.heap.has(var) {
+            self.heap.push(var);
+        }
+    }
+
+    /// The variables of the entries above this level are to have no value.
+    pub fn restore_above(&mut self, trail: &Trail, level: usize)
+        requires vars { HasVars trail.now.vars self.old }
+        ensures fuller { IsFuller self.old self.new }
+        ensures above { All (λ e. level < e.level → IsTrue (is_in self.new.members e.lit.var)) trail.now.entries }
+        ensures waiting { AreWaiting trail.now.vars trail.now.entries self.old → AreWaiting trail.now.vars (cut level trail.now.entries) self.new }
+    {
+        for i in (0..trail.len()).rev() {
+            if !is_above(trail, i, level) {
+                return;
+            }
+            self.restore(trail.lit(i).var());
+        }
+    }
+
+    /// No variable is to have a value.
+    pub fn restore_all(&mut self, trail: &Trail)
+        requires vars { HasVars trail.now.vars self.old }
+        ensures fuller { IsFuller self.old self.new }
+        ensures above { All (λ e. IsTrue (is_in self.new.members e.lit.var)) trail.now.entries }
+        ensures all { AreWaiting trail.now.vars trail.now.entries self.old → (v : ℕ) → IsVar trail.now.vars v → IsTrue (is_in self.new.members v) }
+    {
+        for i in 0..trail.len() {
+            self.restore(trail.lit(i).var());
+        }
+    }
+
+    /// Raises the activity of a learnt nogood's variables.
+    pub fn bump(&mut self, lits: &[Lit])
+        requires { All (λ l. l.var < length self.old.activities) lits.now }
+        ensures learnt { self.new ≡ learnt self.old lits.now }
+        ensures members { self.new.members ≡ self.old.members }
+        ensures vars { length self.new.activities ≡ length self.old.activities }
+    {
+        bump_and_decay(&mut self.heap, lits);
+    }
+}

@@ -1,0 +1,193 @@
+-- What follows a trail does so still, through each change.
+use Rattle.std.proofs.Common.{◌≡◌, ℕ, zero, suc, set, ◌-◌, ◌<◌, ◌≤◌, Bool, false, List, [], ◌∷◌, ◌++◌, length, get_or, Option, Some, None, inl, inr, refl, sym, ap, ◌∙◌, subst, arith, min}
+use Rattle.std.specs.Prelude.{ℤ}
+use Rattle.std.specs.List.{AllPairs}
+use Rattle.std.specs.Option.{option_map}
+use Rattle.std.proofs.lemmas.List.{append-nil, length-append}
+use Rattle.std.proofs.lemmas.Bool.{false≢true}
+use Rattle.asp_vars.specs.declared.nogood.Nogood.{Nogood}
+use Rattle.asp_trail.specs.declared.trail.Entry.{Entry}
+use Rattle.asp_trail.specs.Entries.{assignment, cut}
+use Rattle.asp_trail.specs.Trails.{Trailed, IsOrdered}
+use Rattle.asp_trail.specs.Told.{Told}
+use Rattle.asp_trail.specs.Quiet.{is_calm}
+use Rattle.asp_trail.specs.Reasons.{IsReason}
+use Rattle.asp_store.specs.declared.kept.Kept.{Kept}
+use Rattle.asp_store.specs.Keeping.{nogood_at}
+use Rattle.asp_store.specs.Storing.{Stored, Fits, added, removed, Recalls, AreActive}
+use Rattle.asp_store.proofs.FitsLaws.{fits_open, fits_imply, fits_cut, fits_clear, fits_add, fits_recall, fits_remove}
+use Rattle.asp_store.proofs.WalkLaws.{kept_within}
+use Rattle.asp_store.specs.Visiting.{Extends}
+use Rattle.asp_store.specs.Walking.{IsViolated}
+use Rattle.asp_propagate.specs.Propagating.{WasTold, IsFollowed, IsUnnamed, IsReduced, AreUnlocked, AreCalm, Implies, GoesOn}
+use Rattle.asp_propagate.specs.Locking.{HaveSlots}
+use Rattle.asp_propagate.proofs.TellLaws.{told_extends, told_cut, told_none}
+use Rattle.asp_propagate.proofs.AddLaws.{unlocked_push, adds_none, adds_one, implies_none, implies_from}
+
+none_some : {A : Type 0} (x : A) → None ≡ Some x → ⊥
+none_some x q = cc
+
+pub followed_open : (t : Told) (s : Stored) (r : Trailed) (n : ℕ) (e : Entry) → r.seen ≤ length r.entries → e.reason ≡ None → IsFollowed t s r n →
+    IsFollowed t s (record r { entries = r.entries ++ e ∷ [] }) n
+followed_open t s r n e le none f = record {
+  told = told_extends t r (record r { entries = r.entries ++ e ∷ [] }) n (e ∷ []) refl refl f.told;
+  room = f.room;
+  fits = fits_open s r e le none f.fits;
+  unlocked = f.unlocked;
+}
+
+pub followed_imply : (t : Told) (s : Stored) (r : Trailed) (n : ℕ) (e : Entry) (id : ℕ) (m : Nogood) → r.seen ≤ length r.entries → e.reason ≡ Some id →
+    nogood_at s.slots id ≡ Some m → IsReason (r.entries ++ e ∷ []) (length r.entries) e.lit m.lits → IsFollowed t s r n →
+    IsFollowed t s (record r { entries = r.entries ++ e ∷ [] }) n
+followed_imply t s r n e id m le some g q f = record {
+  told = told_extends t r (record r { entries = r.entries ++ e ∷ [] }) n (e ∷ []) refl refl f.told;
+  room = f.room;
+  fits = fits_imply s r e id m le some g q f.fits;
+  unlocked = f.unlocked;
+}
+
+pub followed_added : (t : Told) (s : Stored) (r : Trailed) (n : ℕ) (m : Nogood) (forever : Bool) → IsOrdered r.vars r.entries → r.seen ≤ length r.entries →
+    IsFollowed t s r n → IsFollowed t (added s m forever) r n
+followed_added t s r n m forever o le f = record {
+  told = f.told;
+  room = f.room;
+  fits = fits_add s r m forever o le f.fits;
+  unlocked = unlocked_push s.slots (record { nogood = m; forever = forever; locked = false }) f.unlocked refl;
+}
+
+pub followed_cut : (t u : Told) (s : Stored) (r : Trailed) (n m l : ℕ) → AllPairs (λ e f. e.level ≤ f.level) r.entries →
+    ((d : Entry) → 0 < m → (get_or r.entries (m - 1) d).level ≤ l) → WasTold u r m → IsFollowed t s r n →
+    IsFollowed u s (record r { entries = cut l r.entries; seen = min r.seen (length (cut l r.entries)) }) m
+followed_cut t u s r n m l rising low w f =
+    let after : Trailed = record r { entries = cut l r.entries; seen = min r.seen (length (cut l r.entries)) } in
+    record {
+      told = told_cut u r after m l refl refl rising low w;
+      room = f.room;
+      fits = fits_cut s r l rising f.fits;
+      unlocked = f.unlocked;
+    }
+
+pub followed_clear : (t u : Told) (s z : Stored) (r : Trailed) (n : ℕ) → IsOrdered r.vars r.entries → r.seen ≤ length r.entries → z ≡ record s { watches = z.watches } →
+    Recalls s z → AreActive z → WasTold u r 0 → IsFollowed t s r n → IsFollowed u z (record r { entries = []; seen = 0 }) 0
+followed_clear t u s z r n o le same back active w f = record {
+  told = told_none u r (record r { entries = []; seen = 0 }) refl w;
+  room = f.room;
+  fits = fits_clear z r active (fits_recall s z r same back o le f.fits);
+  unlocked = subst AreUnlocked (sym (ap (λ (x : Stored). x.slots) same)) f.unlocked;
+}
+
+-- ---- one nogood less
+unlocked_removed : (slots : List (Option Kept)) (j : ℕ) → AreUnlocked slots → AreUnlocked (set slots j None)
+unlocked_removed [] j u id k g = u id k g
+unlocked_removed (o ∷ slots) zero u zero k g = absurd (none_some k g)
+unlocked_removed (o ∷ slots) zero u (suc id) k g = u (suc id) k g
+unlocked_removed (o ∷ slots) (suc j) u zero k g = u 0 k g
+unlocked_removed (o ∷ slots) (suc j) u (suc id) k g = unlocked_removed slots j (λ i l h. u (suc i) l h) id k g
+
+pub followed_removed : (t : Told) (s : Stored) (r : Trailed) (n id : ℕ) → IsUnnamed r.entries id → IsFollowed t s r n → IsFollowed t (removed s id) r n
+followed_removed t s r n id unnamed f = record {
+  told = f.told;
+  room = f.room;
+  fits = fits_remove s r id unnamed f.fits;
+  unlocked = unlocked_removed s.slots id f.unlocked;
+}
+
+-- ---- a reduction
+pub have_slots : (s : Stored) (r : Trailed) → Fits s r → HaveSlots r.entries (length s.slots)
+have_slots s r f i d id h q = let o = f.reasons i d id h q in kept_within s.slots id o.0 o.1
+
+fits_reduced : (s : Stored) (r : Trailed) (slots : List (Option Kept)) → IsReduced r.entries s.slots slots → Fits s r → Fits (record s { slots = slots }) r
+fits_reduced s r slots red f = record {
+  same_vars = f.same_vars;
+  paired = omega (arith, f.paired, red.count);
+  reasons = λ i d id h q. let o = f.reasons i d id h q in (o.0, ap (option_map (λ (k : Kept). k.nogood)) (red.named i d id h q) ∙ o.1, o.2);
+  watched = λ id n g. f.watched id n (was id n g);
+}
+  where
+    was : (id : ℕ) (n : Nogood) → nogood_at slots id ≡ Some n → nogood_at s.slots id ≡ Some n
+    was id n g =
+        elim (red.each id) [
+          | inl e ↦ sym (ap (option_map (λ (k : Kept). k.nogood)) e) ∙ g
+          | inr e ↦ absurd (none_some n (sym (ap (option_map (λ (k : Kept). k.nogood)) e) ∙ g))
+        ]
+
+unlocked_reduced : (es : List Entry) (old new : List (Option Kept)) → IsReduced es old new → AreUnlocked old → AreUnlocked new
+unlocked_reduced es old new red u id k g = elim (red.each id) [ inl e ↦ u id k (sym e ∙ g) | inr e ↦ absurd (none_some k (sym e ∙ g)) ]
+
+pub followed_reduced : (t : Told) (s : Stored) (r : Trailed) (n : ℕ) (slots : List (Option Kept)) → IsReduced r.entries s.slots slots → IsFollowed t s r n →
+    IsFollowed t (record s { slots = slots }) r n
+followed_reduced t s r n slots red f = record {
+  told = f.told;
+  room = f.room;
+  fits = fits_reduced s r slots red f.fits;
+  unlocked = unlocked_reduced r.entries s.slots slots red f.unlocked;
+}
+
+-- ---- a nogood that isn't calm brings an entry
+pub grows : (slots : List (Option Kept)) (vars : ℕ) (es fs : List Entry) (id : ℕ) (n : Nogood) → nogood_at slots id ≡ Some n → is_calm (assignment vars es) n.lits ≡ false →
+    AreCalm slots (assignment vars fs) → Implies es fs → length es < length fs
+grows slots vars es fs id n g wanted calm x = by x.0 x.1
+  where
+    by : (gs : List Entry) → fs ≡ es ++ gs → length es < length fs
+    by [] q =
+        let same : fs ≡ es = q ∙ append-nil es in
+        absurd (false≢true (sym wanted ∙ (ap (λ (xs : List Entry). is_calm (assignment vars xs) n.lits) (sym same) ∙ calm id n g)))
+    by (e ∷ gs) q = omega (arith, ap (length {A = Entry}) q, length-append es (e ∷ gs))
+
+-- ---- what the store does
+pub followed_settled : (t u : Told) (s z : Stored) (r q : Trailed) (n m : ℕ) → z.slots ≡ s.slots → q ≡ record r { entries = q.entries; seen = q.seen } → Fits z q → WasTold u q m →
+    IsFollowed t s r n → IsFollowed u z q m
+followed_settled t u s z r q n m slots same fits w f = record {
+  told = w;
+  room = subst (λ (x : Trailed). x.vars ≤ x.room) (sym same) f.room;
+  fits = fits;
+  unlocked = subst AreUnlocked (sym slots) f.unlocked;
+}
+
+pub told_settled : (t : Told) (r q : Trailed) (n : ℕ) (slots : List (Option Kept)) → q ≡ record r { entries = q.entries; seen = q.seen } → Extends slots r.entries q.entries →
+    WasTold t r n → WasTold t q n
+told_settled t r q n slots same x w = told_extends t r q n x.0 (ap (λ (y : Trailed). y.vars) same) x.1 w
+
+pub goes_settled : (gives : Nogood → Type 0) (t u : Told) (b c : Option (List ℤ)) (s z : Stored) (es fs : List Entry) → u.program ≡ t.program → c ≡ b → z.slots ≡ s.slots →
+    Extends s.slots es fs → GoesOn gives t u b c s.slots z.slots es fs
+goes_settled gives t u b c s z es fs program bound slots x = record {
+  program = program;
+  bound_stays = bound;
+  adds = adds_none gives s.slots z.slots slots;
+  implies = implies_from s.slots es fs x;
+}
+
+pub calm_settled : (vars now : ℕ) (old new : List (Option Kept)) (es : List Entry) → now ≡ vars → new ≡ old → AreCalm old (assignment vars es) → AreCalm new (assignment now es)
+calm_settled vars now old new es v q h =
+    subst (λ (m : ℕ). AreCalm new (assignment m es)) (sym v) (subst (λ (xs : List (Option Kept)). AreCalm xs (assignment vars es)) (sym q) h)
+
+pub violated_settled : (vars now : ℕ) (old new : List (Option Kept)) (es : List Entry) (id : ℕ) → now ≡ vars → new ≡ old → IsViolated vars old es id → IsViolated now new es id
+violated_settled vars now old new es id v q h =
+    subst (λ (m : ℕ). IsViolated m new es id) (sym v) (subst (λ (xs : List (Option Kept)). IsViolated vars xs es id) (sym q) h)
+
+-- ---- what comes of asking
+pub asked_same : (t u : Told) (s z : Stored) (r : Trailed) (n : ℕ) → u ≡ t → z ≡ s → IsFollowed t s r n → IsFollowed u z r n
+asked_same t u s z r n p q f = subst (λ (x : Told). IsFollowed x z r n) (sym p) (subst (λ (x : Stored). IsFollowed t x r n) (sym q) f)
+
+pub asked_more : (t u : Told) (s z : Stored) (r : Trailed) (n : ℕ) (m : Nogood) → u ≡ t → z ≡ added s m false → IsOrdered r.vars r.entries → r.seen ≤ length r.entries →
+    IsFollowed t s r n → IsFollowed u z r n
+asked_more t u s z r n m p q o le f =
+    subst (λ (x : Told). IsFollowed x z r n) (sym p) (subst (λ (x : Stored). IsFollowed t x r n) (sym q) (followed_added t s r n m false o le f))
+
+pub goes_same : (gives : Nogood → Type 0) (t u : Told) (b c : Option (List ℤ)) (xs ys : List (Option Kept)) (es : List Entry) → u ≡ t → c ≡ b → ys ≡ xs →
+    GoesOn gives t u b c xs ys es es
+goes_same gives t u b c xs ys es p q e = record {
+  program = ap (λ (x : Told). x.program) p;
+  bound_stays = q;
+  adds = adds_none gives xs ys e;
+  implies = implies_none es;
+}
+
+pub goes_one : (gives : Nogood → Type 0) (t u : Told) (b c : Option (List ℤ)) (s z : Stored) (es : List Entry) (m : Nogood) → u ≡ t → c ≡ b → z ≡ added s m false → gives m →
+    GoesOn gives t u b c s.slots z.slots es es
+goes_one gives t u b c s z es m p q e g = record {
+  program = ap (λ (x : Told). x.program) p;
+  bound_stays = q;
+  adds = adds_one gives s.slots z.slots m (ap (λ (x : Stored). x.slots) e) g;
+  implies = implies_none es;
+}

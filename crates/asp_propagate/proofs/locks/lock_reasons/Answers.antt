@@ -1,0 +1,25 @@
+use Rattle.std.proofs.Common.{◌≡◌, ◌<◌, List, Option, None, true, length, get_or, take, sym, ap, ◌∙◌, subst, arith}
+use Rattle.asp_trail.specs.declared.trail.Entry.{Entry}
+use Rattle.asp_store.specs.declared.kept.Kept.{Kept}
+use Rattle.asp_store.specs.Storing.{Stored}
+use Rattle.asp_propagate.specs.Locking.{lock_reason, HaveSlots}
+use Rattle.asp_propagate.proofs.LockLaws.{lock_all_length, lock_next}
+use Rattle.asp_propagate.proofs.locks.lock_reasons.Goals as goal
+
+pub lock_at-requires-clause-slots : goal.lock_at-requires-clause-slots
+lock_at-requires-clause-slots c =
+    let es = c.args.trail.now.entries in
+    let old = c.args.store.now in
+    let len : length c.loop-i.store.slots ≡ length old.slots =
+    ap (λ (x : Stored). length x.slots) c.loop-i.invariant ∙ lock_all_length c.args.locked (take c.loop-i.i es) old.slots in
+    subst (HaveSlots es) (sym len) c.requires
+
+pub loop-i-preserved : goal.loop-i-preserved
+loop-i-preserved c =
+    let es = c.args.trail.now.entries in
+    let old = c.args.store.now in
+    let d : Entry = record { lit = record { var = 0; truth = true }; level = 0; reason = None } in
+    let h : c.loop-i.i < length es = omega arith in
+    let step : Stored → Stored = λ x. record x { slots = lock_reason c.args.locked x.slots (get_or es c.loop-i.i d).reason } in
+    let with_slots : List (Option Kept) → Stored = λ xs. record old { slots = xs } in
+    c.lock_at.ensures d ∙ (ap step c.loop-i.invariant ∙ ap with_slots (sym (lock_next c.args.locked es old.slots c.loop-i.i d h)))

@@ -1,0 +1,13 @@
+use Rattle.std.proofs.Common.{◌≡◌}
+use Rattle.asp_propagate.specs.Propagating.{WasTold}
+use Rattle.asp_propagate.proofs.telling.untell.Given as goal
+
+abbrev pub invariant-loop-left : goal.invariant-loop-left
+invariant-loop-left g l = record {
+  told : WasTold (g.P.Propagator.told l.propagator) l.trail l.left;
+  program : (g.P.Propagator.told l.propagator).program ≡ (g.P.Propagator.told l.fn.propagator).program;
+  bound : g.P.Propagator.bound l.propagator ≡ g.P.Propagator.bound l.fn.propagator;
+}
+
+abbrev pub decreases-loop-left : goal.decreases-loop-left
+decreases-loop-left g l = l.left

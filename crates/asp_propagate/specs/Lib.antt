@@ -1,0 +1,4 @@
+pub mod Useful
+pub mod Whole
+pub mod Propagating
+pub mod Locking

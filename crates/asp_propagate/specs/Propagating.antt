@@ -1,0 +1,109 @@
+-- A trail with what follows it: a store of nogoods, and a propagator.
+use Rattle.std.specs.Prelude.{◌≡◌, ◌≢◌, ℕ, ◌<◌, ◌≤◌, ◌⊎◌, Bool, true, false, List, [], ◌∷◌, ◌++◌, map, take, length, Option, Some, None, ℤ, IsTrue, slice_index_or, slice_set}
+use Rattle.std.specs.List.{All}
+use Rattle.asp_model.specs.declared.program.Program.{Program}
+use Rattle.asp_vars.specs.Literals.{Literal}
+use Rattle.asp_vars.specs.Numbering.{var_count}
+use Rattle.asp_vars.specs.declared.nogood.Nogood.{Nogood}
+use Rattle.asp_trail.specs.declared.trail.Entry.{Entry}
+use Rattle.asp_trail.specs.Entries.{assignment, level}
+use Rattle.asp_trail.specs.Trails.{Trailed}
+use Rattle.asp_trail.specs.Told.{Told}
+use Rattle.asp_trail.specs.Quiet.{is_calm}
+use Rattle.asp_trail.specs.Reasons.{IsReason}
+use Rattle.asp_store.specs.declared.kept.Kept.{Kept}
+use Rattle.asp_store.specs.Keeping.{kept_at, nogood_at}
+use Rattle.asp_store.specs.Visiting.{IsImpliedAt}
+use Rattle.asp_store.specs.Storing.{Stored, Fits, added}
+
+-- Literals of the program's variables hold, nogoods are kept, and maybe a bound stands.
+pub record Propagating : Type 0 where
+  pub program : Program
+  pub entries : List Entry
+  pub slots : List (Option Kept)
+  pub bound : Option (List ℤ)
+
+-- the values of the variables
+abbrev pub values_of : Propagating → List (Option Bool)
+values_of s = assignment (var_count s.program) s.entries
+
+-- one entry more
+abbrev pub with_entry : Propagating → Literal → ℕ → Option ℕ → Propagating
+with_entry s l b reason = record s { entries = s.entries ++ record { lit = l; level = b; reason = reason } ∷ [] }
+
+-- one nogood more
+abbrev pub with_nogood : Propagating → Nogood → Bool → Propagating
+with_nogood s n forever = record s { slots = s.slots ++ Some (record { nogood = n; forever = forever; locked = false }) ∷ [] }
+
+-- one nogood less
+abbrev pub without_nogood : Propagating → ℕ → Propagating
+without_nogood s id = record s { slots = slice_set s.slots id None }
+
+-- No entry was implied by the nogood under this number.
+abbrev pub IsUnnamed : List Entry → ℕ → Type 0
+IsUnnamed entries id = (i : ℕ) (d : Entry) → i < length entries → (slice_index_or entries i d).reason ≢ Some id
+
+-- The literal follows by the nogood under this number, which is kept.
+abbrev pub IsImplied : Propagating → Literal → ℕ → Type 0
+IsImplied s l id = (n : Nogood) × (nogood_at s.slots id ≡ Some n) × IsReason (with_entry s l (level s.entries) (Some id)).entries (length s.entries) l n.lits
+
+-- ---- what every engine keeps
+-- A propagator was told of the first n entries.
+pub record WasTold (told : Told) (trail : Trailed) (n : ℕ) : Type 0 where
+  pub vars : trail.vars ≡ var_count told.program
+  pub begun : n ≤ length trail.entries
+  pub values : told.values ≡ assignment trail.vars (take n trail.entries)
+
+abbrev pub AreUnlocked : List (Option Kept) → Type 0
+AreUnlocked slots = (id : ℕ) (k : Kept) → kept_at slots id ≡ Some k → k.locked ≡ false
+
+-- The store fits the trail, which has room for all variables, and the propagator was told of the first n entries.
+pub record IsFollowed (t : Told) (store : Stored) (trail : Trailed) (n : ℕ) : Type 0 where
+  pub told : WasTold t trail n
+  pub room : trail.vars ≤ trail.room
+  pub fits : Fits store trail
+  pub unlocked : AreUnlocked store.slots
+
+-- ---- propagation
+-- until it is dropped
+abbrev pub for_now : Nogood → Option Kept
+for_now n = Some (record { nogood = n; forever = false; locked = false })
+
+-- Nogoods were added, each of which passes.
+pub record Adds (gives : Nogood → Type 0) (old new : List (Option Kept)) : Type 0 where
+  pub more : List Nogood
+  pub slots : new ≡ old ++ map for_now more
+  pub given : All gives more
+
+-- Entries were added, each of them implied at the level that stands.
+abbrev pub Implies : List Entry → List Entry → Type 0
+Implies old new = (fs : List Entry) × (new ≡ old ++ fs) × All (IsImpliedAt (level old)) fs
+
+-- What was told, the bound, the slots and the entries, before and after: nogoods and entries are added, and nothing else changes.
+pub record GoesOn (gives : Nogood → Type 0) (told after : Told) (bound now : Option (List ℤ)) (slots kept : List (Option Kept)) (old new : List Entry) : Type 0 where
+  pub program : after.program ≡ told.program
+  pub bound_stays : now ≡ bound
+  pub adds : Adds gives slots kept
+  pub implies : Implies old new
+
+-- No nogood that is kept is unit or violated.
+abbrev pub AreCalm : List (Option Kept) → List (Option Bool) → Type 0
+AreCalm slots a = (id : ℕ) (n : Nogood) → nogood_at slots id ≡ Some n → IsTrue (is_calm a n.lits)
+
+-- Nor has the propagator anything to say.
+pub record IsQuiet (silent : List (Option Bool) → Type 0) (slots : List (Option Kept)) (a : List (Option Bool)) : Type 0 where
+  pub calm : AreCalm slots a
+  pub says_nothing : silent a
+
+-- What comes of asking: the propagator is silent, or it gives a nogood that is unit or violated, which is kept.
+abbrev pub Asked : (List (Option Bool) → Type 0) → (Nogood → Type 0) → List (Option Bool) → Stored → Stored → Bool → Type 0
+Asked silent gives a old new false = (new ≡ old) × silent a
+Asked silent gives a old new true = (n : Nogood) × (new ≡ added old n false) × gives n × (is_calm a n.lits ≡ false)
+
+-- ---- reduction
+-- Nogoods were dropped, but none that was added forever or that an entry names.
+pub record IsReduced (entries : List Entry) (old new : List (Option Kept)) : Type 0 where
+  pub count : length new ≡ length old
+  pub each : (id : ℕ) → (kept_at new id ≡ kept_at old id) ⊎ (kept_at new id ≡ None)
+  pub forever : (id : ℕ) (k : Kept) → kept_at old id ≡ Some k → k.forever ≡ true → kept_at new id ≡ Some k
+  pub named : (i : ℕ) (d : Entry) (id : ℕ) → i < length entries → (slice_index_or entries i d).reason ≡ Some id → kept_at new id ≡ kept_at old id

@@ -1,0 +1,80 @@
+//! What is asked of a part that follows the assignment beside the store.
+//!
+//! It is told of each literal that comes to hold, and of each that is taken back. Asked, it gives a nogood that is unit
+//! or violated and counts for a search, or none, where it has nothing to say.
+ghost use Rattle.std.specs.Prelude.{◌≡◌, Some, None, true, false, IfOk, IfSome, IfNone};
+ghost use Rattle.std.specs.List.{All};
+ghost use Rattle.asp_vars.specs.Literals.{value_of, holds_in};
+ghost use Rattle.asp_vars.specs.Numbering.{var_count};
+ghost use Rattle.asp_trail.specs.Entries.{assignment};
+ghost use Rattle.asp_trail.specs.Trails.{IsVar};
+ghost use Rattle.asp_trail.specs.Quiet.{is_calm};
+ghost use Rattle.asp_propagate.specs.Useful.{IsSmaller};
+
+use asp_model::cost::Cost;
+use asp_trail::trail::Trail;
+use asp_vars::lit::Lit;
+use asp_vars::nogood::Nogood;
+use std::alloc::AllocError;
+
+/// A part that follows the assignment.
+pub trait Propagator: Drop {
+    ghost use Rattle.std.specs.Prelude.{List, Option, Bool, ℤ};
+    ghost use Rattle.asp_model.specs.declared.program.Program.{Program};
+    ghost use Rattle.asp_model.specs.Sets.{Atoms};
+    ghost use Rattle.asp_model.specs.Sound.{IsSound};
+    ghost use Rattle.asp_vars.specs.declared.nogood.Nogood.{Nogood};
+    ghost use Rattle.asp_trail.specs.Told.{Told, told as tell, untold as untell};
+    ghost use Rattle.asp_propagate.specs.Useful.{IsUseful};
+    ghost use Rattle.asp_propagate.specs.Whole.{IsWhole, KeepsAll};
+
+    /// The program, and the values told.
+    ghost told: { Self → Told };
+
+    /// The bound that stands, if one does.
+    ghost bound: { Self → Option (List ℤ) };
+
+    /// What it may give for a program and a bound.
+    ghost gives: { Program → Option (List ℤ) → Nogood → Type 0 };
+
+    /// That it has nothing to say of a program and a bound under these values.
+    ghost silent: { Program → Option (List ℤ) → List (Option Bool) → Type 0 };
+
+    /// The literal holds from now on.
+    fn assign(&mut self, lit: Lit)
+        requires var { IsVar (var_count (told self.old).program) lit.var }
+        requires none { value_of (told self.old).values lit.var ≡ None }
+        ensures value { told self.new ≡ tell (told self.old) lit }
+        ensures stays { bound self.new ≡ bound self.old };
+
+    /// The literal, which holds, doesn't hold any more, nor does its complement.
+    fn undo(&mut self, lit: Lit)
+        requires var { IsVar (var_count (told self.old).program) lit.var }
+        requires holds { holds_in (told self.old).values lit ≡ true }
+        ensures value { told self.new ≡ untell (told self.old) lit }
+        ensures stays { bound self.new ≡ bound self.old };
+
+    /// From now on smaller costs than this one are wanted.
+    fn set_bound(&mut self, cost: Cost)
+        requires { IsSmaller cost (bound self.old) }
+        ensures bound { bound self.new ≡ Some cost }
+        ensures stays { told self.new ≡ told self.old };
+
+    /// A nogood that is unit or violated under the values told, if it has one.
+    ///
+    /// Want of memory is the one error. Whatever comes, the values and the bound stay.
+    fn next(&mut self, trail: &Trail) -> Result<Option<Nogood>, AllocError>
+        requires { (told self.old).values ≡ assignment trail.now.vars trail.now.entries }
+        ensures values { told self.new ≡ told self.old }
+        ensures stays { bound self.new ≡ bound self.old }
+        ensures quiet { IfOk result (λ n. IfNone n (silent (told self.old).program (bound self.old) (told self.old).values)) }
+        ensures given { IfOk result (λ n. IfSome n (gives (told self.old).program (bound self.old))) }
+        ensures within { IfOk result (λ n. IfSome n (λ m. All (λ l. IsVar (var_count (told self.old).program) l.var) m.lits)) }
+        ensures wanted { IfOk result (λ n. IfSome n (λ m. is_calm (told self.old).values m.lits ≡ false)) };
+
+    /// What it gives counts for a search, whatever answers are known.
+    ghost sound: { (p : Program) (b : Option (List ℤ)) (n : Nogood) (known : List Atoms) → IsSound p → gives p b n → IsUseful p known b n };
+
+    /// Where it is silent under the values of all variables, the weight bodies are kept, and the cost is below the bound.
+    ghost whole: { (p : Program) (b : Option (List ℤ)) (a : List (Option Bool)) (v : List Bool) → IsSound p → IsWhole p a v → silent p b a → KeepsAll p b v };
+}

@@ -1,0 +1,97 @@
+//! Propagation by the store and the propagator, in turn.
+//!
+//! The store goes first, until it is quiet, and only then is the propagator told and asked: what is undone after a
+//! violated nogood of the store costs the propagator nothing. What it gives is kept, and is unit or violated, so that
+//! the store goes on.
+ghost use Rattle.std.specs.Prelude.{◌≡◌, ◌≤◌, ◌+◌, ℕ, length, IfOk, IfSome, IfNone};
+ghost use Rattle.asp_trail.specs.Entries.{assignment};
+ghost use Rattle.asp_store.specs.Walking.{IsViolated};
+ghost use Rattle.asp_propagate.specs.Propagating.{WasTold, IsFollowed, GoesOn, AreCalm, IsQuiet, Asked};
+
+use crate::propagator::Propagator;
+use crate::telling::tell;
+use asp_store::propagation::Propagated;
+use asp_store::store::Store;
+use asp_trail::reasons::NogoodId;
+use asp_trail::trail::Trail;
+use std::alloc::AllocError;
+
+// What the store finds. Where it is quiet, the propagator is told of all entries.
+fn settle<P: Propagator>(
+    propagator: &mut P,
+    trail: &mut Trail,
+    store: &mut Store,
+    told: &mut usize,
+) -> Option<NogoodId>
+    requires { IsFollowed (P.told propagator.old) store.old trail.old told.old }
+    ensures followed { IsFollowed (P.told propagator.new) store.new trail.new told.new }
+    ensures goes { GoesOn (P.gives (P.told propagator.old).program (P.bound propagator.old)) (P.told propagator.old) (P.told propagator.new) (P.bound propagator.old) (P.bound propagator.new)
+        store.old.slots store.new.slots trail.old.entries trail.new.entries }
+    ensures same { store.new.slots ≡ store.old.slots }
+    ensures few { length trail.new.entries ≤ trail.new.vars + 1 }
+    ensures all { IfNone result (told.new ≡ length trail.new.entries) }
+    ensures calm { IfNone result (AreCalm store.new.slots (assignment trail.new.vars trail.new.entries)) }
+    ensures violated { IfSome result (IsViolated trail.new.vars store.new.slots trail.new.entries) }
+{
+    let found = store.propagate(trail);
+    let _level = trail.level();
+    match found {
+        Propagated::Violated(id) => Some(id),
+        Propagated::Quiet => {
+            tell(propagator, trail, *told);
+            *told = trail.len();
+            None
+        }
+    }
+}
+
+// Keeps what the propagator gives. Says whether it gave something.
+fn ask<P: Propagator>(
+    propagator: &mut P,
+    trail: &Trail,
+    store: &mut Store,
+) -> Result<bool, AllocError>
+    requires told { WasTold (P.told propagator.old) trail.now (length trail.now.entries) }
+    requires vars { trail.now.vars ≡ store.old.vars }
+    ensures values { P.told propagator.new ≡ P.told propagator.old }
+    ensures bound { P.bound propagator.new ≡ P.bound propagator.old }
+    ensures ok { IfOk result (Asked (P.silent (P.told propagator.old).program (P.bound propagator.old)) (P.gives (P.told propagator.old).program (P.bound propagator.old))
+        (assignment trail.now.vars trail.now.entries) store.old store.new) }
+    ensures goes { GoesOn (P.gives (P.told propagator.old).program (P.bound propagator.old)) (P.told propagator.old) (P.told propagator.new) (P.bound propagator.old) (P.bound propagator.new)
+        store.old.slots store.new.slots trail.now.entries trail.now.entries }
+    ensures stays { (n : ℕ) → IsFollowed (P.told propagator.old) store.old trail.now n → IsFollowed (P.told propagator.new) store.new trail.now n }
+{
+    let _len = trail.len();
+    match propagator.next(trail)? {
+        None => Ok(false),
+        Some(nogood) => {
+            store.add(nogood, false)?;
+            Ok(true)
+        }
+    }
+}
+
+/// Implies what follows, until a kept nogood is violated or the propagator is silent.
+pub fn propagate<P: Propagator>(
+    propagator: &mut P,
+    trail: &mut Trail,
+    store: &mut Store,
+    told: &mut usize,
+) -> Result<Option<NogoodId>, AllocError>
+    requires { IsFollowed (P.told propagator.old) store.old trail.old told.old }
+    ensures followed { IsFollowed (P.told propagator.new) store.new trail.new told.new }
+    ensures goes { GoesOn (P.gives (P.told propagator.old).program (P.bound propagator.old)) (P.told propagator.old) (P.told propagator.new) (P.bound propagator.old) (P.bound propagator.new)
+        store.old.slots store.new.slots trail.old.entries trail.new.entries }
+    ensures quiet { IfOk result (λ r. IfNone r (IsQuiet (P.silent (P.told propagator.old).program (P.bound propagator.old)) store.new.slots (assignment trail.new.vars trail.new.entries))) }
+    ensures violated { IfOk result (λ r. IfSome r (IsViolated trail.new.vars store.new.slots trail.new.entries)) }
+{
+    if let Some(id) = settle(propagator, trail, store, told) {
+        return Ok(Some(id));
+    }
+    while ask(propagator, trail, store)? {
+        if let Some(id) = settle(propagator, trail, store, told) {
+            return Ok(Some(id));
+        }
+    }
+    Ok(None)
+}

@@ -1,0 +1,106 @@
+//! The three propagators of a program, which are told the same.
+//!
+//! It keeps true, after every list of calls: each of the three was told of the same program, and of the same values. So
+//! a call that tells has to tell all three. Asked, the costlier answer only where the others are silent: weight bodies
+//! first, then the bound, then unfounded sets.
+//!
+//! Only `new` and `next` take memory. After want of it the values told and the bound are those before the call, so a
+//! search can go on, or take back what it told.
+ghost use Rattle.std.specs.Prelude.{◌≡◌, None, IfOk};
+ghost use Rattle.asp_bound.specs.Gathered.{valueless};
+
+use asp_bound::bound::Bound;
+use asp_propagate::propagator::Propagator;
+use asp_model::cost::Cost;
+use asp_source::sources::Sources;
+use asp_trail::trail::Trail;
+use asp_vars::compiled::Compiled;
+use asp_vars::lit::Lit;
+use asp_vars::nogood::Nogood;
+use asp_weight::weights::Weights;
+use std::alloc::{AllocError, Global};
+use std::marker::Model;
+
+/// The weight bodies, the bound and the possible loops of a program.
+#[derive(Drop)]
+pub struct Propagators<'a> {
+    weights: Weights,
+    bound: Bound,
+    sources: Sources<'a>,
+}
+
+impl<'a> Model for Propagators<'a> {
+    ghost use Rattle.std.specs.Prelude.{◌≡◌};
+    ghost use Rattle.asp_bound.specs.Bounded.{Bounded};
+
+    ghost Value = { Bounded };
+
+    ghost view = { λ p. p.bound };
+
+    ghost invariant = { λ p. (p.weights ≡ p.bound.told) × (p.sources ≡ p.bound.told) };
+}
+
+impl<'a> Propagators<'a> {
+    /// The propagators of a program, told of no values and of no bound, as a search begins. The tables are borrowed.
+    ///
+    /// Want of memory is the one error.
+    pub fn new(alloc: Global, compiled: &'a Compiled) -> Result<Propagators<'a>, AllocError>
+        ensures { IfOk result (λ p. p ≡ record { told = record { program = compiled.now; values = valueless compiled.now }; bound = None }) }
+    {
+        let weights = Weights::new(alloc, compiled)?;
+        let bound = Bound::new(alloc, compiled)?;
+        let sources = Sources::new(alloc, compiled)?;
+        Ok(Propagators {
+            weights,
+            bound,
+            sources,
+        })
+    }
+}
+
+impl<'a> Propagator for Propagators<'a> {
+    ghost use Rattle.asp_propagators.specs.Saying.{AreSilent, gives as may_give};
+    ghost use Rattle.asp_propagators.specs.CountLaws.{gives-count};
+    ghost use Rattle.asp_propagators.specs.WholeLaws.{silent-keeps};
+
+    ghost told = { λ p. p.told };
+
+    ghost bound = { λ p. p.bound };
+
+    ghost gives = { may_give };
+
+    ghost silent = { AreSilent };
+
+    ghost sound = { gives-count };
+
+    ghost whole = { silent-keeps };
+
+    fn assign(&mut self, lit: Lit) {
+        self.weights.assign(lit);
+        self.bound.assign(lit);
+        self.sources.assign(lit);
+    }
+
+    fn undo(&mut self, lit: Lit) {
+        self.weights.undo(lit);
+        self.bound.undo(lit);
+        self.sources.undo(lit);
+    }
+
+    fn set_bound(&mut self, cost: Cost) {
+        self.bound.set(cost);
+    }
+
+    fn next(&mut self, trail: &Trail) -> Result<Option<Nogood>, AllocError> {
+        if let Some(nogood) = self.weights.next(trail)? {
+            return Ok(Some(nogood));
+        }
+        if let Some(nogood) = self.bound.next(trail)? {
+            return Ok(Some(nogood));
+        }
+        if let Some(nogood) = self.sources.next(trail)? {
+            return Ok(Some(nogood));
+        }
+        Ok(None)
+    }
+}

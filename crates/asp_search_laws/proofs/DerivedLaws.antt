@@ -1,0 +1,53 @@
+-- Nogoods that are axioms, or reached from what is kept.
+use Rattle.std.proofs.Common.{◌≡◌, ℕ, List, ◌∷◌, ◌++◌, get_or, Option, Some, ◌⊎◌, inl, inr, subst, []}
+use Rattle.std.specs.Prelude.{ℤ}
+use Rattle.asp_model.specs.declared.program.Program.{Program}
+use Rattle.asp_vars.specs.declared.nogood.Nogood.{Nogood}
+use Rattle.asp_trail.specs.declared.trail.Entry.{Entry}
+use Rattle.asp_analyze.specs.Learning.{nogood_of}
+use Rattle.asp_analyze.specs.declared.learn.Learned.{Learned}
+use Rattle.asp_store.specs.declared.kept.Kept.{Kept}
+use Rattle.asp_store.specs.Keeping.{nogood_at}
+use Rattle.asp_propagate.specs.Propagating.{Adds}
+use Rattle.asp_propagate.specs.Useful.{Counts}
+use Rattle.asp_propagate.proofs.AddLaws.{adds_each}
+use Rattle.asp_search_laws.specs.Axioms.{IsAxiom, IsDerived, AreDerived}
+use Rattle.asp_search_laws.specs.Explaining.{Explains}
+use Rattle.asp_search_laws.proofs.SlotLaws.{AddsNone, push_each}
+
+module _ (p : Program) (gives : Nogood → Type 0) (bound : Option (List ℤ)) where
+  -- what is derived from derived nogoods is derived
+  pub derived_more : (old new : ℕ → Option Nogood) (n : Nogood) → AreDerived p gives bound old new → IsDerived p gives bound new n → IsDerived p gives bound old n
+  derived_more old new n all (IsDerived.given x c) = IsDerived.given x c
+  derived_more old new n all (IsDerived.stands id q) = all id n q
+  derived_more old new n all (IsDerived.reached {from = from} reasons es used reached first rest) =
+      IsDerived.reached reasons es used reached (derived_more old new from all first) (λ i d h. derived_more old new (get_or used i d).nogood all (rest i d h))
+
+  pub all_derived_more : (a b c : ℕ → Option Nogood) → AreDerived p gives bound a b → AreDerived p gives bound b c → AreDerived p gives bound a c
+  all_derived_more a b c x y id n q = derived_more a b n x (y id n q)
+
+  pub derived_none : (old new : List (Option Kept)) → AddsNone old new → AreDerived p gives bound (nogood_at old) (nogood_at new)
+  derived_none old new a id n q = IsDerived.stands id (a id n q)
+
+  pub derived_same : (slots : List (Option Kept)) → AreDerived p gives bound (nogood_at slots) (nogood_at slots)
+  derived_same slots id n q = IsDerived.stands id q
+
+  pub derived_push : (slots : List (Option Kept)) (k : Kept) → IsDerived p gives bound (nogood_at slots) k.nogood → AreDerived p gives bound (nogood_at slots) (nogood_at (slots ++ Some k ∷ []))
+  derived_push slots k new id n q = cases (push_each slots k id n q)
+    where
+      cases : (nogood_at slots id ≡ Some n) ⊎ (k.nogood ≡ n) → IsDerived p gives bound (nogood_at slots) n
+      cases (inl e) = IsDerived.stands id e
+      cases (inr e) = subst (IsDerived p gives bound (nogood_at slots)) e new
+
+  pub derived_adds : (old new : List (Option Kept)) → ((n : Nogood) → gives n → Counts bound n.base) → Adds gives old new → AreDerived p gives bound (nogood_at old) (nogood_at new)
+  derived_adds old new counts a id n q = cases (adds_each gives old new id n a q)
+    where
+      cases : (nogood_at old id ≡ Some n) ⊎ gives n → IsDerived p gives bound (nogood_at old) n
+      cases (inl e) = IsDerived.stands id e
+      cases (inr g) = IsDerived.given (IsAxiom.propagator g) (counts n g)
+
+  -- what is learnt
+  pub learnt_derived : (vars : ℕ) (slots : List (Option Kept)) (es : List Entry) (id : ℕ) (l : Learned) → Explains vars slots es id l → IsDerived p gives bound (nogood_at slots) (nogood_of l)
+  learnt_derived vars slots es id l x =
+      IsDerived.reached (nogood_at slots) es x.used x.reached (IsDerived.stands id x.stands)
+      (λ i d h. let u = x.reached.reasons i d h in IsDerived.stands u.reason.0 u.reason.2)

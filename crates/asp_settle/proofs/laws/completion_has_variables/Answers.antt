@@ -1,5 +1,0 @@
-use Rattle.asp_settle.proofs.VarLaws.{completion_are_vars}
-use Rattle.asp_settle.proofs.laws.completion_has_variables.Goals as goal
-
-pub returns : goal.returns
-returns c = completion_are_vars

@@ -1,5 +1,0 @@
-use Rattle.asp_settle.proofs.HitLaws.{trail_hit}
-use Rattle.asp_settle.proofs.laws.settled_trails_hit.Goals as goal
-
-pub returns : goal.returns
-returns c = trail_hit

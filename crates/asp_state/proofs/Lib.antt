@@ -1,0 +1,5 @@
+pub mod SlotLaws
+pub mod StateLaws
+pub mod KeepLaws
+pub mod AssumedLaws
+pub mod ListedLaws

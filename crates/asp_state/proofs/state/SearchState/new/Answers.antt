@@ -1,0 +1,19 @@
+use Rattle.std.proofs.Common.{ℕ, false, None, refl, sym, subst}
+use Rattle.asp_trail.specs.Trails.{IsVar}
+use Rattle.asp_order.specs.Waiting.{HasVars}
+use Rattle.asp_propagate.specs.Propagating.{Propagating}
+use Rattle.asp_state.proofs.KeepLaws.{IsSearchView}
+use Rattle.asp_state.proofs.SlotLaws.{completed_first}
+use Rattle.asp_state.proofs.state.SearchState.new.Goals as goal
+
+pub invariant_of-result : goal.invariant_of-result
+invariant_of-result g c =
+    let p = c.args.compiled.now in
+    let r = c.in_ok-order.order in
+    subst (λ (f : Propagating). IsSearchView f None false c.new-2.result.items r) (sym c.in_ok-engine.ensures) (record {
+      few = c.vars.ensures.few;
+      entered = (refl, c.new-2.ensures.items, refl);
+      ranked = subst (λ (n : ℕ). HasVars n r) c.vars.ensures.count c.in_ok-order.ensures.vars;
+      waiting = λ v iv none. c.in_ok-order.ensures.all v (subst (λ (n : ℕ). IsVar n v) (sym c.vars.ensures.count) iv);
+      completed = completed_first p;
+    })

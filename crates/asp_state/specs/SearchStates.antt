@@ -1,0 +1,92 @@
+-- What a search has on its trail under a cube, and which nogoods it keeps.
+use Rattle.std.specs.Prelude.{◌≡◌, ℕ, ◌<◌, ◌^◌, Bool, true, false, List, [], Option, Some, None, ℤ, IsTrue}
+use Rattle.std.specs.List.{All, AllByRecursion}
+use Rattle.asp_model.specs.declared.program.Program.{Program}
+use Rattle.asp_vars.specs.Literals.{Literal, complement, has_literal}
+use Rattle.asp_vars.specs.Numbering.{var_count}
+use Rattle.asp_vars.specs.Completion.{completion}
+use Rattle.asp_vars.specs.declared.nogood.Nogood.{Nogood}
+use Rattle.asp_vars.specs.declared.nogood.Base.TheVariants as base
+use Rattle.asp_trail.specs.declared.trail.Entry.{Entry}
+use Rattle.asp_trail.specs.Entries.{assignment}
+use Rattle.asp_trail.specs.Trails.{IsVar}
+use Rattle.asp_store.specs.declared.kept.Kept.{Kept}
+use Rattle.asp_store.specs.Keeping.{kept_at}
+use Rattle.asp_order.specs.Heaps.{Ranking}
+use Rattle.asp_order.specs.Waiting.{HasVars, AreWaiting}
+use Rattle.asp_trail_laws.specs.Starts.{AreStarts}
+use Rattle.asp_trail_laws.specs.Calm.{WereCalm}
+use Rattle.asp_propagate.specs.Propagating.{Propagating}
+
+-- There is no cube before a engine is entered, nor after one was lost. Under one that clashes nothing is tried.
+pub record SearchView : Type 0 where
+  pub program : Program
+  pub bound : Option (List ℤ)
+  pub cube : Option (List Literal)
+  pub clashing : Bool
+  pub decisions : List Literal
+  pub entries : List Entry
+  pub slots : List (Option Kept)
+  pub ranking : Ranking
+
+-- the values of the variables
+abbrev pub values_of : SearchView → List (Option Bool)
+values_of t = assignment (var_count t.program) t.entries
+
+-- the part of it that a engine keeps
+abbrev pub path_of : SearchView → Propagating
+path_of t = record { program = t.program; entries = t.entries; slots = t.slots; bound = t.bound }
+
+-- It has a literal and its complement.
+pub record Clashes (cube : List Literal) : Type 0 where
+  pub lit : Literal
+  pub has : IsTrue (has_literal cube lit)
+  pub opposite : IsTrue (has_literal cube (complement lit))
+
+-- A engine was entered whose cube doesn't clash.
+pub record IsUnder (t : SearchView) (cube : List Literal) : Type 0 where
+  pub cube_is : t.cube ≡ Some cube
+  pub calm : t.clashing ≡ false
+
+-- ---- what every state keeps
+-- what is kept forever
+abbrev pub stays : Nogood → Option Kept
+stays n = Some (record { nogood = n; forever = true; locked = false })
+
+-- a nogood of the completion, kept forever
+abbrev pub forever : List Literal → Option Kept
+forever n = stays (record { lits = n; base = base.Pure })
+
+-- Such a nogood is kept and never dropped.
+pub record IsForever (slots : List (Option Kept)) (n : List Literal) : Type 0 where
+  pub id : ℕ
+  pub kept : Kept
+  pub stands : kept_at slots id ≡ Some kept
+  pub always : kept.forever ≡ true
+  pub nogood : kept.nogood ≡ record { lits = n; base = base.Pure }
+
+abbrev pub KeepsCompletion : Program → List (Option Kept) → Type 0
+KeepsCompletion p slots = AllByRecursion (IsForever slots) (completion p)
+
+-- The trail begins with the cube and the decisions, and the completion was calm before each decision.
+pub record IsBegun (p : Program) (cube decisions : List Literal) (entries : List Entry) : Type 0 where
+  pub starts : AreStarts cube decisions entries
+  pub calm : WereCalm (var_count p) (completion p) entries
+
+-- under a cube, or none
+abbrev pub IsEntered : Program → Option (List Literal) → Bool → List Literal → List Entry → Type 0
+IsEntered p None clashing decisions entries = (clashing ≡ false) × (decisions ≡ []) × (entries ≡ [])
+IsEntered p (Some cube) true decisions entries = Clashes cube × (decisions ≡ [])
+IsEntered p (Some cube) false decisions entries = IsBegun p cube decisions entries
+
+pub record IsSearchState (p : Program) (cube : Option (List Literal)) (clashing : Bool) (decisions : List Literal) (entries : List Entry) (slots : List (Option Kept)) (ranking : Ranking) : Type 0 where
+  pub few : var_count p < 2 ^ 31
+  pub entered : IsEntered p cube clashing decisions entries
+  pub ranked : HasVars (var_count p) ranking
+  pub waiting : AreWaiting (var_count p) entries ranking
+  pub completed : KeepsCompletion p slots
+
+-- ---- entering a cube
+-- the literals are of the program's variables
+abbrev pub AreOf : Program → List Literal → Type 0
+AreOf p lits = All (λ l. IsVar (var_count p) l.var) lits

@@ -1,0 +1,6 @@
+//! What a search has on its trail under a cube: the cube, its decisions, and what follows.
+#![tactic(auto)]
+
+pub mod assume;
+pub mod completed;
+pub mod state;

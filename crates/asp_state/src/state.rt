@@ -1,0 +1,309 @@
+//! A search's trail under a cube.
+//!
+//! It keeps true, after every list of calls:
+//! - the cube and the decisions are what begins the trail's levels;
+//! - no nogood of the completion was unit or violated before a decision, and all of them are kept;
+//! - each variable without a value waits to be decided.
+ghost use Rattle.std.specs.Prelude.{◌≡◌, ◌<◌, ◌+◌, ◌∷◌, ◌++◌, [], ℕ, List, true, false, Some, None, IfOk, OnOk, OnErr, IfSome, IfNone, IsTrue, map, take, length, replicate, slice_set, slice_index_or};
+ghost use Rattle.std.specs.List.{All};
+ghost use Rattle.asp_vars.specs.Literals.{Literal, F, has_literal, value_of};
+ghost use Rattle.asp_vars.specs.Numbering.{var_count};
+ghost use Rattle.asp_vars.specs.Completion.{completion};
+ghost use Rattle.asp_vars.specs.declared.nogood.Base.TheVariants as base;
+ghost use Rattle.asp_trail.specs.declared.trail.Entry.{Entry};
+ghost use Rattle.asp_trail.specs.Entries.{level, cut};
+ghost use Rattle.asp_trail.specs.Trails.{IsOrdered, IsVar};
+ghost use Rattle.asp_store.specs.declared.kept.Kept.{Kept};
+ghost use Rattle.asp_store.specs.Keeping.{kept_at};
+ghost use Rattle.asp_store.specs.Fitting.{HaveReasons};
+ghost use Rattle.asp_store.specs.Visiting.{AreSmall};
+ghost use Rattle.asp_store.specs.Walking.{IsViolated};
+ghost use Rattle.asp_order.specs.Waiting.{fresh, learnt, AreAssigned, IsFuller, IsNext};
+ghost use Rattle.asp_propagate.specs.Useful.{IsSmaller};
+ghost use Rattle.asp_propagate.specs.Locking.{thinned};
+ghost use Rattle.asp_propagate.specs.Propagating.{Adds, AreCalm, Implies, IsImplied, IsQuiet, IsReduced};
+ghost use Rattle.asp_state.specs.SearchStates.{forever, path_of, values_of, AreOf, Clashes, IsBegun, IsUnder, KeepsCompletion};
+
+use crate::assume::assume_all;
+use crate::completed::completed;
+use asp_order::order::Order;
+use asp_propagate::engine::Engine;
+use asp_propagate::propagator::Propagator;
+use asp_model::cost::Cost;
+use asp_store::store::Store;
+use asp_trail::reasons::NogoodId;
+use asp_trail::trail::Trail;
+use asp_vars::compiled::Compiled;
+use asp_vars::lit::Lit;
+use asp_vars::nogood::{Base, Lits, Nogood};
+use std::alloc::{AllocError, Global};
+use std::marker::Model;
+
+/// A trail with its cube and its decisions, the nogoods kept, and the order of further decisions.
+#[derive(Drop)]
+pub struct SearchState<P: Propagator> {
+    engine: Engine<P>,
+    order: Order,
+    cube: Option<Vec<Lit>>,
+    clashing: bool,
+    decisions: Vec<Lit>,
+}
+
+impl<P: Propagator> Model for SearchState<P> {
+    ghost use Rattle.std.specs.Prelude.{option_map};
+    ghost use Rattle.asp_state.specs.SearchStates.{SearchView, IsSearchState};
+
+    ghost Value = { SearchView };
+
+    ghost view = { λ t. record {
+      program = t.engine.program;
+      bound = t.engine.bound;
+      cube = option_map (λ q. q.items) t.cube;
+      clashing = t.clashing;
+      decisions = t.decisions.items;
+      entries = t.engine.entries;
+      slots = t.engine.slots;
+      ranking = t.order;
+    } };
+
+    ghost invariant = { λ t. IsSearchState t.engine.program (option_map (λ q. q.items) t.cube) t.clashing t.decisions.items t.engine.entries t.engine.slots t.order };
+}
+
+// Adds the literals at the end.
+fn push_all(lits: &mut Lits, more: &[Lit]) -> Result<(), AllocError>
+    ensures { OnOk result (lits.new ≡ lits.old ++ more.now) }
+{
+    for lit in more {
+        lits.push(*lit)?;
+    }
+    Ok(())
+}
+
+impl<P: Propagator> SearchState<P> {
+    /// No engine is entered. The completion is kept, and nothing else.
+    ///
+    /// Want of memory is the one error.
+    pub fn new(alloc: Global, compiled: &Compiled, propagator: P) -> Result<SearchState<P>, AllocError>
+        requires program { (P.told propagator).program ≡ compiled.now }
+        requires fresh { (P.told propagator).values ≡ replicate (var_count compiled.now + 1) None }
+        ensures { IfOk result (λ t. t ≡ record {
+          program = compiled.now;
+          bound = P.bound propagator;
+          cube = None;
+          clashing = false;
+          decisions = [];
+          entries = [];
+          slots = map forever (completion compiled.now);
+          ranking = fresh (var_count compiled.now);
+        }) }
+    {
+        let engine = completed(alloc, compiled, propagator)?;
+        let order = Order::new(alloc, compiled.vars())?;
+        Ok(SearchState {
+            engine,
+            order,
+            cube: None,
+            clashing: false,
+            decisions: Vec::new(alloc),
+        })
+    }
+
+    /// No engine is entered any more: nothing holds.
+    pub fn leave(&mut self)
+        ensures same { self.new ≡ record self.old { cube = None; clashing = false; decisions = []; entries = []; ranking = self.new.ranking } }
+        ensures order { IsFuller self.old.ranking self.new.ranking }
+    {
+        self.order.restore_all(self.engine.trail());
+        self.engine.clear();
+        self.decisions.clear();
+        self.cube = None;
+        self.clashing = false;
+    }
+
+    /// Begins a engine: the literals of the cube are to hold. Where one of them has its complement there, nothing is
+    /// tried under the cube.
+    ///
+    /// Want of memory is the one error: then no engine is entered.
+    pub fn enter(&mut self, alloc: Global, cube: &[Lit]) -> Result<(), AllocError>
+        requires { AreOf self.old.program cube.now }
+        ensures same { self.new ≡ record self.old { cube = self.new.cube; clashing = self.new.clashing; decisions = []; entries = self.new.entries; ranking = self.new.ranking } }
+        ensures order { IsFuller self.old.ranking self.new.ranking }
+        ensures level { level self.new.entries ≡ 0 }
+        ensures ok { OnOk result (self.new.cube ≡ Some cube.now) }
+        ensures err { OnErr result (self.new.cube ≡ None) }
+    {
+        self.leave();
+        let copy = cube.to_vec(alloc)?;
+        self.clashing = !assume_all(&mut self.engine, cube);
+        self.cube = Some(copy);
+        Ok(())
+    }
+
+    /// Whether the cube has a literal and its complement.
+    pub fn is_clashing(&self) -> bool
+        ensures same { result ≡ self.now.clashing }
+        ensures clashes { (q : List Literal) → self.now.cube ≡ Some q → IsTrue result → Clashes q }
+    {
+        self.clashing
+    }
+
+    /// The trail.
+    pub fn trail(&self) -> &Trail
+        ensures vars { result.now.vars ≡ var_count self.now.program }
+        ensures entries { result.now.entries ≡ self.now.entries }
+        ensures ordered { IsOrdered (var_count self.now.program) self.now.entries }
+        ensures begun { (q : List Literal) → IsUnder self.now q → IsBegun self.now.program q self.now.decisions self.now.entries }
+    {
+        let _len = self.engine.trail().len();
+        self.engine.trail()
+    }
+
+    /// The nogoods that are kept. Each entry that was implied names one, which is its reason.
+    pub fn store(&self) -> &Store
+        ensures slots { result.now.slots ≡ self.now.slots }
+        ensures reasons { HaveReasons self.now.slots self.now.entries }
+        ensures small { AreSmall (var_count self.now.program) self.now.slots }
+        ensures completed { KeepsCompletion self.now.program self.now.slots }
+    {
+        let _extra = self.engine.store().extra();
+        self.engine.store()
+    }
+
+    /// The cube, and none of its literals where no engine is entered.
+    pub fn cube(&self) -> &[Lit]
+        ensures { (q : List Literal) → self.now.cube ≡ Some q → result.now ≡ q }
+    {
+        match &self.cube {
+            None => &[],
+            Some(cube) => cube.as_slice(),
+        }
+    }
+
+    /// The decisions, that of level 1 first.
+    pub fn decisions(&self) -> &[Lit]
+        ensures { result.now ≡ self.now.decisions }
+    {
+        self.decisions.as_slice()
+    }
+
+    /// Implies what follows, until a kept nogood is violated, which is named, or the propagator is silent.
+    ///
+    /// Want of memory is the one error. Whatever comes, entries and nogoods are only added.
+    pub fn propagate(&mut self) -> Result<Option<NogoodId>, AllocError>
+        requires { (q : List Literal) × IsUnder self.old q }
+        ensures same { self.new ≡ record self.old { entries = self.new.entries; slots = self.new.slots } }
+        ensures adds { Adds (P.gives self.old.program self.old.bound) self.old.slots self.new.slots }
+        ensures implies { Implies self.old.entries self.new.entries }
+        ensures reasons { HaveReasons self.new.slots self.new.entries }
+        ensures quiet { IfOk result (λ r. IfNone r (IsQuiet (P.silent self.new.program self.new.bound) self.new.slots (values_of self.new))) }
+        ensures violated { IfOk result (λ r. IfSome r (IsViolated (var_count self.new.program) self.new.slots self.new.entries)) }
+    {
+        self.engine.propagate()
+    }
+
+    /// Decides the first variable without a value to be false. None where each has a value.
+    ///
+    /// Want of memory is the one error: then nothing changed.
+    pub fn decide(&mut self) -> Result<Option<Lit>, AllocError>
+        requires under { (q : List Literal) × IsUnder self.old q }
+        requires calm { AreCalm self.old.slots (values_of self.old) }
+        ensures same { self.new ≡ record self.old { decisions = self.new.decisions; entries = self.new.entries; ranking = record self.old.ranking { members = self.new.ranking.members } } }
+        ensures next { IfOk result (λ r. IfSome r (λ l. (l ≡ F l.var) × IsNext (var_count self.old.program) (values_of self.old) self.old.ranking.activities l.var)) }
+        ensures entries { IfOk result (λ r. IfSome r (λ l. self.new.entries ≡ self.old.entries ++ record { lit = l; level = length self.old.decisions + 1; reason = None } ∷ [])) }
+        ensures decisions { IfOk result (λ r. IfSome r (λ l. self.new.decisions ≡ self.old.decisions ++ l ∷ [])) }
+        ensures none { IfOk result (λ r. IfNone r (AreAssigned (var_count self.old.program) (values_of self.old) × (self.new.entries ≡ self.old.entries) × (self.new.decisions ≡ self.old.decisions))) }
+        ensures err { OnErr result (self.new ≡ self.old) }
+    {
+        self.decisions.reserve(1)?;
+        let _len = self.engine.trail().len();
+        match self.order.next(self.engine.trail()) {
+            None => Ok(None),
+            Some(var) => {
+                let lit = Lit::new(var, false);
+                self.engine.decide(lit);
+                self.decisions.push_reserved(lit);
+                Ok(Some(lit))
+            }
+        }
+    }
+
+    /// Leaves exactly the entries of the levels up to this one.
+    pub fn undo_to(&mut self, level: usize)
+        ensures same { self.new ≡ record self.old { decisions = take level self.old.decisions; entries = cut level self.old.entries; ranking = self.new.ranking } }
+        ensures order { IsFuller self.old.ranking self.new.ranking }
+    {
+        let _len = self.engine.trail().len();
+        self.order.restore_above(self.engine.trail(), level);
+        self.engine.undo_to(level);
+        self.decisions.truncate(level);
+    }
+
+    /// A literal that follows by a kept nogood, at the level that stands.
+    pub fn imply(&mut self, lit: Lit, id: NogoodId)
+        requires under { (q : List Literal) × IsUnder self.old q }
+        requires var { IsVar (var_count self.old.program) lit.var }
+        requires none { value_of (values_of self.old) lit.var ≡ None }
+        requires implied { IsImplied (path_of self.old) lit id }
+        ensures { self.new ≡ record self.old { entries = self.old.entries ++ record { lit = lit; level = level self.old.entries; reason = Some id } ∷ [] } }
+    {
+        self.engine.imply(lit, id);
+    }
+
+    /// Keeps a nogood, forever or until it is dropped, and gives its number. Want of memory leaves all as it was.
+    pub fn keep(&mut self, nogood: Nogood, forever: bool) -> Result<NogoodId, AllocError>
+        requires { AreOf self.old.program nogood.lits }
+        ensures ok { OnOk result (self.new ≡ record self.old { slots = self.old.slots ++ Some (record { nogood = nogood; forever = forever; locked = false }) ∷ [] }) }
+        ensures id { IfOk result (λ id. id ≡ length self.old.slots) }
+        ensures err { OnErr result (self.new ≡ self.old) }
+    {
+        self.engine.keep(nogood, forever)
+    }
+
+    /// Drops a local nogood that no entry names as its reason.
+    pub fn remove(&mut self, id: NogoodId)
+        requires local { (k : Kept) × (kept_at self.old.slots id ≡ Some k) × (k.nogood.base ≡ base.Local) }
+        requires unnamed { (i : ℕ) (d : Entry) → i < length self.old.entries → (slice_index_or self.old.entries i d).reason ≡ Some id → ⊥ }
+        ensures { self.new ≡ record self.old { slots = slice_set self.old.slots id None } }
+    {
+        self.engine.remove(id);
+    }
+
+    /// Raises the activity of the variables of a nogood that was learnt.
+    pub fn bump(&mut self, lits: &[Lit])
+        requires { AreOf self.old.program lits.now }
+        ensures { self.new ≡ record self.old { ranking = learnt self.old.ranking lits.now } }
+    {
+        self.order.bump(lits);
+    }
+
+    /// Drops the older half, rounded down, of the nogoods that weren't added forever, aren't reasons and have more than
+    /// two literals.
+    pub fn reduce(&mut self)
+        ensures thinned { self.new ≡ record self.old { slots = thinned self.old.entries self.old.slots } }
+        ensures kept { IsReduced self.old.entries self.old.slots self.new.slots }
+    {
+        self.engine.reduce();
+    }
+
+    /// From now on smaller costs than this one are wanted.
+    pub fn set_bound(&mut self, cost: Cost)
+        requires { IsSmaller cost self.old.bound }
+        ensures { self.new ≡ record self.old { bound = Some cost } }
+    {
+        self.engine.set_bound(cost);
+    }
+
+    /// The nogood of the cube and the decisions.
+    ///
+    /// Want of memory is the one error.
+    pub fn way(&self, alloc: Global) -> Result<Nogood, AllocError>
+        ensures { (q : List Literal) → self.now.cube ≡ Some q → IfOk result (λ n. n ≡ record { lits = q ++ self.now.decisions; base = base.Local }) }
+    {
+        let mut lits = Lits::from_slice(alloc, self.cube())?;
+        push_all(&mut lits, self.decisions())?;
+        Ok(Nogood {
+            lits,
+            base: Base::Local,
+        })
+    }
+}

@@ -1,0 +1,7 @@
+//! Tests of a search's trail: with its store and a propagator, and under a cube.
+#![tactic(auto)]
+
+#[cfg(test)]
+mod following;
+#[cfg(test)]
+mod state;

@@ -1,5 +1,0 @@
-use Rattle.asp_step.proofs.JumpLaws.{jump_none, jump_reason, jump_beside}
-use Rattle.asp_step.proofs.laws.jumps_imply.Goals as goal
-
-pub returns : goal.returns
-returns c = record { none = jump_none; reason = jump_reason; beside = jump_beside }

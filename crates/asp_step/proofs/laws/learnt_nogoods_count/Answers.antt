@@ -1,5 +1,0 @@
-use Rattle.asp_step.proofs.UsefulLaws.{learnt_useful}
-use Rattle.asp_step.proofs.laws.learnt_nogoods_count.Goals as goal
-
-pub returns : goal.returns
-returns c = learnt_useful

@@ -1,5 +1,0 @@
-pub mod SlotLaws
-pub mod TrackLaws
-pub mod KeepLaws
-pub mod AssumedLaws
-pub mod ListedLaws

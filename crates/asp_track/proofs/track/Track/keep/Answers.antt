@@ -1,8 +1,0 @@
-use Rattle.std.specs.Prelude.{option_map}
-use Rattle.asp_track.proofs.KeepLaws.{kept_either}
-use Rattle.asp_track.proofs.track.Track.keep.Goals as goal
-
-pub invariant_of-self : goal.invariant_of-self
-invariant_of-self g c =
-    let i = c.self.inside in
-    kept_either c.keep.result i.path c.keep.new.self (option_map (λ q. q.items) i.cube) i.clashing i.decisions.items i.order c.args.nogood c.args.forever c.keep.ensures.ok c.keep.ensures.err c.self.invariant

@@ -1,7 +1,0 @@
-//! Tests of a search's trail: with its store and a propagator, and under a cube.
-#![tactic(auto)]
-
-#[cfg(test)]
-mod following;
-#[cfg(test)]
-mod track;

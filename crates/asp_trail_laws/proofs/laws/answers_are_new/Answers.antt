@@ -1,0 +1,8 @@
+use Rattle.asp_trail_laws.proofs.AnswerLaws.{answer_new, answer_settles}
+use Rattle.asp_trail_laws.proofs.laws.answers_are_new.Goals as goal
+
+pub returns : goal.returns
+returns c = record {
+  new = answer_new;
+  settled = λ p known bound vars kept cube decisions es w r all s. answer_settles p known bound vars kept cube decisions es w r all s;
+}
