@@ -18,7 +18,7 @@ use Rattle.asp_trail_laws.specs.Starts.{AreStarts}
 use Rattle.asp_trail_laws.specs.Calm.{WereCalm}
 use Rattle.asp_propagate.specs.Propagating.{Propagating}
 
--- There is no cube before a engine is entered, nor after one was lost. Under one that clashes nothing is tried.
+-- There is no cube before a path is entered, nor after one was lost. Under one that clashes nothing is tried.
 pub record SearchView : Type 0 where
   pub program : Program
   pub bound : Option (List ℤ)
@@ -33,7 +33,7 @@ pub record SearchView : Type 0 where
 abbrev pub values_of : SearchView → List (Option Bool)
 values_of t = assignment (var_count t.program) t.entries
 
--- the part of it that a engine keeps
+-- the part of it that an engine keeps
 abbrev pub path_of : SearchView → Propagating
 path_of t = record { program = t.program; entries = t.entries; slots = t.slots; bound = t.bound }
 
@@ -43,7 +43,7 @@ pub record Clashes (cube : List Literal) : Type 0 where
   pub has : IsTrue (has_literal cube lit)
   pub opposite : IsTrue (has_literal cube (complement lit))
 
--- A engine was entered whose cube doesn't clash.
+-- A path was entered whose cube doesn't clash.
 pub record IsUnder (t : SearchView) (cube : List Literal) : Type 0 where
   pub cube_is : t.cube ≡ Some cube
   pub calm : t.clashing ≡ false

@@ -1,4 +1,4 @@
-//! A engine on which the completion is kept.
+//! An engine on which the completion is kept.
 ghost use Rattle.std.specs.Prelude.{◌≡◌, ◌++◌, ◌+◌, None, [], map, replicate, IfOk, OnOk};
 ghost use Rattle.std.specs.List.{All};
 ghost use Rattle.asp_vars.specs.Numbering.{var_count};
@@ -23,7 +23,7 @@ fn keep_all<P: Propagator>(engine: &mut Engine<P>, nogoods: Vec<Nogood>) -> Resu
     Ok(())
 }
 
-/// A engine without entries, on which the completion of the propagator's program is kept.
+/// An engine without entries, on which the completion of the propagator's program is kept.
 pub fn completed<P: Propagator>(
     alloc: Global,
     compiled: &Compiled,

@@ -80,7 +80,7 @@ fn push_all(lits: &mut Lits, more: &[Lit]) -> Result<(), AllocError>
 }
 
 impl<P: Propagator> SearchState<P> {
-    /// No engine is entered. The completion is kept, and nothing else.
+    /// No path is entered. The completion is kept, and nothing else.
     ///
     /// Want of memory is the one error.
     pub fn new(alloc: Global, compiled: &Compiled, propagator: P) -> Result<SearchState<P>, AllocError>
@@ -108,7 +108,7 @@ impl<P: Propagator> SearchState<P> {
         })
     }
 
-    /// No engine is entered any more: nothing holds.
+    /// No path is entered any more: nothing holds.
     pub fn leave(&mut self)
         ensures same { self.new ≡ record self.old { cube = None; clashing = false; decisions = []; entries = []; ranking = self.new.ranking } }
         ensures order { IsFuller self.old.ranking self.new.ranking }
@@ -120,10 +120,10 @@ impl<P: Propagator> SearchState<P> {
         self.clashing = false;
     }
 
-    /// Begins a engine: the literals of the cube are to hold. Where one of them has its complement there, nothing is
+    /// Begins a path: the literals of the cube are to hold. Where one of them has its complement there, nothing is
     /// tried under the cube.
     ///
-    /// Want of memory is the one error: then no engine is entered.
+    /// Want of memory is the one error: then no path is entered.
     pub fn enter(&mut self, alloc: Global, cube: &[Lit]) -> Result<(), AllocError>
         requires { AreOf self.old.program cube.now }
         ensures same { self.new ≡ record self.old { cube = self.new.cube; clashing = self.new.clashing; decisions = []; entries = self.new.entries; ranking = self.new.ranking } }
@@ -169,7 +169,7 @@ impl<P: Propagator> SearchState<P> {
         self.engine.store()
     }
 
-    /// The cube, and none of its literals where no engine is entered.
+    /// The cube, and none of its literals where no path is entered.
     pub fn cube(&self) -> &[Lit]
         ensures { (q : List Literal) → self.now.cube ≡ Some q → result.now ≡ q }
     {
