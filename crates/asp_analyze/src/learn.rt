@@ -115,18 +115,26 @@ impl Learner {
         &mut self,
         trail: &Trail,
         reasons: &R,
-        nogood: &Nogood,
+        lits: &[Lit],
+        base: &Base,
     ) -> Result<Learned, AllocError>
         requires vars { AreUpTo self.old trail.now.entries }
-        requires contained { AreContained trail.now.vars trail.now.entries nogood.now.lits }
+        requires contained { AreContained trail.now.vars trail.now.entries lits.now }
         requires reasons { AreReasoned (R.kept reasons.now) trail.now.entries }
-        ensures reached { IfOk result (λ l. (used : List Used) × IsReached (R.kept reasons.now) trail.now.entries nogood.now used (nogood_of l)) }
+        ensures reached { IfOk result (λ l. (used : List Used) × IsReached (R.kept reasons.now) trail.now.entries (record { lits = lits.now; base = base.now }) used (nogood_of l)) }
         ensures contained { IfOk result (λ l. AreContained trail.now.vars trail.now.entries (nogood_of l).lits) }
         ensures assumed { IfOk result (λ l. AreAssumed trail.now.entries (nogood_of l).lits) }
-        ensures learned { IfOk result (IsLearned trail.now.entries nogood.now.lits) }
+        ensures learned { IfOk result (IsLearned trail.now.entries lits.now) }
         ensures same { self.new ≡ self.old }
     {
-        let learned = analyse(&mut self.marks, &mut self.path, trail, reasons, nogood);
+        let learned = analyse(
+            &mut self.marks,
+            &mut self.path,
+            trail,
+            reasons,
+            lits,
+            base,
+        );
         self.marks.clear();
         learned
     }
@@ -138,21 +146,22 @@ fn analyse<R: Reasons>(
     path: &mut Vec<Look>,
     trail: &Trail,
     reasons: &R,
-    nogood: &Nogood,
+    lits: &[Lit],
+    base: &Base,
 ) -> Result<Learned, AllocError>
     requires marks { (vars : ℕ) × (marks.old ≡ unmarked (vars + 1)) × AreUpTo vars trail.now.entries }
-    requires contained { AreContained trail.now.vars trail.now.entries nogood.now.lits }
+    requires contained { AreContained trail.now.vars trail.now.entries lits.now }
     requires reasons { AreReasoned (R.kept reasons.now) trail.now.entries }
-    ensures reached { IfOk result (λ l. (used : List Used) × IsReached (R.kept reasons.now) trail.now.entries nogood.now used (nogood_of l)) }
+    ensures reached { IfOk result (λ l. (used : List Used) × IsReached (R.kept reasons.now) trail.now.entries (record { lits = lits.now; base = base.now }) used (nogood_of l)) }
     ensures contained { IfOk result (λ l. AreContained trail.now.vars trail.now.entries (nogood_of l).lits) }
     ensures assumed { IfOk result (λ l. AreAssumed trail.now.entries (nogood_of l).lits) }
-    ensures learned { IfOk result (IsLearned trail.now.entries nogood.now.lits) }
+    ensures learned { IfOk result (IsLearned trail.now.entries lits.now) }
     ensures size { length marks.new.marks ≡ length marks.old.marks }
 {
     let _len = trail.len();
-    let mut base = nogood.base.copy()?;
-    let top = greatest_level(nogood.lits.as_slice(), trail);
-    note_all(marks, trail, top, nogood.lits.as_slice());
+    let mut base = base.copy()?;
+    let top = greatest_level(lits, trail);
+    note_all(marks, trail, top, lits);
     let point = find_point(marks, &mut base, trail, reasons, top)?;
     settle(marks, &mut base, path, trail, reasons, top)?;
     let lits = staying(*path.allocator(), marks)?;
@@ -175,14 +184,15 @@ pub fn learn<R: Reasons>(
     alloc: Global,
     trail: &Trail,
     reasons: &R,
-    nogood: &Nogood,
+    lits: &[Lit],
+    base: &Base,
 ) -> Result<Learned, AllocError>
-    requires contained { AreContained trail.now.vars trail.now.entries nogood.now.lits }
+    requires contained { AreContained trail.now.vars trail.now.entries lits.now }
     requires reasons { AreReasoned (R.kept reasons.now) trail.now.entries }
-    ensures reached { IfOk result (λ l. (used : List Used) × IsReached (R.kept reasons.now) trail.now.entries nogood.now used (nogood_of l)) }
+    ensures reached { IfOk result (λ l. (used : List Used) × IsReached (R.kept reasons.now) trail.now.entries (record { lits = lits.now; base = base.now }) used (nogood_of l)) }
     ensures contained { IfOk result (λ l. AreContained trail.now.vars trail.now.entries (nogood_of l).lits) }
     ensures assumed { IfOk result (λ l. AreAssumed trail.now.entries (nogood_of l).lits) }
-    ensures learned { IfOk result (IsLearned trail.now.entries nogood.now.lits) }
+    ensures learned { IfOk result (IsLearned trail.now.entries lits.now) }
 {
-    Learner::new(alloc, greatest_var(trail))?.learn(trail, reasons, nogood)
+    Learner::new(alloc, greatest_var(trail))?.learn(trail, reasons, lits, base)
 }

@@ -108,14 +108,8 @@ fn visit<R: Reasons>(
         path.clear();
         return Ok(());
     };
-    let reason = reasons.reason(id);
-    match find_other(
-        marks,
-        trail,
-        reason.lits.as_slice(),
-        last.next,
-        last.lit.var(),
-    ) {
+    let reason = reasons.lits(id);
+    match find_other(marks, trail, reason, last.next, last.lit.var()) {
         None => open(marks, base, trail, reasons, top, last.lit, id),
         Some(other) => {
             if may_follow(marks, trail, levels, other.lit) {

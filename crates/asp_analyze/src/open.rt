@@ -67,9 +67,8 @@ pub fn open<R: Reasons>(
     ensures opened { OnOk result (Opened trail.now.entries lit marks.old marks.new) }
     ensures size { length marks.new.marks ≡ length marks.old.marks }
 {
-    let reason = reasons.reason(id);
-    join(base, &reason.base)?;
+    join(base, reasons.base(id))?;
     marks.change(lit.var(), Mark::Resolved);
-    note_all(marks, trail, top, reason.lits.as_slice());
+    note_all(marks, trail, top, reasons.lits(id));
     Ok(())
 }

@@ -24,8 +24,12 @@ impl Reasons for Only {
 
     ghost kept = { λ o _. Some o.nogood };
 
-    fn reason(&self, _id: NogoodId) -> &Nogood {
-        &self.nogood
+    fn lits(&self, _id: NogoodId) -> &[Lit] {
+        self.nogood.lits.as_slice()
+    }
+
+    fn base(&self, _id: NogoodId) -> &Base {
+        &self.nogood.base
     }
 }
 
@@ -74,12 +78,13 @@ fn check<R: Reasons>(
     requires few { AreUpTo 8 trail.now.entries }
 {
     let _len = trail.len();
+    let (from, base) = (nogood.lits.as_slice(), &nogood.base);
     let mut learner = Learner::new(heap, 8)?;
-    let first = learner.learn(trail, reasons, nogood)?;
+    let first = learner.learn(trail, reasons, from, base)?;
     assert!(rt; is_learnt(&first, lits, jump));
-    let second = learner.learn(trail, reasons, nogood)?;
+    let second = learner.learn(trail, reasons, from, base)?;
     assert!(rt; is_learnt(&second, lits, jump));
-    let third = learn(heap, trail, reasons, nogood)?;
+    let third = learn(heap, trail, reasons, from, base)?;
     assert!(rt; is_learnt(&third, lits, jump));
     Ok(())
 }

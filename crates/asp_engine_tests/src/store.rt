@@ -44,7 +44,7 @@ fn implies_again_after_an_undo(rt: HostRuntime) -> Result<(), Fail> {
     assert!(rt; matches!(store.propagate(&mut trail), Propagated::Quiet));
     assert!(rt; trail.value(2) == Some(false));
     assert_eq!(rt; trail.level_of(2), 2);
-    assert_eq!(rt; store.reason(one).lits.as_slice().len(), 2);
+    assert_eq!(rt; store.lits(one).len(), 2);
     Ok(())
 }
 

@@ -54,7 +54,7 @@ fn is_spare<P: Propagator>(state: &SearchState<P>, lits: &[Lit], id: NogoodId) -
     requires { IsSome (nogood_at state.now.slots id) }
     ensures { IsTrue result → IsSpare state.now.slots state.now.entries lits.now id }
 {
-    let old = state.store().reason(id).lits.as_slice();
+    let old = state.store().lits(id);
     if !old.starts_with(lits) {
         return false;
     }

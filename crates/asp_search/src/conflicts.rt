@@ -33,7 +33,7 @@ pub(crate) fn learn<P: Propagator>(
     ensures explains { IfOk result (Explains (var_count state.now.program) state.now.slots state.now.entries id) }
 {
     let store = state.store();
-    learner.learn(state.trail(), store, store.reason(id))
+    learner.learn(state.trail(), store, store.lits(id), store.base(id))
 }
 
 fn copy_bound(bound: &Option<Cost>) -> Result<Option<Cost>, AllocError>
@@ -64,7 +64,7 @@ pub(crate) fn conflict<P: Propagator>(
     let top = state.trail().level_of(lit.var());
     let cube = state.cube().to_vec(alloc)?;
     let decisions = state.decisions()[..top].to_vec(alloc)?;
-    let nogood = state.store().reason(id).lits.as_slice().to_vec(alloc)?;
+    let nogood = state.store().lits(id).to_vec(alloc)?;
     let bound = copy_bound(bound)?;
     Ok(Conflict::of(compiled, cube, decisions, nogood, known, bound))
 }

@@ -1,15 +1,15 @@
 //! The search: what it keeps, and the calls beside its step.
-ghost use Rattle.std.specs.Prelude.{◌≡◌, ◌≢◌, ◌+◌, ◌≤◌, ◌∷◌, ◌++◌, [], None, Some, true, false, IfOk, OnOk, OnErr, MatchBool, length, replicate, slice_get};
+ghost use Rattle.std.specs.Prelude.{◌≡◌, ◌≢◌, ◌+◌, ◌≤◌, ◌∷◌, ◌++◌, [], None, Some, true, false, IfOk, OnOk, OnErr, IsSome, MatchBool, length, replicate, slice_get};
 ghost use Rattle.std.specs.List.{All};
-ghost use Rattle.std.specs.Option.{option_copied};
 ghost use Rattle.asp_vars.specs.Entailment.{IsGood};
 ghost use Rattle.asp_vars.specs.Numbering.{var_count};
 ghost use Rattle.asp_vars.specs.declared.nogood.Base.TheVariants as base;
 ghost use Rattle.asp_trail.specs.Entries.{level};
 ghost use Rattle.asp_trail.specs.Trails.{IsVar};
+ghost use Rattle.asp_store.specs.Keeping.{nogood_at};
 ghost use Rattle.asp_propagate.specs.Useful.{IsSmaller};
 ghost use Rattle.asp_search_laws.specs.Steps.{is_of_use};
-ghost use Rattle.asp_search.specs.Beside.{new_search, Enters, Leaves, is_local, is_shared, exported};
+ghost use Rattle.asp_search.specs.Beside.{new_search, Enters, Leaves, is_local, is_shared, only_shared, exported};
 
 use asp_analyze::learn::Learner;
 use asp_model::cost::Cost;
@@ -18,10 +18,11 @@ use asp_model::results::Mode;
 use asp_order::pace::Pace;
 use asp_propagate::propagator::Propagator;
 use asp_state::state::SearchState;
+use asp_store::store::Store;
 use asp_trail::reasons::{NogoodId, Reasons};
 use asp_vars::compiled::Compiled;
 use asp_vars::lit::Lit;
-use asp_vars::nogood::{Base, Nogood};
+use asp_vars::nogood::{Base, Lits, Nogood};
 use std::alloc::{AllocError, Global};
 use std::marker::Model;
 
@@ -84,11 +85,25 @@ fn is_local(base: &Base) -> bool
     }
 }
 
-// Whether other searches can use the nogood.
-fn is_shared(nogood: &Nogood) -> bool
-    ensures { result ≡ is_shared nogood.now }
+// Whether other searches can use the nogood of these literals.
+fn is_shared(lits: &[Lit], base: &Base) -> bool
+    ensures { result ≡ is_shared (record { lits = lits.now; base = base.now }) }
 {
-    !is_local(&nogood.base) && nogood.lits.as_slice().len() <= LONGEST_EXPORT
+    !is_local(base) && lits.len() <= LONGEST_EXPORT
+}
+
+// A copy of the kept nogood, if other searches can use it.
+fn copy_shared(alloc: Global, store: &Store, id: NogoodId) -> Result<Option<Nogood>, AllocError>
+    requires { IsSome (nogood_at store.now.slots id) }
+    ensures { IfOk result (λ copy. copy ≡ only_shared (nogood_at store.now.slots id)) }
+{
+    let (lits, base) = (store.lits(id), store.base(id));
+    if !is_shared(lits, base) {
+        return Ok(None);
+    }
+    let lits = Lits::from_slice(alloc, lits)?;
+    let base = base.copy()?;
+    Ok(Some(Nogood { lits, base }))
 }
 
 impl<'a, P: Propagator> Search<'a, P> {
@@ -197,16 +212,14 @@ impl<'a, P: Propagator> Search<'a, P> {
         }
     }
 
-    /// The nogood that the last step learnt, if it has at most 8 literals and isn't local.
-    pub fn export(&self) -> Option<&Nogood>
-        ensures { option_copied result ≡ exported self.now }
+    /// A copy of the nogood that the last step learnt, if it has at most 8 literals and isn't local.
+    pub fn export(&self) -> Result<Option<Nogood>, AllocError>
+        ensures { IfOk result (λ copy. copy ≡ exported self.now) }
     {
         let _mode = self.mode;
-        let nogood = self.state.store().reason(self.last?);
-        if is_shared(nogood) {
-            Some(nogood)
-        } else {
-            None
+        match self.last {
+            None => Ok(None),
+            Some(id) => copy_shared(self.alloc, self.state.store(), id),
         }
     }
 

@@ -18,7 +18,7 @@ use crate::slots::{reduce_slots, remove_slot, set_locked};
 use asp_trail::reasons::{NogoodId, Reasons};
 use asp_trail::trail::Trail;
 use asp_vars::lit::Lit;
-use asp_vars::nogood::Nogood;
+use asp_vars::nogood::{Base, Nogood};
 use std::alloc::{AllocError, Global};
 use std::marker::Model;
 
@@ -188,9 +188,16 @@ impl Reasons for Store {
 
     ghost kept = { λ s id. nogood_at s.slots id };
 
-    fn reason(&self, id: NogoodId) -> &Nogood {
+    fn lits(&self, id: NogoodId) -> &[Lit] {
         match &self.slots[id] {
-            Some(kept) => &kept.nogood,
+            Some(kept) => kept.nogood.lits.as_slice(),
+            None => unreachable!(),
+        }
+    }
+
+    fn base(&self, id: NogoodId) -> &Base {
+        match &self.slots[id] {
+            Some(kept) => &kept.nogood.base,
             None => unreachable!(),
         }
     }

@@ -1,7 +1,8 @@
 //! Where the nogoods stand that implied literals.
-ghost use Rattle.std.specs.Prelude.{◌≡◌, Some, IsSome};
+ghost use Rattle.std.specs.Prelude.{◌≡◌, IsSome, IfSome};
 
-use asp_vars::nogood::Nogood;
+use asp_vars::lit::Lit;
+use asp_vars::nogood::Base;
 
 /// A nogood's number where it is kept.
 pub type NogoodId = usize;
@@ -14,8 +15,13 @@ pub trait Reasons {
     /// The nogood that stands under a number, if one does.
     ghost kept: { Self → ℕ → Option Nogood };
 
-    /// The nogood under a number that has one.
-    fn reason(&self, id: NogoodId) -> &Nogood
+    /// The literals of the nogood under a number that has one, in their order.
+    fn lits(&self, id: NogoodId) -> &[Lit]
         requires { IsSome (kept self.now id) }
-        ensures { Some result.now ≡ kept self.now id };
+        ensures { IfSome (kept self.now id) (λ n. result.now ≡ n.lits) };
+
+    /// What the nogood under a number that has one says.
+    fn base(&self, id: NogoodId) -> &Base
+        requires { IsSome (kept self.now id) }
+        ensures { IfSome (kept self.now id) (λ n. result.now ≡ n.base) };
 }

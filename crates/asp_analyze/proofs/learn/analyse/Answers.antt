@@ -14,53 +14,53 @@ greatest_level-top-requires g c =
     let es = c.args.trail.now.entries in
     let vars : ℕ = c.args.trail.now.vars in
     let o = c.len-len.ensures.ordered in
-    let from : Nogood = c.args.nogood.now in
+    let from : Nogood = record { lits = c.args.lits.now; base = c.args.base.now } in
     let on : All (λ (l : Literal). IsOn es l) from.lits = all_on vars es from.lits o c.requires.contained in
-    subst (λ (ls : List Literal). All (λ (l : Literal). IsOn es l) ls) (sym c.as_slice.ensures.value) on
+    on
 
 pub note_all-requires-clause-small : goal.note_all-requires-clause-small
 note_all-requires-clause-small g c =
     let es = c.args.trail.now.entries in
     let vars : ℕ = c.args.trail.now.vars in
     let o = c.len-len.ensures.ordered in
-    let from : Nogood = c.args.nogood.now in
+    let from : Nogood = record { lits = c.args.lits.now; base = c.args.base.now } in
     let on : All (λ (l : Literal). IsOn es l) from.lits = all_on vars es from.lits o c.requires.contained in
     let n : ℕ = c.requires.marks.0 in
     let e = c.requires.marks.1 in
     let old : Marked = c.args.marks.now in
     let top : ℕ = c.greatest_level-top.result in
     let below : All (λ (l : Literal). level_in es l.var ≤ top) from.lits =
-    subst (λ (ls : List Literal). All (λ (l : Literal). level_in es l.var ≤ top) ls) c.as_slice.ensures.value c.greatest_level-top.ensures.below in
-    subst (λ (ls : List Literal). All (λ (l : Literal). l.var < length old.marks) ls) (sym c.as_slice-2.ensures.value) (all_small vars n es old from.lits o c.requires.marks.2 e on)
+    c.greatest_level-top.ensures.below in
+    (all_small vars n es old from.lits o c.requires.marks.2 e on)
 
 pub note_all-requires-clause-stays : goal.note_all-requires-clause-stays
 note_all-requires-clause-stays g c =
     let es = c.args.trail.now.entries in
     let vars : ℕ = c.args.trail.now.vars in
     let o = c.len-len.ensures.ordered in
-    let from : Nogood = c.args.nogood.now in
+    let from : Nogood = record { lits = c.args.lits.now; base = c.args.base.now } in
     let on : All (λ (l : Literal). IsOn es l) from.lits = all_on vars es from.lits o c.requires.contained in
     let n : ℕ = c.requires.marks.0 in
     let e = c.requires.marks.1 in
     let old : Marked = c.args.marks.now in
     let top : ℕ = c.greatest_level-top.result in
     let below : All (λ (l : Literal). level_in es l.var ≤ top) from.lits =
-    subst (λ (ls : List Literal). All (λ (l : Literal). level_in es l.var ≤ top) ls) c.as_slice.ensures.value c.greatest_level-top.ensures.below in
-    subst (λ (ls : List Literal). All (λ (l : Literal). is_met (mark_of old.marks l.var) ≡ false → CanStay es top l) ls) (sym c.as_slice-2.ensures.value) (all_stay es top old from.lits on below)
+    c.greatest_level-top.ensures.below in
+    (all_stay es top old from.lits on below)
 
 pub note_all-requires-clause-marked : goal.note_all-requires-clause-marked
 note_all-requires-clause-marked g c =
     let es = c.args.trail.now.entries in
     let vars : ℕ = c.args.trail.now.vars in
     let o = c.len-len.ensures.ordered in
-    let from : Nogood = c.args.nogood.now in
+    let from : Nogood = record { lits = c.args.lits.now; base = c.args.base.now } in
     let on : All (λ (l : Literal). IsOn es l) from.lits = all_on vars es from.lits o c.requires.contained in
     let n : ℕ = c.requires.marks.0 in
     let e = c.requires.marks.1 in
     let old : Marked = c.args.marks.now in
     let top : ℕ = c.greatest_level-top.result in
     let below : All (λ (l : Literal). level_in es l.var ≤ top) from.lits =
-    subst (λ (ls : List Literal). All (λ (l : Literal). level_in es l.var ≤ top) ls) c.as_slice.ensures.value c.greatest_level-top.ensures.below in
+    c.greatest_level-top.ensures.below in
     marked_begins vars n es top old o c.requires.marks.2 e
 
 pub find_point-requires-clause-way : goal.find_point-requires-clause-way
@@ -68,19 +68,19 @@ find_point-requires-clause-way g c =
     let es = c.args.trail.now.entries in
     let vars : ℕ = c.args.trail.now.vars in
     let o = c.len-len.ensures.ordered in
-    let from : Nogood = c.args.nogood.now in
+    let from : Nogood = record { lits = c.args.lits.now; base = c.args.base.now } in
     let on : All (λ (l : Literal). IsOn es l) from.lits = all_on vars es from.lits o c.requires.contained in
     let n : ℕ = c.requires.marks.0 in
     let e = c.requires.marks.1 in
     let old : Marked = c.args.marks.now in
     let top : ℕ = c.greatest_level-top.result in
     let below : All (λ (l : Literal). level_in es l.var ≤ top) from.lits =
-    subst (λ (ls : List Literal). All (λ (l : Literal). level_in es l.var ≤ top) ls) c.as_slice.ensures.value c.greatest_level-top.ensures.below in
+    c.greatest_level-top.ensures.below in
     let kept = g.R.Reasons.kept c.args.reasons.now in
     let first : Marked = c.note_all.new.marks in
-    let noted : Noted es old first from.lits = subst (λ (ls : List Literal). Noted es old first ls) c.as_slice-2.ensures.value c.note_all.ensures.noted in
+    let noted : Noted es old first from.lits = c.note_all.ensures.noted in
     let attained : 0 < top → (l : Literal) × (has_literal from.lits l ≡ true) × (level_in es l.var ≡ top) =
-    subst (λ (ls : List Literal). 0 < top → (l : Literal) × (has_literal ls l ≡ true) × (level_in es l.var ≡ top)) c.as_slice.ensures.value c.greatest_level-top.ensures.attained in
+    c.greatest_level-top.ensures.attained in
     let begun : IsOnTheWay es kept from top first c.in_ok-base.base = way_begins vars n es kept from top old first c.in_ok-base.base o e c.in_ok-base.ensures c.note_all.ensures.marked noted in
     (from, begun)
 
@@ -89,19 +89,19 @@ find_point-requires-clause-down g c =
     let es = c.args.trail.now.entries in
     let vars : ℕ = c.args.trail.now.vars in
     let o = c.len-len.ensures.ordered in
-    let from : Nogood = c.args.nogood.now in
+    let from : Nogood = record { lits = c.args.lits.now; base = c.args.base.now } in
     let on : All (λ (l : Literal). IsOn es l) from.lits = all_on vars es from.lits o c.requires.contained in
     let n : ℕ = c.requires.marks.0 in
     let e = c.requires.marks.1 in
     let old : Marked = c.args.marks.now in
     let top : ℕ = c.greatest_level-top.result in
     let below : All (λ (l : Literal). level_in es l.var ≤ top) from.lits =
-    subst (λ (ls : List Literal). All (λ (l : Literal). level_in es l.var ≤ top) ls) c.as_slice.ensures.value c.greatest_level-top.ensures.below in
+    c.greatest_level-top.ensures.below in
     let kept = g.R.Reasons.kept c.args.reasons.now in
     let first : Marked = c.note_all.new.marks in
-    let noted : Noted es old first from.lits = subst (λ (ls : List Literal). Noted es old first ls) c.as_slice-2.ensures.value c.note_all.ensures.noted in
+    let noted : Noted es old first from.lits = c.note_all.ensures.noted in
     let attained : 0 < top → (l : Literal) × (has_literal from.lits l ≡ true) × (level_in es l.var ≡ top) =
-    subst (λ (ls : List Literal). 0 < top → (l : Literal) × (has_literal ls l ≡ true) × (level_in es l.var ≡ top)) c.as_slice.ensures.value c.greatest_level-top.ensures.attained in
+    c.greatest_level-top.ensures.attained in
     let begun : IsOnTheWay es kept from top first c.in_ok-base.base = way_begins vars n es kept from top old first c.in_ok-base.base o e c.in_ok-base.ensures c.note_all.ensures.marked noted in
     down_begins vars n es from.lits top old first e on c.note_all.ensures.marked noted attained
 
@@ -110,19 +110,19 @@ settle-requires-clause-way g c =
     let es = c.args.trail.now.entries in
     let vars : ℕ = c.args.trail.now.vars in
     let o = c.len-len.ensures.ordered in
-    let from : Nogood = c.args.nogood.now in
+    let from : Nogood = record { lits = c.args.lits.now; base = c.args.base.now } in
     let on : All (λ (l : Literal). IsOn es l) from.lits = all_on vars es from.lits o c.requires.contained in
     let n : ℕ = c.requires.marks.0 in
     let e = c.requires.marks.1 in
     let old : Marked = c.args.marks.now in
     let top : ℕ = c.greatest_level-top.result in
     let below : All (λ (l : Literal). level_in es l.var ≤ top) from.lits =
-    subst (λ (ls : List Literal). All (λ (l : Literal). level_in es l.var ≤ top) ls) c.as_slice.ensures.value c.greatest_level-top.ensures.below in
+    c.greatest_level-top.ensures.below in
     let kept = g.R.Reasons.kept c.args.reasons.now in
     let first : Marked = c.note_all.new.marks in
-    let noted : Noted es old first from.lits = subst (λ (ls : List Literal). Noted es old first ls) c.as_slice-2.ensures.value c.note_all.ensures.noted in
+    let noted : Noted es old first from.lits = c.note_all.ensures.noted in
     let attained : 0 < top → (l : Literal) × (has_literal from.lits l ≡ true) × (level_in es l.var ≡ top) =
-    subst (λ (ls : List Literal). 0 < top → (l : Literal) × (has_literal ls l ≡ true) × (level_in es l.var ≡ top)) c.as_slice.ensures.value c.greatest_level-top.ensures.attained in
+    c.greatest_level-top.ensures.attained in
     let begun : IsOnTheWay es kept from top first c.in_ok-base.base = way_begins vars n es kept from top old first c.in_ok-base.base o e c.in_ok-base.ensures c.note_all.ensures.marked noted in
     (from, c.in_ok-point.ensures.way from begun)
 
@@ -131,19 +131,19 @@ conclude-requires g c =
     let es = c.args.trail.now.entries in
     let vars : ℕ = c.args.trail.now.vars in
     let o = c.len-len.ensures.ordered in
-    let from : Nogood = c.args.nogood.now in
+    let from : Nogood = record { lits = c.args.lits.now; base = c.args.base.now } in
     let on : All (λ (l : Literal). IsOn es l) from.lits = all_on vars es from.lits o c.requires.contained in
     let n : ℕ = c.requires.marks.0 in
     let e = c.requires.marks.1 in
     let old : Marked = c.args.marks.now in
     let top : ℕ = c.greatest_level-top.result in
     let below : All (λ (l : Literal). level_in es l.var ≤ top) from.lits =
-    subst (λ (ls : List Literal). All (λ (l : Literal). level_in es l.var ≤ top) ls) c.as_slice.ensures.value c.greatest_level-top.ensures.below in
+    c.greatest_level-top.ensures.below in
     let kept = g.R.Reasons.kept c.args.reasons.now in
     let first : Marked = c.note_all.new.marks in
-    let noted : Noted es old first from.lits = subst (λ (ls : List Literal). Noted es old first ls) c.as_slice-2.ensures.value c.note_all.ensures.noted in
+    let noted : Noted es old first from.lits = c.note_all.ensures.noted in
     let attained : 0 < top → (l : Literal) × (has_literal from.lits l ≡ true) × (level_in es l.var ≡ top) =
-    subst (λ (ls : List Literal). 0 < top → (l : Literal) × (has_literal ls l ≡ true) × (level_in es l.var ≡ top)) c.as_slice.ensures.value c.greatest_level-top.ensures.attained in
+    c.greatest_level-top.ensures.attained in
     let begun : IsOnTheWay es kept from top first c.in_ok-base.base = way_begins vars n es kept from top old first c.in_ok-base.base o e c.in_ok-base.ensures c.note_all.ensures.marked noted in
     let m : Marked = c.settle.new.marks in
     let way : IsOnTheWay es kept from top m c.settle.new.base = c.in_ok-settle.ensures.way from (c.in_ok-point.ensures.way from begun) in
@@ -154,19 +154,19 @@ returns-clause-reached g c =
     let es = c.args.trail.now.entries in
     let vars : ℕ = c.args.trail.now.vars in
     let o = c.len-len.ensures.ordered in
-    let from : Nogood = c.args.nogood.now in
+    let from : Nogood = record { lits = c.args.lits.now; base = c.args.base.now } in
     let on : All (λ (l : Literal). IsOn es l) from.lits = all_on vars es from.lits o c.requires.contained in
     let n : ℕ = c.requires.marks.0 in
     let e = c.requires.marks.1 in
     let old : Marked = c.args.marks.now in
     let top : ℕ = c.greatest_level-top.result in
     let below : All (λ (l : Literal). level_in es l.var ≤ top) from.lits =
-    subst (λ (ls : List Literal). All (λ (l : Literal). level_in es l.var ≤ top) ls) c.as_slice.ensures.value c.greatest_level-top.ensures.below in
+    c.greatest_level-top.ensures.below in
     let kept = g.R.Reasons.kept c.args.reasons.now in
     let first : Marked = c.note_all.new.marks in
-    let noted : Noted es old first from.lits = subst (λ (ls : List Literal). Noted es old first ls) c.as_slice-2.ensures.value c.note_all.ensures.noted in
+    let noted : Noted es old first from.lits = c.note_all.ensures.noted in
     let attained : 0 < top → (l : Literal) × (has_literal from.lits l ≡ true) × (level_in es l.var ≡ top) =
-    subst (λ (ls : List Literal). 0 < top → (l : Literal) × (has_literal ls l ≡ true) × (level_in es l.var ≡ top)) c.as_slice.ensures.value c.greatest_level-top.ensures.attained in
+    c.greatest_level-top.ensures.attained in
     let begun : IsOnTheWay es kept from top first c.in_ok-base.base = way_begins vars n es kept from top old first c.in_ok-base.base o e c.in_ok-base.ensures c.note_all.ensures.marked noted in
     let m : Marked = c.settle.new.marks in
     let way : IsOnTheWay es kept from top m c.settle.new.base = c.in_ok-settle.ensures.way from (c.in_ok-point.ensures.way from begun) in
@@ -178,19 +178,19 @@ returns-clause-contained g c =
     let es = c.args.trail.now.entries in
     let vars : ℕ = c.args.trail.now.vars in
     let o = c.len-len.ensures.ordered in
-    let from : Nogood = c.args.nogood.now in
+    let from : Nogood = record { lits = c.args.lits.now; base = c.args.base.now } in
     let on : All (λ (l : Literal). IsOn es l) from.lits = all_on vars es from.lits o c.requires.contained in
     let n : ℕ = c.requires.marks.0 in
     let e = c.requires.marks.1 in
     let old : Marked = c.args.marks.now in
     let top : ℕ = c.greatest_level-top.result in
     let below : All (λ (l : Literal). level_in es l.var ≤ top) from.lits =
-    subst (λ (ls : List Literal). All (λ (l : Literal). level_in es l.var ≤ top) ls) c.as_slice.ensures.value c.greatest_level-top.ensures.below in
+    c.greatest_level-top.ensures.below in
     let kept = g.R.Reasons.kept c.args.reasons.now in
     let first : Marked = c.note_all.new.marks in
-    let noted : Noted es old first from.lits = subst (λ (ls : List Literal). Noted es old first ls) c.as_slice-2.ensures.value c.note_all.ensures.noted in
+    let noted : Noted es old first from.lits = c.note_all.ensures.noted in
     let attained : 0 < top → (l : Literal) × (has_literal from.lits l ≡ true) × (level_in es l.var ≡ top) =
-    subst (λ (ls : List Literal). 0 < top → (l : Literal) × (has_literal ls l ≡ true) × (level_in es l.var ≡ top)) c.as_slice.ensures.value c.greatest_level-top.ensures.attained in
+    c.greatest_level-top.ensures.attained in
     let begun : IsOnTheWay es kept from top first c.in_ok-base.base = way_begins vars n es kept from top old first c.in_ok-base.base o e c.in_ok-base.ensures c.note_all.ensures.marked noted in
     let m : Marked = c.settle.new.marks in
     let way : IsOnTheWay es kept from top m c.settle.new.base = c.in_ok-settle.ensures.way from (c.in_ok-point.ensures.way from begun) in
@@ -202,19 +202,19 @@ returns-clause-assumed g c =
     let es = c.args.trail.now.entries in
     let vars : ℕ = c.args.trail.now.vars in
     let o = c.len-len.ensures.ordered in
-    let from : Nogood = c.args.nogood.now in
+    let from : Nogood = record { lits = c.args.lits.now; base = c.args.base.now } in
     let on : All (λ (l : Literal). IsOn es l) from.lits = all_on vars es from.lits o c.requires.contained in
     let n : ℕ = c.requires.marks.0 in
     let e = c.requires.marks.1 in
     let old : Marked = c.args.marks.now in
     let top : ℕ = c.greatest_level-top.result in
     let below : All (λ (l : Literal). level_in es l.var ≤ top) from.lits =
-    subst (λ (ls : List Literal). All (λ (l : Literal). level_in es l.var ≤ top) ls) c.as_slice.ensures.value c.greatest_level-top.ensures.below in
+    c.greatest_level-top.ensures.below in
     let kept = g.R.Reasons.kept c.args.reasons.now in
     let first : Marked = c.note_all.new.marks in
-    let noted : Noted es old first from.lits = subst (λ (ls : List Literal). Noted es old first ls) c.as_slice-2.ensures.value c.note_all.ensures.noted in
+    let noted : Noted es old first from.lits = c.note_all.ensures.noted in
     let attained : 0 < top → (l : Literal) × (has_literal from.lits l ≡ true) × (level_in es l.var ≡ top) =
-    subst (λ (ls : List Literal). 0 < top → (l : Literal) × (has_literal ls l ≡ true) × (level_in es l.var ≡ top)) c.as_slice.ensures.value c.greatest_level-top.ensures.attained in
+    c.greatest_level-top.ensures.attained in
     let begun : IsOnTheWay es kept from top first c.in_ok-base.base = way_begins vars n es kept from top old first c.in_ok-base.base o e c.in_ok-base.ensures c.note_all.ensures.marked noted in
     let m : Marked = c.settle.new.marks in
     let way : IsOnTheWay es kept from top m c.settle.new.base = c.in_ok-settle.ensures.way from (c.in_ok-point.ensures.way from begun) in
@@ -226,19 +226,19 @@ returns-clause-learned g c =
     let es = c.args.trail.now.entries in
     let vars : ℕ = c.args.trail.now.vars in
     let o = c.len-len.ensures.ordered in
-    let from : Nogood = c.args.nogood.now in
+    let from : Nogood = record { lits = c.args.lits.now; base = c.args.base.now } in
     let on : All (λ (l : Literal). IsOn es l) from.lits = all_on vars es from.lits o c.requires.contained in
     let n : ℕ = c.requires.marks.0 in
     let e = c.requires.marks.1 in
     let old : Marked = c.args.marks.now in
     let top : ℕ = c.greatest_level-top.result in
     let below : All (λ (l : Literal). level_in es l.var ≤ top) from.lits =
-    subst (λ (ls : List Literal). All (λ (l : Literal). level_in es l.var ≤ top) ls) c.as_slice.ensures.value c.greatest_level-top.ensures.below in
+    c.greatest_level-top.ensures.below in
     let kept = g.R.Reasons.kept c.args.reasons.now in
     let first : Marked = c.note_all.new.marks in
-    let noted : Noted es old first from.lits = subst (λ (ls : List Literal). Noted es old first ls) c.as_slice-2.ensures.value c.note_all.ensures.noted in
+    let noted : Noted es old first from.lits = c.note_all.ensures.noted in
     let attained : 0 < top → (l : Literal) × (has_literal from.lits l ≡ true) × (level_in es l.var ≡ top) =
-    subst (λ (ls : List Literal). 0 < top → (l : Literal) × (has_literal ls l ≡ true) × (level_in es l.var ≡ top)) c.as_slice.ensures.value c.greatest_level-top.ensures.attained in
+    c.greatest_level-top.ensures.attained in
     let begun : IsOnTheWay es kept from top first c.in_ok-base.base = way_begins vars n es kept from top old first c.in_ok-base.base o e c.in_ok-base.ensures c.note_all.ensures.marked noted in
     let m : Marked = c.settle.new.marks in
     let way : IsOnTheWay es kept from top m c.settle.new.base = c.in_ok-settle.ensures.way from (c.in_ok-point.ensures.way from begun) in

@@ -3,18 +3,19 @@ use Rattle.std.specs.List.{All}
 use Rattle.std.proofs.lemmas.List.Elements.{All-push}
 use Rattle.asp_vars.specs.Literals.{Literal, has_literal}
 use Rattle.asp_trail.specs.Entries.{level_in, reason_in}
+use Rattle.asp_trail.proofs.ReasonLaws.{lits_are}
 use Rattle.asp_analyze.specs.declared.minimise.Look.{Look}
 use Rattle.asp_analyze.specs.declared.marks.Mark.TheVariants as mark
 use Rattle.asp_analyze.specs.Marks.{Marked, mark_of, is_clean}
 use Rattle.asp_analyze.specs.Way.{IsOn, Opened, IsOnTheWay, Goes, CanGo}
 use Rattle.asp_analyze.proofs.MarkLaws.{mark_set_same}
-use Rattle.asp_analyze.proofs.OpenLaws.{reason_some, reason_small}
+use Rattle.asp_analyze.proofs.OpenLaws.{reason_some, reason_at, reason_small}
 use Rattle.asp_analyze.proofs.GoesLaws.{way_needed, goes_needed, on_ok_both}
 use Rattle.asp_analyze.proofs.MinimiseLaws.{all_last, all_front, can_later, others_on, other_high, goes_looked}
 use Rattle.asp_analyze.proofs.minimise.visit.Goals as goal
 
-pub reason-reason-requires : goal.reason-reason-requires
-reason-reason-requires g c =
+pub lits-reason-requires : goal.lits-reason-requires
+lits-reason-requires g c =
     let es = c.args.trail.now.entries in
     let kept = g.R.Reasons.kept c.args.reasons.now in
     let top = c.args.top in
@@ -41,9 +42,11 @@ find_other-requires-clause-small g c =
     let can : CanGo es top m last.lit = all_last (λ (f : Look). CanGo es top m f.lit) c.pop.new.self.items last path in
     let id = c.in-Some-reason_of.id in
     let reason : reason_in es last.lit.var ≡ Some id = sym c.reason_of.ensures ∙ c.in-Some-reason_of.is in
-    let n = c.reason-reason.result.now in
-    subst (λ (ls : List Literal). All (λ l. l.var < length m.marks) ls) (sym c.as_slice.ensures.value)
-    (reason_small a.ordered.0 es kept top m last.lit id n a.ordered.1 c.requires.reasons a can.on reason c.reason-reason.ensures)
+    let f = reason_at a.ordered.0 es kept last.lit id a.ordered.1 c.requires.reasons can.on reason in
+    let n = f.0 in
+    let same : c.lits-reason.result.now ≡ n.lits = lits_are (kept id) n c.lits-reason.result.now f.1 c.lits-reason.ensures in
+    subst (λ (ls : List Literal). All (λ l. l.var < length m.marks) ls) (sym same)
+    (reason_small a.ordered.0 es kept top m last.lit id n a.ordered.1 c.requires.reasons a can.on reason (sym f.1))
 
 pub find_other-requires-clause-on : goal.find_other-requires-clause-on
 find_other-requires-clause-on g c =
@@ -58,9 +61,11 @@ find_other-requires-clause-on g c =
     let can : CanGo es top m last.lit = all_last (λ (f : Look). CanGo es top m f.lit) c.pop.new.self.items last path in
     let id = c.in-Some-reason_of.id in
     let reason : reason_in es last.lit.var ≡ Some id = sym c.reason_of.ensures ∙ c.in-Some-reason_of.is in
-    let n = c.reason-reason.result.now in
-    subst (λ (ls : List Literal). All (λ l. l.var ≢ c.var.result → IsOn es l) ls) (sym c.as_slice.ensures.value)
-    (others_on a.ordered.0 es kept last.lit id c.var.result n a.ordered.1 c.requires.reasons can.on reason c.reason-reason.ensures c.var.ensures)
+    let f = reason_at a.ordered.0 es kept last.lit id a.ordered.1 c.requires.reasons can.on reason in
+    let n = f.0 in
+    let same : c.lits-reason.result.now ≡ n.lits = lits_are (kept id) n c.lits-reason.result.now f.1 c.lits-reason.ensures in
+    subst (λ (ls : List Literal). All (λ l. l.var ≢ c.var.result → IsOn es l) ls) (sym same)
+    (others_on a.ordered.0 es kept last.lit id c.var.result n a.ordered.1 c.requires.reasons can.on reason (sym f.1) c.var.ensures)
 
 pub may_follow-requires-clause-small : goal.may_follow-requires-clause-small
 may_follow-requires-clause-small g c = c.requires.way.1.marked.small c.in-Some-find_other.other.lit c.in-Some-find_other.ensures.1.on
@@ -112,12 +117,14 @@ returns-in_ok-push-in-Some-find_other-2-clause-way g c = λ from w.
     let can : CanGo es top m last.lit = all_last (λ (f : Look). CanGo es top m f.lit) c.pop.new.self.items last path in
     let id = c.in-Some-reason_of.id in
     let reason : reason_in es last.lit.var ≡ Some id = sym c.reason_of.ensures ∙ c.in-Some-reason_of.is in
-    let n = c.reason-reason.result.now in
+    let f = reason_at a.ordered.0 es kept last.lit id a.ordered.1 c.requires.reasons can.on reason in
+    let n = f.0 in
+    let same : c.lits-reason.result.now ≡ n.lits = lits_are (kept id) n c.lits-reason.result.now f.1 c.lits-reason.ensures in
     let other : Look = c.in-Some-find_other.other in
     let is = c.in-Some-find_other.ensures.1 in
-    let has : has_literal n.lits other.lit ≡ true = subst (λ (ls : List Literal). has_literal ls other.lit ≡ true) c.as_slice.ensures.value c.in-Some-find_other.ensures.0 in
+    let has : has_literal n.lits other.lit ≡ true = subst (λ (ls : List Literal). has_literal ls other.lit ≡ true) same c.in-Some-find_other.ensures.0 in
     let high : level_in es other.lit.var < top =
-    other_high a.ordered.0 es kept top m last.lit other.lit id c.var.result n a.ordered.1 c.requires.reasons can reason c.reason-reason.ensures c.var.ensures has is in
+    other_high a.ordered.0 es kept top m last.lit other.lit id c.var.result n a.ordered.1 c.requires.reasons can reason (sym f.1) c.var.ensures has is in
     let clean : is_clean (mark_of m.marks other.lit.var) ≡ true = c.may_follow.ensures c.if-may_follow.true in
     way_needed es kept from top m c.add.new.self c.args.base.now other.lit is.on clean is.low high c.add.ensures w
 
@@ -135,12 +142,14 @@ returns-in_ok-push-in-Some-find_other-2-clause-path g c =
     let can : CanGo es top m last.lit = all_last (λ (f : Look). CanGo es top m f.lit) c.pop.new.self.items last path in
     let id = c.in-Some-reason_of.id in
     let reason : reason_in es last.lit.var ≡ Some id = sym c.reason_of.ensures ∙ c.in-Some-reason_of.is in
-    let n = c.reason-reason.result.now in
+    let f = reason_at a.ordered.0 es kept last.lit id a.ordered.1 c.requires.reasons can.on reason in
+    let n = f.0 in
+    let same : c.lits-reason.result.now ≡ n.lits = lits_are (kept id) n c.lits-reason.result.now f.1 c.lits-reason.ensures in
     let other : Look = c.in-Some-find_other.other in
     let is = c.in-Some-find_other.ensures.1 in
-    let has : has_literal n.lits other.lit ≡ true = subst (λ (ls : List Literal). has_literal ls other.lit ≡ true) c.as_slice.ensures.value c.in-Some-find_other.ensures.0 in
+    let has : has_literal n.lits other.lit ≡ true = subst (λ (ls : List Literal). has_literal ls other.lit ≡ true) same c.in-Some-find_other.ensures.0 in
     let high : level_in es other.lit.var < top =
-    other_high a.ordered.0 es kept top m last.lit other.lit id c.var.result n a.ordered.1 c.requires.reasons can reason c.reason-reason.ensures c.var.ensures has is in
+    other_high a.ordered.0 es kept top m last.lit other.lit id c.var.result n a.ordered.1 c.requires.reasons can reason (sym f.1) c.var.ensures has is in
     let clean : is_clean (mark_of m.marks other.lit.var) ≡ true = c.may_follow.ensures c.if-may_follow.true in
     let goes : Goes es m c.add.new.self = goes_needed es top m c.add.new.self other.lit a is.on clean c.add.ensures in
     let P : Look → Type 0 = λ f. CanGo es top c.add.new.self f.lit in
@@ -168,11 +177,13 @@ returns-in_ok-push-in-Some-find_other-2-clause-goes g c =
     let can : CanGo es top m last.lit = all_last (λ (f : Look). CanGo es top m f.lit) c.pop.new.self.items last path in
     let id = c.in-Some-reason_of.id in
     let reason : reason_in es last.lit.var ≡ Some id = sym c.reason_of.ensures ∙ c.in-Some-reason_of.is in
-    let n = c.reason-reason.result.now in
+    let f = reason_at a.ordered.0 es kept last.lit id a.ordered.1 c.requires.reasons can.on reason in
+    let n = f.0 in
+    let same : c.lits-reason.result.now ≡ n.lits = lits_are (kept id) n c.lits-reason.result.now f.1 c.lits-reason.ensures in
     let other : Look = c.in-Some-find_other.other in
     let is = c.in-Some-find_other.ensures.1 in
-    let has : has_literal n.lits other.lit ≡ true = subst (λ (ls : List Literal). has_literal ls other.lit ≡ true) c.as_slice.ensures.value c.in-Some-find_other.ensures.0 in
+    let has : has_literal n.lits other.lit ≡ true = subst (λ (ls : List Literal). has_literal ls other.lit ≡ true) same c.in-Some-find_other.ensures.0 in
     let high : level_in es other.lit.var < top =
-    other_high a.ordered.0 es kept top m last.lit other.lit id c.var.result n a.ordered.1 c.requires.reasons can reason c.reason-reason.ensures c.var.ensures has is in
+    other_high a.ordered.0 es kept top m last.lit other.lit id c.var.result n a.ordered.1 c.requires.reasons can reason (sym f.1) c.var.ensures has is in
     let clean : is_clean (mark_of m.marks other.lit.var) ≡ true = c.may_follow.ensures c.if-may_follow.true in
     goes_needed es top m c.add.new.self other.lit a is.on clean c.add.ensures
