@@ -1,6 +1,7 @@
 # make         builds build/aspenum from the proved crates
 # make demo    builds it and solves examples/two_rules.aspif
-# make check   the gate: every proof, every edit that must fail, every test and every example
+# make check   the gate: every proof, every edit that must fail, every test, the documents and every example
+# make edits   the edits that the gate leaves out; NAMES="asp_text asp_io" those of some crates
 # make clean   removes what was built
 
 SOURCES := crates.txt $(shell find crates -name out -prune -o \( -name '*.rt' -o -name '*.antt' \) -print)
@@ -27,7 +28,10 @@ demo: build/aspenum
 check:
 	@.ci/run
 
+edits:
+	@tests/edits.sh $(NAMES)
+
 clean:
 	rm -rf build crates/*/out
 
-.PHONY: all demo check clean
+.PHONY: all demo check edits clean

@@ -32,8 +32,11 @@ for text in examples/*.aspif; do
 done
 
 # Each refusal writes one line to standard error, nothing to standard output, and ends with its status. A line of
-# refusals.txt has the status, that line, the words and the text, with ~ between them.
+# refusals.txt has the status, that line (USAGE: the one that tells how the program is called), the words and the text,
+# with ~ between them.
+usage="aspenum: $("$program" --help)"
 while IFS='~' read -r status note words text; do
+    [ "$note" != USAGE ] || note=$usage
     printf '%s\n' "$note" > "$wanted"
     # the words are split at blanks, the text's \n are line feeds
     # shellcheck disable=SC2086
@@ -42,6 +45,11 @@ while IFS='~' read -r status note words text; do
     : > "$wanted"
     check "nothing written: $note" 0 "$wanted" 0 "$given"
 done < tests/refusals.txt
+
+# An empty word, which no line of a file can have.
+echo "$usage" > "$wanted"
+"$program" '' < examples/two_rules.aspif > "$given" 2> "$notes"
+check "an empty word" 64 "$wanted" "$?" "$notes"
 
 # Worked texts. A line of rows.txt has the status, the words, the text and what is written, with ~ between them.
 while IFS='~' read -r status words text output; do

@@ -95,6 +95,3 @@ pub fn words(alloc: Global, words: &[String]) -> Result<Options, CliError>
         }
     }
 }
-
-#[cfg(test)]
-mod tests;

@@ -1,4 +1,4 @@
-//! Tests of what reads and writes text: `asp_io`, `asp_text`, `asp_read`, `asp_make`, `asp_print`.
+//! Tests of what reads and writes text: `asp_io`, `asp_text`, `asp_read`, `asp_make`, `asp_print`, `asp_cli`.
 #![tactic(auto)]
 
 #[cfg(test)]
@@ -11,3 +11,5 @@ mod printing;
 mod reading;
 #[cfg(test)]
 mod text;
+#[cfg(test)]
+mod words;

@@ -1,0 +1,62 @@
+#!/usr/bin/env bash
+# Tries the edits that the gate leaves out, those of edits/NAME, beside those of crates/NAME/must-fail: the check must
+# refuse each.
+# Usage: tests/edits.sh [-j JOBS] [NAME..]     (every crate of edits/ where none is named)
+#   -j JOBS    so many checks side by side, whatever memory they take; without it rt chooses
+# Works on a copy, so that the tree may change meanwhile. An edit's check begins with what `rt check` kept of its crate on
+# this machine, and the crates below are those that `rt ci` proved here: run one of them before. Where neither did, rt
+# proves them in the copy.
+# Ends with 1 where an edit is not refused or can't be tried, with 2 where it is called wrongly.
+cd "$(dirname "$0")/.." || exit 2
+while getopts j: flag; do
+    case $flag in
+        j) export RT_JOBS=$OPTARG ;;
+        *) exit 2 ;;
+    esac
+done
+shift $((OPTIND - 1))
+[[ ${RT_JOBS:-1} =~ ^[1-9][0-9]*$ ]] || { echo "edits: -j wants a number" >&2; exit 2; }
+
+if [ $# -gt 0 ]; then
+    names=("$@")
+else
+    names=()
+    for folder in edits/*/; do
+        names+=("$(basename "$folder")")
+    done
+fi
+for name in "${names[@]}"; do
+    [ -d "crates/$name" ] || { echo "edits: there is no crate $name" >&2; exit 2; }
+done
+
+room=$(mktemp -d) || exit 2
+trap 'rm -rf "$room"' EXIT
+trap 'exit 130' INT TERM
+tar -cf - --exclude='crates/*/out' crates crates.txt HANDLES | tar -xf - -C "$room" || exit 2
+for name in "${names[@]}"; do
+    [ -d "edits/$name" ] || continue
+    mkdir -p "$room/crates/$name/must-fail"
+    for edit in "edits/$name"/*.edit; do
+        if [ -e "crates/$name/must-fail/$(basename "$edit")" ]; then
+            echo "edits: $edit stands in crates/$name/must-fail too" >&2
+            exit 2
+        fi
+        cp "$edit" "$room/crates/$name/must-fail/"
+    done
+done
+# (it is the top of a repository)
+mkdir "$room/.git"
+
+python3 tests/libraries.py "$room" "${names[@]}"
+(cd "$room" && rt must-fail "${names[@]}") 2>&1 | tee "$room/told"
+status=${PIPESTATUS[0]}
+
+count() { grep -c "^rt: .*: $1" "$room/told"; }
+refused=$(count 'refused, as it must be')
+missed=$(count 'NOT REFUSED')
+bad=$(count 'BAD EDIT')
+untried=$(count 'NOT TRIED')
+line="$refused refused, $missed not refused, $bad bad"
+[ "$untried" -eq 0 ] || line+=", $untried not tried"
+echo "$line"
+[ "$status" -eq 0 ] && [ $((missed + bad + untried)) -eq 0 ]

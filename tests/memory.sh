@@ -1,0 +1,111 @@
+#!/usr/bin/env bash
+# Runs the built program under `ulimit -v`, from 2 MB up in small steps, on five programs. Each run must end in want of
+# memory, with status 33, its line and no output, or as it ends with ample memory: the same bytes and status. A run that
+# the loader ended, for want of memory before `main`, is counted alone: `--help` doesn't come through there either.
+# Usage: tests/memory.sh [PROGRAM [STEP]]     (build/aspenum; STEP in KB, 64 where none is named)
+# (memory at the same addresses in each run)
+[ -n "$FIXED" ] || FIXED=yes exec setarch -R "$0" "$@"
+cd "$(dirname "$0")/.." || exit 1
+program=$(realpath "${1:-build/aspenum}")
+step=${2:-64}
+test -x "$program" || { echo "no program $program: make builds it" >&2; exit 1; }
+room=$(mktemp -d) || exit 1
+trap 'rm -rf "$room"' EXIT
+declare -A count=()
+failed=0
+
+# facts N: N facts, each with its text
+facts() {
+    echo 'asp 1 0 0'
+    for ((i = 1; i <= $1; i++)); do
+        echo "1 0 1 $i 0 0"
+        echo "4 3 a$((i + 9)) 1 $i"
+    done
+    echo 0
+}
+
+# free N: N free atoms, and so 2 ^ N answers
+free() {
+    printf 'asp 1 0 0\n1 1 %d' "$1"
+    printf ' %d' $(seq "$1")
+    printf ' 0 0\n0\n'
+}
+
+# pigeons N: N + 1 pigeons in N holes, where the search has to learn
+pigeons() {
+    local n=$1
+    local pigeon hole other
+    echo 'asp 1 0 0'
+    for ((pigeon = 0; pigeon <= n; pigeon++)); do
+        printf '1 1 %d' "$n"
+        for ((hole = 1; hole <= n; hole++)); do printf ' %d' $((pigeon * n + hole)); done
+        printf ' 0 0\n1 0 0 0 %d' "$n"
+        for ((hole = 1; hole <= n; hole++)); do printf ' -%d' $((pigeon * n + hole)); done
+        echo
+        for ((other = 0; other < pigeon; other++)); do
+            for ((hole = 1; hole <= n; hole++)); do
+                echo "1 0 0 0 2 $((pigeon * n + hole)) $((other * n + hole))"
+            done
+        done
+    done
+    echo 0
+}
+
+# under LIMIT COMMAND..: runs it under so many KB
+under() (
+    ulimit -v "$1" && shift && exec "$@"
+)
+
+# ends_before_main STATUS LIMIT: whether the loader, or the kernel in its place, ended the run that left given and notes
+ends_before_main() {
+    [ -s "$room/given" ] && return 1
+    case $1 in
+        126 | 137 | 139) true ;;
+        127) grep -q 'error while loading shared libraries' "$room/notes" ;;
+        *) return 1 ;;
+    esac && ! under "$2" "$program" --help > /dev/null 2>&1
+}
+
+# kind STATUS WANTED_STATUS LIMIT: what a run's end is
+kind() {
+    if [ "$1" = "$2" ] && cmp -s "$room/given" "$room/wanted"; then
+        echo whole
+    elif [ "$1" = 33 ] && [ ! -s "$room/given" ] && [ "$(cat "$room/notes")" = 'aspenum: out of memory' ]; then
+        echo memory
+    elif ends_before_main "$1" "$3"; then
+        echo loader
+    else
+        echo wrong
+    fi
+}
+
+# squeeze NAME TEXT [WORD..]: runs the program on the text, in more and more memory, until twenty runs in turn were whole
+squeeze() {
+    local name=$1 text=$2
+    shift 2
+    "$program" "$@" < "$text" > "$room/wanted" 2> /dev/null
+    local wanted=$? limit whole=0 status found
+    count=([whole]=0 [memory]=0 [loader]=0 [wrong]=0)
+    for ((limit = 2048; whole < 20; limit += step)); do
+        under "$limit" "$program" "$@" < "$text" > "$room/given" 2> "$room/notes"
+        status=$?
+        found=$(kind "$status" "$wanted" "$limit")
+        count[$found]=$((count[$found] + 1))
+        if [ "$found" = whole ]; then whole=$((whole + 1)); else whole=0; fi
+        if [ "$found" = wrong ]; then
+            failed=$((failed + 1))
+            echo "failed: $name under $limit KB: status $status, $(wc -c < "$room/given") bytes; $(head -c 200 "$room/notes")"
+        fi
+    done
+    echo "$name: ${count[memory]} out of memory, ${count[whole]} whole, ${count[loader]} ended by the loader, ${count[wrong]} wrong (up to $limit KB)"
+}
+
+facts 2000 > "$room/facts"
+free 10 > "$room/free"
+pigeons 6 > "$room/pigeons"
+squeeze 'an example' examples/colouring.aspif
+squeeze 'an optimum' examples/independent_set.aspif
+squeeze '2000 facts' "$room/facts" --stats
+squeeze '1024 answers' "$room/free" --mode enum
+squeeze 'pigeons' "$room/pigeons"
+[ "$failed" -eq 0 ]
