@@ -1,11 +1,12 @@
 #!/usr/bin/env python3
-"""Times aspenum beside clasp: processor time, conflicts, memory, and whether both say the same.
+"""Times aspenum beside clasp: processor time, conflicts, memory, and whether they say the same.
 
 usage: bench/solve.py [--program build/aspenum] [--svg FILE] [NAME..]
 
-clasp runs in the configuration nearest to this search. Each program runs once in each solver, one after the other, within a
-limit of 120 seconds. Programs are gringo encodings of bench/lp, and random 3-SAT at the threshold, made here. It asserts
-nothing: it is outside the gate."""
+clasp runs twice: in the configuration nearest to this search ("nearest"), which switches off what this search has nothing
+like, and as it comes ("default", writing no answers). Each program runs once in each, one after the other, within a limit of
+120 seconds of processor time. Programs are gringo encodings of bench/lp, and random 3-SAT at the threshold, made here. It
+asserts nothing: it is outside the gate."""
 import argparse
 import os
 import random
@@ -21,6 +22,7 @@ CLASP = (
     " --opt-strategy=bb,lin --strengthen=no --otfs=0 --no-init-moms --score-other=no --save-progress=0 --sign-def=neg"
     " --sign-fix --update-lbd=no --del-glue=0 --loops=common --deletion=basic,50 --del-grow=no --del-cfl=+,2000,500 --stats -n 0"
 ).split()
+DEFAULT = "clasp --stats -n 0 -q".split()
 LIMIT = 120
 
 
@@ -102,16 +104,23 @@ def measured(program, name, room):
     _, their_time, their_memory = run([*CLASP, *quiet], path, output)
     their_text = tail_of(output)
     same = result_of(our_text) == result_of(their_text) is not None
+    _, default_time, default_memory = run(DEFAULT, path, output)
     return {
-        "name": name, "time": our_time, "clasp": their_time, "conflicts": number(r"Conflicts: (\d+)", ours),
-        "clasp conflicts": number(r"Conflicts\s*: (\d+)", their_text), "memory": our_memory, "clasp memory": their_memory, "same": same,
+        "name": name, "same": same,
+        "time": our_time, "conflicts": number(r"Conflicts: (\d+)", ours), "memory": our_memory,
+        "clasp": their_time, "clasp conflicts": number(r"Conflicts\s*: (\d+)", their_text), "clasp memory": their_memory,
+        "default": default_time, "default conflicts": number(r"Conflicts\s*: (\d+)", tail_of(output)), "default memory": default_memory,
     }
 
 
-def mean(rows):
+def shown(count):
+    return "-" if count is None else count
+
+
+def mean(rows, other):
     product = 1.0
     for row in rows:
-        product *= max(row["time"], 0.001) / max(row["clasp"], 0.001)
+        product *= max(row["time"], 0.001) / max(row[other], 0.001)
     return product ** (1 / len(rows)) if rows else float("nan")
 
 
@@ -140,14 +149,19 @@ def main():
     words.add_argument("names", nargs="*")
     given = words.parse_args()
     rows = []
-    print(f"{'program':14} {'aspenum s':>10} {'clasp s':>9} {'conflicts':>10} {'clasp':>9} {'MB':>7} {'clasp':>7}  same")
+    print(f"{'':14} {'seconds of processor time':^28} {'conflicts':^30} {'memory, MB':^22}")
+    print(f"{'program':14}" + f" {'aspenum':>8} {'nearest':>9} {'default':>9}" + f" {'aspenum':>10} {'nearest':>9} {'default':>9}" + f" {'aspenum':>8} {'nearest':>7} {'default':>7}  same")
     with tempfile.TemporaryDirectory() as room:
         for name in given.names or PROGRAMS:
             row = measured(given.program, name, room)
             rows.append(row)
-            print(f"{name:14} {row['time']:10.2f} {row['clasp']:9.2f} {row['conflicts'] if row['conflicts'] is not None else '-':>10} {row['clasp conflicts'] if row['clasp conflicts'] is not None else '-':>9}"
-                  f" {row['memory']:7.0f} {row['clasp memory']:7.0f}  {'yes' if row['same'] else 'NO'}", flush=True)
-    print(f"geometric mean of aspenum's time by clasp's: {mean(rows):.2f}")
+            print(
+                f"{name:14} {row['time']:8.2f} {row['clasp']:9.2f} {row['default']:9.2f}"
+                f" {shown(row['conflicts']):>10} {shown(row['clasp conflicts']):>9} {shown(row['default conflicts']):>9}"
+                f" {row['memory']:8.0f} {row['clasp memory']:7.0f} {row['default memory']:7.0f}  {'yes' if row['same'] else 'NO'}",
+                flush=True,
+            )
+    print(f"geometric mean of aspenum's time by clasp's: {mean(rows, 'clasp'):.2f} (nearest), {mean(rows, 'default'):.2f} (default)")
     if given.svg:
         plot(rows, given.svg)
 

@@ -15,7 +15,7 @@ use thiserror::Error;
 
 /// The line that tells how the program is called.
 pub const USAGE: &str =
-    "usage: aspenum [--workers 1..64] [--mode auto|enum|opt] [--budget N] [--make 3..2000] [--stats]";
+    "usage: aspenum [--workers 1] [--mode auto|enum|opt] [--budget N] [--make 3..2000] [--stats]";
 
 /// The same line as bytes.
 pub fn usage() -> &'static [u8]

@@ -153,6 +153,7 @@ impl Sink for MemSink {
         ensures bytes { WriteAppends (Some self.old.bytes) (Some self.new.bytes) result bytes.now }
         ensures cause { HasCause self.old.faults self.new.faults result }
         ensures stuck { IfOk result (λ n. n ≡ 0 → 0 < length bytes.now → Rose self.old.faults self.new.faults) }
+        ensures quiet { OnOk result (self.new.faults ≡ self.old.faults) }
         ensures exact { IfOk result (λ n. (fails_write self.old ≡ false) × (n ≡ min self.old.piece (length bytes.now))) }
         ensures turned { self.new.calls ≡ next_count self.old.calls }
         ensures kept { (self.new.piece ≡ self.old.piece) × (self.new.failing ≡ self.old.failing) × (self.new.fails_flush ≡ self.old.fails_flush) }
@@ -172,6 +173,7 @@ impl Sink for MemSink {
     fn flush(&mut self) -> Result<(), Failed>
         ensures bytes { self.new.bytes ≡ self.old.bytes }
         ensures cause { HasCause self.old.faults self.new.faults result }
+        ensures quiet { OnOk result (self.new.faults ≡ self.old.faults) }
         ensures exact { is_err result ≡ (self.old.faults == last_count || self.old.fails_flush) }
         ensures kept { (self.new.piece ≡ self.old.piece) × (self.new.failing ≡ self.old.failing) × (self.new.calls ≡ self.old.calls) × (self.new.fails_flush ≡ self.old.fails_flush) }
     {

@@ -27,7 +27,8 @@ pub trait Source {
         ensures quiet { IsSome (left self.old) → OnOk result (faults self.new ≡ faults self.old) };
 }
 
-/// Where bytes go. Its count of faults is as that of a `Source`.
+/// Where bytes go. Its count of faults is as that of a `Source`; of a sink that tells its bytes a fault is counted at a
+/// failed call alone.
 pub trait Sink {
     /// The bytes that it holds, where they are told.
     ghost held: { Self → Option (List ℕ) };
@@ -41,21 +42,24 @@ pub trait Sink {
         ensures bound { WritesAtMost result bytes.now }
         ensures bytes { WriteAppends (held self.old) (held self.new) result bytes.now }
         ensures cause { HasCause (faults self.old) (faults self.new) result }
-        ensures stuck { IfOk result (λ n. n ≡ 0 → 0 < length bytes.now → Rose (faults self.old) (faults self.new)) };
+        ensures stuck { IfOk result (λ n. n ≡ 0 → 0 < length bytes.now → Rose (faults self.old) (faults self.new)) }
+        ensures quiet { IsSome (held self.old) → OnOk result (faults self.new ≡ faults self.old) };
 
     /// Sends on what was written, and changes no bytes. `Failed` comes only where the count of faults rose.
     fn flush(&mut self) -> Result<(), Failed>
         ensures bytes { Keeps (held self.old) (held self.new) }
-        ensures cause { HasCause (faults self.old) (faults self.new) result };
+        ensures cause { HasCause (faults self.old) (faults self.new) result }
+        ensures quiet { IsSome (held self.old) → OnOk result (faults self.new ≡ faults self.old) };
 }
 
 /// Appends all of the bytes, piece by piece. It takes no memory. On `Failed` a front of them was appended, and the
-/// sink's count of faults rose.
+/// sink's count of faults rose; else that of a sink which tells its bytes is what it was.
 pub fn write_all<K: Sink>(sink: &mut K, bytes: &[u8]) -> Result<(), Failed>
     ensures all { OnOk result (Appends (K.held sink.old) (K.held sink.new) bytes.now) }
     ensures front { OnErr result (AppendsFront (K.held sink.old) (K.held sink.new) bytes.now) }
     ensures later { K.faults sink.old ≤ K.faults sink.new }
     ensures cause { OnErr result (Rose (K.faults sink.old) (K.faults sink.new)) }
+    ensures quiet { IsSome (K.held sink.old) → OnOk result (K.faults sink.new ≡ K.faults sink.old) }
 {
     let mut rest = bytes;
     while !rest.is_empty() {

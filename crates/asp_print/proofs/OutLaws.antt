@@ -1,12 +1,13 @@
 -- Bytes that are put out one after another.
 use Rattle.std.proofs.Common.{◌≡◌, ℕ, ◌+◌, List, [], ◌++◌, ◌∙◌, refl, sym, ap, subst, arith, append_assoc, append-nil, take, drop, drop-cons, add-one, suc, get_or, ◌∷◌, length, min, ◌≤◌, ◌<◌}
-use Rattle.std.specs.Prelude.{OnOk, OnErr, Ok, Err, Option, Result, IsErrAnd}
+use Rattle.std.specs.Prelude.{OnOk, OnErr, Ok, Err, Option, Result, IsErrAnd, IsSome}
 use Rattle.std.specs.Io.KnownBytes.{Appends}
 use Rattle.std.proofs.KnownBytes.{Appends-trans, Appends-nil}
 use Rattle.std.proofs.Math.Seq.{take-append-add}
 use Rattle.std.proofs.lemmas.List.{take-append-le, take_min}
 use Rattle.std.proofs.lemmas.Result.{err_from_is_err_and}
 use Rattle.asp_io.specs.Causes.{Rose, AppendsFront}
+use Rattle.asp_io.proofs.Writing.{still_told}
 use Rattle.asp_print.specs.Out.{Out, Passes, Puts}
 
 -- a front of some bytes is one of more bytes
@@ -46,8 +47,20 @@ pub puts_then : {T E U F : Type 0} (a b c : Out) (v : T) (r : Result U F) (x y :
 puts_then {U = U} {F = F} a b c v r x y p q = go r q
   where
     go : (r : Result U F) → Puts b c r y → Puts a c r (x ++ y)
-    go (Ok w) q = record { all = passes_then a b c x y p.all q.all; front = tt; later = omega (arith, p.later, q.later); cause = tt }
-    go (Err e) q = record { all = tt; front = fails-then a b c x y p.all q.front; later = omega (arith, p.later, q.later); cause = omega (arith, p.later, q.cause) }
+    go (Ok w) q = record {
+      all = passes_then a b c x y p.all q.all;
+      front = tt;
+      later = omega (arith, p.later, q.later);
+      cause = tt;
+      quiet = λ told. q.quiet (still_told _ _ _ p.all.appended told) ∙ p.quiet told;
+    }
+    go (Err e) q = record {
+      all = tt;
+      front = fails-then a b c x y p.all q.front;
+      later = omega (arith, p.later, q.later);
+      cause = omega (arith, p.later, q.cause);
+      quiet = λ told. tt;
+    }
 
 -- what fails at some bytes fails at these and others
 pub puts_fails : {T E U F : Type 0} (Q : F → Type 0) (a b : Out) (e : E) (r : Result U F) (x y : List ℕ) → Puts {T = T} {E = E} a b (Err e) x → IsErrAnd r Q → Puts a b r (x ++ y)
@@ -58,6 +71,7 @@ puts_fails Q a b e r x y p is =
       front = subst (λ (t : List ℕ). AppendsFront a.held b.held t) (append_assoc a.waiting x y) (front-more a.held b.held _ y p.front);
       later = p.later;
       cause = p.cause;
+      quiet = λ told. tt;
     })
 
 pub puts_same : {T E : Type 0} (a b : Out) (r : Result T E) (x y : List ℕ) → Puts a b r x → x ≡ y → Puts a b r y
@@ -72,14 +86,14 @@ pub record Midway (before now : Out) (all rest : List ℕ) : Type 0 where
 pub midway_start : (a : Out) (all rest : List ℕ) → rest ≡ all → Midway a a all rest
 midway_start a all rest e = record {
   text = [];
-  went = record { all = record { written = []; appended = Appends-nil a.held; kept = sym (append-nil a.waiting) }; front = tt; later = omega arith; cause = tt };
+  went = record { all = record { written = []; appended = Appends-nil a.held; kept = sym (append-nil a.waiting) }; front = tt; later = omega arith; cause = tt; quiet = λ told. refl };
   same = e;
 }
 
 pub midway_more : {T E : Type 0} (a b c : Out) (v : T) (all rest bytes others : List ℕ) → Midway a b all rest → Puts {T = T} {E = E} b c (Ok v) bytes → rest ≡ bytes ++ others → Midway a c all others
 midway_more a b c v all rest bytes others m p e = record {
   text = m.text ++ bytes;
-  went = let q : Puts {T = Unit {0}} {E = Unit {0}} b c (Ok tt) bytes = record { all = p.all; front = tt; later = p.later; cause = tt } in puts_then a b c tt (Ok tt) m.text bytes m.went q;
+  went = let q : Puts {T = Unit {0}} {E = Unit {0}} b c (Ok tt) bytes = record { all = p.all; front = tt; later = p.later; cause = tt; quiet = p.quiet } in puts_then a b c tt (Ok tt) m.text bytes m.went q;
   same = append_assoc m.text bytes others ∙ ap (λ (t : List ℕ). m.text ++ t) (sym e) ∙ m.same;
 }
 
@@ -91,7 +105,7 @@ midway_fails Q a b c e r all rest bytes others m p is err =
 pub midway_end : {E : Type 0} (a b : Out) (all rest : List ℕ) → Midway a b all rest → rest ≡ [] → Puts {T = Unit {0}} {E = E} a b (Ok tt) all
 midway_end {E = E} a b all rest m e =
     let whole : m.text ≡ all = sym (append-nil m.text) ∙ ap (λ (t : List ℕ). m.text ++ t) (sym e) ∙ m.same in
-    subst (λ (t : List ℕ). Puts {T = Unit {0}} {E = E} a b (Ok tt) t) whole (record { all = m.went.all; front = tt; later = m.went.later; cause = tt })
+    subst (λ (t : List ℕ). Puts {T = Unit {0}} {E = E} a b (Ok tt) t) whole (record { all = m.went.all; front = tt; later = m.went.later; cause = tt; quiet = m.went.quiet })
 
 -- an element, and those behind it
 pub drop_turn : {A : Type 0} (xs : List A) (i : ℕ) (x : A) → i < length xs → x ≡ get_or xs i x → drop i xs ≡ x ∷ drop (i + 1) xs
@@ -106,19 +120,21 @@ pub record Printed {T E : Type 0} (before after : Out) (result : Result T E) (te
   pub front : OnErr result (AppendsFront before.held after.held text)
   pub later : before.faults ≤ after.faults
   pub cause : OnErr result (Rose before.faults after.faults)
+  pub quiet : IsSome before.held → OnOk result (after.faults ≡ before.faults)
 
 pub printed : {T E : Type 0} (a b : Out) (r : Result T E) (text : List ℕ) → a.waiting ≡ [] → OnOk r (b.waiting ≡ []) → Puts a b r text → Printed a b r text
 printed a b (Ok v) text start end p =
     let whole : p.all.written ≡ text = sym (append-nil p.all.written) ∙ ap (λ (t : List ℕ). p.all.written ++ t) (sym end) ∙ p.all.kept ∙ ap (λ (t : List ℕ). t ++ text) start in
-    record { all = subst (λ (t : List ℕ). Appends a.held b.held t) whole p.all.appended; front = tt; later = p.later; cause = tt }
+    record { all = subst (λ (t : List ℕ). Appends a.held b.held t) whole p.all.appended; front = tt; later = p.later; cause = tt; quiet = p.quiet }
 printed a b (Err e) text start end p = record {
   all = tt;
   front = subst (λ (t : List ℕ). AppendsFront a.held b.held (t ++ text)) start p.front;
   later = p.later;
   cause = p.cause;
+  quiet = p.quiet;
 }
 
 pub printed-fails : {T E U F : Type 0} (Q : F → Type 0) (a b : Out) (e : E) (r : Result U F) (text : List ℕ) → a.waiting ≡ [] → Puts {T = T} {E = E} a b (Err e) text → IsErrAnd r Q → Printed a b r text
 printed-fails Q a b e r text start p is =
     let err = err_from_is_err_and r is in
-    rw err.1 (record { all = tt; front = subst (λ (t : List ℕ). AppendsFront a.held b.held (t ++ text)) start p.front; later = p.later; cause = p.cause })
+    rw err.1 (record { all = tt; front = subst (λ (t : List ℕ). AppendsFront a.held b.held (t ++ text)) start p.front; later = p.later; cause = p.cause; quiet = λ told. tt })

@@ -2,3 +2,4 @@ pub mod Codes
 pub mod Notes
 pub mod Meaning
 pub mod Runs
+pub mod Words

@@ -1,5 +1,5 @@
 -- What the notes say of a run.
-use Rattle.std.specs.Prelude.{ℕ, ◌≤◌, Bool, true, false, ◌&&◌, if◌then◌else◌, List, [], ◌++◌, codes, decimal, Option, None, Some, Result, OnOk, OnErr}
+use Rattle.std.specs.Prelude.{◌≡◌, ℕ, ◌≤◌, Bool, true, false, ◌&&◌, if◌then◌else◌, List, [], ◌++◌, codes, decimal, Option, None, Some, Result, OnOk, OnErr, IsSome}
 use Rattle.std.specs.Io.KnownBytes.{Appends}
 use Rattle.asp_io.specs.Causes.{Rose, AppendsFront}
 use Rattle.asp_model.specs.declared.fault.Fault.{Fault}
@@ -66,12 +66,14 @@ counts_if stats o = if stats && is_answered o.status then counts_of o.report els
 abbrev pub notes_of : Bool → Outcome → List ℕ
 notes_of stats o = note_of o.status ++ counts_if stats o
 
--- a call wrote all of the bytes, or failed with a front of them out, and only where a fault was counted
+-- a call wrote all of the bytes, or failed with a front of them out, and only where a fault was counted; of a sink that
+-- tells its bytes a fault was counted only where it failed
 pub record Writes {T E : Type 0} (held held' : Option (List ℕ)) (faults faults' : ℕ) (result : Result T E) (bytes : List ℕ) : Type 0 where
   pub all : OnOk result (Appends held held' bytes)
   pub front : OnErr result (AppendsFront held held' bytes)
   pub later : faults ≤ faults'
   pub cause : OnErr result (Rose faults faults')
+  pub quiet : IsSome held → OnOk result (faults' ≡ faults)
 
 -- a front of the text was written, and all of it where no fault was counted
 pub record IsNoted (held held' : Option (List ℕ)) (faults faults' : ℕ) (text : List ℕ) : Type 0 where

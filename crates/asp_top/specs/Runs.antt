@@ -145,6 +145,11 @@ pub record IsExact (given : Options) (a : Around) (status : Status) : Type 0 whe
   -- of a source that tells its bytes, a fault is counted at a failed read alone
   pub quiet : IsSome a.left → ¬ (status ≡ ReadFault) → a.reads' ≡ a.reads
 
+-- of a sink that tells its bytes a fault was counted only where the status says so: every failed write and every failed
+-- flush is told
+abbrev pub TellsFaults : Option (List ℕ) → ℕ → ℕ → Status → Type 0
+TellsFaults held writes writes' status = IsSome held → ¬ (status ≡ WriteFault) → writes' ≡ writes
+
 -- the text of the results was written, or cut off by a fault
 abbrev pub DeliveryMeans : Bool → Program → Results → Option (List ℕ) → Option (List ℕ) → ℕ → ℕ → Status → Type 0
 DeliveryMeans brief p r held held' writes writes' status =

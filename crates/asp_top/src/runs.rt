@@ -4,7 +4,7 @@ ghost use Rattle.asp_model.specs.Sound.{IsSound};
 ghost use Rattle.asp_model.specs.Texts.{results_text};
 ghost use Rattle.asp_cli.specs.Given.{IsRing, words_give};
 ghost use Rattle.asp_top.specs.Notes.{IsNoted, Writes, notes_of};
-ghost use Rattle.asp_top.specs.Runs.{Delivers, HelpMeans, Runs, RunsOn, Solves, around, asks_stats, help_text, status_of};
+ghost use Rattle.asp_top.specs.Runs.{Delivers, HelpMeans, Runs, RunsOn, Solves, TellsFaults, around, asks_stats, help_text, status_of};
 
 use crate::notes::{note, write_both};
 use crate::solve::{mode_of, status_for};
@@ -82,7 +82,8 @@ fn write_help<K: Sink>(sink: &mut K) -> Result<(), Failed>
 }
 
 fn deliver<K: Sink>(sink: &mut K, brief: bool, program: &Program, report: Report) -> Outcome
-    ensures { Delivers brief program.now report (K.held sink.old) (K.held sink.new) (K.faults sink.old) (K.faults sink.new) result }
+    ensures delivers { Delivers brief program.now report (K.held sink.old) (K.held sink.new) (K.faults sink.old) (K.faults sink.new) result }
+    ensures flushed { TellsFaults (K.held sink.old) (K.faults sink.old) (K.faults sink.new) result.status }
 {
     let status = match write_results(sink, brief, program, &report.results) {
         Ok(()) => status_for(&report.results),
@@ -96,7 +97,8 @@ fn deliver<K: Sink>(sink: &mut K, brief: bool, program: &Program, report: Report
 
 // Solves a program that was compiled, and writes its results.
 fn solve<K: Sink>(alloc: Global, options: &Options, compiled: &Compiled, sink: &mut K) -> Outcome
-    ensures { Solves options.now compiled.now (K.held sink.old) (K.held sink.new) (K.faults sink.old) (K.faults sink.new) result }
+    ensures solves { Solves options.now compiled.now (K.held sink.old) (K.held sink.new) (K.faults sink.old) (K.faults sink.new) result }
+    ensures flushed { TellsFaults (K.held sink.old) (K.faults sink.old) (K.faults sink.new) result.status }
 {
     let program = compiled.program();
     let mode = mode_of(options.mode, program);
@@ -109,7 +111,8 @@ fn solve<K: Sink>(alloc: Global, options: &Options, compiled: &Compiled, sink: &
 // Solves a program, and writes its results.
 fn answer<K: Sink>(alloc: Global, options: &Options, program: Program, sink: &mut K) -> Outcome
     requires { IsSound program }
-    ensures { Solves options.now program (K.held sink.old) (K.held sink.new) (K.faults sink.old) (K.faults sink.new) result }
+    ensures solves { Solves options.now program (K.held sink.old) (K.held sink.new) (K.faults sink.old) (K.faults sink.new) result }
+    ensures flushed { TellsFaults (K.held sink.old) (K.faults sink.old) (K.faults sink.new) result.status }
 {
     match compile(alloc, program) {
         Ok(compiled) => solve(alloc, options, &compiled, sink),
@@ -125,8 +128,9 @@ fn read_and_answer<S: Source, K: Sink>(
     sink: &mut K,
 ) -> Outcome
     requires { options.now.make ≡ None }
-    ensures { Runs options.now (around (S.left source.old) (S.left source.new) (S.faults source.old) (S.faults source.new)
+    ensures runs { Runs options.now (around (S.left source.old) (S.left source.new) (S.faults source.old) (S.faults source.new)
         (K.held sink.old) (K.held sink.new) (K.faults sink.old) (K.faults sink.new)) result }
+    ensures flushed { TellsFaults (K.held sink.old) (K.faults sink.old) (K.faults sink.new) result.status }
 {
     match read_program(alloc, source) {
         Ok(program) => answer(alloc, options, program, sink),
@@ -138,8 +142,9 @@ fn read_and_answer<S: Source, K: Sink>(
 fn make_and_answer<K: Sink>(alloc: Global, options: &Options, nodes: u32, sink: &mut K) -> Outcome
     requires given { options.now.make ≡ Some nodes }
     requires ring { IsRing (Some nodes) }
-    ensures { (left : Option (List ℕ)) (reads : ℕ) → Runs options.now (around left left reads reads
+    ensures runs { (left : Option (List ℕ)) (reads : ℕ) → Runs options.now (around left left reads reads
         (K.held sink.old) (K.held sink.new) (K.faults sink.old) (K.faults sink.new)) result }
+    ensures flushed { TellsFaults (K.held sink.old) (K.faults sink.old) (K.faults sink.new) result.status }
 {
     match ring(alloc, nodes) {
         Ok(program) => answer(alloc, options, program, sink),
@@ -154,8 +159,9 @@ fn outcome_of<S: Source, K: Sink>(
     sink: &mut K,
 ) -> Outcome
     requires { IsRing options.now.make }
-    ensures { Runs options.now (around (S.left source.old) (S.left source.new) (S.faults source.old) (S.faults source.new)
+    ensures runs { Runs options.now (around (S.left source.old) (S.left source.new) (S.faults source.old) (S.faults source.new)
         (K.held sink.old) (K.held sink.new) (K.faults sink.old) (K.faults sink.new)) result }
+    ensures flushed { TellsFaults (K.held sink.old) (K.faults sink.old) (K.faults sink.new) result.status }
 {
     match options.make {
         None => read_and_answer(alloc, options, source, sink),
@@ -176,6 +182,7 @@ pub fn run_alone<S: Source, K: Sink, N: Sink>(
     requires { IsRing options.now.make }
     ensures runs { Runs options.now (around (S.left source.old) (S.left source.new) (S.faults source.old) (S.faults source.new)
         (K.held sink.old) (K.held sink.new) (K.faults sink.old) (K.faults sink.new)) result }
+    ensures flushed { TellsFaults (K.held sink.old) (K.faults sink.old) (K.faults sink.new) result.status }
     ensures notes { IsNoted (N.held notes.old) (N.held notes.new) (N.faults notes.old) (N.faults notes.new) (notes_of options.now.stats result) }
 {
     let outcome = outcome_of(alloc, options, source, sink);
@@ -185,6 +192,7 @@ pub fn run_alone<S: Source, K: Sink, N: Sink>(
 
 fn help<K: Sink>(sink: &mut K) -> Status
     ensures means { HelpMeans (K.held sink.old) (K.held sink.new) (K.faults sink.old) (K.faults sink.new) result }
+    ensures flushed { TellsFaults (K.held sink.old) (K.faults sink.old) (K.faults sink.new) result }
 {
     match write_help(sink) {
         Ok(()) => Status::Help,
@@ -202,6 +210,14 @@ fn ended<N: Sink>(notes: &mut N, status: Status) -> Outcome
     outcome
 }
 
+/// A run that can't have its words: nothing is read or written but the line for its status on the notes.
+pub fn end_without_words<N: Sink>(notes: &mut N, status: Status) -> Outcome
+    ensures outcome { result ≡ record { status = status; report = None } }
+    ensures notes { IsNoted (N.held notes.old) (N.held notes.new) (N.faults notes.old) (N.faults notes.new) (notes_of false result) }
+{
+    ended(notes, status)
+}
+
 /// A whole run of the program.
 pub fn run<R: Threads + Wait + Sync, S: Source, K: Sink, N: Sink, G: Gate + Sync>(
     rt: &R,
@@ -214,6 +230,7 @@ pub fn run<R: Threads + Wait + Sync, S: Source, K: Sink, N: Sink, G: Gate + Sync
 ) -> Outcome
     ensures runs { RunsOn (words_give (map string_bytes words.now)) (around (S.left source.old) (S.left source.new) (S.faults source.old) (S.faults source.new)
         (K.held sink.old) (K.held sink.new) (K.faults sink.old) (K.faults sink.new)) result }
+    ensures flushed { TellsFaults (K.held sink.old) (K.faults sink.old) (K.faults sink.new) result.status }
     ensures notes { IsNoted (N.held notes.old) (N.held notes.new) (N.faults notes.old) (N.faults notes.new)
         (notes_of (asks_stats (words_give (map string_bytes words.now))) result) }
 {

@@ -5,4 +5,4 @@ pub returns-in_err-write_both : goal.returns-in_err-write_both
 returns-in_err-write_both g c = writes_exit _ _ _ _ _ _ _ _ (rw c.usage.ensures at c.in_err-write_both.ensures) c.from_residual.ensures.1
 
 pub returns : goal.returns
-returns g c = writes_flushed _ _ _ _ _ _ _ _ _ (rw c.usage.ensures at c.in_ok-write_both.ensures) c.flush.ensures.bytes c.flush.ensures.cause
+returns g c = writes_flushed _ _ _ _ _ _ _ _ _ (rw c.usage.ensures at c.in_ok-write_both.ensures) c.flush.ensures.bytes c.flush.ensures.cause c.flush.ensures.quiet

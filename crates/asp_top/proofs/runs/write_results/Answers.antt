@@ -5,4 +5,4 @@ pub returns-in_err-write_text : goal.returns-in_err-write_text
 returns-in_err-write_text g c = writes_exit _ _ _ _ _ _ _ _ c.in_err-write_text.ensures c.from_residual.ensures.1
 
 pub returns : goal.returns
-returns g c = writes_flushed _ _ _ _ _ _ _ _ _ c.in_ok-write_text.ensures c.flush.ensures.bytes c.flush.ensures.cause
+returns g c = writes_flushed _ _ _ _ _ _ _ _ _ c.in_ok-write_text.ensures c.flush.ensures.bytes c.flush.ensures.cause c.flush.ensures.quiet
