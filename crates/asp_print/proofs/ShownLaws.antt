@@ -8,7 +8,7 @@ use Rattle.asp_model.specs.Sets.{Atoms}
 use Rattle.asp_model.specs.Holding.{all_hold}
 use Rattle.asp_model.specs.Texts.{ended_line, shown, answer_lines, answers_from}
 use Rattle.asp_print.specs.Shown.{piece, pieces}
-use Rattle.asp_print.proofs.OutLaws.{drop_turn}
+use Rattle.asp_buffer.proofs.OutLaws.{drop_turn}
 
 abbrev shown_of : Atoms → List Output → List (List ℕ)
 shown_of S os = map (λ (o : Output). o.text) (filter (λ (o : Output). all_hold S o.condition) os)

@@ -1,2 +1,1 @@
-pub mod Out
 pub mod Shown

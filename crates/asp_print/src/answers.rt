@@ -3,10 +3,10 @@ ghost use Rattle.std.specs.Prelude.{◌≡◌, ◌++◌, ◌+◌, ◌^◌, ◌<�
 ghost use Rattle.std.specs.List.{join_with_byte};
 ghost use Rattle.asp_model.specs.Holding.{all_hold};
 ghost use Rattle.asp_model.specs.Texts.{answer_lines, answers_from, ended_line, shown};
-ghost use Rattle.asp_print.specs.Out.{Puts, out};
+ghost use Rattle.asp_buffer.specs.Out.{Puts, out};
 ghost use Rattle.asp_print.specs.Shown.{piece, pieces, separator};
 
-use crate::buffer::{Waiting, put, put_number};
+use asp_buffer::{Waiting, put, put_number};
 use asp_io::{Failed, Sink};
 use asp_model::holding::literal_holds;
 use asp_model::interp::Interp;

@@ -4,10 +4,10 @@ ghost use Rattle.std.specs.Fmt.{signed_decimal};
 ghost use Rattle.std.specs.Io.KnownBytes.{Appends};
 ghost use Rattle.asp_io.specs.Causes.{Rose, AppendsFront};
 ghost use Rattle.asp_model.specs.Texts.{answers_from, closing_lines, cost_line, costs_text, count_mark, ended_line, recorded, results_text, verdict};
-ghost use Rattle.asp_print.specs.Out.{Puts, out};
+ghost use Rattle.asp_buffer.specs.Out.{Puts, out};
 
 use crate::answers::put_answers;
-use crate::buffer::{Waiting, flush, put, put_number};
+use asp_buffer::{Waiting, flush, put, put_number};
 use asp_io::{Failed, Sink};
 use asp_model::cost::Cost;
 use asp_model::interp::Interp;

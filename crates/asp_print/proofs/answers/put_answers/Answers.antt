@@ -1,5 +1,5 @@
 use Rattle.std.proofs.Common.{arith}
-use Rattle.asp_print.proofs.OutLaws.{midway_more, midway_fails}
+use Rattle.asp_buffer.proofs.OutLaws.{midway_more, midway_fails}
 use Rattle.asp_print.proofs.ShownLaws.{answers-turn}
 use Rattle.asp_print.proofs.answers.put_answers.Goals as goal
 

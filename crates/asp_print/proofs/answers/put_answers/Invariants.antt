@@ -1,7 +1,7 @@
 use Rattle.std.proofs.Common.{◌≡◌, ◌+◌, drop}
 use Rattle.asp_model.specs.Texts.{answers_from}
-use Rattle.asp_print.specs.Out.{out}
-use Rattle.asp_print.proofs.OutLaws.{Midway}
+use Rattle.asp_buffer.specs.Out.{out}
+use Rattle.asp_buffer.proofs.OutLaws.{Midway}
 use Rattle.asp_print.proofs.answers.put_answers.Given as goal
 
 abbrev pub invariant-loop-interp : goal.invariant-loop-interp

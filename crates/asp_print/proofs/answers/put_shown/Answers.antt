@@ -1,6 +1,6 @@
 use Rattle.std.proofs.Common.{[], ◌∷◌, false}
 use Rattle.asp_print.specs.Shown.{pieces}
-use Rattle.asp_print.proofs.OutLaws.{puts_then, puts_fails, puts_same}
+use Rattle.asp_buffer.proofs.OutLaws.{puts_then, puts_fails, puts_same}
 use Rattle.asp_print.proofs.ShownLaws.{line_shown}
 use Rattle.asp_print.proofs.answers.put_shown.Goals as goal
 

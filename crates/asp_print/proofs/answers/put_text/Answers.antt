@@ -1,4 +1,4 @@
-use Rattle.asp_print.proofs.OutLaws.{puts_then, puts_fails}
+use Rattle.asp_buffer.proofs.OutLaws.{puts_then, puts_fails}
 use Rattle.asp_print.specs.Shown.{separator}
 use Rattle.asp_print.proofs.answers.put_text.Goals as goal
 

@@ -1,5 +1,5 @@
 use Rattle.std.proofs.Common.{refl, arith}
-use Rattle.asp_print.proofs.OutLaws.{midway_start, midway_more, midway_fails}
+use Rattle.asp_buffer.proofs.OutLaws.{midway_start, midway_more, midway_fails}
 use Rattle.asp_print.proofs.ShownLaws.{pieces-turn}
 use Rattle.asp_print.proofs.answers.put_texts.Goals as goal
 

@@ -1,7 +1,7 @@
 use Rattle.std.proofs.Common.{drop, false}
-use Rattle.asp_print.specs.Out.{out}
+use Rattle.asp_buffer.specs.Out.{out}
 use Rattle.asp_print.specs.Shown.{pieces}
-use Rattle.asp_print.proofs.OutLaws.{Midway}
+use Rattle.asp_buffer.proofs.OutLaws.{Midway}
 use Rattle.asp_print.proofs.answers.put_texts.Given as goal
 
 abbrev pub invariant-loop-output : goal.invariant-loop-output

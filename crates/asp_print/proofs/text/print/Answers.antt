@@ -1,5 +1,5 @@
 use Rattle.std.proofs.Common.{[], append-nil}
-use Rattle.asp_print.proofs.OutLaws.{printed, printed-fails, puts_then, puts_same}
+use Rattle.asp_buffer.proofs.OutLaws.{printed, printed-fails, puts_then, puts_same}
 use Rattle.asp_print.proofs.text.print.Goals as goal
 
 pub returns-in_err-put_results : goal.returns-in_err-put_results

@@ -1,6 +1,6 @@
 use Rattle.std.proofs.Common.{[], ◌∷◌, ◌++◌, List, ℕ, codes, decimal, append_assoc, ap, sym}
 use Rattle.asp_model.specs.Texts.{ended_line, verdict, count_mark}
-use Rattle.asp_print.proofs.OutLaws.{puts_then, puts_fails, puts_same}
+use Rattle.asp_buffer.proofs.OutLaws.{puts_then, puts_fails, puts_same}
 use Rattle.asp_print.proofs.text.put_closing.Goals as goal
 
 pub returns-in_err-put_verdict : goal.returns-in_err-put_verdict

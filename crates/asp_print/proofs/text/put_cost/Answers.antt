@@ -1,7 +1,7 @@
 use Rattle.std.proofs.Common.{[], ◌∷◌, ◌++◌, codes, flat_map, ap}
 use Rattle.std.specs.Fmt.{signed_decimal}
 use Rattle.asp_model.specs.Texts.{cost_line}
-use Rattle.asp_print.proofs.OutLaws.{puts_then, puts_fails, puts_same}
+use Rattle.asp_buffer.proofs.OutLaws.{puts_then, puts_fails, puts_same}
 use Rattle.asp_print.proofs.text.put_cost.Goals as goal
 
 pub returns-in_err-put : goal.returns-in_err-put

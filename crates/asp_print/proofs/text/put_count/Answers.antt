@@ -1,5 +1,5 @@
 use Rattle.std.proofs.Common.{codes, decimal}
-use Rattle.asp_print.proofs.OutLaws.{puts_then, puts_fails}
+use Rattle.asp_buffer.proofs.OutLaws.{puts_then, puts_fails}
 use Rattle.asp_print.proofs.text.put_count.Goals as goal
 
 pub returns-in_err-put : goal.returns-in_err-put

@@ -1,7 +1,7 @@
 use Rattle.std.proofs.Common.{[], ◌++◌, length, append_assoc, sym}
 use Rattle.std.specs.Prelude.{if◌then◌else◌}
 use Rattle.asp_model.specs.Texts.{answers_from, closing_lines, costs_text, recorded}
-use Rattle.asp_print.proofs.OutLaws.{puts_then, puts_fails, puts_same}
+use Rattle.asp_buffer.proofs.OutLaws.{puts_then, puts_fails, puts_same}
 use Rattle.asp_print.proofs.text.put_results.Goals as goal
 
 pub returns-in_err-put_recorded : goal.returns-in_err-put_recorded

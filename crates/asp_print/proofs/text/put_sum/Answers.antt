@@ -3,7 +3,7 @@ use Rattle.std.specs.Fmt.{signed_decimal}
 use Rattle.std.proofs.lemmas.Int.{to_z-of_z}
 use mir.Syntax.{w64}
 use mir.Val.{SFits}
-use Rattle.asp_print.proofs.OutLaws.{puts_then, puts_fails}
+use Rattle.asp_buffer.proofs.OutLaws.{puts_then, puts_fails}
 use Rattle.asp_print.proofs.text.put_sum.Goals as goal
 
 pub returns-in_err-put : goal.returns-in_err-put

@@ -1,7 +1,7 @@
 use Rattle.std.proofs.Common.{arith, flat_map, ap, ◌∷◌}
 use Rattle.std.specs.Prelude.{ℤ, pos}
 use Rattle.std.specs.Fmt.{signed_decimal}
-use Rattle.asp_print.proofs.OutLaws.{drop_turn_or, midway_more, midway_fails}
+use Rattle.asp_buffer.proofs.OutLaws.{drop_turn_or, midway_more, midway_fails}
 use Rattle.asp_print.proofs.text.put_sums.Goals as goal
 
 pub returns-in_err-put_sum : goal.returns-in_err-put_sum

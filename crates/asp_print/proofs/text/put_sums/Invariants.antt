@@ -1,7 +1,7 @@
 use Rattle.std.proofs.Common.{drop, ◌∷◌, flat_map}
 use Rattle.std.specs.Fmt.{signed_decimal}
-use Rattle.asp_print.specs.Out.{out}
-use Rattle.asp_print.proofs.OutLaws.{Midway}
+use Rattle.asp_buffer.specs.Out.{out}
+use Rattle.asp_buffer.proofs.OutLaws.{Midway}
 use Rattle.asp_print.proofs.text.put_sums.Given as goal
 
 abbrev pub invariant-loop-sum : goal.invariant-loop-sum

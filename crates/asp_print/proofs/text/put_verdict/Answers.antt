@@ -1,6 +1,6 @@
 use Rattle.asp_model.specs.Texts.{verdict}
 use Rattle.std.proofs.Common.{[], ◌∷◌}
-use Rattle.asp_print.proofs.OutLaws.{puts_then, puts_fails}
+use Rattle.asp_buffer.proofs.OutLaws.{puts_then, puts_fails}
 use Rattle.asp_print.proofs.text.put_verdict.Goals as goal
 
 pub returns-in_err-put : goal.returns-in_err-put

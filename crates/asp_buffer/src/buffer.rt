@@ -2,7 +2,7 @@
 ghost use Rattle.std.specs.Prelude.{◌≡◌, ◌+◌, ◌++◌, ◌∷◌, ◌≤◌, [], length, nat_le, OnOk, OnErr};
 ghost use Rattle.std.specs.Io.KnownBytes.{Appends};
 ghost use Rattle.asp_io.specs.Causes.{Rose, AppendsFront};
-ghost use Rattle.asp_print.specs.Out.{Puts, out};
+ghost use Rattle.asp_buffer.specs.Out.{Puts, out};
 
 use asp_io::{Failed, Sink, write_all};
 use itoa::{Buffer, Integer};
@@ -29,6 +29,7 @@ impl Model for Waiting {
 }
 
 impl Waiting {
+    /// None yet.
     pub fn new() -> Waiting
         ensures { result ≡ [] }
     {
@@ -38,6 +39,7 @@ impl Waiting {
         }
     }
 
+    /// The bytes, in the order in which they came.
     pub fn as_slice(&self) -> &[u8]
         ensures { result.now ≡ self.now }
     {
@@ -67,7 +69,7 @@ impl Waiting {
     }
 }
 
-/// Writes what waits.
+/// Writes what waits to the sink. It doesn't flush the sink.
 pub fn flush<K: Sink>(sink: &mut K, waiting: &mut Waiting) -> Result<(), Failed>
     ensures empty { OnOk result (waiting.new ≡ []) }
     ensures puts { Puts (out (K.held sink.old) (K.faults sink.old) waiting.old)

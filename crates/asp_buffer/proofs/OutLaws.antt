@@ -8,7 +8,7 @@ use Rattle.std.proofs.lemmas.List.{take-append-le, take_min}
 use Rattle.std.proofs.lemmas.Result.{err_from_is_err_and}
 use Rattle.asp_io.specs.Causes.{Rose, AppendsFront}
 use Rattle.asp_io.proofs.Writing.{still_told}
-use Rattle.asp_print.specs.Out.{Out, Passes, Puts}
+use Rattle.asp_buffer.specs.Out.{Out, Passes, Puts}
 
 -- a front of some bytes is one of more bytes
 pub front-more : (old new : Option (List ℕ)) (bytes more : List ℕ) → AppendsFront old new bytes → AppendsFront old new (bytes ++ more)

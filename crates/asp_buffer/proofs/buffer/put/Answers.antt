@@ -1,6 +1,6 @@
 use Rattle.std.proofs.Common.{[]}
-use Rattle.asp_print.proofs.OutLaws.{puts_then, puts_fails}
-use Rattle.asp_print.proofs.buffer.put.Goals as goal
+use Rattle.asp_buffer.proofs.OutLaws.{puts_then, puts_fails}
+use Rattle.asp_buffer.proofs.buffer.put.Goals as goal
 
 pub returns-in_err-flush : goal.returns-in_err-flush
 returns-in_err-flush g c = puts_fails _ _ _ _ c.from_residual.result [] c.args.bytes.now c.in_err-flush.ensures.puts c.from_residual.ensures.1
