@@ -34,8 +34,9 @@ use Rattle.asp_core.specs.declared.goal.Goal.TheVariants as goal
 use Rattle.asp_core.specs.declared.task.Task.{Task}
 use Rattle.asp_core.specs.Boards.{Board, IsQuery, wanted, is_answer, start, lists, optimises, bound_by, bound_of, distinct, is_excused}
 use Rattle.asp_core.specs.Events.{held_by, Guard, happens}
-use Rattle.asp_core.specs.Invariant.{IsSettled, IsReason, IsBoard}
-use Rattle.asp_core.proofs.UnitLaws.{total-leased, total-returned}
+use Rattle.asp_core.specs.Invariant.{IsCube, IsSettled, IsReason, IsBoard}
+use Rattle.asp_core.proofs.UnitLaws.{total-leased, total-returned, single-none, single-leased, single-returned}
+use Rattle.asp_core.proofs.CubeLaws.{IsCube-start, IsCube-push, cube-at}
 
 pub each-set : {X : Type 0} (P : X → Type 0) (xs : List X) (k : ℕ) (y : X) → AllByRecursion P xs → P y → AllByRecursion P (set xs k y)
 each-set P [] k y h p = tt
@@ -70,8 +71,10 @@ IsBoard-start t query =
       settled = (λ e. absurd (let f : ⊥ = cc in f), tt);
       units = omega arith;
       apart = λ s. omega arith;
+      single = single-none;
       explained = tt;
       complete = λ n closed. absurd (alone n closed);
+      cubes = (IsCube-start t (wanted-stand t query), tt);
     }
   where
     alone : (n : ℕ) → status_of (root (map (literal_of t.program) (wanted t))) n ≡ status.Closed → ⊥
@@ -139,9 +142,11 @@ IsBoard-with_status b e n new is g nodes was leaf closed apart = record {
   best = is.best;
   settled = each-set (IsSettled b) b.nodes n (record { cube = cube_of b.nodes n; status = new }) is.settled (λ e. absurd (closed e));
   units = is.units;
+  single = is.single;
   apart = apart;
   explained = explained-more b (record b { nodes = with_status b.nodes n new }) refl (λ T h. h) (λ m h. ap (λ (xs : List Node). get_or xs m nowhere) (sym nodes) ∙ closed-stays b e m g h) b.reasons is.explained;
   complete = λ m h. is.complete m (closed-set b.nodes n (record { cube = cube_of b.nodes n; status = new }) m closed h);
+  cubes = each-set (λ (x : Node). IsCube b.task x.cube) b.nodes n (record { cube = cube_of b.nodes n; status = new }) is.cubes (cube-at b.task b.nodes n (leaf-within b.nodes n was) is.cubes);
 }
 
 reason-there : (rs : List Reason) (n : ℕ) (r : Reason) (m : ℕ) → ((m ≡ n → ⊥) → list_any (λ x. x.leaf == m) rs ≡ true) → r.leaf ≡ n → list_any (λ x. x.leaf == m) (rs ++ r ∷ []) ≡ true
@@ -186,9 +191,15 @@ IsBoard-split b n s l is g =
           (each-set (IsSettled b) b.nodes n forked is.settled (λ e. absurd (let f : ⊥ = cc in f)))
           (λ e. absurd (let g : status.Held s ≡ status.Closed = sym held ∙ e in let f : ⊥ = cc in f), (λ e. absurd (let f : ⊥ = cc in f), tt));
       units = is.units;
+      single = is.single;
       apart = λ t. omega (arith, held-split t b.nodes n l lt, is.apart t);
       explained = explained-more b (record b { nodes = split b.nodes n l }) refl (λ T h. h) (λ m h. closed-stays b (event.Split s n l) m g h) b.reasons is.explained;
       complete = λ m h. is.complete m (closed-set b.nodes n forked m (λ e. let f : ⊥ = cc in f) (closed-append (set b.nodes n forked) first second m (λ e. let g : status.Held s ≡ status.Closed = sym held ∙ e in let f : ⊥ = cc in f) (λ e. let f : ⊥ = cc in f) h));
+      cubes =
+          let at : IsCube b.task (cube_of b.nodes n) = cube-at b.task b.nodes n lt is.cubes in
+          each-append (λ (x : Node). IsCube b.task x.cube) (set b.nodes n forked) (first ∷ second ∷ [])
+          (each-set (λ (x : Node). IsCube b.task x.cube) b.nodes n forked is.cubes at)
+          (IsCube-push b.task (cube_of b.nodes n) l g.2 at, (IsCube-push b.task (cube_of b.nodes n) (complement l) g.2 at, tt));
     }
 
 -- ---- what is recorded
@@ -266,9 +277,11 @@ IsBoard-happens b (event.Deliver s S) is g =
       best = is.best;
       settled = settled-more b c refl more b.nodes is.settled;
       units = is.units;
+      single = is.single;
       apart = is.apart;
       explained = explained-more b c refl more (λ m h. refl) b.reasons is.explained;
       complete = is.complete;
+      cubes = is.cubes;
     }
 IsBoard-happens b (event.Improve s S) is g =
     let more = λ (T : Atoms). done-improved b.task.goal b.task.program b.answers b.best S T g.0 g.2 in
@@ -280,9 +293,11 @@ IsBoard-happens b (event.Improve s S) is g =
       best = (g.0, g.1);
       settled = settled-more b c refl more b.nodes is.settled;
       units = is.units;
+      single = is.single;
       apart = is.apart;
       explained = explained-more b c refl more (λ m h. refl) b.reasons is.explained;
       complete = is.complete;
+      cubes = is.cubes;
     }
 IsBoard-happens b (event.Close s leaf n) is g =
     let was : is_leaf (status_of b.nodes leaf) ≡ true = ap is_leaf g.0 in
@@ -302,9 +317,11 @@ IsBoard-happens b (event.Close s leaf n) is g =
       best = is.best;
       settled = each-set (IsSettled b) b.nodes leaf closed is.settled (λ e. HitsOnly-within b.task.program (is_excused b) (cube_of b.nodes leaf) n g.1 g.2);
       units = is.units;
+      single = is.single;
       apart = apart-less b leaf status.Closed is lt (λ s. refl);
       explained = each-append (IsReason c) b.reasons (reason ∷ []) (explained-more b c refl (λ T h. h) (λ m h. closed-stays b (event.Close s leaf n) m g h) b.reasons is.explained) (own, tt);
       complete = λ m h. reason-there b.reasons leaf reason m (λ ne. is.complete m (ap (λ (x : Node). x.status) (sym (get_or-set_other b.nodes leaf m closed nowhere ne)) ∙ h)) refl;
+      cubes = each-set (λ (x : Node). IsCube b.task x.cube) b.nodes leaf closed is.cubes (cube-at b.task b.nodes leaf lt is.cubes);
     }
 IsBoard-happens b (event.Release s leaf) is g =
     let was : is_leaf (status_of b.nodes leaf) ≡ true = ap is_leaf g in
@@ -316,9 +333,11 @@ IsBoard-happens b (event.Lease s n) is g = record {
   best = is.best;
   settled = is.settled;
   units = omega (arith, is.units, g, total-leased s n b.out);
+  single = single-leased s n b.out is.single;
   apart = is.apart;
   explained = explained-more b (happens b (event.Lease s n)) refl (λ T h. h) (λ m h. refl) b.reasons is.explained;
   complete = is.complete;
+  cubes = is.cubes;
 }
 IsBoard-happens b (event.Back s left burnt) is g = record {
   covered = is.covered;
@@ -327,7 +346,9 @@ IsBoard-happens b (event.Back s left burnt) is g = record {
   best = is.best;
   settled = is.settled;
   units = omega (arith, is.units, g, total-returned s b.out);
+  single = single-returned s b.out is.single;
   apart = is.apart;
   explained = explained-more b (happens b (event.Back s left burnt)) refl (λ T h. h) (λ m h. refl) b.reasons is.explained;
   complete = is.complete;
+  cubes = is.cubes;
 }

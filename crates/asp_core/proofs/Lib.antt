@@ -1,4 +1,5 @@
 pub mod UnitLaws
+pub mod CubeLaws
 pub mod BoardLaws
 pub mod SortingLaws
 pub mod CountLaws

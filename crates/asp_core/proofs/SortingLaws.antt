@@ -1,11 +1,16 @@
 -- Two strictly rising lists of sets with the same members are equal.
 use Rattle.std.proofs.Common.{◌≡◌, Bool, true, false, cond, ◌&&◌, ◌||◌, List, [], ◌∷◌, filter, fold, refl, sym, ap, ◌∙◌, subst}
-use Rattle.std.specs.List.{list_any, AllByRecursion}
+use Rattle.std.specs.List.{list_any, AllByRecursion, dedup, dedup_from}
+use Rattle.std.specs.List.Retain.{IsFiltered, DiffersFromLast}
+use Rattle.std.specs.List.Sorted.{IsPermutation, IsSorted, IsStrictlySortedBy}
 use Rattle.std.specs.Ordering.{is_eq, ordering_reverse, match_ordering}
 use Rattle.std.specs.declared.cmp.Ordering.{Ordering}
 use Rattle.std.specs.declared.cmp.Ordering.TheVariants.{Less, Equal, Greater}
 use Rattle.std.specs.Cmp.Lexicographic.{same_text}
 use Rattle.std.proofs.lemmas.Bool.{false≢true, eq-eqb, and_parts, or_from}
+use Rattle.std.proofs.lemmas.List.Filters.{dedup_is}
+use Rattle.std.proofs.lemmas.List.Kept.{IsStrictlySortedBy-dedup}
+use Rattle.std.proofs.lemmas.List.Sorted.{list_any-IsPermutation}
 use Rattle.asp_model.specs.declared.program.Program.{Program}
 use Rattle.asp_model.specs.Sets.{Atoms, IsAscending, IsBefore, same_set, set_cmp, subsets}
 use Rattle.asp_model.specs.Holding.{all_hold}
@@ -91,11 +96,11 @@ or-nil : (a : Bool) → a ≡ (a || false)
 or-nil true = refl
 or-nil false = refl
 
-sorted-has : (Z A : List Atoms) (R : Atoms) → list_any (same_set R) (fold (λ Ts S. with_set S Ts) Z A) ≡ (list_any (same_set R) Z || list_any (same_set R) A)
+pub sorted-has : (Z A : List Atoms) (R : Atoms) → list_any (same_set R) (fold (λ Ts S. with_set S Ts) Z A) ≡ (list_any (same_set R) Z || list_any (same_set R) A)
 sorted-has Z [] R = or-nil (list_any (same_set R) Z)
 sorted-has Z (S ∷ A) R = sorted-has (with_set S Z) A R ∙ ap (λ x. x || list_any (same_set R) A) (with_set-has S Z R) ∙ or_assoc (same_set R S) (list_any (same_set R) Z) (list_any (same_set R) A)
 
-sorted-rise : (Z A : List Atoms) → Rise Z → Rise (fold (λ Ts S. with_set S Ts) Z A)
+pub sorted-rise : (Z A : List Atoms) → Rise Z → Rise (fold (λ Ts S. with_set S Ts) Z A)
 sorted-rise Z [] up = up
 sorted-rise Z (S ∷ A) up = sorted-rise (with_set S Z) A (with_set-rise S Z up)
 
@@ -185,3 +190,29 @@ pub sorted-answers : (t : Task) (q : Atoms → Bool) (A : List Atoms) → ((S : 
 sorted-answers t q A h =
     rise-same (sorted_once A) (filter q (answers_of t)) (sorted-rise [] A tt) (rise-filter q (answers_of t) (rise-filter (λ S. all_hold S (wanted t)) (models t.program) (models-rise t.program)))
     (λ R. sorted-has [] A R ∙ h R ∙ and_turn (is_answer t R) (q R) ∙ ap (λ x. q R && x) (sym (has-answers_of t R)) ∙ sym (has-filter q (answers_of t) R))
+
+-- ---- a sorted list without its repeats
+rise-strict : (L : List Atoms) → IsStrictlySortedBy set_cmp L → Rise L
+unfolding IsStrictlySortedBy
+rise-strict [] h = tt
+rise-strict (S ∷ L) h = (h.0, rise-strict L h.1)
+
+has-dedup_from : (K : Atoms) (L : List Atoms) (R : Atoms) → list_any (same_set R) (dedup_from same_set K L) ≡ list_any (same_set R) (K ∷ L)
+has-dedup_from K [] R = refl
+has-dedup_from K (S ∷ L) R = here (same_set S K) refl (has-dedup_from K L R) (has-dedup_from S L R)
+  where
+    here : (z : Bool) → z ≡ same_set S K → list_any (same_set R) (dedup_from same_set K L) ≡ (same_set R K || list_any (same_set R) L) →
+        list_any (same_set R) (dedup_from same_set S L) ≡ (same_set R S || list_any (same_set R) L) →
+        list_any (same_set R) (cond z (dedup_from same_set K L) (K ∷ dedup_from same_set S L)) ≡ (same_set R K || (same_set R S || list_any (same_set R) L))
+    here true q k s = k ∙ or_again (same_set R K) (list_any (same_set R) L) ∙ ap (λ (X : Atoms). same_set R K || (same_set R X || list_any (same_set R) L)) (sym (same_text S K q))
+    here false q k s = ap (λ x. same_set R K || x) s
+
+has-dedup : (L : List Atoms) (R : Atoms) → list_any (same_set R) (dedup same_set L) ≡ list_any (same_set R) L
+has-dedup [] R = refl
+has-dedup (S ∷ L) R = has-dedup_from S L R
+
+pub once-is : (A M L : List Atoms) → IsPermutation A M → IsSorted set_cmp M → IsFiltered (DiffersFromLast same_set) [] M L → L ≡ sorted_once A
+once-is A M L moved sorted kept =
+    let is : L ≡ dedup same_set M = dedup_is same_set M L kept in
+    rise-same L (sorted_once A) (subst Rise (sym is) (rise-strict (dedup same_set M) (IsStrictlySortedBy-dedup {R = set_cmp} sets_total {E = same_set} sets_tie M sorted))) (sorted-rise [] A tt)
+    (λ R. ap (λ (X : List Atoms). list_any (same_set R) X) is ∙ has-dedup M R ∙ sym (list_any-IsPermutation (same_set R) A M moved) ∙ sym (sorted-has [] A R))

@@ -1,11 +1,13 @@
 -- What holds of a board after every lawful list of events.
-use Rattle.std.specs.Prelude.{◌≡◌, ℕ, ◌+◌, ◌<◌, ◌≤◌, ◌==◌, length, filter, false, IsTrue, MatchOption}
-use Rattle.std.specs.List.{list_any, AllByRecursion}
+use Rattle.std.specs.Prelude.{◌≡◌, ℕ, ◌+◌, ◌<◌, ◌≤◌, ◌==◌, nat_eq, All, List, length, map, filter, false, IsTrue, MatchOption}
+use Rattle.std.specs.List.{list_any, AllByRecursion, IsDistinct}
 use Rattle.std.specs.Option.{IfSome}
+use mathlib.Core.List.{IsPrefix}
 use Rattle.asp_model.specs.Sets.{Atoms}
 use Rattle.asp_model.specs.Holding.{all_hold}
 use Rattle.asp_model.specs.Costs.{cost, betters}
-use Rattle.asp_vars.specs.Numbering.{values}
+use Rattle.asp_vars.specs.Literals.{Literal}
+use Rattle.asp_vars.specs.Numbering.{literal_of, values}
 use Rattle.asp_vars.specs.Entailment.{HitsOnly}
 use Rattle.asp_vars.specs.Conflicts.{has_all}
 use Rattle.asp_core.specs.declared.reason.Reason.{Reason}
@@ -17,7 +19,12 @@ use Rattle.asp_core.specs.Units.{total_out}
 use Rattle.asp_core.specs.declared.task.Task.{Task}
 use Rattle.asp_core.specs.Boards.{Board, wanted, is_answer, lists, optimises, distinct, is_excused}
 use Rattle.asp_core.specs.Sorting.{sorted_once, answers_of}
-use Rattle.asp_core.specs.Events.{held_by}
+use Rattle.asp_core.specs.Events.{held_by, IsVariable}
+
+-- The cube begins with the wanted literals, and its variables are the program's.
+pub record IsCube (t : Task) (cube : List Literal) : Type 0 where
+  pub begins : IsPrefix (map (literal_of t.program) (wanted t)) cube
+  pub variables : All (λ l. IsVariable t.program l.var) cube
 
 -- If the node is a closed leaf, each stable model that hits its cube is excused.
 abbrev pub IsSettled : Board → Node → Type 0
@@ -40,11 +47,14 @@ pub record IsBoard (b : Board) : Type 0 where
   pub best : IfSome b.best (λ S. IsTrue (optimises b.task.goal) × IsTrue (is_answer b.task S))
   pub settled : AllByRecursion (IsSettled b) b.nodes
   pub units : b.pool + total_out b.out + b.burnt ≡ b.task.budget
+  -- Each number has at most one entry of units that are out.
+  pub single : IsDistinct nat_eq (map (λ x. x.0) b.out)
   -- Each number holds at most one leaf.
   pub apart : (s : ℕ) → held_by s b.nodes ≤ 1
   pub explained : AllByRecursion (IsReason b) b.reasons
   -- Each closed leaf has its nogood.
   pub complete : (n : ℕ) → status_of b.nodes n ≡ status.Closed → IsTrue (list_any (λ r. r.leaf == n) b.reasons)
+  pub cubes : AllByRecursion (λ n. IsCube b.task n.cube) b.nodes
 
 -- ---- a finished board
 -- It is an answer that no answer betters.

@@ -297,6 +297,31 @@ impl State {
         Ok(Some(best.copy()?))
     }
 
+    /// The sets delivered, in their order, and the best answer with its cost, where one was recorded.
+    pub fn into_found(self) -> (Vec<Interp>, Option<(Interp, Cost)>)
+        ensures answers { result.0.items ≡ self.answers }
+        ensures best { result.1 ≡ option_map (λ S. (S, cost self.task.program S)) self.best }
+    {
+        let State {
+            alloc: _,
+            program: _,
+            goal: _,
+            budget: _,
+            limit: _,
+            query: _,
+            prices: _,
+            tree: _,
+            answers,
+            different: _,
+            best,
+            pool: _,
+            out: _,
+            burnt: _,
+            reasons: _,
+        } = self;
+        (answers, best)
+    }
+
     /// The closed leaves, each with its nogood.
     pub fn reasons(&self) -> &[Reason]
         ensures reasons { result.now ≡ self.now.reasons }
