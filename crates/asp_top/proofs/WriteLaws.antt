@@ -7,7 +7,7 @@ use Rattle.std.proofs.Math.Seq.{take-length}
 use Rattle.std.proofs.lemmas.Result.{err_from_is_err_and}
 use Rattle.asp_io.specs.Causes.{HasCause, AppendsFront}
 use Rattle.asp_io.proofs.Writing.{still_told}
-use Rattle.asp_print.proofs.OutLaws.{front-more, front-after}
+use Rattle.asp_buffer.proofs.OutLaws.{front-more, front-after}
 use Rattle.asp_top.specs.Notes.{IsNoted, Writes}
 
 -- all of some bytes is a front of them
