@@ -1,7 +1,9 @@
 //! The search: what it keeps, and the calls beside its step.
-ghost use Rattle.std.specs.Prelude.{◌≡◌, ◌≢◌, ◌+◌, ◌≤◌, ◌∷◌, ◌++◌, [], None, Some, true, false, IfOk, OnOk, OnErr, IsSome, MatchBool, length, replicate, slice_get};
+ghost use Rattle.std.specs.Prelude.{◌≡◌, ◌≢◌, ◌+◌, ◌≤◌, ◌∷◌, ◌++◌, [], None, Some, true, false, List, IfOk, IfSome, OnOk, OnErr, IsSome, MatchBool, length, replicate, slice_get};
 ghost use Rattle.std.specs.List.{All};
+ghost use Rattle.std.specs.Option.{option_copied};
 ghost use Rattle.asp_vars.specs.Entailment.{IsGood};
+ghost use Rattle.asp_vars.specs.Literals.{Literal};
 ghost use Rattle.asp_vars.specs.Numbering.{var_count};
 ghost use Rattle.asp_vars.specs.declared.nogood.Base.TheVariants as base;
 ghost use Rattle.asp_trail.specs.Entries.{level};
@@ -9,7 +11,7 @@ ghost use Rattle.asp_trail.specs.Trails.{IsVar};
 ghost use Rattle.asp_store.specs.Keeping.{nogood_at};
 ghost use Rattle.asp_propagate.specs.Useful.{IsSmaller};
 ghost use Rattle.asp_search_laws.specs.Steps.{is_of_use};
-ghost use Rattle.asp_search.specs.Beside.{new_search, Enters, Leaves, is_local, is_shared, only_shared, exported};
+ghost use Rattle.asp_search.specs.Beside.{new_search, Enters, Leaves, is_local, is_shared, only_shared, exported, IsOpen, IsShared, IsSharedBy};
 
 use asp_analyze::learn::Learner;
 use asp_order::pace::Pace;
@@ -176,6 +178,14 @@ impl<'a, P: Propagator> Search<'a, P> {
         }
     }
 
+    /// The cost below which answers are sought, if there is one.
+    pub fn bound(&self) -> Option<&Cost>
+        ensures { option_copied result ≡ self.now.bound }
+    {
+        let _mode = self.mode;
+        self.bound.as_ref()
+    }
+
     // Keeps another search's nogood.
     fn keep(&mut self, nogood: &Nogood) -> Result<(), AllocError>
         requires vars { All (λ l. IsVar (var_count self.old.program) l.var) nogood.now.lits }
@@ -194,7 +204,7 @@ impl<'a, P: Propagator> Search<'a, P> {
     /// cost that no bound of an optimisation has reached. After want of memory no path is entered.
     pub fn import(&mut self, nogood: &Nogood) -> Result<bool, AllocError>
         requires vars { All (λ l. IsVar (var_count self.old.program) l.var) nogood.now.lits }
-        requires good { nogood.now.base ≢ base.Local → IsGood self.old.program self.old.known self.old.bound nogood.now }
+        requires good { nogood.now.base ≢ base.Local → IsSharedBy self.old.program nogood.now.base nogood.now.lits }
         ensures counts { IfOk result (λ b. b ≡ is_of_use self.old.mode self.old.bound nogood.now.base) }
         ensures ok { IfOk result (λ b. MatchBool b (self.new ≡ record self.old { slots = self.old.slots ++ Some (record { nogood = nogood.now; forever = false; locked = false }) ∷ [] })
             (self.new ≡ self.old)) }
@@ -212,11 +222,14 @@ impl<'a, P: Propagator> Search<'a, P> {
         }
     }
 
-    /// A copy of the nogood that the last step learnt, if it has at most 8 literals and isn't local.
+    /// A copy of the nogood that the last step learnt, if it has at most 8 literals and isn't local. It holds for every search
+    /// of the program.
     pub fn export(&self) -> Result<Option<Nogood>, AllocError>
-        ensures { IfOk result (λ copy. copy ≡ exported self.now) }
+        ensures value { IfOk result (λ copy. copy ≡ exported self.now) }
+        ensures shared { IfOk result (λ copy. IfSome copy (IsShared self.now.program)) }
     {
         let _mode = self.mode;
+        let _store = self.state.store();
         match self.last {
             None => Ok(None),
             Some(id) => copy_shared(self.alloc, self.state.store(), id),
@@ -232,10 +245,13 @@ impl<'a, P: Propagator> Search<'a, P> {
         self.state.trail().level()
     }
 
-    /// The first decision, if one stands.
+    /// The first decision, if one stands: a literal by which the path can be split.
     pub fn first(&self) -> Option<Lit>
-        ensures { result ≡ slice_get self.now.decisions 0 }
+        ensures value { result ≡ slice_get self.now.decisions 0 }
+        ensures open { (q : List Literal) → self.now.cube ≡ Some q → IfSome result (IsOpen self.now.program q) }
     {
+        let _trail = self.state.trail();
+        let _clashing = self.state.is_clashing();
         self.state.decisions().first().copied()
     }
 }

@@ -7,7 +7,7 @@ use Rattle.asp_order.specs.Waiting.{all_bumped}
 use Rattle.asp_order.proofs.HeapLaws.{all_bumped_alike}
 use Rattle.asp_order.proofs.order.bump_and_decay.Goals as goal
 
-pub bump_all-requires-2 : goal.bump_all-2-requires
+pub bump_all-requires-2 : goal.bump_all-requires-2
 bump_all-requires-2 c =
     let old : Ranking = c.args.heap.now in
     let e : length c.bump_all.new.heap.activities ≡ length old.activities = ap (λ (h : Ranking). length h.activities) c.bump_all.ensures ∙ (all_bumped_alike old c.args.lits.now).vars in
