@@ -77,23 +77,23 @@ fn conclude(nogood: Nogood, point: Option<Lit>, trail: &Trail) -> Learned
     }
 }
 
-/// What learning takes memory for, to be used again.
+/// What learning takes memory for, to be used again. The marks of a conflict stay until the next one.
 #[derive(Drop)]
 pub struct Learner {
     vars: u32,
     marks: Marks,
+    met: usize,
     path: Vec<Look>,
 }
 
 impl Model for Learner {
-    ghost use Rattle.std.specs.Prelude.{ℕ, ◌≡◌, ◌+◌};
-    ghost use Rattle.asp_analyze.specs.Marks.{unmarked};
+    ghost use Rattle.std.specs.Prelude.{ℕ, ◌≡◌, ◌+◌, length};
 
     ghost Value = { ℕ };
 
     ghost view = { λ l. l.vars };
 
-    ghost invariant = { λ l. l.marks ≡ unmarked (l.vars + 1) };
+    ghost invariant = { λ l. length l.marks.marks ≡ l.vars + 1 };
 }
 
 impl Learner {
@@ -105,6 +105,7 @@ impl Learner {
         Ok(Learner {
             vars,
             marks,
+            met: 0,
             path: Vec::new(alloc),
         })
     }
@@ -127,22 +128,31 @@ impl Learner {
         ensures learned { IfOk result (IsLearned trail.now.entries lits.now) }
         ensures same { self.new ≡ self.old }
     {
-        let learned = analyse(
+        self.marks.clear();
+        analyse(
             &mut self.marks,
+            &mut self.met,
             &mut self.path,
             trail,
             reasons,
             lits,
             base,
-        );
-        self.marks.clear();
-        learned
+        )
+    }
+
+    /// The literals that were met on the way to the last point, each variable's once.
+    pub fn met(&self) -> &[Lit]
+        ensures { All (λ l. l.var ≤ self.now) result.now }
+    {
+        let lits = self.marks.lits();
+        &lits[..self.met.min(lits.len())]
     }
 }
 
-// Learns, and leaves the marks.
+// Learns, and leaves the marks, of which the first were met on the way to the point.
 fn analyse<R: Reasons>(
     marks: &mut Marks,
+    met: &mut usize,
     path: &mut Vec<Look>,
     trail: &Trail,
     reasons: &R,
@@ -163,6 +173,7 @@ fn analyse<R: Reasons>(
     let top = greatest_level(lits, trail);
     note_all(marks, trail, top, lits);
     let point = find_point(marks, &mut base, trail, reasons, top)?;
+    *met = marks.len();
     settle(marks, &mut base, path, trail, reasons, top)?;
     let lits = staying(*path.allocator(), marks)?;
     Ok(conclude(Nogood { lits, base }, point, trail))

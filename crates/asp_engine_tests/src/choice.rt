@@ -28,7 +28,7 @@ fn decides_and_takes_back(rt: HostRuntime) -> Result<(), Fail> {
     let mut trail = Trail::new(rt.alloc(), 3)?;
     trail.reserve(3)?;
     let mut order = Order::new(rt.alloc(), 3)?;
-    order.bump(&[Lit::new(2, true)]);
+    order.bump(&[Lit::new(2, true)], &[]);
     assert_eq!(rt; decide(&mut order, &mut trail), Some(2));
     assert_eq!(rt; decide(&mut order, &mut trail), Some(1));
     order.restore_above(&trail, 1);

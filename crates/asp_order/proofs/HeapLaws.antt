@@ -38,7 +38,7 @@ pub record IsAlike (old new : Ranking) : Type 0 where
   pub members : new.members ≡ old.members
   pub vars : length new.activities ≡ length old.activities
 
-alike_still : (r s t : Ranking) → IsAlike r s → IsAlike s t → IsAlike r t
+pub alike_still : (r s t : Ranking) → IsAlike r s → IsAlike s t → IsAlike r t
 alike_still r s t p q = record { members = q.members ∙ p.members; vars = q.vars ∙ p.vars }
 
 within_alike : (h : Ranking) (most : ℕ) → IsAlike h (within h most)

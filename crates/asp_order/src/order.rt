@@ -2,8 +2,8 @@
 //!
 //! Each variable without a value is in the heap. One that gets a value stays there until it comes first and is
 //! skipped, so nothing is done when a literal comes to hold. Before literals are taken back, their variables are put
-//! into the heap again.
-ghost use Rattle.std.specs.Prelude.{◌≡◌, ◌+◌, ◌<◌, ◌↔◌, ◌++◌, ◌∷◌, [], ℕ, All, length, slice_set, slice_index_or, false, IsTrue, IfOk, IfSome, IfNone};
+//! into the heap again, and their values are saved: a variable is decided to have the value that it had last.
+ghost use Rattle.std.specs.Prelude.{◌≡◌, ◌+◌, ◌<◌, ◌^◌, ◌↔◌, ◌++◌, ◌∷◌, [], ℕ, All, length, slice_set, slice_index_or, false, IsTrue, IfOk, IfSome, IfNone};
 ghost use Rattle.asp_trail.specs.declared.trail.Entry.{Entry};
 ghost use Rattle.asp_trail.specs.Entries.{assignment, cut};
 ghost use Rattle.asp_trail.specs.Trails.{IsVar, IsOrdered};
@@ -11,6 +11,7 @@ ghost use Rattle.asp_order.specs.Heaps.{is_in, IsFirst, reserved};
 ghost use Rattle.asp_order.specs.Waiting.{HasVars, AreWaiting, AreAssigned, IsNext, IsFuller, fresh, all_bumped, learnt};
 
 use crate::heap::Heap;
+use crate::phases::Phases;
 use asp_trail::trail::Trail;
 use asp_vars::lit::{Lit, Var};
 use std::alloc::{AllocError, Global};
@@ -20,6 +21,7 @@ use std::marker::Model;
 #[derive(Drop)]
 pub struct Order {
     heap: Heap,
+    phases: Phases,
 }
 
 impl Model for Order {
@@ -54,11 +56,13 @@ fn bump_all(heap: &mut Heap, lits: &[Lit])
 }
 
 // Bumps the variables in turn, and lets later bumps count for more.
-fn bump_and_decay(heap: &mut Heap, lits: &[Lit])
-    requires { All (λ l. l.var < length heap.old.activities) lits.now }
-    ensures { heap.new ≡ learnt heap.old lits.now }
+fn bump_and_decay(heap: &mut Heap, lits: &[Lit], met: &[Lit])
+    requires lits { All (λ l. l.var < length heap.old.activities) lits.now }
+    requires met { All (λ l. l.var < length heap.old.activities) met.now }
+    ensures { heap.new ≡ learnt heap.old (lits.now ++ met.now) }
 {
     bump_all(heap, lits);
+    bump_all(heap, met);
     heap.decay();
 }
 
@@ -81,7 +85,16 @@ impl Order {
         let mut heap = Heap::new(alloc);
         heap.reserve(vars as usize)?;
         fill(&mut heap, vars);
-        Ok(Order { heap })
+        let phases = Phases::new(alloc, vars)?;
+        Ok(Order { heap, phases })
+    }
+
+    /// Raises the activity of the literals' variables, before the search begins.
+    pub fn begin(&mut self, lits: &[Lit])
+        requires { All (λ l. l.var < length self.old.activities) lits.now }
+        ensures { self.new ≡ all_bumped self.old lits.now }
+    {
+        bump_all(&mut self.heap, lits);
     }
 
     // Takes the first variable out of the heap.
@@ -113,13 +126,23 @@ impl Order {
         None
     }
 
-    // The variable is in the heap from now on.
-    fn restore(&mut self, var: Var)
-        requires some { 0 < var }
-        requires known { var < length self.old.activities }
-        ensures fuller { IsFuller self.old self.new }
-        ensures has { IsTrue (is_in self.new.members var) }
+    /// The variable with the value that it had last, or false.
+    pub fn phase(&self, var: Var) -> Lit
+        requires { var < 2 ^ 31 }
+        ensures { result.var ≡ var }
     {
+        self.phases.lit(var)
+    }
+
+    // The literal's value is saved, and its variable is in the heap from now on.
+    fn restore(&mut self, lit: Lit)
+        requires some { 0 < lit.var }
+        requires known { lit.var < length self.old.activities }
+        ensures fuller { IsFuller self.old self.new }
+        ensures has { IsTrue (is_in self.new.members lit.var) }
+    {
+        self.phases.save(lit);
+        let var = lit.var();
         if !self.heap.has(var) {
             self.heap.push(var);
         }
@@ -136,7 +159,7 @@ impl Order {
             if !is_above(trail, i, level) {
                 return;
             }
-            self.restore(trail.lit(i).var());
+            self.restore(trail.lit(i));
         }
     }
 
@@ -148,17 +171,18 @@ impl Order {
         ensures all { AreWaiting trail.now.vars trail.now.entries self.old → (v : ℕ) → IsVar trail.now.vars v → IsTrue (is_in self.new.members v) }
     {
         for i in 0..trail.len() {
-            self.restore(trail.lit(i).var());
+            self.restore(trail.lit(i));
         }
     }
 
-    /// Raises the activity of a learnt nogood's variables.
-    pub fn bump(&mut self, lits: &[Lit])
-        requires { All (λ l. l.var < length self.old.activities) lits.now }
-        ensures learnt { self.new ≡ learnt self.old lits.now }
+    /// Raises the activity of a learnt nogood's variables, and of those that were met on the way to it.
+    pub fn bump(&mut self, lits: &[Lit], met: &[Lit])
+        requires lits { All (λ l. l.var < length self.old.activities) lits.now }
+        requires met { All (λ l. l.var < length self.old.activities) met.now }
+        ensures learnt { self.new ≡ learnt self.old (lits.now ++ met.now) }
         ensures members { self.new.members ≡ self.old.members }
         ensures vars { length self.new.activities ≡ length self.old.activities }
     {
-        bump_and_decay(&mut self.heap, lits);
+        bump_and_decay(&mut self.heap, lits, met);
     }
 }

@@ -21,13 +21,12 @@ use Rattle.asp_vars.proofs.CompletionLaws.{completion_entailed}
 use Rattle.asp_store.specs.declared.kept.Kept.{Kept}
 use Rattle.asp_store.specs.Keeping.{nogood_at}
 use Rattle.asp_order.specs.Pacing.{Paced}
-use Rattle.asp_order.specs.Waiting.{fresh}
 use Rattle.asp_propagate.specs.Useful.{Counts, IsUseful}
 use Rattle.asp_search_laws.specs.Axioms.{AreDerived}
 use Rattle.asp_search_laws.specs.Keeping.{AreUseful}
 use Rattle.asp_search_laws.specs.Searching.{Searching}
 use Rattle.asp_search_laws.specs.Steps.{Fails, is_of_use}
-use Rattle.asp_state.specs.SearchStates.{SearchView, forever}
+use Rattle.asp_state.specs.SearchStates.{SearchView, first_ranking, forever}
 use Rattle.asp_search.specs.Beside.{Leaves, new_search}
 use Rattle.asp_search.specs.Invariants.{IsSearch, view_of}
 
@@ -43,7 +42,7 @@ useful_forever p known bound (m ∷ ns) a zero n q =
 useful_forever p known bound (m ∷ ns) a (suc id) n q = useful_forever p known bound ns a.1 id n q
 
 pub search_begins : (p : Program) (m : Mode) (t : SearchView) (vars : ℕ) → IsSound p → vars ≡ var_count p →
-    t ≡ record { program = p; bound = None; cube = None; clashing = false; decisions = []; entries = []; slots = map forever (completion p); ranking = fresh (var_count p) } →
+    t ≡ record { program = p; bound = None; cube = None; clashing = false; decisions = []; entries = []; slots = map forever (completion p); ranking = first_ranking p } →
     IsSearch p m t vars [] [] None None
 search_begins p m t vars sound count e =
     subst (λ (x : SearchView). IsSearch p m x vars [] [] None None) (sym e)
@@ -62,11 +61,11 @@ search_begins p m t vars sound count e =
     no_index i h = omega arith
 
 pub search_is_new : (p : Program) (m : Mode) (t : SearchView) (c : Paced) →
-    t ≡ record { program = p; bound = None; cube = None; clashing = false; decisions = []; entries = []; slots = map forever (completion p); ranking = fresh (var_count p) } →
+    t ≡ record { program = p; bound = None; cube = None; clashing = false; decisions = []; entries = []; slots = map forever (completion p); ranking = first_ranking p } →
     c ≡ record { restarts = 0; learnt = 0; reductions = 0 } → view_of m t c [] None ≡ new_search p m
 search_is_new p m t c e f =
     ap (λ (x : SearchView). view_of m x c [] None) e
-    ∙ ap (λ (x : Paced). view_of m (record { program = p; bound = None; cube = None; clashing = false; decisions = []; entries = []; slots = map forever (completion p); ranking = fresh (var_count p) }) x [] None) f
+    ∙ ap (λ (x : Paced). view_of m (record { program = p; bound = None; cube = None; clashing = false; decisions = []; entries = []; slots = map forever (completion p); ranking = first_ranking p }) x [] None) f
 
 -- ---- nogoods of others
 of_use_counts : (m : Mode) (bound : Option (List ℤ)) (b : Base) → is_of_use m bound b ≡ true → Counts bound b

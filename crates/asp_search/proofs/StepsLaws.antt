@@ -14,7 +14,7 @@ use Rattle.asp_model.specs.declared.results.Mode.{Mode}
 use Rattle.asp_model.specs.declared.results.Mode.TheVariants as mode
 use Rattle.asp_model.specs.Sets.{Atoms}
 use Rattle.asp_model.specs.Costs.{cost}
-use Rattle.asp_vars.specs.Literals.{Literal, F, complement, literal_eq, has_literal, hits}
+use Rattle.asp_vars.specs.Literals.{Literal, complement, literal_eq, has_literal, hits}
 use Rattle.asp_vars.specs.Numbering.{values, var_count}
 use Rattle.asp_vars.specs.Conflicts.{IsConflict}
 use Rattle.asp_vars.specs.Entailment.{is_done}
@@ -190,28 +190,28 @@ module _ (gives : Nogood → Type 0) (md : Mode) (t : SearchView) (c : Paced) (k
       (subst (λ (y : Paced). Learns gives s (view_of md after y known (Some new)) q f g) (sym pace) learns)
 
   -- ---- decided
-  pub decides_from : (silent : List (Option Bool) → Type 0) (f : Units) (u : SearchView) (l : Literal) (v : ℕ) (members : List Bool) → last ≡ None → IsQuiet silent t.slots (values_of t) →
-      l ≡ F v → IsNext (var_count t.program) (values_of t) t.ranking.activities v →
+  pub decides_from : (silent : List (Option Bool) → Type 0) (f : Units) (u : SearchView) (l : Literal) (members : List Bool) → last ≡ None → IsQuiet silent t.slots (values_of t) →
+      IsNext (var_count t.program) (values_of t) t.ranking.activities l.var →
       u ≡ record t {
         entries = t.entries ++ record { lit = l; level = length t.decisions + 1; reason = None } ∷ [];
         decisions = t.decisions ++ l ∷ [];
         ranking = record t.ranking { members = members };
       } → Decides gives silent (view_of md t c known last) (view_of md u c known last) f f
-  decides_from silent f u l v members none quiet false_ next e =
+  decides_from silent f u l members none quiet next e =
       let s : Searching = view_of md t c known last in
-      let after : Literal → SearchView = λ x. record t {
-        entries = t.entries ++ record { lit = x; level = length t.decisions + 1; reason = None } ∷ [];
-        decisions = t.decisions ++ x ∷ [];
+      let after : SearchView = record t {
+        entries = t.entries ++ record { lit = l; level = length t.decisions + 1; reason = None } ∷ [];
+        decisions = t.decisions ++ l ∷ [];
         ranking = record t.ranking { members = members };
       } in
-      let entry : Entry = record { lit = F v; level = length t.decisions + 1; reason = None } in
+      let entry : Entry = record { lit = l; level = length t.decisions + 1; reason = None } in
       let start : take (length (t.entries ++ entry ∷ []) - 1) (t.entries ++ entry ∷ []) ≡ t.entries = before_newest t.entries (t.entries ++ entry ∷ []) entry refl in
-      let decides : Decides gives silent s (view_of md (after (F v)) c known last) f f = record {
+      let decides : Decides gives silent s (view_of md after c known last) f f = record {
         same = record { program = refl; mode = refl; cube = refl; known = refl; bound = refl };
         fuel = refl;
         quiet = subst (λ (xs : List Entry). IsQuiet silent t.slots (assignment (var_count t.program) xs)) (sym start) quiet;
-        var = v;
-        next = subst (λ (xs : List Entry). IsNext (var_count t.program) (assignment (var_count t.program) xs) t.ranking.activities v) (sym start) next;
+        lit = l;
+        next = subst (λ (xs : List Entry). IsNext (var_count t.program) (assignment (var_count t.program) xs) t.ranking.activities l.var) (sym start) next;
         entry = ap (λ (xs : List Entry). xs ++ entry ∷ []) (sym start);
         decisions = refl;
         longer = omega (arith, length-append t.entries (entry ∷ []));
@@ -221,8 +221,7 @@ module _ (gives : Nogood → Type 0) (md : Mode) (t : SearchView) (c : Paced) (k
         restarts = refl;
         last = none;
       } in
-      subst (λ (y : SearchView). Decides gives silent s (view_of md y c known last) f f) (sym e)
-      (subst (λ (x : Literal). Decides gives silent s (view_of md (after x) c known last) f f) (sym false_) decides)
+      subst (λ (y : SearchView). Decides gives silent s (view_of md y c known last) f f) (sym e) decides
 
   -- ---- propagation
   pub continues_from : (es : List Entry) (slots : List (Option Kept)) (new : Option ℕ) (u : SearchView) → u ≡ record t { entries = es; slots = slots } → Grows t.slots slots →
@@ -262,16 +261,16 @@ decided_some t u l members e entries decisions =
 pub decides_now : (gives : Nogood → Type 0) (silent : List (Option Bool) → Type 0) (md : Mode) (t u : SearchView) (c : Paced) (known : List Atoms) (last : Option ℕ) (f : Units) (r : Option Literal) (l : Literal) →
     r ≡ Some l → last ≡ None → IsQuiet silent t.slots (values_of t) →
     u ≡ record t { decisions = u.decisions; entries = u.entries; ranking = record t.ranking { members = u.ranking.members } } →
-    IfSome r (λ k. (k ≡ F k.var) × IsNext (var_count t.program) (values_of t) t.ranking.activities k.var) →
+    IfSome r (λ k. IsNext (var_count t.program) (values_of t) t.ranking.activities k.var) →
     IfSome r (λ k. u.entries ≡ t.entries ++ record { lit = k; level = length t.decisions + 1; reason = None } ∷ []) →
     IfSome r (λ k. u.decisions ≡ t.decisions ++ k ∷ []) → Decides gives silent (view_of md t c known last) (view_of md u c known last) f f
 decides_now gives silent md t u c known last f r l is none quiet same next entries decisions =
-    let n : (l ≡ F l.var) × IsNext (var_count t.program) (values_of t) t.ranking.activities l.var =
-    subst (λ (x : Option Literal). IfSome x (λ k. (k ≡ F k.var) × IsNext (var_count t.program) (values_of t) t.ranking.activities k.var)) is next in
+    let n : IsNext (var_count t.program) (values_of t) t.ranking.activities l.var =
+    subst (λ (x : Option Literal). IfSome x (λ k. IsNext (var_count t.program) (values_of t) t.ranking.activities k.var)) is next in
     let e : u.entries ≡ t.entries ++ record { lit = l; level = length t.decisions + 1; reason = None } ∷ [] =
     subst (λ (x : Option Literal). IfSome x (λ k. u.entries ≡ t.entries ++ record { lit = k; level = length t.decisions + 1; reason = None } ∷ [])) is entries in
     let d : u.decisions ≡ t.decisions ++ l ∷ [] = subst (λ (x : Option Literal). IfSome x (λ k. u.decisions ≡ t.decisions ++ k ∷ [])) is decisions in
-    decides_from gives md t c known last silent f u l l.var u.ranking.members none quiet n.0 n.1 (decided_some t u l u.ranking.members same e d)
+    decides_from gives md t c known last silent f u l u.ranking.members none quiet n (decided_some t u l u.ranking.members same e d)
 
 -- ---- restarted
 all_low : (xs : List Entry) → All (λ e. leb e.level 0 ≡ true) xs → level xs ≡ 0

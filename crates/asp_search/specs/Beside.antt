@@ -13,9 +13,8 @@ use Rattle.asp_vars.specs.declared.nogood.Nogood.{Nogood}
 use Rattle.asp_trail.specs.Entries.{level}
 use Rattle.asp_trail.specs.Trails.{IsVar}
 use Rattle.asp_store.specs.Keeping.{nogood_at}
-use Rattle.asp_order.specs.Waiting.{fresh}
 use Rattle.asp_search_laws.specs.Searching.{Searching}
-use Rattle.asp_state.specs.SearchStates.{forever}
+use Rattle.asp_state.specs.SearchStates.{first_ranking, forever}
 
 -- a search that knows no answer, has no bound and has entered no path
 abbrev pub new_search : Program → Mode → Searching
@@ -29,7 +28,7 @@ new_search p m = record {
   entries = [];
   decisions = [];
   slots = map forever (completion p);
-  ranking = fresh (var_count p);
+  ranking = first_ranking p;
   restarts = 0;
   learnt = 0;
   last = None;

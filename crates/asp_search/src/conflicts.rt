@@ -72,10 +72,12 @@ pub(crate) fn conflict<P: Propagator>(
 /// Keeps what was learnt, and goes back to where it implies the literal.
 pub(crate) fn jump<P: Propagator>(
     state: &mut SearchState<P>,
+    learner: &Learner,
     nogood: Nogood,
     to: usize,
     lit: Lit,
 ) -> Result<NogoodId, AllocError>
+    requires vars { learner.now ≡ var_count state.old.program }
     requires path { (q : List Literal) × IsUnder state.old q }
     requires contained { AreContained (var_count state.old.program) state.old.entries nogood.lits }
     requires jumps { (from : List Literal) × IsJump state.old.entries from nogood.lits to lit }
@@ -89,7 +91,7 @@ pub(crate) fn jump<P: Propagator>(
     ensures err { OnErr result (state.new ≡ record state.old { ranking = state.new.ranking }) }
 {
     let _trail = state.trail();
-    state.bump(nogood.lits.as_slice());
+    state.bump(nogood.lits.as_slice(), learner.met());
     let id = state.keep(nogood, false)?;
     state.undo_to(to);
     state.imply(lit, id);

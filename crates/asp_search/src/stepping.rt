@@ -90,7 +90,7 @@ impl<'a, P: Propagator> Search<'a, P> {
         }
         fuel.burn(conflict);
         self.pace.count();
-        let new = jump(&mut self.state, nogood, to, lit)?;
+        let new = jump(&mut self.state, &self.learner, nogood, to, lit)?;
         self.last = Some(new);
         Ok(Step::Learnt)
     }

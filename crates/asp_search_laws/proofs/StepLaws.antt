@@ -51,7 +51,7 @@ module _ (gives : Nogood → Type 0) (silent : List (Option Bool) → Type 0) (s
     same = task h.same;
     fuel = h.fuel;
     quiet = h.quiet;
-    var = h.var;
+    lit = h.lit;
     next = h.next;
     entry = h.entry;
     decisions = h.decisions;

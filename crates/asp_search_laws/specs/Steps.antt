@@ -6,7 +6,7 @@ use Rattle.asp_model.specs.declared.results.Mode.TheVariants as mode
 use Rattle.asp_model.specs.Sets.{Atoms, same_set}
 use Rattle.asp_model.specs.Models.{is_stable}
 use Rattle.asp_model.specs.Costs.{cost}
-use Rattle.asp_vars.specs.Literals.{Literal, F, complement, has_literal, hits, holds_in}
+use Rattle.asp_vars.specs.Literals.{Literal, complement, has_literal, hits, holds_in}
 use Rattle.asp_vars.specs.Numbering.{values, var_count}
 use Rattle.asp_vars.specs.Entailment.{Settled}
 use Rattle.asp_vars.specs.Conflicts.{IsConflict}
@@ -47,15 +47,15 @@ entries_before t = take (length t.entries - 1) t.entries
 abbrev pub values_before : Searching → List (Option Bool)
 values_before t = assignment (var_count t.program) (entries_before t)
 
--- ---- Decided: before the newest entry all was quiet; that one is the first variable without a value, and false.
+-- ---- Decided: before the newest entry all was quiet; that one is of the first variable without a value.
 pub record Decides (gives : Nogood → Type 0) (silent : List (Option Bool) → Type 0) (s t : Searching) (f g : Units) : Type 0 where
   pub same : HasSameTask s t
   pub fuel : g ≡ f
   pub quiet : IsQuiet silent t.slots (values_before t)
-  pub var : ℕ
-  pub next : IsNext (var_count t.program) (values_before t) t.ranking.activities var
-  pub entry : t.entries ≡ entries_before t ++ record { lit = F var; level = length s.decisions + 1; reason = None } ∷ []
-  pub decisions : t.decisions ≡ s.decisions ++ F var ∷ []
+  pub lit : Literal
+  pub next : IsNext (var_count t.program) (values_before t) t.ranking.activities lit.var
+  pub entry : t.entries ≡ entries_before t ++ record { lit = lit; level = length s.decisions + 1; reason = None } ∷ []
+  pub decisions : t.decisions ≡ s.decisions ++ lit ∷ []
   pub longer : length s.entries < length t.entries
   pub grows : Grows s.slots t.slots
   pub derived : Derives gives s t

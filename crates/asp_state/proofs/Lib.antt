@@ -3,3 +3,4 @@ pub mod StateLaws
 pub mod KeepLaws
 pub mod AssumedLaws
 pub mod ListedLaws
+pub mod BegunLaws

@@ -1,5 +1,5 @@
 -- What a search has on its trail under a cube, and which nogoods it keeps.
-use Rattle.std.specs.Prelude.{◌≡◌, ℕ, ◌<◌, ◌^◌, Bool, true, false, List, [], Option, Some, None, ℤ, IsTrue}
+use Rattle.std.specs.Prelude.{◌≡◌, ℕ, ◌<◌, ◌^◌, Bool, true, false, List, [], fold, Option, Some, None, ℤ, IsTrue}
 use Rattle.std.specs.List.{All, AllByRecursion}
 use Rattle.asp_model.specs.declared.program.Program.{Program}
 use Rattle.asp_vars.specs.Literals.{Literal, complement, has_literal}
@@ -13,7 +13,7 @@ use Rattle.asp_trail.specs.Trails.{IsVar}
 use Rattle.asp_store.specs.declared.kept.Kept.{Kept}
 use Rattle.asp_store.specs.Keeping.{kept_at}
 use Rattle.asp_order.specs.Heaps.{Ranking}
-use Rattle.asp_order.specs.Waiting.{HasVars, AreWaiting}
+use Rattle.asp_order.specs.Waiting.{HasVars, AreWaiting, fresh, all_bumped}
 use Rattle.asp_trail_laws.specs.Starts.{AreStarts}
 use Rattle.asp_trail_laws.specs.Calm.{WereCalm}
 use Rattle.asp_propagate.specs.Propagating.{Propagating}
@@ -47,6 +47,15 @@ pub record Clashes (cube : List Literal) : Type 0 where
 pub record IsUnder (t : SearchView) (cube : List Literal) : Type 0 where
   pub cube_is : t.cube ≡ Some cube
   pub calm : t.clashing ≡ false
+
+-- ---- the ranking in which a search begins
+-- a bump for each place where a variable stands in the nogood
+abbrev pub with_places : Ranking → List Literal → Ranking
+with_places ranking n = all_bumped ranking n
+
+-- a bump for each place where a variable stands in a nogood of the completion
+abbrev pub first_ranking : Program → Ranking
+first_ranking p = fold with_places (fresh (var_count p)) (completion p)
 
 -- ---- what every state keeps
 -- what is kept forever

@@ -2,5 +2,6 @@
 #![tactic(auto)]
 
 pub mod assume;
+pub mod begun;
 pub mod completed;
 pub mod state;

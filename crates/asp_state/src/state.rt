@@ -4,9 +4,9 @@
 //! - the cube and the decisions are what begins the trail's levels;
 //! - no nogood of the completion was unit or violated before a decision, and all of them are kept;
 //! - each variable without a value waits to be decided.
-ghost use Rattle.std.specs.Prelude.{◌≡◌, ◌<◌, ◌+◌, ◌∷◌, ◌++◌, [], ℕ, List, true, false, Some, None, IfOk, OnOk, OnErr, IfSome, IfNone, IsTrue, map, take, length, replicate, slice_set, slice_index_or};
+ghost use Rattle.std.specs.Prelude.{◌≡◌, ◌<◌, ◌≤◌, ◌+◌, ◌∷◌, ◌++◌, [], ℕ, List, true, false, Some, None, IfOk, OnOk, OnErr, IfSome, IfNone, IsTrue, map, take, length, replicate, slice_set, slice_index_or};
 ghost use Rattle.std.specs.List.{All};
-ghost use Rattle.asp_vars.specs.Literals.{Literal, F, has_literal, value_of};
+ghost use Rattle.asp_vars.specs.Literals.{Literal, has_literal, value_of};
 ghost use Rattle.asp_vars.specs.Numbering.{var_count};
 ghost use Rattle.asp_vars.specs.Completion.{completion};
 ghost use Rattle.asp_vars.specs.declared.nogood.Base.TheVariants as base;
@@ -18,14 +18,16 @@ ghost use Rattle.asp_store.specs.Keeping.{kept_at};
 ghost use Rattle.asp_store.specs.Fitting.{HaveReasons};
 ghost use Rattle.asp_store.specs.Visiting.{AreSmall};
 ghost use Rattle.asp_store.specs.Walking.{IsViolated};
-ghost use Rattle.asp_order.specs.Waiting.{fresh, learnt, AreAssigned, IsFuller, IsNext};
+ghost use Rattle.asp_order.specs.Waiting.{learnt, AreAssigned, IsFuller, IsNext};
 ghost use Rattle.asp_propagate.specs.Useful.{IsSmaller};
 ghost use Rattle.asp_propagate.specs.Locking.{thinned};
 ghost use Rattle.asp_propagate.specs.Propagating.{Adds, AreCalm, Implies, IsImplied, IsQuiet, IsReduced};
-ghost use Rattle.asp_state.specs.SearchStates.{forever, path_of, values_of, AreOf, Clashes, IsBegun, IsUnder, KeepsCompletion};
+ghost use Rattle.asp_state.specs.SearchStates.{first_ranking, forever, path_of, values_of, AreOf, Clashes, IsBegun, IsUnder, KeepsCompletion};
 
 use crate::assume::assume_all;
+use crate::begun::begun;
 use crate::completed::completed;
+use asp_complete::completion::completion;
 use asp_model::cost::Cost;
 use asp_order::order::Order;
 use asp_propagate::engine::Engine;
@@ -80,7 +82,7 @@ fn push_all(lits: &mut Lits, more: &[Lit]) -> Result<(), AllocError>
 }
 
 impl<P: Propagator> SearchState<P> {
-    /// No path is entered. The completion is kept, and nothing else.
+    /// No path is entered. The completion is kept, and nothing else; each variable has a bump for each place in it.
     ///
     /// Want of memory is the one error.
     pub fn new(
@@ -98,11 +100,13 @@ impl<P: Propagator> SearchState<P> {
           decisions = [];
           entries = [];
           slots = map forever (completion compiled.now);
-          ranking = fresh (var_count compiled.now);
+          ranking = first_ranking compiled.now;
         }) }
     {
-        let engine = completed(alloc, compiled, propagator)?;
-        let order = Order::new(alloc, compiled.vars())?;
+        let _program = compiled.program();
+        let nogoods = completion(alloc, compiled)?;
+        let order = begun(alloc, compiled, nogoods.as_slice())?;
+        let engine = completed(alloc, compiled, nogoods, propagator)?;
         Ok(SearchState {
             engine,
             order,
@@ -206,14 +210,14 @@ impl<P: Propagator> SearchState<P> {
         self.engine.propagate()
     }
 
-    /// Decides the first variable without a value to be false. None where each has a value.
+    /// Gives the first variable without a value the one that it had last, or false. None where each has a value.
     ///
     /// Want of memory is the one error: then nothing changed.
     pub fn decide(&mut self) -> Result<Option<Lit>, AllocError>
         requires under { (q : List Literal) × IsUnder self.old q }
         requires calm { AreCalm self.old.slots (values_of self.old) }
         ensures same { self.new ≡ record self.old { decisions = self.new.decisions; entries = self.new.entries; ranking = record self.old.ranking { members = self.new.ranking.members } } }
-        ensures next { IfOk result (λ r. IfSome r (λ l. (l ≡ F l.var) × IsNext (var_count self.old.program) (values_of self.old) self.old.ranking.activities l.var)) }
+        ensures next { IfOk result (λ r. IfSome r (λ l. IsNext (var_count self.old.program) (values_of self.old) self.old.ranking.activities l.var)) }
         ensures entries { IfOk result (λ r. IfSome r (λ l. self.new.entries ≡ self.old.entries ++ record { lit = l; level = length self.old.decisions + 1; reason = None } ∷ [])) }
         ensures decisions { IfOk result (λ r. IfSome r (λ l. self.new.decisions ≡ self.old.decisions ++ l ∷ [])) }
         ensures none { IfOk result (λ r. IfNone r (AreAssigned (var_count self.old.program) (values_of self.old) × (self.new.entries ≡ self.old.entries) × (self.new.decisions ≡ self.old.decisions))) }
@@ -224,7 +228,7 @@ impl<P: Propagator> SearchState<P> {
         match self.order.next(self.engine.trail()) {
             None => Ok(None),
             Some(var) => {
-                let lit = Lit::new(var, false);
+                let lit = self.order.phase(var);
                 self.engine.decide(lit);
                 self.decisions.push_reserved(lit);
                 Ok(Some(lit))
@@ -273,12 +277,13 @@ impl<P: Propagator> SearchState<P> {
         self.engine.remove(id);
     }
 
-    /// Raises the activity of the variables of a nogood that was learnt.
-    pub fn bump(&mut self, lits: &[Lit])
-        requires { AreOf self.old.program lits.now }
-        ensures { self.new ≡ record self.old { ranking = learnt self.old.ranking lits.now } }
+    /// Raises the activity of the variables of a nogood that was learnt, and of those that were met on the way to it.
+    pub fn bump(&mut self, lits: &[Lit], met: &[Lit])
+        requires lits { AreOf self.old.program lits.now }
+        requires met { All (λ l. l.var ≤ var_count self.old.program) met.now }
+        ensures { self.new ≡ record self.old { ranking = learnt self.old.ranking (lits.now ++ met.now) } }
     {
-        self.order.bump(lits);
+        self.order.bump(lits, met);
     }
 
     /// Drops the older half, rounded down, of the nogoods that weren't added forever, aren't reasons and have more than

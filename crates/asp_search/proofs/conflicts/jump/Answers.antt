@@ -1,4 +1,5 @@
-use Rattle.std.proofs.Common.{◌≡◌, List, length, sym, ap, ◌∙◌, subst}
+use Rattle.std.proofs.Common.{◌≡◌, ◌≤◌, ℕ, List, length, sym, ap, ◌∙◌, subst}
+use Rattle.std.specs.List.{All}
 use Rattle.asp_vars.specs.Literals.{Literal}
 use Rattle.asp_vars.specs.Numbering.{var_count}
 use Rattle.asp_state.specs.SearchStates.{SearchView, AreOf}
@@ -6,8 +7,11 @@ use Rattle.asp_search.proofs.LearnLaws.{contained_vars}
 use Rattle.asp_search.proofs.JumpedLaws.{back, jump_back, jump_done, back_under, back_var, back_none, back_implied}
 use Rattle.asp_search.proofs.conflicts.jump.Goals as goal
 
-pub bump-requires : goal.bump-requires
-bump-requires g c =
+pub bump-requires-clause-met : goal.bump-requires-clause-met
+bump-requires-clause-met g c = subst (λ (n : ℕ). All (λ (l : Literal). l.var ≤ n) c.met.result.now) c.requires.vars c.met.ensures
+
+pub bump-requires-clause-lits : goal.bump-requires-clause-lits
+bump-requires-clause-lits g c =
     let t = c.args.state.now in
     subst (λ (n : List Literal). AreOf t.program n) (sym c.as_slice.ensures.value) (contained_vars (var_count t.program) t.entries c.args.nogood.lits c.trail-trail.ensures.ordered c.requires.contained)
 

@@ -3,8 +3,7 @@ use Rattle.std.specs.Prelude.{ℕ, ℤ}
 use Rattle.asp_model.specs.Sets.{Atoms}
 use Rattle.asp_vars.specs.Completion.{completion}
 use Rattle.asp_vars.specs.Numbering.{var_count}
-use Rattle.asp_order.specs.Waiting.{fresh}
-use Rattle.asp_state.specs.SearchStates.{SearchView, forever}
+use Rattle.asp_state.specs.SearchStates.{SearchView, first_ranking, forever}
 use Rattle.asp_search.specs.Beside.{new_search}
 use Rattle.asp_search.specs.Invariants.{IsSearch, view_of}
 use Rattle.asp_search.proofs.BesideLaws.{search_begins, search_is_new}
@@ -13,7 +12,7 @@ use Rattle.asp_search.proofs.search.Search.new.Goals as goal
 pub invariant_of-result : goal.invariant_of-result
 invariant_of-result g c =
     let p = c.args.compiled.now in
-    let t : Option (List ℤ) → SearchView = λ b. record { program = p; bound = b; cube = None; clashing = false; decisions = []; entries = []; slots = map forever (completion p); ranking = fresh (var_count p) } in
+    let t : Option (List ℤ) → SearchView = λ b. record { program = p; bound = b; cube = None; clashing = false; decisions = []; entries = []; slots = map forever (completion p); ranking = first_ranking p } in
     let first : IsSearch p c.args.mode c.in_ok-state.state c.in_ok-learner.learner [] [] None None =
     search_begins p c.args.mode c.in_ok-state.state c.in_ok-learner.learner c.program-program.ensures.sound (c.in_ok-learner.ensures ∙ c.vars-vars.ensures.count)
     (c.in_ok-state.ensures ∙ ap t c.requires.unbounded) in
@@ -23,6 +22,6 @@ invariant_of-result g c =
 pub returns : goal.returns
 returns g c =
     let p = c.args.compiled.now in
-    let t : Option (List ℤ) → SearchView = λ b. record { program = p; bound = b; cube = None; clashing = false; decisions = []; entries = []; slots = map forever (completion p); ranking = fresh (var_count p) } in
+    let t : Option (List ℤ) → SearchView = λ b. record { program = p; bound = b; cube = None; clashing = false; decisions = []; entries = []; slots = map forever (completion p); ranking = first_ranking p } in
     subst (λ (ks : List Atoms). view_of c.args.mode c.in_ok-state.state c.new-3.result ks None ≡ new_search p c.args.mode) (sym c.new-4.ensures.items)
     (search_is_new p c.args.mode c.in_ok-state.state c.new-3.result (c.in_ok-state.ensures ∙ ap t c.requires.unbounded) c.new-3.ensures)

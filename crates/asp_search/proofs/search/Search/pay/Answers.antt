@@ -33,6 +33,9 @@ burn-requires-clause-program g c =
     let is = conflict_of (g.P.Propagator.gives i.state.program i.state.bound) i.mode i.state i.pace i.known.items i.last q c.args.id c.args.lit c.in_ok-conflict.conflict m.entered shows clash in
     is.program ∙ (ap (λ (s : Searching). s.program) c.self.view_is ∙ sym c.requires.program)
 
+pub jump-requires-clause-vars : goal.jump-requires-clause-vars
+jump-requires-clause-vars g c = c.self.invariant.counted
+
 pub jump-requires-clause-path : goal.jump-requires-clause-path
 jump-requires-clause-path g c =
     let q = c.requires.met.0 in

@@ -11,9 +11,9 @@ invariant_of-result g c =
     let p = c.args.compiled.now in
     let r = c.in_ok-order.order in
     subst (λ (f : Propagating). IsSearchView f None false c.new-2.result.items r) (sym c.in_ok-engine.ensures) (record {
-      few = c.vars.ensures.few;
+      few = c.program.ensures.few;
       entered = (refl, c.new-2.ensures.items, refl);
-      ranked = subst (λ (n : ℕ). HasVars n r) c.vars.ensures.count c.in_ok-order.ensures.vars;
-      waiting = λ v iv none. c.in_ok-order.ensures.all v (subst (λ (n : ℕ). IsVar n v) (sym c.vars.ensures.count) iv);
+      ranked = c.in_ok-order.ensures.vars;
+      waiting = λ v iv none. c.in_ok-order.ensures.all v iv;
       completed = completed_first p;
     })
