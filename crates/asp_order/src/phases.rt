@@ -33,10 +33,7 @@ impl Phases {
         requires { var < 2 ^ 31 }
         ensures { result ≡ record { var = var; truth = slice_index_or self.now var false } }
     {
-        Lit::new(
-            var,
-            self.truths.get(var as usize).copied().unwrap_or(false),
-        )
+        Lit::new(var, self.truths.get(var as usize).copied().unwrap_or(false))
     }
 
     /// Saves the literal's value, of a variable that has one.
