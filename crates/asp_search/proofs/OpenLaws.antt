@@ -3,6 +3,8 @@ use Rattle.std.proofs.Common.{◌≡◌, ℕ, ◌<◌, Bool, true, false, not, �
 use Rattle.std.specs.Prelude.{ℤ, nat_le}
 use Rattle.std.proofs.lemmas.Bool.{false≢true, eqb-true, false_from_ne_true}
 use Rattle.asp_model.specs.declared.program.Program.{Program}
+use Rattle.asp_model.specs.declared.results.Mode.{Mode}
+use Rattle.asp_model.specs.declared.results.Mode.TheVariants as mode
 use Rattle.asp_model.specs.Sets.{Atoms}
 use Rattle.asp_vars.specs.Literals.{Literal, literal_eq, has_literal}
 use Rattle.asp_vars.specs.Numbering.{var_count}
@@ -21,6 +23,7 @@ use Rattle.asp_trail_laws.specs.Starts.{AreStarts}
 use Rattle.asp_trail_laws.proofs.LitLaws.{eq_itself}
 use Rattle.asp_trail_laws.proofs.PlaceLaws.{blank, level_at}
 use Rattle.asp_search_laws.specs.Keeping.{AreUseful}
+use Rattle.asp_search_laws.specs.Steps.{is_of_use}
 use Rattle.asp_search.specs.Beside.{is_local, is_shared, IsShared, IsSharedBy, has_var, IsOpen}
 
 -- ---- the first decision
@@ -75,10 +78,25 @@ shared_by p known bound base.Local lits e good = absurd (false≢true e)
 
 pub kept_shared : (p : Program) (known : List Atoms) (bound : Option (List ℤ)) (slots : List (Option Kept)) (id : ℕ) (n : Nogood) → AreUseful p known bound slots → AreSmall (var_count p) slots →
     nogood_at slots id ≡ Some n → is_shared n ≡ true → IsShared p n
-kept_shared p known bound slots id n useful small q e =
-    (small id n q, shared_by p known bound n.base n.lits (and_left (not (is_local n.base)) (nat_le (length n.lits) 8) e) (useful id n q).good)
+kept_shared p known bound slots id n useful small q e = record {
+  variables = small id n q;
+  shared = shared_by p known bound n.base n.lits (and_left (not (is_local n.base)) (nat_le (length n.lits) 8) e) (useful id n q).good;
+}
 
 pub shared_good : (p : Program) (known : List Atoms) (bound : Option (List ℤ)) (b : Base) (lits : List Literal) → IsSharedBy p b lits → HitsOnly p (excuse p known bound b) lits
 shared_good p known bound base.Pure lits h = h
 shared_good p known bound (base.Below c) lits h = h
 shared_good p known bound base.Local lits h = absurd h
+
+-- what counts for a search whatever it knows isn't local
+pub of_use_shared : (m : Mode) (bound : Option (List ℤ)) (b : Base) → is_of_use m bound b ≡ true → b ≡ base.Local → ⊥
+of_use_shared m bound base.Pure h e = pure_local e
+  where
+    pure_local : base.Pure ≡ base.Local → ⊥
+    pure_local q = cc
+of_use_shared m bound (base.Below c) h e = below_local e
+  where
+    below_local : base.Below c ≡ base.Local → ⊥
+    below_local q = cc
+of_use_shared mode.Enum bound base.Local h e = false≢true h
+of_use_shared mode.Opt bound base.Local h e = false≢true h

@@ -213,8 +213,8 @@ impl<'a, P: Propagator> Search<'a, P> {
         ensures shared { IfSome result (λ n. IsShared self.now.program n.now) }
     {
         let _mode = self.mode;
-        let _store = self.state.store();
-        let nogood = self.state.store().reason(self.last?);
+        let store = self.state.store();
+        let nogood = store.reason(self.last?);
         if is_shared(nogood) {
             Some(nogood)
         } else {
