@@ -1,8 +1,10 @@
 -- What goes to other searches: a literal by which a path can be split, and nogoods that hold everywhere.
 use Rattle.std.proofs.Common.{◌≡◌, ℕ, ◌<◌, Bool, true, false, not, ◌&&◌, ◌||◌, ◌==◌, List, ◌∷◌, length, get_or, slice_get, Option, Some, None, IfSome, refl, sym, ap, ◌∙◌, subst, arith, []}
-use Rattle.std.specs.Prelude.{ℤ, nat_le}
+use Rattle.std.specs.Prelude.{ℤ, nat_le, if◌then◌else◌}
 use Rattle.std.proofs.lemmas.Bool.{false≢true, eqb-true, false_from_ne_true}
 use Rattle.asp_model.specs.declared.program.Program.{Program}
+use Rattle.asp_model.specs.declared.results.Mode.{Mode}
+use Rattle.asp_model.specs.declared.results.Mode.TheVariants as mode
 use Rattle.asp_model.specs.Sets.{Atoms}
 use Rattle.asp_vars.specs.Literals.{Literal, literal_eq, has_literal}
 use Rattle.asp_vars.specs.Numbering.{var_count}
@@ -21,7 +23,8 @@ use Rattle.asp_trail_laws.specs.Starts.{AreStarts}
 use Rattle.asp_trail_laws.proofs.LitLaws.{eq_itself}
 use Rattle.asp_trail_laws.proofs.PlaceLaws.{blank, level_at}
 use Rattle.asp_search_laws.specs.Keeping.{AreUseful}
-use Rattle.asp_search.specs.Beside.{is_local, is_shared, IsShared, IsSharedBy, has_var, IsOpen}
+use Rattle.asp_search_laws.specs.Steps.{is_of_use}
+use Rattle.asp_search.specs.Beside.{is_local, is_shared, only_shared, IsShared, IsSharedBy, has_var, IsOpen}
 
 -- ---- the first decision
 var_found : (q : List Literal) (v : ℕ) → has_var q v ≡ true → (k : Literal) × (has_literal q k ≡ true) × (k.var ≡ v)
@@ -75,10 +78,38 @@ shared_by p known bound base.Local lits e good = absurd (false≢true e)
 
 pub kept_shared : (p : Program) (known : List Atoms) (bound : Option (List ℤ)) (slots : List (Option Kept)) (id : ℕ) (n : Nogood) → AreUseful p known bound slots → AreSmall (var_count p) slots →
     nogood_at slots id ≡ Some n → is_shared n ≡ true → IsShared p n
-kept_shared p known bound slots id n useful small q e =
-    (small id n q, shared_by p known bound n.base n.lits (and_left (not (is_local n.base)) (nat_le (length n.lits) 8) e) (useful id n q).good)
+kept_shared p known bound slots id n useful small q e = record {
+  variables = small id n q;
+  shared = shared_by p known bound n.base n.lits (and_left (not (is_local n.base)) (nat_le (length n.lits) 8) e) (useful id n q).good;
+}
 
 pub shared_good : (p : Program) (known : List Atoms) (bound : Option (List ℤ)) (b : Base) (lits : List Literal) → IsSharedBy p b lits → HitsOnly p (excuse p known bound b) lits
 shared_good p known bound base.Pure lits h = h
 shared_good p known bound (base.Below c) lits h = h
 shared_good p known bound base.Local lits h = absurd h
+
+-- what counts for a search whatever it knows isn't local
+pub of_use_shared : (m : Mode) (bound : Option (List ℤ)) (b : Base) → is_of_use m bound b ≡ true → b ≡ base.Local → ⊥
+of_use_shared m bound base.Pure h e = pure_local e
+  where
+    pure_local : base.Pure ≡ base.Local → ⊥
+    pure_local q = cc
+of_use_shared m bound (base.Below c) h e = below_local e
+  where
+    below_local : base.Below c ≡ base.Local → ⊥
+    below_local q = cc
+of_use_shared mode.Enum bound base.Local h e = false≢true h
+of_use_shared mode.Opt bound base.Local h e = false≢true h
+
+-- ---- what is copied for others
+-- the kept nogood of these literals and this base, if others can use it
+pub copied_shared : (k : Option Nogood) (n : Nogood) (b : Bool) → Some n ≡ k → b ≡ is_shared n → (if b then Some n else None) ≡ only_shared k
+copied_shared k n b e q = ap (λ (c : Bool). if c then Some n else None) q ∙ ap only_shared e
+
+pub only_is : (p : Program) (k : Option Nogood) → ((n : Nogood) → k ≡ Some n → is_shared n ≡ true → IsShared p n) → IfSome (only_shared k) (IsShared p)
+only_is p None f = tt
+only_is p (Some n) f = cases (is_shared n) refl
+  where
+    cases : (b : Bool) → b ≡ is_shared n → IfSome (if b then Some n else None) (IsShared p)
+    cases true e = f n refl (sym e)
+    cases false e = tt

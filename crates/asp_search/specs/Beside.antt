@@ -64,8 +64,9 @@ IsSharedBy p (base.Below c) literals = Below p c literals
 IsSharedBy p base.Local literals = ⊥
 
 -- It is of the program's variables, and holds for every search of the program: what a log of nogoods has.
-abbrev pub IsShared : Program → Nogood → Type 0
-IsShared p n = All (λ l. IsVar (var_count p) l.var) n.lits × IsSharedBy p n.base n.lits
+pub record IsShared (p : Program) (n : Nogood) : Type 0 where
+  pub variables : All (λ l. IsVar (var_count p) l.var) n.lits
+  pub shared : IsSharedBy p n.base n.lits
 
 -- the nogood that the last step learnt, if others can use it
 abbrev pub exported : Searching → Option Nogood

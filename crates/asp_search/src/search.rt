@@ -229,10 +229,10 @@ impl<'a, P: Propagator> Search<'a, P> {
         ensures shared { IfOk result (λ copy. IfSome copy (IsShared self.now.program)) }
     {
         let _mode = self.mode;
-        let _store = self.state.store();
+        let store = self.state.store();
         match self.last {
             None => Ok(None),
-            Some(id) => copy_shared(self.alloc, self.state.store(), id),
+            Some(id) => copy_shared(self.alloc, store, id),
         }
     }
 

@@ -103,7 +103,7 @@ impl<P: Propagator> SearchState<P> {
           ranking = first_ranking compiled.now;
         }) }
     {
-        let _program = compiled.program();
+        let _vars = compiled.vars();
         let nogoods = completion(alloc, compiled)?;
         let order = begun(alloc, compiled, nogoods.as_slice())?;
         let engine = completed(alloc, compiled, nogoods, propagator)?;

@@ -11,4 +11,7 @@ begin-requires c =
     let i = c.loop-nogood.nogood-index in
     let e : length c.loop-nogood.order.activities ≡ length c.args.order.now.activities =
     ap (λ (h : Ranking). length h.activities) c.loop-nogood.invariant ∙ (places_alike c.args.order.now (take i c.args.nogoods.now)).vars in
-    ?
+    let has : ℕ → List Literal → Type 0 = λ k ls. All (λ (l : Literal). l.var < k) ls in
+    let at : has (length c.args.order.now.activities) c.nogood-item.result.lits =
+    subst (λ (n : Nogood). has (length c.args.order.now.activities) n.lits) (sym c.nogood-item.is) (c.requires i c.nogood-item.result c.loop-nogood-test.true) in
+    subst (has (length c.loop-nogood.order.activities)) (sym c.as_slice.ensures.value) (subst (λ (k : ℕ). has k c.nogood-item.result.lits) (sym e) at)

@@ -14,15 +14,15 @@ use Rattle.asp_state.proofs.SlotLaws.{calm_completion}
 use Rattle.asp_state.proofs.StateLaws.{has_vars, track_decided}
 use Rattle.asp_state.proofs.state.SearchState.decide.Goals as goal
 
-pub new-lit-requires : goal.new-lit-requires
-new-lit-requires g c = omega (arith, c.in-Some.ensures.next.var.1, c.trail-2.ensures.vars, c.self.invariant.few)
+pub phase-lit-requires : goal.phase-lit-requires
+phase-lit-requires g c = omega (arith, c.in-Some.ensures.next.var.1, c.trail-2.ensures.vars, c.self.invariant.few)
 
 pub invariant_of-self-in-Some : goal.invariant_of-self-in-Some
 invariant_of-self-in-Some g c =
     let i = c.self.inside in
     let p = i.engine.program in
     let es = i.engine.entries in
-    let l = c.new-lit.result in
+    let l = c.phase-lit.result in
     let u = c.requires.under.1 in
     let cube : Option (List Literal) = option_map (λ q. q.items) i.cube in
     let e : Entry = record { lit = l; level = level es + 1; reason = None } in
@@ -33,7 +33,7 @@ invariant_of-self-in-Some g c =
     let waits : AreWaiting (var_count p) (es ++ e ∷ []) c.next.new.self =
     subst (λ (k : ℕ). AreWaiting k (es ++ e ∷ []) c.next.new.self) c.trail-2.ensures.vars
     (subst (λ (xs : List Entry). AreWaiting c.trail-2.result.now.vars (xs ++ e ∷ []) c.next.new.self) c.trail-2.ensures.entries
-    (c.in-Some.ensures.waiting e (ap (λ (k : Literal). k.var) c.new-lit.ensures))) in
+    (c.in-Some.ensures.waiting e c.phase-lit.ensures)) in
     let items : c.push_reserved.new.self.items ≡ i.decisions.items ++ l ∷ [] = c.push_reserved.ensures.items ∙ ap (λ (xs : List Literal). xs ++ l ∷ []) c.reserve.ensures.items in
     subst (λ (f : Propagating). IsSearchView f cube i.clashing c.push_reserved.new.self.items c.next.new.self) (sym c.decide.ensures)
     (subst (λ (ds : List Literal). IsSearchView (with_entry i.engine l (level es + 1) None) cube i.clashing ds c.next.new.self) (sym items)

@@ -10,9 +10,9 @@ pub invariant_of-result : goal.invariant_of-result
 invariant_of-result g c =
     let p = c.args.compiled.now in
     let r = c.in_ok-order.order in
-    subst (λ (f : Propagating). IsSearchView f None false c.new-2.result.items r) (sym c.in_ok-engine.ensures) (record {
-      few = c.program.ensures.few;
-      entered = (refl, c.new-2.ensures.items, refl);
+    subst (λ (f : Propagating). IsSearchView f None false c.new.result.items r) (sym c.in_ok-engine.ensures) (record {
+      few = c.vars-vars.ensures.few;
+      entered = (refl, c.new.ensures.items, refl);
       ranked = c.in_ok-order.ensures.vars;
       waiting = λ v iv none. c.in_ok-order.ensures.all v iv;
       completed = completed_first p;
