@@ -1,2 +1,3 @@
 pub mod OutLaws
 pub mod ShownLaws
+pub mod PlaceLaws

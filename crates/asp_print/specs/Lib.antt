@@ -1,2 +1,3 @@
 pub mod Out
 pub mod Shown
+pub mod Places
