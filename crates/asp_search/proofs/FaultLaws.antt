@@ -13,7 +13,7 @@ use Rattle.asp_vars.specs.Unfounded.{assigned, is_unfounded}
 use Rattle.asp_vars.specs.declared.nogood.Nogood.{Nogood}
 use Rattle.asp_found.specs.Verdicts.{IsBroken, HasUnfounded}
 use Rattle.asp_found.proofs.RestLaws.{has-filtered, none_passes}
-use Rattle.asp_check.specs.Founding.{KeepsCompletion, GivesAtoms}
+use Rattle.asp_stable.specs.Founding.{KeepsCompletion, GivesAtoms}
 use Rattle.asp_loop.specs.LoopNogoods.{IsLoopNogood}
 use Rattle.asp_trail.specs.declared.trail.Entry.{Entry}
 use Rattle.asp_trail.specs.Entries.{assignment}

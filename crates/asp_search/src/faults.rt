@@ -12,7 +12,7 @@ ghost use Rattle.asp_loop.specs.LoopNogoods.{IsLoopNogood};
 ghost use Rattle.asp_trail_laws.specs.Whole.{IsWhole, truths, atoms_on};
 ghost use Rattle.asp_search_laws.specs.Faults.{IsFault};
 
-use asp_check::checker::Checker;
+use asp_stable::checker::Checker;
 use asp_found::check::Verdict;
 use asp_loop::loops::loop_nogood;
 use asp_model::interp::Interp;

@@ -12,7 +12,7 @@ ghost use Rattle.asp_search_laws.specs.Steps.{is_of_use};
 ghost use Rattle.asp_search.specs.Beside.{new_search, Enters, Leaves, is_local, is_shared, exported};
 
 use asp_analyze::learn::Learner;
-use asp_check::checker::Checker;
+use asp_stable::checker::Checker;
 use asp_model::cost::Cost;
 use asp_model::interp::Interp;
 use asp_model::results::Mode;

@@ -6,7 +6,7 @@ use Rattle.asp_vars.specs.Numbering.{var_count}
 use Rattle.asp_trail.specs.Entries.{assignment}
 use Rattle.asp_found.specs.declared.check.Verdict.TheVariants as verdict
 use Rattle.asp_found.specs.Verdicts.{IsVerdict, HasUnfounded}
-use Rattle.asp_check.specs.Founding.{KeepsCompletion, GivesAtoms}
+use Rattle.asp_stable.specs.Founding.{KeepsCompletion, GivesAtoms}
 use Rattle.asp_search.proofs.FaultLaws.{broken_by, unfounded_stand, unfounded_here, loop_by, kept_by, gives_by, within_by}
 use Rattle.asp_search.proofs.faults.fault.Goals as goal
 
