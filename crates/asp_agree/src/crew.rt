@@ -8,6 +8,7 @@ use asp_model::program::{Atom, Body, Head, Minimize, Program, Rule};
 use asp_model::results::{End, Mode};
 use asp_model::seq::Seq;
 use asp_vars::compile::compile;
+use asp_vars::compiled::Compiled;
 use std::alloc::{AllocError, Global};
 use std::process::Abort;
 use std::test::Fail;
@@ -49,13 +50,13 @@ fn priced(heap: Global) -> Result<Vec<Minimize>, AllocError> {
     Ok(vec![in heap; minimize]?)
 }
 
-fn solved(
+// Two free atoms, of whose literals these pairs are excluded.
+pub(crate) fn compiled(
     rt: &impl Abort,
     heap: Global,
-    rules: Vec<Rule>,
-    mode: Mode,
-    budget: u64,
-) -> Result<Report, AllocError> {
+    pairs: &[(i32, i32)],
+) -> Result<Compiled, AllocError> {
+    let rules = without(heap, pairs)?;
     let minimize = priced(heap)?;
     let program = Program {
         rules: Seq::from_vec(rules),
@@ -65,8 +66,7 @@ fn solved(
         assumptions: Seq::from_vec(Vec::new(heap)),
     };
     assert!(rt; program.is_sound());
-    let compiled = compile(heap, program)?;
-    solve_alone(heap, &compiled, mode, budget)
+    compile(heap, program)
 }
 
 fn run(
@@ -76,8 +76,8 @@ fn run(
     mode: Mode,
     budget: u64,
 ) -> Result<Report, AllocError> {
-    let rules = without(heap, pairs)?;
-    solved(rt, heap, rules, mode, budget)
+    let compiled = compiled(rt, heap, pairs)?;
+    solve_alone(heap, &compiled, mode, budget)
 }
 
 fn is(answers: &[Interp], i: usize, atoms: &[Atom]) -> bool {

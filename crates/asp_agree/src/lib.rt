@@ -6,4 +6,6 @@ mod crew;
 #[cfg(test)]
 mod parts;
 #[cfg(test)]
+mod shared;
+#[cfg(test)]
 mod tests;

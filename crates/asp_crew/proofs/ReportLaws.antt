@@ -84,6 +84,7 @@ conflict-moved p K L bound x moved c = record {
   open_false = c.open_false;
   new = c.new;
   settled = settled-moved p K L bound _ moved c.settled;
+  justified = settled-moved p K L bound _ moved c.justified;
 }
 
 empty-moved : (L : List Atoms) → IsPermutation [] L → L ≡ []

@@ -1,5 +1,5 @@
 -- What a log is for, and what each of its entries says.
-use Rattle.std.specs.Prelude.{ℕ, ◌≤◌, List, Option, None, length}
+use Rattle.std.specs.Prelude.{ℕ, ◌<◌, ◌≤◌, All, List, Option, None, length}
 use Rattle.std.specs.List.{AllByRecursion}
 use Rattle.std.specs.Option.{IfSome}
 use Rattle.asp_model.specs.declared.program.Program.{Program}
@@ -7,6 +7,7 @@ use Rattle.asp_vars.specs.declared.nogood.Base.{Base}
 use Rattle.asp_vars.specs.declared.nogood.Base.TheVariants as base
 use Rattle.asp_vars.specs.declared.nogood.Nogood.{Nogood}
 use Rattle.asp_vars.specs.Literals.{Literal}
+use Rattle.asp_vars.specs.Numbering.{var_count}
 use Rattle.asp_vars.specs.Entailment.{Entailed, Below}
 use Rattle.asp_log.specs.declared.scope.Scope.{Scope}
 
@@ -16,8 +17,11 @@ IsSharedBy p base.Pure literals = Entailed p literals
 IsSharedBy p (base.Below c) literals = Below p c literals
 IsSharedBy p base.Local literals = ⊥
 
-abbrev pub IsEntry : Program → Nogood → Type 0
-IsEntry p n = IsSharedBy p n.base n.lits
+-- what each search of the program can use
+pub record IsEntry (p : Program) (n : Nogood) : Type 0 where
+  -- The literals' variables are the program's.
+  pub variables : All (λ l. (0 < l.var) × (l.var ≤ var_count p)) n.lits
+  pub shared : IsSharedBy p n.base n.lits
 
 -- what a log keeps of its entries
 pub record IsLogFor (scope : Scope) (entries : List Nogood) : Type 0 where

@@ -1,5 +1,5 @@
 //! What the holder of a seat can do to the log.
-ghost use Rattle.std.specs.Prelude.{◌≡◌, ◌^◌, ◌<◌, ◌≤◌, ◌++◌, ◌∷◌, [], false, drop, length, List, IfOk, IfErr, OnOk, OnErr};
+ghost use Rattle.std.specs.Prelude.{◌≡◌, ◌^◌, ◌<◌, ◌≤◌, ◌++◌, ◌∷◌, [], false, drop, length, All, List, IfOk, IfErr, OnOk, OnErr};
 ghost use Rattle.std.specs.Option.{IfSome};
 ghost use Rattle.asp_vars.specs.declared.nogood.Nogood.{Nogood};
 ghost use Rattle.asp_vault.specs.Moments.{Moment, Stays};
@@ -14,7 +14,7 @@ use asp_vault::{Seat, Vault};
 use std::alloc::AllocError;
 use std::sync::Wait;
 
-/// Adds a nogood that holds for every search of the log's program, and answers the position at which it stands from then on.
+/// Adds a nogood that every search of the log's program can use, and answers the position at which it stands from then on.
 ///
 /// `Full` comes exactly where the log, as the seat has then seen it, has as many entries as it may have. At every refusal
 /// the nogood comes back, and nothing is added.
@@ -55,6 +55,7 @@ pub fn glance<R: Wait>(
     ensures of { IsBeside seat.old seat.new }
     ensures stays { Stays (view seat.old) (view seat.new) }
     ensures ok { IfOk result (λ shown. shown ≡ drop from (view seat.new).seen) }
+    ensures entries { IfOk result (λ shown. IfSome (view seat.old).about (λ scope. All (IsEntry scope.program) shown)) }
     ensures few { length (view seat.new).seen < 2 ^ 32 }
     ensures moment { (before : List Nogood) × Moment unsigned (IsLogOf (view seat.old).about) (view seat.old) (view seat.new) before [] }
 {
@@ -83,6 +84,7 @@ pub fn read<R: Wait>(
     ensures length { IfOk result (λ n. n ≡ length (view seat.new).seen) }
     ensures ok { OnOk result (list.new.items ≡ list.old.items ++ drop from (view seat.new).seen) }
     ensures err { OnErr result (list.new.items ≡ list.old.items) }
+    ensures entries { IfSome (view seat.old).about (λ scope. All (IsEntry scope.program) (drop from (view seat.new).seen)) }
     ensures moment { (before : List Nogood) × Moment unsigned (IsLogOf (view seat.old).about) (view seat.old) (view seat.new) before [] }
 {
     let shown = glance(rt, vault, seat, from)?;

@@ -9,3 +9,4 @@ pub mod StepsLaws
 pub mod BelowLaws
 pub mod BesideLaws
 pub mod FaultLaws
+pub mod OpenLaws

@@ -52,7 +52,7 @@ module _ (md : Mode) (t : SearchView) (c : Paced) (known : List Atoms) (last : O
       (m.useful id m.explains.from m.explains.stands) m.explains.reached
 
   pub met_derived : (gives : Nogood → Type 0) (l : Learned) → IsMet (view_of md t c known last) q id l → IsDerived t.program gives t.bound (nogood_at t.slots) (nogood_of l)
-  met_derived gives l m = learnt_derived t.program gives t.bound (var_count t.program) t.slots t.entries id l m.explains
+  met_derived gives l m = learnt_derived t.program gives t.bound (var_count t.program) t.slots t.entries id l m.ordered m.reasons m.explains
 
   pub met_of : (l : Learned) → IsEntered (view_of md t c known last) q → IsOrdered (var_count t.program) t.entries → ((r : List Literal) → IsUnder t r → IsBegun t.program r t.decisions t.entries) →
       HaveReasons t.slots t.entries → AreUseful t.program known t.bound t.slots → Explains (var_count t.program) t.slots t.entries id l → IsMet (view_of md t c known last) q id l
@@ -97,7 +97,7 @@ module _ (md : Mode) (t : SearchView) (c : Paced) (known : List Atoms) (last : O
         small = (jump_var vars t.entries x.from.lits n.lits to lit m.ordered x.contained j).1;
         has = has_value (value_of (values_of t) lit.var) (complement lit) holds;
         low = omega (arith, level_in_top t.entries lit.var m.ordered.rising, m.starts.counted);
-        conflict = conflict t.program vars q t.decisions t.entries x.from.lits j.top.0 top m.ordered m.starts m.calm (omega (arith, j.above)) j.top.1 j.top.2 known t.bound settled;
+        conflict = conflict t.program vars q t.decisions t.entries x.from.lits j.top.0 top m.ordered m.starts m.calm (omega (arith, j.above)) j.top.1 j.top.2 known t.bound settled (from_settled (learned.Jump n to lit) m);
       }
 
   -- the nogood that shows the conflict holds on the trail

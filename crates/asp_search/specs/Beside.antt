@@ -1,14 +1,17 @@
 -- The calls beside a step.
-use Rattle.std.specs.Prelude.{◌≡◌, nat_le, Bool, true, false, ◌&&◌, not, List, length, map, Option, Some, None, option_and_then, if◌then◌else◌, []}
+use Rattle.std.specs.Prelude.{◌≡◌, ℕ, nat_le, ◌==◌, Bool, true, false, ◌&&◌, not, List, length, map, Option, Some, None, option_and_then, if◌then◌else◌, []}
+use Rattle.std.specs.List.{All, list_any}
 use Rattle.asp_model.specs.declared.program.Program.{Program}
 use Rattle.asp_model.specs.declared.results.Mode.{Mode}
 use Rattle.asp_vars.specs.Literals.{Literal}
 use Rattle.asp_vars.specs.Completion.{completion}
+use Rattle.asp_vars.specs.Entailment.{Entailed, Below}
 use Rattle.asp_vars.specs.Numbering.{var_count}
 use Rattle.asp_vars.specs.declared.nogood.Base.{Base}
 use Rattle.asp_vars.specs.declared.nogood.Base.TheVariants as base
 use Rattle.asp_vars.specs.declared.nogood.Nogood.{Nogood}
 use Rattle.asp_trail.specs.Entries.{level}
+use Rattle.asp_trail.specs.Trails.{IsVar}
 use Rattle.asp_store.specs.Keeping.{nogood_at}
 use Rattle.asp_order.specs.Waiting.{fresh}
 use Rattle.asp_search_laws.specs.Searching.{Searching}
@@ -55,6 +58,25 @@ abbrev pub only_shared : Option Nogood → Option Nogood
 only_shared None = None
 only_shared (Some n) = if is_shared n then Some n else None
 
+-- The literals hit no stable model, or none that costs less than the base says. A local nogood holds for one search alone.
+abbrev pub IsSharedBy : Program → Base → List Literal → Type 0
+IsSharedBy p base.Pure literals = Entailed p literals
+IsSharedBy p (base.Below c) literals = Below p c literals
+IsSharedBy p base.Local literals = ⊥
+
+-- It is of the program's variables, and holds for every search of the program: what a log of nogoods has.
+pub record IsShared (p : Program) (n : Nogood) : Type 0 where
+  pub variables : All (λ l. IsVar (var_count p) l.var) n.lits
+  pub shared : IsSharedBy p n.base n.lits
+
 -- the nogood that the last step learnt, if others can use it
 abbrev pub exported : Searching → Option Nogood
 exported s = only_shared (option_and_then (λ id. nogood_at s.slots id) s.last)
+
+-- ---- a literal by which a path can be split
+abbrev pub has_var : List Literal → ℕ → Bool
+has_var cube v = list_any (λ l. l.var == v) cube
+
+-- It is of one of the program's variables, which the cube hasn't got.
+abbrev pub IsOpen : Program → List Literal → Literal → Type 0
+IsOpen p cube l = IsVar (var_count p) l.var × (has_var cube l.var ≡ false)

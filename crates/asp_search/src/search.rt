@@ -1,15 +1,16 @@
 //! The search: what it keeps, and the calls beside its step.
-ghost use Rattle.std.specs.Prelude.{◌≡◌, ◌≢◌, ◌+◌, ◌≤◌, ◌∷◌, ◌++◌, [], None, Some, true, false, IfOk, OnOk, OnErr, MatchBool, length, replicate, slice_get};
+ghost use Rattle.std.specs.Prelude.{◌≡◌, ◌≢◌, ◌+◌, ◌≤◌, ◌∷◌, ◌++◌, [], None, Some, true, false, List, IfOk, IfSome, OnOk, OnErr, MatchBool, length, replicate, slice_get};
 ghost use Rattle.std.specs.List.{All};
 ghost use Rattle.std.specs.Option.{option_copied};
 ghost use Rattle.asp_vars.specs.Entailment.{IsGood};
+ghost use Rattle.asp_vars.specs.Literals.{Literal};
 ghost use Rattle.asp_vars.specs.Numbering.{var_count};
 ghost use Rattle.asp_vars.specs.declared.nogood.Base.TheVariants as base;
 ghost use Rattle.asp_trail.specs.Entries.{level};
 ghost use Rattle.asp_trail.specs.Trails.{IsVar};
 ghost use Rattle.asp_propagate.specs.Useful.{IsSmaller};
 ghost use Rattle.asp_search_laws.specs.Steps.{is_of_use};
-ghost use Rattle.asp_search.specs.Beside.{new_search, Enters, Leaves, is_local, is_shared, exported};
+ghost use Rattle.asp_search.specs.Beside.{new_search, Enters, Leaves, is_local, is_shared, exported, IsOpen, IsShared, IsSharedBy};
 
 use asp_analyze::learn::Learner;
 use asp_stable::checker::Checker;
@@ -165,6 +166,14 @@ impl<'a, P: Propagator> Search<'a, P> {
         }
     }
 
+    /// The cost below which answers are sought, if there is one.
+    pub fn bound(&self) -> Option<&Cost>
+        ensures { option_copied result ≡ self.now.bound }
+    {
+        let _mode = self.mode;
+        self.bound.as_ref()
+    }
+
     // Keeps another search's nogood.
     fn keep(&mut self, nogood: &Nogood) -> Result<(), AllocError>
         requires vars { All (λ l. IsVar (var_count self.old.program) l.var) nogood.now.lits }
@@ -183,7 +192,7 @@ impl<'a, P: Propagator> Search<'a, P> {
     /// cost that no bound of an optimisation has reached. After want of memory no path is entered.
     pub fn import(&mut self, nogood: &Nogood) -> Result<bool, AllocError>
         requires vars { All (λ l. IsVar (var_count self.old.program) l.var) nogood.now.lits }
-        requires good { nogood.now.base ≢ base.Local → IsGood self.old.program self.old.known self.old.bound nogood.now }
+        requires good { nogood.now.base ≢ base.Local → IsSharedBy self.old.program nogood.now.base nogood.now.lits }
         ensures counts { IfOk result (λ b. b ≡ is_of_use self.old.mode self.old.bound nogood.now.base) }
         ensures ok { IfOk result (λ b. MatchBool b (self.new ≡ record self.old { slots = self.old.slots ++ Some (record { nogood = nogood.now; forever = false; locked = false }) ∷ [] })
             (self.new ≡ self.old)) }
@@ -201,12 +210,15 @@ impl<'a, P: Propagator> Search<'a, P> {
         }
     }
 
-    /// The nogood that the last step learnt, if it has at most 8 literals and isn't local.
+    /// The nogood that the last step learnt, if it has at most 8 literals and isn't local. It holds for every search of the
+    /// program.
     pub fn export(&self) -> Option<&Nogood>
-        ensures { option_copied result ≡ exported self.now }
+        ensures value { option_copied result ≡ exported self.now }
+        ensures shared { IfSome result (λ n. IsShared self.now.program n.now) }
     {
         let _mode = self.mode;
-        let nogood = self.state.store().reason(self.last?);
+        let store = self.state.store();
+        let nogood = store.reason(self.last?);
         if is_shared(nogood) {
             Some(nogood)
         } else {
@@ -223,10 +235,13 @@ impl<'a, P: Propagator> Search<'a, P> {
         self.state.trail().level()
     }
 
-    /// The first decision, if one stands.
+    /// The first decision, if one stands: a literal by which the path can be split.
     pub fn first(&self) -> Option<Lit>
-        ensures { result ≡ slice_get self.now.decisions 0 }
+        ensures value { result ≡ slice_get self.now.decisions 0 }
+        ensures open { (q : List Literal) → self.now.cube ≡ Some q → IfSome result (IsOpen self.now.program q) }
     {
+        let _trail = self.state.trail();
+        let _clashing = self.state.is_clashing();
         self.state.decisions().first().copied()
     }
 }

@@ -4,3 +4,4 @@ pub mod DerivedLaws
 pub mod JumpLaws
 pub mod StepLaws
 pub mod FaultLaws
+pub mod CountLaws

@@ -55,14 +55,18 @@ used_useful : (p : Program) (known : List Atoms) (bound : Option (List ℤ)) (sl
 used_useful p known bound slots es used useful =
     All-weaker (IsUsed (nogood_at slots) es) (λ u. IsUseful p known bound u.nogood) (λ u w. useful w.reason.0 u.nogood w.reason.2) used
 
+pub reached_useful : (p : Program) (known : List Atoms) (bound : Option (List ℤ)) (vars : ℕ) (kept : ℕ → Option Nogood) (es : List Entry) (from to : Nogood) (used : List Used) →
+    IsOrdered vars es → AreReasoned kept es → IsReached kept es from used to → IsUseful p known bound from → All (λ u. IsUseful p known bound u.nogood) used → IsUseful p known bound to
+reached_useful p known bound vars kept es from to used o r reached first all =
+    let join = join_all bound from.base used first.counts (All-weaker (λ u. IsUseful p known bound u.nogood) (λ u. Counts bound u.nogood.base) (λ u v. v.counts) used all) in
+    record {
+      good = reached_good p known bound vars kept es from to used o r reached join.0 first.good
+          (All-weaker (λ u. IsUseful p known bound u.nogood) (λ u. IsGood p known bound u.nogood) (λ u v. v.good) used all);
+      counts = subst (Counts bound) (sym reached.base) join.1;
+    }
+
 pub learnt_useful : (p : Program) (known : List Atoms) (bound : Option (List ℤ)) (vars : ℕ) (slots : List (Option Kept)) (es : List Entry) (from to : Nogood) (used : List Used) →
     IsOrdered vars es → AreReasoned (nogood_at slots) es → AreUseful p known bound slots → IsUseful p known bound from →
     IsReached (nogood_at slots) es from used to → IsUseful p known bound to
 learnt_useful p known bound vars slots es from to used o r useful first reached =
-    let all : All (λ u. IsUseful p known bound u.nogood) used = used_useful p known bound slots es used useful reached.reasons in
-    let join = join_all bound from.base used first.counts (All-weaker (λ u. IsUseful p known bound u.nogood) (λ u. Counts bound u.nogood.base) (λ u v. v.counts) used all) in
-    record {
-      good = reached_good p known bound vars (nogood_at slots) es from to used o r reached join.0 first.good
-          (All-weaker (λ u. IsUseful p known bound u.nogood) (λ u. IsGood p known bound u.nogood) (λ u v. v.good) used all);
-      counts = subst (Counts bound) (sym reached.base) join.1;
-    }
+    reached_useful p known bound vars (nogood_at slots) es from to used o r reached first (used_useful p known bound slots es used useful reached.reasons)

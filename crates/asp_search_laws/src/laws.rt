@@ -1,8 +1,9 @@
 //! Laws of the definitions. Each function's contract is a law, and its body is empty.
-ghost use Rattle.std.specs.Prelude.{◌≡◌, ◌++◌, ◌∷◌, [], ℕ, List, Option, None, ℤ, IsTrue, length};
+ghost use Rattle.std.specs.Prelude.{◌≡◌, ◌++◌, ◌∷◌, [], ℕ, List, Option, Some, None, ℤ, IsTrue, length};
 ghost use Rattle.std.specs.List.{All};
 ghost use Rattle.asp_model.specs.declared.program.Program.{Program};
 ghost use Rattle.asp_model.specs.Sets.{Atoms, has, IsSubset};
+ghost use Rattle.asp_model.specs.Sound.{IsSound};
 ghost use Rattle.asp_vars.specs.Literals.{Literal, value_of};
 ghost use Rattle.asp_vars.specs.Numbering.{var_count};
 ghost use Rattle.asp_vars.specs.Unfounded.{assigned, is_unfounded};
@@ -18,15 +19,25 @@ ghost use Rattle.asp_found.specs.Verdicts.{IsBroken};
 ghost use Rattle.asp_loop.specs.LoopNogoods.{IsLoopNogood};
 ghost use Rattle.asp_trail_laws.specs.Whole.{IsWhole, atoms_on};
 ghost use Rattle.asp_propagate.specs.Useful.{IsUseful};
+ghost use Rattle.asp_search_laws.specs.Axioms.{IsDerived};
 ghost use Rattle.asp_search_laws.specs.Faults.{IsFault};
 ghost use Rattle.asp_search_laws.specs.Keeping.{AreUseful};
 ghost use Rattle.asp_search_laws.specs.Steps.{IsBeside};
+
+use asp_propagate::propagator::Propagator;
 
 /// What is reached by resolution from nogoods that count for a search counts for it.
 pub fn learnt_nogoods_count()
     ensures { (p : Program) (known : List Atoms) (bound : Option (List ℤ)) (vars : ℕ) (slots : List (Option Kept)) (entries : List Entry) (from to : Nogood) (used : List Used) →
         IsOrdered vars entries → AreReasoned (nogood_at slots) entries → AreUseful p known bound slots → IsUseful p known bound from →
         IsReached (nogood_at slots) entries from used to → IsUseful p known bound to }
+{}
+
+/// What is derived from nogoods that count for a search counts for it, whatever answers it knows: an axiom does, and so
+/// does what is reached by resolution.
+pub fn derived_nogoods_count<P: Propagator>()
+    ensures { (p : Program) (known : List Atoms) (bound : Option (List ℤ)) (kept : ℕ → Option Nogood) (n : Nogood) → IsSound p →
+        ((id : ℕ) (m : Nogood) → kept id ≡ Some m → IsUseful p known bound m) → IsDerived p (P.gives p bound) bound kept n → IsUseful p known bound n }
 {}
 
 /// After the jump back the literal has no value, and follows by the learnt nogood, whose other literals hold.

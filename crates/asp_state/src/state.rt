@@ -143,10 +143,11 @@ impl<P: Propagator> SearchState<P> {
         Ok(())
     }
 
-    /// Whether the cube has a literal and its complement.
+    /// Whether the cube has a literal and its complement. Then nothing is decided.
     pub fn is_clashing(&self) -> bool
         ensures same { result ≡ self.now.clashing }
         ensures clashes { (q : List Literal) → self.now.cube ≡ Some q → IsTrue result → Clashes q }
+        ensures idle { IsTrue result → self.now.decisions ≡ [] }
     {
         self.clashing
     }

@@ -106,8 +106,8 @@ module _ (p : Program) (vars : ℕ) (cube decisions : List Literal) (es : List E
             omega (arith, f.3, at));
       }
 
-  pub conflict : (K : List Atoms) (bound : Option (List ℤ)) → Settled p K bound (cube ++ take k decisions) → IsConflict p K bound cube (take k decisions) nogood
-  conflict K bound settled =
+  pub conflict : (K : List Atoms) (bound : Option (List ℤ)) → Settled p K bound (cube ++ take k decisions) → Settled p K bound nogood → IsConflict p K bound cube (take k decisions) nogood
+  conflict K bound settled justified =
       let same : k - 1 + 1 ≡ k = omega (arith, high) in
       let b = subst (λ (c : ℕ). Begins es (nth_decision decisions (k - 1)) c) same (s.decisions_stand (k - 1) (omega (arith, few, high))) in
-      conflict_shown p K bound cube (take k decisions) nogood (lits (take b.place es)) (shows b) settled
+      conflict_shown p K bound cube (take k decisions) nogood (lits (take b.place es)) (shows b) settled justified

@@ -50,11 +50,11 @@ pub fn violated_nogoods_settle()
 {}
 
 /// Where no nogood of the completion was unit or violated before each decision, a nogood with a literal of level k shows
-/// a conflict of the cube and the first k decisions, if these are settled.
+/// a conflict of the cube and the first k decisions, if these and the nogood are settled.
 pub fn conflicts_are_shown()
     ensures { (p : Program) (known : List Atoms) (bound : Option (List ℤ)) (vars : ℕ) (cube decisions : List Literal) (entries : List Entry) (nogood : List Literal) (l : Literal) (k : ℕ) →
         IsOrdered vars entries → AreStarts cube decisions entries → WereCalm vars (completion p) entries →
-        0 < k → IsTrue (has_literal nogood l) → level_in entries l.var ≡ k → Settled p known bound (cube ++ take k decisions) →
+        0 < k → IsTrue (has_literal nogood l) → level_in entries l.var ≡ k → Settled p known bound (cube ++ take k decisions) → Settled p known bound nogood →
         IsConflict p known bound cube (take k decisions) nogood }
 {}
 
