@@ -9,7 +9,7 @@ use itoa::{Buffer, Integer};
 use std::marker::Model;
 
 /// How many bytes may wait.
-pub const ROOM: usize = 8192;
+pub const ROOM: usize = 65536;
 
 /// The bytes that wait.
 #[derive(Drop)]
@@ -25,7 +25,7 @@ impl Model for Waiting {
 
     ghost view = { λ w. take w.len w.bytes };
 
-    ghost invariant = { λ w. w.len ≤ 8192 };
+    ghost invariant = { λ w. w.len ≤ 65536 };
 }
 
 impl Waiting {
@@ -54,13 +54,13 @@ impl Waiting {
 
     // Whether so many bytes more have room.
     fn fits(&self, more: usize) -> bool
-        ensures { result ≡ nat_le (length self.now + more) 8192 }
+        ensures { result ≡ nat_le (length self.now + more) 65536 }
     {
         more <= ROOM - self.len
     }
 
     fn push(&mut self, bytes: &[u8])
-        requires { length self.old + length bytes.now ≤ 8192 }
+        requires { length self.old + length bytes.now ≤ 65536 }
         ensures { self.new ≡ self.old ++ bytes.now }
     {
         let end = self.len + bytes.len();

@@ -1,23 +1,34 @@
 //! The lines of the answers.
 ghost use Rattle.std.specs.Prelude.{◌≡◌, ◌++◌, ◌+◌, ◌^◌, ◌<◌, ◌≤◌, ◌||◌, [], ◌∷◌, length, codes, decimal, if◌then◌else◌, IfOk, false};
 ghost use Rattle.std.specs.List.{join_with_byte};
-ghost use Rattle.asp_model.specs.Holding.{all_hold};
+ghost use Rattle.asp_model.specs.Holding.{all_hold, holds};
 ghost use Rattle.asp_model.specs.Texts.{answer_lines, answers_from, ended_line, shown};
 ghost use Rattle.asp_buffer.specs.Out.{Puts, out};
 ghost use Rattle.asp_print.specs.Shown.{piece, pieces, separator};
 
+use crate::place::has_near;
 use asp_buffer::{Waiting, put, put_number};
 use asp_io::{Failed, Sink};
-use asp_model::holding::literal_holds;
 use asp_model::interp::Interp;
 use asp_model::program::{Output, Program};
 
-fn all_hold(interp: &Interp, literals: &[i32]) -> bool
+// Whether a literal holds. The place is where its atom is looked for first, and moves on.
+fn holds_near(interp: &Interp, literal: i32, place: &mut usize) -> bool
+    ensures { result ≡ holds interp.now literal }
+{
+    let has = has_near(interp, literal.unsigned_abs(), place);
+    if literal < 0 { !has } else { has }
+}
+
+fn all_hold(interp: &Interp, literals: &[i32], place: &mut usize) -> bool
     ensures { result ≡ all_hold interp.now literals.now }
 {
-    literals
-        .iter()
-        .all(|literal| literal_holds(interp, *literal))
+    for literal in literals {
+        if !holds_near(interp, *literal, place) {
+            return false;
+        }
+    }
+    true
 }
 
 fn separator(behind_another: bool) -> &'static [u8]
@@ -47,13 +58,14 @@ fn put_if_shown<K: Sink>(
     waiting: &mut Waiting,
     interp: &Interp,
     output: &Output,
+    place: &mut usize,
     any: bool,
 ) -> Result<bool, Failed>
     ensures puts { Puts (out (K.held sink.old) (K.faults sink.old) waiting.old)
         (out (K.held sink.new) (K.faults sink.new) waiting.new) result (piece interp.now any output.now) }
     ensures any { IfOk result (λ now. now ≡ (any || all_hold interp.now output.now.condition)) }
 {
-    if all_hold(interp, output.condition.as_slice()) {
+    if all_hold(interp, output.condition.as_slice(), place) {
         put_text(sink, waiting, output.text.as_slice(), any)?;
         return Ok(true);
     }
@@ -72,8 +84,9 @@ fn put_texts<K: Sink>(
         (pieces interp.now false outputs.now) }
 {
     let mut any = false;
+    let mut place = 0;
     for output in outputs {
-        any = put_if_shown(sink, waiting, interp, output, any)?;
+        any = put_if_shown(sink, waiting, interp, output, &mut place, any)?;
     }
     Ok(())
 }

@@ -41,15 +41,16 @@ useful_forever p known bound (m ∷ ns) a zero n q =
     subst (IsUseful p known bound) same (record { good = a.0; counts = tt })
 useful_forever p known bound (m ∷ ns) a (suc id) n q = useful_forever p known bound ns a.1 id n q
 
-pub search_begins : (p : Program) (m : Mode) (t : SearchView) (vars : ℕ) → IsSound p → vars ≡ var_count p →
+pub search_begins : (p : Program) (m : Mode) (t : SearchView) (vars : ℕ) (checker : Program) → IsSound p → vars ≡ var_count p → checker ≡ p →
     t ≡ record { program = p; bound = None; cube = None; clashing = false; decisions = []; entries = []; slots = map forever (completion p); ranking = first_ranking p } →
-    IsSearch p m t vars [] [] None None
-search_begins p m t vars sound count e =
-    subst (λ (x : SearchView). IsSearch p m x vars [] [] None None) (sym e)
+    IsSearch p m t vars checker [] [] None None
+search_begins p m t vars checker sound count same e =
+    subst (λ (x : SearchView). IsSearch p m x vars checker [] [] None None) (sym e)
     (record {
       program = refl;
       bounded = refl;
       counted = count;
+      checked = same;
       useful = useful_forever p [] None (completion p) (completion_entailed p sound);
       barred = tt;
       bars_stand = record { each = λ i d h. absurd (no_index i h); rising = λ i j d l h. absurd (no_index j h) };

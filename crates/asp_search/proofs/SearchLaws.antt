@@ -24,13 +24,14 @@ use Rattle.asp_search.specs.Invariants.{IsSearch}
 use Rattle.asp_search.specs.Stepping.{MayReduce}
 
 -- with what is useful then
-search_from : (p : Program) (m : Mode) (t u : SearchView) (vars : ℕ) (known : List Atoms) (bars : List ℕ) (bound : Option (List ℤ)) (last new : Option ℕ) → u.program ≡ t.program → u.bound ≡ t.bound →
+search_from : (p : Program) (m : Mode) (t u : SearchView) (vars : ℕ) (checker : Program) (known : List Atoms) (bars : List ℕ) (bound : Option (List ℤ)) (last new : Option ℕ) → u.program ≡ t.program → u.bound ≡ t.bound →
     AreUseful t.program known t.bound u.slots → KeepsForever t.slots u.slots → IsLast u.slots new →
-    IsSearch p m t vars known bars bound last → IsSearch p m u vars known bars bound new
-search_from p m t u vars known bars bound last new program bounded useful forever stands s = record {
+    IsSearch p m t vars checker known bars bound last → IsSearch p m u vars checker known bars bound new
+search_from p m t u vars checker known bars bound last new program bounded useful forever stands s = record {
   program = s.program ∙ sym program;
   bounded = s.bounded ∙ sym bounded;
   counted = s.counted ∙ ap var_count (sym program);
+  checked = s.checked;
   useful =
       subst (λ (x : Program). AreUseful x known u.bound u.slots) (sym program)
       (subst (λ (x : Option (List ℤ)). AreUseful t.program known x u.slots) (sym bounded) useful);
@@ -41,38 +42,38 @@ search_from p m t u vars known bars bound last new program bounded useful foreve
 }
 
 -- the same nogoods
-pub search_same : (p : Program) (m : Mode) (t u : SearchView) (vars : ℕ) (known : List Atoms) (bars : List ℕ) (bound : Option (List ℤ)) (last new : Option ℕ) → u.program ≡ t.program → u.bound ≡ t.bound →
-    u.slots ≡ t.slots → IsLast u.slots new → IsSearch p m t vars known bars bound last → IsSearch p m u vars known bars bound new
-search_same p m t u vars known bars bound last new program bounded slots stands s =
-    search_from p m t u vars known bars bound last new program bounded (subst (λ (x : List (Option Kept)). AreUseful t.program known t.bound x) (sym slots) s.useful)
+pub search_same : (p : Program) (m : Mode) (t u : SearchView) (vars : ℕ) (checker : Program) (known : List Atoms) (bars : List ℕ) (bound : Option (List ℤ)) (last new : Option ℕ) → u.program ≡ t.program → u.bound ≡ t.bound →
+    u.slots ≡ t.slots → IsLast u.slots new → IsSearch p m t vars checker known bars bound last → IsSearch p m u vars checker known bars bound new
+search_same p m t u vars checker known bars bound last new program bounded slots stands s =
+    search_from p m t u vars checker known bars bound last new program bounded (subst (λ (x : List (Option Kept)). AreUseful t.program known t.bound x) (sym slots) s.useful)
     (λ id k q f. ap (λ (x : List (Option Kept)). kept_at x id) slots ∙ q) stands s
 
-pub search_stays : (p : Program) (m : Mode) (t u : SearchView) (vars : ℕ) (known : List Atoms) (bars : List ℕ) (bound : Option (List ℤ)) (last : Option ℕ) → u.program ≡ t.program → u.bound ≡ t.bound →
-    u.slots ≡ t.slots → IsSearch p m t vars known bars bound last → IsSearch p m u vars known bars bound last
-search_stays p m t u vars known bars bound last program bounded slots s =
-    search_same p m t u vars known bars bound last last program bounded slots (subst (λ (x : List (Option Kept)). IsLast x last) (sym slots) s.last_stands) s
+pub search_stays : (p : Program) (m : Mode) (t u : SearchView) (vars : ℕ) (checker : Program) (known : List Atoms) (bars : List ℕ) (bound : Option (List ℤ)) (last : Option ℕ) → u.program ≡ t.program → u.bound ≡ t.bound →
+    u.slots ≡ t.slots → IsSearch p m t vars checker known bars bound last → IsSearch p m u vars checker known bars bound last
+search_stays p m t u vars checker known bars bound last program bounded slots s =
+    search_same p m t u vars checker known bars bound last last program bounded slots (subst (λ (x : List (Option Kept)). IsLast x last) (sym slots) s.last_stands) s
 
 -- those that a propagator gave
-pub search_adds : (p : Program) (m : Mode) (t u : SearchView) (vars : ℕ) (known : List Atoms) (bars : List ℕ) (bound : Option (List ℤ)) (last : Option ℕ) (gives : Nogood → Type 0) →
+pub search_adds : (p : Program) (m : Mode) (t u : SearchView) (vars : ℕ) (checker : Program) (known : List Atoms) (bars : List ℕ) (bound : Option (List ℤ)) (last : Option ℕ) (gives : Nogood → Type 0) →
     u.program ≡ t.program → u.bound ≡ t.bound → ((n : Nogood) → gives n → IsUseful t.program known t.bound n) → Adds gives t.slots u.slots →
-    IsSearch p m t vars known bars bound last → IsSearch p m u vars known bars bound last
-search_adds p m t u vars known bars bound last gives program bounded sound adds s =
+    IsSearch p m t vars checker known bars bound last → IsSearch p m u vars checker known bars bound last
+search_adds p m t u vars checker known bars bound last gives program bounded sound adds s =
     let g : Grows t.slots u.slots = grows_adds gives t.slots u.slots adds in
-    search_from p m t u vars known bars bound last last program bounded (useful_adds t.program known t.bound gives t.slots u.slots sound adds s.useful)
+    search_from p m t u vars checker known bars bound last last program bounded (useful_adds t.program known t.bound gives t.slots u.slots sound adds s.useful)
     (grows_forever t.slots u.slots g) (last_stays t.slots u.slots last g s.last_stands) s
 
-pub search_told : (p : Program) (m : Mode) (t u : SearchView) (vars : ℕ) (known : List Atoms) (bars : List ℕ) (bound : Option (List ℤ)) (last : Option ℕ) (gives : Nogood → Type 0) →
+pub search_told : (p : Program) (m : Mode) (t u : SearchView) (vars : ℕ) (checker : Program) (known : List Atoms) (bars : List ℕ) (bound : Option (List ℤ)) (last : Option ℕ) (gives : Nogood → Type 0) →
     u.program ≡ t.program → u.bound ≡ t.bound → ((n : Nogood) → gives n → IsUseful t.program known t.bound n) → Adds gives t.slots u.slots →
-    IsSearch p m t vars known bars bound last → IsSearch p m u vars known bars bound None
-search_told p m t u vars known bars bound last gives program bounded sound adds s =
-    search_same p m u u vars known bars bound last None refl refl refl tt (search_adds p m t u vars known bars bound last gives program bounded sound adds s)
+    IsSearch p m t vars checker known bars bound last → IsSearch p m u vars checker known bars bound None
+search_told p m t u vars checker known bars bound last gives program bounded sound adds s =
+    search_same p m u u vars checker known bars bound last None refl refl refl tt (search_adds p m t u vars checker known bars bound last gives program bounded sound adds s)
 
 -- one more
-pub search_push : (p : Program) (m : Mode) (t u : SearchView) (vars : ℕ) (known : List Atoms) (bars : List ℕ) (bound : Option (List ℤ)) (last new : Option ℕ) (k : Kept) →
+pub search_push : (p : Program) (m : Mode) (t u : SearchView) (vars : ℕ) (checker : Program) (known : List Atoms) (bars : List ℕ) (bound : Option (List ℤ)) (last new : Option ℕ) (k : Kept) →
     u.program ≡ t.program → u.bound ≡ t.bound → u.slots ≡ t.slots ++ Some k ∷ [] → IsUseful t.program known t.bound k.nogood → IsLast u.slots new →
-    IsSearch p m t vars known bars bound last → IsSearch p m u vars known bars bound new
-search_push p m t u vars known bars bound last new k program bounded slots useful stands s =
-    search_from p m t u vars known bars bound last new program bounded
+    IsSearch p m t vars checker known bars bound last → IsSearch p m u vars checker known bars bound new
+search_push p m t u vars checker known bars bound last new k program bounded slots useful stands s =
+    search_from p m t u vars checker known bars bound last new program bounded
     (subst (λ (x : List (Option Kept)). AreUseful t.program known t.bound x) (sym slots) (useful_push t.program known t.bound t.slots k useful s.useful))
     (grows_forever t.slots u.slots (Some k ∷ [], slots)) stands s
 
@@ -86,19 +87,20 @@ newest_last t u k id slots number =
     (subst (λ (x : List (Option Kept)). IsLast x (Some (length t))) (sym slots) (k.nogood, nogood_kept (t ++ Some k ∷ []) (length t) k (push_newest t k)))
 
 -- some fewer
-pub search_reduced : (p : Program) (m : Mode) (t u : SearchView) (vars : ℕ) (known : List Atoms) (bars : List ℕ) (bound : Option (List ℤ)) (last : Option ℕ) (es : List Entry) →
-    u.program ≡ t.program → u.bound ≡ t.bound → MayReduce es t.slots u.slots → IsSearch p m t vars known bars bound last → IsSearch p m u vars known bars bound None
-search_reduced p m t u vars known bars bound last es program bounded (inl same) s = search_same p m t u vars known bars bound last None program bounded same tt s
-search_reduced p m t u vars known bars bound last es program bounded (inr r) s =
-    search_from p m t u vars known bars bound last None program bounded (useful_none t.program known t.bound t.slots u.slots (reduced_none es t.slots u.slots r) s.useful) r.forever tt s
+pub search_reduced : (p : Program) (m : Mode) (t u : SearchView) (vars : ℕ) (checker : Program) (known : List Atoms) (bars : List ℕ) (bound : Option (List ℤ)) (last : Option ℕ) (es : List Entry) →
+    u.program ≡ t.program → u.bound ≡ t.bound → MayReduce es t.slots u.slots → IsSearch p m t vars checker known bars bound last → IsSearch p m u vars checker known bars bound None
+search_reduced p m t u vars checker known bars bound last es program bounded (inl same) s = search_same p m t u vars checker known bars bound last None program bounded same tt s
+search_reduced p m t u vars checker known bars bound last es program bounded (inr r) s =
+    search_from p m t u vars checker known bars bound last None program bounded (useful_none t.program known t.bound t.slots u.slots (reduced_none es t.slots u.slots r) s.useful) r.forever tt s
 
 -- ---- a smaller bound
-pub search_lower : (p : Program) (m : Mode) (t u : SearchView) (vars : ℕ) (known : List Atoms) (bars : List ℕ) (bound : Option (List ℤ)) (c : List ℤ) (last : Option ℕ) →
-    u.program ≡ t.program → u.bound ≡ Some c → u.slots ≡ t.slots → IsSmaller c t.bound → IsSearch p m t vars known bars bound last → IsSearch p m u vars known bars (Some c) last
-search_lower p m t u vars known bars bound c last program bounded slots smaller s = record {
+pub search_lower : (p : Program) (m : Mode) (t u : SearchView) (vars : ℕ) (checker : Program) (known : List Atoms) (bars : List ℕ) (bound : Option (List ℤ)) (c : List ℤ) (last : Option ℕ) →
+    u.program ≡ t.program → u.bound ≡ Some c → u.slots ≡ t.slots → IsSmaller c t.bound → IsSearch p m t vars checker known bars bound last → IsSearch p m u vars checker known bars (Some c) last
+search_lower p m t u vars checker known bars bound c last program bounded slots smaller s = record {
   program = s.program ∙ sym program;
   bounded = sym bounded;
   counted = s.counted ∙ ap var_count (sym program);
+  checked = s.checked;
   useful =
       subst (λ (x : Program). AreUseful x known u.bound u.slots) (sym program)
       (subst (λ (x : Option (List ℤ)). AreUseful t.program known x u.slots) (sym bounded)
@@ -111,16 +113,17 @@ search_lower p m t u vars known bars bound c last program bounded slots smaller 
 }
 
 -- ---- one more answer, in an enumeration
-pub search_lists : (p : Program) (t u : SearchView) (vars : ℕ) (known : List Atoms) (bars new : List ℕ) (bound : Option (List ℤ)) (q : List Literal) (S : Atoms) →
+pub search_lists : (p : Program) (t u : SearchView) (vars : ℕ) (checker : Program) (known : List Atoms) (bars new : List ℕ) (bound : Option (List ℤ)) (q : List Literal) (S : Atoms) →
     Settled t.program (known ++ S ∷ []) t.bound (q ++ t.decisions) → hits (values t.program S) (q ++ t.decisions) ≡ true → Blocks (way_of q t.decisions) t u new →
-    IsSearch p mode.Enum t vars known bars bound None → IsSearch p mode.Enum u vars (known ++ S ∷ []) new bound None
-search_lists p t u vars known bars new bound q S settled hit b s =
+    IsSearch p mode.Enum t vars checker known bars bound None → IsSearch p mode.Enum u vars (known ++ S ∷ []) new bound None
+search_lists p t u vars checker known bars new bound q S settled hit b s =
     let program : u.program ≡ t.program = ap (λ (y : SearchView). y.program) b.same in
     let bounded : u.bound ≡ t.bound = ap (λ (y : SearchView). y.bound) b.same in
     record {
       program = s.program ∙ sym program;
       bounded = s.bounded ∙ sym bounded;
       counted = s.counted ∙ ap var_count (sym program);
+      checked = s.checked;
       useful =
           subst (λ (x : Program). AreUseful x (known ++ S ∷ []) u.bound u.slots) (sym program)
           (subst (λ (x : Option (List ℤ)). AreUseful t.program (known ++ S ∷ []) x u.slots) (sym bounded) (λ id n k. useful id n (b.nogoods id n k)));
@@ -141,12 +144,12 @@ search_lists p t u vars known bars new bound q S settled hit b s =
     useful id n (inr e) = subst (IsUseful t.program (known ++ S ∷ []) t.bound) (sym e) (record { good = settled; counts = tt })
 
 -- the same, of what the code has in its hands
-pub search_listed : (p : Program) (m : Mode) (t u : SearchView) (vars : ℕ) (known ks : List Atoms) (bars new : List ℕ) (bound : Option (List ℤ)) (last : Option ℕ) (q : List Literal) (S : Atoms) →
+pub search_listed : (p : Program) (m : Mode) (t u : SearchView) (vars : ℕ) (checker : Program) (known ks : List Atoms) (bars new : List ℕ) (bound : Option (List ℤ)) (last : Option ℕ) (q : List Literal) (S : Atoms) →
     m ≡ mode.Enum → last ≡ None → ks ≡ known ++ S ∷ [] → Settled t.program (known ++ S ∷ []) t.bound (q ++ t.decisions) → hits (values t.program S) (q ++ t.decisions) ≡ true →
-    Blocks (way_of q t.decisions) t u new → IsSearch p m t vars known bars bound last → IsSearch p m u vars ks new bound last
-search_listed p m t u vars known ks bars new bound last q S enum none more settled hit b s =
-    let first : IsSearch p mode.Enum t vars known bars bound None =
-    subst (λ (x : Mode). IsSearch p x t vars known bars bound None) enum (subst (λ (x : Option ℕ). IsSearch p m t vars known bars bound x) none s) in
+    Blocks (way_of q t.decisions) t u new → IsSearch p m t vars checker known bars bound last → IsSearch p m u vars ks new bound last
+search_listed p m t u vars checker known ks bars new bound last q S enum none more settled hit b s =
+    let first : IsSearch p mode.Enum t vars checker known bars bound None =
+    subst (λ (x : Mode). IsSearch p x t vars checker known bars bound None) enum (subst (λ (x : Option ℕ). IsSearch p m t vars checker known bars bound x) none s) in
     subst (λ (x : Option ℕ). IsSearch p m u vars ks new bound x) (sym none)
     (subst (λ (x : Mode). IsSearch p x u vars ks new bound None) (sym enum)
-    (subst (λ (x : List Atoms). IsSearch p mode.Enum u vars x new bound None) (sym more) (search_lists p t u vars known bars new bound q S settled hit b first)))
+    (subst (λ (x : List Atoms). IsSearch p mode.Enum u vars x new bound None) (sym more) (search_lists p t u vars checker known bars new bound q S settled hit b first)))

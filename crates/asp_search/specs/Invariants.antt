@@ -11,11 +11,12 @@ use Rattle.asp_search_laws.specs.Searching.{Searching}
 use Rattle.asp_state.specs.SearchStates.{SearchView}
 
 -- The state is of the program and the bound, its nogoods count for the search, each answer known is barred by one that is kept forever,
--- and those that bar one are listed. In an optimisation no answer is known.
-pub record IsSearch (p : Program) (m : Mode) (t : SearchView) (vars : ℕ) (known : List Atoms) (bars : List ℕ) (bound : Option (List ℤ)) (last : Option ℕ) : Type 0 where
+-- and those that bar one are listed. The checker is of the program. In an optimisation no answer is known.
+pub record IsSearch (p : Program) (m : Mode) (t : SearchView) (vars : ℕ) (checker : Program) (known : List Atoms) (bars : List ℕ) (bound : Option (List ℤ)) (last : Option ℕ) : Type 0 where
   pub program : p ≡ t.program
   pub bounded : bound ≡ t.bound
   pub counted : vars ≡ var_count t.program
+  pub checked : checker ≡ p
   pub useful : AreUseful t.program known t.bound t.slots
   pub barred : AreBarred t.program t.slots known
   pub bars_stand : AreBars t.slots bars

@@ -12,8 +12,8 @@ ghost use Rattle.asp_loop.specs.LoopNogoods.{IsLoopNogood};
 ghost use Rattle.asp_trail_laws.specs.Whole.{IsWhole, truths, atoms_on};
 ghost use Rattle.asp_search_laws.specs.Faults.{IsFault};
 
+use asp_stable::checker::Checker;
 use asp_found::check::Verdict;
-use asp_found::found::check;
 use asp_loop::loops::loop_nogood;
 use asp_model::interp::Interp;
 use asp_model::program::Atom;
@@ -87,19 +87,23 @@ pub(crate) fn fault<P: Propagator>(
     alloc: Global,
     compiled: &Compiled,
     state: &SearchState<P>,
+    checker: &mut Checker<'_>,
     interp: &Interp,
 ) -> Result<Option<Nogood>, AllocError>
+    requires checker { checker.old ≡ compiled.now }
     requires program { state.now.program ≡ compiled.now }
     requires whole { IsWhole compiled.now (var_count compiled.now) state.now.entries }
     requires atoms { interp.now ≡ atoms_on compiled.now (var_count compiled.now) state.now.entries }
-    ensures { IfOk result (λ r. MatchOption r (IsTrue (is_stable compiled.now interp.now))
+    ensures same { checker.new ≡ checker.old }
+    ensures fault { IfOk result (λ r. MatchOption r (IsTrue (is_stable compiled.now interp.now))
         (IsFault compiled.now (P.gives compiled.now state.now.bound) (var_count compiled.now) state.now.entries)) }
 {
-    match check(alloc, compiled, interp)? {
+    let assign = state.trail().assignment();
+    match checker.check(alloc, assign, interp)? {
         Verdict::Stable => Ok(None),
         Verdict::Broken(nogood) => Ok(Some(nogood)),
         Verdict::Unfounded(set) => {
-            let nogood = unfounded(alloc, compiled, state.trail().assignment(), set.as_slice())?;
+            let nogood = unfounded(alloc, compiled, assign, set.as_slice())?;
             Ok(Some(nogood))
         }
     }

@@ -14,6 +14,7 @@ ghost use Rattle.asp_search_laws.specs.Steps.{is_of_use};
 ghost use Rattle.asp_search.specs.Beside.{new_search, Enters, Leaves, is_local, is_shared, only_shared, exported, IsOpen, IsShared, IsSharedBy};
 
 use asp_analyze::learn::Learner;
+use asp_stable::checker::Checker;
 use asp_model::cost::Cost;
 use asp_model::interp::Interp;
 use asp_model::results::Mode;
@@ -40,6 +41,7 @@ pub struct Search<'a, P: Propagator> {
     pub(crate) state: SearchState<P>,
     pub(crate) pace: Pace,
     pub(crate) learner: Learner,
+    pub(crate) checker: Checker<'a>,
     pub(crate) known: Vec<Interp>,
     pub(crate) bars: Vec<NogoodId>,
     pub(crate) bound: Option<Cost>,
@@ -54,7 +56,7 @@ impl<'a, P: Propagator> Model for Search<'a, P> {
 
     ghost view = { λ s. view_of s.mode s.state s.pace s.known.items s.last };
 
-    ghost invariant = { λ s. IsSearch s.compiled.now s.mode s.state s.learner s.known.items s.bars.items s.bound s.last };
+    ghost invariant = { λ s. IsSearch s.compiled.now s.mode s.state s.learner s.checker s.known.items s.bars.items s.bound s.last };
 }
 
 // Whether a nogood of this base counts for a search, whatever answers it knows.
@@ -125,6 +127,7 @@ impl<'a, P: Propagator> Search<'a, P> {
         let _program = compiled.program();
         let state = SearchState::new(alloc, compiled, propagator)?;
         let learner = Learner::new(alloc, vars)?;
+        let checker = Checker::new(alloc, compiled)?;
         Ok(Search {
             alloc,
             compiled,
@@ -132,6 +135,7 @@ impl<'a, P: Propagator> Search<'a, P> {
             state,
             pace: Pace::new(),
             learner,
+            checker,
             known: Vec::new(alloc),
             bars: Vec::new(alloc),
             bound: None,

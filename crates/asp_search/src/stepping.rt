@@ -163,7 +163,13 @@ impl<'a, P: Propagator> Search<'a, P> {
         let _program = self.compiled.program();
         let _store = self.state.store();
         let interp = true_atoms(self.alloc, self.compiled, self.state.trail())?;
-        match fault(self.alloc, self.compiled, &self.state, &interp)? {
+        match fault(
+            self.alloc,
+            self.compiled,
+            &self.state,
+            &mut self.checker,
+            &interp,
+        )? {
             None => {
                 self.answer(&interp)?;
                 Ok(Step::Answer(interp))

@@ -132,7 +132,7 @@ invariant_of-self-in-Some g c =
     let fault : IsFault t.program (g.P.Propagator.gives t.program t.bound) (var_count t.program) t.entries n =
     subst (λ (x : Program). IsFault x (g.P.Propagator.gives x t.bound) (var_count x) t.entries n) c.self.invariant.program verdict in
     let slots = ap (λ (x : SearchView). x.slots) e in
-    search_push p i.mode t u i.learner i.known.items i.bars.items i.bound i.last i.last (for_now n) (ap (λ (x : SearchView). x.program) e) (ap (λ (x : SearchView). x.bound) e) slots
+    search_push p i.mode t u i.learner i.checker i.known.items i.bars.items i.bound i.last i.last (for_now n) (ap (λ (x : SearchView). x.program) e) (ap (λ (x : SearchView). x.bound) e) slots
     (fault_useful t.program i.known.items t.bound (g.P.Propagator.gives t.program t.bound) (var_count t.program) t.entries n fault)
     (push_last t.slots u.slots (for_now n) i.last slots c.self.invariant.last_stands) c.self.invariant
 

@@ -18,6 +18,6 @@ invariant_of-self-2 g c =
     let useful : IsUseful i.state.program i.known.items i.state.bound n =
     subst (λ (x : Searching). IsUseful x.program x.known x.bound n) (sym c.self.view_is) (of_use s.program s.known s.mode s.bound n c.requires.useful c.requires.good) in
     let slots = ap (λ (x : SearchView). x.slots) e in
-    search_push i.compiled.now i.mode i.state c.keep.new.self i.learner i.known.items i.bars.items i.bound i.last i.last k (ap (λ (x : SearchView). x.program) e)
+    search_push i.compiled.now i.mode i.state c.keep.new.self i.learner i.checker i.known.items i.bars.items i.bound i.last i.last k (ap (λ (x : SearchView). x.program) e)
     (ap (λ (x : SearchView). x.bound) e) slots (subst (IsUseful i.state.program i.known.items i.state.bound) (sym c.in_ok-copy.ensures) useful)
     (push_last i.state.slots c.keep.new.self.slots k i.last slots c.self.invariant.last_stands) c.self.invariant

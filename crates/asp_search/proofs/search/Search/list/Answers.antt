@@ -19,7 +19,7 @@ invariant_of-self-2 g c =
     let enum : i.mode ≡ mode.Enum = ap (λ (s : Searching). s.mode) c.self.view_is ∙ c.requires.mode in
     let more : c.push_reserved.new.self.items ≡ i.known.items ++ c.args.interp.now ∷ [] =
     c.push_reserved.ensures.items ∙ (ap (λ (xs : List Atoms). xs ++ c.in_ok-copy.copy ∷ []) c.reserve.ensures.items ∙ ap (λ (x : Atoms). i.known.items ++ x ∷ []) c.in_ok-copy.ensures) in
-    search_listed i.compiled.now i.mode i.state c.block.new.state i.learner i.known.items c.push_reserved.new.self.items i.bars.items c.block.new.bars.items i.bound i.last q c.args.interp.now
+    search_listed i.compiled.now i.mode i.state c.block.new.state i.learner i.checker i.known.items c.push_reserved.new.self.items i.bars.items c.block.new.bars.items i.bound i.last q c.args.interp.now
     enum entered.last more found.settled found.hit (c.in_ok-block.ensures.ok q entered.cube) c.self.invariant
 
 pub returns-clause-ok : goal.returns-clause-ok

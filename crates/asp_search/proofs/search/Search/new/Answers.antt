@@ -13,11 +13,11 @@ pub invariant_of-result : goal.invariant_of-result
 invariant_of-result g c =
     let p = c.args.compiled.now in
     let t : Option (List ℤ) → SearchView = λ b. record { program = p; bound = b; cube = None; clashing = false; decisions = []; entries = []; slots = map forever (completion p); ranking = first_ranking p } in
-    let first : IsSearch p c.args.mode c.in_ok-state.state c.in_ok-learner.learner [] [] None None =
-    search_begins p c.args.mode c.in_ok-state.state c.in_ok-learner.learner c.program-program.ensures.sound (c.in_ok-learner.ensures ∙ c.vars-vars.ensures.count)
+    let first : IsSearch p c.args.mode c.in_ok-state.state c.in_ok-learner.learner c.in_ok-checker.checker [] [] None None =
+    search_begins p c.args.mode c.in_ok-state.state c.in_ok-learner.learner c.in_ok-checker.checker c.program-program.ensures.sound (c.in_ok-learner.ensures ∙ c.vars-vars.ensures.count) c.in_ok-checker.ensures
     (c.in_ok-state.ensures ∙ ap t c.requires.unbounded) in
-    subst (λ (ks : List Atoms). IsSearch p c.args.mode c.in_ok-state.state c.in_ok-learner.learner ks c.new-5.result.items None None) (sym c.new-4.ensures.items)
-    (subst (λ (bars : List ℕ). IsSearch p c.args.mode c.in_ok-state.state c.in_ok-learner.learner [] bars None None) (sym c.new-5.ensures.items) first)
+    subst (λ (ks : List Atoms). IsSearch p c.args.mode c.in_ok-state.state c.in_ok-learner.learner c.in_ok-checker.checker ks c.new-5.result.items None None) (sym c.new-4.ensures.items)
+    (subst (λ (bars : List ℕ). IsSearch p c.args.mode c.in_ok-state.state c.in_ok-learner.learner c.in_ok-checker.checker [] bars None None) (sym c.new-5.ensures.items) first)
 
 pub returns : goal.returns
 returns g c =

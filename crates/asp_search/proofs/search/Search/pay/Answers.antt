@@ -81,7 +81,7 @@ pub invariant_of-self : goal.invariant_of-self
 invariant_of-self g c =
     let i = c.self.inside in
     let e = c.in_err-new.ensures.err in
-    search_stays i.compiled.now i.mode i.state c.jump.new.state i.learner i.known.items i.bars.items i.bound i.last (ap (λ (x : SearchView). x.program) e)
+    search_stays i.compiled.now i.mode i.state c.jump.new.state i.learner i.checker i.known.items i.bars.items i.bound i.last (ap (λ (x : SearchView). x.program) e)
     (ap (λ (x : SearchView). x.bound) e) (ap (λ (x : SearchView). x.slots) e) c.self.invariant
 
 pub returns-in_err-new-clause-err : goal.returns-in_err-new-clause-err
@@ -115,7 +115,7 @@ invariant_of-self-2 g c =
     let k : Kept = record { nogood = c.args.nogood; forever = false; locked = false } in
     let e = c.in_ok-new.ensures.ok in
     let slots = ap (λ (x : SearchView). x.slots) e in
-    search_push i.compiled.now i.mode i.state c.jump.new.state i.learner i.known.items i.bars.items i.bound i.last (Some c.in_ok-new.new) k (ap (λ (x : SearchView). x.program) e)
+    search_push i.compiled.now i.mode i.state c.jump.new.state i.learner i.checker i.known.items i.bars.items i.bound i.last (Some c.in_ok-new.new) k (ap (λ (x : SearchView). x.program) e)
     (ap (λ (x : SearchView). x.bound) e) slots (met_useful i.mode i.state i.pace i.known.items i.last q c.args.id (learned.Jump c.args.nogood c.args.to c.args.lit) m)
     (newest_last i.state.slots c.jump.new.state.slots k c.in_ok-new.new slots c.in_ok-new.ensures.id) c.self.invariant
 

@@ -16,7 +16,7 @@ invariant_of-self g c =
     let none : i.last ≡ None = ap (λ (s : Searching). s.last) c.self.view_is ∙ c.requires.last in
     let reduced : MayReduce es i.state.slots c.reduce.new.state.slots =
     subst (λ (xs : List (Option Kept)). MayReduce es xs c.reduce.new.state.slots) (ap (λ (x : SearchView). x.slots) undo) c.reduce.ensures.reduced in
-    subst (λ (x : Option ℕ). IsSearch i.compiled.now i.mode c.reduce.new.state i.learner i.known.items i.bars.items i.bound x) (sym none)
-    (search_reduced i.compiled.now i.mode i.state c.reduce.new.state i.learner i.known.items i.bars.items i.bound i.last es
+    subst (λ (x : Option ℕ). IsSearch i.compiled.now i.mode c.reduce.new.state i.learner i.checker i.known.items i.bars.items i.bound x) (sym none)
+    (search_reduced i.compiled.now i.mode i.state c.reduce.new.state i.learner i.checker i.known.items i.bars.items i.bound i.last es
     (ap (λ (x : SearchView). x.program) same ∙ ap (λ (x : SearchView). x.program) undo) (ap (λ (x : SearchView). x.bound) same ∙ ap (λ (x : SearchView). x.bound) undo) reduced
     c.self.invariant)

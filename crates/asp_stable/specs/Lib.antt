@@ -1,0 +1,3 @@
+pub mod Holding
+pub mod Founding
+pub mod Ranks
