@@ -6,6 +6,7 @@ use Rattle.std.specs.List.{AllByRecursion}
 use Rattle.std.proofs.lemmas.Bool.{false≢true, eq-eqb}
 use Rattle.std.proofs.lemmas.List.{append-nil}
 use Rattle.asp_vault.specs.Makers.{NoneBy}
+use Rattle.asp_vault.specs.Moments.{Stays}
 use Rattle.asp_vault.specs.Rules.{holding, after_misses, given_back, Learnt}
 use Rattle.asp_vault.proofs.Calls.{moment_of}
 use Rattle.asp_vault.proofs.Filters.{drop_prefix}
@@ -69,6 +70,18 @@ module _ (v : Knows) (b : Booked) (learnt : Learnt signed v b.journal) (about : 
     spared = subst (Spares v.number (seen_board v)) (sym board-is) spares-since;
     grown = subst (Grows (seen_board v)) (sym board-is) grows-since;
   }
+
+-- ---- what the seat has seen after a call
+pub task-stays : (v w : Knows) → Stays v w → task_of w ≡ task_of v
+task-stays v w stays = ap (λ (o : Option Task). unwrap_or o no_task) stays.about
+
+pub seen-after : (v w : Knows) (before added : List Event) → Stays v w → IsCall v w before added → seen_board w ≡ run (replay (task_of v) before) added
+seen-after v w before added stays call =
+    ap (λ (t : Task). replay t w.seen) (task-stays v w stays) ∙ ap (replay (task_of v)) call.moment.seen ∙ run-append (start (task_of v)) before added
+
+pub lawful-after : (v w : Knows) (before added : List Event) → Stays v w → IsCall v w before added → IsJournalOf (task_of w) w.seen
+lawful-after v w before added stays call =
+    subst (λ (t : Task). IsJournalOf t w.seen) (sym (task-stays v w stays)) (subst (IsJournalOf (task_of v)) (sym call.moment.seen) call.moment.keeps)
 
 -- ---- books after a call
 pub journal-with : (b : Booked) (events : List Event) → (with_events b events).journal ≡ b.journal ++ events

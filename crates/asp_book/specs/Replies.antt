@@ -3,6 +3,7 @@ use Rattle.std.specs.Prelude.{◌≡◌, ◌<◌, ◌↔◌, length, IsSome, opt
 use Rattle.std.specs.Option.{IfSome}
 use Rattle.asp_model.specs.Costs.{cost, betters}
 use Rattle.asp_model.specs.Sets.{Atoms}
+use Rattle.asp_path.specs.Trees.{open_from, held_count}
 use Rattle.asp_core.specs.Boards.{Board, is_excused}
 use Rattle.asp_vars.specs.Literals.{Literal}
 use Rattle.asp_vars.specs.Paid.{Units}
@@ -48,3 +49,7 @@ pub record Divides (b : Board) (r : Option (ℕ × ℕ)) : Type 0 where
 pub record Improves (b : Board) (S : Atoms) (r : Option (List ℤ)) : Type 0 where
   pub better : r ≡ None → is_excused b S ≡ false
   pub best : IfSome r (λ c. (option_map (cost b.task.program) b.best ≡ Some c) × (betters (cost b.task.program S) c ≡ false))
+
+-- Workers without a leaf want a split: no leaf is open, fewer are held than there are workers, and a leaf may split.
+abbrev pub IsWanted : ℕ → Board → Type 0
+IsWanted workers b = (length (open_from 0 b.nodes) ≡ 0) × (held_count b.nodes < workers) × (length b.nodes < 4194304)

@@ -12,7 +12,7 @@ ghost use Rattle.asp_core.specs.Boards.{start, is_answer, lists, optimises, is_e
 ghost use Rattle.asp_core.specs.Events.{held_by, has_var, IsVariable, Guard};
 ghost use Rattle.asp_book.specs.Books.{board, with_events, signed, IsJournalOf};
 ghost use Rattle.asp_book.specs.Fuels.{ComesBack, IsOwnFuel};
-ghost use Rattle.asp_book.specs.Replies.{Divides, Improves, taken, taken_this, divided, delivered, improved, leased_out, given_back};
+ghost use Rattle.asp_book.specs.Replies.{Divides, Improves, IsWanted, taken, taken_this, divided, delivered, improved, leased_out, given_back};
 
 use crate::write::{make_room, write};
 use asp_core::event::Event;
@@ -293,6 +293,15 @@ impl Book {
         ensures { IsTrue result ↔ (length (board self.now).nodes < 4194304) }
     {
         self.state.room()
+    }
+
+    /// Whether a split is wanted: no leaf is open, fewer leaves are held than there are workers, and a leaf may split.
+    pub fn wanted(&self, workers: u32) -> bool
+        ensures { IsTrue result ↔ IsWanted workers (board self.now) }
+    {
+        self.state.open_leaves() == 0
+            && self.state.held_leaves() < workers as usize
+            && self.state.room()
     }
 
     /// Whether there is a limit, and as many different answers were delivered.

@@ -21,7 +21,7 @@ ghost use Rattle.asp_core.specs.Events.{held_by, has_var, IsVariable, replay};
 ghost use Rattle.asp_book.specs.Books.{signed, IsJournalOf};
 ghost use Rattle.asp_book.specs.Calls.{task_of, seen_board, IsCall, Adds};
 ghost use Rattle.asp_book.specs.Fuels.{ComesBack};
-ghost use Rattle.asp_book.specs.Replies.{Divides, Improves, taken, taken_this, divided, delivered, improved, leased_out, given_back};
+ghost use Rattle.asp_book.specs.Replies.{Divides, Improves, IsWanted, taken, taken_this, divided, delivered, improved, leased_out, given_back};
 
 use crate::book::Book;
 use asp_model::cost::Cost;
@@ -272,6 +272,22 @@ pub fn room<R: Wait>(rt: &R, vault: &Vault<Book>, seat: &mut Seat<Book>) -> bool
 {
     let book = vault.take(rt, seat);
     let reply = book.room();
+    give(vault, seat, book);
+    reply
+}
+
+/// Whether a split is wanted: no leaf is open, fewer leaves are held than there are workers, and a leaf may split.
+///
+/// All three are asked at one moment.
+pub fn wanted<R: Wait>(rt: &R, vault: &Vault<Book>, seat: &mut Seat<Book>, workers: u32) -> bool
+    requires of { IsOf vault.now seat.old }
+    requires rests { (view seat.old).holds ≡ false }
+    ensures of { IsBeside seat.old seat.new }
+    ensures stays { Stays (view seat.old) (view seat.new) }
+    ensures call { (before : List Event) × (IsTrue result ↔ IsWanted workers (replay (task_of (view seat.old)) before)) × IsCall (view seat.old) (view seat.new) before [] }
+{
+    let book = vault.take(rt, seat);
+    let reply = book.wanted(workers);
     give(vault, seat, book);
     reply
 }
