@@ -52,7 +52,12 @@ fn ends<R: Threads + Wait + Sync + Abort, S: Source>(
 }
 
 // The text of two answers is written to this sink.
-fn ends_into<R: Threads + Wait + Sync + Abort>(rt: &R, alloc: Global, sink: &mut MemSink, end: End) {
+fn ends_into<R: Threads + Wait + Sync + Abort>(
+    rt: &R,
+    alloc: Global,
+    sink: &mut MemSink,
+    end: End,
+) {
     let mut source = CleanSource::new(TWO_WAYS);
     let mut notes = MemSink::new(alloc, 1, Vec::new(alloc));
     ends(rt, alloc, &mut source, sink, &mut notes, end);
