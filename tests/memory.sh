@@ -56,14 +56,15 @@ under() (
     ulimit -v "$1" && shift && exec "$@"
 )
 
-# ends_before_main STATUS LIMIT: whether the loader, or the kernel in its place, ended the run that left given and notes
+# ends_before_main STATUS LIMIT: whether the loader (127), or the kernel in its place, ended the run that left given and
+# notes
 ends_before_main() {
     [ -s "$room/given" ] && return 1
+    grep -q '^aspenum' "$room/notes" && return 1
     case $1 in
-        126 | 137 | 139) true ;;
-        127) grep -q 'error while loading shared libraries' "$room/notes" ;;
-        *) return 1 ;;
-    esac && ! under "$2" "$program" --help > /dev/null 2>&1
+        126 | 127 | 137 | 139) ! under "$2" "$program" --help > /dev/null 2>&1 ;;
+        *) false ;;
+    esac
 }
 
 # kind STATUS WANTED_STATUS LIMIT: what a run's end is

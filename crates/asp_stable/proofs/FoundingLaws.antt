@@ -168,7 +168,6 @@ supported p S a sound kept stands inside = cases (is_supported p S a) refl
         let broken = atom_broken p S a sound (among_has (atoms_of p) a stands) stands inside (sym q) in
         absurd (false≢true (sym kept ∙ broken.listed (hits (values p S)) broken.hit))
 
-
 -- a rule for an atom whose body holds
 record Supporting (p : Program) (S : Atoms) (a : ℕ) : Type 0 where
   pub rule : Rule

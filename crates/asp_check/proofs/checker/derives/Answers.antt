@@ -1,7 +1,0 @@
-use Rattle.asp_check.proofs.FoundingLaws.{all_derived}
-use Rattle.asp_check.proofs.checker.derives.Goals as goal
-
-pub returns : goal.returns
-returns c = λ e.
-    all_derived c.args.compiled.now c.args.assign.now c.args.flat.now c.propagate.new.marks c.args.loops.now c.requires.checker.size c.requires.checker.loopless c.requires.checker.listed
-    c.propagate.ensures (c.are_marked.ensures e)

@@ -1,5 +1,0 @@
-use Rattle.asp_check.specs.Founding.{AreDerived}
-use Rattle.asp_check.proofs.derive.propagate.Given as goal
-
-abbrev pub invariant-loop-next : goal.invariant-loop-next
-invariant-loop-next l = AreDerived l.compiled l.assign l.marks

@@ -1,9 +1,0 @@
-use Rattle.std.proofs.Common.{◌≡◌, ◌<◌, take}
-use Rattle.std.specs.Prelude.{pos, ◌-ℤ◌}
-use Rattle.asp_loop.specs.Weighing.{weigh}
-use Rattle.asp_check.specs.Holding.{is_held}
-use Rattle.asp_check.proofs.holding.reaches.Given as goal
-
-abbrev pub invariant-loop-i : goal.invariant-loop-i
-invariant-loop-i l =
-    (0 < l.left) × (pos l.left ≡ (l.fn.bound -ℤ weigh (is_held l.assign l.marks) (take l.i l.lits) (take l.i l.weights)))

@@ -1,6 +1,0 @@
-use Rattle.std.proofs.Common.{ℕ, ◌<◌}
-use Rattle.asp_check.specs.Ranks.{IsRanked}
-use Rattle.asp_check.proofs.ranks.are_ranks.Given as goal
-
-abbrev pub invariant-loop-body : goal.invariant-loop-body
-invariant-loop-body l = (j : ℕ) → j < l.body → IsRanked l.compiled l.ranks j

@@ -1,5 +1,0 @@
-//! Tests of whole runs whose input, output or notes fail.
-#![tactic(auto)]
-
-#[cfg(test)]
-mod failing;
