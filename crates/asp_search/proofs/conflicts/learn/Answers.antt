@@ -4,7 +4,6 @@ use Rattle.asp_vars.specs.declared.nogood.Nogood.{Nogood}
 use Rattle.asp_trail.specs.declared.trail.Entry.{Entry}
 use Rattle.asp_trail.specs.Reasons.{AreReasoned}
 use Rattle.asp_trail.proofs.ReasonLaws.{nogood_is}
-use Rattle.asp_trail.specs.Trails.{IsOrdered}
 use Rattle.asp_store.specs.declared.kept.Kept.{Kept}
 use Rattle.asp_store.specs.Keeping.{nogood_at}
 use Rattle.asp_analyze.specs.Way.{AreUpTo}

@@ -1,4 +1,4 @@
-use Rattle.std.proofs.Common.{List, Option, Bool, ◌≡◌, sym, ap, ◌∙◌, subst}
+use Rattle.std.proofs.Common.{◌≡◌, sym, ap, ◌∙◌, subst}
 use Rattle.asp_vars.specs.Numbering.{var_count}
 use Rattle.asp_trail.specs.Entries.{assignment}
 use Rattle.asp_found.specs.Verdicts.{IsVerdict, HasUnfounded}
