@@ -211,6 +211,10 @@ pub same_nogood : (n m : Nogood) → Some n ≡ Some m → n ≡ m
 same_nogood n m q = ap (λ (o : Option Nogood). unwrap_or o n) q
 
 -- one that begins with the literals, and whose variables it didn't imply
+pub some_is : (o : Option Nogood) → IsSome o → (n : Nogood) × (o ≡ Some n)
+some_is None h = cc
+some_is (Some n) h = (n, refl)
+
 pub spare_from : (vars : ℕ) (slots : List (Option Kept)) (es : List Entry) (lits : List Literal) (id : ℕ) (n : Nogood) → IsOrdered vars es → AreReasoned (nogood_at slots) es → nogood_at slots id ≡ Some n →
     starts_with literal_eq n.lits lits ≡ true → All (λ l. reason_in es l.var ≢ Some id) n.lits → IsSpare slots es lits id
 spare_from vars slots es lits id n o r k begins none = record {

@@ -29,17 +29,15 @@ use Rattle.asp_search.specs.Beside.{is_local, is_shared, only_shared, IsShared, 
 -- ---- the first decision
 var_found : (q : List Literal) (v : ℕ) → has_var q v ≡ true → (k : Literal) × (has_literal q k ≡ true) × (k.var ≡ v)
 var_found [] v h = absurd (false≢true h)
-var_found (l ∷ q) v h = cases (l.var == v) refl
+var_found (l ∷ q) v h = cases (l.var == v) refl (var_found q v)
   where
-    cases : (b : Bool) → b ≡ (l.var == v) → (k : Literal) × (has_literal (l ∷ q) k ≡ true) × (k.var ≡ v)
-    cases true e = (l, ap (λ b. b || has_literal q l) (eq_itself l), eqb-true l.var v (sym e))
-    cases false e =
-        let f = var_found q v (ap (λ b. b || has_var q v) e ∙ h) in
-        (f.0, later (literal_eq l f.0) (has_literal q f.0) f.1, f.2)
-      where
-        later : (a b : Bool) → b ≡ true → (a || b) ≡ true
-        later true b e = refl
-        later false b e = e
+    later : (a b : Bool) → b ≡ true → (a || b) ≡ true
+    later true b e = refl
+    later false b e = e
+
+    cases : (b : Bool) → b ≡ (l.var == v) → (has_var q v ≡ true → (k : Literal) × (has_literal q k ≡ true) × (k.var ≡ v)) → (k : Literal) × (has_literal (l ∷ q) k ≡ true) × (k.var ≡ v)
+    cases true e rest = (l, ap (λ b. b || has_literal q l) (eq_itself l), eqb-true l.var v (sym e))
+    cases false e rest = let f = rest (ap (λ b. b || has_var q v) e ∙ h) in (f.0, later (literal_eq l f.0) (has_literal q f.0) f.1, f.2)
 
 module _ (vars : ℕ) (q ds : List Literal) (d : Literal) (es : List Entry) (o : IsOrdered vars es) (s : AreStarts q (d ∷ ds) es) where
   decided : (i : ℕ) × (i < length es) × ((get_or es i blank).lit ≡ d) × ((get_or es i blank).level ≡ 1)
@@ -102,10 +100,6 @@ of_use_shared mode.Enum bound base.Local h e = false≢true h
 of_use_shared mode.Opt bound base.Local h e = false≢true h
 
 -- ---- what is copied for others
--- the kept nogood of these literals and this base, if others can use it
-pub copied_shared : (k : Option Nogood) (n : Nogood) (b : Bool) → Some n ≡ k → b ≡ is_shared n → (if b then Some n else None) ≡ only_shared k
-copied_shared k n b e q = ap (λ (c : Bool). if c then Some n else None) q ∙ ap only_shared e
-
 pub only_is : (p : Program) (k : Option Nogood) → ((n : Nogood) → k ≡ Some n → is_shared n ≡ true → IsShared p n) → IfSome (only_shared k) (IsShared p)
 only_is p None f = tt
 only_is p (Some n) f = cases (is_shared n) refl
