@@ -1,2 +1,3 @@
 mod RowLaws
 mod SeatLaws
+pub mod EntryLaws

@@ -21,7 +21,7 @@ use Rattle.asp_book.specs.Calls.{Knows, no_task, task_of, seen_board, IsCall}
 use Rattle.asp_book.specs.Fuels.{ComesBack}
 use Rattle.asp_book.specs.Replies.{leased_out}
 use Rattle.asp_share_tests.specs.Rows.{Has}
-use Rattle.asp_book.proofs.CallLaws.{run-append, lawful-rest}
+use Rattle.asp_book.proofs.CallLaws.{lawful-rest, seen-after}
 
 -- ---- a new seat
 pub none-held : (v : Knows) (t : Task) → v ≡ opened t [] → held_by v.number (seen_board v).nodes ≡ 0
@@ -35,10 +35,6 @@ pub at-task : {A : Type 0} (P : Task → A → Type 0) (t : Task) (v : Knows) (x
 at-task P t v x y about is h = subst (λ (z : Task). P z x) (sym (task-run (start (task_of v)) v.seen ∙ ap (λ (o : Option Task). unwrap_or o no_task) about)) (subst (P t) (sym is) h)
 
 module _ (v w : Knows) (before : List Event) (stays : Stays v w) where
-  -- the board that the seat has seen since
-  seen-after : (added : List Event) → IsCall v w before added → seen_board w ≡ run (replay (task_of v) before) added
-  seen-after added call = (λ k. replay (unwrap_or (stays.about k) no_task) (call.moment.seen k)) ∙ run-append (start (task_of v)) before added
-
   -- the seat holds the leaf that it took
   pub Has-taken : (leaf : ℕ) → IsCall v w before (event.Take v.number leaf ∷ []) → Has w leaf
   Has-taken leaf call =
@@ -48,7 +44,7 @@ module _ (v w : Knows) (before : List Event) (stays : Stays v w) where
       record {
         rests = stays.rests;
         held =
-            ap (λ (x : Board). status_of x.nodes leaf) (seen-after (event.Take v.number leaf ∷ []) call)
+            ap (λ (x : Board). status_of x.nodes leaf) (seen-after v w before (event.Take v.number leaf ∷ []) stays call)
             ∙ ap (λ (n : Node). n.status) (get_or-set_same b.nodes leaf (record { cube = cube_of b.nodes leaf; status = status.Held v.number }) nowhere within)
             ∙ ap status.Held (sym stays.number);
       }
@@ -75,7 +71,7 @@ pub leased-comes : (v w : Knows) (t : Task) (before : List Event) (n : ℕ) (u :
     → u ≡ record { program = (replay (task_of v) before).task.program; left = min n (replay (task_of v) before).pool; burnt = 0; known = 0; least = None } → ComesBack (seen_board w) (out_of (seen_board w).out w.number) u
 leased-comes v w t before n u new stays call is =
     let b : Board = replay (task_of v) before in
-    let after : seen_board w ≡ run b (leased_out v.number u) = seen-after v w before stays (leased_out v.number u) call in (
+    let after : seen_board w ≡ run b (leased_out v.number u) = seen-after v w before (leased_out v.number u) stays call in (
       record {
         program = ap (λ (x : Units). x.program) is ∙ ap (λ (x : Task). x.program) (sym (task-run b (leased_out v.number u)) ∙ ap (λ (x : Board). x.task) (sym after));
         known = omega (arith, ap (λ (x : Units). x.known) is);

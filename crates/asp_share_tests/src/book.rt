@@ -18,6 +18,7 @@ use std::alloc::{AllocError, Global};
 use std::process::Abort;
 use std::test::Fail;
 
+mod found;
 mod seats;
 
 // Two atoms that are free.

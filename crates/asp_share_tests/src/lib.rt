@@ -1,4 +1,4 @@
-//! Tests of what workers share: the vault, the log, the tree of paths, the board and the book.
+//! Tests of what workers share: the vault, the log, the tree of paths, the board, the book and the lanes.
 #![tactic(auto)]
 
 #[cfg(test)]
@@ -7,6 +7,8 @@ mod board;
 mod book;
 #[cfg(test)]
 mod log;
+#[cfg(test)]
+mod pool;
 #[cfg(test)]
 mod together;
 #[cfg(test)]

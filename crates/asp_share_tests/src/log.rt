@@ -1,28 +1,46 @@
 //! The log by one seat, and by two threads.
-ghost use Rattle.std.specs.Prelude.{◌≡◌, ◌<◌, ◌^◌, false};
+ghost use Rattle.std.specs.Prelude.{◌≡◌, ◌<◌, ◌≤◌, ◌^◌, false};
+ghost use Rattle.asp_vars.specs.Numbering.{var_count};
 ghost use Rattle.asp_log.specs.Entries.{IsLogFor, unsigned};
 ghost use Rattle.asp_vault.specs.Makers.{Unnamed};
 ghost use Rattle.asp_vault.specs.Seats.{view, IsOf, IsBeside};
+ghost use Rattle.asp_share_tests.specs.Together.{HasVars};
 
 use crate::together::{append_clash, both, clashing};
 use asp_log::{AppendError, Log, View, append, glance, read};
-use asp_model::program::Program;
+use asp_model::program::{Body, Head, Program, Rule};
 use asp_model::seq::Seq;
 use asp_vars::compile::compile;
 use asp_vars::nogood::Nogood;
 use asp_vault::{Seat, Vault};
-use std::alloc::Global;
+use std::alloc::{AllocError, Global};
 use std::process::Abort;
 use std::sync::Wait;
 use std::test::Fail;
 
-// A log for a program of no rules, which may have so many entries.
+// Atoms 1 to 200.
+fn atoms(heap: Global) -> Result<Vec<u32>, AllocError> {
+    let mut atoms = Vec::new(heap);
+    for atom in 1..201 {
+        atoms.push(atom)?;
+    }
+    Ok(atoms)
+}
+
+// A log for a program of 200 free atoms, which may have so many entries.
 fn new_log(rt: &impl Abort, heap: Global, limit: u32) -> Log
     ensures keeps { IsLogFor result.scope result.entries }
     ensures unnamed { Unnamed unsigned result.entries }
+    ensures many { 200 ≤ var_count result.scope.program }
 {
+    let rule = Rule {
+        head: Head::Choice(Seq::from_vec(atoms(heap).expect(rt, "memory"))),
+        body: Body::All(Seq::from_vec(Vec::new(heap))),
+    };
+    let mut rules = Vec::new(heap);
+    assert!(rt; rules.push(rule).is_ok());
     let program = Program {
-        rules: Seq::from_vec(Vec::new(heap)),
+        rules: Seq::from_vec(rules),
         minimize: Seq::from_vec(Vec::new(heap)),
         outputs: Seq::from_vec(Vec::new(heap)),
         externals: Seq::from_vec(Vec::new(heap)),
@@ -30,6 +48,7 @@ fn new_log(rt: &impl Abort, heap: Global, limit: u32) -> Log
     };
     assert!(rt; program.is_sound());
     let compiled = compile(heap, program).expect(rt, "memory");
+    assert!(rt; compiled.vars() >= 200);
     Log::new(heap, &compiled, limit)
 }
 
@@ -37,6 +56,7 @@ fn new_log(rt: &impl Abort, heap: Global, limit: u32) -> Log
 fn seated(rt: &impl Abort, heap: Global, limit: u32) -> (Vault<Log>, Seat<Log>)
     ensures of { IsOf result.0 result.1 }
     ensures rests { (view result.1).holds ≡ false }
+    ensures many { HasVars (view result.1).about 200 }
 {
     Vault::make(heap, new_log(rt, heap, limit)).expect(rt, "memory")
 }
@@ -48,23 +68,25 @@ fn variable(nogood: &Nogood) -> u32 {
     }
 }
 
-// Appends entries 0 to n - 1, of which each names its own position.
+// Appends so many entries, of which each names the number after its position.
 fn fill<R: Wait + Abort>(rt: &R, heap: Global, vault: &Vault<Log>, seat: &mut Seat<Log>, n: u32)
     requires of { IsOf vault.now seat.old }
     requires rests { (view seat.old).holds ≡ false }
     requires few { n < 2 ^ 31 }
+    requires many { HasVars (view seat.old).about n }
     ensures of { IsBeside seat.old seat.new }
     ensures rests { (view seat.new).holds ≡ false }
+    ensures about { (view seat.new).about ≡ (view seat.old).about }
 {
     for i in 0..n {
-        let at = append_clash(rt, heap, vault, seat, i);
+        let at = append_clash(rt, heap, vault, seat, i + 1);
         assert!(rt; at == Ok(i));
     }
 }
 
-fn each_names_its_position(rt: &impl Abort, shown: &View, from: u32) {
+fn each_names_its_place(rt: &impl Abort, shown: &View, from: u32) {
     for i in 0..shown.len() {
-        assert!(rt; variable(shown.entry(i)) == from.wrapping_add(i));
+        assert!(rt; variable(shown.entry(i)) == from.wrapping_add(i).wrapping_add(1));
     }
 }
 
@@ -79,7 +101,7 @@ fn shows<R: Wait + Abort>(rt: &R, vault: &Vault<Log>, seat: &mut Seat<Log>, from
     assert!(rt; u64::from(from) <= there);
     let shown = glance(rt, vault, seat, from).expect(rt, "memory");
     assert!(rt; shown.len() == len && shown.is_empty() == (len == 0));
-    each_names_its_position(rt, &shown, from);
+    each_names_its_place(rt, &shown, from);
 }
 
 #[test]
@@ -97,7 +119,7 @@ fn a_full_log_gives_the_nogood_back(rt: HostRuntime) -> Result<(), Fail> {
     let mut entries = Vec::new(heap);
     assert!(rt; read(&rt, &vault, &mut seat, 1, &mut entries)? == 2);
     assert!(rt; entries.len() == 1);
-    assert!(rt; variable(&entries[0]) == 1);
+    assert!(rt; variable(&entries[0]) == 2);
     Ok(())
 }
 

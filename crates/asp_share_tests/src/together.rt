@@ -3,7 +3,8 @@ ghost use Rattle.std.specs.Prelude.{◌≡◌, ℕ, ◌<◌, ◌≤◌, ◌^◌,
 ghost use Rattle.asp_vault.specs.Moments.{Stays};
 ghost use Rattle.asp_vault.specs.Seats.{view, IsOf, IsBeside};
 ghost use Rattle.asp_log.specs.Entries.{IsLogFor};
-ghost use Rattle.asp_share_tests.specs.Together.{clash, added, StandInOrder};
+ghost use Rattle.asp_core.specs.Events.{IsVariable};
+ghost use Rattle.asp_share_tests.specs.Together.{clash, added, HasVar, StandInOrder};
 
 use asp_log::{AppendError, Log, append};
 use asp_model::program::Program;
@@ -37,6 +38,7 @@ pub fn append_clash<R: Wait>(
     requires of { IsOf vault.now seat.old }
     requires rests { (view seat.old).holds ≡ false }
     requires var { var < 2 ^ 31 }
+    requires named { HasVar (view seat.old).about var }
     ensures of { IsBeside seat.old seat.new }
     ensures stays { Stays (view seat.old) (view seat.new) }
     ensures ok { IfOk result (λ at. added (view seat.new).own ≡ added (view seat.old).own ++ clash var ∷ []) }
@@ -64,6 +66,7 @@ fn append_all<R: Wait>(
     requires rests { (view seat).holds ≡ false }
     requires fresh { (view seat).own ≡ [] }
     requires vars { EachIndex vars.now (λ k. slice_index vars.now k < 2 ^ 31) }
+    requires named { EachIndex vars.now (λ k. HasVar (view seat).about (slice_index vars.now k)) }
     ensures of { IsBeside seat result.0 }
     ensures stays { Stays (view seat) (view result.0) }
     ensures own { added (view result.0).own ≡ map clash (take result.1 vars.now) }
@@ -89,6 +92,8 @@ pub fn both<R: Threads + Wait + Sync>(
     requires keeps { IsLogFor log.scope log.entries }
     requires first { EachIndex first.now (λ k. slice_index first.now k < 2 ^ 31) }
     requires second { EachIndex second.now (λ k. slice_index second.now k < 2 ^ 31) }
+    requires first_named { EachIndex first.now (λ k. IsVariable log.scope.program (slice_index first.now k)) }
+    requires second_named { EachIndex second.now (λ k. IsVariable log.scope.program (slice_index second.now k)) }
     ensures first { IfOk result (λ r. StandInOrder (map clash (take r.1 first.now)) r.0.entries) }
     ensures second { IfOk result (λ r. StandInOrder (map clash (take r.2 second.now)) r.0.entries) }
 {
@@ -102,6 +107,7 @@ pub fn both<R: Threads + Wait + Sync>(
             requires rests { (view one).holds ≡ false }
             requires fresh { (view one).own ≡ [] }
             requires vars { EachIndex first.now (λ k. slice_index first.now k < 2 ^ 31) }
+            requires named { EachIndex first.now (λ k. HasVar (view one).about (slice_index first.now k)) }
             ensures of { IsBeside one result.0 }
             ensures stays { Stays (view one) (view result.0) }
             ensures own { added (view result.0).own ≡ map clash (take result.1 first.entry.now) }
@@ -111,6 +117,7 @@ pub fn both<R: Threads + Wait + Sync>(
             requires rests { (view two).holds ≡ false }
             requires fresh { (view two).own ≡ [] }
             requires vars { EachIndex second.now (λ k. slice_index second.now k < 2 ^ 31) }
+            requires named { EachIndex second.now (λ k. HasVar (view two).about (slice_index second.now k)) }
             ensures of { IsBeside two result.0 }
             ensures stays { Stays (view two) (view result.0) }
             ensures own { added (view result.0).own ≡ map clash (take result.1 second.entry.now) }

@@ -24,6 +24,8 @@ use std::process::Abort;
 use std::sync::Wait;
 use std::test::Fail;
 
+mod wanted;
+
 fn seated(
     heap: Global,
     program: Program,
