@@ -1,15 +1,18 @@
 #!/usr/bin/env bash
 # Tries the edits that the gate leaves out, those of edits/NAME, beside those of crates/NAME/must-fail: the check must
 # refuse each.
-# Usage: tests/edits.sh [-j JOBS] [NAME..]     (every crate of edits/ where none is named)
+# Usage: tests/edits.sh [-n] [-j JOBS] [NAME..]     (every crate of edits/ where none is named)
+#   -n         says which of them can't be applied, and tries none, in seconds
 #   -j JOBS    so many checks side by side, whatever memory they take; without it rt chooses
 # Works on a copy, so that the tree may change meanwhile. An edit's check begins with what `rt check` kept of its crate on
 # this machine, and the crates below are those that `rt ci` proved here: run one of them before. Where neither did, rt
 # proves them in the copy.
 # Ends with 1 where an edit is not refused or can't be tried, with 2 where it is called wrongly.
 cd "$(dirname "$0")/.." || exit 2
-while getopts j: flag; do
+tries=yes
+while getopts nj: flag; do
     case $flag in
+        n) tries=no ;;
         j) export RT_JOBS=$OPTARG ;;
         *) exit 2 ;;
     esac
@@ -47,7 +50,11 @@ done
 # (it is the top of a repository)
 mkdir "$room/.git"
 
-python3 tests/libraries.py "$room" "${names[@]}"
+if [ "$tries" = no ]; then
+    python3 tests/edits.py applied "$room" "${names[@]}"
+    exit
+fi
+python3 tests/edits.py libraries "$room" "${names[@]}"
 (cd "$room" && rt must-fail "${names[@]}") 2>&1 | tee "$room/told"
 status=${PIPESTATUS[0]}
 

@@ -4,6 +4,7 @@ ghost use Rattle.asp_trail.specs.Reasons.{Stands, AreReasoned};
 ghost use Rattle.std.specs.List.{All};
 ghost use Rattle.asp_analyze.specs.Way.{AreUpTo};
 
+use crate::common::pair;
 use asp_analyze::learn::{Learned, Learner, learn};
 use asp_trail::reasons::{NogoodId, Reasons};
 use asp_trail::trail::Trail;
@@ -31,16 +32,6 @@ impl Reasons for Only {
     fn base(&self, _id: NogoodId) -> &Base {
         &self.nogood.base
     }
-}
-
-fn pair(heap: Global, first: Lit, second: Lit) -> Result<Nogood, AllocError>
-    ensures { IfOk result (λ n. n.lits ≡ first ∷ second ∷ []) }
-{
-    let lits = Lits::from_slice(heap, [first, second].as_slice())?;
-    Ok(Nogood {
-        lits,
-        base: Base::Pure,
-    })
 }
 
 fn triple(heap: Global, first: Lit, second: Lit, third: Lit) -> Result<Nogood, AllocError>

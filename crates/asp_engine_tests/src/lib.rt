@@ -8,6 +8,8 @@ mod bound;
 #[cfg(test)]
 mod choice;
 #[cfg(test)]
+mod common;
+#[cfg(test)]
 mod order;
 #[cfg(test)]
 mod sources;

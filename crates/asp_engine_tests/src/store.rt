@@ -2,6 +2,7 @@
 ghost use Rattle.std.specs.Prelude.{◌≡◌, ◌∷◌, [], IfOk};
 ghost use Rattle.asp_store.specs.Storing.{Fits};
 
+use crate::common::pair;
 use asp_store::propagation::Propagated;
 use asp_store::store::Store;
 use asp_trail::reasons::Reasons;
@@ -10,16 +11,6 @@ use asp_vars::lit::Lit;
 use asp_vars::nogood::{Base, Lits, Nogood};
 use std::alloc::{AllocError, Global};
 use std::test::Fail;
-
-fn pair(heap: Global, first: Lit, second: Lit) -> Result<Nogood, AllocError>
-    ensures { IfOk result (λ n. n.lits ≡ first ∷ second ∷ []) }
-{
-    let lits = Lits::from_slice(heap, [first, second].as_slice())?;
-    Ok(Nogood {
-        lits,
-        base: Base::Pure,
-    })
-}
 
 #[test]
 fn implies_again_after_an_undo(rt: HostRuntime) -> Result<(), Fail> {

@@ -1,12 +1,13 @@
 #!/usr/bin/env python3
-"""Gives a copy of the repository the libraries that `rt ci` proved of the same files on this machine.
+"""What tests/edits.sh needs of rt.
 
-    libraries.py COPY NAME..
+    edits.py libraries COPY NAME..     gives a copy of the repository the libraries that `rt ci` proved of the same files
+    edits.py applied COPY NAME..       says which edits of these crates can't be applied to their files
 
-Each crate below the named ones is taken from what `rt ci` keeps beside the kit, by the sum of all that it was proved from.
-Where rt has another form than the one that this script knows, nothing is taken: rt proves the libraries again then, which
-costs time alone.
+A library is taken from what `rt ci` keeps beside the kit, by the sum of all that it was proved from. Where rt has another
+form than the one that this script knows, nothing is taken: rt proves the libraries again then, which costs time alone.
 """
+import glob
 import importlib.machinery
 import importlib.util
 import os
@@ -46,17 +47,35 @@ def give(copy, names):
             yield crate.name, False
 
 
-def main():
-    copy, names = os.path.realpath(sys.argv[1]), sys.argv[2:]
-    os.chdir(copy)
+def libraries(copy, names):
     try:
         found = list(give(copy, names))
     except (AttributeError, KeyError, OSError, TypeError) as error:
         print(f"edits: the libraries are proved again, since this rt keeps them otherwise ({error!r})", flush=True)
-        return
+        return 0
     lacking = [name for name, is_kept in found if not is_kept]
     if lacking:
         print(f"edits: no rt ci proved {', '.join(lacking)} as they stand, so rt proves them now", flush=True)
+    return 0
+
+
+def applied(copy, names):
+    rt, count, bad = load_rt(), 0, 0
+    for name in names:
+        for edit in sorted(glob.glob(f"{copy}/crates/{name}/must-fail/*.edit")):
+            why = rt.read_edit(edit, f"{copy}/crates/{name}")[1]
+            count += 1
+            if why:
+                bad += 1
+                print(f"{name}/{os.path.basename(edit)}: {why}")
+    print(f"{count} edits, {bad} can't be applied")
+    return 1 if bad else 0
+
+
+def main():
+    command, copy, names = sys.argv[1], os.path.realpath(sys.argv[2]), sys.argv[3:]
+    os.chdir(copy)
+    sys.exit({"libraries": libraries, "applied": applied}[command](copy, names))
 
 
 if __name__ == "__main__":
