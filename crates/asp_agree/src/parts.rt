@@ -2,10 +2,10 @@
 ghost use Rattle.std.specs.Prelude.{◌≡◌, None, IfOk};
 ghost use Rattle.asp_vars.specs.Numbering.{var_count};
 
-use asp_propagate::engine::Engine;
 use asp_model::cost::Cost;
 use asp_model::program::{Body, Head, Minimize, Program, Rule};
 use asp_model::seq::Seq;
+use asp_propagate::engine::Engine;
 use asp_propagators::propagators::Propagators;
 use asp_vars::compile::compile;
 use asp_vars::compiled::Compiled;
@@ -96,7 +96,11 @@ fn follow_below_one(
     Ok(())
 }
 
-fn follow(rt: &impl Abort, heap: Global, engine: &mut Engine<Propagators<'_>>) -> Result<(), AllocError>
+fn follow(
+    rt: &impl Abort,
+    heap: Global,
+    engine: &mut Engine<Propagators<'_>>,
+) -> Result<(), AllocError>
     requires vars { var_count engine.old.program ≡ 9 }
     requires bound { engine.old.bound ≡ None }
 {

@@ -13,9 +13,9 @@ ghost use Rattle.asp_bound.specs.Kept.{AreSmall, AreVars};
 ghost use Rattle.asp_bound.specs.Gathered.{IsGathered, AreGathered, HasEach};
 
 use crate::place::{Addition, Item, Place};
-use asp_model::cost::priorities;
 use crate::rise::{beneath, rise};
 use crate::weights::weights_at;
+use asp_model::cost::priorities;
 use asp_table::buckets::Buckets;
 use asp_table::table::Table;
 use asp_vars::compiled::Compiled;

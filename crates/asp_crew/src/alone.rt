@@ -18,10 +18,10 @@ ghost use Rattle.asp_crew.specs.Running.{root_cube, IsUnderway, Goes, Ends, IsOv
 
 use crate::found::{Found, keep_answer};
 use crate::report::Report;
-use asp_propagate::propagator::Propagator;
 use asp_model::program::Program;
 use asp_model::results::{End, Mode, Results};
 use asp_model::seq::Seq;
+use asp_propagate::propagator::Propagator;
 use asp_propagators::propagators::Propagators;
 use asp_search::search::Search;
 use asp_search_laws::step::Step;

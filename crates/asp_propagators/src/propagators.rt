@@ -10,8 +10,8 @@ ghost use Rattle.std.specs.Prelude.{◌≡◌, None, IfOk};
 ghost use Rattle.asp_bound.specs.Gathered.{valueless};
 
 use asp_bound::bound::Bound;
-use asp_propagate::propagator::Propagator;
 use asp_model::cost::Cost;
+use asp_propagate::propagator::Propagator;
 use asp_source::sources::Sources;
 use asp_trail::trail::Trail;
 use asp_vars::compiled::Compiled;

@@ -62,7 +62,11 @@ fn is_spare<P: Propagator>(state: &SearchState<P>, lits: &[Lit], id: NogoodId) -
 }
 
 // Drops the newest nogood of the list if it begins with these literals and is no reason. Says whether it was dropped.
-fn drop_last<P: Propagator>(state: &mut SearchState<P>, bars: &mut Vec<NogoodId>, lits: &[Lit]) -> bool
+fn drop_last<P: Propagator>(
+    state: &mut SearchState<P>,
+    bars: &mut Vec<NogoodId>,
+    lits: &[Lit],
+) -> bool
     requires { AreBars state.old.slots bars.old.items }
     ensures bars { AreBars state.new.slots bars.new.items }
     ensures same { state.new ≡ record state.old { slots = state.new.slots } }

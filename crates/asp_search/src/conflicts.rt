@@ -10,9 +10,9 @@ ghost use Rattle.asp_state.specs.SearchStates.{IsUnder};
 ghost use Rattle.asp_search.specs.Meeting.{ShowsConflict, IsClashOf};
 
 use asp_analyze::learn::{Learned, Learner};
-use asp_propagate::propagator::Propagator;
 use asp_model::cost::Cost;
 use asp_model::interp::Interp;
+use asp_propagate::propagator::Propagator;
 use asp_state::state::SearchState;
 use asp_trail::reasons::{NogoodId, Reasons};
 use asp_vars::compiled::Compiled;

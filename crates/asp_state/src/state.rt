@@ -26,10 +26,10 @@ ghost use Rattle.asp_state.specs.SearchStates.{forever, path_of, values_of, AreO
 
 use crate::assume::assume_all;
 use crate::completed::completed;
+use asp_model::cost::Cost;
 use asp_order::order::Order;
 use asp_propagate::engine::Engine;
 use asp_propagate::propagator::Propagator;
-use asp_model::cost::Cost;
 use asp_store::store::Store;
 use asp_trail::reasons::NogoodId;
 use asp_trail::trail::Trail;
@@ -83,7 +83,11 @@ impl<P: Propagator> SearchState<P> {
     /// No path is entered. The completion is kept, and nothing else.
     ///
     /// Want of memory is the one error.
-    pub fn new(alloc: Global, compiled: &Compiled, propagator: P) -> Result<SearchState<P>, AllocError>
+    pub fn new(
+        alloc: Global,
+        compiled: &Compiled,
+        propagator: P,
+    ) -> Result<SearchState<P>, AllocError>
         requires program { (P.told propagator).program ≡ compiled.now }
         requires fresh { (P.told propagator).values ≡ replicate (var_count compiled.now + 1) None }
         ensures { IfOk result (λ t. t ≡ record {

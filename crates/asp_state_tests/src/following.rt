@@ -6,11 +6,11 @@ ghost use Rattle.asp_vars.specs.Numbering.{var_count};
 ghost use Rattle.asp_vars.specs.declared.nogood.Base.TheVariants as base;
 ghost use Rattle.asp_propagate.specs.Propagating.{with_nogood};
 
-use asp_propagate::engine::Engine;
-use asp_propagate::propagator::Propagator;
 use asp_model::cost::Cost;
 use asp_model::program::{Body, Head, Program, Rule};
 use asp_model::seq::Seq;
+use asp_propagate::engine::Engine;
+use asp_propagate::propagator::Propagator;
 use asp_trail::reasons::NogoodId;
 use asp_trail::trail::Trail;
 use asp_vars::assign::Assign;

@@ -8,10 +8,10 @@ ghost use Rattle.asp_store.specs.declared.kept.Kept.{Kept};
 ghost use Rattle.asp_store.specs.Keeping.{kept_at};
 ghost use Rattle.asp_state.specs.SearchStates.{IsUnder};
 
-use asp_propagate::propagator::Propagator;
 use asp_model::cost::Cost;
 use asp_model::program::{Body, Head, Program, Rule};
 use asp_model::seq::Seq;
+use asp_propagate::propagator::Propagator;
 use asp_state::state::SearchState;
 use asp_trail::reasons::NogoodId;
 use asp_trail::trail::Trail;
