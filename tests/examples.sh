@@ -1,6 +1,6 @@
 #!/usr/bin/env bash
-# Runs every example, every row, every refusal and every command of the README through the built program, and compares
-# bytes and status.
+# Runs every example, every row, every refusal, the README's commands that call it and the programs that need a good search
+# through the built program, and compares bytes and status.
 # Usage: tests/examples.sh [PROGRAM]     (the program is build/aspenum where none is named)
 cd "$(dirname "$0")/.." || exit 1
 program=${1:-build/aspenum}
@@ -78,6 +78,9 @@ check "counts" 30 "$wanted" "$?" "$notes"
 
 # The commands of the README: each line '$ COMMAND' of its text blocks, with what follows it.
 python3 tests/readme.py "$program" README.md || failed=$((failed + 1))
+
+# Programs that are refuted within so many conflicts.
+python3 tests/search.py "$program" || failed=$((failed + 1))
 
 echo "examples: $passed passed, $failed failed"
 [ "$failed" -eq 0 ]
