@@ -69,13 +69,13 @@ fn check<R: Reasons>(
     requires few { AreUpTo 8 trail.now.entries }
 {
     let _len = trail.len();
-    let (from, base) = (nogood.lits.as_slice(), &nogood.base);
+    let from = nogood.lits.as_slice();
     let mut learner = Learner::new(heap, 8)?;
-    let first = learner.learn(trail, reasons, from, base)?;
+    let first = learner.learn(trail, reasons, from, &nogood.base)?;
     assert!(rt; is_learnt(&first, lits, jump));
-    let second = learner.learn(trail, reasons, from, base)?;
+    let second = learner.learn(trail, reasons, from, &nogood.base)?;
     assert!(rt; is_learnt(&second, lits, jump));
-    let third = learn(heap, trail, reasons, from, base)?;
+    let third = learn(heap, trail, reasons, from, &nogood.base)?;
     assert!(rt; is_learnt(&third, lits, jump));
     Ok(())
 }

@@ -1,10 +1,7 @@
 -- The ranking in which a search begins.
-use Rattle.std.proofs.Common.{◌≡◌, ◌∙◌, ℕ, ◌+◌, ◌<◌, ◌≤◌, Bool, true, List, [], ◌∷◌, length, replicate, fold, map, get_or, refl, sym, ap, subst, arith}
+use Rattle.std.proofs.Common.{◌≡◌, ℕ, ◌+◌, ◌<◌, List, [], ◌∷◌, fold, map, refl, arith}
 use Rattle.std.specs.List.{All}
-use Rattle.asp_model.specs.declared.program.Program.{Program}
 use Rattle.asp_vars.specs.Literals.{Literal}
-use Rattle.asp_vars.specs.Numbering.{var_count}
-use Rattle.asp_vars.specs.Completion.{completion}
 use Rattle.asp_vars.specs.declared.nogood.Nogood.{Nogood}
 use Rattle.asp_trail.specs.Trails.{IsVar}
 use Rattle.asp_complete.specs.Listed.{pure}

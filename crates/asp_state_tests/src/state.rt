@@ -252,6 +252,27 @@ fn decides_what_was_bumped(rt: HostRuntime) {
     assert!(rt; decided == Some(Lit::new(2, false)));
 }
 
+// Under the cube in which the second atom is true.
+fn enter_second(rt: &impl Abort, heap: Global, state: &mut SearchState<Mute>)
+    requires { var_count state.old.program ≡ 3 }
+{
+    state
+        .enter(heap, [Lit::new(2, true)].as_slice())
+        .expect(rt, "memory");
+}
+
+// It is decided to have the value that it had last.
+#[test]
+fn decides_what_was_true_to_be_true(rt: HostRuntime) {
+    let heap = rt.alloc();
+    let mut state = start(&rt, heap);
+    state.bump([Lit::new(2, true)].as_slice(), [].as_slice());
+    enter_second(&rt, heap, &mut state);
+    enter_none(&rt, heap, &mut state);
+    let decided = go_on(&mut state).expect(&rt, "memory");
+    assert!(rt; decided == Some(Lit::new(2, true)));
+}
+
 #[test]
 fn tells_the_bound(rt: HostRuntime) {
     let heap = rt.alloc();

@@ -1,11 +1,11 @@
-use Rattle.std.proofs.Common.{◌≡◌, ◌≤◌, ◌<◌, ℕ, List, true, false, length, refl, sym, subst}
+use Rattle.std.proofs.Common.{◌≡◌, ◌≤◌, ◌<◌, ℕ, List, true, refl, sym, subst}
 use Rattle.std.specs.List.{All}
 use Rattle.asp_vars.specs.Literals.{Literal, has_literal}
 use Rattle.asp_vars.specs.declared.nogood.Nogood.{Nogood}
 use Rattle.asp_trail.specs.Entries.{level_in}
-use Rattle.asp_analyze.specs.Marks.{Marked, mark_of, is_met}
+use Rattle.asp_analyze.specs.Marks.{Marked}
 use Rattle.asp_analyze.specs.Learning.{Used, IsReached, AreContained, AreAssumed}
-use Rattle.asp_analyze.specs.Way.{IsOn, CanStay, Noted, IsOnTheWay, IsReady}
+use Rattle.asp_analyze.specs.Way.{IsOn, Noted, IsOnTheWay, IsReady}
 use Rattle.asp_analyze.proofs.EndLaws.{all_on, all_small, all_stay, marked_begins, way_begins, down_begins, left_all_on, left_reached, left_contained, left_assumed, ready}
 use Rattle.asp_analyze.proofs.learn.analyse.Goals as goal
 

@@ -1,11 +1,10 @@
 use Rattle.std.proofs.Common.{◌≡◌, ◌∙◌, ℕ, ◌+◌, List, Bool, length, fold, get_or, ap, sym, subst, true}
 use Rattle.std.specs.List.{All}
-use Rattle.asp_vars.specs.Literals.{Literal}
 use Rattle.asp_vars.specs.Numbering.{var_count}
 use Rattle.asp_vars.specs.Completion.{completion}
 use Rattle.asp_vars.specs.declared.nogood.Nogood.{Nogood}
 use Rattle.asp_order.specs.Heaps.{Ranking, is_in}
-use Rattle.asp_order.specs.Waiting.{HasVars, fresh}
+use Rattle.asp_order.specs.Waiting.{fresh}
 use Rattle.asp_trail.specs.Trails.{IsVar}
 use Rattle.asp_order.proofs.HeapLaws.{IsAlike}
 use Rattle.asp_trail_laws.proofs.VarLaws.{completion_are_vars}

@@ -2,7 +2,6 @@ use Rattle.std.proofs.Common.{◌≡◌, List, [], map, Option, None, false, sym
 use Rattle.std.specs.Prelude.{ℕ, ℤ}
 use Rattle.asp_model.specs.Sets.{Atoms}
 use Rattle.asp_vars.specs.Completion.{completion}
-use Rattle.asp_vars.specs.Numbering.{var_count}
 use Rattle.asp_state.specs.SearchStates.{SearchView, first_ranking, forever}
 use Rattle.asp_search.specs.Beside.{new_search}
 use Rattle.asp_search.specs.Invariants.{IsSearch, view_of}

@@ -1,6 +1,4 @@
-use Rattle.std.proofs.Common.{ℕ, false, None, refl, sym, subst}
-use Rattle.asp_trail.specs.Trails.{IsVar}
-use Rattle.asp_order.specs.Waiting.{HasVars}
+use Rattle.std.proofs.Common.{false, None, refl, sym, subst}
 use Rattle.asp_propagate.specs.Propagating.{Propagating}
 use Rattle.asp_state.proofs.KeepLaws.{IsSearchView}
 use Rattle.asp_state.proofs.SlotLaws.{completed_first}
