@@ -41,6 +41,11 @@ search_from p m t u vars checker known bars bound last new program bounded usefu
   alone = s.alone;
 }
 
+-- a checker of the same program
+pub search_checked : (p : Program) (m : Mode) (t : SearchView) (vars : ℕ) (checker new : Program) (known : List Atoms) (bars : List ℕ) (bound : Option (List ℤ)) (last : Option ℕ) → new ≡ checker →
+    IsSearch p m t vars checker known bars bound last → IsSearch p m t vars new known bars bound last
+search_checked p m t vars checker new known bars bound last same s = subst (λ (x : Program). IsSearch p m t vars x known bars bound last) (sym same) s
+
 -- the same nogoods
 pub search_same : (p : Program) (m : Mode) (t u : SearchView) (vars : ℕ) (checker : Program) (known : List Atoms) (bars : List ℕ) (bound : Option (List ℤ)) (last new : Option ℕ) → u.program ≡ t.program → u.bound ≡ t.bound →
     u.slots ≡ t.slots → IsLast u.slots new → IsSearch p m t vars checker known bars bound last → IsSearch p m u vars checker known bars bound new

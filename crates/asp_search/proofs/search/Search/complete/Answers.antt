@@ -11,14 +11,14 @@ use Rattle.asp_propagate.specs.Propagating.{IsQuiet}
 use Rattle.asp_trail_laws.specs.Whole.{atoms_on}
 use Rattle.asp_search_laws.specs.Faults.{IsFault}
 use Rattle.asp_search_laws.specs.Searching.{Searching, values_now}
-use Rattle.asp_search_laws.specs.Steps.{IsStep, IsFailure}
+use Rattle.asp_search_laws.specs.Steps.{Answers, IsStep, IsFailure}
 use Rattle.asp_search_laws.proofs.StepLaws.{Continues, steps_on, fails_on}
 use Rattle.asp_state.specs.SearchStates.{SearchView, values_of, IsUnder}
 use Rattle.asp_search.specs.Invariants.{view_of}
 use Rattle.asp_search.specs.Stepping.{IsEntered, IsFound}
 use Rattle.asp_search.proofs.BelowLaws.{fault_useful, fault_continues}
 use Rattle.asp_search.proofs.JumpedLaws.{for_now}
-use Rattle.asp_search.proofs.SearchLaws.{search_push, push_last}
+use Rattle.asp_search.proofs.SearchLaws.{search_checked, search_push, push_last}
 use Rattle.asp_search.proofs.StepsLaws.{always_err, fails_here, fails_still}
 use Rattle.asp_search.proofs.WholeLaws.{IsFull, full_whole, full_found, whole_for, atoms_for, found_for, stable_for}
 use Rattle.asp_search.proofs.search.Search.complete.Goals as goal
@@ -58,10 +58,12 @@ fault-requires-clause-whole g c =
 
 pub returns-in_err-fault-clause-err : goal.returns-in_err-fault-clause-err
 returns-in_err-fault-clause-err g c =
+    let i = c.self.inside in
     let s = c.args.self.now in
     let f = c.args.fuel.now in
     let G = g.P.Propagator.gives s.program s.bound in
-    always_err c.from_residual-in_err-fault.result (IsFailure G s s f f) (fails_here G s f)
+    let new : Searching = view_of i.mode i.state i.pace i.known.items i.last in
+    always_err c.from_residual-in_err-fault.result (IsFailure G s new f f) (fails_still G s new f c.self.view_is)
 
 pub answer-requires : goal.answer-requires
 answer-requires g c =
@@ -89,14 +91,13 @@ answer-requires g c =
       barred = c.self.invariant.barred;
     } in
     let atoms = atoms_for p c.trail.result.now.vars t c.trail.result.now.entries S c.self.invariant.program c.trail.ensures.vars c.trail.ensures.entries c.in_ok-interp.ensures in
-    let verdict = subst (λ (r : Option Nogood). MatchOption r (IsTrue (is_stable p S)) (IsFault p (g.P.Propagator.gives p t.bound) (var_count p) t.entries)) c.in-None.is c.in_ok-fault.ensures in
+    let verdict = subst (λ (r : Option Nogood). MatchOption r (IsTrue (is_stable p S)) (IsFault p (g.P.Propagator.gives p t.bound) (var_count p) t.entries)) c.in-None.is c.in_ok-fault.ensures.fault in
     let found = full_found silent i.known.items t q full (λ v w h. g.met.P.Propagator.whole t.program t.bound (values_of t) v sound w h) i.mode i.pace i.last
     (stable_for p t S c.self.invariant.program atoms verdict) in (
       q,
-      c.requires.entered.1,
-      subst (λ (x : Searching). IsFound x q S) c.self.view_is
-          (found_for (view_of i.mode t i.pace i.known.items i.last) q S (atoms_on t.program (var_count t.program) t.entries)
-          (atoms ∙ ap (λ (x : Program). atoms_on x (var_count x) t.entries) c.self.invariant.program) found),
+      e,
+      found_for (view_of i.mode t i.pace i.known.items i.last) q S (atoms_on t.program (var_count t.program) t.entries)
+          (atoms ∙ ap (λ (x : Program). atoms_on x (var_count x) t.entries) c.self.invariant.program) found,
     )
 
 pub returns-in_err-answer-in-None-clause-err : goal.returns-in_err-answer-in-None-clause-err
@@ -104,7 +105,7 @@ returns-in_err-answer-in-None-clause-err g c =
     let s = c.args.self.now in
     let f = c.args.fuel.now in
     let G = g.P.Propagator.gives s.program s.bound in
-    always_err c.from_residual-in_err-answer-in-None.result (IsFailure G s c.answer.new.self f f) (fails_still G s c.answer.new.self f c.in_err-answer-in-None.ensures.err)
+    always_err c.from_residual-in_err-answer-in-None.result (IsFailure G s c.answer.new.self f f) (fails_still G s c.answer.new.self f (c.in_err-answer-in-None.ensures.err ∙ c.self.view_is))
 
 pub returns-in_err-id-in-Some-clause-err : goal.returns-in_err-id-in-Some-clause-err
 returns-in_err-id-in-Some-clause-err g c =
@@ -125,16 +126,20 @@ invariant_of-self-in-Some g c =
     let u = c.keep.new.self in
     let e = c.in_ok-id-in-Some.ensures.ok in
     let verdict = subst (λ (r : Option Nogood). MatchOption r (IsTrue (is_stable p c.in_ok-interp.interp)) (IsFault p (g.P.Propagator.gives p t.bound) (var_count p) t.entries)) c.in-Some.is
-    c.in_ok-fault.ensures in
+    c.in_ok-fault.ensures.fault in
     let fault : IsFault t.program (g.P.Propagator.gives t.program t.bound) (var_count t.program) t.entries n =
     subst (λ (x : Program). IsFault x (g.P.Propagator.gives x t.bound) (var_count x) t.entries n) c.self.invariant.program verdict in
     let slots = ap (λ (x : SearchView). x.slots) e in
-    search_push p i.mode t u i.learner i.checker i.known.items i.bars.items i.bound i.last i.last (for_now n) (ap (λ (x : SearchView). x.program) e) (ap (λ (x : SearchView). x.bound) e) slots
+    search_push p i.mode t u i.learner c.fault.new.checker i.known.items i.bars.items i.bound i.last i.last (for_now n) (ap (λ (x : SearchView). x.program) e) (ap (λ (x : SearchView). x.bound) e) slots
     (fault_useful t.program i.known.items t.bound (g.P.Propagator.gives t.program t.bound) (var_count t.program) t.entries n fault)
-    (push_last t.slots u.slots (for_now n) i.last slots c.self.invariant.last_stands) c.self.invariant
+    (push_last t.slots u.slots (for_now n) i.last slots c.self.invariant.last_stands)
+    (search_checked p i.mode t i.learner i.checker c.fault.new.checker i.known.items i.bars.items i.bound i.last c.fault.ensures.same c.self.invariant)
 
 pub returns-in_ok-answer-in-None-clause-ok : goal.returns-in_ok-answer-in-None-clause-ok
-returns-in_ok-answer-in-None-clause-ok g c = λ q e. c.in_ok-answer-in-None.ensures.ok q c.args.fuel.now e
+returns-in_ok-answer-in-None-clause-ok g c = λ q e.
+    let f = c.args.fuel.now in
+    subst (λ (x : Searching). Answers (g.P.Propagator.gives x.program x.bound) x c.answer.new.self q f f c.in_ok-interp.interp) c.self.view_is
+    (c.in_ok-answer-in-None.ensures.ok q f (ap (λ (x : Searching). x.cube) c.self.view_is ∙ e))
 
 pub returns-in_ok-id-in-Some-clause-ok : goal.returns-in_ok-id-in-Some-clause-ok
 returns-in_ok-id-in-Some-clause-ok g c =
@@ -147,7 +152,7 @@ returns-in_ok-id-in-Some-clause-ok g c =
     let u = c.keep.new.self in
     let m : Searching = view_of i.mode u i.pace i.known.items i.last in
     let verdict = subst (λ (r : Option Nogood). MatchOption r (IsTrue (is_stable p c.in_ok-interp.interp)) (IsFault p (g.P.Propagator.gives p t.bound) (var_count p) t.entries)) c.in-Some.is
-    c.in_ok-fault.ensures in
+    c.in_ok-fault.ensures.fault in
     let fault : IsFault t.program (g.P.Propagator.gives t.program t.bound) (var_count t.program) t.entries n =
     subst (λ (x : Program). IsFault x (g.P.Propagator.gives x t.bound) (var_count x) t.entries n) c.self.invariant.program verdict in
     let on : Continues (g.P.Propagator.gives s.program s.bound) s m =
@@ -169,7 +174,7 @@ returns-in_ok-id-in-Some-clause-err g c =
     let u = c.keep.new.self in
     let m : Searching = view_of i.mode u i.pace i.known.items i.last in
     let verdict = subst (λ (r : Option Nogood). MatchOption r (IsTrue (is_stable p c.in_ok-interp.interp)) (IsFault p (g.P.Propagator.gives p t.bound) (var_count p) t.entries)) c.in-Some.is
-    c.in_ok-fault.ensures in
+    c.in_ok-fault.ensures.fault in
     let fault : IsFault t.program (g.P.Propagator.gives t.program t.bound) (var_count t.program) t.entries n =
     subst (λ (x : Program). IsFault x (g.P.Propagator.gives x t.bound) (var_count x) t.entries n) c.self.invariant.program verdict in
     let on : Continues (g.P.Propagator.gives s.program s.bound) s m =
