@@ -1,8 +1,8 @@
 -- What is derived counts for the search.
-use Rattle.std.proofs.Common.{◌≡◌, ℕ, Bool, true, false, not, ◌&&◌, List, ◌∷◌, get_or, Option, Some, refl, sym, ap, ap₂, ◌∙◌, subst, []}
+use Rattle.std.proofs.Common.{◌≡◌, ℕ, Bool, true, false, not, ◌&&◌, List, ◌∷◌, get_or, Option, Some, refl, sym, ap, ◌∙◌, subst, []}
 use Rattle.std.specs.Prelude.{ℤ, IsTrue}
 use Rattle.std.specs.List.{list_any}
-use Rattle.std.proofs.lemmas.Bool.{false≢true, not-true, false_from_ne_true}
+use Rattle.std.proofs.lemmas.Bool.{false≢true, false_from_ne_true}
 use Rattle.asp_model.specs.declared.program.Program.{Program}
 use Rattle.asp_model.specs.Sets.{Atoms}
 use Rattle.asp_model.specs.Models.{is_stable}
@@ -11,20 +11,15 @@ use Rattle.asp_model.proofs.MemberLaws.{each_weaker}
 use Rattle.asp_vars.specs.Literals.{Literal, complement, is_true, hits}
 use Rattle.asp_vars.specs.Numbering.{var_count, values}
 use Rattle.asp_vars.specs.Completion.{completion}
-use Rattle.asp_vars.specs.Entailment.{Entailed, IsGood, excuse}
+use Rattle.asp_vars.specs.Entailment.{Entailed}
 use Rattle.asp_vars.specs.declared.nogood.Base.{Base}
 use Rattle.asp_vars.specs.declared.nogood.Base.TheVariants as base
 use Rattle.asp_vars.specs.declared.nogood.Nogood.{Nogood}
 use Rattle.asp_vars.proofs.CompletionLaws.{completion_entailed}
 use Rattle.asp_vars.proofs.LiteralLaws.{is_true-complement}
-use Rattle.asp_trail.specs.declared.trail.Entry.{Entry}
-use Rattle.asp_trail.specs.Reasons.{AreReasoned}
-use Rattle.asp_trail.specs.Trails.{IsOrdered}
-use Rattle.asp_analyze.specs.Learning.{Used, IsReached}
 use Rattle.asp_found.specs.Verdicts.{IsListed}
 use Rattle.asp_found.proofs.RestLaws.{none_passes}
-use Rattle.asp_loop.specs.LoopNogoods.{IsLoopNogood}
-use Rattle.asp_propagate.specs.Useful.{Counts, IsUseful}
+use Rattle.asp_propagate.specs.Useful.{IsUseful}
 use Rattle.asp_search_laws.specs.Axioms.{IsAxiom, IsDerived}
 use Rattle.asp_search_laws.proofs.UsefulLaws.{reached_useful}
 

@@ -1,6 +1,6 @@
 -- A nogood that the set of a whole trail hits.
 use Rattle.std.proofs.Common.{◌≡◌, ℕ, zero, suc, ◌<◌, ◌≤◌, Bool, true, false, cond, not, ◌&&◌, ltb, leb, List, ◌∷◌, map, length, get_or, Option, Some, None, ℤ, pos, ◌+ℤ◌, int_lt, inl, inr, ◌⊎◌, refl, sym, ap, ap₂, ◌∙◌, subst, arith, [], ◌||◌}
-use Rattle.std.specs.List.{All, list_all, list_any}
+use Rattle.std.specs.List.{list_all, list_any}
 use Rattle.std.proofs.lemmas.Bool.{false≢true, and_parts, and_from, cases_lt}
 use Rattle.std.proofs.lemmas.Bool.Decides.{nat_tests}
 use Rattle.std.proofs.lemmas.List.{length-map}

@@ -5,7 +5,7 @@ use Rattle.std.proofs.lemmas.List.{length-append, length-take-le, get_or-take}
 use Rattle.asp_vars.specs.Literals.{Literal, complement, has_literal, literal_eq, holds_in, value_of}
 use Rattle.asp_vars.proofs.LiteralLaws.{same_literal}
 use Rattle.asp_trail.specs.declared.trail.Entry.{Entry}
-use Rattle.asp_trail.specs.Entries.{assignment, level, level_in, cut}
+use Rattle.asp_trail.specs.Entries.{assignment, level_in, cut}
 use Rattle.asp_trail.specs.Reasons.{Stands, IsReason}
 use Rattle.asp_trail.specs.Trails.{IsOrdered, IsVar}
 use Rattle.asp_trail.proofs.EntryLaws.{fold_without, none_at}
