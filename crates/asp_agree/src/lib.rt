@@ -9,6 +9,4 @@ mod failing;
 #[cfg(test)]
 mod parts;
 #[cfg(test)]
-mod shared;
-#[cfg(test)]
 mod tests;
