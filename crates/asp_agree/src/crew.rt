@@ -8,7 +8,6 @@ use asp_model::program::{Atom, Body, Head, Minimize, Program, Rule};
 use asp_model::results::{End, Mode};
 use asp_model::seq::Seq;
 use asp_vars::compile::compile;
-use asp_vars::compiled::Compiled;
 use std::alloc::{AllocError, Global};
 use std::process::Abort;
 use std::test::Fail;
@@ -50,13 +49,13 @@ fn priced(heap: Global) -> Result<Vec<Minimize>, AllocError> {
     Ok(vec![in heap; minimize]?)
 }
 
-// Two free atoms, of whose literals these pairs are excluded.
-pub(crate) fn compiled(
+fn solved(
     rt: &impl Abort,
     heap: Global,
-    pairs: &[(i32, i32)],
-) -> Result<Compiled, AllocError> {
-    let rules = without(heap, pairs)?;
+    rules: Vec<Rule>,
+    mode: Mode,
+    budget: u64,
+) -> Result<Report, AllocError> {
     let minimize = priced(heap)?;
     let program = Program {
         rules: Seq::from_vec(rules),
@@ -66,7 +65,8 @@ pub(crate) fn compiled(
         assumptions: Seq::from_vec(Vec::new(heap)),
     };
     assert!(rt; program.is_sound());
-    compile(heap, program)
+    let compiled = compile(heap, program)?;
+    solve_alone(heap, &compiled, mode, budget)
 }
 
 fn run(
@@ -76,8 +76,8 @@ fn run(
     mode: Mode,
     budget: u64,
 ) -> Result<Report, AllocError> {
-    let compiled = compiled(rt, heap, pairs)?;
-    solve_alone(heap, &compiled, mode, budget)
+    let rules = without(heap, pairs)?;
+    solved(rt, heap, rules, mode, budget)
 }
 
 fn is(answers: &[Interp], i: usize, atoms: &[Atom]) -> bool {

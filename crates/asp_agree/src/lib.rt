@@ -6,6 +6,4 @@ mod crew;
 #[cfg(test)]
 mod parts;
 #[cfg(test)]
-mod shared;
-#[cfg(test)]
 mod tests;

@@ -1,5 +1,5 @@
 -- What goes to other searches: a literal by which a path can be split, and nogoods that hold everywhere.
-use Rattle.std.proofs.Common.{◌≡◌, ℕ, ◌<◌, Bool, true, false, not, ◌&&◌, ◌||◌, ◌==◌, List, ◌∷◌, length, get_or, slice_get, Option, Some, None, IfSome, refl, sym, ap, ◌∙◌, subst, arith, []}
+use Rattle.std.proofs.Common.{◌≡◌, ℕ, ◌<◌, Bool, true, false, not, ◌||◌, ◌==◌, List, ◌∷◌, length, get_or, slice_get, Option, Some, IfSome, refl, sym, ap, ◌∙◌, subst, arith, []}
 use Rattle.std.specs.Prelude.{ℤ, nat_le}
 use Rattle.std.proofs.lemmas.Bool.{false≢true, eqb-true, false_from_ne_true}
 use Rattle.asp_model.specs.declared.program.Program.{Program}
@@ -29,17 +29,15 @@ use Rattle.asp_search.specs.Beside.{is_local, is_shared, IsShared, IsSharedBy, h
 -- ---- the first decision
 var_found : (q : List Literal) (v : ℕ) → has_var q v ≡ true → (k : Literal) × (has_literal q k ≡ true) × (k.var ≡ v)
 var_found [] v h = absurd (false≢true h)
-var_found (l ∷ q) v h = cases (l.var == v) refl
+var_found (l ∷ q) v h = cases (l.var == v) refl (var_found q v)
   where
-    cases : (b : Bool) → b ≡ (l.var == v) → (k : Literal) × (has_literal (l ∷ q) k ≡ true) × (k.var ≡ v)
-    cases true e = (l, ap (λ b. b || has_literal q l) (eq_itself l), eqb-true l.var v (sym e))
-    cases false e =
-        let f = var_found q v (ap (λ b. b || has_var q v) e ∙ h) in
-        (f.0, later (literal_eq l f.0) (has_literal q f.0) f.1, f.2)
-      where
-        later : (a b : Bool) → b ≡ true → (a || b) ≡ true
-        later true b e = refl
-        later false b e = e
+    later : (a b : Bool) → b ≡ true → (a || b) ≡ true
+    later true b e = refl
+    later false b e = e
+
+    cases : (b : Bool) → b ≡ (l.var == v) → (has_var q v ≡ true → (k : Literal) × (has_literal q k ≡ true) × (k.var ≡ v)) → (k : Literal) × (has_literal (l ∷ q) k ≡ true) × (k.var ≡ v)
+    cases true e rest = (l, ap (λ b. b || has_literal q l) (eq_itself l), eqb-true l.var v (sym e))
+    cases false e rest = let f = rest (ap (λ b. b || has_var q v) e ∙ h) in (f.0, later (literal_eq l f.0) (has_literal q f.0) f.1, f.2)
 
 module _ (vars : ℕ) (q ds : List Literal) (d : Literal) (es : List Entry) (o : IsOrdered vars es) (s : AreStarts q (d ∷ ds) es) where
   decided : (i : ℕ) × (i < length es) × ((get_or es i blank).lit ≡ d) × ((get_or es i blank).level ≡ 1)

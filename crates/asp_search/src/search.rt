@@ -238,7 +238,7 @@ impl<'a, P: Propagator> Search<'a, P> {
     /// The first decision, if one stands: a literal by which the path can be split.
     pub fn first(&self) -> Option<Lit>
         ensures value { result ≡ slice_get self.now.decisions 0 }
-        ensures open { (q : List Literal) → self.now.cube ≡ Some q → IfSome result (IsOpen self.now.program q) }
+        ensures splits { (q : List Literal) → self.now.cube ≡ Some q → IfSome result (IsOpen self.now.program q) }
     {
         let _trail = self.state.trail();
         let _clashing = self.state.is_clashing();

@@ -1,8 +1,7 @@
-use Rattle.std.proofs.Common.{◌≡◌, ℕ, List, Option, Some, sym, ap, ◌∙◌, subst}
+use Rattle.std.proofs.Common.{ℕ, List, Option, sym, ap, ◌∙◌, subst}
 use Rattle.asp_vars.specs.Numbering.{var_count}
 use Rattle.asp_trail.specs.declared.trail.Entry.{Entry}
 use Rattle.asp_trail.specs.Reasons.{AreReasoned}
-use Rattle.asp_trail.specs.Trails.{IsOrdered}
 use Rattle.asp_store.specs.declared.kept.Kept.{Kept}
 use Rattle.asp_store.specs.Keeping.{nogood_at}
 use Rattle.asp_analyze.specs.Way.{AreUpTo}

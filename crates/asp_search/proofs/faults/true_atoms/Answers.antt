@@ -1,4 +1,4 @@
-use Rattle.std.proofs.Common.{refl, sym, ◌∙◌, subst, arith}
+use Rattle.std.proofs.Common.{refl, sym, ◌∙◌, subst}
 use Rattle.asp_model.specs.Sets.{IsAscending}
 use Rattle.asp_trail.specs.Entries.{assignment}
 use Rattle.asp_search.proofs.TrueLaws.{held_step, held_end, held_ascends}

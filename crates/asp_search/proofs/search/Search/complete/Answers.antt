@@ -1,16 +1,13 @@
-use Rattle.std.proofs.Common.{◌≡◌, ℕ, Bool, List, Option, Some, None, IsTrue, sym, ap, ◌∙◌, subst}
+use Rattle.std.proofs.Common.{◌≡◌, Option, IsTrue, sym, ap, ◌∙◌, subst}
 use Rattle.std.specs.Prelude.{MatchOption}
 use Rattle.std.proofs.lemmas.Result.{IfOk-weaker, on_err_weaker}
 use Rattle.asp_model.specs.declared.program.Program.{Program}
 use Rattle.asp_model.specs.Models.{is_stable}
 use Rattle.asp_model.specs.Sound.{IsSound}
-use Rattle.asp_vars.specs.Literals.{Literal}
 use Rattle.asp_vars.specs.Numbering.{var_count}
 use Rattle.asp_vars.specs.declared.nogood.Nogood.{Nogood}
 use Rattle.asp_order.specs.Waiting.{AreAssigned}
 use Rattle.asp_propagate.specs.Propagating.{IsQuiet}
-use Rattle.asp_propagate.specs.Whole.{KeepsAll}
-use Rattle.asp_propagate.specs.Whole as follow
 use Rattle.asp_trail_laws.specs.Whole.{atoms_on}
 use Rattle.asp_search_laws.specs.Faults.{IsFault}
 use Rattle.asp_search_laws.specs.Searching.{Searching, values_now}

@@ -5,8 +5,8 @@ use Rattle.asp_search.specs.Beside.{IsOpen}
 use Rattle.asp_search.proofs.OpenLaws.{first_open}
 use Rattle.asp_search.proofs.search.Search.first.Goals as goal
 
-pub returns-clause-open : goal.returns-clause-open
-returns-clause-open g c = λ q e.
+pub returns-clause-splits : goal.returns-clause-splits
+returns-clause-splits g c = λ q e.
     let t = c.self.inside.state in
     let entered = ap (λ (x : Searching). x.cube) c.self.view_is ∙ e in
     let first = c.copied.ensures ∙ (c.first.ensures.value ∙ ap (λ (ds : List Literal). slice_get ds 0) c.decisions.ensures) in

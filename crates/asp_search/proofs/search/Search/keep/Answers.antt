@@ -1,5 +1,4 @@
-use Rattle.std.proofs.Common.{false, List, Option, sym, ap, subst}
-use Rattle.asp_vars.specs.declared.nogood.Nogood.{Nogood}
+use Rattle.std.proofs.Common.{false, sym, ap, subst}
 use Rattle.asp_store.specs.declared.kept.Kept.{Kept}
 use Rattle.asp_propagate.specs.Useful.{IsUseful}
 use Rattle.asp_search_laws.specs.Searching.{Searching}

@@ -1,5 +1,4 @@
-use Rattle.std.proofs.Common.{None, ap, ◌∙◌, refl}
-use Rattle.asp_search_laws.specs.Searching.{Searching}
+use Rattle.std.proofs.Common.{None, ap}
 use Rattle.asp_state.specs.SearchStates.{SearchView}
 use Rattle.asp_search.proofs.SearchLaws.{search_same}
 use Rattle.asp_search.proofs.BesideLaws.{left_from}

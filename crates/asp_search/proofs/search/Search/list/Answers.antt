@@ -1,4 +1,4 @@
-use Rattle.std.proofs.Common.{◌≡◌, ◌∷◌, ◌++◌, List, None, sym, ap, ◌∙◌, subst, []}
+use Rattle.std.proofs.Common.{◌≡◌, ◌∷◌, ◌++◌, List, sym, ap, ◌∙◌, subst, []}
 use Rattle.asp_model.specs.Sets.{Atoms}
 use Rattle.asp_model.specs.declared.results.Mode.TheVariants as mode
 use Rattle.asp_vars.specs.Literals.{Literal}

@@ -1,14 +1,12 @@
-use Rattle.std.proofs.Common.{◌≡◌, ◌<◌, false, List, None, Some, sym, ap, ◌∙◌, subst, arith}
+use Rattle.std.proofs.Common.{◌<◌, false, List, Some, sym, ap, ◌∙◌, subst, arith}
 use Rattle.asp_vars.specs.Literals.{Literal}
-use Rattle.asp_vars.specs.declared.nogood.Nogood.{Nogood}
 use Rattle.asp_analyze.specs.declared.learn.Learned.TheVariants as learned
-use Rattle.asp_propagate.specs.Useful.{IsUseful}
 use Rattle.asp_search_laws.specs.Searching.{Searching}
 use Rattle.asp_search_laws.specs.Steps.{Learns, Stops, Fails, IsFailure}
 use Rattle.asp_store.specs.declared.kept.Kept.{Kept}
 use Rattle.asp_state.specs.SearchStates.{SearchView}
 use Rattle.asp_search.specs.Invariants.{view_of}
-use Rattle.asp_search.specs.Meeting.{IsMet, ShowsConflict, IsClashOf}
+use Rattle.asp_search.specs.Meeting.{IsMet}
 use Rattle.asp_search.proofs.MeetLaws.{met_shows, met_useful, shown_holds, shows_for, clash_for}
 use Rattle.asp_search.proofs.SearchLaws.{search_push, search_stays, newest_last}
 use Rattle.asp_search.proofs.StepsLaws.{same_cube, always_err, conflict_of, fails_here, fails_paid, met_stops, met_learns}

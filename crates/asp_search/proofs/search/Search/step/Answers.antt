@@ -1,4 +1,4 @@
-use Rattle.std.proofs.Common.{◌≡◌, Some, ap, ◌∙◌, subst}
+use Rattle.std.proofs.Common.{ap}
 use Rattle.asp_search_laws.specs.Searching.{Searching}
 use Rattle.asp_search.proofs.BesideLaws.{fails_left}
 use Rattle.asp_search.proofs.search.Search.step.Goals as goal
