@@ -12,12 +12,12 @@ ghost use Rattle.asp_loop.specs.LoopNogoods.{IsLoopNogood};
 ghost use Rattle.asp_trail_laws.specs.Whole.{IsWhole, truths, atoms_on};
 ghost use Rattle.asp_search_laws.specs.Faults.{IsFault};
 
-use asp_stable::checker::Checker;
 use asp_found::check::Verdict;
 use asp_loop::loops::loop_nogood;
 use asp_model::interp::Interp;
 use asp_model::program::Atom;
 use asp_propagate::propagator::Propagator;
+use asp_stable::checker::Checker;
 use asp_state::state::SearchState;
 use asp_trail::trail::Trail;
 use asp_vars::assign::Assign;

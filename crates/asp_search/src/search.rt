@@ -13,12 +13,12 @@ ghost use Rattle.asp_search_laws.specs.Steps.{is_of_use};
 ghost use Rattle.asp_search.specs.Beside.{new_search, Enters, Leaves, is_local, is_shared, exported, IsOpen, IsShared, IsSharedBy};
 
 use asp_analyze::learn::Learner;
-use asp_stable::checker::Checker;
 use asp_model::cost::Cost;
 use asp_model::interp::Interp;
 use asp_model::results::Mode;
 use asp_order::pace::Pace;
 use asp_propagate::propagator::Propagator;
+use asp_stable::checker::Checker;
 use asp_state::state::SearchState;
 use asp_trail::reasons::{NogoodId, Reasons};
 use asp_vars::compiled::Compiled;

@@ -102,7 +102,11 @@ fn is_some_open(flat: &[bool], heads: &[Var]) -> bool {
 }
 
 // The bodies that can derive an atom that isn't marked.
-fn deriving_bodies(alloc: Global, compiled: &Compiled, flat: &[bool]) -> Result<Vec<u32>, AllocError> {
+fn deriving_bodies(
+    alloc: Global,
+    compiled: &Compiled,
+    flat: &[bool],
+) -> Result<Vec<u32>, AllocError> {
     let mut bodies = Vec::new(alloc);
     for body in 0..compiled.body_count() {
         if is_some_open(flat, compiled.heads(body)) {

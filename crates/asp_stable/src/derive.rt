@@ -90,7 +90,13 @@ fn missing(compiled: &Compiled, assign: &Assign, flat: &[bool], needs: &[i64], b
     requires flat { length (atoms_of compiled.now) < length flat.now }
 {
     match compiled.bound(body) {
-        Some(bound) => unreached(assign, flat, compiled.literals(body), compiled.weights(body), i64::from(bound)),
+        Some(bound) => unreached(
+            assign,
+            flat,
+            compiled.literals(body),
+            compiled.weights(body),
+            i64::from(bound),
+        ),
         None => needs.get(body).copied().unwrap_or(0),
     }
 }
@@ -171,7 +177,16 @@ pub(crate) fn begin(
     ensures { AreDerived compiled.now assign.now marks.new }
 {
     for body in bodies {
-        begin_one(compiled, assign, flat, needs, marks, found, lacks, *body as usize);
+        begin_one(
+            compiled,
+            assign,
+            flat,
+            needs,
+            marks,
+            found,
+            lacks,
+            *body as usize,
+        );
     }
 }
 

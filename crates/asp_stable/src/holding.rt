@@ -56,7 +56,13 @@ fn reaches(assign: &Assign, marks: &[bool], lits: &[Lit], weights: &[i64], bound
     false
 }
 
-fn weights_hold(compiled: &Compiled, assign: &Assign, marks: &[bool], body: usize, bound: i32) -> bool
+fn weights_hold(
+    compiled: &Compiled,
+    assign: &Assign,
+    marks: &[bool],
+    body: usize,
+    bound: i32,
+) -> bool
     requires body { body < length (bodies_of compiled.now) }
     requires assign { length (atoms_of compiled.now) < length assign.now }
     requires marks { length (atoms_of compiled.now) < length marks.now }

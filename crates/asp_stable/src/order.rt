@@ -131,7 +131,13 @@ fn queue(alloc: Global, compiled: &Compiled) -> Result<Vec<Var>, AllocError> {
             break;
         }
         let var = queue[next];
-        follow(compiled, lacks.as_mut_slice(), open.as_mut_slice(), &mut queue, var)?;
+        follow(
+            compiled,
+            lacks.as_mut_slice(),
+            open.as_mut_slice(),
+            &mut queue,
+            var,
+        )?;
     }
     Ok(queue)
 }
