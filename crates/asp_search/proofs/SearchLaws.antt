@@ -120,7 +120,7 @@ search_lower p m t u vars checker known bars bound c last program bounded slots 
 -- ---- one more answer, in an enumeration
 pub search_lists : (p : Program) (t u : SearchView) (vars : ℕ) (checker : Program) (known : List Atoms) (bars new : List ℕ) (bound : Option (List ℤ)) (q : List Literal) (S : Atoms) →
     Settled t.program (known ++ S ∷ []) t.bound (q ++ t.decisions) → hits (values t.program S) (q ++ t.decisions) ≡ true → Blocks (way_of q t.decisions) t u new →
-    IsSearch p mode.Enum t vars checker known bars bound None → IsSearch p mode.Enum u vars (known ++ S ∷ []) new bound None
+    IsSearch p mode.Enum t vars checker known bars bound None → IsSearch p mode.Enum u vars checker (known ++ S ∷ []) new bound None
 search_lists p t u vars checker known bars new bound q S settled hit b s =
     let program : u.program ≡ t.program = ap (λ (y : SearchView). y.program) b.same in
     let bounded : u.bound ≡ t.bound = ap (λ (y : SearchView). y.bound) b.same in
@@ -151,10 +151,10 @@ search_lists p t u vars checker known bars new bound q S settled hit b s =
 -- the same, of what the code has in its hands
 pub search_listed : (p : Program) (m : Mode) (t u : SearchView) (vars : ℕ) (checker : Program) (known ks : List Atoms) (bars new : List ℕ) (bound : Option (List ℤ)) (last : Option ℕ) (q : List Literal) (S : Atoms) →
     m ≡ mode.Enum → last ≡ None → ks ≡ known ++ S ∷ [] → Settled t.program (known ++ S ∷ []) t.bound (q ++ t.decisions) → hits (values t.program S) (q ++ t.decisions) ≡ true →
-    Blocks (way_of q t.decisions) t u new → IsSearch p m t vars checker known bars bound last → IsSearch p m u vars ks new bound last
+    Blocks (way_of q t.decisions) t u new → IsSearch p m t vars checker known bars bound last → IsSearch p m u vars checker ks new bound last
 search_listed p m t u vars checker known ks bars new bound last q S enum none more settled hit b s =
     let first : IsSearch p mode.Enum t vars checker known bars bound None =
     subst (λ (x : Mode). IsSearch p x t vars checker known bars bound None) enum (subst (λ (x : Option ℕ). IsSearch p m t vars checker known bars bound x) none s) in
-    subst (λ (x : Option ℕ). IsSearch p m u vars ks new bound x) (sym none)
-    (subst (λ (x : Mode). IsSearch p x u vars ks new bound None) (sym enum)
-    (subst (λ (x : List Atoms). IsSearch p mode.Enum u vars x new bound None) (sym more) (search_lists p t u vars checker known bars new bound q S settled hit b first)))
+    subst (λ (x : Option ℕ). IsSearch p m u vars checker ks new bound x) (sym none)
+    (subst (λ (x : Mode). IsSearch p x u vars checker ks new bound None) (sym enum)
+    (subst (λ (x : List Atoms). IsSearch p mode.Enum u vars checker x new bound None) (sym more) (search_lists p t u vars checker known bars new bound q S settled hit b first)))

@@ -2,7 +2,7 @@
 use Rattle.std.proofs.Common.{◌≡◌, ℕ, zero, suc, ◌+◌, ◌<◌, ◌≤◌, Bool, true, false, not, cond, ◌&&◌, ◌||◌, eqb, List, [], ◌∷◌, ◌++◌, take, map, filter, length, get_or, Option, refl, sym, ap, ◌∙◌, subst, arith, ◌⊎◌, inl, inr}
 use Rattle.std.specs.Prelude.{All, ℤ, pos, negsuc, nat_lt}
 use Rattle.std.specs.List.{list_any, flat_map, AllByRecursion}
-use Rattle.std.proofs.lemmas.Bool.{false≢true, and_parts, and_from, eqb-true, eq-eqb}
+use Rattle.std.proofs.lemmas.Bool.{false≢true, and_parts, eqb-true, eq-eqb}
 use Rattle.std.proofs.lemmas.Bool.Decides.{nat_tests}
 use Rattle.std.proofs.lemmas.List.{take_all}
 use Rattle.std.proofs.lemmas.List.Elements.{All-head, All-tail, All-more, All-append, All-weaker}
@@ -11,7 +11,7 @@ use Rattle.asp_model.specs.declared.program.Body.TheVariants as body
 use Rattle.asp_model.specs.declared.program.Rule.{Rule}
 use Rattle.asp_model.specs.declared.program.Program.{Program}
 use Rattle.asp_model.specs.Sets.{Atoms, has, IsAscending, IsSubset}
-use Rattle.asp_model.specs.Holding.{atom_of, holds, body_holds}
+use Rattle.asp_model.specs.Holding.{atom_of, body_holds}
 use Rattle.asp_model.specs.Reading.{holds_between, body_holds_between}
 use Rattle.asp_model.specs.Models.{rules_in_force, atoms_of, least_model, head_atoms, is_stable}
 use Rattle.asp_model.specs.Sound.{IsSound}
@@ -20,9 +20,8 @@ use Rattle.asp_model.proofs.MemberLaws.{HasAll, list_any-flat_map}
 use Rattle.asp_model.proofs.ReductLaws.{rules_in_force-heads}
 use Rattle.asp_vars.specs.Literals.{Literal, T, hits, holds_in, is_true}
 use Rattle.asp_vars.specs.Numbering.{normal, body_eq, bodies_of, place_of, var_of_atom, literal_of, nth_body, values}
-use Rattle.asp_vars.specs.Completion.{completion, atom_nogood}
+use Rattle.asp_vars.specs.Completion.{completion}
 use Rattle.asp_vars.specs.Tabled.{heads_of, form_literals, IsAtomVar}
-use Rattle.asp_vars.specs.declared.nogood.Base.TheVariants as base
 use Rattle.asp_vars.proofs.NumberingLaws.{same_body as equal_body, body_eq-itself}
 use Rattle.asp_vars.proofs.NormalLaws.{body_holds-normal, body_holds_between-normal}
 use Rattle.asp_vars.proofs.PlaceLaws.{place_of-within}
@@ -32,7 +31,6 @@ use Rattle.asp_vars.proofs.CompletionLaws.{literal-holds, atom-true}
 use Rattle.asp_loop.proofs.LoopLaws.{at_form, members}
 use Rattle.asp_loop.proofs.WeightedLaws.{nth_weighted, body_stands}
 use Rattle.asp_found.specs.Marks.{is_marked}
-use Rattle.asp_found.specs.Rests.{rest}
 use Rattle.asp_found.specs.Verdicts.{is_supported}
 use Rattle.asp_found.proofs.RestLaws.{none_hit, stable_without_rest}
 use Rattle.asp_found.proofs.UnfoundedLaws.{body_fails}
@@ -40,7 +38,7 @@ use Rattle.asp_found.proofs.VerdictLaws.{atom_broken}
 use Rattle.asp_stable.specs.Holding.{is_held, body_held}
 use Rattle.asp_stable.specs.Founding.{AreFounded, KeepsCompletion, AreLoopless, GivesAtoms, AreDerived, IsDerived, AreListed}
 use Rattle.asp_stable.specs.Ranks.{AreUpTo, IsRanked, AreRanks}
-use Rattle.asp_stable.proofs.HoldingLaws.{AllForm, passes, passes_between, held_passes, each_standing, each_literal, values_pass}
+use Rattle.asp_stable.proofs.HoldingLaws.{passes_between, held_passes, each_standing, each_literal, values_pass}
 
 pub atom_var : (p : Program) (a : ℕ) → has (atoms_of p) a ≡ true → IsAtomVar p (var_of_atom p a)
 atom_var p a e = let h = place_of-within (λ b. eqb b a) (atoms_of p) e in (omega arith, omega (arith, h))

@@ -1,5 +1,5 @@
 -- Which true atoms are founded.
-use Rattle.std.specs.Prelude.{◌≡◌, ℕ, suc, Bool, true, false, ◌≤◌, All, ◌<◌, List, Option, IsTrue, length}
+use Rattle.std.specs.Prelude.{◌≡◌, ℕ, suc, Bool, true, false, All, ◌<◌, List, Option, IsTrue, length}
 use Rattle.std.specs.List.{list_any}
 use Rattle.asp_model.specs.declared.program.Program.{Program}
 use Rattle.asp_model.specs.Sets.{Atoms, has}

@@ -1,4 +1,4 @@
-use Rattle.std.proofs.Common.{ℕ, ◌<◌, get_or, arith}
+use Rattle.std.proofs.Common.{◌<◌, get_or, arith}
 use Rattle.std.proofs.lemmas.List.Elements.{All-more}
 use Rattle.asp_stable.proofs.FoundingLaws.{all_taken}
 use Rattle.asp_stable.proofs.ranks.all_above.Goals as goal

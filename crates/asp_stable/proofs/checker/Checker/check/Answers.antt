@@ -1,5 +1,4 @@
 use Rattle.std.proofs.Common.{subst}
-use Rattle.asp_model.specs.declared.program.Program.{Program}
 use Rattle.asp_model.specs.Sets.{IsAscending}
 use Rattle.asp_model.specs.Sound.{IsSound}
 use Rattle.asp_stable.proofs.FoundingLaws.{derived_stable}

@@ -1,4 +1,4 @@
-use Rattle.std.proofs.Common.{◌≡◌, sym, ◌∙◌, subst}
+use Rattle.std.proofs.Common.{sym, ◌∙◌, subst}
 use Rattle.asp_model.specs.declared.program.Program.{Program}
 use Rattle.asp_stable.specs.Founding.{IsDerived}
 use Rattle.asp_stable.proofs.FoundingLaws.{empty_derived}
