@@ -246,7 +246,7 @@ fn drops_the_older_of_two(rt: HostRuntime) {
 fn decides_what_was_bumped(rt: HostRuntime) {
     let heap = rt.alloc();
     let mut state = start(&rt, heap);
-    state.bump([Lit::new(2, true)].as_slice(), [].as_slice());
+    state.bump([Lit::new(2, true)].as_slice(), &[]);
     enter_none(&rt, heap, &mut state);
     let decided = go_on(&mut state).expect(&rt, "memory");
     assert!(rt; decided == Some(Lit::new(2, false)));
@@ -266,7 +266,7 @@ fn enter_second(rt: &impl Abort, heap: Global, state: &mut SearchState<Mute>)
 fn decides_what_was_true_to_be_true(rt: HostRuntime) {
     let heap = rt.alloc();
     let mut state = start(&rt, heap);
-    state.bump([Lit::new(2, true)].as_slice(), [].as_slice());
+    state.bump([Lit::new(2, true)].as_slice(), &[]);
     enter_second(&rt, heap, &mut state);
     enter_none(&rt, heap, &mut state);
     let decided = go_on(&mut state).expect(&rt, "memory");
