@@ -118,6 +118,9 @@ impl Order {
         ensures same { self.new ≡ record self.old { members = self.new.members } }
         ensures waiting { IfSome result (λ v. (e : Entry) → e.lit.var ≡ v → AreWaiting trail.now.vars (trail.now.entries ++ e ∷ []) self.new) }
     {
+        if trail.is_full() {
+            return None;
+        }
         while let Some(var) = self.pop() {
             if trail.value(var).is_none() {
                 return Some(var);

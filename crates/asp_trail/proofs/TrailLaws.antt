@@ -207,6 +207,28 @@ open_room vars es values places seen v t p w n =
     two : count_by is_none (set (set values v (Some true)) 0 (Some true)) + ones (get_or (set values v (Some true)) 0 None) ≡ count_by is_none (set values v (Some true)) + ones (Some true)
     two = sum_by-set ones (set values v (Some true)) 0 (Some true) None (omega (arith, t.sized, length-set values v (Some true)))
 
+upper : (a b : ℕ) → leb a b ≡ true → a ≤ b
+upper a b e = grind (arith, nat_tests)
+
+-- where there are as many entries as variables, none is open
+pub all_set : (vars : ℕ) (es : List Entry) (values : List (Option Bool)) (places : List ℕ) (seen : ℕ) → IsTrail vars es values places seen →
+    (slice : List Entry) → slice ≡ es → leb vars (length slice) ≡ true → (v : ℕ) → IsVar vars v → is_some (get_or (assignment vars es) v None) ≡ true
+all_set vars es values places seen t slice is full v w = cases (get_or (assignment vars es) v None) refl
+  where
+    cases : (o : Option Bool) → o ≡ get_or (assignment vars es) v None → is_some (get_or (assignment vars es) v None) ≡ true
+    cases (Some b) q = ap is_some (sym q)
+    cases None q =
+        let few = open_room vars es values places seen v t w.0 w.1 (sym q) in
+        let many = upper vars (length slice) full in
+        let same = ap length is in
+        absurd (omega (arith, few, many, same))
+
+pub some_open : (vars : ℕ) (es slice : List Entry) → slice ≡ es → leb vars (length slice) ≡ false → length es < vars
+some_open vars es slice is e = let same = ap length is in let few = lower vars (length slice) e in omega (arith, same, few)
+  where
+    lower : (a b : ℕ) → leb a b ≡ false → b < a
+    lower a b e = grind (arith, nat_tests)
+
 pub level_push : (es : List Entry) (e : Entry) → level (es ++ e ∷ []) ≡ e.level
 level_push es e =
     ap level_or_zero (slice_get-get_or (es ++ e ∷ []) (length (es ++ e ∷ []) - 1) e (omega (arith, length-append es (e ∷ []))))

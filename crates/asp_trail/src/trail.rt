@@ -1,5 +1,5 @@
 //! The trail: literals in the order in which they came to hold.
-ghost use Rattle.std.specs.Prelude.{◌≡◌, ◌<◌, ◌≤◌, ◌⊎◌, ◌+◌, ◌-◌, ◌++◌, ◌∷◌, [], Some, None, IfOk, OnOk, OnErr, IsSome, length, min, slice_index_or};
+ghost use Rattle.std.specs.Prelude.{◌≡◌, ℕ, false, ◌<◌, ◌≤◌, ◌⊎◌, ◌+◌, ◌-◌, ◌++◌, ◌∷◌, [], Some, None, IfOk, OnOk, OnErr, IsSome, IsTrue, length, min, slice_index_or};
 ghost use Rattle.asp_vars.specs.Literals.{value_of, Literal};
 ghost use Rattle.asp_trail.specs.Entries.{assignment, level, level_in, reason_in, cut, first_decision};
 ghost use Rattle.asp_trail.specs.Trails.{IsVar, IsOrdered};
@@ -112,6 +112,14 @@ impl Trail {
         ensures rest { 0 < var → result ≡ None → length self.now.entries < self.now.vars }
     {
         self.values.value(var)
+    }
+
+    /// Whether each variable has a value.
+    pub fn is_full(&self) -> bool
+        ensures full { IsTrue result → (v : ℕ) → IsVar self.now.vars v → IsSome (value_of (assignment self.now.vars self.now.entries) v) }
+        ensures open { result ≡ false → length self.now.entries < self.now.vars }
+    {
+        self.entries.as_slice().len() >= self.vars as usize
     }
 
     /// The values of all variables.
