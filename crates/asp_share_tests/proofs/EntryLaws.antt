@@ -1,7 +1,7 @@
 -- Entries of a log of which the program has the variables.
-use Rattle.std.proofs.Common.{◌≡◌, ℕ, zero, suc, ◌+◌, ◌<◌, ◌≤◌, ◌&&◌, Bool, true, false, ltb, leb, List, [], ◌∷◌, length, get_or, Option, Some, None, refl, sym, ap, ◌∙◌, subst, arith}
+use Rattle.std.proofs.Common.{◌≡◌, ℕ, zero, suc, ◌<◌, ◌≤◌, ◌&&◌, Bool, true, false, ltb, leb, List, [], ◌∷◌, get_or, Option, Some, None, sym, subst, arith}
 use Rattle.std.specs.Option.{IfSome}
-use Rattle.std.specs.List.{list_all, All, EachIndex}
+use Rattle.std.specs.List.{list_all, EachIndex}
 use Rattle.std.specs.Prelude.{slice_index}
 use Rattle.std.specs.Bool.{beq}
 use Rattle.std.proofs.lemmas.Bool.{false≢true, and_parts}
