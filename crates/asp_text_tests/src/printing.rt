@@ -44,7 +44,7 @@ fn short(rt: &impl Abort, alloc: Global) -> Program {
 
 // It always shows "first" and a text of 20000 bytes.
 fn long(rt: &impl Abort, alloc: Global) -> Program {
-    let text = [b'x'; 20000];
+    let text = [b'x'; 70000];
     let mut outputs = Vec::new(alloc);
     show(rt, alloc, &mut outputs, b"first", &[]);
     show(rt, alloc, &mut outputs, text.as_slice(), &[]);
@@ -118,7 +118,7 @@ fn optima_are_written(rt: HostRuntime) {
 fn passes(rt: &impl Abort, program: &Program, results: &Results) {
     let mut sink = CleanSink::new();
     assert!(rt; print(&mut sink, program, results, false) == Ok(()));
-    assert!(rt; sink.count() == 2 * 20017 + 22);
+    assert!(rt; sink.count() == 2 * 70017 + 22);
 }
 
 // Where the fifth call fails, four pieces of the text are out.
