@@ -1,0 +1,5 @@
+pub mod Propagation
+pub mod Lines
+pub mod Right
+pub mod Steps
+pub mod Looks

@@ -1,0 +1,81 @@
+-- When a line of a proof is confirmed by those before it.
+use Rattle.std.specs.Prelude.{◌≡◌, ℕ, suc, ◌<◌, ◌≤◌, Bool, true, false, not, ◌||◌, ◌&&◌, if◌then◌else◌, List, [], ◌∷◌, ◌++◌, map, Option, Some, None, ℤ, pos, negsuc, int_lt, IsTrue}
+use Rattle.std.specs.List.{list_all, list_any, AllByRecursion}
+use Rattle.asp_model.specs.declared.program.Body.{Body}
+use Rattle.asp_model.specs.declared.program.Body.TheVariants as body
+use Rattle.asp_model.specs.declared.program.Program.{Program}
+use Rattle.asp_model.specs.Sets.{Atoms, has}
+use Rattle.asp_model.specs.Models.{rules_in_force, atoms_of, head_atoms}
+use Rattle.asp_model.specs.Costs.{cost}
+use Rattle.asp_vars.specs.Literals.{Literal, T, F, has_literal}
+use Rattle.asp_vars.specs.Numbering.{normal, var_count, var_of_atom, var_of_form}
+use Rattle.asp_vars.specs.Completion.{completion}
+use Rattle.asp_vars.specs.Unfounded.{is_inside}
+use Rattle.asp_loop.specs.LoopNogoods.{weight_where, is_left}
+use Rattle.asp_proof.specs.declared.proof.Line.{Line}
+use Rattle.asp_proof.specs.declared.proof.Line.TheVariants as line
+use Rattle.asp_proof.specs.declared.proof.Proof.{Proof}
+use Rattle.asp_checker.specs.Propagation.{Known, LeadsToConflict}
+
+-- a number is a variable, and its sign whether it is true
+abbrev pub signed : ℤ → Literal
+signed (pos v) = T v
+signed (negsuc v) = F (suc v)
+
+abbrev pub literals_of : List ℤ → List Literal
+literals_of numbers = map signed numbers
+
+abbrev pub nogood_of : Line → List Literal
+nogood_of (line.Loop set nogood) = literals_of nogood
+nogood_of (line.Learned nogood) = literals_of nogood
+nogood_of (line.Cube nogood) = literals_of nogood
+
+-- ---- loops
+-- Where the nogood's literals hold, the body is false or can't hold from outside of U.
+abbrev pub is_answered : Program → Atoms → List Literal → Body → Bool
+is_answered p U n (body.All literals) = has_literal n (F (var_of_form p (body.All literals))) || list_any (is_inside U) literals
+is_answered p U n (body.AtLeast bound items) =
+    has_literal n (F (var_of_form p (body.AtLeast bound items))) || int_lt (weight_where (is_left p U n) items) bound
+
+-- An atom of U is true in the nogood, and each body of a rule with a head atom in U is answered.
+pub record IsLoop (p : Program) (U : Atoms) (n : List Literal) : Type 0 where
+  pub among : IsTrue (list_all (has (atoms_of p)) U)
+  pub head : IsTrue (list_any (λ a. has_literal n (T (var_of_atom p a))) U)
+  pub bodies : IsTrue (list_all (λ r. not (list_any (has U) (head_atoms r.head)) || is_answered p U n (normal r.body)) (rules_in_force p))
+
+-- ---- lines
+-- The program has the variable.
+abbrev pub IsOf : Program → Literal → Type 0
+IsOf p l = (0 < l.var) × (l.var ≤ var_count p)
+
+abbrev pub AreOf : Program → List Literal → Type 0
+AreOf p n = AllByRecursion (IsOf p) n
+
+abbrev pub IsConfirmed : Program → Known → Line → Type 0
+IsConfirmed p k (line.Loop set nogood) = IsLoop p set (literals_of nogood)
+IsConfirmed p k (line.Learned nogood) = LeadsToConflict p k (literals_of nogood)
+IsConfirmed p k (line.Cube nogood) = LeadsToConflict p k (literals_of nogood)
+
+abbrev pub with_nogood : Known → List Literal → Known
+with_nogood k n = record { nogoods = k.nogoods ++ n ∷ []; bound = k.bound }
+
+-- Each line is confirmed by what was known at the start and the lines before it.
+abbrev pub AreConfirmed : Program → Known → List Line → Type 0
+AreConfirmed p k [] = Unit {0}
+AreConfirmed p k (l ∷ lines) = AreOf p (nogood_of l) × IsConfirmed p k l × AreConfirmed p (with_nogood k (nogood_of l)) lines
+
+-- ---- the start
+-- the literals of all atoms by which a set differs from all others
+abbrev pub nogood_of_answer : Program → Atoms → List Literal
+nogood_of_answer p S = map (λ a. record { var = var_of_atom p a; truth = has S a }) (atoms_of p)
+
+-- the cost of the one answer that an optimisation lists
+abbrev pub bound_of : Program → List Atoms → Option (List ℤ)
+bound_of p [] = None
+bound_of p (S ∷ answers) = Some (cost p S)
+
+-- the completion, in an enumeration the listed answers, and in an optimisation the cost of the listed one
+abbrev pub known_at_first : Program → Proof → Known
+known_at_first p proof =
+    if proof.opt then record { nogoods = completion p; bound = bound_of p proof.answers }
+    else record { nogoods = completion p ++ map (nogood_of_answer p) proof.answers; bound = None }

@@ -1,0 +1,6 @@
+//! What makes a proof right, what a right one shows, and the check of a proof.
+#![tactic(auto)]
+
+pub mod laws;
+pub mod lines;
+pub mod nogoods;

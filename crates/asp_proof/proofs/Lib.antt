@@ -1,0 +1,7 @@
+pub mod Digits
+pub mod CutLaws
+pub mod FieldLaws
+pub mod LineLaws
+pub mod WalkLaws
+pub mod SourceLaws
+pub mod TextLaws

@@ -1,0 +1,387 @@
+-- A text, line by line.
+use Rattle.std.proofs.Common.{◌≡◌, ◌≢◌, ◌⊎◌, inl, inr, ℕ, ◌+◌, ◌<◌, ◌≤◌, Bool, true, false, List, [], ◌∷◌, ◌++◌, length, codes, refl, sym, ap, ◌∙◌, arith, append_assoc, append-nil, length-append, subst}
+use Rattle.std.specs.Prelude.{ℤ, pos, flat_map}
+use Rattle.std.specs.List.{AllByRecursion}
+use Rattle.std.proofs.lemmas.Grind.{flat_map-append}
+use Rattle.asp_model.specs.Sets.{Atoms}
+use Rattle.asp_model.proofs.MemberLaws.{each_weaker, each-append, each-flat_map}
+use Rattle.asp_proof.specs.declared.proof.Line.{Line}
+use Rattle.asp_proof.specs.declared.proof.Line.TheVariants as kind
+use Rattle.asp_proof.specs.declared.proof.Proof.{Proof}
+use Rattle.asp_proof.specs.Texts.{natural_field, integer_field, counted_fields, loop_fields, answer_text, line_text, mode_line, text_of, line, lines}
+use Rattle.asp_proof.specs.Grammar.{IsAtom, IsLiteral, AreCounted, IsSet, IsNogood, IsLine, IsProof, IsProofText, Begins, IsUnbroken, IsLines, IsFirstFault, most_bytes}
+use Rattle.asp_proof.specs.Fields.{IsNumber, IsWhole, IsCut}
+use Rattle.asp_proof.specs.Outcome.{Reads}
+use Rattle.asp_proof.specs.Walk.{proof_of, front_of, Ends, IsWalked, Takes, IsRefused}
+use Rattle.asp_proof.proofs.CutLaws.{one_cut}
+use Rattle.asp_proof.proofs.FieldLaws.{no_feed}
+use Rattle.asp_proof.proofs.LineLaws.{first_bytes}
+
+-- ---- no line feed stands in a line
+
+unbroken_integer : (z : ℤ) → IsNumber z → IsUnbroken (integer_field z)
+unbroken_integer z h = ((λ e. omega (arith, e)), no_feed z h)
+
+unbroken_counted : {A : Type 0} (P : A → Type 0) (text : A → List ℕ) → ((x : A) → P x → IsUnbroken (text x)) → (xs : List A) → AreCounted P xs → IsUnbroken (counted_fields text xs)
+unbroken_counted P text each xs h = each-append (λ b. b ≢ 10) (natural_field (length xs)) (flat_map text xs)
+    (unbroken_integer (pos (length xs)) h.few)
+    (each-flat_map (λ b. b ≢ 10) text xs (each_weaker P (λ x. IsUnbroken (text x)) each xs h.each))
+
+unbroken_atoms : (S : Atoms) → AreCounted IsAtom S → IsUnbroken (counted_fields natural_field S)
+unbroken_atoms S h = unbroken_counted IsAtom natural_field (λ a k. unbroken_integer (pos a) (omega arith)) S h
+
+unbroken_nogood : (xs : List ℤ) → IsNogood xs → IsUnbroken (counted_fields integer_field xs)
+unbroken_nogood xs h = unbroken_counted IsLiteral integer_field (λ z k. unbroken_integer z (omega arith)) xs h
+
+pub unbroken_answer : (S : Atoms) → IsSet S → IsUnbroken (answer_text S)
+unbroken_answer S h = ((λ e. omega (arith, e)), unbroken_atoms S h.atoms)
+
+pub unbroken_line : (l : Line) → IsLine l → IsUnbroken (line_text l)
+unbroken_line (kind.Loop set nogood) h = ((λ e. omega (arith, e)), each-append (λ b. b ≢ 10) (counted_fields natural_field set) (counted_fields integer_field nogood) (unbroken_atoms set h.0.atoms) (unbroken_nogood nogood h.2))
+unbroken_line (kind.Learned nogood) h = ((λ e. omega (arith, e)), unbroken_nogood nogood h)
+unbroken_line (kind.Cube cube) h = ((λ e. omega (arith, e)), unbroken_nogood cube h)
+
+pub zero_unbroken : IsUnbroken (codes "0")
+zero_unbroken = ((λ e. omega (arith, e)), tt)
+
+behind : (xs ys : List ℕ) → 10 ∷ xs ≡ 10 ∷ ys → xs ≡ ys
+behind xs ys e = cc
+
+pub first_line : (xs ys r s : List ℕ) → IsUnbroken xs → IsUnbroken ys → xs ++ 10 ∷ r ≡ ys ++ 10 ∷ s → (xs ≡ ys) × (r ≡ s)
+first_line xs ys r s a b e = let h = one_cut 10 xs ys (10 ∷ r) (10 ∷ s) a b refl refl e in (h.0, behind r s h.1)
+
+-- ---- what a text ends with
+
+pub front_first : (x more tail : List ℕ) → ((x ++ 10 ∷ []) ++ more) ++ tail ≡ x ++ 10 ∷ (more ++ tail)
+front_first x more tail = simp append_assoc
+
+-- how a proof's text goes on with a line
+abbrev Next : List Line → List ℕ → List ℕ → Type 0
+Next entries bytes more =
+    ((S : Atoms) × (entries ≡ []) × IsWhole IsSet answer_text bytes S × Ends entries more)
+    ⊎ (((l : Line) × IsWhole IsLine line_text bytes l × ((others : List Line) → Ends others more))
+    ⊎ ((bytes ≡ codes "0") × (more ≡ [])))
+
+next_line : (entries more_lines : List Line) (bytes more : List ℕ) → IsUnbroken bytes → AllByRecursion IsLine more_lines → lines line_text more_lines ++ codes "0\n" ≡ bytes ++ 10 ∷ more → Next entries bytes more
+next_line entries [] bytes more u h e =
+    let p = first_line (codes "0") bytes [] more zero_unbroken u e in
+    inr (inr (sym p.0, sym p.1))
+next_line entries (l ∷ ls) bytes more u h e =
+    let p = first_line (line_text l) bytes (lines line_text ls ++ codes "0\n") more (unbroken_line l h.0) u (sym (front_first (line_text l) (lines line_text ls) (codes "0\n")) ∙ e) in
+    inr (inl (l, record { is = h.0; same = p.0 }, λ others. record { more_answers = []; more_lines = ls; are_sets = tt; are_lines = h.1; in_order = λ lt. refl; same = p.1 }))
+
+none_yet : (entries : List Line) (S : Atoms) (Ss : List Atoms) → (0 < length entries → S ∷ Ss ≡ []) → entries ≡ []
+none_yet [] S Ss o = refl
+none_yet (l ∷ ls) S Ss o = let h = o (omega arith) in absurd cc
+
+next_from : (entries more_lines : List Line) (more_answers : List Atoms) (bytes more : List ℕ) → IsUnbroken bytes → AllByRecursion IsSet more_answers → AllByRecursion IsLine more_lines → (0 < length entries → more_answers ≡ [])
+    → lines answer_text more_answers ++ (lines line_text more_lines ++ codes "0\n") ≡ bytes ++ 10 ∷ more → Next entries bytes more
+next_from entries ls [] bytes more u g h o e = next_line entries ls bytes more u h e
+next_from entries ls (S ∷ Ss) bytes more u g h o e =
+    let p = first_line (answer_text S) bytes (lines answer_text Ss ++ (lines line_text ls ++ codes "0\n")) more (unbroken_answer S g.0) u (sym (front_first (answer_text S) (lines answer_text Ss) (lines line_text ls ++ codes "0\n")) ∙ e) in
+    inl (S, none_yet entries S Ss o, record { is = g.0; same = p.0 }, record { more_answers = Ss; more_lines = ls; are_sets = g.1; are_lines = h; in_order = λ lt. let k = o lt in absurd cc; same = p.1 })
+
+next : (entries : List Line) (bytes more : List ℕ) → IsUnbroken bytes → Ends entries (bytes ++ 10 ∷ more) → Next entries bytes more
+next entries bytes more u e = next_from entries e.more_lines e.more_answers bytes more u e.are_sets e.are_lines e.in_order e.same
+
+-- ---- lines of different kinds
+
+pub answer_or_line : (S : Atoms) (l : Line) → answer_text S ≡ line_text l → ⊥
+answer_or_line S (kind.Loop set nogood) e = omega (arith, first_bytes 97 111 (counted_fields natural_field S) (loop_fields (set, nogood)) e)
+answer_or_line S (kind.Learned nogood) e = omega (arith, first_bytes 97 108 (counted_fields natural_field S) (counted_fields integer_field nogood) e)
+answer_or_line S (kind.Cube cube) e = omega (arith, first_bytes 97 99 (counted_fields natural_field S) (counted_fields integer_field cube) e)
+
+pub answer_or_last : (S : Atoms) → answer_text S ≡ codes "0" → ⊥
+answer_or_last S e = omega (arith, first_bytes 97 48 (counted_fields natural_field S) [] e)
+
+pub line_or_last : (l : Line) → line_text l ≡ codes "0" → ⊥
+line_or_last (kind.Loop set nogood) e = omega (arith, first_bytes 111 48 (loop_fields (set, nogood)) [] e)
+line_or_last (kind.Learned nogood) e = omega (arith, first_bytes 108 48 (counted_fields integer_field nogood) [] e)
+line_or_last (kind.Cube cube) e = omega (arith, first_bytes 99 48 (counted_fields integer_field cube) [] e)
+
+-- ---- one more line
+
+lines_more : {A : Type 0} (text : A → List ℕ) (xs : List A) (x : A) → lines text (xs ++ x ∷ []) ≡ lines text xs ++ line (text x)
+lines_more text xs x = flat_map-append (λ y. line (text y)) xs (x ∷ []) ∙ ap (λ (t : List ℕ). lines text xs ++ t) (append-nil (line (text x)))
+
+front_answer : (opt : Bool) (answers : List Atoms) (S : Atoms) → front_of (proof_of opt (answers ++ S ∷ []) []) ≡ front_of (proof_of opt answers []) ++ line (answer_text S)
+front_answer opt answers S =
+    let head = codes "proof 1\n" ++ mode_line opt in
+    append-nil (head ++ lines answer_text (answers ++ S ∷ []))
+    ∙ ap (λ (t : List ℕ). head ++ t) (lines_more answer_text answers S)
+    ∙ sym (append_assoc head (lines answer_text answers) (line (answer_text S)))
+    ∙ ap (λ (t : List ℕ). t ++ line (answer_text S)) (sym (append-nil (head ++ lines answer_text answers)))
+
+front_line : (opt : Bool) (answers : List Atoms) (entries : List Line) (l : Line) → front_of (proof_of opt answers (entries ++ l ∷ [])) ≡ front_of (proof_of opt answers entries) ++ line (line_text l)
+front_line opt answers entries l =
+    let head = codes "proof 1\n" ++ mode_line opt ++ lines answer_text answers in
+    ap (λ (t : List ℕ). head ++ t) (lines_more line_text entries l) ∙ sym (append_assoc head (lines line_text entries) (line (line_text l)))
+
+-- a line behind a front
+behind_front : (front bytes after : List ℕ) → (front ++ line bytes) ++ after ≡ front ++ (bytes ++ 10 ∷ after)
+behind_front front bytes after = simp append_assoc
+
+pub lines_and_one : (n : ℕ) (front bytes : List ℕ) → IsLines n front → IsUnbroken bytes → IsLines (n + 1) (front ++ line bytes)
+lines_and_one n front bytes h u = record {
+  parts = h.parts ++ bytes ∷ [];
+  counted = omega (arith, h.counted, length-append h.parts (bytes ∷ []));
+  unbroken = each-append IsUnbroken h.parts (bytes ∷ []) h.unbroken (u, tt);
+  same = lines_more (λ (b : List ℕ). b) h.parts bytes ∙ ap (λ (t : List ℕ). t ++ line bytes) h.same;
+}
+
+proof_text : (s t : List ℕ) → s ≡ t → IsProofText s → IsProofText t
+proof_text s t e h = subst IsProofText e h
+
+-- the front of a proof with one line more
+record IsFront (p q : Proof) (bytes : List ℕ) : Type 0 where
+  pub is : IsProof q
+  pub same : front_of q ≡ front_of p ++ line bytes
+
+walk_on : (text : List ℕ) (n : ℕ) (p q : Proof) (bytes after : List ℕ) → IsWalked text n p (bytes ++ 10 ∷ after) → IsUnbroken bytes → IsFront p q bytes
+    → ((more : List ℕ) → Next p.lines bytes more → Ends q.lines more) → IsWalked text (n + 1) q after
+walk_on text n p q bytes after w u f goes = record {
+  is = f.is;
+  parted = ap (λ (t : List ℕ). t ++ after) f.same ∙ behind_front (front_of p) bytes after ∙ w.parted;
+  counted = subst (IsLines (n + 1)) (sym f.same) (lines_and_one n (front_of p) bytes w.counted u);
+  only = λ more t. goes more (next p.lines bytes more u (w.only (bytes ++ 10 ∷ more) (proof_text _ _ (ap (λ (s : List ℕ). s ++ more) f.same ∙ behind_front (front_of p) bytes more) t)));
+}
+
+after_answer : (S : Atoms) (bytes more : List ℕ) → IsWhole IsSet answer_text bytes S → Next [] bytes more → Ends [] more
+after_answer S bytes more w (inl x) = x.3
+after_answer S bytes more w (inr (inl x)) = absurd (answer_or_line S x.0 (w.same ∙ sym x.1.same))
+after_answer S bytes more w (inr (inr x)) = absurd (answer_or_last S (w.same ∙ x.0))
+
+after_line : (entries now : List Line) (l : Line) (bytes more : List ℕ) → IsWhole IsLine line_text bytes l → Next entries bytes more → Ends now more
+after_line entries now l bytes more w (inl x) = absurd (answer_or_line x.0 l (x.2.same ∙ sym w.same))
+after_line entries now l bytes more w (inr (inl x)) = x.2 now
+after_line entries now l bytes more w (inr (inr x)) = absurd (line_or_last l (w.same ∙ x.0))
+
+walk_answer : (text : List ℕ) (n : ℕ) (opt : Bool) (answers : List Atoms) (S : Atoms) (bytes after : List ℕ) → IsWalked text n (proof_of opt answers []) (bytes ++ 10 ∷ after) → IsUnbroken bytes → IsWhole IsSet answer_text bytes S
+    → IsWalked text (n + 1) (proof_of opt (answers ++ S ∷ []) []) after
+walk_answer text n opt answers S bytes after w u h =
+    walk_on text n (proof_of opt answers []) (proof_of opt (answers ++ S ∷ []) []) bytes after w u
+    (record { is = record { answers = each-append IsSet answers (S ∷ []) w.is.answers (h.is, tt); lines = tt }; same = front_answer opt answers S ∙ ap (λ (t : List ℕ). front_of (proof_of opt answers []) ++ line t) h.same })
+    (λ more x. after_answer S bytes more h x)
+
+walk_line : (text : List ℕ) (n : ℕ) (opt : Bool) (answers : List Atoms) (entries : List Line) (l : Line) (bytes after : List ℕ) → IsWalked text n (proof_of opt answers entries) (bytes ++ 10 ∷ after) → IsUnbroken bytes → IsWhole IsLine line_text bytes l
+    → IsWalked text (n + 1) (proof_of opt answers (entries ++ l ∷ [])) after
+walk_line text n opt answers entries l bytes after w u h =
+    walk_on text n (proof_of opt answers entries) (proof_of opt answers (entries ++ l ∷ [])) bytes after w u
+    (record { is = record { answers = w.is.answers; lines = each-append IsLine entries (l ∷ []) w.is.lines (h.is, tt) }; same = front_line opt answers entries l ∙ ap (λ (t : List ℕ). front_of (proof_of opt answers entries) ++ line t) h.same })
+    (λ more x. after_line entries (entries ++ l ∷ []) l bytes more h x)
+
+pub walks : (text : List ℕ) (n : ℕ) (opt : Bool) (answers now_answers : List Atoms) (entries now_entries : List Line) (bytes after rest : List ℕ) → IsWalked text n (proof_of opt answers entries) rest → bytes ++ 10 ∷ after ≡ rest → IsUnbroken bytes
+    → Takes bytes answers entries now_answers now_entries → IsWalked text (n + 1) (proof_of opt now_answers now_entries) after
+walks text n opt answers now_answers entries now_entries bytes after rest w e u (inl x) =
+    rw (x.2, x.3) (walk_answer text n opt answers x.0 bytes after (rw (x.1, ← e) at w) u x.4)
+walks text n opt answers now_answers entries now_entries bytes after rest w e u (inr x) =
+    rw (x.1, x.2) (walk_line text n opt answers entries x.0 bytes after (rw (← e) at w) u x.3)
+
+-- ---- faults
+
+begun : (p : Proof) → IsProof p → Begins (front_of p)
+begun p h = record { rest = codes "0\n"; whole = record { proof = p; is = h; same = refl } }
+
+fault : (text front bytes after : List ℕ) (n : ℕ) → front ++ (bytes ++ 10 ∷ after) ≡ text → IsLines n front → Begins front → IsUnbroken bytes → ((more : List ℕ) → IsProofText (front ++ (bytes ++ 10 ∷ more)) → ⊥) → IsFirstFault text (n + 1)
+fault text front bytes after n e counted begins u never = record {
+  before = n;
+  numbered = refl;
+  front = front;
+  rest = bytes ++ 10 ∷ after;
+  parted = e;
+  lines_before = counted;
+  begins = begins;
+  with_it = λ other later v same b.
+      let h = first_line other bytes later after v u same in
+      never b.rest (proof_text _ _ (behind_front front other b.rest ∙ ap (λ (t : List ℕ). front ++ (t ++ 10 ∷ b.rest)) h.0) b.whole);
+  whole = λ t. never after (proof_text _ _ (sym e) t);
+}
+
+never_next : (entries : List Line) (bytes more : List ℕ) → IsRefused bytes entries → bytes ≢ codes "0" → Next entries bytes more → ⊥
+never_next entries bytes more r z (inl x) = r.no_answer x.1 x.0 x.2
+never_next entries bytes more r z (inr (inl x)) = r.no_line x.0 x.1
+never_next entries bytes more r z (inr (inr x)) = z x.0
+
+pub refused : (text : List ℕ) (n : ℕ) (p : Proof) (bytes after rest : List ℕ) → IsWalked text n p rest → bytes ++ 10 ∷ after ≡ rest → IsUnbroken bytes → bytes ≢ codes "0" → IsRefused bytes p.lines → IsFirstFault text (n + 1)
+refused text n p bytes after rest w e u z r = fault text (front_of p) bytes after n (ap (λ (t : List ℕ). front_of p ++ t) e ∙ w.parted) w.counted (begun p w.is) u
+    (λ more t. never_next p.lines bytes more r z (next p.lines bytes more u (w.only (bytes ++ 10 ∷ more) t)))
+
+left_lacks : (xs ys : List ℕ) → IsUnbroken (xs ++ ys) → IsUnbroken ys
+left_lacks [] ys h = h
+left_lacks (x ∷ xs) ys h = left_lacks xs ys h.1
+
+-- no line feed is left
+pub broken_off : (text : List ℕ) (n : ℕ) (p : Proof) (rest : List ℕ) → IsWalked text n p rest → IsUnbroken rest → IsFirstFault text (n + 1)
+broken_off text n p rest w u = record {
+  before = n;
+  numbered = refl;
+  front = front_of p;
+  rest = rest;
+  parted = w.parted;
+  lines_before = w.counted;
+  begins = begun p w.is;
+  with_it = λ bytes after v same b. (left_lacks bytes (10 ∷ after) (subst IsUnbroken (sym same) u)).0 refl;
+  whole = λ t.
+      let e = w.only rest (proof_text _ _ (sym w.parted) t) in
+      let h = subst IsUnbroken (sym e.same) u in
+      (left_lacks (lines line_text e.more_lines) (codes "0\n") (left_lacks (lines answer_text e.more_answers) _ h)).1.0 refl;
+}
+
+-- ---- the last line
+
+over : (p : Proof) (text rest after : List ℕ) (n : ℕ) → IsWalked text n p rest → codes "0" ++ 10 ∷ after ≡ rest → (more : List ℕ) → IsProofText (text_of p ++ more) → more ≡ []
+over p text rest after n w e more t = only_end (next p.lines (codes "0") more zero_unbroken (w.only (codes "0" ++ 10 ∷ more) (proof_text _ _ (behind_front (front_of p) (codes "0") more) t)))
+  where
+    only_end : Next p.lines (codes "0") more → more ≡ []
+    only_end (inl x) = absurd (answer_or_last x.0 x.2.same)
+    only_end (inr (inl x)) = absurd (line_or_last x.0 x.1.same)
+    only_end (inr (inr x)) = x.1
+
+nothing_behind : (t : List ℕ) (bytes : List ℕ) → line bytes ++ t ≡ [] → ⊥
+nothing_behind t [] e = absurd cc
+nothing_behind t (b ∷ bytes) e = absurd cc
+
+pub goes_on : (text : List ℕ) (n : ℕ) (p : Proof) (bytes after rest : List ℕ) → IsWalked text n p rest → bytes ++ 10 ∷ after ≡ rest → bytes ≡ codes "0" → after ≢ [] → IsFirstFault text (n + 2)
+goes_on text n p bytes after rest w e z more =
+    let whole : codes "0" ++ 10 ∷ after ≡ rest = ap (λ (t : List ℕ). t ++ 10 ∷ after) (sym z) ∙ e in
+    let parted = behind_front (front_of p) (codes "0") after ∙ ap (λ (t : List ℕ). front_of p ++ t) whole ∙ w.parted in
+    record {
+      before = n + 1;
+      numbered = omega arith;
+      front = text_of p;
+      rest = after;
+      parted = parted;
+      lines_before = lines_and_one n (front_of p) (codes "0") w.counted zero_unbroken;
+      begins = record { rest = []; whole = record { proof = p; is = w.is; same = sym (append-nil (text_of p)) } };
+      with_it = λ other later v same b. nothing_behind b.rest other (over p text rest after n w whole (line other ++ b.rest) (proof_text _ _ (append_assoc (text_of p) (line other) b.rest) b.whole));
+      whole = λ t. more (over p text rest after n w whole after (proof_text _ _ (sym parted) t));
+    }
+
+pub is_read : (text : List ℕ) (n : ℕ) (p : Proof) (bytes after rest : List ℕ) → IsWalked text n p rest → bytes ++ 10 ∷ after ≡ rest → bytes ≡ codes "0" → after ≡ [] → length text ≤ most_bytes → Reads text p
+is_read text n p bytes after rest w e z end le = record {
+  is = w.is;
+  same =
+      let whole : codes "0" ++ 10 ∷ [] ≡ rest = ap (λ (t : List ℕ). codes "0" ++ 10 ∷ t) (sym end) ∙ ap (λ (t : List ℕ). t ++ 10 ∷ after) (sym z) ∙ e in
+      ap (λ (t : List ℕ). front_of p ++ t) whole ∙ w.parted;
+  short = le;
+}
+
+-- ---- the first two lines
+
+abbrev pub head : List ℕ
+head = codes "proof 1\n"
+
+regroup : (h m a l z : List ℕ) → (((h ++ m) ++ a) ++ l) ++ z ≡ h ++ (m ++ (a ++ (l ++ z)))
+regroup h m a l z = simp append_assoc
+
+pub parts_of : (p : Proof) → text_of p ≡ head ++ (mode_line p.opt ++ (lines answer_text p.answers ++ (lines line_text p.lines ++ codes "0\n")))
+parts_of p = regroup head (mode_line p.opt) (lines answer_text p.answers) (lines line_text p.lines) (codes "0\n")
+
+pub behind_head : (xs ys : List ℕ) → head ++ xs ≡ head ++ ys → xs ≡ ys
+behind_head xs ys e = cc
+
+pub behind_mode : (o q : Bool) (xs ys : List ℕ) → mode_line o ++ xs ≡ mode_line q ++ ys → xs ≡ ys
+behind_mode true true xs ys e = cc
+behind_mode false false xs ys e = cc
+behind_mode true false xs ys e = absurd (omega (arith, first_bytes 111 101 _ _ e))
+behind_mode false true xs ys e = absurd (omega (arith, first_bytes 101 111 _ _ e))
+
+any_proof : Begins []
+any_proof = record { rest = text_of (proof_of false [] []); whole = record { proof = proof_of false [] []; is = record { answers = tt; lines = tt }; same = refl } }
+
+pub same_mode : (o q : Bool) (xs ys : List ℕ) → mode_line o ++ xs ≡ mode_line q ++ ys → o ≡ q
+same_mode true true xs ys e = refl
+same_mode false false xs ys e = refl
+same_mode true false xs ys e = absurd (omega (arith, first_bytes 111 101 _ _ e))
+same_mode false true xs ys e = absurd (omega (arith, first_bytes 101 111 _ _ e))
+
+-- what a proof's text has behind its first line
+behind_first : (rest : List ℕ) → IsProofText (head ++ rest) → (p : Proof) × IsProof p × (mode_line p.opt ++ (lines answer_text p.answers ++ (lines line_text p.lines ++ codes "0\n")) ≡ rest)
+behind_first rest t = (t.proof, t.is, behind_head _ rest (sym (parts_of t.proof) ∙ t.same))
+
+head_unbroken : IsUnbroken (codes "proof 1")
+head_unbroken = ((λ e. omega (arith, e)), ((λ e. omega (arith, e)), ((λ e. omega (arith, e)), ((λ e. omega (arith, e)), ((λ e. omega (arith, e)), ((λ e. omega (arith, e)), ((λ e. omega (arith, e)), tt)))))))
+
+pub no_head : (text : List ℕ) → ((rest : List ℕ) → head ++ rest ≡ text → ⊥) → IsFirstFault text 1
+no_head text none = record {
+  before = 0;
+  numbered = refl;
+  front = [];
+  rest = text;
+  parted = refl;
+  lines_before = record { parts = []; counted = refl; unbroken = tt; same = refl };
+  begins = any_proof;
+  with_it = λ bytes after u same b.
+      let p = parts_of b.whole.proof in
+      let h = first_line (codes "proof 1") bytes _ b.rest head_unbroken u (sym p ∙ b.whole.same ∙ behind_front [] bytes b.rest) in
+      none after (ap (λ (t : List ℕ). t ++ 10 ∷ after) h.0 ∙ same);
+  whole = λ t. none _ (sym (parts_of t.proof) ∙ t.same);
+}
+
+abbrev mode_word : Bool → List ℕ
+mode_word true = codes "opt"
+mode_word false = codes "enum"
+
+word_unbroken : (o : Bool) → IsUnbroken (mode_word o)
+word_unbroken true = ((λ e. omega (arith, e)), ((λ e. omega (arith, e)), ((λ e. omega (arith, e)), tt)))
+word_unbroken false = ((λ e. omega (arith, e)), ((λ e. omega (arith, e)), ((λ e. omega (arith, e)), ((λ e. omega (arith, e)), tt))))
+
+mode_break : (o : Bool) (xs : List ℕ) → mode_line o ++ xs ≡ mode_word o ++ 10 ∷ xs
+mode_break true xs = refl
+mode_break false xs = refl
+
+head_line : IsLines 1 head
+head_line = record { parts = codes "proof 1" ∷ []; counted = refl; unbroken = (head_unbroken, tt); same = refl }
+
+pub no_mode : (text rest : List ℕ) → head ++ rest ≡ text → ((o : Bool) (xs : List ℕ) → mode_line o ++ xs ≡ rest → ⊥) → IsFirstFault text 2
+no_mode text rest e none = record {
+  before = 1;
+  numbered = refl;
+  front = head;
+  rest = rest;
+  parted = e;
+  lines_before = head_line;
+  begins = record { rest = mode_line false ++ codes "0\n"; whole = record { proof = proof_of false [] []; is = record { answers = tt; lines = tt }; same = refl } };
+  with_it = λ bytes after u same b.
+      let p = behind_first (bytes ++ 10 ∷ b.rest) (proof_text _ _ (behind_front head bytes b.rest) b.whole) in
+      let h = first_line (mode_word p.0.opt) bytes _ b.rest (word_unbroken p.0.opt) u (sym (mode_break p.0.opt _) ∙ p.2) in
+      none p.0.opt after (mode_break p.0.opt after ∙ ap (λ (t : List ℕ). t ++ 10 ∷ after) h.0 ∙ same);
+  whole = λ t. let p = behind_first rest (proof_text _ _ (sym e) t) in none p.0.opt _ p.2;
+}
+
+two_lines : (o : Bool) → IsLines 2 (front_of (proof_of o [] []))
+two_lines true = record { parts = codes "proof 1" ∷ codes "opt" ∷ []; counted = refl; unbroken = (head_unbroken, (word_unbroken true, tt)); same = refl }
+two_lines false = record { parts = codes "proof 1" ∷ codes "enum" ∷ []; counted = refl; unbroken = (head_unbroken, (word_unbroken false, tt)); same = refl }
+
+start_regroup : (h m rest : List ℕ) → ((((h ++ m) ++ []) ++ []) ++ rest) ≡ h ++ (m ++ rest)
+start_regroup h m rest = simp (append_assoc, append-nil)
+
+pub starts : (text body rest : List ℕ) (opt : Bool) → head ++ body ≡ text → mode_line opt ++ rest ≡ body → IsWalked text 2 (proof_of opt [] []) rest
+starts text body rest opt e m = record {
+  is = record { answers = tt; lines = tt };
+  parted = start_regroup head (mode_line opt) rest ∙ ap (λ (t : List ℕ). head ++ t) m ∙ e;
+  counted = two_lines opt;
+  only = λ more t.
+      let p = behind_first (mode_line opt ++ more) (proof_text _ _ (start_regroup head (mode_line opt) more) t) in
+      record { more_answers = p.0.answers; more_lines = p.0.lines; are_sets = p.1.answers; are_lines = p.1.lines; in_order = λ lt. absurd (omega (arith, lt)); same = behind_mode p.0.opt opt _ more p.2 };
+}
+
+pub no_mode_line : (text : List ℕ) → ((rest : List ℕ) → mode_line false ++ rest ≡ text → ⊥) → ((rest : List ℕ) → mode_line true ++ rest ≡ text → ⊥) → (o : Bool) (rest : List ℕ) → mode_line o ++ rest ≡ text → ⊥
+no_mode_line text a b true rest e = b rest e
+no_mode_line text a b false rest e = a rest e
+
+pub unbroken_end : (rest bytes behind : List ℕ) → IsCut 10 rest bytes behind → ((more : List ℕ) → 10 ∷ more ≡ behind → ⊥) → IsUnbroken rest
+unbroken_end rest bytes [] cut none = subst IsUnbroken (sym (append-nil bytes) ∙ cut.whole) cut.none
+unbroken_end rest bytes (b ∷ behind) cut none = absurd (none behind (ap (λ x. x ∷ behind) (sym cut.at)))
+
+pub line_and_rest : (rest bytes behind more : List ℕ) → IsCut 10 rest bytes behind → 10 ∷ more ≡ behind → bytes ++ 10 ∷ more ≡ rest
+line_and_rest rest bytes behind more cut e = ap (λ (t : List ℕ). bytes ++ t) e ∙ cut.whole
+
+pub lines_left : (count : ℕ) (rest bytes more : List ℕ) → bytes ++ 10 ∷ more ≡ rest → length more < length rest
+lines_left count rest bytes more e = omega (arith, ap length e, length-append bytes (10 ∷ more))
+
+pub start_short : (text body rest : List ℕ) (opt : Bool) → head ++ body ≡ text → mode_line opt ++ rest ≡ body → length text ≤ most_bytes → 2 + length rest ≤ most_bytes
+start_short text body rest opt e m le = omega (arith, ap length e, ap length m, length-append head body, length-append (mode_line opt) rest, le)
+
+pub next_short : (count : ℕ) (rest bytes more : List ℕ) → bytes ++ 10 ∷ more ≡ rest → count + length rest ≤ most_bytes → (count + 1) + length more ≤ most_bytes
+next_short count rest bytes more e le = omega (arith, lines_left count rest bytes more e, le)

@@ -1,0 +1,51 @@
+-- The text of a proof: one line for each part, one blank between fields, no leading zeros.
+use Rattle.std.specs.Prelude.{ℕ, List, [], ◌∷◌, ◌++◌, length, flat_map, Bool, if◌then◌else◌, ℤ, codes, decimal}
+use Rattle.std.specs.Fmt.{signed_decimal}
+use Rattle.asp_model.specs.Sets.{Atoms}
+use Rattle.asp_proof.specs.declared.proof.Line.{Line}
+use Rattle.asp_proof.specs.declared.proof.Line.TheVariants as kind
+use Rattle.asp_proof.specs.declared.proof.Proof.{Proof}
+
+-- ---- fields, each behind a blank
+
+abbrev pub natural_field : ℕ → List ℕ
+natural_field n = 32 ∷ decimal n
+
+abbrev pub integer_field : ℤ → List ℕ
+integer_field z = 32 ∷ signed_decimal z
+
+-- how many there are, and each of them
+abbrev pub counted_fields : {A : Type 0} → (A → List ℕ) → List A → List ℕ
+counted_fields text xs = natural_field (length xs) ++ flat_map text xs
+
+abbrev pub atoms_fields : Atoms → List ℕ
+atoms_fields S = counted_fields natural_field S
+
+abbrev pub literals_fields : List ℤ → List ℕ
+literals_fields literals = counted_fields integer_field literals
+
+-- ---- lines
+
+abbrev pub line : List ℕ → List ℕ
+line bytes = bytes ++ 10 ∷ []
+
+abbrev pub lines : {A : Type 0} → (A → List ℕ) → List A → List ℕ
+lines text xs = flat_map (λ x. line (text x)) xs
+
+abbrev pub answer_text : Atoms → List ℕ
+answer_text S = codes "a" ++ atoms_fields S
+
+-- a set and its nogood
+abbrev pub loop_fields : Atoms × List ℤ → List ℕ
+loop_fields x = atoms_fields x.0 ++ literals_fields x.1
+
+abbrev pub line_text : Line → List ℕ
+line_text (kind.Loop set nogood) = codes "o" ++ loop_fields (set, nogood)
+line_text (kind.Learned literals) = codes "l" ++ literals_fields literals
+line_text (kind.Cube literals) = codes "c" ++ literals_fields literals
+
+abbrev pub mode_line : Bool → List ℕ
+mode_line opt = if opt then codes "opt\n" else codes "enum\n"
+
+abbrev pub text_of : Proof → List ℕ
+text_of p = codes "proof 1\n" ++ mode_line p.opt ++ lines answer_text p.answers ++ lines line_text p.lines ++ codes "0\n"

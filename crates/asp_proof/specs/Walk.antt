@@ -1,0 +1,44 @@
+-- A text of which some lines were taken.
+use Rattle.std.specs.Prelude.{◌≡◌, ◌⊎◌, ℕ, ◌<◌, Bool, List, [], ◌∷◌, ◌++◌, length, codes}
+use Rattle.std.specs.List.{AllByRecursion}
+use Rattle.asp_proof.specs.Texts.{lines}
+use Rattle.asp_model.specs.Sets.{Atoms}
+use Rattle.asp_proof.specs.declared.proof.Line.{Line}
+use Rattle.asp_proof.specs.declared.proof.Proof.{Proof}
+use Rattle.asp_proof.specs.Texts.{answer_text, line_text, mode_line}
+use Rattle.asp_proof.specs.Grammar.{IsSet, IsLine, IsProof, IsLines, IsProofText}
+use Rattle.asp_proof.specs.Fields.{IsNone, IsWhole}
+
+abbrev pub proof_of : Bool → List Atoms → List Line → Proof
+proof_of opt answers entries = record { opt = opt; answers = answers; lines = entries }
+
+-- the lines that were taken
+abbrev pub front_of : Proof → List ℕ
+front_of p = codes "proof 1\n" ++ mode_line p.opt ++ lines answer_text p.answers ++ lines line_text p.lines
+
+-- what ends a proof's text whose lines so far are these: more answers, if there is no further line yet, more lines, and the last one
+pub record Ends (entries : List Line) (rest : List ℕ) : Type 0 where
+  pub more_answers : List Atoms
+  pub more_lines : List Line
+  pub are_sets : AllByRecursion IsSet more_answers
+  pub are_lines : AllByRecursion IsLine more_lines
+  pub in_order : 0 < length entries → more_answers ≡ []
+  pub same : lines answer_text more_answers ++ (lines line_text more_lines ++ codes "0\n") ≡ rest
+
+-- so many lines were taken, of which this proof is made, and the rest of the text wasn't looked at
+pub record IsWalked (text : List ℕ) (count : ℕ) (p : Proof) (rest : List ℕ) : Type 0 where
+  pub is : IsProof p
+  pub parted : front_of p ++ rest ≡ text
+  pub counted : IsLines count (front_of p)
+  pub only : (more : List ℕ) → IsProofText (front_of p ++ more) → Ends p.lines more
+
+-- one line was taken
+abbrev pub Takes : List ℕ → List Atoms → List Line → List Atoms → List Line → Type 0
+Takes bytes answers entries now_answers now_entries =
+    ((S : Atoms) × (entries ≡ []) × (now_entries ≡ []) × (now_answers ≡ answers ++ S ∷ []) × IsWhole IsSet answer_text bytes S)
+    ⊎ ((l : Line) × (now_answers ≡ answers) × (now_entries ≡ entries ++ l ∷ []) × IsWhole IsLine line_text bytes l)
+
+-- no line that may come next is this
+pub record IsRefused (bytes : List ℕ) (entries : List Line) : Type 0 where
+  pub no_line : IsNone IsLine line_text bytes
+  pub no_answer : entries ≡ [] → IsNone IsSet answer_text bytes

@@ -1,0 +1,187 @@
+//! The text of a proof, written.
+ghost use Rattle.std.specs.Prelude.{◌≡◌, ◌++◌, ◌∷◌, ◌≤◌, List, ℕ, [], codes, flat_map, OnOk, OnErr};
+ghost use Rattle.std.specs.Io.KnownBytes.{Appends};
+ghost use Rattle.asp_io.specs.Causes.{Rose, AppendsFront};
+ghost use Rattle.asp_proof.specs.Texts.{natural_field, integer_field, line, lines};
+ghost use Rattle.asp_buffer.specs.Out.{Puts, out};
+ghost use Rattle.asp_proof.specs.Texts.{atoms_fields, literals_fields, answer_text, line_text, mode_line, text_of};
+
+use crate::proof::{Line, Proof};
+use asp_buffer::{Waiting, flush, put, put_number};
+use asp_io::{Failed, Sink};
+use asp_model::interp::Interp;
+use asp_model::program::Atom;
+use itoa::Integer;
+
+// Puts out a blank and the number.
+fn put_field<K: Sink, I: Integer>(
+    sink: &mut K,
+    waiting: &mut Waiting,
+    number: I,
+) -> Result<(), Failed>
+    ensures { Puts (out (K.held sink.old) (K.faults sink.old) waiting.old)
+        (out (K.held sink.new) (K.faults sink.new) waiting.new) result (32 ∷ I.text number) }
+{
+    put(sink, waiting, b" ")?;
+    put_number(sink, waiting, number)
+}
+
+fn put_each_atom<K: Sink>(sink: &mut K, waiting: &mut Waiting, atoms: &[Atom]) -> Result<(), Failed>
+    ensures { Puts (out (K.held sink.old) (K.faults sink.old) waiting.old)
+        (out (K.held sink.new) (K.faults sink.new) waiting.new) result (flat_map natural_field atoms.now) }
+{
+    for atom in atoms {
+        put_field(sink, waiting, *atom)?;
+    }
+    Ok(())
+}
+
+fn put_literal<K: Sink>(sink: &mut K, waiting: &mut Waiting, literal: &i32) -> Result<(), Failed>
+    ensures { Puts (out (K.held sink.old) (K.faults sink.old) waiting.old)
+        (out (K.held sink.new) (K.faults sink.new) waiting.new) result (integer_field literal.now) }
+{
+    put(sink, waiting, b" ")?;
+    put_number(sink, waiting, *literal)
+}
+
+fn put_each_literal<K: Sink>(
+    sink: &mut K,
+    waiting: &mut Waiting,
+    literals: &[i32],
+) -> Result<(), Failed>
+    ensures { Puts (out (K.held sink.old) (K.faults sink.old) waiting.old)
+        (out (K.held sink.new) (K.faults sink.new) waiting.new) result (flat_map integer_field literals.now) }
+{
+    for literal in literals {
+        put_literal(sink, waiting, literal)?;
+    }
+    Ok(())
+}
+
+fn put_atoms<K: Sink>(sink: &mut K, waiting: &mut Waiting, atoms: &[Atom]) -> Result<(), Failed>
+    ensures { Puts (out (K.held sink.old) (K.faults sink.old) waiting.old)
+        (out (K.held sink.new) (K.faults sink.new) waiting.new) result (atoms_fields atoms.now) }
+{
+    put_field(sink, waiting, atoms.len())?;
+    put_each_atom(sink, waiting, atoms)
+}
+
+fn put_literals<K: Sink>(
+    sink: &mut K,
+    waiting: &mut Waiting,
+    literals: &[i32],
+) -> Result<(), Failed>
+    ensures { Puts (out (K.held sink.old) (K.faults sink.old) waiting.old)
+        (out (K.held sink.new) (K.faults sink.new) waiting.new) result (literals_fields literals.now) }
+{
+    put_field(sink, waiting, literals.len())?;
+    put_each_literal(sink, waiting, literals)
+}
+
+fn put_answer<K: Sink>(sink: &mut K, waiting: &mut Waiting, answer: &Interp) -> Result<(), Failed>
+    ensures { Puts (out (K.held sink.old) (K.faults sink.old) waiting.old)
+        (out (K.held sink.new) (K.faults sink.new) waiting.new) result (line (answer_text answer.now)) }
+{
+    put(sink, waiting, b"a")?;
+    put_atoms(sink, waiting, answer.as_slice())?;
+    put(sink, waiting, b"\n")
+}
+
+fn put_answers<K: Sink>(
+    sink: &mut K,
+    waiting: &mut Waiting,
+    answers: &[Interp],
+) -> Result<(), Failed>
+    ensures { Puts (out (K.held sink.old) (K.faults sink.old) waiting.old)
+        (out (K.held sink.new) (K.faults sink.new) waiting.new) result (lines answer_text answers.now) }
+{
+    for answer in answers {
+        put_answer(sink, waiting, answer)?;
+    }
+    Ok(())
+}
+
+fn put_loop<K: Sink>(
+    sink: &mut K,
+    waiting: &mut Waiting,
+    set: &Interp,
+    nogood: &[i32],
+) -> Result<(), Failed>
+    ensures { Puts (out (K.held sink.old) (K.faults sink.old) waiting.old)
+        (out (K.held sink.new) (K.faults sink.new) waiting.new) result (codes "o" ++ atoms_fields set.now ++ literals_fields nogood.now) }
+{
+    put(sink, waiting, b"o")?;
+    put_atoms(sink, waiting, set.as_slice())?;
+    put_literals(sink, waiting, nogood)
+}
+
+fn put_kind<K: Sink>(
+    sink: &mut K,
+    waiting: &mut Waiting,
+    kind: &[u8],
+    literals: &[i32],
+) -> Result<(), Failed>
+    ensures { Puts (out (K.held sink.old) (K.faults sink.old) waiting.old)
+        (out (K.held sink.new) (K.faults sink.new) waiting.new) result (kind.now ++ literals_fields literals.now) }
+{
+    put(sink, waiting, kind)?;
+    put_literals(sink, waiting, literals)
+}
+
+fn put_fields<K: Sink>(sink: &mut K, waiting: &mut Waiting, line: &Line) -> Result<(), Failed>
+    ensures { Puts (out (K.held sink.old) (K.faults sink.old) waiting.old)
+        (out (K.held sink.new) (K.faults sink.new) waiting.new) result (line_text line.now) }
+{
+    match line {
+        Line::Loop { set, nogood } => put_loop(sink, waiting, set, nogood.as_slice()),
+        Line::Learned(literals) => put_kind(sink, waiting, b"l", literals.as_slice()),
+        Line::Cube(literals) => put_kind(sink, waiting, b"c", literals.as_slice()),
+    }
+}
+
+fn put_line<K: Sink>(sink: &mut K, waiting: &mut Waiting, entry: &Line) -> Result<(), Failed>
+    ensures { Puts (out (K.held sink.old) (K.faults sink.old) waiting.old)
+        (out (K.held sink.new) (K.faults sink.new) waiting.new) result (line (line_text entry.now)) }
+{
+    put_fields(sink, waiting, entry)?;
+    put(sink, waiting, b"\n")
+}
+
+fn put_lines<K: Sink>(sink: &mut K, waiting: &mut Waiting, entries: &[Line]) -> Result<(), Failed>
+    ensures { Puts (out (K.held sink.old) (K.faults sink.old) waiting.old)
+        (out (K.held sink.new) (K.faults sink.new) waiting.new) result (lines line_text entries.now) }
+{
+    for entry in entries {
+        put_line(sink, waiting, entry)?;
+    }
+    Ok(())
+}
+
+fn mode_line(opt: bool) -> &'static [u8]
+    ensures { result.now ≡ mode_line opt }
+{
+    if opt { b"opt\n" } else { b"enum\n" }
+}
+
+fn put_proof<K: Sink>(sink: &mut K, waiting: &mut Waiting, proof: &Proof) -> Result<(), Failed>
+    ensures { Puts (out (K.held sink.old) (K.faults sink.old) waiting.old)
+        (out (K.held sink.new) (K.faults sink.new) waiting.new) result (text_of proof.now) }
+{
+    put(sink, waiting, b"proof 1\n")?;
+    put(sink, waiting, mode_line(proof.opt))?;
+    put_answers(sink, waiting, proof.answers.as_slice())?;
+    put_lines(sink, waiting, proof.lines.as_slice())?;
+    put(sink, waiting, b"0\n")
+}
+
+/// Writes the text of a proof. It takes no memory. After an error a front of the text is out.
+pub fn write_proof<K: Sink>(sink: &mut K, proof: &Proof) -> Result<(), Failed>
+    ensures all { OnOk result (Appends (K.held sink.old) (K.held sink.new) (text_of proof.now)) }
+    ensures front { OnErr result (AppendsFront (K.held sink.old) (K.held sink.new) (text_of proof.now)) }
+    ensures later { K.faults sink.old ≤ K.faults sink.new }
+    ensures cause { OnErr result (Rose (K.faults sink.old) (K.faults sink.new)) }
+{
+    let mut waiting = Waiting::new();
+    put_proof(sink, &mut waiting, proof)?;
+    flush(sink, &mut waiting)
+}

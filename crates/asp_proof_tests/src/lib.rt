@@ -1,0 +1,5 @@
+//! Tests of `asp_proof`.
+#![tactic(auto)]
+
+#[cfg(test)]
+mod texts;
