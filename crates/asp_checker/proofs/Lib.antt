@@ -5,3 +5,4 @@ pub mod StepLaws
 pub mod WeightLaws
 pub mod LookLaws
 pub mod LiteralLaws
+pub mod SweepLaws

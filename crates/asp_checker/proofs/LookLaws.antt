@@ -173,7 +173,7 @@ calm_whole x lits i h = subst (IsCalm x) (take-append-drop i lits) (calm_more x 
 pub seen_whole : (x : List (Option Bool)) (lits : List Literal) (i : ℕ) (seen : Look) → length lits ≤ i → IsSeen x (take i lits) seen → IsSeen x lits seen
 seen_whole x lits i seen le h = subst (λ (n : List Literal). IsSeen x n seen) (take_all i lits le) h
 
-among_range : (m : ℕ) (n : List Literal) (l : Literal) → AllByRecursion (λ k. k.var < m) n → has_literal n l ≡ true → l.var < m
+pub among_range : (m : ℕ) (n : List Literal) (l : Literal) → AllByRecursion (λ k. k.var < m) n → has_literal n l ≡ true → l.var < m
 among_range m [] l h e = absurd (false≢true e)
 among_range m (k ∷ n) l h e = (elim (literal_eq k l) as (λ v. literal_eq k l ≡ v → (v || has_literal n l) ≡ true → l.var < m) [
   | true ↦ λ q i. let same = ap (λ (o : Literal). o.var) (same_literal k l q) in omega (arith, same, h.0)

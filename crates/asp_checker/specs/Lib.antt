@@ -3,3 +3,4 @@ pub mod Lines
 pub mod Right
 pub mod Steps
 pub mod Looks
+pub mod Sweeps

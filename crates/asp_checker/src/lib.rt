@@ -4,3 +4,4 @@
 pub mod laws;
 pub mod lines;
 pub mod nogoods;
+pub mod sweep;
