@@ -15,7 +15,7 @@ use Rattle.asp_bound.specs.declared.place.Place.{Place}
 use Rattle.asp_bound.specs.declared.place.Item.{Item}
 use Rattle.asp_bound.specs.Optimism.{optimistic_at, optimistic}
 use Rattle.asp_bound.specs.Rises.{raised, row_at, nth_priority}
-use Rattle.asp_bound.specs.Kept.{IsKept}
+use Rattle.asp_bound.specs.Kept.{IsOnce, IsKept}
 use Rattle.asp_bound.specs.Gathered.{valueless, AreGathered, HasEach}
 use Rattle.asp_bound.proofs.CostLaws.{optimistic_at-set, optimistic_at-unset, optimistic_at-high, optimistic_at-low, rise_at-small}
 
@@ -125,8 +125,8 @@ kept-untold p a rows columns vars sums new kept v b i k some long each = record 
 
 -- ---- at the start
 pub kept-new : (p : Program) (rows : List (List Place)) (columns : List (List Item)) (vars : List ℕ) (sums : List ℤ) → IsSound p → var_count p < 2 ^ 31 → AreGathered p (priorities p.minimize) rows columns sums →
-    All (λ v. (0 < v) × (v < length rows)) vars → HasEach rows (length rows) vars → IsKept p (valueless p) rows columns vars sums
-kept-new p rows columns vars sums sound few g within whole = record {
+    All (λ v. (0 < v) × (v < length rows)) vars → HasEach rows (length rows) vars → IsOnce vars → IsKept p (valueless p) rows columns vars sums
+kept-new p rows columns vars sums sound few g within whole once = record {
   sound = sound;
   few = few;
   small = g.small;
@@ -136,6 +136,7 @@ kept-new p rows columns vars sums sound few g within whole = record {
   listed = record {
     within = All-weaker (λ v. (0 < v) × (v < length rows)) (λ v. (0 < v) × (v ≤ var_count p)) (λ v h. (h.0, omega (arith, g.count, h.1))) vars within;
     whole = λ v i k some. whole v i (omega (arith, g.count, k)) some;
+    once = once;
   };
   linked = g.linked;
   summed = g.summed;
@@ -146,10 +147,10 @@ pub kept_as : (p : Program) (a z : List (Option Bool)) (rows : List (List Place)
 kept_as p a z rows columns vars sums new ez en kept = subst (IsKept p z rows columns vars) (sym en) (subst (λ (y : List (Option Bool)). IsKept p y rows columns vars sums) (sym ez) kept)
 
 pub begun_as : (p o : Program) (a : List (Option Bool)) (count : ℕ) (rows made : List (List Place)) (columns : List (List Item)) (vars : List ℕ) (sums : List ℤ) → o ≡ p → count ≡ var_count p → var_count p < 2 ^ 31 → a ≡ replicate (count + 1) None →
-    rows ≡ made → IsSound p → AreGathered p (priorities p.minimize) made columns sums → All (λ v. (0 < v) × (v < length rows)) vars → HasEach rows (length rows) vars → IsKept o a rows columns vars sums
-begun_as p o a count rows made columns vars sums eo ec few ea er sound g within whole =
+    rows ≡ made → IsSound p → AreGathered p (priorities p.minimize) made columns sums → All (λ v. (0 < v) × (v < length rows)) vars → HasEach rows (length rows) vars → IsOnce vars → IsKept o a rows columns vars sums
+begun_as p o a count rows made columns vars sums eo ec few ea er sound g within whole once =
     let gathered = subst (λ (z : List (List Place)). AreGathered p (priorities p.minimize) z columns sums) (sym er) g in
-    let kept = kept-new p rows columns vars sums sound few gathered within whole in
+    let kept = kept-new p rows columns vars sums sound few gathered within whole once in
     let values = ea ∙ ap (λ (n : ℕ). let z : List (Option Bool) = replicate (n + 1) None in z) ec in
     subst (λ (q : Program). IsKept q a rows columns vars sums) (sym eo) (kept_as p (valueless p) a rows columns vars sums sums values refl kept)
 

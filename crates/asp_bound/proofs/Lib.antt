@@ -8,5 +8,6 @@ pub mod StepLaws
 pub mod KeptLaws
 pub mod StartLaws
 pub mod FindLaws
+pub mod NeededLaws
 pub mod NogoodLaws
 pub mod SilentLaws

@@ -1,66 +1,45 @@
 -- What the nogoods that the bound gives say.
-use Rattle.std.proofs.Common.{◌≡◌, ◌≢◌, ℕ, zero, suc, ◌+◌, ◌<◌, ◌≤◌, Bool, true, false, cond, not, eqb, ltb, ◌&&◌, ◌||◌, List, [], ◌∷◌, ◌++◌, length, get_or, set, Option, Some, None, ℤ, pos, ◌≤ℤ◌, refl, sym, ap, ◌∙◌, subst, inl, inr, arith, get_or-set_same, get_or-set_other}
-use Rattle.std.specs.List.{All, list_all, list_any, flat_map}
-use Rattle.std.specs.Bool.{beq}
+use Rattle.std.proofs.Common.{◌≡◌, ◌≢◌, ℕ, zero, suc, ◌+◌, ◌<◌, ◌≤◌, Bool, true, false, cond, not, eqb, ltb, ◌&&◌, ◌||◌, List, [], ◌∷◌, ◌++◌, length, get_or, set, Option, Some, None, ℤ, pos, ◌+ℤ◌, neg_ℤ, ◌^◌, ◌≤ℤ◌, refl, sym, ap, ◌∙◌, subst, inl, inr, arith, get_or-set_same, get_or-set_other}
+use Rattle.std.specs.List.{All, list_all, list_any, flat_map, count_by}
+use Rattle.std.specs.List.Sorted.{IsPermutation}
 use Rattle.std.specs.Option.{is_none}
 use Rattle.std.proofs.lemmas.Int.{ints}
-use Rattle.std.proofs.lemmas.Bool.{false≢true, cases_lt, cases_eq, eqb-true, eq-eqb, lt-ltb, or_left, or_right}
-use Rattle.std.proofs.lemmas.List.{get_or-map, get_or_past, length-map, append-nil}
+use Rattle.std.proofs.lemmas.Bool.{false≢true, cases_lt, cases_eq, eqb-true, lt-ltb, or_left, or_right}
+use Rattle.std.proofs.lemmas.List.{append-nil}
 use Rattle.std.proofs.lemmas.List.Elements.{All-append, All-head, All-tail, All-push}
-use Rattle.std.proofs.lemmas.List.Sums.{sum_by-cons}
+use Rattle.std.proofs.lemmas.List.Sums.{sum_by-cons, sum_by-append}
+use Rattle.std.proofs.lemmas.List.Sorted.{list_any-IsPermutation}
 use Rattle.std.proofs.lemmas.List.Folds.{list_any-append, list_all-append}
 use Rattle.asp_model.specs.declared.program.Program.{Program}
 use Rattle.asp_model.specs.Costs.{priorities, betters}
 use Rattle.asp_model.proofs.MemberLaws.{list_any-flat_map}
-use Rattle.asp_vars.specs.Literals.{Literal, literal_eq, has_literal, value_of, holds_in, agrees}
+use Rattle.asp_vars.specs.Literals.{Literal, literal_eq, has_literal, value_of, holds_in, agrees, hits, is_true}
 use Rattle.asp_vars.specs.Numbering.{var_count, values}
 use Rattle.asp_vars.specs.Entailment.{Below}
 use Rattle.asp_vars.specs.declared.nogood.Base.TheVariants as base
 use Rattle.asp_vars.specs.declared.nogood.Nogood.{Nogood}
-use Rattle.asp_vars.proofs.LiteralLaws.{beq_same, hits-has, and_both, and_left, and_right}
+use Rattle.asp_vars.proofs.LiteralLaws.{beq_same, and_both, and_left, and_right}
 use Rattle.asp_trail.specs.Trails.{IsVar}
 use Rattle.asp_trail.specs.Quiet.{is_open, is_violated, is_unit, is_calm}
 use Rattle.asp_bound.specs.declared.place.Place.{Place}
 use Rattle.asp_bound.specs.declared.place.Item.{Item}
-use Rattle.asp_bound.specs.Optimism.{optimistic_at, optimistic}
-use Rattle.asp_bound.specs.Definition.{cost_of_at, cost_of, ExcludesBelow}
+use Rattle.asp_bound.specs.Optimism.{optimistic}
+use Rattle.asp_bound.specs.Definition.{ExcludesBelow}
 use Rattle.asp_bound.specs.Rises.{rise_at, rise_by, raised, row_at, nth_priority}
+use Rattle.asp_bound.specs.Needed.{total, needed}
 use Rattle.asp_bound.specs.Reasons.{raises, raising_by, raising_at}
 use Rattle.asp_bound.specs.Reach.{reach, lifted}
 use Rattle.asp_bound.specs.Kept.{IsKept}
 use Rattle.asp_bound.specs.Found.{Reaches}
 use Rattle.asp_bound.specs.Bounded.{IsGivenBy}
 use Rattle.asp_bound.specs.declared.find.Implied.{Implied}
-use Rattle.asp_bound.proofs.CostLaws.{optimistic_at-le, cost_of-values}
-use Rattle.asp_bound.proofs.ReachLaws.{reach-above, reached_now}
+use Rattle.asp_bound.proofs.CostLaws.{cost_of-values}
+use Rattle.asp_bound.proofs.ReachLaws.{reached_now}
 use Rattle.asp_bound.proofs.SilentLaws.{reach_at-set}
+use Rattle.asp_bound.proofs.KeptLaws.{held-value, kept-told, sums-count}
+use Rattle.asp_bound.proofs.NeededLaws.{OfRaising, Covers, AreHeld, held-permuted, needed-excludes, needed-among, all-has, total-low, of-has, passes-has, hold-has, times, itself, beq-itself}
 
 -- ---- what a nogood says
--- the literals of values that raise the first priorities are among the nogood's
-abbrev HasRaising : Program → List (Option Bool) → ℕ → List Literal → Type 0
-HasRaising p a d n =
-    (j v : ℕ) (b : Bool) → j < d → j < length (priorities p.minimize) → 0 < v → v ≤ var_count p → value_of a v ≡ Some b → 0 < rise_at p (nth_priority p j) v b → has_literal n (record { var = v; truth = b }) ≡ true
-
--- Such a nogood excludes what is below the bound that the first priorities reach.
-pub excludes_from : (p : Program) (a : List (Option Bool)) (c : List ℤ) (d : ℕ) (n : List Literal) → reach (optimistic p a) c ≡ Some d → HasRaising p a d n → ExcludesBelow p c n
-excludes_from p a c d n r among = record {
-  excluded = λ x hit.
-      let qs = priorities p.minimize in
-      let same : length (optimistic p a) ≡ length (cost_of p x) = length-map qs (optimistic_at p a) ∙ sym (length-map qs (cost_of_at p x)) in
-      let above : (j : ℕ) → j < d → get_or (optimistic p a) j (pos 0) ≤ℤ get_or (cost_of p x) j (pos 0) = λ j lt. elim (cases_lt j (length qs)) [
-        | inl low ↦ (
-            let left : get_or (optimistic p a) j (pos 0) ≡ optimistic_at p a (nth_priority p j) = get_or-map (optimistic_at p a) qs j (pos 0) (pos 0) low in
-            let right : get_or (cost_of p x) j (pos 0) ≡ cost_of_at p x (nth_priority p j) = get_or-map (cost_of_at p x) qs j (pos 0) (pos 0) low in
-            let le = optimistic_at-le p a x (nth_priority p j) (λ v b i k e up. sym (beq_same (get_or x v false) b (hits-has x n (record { var = v; truth = b }) hit (among j v b lt low i k e up)))) in
-            omega (arith, ints, left, right, le))
-        | inr out ↦ (
-            let left : get_or (optimistic p a) j (pos 0) ≡ pos 0 = get_or_past (optimistic p a) j (pos 0) (omega (arith, length-map qs (optimistic_at p a), out)) in
-            let right : get_or (cost_of p x) j (pos 0) ≡ pos 0 = get_or_past (cost_of p x) j (pos 0) (omega (arith, length-map qs (cost_of_at p x), out)) in
-            omega (arith, ints, left, right))
-      ] in
-      reach-above (optimistic p a) (cost_of p x) c d r same above;
-}
-
 -- It is below the cost.
 pub excludes_below : (p : Program) (c : List ℤ) (n : List Literal) → ExcludesBelow p c n → Below p c n
 excludes_below p c n h = record {
@@ -99,10 +78,6 @@ among-any (x ∷ vs) v q h e = any_by (eqb x v) refl h (λ g. among-any vs v q g
     any_by true f g rest = or_left (q x) (list_any q vs) (ap q (eqb-true x v f) ∙ e)
     any_by false f g rest = or_right (q x) (list_any q vs) (rest g)
 
-itself : (v : ℕ) (b : Bool) → literal_eq (record { var = v; truth = b }) (record { var = v; truth = b }) ≡ true
-itself v true = and_both (eqb v v) true (eq-eqb v v refl) refl
-itself v false = and_both (eqb v v) true (eq-eqb v v refl) refl
-
 one_has : (t : Bool) (v : ℕ) (b : Bool) → t ≡ true → has_literal (cond t (record { var = v; truth = b } ∷ []) []) (record { var = v; truth = b }) ≡ true
 one_has true v b e = or_left (literal_eq (record { var = v; truth = b }) (record { var = v; truth = b })) false (itself v b)
 one_has false v b e = absurd (false≢true e)
@@ -126,10 +101,6 @@ raising-whole p a rows columns vars sums d kept j v b lt low i k e up =
     raising-has a rows d vars v b (kept.listed.whole v i k (raised-some (row_at rows v) j b raise)) e (raised-raises (row_at rows v) j d b lt raise)
 
 -- ---- they hold
-beq-itself : (b : Bool) → beq b b ≡ true
-beq-itself true = refl
-beq-itself false = refl
-
 raising_by-hold : (a : List (Option Bool)) (row : List Place) (d v : ℕ) (o : Option Bool) → value_of a v ≡ o → list_all (holds_in a) (raising_by row d v o) ≡ true
 raising_by-hold a row d v None e = refl
 raising_by-hold a row d v (Some b) e = by_test (raises row d b)
@@ -185,76 +156,151 @@ raising-within P a rows d [] h = λ k e lt. absurd (omega arith)
 raising-within P a rows d (v ∷ vs) h =
     All-append (λ (l : Literal). P l.var) (raising_at a rows d v) (raising_of a rows d vs) (raising_by-within P (row_at rows v) d v (value_of a v) (All-head P v vs h)) (raising-within P a rows d vs (All-tail P v vs h))
 
--- ---- with one literal more
-more_raising : (p : Program) (a : List (Option Bool)) (d : ℕ) (n m : List Literal) → HasRaising p a d n → HasRaising p a d (n ++ m)
-more_raising p a d n m h = λ j v b lt low i k e up.
-    let l : Literal = record { var = v; truth = b } in
-    list_any-append (λ (x : Literal). literal_eq x l) n m ∙ or_left (has_literal n l) (has_literal m l) (h j v b lt low i k e up)
+-- ---- each holds, and stands once
+times_by : (row : List Place) (d u v : ℕ) (o : Option Bool) → times v (raising_by row d u o) ≤ cond (eqb u v) 1 0
+times_by row d u v None = omega arith
+times_by row d u v (Some b) = by_test (raises row d b)
+  where
+    by_test : (t : Bool) → times v (cond t (record { var = u; truth = b } ∷ []) []) ≤ cond (eqb u v) 1 0
+    by_test true = omega (arith, sum_by-cons (λ (l : Literal). cond (eqb l.var v) 1 0) (record { var = u; truth = b }) [])
+    by_test false = omega arith
+
+raising-times : (a : List (Option Bool)) (rows : List (List Place)) (d : ℕ) (vs : List ℕ) (v : ℕ) → times v (raising_of a rows d vs) ≤ count_by (λ x. eqb x v) vs
+raising-times a rows d [] v = omega arith
+raising-times a rows d (u ∷ vs) v =
+    let split : times v (raising_of a rows d (u ∷ vs)) ≡ times v (raising_at a rows d u) + times v (raising_of a rows d vs) = sum_by-append (λ (l : Literal). cond (eqb l.var v) 1 0) (raising_at a rows d u) (raising_of a rows d vs) in
+    let first : times v (raising_at a rows d u) ≤ cond (eqb u v) 1 0 = times_by (row_at rows u) d u v (value_of a u) in
+    let counted : count_by (λ x. eqb x v) (u ∷ vs) ≡ cond (eqb u v) 1 0 + count_by (λ x. eqb x v) vs = sum_by-cons (λ (x : ℕ). cond (eqb x v) 1 0) u vs in
+    omega (arith, split, first, counted, raising-times a rows d vs v)
+
+pub found-held : (p : Program) (a : List (Option Bool)) (rows : List (List Place)) (columns : List (List Item)) (vars : List ℕ) (sums : List ℤ) (d : ℕ) (found : List Literal) → IsKept p a rows columns vars sums → IsPermutation (raising_of a rows d vars) found → AreHeld p a found
+found-held p a rows columns vars sums d found kept moved =
+    let lits : List Literal = raising_of a rows d vars in
+    held-permuted p a lits found moved (record {
+      held = λ k g. held-value a k (passes-has (holds_in a) lits k (raising-hold a rows d vars) g);
+      within = λ k g. of-has (λ (l : Literal). IsVar (var_count p) l.var) lits k (raising-within (IsVar (var_count p)) a rows d vars kept.listed.within) g;
+      once = λ v. omega (arith, raising-times a rows d vars v, kept.listed.once v);
+    })
+
+found-whole : (p : Program) (a : List (Option Bool)) (rows : List (List Place)) (columns : List (List Item)) (vars : List ℕ) (sums : List ℤ) (d : ℕ) (found : List Literal) → IsKept p a rows columns vars sums → IsPermutation (raising_of a rows d vars) found →
+    OfRaising p a d (λ v b. has_literal found (record { var = v; truth = b }) ≡ true)
+found-whole p a rows columns vars sums d found kept moved = λ j v b lt low i k e up.
+    sym (list_any-IsPermutation (λ (l : Literal). literal_eq l (record { var = v; truth = b })) (raising_of a rows d vars) found moved) ∙ raising-whole p a rows columns vars sums d kept j v b lt low i k e up
+
+-- ---- what is given
+abbrev nogood_of : List ℤ → List Literal → Nogood
+nogood_of c n = record { lits = n; base = base.Below c }
+
+pub given-now : (p : Program) (a : List (Option Bool)) (rows : List (List Place)) (columns : List (List Item)) (vars : List ℕ) (sums : List ℤ) → IsKept p a rows columns vars sums →
+    (c : List ℤ) (d : ℕ) (n : Nogood) (found : List Literal) → IsPermutation (raising_of a rows d vars) found → reach sums c ≡ Some d → n ≡ record { lits = needed rows c d sums found ++ []; base = base.Below c } → IsGivenBy (record { program = p; values = a }) c n
+given-now p a rows columns vars sums kept c d n found moved r e =
+    let lits : List Literal = needed rows c d sums found in
+    let plain : lits ++ [] ≡ lits = append-nil lits in
+    let held = found-held p a rows columns vars sums d found kept moved in
+    let whole = found-whole p a rows columns vars sums d found kept moved in
+    let excluded : ExcludesBelow p c lits = record {
+      excluded = λ x hit. needed-excludes p rows columns vars c d x found a sums kept held (λ j v b lt low i k e up. inl (whole j v b lt low i k e up)) d r (omega arith) hit;
+    } in
+    let is : IsGivenBy (record { program = p; values = a }) c (record { lits = lits; base = base.Below c }) = record {
+      base = refl;
+      excluded = excluded;
+      below = excludes_below p c lits excluded;
+      within = all-has (λ (l : Literal). IsVar (var_count p) l.var) lits (λ k g. held.within k (needed-among rows c d found sums k g));
+      wanted = violated-loud a lits (hold-has a lits (λ k g. held.held k (needed-among rows c d found sums k g)));
+    } in
+    subst (IsGivenBy (record { program = p; values = a }) c) (sym (e ∙ ap (nogood_of c) plain)) is
 
 same_inside : (x y : Bool) → Some x ≡ Some y → x ≡ y
 same_inside x y e = cc
 
-set_raising : (p : Program) (a : List (Option Bool)) (d : ℕ) (n : List Literal) (u : ℕ) (c : Bool) → u < length a → HasRaising p a d n → HasRaising p (set a u (Some c)) d (n ++ record { var = u; truth = c } ∷ [])
-set_raising p a d n u c inside h = λ j v b lt low i k e up.
-    let l : Literal = record { var = v; truth = b } in
-    let one : Literal = record { var = u; truth = c } in
-    elim (cases_eq v u) [
-      | inl is ↦ (
-          let here : value_of (set a u (Some c)) u ≡ Some b = subst (λ (w : ℕ). value_of (set a u (Some c)) w ≡ Some b) is e in
-          let same : c ≡ b = same_inside c b (sym (get_or-set_same a u (Some c) None inside) ∙ here) in
-          let eq : literal_eq one l ≡ true = and_both (eqb u v) (beq c b) (eq-eqb u v (sym is)) (subst (λ (x : Bool). beq c x ≡ true) same (beq-itself c)) in
-          list_any-append (λ (x : Literal). literal_eq x l) n (one ∷ []) ∙ or_right (has_literal n l) (literal_eq one l || false) (or_left (literal_eq one l) false eq))
-      | inr ne ↦ more_raising p a d n (one ∷ []) h j v b lt low i k (sym (get_or-set_other a u v (Some c) None ne) ∙ e) up
-    ]
+none_some : (b : Bool) → None ≡ Some b → ⊥
+none_some b e = cc
 
--- ---- what is given
-pub given-now : (p : Program) (a : List (Option Bool)) (rows : List (List Place)) (columns : List (List Item)) (vars : List ℕ) (sums : List ℤ) → IsKept p a rows columns vars sums →
-    (c : List ℤ) (d : ℕ) (n : Nogood) → reach sums c ≡ Some d → n ≡ record { lits = raising_of a rows d vars ++ []; base = base.Below c } → IsGivenBy (record { program = p; values = a }) c n
-given-now p a rows columns vars sums kept c d n r e =
-    let lits : List Literal = raising_of a rows d vars in
-    let plain : lits ++ [] ≡ lits = append-nil lits in
-    let excluded : ExcludesBelow p c (lits ++ []) = excludes_from p a c d (lits ++ []) (ap (λ (s : List ℤ). reach s c) (sym kept.summed) ∙ r) (more_raising p a d lits [] (raising-whole p a rows columns vars sums d kept)) in
-    let is : IsGivenBy (record { program = p; values = a }) c (record { lits = lits ++ []; base = base.Below c }) = record {
-      base = refl;
-      excluded = excluded;
-      below = excludes_below p c (lits ++ []) excluded;
-      within = subst (All (λ (l : Literal). IsVar (var_count p) l.var)) (sym plain) (raising-within (IsVar (var_count p)) a rows d vars kept.listed.within);
-      wanted = violated-loud a (lits ++ []) (subst (λ (m : List Literal). list_all (holds_in a) m ≡ true) (sym plain) (raising-hold a rows d vars));
-    } in
-    subst (IsGivenBy (record { program = p; values = a }) c) (sym e) is
+-- They hold with one more value too.
+pub held-told : (p : Program) (a : List (Option Bool)) (n : List Literal) (u : ℕ) (t : Bool) → value_of a u ≡ None → AreHeld p a n → AreHeld p (set a u (Some t)) n
+held-told p a n u t none h = record {
+  held = λ k g. elim (cases_eq k.var u) [
+    | inl is ↦ absurd (none_some k.truth (sym none ∙ subst (λ (w : ℕ). value_of a w ≡ Some k.truth) is (h.held k g)))
+    | inr ne ↦ get_or-set_other a u k.var (Some t) None ne ∙ h.held k g
+  ];
+  within = h.within;
+  once = h.once;
+}
+
+-- With one more value, each that raises the cost is that one, which x has, or a literal's.
+covers-told : (p : Program) (a : List (Option Bool)) (d : ℕ) (n : List Literal) (u : ℕ) (t : Bool) (x : List Bool) → u < length a → is_true x (record { var = u; truth = t }) ≡ true → OfRaising p a d (λ v b. has_literal n (record { var = v; truth = b }) ≡ true) →
+    Covers p (set a u (Some t)) d n x
+covers-told p a d n u t x inside hit whole = λ j v b lt low i k e up. elim (cases_eq v u) [
+  | inl is ↦ (
+      let here : value_of (set a u (Some t)) u ≡ Some b = subst (λ (w : ℕ). value_of (set a u (Some t)) w ≡ Some b) is e in
+      let same : t ≡ b = same_inside t b (sym (get_or-set_same a u (Some t) None inside) ∙ here) in
+      inr (ap (λ (w : ℕ). get_or x w false) is ∙ (beq_same (get_or x u false) t hit ∙ same)))
+  | inr ne ↦ inl (whole j v b lt low i k (sym (get_or-set_other a u v (Some t) None ne) ∙ e) up)
+]
 
 pub given-with : (p : Program) (a : List (Option Bool)) (rows : List (List Place)) (columns : List (List Item)) (vars : List ℕ) (sums : List ℤ) → IsKept p a rows columns vars sums →
-    (c : List ℤ) (x : Implied) (n : Nogood) → Reaches a rows sums c x → 0 < x.lit.var → x.lit.var ≤ var_count p →
-    n ≡ record { lits = raising_of a rows x.depth vars ++ x.lit ∷ []; base = base.Below c } → IsGivenBy (record { program = p; values = a }) c n
-given-with p a rows columns vars sums kept c x n r i k e =
+    (c : List ℤ) (x : Implied) (n : Nogood) (found : List Literal) (left : List ℤ) → IsPermutation (raising_of a rows x.depth vars) found → IsKept p (set a x.lit.var (Some x.lit.truth)) rows columns vars left → Reaches a rows sums c x → 0 < x.lit.var → x.lit.var ≤ var_count p →
+    n ≡ record { lits = needed rows c x.depth left found ++ x.lit ∷ []; base = base.Below c } → IsGivenBy (record { program = p; values = a }) c n
+given-with p a rows columns vars sums kept c x n found left moved more r i k e =
     let d = x.depth in
-    let lits : List Literal = raising_of a rows d vars in
+    let one : List Literal = x.lit ∷ [] in
+    let told : List (Option Bool) = set a x.lit.var (Some x.lit.truth) in
+    let lits : List Literal = needed rows c d left found in
     let inside : x.lit.var < length a = omega (arith, kept.sized, k) in
-    let reached : reach (optimistic p (set a x.lit.var (Some x.lit.truth))) c ≡ Some d = sym (reach_at-set p a rows columns vars sums kept c x.lit.var x.lit.truth i k r.no_value) ∙ r.reached in
-    let excluded : ExcludesBelow p c (lits ++ x.lit ∷ []) =
-    excludes_from p (set a x.lit.var (Some x.lit.truth)) c d (lits ++ x.lit ∷ []) reached (set_raising p a d lits x.lit.var x.lit.truth inside (raising-whole p a rows columns vars sums d kept)) in
-    let is : IsGivenBy (record { program = p; values = a }) c (record { lits = lits ++ x.lit ∷ []; base = base.Below c }) = record {
+    let held = found-held p a rows columns vars sums d found kept moved in
+    let whole = found-whole p a rows columns vars sums d found kept moved in
+    let reached : reach (optimistic p told) c ≡ Some d = sym (reach_at-set p a rows columns vars sums kept c x.lit.var x.lit.truth i k r.no_value) ∙ r.reached in
+    let excluded : ExcludesBelow p c (lits ++ one) = record {
+      excluded = λ y hit.
+          let both : (hits y lits && hits y one) ≡ true = sym (list_all-append (is_true y) lits one) ∙ hit in
+          let last : is_true y x.lit ≡ true = and_left (is_true y x.lit) true (and_right (hits y lits) (hits y one) both) in
+          needed-excludes p rows columns vars c d y found told left more (held-told p a found x.lit.var x.lit.truth r.no_value held) (covers-told p a d found x.lit.var x.lit.truth y inside last whole) d (ap (λ (s : List ℤ). reach s c) more.summed ∙ reached) (omega arith) (and_left (hits y lits) (hits y one) both);
+    } in
+    let is : IsGivenBy (record { program = p; values = a }) c (record { lits = lits ++ one; base = base.Below c }) = record {
       base = refl;
       excluded = excluded;
-      below = excludes_below p c (lits ++ x.lit ∷ []) excluded;
-      within = All-push (λ (l : Literal). IsVar (var_count p) l.var) lits x.lit (raising-within (IsVar (var_count p)) a rows d vars kept.listed.within) (i, k);
-      wanted = unit-loud a lits x.lit.var x.lit.truth (raising-hold a rows d vars) r.no_value;
+      below = excludes_below p c (lits ++ one) excluded;
+      within = All-push (λ (l : Literal). IsVar (var_count p) l.var) lits x.lit (all-has (λ (l : Literal). IsVar (var_count p) l.var) lits (λ k g. held.within k (needed-among rows c d found left k g))) (i, k);
+      wanted = unit-loud a lits x.lit.var x.lit.truth (hold-has a lits (λ k g. held.held k (needed-among rows c d found left k g))) r.no_value;
     } in
     subst (IsGivenBy (record { program = p; values = a }) c) (sym e) is
 
 -- ---- the same, by what the calls say
-abbrev nogood_of : List ℤ → List Literal → Nogood
-nogood_of c n = record { lits = n; base = base.Below c }
-
 pub given_now_as : (p : Program) (a : List (Option Bool)) (rows : List (List Place)) (columns : List (List Item)) (vars : List ℕ) (sums : List ℤ) → IsKept p a rows columns vars sums →
-    (c s limits : List ℤ) (d : ℕ) (n : Nogood) (lits : List Literal) (vs : List ℕ) → s ≡ sums → limits ≡ c → Some d ≡ reach (lifted (λ j. 0) s) limits → vs ≡ vars → lits ≡ raising_of a rows d vs →
-    n ≡ record { lits = lits ++ []; base = base.Below c } → IsGivenBy (record { program = p; values = a }) c n
-given_now_as p a rows columns vars sums kept c s limits d n lits vs es el r ev elits e =
-    given-now p a rows columns vars sums kept c d n (reached_now sums c s limits (Some d) es el r) (e ∙ ap (λ (ls : List Literal). nogood_of c (ls ++ [])) (elits ∙ ap (raising_of a rows d) ev))
+    (c s limits : List ℤ) (d : ℕ) (n : Nogood) (lits found : List Literal) (left : List ℤ) → s ≡ sums → limits ≡ c → Some d ≡ reach (lifted (λ j. 0) s) limits → IsPermutation (raising_of a rows d vars) found → left ≡ s →
+    lits ≡ needed rows limits d left found → n ≡ record { lits = lits ++ []; base = base.Below c } → IsGivenBy (record { program = p; values = a }) c n
+given_now_as p a rows columns vars sums kept c s limits d n lits found left es el r moved same elits e =
+    let is : lits ≡ needed rows c d sums found = elits ∙ (ap (λ (k : List ℤ). needed rows k d left found) el ∙ ap (λ (z : List ℤ). needed rows c d z found) (same ∙ es)) in
+    given-now p a rows columns vars sums kept c d n found moved (reached_now sums c s limits (Some d) es el r) (e ∙ ap (λ (ls : List Literal). nogood_of c (ls ++ [])) is)
+
+-- what the sums are with one value more
+pub kept_raised : (p : Program) (a : List (Option Bool)) (rows : List (List Place)) (columns : List (List Item)) (vars : List ℕ) (sums : List ℤ) → IsKept p a rows columns vars sums →
+    (v : ℕ) (b : Bool) (row : List Place) (s left : List ℤ) → 0 < v → v ≤ var_count p → value_of a v ≡ None → row ≡ row_at rows v → s ≡ sums → length left ≡ length s →
+    ((j : ℕ) → j < length s → get_or left j (pos 0) ≡ get_or s j (pos 0) +ℤ pos (raised row j b)) → IsKept p (set a v (Some b)) rows columns vars left
+kept_raised p a rows columns vars sums kept v b row s left i k none er es long each =
+    kept-told p a rows columns vars sums left kept v b i k none (long ∙ ap length es) (λ j lt.
+    let inside : j < length s = omega (arith, lt, ap length es) in
+    omega (arith, ints, each j inside, ap (λ (z : List ℤ). get_or z j (pos 0)) es, ap (λ (r : List Place). raised r j b) er))
 
 pub given_with_as : (p : Program) (a : List (Option Bool)) (rows : List (List Place)) (columns : List (List Item)) (vars : List ℕ) (sums : List ℤ) → IsKept p a rows columns vars sums →
-    (c s limits : List ℤ) (x : Implied) (n : Nogood) (lits : List Literal) (vs : List ℕ) → s ≡ sums → limits ≡ c → Reaches a rows s limits x → (0 < x.lit.var) × (x.lit.var < length a) → vs ≡ vars → lits ≡ raising_of a rows x.depth vs →
-    n ≡ record { lits = lits ++ x.lit ∷ []; base = base.Below c } → IsGivenBy (record { program = p; values = a }) c n
-given_with_as p a rows columns vars sums kept c s limits x n lits vs es el r within ev elits e =
+    (c s limits : List ℤ) (x : Implied) (n : Nogood) (lits found : List Literal) (left : List ℤ) → s ≡ sums → limits ≡ c → Reaches a rows s limits x → (0 < x.lit.var) × (x.lit.var < length a) → IsPermutation (raising_of a rows x.depth vars) found →
+    IsKept p (set a x.lit.var (Some x.lit.truth)) rows columns vars left → lits ≡ needed rows limits x.depth left found → n ≡ record { lits = lits ++ x.lit ∷ []; base = base.Below c } → IsGivenBy (record { program = p; values = a }) c n
+given_with_as p a rows columns vars sums kept c s limits x n lits found left es el r within moved more elits e =
     let reaches : Reaches a rows sums c x = subst (λ (l : List ℤ). Reaches a rows sums l x) el (subst (λ (z : List ℤ). Reaches a rows z limits x) es r) in
-    given-with p a rows columns vars sums kept c x n reaches within.0 (omega (arith, kept.sized, within.1)) (e ∙ ap (λ (ls : List Literal). nogood_of c (ls ++ x.lit ∷ [])) (elits ∙ ap (raising_of a rows x.depth) ev))
+    let is : lits ≡ needed rows c x.depth left found = elits ∙ ap (λ (k : List ℤ). needed rows k x.depth left found) el in
+    given-with p a rows columns vars sums kept c x n found left moved more reaches within.0 (omega (arith, kept.sized, within.1)) (e ∙ ap (λ (ls : List Literal). nogood_of c (ls ++ x.lit ∷ [])) is)
+
+pub found_as : (a : List (Option Bool)) (rows : List (List Place)) (d : ℕ) (vars vs : List ℕ) (lits found : List Literal) → vs ≡ vars → IsPermutation (raising_of a rows d vs) lits → found ≡ lits → IsPermutation (raising_of a rows d vars) found
+found_as a rows d vars vs lits found ev moved ef =
+    subst (λ (ws : List ℕ). IsPermutation (raising_of a rows d ws) found) ev (subst (IsPermutation (raising_of a rows d vs)) (sym ef) moved)
+
+-- ---- what the search for what is needed asks for
+pub left-vars : (p : Program) (a : List (Option Bool)) (rows : List (List Place)) (columns : List (List Item)) (vars : List ℕ) (left : List ℤ) (found : List Literal) → IsKept p a rows columns vars left → AreHeld p a found → All (λ (l : Literal). (0 < l.var) × (l.var < length rows)) found
+left-vars p a rows columns vars left found kept held = all-has (λ (l : Literal). (0 < l.var) × (l.var < length rows)) found (λ k g. ((held.within k g).0, omega (arith, kept.rowed.count, (held.within k g).1)))
+
+pub left-within : (p : Program) (a : List (Option Bool)) (rows : List (List Place)) (columns : List (List Item)) (vars : List ℕ) (left : List ℤ) → IsKept p a rows columns vars left → (v : ℕ) → All (λ (o : Place). o.level < length left) (row_at rows v)
+left-within p a rows columns vars left kept v = subst (λ (n : ℕ). All (λ (o : Place). o.level < n) (row_at rows v)) (sym (sums-count p a rows columns vars left kept)) (kept.rowed.within v)
+
+pub left-low : (p : Program) (a : List (Option Bool)) (rows : List (List Place)) (columns : List (List Item)) (vars : List ℕ) (left : List ℤ) (found : List Literal) → IsKept p a rows columns vars left → AreHeld p a found →
+    (j : ℕ) → j < length left → (neg_ℤ (pos (2 ^ 60)) +ℤ pos (total rows j found)) ≤ℤ get_or left j (pos 0)
+left-low p a rows columns vars left found kept held j lt = omega (arith, ints, total-low p rows columns vars found a left kept held j lt)

@@ -7,6 +7,7 @@ pub mod Levels
 pub mod Gathered
 pub mod Reach
 pub mod Reasons
+pub mod Needed
 pub mod Found
 pub mod Bounded
 pub mod Starts

@@ -2,7 +2,7 @@
 //!
 //! It keeps the optimistic cost of the values that it was told: at each priority the weights of the true literals, and of
 //! those without a value the negative ones. A value only raises it, by what stands in the variable's row. Where the
-//! optimistic cost isn't smaller than the bound, the true literals that raised it make a nogood; where it wouldn't be with
+//! optimistic cost isn't smaller than the bound, enough of the true literals that raised it make a nogood; where it wouldn't be with
 //! one more literal, they make one together with that literal. At each priority the variables stand in the order of what
 //! they can add, so only those that may reach the bound are looked at, from a start on: those before it have values.
 ghost use Rattle.std.specs.Prelude.{◌≡◌, ◌<◌, ◌≤◌, ◌^◌, ◌+◌, IfOk, IfSome, Some, None, true, length, is_none};
@@ -17,6 +17,7 @@ ghost use Rattle.asp_bound.specs.Gathered.{valueless};
 
 use crate::find::find;
 use crate::levels::{all_levels, vars_of};
+use crate::needed::needed;
 use crate::place::{Item, Place};
 use crate::reach::reach;
 use crate::reasons::{below, raising};
@@ -123,18 +124,28 @@ impl Bound {
         ensures silent { IfOk result (λ n. is_none n ≡ is_silent self.old.told.program self.old.bound self.old.told.values) }
         ensures given { IfOk result (λ n. IfSome n (IsGiven self.old)) }
     {
-        let _ = trail;
         let Some(cost) = &self.bound else {
             return Ok(None);
         };
         let (sums, limits) = (self.sums.as_slice(), cost.as_slice());
         if let Some(depth) = reach(sums, limits, &[], true) {
-            let lits = raising(
+            let raising = raising(
                 self.alloc,
+                trail,
                 &self.values,
                 &self.rows,
                 self.vars.as_slice(),
                 depth,
+            )?;
+            let mut copy = sums.to_vec(self.alloc)?;
+            let left = copy.as_mut_slice();
+            let lits = needed(
+                self.alloc,
+                &self.rows,
+                left,
+                limits,
+                depth,
+                raising.as_slice(),
             )?;
             let nogood = below(lits, cost, None)?;
             return Ok(Some(nogood));
@@ -149,12 +160,25 @@ impl Bound {
         ) else {
             return Ok(None);
         };
-        let lits = raising(
+        let raising = raising(
             self.alloc,
+            trail,
             &self.values,
             &self.rows,
             self.vars.as_slice(),
             implied.depth,
+        )?;
+        let mut copy = sums.to_vec(self.alloc)?;
+        let left = copy.as_mut_slice();
+        let row = self.rows.row(implied.lit.var() as usize);
+        raise(left, row, implied.lit.truth());
+        let lits = needed(
+            self.alloc,
+            &self.rows,
+            left,
+            limits,
+            implied.depth,
+            raising.as_slice(),
         )?;
         let nogood = below(lits, cost, Some(implied.lit))?;
         Ok(Some(nogood))

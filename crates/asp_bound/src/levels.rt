@@ -10,6 +10,7 @@ ghost use Rattle.asp_bound.specs.Optimism.{items_at, optimistic};
 ghost use Rattle.asp_bound.specs.Rises.{row_at, AreRows, AreColumns, IsColumn, nth_priority};
 ghost use Rattle.asp_bound.specs.Weights.{size_of, AreWeights};
 ghost use Rattle.asp_bound.specs.Kept.{AreSmall, AreVars};
+ghost use Rattle.asp_bound.specs.Kept.{IsOnce};
 ghost use Rattle.asp_bound.specs.Gathered.{IsGathered, AreGathered, HasEach};
 
 use crate::place::{Addition, Item, Place};
@@ -198,11 +199,12 @@ pub fn all_levels(alloc: Global, compiled: &Compiled) -> Result<Levels, AllocErr
     levels_of(alloc, compiled, priorities.as_slice())
 }
 
-/// The variables that have places.
+/// The variables that have places, each once.
 pub fn vars_of(alloc: Global, rows: &Table<Place>) -> Result<Vec<Var>, AllocError>
     requires few { length rows.now < 2 ^ 32 }
     ensures within { IfOk result (λ vars. All (λ v. (0 < v) × (v < length rows.now)) vars.items) }
     ensures whole { IfOk result (λ vars. HasEach rows.now (length rows.now) vars.items) }
+    ensures once { IfOk result (λ vars. IsOnce vars.items) }
 {
     let mut vars = Vec::new(alloc);
     for var in 1..rows.len() {

@@ -6,6 +6,7 @@ mod find;
 pub mod laws;
 mod levels;
 mod near;
+mod needed;
 mod place;
 mod reach;
 mod reasons;

@@ -1,12 +1,17 @@
-use Rattle.std.proofs.Common.{◌≡◌, ◌<◌, true, false, List, [], ◌∷◌, ◌++◌, length, get_or, Some, None, ℤ, pos, ap, subst, arith}
+use Rattle.std.proofs.Common.{◌≡◌, ◌<◌, true, false, List, [], ◌∷◌, ◌++◌, length, get_or, set, Some, None, refl, sym, ◌∙◌, ℤ, pos, ap, subst, arith}
 use Rattle.std.proofs.lemmas.Int.{ints}
 use Rattle.asp_vars.specs.declared.nogood.Base.TheVariants as base
 use Rattle.asp_bound.specs.Silence.{is_silent}
 use Rattle.asp_bound.specs.Bounded.{Bounded, IsGiven}
 use Rattle.asp_bound.specs.Reach.{reach, lifted}
-use Rattle.asp_bound.proofs.KeptLaws.{sums-room, rows-small, columns-within}
+use Rattle.asp_bound.proofs.KeptLaws.{sums-room, rows-small, columns-within, raised_as, raised-small, raise-room}
 use Rattle.asp_bound.proofs.SilentLaws.{loud_now_as, loud_with_as, silent_now_as}
-use Rattle.asp_bound.proofs.NogoodLaws.{given_now_as, given_with_as}
+use Rattle.asp_bound.proofs.NogoodLaws.{given_now_as, given_with_as, found_as, found-held, held-told, kept_raised, left-vars, left-within, left-low}
+use Rattle.asp_bound.proofs.NeededLaws.{assignment-length}
+use Rattle.std.specs.List.{All}
+use Rattle.asp_bound.specs.declared.place.Place.{Place}
+use Rattle.asp_bound.specs.Rises.{row_at}
+use Rattle.asp_bound.specs.Kept.{IsKept}
 use Rattle.asp_bound.proofs.bound.Bound.next.Goals as goal
 
 pub reach-requires-clause-room : goal.reach-requires-clause-room
@@ -24,8 +29,11 @@ pub returns-in-Some-reach-clause-given : goal.returns-in-Some-reach-clause-given
 returns-in-Some-reach-clause-given c =
     let reached : Some c.in-Some-reach.depth ≡ reach (lifted (λ j. 0) c.as_slice-sums.result.now) c.as_slice-limits.result.now = c.in-Some-reach.ensures in
     let made : c.in_ok-nogood.nogood ≡ record { lits = c.in_ok-lits.lits ++ []; base = base.Below c.in-Some.cost } = c.in_ok-nogood.ensures in
-    let given = given_now_as c.self.inside.origin.value c.self.inside.values c.self.inside.rows c.self.inside.columns c.self.inside.vars.items c.self.inside.sums.items c.self.invariant.0 c.in-Some.cost c.as_slice-sums.result.now c.as_slice-limits.result.now c.in-Some-reach.depth c.in_ok-nogood.nogood c.in_ok-lits.lits c.as_slice.result.now
-    c.as_slice-sums.ensures.value c.as_slice-limits.ensures reached c.as_slice.ensures.value c.in_ok-lits.ensures made in
+    let found = c.as_slice-in-Some-reach.result.now in
+    let moved = found_as c.self.inside.values c.self.inside.rows c.in-Some-reach.depth c.self.inside.vars.items c.as_slice.result.now c.in_ok-raising.raising.items found c.as_slice.ensures.value c.in_ok-raising.ensures c.as_slice-in-Some-reach.ensures.value in
+    let same = c.as_mut_slice-left.ensures.value ∙ c.in_ok-copy.ensures.items_if_clones_equal (λ x y q. q) in
+    let given = given_now_as c.self.inside.origin.value c.self.inside.values c.self.inside.rows c.self.inside.columns c.self.inside.vars.items c.self.inside.sums.items c.self.invariant.0 c.in-Some.cost c.as_slice-sums.result.now c.as_slice-limits.result.now c.in-Some-reach.depth c.in_ok-nogood.nogood c.in_ok-lits.lits found c.as_mut_slice-left.result.now
+    c.as_slice-sums.ensures.value c.as_slice-limits.ensures reached moved same c.in_ok-lits.ensures made in
     subst (λ (b : Bounded). IsGiven b c.in_ok-nogood.nogood) c.self.view_is (c.in-Some.cost, c.in-Some.is, given)
 
 pub find-requires-clause-small : goal.find-requires-clause-small
@@ -61,7 +69,118 @@ returns-clause-silent c =
 
 pub returns-clause-given : goal.returns-clause-given
 returns-clause-given c =
+    let x = c.in-Some-find.implied in
+    let within = c.in-Some-find.ensures.within in
+    let es = c.as_mut_slice-left-2.ensures.value ∙ (c.in_ok-copy-2.ensures.items_if_clones_equal (λ x y q. q) ∙ c.as_slice-sums.ensures.value) in
+    let more = kept_raised c.self.inside.origin.value c.self.inside.values c.self.inside.rows c.self.inside.columns c.self.inside.vars.items c.self.inside.sums.items c.self.invariant.0 x.lit.var x.lit.truth (row_at c.self.inside.rows x.lit.var) c.as_mut_slice-left-2.result.now c.raise.new.sums within.0 (omega (arith, c.self.invariant.0.sized, within.1)) c.in-Some-find.ensures.reaches.no_value refl es c.raise.auto.sums (λ j lt.
+    omega (arith, ints, c.raise.ensures j lt, raised_as c.self.inside.rows x.lit.var x.lit.truth c.row-row.result.now c.var.result c.truth.result c.row-row.ensures c.var.ensures c.truth.ensures j)) in
     let made : c.in_ok-nogood-2.nogood ≡ record { lits = c.in_ok-lits-2.lits ++ c.in-Some-find.implied.lit ∷ []; base = base.Below c.in-Some.cost } = c.in_ok-nogood-2.ensures in
-    let given = given_with_as c.self.inside.origin.value c.self.inside.values c.self.inside.rows c.self.inside.columns c.self.inside.vars.items c.self.inside.sums.items c.self.invariant.0 c.in-Some.cost c.as_slice-sums.result.now c.as_slice-limits.result.now c.in-Some-find.implied c.in_ok-nogood-2.nogood c.in_ok-lits-2.lits c.as_slice-2.result.now
-    c.as_slice-sums.ensures.value c.as_slice-limits.ensures c.in-Some-find.ensures.reaches c.in-Some-find.ensures.within c.as_slice-2.ensures.value c.in_ok-lits-2.ensures made in
+    let found = c.as_slice-3.result.now in
+    let moved = found_as c.self.inside.values c.self.inside.rows c.in-Some-find.implied.depth c.self.inside.vars.items c.as_slice-2.result.now c.in_ok-raising-2.raising.items found c.as_slice-2.ensures.value c.in_ok-raising-2.ensures c.as_slice-3.ensures.value in
+    let given = given_with_as c.self.inside.origin.value c.self.inside.values c.self.inside.rows c.self.inside.columns c.self.inside.vars.items c.self.inside.sums.items c.self.invariant.0 c.in-Some.cost c.as_slice-sums.result.now c.as_slice-limits.result.now c.in-Some-find.implied c.in_ok-nogood-2.nogood c.in_ok-lits-2.lits found c.raise.new.sums
+    c.as_slice-sums.ensures.value c.as_slice-limits.ensures c.in-Some-find.ensures.reaches c.in-Some-find.ensures.within moved more c.in_ok-lits-2.ensures made in
     subst (λ (b : Bounded). IsGiven b c.in_ok-nogood-2.nogood) c.self.view_is (c.in-Some.cost, c.in-Some.is, given)
+
+pub needed-requires-clause-vars : goal.needed-requires-clause-vars
+needed-requires-clause-vars c =
+    let kept = subst (IsKept c.self.inside.origin.value c.self.inside.values c.self.inside.rows c.self.inside.columns c.self.inside.vars.items) (sym (c.as_mut_slice-left.ensures.value ∙ (c.in_ok-copy.ensures.items_if_clones_equal (λ x y q. q) ∙ c.as_slice-sums.ensures.value))) c.self.invariant.0 in
+    let held = found-held c.self.inside.origin.value c.self.inside.values c.self.inside.rows c.self.inside.columns c.self.inside.vars.items c.self.inside.sums.items c.in-Some-reach.depth c.as_slice-in-Some-reach.result.now c.self.invariant.0 (found_as c.self.inside.values c.self.inside.rows c.in-Some-reach.depth c.self.inside.vars.items c.as_slice.result.now c.in_ok-raising.raising.items c.as_slice-in-Some-reach.result.now c.as_slice.ensures.value c.in_ok-raising.ensures c.as_slice-in-Some-reach.ensures.value) in
+    left-vars c.self.inside.origin.value c.self.inside.values c.self.inside.rows c.self.inside.columns c.self.inside.vars.items c.as_mut_slice-left.result.now c.as_slice-in-Some-reach.result.now kept held
+
+pub needed-requires-clause-within : goal.needed-requires-clause-within
+needed-requires-clause-within c =
+    let kept = subst (IsKept c.self.inside.origin.value c.self.inside.values c.self.inside.rows c.self.inside.columns c.self.inside.vars.items) (sym (c.as_mut_slice-left.ensures.value ∙ (c.in_ok-copy.ensures.items_if_clones_equal (λ x y q. q) ∙ c.as_slice-sums.ensures.value))) c.self.invariant.0 in
+    left-within c.self.inside.origin.value c.self.inside.values c.self.inside.rows c.self.inside.columns c.self.inside.vars.items c.as_mut_slice-left.result.now kept
+
+pub needed-requires-clause-small : goal.needed-requires-clause-small
+needed-requires-clause-small c =
+    let kept = subst (IsKept c.self.inside.origin.value c.self.inside.values c.self.inside.rows c.self.inside.columns c.self.inside.vars.items) (sym (c.as_mut_slice-left.ensures.value ∙ (c.in_ok-copy.ensures.items_if_clones_equal (λ x y q. q) ∙ c.as_slice-sums.ensures.value))) c.self.invariant.0 in
+    rows-small c.self.inside.origin.value c.self.inside.values c.self.inside.rows c.self.inside.columns c.self.inside.vars.items c.as_mut_slice-left.result.now kept
+
+pub needed-requires-clause-low : goal.needed-requires-clause-low
+needed-requires-clause-low c =
+    let kept = subst (IsKept c.self.inside.origin.value c.self.inside.values c.self.inside.rows c.self.inside.columns c.self.inside.vars.items) (sym (c.as_mut_slice-left.ensures.value ∙ (c.in_ok-copy.ensures.items_if_clones_equal (λ x y q. q) ∙ c.as_slice-sums.ensures.value))) c.self.invariant.0 in
+    let held = found-held c.self.inside.origin.value c.self.inside.values c.self.inside.rows c.self.inside.columns c.self.inside.vars.items c.self.inside.sums.items c.in-Some-reach.depth c.as_slice-in-Some-reach.result.now c.self.invariant.0 (found_as c.self.inside.values c.self.inside.rows c.in-Some-reach.depth c.self.inside.vars.items c.as_slice.result.now c.in_ok-raising.raising.items c.as_slice-in-Some-reach.result.now c.as_slice.ensures.value c.in_ok-raising.ensures c.as_slice-in-Some-reach.ensures.value) in
+    left-low c.self.inside.origin.value c.self.inside.values c.self.inside.rows c.self.inside.columns c.self.inside.vars.items c.as_mut_slice-left.result.now c.as_slice-in-Some-reach.result.now kept held
+
+pub needed-requires-clause-high : goal.needed-requires-clause-high
+needed-requires-clause-high c =
+    let kept = subst (IsKept c.self.inside.origin.value c.self.inside.values c.self.inside.rows c.self.inside.columns c.self.inside.vars.items) (sym (c.as_mut_slice-left.ensures.value ∙ (c.in_ok-copy.ensures.items_if_clones_equal (λ x y q. q) ∙ c.as_slice-sums.ensures.value))) c.self.invariant.0 in
+    sums-room c.self.inside.origin.value c.self.inside.values c.self.inside.rows c.self.inside.columns c.self.inside.vars.items c.as_mut_slice-left.result.now kept
+
+pub needed-requires-2-clause-vars : goal.needed-requires-2-clause-vars
+needed-requires-2-clause-vars c =
+    let x = c.in-Some-find.implied in
+    let within = c.in-Some-find.ensures.within in
+    let es = c.as_mut_slice-left-2.ensures.value ∙ (c.in_ok-copy-2.ensures.items_if_clones_equal (λ x y q. q) ∙ c.as_slice-sums.ensures.value) in
+    let kept = kept_raised c.self.inside.origin.value c.self.inside.values c.self.inside.rows c.self.inside.columns c.self.inside.vars.items c.self.inside.sums.items c.self.invariant.0 x.lit.var x.lit.truth (row_at c.self.inside.rows x.lit.var) c.as_mut_slice-left-2.result.now c.raise.new.sums within.0 (omega (arith, c.self.invariant.0.sized, within.1)) c.in-Some-find.ensures.reaches.no_value refl es c.raise.auto.sums (λ j lt.
+    omega (arith, ints, c.raise.ensures j lt, raised_as c.self.inside.rows x.lit.var x.lit.truth c.row-row.result.now c.var.result c.truth.result c.row-row.ensures c.var.ensures c.truth.ensures j)) in
+    let held = held-told c.self.inside.origin.value c.self.inside.values c.as_slice-3.result.now x.lit.var x.lit.truth c.in-Some-find.ensures.reaches.no_value (found-held c.self.inside.origin.value c.self.inside.values c.self.inside.rows c.self.inside.columns c.self.inside.vars.items c.self.inside.sums.items x.depth c.as_slice-3.result.now c.self.invariant.0 (found_as c.self.inside.values c.self.inside.rows c.in-Some-find.implied.depth c.self.inside.vars.items c.as_slice-2.result.now c.in_ok-raising-2.raising.items c.as_slice-3.result.now c.as_slice-2.ensures.value c.in_ok-raising-2.ensures c.as_slice-3.ensures.value)) in
+    left-vars c.self.inside.origin.value (set c.self.inside.values c.in-Some-find.implied.lit.var (Some c.in-Some-find.implied.lit.truth)) c.self.inside.rows c.self.inside.columns c.self.inside.vars.items c.raise.new.sums c.as_slice-3.result.now kept held
+
+pub needed-requires-2-clause-within : goal.needed-requires-2-clause-within
+needed-requires-2-clause-within c =
+    let x = c.in-Some-find.implied in
+    let within = c.in-Some-find.ensures.within in
+    let es = c.as_mut_slice-left-2.ensures.value ∙ (c.in_ok-copy-2.ensures.items_if_clones_equal (λ x y q. q) ∙ c.as_slice-sums.ensures.value) in
+    let kept = kept_raised c.self.inside.origin.value c.self.inside.values c.self.inside.rows c.self.inside.columns c.self.inside.vars.items c.self.inside.sums.items c.self.invariant.0 x.lit.var x.lit.truth (row_at c.self.inside.rows x.lit.var) c.as_mut_slice-left-2.result.now c.raise.new.sums within.0 (omega (arith, c.self.invariant.0.sized, within.1)) c.in-Some-find.ensures.reaches.no_value refl es c.raise.auto.sums (λ j lt.
+    omega (arith, ints, c.raise.ensures j lt, raised_as c.self.inside.rows x.lit.var x.lit.truth c.row-row.result.now c.var.result c.truth.result c.row-row.ensures c.var.ensures c.truth.ensures j)) in
+    left-within c.self.inside.origin.value (set c.self.inside.values c.in-Some-find.implied.lit.var (Some c.in-Some-find.implied.lit.truth)) c.self.inside.rows c.self.inside.columns c.self.inside.vars.items c.raise.new.sums kept
+
+pub needed-requires-2-clause-small : goal.needed-requires-2-clause-small
+needed-requires-2-clause-small c =
+    let x = c.in-Some-find.implied in
+    let within = c.in-Some-find.ensures.within in
+    let es = c.as_mut_slice-left-2.ensures.value ∙ (c.in_ok-copy-2.ensures.items_if_clones_equal (λ x y q. q) ∙ c.as_slice-sums.ensures.value) in
+    let kept = kept_raised c.self.inside.origin.value c.self.inside.values c.self.inside.rows c.self.inside.columns c.self.inside.vars.items c.self.inside.sums.items c.self.invariant.0 x.lit.var x.lit.truth (row_at c.self.inside.rows x.lit.var) c.as_mut_slice-left-2.result.now c.raise.new.sums within.0 (omega (arith, c.self.invariant.0.sized, within.1)) c.in-Some-find.ensures.reaches.no_value refl es c.raise.auto.sums (λ j lt.
+    omega (arith, ints, c.raise.ensures j lt, raised_as c.self.inside.rows x.lit.var x.lit.truth c.row-row.result.now c.var.result c.truth.result c.row-row.ensures c.var.ensures c.truth.ensures j)) in
+    rows-small c.self.inside.origin.value (set c.self.inside.values c.in-Some-find.implied.lit.var (Some c.in-Some-find.implied.lit.truth)) c.self.inside.rows c.self.inside.columns c.self.inside.vars.items c.raise.new.sums kept
+
+pub needed-requires-2-clause-low : goal.needed-requires-2-clause-low
+needed-requires-2-clause-low c =
+    let x = c.in-Some-find.implied in
+    let within = c.in-Some-find.ensures.within in
+    let es = c.as_mut_slice-left-2.ensures.value ∙ (c.in_ok-copy-2.ensures.items_if_clones_equal (λ x y q. q) ∙ c.as_slice-sums.ensures.value) in
+    let kept = kept_raised c.self.inside.origin.value c.self.inside.values c.self.inside.rows c.self.inside.columns c.self.inside.vars.items c.self.inside.sums.items c.self.invariant.0 x.lit.var x.lit.truth (row_at c.self.inside.rows x.lit.var) c.as_mut_slice-left-2.result.now c.raise.new.sums within.0 (omega (arith, c.self.invariant.0.sized, within.1)) c.in-Some-find.ensures.reaches.no_value refl es c.raise.auto.sums (λ j lt.
+    omega (arith, ints, c.raise.ensures j lt, raised_as c.self.inside.rows x.lit.var x.lit.truth c.row-row.result.now c.var.result c.truth.result c.row-row.ensures c.var.ensures c.truth.ensures j)) in
+    let held = held-told c.self.inside.origin.value c.self.inside.values c.as_slice-3.result.now x.lit.var x.lit.truth c.in-Some-find.ensures.reaches.no_value (found-held c.self.inside.origin.value c.self.inside.values c.self.inside.rows c.self.inside.columns c.self.inside.vars.items c.self.inside.sums.items x.depth c.as_slice-3.result.now c.self.invariant.0 (found_as c.self.inside.values c.self.inside.rows c.in-Some-find.implied.depth c.self.inside.vars.items c.as_slice-2.result.now c.in_ok-raising-2.raising.items c.as_slice-3.result.now c.as_slice-2.ensures.value c.in_ok-raising-2.ensures c.as_slice-3.ensures.value)) in
+    left-low c.self.inside.origin.value (set c.self.inside.values c.in-Some-find.implied.lit.var (Some c.in-Some-find.implied.lit.truth)) c.self.inside.rows c.self.inside.columns c.self.inside.vars.items c.raise.new.sums c.as_slice-3.result.now kept held
+
+pub needed-requires-2-clause-high : goal.needed-requires-2-clause-high
+needed-requires-2-clause-high c =
+    let x = c.in-Some-find.implied in
+    let within = c.in-Some-find.ensures.within in
+    let es = c.as_mut_slice-left-2.ensures.value ∙ (c.in_ok-copy-2.ensures.items_if_clones_equal (λ x y q. q) ∙ c.as_slice-sums.ensures.value) in
+    let kept = kept_raised c.self.inside.origin.value c.self.inside.values c.self.inside.rows c.self.inside.columns c.self.inside.vars.items c.self.inside.sums.items c.self.invariant.0 x.lit.var x.lit.truth (row_at c.self.inside.rows x.lit.var) c.as_mut_slice-left-2.result.now c.raise.new.sums within.0 (omega (arith, c.self.invariant.0.sized, within.1)) c.in-Some-find.ensures.reaches.no_value refl es c.raise.auto.sums (λ j lt.
+    omega (arith, ints, c.raise.ensures j lt, raised_as c.self.inside.rows x.lit.var x.lit.truth c.row-row.result.now c.var.result c.truth.result c.row-row.ensures c.var.ensures c.truth.ensures j)) in
+    sums-room c.self.inside.origin.value (set c.self.inside.values c.in-Some-find.implied.lit.var (Some c.in-Some-find.implied.lit.truth)) c.self.inside.rows c.self.inside.columns c.self.inside.vars.items c.raise.new.sums kept
+
+pub raising-requires-clause-trail : goal.raising-requires-clause-trail
+raising-requires-clause-trail c = ap length (rw (← c.self.view_is) at c.requires) ∙ assignment-length c.args.trail.now.vars c.args.trail.now.entries
+
+pub raising-requires-2-clause-trail : goal.raising-requires-2-clause-trail
+raising-requires-2-clause-trail c = ap length (rw (← c.self.view_is) at c.requires) ∙ assignment-length c.args.trail.now.vars c.args.trail.now.entries
+
+pub raise-requires-clause-within : goal.raise-requires-clause-within
+raise-requires-clause-within c =
+    let x = c.in-Some-find.implied in
+    let within = c.in-Some-find.ensures.within in
+    let es = c.as_mut_slice-left-2.ensures.value ∙ (c.in_ok-copy-2.ensures.items_if_clones_equal (λ x y q. q) ∙ c.as_slice-sums.ensures.value) in
+    let all = left-within c.self.inside.origin.value c.self.inside.values c.self.inside.rows c.self.inside.columns c.self.inside.vars.items c.as_mut_slice-left-2.result.now (subst (IsKept c.self.inside.origin.value c.self.inside.values c.self.inside.rows c.self.inside.columns c.self.inside.vars.items) (sym es) c.self.invariant.0) x.lit.var in
+    subst (All (λ (o : Place). o.level < length c.as_mut_slice-left-2.result.now)) (sym (c.row-row.ensures ∙ ap (row_at c.self.inside.rows) c.var.ensures)) all
+
+pub raise-requires-clause-small : goal.raise-requires-clause-small
+raise-requires-clause-small c = λ j lt.
+    let x = c.in-Some-find.implied in
+    let within = c.in-Some-find.ensures.within in
+    let es = c.as_mut_slice-left-2.ensures.value ∙ (c.in_ok-copy-2.ensures.items_if_clones_equal (λ x y q. q) ∙ c.as_slice-sums.ensures.value) in
+    let inside : j < length c.self.inside.sums.items = omega (arith, lt, ap length es) in
+    omega (arith, raised_as c.self.inside.rows x.lit.var x.lit.truth c.row-row.result.now c.var.result c.truth.result c.row-row.ensures c.var.ensures c.truth.ensures j, raised-small c.self.inside.origin.value c.self.inside.values c.self.inside.rows c.self.inside.columns c.self.inside.vars.items c.self.inside.sums.items c.self.invariant.0 x.lit.var j x.lit.truth within.0 (omega (arith, c.self.invariant.0.sized, within.1)) inside)
+
+pub raise-requires-clause-room : goal.raise-requires-clause-room
+raise-requires-clause-room c = λ j lt.
+    let x = c.in-Some-find.implied in
+    let within = c.in-Some-find.ensures.within in
+    let es = c.as_mut_slice-left-2.ensures.value ∙ (c.in_ok-copy-2.ensures.items_if_clones_equal (λ x y q. q) ∙ c.as_slice-sums.ensures.value) in
+    let inside : j < length c.self.inside.sums.items = omega (arith, lt, ap length es) in
+    omega (arith, ints, raised_as c.self.inside.rows x.lit.var x.lit.truth c.row-row.result.now c.var.result c.truth.result c.row-row.ensures c.var.ensures c.truth.ensures j, ap (λ (s : List ℤ). get_or s j (pos 0)) es, raise-room c.self.inside.origin.value c.self.inside.values c.self.inside.rows c.self.inside.columns c.self.inside.vars.items c.self.inside.sums.items c.self.invariant.0 x.lit.var x.lit.truth within.0 (omega (arith, c.self.invariant.0.sized, within.1)) j inside)
