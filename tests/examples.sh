@@ -31,13 +31,13 @@ for text in examples/*.aspif; do
     check "$text" "$status" "$expected" "$?" "$given"
 done
 
-# Each refusal writes one line to standard error, nothing to standard output, and ends with its status. A line of
-# refusals.txt has the status, that line (USAGE: the one that tells how the program is called), the words and the text,
-# with ~ between them.
-usage="aspenum: $("$program" --help)"
+# Each refusal writes one line to standard error, nothing to standard output, and ends with its status. Faulty words are
+# followed by the line that tells how the program is called. A line of refusals.txt has the status, the first line, the
+# words and the text, with ~ between them.
+usage=$("$program" --help | grep '^usage: ')
 while IFS='~' read -r status note words text; do
-    [ "$note" != USAGE ] || note=$usage
     printf '%s\n' "$note" > "$wanted"
+    [ "$status" != 64 ] || printf '%s\n' "$usage" >> "$wanted"
     # the words are split at blanks, the text's \n are line feeds
     # shellcheck disable=SC2086
     printf '%b' "$text" | "$program" $words > "$given" 2> "$notes"
@@ -46,10 +46,16 @@ while IFS='~' read -r status note words text; do
     check "nothing written: $note" 0 "$wanted" 0 "$given"
 done < tests/refusals.txt
 
-# An empty word, which no line of a file can have.
-echo "$usage" > "$wanted"
+# Words that no line of a file can have: an empty one, one with a blank, and one that isn't UTF-8.
+printf 'aspenum: unexpected word  (the program is read from standard input)\n%s\n' "$usage" > "$wanted"
 "$program" '' < examples/two_rules.aspif > "$given" 2> "$notes"
 check "an empty word" 64 "$wanted" "$?" "$notes"
+printf 'aspenum: --mode takes auto, enum or opt, not all of them\n%s\n' "$usage" > "$wanted"
+"$program" --mode 'all of them' < examples/two_rules.aspif > "$given" 2> "$notes"
+check "a blank in a word" 64 "$wanted" "$?" "$notes"
+printf 'aspenum: a word is not UTF-8\n%s\n' "$usage" > "$wanted"
+"$program" "$(printf '\377')" < examples/two_rules.aspif > "$given" 2> "$notes"
+check "a word that isn't UTF-8" 64 "$wanted" "$?" "$notes"
 
 # Worked texts. A line of rows.txt has the status, the words, the text and what is written, with ~ between them.
 while IFS='~' read -r status words text output; do

@@ -1,5 +1,3 @@
-pub mod TableLemmas
-pub mod ParseLemmas
-pub mod GivenLemmas
-pub mod NumberLemmas
+pub mod ValueLemmas
+pub mod WalkLemmas
 pub mod Examples

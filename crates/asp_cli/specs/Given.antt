@@ -1,114 +1,159 @@
--- What the words of a command line give: help, the options, or neither.
-use Rattle.std.specs.Prelude.{◌≡◌, ◌||◌, ℕ, ◌≤◌, Bool, true, false, List, [], ◌∷◌}
-use Rattle.std.specs.Prelude.{Option, Some, None, Result, Ok, Err, codes, if◌then◌else◌, option_map, option_and_then}
+-- What the words of a command line give: help, the version, options, or the first fault.
+use Rattle.std.specs.Prelude.{ℕ, Bool, true, false, ◌||◌, ◌==◌, nat_lt, List, [], ◌∷◌, length, Option, Some, None, Result, Ok, Err, codes, if◌then◌else◌}
+use Rattle.std.specs.List.{after_first, before_first, position_or_len}
 use Rattle.std.specs.Str.{bytes_eq}
-use Rattle.std.specs.Str.Parse.{digits_value, without_leading_plus}
-use Rattle.clap.specs.ValueTests.{is_unsigned_in}
-use Rattle.clap.specs.Words.{Kinds, Row, Text, fault_of, first_of, matches_of}
-use Rattle.asp_model.specs.declared.results.Mode.{Mode}
-use Rattle.asp_model.specs.declared.results.Mode.TheVariants.{Enum, Opt}
-use Rattle.asp_cli.specs.Table.{app}
+use Rattle.asp_cli.specs.declared.found.Found.{Found}
+use Rattle.asp_cli.specs.declared.names.Name.{Name}
+use Rattle.asp_cli.specs.declared.names.Name.TheVariants.{Stats}
+use Rattle.asp_cli.specs.declared.walk.Awaits.TheVariants as awaits
+use Rattle.asp_cli.specs.declared.walk.Awaits.{Awaits}
+use Rattle.asp_cli.specs.declared.walk.State.{State}
 use Rattle.asp_cli.specs.declared.Options.{Options}
 use Rattle.asp_cli.specs.declared.CliError.{CliError}
-use Rattle.asp_cli.specs.declared.CliError.TheVariants.{Memory, Usage, Help}
+use Rattle.asp_cli.specs.declared.CliError.TheVariants.{Usage, Help, Version}
+use Rattle.asp_cli.specs.declared.WordFault.{WordFault}
+use Rattle.asp_cli.specs.declared.WordFault.TheVariants.{NoWords, Unknown, Unexpected, NotAlone, Twice, Missing, Value}
+use Rattle.asp_cli.specs.Found.{found_with, has, options_of, start}
+use Rattle.asp_cli.specs.Names.{named}
 
--- ---- what stands in the matches
+abbrev pub Text : Type 0
+Text = List ℕ
 
--- the mode that a name chooses; the name `auto` leaves the choice to the program
-abbrev pub mode_named : Text → Option (Option Mode)
-mode_named t = if bytes_eq t (codes "auto") then Some None
-    else (if bytes_eq t (codes "enum") then Some (Some Enum)
-    else (if bytes_eq t (codes "opt") then Some (Some Opt) else None))
+-- a faulty command line: which fault, and at which word
+pub data Misuse : Type 0 where
+  no_words : Misuse
+  unknown : Text → Misuse
+  unexpected : Text → Misuse
+  not_alone : Text → Misuse
+  twice : Name → Misuse
+  missing : Name → Misuse
+  bad_value : Name → Text → Misuse
 
-abbrev pub mode_if_known : Text → List Row → Option (Option Mode)
-mode_if_known name rows = option_and_then mode_named (first_of name rows)
+-- what the words came to, but for the options
+abbrev pub fault_seen : WordFault → Misuse
+fault_seen NoWords = no_words
+fault_seen (Unknown w) = unknown w.now
+fault_seen (Unexpected w) = unexpected w.now
+fault_seen (NotAlone w) = not_alone w.now
+fault_seen (Twice n) = twice n
+fault_seen (Missing n) = missing n
+fault_seen (Value n v) = bad_value n v.now
 
--- the number that a text writes, if it lies within these
-abbrev pub number_within : ℕ → ℕ → Text → Option ℕ
-number_within least most t = if is_unsigned_in least most t then Some (digits_value 10 (without_leading_plus t)) else None
+abbrev pub seen : {T : Type 0} → Result T WordFault → Result T Misuse
+seen (Ok v) = Ok v
+seen (Err f) = Err (fault_seen f)
 
-abbrev pub number_if_given : Text → ℕ → ℕ → List Row → Option ℕ
-number_if_given name least most rows = option_and_then (number_within least most) (first_of name rows)
+abbrev pub if_ok : {T U : Type 0} → Result T Misuse → (T → Result U Misuse) → Result U Misuse
+if_ok (Ok v) f = f v
+if_ok (Err m) f = Err m
 
--- the ring that is asked for, if one is, has 3 to 2000 nodes
-abbrev pub IsRing : Option ℕ → Type 0
-IsRing None = Unit {0}
-IsRing (Some n) = (3 ≤ n) × (n ≤ 2000)
-
--- none is asked for, or one with 3 to 2000 nodes
-abbrev pub ring_named : Option Text → Option (Option ℕ)
-ring_named None = Some None
-ring_named (Some t) = option_map (λ n. Some n) (number_within 3 2000 t)
-
-abbrev pub make_if_given : Text → List Row → Option (Option ℕ)
-make_if_given name rows = ring_named (first_of name rows)
-
-abbrev pub is_true_text : Option Text → Bool
-is_true_text None = false
-is_true_text (Some t) = bytes_eq t (codes "true")
-
--- whether the flag was given
-abbrev pub is_set : Text → List Row → Bool
-is_set name rows = is_true_text (first_of name rows)
-
--- the options that the matches hold, one line for each; none where a value is none that its option takes
-abbrev pub options_in : List Row → Option Options
-options_in rows =
-    option_and_then (λ workers.
-    option_and_then (λ mode.
-    option_and_then (λ budget.
-    option_map (λ make. record {
-      workers = workers;
-      mode = mode;
-      budget = budget;
-      make = make;
-      stats = is_set (codes "stats") rows;
-    }) (make_if_given (codes "make") rows))
-    (number_if_given (codes "budget") 0 9223372036854775807 rows))
-    (mode_if_known (codes "mode") rows))
-    (number_if_given (codes "workers") 1 1 rows)
-
--- ---- the words
-
-pub data Given : Type 0 where
-  help : Given
-  usage : Given
-  options : Options → Given
-
-abbrev pub is_none : Kinds → Bool
-is_none [] = true
-is_none (k ∷ ks) = false
-
--- clap's definition names no fault of these words
-unfoldable pub is_taken : List Text → Bool
-is_taken words = is_none (fault_of app words)
-
-unfoldable pub rows_of_words : List Text → List Row
-rows_of_words words = matches_of app words
-
-abbrev pub or_usage : Option Options → Given
-or_usage None = usage
-or_usage (Some o) = options o
-
-abbrev pub parsed : List Text → Given
-parsed words = if is_taken words then or_usage (options_in (rows_of_words words)) else usage
+-- ---- one word
 
 abbrev pub asks_help : Text → Bool
 asks_help word = bytes_eq word (codes "--help") || bytes_eq word (codes "-h")
 
--- one word alone, which asks for help
-abbrev pub asks_only_help : List Text → Bool
-asks_only_help (word ∷ []) = asks_help word
-asks_only_help _ = false
+abbrev pub asks_version : Text → Bool
+asks_version word = bytes_eq word (codes "--version")
+
+-- a hyphen and more
+abbrev pub looks_like_option : Text → Bool
+looks_like_option (c ∷ d ∷ ds) = c == 45
+looks_like_option _ = false
+
+-- the fault of a word that names no option
+abbrev pub stray : Text → Misuse
+stray w = if asks_help w || asks_version w then not_alone w else (if looks_like_option w then unknown w else unexpected w)
+
+-- what stands before the first `=`, and what stands behind it
+abbrev pub cut : Text → Option (Text × Text)
+cut w = if nat_lt (position_or_len (λ b. b == 61) w) (length w)
+    then Some (before_first (λ b. b == 61) w, after_first (λ b. b == 61) w) else None
+
+abbrev pub fresh_by : Found → Text → Option Name → Result Name Misuse
+fresh_by f w None = Err (stray w)
+fresh_by f w (Some n) = if has f n then Err (twice n) else Ok n
+
+-- the option of this name, which the word gives for the first time
+abbrev pub fresh : Found → Text → Text → Result Name Misuse
+fresh f name w = fresh_by f w (named name)
+
+abbrev pub told_by : Name → Text → Option Found → Result State Misuse
+told_by n v None = Err (bad_value n v)
+told_by n v (Some f) = Ok (record { found = f; awaits = awaits.Option })
+
+-- an option's value
+abbrev pub told_value : Found → Name → Text → Result State Misuse
+told_value f n v = told_by n v (found_with f n v)
+
+-- an option with its value behind `=`
+abbrev pub told_with_value : Found → Text → Text → Text → Result State Misuse
+told_with_value f name v w = if_ok (fresh f name w) (λ n. told_value f n v)
+
+abbrev pub told_name : Found → Name → State
+told_name f Stats = record { found = record f { stats = true }; awaits = awaits.Option }
+told_name f n = record { found = f; awaits = awaits.Value n }
+
+-- an option in a word of its own, behind which its value has to come if it takes one
+abbrev pub told_alone : Found → Text → Result State Misuse
+told_alone f w = if_ok (fresh f w w) (λ n. Ok (told_name f n))
+
+abbrev pub told_cut : Found → Text → Option (Text × Text) → Result State Misuse
+told_cut f w None = told_alone f w
+told_cut f w (Some p) = told_with_value f p.0 p.1 w
+
+abbrev pub told_option : Found → Text → Result State Misuse
+told_option f w = if bytes_eq w (codes "--") then Ok (record { found = f; awaits = awaits.Nothing }) else told_cut f w (cut w)
+
+abbrev pub after_by : Found → Awaits → Text → Result State Misuse
+after_by f awaits.Option w = told_option f w
+after_by f (awaits.Value n) w = told_value f n w
+after_by f awaits.Nothing w = Err (unexpected w)
+
+-- what is said after one more word
+abbrev pub after : State → Text → Result State Misuse
+after s w = after_by s.found s.awaits w
+
+-- ---- the words
+
+abbrev pub ended_by : Found → Awaits → Result Options Misuse
+ended_by f (awaits.Value n) = Err (missing n)
+ended_by f _ = Ok (options_of f)
+
+-- what the end of the words says
+abbrev pub ended : State → Result Options Misuse
+ended s = ended_by s.found s.awaits
+
+-- the words one by one, from the left, to the first fault
+abbrev pub walked : State → List Text → Result Options Misuse
+walked s [] = ended s
+walked s (w ∷ ws) = if_ok (after s w) (λ t. walked t ws)
+
+pub data Given : Type 0 where
+  help : Given
+  version : Given
+  misuse : Misuse → Given
+  options : Options → Given
+
+abbrev pub given_by : Result Options Misuse → Given
+given_by (Ok o) = options o
+given_by (Err m) = misuse m
+
+-- what one word alone gives
+abbrev pub given_alone : Text → List Text → Given
+given_alone w ws = if asks_help w then help else (if asks_version w then version else given_by (walked start ws))
+
+abbrev pub given_after : List Text → Given
+given_after (w ∷ []) = given_alone w (w ∷ [])
+given_after ws = given_by (walked start ws)
 
 -- what the words give, the program's name first
 abbrev pub words_give : List Text → Given
-words_give [] = usage
-words_give (name ∷ rest) = if asks_only_help rest then help else parsed (name ∷ rest)
+words_give [] = misuse no_words
+words_give (name ∷ rest) = given_after rest
 
--- the answer is the one that the words give, or memory ran out, which it doesn't where help is asked for
-abbrev pub Answers : Given → Result Options CliError → Type 0
-Answers g (Ok o) = g ≡ options o
-Answers g (Err Memory) = ¬ (g ≡ help)
-Answers g (Err Usage) = g ≡ usage
-Answers g (Err Help) = g ≡ help
+-- the same of an answer
+abbrev pub given_of : Result Options CliError → Given
+given_of (Ok o) = options o
+given_of (Err (Usage f)) = misuse (fault_seen f)
+given_of (Err Help) = help
+given_of (Err Version) = version

@@ -1,4 +1,5 @@
-pub mod Usage
-pub mod Table
+pub mod Texts
+pub mod Names
+pub mod Values
+pub mod Found
 pub mod Given
-pub mod Parsed

@@ -1,28 +1,20 @@
 //! The command line of the solver.
 #![tactic(auto)]
 
-mod parse;
-mod read;
-mod table;
+mod found;
+mod names;
+mod texts;
+mod values;
+mod walk;
 
 ghost use Rattle.std.specs.Prelude.{◌≡◌, IfOk, map, string_bytes};
-ghost use Rattle.asp_cli.specs.Usage.{usage_line};
-ghost use Rattle.asp_cli.specs.Given.{Answers, IsRing, asks_help, asks_only_help, parsed, words_give};
+ghost use Rattle.asp_cli.specs.Given.{asks_help, asks_version, given_after, given_alone, given_by, given_of, walked, words_give};
+ghost use Rattle.asp_cli.specs.Found.{start};
+ghost use Rattle.asp_cli.specs.Values.{IsRing};
 
 use asp_model::results::Mode;
-use std::alloc::Global;
-use thiserror::Error;
-
-/// The line that tells how the program is called.
-pub const USAGE: &str =
-    "usage: aspenum [--workers 1] [--mode auto|enum|opt] [--budget N] [--make 3..2000] [--stats]";
-
-/// The same line as bytes.
-pub fn usage() -> &'static [u8]
-    ensures { result.now ≡ usage_line }
-{
-    USAGE.as_bytes()
-}
+pub use names::Name;
+pub use texts::{page_back, page_front, usage, version};
 
 /// What the command line asks for.
 #[derive(Clone, Copy, Debug, PartialEq, Eq)]
@@ -39,59 +31,93 @@ pub struct Options {
     pub stats: bool,
 }
 
-/// Why the words of a command line give no options.
-#[derive(Clone, Copy, Debug, PartialEq, Eq, Drop, Error)]
-pub enum CliError {
-    #[error("out of memory")]
-    Memory,
-    /// The words are faulty.
-    #[error("usage")]
-    Usage,
-    /// The one word after the program's name asks for help.
-    #[error("help")]
-    Help,
+/// The first fault of a command line, from the left.
+#[derive(Clone, Copy, Debug, PartialEq, Eq)]
+pub enum WordFault<'a> {
+    /// Not even the program's name is there.
+    NoWords,
+    /// The word looks like an option, and is none.
+    Unknown(&'a str),
+    /// The word is neither an option nor the value of one.
+    Unexpected(&'a str),
+    /// The word asks for help or the version, beside other words.
+    NotAlone(&'a str),
+    /// The option was given before.
+    Twice(Name),
+    /// The option is the last word, without its value.
+    Missing(Name),
+    /// The option doesn't take this value.
+    Value(Name, &'a str),
 }
 
-fn asks_for_help(word: &str) -> bool
+/// Why the words of a command line give no options.
+#[derive(Clone, Copy, Debug, PartialEq, Eq)]
+pub enum CliError<'a> {
+    /// The words are faulty.
+    Usage(WordFault<'a>),
+    /// The one word after the program's name asks for help.
+    Help,
+    /// The one word after the program's name asks for the version.
+    Version,
+}
+
+/// Whether the word asks for help.
+pub(crate) fn asks_for_help(word: &str) -> bool
     ensures { result ≡ asks_help word.now }
 {
     word == "--help" || word == "-h"
 }
 
-fn asks_only_for_help(words: &[String]) -> bool
-    ensures { result ≡ asks_only_help (map string_bytes words.now) }
+/// Whether the word asks for the version.
+pub(crate) fn asks_for_version(word: &str) -> bool
+    ensures { result ≡ asks_version word.now }
 {
-    match words {
-        [word] => asks_for_help(word.as_str()),
-        _ => false,
+    word == "--version"
+}
+
+fn read<'a>(words: &'a [String]) -> Result<Options, CliError<'a>>
+    ensures answers { given_of result ≡ given_by (walked start (map string_bytes words.entry.now)) }
+    ensures ring { IfOk result (λ o. IsRing o.make) }
+{
+    match walk::walk(words) {
+        Ok(options) => Ok(options),
+        Err(fault) => Err(CliError::Usage(fault)),
     }
 }
 
-fn read_words(alloc: Global, words: &[String]) -> Result<Options, CliError>
-    ensures answers { Answers (parsed (map string_bytes words.now)) result }
+// What one word alone gives.
+fn alone<'a>(word: &str, words: &'a [String]) -> Result<Options, CliError<'a>>
+    ensures answers { given_of result ≡ given_alone word.now (map string_bytes words.entry.now) }
     ensures ring { IfOk result (λ o. IsRing o.make) }
 {
-    let matches = parse::matches(alloc, words)?;
-    match read::options(&matches) {
-        Some(options) => Ok(options),
-        None => Err(CliError::Usage),
+    if asks_for_help(word) {
+        Err(CliError::Help)
+    } else if asks_for_version(word) {
+        Err(CliError::Version)
+    } else {
+        read(words)
     }
 }
 
-/// What the words of a command line give, the program's name first. Help comes exactly where one word follows the
-/// name and is `--help` or `-h`, Usage exactly where the words give neither help nor options, want of memory aside.
-pub fn words(alloc: Global, words: &[String]) -> Result<Options, CliError>
-    ensures answers { Answers (words_give (map string_bytes words.now)) result }
+fn after_name<'a>(words: &'a [String]) -> Result<Options, CliError<'a>>
+    ensures answers { given_of result ≡ given_after (map string_bytes words.entry.now) }
     ensures ring { IfOk result (λ o. IsRing o.make) }
 {
     match words {
-        [] => Err(CliError::Usage),
-        [_, rest @ ..] => {
-            if asks_only_for_help(rest) {
-                Err(CliError::Help)
-            } else {
-                read_words(alloc, words)
-            }
-        }
+        [] => read(words),
+        [word] => alone(word.as_str(), words),
+        [_, _, ..] => read(words),
+    }
+}
+
+/// What the words of a command line give, the program's name first. Help and Version come exactly where one word
+/// follows the name and asks for them, Usage exactly where the words give neither these nor options, with the first fault.
+pub fn words<'a>(words: &'a [String]) -> Result<Options, CliError<'a>>
+    ensures answers { given_of result ≡ words_give (map string_bytes words.entry.now) }
+    ensures ring { IfOk result (λ o. IsRing o.make) }
+{
+    match words {
+        [] => Err(CliError::Usage(WordFault::NoWords)),
+        [_, rest @ ..] => after_name(rest),
     }
 }

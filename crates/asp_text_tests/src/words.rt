@@ -1,5 +1,5 @@
 //! Command lines and what they give. Want of memory ends a test.
-use asp_cli::{CliError, Options, words};
+use asp_cli::{CliError, Name, Options, WordFault, words};
 use asp_model::results::Mode;
 use std::alloc::Global;
 use std::process::Abort;
@@ -14,13 +14,24 @@ fn split(rt: &impl Abort, alloc: Global, line: &str) -> Vec<String> {
     words
 }
 
-fn given(rt: &impl Abort, alloc: Global, line: &str) -> Result<Options, CliError> {
-    words(alloc, &split(rt, alloc, line))
+// Whether the line gives this.
+fn gives(
+    rt: &impl Abort,
+    alloc: Global,
+    line: &str,
+    wanted: Result<Options, CliError<'_>>,
+) -> bool {
+    let all = split(rt, alloc, line);
+    words(&all) == wanted
+}
+
+fn is_faulty(rt: &impl Abort, alloc: Global, line: &str, fault: WordFault<'_>) -> bool {
+    gives(rt, alloc, line, Err(CliError::Usage(fault)))
 }
 
 // What the built program does with other lines is in tests/rows.txt and tests/refusals.txt.
 #[test]
-fn words_are_taken_or_refused(rt: HostRuntime) {
+fn words_are_taken(rt: HostRuntime) {
     let alloc = rt.alloc();
     let standard = Options {
         workers: 1,
@@ -29,7 +40,7 @@ fn words_are_taken_or_refused(rt: HostRuntime) {
         make: None,
         stats: false,
     };
-    assert!(rt; given(&rt, alloc, "aspenum") == Ok(standard));
+    assert!(rt; gives(&rt, alloc, "aspenum", Ok(standard)));
     let chosen = Options {
         workers: 1,
         mode: Some(Mode::Enum),
@@ -37,10 +48,28 @@ fn words_are_taken_or_refused(rt: HostRuntime) {
         make: Some(2000),
         stats: true,
     };
-    let line = "aspenum --make=2000 --stats --mode=enum --budget=7 --workers=1 --";
-    assert!(rt; given(&rt, alloc, line) == Ok(chosen));
-    assert!(rt; given(&rt, alloc, "") == Err(CliError::Usage));
+    let line = "aspenum --make=2000 --stats --mode=enum --budget=7 --workers 1 --";
+    assert!(rt; gives(&rt, alloc, line, Ok(chosen)));
     for line in ["aspenum --help", "aspenum -h"] {
-        assert!(rt; given(&rt, alloc, line) == Err(CliError::Help));
+        assert!(rt; gives(&rt, alloc, line, Err(CliError::Help)));
     }
+    assert!(rt; gives(&rt, alloc, "aspenum --version", Err(CliError::Version)));
+}
+
+#[test]
+fn faulty_words_are_named(rt: HostRuntime) {
+    let alloc = rt.alloc();
+    assert!(rt; is_faulty(&rt, alloc, "", WordFault::NoWords));
+    let line = "aspenum --stats --verson --mode";
+    assert!(rt; is_faulty(&rt, alloc, line, WordFault::Unknown("--verson")));
+    let line = "aspenum -- --stats";
+    assert!(rt; is_faulty(&rt, alloc, line, WordFault::Unexpected("--stats")));
+    let line = "aspenum --help --stats";
+    assert!(rt; is_faulty(&rt, alloc, line, WordFault::NotAlone("--help")));
+    let line = "aspenum --mode opt --mode=all";
+    assert!(rt; is_faulty(&rt, alloc, line, WordFault::Twice(Name::Mode)));
+    let line = "aspenum --stats --budget";
+    assert!(rt; is_faulty(&rt, alloc, line, WordFault::Missing(Name::Budget)));
+    let line = "aspenum --make 2";
+    assert!(rt; is_faulty(&rt, alloc, line, WordFault::Value(Name::Make, "2")));
 }

@@ -1,6 +1,6 @@
 -- What each status means, from what reading, solving and writing did.
 use Rattle.std.proofs.Common.{◌≡◌, ℕ, ◌≤◌, Bool, true, false, List, refl, sym, subst, inl, inr, arith}
-use Rattle.std.specs.Prelude.{◌⊎◌, Option, None, Some, Result, Ok, Err, IfSome, IsSome, IsErrOf}
+use Rattle.std.specs.Prelude.{Option, None, Some, Result, Ok, Err, IfSome, IsSome, IsErrOf}
 use Rattle.std.specs.Io.KnownBytes.{Appends, Keeps, IsAtEnd}
 use Rattle.asp_io.specs.Causes.{Rose}
 use Rattle.asp_model.specs.declared.fault.ReadError.{ReadError}
@@ -18,8 +18,7 @@ use Rattle.asp_top.specs.declared.status.Status.TheVariants.{All, NoModel, Parti
 use Rattle.asp_top.specs.declared.status.Outcome.{Outcome}
 use Rattle.asp_top.specs.Meaning.{has_model, status_for}
 use Rattle.asp_top.specs.Notes.{is_answered, notes_of}
-use Rattle.asp_top.specs.Runs.{Around, DeliveryMeans, IsExact, IsGiven, IsSaid, IsSolved, Means, Runs, RunsOn, Says, Solves, is_brief, status_of}
-use Rattle.asp_cli.specs.Given.{Given, help, usage, options}
+use Rattle.asp_top.specs.Runs.{Around, DeliveryMeans, IsExact, IsGiven, IsSaid, IsSolved, Means, Runs, Says, Solves, is_brief, status_of}
 use Rattle.asp_cli.specs.declared.Options.{Options}
 
 says-at : (a : Around) (text : List ℕ) (said : Result Program ReadError) → a.left ≡ Some text → Says a said → outcome text ≡ said
@@ -149,12 +148,6 @@ runs-ring given a n p o make is left reads s =
 
 pub ok-no-fault : (p : Program) (e : ReadError) → ¬ IsErrOf (Ok p) e
 ok-no-fault p e is = cc
-
--- memory ran out while the words were read
-pub runs-on-memory : (given : Given) (a : Around) → ¬ (given ≡ help) → Keeps a.left a.left' → a.reads' ≡ a.reads → Keeps a.held a.held' → a.writes' ≡ a.writes → RunsOn given a (record { status = Memory; report = None })
-runs-on-memory help a asked left reads held writes = absurd (asked refl)
-runs-on-memory usage a asked left reads held writes = record { status = inr refl; untouched = record { none = refl; kept = held }; unasked = record { left = left; reads = reads } }
-runs-on-memory (options given) a asked left reads held writes = runs-memory given a held (omega arith) (omega arith) (λ told. reads)
 
 -- no counts are written where no results were
 pub unanswered-notes : (stats : Bool) (status : Status) → is_answered status ≡ false → notes_of stats (record { status = status; report = None }) ≡ notes_of false (record { status = status; report = None })

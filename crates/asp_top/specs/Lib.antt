@@ -1,4 +1,5 @@
 pub mod Codes
+pub mod Usage
 pub mod Notes
 pub mod Meaning
 pub mod Runs

@@ -4,10 +4,10 @@ use Rattle.std.specs.Io.KnownBytes.{Appends}
 use Rattle.asp_io.specs.Causes.{Rose, AppendsFront}
 use Rattle.asp_model.specs.declared.fault.Fault.{Fault}
 use Rattle.asp_model.specs.declared.fault.Fault.TheVariants as fault
-use Rattle.asp_cli.specs.Usage.{usage_line}
 use Rattle.asp_crew.specs.declared.report.Report.{Report}
 use Rattle.asp_top.specs.declared.status.Outcome.{Outcome}
 use Rattle.asp_top.specs.declared.status.Status.{Status}
+use Rattle.asp_top.specs.Usage.{usage_text}
 use Rattle.asp_top.specs.declared.status.Status.TheVariants.{All, NoModel, Partial, Unknown, Help, Memory, Usage, Refused, ReadFault, TooLong, WriteFault}
 
 abbrev pub fault_text : Fault → List ℕ
@@ -28,7 +28,8 @@ fault_text fault.NoEnd = codes "end of program missing"
 fault_text fault.AfterEnd = codes "statement after the end"
 fault_text fault.Size = codes "program too large"
 
--- the line for a status; none where results or help were asked for and written
+-- the lines for a status; none where results, help or the version were asked for and written. Usage is here the status of
+-- words that can't be had
 abbrev pub note_of : Status → List ℕ
 note_of All = []
 note_of NoModel = []
@@ -36,7 +37,7 @@ note_of Partial = []
 note_of Unknown = []
 note_of Help = []
 note_of Memory = codes "aspenum: out of memory\n"
-note_of Usage = codes "aspenum: " ++ usage_line ++ codes "\n"
+note_of Usage = codes "aspenum: a word is not UTF-8" ++ usage_text
 note_of (Refused f line) = codes "aspenum: line " ++ decimal line ++ (codes ": " ++ fault_text f) ++ codes "\n"
 note_of ReadFault = codes "aspenum: read failed\n"
 note_of TooLong = codes "aspenum: input too long\n"

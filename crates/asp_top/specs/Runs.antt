@@ -1,5 +1,5 @@
 -- What each status of a run says of the words, of the bytes read and of the bytes written.
-use Rattle.std.specs.Prelude.{◌≡◌, ◌⊎◌, ℕ, ◌≤◌, Bool, true, false, List, ◌++◌, codes, Option, None, Some, Result, Ok, Err, IfSome, IsSome, is_some}
+use Rattle.std.specs.Prelude.{◌≡◌, ◌⊎◌, ℕ, ◌≤◌, Bool, true, false, List, Option, None, Some, Result, Ok, Err, IfSome, IsSome, is_some}
 use Rattle.std.specs.Io.KnownBytes.{Appends, Keeps, IsAtEnd}
 use Rattle.asp_io.specs.Causes.{Rose, AppendsFront}
 use Rattle.asp_model.specs.declared.fault.Fault.{Fault}
@@ -13,16 +13,17 @@ use Rattle.asp_model.specs.Texts.{results_text}
 use Rattle.asp_read.specs.Outcome.{outcome, most_bytes}
 use Rattle.asp_read.specs.Stream.{StopsAt}
 use Rattle.asp_make.specs.Ring.{ring}
-use Rattle.asp_cli.specs.Given.{Given, help, usage, options}
+use Rattle.asp_cli.specs.Given.{Given, help, misuse, options, version}
 use Rattle.asp_cli.specs.declared.Options.{Options}
-use Rattle.asp_cli.specs.Usage.{usage_line}
+use Rattle.asp_cli.specs.Texts.{help_page, version_line}
 use Rattle.asp_crew.specs.declared.report.Report.{Report}
 use Rattle.asp_crew.specs.Reports.{IsReport}
 use Rattle.asp_top.specs.declared.status.Status.{Status}
 use Rattle.asp_top.specs.declared.status.Status.TheVariants.{All, NoModel, Partial, Unknown, Help, Memory, Usage, Refused, ReadFault, TooLong, WriteFault}
 use Rattle.asp_top.specs.declared.status.Outcome.{Outcome}
 use Rattle.asp_top.specs.Meaning.{has_model, mode_of, status_for}
-use Rattle.asp_top.specs.Notes.{is_answered}
+use Rattle.asp_top.specs.Notes.{is_answered, notes_of}
+use Rattle.asp_top.specs.Usage.{misuse_note}
 
 -- the source and the sink before and after a run: the bytes that are left and held, where they are told, and the counts of faults
 pub record Around : Type 0 where
@@ -174,35 +175,34 @@ pub record Runs (given : Options) (a : Around) (o : Outcome) : Type 0 where
   pub exact : IsExact given a o.status
   pub later : (a.reads ≤ a.reads') × (a.writes ≤ a.writes')
 
--- the line of help
-abbrev pub help_text : List ℕ
-help_text = usage_line ++ codes "\n"
+-- the text that was asked for
+abbrev pub TextMeans : List ℕ → Option (List ℕ) → Option (List ℕ) → ℕ → ℕ → Status → Type 0
+TextMeans text held held' writes writes' Help = Appends held held' text
+TextMeans text held held' writes writes' WriteFault = AppendsFront held held' text × Rose writes writes'
+TextMeans text held held' writes writes' status = ⊥
 
-abbrev pub HelpMeans : Option (List ℕ) → Option (List ℕ) → ℕ → ℕ → Status → Type 0
-HelpMeans held held' writes writes' Help = Appends held held' help_text
-HelpMeans held held' writes writes' WriteFault = AppendsFront held held' help_text × Rose writes writes'
-HelpMeans held held' writes writes' status = ⊥
-
--- help was asked for: its line was written, or cut off by a fault
-pub record Helps (a : Around) (o : Outcome) : Type 0 where
+-- help or the version was asked for: its text was written, or cut off by a fault
+pub record Helps (text : List ℕ) (a : Around) (o : Outcome) : Type 0 where
   pub none : o.report ≡ None
-  pub means : HelpMeans a.held a.held' a.writes a.writes' o.status
+  pub means : TextMeans text a.held a.held' a.writes a.writes' o.status
   pub unasked : IsUnasked a
 
 -- the words are faulty, and nothing was done
 pub record Misuses (a : Around) (o : Outcome) : Type 0 where
-  pub status : (o.status ≡ Usage) ⊎ (o.status ≡ Memory)
+  pub status : o.status ≡ Usage
   pub untouched : IsUntouched a o.report
   pub unasked : IsUnasked a
 
 -- a run whose words give this
 abbrev pub RunsOn : Given → Around → Outcome → Type 0
-RunsOn help a o = Helps a o
-RunsOn usage a o = Misuses a o
+RunsOn help a o = Helps help_page a o
+RunsOn version a o = Helps version_line a o
+RunsOn (misuse m) a o = Misuses a o
 RunsOn (options given) a o = Runs given a o
 
--- whether the words ask for counts
-abbrev pub asks_stats : Given → Bool
-asks_stats help = false
-asks_stats usage = false
-asks_stats (options given) = given.stats
+-- what the notes get of a run whose words give this
+abbrev pub notes_on : Given → Outcome → List ℕ
+notes_on help o = notes_of false o
+notes_on version o = notes_of false o
+notes_on (misuse m) o = misuse_note m
+notes_on (options given) o = notes_of given.stats o

@@ -1,10 +1,9 @@
 //! The line on the notes for each status, and the counts of a run.
 ghost use Rattle.std.specs.Prelude.{◌≡◌, ◌++◌, codes, decimal};
-ghost use Rattle.asp_cli.specs.Usage.{usage_line};
 ghost use Rattle.asp_top.specs.Notes.{IsNoted, Writes, counts_if, counts_of, fault_text, is_answered, note_of, notes_of, stats_of};
 
 use crate::status::{Outcome, Status};
-use asp_cli::usage;
+use crate::usage::write_usage;
 use asp_crew::report::Report;
 use asp_io::{Failed, Sink, write_all};
 use asp_model::fault::Fault;
@@ -76,12 +75,12 @@ fn write_refused<N: Sink>(notes: &mut N, fault: Fault, line: u32) -> Result<(), 
     write(notes, b"\n")
 }
 
-fn write_usage<N: Sink>(notes: &mut N) -> Result<(), Failed>
+fn write_not_text<N: Sink>(notes: &mut N) -> Result<(), Failed>
     ensures { Writes (N.held notes.old) (N.held notes.new) (N.faults notes.old) (N.faults notes.new)
         result (note_of Status.Usage) }
 {
-    write_both(notes, b"aspenum: ", usage())?;
-    write(notes, b"\n")
+    write(notes, b"aspenum: a word is not UTF-8")?;
+    write_usage(notes)
 }
 
 fn write_note<N: Sink>(notes: &mut N, status: Status) -> Result<(), Failed>
@@ -93,7 +92,7 @@ fn write_note<N: Sink>(notes: &mut N, status: Status) -> Result<(), Failed>
             notes, b"",
         ),
         Status::Memory => write(notes, b"aspenum: out of memory\n"),
-        Status::Usage => write_usage(notes),
+        Status::Usage => write_not_text(notes),
         Status::Refused(fault, line) => write_refused(notes, fault, line),
         Status::ReadFault => write(notes, b"aspenum: read failed\n"),
         Status::TooLong => write(notes, b"aspenum: input too long\n"),

@@ -2,14 +2,18 @@
 ghost use Rattle.std.specs.Prelude.{◌≡◌, ◌++◌, ℕ, List, Option, None, Some, false, map, string_bytes};
 ghost use Rattle.asp_model.specs.Sound.{IsSound};
 ghost use Rattle.asp_model.specs.Texts.{results_text};
-ghost use Rattle.asp_cli.specs.Given.{IsRing, words_give};
+ghost use Rattle.asp_cli.specs.Given.{fault_seen, words_give};
+ghost use Rattle.asp_cli.specs.Texts.{help_page, version_line};
+ghost use Rattle.asp_cli.specs.Values.{IsRing};
 ghost use Rattle.asp_top.specs.Notes.{IsNoted, Writes, notes_of};
-ghost use Rattle.asp_top.specs.Runs.{Delivers, HelpMeans, Runs, RunsOn, Solves, TellsFaults, around, asks_stats, help_text, status_of};
+ghost use Rattle.asp_top.specs.Usage.{misuse_note};
+ghost use Rattle.asp_top.specs.Runs.{Delivers, Runs, RunsOn, Solves, TellsFaults, TextMeans, around, notes_on, status_of};
 
-use crate::notes::{note, write_both};
+use crate::notes::{note, write};
 use crate::solve::{mode_of, status_for};
 use crate::status::{Outcome, Status};
-use asp_cli::{CliError, Options, usage};
+use crate::usage::{note_misuse, write_three};
+use asp_cli::{CliError, Options, WordFault, page_back, page_front, usage, version};
 use asp_crew::alone::solve_alone;
 use asp_crew::gate::Gate;
 use asp_crew::report::Report;
@@ -72,12 +76,35 @@ fn write_results<K: Sink>(
     sink.flush()
 }
 
-// Writes the line of help, and flushes the sink.
+fn write_page<K: Sink>(sink: &mut K) -> Result<(), Failed>
+    ensures { Writes (K.held sink.old) (K.held sink.new) (K.faults sink.old) (K.faults sink.new)
+        result help_page }
+{
+    write_three(sink, page_front(), usage(), page_back())
+}
+
+// Writes the page of help, and flushes the sink.
 fn write_help<K: Sink>(sink: &mut K) -> Result<(), Failed>
     ensures { Writes (K.held sink.old) (K.held sink.new) (K.faults sink.old) (K.faults sink.new)
-        result help_text }
+        result help_page }
 {
-    write_both(sink, usage(), b"\n")?;
+    write_page(sink)?;
+    sink.flush()
+}
+
+fn write_line<K: Sink>(sink: &mut K) -> Result<(), Failed>
+    ensures { Writes (K.held sink.old) (K.held sink.new) (K.faults sink.old) (K.faults sink.new)
+        result version_line }
+{
+    write(sink, version())
+}
+
+// Writes the line of the version, and flushes the sink.
+fn write_version<K: Sink>(sink: &mut K) -> Result<(), Failed>
+    ensures { Writes (K.held sink.old) (K.held sink.new) (K.faults sink.old) (K.faults sink.new)
+        result version_line }
+{
+    write_line(sink)?;
     sink.flush()
 }
 
@@ -191,10 +218,20 @@ pub fn run_alone<S: Source, K: Sink, N: Sink>(
 }
 
 fn help<K: Sink>(sink: &mut K) -> Status
-    ensures means { HelpMeans (K.held sink.old) (K.held sink.new) (K.faults sink.old) (K.faults sink.new) result }
+    ensures means { TextMeans help_page (K.held sink.old) (K.held sink.new) (K.faults sink.old) (K.faults sink.new) result }
     ensures flushed { TellsFaults (K.held sink.old) (K.faults sink.old) (K.faults sink.new) result }
 {
     match write_help(sink) {
+        Ok(()) => Status::Help,
+        Err(Failed) => Status::WriteFault,
+    }
+}
+
+fn tell_version<K: Sink>(sink: &mut K) -> Status
+    ensures means { TextMeans version_line (K.held sink.old) (K.held sink.new) (K.faults sink.old) (K.faults sink.new) result }
+    ensures flushed { TellsFaults (K.held sink.old) (K.faults sink.old) (K.faults sink.new) result }
+{
+    match write_version(sink) {
         Ok(()) => Status::Help,
         Err(Failed) => Status::WriteFault,
     }
@@ -208,6 +245,15 @@ fn ended<N: Sink>(notes: &mut N, status: Status) -> Outcome
     let outcome = failed(status);
     note(notes, false, &outcome);
     outcome
+}
+
+// The end of a run on faulty words.
+fn misused<N: Sink>(notes: &mut N, fault: &WordFault<'_>) -> Outcome
+    ensures outcome { result ≡ record { status = Status.Usage; report = None } }
+    ensures notes { IsNoted (N.held notes.old) (N.held notes.new) (N.faults notes.old) (N.faults notes.new) (misuse_note (fault_seen fault.now)) }
+{
+    note_misuse(notes, fault);
+    failed(Status::Usage)
 }
 
 /// A run that can't have its words: nothing is read or written but the line for its status on the notes.
@@ -232,17 +278,20 @@ pub fn run<R: Threads + Wait + Sync, S: Source, K: Sink, N: Sink, G: Gate + Sync
         (K.held sink.old) (K.held sink.new) (K.faults sink.old) (K.faults sink.new)) result }
     ensures flushed { TellsFaults (K.held sink.old) (K.faults sink.old) (K.faults sink.new) result.status }
     ensures notes { IsNoted (N.held notes.old) (N.held notes.new) (N.faults notes.old) (N.faults notes.new)
-        (notes_of (asks_stats (words_give (map string_bytes words.now))) result) }
+        (notes_on (words_give (map string_bytes words.now)) result) }
 {
     let _ = rt;
     let _ = gate;
-    match asp_cli::words(alloc, words) {
+    match asp_cli::words(words) {
         Ok(options) => run_alone(alloc, &options, source, sink, notes),
         Err(CliError::Help) => {
             let status = help(sink);
             ended(notes, status)
         }
-        Err(CliError::Usage) => ended(notes, Status::Usage),
-        Err(CliError::Memory) => ended(notes, Status::Memory),
+        Err(CliError::Version) => {
+            let status = tell_version(sink);
+            ended(notes, status)
+        }
+        Err(CliError::Usage(fault)) => misused(notes, &fault),
     }
 }

@@ -16,7 +16,7 @@ pub enum Status {
     Partial,
     /// The budget was spent with no model recorded.
     Unknown,
-    /// The help line was asked for and written.
+    /// Help or the version was asked for and written.
     Help,
     /// Memory ran out, and nothing was written to the sink.
     Memory,

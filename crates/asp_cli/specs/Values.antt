@@ -1,0 +1,33 @@
+-- The values that options take.
+use Rattle.std.specs.Prelude.{ℕ, ◌≤◌, ◌^◌, Bool, ◌&&◌, nat_le, nat_lt, List, length, Option, Some, None, codes, if◌then◌else◌}
+use Rattle.std.specs.List.{list_all}
+use Rattle.std.specs.Char.{digit_value}
+use Rattle.std.specs.Str.{bytes_eq}
+use Rattle.std.specs.Str.Parse.{digits_value, without_leading_plus}
+use Rattle.asp_model.specs.declared.results.Mode.{Mode}
+use Rattle.asp_model.specs.declared.results.Mode.TheVariants.{Enum, Opt}
+
+-- the mode that a name chooses; the name `auto` leaves the choice to the program
+abbrev pub mode_named : List ℕ → Option (Option Mode)
+mode_named t = if bytes_eq t (codes "auto") then Some None
+    else (if bytes_eq t (codes "enum") then Some (Some Enum)
+    else (if bytes_eq t (codes "opt") then Some (Some Opt) else None))
+
+-- one decimal digit or more, and nothing else
+abbrev pub is_numeral : List ℕ → Bool
+is_numeral ds = nat_lt 0 (length ds) && list_all (λ d. nat_lt (digit_value d) 10) ds
+
+-- a number of 64 bits within these, before which a plus may stand
+abbrev pub is_number_in : ℕ → ℕ → List ℕ → Bool
+is_number_in least most t =
+    let n = digits_value 10 (without_leading_plus t) in
+    is_numeral (without_leading_plus t) && (nat_lt n (2 ^ 64) && (nat_le least n && nat_le n most))
+
+-- the number that a text writes, if it lies within these
+abbrev pub number_within : ℕ → ℕ → List ℕ → Option ℕ
+number_within least most t = if is_number_in least most t then Some (digits_value 10 (without_leading_plus t)) else None
+
+-- a ring has 3 to 2000 nodes, where one is asked for
+abbrev pub IsRing : Option ℕ → Type 0
+IsRing None = Unit {0}
+IsRing (Some n) = (3 ≤ n) × (n ≤ 2000)

@@ -1,0 +1,84 @@
+//! The options that were found so far.
+ghost use Rattle.std.specs.Prelude.{◌≡◌, IfSome};
+ghost use Rattle.asp_cli.specs.Found.{found_with, has, options_of};
+ghost use Rattle.asp_cli.specs.Values.{IsRing};
+
+use crate::Options;
+use crate::names::Name;
+use crate::values::{LARGEST_RING, LEAST_RING, MOST_UNITS, MOST_WORKERS, named_mode, number};
+use asp_model::results::Mode;
+
+/// The options that were given, each with its value.
+#[derive(Clone, Copy)]
+pub struct Found {
+    pub workers: Option<u32>,
+    pub mode: Option<Option<Mode>>,
+    pub budget: Option<u64>,
+    pub make: Option<u32>,
+    pub stats: bool,
+}
+
+/// Whether the option was given.
+pub fn has(found: &Found, name: Name) -> bool
+    ensures { result ≡ has found.now name }
+{
+    match name {
+        Name::Workers => found.workers.is_some(),
+        Name::Mode => found.mode.is_some(),
+        Name::Budget => found.budget.is_some(),
+        Name::Make => found.make.is_some(),
+        Name::Stats => found.stats,
+    }
+}
+
+/// What was found with this option's value, if it takes the value.
+pub fn with(found: Found, name: Name, text: &str) -> Option<Found>
+    ensures value { result ≡ found_with found name text.now }
+    ensures ring { IsRing found.make → IfSome result (λ f. IsRing f.make) }
+{
+    match name {
+        Name::Workers => {
+            let workers = number(text, 1, MOST_WORKERS)?;
+            Some(Found {
+                workers: Some(workers as u32),
+                ..found
+            })
+        }
+        Name::Mode => {
+            let mode = named_mode(text)?;
+            Some(Found {
+                mode: Some(mode),
+                ..found
+            })
+        }
+        Name::Budget => {
+            let budget = number(text, 0, MOST_UNITS)?;
+            Some(Found {
+                budget: Some(budget),
+                ..found
+            })
+        }
+        Name::Make => {
+            let nodes = number(text, LEAST_RING, LARGEST_RING)?;
+            Some(Found {
+                make: Some(nodes as u32),
+                ..found
+            })
+        }
+        Name::Stats => None,
+    }
+}
+
+/// The options that were given, and for the others what stands where they aren't.
+pub fn options(found: &Found) -> Options
+    ensures value { result ≡ options_of found.now }
+    ensures ring { IsRing found.now.make → IsRing result.make }
+{
+    Options {
+        workers: found.workers.unwrap_or(1),
+        mode: found.mode.unwrap_or(None),
+        budget: found.budget.unwrap_or(MOST_UNITS),
+        make: found.make,
+        stats: found.stats,
+    }
+}

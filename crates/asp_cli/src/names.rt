@@ -1,0 +1,60 @@
+//! The options' names.
+ghost use Rattle.std.specs.Prelude.{◌≡◌};
+ghost use Rattle.asp_cli.specs.Names.{named, takes_of, text_of};
+
+/// An option.
+#[derive(Clone, Copy, Debug, PartialEq, Eq)]
+pub enum Name {
+    Workers,
+    Mode,
+    Budget,
+    Make,
+    Stats,
+}
+
+impl Name {
+    /// The word that names it.
+    pub fn text(self) -> &'static str
+        ensures { result.now ≡ text_of self }
+    {
+        match self {
+            Name::Workers => "--workers",
+            Name::Mode => "--mode",
+            Name::Budget => "--budget",
+            Name::Make => "--make",
+            Name::Stats => "--stats",
+        }
+    }
+
+    /// What it takes, as the notes tell it.
+    pub fn takes(self) -> &'static str
+        ensures { result.now ≡ takes_of self }
+    {
+        match self {
+            Name::Workers => "1",
+            Name::Mode => "auto, enum or opt",
+            Name::Budget => "a number up to 9223372036854775807",
+            Name::Make => "a number from 3 to 2000",
+            Name::Stats => "no value",
+        }
+    }
+}
+
+/// The option that the word names.
+pub fn named(word: &str) -> Option<Name>
+    ensures { result ≡ named word.now }
+{
+    if word == Name::Workers.text() {
+        Some(Name::Workers)
+    } else if word == Name::Mode.text() {
+        Some(Name::Mode)
+    } else if word == Name::Budget.text() {
+        Some(Name::Budget)
+    } else if word == Name::Make.text() {
+        Some(Name::Make)
+    } else if word == Name::Stats.text() {
+        Some(Name::Stats)
+    } else {
+        None
+    }
+}

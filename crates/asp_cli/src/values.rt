@@ -1,0 +1,52 @@
+//! The values of the options.
+ghost use Rattle.std.specs.Prelude.{◌≡◌, ◌≤◌, ◌&&◌, nat_le, Some, None, IfSome, if◌then◌else◌};
+ghost use Rattle.asp_cli.specs.Values.{mode_named, number_within};
+
+use asp_model::results::Mode;
+
+/// The one number of workers that there may be.
+pub const MOST_WORKERS: u64 = 1;
+/// The greatest budget, which stands where none is given.
+pub const MOST_UNITS: u64 = 9223372036854775807;
+/// The least and the greatest number of nodes of a ring.
+pub const LEAST_RING: u64 = 3;
+
+pub const LARGEST_RING: u64 = 2000;
+
+/// The mode that the text names; `auto` leaves it to the program.
+pub fn named_mode(text: &str) -> Option<Option<Mode>>
+    ensures { result ≡ mode_named text.now }
+{
+    if text == "auto" {
+        Some(None)
+    } else if text == "enum" {
+        Some(Some(Mode::Enum))
+    } else if text == "opt" {
+        Some(Some(Mode::Opt))
+    } else {
+        None
+    }
+}
+
+// The number, if it lies within these.
+fn within(n: u64, least: u64, most: u64) -> Option<u64>
+    ensures value { result ≡ (if nat_le least n && nat_le n most then Some n else None) }
+    ensures within { IfSome result (λ m. (least ≤ m) × (m ≤ most)) }
+{
+    if least <= n && n <= most {
+        Some(n)
+    } else {
+        None
+    }
+}
+
+/// The number that the text writes, if it lies within these.
+pub fn number(text: &str, least: u64, most: u64) -> Option<u64>
+    ensures value { result ≡ number_within least most text.now }
+    ensures within { IfSome result (λ n. (least ≤ n) × (n ≤ most)) }
+{
+    match text.parse::<u64>() {
+        Ok(n) => within(n, least, most),
+        Err(_) => None,
+    }
+}

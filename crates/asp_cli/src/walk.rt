@@ -1,0 +1,189 @@
+//! The walk over the words behind the program's name.
+ghost use Rattle.std.specs.Prelude.{◌≡◌, IfOk, map, option_map, string_bytes};
+ghost use Rattle.asp_cli.specs.Found.{start};
+ghost use Rattle.asp_cli.specs.Given.{after, cut, ended, fault_seen, fresh, looks_like_option, seen, stray, told_alone, told_option, told_value, told_with_value, walked};
+ghost use Rattle.asp_cli.specs.Values.{IsRing};
+
+use crate::found::{Found, has, options, with};
+use crate::names::{Name, named};
+use crate::{Options, WordFault, asks_for_help, asks_for_version};
+
+/// What the next word may be.
+#[derive(Clone, Copy)]
+pub enum Awaits {
+    /// An option.
+    Option,
+    /// The value of this one.
+    Value(Name),
+    /// Nothing: the word `--` came.
+    Nothing,
+}
+
+/// What the words up to here said.
+#[derive(Clone, Copy)]
+pub struct State {
+    pub found: Found,
+    pub awaits: Awaits,
+}
+
+fn start() -> State
+    ensures { result ≡ start }
+{
+    let found = Found {
+        workers: None,
+        mode: None,
+        budget: None,
+        make: None,
+        stats: false,
+    };
+    State {
+        found,
+        awaits: Awaits::Option,
+    }
+}
+
+// A hyphen and more.
+fn looks_like_option(word: &str) -> bool
+    ensures { result ≡ looks_like_option word.now }
+{
+    match word.as_bytes() {
+        [first, _, ..] => *first == b'-',
+        _ => false,
+    }
+}
+
+// The fault of a word that names no option.
+fn stray<'a>(word: &'a str) -> WordFault<'a>
+    ensures { fault_seen result ≡ stray word.entry.now }
+{
+    if asks_for_help(word) || asks_for_version(word) {
+        WordFault::NotAlone(word)
+    } else if looks_like_option(word) {
+        WordFault::Unknown(word)
+    } else {
+        WordFault::Unexpected(word)
+    }
+}
+
+// What stands before the first `=`, and what stands behind it.
+fn cut<'a>(word: &'a str) -> Option<(&'a str, &'a str)>
+    ensures { option_map (λ p. (p.0.now, p.1.now)) result ≡ cut word.entry.now }
+{
+    word.split_once('=')
+}
+
+// The option of this name, which the word gives for the first time.
+fn fresh<'a>(found: &Found, name: &str, word: &'a str) -> Result<Name, WordFault<'a>>
+    ensures { seen result ≡ fresh found.now name.now word.entry.now }
+{
+    match named(name) {
+        None => Err(stray(word)),
+        Some(name) => {
+            if has(found, name) {
+                Err(WordFault::Twice(name))
+            } else {
+                Ok(name)
+            }
+        }
+    }
+}
+
+fn value<'a>(found: Found, name: Name, text: &'a str) -> Result<State, WordFault<'a>>
+    ensures value { seen result ≡ told_value found name text.entry.now }
+    ensures ring { IsRing found.make → IfOk result (λ s. IsRing s.found.make) }
+{
+    match with(found, name, text) {
+        Some(found) => Ok(State {
+            found,
+            awaits: Awaits::Option,
+        }),
+        None => Err(WordFault::Value(name, text)),
+    }
+}
+
+// An option with its value behind `=`.
+fn with_value<'a>(
+    found: Found,
+    name: &str,
+    text: &'a str,
+    word: &'a str,
+) -> Result<State, WordFault<'a>>
+    ensures value { seen result ≡ told_with_value found name.now text.entry.now word.entry.now }
+    ensures ring { IsRing found.make → IfOk result (λ s. IsRing s.found.make) }
+{
+    match fresh(&found, name, word) {
+        Ok(name) => value(found, name, text),
+        Err(fault) => Err(fault),
+    }
+}
+
+// An option in a word of its own.
+fn alone<'a>(found: Found, word: &'a str) -> Result<State, WordFault<'a>>
+    ensures value { seen result ≡ told_alone found word.entry.now }
+    ensures ring { IsRing found.make → IfOk result (λ s. IsRing s.found.make) }
+{
+    match fresh(&found, word, word) {
+        Ok(Name::Stats) => Ok(State {
+            found: Found {
+                stats: true,
+                ..found
+            },
+            awaits: Awaits::Option,
+        }),
+        Ok(name) => Ok(State {
+            found,
+            awaits: Awaits::Value(name),
+        }),
+        Err(fault) => Err(fault),
+    }
+}
+
+fn option<'a>(found: Found, word: &'a str) -> Result<State, WordFault<'a>>
+    ensures value { seen result ≡ told_option found word.entry.now }
+    ensures ring { IsRing found.make → IfOk result (λ s. IsRing s.found.make) }
+{
+    if word == "--" {
+        return Ok(State {
+            found,
+            awaits: Awaits::Nothing,
+        });
+    }
+    match cut(word) {
+        Some((name, text)) => with_value(found, name, text, word),
+        None => alone(found, word),
+    }
+}
+
+// What is said after one more word.
+fn after<'a>(state: State, word: &'a str) -> Result<State, WordFault<'a>>
+    ensures value { seen result ≡ after state word.entry.now }
+    ensures ring { IsRing state.found.make → IfOk result (λ s. IsRing s.found.make) }
+{
+    match state.awaits {
+        Awaits::Option => option(state.found, word),
+        Awaits::Value(name) => value(state.found, name, word),
+        Awaits::Nothing => Err(WordFault::Unexpected(word)),
+    }
+}
+
+fn ended<'a>(state: &State) -> Result<Options, WordFault<'a>>
+    ensures value { seen result ≡ ended state.now }
+    ensures ring { IsRing state.now.found.make → IfOk result (λ o. IsRing o.make) }
+{
+    match state.awaits {
+        Awaits::Value(name) => Err(WordFault::Missing(name)),
+        _ => Ok(options(&state.found)),
+    }
+}
+
+/// The options that the words give, or the first fault.
+pub fn walk<'a>(words: &'a [String]) -> Result<Options, WordFault<'a>>
+    ensures value { seen result ≡ walked start (map string_bytes words.entry.now) }
+    ensures ring { IfOk result (λ o. IsRing o.make) }
+{
+    let mut state = start();
+    for word in words {
+        state = after(state, word.as_str())?;
+    }
+    ended(&state)
+}
