@@ -80,7 +80,7 @@ def configuration(slots, parts, seed):
     takes = [(p, r, choose.randint(1, 20)) for p in names for r in range(2)]
     pairs = {tuple(sorted(choose.sample(names, 2))) for _ in range(slots * parts)}
     price = [(p, 5 + sum(v for q, _, v in gives if q == p) // 2 + choose.randint(0, 12)) for p in names]
-    return grounded("configuration", facts("part", every) + facts("gives", gives) + facts("takes", takes) + facts("conflict", pairs) + facts("price", price)
+    return grounded("configuration", facts("part", every) + facts("gives", gives) + facts("takes", takes) + facts("conflict", sorted(pairs)) + facts("price", price)
                     + facts("needs", ((r, slots * 12) for r in range(3))) + facts("limit", ((r, slots * 10) for r in range(2))))
 
 
@@ -103,13 +103,13 @@ def timetable(courses, rooms, slots, teachers, seed):
     given = [(c, choose.randint(10, 60), choose.randrange(teachers)) for c in range(courses)]
     clash = [(c, d, choose.randint(1, 9)) for c in range(courses) for d in range(c) if choose.random() < 0.4]
     dislikes = [(t, choose.randint(1, slots)) for t in range(teachers) for _ in range(2)]
-    return grounded("timetable", facts("course", given) + facts("room", ((r, choose.randint(20, 50)) for r in range(rooms))) + facts("clash", clash) + facts("dislikes", set(dislikes)), n=slots)
+    return grounded("timetable", facts("course", given) + facts("room", ((r, choose.randint(20, 50)) for r in range(rooms))) + facts("clash", clash) + facts("dislikes", sorted(set(dislikes))), n=slots)
 
 
 def paint(nodes, edges, colours, seed):
     choose = random.Random(seed)
     pairs = {tuple(sorted(choose.sample(range(nodes), 2))) for _ in range(edges)}
-    return grounded("paint", facts("edge", pairs) + facts("cost", ((x, c, choose.randint(1, 9)) for x in range(nodes) for c in range(colours))))
+    return grounded("paint", facts("edge", sorted(pairs)) + facts("cost", ((x, c, choose.randint(1, 9)) for x in range(nodes) for c in range(colours))))
 
 
 def control(companies, holders, seed):

@@ -156,7 +156,7 @@ def main():
     given = words.parse_args()
     halves = [given.half] if given.half else [*HALVES, *(["small"] if given.small else [])]
     names = given.names or [name for name, (half, _) in PROGRAMS.items() if half in halves]
-    heads = ["program", "half", *SIDES, *(f"{it[:7]} cf" for it in SIDES), *(f"{it[:4]} MB" for it in SIDES), "same"]
+    heads = ["program", "half", *SIDES, "conflicts", *SIDES[1:], "MB", *SIDES[1:], "same"]
     print(line(heads, given.markdown))
     if given.markdown:
         print("|" + "---|" * len(heads))
