@@ -115,10 +115,9 @@ def line(texts, markdown):
 
 
 def means(rows):
-    for half in (*HALVES, "small", "all"):
+    halves = [half for half in (*HALVES, "small") if any(it["half"] == half for it in rows)]
+    for half in (*halves, *(["all"] if len(halves) > 1 else [])):
         some = [it for it in rows if half in (it["half"], "all")]
-        if not some:
-            continue
         ended = [f"{sum(it[side]['ended'] for it in some)} {side}" for side in SIDES]
         print(f"{half}: {len(some)} programs, ended: {', '.join(ended)}")
         for other in SIDES[1:]:
