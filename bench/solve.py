@@ -1,20 +1,25 @@
 #!/usr/bin/env python3
 """Times aspenum beside clasp: processor time, conflicts, memory, and whether they say the same.
 
-usage: bench/solve.py [--program build/aspenum] [--svg FILE] [NAME..]
+usage: bench/solve.py [--program build/aspenum] [--limit SECONDS] [--jobs N] [--half tuned|held-out] [--small] [--markdown]
+                      [--texts FOLDER] [--svg FILE] [NAME..]
 
-clasp runs twice: in the configuration nearest to this search ("nearest"), which switches off what this search has nothing
-like, and as it comes ("default", writing no answers). Each program runs once in each, one after the other, within a limit of
-120 seconds of processor time. Programs are gringo encodings of bench/lp, and random 3-SAT at the threshold, made here. It
-asserts nothing: it is outside the gate."""
+clasp runs twice: as it comes ("default", writing no answers), and in the configuration nearest to this search ("nearest"),
+which switches off what this search has nothing like. Each program runs once in each, within a limit of 20 seconds of processor
+time: what doesn't end is shown with ">" and counted at the limit. The programs are in programs.py, each with its half: we tune
+on 'tuned' alone, and 'held out' tells whether that helped what we didn't look at. bench/README.md says what each is. It ends
+with status 1 where two that ended said different things; it is outside the gate."""
 import argparse
+import math
 import os
-import random
 import re
 import resource
 import subprocess
 import sys
 import tempfile
+from concurrent.futures import ThreadPoolExecutor
+
+from programs import HALVES, PROGRAMS
 
 HERE = os.path.dirname(os.path.abspath(__file__))
 CLASP = (
@@ -23,58 +28,23 @@ CLASP = (
     " --sign-fix --update-lbd=no --del-glue=0 --loops=common --deletion=basic,50 --del-grow=no --del-cfl=+,2000,500 --stats -n 0"
 ).split()
 DEFAULT = "clasp --stats -n 0 -q".split()
-LIMIT = 120
 
 
-def encoded(name, *words):
-    return lambda: subprocess.run(["gringo", *words, f"{HERE}/lp/{name}.lp"], capture_output=True, check=True).stdout
-
-
-def random_sat(atoms, seed, ratio):
-    def text():
-        choose = random.Random(seed)
-        lines = ["asp 1 0 0", f"1 1 {atoms} {' '.join(map(str, range(1, atoms + 1)))} 0 0"]
-        for _ in range(int(atoms * ratio)):
-            chosen = choose.sample(range(1, atoms + 1), 3)
-            lines.append("1 0 0 0 3 " + " ".join(str(it * choose.choice((1, -1))) for it in chosen))
-        return ("\n".join([*lines, "0"]) + "\n").encode()
-
-    return text
-
-
-def free_atoms(atoms):
-    return lambda: f"asp 1 0 0\n1 1 {atoms} {' '.join(map(str, range(1, atoms + 1)))} 0 0\n0\n".encode()
-
-
-PROGRAMS = {
-    "colouring-12": encoded("color", "-c", "n=12", "-c", "k=3", "-c", "m=5"),
-    "hamilton-7": encoded("ham", "-c", "n=7"),
-    "hamilton-8": encoded("ham", "-c", "n=8"),
-    "knapsack-18": encoded("knap", "-c", "n=18"),
-    "pigeons-8": encoded("pigeon", "-c", "n=8"),
-    "pigeons-9": encoded("pigeon", "-c", "n=9"),
-    "queens-8": encoded("queens", "-c", "n=8"),
-    "queens-10": encoded("queens", "-c", "n=10"),
-    "spanning-12": encoded("span", "-c", "n=12"),
-    "spanning-14": encoded("span", "-c", "n=14"),
-    "sat-200": random_sat(200, 2, 4.8),
-    "sat-250": random_sat(250, 2, 4.8),
-    "sat-300": random_sat(300, 3, 5.2),
-    "free-20": free_atoms(20),
-}
-
-
-def run(words, path, output):
-    """Returns what was written, the notes, the processor time in seconds and the greatest memory in MB."""
+def run(words, path, output, limit):
+    """Returns the notes, the processor time in seconds, the greatest memory in MB, and whether the limit stopped it."""
     def limits():
-        resource.setrlimit(resource.RLIMIT_CPU, (LIMIT, LIMIT + 1))
+        resource.setrlimit(resource.RLIMIT_CPU, (limit, limit + 1))
+        resource.setrlimit(resource.RLIMIT_AS, (6 << 30, 6 << 30))
 
     with open(path, "rb") as text, open(output, "wb") as out, tempfile.TemporaryFile() as notes:
         process = subprocess.Popen(words, stdin=text, stdout=out, stderr=notes, preexec_fn=limits)
-        _, _, used = os.wait4(process.pid, 0)
+        _, status, used = os.wait4(process.pid, 0)
         notes.seek(0)
-        said = notes.read().decode()
-    return said, used.ru_utime + used.ru_stime, used.ru_maxrss / 1024
+        said = notes.read().decode(errors="replace")
+    time = used.ru_utime + used.ru_stime
+    # clasp catches the signal of the limit and ends by itself.
+    ended = not os.WIFSIGNALED(status) and time < limit
+    return said, time, used.ru_maxrss / 1024, ended
 
 
 def tail_of(output):
@@ -94,40 +64,69 @@ def result_of(text):
     return costs[-1].strip() if costs else number(r"Models\s*: (\d+)", text)
 
 
-def measured(program, name, room):
-    path, output = f"{room}/{name}.aspif", f"{room}/out"
-    with open(path, "wb") as it:
-        it.write(PROGRAMS[name]())
-    ours, our_time, our_memory = run([program, "--stats"], path, output)
-    our_text = tail_of(output)
+SIDES = ("aspenum", "nearest", "default")
+
+
+def measured(program, name, room, limit):
+    """A row: for each side the seconds, conflicts and memory, and whether it ended; what the sides that ended said must agree."""
+    half, make = PROGRAMS[name]
+    path, row, said = f"{room}/{name}.aspif", {"name": name, "half": half}, []
+    if not os.path.exists(path):
+        with open(path, "wb") as it:
+            it.write(make())
     quiet = ["-q"] if name.startswith("free") else []
-    _, their_time, their_memory = run([*CLASP, *quiet], path, output)
-    their_text = tail_of(output)
-    same = result_of(our_text) == result_of(their_text) is not None
-    _, default_time, default_memory = run(DEFAULT, path, output)
-    return {
-        "name": name, "same": same,
-        "time": our_time, "conflicts": number(r"Conflicts: (\d+)", ours), "memory": our_memory,
-        "clasp": their_time, "clasp conflicts": number(r"Conflicts\s*: (\d+)", their_text), "clasp memory": their_memory,
-        "default": default_time, "default conflicts": number(r"Conflicts\s*: (\d+)", tail_of(output)), "default memory": default_memory,
-    }
+    for side, words in zip(SIDES, ([program, "--stats"], [*CLASP, *quiet], DEFAULT)):
+        output = f"{room}/{name}.{side}"
+        notes, time, memory, ended = run(words, path, output, limit)
+        text = tail_of(output)
+        os.remove(output)
+        conflicts = number(r"Conflicts\s*: (\d+)", text) if side != "aspenum" else number(r"Conflicts: (\d+)", notes)
+        row[side] = {"time": time if ended else limit, "conflicts": conflicts, "memory": memory, "ended": ended}
+        if ended:
+            said.append(result_of(text))
+    row["same"] = "-" if len(said) < 2 else "yes" if len(set(said)) == 1 and said[0] is not None else "NO"
+    return row
 
 
-def shown(count):
-    return "-" if count is None else count
+def mean(rows, other, what, least):
+    """The geometric mean of ours by the other's; of conflicts over the programs that both ended."""
+    pairs = [(it["aspenum"], it[other]) for it in rows]
+    if what == "conflicts":
+        pairs = [(a, b) for a, b in pairs if a["ended"] and b["ended"] and None not in (a[what], b[what])]
+    logs = [math.log(max(a[what], least) / max(b[what], least)) for a, b in pairs]
+    return math.exp(sum(logs) / len(logs)) if logs else float("nan")
 
 
-def mean(rows, other):
-    product = 1.0
-    for row in rows:
-        product *= max(row["time"], 0.001) / max(row[other], 0.001)
-    return product ** (1 / len(rows)) if rows else float("nan")
+def cells(row):
+    """What is shown of a row: a limit that was met has a ">", a number that isn't known a "-"."""
+    sides = [row[it] for it in SIDES]
+    return [
+        row["name"], row["half"],
+        *(f"{'' if it['ended'] else '> '}{it['time']:.2f}" for it in sides),
+        *("-" if it["conflicts"] is None else f"{it['conflicts']:,}" for it in sides),
+        *(f"{it['memory']:.0f}" for it in sides), row["same"],
+    ]
+
+
+def line(texts, markdown):
+    if markdown:
+        return "| " + " | ".join(texts) + " |"
+    return f"{texts[0]:18} {texts[1]:8} " + " ".join(f"{it:>{width}}" for it, width in zip(texts[2:], (8, 8, 8, 10, 10, 10, 7, 7, 7, 4)))
+
+
+def means(rows):
+    halves = [half for half in (*HALVES, "small") if any(it["half"] == half for it in rows)]
+    for half in (*halves, *(["all"] if len(halves) > 1 else [])):
+        some = [it for it in rows if half in (it["half"], "all")]
+        ended = [f"{sum(it[side]['ended'] for it in some)} {side}" for side in SIDES]
+        print(f"{half}: {len(some)} programs, ended: {', '.join(ended)}")
+        for other in SIDES[1:]:
+            time, conflicts = mean(some, other, "time", 0.01), mean(some, other, "conflicts", 1)
+            print(f"  geometric mean by {other}: time {time:.2f}, conflicts {conflicts:.2f}")
 
 
 def plot(rows, path):
     """A point for each program, clasp's time to the right and ours upwards, both on a scale of powers of ten."""
-    import math
-
     place = lambda seconds: 40 + 110 * (math.log10(min(max(seconds, 0.01), 100)) + 2)
     parts = ['<svg xmlns="http://www.w3.org/2000/svg" width="520" height="520" font-family="sans-serif" font-size="10">',
              '<rect width="520" height="520" fill="white"/>', '<path d="M40 480L480 40" stroke="grey" fill="none"/>']
@@ -135,7 +134,7 @@ def plot(rows, path):
         at = place(10.0**power)
         parts.append(f'<path d="M{at} 480V484M40 {520 - at}H36" stroke="black"/><text x="{at - 8}" y="496">{10.0**power:g}</text><text x="8" y="{523 - at}">{10.0**power:g}</text>')
     for row in rows:
-        x, y = place(row["clasp"]), 520 - place(row["time"])
+        x, y = place(row["default"]["time"]), 520 - place(row["aspenum"]["time"])
         parts.append(f'<circle cx="{x:.1f}" cy="{y:.1f}" r="3"/><text x="{x + 5:.1f}" y="{y:.1f}">{row["name"]}</text>')
     parts.append('<text x="200" y="512">clasp, seconds</text><text x="44" y="36">aspenum, seconds</text></svg>')
     with open(path, "w") as it:
@@ -145,25 +144,32 @@ def plot(rows, path):
 def main():
     words = argparse.ArgumentParser()
     words.add_argument("--program", default=f"{HERE}/../build/aspenum")
+    words.add_argument("--limit", type=int, default=20, help="seconds of processor time for each run")
+    words.add_argument("--jobs", type=int, default=1, help="programs at the same time")
+    words.add_argument("--half", choices=HALVES)
+    words.add_argument("--small", action="store_true", help="the small programs too, which are in neither half")
+    words.add_argument("--markdown", action="store_true")
+    words.add_argument("--texts", help="a folder that keeps the grounded texts")
     words.add_argument("--svg")
     words.add_argument("names", nargs="*")
     given = words.parse_args()
+    halves = [given.half] if given.half else [*HALVES, *(["small"] if given.small else [])]
+    names = given.names or [name for name, (half, _) in PROGRAMS.items() if half in halves]
+    heads = ["program", "half", *SIDES, "conflicts", *SIDES[1:], "MB", *SIDES[1:], "same"]
+    print(line(heads, given.markdown))
+    if given.markdown:
+        print("|" + "---|" * len(heads))
     rows = []
-    print(f"{'':14} {'seconds of processor time':^28} {'conflicts':^30} {'memory, MB':^22}")
-    print(f"{'program':14}" + f" {'aspenum':>8} {'nearest':>9} {'default':>9}" + f" {'aspenum':>10} {'nearest':>9} {'default':>9}" + f" {'aspenum':>8} {'nearest':>7} {'default':>7}  same")
-    with tempfile.TemporaryDirectory() as room:
-        for name in given.names or PROGRAMS:
-            row = measured(given.program, name, room)
+    with tempfile.TemporaryDirectory() as temporary, ThreadPoolExecutor(given.jobs) as pool:
+        room = given.texts or temporary
+        os.makedirs(room, exist_ok=True)
+        for row in pool.map(lambda name: measured(given.program, name, room, given.limit), names):
             rows.append(row)
-            print(
-                f"{name:14} {row['time']:8.2f} {row['clasp']:9.2f} {row['default']:9.2f}"
-                f" {shown(row['conflicts']):>10} {shown(row['clasp conflicts']):>9} {shown(row['default conflicts']):>9}"
-                f" {row['memory']:8.0f} {row['clasp memory']:7.0f} {row['default memory']:7.0f}  {'yes' if row['same'] else 'NO'}",
-                flush=True,
-            )
-    print(f"geometric mean of aspenum's time by clasp's: {mean(rows, 'clasp'):.2f} (nearest), {mean(rows, 'default'):.2f} (default)")
+            print(line(cells(row), given.markdown), flush=True)
+    means(rows)
     if given.svg:
         plot(rows, given.svg)
+    return 1 if any(it["same"] == "NO" for it in rows) else 0
 
 
 if __name__ == "__main__":

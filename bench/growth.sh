@@ -1,0 +1,147 @@
+#!/bin/sh
+# How time and memory of a built program grow with the size of a text: sizes doubled four times, one row a kind of text.
+# usage: bench/growth.sh [--markdown] [PROGRAM [BASE [KIND..]]], with python3 at hand: BASE is the first size (4000).
+# Each kind has four answers at most, or one optimum. Seconds of processor time, 20 of them a run at most: what doesn't end is
+# shown as ">20", and no greater size of it is tried. A doubling that takes 3 times as long or more, or the limit, is flagged with "!",
+# unless it ends within 0.1 seconds, where the clock is too coarse. It asserts nothing: it is outside the gate.
+set -eu
+markdown=
+if [ "${1:-}" = --markdown ]; then markdown=1; shift; fi
+program=$(realpath "${1:-build/aspenum}")
+test -x "$program" || { echo "no program $program: make builds it" >&2; exit 1; }
+[ $# -eq 0 ] || shift
+MARKDOWN=$markdown exec python3 - "$program" "$@" <<'PY'
+import math, os, resource, subprocess, sys, tempfile
+
+LIMIT = 20
+program, base, only = sys.argv[1], int(sys.argv[2]) if len(sys.argv) > 2 else 4000, sys.argv[3:]
+markdown = bool(os.environ.get("MARKDOWN"))
+
+
+def rule(head, *body):
+    return f"1 0 {'1 %d' % head if head else '0'} 0 {len(body)}" + "".join(f" {it}" for it in body)
+
+
+def choice(atoms):
+    return f"1 1 {len(atoms)} {' '.join(map(str, atoms))} 0 0"
+
+
+def weight(head, bound, lits):
+    return f"1 0 {'1 %d' % head if head else '0'} 1 {bound} {len(lits)}" + "".join(f" {it} 1" for it in lits)
+
+
+def minimise(priority, lits, by=1):
+    return f"2 {priority} {len(lits)}" + "".join(f" {it} {by}" for it in lits)
+
+
+def to(n):
+    return range(1, n + 1)
+
+
+def weight_body(n):
+    g, half = n + 1, n // 2
+    return [choice([g]), choice(range(half + 1, n + 1)), *(rule(i, g) for i in to(half)), rule(0, -g), weight(0, half + 1, to(n))]
+
+
+def bound(n):
+    return [choice(to(n)), rule(0, *(-i for i in to(n))), minimise(0, to(n))]
+
+
+def maximised(n):
+    return [choice(to(n)), minimise(0, [-i for i in to(n)])]
+
+
+def supports(n):
+    a, g = n + 1, n + 2
+    return [choice(to(n)), choice([g]), *(rule(a, i) for i in to(n)), *(rule(0, i, g) for i in to(n - 1)), rule(0, -g), rule(0, -a)]
+
+
+def unfounded(n):
+    c, s, at = n + 1, n + 2, lambda i: i % n + 1
+    return [choice([c, s]), *(weight(at(i), 2, [at(i + 1), at(7 * i), -c]) for i in range(n)), rule(1, s)]
+
+
+def priorities(n):
+    rows = [list(range(p * 10 + 1, p * 10 + 11)) for p in range(n // 10)]
+    return [choice(to(n)), *(rule(0, *(-i for i in row)) for row in rows), *(minimise(p, row) for p, row in enumerate(rows))]
+
+
+def negative(n):
+    return [choice(to(n)), minimise(0, to(n), -1)]
+
+
+def chain(n):
+    return [choice([1]), *(rule(i + 1, i) for i in to(n - 1))]
+
+
+def ring(n):
+    return [choice([n + 1]), rule(1, n + 1), rule(1, n), *(rule(i + 1, i) for i in to(n - 1))]
+
+
+def two_ways(n):
+    return [choice([n + 1]), rule(n // 2, n + 1), *(rule(i + 1, i) for i in to(n - 1)), *(rule(i, i + 1) for i in to(n - 1))]
+
+
+def lattice(n):
+    side = math.isqrt(n)
+    at = lambda x, y: x * side + y + 1
+    near = [(at(x, y), at(u, v)) for x in range(side) for y in range(side) for u, v in ((x + 1, y), (x, y + 1)) if u < side and v < side]
+    return [choice([side * side + 1]), rule(1, side * side + 1), *(rule(a, b) for p, q in near for a, b in ((p, q), (q, p)))]
+
+
+KINDS = {
+    "weight body, half implied": weight_body, "n - 1 items by the bound": bound, "free atoms maximised": maximised,
+    "items minimised at -1": negative, "priorities of 10 items": priorities, "atom with n supports": supports,
+    "unfounded weight bodies": unfounded, "chain": chain, "ring": ring, "chain of both ways": two_ways, "lattice of both ways": lattice,
+}
+
+
+def run(path):
+    def limits():
+        resource.setrlimit(resource.RLIMIT_CPU, (LIMIT, LIMIT + 1))
+        resource.setrlimit(resource.RLIMIT_AS, (6 << 30, 6 << 30))
+
+    with open(path, "rb") as text:
+        process = subprocess.Popen([program], stdin=text, stdout=subprocess.DEVNULL, stderr=subprocess.DEVNULL, preexec_fn=limits)
+        _, status, used = os.wait4(process.pid, 0)
+    return used.ru_utime + used.ru_stime, used.ru_maxrss / 1024, status
+
+
+def row(make, path):
+    """For each size the seconds, the factor by the size before with its flag, and the memory."""
+    times, factors, memory, before = [], [], [], None
+    for size in (base << step for step in range(5)):
+        with open(path, "w") as out:
+            out.write("\n".join(["asp 1 0 0", *make(size), "0"]) + "\n")
+        time, most, status = run(path)
+        stopped = os.WIFSIGNALED(status)
+        if not stopped and os.WEXITSTATUS(status) not in (30, 20, 10):
+            return [*times, f"status {os.WEXITSTATUS(status)}"], factors, memory
+        if before is not None:
+            factor = time / max(before, 0.01)
+            flag = "!" if stopped or (factor >= 3 and time >= 0.1) else ""
+            factors.append(f"{'>' if stopped else ''}{factor:.1f}{flag}")
+        times.append(f">{LIMIT}" if stopped else f"{time:.2f}")
+        memory.append(f"{most:.0f}")
+        before = time
+        if stopped:
+            break
+    return times, factors, memory
+
+
+def line(cells):
+    if markdown:
+        return "| " + " | ".join(cells) + " |"
+    return f"{cells[0]:26} {cells[1]:34} {cells[2]:30} {cells[3]}"
+
+
+sizes = ", ".join(f"{base << step:,}" for step in range(5))
+print(line(["text", f"seconds at n = {sizes}" if markdown else "seconds", "factors", "MB"]))
+if markdown:
+    print("|---|---|---|---|")
+with tempfile.TemporaryDirectory() as room:
+    for name, make in KINDS.items():
+        if only and name not in only:
+            continue
+        print(line([name, *(" ".join(it) for it in row(make, f"{room}/text"))]), flush=True)
+PY
