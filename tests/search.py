@@ -14,8 +14,8 @@ import sys
 # atoms, seed, clauses for each atom, units; conflicts then: the whole search, without restarts, without activities, without
 # minimising
 ROWS = [
-    (150, 1, 5.0, 1300),  # 893; 1,907; 4,073; 1,443
-    (200, 2, 4.8, 20000),  # 6,693; 8,002; over 20,000; 7,820
+    (150, 1, 5.0, 575),  # 541; 612; 1,345; 740
+    (200, 2, 4.8, 20000),  # 4,417; 3,097; 202,146; 4,490
 ]
 
 
