@@ -80,6 +80,8 @@ def measured(program, name, room, limit):
         notes, time, memory, ended = run(words, path, output, limit)
         text = tail_of(output)
         os.remove(output)
+        # Stopped by the limit, clasp ends by itself just below it, and says so.
+        ended = ended and "INTERRUPTED" not in text
         conflicts = number(r"Conflicts\s*: (\d+)", text) if side != "aspenum" else number(r"Conflicts: (\d+)", notes)
         row[side] = {"time": time if ended else limit, "conflicts": conflicts, "memory": memory, "ended": ended}
         if ended:
