@@ -3,9 +3,9 @@
 
     search.py PROGRAM [--measure]
 
-Each program is random 3-SAT without an answer, made here. Within the units of its row the built program must refute it. A
-search that does without one of the three takes more: the last column has what each took when the row was written, beside what
-the whole search took. --measure prints what PROGRAM takes: after a change of the search the rows are to be written anew."""
+Each program is random 3-SAT without an answer, made here. Within the units of its row the built program must refute it.
+The first takes more without any one of the three, the second far more without activities: the last column has what each took
+when the row was written, beside what the whole search took. --measure prints what PROGRAM takes: after a change of the search the rows are to be written anew."""
 import random
 import re
 import subprocess
