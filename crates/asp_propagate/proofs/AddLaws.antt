@@ -1,83 +1,79 @@
 -- Nogoods and entries that are added.
-use Rattle.std.proofs.Common.{◌≡◌, ℕ, suc, zero, false, List, [], ◌∷◌, ◌++◌, map, length, Option, Some, None, ◌⊎◌, inl, inr, refl, sym, ap, ◌∙◌, subst, append_assoc, arith}
+use Rattle.std.proofs.Common.{◌≡◌, ℕ, false, List, [], ◌∷◌, ◌++◌, length, Option, Some, None, ◌⊎◌, inl, inr, refl, sym, ap, ◌∙◌, subst, append_assoc, arith}
 use Rattle.std.specs.Prelude.{ℤ}
 use Rattle.std.specs.List.{All}
-use Rattle.std.specs.Option.{unwrap_or}
-use Rattle.std.proofs.lemmas.List.{append-nil, map-append}
-use Rattle.std.proofs.lemmas.List.Elements.{All-append, All-head, All-tail}
+use Rattle.std.specs.Option.{option_map}
+use Rattle.std.proofs.lemmas.List.{append-nil}
+use Rattle.std.proofs.lemmas.List.Elements.{All-append}
+use Rattle.std.proofs.lemmas.Option.{none-some, same_Some}
 use Rattle.asp_model.specs.declared.program.Program.{Program}
 use Rattle.asp_vars.specs.declared.nogood.Nogood.{Nogood}
 use Rattle.asp_trail.specs.declared.trail.Entry.{Entry}
 use Rattle.asp_trail.specs.Entries.{level}
 use Rattle.asp_trail.specs.Told.{Told}
 use Rattle.asp_store.specs.declared.kept.Kept.{Kept}
-use Rattle.asp_store.specs.Keeping.{kept_at, nogood_at}
-use Rattle.asp_store.specs.Visiting.{IsImpliedAt, Extends}
-use Rattle.asp_store.proofs.VisitLaws.{level_stays}
-use Rattle.asp_propagate.specs.Propagating.{for_now, Adds, Implies, GoesOn, AreUnlocked}
+use Rattle.asp_store.specs.declared.kept.Kind.{Kind}
+use Rattle.asp_store.specs.declared.kept.Kind.TheVariants as kind
+use Rattle.asp_store.specs.Keeping.{kept_at, nogood_at, IsAddedAt}
+use Rattle.asp_store.specs.Fitting.{IsImpliedAt, Extends}
+use Rattle.asp_store.proofs.GetLaws.{is_or_not}
+use Rattle.asp_store.proofs.GrowLaws.{level_stays}
+use Rattle.asp_propagate.specs.Propagating.{IsGiven, Adds, Implies, GoesOn, AreUnlocked}
 
 -- ---- nogoods
 pub adds_none : (gives : Nogood → Type 0) (old new : List (Option Kept)) → new ≡ old → Adds gives old new
-adds_none gives old new q = record { more = []; slots = q ∙ sym (append-nil old); given = λ i d h. absurd (omega arith) }
+adds_none gives old new q = record {
+  stay = λ id k g. ap (λ (zs : List (Option Kept)). kept_at zs id) q ∙ g;
+  given = λ id k g. inl (sym (ap (λ (zs : List (Option Kept)). kept_at zs id) q) ∙ g);
+}
 
-pub adds_one : (gives : Nogood → Type 0) (old new : List (Option Kept)) (n : Nogood) → new ≡ old ++ for_now n ∷ [] → gives n → Adds gives old new
-adds_one gives old new n q g = record { more = n ∷ []; slots = q; given = one }
-  where
-    one : All gives (n ∷ [])
-    one zero d h = g
-    one (suc i) d h = absurd (omega arith)
+pub adds_one : (gives : Nogood → Type 0) (old new : List (Option Kept)) (id : ℕ) (n : Nogood) → IsAddedAt old new id n kind.Given → gives n → Adds gives old new
+adds_one gives old new id n a g = record {
+  stay = λ j k h. elim (is_or_not j id) [
+    | inl e ↦ absurd (none-some k (sym a.free ∙ (ap (kept_at old) (sym e) ∙ h)))
+    | inr ne ↦ a.others j ne ∙ h
+  ];
+  given = λ j k h. elim (is_or_not j id) [
+    | inl e ↦ inr (subst (IsGiven gives) (same_Some (record { nogood = n; kind = kind.Given; locked = false }) k (sym a.here ∙ (ap (kept_at new) (sym e) ∙ h)))
+        record { passes = g; kind = refl; unlocked = refl })
+    | inr ne ↦ inl (sym (a.others j ne) ∙ h)
+  ];
+}
 
 pub adds_more : (gives : Nogood → Type 0) (a b c : List (Option Kept)) → Adds gives a b → Adds gives b c → Adds gives a c
 adds_more gives a b c x y = record {
-  more = x.more ++ y.more;
-  slots =
-      y.slots
-      ∙ (ap (λ (zs : List (Option Kept)). zs ++ map for_now y.more) x.slots
-      ∙ (append_assoc a (map for_now x.more) (map for_now y.more) ∙ ap (λ (zs : List (Option Kept)). a ++ zs) (sym (map-append for_now x.more y.more))));
-  given = All-append gives x.more y.more x.given y.given;
+  stay = λ id k g. y.stay id k (x.stay id k g);
+  given = λ id k g. elim (y.given id k g) [
+    | inl e ↦ x.given id k e
+    | inr e ↦ inr e
+  ];
 }
 
 -- a kept nogood was kept before, or is given
-each_of : (gives : Nogood → Type 0) (old : List (Option Kept)) (ns : List Nogood) (id : ℕ) (n : Nogood) → All gives ns → nogood_at (old ++ map for_now ns) id ≡ Some n →
-    (nogood_at old id ≡ Some n) ⊎ gives n
-each_of gives [] [] id n a g = inl g
-each_of gives [] (m ∷ ns) zero n a g =
-    let same : m ≡ n = ap (λ (o : Option Nogood). unwrap_or o m) g in
-    inr (subst gives same (All-head gives m ns a))
-each_of gives [] (m ∷ ns) (suc id) n a g = each_of gives [] ns id n (All-tail gives m ns a) g
-each_of gives (o ∷ old) ns zero n a g = inl g
-each_of gives (o ∷ old) ns (suc id) n a g = each_of gives old ns id n a g
-
 pub adds_each : (gives : Nogood → Type 0) (old new : List (Option Kept)) (id : ℕ) (n : Nogood) → Adds gives old new → nogood_at new id ≡ Some n →
     (nogood_at old id ≡ Some n) ⊎ gives n
-adds_each gives old new id n x g = each_of gives old x.more id n x.given (sym (ap (λ (zs : List (Option Kept)). nogood_at zs id) x.slots) ∙ g)
+adds_each gives old new id n x g = cases (kept_at new id) refl
+  where
+    cases : (o : Option Kept) → o ≡ kept_at new id → (nogood_at old id ≡ Some n) ⊎ gives n
+    cases None q = absurd (none-some n (ap (option_map (λ (k : Kept). k.nogood)) q ∙ g))
+    cases (Some k) q =
+        let same : k.nogood ≡ n = same_Some k.nogood n (ap (option_map (λ (k : Kept). k.nogood)) q ∙ g) in
+        elim (x.given id k (sym q)) [
+          | inl e ↦ inl (ap (option_map (λ (k : Kept). k.nogood)) e ∙ ap Some same)
+          | inr e ↦ inr (subst gives same e.passes)
+        ]
 
 -- what was kept is kept
-stay_of : (old more : List (Option Kept)) (id : ℕ) (k : Kept) → kept_at old id ≡ Some k → kept_at (old ++ more) id ≡ Some k
-stay_of [] more id k g = absurd (none g)
-  where
-    none : None ≡ Some k → ⊥
-    none q = cc
-stay_of (o ∷ old) more zero k g = g
-stay_of (o ∷ old) more (suc id) k g = stay_of old more id k g
-
 pub adds_stay : (gives : Nogood → Type 0) (old new : List (Option Kept)) (id : ℕ) (k : Kept) → Adds gives old new → kept_at old id ≡ Some k → kept_at new id ≡ Some k
-adds_stay gives old new id k x g = ap (λ (zs : List (Option Kept)). kept_at zs id) x.slots ∙ stay_of old (map for_now x.more) id k g
-
--- the newest nogood
-pub newest : (slots : List (Option Kept)) (k : Kept) → nogood_at (slots ++ Some k ∷ []) (length slots) ≡ Some k.nogood
-newest [] k = refl
-newest (o ∷ slots) k = newest slots k
+adds_stay gives old new id k x g = x.stay id k g
 
 -- ---- locks
-pub unlocked_push : (slots : List (Option Kept)) (k : Kept) → AreUnlocked slots → k.locked ≡ false → AreUnlocked (slots ++ Some k ∷ [])
-unlocked_push [] k u q zero m g = sym (ap (λ (o : Option Kept). (unwrap_or o k).locked) g) ∙ q
-unlocked_push [] k u q (suc id) m g = absurd (none g)
-  where
-    none : None ≡ Some m → ⊥
-    none p = cc
-unlocked_push (o ∷ slots) k u q zero m g = u 0 m g
-unlocked_push (o ∷ slots) k u q (suc id) m g = unlocked_push slots k (λ j l h. u (suc j) l h) q id m g
+pub unlocked_added : (old new : List (Option Kept)) (id : ℕ) (n : Nogood) (kind : Kind) → IsAddedAt old new id n kind → AreUnlocked old → AreUnlocked new
+unlocked_added old new id n kind a u j k g =
+    elim (is_or_not j id) [
+      | inl e ↦ sym (ap (λ (x : Kept). x.locked) (same_Some (record { nogood = n; kind = kind; locked = false }) k (sym a.here ∙ (ap (kept_at new) (sym e) ∙ g))))
+      | inr ne ↦ u j k (sym (a.others j ne) ∙ g)
+    ]
 
 -- ---- entries
 pub implies_none : (es : List Entry) → Implies es es

@@ -1,7 +1,7 @@
 -- What callers see of a engine, and what its parts are.
 use Rattle.std.proofs.Common.{◌≡◌, ℕ, ◌+◌, ◌≤◌, Bool, true, false, List, [], length, replicate, min, Option, Some, None, sym, ap, ◌∙◌, subst, arith}
 use Rattle.std.specs.Prelude.{ℤ, Result, Ok, Err}
-use Rattle.std.specs.Result.{OnOk, OnErr}
+use Rattle.std.specs.Result.{IfOk, OnErr}
 use Rattle.asp_model.specs.declared.program.Program.{Program}
 use Rattle.asp_vars.specs.Literals.{value_of}
 use Rattle.asp_vars.specs.Numbering.{var_count}
@@ -11,11 +11,11 @@ use Rattle.asp_trail.specs.Entries.{assignment, cut}
 use Rattle.asp_trail.specs.Trails.{Trailed, IsVar, IsOrdered}
 use Rattle.asp_trail.specs.Told.{Told}
 use Rattle.asp_store.specs.declared.kept.Kept.{Kept}
-use Rattle.asp_store.specs.Keeping.{kept_at, reduced}
-use Rattle.asp_store.specs.Storing.{Stored, Fits, added}
+use Rattle.asp_store.specs.declared.kept.Kind.{Kind}
+use Rattle.asp_store.specs.Keeping.{kept_at}
+use Rattle.asp_store.specs.Storing.{Stored, IsAdded}
 use Rattle.asp_store.proofs.FitsLaws.{fits_begin}
 use Rattle.asp_propagate.specs.Propagating.{Propagating, values_of, IsFollowed}
-use Rattle.asp_propagate.specs.Locking.{lock_all, thinned}
 use Rattle.asp_propagate.proofs.PropagateLaws.{followed_added}
 
 -- what callers see of these parts
@@ -43,25 +43,25 @@ same_view p q es fs xs b c e f g =
     ap first e ∙ (ap second f ∙ ap third g)
 
 -- ---- a result's cases
-pub on_ok : {A E : Type 0} (r : Result A E) (P Q : Type 0) → (P → Q) → OnOk r P → OnOk r Q
-on_ok (Ok x) P Q f h = f h
-on_ok (Err e) P Q f h = tt
-
 pub on_err : {A E : Type 0} (r : Result A E) (P Q : Type 0) → (P → Q) → OnErr r P → OnErr r Q
 on_err (Ok x) P Q f h = tt
 on_err (Err e) P Q f h = f h
 
-pub kept_either : {A E : Type 0} (r : Result A E) (t : Told) (s z : Stored) (q : Trailed) (n : ℕ) (m : Nogood) (forever : Bool) → IsOrdered q.vars q.entries →
-    q.seen ≤ length q.entries → OnOk r (z ≡ added s m forever) → OnErr r (z ≡ s) → IsFollowed t s q n → IsFollowed t z q n
-kept_either (Ok x) t s z q n m forever o le a b f = subst (λ (y : Stored). IsFollowed t y q n) (sym a) (followed_added t s q n m forever o le f)
-kept_either (Err e) t s z q n m forever o le a b f = subst (λ (y : Stored). IsFollowed t y q n) (sym b) f
+pub kept_either : {E : Type 0} (r : Result ℕ E) (t : Told) (s z : Stored) (q : Trailed) (n : ℕ) (m : Nogood) (kind : Kind) → IfOk r (λ id. IsAdded s z id m kind) →
+    OnErr r (z ≡ s) → IsFollowed t s q n → IsFollowed t z q n
+kept_either (Ok id) t s z q n m kind a b f = followed_added t s z q n id m kind a f
+kept_either (Err e) t s z q n m kind a b f = subst (λ (y : Stored). IsFollowed t y q n) (sym b) f
+
+pub if_ok : {A E : Type 0} (r : Result A E) (P Q : A → Type 0) → ((x : A) → P x → Q x) → IfOk r P → IfOk r Q
+if_ok (Ok x) P Q f h = f x h
+if_ok (Err e) P Q f h = tt
 
 -- ---- the beginning
 none_some : {A : Type 0} (x : A) → None ≡ Some x → ⊥
 none_some x q = cc
 
-pub followed_begin : (t : Told) (s : Stored) (r : Trailed) (vars : ℕ) → s ≡ record { vars = vars; slots = []; watches = [] } → r.vars ≡ vars → r.entries ≡ [] → vars ≤ r.room →
-    vars ≡ var_count t.program → t.values ≡ replicate (vars + 1) None → IsFollowed t s r 0
+pub followed_begin : (t : Told) (s : Stored) (r : Trailed) (vars : ℕ) → s ≡ record { vars = vars; slots = []; pairs = []; apart = record { items = []; retired = 0 } } → r.vars ≡ vars →
+    r.entries ≡ [] → vars ≤ r.room → vars ≡ var_count t.program → t.values ≡ replicate (vars + 1) None → IsFollowed t s r 0
 followed_begin t s r vars store v e room count fresh = record {
   told = record {
     vars = v ∙ count;
@@ -69,21 +69,14 @@ followed_begin t s r vars store v e room count fresh = record {
     values = fresh ∙ ap (λ (n : ℕ). let o : Option Bool = None in replicate (n + 1) o) (sym v);
   };
   room = omega (arith, room, v);
-  fits = subst (λ (z : Stored). Fits z r) (sym store) (fits_begin vars r v e);
+  fits = fits_begin s r (v ∙ sym (ap (λ (z : Stored). z.vars) store)) e (ap (λ (z : Stored). z.slots) store);
   unlocked = λ id k g. absurd (none_some k (sym (ap (λ (z : Stored). kept_at z.slots id) store) ∙ g));
 }
 
--- ---- a trail that is cut, and a store that is reduced
+-- ---- a trail that is cut
 pub cut_trail : (r q : Trailed) (l : ℕ) → q ≡ record r { entries = q.entries; seen = q.seen } → q.entries ≡ cut l r.entries → q.seen ≡ min r.seen (length q.entries) →
     q ≡ record r { entries = cut l r.entries; seen = min r.seen (length (cut l r.entries)) }
 cut_trail r q l same e seen =
     let first : List Entry → Trailed = λ x. record r { entries = x; seen = q.seen } in
     let second : ℕ → Trailed = λ x. record r { entries = cut l r.entries; seen = x } in
     same ∙ (ap first e ∙ ap second (seen ∙ ap (λ (x : List Entry). min r.seen (length x)) e))
-
-pub thinned_store : (es : List Entry) (a b c d : Stored) → b ≡ record a { slots = lock_all true es a.slots } → c ≡ record b { slots = reduced b.slots } →
-    d ≡ record c { slots = lock_all false es c.slots } → d ≡ record a { slots = thinned es a.slots }
-thinned_store es a b c d p q r =
-    let second : Stored → Stored = λ x. record x { slots = reduced x.slots } in
-    let third : Stored → Stored = λ x. record x { slots = lock_all false es x.slots } in
-    r ∙ ap third (q ∙ ap second p)

@@ -1,16 +1,18 @@
 -- What is dropped while the reasons of a trail are locked.
-use Rattle.std.proofs.Common.{◌≡◌, ◌≢◌, ℕ, suc, zero, ◌+◌, ◌/◌, ◌<◌, Bool, true, false, not, cond, ◌||◌, ◌&&◌, eqb, ltb, List, [], ◌∷◌, length, take, set, get_or, Option, Some, None, ◌⊎◌, inl, inr, refl, sym, ap, ◌∙◌, subst, arith, get_or-set_other}
-use Rattle.std.specs.List.{count_by}
+use Rattle.std.proofs.Common.{◌≡◌, ◌≢◌, ℕ, suc, zero, ◌+◌, ◌<◌, Bool, true, false, not, cond, ◌||◌, ◌&&◌, eqb, ltb, List, [], ◌∷◌, length, take, set, get_or, Option, Some, None, ◌⊎◌, inl, inr, refl, sym, ap, ◌∙◌, subst, arith, get_or-set_other}
 use Rattle.std.proofs.lemmas.Bool.{eqb-true, eq-eqb, false≢true}
 use Rattle.std.proofs.lemmas.Bool.Decides.{nat_tests}
 use Rattle.std.proofs.lemmas.List.{length-set, take_more}
 use Rattle.std.proofs.lemmas.List.Sums.{fold-append}
 use Rattle.asp_trail.specs.declared.trail.Entry.{Entry}
 use Rattle.asp_store.specs.declared.kept.Kept.{Kept}
-use Rattle.asp_store.specs.Keeping.{kept_at, with_lock, is_spare, without_oldest, reduced}
-use Rattle.asp_store.proofs.StoreLaws.{oldest_length}
+use Rattle.asp_store.specs.declared.kept.Kind.{Kind}
+use Rattle.asp_store.specs.declared.kept.Kind.TheVariants as kind
+use Rattle.asp_store.specs.Keeping.{kept_at, with_lock, is_passing, is_spare, Thins}
+use Rattle.asp_store.specs.Pairs.{pair_at}
+use Rattle.asp_store.specs.Storing.{Stored, Loses}
 use Rattle.asp_propagate.specs.Propagating.{IsReduced, AreUnlocked}
-use Rattle.asp_propagate.specs.Locking.{lock_reason, lock_all, thinned}
+use Rattle.asp_propagate.specs.Locking.{lock_reason, lock_all}
 
 -- ---- which slots are locked
 is_reason : Option ℕ → ℕ → Bool
@@ -80,31 +82,16 @@ lock_next b es xs i d h =
     ap (λ (fs : List Entry). lock_all b fs xs) (take_more es i d h) ∙ fold-append (λ (ys : List (Option Kept)) (e : Entry). lock_reason b ys e.reason) xs (take i es) (get_or es i d ∷ [])
 
 -- ---- which are dropped
-either_each : (b : Bool) (o : Option Kept) (ys zs xs : List (Option Kept)) → is_spare o ≡ b →
-    ((j : ℕ) → (kept_at ys j ≡ kept_at xs j) ⊎ ((kept_at ys j ≡ None) × (is_spare (kept_at xs j) ≡ true))) →
-    ((j : ℕ) → (kept_at zs j ≡ kept_at xs j) ⊎ ((kept_at zs j ≡ None) × (is_spare (kept_at xs j) ≡ true))) → (j : ℕ) →
-    (kept_at (cond b (None ∷ ys) (o ∷ zs)) j ≡ kept_at (o ∷ xs) j) ⊎ ((kept_at (cond b (None ∷ ys) (o ∷ zs)) j ≡ None) × (is_spare (kept_at (o ∷ xs) j) ≡ true))
-either_each true o ys zs xs q h k zero = inr (refl, q)
-either_each true o ys zs xs q h k (suc j) = h j
-either_each false o ys zs xs q h k zero = inl refl
-either_each false o ys zs xs q h k (suc j) = k j
-
-oldest_each : (n : ℕ) (xs : List (Option Kept)) (id : ℕ) → (kept_at (without_oldest n xs) id ≡ kept_at xs id) ⊎ ((kept_at (without_oldest n xs) id ≡ None) × (is_spare (kept_at xs id) ≡ true))
-oldest_each n [] id = inl refl
-oldest_each zero (o ∷ xs) zero = inl refl
-oldest_each zero (o ∷ xs) (suc id) = oldest_each zero xs id
-oldest_each (suc n) (o ∷ xs) id = either_each (is_spare o) o (without_oldest n xs) (without_oldest (suc n) xs) xs refl (oldest_each n xs) (oldest_each (suc n) xs) id
-
 locked_not_spare : (o : Option Kept) → is_spare (with_lock true o) ≡ true → ⊥
 locked_not_spare None q = false≢true q
-locked_not_spare (Some k) q = no (not k.forever) q
+locked_not_spare (Some k) q = false≢true q
+
+forever_not_spare : (k : Kept) → k.kind ≡ kind.Forever → is_spare (Some k) ≡ true → ⊥
+forever_not_spare k f q = no (not k.locked) (sym (ap (λ (x : Kind). not k.locked && (is_passing x && ltb 2 (length k.nogood.lits))) f) ∙ q)
   where
     no : (b : Bool) → (b && false) ≡ true → ⊥
     no true p = false≢true p
     no false p = false≢true p
-
-forever_not_spare : (k : Kept) → k.forever ≡ true → is_spare (Some k) ≡ true → ⊥
-forever_not_spare k f q = false≢true (sym (ap (λ (b : Bool). not b && (not k.locked && ltb 2 (length k.nogood.lits))) f) ∙ q)
 
 unlock : (o : Option Kept) → ((k : Kept) → o ≡ Some k → k.locked ≡ false) → with_lock false o ≡ o
 unlock None u = refl
@@ -114,56 +101,70 @@ lock_over : (a b : Bool) (o : Option Kept) → with_lock a (with_lock b o) ≡ w
 lock_over a b None = refl
 lock_over a b (Some k) = refl
 
--- a slot is as before, or is empty and was to spare and not named
-module _ (es : List Entry) (xs : List (Option Kept)) (u : AreUnlocked xs) (id : ℕ) where
-  slot_named : names es id ≡ true → kept_at (thinned es xs) id ≡ kept_at xs id
-  slot_named q =
-      lock_all_at false es (reduced (lock_all true es xs)) id
-      ∙ (ap (λ (b : Bool). cond b (with_lock false (kept_at (reduced (lock_all true es xs)) id)) (kept_at (reduced (lock_all true es xs)) id)) q
-      ∙ (ap (with_lock false) stays ∙ (lock_over false true (kept_at xs id) ∙ unlock (kept_at xs id) (λ k g. u id k g))))
-    where
-      locked : kept_at (lock_all true es xs) id ≡ with_lock true (kept_at xs id)
-      locked = lock_all_at true es xs id ∙ ap (λ (b : Bool). cond b (with_lock true (kept_at xs id)) (kept_at xs id)) q
+lock_none : (b c : Bool) → cond c (with_lock b None) None ≡ None
+lock_none b true = refl
+lock_none b false = refl
 
-      stays : kept_at (reduced (lock_all true es xs)) id ≡ with_lock true (kept_at xs id)
-      stays =
-          elim (oldest_each (count_by is_spare (lock_all true es xs) / 2) (lock_all true es xs) id) [
-            | inl e ↦ e ∙ locked
-            | inr e ↦ absurd (locked_not_spare (kept_at xs id) (sym (ap is_spare locked) ∙ e.1))
-          ]
+lock_there : (c : Bool) (o : Option Kept) → ((k : Kept) → o ≡ Some k → k.locked ≡ false) → cond c (with_lock false (cond c (with_lock true o) o)) (cond c (with_lock true o) o) ≡ o
+lock_there true o u = lock_over false true o ∙ unlock o u
+lock_there false o u = refl
 
-  slot_unnamed : names es id ≡ false → (kept_at (thinned es xs) id ≡ kept_at xs id) ⊎ ((kept_at (thinned es xs) id ≡ None) × (is_spare (kept_at xs id) ≡ true))
-  slot_unnamed q =
-      elim (oldest_each (count_by is_spare (lock_all true es xs) / 2) (lock_all true es xs) id) [
-        | inl e ↦ inl (after ∙ (e ∙ before))
-        | inr e ↦ inr (after ∙ e.0, sym (ap is_spare before) ∙ e.1)
-      ]
-    where
-      before : kept_at (lock_all true es xs) id ≡ kept_at xs id
-      before = lock_all_at true es xs id ∙ ap (λ (b : Bool). cond b (with_lock true (kept_at xs id)) (kept_at xs id)) q
+-- a slot that is gone, or as it was
+slot_gone : (es : List Entry) (ys : List (Option Kept)) (id : ℕ) → kept_at ys id ≡ None → kept_at (lock_all false es ys) id ≡ None
+slot_gone es ys id q =
+    lock_all_at false es ys id ∙ (ap (λ (o : Option Kept). cond (names es id) (with_lock false o) o) q ∙ lock_none false (names es id))
 
-      after : kept_at (thinned es xs) id ≡ kept_at (reduced (lock_all true es xs)) id
-      after =
-          lock_all_at false es (reduced (lock_all true es xs)) id
-          ∙ ap (λ (b : Bool). cond b (with_lock false (kept_at (reduced (lock_all true es xs)) id)) (kept_at (reduced (lock_all true es xs)) id)) q
+pub slot_back : (es : List Entry) (xs ys : List (Option Kept)) (id : ℕ) → AreUnlocked xs → kept_at ys id ≡ kept_at (lock_all true es xs) id →
+    kept_at (lock_all false es ys) id ≡ kept_at xs id
+slot_back es xs ys id u q =
+    lock_all_at false es ys id
+    ∙ (ap (λ (o : Option Kept). cond (names es id) (with_lock false o) o) (q ∙ lock_all_at true es xs id) ∙ lock_there (names es id) (kept_at xs id) (λ k g. u id k g))
 
-  slot_is : (kept_at (thinned es xs) id ≡ kept_at xs id) ⊎ ((kept_at (thinned es xs) id ≡ None) × (is_spare (kept_at xs id) ≡ true))
-  slot_is = by (names es id) refl
-    where
-      by : (b : Bool) → names es id ≡ b → (kept_at (thinned es xs) id ≡ kept_at xs id) ⊎ ((kept_at (thinned es xs) id ≡ None) × (is_spare (kept_at xs id) ≡ true))
-      by true q = inl (slot_named q)
-      by false q = slot_unnamed q
+-- that of a reason is locked
+reason_locked : (es : List Entry) (xs : List (Option Kept)) (i : ℕ) (d : Entry) (id : ℕ) → i < length es → (get_or es i d).reason ≡ Some id →
+    kept_at (lock_all true es xs) id ≡ with_lock true (kept_at xs id)
+reason_locked es xs i d id h q = lock_all_at true es xs id ∙ ap (λ (b : Bool). cond b (with_lock true (kept_at xs id)) (kept_at xs id)) (names_at es i d id h q)
 
-pub thinned_length : (es : List Entry) (xs : List (Option Kept)) → length (thinned es xs) ≡ length xs
-thinned_length es xs =
-    lock_all_length false es (reduced (lock_all true es xs))
-    ∙ (oldest_length (count_by is_spare (lock_all true es xs) / 2) (lock_all true es xs) ∙ lock_all_length true es xs)
+forever_locked : (c : Bool) (k : Kept) → k.kind ≡ kind.Forever → is_spare (cond c (with_lock true (Some k)) (Some k)) ≡ true → ⊥
+forever_locked true k f q = false≢true q
+forever_locked false k f q = forever_not_spare k f q
 
-pub thinned_is : (es : List Entry) (xs : List (Option Kept)) → AreUnlocked xs → IsReduced es xs (thinned es xs)
-thinned_is es xs u = record {
-  count = thinned_length es xs;
-  each = λ id. elim (slot_is es xs u id) [ inl e ↦ inl e | inr e ↦ inr e.0 ];
-  forever = λ id k g f.
-      elim (slot_is es xs u id) [ inl e ↦ e ∙ g | inr e ↦ absurd (forever_not_spare k f (sym (ap is_spare g) ∙ e.1)) ];
-  named = λ i d id h q. slot_named es xs u id (names_at es i d id h q);
+pub thins_reduced : (es : List Entry) (xs ys : List (Option Kept)) → AreUnlocked xs → Thins (lock_all true es xs) ys → IsReduced es xs (lock_all false es ys)
+thins_reduced es xs ys u th = record {
+  count = lock_all_length false es ys ∙ (th.count ∙ lock_all_length true es xs);
+  each = λ id. elim (th.each id) [
+    | inl e ↦ inl (slot_back es xs ys id u e)
+    | inr e ↦ inr (slot_gone es ys id e.0)
+  ];
+  forever = λ id k g f. elim (th.each id) [
+    | inl e ↦ slot_back es xs ys id u e ∙ g
+    | inr e ↦ absurd (forever_locked (names es id) k f
+        (sym (ap is_spare (lock_all_at true es xs id ∙ ap (λ (o : Option Kept). cond (names es id) (with_lock true o) o) g)) ∙ e.1))
+  ];
+  named = λ i d id h q. elim (th.each id) [
+    | inl e ↦ slot_back es xs ys id u e
+    | inr e ↦ absurd (locked_not_spare (kept_at xs id) (sym (ap is_spare (reason_locked es xs i d id h q)) ∙ e.1))
+  ];
 }
+
+-- a store that was reduced while its reasons were locked
+pub locks_lose : (es : List Entry) (a b c d : Stored) → AreUnlocked a.slots → b ≡ record a { slots = lock_all true es a.slots } → Loses b c →
+    d ≡ record c { slots = lock_all false es c.slots } → Loses a d
+locks_lose es a b c d u p l q = record {
+  vars = ap (λ (s : Stored). s.vars) q ∙ (l.vars ∙ ap (λ (s : Stored). s.vars) p);
+  apart = ap (λ (s : Stored). s.apart) q ∙ (l.apart ∙ ap (λ (s : Stored). s.apart) p);
+  each = λ id. elim (l.each id) [
+    | inl e ↦ inl (ap (λ (s : Stored). kept_at s.slots id) q ∙ slot_gone es c.slots id e.0, ap (λ (s : Stored). pair_at s.pairs id) q ∙ e.1)
+    | inr e ↦ inr (
+      ap (λ (s : Stored). kept_at s.slots id) q ∙ slot_back es a.slots c.slots id u (e.0 ∙ ap (λ (s : Stored). kept_at s.slots id) p),
+      ap (λ (s : Stored). pair_at s.pairs id) q ∙ (e.1 ∙ ap (λ (s : Stored). pair_at s.pairs id) p),
+    )
+  ];
+}
+
+-- and what of its slots is left
+pub locks_reduced : (es : List Entry) (a b c d : Stored) → AreUnlocked a.slots → b ≡ record a { slots = lock_all true es a.slots } → Thins b.slots c.slots →
+    d ≡ record c { slots = lock_all false es c.slots } → IsReduced es a.slots d.slots
+locks_reduced es a b c d u p th q =
+    subst (λ (xs : List (Option Kept)). IsReduced es a.slots xs) (sym (ap (λ (s : Stored). s.slots) q))
+    (thins_reduced es a.slots c.slots u (subst (λ (xs : List (Option Kept)). Thins xs c.slots) (ap (λ (s : Stored). s.slots) p) th))

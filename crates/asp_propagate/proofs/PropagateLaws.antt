@@ -14,15 +14,17 @@ use Rattle.asp_trail.specs.Quiet.{is_calm}
 use Rattle.asp_trail.specs.Reasons.{IsReason}
 use Rattle.asp_store.specs.declared.kept.Kept.{Kept}
 use Rattle.asp_store.specs.Keeping.{nogood_at}
-use Rattle.asp_store.specs.Storing.{Stored, Fits, added, removed, Recalls, AreActive}
-use Rattle.asp_store.proofs.FitsLaws.{fits_open, fits_imply, fits_cut, fits_clear, fits_add, fits_recall, fits_remove}
-use Rattle.asp_store.proofs.WalkLaws.{kept_within}
-use Rattle.asp_store.specs.Visiting.{Extends}
+use Rattle.asp_store.specs.declared.kept.Kind.{Kind}
+use Rattle.asp_store.specs.declared.kept.Kind.TheVariants as kind
+use Rattle.asp_store.specs.Fitting.{Extends}
+use Rattle.asp_store.specs.Storing.{Stored, Fits, IsAdded, Loses, removed, recalled, AreActive}
+use Rattle.asp_store.proofs.FitsLaws.{fits_open, fits_imply, fits_cut, fits_clear, fits_add, fits_recall, fits_remove, fits_lose}
+use Rattle.asp_store.proofs.PendingLaws.{kept_within}
 use Rattle.asp_store.specs.Walking.{IsViolated}
 use Rattle.asp_propagate.specs.Propagating.{WasTold, IsFollowed, IsUnnamed, IsReduced, AreUnlocked, AreCalm, Implies, GoesOn}
 use Rattle.asp_propagate.specs.Locking.{HaveSlots}
 use Rattle.asp_propagate.proofs.TellLaws.{told_extends, told_cut, told_none}
-use Rattle.asp_propagate.proofs.AddLaws.{unlocked_push, adds_none, adds_one, implies_none, implies_from}
+use Rattle.asp_propagate.proofs.AddLaws.{unlocked_added, adds_none, adds_one, implies_none, implies_from}
 
 none_some : {A : Type 0} (x : A) → None ≡ Some x → ⊥
 none_some x q = cc
@@ -46,13 +48,12 @@ followed_imply t s r n e id m le some g q f = record {
   unlocked = f.unlocked;
 }
 
-pub followed_added : (t : Told) (s : Stored) (r : Trailed) (n : ℕ) (m : Nogood) (forever : Bool) → IsOrdered r.vars r.entries → r.seen ≤ length r.entries →
-    IsFollowed t s r n → IsFollowed t (added s m forever) r n
-followed_added t s r n m forever o le f = record {
+pub followed_added : (t : Told) (s z : Stored) (r : Trailed) (n id : ℕ) (m : Nogood) (kind : Kind) → IsAdded s z id m kind → IsFollowed t s r n → IsFollowed t z r n
+followed_added t s z r n id m kind a f = record {
   told = f.told;
   room = f.room;
-  fits = fits_add s r m forever o le f.fits;
-  unlocked = unlocked_push s.slots (record { nogood = m; forever = forever; locked = false }) f.unlocked refl;
+  fits = fits_add s z r id m kind a f.fits;
+  unlocked = unlocked_added s.slots z.slots id m kind a.slots f.unlocked;
 }
 
 pub followed_cut : (t u : Told) (s : Stored) (r : Trailed) (n m l : ℕ) → AllPairs (λ e f. e.level ≤ f.level) r.entries →
@@ -67,12 +68,12 @@ followed_cut t u s r n m l rising low w f =
       unlocked = f.unlocked;
     }
 
-pub followed_clear : (t u : Told) (s z : Stored) (r : Trailed) (n : ℕ) → IsOrdered r.vars r.entries → r.seen ≤ length r.entries → z ≡ record s { watches = z.watches } →
-    Recalls s z → AreActive z → WasTold u r 0 → IsFollowed t s r n → IsFollowed u z (record r { entries = []; seen = 0 }) 0
-followed_clear t u s z r n o le same back active w f = record {
+pub followed_clear : (t u : Told) (s z : Stored) (r : Trailed) (n : ℕ) → z ≡ recalled s → AreActive z → WasTold u r 0 → IsFollowed t s r n →
+    IsFollowed u z (record r { entries = []; seen = 0 }) 0
+followed_clear t u s z r n same active w f = record {
   told = told_none u r (record r { entries = []; seen = 0 }) refl w;
   room = f.room;
-  fits = fits_clear z r active (fits_recall s z r same back o le f.fits);
+  fits = fits_clear z r active (subst (λ (x : Stored). Fits x r) (sym same) (fits_recall s r f.fits));
   unlocked = subst AreUnlocked (sym (ap (λ (x : Stored). x.slots) same)) f.unlocked;
 }
 
@@ -84,11 +85,11 @@ unlocked_removed (o ∷ slots) zero u (suc id) k g = u (suc id) k g
 unlocked_removed (o ∷ slots) (suc j) u zero k g = u 0 k g
 unlocked_removed (o ∷ slots) (suc j) u (suc id) k g = unlocked_removed slots j (λ i l h. u (suc i) l h) id k g
 
-pub followed_removed : (t : Told) (s : Stored) (r : Trailed) (n id : ℕ) → IsUnnamed r.entries id → IsFollowed t s r n → IsFollowed t (removed s id) r n
-followed_removed t s r n id unnamed f = record {
+pub followed_removed : (t : Told) (s : Stored) (r : Trailed) (n id : ℕ) → id < length s.slots → IsUnnamed r.entries id → IsFollowed t s r n → IsFollowed t (removed s id) r n
+followed_removed t s r n id h unnamed f = record {
   told = f.told;
   room = f.room;
-  fits = fits_remove s r id unnamed f.fits;
+  fits = fits_remove s r id h unnamed f.fits;
   unlocked = unlocked_removed s.slots id f.unlocked;
 }
 
@@ -96,31 +97,15 @@ followed_removed t s r n id unnamed f = record {
 pub have_slots : (s : Stored) (r : Trailed) → Fits s r → HaveSlots r.entries (length s.slots)
 have_slots s r f i d id h q = let o = f.reasons i d id h q in kept_within s.slots id o.0 o.1
 
-fits_reduced : (s : Stored) (r : Trailed) (slots : List (Option Kept)) → IsReduced r.entries s.slots slots → Fits s r → Fits (record s { slots = slots }) r
-fits_reduced s r slots red f = record {
-  same_vars = f.same_vars;
-  paired = omega (arith, f.paired, red.count);
-  reasons = λ i d id h q. let o = f.reasons i d id h q in (o.0, ap (option_map (λ (k : Kept). k.nogood)) (red.named i d id h q) ∙ o.1, o.2);
-  watched = λ id n g. f.watched id n (was id n g);
-}
-  where
-    was : (id : ℕ) (n : Nogood) → nogood_at slots id ≡ Some n → nogood_at s.slots id ≡ Some n
-    was id n g =
-        elim (red.each id) [
-          | inl e ↦ sym (ap (option_map (λ (k : Kept). k.nogood)) e) ∙ g
-          | inr e ↦ absurd (none_some n (sym (ap (option_map (λ (k : Kept). k.nogood)) e) ∙ g))
-        ]
-
 unlocked_reduced : (es : List Entry) (old new : List (Option Kept)) → IsReduced es old new → AreUnlocked old → AreUnlocked new
 unlocked_reduced es old new red u id k g = elim (red.each id) [ inl e ↦ u id k (sym e ∙ g) | inr e ↦ absurd (none_some k (sym e ∙ g)) ]
 
-pub followed_reduced : (t : Told) (s : Stored) (r : Trailed) (n : ℕ) (slots : List (Option Kept)) → IsReduced r.entries s.slots slots → IsFollowed t s r n →
-    IsFollowed t (record s { slots = slots }) r n
-followed_reduced t s r n slots red f = record {
+pub followed_reduced : (t : Told) (s z : Stored) (r : Trailed) (n : ℕ) → IsReduced r.entries s.slots z.slots → Loses s z → IsFollowed t s r n → IsFollowed t z r n
+followed_reduced t s z r n red l f = record {
   told = f.told;
   room = f.room;
-  fits = fits_reduced s r slots red f.fits;
-  unlocked = unlocked_reduced r.entries s.slots slots red f.unlocked;
+  fits = fits_lose s z r l (λ i d id h q. ap (option_map (λ (k : Kept). k.nogood)) (red.named i d id h q)) f.fits;
+  unlocked = unlocked_reduced r.entries s.slots z.slots red f.unlocked;
 }
 
 -- ---- a nogood that isn't calm brings an entry
@@ -169,10 +154,8 @@ violated_settled vars now old new es id v q h =
 pub asked_same : (t u : Told) (s z : Stored) (r : Trailed) (n : ℕ) → u ≡ t → z ≡ s → IsFollowed t s r n → IsFollowed u z r n
 asked_same t u s z r n p q f = subst (λ (x : Told). IsFollowed x z r n) (sym p) (subst (λ (x : Stored). IsFollowed t x r n) (sym q) f)
 
-pub asked_more : (t u : Told) (s z : Stored) (r : Trailed) (n : ℕ) (m : Nogood) → u ≡ t → z ≡ added s m false → IsOrdered r.vars r.entries → r.seen ≤ length r.entries →
-    IsFollowed t s r n → IsFollowed u z r n
-asked_more t u s z r n m p q o le f =
-    subst (λ (x : Told). IsFollowed x z r n) (sym p) (subst (λ (x : Stored). IsFollowed t x r n) (sym q) (followed_added t s r n m false o le f))
+pub asked_more : (t u : Told) (s z : Stored) (r : Trailed) (n id : ℕ) (m : Nogood) (kind : Kind) → u ≡ t → IsAdded s z id m kind → IsFollowed t s r n → IsFollowed u z r n
+asked_more t u s z r n id m kind p a f = subst (λ (x : Told). IsFollowed x z r n) (sym p) (followed_added t s z r n id m kind a f)
 
 pub goes_same : (gives : Nogood → Type 0) (t u : Told) (b c : Option (List ℤ)) (xs ys : List (Option Kept)) (es : List Entry) → u ≡ t → c ≡ b → ys ≡ xs →
     GoesOn gives t u b c xs ys es es
@@ -183,11 +166,11 @@ goes_same gives t u b c xs ys es p q e = record {
   implies = implies_none es;
 }
 
-pub goes_one : (gives : Nogood → Type 0) (t u : Told) (b c : Option (List ℤ)) (s z : Stored) (es : List Entry) (m : Nogood) → u ≡ t → c ≡ b → z ≡ added s m false → gives m →
-    GoesOn gives t u b c s.slots z.slots es es
-goes_one gives t u b c s z es m p q e g = record {
+pub goes_one : (gives : Nogood → Type 0) (t u : Told) (b c : Option (List ℤ)) (s z : Stored) (es : List Entry) (id : ℕ) (m : Nogood) → u ≡ t → c ≡ b →
+    IsAdded s z id m kind.Given → gives m → GoesOn gives t u b c s.slots z.slots es es
+goes_one gives t u b c s z es id m p q a g = record {
   program = ap (λ (x : Told). x.program) p;
   bound_stays = q;
-  adds = adds_one gives s.slots z.slots m (ap (λ (x : Stored). x.slots) e) g;
+  adds = adds_one gives s.slots z.slots id m a.slots g;
   implies = implies_none es;
 }

@@ -1,8 +1,8 @@
--- Which nogoods are dropped while the reasons on a trail are locked.
+-- The slots where the reasons on a trail are locked.
 use Rattle.std.specs.Prelude.{ℕ, ◌≡◌, ◌<◌, Bool, true, false, List, length, Option, Some, None, slice_set, slice_index_or, fold}
 use Rattle.asp_trail.specs.declared.trail.Entry.{Entry}
 use Rattle.asp_store.specs.declared.kept.Kept.{Kept}
-use Rattle.asp_store.specs.Keeping.{kept_at, with_lock, reduced}
+use Rattle.asp_store.specs.Keeping.{kept_at, with_lock}
 
 -- the slots with that of a reason locked or not
 abbrev pub lock_reason : Bool → List (Option Kept) → Option ℕ → List (Option Kept)
@@ -12,10 +12,6 @@ lock_reason b slots (Some id) = slice_set slots id (with_lock b (kept_at slots i
 -- those of the reasons of all entries
 abbrev pub lock_all : Bool → List Entry → List (Option Kept) → List (Option Kept)
 lock_all b entries slots = fold (λ xs e. lock_reason b xs e.reason) slots entries
-
--- without the older half, rounded down, of those that are neither forever, nor reasons, nor of two literals
-abbrev pub thinned : List Entry → List (Option Kept) → List (Option Kept)
-thinned entries slots = lock_all false entries (reduced (lock_all true entries slots))
 
 -- Each reason has a slot.
 abbrev pub HaveSlots : List Entry → ℕ → Type 0

@@ -1,5 +1,5 @@
 -- A trail with what follows it: a store of nogoods, and a propagator.
-use Rattle.std.specs.Prelude.{◌≡◌, ◌≢◌, ℕ, ◌<◌, ◌≤◌, ◌⊎◌, Bool, true, false, List, [], ◌∷◌, ◌++◌, map, take, length, Option, Some, None, ℤ, IsTrue, slice_index_or, slice_set}
+use Rattle.std.specs.Prelude.{◌≡◌, ◌≢◌, ℕ, ◌<◌, ◌≤◌, ◌⊎◌, Bool, true, false, List, [], ◌∷◌, ◌++◌, take, length, Option, Some, None, ℤ, IsTrue, slice_index_or, slice_set}
 use Rattle.std.specs.List.{All}
 use Rattle.asp_model.specs.declared.program.Program.{Program}
 use Rattle.asp_vars.specs.Literals.{Literal}
@@ -12,9 +12,11 @@ use Rattle.asp_trail.specs.Told.{Told}
 use Rattle.asp_trail.specs.Quiet.{is_calm}
 use Rattle.asp_trail.specs.Reasons.{IsReason}
 use Rattle.asp_store.specs.declared.kept.Kept.{Kept}
-use Rattle.asp_store.specs.Keeping.{kept_at, nogood_at}
-use Rattle.asp_store.specs.Visiting.{IsImpliedAt}
-use Rattle.asp_store.specs.Storing.{Stored, Fits, added}
+use Rattle.asp_store.specs.declared.kept.Kind.{Kind}
+use Rattle.asp_store.specs.declared.kept.Kind.TheVariants as kind
+use Rattle.asp_store.specs.Keeping.{kept_at, nogood_at, IsAddedAt}
+use Rattle.asp_store.specs.Fitting.{IsImpliedAt}
+use Rattle.asp_store.specs.Storing.{Stored, Fits, IsAdded}
 
 -- Literals of the program's variables hold, nogoods are kept, and maybe a bound stands.
 pub record Propagating : Type 0 where
@@ -31,9 +33,10 @@ values_of s = assignment (var_count s.program) s.entries
 abbrev pub with_entry : Propagating → Literal → ℕ → Option ℕ → Propagating
 with_entry s l b reason = record s { entries = s.entries ++ record { lit = l; level = b; reason = reason } ∷ [] }
 
--- one nogood more
-abbrev pub with_nogood : Propagating → Nogood → Bool → Propagating
-with_nogood s n forever = record s { slots = s.slots ++ Some (record { nogood = n; forever = forever; locked = false }) ∷ [] }
+-- One nogood more, under a number that had none.
+pub record Keeps (old new : Propagating) (id : ℕ) (n : Nogood) (kind : Kind) : Type 0 where
+  pub same : new ≡ record old { slots = new.slots }
+  pub slots : IsAddedAt old.slots new.slots id n kind
 
 -- one nogood less
 abbrev pub without_nogood : Propagating → ℕ → Propagating
@@ -65,15 +68,16 @@ pub record IsFollowed (t : Told) (store : Stored) (trail : Trailed) (n : ℕ) : 
   pub unlocked : AreUnlocked store.slots
 
 -- ---- propagation
--- until it is dropped
-abbrev pub for_now : Nogood → Option Kept
-for_now n = Some (record { nogood = n; forever = false; locked = false })
+-- It passes, came from a propagator, and isn't locked.
+pub record IsGiven (gives : Nogood → Type 0) (k : Kept) : Type 0 where
+  pub passes : gives k.nogood
+  pub kind : k.kind ≡ kind.Given
+  pub unlocked : k.locked ≡ false
 
--- Nogoods were added, each of which passes.
+-- Nogoods were added, each of them given, and all that were kept are as they were.
 pub record Adds (gives : Nogood → Type 0) (old new : List (Option Kept)) : Type 0 where
-  pub more : List Nogood
-  pub slots : new ≡ old ++ map for_now more
-  pub given : All gives more
+  pub stay : (id : ℕ) (k : Kept) → kept_at old id ≡ Some k → kept_at new id ≡ Some k
+  pub given : (id : ℕ) (k : Kept) → kept_at new id ≡ Some k → (kept_at old id ≡ Some k) ⊎ IsGiven gives k
 
 -- Entries were added, each of them implied at the level that stands.
 abbrev pub Implies : List Entry → List Entry → Type 0
@@ -98,12 +102,12 @@ pub record IsQuiet (silent : List (Option Bool) → Type 0) (slots : List (Optio
 -- What comes of asking: the propagator is silent, or it gives a nogood that is unit or violated, which is kept.
 abbrev pub Asked : (List (Option Bool) → Type 0) → (Nogood → Type 0) → List (Option Bool) → Stored → Stored → Bool → Type 0
 Asked silent gives a old new false = (new ≡ old) × silent a
-Asked silent gives a old new true = (n : Nogood) × (new ≡ added old n false) × gives n × (is_calm a n.lits ≡ false)
+Asked silent gives a old new true = (n : Nogood) × (id : ℕ) × IsAdded old new id n kind.Given × gives n × (is_calm a n.lits ≡ false)
 
 -- ---- reduction
--- Nogoods were dropped, but none that was added forever or that an entry names.
+-- Nogoods were dropped, but none that is kept forever or that an entry names. All others are as they were.
 pub record IsReduced (entries : List Entry) (old new : List (Option Kept)) : Type 0 where
   pub count : length new ≡ length old
   pub each : (id : ℕ) → (kept_at new id ≡ kept_at old id) ⊎ (kept_at new id ≡ None)
-  pub forever : (id : ℕ) (k : Kept) → kept_at old id ≡ Some k → k.forever ≡ true → kept_at new id ≡ Some k
+  pub forever : (id : ℕ) (k : Kept) → kept_at old id ≡ Some k → k.kind ≡ kind.Forever → kept_at new id ≡ Some k
   pub named : (i : ℕ) (d : Entry) (id : ℕ) → i < length entries → (slice_index_or entries i d).reason ≡ Some id → kept_at new id ≡ kept_at old id

@@ -2,7 +2,7 @@
 //!
 //! The propagator was told of the first entries, which `told` counts. Only where the store is quiet is it told of the
 //! others.
-ghost use Rattle.std.specs.Prelude.{◌≡◌, ◌<◌, ◌+◌, ◌^◌, [], Some, None, IfOk, OnOk, OnErr, IfSome, IfNone, length, replicate};
+ghost use Rattle.std.specs.Prelude.{◌≡◌, ◌<◌, ◌+◌, ◌^◌, [], Some, None, IfOk, OnErr, IfSome, IfNone, length, replicate};
 ghost use Rattle.std.specs.List.{All};
 ghost use Rattle.asp_vars.specs.Literals.{value_of};
 ghost use Rattle.asp_vars.specs.Numbering.{var_count};
@@ -11,14 +11,14 @@ ghost use Rattle.asp_trail.specs.Trails.{IsVar};
 ghost use Rattle.asp_store.specs.Fitting.{HaveReasons};
 ghost use Rattle.asp_store.specs.Walking.{IsViolated};
 ghost use Rattle.asp_propagate.specs.Useful.{IsSmaller};
-ghost use Rattle.asp_propagate.specs.Propagating.{values_of, with_entry, with_nogood, without_nogood, IsUnnamed, IsImplied, Adds, Implies, IsQuiet, IsReduced};
-ghost use Rattle.asp_propagate.specs.Locking.{thinned};
+ghost use Rattle.asp_propagate.specs.Propagating.{values_of, with_entry, without_nogood, Keeps, IsUnnamed, IsImplied, Adds, Implies, IsQuiet, IsReduced};
 
 use crate::locks::lock_reasons;
 use crate::propagator::Propagator;
 use crate::rounds::propagate;
 use crate::telling::{untell, untell_above};
 use asp_model::cost::Cost;
+use asp_store::kept::Kind;
 use asp_store::store::Store;
 use asp_trail::reasons::NogoodId;
 use asp_trail::trail::Trail;
@@ -84,15 +84,22 @@ impl<P: Propagator> Engine<P> {
         &self.store
     }
 
-    /// Keeps a nogood, forever or until it is dropped, and gives its number. Want of memory leaves all as it was.
-    pub fn keep(&mut self, nogood: Nogood, forever: bool) -> Result<NogoodId, AllocError>
+    /// Keeps a nogood, and gives its number, which no kept one has. `levels` is the number of levels of its literals.
+    /// Want of memory leaves all as it was.
+    pub fn keep(&mut self, nogood: Nogood, kind: Kind, levels: u32) -> Result<NogoodId, AllocError>
         requires { All (λ l. IsVar (var_count self.old.program) l.var) nogood.lits }
-        ensures ok { OnOk result (self.new ≡ with_nogood self.old nogood forever) }
-        ensures id { IfOk result (λ id. id ≡ length self.old.slots) }
+        ensures ok { IfOk result (λ id. Keeps self.old self.new id nogood kind) }
         ensures err { OnErr result (self.new ≡ self.old) }
     {
         let _len = self.trail.len();
-        self.store.add(nogood, forever)
+        self.store.add(nogood, kind, levels)
+    }
+
+    /// Says that a nogood was used, which keeps it longer.
+    pub fn used(&mut self, id: NogoodId)
+        ensures { self.new ≡ self.old }
+    {
+        self.store.used(id);
     }
 
     /// A literal of the cube, at level 0.
@@ -187,10 +194,9 @@ impl<P: Propagator> Engine<P> {
         self.store.remove(id);
     }
 
-    /// Drops the older half, rounded down, of the nogoods that weren't added forever, aren't reasons and have more than
-    /// two literals.
+    /// Drops nogoods that are little used, but none that is kept forever, is a reason, or has two literals or fewer.
     pub fn reduce(&mut self)
-        ensures thinned { self.new ≡ record self.old { slots = thinned self.old.entries self.old.slots } }
+        ensures same { self.new ≡ record self.old { slots = self.new.slots } }
         ensures kept { IsReduced self.old.entries self.old.slots self.new.slots }
     {
         lock_reasons(&mut self.store, &self.trail, true);

@@ -3,13 +3,14 @@
 //! The store goes first, until it is quiet, and only then is the propagator told and asked: what is undone after a
 //! violated nogood of the store costs the propagator nothing. What it gives is kept, and is unit or violated, so that
 //! the store goes on.
-ghost use Rattle.std.specs.Prelude.{◌≡◌, ◌≤◌, ◌+◌, ℕ, length, IfOk, IfSome, IfNone};
+ghost use Rattle.std.specs.Prelude.{◌≡◌, ◌≤◌, ◌+◌, ℕ, length, IfOk, OnOk, IfSome, IfNone};
 ghost use Rattle.asp_trail.specs.Entries.{assignment};
 ghost use Rattle.asp_store.specs.Walking.{IsViolated};
 ghost use Rattle.asp_propagate.specs.Propagating.{WasTold, IsFollowed, GoesOn, AreCalm, IsQuiet, Asked};
 
 use crate::propagator::Propagator;
 use crate::telling::tell;
+use asp_store::kept::Kind;
 use asp_store::propagation::Propagated;
 use asp_store::store::Store;
 use asp_trail::reasons::NogoodId;
@@ -22,25 +23,25 @@ fn settle<P: Propagator>(
     trail: &mut Trail,
     store: &mut Store,
     told: &mut usize,
-) -> Option<NogoodId>
+) -> Result<Option<NogoodId>, AllocError>
     requires { IsFollowed (P.told propagator.old) store.old trail.old told.old }
     ensures followed { IsFollowed (P.told propagator.new) store.new trail.new told.new }
     ensures goes { GoesOn (P.gives (P.told propagator.old).program (P.bound propagator.old)) (P.told propagator.old) (P.told propagator.new) (P.bound propagator.old) (P.bound propagator.new)
         store.old.slots store.new.slots trail.old.entries trail.new.entries }
     ensures same { store.new.slots ≡ store.old.slots }
-    ensures few { length trail.new.entries ≤ trail.new.vars + 1 }
-    ensures all { IfNone result (told.new ≡ length trail.new.entries) }
-    ensures calm { IfNone result (AreCalm store.new.slots (assignment trail.new.vars trail.new.entries)) }
-    ensures violated { IfSome result (IsViolated trail.new.vars store.new.slots trail.new.entries) }
+    ensures few { OnOk result (length trail.new.entries ≤ trail.new.vars + 1) }
+    ensures all { IfOk result (λ r. IfNone r (told.new ≡ length trail.new.entries)) }
+    ensures calm { IfOk result (λ r. IfNone r (AreCalm store.new.slots (assignment trail.new.vars trail.new.entries))) }
+    ensures violated { IfOk result (λ r. IfSome r (IsViolated trail.new.vars store.new.slots trail.new.entries)) }
 {
-    let found = store.propagate(trail);
+    let found = store.propagate(trail)?;
     let _level = trail.level();
     match found {
-        Propagated::Violated(id) => Some(id),
+        Propagated::Violated(id) => Ok(Some(id)),
         Propagated::Quiet => {
             tell(propagator, trail, *told);
             *told = trail.len();
-            None
+            Ok(None)
         }
     }
 }
@@ -65,7 +66,7 @@ fn ask<P: Propagator>(
     match propagator.next(trail)? {
         None => Ok(false),
         Some(nogood) => {
-            store.add(nogood, false)?;
+            let _id = store.add(nogood, Kind::Given, u32::MAX)?;
             Ok(true)
         }
     }
@@ -85,12 +86,16 @@ pub fn propagate<P: Propagator>(
     ensures quiet { IfOk result (λ r. IfNone r (IsQuiet (P.silent (P.told propagator.old).program (P.bound propagator.old)) store.new.slots (assignment trail.new.vars trail.new.entries))) }
     ensures violated { IfOk result (λ r. IfSome r (IsViolated trail.new.vars store.new.slots trail.new.entries)) }
 {
-    if let Some(id) = settle(propagator, trail, store, told) {
-        return Ok(Some(id));
+    let first = settle(propagator, trail, store, told)?;
+    match first {
+        Some(id) => return Ok(Some(id)),
+        None => {}
     }
-    while ask(propagator, trail, store)? {
-        if let Some(id) = settle(propagator, trail, store, told) {
-            return Ok(Some(id));
+    'asked: while ask(propagator, trail, store)? {
+        let found = settle(propagator, trail, store, told)?;
+        match found {
+            Some(id) => return Ok(Some(id)),
+            None => {}
         }
     }
     Ok(None)

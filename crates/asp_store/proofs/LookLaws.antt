@@ -1,5 +1,5 @@
 -- Looking at one nogood.
-use Rattle.std.proofs.Common.{◌≡◌, ℕ, suc, zero, ◌<◌, ◌≤◌, Bool, true, false, not, eqb, ◌||◌, ◌&&◌, List, [], ◌∷◌, ◌++◌, length, Option, Some, None, get_or, inl, inr, refl, sym, ap, ◌∙◌, subst, arith}
+use Rattle.std.proofs.Common.{◌≡◌, ◌≢◌, ℕ, suc, zero, ◌<◌, ◌≤◌, Bool, true, false, not, eqb, ◌||◌, ◌&&◌, List, [], ◌∷◌, ◌++◌, length, Option, Some, None, get_or, inl, inr, refl, sym, ap, ◌∙◌, subst, arith}
 use Rattle.std.specs.List.{All, list_all}
 use Rattle.std.specs.Option.{is_some}
 use Rattle.std.specs.Bool.{beq}
@@ -12,10 +12,10 @@ use Rattle.asp_trail.specs.declared.trail.Entry.{Entry}
 use Rattle.asp_trail.specs.Entries.{assignment, level, level_in, level_or_zero}
 use Rattle.asp_trail.specs.Trails.{IsOrdered}
 use Rattle.asp_trail.proofs.EntryLaws.{find_only, entry_assigned}
-use Rattle.asp_trail.proofs.HoldLaws.{holds_at, holds_found}
+use Rattle.asp_trail.proofs.HoldLaws.{holds_at, holds_found, value_at}
 use Rattle.asp_trail.specs.Reasons.{Stands, IsReason}
-use Rattle.asp_store.specs.Watching.{IsFalseBy, Watches}
-use Rattle.asp_store.specs.Looking.{Grew, AreTrueBeside}
+use Rattle.asp_store.specs.Fitting.{IsFalseBy, Watches, IsWatched}
+use Rattle.asp_store.specs.Looking.{AreTrueBeside}
 use Rattle.asp_trail.proofs.QuietLaws.{false_from}
 use Rattle.asp_store.proofs.WatchLaws.{stands_grow}
 
@@ -70,6 +70,18 @@ false_holds a l b q h =
     other false true e = refl
     other false false e = absurd (false≢true (sym e))
 
+pub false_value : (vars : ℕ) (es : List Entry) (v : Literal) (b : ℕ) → IsOrdered vars es → IsFalseBy es v b → value_of (assignment vars es) v.var ≡ Some (not v.truth)
+false_value vars es v b o f =
+    let d : Entry = record { lit = v; level = 0; reason = None } in
+    subst (λ (l : Literal). value_of (assignment vars es) l.var ≡ Some l.truth) (f.3.lit d) (value_at vars es f.0 d o f.3.within)
+
+beq_other : (t : Bool) → beq (not t) t ≡ false
+beq_other true = refl
+beq_other false = refl
+
+pub false_not_true : (vars : ℕ) (es : List Entry) (v : Literal) (b : ℕ) → IsOrdered vars es → IsFalseBy es v b → holds_in (assignment vars es) v ≡ false
+false_not_true vars es v b o f = ap (λ x. agrees x v) (false_value vars es v b o f) ∙ beq_other v.truth
+
 pub reason_new : (vars : ℕ) (es : List Entry) (n : List Literal) (other : Literal) (e : Entry) → IsOrdered vars es → has_literal n other ≡ true →
     AreTrueBeside vars es n other → IsReason (es ++ e ∷ []) (length es) (complement other) n
 reason_new vars es n other e o h t = record {
@@ -79,21 +91,21 @@ reason_new vars es n other e o h t = record {
       (f.0, level_in es k.var, f.1.within, stands_grow es (e ∷ []) k f.0 (level_in es k.var) f.1);
 }
 
--- a watch beside one that is false stands at a level that isn't below
-pub watches_above : (vars : ℕ) (es : List Entry) (w v : Literal) (b : ℕ) → IsOrdered vars es → IsFalseBy es v b → b ≤ level_in es w.var → Watches es (length es) w v
-watches_above vars es w v b o f h i c l s = (f.0, f.1, omega (arith, f.2, h, stands_level vars es w i c o s), f.3)
+-- a literal whose level isn't below that of one that is false watches wherever it stands
+pub watches_above : (vars : ℕ) (es : List Entry) (seen : ℕ) (n : List Literal) (w v : Literal) (b : ℕ) → IsOrdered vars es → has_literal n v ≡ true → IsFalseBy es v b →
+    b ≤ level_in es w.var → Watches es seen n w
+watches_above vars es seen n w v b o has f h i c l s = (v, has, (f.0, f.1, omega (arith, f.2, h, stands_level vars es w i c o s), f.3))
 
--- one that isn't true stands anywhere
-pub watches_open : (vars : ℕ) (es : List Entry) (w v : Literal) → IsOrdered vars es → holds_in (assignment vars es) w ≡ false → Watches es (length es) w v
-watches_open vars es w v o h i c l s =
+-- and so does one that isn't true
+pub watches_open : (vars : ℕ) (es : List Entry) (seen : ℕ) (n : List Literal) (w : Literal) → IsOrdered vars es → holds_in (assignment vars es) w ≡ false → Watches es seen n w
+watches_open vars es seen n w o h i c l s =
     let d : Entry = record { lit = w; level = 0; reason = None } in
     absurd (false≢true (sym h ∙ holds_at vars es i d w o s.within (s.lit d)))
 
--- and so does one of no variable
-pub watches_none : (vars : ℕ) (es : List Entry) (w v : Literal) → IsOrdered vars es → w.var ≡ 0 → Watches es (length es) w v
-watches_none vars es w v o z i c l s =
-    let d : Entry = record { lit = w; level = 0; reason = None } in
-    absurd (omega (arith, z, (o.within i d s.within).0, ap (λ (k : Literal). k.var) (s.lit d)))
+-- one that is false
+pub watches_false : (vars : ℕ) (es : List Entry) (seen : ℕ) (n : List Literal) (w : Literal) (b : ℕ) → IsOrdered vars es → has_literal n w ≡ true → IsFalseBy es w b →
+    Watches es seen n w
+watches_false vars es seen n w b o has f = watches_open vars es seen n w o (false_not_true vars es w b o f)
 
 -- what holds of each literal of a list holds of one that the list has
 pub all_has : (P : Literal → Type 0) (n : List Literal) (l : Literal) → All P n → has_literal n l ≡ true → P l
@@ -115,7 +127,7 @@ or_right : (a b : Bool) → b ≡ true → (a || b) ≡ true
 or_right true b q = refl
 or_right false b q = q
 
-list_all_from : (p : Literal → Bool) (n : List Literal) → ((k : Literal) → has_literal n k ≡ true → p k ≡ true) → list_all p n ≡ true
+pub list_all_from : (p : Literal → Bool) (n : List Literal) → ((k : Literal) → has_literal n k ≡ true → p k ≡ true) → list_all p n ≡ true
 list_all_from p [] f = refl
 list_all_from p (k ∷ n) f =
     ap (λ b. b && list_all p n) (f k (ap (λ b. b || has_literal n k) (eq_itself k)))
@@ -131,25 +143,34 @@ violated_when vars es n other t h = list_all_from (holds_in (assignment vars es)
         subst (λ (l : Literal). holds_in (assignment vars es) l ≡ true) (sym e) (h (subst (λ (l : Literal). has_literal n l ≡ true) e g))
     cases k g false q = t k g (sym q)
 
--- a literal that holds has a value after more entries too
-pub still_some : (vars id : ℕ) (n : List Literal) (es fs : List Entry) (l : Literal) → IsOrdered vars es → Grew id n es fs → holds_in (assignment vars es) l ≡ true →
-    is_some (get_or (assignment vars fs) l.var None) ≡ true
-still_some vars id n es fs l o g h =
-    elim g [
-      | inl q ↦ here fs (λ d. sym (ap (λ (xs : List Entry). get_or xs f.0 d) q)) (omega (arith, f.1, ap (length {A = Entry}) q))
-      | inr r ↦ here fs (λ d. sym (ap (λ (xs : List Entry). get_or xs f.0 d) r.1 ∙ get_or_append_left es (new r.0 ∷ []) d f.0 f.1))
-          (omega (arith, f.1, ap (length {A = Entry}) r.1, length-append es (new r.0 ∷ [])))
-    ]
-  where
-    f : (i : ℕ) × (i < length es) × ((d : Entry) → (get_or es i d).lit ≡ l)
-    f = holds_found vars es l o h
+-- ---- two literals that watch a nogood
+pub differ_from : (k l : Literal) → literal_eq k l ≡ false → l ≢ k
+differ_from k l h e = false≢true (sym h ∙ (ap (λ (x : Literal). literal_eq x l) (sym e) ∙ eq_itself l))
 
-    new : Literal → Entry
-    new m = record { lit = m; level = level es; reason = Some id }
+watched_by : (n : List Literal) (es : List Entry) (seen : ℕ) (first second : Literal) → has_literal n first ≡ true → has_literal n second ≡ true → literal_eq second first ≡ false →
+    Watches es seen n first → Watches es seen n second → IsWatched n (record { first = first; second = second }) es seen
+watched_by n es seen first second a b d x y = record {
+  has = λ l o. elim o [
+    | inl e ↦ subst (λ (k : Literal). has_literal n k ≡ true) e a
+    | inr e ↦ subst (λ (k : Literal). has_literal n k ≡ true) e b
+  ];
+  differ = differ_from second first d;
+  watches = λ l o. elim o [
+    | inl e ↦ subst (λ (k : Literal). Watches es seen n k) e x
+    | inr e ↦ subst (λ (k : Literal). Watches es seen n k) e y
+  ];
+}
 
-    here : (xs : List Entry) → ((d : Entry) → get_or es f.0 d ≡ get_or xs f.0 d) → f.0 < length xs → is_some (get_or (assignment vars xs) l.var None) ≡ true
-    here xs same w =
-        let d : Entry = record { lit = l; level = 0; reason = None } in
-        let e : (get_or xs f.0 d).lit ≡ l = ap (λ (x : Entry). x.lit) (sym (same d)) ∙ f.2 d in
-        subst (λ (k : Literal). is_some (get_or (assignment vars xs) k.var None) ≡ true) e
-        (entry_assigned vars xs f.0 d w (omega (arith, ap (λ (k : Literal). k.var) e, ap (λ (k : Literal). k.var) (f.2 d), (o.within f.0 d f.1).1)))
+-- neither is true
+pub watched_open : (vars : ℕ) (es : List Entry) (seen : ℕ) (n : List Literal) (first second : Literal) → IsOrdered vars es → has_literal n first ≡ true → has_literal n second ≡ true →
+    literal_eq second first ≡ false → holds_in (assignment vars es) first ≡ false → holds_in (assignment vars es) second ≡ false →
+    IsWatched n (record { first = first; second = second }) es seen
+watched_open vars es seen n first second o a b d p q =
+    watched_by n es seen first second a b d (watches_open vars es seen n first o p) (watches_open vars es seen n second o q)
+
+-- the first is false, and the second's level isn't below its level
+pub watched_above : (vars : ℕ) (es : List Entry) (seen : ℕ) (n : List Literal) (first second : Literal) (b : ℕ) → IsOrdered vars es → has_literal n first ≡ true →
+    IsFalseBy es first b → has_literal n second ≡ true → literal_eq second first ≡ false → b ≤ level_in es second.var →
+    IsWatched n (record { first = first; second = second }) es seen
+watched_above vars es seen n first second b o a f h d le =
+    watched_by n es seen first second a h d (watches_false vars es seen n first b o a f) (watches_above vars es seen n second first b o a f le)

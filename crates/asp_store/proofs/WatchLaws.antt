@@ -1,19 +1,15 @@
 -- Reasons and watches, where a trail grows and where it is cut to a level.
 use Rattle.std.proofs.Common.{◌≡◌, ℕ, suc, zero, ◌<◌, ◌≤◌, Bool, true, false, cond, leb, List, [], ◌∷◌, ◌++◌, length, None, get_or, take, min, refl, sym, ap, ◌∙◌, subst, arith}
 use Rattle.std.specs.List.{All, AllPairs}
-use Rattle.std.proofs.lemmas.Bool.{false≢true}
 use Rattle.std.proofs.lemmas.Bool.Decides.{nat_tests}
 use Rattle.std.proofs.lemmas.Grind.{common_steps}
 use Rattle.std.proofs.lemmas.List.{length-append, get_or_append_left, get_or-take}
-use Rattle.asp_vars.specs.Literals.{Literal, T, F, complement}
+use Rattle.asp_vars.specs.Literals.{Literal, complement}
 use Rattle.asp_trail.specs.declared.trail.Entry.{Entry}
 use Rattle.asp_trail.specs.Entries.{cut}
 use Rattle.asp_trail.specs.Reasons.{Stands, IsReason}
-use Rattle.asp_store.specs.Watching.{IsFalseBy, Watches}
-
--- what looks at a nogood whole isn't what retires it
-pub none_differ : (l : Literal) → l ≡ T 0 → l ≡ F 0 → ⊥
-none_differ l t f = false≢true (ap (λ (k : Literal). k.truth) (sym f ∙ t))
+use Rattle.asp_store.specs.Fitting.{IsFalseBy, HasFalse, Watches, IsWatched}
+use Rattle.asp_store.specs.declared.watch.Pair.{Pair}
 
 length-take_le : {X : Type 0} → (k : ℕ) (xs : List X) → k ≤ length xs → length (take k xs) ≡ k
 length-take_le k xs h = grind (arith, common_steps)
@@ -35,9 +31,19 @@ stands_before es fs l i b h s = record {
 pub false_grow : (es fs : List Entry) (l : Literal) (b : ℕ) → IsFalseBy es l b → IsFalseBy (es ++ fs) l b
 false_grow es fs l b f = (f.0, f.1, f.2, stands_grow es fs (complement l) f.0 f.1 f.3)
 
+pub has_false_grow : (es fs : List Entry) (n : List Literal) (b : ℕ) → HasFalse es n b → HasFalse (es ++ fs) n b
+has_false_grow es fs n b f = (f.0, f.1, false_grow es fs f.0 b f.2)
+
 -- where entries are added, watches stay
-pub watches_grow : (es fs : List Entry) (seen : ℕ) (w v : Literal) → seen ≤ length es → Watches es seen w v → Watches (es ++ fs) seen w v
-watches_grow es fs seen w v k t i b h s = false_grow es fs v b (t i b h (stands_before es fs w i b (omega arith) s))
+pub watches_grow : (es fs : List Entry) (seen : ℕ) (n : List Literal) (w : Literal) → seen ≤ length es → Watches es seen n w → Watches (es ++ fs) seen n w
+watches_grow es fs seen n w k t i b h s = has_false_grow es fs n b (t i b h (stands_before es fs w i b (omega arith) s))
+
+pub watched_grow : (es fs : List Entry) (seen : ℕ) (n : List Literal) (p : Pair) → seen ≤ length es → IsWatched n p es seen → IsWatched n p (es ++ fs) seen
+watched_grow es fs seen n p k t = record {
+  has = t.has;
+  differ = t.differ;
+  watches = λ l o. watches_grow es fs seen n l k (t.watches l o);
+}
 
 pub reason_grow : (es fs : List Entry) (i : ℕ) (l : Literal) (n : List Literal) → IsReason es i l n → IsReason (es ++ fs) i l n
 reason_grow es fs i l n r = record {
@@ -124,19 +130,31 @@ false_cut l es v b r le was =
     let f = front l es r in
     subst (λ (xs : List Entry). IsFalseBy xs v b) (sym f.1.is) (false_front l f.0 es v b f.1 le was)
 
+pub has_false_cut : (l : ℕ) (es : List Entry) (n : List Literal) (b : ℕ) → AllPairs (λ e f. e.level ≤ f.level) es → b ≤ l → HasFalse es n b → HasFalse (cut l es) n b
+has_false_cut l es n b r le f = (f.0, f.1, false_cut l es f.0 b r le f.2)
+
 -- where a trail is cut to a level, watches stay
-pub watches_cut : (l : ℕ) (es : List Entry) (seen : ℕ) (w v : Literal) → AllPairs (λ e f. e.level ≤ f.level) es → Watches es seen w v →
-    Watches (cut l es) (min seen (length (cut l es))) w v
-watches_cut l es seen w v r t =
+pub watches_cut : (l : ℕ) (es : List Entry) (seen : ℕ) (n : List Literal) (w : Literal) → AllPairs (λ e f. e.level ≤ f.level) es → Watches es seen n w →
+    Watches (cut l es) (min seen (length (cut l es))) n w
+watches_cut l es seen n w r t =
     let f = front l es r in
-    let P : List Entry → Type 0 = λ fs. Watches fs (min seen (length fs)) w v in
+    let P : List Entry → Type 0 = λ fs. Watches fs (min seen (length fs)) n w in
     subst P (sym f.1.is) (λ i b h s. kept f.0 f.1 i b (omega (arith, h, length-take_le f.0 es f.1.fits)) (omega (arith, h, length-take_le f.0 es f.1.fits)) s)
   where
-    kept : (k : ℕ) → IsFront l k es → (i b : ℕ) → i < seen → i < k → Stands (take k es) w i b → IsFalseBy (take k es) v b
+    kept : (k : ℕ) → IsFront l k es → (i b : ℕ) → i < seen → i < k → Stands (take k es) w i b → HasFalse (take k es) n b
     kept k f i b h g s =
         let old = stands_untake k es w i b f.fits s in
         let d : Entry = record { lit = w; level = 0; reason = None } in
-        false_front l k es v b f (omega (arith, old.level d, f.high i d g)) (t i b h old)
+        let was = t i b h old in
+        (was.0, was.1, false_front l k es was.0 b f (omega (arith, old.level d, f.high i d g)) was.2)
+
+pub watched_cut : (l : ℕ) (es : List Entry) (seen : ℕ) (n : List Literal) (p : Pair) → AllPairs (λ e f. e.level ≤ f.level) es → IsWatched n p es seen →
+    IsWatched n p (cut l es) (min seen (length (cut l es)))
+watched_cut l es seen n p r t = record {
+  has = t.has;
+  differ = t.differ;
+  watches = λ k o. watches_cut l es seen n k r (t.watches k o);
+}
 
 -- and so does a reason whose literal is left
 pub reason_cut : (c : ℕ) (es : List Entry) (i : ℕ) (l : Literal) (n : List Literal) → AllPairs (λ e f. e.level ≤ f.level) es → i < length (cut c es) →

@@ -1,28 +1,54 @@
--- How the nogoods kept fit a trail.
-use Rattle.std.specs.Prelude.{◌≡◌, ℕ, ◌⊎◌, false, List, Option, IsTrue}
-use Rattle.asp_vars.specs.Literals.{Literal, T, F, has_literal, literal_eq}
+-- Watched literals, over a trail's entries.
+use Rattle.std.specs.Prelude.{◌≡◌, ◌≢◌, ℕ, ◌<◌, ◌≤◌, ◌⊎◌, ◌++◌, List, length, Option, Some, None, IsTrue}
+use Rattle.std.specs.List.{All}
+use Rattle.asp_vars.specs.Literals.{Literal, complement, has_literal}
+use Rattle.asp_vars.specs.declared.nogood.Nogood.{Nogood}
 use Rattle.asp_trail.specs.declared.trail.Entry.{Entry}
+use Rattle.asp_trail.specs.Entries.{level}
+use Rattle.asp_trail.specs.Trails.{Trailed, IsVar}
+use Rattle.asp_trail.specs.Reasons.{Stands, AreReasoned}
 use Rattle.asp_store.specs.declared.kept.Kept.{Kept}
+use Rattle.asp_store.specs.declared.watch.Pair.{Pair}
 use Rattle.asp_store.specs.Keeping.{nogood_at}
-use Rattle.asp_trail.specs.Reasons.{AreReasoned}
-use Rattle.asp_store.specs.Watching.{IsFalseBy, Watches}
+use Rattle.asp_store.specs.Pairs.{pair_at, IsOneOf}
+use Rattle.asp_store.specs.Parted.{Parted, IsFrom}
 
--- The two watches of a nogood are different literals of it, or of no variable: one at T 0 says that the nogood is looked at whole,
--- one at F 0 that it is retired, as the other watch is false at level 0.
-pub record IsWatched (n : List Literal) (w v : Literal) (entries : List Entry) (seen : ℕ) : Type 0 where
-  pub left : (w.var ≡ 0) ⊎ IsTrue (has_literal n w)
-  pub right : (v.var ≡ 0) ⊎ IsTrue (has_literal n v)
-  pub differ : (w.var ≡ 0) ⊎ (literal_eq w v ≡ false)
-  pub from_left : Watches entries seen w v
-  pub from_right : Watches entries seen v w
-  pub left_retired : w ≡ F 0 → IsFalseBy entries v 0
-  pub right_retired : v ≡ F 0 → IsFalseBy entries w 0
+-- The literal is false, at a level not above b.
+abbrev pub IsFalseBy : List Entry → Literal → ℕ → Type 0
+IsFalseBy entries l b = (i : ℕ) × (c : ℕ) × (c ≤ b) × Stands entries (complement l) i c
 
--- A nogood that is looked at whole has a false watch.
-pub record IsSettled (w v : Literal) (entries : List Entry) : Type 0 where
-  pub left : w ≡ T 0 → (b : ℕ) × IsFalseBy entries v b
-  pub right : v ≡ T 0 → (b : ℕ) × IsFalseBy entries w b
+-- A literal of the nogood is false, at a level not above b.
+abbrev pub HasFalse : List Entry → List Literal → ℕ → Type 0
+HasFalse entries n b = (l : Literal) × IsTrue (has_literal n l) × IsFalseBy entries l b
+
+-- Where the literal is true within the entries seen, the nogood has a literal that is false at a level not above that one's.
+abbrev pub Watches : List Entry → ℕ → List Literal → Literal → Type 0
+Watches entries seen n w = (i b : ℕ) → i < seen → Stands entries w i b → HasFalse entries n b
+
+-- The two are different literals of the nogood, and watch it.
+pub record IsWatched (n : List Literal) (p : Pair) (entries : List Entry) (seen : ℕ) : Type 0 where
+  pub has : (l : Literal) → IsOneOf p l → IsTrue (has_literal n l)
+  pub differ : p.first ≢ p.second
+  pub watches : (l : Literal) → IsOneOf p l → Watches entries seen n l
+
+-- Each kept nogood is watched, or is to be looked at whole, or has a literal that is false at level 0.
+pub record AreFit (slots : List (Option Kept)) (pairs : List (Option Pair)) (apart : Parted) (t : Trailed) : Type 0 where
+  pub watched : (id : ℕ) (n : Nogood) (p : Pair) → nogood_at slots id ≡ Some n → pair_at pairs id ≡ Some p → IsWatched n.lits p t.entries t.seen
+  pub unwatched : (id : ℕ) (n : Nogood) → nogood_at slots id ≡ Some n → pair_at pairs id ≡ None → IsFrom apart apart.retired id ⊎ HasFalse t.entries n.lits 0
 
 -- Each entry that was implied names a nogood that is kept, which is its reason.
 abbrev pub HaveReasons : List (Option Kept) → List Entry → Type 0
 HaveReasons slots entries = AreReasoned (nogood_at slots) entries
+
+-- All literals are of variables 1 to vars.
+abbrev pub AreSmall : ℕ → List (Option Kept) → Type 0
+AreSmall vars slots = (id : ℕ) (n : Nogood) → nogood_at slots id ≡ Some n → All (λ k. IsVar vars k.var) n.lits
+
+-- The entry was implied, at this level.
+pub record IsImpliedAt (b : ℕ) (e : Entry) : Type 0 where
+  pub level : e.level ≡ b
+  pub implied : (id : ℕ) × (e.reason ≡ Some id)
+
+-- Entries may be added, each of them implied at the level that stands, by a nogood that is kept.
+abbrev pub Extends : List (Option Kept) → List Entry → List Entry → Type 0
+Extends slots old new = (fs : List Entry) × (new ≡ old ++ fs) × (HaveReasons slots old → HaveReasons slots new) × All (IsImpliedAt (level old)) fs

@@ -1,72 +1,74 @@
--- What a walk along one literal's chain keeps.
-use Rattle.std.specs.Prelude.{◌≡◌, ℕ, ◌+◌, ◌*◌, ◌<◌, ◌≤◌, ◌⊎◌, true, List, [], length, Option, Some, None, IsTrue}
-use Rattle.asp_vars.specs.Literals.{Literal, T, holds_in}
+-- What a walk along one literal's list keeps.
+use Rattle.std.specs.Prelude.{◌≡◌, ◌≢◌, ℕ, ◌+◌, ◌≤◌, ◌⊎◌, false, List, Option, Some, None, IsTrue}
+use Rattle.asp_vars.specs.Literals.{Literal, has_literal, holds_in}
 use Rattle.asp_vars.specs.Codes.{code_of}
 use Rattle.asp_vars.specs.declared.nogood.Nogood.{Nogood}
 use Rattle.asp_trail.specs.declared.trail.Entry.{Entry}
-use Rattle.asp_trail.specs.Entries.{assignment, level_in}
+use Rattle.asp_trail.specs.Entries.{assignment}
+use Rattle.asp_trail.specs.Trails.{Trailed}
+use Rattle.asp_trail.specs.Reasons.{Stands}
+use Rattle.asp_trail.specs.Quiet.{is_violated, is_calm}
 use Rattle.asp_store.specs.declared.kept.Kept.{Kept}
-use Rattle.asp_store.specs.declared.nodes.Node.{Node}
-use Rattle.asp_store.specs.declared.visits.Visit.{Visit}
-use Rattle.asp_store.specs.declared.visits.Visit.TheVariants as visit
-use Rattle.asp_store.specs.Nodes.{link, home, other, partner}
-use Rattle.asp_store.specs.Paths.{IsLinked, among}
-use Rattle.asp_store.specs.Places.{HasPlace}
-use Rattle.asp_store.specs.Keeping.{nogood_at}
+use Rattle.asp_store.specs.declared.watch.Watch.{Watch}
+use Rattle.asp_store.specs.declared.watch.Pair.{Pair}
+use Rattle.asp_store.specs.declared.watches.Watches.{Watches}
+use Rattle.asp_store.specs.declared.front.Front.{Front}
+use Rattle.asp_store.specs.declared.front.Step.{Step}
+use Rattle.asp_store.specs.declared.front.Step.TheVariants as step
 use Rattle.asp_store.specs.declared.propagation.Propagated.{Propagated}
 use Rattle.asp_store.specs.declared.propagation.Propagated.TheVariants as propagated
-use Rattle.asp_trail.specs.Quiet.{is_violated, is_calm}
-use Rattle.asp_store.specs.Looking.{IsPlace}
-use Rattle.asp_store.specs.Watching.{IsFalseBy}
-use Rattle.asp_store.specs.Visiting.{owner, AreSmall, AreWatched}
+use Rattle.asp_store.specs.Keeping.{nogood_at}
+use Rattle.asp_store.specs.Lists.{place, size}
+use Rattle.asp_store.specs.Pairs.{pair_at, IsOneOf, IsBeside}
+use Rattle.asp_store.specs.Fitting.{HasFalse}
+use Rattle.asp_store.specs.Sounding.{IsListed, IsSound, AreSettled}
 
--- Each number at this literal is among the rest, or its watch has a place there.
-abbrev pub AreDone : ℕ → List Node → List (Option Kept) → List Entry → Literal → List ℕ → Type 0
-AreDone heads nodes slots entries from rest = (x : ℕ) (n : Nogood) → heads ≤ x → x < length nodes → nogood_at slots (owner heads x) ≡ Some n →
-    other nodes (partner x) ≡ from → IsTrue (among rest x) ⊎ IsPlace entries n.lits (other nodes x) from
+-- Each nogood that watches the literal stands at this place of its list or behind it, or has a literal that is false at a level
+-- not above that one's.
+abbrev pub AreDone : List (Option Kept) → Watches → List Entry → Front → ℕ → Type 0
+AreDone slots w entries f i = (id : ℕ) (n : Nogood) (p : Pair) → nogood_at slots id ≡ Some n → pair_at w.pairs id ≡ Some p → IsOneOf p f.lit →
+    IsListed w.lists f.lit i id n.lits ⊎ HasFalse entries n.lits f.level
 
--- A nogood that is looked at whole has another watch that is false.
-abbrev pub AreSettled : ℕ → List Node → List (Option Kept) → List Entry → Type 0
-AreSettled heads nodes slots entries = (x : ℕ) (n : Nogood) → heads ≤ x → x < length nodes → nogood_at slots (owner heads x) ≡ Some n →
-    other nodes (partner x) ≡ T 0 → (b : ℕ) × IsFalseBy entries (other nodes x) b
+-- The list of the first entry not seen was walked up to this place.
+pub record IsWalking (slots : List (Option Kept)) (w : Watches) (t : Trailed) (f : Front) (i : ℕ) : Type 0 where
+  pub sound : IsSound slots w t
+  pub settled : AreSettled slots w.pairs t.entries
+  pub done : AreDone slots w t.entries f i
+  pub stands : Stands t.entries f.lit t.seen f.level
 
--- The nodes are those of a store, and its watches fit the trail.
-pub record IsSound (vars heads : ℕ) (slots : List (Option Kept)) (nodes : List Node) (entries : List Entry) (seen : ℕ) : Type 0 where
-  pub heads_is : heads ≡ 2 * vars + 2
-  pub total : length nodes ≡ heads + 2 * length slots
-  pub small : AreSmall vars slots
-  pub others : (y : ℕ) → (other nodes y).var ≤ vars
-  pub watched : AreWatched heads nodes slots entries seen
-  pub linked : (chains : ℕ → List ℕ) × IsLinked heads (length nodes) (link nodes) (home nodes) chains
+-- At this place stands this number, whose nogood watches this literal beside the other.
+pub record IsVisit (slots : List (Option Kept)) (w : Watches) (t : Trailed) (f : Front) (i id : ℕ) (other : Literal) : Type 0 where
+  pub walking : IsWalking slots w t f i
+  pub watch : Watch
+  pub at : place w.lists (code_of f.lit) i ≡ Some watch
+  pub id_is : watch.id ≡ id
+  pub pair : Pair
+  pub pair_is : pair_at w.pairs id ≡ Some pair
+  pub beside : IsBeside pair f.lit other
 
--- In the chain of a literal that holds, or of none, these are left after z.
-pub record IsWalking (vars heads : ℕ) (slots : List (Option Kept)) (nodes : List Node) (entries : List Entry) (seen : ℕ) (from : Literal) (level z : ℕ) (rest : List ℕ) : Type 0 where
-  pub sound : IsSound vars heads slots nodes entries seen
-  pub place : HasPlace heads nodes (code_of from) z rest
-  pub done : AreDone heads nodes slots entries from rest
-  pub settled : 0 < from.var → AreSettled heads nodes slots entries
-  pub holds : 0 < from.var → holds_in (assignment vars entries) from ≡ true
-  pub level_is : 0 < from.var → level_in entries from.var ≡ level
-  pub unreal : from.var ≡ 0 → from ≡ T 0
-  pub bounded : from.var ≤ vars
-
--- what a step along the chain leaves to do
-abbrev pub Steps : ℕ → ℕ → List (Option Kept) → List Node → List Entry → ℕ → Literal → ℕ → ℕ → ℕ → List ℕ → Visit → Type 0
-Steps vars heads slots nodes entries seen from level z u rest visit.Violated =
-    IsSound vars heads slots nodes entries seen × ((n : Nogood) × (nogood_at slots (owner heads u) ≡ Some n) × IsTrue (is_violated (assignment vars entries) n.lits))
-Steps vars heads slots nodes entries seen from level z u rest visit.Stays = IsWalking vars heads slots nodes entries seen from level u rest
-Steps vars heads slots nodes entries seen from level z u rest visit.Moved = IsWalking vars heads slots nodes entries seen from level z rest
-
--- A walk finds a nogood violated, or all numbers at the literal done.
-abbrev pub Walked : ℕ → ℕ → List (Option Kept) → List Node → List Entry → Literal → Option ℕ → Type 0
-Walked vars heads slots nodes entries from None = AreDone heads nodes slots entries from [] × (0 < from.var → AreSettled heads nodes slots entries)
-Walked vars heads slots nodes entries from (Some id) = (n : Nogood) × (nogood_at slots id ≡ Some n) × IsTrue (is_violated (assignment vars entries) n.lits)
+-- The literal may watch the nogood under this number beside the other.
+pub record MayWatch (slots : List (Option Kept)) (t : Trailed) (id : ℕ) (other l : Literal) : Type 0 where
+  pub small : l.var ≤ t.vars
+  pub has : (n : Nogood) → nogood_at slots id ≡ Some n → IsTrue (has_literal n.lits l)
+  pub differ : l ≢ other
+  pub not_true : holds_in (assignment t.vars t.entries) l ≡ false
 
 -- A kept nogood is violated.
 abbrev pub IsViolated : ℕ → List (Option Kept) → List Entry → ℕ → Type 0
 IsViolated vars slots entries id = (n : Nogood) × (nogood_at slots id ≡ Some n) × IsTrue (is_violated (assignment vars entries) n.lits)
 
+-- A step goes on to the next place, or the place is gone, or a nogood is violated.
+abbrev pub Steps : List (Option Kept) → Watches → Watches → Trailed → Front → ℕ → Step → Type 0
+Steps slots old new t f i step.Stays = IsWalking slots new t f (i + 1) × (size new.lists (code_of f.lit) ≡ size old.lists (code_of f.lit))
+Steps slots old new t f i step.Goes = IsWalking slots new t f i × (size new.lists (code_of f.lit) + 1 ≡ size old.lists (code_of f.lit))
+Steps slots old new t f i (step.Violated id) = IsViolated t.vars slots t.entries id
+
 -- No kept nogood is unit or violated, or this one is violated.
 abbrev pub Propagates : ℕ → List (Option Kept) → List Entry → Propagated → Type 0
 Propagates vars slots entries propagated.Quiet = (id : ℕ) (n : Nogood) → nogood_at slots id ≡ Some n → IsTrue (is_calm (assignment vars entries) n.lits)
 Propagates vars slots entries (propagated.Violated id) = IsViolated vars slots entries id
+
+-- A walk finds a nogood violated, or comes to the end of the list.
+abbrev pub Walked : List (Option Kept) → Watches → Trailed → Front → Option ℕ → Type 0
+Walked slots w t f None = (i : ℕ) × (size w.lists (code_of f.lit) ≤ i) × IsWalking slots w t f i
+Walked slots w t f (Some id) = IsViolated t.vars slots t.entries id

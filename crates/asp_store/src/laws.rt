@@ -1,18 +1,18 @@
 //! Laws of the definitions. Each function's contract is a law, and its body is empty.
-ghost use Rattle.std.specs.Prelude.{◌≡◌, ◌≢◌, ◌<◌, ◌≤◌, ◌++◌, ◌∷◌, [], ℕ, Bool, false, true, List, Option, IsTrue, length, min, slice_index_or};
-ghost use Rattle.asp_vars.specs.declared.nogood.Nogood.{Nogood};
-ghost use Rattle.asp_trail.specs.Trails.{Trailed};
-ghost use Rattle.asp_store.specs.declared.kept.Kept.{Kept};
-ghost use Rattle.asp_store.specs.Keeping.{kept_at, nogood_at, reduced};
-ghost use Rattle.asp_store.specs.Storing.{Stored, Fits, added, removed, locked_at, Recalls, AreActive};
+ghost use Rattle.std.specs.Prelude.{◌≡◌, ◌≢◌, ◌<◌, ◌≤◌, ◌++◌, ◌∷◌, [], ℕ, Bool, false, List, Option, Some, None, IsTrue, length, min, slice_index_or};
 ghost use Rattle.std.specs.List.{AllPairs};
 ghost use Rattle.asp_vars.specs.Literals.{Literal, has_literal, holds_in};
+ghost use Rattle.asp_vars.specs.declared.nogood.Nogood.{Nogood};
 ghost use Rattle.asp_trail.specs.declared.trail.Entry.{Entry};
 ghost use Rattle.asp_trail.specs.Entries.{assignment, cut};
-ghost use Rattle.asp_trail.specs.Trails.{IsOrdered};
+ghost use Rattle.asp_trail.specs.Trails.{Trailed, IsOrdered};
 ghost use Rattle.asp_trail.specs.Quiet.{is_open, is_calm};
 ghost use Rattle.asp_trail.specs.Reasons.{IsReason};
-ghost use Rattle.asp_store.specs.Fitting.{IsWatched, IsSettled};
+ghost use Rattle.asp_store.specs.declared.kept.Kind.{Kind};
+ghost use Rattle.asp_store.specs.declared.watch.Pair.{Pair};
+ghost use Rattle.asp_store.specs.Keeping.{nogood_at};
+ghost use Rattle.asp_store.specs.Fitting.{IsWatched, HasFalse};
+ghost use Rattle.asp_store.specs.Storing.{Stored, Fits, IsAdded, Loses, locked_at, removed, recalled, AreActive};
 
 /// A nogood is neither unit nor violated where two literals of it aren't true, or one is false.
 pub fn calm_nogoods()
@@ -21,17 +21,17 @@ pub fn calm_nogoods()
     ensures one { (a : List (Option Bool)) (n : List Literal) (l : Literal) → IsTrue (has_literal n l) → holds_in a l ≡ false → is_open a l ≡ false → IsTrue (is_calm a n) }
 {}
 
-/// Where all entries were seen, a nogood that is watched, and has a false watch where it is looked at whole, is calm.
+/// Where all entries were seen, a nogood that is watched is calm, and so is one with a literal that is false.
 pub fn watched_nogoods_are_calm()
-    ensures { (vars : ℕ) (es : List Entry) (n : List Literal) (w v : Literal) → IsOrdered vars es → IsWatched n w v es (length es) → IsSettled w v es →
-        IsTrue (is_calm (assignment vars es) n) }
+    ensures watched { (vars : ℕ) (es : List Entry) (n : List Literal) (p : Pair) → IsOrdered vars es → IsWatched n p es (length es) → IsTrue (is_calm (assignment vars es) n) }
+    ensures settled { (vars : ℕ) (es : List Entry) (n : List Literal) (b : ℕ) → IsOrdered vars es → HasFalse es n b → IsTrue (is_calm (assignment vars es) n) }
 {}
 
 /// Watches and reasons stay where a trail is extended, and where it is cut to a level.
 pub fn watches_stay()
-    ensures grow { (es fs : List Entry) (seen : ℕ) (n : List Literal) (w v : Literal) → seen ≤ length es → IsWatched n w v es seen → IsWatched n w v (es ++ fs) seen }
-    ensures cut { (l : ℕ) (es : List Entry) (seen : ℕ) (n : List Literal) (w v : Literal) → AllPairs (λ e f. e.level ≤ f.level) es → IsWatched n w v es seen →
-        IsWatched n w v (cut l es) (min seen (length (cut l es))) }
+    ensures grow { (es fs : List Entry) (seen : ℕ) (n : List Literal) (p : Pair) → seen ≤ length es → IsWatched n p es seen → IsWatched n p (es ++ fs) seen }
+    ensures cut { (l : ℕ) (es : List Entry) (seen : ℕ) (n : List Literal) (p : Pair) → AllPairs (λ e f. e.level ≤ f.level) es → IsWatched n p es seen →
+        IsWatched n p (cut l es) (min seen (length (cut l es))) }
     ensures reason_grow { (es fs : List Entry) (i : ℕ) (l : Literal) (n : List Literal) → IsReason es i l n → IsReason (es ++ fs) i l n }
     ensures reason_cut { (c : ℕ) (es : List Entry) (i : ℕ) (l : Literal) (n : List Literal) → AllPairs (λ e f. e.level ≤ f.level) es → i < length (cut c es) →
         IsReason es i l n → IsReason (cut c es) i l n }
@@ -39,7 +39,7 @@ pub fn watches_stay()
 
 /// A store without nogoods fits a trail without entries.
 pub fn new_store_fits()
-    ensures { (vars : ℕ) (t : Trailed) → t.vars ≡ vars → t.entries ≡ [] → Fits (record { vars = vars; slots = []; watches = [] }) t }
+    ensures { (s : Stored) (t : Trailed) → t.vars ≡ s.vars → t.entries ≡ [] → s.slots ≡ [] → Fits s t }
 {}
 
 /// A store fits its trail still where the trail is extended by a literal that is assumed or decided, or implied by a
@@ -54,14 +54,13 @@ pub fn changed_trail_fits()
 {}
 
 /// A store fits its trail still where a nogood is added, locked or unlocked, where the retired ones are recalled, and
-/// where nogoods are dropped that no entry names: one of them, or the oldest while the trail's reasons are locked.
+/// where nogoods are dropped that no entry names.
 pub fn changed_store_fits()
-    ensures add { (s : Stored) (t : Trailed) (n : Nogood) (forever : Bool) → IsOrdered t.vars t.entries → t.seen ≤ length t.entries → Fits s t → Fits (added s n forever) t }
-    ensures lock { (s : Stored) (t : Trailed) (id : ℕ) (b : Bool) → Fits s t → Fits (locked_at s id b) t }
-    ensures recall { (s r : Stored) (t : Trailed) → r ≡ record s { watches = r.watches } → Recalls s r → IsOrdered t.vars t.entries → t.seen ≤ length t.entries → Fits s t → Fits r t }
-    ensures remove { (s : Stored) (t : Trailed) (id : ℕ) → ((i : ℕ) (d : Entry) → i < length t.entries → (slice_index_or t.entries i d).reason ≢ Some id) →
-        Fits s t → Fits (removed s id) t }
-    ensures reduce { (s : Stored) (t : Trailed) →
-        ((i : ℕ) (d : Entry) (id : ℕ) → i < length t.entries → (slice_index_or t.entries i d).reason ≡ Some id → (k : Kept) × (kept_at s.slots id ≡ Some k) × (k.locked ≡ true)) →
-        Fits s t → Fits (record s { slots = reduced s.slots }) t }
+    ensures add { (s z : Stored) (t : Trailed) (id : ℕ) (n : Nogood) (kind : Kind) → IsAdded s z id n kind → Fits s t → Fits z t }
+    ensures lock { (s : Stored) (t : Trailed) (id : ℕ) (b : Bool) → id < length s.slots → Fits s t → Fits (locked_at s id b) t }
+    ensures recall { (s : Stored) (t : Trailed) → Fits s t → Fits (recalled s) t }
+    ensures remove { (s : Stored) (t : Trailed) (id : ℕ) → id < length s.slots →
+        ((i : ℕ) (d : Entry) → i < length t.entries → (slice_index_or t.entries i d).reason ≢ Some id) → Fits s t → Fits (removed s id) t }
+    ensures lose { (s z : Stored) (t : Trailed) → Loses s z →
+        ((i : ℕ) (d : Entry) (id : ℕ) → i < length t.entries → (slice_index_or t.entries i d).reason ≡ Some id → nogood_at z.slots id ≡ nogood_at s.slots id) → Fits s t → Fits z t }
 {}

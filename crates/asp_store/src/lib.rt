@@ -1,14 +1,19 @@
 //! Nogoods that are kept, and what follows from them.
 #![tactic(auto)]
 
-pub mod chains;
+pub mod apart;
+pub mod front;
 pub mod kept;
 pub mod laws;
+pub mod lists;
 pub mod looks;
-pub mod nodes;
+pub mod notes;
+pub mod pairs;
+pub mod pending;
 pub mod propagation;
-pub mod retired;
 pub mod slots;
 pub mod store;
 pub mod visits;
 pub mod walks;
+pub mod watch;
+pub mod watches;

@@ -1,18 +1,22 @@
 //! What follows from the nogoods that are kept.
 //!
 //! A nogood can only become unit or violated where one of its two watches becomes true. So for each literal that
-//! came to hold, the nogoods in its chain are looked at, and no others, but for those in the chain of no variable,
-//! which are looked at in each call, until they are retired.
-ghost use Rattle.std.specs.Prelude.{◌≡◌, ◌<◌, ◌≤◌, ◌+◌, ◌^◌, length, IfNone, IfSome};
-ghost use Rattle.asp_store.specs.Visiting.{Extends};
-ghost use Rattle.asp_store.specs.Walking.{IsSound, AreSettled, IsViolated, Propagates};
+//! came to hold, the nogoods in its list are looked at, and no others, but for those that aren't watched, which are
+//! looked at in each call, until they are watched or retired.
+ghost use Rattle.std.specs.Prelude.{◌≡◌, ◌<◌, ◌≤◌, ◌+◌, length, IfOk, IfNone, IfSome};
+ghost use Rattle.asp_trail.specs.Reasons.{Stands};
+ghost use Rattle.asp_store.specs.Fitting.{Extends};
+ghost use Rattle.asp_store.specs.Sounding.{IsSound, AreSettled};
+ghost use Rattle.asp_store.specs.Walking.{IsViolated, Propagates};
 
+use crate::front::Front;
 use crate::kept::Kept;
-use crate::nodes::Node;
+use crate::pending::look_at_pending;
 use crate::walks::walk;
+use crate::watches::Watches;
 use asp_trail::reasons::NogoodId;
 use asp_trail::trail::Trail;
-use asp_vars::lit::Lit;
+use std::alloc::AllocError;
 
 /// What a propagation found.
 #[derive(Clone, Copy)]
@@ -23,62 +27,77 @@ pub enum Propagated {
     Violated(NogoodId),
 }
 
+// The first entry that wasn't seen.
+fn front_of(trail: &Trail) -> Front
+    requires { trail.now.seen < length trail.now.entries }
+    ensures { Stands trail.now.entries result.lit trail.now.seen result.level }
+{
+    let _len = trail.len();
+    let seen = trail.seen();
+    let lit = trail.lit(seen);
+    let var = lit.var();
+    let level = trail.level_of(var);
+    Front { lit, level }
+}
+
 // Looks at what the next entry touches.
 fn propagate_next(
-    nodes: &mut [Node],
+    watches: &mut Watches,
     slots: &[Option<Kept>],
-    heads: usize,
     trail: &mut Trail,
-) -> Option<NogoodId>
-    requires sound { IsSound trail.old.vars heads slots.now nodes.old trail.old.entries trail.old.seen }
-    requires settled { AreSettled heads nodes.old slots.now trail.old.entries }
+) -> Result<Option<NogoodId>, AllocError>
+    requires sound { IsSound slots.now watches.old trail.old }
+    requires settled { AreSettled slots.now watches.old.pairs trail.old.entries }
     requires more { trail.old.seen < length trail.old.entries }
-    requires small { length nodes.old < 2 ^ 63 }
     requires room { trail.old.vars ≤ trail.old.room }
     ensures same { trail.new ≡ record trail.old { entries = trail.new.entries; seen = trail.new.seen } }
     ensures few { length trail.old.entries ≤ trail.old.vars + 1 }
     ensures extends { Extends slots.now trail.old.entries trail.new.entries }
-    ensures sound { IsSound trail.old.vars heads slots.now nodes.new trail.new.entries trail.new.seen }
-    ensures settled { IfNone result (AreSettled heads nodes.new slots.now trail.new.entries) }
-    ensures seen { IfNone result (trail.new.seen ≡ trail.old.seen + 1) }
-    ensures violated { IfSome result (IsViolated trail.old.vars slots.now trail.new.entries) }
+    ensures sound { IsSound slots.now watches.new trail.new }
+    ensures settled { IfOk result (λ r. IfNone r (AreSettled slots.now watches.new.pairs trail.new.entries)) }
+    ensures seen { IfOk result (λ r. IfNone r (trail.new.seen ≡ trail.old.seen + 1)) }
+    ensures violated { IfOk result (λ r. IfSome r (IsViolated trail.new.vars slots.now trail.new.entries)) }
 {
     let _level = trail.level();
-    let _len = trail.len();
+    let front = front_of(trail);
     let seen = trail.seen();
-    let lit = trail.lit(seen);
-    match walk(nodes, slots, heads, lit, trail) {
-        Some(id) => Some(id),
+    let found = walk(watches, slots, &front, trail)?;
+    match found {
+        Some(id) => Ok(Some(id)),
         None => {
             let _new_len = trail.len();
             trail.mark_seen(seen + 1);
-            None
+            Ok(None)
         }
     }
 }
 
 /// Implies what follows, until a nogood is violated or none is unit.
+///
+/// Want of memory is the one error. Whatever comes, entries are only added, and the watches fit the trail.
 pub fn propagate(
-    nodes: &mut [Node],
+    watches: &mut Watches,
     slots: &[Option<Kept>],
-    heads: usize,
     trail: &mut Trail,
-) -> Propagated
-    requires sound { IsSound trail.old.vars heads slots.now nodes.old trail.old.entries trail.old.seen }
-    requires small { length nodes.old < 2 ^ 63 }
+) -> Result<Propagated, AllocError>
+    requires sound { IsSound slots.now watches.old trail.old }
     requires room { trail.old.vars ≤ trail.old.room }
     ensures same { trail.new ≡ record trail.old { entries = trail.new.entries; seen = trail.new.seen } }
     ensures extends { Extends slots.now trail.old.entries trail.new.entries }
-    ensures sound { IsSound trail.old.vars heads slots.now nodes.new trail.new.entries trail.new.seen }
-    ensures propagates { Propagates trail.old.vars slots.now trail.new.entries result }
+    ensures sound { IsSound slots.now watches.new trail.new }
+    ensures propagates { IfOk result (Propagates trail.new.vars slots.now trail.new.entries) }
 {
-    if let Some(id) = walk(nodes, slots, heads, Lit::new(0, true), trail) {
-        return Propagated::Violated(id);
+    let pending = look_at_pending(watches, slots, trail)?;
+    match pending {
+        Some(id) => return Ok(Propagated::Violated(id)),
+        None => {}
     }
-    while trail.seen() < trail.len() {
-        if let Some(id) = propagate_next(nodes, slots, heads, trail) {
-            return Propagated::Violated(id);
+    'entries: while trail.seen() < trail.len() {
+        let found = propagate_next(watches, slots, trail)?;
+        match found {
+            Some(id) => return Ok(Propagated::Violated(id)),
+            None => {}
         }
     }
-    Propagated::Quiet
+    Ok(Propagated::Quiet)
 }

@@ -1,20 +1,18 @@
 //! The store of nogoods.
-ghost use Rattle.std.specs.Prelude.{◌≡◌, ◌+◌, ◌*◌, ◌^◌, ◌<◌, ◌≤◌, ◌≢◌, ◌++◌, ◌∷◌, [], ℕ, length, map, replicate, count_by, IfOk, OnOk, OnErr, true, false};
+ghost use Rattle.std.specs.Prelude.{◌≡◌, ◌+◌, ◌*◌, ◌^◌, ◌<◌, ◌≤◌, ◌≢◌, [], ℕ, length, count_by, IfOk, IfSome, OnOk, OnErr, None, true, false, if◌then◌else◌};
 ghost use Rattle.std.specs.Vec.{vec_len, vec_capacity};
 ghost use Rattle.std.specs.List.{All};
-ghost use Rattle.asp_vars.specs.Literals.{T};
 ghost use Rattle.asp_trail.specs.Trails.{IsVar};
-ghost use Rattle.asp_store.specs.Keeping.{nogood_at, is_extra, reduced};
-ghost use Rattle.asp_store.specs.Nodes.{link};
-ghost use Rattle.asp_store.specs.Storing.{Fits, added, removed, locked_at, Recalls, AreActive};
-ghost use Rattle.asp_store.specs.Visiting.{AreSmall, Extends};
+ghost use Rattle.asp_store.specs.Keeping.{nogood_at, kept_at, is_extra, is_passing, unless_given, Thins};
+ghost use Rattle.asp_store.specs.Fitting.{AreSmall, Extends};
 ghost use Rattle.asp_store.specs.Walking.{Propagates};
+ghost use Rattle.asp_store.specs.Storing.{Fits, IsAdded, removed, locked_at, recalled, AreActive, Loses};
 
-use crate::kept::Kept;
-use crate::nodes::Node;
+use crate::kept::{Kept, Kind};
+use crate::notes::Notes;
 use crate::propagation::{Propagated, propagate};
-use crate::retired::recall;
-use crate::slots::{reduce_slots, remove_slot, set_locked};
+use crate::slots::{is_given_slot, is_spare_slot, remove_slot, set_locked};
+use crate::watches::Watches;
 use asp_trail::reasons::{NogoodId, Reasons};
 use asp_trail::trail::Trail;
 use asp_vars::lit::Lit;
@@ -22,100 +20,138 @@ use asp_vars::nogood::{Base, Nogood};
 use std::alloc::{AllocError, Global};
 use std::marker::Model;
 
-/// Nogoods with two watches each. The numbers below twice the variables and two begin the chains of the literals;
-/// each nogood has the next two, which are in the chains of the literals that it watches, or of no variable.
+/// Nogoods, by numbers, with what watches them.
 #[derive(Drop)]
 pub struct Store {
     vars: u32,
-    heads: usize,
-    nodes: Vec<Node>,
     slots: Vec<Option<Kept>>,
+    watches: Watches,
+    free: Vec<u32>,
+    notes: Notes,
     extra: usize,
 }
 
 impl Model for Store {
-    ghost use Rattle.std.specs.Prelude.{map, drop};
     ghost use Rattle.asp_store.specs.Storing.{Stored, IsStore};
 
     ghost Value = { Stored };
 
-    ghost view = { λ s. record { vars = s.vars; slots = s.slots.items; watches = map (λ n. n.other) (drop s.heads s.nodes.items) } };
+    ghost view = { λ s. record { vars = s.vars; slots = s.slots.items; pairs = s.watches.pairs; apart = s.watches.apart } };
 
-    ghost invariant = { λ s. IsStore s.vars s.heads s.slots.items s.nodes.items s.extra };
+    ghost invariant = { λ s. IsStore s.vars s.slots.items s.watches s.extra };
 }
 
-fn no_lit() -> Lit
-    ensures { result ≡ T 0 }
+// How many nogoods of this kind aren't kept forever.
+fn extra_of(kind: Kind) -> usize
+    ensures { result ≡ if is_passing kind then 1 else 0 }
 {
-    Lit::new(0, true)
+    match kind {
+        Kind::Forever => 0,
+        Kind::Learnt => 1,
+        Kind::Given => 1,
+    }
 }
 
-// Two more numbers, at the front of the chain of no variable.
-fn push_numbers(nodes: &mut Vec<Node>)
-    requires some { 0 < length nodes.old.items }
-    requires room { vec_len nodes.old + 2 ≤ vec_capacity nodes.old }
-    ensures others { map (λ n. n.other) nodes.new.items ≡ map (λ n. n.other) nodes.old.items ++ T 0 ∷ T 0 ∷ [] }
-    ensures first { link nodes.new.items 0 ≡ length nodes.old.items }
-    ensures second { link nodes.new.items (length nodes.old.items) ≡ length nodes.old.items + 1 }
-    ensures third { link nodes.new.items (length nodes.old.items + 1) ≡ link nodes.old.items 0 }
-    ensures links { (y : ℕ) → y ≢ 0 → y < length nodes.old.items → link nodes.new.items y ≡ link nodes.old.items y }
-{
-    let x = nodes.len();
-    let next = nodes[0].next;
-    nodes[0].next = x;
-    nodes.push_reserved(Node {
-        next: x + 1,
-        other: no_lit(),
-    });
-    nodes.push_reserved(Node {
-        next,
-        other: no_lit(),
-    });
+// Remembers that a number has no nogood. Where memory is wanting it isn't given out again.
+fn give_back(free: &mut Vec<u32>, id: usize) {
+    if id < u32::MAX as usize {
+        let _ = free.push(id as u32);
+    }
 }
 
 impl Store {
     /// No nogoods, over the variables 1 to `vars`.
     pub fn new(alloc: Global, vars: u32) -> Result<Store, AllocError>
         requires { vars < 2 ^ 31 }
-        ensures { IfOk result (λ s. s ≡ record { vars = vars; slots = []; watches = [] }) }
+        ensures { IfOk result (λ s. s ≡ record { vars = vars; slots = []; pairs = []; apart = record { items = []; retired = 0 } }) }
     {
-        let heads = 2 * (vars as usize) + 2;
-        let node = Node {
-            next: usize::MAX,
-            other: no_lit(),
-        };
-        let nodes = vec![in alloc; node; heads]?;
+        let watches = Watches::new(alloc, 2 * (vars as usize) + 2)?;
         Ok(Store {
             vars,
-            heads,
-            nodes,
             slots: Vec::new(alloc),
+            watches,
+            free: Vec::new(alloc),
+            notes: Notes::new(alloc),
             extra: 0,
         })
     }
 
-    /// Keeps a nogood, forever or until it is dropped. After want of memory the store is as before.
-    pub fn add(&mut self, nogood: Nogood, forever: bool) -> Result<NogoodId, AllocError>
-        requires { All (λ k. IsVar self.old.vars k.var) nogood.lits }
-        ensures ok { OnOk result (self.new ≡ added self.old nogood forever) }
-        ensures id { IfOk result (λ id. id ≡ length self.old.slots) }
+    // A number that was given out and has no nogood now, if one is known.
+    fn free_number(&mut self) -> Option<u32>
+        ensures same { self.new ≡ self.old }
+        ensures free { IfSome result (λ id. (id < length self.old.slots) × (kept_at self.old.slots id ≡ None)) }
+    {
+        let id = self.free.pop()?;
+        if (id as usize) < self.slots.len() && self.slots[id as usize].is_none() {
+            Some(id)
+        } else {
+            None
+        }
+    }
+
+    // Keeps a nogood under a number that has none.
+    fn put(&mut self, id: u32, nogood: Nogood, kind: Kind) -> Result<(), AllocError>
+        requires small { All (λ k. IsVar self.old.vars k.var) nogood.lits }
+        requires within { id < length self.old.slots }
+        requires free { kept_at self.old.slots id ≡ None }
+        ensures ok { OnOk result (IsAdded self.old self.new id nogood kind) }
         ensures err { OnErr result (self.new ≡ self.old) }
     {
-        self.nodes.reserve(2)?;
-        let id = self.slots.len();
-        self.slots.push(Some(Kept {
+        let _len = self.watches.apart.len();
+        self.watches.apart.push(id)?;
+        self.watches.pairs.set(id as usize, None);
+        self.extra += extra_of(kind);
+        self.slots[id as usize] = Some(Kept {
             nogood,
-            forever,
+            kind,
             locked: false,
-        }))?;
-        push_numbers(&mut self.nodes);
-        if !forever {
-            self.extra += 1;
+        });
+        Ok(())
+    }
+
+    // Keeps a nogood under a number that wasn't given out.
+    fn push(&mut self, nogood: Nogood, kind: Kind) -> Result<NogoodId, AllocError>
+        requires { All (λ k. IsVar self.old.vars k.var) nogood.lits }
+        ensures ok { IfOk result (λ id. IsAdded self.old self.new id nogood kind) }
+        ensures err { OnErr result (self.new ≡ self.old) }
+    {
+        let id = self.slots.len();
+        if id >= u32::MAX as usize {
+            return Err(AllocError);
         }
+        let _len = self.watches.apart.len();
+        self.slots.reserve(1)?;
+        self.watches.push(id as u32)?;
+        self.extra += extra_of(kind);
+        self.slots.push_reserved(Some(Kept {
+            nogood,
+            kind,
+            locked: false,
+        }));
         Ok(id)
     }
 
-    /// How many kept nogoods weren't added forever. The literals of all that are kept are of the store's variables.
+    /// Keeps a nogood under a number that no kept one has. `levels` is the number of levels of its literals. After want of
+    /// memory the store is as before.
+    pub fn add(&mut self, nogood: Nogood, kind: Kind, levels: u32) -> Result<NogoodId, AllocError>
+        requires { All (λ k. IsVar self.old.vars k.var) nogood.lits }
+        ensures ok { IfOk result (λ id. IsAdded self.old self.new id nogood kind) }
+        ensures err { OnErr result (self.new ≡ self.old) }
+    {
+        match self.free_number() {
+            Some(id) => {
+                self.notes.put(id as usize, levels)?;
+                self.put(id, nogood, kind)?;
+                Ok(id as usize)
+            }
+            None => {
+                self.notes.put(self.slots.len(), levels)?;
+                self.push(nogood, kind)
+            }
+        }
+    }
+
+    /// How many kept nogoods aren't kept forever. The literals of all that are kept are of the store's variables.
     pub fn extra(&self) -> usize
         ensures extra { result ≡ count_by is_extra self.now.slots }
         ensures small { AreSmall self.now.vars self.now.slots }
@@ -123,42 +159,49 @@ impl Store {
         self.extra
     }
 
+    /// Says that a nogood was used, which keeps it longer.
+    pub fn used(&mut self, id: NogoodId)
+        ensures { self.new ≡ self.old }
+    {
+        self.notes.used(id);
+    }
+
     /// Implies what follows from the kept nogoods, until one is violated or none is unit.
-    pub fn propagate(&mut self, trail: &mut Trail) -> Propagated
+    ///
+    /// Want of memory is the one error. Whatever comes, nogoods stay, entries are only added, and the store fits the
+    /// trail, so that the call can be made again.
+    pub fn propagate(&mut self, trail: &mut Trail) -> Result<Propagated, AllocError>
         requires fits { Fits self.old trail.old }
         requires room { trail.old.vars ≤ trail.old.room }
-        ensures store { self.new ≡ record self.old { watches = self.new.watches } }
+        ensures vars { self.new.vars ≡ self.old.vars }
+        ensures slots { self.new.slots ≡ self.old.slots }
         ensures trail { trail.new ≡ record trail.old { entries = trail.new.entries; seen = trail.new.seen } }
         ensures extends { Extends self.old.slots trail.old.entries trail.new.entries }
         ensures fits { Fits self.new trail.new }
-        ensures propagates { Propagates self.old.vars self.old.slots trail.new.entries result }
+        ensures propagates { IfOk result (Propagates self.old.vars self.old.slots trail.new.entries) }
     {
-        propagate(
-            self.nodes.as_mut_slice(),
-            self.slots.as_slice(),
-            self.heads,
-            trail,
-        )
+        propagate(&mut self.watches, self.slots.as_slice(), trail)
     }
 
     /// Puts the retired nogoods back to those that are looked at whole. A trail is cleared only after this.
     pub fn recall(&mut self)
-        ensures store { self.new ≡ record self.old { watches = self.new.watches } }
-        ensures recalls { Recalls self.old self.new }
+        ensures recalled { self.new ≡ recalled self.old }
         ensures active { AreActive self.new }
     {
-        recall(self.nodes.as_mut_slice(), self.slots.as_slice(), self.heads);
+        self.watches.apart.recall();
     }
 
-    /// Drops one nogood, whether or not it was added forever or is locked.
+    /// Drops one nogood, however long it was to be kept and whether or not it is locked.
     pub fn remove(&mut self, id: NogoodId)
         requires { id < length self.old.slots }
         ensures { self.new ≡ removed self.old id }
     {
         self.extra -= remove_slot(self.slots.as_mut_slice(), id);
+        self.watches.pairs.set(id, None);
+        give_back(&mut self.free, id);
     }
 
-    /// Keeps the nogood from being dropped by `reduce`.
+    /// Keeps the nogood from being dropped.
     pub fn lock(&mut self, id: NogoodId)
         requires { id < length self.old.slots }
         ensures { self.new ≡ locked_at self.old id true }
@@ -166,7 +209,7 @@ impl Store {
         set_locked(self.slots.as_mut_slice(), id, true);
     }
 
-    /// Lets the nogood be dropped, unless it was added forever.
+    /// Lets the nogood be dropped, unless it is kept forever.
     pub fn unlock(&mut self, id: NogoodId)
         requires { id < length self.old.slots }
         ensures { self.new ≡ locked_at self.old id false }
@@ -174,12 +217,61 @@ impl Store {
         set_locked(self.slots.as_mut_slice(), id, false);
     }
 
-    /// Drops the older half, rounded down, of the nogoods that weren't added forever, aren't locked and have more than
-    /// two literals.
-    pub fn reduce(&mut self)
-        ensures { self.new ≡ record self.old { slots = reduced self.old.slots } }
+    // Drops a nogood, if it may be dropped.
+    fn drop_spare(&mut self, id: usize)
+        ensures loses { Loses self.old self.new }
+        ensures thins { Thins self.old.slots self.new.slots }
     {
-        self.extra -= reduce_slots(self.slots.as_mut_slice());
+        if id < self.slots.len() && is_spare_slot(&self.slots[id]) {
+            self.remove(id);
+        }
+    }
+
+    // Drops the i-th of those that were chosen, if it may be dropped.
+    fn drop_chosen(&mut self, i: usize)
+        ensures loses { Loses self.old self.new }
+        ensures thins { Thins self.old.slots self.new.slots }
+    {
+        if let Some(id) = self.notes.chosen(i) {
+            self.drop_spare(id as usize);
+        }
+    }
+
+    /// Drops nogoods, of which none is kept forever, is locked or has two literals or fewer. They are the less used
+    /// half, rounded down, of those that had more than two levels.
+    pub fn reduce(&mut self)
+        ensures loses { Loses self.old self.new }
+        ensures thins { Thins self.old.slots self.new.slots }
+    {
+        self.notes.offer_all(self.slots.as_slice());
+        let half = self.notes.half();
+        for i in 0..half {
+            self.drop_chosen(i);
+        }
+    }
+
+    // Drops a nogood, if a propagator gave it and it isn't locked.
+    fn drop_given_at(&mut self, id: usize)
+        requires { id < length self.old.slots }
+        ensures loses { Loses self.old self.new }
+        ensures count { length self.new.slots ≡ length self.old.slots }
+        ensures here { kept_at self.new.slots id ≡ unless_given (kept_at self.old.slots id) }
+        ensures others { (k : ℕ) → k ≢ id → kept_at self.new.slots k ≡ kept_at self.old.slots k }
+    {
+        if is_given_slot(&self.slots[id]) {
+            self.remove(id);
+        }
+    }
+
+    /// Drops all nogoods that propagators gave and that aren't locked.
+    pub fn drop_given(&mut self)
+        ensures loses { Loses self.old self.new }
+        ensures count { length self.new.slots ≡ length self.old.slots }
+        ensures each { (id : ℕ) → kept_at self.new.slots id ≡ unless_given (kept_at self.old.slots id) }
+    {
+        for id in 0..self.slots.len() {
+            self.drop_given_at(id);
+        }
     }
 }
 

@@ -1,121 +1,267 @@
-//! Visits to the numbers of a chain.
-ghost use Rattle.std.specs.Prelude.{◌≡◌, ◌≢◌, ◌<◌, ◌≤◌, ◌+◌, ◌*◌, ◌^◌, ◌∷◌, ℕ, List, Some, length, IsTrue, true};
+//! Visits to the places of a literal's list.
+//!
+//! A nogood stands in the lists of the two literals that it watches, each time beside another literal of it, the blocker.
+//! The literal whose list is walked holds. While the blocker is false nothing more is read. Else the nogood's other watch
+//! tells, or another literal that doesn't hold becomes its watch; where there is none, the other watch is false from now on,
+//! or the nogood is violated. A number whose nogood doesn't watch this literal any more is dropped from the list.
+ghost use Rattle.std.specs.Prelude.{◌≡◌, ◌≢◌, ℕ, ◌<◌, ◌≤◌, ◌+◌, Some, None, OnOk, IfOk, IfSome, IfNone, MatchOption, IsTrue, length, false, true};
+ghost use Rattle.std.specs.List.{All};
 ghost use Rattle.asp_vars.specs.Codes.{code_of};
-ghost use Rattle.asp_store.specs.Nodes.{other, partner};
-ghost use Rattle.asp_store.specs.Places.{HasPlace};
-ghost use Rattle.asp_vars.specs.Literals.{Literal, holds_in};
+ghost use Rattle.asp_vars.specs.Literals.{holds_in, has_literal};
 ghost use Rattle.asp_vars.specs.declared.nogood.Nogood.{Nogood};
 ghost use Rattle.asp_trail.specs.Entries.{assignment};
+ghost use Rattle.asp_store.specs.declared.watch.Pair.{Pair};
+ghost use Rattle.asp_store.specs.declared.watch.Watch.{Watch};
 ghost use Rattle.asp_store.specs.Keeping.{nogood_at};
-ghost use Rattle.asp_store.specs.Watching.{IsFalseBy};
-ghost use Rattle.std.specs.List.{All};
-ghost use Rattle.asp_store.specs.Visiting.{AreSmall, IsPair, Extends, FoundIn, AreWatched, VisitFound};
+ghost use Rattle.asp_store.specs.Lists.{size, place};
+ghost use Rattle.asp_store.specs.Looking.{AreTrueBeside};
+ghost use Rattle.asp_store.specs.Pairs.{pair_at, IsOneOf, IsBeside};
+ghost use Rattle.asp_store.specs.Fitting.{IsFalseBy, Extends};
+ghost use Rattle.asp_store.specs.Sounding.{IsSound};
+ghost use Rattle.asp_store.specs.Walking.{IsWalking, IsVisit, MayWatch, Steps};
 
-use crate::chains::move_to;
+use crate::front::{Front, Step};
 use crate::kept::Kept;
-use crate::looks::{Look, look_at};
-use crate::nodes::{Node, head};
+use crate::looks::{beside, falsify};
+use crate::pairs::Pairs;
+use crate::watch::{Pair, Watch, other_of};
+use crate::watches::Watches;
 use asp_trail::trail::Trail;
 use asp_vars::lit::Lit;
+use std::alloc::AllocError;
 
-// Whether the literal is false at level 0, where it stays so until the trail is cleared.
-fn is_false_for_good(lit: Lit, trail: &Trail) -> bool
-    requires { lit.var ≤ trail.now.vars }
-    ensures { IsTrue result → IsFalseBy trail.now.entries lit 0 }
+/// Whether the literal is seen at once to be false at this level or below.
+pub fn is_quick(lit: Lit, level: usize, is_top: bool, trail: &Trail) -> bool
+    requires small { lit.var ≤ trail.now.vars }
+    requires top { IsTrue is_top → All (λ e. e.level ≤ level) trail.now.entries }
+    ensures { IsTrue result → IsFalseBy trail.now.entries lit level }
 {
     let _len = trail.len();
     if !trail.assignment().holds(lit.complement()) {
         return false;
     }
-    trail.level_of(lit.var()) == 0
+    is_top || trail.level_of(lit.var()) <= level
 }
 
-// Looks at the nogood in a slot, one of whose watches is the other, the watch to be looked at being from. One that is
-// looked at whole is retired where the other watch is false for good.
-pub fn look_in(slots: &[Option<Kept>], id: usize, other: Lit, from: Lit, trail: &mut Trail) -> Look
-    requires id { id < length slots.now }
-    requires small { AreSmall trail.old.vars slots.now }
-    requires pair { (n : Nogood) → nogood_at slots.now id ≡ Some n → IsPair n other from }
-    requires other_var { other.var ≤ trail.old.vars }
-    requires from_var { from.var ≤ trail.old.vars }
-    requires from_true { 0 < from.var → holds_in (assignment trail.old.vars trail.old.entries) from ≡ true }
-    requires room { trail.old.vars ≤ trail.old.room }
-    ensures same { trail.new ≡ record trail.old { entries = trail.new.entries } }
-    ensures extends { Extends slots.now trail.old.entries trail.new.entries }
-    ensures found { FoundIn trail.old.vars slots.now id other from trail.old.entries trail.new.entries result }
+fn is_false_by(lit: Lit, front: &Front, trail: &Trail) -> bool
+    requires { lit.var ≤ trail.now.vars }
+    ensures { IsTrue result → IsFalseBy trail.now.entries lit front.now.level }
 {
-    let _len = trail.len();
-    if from.var() == 0 && is_false_for_good(other, trail) {
-        return Look::At(Lit::new(0, false));
-    }
-    match &slots[id] {
-        // To where none looks.
-        None => Look::At(Lit::new(0, false)),
-        Some(kept) => look_at(kept.nogood.lits.as_slice(), id, other, from, trail),
+    is_quick(lit, front.level, front.level == trail.level(), trail)
+}
+
+// The other watch of the nogood under a number, if the nogood watches this literal.
+fn watched_beside(pairs: &Pairs, id: u32, lit: Lit) -> Option<Lit>
+    ensures none { IfNone result ((p : Pair) → pair_at pairs.now id ≡ Some p → IsOneOf p lit → ⊥) }
+    ensures some { IfSome result (λ other. (p : Pair) × (pair_at pairs.now id ≡ Some p) × IsBeside p lit other) }
+{
+    match pairs.pair(id as usize) {
+        None => None,
+        Some(pair) => other_of(pair, lit),
     }
 }
 
-/// What a visit to one number of a chain found.
-pub enum Visit {
-    Violated,
-    Stays,
-    Moved,
+// The literals of the nogood under a number, if it has one.
+pub fn lits_at(slots: &[Option<Kept>], id: u32) -> Option<&[Lit]>
+    ensures { MatchOption result (nogood_at slots.now id ≡ None) (λ l. (n : Nogood) × (nogood_at slots.now id ≡ Some n) × (n.lits ≡ l.now)) }
+{
+    if id as usize >= slots.len() {
+        return None;
+    }
+    match &slots[id as usize] {
+        None => None,
+        Some(kept) => Some(kept.nogood.lits.as_slice()),
+    }
 }
 
-/// Looks at the nogood of u, which follows z in the chain of from, and takes u to another chain where it is to watch another literal.
-pub fn visit_at(
-    nodes: &mut [Node],
+// The nogood is blocked by its other watch, which is false.
+fn block(
+    watches: &mut Watches,
     slots: &[Option<Kept>],
-    heads: usize,
-    z: usize,
-    u: usize,
-    from: Lit,
+    i: usize,
+    id: u32,
+    other: Lit,
+    front: &Front,
+    trail: &Trail,
+)
+    requires visit { IsVisit slots.now watches.old trail.now front.now i id other }
+    requires is_false { IsFalseBy trail.now.entries other front.now.level }
+    ensures { Steps slots.now watches.old watches.new trail.now front.now i Step.Stays }
+{
+    let _len = trail.len();
+    watches
+        .lists
+        .set_watch(front.lit, i, Watch { blocker: other, id });
+}
+
+// The place goes, as the nogood doesn't watch the literal.
+fn leave(
+    watches: &mut Watches,
+    slots: &[Option<Kept>],
+    i: usize,
+    id: u32,
+    front: &Front,
+    trail: &Trail,
+)
+    requires walking { IsWalking slots.now watches.old trail.now front.now i }
+    requires at { (w : Watch) × (place watches.old.lists (code_of front.now.lit) i ≡ Some w) × (w.id ≡ id) }
+    requires gone { (n : Nogood) (p : Pair) → nogood_at slots.now id ≡ Some n → pair_at watches.old.pairs id ≡ Some p → IsOneOf p front.now.lit → ⊥ }
+    ensures { Steps slots.now watches.old watches.new trail.now front.now i Step.Goes }
+{
+    let _len = trail.len();
+    watches.lists.take(front.lit, i);
+}
+
+// Another literal becomes the watch in place of the front's.
+fn move_watch(
+    watches: &mut Watches,
+    slots: &[Option<Kept>],
+    i: usize,
+    id: u32,
+    other: Lit,
+    lit: Lit,
+    front: &Front,
+    trail: &Trail,
+) -> Result<(), AllocError>
+    requires visit { IsVisit slots.now watches.old trail.now front.now i id other }
+    requires may { MayWatch slots.now trail.now id other lit }
+    ensures sound { IsSound slots.now watches.new trail.now }
+    ensures steps { OnOk result (Steps slots.now watches.old watches.new trail.now front.now i Step.Goes) }
+{
+    let _len = trail.len();
+    watches.lists.push(lit, Watch { blocker: other, id })?;
+    watches.pairs.set(
+        id as usize,
+        Some(Pair {
+            first: lit,
+            second: other,
+        }),
+    );
+    leave(watches, slots, i, id, front, trail);
+    Ok(())
+}
+
+// No literal watches the nogood in place of the front's.
+fn set_apart(
+    watches: &mut Watches,
+    slots: &[Option<Kept>],
+    i: usize,
+    id: u32,
+    other: Lit,
+    front: &Front,
+    trail: &Trail,
+) -> Result<(), AllocError>
+    requires visit { IsVisit slots.now watches.old trail.now front.now i id other }
+    requires is_false { (b : ℕ) × IsFalseBy trail.now.entries other b }
+    ensures sound { IsSound slots.now watches.new trail.now }
+    ensures steps { OnOk result (Steps slots.now watches.old watches.new trail.now front.now i Step.Goes) }
+{
+    let _len = watches.apart.len();
+    watches.apart.push(id)?;
+    watches.pairs.set(id as usize, None);
+    leave(watches, slots, i, id, front, trail);
+    Ok(())
+}
+
+// All literals but the other watch hold.
+fn visit_last(
+    watches: &mut Watches,
+    slots: &[Option<Kept>],
+    lits: &[Lit],
+    i: usize,
+    id: u32,
+    other: Lit,
+    front: &Front,
     trail: &mut Trail,
-) -> Visit
-    requires heads_is { heads ≡ 2 * trail.old.vars + 2 }
-    requires total { length nodes.old ≡ heads + 2 * length slots.now }
-    requires small_len { length nodes.old < 2 ^ 63 }
-    requires u { u < length nodes.old }
-    requires place { (rest : List ℕ) × HasPlace heads nodes.old (code_of from) z (u ∷ rest) }
-    requires at { other nodes.old (partner u) ≡ from }
-    requires small { AreSmall trail.old.vars slots.now }
-    requires others { (y : ℕ) → (other nodes.old y).var ≤ trail.old.vars }
-    requires watched { AreWatched heads nodes.old slots.now trail.old.entries trail.old.seen }
-    requires from_var { from.var ≤ trail.old.vars }
-    requires from_true { 0 < from.var → holds_in (assignment trail.old.vars trail.old.entries) from ≡ true }
+) -> Result<Step, AllocError>
+    requires visit { IsVisit slots.now watches.old trail.old front.now i id other }
+    requires kept { (n : Nogood) × (nogood_at slots.now id ≡ Some n) × (n.lits ≡ lits.now) }
+    requires others { AreTrueBeside trail.old.vars trail.old.entries lits.now other }
     requires room { trail.old.vars ≤ trail.old.room }
     ensures same { trail.new ≡ record trail.old { entries = trail.new.entries } }
     ensures extends { Extends slots.now trail.old.entries trail.new.entries }
-    ensures watched { AreWatched heads nodes.new slots.now trail.new.entries trail.new.seen }
-    ensures others { (y : ℕ) → (other nodes.new y).var ≤ trail.old.vars }
-    ensures found { VisitFound trail.old.vars heads slots.now nodes.old nodes.new (code_of from) z u from trail.old.entries trail.new.entries result }
+    ensures sound { IsSound slots.now watches.new trail.new }
+    ensures steps { IfOk result (Steps slots.now watches.old watches.new trail.new front.now i) }
 {
     let _len = trail.len();
-    let beside = nodes[u].other;
-    match look_in(slots, (u - heads) / 2, beside, from, trail) {
-        Look::Violated => Visit::Violated,
-        Look::At(lit) => {
-            if lit == from {
-                Visit::Stays
-            } else {
-                move_to(nodes, heads, head(from), z, u, lit);
-                Visit::Moved
+    if trail.assignment().holds(other) {
+        return Ok(Step::Violated(id as usize));
+    }
+    let level = falsify(lits, other, id as usize, trail);
+    let _new_len = trail.len();
+    if level <= front.level {
+        block(watches, slots, i, id, other, front, trail);
+        return Ok(Step::Stays);
+    }
+    set_apart(watches, slots, i, id, other, front, trail)?;
+    Ok(Step::Goes)
+}
+
+// Looks at the nogood, whose other watch isn't seen to be false.
+fn visit(
+    watches: &mut Watches,
+    slots: &[Option<Kept>],
+    i: usize,
+    id: u32,
+    other: Lit,
+    front: &Front,
+    trail: &mut Trail,
+) -> Result<Step, AllocError>
+    requires visit { IsVisit slots.now watches.old trail.old front.now i id other }
+    requires room { trail.old.vars ≤ trail.old.room }
+    ensures same { trail.new ≡ record trail.old { entries = trail.new.entries } }
+    ensures extends { Extends slots.now trail.old.entries trail.new.entries }
+    ensures sound { IsSound slots.now watches.new trail.new }
+    ensures steps { IfOk result (Steps slots.now watches.old watches.new trail.new front.now i) }
+{
+    let _len = trail.len();
+    match lits_at(slots, id) {
+        None => {
+            leave(watches, slots, i, id, front, trail);
+            Ok(Step::Goes)
+        }
+        Some(lits) => match beside(lits, other, trail.assignment()) {
+            Some(lit) => {
+                move_watch(watches, slots, i, id, other, lit, front, trail)?;
+                Ok(Step::Goes)
             }
+            None => visit_last(watches, slots, lits, i, id, other, front, trail),
+        },
+    }
+}
+
+/// Visits the i-th place of the front's list.
+pub fn visit_place(
+    watches: &mut Watches,
+    slots: &[Option<Kept>],
+    i: usize,
+    front: &Front,
+    trail: &mut Trail,
+) -> Result<Step, AllocError>
+    requires walking { IsWalking slots.now watches.old trail.old front.now i }
+    requires within { i < size watches.old.lists (code_of front.now.lit) }
+    requires room { trail.old.vars ≤ trail.old.room }
+    ensures same { trail.new ≡ record trail.old { entries = trail.new.entries } }
+    ensures extends { Extends slots.now trail.old.entries trail.new.entries }
+    ensures sound { IsSound slots.now watches.new trail.new }
+    ensures steps { IfOk result (Steps slots.now watches.old watches.new trail.new front.now i) }
+{
+    let watch = watches.lists.watch(front.lit, i);
+    if is_false_by(watch.blocker, front, trail) {
+        return Ok(Step::Stays);
+    }
+    match watched_beside(&watches.pairs, watch.id, front.lit) {
+        None => {
+            leave(watches, slots, i, watch.id, front, trail);
+            Ok(Step::Goes)
+        }
+        Some(other) => {
+            let is_blocked = is_false_by(other, front, trail);
+            if is_blocked {
+                block(watches, slots, i, watch.id, other, front, trail);
+                return Ok(Step::Stays);
+            }
+            visit(watches, slots, i, watch.id, other, front, trail)
         }
     }
-}
-
-/// Whether the other watch of u is seen at once to be false at this level or below. Reads no nogood.
-pub fn is_quick(nodes: &[Node], u: usize, level: usize, is_top: bool, trail: &Trail) -> bool
-    requires u { u < length nodes.now }
-    requires others { (y : ℕ) → (other nodes.now y).var ≤ trail.now.vars }
-    requires top { IsTrue is_top → All (λ e. e.level ≤ level) trail.now.entries }
-    ensures { IsTrue result → IsFalseBy trail.now.entries (other nodes.now u) level }
-{
-    let _len = trail.len();
-    let beside = nodes[u].other;
-    if !trail.assignment().holds(beside.complement()) {
-        return false;
-    }
-    is_top || trail.level_of(beside.var()) <= level
 }

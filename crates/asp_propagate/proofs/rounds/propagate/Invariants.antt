@@ -3,8 +3,8 @@ use Rattle.asp_trail.specs.Entries.{assignment}
 use Rattle.asp_propagate.specs.Propagating.{IsFollowed, GoesOn, AreCalm}
 use Rattle.asp_propagate.proofs.rounds.propagate.Given as goal
 
-abbrev pub invariant-loop-propagator : goal.invariant-loop-propagator
-invariant-loop-propagator g l = record {
+abbrev pub invariant-asked : goal.invariant-asked
+invariant-asked g l = record {
   followed : IsFollowed (g.P.Propagator.told l.propagator) l.store l.trail l.told;
   goes : GoesOn (g.P.Propagator.gives (g.P.Propagator.told l.fn.propagator).program (g.P.Propagator.bound l.fn.propagator)) (g.P.Propagator.told l.fn.propagator) (g.P.Propagator.told l.propagator)
       (g.P.Propagator.bound l.fn.propagator) (g.P.Propagator.bound l.propagator) l.fn.store.slots l.store.slots l.fn.trail.entries l.trail.entries;
@@ -12,5 +12,5 @@ invariant-loop-propagator g l = record {
   calm : AreCalm l.store.slots (assignment l.trail.vars l.trail.entries);
 }
 
-abbrev pub decreases-loop-propagator : goal.decreases-loop-propagator
-decreases-loop-propagator g l = l.trail.vars + 1 - length l.trail.entries
+abbrev pub decreases-asked : goal.decreases-asked
+decreases-asked g l = l.trail.vars + 1 - length l.trail.entries

@@ -1,7 +1,6 @@
 use Rattle.std.proofs.Common.{sym, ap, ◌∙◌, subst, refl}
 use Rattle.asp_trail.specs.Trails.{Trailed}
 use Rattle.asp_store.specs.declared.propagation.Propagated.{Propagated}
-use Rattle.asp_store.specs.Storing.{Stored}
 use Rattle.asp_store.specs.Walking.{Propagates}
 use Rattle.asp_propagate.specs.Propagating.{WasTold}
 use Rattle.asp_propagate.proofs.PropagateLaws.{followed_settled, told_settled, goes_settled, calm_settled, violated_settled}
@@ -9,51 +8,67 @@ use Rattle.asp_propagate.proofs.rounds.settle.Goals as goal
 
 pub tell-requires : goal.tell-requires
 tell-requires g c =
-    let p = c.propagate-found in
+    let p = c.propagate in
     told_settled (g.P.Propagator.told c.args.propagator.now) c.args.trail.now p.new.trail c.args.told.now c.args.store.now.slots p.ensures.trail p.ensures.extends c.requires.told
 
 pub returns-in-Violated-clause-followed : goal.returns-in-Violated-clause-followed
 returns-in-Violated-clause-followed g c =
-    let p = c.propagate-found in
+    let p = c.propagate in
     let t = g.P.Propagator.told c.args.propagator.now in
     let n = c.args.told.now in
-    followed_settled t t c.args.store.now p.new.self c.args.trail.now p.new.trail n n (ap (λ (x : Stored). x.slots) p.ensures.store) p.ensures.trail p.ensures.fits
+    followed_settled t t c.args.store.now p.new.self c.args.trail.now p.new.trail n n p.ensures.slots p.ensures.trail p.ensures.fits
     (told_settled t c.args.trail.now p.new.trail n c.args.store.now.slots p.ensures.trail p.ensures.extends c.requires.told) c.requires
 
 pub returns-in-Violated-clause-goes : goal.returns-in-Violated-clause-goes
 returns-in-Violated-clause-goes g c =
-    let p = c.propagate-found in
+    let p = c.propagate in
     let t = g.P.Propagator.told c.args.propagator.now in
     let b = g.P.Propagator.bound c.args.propagator.now in
     goes_settled (g.P.Propagator.gives t.program b) t t b b c.args.store.now p.new.self c.args.trail.now.entries p.new.trail.entries refl refl
-    (ap (λ (x : Stored). x.slots) p.ensures.store) p.ensures.extends
+    p.ensures.slots p.ensures.extends
 
 pub returns-in-Violated-clause-violated : goal.returns-in-Violated-clause-violated
 returns-in-Violated-clause-violated g c =
-    let p = c.propagate-found in
+    let p = c.propagate in
     violated_settled c.args.store.now.vars p.new.trail.vars c.args.store.now.slots p.new.self.slots p.new.trail.entries c.in-Violated.id
-    (ap (λ (x : Trailed). x.vars) p.ensures.trail ∙ c.requires.fits.same_vars) (ap (λ (x : Stored). x.slots) p.ensures.store)
-    (subst (λ (r : Propagated). Propagates c.args.store.now.vars c.args.store.now.slots p.new.trail.entries r) c.in-Violated.is p.ensures.propagates)
+    (ap (λ (x : Trailed). x.vars) p.ensures.trail ∙ c.requires.fits.same_vars) p.ensures.slots
+    (subst (λ (r : Propagated). Propagates c.args.store.now.vars c.args.store.now.slots p.new.trail.entries r) c.in-Violated.is c.in_ok-found.ensures.propagates)
 
 pub returns-in-Quiet-clause-followed : goal.returns-in-Quiet-clause-followed
 returns-in-Quiet-clause-followed g c =
-    let p = c.propagate-found in
+    let p = c.propagate in
     let u = g.P.Propagator.told c.tell.new.propagator in
     followed_settled (g.P.Propagator.told c.args.propagator.now) u c.args.store.now p.new.self c.args.trail.now p.new.trail c.args.told.now c.len.result
-    (ap (λ (x : Stored). x.slots) p.ensures.store) p.ensures.trail p.ensures.fits
+    p.ensures.slots p.ensures.trail p.ensures.fits
     (subst (WasTold u p.new.trail) (sym c.len.ensures.len) c.tell.ensures.told) c.requires
 
 pub returns-in-Quiet-clause-goes : goal.returns-in-Quiet-clause-goes
 returns-in-Quiet-clause-goes g c =
-    let p = c.propagate-found in
+    let p = c.propagate in
     let t = g.P.Propagator.told c.args.propagator.now in
     let b = g.P.Propagator.bound c.args.propagator.now in
     goes_settled (g.P.Propagator.gives t.program b) t (g.P.Propagator.told c.tell.new.propagator) b (g.P.Propagator.bound c.tell.new.propagator) c.args.store.now p.new.self
-    c.args.trail.now.entries p.new.trail.entries c.tell.ensures.program c.tell.ensures.bound (ap (λ (x : Stored). x.slots) p.ensures.store) p.ensures.extends
+    c.args.trail.now.entries p.new.trail.entries c.tell.ensures.program c.tell.ensures.bound p.ensures.slots p.ensures.extends
 
 pub returns-in-Quiet-clause-calm : goal.returns-in-Quiet-clause-calm
 returns-in-Quiet-clause-calm g c =
-    let p = c.propagate-found in
+    let p = c.propagate in
     calm_settled c.args.store.now.vars p.new.trail.vars c.args.store.now.slots p.new.self.slots p.new.trail.entries
-    (ap (λ (x : Trailed). x.vars) p.ensures.trail ∙ c.requires.fits.same_vars) (ap (λ (x : Stored). x.slots) p.ensures.store)
-    (subst (λ (r : Propagated). Propagates c.args.store.now.vars c.args.store.now.slots p.new.trail.entries r) c.in-Quiet.is p.ensures.propagates)
+    (ap (λ (x : Trailed). x.vars) p.ensures.trail ∙ c.requires.fits.same_vars) p.ensures.slots
+    (subst (λ (r : Propagated). Propagates c.args.store.now.vars c.args.store.now.slots p.new.trail.entries r) c.in-Quiet.is c.in_ok-found.ensures.propagates)
+
+pub returns-in_err-found-clause-followed : goal.returns-in_err-found-clause-followed
+returns-in_err-found-clause-followed g c =
+    let p = c.propagate in
+    let t = g.P.Propagator.told c.args.propagator.now in
+    let n = c.args.told.now in
+    followed_settled t t c.args.store.now p.new.self c.args.trail.now p.new.trail n n p.ensures.slots p.ensures.trail p.ensures.fits
+    (told_settled t c.args.trail.now p.new.trail n c.args.store.now.slots p.ensures.trail p.ensures.extends c.requires.told) c.requires
+
+pub returns-in_err-found-clause-goes : goal.returns-in_err-found-clause-goes
+returns-in_err-found-clause-goes g c =
+    let p = c.propagate in
+    let t = g.P.Propagator.told c.args.propagator.now in
+    let b = g.P.Propagator.bound c.args.propagator.now in
+    goes_settled (g.P.Propagator.gives t.program b) t t b b c.args.store.now p.new.self c.args.trail.now.entries p.new.trail.entries refl refl
+    p.ensures.slots p.ensures.extends

@@ -1,25 +1,18 @@
-use Rattle.std.proofs.Common.{◌≡◌, List, Option, Bool, true, false, inr, ap, subst, arith}
-use Rattle.asp_vars.specs.Literals.{Literal, holds_in, literal_eq}
-use Rattle.asp_trail.specs.Trails.{IsVar}
-use Rattle.asp_store.proofs.LookLaws.{watches_open, all_has}
+use Rattle.std.proofs.Common.{◌≡◌, List, Option, Bool, true, false, refl, arith, subst}
+use Rattle.asp_vars.specs.Literals.{holds_in}
+use Rattle.asp_trail.specs.Entries.{assignment}
+use Rattle.asp_store.proofs.LookLaws.{all_has, list_all_from}
 use Rattle.asp_store.proofs.looks.look_at.Goals as goal
 
-pub beside-requires : goal.beside-requires
-beside-requires c = λ k d h. omega (arith, c.requires.small k d h, c.assignment.ensures.len)
+pub first_open-requires : goal.first_open-requires
+first_open-requires c = λ k d h. omega (arith, c.requires.small k d h, c.assignment.ensures.len)
 
-pub returns-in-Some-clause-found : goal.returns-in-Some-clause-found
-returns-in-Some-clause-found c =
-    let k : Literal = c.in-Some.k in
-    let real : IsVar c.args.trail.now.vars k.var = all_has (λ l. IsVar c.args.trail.now.vars l.var) c.args.lits.now k c.requires.small c.in-Some.ensures.some.0 in
-    let no = subst (λ (a : List (Option Bool)). holds_in a k ≡ false) c.assignment.ensures.values c.in-Some.ensures.some.2 in
-    record {
-      has = inr (c.in-Some.ensures.some.0, c.in-Some.ensures.some.1);
-      listed = λ z. absurd (omega (arith, ap (λ (l : Literal). l.var) z, real.0));
-      retired = λ z. absurd (omega (arith, ap (λ (l : Literal). l.var) z, real.0));
-      watches = watches_open c.args.trail.now.vars c.args.trail.now.entries k c.args.other c.len-len.ensures.ordered no;
-    }
+pub returns-in-None-clause-found : goal.returns-in-None-clause-found
+returns-in-None-clause-found c = (
+  refl,
+  list_all_from (holds_in (assignment c.args.trail.now.vars c.args.trail.now.entries)) c.args.lits.now (λ k h. subst (λ (a : List (Option Bool)). holds_in a k ≡ true) c.assignment.ensures.values
+      (all_has (λ l. holds_in c.assignment.result.now l ≡ true) c.args.lits.now k c.in-None.ensures.none h)),
+)
 
-pub look_at_last-requires-clause-others : goal.look_at_last-requires-clause-others
-look_at_last-requires-clause-others c = λ k h ne.
-    subst (λ (a : List (Option Bool)). holds_in a k ≡ true) c.assignment.ensures.values
-    (all_has (λ l. literal_eq l c.args.other ≡ false → holds_in c.assignment.result.now l ≡ true) c.args.lits.now k c.in-None.ensures.none h ne)
+pub look_beside-requires-clause-not_true : goal.look_beside-requires-clause-not_true
+look_beside-requires-clause-not_true c = subst (λ (a : List (Option Bool)). holds_in a c.in-Some.first ≡ false) c.assignment.ensures.values c.in-Some.ensures.some.1

@@ -1,43 +1,76 @@
-use Rattle.std.proofs.Common.{◌≡◌, ℕ, sym, ap, subst, arith, ◌∙◌}
-use Rattle.asp_trail.specs.Trails.{Trailed, IsOrdered}
-use Rattle.asp_store.specs.Walking.{IsSound}
-use Rattle.asp_store.proofs.VisitLaws.{extends_more}
-use Rattle.asp_store.proofs.WalkLaws.{settled_done, all_calm}
+use Rattle.std.proofs.Common.{◌≡◌, ℕ, ◌+◌, Option, None, Some, length, refl, sym, ap, ◌∙◌, subst, arith}
+use Rattle.std.specs.Option.{IfNone, IfSome}
+use Rattle.asp_trail.specs.Trails.{Trailed}
+use Rattle.asp_store.specs.Sounding.{AreSettled}
+use Rattle.asp_store.specs.Walking.{IsViolated}
+use Rattle.asp_store.proofs.GrowLaws.{extends_more}
+use Rattle.asp_store.proofs.CalmLaws.{all_calm}
 use Rattle.asp_store.proofs.propagation.propagate.Goals as goal
 
-pub loop-nodes-init : goal.loop-nodes-init
-loop-nodes-init c =
-    let t = c.args.trail.now in
-    let seen : c.walk.new.trail.seen ≡ t.seen = ap (λ (s : Trailed). s.seen) c.walk.ensures.same in
-    record {
-      sound = subst (λ (k : ℕ). IsSound t.vars c.args.heads c.args.slots.now c.walk.new.nodes c.walk.new.trail.entries k) (sym seen) c.walk.ensures.sound;
-      settled = settled_done c.args.heads c.walk.new.nodes c.args.slots.now c.walk.new.trail.entries c.new.result c.new.ensures c.in_default.ensures.walked.0;
-      same = c.walk.ensures.same ∙ ap (λ (k : ℕ). let r : Trailed = record t { entries = c.walk.new.trail.entries; seen = k } in r) (sym seen);
-      extends = c.walk.ensures.extends;
-    }
+pub returns-in_err-pending-clause-same : goal.returns-in_err-pending-clause-same
+returns-in_err-pending-clause-same c = c.look_at_pending.ensures.same ∙ ap (λ (k : ℕ). let r : Trailed = record c.args.trail.now { entries = c.look_at_pending.new.trail.entries; seen = k } in r) (sym (ap (λ (s : Trailed). s.seen) c.look_at_pending.ensures.same))
+
+pub returns-in-Some-clause-same : goal.returns-in-Some-clause-same
+returns-in-Some-clause-same c = c.look_at_pending.ensures.same ∙ ap (λ (k : ℕ). let r : Trailed = record c.args.trail.now { entries = c.look_at_pending.new.trail.entries; seen = k } in r) (sym (ap (λ (s : Trailed). s.seen) c.look_at_pending.ensures.same))
+
+pub returns-in-Some-clause-propagates : goal.returns-in-Some-clause-propagates
+returns-in-Some-clause-propagates c = subst (λ (o : Option ℕ). IfSome o (IsViolated c.look_at_pending.new.trail.vars c.args.slots.now c.look_at_pending.new.trail.entries)) c.in-Some.is c.in_ok-pending.ensures.violated
+
+pub entries-init : goal.entries-init
+entries-init c = record {
+  sound = c.look_at_pending.ensures.sound;
+  settled = subst (λ (o : Option ℕ). IfNone o (AreSettled c.args.slots.now c.look_at_pending.new.watches.pairs c.look_at_pending.new.trail.entries)) c.in-None.is c.in_ok-pending.ensures.settled;
+  same = c.look_at_pending.ensures.same ∙ ap (λ (k : ℕ). let r : Trailed = record c.args.trail.now { entries = c.look_at_pending.new.trail.entries; seen = k } in r) (sym (ap (λ (s : Trailed). s.seen) c.look_at_pending.ensures.same));
+  extends = c.look_at_pending.ensures.extends;
+}
+
+pub propagate_next-requires-clause-sound : goal.propagate_next-requires-clause-sound
+propagate_next-requires-clause-sound c = c.entries.invariant.sound
+
+pub propagate_next-requires-clause-settled : goal.propagate_next-requires-clause-settled
+propagate_next-requires-clause-settled c = c.entries.invariant.settled
+
+pub propagate_next-requires-clause-more : goal.propagate_next-requires-clause-more
+propagate_next-requires-clause-more c = omega (arith, c.entries-test.true, c.len.ensures.len, c.seen.ensures.seen)
+
+pub propagate_next-requires-clause-room : goal.propagate_next-requires-clause-room
+propagate_next-requires-clause-room c = omega (arith, c.requires.room, ap (λ (s : Trailed). s.vars) c.entries.invariant.same, ap (λ (s : Trailed). s.room) c.entries.invariant.same)
+
+pub returns-in_err-found-clause-same : goal.returns-in_err-found-clause-same
+returns-in_err-found-clause-same c = c.propagate_next.ensures.same ∙ ap (λ (s : Trailed). let r : Trailed = record s { entries = c.propagate_next.new.trail.entries; seen = c.propagate_next.new.trail.seen } in r) c.entries.invariant.same
+
+pub returns-in_err-found-clause-extends : goal.returns-in_err-found-clause-extends
+returns-in_err-found-clause-extends c = extends_more c.args.slots.now c.args.trail.now.entries c.entries.trail.entries c.propagate_next.new.trail.entries c.entries.invariant.extends c.propagate_next.ensures.extends
+
+pub returns-in_err-found-clause-sound : goal.returns-in_err-found-clause-sound
+returns-in_err-found-clause-sound c = c.propagate_next.ensures.sound
+
+pub returns-in-Some-found-clause-same : goal.returns-in-Some-found-clause-same
+returns-in-Some-found-clause-same c = c.propagate_next.ensures.same ∙ ap (λ (s : Trailed). let r : Trailed = record s { entries = c.propagate_next.new.trail.entries; seen = c.propagate_next.new.trail.seen } in r) c.entries.invariant.same
+
+pub returns-in-Some-found-clause-extends : goal.returns-in-Some-found-clause-extends
+returns-in-Some-found-clause-extends c = extends_more c.args.slots.now c.args.trail.now.entries c.entries.trail.entries c.propagate_next.new.trail.entries c.entries.invariant.extends c.propagate_next.ensures.extends
+
+pub returns-in-Some-found-clause-sound : goal.returns-in-Some-found-clause-sound
+returns-in-Some-found-clause-sound c = c.propagate_next.ensures.sound
+
+pub returns-in-Some-found-clause-propagates : goal.returns-in-Some-found-clause-propagates
+returns-in-Some-found-clause-propagates c = subst (λ (o : Option ℕ). IfSome o (IsViolated c.propagate_next.new.trail.vars c.args.slots.now c.propagate_next.new.trail.entries)) c.in-Some-found.is c.in_ok-found.ensures.violated
+
+pub entries-preserved : goal.entries-preserved
+entries-preserved c = record {
+  sound = c.propagate_next.ensures.sound;
+  settled = subst (λ (o : Option ℕ). IfNone o (AreSettled c.args.slots.now c.propagate_next.new.watches.pairs c.propagate_next.new.trail.entries)) c.in-None-found.is c.in_ok-found.ensures.settled;
+  same = c.propagate_next.ensures.same ∙ ap (λ (s : Trailed). let r : Trailed = record s { entries = c.propagate_next.new.trail.entries; seen = c.propagate_next.new.trail.seen } in r) c.entries.invariant.same;
+  extends = extends_more c.args.slots.now c.args.trail.now.entries c.entries.trail.entries c.propagate_next.new.trail.entries c.entries.invariant.extends c.propagate_next.ensures.extends;
+}
+
+pub entries-smaller : goal.entries-smaller
+entries-smaller c =
+    let s = subst (λ (o : Option ℕ). IfNone o (c.propagate_next.new.trail.seen ≡ c.entries.trail.seen + 1)) c.in-None-found.is c.in_ok-found.ensures.seen in
+    omega (arith, s, c.entries-test.true, c.len.ensures.len, c.seen.ensures.seen, c.propagate_next.ensures.few, ap (λ (s : Trailed). s.vars) c.propagate_next.ensures.same)
 
 pub returns-clause-propagates : goal.returns-clause-propagates
 returns-clause-propagates c =
-    let t = c.args.trail.now in
-    let e = c.loop-nodes.trail in
-    let vars : e.vars ≡ t.vars = ap (λ (s : Trailed). s.vars) c.loop-nodes.invariant.same in
-    all_calm t.vars c.args.heads c.args.slots.now c.loop-nodes.nodes e.entries e.seen (subst (λ (n : ℕ). IsOrdered n e.entries) vars c.len.ensures.ordered)
-    (omega (arith, c.loop-nodes-test.false, c.len.ensures.len, c.seen.ensures.seen)) c.seen.ensures.within c.loop-nodes.invariant.sound c.loop-nodes.invariant.settled
-
-pub loop-nodes-preserved : goal.loop-nodes-preserved
-loop-nodes-preserved c =
-    let t = c.args.trail.now in
-    let m = c.loop-nodes.trail in
-    let n = c.propagate_next.new.trail in
-    let e = c.in_default-propagate_next.ensures in
-    let vars : m.vars ≡ t.vars = ap (λ (s : Trailed). s.vars) c.loop-nodes.invariant.same in
-    record {
-      sound = subst (λ (v : ℕ). IsSound v c.args.heads c.args.slots.now c.propagate_next.new.nodes n.entries n.seen) vars e.sound;
-      settled = e.settled;
-      same = e.same ∙ ap (λ (s : Trailed). let r : Trailed = record s { entries = n.entries; seen = n.seen } in r) c.loop-nodes.invariant.same;
-      extends = extends_more c.args.slots.now t.entries m.entries n.entries c.loop-nodes.invariant.extends e.extends;
-    }
-
-pub returns-in-Some-propagate_next-clause-extends : goal.returns-in-Some-propagate_next-clause-extends
-returns-in-Some-propagate_next-clause-extends c =
-    extends_more c.args.slots.now c.args.trail.now.entries c.loop-nodes.trail.entries c.propagate_next.new.trail.entries c.loop-nodes.invariant.extends c.propagate_next.ensures.extends
+    all_calm c.args.slots.now c.entries.watches c.entries.trail c.len.ensures.ordered (omega (arith, c.entries-test.false, c.len.ensures.len, c.seen.ensures.seen, c.seen.ensures.within))
+    c.entries.invariant.sound c.entries.invariant.settled

@@ -1,4 +1,4 @@
-use Rattle.std.proofs.Common.{List, [], Option, sym, ap, ◌∙◌, subst, arith}
+use Rattle.std.proofs.Common.{List, [], Option, sym, ap, ◌∙◌, subst}
 use Rattle.asp_store.specs.declared.kept.Kept.{Kept}
 use Rattle.asp_store.specs.Storing.{Stored}
 use Rattle.asp_trail.specs.Trails.{Trailed}
@@ -12,8 +12,8 @@ invariant_of-self g c =
     let i = c.self.inside in
     let q = c.recall.ensures in
     subst (λ (x : Trailed). IsFollowed (g.P.Propagator.told c.untell.new.propagator) c.recall.new.self x 0) (sym c.clear.ensures)
-    (followed_clear (g.P.Propagator.told i.propagator) (g.P.Propagator.told c.untell.new.propagator) i.store c.recall.new.self i.trail i.told c.len-len.ensures.ordered
-    (omega (arith, c.len-len.ensures.seen, c.len-len.ensures.len)) q.store q.recalls q.active c.untell.ensures.told c.self.invariant)
+    (followed_clear (g.P.Propagator.told i.propagator) (g.P.Propagator.told c.untell.new.propagator) i.store c.recall.new.self i.trail i.told q.recalled q.active
+    c.untell.ensures.told c.self.invariant)
 
 pub returns : goal.returns
 returns g c =
@@ -21,7 +21,7 @@ returns g c =
     let p = (g.P.Propagator.told c.untell.new.propagator).program in
     let b = g.P.Propagator.bound c.untell.new.propagator in
     let with_slots : List (Option Kept) → Propagating = λ xs. record { program = p; entries = c.clear.new.self.entries; slots = xs; bound = b } in
-    ap with_slots (ap (λ (x : Stored). x.slots) c.recall.ensures.store)
+    ap with_slots (ap (λ (x : Stored). x.slots) c.recall.ensures.recalled)
     ∙ (same_view p (g.P.Propagator.told i.propagator).program c.clear.new.self.entries [] i.store.slots b (g.P.Propagator.bound i.propagator) c.untell.ensures.program
     (ap (λ (x : Trailed). x.entries) c.clear.ensures) c.untell.ensures.bound
     ∙ ap (λ (x : Propagating). record x { entries = [] }) c.self.view_is)

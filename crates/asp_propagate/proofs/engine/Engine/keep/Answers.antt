@@ -1,11 +1,11 @@
-use Rattle.std.proofs.Common.{◌≡◌, ℕ, List, Option, length, sym, ap, ◌∙◌, subst, arith}
+use Rattle.std.proofs.Common.{◌≡◌, ℕ, List, Option, refl, sym, ap, ◌∙◌, subst}
 use Rattle.std.specs.List.{All}
 use Rattle.std.specs.Result.{IfOk}
 use Rattle.asp_trail.specs.Trails.{IsVar}
 use Rattle.asp_store.specs.declared.kept.Kept.{Kept}
-use Rattle.asp_store.specs.Storing.{Stored, added}
-use Rattle.asp_propagate.specs.Propagating.{Propagating, with_nogood}
-use Rattle.asp_propagate.proofs.EngineLaws.{view_of, vars_are, on_ok, on_err, kept_either}
+use Rattle.asp_store.specs.Storing.{Stored, IsAdded}
+use Rattle.asp_propagate.specs.Propagating.{Propagating, Keeps}
+use Rattle.asp_propagate.proofs.EngineLaws.{view_of, vars_are, if_ok, on_err, kept_either}
 use Rattle.asp_propagate.proofs.engine.Engine.keep.Goals as goal
 
 pub add-requires : goal.add-requires
@@ -18,20 +18,16 @@ add-requires g c =
 pub invariant_of-self : goal.invariant_of-self
 invariant_of-self g c =
     let i = c.self.inside in
-    kept_either c.add.result (g.P.Propagator.told i.propagator) i.store c.add.new.self i.trail i.told c.args.nogood c.args.forever c.len-len.ensures.ordered
-    (omega (arith, c.len-len.ensures.seen, c.len-len.ensures.len)) c.add.ensures.ok c.add.ensures.err c.self.invariant
+    kept_either c.add.result (g.P.Propagator.told i.propagator) i.store c.add.new.self i.trail i.told c.args.nogood c.args.kind c.add.ensures.ok c.add.ensures.err c.self.invariant
 
 pub returns-clause-ok : goal.returns-clause-ok
 returns-clause-ok g c =
     let i = c.self.inside in
     let t = g.P.Propagator.told i.propagator in
     let b = g.P.Propagator.bound i.propagator in
-    on_ok c.add.result (c.add.new.self ≡ added i.store c.args.nogood c.args.forever) (view_of t b c.add.new.self i.trail ≡ with_nogood c.args.self.now c.args.nogood c.args.forever)
-    (λ q. ap (λ (x : Stored). view_of t b x i.trail) q ∙ ap (λ (x : Propagating). with_nogood x c.args.nogood c.args.forever) c.self.view_is) c.add.ensures.ok
-
-pub returns-clause-id : goal.returns-clause-id
-returns-clause-id g c =
-    subst (λ (xs : List (Option Kept)). IfOk c.add.result (λ id. id ≡ length xs)) (ap (λ (x : Propagating). x.slots) c.self.view_is) c.add.ensures.id
+    subst (λ (x : Propagating). IfOk c.add.result (λ id. Keeps x (view_of t b c.add.new.self i.trail) id c.args.nogood c.args.kind)) c.self.view_is
+    (if_ok c.add.result (λ id. IsAdded i.store c.add.new.self id c.args.nogood c.args.kind) (λ id. Keeps (view_of t b i.store i.trail) (view_of t b c.add.new.self i.trail) id c.args.nogood c.args.kind)
+    (λ id a. record { same = refl; slots = a.slots }) c.add.ensures.ok)
 
 pub returns-clause-err : goal.returns-clause-err
 returns-clause-err g c =

@@ -1,18 +1,27 @@
-use Rattle.std.proofs.Common.{◌≡◌, true, List, Option, length, set, sym, ap, subst, ◌∙◌, arith}
-use Rattle.std.proofs.lemmas.List.{take_at, length-set}
+use Rattle.std.proofs.Common.{◌≡◌, ◌<◌, ◌≤◌, ◌+◌, ◌-◌, ℕ, true, false, [], ◌∷◌, ◌++◌, List, Option, Some, None, length, set, refl, sym, ap, subst, ◌∙◌, arith}
+use Rattle.std.specs.List.{All, count_by}
+use Rattle.std.proofs.lemmas.List.{take_at, length-set, length-append}
+use Rattle.asp_trail.specs.Trails.{IsVar}
 use Rattle.asp_store.specs.declared.kept.Kept.{Kept}
-use Rattle.asp_store.specs.Keeping.{kept_at, with_lock}
-use Rattle.asp_store.specs.Storing.{IsStore}
-use Rattle.asp_store.proofs.StoreLaws.{store_locked}
+use Rattle.asp_store.specs.declared.watch.Pair.{Pair}
+use Rattle.asp_store.specs.declared.watches.Watches.{Watches}
+use Rattle.asp_store.specs.Keeping.{kept_at, is_extra, with_lock}
+use Rattle.asp_store.specs.Parted.{Parted}
+use Rattle.asp_store.specs.Storing.{Stored, IsStore, IsAdded, removed}
+use Rattle.asp_store.proofs.GetLaws.{on_err}
+use Rattle.asp_store.proofs.SoundLaws.{from_push}
+use Rattle.asp_store.proofs.FitsLaws.{removed_loses}
+use Rattle.asp_store.proofs.StoreLaws.{view_of, store_add, store_lose, store_lock, added_put, added_push, put_count, push_count, removed_count}
 use Rattle.asp_store.proofs.store.Store.lock.Goals as goal
 
 pub invariant_of-self : goal.invariant_of-self
 invariant_of-self c =
-    let slots = c.self.inside.slots.items in
+    let i = c.self.inside in
+    let slots = i.slots.items in
+    let h : c.args.id < length slots = subst (λ (s : Stored). c.args.id < length s.slots) (sym c.self.view_is) c.requires in
     let e : c.set_locked.new.slots ≡ set slots c.args.id (with_lock true (kept_at slots c.args.id)) =
     c.set_locked.ensures ∙ ap (λ (xs : List (Option Kept)). set xs c.args.id (with_lock true (kept_at xs c.args.id))) c.as_mut_slice.ensures.value in
-    let len : length c.set_locked.new.slots ≡ c.self.inside.slots.len =
-    omega (arith, ap (length {A = Option Kept}) e, length-set slots c.args.id (with_lock true (kept_at slots c.args.id)), c.self.inside.slots.ok.0) in
+    let len : length c.set_locked.new.slots ≡ i.slots.len =
+    omega (arith, ap (length {A = Option Kept}) e, length-set slots c.args.id (with_lock true (kept_at slots c.args.id)), i.slots.ok.0) in
     rw (take_at c.set_locked.new.slots)
-    (subst (λ (xs : List (Option Kept)). IsStore c.self.inside.vars c.self.inside.heads xs c.self.inside.nodes.items c.self.inside.extra) (sym e)
-    (store_locked c.self.inside.vars c.self.inside.heads slots c.self.inside.nodes.items c.self.inside.extra c.args.id true c.self.invariant))
+    (subst (λ (xs : List (Option Kept)). IsStore i.vars xs i.watches i.extra) (sym e) (store_lock i.vars slots i.watches i.extra c.args.id true h c.self.invariant))

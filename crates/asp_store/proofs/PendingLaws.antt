@@ -1,0 +1,274 @@
+-- What a look at one of those apart leaves.
+use Rattle.std.proofs.Common.{◌≡◌, ◌≢◌, ℕ, suc, zero, ◌+◌, ◌-◌, ◌<◌, ◌≤◌, Bool, true, false, List, [], ◌∷◌, ◌++◌, length, set, Option, Some, None, inl, inr, ◌⊎◌, refl, sym, ap, ◌∙◌, subst, arith, add-one}
+use Rattle.std.specs.List.{All, slice_get, swap_remove, swap}
+use Rattle.std.specs.Option.{is_some}
+use Rattle.std.proofs.lemmas.Bool.{false≢true}
+use Rattle.asp_trail.specs.Entries.{assignment}
+use Rattle.asp_trail.specs.Quiet.{is_violated}
+use Rattle.asp_store.specs.Walking.{IsViolated}
+use Rattle.std.proofs.lemmas.List.Edits.{length-swap as swapped_length}
+use Rattle.std.proofs.lemmas.Option.{same_Some, slice_get_within, none-some, slice_get-get_or}
+use Rattle.asp_vars.specs.Literals.{Literal, has_literal}
+use Rattle.asp_vars.specs.Codes.{code_of}
+use Rattle.asp_vars.specs.declared.nogood.Nogood.{Nogood}
+use Rattle.asp_trail.specs.declared.trail.Entry.{Entry}
+use Rattle.asp_trail.specs.Trails.{Trailed, IsVar}
+use Rattle.asp_store.specs.declared.kept.Kept.{Kept}
+use Rattle.asp_store.specs.declared.watch.Watch.{Watch}
+use Rattle.asp_store.specs.declared.watch.Pair.{Pair}
+use Rattle.asp_store.specs.declared.watches.Watches.{Watches}
+use Rattle.asp_store.specs.declared.front.Step.{Step}
+use Rattle.asp_store.specs.declared.front.Step.TheVariants as step
+use Rattle.asp_store.specs.Keeping.{nogood_at}
+use Rattle.asp_store.specs.Lists.{list_at}
+use Rattle.asp_store.specs.Pairs.{pair_at, IsOneOf}
+use Rattle.asp_store.specs.Parted.{Parted, IsFrom}
+use Rattle.asp_store.specs.Fitting.{HasFalse, IsWatched}
+use Rattle.asp_store.specs.Sounding.{IsListed, IsSound, AreSettled, AreSettledFrom}
+use Rattle.asp_store.specs.Pending.{IsLooking, IsWaiting, HasNone, Looks}
+use Rattle.asp_store.proofs.GetLaws.{is_or_not, get_swap, get_swapped, length-swap, at_set}
+use Rattle.asp_store.proofs.PlaceLaws.{listed_new, listed_push}
+use Rattle.asp_store.proofs.WatchLaws.{has_false_grow}
+use Rattle.asp_store.proofs.LookLaws.{all_has}
+use Rattle.asp_store.proofs.SoundLaws.{Suits, sound_pair, sound_apart, pair_cases, sound_grow}
+use Rattle.asp_store.proofs.StepLaws.{code_of_list, sound_watch}
+
+pub kept_within : (slots : List (Option Kept)) (id : ℕ) (n : Nogood) → nogood_at slots id ≡ Some n → id < length slots
+kept_within [] id n g = absurd (none g)
+  where
+    none : nogood_at [] id ≡ Some n → ⊥
+    none q = cc
+kept_within (k ∷ slots) zero n g = omega arith
+kept_within (k ∷ slots) (suc id) n g = omega (arith, kept_within slots id n g)
+
+-- ---- the place goes
+from_swap : (a : Parted) (i x m id : ℕ) → i < length a.items → m ≤ i → (slice_get a.items i ≡ Some id → ⊥) → IsFrom a m id →
+    IsFrom (record a { items = swap_remove a.items i x }) m id
+from_swap a i x m id h low ne f = let g = get_swap a.items i x f.0 id h (λ e. ne (ap (slice_get a.items) (sym e) ∙ f.2)) f.2 in (g.0, g.2 m low f.1, g.1)
+
+pub looks_leave : (slots : List (Option Kept)) (w : Watches) (t : Trailed) (i x : ℕ) → i < length w.apart.items → HasNone slots w i → IsLooking slots w t i →
+    Looks slots w (record w { apart = record w.apart { items = swap_remove w.apart.items i x } }) t i step.Goes
+looks_leave slots w t i x h none k = (
+  record {
+    sound = sound_apart slots w t (record w.apart { items = swap_remove w.apart.items i x })
+        (λ id n g p. from_swap w.apart i x 0 id h (omega arith) (λ e. none id n e g p) (k.sound.net.unwatched id n g p))
+        (λ id n g p. elim (k.sound.fit.unwatched id n g p) [
+          | inl f ↦ inl (from_swap w.apart i x w.apart.retired id h k.begun (λ e. none id n e g p) f)
+          | inr f ↦ inr f
+        ]) k.sound;
+    settled = λ id n g p. elim (k.settled id n g p) [
+      | inl f ↦ inl (from_swap w.apart i x i id h (omega arith) (λ e. none id n e g p) f)
+      | inr f ↦ inr f
+    ];
+    begun = k.begun;
+  },
+  length-swap w.apart.items i x h,
+)
+
+-- ---- two literals watch
+watched_seen : (n : List Literal) (p : Pair) (es : List Entry) (seen : ℕ) → IsWatched n p es (length es) → IsWatched n p es seen
+watched_seen n p es seen t = record {
+  has = t.has;
+  differ = t.differ;
+  watches = λ l o i b h s. t.watches l o i b s.within s;
+}
+
+-- the lists of both have the number
+abbrev pub with_first : Watches → Pair → ℕ → Watches
+with_first w p id = record w { lists = set w.lists (code_of p.first) (list_at w.lists (code_of p.first) ++ record { blocker = p.second; id = id } ∷ []) }
+
+abbrev pub with_second : Watches → Pair → ℕ → Watches
+with_second w p id = record w { lists = set w.lists (code_of p.second) (list_at w.lists (code_of p.second) ++ record { blocker = p.first; id = id } ∷ []) }
+
+abbrev pub with_both : Watches → Pair → ℕ → Watches
+with_both w p id = with_second (with_first w p id) p id
+
+abbrev pub attached : Watches → Pair → ℕ → Watches
+attached w p id = record (with_both w p id) { pairs = set w.pairs id (Some p) }
+
+-- the literals of a pair are of the trail's variables
+pub pair_small : (slots : List (Option Kept)) (w : Watches) (t : Trailed) (id : ℕ) (n : Nogood) (p : Pair) (l : Literal) (es : List Entry) (seen : ℕ) → IsSound slots w t →
+    nogood_at slots id ≡ Some n → IsWatched n.lits p es seen → IsOneOf p l → l.var ≤ t.vars
+pair_small slots w t id n p l es seen s h k o = (all_has (λ x. IsVar t.vars x.var) n.lits l (s.net.small id n h) (k.has l o)).1
+
+pub sound_both : (slots : List (Option Kept)) (w : Watches) (t : Trailed) (p : Pair) (id : ℕ) → p.first.var ≤ t.vars → p.second.var ≤ t.vars → IsSound slots w t →
+    IsSound slots (with_first w p id) t × IsSound slots (with_both w p id) t
+sound_both slots w t p id a b s =
+    let one = sound_watch slots w t p.first (record { blocker = p.second; id = id }) a b s in
+    (one, sound_watch slots (with_first w p id) t p.second (record { blocker = p.first; id = id }) b a one)
+
+suits_both : (slots : List (Option Kept)) (w : Watches) (t : Trailed) (p : Pair) (id : ℕ) (n : Nogood) → nogood_at slots id ≡ Some n →
+    IsWatched n.lits p t.entries (length t.entries) → IsSound slots w t → Suits slots (with_both w p id) t id (Some p)
+suits_both slots w t p id n h k s = record {
+  within = omega (arith, s.net.paired, kept_within slots id n h);
+  bounded = λ q l e o. subst (λ (x : Pair). IsOneOf x l → l.var ≤ t.vars) (same_Some p q e) (λ z. pair_small slots w t id n p l t.entries (length t.entries) s h k z) o;
+  listed = λ m q l g e o.
+      subst (λ (x : Pair). IsOneOf x l → IsListed (with_both w p id).lists l 0 id m.lits) (same_Some p q e)
+      (λ z. elim z [
+        | inl y ↦ subst (λ (x : Literal). IsListed (with_both w p id).lists x 0 id m.lits) y (first m g)
+        | inr y ↦ subst (λ (x : Literal). IsListed (with_both w p id).lists x 0 id m.lits) y (second m g)
+      ]) o;
+  watched = λ m q g e.
+      subst (λ (x : Pair). IsWatched m.lits x t.entries t.seen) (same_Some p q e)
+      (subst (λ (x : Nogood). IsWatched x.lits p t.entries t.seen) (same m g) (watched_seen n.lits p t.entries t.seen k));
+  apart = λ m g e. absurd (none-some p (sym e));
+}
+  where
+    same : (m : Nogood) → nogood_at slots id ≡ Some m → n ≡ m
+    same m g = same_Some n m (sym h ∙ g)
+
+    small : (l : Literal) → IsOneOf p l → l.var ≤ t.vars
+    small l o = pair_small slots w t id n p l t.entries (length t.entries) s h k o
+
+    two : IsSound slots (with_first w p id) t × IsSound slots (with_both w p id) t
+    two = sound_both slots w t p id (small p.first (inl refl)) (small p.second (inr refl)) s
+
+    first : (m : Nogood) → nogood_at slots id ≡ Some m → IsListed (with_both w p id).lists p.first 0 id m.lits
+    first m g =
+        listed_push (with_first w p id).lists (code_of p.second) (record { blocker = p.first; id = id }) p.first 0 id m.lits
+        (code_of_list slots (with_first w p id) t p.second two.0 (small p.second (inr refl)))
+        (listed_new w.lists (record { blocker = p.second; id = id }) p.first m.lits (code_of_list slots w t p.first s (small p.first (inl refl)))
+        (subst (λ (x : Nogood). has_literal x.lits p.second ≡ true) (same m g) (k.has p.second (inr refl))))
+
+    second : (m : Nogood) → nogood_at slots id ≡ Some m → IsListed (with_both w p id).lists p.second 0 id m.lits
+    second m g =
+        listed_new (with_first w p id).lists (record { blocker = p.first; id = id }) p.second m.lits
+        (code_of_list slots (with_first w p id) t p.second two.0 (small p.second (inr refl)))
+        (subst (λ (x : Nogood). has_literal x.lits p.first ≡ true) (same m g) (k.has p.first (inl refl)))
+
+pub attached_looking : (slots : List (Option Kept)) (w : Watches) (t : Trailed) (i id : ℕ) (p : Pair) (n : Nogood) → nogood_at slots id ≡ Some n →
+    IsWatched n.lits p t.entries (length t.entries) → IsWaiting slots w t i id → IsLooking slots (attached w p id) t i
+attached_looking slots w t i id p n h k v = record {
+  sound = sound_pair slots (with_both w p id) t id (Some p) (suits_both slots w t p id n h k v.looking.sound)
+      (sound_both slots w t p id (pair_small slots w t id n p p.first t.entries (length t.entries) v.looking.sound h k (inl refl))
+      (pair_small slots w t id n p p.second t.entries (length t.entries) v.looking.sound h k (inr refl)) v.looking.sound).1;
+  settled = λ j m g q. elim (pair_cases w.pairs id (Some p) j None (omega (arith, v.looking.sound.net.paired, kept_within slots id n h)) q) [
+    | inl e ↦ absurd (none-some p (sym e.1))
+    | inr e ↦ v.looking.settled j m g e.1
+  ];
+  begun = v.looking.begun;
+}
+
+pub attached_none : (slots : List (Option Kept)) (w : Watches) (t : Trailed) (i id : ℕ) (p : Pair) (n : Nogood) → nogood_at slots id ≡ Some n → IsWaiting slots w t i id →
+    HasNone slots (attached w p id) i
+attached_none slots w t i id p n h v j m at g q =
+    let e : j ≡ id = same_Some j id (sym at ∙ v.at) in
+    none-some p (sym q ∙ at_set w.pairs id (Some p) None j (omega (arith, v.looking.sound.net.paired, kept_within slots id n h)) e)
+
+-- ---- a literal is false
+same_kept : (slots : List (Option Kept)) (i id j : ℕ) (items : List ℕ) (m : Nogood) → slice_get items i ≡ Some id → slice_get items i ≡ Some j → nogood_at slots j ≡ Some m → nogood_at slots id ≡ Some m
+same_kept slots i id j items m a b g = ap (nogood_at slots) (same_Some id j (sym a ∙ b)) ∙ g
+
+pub looks_pending : (slots : List (Option Kept)) (w : Watches) (t : Trailed) (i id b : ℕ) → ((n : Nogood) → nogood_at slots id ≡ Some n → HasFalse t.entries n.lits b) →
+    IsWaiting slots w t i id → Looks slots w w t i step.Stays
+looks_pending slots w t i id b is_false v = (
+  record {
+    sound = v.looking.sound;
+    settled = λ j m g q. elim (v.looking.settled j m g q) [
+      | inl f ↦ elim (is_or_not f.0 i) [
+        | inl e ↦ inr (b, is_false m (same_kept slots i id j w.apart.items m v.at (ap (slice_get w.apart.items) (sym e) ∙ f.2) g))
+        | inr ne ↦ inl (f.0, omega (arith, f.1, ne), f.2)
+      ]
+      | inr f ↦ inr f
+    ];
+    begun = omega (arith, v.looking.begun);
+  },
+  refl,
+)
+
+-- ---- and at level 0
+-- the number at one place changes with that at another before it
+pub record Retires (a new : Parted) (i : ℕ) : Type 0 where
+  pub len : length new.items ≡ length a.items
+  pub count : new.retired ≡ a.retired + 1
+  pub stays : (p id : ℕ) → slice_get a.items p ≡ Some id → (q : ℕ) × (slice_get new.items q ≡ Some id) × (p ≢ i → a.retired ≤ p → a.retired + 1 ≤ q) × (i < p → q ≡ p)
+
+pub looks_retire : (slots : List (Option Kept)) (w : Watches) (t : Trailed) (i id : ℕ) (new : Parted) → ((n : Nogood) → nogood_at slots id ≡ Some n → HasFalse t.entries n.lits 0) →
+    Retires w.apart new i → IsWaiting slots w t i id → Looks slots w (record w { apart = new }) t i step.Stays
+looks_retire slots w t i id new is_false r v = (
+  record {
+    sound = sound_apart slots w t new (λ j m g q. let f = v.looking.sound.net.unwatched j m g q in let s = r.stays f.0 j f.2 in (s.0, omega arith, s.1))
+        (λ j m g q. elim (v.looking.sound.fit.unwatched j m g q) [
+          | inl f ↦ elim (is_or_not f.0 i) [
+            | inl e ↦ inr (is_false m (same_kept slots i id j w.apart.items m v.at (ap (slice_get w.apart.items) (sym e) ∙ f.2) g))
+            | inr ne ↦ let s = r.stays f.0 j f.2 in inl (s.0, omega (arith, r.count, s.2 ne f.1), s.1)
+          ]
+          | inr f ↦ inr f
+        ]) v.looking.sound;
+    settled = λ j m g q. elim (v.looking.settled j m g q) [
+      | inl f ↦ elim (is_or_not f.0 i) [
+        | inl e ↦ inr (0, is_false m (same_kept slots i id j w.apart.items m v.at (ap (slice_get w.apart.items) (sym e) ∙ f.2) g))
+        | inr ne ↦ let s = r.stays f.0 j f.2 in inl (s.0, omega (arith, f.1, ne, s.3 (omega (arith, f.1, ne))), s.1)
+      ]
+      | inr f ↦ inr f
+    ];
+    begun = omega (arith, r.count, v.looking.begun);
+  },
+  r.len,
+)
+
+-- ---- the trail grows
+pub waiting_grow : (slots : List (Option Kept)) (w : Watches) (t : Trailed) (i id : ℕ) (fs : List Entry) → t.seen ≤ length t.entries → IsWaiting slots w t i id →
+    IsWaiting slots w (record t { entries = t.entries ++ fs }) i id
+waiting_grow slots w t i id fs le v = record {
+  looking = record {
+    sound = sound_grow slots w t fs le v.looking.sound;
+    settled = λ j m g q. elim (v.looking.settled j m g q) [
+      | inl f ↦ inl f
+      | inr f ↦ inr (f.0, has_false_grow t.entries fs m.lits f.0 f.1)
+    ];
+    begun = v.looking.begun;
+  };
+  at = v.at;
+  pair = v.pair;
+  kept = v.kept;
+}
+
+-- ---- the look begins and ends
+pub looking_begins : (slots : List (Option Kept)) (w : Watches) (t : Trailed) → IsSound slots w t → IsLooking slots w t w.apart.retired
+looking_begins slots w t s = record {
+  sound = s;
+  settled = λ id n g q. elim (s.fit.unwatched id n g q) [
+    | inl f ↦ inl f
+    | inr f ↦ inr (0, f)
+  ];
+  begun = omega arith;
+}
+
+pub looking_ends : (slots : List (Option Kept)) (w : Watches) (t : Trailed) (i : ℕ) → length w.apart.items ≤ i → IsLooking slots w t i → AreSettled slots w.pairs t.entries
+looking_ends slots w t i h k id n g q =
+    elim (k.settled id n g q) [
+      | inl f ↦ absurd (omega (arith, h, f.1, slice_get_within w.apart.items f.0 id f.2))
+      | inr f ↦ f
+    ]
+
+pub retires : (a : Parted) (i : ℕ) → i < length a.items → a.retired ≤ i → Retires a (record { items = swap a.items a.retired i; retired = a.retired + 1 }) i
+retires a i h le = record {
+  len = swapped_length a.items a.retired i;
+  count = refl;
+  stays = λ p id g. get_swapped a.items a.retired i p id (omega (arith, h, le)) h le g;
+}
+
+-- ---- what a look at the nogood found
+pub found_violated : (slots : List (Option Kept)) (t u : Trailed) (id : ℕ) (n : Nogood) (lits : List Literal) → u ≡ record t { entries = u.entries } → u.entries ≡ t.entries →
+    nogood_at slots id ≡ Some n → n.lits ≡ lits → is_violated (assignment t.vars t.entries) lits ≡ true → IsViolated u.vars slots u.entries id
+found_violated slots t u id n lits same e h q v = (
+  n,
+  h,
+  subst (λ (xs : List Literal). is_violated (assignment u.vars u.entries) xs ≡ true) (sym q)
+      (subst (λ (es : List Entry). is_violated (assignment u.vars es) lits ≡ true) (sym e)
+      (subst (λ (k : ℕ). is_violated (assignment k t.entries) lits ≡ true) (sym (ap (λ (s : Trailed). s.vars) same)) v)),
+)
+
+-- what is true of a nogood's literals is true of any nogood under its number
+pub for_each : (slots : List (Option Kept)) (id : ℕ) (n : Nogood) (lits : List Literal) (P : List Literal → Type 0) → nogood_at slots id ≡ Some n → n.lits ≡ lits → P lits →
+    (m : Nogood) → nogood_at slots id ≡ Some m → P m.lits
+for_each slots id n lits P h e p m g =
+    subst (λ (x : Nogood). P x.lits) (same_Some n m (sym h ∙ g)) (subst P (sym e) p)
+
+pub none_from : {A : Type 0} (o : Option A) → is_some o ≡ false → o ≡ None
+none_from None h = refl
+none_from (Some x) h = absurd (false≢true (sym h))
+
+pub none_when : {A : Type 0} (o : Option A) → is_some o ≡ true → o ≡ None → ⊥
+none_when o h e = false≢true (sym (ap is_some e) ∙ h)

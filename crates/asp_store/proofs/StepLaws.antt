@@ -1,0 +1,399 @@
+-- What one visit to a place of a literal's list leaves.
+use Rattle.std.proofs.Common.{◌≡◌, ◌≢◌, ℕ, suc, zero, ◌+◌, ◌*◌, ◌<◌, ◌≤◌, Bool, true, false, List, [], ◌∷◌, ◌++◌, length, set, Option, Some, None, inl, inr, ◌⊎◌, refl, sym, ap, ◌∙◌, subst, arith, add-one}
+use Rattle.std.specs.List.{All, slice_get, swap_remove}
+use Rattle.std.specs.Option.{MatchOption, IfNone, IfSome}
+use Rattle.std.proofs.lemmas.Bool.{false≢true}
+use Rattle.std.proofs.lemmas.List.{length-set, length-append}
+use Rattle.std.proofs.lemmas.Option.{same_Some, slice_get_within, none-some}
+use Rattle.asp_vars.specs.Literals.{Literal, has_literal, holds_in}
+use Rattle.asp_vars.specs.Codes.{code_of}
+use Rattle.asp_vars.specs.declared.nogood.Nogood.{Nogood}
+use Rattle.asp_trail.specs.declared.trail.Entry.{Entry}
+use Rattle.asp_trail.specs.Entries.{assignment}
+use Rattle.asp_trail.specs.Trails.{Trailed, IsOrdered, IsVar}
+use Rattle.asp_trail.specs.Reasons.{Stands}
+use Rattle.asp_trail.proofs.HoldLaws.{holds_at}
+use Rattle.asp_store.specs.declared.kept.Kept.{Kept}
+use Rattle.asp_store.specs.declared.watch.Watch.{Watch}
+use Rattle.asp_store.specs.declared.watch.Pair.{Pair}
+use Rattle.asp_store.specs.declared.watches.Watches.{Watches}
+use Rattle.asp_store.specs.declared.front.Front.{Front}
+use Rattle.asp_store.specs.declared.front.Step.{Step}
+use Rattle.asp_store.specs.declared.front.Step.TheVariants as step
+use Rattle.asp_store.specs.Keeping.{nogood_at}
+use Rattle.asp_store.specs.Lists.{list_at, place, size}
+use Rattle.asp_store.specs.Pairs.{pair_at, IsOneOf, IsBeside}
+use Rattle.asp_store.specs.Parted.{Parted, IsFrom}
+use Rattle.asp_store.specs.Fitting.{IsFalseBy, HasFalse, Watches as Watching, IsWatched}
+use Rattle.asp_store.specs.Sounding.{IsListed, IsSound, AreSettled}
+use Rattle.asp_store.specs.Walking.{AreDone, IsWalking, IsVisit, MayWatch, Steps}
+use Rattle.asp_store.proofs.GetLaws.{list_within, length-swap, at_set, at_set_other, get_last}
+use Rattle.asp_store.proofs.PlaceLaws.{code_injective, code_within, place_here, place_else, size_here, listed_set, blocker_set, listed_push, listed_new, blocker_push, listed_take, blocker_take, listed_next, listed_from}
+use Rattle.asp_store.proofs.WatchLaws.{has_false_grow, stands_grow}
+use Rattle.asp_store.proofs.LookLaws.{all_has, watches_open}
+use Rattle.asp_store.proofs.SoundLaws.{Suits, sound_lists, sound_pair, settled_pair, pair_cases, sound_push, from_push, sound_grow, settled_grow}
+
+-- ---- of a pair
+pub beside_one : (p : Pair) (l k : Literal) → IsBeside p l k → IsOneOf p l × IsOneOf p k
+beside_one p l k b =
+    elim b [
+      | inl e ↦ (inl e.0, inr e.1)
+      | inr e ↦ (inr e.1, inl e.0)
+    ]
+
+pub beside_differ : (p : Pair) (l k : Literal) → p.first ≢ p.second → IsBeside p l k → k ≢ l
+beside_differ p l k d b q =
+    elim b [
+      | inl e ↦ d (e.0 ∙ (sym q ∙ sym e.1))
+      | inr e ↦ d (e.0 ∙ (q ∙ sym e.1))
+    ]
+
+-- the front's literal holds
+pub front_holds : (t : Trailed) (f : Front) → IsOrdered t.vars t.entries → Stands t.entries f.lit t.seen f.level → holds_in (assignment t.vars t.entries) f.lit ≡ true
+front_holds t f o s =
+    let d : Entry = record { lit = f.lit; level = 0; reason = None } in
+    holds_at t.vars t.entries t.seen d f.lit o s.within (s.lit d)
+
+pub front_var : (t : Trailed) (f : Front) → IsOrdered t.vars t.entries → Stands t.entries f.lit t.seen f.level → f.lit.var ≤ t.vars
+front_var t f o s =
+    let d : Entry = record { lit = f.lit; level = 0; reason = None } in
+    omega (arith, (o.within t.seen d s.within).1, ap (λ (l : Literal). l.var) (s.lit d))
+
+-- ---- nothing changes
+pub step_quick : (slots : List (Option Kept)) (w : Watches) (t : Trailed) (f : Front) (i : ℕ) (x : Watch) → place w.lists (code_of f.lit) i ≡ Some x →
+    IsFalseBy t.entries x.blocker f.level → IsWalking slots w t f i → Steps slots w w t f i step.Stays
+step_quick slots w t f i x g is_false k = (
+  record {
+    sound = k.sound;
+    settled = k.settled;
+    done = λ id n p h q o. elim (k.done id n p h q o) [
+      | inl l ↦ elim (listed_next w.lists f.lit i id n.lits x g l) [
+        | inl e ↦ inr (x.blocker, e.1, is_false)
+        | inr m ↦ inl (rw add-one m)
+      ]
+      | inr m ↦ inr m
+    ];
+    stands = k.stands;
+  },
+  refl,
+)
+
+-- ---- the blocker of a place changes
+-- the nogood of a visit has the other watch
+pub visit_has : (slots : List (Option Kept)) (w : Watches) (t : Trailed) (f : Front) (i id : ℕ) (other : Literal) (n : Nogood) → IsVisit slots w t f i id other → nogood_at slots id ≡ Some n →
+    has_literal n.lits other ≡ true
+visit_has slots w t f i id other n v h =
+    (v.walking.sound.fit.watched id n v.pair h v.pair_is).has other (beside_one v.pair f.lit other v.beside).1
+
+pub visit_var : (slots : List (Option Kept)) (w : Watches) (t : Trailed) (f : Front) (i id : ℕ) (other : Literal) → IsVisit slots w t f i id other → other.var ≤ t.vars
+visit_var slots w t f i id other v = v.walking.sound.net.watched id v.pair other v.pair_is (beside_one v.pair f.lit other v.beside).1
+
+pub visit_within : (slots : List (Option Kept)) (w : Watches) (t : Trailed) (f : Front) (i id : ℕ) (other : Literal) → IsVisit slots w t f i id other → i < size w.lists (code_of f.lit)
+visit_within slots w t f i id other v = slice_get_within (list_at w.lists (code_of f.lit)) i v.watch v.at
+
+same_nogood : (slots : List (Option Kept)) (j id : ℕ) (n m : Nogood) → j ≡ id → nogood_at slots j ≡ Some n → nogood_at slots id ≡ Some m → n ≡ m
+same_nogood slots j id n m e h g = same_Some n m (sym h ∙ (ap (nogood_at slots) e ∙ g))
+
+pub step_block : (slots : List (Option Kept)) (w : Watches) (t : Trailed) (f : Front) (i id : ℕ) (other : Literal) → IsVisit slots w t f i id other →
+    IsFalseBy t.entries other f.level →
+    Steps slots w (record w { lists = set w.lists (code_of f.lit) (set (list_at w.lists (code_of f.lit)) i (record { blocker = other; id = id })) }) t f i step.Stays
+step_block slots w t f i id other v is_false = (
+  record {
+    sound = sound_lists slots w t lists (length-set w.lists c (set (list_at w.lists c) i x)) (blocker_set t.vars w.lists c i x h (visit_var slots w t f i id other v) k.sound.net.blockers)
+        (λ j n p l g q o. stays j n l 0 g (k.sound.net.listed j n p l g q o)) k.sound;
+    settled = k.settled;
+    done = λ j n p g q o. elim (k.done j n p g q o) [
+      | inl l ↦ elim (listed_next w.lists f.lit i j n.lits v.watch v.at l) [
+        | inl e ↦ inr (other, visit_has slots w t f i id other n v (ap (nogood_at slots) (sym v.id_is ∙ e.0) ∙ g), is_false)
+        | inr m ↦ inl (rw add-one (stays j n f.lit (suc i) g m))
+      ]
+      | inr m ↦ inr m
+    ];
+    stands = k.stands;
+  },
+  size_here w.lists c (set (list_at w.lists c) i x) (list_within w.lists c i h) ∙ length-set (list_at w.lists c) i x,
+)
+  where
+    k : IsWalking slots w t f i
+    k = v.walking
+
+    c : ℕ
+    c = code_of f.lit
+
+    x : Watch
+    x = record { blocker = other; id = id }
+
+    lists : List (List Watch)
+    lists = set w.lists (code_of f.lit) (set (list_at w.lists (code_of f.lit)) i (record { blocker = other; id = id }))
+
+    h : i < size w.lists (code_of f.lit)
+    h = visit_within slots w t f i id other v
+
+    stays : (j : ℕ) (n : Nogood) (l : Literal) (from : ℕ) → nogood_at slots j ≡ Some n → IsListed w.lists l from j n.lits →
+        IsListed (set w.lists (code_of f.lit) (set (list_at w.lists (code_of f.lit)) i (record { blocker = other; id = id }))) l from j n.lits
+    stays j n l from g s =
+        listed_set w.lists (code_of f.lit) i (record { blocker = other; id = id }) v.watch l from j n.lits h v.at v.id_is
+        (λ e. visit_has slots w t f i id other n v (ap (nogood_at slots) (sym e) ∙ g)) s
+
+-- ---- a place goes
+pub step_leave : (slots : List (Option Kept)) (w : Watches) (t : Trailed) (f : Front) (i id : ℕ) (x d : Watch) → place w.lists (code_of f.lit) i ≡ Some x → x.id ≡ id →
+    ((n : Nogood) (p : Pair) → nogood_at slots id ≡ Some n → pair_at w.pairs id ≡ Some p → IsOneOf p f.lit → ⊥) → IsWalking slots w t f i →
+    Steps slots w (record w { lists = set w.lists (code_of f.lit) (swap_remove (list_at w.lists (code_of f.lit)) i d) }) t f i step.Goes
+step_leave slots w t f i id x d g is gone k = (
+  record {
+    sound = sound_lists slots w t lists (length-set w.lists (code_of f.lit) (swap_remove (list_at w.lists (code_of f.lit)) i d)) (blocker_take t.vars w.lists (code_of f.lit) i d h k.sound.net.blockers)
+        (λ j n p l m q o. stays j n p l 0 (omega arith) m q o (k.sound.net.listed j n p l m q o)) k.sound;
+    settled = k.settled;
+    done = λ j n p m q o. elim (k.done j n p m q o) [
+      | inl l ↦ inl (stays j n p f.lit i (omega arith) m q o l)
+      | inr r ↦ inr r
+    ];
+    stands = k.stands;
+  },
+  omega (arith, size_here w.lists (code_of f.lit) (swap_remove (list_at w.lists (code_of f.lit)) i d) (list_within w.lists (code_of f.lit) i h), length-swap (list_at w.lists (code_of f.lit)) i d h),
+)
+  where
+    h : i < size w.lists (code_of f.lit)
+    h = slice_get_within (list_at w.lists (code_of f.lit)) i x g
+
+    lists : List (List Watch)
+    lists = set w.lists (code_of f.lit) (swap_remove (list_at w.lists (code_of f.lit)) i d)
+
+    stays : (j : ℕ) (n : Nogood) (p : Pair) (l : Literal) (from : ℕ) → from ≤ i → nogood_at slots j ≡ Some n → pair_at w.pairs j ≡ Some p → IsOneOf p l → IsListed w.lists l from j n.lits →
+        IsListed (set w.lists (code_of f.lit) (swap_remove (list_at w.lists (code_of f.lit)) i d)) l from j n.lits
+    stays j n p l from low m q o s =
+        listed_take w.lists (code_of f.lit) i d x l from j n.lits h g low
+        (λ e y. let z : id ≡ j = sym is ∙ y in
+        gone n p (ap (nogood_at slots) z ∙ m) (ap (pair_at w.pairs) z ∙ q) (subst (λ (b : Literal). IsOneOf p b) (code_injective l f.lit e) o)) s
+
+-- ---- another list gets a watch
+pub code_of_list : (slots : List (Option Kept)) (w : Watches) (t : Trailed) (l : Literal) → IsSound slots w t → l.var ≤ t.vars → code_of l < length w.lists
+code_of_list slots w t l s h = omega (arith, code_within l t.vars h, s.net.sized)
+
+pub sound_watch : (slots : List (Option Kept)) (w : Watches) (t : Trailed) (l : Literal) (x : Watch) → l.var ≤ t.vars → x.blocker.var ≤ t.vars → IsSound slots w t →
+    IsSound slots (record w { lists = set w.lists (code_of l) (list_at w.lists (code_of l) ++ x ∷ []) }) t
+sound_watch slots w t l x h b s =
+    sound_lists slots w t (set w.lists (code_of l) (list_at w.lists (code_of l) ++ x ∷ [])) (length-set w.lists (code_of l) (list_at w.lists (code_of l) ++ x ∷ []))
+    (blocker_push t.vars w.lists (code_of l) x (code_of_list slots w t l s h) b s.net.blockers)
+    (λ j n p k m q o. listed_push w.lists (code_of l) x k 0 j n.lits (code_of_list slots w t l s h) (s.net.listed j n p k m q o)) s
+
+pub visit_push : (slots : List (Option Kept)) (w : Watches) (t : Trailed) (f : Front) (i id : ℕ) (other l : Literal) (x : Watch) → l.var ≤ t.vars → x.blocker.var ≤ t.vars →
+    l ≢ f.lit → IsVisit slots w t f i id other → IsVisit slots (record w { lists = set w.lists (code_of l) (list_at w.lists (code_of l) ++ x ∷ []) }) t f i id other
+visit_push slots w t f i id other l x h b ne v = record {
+  walking = record {
+    sound = sound_watch slots w t l x h b v.walking.sound;
+    settled = v.walking.settled;
+    done = λ j n p m q o. elim (v.walking.done j n p m q o) [
+      | inl s ↦ inl (listed_push w.lists (code_of l) x f.lit i j n.lits (code_of_list slots w t l v.walking.sound h) s)
+      | inr s ↦ inr s
+    ];
+    stands = v.walking.stands;
+  };
+  watch = v.watch;
+  at = place_else w.lists (code_of l) (list_at w.lists (code_of l) ++ x ∷ []) (code_of f.lit) i (λ e. ne (sym (code_injective f.lit l e))) ∙ v.at;
+  id_is = v.id_is;
+  pair = v.pair;
+  pair_is = v.pair_is;
+  beside = v.beside;
+}
+
+-- ---- the pair of a visit changes
+pub visit_id : (slots : List (Option Kept)) (w : Watches) (t : Trailed) (f : Front) (i id : ℕ) (other : Literal) → IsVisit slots w t f i id other → id < length w.pairs
+visit_id slots w t f i id other v = some_within w.pairs id v.pair v.pair_is
+  where
+    some_within : (xs : List (Option Pair)) (k : ℕ) (p : Pair) → pair_at xs k ≡ Some p → k < length xs
+    some_within [] k p q = absurd (let e : ⊥ = cc in e)
+    some_within (x ∷ xs) zero p q = omega arith
+    some_within (x ∷ xs) (suc k) p q = omega (arith, some_within xs k p q)
+
+-- the literal of the front isn't watched any more
+pub walking_pair : (slots : List (Option Kept)) (w : Watches) (t : Trailed) (f : Front) (i id : ℕ) (q : Option Pair) → Suits slots w t id q →
+    ((n : Nogood) → nogood_at slots id ≡ Some n → q ≡ None → (b : ℕ) × HasFalse t.entries n.lits b) → ((n : Nogood) (p : Pair) → nogood_at slots id ≡ Some n → q ≡ Some p → IsOneOf p f.lit → ⊥) → IsWalking slots w t f i →
+    IsWalking slots (record w { pairs = set w.pairs id q }) t f i
+walking_pair slots w t f i id q u settled gone k = record {
+  sound = sound_pair slots w t id q u k.sound;
+  settled = settled_pair slots w.pairs t.entries id q u.within settled k.settled;
+  done = λ j n p h g o. elim (pair_cases w.pairs id q j (Some p) u.within g) [
+    | inl e ↦ absurd (gone n p (sym (ap (nogood_at slots) e.0) ∙ h) e.1 o)
+    | inr e ↦ k.done j n p h e.1 o
+  ];
+  stands = k.stands;
+}
+
+pub suits_move : (slots : List (Option Kept)) (w : Watches) (t : Trailed) (f : Front) (i id : ℕ) (other l : Literal) → IsOrdered t.vars t.entries → MayWatch slots t id other l →
+    ((n : Nogood) → nogood_at slots id ≡ Some n → IsListed w.lists l 0 id n.lits) → IsVisit slots w t f i id other → Suits slots w t id (Some (record { first = l; second = other }))
+suits_move slots w t f i id other l o m listed v = record {
+  within = visit_id slots w t f i id other v;
+  bounded = λ p k q one. elim (either p k q one) [
+    | inl e ↦ omega (arith, m.small, ap (λ (x : Literal). x.var) e)
+    | inr e ↦ omega (arith, visit_var slots w t f i id other v, ap (λ (x : Literal). x.var) e)
+  ];
+  listed = λ n p k h q one. elim (either p k q one) [
+    | inl e ↦ subst (λ (x : Literal). IsListed w.lists x 0 id n.lits) e (listed n h)
+    | inr e ↦ subst (λ (x : Literal). IsListed w.lists x 0 id n.lits) e (v.walking.sound.net.listed id n v.pair other h v.pair_is (beside_one v.pair f.lit other v.beside).1)
+  ];
+  watched = λ n p h q.
+      let was = v.walking.sound.fit.watched id n v.pair h v.pair_is in
+      record {
+        has = λ k one. elim (either p k q one) [
+          | inl e ↦ subst (λ (x : Literal). has_literal n.lits x ≡ true) e (m.has n h)
+          | inr e ↦ subst (λ (x : Literal). has_literal n.lits x ≡ true) e (visit_has slots w t f i id other n v h)
+        ];
+        differ = λ e. m.differ (ap (λ (x : Pair). x.first) (made p q) ∙ (e ∙ sym (ap (λ (x : Pair). x.second) (made p q))));
+        watches = λ k one. elim (either p k q one) [
+          | inl e ↦ subst (λ (x : Literal). Watching t.entries t.seen n.lits x) e (watches_open t.vars t.entries t.seen n.lits l o m.not_true)
+          | inr e ↦ subst (λ (x : Literal). Watching t.entries t.seen n.lits x) e (was.watches other (beside_one v.pair f.lit other v.beside).1)
+        ];
+      };
+  apart = λ n h q. absurd (none-some (record { first = l; second = other }) (sym q));
+}
+  where
+    made : (p : Pair) → Some (record { first = l; second = other }) ≡ Some p → record { first = l; second = other } ≡ p
+    made p q = same_Some (record { first = l; second = other }) p q
+
+    either : (p : Pair) (k : Literal) → Some (record { first = l; second = other }) ≡ Some p → IsOneOf p k → (l ≡ k) ⊎ (other ≡ k)
+    either p k q (inl e) = inl (ap (λ (x : Pair). x.first) (made p q) ∙ e)
+    either p k q (inr e) = inr (ap (λ (x : Pair). x.second) (made p q) ∙ e)
+
+-- a literal that isn't true isn't the front's
+pub may_differ : (slots : List (Option Kept)) (t : Trailed) (f : Front) (id : ℕ) (other l : Literal) → IsOrdered t.vars t.entries → Stands t.entries f.lit t.seen f.level →
+    MayWatch slots t id other l → l ≢ f.lit
+may_differ slots t f id other l o s m e =
+    false≢true (sym m.not_true ∙ (ap (holds_in (assignment t.vars t.entries)) e ∙ front_holds t f o s))
+
+move_gone : (slots : List (Option Kept)) (w : Watches) (t : Trailed) (f : Front) (i id : ℕ) (other l : Literal) → IsOrdered t.vars t.entries → MayWatch slots t id other l →
+    IsVisit slots w t f i id other → (n : Nogood) → nogood_at slots id ≡ Some n → (p : Pair) → record { first = l; second = other } ≡ p → IsOneOf p f.lit → ⊥
+move_gone slots w t f i id other l o m v n h p e one =
+    elim one [
+      | inl a ↦ may_differ slots t f id other l o v.walking.stands m (ap (λ (x : Pair). x.first) e ∙ a)
+      | inr a ↦ beside_differ v.pair f.lit other (v.walking.sound.fit.watched id n v.pair h v.pair_is).differ v.beside (ap (λ (x : Pair). x.second) e ∙ a)
+    ]
+
+-- the pair of the front's literal and the other is that of another one and the other
+pub walking_move : (slots : List (Option Kept)) (w : Watches) (t : Trailed) (f : Front) (i id : ℕ) (other l : Literal) → IsOrdered t.vars t.entries → MayWatch slots t id other l →
+    ((n : Nogood) → nogood_at slots id ≡ Some n → IsListed w.lists l 0 id n.lits) → IsVisit slots w t f i id other →
+    IsWalking slots (record w { pairs = set w.pairs id (Some (record { first = l; second = other })) }) t f i
+walking_move slots w t f i id other l o m listed v =
+    walking_pair slots w t f i id (Some (record { first = l; second = other })) (suits_move slots w t f i id other l o m listed v)
+    (λ k g q. absurd (none-some (record { first = l; second = other }) (sym q)))
+    (λ n p h q one. move_gone slots w t f i id other l o m v n h p (same_Some (record { first = l; second = other }) p q) one) v.walking
+
+-- after it the front's literal isn't watched
+pub moved_gone : (slots : List (Option Kept)) (w : Watches) (t : Trailed) (f : Front) (i id : ℕ) (other l : Literal) → IsOrdered t.vars t.entries → MayWatch slots t id other l →
+    IsVisit slots w t f i id other → (n : Nogood) (p : Pair) → nogood_at slots id ≡ Some n →
+    pair_at (set w.pairs id (Some (record { first = l; second = other }))) id ≡ Some p → IsOneOf p f.lit → ⊥
+moved_gone slots w t f i id other l o m v n p h g one =
+    move_gone slots w t f i id other l o m v n h p
+    (same_Some (record { first = l; second = other }) p (sym (at_set w.pairs id (Some (record { first = l; second = other })) None id (visit_id slots w t f i id other v) refl) ∙ g)) one
+
+-- ---- the nogood of a visit isn't watched any more
+pub visit_apart : (slots : List (Option Kept)) (w : Watches) (t : Trailed) (f : Front) (i id : ℕ) (other : Literal) (x : ℕ) → IsVisit slots w t f i id other →
+    IsVisit slots (record w { apart = record w.apart { items = w.apart.items ++ x ∷ [] } }) t f i id other
+visit_apart slots w t f i id other x v = record {
+  walking = record {
+    sound = sound_push slots w t x v.walking.sound;
+    settled = v.walking.settled;
+    done = v.walking.done;
+    stands = v.walking.stands;
+  };
+  watch = v.watch;
+  at = v.at;
+  id_is = v.id_is;
+  pair = v.pair;
+  pair_is = v.pair_is;
+  beside = v.beside;
+}
+
+pub walking_apart : (slots : List (Option Kept)) (w : Watches) (t : Trailed) (f : Front) (i id : ℕ) (other : Literal) (b : ℕ) → IsFrom w.apart w.apart.retired id →
+    IsFalseBy t.entries other b → IsVisit slots w t f i id other → IsWalking slots (record w { pairs = set w.pairs id None }) t f i
+walking_apart slots w t f i id other b waits is_false v =
+    walking_pair slots w t f i id None
+    record {
+      within = visit_id slots w t f i id other v;
+      bounded = λ p l q o. absurd (none-some p q);
+      listed = λ n p l h q o. absurd (none-some p q);
+      watched = λ n p h q. absurd (none-some p q);
+      apart = λ n h q. waits;
+    }
+    (λ n h q. (b, (other, visit_has slots w t f i id other n v h, is_false))) (λ n p h q o. none-some p q) v.walking
+
+pub apart_gone : (slots : List (Option Kept)) (w : Watches) (t : Trailed) (f : Front) (i id : ℕ) (other : Literal) → IsVisit slots w t f i id other → (p : Pair) →
+    pair_at (set w.pairs id None) id ≡ Some p → ⊥
+apart_gone slots w t f i id other v p g = none-some p (sym (at_set w.pairs id None None id (visit_id slots w t f i id other v) refl) ∙ g)
+
+-- ---- the trail grows
+pub visit_grow : (slots : List (Option Kept)) (w : Watches) (t : Trailed) (f : Front) (i id : ℕ) (other : Literal) (fs : List Entry) → t.seen ≤ length t.entries →
+    IsVisit slots w t f i id other → IsVisit slots w (record t { entries = t.entries ++ fs }) f i id other
+visit_grow slots w t f i id other fs le v = record {
+  walking = record {
+    sound = sound_grow slots w t fs le v.walking.sound;
+    settled = settled_grow slots w.pairs t.entries fs v.walking.settled;
+    done = λ j n p h g o. elim (v.walking.done j n p h g o) [
+      | inl l ↦ inl l
+      | inr m ↦ inr (has_false_grow t.entries fs n.lits f.level m)
+    ];
+    stands = stands_grow t.entries fs f.lit t.seen f.level v.walking.stands;
+  };
+  watch = v.watch;
+  at = v.at;
+  id_is = v.id_is;
+  pair = v.pair;
+  pair_is = v.pair_is;
+  beside = v.beside;
+}
+
+-- ---- literals of a visited nogood
+pub visit_small : (slots : List (Option Kept)) (w : Watches) (t : Trailed) (id : ℕ) (n : Nogood) (lits : List Literal) → IsSound slots w t → nogood_at slots id ≡ Some n → n.lits ≡ lits →
+    All (λ k. IsVar t.vars k.var) lits
+visit_small slots w t id n lits s h e = subst (λ (xs : List Literal). All (λ k. IsVar t.vars k.var) xs) e (s.net.small id n h)
+
+-- ---- another literal watches in place of the front's
+abbrev pub moved : Watches → Literal → Literal → ℕ → Watches
+moved w l other id = record w {
+  lists = set w.lists (code_of l) (list_at w.lists (code_of l) ++ record { blocker = other; id = id } ∷ []);
+  pairs = set w.pairs id (Some (record { first = l; second = other }));
+}
+
+moved_visit : (slots : List (Option Kept)) (w : Watches) (t : Trailed) (f : Front) (i id : ℕ) (other l : Literal) → IsOrdered t.vars t.entries → MayWatch slots t id other l →
+    IsVisit slots w t f i id other →
+    IsVisit slots (record w { lists = set w.lists (code_of l) (list_at w.lists (code_of l) ++ record { blocker = other; id = id } ∷ []) }) t f i id other
+moved_visit slots w t f i id other l o m v =
+    visit_push slots w t f i id other l (record { blocker = other; id = id }) m.small (visit_var slots w t f i id other v) (may_differ slots t f id other l o v.walking.stands m) v
+
+pub moved_walking : (slots : List (Option Kept)) (w : Watches) (t : Trailed) (f : Front) (i id : ℕ) (other l : Literal) → IsOrdered t.vars t.entries → MayWatch slots t id other l →
+    IsVisit slots w t f i id other → IsWalking slots (moved w l other id) t f i
+moved_walking slots w t f i id other l o m v =
+    walking_move slots (record w { lists = set w.lists (code_of l) (list_at w.lists (code_of l) ++ record { blocker = other; id = id } ∷ []) }) t f i id other l o m
+    (λ n h. listed_new w.lists (record { blocker = other; id = id }) l n.lits (code_of_list slots w t l v.walking.sound m.small) (visit_has slots w t f i id other n v h))
+    (moved_visit slots w t f i id other l o m v)
+
+pub moved_at : (slots : List (Option Kept)) (w : Watches) (t : Trailed) (f : Front) (i id : ℕ) (other l : Literal) → IsOrdered t.vars t.entries → MayWatch slots t id other l →
+    IsVisit slots w t f i id other → (x : Watch) × (place (moved w l other id).lists (code_of f.lit) i ≡ Some x) × (x.id ≡ id)
+moved_at slots w t f i id other l o m v = let u = moved_visit slots w t f i id other l o m v in (u.watch, u.at, u.id_is)
+
+pub moved_size : (slots : List (Option Kept)) (w : Watches) (t : Trailed) (f : Front) (i id : ℕ) (other l : Literal) → IsOrdered t.vars t.entries → MayWatch slots t id other l →
+    IsVisit slots w t f i id other → size (moved w l other id).lists (code_of f.lit) ≡ size w.lists (code_of f.lit)
+moved_size slots w t f i id other l o m v =
+    ap (length {A = Watch}) (at_set_other w.lists (code_of l) (list_at w.lists (code_of l) ++ record { blocker = other; id = id } ∷ []) [] (code_of f.lit)
+    (λ e. may_differ slots t f id other l o v.walking.stands m (sym (code_injective f.lit l e))))
+
+-- the number stands among those apart, and has no pair
+abbrev pub put_apart : Watches → ℕ → Watches
+put_apart w id = record w { pairs = set w.pairs id None; apart = record w.apart { items = w.apart.items ++ id ∷ [] } }
+
+pub apart_walking : (slots : List (Option Kept)) (w : Watches) (t : Trailed) (f : Front) (i id : ℕ) (other : Literal) (b : ℕ) → w.apart.retired ≤ length w.apart.items →
+    IsFalseBy t.entries other b → IsVisit slots w t f i id other → IsWalking slots (put_apart w id) t f i
+apart_walking slots w t f i id other b begun is_false v =
+    walking_apart slots (record w { apart = record w.apart { items = w.apart.items ++ id ∷ [] } }) t f i id other b
+    (length w.apart.items, begun, get_last w.apart.items id) is_false (visit_apart slots w t f i id other id v)
+
+-- ---- what watches beside a literal
+pub none_beside : (pairs : List (Option Pair)) (id : ℕ) (l : Literal) (p : Pair) (r : Option Literal) → Some p ≡ pair_at pairs id → MatchOption r (IsOneOf p l → ⊥) (IsBeside p l) →
+    IfNone r ((q : Pair) → pair_at pairs id ≡ Some q → IsOneOf q l → ⊥)
+none_beside pairs id l p None e m = λ q g o. m (subst (λ (x : Pair). IsOneOf x l) (sym (same_Some p q (e ∙ g))) o)
+none_beside pairs id l p (Some k) e m = tt
+
+pub some_beside : (pairs : List (Option Pair)) (id : ℕ) (l : Literal) (p : Pair) (r : Option Literal) → Some p ≡ pair_at pairs id → MatchOption r (IsOneOf p l → ⊥) (IsBeside p l) →
+    IfSome r (λ k. (q : Pair) × (pair_at pairs id ≡ Some q) × IsBeside q l k)
+some_beside pairs id l p None e m = tt
+some_beside pairs id l p (Some k) e m = (p, sym e, m)

@@ -1,0 +1,6 @@
+use Rattle.std.proofs.Common.{◌≡◌, [], map, List, replicate}
+use Rattle.asp_store.specs.declared.watch.Watch.{Watch}
+use Rattle.asp_store.proofs.lists.WatchLists.new.Given as goal
+
+abbrev pub invariant-loop : goal.invariant-loop
+invariant-loop l = map (λ v. v.items) l.lists.items ≡ replicate l.counter []

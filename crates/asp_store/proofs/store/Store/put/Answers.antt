@@ -1,0 +1,60 @@
+use Rattle.std.proofs.Common.{◌≡◌, ◌<◌, ◌≤◌, ◌+◌, ◌-◌, ℕ, true, false, [], ◌∷◌, ◌++◌, List, Option, Some, None, length, set, refl, sym, ap, subst, ◌∙◌, arith}
+use Rattle.std.specs.List.{All, count_by}
+use Rattle.std.proofs.lemmas.List.{take_at, length-set, length-append}
+use Rattle.asp_trail.specs.Trails.{IsVar}
+use Rattle.asp_store.specs.declared.kept.Kept.{Kept}
+use Rattle.asp_store.specs.declared.watch.Pair.{Pair}
+use Rattle.asp_store.specs.declared.watches.Watches.{Watches}
+use Rattle.asp_store.specs.Keeping.{kept_at, is_extra, with_lock}
+use Rattle.asp_store.specs.Parted.{Parted}
+use Rattle.asp_store.specs.Storing.{Stored, IsStore, IsAdded, removed}
+use Rattle.asp_store.proofs.GetLaws.{on_err}
+use Rattle.asp_store.proofs.SoundLaws.{from_push}
+use Rattle.asp_store.proofs.FitsLaws.{removed_loses}
+use Rattle.asp_store.proofs.StoreLaws.{view_of, store_add, store_lose, store_lock, added_put, added_push, put_count, push_count, removed_count}
+use Rattle.asp_store.proofs.store.Store.put.Goals as goal
+
+pub set-requires : goal.set-requires
+set-requires c =
+    let h : c.args.id < length c.self.inside.slots.items = subst (λ (s : Stored). c.args.id < length s.slots) (sym c.self.view_is) c.requires.within in
+    omega (arith, h, c.self.invariant.net.paired)
+
+pub invariant_of-self-2 : goal.invariant_of-self-2
+invariant_of-self-2 c =
+    let i = c.self.inside in
+    let slots = i.slots.items in
+    let k : Kept = record { nogood = c.args.nogood; kind = c.args.kind; locked = false } in
+    let h : c.args.id < length slots = subst (λ (s : Stored). c.args.id < length s.slots) (sym c.self.view_is) c.requires.within in
+    let free : kept_at slots c.args.id ≡ None = ap (λ (s : Stored). kept_at s.slots c.args.id) c.self.view_is ∙ c.requires.free in
+    let small : All (λ l. IsVar i.vars l.var) c.args.nogood.lits = subst (λ (s : Stored). All (λ l. IsVar s.vars l.var) c.args.nogood.lits) (sym c.self.view_is) c.requires.small in
+    let inside : c.args.id < length i.watches.pairs = omega (arith, h, c.self.invariant.net.paired) in
+    let begun : i.watches.apart.retired ≤ length i.watches.apart.items = omega (arith, c.len-len.ensures.len, c.len-len.ensures.retired) in
+    let z : Watches = record i.watches { pairs = set i.watches.pairs c.args.id None; apart = record i.watches.apart { items = i.watches.apart.items ++ c.args.id ∷ [] } } in
+    let a = c.in_ok-push.ensures.ok in
+    let b = c.set.ensures in
+    let e : record i.watches { pairs = c.set.new.self; apart = c.push.new.self } ≡ z = λ j. record i.watches { pairs = b j; apart = a j } in
+    let more : IsAdded (view_of i.vars slots i.watches) (view_of i.vars (set slots c.args.id (Some k)) z) c.args.id c.args.nogood c.args.kind =
+    added_put (view_of i.vars slots i.watches) c.args.id c.args.nogood c.args.kind h inside free begun in
+    subst (λ (w : Watches). IsStore i.vars (set slots c.args.id (Some k)) w (i.extra + c.extra_of.result)) (sym e)
+    (store_add i.vars slots (set slots c.args.id (Some k)) i.watches z i.extra (i.extra + c.extra_of.result) c.args.id c.args.nogood c.args.kind c.self.invariant refl
+    (omega (arith, length-set i.watches.pairs c.args.id None, length-set slots c.args.id (Some k), c.self.invariant.net.paired)) more (λ j f. from_push i.watches.apart c.args.id 0 j f) small
+    (omega (arith, put_count slots c.args.id (Some k) h free, c.self.invariant.counted, c.extra_of.ensures)))
+
+pub returns-clause-ok : goal.returns-clause-ok
+returns-clause-ok c =
+    let i = c.self.inside in
+    let slots = i.slots.items in
+    let k : Kept = record { nogood = c.args.nogood; kind = c.args.kind; locked = false } in
+    let h : c.args.id < length slots = subst (λ (s : Stored). c.args.id < length s.slots) (sym c.self.view_is) c.requires.within in
+    let free : kept_at slots c.args.id ≡ None = ap (λ (s : Stored). kept_at s.slots c.args.id) c.self.view_is ∙ c.requires.free in
+    let small : All (λ l. IsVar i.vars l.var) c.args.nogood.lits = subst (λ (s : Stored). All (λ l. IsVar s.vars l.var) c.args.nogood.lits) (sym c.self.view_is) c.requires.small in
+    let inside : c.args.id < length i.watches.pairs = omega (arith, h, c.self.invariant.net.paired) in
+    let begun : i.watches.apart.retired ≤ length i.watches.apart.items = omega (arith, c.len-len.ensures.len, c.len-len.ensures.retired) in
+    let z : Watches = record i.watches { pairs = set i.watches.pairs c.args.id None; apart = record i.watches.apart { items = i.watches.apart.items ++ c.args.id ∷ [] } } in
+    let a = c.in_ok-push.ensures.ok in
+    let b = c.set.ensures in
+    let e : record i.watches { pairs = c.set.new.self; apart = c.push.new.self } ≡ z = λ j. record i.watches { pairs = b j; apart = a j } in
+    let more : IsAdded (view_of i.vars slots i.watches) (view_of i.vars (set slots c.args.id (Some k)) z) c.args.id c.args.nogood c.args.kind =
+    added_put (view_of i.vars slots i.watches) c.args.id c.args.nogood c.args.kind h inside free begun in
+    subst (λ (s : Stored). IsAdded s (view_of i.vars (set slots c.args.id (Some k)) (record i.watches { pairs = c.set.new.self; apart = c.push.new.self })) c.args.id c.args.nogood c.args.kind) c.self.view_is
+    (subst (λ (w : Watches). IsAdded (view_of i.vars slots i.watches) (view_of i.vars (set slots c.args.id (Some k)) w) c.args.id c.args.nogood c.args.kind) (sym e) more)

@@ -1,0 +1,43 @@
+use Rattle.std.proofs.Common.{◌≡◌, ℕ, Option, List, Some, None, refl, sym, ap, ◌∙◌, subst}
+use Rattle.asp_vars.specs.declared.nogood.Nogood.{Nogood}
+use Rattle.asp_store.specs.declared.watch.Pair.{Pair}
+use Rattle.asp_store.specs.declared.watches.Watches.{Watches}
+use Rattle.asp_store.specs.Keeping.{nogood_at}
+use Rattle.asp_store.specs.Pairs.{pair_at, IsOneOf}
+use Rattle.asp_store.specs.Parted.{Parted}
+use Rattle.asp_store.specs.Sounding.{IsSound}
+use Rattle.asp_store.specs.Walking.{IsWalking}
+use Rattle.asp_store.proofs.StepLaws.{visit_id, put_apart, apart_walking, apart_gone}
+use Rattle.asp_store.proofs.visits.set_apart.Goals as goal
+
+pub set-requires : goal.set-requires
+set-requires c = visit_id c.args.slots.now c.args.watches.now c.args.trail.now c.args.front.now c.args.i c.args.id c.args.other c.requires.visit
+
+pub leave-requires-clause-walking : goal.leave-requires-clause-walking
+leave-requires-clause-walking c =
+    let w = c.args.watches.now in
+    let a = c.in_ok-push.ensures.ok in
+    let b = c.set.ensures in
+    let e : record w { pairs = c.set.new.self; apart = c.push.new.self } ≡ put_apart w c.args.id = λ j. record w { pairs = b j; apart = a j } in
+    subst (λ (x : Watches). IsWalking c.args.slots.now x c.args.trail.now c.args.front.now c.args.i) (sym e)
+    (apart_walking c.args.slots.now w c.args.trail.now c.args.front.now c.args.i c.args.id c.args.other c.requires.is_false.0 (rw c.len-len.ensures.len at c.len-len.ensures.retired)
+    c.requires.is_false.1 c.requires.visit)
+
+pub leave-requires-clause-at : goal.leave-requires-clause-at
+leave-requires-clause-at c = (c.requires.visit.watch, c.requires.visit.at, c.requires.visit.id_is)
+
+pub leave-requires-clause-gone : goal.leave-requires-clause-gone
+leave-requires-clause-gone c = λ n p h g o.
+    apart_gone c.args.slots.now c.args.watches.now c.args.trail.now c.args.front.now c.args.i c.args.id c.args.other c.requires.visit p
+    (sym (ap (λ (ps : List (Option Pair)). pair_at ps c.args.id) c.set.ensures) ∙ g)
+
+pub returns-clause-sound : goal.returns-clause-sound
+returns-clause-sound c = c.leave.ensures.0.sound
+
+pub returns-clause-steps : goal.returns-clause-steps
+returns-clause-steps c = (c.leave.ensures.0, c.leave.ensures.1)
+
+pub returns-in_err-push-clause-sound : goal.returns-in_err-push-clause-sound
+returns-in_err-push-clause-sound c =
+    let w = c.args.watches.now in
+    subst (λ (a : Parted). IsSound c.args.slots.now (record w { apart = a }) c.args.trail.now) (sym c.in_err-push.ensures.err) c.requires.visit.walking.sound

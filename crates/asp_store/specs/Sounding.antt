@@ -1,0 +1,46 @@
+-- What is kept of lists, pairs and numbers apart, and how they fit a trail.
+use Rattle.std.specs.Prelude.{◌≡◌, ℕ, ◌+◌, ◌*◌, ◌≤◌, ◌⊎◌, List, length, Option, Some, None, IsTrue}
+use Rattle.asp_vars.specs.Literals.{Literal, has_literal}
+use Rattle.asp_vars.specs.Codes.{code_of}
+use Rattle.asp_vars.specs.declared.nogood.Nogood.{Nogood}
+use Rattle.asp_trail.specs.declared.trail.Entry.{Entry}
+use Rattle.asp_trail.specs.Trails.{Trailed}
+use Rattle.asp_store.specs.declared.kept.Kept.{Kept}
+use Rattle.asp_store.specs.declared.watch.Watch.{Watch}
+use Rattle.asp_store.specs.declared.watch.Pair.{Pair}
+use Rattle.asp_store.specs.declared.watches.Watches.{Watches}
+use Rattle.asp_store.specs.Keeping.{nogood_at}
+use Rattle.asp_store.specs.Lists.{place}
+use Rattle.asp_store.specs.Pairs.{pair_at, IsOneOf}
+use Rattle.asp_store.specs.Parted.{IsFrom}
+use Rattle.asp_store.specs.Fitting.{HasFalse, AreFit, AreSmall}
+
+-- In the literal's list, at the i-th place or behind it, stands this number beside a literal of the nogood.
+pub record IsListed (lists : List (List Watch)) (l : Literal) (i id : ℕ) (n : List Literal) : Type 0 where
+  pub at : ℕ
+  pub watch : Watch
+  pub from : i ≤ at
+  pub stands : place lists (code_of l) at ≡ Some watch
+  pub id_is : watch.id ≡ id
+  pub has : IsTrue (has_literal n watch.blocker)
+
+-- Each kept nogood that is watched stands in the lists of its two literals, and each other one among those apart.
+pub record IsNet (vars : ℕ) (slots : List (Option Kept)) (w : Watches) : Type 0 where
+  pub sized : length w.lists ≡ 2 * vars + 2
+  pub paired : length w.pairs ≡ length slots
+  pub small : AreSmall vars slots
+  pub blockers : (c i : ℕ) (x : Watch) → place w.lists c i ≡ Some x → x.blocker.var ≤ vars
+  pub watched : (id : ℕ) (p : Pair) (l : Literal) → pair_at w.pairs id ≡ Some p → IsOneOf p l → l.var ≤ vars
+  pub listed : (id : ℕ) (n : Nogood) (p : Pair) (l : Literal) → nogood_at slots id ≡ Some n → pair_at w.pairs id ≡ Some p → IsOneOf p l → IsListed w.lists l 0 id n.lits
+  pub unwatched : (id : ℕ) (n : Nogood) → nogood_at slots id ≡ Some n → pair_at w.pairs id ≡ None → IsFrom w.apart 0 id
+
+pub record IsSound (slots : List (Option Kept)) (w : Watches) (t : Trailed) : Type 0 where
+  pub net : IsNet t.vars slots w
+  pub fit : AreFit slots w.pairs w.apart t
+
+-- Each kept nogood that isn't watched has a literal that is false, or stands at this place among those apart, or behind it.
+abbrev pub AreSettledFrom : List (Option Kept) → Watches → List Entry → ℕ → Type 0
+AreSettledFrom slots w entries i = (id : ℕ) (n : Nogood) → nogood_at slots id ≡ Some n → pair_at w.pairs id ≡ None → IsFrom w.apart i id ⊎ ((b : ℕ) × HasFalse entries n.lits b)
+
+abbrev pub AreSettled : List (Option Kept) → List (Option Pair) → List Entry → Type 0
+AreSettled slots pairs entries = (id : ℕ) (n : Nogood) → nogood_at slots id ≡ Some n → pair_at pairs id ≡ None → (b : ℕ) × HasFalse entries n.lits b

@@ -1,0 +1,69 @@
+//! The watched literals of each nogood, by its number.
+ghost use Rattle.std.specs.Prelude.{◌≡◌, ◌<◌, ◌++◌, ◌∷◌, [], Some, None, OnOk, OnErr, length, slice_set, ◌-◌, slice_index_or, Option};
+ghost use Rattle.std.specs.Vec.{vec_capacity};
+ghost use Rattle.asp_store.specs.Pairs.{pair_at};
+
+use crate::watch::Pair;
+use std::alloc::{AllocError, Global};
+use std::marker::Model;
+
+/// The pair of each number, if its nogood is watched.
+#[derive(Drop)]
+pub struct Pairs {
+    items: Vec<Option<Pair>>,
+}
+
+impl Model for Pairs {
+    ghost use Rattle.std.specs.Prelude.{List, Option};
+    ghost use Rattle.asp_store.specs.declared.watch.Pair.{Pair};
+
+    ghost Value = { List (Option Pair) };
+
+    ghost view = { λ p. p.items.items };
+}
+
+impl Pairs {
+    /// No numbers.
+    pub fn new(alloc: Global) -> Pairs
+        ensures { result ≡ [] }
+    {
+        Pairs {
+            items: Vec::new(alloc),
+        }
+    }
+
+    /// The pair of a number. None where it has none.
+    pub fn pair(&self, id: usize) -> Option<Pair>
+        ensures { result ≡ pair_at self.now id }
+    {
+        if id < self.items.len() {
+            self.items[id]
+        } else {
+            None
+        }
+    }
+
+    /// Gives a number its pair, or takes it away.
+    pub fn set(&mut self, id: usize, pair: Option<Pair>)
+        requires { id < length self.old }
+        ensures { self.new ≡ slice_set self.old id pair }
+    {
+        self.items[id] = pair;
+    }
+
+    /// One number more, which has no pair. Want of memory leaves all as it was.
+    pub fn push(&mut self) -> Result<(), AllocError>
+        ensures ok { OnOk result (self.new ≡ self.old ++ None ∷ []) }
+        ensures err { OnErr result (self.new ≡ self.old) }
+    {
+        self.items.push(None)?;
+        Ok(())
+    }
+
+    /// Takes the last number away.
+    pub fn pop(&mut self)
+        ensures { (d : Option Pair) → 0 < length self.old → self.old ≡ self.new ++ slice_index_or self.old (length self.old - 1) d ∷ [] }
+    {
+        self.items.pop();
+    }
+}

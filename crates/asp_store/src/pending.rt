@@ -1,0 +1,166 @@
+//! Nogoods that aren't watched: new ones, and those that no two literals can watch yet. They are looked at whole as a
+//! propagation begins.
+ghost use Rattle.std.specs.Prelude.{◌≡◌, ℕ, ◌<◌, ◌≤◌, IfOk, IfSome, IfNone, OnOk, Some, length, slice_get};
+ghost use Rattle.asp_vars.specs.declared.nogood.Nogood.{Nogood};
+ghost use Rattle.asp_store.specs.Keeping.{nogood_at};
+ghost use Rattle.asp_store.specs.Fitting.{Extends, IsWatched, HasFalse};
+ghost use Rattle.asp_store.specs.Sounding.{IsSound, AreSettled};
+ghost use Rattle.asp_store.specs.Walking.{IsViolated};
+ghost use Rattle.asp_store.specs.Pending.{IsLooking, IsWaiting, Looks, HasNone};
+
+use crate::front::Step;
+use crate::kept::Kept;
+use crate::looks::{Look, look_at};
+use crate::visits::lits_at;
+use crate::watch::{Pair, Watch};
+use crate::watches::Watches;
+use asp_trail::reasons::NogoodId;
+use asp_trail::trail::Trail;
+use asp_vars::lit::Lit;
+use std::alloc::AllocError;
+
+// The place goes, as no kept nogood that isn't watched has its number.
+fn leave(watches: &mut Watches, slots: &[Option<Kept>], i: usize, trail: &Trail)
+    requires looking { IsLooking slots.now watches.old trail.now i }
+    requires none { HasNone slots.now watches.old i }
+    requires within { i < length watches.old.apart.items }
+    ensures { Looks slots.now watches.old watches.new trail.now i Step.Goes }
+{
+    let _len = trail.len();
+    watches.apart.drop_at(i);
+}
+
+// From now on these two literals watch the nogood at a place.
+fn attach(
+    watches: &mut Watches,
+    slots: &[Option<Kept>],
+    i: usize,
+    id: u32,
+    pair: Pair,
+    trail: &Trail,
+) -> Result<(), AllocError>
+    requires waiting { IsWaiting slots.now watches.old trail.now i id }
+    requires watched { (n : Nogood) → nogood_at slots.now id ≡ Some n → IsWatched n.lits pair trail.now.entries (length trail.now.entries) }
+    ensures sound { IsSound slots.now watches.new trail.now }
+    ensures looks { OnOk result (Looks slots.now watches.old watches.new trail.now i Step.Goes) }
+{
+    let _len = trail.len();
+    watches.lists.push(
+        pair.first,
+        Watch {
+            blocker: pair.second,
+            id,
+        },
+    )?;
+    watches.lists.push(
+        pair.second,
+        Watch {
+            blocker: pair.first,
+            id,
+        },
+    )?;
+    watches.pairs.set(id as usize, Some(pair));
+    leave(watches, slots, i, trail);
+    Ok(())
+}
+
+// The nogood at a place has a literal that is false at level 0.
+fn retire(watches: &mut Watches, slots: &[Option<Kept>], i: usize, id: u32, trail: &Trail)
+    requires waiting { IsWaiting slots.now watches.old trail.now i id }
+    requires is_false { (n : Nogood) → nogood_at slots.now id ≡ Some n → HasFalse trail.now.entries n.lits 0 }
+    ensures { Looks slots.now watches.old watches.new trail.now i Step.Stays }
+{
+    let _len = trail.len();
+    watches.apart.retire(i);
+}
+
+// Looks at the nogood at a place, whose literals these are.
+fn look_at_nogood(
+    watches: &mut Watches,
+    slots: &[Option<Kept>],
+    lits: &[Lit],
+    i: usize,
+    id: u32,
+    trail: &mut Trail,
+) -> Result<Step, AllocError>
+    requires waiting { IsWaiting slots.now watches.old trail.old i id }
+    requires kept { (n : Nogood) × (nogood_at slots.now id ≡ Some n) × (n.lits ≡ lits.now) }
+    requires room { trail.old.vars ≤ trail.old.room }
+    ensures same { trail.new ≡ record trail.old { entries = trail.new.entries } }
+    ensures extends { Extends slots.now trail.old.entries trail.new.entries }
+    ensures sound { IsSound slots.now watches.new trail.new }
+    ensures looks { IfOk result (Looks slots.now watches.old watches.new trail.new i) }
+{
+    let _len = trail.len();
+    let found = look_at(lits, id as usize, trail);
+    let _new_len = trail.len();
+    match found {
+        Look::Violated => Ok(Step::Violated(id as usize)),
+        Look::Watched(pair) => {
+            attach(watches, slots, i, id, pair, trail)?;
+            Ok(Step::Goes)
+        }
+        Look::Pending => Ok(Step::Stays),
+        Look::Retired => {
+            retire(watches, slots, i, id, trail);
+            Ok(Step::Stays)
+        }
+    }
+}
+
+// Looks at the i-th of those apart.
+fn look_at_place(
+    watches: &mut Watches,
+    slots: &[Option<Kept>],
+    i: usize,
+    trail: &mut Trail,
+) -> Result<Step, AllocError>
+    requires looking { IsLooking slots.now watches.old trail.old i }
+    requires within { i < length watches.old.apart.items }
+    requires room { trail.old.vars ≤ trail.old.room }
+    ensures same { trail.new ≡ record trail.old { entries = trail.new.entries } }
+    ensures extends { Extends slots.now trail.old.entries trail.new.entries }
+    ensures sound { IsSound slots.now watches.new trail.new }
+    ensures looks { IfOk result (Looks slots.now watches.old watches.new trail.new i) }
+{
+    let id = watches.apart.id(i);
+    if watches.pairs.pair(id as usize).is_some() {
+        leave(watches, slots, i, trail);
+        return Ok(Step::Goes);
+    }
+    match lits_at(slots, id) {
+        None => {
+            leave(watches, slots, i, trail);
+            Ok(Step::Goes)
+        }
+        Some(lits) => look_at_nogood(watches, slots, lits, i, id, trail),
+    }
+}
+
+/// Looks at all that aren't watched, until one is violated.
+pub fn look_at_pending(
+    watches: &mut Watches,
+    slots: &[Option<Kept>],
+    trail: &mut Trail,
+) -> Result<Option<NogoodId>, AllocError>
+    requires sound { IsSound slots.now watches.old trail.old }
+    requires room { trail.old.vars ≤ trail.old.room }
+    ensures same { trail.new ≡ record trail.old { entries = trail.new.entries } }
+    ensures extends { Extends slots.now trail.old.entries trail.new.entries }
+    ensures sound { IsSound slots.now watches.new trail.new }
+    ensures settled { IfOk result (λ r. IfNone r (AreSettled slots.now watches.new.pairs trail.new.entries)) }
+    ensures violated { IfOk result (λ r. IfSome r (IsViolated trail.new.vars slots.now trail.new.entries)) }
+{
+    let mut i = watches.apart.retired();
+    'places: while i < watches.apart.len() {
+        let step = look_at_place(watches, slots, i, trail)?;
+        match step {
+            Step::Stays => {
+                i += 1;
+            }
+            Step::Goes => {}
+            Step::Violated(id) => return Ok(Some(id)),
+        }
+    }
+    Ok(None)
+}
