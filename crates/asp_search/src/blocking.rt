@@ -19,6 +19,7 @@ ghost use Rattle.asp_search.specs.Blocking.{IsSpare, Drops, Blocks};
 
 use asp_propagate::propagator::Propagator;
 use asp_state::state::SearchState;
+use asp_store::kept::Kind;
 use asp_trail::reasons::{NogoodId, Reasons};
 use asp_trail::trail::Trail;
 use asp_vars::lit::{Lit, Var};
@@ -116,7 +117,7 @@ pub(crate) fn block<P: Propagator>(
     let way = state.way(alloc)?;
     let lits = way.lits.copy()?;
     bars.reserve(1)?;
-    let id = state.keep(way, true)?;
+    let id = state.keep(way, Kind::Forever, 0)?;
     state.undo_to(state.decisions().len().saturating_sub(1));
     drop_all(state, bars, lits.as_slice());
     bars.push_reserved(id);

@@ -13,6 +13,7 @@ ghost use Rattle.asp_propagate.specs.Useful.{IsSmaller};
 ghost use Rattle.asp_search_laws.specs.Steps.{is_of_use};
 ghost use Rattle.asp_search.specs.Beside.{new_search, Enters, Leaves, is_local, is_shared, only_shared, exported, IsOpen, IsShared, IsSharedBy};
 
+use crate::spread::Spread;
 use asp_analyze::learn::Learner;
 use asp_model::cost::Cost;
 use asp_model::interp::Interp;
@@ -21,6 +22,7 @@ use asp_order::pace::Pace;
 use asp_propagate::propagator::Propagator;
 use asp_stable::checker::Checker;
 use asp_state::state::SearchState;
+use asp_store::kept::Kind;
 use asp_store::store::Store;
 use asp_trail::reasons::{NogoodId, Reasons};
 use asp_vars::compiled::Compiled;
@@ -41,6 +43,7 @@ pub struct Search<'a, P: Propagator> {
     pub(crate) state: SearchState<P>,
     pub(crate) pace: Pace,
     pub(crate) learner: Learner,
+    pub(crate) spread: Spread,
     pub(crate) checker: Checker<'a>,
     pub(crate) known: Vec<Interp>,
     pub(crate) bars: Vec<NogoodId>,
@@ -127,6 +130,7 @@ impl<'a, P: Propagator> Search<'a, P> {
         let _program = compiled.program();
         let state = SearchState::new(alloc, compiled, propagator)?;
         let learner = Learner::new(alloc, vars)?;
+        let spread = Spread::new(alloc, vars)?;
         let checker = Checker::new(alloc, compiled)?;
         Ok(Search {
             alloc,
@@ -135,6 +139,7 @@ impl<'a, P: Propagator> Search<'a, P> {
             state,
             pace: Pace::new(),
             learner,
+            spread,
             checker,
             known: Vec::new(alloc),
             bars: Vec::new(alloc),
@@ -200,7 +205,8 @@ impl<'a, P: Propagator> Search<'a, P> {
     {
         let _mode = self.mode;
         let copy = nogood.copy()?;
-        self.state.keep(copy, false)?;
+        let levels = copy.lits.as_slice().len() as u32;
+        self.state.keep(copy, Kind::Learnt, levels)?;
         Ok(())
     }
 

@@ -31,6 +31,7 @@ use asp_order::pace::Pace;
 use asp_propagate::propagator::Propagator;
 use asp_search_laws::step::Step;
 use asp_state::state::SearchState;
+use asp_store::kept::Kind;
 use asp_trail::reasons::NogoodId;
 use asp_vars::fuel::Fuel;
 use asp_vars::lit::Lit;
@@ -90,7 +91,7 @@ impl<'a, P: Propagator> Search<'a, P> {
         }
         fuel.burn(conflict);
         self.pace.count();
-        let new = jump(&mut self.state, &self.learner, nogood, to, lit)?;
+        let new = jump(&mut self.state, &self.learner, &mut self.spread, nogood, to, lit)?;
         self.last = Some(new);
         Ok(Step::Learnt)
     }
@@ -175,7 +176,7 @@ impl<'a, P: Propagator> Search<'a, P> {
                 Ok(Step::Answer(interp))
             }
             Some(nogood) => {
-                let id = self.state.keep(nogood, false)?;
+                let id = self.state.keep(nogood, Kind::Given, u32::MAX)?;
                 self.meet(id, fuel)
             }
         }
@@ -196,6 +197,7 @@ impl<'a, P: Propagator> Search<'a, P> {
     {
         self.state.undo_to(0);
         self.pace.restarted();
+        self.state.drop_given();
         reduce(&mut self.state, &mut self.pace);
     }
 

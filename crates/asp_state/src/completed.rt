@@ -8,6 +8,7 @@ ghost use Rattle.asp_state.specs.SearchStates.{forever, stays, AreOf};
 
 use asp_propagate::engine::Engine;
 use asp_propagate::propagator::Propagator;
+use asp_store::kept::Kind;
 use asp_vars::compiled::Compiled;
 use asp_vars::nogood::Nogood;
 use std::alloc::{AllocError, Global};
@@ -18,7 +19,7 @@ fn keep_all<P: Propagator>(engine: &mut Engine<P>, nogoods: Vec<Nogood>) -> Resu
     ensures { OnOk result (engine.new ≡ record engine.old { slots = engine.old.slots ++ map stays nogoods.items }) }
 {
     for nogood in nogoods {
-        engine.keep(nogood, true)?;
+        engine.keep(nogood, Kind::Forever, 0)?;
     }
     Ok(())
 }

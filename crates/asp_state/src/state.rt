@@ -32,6 +32,7 @@ use asp_model::cost::Cost;
 use asp_order::order::Order;
 use asp_propagate::engine::Engine;
 use asp_propagate::propagator::Propagator;
+use asp_store::kept::Kind;
 use asp_store::store::Store;
 use asp_trail::reasons::NogoodId;
 use asp_trail::trail::Trail;
@@ -259,13 +260,13 @@ impl<P: Propagator> SearchState<P> {
     }
 
     /// Keeps a nogood, forever or until it is dropped, and gives its number. Want of memory leaves all as it was.
-    pub fn keep(&mut self, nogood: Nogood, forever: bool) -> Result<NogoodId, AllocError>
+    pub fn keep(&mut self, nogood: Nogood, kind: Kind, levels: u32) -> Result<NogoodId, AllocError>
         requires { AreOf self.old.program nogood.lits }
         ensures ok { OnOk result (self.new ≡ record self.old { slots = self.old.slots ++ Some (record { nogood = nogood; forever = forever; locked = false }) ∷ [] }) }
         ensures id { IfOk result (λ id. id ≡ length self.old.slots) }
         ensures err { OnErr result (self.new ≡ self.old) }
     {
-        self.engine.keep(nogood, forever)
+        self.engine.keep(nogood, kind, levels)
     }
 
     /// Drops a local nogood that no entry names as its reason.
@@ -293,6 +294,21 @@ impl<P: Propagator> SearchState<P> {
         ensures kept { IsReduced self.old.entries self.old.slots self.new.slots }
     {
         self.engine.reduce();
+    }
+
+    /// Drops all nogoods that propagators gave and that aren't reasons.
+    pub fn drop_given(&mut self)
+        ensures same { self.new ≡ record self.old { slots = self.new.slots } }
+        ensures kept { IsReduced self.old.entries self.old.slots self.new.slots }
+    {
+        self.engine.drop_given();
+    }
+
+    /// Says that a nogood was used, which keeps it longer.
+    pub fn used(&mut self, id: NogoodId)
+        ensures { self.new ≡ self.old }
+    {
+        self.engine.used(id);
     }
 
     /// From now on smaller costs than this one are wanted.
