@@ -8,21 +8,13 @@ use Rattle.asp_trail.specs.declared.trail.Entry.{Entry}
 use Rattle.asp_store.specs.declared.stored_nogood.StoredNogood.{StoredNogood}
 use Rattle.asp_store.specs.declared.stored_nogood.Kind.{Kind}
 use Rattle.asp_store.specs.declared.stored_nogood.Kind.TheVariants as kind
-use Rattle.asp_store.specs.Keeping.{kept_at, with_lock, is_passing, is_spare, Thins}
+use Rattle.asp_store.specs.Keeping.{kept_at, with_lock, is_passing, comes_from_propagator, is_spare, is_given, unless_given, Thins}
 use Rattle.asp_store.specs.Pairs.{pair_at}
 use Rattle.asp_store.specs.Storing.{Stored, Loses}
-use Rattle.asp_propagate.specs.Propagating.{IsReduced, AreUnlocked}
+use Rattle.asp_propagate.specs.Propagating.{is_reason, is_named, IsReduced, AreUnlocked}
 use Rattle.asp_propagate.specs.Locking.{lock_reason, lock_all}
 
 -- ---- which slots are locked
-is_reason : Option ℕ → ℕ → Bool
-is_reason None id = false
-is_reason (Some j) id = eqb j id
-
-names : List Entry → ℕ → Bool
-names [] id = false
-names (e ∷ es) id = is_reason e.reason id || names es id
-
 lock_same : (b : Bool) (xs : List (Option StoredNogood)) (j : ℕ) → kept_at (set xs j (with_lock b (kept_at xs j))) j ≡ with_lock b (kept_at xs j)
 lock_same b [] j = refl
 lock_same b (x ∷ xs) zero = refl
@@ -36,7 +28,6 @@ lock_one b xs j id false q =
     get_or-set_other xs j id (with_lock b (kept_at xs j)) None ne
 
 lock_reason_at : (b : Bool) (xs : List (Option StoredNogood)) (o : Option ℕ) (id : ℕ) → kept_at (lock_reason b xs o) id ≡ cond (is_reason o id) (with_lock b (kept_at xs id)) (kept_at xs id)
-unfolding is_reason
 lock_reason_at b xs None id = refl
 lock_reason_at b xs (Some j) id = lock_one b xs j id (eqb j id) refl
 
@@ -50,18 +41,16 @@ lock_both b true false x = refl
 lock_both b false true x = refl
 lock_both b false false x = refl
 
-lock_all_at : (b : Bool) (es : List Entry) (xs : List (Option StoredNogood)) (id : ℕ) → kept_at (lock_all b es xs) id ≡ cond (names es id) (with_lock b (kept_at xs id)) (kept_at xs id)
-unfolding names
+lock_all_at : (b : Bool) (es : List Entry) (xs : List (Option StoredNogood)) (id : ℕ) → kept_at (lock_all b es xs) id ≡ cond (is_named es id) (with_lock b (kept_at xs id)) (kept_at xs id)
 lock_all_at b [] xs id = refl
 lock_all_at b (e ∷ es) xs id =
     lock_all_at b es (lock_reason b xs e.reason) id
-    ∙ (ap (λ (x : Option StoredNogood). cond (names es id) (with_lock b x) x) (lock_reason_at b xs e.reason id) ∙ lock_both b (is_reason e.reason id) (names es id) (kept_at xs id))
+    ∙ (ap (λ (x : Option StoredNogood). cond (is_named es id) (with_lock b x) x) (lock_reason_at b xs e.reason id) ∙ lock_both b (is_reason e.reason id) (is_named es id) (kept_at xs id))
 
-names_at : (es : List Entry) (i : ℕ) (d : Entry) (id : ℕ) → i < length es → (get_or es i d).reason ≡ Some id → names es id ≡ true
-unfolding names is_reason
-names_at [] i d id h q = absurd (omega arith)
-names_at (e ∷ es) zero d id h q = ap (λ (o : Option ℕ). is_reason o id || names es id) q ∙ ap (λ (b : Bool). b || names es id) (eq-eqb id id refl)
-names_at (e ∷ es) (suc i) d id h q = right (is_reason e.reason id) (names es id) (names_at es i d id (omega arith) q)
+named_at : (es : List Entry) (i : ℕ) (d : Entry) (id : ℕ) → i < length es → (get_or es i d).reason ≡ Some id → is_named es id ≡ true
+named_at [] i d id h q = absurd (omega arith)
+named_at (e ∷ es) zero d id h q = ap (λ (o : Option ℕ). is_reason o id || is_named es id) q ∙ ap (λ (b : Bool). b || is_named es id) (eq-eqb id id refl)
+named_at (e ∷ es) (suc i) d id h q = right (is_reason e.reason id) (is_named es id) (named_at es i d id (omega arith) q)
   where
     right : (a b : Bool) → b ≡ true → (a || b) ≡ true
     right true b p = refl
@@ -112,18 +101,18 @@ lock_there false o u = refl
 -- a slot that is gone, or as it was
 slot_gone : (es : List Entry) (ys : List (Option StoredNogood)) (id : ℕ) → kept_at ys id ≡ None → kept_at (lock_all false es ys) id ≡ None
 slot_gone es ys id q =
-    lock_all_at false es ys id ∙ (ap (λ (o : Option StoredNogood). cond (names es id) (with_lock false o) o) q ∙ lock_none false (names es id))
+    lock_all_at false es ys id ∙ (ap (λ (o : Option StoredNogood). cond (is_named es id) (with_lock false o) o) q ∙ lock_none false (is_named es id))
 
 pub slot_back : (es : List Entry) (xs ys : List (Option StoredNogood)) (id : ℕ) → AreUnlocked xs → kept_at ys id ≡ kept_at (lock_all true es xs) id →
     kept_at (lock_all false es ys) id ≡ kept_at xs id
 slot_back es xs ys id u q =
     lock_all_at false es ys id
-    ∙ (ap (λ (o : Option StoredNogood). cond (names es id) (with_lock false o) o) (q ∙ lock_all_at true es xs id) ∙ lock_there (names es id) (kept_at xs id) (λ k g. u id k g))
+    ∙ (ap (λ (o : Option StoredNogood). cond (is_named es id) (with_lock false o) o) (q ∙ lock_all_at true es xs id) ∙ lock_there (is_named es id) (kept_at xs id) (λ k g. u id k g))
 
 -- that of a reason is locked
 reason_locked : (es : List Entry) (xs : List (Option StoredNogood)) (i : ℕ) (d : Entry) (id : ℕ) → i < length es → (get_or es i d).reason ≡ Some id →
     kept_at (lock_all true es xs) id ≡ with_lock true (kept_at xs id)
-reason_locked es xs i d id h q = lock_all_at true es xs id ∙ ap (λ (b : Bool). cond b (with_lock true (kept_at xs id)) (kept_at xs id)) (names_at es i d id h q)
+reason_locked es xs i d id h q = lock_all_at true es xs id ∙ ap (λ (b : Bool). cond b (with_lock true (kept_at xs id)) (kept_at xs id)) (named_at es i d id h q)
 
 forever_locked : (c : Bool) (k : StoredNogood) → k.kind ≡ kind.Forever → is_spare (cond c (with_lock true (Some k)) (Some k)) ≡ true → ⊥
 forever_locked true k f q = false≢true q
@@ -138,8 +127,8 @@ thins_reduced es xs ys u th = record {
   ];
   forever = λ id k g f. elim (th.each id) [
     | inl e ↦ slot_back es xs ys id u e ∙ g
-    | inr e ↦ absurd (forever_locked (names es id) k f
-        (sym (ap is_spare (lock_all_at true es xs id ∙ ap (λ (o : Option StoredNogood). cond (names es id) (with_lock true o) o) g)) ∙ e.1))
+    | inr e ↦ absurd (forever_locked (is_named es id) k f
+        (sym (ap is_spare (lock_all_at true es xs id ∙ ap (λ (o : Option StoredNogood). cond (is_named es id) (with_lock true o) o) g)) ∙ e.1))
   ];
   named = λ i d id h q. elim (th.each id) [
     | inl e ↦ slot_back es xs ys id u e
@@ -168,3 +157,69 @@ pub locks_reduced : (es : List Entry) (a b c d : Stored) → AreUnlocked a.slots
 locks_reduced es a b c d u p th q =
     subst (λ (xs : List (Option StoredNogood)). IsReduced es a.slots xs) (sym (ap (λ (s : Stored). s.slots) q))
     (thins_reduced es a.slots c.slots u (subst (λ (xs : List (Option StoredNogood)). Thins xs c.slots) (ap (λ (s : Stored). s.slots) p) th))
+
+-- ---- where all that propagators gave are dropped
+unless_other : (o : Option StoredNogood) (b : Bool) → is_given o ≡ b → (unless_given o ≡ o) ⊎ ((unless_given o ≡ None) × (is_given o ≡ true))
+unless_other o true q = inr (ap (λ (b : Bool). cond b None o) q, q)
+unless_other o false q = inl (ap (λ (b : Bool). cond b None o) q)
+
+given_locked : (o : Option StoredNogood) → unless_given (with_lock true o) ≡ with_lock true o
+given_locked None = refl
+given_locked (Some k) = no (comes_from_propagator k.kind) (Some (record k { locked = true }))
+  where
+    no : (b : Bool) (o : Option StoredNogood) → cond (b && false) None o ≡ o
+    no true o = refl
+    no false o = refl
+
+dropped_given : (c : Bool) (o : Option StoredNogood) → ((k : StoredNogood) → o ≡ Some k → k.locked ≡ false) →
+    cond c (with_lock false (unless_given (cond c (with_lock true o) o))) (unless_given (cond c (with_lock true o) o)) ≡ cond c o (unless_given o)
+dropped_given true o u = ap (with_lock false) (given_locked o) ∙ (lock_over false true o ∙ unlock o u)
+dropped_given false o u = refl
+
+-- All slots but those of reasons are as they were, or empty where a propagator gave the nogood.
+abbrev pub DropsGiven : List Entry → List (Option StoredNogood) → List (Option StoredNogood) → Type 0
+DropsGiven es old new = (id : ℕ) → kept_at new id ≡ cond (is_named es id) (kept_at old id) (unless_given (kept_at old id))
+
+drops_given : (es : List Entry) (xs ys : List (Option StoredNogood)) → AreUnlocked xs →
+    ((id : ℕ) → kept_at ys id ≡ unless_given (kept_at (lock_all true es xs) id)) → DropsGiven es xs (lock_all false es ys)
+drops_given es xs ys u each id =
+    let same : kept_at ys id ≡ unless_given (cond (is_named es id) (with_lock true (kept_at xs id)) (kept_at xs id)) = each id ∙ ap unless_given (lock_all_at true es xs id) in
+    lock_all_at false es ys id
+    ∙ (ap (λ (o : Option StoredNogood). cond (is_named es id) (with_lock false o) o) same ∙ dropped_given (is_named es id) (kept_at xs id) (λ k g. u id k g))
+
+forever_stays : (k : StoredNogood) → k.kind ≡ kind.Forever → is_given (Some k) ≡ true → ⊥
+forever_stays k f q = false≢true (sym (ap (λ (x : Kind). comes_from_propagator x && not k.locked) f) ∙ q)
+
+given_reduced : (es : List Entry) (old new : List (Option StoredNogood)) → length new ≡ length old → DropsGiven es old new → IsReduced es old new
+given_reduced es old new len each = record {
+  count = len;
+  each = λ id. by_name id (is_named es id) refl;
+  forever = λ id k g f. elim (by_name_or id (is_named es id) refl) [ inl e ↦ e ∙ g | inr e ↦ absurd (forever_stays k f (sym (ap is_given g) ∙ e)) ];
+  named = λ i d id h q. each id ∙ ap (λ (b : Bool). cond b (kept_at old id) (unless_given (kept_at old id))) (named_at es i d id h q);
+}
+  where
+    by_name_or : (id : ℕ) (b : Bool) → is_named es id ≡ b → (kept_at new id ≡ kept_at old id) ⊎ (is_given (kept_at old id) ≡ true)
+    by_name_or id true q = inl (each id ∙ ap (λ (b : Bool). cond b (kept_at old id) (unless_given (kept_at old id))) q)
+    by_name_or id false q =
+        let e : kept_at new id ≡ unless_given (kept_at old id) = each id ∙ ap (λ (b : Bool). cond b (kept_at old id) (unless_given (kept_at old id))) q in
+        elim (unless_other (kept_at old id) (is_given (kept_at old id)) refl) [ inl f ↦ inl (e ∙ f) | inr f ↦ inr f.1 ]
+
+    by_name : (id : ℕ) (b : Bool) → is_named es id ≡ b → (kept_at new id ≡ kept_at old id) ⊎ (kept_at new id ≡ None)
+    by_name id true q = inl (each id ∙ ap (λ (b : Bool). cond b (kept_at old id) (unless_given (kept_at old id))) q)
+    by_name id false q =
+        let e : kept_at new id ≡ unless_given (kept_at old id) = each id ∙ ap (λ (b : Bool). cond b (kept_at old id) (unless_given (kept_at old id))) q in
+        elim (unless_other (kept_at old id) (is_given (kept_at old id)) refl) [ inl f ↦ inl (e ∙ f) | inr f ↦ inr (e ∙ f.0) ]
+
+-- a store whose given nogoods were dropped while its reasons were locked
+pub locks_given : (es : List Entry) (a b c d : Stored) → AreUnlocked a.slots → b ≡ record a { slots = lock_all true es a.slots } →
+    ((id : ℕ) → kept_at c.slots id ≡ unless_given (kept_at b.slots id)) → d ≡ record c { slots = lock_all false es c.slots } → DropsGiven es a.slots d.slots
+locks_given es a b c d u p each q =
+    subst (DropsGiven es a.slots) (sym (ap (λ (s : Stored). s.slots) q))
+    (drops_given es a.slots c.slots u (λ id. each id ∙ ap (λ (s : Stored). unless_given (kept_at s.slots id)) p))
+
+pub locks_given_reduced : (es : List Entry) (a b c d : Stored) → AreUnlocked a.slots → b ≡ record a { slots = lock_all true es a.slots } → length c.slots ≡ length b.slots →
+    ((id : ℕ) → kept_at c.slots id ≡ unless_given (kept_at b.slots id)) → d ≡ record c { slots = lock_all false es c.slots } → IsReduced es a.slots d.slots
+locks_given_reduced es a b c d u p len each q =
+    given_reduced es a.slots d.slots
+    (ap (λ (s : Stored). length s.slots) q ∙ (lock_all_length false es c.slots ∙ (len ∙ (ap (λ (s : Stored). length s.slots) p ∙ lock_all_length true es a.slots))))
+    (locks_given es a b c d u p each q)

@@ -1,5 +1,5 @@
 -- A trail with what follows it: a store of nogoods, and a propagator.
-use Rattle.std.specs.Prelude.{◌≡◌, ◌≢◌, ℕ, ◌<◌, ◌≤◌, ◌⊎◌, Bool, true, false, List, [], ◌∷◌, ◌++◌, take, length, Option, Some, None, ℤ, IsTrue, slice_index_or, slice_set}
+use Rattle.std.specs.Prelude.{◌≡◌, ◌≢◌, ℕ, ◌<◌, ◌≤◌, ◌==◌, ◌||◌, ◌⊎◌, Bool, true, false, List, [], ◌∷◌, ◌++◌, take, length, Option, Some, None, ℤ, IsTrue, slice_index_or, slice_set}
 use Rattle.std.specs.List.{All}
 use Rattle.asp_model.specs.declared.program.Program.{Program}
 use Rattle.asp_vars.specs.Literals.{Literal}
@@ -41,6 +41,15 @@ pub record Keeps (old new : Propagating) (id : ℕ) (n : Nogood) (kind : Kind) :
 -- one nogood less
 abbrev pub without_nogood : Propagating → ℕ → Propagating
 without_nogood s id = record s { slots = slice_set s.slots id None }
+
+abbrev pub is_reason : Option ℕ → ℕ → Bool
+is_reason None id = false
+is_reason (Some j) id = j == id
+
+-- An entry was implied by the nogood under this number.
+abbrev pub is_named : List Entry → ℕ → Bool
+is_named [] id = false
+is_named (e ∷ es) id = is_reason e.reason id || is_named es id
 
 -- No entry was implied by the nogood under this number.
 abbrev pub IsUnnamed : List Entry → ℕ → Type 0
