@@ -11,9 +11,9 @@ use Rattle.asp_vars.specs.declared.nogood.Nogood.{Nogood}
 use Rattle.asp_trail.specs.declared.trail.Entry.{Entry}
 use Rattle.asp_trail.specs.Entries.{level}
 use Rattle.asp_trail.specs.Told.{Told}
-use Rattle.asp_store.specs.declared.kept.Kept.{Kept}
-use Rattle.asp_store.specs.declared.kept.Kind.{Kind}
-use Rattle.asp_store.specs.declared.kept.Kind.TheVariants as kind
+use Rattle.asp_store.specs.declared.stored_nogood.StoredNogood.{StoredNogood}
+use Rattle.asp_store.specs.declared.stored_nogood.Kind.{Kind}
+use Rattle.asp_store.specs.declared.stored_nogood.Kind.TheVariants as kind
 use Rattle.asp_store.specs.Keeping.{kept_at, nogood_at, IsAddedAt}
 use Rattle.asp_store.specs.Fitting.{IsImpliedAt, Extends}
 use Rattle.asp_store.proofs.GetLaws.{is_or_not}
@@ -21,13 +21,13 @@ use Rattle.asp_store.proofs.GrowLaws.{level_stays}
 use Rattle.asp_propagate.specs.Propagating.{IsGiven, Adds, Implies, GoesOn, AreUnlocked}
 
 -- ---- nogoods
-pub adds_none : (gives : Nogood → Type 0) (old new : List (Option Kept)) → new ≡ old → Adds gives old new
+pub adds_none : (gives : Nogood → Type 0) (old new : List (Option StoredNogood)) → new ≡ old → Adds gives old new
 adds_none gives old new q = record {
-  stay = λ id k g. ap (λ (zs : List (Option Kept)). kept_at zs id) q ∙ g;
-  given = λ id k g. inl (sym (ap (λ (zs : List (Option Kept)). kept_at zs id) q) ∙ g);
+  stay = λ id k g. ap (λ (zs : List (Option StoredNogood)). kept_at zs id) q ∙ g;
+  given = λ id k g. inl (sym (ap (λ (zs : List (Option StoredNogood)). kept_at zs id) q) ∙ g);
 }
 
-pub adds_one : (gives : Nogood → Type 0) (old new : List (Option Kept)) (id : ℕ) (n : Nogood) → IsAddedAt old new id n kind.Given → gives n → Adds gives old new
+pub adds_one : (gives : Nogood → Type 0) (old new : List (Option StoredNogood)) (id : ℕ) (n : Nogood) → IsAddedAt old new id n kind.Given → gives n → Adds gives old new
 adds_one gives old new id n a g = record {
   stay = λ j k h. elim (is_or_not j id) [
     | inl e ↦ absurd (none-some k (sym a.free ∙ (ap (kept_at old) (sym e) ∙ h)))
@@ -40,7 +40,7 @@ adds_one gives old new id n a g = record {
   ];
 }
 
-pub adds_more : (gives : Nogood → Type 0) (a b c : List (Option Kept)) → Adds gives a b → Adds gives b c → Adds gives a c
+pub adds_more : (gives : Nogood → Type 0) (a b c : List (Option StoredNogood)) → Adds gives a b → Adds gives b c → Adds gives a c
 adds_more gives a b c x y = record {
   stay = λ id k g. y.stay id k (x.stay id k g);
   given = λ id k g. elim (y.given id k g) [
@@ -50,28 +50,28 @@ adds_more gives a b c x y = record {
 }
 
 -- a kept nogood was kept before, or is given
-pub adds_each : (gives : Nogood → Type 0) (old new : List (Option Kept)) (id : ℕ) (n : Nogood) → Adds gives old new → nogood_at new id ≡ Some n →
+pub adds_each : (gives : Nogood → Type 0) (old new : List (Option StoredNogood)) (id : ℕ) (n : Nogood) → Adds gives old new → nogood_at new id ≡ Some n →
     (nogood_at old id ≡ Some n) ⊎ gives n
 adds_each gives old new id n x g = cases (kept_at new id) refl
   where
-    cases : (o : Option Kept) → o ≡ kept_at new id → (nogood_at old id ≡ Some n) ⊎ gives n
-    cases None q = absurd (none-some n (ap (option_map (λ (k : Kept). k.nogood)) q ∙ g))
+    cases : (o : Option StoredNogood) → o ≡ kept_at new id → (nogood_at old id ≡ Some n) ⊎ gives n
+    cases None q = absurd (none-some n (ap (option_map (λ (k : StoredNogood). k.nogood)) q ∙ g))
     cases (Some k) q =
-        let same : k.nogood ≡ n = same_Some k.nogood n (ap (option_map (λ (k : Kept). k.nogood)) q ∙ g) in
+        let same : k.nogood ≡ n = same_Some k.nogood n (ap (option_map (λ (k : StoredNogood). k.nogood)) q ∙ g) in
         elim (x.given id k (sym q)) [
-          | inl e ↦ inl (ap (option_map (λ (k : Kept). k.nogood)) e ∙ ap Some same)
+          | inl e ↦ inl (ap (option_map (λ (k : StoredNogood). k.nogood)) e ∙ ap Some same)
           | inr e ↦ inr (subst gives same e.passes)
         ]
 
 -- what was kept is kept
-pub adds_stay : (gives : Nogood → Type 0) (old new : List (Option Kept)) (id : ℕ) (k : Kept) → Adds gives old new → kept_at old id ≡ Some k → kept_at new id ≡ Some k
+pub adds_stay : (gives : Nogood → Type 0) (old new : List (Option StoredNogood)) (id : ℕ) (k : StoredNogood) → Adds gives old new → kept_at old id ≡ Some k → kept_at new id ≡ Some k
 adds_stay gives old new id k x g = x.stay id k g
 
 -- ---- locks
-pub unlocked_added : (old new : List (Option Kept)) (id : ℕ) (n : Nogood) (kind : Kind) → IsAddedAt old new id n kind → AreUnlocked old → AreUnlocked new
+pub unlocked_added : (old new : List (Option StoredNogood)) (id : ℕ) (n : Nogood) (kind : Kind) → IsAddedAt old new id n kind → AreUnlocked old → AreUnlocked new
 unlocked_added old new id n kind a u j k g =
     elim (is_or_not j id) [
-      | inl e ↦ sym (ap (λ (x : Kept). x.locked) (same_Some (record { nogood = n; kind = kind; locked = false }) k (sym a.here ∙ (ap (kept_at new) (sym e) ∙ g))))
+      | inl e ↦ sym (ap (λ (x : StoredNogood). x.locked) (same_Some (record { nogood = n; kind = kind; locked = false }) k (sym a.here ∙ (ap (kept_at new) (sym e) ∙ g))))
       | inr ne ↦ u j k (sym (a.others j ne) ∙ g)
     ]
 
@@ -87,11 +87,11 @@ implies_more es fs gs a b =
       All-append (IsImpliedAt (level es)) a.0 b.0 a.2 (subst (λ (n : ℕ). All (IsImpliedAt n) b.0) same b.2),
     )
 
-pub implies_from : (slots : List (Option Kept)) (es fs : List Entry) → Extends slots es fs → Implies es fs
+pub implies_from : (slots : List (Option StoredNogood)) (es fs : List Entry) → Extends slots es fs → Implies es fs
 implies_from slots es fs x = (x.0, x.1, x.3)
 
 -- ---- both
-pub goes_more : (gives : Nogood → Type 0) (t u v : Told) (b c d : Option (List ℤ)) (xs ys zs : List (Option Kept)) (es fs gs : List Entry) →
+pub goes_more : (gives : Nogood → Type 0) (t u v : Told) (b c d : Option (List ℤ)) (xs ys zs : List (Option StoredNogood)) (es fs gs : List Entry) →
     GoesOn gives t u b c xs ys es fs → GoesOn gives u v c d ys zs fs gs → GoesOn gives t v b d xs zs es gs
 goes_more gives t u v b c d xs ys zs es fs gs x y = record {
   program = y.program ∙ x.program;
@@ -101,7 +101,7 @@ goes_more gives t u v b c d xs ys zs es fs gs x y = record {
 }
 
 -- of a propagator that may give more under another bound: the bound stays
-pub goes_then : (gives : Program → Option (List ℤ) → Nogood → Type 0) (t u v : Told) (b c d : Option (List ℤ)) (xs ys zs : List (Option Kept)) (es fs gs : List Entry) →
+pub goes_then : (gives : Program → Option (List ℤ) → Nogood → Type 0) (t u v : Told) (b c d : Option (List ℤ)) (xs ys zs : List (Option StoredNogood)) (es fs gs : List Entry) →
     GoesOn (gives t.program b) t u b c xs ys es fs → GoesOn (gives u.program c) u v c d ys zs fs gs → GoesOn (gives t.program b) t v b d xs zs es gs
 goes_then gives t u v b c d xs ys zs es fs gs x y =
     goes_more (gives t.program b) t u v b c d xs ys zs es fs gs x

@@ -10,8 +10,8 @@ use Rattle.asp_trail.specs.declared.trail.Entry.{Entry}
 use Rattle.asp_trail.specs.Entries.{assignment, cut}
 use Rattle.asp_trail.specs.Trails.{Trailed, IsVar, IsOrdered}
 use Rattle.asp_trail.specs.Told.{Told}
-use Rattle.asp_store.specs.declared.kept.Kept.{Kept}
-use Rattle.asp_store.specs.declared.kept.Kind.{Kind}
+use Rattle.asp_store.specs.declared.stored_nogood.StoredNogood.{StoredNogood}
+use Rattle.asp_store.specs.declared.stored_nogood.Kind.{Kind}
 use Rattle.asp_store.specs.Keeping.{kept_at}
 use Rattle.asp_store.specs.Storing.{Stored, IsAdded}
 use Rattle.asp_store.proofs.FitsLaws.{fits_begin}
@@ -34,7 +34,7 @@ pub none_inside : (t : Told) (b : Option (List ℤ)) (s : Stored) (r : Trailed) 
 none_inside t b s r n f v q w h =
     ap (λ (m : ℕ). value_of (assignment m r.entries) v) w.told.vars ∙ (ap (λ (x : Propagating). value_of (values_of x) v) q ∙ h)
 
-pub same_view : (p q : Program) (es fs : List Entry) (xs : List (Option Kept)) (b c : Option (List ℤ)) → p ≡ q → es ≡ fs → b ≡ c →
+pub same_view : (p q : Program) (es fs : List Entry) (xs : List (Option StoredNogood)) (b c : Option (List ℤ)) → p ≡ q → es ≡ fs → b ≡ c →
     ◌≡◌ {A = Propagating} (record { program = p; entries = es; slots = xs; bound = b }) (record { program = q; entries = fs; slots = xs; bound = c })
 same_view p q es fs xs b c e f g =
     let first : Program → Propagating = λ x. record { program = x; entries = es; slots = xs; bound = b } in

@@ -12,10 +12,10 @@ use Rattle.asp_trail.specs.Trails.{Trailed, IsOrdered}
 use Rattle.asp_trail.specs.Told.{Told}
 use Rattle.asp_trail.specs.Quiet.{is_calm}
 use Rattle.asp_trail.specs.Reasons.{IsReason}
-use Rattle.asp_store.specs.declared.kept.Kept.{Kept}
+use Rattle.asp_store.specs.declared.stored_nogood.StoredNogood.{StoredNogood}
 use Rattle.asp_store.specs.Keeping.{nogood_at}
-use Rattle.asp_store.specs.declared.kept.Kind.{Kind}
-use Rattle.asp_store.specs.declared.kept.Kind.TheVariants as kind
+use Rattle.asp_store.specs.declared.stored_nogood.Kind.{Kind}
+use Rattle.asp_store.specs.declared.stored_nogood.Kind.TheVariants as kind
 use Rattle.asp_store.specs.Fitting.{Extends}
 use Rattle.asp_store.specs.Storing.{Stored, Fits, IsAdded, Loses, removed, recalled, AreActive}
 use Rattle.asp_store.proofs.FitsLaws.{fits_open, fits_imply, fits_cut, fits_clear, fits_add, fits_recall, fits_remove, fits_lose}
@@ -78,7 +78,7 @@ followed_clear t u s z r n same active w f = record {
 }
 
 -- ---- one nogood less
-unlocked_removed : (slots : List (Option Kept)) (j : ℕ) → AreUnlocked slots → AreUnlocked (set slots j None)
+unlocked_removed : (slots : List (Option StoredNogood)) (j : ℕ) → AreUnlocked slots → AreUnlocked (set slots j None)
 unlocked_removed [] j u id k g = u id k g
 unlocked_removed (o ∷ slots) zero u zero k g = absurd (none_some k g)
 unlocked_removed (o ∷ slots) zero u (suc id) k g = u (suc id) k g
@@ -97,19 +97,19 @@ followed_removed t s r n id h unnamed f = record {
 pub have_slots : (s : Stored) (r : Trailed) → Fits s r → HaveSlots r.entries (length s.slots)
 have_slots s r f i d id h q = let o = f.reasons i d id h q in kept_within s.slots id o.0 o.1
 
-unlocked_reduced : (es : List Entry) (old new : List (Option Kept)) → IsReduced es old new → AreUnlocked old → AreUnlocked new
+unlocked_reduced : (es : List Entry) (old new : List (Option StoredNogood)) → IsReduced es old new → AreUnlocked old → AreUnlocked new
 unlocked_reduced es old new red u id k g = elim (red.each id) [ inl e ↦ u id k (sym e ∙ g) | inr e ↦ absurd (none_some k (sym e ∙ g)) ]
 
 pub followed_reduced : (t : Told) (s z : Stored) (r : Trailed) (n : ℕ) → IsReduced r.entries s.slots z.slots → Loses s z → IsFollowed t s r n → IsFollowed t z r n
 followed_reduced t s z r n red l f = record {
   told = f.told;
   room = f.room;
-  fits = fits_lose s z r l (λ i d id h q. ap (option_map (λ (k : Kept). k.nogood)) (red.named i d id h q)) f.fits;
+  fits = fits_lose s z r l (λ i d id h q. ap (option_map (λ (k : StoredNogood). k.nogood)) (red.named i d id h q)) f.fits;
   unlocked = unlocked_reduced r.entries s.slots z.slots red f.unlocked;
 }
 
 -- ---- a nogood that isn't calm brings an entry
-pub grows : (slots : List (Option Kept)) (vars : ℕ) (es fs : List Entry) (id : ℕ) (n : Nogood) → nogood_at slots id ≡ Some n → is_calm (assignment vars es) n.lits ≡ false →
+pub grows : (slots : List (Option StoredNogood)) (vars : ℕ) (es fs : List Entry) (id : ℕ) (n : Nogood) → nogood_at slots id ≡ Some n → is_calm (assignment vars es) n.lits ≡ false →
     AreCalm slots (assignment vars fs) → Implies es fs → length es < length fs
 grows slots vars es fs id n g wanted calm x = by x.0 x.1
   where
@@ -129,7 +129,7 @@ followed_settled t u s z r q n m slots same fits w f = record {
   unlocked = subst AreUnlocked (sym slots) f.unlocked;
 }
 
-pub told_settled : (t : Told) (r q : Trailed) (n : ℕ) (slots : List (Option Kept)) → q ≡ record r { entries = q.entries; seen = q.seen } → Extends slots r.entries q.entries →
+pub told_settled : (t : Told) (r q : Trailed) (n : ℕ) (slots : List (Option StoredNogood)) → q ≡ record r { entries = q.entries; seen = q.seen } → Extends slots r.entries q.entries →
     WasTold t r n → WasTold t q n
 told_settled t r q n slots same x w = told_extends t r q n x.0 (ap (λ (y : Trailed). y.vars) same) x.1 w
 
@@ -142,13 +142,13 @@ goes_settled gives t u b c s z es fs program bound slots x = record {
   implies = implies_from s.slots es fs x;
 }
 
-pub calm_settled : (vars now : ℕ) (old new : List (Option Kept)) (es : List Entry) → now ≡ vars → new ≡ old → AreCalm old (assignment vars es) → AreCalm new (assignment now es)
+pub calm_settled : (vars now : ℕ) (old new : List (Option StoredNogood)) (es : List Entry) → now ≡ vars → new ≡ old → AreCalm old (assignment vars es) → AreCalm new (assignment now es)
 calm_settled vars now old new es v q h =
-    subst (λ (m : ℕ). AreCalm new (assignment m es)) (sym v) (subst (λ (xs : List (Option Kept)). AreCalm xs (assignment vars es)) (sym q) h)
+    subst (λ (m : ℕ). AreCalm new (assignment m es)) (sym v) (subst (λ (xs : List (Option StoredNogood)). AreCalm xs (assignment vars es)) (sym q) h)
 
-pub violated_settled : (vars now : ℕ) (old new : List (Option Kept)) (es : List Entry) (id : ℕ) → now ≡ vars → new ≡ old → IsViolated vars old es id → IsViolated now new es id
+pub violated_settled : (vars now : ℕ) (old new : List (Option StoredNogood)) (es : List Entry) (id : ℕ) → now ≡ vars → new ≡ old → IsViolated vars old es id → IsViolated now new es id
 violated_settled vars now old new es id v q h =
-    subst (λ (m : ℕ). IsViolated m new es id) (sym v) (subst (λ (xs : List (Option Kept)). IsViolated vars xs es id) (sym q) h)
+    subst (λ (m : ℕ). IsViolated m new es id) (sym v) (subst (λ (xs : List (Option StoredNogood)). IsViolated vars xs es id) (sym q) h)
 
 -- ---- what comes of asking
 pub asked_same : (t u : Told) (s z : Stored) (r : Trailed) (n : ℕ) → u ≡ t → z ≡ s → IsFollowed t s r n → IsFollowed u z r n
@@ -157,7 +157,7 @@ asked_same t u s z r n p q f = subst (λ (x : Told). IsFollowed x z r n) (sym p)
 pub asked_more : (t u : Told) (s z : Stored) (r : Trailed) (n id : ℕ) (m : Nogood) (kind : Kind) → u ≡ t → IsAdded s z id m kind → IsFollowed t s r n → IsFollowed u z r n
 asked_more t u s z r n id m kind p a f = subst (λ (x : Told). IsFollowed x z r n) (sym p) (followed_added t s z r n id m kind a f)
 
-pub goes_same : (gives : Nogood → Type 0) (t u : Told) (b c : Option (List ℤ)) (xs ys : List (Option Kept)) (es : List Entry) → u ≡ t → c ≡ b → ys ≡ xs →
+pub goes_same : (gives : Nogood → Type 0) (t u : Told) (b c : Option (List ℤ)) (xs ys : List (Option StoredNogood)) (es : List Entry) → u ≡ t → c ≡ b → ys ≡ xs →
     GoesOn gives t u b c xs ys es es
 goes_same gives t u b c xs ys es p q e = record {
   program = ap (λ (x : Told). x.program) p;

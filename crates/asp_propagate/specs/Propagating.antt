@@ -1,5 +1,5 @@
 -- A trail with what follows it: a store of nogoods, and a propagator.
-use Rattle.std.specs.Prelude.{◌≡◌, ◌≢◌, ℕ, ◌<◌, ◌≤◌, ◌⊎◌, Bool, true, false, List, [], ◌∷◌, ◌++◌, take, length, Option, Some, None, ℤ, IsTrue, slice_index_or, slice_set}
+use Rattle.std.specs.Prelude.{◌≡◌, ◌≢◌, ℕ, ◌<◌, ◌≤◌, ◌==◌, ◌||◌, ◌⊎◌, Bool, true, false, List, [], ◌∷◌, ◌++◌, take, length, Option, Some, None, ℤ, IsTrue, slice_index_or, slice_set}
 use Rattle.std.specs.List.{All}
 use Rattle.asp_model.specs.declared.program.Program.{Program}
 use Rattle.asp_vars.specs.Literals.{Literal}
@@ -11,9 +11,9 @@ use Rattle.asp_trail.specs.Trails.{Trailed}
 use Rattle.asp_trail.specs.Told.{Told}
 use Rattle.asp_trail.specs.Quiet.{is_calm}
 use Rattle.asp_trail.specs.Reasons.{IsReason}
-use Rattle.asp_store.specs.declared.kept.Kept.{Kept}
-use Rattle.asp_store.specs.declared.kept.Kind.{Kind}
-use Rattle.asp_store.specs.declared.kept.Kind.TheVariants as kind
+use Rattle.asp_store.specs.declared.stored_nogood.StoredNogood.{StoredNogood}
+use Rattle.asp_store.specs.declared.stored_nogood.Kind.{Kind}
+use Rattle.asp_store.specs.declared.stored_nogood.Kind.TheVariants as kind
 use Rattle.asp_store.specs.Keeping.{kept_at, nogood_at, IsAddedAt}
 use Rattle.asp_store.specs.Fitting.{IsImpliedAt}
 use Rattle.asp_store.specs.Storing.{Stored, Fits, IsAdded}
@@ -22,7 +22,7 @@ use Rattle.asp_store.specs.Storing.{Stored, Fits, IsAdded}
 pub record Propagating : Type 0 where
   pub program : Program
   pub entries : List Entry
-  pub slots : List (Option Kept)
+  pub slots : List (Option StoredNogood)
   pub bound : Option (List ℤ)
 
 -- the values of the variables
@@ -42,6 +42,15 @@ pub record Keeps (old new : Propagating) (id : ℕ) (n : Nogood) (kind : Kind) :
 abbrev pub without_nogood : Propagating → ℕ → Propagating
 without_nogood s id = record s { slots = slice_set s.slots id None }
 
+abbrev pub is_reason : Option ℕ → ℕ → Bool
+is_reason None id = false
+is_reason (Some j) id = j == id
+
+-- An entry was implied by the nogood under this number.
+abbrev pub is_named : List Entry → ℕ → Bool
+is_named [] id = false
+is_named (e ∷ es) id = is_reason e.reason id || is_named es id
+
 -- No entry was implied by the nogood under this number.
 abbrev pub IsUnnamed : List Entry → ℕ → Type 0
 IsUnnamed entries id = (i : ℕ) (d : Entry) → i < length entries → (slice_index_or entries i d).reason ≢ Some id
@@ -57,8 +66,8 @@ pub record WasTold (told : Told) (trail : Trailed) (n : ℕ) : Type 0 where
   pub begun : n ≤ length trail.entries
   pub values : told.values ≡ assignment trail.vars (take n trail.entries)
 
-abbrev pub AreUnlocked : List (Option Kept) → Type 0
-AreUnlocked slots = (id : ℕ) (k : Kept) → kept_at slots id ≡ Some k → k.locked ≡ false
+abbrev pub AreUnlocked : List (Option StoredNogood) → Type 0
+AreUnlocked slots = (id : ℕ) (k : StoredNogood) → kept_at slots id ≡ Some k → k.locked ≡ false
 
 -- The store fits the trail, which has room for all variables, and the propagator was told of the first n entries.
 pub record IsFollowed (t : Told) (store : Stored) (trail : Trailed) (n : ℕ) : Type 0 where
@@ -69,33 +78,33 @@ pub record IsFollowed (t : Told) (store : Stored) (trail : Trailed) (n : ℕ) : 
 
 -- ---- propagation
 -- It passes, came from a propagator, and isn't locked.
-pub record IsGiven (gives : Nogood → Type 0) (k : Kept) : Type 0 where
+pub record IsGiven (gives : Nogood → Type 0) (k : StoredNogood) : Type 0 where
   pub passes : gives k.nogood
   pub kind : k.kind ≡ kind.Given
   pub unlocked : k.locked ≡ false
 
 -- Nogoods were added, each of them given, and all that were kept are as they were.
-pub record Adds (gives : Nogood → Type 0) (old new : List (Option Kept)) : Type 0 where
-  pub stay : (id : ℕ) (k : Kept) → kept_at old id ≡ Some k → kept_at new id ≡ Some k
-  pub given : (id : ℕ) (k : Kept) → kept_at new id ≡ Some k → (kept_at old id ≡ Some k) ⊎ IsGiven gives k
+pub record Adds (gives : Nogood → Type 0) (old new : List (Option StoredNogood)) : Type 0 where
+  pub stay : (id : ℕ) (k : StoredNogood) → kept_at old id ≡ Some k → kept_at new id ≡ Some k
+  pub given : (id : ℕ) (k : StoredNogood) → kept_at new id ≡ Some k → (kept_at old id ≡ Some k) ⊎ IsGiven gives k
 
 -- Entries were added, each of them implied at the level that stands.
 abbrev pub Implies : List Entry → List Entry → Type 0
 Implies old new = (fs : List Entry) × (new ≡ old ++ fs) × All (IsImpliedAt (level old)) fs
 
 -- What was told, the bound, the slots and the entries, before and after: nogoods and entries are added, and nothing else changes.
-pub record GoesOn (gives : Nogood → Type 0) (told after : Told) (bound now : Option (List ℤ)) (slots kept : List (Option Kept)) (old new : List Entry) : Type 0 where
+pub record GoesOn (gives : Nogood → Type 0) (told after : Told) (bound now : Option (List ℤ)) (slots kept : List (Option StoredNogood)) (old new : List Entry) : Type 0 where
   pub program : after.program ≡ told.program
   pub bound_stays : now ≡ bound
   pub adds : Adds gives slots kept
   pub implies : Implies old new
 
 -- No nogood that is kept is unit or violated.
-abbrev pub AreCalm : List (Option Kept) → List (Option Bool) → Type 0
+abbrev pub AreCalm : List (Option StoredNogood) → List (Option Bool) → Type 0
 AreCalm slots a = (id : ℕ) (n : Nogood) → nogood_at slots id ≡ Some n → IsTrue (is_calm a n.lits)
 
 -- Nor has the propagator anything to say.
-pub record IsQuiet (silent : List (Option Bool) → Type 0) (slots : List (Option Kept)) (a : List (Option Bool)) : Type 0 where
+pub record IsQuiet (silent : List (Option Bool) → Type 0) (slots : List (Option StoredNogood)) (a : List (Option Bool)) : Type 0 where
   pub calm : AreCalm slots a
   pub says_nothing : silent a
 
@@ -106,8 +115,8 @@ Asked silent gives a old new true = (n : Nogood) × (id : ℕ) × IsAdded old ne
 
 -- ---- reduction
 -- Nogoods were dropped, but none that is kept forever or that an entry names. All others are as they were.
-pub record IsReduced (entries : List Entry) (old new : List (Option Kept)) : Type 0 where
+pub record IsReduced (entries : List Entry) (old new : List (Option StoredNogood)) : Type 0 where
   pub count : length new ≡ length old
   pub each : (id : ℕ) → (kept_at new id ≡ kept_at old id) ⊎ (kept_at new id ≡ None)
-  pub forever : (id : ℕ) (k : Kept) → kept_at old id ≡ Some k → k.kind ≡ kind.Forever → kept_at new id ≡ Some k
+  pub forever : (id : ℕ) (k : StoredNogood) → kept_at old id ≡ Some k → k.kind ≡ kind.Forever → kept_at new id ≡ Some k
   pub named : (i : ℕ) (d : Entry) (id : ℕ) → i < length entries → (slice_index_or entries i d).reason ≡ Some id → kept_at new id ≡ kept_at old id

@@ -2,24 +2,25 @@
 //!
 //! The propagator was told of the first entries, which `told` counts. Only where the store is quiet is it told of the
 //! others.
-ghost use Rattle.std.specs.Prelude.{◌≡◌, ◌<◌, ◌+◌, ◌^◌, [], Some, None, IfOk, OnErr, IfSome, IfNone, length, replicate};
+ghost use Rattle.std.specs.Prelude.{◌≡◌, ℕ, ◌<◌, ◌+◌, ◌^◌, [], Some, None, IfOk, OnErr, IfSome, IfNone, length, replicate, if◌then◌else◌};
 ghost use Rattle.std.specs.List.{All};
 ghost use Rattle.asp_vars.specs.Literals.{value_of};
 ghost use Rattle.asp_vars.specs.Numbering.{var_count};
 ghost use Rattle.asp_trail.specs.Entries.{level, cut};
 ghost use Rattle.asp_trail.specs.Trails.{IsVar};
 ghost use Rattle.asp_store.specs.Fitting.{HaveReasons};
+ghost use Rattle.asp_store.specs.Keeping.{kept_at, unless_given};
 ghost use Rattle.asp_store.specs.Walking.{IsViolated};
 ghost use Rattle.asp_propagate.specs.Useful.{IsSmaller};
-ghost use Rattle.asp_propagate.specs.Propagating.{values_of, with_entry, without_nogood, Keeps, IsUnnamed, IsImplied, Adds, Implies, IsQuiet, IsReduced};
+ghost use Rattle.asp_propagate.specs.Propagating.{values_of, with_entry, without_nogood, is_named, Keeps, IsUnnamed, IsImplied, Adds, Implies, IsQuiet, IsReduced};
 
 use crate::locks::lock_reasons;
 use crate::propagator::Propagator;
 use crate::rounds::propagate;
 use crate::telling::{untell, untell_above};
 use asp_model::cost::Cost;
-use asp_store::kept::Kind;
 use asp_store::store::Store;
+use asp_store::stored_nogood::Kind;
 use asp_trail::reasons::NogoodId;
 use asp_trail::trail::Trail;
 use asp_vars::lit::Lit;
@@ -30,9 +31,13 @@ use std::marker::Model;
 /// A trail, the nogoods kept for it, and the propagator that follows it.
 #[derive(Drop)]
 pub struct Engine<P: Propagator> {
+    // The literals that hold, with room for all variables.
     trail: Trail,
+    // The nogoods, which fit the trail. None is locked between calls.
     store: Store,
+    // What follows the assignment beside the store.
     propagator: P,
+    // How many of the trail's first entries the propagator was told of.
     told: usize,
 }
 
@@ -201,6 +206,16 @@ impl<P: Propagator> Engine<P> {
     {
         lock_reasons(&mut self.store, &self.trail, true);
         self.store.reduce();
+        lock_reasons(&mut self.store, &self.trail, false);
+    }
+    /// Drops all nogoods that propagators gave, but none that is a reason.
+    pub fn drop_given(&mut self)
+        ensures same { self.new ≡ record self.old { slots = self.new.slots } }
+        ensures kept { IsReduced self.old.entries self.old.slots self.new.slots }
+        ensures each { (id : ℕ) → kept_at self.new.slots id ≡ if is_named self.old.entries id then kept_at self.old.slots id else unless_given (kept_at self.old.slots id) }
+    {
+        lock_reasons(&mut self.store, &self.trail, true);
+        self.store.drop_given();
         lock_reasons(&mut self.store, &self.trail, false);
     }
 }

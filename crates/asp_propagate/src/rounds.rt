@@ -10,9 +10,9 @@ ghost use Rattle.asp_propagate.specs.Propagating.{WasTold, IsFollowed, GoesOn, A
 
 use crate::propagator::Propagator;
 use crate::telling::tell;
-use asp_store::kept::Kind;
 use asp_store::propagation::Propagated;
 use asp_store::store::Store;
+use asp_store::stored_nogood::Kind;
 use asp_trail::reasons::NogoodId;
 use asp_trail::trail::Trail;
 use std::alloc::AllocError;

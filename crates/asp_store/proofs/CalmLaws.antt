@@ -11,7 +11,7 @@ use Rattle.asp_trail.specs.Trails.{Trailed, IsOrdered}
 use Rattle.asp_trail.specs.Quiet.{is_calm}
 use Rattle.asp_trail.specs.Reasons.{Stands}
 use Rattle.asp_trail.proofs.QuietLaws.{calm_by_one, calm_by_two}
-use Rattle.asp_store.specs.declared.kept.Kept.{Kept}
+use Rattle.asp_store.specs.declared.stored_nogood.StoredNogood.{StoredNogood}
 use Rattle.asp_store.specs.declared.watch.Pair.{Pair}
 use Rattle.asp_store.specs.declared.watches.Watches.{Watches}
 use Rattle.asp_store.specs.declared.front.Front.{Front}
@@ -44,7 +44,7 @@ calm_watched vars es n p o t = cases (holds_in (assignment vars es) p.first) (ho
     cases false true q r = one p.second (inr refl) (sym r)
     cases false false q r = calm_by_two (assignment vars es) n p.first p.second (t.has p.first (inl refl)) (t.has p.second (inr refl)) t.differ (sym q) (sym r)
 
-pub all_calm : (slots : List (Option Kept)) (w : Watches) (t : Trailed) → IsOrdered t.vars t.entries → t.seen ≡ length t.entries → IsSound slots w t →
+pub all_calm : (slots : List (Option StoredNogood)) (w : Watches) (t : Trailed) → IsOrdered t.vars t.entries → t.seen ≡ length t.entries → IsSound slots w t →
     AreSettled slots w.pairs t.entries → (id : ℕ) (n : Nogood) → nogood_at slots id ≡ Some n → is_calm (assignment t.vars t.entries) n.lits ≡ true
 all_calm slots w t o e s k id n h = cases (pair_at w.pairs id) refl
   where
@@ -54,7 +54,7 @@ all_calm slots w t o e s k id n h = cases (pair_at w.pairs id) refl
         calm_watched t.vars t.entries n.lits p o (subst (λ (m : ℕ). IsWatched n.lits p t.entries m) e (s.fit.watched id n p h (sym q)))
 
 -- ---- a walk begins and ends
-pub walk_begins : (slots : List (Option Kept)) (w : Watches) (t : Trailed) (f : Front) → IsSound slots w t → AreSettled slots w.pairs t.entries →
+pub walk_begins : (slots : List (Option StoredNogood)) (w : Watches) (t : Trailed) (f : Front) → IsSound slots w t → AreSettled slots w.pairs t.entries →
     Stands t.entries f.lit t.seen f.level → IsWalking slots w t f 0
 walk_begins slots w t f s k at = record {
   sound = s;
@@ -68,7 +68,7 @@ stands_same es k l i b c s u =
     let d : Entry = record { lit = k; level = 0; reason = None } in
     (sym (s.lit d) ∙ u.lit d, sym (u.level d) ∙ s.level d)
 
-pub walk_ends : (slots : List (Option Kept)) (w : Watches) (t : Trailed) (f : Front) (i : ℕ) → size w.lists (code_of f.lit) ≤ i → IsWalking slots w t f i →
+pub walk_ends : (slots : List (Option StoredNogood)) (w : Watches) (t : Trailed) (f : Front) (i : ℕ) → size w.lists (code_of f.lit) ≤ i → IsWalking slots w t f i →
     IsSound slots w (record t { seen = t.seen + 1 })
 walk_ends slots w t f i le k = record {
   net = k.sound.net;

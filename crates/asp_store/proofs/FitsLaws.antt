@@ -9,8 +9,8 @@ use Rattle.asp_trail.specs.declared.trail.Entry.{Entry}
 use Rattle.asp_trail.specs.Entries.{cut}
 use Rattle.asp_trail.specs.Trails.{Trailed}
 use Rattle.asp_trail.specs.Reasons.{IsReason}
-use Rattle.asp_store.specs.declared.kept.Kept.{Kept}
-use Rattle.asp_store.specs.declared.kept.Kind.{Kind}
+use Rattle.asp_store.specs.declared.stored_nogood.StoredNogood.{StoredNogood}
+use Rattle.asp_store.specs.declared.stored_nogood.Kind.{Kind}
 use Rattle.asp_store.specs.declared.watch.Pair.{Pair}
 use Rattle.asp_store.specs.Keeping.{kept_at, nogood_at, with_lock}
 use Rattle.asp_store.specs.Pairs.{pair_at}
@@ -22,11 +22,11 @@ use Rattle.asp_store.proofs.WatchLaws.{reason_grow, reason_cut, cut_at, watched_
 use Rattle.asp_store.proofs.GrowLaws.{reasons_new}
 use Rattle.asp_store.proofs.SoundLaws.{fit_grow, from_zero}
 
-pub none_kept : (slots : List (Option Kept)) (id : ℕ) (n : Nogood) → kept_at slots id ≡ None → nogood_at slots id ≡ Some n → ⊥
-none_kept slots id n e g = none-some n (sym (ap (option_map (λ (x : Kept). x.nogood)) e) ∙ g)
+pub none_kept : (slots : List (Option StoredNogood)) (id : ℕ) (n : Nogood) → kept_at slots id ≡ None → nogood_at slots id ≡ Some n → ⊥
+none_kept slots id n e g = none-some n (sym (ap (option_map (λ (x : StoredNogood). x.nogood)) e) ∙ g)
 
-pub same_nogood : (xs ys : List (Option Kept)) (i : ℕ) → kept_at ys i ≡ kept_at xs i → nogood_at ys i ≡ nogood_at xs i
-same_nogood xs ys i e = ap (option_map (λ (x : Kept). x.nogood)) e
+pub same_nogood : (xs ys : List (Option StoredNogood)) (i : ℕ) → kept_at ys i ≡ kept_at xs i → nogood_at ys i ≡ nogood_at xs i
+same_nogood xs ys i e = ap (option_map (λ (x : StoredNogood). x.nogood)) e
 
 -- ---- the trail changes
 pub fits_begin : (s : Stored) (t : Trailed) → t.vars ≡ s.vars → t.entries ≡ [] → s.slots ≡ [] → Fits s t
@@ -34,12 +34,12 @@ fits_begin s t v e q = record {
   same_vars = v;
   reasons = λ i d id h r. absurd (omega (arith, h, ap (length {A = Entry}) e));
   fit = record {
-    watched = λ id n p g h. absurd (none-some n (sym (ap (λ (xs : List (Option Kept)). nogood_at xs id) q) ∙ g));
-    unwatched = λ id n g h. absurd (none-some n (sym (ap (λ (xs : List (Option Kept)). nogood_at xs id) q) ∙ g));
+    watched = λ id n p g h. absurd (none-some n (sym (ap (λ (xs : List (Option StoredNogood)). nogood_at xs id) q) ∙ g));
+    unwatched = λ id n g h. absurd (none-some n (sym (ap (λ (xs : List (Option StoredNogood)). nogood_at xs id) q) ∙ g));
   };
 }
 
-reasons_open : (slots : List (Option Kept)) (es : List Entry) (e : Entry) → e.reason ≡ None → HaveReasons slots es → HaveReasons slots (es ++ e ∷ [])
+reasons_open : (slots : List (Option StoredNogood)) (es : List Entry) (e : Entry) → e.reason ≡ None → HaveReasons slots es → HaveReasons slots (es ++ e ∷ [])
 reasons_open slots es e none h i d id w q = cases (is_or_not i (length es))
   where
     cases : (i ≡ length es) ⊎ (i ≢ length es) → (m : Nogood) × (nogood_at slots id ≡ Some m) × IsReason (es ++ e ∷ []) i (get_or (es ++ e ∷ []) i d).lit m.lits
@@ -121,15 +121,15 @@ fits_add s z t id n kind a f = record {
   };
 }
 
-lock_none : (b : Bool) (o : Option Kept) → option_map (λ (k : Kept). k.nogood) (with_lock b o) ≡ option_map (λ (k : Kept). k.nogood) o
+lock_none : (b : Bool) (o : Option StoredNogood) → option_map (λ (k : StoredNogood). k.nogood) (with_lock b o) ≡ option_map (λ (k : StoredNogood). k.nogood) o
 lock_none b None = refl
 lock_none b (Some k) = refl
 
-pub locked_same : (b : Bool) (slots : List (Option Kept)) (id j : ℕ) → id < length slots → nogood_at (set slots id (with_lock b (kept_at slots id))) j ≡ nogood_at slots j
+pub locked_same : (b : Bool) (slots : List (Option StoredNogood)) (id j : ℕ) → id < length slots → nogood_at (set slots id (with_lock b (kept_at slots id))) j ≡ nogood_at slots j
 locked_same b slots id j h =
     elim (is_or_not j id) [
-      | inl e ↦ ap (option_map (λ (k : Kept). k.nogood)) (at_set slots id (with_lock b (kept_at slots id)) None j h e) ∙ (lock_none b (kept_at slots id) ∙ ap (nogood_at slots) (sym e))
-      | inr ne ↦ ap (option_map (λ (k : Kept). k.nogood)) (at_set_other slots id (with_lock b (kept_at slots id)) None j ne)
+      | inl e ↦ ap (option_map (λ (k : StoredNogood). k.nogood)) (at_set slots id (with_lock b (kept_at slots id)) None j h e) ∙ (lock_none b (kept_at slots id) ∙ ap (nogood_at slots) (sym e))
+      | inr ne ↦ ap (option_map (λ (k : StoredNogood). k.nogood)) (at_set_other slots id (with_lock b (kept_at slots id)) None j ne)
     ]
 
 pub fits_lock : (s : Stored) (t : Trailed) (id : ℕ) (b : Bool) → id < length s.slots → Fits s t → Fits (locked_at s id b) t

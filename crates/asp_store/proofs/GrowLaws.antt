@@ -13,13 +13,13 @@ use Rattle.asp_trail.specs.declared.trail.Entry.{Entry}
 use Rattle.asp_trail.specs.Entries.{level, level_or_zero}
 use Rattle.asp_trail.specs.Trails.{Trailed}
 use Rattle.asp_trail.specs.Reasons.{IsReason}
-use Rattle.asp_store.specs.declared.kept.Kept.{Kept}
+use Rattle.asp_store.specs.declared.stored_nogood.StoredNogood.{StoredNogood}
 use Rattle.asp_store.specs.Keeping.{nogood_at}
 use Rattle.asp_store.specs.Looking.{Grew}
 use Rattle.asp_store.specs.Fitting.{HaveReasons, IsImpliedAt, Extends}
 use Rattle.asp_store.proofs.WatchLaws.{reason_grow}
 
-pub reasons_new : (slots : List (Option Kept)) (id : ℕ) (n : Nogood) (es : List Entry) (e : Entry) → nogood_at slots id ≡ Some n → e.reason ≡ Some id →
+pub reasons_new : (slots : List (Option StoredNogood)) (id : ℕ) (n : Nogood) (es : List Entry) (e : Entry) → nogood_at slots id ≡ Some n → e.reason ≡ Some id →
     IsReason (es ++ e ∷ []) (length es) e.lit n.lits → HaveReasons slots es → HaveReasons slots (es ++ e ∷ [])
 reasons_new slots id n es e k r h old i d j w q = cases (eqb i (length es)) refl
   where
@@ -53,7 +53,7 @@ level_stays es (f ∷ fs) a =
     ap level_or_zero (slice_get-get_or (es ++ f ∷ fs) (length (es ++ f ∷ fs) - 1) f (omega (arith, length-append es (f ∷ fs))))
     ∙ (ap (λ k. (get_or (es ++ f ∷ fs) k f).level) n ∙ (ap (λ (e : Entry). e.level) (get_or-append-add es (f ∷ fs) (length fs) f) ∙ (a (length fs) f (omega arith)).level))
 
-pub extends_grew : (slots : List (Option Kept)) (id : ℕ) (n : Nogood) (es fs : List Entry) → nogood_at slots id ≡ Some n → Grew id n.lits es fs → Extends slots es fs
+pub extends_grew : (slots : List (Option StoredNogood)) (id : ℕ) (n : Nogood) (es fs : List Entry) → nogood_at slots id ≡ Some n → Grew id n.lits es fs → Extends slots es fs
 extends_grew slots id n es fs k g =
     elim g [
       | inl q ↦ ([], q ∙ sym (append-nil es), λ h. subst (λ (xs : List Entry). HaveReasons slots xs) (sym q) h, λ i d h. absurd (omega arith))
@@ -69,10 +69,10 @@ extends_grew slots id n es fs k g =
     new : Literal → Entry
     new l = record { lit = l; level = level es; reason = Some id }
 
-pub extends_none : (slots : List (Option Kept)) (es : List Entry) → Extends slots es es
+pub extends_none : (slots : List (Option StoredNogood)) (es : List Entry) → Extends slots es es
 extends_none slots es = ([], sym (append-nil es), λ h. h, λ i d h. absurd (omega arith))
 
-pub extends_more : (slots : List (Option Kept)) (es fs gs : List Entry) → Extends slots es fs → Extends slots fs gs → Extends slots es gs
+pub extends_more : (slots : List (Option StoredNogood)) (es fs gs : List Entry) → Extends slots es fs → Extends slots fs gs → Extends slots es gs
 extends_more slots es fs gs a b =
     let same : level fs ≡ level es = ap level a.1 ∙ level_stays es a.0 a.3 in (
       a.0 ++ b.0,

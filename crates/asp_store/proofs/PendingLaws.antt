@@ -13,7 +13,7 @@ use Rattle.asp_vars.specs.Codes.{code_of}
 use Rattle.asp_vars.specs.declared.nogood.Nogood.{Nogood}
 use Rattle.asp_trail.specs.declared.trail.Entry.{Entry}
 use Rattle.asp_trail.specs.Trails.{Trailed, IsVar}
-use Rattle.asp_store.specs.declared.kept.Kept.{Kept}
+use Rattle.asp_store.specs.declared.stored_nogood.StoredNogood.{StoredNogood}
 use Rattle.asp_store.specs.declared.watch.Watch.{Watch}
 use Rattle.asp_store.specs.declared.watch.Pair.{Pair}
 use Rattle.asp_store.specs.declared.watches.Watches.{Watches}
@@ -33,7 +33,7 @@ use Rattle.asp_store.proofs.LookLaws.{all_has}
 use Rattle.asp_store.proofs.SoundLaws.{Suits, sound_pair, sound_apart, pair_cases, sound_grow}
 use Rattle.asp_store.proofs.StepLaws.{code_of_list, sound_watch}
 
-pub kept_within : (slots : List (Option Kept)) (id : ℕ) (n : Nogood) → nogood_at slots id ≡ Some n → id < length slots
+pub kept_within : (slots : List (Option StoredNogood)) (id : ℕ) (n : Nogood) → nogood_at slots id ≡ Some n → id < length slots
 kept_within [] id n g = absurd (none g)
   where
     none : nogood_at [] id ≡ Some n → ⊥
@@ -46,7 +46,7 @@ from_swap : (a : Parted) (i x m id : ℕ) → i < length a.items → m ≤ i →
     IsFrom (record a { items = swap_remove a.items i x }) m id
 from_swap a i x m id h low ne f = let g = get_swap a.items i x f.0 id h (λ e. ne (ap (slice_get a.items) (sym e) ∙ f.2)) f.2 in (g.0, g.2 m low f.1, g.1)
 
-pub looks_leave : (slots : List (Option Kept)) (w : Watches) (t : Trailed) (i x : ℕ) → i < length w.apart.items → HasNone slots w i → IsLooking slots w t i →
+pub looks_leave : (slots : List (Option StoredNogood)) (w : Watches) (t : Trailed) (i x : ℕ) → i < length w.apart.items → HasNone slots w i → IsLooking slots w t i →
     Looks slots w (record w { apart = record w.apart { items = swap_remove w.apart.items i x } }) t i step.Goes
 looks_leave slots w t i x h none k = (
   record {
@@ -87,17 +87,17 @@ abbrev pub attached : Watches → Pair → ℕ → Watches
 attached w p id = record (with_both w p id) { pairs = set w.pairs id (Some p) }
 
 -- the literals of a pair are of the trail's variables
-pub pair_small : (slots : List (Option Kept)) (w : Watches) (t : Trailed) (id : ℕ) (n : Nogood) (p : Pair) (l : Literal) (es : List Entry) (seen : ℕ) → IsSound slots w t →
+pub pair_small : (slots : List (Option StoredNogood)) (w : Watches) (t : Trailed) (id : ℕ) (n : Nogood) (p : Pair) (l : Literal) (es : List Entry) (seen : ℕ) → IsSound slots w t →
     nogood_at slots id ≡ Some n → IsWatched n.lits p es seen → IsOneOf p l → l.var ≤ t.vars
 pair_small slots w t id n p l es seen s h k o = (all_has (λ x. IsVar t.vars x.var) n.lits l (s.net.small id n h) (k.has l o)).1
 
-pub sound_both : (slots : List (Option Kept)) (w : Watches) (t : Trailed) (p : Pair) (id : ℕ) → p.first.var ≤ t.vars → p.second.var ≤ t.vars → IsSound slots w t →
+pub sound_both : (slots : List (Option StoredNogood)) (w : Watches) (t : Trailed) (p : Pair) (id : ℕ) → p.first.var ≤ t.vars → p.second.var ≤ t.vars → IsSound slots w t →
     IsSound slots (with_first w p id) t × IsSound slots (with_both w p id) t
 sound_both slots w t p id a b s =
     let one = sound_watch slots w t p.first (record { blocker = p.second; id = id }) a b s in
     (one, sound_watch slots (with_first w p id) t p.second (record { blocker = p.first; id = id }) b a one)
 
-suits_both : (slots : List (Option Kept)) (w : Watches) (t : Trailed) (p : Pair) (id : ℕ) (n : Nogood) → nogood_at slots id ≡ Some n →
+suits_both : (slots : List (Option StoredNogood)) (w : Watches) (t : Trailed) (p : Pair) (id : ℕ) (n : Nogood) → nogood_at slots id ≡ Some n →
     IsWatched n.lits p t.entries (length t.entries) → IsSound slots w t → Suits slots (with_both w p id) t id (Some p)
 suits_both slots w t p id n h k s = record {
   within = omega (arith, s.net.paired, kept_within slots id n h);
@@ -136,7 +136,7 @@ suits_both slots w t p id n h k s = record {
         (code_of_list slots (with_first w p id) t p.second two.0 (small p.second (inr refl)))
         (subst (λ (x : Nogood). has_literal x.lits p.first ≡ true) (same m g) (k.has p.first (inl refl)))
 
-pub attached_looking : (slots : List (Option Kept)) (w : Watches) (t : Trailed) (i id : ℕ) (p : Pair) (n : Nogood) → nogood_at slots id ≡ Some n →
+pub attached_looking : (slots : List (Option StoredNogood)) (w : Watches) (t : Trailed) (i id : ℕ) (p : Pair) (n : Nogood) → nogood_at slots id ≡ Some n →
     IsWatched n.lits p t.entries (length t.entries) → IsWaiting slots w t i id → IsLooking slots (attached w p id) t i
 attached_looking slots w t i id p n h k v = record {
   sound = sound_pair slots (with_both w p id) t id (Some p) (suits_both slots w t p id n h k v.looking.sound)
@@ -149,17 +149,17 @@ attached_looking slots w t i id p n h k v = record {
   begun = v.looking.begun;
 }
 
-pub attached_none : (slots : List (Option Kept)) (w : Watches) (t : Trailed) (i id : ℕ) (p : Pair) (n : Nogood) → nogood_at slots id ≡ Some n → IsWaiting slots w t i id →
+pub attached_none : (slots : List (Option StoredNogood)) (w : Watches) (t : Trailed) (i id : ℕ) (p : Pair) (n : Nogood) → nogood_at slots id ≡ Some n → IsWaiting slots w t i id →
     HasNone slots (attached w p id) i
 attached_none slots w t i id p n h v j m at g q =
     let e : j ≡ id = same_Some j id (sym at ∙ v.at) in
     none-some p (sym q ∙ at_set w.pairs id (Some p) None j (omega (arith, v.looking.sound.net.paired, kept_within slots id n h)) e)
 
 -- ---- a literal is false
-same_kept : (slots : List (Option Kept)) (i id j : ℕ) (items : List ℕ) (m : Nogood) → slice_get items i ≡ Some id → slice_get items i ≡ Some j → nogood_at slots j ≡ Some m → nogood_at slots id ≡ Some m
+same_kept : (slots : List (Option StoredNogood)) (i id j : ℕ) (items : List ℕ) (m : Nogood) → slice_get items i ≡ Some id → slice_get items i ≡ Some j → nogood_at slots j ≡ Some m → nogood_at slots id ≡ Some m
 same_kept slots i id j items m a b g = ap (nogood_at slots) (same_Some id j (sym a ∙ b)) ∙ g
 
-pub looks_pending : (slots : List (Option Kept)) (w : Watches) (t : Trailed) (i id b : ℕ) → ((n : Nogood) → nogood_at slots id ≡ Some n → HasFalse t.entries n.lits b) →
+pub looks_pending : (slots : List (Option StoredNogood)) (w : Watches) (t : Trailed) (i id b : ℕ) → ((n : Nogood) → nogood_at slots id ≡ Some n → HasFalse t.entries n.lits b) →
     IsWaiting slots w t i id → Looks slots w w t i step.Stays
 looks_pending slots w t i id b is_false v = (
   record {
@@ -183,7 +183,7 @@ pub record Retires (a new : Parted) (i : ℕ) : Type 0 where
   pub count : new.retired ≡ a.retired + 1
   pub stays : (p id : ℕ) → slice_get a.items p ≡ Some id → (q : ℕ) × (slice_get new.items q ≡ Some id) × (p ≢ i → a.retired ≤ p → a.retired + 1 ≤ q) × (i < p → q ≡ p)
 
-pub looks_retire : (slots : List (Option Kept)) (w : Watches) (t : Trailed) (i id : ℕ) (new : Parted) → ((n : Nogood) → nogood_at slots id ≡ Some n → HasFalse t.entries n.lits 0) →
+pub looks_retire : (slots : List (Option StoredNogood)) (w : Watches) (t : Trailed) (i id : ℕ) (new : Parted) → ((n : Nogood) → nogood_at slots id ≡ Some n → HasFalse t.entries n.lits 0) →
     Retires w.apart new i → IsWaiting slots w t i id → Looks slots w (record w { apart = new }) t i step.Stays
 looks_retire slots w t i id new is_false r v = (
   record {
@@ -208,7 +208,7 @@ looks_retire slots w t i id new is_false r v = (
 )
 
 -- ---- the trail grows
-pub waiting_grow : (slots : List (Option Kept)) (w : Watches) (t : Trailed) (i id : ℕ) (fs : List Entry) → t.seen ≤ length t.entries → IsWaiting slots w t i id →
+pub waiting_grow : (slots : List (Option StoredNogood)) (w : Watches) (t : Trailed) (i id : ℕ) (fs : List Entry) → t.seen ≤ length t.entries → IsWaiting slots w t i id →
     IsWaiting slots w (record t { entries = t.entries ++ fs }) i id
 waiting_grow slots w t i id fs le v = record {
   looking = record {
@@ -225,7 +225,7 @@ waiting_grow slots w t i id fs le v = record {
 }
 
 -- ---- the look begins and ends
-pub looking_begins : (slots : List (Option Kept)) (w : Watches) (t : Trailed) → IsSound slots w t → IsLooking slots w t w.apart.retired
+pub looking_begins : (slots : List (Option StoredNogood)) (w : Watches) (t : Trailed) → IsSound slots w t → IsLooking slots w t w.apart.retired
 looking_begins slots w t s = record {
   sound = s;
   settled = λ id n g q. elim (s.fit.unwatched id n g q) [
@@ -235,7 +235,7 @@ looking_begins slots w t s = record {
   begun = omega arith;
 }
 
-pub looking_ends : (slots : List (Option Kept)) (w : Watches) (t : Trailed) (i : ℕ) → length w.apart.items ≤ i → IsLooking slots w t i → AreSettled slots w.pairs t.entries
+pub looking_ends : (slots : List (Option StoredNogood)) (w : Watches) (t : Trailed) (i : ℕ) → length w.apart.items ≤ i → IsLooking slots w t i → AreSettled slots w.pairs t.entries
 looking_ends slots w t i h k id n g q =
     elim (k.settled id n g q) [
       | inl f ↦ absurd (omega (arith, h, f.1, slice_get_within w.apart.items f.0 id f.2))
@@ -250,7 +250,7 @@ retires a i h le = record {
 }
 
 -- ---- what a look at the nogood found
-pub found_violated : (slots : List (Option Kept)) (t u : Trailed) (id : ℕ) (n : Nogood) (lits : List Literal) → u ≡ record t { entries = u.entries } → u.entries ≡ t.entries →
+pub found_violated : (slots : List (Option StoredNogood)) (t u : Trailed) (id : ℕ) (n : Nogood) (lits : List Literal) → u ≡ record t { entries = u.entries } → u.entries ≡ t.entries →
     nogood_at slots id ≡ Some n → n.lits ≡ lits → is_violated (assignment t.vars t.entries) lits ≡ true → IsViolated u.vars slots u.entries id
 found_violated slots t u id n lits same e h q v = (
   n,
@@ -261,7 +261,7 @@ found_violated slots t u id n lits same e h q v = (
 )
 
 -- what is true of a nogood's literals is true of any nogood under its number
-pub for_each : (slots : List (Option Kept)) (id : ℕ) (n : Nogood) (lits : List Literal) (P : List Literal → Type 0) → nogood_at slots id ≡ Some n → n.lits ≡ lits → P lits →
+pub for_each : (slots : List (Option StoredNogood)) (id : ℕ) (n : Nogood) (lits : List Literal) (P : List Literal → Type 0) → nogood_at slots id ≡ Some n → n.lits ≡ lits → P lits →
     (m : Nogood) → nogood_at slots id ≡ Some m → P m.lits
 for_each slots id n lits P h e p m g =
     subst (λ (x : Nogood). P x.lits) (same_Some n m (sym h ∙ g)) (subst P (sym e) p)

@@ -5,7 +5,7 @@ use Rattle.asp_vars.specs.Literals.{Literal, has_literal}
 use Rattle.asp_vars.specs.declared.nogood.Nogood.{Nogood}
 use Rattle.asp_trail.specs.declared.trail.Entry.{Entry}
 use Rattle.asp_trail.specs.Trails.{Trailed}
-use Rattle.asp_store.specs.declared.kept.Kept.{Kept}
+use Rattle.asp_store.specs.declared.stored_nogood.StoredNogood.{StoredNogood}
 use Rattle.asp_store.specs.declared.watch.Watch.{Watch}
 use Rattle.asp_store.specs.declared.watch.Pair.{Pair}
 use Rattle.asp_store.specs.declared.watches.Watches.{Watches}
@@ -19,7 +19,7 @@ use Rattle.asp_store.proofs.GetLaws.{is_or_not, at_set, at_set_other, get_more}
 use Rattle.asp_store.proofs.WatchLaws.{has_false_grow, watched_grow}
 
 -- ---- lists change
-pub sound_lists : (slots : List (Option Kept)) (w : Watches) (t : Trailed) (lists : List (List Watch)) → length lists ≡ length w.lists →
+pub sound_lists : (slots : List (Option StoredNogood)) (w : Watches) (t : Trailed) (lists : List (List Watch)) → length lists ≡ length w.lists →
     ((k p : ℕ) (x : Watch) → place lists k p ≡ Some x → x.blocker.var ≤ t.vars) →
     ((id : ℕ) (n : Nogood) (p : Pair) (l : Literal) → nogood_at slots id ≡ Some n → pair_at w.pairs id ≡ Some p → IsOneOf p l → IsListed lists l 0 id n.lits) →
     IsSound slots w t → IsSound slots (record w { lists = lists }) t
@@ -46,7 +46,7 @@ pair_cases pairs id q k o h g =
     ]
 
 -- what must be true of the new pair of a number
-pub record Suits (slots : List (Option Kept)) (w : Watches) (t : Trailed) (id : ℕ) (q : Option Pair) : Type 0 where
+pub record Suits (slots : List (Option StoredNogood)) (w : Watches) (t : Trailed) (id : ℕ) (q : Option Pair) : Type 0 where
   pub within : id < length w.pairs
   pub bounded : (p : Pair) (l : Literal) → q ≡ Some p → IsOneOf p l → l.var ≤ t.vars
   pub listed : (n : Nogood) (p : Pair) (l : Literal) → nogood_at slots id ≡ Some n → q ≡ Some p → IsOneOf p l → IsListed w.lists l 0 id n.lits
@@ -56,7 +56,7 @@ pub record Suits (slots : List (Option Kept)) (w : Watches) (t : Trailed) (id : 
 pub from_zero : (a : Parted) (i id : ℕ) → IsFrom a i id → IsFrom a 0 id
 from_zero a i id f = (f.0, omega arith, f.2)
 
-pub sound_pair : (slots : List (Option Kept)) (w : Watches) (t : Trailed) (id : ℕ) (q : Option Pair) → Suits slots w t id q → IsSound slots w t →
+pub sound_pair : (slots : List (Option StoredNogood)) (w : Watches) (t : Trailed) (id : ℕ) (q : Option Pair) → Suits slots w t id q → IsSound slots w t →
     IsSound slots (record w { pairs = set w.pairs id q }) t
 sound_pair slots w t id q u s = record {
   net = record {
@@ -89,7 +89,7 @@ sound_pair slots w t id q u s = record {
   };
 }
 
-pub settled_pair : (slots : List (Option Kept)) (pairs : List (Option Pair)) (es : List Entry) (id : ℕ) (q : Option Pair) → id < length pairs →
+pub settled_pair : (slots : List (Option StoredNogood)) (pairs : List (Option Pair)) (es : List Entry) (id : ℕ) (q : Option Pair) → id < length pairs →
     ((n : Nogood) → nogood_at slots id ≡ Some n → q ≡ None → (b : ℕ) × HasFalse es n.lits b) → AreSettled slots pairs es → AreSettled slots (set pairs id q) es
 settled_pair slots pairs es id q within here s k n h g =
     elim (pair_cases pairs id q k None within g) [
@@ -98,7 +98,7 @@ settled_pair slots pairs es id q within here s k n h g =
     ]
 
 -- ---- those apart change
-pub sound_apart : (slots : List (Option Kept)) (w : Watches) (t : Trailed) (apart : Parted) →
+pub sound_apart : (slots : List (Option StoredNogood)) (w : Watches) (t : Trailed) (apart : Parted) →
     ((id : ℕ) (n : Nogood) → nogood_at slots id ≡ Some n → pair_at w.pairs id ≡ None → IsFrom apart 0 id) →
     ((id : ℕ) (n : Nogood) → nogood_at slots id ≡ Some n → pair_at w.pairs id ≡ None → IsFrom apart apart.retired id ⊎ HasFalse t.entries n.lits 0) →
     IsSound slots w t → IsSound slots (record w { apart = apart }) t
@@ -121,25 +121,25 @@ sound_apart slots w t apart all waiting s = record {
 pub from_push : (a : Parted) (x i id : ℕ) → IsFrom a i id → IsFrom (record a { items = a.items ++ x ∷ [] }) i id
 from_push a x i id f = (f.0, f.1, get_more a.items (x ∷ []) f.0 id f.2)
 
-pub sound_push : (slots : List (Option Kept)) (w : Watches) (t : Trailed) (x : ℕ) → IsSound slots w t → IsSound slots (record w { apart = record w.apart { items = w.apart.items ++ x ∷ [] } }) t
+pub sound_push : (slots : List (Option StoredNogood)) (w : Watches) (t : Trailed) (x : ℕ) → IsSound slots w t → IsSound slots (record w { apart = record w.apart { items = w.apart.items ++ x ∷ [] } }) t
 sound_push slots w t x s =
     sound_apart slots w t (record w.apart { items = w.apart.items ++ x ∷ [] }) (λ id n h g. from_push w.apart x 0 id (s.net.unwatched id n h g))
     (λ id n h g. elim (s.fit.unwatched id n h g) [ inl f ↦ inl (from_push w.apart x w.apart.retired id f) | inr f ↦ inr f ]) s
 
 -- ---- the trail grows
-pub fit_grow : (slots : List (Option Kept)) (pairs : List (Option Pair)) (apart : Parted) (t : Trailed) (fs : List Entry) → t.seen ≤ length t.entries → AreFit slots pairs apart t →
+pub fit_grow : (slots : List (Option StoredNogood)) (pairs : List (Option Pair)) (apart : Parted) (t : Trailed) (fs : List Entry) → t.seen ≤ length t.entries → AreFit slots pairs apart t →
     AreFit slots pairs apart (record t { entries = t.entries ++ fs })
 fit_grow slots pairs apart t fs le f = record {
   watched = λ id n p h g. watched_grow t.entries fs t.seen n.lits p le (f.watched id n p h g);
   unwatched = λ id n h g. elim (f.unwatched id n h g) [ inl a ↦ inl a | inr a ↦ inr (has_false_grow t.entries fs n.lits 0 a) ];
 }
 
-pub sound_grow : (slots : List (Option Kept)) (w : Watches) (t : Trailed) (fs : List Entry) → t.seen ≤ length t.entries → IsSound slots w t →
+pub sound_grow : (slots : List (Option StoredNogood)) (w : Watches) (t : Trailed) (fs : List Entry) → t.seen ≤ length t.entries → IsSound slots w t →
     IsSound slots w (record t { entries = t.entries ++ fs })
 sound_grow slots w t fs le s = record {
   net = s.net;
   fit = fit_grow slots w.pairs w.apart t fs le s.fit;
 }
 
-pub settled_grow : (slots : List (Option Kept)) (pairs : List (Option Pair)) (es fs : List Entry) → AreSettled slots pairs es → AreSettled slots pairs (es ++ fs)
+pub settled_grow : (slots : List (Option StoredNogood)) (pairs : List (Option Pair)) (es fs : List Entry) → AreSettled slots pairs es → AreSettled slots pairs (es ++ fs)
 settled_grow slots pairs es fs s id n h g = let f = s id n h g in (f.0, has_false_grow es fs n.lits f.0 f.1)

@@ -13,7 +13,7 @@ use Rattle.asp_trail.specs.Entries.{assignment}
 use Rattle.asp_trail.specs.Trails.{Trailed, IsOrdered, IsVar}
 use Rattle.asp_trail.specs.Reasons.{Stands}
 use Rattle.asp_trail.proofs.HoldLaws.{holds_at}
-use Rattle.asp_store.specs.declared.kept.Kept.{Kept}
+use Rattle.asp_store.specs.declared.stored_nogood.StoredNogood.{StoredNogood}
 use Rattle.asp_store.specs.declared.watch.Watch.{Watch}
 use Rattle.asp_store.specs.declared.watch.Pair.{Pair}
 use Rattle.asp_store.specs.declared.watches.Watches.{Watches}
@@ -60,7 +60,7 @@ front_var t f o s =
     omega (arith, (o.within t.seen d s.within).1, ap (λ (l : Literal). l.var) (s.lit d))
 
 -- ---- nothing changes
-pub step_quick : (slots : List (Option Kept)) (w : Watches) (t : Trailed) (f : Front) (i : ℕ) (x : Watch) → place w.lists (code_of f.lit) i ≡ Some x →
+pub step_quick : (slots : List (Option StoredNogood)) (w : Watches) (t : Trailed) (f : Front) (i : ℕ) (x : Watch) → place w.lists (code_of f.lit) i ≡ Some x →
     IsFalseBy t.entries x.blocker f.level → IsWalking slots w t f i → Steps slots w w t f i step.Stays
 step_quick slots w t f i x g is_false k = (
   record {
@@ -80,21 +80,21 @@ step_quick slots w t f i x g is_false k = (
 
 -- ---- the blocker of a place changes
 -- the nogood of a visit has the other watch
-pub visit_has : (slots : List (Option Kept)) (w : Watches) (t : Trailed) (f : Front) (i id : ℕ) (other : Literal) (n : Nogood) → IsVisit slots w t f i id other → nogood_at slots id ≡ Some n →
+pub visit_has : (slots : List (Option StoredNogood)) (w : Watches) (t : Trailed) (f : Front) (i id : ℕ) (other : Literal) (n : Nogood) → IsVisit slots w t f i id other → nogood_at slots id ≡ Some n →
     has_literal n.lits other ≡ true
 visit_has slots w t f i id other n v h =
     (v.walking.sound.fit.watched id n v.pair h v.pair_is).has other (beside_one v.pair f.lit other v.beside).1
 
-pub visit_var : (slots : List (Option Kept)) (w : Watches) (t : Trailed) (f : Front) (i id : ℕ) (other : Literal) → IsVisit slots w t f i id other → other.var ≤ t.vars
+pub visit_var : (slots : List (Option StoredNogood)) (w : Watches) (t : Trailed) (f : Front) (i id : ℕ) (other : Literal) → IsVisit slots w t f i id other → other.var ≤ t.vars
 visit_var slots w t f i id other v = v.walking.sound.net.watched id v.pair other v.pair_is (beside_one v.pair f.lit other v.beside).1
 
-pub visit_within : (slots : List (Option Kept)) (w : Watches) (t : Trailed) (f : Front) (i id : ℕ) (other : Literal) → IsVisit slots w t f i id other → i < size w.lists (code_of f.lit)
+pub visit_within : (slots : List (Option StoredNogood)) (w : Watches) (t : Trailed) (f : Front) (i id : ℕ) (other : Literal) → IsVisit slots w t f i id other → i < size w.lists (code_of f.lit)
 visit_within slots w t f i id other v = slice_get_within (list_at w.lists (code_of f.lit)) i v.watch v.at
 
-same_nogood : (slots : List (Option Kept)) (j id : ℕ) (n m : Nogood) → j ≡ id → nogood_at slots j ≡ Some n → nogood_at slots id ≡ Some m → n ≡ m
+same_nogood : (slots : List (Option StoredNogood)) (j id : ℕ) (n m : Nogood) → j ≡ id → nogood_at slots j ≡ Some n → nogood_at slots id ≡ Some m → n ≡ m
 same_nogood slots j id n m e h g = same_Some n m (sym h ∙ (ap (nogood_at slots) e ∙ g))
 
-pub step_block : (slots : List (Option Kept)) (w : Watches) (t : Trailed) (f : Front) (i id : ℕ) (other : Literal) → IsVisit slots w t f i id other →
+pub step_block : (slots : List (Option StoredNogood)) (w : Watches) (t : Trailed) (f : Front) (i id : ℕ) (other : Literal) → IsVisit slots w t f i id other →
     IsFalseBy t.entries other f.level →
     Steps slots w (record w { lists = set w.lists (code_of f.lit) (set (list_at w.lists (code_of f.lit)) i (record { blocker = other; id = id })) }) t f i step.Stays
 step_block slots w t f i id other v is_false = (
@@ -136,7 +136,7 @@ step_block slots w t f i id other v is_false = (
         (λ e. visit_has slots w t f i id other n v (ap (nogood_at slots) (sym e) ∙ g)) s
 
 -- ---- a place goes
-pub step_leave : (slots : List (Option Kept)) (w : Watches) (t : Trailed) (f : Front) (i id : ℕ) (x d : Watch) → place w.lists (code_of f.lit) i ≡ Some x → x.id ≡ id →
+pub step_leave : (slots : List (Option StoredNogood)) (w : Watches) (t : Trailed) (f : Front) (i id : ℕ) (x d : Watch) → place w.lists (code_of f.lit) i ≡ Some x → x.id ≡ id →
     ((n : Nogood) (p : Pair) → nogood_at slots id ≡ Some n → pair_at w.pairs id ≡ Some p → IsOneOf p f.lit → ⊥) → IsWalking slots w t f i →
     Steps slots w (record w { lists = set w.lists (code_of f.lit) (swap_remove (list_at w.lists (code_of f.lit)) i d) }) t f i step.Goes
 step_leave slots w t f i id x d g is gone k = (
@@ -167,17 +167,17 @@ step_leave slots w t f i id x d g is gone k = (
         gone n p (ap (nogood_at slots) z ∙ m) (ap (pair_at w.pairs) z ∙ q) (subst (λ (b : Literal). IsOneOf p b) (code_injective l f.lit e) o)) s
 
 -- ---- another list gets a watch
-pub code_of_list : (slots : List (Option Kept)) (w : Watches) (t : Trailed) (l : Literal) → IsSound slots w t → l.var ≤ t.vars → code_of l < length w.lists
+pub code_of_list : (slots : List (Option StoredNogood)) (w : Watches) (t : Trailed) (l : Literal) → IsSound slots w t → l.var ≤ t.vars → code_of l < length w.lists
 code_of_list slots w t l s h = omega (arith, code_within l t.vars h, s.net.sized)
 
-pub sound_watch : (slots : List (Option Kept)) (w : Watches) (t : Trailed) (l : Literal) (x : Watch) → l.var ≤ t.vars → x.blocker.var ≤ t.vars → IsSound slots w t →
+pub sound_watch : (slots : List (Option StoredNogood)) (w : Watches) (t : Trailed) (l : Literal) (x : Watch) → l.var ≤ t.vars → x.blocker.var ≤ t.vars → IsSound slots w t →
     IsSound slots (record w { lists = set w.lists (code_of l) (list_at w.lists (code_of l) ++ x ∷ []) }) t
 sound_watch slots w t l x h b s =
     sound_lists slots w t (set w.lists (code_of l) (list_at w.lists (code_of l) ++ x ∷ [])) (length-set w.lists (code_of l) (list_at w.lists (code_of l) ++ x ∷ []))
     (blocker_push t.vars w.lists (code_of l) x (code_of_list slots w t l s h) b s.net.blockers)
     (λ j n p k m q o. listed_push w.lists (code_of l) x k 0 j n.lits (code_of_list slots w t l s h) (s.net.listed j n p k m q o)) s
 
-pub visit_push : (slots : List (Option Kept)) (w : Watches) (t : Trailed) (f : Front) (i id : ℕ) (other l : Literal) (x : Watch) → l.var ≤ t.vars → x.blocker.var ≤ t.vars →
+pub visit_push : (slots : List (Option StoredNogood)) (w : Watches) (t : Trailed) (f : Front) (i id : ℕ) (other l : Literal) (x : Watch) → l.var ≤ t.vars → x.blocker.var ≤ t.vars →
     l ≢ f.lit → IsVisit slots w t f i id other → IsVisit slots (record w { lists = set w.lists (code_of l) (list_at w.lists (code_of l) ++ x ∷ []) }) t f i id other
 visit_push slots w t f i id other l x h b ne v = record {
   walking = record {
@@ -198,7 +198,7 @@ visit_push slots w t f i id other l x h b ne v = record {
 }
 
 -- ---- the pair of a visit changes
-pub visit_id : (slots : List (Option Kept)) (w : Watches) (t : Trailed) (f : Front) (i id : ℕ) (other : Literal) → IsVisit slots w t f i id other → id < length w.pairs
+pub visit_id : (slots : List (Option StoredNogood)) (w : Watches) (t : Trailed) (f : Front) (i id : ℕ) (other : Literal) → IsVisit slots w t f i id other → id < length w.pairs
 visit_id slots w t f i id other v = some_within w.pairs id v.pair v.pair_is
   where
     some_within : (xs : List (Option Pair)) (k : ℕ) (p : Pair) → pair_at xs k ≡ Some p → k < length xs
@@ -207,7 +207,7 @@ visit_id slots w t f i id other v = some_within w.pairs id v.pair v.pair_is
     some_within (x ∷ xs) (suc k) p q = omega (arith, some_within xs k p q)
 
 -- the literal of the front isn't watched any more
-pub walking_pair : (slots : List (Option Kept)) (w : Watches) (t : Trailed) (f : Front) (i id : ℕ) (q : Option Pair) → Suits slots w t id q →
+pub walking_pair : (slots : List (Option StoredNogood)) (w : Watches) (t : Trailed) (f : Front) (i id : ℕ) (q : Option Pair) → Suits slots w t id q →
     ((n : Nogood) → nogood_at slots id ≡ Some n → q ≡ None → (b : ℕ) × HasFalse t.entries n.lits b) → ((n : Nogood) (p : Pair) → nogood_at slots id ≡ Some n → q ≡ Some p → IsOneOf p f.lit → ⊥) → IsWalking slots w t f i →
     IsWalking slots (record w { pairs = set w.pairs id q }) t f i
 walking_pair slots w t f i id q u settled gone k = record {
@@ -220,7 +220,7 @@ walking_pair slots w t f i id q u settled gone k = record {
   stands = k.stands;
 }
 
-pub suits_move : (slots : List (Option Kept)) (w : Watches) (t : Trailed) (f : Front) (i id : ℕ) (other l : Literal) → IsOrdered t.vars t.entries → MayWatch slots t id other l →
+pub suits_move : (slots : List (Option StoredNogood)) (w : Watches) (t : Trailed) (f : Front) (i id : ℕ) (other l : Literal) → IsOrdered t.vars t.entries → MayWatch slots t id other l →
     ((n : Nogood) → nogood_at slots id ≡ Some n → IsListed w.lists l 0 id n.lits) → IsVisit slots w t f i id other → Suits slots w t id (Some (record { first = l; second = other }))
 suits_move slots w t f i id other l o m listed v = record {
   within = visit_id slots w t f i id other v;
@@ -256,12 +256,12 @@ suits_move slots w t f i id other l o m listed v = record {
     either p k q (inr e) = inr (ap (λ (x : Pair). x.second) (made p q) ∙ e)
 
 -- a literal that isn't true isn't the front's
-pub may_differ : (slots : List (Option Kept)) (t : Trailed) (f : Front) (id : ℕ) (other l : Literal) → IsOrdered t.vars t.entries → Stands t.entries f.lit t.seen f.level →
+pub may_differ : (slots : List (Option StoredNogood)) (t : Trailed) (f : Front) (id : ℕ) (other l : Literal) → IsOrdered t.vars t.entries → Stands t.entries f.lit t.seen f.level →
     MayWatch slots t id other l → l ≢ f.lit
 may_differ slots t f id other l o s m e =
     false≢true (sym m.not_true ∙ (ap (holds_in (assignment t.vars t.entries)) e ∙ front_holds t f o s))
 
-move_gone : (slots : List (Option Kept)) (w : Watches) (t : Trailed) (f : Front) (i id : ℕ) (other l : Literal) → IsOrdered t.vars t.entries → MayWatch slots t id other l →
+move_gone : (slots : List (Option StoredNogood)) (w : Watches) (t : Trailed) (f : Front) (i id : ℕ) (other l : Literal) → IsOrdered t.vars t.entries → MayWatch slots t id other l →
     IsVisit slots w t f i id other → (n : Nogood) → nogood_at slots id ≡ Some n → (p : Pair) → record { first = l; second = other } ≡ p → IsOneOf p f.lit → ⊥
 move_gone slots w t f i id other l o m v n h p e one =
     elim one [
@@ -270,7 +270,7 @@ move_gone slots w t f i id other l o m v n h p e one =
     ]
 
 -- the pair of the front's literal and the other is that of another one and the other
-pub walking_move : (slots : List (Option Kept)) (w : Watches) (t : Trailed) (f : Front) (i id : ℕ) (other l : Literal) → IsOrdered t.vars t.entries → MayWatch slots t id other l →
+pub walking_move : (slots : List (Option StoredNogood)) (w : Watches) (t : Trailed) (f : Front) (i id : ℕ) (other l : Literal) → IsOrdered t.vars t.entries → MayWatch slots t id other l →
     ((n : Nogood) → nogood_at slots id ≡ Some n → IsListed w.lists l 0 id n.lits) → IsVisit slots w t f i id other →
     IsWalking slots (record w { pairs = set w.pairs id (Some (record { first = l; second = other })) }) t f i
 walking_move slots w t f i id other l o m listed v =
@@ -279,7 +279,7 @@ walking_move slots w t f i id other l o m listed v =
     (λ n p h q one. move_gone slots w t f i id other l o m v n h p (same_Some (record { first = l; second = other }) p q) one) v.walking
 
 -- after it the front's literal isn't watched
-pub moved_gone : (slots : List (Option Kept)) (w : Watches) (t : Trailed) (f : Front) (i id : ℕ) (other l : Literal) → IsOrdered t.vars t.entries → MayWatch slots t id other l →
+pub moved_gone : (slots : List (Option StoredNogood)) (w : Watches) (t : Trailed) (f : Front) (i id : ℕ) (other l : Literal) → IsOrdered t.vars t.entries → MayWatch slots t id other l →
     IsVisit slots w t f i id other → (n : Nogood) (p : Pair) → nogood_at slots id ≡ Some n →
     pair_at (set w.pairs id (Some (record { first = l; second = other }))) id ≡ Some p → IsOneOf p f.lit → ⊥
 moved_gone slots w t f i id other l o m v n p h g one =
@@ -287,7 +287,7 @@ moved_gone slots w t f i id other l o m v n p h g one =
     (same_Some (record { first = l; second = other }) p (sym (at_set w.pairs id (Some (record { first = l; second = other })) None id (visit_id slots w t f i id other v) refl) ∙ g)) one
 
 -- ---- the nogood of a visit isn't watched any more
-pub visit_apart : (slots : List (Option Kept)) (w : Watches) (t : Trailed) (f : Front) (i id : ℕ) (other : Literal) (x : ℕ) → IsVisit slots w t f i id other →
+pub visit_apart : (slots : List (Option StoredNogood)) (w : Watches) (t : Trailed) (f : Front) (i id : ℕ) (other : Literal) (x : ℕ) → IsVisit slots w t f i id other →
     IsVisit slots (record w { apart = record w.apart { items = w.apart.items ++ x ∷ [] } }) t f i id other
 visit_apart slots w t f i id other x v = record {
   walking = record {
@@ -304,7 +304,7 @@ visit_apart slots w t f i id other x v = record {
   beside = v.beside;
 }
 
-pub walking_apart : (slots : List (Option Kept)) (w : Watches) (t : Trailed) (f : Front) (i id : ℕ) (other : Literal) (b : ℕ) → IsFrom w.apart w.apart.retired id →
+pub walking_apart : (slots : List (Option StoredNogood)) (w : Watches) (t : Trailed) (f : Front) (i id : ℕ) (other : Literal) (b : ℕ) → IsFrom w.apart w.apart.retired id →
     IsFalseBy t.entries other b → IsVisit slots w t f i id other → IsWalking slots (record w { pairs = set w.pairs id None }) t f i
 walking_apart slots w t f i id other b waits is_false v =
     walking_pair slots w t f i id None
@@ -317,12 +317,12 @@ walking_apart slots w t f i id other b waits is_false v =
     }
     (λ n h q. (b, (other, visit_has slots w t f i id other n v h, is_false))) (λ n p h q o. none-some p q) v.walking
 
-pub apart_gone : (slots : List (Option Kept)) (w : Watches) (t : Trailed) (f : Front) (i id : ℕ) (other : Literal) → IsVisit slots w t f i id other → (p : Pair) →
+pub apart_gone : (slots : List (Option StoredNogood)) (w : Watches) (t : Trailed) (f : Front) (i id : ℕ) (other : Literal) → IsVisit slots w t f i id other → (p : Pair) →
     pair_at (set w.pairs id None) id ≡ Some p → ⊥
 apart_gone slots w t f i id other v p g = none-some p (sym (at_set w.pairs id None None id (visit_id slots w t f i id other v) refl) ∙ g)
 
 -- ---- the trail grows
-pub visit_grow : (slots : List (Option Kept)) (w : Watches) (t : Trailed) (f : Front) (i id : ℕ) (other : Literal) (fs : List Entry) → t.seen ≤ length t.entries →
+pub visit_grow : (slots : List (Option StoredNogood)) (w : Watches) (t : Trailed) (f : Front) (i id : ℕ) (other : Literal) (fs : List Entry) → t.seen ≤ length t.entries →
     IsVisit slots w t f i id other → IsVisit slots w (record t { entries = t.entries ++ fs }) f i id other
 visit_grow slots w t f i id other fs le v = record {
   walking = record {
@@ -343,7 +343,7 @@ visit_grow slots w t f i id other fs le v = record {
 }
 
 -- ---- literals of a visited nogood
-pub visit_small : (slots : List (Option Kept)) (w : Watches) (t : Trailed) (id : ℕ) (n : Nogood) (lits : List Literal) → IsSound slots w t → nogood_at slots id ≡ Some n → n.lits ≡ lits →
+pub visit_small : (slots : List (Option StoredNogood)) (w : Watches) (t : Trailed) (id : ℕ) (n : Nogood) (lits : List Literal) → IsSound slots w t → nogood_at slots id ≡ Some n → n.lits ≡ lits →
     All (λ k. IsVar t.vars k.var) lits
 visit_small slots w t id n lits s h e = subst (λ (xs : List Literal). All (λ k. IsVar t.vars k.var) xs) e (s.net.small id n h)
 
@@ -354,24 +354,24 @@ moved w l other id = record w {
   pairs = set w.pairs id (Some (record { first = l; second = other }));
 }
 
-moved_visit : (slots : List (Option Kept)) (w : Watches) (t : Trailed) (f : Front) (i id : ℕ) (other l : Literal) → IsOrdered t.vars t.entries → MayWatch slots t id other l →
+moved_visit : (slots : List (Option StoredNogood)) (w : Watches) (t : Trailed) (f : Front) (i id : ℕ) (other l : Literal) → IsOrdered t.vars t.entries → MayWatch slots t id other l →
     IsVisit slots w t f i id other →
     IsVisit slots (record w { lists = set w.lists (code_of l) (list_at w.lists (code_of l) ++ record { blocker = other; id = id } ∷ []) }) t f i id other
 moved_visit slots w t f i id other l o m v =
     visit_push slots w t f i id other l (record { blocker = other; id = id }) m.small (visit_var slots w t f i id other v) (may_differ slots t f id other l o v.walking.stands m) v
 
-pub moved_walking : (slots : List (Option Kept)) (w : Watches) (t : Trailed) (f : Front) (i id : ℕ) (other l : Literal) → IsOrdered t.vars t.entries → MayWatch slots t id other l →
+pub moved_walking : (slots : List (Option StoredNogood)) (w : Watches) (t : Trailed) (f : Front) (i id : ℕ) (other l : Literal) → IsOrdered t.vars t.entries → MayWatch slots t id other l →
     IsVisit slots w t f i id other → IsWalking slots (moved w l other id) t f i
 moved_walking slots w t f i id other l o m v =
     walking_move slots (record w { lists = set w.lists (code_of l) (list_at w.lists (code_of l) ++ record { blocker = other; id = id } ∷ []) }) t f i id other l o m
     (λ n h. listed_new w.lists (record { blocker = other; id = id }) l n.lits (code_of_list slots w t l v.walking.sound m.small) (visit_has slots w t f i id other n v h))
     (moved_visit slots w t f i id other l o m v)
 
-pub moved_at : (slots : List (Option Kept)) (w : Watches) (t : Trailed) (f : Front) (i id : ℕ) (other l : Literal) → IsOrdered t.vars t.entries → MayWatch slots t id other l →
+pub moved_at : (slots : List (Option StoredNogood)) (w : Watches) (t : Trailed) (f : Front) (i id : ℕ) (other l : Literal) → IsOrdered t.vars t.entries → MayWatch slots t id other l →
     IsVisit slots w t f i id other → (x : Watch) × (place (moved w l other id).lists (code_of f.lit) i ≡ Some x) × (x.id ≡ id)
 moved_at slots w t f i id other l o m v = let u = moved_visit slots w t f i id other l o m v in (u.watch, u.at, u.id_is)
 
-pub moved_size : (slots : List (Option Kept)) (w : Watches) (t : Trailed) (f : Front) (i id : ℕ) (other l : Literal) → IsOrdered t.vars t.entries → MayWatch slots t id other l →
+pub moved_size : (slots : List (Option StoredNogood)) (w : Watches) (t : Trailed) (f : Front) (i id : ℕ) (other l : Literal) → IsOrdered t.vars t.entries → MayWatch slots t id other l →
     IsVisit slots w t f i id other → size (moved w l other id).lists (code_of f.lit) ≡ size w.lists (code_of f.lit)
 moved_size slots w t f i id other l o m v =
     ap (length {A = Watch}) (at_set_other w.lists (code_of l) (list_at w.lists (code_of l) ++ record { blocker = other; id = id } ∷ []) [] (code_of f.lit)
@@ -381,7 +381,7 @@ moved_size slots w t f i id other l o m v =
 abbrev pub put_apart : Watches → ℕ → Watches
 put_apart w id = record w { pairs = set w.pairs id None; apart = record w.apart { items = w.apart.items ++ id ∷ [] } }
 
-pub apart_walking : (slots : List (Option Kept)) (w : Watches) (t : Trailed) (f : Front) (i id : ℕ) (other : Literal) (b : ℕ) → w.apart.retired ≤ length w.apart.items →
+pub apart_walking : (slots : List (Option StoredNogood)) (w : Watches) (t : Trailed) (f : Front) (i id : ℕ) (other : Literal) (b : ℕ) → w.apart.retired ≤ length w.apart.items →
     IsFalseBy t.entries other b → IsVisit slots w t f i id other → IsWalking slots (put_apart w id) t f i
 apart_walking slots w t f i id other b begun is_false v =
     walking_apart slots (record w { apart = record w.apart { items = w.apart.items ++ id ∷ [] } }) t f i id other b

@@ -7,8 +7,8 @@ use Rattle.std.proofs.lemmas.List.Sums.{sum_by-cons}
 use Rattle.std.proofs.lemmas.Option.{none-some, same_Some}
 use Rattle.asp_vars.specs.declared.nogood.Nogood.{Nogood}
 use Rattle.asp_trail.specs.Trails.{Trailed, IsVar}
-use Rattle.asp_store.specs.declared.kept.Kept.{Kept}
-use Rattle.asp_store.specs.declared.kept.Kind.{Kind}
+use Rattle.asp_store.specs.declared.stored_nogood.StoredNogood.{StoredNogood}
+use Rattle.asp_store.specs.declared.stored_nogood.Kind.{Kind}
 use Rattle.asp_store.specs.declared.watch.Watch.{Watch}
 use Rattle.asp_store.specs.declared.watch.Pair.{Pair}
 use Rattle.asp_store.specs.declared.watches.Watches.{Watches}
@@ -24,19 +24,19 @@ use Rattle.asp_store.proofs.SoundLaws.{from_zero, from_push}
 use Rattle.asp_store.proofs.FitsLaws.{none_kept, same_nogood, locked_same}
 
 -- what contracts see of a store's parts
-abbrev pub view_of : ℕ → List (Option Kept) → Watches → Stored
+abbrev pub view_of : ℕ → List (Option StoredNogood) → Watches → Stored
 view_of vars slots w = record { vars = vars; slots = slots; pairs = w.pairs; apart = w.apart }
 
 -- ---- counts
-count_cons : (p : Option Kept → Bool) (o : Option Kept) (slots : List (Option Kept)) → count_by p (o ∷ slots) ≡ cond (p o) 1 0 + count_by p slots
+count_cons : (p : Option StoredNogood → Bool) (o : Option StoredNogood) (slots : List (Option StoredNogood)) → count_by p (o ∷ slots) ≡ cond (p o) 1 0 + count_by p slots
 count_cons p o slots = sum_by-cons (λ x. cond (p x) 1 0) o slots
 
-pub removed_count : (slots : List (Option Kept)) (id : ℕ) → cond (is_extra (kept_at slots id)) 1 0 + count_by is_extra (set slots id None) ≡ count_by is_extra slots
+pub removed_count : (slots : List (Option StoredNogood)) (id : ℕ) → cond (is_extra (kept_at slots id)) 1 0 + count_by is_extra (set slots id None) ≡ count_by is_extra slots
 removed_count [] id = refl
 removed_count (o ∷ slots) zero = omega (arith, count_cons is_extra None slots, count_cons is_extra o slots)
 removed_count (o ∷ slots) (suc id) = omega (arith, removed_count slots id, count_cons is_extra o (set slots id None), count_cons is_extra o slots)
 
-pub locked_count : (b : Bool) (slots : List (Option Kept)) (id : ℕ) → count_by is_extra (set slots id (with_lock b (kept_at slots id))) ≡ count_by is_extra slots
+pub locked_count : (b : Bool) (slots : List (Option StoredNogood)) (id : ℕ) → count_by is_extra (set slots id (with_lock b (kept_at slots id))) ≡ count_by is_extra slots
 locked_count b [] id = refl
 locked_count b (None ∷ slots) zero = refl
 locked_count b (Some k ∷ slots) zero = refl
@@ -44,7 +44,7 @@ locked_count b (o ∷ slots) (suc id) =
     count_cons is_extra o (set slots id (with_lock b (kept_at slots id))) ∙ (ap (λ n. cond (is_extra o) 1 0 + n) (locked_count b slots id) ∙ sym (count_cons is_extra o slots))
 
 -- a nogood is put where none was
-pub put_count : (slots : List (Option Kept)) (id : ℕ) (o : Option Kept) → id < length slots → kept_at slots id ≡ None →
+pub put_count : (slots : List (Option StoredNogood)) (id : ℕ) (o : Option StoredNogood) → id < length slots → kept_at slots id ≡ None →
     count_by is_extra (set slots id o) ≡ cond (is_extra o) 1 0 + count_by is_extra slots
 put_count [] id o h q = absurd (omega arith)
 put_count (None ∷ slots) zero o h q = omega (arith, count_cons is_extra o slots, count_cons is_extra None slots)
@@ -52,7 +52,7 @@ put_count (Some k ∷ slots) zero o h q = absurd (none-some k (sym q))
 put_count (p ∷ slots) (suc id) o h q =
     omega (arith, put_count slots id o (omega arith) q, count_cons is_extra p (set slots id o), count_cons is_extra p slots)
 
-pub push_count : (slots : List (Option Kept)) (o : Option Kept) → count_by is_extra (slots ++ o ∷ []) ≡ count_by is_extra slots + cond (is_extra o) 1 0
+pub push_count : (slots : List (Option StoredNogood)) (o : Option StoredNogood) → count_by is_extra (slots ++ o ∷ []) ≡ count_by is_extra slots + cond (is_extra o) 1 0
 push_count [] o = omega (arith, count_cons is_extra o [])
 push_count (p ∷ slots) o = omega (arith, push_count slots o, count_cons is_extra p (slots ++ o ∷ []), count_cons is_extra p slots)
 
@@ -81,7 +81,7 @@ store_new vars few = record {
     length_empty n = length-replicate n []
 
 -- ---- a nogood more
-pub store_add : (vars : ℕ) (slots new : List (Option Kept)) (w z : Watches) (extra more id : ℕ) (n : Nogood) (kind : Kind) → IsStore vars slots w extra →
+pub store_add : (vars : ℕ) (slots new : List (Option StoredNogood)) (w z : Watches) (extra more id : ℕ) (n : Nogood) (kind : Kind) → IsStore vars slots w extra →
     z.lists ≡ w.lists → length z.pairs ≡ length new → IsAdded (view_of vars slots w) (view_of vars new z) id n kind → ((k : ℕ) → IsFrom w.apart 0 k → IsFrom z.apart 0 k) →
     All (λ l. IsVar vars l.var) n.lits → more ≡ count_by is_extra new → IsStore vars new z more
 store_add vars slots new w z extra more id n kind s lists paired a apart small counted = record {
@@ -90,7 +90,7 @@ store_add vars slots new w z extra more id n kind s lists paired a apart small c
     sized = ap (length {A = List Watch}) lists ∙ s.net.sized;
     paired = paired;
     small = λ j m g. elim (is_or_not j id) [
-      | inl e ↦ subst (λ (x : Nogood). All (λ l. IsVar vars l.var) x.lits) (same_Some n m (sym (ap (option_map (λ (k : Kept). k.nogood)) a.slots.here) ∙ (ap (nogood_at new) (sym e) ∙ g))) small
+      | inl e ↦ subst (λ (x : Nogood). All (λ l. IsVar vars l.var) x.lits) (same_Some n m (sym (ap (option_map (λ (k : StoredNogood). k.nogood)) a.slots.here) ∙ (ap (nogood_at new) (sym e) ∙ g))) small
       | inr ne ↦ s.net.small j m (sym (same_nogood slots new j (a.slots.others j ne)) ∙ g)
     ];
     blockers = λ c i x g. s.net.blockers c i x (sym (ap (λ (ls : List (List Watch)). place ls c i) lists) ∙ g);
@@ -112,7 +112,7 @@ store_add vars slots new w z extra more id n kind s lists paired a apart small c
 }
 
 -- ---- nogoods go
-pub store_lose : (vars : ℕ) (slots new : List (Option Kept)) (w z : Watches) (extra less : ℕ) → IsStore vars slots w extra → z.lists ≡ w.lists → length z.pairs ≡ length new →
+pub store_lose : (vars : ℕ) (slots new : List (Option StoredNogood)) (w z : Watches) (extra less : ℕ) → IsStore vars slots w extra → z.lists ≡ w.lists → length z.pairs ≡ length new →
     Loses (view_of vars slots w) (view_of vars new z) → less ≡ count_by is_extra new → IsStore vars new z less
 store_lose vars slots new w z extra less s lists paired l counted = record {
   few = s.few;
@@ -142,7 +142,7 @@ store_lose vars slots new w z extra less s lists paired l counted = record {
 }
 
 -- ---- a lock
-pub store_lock : (vars : ℕ) (slots : List (Option Kept)) (w : Watches) (extra id : ℕ) (b : Bool) → id < length slots → IsStore vars slots w extra →
+pub store_lock : (vars : ℕ) (slots : List (Option StoredNogood)) (w : Watches) (extra id : ℕ) (b : Bool) → id < length slots → IsStore vars slots w extra →
     IsStore vars (set slots id (with_lock b (kept_at slots id))) w extra
 store_lock vars slots w extra id b h s = record {
   few = s.few;
@@ -159,20 +159,20 @@ store_lock vars slots w extra id b h s = record {
 }
 
 -- ---- a store and its watches
-pub sound_from_fits : (vars : ℕ) (slots : List (Option Kept)) (w : Watches) (extra : ℕ) (t : Trailed) → IsStore vars slots w extra → Fits (view_of vars slots w) t → IsSound slots w t
+pub sound_from_fits : (vars : ℕ) (slots : List (Option StoredNogood)) (w : Watches) (extra : ℕ) (t : Trailed) → IsStore vars slots w extra → Fits (view_of vars slots w) t → IsSound slots w t
 sound_from_fits vars slots w extra t s f = record {
   net = subst (λ (k : ℕ). IsNet k slots w) (sym f.same_vars) s.net;
   fit = f.fit;
 }
 
-pub fits_from_sound : (vars : ℕ) (slots : List (Option Kept)) (w : Watches) (t : Trailed) → t.vars ≡ vars → HaveReasons slots t.entries → IsSound slots w t → Fits (view_of vars slots w) t
+pub fits_from_sound : (vars : ℕ) (slots : List (Option StoredNogood)) (w : Watches) (t : Trailed) → t.vars ≡ vars → HaveReasons slots t.entries → IsSound slots w t → Fits (view_of vars slots w) t
 fits_from_sound vars slots w t v r s = record {
   same_vars = v;
   reasons = r;
   fit = s.fit;
 }
 
-pub store_from_sound : (vars : ℕ) (slots : List (Option Kept)) (w z : Watches) (extra : ℕ) (t : Trailed) → t.vars ≡ vars → IsStore vars slots w extra → IsSound slots z t → IsStore vars slots z extra
+pub store_from_sound : (vars : ℕ) (slots : List (Option StoredNogood)) (w z : Watches) (extra : ℕ) (t : Trailed) → t.vars ≡ vars → IsStore vars slots w extra → IsSound slots z t → IsStore vars slots z extra
 store_from_sound vars slots w z extra t v s n = record {
   few = s.few;
   net = subst (λ (k : ℕ). IsNet k slots z) v n.net;
@@ -254,10 +254,10 @@ lose_more a b c x y = record {
   ];
 }
 
-pub thins_none : (old new : List (Option Kept)) → new ≡ old → Thins old new
-thins_none old new e = subst (λ (xs : List (Option Kept)). Thins old xs) (sym e) record { count = refl; each = λ id. inl refl }
+pub thins_none : (old new : List (Option StoredNogood)) → new ≡ old → Thins old new
+thins_none old new e = subst (λ (xs : List (Option StoredNogood)). Thins old xs) (sym e) record { count = refl; each = λ id. inl refl }
 
-pub thins_more : (a b c : List (Option Kept)) → Thins a b → Thins b c → Thins a c
+pub thins_more : (a b c : List (Option StoredNogood)) → Thins a b → Thins b c → Thins a c
 thins_more a b c x y = record {
   count = y.count ∙ x.count;
   each = λ id. elim (y.each id) [
@@ -272,7 +272,7 @@ thins_more a b c x y = record {
   ];
 }
 
-pub thins_removed : (slots : List (Option Kept)) (id : ℕ) → id < length slots → is_spare (kept_at slots id) ≡ true → Thins slots (set slots id None)
+pub thins_removed : (slots : List (Option StoredNogood)) (id : ℕ) → id < length slots → is_spare (kept_at slots id) ≡ true → Thins slots (set slots id None)
 thins_removed slots id h q = record {
   count = length-set slots id None;
   each = λ j. elim (is_or_not j id) [
@@ -282,7 +282,7 @@ thins_removed slots id h q = record {
 }
 
 -- ---- the retired ones come back
-pub store_recall : (vars : ℕ) (slots : List (Option Kept)) (w : Watches) (extra : ℕ) → IsStore vars slots w extra → IsStore vars slots (record w { apart = record w.apart { retired = 0 } }) extra
+pub store_recall : (vars : ℕ) (slots : List (Option StoredNogood)) (w : Watches) (extra : ℕ) → IsStore vars slots w extra → IsStore vars slots (record w { apart = record w.apart { retired = 0 } }) extra
 store_recall vars slots w extra s = record {
   few = s.few;
   net = record {
@@ -297,6 +297,6 @@ store_recall vars slots w extra s = record {
   counted = s.counted;
 }
 
-pub active_recall : (vars : ℕ) (slots : List (Option Kept)) (w : Watches) (extra : ℕ) → IsStore vars slots w extra →
+pub active_recall : (vars : ℕ) (slots : List (Option StoredNogood)) (w : Watches) (extra : ℕ) → IsStore vars slots w extra →
     AreActive (record { vars = vars; slots = slots; pairs = w.pairs; apart = record w.apart { retired = 0 } })
 active_recall vars slots w extra s = s.net.unwatched

@@ -7,7 +7,7 @@ use Rattle.asp_trail.specs.declared.trail.Entry.{Entry}
 use Rattle.asp_trail.specs.Entries.{level}
 use Rattle.asp_trail.specs.Trails.{Trailed, IsVar}
 use Rattle.asp_trail.specs.Reasons.{Stands, AreReasoned}
-use Rattle.asp_store.specs.declared.kept.Kept.{Kept}
+use Rattle.asp_store.specs.declared.stored_nogood.StoredNogood.{StoredNogood}
 use Rattle.asp_store.specs.declared.watch.Pair.{Pair}
 use Rattle.asp_store.specs.Keeping.{nogood_at}
 use Rattle.asp_store.specs.Pairs.{pair_at, IsOneOf}
@@ -32,16 +32,16 @@ pub record IsWatched (n : List Literal) (p : Pair) (entries : List Entry) (seen 
   pub watches : (l : Literal) → IsOneOf p l → Watches entries seen n l
 
 -- Each kept nogood is watched, or is to be looked at whole, or has a literal that is false at level 0.
-pub record AreFit (slots : List (Option Kept)) (pairs : List (Option Pair)) (apart : Parted) (t : Trailed) : Type 0 where
+pub record AreFit (slots : List (Option StoredNogood)) (pairs : List (Option Pair)) (apart : Parted) (t : Trailed) : Type 0 where
   pub watched : (id : ℕ) (n : Nogood) (p : Pair) → nogood_at slots id ≡ Some n → pair_at pairs id ≡ Some p → IsWatched n.lits p t.entries t.seen
   pub unwatched : (id : ℕ) (n : Nogood) → nogood_at slots id ≡ Some n → pair_at pairs id ≡ None → IsFrom apart apart.retired id ⊎ HasFalse t.entries n.lits 0
 
 -- Each entry that was implied names a nogood that is kept, which is its reason.
-abbrev pub HaveReasons : List (Option Kept) → List Entry → Type 0
+abbrev pub HaveReasons : List (Option StoredNogood) → List Entry → Type 0
 HaveReasons slots entries = AreReasoned (nogood_at slots) entries
 
 -- All literals are of variables 1 to vars.
-abbrev pub AreSmall : ℕ → List (Option Kept) → Type 0
+abbrev pub AreSmall : ℕ → List (Option StoredNogood) → Type 0
 AreSmall vars slots = (id : ℕ) (n : Nogood) → nogood_at slots id ≡ Some n → All (λ k. IsVar vars k.var) n.lits
 
 -- The entry was implied, at this level.
@@ -50,5 +50,5 @@ pub record IsImpliedAt (b : ℕ) (e : Entry) : Type 0 where
   pub implied : (id : ℕ) × (e.reason ≡ Some id)
 
 -- Entries may be added, each of them implied at the level that stands, by a nogood that is kept.
-abbrev pub Extends : List (Option Kept) → List Entry → List Entry → Type 0
+abbrev pub Extends : List (Option StoredNogood) → List Entry → List Entry → Type 0
 Extends slots old new = (fs : List Entry) × (new ≡ old ++ fs) × (HaveReasons slots old → HaveReasons slots new) × All (IsImpliedAt (level old)) fs

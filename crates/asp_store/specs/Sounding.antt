@@ -5,7 +5,7 @@ use Rattle.asp_vars.specs.Codes.{code_of}
 use Rattle.asp_vars.specs.declared.nogood.Nogood.{Nogood}
 use Rattle.asp_trail.specs.declared.trail.Entry.{Entry}
 use Rattle.asp_trail.specs.Trails.{Trailed}
-use Rattle.asp_store.specs.declared.kept.Kept.{Kept}
+use Rattle.asp_store.specs.declared.stored_nogood.StoredNogood.{StoredNogood}
 use Rattle.asp_store.specs.declared.watch.Watch.{Watch}
 use Rattle.asp_store.specs.declared.watch.Pair.{Pair}
 use Rattle.asp_store.specs.declared.watches.Watches.{Watches}
@@ -25,7 +25,7 @@ pub record IsListed (lists : List (List Watch)) (l : Literal) (i id : ℕ) (n : 
   pub has : IsTrue (has_literal n watch.blocker)
 
 -- Each kept nogood that is watched stands in the lists of its two literals, and each other one among those apart.
-pub record IsNet (vars : ℕ) (slots : List (Option Kept)) (w : Watches) : Type 0 where
+pub record IsNet (vars : ℕ) (slots : List (Option StoredNogood)) (w : Watches) : Type 0 where
   pub sized : length w.lists ≡ 2 * vars + 2
   pub paired : length w.pairs ≡ length slots
   pub small : AreSmall vars slots
@@ -34,13 +34,13 @@ pub record IsNet (vars : ℕ) (slots : List (Option Kept)) (w : Watches) : Type 
   pub listed : (id : ℕ) (n : Nogood) (p : Pair) (l : Literal) → nogood_at slots id ≡ Some n → pair_at w.pairs id ≡ Some p → IsOneOf p l → IsListed w.lists l 0 id n.lits
   pub unwatched : (id : ℕ) (n : Nogood) → nogood_at slots id ≡ Some n → pair_at w.pairs id ≡ None → IsFrom w.apart 0 id
 
-pub record IsSound (slots : List (Option Kept)) (w : Watches) (t : Trailed) : Type 0 where
+pub record IsSound (slots : List (Option StoredNogood)) (w : Watches) (t : Trailed) : Type 0 where
   pub net : IsNet t.vars slots w
   pub fit : AreFit slots w.pairs w.apart t
 
 -- Each kept nogood that isn't watched has a literal that is false, or stands at this place among those apart, or behind it.
-abbrev pub AreSettledFrom : List (Option Kept) → Watches → List Entry → ℕ → Type 0
+abbrev pub AreSettledFrom : List (Option StoredNogood) → Watches → List Entry → ℕ → Type 0
 AreSettledFrom slots w entries i = (id : ℕ) (n : Nogood) → nogood_at slots id ≡ Some n → pair_at w.pairs id ≡ None → IsFrom w.apart i id ⊎ ((b : ℕ) × HasFalse entries n.lits b)
 
-abbrev pub AreSettled : List (Option Kept) → List (Option Pair) → List Entry → Type 0
+abbrev pub AreSettled : List (Option StoredNogood) → List (Option Pair) → List Entry → Type 0
 AreSettled slots pairs entries = (id : ℕ) (n : Nogood) → nogood_at slots id ≡ Some n → pair_at pairs id ≡ None → (b : ℕ) × HasFalse entries n.lits b

@@ -2,8 +2,8 @@
 use Rattle.std.specs.Prelude.{◌≡◌, ◌≢◌, ℕ, ◌^◌, ◌<◌, ◌⊎◌, Bool, List, Option, Some, None, slice_set, count_by}
 use Rattle.asp_vars.specs.declared.nogood.Nogood.{Nogood}
 use Rattle.asp_trail.specs.Trails.{Trailed}
-use Rattle.asp_store.specs.declared.kept.Kept.{Kept}
-use Rattle.asp_store.specs.declared.kept.Kind.{Kind}
+use Rattle.asp_store.specs.declared.stored_nogood.StoredNogood.{StoredNogood}
+use Rattle.asp_store.specs.declared.stored_nogood.Kind.{Kind}
 use Rattle.asp_store.specs.declared.watch.Pair.{Pair}
 use Rattle.asp_store.specs.declared.watches.Watches.{Watches}
 use Rattle.asp_store.specs.Keeping.{kept_at, nogood_at, is_extra, with_lock, IsAddedAt}
@@ -15,7 +15,7 @@ use Rattle.asp_store.specs.Sounding.{IsNet}
 -- Variables are 1 to vars. Nogoods have numbers. Each is watched by two of its literals, or its number stands apart.
 pub record Stored : Type 0 where
   pub vars : ℕ
-  pub slots : List (Option Kept)
+  pub slots : List (Option StoredNogood)
   pub pairs : List (Option Pair)
   pub apart : Parted
 
@@ -56,7 +56,7 @@ abbrev pub AreActive : Stored → Type 0
 AreActive s = (id : ℕ) (n : Nogood) → nogood_at s.slots id ≡ Some n → pair_at s.pairs id ≡ None → IsFrom s.apart s.apart.retired id
 
 -- What every store keeps: each kept nogood that is watched stands in two lists, and each other one apart.
-pub record IsStore (vars : ℕ) (slots : List (Option Kept)) (w : Watches) (extra : ℕ) : Type 0 where
+pub record IsStore (vars : ℕ) (slots : List (Option StoredNogood)) (w : Watches) (extra : ℕ) : Type 0 where
   pub few : vars < 2 ^ 31
   pub net : IsNet vars slots w
   pub counted : extra ≡ count_by is_extra slots

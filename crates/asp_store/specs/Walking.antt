@@ -8,7 +8,7 @@ use Rattle.asp_trail.specs.Entries.{assignment}
 use Rattle.asp_trail.specs.Trails.{Trailed}
 use Rattle.asp_trail.specs.Reasons.{Stands}
 use Rattle.asp_trail.specs.Quiet.{is_violated, is_calm}
-use Rattle.asp_store.specs.declared.kept.Kept.{Kept}
+use Rattle.asp_store.specs.declared.stored_nogood.StoredNogood.{StoredNogood}
 use Rattle.asp_store.specs.declared.watch.Watch.{Watch}
 use Rattle.asp_store.specs.declared.watch.Pair.{Pair}
 use Rattle.asp_store.specs.declared.watches.Watches.{Watches}
@@ -25,19 +25,19 @@ use Rattle.asp_store.specs.Sounding.{IsListed, IsSound, AreSettled}
 
 -- Each nogood that watches the literal stands at this place of its list or behind it, or has a literal that is false at a level
 -- not above that one's.
-abbrev pub AreDone : List (Option Kept) → Watches → List Entry → Front → ℕ → Type 0
+abbrev pub AreDone : List (Option StoredNogood) → Watches → List Entry → Front → ℕ → Type 0
 AreDone slots w entries f i = (id : ℕ) (n : Nogood) (p : Pair) → nogood_at slots id ≡ Some n → pair_at w.pairs id ≡ Some p → IsOneOf p f.lit →
     IsListed w.lists f.lit i id n.lits ⊎ HasFalse entries n.lits f.level
 
 -- The list of the first entry not seen was walked up to this place.
-pub record IsWalking (slots : List (Option Kept)) (w : Watches) (t : Trailed) (f : Front) (i : ℕ) : Type 0 where
+pub record IsWalking (slots : List (Option StoredNogood)) (w : Watches) (t : Trailed) (f : Front) (i : ℕ) : Type 0 where
   pub sound : IsSound slots w t
   pub settled : AreSettled slots w.pairs t.entries
   pub done : AreDone slots w t.entries f i
   pub stands : Stands t.entries f.lit t.seen f.level
 
 -- At this place stands this number, whose nogood watches this literal beside the other.
-pub record IsVisit (slots : List (Option Kept)) (w : Watches) (t : Trailed) (f : Front) (i id : ℕ) (other : Literal) : Type 0 where
+pub record IsVisit (slots : List (Option StoredNogood)) (w : Watches) (t : Trailed) (f : Front) (i id : ℕ) (other : Literal) : Type 0 where
   pub walking : IsWalking slots w t f i
   pub watch : Watch
   pub at : place w.lists (code_of f.lit) i ≡ Some watch
@@ -47,28 +47,28 @@ pub record IsVisit (slots : List (Option Kept)) (w : Watches) (t : Trailed) (f :
   pub beside : IsBeside pair f.lit other
 
 -- The literal may watch the nogood under this number beside the other.
-pub record MayWatch (slots : List (Option Kept)) (t : Trailed) (id : ℕ) (other l : Literal) : Type 0 where
+pub record MayWatch (slots : List (Option StoredNogood)) (t : Trailed) (id : ℕ) (other l : Literal) : Type 0 where
   pub small : l.var ≤ t.vars
   pub has : (n : Nogood) → nogood_at slots id ≡ Some n → IsTrue (has_literal n.lits l)
   pub differ : l ≢ other
   pub not_true : holds_in (assignment t.vars t.entries) l ≡ false
 
 -- A kept nogood is violated.
-abbrev pub IsViolated : ℕ → List (Option Kept) → List Entry → ℕ → Type 0
+abbrev pub IsViolated : ℕ → List (Option StoredNogood) → List Entry → ℕ → Type 0
 IsViolated vars slots entries id = (n : Nogood) × (nogood_at slots id ≡ Some n) × IsTrue (is_violated (assignment vars entries) n.lits)
 
 -- A step goes on to the next place, or the place is gone, or a nogood is violated.
-abbrev pub Steps : List (Option Kept) → Watches → Watches → Trailed → Front → ℕ → Step → Type 0
+abbrev pub Steps : List (Option StoredNogood) → Watches → Watches → Trailed → Front → ℕ → Step → Type 0
 Steps slots old new t f i step.Stays = IsWalking slots new t f (i + 1) × (size new.lists (code_of f.lit) ≡ size old.lists (code_of f.lit))
 Steps slots old new t f i step.Goes = IsWalking slots new t f i × (size new.lists (code_of f.lit) + 1 ≡ size old.lists (code_of f.lit))
 Steps slots old new t f i (step.Violated id) = IsViolated t.vars slots t.entries id
 
 -- No kept nogood is unit or violated, or this one is violated.
-abbrev pub Propagates : ℕ → List (Option Kept) → List Entry → Propagated → Type 0
+abbrev pub Propagates : ℕ → List (Option StoredNogood) → List Entry → Propagated → Type 0
 Propagates vars slots entries propagated.Quiet = (id : ℕ) (n : Nogood) → nogood_at slots id ≡ Some n → IsTrue (is_calm (assignment vars entries) n.lits)
 Propagates vars slots entries (propagated.Violated id) = IsViolated vars slots entries id
 
 -- A walk finds a nogood violated, or comes to the end of the list.
-abbrev pub Walked : List (Option Kept) → Watches → Trailed → Front → Option ℕ → Type 0
+abbrev pub Walked : List (Option StoredNogood) → Watches → Trailed → Front → Option ℕ → Type 0
 Walked slots w t f None = (i : ℕ) × (size w.lists (code_of f.lit) ≤ i) × IsWalking slots w t f i
 Walked slots w t f (Some id) = IsViolated t.vars slots t.entries id

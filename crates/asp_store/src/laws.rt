@@ -8,7 +8,7 @@ ghost use Rattle.asp_trail.specs.Entries.{assignment, cut};
 ghost use Rattle.asp_trail.specs.Trails.{Trailed, IsOrdered};
 ghost use Rattle.asp_trail.specs.Quiet.{is_open, is_calm};
 ghost use Rattle.asp_trail.specs.Reasons.{IsReason};
-ghost use Rattle.asp_store.specs.declared.kept.Kind.{Kind};
+ghost use Rattle.asp_store.specs.declared.stored_nogood.Kind.{Kind};
 ghost use Rattle.asp_store.specs.declared.watch.Pair.{Pair};
 ghost use Rattle.asp_store.specs.Keeping.{nogood_at};
 ghost use Rattle.asp_store.specs.Fitting.{IsWatched, HasFalse};

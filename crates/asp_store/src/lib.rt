@@ -3,7 +3,6 @@
 
 pub mod apart;
 pub mod front;
-pub mod kept;
 pub mod laws;
 pub mod lists;
 pub mod looks;
@@ -13,6 +12,7 @@ pub mod pending;
 pub mod propagation;
 pub mod slots;
 pub mod store;
+pub mod stored_nogood;
 pub mod visits;
 pub mod walks;
 pub mod watch;

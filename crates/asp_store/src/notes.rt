@@ -1,7 +1,7 @@
 //! What was seen of the kept nogoods: of how many levels they were when they were learnt, and how much they were used.
 //! No call's meaning rests on it: it chooses which nogoods are dropped.
-use crate::kept::Kept;
 use crate::slots::is_spare_slot;
+use crate::stored_nogood::StoredNogood;
 use asp_trail::reasons::NogoodId;
 use std::alloc::{AllocError, Global};
 
@@ -72,7 +72,7 @@ impl Notes {
     }
 
     /// Offers all nogoods that may be dropped.
-    pub fn offer_all(&mut self, slots: &[Option<Kept>]) {
+    pub fn offer_all(&mut self, slots: &[Option<StoredNogood>]) {
         self.order.clear();
         for (id, slot) in slots.iter().enumerate() {
             if is_spare_slot(slot) && id < u32::MAX as usize {

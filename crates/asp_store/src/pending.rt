@@ -9,8 +9,8 @@ ghost use Rattle.asp_store.specs.Walking.{IsViolated};
 ghost use Rattle.asp_store.specs.Pending.{IsLooking, IsWaiting, Looks, HasNone};
 
 use crate::front::Step;
-use crate::kept::Kept;
 use crate::looks::{Look, look_at};
+use crate::stored_nogood::StoredNogood;
 use crate::visits::lits_at;
 use crate::watch::{Pair, Watch};
 use crate::watches::Watches;
@@ -20,7 +20,7 @@ use asp_vars::lit::Lit;
 use std::alloc::AllocError;
 
 // The place goes, as no kept nogood that isn't watched has its number.
-fn leave(watches: &mut Watches, slots: &[Option<Kept>], i: usize, trail: &Trail)
+fn leave(watches: &mut Watches, slots: &[Option<StoredNogood>], i: usize, trail: &Trail)
     requires looking { IsLooking slots.now watches.old trail.now i }
     requires none { HasNone slots.now watches.old i }
     requires within { i < length watches.old.apart.items }
@@ -33,7 +33,7 @@ fn leave(watches: &mut Watches, slots: &[Option<Kept>], i: usize, trail: &Trail)
 // From now on these two literals watch the nogood at a place.
 fn attach(
     watches: &mut Watches,
-    slots: &[Option<Kept>],
+    slots: &[Option<StoredNogood>],
     i: usize,
     id: u32,
     pair: Pair,
@@ -65,7 +65,7 @@ fn attach(
 }
 
 // The nogood at a place has a literal that is false at level 0.
-fn retire(watches: &mut Watches, slots: &[Option<Kept>], i: usize, id: u32, trail: &Trail)
+fn retire(watches: &mut Watches, slots: &[Option<StoredNogood>], i: usize, id: u32, trail: &Trail)
     requires waiting { IsWaiting slots.now watches.old trail.now i id }
     requires is_false { (n : Nogood) → nogood_at slots.now id ≡ Some n → HasFalse trail.now.entries n.lits 0 }
     ensures { Looks slots.now watches.old watches.new trail.now i Step.Stays }
@@ -77,7 +77,7 @@ fn retire(watches: &mut Watches, slots: &[Option<Kept>], i: usize, id: u32, trai
 // Looks at the nogood at a place, whose literals these are.
 fn look_at_nogood(
     watches: &mut Watches,
-    slots: &[Option<Kept>],
+    slots: &[Option<StoredNogood>],
     lits: &[Lit],
     i: usize,
     id: u32,
@@ -111,7 +111,7 @@ fn look_at_nogood(
 // Looks at the i-th of those apart.
 fn look_at_place(
     watches: &mut Watches,
-    slots: &[Option<Kept>],
+    slots: &[Option<StoredNogood>],
     i: usize,
     trail: &mut Trail,
 ) -> Result<Step, AllocError>
@@ -140,7 +140,7 @@ fn look_at_place(
 /// Looks at all that aren't watched, until one is violated.
 pub fn look_at_pending(
     watches: &mut Watches,
-    slots: &[Option<Kept>],
+    slots: &[Option<StoredNogood>],
     trail: &mut Trail,
 ) -> Result<Option<NogoodId>, AllocError>
     requires sound { IsSound slots.now watches.old trail.old }

@@ -10,8 +10,8 @@ ghost use Rattle.asp_store.specs.Sounding.{IsSound, AreSettled};
 ghost use Rattle.asp_store.specs.Walking.{IsViolated, Propagates};
 
 use crate::front::Front;
-use crate::kept::Kept;
 use crate::pending::look_at_pending;
+use crate::stored_nogood::StoredNogood;
 use crate::walks::walk;
 use crate::watches::Watches;
 use asp_trail::reasons::NogoodId;
@@ -43,7 +43,7 @@ fn front_of(trail: &Trail) -> Front
 // Looks at what the next entry touches.
 fn propagate_next(
     watches: &mut Watches,
-    slots: &[Option<Kept>],
+    slots: &[Option<StoredNogood>],
     trail: &mut Trail,
 ) -> Result<Option<NogoodId>, AllocError>
     requires sound { IsSound slots.now watches.old trail.old }
@@ -77,7 +77,7 @@ fn propagate_next(
 /// Want of memory is the one error. Whatever comes, entries are only added, and the watches fit the trail.
 pub fn propagate(
     watches: &mut Watches,
-    slots: &[Option<Kept>],
+    slots: &[Option<StoredNogood>],
     trail: &mut Trail,
 ) -> Result<Propagated, AllocError>
     requires sound { IsSound slots.now watches.old trail.old }

@@ -8,10 +8,10 @@ ghost use Rattle.asp_store.specs.Fitting.{AreSmall, Extends};
 ghost use Rattle.asp_store.specs.Walking.{Propagates};
 ghost use Rattle.asp_store.specs.Storing.{Fits, IsAdded, removed, locked_at, recalled, AreActive, Loses};
 
-use crate::kept::{Kept, Kind};
 use crate::notes::Notes;
 use crate::propagation::{Propagated, propagate};
 use crate::slots::{is_given_slot, is_spare_slot, remove_slot, set_locked};
+use crate::stored_nogood::{Kind, StoredNogood};
 use crate::watches::Watches;
 use asp_trail::reasons::{NogoodId, Reasons};
 use asp_trail::trail::Trail;
@@ -24,7 +24,7 @@ use std::marker::Model;
 #[derive(Drop)]
 pub struct Store {
     vars: u32,
-    slots: Vec<Option<Kept>>,
+    slots: Vec<Option<StoredNogood>>,
     watches: Watches,
     free: Vec<u32>,
     notes: Notes,
@@ -101,7 +101,7 @@ impl Store {
         self.watches.apart.push(id)?;
         self.watches.pairs.set(id as usize, None);
         self.extra += extra_of(kind);
-        self.slots[id as usize] = Some(Kept {
+        self.slots[id as usize] = Some(StoredNogood {
             nogood,
             kind,
             locked: false,
@@ -123,7 +123,7 @@ impl Store {
         self.slots.reserve(1)?;
         self.watches.push(id as u32)?;
         self.extra += extra_of(kind);
-        self.slots.push_reserved(Some(Kept {
+        self.slots.push_reserved(Some(StoredNogood {
             nogood,
             kind,
             locked: false,

@@ -21,9 +21,9 @@ ghost use Rattle.asp_store.specs.Sounding.{IsSound};
 ghost use Rattle.asp_store.specs.Walking.{IsWalking, IsVisit, MayWatch, Steps};
 
 use crate::front::{Front, Step};
-use crate::kept::Kept;
 use crate::looks::{beside, falsify};
 use crate::pairs::Pairs;
+use crate::stored_nogood::StoredNogood;
 use crate::watch::{Pair, Watch, other_of};
 use crate::watches::Watches;
 use asp_trail::trail::Trail;
@@ -62,7 +62,7 @@ fn watched_beside(pairs: &Pairs, id: u32, lit: Lit) -> Option<Lit>
 }
 
 // The literals of the nogood under a number, if it has one.
-pub fn lits_at(slots: &[Option<Kept>], id: u32) -> Option<&[Lit]>
+pub fn lits_at(slots: &[Option<StoredNogood>], id: u32) -> Option<&[Lit]>
     ensures { MatchOption result (nogood_at slots.now id ≡ None) (λ l. (n : Nogood) × (nogood_at slots.now id ≡ Some n) × (n.lits ≡ l.now)) }
 {
     if id as usize >= slots.len() {
@@ -77,7 +77,7 @@ pub fn lits_at(slots: &[Option<Kept>], id: u32) -> Option<&[Lit]>
 // The nogood is blocked by its other watch, which is false.
 fn block(
     watches: &mut Watches,
-    slots: &[Option<Kept>],
+    slots: &[Option<StoredNogood>],
     i: usize,
     id: u32,
     other: Lit,
@@ -97,7 +97,7 @@ fn block(
 // The place goes, as the nogood doesn't watch the literal.
 fn leave(
     watches: &mut Watches,
-    slots: &[Option<Kept>],
+    slots: &[Option<StoredNogood>],
     i: usize,
     id: u32,
     front: &Front,
@@ -115,7 +115,7 @@ fn leave(
 // Another literal becomes the watch in place of the front's.
 fn move_watch(
     watches: &mut Watches,
-    slots: &[Option<Kept>],
+    slots: &[Option<StoredNogood>],
     i: usize,
     id: u32,
     other: Lit,
@@ -144,7 +144,7 @@ fn move_watch(
 // No literal watches the nogood in place of the front's.
 fn set_apart(
     watches: &mut Watches,
-    slots: &[Option<Kept>],
+    slots: &[Option<StoredNogood>],
     i: usize,
     id: u32,
     other: Lit,
@@ -166,7 +166,7 @@ fn set_apart(
 // All literals but the other watch hold.
 fn visit_last(
     watches: &mut Watches,
-    slots: &[Option<Kept>],
+    slots: &[Option<StoredNogood>],
     lits: &[Lit],
     i: usize,
     id: u32,
@@ -200,7 +200,7 @@ fn visit_last(
 // Looks at the nogood, whose other watch isn't seen to be false.
 fn visit(
     watches: &mut Watches,
-    slots: &[Option<Kept>],
+    slots: &[Option<StoredNogood>],
     i: usize,
     id: u32,
     other: Lit,
@@ -233,7 +233,7 @@ fn visit(
 /// Visits the i-th place of the front's list.
 pub fn visit_place(
     watches: &mut Watches,
-    slots: &[Option<Kept>],
+    slots: &[Option<StoredNogood>],
     i: usize,
     front: &Front,
     trail: &mut Trail,

@@ -5,7 +5,7 @@ ghost use Rattle.asp_store.specs.Sounding.{IsSound};
 ghost use Rattle.asp_store.specs.Walking.{IsWalking, Walked};
 
 use crate::front::{Front, Step};
-use crate::kept::Kept;
+use crate::stored_nogood::StoredNogood;
 use crate::visits::visit_place;
 use crate::watches::Watches;
 use asp_trail::reasons::NogoodId;
@@ -15,7 +15,7 @@ use std::alloc::AllocError;
 /// Visits all places of the front's list, until a nogood is violated.
 pub fn walk(
     watches: &mut Watches,
-    slots: &[Option<Kept>],
+    slots: &[Option<StoredNogood>],
     front: &Front,
     trail: &mut Trail,
 ) -> Result<Option<NogoodId>, AllocError>

@@ -1,7 +1,7 @@
 use Rattle.std.proofs.Common.{Option, subst}
 use Rattle.std.specs.Prelude.{IfSome}
 use Rattle.asp_vars.specs.declared.nogood.Nogood.{Nogood}
-use Rattle.asp_store.specs.declared.kept.Kind.TheVariants as kind
+use Rattle.asp_store.specs.declared.stored_nogood.Kind.TheVariants as kind
 use Rattle.asp_propagate.proofs.PropagateLaws.{asked_more, goes_one}
 use Rattle.asp_propagate.proofs.rounds.ask.Goals as goal
 

@@ -3,7 +3,7 @@ use Rattle.std.specs.Prelude.{IfNone, IfSome}
 use Rattle.std.specs.Option.{option_map}
 use Rattle.asp_vars.specs.Numbering.{var_count}
 use Rattle.asp_trail.specs.Entries.{assignment}
-use Rattle.asp_store.specs.declared.kept.Kept.{Kept}
+use Rattle.asp_store.specs.declared.stored_nogood.StoredNogood.{StoredNogood}
 use Rattle.asp_store.specs.Keeping.{nogood_at}
 use Rattle.asp_store.specs.Walking.{IsViolated}
 use Rattle.asp_propagate.specs.Propagating.{AreCalm, Asked}
@@ -95,7 +95,7 @@ asked-smaller g c =
     e.followed.told.vars ∙ (ap var_count (e.goes.program ∙ c.ask.ensures.goes.program) ∙ sym m.invariant.followed.told.vars) in
     let asked =
     subst (λ (x : Bool). Asked (g.P.Propagator.silent p b) (g.P.Propagator.gives p b) (assignment m.trail.vars m.trail.entries) m.store c.ask.new.store x) c.if-branch.true c.in_ok-ask.ensures.ok in
-    let kept = ap (λ (xs : List (Option Kept)). nogood_at xs asked.1) e.same ∙ ap (option_map (λ (k : Kept). k.nogood)) asked.2.slots.here in
+    let kept = ap (λ (xs : List (Option StoredNogood)). nogood_at xs asked.1) e.same ∙ ap (option_map (λ (k : StoredNogood). k.nogood)) asked.2.slots.here in
     let calm = subst (λ (o : Option ℕ). IfNone o (AreCalm s.store.slots (assignment s.trail.vars s.trail.entries))) c.in-None-found.is c.in_ok-found.ensures.calm in
     let quiet = subst (λ (n : ℕ). AreCalm s.store.slots (assignment n s.trail.entries)) vars calm in
     let lt : length m.trail.entries < length s.trail.entries =

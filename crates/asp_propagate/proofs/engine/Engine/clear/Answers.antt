@@ -1,5 +1,5 @@
 use Rattle.std.proofs.Common.{List, [], Option, sym, ap, ◌∙◌, subst}
-use Rattle.asp_store.specs.declared.kept.Kept.{Kept}
+use Rattle.asp_store.specs.declared.stored_nogood.StoredNogood.{StoredNogood}
 use Rattle.asp_store.specs.Storing.{Stored}
 use Rattle.asp_trail.specs.Trails.{Trailed}
 use Rattle.asp_propagate.specs.Propagating.{Propagating, IsFollowed}
@@ -20,7 +20,7 @@ returns g c =
     let i = c.self.inside in
     let p = (g.P.Propagator.told c.untell.new.propagator).program in
     let b = g.P.Propagator.bound c.untell.new.propagator in
-    let with_slots : List (Option Kept) → Propagating = λ xs. record { program = p; entries = c.clear.new.self.entries; slots = xs; bound = b } in
+    let with_slots : List (Option StoredNogood) → Propagating = λ xs. record { program = p; entries = c.clear.new.self.entries; slots = xs; bound = b } in
     ap with_slots (ap (λ (x : Stored). x.slots) c.recall.ensures.recalled)
     ∙ (same_view p (g.P.Propagator.told i.propagator).program c.clear.new.self.entries [] i.store.slots b (g.P.Propagator.bound i.propagator) c.untell.ensures.program
     (ap (λ (x : Trailed). x.entries) c.clear.ensures) c.untell.ensures.bound

@@ -1,5 +1,5 @@
 use Rattle.std.proofs.Common.{◌≡◌, List, Option, length, sym, ap, ◌∙◌, subst}
-use Rattle.asp_store.specs.declared.kept.Kept.{Kept}
+use Rattle.asp_store.specs.declared.stored_nogood.StoredNogood.{StoredNogood}
 use Rattle.asp_store.specs.Storing.{Stored}
 use Rattle.asp_propagate.specs.Propagating.{Propagating, IsReduced}
 use Rattle.asp_propagate.specs.Locking.{lock_all, HaveSlots}

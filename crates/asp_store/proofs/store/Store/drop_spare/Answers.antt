@@ -1,7 +1,7 @@
 use Rattle.std.proofs.Common.{◌≡◌, ◌<◌, ℕ, true, false, cond, List, Option, None, length, set, refl, sym, ap, ◌∙◌, subst, arith}
 use Rattle.std.proofs.lemmas.List.{length-set}
 use Rattle.asp_trail.proofs.EntryLaws.{same_default}
-use Rattle.asp_store.specs.declared.kept.Kept.{Kept}
+use Rattle.asp_store.specs.declared.stored_nogood.StoredNogood.{StoredNogood}
 use Rattle.asp_store.specs.Keeping.{kept_at, is_spare, is_given, unless_given, Thins}
 use Rattle.asp_store.specs.Storing.{Stored, Loses, removed}
 use Rattle.asp_store.proofs.GetLaws.{at_set, at_set_other}

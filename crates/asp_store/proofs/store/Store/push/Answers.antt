@@ -2,7 +2,7 @@ use Rattle.std.proofs.Common.{◌≡◌, ◌<◌, ◌≤◌, ◌+◌, ◌-◌, �
 use Rattle.std.specs.List.{All, count_by}
 use Rattle.std.proofs.lemmas.List.{take_at, length-set, length-append}
 use Rattle.asp_trail.specs.Trails.{IsVar}
-use Rattle.asp_store.specs.declared.kept.Kept.{Kept}
+use Rattle.asp_store.specs.declared.stored_nogood.StoredNogood.{StoredNogood}
 use Rattle.asp_store.specs.declared.watch.Pair.{Pair}
 use Rattle.asp_store.specs.declared.watches.Watches.{Watches}
 use Rattle.asp_store.specs.Keeping.{kept_at, is_extra, with_lock}
@@ -18,17 +18,17 @@ pub invariant_of-self-2 : goal.invariant_of-self-2
 invariant_of-self-2 c =
     let i = c.self.inside in
     let slots = i.slots.items in
-    let k : Kept = record { nogood = c.args.nogood; kind = c.args.kind; locked = false } in
+    let k : StoredNogood = record { nogood = c.args.nogood; kind = c.args.kind; locked = false } in
     let id = c.len-id.result in
     let small : All (λ l. IsVar i.vars l.var) c.args.nogood.lits = subst (λ (s : Stored). All (λ l. IsVar s.vars l.var) c.args.nogood.lits) (sym c.self.view_is) c.requires in
     let at : id ≡ length slots = omega (arith, c.len-id.ensures, i.slots.ok.0) in
     let begun : i.watches.apart.retired ≤ length i.watches.apart.items = omega (arith, c.len-len.ensures.len, c.len-len.ensures.retired) in
     let z : Watches = record i.watches { pairs = i.watches.pairs ++ None ∷ []; apart = record i.watches.apart { items = i.watches.apart.items ++ id ∷ [] } } in
-    let new : List (Option Kept) = slots ++ Some k ∷ [] in
-    let grown : c.push_reserved.new.self.items ≡ new = c.push_reserved.ensures.items ∙ ap (λ (xs : List (Option Kept)). xs ++ Some k ∷ []) c.in_ok-reserve.ensures.items in
+    let new : List (Option StoredNogood) = slots ++ Some k ∷ [] in
+    let grown : c.push_reserved.new.self.items ≡ new = c.push_reserved.ensures.items ∙ ap (λ (xs : List (Option StoredNogood)). xs ++ Some k ∷ []) c.in_ok-reserve.ensures.items in
     let more : IsAdded (view_of i.vars slots i.watches) (view_of i.vars new z) id c.args.nogood c.args.kind =
     added_push (view_of i.vars slots i.watches) id c.args.nogood c.args.kind at c.self.invariant.net.paired begun in
-    subst (λ (xs : List (Option Kept)). IsStore i.vars xs c.push.new.self (i.extra + c.extra_of.result)) (sym grown)
+    subst (λ (xs : List (Option StoredNogood)). IsStore i.vars xs c.push.new.self (i.extra + c.extra_of.result)) (sym grown)
     (subst (λ (w : Watches). IsStore i.vars new w (i.extra + c.extra_of.result)) (sym c.in_ok-push.ensures.ok)
     (store_add i.vars slots new i.watches z i.extra (i.extra + c.extra_of.result) id c.args.nogood c.args.kind c.self.invariant refl
     (omega (arith, length-append i.watches.pairs (None ∷ []), length-append slots (Some k ∷ []), c.self.invariant.net.paired)) more (λ j f. from_push i.watches.apart id 0 j f) small
@@ -38,22 +38,22 @@ pub returns-clause-ok : goal.returns-clause-ok
 returns-clause-ok c =
     let i = c.self.inside in
     let slots = i.slots.items in
-    let k : Kept = record { nogood = c.args.nogood; kind = c.args.kind; locked = false } in
+    let k : StoredNogood = record { nogood = c.args.nogood; kind = c.args.kind; locked = false } in
     let id = c.len-id.result in
     let small : All (λ l. IsVar i.vars l.var) c.args.nogood.lits = subst (λ (s : Stored). All (λ l. IsVar s.vars l.var) c.args.nogood.lits) (sym c.self.view_is) c.requires in
     let at : id ≡ length slots = omega (arith, c.len-id.ensures, i.slots.ok.0) in
     let begun : i.watches.apart.retired ≤ length i.watches.apart.items = omega (arith, c.len-len.ensures.len, c.len-len.ensures.retired) in
     let z : Watches = record i.watches { pairs = i.watches.pairs ++ None ∷ []; apart = record i.watches.apart { items = i.watches.apart.items ++ id ∷ [] } } in
-    let new : List (Option Kept) = slots ++ Some k ∷ [] in
-    let grown : c.push_reserved.new.self.items ≡ new = c.push_reserved.ensures.items ∙ ap (λ (xs : List (Option Kept)). xs ++ Some k ∷ []) c.in_ok-reserve.ensures.items in
+    let new : List (Option StoredNogood) = slots ++ Some k ∷ [] in
+    let grown : c.push_reserved.new.self.items ≡ new = c.push_reserved.ensures.items ∙ ap (λ (xs : List (Option StoredNogood)). xs ++ Some k ∷ []) c.in_ok-reserve.ensures.items in
     let more : IsAdded (view_of i.vars slots i.watches) (view_of i.vars new z) id c.args.nogood c.args.kind =
     added_push (view_of i.vars slots i.watches) id c.args.nogood c.args.kind at c.self.invariant.net.paired begun in
     subst (λ (s : Stored). IsAdded s (view_of i.vars c.push_reserved.new.self.items c.push.new.self) id c.args.nogood c.args.kind) c.self.view_is
-    (subst (λ (xs : List (Option Kept)). IsAdded (view_of i.vars slots i.watches) (view_of i.vars xs c.push.new.self) id c.args.nogood c.args.kind) (sym grown)
+    (subst (λ (xs : List (Option StoredNogood)). IsAdded (view_of i.vars slots i.watches) (view_of i.vars xs c.push.new.self) id c.args.nogood c.args.kind) (sym grown)
     (subst (λ (w : Watches). IsAdded (view_of i.vars slots i.watches) (view_of i.vars new w) id c.args.nogood c.args.kind) (sym c.in_ok-push.ensures.ok) more))
 
 pub invariant_of-self-in_err-push : goal.invariant_of-self-in_err-push
 invariant_of-self-in_err-push c =
     let i = c.self.inside in
-    subst (λ (xs : List (Option Kept)). IsStore i.vars xs c.push.new.self i.extra) (sym c.in_ok-reserve.ensures.items)
+    subst (λ (xs : List (Option StoredNogood)). IsStore i.vars xs c.push.new.self i.extra) (sym c.in_ok-reserve.ensures.items)
     (subst (λ (w : Watches). IsStore i.vars i.slots.items w i.extra) (sym c.in_err-push.ensures.err) c.self.invariant)

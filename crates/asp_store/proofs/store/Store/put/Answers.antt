@@ -2,7 +2,7 @@ use Rattle.std.proofs.Common.{◌≡◌, ◌<◌, ◌≤◌, ◌+◌, ◌-◌, �
 use Rattle.std.specs.List.{All, count_by}
 use Rattle.std.proofs.lemmas.List.{take_at, length-set, length-append}
 use Rattle.asp_trail.specs.Trails.{IsVar}
-use Rattle.asp_store.specs.declared.kept.Kept.{Kept}
+use Rattle.asp_store.specs.declared.stored_nogood.StoredNogood.{StoredNogood}
 use Rattle.asp_store.specs.declared.watch.Pair.{Pair}
 use Rattle.asp_store.specs.declared.watches.Watches.{Watches}
 use Rattle.asp_store.specs.Keeping.{kept_at, is_extra, with_lock}
@@ -23,7 +23,7 @@ pub invariant_of-self-2 : goal.invariant_of-self-2
 invariant_of-self-2 c =
     let i = c.self.inside in
     let slots = i.slots.items in
-    let k : Kept = record { nogood = c.args.nogood; kind = c.args.kind; locked = false } in
+    let k : StoredNogood = record { nogood = c.args.nogood; kind = c.args.kind; locked = false } in
     let h : c.args.id < length slots = subst (λ (s : Stored). c.args.id < length s.slots) (sym c.self.view_is) c.requires.within in
     let free : kept_at slots c.args.id ≡ None = ap (λ (s : Stored). kept_at s.slots c.args.id) c.self.view_is ∙ c.requires.free in
     let small : All (λ l. IsVar i.vars l.var) c.args.nogood.lits = subst (λ (s : Stored). All (λ l. IsVar s.vars l.var) c.args.nogood.lits) (sym c.self.view_is) c.requires.small in
@@ -44,7 +44,7 @@ pub returns-clause-ok : goal.returns-clause-ok
 returns-clause-ok c =
     let i = c.self.inside in
     let slots = i.slots.items in
-    let k : Kept = record { nogood = c.args.nogood; kind = c.args.kind; locked = false } in
+    let k : StoredNogood = record { nogood = c.args.nogood; kind = c.args.kind; locked = false } in
     let h : c.args.id < length slots = subst (λ (s : Stored). c.args.id < length s.slots) (sym c.self.view_is) c.requires.within in
     let free : kept_at slots c.args.id ≡ None = ap (λ (s : Stored). kept_at s.slots c.args.id) c.self.view_is ∙ c.requires.free in
     let small : All (λ l. IsVar i.vars l.var) c.args.nogood.lits = subst (λ (s : Stored). All (λ l. IsVar s.vars l.var) c.args.nogood.lits) (sym c.self.view_is) c.requires.small in

@@ -2,7 +2,7 @@ use Rattle.std.proofs.Common.{◌≡◌, ◌<◌, ◌≤◌, ◌+◌, ◌-◌, �
 use Rattle.std.specs.List.{All, count_by}
 use Rattle.std.proofs.lemmas.List.{take_at, length-set, length-append}
 use Rattle.asp_trail.specs.Trails.{IsVar}
-use Rattle.asp_store.specs.declared.kept.Kept.{Kept}
+use Rattle.asp_store.specs.declared.stored_nogood.StoredNogood.{StoredNogood}
 use Rattle.asp_store.specs.declared.watch.Pair.{Pair}
 use Rattle.asp_store.specs.declared.watches.Watches.{Watches}
 use Rattle.asp_store.specs.Keeping.{kept_at, is_extra, with_lock}
@@ -28,11 +28,11 @@ invariant_of-self c =
     let slots = i.slots.items in
     let h : c.args.id < length slots = subst (λ (s : Stored). c.args.id < length s.slots) (sym c.self.view_is) c.requires in
     let e : c.remove_slot.new.slots ≡ set slots c.args.id None =
-    c.remove_slot.ensures.slots ∙ ap (λ (xs : List (Option Kept)). set xs c.args.id None) c.as_mut_slice.ensures.value in
-    let len : length c.remove_slot.new.slots ≡ i.slots.len = omega (arith, ap (length {A = Option Kept}) e, length-set slots c.args.id None, i.slots.ok.0) in
+    c.remove_slot.ensures.slots ∙ ap (λ (xs : List (Option StoredNogood)). set xs c.args.id None) c.as_mut_slice.ensures.value in
+    let len : length c.remove_slot.new.slots ≡ i.slots.len = omega (arith, ap (length {A = Option StoredNogood}) e, length-set slots c.args.id None, i.slots.ok.0) in
     let k : c.args.id < length i.watches.pairs = omega (arith, h, c.self.invariant.net.paired) in
     rw (take_at c.remove_slot.new.slots)
-    (subst (λ (xs : List (Option Kept)). IsStore i.vars xs (record i.watches { pairs = c.set.new.self }) (i.extra - c.remove_slot.result)) (sym e)
+    (subst (λ (xs : List (Option StoredNogood)). IsStore i.vars xs (record i.watches { pairs = c.set.new.self }) (i.extra - c.remove_slot.result)) (sym e)
     (subst (λ (ps : List (Option Pair)). IsStore i.vars (set slots c.args.id None) (record i.watches { pairs = ps }) (i.extra - c.remove_slot.result)) (sym c.set.ensures)
     (store_lose i.vars slots (set slots c.args.id None) i.watches (record i.watches { pairs = set i.watches.pairs c.args.id None }) i.extra (i.extra - c.remove_slot.result) c.self.invariant refl
     (omega (arith, length-set i.watches.pairs c.args.id None, length-set slots c.args.id None, c.self.invariant.net.paired))
@@ -45,8 +45,8 @@ returns c =
     let slots = i.slots.items in
     let h : c.args.id < length slots = subst (λ (s : Stored). c.args.id < length s.slots) (sym c.self.view_is) c.requires in
     let e : c.remove_slot.new.slots ≡ set slots c.args.id None =
-    c.remove_slot.ensures.slots ∙ ap (λ (xs : List (Option Kept)). set xs c.args.id None) c.as_mut_slice.ensures.value in
-    let len : length c.remove_slot.new.slots ≡ i.slots.len = omega (arith, ap (length {A = Option Kept}) e, length-set slots c.args.id None, i.slots.ok.0) in
+    c.remove_slot.ensures.slots ∙ ap (λ (xs : List (Option StoredNogood)). set xs c.args.id None) c.as_mut_slice.ensures.value in
+    let len : length c.remove_slot.new.slots ≡ i.slots.len = omega (arith, ap (length {A = Option StoredNogood}) e, length-set slots c.args.id None, i.slots.ok.0) in
     let k : c.args.id < length i.watches.pairs = omega (arith, h, c.self.invariant.net.paired) in
     rw (take_at c.remove_slot.new.slots)
     ((λ j. let s : Stored = record { vars = i.vars; slots = e j; pairs = c.set.ensures j; apart = i.watches.apart } in s) ∙ ap (λ (s : Stored). removed s c.args.id) c.self.view_is)

@@ -2,7 +2,7 @@ use Rattle.std.proofs.Common.{◌≡◌, ◌<◌, ◌≤◌, ◌+◌, ◌-◌, �
 use Rattle.std.specs.List.{All, count_by}
 use Rattle.std.proofs.lemmas.List.{take_at, length-set, length-append}
 use Rattle.asp_trail.specs.Trails.{IsVar}
-use Rattle.asp_store.specs.declared.kept.Kept.{Kept}
+use Rattle.asp_store.specs.declared.stored_nogood.StoredNogood.{StoredNogood}
 use Rattle.asp_store.specs.declared.watch.Pair.{Pair}
 use Rattle.asp_store.specs.declared.watches.Watches.{Watches}
 use Rattle.asp_store.specs.Keeping.{kept_at, is_extra, with_lock}
@@ -20,8 +20,8 @@ invariant_of-self c =
     let slots = i.slots.items in
     let h : c.args.id < length slots = subst (λ (s : Stored). c.args.id < length s.slots) (sym c.self.view_is) c.requires in
     let e : c.set_locked.new.slots ≡ set slots c.args.id (with_lock false (kept_at slots c.args.id)) =
-    c.set_locked.ensures ∙ ap (λ (xs : List (Option Kept)). set xs c.args.id (with_lock false (kept_at xs c.args.id))) c.as_mut_slice.ensures.value in
+    c.set_locked.ensures ∙ ap (λ (xs : List (Option StoredNogood)). set xs c.args.id (with_lock false (kept_at xs c.args.id))) c.as_mut_slice.ensures.value in
     let len : length c.set_locked.new.slots ≡ i.slots.len =
-    omega (arith, ap (length {A = Option Kept}) e, length-set slots c.args.id (with_lock false (kept_at slots c.args.id)), i.slots.ok.0) in
+    omega (arith, ap (length {A = Option StoredNogood}) e, length-set slots c.args.id (with_lock false (kept_at slots c.args.id)), i.slots.ok.0) in
     rw (take_at c.set_locked.new.slots)
-    (subst (λ (xs : List (Option Kept)). IsStore i.vars xs i.watches i.extra) (sym e) (store_lock i.vars slots i.watches i.extra c.args.id false h c.self.invariant))
+    (subst (λ (xs : List (Option StoredNogood)). IsStore i.vars xs i.watches i.extra) (sym e) (store_lock i.vars slots i.watches i.extra c.args.id false h c.self.invariant))
