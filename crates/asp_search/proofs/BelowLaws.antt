@@ -1,5 +1,5 @@
 -- What the parts of a step know of each other.
-use Rattle.std.proofs.Common.{◌≡◌, ℕ, List, [], ◌∷◌, ◌++◌, length, Option, Some, None, refl, sym, ap, subst, arith}
+use Rattle.std.proofs.Common.{◌≡◌, ℕ, List, length, Option, None, sym, ap, subst, arith}
 use Rattle.std.specs.Prelude.{ℤ}
 use Rattle.std.proofs.lemmas.List.{length-append}
 use Rattle.asp_model.specs.declared.program.Program.{Program}
@@ -12,18 +12,19 @@ use Rattle.asp_vars.specs.Paid.{Units}
 use Rattle.asp_vars.specs.declared.nogood.Base.{Base}
 use Rattle.asp_vars.specs.declared.nogood.Nogood.{Nogood}
 use Rattle.asp_trail.specs.declared.trail.Entry.{Entry}
+use Rattle.asp_store.specs.declared.stored_nogood.Kind.{Kind}
+use Rattle.asp_store.specs.Keeping.{IsAddedAt}
 use Rattle.asp_order.specs.Pacing.{Paced}
 use Rattle.asp_propagate.specs.Propagating.{Adds, Implies}
 use Rattle.asp_propagate.specs.Useful.{Counts, IsUseful}
 use Rattle.asp_search_laws.specs.Axioms.{IsDerived}
 use Rattle.asp_search_laws.specs.Faults.{IsFault}
 use Rattle.asp_search_laws.specs.Steps.{Fails}
-use Rattle.asp_search_laws.proofs.DerivedLaws.{derived_adds, derived_push}
-use Rattle.asp_search_laws.proofs.SlotLaws.{grows_adds}
+use Rattle.asp_search_laws.proofs.DerivedLaws.{derived_adds, derived_added}
+use Rattle.asp_search_laws.proofs.SlotLaws.{added_stays, grows_adds}
 use Rattle.asp_search_laws.proofs.StepLaws.{Continues, fails_after}
 use Rattle.asp_state.specs.SearchStates.{SearchView}
 use Rattle.asp_search.specs.Invariants.{view_of}
-use Rattle.asp_search.proofs.JumpedLaws.{for_now}
 use Rattle.asp_search.proofs.StepsLaws.{continues_from, fails_same}
 
 -- ---- a nogood that shows a set unstable
@@ -38,11 +39,11 @@ fault_counts p bound gives vars es n f = subst (Counts bound) (sym f.pure) tt
 
 module _ (gives : Nogood → Type 0) (md : Mode) (t u : SearchView) (c : Paced) (known : List Atoms) (last : Option ℕ) where
   -- it is kept
-  pub fault_continues : (n : Nogood) → IsFault t.program gives (var_count t.program) t.entries n → u ≡ record t { slots = t.slots ++ Some (for_now n) ∷ [] } →
+  pub fault_continues : (id : ℕ) (n : Nogood) (kind : Kind) → IsFault t.program gives (var_count t.program) t.entries n → u ≡ record t { slots = u.slots } → IsAddedAt t.slots u.slots id n kind →
       Continues gives (view_of md t c known last) (view_of md u c known last)
-  fault_continues n f e =
-      continues_from gives md t c known last t.entries (t.slots ++ Some (for_now n) ∷ []) last u e (Some (for_now n) ∷ [], refl)
-      (derived_push t.program gives t.bound t.slots (for_now n) (IsDerived.given f.why (fault_counts t.program t.bound gives (var_count t.program) t.entries n f))) (omega arith)
+  fault_continues id n kind f e a =
+      continues_from gives md t c known last t.entries u.slots last u e (added_stays t.slots u.slots id n kind a)
+      (derived_added t.program gives t.bound t.slots u.slots id n kind a (IsDerived.given f.why (fault_counts t.program t.bound gives (var_count t.program) t.entries n f))) (omega arith)
 
   -- ---- propagation
   pub adds_continue : ((n : Nogood) → gives n → Counts t.bound n.base) → Adds gives t.slots u.slots → Implies t.entries u.entries → u ≡ record t { entries = u.entries; slots = u.slots } →

@@ -3,7 +3,7 @@ use Rattle.std.proofs.Common.{◌≡◌, ◌≢◌, ℕ, zero, suc, ◌+◌, ◌
 use Rattle.std.specs.List.{All, starts_with}
 use Rattle.std.specs.Option.{unwrap_or}
 use Rattle.std.proofs.lemmas.Bool.{eqb-true}
-use Rattle.std.proofs.lemmas.List.{length-set, length-append, get_or_append_left}
+use Rattle.std.proofs.lemmas.List.{length-append, get_or_append_left}
 use Rattle.asp_vars.specs.Literals.{Literal, complement, has_literal, literal_eq, value_of}
 use Rattle.asp_vars.specs.Resolution.{IsWithin}
 use Rattle.asp_vars.specs.declared.nogood.Base.TheVariants as base
@@ -15,18 +15,19 @@ use Rattle.asp_trail.specs.Entries.{assignment, cut, reason_in, reason_or_none}
 use Rattle.asp_trail.specs.Reasons.{AreReasoned}
 use Rattle.asp_trail.specs.Trails.{IsOrdered, IsVar}
 use Rattle.asp_trail.proofs.HoldLaws.{value_at}
-use Rattle.asp_store.specs.declared.kept.Kept.{Kept}
-use Rattle.asp_store.specs.Keeping.{nogood_at}
+use Rattle.asp_store.specs.declared.stored_nogood.StoredNogood.{StoredNogood}
+use Rattle.asp_store.specs.declared.stored_nogood.Kind.TheVariants as kind
+use Rattle.asp_store.specs.Keeping.{nogood_at, IsAddedAt}
 use Rattle.asp_order.specs.Heaps.{Ranking}
 use Rattle.asp_trail_laws.specs.Starts.{AreStarts}
 use Rattle.asp_trail_laws.proofs.LitLaws.{all_has, has_more, has_append, has_place, has_at}
 use Rattle.asp_trail_laws.proofs.PlaceLaws.{blank, reason_at}
 use Rattle.asp_propagate.specs.Propagating.{IsUnnamed}
-use Rattle.asp_search_laws.specs.Keeping.{IsBar, AreBars}
-use Rattle.asp_search_laws.specs.Steps.{way_of}
-use Rattle.asp_search_laws.proofs.SlotLaws.{nogood_kept, kept_nogood, kept_within, push_each, push_newest, grows_forever, barred_stay, bars_stay, bar_within, bars_push, bars_pop, removed_none, removed_other, removed_barred, removed_bars}
+use Rattle.asp_search_laws.specs.Keeping.{IsBlocking, AreBlocking}
+use Rattle.asp_search_laws.specs.Steps.{blocking_nogood}
+use Rattle.asp_search_laws.proofs.SlotLaws.{nogood_kept, kept_nogood, kept_within, added_stays, added_each, added_apart, grows_forever, blocked_stay, blocking_stay, blocking_push, blocking_pop, removed_none, removed_other, removed_blocked, removed_blocking}
 use Rattle.asp_state.specs.SearchStates.{SearchView}
-use Rattle.asp_search.specs.Blocking.{IsSpare, kept_way, Drops, Blocks}
+use Rattle.asp_search.specs.Blocking.{IsRedundant, kept_blocking, Drops, Blocks}
 
 -- ---- reasons
 -- a variable that was implied has a value
@@ -72,39 +73,34 @@ begins_within old lits h l has =
     (has_more (take (length lits) old) (drop (length lits) old) l (subst (λ (n : List Literal). has_literal n l ≡ true) same has))
 
 -- ---- dropping one
-pub drop_one : (way : Nogood) (id old : ℕ) (first slots : List (Option Kept)) (bars : List ℕ) (n : Nogood) → AreBars slots (bars ++ old ∷ []) → nogood_at slots old ≡ Some n → IsWithin way.lits n.lits →
-    Drops way id first slots (bars ++ old ∷ []) → Drops way id first (set slots old None) bars
-drop_one way id old first slots bars n b k within d =
-    let parts = bars_pop slots bars old b in
+pub drop_one : (newest : Nogood) (id old : ℕ) (first slots : List (Option StoredNogood)) (blocking : List ℕ) (n : Nogood) → AreBlocking slots (blocking ++ old ∷ []) → nogood_at slots old ≡ Some n → IsWithin newest.lits n.lits →
+    Drops newest id first slots (blocking ++ old ∷ []) → Drops newest id first (set slots old None) blocking
+drop_one newest id old first slots blocking n b k within d =
+    let parts = blocking_pop slots blocking old b in
     let x = kept_nogood slots old n k in
     let small : old < length slots = kept_within slots old x.0 x.1 in
-    let low : old < id = newest old in
-    let ne : id ≢ old = apart low in
+    let ne : id ≢ old = λ q. last old (sym q) in
     record {
       none = λ j m q. d.none j m (removed_none slots old small j m q);
-      count = length-set slots old None ∙ d.count;
       stands = removed_other slots old id ne ∙ d.stands;
-      barred = λ p S s.
-          removed_barred p slots old id x.0 (record { nogood = way; forever = true; locked = false }) S x.1 d.stands refl ne
-          (subst (λ (m : Nogood). IsWithin way.lits m.lits) (sym x.2) within) (d.barred p S s);
-      bars_stand = removed_bars slots bars old parts.1 parts.0;
-      below = λ i e h. omega (arith, d.below i e (omega (arith, h, length-append bars (old ∷ []))), get_or_append_left bars (old ∷ []) e i h);
+      blocked = λ p S s.
+          removed_blocked p slots old id x.0 (record { nogood = newest; kind = kind.Forever; locked = false }) S x.1 d.stands refl ne
+          (subst (λ (m : Nogood). IsWithin newest.lits m.lits) (sym x.2) within) (d.blocked p S s);
+      blocking_stand = removed_blocking slots blocking old parts.1 parts.0;
+      apart = λ i e h q. d.apart i e (omega (arith, h, length-append blocking (old ∷ []))) (get_or_append_left blocking (old ∷ []) e i h ∙ q);
     }
   where
     at : (xs : List ℕ) (e : ℕ) → get_or (xs ++ old ∷ []) (length xs) e ≡ old
     at [] e = refl
     at (x ∷ xs) e = at xs e
 
-    newest : (e : ℕ) → old < id
-    newest e = omega (arith, d.below (length bars) e (omega (arith, length-append bars (old ∷ []))), at bars e)
+    last : (e : ℕ) → old ≢ id
+    last e q = d.apart (length blocking) e (omega (arith, length-append blocking (old ∷ []))) (at blocking e ∙ q)
 
-    apart : old < id → id ≢ old
-    apart h q = omega (arith, h, q)
-
--- ---- the way
+-- ---- the newest
 -- its literals are variables'
-pub way_vars : (vars : ℕ) (q decisions : List Literal) (es : List Entry) → IsOrdered vars es → AreStarts q decisions es → All (λ l. IsVar vars l.var) (q ++ decisions)
-way_vars vars q decisions es o s i d h = each (get_or (q ++ decisions) i d) (has_append q decisions (get_or (q ++ decisions) i d) (has_at (q ++ decisions) i d h))
+pub blocking_vars : (vars : ℕ) (q decisions : List Literal) (es : List Entry) → IsOrdered vars es → AreStarts q decisions es → All (λ l. IsVar vars l.var) (q ++ decisions)
+blocking_vars vars q decisions es o s i d h = each (get_or (q ++ decisions) i d) (has_append q decisions (get_or (q ++ decisions) i d) (has_at (q ++ decisions) i d h))
   where
     place : (l : Literal) (j : ℕ) → j < length es → (get_or es j blank).lit ≡ l → IsVar vars l.var
     place l j k e = subst (λ (m : Literal). IsVar vars m.var) e (o.within j blank k)
@@ -117,35 +113,37 @@ way_vars vars q decisions es o s i d h = each (get_or (q ++ decisions) i d) (has
         place l b.place b.stands.within (b.stands.lit blank ∙ f.2 (record { var = 0; truth = false }))
 
 -- before any is dropped
-pub drop_none : (way : Nogood) (slots : List (Option Kept)) (bars : List ℕ) → AreBars slots bars →
-    Drops way (length slots) (slots ++ kept_way way ∷ []) (slots ++ kept_way way ∷ []) bars
-drop_none way slots bars b = record {
+pub drop_none : (newest : Nogood) (slots more : List (Option StoredNogood)) (id : ℕ) (blocking : List ℕ) → IsAddedAt slots more id newest kind.Forever → AreBlocking slots blocking →
+    Drops newest id more more blocking
+drop_none newest slots more id blocking a b = record {
   none = λ j n q. q;
-  count = refl;
-  stands = push_newest slots (record { nogood = way; forever = true; locked = false });
-  barred = λ p S x. x;
-  bars_stand = bars_stay slots (slots ++ kept_way way ∷ []) bars (grows_forever slots (slots ++ kept_way way ∷ []) (kept_way way ∷ [], refl)) b;
-  below = λ i d h. bar_within slots (get_or bars i d) (b.each i d h);
+  stands = a.here;
+  blocked = λ p S x. x;
+  blocking_stand = blocking_stay slots more blocking (grows_forever slots more (added_stays slots more id newest kind.Forever a)) b;
+  apart = λ i d h. let x = b.each i d h in added_apart slots more id newest kind.Forever a (get_or blocking i d) x.kept x.stands;
 }
 
 -- after all
-pub drop_done : (way : Nogood) (old new : SearchView) (slots : List (Option Kept)) (bars : List ℕ) → way.base ≡ base.Local → slots ≡ old.slots ++ kept_way way ∷ [] →
+pub drop_done : (newest : Nogood) (old new : SearchView) (slots : List (Option StoredNogood)) (id : ℕ) (blocking : List ℕ) → newest.base ≡ base.Local →
+    IsAddedAt old.slots slots id newest kind.Forever →
     new ≡ record old {
       entries = cut (length old.decisions - 1) old.entries;
       decisions = take (length old.decisions - 1) old.decisions;
       slots = new.slots;
       ranking = new.ranking;
-    } → Drops way (length old.slots) slots new.slots bars → Blocks way old new (bars ++ length old.slots ∷ [])
-drop_done way old new slots bars local kept same d = record {
+    } → Drops newest id slots new.slots blocking → Blocks newest old new (blocking ++ id ∷ [])
+drop_done newest old new slots id blocking local a same d = record {
   same = same;
-  nogoods = λ j n q. cases j n (push_each old.slots (record { nogood = way; forever = true; locked = false }) j n (sym (ap (λ (x : List (Option Kept)). nogood_at x j) kept) ∙ d.none j n q));
-  id = length old.slots;
+  nogoods = λ j n q. cases j n (added_each old.slots slots id newest kind.Forever a j n (d.none j n q));
+  id = id;
   stands = d.stands;
-  barred = λ p S b. d.barred p S (barred_stay p old.slots slots S (grows_forever old.slots slots (kept_way way ∷ [], kept)) b);
-  bars_stand = bars_push new.slots bars (length old.slots) d.bars_stand (record { kept = record { nogood = way; forever = true; locked = false }; stands = d.stands; forever = refl; local = local }) d.below;
+  blocked = λ p S b. d.blocked p S (blocked_stay p old.slots slots S (grows_forever old.slots slots (added_stays old.slots slots id newest kind.Forever a)) b);
+  blocking_stand =
+      blocking_push new.slots blocking id d.blocking_stand
+      (record { kept = record { nogood = newest; kind = kind.Forever; locked = false }; stands = d.stands; forever = refl; local = local }) d.apart;
 }
   where
-    cases : (j : ℕ) (n : Nogood) → (nogood_at old.slots j ≡ Some n) ⊎ (way ≡ n) → (nogood_at old.slots j ≡ Some n) ⊎ (n ≡ way)
+    cases : (j : ℕ) (n : Nogood) → (nogood_at old.slots j ≡ Some n) ⊎ (newest ≡ n) → (nogood_at old.slots j ≡ Some n) ⊎ (n ≡ newest)
     cases j n (inl q) = inl q
     cases j n (inr e) = inr (sym e)
 
@@ -157,47 +155,47 @@ init_last (x ∷ y ∷ ys) zero d h = absurd (omega (arith, h))
 init_last (x ∷ xs) (suc n) d h = ap (λ (zs : List ℕ). x ∷ zs) (init_last xs n d (omega (arith, h)))
 
 -- dropping it
-module _ (slots : List (Option Kept)) (bars rest : List ℕ) (id : ℕ) (lits : List Literal) (es : List Entry) (is : bars ≡ rest ++ id ∷ []) (b : AreBars slots bars) (spare : IsSpare slots es lits id) where
-  split : AreBars slots (rest ++ id ∷ [])
-  split = subst (AreBars slots) is b
+module _ (slots : List (Option StoredNogood)) (blocking rest : List ℕ) (id : ℕ) (lits : List Literal) (es : List Entry) (is : blocking ≡ rest ++ id ∷ []) (b : AreBlocking slots blocking) (redundant : IsRedundant slots es lits id) where
+  split : AreBlocking slots (rest ++ id ∷ [])
+  split = subst (AreBlocking slots) is b
 
-  pub newest_bar : IsBar slots id
-  newest_bar = subst (IsBar slots) (end rest) (split.each (length rest) id (omega (arith, length-append rest (id ∷ []))))
+  pub newest_blocking : IsBlocking slots id
+  newest_blocking = subst (IsBlocking slots) (end rest) (split.each (length rest) id (omega (arith, length-append rest (id ∷ []))))
     where
       end : (xs : List ℕ) → get_or (xs ++ id ∷ []) (length xs) id ≡ id
       end [] = refl
       end (x ∷ xs) = end xs
 
-  pub newest_drops : (way : Nogood) (n : ℕ) (first : List (Option Kept)) → way.lits ≡ lits → Drops way n first slots bars → Drops way n first (set slots id None) rest
-  newest_drops way n first same d =
-      let k : nogood_at slots id ≡ Some newest_bar.kept.nogood = nogood_kept slots id newest_bar.kept newest_bar.stands in
-      drop_one way n id first slots rest newest_bar.kept.nogood split k
-      (subst (λ (xs : List Literal). IsWithin xs newest_bar.kept.nogood.lits) (sym same) (spare.within newest_bar.kept.nogood k))
-      (subst (Drops way n first slots) is d)
+  pub newest_drops : (newest : Nogood) (n : ℕ) (first : List (Option StoredNogood)) → newest.lits ≡ lits → Drops newest n first slots blocking → Drops newest n first (set slots id None) rest
+  newest_drops newest n first same d =
+      let k : nogood_at slots id ≡ Some newest_blocking.kept.nogood = nogood_kept slots id newest_blocking.kept newest_blocking.stands in
+      drop_one newest n id first slots rest newest_blocking.kept.nogood split k
+      (subst (λ (xs : List Literal). IsWithin xs newest_blocking.kept.nogood.lits) (sym same) (redundant.within newest_blocking.kept.nogood k))
+      (subst (Drops newest n first slots) is d)
 
-  pub newest_gone : AreBars (set slots id None) rest
-  newest_gone = let parts = bars_pop slots rest id split in removed_bars slots rest id parts.1 parts.0
+  pub newest_gone : AreBlocking (set slots id None) rest
+  newest_gone = let parts = blocking_pop slots rest id split in removed_blocking slots rest id parts.1 parts.0
 
 -- the last of the list, where it was dropped
-pub last_dropped : (t u : SearchView) (bars new : List ℕ) (n id : ℕ) (lits : List Literal) → n + 1 ≡ length bars → id ≡ get_or bars n id → AreBars t.slots bars → IsSpare t.slots t.entries lits id →
-    u ≡ record t { slots = set t.slots id None } → new ≡ take n bars →
-    AreBars u.slots new × ((way : Nogood) (j : ℕ) (first : List (Option Kept)) → way.lits ≡ lits → Drops way j first t.slots bars → Drops way j first u.slots new)
-last_dropped t u bars new n id lits size at stand spare gone short =
-    let is : bars ≡ take n bars ++ id ∷ [] = init_last bars n id size ∙ ap (λ (i : ℕ). take n bars ++ i ∷ []) (sym at) in
+pub last_dropped : (t u : SearchView) (blocking new : List ℕ) (n id : ℕ) (lits : List Literal) → n + 1 ≡ length blocking → id ≡ get_or blocking n id → AreBlocking t.slots blocking → IsRedundant t.slots t.entries lits id →
+    u ≡ record t { slots = set t.slots id None } → new ≡ take n blocking →
+    AreBlocking u.slots new × ((newest : Nogood) (j : ℕ) (first : List (Option StoredNogood)) → newest.lits ≡ lits → Drops newest j first t.slots blocking → Drops newest j first u.slots new)
+last_dropped t u blocking new n id lits size at stand redundant gone short =
+    let is : blocking ≡ take n blocking ++ id ∷ [] = init_last blocking n id size ∙ ap (λ (i : ℕ). take n blocking ++ i ∷ []) (sym at) in
     let slots : set t.slots id None ≡ u.slots = sym (ap (λ (x : SearchView). x.slots) gone) in (
-      subst (AreBars u.slots) (sym short) (subst (λ (xs : List (Option Kept)). AreBars xs (take n bars)) slots (newest_gone t.slots bars (take n bars) id lits t.entries is stand spare)),
-      λ way j first same d.
-          subst (Drops way j first u.slots) (sym short)
-          (subst (λ (xs : List (Option Kept)). Drops way j first xs (take n bars)) slots (newest_drops t.slots bars (take n bars) id lits t.entries is stand spare way j first same d)),
+      subst (AreBlocking u.slots) (sym short) (subst (λ (xs : List (Option StoredNogood)). AreBlocking xs (take n blocking)) slots (newest_gone t.slots blocking (take n blocking) id lits t.entries is stand redundant)),
+      λ newest j first same d.
+          subst (Drops newest j first u.slots) (sym short)
+          (subst (λ (xs : List (Option StoredNogood)). Drops newest j first xs (take n blocking)) slots (newest_drops t.slots blocking (take n blocking) id lits t.entries is stand redundant newest j first same d)),
     )
 
 -- the slots alone changed, and then once more
 pub slots_twice : (t a b : SearchView) → a ≡ record t { slots = a.slots } → b ≡ record a { slots = b.slots } → b ≡ record t { slots = b.slots }
 slots_twice t a b first second = second ∙ ap (λ (x : SearchView). let y : SearchView = record x { slots = b.slots } in y) first
 
--- a bar is a nogood
-pub bar_has : (slots : List (Option Kept)) (id : ℕ) → IsBar slots id → IsSome (nogood_at slots id)
-bar_has slots id b = some (nogood_at slots id) b.kept.nogood (nogood_kept slots id b.kept b.stands)
+-- a blocking number is of a nogood
+pub blocking_has : (slots : List (Option StoredNogood)) (id : ℕ) → IsBlocking slots id → IsSome (nogood_at slots id)
+blocking_has slots id b = some (nogood_at slots id) b.kept.nogood (nogood_kept slots id b.kept b.stands)
   where
     some : (o : Option Nogood) (n : Nogood) → o ≡ Some n → IsSome o
     some None n q = absurd (none n q)
@@ -215,18 +213,18 @@ pub some_is : (o : Option Nogood) → IsSome o → (n : Nogood) × (o ≡ Some n
 some_is None h = cc
 some_is (Some n) h = (n, refl)
 
-pub spare_from : (vars : ℕ) (slots : List (Option Kept)) (es : List Entry) (lits : List Literal) (id : ℕ) (n : Nogood) → IsOrdered vars es → AreReasoned (nogood_at slots) es → nogood_at slots id ≡ Some n →
-    starts_with literal_eq n.lits lits ≡ true → All (λ l. reason_in es l.var ≢ Some id) n.lits → IsSpare slots es lits id
-spare_from vars slots es lits id n o r k begins none = record {
+pub redundant_from : (vars : ℕ) (slots : List (Option StoredNogood)) (es : List Entry) (lits : List Literal) (id : ℕ) (n : Nogood) → IsOrdered vars es → AreReasoned (nogood_at slots) es → nogood_at slots id ≡ Some n →
+    starts_with literal_eq n.lits lits ≡ true → All (λ l. reason_in es l.var ≢ Some id) n.lits → IsRedundant slots es lits id
+redundant_from vars slots es lits id n o r k begins none = record {
   within = λ m q. subst (λ (x : Nogood). IsWithin lits x.lits) (same_nogood n m (sym k ∙ q)) (begins_within n.lits lits begins);
   unnamed = unnamed vars (nogood_at slots) es id n o r k none;
 }
 
--- ---- the state, where the way was kept, a level taken back, and bars were dropped
-pub block_same : (t a b u : SearchView) (k : ℕ) (way : Nogood) → k ≡ length t.decisions - 1 → a ≡ record t { slots = t.slots ++ kept_way way ∷ [] } →
+-- ---- the state, where the newest was kept, a level taken back, and others were dropped
+pub block_same : (t a b u : SearchView) (k : ℕ) → k ≡ length t.decisions - 1 → a ≡ record t { slots = a.slots } →
     b ≡ record a { decisions = take k a.decisions; entries = cut k a.entries; ranking = b.ranking } → u ≡ record b { slots = u.slots } →
     u ≡ record t { entries = cut (length t.decisions - 1) t.entries; decisions = take (length t.decisions - 1) t.decisions; slots = u.slots; ranking = u.ranking }
-block_same t a b u k way count keep undo drop =
+block_same t a b u k count keep undo drop =
     let order : b.ranking ≡ u.ranking = sym (ap (λ (x : SearchView). x.ranking) drop) in
     let first : SearchView → SearchView = λ x. record x { decisions = take k x.decisions; entries = cut k x.entries; ranking = b.ranking } in
     let second : SearchView → SearchView = λ x. record x { slots = u.slots } in
@@ -234,21 +232,21 @@ block_same t a b u k way count keep undo drop =
     let fourth : Ranking → SearchView = λ r. record t { entries = cut (length t.decisions - 1) t.entries; decisions = take (length t.decisions - 1) t.decisions; slots = u.slots; ranking = r } in
     drop ∙ (ap second (undo ∙ ap first keep) ∙ (ap third count ∙ ap fourth order))
 
--- the bars stand there
-pub block_bars : (t a b : SearchView) (k : ℕ) (way : Nogood) (bars : List ℕ) → AreBars t.slots bars → a ≡ record t { slots = t.slots ++ kept_way way ∷ [] } →
-    b ≡ record a { decisions = take k a.decisions; entries = cut k a.entries; ranking = b.ranking } → AreBars b.slots bars
-block_bars t a b k way bars stand keep undo =
-    subst (λ (xs : List (Option Kept)). AreBars xs bars) (sym (ap (λ (x : SearchView). x.slots) undo ∙ ap (λ (x : SearchView). x.slots) keep)) (drop_none way t.slots bars stand).bars_stand
+-- the blocking ones stand there
+pub block_blocking : (t a b : SearchView) (k id : ℕ) (newest : Nogood) (blocking : List ℕ) → AreBlocking t.slots blocking → IsAddedAt t.slots a.slots id newest kind.Forever →
+    b ≡ record a { decisions = take k a.decisions; entries = cut k a.entries; ranking = b.ranking } → AreBlocking b.slots blocking
+block_blocking t a b k id newest blocking stand keep undo =
+    subst (λ (xs : List (Option StoredNogood)). AreBlocking xs blocking) (sym (ap (λ (x : SearchView). x.slots) undo)) (drop_none newest t.slots a.slots id blocking keep stand).blocking_stand
 
 -- all of it, where the new nogood is listed
-pub block_done : (t a b u : SearchView) (k id : ℕ) (q : List Literal) (way : Nogood) (lits : List Literal) (old bars new : List ℕ) → way ≡ way_of q t.decisions → lits ≡ way.lits → AreBars t.slots old →
-    k ≡ length t.decisions - 1 → a ≡ record t { slots = t.slots ++ kept_way way ∷ [] } → b ≡ record a { decisions = take k a.decisions; entries = cut k a.entries; ranking = b.ranking } →
-    u ≡ record b { slots = u.slots } → ((w : Nogood) (j : ℕ) (first : List (Option Kept)) → w.lits ≡ lits → Drops w j first b.slots old → Drops w j first u.slots bars) →
-    id ≡ length t.slots → new ≡ bars ++ id ∷ [] → Blocks (way_of q t.decisions) t u new
-block_done t a b u k id q way lits old bars new is same stand count keep undo drop step number pushed =
-    let first : List (Option Kept) = t.slots ++ kept_way way ∷ [] in
-    let begun : Drops way (length t.slots) first b.slots old =
-    subst (λ (xs : List (Option Kept)). Drops way (length t.slots) first xs old) (sym (ap (λ (x : SearchView). x.slots) undo ∙ ap (λ (x : SearchView). x.slots) keep)) (drop_none way t.slots old stand) in
-    let done : Blocks way t u (bars ++ length t.slots ∷ []) =
-    drop_done way t u first bars (ap (λ (n : Nogood). n.base) is) refl (block_same t a b u k way count keep undo drop) (step way (length t.slots) first (sym same) begun) in
-    subst (λ (n : Nogood). Blocks n t u new) is (subst (Blocks way t u) (sym (pushed ∙ ap (λ (i : ℕ). bars ++ i ∷ []) number)) done)
+pub block_done : (t a b u : SearchView) (k id : ℕ) (q : List Literal) (newest : Nogood) (lits : List Literal) (old blocking new : List ℕ) → newest ≡ blocking_nogood q t.decisions → lits ≡ newest.lits →
+    AreBlocking t.slots old → k ≡ length t.decisions - 1 → a ≡ record t { slots = a.slots } → IsAddedAt t.slots a.slots id newest kind.Forever →
+    b ≡ record a { decisions = take k a.decisions; entries = cut k a.entries; ranking = b.ranking } → u ≡ record b { slots = u.slots } →
+    ((w : Nogood) (j : ℕ) (first : List (Option StoredNogood)) → w.lits ≡ lits → Drops w j first b.slots old → Drops w j first u.slots blocking) →
+    new ≡ blocking ++ id ∷ [] → Blocks (blocking_nogood q t.decisions) t u new
+block_done t a b u k id q newest lits old blocking new is same stand count keep added undo drop step pushed =
+    let begun : Drops newest id a.slots b.slots old =
+    subst (λ (xs : List (Option StoredNogood)). Drops newest id a.slots xs old) (sym (ap (λ (x : SearchView). x.slots) undo)) (drop_none newest t.slots a.slots id old added stand) in
+    let done : Blocks newest t u (blocking ++ id ∷ []) =
+    drop_done newest t u a.slots id blocking (ap (λ (n : Nogood). n.base) is) added (block_same t a b u k count keep undo drop) (step newest id a.slots (sym same) begun) in
+    subst (λ (n : Nogood). Blocks n t u new) is (subst (Blocks newest t u) (sym pushed) done)

@@ -13,7 +13,7 @@ use Rattle.asp_trail.specs.Quiet.{is_violated}
 use Rattle.asp_trail.specs.Trails.{IsOrdered, IsVar}
 use Rattle.asp_trail.proofs.QuietLaws.{list_all_at}
 use Rattle.asp_trail.proofs.HoldLaws.{holds_found}
-use Rattle.asp_store.specs.declared.kept.Kept.{Kept}
+use Rattle.asp_store.specs.declared.stored_nogood.StoredNogood.{StoredNogood}
 use Rattle.asp_store.specs.Keeping.{nogood_at}
 use Rattle.asp_store.specs.Walking.{IsViolated}
 use Rattle.asp_analyze.specs.Learning.{Used, IsReached, AreContained, AreAssumed, IsLearned, nogood_of}
@@ -38,16 +38,16 @@ pub contained : (vars : ℕ) (es : List Entry) (n : List Literal) → is_violate
 contained vars es n h i d k = list_all_at (holds_in (assignment vars es)) n _ h (has_at n i d k)
 
 -- the violated nogood is the one that the store gives
-pub violated_is : (vars : ℕ) (slots : List (Option Kept)) (es : List Entry) (id : ℕ) (n : Nogood) → Some n ≡ nogood_at slots id → IsViolated vars slots es id → is_violated (assignment vars es) n.lits ≡ true
+pub violated_is : (vars : ℕ) (slots : List (Option StoredNogood)) (es : List Entry) (id : ℕ) (n : Nogood) → Some n ≡ nogood_at slots id → IsViolated vars slots es id → is_violated (assignment vars es) n.lits ≡ true
 violated_is vars slots es id n q v =
     subst (λ (m : Nogood). is_violated (assignment vars es) m.lits ≡ true) (ap (λ (o : Option Nogood). unwrap_or o n) (sym v.1 ∙ sym q)) v.2
 
-pub violated_at : (vars wars : ℕ) (slots tlots : List (Option Kept)) (es fs : List Entry) (id : ℕ) → wars ≡ vars → tlots ≡ slots → fs ≡ es → IsViolated vars slots es id → IsViolated wars tlots fs id
+pub violated_at : (vars wars : ℕ) (slots tlots : List (Option StoredNogood)) (es fs : List Entry) (id : ℕ) → wars ≡ vars → tlots ≡ slots → fs ≡ es → IsViolated vars slots es id → IsViolated wars tlots fs id
 violated_at vars wars slots tlots es fs id v s e h =
     subst (λ (n : ℕ). IsViolated n tlots fs id) (sym v)
-    (subst (λ (xs : List (Option Kept)). IsViolated vars xs fs id) (sym s) (subst (λ (xs : List Entry). IsViolated vars slots xs id) (sym e) h))
+    (subst (λ (xs : List (Option StoredNogood)). IsViolated vars xs fs id) (sym s) (subst (λ (xs : List Entry). IsViolated vars slots xs id) (sym e) h))
 
-pub explained : {E : Type 0} (r : Result Learned E) (vars : ℕ) (slots : List (Option Kept)) (es : List Entry) (id : ℕ) (from : Nogood) → Some from ≡ nogood_at slots id →
+pub explained : {E : Type 0} (r : Result Learned E) (vars : ℕ) (slots : List (Option StoredNogood)) (es : List Entry) (id : ℕ) (from : Nogood) → Some from ≡ nogood_at slots id →
     is_violated (assignment vars es) from.lits ≡ true → IfOk r (λ l. (used : List Used) × IsReached (nogood_at slots) es from used (nogood_of l)) →
     IfOk r (λ l. AreContained vars es (nogood_of l).lits) → IfOk r (λ l. AreAssumed es (nogood_of l).lits) → IfOk r (IsLearned es from.lits) → IfOk r (Explains vars slots es id)
 explained (Ok l) vars slots es id from q v reached contained assumed learned =
@@ -55,12 +55,12 @@ explained (Ok l) vars slots es id from q v reached contained assumed learned =
 explained (Err e) vars slots es id from q v reached contained assumed learned = tt
 
 -- the same, where the trail and the store are the state's
-pub explained_at : {E : Type 0} (r : Result Learned E) (vars wars : ℕ) (slots tlots : List (Option Kept)) (es fs : List Entry) (id : ℕ) (from : Nogood) → wars ≡ vars → tlots ≡ slots → fs ≡ es →
+pub explained_at : {E : Type 0} (r : Result Learned E) (vars wars : ℕ) (slots tlots : List (Option StoredNogood)) (es fs : List Entry) (id : ℕ) (from : Nogood) → wars ≡ vars → tlots ≡ slots → fs ≡ es →
     Some from ≡ nogood_at tlots id → IsViolated vars slots es id → IfOk r (λ l. (used : List Used) × IsReached (nogood_at tlots) fs from used (nogood_of l)) →
     IfOk r (λ l. AreContained wars fs (nogood_of l).lits) → IfOk r (λ l. AreAssumed fs (nogood_of l).lits) → IfOk r (IsLearned fs from.lits) → IfOk r (Explains vars slots es id)
 explained_at r vars wars slots tlots es fs id from v s e q violated reached contained assumed learned =
     subst (λ (n : ℕ). IfOk r (Explains n slots es id)) v
-    (subst (λ (xs : List (Option Kept)). IfOk r (Explains wars xs es id)) s
+    (subst (λ (xs : List (Option StoredNogood)). IfOk r (Explains wars xs es id)) s
     (subst (λ (xs : List Entry). IfOk r (Explains wars tlots xs id)) e
     (explained r wars tlots fs id from q (violated_is wars tlots fs id from q (violated_at vars wars slots tlots es fs id v s e violated)) reached contained assumed learned)))
 

@@ -16,9 +16,9 @@ use Rattle.asp_vars.proofs.LiteralLaws.{and_left}
 use Rattle.asp_trail.specs.declared.trail.Entry.{Entry}
 use Rattle.asp_trail.specs.Entries.{level_in}
 use Rattle.asp_trail.specs.Trails.{IsOrdered, IsVar}
-use Rattle.asp_store.specs.declared.kept.Kept.{Kept}
+use Rattle.asp_store.specs.declared.stored_nogood.StoredNogood.{StoredNogood}
 use Rattle.asp_store.specs.Keeping.{nogood_at}
-use Rattle.asp_store.specs.Visiting.{AreSmall}
+use Rattle.asp_store.specs.Fitting.{AreSmall}
 use Rattle.asp_trail_laws.specs.Starts.{AreStarts}
 use Rattle.asp_trail_laws.proofs.LitLaws.{eq_itself}
 use Rattle.asp_trail_laws.proofs.PlaceLaws.{blank, level_at}
@@ -74,7 +74,7 @@ shared_by p known bound base.Pure lits e good = good
 shared_by p known bound (base.Below c) lits e good = good
 shared_by p known bound base.Local lits e good = absurd (false≢true e)
 
-pub kept_shared : (p : Program) (known : List Atoms) (bound : Option (List ℤ)) (slots : List (Option Kept)) (id : ℕ) (n : Nogood) → AreUseful p known bound slots → AreSmall (var_count p) slots →
+pub kept_shared : (p : Program) (known : List Atoms) (bound : Option (List ℤ)) (slots : List (Option StoredNogood)) (id : ℕ) (n : Nogood) → AreUseful p known bound slots → AreSmall (var_count p) slots →
     nogood_at slots id ≡ Some n → is_shared n ≡ true → IsShared p n
 kept_shared p known bound slots id n useful small q e = record {
   variables = small id n q;

@@ -24,30 +24,31 @@ use Rattle.asp_vars.specs.declared.nogood.Nogood.{Nogood}
 use Rattle.asp_vars.proofs.LiteralLaws.{hits-append, same_literal}
 use Rattle.asp_trail.specs.declared.trail.Entry.{Entry}
 use Rattle.asp_trail.specs.Entries.{assignment, level, level_in, cut}
-use Rattle.asp_store.specs.declared.kept.Kept.{Kept}
-use Rattle.asp_store.specs.Keeping.{nogood_at}
+use Rattle.asp_store.specs.declared.stored_nogood.StoredNogood.{StoredNogood}
+use Rattle.asp_store.specs.declared.stored_nogood.Kind.TheVariants as kind
+use Rattle.asp_store.specs.Keeping.{nogood_at, IsAddedAt}
 use Rattle.asp_order.specs.Heaps.{Ranking}
 use Rattle.asp_analyze.specs.Learning.{AreContained, IsJump}
 use Rattle.asp_analyze.specs.declared.learn.Learned.TheVariants as learned
 use Rattle.asp_order.specs.Pacing.{Paced}
 use Rattle.asp_order.specs.Waiting.{IsNext}
-use Rattle.asp_propagate.specs.Propagating.{IsQuiet}
+use Rattle.asp_propagate.specs.Propagating.{IsQuiet, IsReduced}
 use Rattle.asp_trail_laws.proofs.HitLaws.{clash_settled}
 use Rattle.asp_trail_laws.proofs.LitLaws.{only_one}
 use Rattle.asp_trail_laws.proofs.PlaceLaws.{level_last}
 use Rattle.asp_search_laws.specs.Axioms.{IsAxiom, AreDerived, IsDerived}
 use Rattle.asp_search_laws.specs.Keeping.{Grows}
 use Rattle.asp_search_laws.specs.Searching.{Searching}
-use Rattle.asp_search_laws.specs.Steps.{HasSameTask, IsBeside, IsConflictOf, burnt, FollowsByLast, Learns, Stops, Closes, Decides, Restarts, IsDue, Answers, way_of, Fails, IsFailure}
-use Rattle.asp_search_laws.proofs.DerivedLaws.{derived_same, derived_push, derived_none}
+use Rattle.asp_search_laws.specs.Steps.{HasSameTask, IsBeside, IsConflictOf, burnt, FollowsByLast, Learns, Stops, Closes, Decides, Restarts, IsDue, Answers, blocking_nogood, Fails, IsFailure}
+use Rattle.asp_search_laws.proofs.DerivedLaws.{derived_same, derived_added, derived_none}
 use Rattle.asp_search_laws.proofs.JumpLaws.{before_newest, jump_beside}
-use Rattle.asp_search_laws.proofs.SlotLaws.{nogood_kept, push_newest, reduced_none, grows_none}
+use Rattle.asp_search_laws.proofs.SlotLaws.{nogood_kept, added_stays, added_newest, reduced_none, grows_none}
 use Rattle.asp_search_laws.proofs.StepLaws.{Continues}
 use Rattle.asp_state.specs.SearchStates.{SearchView, values_of, Clashes}
 use Rattle.asp_search.specs.Blocking.{Blocks}
 use Rattle.asp_search.specs.Invariants.{view_of}
 use Rattle.asp_search.specs.Meeting.{IsMet, ShowsConflict, IsClashOf}
-use Rattle.asp_search.specs.Stepping.{IsFound, MayReduce}
+use Rattle.asp_search.specs.Stepping.{IsFound}
 use Rattle.asp_search.proofs.MeetLaws.{met_within, met_settled, met_derived, met_jump}
 
 module _ (gives : Nogood → Type 0) (md : Mode) (t : SearchView) (c : Paced) (known : List Atoms) (last : Option ℕ) where
@@ -148,20 +149,19 @@ module _ (gives : Nogood → Type 0) (md : Mode) (t : SearchView) (c : Paced) (k
       })
 
   -- ---- learnt
-  pub met_learns : (q : List Literal) (f g : Units) (x : Clash) (u : SearchView) (d : Paced) (ranking : Ranking) (id new to : ℕ) (n : Nogood) (lit : Literal) →
-      IsMet (view_of md t c known last) q id (learned.Jump n to lit) → IsConflictOf (view_of md t c known last) q x → 0 < f.left → g ≡ burnt f x → new ≡ length t.slots →
+  pub met_learns : (q : List Literal) (f g : Units) (x : Clash) (u : SearchView) (d : Paced) (slots : List (Option StoredNogood)) (ranking : Ranking) (id new to : ℕ) (n : Nogood) (lit : Literal) →
+      IsMet (view_of md t c known last) q id (learned.Jump n to lit) → IsConflictOf (view_of md t c known last) q x → 0 < f.left → g ≡ burnt f x → IsAddedAt t.slots slots new n kind.Learnt →
       u ≡ record t {
         entries = cut to t.entries ++ record { lit = lit; level = level (cut to t.entries); reason = Some new } ∷ [];
         decisions = take to t.decisions;
-        slots = t.slots ++ Some (record { nogood = n; forever = false; locked = false }) ∷ [];
+        slots = slots;
         ranking = ranking;
       } → d ≡ record c { learnt = min (c.learnt + 1) (2 ^ 64 - 1) } → Learns gives (view_of md t c known last) (view_of md u d known (Some new)) q f g
-  met_learns q f g x u d ranking id new to n lit m conflict left paid number e pace =
+  met_learns q f g x u d slots ranking id new to n lit m conflict left paid added e pace =
       let s : Searching = view_of md t c known last in
       let vars = var_count t.program in
       let entry : Entry = record { lit = lit; level = level (cut to t.entries); reason = Some new } in
-      let k : Kept = record { nogood = n; forever = false; locked = false } in
-      let after : SearchView = record t { entries = cut to t.entries ++ entry ∷ []; decisions = take to t.decisions; slots = t.slots ++ Some k ∷ []; ranking = ranking } in
+      let after : SearchView = record t { entries = cut to t.entries ++ entry ∷ []; decisions = take to t.decisions; slots = slots; ranking = ranking } in
       let later : Paced = record c { learnt = min (c.learnt + 1) (2 ^ 64 - 1) } in
       let j : IsJump t.entries m.explains.from.lits n.lits to lit = met_jump md t c known last q id n to lit m in
       let start : take (length (cut to t.entries ++ entry ∷ []) - 1) (cut to t.entries ++ entry ∷ []) ≡ cut to t.entries = before_newest (cut to t.entries) (cut to t.entries ++ entry ∷ []) entry refl in
@@ -170,7 +170,7 @@ module _ (gives : Nogood → Type 0) (md : Mode) (t : SearchView) (c : Paced) (k
         id = new;
         nogood = n;
         last = refl;
-        kept = ap (nogood_at (t.slots ++ Some k ∷ [])) number ∙ nogood_kept (t.slots ++ Some k ∷ []) (length t.slots) k (push_newest t.slots k);
+        kept = added_newest t.slots slots new n kind.Learnt added;
         entry = entry;
         newest = ap (λ (xs : List Entry). xs ++ entry ∷ []) (sym start);
         has = j.has;
@@ -181,8 +181,8 @@ module _ (gives : Nogood → Type 0) (md : Mode) (t : SearchView) (c : Paced) (k
         burns = record { clash = x; conflict = conflict; left = left; paid = paid };
         follows = follows;
         decisions = (to, refl);
-        grows = (Some k ∷ [], refl);
-        derived = derived_push t.program gives t.bound t.slots k (met_derived md t c known last q id gives (learned.Jump n to lit) m);
+        grows = added_stays t.slots slots new n kind.Learnt added;
+        derived = derived_added t.program gives t.bound t.slots slots new n kind.Learnt added (met_derived md t c known last q id gives (learned.Jump n to lit) m);
         learnt = refl;
         restarts = refl;
       } in
@@ -224,7 +224,7 @@ module _ (gives : Nogood → Type 0) (md : Mode) (t : SearchView) (c : Paced) (k
       subst (λ (y : SearchView). Decides gives silent s (view_of md y c known last) f f) (sym e) decides
 
   -- ---- propagation
-  pub continues_from : (es : List Entry) (slots : List (Option Kept)) (new : Option ℕ) (u : SearchView) → u ≡ record t { entries = es; slots = slots } → Grows t.slots slots →
+  pub continues_from : (es : List Entry) (slots : List (Option StoredNogood)) (new : Option ℕ) (u : SearchView) → u ≡ record t { entries = es; slots = slots } → Grows t.slots slots →
       AreDerived t.program gives t.bound (nogood_at t.slots) (nogood_at slots) → length t.entries ≤ length es →
       Continues gives (view_of md t c known last) (view_of md u c known new)
   continues_from es slots new u e grows derived longer =
@@ -283,14 +283,8 @@ all_low (x ∷ xs) a =
 pub level_cut : (es : List Entry) → level (cut 0 es) ≡ 0
 level_cut es = all_low (cut 0 es) (filter_passes (λ (e : Entry). leb e.level 0) es)
 
-reduced_derived : (gives : Nogood → Type 0) (s : Searching) (es : List Entry) (new : List (Option Kept)) → MayReduce es s.slots new →
-    AreDerived s.program gives s.bound (nogood_at s.slots) (nogood_at new)
-reduced_derived gives s es new (inl e) =
-    subst (λ (xs : List (Option Kept)). AreDerived s.program gives s.bound (nogood_at s.slots) (nogood_at xs)) (sym e) (derived_same s.program gives s.bound s.slots)
-reduced_derived gives s es new (inr r) = derived_none s.program gives s.bound s.slots new (reduced_none es s.slots new r)
-
-pub restarts_from : (gives : Nogood → Type 0) (s t : Searching) (f : Units) (slots : List (Option Kept)) (ranking : Ranking) → s.last ≡ None → IsDue s.restarts s.learnt →
-    MayReduce (cut 0 s.entries) s.slots slots →
+pub restarts_from : (gives : Nogood → Type 0) (s t : Searching) (f : Units) (slots : List (Option StoredNogood)) (ranking : Ranking) → s.last ≡ None → IsDue s.restarts s.learnt →
+    IsReduced (cut 0 s.entries) s.slots slots →
     t ≡ record s {
       entries = cut 0 s.entries;
       decisions = [];
@@ -307,37 +301,37 @@ restarts_from gives s t f slots ranking none due reduced e =
       due = due;
       level = level_cut s.entries;
       decisions = refl;
-      derived = reduced_derived gives s (cut 0 s.entries) slots reduced;
+      derived = derived_none s.program gives s.bound s.slots slots (reduced_none (cut 0 s.entries) s.slots slots reduced);
       learnt = refl;
       restarts = refl;
       last = none;
     })
 
 -- ---- an answer
-way_hits : (v : List Bool) (q decisions : List Literal) → hits v (q ++ decisions) ≡ true → hits v q ≡ true
-way_hits v q decisions h = (and_parts (hits v q) (hits v decisions) (sym (hits-append v q decisions) ∙ h)).0
+blocking_hits : (v : List Bool) (q decisions : List Literal) → hits v (q ++ decisions) ≡ true → hits v q ≡ true
+blocking_hits v q decisions h = (and_parts (hits v q) (hits v decisions) (sym (hits-append v q decisions) ∙ h)).0
 
 module _ (gives : Nogood → Type 0) (t u : SearchView) (c : Paced) (known : List Atoms) (last : Option ℕ) (q : List Literal) (S : Atoms) (f : Units) (none : last ≡ None) where
-  pub lists : (bars : List ℕ) → IsFound (view_of mode.Enum t c known last) q S → Blocks (way_of q t.decisions) t u bars →
+  pub lists : (blocking : List ℕ) → IsFound (view_of mode.Enum t c known last) q S → Blocks (blocking_nogood q t.decisions) t u blocking →
       Answers gives (view_of mode.Enum t c known last) (view_of mode.Enum u c (known ++ S ∷ []) last) q f f S
-  lists bars found b = record {
+  lists blocking found b = record {
     program = ap (λ (y : SearchView). y.program) b.same;
     mode = refl;
     cube = ap (λ (y : SearchView). y.cube) b.same;
     fuel = refl;
     stable = found.stable;
-    hit = way_hits (values t.program S) q t.decisions found.hit;
+    hit = blocking_hits (values t.program S) q t.decisions found.hit;
     new = found.new;
     cheaper = found.cheaper;
     settled = found.settled;
-    records = (refl, ap (λ (y : SearchView). y.bound) b.same, (b.id, nogood_kept u.slots b.id (record { nogood = way_of q t.decisions; forever = true; locked = false }) b.stands));
+    records = (refl, ap (λ (y : SearchView). y.bound) b.same, (b.id, nogood_kept u.slots b.id (record { nogood = blocking_nogood q t.decisions; kind = kind.Forever; locked = false }) b.stands));
     derived = λ id n k. cases id n (b.nogoods id n k);
     learnt = refl;
     restarts = refl;
     last = none;
   }
     where
-      cases : (id : ℕ) (n : Nogood) → (nogood_at t.slots id ≡ Some n) ⊎ (n ≡ way_of q t.decisions) → IsDerived t.program gives t.bound (nogood_at t.slots) n ⊎ (n ≡ way_of q t.decisions)
+      cases : (id : ℕ) (n : Nogood) → (nogood_at t.slots id ≡ Some n) ⊎ (n ≡ blocking_nogood q t.decisions) → IsDerived t.program gives t.bound (nogood_at t.slots) n ⊎ (n ≡ blocking_nogood q t.decisions)
       cases id n (inl e) = inl (IsDerived.stands id e)
       cases id n (inr e) = inr e
 
@@ -352,7 +346,7 @@ module _ (gives : Nogood → Type 0) (t u : SearchView) (c : Paced) (known : Lis
         cube = refl;
         fuel = refl;
         stable = found.stable;
-        hit = way_hits (values t.program S) q t.decisions found.hit;
+        hit = blocking_hits (values t.program S) q t.decisions found.hit;
         new = found.new;
         cheaper = found.cheaper;
         settled = found.settled;
@@ -367,13 +361,13 @@ module _ (gives : Nogood → Type 0) (t u : SearchView) (c : Paced) (known : Lis
 pub same_cube : (o : Option (List Literal)) (r q : List Literal) → o ≡ Some r → o ≡ Some q → r ≡ q
 same_cube o r q e f = ap (λ (x : Option (List Literal)). unwrap_or x r) (sym e ∙ f)
 
-pub listed : (gives : Nogood → Type 0) (m : Mode) (t u : SearchView) (c : Paced) (known ks : List Atoms) (last : Option ℕ) (q : List Literal) (S : Atoms) (f : Units) (bars : List ℕ) →
-    m ≡ mode.Enum → last ≡ None → IsFound (view_of m t c known last) q S → ks ≡ known ++ S ∷ [] → Blocks (way_of q t.decisions) t u bars →
+pub listed : (gives : Nogood → Type 0) (m : Mode) (t u : SearchView) (c : Paced) (known ks : List Atoms) (last : Option ℕ) (q : List Literal) (S : Atoms) (f : Units) (blocking : List ℕ) →
+    m ≡ mode.Enum → last ≡ None → IsFound (view_of m t c known last) q S → ks ≡ known ++ S ∷ [] → Blocks (blocking_nogood q t.decisions) t u blocking →
     Answers gives (view_of m t c known last) (view_of m u c ks last) q f f S
-listed gives m t u c known ks last q S f bars enum none found more b =
+listed gives m t u c known ks last q S f blocking enum none found more b =
     subst (λ (x : List Atoms). Answers gives (view_of m t c known last) (view_of m u c x last) q f f S) (sym more)
     (subst (λ (x : Mode). Answers gives (view_of x t c known last) (view_of x u c (known ++ S ∷ []) last) q f f S) (sym enum)
-    (lists gives t u c known last q S f none bars (subst (λ (x : Mode). IsFound (view_of x t c known last) q S) enum found) b))
+    (lists gives t u c known last q S f none blocking (subst (λ (x : Mode). IsFound (view_of x t c known last) q S) enum found) b))
 
 -- the state where a smaller bound was set and all decisions were taken back
 pub improved_track : (p : Program) (t a u : SearchView) (d : List ℤ) (S : Atoms) → p ≡ t.program → d ≡ cost p S → a ≡ record t { bound = Some d } →

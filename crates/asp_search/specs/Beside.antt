@@ -1,10 +1,9 @@
 -- The calls beside a step.
-use Rattle.std.specs.Prelude.{◌≡◌, ℕ, nat_le, ◌==◌, Bool, true, false, ◌&&◌, not, List, length, map, Option, Some, None, option_and_then, if◌then◌else◌, []}
+use Rattle.std.specs.Prelude.{◌≡◌, ℕ, nat_le, ◌==◌, Bool, true, false, ◌&&◌, not, List, length, Option, Some, None, option_and_then, if◌then◌else◌, []}
 use Rattle.std.specs.List.{All, list_any}
 use Rattle.asp_model.specs.declared.program.Program.{Program}
 use Rattle.asp_model.specs.declared.results.Mode.{Mode}
 use Rattle.asp_vars.specs.Literals.{Literal}
-use Rattle.asp_vars.specs.Completion.{completion}
 use Rattle.asp_vars.specs.Entailment.{Entailed, Below}
 use Rattle.asp_vars.specs.Numbering.{var_count}
 use Rattle.asp_vars.specs.declared.nogood.Base.{Base}
@@ -12,13 +11,15 @@ use Rattle.asp_vars.specs.declared.nogood.Base.TheVariants as base
 use Rattle.asp_vars.specs.declared.nogood.Nogood.{Nogood}
 use Rattle.asp_trail.specs.Entries.{level}
 use Rattle.asp_trail.specs.Trails.{IsVar}
-use Rattle.asp_store.specs.Keeping.{nogood_at}
+use Rattle.asp_store.specs.declared.stored_nogood.StoredNogood.{StoredNogood}
+use Rattle.asp_store.specs.declared.stored_nogood.Kind.TheVariants as kind
+use Rattle.asp_store.specs.Keeping.{nogood_at, IsAddedAt}
 use Rattle.asp_search_laws.specs.Searching.{Searching}
-use Rattle.asp_state.specs.SearchStates.{first_ranking, forever}
+use Rattle.asp_state.specs.SearchStates.{first_ranking}
 
--- a search that knows no answer, has no bound and has entered no path
-abbrev pub new_search : Program → Mode → Searching
-new_search p m = record {
+-- a search that knows no answer, has no bound and has entered no path, with the nogoods that it keeps
+abbrev pub new_search : Program → Mode → List (Option StoredNogood) → Searching
+new_search p m slots = record {
   program = p;
   mode = m;
   cube = None;
@@ -27,7 +28,7 @@ new_search p m = record {
   bound = None;
   entries = [];
   decisions = [];
-  slots = map forever (completion p);
+  slots = slots;
   ranking = first_ranking p;
   restarts = 0;
   learnt = 0;
@@ -42,6 +43,12 @@ pub record Enters (s t : Searching) (q : List Literal) : Type 0 where
 -- No path is entered, and else nothing has changed but the order.
 abbrev pub Leaves : Searching → Searching → Type 0
 Leaves s t = t ≡ record s { cube = None; clashing = t.clashing; entries = t.entries; decisions = []; ranking = t.ranking; last = None }
+
+-- Another search's nogood is kept until it is dropped, and else nothing has changed.
+pub record Imports (s t : Searching) (n : Nogood) : Type 0 where
+  pub same : t ≡ record s { slots = t.slots }
+  pub id : ℕ
+  pub added : IsAddedAt s.slots t.slots id n kind.Learnt
 
 -- ---- nogoods for others
 abbrev pub is_local : Base → Bool

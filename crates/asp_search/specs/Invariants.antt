@@ -6,20 +6,20 @@ use Rattle.asp_model.specs.declared.results.Mode.TheVariants as mode
 use Rattle.asp_model.specs.Sets.{Atoms}
 use Rattle.asp_vars.specs.Numbering.{var_count}
 use Rattle.asp_order.specs.Pacing.{Paced}
-use Rattle.asp_search_laws.specs.Keeping.{AreUseful, AreBarred, AreBars, IsLast}
+use Rattle.asp_search_laws.specs.Keeping.{AreUseful, AreBlocked, AreBlocking, IsLast}
 use Rattle.asp_search_laws.specs.Searching.{Searching}
 use Rattle.asp_state.specs.SearchStates.{SearchView}
 
--- The state is of the program and the bound, its nogoods count for the search, each answer known is barred by one that is kept forever,
--- and those that bar one are listed. The checker is of the program. In an optimisation no answer is known.
-pub record IsSearch (p : Program) (m : Mode) (t : SearchView) (vars : ℕ) (checker : Program) (known : List Atoms) (bars : List ℕ) (bound : Option (List ℤ)) (last : Option ℕ) : Type 0 where
+-- The state is of the program and the bound, its nogoods count for the search, each answer known is blocked by one that is kept forever,
+-- and those that block one are listed. The checker is of the program. In an optimisation no answer is known.
+pub record IsSearch (p : Program) (m : Mode) (t : SearchView) (vars : ℕ) (checker : Program) (known : List Atoms) (blocking : List ℕ) (bound : Option (List ℤ)) (last : Option ℕ) : Type 0 where
   pub program : p ≡ t.program
   pub bounded : bound ≡ t.bound
   pub counted : vars ≡ var_count t.program
   pub checked : checker ≡ p
   pub useful : AreUseful t.program known t.bound t.slots
-  pub barred : AreBarred t.program t.slots known
-  pub bars_stand : AreBars t.slots bars
+  pub blocked : AreBlocked t.program t.slots known
+  pub blocking_stand : AreBlocking t.slots blocking
   pub last_stands : IsLast t.slots last
   pub alone : m ≡ mode.Opt → known ≡ []
 

@@ -1,5 +1,5 @@
 -- What the parts of a step rely on.
-use Rattle.std.specs.Prelude.{◌≡◌, ◌⊎◌, ◌++◌, false, List, ◌∷◌, Option, Some, None, IsTrue, []}
+use Rattle.std.specs.Prelude.{◌≡◌, ◌++◌, false, List, ◌∷◌, Option, Some, None, IsTrue, []}
 use Rattle.std.specs.List.{list_any}
 use Rattle.asp_model.specs.Sets.{Atoms, same_set}
 use Rattle.asp_model.specs.Models.{is_stable}
@@ -7,9 +7,6 @@ use Rattle.asp_model.specs.Costs.{cost}
 use Rattle.asp_vars.specs.Literals.{Literal, hits}
 use Rattle.asp_vars.specs.Numbering.{values}
 use Rattle.asp_vars.specs.Entailment.{Settled}
-use Rattle.asp_trail.specs.declared.trail.Entry.{Entry}
-use Rattle.asp_store.specs.declared.kept.Kept.{Kept}
-use Rattle.asp_propagate.specs.Propagating.{IsReduced}
 use Rattle.asp_propagate.specs.Useful.{IsSmaller}
 use Rattle.asp_search_laws.specs.Searching.{Searching}
 
@@ -26,7 +23,3 @@ pub record IsFound (s : Searching) (q : List Literal) (S : Atoms) : Type 0 where
   pub new : list_any (same_set S) s.known ≡ false
   pub cheaper : IsSmaller (cost s.program S) s.bound
   pub settled : Settled s.program (s.known ++ S ∷ []) s.bound (q ++ s.decisions)
-
--- Nogoods may have been dropped.
-abbrev pub MayReduce : List Entry → List (Option Kept) → List (Option Kept) → Type 0
-MayReduce entries old new = (new ≡ old) ⊎ IsReduced entries old new

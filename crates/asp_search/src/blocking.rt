@@ -10,16 +10,16 @@ ghost use Rattle.asp_vars.specs.Literals.{Literal};
 ghost use Rattle.asp_vars.specs.declared.nogood.Nogood.{Nogood};
 ghost use Rattle.asp_trail.specs.Entries.{reason_in};
 ghost use Rattle.asp_trail.specs.Trails.{IsVar};
-ghost use Rattle.asp_store.specs.declared.kept.Kept.{Kept};
+ghost use Rattle.asp_store.specs.declared.stored_nogood.StoredNogood.{StoredNogood};
 ghost use Rattle.asp_store.specs.Keeping.{nogood_at};
-ghost use Rattle.asp_search_laws.specs.Keeping.{AreBars};
-ghost use Rattle.asp_search_laws.specs.Steps.{way_of};
+ghost use Rattle.asp_search_laws.specs.Keeping.{AreBlocking};
+ghost use Rattle.asp_search_laws.specs.Steps.{blocking_nogood};
 ghost use Rattle.asp_state.specs.SearchStates.{IsUnder};
-ghost use Rattle.asp_search.specs.Blocking.{IsSpare, Drops, Blocks};
+ghost use Rattle.asp_search.specs.Blocking.{IsRedundant, Drops, Blocks};
 
 use asp_propagate::propagator::Propagator;
 use asp_state::state::SearchState;
-use asp_store::kept::Kind;
+use asp_store::stored_nogood::Kind;
 use asp_trail::reasons::{NogoodId, Reasons};
 use asp_trail::trail::Trail;
 use asp_vars::lit::{Lit, Var};
@@ -51,9 +51,9 @@ fn is_reason(trail: &Trail, lits: &[Lit], id: NogoodId) -> bool
 }
 
 // Whether the kept nogood begins with these literals and is no reason.
-fn is_spare<P: Propagator>(state: &SearchState<P>, lits: &[Lit], id: NogoodId) -> bool
+fn is_redundant<P: Propagator>(state: &SearchState<P>, lits: &[Lit], id: NogoodId) -> bool
     requires { IsSome (nogood_at state.now.slots id) }
-    ensures { IsTrue result → IsSpare state.now.slots state.now.entries lits.now id }
+    ensures { IsTrue result → IsRedundant state.now.slots state.now.entries lits.now id }
 {
     let old = state.store().lits(id);
     if !old.starts_with(lits) {
@@ -65,61 +65,61 @@ fn is_spare<P: Propagator>(state: &SearchState<P>, lits: &[Lit], id: NogoodId) -
 // Drops the newest nogood of the list if it begins with these literals and is no reason. Says whether it was dropped.
 fn drop_last<P: Propagator>(
     state: &mut SearchState<P>,
-    bars: &mut Vec<NogoodId>,
+    blocking: &mut Vec<NogoodId>,
     lits: &[Lit],
 ) -> bool
-    requires { AreBars state.old.slots bars.old.items }
-    ensures bars { AreBars state.new.slots bars.new.items }
+    requires { AreBlocking state.old.slots blocking.old.items }
+    ensures blocking { AreBlocking state.new.slots blocking.new.items }
     ensures same { state.new ≡ record state.old { slots = state.new.slots } }
-    ensures drops { (way : Nogood) (id : ℕ) (first : List (Option Kept)) → way.lits ≡ lits.now →
-        Drops way id first state.old.slots bars.old.items → Drops way id first state.new.slots bars.new.items }
-    ensures fewer { IsTrue result → vec_len bars.new < vec_len bars.old }
-    ensures len { vec_len bars.new ≤ vec_len bars.old }
-    ensures room { vec_capacity bars.new ≡ vec_capacity bars.old }
+    ensures drops { (newest : Nogood) (id : ℕ) (first : List (Option StoredNogood)) → newest.lits ≡ lits.now →
+        Drops newest id first state.old.slots blocking.old.items → Drops newest id first state.new.slots blocking.new.items }
+    ensures fewer { IsTrue result → vec_len blocking.new < vec_len blocking.old }
+    ensures len { vec_len blocking.new ≤ vec_len blocking.old }
+    ensures room { vec_capacity blocking.new ≡ vec_capacity blocking.old }
 {
-    let len = bars.len();
+    let len = blocking.len();
     if len == 0 {
         return false;
     }
-    let id = bars[len - 1];
-    if !is_spare(state, lits, id) {
+    let id = blocking[len - 1];
+    if !is_redundant(state, lits, id) {
         return false;
     }
     state.remove(id);
-    bars.truncate(len - 1);
+    blocking.truncate(len - 1);
     true
 }
 
 // Drops those that begin with these literals and are no reasons, from the newest on.
-fn drop_all<P: Propagator>(state: &mut SearchState<P>, bars: &mut Vec<NogoodId>, lits: &[Lit])
-    requires { AreBars state.old.slots bars.old.items }
+fn drop_all<P: Propagator>(state: &mut SearchState<P>, blocking: &mut Vec<NogoodId>, lits: &[Lit])
+    requires { AreBlocking state.old.slots blocking.old.items }
     ensures same { state.new ≡ record state.old { slots = state.new.slots } }
-    ensures drops { (way : Nogood) (id : ℕ) (first : List (Option Kept)) → way.lits ≡ lits.now →
-        Drops way id first state.old.slots bars.old.items → Drops way id first state.new.slots bars.new.items }
-    ensures len { vec_len bars.new ≤ vec_len bars.old }
-    ensures room { vec_capacity bars.new ≡ vec_capacity bars.old }
+    ensures drops { (newest : Nogood) (id : ℕ) (first : List (Option StoredNogood)) → newest.lits ≡ lits.now →
+        Drops newest id first state.old.slots blocking.old.items → Drops newest id first state.new.slots blocking.new.items }
+    ensures len { vec_len blocking.new ≤ vec_len blocking.old }
+    ensures room { vec_capacity blocking.new ≡ vec_capacity blocking.old }
 {
-    while drop_last(state, bars, lits) {}
+    while drop_last(state, blocking, lits) {}
 }
 
-/// Keeps the nogood of the way to an answer, and goes back one level.
+/// Keeps the blocking nogood of an answer, and goes back one level.
 pub(crate) fn block<P: Propagator>(
     alloc: Global,
     state: &mut SearchState<P>,
-    bars: &mut Vec<NogoodId>,
+    blocking: &mut Vec<NogoodId>,
 ) -> Result<(), AllocError>
     requires path { (q : List Literal) × IsUnder state.old q }
-    requires bars { AreBars state.old.slots bars.old.items }
-    ensures ok { OnOk result ((q : List Literal) → state.old.cube ≡ Some q → Blocks (way_of q state.old.decisions) state.old state.new bars.new.items) }
-    ensures err { OnErr result ((state.new ≡ state.old) × (bars.new.items ≡ bars.old.items)) }
+    requires blocking { AreBlocking state.old.slots blocking.old.items }
+    ensures ok { OnOk result ((q : List Literal) → state.old.cube ≡ Some q → Blocks (blocking_nogood q state.old.decisions) state.old state.new blocking.new.items) }
+    ensures err { OnErr result ((state.new ≡ state.old) × (blocking.new.items ≡ blocking.old.items)) }
 {
     let _trail = state.trail();
-    let way = state.way(alloc)?;
-    let lits = way.lits.copy()?;
-    bars.reserve(1)?;
-    let id = state.keep(way, Kind::Forever, 0)?;
+    let nogood = state.blocking_nogood(alloc)?;
+    let lits = nogood.lits.copy()?;
+    blocking.reserve(1)?;
+    let id = state.keep(nogood, Kind::Forever, 0)?;
     state.undo_to(state.decisions().len().saturating_sub(1));
-    drop_all(state, bars, lits.as_slice());
-    bars.push_reserved(id);
+    drop_all(state, blocking, lits.as_slice());
+    blocking.push_reserved(id);
     Ok(())
 }

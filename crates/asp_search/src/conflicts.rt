@@ -3,7 +3,9 @@ ghost use Rattle.std.specs.Prelude.{◌≡◌, ◌∷◌, ◌++◌, List, [], So
 ghost use Rattle.asp_vars.specs.Literals.{Literal};
 ghost use Rattle.asp_vars.specs.Numbering.{var_count};
 ghost use Rattle.asp_trail.specs.Entries.{level, cut};
+ghost use Rattle.asp_store.specs.Keeping.{IsAddedAt};
 ghost use Rattle.asp_store.specs.Walking.{IsViolated};
+ghost use Rattle.asp_store.specs.declared.stored_nogood.Kind.TheVariants as kind;
 ghost use Rattle.asp_analyze.specs.Learning.{AreContained, IsJump};
 ghost use Rattle.asp_search_laws.specs.Explaining.{Explains};
 ghost use Rattle.asp_state.specs.SearchStates.{IsUnder};
@@ -15,7 +17,7 @@ use asp_model::cost::Cost;
 use asp_model::interp::Interp;
 use asp_propagate::propagator::Propagator;
 use asp_state::state::SearchState;
-use asp_store::kept::Kind;
+use asp_store::stored_nogood::Kind;
 use asp_trail::reasons::{NogoodId, Reasons};
 use asp_vars::compiled::Compiled;
 use asp_vars::fuel::Conflict;
@@ -99,11 +101,11 @@ pub(crate) fn jump<P: Propagator>(
     requires path { (q : List Literal) × IsUnder state.old q }
     requires contained { AreContained (var_count state.old.program) state.old.entries nogood.lits }
     requires jumps { (from : List Literal) × IsJump state.old.entries from nogood.lits to lit }
-    ensures id { IfOk result (λ id. id ≡ length state.old.slots) }
+    ensures added { IfOk result (λ id. IsAddedAt state.old.slots state.new.slots id nogood kind.Learnt) }
     ensures ok { IfOk result (λ id. state.new ≡ record state.old {
       entries = cut to state.old.entries ++ record { lit = lit; level = level (cut to state.old.entries); reason = Some id } ∷ [];
       decisions = take to state.old.decisions;
-      slots = state.old.slots ++ Some (record { nogood = nogood; forever = false; locked = false }) ∷ [];
+      slots = state.new.slots;
       ranking = state.new.ranking;
     }) }
     ensures err { OnErr result (state.new ≡ record state.old { ranking = state.new.ranking }) }

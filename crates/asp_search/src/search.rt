@@ -11,7 +11,8 @@ ghost use Rattle.asp_trail.specs.Trails.{IsVar};
 ghost use Rattle.asp_store.specs.Keeping.{nogood_at};
 ghost use Rattle.asp_propagate.specs.Useful.{IsSmaller};
 ghost use Rattle.asp_search_laws.specs.Steps.{is_of_use};
-ghost use Rattle.asp_search.specs.Beside.{new_search, Enters, Leaves, is_local, is_shared, only_shared, exported, IsOpen, IsShared, IsSharedBy};
+ghost use Rattle.asp_search.specs.Beside.{new_search, Enters, Leaves, is_local, is_shared, only_shared, exported, Imports, IsOpen, IsShared, IsSharedBy};
+ghost use Rattle.asp_state.specs.SearchStates.{KeepsCompletionAlone};
 
 use crate::spread::Spread;
 use asp_analyze::learn::Learner;
@@ -22,7 +23,7 @@ use asp_order::pace::Pace;
 use asp_propagate::propagator::Propagator;
 use asp_stable::checker::Checker;
 use asp_state::state::SearchState;
-use asp_store::kept::Kind;
+use asp_store::stored_nogood::Kind;
 use asp_store::store::Store;
 use asp_trail::reasons::{NogoodId, Reasons};
 use asp_vars::compiled::Compiled;
@@ -37,17 +38,29 @@ pub const LONGEST_EXPORT: usize = 8;
 /// A search of a program's answers under a cube, a step at a time.
 #[derive(Drop)]
 pub struct Search<'a, P: Propagator> {
+    // where memory comes from
     pub(crate) alloc: Global,
+    // the program, whose atoms and bodies have variables
     pub(crate) compiled: &'a Compiled,
+    // whether all answers are sought, or a cheapest one
     pub(crate) mode: Mode,
+    // the trail under the cube, and the nogoods that are kept
     pub(crate) state: SearchState<P>,
+    // when restarts and reductions are due
     pub(crate) pace: Pace,
+    // what learning takes memory for
     pub(crate) learner: Learner,
+    // what counting levels takes memory for
     pub(crate) spread: Spread,
+    // what checking an answer takes memory for
     pub(crate) checker: Checker<'a>,
+    // in an enumeration the answers found, the oldest first; in an optimisation none
     pub(crate) known: Vec<Interp>,
-    pub(crate) bars: Vec<NogoodId>,
+    // the numbers of the blocking nogoods of answers, the oldest first
+    pub(crate) blocking: Vec<NogoodId>,
+    // the cost below which answers are sought: in an optimisation that of the last answer
     pub(crate) bound: Option<Cost>,
+    // the nogood that the last step learnt
     pub(crate) last: Option<NogoodId>,
 }
 
@@ -59,7 +72,7 @@ impl<'a, P: Propagator> Model for Search<'a, P> {
 
     ghost view = { λ s. view_of s.mode s.state s.pace s.known.items s.last };
 
-    ghost invariant = { λ s. IsSearch s.compiled.now s.mode s.state s.learner s.checker s.known.items s.bars.items s.bound s.last };
+    ghost invariant = { λ s. IsSearch s.compiled.now s.mode s.state s.learner s.checker s.known.items s.blocking.items s.bound s.last };
 }
 
 // Whether a nogood of this base counts for a search, whatever answers it knows.
@@ -124,7 +137,8 @@ impl<'a, P: Propagator> Search<'a, P> {
         requires program { (P.told propagator).program ≡ compiled.now }
         requires fresh { (P.told propagator).values ≡ replicate (var_count compiled.now + 1) None }
         requires unbounded { P.bound propagator ≡ None }
-        ensures { IfOk result (λ s. s ≡ new_search compiled.now mode) }
+        ensures same { IfOk result (λ s. s ≡ new_search compiled.now mode s.slots) }
+        ensures slots { IfOk result (λ s. KeepsCompletionAlone compiled.now s.slots) }
     {
         let vars = compiled.vars();
         let _program = compiled.program();
@@ -142,7 +156,7 @@ impl<'a, P: Propagator> Search<'a, P> {
             spread,
             checker,
             known: Vec::new(alloc),
-            bars: Vec::new(alloc),
+            blocking: Vec::new(alloc),
             bound: None,
             last: None,
         })
@@ -200,13 +214,12 @@ impl<'a, P: Propagator> Search<'a, P> {
         requires vars { All (λ l. IsVar (var_count self.old.program) l.var) nogood.now.lits }
         requires good { IsGood self.old.program self.old.known self.old.bound nogood.now }
         requires useful { is_of_use self.old.mode self.old.bound nogood.now.base ≡ true }
-        ensures ok { OnOk result (self.new ≡ record self.old { slots = self.old.slots ++ Some (record { nogood = nogood.now; forever = false; locked = false }) ∷ [] }) }
+        ensures ok { OnOk result (Imports self.old self.new nogood.now) }
         ensures err { OnErr result (self.new ≡ self.old) }
     {
         let _mode = self.mode;
         let copy = nogood.copy()?;
-        let levels = copy.lits.as_slice().len() as u32;
-        self.state.keep(copy, Kind::Learnt, levels)?;
+        self.state.keep(copy, Kind::Learnt, u32::MAX)?;
         Ok(())
     }
 
@@ -216,8 +229,7 @@ impl<'a, P: Propagator> Search<'a, P> {
         requires vars { All (λ l. IsVar (var_count self.old.program) l.var) nogood.now.lits }
         requires good { nogood.now.base ≢ base.Local → IsSharedBy self.old.program nogood.now.base nogood.now.lits }
         ensures counts { IfOk result (λ b. b ≡ is_of_use self.old.mode self.old.bound nogood.now.base) }
-        ensures ok { IfOk result (λ b. MatchBool b (self.new ≡ record self.old { slots = self.old.slots ++ Some (record { nogood = nogood.now; forever = false; locked = false }) ∷ [] })
-            (self.new ≡ self.old)) }
+        ensures ok { IfOk result (λ b. MatchBool b (Imports self.old self.new nogood.now) (self.new ≡ self.old)) }
         ensures err { OnErr result (Leaves self.old self.new) }
     {
         if !is_of_use(self.mode, &self.bound, &nogood.base) {

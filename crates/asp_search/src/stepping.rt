@@ -12,12 +12,12 @@ ghost use Rattle.asp_vars.specs.Paid.{Units};
 ghost use Rattle.asp_trail.specs.Entries.{cut};
 ghost use Rattle.asp_store.specs.Walking.{IsViolated};
 ghost use Rattle.asp_order.specs.Waiting.{AreAssigned};
-ghost use Rattle.asp_propagate.specs.Propagating.{IsQuiet};
+ghost use Rattle.asp_propagate.specs.Propagating.{IsQuiet, IsReduced};
 ghost use Rattle.asp_search_laws.specs.Searching.{values_now};
 ghost use Rattle.asp_search_laws.specs.Steps.{Answers, IsDue, IsStep, IsFailure};
 ghost use Rattle.asp_analyze.specs.declared.learn.Learned.TheVariants as learned;
 ghost use Rattle.asp_search.specs.Meeting.{IsMet};
-ghost use Rattle.asp_search.specs.Stepping.{IsEntered, IsFound, MayReduce};
+ghost use Rattle.asp_search.specs.Stepping.{IsEntered, IsFound};
 
 use crate::blocking::block;
 use crate::conflicts::{conflict, jump, learn};
@@ -31,7 +31,7 @@ use asp_order::pace::Pace;
 use asp_propagate::propagator::Propagator;
 use asp_search_laws::step::Step;
 use asp_state::state::SearchState;
-use asp_store::kept::Kind;
+use asp_store::stored_nogood::Kind;
 use asp_trail::reasons::NogoodId;
 use asp_vars::fuel::Fuel;
 use asp_vars::lit::Lit;
@@ -48,13 +48,14 @@ fn is_due<P: Propagator>(pace: &Pace, state: &SearchState<P>) -> bool
     pace.is_due()
 }
 
-// Drops nogoods where too many are kept.
-fn reduce<P: Propagator>(state: &mut SearchState<P>, pace: &mut Pace)
+// Drops what propagators gave, and more where too many nogoods are kept.
+fn forget<P: Propagator>(state: &mut SearchState<P>, pace: &mut Pace)
     ensures same { state.new ≡ record state.old { slots = state.new.slots } }
-    ensures reduced { MayReduce state.old.entries state.old.slots state.new.slots }
+    ensures reduced { IsReduced state.old.entries state.old.slots state.new.slots }
     ensures restarts { pace.new.restarts ≡ pace.old.restarts }
     ensures learnt { pace.new.learnt ≡ pace.old.learnt }
 {
+    state.drop_given();
     if !pace.is_full(state.store().extra()) {
         return;
     }
@@ -121,7 +122,7 @@ impl<'a, P: Propagator> Search<'a, P> {
     {
         let copy = interp.copy()?;
         self.known.reserve(1)?;
-        block(self.alloc, &mut self.state, &mut self.bars)?;
+        block(self.alloc, &mut self.state, &mut self.blocking)?;
         self.known.push_reserved(copy);
         Ok(())
     }
@@ -182,7 +183,7 @@ impl<'a, P: Propagator> Search<'a, P> {
         }
     }
 
-    // Takes all decisions back, and drops nogoods where too many are kept.
+    // Takes all decisions back, and drops what propagators gave, and more where too many nogoods are kept.
     fn restart(&mut self)
         requires last { self.old.last ≡ None }
         ensures same { self.new ≡ record self.old {
@@ -193,12 +194,11 @@ impl<'a, P: Propagator> Search<'a, P> {
           restarts = min (self.old.restarts + 1) (2 ^ 64 - 1);
           learnt = 0;
         } }
-        ensures reduced { MayReduce (cut 0 self.old.entries) self.old.slots self.new.slots }
+        ensures reduced { IsReduced (cut 0 self.old.entries) self.old.slots self.new.slots }
     {
         self.state.undo_to(0);
         self.pace.restarted();
-        self.state.drop_given();
-        reduce(&mut self.state, &mut self.pace);
+        forget(&mut self.state, &mut self.pace);
     }
 
     // No conflict: goes on.

@@ -9,13 +9,13 @@ use Rattle.asp_vars.specs.Literals.{Literal}
 use Rattle.asp_vars.specs.Paid.{Clash, Units}
 use Rattle.asp_vars.specs.declared.nogood.Nogood.{Nogood}
 use Rattle.asp_trail.specs.declared.trail.Entry.{Entry}
-use Rattle.asp_store.specs.declared.kept.Kept.{Kept}
+use Rattle.asp_store.specs.declared.stored_nogood.StoredNogood.{StoredNogood}
 use Rattle.asp_store.specs.Keeping.{nogood_at}
 use Rattle.asp_order.specs.Heaps.{Ranking}
 use Rattle.asp_search_laws.specs.Axioms.{AreDerived}
 use Rattle.asp_search_laws.specs.Keeping.{Grows}
 use Rattle.asp_search_laws.specs.Searching.{Searching}
-use Rattle.asp_search_laws.specs.Steps.{HasSameTask, Derives, Decides, IsConflictOf, Burns, Learns, Stops, Closes, Records, IsDerivedOrWay, Answers, Restarts, Steps, Fails, IsStep, IsFailure}
+use Rattle.asp_search_laws.specs.Steps.{HasSameTask, Derives, Decides, IsConflictOf, Burns, Learns, Stops, Closes, Records, IsDerivedOrBlocking, Answers, Restarts, Steps, Fails, IsStep, IsFailure}
 use Rattle.asp_search_laws.specs.declared.step.Step.{Step}
 use Rattle.asp_search_laws.specs.declared.step.Step.TheVariants as step
 use Rattle.asp_search_laws.proofs.SlotLaws.{grows_more}
@@ -29,10 +29,10 @@ pub record Continues (gives : Nogood → Type 0) (s m : Searching) : Type 0 wher
   pub longer : length s.entries ≤ length m.entries
 
 -- the search with these entries and nogoods
-abbrev mid : Searching → List Entry → List (Option Kept) → Ranking → Option ℕ → Searching
+abbrev mid : Searching → List Entry → List (Option StoredNogood) → Ranking → Option ℕ → Searching
 mid s es slots ranking last = record s { entries = es; slots = slots; ranking = ranking; last = last }
 
-module _ (gives : Nogood → Type 0) (silent : List (Option Bool) → Type 0) (s t : Searching) (es : List Entry) (slots : List (Option Kept)) (ranking : Ranking) (last : Option ℕ)
+module _ (gives : Nogood → Type 0) (silent : List (Option Bool) → Type 0) (s t : Searching) (es : List Entry) (slots : List (Option StoredNogood)) (ranking : Ranking) (last : Option ℕ)
     (grows : Grows s.slots slots) (derived : AreDerived s.program gives s.bound (nogood_at s.slots) (nogood_at slots)) (longer : length s.entries ≤ length es) where
   task : HasSameTask (mid s es slots ranking last) t → HasSameTask s t
   task h = record { program = h.program; mode = h.mode; cube = h.cube; known = h.known; bound = h.bound }
@@ -108,10 +108,10 @@ module _ (gives : Nogood → Type 0) (silent : List (Option Bool) → Type 0) (s
   records mode.Enum q S h = h
   records mode.Opt q S h = h
 
-  derived_or_way : (m : Mode) (q : List Literal) (n : Nogood) → IsDerivedOrWay m gives (mid s es slots ranking last) q n → IsDerivedOrWay m gives s q n
-  derived_or_way mode.Enum q n (inl d) = inl (derived_more s.program gives s.bound (nogood_at s.slots) (nogood_at slots) n derived d)
-  derived_or_way mode.Enum q n (inr w) = inr w
-  derived_or_way mode.Opt q n d = derived_more s.program gives s.bound (nogood_at s.slots) (nogood_at slots) n derived d
+  derived_or_blocking : (m : Mode) (q : List Literal) (n : Nogood) → IsDerivedOrBlocking m gives (mid s es slots ranking last) q n → IsDerivedOrBlocking m gives s q n
+  derived_or_blocking mode.Enum q n (inl d) = inl (derived_more s.program gives s.bound (nogood_at s.slots) (nogood_at slots) n derived d)
+  derived_or_blocking mode.Enum q n (inr w) = inr w
+  derived_or_blocking mode.Opt q n d = derived_more s.program gives s.bound (nogood_at s.slots) (nogood_at slots) n derived d
 
   answers : (q : List Literal) (f g : Units) (S : Atoms) → Answers gives (mid s es slots ranking last) t q f g S → Answers gives s t q f g S
   answers q f g S h = record {
@@ -125,7 +125,7 @@ module _ (gives : Nogood → Type 0) (silent : List (Option Bool) → Type 0) (s
     cheaper = h.cheaper;
     settled = h.settled;
     records = records s.mode q S h.records;
-    derived = λ id n k. derived_or_way s.mode q n (h.derived id n k);
+    derived = λ id n k. derived_or_blocking s.mode q n (h.derived id n k);
     learnt = h.learnt;
     restarts = h.restarts;
     last = h.last;

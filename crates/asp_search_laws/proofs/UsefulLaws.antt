@@ -16,7 +16,7 @@ use Rattle.asp_trail.specs.Reasons.{AreReasoned}
 use Rattle.asp_trail.specs.Trails.{IsOrdered}
 use Rattle.asp_analyze.specs.Learning.{Used, IsUsed, IsReached, CanJoinAll, base_after}
 use Rattle.asp_analyze.proofs.LearnLaws.{reached_good}
-use Rattle.asp_store.specs.declared.kept.Kept.{Kept}
+use Rattle.asp_store.specs.declared.stored_nogood.StoredNogood.{StoredNogood}
 use Rattle.asp_store.specs.Keeping.{nogood_at}
 use Rattle.asp_propagate.specs.Useful.{Counts, IsUseful}
 use Rattle.asp_search_laws.specs.Keeping.{AreUseful}
@@ -50,7 +50,7 @@ join_all bound b (u ∷ used) x a =
     ((j.0, rest.0), rest.1)
 
 -- ---- learning
-used_useful : (p : Program) (known : List Atoms) (bound : Option (List ℤ)) (slots : List (Option Kept)) (es : List Entry) (used : List Used) → AreUseful p known bound slots →
+used_useful : (p : Program) (known : List Atoms) (bound : Option (List ℤ)) (slots : List (Option StoredNogood)) (es : List Entry) (used : List Used) → AreUseful p known bound slots →
     All (IsUsed (nogood_at slots) es) used → All (λ u. IsUseful p known bound u.nogood) used
 used_useful p known bound slots es used useful =
     All-weaker (IsUsed (nogood_at slots) es) (λ u. IsUseful p known bound u.nogood) (λ u w. useful w.reason.0 u.nogood w.reason.2) used
@@ -65,7 +65,7 @@ reached_useful p known bound vars kept es from to used o r reached first all =
       counts = subst (Counts bound) (sym reached.base) join.1;
     }
 
-pub learnt_useful : (p : Program) (known : List Atoms) (bound : Option (List ℤ)) (vars : ℕ) (slots : List (Option Kept)) (es : List Entry) (from to : Nogood) (used : List Used) →
+pub learnt_useful : (p : Program) (known : List Atoms) (bound : Option (List ℤ)) (vars : ℕ) (slots : List (Option StoredNogood)) (es : List Entry) (from to : Nogood) (used : List Used) →
     IsOrdered vars es → AreReasoned (nogood_at slots) es → AreUseful p known bound slots → IsUseful p known bound from →
     IsReached (nogood_at slots) es from used to → IsUseful p known bound to
 learnt_useful p known bound vars slots es from to used o r useful first reached =

@@ -6,11 +6,11 @@ use Rattle.asp_trail.specs.Entries.{assignment}
 use Rattle.asp_trail.specs.Quiet.{is_violated}
 use Rattle.asp_analyze.specs.Learning.{Used, IsReached, AreContained, AreAssumed, IsLearned, nogood_of}
 use Rattle.asp_analyze.specs.declared.learn.Learned.{Learned}
-use Rattle.asp_store.specs.declared.kept.Kept.{Kept}
+use Rattle.asp_store.specs.declared.stored_nogood.StoredNogood.{StoredNogood}
 use Rattle.asp_store.specs.Keeping.{nogood_at}
 
 -- It is reached from the nogood under this number by the trail's reasons.
-pub record Explains (vars : ℕ) (slots : List (Option Kept)) (entries : List Entry) (id : ℕ) (l : Learned) : Type 0 where
+pub record Explains (vars : ℕ) (slots : List (Option StoredNogood)) (entries : List Entry) (id : ℕ) (l : Learned) : Type 0 where
   pub from : Nogood
   pub stands : nogood_at slots id ≡ Some from
   pub violated : IsTrue (is_violated (assignment vars entries) from.lits)

@@ -7,7 +7,7 @@ use Rattle.asp_vars.specs.Literals.{Literal}
 use Rattle.asp_vars.specs.Numbering.{var_count}
 use Rattle.asp_trail.specs.declared.trail.Entry.{Entry}
 use Rattle.asp_trail.specs.Entries.{assignment}
-use Rattle.asp_store.specs.declared.kept.Kept.{Kept}
+use Rattle.asp_store.specs.declared.stored_nogood.StoredNogood.{StoredNogood}
 use Rattle.asp_order.specs.Heaps.{Ranking}
 
 -- A search of the program's stable models that hit the cube, of which there is none before a path is entered, aren't known, and cost
@@ -21,7 +21,7 @@ pub record Searching : Type 0 where
   pub bound : Option (List ℤ)
   pub entries : List Entry
   pub decisions : List Literal
-  pub slots : List (Option Kept)
+  pub slots : List (Option StoredNogood)
   pub ranking : Ranking
   pub restarts : ℕ
   pub learnt : ℕ  -- how many nogoods since the last restart, or since the path was entered

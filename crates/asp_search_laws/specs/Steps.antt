@@ -139,18 +139,18 @@ pub record Closes (gives : Nogood → Type 0) (s t : Searching) (q : List Litera
 
 -- ---- Answer
 -- the nogood of the cube and the decisions
-abbrev pub way_of : List Literal → List Literal → Nogood
-way_of q decisions = record { lits = q ++ decisions; base = base.Local }
+abbrev pub blocking_nogood : List Literal → List Literal → Nogood
+blocking_nogood q decisions = record { lits = q ++ decisions; base = base.Local }
 
--- In an enumeration the answer is known from now on, and the nogood of its way is kept. In an optimisation its cost is the bound.
+-- In an enumeration the answer is known from now on, and its blocking nogood is kept. In an optimisation its cost is the bound.
 abbrev pub Records : Mode → Searching → Searching → List Literal → Atoms → Type 0
-Records mode.Enum s t q S = (t.known ≡ s.known ++ S ∷ []) × (t.bound ≡ s.bound) × ((id : ℕ) × (nogood_at t.slots id ≡ Some (way_of q s.decisions)))
+Records mode.Enum s t q S = (t.known ≡ s.known ++ S ∷ []) × (t.bound ≡ s.bound) × ((id : ℕ) × (nogood_at t.slots id ≡ Some (blocking_nogood q s.decisions)))
 Records mode.Opt s t q S = (t.known ≡ s.known) × (t.bound ≡ Some (cost s.program S))
 
--- A nogood that is kept is derived, or in an enumeration that of the answer's way.
-abbrev pub IsDerivedOrWay : Mode → (Nogood → Type 0) → Searching → List Literal → Nogood → Type 0
-IsDerivedOrWay mode.Enum gives s q n = IsDerived s.program gives s.bound (nogood_at s.slots) n ⊎ (n ≡ way_of q s.decisions)
-IsDerivedOrWay mode.Opt gives s q n = IsDerived s.program gives s.bound (nogood_at s.slots) n
+-- A nogood that is kept is derived, or in an enumeration the answer's blocking one.
+abbrev pub IsDerivedOrBlocking : Mode → (Nogood → Type 0) → Searching → List Literal → Nogood → Type 0
+IsDerivedOrBlocking mode.Enum gives s q n = IsDerived s.program gives s.bound (nogood_at s.slots) n ⊎ (n ≡ blocking_nogood q s.decisions)
+IsDerivedOrBlocking mode.Opt gives s q n = IsDerived s.program gives s.bound (nogood_at s.slots) n
 
 pub record Answers (gives : Nogood → Type 0) (s t : Searching) (q : List Literal) (f g : Units) (S : Atoms) : Type 0 where
   pub program : t.program ≡ s.program
@@ -163,7 +163,7 @@ pub record Answers (gives : Nogood → Type 0) (s t : Searching) (q : List Liter
   pub cheaper : IsSmaller (cost s.program S) s.bound
   pub settled : Settled s.program (s.known ++ S ∷ []) s.bound (q ++ s.decisions)
   pub records : Records s.mode s t q S
-  pub derived : (id : ℕ) (n : Nogood) → nogood_at t.slots id ≡ Some n → IsDerivedOrWay s.mode gives s q n
+  pub derived : (id : ℕ) (n : Nogood) → nogood_at t.slots id ≡ Some n → IsDerivedOrBlocking s.mode gives s q n
   pub learnt : t.learnt ≡ s.learnt
   pub restarts : t.restarts ≡ s.restarts
   pub last : t.last ≡ None

@@ -13,7 +13,7 @@ ghost use Rattle.asp_trail.specs.Entries.{assignment, cut};
 ghost use Rattle.asp_trail.specs.Reasons.{AreReasoned, IsReason};
 ghost use Rattle.asp_trail.specs.Trails.{IsOrdered};
 ghost use Rattle.asp_analyze.specs.Learning.{Used, AreContained, IsJump, IsReached};
-ghost use Rattle.asp_store.specs.declared.kept.Kept.{Kept};
+ghost use Rattle.asp_store.specs.declared.stored_nogood.StoredNogood.{StoredNogood};
 ghost use Rattle.asp_store.specs.Keeping.{nogood_at};
 ghost use Rattle.asp_found.specs.Verdicts.{IsBroken};
 ghost use Rattle.asp_loop.specs.LoopNogoods.{IsLoopNogood};
@@ -28,7 +28,7 @@ use asp_propagate::propagator::Propagator;
 
 /// What is reached by resolution from nogoods that count for a search counts for it.
 pub fn learnt_nogoods_count()
-    ensures { (p : Program) (known : List Atoms) (bound : Option (List ℤ)) (vars : ℕ) (slots : List (Option Kept)) (entries : List Entry) (from to : Nogood) (used : List Used) →
+    ensures { (p : Program) (known : List Atoms) (bound : Option (List ℤ)) (vars : ℕ) (slots : List (Option StoredNogood)) (entries : List Entry) (from to : Nogood) (used : List Used) →
         IsOrdered vars entries → AreReasoned (nogood_at slots) entries → AreUseful p known bound slots → IsUseful p known bound from →
         IsReached (nogood_at slots) entries from used to → IsUseful p known bound to }
 {}

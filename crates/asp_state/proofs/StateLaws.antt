@@ -10,8 +10,8 @@ use Rattle.asp_vars.specs.Completion.{completion}
 use Rattle.asp_trail.specs.declared.trail.Entry.{Entry}
 use Rattle.asp_trail.specs.Entries.{level, cut}
 use Rattle.asp_trail.specs.Trails.{IsOrdered}
-use Rattle.asp_store.specs.declared.kept.Kept.{Kept}
-use Rattle.asp_store.specs.Visiting.{IsImpliedAt}
+use Rattle.asp_store.specs.declared.stored_nogood.StoredNogood.{StoredNogood}
+use Rattle.asp_store.specs.Fitting.{IsImpliedAt}
 use Rattle.asp_order.specs.Heaps.{Ranking}
 use Rattle.asp_order.specs.Waiting.{HasVars, AreWaiting, IsFuller}
 use Rattle.asp_order.proofs.WaitingLaws.{waiting_more}
@@ -41,7 +41,7 @@ waiting_all vars es [] r a = subst (λ (xs : List Entry). AreWaiting vars xs r) 
 waiting_all vars es (f ∷ fs) r a =
     subst (λ (xs : List Entry). AreWaiting vars xs r) (append_assoc es (f ∷ []) fs) (waiting_all vars (es ++ f ∷ []) fs r (waiting_more vars es f r a))
 
-pub track_implied : (p : Program) (cube : Option (List Literal)) (clashing : Bool) (q decisions : List Literal) (es fs : List Entry) (old new : List (Option Kept)) (r : Ranking) →
+pub track_implied : (p : Program) (cube : Option (List Literal)) (clashing : Bool) (q decisions : List Literal) (es fs : List Entry) (old new : List (Option StoredNogood)) (r : Ranking) →
     cube ≡ Some q → clashing ≡ false → AreImplied (level es) fs → KeepsCompletion p new → IsSearchState p cube clashing decisions es old r →
     IsSearchState p cube clashing decisions (es ++ fs) new r
 track_implied p cube clashing q decisions es fs old new r c k a kept t =
@@ -57,12 +57,12 @@ track_implied p cube clashing q decisions es fs old new r c k a kept t =
       completed = kept;
     }
 
-pub track_kept : (p : Program) (cube : Option (List Literal)) (clashing : Bool) (decisions : List Literal) (es : List Entry) (old new : List (Option Kept)) (r : Ranking) →
+pub track_kept : (p : Program) (cube : Option (List Literal)) (clashing : Bool) (decisions : List Literal) (es : List Entry) (old new : List (Option StoredNogood)) (r : Ranking) →
     KeepsCompletion p new → IsSearchState p cube clashing decisions es old r → IsSearchState p cube clashing decisions es new r
 track_kept p cube clashing decisions es old new r kept t = record { few = t.few; entered = t.entered; ranked = t.ranked; waiting = t.waiting; completed = kept }
 
 -- ---- a decision
-pub track_decided : (p : Program) (cube : Option (List Literal)) (clashing : Bool) (q decisions : List Literal) (es : List Entry) (slots : List (Option Kept)) (old new : Ranking)
+pub track_decided : (p : Program) (cube : Option (List Literal)) (clashing : Bool) (q decisions : List Literal) (es : List Entry) (slots : List (Option StoredNogood)) (old new : Ranking)
     (l : Literal) (e : Entry) → cube ≡ Some q → clashing ≡ false → e.lit ≡ l → e.level ≡ level es + 1 → e.reason ≡ None → IsOrdered (var_count p) es →
     AreCalm (var_count p) (completion p) es → HasVars (var_count p) new → AreWaiting (var_count p) (es ++ e ∷ []) new →
     IsSearchState p cube clashing decisions es slots old → IsSearchState p cube clashing (decisions ++ l ∷ []) (es ++ e ∷ []) slots new
@@ -92,7 +92,7 @@ entered_cut p (Some q) false decisions es k o e = record {
 pub has_vars : (n : ℕ) (old new : Ranking) → new ≡ record old { members = new.members } → HasVars n old → HasVars n new
 has_vars n old new q h = ap (λ (r : Ranking). length r.activities) q ∙ h
 
-pub track_cut : (p : Program) (cube : Option (List Literal)) (clashing : Bool) (decisions : List Literal) (es : List Entry) (slots : List (Option Kept)) (old new : Ranking) (k : ℕ) →
+pub track_cut : (p : Program) (cube : Option (List Literal)) (clashing : Bool) (decisions : List Literal) (es : List Entry) (slots : List (Option StoredNogood)) (old new : Ranking) (k : ℕ) →
     IsOrdered (var_count p) es → IsFuller old new → AreWaiting (var_count p) (cut k es) new → IsSearchState p cube clashing decisions es slots old →
     IsSearchState p cube clashing (take k decisions) (cut k es) slots new
 track_cut p cube clashing decisions es slots old new k o f waits t = record {

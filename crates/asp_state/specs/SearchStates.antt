@@ -1,6 +1,6 @@
 -- What a search has on its trail under a cube, and which nogoods it keeps.
-use Rattle.std.specs.Prelude.{◌≡◌, ℕ, ◌<◌, ◌^◌, Bool, true, false, List, [], fold, Option, Some, None, ℤ, IsTrue}
-use Rattle.std.specs.List.{All, AllByRecursion}
+use Rattle.std.specs.Prelude.{◌≡◌, ℕ, ◌<◌, ◌^◌, ◌⊎◌, Bool, true, false, List, [], fold, Option, Some, None, ℤ, IsTrue}
+use Rattle.std.specs.List.{All, AllByRecursion, Any}
 use Rattle.asp_model.specs.declared.program.Program.{Program}
 use Rattle.asp_vars.specs.Literals.{Literal, complement, has_literal}
 use Rattle.asp_vars.specs.Numbering.{var_count}
@@ -10,7 +10,8 @@ use Rattle.asp_vars.specs.declared.nogood.Base.TheVariants as base
 use Rattle.asp_trail.specs.declared.trail.Entry.{Entry}
 use Rattle.asp_trail.specs.Entries.{assignment}
 use Rattle.asp_trail.specs.Trails.{IsVar}
-use Rattle.asp_store.specs.declared.kept.Kept.{Kept}
+use Rattle.asp_store.specs.declared.stored_nogood.StoredNogood.{StoredNogood}
+use Rattle.asp_store.specs.declared.stored_nogood.Kind.TheVariants as kind
 use Rattle.asp_store.specs.Keeping.{kept_at}
 use Rattle.asp_order.specs.Heaps.{Ranking}
 use Rattle.asp_order.specs.Waiting.{HasVars, AreWaiting, fresh, all_bumped}
@@ -26,7 +27,7 @@ pub record SearchView : Type 0 where
   pub clashing : Bool
   pub decisions : List Literal
   pub entries : List Entry
-  pub slots : List (Option Kept)
+  pub slots : List (Option StoredNogood)
   pub ranking : Ranking
 
 -- the values of the variables
@@ -59,23 +60,34 @@ first_ranking p = fold with_places (fresh (var_count p)) (completion p)
 
 -- ---- what every state keeps
 -- what is kept forever
-abbrev pub stays : Nogood → Option Kept
-stays n = Some (record { nogood = n; forever = true; locked = false })
+abbrev pub stays : Nogood → Option StoredNogood
+stays n = Some (record { nogood = n; kind = kind.Forever; locked = false })
 
 -- a nogood of the completion, kept forever
-abbrev pub forever : List Literal → Option Kept
+abbrev pub forever : List Literal → Option StoredNogood
 forever n = stays (record { lits = n; base = base.Pure })
 
 -- Such a nogood is kept and never dropped.
-pub record IsForever (slots : List (Option Kept)) (n : List Literal) : Type 0 where
+pub record IsForever (slots : List (Option StoredNogood)) (n : List Literal) : Type 0 where
   pub id : ℕ
-  pub kept : Kept
+  pub kept : StoredNogood
   pub stands : kept_at slots id ≡ Some kept
-  pub always : kept.forever ≡ true
+  pub always : kept.kind ≡ kind.Forever
   pub nogood : kept.nogood ≡ record { lits = n; base = base.Pure }
 
-abbrev pub KeepsCompletion : Program → List (Option Kept) → Type 0
+abbrev pub KeepsCompletion : Program → List (Option StoredNogood) → Type 0
 KeepsCompletion p slots = AllByRecursion (IsForever slots) (completion p)
+
+-- The nogoods were added, to be kept forever, and no others. All that were kept are as they were.
+pub record AddsForever (ns : List Nogood) (old new : List (Option StoredNogood)) : Type 0 where
+  pub stay : (id : ℕ) (k : StoredNogood) → kept_at old id ≡ Some k → kept_at new id ≡ Some k
+  pub each : All (λ n. (id : ℕ) × (kept_at new id ≡ stays n)) ns
+  pub only : (id : ℕ) (k : StoredNogood) → kept_at new id ≡ Some k → (kept_at old id ≡ Some k) ⊎ Any (λ n. Some k ≡ stays n) ns
+
+-- The completion is kept forever, and nothing else is kept.
+pub record KeepsCompletionAlone (p : Program) (slots : List (Option StoredNogood)) : Type 0 where
+  pub each : KeepsCompletion p slots
+  pub only : (id : ℕ) (k : StoredNogood) → kept_at slots id ≡ Some k → Any (λ n. Some k ≡ forever n) (completion p)
 
 -- The trail begins with the cube and the decisions, and the completion was calm before each decision.
 pub record IsBegun (p : Program) (cube decisions : List Literal) (entries : List Entry) : Type 0 where
@@ -88,7 +100,7 @@ IsEntered p None clashing decisions entries = (clashing ≡ false) × (decisions
 IsEntered p (Some cube) true decisions entries = Clashes cube × (decisions ≡ [])
 IsEntered p (Some cube) false decisions entries = IsBegun p cube decisions entries
 
-pub record IsSearchState (p : Program) (cube : Option (List Literal)) (clashing : Bool) (decisions : List Literal) (entries : List Entry) (slots : List (Option Kept)) (ranking : Ranking) : Type 0 where
+pub record IsSearchState (p : Program) (cube : Option (List Literal)) (clashing : Bool) (decisions : List Literal) (entries : List Entry) (slots : List (Option StoredNogood)) (ranking : Ranking) : Type 0 where
   pub few : var_count p < 2 ^ 31
   pub entered : IsEntered p cube clashing decisions entries
   pub ranked : HasVars (var_count p) ranking

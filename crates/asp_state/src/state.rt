@@ -4,7 +4,7 @@
 //! - the cube and the decisions are what begins the trail's levels;
 //! - no nogood of the completion was unit or violated before a decision, and all of them are kept;
 //! - each variable without a value waits to be decided.
-ghost use Rattle.std.specs.Prelude.{◌≡◌, ◌<◌, ◌≤◌, ◌+◌, ◌∷◌, ◌++◌, [], ℕ, List, true, false, Some, None, IfOk, OnOk, OnErr, IfSome, IfNone, IsTrue, map, take, length, replicate, slice_set, slice_index_or};
+ghost use Rattle.std.specs.Prelude.{◌≡◌, ◌<◌, ◌≤◌, ◌+◌, ◌∷◌, ◌++◌, [], ℕ, List, true, false, Some, None, IfOk, OnOk, OnErr, IfSome, IfNone, IsTrue, map, take, length, replicate, slice_set, slice_index_or, if◌then◌else◌};
 ghost use Rattle.std.specs.List.{All};
 ghost use Rattle.asp_vars.specs.Literals.{Literal, has_literal, value_of};
 ghost use Rattle.asp_vars.specs.Numbering.{var_count};
@@ -13,16 +13,14 @@ ghost use Rattle.asp_vars.specs.declared.nogood.Base.TheVariants as base;
 ghost use Rattle.asp_trail.specs.declared.trail.Entry.{Entry};
 ghost use Rattle.asp_trail.specs.Entries.{level, cut};
 ghost use Rattle.asp_trail.specs.Trails.{IsOrdered, IsVar};
-ghost use Rattle.asp_store.specs.declared.kept.Kept.{Kept};
-ghost use Rattle.asp_store.specs.Keeping.{kept_at};
-ghost use Rattle.asp_store.specs.Fitting.{HaveReasons};
-ghost use Rattle.asp_store.specs.Visiting.{AreSmall};
+ghost use Rattle.asp_store.specs.declared.stored_nogood.StoredNogood.{StoredNogood};
+ghost use Rattle.asp_store.specs.Keeping.{kept_at, unless_given, IsAddedAt};
+ghost use Rattle.asp_store.specs.Fitting.{AreSmall, HaveReasons};
 ghost use Rattle.asp_store.specs.Walking.{IsViolated};
 ghost use Rattle.asp_order.specs.Waiting.{learnt, AreAssigned, IsFuller, IsNext};
 ghost use Rattle.asp_propagate.specs.Useful.{IsSmaller};
-ghost use Rattle.asp_propagate.specs.Locking.{thinned};
-ghost use Rattle.asp_propagate.specs.Propagating.{Adds, AreCalm, Implies, IsImplied, IsQuiet, IsReduced};
-ghost use Rattle.asp_state.specs.SearchStates.{first_ranking, forever, path_of, values_of, AreOf, Clashes, IsBegun, IsUnder, KeepsCompletion};
+ghost use Rattle.asp_propagate.specs.Propagating.{is_named, Adds, AreCalm, Implies, IsImplied, IsQuiet, IsReduced};
+ghost use Rattle.asp_state.specs.SearchStates.{first_ranking, path_of, values_of, AreOf, Clashes, IsBegun, IsUnder, KeepsCompletion, KeepsCompletionAlone};
 
 use crate::assume::assume_all;
 use crate::begun::begun;
@@ -32,7 +30,7 @@ use asp_model::cost::Cost;
 use asp_order::order::Order;
 use asp_propagate::engine::Engine;
 use asp_propagate::propagator::Propagator;
-use asp_store::kept::Kind;
+use asp_store::stored_nogood::Kind;
 use asp_store::store::Store;
 use asp_trail::reasons::NogoodId;
 use asp_trail::trail::Trail;
@@ -45,10 +43,15 @@ use std::marker::Model;
 /// A trail with its cube and its decisions, the nogoods kept, and the order of further decisions.
 #[derive(Drop)]
 pub struct SearchState<P: Propagator> {
+    // the trail, the nogoods that are kept, and what follows by them
     engine: Engine<P>,
+    // in which order variables are decided, and by which values
     order: Order,
+    // the literals that are to hold, and none before a path is entered
     cube: Option<Vec<Lit>>,
+    // whether the cube has a literal and its complement: then nothing is decided under it
     clashing: bool,
+    // the literals that were chosen, that of level 1 first
     decisions: Vec<Lit>,
 }
 
@@ -93,16 +96,17 @@ impl<P: Propagator> SearchState<P> {
     ) -> Result<SearchState<P>, AllocError>
         requires program { (P.told propagator).program ≡ compiled.now }
         requires fresh { (P.told propagator).values ≡ replicate (var_count compiled.now + 1) None }
-        ensures { IfOk result (λ t. t ≡ record {
+        ensures same { IfOk result (λ t. t ≡ record {
           program = compiled.now;
           bound = P.bound propagator;
           cube = None;
           clashing = false;
           decisions = [];
           entries = [];
-          slots = map forever (completion compiled.now);
+          slots = t.slots;
           ranking = first_ranking compiled.now;
         }) }
+        ensures slots { IfOk result (λ t. KeepsCompletionAlone compiled.now t.slots) }
     {
         let _vars = compiled.vars();
         let nogoods = completion(alloc, compiled)?;
@@ -259,11 +263,12 @@ impl<P: Propagator> SearchState<P> {
         self.engine.imply(lit, id);
     }
 
-    /// Keeps a nogood, forever or until it is dropped, and gives its number. Want of memory leaves all as it was.
+    /// Keeps a nogood, and gives its number, which no kept one had. `levels` is the number of levels of its literals, by
+    /// which it is dropped or not. Want of memory leaves all as it was.
     pub fn keep(&mut self, nogood: Nogood, kind: Kind, levels: u32) -> Result<NogoodId, AllocError>
         requires { AreOf self.old.program nogood.lits }
-        ensures ok { OnOk result (self.new ≡ record self.old { slots = self.old.slots ++ Some (record { nogood = nogood; forever = forever; locked = false }) ∷ [] }) }
-        ensures id { IfOk result (λ id. id ≡ length self.old.slots) }
+        ensures same { self.new ≡ record self.old { slots = self.new.slots } }
+        ensures ok { IfOk result (λ id. IsAddedAt self.old.slots self.new.slots id nogood kind) }
         ensures err { OnErr result (self.new ≡ self.old) }
     {
         self.engine.keep(nogood, kind, levels)
@@ -271,7 +276,7 @@ impl<P: Propagator> SearchState<P> {
 
     /// Drops a local nogood that no entry names as its reason.
     pub fn remove(&mut self, id: NogoodId)
-        requires local { (k : Kept) × (kept_at self.old.slots id ≡ Some k) × (k.nogood.base ≡ base.Local) }
+        requires local { (k : StoredNogood) × (kept_at self.old.slots id ≡ Some k) × (k.nogood.base ≡ base.Local) }
         requires unnamed { (i : ℕ) (d : Entry) → i < length self.old.entries → (slice_index_or self.old.entries i d).reason ≡ Some id → ⊥ }
         ensures { self.new ≡ record self.old { slots = slice_set self.old.slots id None } }
     {
@@ -287,10 +292,9 @@ impl<P: Propagator> SearchState<P> {
         self.order.bump(lits, met);
     }
 
-    /// Drops the older half, rounded down, of the nogoods that weren't added forever, aren't reasons and have more than
-    /// two literals.
+    /// Drops nogoods that are little used, but none that is kept forever, is a reason, or has two literals or fewer.
     pub fn reduce(&mut self)
-        ensures thinned { self.new ≡ record self.old { slots = thinned self.old.entries self.old.slots } }
+        ensures same { self.new ≡ record self.old { slots = self.new.slots } }
         ensures kept { IsReduced self.old.entries self.old.slots self.new.slots }
     {
         self.engine.reduce();
@@ -300,6 +304,7 @@ impl<P: Propagator> SearchState<P> {
     pub fn drop_given(&mut self)
         ensures same { self.new ≡ record self.old { slots = self.new.slots } }
         ensures kept { IsReduced self.old.entries self.old.slots self.new.slots }
+        ensures each { (id : ℕ) → kept_at self.new.slots id ≡ if is_named self.old.entries id then kept_at self.old.slots id else unless_given (kept_at self.old.slots id) }
     {
         self.engine.drop_given();
     }
@@ -322,7 +327,7 @@ impl<P: Propagator> SearchState<P> {
     /// The nogood of the cube and the decisions.
     ///
     /// Want of memory is the one error.
-    pub fn way(&self, alloc: Global) -> Result<Nogood, AllocError>
+    pub fn blocking_nogood(&self, alloc: Global) -> Result<Nogood, AllocError>
         ensures { (q : List Literal) → self.now.cube ≡ Some q → IfOk result (λ n. n ≡ record { lits = q ++ self.now.decisions; base = base.Local }) }
     {
         let mut lits = Lits::from_slice(alloc, self.cube())?;

@@ -4,7 +4,7 @@ ghost use Rattle.std.specs.Prelude.{◌≡◌, ◌++◌, ◌∷◌, [], ℕ, Lis
 ghost use Rattle.asp_vars.specs.Literals.{Literal, T};
 ghost use Rattle.asp_vars.specs.Numbering.{var_count};
 ghost use Rattle.asp_vars.specs.declared.nogood.Base.TheVariants as base;
-ghost use Rattle.asp_store.specs.declared.kept.Kept.{Kept};
+ghost use Rattle.asp_store.specs.declared.stored_nogood.StoredNogood.{StoredNogood};
 ghost use Rattle.asp_store.specs.Keeping.{kept_at};
 ghost use Rattle.asp_state.specs.SearchStates.{IsUnder};
 
@@ -139,8 +139,8 @@ fn go_on(state: &mut SearchState<Mute>) -> Result<Option<Lit>, AllocError>
     }
 }
 
-fn has_way(rt: &impl Abort, heap: Global, state: &SearchState<Mute>) {
-    let nogood = state.way(heap).expect(rt, "memory");
+fn has_blocking(rt: &impl Abort, heap: Global, state: &SearchState<Mute>) {
+    let nogood = state.blocking_nogood(heap).expect(rt, "memory");
     assert!(rt; nogood.lits.as_slice() == [Lit::new(1, true), Lit::new(2, false)].as_slice());
 }
 
@@ -156,7 +156,7 @@ fn enters_decides_and_leaves(rt: HostRuntime) {
     let mut state = under_first(&rt, heap);
     let decided = go_on(&mut state).expect(&rt, "memory");
     assert!(rt; decided == Some(Lit::new(2, false)));
-    has_way(&rt, heap, &state);
+    has_blocking(&rt, heap, &state);
     take_back(&rt, &mut state);
 }
 
@@ -184,7 +184,7 @@ fn imply_second(rt: &impl Abort, heap: Global, state: &mut SearchState<Mute>) ->
     requires vars { var_count state.old.program ≡ 3 }
     requires under { (q : List Literal) × IsUnder state.old q }
     ensures program { state.new.program ≡ state.old.program }
-    ensures local { (k : Kept) × (kept_at state.new.slots result ≡ Some k) × (k.nogood.base ≡ base.Local) }
+    ensures local { (k : StoredNogood) × (kept_at state.new.slots result ≡ Some k) × (k.nogood.base ≡ base.Local) }
 {
     let id = keep_second(rt, heap, state);
     assert!(rt; state.trail().value(2).is_none());

@@ -1,4 +1,4 @@
-//! What was seen of the kept nogoods: of how many levels they were when they were learnt, and how much they were used.
+//! What was seen of the kept nogoods: of how many levels they were when they were learnt, and how often they were used.
 //! No call's meaning rests on it: it chooses which nogoods are dropped.
 use crate::slots::is_spare_slot;
 use crate::stored_nogood::StoredNogood;
@@ -8,14 +8,9 @@ use std::alloc::{AllocError, Global};
 // A nogood of no more levels is kept.
 const FEW_LEVELS: u32 = 2;
 
-// By this part a use is worth more than one before the nogood that was added last.
-const AGEING: u64 = 512;
-
-const MOST_WORTH: u64 = 1 << 50;
-
 #[derive(Clone, Copy)]
 struct Note {
-    worth: u64,
+    uses: u32,
     levels: u32,
 }
 
@@ -23,8 +18,7 @@ struct Note {
 #[derive(Drop)]
 pub struct Notes {
     notes: Vec<Note>,
-    order: Vec<(u64, u32)>,
-    worth: u64,
+    order: Vec<(u32, u32)>,
 }
 
 impl Notes {
@@ -33,14 +27,12 @@ impl Notes {
         Notes {
             notes: Vec::new(alloc),
             order: Vec::new(alloc),
-            worth: 1 << 20,
         }
     }
 
     /// The number is of a new nogood, of so many levels.
     pub fn put(&mut self, id: NogoodId, levels: u32) -> Result<(), AllocError> {
-        self.age();
-        let note = Note { worth: self.worth, levels };
+        let note = Note { uses: 0, levels };
         if id < self.notes.len() {
             self.notes[id] = note;
         } else {
@@ -49,25 +41,11 @@ impl Notes {
         Ok(())
     }
 
-    fn age(&mut self) {
-        self.worth += self.worth / AGEING;
-        if self.worth > MOST_WORTH {
-            self.rescale();
-        }
-    }
-
-    fn rescale(&mut self) {
-        for note in self.notes.as_mut_slice().iter_mut() {
-            note.worth >>= 30;
-        }
-        self.worth >>= 30;
-    }
-
     /// The nogood was used.
     pub fn used(&mut self, id: NogoodId) {
         if id < self.notes.len() {
-            let worth = self.notes[id].worth;
-            self.notes[id].worth = worth.saturating_add(self.worth);
+            let uses = self.notes[id].uses;
+            self.notes[id].uses = uses.saturating_add(1);
         }
     }
 
@@ -88,7 +66,7 @@ impl Notes {
         }
         let note = self.notes[id as usize];
         if note.levels > FEW_LEVELS {
-            let _ = self.order.push((note.worth, id));
+            let _ = self.order.push((note.uses, id));
         }
     }
 

@@ -7,12 +7,12 @@ loop-preserved g c =
     let i = c.loop.invariant in
     let e = c.drop_last.ensures in
     record {
-      bars_stand = e.bars;
+      blocking_stand = e.blocking;
       same = slots_twice c.args.state.now c.loop.state c.drop_last.new.state i.same e.same;
-      drops = λ way id first same d. e.drops way id first same (i.drops way id first same d);
+      drops = λ newest id first same d. e.drops newest id first same (i.drops newest id first same d);
       len = omega (arith, e.len, i.len);
       room = e.room ∙ i.room;
     }
 
 pub returns-clause-drops : goal.returns-clause-drops
-returns-clause-drops g c = λ way id first same d. c.drop_last.ensures.drops way id first same (c.loop.invariant.drops way id first same d)
+returns-clause-drops g c = λ newest id first same d. c.drop_last.ensures.drops newest id first same (c.loop.invariant.drops newest id first same d)

@@ -24,35 +24,35 @@ pub imply-requires-clause-under : goal.imply-requires-clause-under
 imply-requires-clause-under g c =
     let t = c.args.state.now in
     let u : SearchView = c.undo_to.new.self in
-    let e : u ≡ back t c.args.to c.args.nogood u.ranking = jump_back t c.bump.new.self c.keep.new.self u c.args.to c.args.nogood _ c.bump.ensures c.in_ok-id.ensures.ok c.undo_to.ensures.same in (
+    let e : u ≡ back t c.args.to c.keep.new.self.slots u.ranking = jump_back t c.bump.new.self c.keep.new.self u c.args.to _ BUMP c.in_ok-id.ensures.same c.undo_to.ensures.same in (
       c.requires.path.0,
-      back_under t u c.requires.jumps.0 c.args.to c.args.nogood c.args.lit e c.trail-trail.ensures.ordered c.requires.contained c.requires.jumps.1 c.requires.path.0 c.requires.path.1,
+      back_under t u c.requires.jumps.0 c.args.to c.keep.new.self.slots c.args.nogood c.args.lit e c.trail-trail.ensures.ordered c.requires.contained c.requires.jumps.1 c.requires.path.0 c.requires.path.1,
     )
 
 pub imply-requires-clause-var : goal.imply-requires-clause-var
 imply-requires-clause-var g c =
     let t = c.args.state.now in
     let u : SearchView = c.undo_to.new.self in
-    let e : u ≡ back t c.args.to c.args.nogood u.ranking = jump_back t c.bump.new.self c.keep.new.self u c.args.to c.args.nogood _ c.bump.ensures c.in_ok-id.ensures.ok c.undo_to.ensures.same in
-    back_var t u c.requires.jumps.0 c.args.to c.args.nogood c.args.lit e c.trail-trail.ensures.ordered c.requires.contained c.requires.jumps.1
+    let e : u ≡ back t c.args.to c.keep.new.self.slots u.ranking = jump_back t c.bump.new.self c.keep.new.self u c.args.to _ BUMP c.in_ok-id.ensures.same c.undo_to.ensures.same in
+    back_var t u c.requires.jumps.0 c.args.to c.keep.new.self.slots c.args.nogood c.args.lit e c.trail-trail.ensures.ordered c.requires.contained c.requires.jumps.1
 
 pub imply-requires-clause-none : goal.imply-requires-clause-none
 imply-requires-clause-none g c =
     let t = c.args.state.now in
     let u : SearchView = c.undo_to.new.self in
-    let e : u ≡ back t c.args.to c.args.nogood u.ranking = jump_back t c.bump.new.self c.keep.new.self u c.args.to c.args.nogood _ c.bump.ensures c.in_ok-id.ensures.ok c.undo_to.ensures.same in
-    back_none t u c.requires.jumps.0 c.args.to c.args.nogood c.args.lit e c.trail-trail.ensures.ordered c.requires.contained c.requires.jumps.1
+    let e : u ≡ back t c.args.to c.keep.new.self.slots u.ranking = jump_back t c.bump.new.self c.keep.new.self u c.args.to _ BUMP c.in_ok-id.ensures.same c.undo_to.ensures.same in
+    back_none t u c.requires.jumps.0 c.args.to c.keep.new.self.slots c.args.nogood c.args.lit e c.trail-trail.ensures.ordered c.requires.contained c.requires.jumps.1
 
 pub imply-requires-clause-implied : goal.imply-requires-clause-implied
 imply-requires-clause-implied g c =
     let t = c.args.state.now in
     let u : SearchView = c.undo_to.new.self in
-    let e : u ≡ back t c.args.to c.args.nogood u.ranking = jump_back t c.bump.new.self c.keep.new.self u c.args.to c.args.nogood _ c.bump.ensures c.in_ok-id.ensures.ok c.undo_to.ensures.same in
-    back_implied t u c.requires.jumps.0 c.args.to c.args.nogood c.args.lit e c.trail-trail.ensures.ordered c.requires.contained c.requires.jumps.1 c.in_ok-id.id (c.in_ok-id.ensures.id ∙ ap (λ (x : SearchView). length x.slots) c.bump.ensures)
+    let e : u ≡ back t c.args.to c.keep.new.self.slots u.ranking = jump_back t c.bump.new.self c.keep.new.self u c.args.to _ BUMP c.in_ok-id.ensures.same c.undo_to.ensures.same in
+    back_implied t u c.requires.jumps.0 c.args.to c.keep.new.self.slots c.args.nogood c.args.lit e c.trail-trail.ensures.ordered c.requires.contained c.requires.jumps.1 c.in_ok-id.id ADDED
 
 pub returns-clause-ok : goal.returns-clause-ok
 returns-clause-ok g c =
     let t = c.args.state.now in
     let u : SearchView = c.undo_to.new.self in
-    let e : u ≡ back t c.args.to c.args.nogood u.ranking = jump_back t c.bump.new.self c.keep.new.self u c.args.to c.args.nogood _ c.bump.ensures c.in_ok-id.ensures.ok c.undo_to.ensures.same in
-    jump_done t u c.imply.new.self c.args.to c.in_ok-id.id c.args.nogood c.args.lit e c.imply.ensures
+    let e : u ≡ back t c.args.to c.keep.new.self.slots u.ranking = jump_back t c.bump.new.self c.keep.new.self u c.args.to _ BUMP c.in_ok-id.ensures.same c.undo_to.ensures.same in
+    jump_done t u c.imply.new.self c.args.to c.in_ok-id.id c.keep.new.self.slots c.args.lit e c.imply.ensures

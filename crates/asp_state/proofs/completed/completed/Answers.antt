@@ -1,14 +1,15 @@
-use Rattle.std.proofs.Common.{◌≡◌, List, [], ◌++◌, map, Option, sym, ap, ◌∙◌, subst}
+use Rattle.std.proofs.Common.{◌≡◌, List, [], Option, sym, ap, ◌∙◌, subst}
 use Rattle.std.specs.List.{All}
 use Rattle.asp_model.specs.declared.program.Program.{Program}
 use Rattle.asp_vars.specs.Numbering.{var_count}
 use Rattle.asp_vars.specs.Completion.{completion}
 use Rattle.asp_vars.specs.declared.nogood.Nogood.{Nogood}
-use Rattle.asp_store.specs.declared.kept.Kept.{Kept}
+use Rattle.asp_store.specs.declared.stored_nogood.StoredNogood.{StoredNogood}
 use Rattle.asp_propagate.specs.Propagating.{Propagating}
 use Rattle.asp_trail_laws.proofs.VarLaws.{completion_are_vars}
-use Rattle.asp_state.specs.SearchStates.{stays, AreOf}
-use Rattle.asp_state.proofs.ListedLaws.{vars_listed, stay_forever}
+use Rattle.asp_state.specs.SearchStates.{AddsForever, AreOf}
+use Rattle.asp_state.proofs.ListedLaws.{vars_listed}
+use Rattle.asp_state.proofs.SlotLaws.{completed_alone}
 use Rattle.asp_state.proofs.completed.completed.Goals as goal
 
 pub keep_all-requires : goal.keep_all-requires
@@ -18,13 +19,16 @@ keep_all-requires g c =
     subst (λ (x : Program). All (λ n. AreOf x n.lits) c.args.nogoods.items) (sym same)
     (subst (λ (ns : List Nogood). All (λ n. AreOf p n.lits) ns) (sym c.requires.nogoods) (vars_listed (var_count p) (completion p) (completion_are_vars p)))
 
-pub returns : goal.returns
-returns g c =
-    let p = c.args.compiled.now in
+pub returns-clause-same : goal.returns-clause-same
+returns-clause-same g c =
     let b = g.P.Propagator.bound c.args.propagator in
-    let items = c.args.nogoods.items in
-    let with_slots : List (Option Kept) → Propagating = λ xs. record { program = p; entries = []; slots = xs; bound = b } in
-    let with_program : Program → Propagating = λ x. record { program = x; entries = []; slots = map stays items; bound = b } in
-    c.in_ok-keep_all.ensures
-    ∙ (ap (λ (f : Propagating). record f { slots = f.slots ++ map stays items }) c.in_ok-engine.ensures
-    ∙ (ap with_program c.requires.program ∙ ap with_slots (ap (map stays) c.requires.nogoods ∙ stay_forever (completion p))))
+    let slots = c.keep_all.new.engine.slots in
+    let with_program : Program → Propagating = λ x. record { program = x; entries = []; slots = slots; bound = b } in
+    c.keep_all.ensures.same ∙ (ap (λ (f : Propagating). let e : Propagating = record f { slots = slots } in e) c.in_ok-engine.ensures ∙ ap with_program c.requires.program)
+
+pub returns-clause-slots : goal.returns-clause-slots
+returns-clause-slots g c =
+    let slots = c.keep_all.new.engine.slots in
+    completed_alone c.args.compiled.now slots
+    (subst (λ (ns : List Nogood). AddsForever ns [] slots) c.requires.nogoods
+    (subst (λ (xs : List (Option StoredNogood)). AddsForever c.args.nogoods.items xs slots) (ap (λ (f : Propagating). f.slots) c.in_ok-engine.ensures) c.in_ok-keep_all.ensures.ok))

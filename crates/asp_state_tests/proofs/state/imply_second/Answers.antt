@@ -4,7 +4,7 @@ use Rattle.asp_vars.specs.declared.nogood.Base.TheVariants as base
 use Rattle.asp_vars.proofs.LiteralLaws.{same_literal}
 use Rattle.asp_trail.specs.declared.trail.Entry.{Entry}
 use Rattle.asp_trail.specs.Reasons.{IsReason}
-use Rattle.asp_store.specs.declared.kept.Kept.{Kept}
+use Rattle.asp_store.specs.declared.stored_nogood.StoredNogood.{StoredNogood}
 use Rattle.asp_store.specs.Keeping.{kept_at}
 use Rattle.asp_propagate.specs.Propagating.{IsImplied}
 use Rattle.asp_propagate.proofs.AddLaws.{newest}
@@ -22,7 +22,7 @@ alone es i = record {
   others = λ k h ne. absurd (ne (sym (same_literal (T 2) k (first_of _ h))));
 }
 
-abbrev second : Kept
+abbrev second : StoredNogood
 second = record { nogood = record { lits = T 2 ∷ []; base = base.Local }; forever = false; locked = false }
 
 abbrev with_second : SearchView → SearchView
@@ -35,7 +35,7 @@ implied p q l id same at is =
     (subst (λ (m : Literal). IsImplied (path_of (with_second p)) m (length p.slots)) (sym is)
     (second.nogood, newest p.slots second, alone _ _)))
 
-newest_kept : (slots : List (Option Kept)) (k : Kept) → kept_at (slots ++ Some k ∷ []) (length slots) ≡ Some k
+newest_kept : (slots : List (Option StoredNogood)) (k : StoredNogood) → kept_at (slots ++ Some k ∷ []) (length slots) ≡ Some k
 newest_kept [] k = refl
 newest_kept (o ∷ slots) k = newest_kept slots k
 

@@ -27,7 +27,7 @@ invariant_of-self-in_err-id g c =
     let i = c.self.inside in
     let t = i.state in
     let sound : IsSound t.program = subst IsSound c.self.invariant.program c.program-program.ensures.sound in
-    search_told i.compiled.now i.mode t c.propagate.new.self i.learner i.checker i.known.items i.bars.items i.bound i.last (g.P.Propagator.gives t.program t.bound)
+    search_told i.compiled.now i.mode t c.propagate.new.self i.learner i.checker i.known.items i.blocking.items i.bound i.last (g.P.Propagator.gives t.program t.bound)
     (ap (λ (x : SearchView). x.program) c.propagate.ensures.same) (ap (λ (x : SearchView). x.bound) c.propagate.ensures.same)
     (λ n h. g.met.P.Propagator.sound t.program t.bound n i.known.items sound h) c.propagate.ensures.adds c.self.invariant
 
@@ -52,7 +52,7 @@ invariant_of-self-in-Some g c =
     let i = c.self.inside in
     let t = i.state in
     let sound : IsSound t.program = subst IsSound c.self.invariant.program c.program-program.ensures.sound in
-    search_told i.compiled.now i.mode t c.propagate.new.self i.learner i.checker i.known.items i.bars.items i.bound i.last (g.P.Propagator.gives t.program t.bound)
+    search_told i.compiled.now i.mode t c.propagate.new.self i.learner i.checker i.known.items i.blocking.items i.bound i.last (g.P.Propagator.gives t.program t.bound)
     (ap (λ (x : SearchView). x.program) c.propagate.ensures.same) (ap (λ (x : SearchView). x.bound) c.propagate.ensures.same)
     (λ n h. g.met.P.Propagator.sound t.program t.bound n i.known.items sound h) c.propagate.ensures.adds c.self.invariant
 
@@ -74,7 +74,7 @@ invariant_of-self-in-None g c =
     let i = c.self.inside in
     let t = i.state in
     let sound : IsSound t.program = subst IsSound c.self.invariant.program c.program-program.ensures.sound in
-    search_told i.compiled.now i.mode t c.propagate.new.self i.learner i.checker i.known.items i.bars.items i.bound i.last (g.P.Propagator.gives t.program t.bound)
+    search_told i.compiled.now i.mode t c.propagate.new.self i.learner i.checker i.known.items i.blocking.items i.bound i.last (g.P.Propagator.gives t.program t.bound)
     (ap (λ (x : SearchView). x.program) c.propagate.ensures.same) (ap (λ (x : SearchView). x.bound) c.propagate.ensures.same)
     (λ n h. g.met.P.Propagator.sound t.program t.bound n i.known.items sound h) c.propagate.ensures.adds c.self.invariant
 

@@ -6,6 +6,7 @@ use Rattle.asp_model.specs.Models.{is_stable}
 use Rattle.asp_model.specs.Sound.{IsSound}
 use Rattle.asp_vars.specs.Numbering.{var_count}
 use Rattle.asp_vars.specs.declared.nogood.Nogood.{Nogood}
+use Rattle.asp_store.specs.declared.stored_nogood.Kind.TheVariants as kind
 use Rattle.asp_order.specs.Waiting.{AreAssigned}
 use Rattle.asp_propagate.specs.Propagating.{IsQuiet}
 use Rattle.asp_trail_laws.specs.Whole.{atoms_on}
@@ -17,8 +18,7 @@ use Rattle.asp_state.specs.SearchStates.{SearchView, values_of, IsUnder}
 use Rattle.asp_search.specs.Invariants.{view_of}
 use Rattle.asp_search.specs.Stepping.{IsEntered, IsFound}
 use Rattle.asp_search.proofs.BelowLaws.{fault_useful, fault_continues}
-use Rattle.asp_search.proofs.JumpedLaws.{for_now}
-use Rattle.asp_search.proofs.SearchLaws.{search_checked, search_push, push_last}
+use Rattle.asp_search.proofs.SearchLaws.{search_checked, search_added, added_last}
 use Rattle.asp_search.proofs.StepsLaws.{always_err, fails_here, fails_still}
 use Rattle.asp_search.proofs.WholeLaws.{IsFull, full_whole, full_found, whole_for, atoms_for, found_for, stable_for}
 use Rattle.asp_search.proofs.search.Search.complete.Goals as goal
@@ -51,7 +51,7 @@ fault-requires-clause-whole g c =
       quiet = quiet;
       assigned = assigned;
       useful = c.self.invariant.useful;
-      barred = c.self.invariant.barred;
+      blocked = c.self.invariant.blocked;
     } in
     whole_for i.compiled.now t c.self.invariant.program
     (full_whole silent i.known.items t q full (λ v w h. g.met.P.Propagator.whole t.program t.bound (values_of t) v sound w h))
@@ -88,7 +88,7 @@ answer-requires g c =
       quiet = quiet;
       assigned = assigned;
       useful = c.self.invariant.useful;
-      barred = c.self.invariant.barred;
+      blocked = c.self.invariant.blocked;
     } in
     let atoms = atoms_for p c.trail.result.now.vars t c.trail.result.now.entries S c.self.invariant.program c.trail.ensures.vars c.trail.ensures.entries c.in_ok-interp.ensures in
     let verdict = subst (λ (r : Option Nogood). MatchOption r (IsTrue (is_stable p S)) (IsFault p (g.P.Propagator.gives p t.bound) (var_count p) t.entries)) c.in-None.is c.in_ok-fault.ensures.fault in
@@ -124,16 +124,16 @@ invariant_of-self-in-Some g c =
     let p = i.compiled.now in
     let n = c.in-Some.nogood in
     let u = c.keep.new.self in
-    let e = c.in_ok-id-in-Some.ensures.ok in
+    let e = c.in_ok-id-in-Some.ensures.same in
     let verdict = subst (λ (r : Option Nogood). MatchOption r (IsTrue (is_stable p c.in_ok-interp.interp)) (IsFault p (g.P.Propagator.gives p t.bound) (var_count p) t.entries)) c.in-Some.is
     c.in_ok-fault.ensures.fault in
     let fault : IsFault t.program (g.P.Propagator.gives t.program t.bound) (var_count t.program) t.entries n =
     subst (λ (x : Program). IsFault x (g.P.Propagator.gives x t.bound) (var_count x) t.entries n) c.self.invariant.program verdict in
-    let slots = ap (λ (x : SearchView). x.slots) e in
-    search_push p i.mode t u i.learner c.fault.new.checker i.known.items i.bars.items i.bound i.last i.last (for_now n) (ap (λ (x : SearchView). x.program) e) (ap (λ (x : SearchView). x.bound) e) slots
+    let a = c.in_ok-id-in-Some.ensures.ok in
+    search_added p i.mode t u i.learner c.fault.new.checker i.known.items i.blocking.items i.bound i.last i.last _ n kind.Given (ap (λ (x : SearchView). x.program) e) (ap (λ (x : SearchView). x.bound) e) a
     (fault_useful t.program i.known.items t.bound (g.P.Propagator.gives t.program t.bound) (var_count t.program) t.entries n fault)
-    (push_last t.slots u.slots (for_now n) i.last slots c.self.invariant.last_stands)
-    (search_checked p i.mode t i.learner i.checker c.fault.new.checker i.known.items i.bars.items i.bound i.last c.fault.ensures.same c.self.invariant)
+    (added_last t.slots u.slots _ n kind.Given i.last a c.self.invariant.last_stands)
+    (search_checked p i.mode t i.learner i.checker c.fault.new.checker i.known.items i.blocking.items i.bound i.last c.fault.ensures.same c.self.invariant)
 
 pub returns-in_ok-answer-in-None-clause-ok : goal.returns-in_ok-answer-in-None-clause-ok
 returns-in_ok-answer-in-None-clause-ok g c = λ q e.
@@ -157,7 +157,7 @@ returns-in_ok-id-in-Some-clause-ok g c =
     subst (λ (x : Program). IsFault x (g.P.Propagator.gives x t.bound) (var_count x) t.entries n) c.self.invariant.program verdict in
     let on : Continues (g.P.Propagator.gives s.program s.bound) s m =
     subst (λ (z : Searching). Continues (g.P.Propagator.gives z.program z.bound) z m) c.self.view_is
-    (fault_continues (g.P.Propagator.gives t.program t.bound) i.mode t u i.pace i.known.items i.last n fault c.in_ok-id-in-Some.ensures.ok) in
+    (fault_continues (g.P.Propagator.gives t.program t.bound) i.mode t u i.pace i.known.items i.last _ n kind.Given fault c.in_ok-id-in-Some.ensures.same c.in_ok-id-in-Some.ensures.ok) in
     IfOk-weaker c.meet.result
     (IsStep (g.P.Propagator.gives m.program m.bound) (g.P.Propagator.silent m.program m.bound) m c.meet.new.self f c.meet.new.fuel)
     (IsStep (g.P.Propagator.gives s.program s.bound) (g.P.Propagator.silent s.program s.bound) s c.meet.new.self f c.meet.new.fuel)
@@ -179,5 +179,5 @@ returns-in_ok-id-in-Some-clause-err g c =
     subst (λ (x : Program). IsFault x (g.P.Propagator.gives x t.bound) (var_count x) t.entries n) c.self.invariant.program verdict in
     let on : Continues (g.P.Propagator.gives s.program s.bound) s m =
     subst (λ (z : Searching). Continues (g.P.Propagator.gives z.program z.bound) z m) c.self.view_is
-    (fault_continues (g.P.Propagator.gives t.program t.bound) i.mode t u i.pace i.known.items i.last n fault c.in_ok-id-in-Some.ensures.ok) in
+    (fault_continues (g.P.Propagator.gives t.program t.bound) i.mode t u i.pace i.known.items i.last _ n kind.Given fault c.in_ok-id-in-Some.ensures.same c.in_ok-id-in-Some.ensures.ok) in
     on_err_weaker c.meet.result (fails_on g.P.Propagator.gives g.P.Propagator.silent s m c.meet.new.self f c.meet.new.fuel on) c.meet.ensures.err

@@ -41,14 +41,14 @@ pub invariant_of-self-in-Some : goal.invariant_of-self-in-Some
 invariant_of-self-in-Some g c =
     let i = c.self.inside in
     let e = c.in_ok-decide.ensures.same in
-    search_stays i.compiled.now i.mode i.state c.decide.new.self i.learner i.checker i.known.items i.bars.items i.bound i.last (ap (λ (x : SearchView). x.program) e)
+    search_stays i.compiled.now i.mode i.state c.decide.new.self i.learner i.checker i.known.items i.blocking.items i.bound i.last (ap (λ (x : SearchView). x.program) e)
     (ap (λ (x : SearchView). x.bound) e) (ap (λ (x : SearchView). x.slots) e) c.self.invariant
 
 pub invariant_of-self-in-None : goal.invariant_of-self-in-None
 invariant_of-self-in-None g c =
     let i = c.self.inside in
     let e = c.in_ok-decide.ensures.same in
-    search_stays i.compiled.now i.mode i.state c.decide.new.self i.learner i.checker i.known.items i.bars.items i.bound i.last (ap (λ (x : SearchView). x.program) e)
+    search_stays i.compiled.now i.mode i.state c.decide.new.self i.learner i.checker i.known.items i.blocking.items i.bound i.last (ap (λ (x : SearchView). x.program) e)
     (ap (λ (x : SearchView). x.bound) e) (ap (λ (x : SearchView). x.slots) e) c.self.invariant
 
 pub returns-in-Some-clause-ok : goal.returns-in-Some-clause-ok

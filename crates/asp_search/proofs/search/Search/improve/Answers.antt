@@ -23,7 +23,7 @@ invariant_of-self g c =
     let set = c.set_bound.ensures in
     let is : c.in_ok-cost.cost ≡ cost i.state.program c.args.interp.now =
     c.in_ok-cost.ensures ∙ ap (λ (x : Program). cost x c.args.interp.now) (c.program.ensures.program ∙ c.self.invariant.program) in
-    search_lower i.compiled.now i.mode i.state c.undo_to.new.self i.learner i.checker i.known.items i.bars.items i.bound c.in_ok-cost.cost i.last
+    search_lower i.compiled.now i.mode i.state c.undo_to.new.self i.learner i.checker i.known.items i.blocking.items i.bound c.in_ok-cost.cost i.last
     (ap (λ (x : SearchView). x.program) undo ∙ ap (λ (x : SearchView). x.program) set)
     (ap (λ (x : SearchView). x.bound) undo ∙ (ap (λ (x : SearchView). x.bound) set ∙ ap (λ (x : List ℤ). Some x) c.in_ok-copy.ensures))
     (ap (λ (x : SearchView). x.slots) undo ∙ ap (λ (x : SearchView). x.slots) set) (subst (λ (x : List ℤ). IsSmaller x i.state.bound) (sym is) found.cheaper) c.self.invariant

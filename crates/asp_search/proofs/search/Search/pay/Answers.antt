@@ -1,14 +1,14 @@
-use Rattle.std.proofs.Common.{◌<◌, false, List, Some, sym, ap, ◌∙◌, subst, arith}
+use Rattle.std.proofs.Common.{◌<◌, List, Some, sym, ap, ◌∙◌, subst, arith}
 use Rattle.asp_vars.specs.Literals.{Literal}
 use Rattle.asp_analyze.specs.declared.learn.Learned.TheVariants as learned
 use Rattle.asp_search_laws.specs.Searching.{Searching}
 use Rattle.asp_search_laws.specs.Steps.{Learns, Stops, Fails, IsFailure}
-use Rattle.asp_store.specs.declared.kept.Kept.{Kept}
+use Rattle.asp_store.specs.declared.stored_nogood.Kind.TheVariants as kind
 use Rattle.asp_state.specs.SearchStates.{SearchView}
 use Rattle.asp_search.specs.Invariants.{view_of}
 use Rattle.asp_search.specs.Meeting.{IsMet}
 use Rattle.asp_search.proofs.MeetLaws.{met_shows, met_useful, shown_holds, shows_for, clash_for}
-use Rattle.asp_search.proofs.SearchLaws.{search_push, search_stays, newest_last}
+use Rattle.asp_search.proofs.SearchLaws.{search_added, search_stays, newest_last}
 use Rattle.asp_search.proofs.StepsLaws.{same_cube, always_err, conflict_of, fails_here, fails_paid, met_stops, met_learns}
 use Rattle.asp_search.proofs.search.Search.pay.Goals as goal
 
@@ -79,7 +79,7 @@ pub invariant_of-self : goal.invariant_of-self
 invariant_of-self g c =
     let i = c.self.inside in
     let e = c.in_err-new.ensures.err in
-    search_stays i.compiled.now i.mode i.state c.jump.new.state i.learner i.checker i.known.items i.bars.items i.bound i.last (ap (λ (x : SearchView). x.program) e)
+    search_stays i.compiled.now i.mode i.state c.jump.new.state i.learner i.checker i.known.items i.blocking.items i.bound i.last (ap (λ (x : SearchView). x.program) e)
     (ap (λ (x : SearchView). x.bound) e) (ap (λ (x : SearchView). x.slots) e) c.self.invariant
 
 pub returns-in_err-new-clause-err : goal.returns-in_err-new-clause-err
@@ -110,12 +110,11 @@ invariant_of-self-2 g c =
     let i = c.self.inside in
     let q = c.requires.met.0 in
     let m = subst (λ (s : Searching). IsMet s q c.args.id (learned.Jump c.args.nogood c.args.to c.args.lit)) (sym c.self.view_is) c.requires.met.1 in
-    let k : Kept = record { nogood = c.args.nogood; forever = false; locked = false } in
     let e = c.in_ok-new.ensures.ok in
-    let slots = ap (λ (x : SearchView). x.slots) e in
-    search_push i.compiled.now i.mode i.state c.jump.new.state i.learner i.checker i.known.items i.bars.items i.bound i.last (Some c.in_ok-new.new) k (ap (λ (x : SearchView). x.program) e)
-    (ap (λ (x : SearchView). x.bound) e) slots (met_useful i.mode i.state i.pace i.known.items i.last q c.args.id (learned.Jump c.args.nogood c.args.to c.args.lit) m)
-    (newest_last i.state.slots c.jump.new.state.slots k c.in_ok-new.new slots c.in_ok-new.ensures.id) c.self.invariant
+    search_added i.compiled.now i.mode i.state c.jump.new.state i.learner i.checker i.known.items i.blocking.items i.bound i.last (Some c.in_ok-new.new) c.in_ok-new.new c.args.nogood kind.Learnt
+    (ap (λ (x : SearchView). x.program) e) (ap (λ (x : SearchView). x.bound) e) c.in_ok-new.ensures.added
+    (met_useful i.mode i.state i.pace i.known.items i.last q c.args.id (learned.Jump c.args.nogood c.args.to c.args.lit) m)
+    (newest_last i.state.slots c.jump.new.state.slots c.in_ok-new.new c.args.nogood kind.Learnt c.in_ok-new.ensures.added) c.self.invariant
 
 pub returns-clause-ok : goal.returns-clause-ok
 returns-clause-ok g c = λ r e.
@@ -133,7 +132,7 @@ returns-clause-ok g c = λ r e.
     let is = conflict_of (g.P.Propagator.gives i.state.program i.state.bound) i.mode i.state i.pace i.known.items i.last q c.args.id c.args.lit x m.entered shows clash in
     let left : 0 < f.left = omega (arith, c.left.ensures.left, c.if-left-eq0.false) in
     let new : Searching = view_of i.mode u c.count.new.self i.known.items (Some c.in_ok-new.new) in
-    let learns = met_learns (g.P.Propagator.gives i.state.program i.state.bound) i.mode i.state i.pace i.known.items i.last q f h x u c.count.new.self u.ranking c.args.id c.in_ok-new.new
-    c.args.to c.args.nogood c.args.lit m is left c.burn.ensures c.in_ok-new.ensures.id c.in_ok-new.ensures.ok c.count.ensures in
+    let learns = met_learns (g.P.Propagator.gives i.state.program i.state.bound) i.mode i.state i.pace i.known.items i.last q f h x u c.count.new.self u.slots u.ranking c.args.id c.in_ok-new.new
+    c.args.to c.args.nogood c.args.lit m is left c.burn.ensures c.in_ok-new.ensures.added c.in_ok-new.ensures.ok c.count.ensures in
     subst (λ (y : List Literal). Learns (g.P.Propagator.gives s.program s.bound) s new y f h) (same_cube s.cube q r c.requires.met.1.entered e)
     (subst (λ (z : Searching). Learns (g.P.Propagator.gives z.program z.bound) z new q f h) c.self.view_is learns)

@@ -1,12 +1,12 @@
-use Rattle.std.proofs.Common.{List, Option, map, sym, ap, ◌∙◌, subst}
+use Rattle.std.proofs.Common.{List, Option, sym, ap, ◌∙◌, subst}
 use Rattle.std.specs.Prelude.{option_map}
 use Rattle.asp_model.specs.declared.program.Program.{Program}
 use Rattle.asp_vars.specs.Literals.{Literal}
 use Rattle.asp_trail.specs.declared.trail.Entry.{Entry}
 use Rattle.asp_trail.specs.Entries.{level}
-use Rattle.asp_propagate.specs.Propagating.{Implies, for_now}
+use Rattle.asp_propagate.specs.Propagating.{Implies}
 use Rattle.asp_state.specs.SearchStates.{SearchView, IsSearchState, KeepsCompletion}
-use Rattle.asp_state.proofs.SlotLaws.{completed_more}
+use Rattle.asp_state.proofs.SlotLaws.{completed_stays}
 use Rattle.asp_state.proofs.StateLaws.{implied_form, track_implied}
 use Rattle.asp_state.proofs.state.SearchState.propagate.Goals as goal
 
@@ -17,7 +17,7 @@ invariant_of-self g c =
     let u = c.requires.1 in
     let cube : Option (List Literal) = option_map (λ q. q.items) i.cube in
     let kept : KeepsCompletion i.engine.program c.propagate.new.self.slots =
-    subst (KeepsCompletion i.engine.program) (sym e.adds.slots) (completed_more i.engine.program i.engine.slots (map for_now e.adds.more) c.self.invariant.completed) in
+    completed_stays i.engine.program i.engine.slots c.propagate.new.self.slots e.adds.stay c.self.invariant.completed in
     subst (λ (p : Program). IsSearchState p cube i.clashing i.decisions.items c.propagate.new.self.entries c.propagate.new.self.slots i.order) (sym e.program)
     (subst (λ (es : List Entry). IsSearchState i.engine.program cube i.clashing i.decisions.items es c.propagate.new.self.slots i.order) (sym e.implies.1)
     (track_implied i.engine.program cube i.clashing c.requires.0 i.decisions.items i.engine.entries e.implies.0 i.engine.slots c.propagate.new.self.slots i.order

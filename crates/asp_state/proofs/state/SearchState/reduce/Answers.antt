@@ -1,7 +1,6 @@
 use Rattle.std.proofs.Common.{sym, subst}
 use Rattle.std.specs.Prelude.{option_map}
-use Rattle.asp_propagate.specs.Propagating.{Propagating, IsReduced}
-use Rattle.asp_propagate.specs.Locking.{thinned}
+use Rattle.asp_propagate.specs.Propagating.{Propagating}
 use Rattle.asp_state.proofs.KeepLaws.{IsSearchView, reduced_all}
 use Rattle.asp_state.proofs.state.SearchState.reduce.Goals as goal
 
@@ -9,6 +8,5 @@ pub invariant_of-self : goal.invariant_of-self
 invariant_of-self g c =
     let i = c.self.inside in
     let cube = option_map (λ q. q.items) i.cube in
-    let d = subst (λ (f : Propagating). IsReduced i.engine.entries i.engine.slots f.slots) c.reduce.ensures.thinned c.reduce.ensures.kept in
-    subst (λ (f : Propagating). IsSearchView f cube i.clashing i.decisions.items i.order) (sym c.reduce.ensures.thinned)
-    (reduced_all i.engine (thinned i.engine.entries i.engine.slots) cube i.clashing i.decisions.items i.order d c.self.invariant)
+    subst (λ (f : Propagating). IsSearchView f cube i.clashing i.decisions.items i.order) (sym c.reduce.ensures.same)
+    (reduced_all i.engine c.reduce.new.self.slots cube i.clashing i.decisions.items i.order c.reduce.ensures.kept c.self.invariant)

@@ -1,8 +1,7 @@
 use Rattle.std.proofs.Common.{ℕ, List, Option, subst}
 use Rattle.asp_vars.specs.Numbering.{var_count}
-use Rattle.asp_store.specs.declared.kept.Kept.{Kept}
-use Rattle.asp_store.specs.Fitting.{HaveReasons}
-use Rattle.asp_store.specs.Visiting.{AreSmall}
+use Rattle.asp_store.specs.declared.stored_nogood.StoredNogood.{StoredNogood}
+use Rattle.asp_store.specs.Fitting.{AreSmall, HaveReasons}
 use Rattle.asp_state.specs.SearchStates.{SearchView, KeepsCompletion}
 use Rattle.asp_state.proofs.state.SearchState.store.Goals as goal
 
@@ -12,7 +11,7 @@ returns-clause-reasons g c = subst (λ (t : SearchView). HaveReasons t.slots t.e
 pub returns-clause-small : goal.returns-clause-small
 returns-clause-small g c =
     subst (λ (t : SearchView). AreSmall (var_count t.program) t.slots) c.self.view_is
-    (subst (λ (n : ℕ). AreSmall n c.self.inside.engine.slots) c.store.ensures.vars (subst (λ (xs : List (Option Kept)). AreSmall c.store.result.now.vars xs) c.store.ensures.slots c.extra-extra.ensures.small))
+    (subst (λ (n : ℕ). AreSmall n c.self.inside.engine.slots) c.store.ensures.vars (subst (λ (xs : List (Option StoredNogood)). AreSmall c.store.result.now.vars xs) c.store.ensures.slots c.extra-extra.ensures.small))
 
 pub returns-clause-completed : goal.returns-clause-completed
 returns-clause-completed g c = subst (λ (t : SearchView). KeepsCompletion t.program t.slots) c.self.view_is c.self.invariant.completed
