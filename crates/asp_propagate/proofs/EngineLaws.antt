@@ -1,5 +1,5 @@
 -- What callers see of a engine, and what its parts are.
-use Rattle.std.proofs.Common.{◌≡◌, ℕ, ◌+◌, ◌≤◌, Bool, true, false, List, [], length, replicate, min, Option, Some, None, sym, ap, ◌∙◌, subst, arith}
+use Rattle.std.proofs.Common.{◌≡◌, ℕ, ◌+◌, ◌≤◌, Bool, List, [], length, replicate, min, Option, Some, None, sym, ap, ◌∙◌, subst, arith}
 use Rattle.std.specs.Prelude.{ℤ, Result, Ok, Err}
 use Rattle.std.specs.Result.{IfOk, OnErr}
 use Rattle.asp_model.specs.declared.program.Program.{Program}
@@ -8,7 +8,7 @@ use Rattle.asp_vars.specs.Numbering.{var_count}
 use Rattle.asp_vars.specs.declared.nogood.Nogood.{Nogood}
 use Rattle.asp_trail.specs.declared.trail.Entry.{Entry}
 use Rattle.asp_trail.specs.Entries.{assignment, cut}
-use Rattle.asp_trail.specs.Trails.{Trailed, IsVar, IsOrdered}
+use Rattle.asp_trail.specs.Trails.{Trailed, IsVar}
 use Rattle.asp_trail.specs.Told.{Told}
 use Rattle.asp_store.specs.declared.stored_nogood.StoredNogood.{StoredNogood}
 use Rattle.asp_store.specs.declared.stored_nogood.Kind.{Kind}

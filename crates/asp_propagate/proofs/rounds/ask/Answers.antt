@@ -10,10 +10,10 @@ returns-in_ok-_id-in-Some-clause-goes g c =
     let t = g.P.Propagator.told c.args.propagator.now in
     let b = g.P.Propagator.bound c.args.propagator.now in
     goes_one (g.P.Propagator.gives t.program b) t (g.P.Propagator.told c.next.new.self) b (g.P.Propagator.bound c.next.new.self) c.args.store.now c.add.new.self
-    c.args.trail.now.entries c.in_ok-_id.id c.in-Some.nogood c.next.ensures.values c.next.ensures.stays c.in_ok-_id.ensures.ok
+    c.args.trail.now.entries c.in_ok-_id-in-Some._id c.in-Some.nogood c.next.ensures.values c.next.ensures.stays c.in_ok-_id-in-Some.ensures.ok
     (subst (λ (n : Option Nogood). IfSome n (g.P.Propagator.gives t.program b)) c.in-Some.is c.in_ok-next.ensures.given)
 
 pub returns-in_ok-_id-in-Some-clause-stays : goal.returns-in_ok-_id-in-Some-clause-stays
 returns-in_ok-_id-in-Some-clause-stays g c n f =
-    asked_more (g.P.Propagator.told c.args.propagator.now) (g.P.Propagator.told c.next.new.self) c.args.store.now c.add.new.self c.args.trail.now n c.in_ok-_id.id c.in-Some.nogood kind.Given
-    c.next.ensures.values c.in_ok-_id.ensures.ok f
+    asked_more (g.P.Propagator.told c.args.propagator.now) (g.P.Propagator.told c.next.new.self) c.args.store.now c.add.new.self c.args.trail.now n c.in_ok-_id-in-Some._id c.in-Some.nogood kind.Given
+    c.next.ensures.values c.in_ok-_id-in-Some.ensures.ok f

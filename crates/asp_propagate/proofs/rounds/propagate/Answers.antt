@@ -1,4 +1,4 @@
-use Rattle.std.proofs.Common.{◌≡◌, ℕ, ◌<◌, true, false, Bool, List, Option, None, length, sym, ap, ◌∙◌, subst, arith}
+use Rattle.std.proofs.Common.{◌≡◌, ℕ, ◌<◌, Bool, List, Option, length, sym, ap, ◌∙◌, subst, arith}
 use Rattle.std.specs.Prelude.{IfNone, IfSome}
 use Rattle.std.specs.Option.{option_map}
 use Rattle.asp_vars.specs.Numbering.{var_count}

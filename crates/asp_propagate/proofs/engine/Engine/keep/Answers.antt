@@ -1,8 +1,7 @@
-use Rattle.std.proofs.Common.{◌≡◌, ℕ, List, Option, refl, sym, ap, ◌∙◌, subst}
+use Rattle.std.proofs.Common.{◌≡◌, ℕ, refl, sym, ap, ◌∙◌, subst}
 use Rattle.std.specs.List.{All}
 use Rattle.std.specs.Result.{IfOk}
 use Rattle.asp_trail.specs.Trails.{IsVar}
-use Rattle.asp_store.specs.declared.stored_nogood.StoredNogood.{StoredNogood}
 use Rattle.asp_store.specs.Storing.{Stored, IsAdded}
 use Rattle.asp_propagate.specs.Propagating.{Propagating, Keeps}
 use Rattle.asp_propagate.proofs.EngineLaws.{view_of, vars_are, if_ok, on_err, kept_either}

@@ -1,11 +1,9 @@
-use Rattle.std.proofs.Common.{◌≡◌, List, Option, length, sym, ap, ◌∙◌, subst}
-use Rattle.asp_store.specs.declared.stored_nogood.StoredNogood.{StoredNogood}
+use Rattle.std.proofs.Common.{◌≡◌, true, length, sym, ap, ◌∙◌, subst}
 use Rattle.asp_store.specs.Storing.{Stored}
 use Rattle.asp_propagate.specs.Propagating.{Propagating, IsReduced}
-use Rattle.asp_propagate.specs.Locking.{lock_all, HaveSlots}
+use Rattle.asp_propagate.specs.Locking.{HaveSlots}
 use Rattle.asp_propagate.proofs.PropagateLaws.{have_slots, followed_reduced}
 use Rattle.asp_propagate.proofs.LockLaws.{lock_all_length, locks_lose, locks_reduced}
-use Rattle.asp_propagate.proofs.EngineLaws.{view_of}
 use Rattle.asp_propagate.proofs.engine.Engine.reduce.Goals as goal
 
 pub lock_reasons-requires : goal.lock_reasons-requires
