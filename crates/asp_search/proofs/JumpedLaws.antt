@@ -20,6 +20,13 @@ abbrev pub back : SearchView → ℕ → List (Option StoredNogood) → Ranking 
 back t to slots ranking = record t { entries = cut to t.entries; decisions = take to t.decisions; slots = slots; ranking = ranking }
 
 -- ---- the steps of a jump
+pub jump_bumped : (t m a : SearchView) (ranking : Ranking) → m ≡ t → a ≡ record m { ranking = ranking } → a ≡ record t { ranking = a.ranking }
+jump_bumped t m a ranking same e =
+    let with_order : Ranking → SearchView = λ r. record m { ranking = r } in
+    e
+    ∙ (ap with_order (sym (ap (λ (x : SearchView). x.ranking) e))
+    ∙ ap (λ (x : SearchView). let y : SearchView = record x { ranking = a.ranking } in y) same)
+
 pub jump_back : (t a b u : SearchView) (to : ℕ) (ranking : Ranking) → a ≡ record t { ranking = ranking } → b ≡ record a { slots = b.slots } →
     u ≡ record b { decisions = take to b.decisions; entries = cut to b.entries; ranking = u.ranking } → u ≡ back t to b.slots u.ranking
 jump_back t a b u to ranking bump keep undo =

@@ -11,7 +11,7 @@ ghost use Rattle.asp_search_laws.specs.Explaining.{Explains};
 ghost use Rattle.asp_state.specs.SearchStates.{IsUnder};
 ghost use Rattle.asp_search.specs.Meeting.{ShowsConflict, IsClashOf};
 
-use crate::spread::{Spread, reason_at};
+use crate::spread::{Spread, note_used};
 use asp_analyze::learn::{Learned, Learner};
 use asp_model::cost::Cost;
 use asp_model::interp::Interp;
@@ -73,21 +73,6 @@ pub(crate) fn conflict<P: Propagator>(
     Ok(Conflict::of(compiled, cube, decisions, nogood, known, bound))
 }
 
-// Says that the reasons were used by which the literals that were met at the level of the point were resolved.
-fn note_used<P: Propagator>(state: &mut SearchState<P>, met: &[Lit], point: Lit)
-    ensures { state.new ≡ state.old }
-{
-    let level = state.trail().level_of(point.var());
-    for lit in met {
-        if lit.var() != point.var() {
-            let reason = reason_at(state.trail(), lit.var(), level);
-            if let Some(id) = reason {
-                state.used(id);
-            }
-        }
-    }
-}
-
 /// Keeps what was learnt, and goes back to where it implies the literal.
 pub(crate) fn jump<P: Propagator>(
     state: &mut SearchState<P>,
@@ -111,9 +96,9 @@ pub(crate) fn jump<P: Propagator>(
     ensures err { OnErr result (state.new ≡ record state.old { ranking = state.new.ranking }) }
 {
     let _trail = state.trail();
-    state.bump(nogood.lits.as_slice(), learner.met());
     let levels = spread.count(state.trail(), nogood.lits.as_slice());
-    note_used(state, learner.met(), lit);
+    note_used(state, learner.met(), lit.var());
+    state.bump(nogood.lits.as_slice(), learner.met());
     let id = state.keep(nogood, Kind::Learnt, levels)?;
     state.undo_to(to);
     state.imply(lit, id);

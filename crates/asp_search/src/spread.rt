@@ -1,8 +1,11 @@
-//! Over how many levels the literals of a learnt nogood are spread (its LBD: Audemard, Simon 2009), and which nogoods it
-//! was learnt from. Both only choose what is dropped later, so no clause speaks of them.
-ghost use Rattle.std.specs.Prelude.{◌≤◌, ◌<◌};
+//! Over how many levels the literals of a learnt nogood are spread (its LBD: Audemard, Simon 2009), and which nogoods it was
+//! learnt from. Both only choose what is dropped later, so no clause speaks of them.
+ghost use Rattle.std.specs.Prelude.{◌≡◌, ◌≤◌};
 ghost use Rattle.std.specs.List.{All};
+ghost use Rattle.asp_vars.specs.Numbering.{var_count};
 
+use asp_propagate::propagator::Propagator;
+use asp_state::state::SearchState;
 use asp_trail::reasons::NogoodId;
 use asp_trail::trail::Trail;
 use asp_vars::lit::{Lit, Var};
@@ -27,15 +30,13 @@ fn level_of(trail: &Trail, var: Var) -> usize
     }
 }
 
-/// The nogood that implied a variable at this level.
-pub(crate) fn reason_at(trail: &Trail, var: Var, level: usize) -> Option<NogoodId>
+// The nogood that implied a variable at this level.
+fn reason_at(trail: &Trail, var: Var, level: usize) -> Option<NogoodId>
     requires { var ≤ trail.now.vars }
 {
-    let _value = trail.value(var)?;
-    if trail.level_of(var) == level {
-        trail.reason_of(var)
-    } else {
-        None
+    match trail.value(var) {
+        None => None,
+        Some(_) => if trail.level_of(var) == level { trail.reason_of(var) } else { None },
     }
 }
 
@@ -76,5 +77,27 @@ impl Spread {
             }
         }
         count
+    }
+}
+
+// Says that the nogood was used that implied the variable at this level.
+fn note_reason<P: Propagator>(state: &mut SearchState<P>, var: Var, level: usize)
+    requires { var ≤ var_count state.old.program }
+    ensures { state.new ≡ state.old }
+{
+    if let Some(id) = reason_at(state.trail(), var, level) {
+        state.used(id);
+    }
+}
+
+/// Says that the nogoods were used that implied the variables met at the point's level.
+pub(crate) fn note_used<P: Propagator>(state: &mut SearchState<P>, met: &[Lit], point: Var)
+    requires point { point ≤ var_count state.old.program }
+    requires met { All (λ l. l.var ≤ var_count state.old.program) met.now }
+    ensures { state.new ≡ state.old }
+{
+    let level = level_of(state.trail(), point);
+    for lit in met {
+        note_reason(state, lit.var(), level);
     }
 }

@@ -92,7 +92,7 @@ adds_another ns old mid new id n a x = record {
       (λ m h. (h.0, added_stays mid new id n kind.Forever x h.0 (record { nogood = m; kind = kind.Forever; locked = false }) h.1)) ns a.each)
       (id, x.here);
   only = λ j k g. elim (is_or_not j id) [
-    | inl e ↦ inr (Any-push (λ m. Some k ≡ stays m) ns n (sym g ∙ (ap (kept_at new) e ∙ x.here)))
+    | inl e ↦ inr (Any-push (λ (m : Nogood). Some k ≡ stays m) ns n (sym g ∙ (ap (kept_at new) e ∙ x.here)))
     | inr ne ↦ elim (a.only j k (sym (x.others j ne) ∙ g)) [
       | inl was ↦ inl was
       | inr of ↦ inr (any_more k ns n of)
@@ -108,11 +108,11 @@ each_forever slots (n ∷ ns) a =
       each_forever slots ns (λ i d h. a (suc i) d (omega (arith, h))),
     )
 
-any_forever : (k : StoredNogood) (ns : List (List Literal)) → Any (λ m. Some k ≡ stays m) (map pure ns) → Any (λ n. Some k ≡ forever n) ns
-any_forever k [] a = absurd (omega (arith, a.2))
-any_forever k (n ∷ ns) (zero, m, h, at, is) = (zero, n, omega arith, refl, is ∙ ap stays (sym at))
-any_forever k (n ∷ ns) (suc i, m, h, at, is) =
-    let rest = any_forever k ns (i, m, omega (arith, h), at, is) in
+any_forever : (k : StoredNogood) (ns : List (List Literal)) (i : ℕ) (m : Nogood) → i < length (map pure ns) → get_or (map pure ns) i m ≡ m → Some k ≡ stays m → Any (λ n. Some k ≡ forever n) ns
+any_forever k [] i m h at is = absurd (omega (arith, h))
+any_forever k (n ∷ ns) zero m h at is = (zero, n, omega arith, refl, is ∙ ap stays (sym at))
+any_forever k (n ∷ ns) (suc i) m h at is =
+    let rest = any_forever k ns i m (omega (arith, h)) at is in
     (suc rest.0, rest.1, omega (arith, rest.2), rest.3, rest.4)
 
 -- where nothing was kept before
@@ -121,7 +121,7 @@ completed_alone p slots a = record {
   each = each_forever slots (completion p) a.each;
   only = λ id k g. elim (a.only id k g) [
     | inl none ↦ absurd (none-some k none)
-    | inr of ↦ any_forever k (completion p) of
+    | inr of ↦ any_forever k (completion p) of.0 of.1 of.2 of.3 of.4
   ];
 }
 

@@ -1,93 +1,20 @@
-//! Each call once, with a propagator that has nothing to say while the last variable has no value. Want of memory ends
-//! a test.
-ghost use Rattle.std.specs.Prelude.{◌≡◌, ◌<◌, ◌∷◌, [], None, false, length};
+//! Each call of an engine once, with a propagator that has nothing to say while the last variable has no value. Want of
+//! memory ends a test.
+ghost use Rattle.std.specs.Prelude.{◌≡◌, ◌<◌, ◌∷◌, [], None, Some, length};
 ghost use Rattle.asp_vars.specs.Literals.{T};
 ghost use Rattle.asp_vars.specs.Numbering.{var_count};
 ghost use Rattle.asp_vars.specs.declared.nogood.Base.TheVariants as base;
-ghost use Rattle.asp_propagate.specs.Propagating.{with_nogood};
+ghost use Rattle.asp_store.specs.Keeping.{nogood_at};
 
+use crate::common::{Mute, free_atoms, mute, second};
 use asp_model::cost::Cost;
-use asp_model::program::{Body, Head, Program, Rule};
-use asp_model::seq::Seq;
 use asp_propagate::engine::Engine;
-use asp_propagate::propagator::Propagator;
+use asp_store::stored_nogood::Kind;
 use asp_trail::reasons::NogoodId;
-use asp_trail::trail::Trail;
-use asp_vars::assign::Assign;
 use asp_vars::lit::Lit;
 use asp_vars::nogood::{Base, Lits, Nogood};
-use asp_vars::origin::Origin;
-use std::alloc::{AllocError, Global};
+use std::alloc::Global;
 use std::process::Abort;
-
-// It has no nogoods, and fails where the third variable has a value or a bound stands.
-#[derive(Drop)]
-struct Mute {
-    origin: Origin<Program>,
-    values: Assign,
-    bound: Option<Cost>,
-    ghost three: { var_count origin.value ≡ 3 },
-    ghost sized: { length values ≡ 4 },
-}
-
-impl Propagator for Mute {
-    ghost use Rattle.std.specs.Prelude.{◌≡◌, ℕ, None};
-    ghost use Rattle.asp_vars.specs.Literals.{value_of};
-    ghost use Rattle.asp_vars.specs.Numbering.{var_count};
-    ghost use Rattle.asp_trail.specs.Trails.{IsVar};
-    ghost use Rattle.asp_propagate.specs.Whole.{not_whole};
-
-    ghost told = { λ m. record { program = m.origin.value; values = m.values } };
-
-    ghost bound = { λ m. m.bound };
-
-    ghost gives = { λ p b n. ⊥ };
-
-    ghost silent = { λ p b a. (x : ℕ) × IsVar (var_count p) x × (value_of a x ≡ None) };
-
-    ghost sound = { λ p b n known s h. absurd h };
-
-    ghost whole = { λ p b a v s w h. absurd (not_whole p a v w h.0 h.1 h.2) };
-
-    fn assign(&mut self, lit: Lit) {
-        self.values.set(lit);
-    }
-
-    fn undo(&mut self, lit: Lit) {
-        self.values.unset(lit.var());
-    }
-
-    fn set_bound(&mut self, cost: Cost) {
-        self.bound = Some(cost);
-    }
-
-    fn next(&mut self, trail: &Trail) -> Result<Option<Nogood>, AllocError> {
-        let _ = trail;
-        if self.bound.is_some() || self.values.value(3) != None {
-            return Err(AllocError);
-        }
-        Ok(None)
-    }
-}
-
-// Two atoms that are free.
-fn free_atoms(rt: &impl Abort, heap: Global) -> Program
-    ensures { var_count result ≡ 3 }
-{
-    let atoms = [1, 2].to_vec(heap).expect(rt, "memory");
-    let rule = Rule {
-        head: Head::Choice(Seq::from_vec(atoms)),
-        body: Body::All(Seq::from_vec(Vec::new(heap))),
-    };
-    let rules = vec![in heap; rule].expect(rt, "memory");
-    Program {
-        rules: Seq::from_vec(rules),
-        minimize: Seq::from_vec(Vec::new(heap)),
-        outputs: Seq::from_vec(Vec::new(heap)),
-        externals: Seq::from_vec(Vec::new(heap)),
-        assumptions: Seq::from_vec(Vec::new(heap)),
-    }
-}
 
 fn start(rt: &impl Abort, heap: Global) -> Engine<Mute>
     ensures vars { var_count result.program ≡ 3 }
@@ -95,11 +22,7 @@ fn start(rt: &impl Abort, heap: Global) -> Engine<Mute>
     ensures bound { result.bound ≡ None }
 {
     let program = free_atoms(rt, heap);
-    let mute = Mute {
-        origin: Origin::of(&program),
-        values: Assign::new(heap, 3).expect(rt, "memory"),
-        bound: None,
-    };
+    let mute = mute(rt, heap, &program, 3);
     Engine::new(heap, 3, mute).expect(rt, "memory")
 }
 
@@ -113,23 +36,14 @@ fn pair(rt: &impl Abort, heap: Global) -> Nogood
     }
 }
 
-// The second atom alone.
-fn second(rt: &impl Abort, heap: Global) -> Nogood
-    ensures { result ≡ record { lits = T 2 ∷ []; base = base.Pure } }
-{
-    let lits = [Lit::new(2, true)];
-    Nogood {
-        lits: Lits::from_slice(heap, lits.as_slice()).expect(rt, "memory"),
-        base: Base::Pure,
-    }
-}
-
 #[test]
 fn implies_and_takes_back(rt: HostRuntime) {
     let heap = rt.alloc();
     let mut engine = start(&rt, heap);
     engine.decide(Lit::new(1, true));
-    let one = engine.keep(pair(&rt, heap), false).expect(&rt, "memory");
+    let one = engine
+        .keep(pair(&rt, heap), Kind::Learnt, 2)
+        .expect(&rt, "memory");
     let violated = engine.propagate().expect(&rt, "memory");
     assert_eq!(rt; violated, None);
     assert!(rt; engine.trail().value(2) == Some(false));
@@ -142,10 +56,12 @@ fn implies_and_takes_back(rt: HostRuntime) {
 
 fn keep_second(rt: &impl Abort, heap: Global, engine: &mut Engine<Mute>) -> NogoodId
     requires { var_count engine.old.program ≡ 3 }
-    ensures kept { engine.new ≡ with_nogood engine.old (record { lits = T 2 ∷ []; base = base.Pure }) false }
-    ensures id { result ≡ length engine.old.slots }
+    ensures same { engine.new ≡ record engine.old { slots = engine.new.slots } }
+    ensures kept { nogood_at engine.new.slots result ≡ Some (record { lits = T 2 ∷ []; base = base.Pure }) }
 {
-    engine.keep(second(rt, heap), false).expect(rt, "memory")
+    engine
+        .keep(second(rt, heap, Base::Pure), Kind::Learnt, 1)
+        .expect(rt, "memory")
 }
 
 // Keeps that the second atom isn't true, and implies it.

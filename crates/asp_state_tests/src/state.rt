@@ -1,96 +1,24 @@
-//! Each call once, with a propagator that has nothing to say while the second variable has no value. Want of memory ends
-//! a test.
-ghost use Rattle.std.specs.Prelude.{◌≡◌, ◌++◌, ◌∷◌, [], ℕ, List, None, Some, false, length};
+//! Each call of a search's state once, with a propagator that has nothing to say while the second variable has no value.
+//! Want of memory ends a test.
+ghost use Rattle.std.specs.Prelude.{◌≡◌, ◌∷◌, [], ℕ, List, None, Some, false, length};
 ghost use Rattle.asp_vars.specs.Literals.{Literal, T};
 ghost use Rattle.asp_vars.specs.Numbering.{var_count};
 ghost use Rattle.asp_vars.specs.declared.nogood.Base.TheVariants as base;
 ghost use Rattle.asp_store.specs.declared.stored_nogood.StoredNogood.{StoredNogood};
+ghost use Rattle.asp_store.specs.declared.stored_nogood.Kind.TheVariants as kind;
 ghost use Rattle.asp_store.specs.Keeping.{kept_at};
 ghost use Rattle.asp_state.specs.SearchStates.{IsUnder};
 
+use crate::common::{Mute, free_atoms, mute, second};
 use asp_model::cost::Cost;
-use asp_model::program::{Body, Head, Program, Rule};
-use asp_model::seq::Seq;
-use asp_propagate::propagator::Propagator;
 use asp_state::state::SearchState;
+use asp_store::stored_nogood::Kind;
 use asp_trail::reasons::NogoodId;
-use asp_trail::trail::Trail;
-use asp_vars::assign::Assign;
 use asp_vars::compile::compile;
 use asp_vars::lit::Lit;
 use asp_vars::nogood::{Base, Lits, Nogood};
-use asp_vars::origin::Origin;
 use std::alloc::{AllocError, Global};
 use std::process::Abort;
-
-// It has no nogoods, and fails where the second variable has a value or a bound stands.
-#[derive(Drop)]
-struct Mute {
-    origin: Origin<Program>,
-    values: Assign,
-    bound: Option<Cost>,
-    ghost three: { var_count origin.value ≡ 3 },
-    ghost sized: { length values ≡ 4 },
-}
-
-impl Propagator for Mute {
-    ghost use Rattle.std.specs.Prelude.{◌≡◌, ℕ, None};
-    ghost use Rattle.asp_vars.specs.Literals.{value_of};
-    ghost use Rattle.asp_vars.specs.Numbering.{var_count};
-    ghost use Rattle.asp_trail.specs.Trails.{IsVar};
-    ghost use Rattle.asp_propagate.specs.Whole.{not_whole};
-
-    ghost told = { λ m. record { program = m.origin.value; values = m.values } };
-
-    ghost bound = { λ m. m.bound };
-
-    ghost gives = { λ p b n. ⊥ };
-
-    ghost silent = { λ p b a. (x : ℕ) × IsVar (var_count p) x × (value_of a x ≡ None) };
-
-    ghost sound = { λ p b n known s h. absurd h };
-
-    ghost whole = { λ p b a v s w h. absurd (not_whole p a v w h.0 h.1 h.2) };
-
-    fn assign(&mut self, lit: Lit) {
-        self.values.set(lit);
-    }
-
-    fn undo(&mut self, lit: Lit) {
-        self.values.unset(lit.var());
-    }
-
-    fn set_bound(&mut self, cost: Cost) {
-        self.bound = Some(cost);
-    }
-
-    fn next(&mut self, trail: &Trail) -> Result<Option<Nogood>, AllocError> {
-        let _ = trail;
-        if self.bound.is_some() || self.values.value(2) != None {
-            return Err(AllocError);
-        }
-        Ok(None)
-    }
-}
-
-// Two atoms that are free.
-fn free_atoms(rt: &impl Abort, heap: Global) -> Program
-    ensures { var_count result ≡ 3 }
-{
-    let atoms = [1, 2].to_vec(heap).expect(rt, "memory");
-    let rule = Rule {
-        head: Head::Choice(Seq::from_vec(atoms)),
-        body: Body::All(Seq::from_vec(Vec::new(heap))),
-    };
-    let rules = vec![in heap; rule].expect(rt, "memory");
-    Program {
-        rules: Seq::from_vec(rules),
-        minimize: Seq::from_vec(Vec::new(heap)),
-        outputs: Seq::from_vec(Vec::new(heap)),
-        externals: Seq::from_vec(Vec::new(heap)),
-        assumptions: Seq::from_vec(Vec::new(heap)),
-    }
-}
 
 fn start(rt: &impl Abort, heap: Global) -> SearchState<Mute>
     ensures vars { var_count result.program ≡ 3 }
@@ -99,11 +27,7 @@ fn start(rt: &impl Abort, heap: Global) -> SearchState<Mute>
     let program = free_atoms(rt, heap);
     assert!(rt; program.is_sound());
     let compiled = compile(heap, program).expect(rt, "memory");
-    let mute = Mute {
-        origin: Origin::of(compiled.program()),
-        values: Assign::new(heap, 3).expect(rt, "memory"),
-        bound: None,
-    };
+    let mute = mute(rt, heap, compiled.program(), 2);
     SearchState::new(heap, &compiled, mute).expect(rt, "memory")
 }
 
@@ -160,23 +84,14 @@ fn enters_decides_and_leaves(rt: HostRuntime) {
     take_back(&rt, &mut state);
 }
 
-// The second atom alone, local.
-fn second(rt: &impl Abort, heap: Global) -> Nogood
-    ensures { result ≡ record { lits = T 2 ∷ []; base = base.Local } }
-{
-    let lits = [Lit::new(2, true)];
-    Nogood {
-        lits: Lits::from_slice(heap, lits.as_slice()).expect(rt, "memory"),
-        base: Base::Local,
-    }
-}
-
 fn keep_second(rt: &impl Abort, heap: Global, state: &mut SearchState<Mute>) -> NogoodId
     requires { var_count state.old.program ≡ 3 }
-    ensures kept { state.new ≡ record state.old { slots = state.old.slots ++ Some (record { nogood = record { lits = T 2 ∷ []; base = base.Local }; forever = false; locked = false }) ∷ [] } }
-    ensures id { result ≡ length state.old.slots }
+    ensures same { state.new ≡ record state.old { slots = state.new.slots } }
+    ensures kept { kept_at state.new.slots result ≡ Some (record { nogood = record { lits = T 2 ∷ []; base = base.Local }; kind = kind.Learnt; locked = false }) }
 {
-    state.keep(second(rt, heap), false).expect(rt, "memory")
+    state
+        .keep(second(rt, heap, Base::Local), Kind::Learnt, 1)
+        .expect(rt, "memory")
 }
 
 // Implies that the second atom is false, by the nogood that `keep_second` keeps.
@@ -223,19 +138,21 @@ fn three(rt: &impl Abort, heap: Global) -> Nogood
     }
 }
 
-fn keep_three(rt: &impl Abort, heap: Global, state: &mut SearchState<Mute>)
+fn keep_three(rt: &impl Abort, heap: Global, state: &mut SearchState<Mute>, kind: Kind)
     requires { var_count state.old.program ≡ 3 }
     ensures { state.new.program ≡ state.old.program }
 {
-    state.keep(three(rt, heap), false).expect(rt, "memory");
+    state.keep(three(rt, heap), kind, 3).expect(rt, "memory");
 }
 
 #[test]
-fn drops_the_older_of_two(rt: HostRuntime) {
+fn drops_half_and_what_was_given(rt: HostRuntime) {
     let heap = rt.alloc();
     let mut state = start(&rt, heap);
-    keep_three(&rt, heap, &mut state);
-    keep_three(&rt, heap, &mut state);
+    keep_three(&rt, heap, &mut state, Kind::Learnt);
+    keep_three(&rt, heap, &mut state, Kind::Learnt);
+    keep_three(&rt, heap, &mut state, Kind::Given);
+    state.drop_given();
     assert!(rt; state.store().extra() == 2);
     state.reduce();
     assert!(rt; state.store().extra() == 1);

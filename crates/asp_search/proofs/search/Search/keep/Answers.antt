@@ -21,9 +21,9 @@ invariant_of-self-2 g c =
     let m = c.in_ok-copy.copy in
     let useful : IsUseful i.state.program i.known.items i.state.bound n =
     subst (λ (x : Searching). IsUseful x.program x.known x.bound n) (sym c.self.view_is) (of_use s.program s.known s.mode s.bound n c.requires.useful c.requires.good) in
-    search_added i.compiled.now i.mode i.state c.keep.new.self i.learner i.checker i.known.items i.blocking.items i.bound i.last i.last _ m kind.Learnt (ap (λ (x : SearchView). x.program) e)
+    search_added i.compiled.now i.mode i.state c.keep.new.self i.learner i.checker i.known.items i.blocking.items i.bound i.last i.last c.in_ok-keep.field-0 m kind.Learnt (ap (λ (x : SearchView). x.program) e)
     (ap (λ (x : SearchView). x.bound) e) a (subst (IsUseful i.state.program i.known.items i.state.bound) (sym c.in_ok-copy.ensures) useful)
-    (added_last i.state.slots c.keep.new.self.slots _ m kind.Learnt i.last a c.self.invariant.last_stands) c.self.invariant
+    (added_last i.state.slots c.keep.new.self.slots c.in_ok-keep.field-0 m kind.Learnt i.last a c.self.invariant.last_stands) c.self.invariant
 
 pub returns-clause-ok : goal.returns-clause-ok
 returns-clause-ok g c =
@@ -32,6 +32,6 @@ returns-clause-ok g c =
     let new : Searching = view_of i.mode u i.pace i.known.items i.last in
     subst (λ (x : Searching). Imports x new c.args.nogood.now) c.self.view_is (record {
       same = ap (λ (x : SearchView). view_of i.mode x i.pace i.known.items i.last) c.in_ok-keep.ensures.same;
-      id = _;
-      added = subst (λ (n : Nogood). IsAddedAt i.state.slots u.slots _ n kind.Learnt) c.in_ok-copy.ensures c.in_ok-keep.ensures.ok;
+      id = c.in_ok-keep.field-0;
+      added = subst (λ (n : Nogood). IsAddedAt i.state.slots u.slots c.in_ok-keep.field-0 n kind.Learnt) c.in_ok-copy.ensures c.in_ok-keep.ensures.ok;
     })

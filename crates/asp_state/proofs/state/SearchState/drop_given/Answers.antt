@@ -1,6 +1,8 @@
-use Rattle.std.proofs.Common.{sym, subst}
+use Rattle.std.proofs.Common.{◌≡◌, ℕ, cond, sym, subst}
 use Rattle.std.specs.Prelude.{option_map}
-use Rattle.asp_propagate.specs.Propagating.{Propagating}
+use Rattle.asp_store.specs.Keeping.{kept_at, unless_given}
+use Rattle.asp_propagate.specs.Propagating.{Propagating, is_named}
+use Rattle.asp_state.specs.SearchStates.{SearchView}
 use Rattle.asp_state.proofs.KeepLaws.{IsSearchView, reduced_all}
 use Rattle.asp_state.proofs.state.SearchState.drop_given.Goals as goal
 
@@ -10,3 +12,9 @@ invariant_of-self g c =
     let cube = option_map (λ q. q.items) i.cube in
     subst (λ (f : Propagating). IsSearchView f cube i.clashing i.decisions.items i.order) (sym c.drop_given.ensures.same)
     (reduced_all i.engine c.drop_given.new.self.slots cube i.clashing i.decisions.items i.order c.drop_given.ensures.kept c.self.invariant)
+
+pub returns-clause-each : goal.returns-clause-each
+returns-clause-each g c =
+    let slots = c.drop_given.new.self.slots in
+    subst (λ (x : SearchView). (id : ℕ) → kept_at slots id ≡ cond (is_named x.entries id) (kept_at x.slots id) (unless_given (kept_at x.slots id))) c.self.view_is
+    c.drop_given.ensures.each
