@@ -97,6 +97,13 @@ impl Order {
         bump_all(&mut self.heap, lits);
     }
 
+    /// The variable has this value when it is first decided.
+    pub fn prefer(&mut self, var: Var, truth: bool)
+        ensures { self.new ≡ self.old }
+    {
+        self.phases.save(var, truth);
+    }
+
     // Takes the first variable out of the heap.
     fn pop(&mut self) -> Option<Var>
         ensures var { IfSome result (λ v. (0 < v) × (v < length self.old.activities)) }
@@ -144,8 +151,8 @@ impl Order {
         ensures fuller { IsFuller self.old self.new }
         ensures has { IsTrue (is_in self.new.members lit.var) }
     {
-        self.phases.save(lit);
         let var = lit.var();
+        self.phases.save(var, lit.truth());
         if !self.heap.has(var) {
             self.heap.push(var);
         }

@@ -36,13 +36,13 @@ impl Phases {
         Lit::new(var, self.truths.get(var as usize).copied().unwrap_or(false))
     }
 
-    /// Saves the literal's value, of a variable that has one.
-    pub fn save(&mut self, lit: Lit)
-        ensures { self.new ≡ slice_set self.old lit.var lit.truth }
+    /// Saves a value, of a variable that has one.
+    pub fn save(&mut self, var: Var, truth: bool)
+        ensures { self.new ≡ slice_set self.old var truth }
     {
-        let var = lit.var() as usize;
+        let var = var as usize;
         if var < self.truths.len() {
-            self.truths[var] = lit.truth();
+            self.truths[var] = truth;
         }
     }
 }

@@ -9,6 +9,7 @@ ghost use Rattle.asp_vars.specs.Completion.{completion};
 ghost use Rattle.asp_vars.specs.Numbering.{var_count};
 ghost use Rattle.asp_state.specs.SearchStates.{first_ranking, with_places};
 
+use crate::preferred::prefer_cheap;
 use asp_order::order::Order;
 use asp_vars::compiled::Compiled;
 use asp_vars::nogood::Nogood;
@@ -24,8 +25,8 @@ fn begin_all(order: &mut Order, nogoods: &[Nogood])
     }
 }
 
-/// All variables, each with a bump for each place where it stands in the completion, which is given.
-pub fn begun(alloc: Global, compiled: &Compiled, nogoods: &[Nogood]) -> Result<Order, AllocError>
+// All variables, each with a bump for each place where it stands in the completion, which is given.
+fn ranked(alloc: Global, compiled: &Compiled, nogoods: &[Nogood]) -> Result<Order, AllocError>
     requires { nogoods.now ≡ map pure (completion compiled.now) }
     ensures first { IfOk result (λ order. order ≡ first_ranking compiled.now) }
     ensures vars { IfOk result (HasVars (var_count compiled.now)) }
@@ -33,5 +34,18 @@ pub fn begun(alloc: Global, compiled: &Compiled, nogoods: &[Nogood]) -> Result<O
 {
     let mut order = Order::new(alloc, compiled.vars())?;
     begin_all(&mut order, nogoods);
+    Ok(order)
+}
+
+/// All variables, each with a bump for each place where it stands in the completion, which is given.
+/// What is minimised is first decided to have its cheaper value.
+pub fn begun(alloc: Global, compiled: &Compiled, nogoods: &[Nogood]) -> Result<Order, AllocError>
+    requires { nogoods.now ≡ map pure (completion compiled.now) }
+    ensures first { IfOk result (λ order. order ≡ first_ranking compiled.now) }
+    ensures vars { IfOk result (HasVars (var_count compiled.now)) }
+    ensures all { IfOk result (λ order. (v : ℕ) → IsVar (var_count compiled.now) v → IsTrue (is_in order.members v)) }
+{
+    let mut order = ranked(alloc, compiled, nogoods)?;
+    prefer_cheap(&mut order, compiled);
     Ok(order)
 }

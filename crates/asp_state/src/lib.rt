@@ -4,4 +4,5 @@
 pub mod assume;
 pub mod begun;
 pub mod completed;
+mod preferred;
 pub mod state;

@@ -11,7 +11,7 @@ use Rattle.asp_trail_laws.proofs.VarLaws.{completion_are_vars}
 use Rattle.asp_state.specs.SearchStates.{with_places}
 use Rattle.asp_state.proofs.ListedLaws.{vars_listed}
 use Rattle.asp_state.proofs.BegunLaws.{places_alike, places_listed, vars_ranked}
-use Rattle.asp_state.proofs.begun.begun.Goals as goal
+use Rattle.asp_state.proofs.begun.ranked.Goals as goal
 
 pub begin_all-requires : goal.begin_all-requires
 begin_all-requires c =
