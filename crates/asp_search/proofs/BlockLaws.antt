@@ -25,7 +25,7 @@ use Rattle.asp_trail_laws.proofs.PlaceLaws.{blank, reason_at}
 use Rattle.asp_propagate.specs.Propagating.{IsUnnamed}
 use Rattle.asp_search_laws.specs.Keeping.{IsBlocking, AreBlocking}
 use Rattle.asp_search_laws.specs.Steps.{blocking_nogood}
-use Rattle.asp_search_laws.proofs.SlotLaws.{nogood_kept, kept_nogood, kept_within, added_stays, added_each, added_apart, grows_forever, blocked_stay, blocking_stay, blocking_push, blocking_pop, removed_none, removed_other, removed_blocked, removed_blocking}
+use Rattle.asp_search_laws.proofs.SlotLaws.{nogood_kept, kept_nogood, kept_within, added_stays, added_each, added_apart, grows_forever, excluded_stay, blocking_stay, blocking_push, blocking_pop, removed_none, removed_other, removed_excluded, removed_blocking}
 use Rattle.asp_state.specs.SearchStates.{SearchView}
 use Rattle.asp_search.specs.Blocking.{IsRedundant, kept_blocking, Drops, Blocks}
 
@@ -84,7 +84,7 @@ drop_one newest id old first slots blocking n b k within d =
       none = λ j m q. d.none j m (removed_none slots old small j m q);
       stands = removed_other slots old id ne ∙ d.stands;
       blocked = λ p S s.
-          removed_blocked p slots old id x.0 (record { nogood = newest; kind = kind.Forever; locked = false }) S x.1 d.stands refl ne
+          removed_excluded p slots old id x.0 (record { nogood = newest; kind = kind.Forever; locked = false }) S x.1 d.stands refl ne
           (subst (λ (m : Nogood). IsWithin newest.lits m.lits) (sym x.2) within) (d.blocked p S s);
       blocking_stand = removed_blocking slots blocking old parts.1 parts.0;
       apart = λ i e h q. d.apart i e (omega (arith, h, length-append blocking (old ∷ []))) (get_or_append_left blocking (old ∷ []) e i h ∙ q);
@@ -137,7 +137,7 @@ drop_done newest old new slots id blocking local a same d = record {
   nogoods = λ j n q. cases j n (added_each old.slots slots id newest kind.Forever a j n (d.none j n q));
   id = id;
   stands = d.stands;
-  blocked = λ p S b. d.blocked p S (blocked_stay p old.slots slots S (grows_forever old.slots slots (added_stays old.slots slots id newest kind.Forever a)) b);
+  blocked = λ p S b. d.blocked p S (excluded_stay p old.slots slots S (grows_forever old.slots slots (added_stays old.slots slots id newest kind.Forever a)) b);
   blocking_stand =
       blocking_push new.slots blocking id d.blocking_stand
       (record { kept = record { nogood = newest; kind = kind.Forever; locked = false }; stands = d.stands; forever = refl; local = local }) d.apart;

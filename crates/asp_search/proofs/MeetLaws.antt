@@ -20,7 +20,7 @@ use Rattle.asp_analyze.specs.declared.learn.Learned.TheVariants as learned
 use Rattle.asp_trail_laws.specs.Settling.{KeepsSettled}
 use Rattle.asp_trail_laws.proofs.LitLaws.{all_has}
 use Rattle.asp_trail_laws.proofs.PlaceLaws.{level_in_top}
-use Rattle.asp_trail_laws.proofs.ViolatedLaws.{blocking_settled, cube_settled, within_cube}
+use Rattle.asp_trail_laws.proofs.ViolatedLaws.{way_settled, cube_settled, within_cube}
 use Rattle.asp_trail_laws.proofs.ConflictLaws.{conflict}
 use Rattle.asp_order.specs.Pacing.{Paced}
 use Rattle.asp_propagate.specs.Useful.{IsUseful}
@@ -87,7 +87,7 @@ module _ (md : Mode) (t : SearchView) (c : Paced) (known : List Atoms) (last : O
       all_has (λ l. holds_in (assignment vars t.entries) l ≡ true) n.lits (complement lit) x.contained j.has in
       let top = level_in t.entries lit.var in
       let settled : Settled t.program known t.bound (q ++ take top t.decisions) =
-      blocking_settled t.program known t.bound vars (nogood_at t.slots) q t.decisions t.entries top x.from.lits m.ordered m.reasons (all_settled (learned.Jump n to lit) m) m.starts
+      way_settled t.program known t.bound vars (nogood_at t.slots) q t.decisions t.entries top x.from.lits m.ordered m.reasons (all_settled (learned.Jump n to lit) m) m.starts
       (from_settled (learned.Jump n to lit) m) x.violated j.topmost in
       record {
         cube = q;

@@ -1,5 +1,5 @@
 -- What every search keeps, where its state changes.
-use Rattle.std.proofs.Common.{◌≡◌, ℕ, List, ◌∷◌, ◌++◌, Option, Some, None, inl, inr, ◌⊎◌, refl, sym, ap, ◌∙◌, subst, []}
+use Rattle.std.proofs.Common.{◌≡◌, ℕ, true, false, List, ◌∷◌, ◌++◌, Option, Some, None, inl, inr, ◌⊎◌, refl, sym, ap, ◌∙◌, subst, []}
 use Rattle.std.specs.Prelude.{ℤ}
 use Rattle.asp_model.specs.declared.program.Program.{Program}
 use Rattle.asp_model.specs.declared.results.Mode.{Mode}
@@ -17,8 +17,8 @@ use Rattle.asp_store.specs.Keeping.{kept_at, nogood_at, IsAddedAt}
 use Rattle.asp_propagate.specs.Propagating.{Adds, IsReduced}
 use Rattle.asp_propagate.specs.Useful.{IsUseful, IsSmaller}
 use Rattle.asp_propagate.proofs.UsefulLaws.{useful_lower, useful_more}
-use Rattle.asp_search_laws.specs.Keeping.{AreUseful, AreBlocked, IsLast, Grows}
-use Rattle.asp_search_laws.proofs.SlotLaws.{KeepsForever, added_stays, added_newest, grows_forever, grows_adds, reduced_none, useful_none, useful_added, useful_adds, all_blocked, all_blocked_stay, blocked_more, blocking_stay, last_stays}
+use Rattle.asp_search_laws.specs.Keeping.{AreUseful, AreExcluded, IsLast, Grows}
+use Rattle.asp_search_laws.proofs.SlotLaws.{KeepsForever, added_stays, added_newest, grows_forever, grows_adds, reduced_none, useful_none, useful_added, useful_adds, all_excluded, all_excluded_stay, excluded_more, blocking_stay, last_stays}
 use Rattle.asp_state.specs.SearchStates.{SearchView}
 use Rattle.asp_search_laws.specs.Steps.{blocking_nogood}
 use Rattle.asp_search.specs.Blocking.{Blocks}
@@ -36,7 +36,7 @@ search_from p m t u vars checker known blocking bound last new program bounded u
   useful =
       subst (λ (x : Program). AreUseful x known u.bound u.slots) (sym program)
       (subst (λ (x : Option (List ℤ)). AreUseful t.program known x u.slots) (sym bounded) useful);
-  blocked = subst (λ (x : Program). AreBlocked x u.slots known) (sym program) (all_blocked_stay t.program t.slots u.slots known forever s.blocked);
+  blocked = subst (λ (x : Program). AreExcluded x u.slots known) (sym program) (all_excluded_stay t.program t.slots u.slots known forever s.blocked);
   blocking_stand = blocking_stay t.slots u.slots blocking forever s.blocking_stand;
   last_stands = stands;
   alone = s.alone;
@@ -108,7 +108,7 @@ search_lower p m t u vars checker known blocking bound c last program bounded sl
       (subst (λ (x : Option (List ℤ)). AreUseful t.program known x u.slots) (sym bounded)
       (subst (λ (x : List (Option StoredNogood)). AreUseful t.program known (Some c) x) (sym slots) (λ id n k. useful_lower t.program known t.bound c n smaller (s.useful id n k))));
   blocked =
-      subst (λ (x : Program). AreBlocked x u.slots known) (sym program) (subst (λ (x : List (Option StoredNogood)). AreBlocked t.program x known) (sym slots) s.blocked);
+      subst (λ (x : Program). AreExcluded x u.slots known) (sym program) (subst (λ (x : List (Option StoredNogood)). AreExcluded t.program x known) (sym slots) s.blocked);
   blocking_stand = blocking_stay t.slots u.slots blocking (λ id k q f. ap (λ (x : List (Option StoredNogood)). kept_at x id) slots ∙ q) s.blocking_stand;
   last_stands = subst (λ (x : List (Option StoredNogood)). IsLast x last) (sym slots) s.last_stands;
   alone = s.alone;
@@ -130,8 +130,8 @@ search_lists p t u vars checker known blocking new bound q S settled hit b s =
           subst (λ (x : Program). AreUseful x (known ++ S ∷ []) u.bound u.slots) (sym program)
           (subst (λ (x : Option (List ℤ)). AreUseful t.program (known ++ S ∷ []) x u.slots) (sym bounded) (λ id n k. useful id n (b.nogoods id n k)));
       blocked =
-          subst (λ (x : Program). AreBlocked x u.slots (known ++ S ∷ [])) (sym program)
-          (blocked_more t.program u.slots known S (all_blocked t.program t.slots u.slots known (b.blocked t.program) s.blocked)
+          subst (λ (x : Program). AreExcluded x u.slots (known ++ S ∷ [])) (sym program)
+          (excluded_more t.program u.slots known S (all_excluded t.program t.slots u.slots known (b.blocked t.program) s.blocked)
           (record { id = b.id; kept = record { nogood = blocking_nogood q t.decisions; kind = kind.Forever; locked = false }; stands = b.stands; forever = refl; hit = hit }));
       blocking_stand = b.blocking_stand;
       last_stands = tt;

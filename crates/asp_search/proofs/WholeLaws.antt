@@ -23,13 +23,13 @@ use Rattle.asp_trail_laws.specs.Calm.{AreCalm}
 use Rattle.asp_trail_laws.specs.Settling.{KeepsSettled}
 use Rattle.asp_trail_laws.specs.Starts.{AreStarts}
 use Rattle.asp_trail_laws.specs.Whole.{AreBlocked, IsWhole, truths, atoms_on}
-use Rattle.asp_trail_laws.proofs.WholeLaws.{trail_valuation, set_value, whole_blocking}
+use Rattle.asp_trail_laws.proofs.WholeLaws.{trail_valuation, set_value, whole_way}
 use Rattle.asp_trail_laws.proofs.AnswerLaws.{answer_new, answer_settles}
 use Rattle.asp_propagate.specs.Propagating.{IsQuiet}
 use Rattle.asp_propagate.specs.Whole.{KeepsAll}
 use Rattle.asp_propagate.specs.Whole as follow
 use Rattle.asp_propagate.proofs.UsefulLaws.{useful_settles}
-use Rattle.asp_search_laws.specs.Keeping.{AreUseful, AreBlocked}
+use Rattle.asp_search_laws.specs.Keeping.{AreUseful, AreExcluded}
 use Rattle.asp_search_laws.specs.Searching.{Searching}
 use Rattle.asp_search_laws.proofs.SlotLaws.{nogood_kept}
 use Rattle.asp_state.specs.SearchStates.{SearchView, values_of, IsForever, KeepsCompletion}
@@ -46,10 +46,10 @@ pub record IsFull (silent : List (Option Bool) → Type 0) (known : List Atoms) 
   pub quiet : IsQuiet silent t.slots (values_of t)
   pub assigned : AreAssigned (var_count t.program) (values_of t)
   pub useful : AreUseful t.program known t.bound t.slots
-  pub blocked : AreBlocked t.program t.slots known
+  pub blocked : AreExcluded t.program t.slots known
 
 -- each answer that is blocked is so by a kept nogood
-pub all_blocked : (p : Program) (slots : List (Option StoredNogood)) (known : List Atoms) → AreBlocked p slots known → AreBlocked p (nogood_at slots) known
+pub all_blocked : (p : Program) (slots : List (Option StoredNogood)) (known : List Atoms) → AreExcluded p slots known → AreBlocked p (nogood_at slots) known
 all_blocked p slots [] b = tt
 all_blocked p slots (S ∷ known) b = ((b.0.id, b.0.kept.nogood, nogood_kept slots b.0.id b.0.kept b.0.stands, b.0.hit), all_blocked p slots known b.1)
 
@@ -81,7 +81,7 @@ module _ (silent : List (Option Bool) → Type 0) (known : List Atoms) (t : Sear
       IsFound (view_of m t c known last) q (atoms_on t.program (var_count t.program) t.entries)
   full_found m c last stable = record {
     stable = stable;
-    hit = whole_blocking t.program (var_count t.program) t.entries full_whole q t.decisions f.starts;
+    hit = whole_way t.program (var_count t.program) t.entries full_whole q t.decisions f.starts;
     new = answer_new t.program known (var_count t.program) (nogood_at t.slots) t.entries full_whole (all_blocked t.program t.slots known f.blocked) f.small f.quiet.calm;
     cheaper = keeps.cheaper;
     settled = answer_settles t.program known t.bound (var_count t.program) (nogood_at t.slots) q t.decisions t.entries full_whole f.reasons settled f.starts;

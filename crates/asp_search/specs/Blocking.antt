@@ -1,5 +1,5 @@
 -- How an answer is kept from being found again.
-use Rattle.std.specs.Prelude.{◌≡◌, ◌≢◌, ℕ, ◌-◌, ◌⊎◌, List, length, take, Option, Some}
+use Rattle.std.specs.Prelude.{◌≡◌, ◌≢◌, ℕ, ◌-◌, ◌⊎◌, false, List, length, take, Option, Some}
 use Rattle.std.specs.List.{All}
 use Rattle.asp_model.specs.declared.program.Program.{Program}
 use Rattle.asp_model.specs.Sets.{Atoms}
@@ -12,7 +12,7 @@ use Rattle.asp_store.specs.declared.stored_nogood.StoredNogood.{StoredNogood}
 use Rattle.asp_store.specs.declared.stored_nogood.Kind.TheVariants as kind
 use Rattle.asp_store.specs.Keeping.{kept_at, nogood_at}
 use Rattle.asp_propagate.specs.Propagating.{IsUnnamed}
-use Rattle.asp_search_laws.specs.Keeping.{IsBlocked, AreBlocking}
+use Rattle.asp_search_laws.specs.Keeping.{IsExcluded, AreBlocking}
 use Rattle.asp_state.specs.SearchStates.{SearchView}
 
 -- The nogood has all of these literals, and no entry names it.
@@ -28,7 +28,7 @@ kept_blocking n = Some (record { nogood = n; kind = kind.Forever; locked = false
 pub record Drops (newest : Nogood) (id : ℕ) (old new : List (Option StoredNogood)) (blocking : List ℕ) : Type 0 where
   pub none : (j : ℕ) (n : Nogood) → nogood_at new j ≡ Some n → nogood_at old j ≡ Some n
   pub stands : kept_at new id ≡ kept_blocking newest
-  pub blocked : (p : Program) (S : Atoms) → IsBlocked p old S → IsBlocked p new S
+  pub blocked : (p : Program) (S : Atoms) → IsExcluded p old S → IsExcluded p new S
   pub blocking_stand : AreBlocking new blocking
   pub apart : All (λ i. i ≢ id) blocking
 
@@ -43,5 +43,5 @@ pub record Blocks (newest : Nogood) (old new : SearchView) (blocking : List ℕ)
   pub nogoods : (j : ℕ) (n : Nogood) → nogood_at new.slots j ≡ Some n → (nogood_at old.slots j ≡ Some n) ⊎ (n ≡ newest)
   pub id : ℕ
   pub stands : kept_at new.slots id ≡ kept_blocking newest
-  pub blocked : (p : Program) (S : Atoms) → IsBlocked p old.slots S → IsBlocked p new.slots S
+  pub blocked : (p : Program) (S : Atoms) → IsExcluded p old.slots S → IsExcluded p new.slots S
   pub blocking_stand : AreBlocking new.slots blocking

@@ -6,7 +6,7 @@ use Rattle.asp_model.specs.declared.results.Mode.TheVariants as mode
 use Rattle.asp_model.specs.Sets.{Atoms}
 use Rattle.asp_vars.specs.Numbering.{var_count}
 use Rattle.asp_order.specs.Pacing.{Paced}
-use Rattle.asp_search_laws.specs.Keeping.{AreUseful, AreBlocked, AreBlocking, IsLast}
+use Rattle.asp_search_laws.specs.Keeping.{AreUseful, AreExcluded, AreBlocking, IsLast}
 use Rattle.asp_search_laws.specs.Searching.{Searching}
 use Rattle.asp_state.specs.SearchStates.{SearchView}
 
@@ -18,7 +18,7 @@ pub record IsSearch (p : Program) (m : Mode) (t : SearchView) (vars : ℕ) (chec
   pub counted : vars ≡ var_count t.program
   pub checked : checker ≡ p
   pub useful : AreUseful t.program known t.bound t.slots
-  pub blocked : AreBlocked t.program t.slots known
+  pub blocked : AreExcluded t.program t.slots known
   pub blocking_stand : AreBlocking t.slots blocking
   pub last_stands : IsLast t.slots last
   pub alone : m ≡ mode.Opt → known ≡ []

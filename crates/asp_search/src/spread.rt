@@ -36,7 +36,11 @@ fn reason_at(trail: &Trail, var: Var, level: usize) -> Option<NogoodId>
 {
     match trail.value(var) {
         None => None,
-        Some(_) => if trail.level_of(var) == level { trail.reason_of(var) } else { None },
+        Some(_) => if trail.level_of(var) == level {
+            trail.reason_of(var)
+        } else {
+            None
+        },
     }
 }
 

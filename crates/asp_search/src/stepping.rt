@@ -92,7 +92,14 @@ impl<'a, P: Propagator> Search<'a, P> {
         }
         fuel.burn(conflict);
         self.pace.count();
-        let new = jump(&mut self.state, &self.learner, &mut self.spread, nogood, to, lit)?;
+        let new = jump(
+            &mut self.state,
+            &self.learner,
+            &mut self.spread,
+            nogood,
+            to,
+            lit,
+        )?;
         self.last = Some(new);
         Ok(Step::Learnt)
     }

@@ -22,7 +22,7 @@ use Rattle.asp_store.proofs.GetLaws.{is_or_not}
 use Rattle.asp_propagate.specs.Propagating.{Adds, IsReduced}
 use Rattle.asp_propagate.specs.Useful.{IsUseful}
 use Rattle.asp_propagate.proofs.AddLaws.{adds_each}
-use Rattle.asp_search_laws.specs.Keeping.{AreUseful, IsBlocked, AreBlocked, IsBlocking, AreBlocking, IsLast, Grows}
+use Rattle.asp_search_laws.specs.Keeping.{AreUseful, IsExcluded, AreExcluded, IsBlocking, AreBlocking, IsLast, Grows}
 
 no_some : {X : Type 0} (x : X) → None ≡ Some x → ⊥
 no_some x q = cc
@@ -133,19 +133,19 @@ useful_adds p known bound gives old new sound a u id n q = cases (adds_each give
     cases (inr g) = sound n g
 
 -- ---- blocked answers
-pub blocked_stay : (p : Program) (old new : List (Option StoredNogood)) (S : Atoms) → KeepsForever old new → IsBlocked p old S → IsBlocked p new S
-blocked_stay p old new S f b = record { id = b.id; kept = b.kept; stands = f b.id b.kept b.stands b.forever; forever = b.forever; hit = b.hit }
+pub excluded_stay : (p : Program) (old new : List (Option StoredNogood)) (S : Atoms) → KeepsForever old new → IsExcluded p old S → IsExcluded p new S
+excluded_stay p old new S f b = record { id = b.id; kept = b.kept; stands = f b.id b.kept b.stands b.forever; forever = b.forever; hit = b.hit }
 
-pub all_blocked : (p : Program) (old new : List (Option StoredNogood)) (known : List Atoms) → ((S : Atoms) → IsBlocked p old S → IsBlocked p new S) → AreBlocked p old known → AreBlocked p new known
-all_blocked p old new [] f b = tt
-all_blocked p old new (S ∷ known) f b = (f S b.0, all_blocked p old new known f b.1)
+pub all_excluded : (p : Program) (old new : List (Option StoredNogood)) (known : List Atoms) → ((S : Atoms) → IsExcluded p old S → IsExcluded p new S) → AreExcluded p old known → AreExcluded p new known
+all_excluded p old new [] f b = tt
+all_excluded p old new (S ∷ known) f b = (f S b.0, all_excluded p old new known f b.1)
 
-pub all_blocked_stay : (p : Program) (old new : List (Option StoredNogood)) (known : List Atoms) → KeepsForever old new → AreBlocked p old known → AreBlocked p new known
-all_blocked_stay p old new known f = all_blocked p old new known (λ S b. blocked_stay p old new S f b)
+pub all_excluded_stay : (p : Program) (old new : List (Option StoredNogood)) (known : List Atoms) → KeepsForever old new → AreExcluded p old known → AreExcluded p new known
+all_excluded_stay p old new known f = all_excluded p old new known (λ S b. excluded_stay p old new S f b)
 
-pub blocked_more : (p : Program) (slots : List (Option StoredNogood)) (known : List Atoms) (S : Atoms) → AreBlocked p slots known → IsBlocked p slots S → AreBlocked p slots (known ++ S ∷ [])
-blocked_more p slots [] S a b = (b, tt)
-blocked_more p slots (T ∷ known) S a b = (a.0, blocked_more p slots known S a.1 b)
+pub excluded_more : (p : Program) (slots : List (Option StoredNogood)) (known : List Atoms) (S : Atoms) → AreExcluded p slots known → IsExcluded p slots S → AreExcluded p slots (known ++ S ∷ [])
+excluded_more p slots [] S a b = (b, tt)
+excluded_more p slots (T ∷ known) S a b = (a.0, excluded_more p slots known S a.1 b)
 
 -- ---- blocking
 pub blocking_stays : (old new : List (Option StoredNogood)) (id : ℕ) → KeepsForever old new → IsBlocking old id → IsBlocking new id
@@ -210,11 +210,11 @@ pub removed_other : (slots : List (Option StoredNogood)) (id j : ℕ) → j ≢ 
 removed_other slots id j ne = get_or-set_other slots id j None None ne
 
 -- Where another kept forever says more, each answer that was blocked still is.
-pub removed_blocked : (p : Program) (slots : List (Option StoredNogood)) (id other : ℕ) (k m : StoredNogood) (S : Atoms) → kept_at slots id ≡ Some k → kept_at slots other ≡ Some m → m.kind ≡ kind.Forever → other ≢ id →
-    IsWithin m.nogood.lits k.nogood.lits → IsBlocked p slots S → IsBlocked p (set slots id None) S
-removed_blocked p slots id other k m S old new forever ne within b = cases (cases_eq b.id id)
+pub removed_excluded : (p : Program) (slots : List (Option StoredNogood)) (id other : ℕ) (k m : StoredNogood) (S : Atoms) → kept_at slots id ≡ Some k → kept_at slots other ≡ Some m → m.kind ≡ kind.Forever → other ≢ id →
+    IsWithin m.nogood.lits k.nogood.lits → IsExcluded p slots S → IsExcluded p (set slots id None) S
+removed_excluded p slots id other k m S old new forever ne within b = cases (cases_eq b.id id)
   where
-    cases : (b.id ≡ id) ⊎ (b.id ≡ id → ⊥) → IsBlocked p (set slots id None) S
+    cases : (b.id ≡ id) ⊎ (b.id ≡ id → ⊥) → IsExcluded p (set slots id None) S
     cases (inl e) =
         let same : b.kept ≡ k = some_is b.kept k (sym b.stands ∙ (ap (λ (i : ℕ). kept_at slots i) e ∙ old)) in
         record {

@@ -17,15 +17,15 @@ abbrev pub AreUseful : Program → List Atoms → Option (List ℤ) → List (Op
 AreUseful p known bound slots = (id : ℕ) (n : Nogood) → nogood_at slots id ≡ Some n → IsUseful p known bound n
 
 -- The set hits a nogood that is kept forever.
-pub record IsBlocked (p : Program) (slots : List (Option StoredNogood)) (S : Atoms) : Type 0 where
+pub record IsExcluded (p : Program) (slots : List (Option StoredNogood)) (S : Atoms) : Type 0 where
   pub id : ℕ
   pub kept : StoredNogood
   pub stands : kept_at slots id ≡ Some kept
   pub forever : kept.kind ≡ kind.Forever
   pub hit : IsTrue (hits (values p S) kept.nogood.lits)
 
-abbrev pub AreBlocked : Program → List (Option StoredNogood) → List Atoms → Type 0
-AreBlocked p slots known = AllByRecursion (IsBlocked p slots) known
+abbrev pub AreExcluded : Program → List (Option StoredNogood) → List Atoms → Type 0
+AreExcluded p slots known = AllByRecursion (IsExcluded p slots) known
 
 -- The nogood under this number is local, and kept forever: it blocks an answer.
 pub record IsBlocking (slots : List (Option StoredNogood)) (id : ℕ) : Type 0 where

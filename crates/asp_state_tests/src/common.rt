@@ -23,8 +23,8 @@ pub(crate) struct Mute {
     pub(crate) origin: Origin<Program>,
     pub(crate) values: Assign,
     pub(crate) bound: Option<Cost>,
-    open: Var,
-    ghost is_var: { IsVar 3 open },
+    free: Var,
+    ghost is_var: { IsVar 3 free },
     ghost three: { var_count origin.value ≡ 3 },
     ghost sized: { length values ≡ 4 },
 }
@@ -62,7 +62,7 @@ impl Propagator for Mute {
 
     fn next(&mut self, trail: &Trail) -> Result<Option<Nogood>, AllocError> {
         let _ = trail;
-        if self.bound.is_some() || self.values.value(self.open) != None {
+        if self.bound.is_some() || self.values.value(self.free) != None {
             return Err(AllocError);
         }
         Ok(None)
@@ -89,9 +89,9 @@ pub(crate) fn free_atoms(rt: &impl Abort, heap: Global) -> Program
 }
 
 // Told of no literal and of no bound. It fails where this variable has a value.
-pub(crate) fn mute(rt: &impl Abort, heap: Global, program: &Program, open: Var) -> Mute
+pub(crate) fn mute(rt: &impl Abort, heap: Global, program: &Program, free: Var) -> Mute
     requires three { var_count program.now ≡ 3 }
-    requires is_var { IsVar 3 open }
+    requires is_var { IsVar 3 free }
     ensures program { result.origin.value ≡ program.now }
     ensures values { result.values ≡ replicate 4 None }
     ensures bound { result.bound ≡ None }
@@ -100,7 +100,7 @@ pub(crate) fn mute(rt: &impl Abort, heap: Global, program: &Program, open: Var) 
         origin: Origin::of(program),
         values: Assign::new(heap, 3).expect(rt, "memory"),
         bound: None,
-        open,
+        free,
     }
 }
 

@@ -11,8 +11,8 @@ use Rattle.asp_search.proofs.LearnLaws.{contained_vars}
 use Rattle.asp_search.proofs.JumpedLaws.{back, jump_bumped, jump_back, jump_done, jump_slots, back_under, back_var, back_none, back_implied}
 use Rattle.asp_search.proofs.conflicts.jump.Goals as goal
 
-pub count-requires : goal.count-requires
-count-requires g c =
+pub count-levels-requires : goal.count-levels-requires
+count-levels-requires g c =
     let t = c.args.state.now in
     let vars : AreOf t.program c.args.nogood.lits = contained_vars (var_count t.program) t.entries c.args.nogood.lits c.trail-trail.ensures.ordered c.requires.contained in
     subst (λ (n : ℕ). All (λ (l : Literal). l.var ≤ n) c.as_slice.result.now) (sym c.trail.ensures.vars)
@@ -21,6 +21,7 @@ count-requires g c =
 pub note_used-requires-clause-point : goal.note_used-requires-clause-point
 note_used-requires-clause-point g c =
     let t = c.args.state.now in
+    subst (λ (v : ℕ). v ≤ var_count t.program) (sym c.var.ensures)
     (jump_var (var_count t.program) t.entries c.requires.jumps.0 c.args.nogood.lits c.args.to c.args.lit c.trail-trail.ensures.ordered c.requires.contained c.requires.jumps.1).1
 
 pub note_used-requires-clause-met : goal.note_used-requires-clause-met
