@@ -10,14 +10,18 @@ const FEW_LEVELS: u32 = 2;
 
 #[derive(Clone, Copy)]
 struct Note {
+    // How often it was used. It stays at the largest number.
     uses: u32,
+    // Of how many levels its literals were when it was added.
     levels: u32,
 }
 
 /// A note for each number.
 #[derive(Drop)]
 pub struct Notes {
+    // The note of each number.
     notes: Vec<Note>,
+    // Uses and numbers of those that may be dropped, while they are chosen.
     order: Vec<(u32, u32)>,
 }
 
