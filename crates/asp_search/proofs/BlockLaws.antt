@@ -27,7 +27,7 @@ use Rattle.asp_search_laws.specs.Keeping.{IsBlocking, AreBlocking}
 use Rattle.asp_search_laws.specs.Steps.{blocking_nogood}
 use Rattle.asp_search_laws.proofs.SlotLaws.{nogood_kept, kept_nogood, kept_within, added_stays, added_each, added_apart, grows_forever, excluded_stay, blocking_stay, blocking_push, blocking_pop, removed_none, removed_other, removed_excluded, removed_blocking}
 use Rattle.asp_state.specs.SearchStates.{SearchView}
-use Rattle.asp_search.specs.Blocking.{IsRedundant, kept_blocking, Drops, Blocks}
+use Rattle.asp_search.specs.Blocking.{IsRedundant, Drops, Blocks}
 
 -- ---- reasons
 -- a variable that was implied has a value

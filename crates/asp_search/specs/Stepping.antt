@@ -1,5 +1,5 @@
 -- What the parts of a step rely on.
-use Rattle.std.specs.Prelude.{◌≡◌, ◌++◌, false, List, ◌∷◌, Option, Some, None, IsTrue, []}
+use Rattle.std.specs.Prelude.{◌≡◌, ◌++◌, false, List, ◌∷◌, Some, None, IsTrue, []}
 use Rattle.std.specs.List.{list_any}
 use Rattle.asp_model.specs.Sets.{Atoms, same_set}
 use Rattle.asp_model.specs.Models.{is_stable}

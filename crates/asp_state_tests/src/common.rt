@@ -89,7 +89,7 @@ pub(crate) fn free_atoms(rt: &impl Abort, heap: Global) -> Program
 }
 
 // Told of no literal and of no bound. It fails where this variable has a value.
-pub(crate) fn mute(rt: &impl Abort, heap: Global, program: &Program, free: Var) -> Mute
+pub(crate) fn make_mute(rt: &impl Abort, heap: Global, program: &Program, free: Var) -> Mute
     requires three { var_count program.now ≡ 3 }
     requires is_var { IsVar 3 free }
     ensures program { result.origin.value ≡ program.now }

@@ -6,7 +6,7 @@ ghost use Rattle.asp_vars.specs.Numbering.{var_count};
 ghost use Rattle.asp_vars.specs.declared.nogood.Base.TheVariants as base;
 ghost use Rattle.asp_store.specs.Keeping.{nogood_at};
 
-use crate::common::{Mute, free_atoms, mute, second};
+use crate::common::{Mute, free_atoms, make_mute, second};
 use asp_model::cost::Cost;
 use asp_propagate::engine::Engine;
 use asp_store::stored_nogood::Kind;
@@ -22,7 +22,7 @@ fn start(rt: &impl Abort, heap: Global) -> Engine<Mute>
     ensures bound { result.bound ≡ None }
 {
     let program = free_atoms(rt, heap);
-    let mute = mute(rt, heap, &program, 3);
+    let mute = make_mute(rt, heap, &program, 3);
     Engine::new(heap, 3, mute).expect(rt, "memory")
 }
 

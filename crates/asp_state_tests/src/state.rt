@@ -9,7 +9,7 @@ ghost use Rattle.asp_store.specs.declared.stored_nogood.Kind.TheVariants as kind
 ghost use Rattle.asp_store.specs.Keeping.{kept_at};
 ghost use Rattle.asp_state.specs.SearchStates.{IsUnder};
 
-use crate::common::{Mute, free_atoms, mute, second};
+use crate::common::{Mute, free_atoms, make_mute, second};
 use asp_model::cost::Cost;
 use asp_state::state::SearchState;
 use asp_store::stored_nogood::Kind;
@@ -27,7 +27,7 @@ fn start(rt: &impl Abort, heap: Global) -> SearchState<Mute>
     let program = free_atoms(rt, heap);
     assert!(rt; program.is_sound());
     let compiled = compile(heap, program).expect(rt, "memory");
-    let mute = mute(rt, heap, compiled.program(), 2);
+    let mute = make_mute(rt, heap, compiled.program(), 2);
     SearchState::new(heap, &compiled, mute).expect(rt, "memory")
 }
 

@@ -1,5 +1,5 @@
 -- A store fits a trail, through each change of either.
-use Rattle.std.proofs.Common.{◌≡◌, ◌≢◌, ℕ, suc, zero, ◌+◌, ◌<◌, ◌≤◌, Bool, true, false, min, List, [], ◌∷◌, ◌++◌, length, get_or, set, Option, Some, None, inl, inr, ◌⊎◌, refl, sym, ap, ◌∙◌, subst, arith}
+use Rattle.std.proofs.Common.{◌≡◌, ◌≢◌, ℕ, ◌<◌, ◌≤◌, Bool, min, List, [], ◌∷◌, ◌++◌, length, get_or, set, Option, Some, None, inl, inr, ◌⊎◌, refl, sym, ap, ◌∙◌, subst, arith}
 use Rattle.std.specs.List.{AllPairs}
 use Rattle.std.specs.Option.{option_map}
 use Rattle.std.proofs.lemmas.List.{length-append, get_or_append_left, get_or_push}
@@ -11,11 +11,10 @@ use Rattle.asp_trail.specs.Trails.{Trailed}
 use Rattle.asp_trail.specs.Reasons.{IsReason}
 use Rattle.asp_store.specs.declared.stored_nogood.StoredNogood.{StoredNogood}
 use Rattle.asp_store.specs.declared.stored_nogood.Kind.{Kind}
-use Rattle.asp_store.specs.declared.watch.Pair.{Pair}
 use Rattle.asp_store.specs.Keeping.{kept_at, nogood_at, with_lock}
 use Rattle.asp_store.specs.Pairs.{pair_at}
 use Rattle.asp_store.specs.Parted.{Parted, IsFrom}
-use Rattle.asp_store.specs.Fitting.{HasFalse, HaveReasons}
+use Rattle.asp_store.specs.Fitting.{HaveReasons}
 use Rattle.asp_store.specs.Storing.{Stored, Fits, locked_at, removed, recalled, IsAdded, Loses, AreActive}
 use Rattle.asp_store.proofs.GetLaws.{is_or_not, at_set, at_set_other}
 use Rattle.asp_store.proofs.WatchLaws.{reason_grow, reason_cut, cut_at, watched_cut, has_false_cut}

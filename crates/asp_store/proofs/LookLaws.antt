@@ -1,17 +1,15 @@
 -- Looking at one nogood.
 use Rattle.std.proofs.Common.{◌≡◌, ◌≢◌, ℕ, suc, zero, ◌<◌, ◌≤◌, Bool, true, false, not, eqb, ◌||◌, ◌&&◌, List, [], ◌∷◌, ◌++◌, length, Option, Some, None, get_or, inl, inr, refl, sym, ap, ◌∙◌, subst, arith}
 use Rattle.std.specs.List.{All, list_all}
-use Rattle.std.specs.Option.{is_some}
 use Rattle.std.specs.Bool.{beq}
 use Rattle.std.proofs.lemmas.Bool.{false≢true, eq-eqb, eqb-true}
 use Rattle.std.proofs.lemmas.Bool.Decides.{nat_tests}
-use Rattle.std.proofs.lemmas.List.{length-append, get_or_append_left}
 use Rattle.asp_vars.specs.Literals.{Literal, complement, has_literal, literal_eq, holds_in, agrees, value_of}
 use Rattle.asp_vars.proofs.LiteralLaws.{same_literal}
 use Rattle.asp_trail.specs.declared.trail.Entry.{Entry}
-use Rattle.asp_trail.specs.Entries.{assignment, level, level_in, level_or_zero}
+use Rattle.asp_trail.specs.Entries.{assignment, level_in, level_or_zero}
 use Rattle.asp_trail.specs.Trails.{IsOrdered}
-use Rattle.asp_trail.proofs.EntryLaws.{find_only, entry_assigned}
+use Rattle.asp_trail.proofs.EntryLaws.{find_only}
 use Rattle.asp_trail.proofs.HoldLaws.{holds_at, holds_found, value_at}
 use Rattle.asp_trail.specs.Reasons.{Stands, IsReason}
 use Rattle.asp_store.specs.Fitting.{IsFalseBy, Watches, IsWatched}

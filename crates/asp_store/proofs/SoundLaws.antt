@@ -1,7 +1,7 @@
 -- Watches are sound, through each change of lists, of a pair, of the numbers apart and of the trail.
-use Rattle.std.proofs.Common.{◌≡◌, ◌≢◌, ℕ, ◌+◌, ◌*◌, ◌<◌, ◌≤◌, List, [], ◌∷◌, ◌++◌, length, set, Option, Some, None, inl, inr, ◌⊎◌, refl, sym, ap, ◌∙◌, subst, arith}
-use Rattle.std.proofs.lemmas.List.{length-set, length-append}
-use Rattle.asp_vars.specs.Literals.{Literal, has_literal}
+use Rattle.std.proofs.Common.{◌≡◌, ◌≢◌, ℕ, ◌<◌, ◌≤◌, List, [], ◌∷◌, ◌++◌, length, set, Option, Some, None, inl, inr, ◌⊎◌, sym, ap, ◌∙◌, subst, arith}
+use Rattle.std.proofs.lemmas.List.{length-set}
+use Rattle.asp_vars.specs.Literals.{Literal}
 use Rattle.asp_vars.specs.declared.nogood.Nogood.{Nogood}
 use Rattle.asp_trail.specs.declared.trail.Entry.{Entry}
 use Rattle.asp_trail.specs.Trails.{Trailed}
@@ -14,7 +14,7 @@ use Rattle.asp_store.specs.Lists.{place}
 use Rattle.asp_store.specs.Pairs.{pair_at, IsOneOf}
 use Rattle.asp_store.specs.Parted.{Parted, IsFrom}
 use Rattle.asp_store.specs.Fitting.{HasFalse, IsWatched, AreFit}
-use Rattle.asp_store.specs.Sounding.{IsListed, IsNet, IsSound, AreSettled, AreSettledFrom}
+use Rattle.asp_store.specs.Sounding.{IsListed, IsSound, AreSettled}
 use Rattle.asp_store.proofs.GetLaws.{is_or_not, at_set, at_set_other, get_more}
 use Rattle.asp_store.proofs.WatchLaws.{has_false_grow, watched_grow}
 

@@ -1,9 +1,9 @@
 -- What one visit to a place of a literal's list leaves.
-use Rattle.std.proofs.Common.{◌≡◌, ◌≢◌, ℕ, suc, zero, ◌+◌, ◌*◌, ◌<◌, ◌≤◌, Bool, true, false, List, [], ◌∷◌, ◌++◌, length, set, Option, Some, None, inl, inr, ◌⊎◌, refl, sym, ap, ◌∙◌, subst, arith, add-one}
-use Rattle.std.specs.List.{All, slice_get, swap_remove}
+use Rattle.std.proofs.Common.{◌≡◌, ◌≢◌, ℕ, suc, zero, ◌<◌, ◌≤◌, true, List, [], ◌∷◌, ◌++◌, length, set, Option, Some, None, inl, inr, ◌⊎◌, refl, sym, ap, ◌∙◌, subst, arith, add-one}
+use Rattle.std.specs.List.{All, swap_remove}
 use Rattle.std.specs.Option.{MatchOption, IfNone, IfSome}
 use Rattle.std.proofs.lemmas.Bool.{false≢true}
-use Rattle.std.proofs.lemmas.List.{length-set, length-append}
+use Rattle.std.proofs.lemmas.List.{length-set}
 use Rattle.std.proofs.lemmas.Option.{same_Some, slice_get_within, none-some}
 use Rattle.asp_vars.specs.Literals.{Literal, has_literal, holds_in}
 use Rattle.asp_vars.specs.Codes.{code_of}
@@ -18,20 +18,19 @@ use Rattle.asp_store.specs.declared.watch.Watch.{Watch}
 use Rattle.asp_store.specs.declared.watch.Pair.{Pair}
 use Rattle.asp_store.specs.declared.watches.Watches.{Watches}
 use Rattle.asp_store.specs.declared.front.Front.{Front}
-use Rattle.asp_store.specs.declared.front.Step.{Step}
 use Rattle.asp_store.specs.declared.front.Step.TheVariants as step
 use Rattle.asp_store.specs.Keeping.{nogood_at}
 use Rattle.asp_store.specs.Lists.{list_at, place, size}
 use Rattle.asp_store.specs.Pairs.{pair_at, IsOneOf, IsBeside}
-use Rattle.asp_store.specs.Parted.{Parted, IsFrom}
-use Rattle.asp_store.specs.Fitting.{IsFalseBy, HasFalse, Watches as Watching, IsWatched}
-use Rattle.asp_store.specs.Sounding.{IsListed, IsSound, AreSettled}
-use Rattle.asp_store.specs.Walking.{AreDone, IsWalking, IsVisit, MayWatch, Steps}
+use Rattle.asp_store.specs.Parted.{IsFrom}
+use Rattle.asp_store.specs.Fitting.{IsFalseBy, HasFalse, Watches as Watching}
+use Rattle.asp_store.specs.Sounding.{IsListed, IsSound}
+use Rattle.asp_store.specs.Walking.{IsWalking, IsVisit, MayWatch, Steps}
 use Rattle.asp_store.proofs.GetLaws.{list_within, length-swap, at_set, at_set_other, get_last}
-use Rattle.asp_store.proofs.PlaceLaws.{code_injective, code_within, place_here, place_else, size_here, listed_set, blocker_set, listed_push, listed_new, blocker_push, listed_take, blocker_take, listed_next, listed_from}
+use Rattle.asp_store.proofs.PlaceLaws.{code_injective, code_within, place_else, size_here, listed_set, blocker_set, listed_push, listed_new, blocker_push, listed_take, blocker_take, listed_next}
 use Rattle.asp_store.proofs.WatchLaws.{has_false_grow, stands_grow}
-use Rattle.asp_store.proofs.LookLaws.{all_has, watches_open}
-use Rattle.asp_store.proofs.SoundLaws.{Suits, sound_lists, sound_pair, settled_pair, pair_cases, sound_push, from_push, sound_grow, settled_grow}
+use Rattle.asp_store.proofs.LookLaws.{watches_open}
+use Rattle.asp_store.proofs.SoundLaws.{Suits, sound_lists, sound_pair, settled_pair, pair_cases, sound_push, sound_grow, settled_grow}
 
 -- ---- of a pair
 pub beside_one : (p : Pair) (l k : Literal) → IsBeside p l k → IsOneOf p l × IsOneOf p k

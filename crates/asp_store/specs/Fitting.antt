@@ -1,5 +1,5 @@
 -- Watched literals, over a trail's entries.
-use Rattle.std.specs.Prelude.{◌≡◌, ◌≢◌, ℕ, ◌<◌, ◌≤◌, ◌⊎◌, ◌++◌, List, length, Option, Some, None, IsTrue}
+use Rattle.std.specs.Prelude.{◌≡◌, ◌≢◌, ℕ, ◌<◌, ◌≤◌, ◌⊎◌, ◌++◌, List, Option, Some, None, IsTrue}
 use Rattle.std.specs.List.{All}
 use Rattle.asp_vars.specs.Literals.{Literal, complement, has_literal}
 use Rattle.asp_vars.specs.declared.nogood.Nogood.{Nogood}

@@ -9,7 +9,9 @@ use std::marker::Model;
 /// Numbers, of which the first are retired.
 #[derive(Drop)]
 pub struct Apart {
+    // The numbers, those that are retired first.
     items: Vec<u32>,
+    // How many are retired.
     retired: usize,
 }
 

@@ -11,6 +11,7 @@ use std::marker::Model;
 /// A list of watches for each literal, by its code.
 #[derive(Drop)]
 pub struct WatchLists {
+    // By the literal's code, 2 * variable + 0 or 1.
     lists: Vec<Vec<Watch>>,
 }
 

@@ -1,4 +1,4 @@
-//! What was seen of the kept nogoods: of how many levels they were when they were learnt, and how often they were used.
+//! What was seen of the kept nogoods: of how many levels they were when they were learnt, and how much they were used.
 //! No call's meaning rests on it: it chooses which nogoods are dropped.
 use crate::slots::is_spare_slot;
 use crate::stored_nogood::StoredNogood;
@@ -8,17 +8,31 @@ use std::alloc::{AllocError, Global};
 // A nogood of no more levels is kept.
 const FEW_LEVELS: u32 = 2;
 
+// By this part a use is worth more than one before the nogood that was added last.
+const AGEING: u64 = 512;
+
+const FIRST_WORTH: u64 = 1 << 20;
+
+// Beyond it all worths are divided by 2^30.
+const MOST_WORTH: u64 = 1 << 50;
+
 #[derive(Clone, Copy)]
 struct Note {
-    uses: u32,
+    // grows at each use, and begins with that of one use
+    worth: u64,
+    // how many levels its literals had when it was learnt
     levels: u32,
 }
 
 /// A note for each number.
 #[derive(Drop)]
 pub struct Notes {
+    // by number
     notes: Vec<Note>,
-    order: Vec<(u32, u32)>,
+    // worths and numbers of those that may be dropped, the least worth first
+    order: Vec<(u64, u32)>,
+    // what a use is worth now
+    worth: u64,
 }
 
 impl Notes {
@@ -27,12 +41,17 @@ impl Notes {
         Notes {
             notes: Vec::new(alloc),
             order: Vec::new(alloc),
+            worth: FIRST_WORTH,
         }
     }
 
     /// The number is of a new nogood, of so many levels.
     pub fn put(&mut self, id: NogoodId, levels: u32) -> Result<(), AllocError> {
-        let note = Note { uses: 0, levels };
+        self.age();
+        let note = Note {
+            worth: self.worth,
+            levels,
+        };
         if id < self.notes.len() {
             self.notes[id] = note;
         } else {
@@ -41,11 +60,27 @@ impl Notes {
         Ok(())
     }
 
+    // A use is worth more from now on.
+    fn age(&mut self) {
+        self.worth = self.worth.saturating_add(self.worth / AGEING);
+        if self.worth > MOST_WORTH {
+            self.rescale();
+        }
+    }
+
+    // Divides all worths.
+    fn rescale(&mut self) {
+        for note in self.notes.as_mut_slice().iter_mut() {
+            note.worth >>= 30;
+        }
+        self.worth >>= 30;
+    }
+
     /// The nogood was used.
     pub fn used(&mut self, id: NogoodId) {
         if id < self.notes.len() {
-            let uses = self.notes[id].uses;
-            self.notes[id].uses = uses.saturating_add(1);
+            let worth = self.notes[id].worth;
+            self.notes[id].worth = worth.saturating_add(self.worth);
         }
     }
 
@@ -66,7 +101,7 @@ impl Notes {
         }
         let note = self.notes[id as usize];
         if note.levels > FEW_LEVELS {
-            let _ = self.order.push((note.uses, id));
+            let _ = self.order.push((note.worth, id));
         }
     }
 

@@ -10,6 +10,7 @@ use std::marker::Model;
 /// The pair of each number, if its nogood is watched.
 #[derive(Drop)]
 pub struct Pairs {
+    // By the number.
     items: Vec<Option<Pair>>,
 }
 

@@ -23,11 +23,17 @@ use std::marker::Model;
 /// Nogoods, by numbers, with what watches them.
 #[derive(Drop)]
 pub struct Store {
+    // Variables are 1 to this one, which is below 2 ^ 31.
     vars: u32,
+    // The nogood of each number that was given out, if it is still kept.
     slots: Vec<Option<StoredNogood>>,
+    // Where each kept nogood is watched, or that it isn't.
     watches: Watches,
+    // Numbers that had no nogood when they came here. They are looked at again before they are given out.
     free: Vec<u32>,
+    // By what a reduction chooses.
     notes: Notes,
+    // How many kept nogoods aren't kept forever.
     extra: usize,
 }
 

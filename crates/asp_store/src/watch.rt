@@ -7,15 +7,18 @@ use asp_vars::lit::Lit;
 /// The two literals of a nogood that are watched.
 #[derive(Clone, Copy)]
 pub struct Pair {
+    /// One of them.
     pub first: Lit,
+    /// The other one.
     pub second: Lit,
 }
 
-/// A nogood's number and another literal of that nogood, in the list of a literal that it watches. While the other
-/// literal is false the nogood needs no look.
+/// What the list of a literal has of a nogood that watches it.
 #[derive(Clone, Copy)]
 pub struct Watch {
+    /// Another literal of the nogood. While it is false the nogood needs no look.
     pub blocker: Lit,
+    /// The nogood's number.
     pub id: u32,
 }
 

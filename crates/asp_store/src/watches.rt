@@ -9,8 +9,11 @@ use std::alloc::{AllocError, Global};
 /// The watches of all nogoods.
 #[derive(Drop)]
 pub struct Watches {
+    /// For each literal the places of those that watch it.
     pub lists: WatchLists,
+    /// The watched literals of each number, if it has any.
     pub pairs: Pairs,
+    /// The numbers that have none.
     pub apart: Apart,
 }
 

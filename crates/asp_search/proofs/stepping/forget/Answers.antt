@@ -1,4 +1,4 @@
-use Rattle.std.proofs.Common.{List, Option, ap, ◌∙◌, subst}
+use Rattle.std.proofs.Common.{List, ap, subst}
 use Rattle.asp_trail.specs.declared.trail.Entry.{Entry}
 use Rattle.asp_propagate.specs.Propagating.{IsReduced}
 use Rattle.asp_search_laws.proofs.SlotLaws.{reduced_twice}

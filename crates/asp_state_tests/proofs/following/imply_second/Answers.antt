@@ -28,7 +28,7 @@ implied : (q : Propagating) (l : Literal) (id : ℕ) → nogood_at q.slots id �
 implied q l id kept is = subst (λ (m : Literal). IsImplied q m id) (sym is) (second, kept, alone _ _)
 
 pub imply-requires-clause-implied : goal.imply-requires-clause-implied
-imply-requires-clause-implied g c = implied _ _ _ c.keep_second-id.ensures.kept c.new.ensures
+imply-requires-clause-implied g c = implied c.keep_second-id.new.engine _ _ c.keep_second-id.ensures.kept c.new.ensures
 
 pub returns-clause-id : goal.returns-clause-id
 returns-clause-id g c = kept_within _ _ _ (ap (λ (p : Propagating). nogood_at p.slots c.keep_second-id.result) c.imply.ensures ∙ c.keep_second-id.ensures.kept)

@@ -32,7 +32,7 @@ implied q l id kept is =
     (second.nogood, ap (λ (o : Option StoredNogood). option_map (λ (k : StoredNogood). k.nogood) o) kept, alone _ _)
 
 pub imply-requires-clause-implied : goal.imply-requires-clause-implied
-imply-requires-clause-implied g c = implied _ _ _ c.keep_second-id.ensures.kept c.new.ensures
+imply-requires-clause-implied g c = implied c.keep_second-id.new.state _ _ c.keep_second-id.ensures.kept c.new.ensures
 
 pub imply-requires-clause-under : goal.imply-requires-clause-under
 imply-requires-clause-under g c =

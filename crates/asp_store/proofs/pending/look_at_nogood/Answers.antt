@@ -1,7 +1,6 @@
-use Rattle.std.proofs.Common.{◌≡◌, ℕ, ◌≤◌, List, length, refl, sym, ap, ◌∙◌, subst, arith}
-use Rattle.std.specs.List.{All}
+use Rattle.std.proofs.Common.{List, length, sym, subst, arith}
 use Rattle.asp_vars.specs.Literals.{Literal}
-use Rattle.asp_trail.specs.Trails.{Trailed, IsVar}
+use Rattle.asp_trail.specs.Trails.{Trailed}
 use Rattle.asp_store.specs.declared.looks.Look.{Look}
 use Rattle.asp_store.specs.Fitting.{HasFalse, IsWatched}
 use Rattle.asp_store.specs.Looking.{Grew, Found}

@@ -1,4 +1,4 @@
-use Rattle.std.proofs.Common.{◌≡◌, ℕ, ◌+◌, Option, None, Some, length, refl, sym, ap, ◌∙◌, subst, arith}
+use Rattle.std.proofs.Common.{◌≡◌, ℕ, ◌+◌, Option, sym, ap, ◌∙◌, subst, arith}
 use Rattle.std.specs.Option.{IfNone, IfSome}
 use Rattle.asp_trail.specs.Trails.{Trailed}
 use Rattle.asp_store.specs.Sounding.{AreSettled}

@@ -1,9 +1,7 @@
-use Rattle.std.proofs.Common.{◌≡◌, ℕ, Option, List, Some, None, refl, sym, ap, ◌∙◌, subst}
-use Rattle.asp_vars.specs.declared.nogood.Nogood.{Nogood}
+use Rattle.std.proofs.Common.{◌≡◌, Option, List, sym, ap, ◌∙◌, subst}
 use Rattle.asp_store.specs.declared.watch.Pair.{Pair}
 use Rattle.asp_store.specs.declared.watches.Watches.{Watches}
-use Rattle.asp_store.specs.Keeping.{nogood_at}
-use Rattle.asp_store.specs.Pairs.{pair_at, IsOneOf}
+use Rattle.asp_store.specs.Pairs.{pair_at}
 use Rattle.asp_store.specs.Parted.{Parted}
 use Rattle.asp_store.specs.Sounding.{IsSound}
 use Rattle.asp_store.specs.Walking.{IsWalking}

@@ -1,4 +1,4 @@
-use Rattle.std.proofs.Common.{◌≡◌, ℕ, ◌≤◌, Bool, true, false, Option, List, length, refl, sym, ap, ◌∙◌, subst, arith, rules}
+use Rattle.std.proofs.Common.{◌≡◌, Bool, true, false, Option, List, refl, sym, ◌∙◌, subst, arith, rules}
 use Rattle.std.specs.List.{list_all}
 use Rattle.asp_vars.specs.Literals.{Literal, holds_in, has_literal}
 use Rattle.asp_trail.specs.Entries.{assignment}

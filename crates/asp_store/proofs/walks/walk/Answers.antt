@@ -1,7 +1,7 @@
-use Rattle.std.proofs.Common.{◌≡◌, ℕ, ◌+◌, ◌≤◌, refl, sym, ap, ◌∙◌, subst, arith}
+use Rattle.std.proofs.Common.{refl, ap, ◌∙◌, subst, arith}
 use Rattle.asp_trail.specs.Trails.{Trailed}
 use Rattle.asp_store.specs.declared.front.Step.{Step}
-use Rattle.asp_store.specs.Walking.{IsWalking, Steps}
+use Rattle.asp_store.specs.Walking.{Steps}
 use Rattle.asp_store.proofs.GrowLaws.{extends_none, extends_more}
 use Rattle.asp_store.proofs.StepLaws.{code_of_list, front_var}
 use Rattle.asp_store.proofs.walks.walk.Goals as goal

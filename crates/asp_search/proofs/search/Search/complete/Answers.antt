@@ -16,7 +16,7 @@ use Rattle.asp_search_laws.specs.Steps.{Answers, IsStep, IsFailure}
 use Rattle.asp_search_laws.proofs.StepLaws.{Continues, steps_on, fails_on}
 use Rattle.asp_state.specs.SearchStates.{SearchView, values_of, IsUnder}
 use Rattle.asp_search.specs.Invariants.{view_of}
-use Rattle.asp_search.specs.Stepping.{IsEntered, IsFound}
+use Rattle.asp_search.specs.Stepping.{IsEntered}
 use Rattle.asp_search.proofs.BelowLaws.{fault_useful, fault_continues}
 use Rattle.asp_search.proofs.SearchLaws.{search_checked, search_added, added_last}
 use Rattle.asp_search.proofs.StepsLaws.{always_err, fails_here, fails_still}

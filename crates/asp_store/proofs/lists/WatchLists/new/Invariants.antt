@@ -1,5 +1,4 @@
-use Rattle.std.proofs.Common.{◌≡◌, [], map, List, replicate}
-use Rattle.asp_store.specs.declared.watch.Watch.{Watch}
+use Rattle.std.proofs.Common.{◌≡◌, [], map, replicate}
 use Rattle.asp_store.proofs.lists.WatchLists.new.Given as goal
 
 abbrev pub invariant-loop : goal.invariant-loop

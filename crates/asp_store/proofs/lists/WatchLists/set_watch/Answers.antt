@@ -1,7 +1,5 @@
-use Rattle.std.proofs.Common.{◌≡◌, ◌<◌, [], ◌∷◌, ◌++◌, List, length, sym, ap, ◌∙◌, set, get_or}
+use Rattle.std.proofs.Common.{List, ap, set}
 use Rattle.std.specs.Vec.{with_item}
-use Rattle.std.proofs.lemmas.List.{set-get_or}
-use Rattle.std.proofs.lemmas.Option.{slice_get_read}
 use Rattle.asp_vars.specs.Codes.{code_of}
 use Rattle.asp_store.specs.declared.watch.Watch.{Watch}
 use Rattle.asp_store.specs.Lists.{list_at}

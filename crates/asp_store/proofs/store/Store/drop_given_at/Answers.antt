@@ -1,12 +1,11 @@
-use Rattle.std.proofs.Common.{◌≡◌, ◌<◌, ℕ, true, false, cond, List, Option, None, length, set, refl, sym, ap, ◌∙◌, subst, arith}
+use Rattle.std.proofs.Common.{◌≡◌, ◌<◌, true, false, cond, None, length, refl, sym, ap, ◌∙◌, subst, arith}
 use Rattle.std.proofs.lemmas.List.{length-set}
 use Rattle.asp_trail.proofs.EntryLaws.{same_default}
-use Rattle.asp_store.specs.declared.stored_nogood.StoredNogood.{StoredNogood}
-use Rattle.asp_store.specs.Keeping.{kept_at, is_spare, is_given, unless_given, Thins}
-use Rattle.asp_store.specs.Storing.{Stored, Loses, removed}
+use Rattle.asp_store.specs.Keeping.{kept_at, is_given}
+use Rattle.asp_store.specs.Storing.{Stored, Loses}
 use Rattle.asp_store.proofs.GetLaws.{at_set, at_set_other}
 use Rattle.asp_store.proofs.FitsLaws.{removed_loses}
-use Rattle.asp_store.proofs.StoreLaws.{lose_none, thins_none, thins_removed}
+use Rattle.asp_store.proofs.StoreLaws.{lose_none}
 use Rattle.asp_store.proofs.store.Store.drop_given_at.Goals as goal
 
 pub returns-then-is_given_slot-clause-loses : goal.returns-then-is_given_slot-clause-loses

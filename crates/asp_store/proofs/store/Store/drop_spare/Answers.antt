@@ -1,10 +1,7 @@
-use Rattle.std.proofs.Common.{◌≡◌, ◌<◌, ℕ, true, false, cond, List, Option, None, length, set, refl, sym, ap, ◌∙◌, subst, arith}
-use Rattle.std.proofs.lemmas.List.{length-set}
+use Rattle.std.proofs.Common.{◌≡◌, ◌<◌, None, length, refl, sym, ap, ◌∙◌, subst, arith}
 use Rattle.asp_trail.proofs.EntryLaws.{same_default}
-use Rattle.asp_store.specs.declared.stored_nogood.StoredNogood.{StoredNogood}
-use Rattle.asp_store.specs.Keeping.{kept_at, is_spare, is_given, unless_given, Thins}
-use Rattle.asp_store.specs.Storing.{Stored, Loses, removed}
-use Rattle.asp_store.proofs.GetLaws.{at_set, at_set_other}
+use Rattle.asp_store.specs.Keeping.{kept_at, is_spare, Thins}
+use Rattle.asp_store.specs.Storing.{Stored, Loses}
 use Rattle.asp_store.proofs.FitsLaws.{removed_loses}
 use Rattle.asp_store.proofs.StoreLaws.{lose_none, thins_none, thins_removed}
 use Rattle.asp_store.proofs.store.Store.drop_spare.Goals as goal

@@ -1,17 +1,13 @@
-use Rattle.std.proofs.Common.{◌≡◌, ◌<◌, ◌≤◌, ◌+◌, ◌-◌, ℕ, true, false, [], ◌∷◌, ◌++◌, List, Option, Some, None, length, set, refl, sym, ap, subst, ◌∙◌, arith}
-use Rattle.std.specs.List.{All, count_by}
-use Rattle.std.proofs.lemmas.List.{take_at, length-set, length-append}
+use Rattle.std.proofs.Common.{◌≡◌, ◌<◌, ◌≤◌, ◌+◌, false, [], ◌∷◌, ◌++◌, Some, None, length, set, refl, sym, ap, subst, ◌∙◌, arith}
+use Rattle.std.specs.List.{All}
+use Rattle.std.proofs.lemmas.List.{length-set}
 use Rattle.asp_trail.specs.Trails.{IsVar}
 use Rattle.asp_store.specs.declared.stored_nogood.StoredNogood.{StoredNogood}
-use Rattle.asp_store.specs.declared.watch.Pair.{Pair}
 use Rattle.asp_store.specs.declared.watches.Watches.{Watches}
-use Rattle.asp_store.specs.Keeping.{kept_at, is_extra, with_lock}
-use Rattle.asp_store.specs.Parted.{Parted}
-use Rattle.asp_store.specs.Storing.{Stored, IsStore, IsAdded, removed}
-use Rattle.asp_store.proofs.GetLaws.{on_err}
+use Rattle.asp_store.specs.Keeping.{kept_at}
+use Rattle.asp_store.specs.Storing.{Stored, IsStore, IsAdded}
 use Rattle.asp_store.proofs.SoundLaws.{from_push}
-use Rattle.asp_store.proofs.FitsLaws.{removed_loses}
-use Rattle.asp_store.proofs.StoreLaws.{view_of, store_add, store_lose, store_lock, added_put, added_push, put_count, push_count, removed_count}
+use Rattle.asp_store.proofs.StoreLaws.{view_of, store_add, added_put, put_count}
 use Rattle.asp_store.proofs.store.Store.put.Goals as goal
 
 pub set-requires : goal.set-requires

@@ -1,4 +1,4 @@
-use Rattle.std.proofs.Common.{◌≡◌, ℕ, List, Option, sym, ap, subst, ◌∙◌}
+use Rattle.std.proofs.Common.{sym, ap, subst, ◌∙◌}
 use Rattle.asp_store.specs.Parted.{Parted}
 use Rattle.asp_store.specs.Storing.{Stored, IsStore, AreActive, recalled}
 use Rattle.asp_store.proofs.StoreLaws.{store_recall, active_recall}

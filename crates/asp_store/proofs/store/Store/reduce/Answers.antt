@@ -1,6 +1,4 @@
-use Rattle.std.proofs.Common.{List, Option, ap}
-use Rattle.asp_store.specs.Storing.{Stored}
-use Rattle.asp_store.proofs.StoreLaws.{lose_none, lose_more, thins_none, thins_more}
+use Rattle.asp_store.proofs.StoreLaws.{lose_more, thins_more}
 use Rattle.asp_store.proofs.store.Store.reduce.Goals as goal
 
 pub loop-i-preserved : goal.loop-i-preserved

@@ -1,17 +1,9 @@
-use Rattle.std.proofs.Common.{◌≡◌, ◌<◌, ◌≤◌, ◌+◌, ◌-◌, ℕ, true, false, [], ◌∷◌, ◌++◌, List, Option, Some, None, length, set, refl, sym, ap, subst, ◌∙◌, arith}
-use Rattle.std.specs.List.{All, count_by}
-use Rattle.std.proofs.lemmas.List.{take_at, length-set, length-append}
-use Rattle.asp_trail.specs.Trails.{IsVar}
+use Rattle.std.proofs.Common.{◌≡◌, ◌<◌, false, List, Option, length, set, sym, ap, subst, ◌∙◌, arith}
+use Rattle.std.proofs.lemmas.List.{take_at, length-set}
 use Rattle.asp_store.specs.declared.stored_nogood.StoredNogood.{StoredNogood}
-use Rattle.asp_store.specs.declared.watch.Pair.{Pair}
-use Rattle.asp_store.specs.declared.watches.Watches.{Watches}
-use Rattle.asp_store.specs.Keeping.{kept_at, is_extra, with_lock}
-use Rattle.asp_store.specs.Parted.{Parted}
-use Rattle.asp_store.specs.Storing.{Stored, IsStore, IsAdded, removed}
-use Rattle.asp_store.proofs.GetLaws.{on_err}
-use Rattle.asp_store.proofs.SoundLaws.{from_push}
-use Rattle.asp_store.proofs.FitsLaws.{removed_loses}
-use Rattle.asp_store.proofs.StoreLaws.{view_of, store_add, store_lose, store_lock, added_put, added_push, put_count, push_count, removed_count}
+use Rattle.asp_store.specs.Keeping.{kept_at, with_lock}
+use Rattle.asp_store.specs.Storing.{Stored, IsStore}
+use Rattle.asp_store.proofs.StoreLaws.{store_lock}
 use Rattle.asp_store.proofs.store.Store.unlock.Goals as goal
 
 pub invariant_of-self : goal.invariant_of-self
