@@ -1,1 +1,2 @@
 mod AnalysisLaws
+mod StageLaws
