@@ -1,6 +1,7 @@
 //! Conflicts, with what is learnt from each worked out by hand. Want of memory ends a test.
-ghost use Rattle.std.specs.Prelude.{◌≡◌, ℕ, ◌≤◌, ◌∷◌, [], None, Some};
-ghost use Rattle.asp_vars.specs.Literals.{complement};
+ghost use Rattle.std.specs.Prelude.{◌≡◌, ◌≤◌, ◌∷◌, [], None, Some, IsTrue};
+ghost use Rattle.asp_vars.specs.Literals.{holds_in};
+ghost use Rattle.asp_trail.specs.Entries.{assignment};
 ghost use Rattle.asp_trail.specs.Reasons.{AreReasoned};
 ghost use Rattle.asp_trail.specs.Trails.{IsVar};
 ghost use Rattle.asp_analyze.specs.Learning.{AreContained};
@@ -125,13 +126,20 @@ fn is_learnt(learned: &Learned, wanted: &Wanted<'_>) -> bool {
     }
 }
 
+fn holds(rt: &impl Abort, trail: &Trail, vars: Var, lit: Lit)
+    requires { trail.now.vars ≡ vars }
+    ensures { IsTrue (holds_in (assignment trail.now.vars trail.now.entries) lit) }
+{
+    assert!(rt; lit.var() <= vars);
+    assert!(rt; trail.assignment().holds(lit));
+}
+
 fn are_contained(rt: &impl Abort, trail: &Trail, vars: Var, lits: &[Lit])
     requires { trail.now.vars ≡ vars }
     ensures { AreContained trail.now.vars trail.now.entries lits.now }
 {
     for lit in lits {
-        assert!(rt; lit.var() <= vars);
-        assert!(rt; trail.assignment().holds(*lit));
+        holds(rt, trail, vars, *lit);
     }
 }
 

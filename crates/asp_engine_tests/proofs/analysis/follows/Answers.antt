@@ -12,4 +12,5 @@ returns-clause-reasons g c =
     let b : Literal = c.args.second in
     let two : c.imply.new.self.entries ≡ entry a c.args.level None ∷ entry b c.args.level (Some 0) ∷ [] =
     ap (λ (t : Trailed). t.entries) c.imply.ensures ∙ ap (λ (es : List Entry). es ++ entry b (level es) (Some 0) ∷ []) c.requires.alone in
-    reasoned (λ (id : ℕ). Some c.nogood.result) c.imply.new.self.entries c.nogood.result a b c.args.level c.args.level [] two (λ i d h. absurd (omega (arith, h))) refl ?
+    reasoned (λ (id : ℕ). Some c.nogood.result) c.imply.new.self.entries c.nogood.result a b c.args.level c.args.level [] two (λ i d h. absurd (omega (arith, h))) refl
+    (c.nogood.ensures ∙ (c.as_slice.ensures ∙ ap (λ (l : Literal). a ∷ l ∷ []) c.complement.ensures))
