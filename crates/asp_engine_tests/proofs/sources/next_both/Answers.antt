@@ -16,14 +16,14 @@ told_holds x l lt = ap (λ o. agrees o l) (get_or-set_same x l.var (Some l.truth
     itself v false = refl
 
 pub undo-requires-clause-holds : goal.undo-requires-clause-holds
-undo-requires-clause-holds c =
+undo-requires-clause-holds g c =
     let none : Option Bool = None in
     let x : List (Option Bool) = replicate (var_count c.args.compiled.now + 1) none in
     let values : c.given-held.new.sources.values ≡ set x c.args.lit.var (Some c.args.lit.truth) = ap (λ (t : Told). t.values) (c.given-held.ensures ∙ (c.assign.ensures ∙ ap (λ (t : Told). told t c.args.lit) c.anew-sources.ensures)) in
     subst (λ (y : List (Option Bool)). holds_in y c.args.lit ≡ true) (sym values) (told_holds x c.args.lit (omega (arith, c.requires.1, length-replicate (var_count c.args.compiled.now + 1) none)))
 
 pub given-free-requires : goal.given-free-requires
-given-free-requires c =
+given-free-requires g c =
     let none : Option Bool = None in
     let x : List (Option Bool) = replicate (var_count c.args.compiled.now + 1) none in
     let values : c.given-held.new.sources.values ≡ set x c.args.lit.var (Some c.args.lit.truth) = ap (λ (t : Told). t.values) (c.given-held.ensures ∙ (c.assign.ensures ∙ ap (λ (t : Told). told t c.args.lit) c.anew-sources.ensures)) in
