@@ -1,5 +1,5 @@
 //! Conflicts, with what is learnt from each worked out by hand. Want of memory ends a test.
-ghost use Rattle.std.specs.Prelude.{◌≡◌, ◌≤◌, ◌∷◌, [], None, Some, IsTrue};
+ghost use Rattle.std.specs.Prelude.{◌≡◌, ◌≤◌, ◌∷◌, [], All, None, Some, IsTrue};
 ghost use Rattle.asp_vars.specs.Literals.{holds_in};
 ghost use Rattle.asp_trail.specs.Entries.{assignment};
 ghost use Rattle.asp_trail.specs.Reasons.{AreReasoned};
@@ -136,7 +136,7 @@ fn holds(rt: &impl Abort, trail: &Trail, vars: Var, lit: Lit)
 
 fn are_contained(rt: &impl Abort, trail: &Trail, vars: Var, lits: &[Lit])
     requires { trail.now.vars ≡ vars }
-    ensures { AreContained trail.now.vars trail.now.entries lits.now }
+    ensures { All (λ l. IsTrue (holds_in (assignment trail.now.vars trail.now.entries) l)) lits.now }
 {
     for lit in lits {
         holds(rt, trail, vars, *lit);

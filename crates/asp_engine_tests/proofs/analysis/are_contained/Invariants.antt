@@ -1,5 +1,5 @@
 use Rattle.std.proofs.Common.{◌≡◌, true, take}
-use Rattle.std.specs.List.{All}
+use Rattle.std.specs.Prelude.{All}
 use Rattle.asp_vars.specs.Literals.{holds_in}
 use Rattle.asp_trail.specs.Entries.{assignment}
 use Rattle.asp_engine_tests.proofs.analysis.are_contained.Given as goal

@@ -1,4 +1,4 @@
-use Rattle.std.proofs.Common.{◌≡◌, ℕ, List, Some, None, refl, sym, ap, subst}
+use Rattle.std.proofs.Common.{ℕ, List, Some, refl, sym, ap, subst}
 use Rattle.asp_trail.specs.declared.trail.Entry.{Entry}
 use Rattle.asp_trail.specs.Reasons.{AreReasoned}
 use Rattle.asp_trail.specs.Trails.{Trailed}
