@@ -1,12 +1,14 @@
 -- What the trails of the tests say.
-use Rattle.std.proofs.Common.{◌≡◌, ◌≢◌, ℕ, suc, zero, ◌<◌, true, List, [], ◌∷◌, Option, Some, None, inl, inr, refl, sym, ap, ◌∙◌, subst, arith}
+use Rattle.std.proofs.Common.{◌≡◌, ◌≢◌, ℕ, suc, zero, ◌<◌, Bool, true, false, eqb, List, [], ◌∷◌, ◌++◌, length, get_or, Option, Some, None, inl, inr, refl, sym, ap, ◌∙◌, subst, arith}
 use Rattle.std.specs.List.{All}
 use Rattle.std.specs.Option.{is_some}
-use Rattle.std.proofs.lemmas.Bool.{false≢true}
+use Rattle.std.proofs.lemmas.Bool.{eqb-true, false≢true}
+use Rattle.std.proofs.lemmas.Bool.Decides.{nat_tests}
+use Rattle.std.proofs.lemmas.List.{length-append, get_or_append_left, get_or_push}
 use Rattle.asp_vars.specs.Literals.{Literal, complement, has_literal, literal_eq}
 use Rattle.asp_vars.specs.declared.nogood.Nogood.{Nogood}
 use Rattle.asp_trail.specs.declared.trail.Entry.{Entry}
-use Rattle.asp_trail.specs.Reasons.{Stands, AreReasoned}
+use Rattle.asp_trail.specs.Reasons.{Stands, IsReason, AreReasoned}
 use Rattle.asp_analyze.proofs.LitLaws.{or_cases, only_one, has_last}
 use Rattle.asp_vars.proofs.LiteralLaws.{same_literal}
 
@@ -42,39 +44,32 @@ reasoned kept es n a b x y rest e none k lits = subst (λ (xs : List Entry). Are
     at (suc zero) d id h q = (n, subst (λ (i : ℕ). kept i ≡ Some n) (zeroth id q) k, record { has = has; others = others })
     at (suc (suc i)) d id h q = absurd (no id (sym (none i d (omega arith)) ∙ q))
 
--- ---- which literals stand
-abbrev pub StandsIn : List Entry → Literal → Type 0
-StandsIn es l = (i : ℕ) × (b : ℕ) × Stands es l i b
+-- ---- what a decision leaves
+stands_more : (es fs : List Entry) (l : Literal) (i b : ℕ) → Stands es l i b → Stands (es ++ fs) l i b
+stands_more es fs l i b s = record {
+  within = omega (arith, s.within, length-append es fs);
+  lit = λ d. ap (λ e. e.lit) (get_or_append_left es fs d i s.within) ∙ s.lit d;
+  level = λ d. ap (λ e. e.level) (get_or_append_left es fs d i s.within) ∙ s.level d;
+}
 
-pub stands_0 : (es : List Entry) (a : Literal) (x : ℕ) (r : Option ℕ) (rest : List Entry) → es ≡ entry a x r ∷ rest → StandsIn es a
-stands_0 es a x r rest e =
-    subst (λ (xs : List Entry). StandsIn xs a) (sym e) (0, x, record { within = omega arith; lit = λ d. refl; level = λ d. refl })
+reason_more : (es fs : List Entry) (i : ℕ) (l : Literal) (n : List Literal) → IsReason es i l n → IsReason (es ++ fs) i l n
+reason_more es fs i l n r = record {
+  has = r.has;
+  others = λ k h ne. let o = r.others k h ne in (o.0, o.1, o.2, stands_more es fs k o.0 o.1 o.3);
+}
 
-pub stands_1 : (es : List Entry) (f : Entry) (a : Literal) (x : ℕ) (r : Option ℕ) (rest : List Entry) → es ≡ f ∷ entry a x r ∷ rest → StandsIn es a
-stands_1 es f a x r rest e =
-    subst (λ (xs : List Entry). StandsIn xs a) (sym e) (1, x, record { within = omega arith; lit = λ d. refl; level = λ d. refl })
-
-pub stands_2 : (es : List Entry) (f g : Entry) (a : Literal) (x : ℕ) (r : Option ℕ) (rest : List Entry) → es ≡ f ∷ g ∷ entry a x r ∷ rest → StandsIn es a
-stands_2 es f g a x r rest e =
-    subst (λ (xs : List Entry). StandsIn xs a) (sym e) (2, x, record { within = omega arith; lit = λ d. refl; level = λ d. refl })
-
-pub both_stand : (es : List Entry) (lits : List Literal) (a b : Literal) → lits ≡ a ∷ b ∷ [] → StandsIn es a → StandsIn es b → All (λ l. StandsIn es l) lits
-both_stand es lits a b e p q = subst (λ (ls : List Literal). All (λ l. StandsIn es l) ls) (sym e) at
+pub reasoned_more : (kept : ℕ → Option Nogood) (es : List Entry) (e : Entry) → e.reason ≡ None → AreReasoned kept es → AreReasoned kept (es ++ e ∷ [])
+reasoned_more kept es e none old i d id h q = cases (eqb i (length es)) refl
   where
-    at : All (λ l. StandsIn es l) (a ∷ b ∷ [])
-    at zero d h = p
-    at (suc zero) d h = q
-    at (suc (suc i)) d h = absurd (omega (arith, h))
-
-pub all_stand : (es : List Entry) (lits : List Literal) (a b c : Literal) → lits ≡ a ∷ b ∷ c ∷ [] → StandsIn es a → StandsIn es b → StandsIn es c → All (λ l. StandsIn es l) lits
-all_stand es lits a b c e p q r = subst (λ (ls : List Literal). All (λ l. StandsIn es l) ls) (sym e) at
-  where
-    at : All (λ l. StandsIn es l) (a ∷ b ∷ c ∷ [])
-    at zero d h = p
-    at (suc zero) d h = q
-    at (suc (suc zero)) d h = r
-    at (suc (suc (suc i))) d h = absurd (omega (arith, h))
-
-pub no_reasons : (n : ℕ) (e : Entry) → e.reason ≡ None → All (λ (f : Entry). f.reason ≡ None) (e ∷ [])
-no_reasons n e q zero d h = q
-no_reasons n e q (suc i) d h = absurd (omega (arith, h))
+    cases : (b : Bool) → b ≡ eqb i (length es) →
+        (n : Nogood) × (kept id ≡ Some n) × IsReason (es ++ e ∷ []) i (get_or (es ++ e ∷ []) i d).lit n.lits
+    cases true s =
+        let at : i ≡ length es = eqb-true i (length es) (sym s) in
+        let is : get_or (es ++ e ∷ []) i d ≡ e = get_or_push es e d i (sym at) in
+        absurd (false≢true (ap is_some (sym none ∙ (sym (ap (λ (f : Entry). f.reason) is) ∙ q))))
+    cases false s =
+        let ne : i ≢ length es = grind (arith, nat_tests) in
+        let lt : i < length es = omega (arith, h, length-append es (e ∷ [])) in
+        let is : get_or (es ++ e ∷ []) i d ≡ get_or es i d = get_or_append_left es (e ∷ []) d i lt in
+        let o = old i d id lt (sym (ap (λ (f : Entry). f.reason) is) ∙ q) in
+        (o.0, o.1, subst (λ (f : Entry). IsReason (es ++ e ∷ []) i f.lit o.0.lits) (sym is) (reason_more es (e ∷ []) i (get_or es i d).lit o.0.lits o.2))

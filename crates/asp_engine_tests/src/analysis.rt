@@ -1,18 +1,20 @@
-//! Conflicts, with what is learnt from each worked out by hand.
-ghost use Rattle.std.specs.Prelude.{◌≡◌, ℕ, ◌∷◌, [], IfOk};
-ghost use Rattle.asp_trail.specs.Reasons.{Stands, AreReasoned};
-ghost use Rattle.std.specs.List.{All};
+//! Conflicts, with what is learnt from each worked out by hand. Want of memory ends a test.
+ghost use Rattle.std.specs.Prelude.{◌≡◌, ◌≤◌, ◌∷◌, [], All, None, Some, IsTrue};
+ghost use Rattle.asp_vars.specs.Literals.{holds_in};
+ghost use Rattle.asp_trail.specs.Entries.{assignment};
+ghost use Rattle.asp_trail.specs.Reasons.{AreReasoned};
+ghost use Rattle.asp_trail.specs.Trails.{IsVar};
+ghost use Rattle.asp_analyze.specs.Learning.{AreContained};
 ghost use Rattle.asp_analyze.specs.Way.{AreUpTo};
 
-use crate::common::pair;
+use crate::trails::roomy;
 use asp_analyze::learn::{Learned, Learner, learn};
 use asp_trail::reasons::{NogoodId, Reasons};
 use asp_trail::trail::Trail;
-use asp_vars::lit::Lit;
+use asp_vars::lit::{Lit, Var};
 use asp_vars::nogood::{Base, Lits, Nogood};
-use std::alloc::{AllocError, Global};
+use std::alloc::Global;
 use std::process::Abort;
-use std::test::Fail;
 
 // The only reason on a trail.
 #[derive(Drop)]
@@ -34,132 +36,222 @@ impl Reasons for Only {
     }
 }
 
-fn triple(heap: Global, first: Lit, second: Lit, third: Lit) -> Result<Nogood, AllocError>
-    ensures { IfOk result (λ n. n.lits ≡ first ∷ second ∷ third ∷ []) }
-{
-    let lits = Lits::from_slice(heap, [first, second, third].as_slice())?;
-    Ok(Nogood {
-        lits,
-        base: Base::Pure,
-    })
+// A nogood of these literals is learnt, which implies one of them on a level.
+#[derive(Clone, Copy)]
+struct Wanted<'a> {
+    lits: &'a [Lit],
+    level: usize,
+    implied: Lit,
 }
 
-fn is_learnt(learned: &Learned, lits: &[Lit], jump: &Option<(usize, Lit)>) -> bool {
-    match (learned, jump) {
-        (Learned::InCube(nogood), None) => nogood.lits.as_slice() == lits,
-        (Learned::Jump { nogood, level, lit }, Some((at, implied))) => {
-            nogood.lits.as_slice() == lits && *level == *at && *lit == *implied
-        }
-        _ => false,
+fn nogood(rt: &impl Abort, heap: Global, lits: &[Lit]) -> Nogood
+    ensures { result.lits ≡ lits.now }
+{
+    let lits = Lits::from_slice(heap, lits).expect(rt, "memory");
+    Nogood {
+        lits,
+        base: Base::Pure,
     }
 }
 
-// Learns with a learner that was used before, and without one.
-fn check<R: Reasons>(
+// ---- trails of a literal and of another that follows from it
+fn assumed(rt: &impl Abort, heap: Global, vars: Var, lit: Lit) -> Trail
+    requires { IsVar vars lit.var }
+    ensures vars { result.vars ≡ vars }
+    ensures room { vars ≤ result.room }
+    ensures entries { result.entries ≡ record { lit = lit; level = 0; reason = None } ∷ [] }
+{
+    let mut trail = roomy(rt, heap, vars);
+    assert!(rt; trail.value(lit.var()).is_none());
+    trail.assume(lit);
+    trail
+}
+
+fn decided(rt: &impl Abort, heap: Global, vars: Var, lit: Lit) -> Trail
+    requires { IsVar vars lit.var }
+    ensures vars { result.vars ≡ vars }
+    ensures room { vars ≤ result.room }
+    ensures entries { result.entries ≡ record { lit = lit; level = 1; reason = None } ∷ [] }
+{
+    let mut trail = roomy(rt, heap, vars);
+    assert!(rt; trail.value(lit.var()).is_none());
+    trail.decide(lit);
+    trail
+}
+
+// The second literal follows from the first, which is alone on the trail.
+fn follows(
+    rt: &impl Abort,
+    heap: Global,
+    trail: &mut Trail,
+    level: usize,
+    first: Lit,
+    second: Lit,
+) -> Only
+    requires var { IsVar trail.old.vars second.var }
+    requires room { trail.old.vars ≤ trail.old.room }
+    requires alone { trail.old.entries ≡ record { lit = first; level = level; reason = None } ∷ [] }
+    ensures vars { trail.new.vars ≡ trail.old.vars }
+    ensures room { trail.new.room ≡ trail.old.room }
+    ensures reasons { AreReasoned (λ _. Some result.nogood) trail.new.entries }
+{
+    assert!(rt; trail.level() == level && trail.value(second.var()).is_none());
+    trail.imply(second, 0);
+    Only {
+        nogood: nogood(rt, heap, [first, second.complement()].as_slice()),
+    }
+}
+
+fn decide(rt: &impl Abort, trail: &mut Trail, only: &Only, lit: Lit)
+    requires var { IsVar trail.old.vars lit.var }
+    requires room { trail.old.vars ≤ trail.old.room }
+    requires reasons { AreReasoned (λ _. Some only.now.nogood) trail.old.entries }
+    ensures vars { trail.new.vars ≡ trail.old.vars }
+    ensures reasons { AreReasoned (λ _. Some only.now.nogood) trail.new.entries }
+{
+    let _ = only;
+    assert!(rt; trail.value(lit.var()).is_none());
+    trail.decide(lit);
+}
+
+// ---- what is learnt
+fn is_learnt(learned: &Learned, wanted: &Wanted<'_>) -> bool {
+    match learned {
+        Learned::InCube(_) => false,
+        Learned::Jump { nogood, level, lit } => {
+            nogood.lits.as_slice() == wanted.lits
+                && *level == wanted.level
+                && *lit == wanted.implied
+        }
+    }
+}
+
+fn holds(rt: &impl Abort, trail: &Trail, vars: Var, lit: Lit)
+    requires { trail.now.vars ≡ vars }
+    ensures { IsTrue (holds_in (assignment trail.now.vars trail.now.entries) lit) }
+{
+    assert!(rt; lit.var() <= vars);
+    assert!(rt; trail.assignment().holds(lit));
+}
+
+fn are_contained(rt: &impl Abort, trail: &Trail, vars: Var, lits: &[Lit])
+    requires { trail.now.vars ≡ vars }
+    ensures { All (λ l. IsTrue (holds_in (assignment trail.now.vars trail.now.entries) l)) lits.now }
+{
+    for lit in lits {
+        holds(rt, trail, vars, *lit);
+    }
+}
+
+fn learns(
+    rt: &impl Abort,
+    learner: &mut Learner,
+    trail: &Trail,
+    only: &Only,
+    from: &Nogood,
+    wanted: &Wanted<'_>,
+)
+    requires vars { AreUpTo learner.old trail.now.entries }
+    requires contained { AreContained trail.now.vars trail.now.entries from.now.lits }
+    requires reasons { AreReasoned (λ _. Some only.now.nogood) trail.now.entries }
+    ensures { learner.new ≡ learner.old }
+{
+    let learned = learner
+        .learn(trail, only, from.lits.as_slice(), &from.base)
+        .expect(rt, "memory");
+    assert!(rt; is_learnt(&learned, wanted));
+}
+
+fn learns_at_once(
     rt: &impl Abort,
     heap: Global,
     trail: &Trail,
-    reasons: &R,
-    nogood: &Nogood,
-    lits: &[Lit],
-    jump: &Option<(usize, Lit)>,
-) -> Result<(), Fail>
-    requires contained { All (λ l. (i : ℕ) × (b : ℕ) × Stands trail.now.entries l i b) nogood.now.lits }
-    requires reasons { AreReasoned (R.kept reasons.now) trail.now.entries }
-    requires few { AreUpTo 8 trail.now.entries }
+    only: &Only,
+    from: &Nogood,
+    wanted: &Wanted<'_>,
+)
+    requires contained { AreContained trail.now.vars trail.now.entries from.now.lits }
+    requires reasons { AreReasoned (λ _. Some only.now.nogood) trail.now.entries }
+{
+    let learned = learn(heap, trail, only, from.lits.as_slice(), &from.base).expect(rt, "memory");
+    assert!(rt; is_learnt(&learned, wanted));
+}
+
+// Without a learner, and with one that is used again.
+fn check(
+    rt: &impl Abort,
+    heap: Global,
+    trail: &Trail,
+    vars: Var,
+    only: &Only,
+    from: &Nogood,
+    wanted: &Wanted<'_>,
+)
+    requires vars { trail.now.vars ≡ vars }
+    requires reasons { AreReasoned (λ _. Some only.now.nogood) trail.now.entries }
 {
     let _len = trail.len();
-    let from = nogood.lits.as_slice();
-    let mut learner = Learner::new(heap, 8)?;
-    let first = learner.learn(trail, reasons, from, &nogood.base)?;
-    assert!(rt; is_learnt(&first, lits, jump));
-    let second = learner.learn(trail, reasons, from, &nogood.base)?;
-    assert!(rt; is_learnt(&second, lits, jump));
-    let third = learn(heap, trail, reasons, from, &nogood.base)?;
-    assert!(rt; is_learnt(&third, lits, jump));
-    Ok(())
+    are_contained(rt, trail, vars, from.lits.as_slice());
+    learns_at_once(rt, heap, trail, only, from, wanted);
+    let mut learner = Learner::new(heap, vars).expect(rt, "memory");
+    learns(rt, &mut learner, trail, only, from, wanted);
+    learns(rt, &mut learner, trail, only, from, wanted);
 }
 
 // { a; b } with all four constraints: a was decided to be false.
 #[test]
-fn a_decision_follows_from_the_conflict(rt: HostRuntime) -> Result<(), Fail> {
+fn a_decision_follows_from_the_conflict(rt: HostRuntime) {
     let heap = rt.alloc();
     let f1 = Lit::new(1, false);
     let t2 = Lit::new(2, true);
-    let f2 = Lit::new(2, false);
-    let mut trail = Trail::new(heap, 2)?;
-    trail.reserve(2)?;
-    trail.decide(f1);
-    assert!(rt; trail.value(2) == None);
-    trail.imply(t2, 0);
-    let reason = pair(heap, f1, f2)?;
-    let only = Only { nogood: reason };
-    let nogood = pair(heap, f1, t2)?;
-    check(
-        &rt,
-        heap,
-        &trail,
-        &only,
-        &nogood,
-        [f1].as_slice(),
-        &Some((0, Lit::new(1, true))),
-    )
+    let mut trail = decided(&rt, heap, 2, f1);
+    let only = follows(&rt, heap, &mut trail, 1, f1, t2);
+    let from = nogood(&rt, heap, [f1, t2].as_slice());
+    let lits = [f1];
+    let wanted = Wanted {
+        lits: &lits,
+        level: 0,
+        implied: f1.complement(),
+    };
+    check(&rt, heap, &trail, 2, &only, &from, &wanted);
 }
 
 // 1 is assumed, and 2 follows from it: the nogood says that 3 has to do with 1.
 #[test]
-fn what_was_assumed_stays(rt: HostRuntime) -> Result<(), Fail> {
+fn what_was_assumed_stays(rt: HostRuntime) {
     let heap = rt.alloc();
     let t1 = Lit::new(1, true);
     let t2 = Lit::new(2, true);
-    let f2 = Lit::new(2, false);
     let t3 = Lit::new(3, true);
-    let mut trail = Trail::new(heap, 3)?;
-    trail.reserve(3)?;
-    trail.assume(t1);
-    assert!(rt; trail.value(2) == None);
-    trail.imply(t2, 0);
-    assert!(rt; trail.value(3) == None);
-    trail.decide(t3);
-    let reason = pair(heap, t1, f2)?;
-    let only = Only { nogood: reason };
-    let nogood = pair(heap, t3, t2)?;
-    check(
-        &rt,
-        heap,
-        &trail,
-        &only,
-        &nogood,
-        [t3, t1].as_slice(),
-        &Some((0, Lit::new(3, false))),
-    )
+    let mut trail = assumed(&rt, heap, 3, t1);
+    let only = follows(&rt, heap, &mut trail, 0, t1, t2);
+    decide(&rt, &mut trail, &only, t3);
+    let from = nogood(&rt, heap, [t3, t2].as_slice());
+    let lits = [t3, t1];
+    let wanted = Wanted {
+        lits: &lits,
+        level: 0,
+        implied: t3.complement(),
+    };
+    check(&rt, heap, &trail, 3, &only, &from, &wanted);
 }
 
 // 2 follows from 1, which stays.
 #[test]
-fn what_follows_goes(rt: HostRuntime) -> Result<(), Fail> {
+fn what_follows_goes(rt: HostRuntime) {
     let heap = rt.alloc();
     let t1 = Lit::new(1, true);
     let t2 = Lit::new(2, true);
-    let f2 = Lit::new(2, false);
     let t3 = Lit::new(3, true);
-    let mut trail = Trail::new(heap, 3)?;
-    trail.reserve(3)?;
-    trail.decide(t1);
-    assert!(rt; trail.value(2) == None);
-    trail.imply(t2, 0);
-    assert!(rt; trail.value(3) == None);
-    trail.decide(t3);
-    let reason = pair(heap, t1, f2)?;
-    let only = Only { nogood: reason };
-    let nogood = triple(heap, t2, t3, t1)?;
-    check(
-        &rt,
-        heap,
-        &trail,
-        &only,
-        &nogood,
-        [t3, t1].as_slice(),
-        &Some((1, Lit::new(3, false))),
-    )
+    let mut trail = decided(&rt, heap, 3, t1);
+    let only = follows(&rt, heap, &mut trail, 1, t1, t2);
+    decide(&rt, &mut trail, &only, t3);
+    let from = nogood(&rt, heap, [t2, t3, t1].as_slice());
+    let lits = [t3, t1];
+    let wanted = Wanted {
+        lits: &lits,
+        level: 1,
+        implied: t3.complement(),
+    };
+    check(&rt, heap, &trail, 3, &only, &from, &wanted);
 }

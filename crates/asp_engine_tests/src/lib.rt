@@ -18,4 +18,6 @@ mod store;
 #[cfg(test)]
 mod trail;
 #[cfg(test)]
+mod trails;
+#[cfg(test)]
 mod weights;

@@ -1,8 +1,10 @@
-//! A worked program.
-ghost use Rattle.std.specs.Prelude.{◌≡◌, ◌≤◌, [], IfOk};
+//! A worked program. Want of memory ends the test.
+ghost use Rattle.std.specs.Prelude.{◌≡◌, ◌+◌, None, replicate};
 ghost use Rattle.asp_vars.specs.Numbering.{var_count};
+ghost use Rattle.asp_trail.specs.Entries.{assignment};
 ghost use Rattle.asp_trail.specs.Trails.{IsVar};
 
+use crate::trails::roomy;
 use asp_model::program::{Body, Head, Program, Rule};
 use asp_model::seq::Seq;
 use asp_source::sources::Sources;
@@ -11,40 +13,37 @@ use asp_vars::compile::compile;
 use asp_vars::compiled::Compiled;
 use asp_vars::lit::Lit;
 use asp_vars::nogood::Nogood;
-use std::alloc::{AllocError, Global};
+use std::alloc::Global;
 use std::process::Abort;
-use std::test::Fail;
 
-fn body(alloc: Global, literals: &[i32]) -> Result<Body, AllocError> {
-    Ok(Body::All(Seq::from_vec(literals.to_vec(alloc)?)))
+fn body(rt: &impl Abort, alloc: Global, literals: &[i32]) -> Body {
+    Body::All(Seq::from_vec(literals.to_vec(alloc).expect(rt, "memory")))
+}
+
+fn rule(rt: &impl Abort, alloc: Global, atom: u32, literal: i32) -> Rule {
+    Rule {
+        head: Head::One(atom),
+        body: body(rt, alloc, &[literal]),
+    }
 }
 
 // a1 <- a2. a2 <- a1. { a3 }. a1 <- a3. The body of the last rule is the variable 7.
-fn supported_loop(alloc: Global) -> Result<Program, AllocError> {
-    let mut rules = Vec::new(alloc);
-    rules.push(Rule {
-        head: Head::One(1),
-        body: body(alloc, &[2])?,
-    })?;
-    rules.push(Rule {
-        head: Head::One(2),
-        body: body(alloc, &[1])?,
-    })?;
-    rules.push(Rule {
-        head: Head::Choice(Seq::from_vec([3].to_vec(alloc)?)),
-        body: body(alloc, &[])?,
-    })?;
-    rules.push(Rule {
-        head: Head::One(1),
-        body: body(alloc, &[3])?,
-    })?;
-    Ok(Program {
+fn supported_loop(rt: &impl Abort, alloc: Global) -> Program {
+    let free = Rule {
+        head: Head::Choice(Seq::from_vec([3].to_vec(alloc).expect(rt, "memory"))),
+        body: body(rt, alloc, &[]),
+    };
+    let first = rule(rt, alloc, 1, 2);
+    let second = rule(rt, alloc, 2, 1);
+    let support = rule(rt, alloc, 1, 3);
+    let rules = vec![in alloc; first, second, free, support].expect(rt, "memory");
+    Program {
         rules: Seq::from_vec(rules),
         minimize: Seq::from_vec(Vec::new(alloc)),
         outputs: Seq::from_vec(Vec::new(alloc)),
         externals: Seq::from_vec(Vec::new(alloc)),
         assumptions: Seq::from_vec(Vec::new(alloc)),
-    })
+    }
 }
 
 fn has_lits(rt: &impl Abort, nogood: Option<Nogood>, wanted: &[Lit]) {
@@ -54,43 +53,47 @@ fn has_lits(rt: &impl Abort, nogood: Option<Nogood>, wanted: &[Lit]) {
     }
 }
 
-fn compiled_loop(rt: &impl Abort, alloc: Global) -> Result<Compiled, AllocError>
-    ensures { IfOk result (λ p. var_count p ≡ 7) }
+fn compiled_loop(rt: &impl Abort, alloc: Global) -> Compiled
+    ensures { var_count result ≡ 7 }
 {
-    let program = supported_loop(alloc)?;
+    let program = supported_loop(rt, alloc);
     assert!(rt; program.is_sound());
-    let compiled = compile(alloc, program)?;
+    let compiled = compile(alloc, program).expect(rt, "memory");
     assert!(rt; compiled.vars() == 7);
-    Ok(compiled)
+    compiled
 }
 
-fn trail_of(alloc: Global, vars: u32) -> Result<Trail, AllocError>
-    ensures vars { IfOk result (λ t. t.vars ≡ vars) }
-    ensures entries { IfOk result (λ t. t.entries ≡ []) }
-    ensures room { IfOk result (λ t. 1 ≤ t.room) }
+fn anew<'a>(rt: &impl Abort, alloc: Global, compiled: &'a Compiled) -> Sources<'a>
+    ensures { result ≡ record { program = compiled.now; values = replicate (var_count compiled.now + 1) None } }
 {
-    let mut trail = Trail::new(alloc, vars)?;
-    trail.reserve(1)?;
-    Ok(trail)
+    Sources::new(alloc, compiled).expect(rt, "memory")
+}
+
+fn given(rt: &impl Abort, trail: &Trail, sources: &mut Sources<'_>) -> Option<Nogood>
+    requires { sources.old.values ≡ assignment trail.now.vars trail.now.entries }
+    ensures { sources.new ≡ sources.old }
+{
+    sources.next(trail).expect(rt, "memory")
 }
 
 // What comes where one literal holds, and what comes after that where none does.
 fn next_both(
+    rt: &impl Abort,
     alloc: Global,
     compiled: &Compiled,
     lit: Lit,
-) -> Result<(Option<Nogood>, Option<Nogood>), AllocError>
+) -> (Option<Nogood>, Option<Nogood>)
     requires { IsVar (var_count compiled.now) lit.var }
 {
-    let mut sources = Sources::new(alloc, compiled)?;
-    let mut trail = trail_of(alloc, compiled.vars())?;
+    let mut sources = anew(rt, alloc, compiled);
+    let mut trail = roomy(rt, alloc, compiled.vars());
     trail.assume(lit);
     sources.assign(lit);
-    let held = sources.next(&trail)?;
+    let held = given(rt, &trail, &mut sources);
     sources.undo(lit);
     trail.clear();
-    let free = sources.next(&trail)?;
-    Ok((held, free))
+    let free = given(rt, &trail, &mut sources);
+    (held, free)
 }
 
 fn is_of(nogood: &Nogood, wanted: &[Lit]) -> bool {
@@ -106,14 +109,13 @@ fn has_either(rt: &impl Abort, nogood: Option<Nogood>, first: &[Lit], second: &[
 }
 
 #[test]
-fn a_loop_needs_its_support(rt: HostRuntime) -> Result<(), Fail> {
+fn a_loop_needs_its_support(rt: HostRuntime) {
     let alloc = rt.alloc();
-    let compiled = compiled_loop(&rt, alloc)?;
+    let compiled = compiled_loop(&rt, alloc);
     let false_body = Lit::new(7, false);
-    let (held, free) = next_both(alloc, &compiled, false_body)?;
+    let (held, free) = next_both(&rt, alloc, &compiled, false_body);
     let first = [Lit::new(1, true), false_body];
     let second = [Lit::new(2, true), false_body];
     has_either(&rt, held, first.as_slice(), second.as_slice());
     has_lits(&rt, free, &[]);
-    Ok(())
 }

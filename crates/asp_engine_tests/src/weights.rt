@@ -1,9 +1,10 @@
 //! Each call, with answers worked out by hand. Want of memory ends a test.
-ghost use Rattle.std.specs.Prelude.{◌≡◌, ◌≤◌, ◌+◌, [], None, IfOk, replicate};
+ghost use Rattle.std.specs.Prelude.{◌≡◌, ◌≤◌, ◌+◌, None, replicate};
 ghost use Rattle.asp_vars.specs.Numbering.{var_count};
 ghost use Rattle.asp_trail.specs.Entries.{assignment};
 ghost use Rattle.asp_trail.specs.Trails.{IsVar};
 
+use crate::trails::roomy;
 use asp_model::program::{Atom, Body, Head, Program, Rule};
 use asp_model::seq::Seq;
 use asp_trail::trail::Trail;
@@ -12,7 +13,7 @@ use asp_vars::compiled::Compiled;
 use asp_vars::lit::{Lit, Var};
 use asp_vars::nogood::{Base, Nogood};
 use asp_weight::weights::Weights;
-use std::alloc::{AllocError, Global};
+use std::alloc::Global;
 use std::process::Abort;
 
 // a1 <- the bound { the items }. { the other atoms }.
@@ -62,40 +63,46 @@ fn is_as_wanted(given: &Option<Nogood>, lits: &[Lit]) -> bool {
     }
 }
 
-// ---- one literal, that comes and goes
-fn trail_of(heap: Global, vars: Var) -> Result<Trail, AllocError>
-    ensures vars { IfOk result (λ t. t.vars ≡ vars) }
-    ensures entries { IfOk result (λ t. t.entries ≡ []) }
-    ensures room { IfOk result (λ t. 1 ≤ t.room) }
+// The sums of a new propagator.
+fn anew(rt: &impl Abort, heap: Global, compiled: &Compiled) -> Weights
+    ensures count { var_count result.program ≡ var_count compiled.now }
+    ensures values { result.values ≡ replicate (var_count compiled.now + 1) None }
 {
-    let mut trail = Trail::new(heap, vars)?;
-    trail.reserve(1)?;
-    Ok(trail)
+    Weights::new(heap, compiled).expect(rt, "memory")
 }
 
+fn given(rt: &impl Abort, trail: &Trail, weights: &mut Weights) -> Option<Nogood>
+    requires { weights.old.values ≡ assignment trail.now.vars trail.now.entries }
+    ensures { weights.new ≡ weights.old }
+{
+    weights.next(trail).expect(rt, "memory")
+}
+
+// ---- one literal, that comes and goes
 // What comes where one literal holds, and what comes after that where none does.
 fn next_both(
+    rt: &impl Abort,
     heap: Global,
     compiled: &Compiled,
     lit: Lit,
-) -> Result<(Option<Nogood>, Option<Nogood>), AllocError>
+) -> (Option<Nogood>, Option<Nogood>)
     requires { IsVar (var_count compiled.now) lit.var }
 {
-    let mut weights = Weights::new(heap, compiled)?;
-    let mut trail = trail_of(heap, compiled.vars())?;
+    let mut weights = anew(rt, heap, compiled);
+    let mut trail = roomy(rt, heap, compiled.vars());
     trail.assume(lit);
     weights.assign(lit);
-    let held = weights.next(&trail)?;
+    let held = given(rt, &trail, &mut weights);
     weights.undo(lit);
     trail.clear();
-    let free = weights.next(&trail)?;
-    Ok((held, free))
+    let free = given(rt, &trail, &mut weights);
+    (held, free)
 }
 
 // The nogood of these literals comes while the literal holds, and none after that.
 fn says_while(rt: &impl Abort, heap: Global, compiled: &Compiled, lit: Lit, lits: &[Lit]) {
     assert!(rt; 0 < lit.var() && lit.var() <= compiled.vars());
-    let (held, free) = next_both(heap, compiled, lit).expect(rt, "memory");
+    let (held, free) = next_both(rt, heap, compiled, lit);
     assert!(rt; is_as_wanted(&held, lits));
     assert!(rt; is_as_wanted(&free, &[]));
 }
@@ -110,16 +117,6 @@ fn a_body_without_its_own_atom_is_false(rt: HostRuntime) {
 }
 
 // ---- one literal after another
-fn roomy(rt: &impl Abort, heap: Global, vars: Var) -> Trail
-    ensures vars { result.vars ≡ vars }
-    ensures values { assignment result.vars result.entries ≡ replicate (vars + 1) None }
-    ensures room { vars ≤ result.room }
-{
-    let mut trail = Trail::new(heap, vars).expect(rt, "memory");
-    trail.reserve(vars as usize).expect(rt, "memory");
-    trail
-}
-
 // The literal gets to hold, where it may.
 fn hold(rt: &impl Abort, trail: &mut Trail, weights: &mut Weights, vars: Var, lit: Lit)
     requires told { weights.old.values ≡ assignment trail.old.vars trail.old.entries }
@@ -141,8 +138,8 @@ fn ask(rt: &impl Abort, trail: &Trail, weights: &mut Weights, lits: &[Lit])
     requires { weights.old.values ≡ assignment trail.now.vars trail.now.entries }
     ensures { weights.new ≡ weights.old }
 {
-    let given = weights.next(trail).expect(rt, "memory");
-    assert!(rt; is_as_wanted(&given, lits));
+    let found = given(rt, trail, weights);
+    assert!(rt; is_as_wanted(&found, lits));
 }
 
 // The literal holds from now on, and then the nogood of these literals comes, or none.
@@ -158,14 +155,6 @@ fn say(rt: &impl Abort, trail: &mut Trail, weights: &mut Weights, vars: Var, lit
 {
     hold(rt, trail, weights, vars, lit);
     ask(rt, trail, weights, lits);
-}
-
-// The sums of a new propagator.
-fn anew(rt: &impl Abort, heap: Global, compiled: &Compiled) -> Weights
-    ensures count { var_count result.program ≡ var_count compiled.now }
-    ensures values { result.values ≡ replicate (var_count compiled.now + 1) None }
-{
-    Weights::new(heap, compiled).expect(rt, "memory")
 }
 
 // The weights 4 and 1 reach the bound.

@@ -1,5 +1,7 @@
 //! Programs made of rules, and what nogoods have. Want of memory ends a test.
-use asp_model::program::{Atom, Body, Head, Program, Rule};
+use asp_model::program::{
+    Atom, Body, External, ExternalValue, Head, Minimize, Output, Program, Rule,
+};
 use asp_model::seq::Seq;
 use asp_vars::compile::compile;
 use asp_vars::compiled::Compiled;
@@ -55,14 +57,42 @@ pub(crate) fn add_weights(
     rules.push(Rule { head, body }).expect(rt, "memory");
 }
 
-pub(crate) fn program(alloc: Global, rules: Vec<Rule>) -> Program {
+// A program of these statements.
+pub(crate) fn whole(
+    rules: Vec<Rule>,
+    minimize: Vec<Minimize>,
+    outputs: Vec<Output>,
+    externals: Vec<External>,
+    assumptions: Vec<i32>,
+) -> Program {
     Program {
         rules: Seq::from_vec(rules),
-        minimize: Seq::from_vec(Vec::new(alloc)),
-        outputs: Seq::from_vec(Vec::new(alloc)),
-        externals: Seq::from_vec(Vec::new(alloc)),
-        assumptions: Seq::from_vec(Vec::new(alloc)),
+        minimize: Seq::from_vec(minimize),
+        outputs: Seq::from_vec(outputs),
+        externals: Seq::from_vec(externals),
+        assumptions: Seq::from_vec(assumptions),
     }
+}
+
+pub(crate) fn program(alloc: Global, rules: Vec<Rule>) -> Program {
+    whole(
+        rules,
+        Vec::new(alloc),
+        Vec::new(alloc),
+        Vec::new(alloc),
+        Vec::new(alloc),
+    )
+}
+
+pub(crate) fn add_external(
+    rt: &impl Abort,
+    externals: &mut Vec<External>,
+    atom: Atom,
+    value: ExternalValue,
+) {
+    externals
+        .push(External { atom, value })
+        .expect(rt, "memory");
 }
 
 // a1 <- a2. a2 <- a1.

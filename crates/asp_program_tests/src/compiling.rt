@@ -1,7 +1,6 @@
 //! A worked program, compiled, with a budget. Want of memory ends the test.
-use crate::common::{add_choice, add_weights, positive_loop, program};
+use crate::common::{add_choice, add_external, add_weights, positive_loop, whole};
 use asp_model::program::{External, ExternalValue, Head, Program, Rule};
-use asp_model::seq::Seq;
 use asp_vars::compile::compile;
 use asp_vars::compiled::Compiled;
 use asp_vars::fuel::Fuel;
@@ -9,25 +8,29 @@ use asp_vars::lit::Lit;
 use std::alloc::Global;
 use std::process::Abort;
 
-// The atom 7 is free.
-fn externals(rt: &impl Abort, alloc: Global) -> Seq<External> {
-    let mut externals = Vec::new(alloc);
-    let free = External {
-        atom: 7,
-        value: ExternalValue::Free,
-    };
-    externals.push(free).expect(rt, "memory");
-    Seq::from_vec(externals)
-}
-
-// a1 <- a2. a2 <- a1. { a3; a3 }. a1 <- 2 { a3 = 1; not a2 = 3; a3 = 1 }. External a7 free.
-fn each_kind(rt: &impl Abort, alloc: Global) -> Program {
+// a1 <- a2. a2 <- a1. { a3; a3 }. a1 <- 2 { a3 = 1; not a2 = 3; a3 = 1 }.
+fn rules(rt: &impl Abort, alloc: Global) -> Vec<Rule> {
     let mut rules = positive_loop(rt, alloc);
     add_choice(rt, alloc, &mut rules, &[3, 3]);
     add_weights(rt, alloc, &mut rules, 1, 2, &[(3, 1), (-2, 3), (3, 1)]);
-    let mut program = program(alloc, rules);
-    program.externals = externals(rt, alloc);
-    program
+    rules
+}
+
+// The atom 7 is free.
+fn externals(rt: &impl Abort, alloc: Global) -> Vec<External> {
+    let mut externals = Vec::new(alloc);
+    add_external(rt, &mut externals, 7, ExternalValue::Free);
+    externals
+}
+
+fn each_kind(rt: &impl Abort, alloc: Global) -> Program {
+    whole(
+        rules(rt, alloc),
+        Vec::new(alloc),
+        Vec::new(alloc),
+        externals(rt, alloc),
+        Vec::new(alloc),
+    )
 }
 
 fn has_counts(rt: &impl Abort, compiled: &Compiled) {

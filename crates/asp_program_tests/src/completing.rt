@@ -1,15 +1,20 @@
 //! The completion of a worked program. Want of memory ends the test.
-use crate::common::{compiled, has_lits, positive_loop};
+use crate::common::{compiled, positive_loop};
 use asp_complete::completion::completion;
-use asp_vars::lit::Var;
+use asp_vars::lit::Lit;
 use asp_vars::nogood::Nogood;
 use std::process::Abort;
 
-fn are(rt: &impl Abort, nogoods: &[Nogood], wanted: &[[(Var, bool); 2]]) {
-    assert!(rt; nogoods.len() == wanted.len());
-    for (nogood, lits) in nogoods.iter().zip(wanted) {
-        has_lits(rt, nogood, lits.as_slice());
-    }
+// The literal of a variable, or of its negation.
+fn lit(number: i32) -> Lit {
+    Lit::new(number.unsigned_abs() % 100, number > 0)
+}
+
+// The nogood at a place has these two literals.
+fn is_pair(rt: &impl Abort, nogoods: &[Nogood], place: usize, first: i32, second: i32) {
+    assert!(rt; place < nogoods.len());
+    let lits = nogoods[place].lits.as_slice();
+    assert!(rt; lits == [lit(first), lit(second)].as_slice());
 }
 
 // The bodies are the variables 3 and 4.
@@ -17,16 +22,15 @@ fn are(rt: &impl Abort, nogoods: &[Nogood], wanted: &[[(Var, bool); 2]]) {
 fn a_positive_loop_is_completed(rt: HostRuntime) {
     let alloc = rt.alloc();
     let compiled = compiled(&rt, alloc, positive_loop(&rt, alloc));
-    let nogoods = completion(alloc, &compiled).expect(&rt, "memory");
-    let wanted = [
-        [(3, false), (2, true)],
-        [(3, true), (2, false)],
-        [(4, false), (1, true)],
-        [(4, true), (1, false)],
-        [(3, true), (1, false)],
-        [(4, true), (2, false)],
-        [(1, true), (3, false)],
-        [(2, true), (4, false)],
-    ];
-    are(&rt, nogoods.as_slice(), wanted.as_slice());
+    let completion = completion(alloc, &compiled).expect(&rt, "memory");
+    let nogoods = completion.as_slice();
+    assert!(rt; nogoods.len() == 8);
+    is_pair(&rt, nogoods, 0, -3, 2);
+    is_pair(&rt, nogoods, 1, 3, -2);
+    is_pair(&rt, nogoods, 2, -4, 1);
+    is_pair(&rt, nogoods, 3, 4, -1);
+    is_pair(&rt, nogoods, 4, 3, -1);
+    is_pair(&rt, nogoods, 5, 4, -2);
+    is_pair(&rt, nogoods, 6, 1, -3);
+    is_pair(&rt, nogoods, 7, 2, -4);
 }

@@ -1,13 +1,13 @@
 //! Worked programs and the plain engines. Want of memory ends a test.
 use crate::common::{
-    add, add_choice, add_rule, add_weights, positive_loop, program, seq, weight_loop,
+    add, add_choice, add_external, add_rule, add_weights, positive_loop, program, seq, weight_loop,
+    whole,
 };
 use asp_model::cost::{Cost, cost_of};
 use asp_model::fault::ReadError;
 use asp_model::interp::Interp;
 use asp_model::plain::{answers_plain, optimum_plain};
-use asp_model::program::{Atom, External, ExternalValue, Head, Minimize, Output, Program};
-use asp_model::seq::Seq;
+use asp_model::program::{Atom, External, ExternalValue, Head, Minimize, Output, Program, Rule};
 use asp_model::stable::stable_plain;
 use std::alloc::{AllocError, Global};
 use std::process::Abort;
@@ -32,33 +32,30 @@ fn repeated_literals(rt: &impl Abort, alloc: Global) -> Program {
     program(alloc, rules)
 }
 
-fn externals(rt: &impl Abort, alloc: Global, rows: &[(Atom, ExternalValue)]) -> Seq<External> {
+// The latest value of an atom counts.
+fn externals(rt: &impl Abort, alloc: Global) -> Vec<External> {
     let mut externals = Vec::new(alloc);
-    for (atom, value) in rows {
-        let external = External {
-            atom: *atom,
-            value: *value,
-        };
-        externals.push(external).expect(rt, "memory");
-    }
-    Seq::from_vec(externals)
+    add_external(rt, &mut externals, 1, ExternalValue::True);
+    add_external(rt, &mut externals, 2, ExternalValue::True);
+    add_external(rt, &mut externals, 2, ExternalValue::False);
+    add_external(rt, &mut externals, 3, ExternalValue::Free);
+    add_external(rt, &mut externals, 4, ExternalValue::True);
+    add_external(rt, &mut externals, 5, ExternalValue::Release);
+    externals
 }
 
-// a1 <- a2, and externals, of which the latest value of an atom counts.
+// a1 <- a2, and externals.
 fn overruled_external(rt: &impl Abort, alloc: Global) -> Program {
     let mut rules = Vec::new(alloc);
     add_rule(rt, alloc, &mut rules, 1, &[2]);
-    let mut whole = program(alloc, rules);
-    let rows = [
-        (1, ExternalValue::True),
-        (2, ExternalValue::True),
-        (2, ExternalValue::False),
-        (3, ExternalValue::Free),
-        (4, ExternalValue::True),
-        (5, ExternalValue::Release),
-    ];
-    whole.externals = externals(rt, alloc, &rows);
-    whole
+    let externals = externals(rt, alloc);
+    whole(
+        rules,
+        Vec::new(alloc),
+        Vec::new(alloc),
+        externals,
+        Vec::new(alloc),
+    )
 }
 
 fn add_minimize(
@@ -74,80 +71,134 @@ fn add_minimize(
         .expect(rt, "memory");
 }
 
-// { a1, a2 }. <- not a1, not a2. Two statements of weights.
-fn two_priorities(rt: &impl Abort, alloc: Global) -> Program {
+// { a1, a2 }. <- not a1, not a2.
+fn either(rt: &impl Abort, alloc: Global) -> Vec<Rule> {
     let mut rules = Vec::new(alloc);
     add_choice(rt, alloc, &mut rules, &[1, 2]);
     add(rt, alloc, &mut rules, Head::Never, &[-1, -2]);
+    rules
+}
+
+// Either of two atoms or both, with two statements of weights.
+fn two_priorities(rt: &impl Abort, alloc: Global) -> Program {
+    let rules = either(rt, alloc);
     let mut minimize = Vec::new(alloc);
     add_minimize(rt, alloc, &mut minimize, 1, &[(1, 1), (2, -1)]);
     add_minimize(rt, alloc, &mut minimize, 2, &[(1, 1), (2, 1), (2, 1)]);
-    let mut whole = program(alloc, rules);
-    whole.minimize = Seq::from_vec(minimize);
-    whole
+    whole(
+        rules,
+        minimize,
+        Vec::new(alloc),
+        Vec::new(alloc),
+        Vec::new(alloc),
+    )
 }
 
-fn output(rt: &impl Abort, alloc: Global) -> Output {
-    Output {
+// It names the atom 7.
+fn outputs(rt: &impl Abort, alloc: Global) -> Vec<Output> {
+    let output = Output {
         text: seq(rt, alloc, b"c"),
         condition: seq(rt, alloc, &[-7]),
-    }
+    };
+    vec![in alloc; output].expect(rt, "memory")
 }
 
-// { a2147483647, a5 }. An output names the atom 7.
+// { a2147483647, a5 }, with an output.
 fn assumed_choice(rt: &impl Abort, alloc: Global, assumptions: &[i32]) -> Program {
     let mut rules = Vec::new(alloc);
     add_choice(rt, alloc, &mut rules, &[2147483647, 5]);
-    let mut outputs = Vec::new(alloc);
-    outputs.push(output(rt, alloc)).expect(rt, "memory");
-    let mut whole = program(alloc, rules);
-    whole.outputs = Seq::from_vec(outputs);
-    whole.assumptions = seq(rt, alloc, assumptions);
-    whole
+    let outputs = outputs(rt, alloc);
+    let assumptions = assumptions.to_vec(alloc).expect(rt, "memory");
+    whole(
+        rules,
+        Vec::new(alloc),
+        outputs,
+        Vec::new(alloc),
+        assumptions,
+    )
 }
 
-// The plain engine's answers are these, and the plain check finds each of them stable.
-fn has_answers(rt: &impl Abort, alloc: Global, program: &Program, sets: &[&[Atom]]) {
+// What the plain engine finds, each of which the plain check finds stable.
+fn answers(rt: &impl Abort, alloc: Global, program: &Program) -> Vec<Interp> {
     assert!(rt; program.is_sound());
     let found = answers_plain(alloc, program).expect(rt, "memory");
-    assert!(rt; found.len() == sets.len());
-    for (interp, atoms) in found.iter().zip(sets) {
-        let is_stable = stable_plain(alloc, program, interp).expect(rt, "memory");
-        assert!(rt; is_stable && interp.as_slice() == *atoms);
+    for answer in found.as_slice() {
+        assert!(rt; stable_plain(alloc, program, answer).expect(rt, "memory"));
     }
+    found
+}
+
+// The answer at a place.
+fn has(rt: &impl Abort, found: &[Interp], place: usize, atoms: &[Atom]) {
+    assert!(rt; place < found.len());
+    assert!(rt; found[place].as_slice() == atoms);
+}
+
+fn has_one(rt: &impl Abort, alloc: Global, program: &Program, atoms: &[Atom]) {
+    let found = answers(rt, alloc, program);
+    assert!(rt; found.len() == 1);
+    has(rt, &found, 0, atoms);
+}
+
+fn has_two(rt: &impl Abort, alloc: Global, program: &Program, first: &[Atom], second: &[Atom]) {
+    let found = answers(rt, alloc, program);
+    assert!(rt; found.len() == 2);
+    has(rt, &found, 0, first);
+    has(rt, &found, 1, second);
 }
 
 // The answers, worked out by hand.
 #[test]
-fn worked_programs_have_their_answers(rt: HostRuntime) {
+fn loops_have_their_answers(rt: HostRuntime) {
     let alloc = rt.alloc();
-    has_answers(&rt, alloc, &two_ways(&rt, alloc), &[&[2], &[1]]);
+    has_two(&rt, alloc, &two_ways(&rt, alloc), &[2], &[1]);
     let looped = program(alloc, positive_loop(&rt, alloc));
-    has_answers(&rt, alloc, &looped, &[&[]]);
+    has_one(&rt, alloc, &looped, &[]);
     let weights = program(alloc, weight_loop(&rt, alloc));
-    has_answers(&rt, alloc, &weights, &[&[], &[2]]);
-    let repeated = repeated_literals(&rt, alloc);
-    has_answers(&rt, alloc, &repeated, &[&[], &[2], &[2, 3], &[1, 3]]);
-    let overruled = overruled_external(&rt, alloc);
-    has_answers(&rt, alloc, &overruled, &[&[4], &[3, 4]]);
+    has_two(&rt, alloc, &weights, &[], &[2]);
 }
 
 #[test]
-fn costs_and_assumptions_have_their_answers(rt: HostRuntime) {
+fn a_literal_may_be_repeated(rt: HostRuntime) {
     let alloc = rt.alloc();
-    let priorities = two_priorities(&rt, alloc);
-    has_answers(&rt, alloc, &priorities, &[&[2], &[1], &[1, 2]]);
-    let free = assumed_choice(&rt, alloc, &[]);
-    has_answers(
-        &rt,
-        alloc,
-        &free,
-        &[&[], &[2147483647], &[5], &[5, 2147483647]],
-    );
+    let found = answers(&rt, alloc, &repeated_literals(&rt, alloc));
+    assert!(rt; found.len() == 4);
+    has(&rt, &found, 0, &[]);
+    has(&rt, &found, 1, &[2]);
+    has(&rt, &found, 2, &[2, 3]);
+    has(&rt, &found, 3, &[1, 3]);
+}
+
+#[test]
+fn externals_have_their_answers(rt: HostRuntime) {
+    let alloc = rt.alloc();
+    let overruled = overruled_external(&rt, alloc);
+    has_two(&rt, alloc, &overruled, &[4], &[3, 4]);
+}
+
+#[test]
+fn costs_leave_the_answers(rt: HostRuntime) {
+    let alloc = rt.alloc();
+    let found = answers(&rt, alloc, &two_priorities(&rt, alloc));
+    assert!(rt; found.len() == 3);
+    has(&rt, &found, 0, &[2]);
+    has(&rt, &found, 1, &[1]);
+    has(&rt, &found, 2, &[1, 2]);
+}
+
+#[test]
+fn assumptions_choose_answers(rt: HostRuntime) {
+    let alloc = rt.alloc();
+    let free = answers(&rt, alloc, &assumed_choice(&rt, alloc, &[]));
+    assert!(rt; free.len() == 4);
+    has(&rt, &free, 0, &[]);
+    has(&rt, &free, 1, &[2147483647]);
+    has(&rt, &free, 2, &[5]);
+    has(&rt, &free, 3, &[5, 2147483647]);
     let assumed = assumed_choice(&rt, alloc, &[5, -7]);
-    has_answers(&rt, alloc, &assumed, &[&[5], &[5, 2147483647]]);
-    let contrary = assumed_choice(&rt, alloc, &[5, -5]);
-    has_answers(&rt, alloc, &contrary, &[]);
+    has_two(&rt, alloc, &assumed, &[5], &[5, 2147483647]);
+    let contrary = answers(&rt, alloc, &assumed_choice(&rt, alloc, &[5, -5]));
+    assert!(rt; contrary.is_empty());
 }
 
 // The plain engine's optimum is this set, with these sums.

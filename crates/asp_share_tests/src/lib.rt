@@ -6,6 +6,8 @@ mod board;
 #[cfg(test)]
 mod book;
 #[cfg(test)]
+mod common;
+#[cfg(test)]
 mod log;
 #[cfg(test)]
 mod pool;

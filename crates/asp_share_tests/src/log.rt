@@ -1,4 +1,4 @@
-//! The log by one seat, and by two threads.
+//! The log by one seat, and by two threads. Want of memory ends a test.
 ghost use Rattle.std.specs.Prelude.{◌≡◌, ◌<◌, ◌≤◌, ◌^◌, false};
 ghost use Rattle.asp_vars.specs.Numbering.{var_count};
 ghost use Rattle.asp_log.specs.Entries.{IsLogFor, unsigned};
@@ -13,18 +13,17 @@ use asp_model::seq::Seq;
 use asp_vars::compile::compile;
 use asp_vars::nogood::Nogood;
 use asp_vault::{Seat, Vault};
-use std::alloc::{AllocError, Global};
+use std::alloc::Global;
 use std::process::Abort;
 use std::sync::Wait;
-use std::test::Fail;
 
 // Atoms 1 to 200.
-fn atoms(heap: Global) -> Result<Vec<u32>, AllocError> {
+fn atoms(rt: &impl Abort, heap: Global) -> Vec<u32> {
     let mut atoms = Vec::new(heap);
     for atom in 1..201 {
-        atoms.push(atom)?;
+        atoms.push(atom).expect(rt, "memory");
     }
-    Ok(atoms)
+    atoms
 }
 
 // A log for a program of 200 free atoms, which may have so many entries.
@@ -34,7 +33,7 @@ fn new_log(rt: &impl Abort, heap: Global, limit: u32) -> Log
     ensures many { 200 ≤ var_count result.scope.program }
 {
     let rule = Rule {
-        head: Head::Choice(Seq::from_vec(atoms(heap).expect(rt, "memory"))),
+        head: Head::Choice(Seq::from_vec(atoms(rt, heap))),
         body: Body::All(Seq::from_vec(Vec::new(heap))),
     };
     let mut rules = Vec::new(heap);
@@ -104,42 +103,51 @@ fn shows<R: Wait + Abort>(rt: &R, vault: &Vault<Log>, seat: &mut Seat<Log>, from
     each_names_its_place(rt, &shown, from);
 }
 
+// The second of its two entries is read.
+fn has_two<R: Wait + Abort>(rt: &R, heap: Global, vault: &Vault<Log>, seat: &mut Seat<Log>)
+    requires of { IsOf vault.now seat.old }
+    requires rests { (view seat.old).holds ≡ false }
+{
+    assert!(rt; vault.look(seat) == 2);
+    let mut entries = Vec::new(heap);
+    let count = read(rt, vault, seat, 1, &mut entries).expect(rt, "memory");
+    assert!(rt; count == 2 && entries.len() == 1);
+    assert!(rt; variable(&entries[0]) == 2);
+}
+
 #[test]
-fn a_full_log_gives_the_nogood_back(rt: HostRuntime) -> Result<(), Fail> {
+fn a_full_log_gives_the_nogood_back(rt: HostRuntime) {
     let heap = rt.alloc();
     let (vault, mut seat) = seated(&rt, heap, 2);
     fill(&rt, heap, &vault, &mut seat, 2);
-    match append(&rt, &vault, &mut seat, clashing(heap, 3)?) {
+    let third = clashing(heap, 3).expect(&rt, "memory");
+    match append(&rt, &vault, &mut seat, third) {
         Ok(_) => assert!(rt; false),
         Err((error, nogood)) => {
             assert!(rt; error == AppendError::Full && variable(&nogood) == 3);
         }
     }
-    assert!(rt; vault.look(&mut seat) == 2);
-    let mut entries = Vec::new(heap);
-    assert!(rt; read(&rt, &vault, &mut seat, 1, &mut entries)? == 2);
-    assert!(rt; entries.len() == 1);
-    assert!(rt; variable(&entries[0]) == 2);
-    Ok(())
 }
 
 #[test]
-fn blocks_and_tail_show_each_entry(rt: HostRuntime) -> Result<(), Fail> {
+fn a_log_is_read_from_a_position_on(rt: HostRuntime) {
+    let heap = rt.alloc();
+    let (vault, mut seat) = seated(&rt, heap, 2);
+    fill(&rt, heap, &vault, &mut seat, 2);
+    has_two(&rt, heap, &vault, &mut seat);
+}
+
+#[test]
+fn blocks_and_tail_show_each_entry(rt: HostRuntime) {
     let heap = rt.alloc();
     let (vault, mut seat) = seated(&rt, heap, 200);
     fill(&rt, heap, &vault, &mut seat, 130);
     shows(&rt, &vault, &mut seat, 60, 70);
     shows(&rt, &vault, &mut seat, 130, 0);
-    Ok(())
 }
 
-#[test]
-fn two_threads_append_in_their_order(rt: HostRuntime) -> Result<(), Fail> {
-    let heap = rt.alloc();
-    let log = new_log(&rt, heap, 8);
-    let (log, first, second) = both(&rt, heap, log, &[1, 2, 3, 4, 5], &[10, 20, 30])?;
-    assert!(rt; first == 5 && second == 3 && log.count() == 8);
-    let shown = log.shown(0)?;
+// The numbers 1 to 5, and between them 10, 20 and 30 in this order.
+fn are_interleaved(rt: &impl Abort, shown: &View) {
     let mut next = 1;
     let mut other = 10;
     for i in 0..shown.len() {
@@ -152,5 +160,15 @@ fn two_threads_append_in_their_order(rt: HostRuntime) -> Result<(), Fail> {
         }
     }
     assert!(rt; next == 6 && other == 40);
-    Ok(())
+}
+
+#[test]
+fn two_threads_append_in_their_order(rt: HostRuntime) {
+    let heap = rt.alloc();
+    let log = new_log(&rt, heap, 8);
+    let (log, first, second) = both(&rt, heap, log, &[1, 2, 3, 4, 5], &[10, 20, 30]).expect(
+        &rt, "memory",
+    );
+    assert!(rt; first == 5 && second == 3 && log.count() == 8);
+    are_interleaved(&rt, &log.shown(0).expect(&rt, "memory"));
 }

@@ -1,31 +1,61 @@
-//! Lanes by their owner and by a thief.
-ghost use Rattle.std.specs.Prelude.{◌<◌};
+//! Lanes by their owner and by a thief. Want of memory ends a test.
+ghost use Rattle.std.specs.Prelude.{◌≡◌, ◌<◌};
 ghost use Rattle.asp_pool.specs.Pools.{IsOfPool, lane_count};
 
 use asp_pool::{Lane, Pass, Pool, Stolen};
-use std::test::Fail;
+use std::alloc::Global;
+use std::process::Abort;
 use std::thread;
 use std::thread::Threads;
 
+fn one_lane(rt: &impl Abort, heap: Global) -> (Pool, Lane, Pass)
+    ensures of_pool { IsOfPool result.0 result.2 }
+    ensures lanes { lane_count result.0 ≡ 1 }
+{
+    let (pool, mut lanes, mut passes) = Pool::new(heap, 1).expect(rt, "memory");
+    let lane = lanes.remove(0);
+    let pass = passes.remove(0);
+    (pool, lane, pass)
+}
+
+fn offers(rt: &impl Abort, lane: &mut Lane, leaf: u32, is_taken: bool) {
+    assert!(rt; lane.offer(leaf) == is_taken);
+}
+
+fn owns(rt: &impl Abort, lane: &mut Lane, leaf: Option<u32>) {
+    assert!(rt; lane.own() == leaf);
+}
+
+fn steals(rt: &impl Abort, pool: &Pool, pass: &mut Pass, stolen: Stolen)
+    requires { IsOfPool pool.now pass.old × (0 < lane_count pool.now) }
+    ensures { IsOfPool pool.now pass.new }
+{
+    assert!(rt; pool.steal(pass, 0) == stolen);
+}
+
 #[test]
-fn a_leaf_comes_back_once_and_the_lane_takes_4096(rt: HostRuntime) -> Result<(), Fail> {
-    let (pool, mut lanes, mut passes) = Pool::new(rt.alloc(), 1)?;
-    assert_eq!(rt; pool.lanes(), 1);
-    let lane = &mut lanes[0];
-    let pass = &mut passes[0];
-    assert_eq!(rt; lane.offer(5), true);
-    assert_eq!(rt; (lane.own(), lane.own()), (Some(5), None));
-    assert_eq!(rt; lane.offer(6), true);
-    assert_eq!(rt; pool.steal(pass, 0), Stolen::Got(6));
-    assert_eq!(rt; pool.steal(pass, 0), Stolen::Empty);
-    for leaf in 2..4096 {
-        assert_eq!(rt; lane.offer(leaf), true);
+fn a_leaf_comes_back_once(rt: HostRuntime) {
+    let (pool, mut lane, mut pass) = one_lane(&rt, rt.alloc());
+    assert!(rt; pool.lanes() == 1);
+    offers(&rt, &mut lane, 5, true);
+    owns(&rt, &mut lane, Some(5));
+    owns(&rt, &mut lane, None);
+    offers(&rt, &mut lane, 6, true);
+    steals(&rt, &pool, &mut pass, Stolen::Got(6));
+    steals(&rt, &pool, &mut pass, Stolen::Empty);
+}
+
+// What was taken leaves no room for another.
+#[test]
+fn a_lane_takes_4096(rt: HostRuntime) {
+    let (pool, mut lane, mut pass) = one_lane(&rt, rt.alloc());
+    for leaf in 1..4097 {
+        offers(&rt, &mut lane, leaf, true);
     }
-    assert_eq!(rt; lane.offer(7), false);
-    assert_eq!(rt; pool.steal(pass, 0), Stolen::Got(2));
-    assert_eq!(rt; lane.offer(7), false);
-    assert_eq!(rt; lane.own(), Some(3));
-    Ok(())
+    offers(&rt, &mut lane, 7, false);
+    steals(&rt, &pool, &mut pass, Stolen::Got(1));
+    offers(&rt, &mut lane, 7, false);
+    owns(&rt, &mut lane, Some(2));
 }
 
 // Offers 100 leaves and takes some back; answers how many it took.
@@ -68,11 +98,8 @@ fn both<R: Threads + Sync>(rt: &R, pool: &Pool, lane: Lane, pass: Pass) -> (u32,
 }
 
 #[test]
-fn two_workers_take_at_most_what_was_offered(rt: HostRuntime) -> Result<(), Fail> {
-    let (pool, mut lanes, mut passes) = Pool::new(rt.alloc(), 1)?;
-    let lane = lanes.remove(0);
-    let pass = passes.remove(0);
+fn two_workers_take_at_most_what_was_offered(rt: HostRuntime) {
+    let (pool, lane, pass) = one_lane(&rt, rt.alloc());
     let (owned, stolen) = both(&rt, &pool, lane, pass);
-    assert_eq!(rt; owned.saturating_add(stolen) <= 100, true);
-    Ok(())
+    assert!(rt; owned.saturating_add(stolen) <= 100);
 }

@@ -16,18 +16,18 @@ told_holds x l lt = ap (λ o. agrees o l) (get_or-set_same x l.var (Some l.truth
     itself v false = refl
 
 pub undo-requires-clause-holds : goal.undo-requires-clause-holds
-undo-requires-clause-holds c =
+undo-requires-clause-holds g c =
     let none : Option Bool = None in
     let x : List (Option Bool) = replicate (var_count c.args.compiled.now + 1) none in
-    let values : c.next.new.self.values ≡ set x c.args.lit.var (Some c.args.lit.truth) = ap (λ (t : Told). t.values) (c.next.ensures.same ∙ (c.assign.ensures ∙ ap (λ (t : Told). told t c.args.lit) c.in_ok-sources.ensures)) in
+    let values : c.given-held.new.sources.values ≡ set x c.args.lit.var (Some c.args.lit.truth) = ap (λ (t : Told). t.values) (c.given-held.ensures ∙ (c.assign.ensures ∙ ap (λ (t : Told). told t c.args.lit) c.anew-sources.ensures)) in
     subst (λ (y : List (Option Bool)). holds_in y c.args.lit ≡ true) (sym values) (told_holds x c.args.lit (omega (arith, c.requires.1, length-replicate (var_count c.args.compiled.now + 1) none)))
 
-pub next-requires-2 : goal.next-requires-2
-next-requires-2 c =
+pub given-free-requires : goal.given-free-requires
+given-free-requires g c =
     let none : Option Bool = None in
     let x : List (Option Bool) = replicate (var_count c.args.compiled.now + 1) none in
-    let values : c.next.new.self.values ≡ set x c.args.lit.var (Some c.args.lit.truth) = ap (λ (t : Told). t.values) (c.next.ensures.same ∙ (c.assign.ensures ∙ ap (λ (t : Told). told t c.args.lit) c.in_ok-sources.ensures)) in
+    let values : c.given-held.new.sources.values ≡ set x c.args.lit.var (Some c.args.lit.truth) = ap (λ (t : Told). t.values) (c.given-held.ensures ∙ (c.assign.ensures ∙ ap (λ (t : Told). told t c.args.lit) c.anew-sources.ensures)) in
     let left : c.undo.new.self.values ≡ x = ap (λ (t : Told). t.values) c.undo.ensures ∙ (ap (λ (y : List (Option Bool)). set y c.args.lit.var none) values ∙ unset x c.args.lit.var (Some c.args.lit.truth) (none_at (var_count c.args.compiled.now + 1) c.args.lit.var)) in
-    let vars : c.clear.new.self.vars ≡ var_count c.args.compiled.now = ap (λ (t : Trailed). t.vars) c.clear.ensures ∙ (ap (λ (t : Trailed). t.vars) c.assume.ensures ∙ (c.in_ok-trail.ensures.vars ∙ c.vars.ensures.count)) in
+    let vars : c.clear.new.self.vars ≡ var_count c.args.compiled.now = ap (λ (t : Trailed). t.vars) c.clear.ensures ∙ (ap (λ (t : Trailed). t.vars) c.assume.ensures ∙ (c.roomy-trail.ensures.vars ∙ c.vars.ensures.count)) in
     let entries : c.clear.new.self.entries ≡ [] = ap (λ (t : Trailed). t.entries) c.clear.ensures in
     left ∙ sym (ap (λ n. assignment n c.clear.new.self.entries) vars ∙ ap (assignment (var_count c.args.compiled.now)) entries)

@@ -1,4 +1,5 @@
 use Rattle.std.proofs.Common.{ℕ, Option, ap, subst}
+use Rattle.std.proofs.lemmas.Result.{IfOk-at_ok}
 use Rattle.asp_vault.specs.Seats.{view}
 use Rattle.asp_core.specs.declared.goal.Goal.TheVariants as sought
 use Rattle.asp_core.specs.Rows.{two_atoms}
@@ -18,5 +19,5 @@ pub returns-clause-leaf : goal.returns-clause-leaf
 returns-clause-leaf g c =
     let v : Knows = view c.args.seat.now in
     let w : Knows = view c.take.new.seat in
-    let ok = c.in_ok-first.ensures.ok in
-    Has-taken v w ok.0 c.in_ok-first.ensures.stays c.in-Some.leaf (subst (λ (r : Option ℕ). IsCall v w ok.0 (taken v.number r)) c.in-Some.is ok.2)
+    let ok = IfOk-at_ok _ c.expect-first.ensures c.take.ensures.ok in
+    Has-taken v w ok.0 c.take.ensures.stays c.in-Some.leaf (subst (λ (r : Option ℕ). IsCall v w ok.0 (taken v.number r)) c.in-Some.is ok.2)

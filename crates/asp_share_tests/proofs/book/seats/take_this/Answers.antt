@@ -1,4 +1,5 @@
 use Rattle.std.proofs.Common.{◌≡◌, Bool, true, ap, subst, rules}
+use Rattle.std.proofs.lemmas.Result.{IfOk-at_ok}
 use Rattle.asp_vault.specs.Seats.{view}
 use Rattle.asp_core.specs.declared.goal.Goal.TheVariants as sought
 use Rattle.asp_book.specs.Calls.{Knows, IsCall}
@@ -17,6 +18,6 @@ pub returns-clause-leaf : goal.returns-clause-leaf
 returns-clause-leaf g c =
     let v : Knows = view c.args.seat.now in
     let w : Knows = view c.take_this.new.seat in
-    let ok = c.in_ok-taken.ensures.ok in
-    let is : c.in_ok-taken.taken ≡ true = search rules in
-    Has-taken v w ok.0 c.in_ok-taken.ensures.stays 0 (subst (λ (r : Bool). IsCall v w ok.0 (taken_this v.number 0 r)) is ok.2)
+    let ok = IfOk-at_ok _ c.expect-taken.ensures c.take_this.ensures.ok in
+    let is : c.expect-taken.result ≡ true = search rules in
+    Has-taken v w ok.0 c.take_this.ensures.stays 0 (subst (λ (r : Bool). IsCall v w ok.0 (taken_this v.number 0 r)) is ok.2)
