@@ -28,7 +28,8 @@ fn fault_text(fault: Fault) -> &'static [u8]
         Fault::ExtraFields => b"extra field",
         Fault::NoEnd => b"end of program missing",
         Fault::AfterEnd => b"statement after the end",
-        Fault::Size => b"more than 1,000,000 different atoms, 1,000 different priorities or 16,777,216 in all counts",
+        Fault::Size =>
+            b"more than 1,000,000 different atoms, 1,000 different priorities or 16,777,216 in all counts",
     }
 }
 
