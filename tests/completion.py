@@ -64,12 +64,14 @@ class Shell:
     def type(self, text):
         os.write(self.terminal, text.encode())
 
-    def shown(self, quiet=0.5, most=15.0):
-        """Returns what is written until it has been quiet for a while."""
+    def shown(self, quiet=0.5, most=30.0, until=b""):
+        """Returns what is written until it holds this and has been quiet for a while."""
         out, end = b"", time.monotonic() + most
         while time.monotonic() < end:
             if not select.select([self.terminal], [], [], quiet)[0]:
-                break
+                if until in out:
+                    break
+                continue
             try:
                 out += os.read(self.terminal, 65536)
             except OSError:
@@ -101,8 +103,9 @@ def tried(name):
             shell = Shell(command, folder)
             shell.shown(1.0)
             for it in ("PATH=" + f"{folder}/bin:$PATH" if name != "fish" else f"set -gx PATH {folder}/bin $PATH", start.format(files=FILES, data=data)):
-                shell.type(it + "\r")
-                shell.shown(0.6)
+                # the shell is ready for more when it has said so, however busy the machine is
+                shell.type(it + "; echo rea''dy\r")
+                shell.shown(0.5, until=b"ready")
             shell.type(line)
             shell.shown(0.4)
             # the line as it was typed is not shown again, but what is added and listed
