@@ -1,37 +1,75 @@
-# make         builds build/aspenum from the proved crates
-# make demo    builds it and solves examples/two_rules.aspif
-# make check   the gate: every proof, every edit that must fail, every test, the documents and every example
-# make edits   the edits that the gate leaves out; NAMES="asp_text asp_io" those of some crates
-# make clean   removes what was built
+# make             builds build/aspenum from the proved crates
+# make demo        builds it and solves examples/two_rules.aspif
+# make install     installs it with its manual and completion for bash, zsh and fish; PREFIX (/usr/local) and DESTDIR (none)
+# make uninstall   removes what that installed
+# make deb         builds a Debian package in build/
+# make check       the gate: every proof, every edit that must fail, every test, the documents and every example
+# make edits       the edits that the gate leaves out; NAMES="asp_text asp_io" those of some crates
+# make clean       removes what was built
+
+PREFIX ?= /usr/local
+DESTDIR ?=
+INSTALL ?= install
 
 SOURCES := crates.txt $(shell find crates -name out -prune -o \( -name '*.rt' -o -name '*.antt' \) -print)
-PROVED := crates/asp_prog/out/asp_prog
+# The checker of proof texts is built where its crate is there.
+PROGRAMS := build/aspenum $(if $(wildcard crates/asp_checkprog/src/main.rt),build/aspcheck)
+PAGES := man/aspenum.1 $(wildcard man/aspcheck.1)
 
-all: build/aspenum
+bin := $(DESTDIR)$(PREFIX)/bin
+share := $(DESTDIR)$(PREFIX)/share
+man := $(share)/man/man1
+bash := $(share)/bash-completion/completions
+# Debian's zsh looks for packages' completion in a folder of its own.
+zsh := $(share)/zsh/$(if $(filter /usr,$(PREFIX)),vendor-completions,site-functions)
+fish := $(share)/fish/vendor_completions.d
 
-build/aspenum: $(PROVED)
+all: $(PROGRAMS)
+
+build/aspenum: crates/asp_prog/out/asp_prog
+build/aspcheck: crates/asp_checkprog/out/asp_checkprog
+$(PROGRAMS):
 	@mkdir -p build
 	@cp $< $@
 
 # Proves what isn't proved yet, and leaves the program there; so does the gate.
-$(PROVED): $(SOURCES)
-	@test -d crates/asp_prog || { echo "make: there is no program yet: the crate asp_prog is missing" >&2; exit 1; }
+crates/asp_prog/out/asp_prog crates/asp_checkprog/out/asp_checkprog: $(SOURCES)
+	@$(need_rt)
 	@mkdir -p build
 	@rm -f $@
-	@cd crates/asp_prog && rt run < /dev/null > /dev/null 2> ../../build/log || true
+	@cd $(firstword $(subst /out/, ,$@)) && rt run < /dev/null > /dev/null 2> ../../build/log || true
 	@test -x $@ || { tail -n 20 build/log >&2; exit 1; }
+
+need_rt = command -v rt > /dev/null || { echo "make: the command rt is missing: the Rattle kit proves and builds aspenum; CONTRIBUTING.md tells of it (1. Toolchain)" >&2; exit 1; }
 
 demo: build/aspenum
 	@echo '$$ build/aspenum < examples/two_rules.aspif'
 	@build/aspenum < examples/two_rules.aspif; status=$$?; echo "status $$status"; test $$status -eq 30
 
+install: all
+	$(INSTALL) -d $(bin) $(man) $(bash) $(zsh) $(fish)
+	$(INSTALL) -m 755 $(PROGRAMS) $(bin)
+	$(INSTALL) -m 644 $(PAGES) $(man)
+	$(INSTALL) -m 644 completion/aspenum.bash $(bash)/aspenum
+	$(INSTALL) -m 644 completion/_aspenum $(zsh)
+	$(INSTALL) -m 644 completion/aspenum.fish $(fish)
+
+uninstall:
+	rm -f $(bin)/aspenum $(bin)/aspcheck $(man)/aspenum.1 $(man)/aspcheck.1
+	rm -f $(bash)/aspenum $(zsh)/_aspenum $(fish)/aspenum.fish
+
+deb: all
+	@packaging/deb.sh
+
 check:
+	@$(need_rt)
 	@.ci/run
 
 edits:
+	@$(need_rt)
 	@tests/edits.sh $(NAMES)
 
 clean:
 	rm -rf build crates/*/out
 
-.PHONY: all demo check edits clean
+.PHONY: all demo install uninstall deb check edits clean

@@ -1,6 +1,6 @@
 #!/usr/bin/env bash
-# Runs every example, every row, every refusal, the README's commands that call it and the programs that need a good search
-# through the built program, and compares bytes and status.
+# Runs every example, every row, every refusal, the commands of the README and the manual, and the programs that need a good
+# search through the built program, and compares bytes and status.
 # Usage: tests/examples.sh [PROGRAM]     (the program is build/aspenum where none is named)
 cd "$(dirname "$0")/.." || exit 1
 program=${1:-build/aspenum}
@@ -82,8 +82,15 @@ printf 'Conflicts: 0\nLeaves: 1\nLog: 0\n' > "$wanted"
 "$program" --stats < examples/two_rules.aspif > "$given" 2> "$notes"
 check "counts" 30 "$wanted" "$?" "$notes"
 
-# The commands of the README: each line '$ COMMAND' of its text blocks, with what follows it.
+# Each example stands in the list of examples.
+for text in examples/*.aspif; do
+    name=$(basename "$text" .aspif)
+    grep -qF "\`$name\`" examples/README.md || { echo "failed: examples/README.md doesn't list $name"; failed=$((failed + 1)); }
+done
+
+# The commands of the README and of the manual: each line '$ COMMAND', with what follows it.
 python3 tests/readme.py "$program" README.md || failed=$((failed + 1))
+python3 tests/readme.py "$program" man/aspenum.1 || failed=$((failed + 1))
 
 # Programs that are refuted within so many conflicts.
 python3 tests/search.py "$program" || failed=$((failed + 1))

@@ -3,13 +3,17 @@
 
     readme.py PROGRAM DOCUMENT
 
-A command is a line `$ COMMAND` in a block of text that a line of three backquotes and the word `text` opens; what it
-prints, standard error included, stands below it. Only commands that call build/aspenum are run, by PROGRAM, and those
-that need gringo only where it is there.
+A command is a line `$ COMMAND`, and what it prints, standard error included, stands below it: in a page of markdown in a
+block of text that a line of three backquotes and the word `text` opens, in a manual page between .nf and .fi. A page's
+commands run at the top of the repository, where PROGRAM is build/aspenum; those of a manual page in examples/, where it is
+aspenum. Commands that call gringo or clasp run only where that is there.
 """
+import os
+import re
 import shutil
 import subprocess
 import sys
+import tempfile
 
 
 def blocks(text):
@@ -19,6 +23,16 @@ def blocks(text):
             inside = line == "```text"
         elif inside:
             yield line
+
+
+def unfilled(text):
+    """Yields the lines of a manual page between .nf and .fi as they are shown."""
+    inside = False
+    for line in text.split("\n"):
+        if line in (".nf", ".fi"):
+            inside = line == ".nf"
+        elif inside and not line.startswith("."):
+            yield re.sub(r"\\f[A-Z]", "", line.replace("\\-", "-").replace("\\&", "").replace("\\e", "\\"))
 
 
 def commands(lines):
@@ -34,28 +48,43 @@ def commands(lines):
         yield command, printed
 
 
+def can_run(command):
+    return all(shutil.which(tool) for tool in ("gringo", "clasp") if re.search(rf"\b{tool}\b", command.split("build/aspenum")[0]))
+
+
+def printed_by(command, program, folder):
+    """Returns the lines that a command prints where `aspenum` and `build/aspenum` are the program."""
+    with tempfile.TemporaryDirectory() as bin:
+        os.symlink(os.path.abspath(program), f"{bin}/aspenum")
+        ran = subprocess.run(
+            ["bash", "-c", command.replace("build/aspenum", "aspenum")],
+            cwd=folder,
+            env=dict(os.environ, PATH=f"{bin}:{os.environ['PATH']}"),
+            stdout=subprocess.PIPE,
+            stderr=subprocess.STDOUT,
+            timeout=60,
+        )
+    return ran.stdout.decode().split("\n")[:-1]
+
+
 def main():
     program, document = sys.argv[1:]
     failed = passed = 0
     with open(document, encoding="utf-8") as file:
         text = file.read()
-    for command, printed in commands(blocks(text)):
-        if "build/aspenum" not in command or ("gringo" in command and not shutil.which("gringo")):
+    is_manual = re.search(r"\.\d$", document)
+    lines = unfilled(text) if is_manual else blocks(text)
+    for command, printed in commands(lines):
+        if not can_run(command):
             continue
-        ran = subprocess.run(
-            ["bash", "-c", command.replace("build/aspenum", program)],
-            stdout=subprocess.PIPE,
-            stderr=subprocess.STDOUT,
-            timeout=60,
-        )
-        given = ran.stdout.decode().split("\n")[:-1]
+        given = printed_by(command, program, "examples" if is_manual else ".")
         if given == printed:
             passed += 1
         else:
             failed += 1
             print(f"failed: {command}\n  wanted {printed}\n  given  {given}")
     print(f"{document}: {passed} commands passed, {failed} failed")
-    sys.exit(1 if failed else 0)
+    sys.exit(1 if failed or not passed else 0)
 
 
 main()

@@ -11,7 +11,7 @@ use Rattle.asp_top.specs.Usage.{usage_text}
 use Rattle.asp_top.specs.declared.status.Status.TheVariants.{All, NoModel, Partial, Unknown, Help, Memory, Usage, Refused, ReadFault, TooLong, WriteFault}
 
 abbrev pub fault_text : Fault → List ℕ
-fault_text fault.Header = codes "not an aspif 1.0 header"
+fault_text fault.Header = codes "not the header of aspif 1.0, which gringo writes and aspenum reads"
 fault_text fault.Incremental = codes "incremental programs not supported"
 fault_text fault.Tag = codes "unknown tag"
 fault_text fault.Kind = codes "unknown statement"
@@ -26,7 +26,7 @@ fault_text fault.Text = codes "output text does not fit its length"
 fault_text fault.ExtraFields = codes "extra field"
 fault_text fault.NoEnd = codes "end of program missing"
 fault_text fault.AfterEnd = codes "statement after the end"
-fault_text fault.Size = codes "program too large"
+fault_text fault.Size = codes "more than 1,000,000 different atoms, 1,000 different priorities or 16,777,216 in all counts"
 
 -- the lines for a status; none where results, help or the version were asked for and written. Usage is here the status of
 -- words that can't be had

@@ -13,7 +13,7 @@ fn fault_text(fault: Fault) -> &'static [u8]
     ensures { result.now ≡ fault_text fault }
 {
     match fault {
-        Fault::Header => b"not an aspif 1.0 header",
+        Fault::Header => b"not the header of aspif 1.0, which gringo writes and aspenum reads",
         Fault::Incremental => b"incremental programs not supported",
         Fault::Tag => b"unknown tag",
         Fault::Kind => b"unknown statement",
@@ -28,7 +28,8 @@ fn fault_text(fault: Fault) -> &'static [u8]
         Fault::ExtraFields => b"extra field",
         Fault::NoEnd => b"end of program missing",
         Fault::AfterEnd => b"statement after the end",
-        Fault::Size => b"program too large",
+        Fault::Size =>
+            b"more than 1,000,000 different atoms, 1,000 different priorities or 16,777,216 in all counts",
     }
 }
 

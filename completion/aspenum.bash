@@ -1,0 +1,39 @@
+# Completion of aspenum for bash: each option once, its values, help and the version as the only word, and files behind a
+# redirection. It needs nothing of bash-completion.
+_aspenum() {
+    local line=${COMP_LINE:0:COMP_POINT} option stem=""
+    local -a words given left=()
+    read -ra words <<< "$line"
+    [[ $line != *[[:blank:]] ]] || words+=("")
+    local last=$((${#words[@]} - 1))
+    local word=${words[last]}
+    COMPREPLY=()
+
+    if [[ $word == *[\<\>]* || ${words[last - 1]} == *[\<\>] ]]; then
+        compopt -o default
+        return
+    fi
+
+    option=${words[last - 1]}
+    if [[ $word == --*=* ]]; then
+        option=${word%%=*}
+        word=${word#*=}
+        # what stands behind the = is replaced where = breaks words, and else the whole word
+        [[ $COMP_WORDBREAKS == *=* ]] || stem="$option="
+    fi
+    case $option in
+        --mode) mapfile -t COMPREPLY < <(compgen -P "$stem" -W "auto enum opt" -- "$word") && return ;;
+        --workers) mapfile -t COMPREPLY < <(compgen -P "$stem" -W "1" -- "$word") && return ;;
+        --budget | --make | --help | -h | --version | --) return ;;
+    esac
+    [[ $word == "${words[last]}" ]] || return
+
+    given=("${words[@]:1:last-1}")
+    given=("${given[@]%%=*}")
+    for option in --mode --budget --workers --make --stats; do
+        [[ " ${given[*]} " == *" $option "* ]] || left+=("$option")
+    done
+    [[ $last -ne 1 ]] || left+=(--help --version)
+    mapfile -t COMPREPLY < <(compgen -W "${left[*]}" -- "$word")
+}
+complete -F _aspenum aspenum

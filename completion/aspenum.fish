@@ -1,0 +1,28 @@
+# Completion of aspenum for fish: an option once, its values, help and the version as the only word.
+complete -c aspenum -f
+
+function __aspenum_first
+    test (count (commandline -opc)) -eq 1
+end
+
+# whether the option isn't given yet, alone or with its value behind =; one that waits for its value doesn't count
+function __aspenum_lacks
+    set -l words (commandline -opc)
+    if test "$words[-1]" = "--$argv[1]"; and test $argv[1] != stats
+        set -e words[-1]
+    end
+    for word in $words
+        if test "$word" = "--$argv[1]"; or string match -q -- "--$argv[1]=*" $word
+            return 1
+        end
+    end
+    true
+end
+
+complete -c aspenum -n '__aspenum_lacks mode' -l mode -x -d 'What is sought' -a 'auto\t"opt where the program minimises, else enum" enum\t"all answers" opt\t"one answer of least cost"'
+complete -c aspenum -n '__aspenum_lacks budget' -l budget -x -d 'At most so many conflicts'
+complete -c aspenum -n '__aspenum_lacks workers' -l workers -x -d 'Threads that search' -a '1'
+complete -c aspenum -n '__aspenum_lacks make' -l make -x -d 'Solve a ring of so many nodes, read no program'
+complete -c aspenum -n '__aspenum_lacks stats' -l stats -d 'Write counts to standard error'
+complete -c aspenum -n '__aspenum_first' -s h -l help -d 'Write the options and exit statuses'
+complete -c aspenum -n '__aspenum_first' -l version -d 'Write the version'
