@@ -6,3 +6,5 @@ pub mod WeightLaws
 pub mod LookLaws
 pub mod LiteralLaws
 pub mod SweepLaws
+pub mod BlockLaws
+pub mod CloseLaws

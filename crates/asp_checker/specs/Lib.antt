@@ -4,3 +4,4 @@ pub mod Right
 pub mod Steps
 pub mod Looks
 pub mod Sweeps
+pub mod Blocks

@@ -1,0 +1,119 @@
+//! The bound: only answers that cost less than a cost are looked for.
+ghost use Rattle.std.specs.Prelude.{◌≡◌, ◌+◌, ◌*◌, ◌^◌, ◌<◌, ◌≤◌, ◌≤ℤ◌, pos, neg_ℤ, not, Some, IfOk, map, length};
+ghost use Rattle.std.specs.List.{AllByRecursion};
+ghost use Rattle.asp_model.specs.Costs.{priorities, betters, cost};
+ghost use Rattle.asp_vars.specs.Numbering.{var_count};
+ghost use Rattle.asp_bound.specs.Optimism.{least};
+ghost use Rattle.asp_checker.specs.Propagation.{reaches_bound};
+ghost use Rattle.asp_checker.specs.Blocks.{level_sum, AreLevels, HasLevels, cost_of_bound};
+
+use crate::levels::weights_at;
+use asp_model::cost::{cost_of, priorities};
+use asp_model::interp::Interp;
+use asp_model::seq::Seq;
+use asp_vars::assign::Assign;
+use asp_vars::compiled::Compiled;
+use std::alloc::{AllocError, Global};
+
+/// A cost that is to be bettered.
+#[derive(Drop)]
+pub struct Bound {
+    /// The weights of all literals by their codes, for each priority, the greatest first.
+    pub(crate) levels: Seq<Seq<i64>>,
+    /// The sums that are to be bettered, at the same places.
+    pub(crate) cost: Seq<i64>,
+}
+
+// What a variable costs at least.
+fn least(value: Option<bool>, if_true: i64, if_false: i64) -> i128
+    ensures value { result ≡ least value if_true if_false }
+    ensures low { neg_ℤ (pos (2 ^ 64)) ≤ℤ result }
+    ensures high { result ≤ℤ pos (2 ^ 64) }
+{
+    match value {
+        Some(true) => if_true as i128,
+        Some(false) => if_false as i128,
+        None => if_true.min(0) as i128 + if_false.min(0) as i128,
+    }
+}
+
+// What is spent at least at a priority.
+fn level_sum(values: &Assign, weights: &[i64], vars: u32) -> i128
+    requires values { length values.now ≡ vars + 1 }
+    requires weights { length weights.now ≡ 2 * vars + 2 }
+    requires few { vars < 2 ^ 31 }
+    ensures { result ≡ level_sum values.now vars weights.now }
+{
+    let mut sum: i128 = 0;
+    for at in 0..vars {
+        let var = at + 1;
+        let place = 2 * var as usize;
+        sum += least(values.value(var), weights[place], weights[place + 1]);
+    }
+    sum
+}
+
+// Whether the sums aren't smaller than the cost.
+fn reaches(values: &Assign, levels: &[Seq<i64>], cost: &[i64], vars: u32) -> bool
+    requires values { length values.now ≡ vars + 1 }
+    requires levels { length cost.now ≡ length levels.now }
+    requires weights { AllByRecursion (λ w. length w ≡ 2 * vars + 2) levels.now }
+    requires few { vars < 2 ^ 31 }
+    ensures { result ≡ not (betters (map (level_sum values.now vars) levels.now) cost.now) }
+{
+    for i in 0..levels.len() {
+        let sum = level_sum(values, levels[i].as_slice(), vars);
+        let limit = cost[i] as i128;
+        if sum < limit {
+            return false;
+        }
+        if limit < sum {
+            return true;
+        }
+    }
+    true
+}
+
+/// Whether there is a bound, and the values can't lead to less any more.
+pub fn reaches_bound(compiled: &Compiled, bound: &Option<Bound>, values: &Assign) -> bool
+    requires size { length values.now ≡ var_count compiled.now + 1 }
+    requires levels { HasLevels compiled.now bound.now }
+    ensures { result ≡ reaches_bound compiled.now (cost_of_bound bound.now) values.now }
+{
+    match bound {
+        None => false,
+        Some(b) => reaches(
+            values,
+            b.levels.as_slice(),
+            b.cost.as_slice(),
+            compiled.vars(),
+        ),
+    }
+}
+
+// The weights at each priority, the greatest first.
+fn levels(alloc: Global, compiled: &Compiled) -> Result<Vec<Seq<i64>>, AllocError>
+    ensures { IfOk result (λ l. AreLevels compiled.now (priorities compiled.now.minimize) l.items) }
+{
+    let mut levels = Vec::new(alloc);
+    let list = priorities(alloc, compiled.program().minimize.as_slice())?;
+    for priority in &list {
+        levels.push(Seq::from_vec(weights_at(alloc, compiled, *priority)?))?;
+    }
+    Ok(levels)
+}
+
+impl Bound {
+    /// The bound by the cost of a set.
+    pub fn of(alloc: Global, compiled: &Compiled, set: &Interp) -> Result<Bound, AllocError>
+        ensures cost { IfOk result (λ b. b.cost ≡ cost compiled.now set.now) }
+        ensures levels { IfOk result (λ b. HasLevels compiled.now (Some b)) }
+    {
+        let cost = cost_of(alloc, compiled.program(), set)?;
+        let levels = levels(alloc, compiled)?;
+        Ok(Bound {
+            levels: Seq::from_vec(levels),
+            cost: Seq::from_vec(Vec::from_slice(alloc, cost.as_slice())?),
+        })
+    }
+}
