@@ -8,3 +8,9 @@ pub mod LiteralLaws
 pub mod SweepLaws
 pub mod BlockLaws
 pub mod CloseLaws
+pub mod BodyLaws
+pub mod FoundLaws
+pub mod CompletedLaws
+pub mod AssumeLaws
+pub mod JudgeLaws
+pub mod BoundLaws

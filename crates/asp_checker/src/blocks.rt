@@ -1,8 +1,7 @@
 //! What weight bodies and the bound imply: a value is implied where the other one would break a body or reach the bound.
-ghost use Rattle.std.specs.Prelude.{◌≡◌, ◌+◌, ◌<◌, ◌≤◌, not, Some, None, MatchOption, length, slice_set};
+ghost use Rattle.std.specs.Prelude.{◌≡◌, ◌+◌, ◌<◌, ◌≤◌, Bool, false, Some, None, MatchOption, length, slice_set};
 ghost use Rattle.asp_vars.specs.Literals.{value_of};
 ghost use Rattle.asp_vars.specs.Numbering.{var_count};
-ghost use Rattle.asp_checker.specs.Propagation.{reaches_bound};
 ghost use Rattle.asp_checker.specs.Blocks.{is_blocked, HasLevels, cost_of_bound, IsImplied, AreFree};
 
 use crate::bounds::{Bound, reaches_bound};

@@ -4,9 +4,12 @@
 pub mod blocks;
 pub mod bounds;
 pub mod close;
+pub mod confirm;
+pub mod judge;
 pub mod laws;
 mod levels;
 pub mod lines;
+pub mod loops;
 pub mod nogoods;
 pub mod sweep;
 pub mod weights;

@@ -13,11 +13,11 @@ use asp_vars::compiled::Compiled;
 use asp_vars::lit::Lit;
 
 // Whether the literal counts: where it holds, or where it isn't false.
-fn counts(values: &Assign, open: bool, lit: Lit) -> bool
+fn counts(values: &Assign, with_open: bool, lit: Lit) -> bool
     requires { lit.var < length values.now }
-    ensures { result ≡ counts values.now open lit }
+    ensures { result ≡ counts values.now with_open lit }
 {
-    if open {
+    if with_open {
         !values.holds(lit.complement())
     } else {
         values.holds(lit)
@@ -25,18 +25,18 @@ fn counts(values: &Assign, open: bool, lit: Lit) -> bool
 }
 
 // Whether the weights of the literals that count reach the bound.
-fn reaches(values: &Assign, open: bool, lits: &[Lit], weights: &[i64], bound: i32) -> bool
+fn reaches(values: &Assign, with_open: bool, lits: &[Lit], weights: &[i64], bound: i32) -> bool
     requires lits { All (λ l. l.var < length values.now) lits.now }
     requires places { length weights.now ≡ length lits.now }
     requires weights { All (λ w. pos 0 ≤ℤ w) weights.now }
-    ensures { result ≡ int_le bound (weigh (counts values.now open) lits.now weights.now) }
+    ensures { result ≡ int_le bound (weigh (counts values.now with_open) lits.now weights.now) }
 {
     if bound <= 0 {
         return true;
     }
     let mut left = bound as u64;
     for i in 0..lits.len() {
-        let counts = counts(values, open, lits[i]);
+        let counts = counts(values, with_open, lits[i]);
         match take_weight(left, weight_at(weights, i), counts) {
             Some(rest) => left = rest,
             None => return true,

@@ -6,4 +6,4 @@ use Rattle.asp_checker.proofs.weights.reaches.Given as goal
 
 abbrev pub invariant-loop-i : goal.invariant-loop-i
 invariant-loop-i l =
-    (0 < l.left) × (pos l.left ≡ (l.fn.bound -ℤ weigh (counts l.values l.open) (take l.i l.lits) (take l.i l.weights)))
+    (0 < l.left) × (pos l.left ≡ (l.fn.bound -ℤ weigh (counts l.values l.with_open) (take l.i l.lits) (take l.i l.weights)))

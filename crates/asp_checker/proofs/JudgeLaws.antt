@@ -1,0 +1,171 @@
+-- Answers and lines that are judged one after another.
+use Rattle.std.proofs.Common.{◌≡◌, ◌≢◌, ℕ, zero, suc, ◌+◌, ◌<◌, ◌≤◌, Bool, true, false, not, cond, ◌&&◌, ◌||◌, List, [], ◌∷◌, ◌++◌, map, length, take, get_or, refl, sym, ap, ◌∙◌, subst, arith, Option, Some, None, inl, inr}
+use Rattle.std.specs.Prelude.{All, AllPairs, Contains, ℤ}
+use Rattle.std.specs.List.{list_any, list_all, AllByRecursion}
+use Rattle.std.specs.declared.cmp.Ordering.{Ordering}
+use Rattle.std.specs.declared.cmp.Ordering.TheVariants.{Less, Equal, Greater}
+use Rattle.std.proofs.lemmas.Bool.{false≢true, cases_order, cases_lt}
+use Rattle.std.proofs.lemmas.List.{take_all, take_more, length_push, get_or_default, length-take-le, get_or-take}
+use Rattle.std.proofs.lemmas.List.Folds.{list_any_more}
+use Rattle.std.proofs.lemmas.List.Elements.{recursion_from_All, All-from_recursion}
+use Rattle.std.proofs.lemmas.List.Quantifiers.{all_pairs_push}
+use Rattle.asp_model.specs.declared.program.Program.{Program}
+use Rattle.asp_model.specs.Sets.{Atoms, has, IsBefore, IsAscending, set_cmp}
+use Rattle.asp_model.specs.Holding.{all_hold}
+use Rattle.asp_model.specs.Models.{atoms_of, answers, is_stable}
+use Rattle.asp_model.proofs.OrderLaws.{before_from_cmp, cmp_from_before}
+use Rattle.asp_model.proofs.ModelLaws.{answers-are}
+use Rattle.asp_model.proofs.MemberLaws.{each-append, each-map, each_weaker, HasAll-itself}
+use Rattle.asp_vars.specs.Literals.{Literal}
+use Rattle.asp_vars.specs.Numbering.{var_count, var_of_atom}
+use Rattle.asp_vars.specs.Completion.{completion}
+use Rattle.asp_vars.specs.declared.nogood.Nogood.{Nogood}
+use Rattle.asp_vars.proofs.PlaceLaws.{atom-within}
+use Rattle.asp_complete.specs.Listed.{pure}
+use Rattle.asp_proof.specs.declared.proof.Line.{Line}
+use Rattle.asp_proof.specs.declared.proof.Line.TheVariants as line
+use Rattle.asp_proof.specs.declared.proof.Proof.{Proof}
+use Rattle.asp_checker.specs.declared.bounds.Bound.{Bound}
+use Rattle.asp_checker.specs.declared.judge.Why.TheVariants as why
+use Rattle.asp_checker.specs.Propagation.{Known}
+use Rattle.asp_checker.specs.Lines.{IsOf, AreOf, AreConfirmed, IsConfirmed, nogood_of, nogood_of_answer, with_nogood, bound_of, known_at_first}
+use Rattle.asp_checker.specs.Right.{closes, IsRight}
+use Rattle.asp_checker.specs.Blocks.{known_by, cost_of_bound}
+use Rattle.asp_checker.specs.Judging.{IsInOrder, AreRightAnswers, IsRightAnswer, HasLiterals, known_after, AreRightLines, no_line}
+use Rattle.asp_checker.proofs.CompletedLaws.{completion_vars}
+
+-- ---- the order of sets
+before_then : (S T U : Atoms) → IsBefore S T → IsBefore T U → IsBefore S U
+before_then S T U s t = elim (cases_order s.0 t.0) [
+  | inl same ↦ absurd (false≢true (sym t.2 ∙ ap (has T) (sym same) ∙ s.1))
+  | inr o ↦ elim o [
+    | inl lt ↦ (s.0, sym (t.3 s.0 lt) ∙ s.1, s.2, λ b less. s.3 b less ∙ t.3 b (omega arith))
+    | inr lt ↦ (t.0, t.1, s.3 t.0 lt ∙ t.2, λ b less. s.3 b (omega arith) ∙ t.3 b less)
+  ]
+]
+
+pub not_less : (S T : Atoms) (o : Ordering) → IsAscending S → IsAscending T → set_cmp S T ≡ o → o ≢ Less → IsBefore S T → ⊥
+not_less S T o s t e differ before = differ (sym e ∙ cmp_from_before S T s t before)
+
+-- ---- answers
+pub first_in_order : (opt : Bool) (S : Atoms) → IsInOrder opt [] S
+first_in_order opt S = record { later = tt; single = λ o. refl }
+
+pub later_in_order : (opt : Bool) (before : List Atoms) (S last : Atoms) (i : ℕ) → AllPairs IsBefore before → length before ≡ i + 1 → last ≡ get_or before i last → opt ≡ false → IsBefore last S → IsInOrder opt before S
+later_in_order opt before S last i pairs size is enum after = record {
+  later = recursion_from_All (λ T. IsBefore T S) before (λ k d lt. elim (cases_lt k i) [
+    | inl less ↦ before_then (get_or before k d) last S (subst (IsBefore (get_or before k d)) (at_last d) (pairs k i d less (omega arith))) after
+    | inr no ↦ (
+        let same : k ≡ i = omega arith in
+        subst (λ T. IsBefore T S) (sym (at_last d) ∙ ap (λ j. get_or before j d) (sym same)) after)
+  ]);
+  single = λ o. absurd (false≢true (sym enum ∙ o));
+}
+  where
+    at_last : (d : Atoms) → get_or before i d ≡ last
+    at_last d = get_or_default before i d last (omega arith) ∙ sym is
+
+pub not_single : (before : List Atoms) (S : Atoms) (n : ℕ) → length before ≡ n → 0 < n → IsInOrder true before S → ⊥
+not_single before S n size lt h = let none = ap length (h.single refl) in omega (arith, none, size)
+
+pub not_after : (opt : Bool) (before : List Atoms) (S last : Atoms) (i : ℕ) → i < length before → last ≡ get_or before i last → (IsBefore last S → ⊥) → IsInOrder opt before S → ⊥
+not_after opt before S last i lt is no h = no (subst (λ T. IsBefore T S) (sym is) (All-from_recursion (λ T. IsBefore T S) before h.later i last lt))
+
+pub is_member : (p : Program) (S : Atoms) → is_stable p S ≡ true → all_hold S p.assumptions ≡ true → Contains (answers p) S
+is_member p S stable hold = (answers-are p S).1 (stable, hold)
+
+pub not_member : (p : Program) (S : Atoms) → is_stable p S ≡ false → Contains (answers p) S → ⊥
+not_member p S e h = false≢true (sym e ∙ ((answers-are p S).0 h).0)
+
+pub not_assumed : (p : Program) (S : Atoms) → all_hold S p.assumptions ≡ false → Contains (answers p) S → ⊥
+not_assumed p S e h = false≢true (sym e ∙ ((answers-are p S).0 h).1)
+
+pub none_listed : (p : Program) (opt : Bool) (listed : List Atoms) → AreRightAnswers p opt (take 0 listed)
+none_listed p opt listed = record { members = tt; order = λ i j d lt within. absurd (omega arith); single = λ o. omega arith }
+
+pub answers_more : (p : Program) (opt : Bool) (listed : List Atoms) (i : ℕ) (S : Atoms) → i < length listed → S ≡ get_or listed i S → AreRightAnswers p opt (take i listed) → IsRightAnswer p opt (take i listed) S → AreRightAnswers p opt (take (i + 1) listed)
+answers_more p opt listed i S lt is before now =
+    let list : take (i + 1) listed ≡ take i listed ++ S ∷ [] = take_more listed i S lt ∙ ap (λ T. take i listed ++ T ∷ []) (sym is) in
+    subst (AreRightAnswers p opt) (sym list) (record {
+      members = each-append (Contains (answers p)) (take i listed) (S ∷ []) before.members (now.member, tt);
+      order = all_pairs_push IsBefore (take i listed) S before.order (All-from_recursion (λ T. IsBefore T S) (take i listed) now.order.later);
+      single = λ o. let none = ap length (now.order.single o) in omega (arith, none, length_push (take i listed) S);
+    })
+
+pub answers_whole : (p : Program) (opt : Bool) (listed : List Atoms) (i : ℕ) → length listed ≤ i → AreRightAnswers p opt (take i listed) → AreRightAnswers p opt listed
+answers_whole p opt listed i le h = subst (AreRightAnswers p opt) (take_all i listed le) h
+
+-- ---- what is known at first
+lits_pure : (ns : List (List Literal)) → map (λ (n : Nogood). n.lits) (map pure ns) ≡ ns
+lits_pure [] = refl
+lits_pure (n ∷ ns) = ap (λ ms. n ∷ ms) (lits_pure ns)
+
+pub completed_whole : (p : Program) (nogoods : List Nogood) (rows : List (List Literal)) (i : ℕ) → length nogoods ≤ i → nogoods ≡ map pure (completion p) → rows ≡ map (λ (n : Nogood). n.lits) (take i nogoods) → rows ≡ completion p
+completed_whole p nogoods rows i le is e = e ∙ ap (map (λ (n : Nogood). n.lits)) (take_all i nogoods le ∙ is) ∙ lits_pure (completion p)
+
+answer_of : (p : Program) (S : Atoms) → AreOf p (nogood_of_answer p S)
+answer_of p S =
+    each-map (IsOf p) (λ a. record { var = var_of_atom p a; truth = has S a }) (atoms_of p)
+    (each_weaker (λ a. has (atoms_of p) a ≡ true) (λ a. IsOf p (record { var = var_of_atom p a; truth = has S a })) (λ a h. (omega arith, atom-within p a h)) (atoms_of p) (HasAll-itself (atoms_of p)))
+
+answers_of : (p : Program) (Ss : List Atoms) → AllByRecursion (AreOf p) (map (nogood_of_answer p) Ss)
+answers_of p [] = tt
+answers_of p (S ∷ Ss) = (answer_of p S, answers_of p Ss)
+
+pub known_of : (p : Program) (opt : Bool) (Ss : List Atoms) (rows : List (List Literal)) → rows ≡ cond opt (completion p) (completion p ++ map (nogood_of_answer p) Ss) → AllByRecursion (AreOf p) rows
+known_of p true Ss rows e = subst (AllByRecursion (AreOf p)) (sym e) (completion_vars p)
+known_of p false Ss rows e = subst (AllByRecursion (AreOf p)) (sym e) (each-append (AreOf p) (completion p) (map (nogood_of_answer p) Ss) (completion_vars p) (answers_of p Ss))
+
+pub known_is : (p : Program) (proof : Proof) (rows : List (List Literal)) (b : Option Bound) → rows ≡ cond proof.opt (completion p) (completion p ++ map (nogood_of_answer p) proof.answers) → cost_of_bound b ≡ cond proof.opt (bound_of p proof.answers) None →
+    known_by rows b ≡ known_at_first p proof
+known_is p proof rows b e f = cases proof.opt e f
+  where
+    known : List (List Literal) → Option (List ℤ) → Known
+    known ns c = record { nogoods = ns; bound = c }
+
+    cases : (opt : Bool) → rows ≡ cond opt (completion p) (completion p ++ map (nogood_of_answer p) proof.answers) → cost_of_bound b ≡ cond opt (bound_of p proof.answers) None →
+        (let k : Known = record { nogoods = rows; bound = cost_of_bound b } in k) ≡ cond opt (record { nogoods = completion p; bound = bound_of p proof.answers }) (record { nogoods = completion p ++ map (nogood_of_answer p) proof.answers; bound = None })
+    cases true g h = cc
+    cases false g h = cc
+
+-- ---- lines
+pub has_of : (p : Program) (l : Line) → HasLiterals p l → AreOf p (nogood_of l)
+has_of p (line.Loop set nogood) h = h.1
+has_of p (line.Learned nogood) h = h
+has_of p (line.Cube nogood) h = h
+
+known_push : (k : Known) (lines : List Line) (l : Line) → known_after k (lines ++ l ∷ []) ≡ with_nogood (known_after k lines) (nogood_of l)
+known_push k [] l = refl
+known_push k (m ∷ lines) l = known_push (with_nogood k (nogood_of m)) lines l
+
+confirmed_push : (p : Program) (k : Known) (lines : List Line) (l : Line) → AreConfirmed p k lines → AreOf p (nogood_of l) → IsConfirmed p (known_after k lines) l → AreConfirmed p k (lines ++ l ∷ [])
+confirmed_push p k [] l h of now = (of, (now, tt))
+confirmed_push p k (m ∷ lines) l h of now = (h.0, (h.1, confirmed_push p (with_nogood k (nogood_of m)) lines l h.2 of now))
+
+line_more : (lines : List Line) (i : ℕ) (l : Line) → i < length lines → l ≡ get_or lines i l → take (i + 1) lines ≡ take i lines ++ l ∷ []
+line_more lines i l lt is = take_more lines i l lt ∙ ap (λ m. take i lines ++ m ∷ []) (sym is)
+
+pub known_more : (k now : Known) (lines : List Line) (i : ℕ) (l : Line) → i < length lines → l ≡ get_or lines i l → now ≡ known_after k (take i lines) → with_nogood now (nogood_of l) ≡ known_after k (take (i + 1) lines)
+known_more k now lines i l lt is e = ap (λ m. with_nogood m (nogood_of l)) e ∙ sym (known_push k (take i lines) l) ∙ ap (known_after k) (sym (line_more lines i l lt is))
+
+pub confirmed_more : (p : Program) (k now : Known) (lines : List Line) (i : ℕ) (l : Line) → i < length lines → l ≡ get_or lines i l → now ≡ known_after k (take i lines) → AreConfirmed p k (take i lines) → HasLiterals p l → IsConfirmed p now l → AreConfirmed p k (take (i + 1) lines)
+confirmed_more p k now lines i l lt is e h literals confirmed =
+    subst (AreConfirmed p k) (sym (line_more lines i l lt is)) (confirmed_push p k (take i lines) l h (has_of p l literals) (subst (λ m. IsConfirmed p m l) e confirmed))
+
+pub closes_more : (p : Program) (lines : List Line) (i : ℕ) (l : Line) (before now whole : Bool) → i < length lines → l ≡ get_or lines i l → before ≡ list_any (closes p) (take i lines) → now ≡ closes p l → whole ≡ (before || now) → whole ≡ list_any (closes p) (take (i + 1) lines)
+closes_more p lines i l before now whole lt is e f g =
+    g ∙ ap (λ b. b || now) e ∙ ap (λ b. list_any (closes p) (take i lines) || b) (f ∙ ap (closes p) is) ∙ sym (list_any_more (closes p) lines i l lt)
+
+pub lines_whole : (p : Program) (k : Known) (lines : List Line) (i : ℕ) (whole : Bool) → length lines ≤ i → AreConfirmed p k (take i lines) → whole ≡ list_any (closes p) (take i lines) → AreRightLines p k lines whole
+lines_whole p k lines i whole le h e =
+    let all = take_all i lines le in
+    record { confirmed = subst (AreConfirmed p k) all h; whole_is = e ∙ ap (list_any (closes p)) all }
+
+pub is_right : (p : Program) (proof : Proof) (k : Known) → AreRightAnswers p proof.opt proof.answers → k ≡ known_at_first p proof → AreRightLines p k proof.lines true → IsRight p proof
+is_right p proof k answers e lines = record {
+  members = answers.members;
+  order = answers.order;
+  single = answers.single;
+  lines = subst (λ m. AreConfirmed p m proof.lines) e lines.confirmed;
+  whole = sym lines.whole_is;
+}
