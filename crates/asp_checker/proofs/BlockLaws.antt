@@ -4,7 +4,7 @@ use Rattle.std.specs.Prelude.{ℤ, pos, ◌+ℤ◌, ◌≤ℤ◌, int_lt, int_le
 use Rattle.std.specs.Option.{is_none}
 use Rattle.std.specs.List.{list_all, list_any, AllByRecursion}
 use Rattle.std.specs.Bool.{beq}
-use Rattle.std.proofs.lemmas.Bool.{false≢true, and_parts, and_from, or_cases, or_parts, or_left, or_right, eqb-true, eq-eqb}
+use Rattle.std.proofs.lemmas.Bool.{false≢true, and_parts, and_from, or_cases, or_parts, or_left, or_right, eqb-true, eq-eqb, cases_lt}
 use Rattle.std.proofs.lemmas.Int.{ints}
 use Rattle.std.proofs.lemmas.List.{length-map, length-set, set-set, set-get_or}
 use Rattle.std.proofs.lemmas.List.Sums.{sum_by-set}
@@ -24,7 +24,7 @@ use Rattle.asp_bound.proofs.ReachLaws.{betters-reach, reach-above}
 use Rattle.asp_loop.proofs.WeightedLaws.{AreItems, form_items, nth_weighted}
 use Rattle.asp_checker.specs.Propagation.{Known, may_hold, weight_by, is_broken, reaches_bound, has_conflict, IsPropagated, LeadsToConflict}
 use Rattle.asp_checker.specs.Steps.{AreWithin, Follow, Forced}
-use Rattle.asp_checker.specs.Blocks.{is_blocked}
+use Rattle.asp_checker.specs.Blocks.{is_blocked, IsImplied, AreFree}
 use Rattle.asp_checker.specs.Sweeps.{open_count}
 use Rattle.asp_checker.proofs.StepLaws.{value-held, held-value, held-within}
 use Rattle.asp_checker.proofs.WeightLaws.{low-more, high-less, within-set, within-then, reached, missed}
@@ -180,3 +180,34 @@ open_count-set x v b lt none =
 
 pub set_back : (x : List (Option Bool)) (v : ℕ) (b : Bool) → value_of x v ≡ None → set (set x v (Some b)) v None ≡ x
 set_back x v b none = set-set x v (Some b) None ∙ ap (set x v) (sym none) ∙ set-get_or x v None
+
+-- ---- what is implied, variable by variable
+abbrev lit : ℕ → Bool → Literal
+lit v t = record { var = v; truth = t }
+
+implied_lit : (p : Program) (bound : Option (List ℤ)) (x : List (Option Bool)) (v : ℕ) (t : Bool) → 0 < v → v ≤ var_count p → value_of x v ≡ None → is_blocked p bound (set x v (Some t)) ≡ true → IsImplied p bound x (lit v (not t))
+implied_lit p bound x v true i le none e = record { var = i; of = le; no_value = none; blocked = e }
+implied_lit p bound x v false i le none e = record { var = i; of = le; no_value = none; blocked = e }
+
+-- the literal h would block, so l is implied
+pub implied_other : (p : Program) (bound : Option (List ℤ)) (x : List (Option Bool)) (v : ℕ) (t : Bool) (h l : Literal) → 0 < v → v ≤ var_count p → value_of x v ≡ None → h ≡ lit v t → l ≡ lit v (not t) → is_blocked p bound (set x h.var (Some h.truth)) ≡ true → IsImplied p bound x l
+implied_other p bound x v t h l i le none eh el e =
+    subst (IsImplied p bound x) (sym el) (implied_lit p bound x v t i le none (sym (ap (λ (m : Literal). is_blocked p bound (set x m.var (Some m.truth))) eh) ∙ e))
+
+pub neither_blocks : (p : Program) (bound : Option (List ℤ)) (x : List (Option Bool)) (v : ℕ) (h l : Literal) → h ≡ lit v true → l ≡ lit v false → is_blocked p bound (set x h.var (Some h.truth)) ≡ false → is_blocked p bound (set x l.var (Some l.truth)) ≡ false → (b : Bool) → is_blocked p bound (set x v (Some b)) ≡ false
+neither_blocks p bound x v h l eh el e f true = sym (ap (λ (m : Literal). is_blocked p bound (set x m.var (Some m.truth))) eh) ∙ e
+neither_blocks p bound x v h l eh el e f false = sym (ap (λ (m : Literal). is_blocked p bound (set x m.var (Some m.truth))) el) ∙ f
+
+pub free_first : (p : Program) (bound : Option (List ℤ)) (x : List (Option Bool)) → AreFree p bound x 0
+free_first p bound x = record { free = λ v b i le none. absurd (omega arith) }
+
+pub free_next : (p : Program) (bound : Option (List ℤ)) (z y : List (Option Bool)) (n : ℕ) → y ≡ z → AreFree p bound z n → (value_of z (n + 1) ≡ None → (b : Bool) → is_blocked p bound (set z (n + 1) (Some b)) ≡ false) → AreFree p bound y (n + 1)
+free_next p bound z y n e h now = subst (λ w. AreFree p bound w (n + 1)) (sym e) (record { free = λ v b i le none. elim (cases_lt v (n + 1)) [
+  | inl lt ↦ h.free v b i (omega arith) none
+  | inr past ↦ (
+      let same : v ≡ n + 1 = omega arith in
+      ap (λ u. is_blocked p bound (set z u (Some b))) same ∙ now (ap (value_of z) (sym same) ∙ none) b)
+] })
+
+pub free_whole : (p : Program) (bound : Option (List ℤ)) (z x : List (Option Bool)) (n : ℕ) → var_count p ≤ n → z ≡ x → AreFree p bound z n → AreFree p bound x (var_count p)
+free_whole p bound z x n le e h = subst (λ w. AreFree p bound w (var_count p)) e (record { free = λ v b i k none. h.free v b i (omega arith) none })

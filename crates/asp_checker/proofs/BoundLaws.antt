@@ -1,30 +1,25 @@
 -- A bound by the weights at each priority.
 use Rattle.std.proofs.Common.{◌≡◌, ℕ, zero, suc, ◌+◌, ◌*◌, ◌^◌, ◌<◌, ◌≤◌, Bool, true, false, not, List, [], ◌∷◌, ◌++◌, map, length, take, drop, get_or, refl, sym, ap, ◌∙◌, subst, arith, Option, Some, None, drop-cons, add-one}
-use Rattle.std.specs.Prelude.{ℤ, pos, negsuc, neg_ℤ, ◌+ℤ◌, ◌≤ℤ◌, ◌<ℤ◌, int_lt, int_min}
+use Rattle.std.specs.Prelude.{ℤ, pos, ◌+ℤ◌, ◌≤ℤ◌, ◌<ℤ◌}
 use Rattle.std.specs.List.{AllByRecursion}
 use Rattle.std.specs.Ordering.{int_cmp, is_lt, ordering_then}
 use Rattle.std.specs.declared.cmp.Ordering.{Ordering}
 use Rattle.std.specs.declared.cmp.Ordering.TheVariants.{Less, Equal, Greater}
 use Rattle.std.specs.Cmp.Lexicographic.{slice_cmp}
 use Rattle.std.proofs.lemmas.Int.{ints}
-use Rattle.std.proofs.lemmas.List.{take_more, length-map}
+use Rattle.std.proofs.lemmas.List.{take_more, length-map, get_or-map}
 use Rattle.asp_model.specs.declared.program.Program.{Program}
 use Rattle.asp_model.specs.Sets.{Atoms}
 use Rattle.asp_model.specs.Costs.{priorities, betters, cost, cost_at}
 use Rattle.asp_vars.specs.Literals.{T, F, value_of}
 use Rattle.asp_vars.specs.Numbering.{var_count}
-use Rattle.asp_bound.specs.Optimism.{items_at, weight_at, negative, least, least_at, sum_to, optimistic_at, optimistic}
+use Rattle.asp_bound.specs.Optimism.{items_at, weight_at, least, least_at, sum_to, optimistic_at, optimistic}
 use Rattle.asp_bound.specs.Weights.{AreWeights}
 use Rattle.asp_bound.proofs.SumLaws.{sum_to-same}
 use Rattle.asp_bound.proofs.LevelLaws.{weight_true-is, weight_false-is}
 use Rattle.asp_checker.specs.declared.bounds.Bound.{Bound}
 use Rattle.asp_checker.specs.Propagation.{reaches_bound}
 use Rattle.asp_checker.specs.Blocks.{level_sum, AreLevels, HasLevels, cost_of_bound}
-
--- ---- one variable
-pub min_negative : (t : ℤ) → int_min t (pos 0) ≡ negative t
-min_negative (pos n) = grind (arith, ints)
-min_negative (negsuc n) = grind (arith, ints)
 
 -- ---- one priority
 level-is : (p : Program) (q : ℤ) (x : List (Option Bool)) (weights : List ℤ) → AreWeights p (items_at p.minimize q) weights → level_sum x (var_count p) weights ≡ optimistic_at p x q
@@ -105,3 +100,19 @@ past (x ∷ xs) (suc i) le = past xs i (omega arith)
 
 pub compare_last : (sums cost : List ℤ) (i : ℕ) → length sums ≤ i → length cost ≤ i → CompareFrom sums cost i → true ≡ not (betters sums cost)
 compare_last sums cost i le le' h = sym (ap (λ o. not (is_lt o)) (h.same ∙ ap (λ l. slice_cmp int_cmp l (drop i cost)) (past sums i le) ∙ ap (λ l. slice_cmp int_cmp [] l) (past cost i le')))
+
+-- ---- one variable more
+pub level_more : (x : List (Option Bool)) (w : List ℤ) (n v place : ℕ) (s r new : ℤ) → v ≡ n + 1 → place ≡ 2 * v → s ≡ level_sum x n w → r ≡ least (value_of x v) (get_or w place (pos 0)) (get_or w (place + 1) (pos 0)) → new ≡ s +ℤ r → new ≡ level_sum x (n + 1) w
+level_more x w n v place s r new ev ep es er en =
+    let f : ℕ → ℤ = λ u. least (value_of x u) (get_or w (2 * u) (pos 0)) (get_or w (2 * u + 1) (pos 0)) in
+    let r_is : r ≡ f v = er ∙ ap (λ q. least (value_of x v) (get_or w q (pos 0)) (get_or w (q + 1) (pos 0))) ep in
+    let last : f v ≡ f (suc n) = ap f (ev ∙ add-one n) in
+    en ∙ ap (λ a. a +ℤ r) es ∙ ap (λ b. sum_to f n +ℤ b) (r_is ∙ last) ∙ sym (ap (sum_to f) (add-one n))
+
+pub sum_at : (x : List (Option Bool)) (n : ℕ) (levels : List (List ℤ)) (i : ℕ) (w : List ℤ) (s : ℤ) → i < length levels → w ≡ get_or levels i w → s ≡ level_sum x n w → s ≡ get_or (map (level_sum x n) levels) i (pos 0)
+sum_at x n levels i w s lt is e = e ∙ ap (level_sum x n) is ∙ sym (get_or-map (level_sum x n) levels i w (pos 0) lt)
+
+pub level_long : (n : ℕ) (levels : List (List ℤ)) (i : ℕ) (w : List ℤ) → i < length levels → w ≡ get_or levels i w → AllByRecursion (λ v. length v ≡ n) levels → length w ≡ n
+level_long n [] i w lt is h = absurd (omega arith)
+level_long n (v ∷ levels) zero w lt is h = ap length is ∙ h.0
+level_long n (v ∷ levels) (suc i) w lt is h = level_long n levels i w (omega arith) is h.1

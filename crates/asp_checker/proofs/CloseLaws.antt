@@ -14,10 +14,10 @@ use Rattle.asp_checker.specs.declared.bounds.Bound.{Bound}
 use Rattle.asp_checker.specs.declared.nogoods.Visit.{Visit}
 use Rattle.asp_checker.specs.declared.nogoods.Visit.TheVariants as visit
 use Rattle.asp_checker.specs.Propagation.{Known, is_broken, reaches_bound, has_conflict, IsPropagated, LeadsToConflict}
-use Rattle.asp_checker.specs.Lines.{AreOf}
+use Rattle.asp_checker.specs.Lines.{IsOf, AreOf}
 use Rattle.asp_checker.specs.Looks.{IsCalm}
 use Rattle.asp_checker.specs.Steps.{AreWithin, Follow, IsKnown}
-use Rattle.asp_checker.specs.Sweeps.{open_count, Grows, IsNogoodOf, AreNogoodsOf, Implies, Refutes, IsSwept}
+use Rattle.asp_checker.specs.Sweeps.{AreInRange, open_count, Grows, IsNogoodOf, AreNogoodsOf, Implies, Refutes, IsSwept}
 use Rattle.asp_checker.specs.Blocks.{is_blocked, known_by, cost_of_bound, Extends, AreRefuted, IsImplied, AreFree, IsFound, IsStep}
 use Rattle.asp_checker.proofs.StepLaws.{follow-more}
 use Rattle.asp_checker.proofs.WeightLaws.{within-set, within-then}
@@ -94,3 +94,7 @@ step_further p rows bound x z y visit.Calm size swept h = (
   h.0 ∙ swept.0,
   is_propagated p (known_by rows bound) x size swept.1 (subst (λ w. is_blocked p (cost_of_bound bound) w ≡ false) swept.0 h.1) (subst (λ w. AreFree p (cost_of_bound bound) w (var_count p)) swept.0 h.2),
 )
+
+-- ---- the range of rows
+pub rows_range : (p : Program) (rows : List (List Literal)) (n : ℕ) → n ≡ var_count p + 1 → AllByRecursion (AreOf p) rows → AreInRange n rows
+rows_range p rows n size of = each_weaker (AreOf p) (AllByRecursion (λ l. l.var < n)) (λ row h. each_weaker (IsOf p) (λ l. l.var < n) (λ l a. let b = a.1 in omega (arith, b, size)) row h) rows of

@@ -1,11 +1,11 @@
 -- Answers and lines that are judged one after another.
-use Rattle.std.proofs.Common.{◌≡◌, ◌≢◌, ℕ, zero, suc, ◌+◌, ◌<◌, ◌≤◌, Bool, true, false, not, cond, ◌&&◌, ◌||◌, List, [], ◌∷◌, ◌++◌, map, length, take, get_or, refl, sym, ap, ◌∙◌, subst, arith, Option, Some, None, inl, inr}
+use Rattle.std.proofs.Common.{◌≡◌, ◌≢◌, ℕ, zero, suc, ◌+◌, ◌<◌, ◌≤◌, Bool, true, false, not, cond, ◌&&◌, ◌||◌, List, [], ◌∷◌, ◌++◌, map, length, take, get_or, refl, sym, ap, ◌∙◌, subst, arith, append_assoc, Option, Some, None, inl, inr}
 use Rattle.std.specs.Prelude.{All, AllPairs, Contains, ℤ}
 use Rattle.std.specs.List.{list_any, list_all, AllByRecursion}
 use Rattle.std.specs.declared.cmp.Ordering.{Ordering}
 use Rattle.std.specs.declared.cmp.Ordering.TheVariants.{Less, Equal, Greater}
 use Rattle.std.proofs.lemmas.Bool.{false≢true, cases_order, cases_lt}
-use Rattle.std.proofs.lemmas.List.{take_all, take_more, length_push, get_or_default, length-take-le, get_or-take}
+use Rattle.std.proofs.lemmas.List.{take_all, take_more, length_push, get_or_default, length-take-le, map-append}
 use Rattle.std.proofs.lemmas.List.Folds.{list_any_more}
 use Rattle.std.proofs.lemmas.List.Elements.{recursion_from_All, All-from_recursion}
 use Rattle.std.proofs.lemmas.List.Quantifiers.{all_pairs_push}
@@ -13,6 +13,7 @@ use Rattle.asp_model.specs.declared.program.Program.{Program}
 use Rattle.asp_model.specs.Sets.{Atoms, has, IsBefore, IsAscending, set_cmp}
 use Rattle.asp_model.specs.Holding.{all_hold}
 use Rattle.asp_model.specs.Models.{atoms_of, answers, is_stable}
+use Rattle.asp_model.specs.Costs.{cost}
 use Rattle.asp_model.proofs.OrderLaws.{before_from_cmp, cmp_from_before}
 use Rattle.asp_model.proofs.ModelLaws.{answers-are}
 use Rattle.asp_model.proofs.MemberLaws.{each-append, each-map, each_weaker, HasAll-itself}
@@ -20,18 +21,20 @@ use Rattle.asp_vars.specs.Literals.{Literal}
 use Rattle.asp_vars.specs.Numbering.{var_count, var_of_atom}
 use Rattle.asp_vars.specs.Completion.{completion}
 use Rattle.asp_vars.specs.declared.nogood.Nogood.{Nogood}
-use Rattle.asp_vars.proofs.PlaceLaws.{atom-within}
+use Rattle.asp_vars.proofs.PlaceLaws.{atom-within, at_each}
 use Rattle.asp_complete.specs.Listed.{pure}
 use Rattle.asp_proof.specs.declared.proof.Line.{Line}
 use Rattle.asp_proof.specs.declared.proof.Line.TheVariants as line
 use Rattle.asp_proof.specs.declared.proof.Proof.{Proof}
 use Rattle.asp_checker.specs.declared.bounds.Bound.{Bound}
+use Rattle.asp_checker.specs.declared.judge.Why.{Why}
 use Rattle.asp_checker.specs.declared.judge.Why.TheVariants as why
+use Rattle.asp_checker.specs.declared.judge.Judgement.TheVariants as judgement
 use Rattle.asp_checker.specs.Propagation.{Known}
 use Rattle.asp_checker.specs.Lines.{IsOf, AreOf, AreConfirmed, IsConfirmed, nogood_of, nogood_of_answer, with_nogood, bound_of, known_at_first}
 use Rattle.asp_checker.specs.Right.{closes, IsRight}
 use Rattle.asp_checker.specs.Blocks.{known_by, cost_of_bound}
-use Rattle.asp_checker.specs.Judging.{IsInOrder, AreRightAnswers, IsRightAnswer, HasLiterals, known_after, AreRightLines, no_line}
+use Rattle.asp_checker.specs.Judging.{IsWrongAnswer, HasAnswerFault, IsWrongLine, HasLineFault, IsJudged, IsInOrder, AreRightAnswers, IsRightAnswer, HasLiterals, known_after, AreRightLines, no_line}
 use Rattle.asp_checker.proofs.CompletedLaws.{completion_vars}
 
 -- ---- the order of sets
@@ -55,7 +58,7 @@ pub later_in_order : (opt : Bool) (before : List Atoms) (S last : Atoms) (i : �
 later_in_order opt before S last i pairs size is enum after = record {
   later = recursion_from_All (λ T. IsBefore T S) before (λ k d lt. elim (cases_lt k i) [
     | inl less ↦ before_then (get_or before k d) last S (subst (IsBefore (get_or before k d)) (at_last d) (pairs k i d less (omega arith))) after
-    | inr no ↦ (
+    | inr past ↦ (
         let same : k ≡ i = omega arith in
         subst (λ T. IsBefore T S) (sym (at_last d) ∙ ap (λ j. get_or before j d) (sym same)) after)
   ]);
@@ -66,10 +69,10 @@ later_in_order opt before S last i pairs size is enum after = record {
     at_last d = get_or_default before i d last (omega arith) ∙ sym is
 
 pub not_single : (before : List Atoms) (S : Atoms) (n : ℕ) → length before ≡ n → 0 < n → IsInOrder true before S → ⊥
-not_single before S n size lt h = let none = ap length (h.single refl) in omega (arith, none, size)
+not_single before S n size lt h = let none : length before ≡ 0 = ap length (h.single refl) in omega (arith, none, size)
 
 pub not_after : (opt : Bool) (before : List Atoms) (S last : Atoms) (i : ℕ) → i < length before → last ≡ get_or before i last → (IsBefore last S → ⊥) → IsInOrder opt before S → ⊥
-not_after opt before S last i lt is no h = no (subst (λ T. IsBefore T S) (sym is) (All-from_recursion (λ T. IsBefore T S) before h.later i last lt))
+not_after opt before S last i lt is never h = never (subst (λ T. IsBefore T S) (sym is) (All-from_recursion (λ T. IsBefore T S) before h.later i last lt))
 
 pub is_member : (p : Program) (S : Atoms) → is_stable p S ≡ true → all_hold S p.assumptions ≡ true → Contains (answers p) S
 is_member p S stable hold = (answers-are p S).1 (stable, hold)
@@ -89,7 +92,7 @@ answers_more p opt listed i S lt is before now =
     subst (AreRightAnswers p opt) (sym list) (record {
       members = each-append (Contains (answers p)) (take i listed) (S ∷ []) before.members (now.member, tt);
       order = all_pairs_push IsBefore (take i listed) S before.order (All-from_recursion (λ T. IsBefore T S) (take i listed) now.order.later);
-      single = λ o. let none = ap length (now.order.single o) in omega (arith, none, length_push (take i listed) S);
+      single = λ o. let none : length (take i listed) ≡ 0 = ap length (now.order.single o) in omega (arith, none, length_push (take i listed) S);
     })
 
 pub answers_whole : (p : Program) (opt : Bool) (listed : List Atoms) (i : ℕ) → length listed ≤ i → AreRightAnswers p opt (take i listed) → AreRightAnswers p opt listed
@@ -120,13 +123,10 @@ pub known_is : (p : Program) (proof : Proof) (rows : List (List Literal)) (b : O
     known_by rows b ≡ known_at_first p proof
 known_is p proof rows b e f = cases proof.opt e f
   where
-    known : List (List Literal) → Option (List ℤ) → Known
-    known ns c = record { nogoods = ns; bound = c }
-
     cases : (opt : Bool) → rows ≡ cond opt (completion p) (completion p ++ map (nogood_of_answer p) proof.answers) → cost_of_bound b ≡ cond opt (bound_of p proof.answers) None →
-        (let k : Known = record { nogoods = rows; bound = cost_of_bound b } in k) ≡ cond opt (record { nogoods = completion p; bound = bound_of p proof.answers }) (record { nogoods = completion p ++ map (nogood_of_answer p) proof.answers; bound = None })
-    cases true g h = cc
-    cases false g h = cc
+        known_by rows b ≡ cond opt (record { nogoods = completion p; bound = bound_of p proof.answers }) (record { nogoods = completion p ++ map (nogood_of_answer p) proof.answers; bound = None })
+    cases true g h = ap (λ (ns : List (List Literal)). let k : Known = record { nogoods = ns; bound = cost_of_bound b } in k) g ∙ ap (λ (c : Option (List ℤ)). let k : Known = record { nogoods = completion p; bound = c } in k) h
+    cases false g h = ap (λ (ns : List (List Literal)). let k : Known = record { nogoods = ns; bound = cost_of_bound b } in k) g ∙ ap (λ (c : Option (List ℤ)). let k : Known = record { nogoods = completion p ++ map (nogood_of_answer p) proof.answers; bound = c } in k) h
 
 -- ---- lines
 pub has_of : (p : Program) (l : Line) → HasLiterals p l → AreOf p (nogood_of l)
@@ -169,3 +169,76 @@ is_right p proof k answers e lines = record {
   lines = subst (λ m. AreConfirmed p m proof.lines) e lines.confirmed;
   whole = sym lines.whole_is;
 }
+
+pub empty_in_order : (opt : Bool) (before : List Atoms) (S : Atoms) → length before ≡ 0 → IsInOrder opt before S
+empty_in_order opt [] S e = first_in_order opt S
+empty_in_order opt (T ∷ before) S e = absurd (omega arith)
+
+pub wrong_answer : (p : Program) (opt : Bool) (listed : List Atoms) (i : ℕ) (S : Atoms) (w : Why) → i < length listed → S ≡ get_or listed i S → AreRightAnswers p opt (take i listed) → HasAnswerFault p opt (take i listed) S w → IsWrongAnswer p opt listed w i
+wrong_answer p opt listed i S w lt is before fault = record {
+  within = lt;
+  before = before;
+  fault = subst (λ T. HasAnswerFault p opt (take i listed) T w) (is ∙ get_or_default listed i S [] lt) fault;
+}
+
+-- ---- lists that are made one after another
+pub map_more : {X Y : Type 0} (f : X → Y) (xs : List X) (i : ℕ) (d : X) (y : Y) (old new : List Y) → i < length xs → old ≡ map f (take i xs) → new ≡ old ++ y ∷ [] → y ≡ f (get_or xs i d) → new ≡ map f (take (i + 1) xs)
+map_more f xs i d y old new lt e made is =
+    made ∙ ap (λ ys. ys ++ y ∷ []) e ∙ ap (λ z. map f (take i xs) ++ z ∷ []) is ∙ sym (map-append f (take i xs) (get_or xs i d ∷ [])) ∙ ap (map f) (sym (take_more xs i d lt))
+
+pub map_whole : {X Y : Type 0} (f : X → Y) (xs zs : List X) (i : ℕ) (made : List Y) → length xs ≤ i → xs ≡ zs → made ≡ map f (take i xs) → made ≡ map f zs
+map_whole f xs zs i made le same e = e ∙ ap (map f) (take_all i xs le ∙ same)
+
+pub more_behind : {X Y : Type 0} (f : X → Y) (xs : List X) (i : ℕ) (d : X) (y : Y) (first old new : List Y) → i < length xs → old ≡ first ++ map f (take i xs) → new ≡ old ++ y ∷ [] → y ≡ f (get_or xs i d) → new ≡ first ++ map f (take (i + 1) xs)
+more_behind f xs i d y first old new lt e made is =
+    made ∙ ap (λ ys. ys ++ y ∷ []) e ∙ append_assoc first (map f (take i xs)) (y ∷ []) ∙ ap (λ zs. first ++ zs) (map_more f xs i d y (map f (take i xs)) (map f (take i xs) ++ y ∷ []) lt refl refl is)
+
+pub whole_behind : {X Y : Type 0} (f : X → Y) (xs : List X) (i : ℕ) (first made : List Y) → length xs ≤ i → made ≡ first ++ map f (take i xs) → made ≡ first ++ map f xs
+whole_behind f xs i first made le e = e ∙ ap (λ zs. first ++ map f zs) (take_all i xs le)
+
+pub own_atom : (p : Program) (L : List ℕ) (i : ℕ) → L ≡ atoms_of p → i < length L → has (atoms_of p) (get_or L i 0) ≡ true
+own_atom p L i e lt =
+    let inside : i < length (atoms_of p) = let n = ap length e in omega (arith, n, lt) in
+    ap (λ M. has (atoms_of p) (get_or M i 0)) e ∙ at_each (λ a. has (atoms_of p) a ≡ true) (atoms_of p) i 0 (HasAll-itself (atoms_of p)) inside
+
+-- ---- the fault of a line
+pub wrong_line : (p : Program) (k now : Known) (lines : List Line) (i : ℕ) (l : Line) (w : Why) → i < length lines → l ≡ get_or lines i l → now ≡ known_after k (take i lines) → AreConfirmed p k (take i lines) → HasLineFault p now l w → IsWrongLine p k lines w i
+wrong_line p k now lines i l w lt is e before fault = record {
+  within = lt;
+  before = before;
+  fault = subst (λ m. HasLineFault p (known_after k (take i lines)) m w) (is ∙ get_or_default lines i l no_line lt) (subst (λ m. HasLineFault p m l w) e fault);
+}
+
+-- ---- the bound at first
+pub no_bound : (p : Program) (opt : Bool) (listed : List Atoms) → length listed ≡ 0 → (let o : Option (List ℤ) = None in o) ≡ cond opt (bound_of p listed) None
+no_bound p true [] e = refl
+no_bound p false [] e = refl
+no_bound p opt (S ∷ listed) e = absurd (omega arith)
+
+pub first_bound : (p : Program) (opt : Bool) (listed : List Atoms) (S : Atoms) (c : List ℤ) → opt ≡ true → 0 < length listed → S ≡ get_or listed 0 S → c ≡ cost p S → Some c ≡ cond opt (bound_of p listed) None
+first_bound p opt [] S c e lt is f = absurd (omega arith)
+first_bound p opt (T ∷ listed) S c e lt is f = ap (λ d. let o : Option (List ℤ) = Some d in o) (f ∙ ap (cost p) is) ∙ sym (ap (λ b. cond b (bound_of p (T ∷ listed)) None) e)
+
+-- ---- the whole, where the proof's lists are read as slices
+pub judged_answer : (p : Program) (proof : Proof) (L : List Atoms) (w : Why) (i n : ℕ) → L ≡ proof.answers → IsWrongAnswer p proof.opt L w i → n ≡ i + 3 → IsJudged p proof (judgement.No w n)
+judged_answer p proof L w i n e h is = inl (record { place = i; wrong = subst (λ M. IsWrongAnswer p proof.opt M w i) e h; is = is })
+
+pub judged_line : (p : Program) (proof : Proof) (L : List Atoms) (Ls : List Line) (k : Known) (w : Why) (i n : ℕ) → L ≡ proof.answers → Ls ≡ proof.lines → AreRightAnswers p proof.opt L → k ≡ known_at_first p proof → IsWrongLine p k Ls w i → n ≡ length L + i + 3 → IsJudged p proof (judgement.No w n)
+judged_line p proof L Ls k w i n e f answers known h is = inr (inl (record {
+  answers = subst (AreRightAnswers p proof.opt) e answers;
+  place = i;
+  wrong = subst (λ Ms. IsWrongLine p (known_at_first p proof) Ms w i) f (subst (λ m. IsWrongLine p m Ls w i) known h);
+  is = is ∙ ap (λ M. length M + i + 3) e;
+}))
+
+pub judged_not_whole : (p : Program) (proof : Proof) (L : List Atoms) (Ls : List Line) (k : Known) (n : ℕ) → L ≡ proof.answers → Ls ≡ proof.lines → AreRightAnswers p proof.opt L → k ≡ known_at_first p proof → AreRightLines p k Ls false → n ≡ length L + length Ls + 3 → IsJudged p proof (judgement.No why.NotWhole n)
+judged_not_whole p proof L Ls k n e f answers known h is = inr (inr (record {
+  answers = subst (AreRightAnswers p proof.opt) e answers;
+  lines = subst (λ Ms. AreRightLines p (known_at_first p proof) Ms false) f (subst (λ m. AreRightLines p m Ls false) known h);
+  why = refl;
+  is = is ∙ ap (λ M. length M + length Ls + 3) e ∙ ap (λ Ms. length proof.answers + length Ms + 3) f;
+}))
+
+pub judged_right : (p : Program) (proof : Proof) (L : List Atoms) (Ls : List Line) (k : Known) → L ≡ proof.answers → Ls ≡ proof.lines → AreRightAnswers p proof.opt L → k ≡ known_at_first p proof → AreRightLines p k Ls true → IsRight p proof
+judged_right p proof L Ls k e f answers known h =
+    is_right p proof k (subst (AreRightAnswers p proof.opt) e answers) known (subst (λ Ms. AreRightLines p k Ms true) f h)

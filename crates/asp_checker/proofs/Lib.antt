@@ -9,8 +9,8 @@ pub mod SweepLaws
 pub mod BlockLaws
 pub mod CloseLaws
 pub mod BodyLaws
-pub mod FoundLaws
-pub mod CompletedLaws
 pub mod AssumeLaws
-pub mod JudgeLaws
 pub mod BoundLaws
+pub mod CompletedLaws
+pub mod FoundLaws
+pub mod JudgeLaws

@@ -5,6 +5,6 @@ pub mod Steps
 pub mod Looks
 pub mod Sweeps
 pub mod Blocks
+pub mod Assuming
 pub mod Loops
 pub mod Judging
-pub mod Assuming

@@ -42,6 +42,37 @@ fn would_be_blocked(
     blocked
 }
 
+// The value that is implied for a variable without one.
+fn implied_of(
+    compiled: &Compiled,
+    bound: &Option<Bound>,
+    values: &mut Assign,
+    var: u32,
+) -> Option<Lit>
+    requires size { length values.old ≡ var_count compiled.now + 1 }
+    requires levels { HasLevels compiled.now bound.now }
+    requires positive { 0 < var }
+    requires of { var ≤ var_count compiled.now }
+    requires no_value { value_of values.old var ≡ None }
+    ensures same { values.new ≡ values.old }
+    ensures implied { MatchOption result
+        ((b : Bool) → is_blocked compiled.now (cost_of_bound bound.now) (slice_set values.old var (Some b)) ≡ false)
+        (IsImplied compiled.now (cost_of_bound bound.now) values.old) }
+{
+    let _vars = compiled.vars();
+    let held = Lit::new(var, true);
+    let failed = held.complement();
+    let is_false = would_be_blocked(compiled, bound, values, held);
+    if is_false {
+        return Some(failed);
+    }
+    let is_true = would_be_blocked(compiled, bound, values, failed);
+    if is_true {
+        return Some(held);
+    }
+    None
+}
+
 // The variable's value that is implied, if it has none.
 fn implied_at(
     compiled: &Compiled,
@@ -58,17 +89,10 @@ fn implied_at(
         (value_of values.old var ≡ None → (b : Bool) → is_blocked compiled.now (cost_of_bound bound.now) (slice_set values.old var (Some b)) ≡ false)
         (IsImplied compiled.now (cost_of_bound bound.now) values.old) }
 {
-    let _vars = compiled.vars();
-    if values.value(var).is_some() {
-        return None;
+    match values.value(var) {
+        Some(_) => None,
+        None => implied_of(compiled, bound, values, var),
     }
-    if would_be_blocked(compiled, bound, values, Lit::new(var, true)) {
-        return Some(Lit::new(var, false));
-    }
-    if would_be_blocked(compiled, bound, values, Lit::new(var, false)) {
-        return Some(Lit::new(var, true));
-    }
-    None
 }
 
 /// A value that the weight bodies or the bound imply, if there is one. It tries each variable without a value, and reads
@@ -82,9 +106,8 @@ pub fn implied(compiled: &Compiled, bound: &Option<Bound>, values: &mut Assign) 
         (IsImplied compiled.now (cost_of_bound bound.now) values.old) }
 {
     for at in 0..compiled.vars() {
-        let found = implied_at(compiled, bound, values, at + 1);
-        if found.is_some() {
-            return found;
+        if let Some(lit) = implied_at(compiled, bound, values, at + 1) {
+            return Some(lit);
         }
     }
     None

@@ -1,9 +1,9 @@
 //! The bound: only answers that cost less than a cost are looked for.
-ghost use Rattle.std.specs.Prelude.{◌≡◌, ◌+◌, ◌*◌, ◌^◌, ◌<◌, ◌≤◌, ◌≤ℤ◌, pos, neg_ℤ, not, Some, IfOk, map, length};
+ghost use Rattle.std.specs.Prelude.{◌≡◌, ◌+◌, ◌*◌, ◌^◌, ◌<◌, ◌≤ℤ◌, ◌+ℤ◌, pos, neg_ℤ, not, Some, IfOk, map, length};
 ghost use Rattle.std.specs.List.{AllByRecursion};
 ghost use Rattle.asp_model.specs.Costs.{priorities, betters, cost};
 ghost use Rattle.asp_vars.specs.Numbering.{var_count};
-ghost use Rattle.asp_bound.specs.Optimism.{least};
+ghost use Rattle.asp_bound.specs.Optimism.{least, negative};
 ghost use Rattle.asp_checker.specs.Propagation.{reaches_bound};
 ghost use Rattle.asp_checker.specs.Blocks.{level_sum, AreLevels, HasLevels, cost_of_bound};
 
@@ -24,6 +24,33 @@ pub struct Bound {
     pub(crate) cost: Seq<i64>,
 }
 
+fn widened(number: i64) -> i128
+    ensures value { result ≡ number }
+    ensures low { neg_ℤ (pos (2 ^ 63)) ≤ℤ result }
+    ensures high { result ≤ℤ pos (2 ^ 63) }
+{
+    number as i128
+}
+
+fn add(sum: i128, more: i128) -> i128
+    requires low { neg_ℤ (pos (2 ^ 100)) ≤ℤ sum }
+    requires high { sum ≤ℤ pos (2 ^ 100) }
+    requires more_low { neg_ℤ (pos (2 ^ 100)) ≤ℤ more }
+    requires more_high { more ≤ℤ pos (2 ^ 100) }
+    ensures { result ≡ sum +ℤ more }
+{
+    sum + more
+}
+
+// The weight, where it is negative.
+fn negative(weight: i64) -> i128
+    ensures value { result ≡ negative weight }
+    ensures low { neg_ℤ (pos (2 ^ 63)) ≤ℤ result }
+    ensures high { result ≤ℤ pos (2 ^ 63) }
+{
+    if weight < 0 { widened(weight) } else { 0 }
+}
+
 // What a variable costs at least.
 fn least(value: Option<bool>, if_true: i64, if_false: i64) -> i128
     ensures value { result ≡ least value if_true if_false }
@@ -31,9 +58,9 @@ fn least(value: Option<bool>, if_true: i64, if_false: i64) -> i128
     ensures high { result ≤ℤ pos (2 ^ 64) }
 {
     match value {
-        Some(true) => if_true as i128,
-        Some(false) => if_false as i128,
-        None => if_true.min(0) as i128 + if_false.min(0) as i128,
+        Some(true) => widened(if_true),
+        Some(false) => widened(if_false),
+        None => add(negative(if_true), negative(if_false)),
     }
 }
 
@@ -48,7 +75,8 @@ fn level_sum(values: &Assign, weights: &[i64], vars: u32) -> i128
     for at in 0..vars {
         let var = at + 1;
         let place = 2 * var as usize;
-        sum += least(values.value(var), weights[place], weights[place + 1]);
+        let more = least(values.value(var), weights[place], weights[place + 1]);
+        sum = add(sum, more);
     }
     sum
 }
@@ -63,7 +91,7 @@ fn reaches(values: &Assign, levels: &[Seq<i64>], cost: &[i64], vars: u32) -> boo
 {
     for i in 0..levels.len() {
         let sum = level_sum(values, levels[i].as_slice(), vars);
-        let limit = cost[i] as i128;
+        let limit = widened(cost[i]);
         if sum < limit {
             return false;
         }
@@ -91,16 +119,28 @@ pub fn reaches_bound(compiled: &Compiled, bound: &Option<Bound>, values: &Assign
     }
 }
 
+// The weights at each of these priorities.
+fn levels_of(
+    alloc: Global,
+    compiled: &Compiled,
+    list: &[i32],
+) -> Result<Vec<Seq<i64>>, AllocError>
+    ensures { IfOk result (λ l. AreLevels compiled.now list.now l.items) }
+{
+    let mut levels = Vec::new(alloc);
+    for priority in list {
+        let weights = weights_at(alloc, compiled, *priority)?;
+        levels.push(Seq::from_vec(weights))?;
+    }
+    Ok(levels)
+}
+
 // The weights at each priority, the greatest first.
 fn levels(alloc: Global, compiled: &Compiled) -> Result<Vec<Seq<i64>>, AllocError>
     ensures { IfOk result (λ l. AreLevels compiled.now (priorities compiled.now.minimize) l.items) }
 {
-    let mut levels = Vec::new(alloc);
     let list = priorities(alloc, compiled.program().minimize.as_slice())?;
-    for priority in &list {
-        levels.push(Seq::from_vec(weights_at(alloc, compiled, *priority)?))?;
-    }
-    Ok(levels)
+    levels_of(alloc, compiled, list.as_slice())
 }
 
 impl Bound {

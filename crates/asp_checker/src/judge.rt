@@ -1,4 +1,5 @@
 //! The judgement of a proof: that it is right, or the first line that isn't, and why.
+#![tactic(none)]
 ghost use Rattle.std.specs.Prelude.{◌≡◌, ◌++◌, true, false, if◌then◌else◌, IfOk, OnOk, MatchOption, AllPairs, Contains, map, None};
 ghost use Rattle.std.specs.List.{AllByRecursion};
 ghost use Rattle.asp_model.specs.Sets.{IsBefore};
@@ -75,13 +76,15 @@ fn is_in_order(opt: bool, before: &[Interp], set: &Interp) -> bool
     ensures yes { result ≡ true → IsInOrder opt before.now set.now }
     ensures no { result ≡ false → IsInOrder opt before.now set.now → ⊥ }
 {
-    if before.is_empty() {
+    let count = before.len();
+    if count == 0 {
         return true;
     }
     if opt {
         return false;
     }
-    comes_after(&before[before.len() - 1], set)
+    let at = count - 1;
+    comes_after(&before[at], set)
 }
 
 // Whether the set is an answer.
@@ -89,11 +92,13 @@ fn is_answer(alloc: Global, compiled: &Compiled, set: &Interp) -> Result<bool, A
     ensures yes { IfOk result (λ yes. yes ≡ true → Contains (answers compiled.now) set.now) }
     ensures no { IfOk result (λ yes. yes ≡ false → Contains (answers compiled.now) set.now → ⊥) }
 {
-    let _program = compiled.program();
-    if !all_hold(set, compiled.program().assumptions.as_slice()) {
+    let program = compiled.program();
+    let assumptions = program.assumptions.as_slice();
+    if !all_hold(set, assumptions) {
         return Ok(false);
     }
-    match check(alloc, compiled, set)? {
+    let verdict = check(alloc, compiled, set)?;
+    match verdict {
         Verdict::Stable => Ok(true),
         Verdict::Broken(_) => Ok(false),
         Verdict::Unfounded(_) => Ok(false),
@@ -117,7 +122,8 @@ fn fault_of_answer(
     if !are_atoms(compiled, set) {
         return Ok(Some(Why::Literal));
     }
-    if !is_answer(alloc, compiled, set)? {
+    let member = is_answer(alloc, compiled, set)?;
+    if !member {
         return Ok(Some(Why::Member));
     }
     Ok(None)
@@ -133,8 +139,11 @@ fn fault_of_answers(
     ensures { IfOk result (AreAnswersJudged compiled.now opt listed.now) }
 {
     for at in 0..listed.len() {
-        if let Some(why) = fault_of_answer(alloc, compiled, opt, &listed[..at], &listed[at])? {
-            return Ok(Some((why, at)));
+        let set = &listed[at];
+        let fault = fault_of_answer(alloc, compiled, opt, &listed[..at], set)?;
+        match fault {
+            Some(why) => return Ok(Some((why, at))),
+            None => {}
         }
     }
     Ok(None)
@@ -199,9 +208,10 @@ fn known_at_first(
     ensures of { IfOk result (λ rows. AllByRecursion (AreOf compiled.now) rows.items) }
 {
     let mut rows = completed(alloc, compiled)?;
-    if !opt {
-        add_answers(alloc, &mut rows, compiled, listed)?;
+    if opt {
+        return Ok(rows);
     }
+    add_answers(alloc, &mut rows, compiled, listed)?;
     Ok(rows)
 }
 
@@ -218,10 +228,13 @@ fn bound_at_first(
     if !opt {
         return Ok(None);
     }
-    match listed.first() {
-        None => Ok(None),
-        Some(set) => Ok(Some(Bound::of(alloc, compiled, set)?)),
+    let count = listed.len();
+    if count == 0 {
+        return Ok(None);
     }
+    let set = &listed[0];
+    let bound = Bound::of(alloc, compiled, set)?;
+    Ok(Some(bound))
 }
 
 // ---- lines
@@ -313,20 +326,16 @@ fn judge_lines(
     let mut whole = false;
     for at in 0..lines.len() {
         let line = &lines[at];
-        let Some(lits) = literals(alloc, compiled, line)? else {
+        let found = literals(alloc, compiled, line)?;
+        let Some(lits) = found else {
             return Ok(Outcome::Wrong(Why::Literal, at));
         };
-        if let Some(why) = fault_of_line(
-            alloc,
-            compiled,
-            rows.as_slice(),
-            bound,
-            line,
-            lits.as_slice(),
-        )? {
-            return Ok(Outcome::Wrong(why, at));
+        let fault = fault_of_line(alloc, compiled, &rows, bound, line, &lits)?;
+        match fault {
+            Some(why) => return Ok(Outcome::Wrong(why, at)),
+            None => {}
         }
-        let closing = closes(assumptions.as_slice(), line, lits.as_slice());
+        let closing = closes(&assumptions, line, &lits);
         whole = whole || closing;
         rows.push(Seq::from_vec(lits))?;
     }
@@ -342,12 +351,15 @@ pub fn judge(alloc: Global, compiled: &Compiled, proof: &Proof) -> Result<Judgem
 {
     let listed = proof.answers.as_slice();
     let lines = proof.lines.as_slice();
-    if let Some((why, at)) = fault_of_answers(alloc, compiled, proof.opt, listed)? {
-        return Ok(Judgement::No(why, at + 3));
+    let fault = fault_of_answers(alloc, compiled, proof.opt, listed)?;
+    match fault {
+        Some((why, at)) => return Ok(Judgement::No(why, at + 3)),
+        None => {}
     }
     let rows = known_at_first(alloc, compiled, proof.opt, listed)?;
     let bound = bound_at_first(alloc, compiled, proof.opt, listed)?;
-    match judge_lines(alloc, compiled, rows, &bound, lines)? {
+    let outcome = judge_lines(alloc, compiled, rows, &bound, lines)?;
+    match outcome {
         Outcome::Wrong(why, at) => Ok(Judgement::No(why, listed.len() + at + 3)),
         Outcome::Right(false) => Ok(Judgement::No(
             Why::NotWhole,

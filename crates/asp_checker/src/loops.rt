@@ -4,7 +4,7 @@ ghost use Rattle.std.specs.List.{list_any, list_all};
 ghost use Rattle.asp_model.specs.Sets.{has, set_of};
 ghost use Rattle.asp_model.specs.Models.{atoms_of, rules_in_force, head_atoms};
 ghost use Rattle.asp_vars.specs.Numbering.{bodies_of, nth_body, nth_rule, var_of_atom};
-ghost use Rattle.asp_vars.specs.Tabled.{bound_of};
+ghost use Rattle.asp_vars.specs.Tabled.{bound_of, form_literals, form_weights};
 ghost use Rattle.asp_loop.specs.Weighing.{AreVarsOf, is_within, is_kept, weigh};
 ghost use Rattle.asp_checker.specs.Lines.{is_answered, IsLoop};
 ghost use Rattle.asp_checker.specs.Loops.{is_answered_rule, has_head};
@@ -72,7 +72,8 @@ fn reaches(vars: &Interp, nogood: &[Lit], lits: &[Lit], weights: &[i64], bound: 
     false
 }
 
-fn is_weight_body_answered(
+// Whether a weight body is reached from outside of the set.
+fn is_reached(
     compiled: &Compiled,
     vars: &Interp,
     nogood: &[Lit],
@@ -81,13 +82,12 @@ fn is_weight_body_answered(
 ) -> bool
     requires body { body < length (bodies_of compiled.now) }
     requires weighted { bound_of (nth_body compiled.now body) ≡ Some bound }
-    ensures { (set : List ℕ) → AreVarsOf compiled.now set vars.now → result ≡ is_answered compiled.now set nogood.now (nth_body compiled.now body) }
+    ensures { result ≡ int_le bound (weigh (is_kept vars.now nogood.now) (form_literals compiled.now (nth_body compiled.now body)) (form_weights (nth_body compiled.now body))) }
 {
     let _program = compiled.program();
     let lits = compiled.literals(body);
     let weights = compiled.weights(body);
-    let is_false = stands(nogood, Lit::new(compiled.body_var(body), false));
-    is_false || !reaches(vars, nogood, lits, weights, bound)
+    reaches(vars, nogood, lits, weights, bound)
 }
 
 // Whether the body is false, or can't hold from outside of the set.
@@ -95,13 +95,14 @@ fn is_answered(compiled: &Compiled, vars: &Interp, nogood: &[Lit], body: usize) 
     requires { body < length (bodies_of compiled.now) }
     ensures { (set : List ℕ) → AreVarsOf compiled.now set vars.now → result ≡ is_answered compiled.now set nogood.now (nth_body compiled.now body) }
 {
+    let var = compiled.body_var(body);
+    let is_false = stands(nogood, Lit::new(var, false));
+    if is_false {
+        return true;
+    }
     match compiled.bound(body) {
-        Some(bound) => is_weight_body_answered(compiled, vars, nogood, body, bound),
-        None => {
-            let within = is_some_within(vars, compiled.literals(body));
-            let is_false = stands(nogood, Lit::new(compiled.body_var(body), false));
-            is_false || within
-        }
+        Some(bound) => !is_reached(compiled, vars, nogood, body, bound),
+        None => is_some_within(vars, compiled.literals(body)),
     }
 }
 
@@ -126,10 +127,13 @@ fn is_answered_rule(
     requires vars { AreVarsOf compiled.now set.now vars.now }
     ensures { result ≡ is_answered_rule compiled.now set.now nogood.now (nth_rule compiled.now rule) }
 {
-    if !is_some_inside(set, &compiled.rule(rule).head) {
+    let inside = is_some_inside(set, &compiled.rule(rule).head);
+    if !inside {
         return true;
     }
-    let body = compiled.rule_body(rule) as usize - compiled.atom_count() - 1;
+    let var = compiled.rule_body(rule);
+    let atoms = compiled.atom_count();
+    let body = var as usize - atoms - 1;
     is_answered(compiled, vars, nogood, body)
 }
 
@@ -170,9 +174,11 @@ pub fn is_loop(
     ensures no { IfOk result (λ yes. yes ≡ false → IsLoop compiled.now set.now nogood.now → ⊥) }
 {
     let atoms = set.as_slice();
-    if !has_head(compiled, atoms, nogood) {
+    let headed = has_head(compiled, atoms, nogood);
+    if !headed {
         return Ok(false);
     }
     let vars = vars_of(alloc, compiled, atoms)?;
-    Ok(are_answered(compiled, set, &vars, nogood))
+    let answered = are_answered(compiled, set, &vars, nogood);
+    Ok(answered)
 }
