@@ -112,7 +112,7 @@ all_not_at q (x ∷ xs) (suc i) d lt e = both (q x) (list_all q xs) (all_not_at 
     both false b h = refl
 
 pub all_more : {X : Type 0} (q : X → Bool) (xs : List X) (i : ℕ) (d : X) → i < length xs → list_all q (take i xs) ≡ true → q (get_or xs i d) ≡ true → list_all q (take (i + 1) xs) ≡ true
-all_more q xs i d lt before now = ap (list_all q) (take_more xs i d lt) ∙ push (take i xs) (get_or xs i d) before now
+all_more {X = X} q xs i d lt before now = ap (list_all q) (take_more xs i d lt) ∙ push (take i xs) (get_or xs i d) before now
   where
     push : (ys : List X) (y : X) → list_all q ys ≡ true → q y ≡ true → list_all q (ys ++ y ∷ []) ≡ true
     push [] y a b = and_from (q y) true b refl

@@ -11,6 +11,4 @@ pub mod CloseLaws
 pub mod BodyLaws
 pub mod AssumeLaws
 pub mod BoundLaws
-pub mod CompletedLaws
 pub mod FoundLaws
-pub mod JudgeLaws

@@ -7,4 +7,3 @@ pub mod Sweeps
 pub mod Blocks
 pub mod Assuming
 pub mod Loops
-pub mod Judging
