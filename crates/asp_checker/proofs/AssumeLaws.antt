@@ -1,10 +1,10 @@
 -- Literals that are assumed one after another.
-use Rattle.std.proofs.Common.{◌≡◌, ◌≢◌, ℕ, zero, suc, ◌+◌, ◌<◌, ◌≤◌, Bool, true, false, not, ◌&&◌, eqb, List, [], ◌∷◌, ◌++◌, length, take, get_or, refl, sym, ap, ◌∙◌, subst, arith, Option, Some, None, set, replicate, get_or-set_same, get_or-set_other}
+use Rattle.std.proofs.Common.{◌≡◌, ◌≢◌, ℕ, zero, suc, ◌+◌, ◌<◌, ◌≤◌, Bool, true, false, not, eqb, List, [], ◌∷◌, ◌++◌, length, take, get_or, refl, sym, ap, ◌∙◌, subst, arith, Option, Some, None, set, replicate, get_or-set_same, get_or-set_other}
 use Rattle.std.specs.Prelude.{All}
-use Rattle.std.specs.List.{list_all, AllByRecursion}
+use Rattle.std.specs.List.{list_all}
 use Rattle.std.specs.Bool.{beq}
 use Rattle.std.proofs.lemmas.Bool.{false≢true, and_parts, and_from, eqb-true, eq-eqb}
-use Rattle.std.proofs.lemmas.List.{take_all, take_more, length-set, get_or-replicate}
+use Rattle.std.proofs.lemmas.List.{take_all, take_more, length-set}
 use Rattle.std.proofs.lemmas.List.Elements.{All-from_recursion}
 use Rattle.asp_model.specs.declared.program.Program.{Program}
 use Rattle.asp_model.proofs.MemberLaws.{each_weaker}
@@ -14,7 +14,7 @@ use Rattle.asp_checker.specs.Propagation.{Known, IsPropagated, LeadsToConflict}
 use Rattle.asp_checker.specs.Lines.{IsOf, AreOf}
 use Rattle.asp_checker.specs.Steps.{AreWithin, Follow}
 use Rattle.asp_checker.specs.Assuming.{IsAssumed, AreHeld, AreAssumed}
-use Rattle.asp_checker.proofs.StepLaws.{value-held, held-value, held-within, follow-more}
+use Rattle.asp_checker.proofs.StepLaws.{value-held, held-value, held-within}
 
 at_held : (y : List (Option Bool)) (n : List Literal) (i : ℕ) (l : Literal) → i < length n → l ≡ get_or n i l → list_all (holds_in y) n ≡ true → holds_in y l ≡ true
 at_held y [] i l lt e h = absurd (omega arith)

@@ -1,12 +1,12 @@
 -- What weight bodies and a bound say with more values.
-use Rattle.std.proofs.Common.{◌≡◌, ◌≢◌, ℕ, zero, suc, ◌+◌, ◌<◌, ◌≤◌, Bool, true, false, not, cond, ◌&&◌, ◌||◌, eqb, List, [], ◌∷◌, map, length, refl, sym, ap, ◌∙◌, subst, arith, Option, Some, None, get_or, set, ◌⊎◌, inl, inr, get_or-set_same, get_or-set_other}
-use Rattle.std.specs.Prelude.{ℤ, pos, ◌+ℤ◌, ◌≤ℤ◌, int_lt, int_le}
+use Rattle.std.proofs.Common.{◌≡◌, ◌≢◌, ℕ, zero, suc, ◌+◌, ◌<◌, ◌≤◌, Bool, true, false, not, cond, ◌&&◌, ◌||◌, eqb, List, [], ◌∷◌, map, length, refl, sym, ap, ◌∙◌, subst, arith, Option, Some, None, get_or, set, inl, inr, get_or-set_same, get_or-set_other}
+use Rattle.std.specs.Prelude.{ℤ, pos, ◌≤ℤ◌, int_lt, int_le}
 use Rattle.std.specs.Option.{is_none}
 use Rattle.std.specs.List.{list_all, list_any, AllByRecursion}
 use Rattle.std.specs.Bool.{beq}
 use Rattle.std.proofs.lemmas.Bool.{false≢true, and_parts, and_from, or_cases, or_parts, or_left, or_right, eqb-true, eq-eqb, cases_lt}
 use Rattle.std.proofs.lemmas.Int.{ints}
-use Rattle.std.proofs.lemmas.List.{length-map, length-set, set-set, set-get_or}
+use Rattle.std.proofs.lemmas.List.{length-map, set-set, set-get_or}
 use Rattle.std.proofs.lemmas.List.Sums.{sum_by-set}
 use Rattle.asp_model.specs.declared.program.Body.{Body}
 use Rattle.asp_model.specs.declared.program.Body.TheVariants as body
@@ -14,9 +14,9 @@ use Rattle.asp_model.specs.declared.program.Program.{Program}
 use Rattle.asp_model.specs.Sound.{IsSound}
 use Rattle.asp_model.specs.Costs.{priorities, betters}
 use Rattle.asp_model.proofs.MemberLaws.{list_any-weaker}
-use Rattle.asp_vars.specs.Literals.{Literal, T, F, complement, value_of, agrees, holds_in}
-use Rattle.asp_vars.specs.Numbering.{bodies_of, nth_body, var_count, var_of_form}
-use Rattle.asp_bound.specs.Optimism.{weight_at, negative, least, least_at, sum_to, optimistic_at, optimistic}
+use Rattle.asp_vars.specs.Literals.{Literal, T, F, value_of, agrees, holds_in}
+use Rattle.asp_vars.specs.Numbering.{bodies_of, var_count, var_of_form}
+use Rattle.asp_bound.specs.Optimism.{weight_at, least, least_at, optimistic_at, optimistic}
 use Rattle.asp_bound.specs.Reach.{reach}
 use Rattle.asp_bound.proofs.SumLaws.{sum_to-le}
 use Rattle.asp_bound.proofs.CostLaws.{least-rise}
@@ -26,8 +26,8 @@ use Rattle.asp_checker.specs.Propagation.{Known, may_hold, weight_by, is_broken,
 use Rattle.asp_checker.specs.Steps.{AreWithin, Follow, Forced}
 use Rattle.asp_checker.specs.Blocks.{is_blocked, IsImplied, AreFree}
 use Rattle.asp_checker.specs.Sweeps.{open_count}
-use Rattle.asp_checker.proofs.StepLaws.{value-held, held-value, held-within}
-use Rattle.asp_checker.proofs.WeightLaws.{low-more, high-less, within-set, within-then, reached, missed}
+use Rattle.asp_checker.proofs.StepLaws.{held-within}
+use Rattle.asp_checker.proofs.WeightLaws.{low-more, high-less, reached, missed}
 
 -- ---- more values
 broken-more : (p : Program) (x y : List (Option Bool)) (b : Body) → AreItems (form_items b) → AreWithin x y → is_broken p x b ≡ true → is_broken p y b ≡ true
@@ -40,11 +40,11 @@ broken-more p x y (body.AtLeast c items) weighted within e =
       | inl h ↦ (
           let parts = and_parts (holds_in x (T v)) (int_lt (weight_by (may_hold x) p items) c) h in
           or_left up down (and_from (holds_in y (T v)) (int_lt (weight_by (may_hold y) p items) c) (held-within x y (T v) within parts.0)
-              (missed c (weight_by (may_hold x) p items) (weight_by (may_hold y) p items) parts.1 (high-less p x y items weighted within))))
+          (missed c (weight_by (may_hold x) p items) (weight_by (may_hold y) p items) parts.1 (high-less p x y items weighted within))))
       | inr h ↦ (
           let parts = and_parts (holds_in x (F v)) (int_le c (weight_by (holds_in x) p items)) h in
           or_right up down (and_from (holds_in y (F v)) (int_le c (weight_by (holds_in y) p items)) (held-within x y (F v) within parts.0)
-              (reached c (weight_by (holds_in x) p items) (weight_by (holds_in y) p items) parts.1 (low-more p x y items weighted within))))
+          (reached c (weight_by (holds_in x) p items) (weight_by (holds_in y) p items) parts.1 (low-more p x y items weighted within))))
     ]
 
 each_at : {X : Type 0} (P : X → Type 0) (xs : List X) (d : X) → ((j : ℕ) → j < length xs → P (get_or xs j d)) → AllByRecursion P xs
@@ -85,7 +85,7 @@ reaches-more p (Some c) x y within e =
     let qs : List ℤ = priorities p.minimize in
     let met = some_of (reach (optimistic p x) c) (sym (betters-reach (optimistic p x) c) ∙ undone (betters (optimistic p x) c) e) in
     ap not (reach-above (optimistic p x) (optimistic p y) c met.0 met.1 (length-map qs (optimistic_at p x) ∙ sym (length-map qs (optimistic_at p y)))
-        (λ j lt. map-le (optimistic_at p x) (optimistic_at p y) (λ q. optimistic_at-more p x y q within) qs j))
+    (λ j lt. map-le (optimistic_at p x) (optimistic_at p y) (λ q. optimistic_at-more p x y q within) qs j))
 
 pub blocked-more : (p : Program) (bound : Option (List ℤ)) (x y : List (Option Bool)) → IsSound p → AreWithin x y → is_blocked p bound x ≡ true → is_blocked p bound y ≡ true
 blocked-more p bound x y sound within e = elim (or_cases (list_any (is_broken p x) (bodies_of p)) (reaches_bound p bound x) e) [
@@ -202,12 +202,14 @@ pub free_first : (p : Program) (bound : Option (List ℤ)) (x : List (Option Boo
 free_first p bound x = record { free = λ v b i le none. absurd (omega arith) }
 
 pub free_next : (p : Program) (bound : Option (List ℤ)) (z y : List (Option Bool)) (n : ℕ) → y ≡ z → AreFree p bound z n → (value_of z (n + 1) ≡ None → (b : Bool) → is_blocked p bound (set z (n + 1) (Some b)) ≡ false) → AreFree p bound y (n + 1)
-free_next p bound z y n e h now = subst (λ w. AreFree p bound w (n + 1)) (sym e) (record { free = λ v b i le none. elim (cases_lt v (n + 1)) [
-  | inl lt ↦ h.free v b i (omega arith) none
-  | inr past ↦ (
-      let same : v ≡ n + 1 = omega arith in
-      ap (λ u. is_blocked p bound (set z u (Some b))) same ∙ now (ap (value_of z) (sym same) ∙ none) b)
-] })
+free_next p bound z y n e h now = subst (λ w. AreFree p bound w (n + 1)) (sym e) (record {
+  free = λ v b i le none. elim (cases_lt v (n + 1)) [
+    | inl lt ↦ h.free v b i (omega arith) none
+    | inr past ↦ (
+        let same : v ≡ n + 1 = omega arith in
+        ap (λ u. is_blocked p bound (set z u (Some b))) same ∙ now (ap (value_of z) (sym same) ∙ none) b)
+  ];
+})
 
 pub free_whole : (p : Program) (bound : Option (List ℤ)) (z x : List (Option Bool)) (n : ℕ) → var_count p ≤ n → z ≡ x → AreFree p bound z n → AreFree p bound x (var_count p)
 free_whole p bound z x n le e h = subst (λ w. AreFree p bound w (var_count p)) e (record { free = λ v b i k none. h.free v b i (omega arith) none })

@@ -1,9 +1,8 @@
 -- Weight bodies as the code reads them.
-use Rattle.std.proofs.Common.{◌≡◌, ℕ, zero, suc, ◌+◌, ◌<◌, ◌≤◌, Bool, true, false, not, cond, ◌&&◌, ◌||◌, List, [], ◌∷◌, map, length, take, get_or, refl, sym, ap, ◌∙◌, subst, arith, Option, Some, None}
+use Rattle.std.proofs.Common.{◌≡◌, ℕ, zero, suc, ◌+◌, ◌<◌, ◌≤◌, Bool, true, false, not, cond, ◌&&◌, ◌||◌, List, [], ◌∷◌, map, length, take, get_or, refl, sym, ap, ◌∙◌, arith, Option, Some, None}
 use Rattle.std.specs.Prelude.{ℤ, pos, ◌+ℤ◌, int_lt, int_le, All}
 use Rattle.std.specs.List.{list_any}
-use Rattle.std.specs.Bool.{beq}
-use Rattle.std.proofs.lemmas.Bool.{false≢true, or_left, or_right}
+use Rattle.std.proofs.lemmas.Bool.{or_left, or_right}
 use Rattle.std.proofs.lemmas.Int.{ints}
 use Rattle.std.proofs.lemmas.List.{take_all}
 use Rattle.std.proofs.lemmas.List.Folds.{list_any_more}
@@ -11,13 +10,11 @@ use Rattle.std.proofs.lemmas.List.Elements.{All-weaker}
 use Rattle.asp_model.specs.declared.program.Body.{Body}
 use Rattle.asp_model.specs.declared.program.Body.TheVariants as body
 use Rattle.asp_model.specs.declared.program.Program.{Program}
-use Rattle.asp_model.specs.Models.{atoms_of}
 use Rattle.asp_vars.specs.Literals.{Literal, T, F, agrees, value_of, holds_in}
 use Rattle.asp_vars.specs.Numbering.{var_count, var_of_form, literal_of}
 use Rattle.asp_vars.specs.Tabled.{bound_of, form_literals, form_weights, IsAtomVar}
 use Rattle.asp_loop.specs.Weighing.{weigh}
 use Rattle.asp_checker.specs.Propagation.{may_hold, weight_by, is_broken}
-use Rattle.asp_checker.specs.Blocks.{counts}
 
 -- ---- some of a list
 pub any_at : {X : Type 0} (p : X → Bool) (xs : List X) (i : ℕ) (d : X) → i < length xs → p (get_or xs i d) ≡ true → list_any p xs ≡ true

@@ -1,5 +1,5 @@
 -- A bound by the weights at each priority.
-use Rattle.std.proofs.Common.{◌≡◌, ℕ, zero, suc, ◌+◌, ◌*◌, ◌^◌, ◌<◌, ◌≤◌, Bool, true, false, not, List, [], ◌∷◌, ◌++◌, map, length, take, drop, get_or, refl, sym, ap, ◌∙◌, subst, arith, Option, Some, None, drop-cons, add-one}
+use Rattle.std.proofs.Common.{◌≡◌, ℕ, zero, suc, ◌+◌, ◌*◌, ◌<◌, ◌≤◌, Bool, true, false, not, List, [], ◌∷◌, ◌++◌, map, length, take, drop, get_or, refl, sym, ap, ◌∙◌, subst, arith, Option, Some, drop-cons, add-one}
 use Rattle.std.specs.Prelude.{ℤ, pos, ◌+ℤ◌, ◌≤ℤ◌, ◌<ℤ◌}
 use Rattle.std.specs.List.{AllByRecursion}
 use Rattle.std.specs.Ordering.{int_cmp, is_lt, ordering_then}
@@ -11,15 +11,15 @@ use Rattle.std.proofs.lemmas.List.{take_more, length-map, get_or-map}
 use Rattle.asp_model.specs.declared.program.Program.{Program}
 use Rattle.asp_model.specs.Sets.{Atoms}
 use Rattle.asp_model.specs.Costs.{priorities, betters, cost, cost_at}
-use Rattle.asp_vars.specs.Literals.{T, F, value_of}
+use Rattle.asp_vars.specs.Literals.{T, value_of}
 use Rattle.asp_vars.specs.Numbering.{var_count}
-use Rattle.asp_bound.specs.Optimism.{items_at, weight_at, least, least_at, sum_to, optimistic_at, optimistic}
+use Rattle.asp_bound.specs.Optimism.{items_at, weight_at, least, least_at, sum_to, optimistic_at}
 use Rattle.asp_bound.specs.Weights.{AreWeights}
 use Rattle.asp_bound.proofs.SumLaws.{sum_to-same}
 use Rattle.asp_bound.proofs.LevelLaws.{weight_true-is, weight_false-is}
 use Rattle.asp_checker.specs.declared.bounds.Bound.{Bound}
 use Rattle.asp_checker.specs.Propagation.{reaches_bound}
-use Rattle.asp_checker.specs.Blocks.{level_sum, AreLevels, HasLevels, cost_of_bound}
+use Rattle.asp_checker.specs.Blocks.{level_sum, AreLevels}
 
 -- ---- one priority
 level-is : (p : Program) (q : ℤ) (x : List (Option Bool)) (weights : List ℤ) → AreWeights p (items_at p.minimize q) weights → level_sum x (var_count p) weights ≡ optimistic_at p x q

@@ -1,23 +1,22 @@
 -- Steps of unit propagation, and their end.
-use Rattle.std.proofs.Common.{◌≡◌, ℕ, ◌+◌, ◌<◌, ◌≤◌, Bool, true, false, not, ◌||◌, List, [], ◌∷◌, length, refl, sym, ap, ◌∙◌, subst, arith, Option, Some, None, set}
-use Rattle.std.specs.Prelude.{ℤ}
+use Rattle.std.proofs.Common.{◌≡◌, ℕ, ◌+◌, ◌<◌, Bool, true, false, ◌||◌, List, [], ◌∷◌, length, refl, sym, ap, ◌∙◌, subst, arith, Option, Some, set}
 use Rattle.std.specs.List.{list_all, list_any, AllByRecursion}
-use Rattle.std.proofs.lemmas.Bool.{false≢true, or_parts, or_left}
+use Rattle.std.proofs.lemmas.Bool.{false≢true}
 use Rattle.std.proofs.lemmas.List.{length-set}
 use Rattle.asp_model.specs.declared.program.Program.{Program}
 use Rattle.asp_model.specs.Sound.{IsSound}
 use Rattle.asp_model.proofs.MemberLaws.{each_weaker}
-use Rattle.asp_vars.specs.Literals.{Literal, complement, value_of, holds_in}
+use Rattle.asp_vars.specs.Literals.{Literal, holds_in}
 use Rattle.asp_vars.specs.Numbering.{bodies_of, var_count}
 use Rattle.asp_vars.proofs.StandingLaws.{each_both, each_among}
 use Rattle.asp_checker.specs.declared.bounds.Bound.{Bound}
 use Rattle.asp_checker.specs.declared.nogoods.Visit.{Visit}
 use Rattle.asp_checker.specs.declared.nogoods.Visit.TheVariants as visit
-use Rattle.asp_checker.specs.Propagation.{Known, is_broken, reaches_bound, has_conflict, IsPropagated, LeadsToConflict}
+use Rattle.asp_checker.specs.Propagation.{Known, is_broken, reaches_bound, has_conflict, IsPropagated}
 use Rattle.asp_checker.specs.Lines.{IsOf, AreOf}
 use Rattle.asp_checker.specs.Looks.{IsCalm}
 use Rattle.asp_checker.specs.Steps.{AreWithin, Follow, IsKnown}
-use Rattle.asp_checker.specs.Sweeps.{AreInRange, open_count, Grows, IsNogoodOf, AreNogoodsOf, Implies, Refutes, IsSwept}
+use Rattle.asp_checker.specs.Sweeps.{AreInRange, open_count, IsNogoodOf, AreNogoodsOf, IsSwept}
 use Rattle.asp_checker.specs.Blocks.{is_blocked, known_by, cost_of_bound, Extends, AreRefuted, IsImplied, AreFree, IsFound, IsStep}
 use Rattle.asp_checker.proofs.StepLaws.{follow-more}
 use Rattle.asp_checker.proofs.WeightLaws.{within-set, within-then}

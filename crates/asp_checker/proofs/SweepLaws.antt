@@ -9,11 +9,11 @@ use Rattle.asp_vars.specs.Literals.{Literal, literal_eq, has_literal, complement
 use Rattle.asp_vars.proofs.LiteralLaws.{same_literal}
 use Rattle.asp_checker.specs.declared.nogoods.Visit.{Visit}
 use Rattle.asp_checker.specs.declared.nogoods.Visit.TheVariants as visit
-use Rattle.asp_checker.specs.Propagation.{Known, LeadsToConflict}
+use Rattle.asp_checker.specs.Propagation.{Known}
 use Rattle.asp_checker.specs.Lines.{IsOf, AreOf}
-use Rattle.asp_checker.specs.Steps.{AreWithin, Follow, IsKnown}
-use Rattle.asp_checker.specs.Looks.{IsCalm, IsUnit, IsVisited}
-use Rattle.asp_checker.specs.Sweeps.{open_count, Grows, AreInRange, IsNogoodOf, AreNogoodsOf, Implies, Refutes, IsSwept, IsSweptSoFar, later}
+use Rattle.asp_checker.specs.Steps.{AreWithin, Follow}
+use Rattle.asp_checker.specs.Looks.{IsCalm, IsVisited}
+use Rattle.asp_checker.specs.Sweeps.{open_count, Grows, AreInRange, IsNogoodOf, Implies, Refutes, IsSwept, IsSweptSoFar, later}
 use Rattle.asp_checker.proofs.StepLaws.{unit-forces, follow-more, violated-conflicts}
 use Rattle.asp_checker.proofs.LookLaws.{among_range}
 use Rattle.asp_checker.proofs.WeightLaws.{within-set, within-then}

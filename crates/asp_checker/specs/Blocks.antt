@@ -1,6 +1,6 @@
 -- What weight bodies and a bound say under values.
-use Rattle.std.specs.Prelude.{◌≡◌, ℕ, ◌+◌, ◌*◌, ◌^◌, ◌<◌, ◌≤◌, Bool, true, false, not, ◌||◌, if◌then◌else◌, List, [], ◌∷◌, map, length, Option, Some, None, ℤ, pos, int_le, slice_index_or, slice_set}
-use Rattle.std.specs.List.{list_any, AllByRecursion}
+use Rattle.std.specs.Prelude.{◌≡◌, ℕ, ◌+◌, ◌*◌, ◌<◌, ◌≤◌, Bool, true, false, not, ◌||◌, List, [], ◌∷◌, length, Option, Some, None, ℤ, pos, slice_index_or, slice_set}
+use Rattle.std.specs.List.{list_any}
 use Rattle.asp_model.specs.declared.program.Program.{Program}
 use Rattle.asp_model.specs.Costs.{priorities}
 use Rattle.asp_vars.specs.Literals.{Literal, value_of, holds_in}
@@ -11,9 +11,8 @@ use Rattle.asp_checker.specs.declared.bounds.Bound.{Bound}
 use Rattle.asp_checker.specs.declared.nogoods.Visit.{Visit}
 use Rattle.asp_checker.specs.declared.nogoods.Visit.TheVariants as visit
 use Rattle.asp_checker.specs.Propagation.{Known, may_hold, is_broken, reaches_bound, IsPropagated, LeadsToConflict}
-use Rattle.asp_checker.specs.Lines.{AreOf}
 use Rattle.asp_checker.specs.Steps.{AreWithin, Follow}
-use Rattle.asp_checker.specs.Sweeps.{open_count, Grows}
+use Rattle.asp_checker.specs.Sweeps.{open_count}
 
 -- A weight body is broken, or the bound is reached.
 abbrev pub is_blocked : Program → Option (List ℤ) → List (Option Bool) → Bool

@@ -120,11 +120,7 @@ pub fn reaches_bound(compiled: &Compiled, bound: &Option<Bound>, values: &Assign
 }
 
 // The weights at each of these priorities.
-fn levels_of(
-    alloc: Global,
-    compiled: &Compiled,
-    list: &[i32],
-) -> Result<Vec<Seq<i64>>, AllocError>
+fn levels_of(alloc: Global, compiled: &Compiled, list: &[i32]) -> Result<Vec<Seq<i64>>, AllocError>
     ensures { IfOk result (λ l. AreLevels compiled.now list.now l.items) }
 {
     let mut levels = Vec::new(alloc);

@@ -36,12 +36,7 @@ fn look_further(compiled: &Compiled, bound: &Option<Bound>, values: &mut Assign)
 }
 
 // Looks at all nogoods, and then at the weight bodies and the bound, and sets values that are implied.
-fn step(
-    compiled: &Compiled,
-    rows: &[Seq<Lit>],
-    bound: &Option<Bound>,
-    values: &mut Assign,
-) -> Visit
+fn step(compiled: &Compiled, rows: &[Seq<Lit>], bound: &Option<Bound>, values: &mut Assign) -> Visit
     requires of { AllByRecursion (AreOf compiled.now) rows.now }
     requires size { length values.old ≡ var_count compiled.now + 1 }
     requires levels { HasLevels compiled.now bound.now }

@@ -73,13 +73,7 @@ fn reaches(vars: &Interp, nogood: &[Lit], lits: &[Lit], weights: &[i64], bound: 
 }
 
 // Whether a weight body is reached from outside of the set.
-fn is_reached(
-    compiled: &Compiled,
-    vars: &Interp,
-    nogood: &[Lit],
-    body: usize,
-    bound: i32,
-) -> bool
+fn is_reached(compiled: &Compiled, vars: &Interp, nogood: &[Lit], body: usize, bound: i32) -> bool
     requires body { body < length (bodies_of compiled.now) }
     requires weighted { bound_of (nth_body compiled.now body) ≡ Some bound }
     ensures { result ≡ int_le bound (weigh (is_kept vars.now nogood.now) (form_literals compiled.now (nth_body compiled.now body)) (form_weights (nth_body compiled.now body))) }

@@ -1,4 +1,4 @@
-use Rattle.std.proofs.Common.{◌≡◌, Bool, true, false, List, Option, Some, None, set, sym, ap, ◌∙◌}
+use Rattle.std.proofs.Common.{Bool, true, false, List, Option, Some, set, sym, ap, ◌∙◌}
 use Rattle.asp_vars.specs.Literals.{Literal, complement, value_of}
 use Rattle.asp_checker.specs.Blocks.{is_blocked, cost_of_bound}
 use Rattle.asp_checker.proofs.BlockLaws.{implied_other, neither_blocks}

@@ -1,4 +1,4 @@
-use Rattle.std.proofs.Common.{◌≡◌, Bool, List, Option, Some, None, set, sym, ap, ◌∙◌}
+use Rattle.std.proofs.Common.{Bool, List, Option, None, set, ap, ◌∙◌}
 use Rattle.asp_checker.specs.Blocks.{is_blocked, cost_of_bound}
 use Rattle.asp_checker.proofs.BlockLaws.{set_back}
 use Rattle.asp_checker.proofs.blocks.would_be_blocked.Goals as goal

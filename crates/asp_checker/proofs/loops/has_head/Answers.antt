@@ -1,5 +1,5 @@
-use Rattle.std.proofs.Common.{◌≡◌, Bool, true, false, get_or, sym, ap, ◌∙◌}
-use Rattle.asp_vars.specs.Literals.{Literal, T, has_literal}
+use Rattle.std.proofs.Common.{◌≡◌, true, false, get_or, sym, ap, ◌∙◌}
+use Rattle.asp_vars.specs.Literals.{T, has_literal}
 use Rattle.asp_checker.specs.Loops.{has_head}
 use Rattle.asp_checker.proofs.BodyLaws.{any_at, any_none, none_whole}
 use Rattle.asp_checker.proofs.loops.has_head.Goals as goal

@@ -1,4 +1,4 @@
-use Rattle.std.proofs.Common.{◌≡◌, Bool, true, false, not, sym, ap, ◌∙◌, w32, rules}
+use Rattle.std.proofs.Common.{◌≡◌, false, not, sym, ap, ◌∙◌, w32, rules}
 use Rattle.std.specs.Prelude.{ℤ, int_le}
 use Rattle.std.proofs.lemmas.Int.{to_z-of_z}
 use Rattle.std.specs.List.{list_any}
