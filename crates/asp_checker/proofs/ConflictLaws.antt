@@ -1,8 +1,7 @@
 -- Literals from which a conflict follows hit no stable model but those that are excused.
-use Rattle.std.proofs.Common.{◌≡◌, ℕ, zero, suc, ◌+◌, ◌<◌, ◌≤◌, Bool, true, false, not, cond, ◌&&◌, ◌||◌, List, [], ◌∷◌, ◌++◌, map, length, refl, sym, ap, ◌∙◌, subst, arith, Option, Some, None, get_or, ◌⊎◌, inl, inr, length-append}
+use Rattle.std.proofs.Common.{◌≡◌, ℕ, zero, suc, ◌+◌, ◌≤◌, Bool, true, false, not, cond, ◌&&◌, ◌||◌, List, [], ◌∷◌, ◌++◌, map, length, refl, sym, ap, ◌∙◌, arith, Some, None, get_or, ◌⊎◌, inl, inr, length-append}
 use Rattle.std.specs.Prelude.{ℤ, pos, ◌+ℤ◌, int_lt, int_le, ◌==◌}
 use Rattle.std.specs.List.{list_all, list_any, AllByRecursion}
-use Rattle.std.specs.Bool.{beq}
 use Rattle.std.proofs.lemmas.Bool.{false≢true, and_parts, and_from, or_from}
 use Rattle.std.proofs.lemmas.Int.{ints}
 use Rattle.std.proofs.lemmas.List.{get_or-map, length-map}
@@ -10,9 +9,9 @@ use Rattle.asp_model.specs.declared.program.Body.{Body}
 use Rattle.asp_model.specs.declared.program.Body.TheVariants as body
 use Rattle.asp_model.specs.declared.program.Program.{Program}
 use Rattle.asp_model.specs.Sets.{Atoms, has}
-use Rattle.asp_model.specs.Holding.{atom_of, is_positive, holds, body_holds, weight_of}
+use Rattle.asp_model.specs.Holding.{atom_of, holds, body_holds, weight_of}
 use Rattle.asp_model.specs.Models.{atoms_of, is_stable}
-use Rattle.asp_model.specs.Costs.{cost, betters}
+use Rattle.asp_model.specs.Costs.{cost}
 use Rattle.asp_vars.specs.Literals.{Literal, T, F, complement, is_true, hits, value_of, holds_in, agrees}
 use Rattle.asp_vars.specs.Numbering.{bodies_of, body_eq, var_count, var_of_form, literal_of, values}
 use Rattle.asp_vars.specs.Tabled.{Stands}
@@ -24,7 +23,7 @@ use Rattle.asp_vars.proofs.CompletionLaws.{literal-holds, form-true, form-false}
 use Rattle.asp_vars.proofs.StandingLaws.{each_both, bodies_of-stand, bodies_of-themselves}
 use Rattle.asp_bound.specs.Optimism.{optimistic}
 use Rattle.asp_bound.proofs.CostLaws.{cost_of-values, optimistic-whole}
-use Rattle.asp_checker.specs.Propagation.{Known, may_hold, weight_by, is_broken, reaches_bound, has_conflict, IsPropagated, LeadsToConflict}
+use Rattle.asp_checker.specs.Propagation.{Known, may_hold, weight_by, is_broken, reaches_bound, IsPropagated, LeadsToConflict}
 use Rattle.asp_checker.specs.Lines.{AreOf}
 
 -- ---- values of all variables

@@ -6,3 +6,9 @@ pub mod WeightLaws
 pub mod LookLaws
 pub mod LiteralLaws
 pub mod SweepLaws
+pub mod BlockLaws
+pub mod CloseLaws
+pub mod BodyLaws
+pub mod AssumeLaws
+pub mod BoundLaws
+pub mod FoundLaws

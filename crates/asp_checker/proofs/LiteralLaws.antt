@@ -1,5 +1,5 @@
 -- Literals of a line, and the assumptions.
-use Rattle.std.proofs.Common.{◌≡◌, ℕ, zero, suc, ◌+◌, ◌<◌, ◌≤◌, Bool, true, false, List, [], ◌∷◌, ◌++◌, length, map, take, get_or, refl, sym, ap, ◌∙◌, arith, Option}
+use Rattle.std.proofs.Common.{◌≡◌, ℕ, zero, suc, ◌+◌, ◌<◌, ◌≤◌, Bool, true, false, List, [], ◌∷◌, ◌++◌, length, map, take, get_or, refl, sym, ap, ◌∙◌, arith}
 use Rattle.std.specs.Prelude.{ℤ, pos, negsuc, int_lt}
 use Rattle.std.specs.List.{AllByRecursion}
 use Rattle.std.proofs.Math.IntN.{nat_abs}
@@ -11,8 +11,7 @@ use Rattle.asp_model.specs.Holding.{atom_of}
 use Rattle.asp_model.specs.Models.{atoms_of, mentions}
 use Rattle.asp_model.proofs.MemberLaws.{each_weaker, HasAll-right, HasAll-itself}
 use Rattle.asp_model.proofs.SetLaws.{has-set_of}
-use Rattle.asp_vars.specs.Literals.{Literal, T, F}
-use Rattle.asp_vars.specs.Numbering.{var_count}
+use Rattle.asp_vars.specs.Literals.{Literal}
 use Rattle.asp_checker.specs.Lines.{signed, literals_of, IsOf, AreOf}
 
 abbrev lit : ℕ → Bool → Literal

@@ -1,17 +1,16 @@
 -- A nogood, literal by literal.
-use Rattle.std.proofs.Common.{◌≡◌, ◌≢◌, ℕ, ◌+◌, Bool, true, false, not, ◌&&◌, ◌||◌, List, [], ◌∷◌, ◌++◌, length, eqb, refl, sym, ap, ◌∙◌, arith, Option, Some, None, set, ◌⊎◌, get_or-set_same, get_or-set_other, ◌<◌, ◌≤◌, inl, inr, append_assoc, take, drop, get_or, subst, All}
-use Rattle.std.specs.List.{list_all, list_any, AllByRecursion}
+use Rattle.std.proofs.Common.{◌≡◌, ◌≢◌, ℕ, ◌+◌, Bool, true, false, not, ◌&&◌, ◌||◌, List, [], ◌∷◌, ◌++◌, length, eqb, refl, sym, ap, ◌∙◌, arith, Option, Some, None, set, ◌⊎◌, get_or-set_other, ◌<◌, ◌≤◌, inl, inr, take, drop, get_or, subst, All}
+use Rattle.std.specs.List.{list_all, AllByRecursion}
 use Rattle.std.specs.Bool.{beq}
-use Rattle.std.proofs.lemmas.Bool.{false≢true, and_parts, and_from, or_left, or_right, eqb-true, eq-eqb, cases_Bool}
+use Rattle.std.proofs.lemmas.Bool.{false≢true, and_parts, and_from, or_left, or_right, eqb-true, eq-eqb}
 use Rattle.std.proofs.lemmas.List.Folds.{list_all-append, list_any-append}
 use Rattle.std.proofs.lemmas.List.{take_all, take_more, take-append-drop}
 use Rattle.std.proofs.lemmas.List.Elements.{recursion_from_All}
 use Rattle.asp_vars.specs.Literals.{Literal, complement, literal_eq, value_of, agrees, holds_in, has_literal}
-use Rattle.asp_vars.proofs.LiteralLaws.{same_literal, beq_same}
+use Rattle.asp_vars.proofs.LiteralLaws.{same_literal}
 use Rattle.asp_checker.specs.declared.nogoods.Look.{Look}
 use Rattle.asp_checker.specs.declared.nogoods.Look.TheVariants as look
 use Rattle.asp_checker.specs.Looks.{IsCalm, IsUnit, IsSeen}
-use Rattle.asp_checker.specs.Steps.{is_unit}
 use Rattle.asp_checker.proofs.StepLaws.{value-held}
 
 -- where one literal fails, not all hold

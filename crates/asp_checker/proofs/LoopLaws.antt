@@ -1,8 +1,8 @@
 -- No stable model hits the nogood of a loop's line. The lemmas on sets that meet U nowhere are those of loop nogoods.
-use Rattle.std.proofs.Common.{◌≡◌, ℕ, Bool, true, false, not, cond, ◌&&◌, ◌||◌, eqb, List, [], ◌∷◌, filter, refl, sym, ap, ◌∙◌, subst, arith, ◌⊎◌, inl, inr}
-use Rattle.std.specs.Prelude.{ℤ, pos, negsuc, ◌+ℤ◌, ◌≤ℤ◌, int_lt, int_le, MatchBool}
+use Rattle.std.proofs.Common.{◌≡◌, ℕ, Bool, true, false, not, cond, ◌&&◌, ◌||◌, eqb, List, [], ◌∷◌, filter, refl, sym, ap, ◌∙◌, arith, inl, inr}
+use Rattle.std.specs.Prelude.{ℤ, pos, negsuc, ◌+ℤ◌, ◌≤ℤ◌, int_lt, int_le}
 use Rattle.std.specs.List.{list_any, list_all, flat_map, AllByRecursion}
-use Rattle.std.proofs.lemmas.Bool.{false≢true, and_parts, and_from, eqb-true, or_cases}
+use Rattle.std.proofs.lemmas.Bool.{false≢true, and_parts, and_from, or_cases}
 use Rattle.std.proofs.lemmas.Int.{ints}
 use Rattle.asp_model.specs.declared.program.Body.{Body}
 use Rattle.asp_model.specs.declared.program.Body.TheVariants as body
@@ -23,9 +23,8 @@ use Rattle.asp_vars.specs.Numbering.{normal, body_eq, bodies_of, var_of_atom, va
 use Rattle.asp_vars.specs.Tabled.{Stands}
 use Rattle.asp_vars.specs.Entailment.{Entailed}
 use Rattle.asp_vars.specs.Unfounded.{is_inside}
-use Rattle.asp_vars.proofs.LiteralLaws.{and_left, and_right, hits-append, hits-has, is_true-complement}
+use Rattle.asp_vars.proofs.LiteralLaws.{and_left, and_right, hits-has, is_true-complement}
 use Rattle.asp_vars.proofs.NormalLaws.{body_holds_between-normal}
-use Rattle.asp_vars.proofs.NumberingLaws.{same_body, body_eq-itself}
 use Rattle.asp_vars.proofs.StandingLaws.{Among, each_among, rule_has_form, normal-stands, rules_in_force-bodies, each_both}
 use Rattle.asp_vars.proofs.CompletionLaws.{literal-holds, form-false, atom-true}
 use Rattle.asp_vars.proofs.SupportLaws.{some}

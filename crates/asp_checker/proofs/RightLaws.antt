@@ -1,16 +1,15 @@
 -- What right proofs show.
-use Rattle.std.proofs.Common.{◌≡◌, ℕ, suc, ◌+◌, ◌<◌, ◌≤◌, Bool, true, false, not, cond, ◌&&◌, ◌||◌, List, [], ◌∷◌, ◌++◌, map, length, eqb, refl, sym, ap, ◌∙◌, subst, arith, Option, Some, None, ◌⊎◌, inl, inr}
-use Rattle.std.specs.Prelude.{ℤ, AllPairs, Contains, ◌↔◌, MatchBool, if◌then◌else◌}
+use Rattle.std.proofs.Common.{◌≡◌, ℕ, ◌≤◌, Bool, true, false, not, cond, ◌||◌, List, [], ◌∷◌, ◌++◌, map, length, eqb, refl, sym, ap, ◌∙◌, subst, arith, Some, None, inl, inr}
+use Rattle.std.specs.Prelude.{ℤ, AllPairs, Contains, MatchBool}
 use Rattle.std.specs.List.{list_all, list_any, AllByRecursion}
 use Rattle.std.proofs.lemmas.Bool.{false≢true, and_parts, and_from, or_cases, or_from, or_left, eqb-true}
 use Rattle.asp_model.specs.declared.program.Program.{Program}
 use Rattle.asp_model.specs.Sets.{Atoms, has, same_set, IsBefore}
 use Rattle.asp_model.specs.Models.{atoms_of, mentions, answers, is_stable}
-use Rattle.asp_model.specs.Costs.{cost, betters, IsOptimum}
+use Rattle.asp_model.specs.Costs.{cost, betters}
 use Rattle.asp_model.specs.Sound.{IsSound}
-use Rattle.std.specs.Prelude.{All}
 use Rattle.std.proofs.lemmas.List.Elements.{All-contains, recursion_from_All, All-from_recursion, All-contains_itself}
-use Rattle.asp_model.specs.Sets.{IsAscending, IsSubset}
+use Rattle.asp_model.specs.Sets.{IsSubset}
 use Rattle.asp_model.specs.Holding.{atom_of, all_hold}
 use Rattle.asp_model.proofs.SetLaws.{same_from_has, has-set_of}
 use Rattle.asp_model.proofs.ListedLaws.{same_from_members, contains_from_test, test_from_contains}
@@ -20,17 +19,15 @@ use Rattle.asp_vars.proofs.StandingLaws.{each_both}
 use Rattle.asp_vars.specs.Literals.{Literal, T, is_true, hits, has_literal}
 use Rattle.asp_vars.specs.Numbering.{literal_of, values, var_of_atom}
 use Rattle.asp_vars.specs.Completion.{completion}
-use Rattle.asp_vars.specs.Unfounded.{assigned}
-use Rattle.asp_vars.specs.Entailment.{HitsOnly, Entailed, is_done, costs, costs_bound}
+use Rattle.asp_vars.specs.Entailment.{HitsOnly, Entailed, is_done, costs}
 use Rattle.asp_vars.proofs.LiteralLaws.{hits-has}
 use Rattle.asp_vars.proofs.CompletionLaws.{completion_entailed, hits-literals, atom-true, atom-false}
-use Rattle.asp_vars.proofs.ResolutionLaws.{HitsOnly-weaker}
 use Rattle.asp_proof.specs.declared.proof.Line.{Line}
 use Rattle.asp_proof.specs.declared.proof.Line.TheVariants as line
 use Rattle.asp_proof.specs.declared.proof.Proof.{Proof}
-use Rattle.asp_checker.specs.Propagation.{Known, reaches_bound}
-use Rattle.asp_checker.specs.Lines.{AreConfirmed, AreOf, IsConfirmed, nogood_of, nogood_of_answer, literals_of, with_nogood, bound_of, known_at_first}
-use Rattle.asp_checker.specs.Right.{is_assumed, closes, IsRight, Shows, ShowsBest}
+use Rattle.asp_checker.specs.Propagation.{Known}
+use Rattle.asp_checker.specs.Lines.{AreConfirmed, AreOf, IsConfirmed, nogood_of, nogood_of_answer, literals_of, with_nogood, bound_of}
+use Rattle.asp_checker.specs.Right.{closes, IsRight, Shows, ShowsBest}
 use Rattle.asp_checker.proofs.ConflictLaws.{IsKnownFor, conflict-excused, optimistic-assigned}
 use Rattle.asp_checker.proofs.LoopLaws.{line-entailed}
 

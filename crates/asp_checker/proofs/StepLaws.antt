@@ -1,7 +1,6 @@
 -- What nogoods, weight bodies and propagated values say.
-use Rattle.std.proofs.Common.{◌≡◌, ◌≢◌, ℕ, ◌+◌, ◌<◌, ◌≤◌, Bool, true, false, not, cond, ◌&&◌, ◌||◌, List, [], ◌∷◌, length, eqb, refl, sym, ap, ◌∙◌, subst, arith, Option, Some, None, get_or, set, ◌⊎◌, inl, inr, get_or-set_same, get_or-set_other}
-use Rattle.std.specs.Prelude.{ℤ, pos, ◌+ℤ◌, ◌≤ℤ◌, int_lt, int_le}
-use Rattle.std.specs.List.{list_all, list_any, AllByRecursion}
+use Rattle.std.proofs.Common.{◌≡◌, ◌≢◌, ◌<◌, ◌≤◌, Bool, true, false, not, ◌||◌, List, [], ◌∷◌, length, eqb, refl, sym, ap, ◌∙◌, arith, Option, Some, None, set, inl, inr, get_or-set_same, get_or-set_other}
+use Rattle.std.specs.List.{list_all, list_any}
 use Rattle.std.specs.Bool.{beq}
 use Rattle.std.proofs.lemmas.Bool.{false≢true, and_parts, and_from, or_cases, or_parts, eqb-true, eq-eqb}
 use Rattle.asp_model.specs.declared.program.Program.{Program}

@@ -1,5 +1,5 @@
 -- Nogoods that are looked at one after another.
-use Rattle.std.proofs.Common.{◌≡◌, ℕ, suc, zero, ◌+◌, ◌<◌, ◌≤◌, Bool, true, false, ◌||◌, List, [], ◌∷◌, ◌++◌, length, take, get_or, refl, sym, ap, ◌∙◌, arith, subst, Option, Some, set}
+use Rattle.std.proofs.Common.{◌≡◌, ℕ, suc, zero, ◌+◌, ◌<◌, ◌≤◌, Bool, true, false, not, ◌||◌, List, [], ◌∷◌, ◌++◌, length, take, get_or, refl, sym, ap, ◌∙◌, arith, subst, Option, Some, set}
 use Rattle.std.specs.List.{AllByRecursion}
 use Rattle.std.proofs.lemmas.Bool.{false≢true}
 use Rattle.std.proofs.lemmas.List.{take_all, take_more, length-set}
@@ -9,13 +9,15 @@ use Rattle.asp_vars.specs.Literals.{Literal, literal_eq, has_literal, complement
 use Rattle.asp_vars.proofs.LiteralLaws.{same_literal}
 use Rattle.asp_checker.specs.declared.nogoods.Visit.{Visit}
 use Rattle.asp_checker.specs.declared.nogoods.Visit.TheVariants as visit
-use Rattle.asp_checker.specs.Propagation.{Known, LeadsToConflict}
+use Rattle.asp_checker.specs.Propagation.{Known}
 use Rattle.asp_checker.specs.Lines.{IsOf, AreOf}
-use Rattle.asp_checker.specs.Steps.{Follow, IsKnown}
-use Rattle.asp_checker.specs.Looks.{IsCalm, IsUnit, IsVisited}
-use Rattle.asp_checker.specs.Sweeps.{AreInRange, IsNogoodOf, AreNogoodsOf, Implies, Refutes, IsSwept, IsSweptSoFar, later}
+use Rattle.asp_checker.specs.Steps.{AreWithin, Follow}
+use Rattle.asp_checker.specs.Looks.{IsCalm, IsVisited}
+use Rattle.asp_checker.specs.Sweeps.{open_count, Grows, AreInRange, IsNogoodOf, Implies, Refutes, IsSwept, IsSweptSoFar, later}
 use Rattle.asp_checker.proofs.StepLaws.{unit-forces, follow-more, violated-conflicts}
 use Rattle.asp_checker.proofs.LookLaws.{among_range}
+use Rattle.asp_checker.proofs.WeightLaws.{within-set, within-then}
+use Rattle.asp_checker.proofs.BlockLaws.{open_count-set}
 
 among_of : (p : Program) (n : List Literal) (l : Literal) → AreOf p n → has_literal n l ≡ true → IsOf p l
 among_of p [] l h e = absurd (false≢true e)
@@ -48,15 +50,35 @@ nothing x z rows e = λ p k n known follow. subst (Follow p k n) (sym e) follow
 before_row : (x z : List (Option Bool)) (rows front : List (List Literal)) (came : Visit) → IsSweptSoFar x z rows front came → Implies rows x z
 before_row x z rows front visit.Calm h = nothing x z rows h.0
 before_row x z rows front visit.Conflict h = absurd h
-before_row x z rows front visit.Implied h = h
+before_row x z rows front visit.Implied h = h.0
+
+visit_grows : (x y : List (Option Bool)) (row : List Literal) → AllByRecursion (λ l. l.var < length x) row → IsVisited x y row visit.Implied → Grows x y
+visit_grows x y row range v =
+    let u : Literal = v.0 in
+    let lt : u.var < length x = among_range (length x) row u range v.1.among in
+    let one = open_count-set x u.var (not u.truth) lt v.1.no_value in
+    let count : open_count y ≡ open_count (set x u.var (Some (not u.truth))) = ap open_count v.2 in
+    record {
+      size = ap length v.2 ∙ length-set x u.var (Some (not u.truth));
+      within = subst (AreWithin x) (sym v.2) (within-set x u.var (not u.truth) v.1.no_value);
+      fewer = omega (arith, one, count);
+    }
+
+pub grows_then : (x y z : List (Option Bool)) → Grows x y → Grows y z → Grows x z
+grows_then x y z a b = record { size = b.size ∙ a.size; within = within-then x y z a.within b.within; fewer = let c = a.fewer in let d = b.fewer in omega arith }
+
+grown : (x z y : List (Option Bool)) (rows front : List (List Literal)) (row : List Literal) (came : Visit) → AllByRecursion (λ l. l.var < length z) row → IsSweptSoFar x z rows front came → IsVisited z y row visit.Implied → Grows x y
+grown x z y rows front row visit.Calm range h v = subst (λ w. Grows w y) h.0 (visit_grows z y row range v)
+grown x z y rows front row visit.Conflict range h v = absurd h
+grown x z y rows front row visit.Implied range h v = grows_then x z y h.1 (visit_grows z y row range v)
 
 -- one more nogood, without a conflict
 one_more : (x z y : List (Option Bool)) (rows front : List (List Literal)) (i : ℕ) (row : List Literal) (came now : Visit) → i < length rows → row ≡ get_or rows i row → AllByRecursion (λ l. l.var < length z) row
     → (now ≡ visit.Conflict → ⊥) → IsSweptSoFar x z rows front came → IsVisited z y row now → IsSweptSoFar x y rows (front ++ row ∷ []) (later came now)
 one_more x z y rows front i row came visit.Conflict lt e range quiet h v = absurd (quiet refl)
-one_more x z y rows front i row came visit.Implied lt e range quiet h v = implied x z y rows i row lt e range (before_row x z rows front came h) v
+one_more x z y rows front i row came visit.Implied lt e range quiet h v = (implied x z y rows i row lt e range (before_row x z rows front came h) v, grown x z y rows front row came range h v)
 one_more x z y rows front i row visit.Calm visit.Calm lt e range quiet h v = (v.1 ∙ h.0, each-append (IsCalm x) front (row ∷ []) h.1 (subst (λ (w : List (Option Bool)). IsCalm w row) h.0 v.0, tt))
-one_more x z y rows front i row visit.Implied visit.Calm lt e range quiet h v = subst (Implies rows x) (sym v.1) h
+one_more x z y rows front i row visit.Implied visit.Calm lt e range quiet h v = subst (λ w. Implies rows x w × Grows x w) (sym v.1) h
 one_more x z y rows front i row visit.Conflict visit.Calm lt e range quiet h v = h
 
 pub swept_more : (x z y : List (Option Bool)) (rows : List (List Literal)) (i : ℕ) (row : List Literal) (came now : Visit) → i < length rows → row ≡ get_or rows i row → AreInRange (length z) rows

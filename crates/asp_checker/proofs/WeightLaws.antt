@@ -1,18 +1,18 @@
 -- What weight bodies force.
-use Rattle.std.proofs.Common.{◌≡◌, ◌≢◌, ℕ, zero, suc, ◌+◌, ◌<◌, ◌≤◌, Bool, true, false, not, cond, ◌&&◌, ◌||◌, eqb, List, [], ◌∷◌, length, refl, sym, ap, ◌∙◌, subst, arith, Option, Some, None, get_or, set, ◌⊎◌, inl, inr, get_or-set_same, get_or-set_other}
+use Rattle.std.proofs.Common.{◌≡◌, ◌≢◌, ℕ, zero, suc, ◌<◌, ◌≤◌, Bool, true, false, not, cond, ◌&&◌, ◌||◌, eqb, List, [], ◌∷◌, length, refl, sym, ap, ◌∙◌, arith, Option, Some, None, get_or, set, get_or-set_same, get_or-set_other}
 use Rattle.std.specs.Prelude.{ℤ, pos, ◌+ℤ◌, ◌≤ℤ◌, ◌<ℤ◌, int_lt, int_le}
-use Rattle.std.specs.List.{list_all, list_any, AllByRecursion}
+use Rattle.std.specs.List.{list_all, list_any}
 use Rattle.std.specs.Bool.{beq}
-use Rattle.std.proofs.lemmas.Bool.{false≢true, and_parts, and_from, or_cases, or_parts, eqb-true, eq-eqb}
+use Rattle.std.proofs.lemmas.Bool.{false≢true, and_from, or_parts, eqb-true, eq-eqb}
 use Rattle.std.proofs.lemmas.Int.{ints}
 use Rattle.asp_model.specs.declared.program.Body.{Body}
 use Rattle.asp_model.specs.declared.program.Body.TheVariants as body
 use Rattle.asp_model.specs.declared.program.Program.{Program}
 use Rattle.asp_vars.specs.Literals.{Literal, T, F, complement, value_of, agrees, holds_in}
-use Rattle.asp_vars.specs.Numbering.{bodies_of, body_eq, var_count, var_of_form, literal_of}
+use Rattle.asp_vars.specs.Numbering.{bodies_of, var_count, var_of_form, literal_of}
 use Rattle.asp_loop.proofs.WeightedLaws.{AreItems}
 use Rattle.asp_vars.proofs.StandingLaws.{Among}
-use Rattle.asp_checker.specs.Propagation.{Known, may_hold, weight_by, is_broken, reaches_bound, has_conflict, IsPropagated}
+use Rattle.asp_checker.specs.Propagation.{Known, may_hold, weight_by, is_broken, reaches_bound, has_conflict}
 use Rattle.asp_checker.specs.Steps.{AreWithin, Forced}
 use Rattle.asp_checker.proofs.StepLaws.{held-within, value-held, held-value}
 
@@ -48,14 +48,14 @@ may-less x y within l e = cases (holds_in x (complement l)) refl
     cases false q = ap not (sym q)
     cases true q = absurd (false≢true (sym (ap not (held-within x y (complement l) within (sym q))) ∙ e))
 
-low-more : (p : Program) (x y : List (Option Bool)) (items : List (ℤ × ℤ)) → AreItems items → AreWithin x y → weight_by (holds_in x) p items ≤ℤ weight_by (holds_in y) p items
+pub low-more : (p : Program) (x y : List (Option Bool)) (items : List (ℤ × ℤ)) → AreItems items → AreWithin x y → weight_by (holds_in x) p items ≤ℤ weight_by (holds_in y) p items
 low-more p x y items weighted within = weight-more (holds_in x) (holds_in y) p items weighted (λ l. held-within x y l within)
 
-high-less : (p : Program) (x y : List (Option Bool)) (items : List (ℤ × ℤ)) → AreItems items → AreWithin x y → weight_by (may_hold y) p items ≤ℤ weight_by (may_hold x) p items
+pub high-less : (p : Program) (x y : List (Option Bool)) (items : List (ℤ × ℤ)) → AreItems items → AreWithin x y → weight_by (may_hold y) p items ≤ℤ weight_by (may_hold x) p items
 high-less p x y items weighted within = weight-more (may_hold y) (may_hold x) p items weighted (may-less x y within)
 
 -- ---- one value more
-within-set : (y : List (Option Bool)) (v : ℕ) (b : Bool) → value_of y v ≡ None → AreWithin y (set y v (Some b))
+pub within-set : (y : List (Option Bool)) (v : ℕ) (b : Bool) → value_of y v ≡ None → AreWithin y (set y v (Some b))
 within-set y v b none u c e = cases (eqb u v) refl
   where
     cases : (t : Bool) → t ≡ eqb u v → value_of (set y v (Some b)) u ≡ Some c
@@ -64,7 +64,7 @@ within-set y v b none u c e = cases (eqb u v) refl
         let apart : u ≢ v = λ same. false≢true (q ∙ eq-eqb u v same) in
         get_or-set_other y v u (Some b) None apart ∙ e
 
-within-then : (x y z : List (Option Bool)) → AreWithin x y → AreWithin y z → AreWithin x z
+pub within-then : (x y z : List (Option Bool)) → AreWithin x y → AreWithin y z → AreWithin x z
 within-then x y z a b v t e = b v t (a v t e)
 
 -- ---- a broken body is a conflict
@@ -107,10 +107,10 @@ forced-by p k x b l among i le breaks y propagated within = cases (value_of y l.
         by-truth false s = absurd (unbroken p k y b among propagated.now (breaks y within (ap (λ o. agrees o (complement l)) (sym q) ∙ other t l.truth (sym s))))
 
 -- ---- the four ways
-reached : (c v w : ℤ) → int_le c v ≡ true → v ≤ℤ w → int_le c w ≡ true
+pub reached : (c v w : ℤ) → int_le c v ≡ true → v ≤ℤ w → int_le c w ≡ true
 reached c v w e h = grind (arith, ints)
 
-missed : (c v w : ℤ) → int_lt v c ≡ true → w ≤ℤ v → int_lt w c ≡ true
+pub missed : (c v w : ℤ) → int_lt v c ≡ true → w ≤ℤ v → int_lt w c ≡ true
 missed c v w e h = grind (arith, ints)
 
 -- The true literals reach the bound: the body is true.

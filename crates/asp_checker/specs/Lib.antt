@@ -4,3 +4,6 @@ pub mod Right
 pub mod Steps
 pub mod Looks
 pub mod Sweeps
+pub mod Blocks
+pub mod Assuming
+pub mod Loops

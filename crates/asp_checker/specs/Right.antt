@@ -1,5 +1,5 @@
 -- When a proof is right, and what it shows.
-use Rattle.std.specs.Prelude.{◌≡◌, ◌≤◌, Bool, true, false, ◌&&◌, if◌then◌else◌, List, [], ◌∷◌, map, length, AllPairs, Contains, MatchBool, IsTrue}
+use Rattle.std.specs.Prelude.{◌≡◌, ◌≤◌, Bool, false, List, [], ◌∷◌, map, length, AllPairs, Contains, MatchBool, IsTrue}
 use Rattle.std.specs.List.{list_all, list_any, AllByRecursion}
 use Rattle.asp_model.specs.declared.program.Program.{Program}
 use Rattle.asp_model.specs.Sets.{Atoms, IsBefore}

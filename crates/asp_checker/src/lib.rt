@@ -1,7 +1,14 @@
 //! What makes a proof right, what a right one shows, and the check of a proof.
 #![tactic(auto)]
 
+pub mod blocks;
+pub mod bounds;
+pub mod close;
+pub mod confirm;
 pub mod laws;
+mod levels;
 pub mod lines;
+pub mod loops;
 pub mod nogoods;
 pub mod sweep;
+pub mod weights;

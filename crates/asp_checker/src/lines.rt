@@ -68,7 +68,7 @@ pub fn assumptions(alloc: Global, compiled: &Compiled) -> Result<Vec<Lit>, Alloc
     Ok(lits)
 }
 
-fn stands(lits: &[Lit], lit: Lit) -> bool
+pub(crate) fn stands(lits: &[Lit], lit: Lit) -> bool
     ensures { result ≡ has_literal lits.now lit }
 {
     lits.iter().any(|l| *l == lit)

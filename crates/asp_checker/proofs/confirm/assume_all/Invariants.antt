@@ -1,0 +1,6 @@
+use Rattle.std.proofs.Common.{take}
+use Rattle.asp_checker.specs.Assuming.{AreHeld}
+use Rattle.asp_checker.proofs.confirm.assume_all.Given as goal
+
+abbrev pub invariant-loop-lit : goal.invariant-loop-lit
+invariant-loop-lit l = AreHeld l.initial.values l.values (take l.lit-index l.lits) l.lits

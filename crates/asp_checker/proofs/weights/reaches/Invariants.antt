@@ -1,0 +1,9 @@
+use Rattle.std.proofs.Common.{◌≡◌, ◌<◌, take}
+use Rattle.std.specs.Prelude.{pos, ◌-ℤ◌}
+use Rattle.asp_loop.specs.Weighing.{weigh}
+use Rattle.asp_checker.specs.Blocks.{counts}
+use Rattle.asp_checker.proofs.weights.reaches.Given as goal
+
+abbrev pub invariant-loop-i : goal.invariant-loop-i
+invariant-loop-i l =
+    (0 < l.left) × (pos l.left ≡ (l.fn.bound -ℤ weigh (counts l.values l.with_open) (take l.i l.lits) (take l.i l.weights)))
