@@ -1,0 +1,6 @@
+pub mod FoundLaws
+pub mod QuietLaws
+pub mod AgreeLaws
+pub mod FuelLaws
+pub mod PlayedLaws
+pub mod GoneLaws

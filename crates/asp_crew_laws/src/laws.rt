@@ -1,0 +1,70 @@
+//! Laws of a run's journal. Each function's contract is a law, and its body is empty.
+ghost use Rattle.std.specs.Prelude.{◌≡◌, ◌≤◌, ◌||◌, ◌++◌, ◌∷◌, ℕ, ℤ, Bool, length, List, [], true, false, Option, Some, None, IsTrue, option_map};
+ghost use Rattle.std.specs.List.{list_any, AllByRecursion};
+ghost use Rattle.std.specs.List.Sorted.{IsPermutation, IsSorted};
+ghost use Rattle.std.specs.List.Retain.{IsFiltered, DiffersFromLast};
+ghost use Rattle.asp_model.specs.declared.program.Program.{Program};
+ghost use Rattle.asp_model.specs.declared.results.Mode.{Mode};
+ghost use Rattle.asp_model.specs.declared.results.End.TheVariants.{Finished};
+ghost use Rattle.asp_model.specs.Costs.{cost, betters};
+ghost use Rattle.asp_model.specs.Sets.{Atoms, same_set, set_cmp};
+ghost use Rattle.asp_vars.specs.Entailment.{HitsOnly, Settled};
+ghost use Rattle.asp_vars.specs.Literals.{Literal};
+ghost use Rattle.asp_path.specs.Trees.{all_closed, held_count};
+ghost use Rattle.asp_core.specs.declared.event.Event.{Event};
+ghost use Rattle.asp_core.specs.declared.event.Event.TheVariants as event;
+ghost use Rattle.asp_core.specs.declared.goal.Goal.TheVariants as goal;
+ghost use Rattle.asp_core.specs.declared.task.Task.{Task};
+ghost use Rattle.asp_core.specs.Boards.{Board, start, is_excused, IsBoundOf};
+ghost use Rattle.asp_core.specs.Events.{happens, maker, IsLawful, replay};
+ghost use Rattle.asp_core.specs.Growth.{Grows};
+ghost use Rattle.asp_crew_laws.specs.declared.report.Report.{Report};
+ghost use Rattle.asp_crew_laws.specs.Agrees.{Agrees, AreApart};
+ghost use Rattle.asp_crew_laws.specs.Gone.{IsGone};
+ghost use Rattle.asp_crew_laws.specs.Reports.{IsPlayed};
+ghost use Rattle.asp_crew_laws.specs.Runs.{task_of, IsFound, with_cost, Quiet};
+
+/// A lawful journal after which every leaf is closed tells what was to be found.
+pub fn a_closed_board_is_found()
+    ensures { (p : Program) (mode : Mode) (budget : ℕ) (journal : List Event) (sorted once : List Atoms) → IsLawful (start (task_of p mode budget)) journal → all_closed (replay (task_of p mode budget) journal).nodes ≡ true
+        → IsPermutation (replay (task_of p mode budget) journal).answers sorted → IsSorted set_cmp sorted → IsFiltered (DiffersFromLast same_set) [] sorted once
+        → IsFound p mode once (option_map (with_cost p) (replay (task_of p mode budget) journal).best) }
+{}
+
+/// Where each number found no leaf open at its end, all of them found none at one moment; and where no leaf is held, every leaf is closed.
+pub fn quiet_numbers_leave_nothing()
+    ensures both { (t : Task) (P Q : ℕ → Bool) (journal : List Event) → Quiet t P journal → Quiet t Q journal → Quiet t (λ n. P n || Q n) journal }
+    ensures closed { (t : Task) (by : ℕ → Bool) (journal : List Event) → Quiet t by journal → ((n : ℕ) → by n ≡ true) → held_count (replay t journal).nodes ≡ 0 → all_closed (replay t journal).nodes ≡ true }
+{}
+
+/// A finished report has found what was asked, and no conflict that was paid for knew more answers than are reported.
+pub fn a_journal_explains_its_report()
+    ensures found { (p : Program) (mode : Mode) (units : ℕ) (r : Report) → IsPlayed p mode units r → r.results.end ≡ Finished → IsFound p mode r.results.answers r.results.best }
+    ensures known { (p : Program) (mode : Mode) (units : ℕ) (r : Report) → IsPlayed p mode units r → r.paid.known ≤ length r.results.answers }
+{}
+
+/// What a number left behind, it still has as others go on.
+pub fn others_leave_the_gone_alone()
+    ensures { (t : Task) (n : ℕ) (xs ys : List Event) → IsLawful (start t) (xs ++ ys) → AllByRecursion (λ e. maker e ≡ n → ⊥) ys → (short never : Bool) → IsGone t short never n xs → IsGone t short never n (xs ++ ys) }
+{}
+
+/// In an enumeration a search that agrees with the board still does after what others did, and after a delivery.
+pub fn a_listing_search_agrees()
+    ensures others { (b c : Board) (known : List Atoms) (bound : Option (List ℤ)) → b.task.goal ≡ goal.Enum → Grows b c → Agrees b known bound → Agrees c known bound }
+    ensures delivered { (b : Board) (s : ℕ) (S : Atoms) (known : List Atoms) (bound : Option (List ℤ)) → b.task.goal ≡ goal.Enum → Agrees b known bound → Agrees (happens b (event.Deliver s S)) (known ++ S ∷ []) bound }
+{}
+
+/// In an optimisation a search agrees with the board by the cost of an answer that is the best, or that a best stands no dearer
+/// than; and a bound that isn't smaller may have been the search's as well.
+pub fn an_optimising_search_agrees()
+    ensures improved { (b : Board) (s : ℕ) (S : Atoms) → b.task.goal ≡ goal.Opt → Agrees (happens b (event.Improve s S)) [] (Some (cost b.task.program S)) }
+    ensures unimproved { (b : Board) (S B : Atoms) → b.task.goal ≡ goal.Opt → b.best ≡ Some B → betters (cost b.task.program S) (cost b.task.program B) ≡ false → Agrees b [] (Some (cost b.task.program S)) }
+    ensures bound { (b : Board) (c d : List ℤ) → b.task.goal ≡ goal.Opt → IsBoundOf b c → betters d c ≡ false → IsBoundOf b d }
+{}
+
+/// What a search that agrees with the board has settled, the board excuses; and where no set stands twice among those that it
+/// knows, it knows no more than were delivered.
+pub fn an_agreeing_search_may_close()
+    ensures settled { (b : Board) (known : List Atoms) (bound : Option (List ℤ)) (nogood : List Literal) → Agrees b known bound → Settled b.task.program known bound nogood → HitsOnly b.task.program (is_excused b) nogood }
+    ensures known { (known delivered : List Atoms) → AreApart known → AllByRecursion (λ S. IsTrue (list_any (same_set S) delivered)) known → length known ≤ length delivered }
+{}
