@@ -55,21 +55,30 @@ enum-listed b known bound e f = each-known (λ S. IsTrue (list_any (same_set S) 
     (λ S h. listed-by b.task.goal b S refl e (f S (known-done b.task.program known bound S h))) (λ S h. h)
 
 -- ---- what others do
+excused-grows : (b c : Board) (known : List Atoms) (bound : Option (List ℤ)) → Grows b c → Agrees b known bound → (S : Atoms) → IsTrue (is_done c.task.program known bound S) → IsTrue (is_excused c S)
+excused-grows b c known bound g a S h = g.excused S (a.excused S (ap (λ (t : Task). is_done t.program known bound S) (sym g.task) ∙ h))
+
+bounded-grows : (b c : Board) (bound : Option (List ℤ)) → Grows b c → IfSome bound (IsBoundOf b) → IfSome bound (IsBoundOf c)
+bounded-grows b c None g h = tt
+bounded-grows b c (Some d) g h = g.bounds d h
+
 pub agrees-grows : (b c : Board) (known : List Atoms) (bound : Option (List ℤ)) → b.task.goal ≡ goal.Enum → Grows b c → Agrees b known bound → Agrees c known bound
 agrees-grows b c known bound e g a = record {
-  excused = excused;
-  listed = enum-listed c known bound (ap (λ (t : Task). t.goal) g.task ∙ e) excused;
-  bounded = by bound a.bounded;
+  excused = excused-grows b c known bound g a;
+  listed = enum-listed c known bound (ap (λ (t : Task). t.goal) g.task ∙ e) (excused-grows b c known bound g a);
+  bounded = bounded-grows b c bound g a.bounded;
 }
-  where
-    excused : (S : Atoms) → IsTrue (is_done c.task.program known bound S) → IsTrue (is_excused c S)
-    excused S h = g.excused S (a.excused S (ap (λ (t : Task). is_done t.program known bound S) (sym g.task) ∙ h))
-    by : (o : Option (List ℤ)) → IfSome o (IsBoundOf b) → IfSome o (IsBoundOf c)
-    by None h = h
-    by (Some d) h = g.bounds d h
+
+-- a search that knows no answer
+pub agrees-none : (b c : Board) (known : List Atoms) (bound : Option (List ℤ)) → known ≡ [] → Grows b c → Agrees b known bound → Agrees c known bound
+agrees-none b c known bound e g a = record {
+  excused = excused-grows b c known bound g a;
+  listed = subst (AllByRecursion (λ S. IsTrue (list_any (same_set S) c.answers))) (sym e) tt;
+  bounded = bounded-grows b c bound g a.bounded;
+}
 
 -- ---- an answer that was delivered is known
-any-push : (S : Atoms) (L : List Atoms) (T : Atoms) → list_any (same_set T) (L ++ S ∷ []) ≡ (list_any (same_set T) L || same_set T S)
+pub any-push : (S : Atoms) (L : List Atoms) (T : Atoms) → list_any (same_set T) (L ++ S ∷ []) ≡ (list_any (same_set T) L || same_set T S)
 any-push S [] T = or-nil (same_set T S)
   where
     or-nil : (a : Bool) → (a || false) ≡ a

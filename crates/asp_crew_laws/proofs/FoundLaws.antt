@@ -37,15 +37,15 @@ use Rattle.asp_path.specs.Trees.{all_closed}
 use Rattle.asp_crew_laws.specs.Runs.{task_of, IsBest, IsFound, with_cost}
 
 -- ---- the result
-answers-same : (p : Program) (mode : Mode) (budget : ℕ) → answers_of (task_of p mode budget) ≡ answers p
+pub answers-same : (p : Program) (mode : Mode) (budget : ℕ) → answers_of (task_of p mode budget) ≡ answers p
 answers-same p mode budget = ap (λ (ls : List ℤ). filter (λ S. all_hold S ls) (models p)) (append-nil p.assumptions)
 
 -- what the answers of an optimisation's board are
-none-listed : (t : Task) (A : List Atoms) → t.goal ≡ goal.Opt → AllByRecursion (λ S. IsTrue (lists t S) × IsTrue (is_answer t S)) A → A ≡ []
+pub none-listed : (t : Task) (A : List Atoms) → t.goal ≡ goal.Opt → AllByRecursion (λ S. IsTrue (lists t S) × IsTrue (is_answer t S)) A → A ≡ []
 none-listed t [] q h = refl
 none-listed t (S ∷ A) q h = absurd (false≢true (ap (λ m. lists_by m t.program S) (sym q) ∙ h.0.0))
 
-none-kept : (t : Task) (best : Option Atoms) → t.goal ≡ goal.Enum → IfSome best (λ S. IsTrue (optimises t.goal) × IsTrue (is_answer t S)) → best ≡ None
+pub none-kept : (t : Task) (best : Option Atoms) → t.goal ≡ goal.Enum → IfSome best (λ S. IsTrue (optimises t.goal) × IsTrue (is_answer t S)) → best ≡ None
 none-kept t None q h = refl
 none-kept t (Some S) q h = absurd (false≢true (ap optimises (sym q) ∙ h.0))
 
@@ -67,7 +67,7 @@ best-by p budget (Some S) h = record {
       h.1 T (sym (has-answers_of (task_of p Opt budget) T) ∙ ap (λ (L : List Atoms). list_any (same_set T) L) (answers-same p Opt budget) ∙ test_from_contains (answers p) T (Contains-get_or (answers p) k d within)));
 }
 
-sorted-nil : (A : List Atoms) → A ≡ [] → sorted_once A ≡ []
+pub sorted-nil : (A : List Atoms) → A ≡ [] → sorted_once A ≡ []
 sorted-nil A e = ap sorted_once e
 
 query-none : (p : Program) (mode : Mode) (budget : ℕ) → IsQuery (task_of p mode budget).program (task_of p mode budget).query

@@ -2,5 +2,6 @@ pub mod FoundLaws
 pub mod QuietLaws
 pub mod AgreeLaws
 pub mod FuelLaws
+pub mod WorkLaws
 pub mod PlayedLaws
 pub mod GoneLaws
