@@ -1,6 +1,6 @@
-pub mod SortLaws
 pub mod BoundLaws
 pub mod WorkLaws
+pub mod TreeLaws
+pub mod BookLaws
 pub mod StepLaws
-pub mod ReportLaws
-pub mod StartLaws
+pub mod FinishLaws

@@ -1,24 +1,30 @@
 -- One search that works off the leaves of a board by number 0: what holds after each step, and what is left to do.
-use Rattle.std.specs.Prelude.{◌≡◌, ℕ, ◌+◌, ◌-◌, ◌*◌, ◌^◌, ◌<◌, not, List, [], filter, length, ℤ, Option, None, Some}
+use Rattle.std.specs.Prelude.{◌≡◌, ◌⊎◌, ℕ, ◌+◌, ◌-◌, ◌*◌, ◌^◌, ◌<◌, not, false, List, [], filter, length, ℤ, Option, None, Some}
+use Rattle.std.specs.Option.{IfSome}
 use Rattle.asp_model.specs.declared.program.Program.{Program}
 use Rattle.asp_model.specs.declared.results.Mode.{Mode}
+use Rattle.asp_model.specs.declared.results.Mode.TheVariants.{Enum, Opt}
 use Rattle.asp_model.specs.Sets.{Atoms}
 use Rattle.asp_model.specs.Models.{models}
+use Rattle.asp_model.specs.Costs.{cost, betters}
 use Rattle.asp_vars.specs.Entailment.{is_done, HitsOnly}
 use Rattle.asp_vars.specs.Literals.{Literal}
 use Rattle.asp_vars.specs.Numbering.{var_count}
 use Rattle.asp_vars.specs.Paid.{Clash, Units}
 use Rattle.asp_path.specs.declared.status.Status.{Status}
 use Rattle.asp_path.specs.declared.status.Status.TheVariants as status
-use Rattle.asp_path.specs.Trees.{cube_of, status_of, with_status, held_count, open_from}
+use Rattle.asp_path.specs.Trees.{with_status, held_count, open_from}
+use Rattle.asp_core.specs.declared.event.Event.TheVariants as event
 use Rattle.asp_core.specs.declared.task.Task.{Task}
 use Rattle.asp_core.specs.Units.{out_of}
 use Rattle.asp_core.specs.Boards.{Board, is_excused}
+use Rattle.asp_core.specs.Events.{Guard, happens}
+use Rattle.asp_core.specs.Invariant.{IsCube}
 use Rattle.asp_book.specs.Books.{Booked, board}
 use Rattle.asp_search_laws.specs.Searching.{Searching}
 use Rattle.asp_crew_laws.specs.Runs.{task_of}
-use Rattle.asp_crew_laws.specs.Reports.{IsIdle, IsUnpaidAt, IsWorkedOff}
-use Rattle.asp_crew_laws.specs.Working.{IsAtWork, Works}
+use Rattle.asp_crew_laws.specs.Reports.{IsIdle, IsMet, IsUnpaidAt, IsWorkedOff}
+use Rattle.asp_crew_laws.specs.Working.{IsAtWork}
 use Rattle.asp_crew.specs.declared.leaf.Course.{Course}
 use Rattle.asp_crew.specs.declared.leaf.Course.TheVariants.{Open, Closed, Unpaid}
 
@@ -45,10 +51,15 @@ pub record IsReady (mode : Mode) (v : Booked) (s : Searching) (f : Units) : Type
   pub mode_is : s.mode ≡ mode
   pub work : IsAtWork (board v) 0 mode s.known s.bound f
 
--- and it is on this leaf
-pub record IsUnderway (mode : Mode) (v : Booked) (leaf : ℕ) (s : Searching) (f : Units) : Type 0 where
+-- A path is entered whose literals begin with those that each answer meets.
+abbrev pub IsEntered : Task → Option (List Literal) → Type 0
+IsEntered t None = ⊥
+IsEntered t (Some q) = IsCube t q
+
+-- and the search is on a path
+pub record IsUnderway (mode : Mode) (v : Booked) (s : Searching) (f : Units) : Type 0 where
   pub ready : IsReady mode v s f
-  pub works : Works (board v) 0 leaf s.cube
+  pub entered : IsEntered v.task s.cube
   pub learnt : s.learnt < 2 ^ 64
 
 -- What was recorded has changed at most.
@@ -58,36 +69,52 @@ pub record OnlyRecords (v w : Booked) : Type 0 where
   pub out : (board w).out ≡ (board v).out
   pub pool : (board w).pool ≡ (board v).pool
 
--- what is known of the way in which a step left the leaf
-abbrev pub IsCourse : Board → ℕ → Searching → Searching → Units → Units → Course → Type 0
-IsCourse b leaf s t f g Open = work_left t g < work_left s f
-IsCourse b leaf s t f g Closed = HitsOnly b.task.program (is_excused b) (cube_of b.nodes leaf)
-IsCourse b leaf s t f g (Unpaid x) = (g.left ≡ 0) × IsUnpaidAt b leaf x
+-- The set costs no less than a best that stands.
+pub record IsUnbettered (b : Board) (S : Atoms) : Type 0 where
+  pub best : Atoms
+  pub stands : b.best ≡ Some best
+  pub dearer : betters (cost b.task.program S) (cost b.task.program best) ≡ false
 
--- one step on a leaf
-pub record Goes (mode : Mode) (v w : Booked) (leaf : ℕ) (s t : Searching) (f g : Units) (how : Course) : Type 0 where
-  pub underway : IsUnderway mode w leaf t g
+-- The answer was delivered; or it is the best, if none stood that it doesn't better.
+abbrev pub IsRecorded : Mode → Board → Board → Atoms → Type 0
+IsRecorded Enum b c S = Guard b (event.Deliver 0 S) × (c ≡ happens b (event.Deliver 0 S))
+IsRecorded Opt b c S = (Guard b (event.Improve 0 S) × (c ≡ happens b (event.Improve 0 S))) ⊎ ((c ≡ b) × IsUnbettered b S)
+
+-- Each stable model below the path is excused.
+abbrev pub IsSettled : Board → Searching → Type 0
+IsSettled b s = (q : List Literal) → s.cube ≡ Some q → HitsOnly b.task.program (is_excused b) q
+
+-- A conflict was met below the path when no unit was left.
+abbrev pub IsStopped : Board → Searching → Units → Clash → Type 0
+IsStopped b s f x = (f.left ≡ 0) × (s.cube ≡ Some x.cube) × IsMet b x
+
+-- what is known of the way in which a step left the path
+abbrev pub IsCourse : Board → Searching → Searching → Units → Units → Course → Type 0
+IsCourse b s t f g Open = work_left t g < work_left s f
+IsCourse b s t f g Closed = IsSettled b s
+IsCourse b s t f g (Unpaid x) = IsStopped b s g x
+
+-- one step on a path
+pub record Goes (mode : Mode) (v w : Booked) (s t : Searching) (f g : Units) (how : Course) : Type 0 where
+  pub underway : IsUnderway mode w t g
   pub only : OnlyRecords v w
-  pub course : IsCourse (board w) leaf s t f g how
+  pub cube : t.cube ≡ s.cube
+  pub course : IsCourse (board w) s t f g how
 
--- how the steps on a leaf ended: it may be closed, or a conflict was met when no unit was left
-abbrev pub IsOver : Board → ℕ → Units → Option Clash → Type 0
-IsOver b leaf f None = HitsOnly b.task.program (is_excused b) (cube_of b.nodes leaf)
-IsOver b leaf f (Some x) = (f.left ≡ 0) × IsUnpaidAt b leaf x
+-- how the steps on a path ended
+abbrev pub IsOver : Board → Searching → Units → Option Clash → Type 0
+IsOver b s f None = IsSettled b s
+IsOver b s f (Some x) = IsStopped b s f x
 
-pub record Ends (mode : Mode) (v w : Booked) (leaf : ℕ) (t : Searching) (g : Units) (unpaid : Option Clash) : Type 0 where
-  pub underway : IsUnderway mode w leaf t g
+pub record Ends (mode : Mode) (v w : Booked) (s t : Searching) (g : Units) (unpaid : Option Clash) : Type 0 where
+  pub ready : IsReady mode w t g
   pub only : OnlyRecords v w
-  pub over : IsOver (board w) leaf g unpaid
+  pub over : IsOver (board w) s g unpaid
 
 -- what a leaf is when it was worked on
 abbrev pub status_after : Option Clash → Status
 status_after None = status.Closed
 status_after (Some x) = status.Open
-
--- a conflict that was met when no unit was left, below a leaf that is open
-abbrev pub IsLeft : Board → Units → Clash → Type 0
-IsLeft b f x = (f.left ≡ 0) × ((leaf : ℕ) × (status_of b.nodes leaf ≡ status.Open) × IsUnpaidAt b leaf x)
 
 -- what is left of one leaf that number 0 held
 pub record LeavesLeaf (mode : Mode) (v w : Booked) (leaf : ℕ) (t : Searching) (g : Units) (unpaid : Option Clash) : Type 0 where
@@ -96,17 +123,17 @@ pub record LeavesLeaf (mode : Mode) (v w : Booked) (leaf : ℕ) (t : Searching) 
   pub nodes : (board w).nodes ≡ with_status (board v).nodes leaf (status_after unpaid)
   pub out : (board w).out ≡ (board v).out
   pub pool : (board w).pool ≡ (board v).pool
-  pub over : (x : Clash) → unpaid ≡ Some x → IsLeft (board w) g x
+  pub stopped : IfSome unpaid (λ x. (g.left ≡ 0) × IsUnpaidAt (board w) x leaf)
 
 -- Number 0 alone has units, and no leaf is held.
 pub record IsAlone (b : Board) : Type 0 where
   pub free : held_count b.nodes ≡ 0
   pub home : (s : ℕ) → (s ≡ 0 → ⊥) → out_of b.out s ≡ 0
 
--- no leaf is open, or a conflict was met when no unit was left
+-- no leaf is open, or a conflict was met below an open leaf when no unit was left
 abbrev pub IsThrough : Board → Units → Option Clash → Type 0
 IsThrough b f None = open_from 0 b.nodes ≡ []
-IsThrough b f (Some x) = IsLeft b f x
+IsThrough b f (Some x) = (f.left ≡ 0) × ((leaf : ℕ) × IsUnpaidAt b x leaf)
 
 pub record LeavesAll (mode : Mode) (v w : Booked) (t : Searching) (g : Units) (unpaid : Option Clash) : Type 0 where
   pub ready : IsReady mode w t g

@@ -1,4 +1,6 @@
 //! A run of one search, which waits for nobody.
+ghost use Rattle.std.specs.Prelude.{◌≡◌, false, IfOk};
+ghost use Rattle.asp_crew_laws.specs.Reports.{IsReport};
 
 use crate::finish::finish;
 use crate::report::Report;
@@ -20,7 +22,11 @@ pub fn solve_alone(
     compiled: &Compiled,
     mode: Mode,
     budget: u64,
-) -> Result<Report, AllocError> {
+) -> Result<Report, AllocError>
+    ensures report { IfOk result (IsReport compiled.now mode budget) }
+    ensures log { IfOk result (λ r. r.log ≡ 0) }
+    ensures short { IfOk result (λ r. r.short ≡ false) }
+{
     let state = State::start(alloc, compiled, Goal::of(mode), budget, 0, [].as_slice())?;
     let mut book = Book::new(alloc, compiled, state);
     let propagator = Propagators::new(alloc, compiled)?;

@@ -176,27 +176,27 @@ module _ (p : Program) (mode : Mode) (units : ℕ) (r : Report) (lawful : IsJour
       kept None h = tt
       kept (Some S) h = h.0
 
-  unpaid : (leaf : ℕ) (x : Clash) → status_of (last_board p mode units r).nodes leaf ≡ status.Open → IsUnpaidAt (last_board p mode units r) leaf x → IsUnpaid p (last_board p mode units r) r.results x
-  unpaid leaf x open is =
+  unpaid : (leaf : ℕ) (x : Clash) → IsUnpaidAt (last_board p mode units r) x leaf → IsUnpaid p (last_board p mode units r) r.results x
+  unpaid leaf x is =
       let b : Board = last_board p mode units r in
       record {
-        program = is.program ∙ program;
+        program = is.met.program ∙ program;
         leaf = leaf;
-        unclosed = ap is_unclosed open;
+        unclosed = ap is_unclosed is.unclosed;
         cube = is.cube;
-        known = omega (arith, is.known, ap length told.answers, length-sorted_once b.answers);
-        bound = bounded x.bound is.bound;
+        known = omega (arith, is.met.known, ap length told.answers, length-sorted_once b.answers);
+        bound = bounded x.bound is.met.bound;
         conflict =
             conflict-more p b.answers r.results.answers (bound_of b) (best_cost r.results) x (λ S. sym (sorted-has [] b.answers S) ∙ ap (λ (L : List Atoms). list_any (same_set S) L) (sym told.answers)) bound-is
-            (subst (λ (q : Program). IsConflict q b.answers (bound_of b) x.cube x.decisions x.nogood) program is.conflict);
+            (subst (λ (q : Program). IsConflict q b.answers (bound_of b) x.cube x.decisions x.nogood) program is.met.conflict);
       }
 
   ends-by : (o : Option Clash) → r.unpaid ≡ o → IsWorkedOff (last_board p mode units r) o → Ends p (last_board p mode units r) r r.results.end
   ends-by None e closed = subst (Ends p (last_board p mode units r) r) (sym (told.end ∙ ap end_by closed)) e
   ends-by (Some x) e over =
       let b : Board = last_board p mode units r in
-      subst (Ends p (last_board p mode units r) r) (sym (told.end ∙ ap end_by (open-left b.nodes over.1.0 over.1.1)))
-      (over.0, omega (arith, told.spent, over.0, home, is-board.units), (x, e, unpaid over.1.0 x over.1.1 over.1.2))
+      subst (Ends p (last_board p mode units r) r) (sym (told.end ∙ ap end_by (open-left b.nodes over.1.0 over.1.1.unclosed)))
+      (over.0, omega (arith, told.spent, over.0, home, is-board.units), (x, e, unpaid over.1.0 x over.1.1))
 
   played : IsPlayed p mode units r
   played = record {

@@ -14,9 +14,10 @@ use Rattle.asp_model.specs.Costs.{cost, betters}
 use Rattle.asp_model.proofs.MemberLaws.{each_weaker}
 use Rattle.asp_vars.specs.Literals.{Literal, hits}
 use Rattle.asp_vars.specs.Numbering.{values}
-use Rattle.asp_vars.specs.Entailment.{is_done}
+use Rattle.asp_vars.specs.Conflicts.{IsConflict}
+use Rattle.asp_vars.specs.Entailment.{Settled, is_done}
 use Rattle.asp_vars.specs.Paid.{Clash, Units, least_of}
-use Rattle.asp_vars.specs.Resolution.{smaller}
+use Rattle.asp_vars.proofs.ResolutionLaws.{HitsOnly-weaker}
 use Rattle.asp_path.specs.declared.status.Status.TheVariants as status
 use Rattle.asp_path.specs.Trees.{Node, nowhere, cube_of, status_of}
 use Rattle.asp_core.specs.declared.event.Event.{Event}
@@ -24,7 +25,7 @@ use Rattle.asp_core.specs.declared.event.Event.TheVariants as event
 use Rattle.asp_core.specs.declared.goal.Goal.{Goal}
 use Rattle.asp_core.specs.declared.task.Task.{Task}
 use Rattle.asp_core.specs.Units.{out_of, leased}
-use Rattle.asp_core.specs.Boards.{Board, IsBoundOf, IsQuery, distinct, goal_of, is_answer, lists_by, lists, optimises}
+use Rattle.asp_core.specs.Boards.{Board, IsBoundOf, bound_of, distinct, goal_of, is_excused, lists_by, lists, optimises}
 use Rattle.asp_core.specs.Events.{Guard, happens}
 use Rattle.asp_core.specs.Growth.{Grows, Spares}
 use Rattle.asp_core.specs.Invariant.{IsBoard}
@@ -35,6 +36,7 @@ use Rattle.asp_core.proofs.GrowthLaws.{Grows-happens}
 use Rattle.asp_book.specs.Fuels.{Fits, ComesBack}
 use Rattle.asp_book.proofs.BookLaws.{Fits-grows}
 use Rattle.asp_crew_laws.specs.Agrees.{Agrees, AreApart}
+use Rattle.asp_crew_laws.specs.Reports.{IsMet}
 use Rattle.asp_crew_laws.specs.Working.{IsKept, IsAtWork, Works}
 use Rattle.asp_crew_laws.proofs.AgreeLaws.{agrees-grows, agrees-none, agrees-delivered}
 use Rattle.asp_crew_laws.proofs.FuelLaws.{pigeons, agrees-improved, agrees-unimproved}
@@ -190,3 +192,26 @@ may-list t S e = ap (λ (g : Goal). lists_by g t.program S) e
 
 pub may-optimise : (t : Task) → t.goal ≡ goal_of Opt → IsTrue (optimises t.goal)
 may-optimise t e = ap optimises e
+
+-- ---- a conflict that is met
+settled-board : (b : Board) (known : List Atoms) (bound : Option (List ℤ)) (way : List Literal) → Agrees b known bound → Settled b.task.program known bound way → Settled b.task.program b.answers (bound_of b) way
+settled-board b known bound way a h = HitsOnly-weaker b.task.program (is_done b.task.program known bound) (is_excused b) way a.excused h
+
+-- A conflict of the search is one by what was recorded.
+pub work-met : (b : Board) (n : ℕ) (mode : Mode) (known : List Atoms) (bound : Option (List ℤ)) (u : Units) (x : Clash) → IsAtWork b n mode known bound u → x.program ≡ b.task.program → x.known ≡ length known → x.bound ≡ bound
+    → IsConflict b.task.program known bound x.cube x.decisions x.nogood → IsMet b x
+work-met b n mode known bound u x w program count under c = record {
+  program = program;
+  known = omega (arith, count, known-delivered b known bound w.agrees w.apart);
+  bound = subst (λ (o : Option (List ℤ)). IfSome o (IsBoundOf b)) (sym under) w.agrees.bounded;
+  conflict = record {
+    decided = c.decided;
+    consistent = c.consistent;
+    unbroken = c.unbroken;
+    open_true = c.open_true;
+    open_false = c.open_false;
+    new = c.new;
+    settled = settled-board b known bound _ w.agrees c.settled;
+    justified = settled-board b known bound _ w.agrees c.justified;
+  };
+}

@@ -39,18 +39,23 @@ pub record IsIdle (b : Board) : Type 0 where
   pub free : held_count b.nodes ≡ 0
   pub home : (s : ℕ) → out_of b.out s ≡ 0
 
--- A conflict of the board's program below a leaf's cube, by what was recorded, that knew no more answers than were delivered.
-pub record IsUnpaidAt (b : Board) (leaf : ℕ) (x : Clash) : Type 0 where
+-- A conflict of the board's program by what was recorded, that knew no more answers than were delivered.
+pub record IsMet (b : Board) (x : Clash) : Type 0 where
   pub program : x.program ≡ b.task.program
-  pub cube : x.cube ≡ cube_of b.nodes leaf
   pub known : x.known ≤ length (distinct b.answers)
   pub bound : IfSome x.bound (IsBoundOf b)
   pub conflict : IsConflict b.task.program b.answers (bound_of b) x.cube x.decisions x.nogood
 
+-- The conflict is below this leaf, which is open.
+pub record IsUnpaidAt (b : Board) (x : Clash) (leaf : ℕ) : Type 0 where
+  pub unclosed : status_of b.nodes leaf ≡ status.Open
+  pub cube : x.cube ≡ cube_of b.nodes leaf
+  pub met : IsMet b x
+
 -- Every leaf is closed; or no unit is left, and a conflict was met below a leaf that is open.
 abbrev pub IsWorkedOff : Board → Option Clash → Type 0
 IsWorkedOff b None = all_closed b.nodes ≡ true
-IsWorkedOff b (Some x) = (b.pool ≡ 0) × ((leaf : ℕ) × (status_of b.nodes leaf ≡ status.Open) × IsUnpaidAt b leaf x)
+IsWorkedOff b (Some x) = (b.pool ≡ 0) × ((leaf : ℕ) × IsUnpaidAt b x leaf)
 
 -- ---- what a report says by its journal
 -- A conflict below a leaf that isn't closed, by the answers that were found and the cost of the best.
