@@ -1,5 +1,5 @@
 -- A search at work goes with the board still, after what others did and after what its own number did.
-use Rattle.std.proofs.Common.{◌≡◌, ℕ, ◌+◌, ◌-◌, ◌<◌, ◌≤◌, max, Bool, true, false, cond, ◌||◌, eqb, List, [], ◌∷◌, ◌++◌, length, get_or, Option, Some, None, refl, sym, ap, ◌∙◌, subst, arith}
+use Rattle.std.proofs.Common.{◌≡◌, ℕ, ◌+◌, ◌-◌, ◌<◌, ◌≤◌, max, Bool, true, false, cond, ◌||◌, eqb, List, [], ◌∷◌, ◌++◌, length, get_or, Option, Some, None, refl, sym, ap, ◌∙◌, subst, arith, zero-add}
 use Rattle.std.specs.Prelude.{ℤ, IsTrue}
 use Rattle.std.specs.Option.{IfSome}
 use Rattle.std.specs.List.{list_any, AllByRecursion}
@@ -153,9 +153,9 @@ work-improved b n S known bound u w guard = record {
 
 pub work-unimproved : (b : Board) (n : ℕ) (S B : Atoms) (known : List Atoms) (bound : Option (List ℤ)) (u : Units) → IsAtWork b n Opt known bound u → b.best ≡ Some B → betters (cost b.task.program S) (cost b.task.program B) ≡ false
     → IsAtWork b n Opt known (Some (cost b.task.program S)) u
-work-unimproved b n S B known bound u w best no = record {
+work-unimproved b n S B known bound u w best dearer = record {
   goal = w.goal;
-  agrees = subst (λ (k : List Atoms). Agrees b k (Some (cost b.task.program S))) (sym w.kept) (agrees-unimproved b S B w.goal best no);
+  agrees = subst (λ (k : List Atoms). Agrees b k (Some (cost b.task.program S))) (sym w.kept) (agrees-unimproved b S B w.goal best dearer);
   apart = w.apart;
   kept = w.kept;
   units = w.units;
@@ -163,7 +163,7 @@ work-unimproved b n S B known bound u w best no = record {
 
 -- ---- units are leased
 pub out_of-leased : (s n : ℕ) (out : List (ℕ × ℕ)) → out_of (leased s n out) s ≡ out_of out s + n
-out_of-leased s n [] = ap (λ x. let k : ℕ = cond x n 0 in k) (eq-eqb s s refl)
+out_of-leased s n [] = ap (λ x. let k : ℕ = cond x n 0 in k) (eq-eqb s s refl) ∙ sym (zero-add n)
 out_of-leased s n (x ∷ out) = here (eqb x.0 s) refl (out_of-leased s n out)
   where
     here : (z : Bool) → z ≡ eqb x.0 s → out_of (leased s n out) s ≡ out_of out s + n → out_of (cond z ((x.0, x.1 + n) ∷ out) (x ∷ leased s n out)) s ≡ cond z x.1 (out_of out s) + n
