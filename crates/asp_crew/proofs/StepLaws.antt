@@ -1,7 +1,7 @@
 -- What is known after each step on a path, by its answer.
 use Rattle.std.proofs.Common.{◌≡◌, ℕ, ◌+◌, ◌-◌, ◌^◌, ◌<◌, ◌≤◌, Bool, true, false, List, [], ◌∷◌, ◌++◌, length, filter, Option, Some, None, refl, sym, ap, ◌∙◌, subst, inl, inr, arith}
 use Rattle.std.specs.Prelude.{ℤ, IsTrue, count_by, not}
-use Rattle.std.specs.Option.{IfSome}
+use Rattle.std.specs.Option.{IfSome, IsSome}
 use Rattle.std.specs.List.{list_any}
 use Rattle.std.proofs.lemmas.List.Filters.{length-filter}
 use Rattle.std.proofs.lemmas.List.Sums.{count_by-le-length}
@@ -26,6 +26,7 @@ use Rattle.asp_core.proofs.BoardLaws.{wanted-stand}
 use Rattle.asp_core.proofs.CubeLaws.{answer-in_cube}
 use Rattle.asp_book.specs.Books.{Booked, board}
 use Rattle.asp_propagate.specs.Useful.{IsSmaller}
+use Rattle.asp_search.specs.Beside.{Enters}
 use Rattle.asp_search_laws.specs.Searching.{Searching}
 use Rattle.asp_search_laws.specs.Steps.{HasSameTask, IsConflictOf, burnt, IsStep, Answers, Records}
 use Rattle.asp_search_laws.specs.declared.step.Step.{Step}
@@ -36,7 +37,7 @@ use Rattle.asp_crew_laws.proofs.AgreeLaws.{settled-excused}
 use Rattle.asp_crew_laws.proofs.WorkLaws.{work-burnt, work-delivered, work-improved, work-unimproved, work-met}
 use Rattle.asp_crew.specs.declared.leaf.Course.{Course}
 use Rattle.asp_crew.specs.declared.leaf.Course.TheVariants.{Open, Closed, Unpaid}
-use Rattle.asp_crew.specs.Running.{unfound, work, work_left, IsRunIn, IsReady, IsEntered, IsUnderway, OnlyRecords, IsRecorded, IsSettled, Goes}
+use Rattle.asp_crew.specs.Running.{unfound, work, work_left, IsRunIn, IsReady, IsEntered, IsUnderway, OnlyRecords, IsRecorded, IsSettled, Goes, Ends}
 use Rattle.asp_crew.proofs.BookLaws.{board-task, query-none}
 use Rattle.asp_crew.proofs.BoundLaws.{fewer-push, fewer-lower}
 use Rattle.asp_crew.proofs.WorkLaws.{work-paid, work-found, work-restarted, work-decided, some_learnt}
@@ -212,3 +213,48 @@ answered gives silent mode v w s t f g is r h S e only done =
           (work-found f.left (length (models s.program)) (unfound s.program s.known s.bound) s.learnt (var_count s.program + 1) (length s.entries) (unfound s.program t.known t.bound) t.learnt (length t.entries)
           (fewer-by mode s t path.0 S d.stable d.new d.cheaper records) small);
     })
+
+-- ---- what a step asks
+some-entered : (t : Task) (o : Option (List Literal)) → IsEntered t o → IsSome o
+some-entered t None h = absurd h
+some-entered t (Some q) h = tt
+
+pub may-step : (mode : Mode) (v : Booked) (s : Searching) (f : Units) → IsUnderway mode v s f → IsSome s.cube × (f.program ≡ s.program)
+may-step mode v s f is = (some-entered v.task s.cube is.entered, is.ready.work.units.0.program ∙ sym (program-is mode v s f is.ready))
+
+-- ---- steps in a row
+-- what holds from v and s on
+pub record IsAlong (mode : Mode) (v w : Booked) (s t : Searching) (g : Units) : Type 0 where
+  pub underway : IsUnderway mode w t g
+  pub only : OnlyRecords v w
+  pub cube : t.cube ≡ s.cube
+
+pub along-begins : (mode : Mode) (v : Booked) (s : Searching) (f : Units) → IsUnderway mode v s f → IsAlong mode v v s s f
+along-begins mode v s f is = record { underway = is; only = unchanged v; cube = refl }
+
+only-further : (u v w : Booked) → OnlyRecords u v → OnlyRecords v w → OnlyRecords u w
+only-further u v w a b = record { task = b.task ∙ a.task; nodes = b.nodes ∙ a.nodes; out = b.out ∙ a.out; pool = b.pool ∙ a.pool }
+
+pub along-on : (mode : Mode) (u v w : Booked) (r s t : Searching) (f g : Units) (how : Course) → IsAlong mode u v r s f → Goes mode v w s t f g how → IsAlong mode u w r t g
+along-on mode u v w r s t f g how a go = record { underway = go.underway; only = only-further u v w a.only go.only; cube = go.cube ∙ a.cube }
+
+pub along-closed : (mode : Mode) (u v w : Booked) (r s t : Searching) (f g : Units) → IsAlong mode u v r s f → Goes mode v w s t f g Closed → Ends mode u w r t g None
+along-closed mode u v w r s t f g a go =
+    let b = along-on mode u v w r s t f g Closed a go in
+    record { ready = b.underway.ready; only = b.only; over = λ q e. go.course q (a.cube ∙ e) }
+
+pub along-stopped : (mode : Mode) (u v w : Booked) (r s t : Searching) (f g : Units) (x : Clash) → IsAlong mode u v r s f → Goes mode v w s t f g (Unpaid x) → Ends mode u w r t g (Some x)
+along-stopped mode u v w r s t f g x a go =
+    let b = along-on mode u v w r s t f g (Unpaid x) a go in
+    record { ready = b.underway.ready; only = b.only; over = (go.course.0, (sym a.cube ∙ go.course.1), go.course.2) }
+
+-- ---- the path begins
+pub underway-enters : (mode : Mode) (v : Booked) (s t : Searching) (f : Units) (q : List Literal) → IsReady mode v s f → Enters s t q → IsCube v.task q → IsUnderway mode v t f
+underway-enters mode v s t f q is e cube = subst (λ (x : Searching). IsUnderway mode v x f) (sym e.same) (record {
+  ready = record { task = is.task; program = is.program; mode_is = is.mode_is; work = is.work };
+  entered = cube;
+  learnt = omega arith;
+})
+
+pub cube-entered : (s t : Searching) (q : List Literal) → Enters s t q → t.cube ≡ Some q
+cube-entered s t q e = ap (λ (x : Searching). x.cube) e.same

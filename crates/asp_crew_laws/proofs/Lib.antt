@@ -5,3 +5,4 @@ pub mod FuelLaws
 pub mod WorkLaws
 pub mod PlayedLaws
 pub mod GoneLaws
+pub mod SharedLaws

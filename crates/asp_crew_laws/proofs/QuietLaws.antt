@@ -17,7 +17,7 @@ use Rattle.asp_book.proofs.CallLaws.{run-append}
 use Rattle.asp_crew_laws.specs.Runs.{IsBack, Quiet}
 
 -- ---- lists
-all-join : {E : Type 0} (P Q R : E → Type 0) → ((x : E) → P x → Q x → R x) → (xs : List E) → AllByRecursion P xs → AllByRecursion Q xs → AllByRecursion R xs
+pub all-join : {E : Type 0} (P Q R : E → Type 0) → ((x : E) → P x → Q x → R x) → (xs : List E) → AllByRecursion P xs → AllByRecursion Q xs → AllByRecursion R xs
 all-join P Q R f [] h k = tt
 all-join P Q R f (x ∷ xs) h k = (f x h.0 k.0, all-join P Q R f xs h.1 k.1)
 

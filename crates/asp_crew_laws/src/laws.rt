@@ -24,8 +24,8 @@ ghost use Rattle.asp_core.specs.Growth.{Grows, Spares};
 ghost use Rattle.asp_book.specs.Fuels.{Fits, ComesBack};
 ghost use Rattle.asp_crew_laws.specs.declared.report.Report.{Report};
 ghost use Rattle.asp_crew_laws.specs.Agrees.{Agrees, AreApart};
-ghost use Rattle.asp_crew_laws.specs.Gone.{IsGone};
-ghost use Rattle.asp_crew_laws.specs.Reports.{IsPart, IsPlayed};
+ghost use Rattle.asp_crew_laws.specs.Gone.{IsCrewGone, IsGone, IsShared};
+ghost use Rattle.asp_crew_laws.specs.Reports.{IsIdle, IsPart, IsPlayed};
 ghost use Rattle.asp_crew_laws.specs.Working.{IsAtWork, Works};
 ghost use Rattle.asp_crew_laws.specs.Runs.{task_of, IsFound, with_cost, Quiet};
 
@@ -72,9 +72,18 @@ pub fn a_search_at_work_records()
         → IsAtWork (happens b (event.Lease n k)) n mode known bound v }
 {}
 
-/// What a number left behind, it still has as others go on.
+/// What a number left behind, it still has as others go on, and where another was short of memory.
 pub fn others_leave_the_gone_alone()
-    ensures { (t : Task) (n : ℕ) (xs ys : List Event) → IsLawful (start t) (xs ++ ys) → AllByRecursion (λ e. maker e ≡ n → ⊥) ys → (short never : Bool) → IsGone t short never n xs → IsGone t short never n (xs ++ ys) }
+    ensures later { (t : Task) (n : ℕ) (xs ys : List Event) → IsLawful (start t) (xs ++ ys) → AllByRecursion (λ e. maker e ≡ n → ⊥) ys → (short never : Bool) (begun : List Event) → IsGone t short never n begun xs → IsGone t short never n begun (xs ++ ys) }
+    ensures shorter { (t : Task) (n : ℕ) (begun xs : List Event) (s short never : Bool) → (s ≡ true → short ≡ true) → IsGone t s never n begun xs → IsGone t short never n begun xs }
+{}
+
+/// When the workers are gone and number 0 holds nothing, the board is idle. Where the main thread then goes on, the run was shared:
+/// the workers left nothing to it, and gave nothing back, unless they were cut short.
+pub fn gone_workers_shared_the_run()
+    ensures idle { (t : Task) (workers : ℕ) (short never : Bool) (begun rest : List Event) → IsCrewGone t workers short never begun rest → IsIdle (replay t (begun ++ rest)) }
+    ensures shared { (t : Task) (workers : ℕ) (short never : Bool) (begun rest : List Event) → IsCrewGone t workers short never begun rest → 0 < workers → (more : List Event) → IsLawful (start t) ((begun ++ rest) ++ more) → AllByRecursion (λ e. maker e ≡ 0) more
+        → IsShared t short never ((begun ++ rest) ++ more) }
 {}
 
 /// In an enumeration a search that agrees with the board still does after what others did, and after a delivery.

@@ -1,5 +1,5 @@
-use Rattle.asp_crew_laws.proofs.GoneLaws.{gone-later}
+use Rattle.asp_crew_laws.proofs.GoneLaws.{gone-later, gone-shorter}
 use Rattle.asp_crew_laws.proofs.laws.others_leave_the_gone_alone.Goals as goal
 
 pub returns : goal.returns
-returns c = gone-later
+returns c = record { later = gone-later; shorter = gone-shorter }
