@@ -1,5 +1,5 @@
 //! All that is open on a board, by one search.
-ghost use Rattle.std.specs.Prelude.{◌≡◌, ◌+◌, None, IfOk, replicate};
+ghost use Rattle.std.specs.Prelude.{◌≡◌, ◌+◌, ◌^◌, ◌<◌, None, IfOk, replicate};
 ghost use Rattle.asp_vars.specs.Numbering.{var_count};
 ghost use Rattle.asp_book.specs.Books.{board};
 ghost use Rattle.asp_crew_laws.specs.Reports.{IsIdle};
@@ -46,6 +46,7 @@ pub fn finish<P: Propagator>(
 ) -> Result<Option<Conflict>, AllocError>
     requires task { IsRunIn mode book.old.task }
     requires of { book.old.task.program ≡ compiled.now }
+    requires fits { book.old.task.budget < 2 ^ 64 }
     requires idle { IsIdle (board book.old) }
     requires program { (P.told propagator).program ≡ compiled.now }
     requires fresh { (P.told propagator).values ≡ replicate (var_count compiled.now + 1) None }

@@ -25,19 +25,17 @@ use Rattle.asp_crew_laws.proofs.QuietLaws.{all-join, quiet-both, quiet-closed}
 -- ---- nobody holds a leaf
 held-none : (nodes : List Node) → ((n : ℕ) → held_by n nodes ≡ 0) → held_count nodes ≡ 0
 held-none [] none = refl
-held-none (x ∷ nodes) none = here x.status refl
+held-none (x ∷ nodes) none = here x.status refl (held-none nodes (λ n. omega (arith, none n, at n)))
   where
     at : (n : ℕ) → held_by n (x ∷ nodes) ≡ cond (is_held_by n x.status) 1 0 + held_by n nodes
     at n = sum_by-cons (λ (y : Node). cond (is_held_by n y.status) 1 0) x nodes
     all : held_count (x ∷ nodes) ≡ cond (is_held x.status) 1 0 + held_count nodes
     all = sum_by-cons (λ (y : Node). cond (is_held y.status) 1 0) x nodes
-    rest : held_count nodes ≡ 0
-    rest = held-none nodes (λ n. omega (arith, none n, at n))
-    here : (s : Status) → x.status ≡ s → held_count (x ∷ nodes) ≡ 0
-    here status.Open q = omega (arith, all, rest, ap (λ s. let k : ℕ = cond (is_held s) 1 0 in k) q)
-    here (status.Held n) q = absurd (omega (arith, none n, at n, ap (λ s. let k : ℕ = cond (is_held_by n s) 1 0 in k) q, ap (λ b. let k : ℕ = cond b 1 0 in k) (eq-eqb n n refl)))
-    here status.Closed q = omega (arith, all, rest, ap (λ s. let k : ℕ = cond (is_held s) 1 0 in k) q)
-    here status.Forked q = omega (arith, all, rest, ap (λ s. let k : ℕ = cond (is_held s) 1 0 in k) q)
+    here : (s : Status) → x.status ≡ s → held_count nodes ≡ 0 → held_count (x ∷ nodes) ≡ 0
+    here status.Open q rest = omega (arith, all, rest, ap (λ s. let k : ℕ = cond (is_held s) 1 0 in k) q)
+    here (status.Held n) q rest = absurd (omega (arith, none n, at n, ap (λ s. let k : ℕ = cond (is_held_by n s) 1 0 in k) q, ap (λ b. let k : ℕ = cond b 1 0 in k) (eq-eqb n n refl)))
+    here status.Closed q rest = omega (arith, all, rest, ap (λ s. let k : ℕ = cond (is_held s) 1 0 in k) q)
+    here status.Forked q rest = omega (arith, all, rest, ap (λ s. let k : ℕ = cond (is_held s) 1 0 in k) q)
 
 -- ---- where all leaves are closed, none is closed again
 closed-at : (nodes : List Node) (n : ℕ) → all_closed nodes ≡ true → is_unclosed (status_of nodes n) ≡ false
