@@ -9,12 +9,16 @@ use Rattle.asp_model.specs.Sets.{Atoms}
 use Rattle.asp_vars.specs.Literals.{Literal, has_literal, literal_eq}
 use Rattle.asp_vars.specs.Conflicts.{has_all}
 use Rattle.asp_vars.specs.Paid.{Units}
+use Rattle.asp_path.specs.declared.status.Status.TheVariants as status
+use Rattle.asp_path.specs.Trees.{is_leaf, cube_of, status_of}
+use Rattle.asp_path.proofs.TreeLaws.{leaf-within}
 use Rattle.asp_core.specs.declared.event.Event.{Event}
 use Rattle.asp_core.specs.declared.task.Task.{Task}
 use Rattle.asp_core.specs.Units.{out_of}
 use Rattle.asp_core.specs.Boards.{Board, start, IsQuery}
 use Rattle.asp_core.specs.Events.{Guard, happens}
-use Rattle.asp_core.specs.Invariant.{IsBoard}
+use Rattle.asp_core.specs.Invariant.{IsBoard, IsCube}
+use Rattle.asp_core.proofs.CubeLaws.{cube-at}
 use Rattle.asp_core.proofs.HeldLaws.{run-push}
 use Rattle.asp_core.proofs.GrowthLaws.{Grows-happens}
 use Rattle.asp_core.proofs.ResultLaws.{IsBoard-replay, task-run}
@@ -65,3 +69,9 @@ has-further k q (l ∷ n) h =
 pub has_all-itself : (q : List Literal) → has_all q q ≡ true
 has_all-itself [] = refl
 has_all-itself (l ∷ q) = and_from (has_literal (l ∷ q) l) (has_all (l ∷ q) q) (or_left (literal_eq l l) (has_literal q l) (literal-itself l)) (has-further l q q (has_all-itself q))
+
+-- ---- the cube of a leaf that is held
+pub leaf-cube : (mode : Mode) (v : Booked) (leaf : ℕ) (q : List Literal) → IsRunIn mode v.task → IsJournalOf v.task v.journal → status_of (board v).nodes leaf ≡ status.Held 0 → q ≡ cube_of (board v).nodes leaf → IsCube v.task q
+leaf-cube mode v leaf q run lawful held is =
+    subst (IsCube v.task) (sym is) (subst (λ (t : Task). IsCube t (cube_of (board v).nodes leaf)) (board-task v)
+    (cube-at (board v).task (board v).nodes leaf (leaf-within (board v).nodes leaf (ap is_leaf held)) (book-board mode v run lawful).cubes))

@@ -33,10 +33,6 @@ use Rattle.asp_crew.proofs.BookLaws.{board-task, board-with, ready-with}
 use Rattle.asp_crew.proofs.TreeLaws.{open-changed, status-set, cube-set, held_by-le, closed-when}
 
 -- ---- one leaf
--- what was met stays so where nothing that was recorded changes
-met-same : (b c : Board) (x : Clash) → c ≡ record b { nodes = c.nodes; pool = c.pool; out = c.out; burnt = c.burnt; reasons = c.reasons } → IsMet b x → IsMet c x
-met-same b c x e m = subst (λ (d : Board). IsMet d x) (sym e) (record { program = m.program; known = m.known; bound = m.bound; conflict = m.conflict })
-
 held-leaf : (nodes : List Node) (leaf : ℕ) → status_of nodes leaf ≡ status.Held 0 → is_leaf (status_of nodes leaf) ≡ true
 held-leaf nodes leaf held = ap is_leaf held
 
@@ -271,10 +267,6 @@ module _ (mode : Mode) (v w y : Booked) (t : Searching) (g : Units) (o : Option 
       here false now = ap (λ (z : Booked). z.task) now ∙ left.task
 
 -- what is left when the units are back
-worked-off : (b : Board) (f : Units) (o : Option Clash) → held_count b.nodes ≡ 0 → b.pool ≡ 0 → IsThrough b f o → IsWorkedOff b o
-worked-off b f None free pool none = closed-when b.nodes none free
-worked-off b f (Some x) free pool left = (pool, left.1)
-
 back-through : (b : Board) (left burnt : ℕ) (f : Units) (o : Option Clash) → IsThrough b f o → IsThrough (happens b (event.Back 0 left burnt)) f o
 back-through b left burnt f None none = none
 back-through b left burnt f (Some x) h = (h.0, (h.1.0, record {

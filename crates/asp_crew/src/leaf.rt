@@ -47,12 +47,13 @@ fn record(book: &mut Book, mode: Mode, set: Interp) -> Result<(), AllocError>
     match mode {
         Mode::Enum => {
             let _listed = book.deliver(0, set)?;
+            Ok(())
         }
         Mode::Opt => {
             let _best = book.improve(0, set)?;
+            Ok(())
         }
     }
-    Ok(())
 }
 
 // One step. An answer is recorded.
@@ -107,7 +108,8 @@ fn cube_of(book: &Book, mode: Mode, leaf: Leaf) -> Result<Vec<Lit>, AllocError>
 {
     let _ = mode;
     let _lawful = book.journal();
-    book.cube(leaf)
+    let cube = book.cube(leaf)?;
+    Ok(cube)
 }
 
 /// Works off a leaf that number 0 holds: it is closed then, or open again where a conflict was met and no unit is left.
