@@ -179,10 +179,8 @@ pub record IsLeased (v w : Booked) : Type 0 where
   pub units : out_of (board w).out 0 ≡ (all_of (board v)).left
 
 pub leased-is : (v w : Booked) → IsIdle (board v) → (board v).pool < 2 ^ 64 → w ≡ with_events v (leased_out 0 (all_of (board v))) → IsLeased v w
-leased-is v w idle fits now = here (eqb n 0) refl now
+leased-is v w idle fits now = here (eqb (min (2 ^ 64 - 1) (board v).pool) 0) refl now
   where
-    n : ℕ
-    n = min (2 ^ 64 - 1) (board v).pool
     here : (x : Bool) → x ≡ eqb (min (2 ^ 64 - 1) (board v).pool) 0 → w ≡ with_events v (cond x [] (event.Lease 0 (min (2 ^ 64 - 1) (board v).pool) ∷ [])) → IsLeased v w
     here true q now = subst (λ (y : Booked). IsLeased v y) (sym now) (record {
       alone = record { free = idle.free; home = λ s ne. idle.home s };
@@ -246,12 +244,12 @@ module _ (mode : Mode) (v w y : Booked) (t : Searching) (g : Units) (o : Option 
       here : (x : Bool) → x ≡ eqb (g.left + g.burnt) 0 → y ≡ with_events w (cond x [] (event.Back 0 g.left g.burnt ∷ [])) → IsIdle (board y)
       here true q now = subst (λ (z : Booked). IsIdle (board z)) (sym now) (record {
         free = left.alone.free;
-        home = λ s. at (cases_eq s 0);
+        home = λ s. at s (cases_eq s 0);
       })
         where
-          at : {s : ℕ} → (s ≡ 0) ⊎ (s ≡ 0 → ⊥) → out_of (board w).out s ≡ 0
-          at (inl e) = ap (out_of (board w).out) e ∙ sym left.ready.work.units.1 ∙ eqb-true (g.left + g.burnt) 0 (sym q)
-          at {s} (inr ne) = left.alone.home s ne
+          at : (s : ℕ) → (s ≡ 0) ⊎ (s ≡ 0 → ⊥) → out_of (board w).out s ≡ 0
+          at s (inl e) = ap (out_of (board w).out) e ∙ sym left.ready.work.units.1 ∙ eqb-true (g.left + g.burnt) 0 (sym q)
+          at s (inr ne) = left.alone.home s ne
       here false q now =
           let b : board y ≡ happens (board w) (event.Back 0 g.left g.burnt) = ap board now ∙ board-with w (event.Back 0 g.left g.burnt) in
           record {
