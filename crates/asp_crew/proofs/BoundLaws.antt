@@ -12,7 +12,7 @@ use Rattle.asp_model.specs.Costs.{cost, betters}
 use Rattle.asp_model.proofs.ListedLaws.{test_from_contains}
 use Rattle.asp_model.proofs.ModelLaws.{models-are}
 use Rattle.asp_vars.specs.Entailment.{costs, costs_bound, is_done}
-use Rattle.asp_vars.proofs.ResolutionLaws.{betters_itself, costs_within, smaller_left}
+use Rattle.asp_vars.proofs.ResolutionLaws.{betters_itself, costs_within, smaller_left, not_true}
 use Rattle.asp_core.proofs.SortingLaws.{same_itself}
 use Rattle.asp_propagate.specs.Useful.{IsSmaller}
 use Rattle.asp_crew.specs.Running.{unfound}

@@ -3,8 +3,7 @@ use Rattle.std.proofs.Common.{◌≡◌, ℕ, ◌+◌, ◌-◌, ◌^◌, ◌<◌
 use Rattle.std.specs.Prelude.{ℤ, IsTrue, count_by, not}
 use Rattle.std.specs.Option.{IfSome, IsSome}
 use Rattle.std.specs.List.{list_any}
-use Rattle.std.proofs.lemmas.List.Filters.{length-filter}
-use Rattle.std.proofs.lemmas.List.Sums.{count_by-le-length}
+use Rattle.std.proofs.lemmas.List.Sums.{length-filter, count_by-le-length}
 use Rattle.asp_model.specs.declared.program.Program.{Program}
 use Rattle.asp_model.specs.declared.results.Mode.{Mode}
 use Rattle.asp_model.specs.declared.results.Mode.TheVariants.{Enum, Opt}
@@ -217,7 +216,7 @@ answered gives silent mode v w s t f g is r h S e only done =
 -- ---- what a step asks
 some-entered : (t : Task) (o : Option (List Literal)) → IsEntered t o → IsSome o
 some-entered t None h = absurd h
-some-entered t (Some q) h = tt
+some-entered t (Some q) h = refl
 
 pub may-step : (mode : Mode) (v : Booked) (s : Searching) (f : Units) → IsUnderway mode v s f → IsSome s.cube × (f.program ≡ s.program)
 may-step mode v s f is = (some-entered v.task s.cube is.entered, is.ready.work.units.0.program ∙ sym (program-is mode v s f is.ready))
