@@ -10,7 +10,7 @@ use Rattle.asp_vars.specs.Literals.{Literal, has_literal, literal_eq}
 use Rattle.asp_vars.specs.Conflicts.{has_all}
 use Rattle.asp_vars.specs.Paid.{Units}
 use Rattle.asp_path.specs.declared.status.Status.TheVariants as status
-use Rattle.asp_path.specs.Trees.{is_leaf, cube_of, status_of}
+use Rattle.asp_path.specs.Trees.{Node, is_leaf, cube_of, status_of}
 use Rattle.asp_path.proofs.TreeLaws.{leaf-within}
 use Rattle.asp_core.specs.declared.event.Event.{Event}
 use Rattle.asp_core.specs.declared.task.Task.{Task}
@@ -75,3 +75,6 @@ pub leaf-cube : (mode : Mode) (v : Booked) (leaf : ℕ) (q : List Literal) → I
 leaf-cube mode v leaf q run lawful held is =
     subst (IsCube v.task) (sym is) (subst (λ (t : Task). IsCube t (cube_of (board v).nodes leaf)) (board-task v)
     (cube-at (board v).task (board v).nodes leaf (leaf-within (board v).nodes leaf (ap is_leaf held)) (book-board mode v run lawful).cubes))
+
+pub cube-within : (v w : Booked) (leaf : ℕ) (q : List Literal) → (board w).nodes ≡ (board v).nodes → q ≡ cube_of (board v).nodes leaf → IsTrue (has_all (cube_of (board w).nodes leaf) q)
+cube-within v w leaf q nodes is = ap (λ (n : List Node). has_all (cube_of n leaf) q) nodes ∙ ap (has_all (cube_of (board v).nodes leaf)) is ∙ has_all-itself (cube_of (board v).nodes leaf)

@@ -29,7 +29,7 @@ use Rattle.asp_crew_laws.specs.Reports.{IsIdle, IsMet, IsUnpaidAt, IsWorkedOff}
 use Rattle.asp_crew_laws.specs.Working.{IsAtWork}
 use Rattle.asp_crew_laws.proofs.WorkLaws.{work-begins, out_of-leased}
 use Rattle.asp_crew.specs.Running.{IsRunIn, IsReady, OnlyRecords, IsOver, Ends, LeavesLeaf, IsAlone, IsThrough, LeavesAll, Finishes}
-use Rattle.asp_crew.proofs.BookLaws.{board-task, board-with, ready-with}
+use Rattle.asp_crew.proofs.BookLaws.{board-task, board-with, ready-with, cube-within}
 use Rattle.asp_crew.proofs.TreeLaws.{open-changed, status-set, cube-set, held_by-le, closed-when}
 
 -- ---- one leaf
@@ -37,7 +37,7 @@ held-leaf : (nodes : List Node) (leaf : ℕ) → status_of nodes leaf ≡ status
 held-leaf nodes leaf held = ap is_leaf held
 
 -- from v to w the path was searched, and then the leaf was closed
-pub leaves-closed : (mode : Mode) (v w y : Booked) (leaf : ℕ) (q : List Literal) (s t : Searching) (g : Units) → Ends mode v w s t g None → Guard (board w) (event.Close 0 leaf q) → y ≡ with_events w (event.Close 0 leaf q ∷ []) → LeavesLeaf mode v y leaf t g None
+leaves-closed : (mode : Mode) (v w y : Booked) (leaf : ℕ) (q : List Literal) (s t : Searching) (g : Units) → Ends mode v w s t g None → Guard (board w) (event.Close 0 leaf q) → y ≡ with_events w (event.Close 0 leaf q ∷ []) → LeavesLeaf mode v y leaf t g None
 leaves-closed mode v w y leaf q s t g ends guard now =
     let b : board y ≡ happens (board w) (event.Close 0 leaf q) = ap board now ∙ board-with w (event.Close 0 leaf q) in
     record {
@@ -48,6 +48,11 @@ leaves-closed mode v w y leaf q s t g ends guard now =
       pool = ap (λ (c : Board). c.pool) b ∙ ends.only.pool;
       stopped = tt;
     }
+
+pub closes : (mode : Mode) (v w y : Booked) (leaf : ℕ) (q : List Literal) (s t : Searching) (g : Units) → Ends mode v w s t g None → status_of (board v).nodes leaf ≡ status.Held 0 → q ≡ cube_of (board v).nodes leaf → s.cube ≡ Some q
+    → y ≡ with_events w (event.Close 0 leaf q ∷ []) → LeavesLeaf mode v y leaf t g None
+closes mode v w y leaf q s t g ends held is entered now =
+    leaves-closed mode v w y leaf q s t g ends (ap (λ (n : List Node). status_of n leaf) ends.only.nodes ∙ held, cube-within v w leaf q ends.only.nodes is, ends.over q entered) now
 
 -- or it was opened again
 pub leaves-open : (mode : Mode) (v w y : Booked) (leaf : ℕ) (q : List Literal) (s t : Searching) (g : Units) (x : Clash) → Ends mode v w s t g (Some x) → status_of (board v).nodes leaf ≡ status.Held 0 → q ≡ cube_of (board v).nodes leaf → s.cube ≡ Some q
