@@ -30,7 +30,7 @@ use Rattle.asp_crew_laws.specs.Working.{IsAtWork}
 use Rattle.asp_crew_laws.proofs.WorkLaws.{work-begins, out_of-leased}
 use Rattle.asp_crew.specs.Running.{IsRunIn, IsReady, OnlyRecords, IsOver, Ends, LeavesLeaf, IsAlone, IsThrough, LeavesAll, Finishes}
 use Rattle.asp_crew.proofs.BookLaws.{board-task, board-with, ready-with, cube-within}
-use Rattle.asp_crew.proofs.TreeLaws.{open-changed, status-set, cube-set, held_by-le, closed-when}
+use Rattle.asp_crew.proofs.TreeLaws.{open-changed, taken-open, none-taken, status-set, cube-set, held_by-le, closed-when}
 
 -- ---- one leaf
 held-leaf : (nodes : List Node) (leaf : ℕ) → status_of nodes leaf ≡ status.Held 0 → is_leaf (status_of nodes leaf) ≡ true
@@ -99,7 +99,7 @@ pub record IsTaken (mode : Mode) (v w : Booked) (leaf : ℕ) (s : Searching) (f 
   pub out : (board w).out ≡ (board v).out
   pub pool : (board w).pool ≡ (board v).pool
 
-pub taken-is : (mode : Mode) (v w : Booked) (leaf : ℕ) (s : Searching) (f : Units) → IsReady mode v s f → IsAlone (board v) → status_of (board v).nodes leaf ≡ status.Open → w ≡ with_events v (event.Take 0 leaf ∷ []) → IsTaken mode v w leaf s f
+taken-is : (mode : Mode) (v w : Booked) (leaf : ℕ) (s : Searching) (f : Units) → IsReady mode v s f → IsAlone (board v) → status_of (board v).nodes leaf ≡ status.Open → w ≡ with_events v (event.Take 0 leaf ∷ []) → IsTaken mode v w leaf s f
 taken-is mode v w leaf s f is alone was now =
     let e : Event = event.Take 0 leaf in
     let b : board w ≡ happens (board v) e = ap board now ∙ board-with v e in
@@ -111,6 +111,10 @@ taken-is mode v w leaf s f is alone was now =
       out = ap (λ (c : Board). c.out) b;
       pool = ap (λ (c : Board). c.pool) b;
     }
+
+pub taken-by : (mode : Mode) (v w : Booked) (leaf : ℕ) (s : Searching) (f : Units) (r : Option ℕ) → IsReady mode v s f → IsAlone (board v) → r ≡ slice_get (open_from 0 (board v).nodes) 0 → w ≡ with_events v (taken 0 r) → r ≡ Some leaf → IsTaken mode v w leaf s f
+taken-by mode v w leaf s f r is alone first now some =
+    taken-is mode v w leaf s f is alone (taken-open (board v).nodes leaf (sym first ∙ some)) (now ∙ ap (λ (o : Option ℕ). with_events v (taken 0 o)) some)
 
 pub held-taken : (mode : Mode) (v w : Booked) (leaf : ℕ) (s : Searching) (f : Units) → IsTaken mode v w leaf s f → status_of (board w).nodes leaf ≡ status.Held 0
 held-taken mode v w leaf s f is = ap (λ (n : List Node). status_of n leaf) is.nodes ∙ status-set (board v).nodes leaf (status.Held 0) (ap is_leaf is.was)
@@ -169,8 +173,10 @@ all-stopped mode u v w y leaf s t f g x is taken left = record {
 }
 
 -- no leaf was open
-pub all-through : (mode : Mode) (u v w : Booked) (s : Searching) (f : Units) → IsBetween mode u v s f → w ≡ v → open_from 0 (board v).nodes ≡ [] → LeavesAll mode u w s f None
-all-through mode u v w s f is now none = subst (λ (x : Booked). LeavesAll mode u x s f None) (sym now) (record { ready = is.ready; alone = is.alone; task = is.task; pool = is.pool; through = none })
+pub all-through : (mode : Mode) (u v w : Booked) (s : Searching) (f : Units) (r : Option ℕ) → IsBetween mode u v s f → r ≡ slice_get (open_from 0 (board v).nodes) 0 → w ≡ with_events v (taken 0 r) → r ≡ None → LeavesAll mode u w s f None
+all-through mode u v w s f r is first now none =
+    subst (λ (x : Booked). LeavesAll mode u x s f None) (sym (now ∙ ap (λ (o : Option ℕ). with_events v (taken 0 o)) none))
+    (record { ready = is.ready; alone = is.alone; task = is.task; pool = is.pool; through = none-taken (open_from 0 (board v).nodes) (sym first ∙ none) })
 
 -- ---- units at the start
 -- all units of the pool, for number 0

@@ -25,12 +25,15 @@ fn work_off_all<P: Propagator>(
     requires alone { IsAlone (board book.old) }
     ensures { IfOk result (LeavesAll mode book.old book.new search.new fuel.new) }
 {
-    'leaves: while let Some(leaf) = book.take(0)? {
-        if let Some(conflict) = work_off(book, mode, search, fuel, leaf)? {
-            return Ok(Some(conflict));
+    'leaves: loop {
+        match book.take(0)? {
+            None => return Ok(None),
+            Some(leaf) => match work_off(book, mode, search, fuel, leaf)? {
+                None => {}
+                Some(conflict) => return Ok(Some(conflict)),
+            },
         }
     }
-    Ok(None)
 }
 
 /// Number 0 works off every open leaf, with all units of the pool. The conflict for which none was left, where one was met.
