@@ -1,5 +1,5 @@
 -- A book whose events are number 0's, and the search and units beside it.
-use Rattle.std.proofs.Common.{◌≡◌, ℕ, Bool, true, false, eqb, List, [], ◌∷◌, ◌++◌, Option, Some, None, refl, sym, ap, ◌∙◌, subst, inl, inr}
+use Rattle.std.proofs.Common.{◌≡◌, ℕ, ◌+◌, ◌^◌, ◌<◌, ◌≤◌, arith, Bool, true, false, eqb, List, [], ◌∷◌, ◌++◌, Option, Some, None, refl, sym, ap, ◌∙◌, subst, inl, inr}
 use Rattle.std.specs.Prelude.{ℤ, IsTrue}
 use Rattle.std.specs.Bool.{beq}
 use Rattle.std.proofs.lemmas.Bool.{eq-eqb, and_from, and_parts, or_left, or_right}
@@ -78,3 +78,9 @@ leaf-cube mode v leaf q run lawful held is =
 
 pub cube-within : (v w : Booked) (leaf : ℕ) (q : List Literal) → (board w).nodes ≡ (board v).nodes → q ≡ cube_of (board v).nodes leaf → IsTrue (has_all (cube_of (board w).nodes leaf) q)
 cube-within v w leaf q nodes is = ap (λ (n : List Node). has_all (cube_of n leaf) q) nodes ∙ ap (has_all (cube_of (board v).nodes leaf)) is ∙ has_all-itself (cube_of (board v).nodes leaf)
+
+-- ---- the pool is no more than the budget
+pub pool-fits : (mode : Mode) (v : Booked) → IsRunIn mode v.task → IsJournalOf v.task v.journal → v.task.budget < 2 ^ 64 → (board v).pool < 2 ^ 64
+pool-fits mode v run lawful fits =
+    let is = book-board mode v run lawful in
+    omega (arith, is.units, fits, ap (λ (t : Task). t.budget) (board-task v))

@@ -56,6 +56,7 @@ pub fn finish<P: Propagator>(
     requires unbounded { P.bound propagator ≡ None }
     ensures { IfOk result (Finishes book.old book.new) }
 {
+    let _lawful = book.journal();
     let mut search = Search::new(alloc, compiled, mode, propagator)?;
     let mut fuel = book.lease(0, u64::MAX)?;
     let unpaid = work_off_all(book, mode, &mut search, &mut fuel)?;
