@@ -5,3 +5,4 @@ pub mod BookLaws
 pub mod RecordLaws
 pub mod StepLaws
 pub mod FinishLaws
+pub mod ReportLaws
