@@ -133,7 +133,7 @@ module _ (mode : Mode) (v w y : Booked) (leaf : ℕ) (s t : Searching) (f g : Un
         ap held_count is.nodes,
         held_count-changed (board v).nodes leaf status.Open (status.Held 0) is.was refl,
         ap (λ x. let k : ℕ = cond x 1 0 in k) free,
-        none
+        none,
       )
 
   pub fewer-after : is_open new ≡ false → length (open_from 0 (board y).nodes) < length (open_from 0 (board v).nodes)
@@ -144,7 +144,7 @@ module _ (mode : Mode) (v w y : Booked) (leaf : ℕ) (s t : Searching) (f g : Un
         open-changed (board w).nodes leaf (status.Held 0) new held refl,
         ap (λ (n : List Node). length (open_from 0 n)) is.nodes,
         open-changed (board v).nodes leaf status.Open (status.Held 0) is.was refl,
-        ap (λ x. let k : ℕ = cond x 1 0 in k) shut
+        ap (λ x. let k : ℕ = cond x 1 0 in k) shut,
       )
 
 pub alone-after : (b c : Board) → IsAlone b → held_count c.nodes ≡ 0 → c.out ≡ b.out → IsAlone c
@@ -220,9 +220,9 @@ ready-begins mode v w s f run is units program mode_is known bound =
     let task : IsRunIn mode w.task = subst (λ (x : Task). IsRunIn mode x) (sym same) run in
     let now : (board w).task ≡ v.task = board-task w ∙ same in
     let back : ComesBack (board w) (out_of (board w).out 0) (all_of (board v)) = (
-          record { program = ap (λ (t : Task). t.program) (board-task v ∙ sym now); known = omega arith; least = tt },
-          (let z : min (2 ^ 64 - 1) (board v).pool + 0 ≡ min (2 ^ 64 - 1) (board v).pool = omega arith in z) ∙ sym is.units,
-        ) in
+      record { program = ap (λ (t : Task). t.program) (board-task v ∙ sym now); known = omega arith; least = tt },
+      (let z : min (2 ^ 64 - 1) (board v).pool + 0 ≡ min (2 ^ 64 - 1) (board v).pool = omega arith in z) ∙ sym is.units,
+    ) in
     record {
       task = task;
       program = program ∙ ap (λ (t : Task). t.program) (sym same);
@@ -278,11 +278,17 @@ module _ (mode : Mode) (v w y : Booked) (t : Searching) (g : Units) (o : Option 
 -- what is left when the units are back
 back-through : (b : Board) (left burnt : ℕ) (f : Units) (o : Option Clash) → IsThrough b f o → IsThrough (happens b (event.Back 0 left burnt)) f o
 back-through b left burnt f None none = none
-back-through b left burnt f (Some x) h = (h.0, (h.1.0, record {
-  unclosed = h.1.1.unclosed;
-  cube = h.1.1.cube;
-  met = record { program = h.1.1.met.program; known = h.1.1.met.known; bound = h.1.1.met.bound; conflict = h.1.1.met.conflict };
-}))
+back-through b left burnt f (Some x) h = (
+  h.0,
+  (
+    h.1.0,
+    record {
+      unclosed = h.1.1.unclosed;
+      cube = h.1.1.cube;
+      met = record { program = h.1.1.met.program; known = h.1.1.met.known; bound = h.1.1.met.bound; conflict = h.1.1.met.conflict };
+    },
+  ),
+)
 
 -- where a conflict was met no unit is left
 pool-after : (b : Board) (left burnt : ℕ) (f : Units) (o : Option Clash) → IsThrough b f o → left ≡ f.left → b.pool ≡ 0 → IfSome o (λ x. b.pool + left ≡ 0)

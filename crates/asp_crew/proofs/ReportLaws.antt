@@ -25,15 +25,15 @@ pub reports : (mode : Mode) (v : Booked) (r : Report) (s : Board) → IsRunIn mo
 reports mode v r s run idle over lawful journal state answers best end leaves spent paid mode_is =
     let p : Program = v.task.program in
     let told : IsToldBy (board v) r = record {
-          answers = answers ∙ ap (λ (b : Board). sorted_once b.answers) state;
-          best = best ∙ ap (λ (b : Board). option_map (with_cost b.task.program) b.best) state;
-          end = end ∙ ap (λ (b : Board). end_by (all_closed b.nodes)) state;
-          leaves = leaves ∙ ap (λ (b : Board). leaf_count b.nodes) state;
-          spent = spent ∙ ap (λ (b : Board). b.burnt) state;
-          paid = paid;
-          idle = idle;
-          over = over;
-        } in
+      answers = answers ∙ ap (λ (b : Board). sorted_once b.answers) state;
+      best = best ∙ ap (λ (b : Board). option_map (with_cost b.task.program) b.best) state;
+      end = end ∙ ap (λ (b : Board). end_by (all_closed b.nodes)) state;
+      leaves = leaves ∙ ap (λ (b : Board). leaf_count b.nodes) state;
+      spent = spent ∙ ap (λ (b : Board). b.burnt) state;
+      paid = paid;
+      idle = idle;
+      over = over;
+    } in
     let same : board v ≡ replay (task_of p mode v.task.budget) r.journal = ap (λ (t : Task). replay t v.journal) run ∙ ap (replay (task_of p mode v.task.budget)) (sym journal) in
     told-reports p mode v.task.budget r (subst (λ (t : Task). IsJournalOf t r.journal) run (subst (IsJournalOf v.task) (sym journal) lawful)) (subst (λ (b : Board). IsToldBy b r) same told) mode_is
 

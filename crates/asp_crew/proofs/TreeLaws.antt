@@ -32,7 +32,7 @@ open-changed nodes n old new was leaf =
       length-open_from 0 nodes,
       length-open_from 0 (with_status nodes n new),
       sum_by-set (λ (x : Node). cond (is_open x.status) 1 0) nodes n (record { cube = cube_of nodes n; status = new }) nowhere (leaf-within nodes n (ap is_leaf was ∙ leaf)),
-      ap (λ s. let k : ℕ = cond (is_open s) 1 0 in k) was
+      ap (λ s. let k : ℕ = cond (is_open s) 1 0 in k) was,
     )
 
 -- ---- the first open leaf
@@ -42,6 +42,7 @@ first-open i (x ∷ nodes) leaf e = here x.status refl e (first-open (suc i) nod
   where
     below : (k : ℕ) × (leaf ≡ suc i + k) × (status_of nodes k ≡ status.Open) → (k : ℕ) × (leaf ≡ i + k) × (status_of (x ∷ nodes) k ≡ status.Open)
     below h = (suc h.0, omega (arith, h.1), h.2)
+
     here : (s : Status) → x.status ≡ s → slice_get (cond (is_open s) (i ∷ open_from (suc i) nodes) (open_from (suc i) nodes)) 0 ≡ Some leaf
         → (slice_get (open_from (suc i) nodes) 0 ≡ Some leaf → (k : ℕ) × (leaf ≡ suc i + k) × (status_of nodes k ≡ status.Open)) → (k : ℕ) × (leaf ≡ i + k) × (status_of (x ∷ nodes) k ≡ status.Open)
     here status.Open q e rest = (0, (let f : i ≡ leaf = cc in omega (arith, f)), q)
@@ -78,6 +79,7 @@ held_by-le s (x ∷ nodes) = omega (arith, sum_by-cons (λ (n : Node). cond (is_
     one : (b : Bool) → cond b 1 0 ≤ 1
     one true = omega arith
     one false = omega arith
+
     here : (t : Status) → cond (is_held_by s t) 1 0 ≤ cond (is_held t) 1 0
     here status.Open = omega arith
     here (status.Held t) = one (eqb t s)

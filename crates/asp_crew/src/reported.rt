@@ -13,7 +13,11 @@ use asp_vars::fuel::Conflict;
 fn end_by(closed: bool) -> End
     ensures { result ≡ end_by closed }
 {
-    if closed { End::Finished } else { End::Unfinished }
+    if closed {
+        End::Finished
+    } else {
+        End::Unfinished
+    }
 }
 
 /// What the run has to say whose journal is the book's: its answers in order, each once. So many nogoods were shared, and

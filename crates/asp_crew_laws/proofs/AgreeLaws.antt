@@ -99,6 +99,7 @@ agrees-delivered b s S known bound e a = record {
   where
     p : Program
     p = b.task.program
+
     -- known, new or too dear for the search; then listed before, new, or too dear for the board
     by : (x y z u v : Bool) → (x || z ≡ true → u || v ≡ true) → ((x || y) || z) ≡ true → ((u || y) || v) ≡ true
     by x true z true v f h = refl
@@ -113,6 +114,7 @@ agrees-delivered b s S known bound e a = record {
         or_turned : (a b : Bool) → (a || b) ≡ true → ((a || false) || b) ≡ true
         or_turned true b h = refl
         or_turned false b h = h
+
     excused : (T : Atoms) → IsTrue (is_done p (known ++ S ∷ []) bound T) → IsTrue (is_excused (happens b (event.Deliver s S)) T)
     excused T h =
         ap (λ x. x || costs_bound p (bound_of b) T) (any-push S b.answers T)

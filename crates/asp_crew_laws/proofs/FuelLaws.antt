@@ -49,6 +49,7 @@ still S R (T ∷ D) ne h = here (same_set R T) refl (same_set S T) refl h (still
     or-right : (a b : Bool) → b ≡ true → (a || b) ≡ true
     or-right true b h = refl
     or-right false b h = h
+
     here : (x : Bool) → x ≡ same_set R T → (y : Bool) → y ≡ same_set S T → (x || list_any (same_set R) D) ≡ true → (list_any (same_set R) D ≡ true → list_any (same_set R) (filter (λ T. not (same_set S T)) D) ≡ true)
         → list_any (same_set R) (cond (not y) (T ∷ filter (λ T. not (same_set S T)) D) (filter (λ T. not (same_set S T)) D)) ≡ true
     here true p true q h r = absurd (false≢true (sym ne ∙ ap (same_set S) (same_text R T p) ∙ sym q))

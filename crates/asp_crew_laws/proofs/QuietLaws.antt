@@ -119,6 +119,6 @@ closed-from i (n ∷ nodes) o h = here n.status refl o (sum_by-cons (λ (x : Nod
 pub quiet-closed : (t : Task) (by : ℕ → Bool) (journal : List Event) → Quiet t by journal → ((n : ℕ) → by n ≡ true) → held_count (replay t journal).nodes ≡ 0 → all_closed (replay t journal).nodes ≡ true
 quiet-closed t by journal q all none =
     let same : (replay t journal).nodes ≡ (replay t q.before).nodes =
-            ap (λ (l : List Event). (replay t l).nodes) q.is ∙ ap (λ (b : Board). b.nodes) (run-append (start t) q.before q.after)
-            ∙ backs-nodes (replay t q.before) q.after (each_weaker (λ e. by (maker e) ≡ true → IsBack e) IsBack (λ e f. f (all (maker e))) q.after q.since) in
+    ap (λ (l : List Event). (replay t l).nodes) q.is ∙ ap (λ (b : Board). b.nodes) (run-append (start t) q.before q.after)
+    ∙ backs-nodes (replay t q.before) q.after (each_weaker (λ e. by (maker e) ≡ true → IsBack e) IsBack (λ e f. f (all (maker e))) q.after q.since) in
     closed-from 0 (replay t journal).nodes (ap (open_from 0) same ∙ q.none) none

@@ -29,8 +29,10 @@ held-none (x ∷ nodes) none = here x.status refl (held-none nodes (λ n. omega 
   where
     at : (n : ℕ) → held_by n (x ∷ nodes) ≡ cond (is_held_by n x.status) 1 0 + held_by n nodes
     at n = sum_by-cons (λ (y : Node). cond (is_held_by n y.status) 1 0) x nodes
+
     all : held_count (x ∷ nodes) ≡ cond (is_held x.status) 1 0 + held_count nodes
     all = sum_by-cons (λ (y : Node). cond (is_held y.status) 1 0) x nodes
+
     here : (s : Status) → x.status ≡ s → held_count nodes ≡ 0 → held_count (x ∷ nodes) ≡ 0
     here status.Open q rest = omega (arith, all, rest, ap (λ s. let k : ℕ = cond (is_held s) 1 0 in k) q)
     here (status.Held n) q rest = absurd (omega (arith, none n, at n, ap (λ s. let k : ℕ = cond (is_held_by n s) 1 0 in k) q, ap (λ b. let k : ℕ = cond b 1 0 in k) (eq-eqb n n refl)))

@@ -82,7 +82,7 @@ known-delivered b known bound a apart =
     omega (
       arith,
       pigeons known (sorted_once b.answers) apart (each_weaker (λ S. IsTrue (list_any (same_set S) b.answers)) (λ S. IsTrue (list_any (same_set S) (sorted_once b.answers))) (λ S h. sorted-has [] b.answers S ∙ h) known a.listed),
-      length-sorted_once b.answers
+      length-sorted_once b.answers,
     )
 
 least-fits : (b : Board) (l c : Option (List ℤ)) → IfSome l (IsBoundOf b) → IfSome c (IsBoundOf b) → IfSome (least_of l c) (IsBoundOf b)

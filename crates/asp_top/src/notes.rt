@@ -136,11 +136,7 @@ fn write_log<N: Sink>(notes: &mut N, log: u32) -> Result<(), Failed>
     ensures { Writes (N.held notes.old) (N.held notes.new) (N.faults notes.old) (N.faults notes.new)
         result (codes "\nLog: " ++ decimal log) }
 {
-    write_both(
-        notes,
-        b"\nLog: ",
-        Buffer::new().format(log).as_bytes(),
-    )
+    write_both(notes, b"\nLog: ", Buffer::new().format(log).as_bytes())
 }
 
 fn write_counts<N: Sink>(notes: &mut N, report: &Report) -> Result<(), Failed>
