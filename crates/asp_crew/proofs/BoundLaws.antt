@@ -11,35 +11,14 @@ use Rattle.asp_model.specs.Models.{is_stable, models}
 use Rattle.asp_model.specs.Costs.{cost, betters}
 use Rattle.asp_model.proofs.ListedLaws.{test_from_contains}
 use Rattle.asp_model.proofs.ModelLaws.{models-are}
-use Rattle.asp_vars.specs.Resolution.{is_bound_within}
 use Rattle.asp_vars.specs.Entailment.{costs, costs_bound, is_done}
-use Rattle.asp_vars.specs.Paid.{least_of, IsAtLeast}
-use Rattle.asp_vars.proofs.ResolutionLaws.{betters_trans, betters_itself, costs_within, smaller_left, not_true}
+use Rattle.asp_vars.proofs.ResolutionLaws.{betters_itself, costs_within, smaller_left, not_true}
+use Rattle.asp_core.proofs.SortingLaws.{same_itself}
 use Rattle.asp_propagate.specs.Useful.{IsSmaller}
 use Rattle.asp_crew.specs.Running.{unfound}
-use Rattle.asp_crew.proofs.SortLaws.{same_itself}
-
--- ---- the least bound
-pub at_least-join : (b l d : Option (List ℤ)) → IsAtLeast b l → IsAtLeast b d → IsAtLeast b (least_of l d)
-at_least-join b None d h k = k
-at_least-join b (Some c) None h k = h
-at_least-join b (Some c) (Some d) h k = here (betters d c)
-  where
-    here : (x : Bool) → IsTrue (is_bound_within b (cond x d c))
-    here true = k
-    here false = h
-
-pub at_least-itself : (b : Option (List ℤ)) → IsAtLeast b b
-at_least-itself None = tt
-at_least-itself (Some c) = ap not (betters_itself c)
 
 not_after : (c d : List ℤ) → betters d c ≡ true → betters c d ≡ false
 not_after c d e = subst (λ x. betters c (cond x d c) ≡ false) e (smaller_left c d)
-
-pub at_least-lower : (c : List ℤ) (b l : Option (List ℤ)) → IsSmaller c b → IsAtLeast b l → IsAtLeast (Some c) l
-at_least-lower c b None less h = tt
-at_least-lower c None (Some d) less h = absurd (false≢true h)
-at_least-lower c (Some e) (Some d) less h = ap not (betters_trans d e c (not_true (betters d e) h) (not_after e c less))
 
 -- ---- what is done
 done-push : (p : Program) (K : List Atoms) (b : Option (List ℤ)) (S T : Atoms) → is_done p K b T ≡ true → is_done p (K ++ S ∷ []) b T ≡ true

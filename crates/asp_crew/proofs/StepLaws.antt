@@ -1,208 +1,259 @@
--- What each answer of a step makes of a run.
-use Rattle.std.proofs.Common.{◌≡◌, ◌+◌, ◌-◌, ◌^◌, ◌<◌, ◌≤◌, Bool, false, not, List, [], ◌∷◌, ◌++◌, length, Option, Some, All, refl, sym, ap, ◌∙◌, subst, arith}
-use Rattle.std.specs.Prelude.{ℤ, IsTrue, IfSome, option_map}
-use Rattle.std.proofs.lemmas.List.{length-append}
-use Rattle.std.proofs.lemmas.List.Sums.{length-filter, count_by-le-length}
-use Rattle.std.proofs.lemmas.List.Elements.{All-push}
+-- What is known after each step on a path, by its answer.
+use Rattle.std.proofs.Common.{◌≡◌, ℕ, ◌+◌, ◌-◌, ◌^◌, ◌<◌, ◌≤◌, Bool, true, false, List, [], ◌∷◌, ◌++◌, length, filter, Option, Some, None, refl, sym, ap, ◌∙◌, subst, inl, inr, arith}
+use Rattle.std.specs.Prelude.{ℤ, IsTrue, count_by, not}
+use Rattle.std.specs.Option.{IfSome, IsSome}
 use Rattle.std.specs.List.{list_any}
+use Rattle.std.proofs.lemmas.List.Sums.{length-filter, count_by-le-length}
 use Rattle.asp_model.specs.declared.program.Program.{Program}
 use Rattle.asp_model.specs.declared.results.Mode.{Mode}
 use Rattle.asp_model.specs.declared.results.Mode.TheVariants.{Enum, Opt}
 use Rattle.asp_model.specs.Sets.{Atoms, same_set}
 use Rattle.asp_model.specs.Models.{is_stable, models}
 use Rattle.asp_model.specs.Costs.{cost}
-use Rattle.asp_vars.specs.Literals.{hits}
+use Rattle.asp_vars.specs.Literals.{Literal, hits}
 use Rattle.asp_vars.specs.Numbering.{values, var_count}
 use Rattle.asp_vars.specs.Conflicts.{IsConflict}
 use Rattle.asp_vars.specs.Entailment.{Settled, is_done}
 use Rattle.asp_vars.specs.Paid.{Clash, Units, IsAtLeast}
 use Rattle.asp_vars.specs.declared.nogood.Nogood.{Nogood}
+use Rattle.asp_core.specs.declared.event.Event.TheVariants as event
+use Rattle.asp_core.specs.declared.task.Task.{Task}
+use Rattle.asp_core.specs.Boards.{Board, is_answer}
+use Rattle.asp_core.specs.Events.{Guard, happens}
+use Rattle.asp_core.specs.Invariant.{IsCube}
+use Rattle.asp_core.proofs.BoardLaws.{wanted-stand}
+use Rattle.asp_core.proofs.CubeLaws.{answer-in_cube}
+use Rattle.asp_book.specs.Books.{Booked, board}
 use Rattle.asp_propagate.specs.Useful.{IsSmaller}
+use Rattle.asp_search.specs.Beside.{Enters}
 use Rattle.asp_search_laws.specs.Searching.{Searching}
-use Rattle.asp_search_laws.specs.Steps.{HasSameTask, IsConflictOf, burnt, IsStep, Answers, Records as Recorded}
+use Rattle.asp_search_laws.specs.Steps.{HasSameTask, IsConflictOf, burnt, IsStep, Answers, Records}
 use Rattle.asp_search_laws.specs.declared.step.Step.{Step}
 use Rattle.asp_search_laws.specs.declared.step.Step.TheVariants as step
-use Rattle.asp_crew.specs.declared.alone.Course.TheVariants.{Open, Closed, Unpaid}
-use Rattle.asp_crew.specs.Running.{root_cube, IsAnswer, IsOnce, HasCost, IsFoundBy, IsUnderway, unfound, work, work_left, Records, IsMetBy, Goes}
-use Rattle.asp_crew.proofs.SortLaws.{once-push}
-use Rattle.asp_crew.proofs.BoundLaws.{at_least-join, at_least-itself, at_least-lower, fewer-push, fewer-lower}
+use Rattle.asp_crew_laws.specs.Reports.{IsMet}
+use Rattle.asp_crew_laws.specs.Working.{IsAtWork}
+use Rattle.asp_crew_laws.proofs.AgreeLaws.{settled-excused}
+use Rattle.asp_crew_laws.proofs.WorkLaws.{work-burnt, work-delivered, work-improved, work-unimproved, work-met}
+use Rattle.asp_crew.specs.declared.leaf.Course.{Course}
+use Rattle.asp_crew.specs.declared.leaf.Course.TheVariants.{Open, Closed, Unpaid}
+use Rattle.asp_crew.specs.Running.{unfound, work, work_left, IsRunIn, IsReady, IsEntered, IsUnderway, OnlyRecords, IsRecorded, IsSettled, Goes, Ends}
+use Rattle.asp_crew.proofs.BookLaws.{board-task, query-none}
+use Rattle.asp_crew.proofs.BoundLaws.{fewer-push, fewer-lower}
 use Rattle.asp_crew.proofs.WorkLaws.{work-paid, work-found, work-restarted, work-decided, some_learnt}
-use Rattle.asp_crew.proofs.StartLaws.{root-holds}
 
 -- ---- the task is the same
-moved : (p : Program) (mode : Mode) (s t : Searching) (f g : Units) (K : List Atoms) (best : Option (Atoms × List ℤ)) → IsUnderway p mode s f K best → HasSameTask s t → t.learnt < 2 ^ 64 →
-    g.program ≡ p → g.known ≤ length s.known → IsAtLeast s.bound g.least → IsUnderway p mode t g K best
-moved p mode s t f g K best is same learnt of known least = record {
+pub program-is : (mode : Mode) (v : Booked) (s : Searching) (f : Units) → IsReady mode v s f → s.program ≡ (board v).task.program
+program-is mode v s f is = is.program ∙ ap (λ (t : Task). t.program) (sym (board-task v))
+
+ready-same : (mode : Mode) (v : Booked) (s t : Searching) (f g : Units) → IsReady mode v s f → HasSameTask s t → IsAtWork (board v) 0 mode s.known s.bound g → IsReady mode v t g
+ready-same mode v s t f g is same at = record {
+  task = is.task;
   program = same.program ∙ is.program;
   mode_is = same.mode ∙ is.mode_is;
-  cube = same.cube ∙ is.cube;
-  of_program = of;
-  known = subst (λ (k : List Atoms). g.known ≤ length k) (sym same.known) known;
-  least = subst (λ (b : Option (List ℤ)). IsAtLeast b g.least) (sym same.bound) least;
-  found = subst (λ (b : Option (List ℤ)). IsFoundBy p mode t.known b K best) (sym same.bound) (subst (λ (k : List Atoms). IsFoundBy p mode k s.bound K best) (sym same.known) is.found);
+  work = subst (λ (k : List Atoms). IsAtWork (board v) 0 mode k t.bound g) (sym same.known) (subst (λ (b : Option (List ℤ)). IsAtWork (board v) 0 mode s.known b g) (sym same.bound) at);
+}
+
+underway-same : (mode : Mode) (v : Booked) (s t : Searching) (f g : Units) → IsUnderway mode v s f → HasSameTask s t → t.learnt < 2 ^ 64 → IsAtWork (board v) 0 mode s.known s.bound g → IsUnderway mode v t g
+underway-same mode v s t f g is same learnt at = record {
+  ready = ready-same mode v s t f g is.ready same at;
+  entered = subst (IsEntered v.task) (sym same.cube) is.entered;
   learnt = learnt;
 }
 
-stays : (p : Program) (mode : Mode) (s t : Searching) (f : Units) (K : List Atoms) (best : Option (Atoms × List ℤ)) → IsUnderway p mode s f K best → HasSameTask s t → t.learnt < 2 ^ 64 → IsUnderway p mode t f K best
-stays p mode s t f K best is same learnt = moved p mode s t f f K best is same learnt is.of_program is.known is.least
+unchanged : (v : Booked) → OnlyRecords v v
+unchanged v = record { task = refl; nodes = refl; out = refl; pool = refl }
 
-unfound-same : (p : Program) (s t : Searching) → HasSameTask s t → unfound p t.known t.bound ≡ unfound p s.known s.bound
-unfound-same p s t same = ap (λ (k : List Atoms). unfound p k t.bound) same.known ∙ ap (λ (b : Option (List ℤ)). unfound p s.known b) same.bound
+-- the work that is left, by what the search was before
+left-same : (s t : Searching) (g : Units) → HasSameTask s t → work_left t g ≡ work g.left (length (models s.program)) (unfound s.program s.known s.bound) t.learnt (var_count s.program + 1) (length t.entries)
+left-same s t g same =
+    ap (λ (p : Program). work g.left (length (models p)) (unfound p t.known t.bound) t.learnt (var_count p + 1) (length t.entries)) same.program
+    ∙ ap (λ (k : List Atoms). work g.left (length (models s.program)) (unfound s.program k t.bound) t.learnt (var_count s.program + 1) (length t.entries)) same.known
+    ∙ ap (λ (b : Option (List ℤ)). work g.left (length (models s.program)) (unfound s.program s.known b) t.learnt (var_count s.program + 1) (length t.entries)) same.bound
+
+less-same : (s t : Searching) (g : Units) (n : ℕ) → HasSameTask s t → work g.left (length (models s.program)) (unfound s.program s.known s.bound) t.learnt (var_count s.program + 1) (length t.entries) < n → work_left t g < n
+less-same s t g n same less = subst (λ k. k < n) (sym (left-same s t g same)) less
 
 unfound-le : (p : Program) (known : List Atoms) (bound : Option (List ℤ)) → unfound p known bound ≤ length (models p)
 unfound-le p known bound =
     let q : Atoms → Bool = λ S. not (is_done p known bound S) in
     omega (arith, length-filter q (models p), count_by-le-length q (models p))
 
-settled-same : (p : Program) (s t : Searching) → HasSameTask s t → s.program ≡ p → Settled s.program s.known s.bound (root_cube p) → Settled p t.known t.bound (root_cube p)
-settled-same p s t same is h =
-    subst (λ (b : Option (List ℤ)). Settled p t.known b (root_cube p)) (sym same.bound)
-    (subst (λ (k : List Atoms). Settled p k s.bound (root_cube p)) (sym same.known) (subst (λ (q : Program). Settled q s.known s.bound (root_cube p)) is h))
-
--- ---- a conflict
-met : (p : Program) (s : Searching) (x : Clash) → s.program ≡ p → IsConflictOf s (root_cube p) x → IsMetBy p s.known s.bound x
-met p s x is c = record {
-  program = c.program ∙ is;
-  cube = c.cube;
-  count = c.known;
-  under = c.bound;
-  conflict = subst (λ (q : Program). IsConflict q s.known s.bound x.cube x.decisions x.nogood) is c.conflict;
-}
-
-met-same : (p : Program) (s t : Searching) (x : Clash) → HasSameTask s t → IsMetBy p s.known s.bound x → IsMetBy p t.known t.bound x
-met-same p s t x same h = subst (λ (b : Option (List ℤ)). IsMetBy p t.known b x) (sym same.bound) (subst (λ (k : List Atoms). IsMetBy p k s.bound x) (sym same.known) h)
+-- the path that is entered
+entered-by : (t : Task) (o : Option (List Literal)) → IsEntered t o → (q : List Literal) × (o ≡ Some q) × IsCube t q
+entered-by t None h = absurd h
+entered-by t (Some q) h = (q, refl, h)
 
 -- ---- by the answer
 at : (gives : Nogood → Type 0) (silent : List (Option Bool) → Type 0) (s t : Searching) (f g : Units) (r v : Step) → r ≡ v → IsStep gives silent s t f g r → IsStep gives silent s t f g v
 at gives silent s t f g r v e h = subst (λ (x : Step). IsStep gives silent s t f g x) e h
 
-pub decided : (gives : Nogood → Type 0) (silent : List (Option Bool) → Type 0) (p : Program) (mode : Mode) (s t : Searching) (f g : Units) (K : List Atoms) (best : Option (Atoms × List ℤ)) →
-    IsUnderway p mode s f K best → (r : Step) → r ≡ step.Decided → IsStep gives silent s t f g r → length t.entries ≤ var_count t.program + 1 → Goes p mode s t f g K best Open
-decided gives silent p mode s t f g K best is r e h len =
-    let d = at gives silent s t f g r step.Decided e h (root_cube p) is.cube in
-    subst (λ (u : Units). Goes p mode s t f u K best Open) (sym d.fuel) (record {
-      underway = stays p mode s t f K best is d.same (subst (λ k. k < 2 ^ 64) (sym d.learnt) is.learnt);
-      budget = refl;
-      course =
-          subst (λ u. work f.left (length (models p)) u t.learnt (var_count p + 1) (length t.entries) < work_left p s f) (sym (unfound-same p s t d.same))
-          (subst (λ k. work f.left (length (models p)) (unfound p s.known s.bound) k (var_count p + 1) (length t.entries) < work_left p s f) (sym d.learnt)
-          (work-decided f.left (length (models p)) (unfound p s.known s.bound) s.learnt (var_count p + 1) (length s.entries) (length t.entries) d.longer
-          (subst (λ (q : Program). length t.entries ≤ var_count q + 1) (d.same.program ∙ is.program) len)));
-    })
+module _ (gives : Nogood → Type 0) (silent : List (Option Bool) → Type 0) (mode : Mode) (v : Booked) (s t : Searching) (f g : Units) (is : IsUnderway mode v s f) (r : Step) (h : IsStep gives silent s t f g r) where
+  path : (q : List Literal) × (s.cube ≡ Some q) × IsCube v.task q
+  path = entered-by v.task s.cube is.entered
 
-pub restarted : (gives : Nogood → Type 0) (silent : List (Option Bool) → Type 0) (p : Program) (mode : Mode) (s t : Searching) (f g : Units) (K : List Atoms) (best : Option (Atoms × List ℤ)) →
-    IsUnderway p mode s f K best → (r : Step) → r ≡ step.Restarted → IsStep gives silent s t f g r → Goes p mode s t f g K best Open
-restarted gives silent p mode s t f g K best is r e h =
-    let d = at gives silent s t f g r step.Restarted e h (root_cube p) is.cube in
-    subst (λ (u : Units). Goes p mode s t f u K best Open) (sym d.fuel) (record {
-      underway = stays p mode s t f K best is d.same (omega (arith, d.learnt));
-      budget = refl;
-      course =
-          subst (λ u. work f.left (length (models p)) u t.learnt (var_count p + 1) (length t.entries) < work_left p s f) (sym (unfound-same p s t d.same))
-          (subst (λ k. work f.left (length (models p)) (unfound p s.known s.bound) k (var_count p + 1) (length t.entries) < work_left p s f) (sym d.learnt)
-          (work-restarted f.left (length (models p)) (unfound p s.known s.bound) s.learnt (var_count p + 1) (length s.entries) (length t.entries) (some_learnt s.restarts s.learnt d.due)));
-    })
+  pub decided : r ≡ step.Decided → length t.entries ≤ var_count t.program + 1 → Goes mode v v s t f g Open
+  decided e len =
+      let d = at gives silent s t f g r step.Decided e h path.0 path.1 in
+      subst (λ (u : Units). Goes mode v v s t f u Open) (sym d.fuel) (record {
+        underway = underway-same mode v s t f f is d.same (subst (λ k. k < 2 ^ 64) (sym d.learnt) is.learnt) is.ready.work;
+        only = unchanged v;
+        cube = d.same.cube;
+        course = less-same s t f (work_left s f) d.same
+            (subst (λ k. work f.left (length (models s.program)) (unfound s.program s.known s.bound) k (var_count s.program + 1) (length t.entries) < work_left s f) (sym d.learnt)
+            (work-decided f.left (length (models s.program)) (unfound s.program s.known s.bound) s.learnt (var_count s.program + 1) (length s.entries) (length t.entries) d.longer
+            (subst (λ (q : Program). length t.entries ≤ var_count q + 1) d.same.program len)));
+      })
 
-pub learnt : (gives : Nogood → Type 0) (silent : List (Option Bool) → Type 0) (p : Program) (mode : Mode) (s t : Searching) (f g : Units) (K : List Atoms) (best : Option (Atoms × List ℤ)) →
-    IsUnderway p mode s f K best → (r : Step) → r ≡ step.Learnt → IsStep gives silent s t f g r → Goes p mode s t f g K best Open
-learnt gives silent p mode s t f g K best is r e h =
-    let d = at gives silent s t f g r step.Learnt e h (root_cube p) is.cube in
-    let x : Clash = d.burns.clash in
-    let small : t.learnt < 2 ^ 64 = omega (arith, d.learnt) in
-    subst (λ (u : Units). Goes p mode s t f u K best Open) (sym d.burns.paid) (record {
-      underway = moved p mode s t f (burnt f x) K best is d.same small is.of_program (omega (arith, is.known, d.burns.conflict.known))
-          (at_least-join s.bound f.least x.bound is.least (subst (IsAtLeast s.bound) (sym d.burns.conflict.bound) (at_least-itself s.bound)));
-      budget = omega (arith, d.burns.left);
-      course = work-paid f.left (length (models p)) (unfound p s.known s.bound) s.learnt (var_count p + 1) (length s.entries) (f.left - 1) (unfound p t.known t.bound) t.learnt (length t.entries) (omega (arith, d.burns.left))
-          (unfound-le p t.known t.bound) small;
-    })
+  pub restarted : r ≡ step.Restarted → Goes mode v v s t f g Open
+  restarted e =
+      let d = at gives silent s t f g r step.Restarted e h path.0 path.1 in
+      subst (λ (u : Units). Goes mode v v s t f u Open) (sym d.fuel) (record {
+        underway = underway-same mode v s t f f is d.same (omega (arith, d.learnt)) is.ready.work;
+        only = unchanged v;
+        cube = d.same.cube;
+        course = less-same s t f (work_left s f) d.same
+            (subst (λ k. work f.left (length (models s.program)) (unfound s.program s.known s.bound) k (var_count s.program + 1) (length t.entries) < work_left s f) (sym d.learnt)
+            (work-restarted f.left (length (models s.program)) (unfound s.program s.known s.bound) s.learnt (var_count s.program + 1) (length s.entries) (length t.entries) (some_learnt s.restarts s.learnt d.due)));
+      })
 
-pub closed : (gives : Nogood → Type 0) (silent : List (Option Bool) → Type 0) (p : Program) (mode : Mode) (s t : Searching) (f g : Units) (K : List Atoms) (best : Option (Atoms × List ℤ)) →
-    IsUnderway p mode s f K best → (r : Step) → r ≡ step.Closed → IsStep gives silent s t f g r → Goes p mode s t f g K best Closed
-closed gives silent p mode s t f g K best is r e h =
-    let d = at gives silent s t f g r step.Closed e h (root_cube p) is.cube in
-    subst (λ (u : Units). Goes p mode s t f u K best Closed) (sym d.fuel) (record {
-      underway = stays p mode s t f K best is d.same (subst (λ k. k < 2 ^ 64) (sym d.learnt) is.learnt);
-      budget = refl;
-      course = settled-same p s t d.same is.program d.settled;
-    })
+  pub learnt : r ≡ step.Learnt → Goes mode v v s t f g Open
+  learnt e =
+      let d = at gives silent s t f g r step.Learnt e h path.0 path.1 in
+      let x : Clash = d.burns.clash in
+      let small : t.learnt < 2 ^ 64 = omega (arith, d.learnt) in
+      subst (λ (u : Units). Goes mode v v s t f u Open) (sym d.burns.paid) (record {
+        underway = underway-same mode v s t f (burnt f x) is d.same small (work-burnt (board v) 0 mode s.known s.bound f x is.ready.work d.burns.left d.burns.conflict.known d.burns.conflict.bound);
+        only = unchanged v;
+        cube = d.same.cube;
+        course = less-same s t (burnt f x) (work_left s f) d.same
+            (work-paid f.left (length (models s.program)) (unfound s.program s.known s.bound) s.learnt (var_count s.program + 1) (length s.entries) (f.left - 1) (unfound s.program s.known s.bound) t.learnt (length t.entries) (omega (arith, d.burns.left))
+            (unfound-le s.program s.known s.bound) small);
+      })
 
-pub unpaid : (gives : Nogood → Type 0) (silent : List (Option Bool) → Type 0) (p : Program) (mode : Mode) (s t : Searching) (f g : Units) (K : List Atoms) (best : Option (Atoms × List ℤ)) (x : Clash) →
-    IsUnderway p mode s f K best → (r : Step) → r ≡ step.NoFuel x → IsStep gives silent s t f g r → Goes p mode s t f g K best (Unpaid x)
-unpaid gives silent p mode s t f g K best x is r e h =
-    let d = at gives silent s t f g r (step.NoFuel x) e h (root_cube p) is.cube in
-    subst (λ (u : Units). Goes p mode s t f u K best (Unpaid x)) (sym d.fuel) (record {
-      underway = stays p mode s t f K best is d.same (subst (λ k. k < 2 ^ 64) (sym d.learnt) is.learnt);
-      budget = refl;
-      course = (d.none, met-same p s t x d.same (met p s x is.program d.conflict));
-    })
+  pub closed : r ≡ step.Closed → Goes mode v v s t f g Closed
+  closed e =
+      let d = at gives silent s t f g r step.Closed e h path.0 path.1 in
+      subst (λ (u : Units). Goes mode v v s t f u Closed) (sym d.fuel) (record {
+        underway = underway-same mode v s t f f is d.same (subst (λ k. k < 2 ^ 64) (sym d.learnt) is.learnt) is.ready.work;
+        only = unchanged v;
+        cube = d.same.cube;
+        course = λ q entered.
+            settled-excused (board v) s.known s.bound q is.ready.work.agrees
+            (subst (λ (p : Program). Settled p s.known s.bound q) (program-is mode v s f is.ready) (at gives silent s t f g r step.Closed e h q entered).settled);
+      })
 
--- ---- an answer
--- what is found by then, and how much is left
-record Found (p : Program) (mode : Mode) (s t : Searching) (f : Units) (K : List Atoms) (best : Option (Atoms × List ℤ)) : Type 0 where
-  found : IsFoundBy p mode t.known t.bound K best
-  known : f.known ≤ length t.known
-  least : IsAtLeast t.bound f.least
-  fewer : unfound p t.known t.bound < unfound p s.known s.bound
+  pub unpaid : (x : Clash) → r ≡ step.NoFuel x → Goes mode v v s t f g (Unpaid x)
+  unpaid x e =
+      let d = at gives silent s t f g r (step.NoFuel x) e h path.0 path.1 in
+      let p = program-is mode v s f is.ready in
+      subst (λ (u : Units). Goes mode v v s t f u (Unpaid x)) (sym d.fuel) (record {
+        underway = underway-same mode v s t f f is d.same (subst (λ k. k < 2 ^ 64) (sym d.learnt) is.learnt) is.ready.work;
+        only = unchanged v;
+        cube = d.same.cube;
+        course = (
+          d.none,
+          path.1 ∙ ap (λ (q : List Literal). Some q) (sym d.conflict.cube),
+          work-met (board v) 0 mode s.known s.bound f x is.ready.work (d.conflict.program ∙ p) d.conflict.known d.conflict.bound (subst (λ (q : Program). IsConflict q s.known s.bound x.cube x.decisions x.nogood) p d.conflict.conflict),
+        );
+      })
 
-found-by : (mode : Mode) (p : Program) (s t : Searching) (f : Units) (S : Atoms) (K L : List Atoms) (best c : Option (Atoms × List ℤ)) → s.program ≡ p → f.known ≤ length s.known → IsAtLeast s.bound f.least → IsFoundBy p mode s.known s.bound K best →
-    IsAnswer p S → list_any (same_set S) s.known ≡ false → IsSmaller (cost p S) s.bound → Recorded mode s t (root_cube p) S → Records p mode S K best L c → Found p mode s t f L c
-found-by Enum p s t f S K L best c is known least found answer new less r m =
-    let list : L ≡ t.known = m.0 ∙ ap (λ (k : List Atoms). k ++ S ∷ []) found.0 ∙ sym r.0 in
-    record {
-      found = (
-        list,
-        m.1 ∙ found.1,
-        r.1 ∙ found.2,
-        subst (All (IsAnswer p)) (sym m.0) (All-push (IsAnswer p) K S found.3 answer),
-        subst IsOnce (sym m.0) (once-push K S found.4 (ap (list_any (same_set S)) found.0 ∙ new)),
-      );
-      known = omega (arith, known, ap length r.0, length-append s.known (S ∷ []));
-      least = subst (λ (b : Option (List ℤ)). IsAtLeast b f.least) (sym r.1) least;
-      fewer =
-          subst (λ (b : Option (List ℤ)). unfound p t.known b < unfound p s.known s.bound) (sym r.1)
-          (subst (λ (k : List Atoms). unfound p k s.bound < unfound p s.known s.bound) (sym r.0) (fewer-push p s.known s.bound S answer.0 new less));
-    }
-found-by Opt p s t f S K L best c is known least found answer new less r m =
-    let bound : t.bound ≡ Some (cost p S) = r.1 ∙ ap (λ (q : Program). Some (cost q S)) is in
-    record {
-      found = (
-        m.0 ∙ found.0,
-        r.0 ∙ found.1,
-        bound ∙ sym (ap (λ (b : Option (Atoms × List ℤ)). option_map (λ x. x.1) b) m.1),
-        subst (λ (b : Option (Atoms × List ℤ)). IfSome b (HasCost p)) (sym m.1) (answer, refl),
-      );
-      known = subst (λ (k : List Atoms). f.known ≤ length k) (sym r.0) known;
-      least = subst (λ (b : Option (List ℤ)). IsAtLeast b f.least) (sym bound) (at_least-lower (cost p S) s.bound f.least less least);
-      fewer =
-          subst (λ (b : Option (List ℤ)). unfound p t.known b < unfound p s.known s.bound) (sym bound)
-          (subst (λ (k : List Atoms). unfound p k (Some (cost p S)) < unfound p s.known s.bound) (sym r.0) (fewer-lower p s.known s.bound S answer.0 new less));
-    }
+  -- ---- an answer
+  pub is-answer : (S : Atoms) → r ≡ step.Answer S → IsTrue (is_answer v.task S)
+  is-answer S e =
+      let d = at gives silent s t f g r (step.Answer S) e h path.0 path.1 in
+      answer-in_cube v.task path.0 S (wanted-stand v.task (query-none mode v.task is.ready.task)) path.2
+      (subst (λ (q : Program). IsTrue (is_stable q S)) is.ready.program d.stable) (subst (λ (q : Program). IsTrue (hits (values q S) path.0)) is.ready.program d.hit)
 
-answered-by : {gives : Nogood → Type 0} (p : Program) (mode : Mode) (s t : Searching) (f g : Units) (S : Atoms) (K L : List Atoms) (best c : Option (Atoms × List ℤ)) →
-    IsUnderway p mode s f K best → Answers gives s t (root_cube p) f g S → Records p mode S K best L c → Found p mode s t f L c
-answered-by p mode s t f g S K L best c is d m =
-    found-by mode p s t f S K L best c is.program is.known is.least is.found
-    (subst (λ (q : Program). IsTrue (is_stable q S)) is.program d.stable, sym (root-holds p S) ∙ subst (λ (q : Program). IsTrue (hits (values q S) (root_cube p))) is.program d.hit)
-    d.new (subst (λ (q : Program). IsSmaller (cost q S) s.bound) is.program d.cheaper) (subst (λ (m : Mode). Recorded m s t (root_cube p) S) is.mode_is d.records) m
+-- the search and its units after the answer was recorded
+work-recorded : (mode : Mode) (b c : Board) (s t : Searching) (q : List Literal) (f : Units) (S : Atoms) → s.program ≡ b.task.program → IsAtWork b 0 mode s.known s.bound f → list_any (same_set S) s.known ≡ false → Records mode s t q S → IsRecorded mode b c S →
+    IsAtWork c 0 mode t.known t.bound f
+work-recorded Enum b c s t q f S p at new r done =
+    subst (λ (k : List Atoms). IsAtWork c 0 Enum k t.bound f) (sym r.0) (subst (λ (o : Option (List ℤ)). IsAtWork c 0 Enum (s.known ++ S ∷ []) o f) (sym r.1)
+    (subst (λ (x : Board). IsAtWork x 0 Enum (s.known ++ S ∷ []) s.bound f) (sym done.1) (work-delivered b 0 S s.known s.bound f at done.0 new)))
+work-recorded Opt b c s t q f S p at new r (inl done) =
+    subst (λ (k : List Atoms). IsAtWork c 0 Opt k t.bound f) (sym r.0) (subst (λ (o : Option (List ℤ)). IsAtWork c 0 Opt s.known o f) (sym (r.1 ∙ ap (λ (x : Program). Some (cost x S)) p))
+    (subst (λ (x : Board). IsAtWork x 0 Opt s.known (Some (cost b.task.program S)) f) (sym done.1) (work-improved b 0 S s.known s.bound f at done.0)))
+work-recorded Opt b c s t q f S p at new r (inr done) =
+    subst (λ (k : List Atoms). IsAtWork c 0 Opt k t.bound f) (sym r.0) (subst (λ (o : Option (List ℤ)). IsAtWork c 0 Opt s.known o f) (sym (r.1 ∙ ap (λ (x : Program). Some (cost x S)) p))
+    (subst (λ (x : Board). IsAtWork x 0 Opt s.known (Some (cost b.task.program S)) f) (sym done.0) (work-unimproved b 0 S done.1.best s.known s.bound f at done.1.stands done.1.dearer)))
 
-pub answered : (gives : Nogood → Type 0) (silent : List (Option Bool) → Type 0) (p : Program) (mode : Mode) (s t : Searching) (f g : Units) (S : Atoms) (K L : List Atoms) (best c : Option (Atoms × List ℤ)) →
-    IsUnderway p mode s f K best → (r : Step) → r ≡ step.Answer S → IsStep gives silent s t f g r → Records p mode S K best L c → Goes p mode s t f g L c Open
-answered gives silent p mode s t f g S K L best c is r e h m =
-    let d = at gives silent s t f g r (step.Answer S) e h (root_cube p) is.cube in
-    let found = answered-by p mode s t f g S K L best c is d m in
+-- fewer models are left to be found
+fewer-by : (mode : Mode) (s t : Searching) (q : List Literal) (S : Atoms) → IsTrue (is_stable s.program S) → list_any (same_set S) s.known ≡ false → IsSmaller (cost s.program S) s.bound → Records mode s t q S →
+    unfound s.program t.known t.bound < unfound s.program s.known s.bound
+fewer-by Enum s t q S stable new less r =
+    subst (λ (b : Option (List ℤ)). unfound s.program t.known b < unfound s.program s.known s.bound) (sym r.1)
+    (subst (λ (k : List Atoms). unfound s.program k s.bound < unfound s.program s.known s.bound) (sym r.0) (fewer-push s.program s.known s.bound S stable new less))
+fewer-by Opt s t q S stable new less r =
+    subst (λ (b : Option (List ℤ)). unfound s.program t.known b < unfound s.program s.known s.bound) (sym r.1)
+    (subst (λ (k : List Atoms). unfound s.program k (Some (cost s.program S)) < unfound s.program s.known s.bound) (sym r.0) (fewer-lower s.program s.known s.bound S stable new less))
+
+pub answered : (gives : Nogood → Type 0) (silent : List (Option Bool) → Type 0) (mode : Mode) (v w : Booked) (s t : Searching) (f g : Units) (is : IsUnderway mode v s f) (r : Step) (h : IsStep gives silent s t f g r) (S : Atoms) → r ≡ step.Answer S →
+    OnlyRecords v w → IsRecorded mode (board v) (board w) S → Goes mode v w s t f g Open
+answered gives silent mode v w s t f g is r h S e only done =
+    let path = entered-by v.task s.cube is.entered in
+    let d = at gives silent s t f g r (step.Answer S) e h path.0 path.1 in
+    let records = subst (λ (m : Mode). Records m s t path.0 S) is.ready.mode_is d.records in
     let small : t.learnt < 2 ^ 64 = subst (λ k. k < 2 ^ 64) (sym d.learnt) is.learnt in
-    subst (λ (u : Units). Goes p mode s t f u L c Open) (sym d.fuel) (record {
+    subst (λ (u : Units). Goes mode v w s t f u Open) (sym d.fuel) (record {
       underway = record {
-        program = d.program ∙ is.program;
-        mode_is = d.mode ∙ is.mode_is;
-        cube = d.cube ∙ is.cube;
-        of_program = is.of_program;
-        known = found.known;
-        least = found.least;
-        found = found.found;
+        ready = record {
+          task = subst (λ (x : Task). IsRunIn mode x) (sym only.task) is.ready.task;
+          program = d.program ∙ is.ready.program ∙ ap (λ (x : Task). x.program) (sym only.task);
+          mode_is = d.mode ∙ is.ready.mode_is;
+          work = work-recorded mode (board v) (board w) s t path.0 f S (program-is mode v s f is.ready) is.ready.work d.new records done;
+        };
+        entered = subst (λ (x : Task). IsEntered x t.cube) (sym only.task) (subst (IsEntered v.task) (sym d.cube) is.entered);
         learnt = small;
       };
-      budget = refl;
-      course = work-found f.left (length (models p)) (unfound p s.known s.bound) s.learnt (var_count p + 1) (length s.entries) (unfound p t.known t.bound) t.learnt (length t.entries) found.fewer small;
+      only = only;
+      cube = d.cube;
+      course =
+          subst (λ (p : Program). work f.left (length (models p)) (unfound p t.known t.bound) t.learnt (var_count p + 1) (length t.entries) < work_left s f) (sym d.program)
+          (work-found f.left (length (models s.program)) (unfound s.program s.known s.bound) s.learnt (var_count s.program + 1) (length s.entries) (unfound s.program t.known t.bound) t.learnt (length t.entries)
+          (fewer-by mode s t path.0 S d.stable d.new d.cheaper records) small);
     })
+
+-- ---- what a step asks
+some-entered : (t : Task) (o : Option (List Literal)) → IsEntered t o → IsSome o
+some-entered t None h = absurd h
+some-entered t (Some q) h = refl
+
+pub may-step : (mode : Mode) (v : Booked) (s : Searching) (f : Units) → IsUnderway mode v s f → IsSome s.cube × (f.program ≡ s.program)
+may-step mode v s f is = (some-entered v.task s.cube is.entered, is.ready.work.units.0.program ∙ sym (program-is mode v s f is.ready))
+
+-- ---- steps in a row
+-- what holds from v and s on
+pub record IsAlong (mode : Mode) (v w : Booked) (s t : Searching) (g : Units) : Type 0 where
+  pub underway : IsUnderway mode w t g
+  pub only : OnlyRecords v w
+  pub cube : t.cube ≡ s.cube
+
+pub along-begins : (mode : Mode) (v : Booked) (s : Searching) (f : Units) → IsUnderway mode v s f → IsAlong mode v v s s f
+along-begins mode v s f is = record { underway = is; only = unchanged v; cube = refl }
+
+only-further : (u v w : Booked) → OnlyRecords u v → OnlyRecords v w → OnlyRecords u w
+only-further u v w a b = record { task = b.task ∙ a.task; nodes = b.nodes ∙ a.nodes; out = b.out ∙ a.out; pool = b.pool ∙ a.pool }
+
+pub along-on : (mode : Mode) (u v w : Booked) (r s t : Searching) (f g : Units) (how : Course) → IsAlong mode u v r s f → Goes mode v w s t f g how → IsAlong mode u w r t g
+along-on mode u v w r s t f g how a go = record { underway = go.underway; only = only-further u v w a.only go.only; cube = go.cube ∙ a.cube }
+
+pub along-closed : (mode : Mode) (u v w : Booked) (r s t : Searching) (f g : Units) → IsAlong mode u v r s f → Goes mode v w s t f g Closed → Ends mode u w r t g None
+along-closed mode u v w r s t f g a go =
+    let b = along-on mode u v w r s t f g Closed a go in
+    record { ready = b.underway.ready; only = b.only; over = λ q e. go.course q (a.cube ∙ e) }
+
+pub along-stopped : (mode : Mode) (u v w : Booked) (r s t : Searching) (f g : Units) (x : Clash) → IsAlong mode u v r s f → Goes mode v w s t f g (Unpaid x) → Ends mode u w r t g (Some x)
+along-stopped mode u v w r s t f g x a go =
+    let b = along-on mode u v w r s t f g (Unpaid x) a go in
+    record { ready = b.underway.ready; only = b.only; over = (go.course.0, (sym a.cube ∙ go.course.1), go.course.2) }
+
+-- ---- the path begins
+pub underway-enters : (mode : Mode) (v : Booked) (s t : Searching) (f : Units) (q : List Literal) → IsReady mode v s f → Enters s t q → IsCube v.task q → IsUnderway mode v t f
+underway-enters mode v s t f q is e cube = subst (λ (x : Searching). IsUnderway mode v x f) (sym e.same) (record {
+  ready = record { task = is.task; program = is.program; mode_is = is.mode_is; work = is.work };
+  entered = cube;
+  learnt = omega arith;
+})
+
+pub cube-entered : (s t : Searching) (q : List Literal) → Enters s t q → t.cube ≡ Some q
+cube-entered s t q e = ap (λ (x : Searching). x.cube) e.same

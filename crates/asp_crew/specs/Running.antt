@@ -1,55 +1,32 @@
--- A run of one search: what holds after each step, and what is left to do.
-use Rattle.std.specs.Prelude.{◌≡◌, ℕ, ◌+◌, ◌-◌, ◌*◌, ◌^◌, ◌<◌, ◌≤◌, not, List, ◌∷◌, ◌++◌, [], map, filter, length, count_by, ℤ, Option, None, Some, IfSome, IsTrue, option_map}
-use Rattle.std.specs.List.{All}
+-- One search that works off the leaves of a board by number 0: what holds after each step, and what is left to do.
+use Rattle.std.specs.Prelude.{◌≡◌, ◌⊎◌, ℕ, ◌+◌, ◌-◌, ◌*◌, ◌^◌, ◌<◌, not, false, List, [], filter, length, ℤ, Option, None, Some}
+use Rattle.std.specs.Option.{IfSome}
 use Rattle.asp_model.specs.declared.program.Program.{Program}
 use Rattle.asp_model.specs.declared.results.Mode.{Mode}
 use Rattle.asp_model.specs.declared.results.Mode.TheVariants.{Enum, Opt}
-use Rattle.asp_model.specs.declared.results.End.{End}
-use Rattle.asp_model.specs.declared.results.End.TheVariants.{Finished, Unfinished}
-use Rattle.asp_model.specs.Sets.{Atoms, same_set}
-use Rattle.asp_model.specs.Holding.{all_hold}
-use Rattle.asp_model.specs.Models.{is_stable, models}
-use Rattle.asp_model.specs.Costs.{cost}
-use Rattle.asp_vars.specs.Numbering.{literal_of, var_count}
-use Rattle.asp_vars.specs.Conflicts.{IsConflict}
-use Rattle.asp_vars.specs.Entailment.{is_done, Settled}
+use Rattle.asp_model.specs.Sets.{Atoms}
+use Rattle.asp_model.specs.Models.{models}
+use Rattle.asp_model.specs.Costs.{cost, betters}
+use Rattle.asp_vars.specs.Entailment.{is_done, HitsOnly}
 use Rattle.asp_vars.specs.Literals.{Literal}
-use Rattle.asp_vars.specs.Paid.{Clash, Units, IsAtLeast}
+use Rattle.asp_vars.specs.Numbering.{var_count}
+use Rattle.asp_vars.specs.Paid.{Clash, Units}
+use Rattle.asp_path.specs.declared.status.Status.{Status}
+use Rattle.asp_path.specs.declared.status.Status.TheVariants as status
+use Rattle.asp_path.specs.Trees.{with_status, held_count, open_from}
+use Rattle.asp_core.specs.declared.event.Event.TheVariants as event
+use Rattle.asp_core.specs.declared.task.Task.{Task}
+use Rattle.asp_core.specs.Units.{out_of}
+use Rattle.asp_core.specs.Boards.{Board, is_excused}
+use Rattle.asp_core.specs.Events.{Guard, happens}
+use Rattle.asp_core.specs.Invariant.{IsCube}
+use Rattle.asp_book.specs.Books.{Booked, board}
 use Rattle.asp_search_laws.specs.Searching.{Searching}
-use Rattle.asp_crew.specs.declared.alone.Course.{Course}
-use Rattle.asp_crew.specs.declared.alone.Course.TheVariants.{Open, Closed, Unpaid}
-
--- the literals of the assumptions
-abbrev pub root_cube : Program → List Literal
-root_cube p = map (literal_of p) p.assumptions
-
--- a stable model in which the assumptions hold
-abbrev pub IsAnswer : Program → Atoms → Type 0
-IsAnswer p S = IsTrue (is_stable p S) × IsTrue (all_hold S p.assumptions)
-
--- an answer with its cost
-abbrev pub HasCost : Program → Atoms × List ℤ → Type 0
-HasCost p best = IsAnswer p best.0 × (best.1 ≡ cost p best.0)
-
--- No set stands in the list twice.
-abbrev pub IsOnce : List Atoms → Type 0
-IsOnce sets = (R : Atoms) → count_by (same_set R) sets ≤ 1
-
--- In an enumeration the answers are those that the search knows, each once; in an optimisation the best one's cost is its bound.
-abbrev pub IsFoundBy : Program → Mode → List Atoms → Option (List ℤ) → List Atoms → Option (Atoms × List ℤ) → Type 0
-IsFoundBy p Enum known bound answers best = (answers ≡ known) × (best ≡ None) × (bound ≡ None) × All (IsAnswer p) answers × IsOnce answers
-IsFoundBy p Opt known bound answers best = (answers ≡ []) × (known ≡ []) × (bound ≡ option_map (λ b. b.1) best) × IfSome best (HasCost p)
-
--- what holds after each step
-pub record IsUnderway (p : Program) (mode : Mode) (s : Searching) (f : Units) (answers : List Atoms) (best : Option (Atoms × List ℤ)) : Type 0 where
-  pub program : s.program ≡ p
-  pub mode_is : s.mode ≡ mode
-  pub cube : s.cube ≡ Some (root_cube p)
-  pub of_program : f.program ≡ p
-  pub known : f.known ≤ length s.known
-  pub least : IsAtLeast s.bound f.least
-  pub found : IsFoundBy p mode s.known s.bound answers best
-  pub learnt : s.learnt < 2 ^ 64
+use Rattle.asp_crew_laws.specs.Runs.{task_of}
+use Rattle.asp_crew_laws.specs.Reports.{IsIdle, IsMet, IsUnpaidAt, IsWorkedOff}
+use Rattle.asp_crew_laws.specs.Working.{IsAtWork}
+use Rattle.asp_crew.specs.declared.leaf.Course.{Course}
+use Rattle.asp_crew.specs.declared.leaf.Course.TheVariants.{Open, Closed, Unpaid}
 
 -- how many stable models are neither known nor too dear
 abbrev pub unfound : Program → List Atoms → Option (List ℤ) → ℕ
@@ -60,44 +37,113 @@ unfound p known bound = length (filter (λ S. not (is_done p known bound S)) (mo
 abbrev pub work : ℕ → ℕ → ℕ → ℕ → ℕ → ℕ → ℕ
 work units models unseen learnt vars entries = ((units * (models + 1) + unseen) * 2 ^ 64 + learnt) * (vars + 1) + (vars - entries)
 
-abbrev pub work_left : Program → Searching → Units → ℕ
-work_left p s f = work f.left (length (models p)) (unfound p s.known s.bound) s.learnt (var_count p + 1) (length s.entries)
+abbrev pub work_left : Searching → Units → ℕ
+work_left s f = work f.left (length (models s.program)) (unfound s.program s.known s.bound) s.learnt (var_count s.program + 1) (length s.entries)
 
--- an answer was added, or is the best
-abbrev pub Records : Program → Mode → Atoms → List Atoms → Option (Atoms × List ℤ) → List Atoms → Option (Atoms × List ℤ) → Type 0
-Records p Enum S answers best answers' best' = (answers' ≡ answers ++ S ∷ []) × (best' ≡ best)
-Records p Opt S answers best answers' best' = (answers' ≡ answers) × (best' ≡ Some (S, cost p S))
+-- The task is that of a run in this mode.
+abbrev pub IsRunIn : Mode → Task → Type 0
+IsRunIn mode t = t ≡ task_of t.program mode t.budget
 
--- A conflict below the assumptions by these answers and this bound.
-pub record IsMetBy (p : Program) (known : List Atoms) (bound : Option (List ℤ)) (x : Clash) : Type 0 where
-  pub program : x.program ≡ p
-  pub cube : x.cube ≡ root_cube p
-  pub count : x.known ≡ length known
-  pub under : x.bound ≡ bound
-  pub conflict : IsConflict p known bound x.cube x.decisions x.nogood
+-- Number 0's search and its units go with the book's board.
+pub record IsReady (mode : Mode) (v : Booked) (s : Searching) (f : Units) : Type 0 where
+  pub task : IsRunIn mode v.task
+  pub program : s.program ≡ v.task.program
+  pub mode_is : s.mode ≡ mode
+  pub work : IsAtWork (board v) 0 mode s.known s.bound f
 
--- what is known of the way in which a step left the run
-abbrev pub IsCourse : Program → Searching → Searching → Units → Units → Course → Type 0
-IsCourse p s t f g Open = work_left p t g < work_left p s f
-IsCourse p s t f g Closed = Settled p t.known t.bound (root_cube p)
-IsCourse p s t f g (Unpaid x) = (g.left ≡ 0) × IsMetBy p t.known t.bound x
+-- A path is entered whose literals begin with those that each answer meets.
+abbrev pub IsEntered : Task → Option (List Literal) → Type 0
+IsEntered t None = ⊥
+IsEntered t (Some q) = IsCube t q
 
--- one step of a run
-pub record Goes (p : Program) (mode : Mode) (s t : Searching) (f g : Units) (answers : List Atoms) (best : Option (Atoms × List ℤ)) (how : Course) : Type 0 where
-  pub underway : IsUnderway p mode t g answers best
-  pub budget : g.left + g.burnt ≡ f.left + f.burnt
-  pub course : IsCourse p s t f g how
+-- and the search is on a path
+pub record IsUnderway (mode : Mode) (v : Booked) (s : Searching) (f : Units) : Type 0 where
+  pub ready : IsReady mode v s f
+  pub entered : IsEntered v.task s.cube
+  pub learnt : s.learnt < 2 ^ 64
 
--- how a run ended: all is settled, or a conflict was met when no unit was left
-abbrev pub IsOver : Program → Searching → Units → Option Clash → Type 0
-IsOver p s f None = Settled p s.known s.bound (root_cube p)
-IsOver p s f (Some x) = (f.left ≡ 0) × IsMetBy p s.known s.bound x
+-- What was recorded has changed at most.
+pub record OnlyRecords (v w : Booked) : Type 0 where
+  pub task : w.task ≡ v.task
+  pub nodes : (board w).nodes ≡ (board v).nodes
+  pub out : (board w).out ≡ (board v).out
+  pub pool : (board w).pool ≡ (board v).pool
 
-pub record Ends (p : Program) (mode : Mode) (s : Searching) (f g : Units) (answers : List Atoms) (best : Option (Atoms × List ℤ)) (unpaid : Option Clash) : Type 0 where
-  pub underway : IsUnderway p mode s g answers best
-  pub budget : g.left + g.burnt ≡ f.left + f.burnt
-  pub over : IsOver p s g unpaid
+-- The set costs no less than a best that stands.
+pub record IsUnbettered (b : Board) (S : Atoms) : Type 0 where
+  pub best : Atoms
+  pub stands : b.best ≡ Some best
+  pub dearer : betters (cost b.task.program S) (cost b.task.program best) ≡ false
 
-abbrev pub end_of : Option Clash → End
-end_of None = Finished
-end_of (Some x) = Unfinished
+-- The answer was delivered; or it is the best, if none stood that it doesn't better.
+abbrev pub IsRecorded : Mode → Board → Board → Atoms → Type 0
+IsRecorded Enum b c S = Guard b (event.Deliver 0 S) × (c ≡ happens b (event.Deliver 0 S))
+IsRecorded Opt b c S = (Guard b (event.Improve 0 S) × (c ≡ happens b (event.Improve 0 S))) ⊎ ((c ≡ b) × IsUnbettered b S)
+
+-- Each stable model below the path is excused.
+abbrev pub IsSettled : Board → Searching → Type 0
+IsSettled b s = (q : List Literal) → s.cube ≡ Some q → HitsOnly b.task.program (is_excused b) q
+
+-- A conflict was met below the path when no unit was left.
+abbrev pub IsStopped : Board → Searching → Units → Clash → Type 0
+IsStopped b s f x = (f.left ≡ 0) × (s.cube ≡ Some x.cube) × IsMet b x
+
+-- what is known of the way in which a step left the path
+abbrev pub IsCourse : Board → Searching → Searching → Units → Units → Course → Type 0
+IsCourse b s t f g Open = work_left t g < work_left s f
+IsCourse b s t f g Closed = IsSettled b s
+IsCourse b s t f g (Unpaid x) = IsStopped b s g x
+
+-- one step on a path
+pub record Goes (mode : Mode) (v w : Booked) (s t : Searching) (f g : Units) (how : Course) : Type 0 where
+  pub underway : IsUnderway mode w t g
+  pub only : OnlyRecords v w
+  pub cube : t.cube ≡ s.cube
+  pub course : IsCourse (board w) s t f g how
+
+-- how the steps on a path ended
+abbrev pub IsOver : Board → Searching → Units → Option Clash → Type 0
+IsOver b s f None = IsSettled b s
+IsOver b s f (Some x) = IsStopped b s f x
+
+pub record Ends (mode : Mode) (v w : Booked) (s t : Searching) (g : Units) (unpaid : Option Clash) : Type 0 where
+  pub ready : IsReady mode w t g
+  pub only : OnlyRecords v w
+  pub over : IsOver (board w) s g unpaid
+
+-- what a leaf is when it was worked on
+abbrev pub status_after : Option Clash → Status
+status_after None = status.Closed
+status_after (Some x) = status.Open
+
+-- what is left of one leaf that number 0 held
+pub record LeavesLeaf (mode : Mode) (v w : Booked) (leaf : ℕ) (t : Searching) (g : Units) (unpaid : Option Clash) : Type 0 where
+  pub ready : IsReady mode w t g
+  pub task : w.task ≡ v.task
+  pub nodes : (board w).nodes ≡ with_status (board v).nodes leaf (status_after unpaid)
+  pub out : (board w).out ≡ (board v).out
+  pub pool : (board w).pool ≡ (board v).pool
+  pub stopped : IfSome unpaid (λ x. (g.left ≡ 0) × IsUnpaidAt (board w) x leaf)
+
+-- Number 0 alone has units, and no leaf is held.
+pub record IsAlone (b : Board) : Type 0 where
+  pub free : held_count b.nodes ≡ 0
+  pub home : (s : ℕ) → (s ≡ 0 → ⊥) → out_of b.out s ≡ 0
+
+-- no leaf is open, or a conflict was met below an open leaf when no unit was left
+abbrev pub IsThrough : Board → Units → Option Clash → Type 0
+IsThrough b f None = open_from 0 b.nodes ≡ []
+IsThrough b f (Some x) = (f.left ≡ 0) × ((leaf : ℕ) × IsUnpaidAt b x leaf)
+
+pub record LeavesAll (mode : Mode) (v w : Booked) (t : Searching) (g : Units) (unpaid : Option Clash) : Type 0 where
+  pub ready : IsReady mode w t g
+  pub alone : IsAlone (board w)
+  pub task : w.task ≡ v.task
+  pub pool : (board w).pool ≡ (board v).pool
+  pub through : IsThrough (board w) g unpaid
+
+-- all that was open is worked off
+pub record Finishes (v w : Booked) (unpaid : Option Clash) : Type 0 where
+  pub task : w.task ≡ v.task
+  pub idle : IsIdle (board w)
+  pub over : IsWorkedOff (board w) unpaid

@@ -12,7 +12,7 @@ use Rattle.asp_model.specs.Texts.{results_text}
 use Rattle.asp_read.specs.Outcome.{outcome, most_bytes}
 use Rattle.asp_read.specs.Stream.{ReadsText, StopsAt}
 use Rattle.asp_make.specs.Ring.{ring}
-use Rattle.asp_crew.specs.declared.report.Report.{Report}
+use Rattle.asp_crew_laws.specs.declared.report.Report.{Report}
 use Rattle.asp_top.specs.declared.status.Status.{Status}
 use Rattle.asp_top.specs.declared.status.Status.TheVariants.{All, NoModel, Partial, Unknown, Help, Memory, Usage, Refused, ReadFault, TooLong, WriteFault}
 use Rattle.asp_top.specs.declared.status.Outcome.{Outcome}

@@ -74,3 +74,7 @@ writes_flushed {U = U} {F = F} a b c f g h v r x p kept cause quiet = go r cause
 
 pub writes_same : {T E : Type 0} (a b : Option (List ℕ)) (f g : ℕ) (r : Result T E) (x y : List ℕ) → Writes a b f g r x → x ≡ y → Writes a b f g r y
 writes_same a b f g r x y w e = subst (λ (t : List ℕ). Writes a b f g r t) e w
+
+-- what failed in a front fails in more
+pub writes_more : {T E : Type 0} (a b : Option (List ℕ)) (f g : ℕ) (e : E) (x y : List ℕ) → Writes {T = T} {E = E} a b f g (Err e) x → Writes {T = T} {E = E} a b f g (Err e) (x ++ y)
+writes_more a b f g e x y p = record { all = tt; front = front-more a b x y p.front; later = p.later; cause = p.cause; quiet = λ told. tt }

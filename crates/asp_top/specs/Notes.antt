@@ -4,7 +4,7 @@ use Rattle.std.specs.Io.KnownBytes.{Appends}
 use Rattle.asp_io.specs.Causes.{Rose, AppendsFront}
 use Rattle.asp_model.specs.declared.fault.Fault.{Fault}
 use Rattle.asp_model.specs.declared.fault.Fault.TheVariants as fault
-use Rattle.asp_crew.specs.declared.report.Report.{Report}
+use Rattle.asp_crew_laws.specs.declared.report.Report.{Report}
 use Rattle.asp_top.specs.declared.status.Outcome.{Outcome}
 use Rattle.asp_top.specs.declared.status.Status.{Status}
 use Rattle.asp_top.specs.Usage.{usage_text}
@@ -43,9 +43,9 @@ note_of ReadFault = codes "aspenum: read failed\n"
 note_of TooLong = codes "aspenum: input too long\n"
 note_of WriteFault = codes "aspenum: write failed\n"
 
--- The counts of a run: the units that were burnt; one search works on one leaf, and shares no nogood.
+-- The counts of a run: the units that were burnt, the leaves of the tree of paths, and the nogoods that workers shared.
 abbrev pub stats_of : Report → List ℕ
-stats_of r = codes "Conflicts: " ++ decimal r.spent ++ codes "\nLeaves: 1\nLog: 0\n"
+stats_of r = codes "Conflicts: " ++ decimal r.spent ++ (codes "\nLeaves: " ++ decimal r.leaves) ++ (codes "\nLog: " ++ decimal r.log) ++ codes "\n"
 
 abbrev pub counts_of : Option Report → List ℕ
 counts_of None = []

@@ -16,8 +16,8 @@ use Rattle.asp_make.specs.Ring.{ring}
 use Rattle.asp_cli.specs.Given.{Given, help, misuse, options, version}
 use Rattle.asp_cli.specs.declared.Options.{Options}
 use Rattle.asp_cli.specs.Texts.{help_page, version_line}
-use Rattle.asp_crew.specs.declared.report.Report.{Report}
-use Rattle.asp_crew.specs.Reports.{IsReport}
+use Rattle.asp_crew_laws.specs.declared.report.Report.{Report}
+use Rattle.asp_crew_laws.specs.Reports.{IsReport}
 use Rattle.asp_top.specs.declared.status.Status.{Status}
 use Rattle.asp_top.specs.declared.status.Status.TheVariants.{All, NoModel, Partial, Unknown, Help, Memory, Usage, Refused, ReadFault, TooLong, WriteFault}
 use Rattle.asp_top.specs.declared.status.Outcome.{Outcome}

@@ -122,12 +122,32 @@ fn write_spent<N: Sink>(notes: &mut N, spent: u64) -> Result<(), Failed>
     )
 }
 
+fn write_leaves<N: Sink>(notes: &mut N, leaves: u32) -> Result<(), Failed>
+    ensures { Writes (N.held notes.old) (N.held notes.new) (N.faults notes.old) (N.faults notes.new)
+        result (codes "\nLeaves: " ++ decimal leaves) }
+{
+    write_both(
+        notes,
+        b"\nLeaves: ",
+        Buffer::new().format(leaves).as_bytes(),
+    )
+}
+
+fn write_log<N: Sink>(notes: &mut N, log: u32) -> Result<(), Failed>
+    ensures { Writes (N.held notes.old) (N.held notes.new) (N.faults notes.old) (N.faults notes.new)
+        result (codes "\nLog: " ++ decimal log) }
+{
+    write_both(notes, b"\nLog: ", Buffer::new().format(log).as_bytes())
+}
+
 fn write_counts<N: Sink>(notes: &mut N, report: &Report) -> Result<(), Failed>
     ensures { Writes (N.held notes.old) (N.held notes.new) (N.faults notes.old) (N.faults notes.new)
         result (stats_of report.now) }
 {
     write_spent(notes, report.spent)?;
-    write(notes, b"\nLeaves: 1\nLog: 0\n")
+    write_leaves(notes, report.leaves)?;
+    write_log(notes, report.log)?;
+    write(notes, b"\n")
 }
 
 fn write_report<N: Sink>(notes: &mut N, report: &Option<Report>) -> Result<(), Failed>

@@ -1,0 +1,314 @@
+-- One leaf after another, and what is left when number 0 has given its units back.
+use Rattle.std.proofs.Common.{◌≡◌, ◌⊎◌, ℕ, ◌+◌, ◌-◌, ◌^◌, ◌<◌, ◌≤◌, min, Bool, true, false, cond, eqb, List, [], ◌∷◌, length, Option, Some, None, refl, sym, ap, ◌∙◌, subst, inl, inr, arith}
+use Rattle.std.specs.Prelude.{ℤ, slice_get}
+use Rattle.std.specs.Option.{IfSome}
+use Rattle.std.proofs.lemmas.Bool.{eq-eqb, eqb-true, cases_eq, ne_eqb}
+use Rattle.asp_model.specs.declared.program.Program.{Program}
+use Rattle.asp_model.specs.declared.results.Mode.{Mode}
+use Rattle.asp_model.specs.Sets.{Atoms}
+use Rattle.asp_vars.specs.Literals.{Literal}
+use Rattle.asp_vars.specs.Entailment.{HitsOnly}
+use Rattle.asp_vars.specs.Paid.{Clash, Units}
+use Rattle.asp_path.specs.declared.status.Status.{Status}
+use Rattle.asp_path.specs.declared.status.Status.TheVariants as status
+use Rattle.asp_path.specs.Trees.{Node, is_leaf, is_held, is_open, cube_of, status_of, with_status, open_from, held_count}
+use Rattle.asp_core.specs.declared.event.Event.{Event}
+use Rattle.asp_core.specs.declared.event.Event.TheVariants as event
+use Rattle.asp_core.specs.declared.task.Task.{Task}
+use Rattle.asp_core.specs.Units.{out_of, leased, returned, total_out}
+use Rattle.asp_core.specs.Boards.{Board, start, goal_of}
+use Rattle.asp_core.specs.Events.{held_by, Guard, happens}
+use Rattle.asp_core.specs.Invariant.{IsBoard, IsCube}
+use Rattle.asp_core.proofs.GrowthLaws.{out_of-leased_other, out_of-returned_other}
+use Rattle.asp_core.proofs.PlaceLaws.{held_count-changed}
+use Rattle.asp_book.specs.Books.{Booked, board, with_events}
+use Rattle.asp_book.specs.Fuels.{Fits, ComesBack}
+use Rattle.asp_book.specs.Replies.{taken, leased_out, given_back}
+use Rattle.asp_search_laws.specs.Searching.{Searching}
+use Rattle.asp_crew_laws.specs.Reports.{IsIdle, IsMet, IsUnpaidAt, IsWorkedOff}
+use Rattle.asp_crew_laws.specs.Working.{IsAtWork}
+use Rattle.asp_crew_laws.proofs.WorkLaws.{work-begins, out_of-leased}
+use Rattle.asp_crew.specs.Running.{IsRunIn, IsReady, OnlyRecords, IsOver, Ends, LeavesLeaf, IsAlone, IsThrough, LeavesAll, Finishes}
+use Rattle.asp_crew.proofs.BookLaws.{board-task, board-with, ready-with, cube-within}
+use Rattle.asp_crew.proofs.TreeLaws.{open-changed, taken-open, none-taken, status-set, cube-set, held_by-le, closed-when}
+
+-- ---- one leaf
+held-leaf : (nodes : List Node) (leaf : ℕ) → status_of nodes leaf ≡ status.Held 0 → is_leaf (status_of nodes leaf) ≡ true
+held-leaf nodes leaf held = ap is_leaf held
+
+-- from v to w the path was searched, and then the leaf was closed
+leaves-closed : (mode : Mode) (v w y : Booked) (leaf : ℕ) (q : List Literal) (s t : Searching) (g : Units) → Ends mode v w s t g None → Guard (board w) (event.Close 0 leaf q) → y ≡ with_events w (event.Close 0 leaf q ∷ []) → LeavesLeaf mode v y leaf t g None
+leaves-closed mode v w y leaf q s t g ends guard now =
+    let b : board y ≡ happens (board w) (event.Close 0 leaf q) = ap board now ∙ board-with w (event.Close 0 leaf q) in
+    record {
+      ready = ready-with mode w y t g (event.Close 0 leaf q) ends.ready guard refl now;
+      task = ap (λ (x : Booked). x.task) now ∙ ends.only.task;
+      nodes = ap (λ (c : Board). c.nodes) b ∙ ap (λ (n : List Node). with_status n leaf status.Closed) ends.only.nodes;
+      out = ap (λ (c : Board). c.out) b ∙ ends.only.out;
+      pool = ap (λ (c : Board). c.pool) b ∙ ends.only.pool;
+      stopped = tt;
+    }
+
+pub closes : (mode : Mode) (v w y : Booked) (leaf : ℕ) (q : List Literal) (s t : Searching) (g : Units) → Ends mode v w s t g None → status_of (board v).nodes leaf ≡ status.Held 0 → q ≡ cube_of (board v).nodes leaf → s.cube ≡ Some q
+    → y ≡ with_events w (event.Close 0 leaf q ∷ []) → LeavesLeaf mode v y leaf t g None
+closes mode v w y leaf q s t g ends held is entered now =
+    leaves-closed mode v w y leaf q s t g ends (ap (λ (n : List Node). status_of n leaf) ends.only.nodes ∙ held, cube-within v w leaf q ends.only.nodes is, ends.over q entered) now
+
+-- or it was opened again
+pub leaves-open : (mode : Mode) (v w y : Booked) (leaf : ℕ) (q : List Literal) (s t : Searching) (g : Units) (x : Clash) → Ends mode v w s t g (Some x) → status_of (board v).nodes leaf ≡ status.Held 0 → q ≡ cube_of (board v).nodes leaf → s.cube ≡ Some q
+    → y ≡ with_events w (event.Release 0 leaf ∷ []) → LeavesLeaf mode v y leaf t g (Some x)
+leaves-open mode v w y leaf q s t g x ends held cube entered now =
+    let e : Event = event.Release 0 leaf in
+    let b : board y ≡ happens (board w) e = ap board now ∙ board-with w e in
+    let still : status_of (board w).nodes leaf ≡ status.Held 0 = ap (λ (n : List Node). status_of n leaf) ends.only.nodes ∙ held in
+    let nodes : (board y).nodes ≡ with_status (board w).nodes leaf status.Open = ap (λ (c : Board). c.nodes) b in
+    let is_q : x.cube ≡ q = (let f : Some x.cube ≡ Some q = sym ends.over.1 ∙ entered in let g : x.cube ≡ q = cc in g) in
+    record {
+      ready = ready-with mode w y t g e ends.ready still refl now;
+      task = ap (λ (z : Booked). z.task) now ∙ ends.only.task;
+      nodes = nodes ∙ ap (λ (n : List Node). with_status n leaf status.Open) ends.only.nodes;
+      out = ap (λ (c : Board). c.out) b ∙ ends.only.out;
+      pool = ap (λ (c : Board). c.pool) b ∙ ends.only.pool;
+      stopped = (
+        ends.over.0,
+        record {
+          unclosed = ap (λ (n : List Node). status_of n leaf) nodes ∙ status-set (board w).nodes leaf status.Open (held-leaf (board w).nodes leaf still);
+          cube = is_q ∙ cube ∙ ap (λ (n : List Node). cube_of n leaf) (sym ends.only.nodes) ∙ sym (cube-set (board w).nodes leaf status.Open (held-leaf (board w).nodes leaf still)) ∙ ap (λ (n : List Node). cube_of n leaf) (sym nodes);
+          met = subst (λ (c : Board). IsMet c x) (sym b) (record { program = ends.over.2.program; known = ends.over.2.known; bound = ends.over.2.bound; conflict = ends.over.2.conflict });
+        },
+      );
+    }
+
+-- ---- all leaves
+-- what holds between two leaves, from v on
+pub record IsBetween (mode : Mode) (v w : Booked) (s : Searching) (f : Units) : Type 0 where
+  pub ready : IsReady mode w s f
+  pub alone : IsAlone (board w)
+  pub task : w.task ≡ v.task
+  pub pool : (board w).pool ≡ (board v).pool
+
+pub free-now : (b : Board) → IsAlone b → held_by 0 b.nodes ≡ 0
+free-now b alone = omega (arith, held_by-le 0 b.nodes, alone.free)
+
+-- after a take
+pub record IsTaken (mode : Mode) (v w : Booked) (leaf : ℕ) (s : Searching) (f : Units) : Type 0 where
+  pub ready : IsReady mode w s f
+  pub task : w.task ≡ v.task
+  pub was : status_of (board v).nodes leaf ≡ status.Open
+  pub nodes : (board w).nodes ≡ with_status (board v).nodes leaf (status.Held 0)
+  pub out : (board w).out ≡ (board v).out
+  pub pool : (board w).pool ≡ (board v).pool
+
+taken-is : (mode : Mode) (v w : Booked) (leaf : ℕ) (s : Searching) (f : Units) → IsReady mode v s f → IsAlone (board v) → status_of (board v).nodes leaf ≡ status.Open → w ≡ with_events v (event.Take 0 leaf ∷ []) → IsTaken mode v w leaf s f
+taken-is mode v w leaf s f is alone was now =
+    let e : Event = event.Take 0 leaf in
+    let b : board w ≡ happens (board v) e = ap board now ∙ board-with v e in
+    record {
+      ready = ready-with mode v w s f e is (was, free-now (board v) alone) refl now;
+      task = ap (λ (z : Booked). z.task) now;
+      was = was;
+      nodes = ap (λ (c : Board). c.nodes) b;
+      out = ap (λ (c : Board). c.out) b;
+      pool = ap (λ (c : Board). c.pool) b;
+    }
+
+pub taken-by : (mode : Mode) (v w : Booked) (leaf : ℕ) (s : Searching) (f : Units) (r : Option ℕ) → IsReady mode v s f → IsAlone (board v) → r ≡ slice_get (open_from 0 (board v).nodes) 0 → w ≡ with_events v (taken 0 r) → r ≡ Some leaf → IsTaken mode v w leaf s f
+taken-by mode v w leaf s f r is alone first now some =
+    taken-is mode v w leaf s f is alone (taken-open (board v).nodes leaf (sym first ∙ some)) (now ∙ ap (λ (o : Option ℕ). with_events v (taken 0 o)) some)
+
+pub held-taken : (mode : Mode) (v w : Booked) (leaf : ℕ) (s : Searching) (f : Units) → IsTaken mode v w leaf s f → status_of (board w).nodes leaf ≡ status.Held 0
+held-taken mode v w leaf s f is = ap (λ (n : List Node). status_of n leaf) is.nodes ∙ status-set (board v).nodes leaf (status.Held 0) (ap is_leaf is.was)
+
+-- after the leaf that was taken
+module _ (mode : Mode) (v w y : Booked) (leaf : ℕ) (s t : Searching) (f g : Units) (o : Option Clash) (new : Status) (is : IsTaken mode v w leaf s f) (nodes : (board y).nodes ≡ with_status (board w).nodes leaf new) (free : is_held new ≡ false) where
+  held : status_of (board w).nodes leaf ≡ status.Held 0
+  held = held-taken mode v w leaf s f is
+
+  pub free-after : held_count (board v).nodes ≡ 0 → held_count (board y).nodes ≡ 0
+  free-after none =
+      omega (
+        arith,
+        ap held_count nodes,
+        held_count-changed (board w).nodes leaf (status.Held 0) new held refl,
+        ap held_count is.nodes,
+        held_count-changed (board v).nodes leaf status.Open (status.Held 0) is.was refl,
+        ap (λ x. let k : ℕ = cond x 1 0 in k) free,
+        none,
+      )
+
+  pub fewer-after : is_open new ≡ false → length (open_from 0 (board y).nodes) < length (open_from 0 (board v).nodes)
+  fewer-after shut =
+      omega (
+        arith,
+        ap (λ (n : List Node). length (open_from 0 n)) nodes,
+        open-changed (board w).nodes leaf (status.Held 0) new held refl,
+        ap (λ (n : List Node). length (open_from 0 n)) is.nodes,
+        open-changed (board v).nodes leaf status.Open (status.Held 0) is.was refl,
+        ap (λ x. let k : ℕ = cond x 1 0 in k) shut,
+      )
+
+pub alone-after : (b c : Board) → IsAlone b → held_count c.nodes ≡ 0 → c.out ≡ b.out → IsAlone c
+alone-after b c alone free out = record { free = free; home = λ s ne. ap (λ (o : List (ℕ × ℕ)). out_of o s) out ∙ alone.home s ne }
+
+-- the next leaf
+pub between-next : (mode : Mode) (u v w y : Booked) (leaf : ℕ) (s t : Searching) (f g : Units) → IsBetween mode u v s f → IsTaken mode v w leaf s f → LeavesLeaf mode w y leaf t g None → IsBetween mode u y t g
+between-next mode u v w y leaf s t f g is taken left = record {
+  ready = left.ready;
+  alone = alone-after (board v) (board y) is.alone (free-after mode v w y leaf s t f g None status.Closed taken left.nodes refl is.alone.free) (left.out ∙ taken.out);
+  task = left.task ∙ taken.task ∙ is.task;
+  pool = left.pool ∙ taken.pool ∙ is.pool;
+}
+
+pub fewer-next : (mode : Mode) (v w y : Booked) (leaf : ℕ) (s t : Searching) (f g : Units) → IsTaken mode v w leaf s f → LeavesLeaf mode w y leaf t g None → length (open_from 0 (board y).nodes) < length (open_from 0 (board v).nodes)
+fewer-next mode v w y leaf s t f g taken left = fewer-after mode v w y leaf s t f g None status.Closed taken left.nodes refl refl
+
+-- no unit was left
+pub all-stopped : (mode : Mode) (u v w y : Booked) (leaf : ℕ) (s t : Searching) (f g : Units) (x : Clash) → IsBetween mode u v s f → IsTaken mode v w leaf s f → LeavesLeaf mode w y leaf t g (Some x) → LeavesAll mode u y t g (Some x)
+all-stopped mode u v w y leaf s t f g x is taken left = record {
+  ready = left.ready;
+  alone = alone-after (board v) (board y) is.alone (free-after mode v w y leaf s t f g (Some x) status.Open taken left.nodes refl is.alone.free) (left.out ∙ taken.out);
+  task = left.task ∙ taken.task ∙ is.task;
+  pool = left.pool ∙ taken.pool ∙ is.pool;
+  through = (left.stopped.0, (leaf, left.stopped.1));
+}
+
+-- no leaf was open
+pub all-through : (mode : Mode) (u v w : Booked) (s : Searching) (f : Units) (r : Option ℕ) → IsBetween mode u v s f → r ≡ slice_get (open_from 0 (board v).nodes) 0 → w ≡ with_events v (taken 0 r) → r ≡ None → LeavesAll mode u w s f None
+all-through mode u v w s f r is first now none =
+    subst (λ (x : Booked). LeavesAll mode u x s f None) (sym (now ∙ ap (λ (o : Option ℕ). with_events v (taken 0 o)) none))
+    (record { ready = is.ready; alone = is.alone; task = is.task; pool = is.pool; through = none-taken (open_from 0 (board v).nodes) (sym first ∙ none) })
+
+-- ---- units at the start
+-- all units of the pool, for number 0
+abbrev pub all_of : Board → Units
+all_of b = record { program = b.task.program; left = min (2 ^ 64 - 1) b.pool; burnt = 0; known = 0; least = None }
+
+pub record IsLeased (v w : Booked) : Type 0 where
+  pub alone : IsAlone (board w)
+  pub task : w.task ≡ v.task
+  pub pool : (board w).pool ≡ 0
+  pub units : out_of (board w).out 0 ≡ (all_of (board v)).left
+
+pub leased-is : (v w : Booked) → IsIdle (board v) → (board v).pool < 2 ^ 64 → w ≡ with_events v (leased_out 0 (all_of (board v))) → IsLeased v w
+leased-is v w idle fits now = here (eqb (min (2 ^ 64 - 1) (board v).pool) 0) refl now
+  where
+    here : (x : Bool) → x ≡ eqb (min (2 ^ 64 - 1) (board v).pool) 0 → w ≡ with_events v (cond x [] (event.Lease 0 (min (2 ^ 64 - 1) (board v).pool) ∷ [])) → IsLeased v w
+    here true q now = subst (λ (y : Booked). IsLeased v y) (sym now) (record {
+      alone = record { free = idle.free; home = λ s ne. idle.home s };
+      task = refl;
+      pool = omega (arith, fits, eqb-true (min (2 ^ 64 - 1) (board v).pool) 0 (sym q));
+      units = idle.home 0 ∙ sym (eqb-true (min (2 ^ 64 - 1) (board v).pool) 0 (sym q));
+    })
+    here false q now =
+        let k : ℕ = min (2 ^ 64 - 1) (board v).pool in
+        let e : Event = event.Lease 0 k in
+        let b : board w ≡ happens (board v) e = ap board now ∙ board-with v e in
+        record {
+          alone = record {
+            free = ap (λ (c : Board). held_count c.nodes) b ∙ idle.free;
+            home = λ s ne. ap (λ (c : Board). out_of c.out s) b ∙ out_of-leased_other (board v).out 0 k s (λ z. ne (sym z)) ∙ idle.home s;
+          };
+          task = ap (λ (z : Booked). z.task) now;
+          pool = ap (λ (c : Board). c.pool) b ∙ (let z : (board v).pool - k ≡ 0 = omega (arith, fits) in z);
+          units = ap (λ (c : Board). out_of c.out 0) b ∙ out_of-leased 0 k (board v).out ∙ ap (λ m. m + k) (idle.home 0) ∙ (let z : 0 + k ≡ k = omega arith in z);
+        }
+
+-- the search begins with them
+pub ready-begins : (mode : Mode) (v w : Booked) (s : Searching) (f : Units) → IsRunIn mode v.task → IsLeased v w → f ≡ all_of (board v) → s.program ≡ v.task.program → s.mode ≡ mode → s.known ≡ [] → s.bound ≡ None → IsReady mode w s f
+ready-begins mode v w s f run is units program mode_is known bound =
+    let same : w.task ≡ v.task = is.task in
+    let task : IsRunIn mode w.task = subst (λ (x : Task). IsRunIn mode x) (sym same) run in
+    let now : (board w).task ≡ v.task = board-task w ∙ same in
+    let back : ComesBack (board w) (out_of (board w).out 0) (all_of (board v)) = (
+      record { program = ap (λ (t : Task). t.program) (board-task v ∙ sym now); known = omega arith; least = tt },
+      (let z : min (2 ^ 64 - 1) (board v).pool + 0 ≡ min (2 ^ 64 - 1) (board v).pool = omega arith in z) ∙ sym is.units,
+    ) in
+    record {
+      task = task;
+      program = program ∙ ap (λ (t : Task). t.program) (sym same);
+      mode_is = mode_is;
+      work =
+          subst (λ (k : List Atoms). IsAtWork (board w) 0 mode k s.bound f) (sym known) (subst (λ (o : Option (List ℤ)). IsAtWork (board w) 0 mode [] o f) (sym bound)
+          (subst (λ (u : Units). IsAtWork (board w) 0 mode [] None u) (sym units) (work-begins (board w) 0 mode (all_of (board v)) (ap (λ (t : Task). t.goal) (board-task w ∙ task)) back)));
+    }
+
+-- ---- units at the end
+out_of-returned : (s : ℕ) (out : List (ℕ × ℕ)) → out_of (returned s out) s ≡ 0
+out_of-returned s [] = refl
+out_of-returned s (x ∷ out) = here (eqb x.0 s) refl (out_of-returned s out)
+  where
+    here : (z : Bool) → z ≡ eqb x.0 s → out_of (returned s out) s ≡ 0 → out_of (cond z ((x.0, 0) ∷ out) (x ∷ returned s out)) s ≡ 0
+    here true q rest = ap (λ y. let k : ℕ = cond y 0 (out_of out s) in k) (sym q)
+    here false q rest = ap (λ y. let k : ℕ = cond y x.1 (out_of (returned s out) s) in k) (sym q) ∙ rest
+
+home-after : (out : List (ℕ × ℕ)) → ((s : ℕ) → (s ≡ 0 → ⊥) → out_of out s ≡ 0) → (s : ℕ) → out_of (returned 0 out) s ≡ 0
+home-after out home s = here (cases_eq s 0)
+  where
+    here : (s ≡ 0) ⊎ (s ≡ 0 → ⊥) → out_of (returned 0 out) s ≡ 0
+    here (inl e) = ap (out_of (returned 0 out)) e ∙ out_of-returned 0 out
+    here (inr ne) = out_of-returned_other out 0 s (λ z. ne (sym z)) ∙ home s ne
+
+module _ (mode : Mode) (v w y : Booked) (t : Searching) (g : Units) (o : Option Clash) (left : LeavesAll mode v w t g o) (none : (board v).pool ≡ 0) where
+  pub idle-after : y ≡ with_events w (given_back 0 g) → IsIdle (board y)
+  idle-after now = here (eqb (g.left + g.burnt) 0) refl now
+    where
+      here : (x : Bool) → x ≡ eqb (g.left + g.burnt) 0 → y ≡ with_events w (cond x [] (event.Back 0 g.left g.burnt ∷ [])) → IsIdle (board y)
+      here true q now = subst (λ (z : Booked). IsIdle (board z)) (sym now) (record {
+        free = left.alone.free;
+        home = λ s. at s (cases_eq s 0);
+      })
+        where
+          at : (s : ℕ) → (s ≡ 0) ⊎ (s ≡ 0 → ⊥) → out_of (board w).out s ≡ 0
+          at s (inl e) = ap (out_of (board w).out) e ∙ sym left.ready.work.units.1 ∙ eqb-true (g.left + g.burnt) 0 (sym q)
+          at s (inr ne) = left.alone.home s ne
+      here false q now =
+          let b : board y ≡ happens (board w) (event.Back 0 g.left g.burnt) = ap board now ∙ board-with w (event.Back 0 g.left g.burnt) in
+          record {
+            free = ap (λ (c : Board). held_count c.nodes) b ∙ left.alone.free;
+            home = λ s. ap (λ (c : Board). out_of c.out s) b ∙ home-after (board w).out left.alone.home s;
+          }
+
+  pub task-after : y ≡ with_events w (given_back 0 g) → y.task ≡ v.task
+  task-after now = here (eqb (g.left + g.burnt) 0) now
+    where
+      here : (x : Bool) → y ≡ with_events w (cond x [] (event.Back 0 g.left g.burnt ∷ [])) → y.task ≡ v.task
+      here true now = ap (λ (z : Booked). z.task) now ∙ left.task
+      here false now = ap (λ (z : Booked). z.task) now ∙ left.task
+
+-- what is left when the units are back
+back-through : (b : Board) (left burnt : ℕ) (f : Units) (o : Option Clash) → IsThrough b f o → IsThrough (happens b (event.Back 0 left burnt)) f o
+back-through b left burnt f None none = none
+back-through b left burnt f (Some x) h = (
+  h.0,
+  (
+    h.1.0,
+    record {
+      unclosed = h.1.1.unclosed;
+      cube = h.1.1.cube;
+      met = record { program = h.1.1.met.program; known = h.1.1.met.known; bound = h.1.1.met.bound; conflict = h.1.1.met.conflict };
+    },
+  ),
+)
+
+-- where a conflict was met no unit is left
+pool-after : (b : Board) (left burnt : ℕ) (f : Units) (o : Option Clash) → IsThrough b f o → left ≡ f.left → b.pool ≡ 0 → IfSome o (λ x. b.pool + left ≡ 0)
+pool-after b left burnt f None h e none = tt
+pool-after b left burnt f (Some x) h e none = omega (arith, h.0, e, none)
+
+over-by : (b : Board) (f : Units) (o : Option Clash) → held_count b.nodes ≡ 0 → IfSome o (λ x. b.pool ≡ 0) → IsThrough b f o → IsWorkedOff b o
+over-by b f None free pool none = closed-when b.nodes none free
+over-by b f (Some x) free pool left = (pool, left.1)
+
+zero-pool : (b : Board) (o : Option Clash) → b.pool ≡ 0 → IfSome o (λ x. b.pool ≡ 0)
+zero-pool b None e = tt
+zero-pool b (Some x) e = e
+
+pub finished : (mode : Mode) (v w y : Booked) (t : Searching) (g : Units) (o : Option Clash) → LeavesAll mode v w t g o → (board v).pool ≡ 0 → y ≡ with_events w (given_back 0 g) → IsWorkedOff (board y) o
+finished mode v w y t g o left none now = here (eqb (g.left + g.burnt) 0) now
+  where
+    here : (x : Bool) → y ≡ with_events w (cond x [] (event.Back 0 g.left g.burnt ∷ [])) → IsWorkedOff (board y) o
+    here true now = subst (λ (z : Booked). IsWorkedOff (board z) o) (sym now) (over-by (board w) g o left.alone.free (zero-pool (board w) o (left.pool ∙ none)) left.through)
+    here false now =
+        let e : Event = event.Back 0 g.left g.burnt in
+        subst (λ (c : Board). IsWorkedOff c o) (sym (ap board now ∙ board-with w e))
+        (over-by (happens (board w) e) g o left.alone.free (pool-after (board w) g.left g.burnt g o left.through refl (left.pool ∙ none)) (back-through (board w) g.left g.burnt g o left.through))

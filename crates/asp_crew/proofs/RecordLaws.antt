@@ -1,0 +1,66 @@
+-- An answer is delivered, or recorded as the best.
+use Rattle.std.proofs.Common.{◌≡◌, ◌⊎◌, ℕ, Bool, true, false, not, ◌&&◌, eqb, leb, List, [], ◌∷◌, length, Option, Some, None, refl, sym, ap, ◌∙◌, subst, inl, inr}
+use Rattle.std.specs.Prelude.{ℤ, IsTrue, option_map}
+use Rattle.std.proofs.lemmas.Bool.{false≢true}
+use Rattle.asp_model.specs.declared.results.Mode.{Mode}
+use Rattle.asp_model.specs.declared.results.Mode.TheVariants.{Enum, Opt}
+use Rattle.asp_model.specs.Sets.{Atoms}
+use Rattle.asp_model.specs.Costs.{cost, betters}
+use Rattle.asp_core.specs.declared.event.Event.{Event}
+use Rattle.asp_core.specs.declared.event.Event.TheVariants as event
+use Rattle.asp_core.specs.declared.task.Task.{Task}
+use Rattle.asp_core.specs.Boards.{Board, distinct, is_answer, is_enough, lists, optimises}
+use Rattle.asp_core.specs.Events.{happens}
+use Rattle.asp_book.specs.Books.{Booked, board, with_events}
+use Rattle.asp_book.specs.Replies.{Improves, delivered, improved}
+use Rattle.asp_crew_laws.proofs.WorkLaws.{may-list, may-optimise}
+use Rattle.asp_crew.specs.Running.{IsRunIn, IsRecorded, IsUnbettered, OnlyRecords}
+use Rattle.asp_crew.proofs.BookLaws.{board-task, board-with}
+
+-- ---- what the book asks
+pub listed-now : (v : Booked) (S : Atoms) → IsRunIn Enum v.task → IsTrue (lists (board v).task S)
+listed-now v S run = may-list (board v).task S (ap (λ (t : Task). t.goal) (board-task v ∙ run))
+
+pub optimised-now : (v : Booked) → IsRunIn Opt v.task → IsTrue (optimises (board v).task.goal)
+optimised-now v run = may-optimise (board v).task (ap (λ (t : Task). t.goal) (board-task v ∙ run))
+
+pub answer-now : (v : Booked) (S : Atoms) → IsTrue (is_answer v.task S) → IsTrue (is_answer (board v).task S)
+answer-now v S h = subst (λ (t : Task). IsTrue (is_answer t S)) (sym (board-task v)) h
+
+-- ---- what it gives
+pub record Recorded (mode : Mode) (v w : Booked) (S : Atoms) : Type 0 where
+  pub only : OnlyRecords v w
+  pub recorded : IsRecorded mode (board v) (board w) S
+
+never-enough : (mode : Mode) (v : Booked) → IsRunIn mode v.task → is_enough (board v) ≡ false
+never-enough mode v run = ap (λ (t : Task). not (eqb t.limit 0) && leb t.limit (length (distinct (board v).answers))) (board-task v ∙ run)
+
+only-by : (v w : Booked) (e : Event) → w ≡ with_events v (e ∷ []) → (happens (board v) e).nodes ≡ (board v).nodes → (happens (board v) e).out ≡ (board v).out → (happens (board v) e).pool ≡ (board v).pool → OnlyRecords v w
+only-by v w e now nodes out pool =
+    let b : board w ≡ happens (board v) e = ap board now ∙ board-with v e in
+    record { task = ap (λ (z : Booked). z.task) now; nodes = ap (λ (c : Board). c.nodes) b ∙ nodes; out = ap (λ (c : Board). c.out) b ∙ out; pool = ap (λ (c : Board). c.pool) b ∙ pool }
+
+pub recorded-delivered : (v w : Booked) (S : Atoms) (r : Bool) → IsRunIn Enum v.task → IsTrue (is_answer v.task S) → r ≡ not (is_enough (board v)) → w ≡ with_events v (delivered 0 S r) → Recorded Enum v w S
+recorded-delivered v w S true run answer e now = record {
+  only = only-by v w (event.Deliver 0 S) now refl refl refl;
+  recorded = ((listed-now v S run, answer-now v S answer, never-enough Enum v run), ap board now ∙ board-with v (event.Deliver 0 S));
+}
+recorded-delivered v w S false run answer e now = absurd (false≢true (e ∙ ap not (never-enough Enum v run)))
+
+unbettered : (b : Board) (S : Atoms) (c : List ℤ) (o : Option Atoms) → b.best ≡ o → option_map (cost b.task.program) o ≡ Some c → betters (cost b.task.program S) c ≡ false → IsUnbettered b S
+unbettered b S c None e h no_better = absurd (let f : ⊥ = cc in f)
+unbettered b S c (Some B) e h no_better = record {
+  best = B;
+  stands = e;
+  dearer = subst (λ (d : List ℤ). betters (cost b.task.program S) d ≡ false) (let f : c ≡ cost b.task.program B = cc in f) no_better;
+}
+
+pub recorded-improved : (v w : Booked) (S : Atoms) (r : Option (List ℤ)) → IsRunIn Opt v.task → IsTrue (is_answer v.task S) → Improves (board v) S r → w ≡ with_events v (improved 0 S r) → Recorded Opt v w S
+recorded-improved v w S None run answer is now = record {
+  only = only-by v w (event.Improve 0 S) now refl refl refl;
+  recorded = inl ((optimised-now v run, answer-now v S answer, is.better refl), ap board now ∙ board-with v (event.Improve 0 S));
+}
+recorded-improved v w S (Some c) run answer is now = record {
+  only = record { task = ap (λ (z : Booked). z.task) now; nodes = ap (λ (z : Booked). (board z).nodes) now; out = ap (λ (z : Booked). (board z).out) now; pool = ap (λ (z : Booked). (board z).pool) now };
+  recorded = inr (ap board now, unbettered (board v) S c (board v).best refl is.best.0 is.best.1);
+}

@@ -1,0 +1,11 @@
+use Rattle.std.proofs.Common.{length}
+use Rattle.asp_path.specs.Trees.{open_from}
+use Rattle.asp_book.specs.Books.{board}
+use Rattle.asp_crew.proofs.FinishLaws.{IsBetween}
+use Rattle.asp_crew.proofs.finish.work_off_all.Given as goal
+
+abbrev pub invariant-leaves : goal.invariant-leaves
+invariant-leaves g l = IsBetween l.mode l.initial.book l.book l.search l.fuel
+
+abbrev pub decreases-leaves : goal.decreases-leaves
+decreases-leaves g l = length (open_from 0 (board l.book).nodes)

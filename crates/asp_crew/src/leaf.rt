@@ -1,0 +1,139 @@
+//! One leaf, by one search.
+//!
+//! What is left to do is read as a number with four digits: the units left, the stable models not yet found, the nogoods
+//! learnt since the last restart, and the variables without a value. A conflict takes a unit, an answer is found once, a
+//! restart forgets the nogoods that made it due, and a decision gives a variable a value. Each lowers its digit and leaves
+//! the digits before it, so a leaf is worked off.
+ghost use Rattle.std.specs.Prelude.{◌≡◌, IfOk, OnOk, IsTrue};
+ghost use Rattle.std.specs.List.{All};
+ghost use Rattle.asp_vars.specs.Numbering.{var_count};
+ghost use Rattle.asp_trail.specs.Trails.{IsVar};
+ghost use Rattle.asp_path.specs.declared.status.Status.TheVariants as status;
+ghost use Rattle.asp_path.specs.Trees.{cube_of, status_of};
+ghost use Rattle.asp_core.specs.Boards.{is_answer};
+ghost use Rattle.asp_core.specs.Invariant.{IsCube};
+ghost use Rattle.asp_book.specs.Books.{board};
+ghost use Rattle.asp_crew.specs.Running.{IsRunIn, IsReady, IsUnderway, OnlyRecords, IsRecorded, Goes, Ends, LeavesLeaf};
+
+use asp_book::book::Book;
+use asp_model::interp::Interp;
+use asp_model::results::Mode;
+use asp_path::tree::Leaf;
+use asp_propagate::propagator::Propagator;
+use asp_search::search::Search;
+use asp_search_laws::step::Step;
+use asp_vars::fuel::{Conflict, Fuel};
+use asp_vars::lit::Lit;
+use std::alloc::AllocError;
+
+/// How a step left the path.
+#[derive(Drop)]
+pub(crate) enum Course {
+    /// The search goes on.
+    Open,
+    /// Nothing else is to be found below the path.
+    Closed,
+    /// A conflict was met, and no unit is left for it.
+    Unpaid(Conflict),
+}
+
+// Delivers an answer, or records it as the best.
+fn record(book: &mut Book, mode: Mode, set: Interp) -> Result<(), AllocError>
+    requires task { IsRunIn mode book.old.task }
+    requires answer { IsTrue (is_answer book.old.task set) }
+    ensures only { OnOk result (OnlyRecords book.old book.new) }
+    ensures recorded { OnOk result (IsRecorded mode (board book.old) (board book.new) set) }
+{
+    match mode {
+        Mode::Enum => {
+            let _listed = book.deliver(0, set)?;
+            Ok(())
+        }
+        Mode::Opt => {
+            let _best = book.improve(0, set)?;
+            Ok(())
+        }
+    }
+}
+
+// One step. An answer is recorded.
+fn advance<P: Propagator>(
+    book: &mut Book,
+    mode: Mode,
+    search: &mut Search<'_, P>,
+    fuel: &mut Fuel,
+) -> Result<Course, AllocError>
+    requires { IsUnderway mode book.old search.old fuel.old }
+    ensures { IfOk result (Goes mode book.old book.new search.old search.new fuel.old fuel.new) }
+{
+    match search.step(fuel)? {
+        Step::Decided => Ok(Course::Open),
+        Step::Learnt => Ok(Course::Open),
+        Step::Restarted => Ok(Course::Open),
+        Step::Answer(set) => {
+            record(book, mode, set)?;
+            Ok(Course::Open)
+        }
+        Step::Closed => Ok(Course::Closed),
+        Step::NoFuel(conflict) => Ok(Course::Unpaid(conflict)),
+    }
+}
+
+// Steps until nothing else is to be found below the path, or a conflict is met when no unit is left.
+fn run<P: Propagator>(
+    book: &mut Book,
+    mode: Mode,
+    search: &mut Search<'_, P>,
+    fuel: &mut Fuel,
+) -> Result<Option<Conflict>, AllocError>
+    requires { IsUnderway mode book.old search.old fuel.old }
+    ensures { IfOk result (Ends mode book.old book.new search.old search.new fuel.new) }
+{
+    'steps: loop {
+        match advance(book, mode, search, fuel)? {
+            Course::Open => {}
+            Course::Closed => return Ok(None),
+            Course::Unpaid(conflict) => return Ok(Some(conflict)),
+        }
+    }
+}
+
+// The literals of a leaf that number 0 holds.
+fn cube_of(book: &Book, mode: Mode, leaf: Leaf) -> Result<Vec<Lit>, AllocError>
+    requires task { IsRunIn mode book.now.task }
+    requires held { status_of (board book.now).nodes leaf ≡ status.Held 0 }
+    ensures value { IfOk result (λ cube. cube.items ≡ cube_of (board book.now).nodes leaf) }
+    ensures cube { IfOk result (λ cube. IsCube book.now.task cube.items) }
+    ensures vars { IfOk result (λ cube. All (λ l. IsVar (var_count book.now.task.program) l.var) cube.items) }
+{
+    let _ = mode;
+    let _lawful = book.journal();
+    let cube = book.cube(leaf)?;
+    Ok(cube)
+}
+
+/// Works off a leaf that number 0 holds: it is closed then, or open again where a conflict was met and no unit is left.
+pub(crate) fn work_off<P: Propagator>(
+    book: &mut Book,
+    mode: Mode,
+    search: &mut Search<'_, P>,
+    fuel: &mut Fuel,
+    leaf: Leaf,
+) -> Result<Option<Conflict>, AllocError>
+    requires ready { IsReady mode book.old search.old fuel.old }
+    requires held { status_of (board book.old).nodes leaf ≡ status.Held 0 }
+    ensures { IfOk result (LeavesLeaf mode book.old book.new leaf search.new fuel.new) }
+{
+    let cube = cube_of(book, mode, leaf)?;
+    search.enter(cube.as_slice())?;
+    match run(book, mode, search, fuel)? {
+        None => {
+            book.close(0, leaf, cube.as_slice())?;
+            Ok(None)
+        }
+        Some(conflict) => {
+            book.release(0, leaf);
+            Ok(Some(conflict))
+        }
+    }
+}

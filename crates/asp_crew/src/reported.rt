@@ -1,0 +1,56 @@
+//! The report from a board.
+ghost use Rattle.std.specs.Prelude.{◌≡◌};
+ghost use Rattle.asp_book.specs.Books.{board};
+ghost use Rattle.asp_crew_laws.specs.Reports.{IsIdle, IsReport, IsWorkedOff, end_by};
+ghost use Rattle.asp_crew.specs.Running.{IsRunIn};
+
+use crate::report::Report;
+use asp_book::book::Book;
+use asp_model::results::{End, Mode, Results};
+use asp_model::seq::Seq;
+use asp_vars::fuel::Conflict;
+
+fn end_by(closed: bool) -> End
+    ensures { result ≡ end_by closed }
+{
+    if closed {
+        End::Finished
+    } else {
+        End::Unfinished
+    }
+}
+
+/// What the run has to say whose journal is the book's: its answers in order, each once. So many nogoods were shared, and
+/// `short` says whether a worker ended for want of memory.
+pub fn reported(mode: Mode, book: Book, unpaid: Option<Conflict>, log: u32, short: bool) -> Report
+    requires task { IsRunIn mode book.task }
+    requires idle { IsIdle (board book) }
+    requires over { IsWorkedOff (board book) unpaid }
+    ensures report { IsReport book.task.program mode book.task.budget result }
+    ensures journal { result.journal ≡ book.journal }
+    ensures log { result.log ≡ log }
+    ensures short { result.short ≡ short }
+{
+    let (state, journal, paid) = book.end();
+    let end = end_by(state.finished());
+    let leaves = state.leaves();
+    let spent = state.spent();
+    let (mut answers, best) = state.into_found();
+    answers.sort_unstable();
+    answers.dedup();
+    Report {
+        results: Results {
+            mode,
+            end,
+            answers: Seq::from_vec(answers),
+            best,
+        },
+        journal: Seq::from_vec(journal),
+        spent,
+        leaves,
+        log,
+        short,
+        unpaid,
+        paid,
+    }
+}

@@ -1,0 +1,217 @@
+-- A search at work goes with the board still, after what others did and after what its own number did.
+use Rattle.std.proofs.Common.{◌≡◌, ℕ, ◌+◌, ◌-◌, ◌<◌, ◌≤◌, max, Bool, true, false, cond, ◌||◌, eqb, List, [], ◌∷◌, ◌++◌, length, get_or, Option, Some, None, refl, sym, ap, ◌∙◌, subst, arith, zero-add}
+use Rattle.std.specs.Prelude.{ℤ, IsTrue}
+use Rattle.std.specs.Option.{IfSome}
+use Rattle.std.specs.List.{list_any, AllByRecursion}
+use Rattle.std.specs.Cmp.Lexicographic.{same_text}
+use Rattle.std.proofs.lemmas.Bool.{false≢true, eq-eqb, or_parts}
+use Rattle.asp_model.specs.declared.program.Program.{Program}
+use Rattle.asp_model.specs.declared.results.Mode.{Mode}
+use Rattle.asp_model.specs.declared.results.Mode.TheVariants.{Enum, Opt}
+use Rattle.asp_model.specs.Sets.{Atoms, same_set}
+use Rattle.asp_model.specs.Models.{is_stable}
+use Rattle.asp_model.specs.Costs.{cost, betters}
+use Rattle.asp_model.proofs.MemberLaws.{each_weaker}
+use Rattle.asp_vars.specs.Literals.{Literal, hits}
+use Rattle.asp_vars.specs.Numbering.{values}
+use Rattle.asp_vars.specs.Conflicts.{IsConflict}
+use Rattle.asp_vars.specs.Entailment.{Settled, is_done}
+use Rattle.asp_vars.specs.Paid.{Clash, Units, least_of}
+use Rattle.asp_vars.proofs.ResolutionLaws.{HitsOnly-weaker}
+use Rattle.asp_path.specs.declared.status.Status.TheVariants as status
+use Rattle.asp_path.specs.Trees.{Node, nowhere, cube_of, status_of}
+use Rattle.asp_core.specs.declared.event.Event.{Event}
+use Rattle.asp_core.specs.declared.event.Event.TheVariants as event
+use Rattle.asp_core.specs.declared.goal.Goal.{Goal}
+use Rattle.asp_core.specs.declared.task.Task.{Task}
+use Rattle.asp_core.specs.Units.{out_of, leased}
+use Rattle.asp_core.specs.Boards.{Board, IsBoundOf, bound_of, distinct, goal_of, is_excused, lists_by, lists, optimises}
+use Rattle.asp_core.specs.Events.{Guard, happens}
+use Rattle.asp_core.specs.Growth.{Grows, Spares}
+use Rattle.asp_core.specs.Invariant.{IsBoard}
+use Rattle.asp_core.specs.Sorting.{sorted_once}
+use Rattle.asp_core.proofs.SortingLaws.{same_itself, sorted-has}
+use Rattle.asp_core.proofs.CountLaws.{length-sorted_once}
+use Rattle.asp_core.proofs.GrowthLaws.{Grows-happens}
+use Rattle.asp_book.specs.Fuels.{Fits, ComesBack}
+use Rattle.asp_book.proofs.BookLaws.{Fits-grows}
+use Rattle.asp_crew_laws.specs.Agrees.{Agrees, AreApart}
+use Rattle.asp_crew_laws.specs.Reports.{IsMet}
+use Rattle.asp_crew_laws.specs.Working.{IsKept, IsAtWork, Works}
+use Rattle.asp_crew_laws.proofs.AgreeLaws.{agrees-grows, agrees-none, agrees-delivered}
+use Rattle.asp_crew_laws.proofs.FuelLaws.{pigeons, agrees-improved, agrees-unimproved}
+
+-- ---- the board went on, and the number's units are as they were
+agrees-on : (mode : Mode) (b c : Board) (known : List Atoms) (bound : Option (List ℤ)) → b.task.goal ≡ goal_of mode → IsKept mode known → Grows b c → Agrees b known bound → Agrees c known bound
+agrees-on Enum b c known bound e kept g a = agrees-grows b c known bound e g a
+agrees-on Opt b c known bound e kept g a = agrees-none b c known bound kept g a
+
+pub work-on : (b c : Board) (n : ℕ) (mode : Mode) (known : List Atoms) (bound : Option (List ℤ)) (u : Units) → IsAtWork b n mode known bound u → Grows b c → out_of c.out n ≡ out_of b.out n → IsAtWork c n mode known bound u
+work-on b c n mode known bound u w g out = record {
+  goal = ap (λ (t : Task). t.goal) g.task ∙ w.goal;
+  agrees = agrees-on mode b c known bound w.goal w.kept g w.agrees;
+  apart = w.apart;
+  kept = w.kept;
+  units = (Fits-grows b c u g w.units.0, w.units.1 ∙ sym out);
+}
+
+pub works-on : (b c : Board) (n leaf : ℕ) (cube : Option (List Literal)) → Works b n leaf cube → Spares n b c → Works c n leaf cube
+works-on b c n leaf cube w s = record {
+  held = ap (λ (x : Node). x.status) (s.leaves leaf w.held) ∙ w.held;
+  entered = w.entered ∙ ap (λ (x : Node). Some x.cube) (sym (s.leaves leaf w.held));
+}
+
+-- ---- a search that begins
+pub work-begins : (b : Board) (n : ℕ) (mode : Mode) (u : Units) → b.task.goal ≡ goal_of mode → ComesBack b (out_of b.out n) u → IsAtWork b n mode [] None u
+work-begins b n mode u e units = record {
+  goal = e;
+  agrees = record { excused = λ S h. absurd (false≢true h); listed = tt; bounded = tt };
+  apart = tt;
+  kept = none mode;
+  units = units;
+}
+  where
+    none : (mode : Mode) → IsKept mode []
+    none Enum = tt
+    none Opt = refl
+
+-- ---- a unit is burnt
+-- the answers known were delivered, each once
+pub known-delivered : (b : Board) (known : List Atoms) (bound : Option (List ℤ)) → Agrees b known bound → AreApart known → length known ≤ length (distinct b.answers)
+known-delivered b known bound a apart =
+    omega (
+      arith,
+      pigeons known (sorted_once b.answers) apart (each_weaker (λ S. IsTrue (list_any (same_set S) b.answers)) (λ S. IsTrue (list_any (same_set S) (sorted_once b.answers))) (λ S h. sorted-has [] b.answers S ∙ h) known a.listed),
+      length-sorted_once b.answers,
+    )
+
+least-fits : (b : Board) (l c : Option (List ℤ)) → IfSome l (IsBoundOf b) → IfSome c (IsBoundOf b) → IfSome (least_of l c) (IsBoundOf b)
+least-fits b None c h k = k
+least-fits b (Some d) None h k = h
+least-fits b (Some d) (Some e) h k = here (betters e d)
+  where
+    here : (x : Bool) → IsBoundOf b (cond x e d)
+    here true = k
+    here false = h
+
+pub work-burnt : (b : Board) (n : ℕ) (mode : Mode) (known : List Atoms) (bound : Option (List ℤ)) (u : Units) (x : Clash) → IsAtWork b n mode known bound u → 0 < u.left → x.known ≡ length known → x.bound ≡ bound
+    → IsAtWork b n mode known bound (record { program = u.program; left = u.left - 1; burnt = u.burnt + 1; known = max u.known x.known; least = least_of u.least x.bound })
+work-burnt b n mode known bound u x w some count under = record {
+  goal = w.goal;
+  agrees = w.agrees;
+  apart = w.apart;
+  kept = w.kept;
+  units = (
+    record {
+      program = w.units.0.program;
+      known = omega (arith, w.units.0.known, count, known-delivered b known bound w.agrees w.apart);
+      least = least-fits b u.least x.bound w.units.0.least (subst (λ (o : Option (List ℤ)). IfSome o (IsBoundOf b)) (sym under) w.agrees.bounded);
+    },
+    omega (arith, w.units.1, some),
+  );
+}
+
+-- ---- an answer is recorded
+same_turned : (S T : Atoms) → same_set S T ≡ false → same_set T S ≡ false
+same_turned S T e = here (same_set T S) refl
+  where
+    here : (x : Bool) → x ≡ same_set T S → x ≡ false
+    here true q = absurd (false≢true (sym e ∙ ap (λ (R : Atoms). same_set S R) (same_text T S q) ∙ same_itself S))
+    here false q = refl
+
+any-push-false : (T : Atoms) (K : List Atoms) (S : Atoms) → list_any (same_set T) K ≡ false → same_set T S ≡ false → list_any (same_set T) (K ++ S ∷ []) ≡ false
+any-push-false T [] S h e = ap (λ x. x || false) e
+any-push-false T (R ∷ K) S h e =
+    let parts = or_parts (same_set T R) (list_any (same_set T) K) h in
+    ap (λ x. x || list_any (same_set T) (K ++ S ∷ [])) parts.0 ∙ any-push-false T K S parts.1 e
+
+pub apart-push : (K : List Atoms) (S : Atoms) → AreApart K → list_any (same_set S) K ≡ false → AreApart (K ++ S ∷ [])
+apart-push [] S apart new = (refl, tt)
+apart-push (T ∷ K) S apart new =
+    let parts = or_parts (same_set S T) (list_any (same_set S) K) new in
+    (any-push-false T K S apart.0 (same_turned S T parts.0), apart-push K S apart.1 parts.1)
+
+pub work-delivered : (b : Board) (n : ℕ) (S : Atoms) (known : List Atoms) (bound : Option (List ℤ)) (u : Units) → IsAtWork b n Enum known bound u → Guard b (event.Deliver n S) → list_any (same_set S) known ≡ false
+    → IsAtWork (happens b (event.Deliver n S)) n Enum (known ++ S ∷ []) bound u
+work-delivered b n S known bound u w guard new = record {
+  goal = w.goal;
+  agrees = agrees-delivered b n S known bound w.goal w.agrees;
+  apart = apart-push known S w.apart new;
+  kept = tt;
+  units = (Fits-grows b (happens b (event.Deliver n S)) u (Grows-happens b (event.Deliver n S) guard) w.units.0, w.units.1);
+}
+
+pub work-improved : (b : Board) (n : ℕ) (S : Atoms) (known : List Atoms) (bound : Option (List ℤ)) (u : Units) → IsAtWork b n Opt known bound u → Guard b (event.Improve n S)
+    → IsAtWork (happens b (event.Improve n S)) n Opt known (Some (cost b.task.program S)) u
+work-improved b n S known bound u w guard = record {
+  goal = w.goal;
+  agrees = subst (λ (k : List Atoms). Agrees (happens b (event.Improve n S)) k (Some (cost b.task.program S))) (sym w.kept) (agrees-improved b n S w.goal);
+  apart = w.apart;
+  kept = w.kept;
+  units = (Fits-grows b (happens b (event.Improve n S)) u (Grows-happens b (event.Improve n S) guard) w.units.0, w.units.1);
+}
+
+pub work-unimproved : (b : Board) (n : ℕ) (S B : Atoms) (known : List Atoms) (bound : Option (List ℤ)) (u : Units) → IsAtWork b n Opt known bound u → b.best ≡ Some B → betters (cost b.task.program S) (cost b.task.program B) ≡ false
+    → IsAtWork b n Opt known (Some (cost b.task.program S)) u
+work-unimproved b n S B known bound u w best dearer = record {
+  goal = w.goal;
+  agrees = subst (λ (k : List Atoms). Agrees b k (Some (cost b.task.program S))) (sym w.kept) (agrees-unimproved b S B w.goal best dearer);
+  apart = w.apart;
+  kept = w.kept;
+  units = w.units;
+}
+
+-- ---- units are leased
+pub out_of-leased : (s n : ℕ) (out : List (ℕ × ℕ)) → out_of (leased s n out) s ≡ out_of out s + n
+out_of-leased s n [] = ap (λ x. let k : ℕ = cond x n 0 in k) (eq-eqb s s refl) ∙ sym (zero-add n)
+out_of-leased s n (x ∷ out) = here (eqb x.0 s) refl (out_of-leased s n out)
+  where
+    here : (z : Bool) → z ≡ eqb x.0 s → out_of (leased s n out) s ≡ out_of out s + n → out_of (cond z ((x.0, x.1 + n) ∷ out) (x ∷ leased s n out)) s ≡ cond z x.1 (out_of out s) + n
+    here true q rest = ap (λ y. let k : ℕ = cond y (x.1 + n) (out_of out s) in k) (sym q)
+    here false q rest = ap (λ y. let k : ℕ = cond y x.1 (out_of (leased s n out) s) in k) (sym q) ∙ rest
+
+-- two fuels of the board in one
+pub Fits-merged : (b : Board) (u v : Units) → Fits b u → Fits b v → Fits b (record { program = u.program; left = u.left + v.left; burnt = u.burnt + v.burnt; known = max u.known v.known; least = least_of u.least v.least })
+Fits-merged b u v f g = record { program = f.program; known = omega (arith, f.known, g.known); least = least-fits b u.least v.least f.least g.least }
+
+pub work-leased : (b : Board) (n k : ℕ) (mode : Mode) (known : List Atoms) (bound : Option (List ℤ)) (u v : Units) → IsAtWork b n mode known bound u → Guard b (event.Lease n k) → v.left + v.burnt ≡ u.left + u.burnt + k → Fits b v
+    → IsAtWork (happens b (event.Lease n k)) n mode known bound v
+work-leased b n k mode known bound u v w guard sum fits =
+    let g : Grows b (happens b (event.Lease n k)) = Grows-happens b (event.Lease n k) guard in
+    record {
+      goal = w.goal;
+      agrees = agrees-on mode b (happens b (event.Lease n k)) known bound w.goal w.kept g w.agrees;
+      apart = w.apart;
+      kept = w.kept;
+      units = (Fits-grows b (happens b (event.Lease n k)) v g fits, omega (arith, sum, w.units.1, out_of-leased n k b.out));
+    }
+
+-- ---- what the guards of an answer ask
+pub may-list : (t : Task) (S : Atoms) → t.goal ≡ goal_of Enum → IsTrue (lists t S)
+may-list t S e = ap (λ (g : Goal). lists_by g t.program S) e
+
+pub may-optimise : (t : Task) → t.goal ≡ goal_of Opt → IsTrue (optimises t.goal)
+may-optimise t e = ap optimises e
+
+-- ---- a conflict that is met
+settled-board : (b : Board) (known : List Atoms) (bound : Option (List ℤ)) (way : List Literal) → Agrees b known bound → Settled b.task.program known bound way → Settled b.task.program b.answers (bound_of b) way
+settled-board b known bound way a h = HitsOnly-weaker b.task.program (is_done b.task.program known bound) (is_excused b) way a.excused h
+
+-- A conflict of the search is one by what was recorded.
+pub work-met : (b : Board) (n : ℕ) (mode : Mode) (known : List Atoms) (bound : Option (List ℤ)) (u : Units) (x : Clash) → IsAtWork b n mode known bound u → x.program ≡ b.task.program → x.known ≡ length known → x.bound ≡ bound
+    → IsConflict b.task.program known bound x.cube x.decisions x.nogood → IsMet b x
+work-met b n mode known bound u x w program count under c = record {
+  program = program;
+  known = omega (arith, count, known-delivered b known bound w.agrees w.apart);
+  bound = subst (λ (o : Option (List ℤ)). IfSome o (IsBoundOf b)) (sym under) w.agrees.bounded;
+  conflict = record {
+    decided = c.decided;
+    consistent = c.consistent;
+    unbroken = c.unbroken;
+    open_true = c.open_true;
+    open_false = c.open_false;
+    new = c.new;
+    settled = settled-board b known bound _ w.agrees c.settled;
+    justified = settled-board b known bound _ w.agrees c.justified;
+  };
+}

@@ -1,0 +1,5 @@
+pub mod Runs
+pub mod Agrees
+pub mod Working
+pub mod Reports
+pub mod Gone

@@ -1,0 +1,40 @@
+-- A number's search and its units, beside the board.
+use Rattle.std.specs.Prelude.{◌≡◌, ℕ, false, List, [], Option, Some, ℤ}
+use Rattle.asp_model.specs.declared.results.Mode.{Mode}
+use Rattle.asp_model.specs.declared.results.Mode.TheVariants.{Enum, Opt}
+use Rattle.asp_model.specs.Sets.{Atoms}
+use Rattle.asp_vars.specs.Literals.{Literal}
+use Rattle.asp_vars.specs.Paid.{Units}
+use Rattle.asp_path.specs.declared.status.Status.TheVariants as status
+use Rattle.asp_path.specs.Trees.{cube_of, status_of}
+use Rattle.asp_core.specs.declared.task.Task.{Task}
+use Rattle.asp_core.specs.Units.{out_of}
+use Rattle.asp_core.specs.Boards.{Board, goal_of}
+use Rattle.asp_book.specs.Books.{IsJournalOf}
+use Rattle.asp_book.specs.Calls.{Knows}
+use Rattle.asp_book.specs.Fuels.{ComesBack}
+use Rattle.asp_crew_laws.specs.Agrees.{Agrees, AreApart}
+
+-- In an optimisation a search keeps no answer: its bound says all that was found.
+abbrev pub IsKept : Mode → List Atoms → Type 0
+IsKept Enum known = Unit {0}
+IsKept Opt known = known ≡ []
+
+-- The answers that the search of number n knows, its bound and its units go with the board.
+pub record IsAtWork (b : Board) (n : ℕ) (mode : Mode) (known : List Atoms) (bound : Option (List ℤ)) (u : Units) : Type 0 where
+  pub goal : b.task.goal ≡ goal_of mode
+  pub agrees : Agrees b known bound
+  pub apart : AreApart known
+  pub kept : IsKept mode known
+  pub units : ComesBack b (out_of b.out n) u
+
+-- Number n holds the leaf, and its search has entered the leaf's cube.
+pub record Works (b : Board) (n leaf : ℕ) (cube : Option (List Literal)) : Type 0 where
+  pub held : status_of b.nodes leaf ≡ status.Held n
+  pub entered : cube ≡ Some (cube_of b.nodes leaf)
+
+-- A seat between two calls: its board is for this task, and what it has seen is a lawful journal.
+pub record IsSeated (t : Task) (v : Knows) : Type 0 where
+  pub about : v.about ≡ Some t
+  pub rests : v.holds ≡ false
+  pub lawful : IsJournalOf t v.seen

@@ -1,0 +1,108 @@
+//! Laws of a run's journal. Each function's contract is a law, and its body is empty.
+ghost use Rattle.std.specs.Prelude.{◌≡◌, ◌+◌, ◌-◌, ◌<◌, ◌≤◌, max, ◌||◌, ◌++◌, ◌∷◌, ℕ, ℤ, Bool, length, List, [], true, false, Option, Some, None, IsTrue, option_map};
+ghost use Rattle.std.specs.List.{list_any, AllByRecursion};
+ghost use Rattle.std.specs.List.Sorted.{IsPermutation, IsSorted};
+ghost use Rattle.std.specs.List.Retain.{IsFiltered, DiffersFromLast};
+ghost use Rattle.asp_model.specs.declared.program.Program.{Program};
+ghost use Rattle.asp_model.specs.declared.results.Mode.{Mode};
+ghost use Rattle.asp_model.specs.declared.results.Mode.TheVariants.{Enum, Opt};
+ghost use Rattle.asp_model.specs.declared.results.End.TheVariants.{Finished};
+ghost use Rattle.asp_model.specs.Costs.{cost, betters};
+ghost use Rattle.asp_model.specs.Sets.{Atoms, same_set, set_cmp};
+ghost use Rattle.asp_vars.specs.Entailment.{HitsOnly, Settled};
+ghost use Rattle.asp_vars.specs.Literals.{Literal};
+ghost use Rattle.asp_vars.specs.Paid.{Clash, Units, least_of};
+ghost use Rattle.asp_path.specs.Trees.{all_closed, held_count};
+ghost use Rattle.asp_core.specs.declared.event.Event.{Event};
+ghost use Rattle.asp_core.specs.declared.event.Event.TheVariants as event;
+ghost use Rattle.asp_core.specs.declared.goal.Goal.TheVariants as goal;
+ghost use Rattle.asp_core.specs.declared.task.Task.{Task};
+ghost use Rattle.asp_core.specs.Units.{out_of};
+ghost use Rattle.asp_core.specs.Boards.{Board, start, goal_of, is_excused, IsBoundOf};
+ghost use Rattle.asp_core.specs.Events.{Guard, happens, maker, IsLawful, replay};
+ghost use Rattle.asp_core.specs.Growth.{Grows, Spares};
+ghost use Rattle.asp_book.specs.Fuels.{Fits, ComesBack};
+ghost use Rattle.asp_crew_laws.specs.declared.report.Report.{Report};
+ghost use Rattle.asp_crew_laws.specs.Agrees.{Agrees, AreApart};
+ghost use Rattle.asp_crew_laws.specs.Gone.{IsCrewGone, IsGone, IsShared};
+ghost use Rattle.asp_crew_laws.specs.Reports.{IsIdle, IsPart, IsPlayed};
+ghost use Rattle.asp_crew_laws.specs.Working.{IsAtWork, Works};
+ghost use Rattle.asp_crew_laws.specs.Runs.{task_of, IsFound, with_cost, Quiet};
+
+/// A lawful journal after which every leaf is closed tells what was to be found.
+pub fn a_closed_board_is_found()
+    ensures { (p : Program) (mode : Mode) (budget : ℕ) (journal : List Event) (sorted once : List Atoms) → IsLawful (start (task_of p mode budget)) journal → all_closed (replay (task_of p mode budget) journal).nodes ≡ true
+        → IsPermutation (replay (task_of p mode budget) journal).answers sorted → IsSorted set_cmp sorted → IsFiltered (DiffersFromLast same_set) [] sorted once
+        → IsFound p mode once (option_map (with_cost p) (replay (task_of p mode budget) journal).best) }
+{}
+
+/// Where each number found no leaf open at its end, all of them found none at one moment; and where no leaf is held, every leaf is closed.
+pub fn quiet_numbers_leave_nothing()
+    ensures both { (t : Task) (P Q : ℕ → Bool) (journal : List Event) → Quiet t P journal → Quiet t Q journal → Quiet t (λ n. P n || Q n) journal }
+    ensures closed { (t : Task) (by : ℕ → Bool) (journal : List Event) → Quiet t by journal → ((n : ℕ) → by n ≡ true) → held_count (replay t journal).nodes ≡ 0 → all_closed (replay t journal).nodes ≡ true }
+{}
+
+/// A report whose journal leads to what it says: a finished one has found what was asked, and another a part of it; no conflict
+/// that was paid for knew more answers than are reported.
+pub fn a_journal_explains_its_report()
+    ensures found { (p : Program) (mode : Mode) (units : ℕ) (r : Report) → IsPlayed p mode units r → r.results.end ≡ Finished → IsFound p mode r.results.answers r.results.best }
+    ensures part { (p : Program) (mode : Mode) (units : ℕ) (r : Report) → IsPlayed p mode units r → IsPart p mode r.results }
+    ensures known { (p : Program) (mode : Mode) (units : ℕ) (r : Report) → IsPlayed p mode units r → r.paid.known ≤ length r.results.answers }
+{}
+
+/// A search at work goes with the board still when the board went on and its number's units are as they were; so it does
+/// after events of others.
+pub fn a_search_at_work_goes_on()
+    ensures begins { (b : Board) (n : ℕ) (mode : Mode) (u : Units) → b.task.goal ≡ goal_of mode → ComesBack b (out_of b.out n) u → IsAtWork b n mode [] None u }
+    ensures on { (b c : Board) (n : ℕ) (mode : Mode) (known : List Atoms) (bound : Option (List ℤ)) (u : Units) → IsAtWork b n mode known bound u → Grows b c → out_of c.out n ≡ out_of b.out n → IsAtWork c n mode known bound u }
+    ensures leaf { (b c : Board) (n leaf : ℕ) (cube : Option (List Literal)) → Works b n leaf cube → Spares n b c → Works c n leaf cube }
+{}
+
+/// A search at work goes with the board still after a unit was burnt, after its own answer was recorded, and after a lease.
+pub fn a_search_at_work_records()
+    ensures burnt { (b : Board) (n : ℕ) (mode : Mode) (known : List Atoms) (bound : Option (List ℤ)) (u : Units) (x : Clash) → IsAtWork b n mode known bound u → 0 < u.left → x.known ≡ length known → x.bound ≡ bound
+        → IsAtWork b n mode known bound (record { program = u.program; left = u.left - 1; burnt = u.burnt + 1; known = max u.known x.known; least = least_of u.least x.bound }) }
+    ensures delivered { (b : Board) (n : ℕ) (S : Atoms) (known : List Atoms) (bound : Option (List ℤ)) (u : Units) → IsAtWork b n Enum known bound u → Guard b (event.Deliver n S) → list_any (same_set S) known ≡ false
+        → IsAtWork (happens b (event.Deliver n S)) n Enum (known ++ S ∷ []) bound u }
+    ensures improved { (b : Board) (n : ℕ) (S : Atoms) (known : List Atoms) (bound : Option (List ℤ)) (u : Units) → IsAtWork b n Opt known bound u → Guard b (event.Improve n S)
+        → IsAtWork (happens b (event.Improve n S)) n Opt known (Some (cost b.task.program S)) u }
+    ensures unimproved { (b : Board) (n : ℕ) (S B : Atoms) (known : List Atoms) (bound : Option (List ℤ)) (u : Units) → IsAtWork b n Opt known bound u → b.best ≡ Some B → betters (cost b.task.program S) (cost b.task.program B) ≡ false
+        → IsAtWork b n Opt known (Some (cost b.task.program S)) u }
+    ensures leased { (b : Board) (n k : ℕ) (mode : Mode) (known : List Atoms) (bound : Option (List ℤ)) (u v : Units) → IsAtWork b n mode known bound u → Guard b (event.Lease n k) → v.left + v.burnt ≡ u.left + u.burnt + k → Fits b v
+        → IsAtWork (happens b (event.Lease n k)) n mode known bound v }
+{}
+
+/// What a number left behind, it still has as others go on, and where another was short of memory.
+pub fn others_leave_the_gone_alone()
+    ensures later { (t : Task) (n : ℕ) (xs ys : List Event) → IsLawful (start t) (xs ++ ys) → AllByRecursion (λ e. maker e ≡ n → ⊥) ys → (short never : Bool) (begun : List Event) → IsGone t short never n begun xs → IsGone t short never n begun (xs ++ ys) }
+    ensures shorter { (t : Task) (n : ℕ) (begun xs : List Event) (s short never : Bool) → (s ≡ true → short ≡ true) → IsGone t s never n begun xs → IsGone t short never n begun xs }
+{}
+
+/// When the workers are gone and number 0 holds nothing, the board is idle. Where the main thread then goes on, the run was shared:
+/// the workers left nothing to it, and gave nothing back, unless they were cut short.
+pub fn gone_workers_shared_the_run()
+    ensures idle { (t : Task) (workers : ℕ) (short never : Bool) (begun rest : List Event) → IsCrewGone t workers short never begun rest → IsIdle (replay t (begun ++ rest)) }
+    ensures shared { (t : Task) (workers : ℕ) (short never : Bool) (begun rest : List Event) → IsCrewGone t workers short never begun rest → 0 < workers → (more : List Event) → IsLawful (start t) ((begun ++ rest) ++ more) → AllByRecursion (λ e. maker e ≡ 0) more
+        → IsShared t short never ((begun ++ rest) ++ more) }
+{}
+
+/// In an enumeration a search that agrees with the board still does after what others did, and after a delivery.
+pub fn a_listing_search_agrees()
+    ensures others { (b c : Board) (known : List Atoms) (bound : Option (List ℤ)) → b.task.goal ≡ goal.Enum → Grows b c → Agrees b known bound → Agrees c known bound }
+    ensures delivered { (b : Board) (s : ℕ) (S : Atoms) (known : List Atoms) (bound : Option (List ℤ)) → b.task.goal ≡ goal.Enum → Agrees b known bound → Agrees (happens b (event.Deliver s S)) (known ++ S ∷ []) bound }
+{}
+
+/// In an optimisation a search agrees with the board by the cost of an answer that is the best, or that a best stands no dearer
+/// than; and a bound that isn't smaller may have been the search's as well.
+pub fn an_optimising_search_agrees()
+    ensures improved { (b : Board) (s : ℕ) (S : Atoms) → b.task.goal ≡ goal.Opt → Agrees (happens b (event.Improve s S)) [] (Some (cost b.task.program S)) }
+    ensures unimproved { (b : Board) (S B : Atoms) → b.task.goal ≡ goal.Opt → b.best ≡ Some B → betters (cost b.task.program S) (cost b.task.program B) ≡ false → Agrees b [] (Some (cost b.task.program S)) }
+    ensures bound { (b : Board) (c d : List ℤ) → b.task.goal ≡ goal.Opt → IsBoundOf b c → betters d c ≡ false → IsBoundOf b d }
+{}
+
+/// What a search that agrees with the board has settled, the board excuses; and where no set stands twice among those that it
+/// knows, it knows no more than were delivered.
+pub fn an_agreeing_search_may_close()
+    ensures settled { (b : Board) (known : List Atoms) (bound : Option (List ℤ)) (nogood : List Literal) → Agrees b known bound → Settled b.task.program known bound nogood → HitsOnly b.task.program (is_excused b) nogood }
+    ensures known { (known delivered : List Atoms) → AreApart known → AllByRecursion (λ S. IsTrue (list_any (same_set S) delivered)) known → length known ≤ length delivered }
+{}
