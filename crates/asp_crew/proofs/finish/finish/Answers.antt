@@ -13,7 +13,7 @@ work_off_all-requires-clause-ready g c =
     leased-is c.args.book.now c.lease.new.self c.requires.idle (pool-fits c.args.mode c.args.book.now c.requires.task c.journal-lawful.ensures.lawful c.requires.fits)
     (c.in_ok-fuel.ensures.journal ∙ ap (λ (u : Units). with_events c.args.book.now (leased_out 0 u)) c.in_ok-fuel.ensures.fuel) in
     ready-begins c.args.mode c.args.book.now c.lease.new.self c.in_ok-search.search c.in_ok-fuel.fuel c.requires.task leased c.in_ok-fuel.ensures.fuel
-    (ap (λ (s : Searching). s.program) c.in_ok-search.ensures ∙ sym c.requires.of) (ap (λ (s : Searching). s.mode) c.in_ok-search.ensures) (ap (λ (s : Searching). s.known) c.in_ok-search.ensures) (ap (λ (s : Searching). s.bound) c.in_ok-search.ensures)
+    (ap (λ (s : Searching). s.program) c.in_ok-search.ensures.same ∙ sym c.requires.of) (ap (λ (s : Searching). s.mode) c.in_ok-search.ensures.same) (ap (λ (s : Searching). s.known) c.in_ok-search.ensures.same) (ap (λ (s : Searching). s.bound) c.in_ok-search.ensures.same)
 
 pub work_off_all-requires-clause-alone : goal.work_off_all-requires-clause-alone
 work_off_all-requires-clause-alone g c =
