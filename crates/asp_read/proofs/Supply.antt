@@ -6,8 +6,8 @@ use Rattle.std.specs.Io.KnownBytes.{Consumes, Keeps, IsAtEnd}
 use Rattle.asp_text.specs.Unread.{Unread}
 use Rattle.asp_text.specs.Lines.{cut, lines_of, whole}
 use Rattle.asp_model.specs.declared.program.Program.{Program}
-use Rattle.asp_model.specs.declared.fault.ReadError.{ReadError}
-use Rattle.asp_model.specs.declared.fault.ReadError.TheVariants as errors
+use Rattle.asp_read.specs.declared.fault.ReadError.{ReadError}
+use Rattle.asp_read.specs.declared.fault.ReadError.TheVariants as errors
 use Rattle.asp_read.specs.Seen.{Seen, nothing_seen}
 use Rattle.asp_read.specs.Outcome.{judge, judge_next, judge_all, most_bytes, outcome_from}
 use Rattle.asp_model.specs.Sound.{IsSound}

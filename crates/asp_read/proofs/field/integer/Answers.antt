@@ -12,12 +12,12 @@ returns-then-n-low c =
     let f : SFits w64 c.in-Value.n = search rules in
     let e : Value c.in-Value.n ≡ num_of (integer_of (field_of c.args.line.now)) = sym c.in-Value.is ∙ c.split_int-number.ensures.number in
     elim c.then-n-low.branch [
-      | then-n-low-via-then-n-low w ↦ rw (is_below _ c.in-Value.n _ _ e f c.ranges.low c.ranges.high w.if-n-low.true) refl
-      | then-n-low-via-else-n-low+then-high-n w ↦ rw (is_above _ c.in-Value.n _ _ e f c.ranges.low c.ranges.high w.if-high-n.true) refl
+      | then-n-low-via-then-n-low w ↦ rw (is_below _ c.in-Value.n _ _ c.args.line.now e f c.ranges.low c.ranges.high w.if-n-low.true, c.split_int-number.ensures.number) refl
+      | then-n-low-via-else-n-low+then-high-n w ↦ rw (is_above _ c.in-Value.n _ _ c.args.line.now e f c.ranges.low c.ranges.high w.if-high-n.true, c.split_int-number.ensures.number) refl
     ]
 
 pub returns-else-high-n : goal.returns-else-high-n
 returns-else-high-n c =
     let f : SFits w64 c.in-Value.n = search rules in
     let e : Value c.in-Value.n ≡ num_of (integer_of (field_of c.args.line.now)) = sym c.in-Value.is ∙ c.split_int-number.ensures.number in
-    rw (is_within _ c.in-Value.n _ _ e f c.ranges.low c.ranges.high c.if-n-low.false c.if-high-n.false, ← c.split_int-number.ensures.rest) refl
+    rw (is_within _ c.in-Value.n _ _ c.args.line.now e f c.ranges.low c.ranges.high c.if-n-low.false c.if-high-n.false, ← c.split_int-number.ensures.rest) refl
