@@ -19,7 +19,7 @@ use asp_crew::gate::Gate;
 use asp_crew::report::Report;
 use asp_io::{Failed, Sink, Source};
 use asp_make::ring;
-use asp_model::fault::ReadError;
+use asp_read::fault::ReadError;
 use asp_model::program::Program;
 use asp_model::results::Results;
 use asp_print::print;
