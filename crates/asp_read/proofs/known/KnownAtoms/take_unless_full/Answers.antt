@@ -15,7 +15,7 @@ pub returns-then-self-ge-MOST_ATOMS-clause-room : goal.returns-then-self-ge-MOST
 returns-then-self-ge-MOST_ATOMS-clause-room c =
     let view : set_of c.self.inside.atoms.keys ≡ c.args.self.now = c.self.view_is in
     let full : most_atoms ≤ length c.args.self.now = omega (arith, c.if-self-ge-MOST_ATOMS.true, c.self.invariant.counted, ap (λ (S : Atoms). length S) view) in
-    room_none c.args.self.now c.args.atom c.args.line.now (stands c.self.inside.atoms.keys c.args.self.now c.args.atom false view c.if-contains.ensures) full
+    rw c.broken.ensures (room_none c.args.self.now c.args.atom c.args.line.now (stands c.self.inside.atoms.keys c.args.self.now c.args.atom false view c.if-contains.ensures) full)
 
 pub invariant_of-self-2 : goal.invariant_of-self-2
 invariant_of-self-2 c =
