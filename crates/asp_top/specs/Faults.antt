@@ -7,6 +7,8 @@ use Rattle.asp_text.specs.declared.numbers.Num.TheVariants.{Value, Big, NotNumbe
 use Rattle.asp_read.specs.declared.fault.FaultKind.{FaultKind}
 use Rattle.asp_read.specs.declared.fault.FaultKind.TheVariants as fault
 use Rattle.asp_read.specs.declared.fault.Fault.{Fault}
+use Rattle.asp_top.specs.declared.texts.Wanted.{Wanted}
+use Rattle.asp_top.specs.declared.texts.Wanted.TheVariants.{Natural, Integer}
 
 -- the name of what is wanted, by its range
 abbrev pub natural_noun : ℕ → ℕ → List ℕ
@@ -24,12 +26,13 @@ integer_noun low =
     if int_eq low (pos 0) then codes "weight" else
     codes "number")
 
--- what is wanted: a thing by its name, with its range
-abbrev pub wanted_natural : ℕ → ℕ → List ℕ
-wanted_natural low high = natural_noun low high ++ (codes " (" ++ decimal low ++ codes " to ") ++ (decimal high ++ codes ")")
+-- a thing by its name, and its range
+abbrev pub range_text : List ℕ → List ℕ → List ℕ → List ℕ
+range_text noun low high = noun ++ (codes " (" ++ low ++ codes " to ") ++ (high ++ codes ")")
 
-abbrev pub wanted_integer : ℤ → ℤ → List ℕ
-wanted_integer low high = integer_noun low ++ (codes " (" ++ signed_decimal low ++ codes " to ") ++ (signed_decimal high ++ codes ")")
+abbrev pub wanted_text : Wanted → List ℕ
+wanted_text (Natural low high) = range_text (natural_noun low high) (decimal low) (decimal high)
+wanted_text (Integer low high) = range_text (integer_noun low) (signed_decimal low) (signed_decimal high)
 
 -- what stood in its place, and that nothing did
 abbrev pub found_text : Num → List ℕ
@@ -48,14 +51,14 @@ abbrev pub kind_text : FaultKind → List ℕ
 kind_text fault.Header = codes "not the header of aspif 1.0, which gringo writes and aspenum reads"
 kind_text fault.Incremental = codes "incremental programs not supported"
 kind_text fault.Tag = codes "unknown tag"
-kind_text (fault.Statement n) = misfit n (wanted_natural 0 10)
+kind_text (fault.Statement n) = misfit n (wanted_text (Natural 0 10))
 kind_text fault.Disjunction = codes "disjunctive head not supported"
 kind_text fault.Projection = codes "projection not supported"
 kind_text fault.Heuristic = codes "heuristic not supported"
 kind_text fault.Edge = codes "edge statement not supported"
 kind_text fault.Theory = codes "theory statement not supported"
-kind_text (fault.Natural low high n) = misfit n (wanted_natural low high)
-kind_text (fault.Integer low high n) = misfit n (wanted_integer low high)
+kind_text (fault.Natural low high n) = misfit n (wanted_text (Natural low high))
+kind_text (fault.Integer low high n) = misfit n (wanted_text (Integer low high))
 kind_text fault.Text = codes "output text does not fit its length"
 kind_text fault.ExtraFields = codes "extra field"
 kind_text fault.NoEnd = codes "end of program missing"

@@ -2,7 +2,7 @@
 ghost use Rattle.std.specs.Prelude.{◌≡◌, ◌++◌, codes, decimal};
 ghost use Rattle.std.specs.Fmt.{signed_decimal};
 ghost use Rattle.asp_top.specs.Notes.{Writes};
-ghost use Rattle.asp_top.specs.Faults.{fault_text, has_field, expected_text, found_text, kind_text, misfit, natural_noun, integer_noun, place_text, wanted_integer, wanted_natural};
+ghost use Rattle.asp_top.specs.Faults.{fault_text, has_field, expected_text, found_text, kind_text, misfit, natural_noun, integer_noun, place_text, range_text, wanted_text};
 
 use crate::notes::{write, write_both};
 use crate::usage::write_three;
@@ -35,32 +35,55 @@ fn integer_noun(low: i32) -> &'static [u8]
     }
 }
 
+/// What is wanted: a natural number or a signed one, from the first to the second.
+#[derive(Clone, Copy)]
+pub enum Wanted {
+    Natural(u32, u32),
+    Integer(i32, i32),
+}
+
+// A thing by its name, and its range.
+fn write_range<N: Sink>(notes: &mut N, noun: &[u8], low: &[u8], high: &[u8]) -> Result<(), Failed>
+    ensures { Writes (N.held notes.old) (N.held notes.new) (N.faults notes.old) (N.faults notes.new)
+        result (range_text noun.now low.now high.now) }
+{
+    write(notes, noun)?;
+    write_three(notes, b" (", low, b" to ")?;
+    write_both(notes, high, b")")
+}
+
 fn write_natural<N: Sink>(notes: &mut N, low: u32, high: u32) -> Result<(), Failed>
     ensures { Writes (N.held notes.old) (N.held notes.new) (N.faults notes.old) (N.faults notes.new)
-        result (wanted_natural low high) }
+        result (wanted_text (Wanted.Natural low high)) }
 {
-    write(notes, natural_noun(low, high))?;
-    write_three(
+    write_range(
         notes,
-        b" (",
+        natural_noun(low, high),
         Buffer::new().format(low).as_bytes(),
-        b" to ",
-    )?;
-    write_both(notes, Buffer::new().format(high).as_bytes(), b")")
+        Buffer::new().format(high).as_bytes(),
+    )
 }
 
 fn write_integer<N: Sink>(notes: &mut N, low: i32, high: i32) -> Result<(), Failed>
     ensures { Writes (N.held notes.old) (N.held notes.new) (N.faults notes.old) (N.faults notes.new)
-        result (wanted_integer low high) }
+        result (wanted_text (Wanted.Integer low high)) }
 {
-    write(notes, integer_noun(low))?;
-    write_three(
+    write_range(
         notes,
-        b" (",
+        integer_noun(low),
         Buffer::new().format(low).as_bytes(),
-        b" to ",
-    )?;
-    write_both(notes, Buffer::new().format(high).as_bytes(), b")")
+        Buffer::new().format(high).as_bytes(),
+    )
+}
+
+fn write_wanted<N: Sink>(notes: &mut N, wanted: Wanted) -> Result<(), Failed>
+    ensures { Writes (N.held notes.old) (N.held notes.new) (N.faults notes.old) (N.faults notes.new)
+        result (wanted_text wanted) }
+{
+    match wanted {
+        Wanted::Natural(low, high) => write_natural(notes, low, high),
+        Wanted::Integer(low, high) => write_integer(notes, low, high),
+    }
 }
 
 // What stands before the wanted thing, and behind it.
@@ -89,21 +112,12 @@ fn write_expected<N: Sink>(notes: &mut N, found: Num) -> Result<(), Failed>
     }
 }
 
-fn write_natural_misfit<N: Sink>(notes: &mut N, low: u32, high: u32, found: Num) -> Result<(), Failed>
+fn write_misfit<N: Sink>(notes: &mut N, found: Num, wanted: Wanted) -> Result<(), Failed>
     ensures { Writes (N.held notes.old) (N.held notes.new) (N.faults notes.old) (N.faults notes.new)
-        result (misfit found (wanted_natural low high)) }
+        result (misfit found (wanted_text wanted)) }
 {
     write_found(notes, found)?;
-    write_natural(notes, low, high)?;
-    write_expected(notes, found)
-}
-
-fn write_integer_misfit<N: Sink>(notes: &mut N, low: i32, high: i32, found: Num) -> Result<(), Failed>
-    ensures { Writes (N.held notes.old) (N.held notes.new) (N.faults notes.old) (N.faults notes.new)
-        result (misfit found (wanted_integer low high)) }
-{
-    write_found(notes, found)?;
-    write_integer(notes, low, high)?;
+    write_wanted(notes, wanted)?;
     write_expected(notes, found)
 }
 
@@ -118,14 +132,18 @@ fn write_kind<N: Sink>(notes: &mut N, kind: FaultKind) -> Result<(), Failed>
         ),
         FaultKind::Incremental => write(notes, b"incremental programs not supported"),
         FaultKind::Tag => write(notes, b"unknown tag"),
-        FaultKind::Statement(found) => write_natural_misfit(notes, 0, 10, found),
+        FaultKind::Statement(found) => write_misfit(notes, found, Wanted::Natural(0, 10)),
         FaultKind::Disjunction => write(notes, b"disjunctive head not supported"),
         FaultKind::Projection => write(notes, b"projection not supported"),
         FaultKind::Heuristic => write(notes, b"heuristic not supported"),
         FaultKind::Edge => write(notes, b"edge statement not supported"),
         FaultKind::Theory => write(notes, b"theory statement not supported"),
-        FaultKind::Natural(low, high, found) => write_natural_misfit(notes, low, high, found),
-        FaultKind::Integer(low, high, found) => write_integer_misfit(notes, low, high, found),
+        FaultKind::Natural(low, high, found) => {
+            write_misfit(notes, found, Wanted::Natural(low, high))
+        }
+        FaultKind::Integer(low, high, found) => {
+            write_misfit(notes, found, Wanted::Integer(low, high))
+        }
         FaultKind::Text => write(notes, b"output text does not fit its length"),
         FaultKind::ExtraFields => write(notes, b"extra field"),
         FaultKind::NoEnd => write(notes, b"end of program missing"),
