@@ -51,7 +51,7 @@ pub enum FaultKind {
 pub struct Fault {
     pub kind: FaultKind,
     /// The number of the first field that couldn't be read, from 1: one more than the line has fields where it ends too early, and 1
-    /// where the text does.
+    /// where the text does. Blanks part fields, also within the text of an output.
     pub field: usize,
 }
 

@@ -52,9 +52,6 @@ fn between(rt: &impl Abort, alloc: Global, line: &[u8]) -> Vec<u8> {
     text
 }
 
-// The greatest atom.
-const MOST_ATOM: u32 = 2_147_483_647;
-
 // A literal is missing: this stands in its place.
 fn literal(found: Num) -> FaultKind {
     FaultKind::Integer(-2_147_483_647, 2_147_483_647, found)
@@ -74,7 +71,7 @@ fn count(found: Num) -> FaultKind {
 }
 
 fn atom(found: Num) -> FaultKind {
-    FaultKind::Natural(1, MOST_ATOM, found)
+    FaultKind::Natural(1, 2_147_483_647, found)
 }
 
 fn kind(found: Num) -> FaultKind {
