@@ -9,7 +9,6 @@ use Rattle.std.proofs.lemmas.Int.{to_z-of_z}
 use Rattle.asp_text.specs.declared.numbers.Num.TheVariants.{Value, Big}
 use Rattle.asp_text.specs.Fields.{num_of, is_i64}
 use Rattle.asp_read.specs.declared.fault.FaultKind.TheVariants.{Integer}
-use Rattle.asp_read.specs.declared.error.FaultAt.{FaultAt}
 use Rattle.asp_read.specs.Places.{broken}
 use Rattle.asp_read.specs.Fields.{integer_in}
 

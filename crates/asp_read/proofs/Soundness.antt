@@ -13,7 +13,6 @@ use Rattle.asp_read.specs.declared.fault.ReadError.TheVariants.{TooLong}
 use Rattle.asp_model.specs.declared.program.Program.{Program}
 use Rattle.asp_text.specs.Fields.{num_of}
 use Rattle.asp_text.specs.declared.numbers.Num.TheVariants.{Value}
-use Rattle.asp_read.specs.declared.fault.Fault.{Fault}
 use Rattle.asp_read.specs.declared.fault.FaultKind.TheVariants as fault
 use Rattle.asp_read.specs.declared.error.FaultAt.{FaultAt}
 use Rattle.asp_read.specs.Places.{broken}

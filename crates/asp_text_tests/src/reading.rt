@@ -147,11 +147,7 @@ fn lines_are_refused_for_their_fields(rt: HostRuntime) {
 fn lines_are_refused_for_what_they_say(rt: HostRuntime) {
     let ranges: [Row<'_>; 16] = [
         (atom(Num::Value(0)), 4, b"1 0 1 0 0 0"),
-        (
-            atom(Num::Value(2_147_483_648)),
-            4,
-            b"1 0 1 2147483648 0 0",
-        ),
+        (atom(Num::Value(2_147_483_648)), 4, b"1 0 1 2147483648 0 0"),
         (weight(Num::Value(-1)), 9, b"1 0 1 1 1 1 1 2 -1"),
         (kind(Num::Value(2)), 2, b"1 2 1 1 0 0"),
         (count(Num::Value(-1)), 3, b"1 0 -1"),
@@ -227,16 +223,31 @@ fn texts_are_refused(rt: HostRuntime) {
         refused(FaultKind::Incremental, 5, 1),
         &[b"asp 1 0 0 incremental\n0\n"],
     );
-    texts_refused(&rt, alloc, refused(FaultKind::Tag, 5, 1), &[b"asp 1 0 0 x\n0\n"]);
+    texts_refused(
+        &rt,
+        alloc,
+        refused(FaultKind::Tag, 5, 1),
+        &[b"asp 1 0 0 x\n0\n"],
+    );
     texts_refused(&rt, alloc, refused(FaultKind::NoEnd, 1, 2), &[b"asp 1 0 0"]);
-    texts_refused(&rt, alloc, refused(FaultKind::NoEnd, 1, 3), &[b"asp 1 0 0\n1 0 1 1 0 0\n"]);
+    texts_refused(
+        &rt,
+        alloc,
+        refused(FaultKind::NoEnd, 1, 3),
+        &[b"asp 1 0 0\n1 0 1 1 0 0\n"],
+    );
     let behind: [&[u8]; 3] = [
         b"asp 1 0 0\n0\n10 x\n",
         b"asp 1 0 0\n0\n1 0 1 1 0 0\n",
         b"asp 1 0 0\n0\n\x00\n",
     ];
     texts_refused(&rt, alloc, refused(FaultKind::AfterEnd, 1, 3), &behind);
-    texts_refused(&rt, alloc, refused(FaultKind::Text, 3, 2), &[b"asp 1 0 0\n4 5 ab 0\n0\n"]);
+    texts_refused(
+        &rt,
+        alloc,
+        refused(FaultKind::Text, 3, 2),
+        &[b"asp 1 0 0\n4 5 ab 0\n0\n"],
+    );
 }
 
 fn lines_read(rt: &impl Abort, alloc: Global, lines: &[&[u8]]) {
