@@ -129,7 +129,7 @@ fn the_notes_name_the_line(rt: HostRuntime) {
         &rt,
         alloc,
         Vec::new(alloc),
-        b"aspenum: line 2: integer expected\n",
+        b"aspenum: line 2, field 4: atom (1 to 2147483647) expected\n",
     );
     refuses(&rt, alloc, calls(&rt, alloc, &[2]), b"asp");
 }

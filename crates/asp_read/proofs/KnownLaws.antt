@@ -5,7 +5,8 @@ use Rattle.std.specs.List.{list_any}
 use Rattle.std.proofs.lemmas.Bool.{cases_eq, or_parts, or_right, eqb-false, ltb-false}
 use Rattle.std.proofs.lemmas.List.{get_or-set_same, get_or-set_other, length-set}
 use Rattle.std.proofs.lemmas.Bool.Decides.{nat_tests}
-use Rattle.asp_model.specs.declared.fault.Fault.TheVariants.{Size}
+use Rattle.asp_read.specs.declared.fault.FaultKind.TheVariants as fault
+use Rattle.asp_read.specs.Places.{broken}
 use Rattle.asp_model.specs.Sets.{Atoms, has, with_atom, set_of}
 use Rattle.asp_model.proofs.SetLaws.{has-with_atom, has-set_of, IsAscending-with_atom, IsAscending-set_of, same_from_has, with_atom_present}
 use Rattle.asp_read.specs.Known.{IsKnown, recent_places, atom_at_place}
@@ -61,14 +62,14 @@ length-with_atom a (b ∷ S) h =
 
 -- ---- room for one more
 
-pub room_known : (S : Atoms) (a : ℕ) → has S a ≡ true → room_for S a ≡ Ok tt
-room_known S a h = rw h refl
+pub room_known : (S : Atoms) (a : ℕ) (line : List ℕ) → has S a ≡ true → room_for S a line ≡ Ok tt
+room_known S a line h = rw h refl
 
-pub room_left : (S : Atoms) (a : ℕ) → length S < most_atoms → room_for S a ≡ Ok tt
-room_left S a lt = grind (arith, nat_tests)
+pub room_left : (S : Atoms) (a : ℕ) (line : List ℕ) → length S < most_atoms → room_for S a line ≡ Ok tt
+room_left S a line lt = grind (arith, nat_tests)
 
-pub room_none : (S : Atoms) (a : ℕ) → has S a ≡ false → most_atoms ≤ length S → room_for S a ≡ Err Size
-room_none S a h le = rw h (grind (arith, nat_tests))
+pub room_none : (S : Atoms) (a : ℕ) (line : List ℕ) → has S a ≡ false → most_atoms ≤ length S → room_for S a line ≡ Err (broken fault.Atoms line)
+room_none S a line h le = rw h (grind (arith, nat_tests))
 
 -- ---- what is kept
 

@@ -5,3 +5,4 @@ pub mod Streaming
 pub mod Supply
 pub mod KnownLaws
 pub mod Soundness
+pub mod Places

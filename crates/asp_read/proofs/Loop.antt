@@ -30,9 +30,9 @@ module _ {A : Type 0} (atom : A → ℕ) (one : Atoms → List ℕ → Reads A) 
       → with_front front (many_at atom one (count - i) known line) ≡ total → Fails e total
   unfolding many_at
   ends errors.Memory front count i known line total lt h so_far = tt
-  ends (errors.Fault f) front count i known line total lt h so_far =
+  ends (errors.Fault b) front count i known line total lt h so_far =
       let k : count - i ≡ suc (count - (i + 1)) = omega arith in
-      let step : with_front front (many_at atom one (count - i) known line) ≡ Err f = rw (k, h) refl in
+      let step : with_front front (many_at atom one (count - i) known line) ≡ Err b = rw (k, h) refl in
       sym so_far ∙ step
 
   pub is_done : (front : List A) (count i : ℕ) (known : Atoms) (line : List ℕ) (total : Reads (List A)) → count ≤ i → with_front front (many_at atom one (count - i) known line) ≡ total → total ≡ Ok (front, line)

@@ -8,11 +8,15 @@ use Rattle.std.proofs.lemmas.List.{length-map}
 use Rattle.std.proofs.lemmas.Bool.{leb-true, ltb-false, lt-ltb, le-leb, and_parts, and_from, or_parts}
 use Rattle.asp_text.specs.Fields.{unblank, field_of, after_field, integer_of}
 use Rattle.asp_text.specs.Lines.{is_lf, onto, pieces, lines_of, whole, without_cr}
-use Rattle.asp_model.specs.declared.fault.ReadError.{ReadError}
-use Rattle.asp_model.specs.declared.fault.ReadError.TheVariants.{TooLong}
+use Rattle.asp_read.specs.declared.fault.ReadError.{ReadError}
+use Rattle.asp_read.specs.declared.fault.ReadError.TheVariants.{TooLong}
 use Rattle.asp_model.specs.declared.program.Program.{Program}
-use Rattle.asp_model.specs.declared.fault.Fault.{Fault}
-use Rattle.asp_model.specs.declared.fault.Fault.TheVariants as fault
+use Rattle.asp_text.specs.Fields.{num_of}
+use Rattle.asp_text.specs.declared.numbers.Num.TheVariants.{Value}
+use Rattle.asp_read.specs.declared.fault.FaultKind.TheVariants as fault
+use Rattle.asp_read.specs.declared.error.FaultAt.{FaultAt}
+use Rattle.asp_read.specs.Places.{broken}
+use Rattle.asp_read.proofs.Places.{told_ok}
 use Rattle.asp_model.specs.declared.program.Head.{Head}
 use Rattle.asp_model.specs.declared.program.Head.TheVariants.{One, Choice, Never}
 use Rattle.asp_model.specs.declared.program.Body.{Body}
@@ -34,11 +38,11 @@ use Rattle.asp_read.specs.Statements.{head_of, head_at, body_at, rule_at, minimi
 use Rattle.asp_read.specs.declared.reader.Stage.{Stage}
 use Rattle.asp_read.specs.declared.reader.Stage.TheVariants.{Start, Within, Ended}
 use Rattle.asp_read.specs.Seen.{Seen, nothing_seen}
-use Rattle.asp_read.specs.Outcome.{adds, stage_after, judge_filled, judge, judge_next, judge_all, at_end, most_bytes, outcome_from, outcome}
+use Rattle.asp_read.specs.Outcome.{adds, stage_after, judge_filled, judge_line, judge, judge_next, judge_all, at_end, most_bytes, outcome_from, outcome}
 
 -- ---- what a step that succeeded did
 
-abbrev ok : {A : Type 0} → A → Result A Fault
+abbrev ok : {A : Type 0} → A → Result A FaultAt
 ok x = Ok x
 
 ok_is : {A : Type 0} (x y : A) → ok x ≡ ok y → x ≡ y
@@ -57,20 +61,20 @@ step : {A B E : Type 0} (first : Result A E) (rest : A → Result B E) (end : B)
 step (Ok x) rest end e = record { value = x; is = refl; goes = e }
 step (Err f) rest end e = absurd cc
 
-unless : {A : Type 0} (b : Bool) (f : Fault) (r : Result A Fault) (x : A) → (if b then Err f else r) ≡ Ok x → (b ≡ false) × (r ≡ Ok x)
+unless : {A : Type 0} (b : Bool) (f : FaultAt) (r : Result A FaultAt) (x : A) → (if b then Err f else r) ≡ Ok x → (b ≡ false) × (r ≡ Ok x)
 unless true f r x e = absurd cc
 unless false f r x e = (refl, e)
 
-choose : {A : Type 0} (P : Type 0) (b : Bool) (r s : Result A Fault) (x : A) → (if b then r else s) ≡ Ok x → (r ≡ Ok x → P) → (s ≡ Ok x → P) → P
+choose : {A : Type 0} (P : Type 0) (b : Bool) (r s : Result A FaultAt) (x : A) → (if b then r else s) ≡ Ok x → (r ≡ Ok x → P) → (s ≡ Ok x → P) → P
 choose P true r s x e one other = one e
 choose P false r s x e one other = other e
 
 -- ---- numbers
 
-natural_range : (low high : ℕ) (o : Option ℤ) (n : ℕ) → natural_in low high o ≡ Ok n → (low ≤ n) × (n ≤ high)
-natural_range low high None n e = absurd cc
-natural_range low high (Some (negsuc m)) n e = absurd cc
-natural_range low high (Some (pos m)) n e = (elim (nat_le low m && nat_le m high) as (λ v. (nat_le low m && nat_le m high) ≡ v → (if v then ok m else Err fault.Range) ≡ ok n → (low ≤ n) × (n ≤ high)) [
+natural_range : (low high : ℕ) (line : List ℕ) (o : Option ℤ) (n : ℕ) → natural_in low high line o ≡ Ok n → (low ≤ n) × (n ≤ high)
+natural_range low high line None n e = absurd cc
+natural_range low high line (Some (negsuc m)) n e = absurd cc
+natural_range low high line (Some (pos m)) n e = (elim (nat_le low m && nat_le m high) as (λ v. (nat_le low m && nat_le m high) ≡ v → (if v then ok m else Err (broken (fault.Natural low high (num_of (Some (pos m)))) line)) ≡ ok n → (low ≤ n) × (n ≤ high)) [
   | true ↦ λ t h.
       let p = and_parts (nat_le low m) (nat_le m high) t in
       let is : m ≡ n = ok_is m n h in
@@ -80,23 +84,23 @@ natural_range low high (Some (pos m)) n e = (elim (nat_le low m && nat_le m high
 
 natural-range : (low high : ℕ) (line : List ℕ) (x : ℕ × List ℕ) → natural_at low high line ≡ Ok x → (low ≤ x.0) × (x.0 ≤ high)
 natural-range low high line x e =
-    let s = step (natural_in low high (integer_of (field_of line))) (λ n. ok (n, after_field line)) x e in
-    let r = natural_range low high (integer_of (field_of line)) s.value s.is in
+    let s = step (natural_in low high line (integer_of (field_of line))) (λ n. ok (n, after_field line)) x e in
+    let r = natural_range low high line (integer_of (field_of line)) s.value s.is in
     let is : s.value ≡ x.0 = ap (λ (y : ℕ × List ℕ). y.0) (ok_is (s.value, after_field line) x s.goes) in
     (omega (arith, r.0, is), omega (arith, r.1, is))
 
-integer_range : (low high : ℤ) (o : Option ℤ) (z : ℤ) → integer_in low high o ≡ Ok z → (int_lt z low ≡ false) × (int_lt high z ≡ false)
-integer_range low high None z e = absurd cc
-integer_range low high (Some y) z e =
-    let u = unless (int_lt y low || int_lt high y) fault.Range (ok y) z e in
+integer_range : (low high : ℤ) (line : List ℕ) (o : Option ℤ) (z : ℤ) → integer_in low high line o ≡ Ok z → (int_lt z low ≡ false) × (int_lt high z ≡ false)
+integer_range low high line None z e = absurd cc
+integer_range low high line (Some y) z e =
+    let u = unless (int_lt y low || int_lt high y) _ (ok y) z e in
     let is : y ≡ z = ok_is y z u.1 in
     rw is at (or_parts (int_lt y low) (int_lt high y) u.0)
 
 integer-range : (low high : ℤ) (line : List ℕ) (x : ℤ × List ℕ) → integer_at low high line ≡ Ok x → (int_lt x.0 low ≡ false) × (int_lt high x.0 ≡ false)
 integer-range low high line x e =
-    let s = step (integer_in low high (integer_of (field_of line))) (λ z. ok (z, after_field line)) x e in
+    let s = step (integer_in low high line (integer_of (field_of line))) (λ z. ok (z, after_field line)) x e in
     let is : s.value ≡ x.0 = ap (λ (y : ℤ × List ℕ). y.0) (ok_is (s.value, after_field line) x s.goes) in
-    rw is at (integer_range low high (integer_of (field_of line)) s.value s.is)
+    rw is at (integer_range low high line (integer_of (field_of line)) s.value s.is)
 
 -- ---- atoms, literals and weights
 
@@ -118,17 +122,17 @@ weight_is (negsuc n) low = absurd cc
 atom-sound : (known : Atoms) (line : List ℕ) (x : ℕ × List ℕ) → atom_at known line ≡ Ok x → is_atom x.0 ≡ true
 unfolding atom_at
 atom-sound known line x e =
-    let s = step (natural_at 1 most line) (λ a. room_for known a.0 >>= λ _. ok a) x e in
-    let t = step (room_for known s.value.0) (λ _. ok s.value) x s.goes in
+    let s = step (natural_at 1 most line) (λ a. room_for known a.0 line >>= λ _. ok a) x e in
+    let t = step (room_for known s.value.0 line) (λ _. ok s.value) x s.goes in
     let r = natural-range 1 most line s.value s.is in
     rw (ok_is s.value x t.goes) at (atom_is s.value.0 r.0 r.1)
 
 literal-sound : (known : Atoms) (line : List ℕ) (x : ℤ × List ℕ) → literal_at known line ≡ Ok x → is_literal x.0 ≡ true
 unfolding literal_at
 literal-sound known line x e =
-    let s = step (integer_at (neg_ℤ (pos most)) (pos most) line) (λ z. if is_zero z.0 then Err fault.Range else (room_for known (atom_of z.0) >>= λ _. ok z)) x e in
-    let u = unless (is_zero s.value.0) fault.Range (room_for known (atom_of s.value.0) >>= λ _. ok s.value) x s.goes in
-    let t = step (room_for known (atom_of s.value.0)) (λ _. ok s.value) x u.1 in
+    let s = step (integer_at (neg_ℤ (pos most)) (pos most) line) (λ z. if is_zero z.0 then Err (broken (fault.Integer (neg_ℤ (pos most)) (pos most) (Value (pos 0))) line) else (room_for known (atom_of z.0) line >>= λ _. ok z)) x e in
+    let u = unless (is_zero s.value.0) _ (room_for known (atom_of s.value.0) line >>= λ _. ok s.value) x s.goes in
+    let t = step (room_for known (atom_of s.value.0) line) (λ _. ok s.value) x u.1 in
     let r = integer-range (neg_ℤ (pos most)) (pos most) line s.value s.is in
     rw (ok_is s.value x t.goes) at (literal_is s.value.0 r.0 r.1 u.0)
 
@@ -178,8 +182,8 @@ module _ {A : Type 0} (p : A → Bool) (atom : A → ℕ) (one : Atoms → List 
 count_is : (used : ℕ) (line : List ℕ) (x : ℕ × List ℕ) → count_at used line ≡ Ok x → used + x.0 ≤ most_counted
 unfolding count_at
 count_is used line x e =
-    let s = step (natural_at 0 most line) (λ n. if nat_lt most_counted (used + n.0) then Err fault.Size else ok n) x e in
-    let u = unless (nat_lt most_counted (used + s.value.0)) fault.Size (ok s.value) x s.goes in
+    let s = step (natural_at 0 most line) (λ n. if nat_lt most_counted (used + n.0) then Err (broken fault.Counts line) else ok n) x e in
+    let u = unless (nat_lt most_counted (used + s.value.0)) _ (ok s.value) x s.goes in
     rw (ok_is s.value x u.1) at (ltb-false most_counted (used + s.value.0) u.0)
 
 -- a list of so many that pass, where so much was counted before
@@ -232,12 +236,12 @@ part sound size used x y e s f = rw (← e) (record { is_sound = s; fits = f })
 head-sound : (used : ℕ) (known : Atoms) (line : List ℕ) (x : Head × List ℕ) → head_at used known line ≡ Ok x → Part is_sound_head head_size used x.0
 unfolding head_at
 head-sound used known line x e =
-    let s = step (natural_at 0 1 line) (λ kind. natural_at 0 most kind.1 >>= λ m. if kind.0 == 0 && nat_lt 1 m.0 then Err fault.Disjunction else (if nat_lt most_counted (used + m.0) then Err fault.Size else (many_at (λ a. a) atom_at m.0 known m.1 >>= λ atoms. ok (head_of kind.0 atoms.0, atoms.1)))) x e in
+    let s = step (natural_at 0 1 line) (λ kind. natural_at 0 most kind.1 >>= λ m. if kind.0 == 0 && nat_lt 1 m.0 then Err (broken fault.Disjunction kind.1) else (if nat_lt most_counted (used + m.0) then Err (broken fault.Counts kind.1) else (many_at (λ a. a) atom_at m.0 known m.1 >>= λ atoms. ok (head_of kind.0 atoms.0, atoms.1)))) x e in
     let kind = s.value.0 in
-    let t = step (natural_at 0 most s.value.1) (λ m. if kind == 0 && nat_lt 1 m.0 then Err fault.Disjunction else (if nat_lt most_counted (used + m.0) then Err fault.Size else (many_at (λ a. a) atom_at m.0 known m.1 >>= λ atoms. ok (head_of kind atoms.0, atoms.1)))) x s.goes in
+    let t = step (natural_at 0 most s.value.1) (λ m. if kind == 0 && nat_lt 1 m.0 then Err (broken fault.Disjunction s.value.1) else (if nat_lt most_counted (used + m.0) then Err (broken fault.Counts s.value.1) else (many_at (λ a. a) atom_at m.0 known m.1 >>= λ atoms. ok (head_of kind atoms.0, atoms.1)))) x s.goes in
     let m = t.value in
-    let u = unless (kind == 0 && nat_lt 1 m.0) fault.Disjunction (if nat_lt most_counted (used + m.0) then Err fault.Size else (many_at (λ a. a) atom_at m.0 known m.1 >>= λ atoms. ok (head_of kind atoms.0, atoms.1))) x t.goes in
-    let v = unless (nat_lt most_counted (used + m.0)) fault.Size (many_at (λ a. a) atom_at m.0 known m.1 >>= λ atoms. ok (head_of kind atoms.0, atoms.1)) x u.1 in
+    let u = unless (kind == 0 && nat_lt 1 m.0) _ (if nat_lt most_counted (used + m.0) then Err (broken fault.Counts s.value.1) else (many_at (λ a. a) atom_at m.0 known m.1 >>= λ atoms. ok (head_of kind atoms.0, atoms.1))) x t.goes in
+    let v = unless (nat_lt most_counted (used + m.0)) _ (many_at (λ a. a) atom_at m.0 known m.1 >>= λ atoms. ok (head_of kind atoms.0, atoms.1)) x u.1 in
     let w = step (many_at (λ a. a) atom_at m.0 known m.1) (λ atoms. ok (head_of kind atoms.0, atoms.1)) x v.1 in
     let l = many_are is_atom (λ a. a) atom_at atom-sound m.0 known m.1 w.value w.is in
     let h = head_is kind w.value.0 l.sound in
@@ -276,8 +280,8 @@ rule-sound used known line x e =
 minimize-sound : (used : ℕ) (seen : List ℤ) (known : Atoms) (line : List ℕ) (x : Minimize × List ℕ) → minimize_at used seen known line ≡ Ok x → Part is_sound_minimize (λ m. length m.items) used x.0
 unfolding minimize_at
 minimize-sound used seen known line x e =
-    let s = step (signed_at line) (λ q. if is_too_many q.0 seen then Err fault.Size else (weights_at used (negsuc most) known q.1 >>= λ is. ok (minimize q.0 is.0, is.1))) x e in
-    let u = unless (is_too_many s.value.0 seen) fault.Size (weights_at used (negsuc most) known s.value.1 >>= λ is. ok (minimize s.value.0 is.0, is.1)) x s.goes in
+    let s = step (signed_at line) (λ q. if is_too_many q.0 seen then Err (broken fault.Priorities line) else (weights_at used (negsuc most) known q.1 >>= λ is. ok (minimize q.0 is.0, is.1))) x e in
+    let u = unless (is_too_many s.value.0 seen) _ (weights_at used (negsuc most) known s.value.1 >>= λ is. ok (minimize s.value.0 is.0, is.1)) x s.goes in
     let t = step (weights_at used (negsuc most) known s.value.1) (λ is. ok (minimize s.value.0 is.0, is.1)) x u.1 in
     let l = weights-sound (λ item. is_literal item.0) used (negsuc most) known s.value.1 t.value (minimized-sound (negsuc most)) t.is in
     part is_sound_minimize (λ m. length m.items) used (minimize s.value.0 t.value.0) x.0 (first_is (minimize s.value.0 t.value.0) t.value.1 x t.goes) l.sound l.fits
@@ -337,31 +341,31 @@ assume_is : (used : ℕ) (known : Atoms) (line : List ℕ) (x : List ℤ × List
 assume_is used known line x e = let l = literals-sound used known line x e in record { is_sound = l.sound; fits = l.fits }
 
 module _ (kind used : ℕ) (seen : List ℤ) (known : Atoms) (line : List ℕ) where
-  abbrev from9 : Result Statement Fault
-  from9 = if kind == 9 then Err fault.Theory else ok say.Comment
+  abbrev from9 : Result Statement FaultAt
+  from9 = if kind == 9 then Err (broken fault.Theory line) else ok say.Comment
 
-  abbrev from8 : Result Statement Fault
-  from8 = if kind == 8 then Err fault.Edge else from9
+  abbrev from8 : Result Statement FaultAt
+  from8 = if kind == 8 then Err (broken fault.Edge line) else from9
 
-  abbrev from7 : Result Statement Fault
-  from7 = if kind == 7 then Err fault.Heuristic else from8
+  abbrev from7 : Result Statement FaultAt
+  from7 = if kind == 7 then Err (broken fault.Heuristic line) else from8
 
-  abbrev from6 : Result Statement Fault
+  abbrev from6 : Result Statement FaultAt
   from6 = if kind == 6 then (literals_at used known line >>= alone >>= λ x. ok (say.Assume x)) else from7
 
-  abbrev from5 : Result Statement Fault
+  abbrev from5 : Result Statement FaultAt
   from5 = if kind == 5 then (external_at known line >>= alone >>= λ x. ok (say.External x)) else from6
 
-  abbrev from4 : Result Statement Fault
+  abbrev from4 : Result Statement FaultAt
   from4 = if kind == 4 then (output_at used known line >>= alone >>= λ x. ok (say.Output x)) else from5
 
-  abbrev from3 : Result Statement Fault
-  from3 = if kind == 3 then Err fault.Projection else from4
+  abbrev from3 : Result Statement FaultAt
+  from3 = if kind == 3 then Err (broken fault.Projection line) else from4
 
-  abbrev from2 : Result Statement Fault
+  abbrev from2 : Result Statement FaultAt
   from2 = if kind == 2 then (minimize_at used seen known line >>= alone >>= λ x. ok (say.Minimize x)) else from3
 
-  abbrev from1 : Result Statement Fault
+  abbrev from1 : Result Statement FaultAt
   from1 = if kind == 1 then (rule_at used known line >>= alone >>= λ x. ok (say.Rule x)) else from2
 
   abbrev IsFit : Statement → Type 0
@@ -369,9 +373,9 @@ module _ (kind used : ℕ) (seen : List ℤ) (known : Atoms) (line : List ℕ) w
 
   last_sound : (s : Statement) → used ≤ most_counted → from7 ≡ Ok s → IsFit s
   last_sound s room e7 =
-      let e8 = (unless (kind == 7) fault.Heuristic from8 s e7).1 in
-      let e9 = (unless (kind == 8) fault.Edge from9 s e8).1 in
-      comment_is used s room (unless (kind == 9) fault.Theory (ok say.Comment) s e9).1
+      let e8 = (unless (kind == 7) _ from8 s e7).1 in
+      let e9 = (unless (kind == 8) _ from9 s e8).1 in
+      comment_is used s room (unless (kind == 9) _ (ok say.Comment) s e9).1
 
   later_sound : (s : Statement) → used ≤ most_counted → from4 ≡ Ok s → IsFit s
   later_sound s room e4 =
@@ -391,7 +395,7 @@ module _ (kind used : ℕ) (seen : List ℤ) (known : Atoms) (line : List ℕ) w
       (stated is_sound_rule rule_size say.Rule used (rule_at used known line) s (rule-sound used known line) (λ x. refl) (λ x. refl))
       (λ e2. choose (IsFit s) (kind == 2) (minimize_at used seen known line >>= alone >>= λ x. ok (say.Minimize x)) from3 s e2
       (stated is_sound_minimize (λ m. length m.items) say.Minimize used (minimize_at used seen known line) s (minimize-sound used seen known line) (λ x. refl) (λ x. refl))
-      (λ e3. later_sound s room (unless (kind == 3) fault.Projection from4 s e3).1)))
+      (λ e3. later_sound s room (unless (kind == 3) _ from4 s e3).1)))
 
 statement-sound : (used : ℕ) (seen : List ℤ) (known : Atoms) (line : List ℕ) (s : Statement) → used ≤ most_counted → statement_with used seen known line ≡ Ok s → Part is_sound_statement statement_size used s
 unfolding statement_with
@@ -485,7 +489,7 @@ filled-sound Ended p known line next n h e = absurd cc
 
 judge-sound : (seen : Seen) (line : List ℕ) (next : Seen) (n : ℕ) → AreSound seen.program n → judge seen line ≡ Ok next → AreSound next.program (suc n)
 judge-sound seen line next n h e =
-    choose (AreSound next.program (suc n)) (length (unblank line) == 0) (ok seen) (judge_filled seen.stage seen.program seen.known line) next e
+    choose (AreSound next.program (suc n)) (length (unblank line) == 0) (ok seen) (judge_filled seen.stage seen.program seen.known line) next (told_ok line (judge_line seen line) next e)
     (λ k. more_lines seen.program next.program n (ap (λ (s : Seen). s.program) (ok_is seen next k)) h)
     (filled-sound seen.stage seen.program seen.known line next n h)
 

@@ -10,10 +10,10 @@ use Rattle.std.proofs.Math.Seq.{take-append-add, take-append_seam}
 use Rattle.asp_text.specs.Lines.{is_lf, cut, onto, pieces, lines_of, whole, without_cr, first_line, after_line, last_line}
 use Rattle.asp_text.specs.Unread.{Unread}
 use Rattle.asp_model.specs.declared.program.Program.{Program}
-use Rattle.asp_model.specs.declared.fault.Fault.{Fault}
-use Rattle.asp_model.specs.declared.fault.ReadError.{ReadError}
-use Rattle.asp_model.specs.declared.fault.ReadError.TheVariants as errors
-use Rattle.asp_model.specs.declared.fault.ReadError.TheVariants.{TooLong, Refused}
+use Rattle.asp_read.specs.declared.fault.Fault.{Fault}
+use Rattle.asp_read.specs.declared.fault.ReadError.{ReadError}
+use Rattle.asp_read.specs.declared.fault.ReadError.TheVariants as errors
+use Rattle.asp_read.specs.declared.fault.ReadError.TheVariants.{TooLong, Refused}
 use Rattle.asp_read.specs.Stream.{FailsAs, ReadGives, outcome_on}
 use Rattle.asp_read.specs.Seen.{Seen}
 use Rattle.asp_read.specs.Fields.{◌>>=◌}

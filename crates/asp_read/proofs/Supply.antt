@@ -1,13 +1,13 @@
 -- Pieces of a source's bytes.
 use Rattle.std.proofs.Common.{◌≡◌, ℕ, ◌+◌, ◌-◌, ◌<◌, ◌≤◌, List, [], ◌∷◌, ◌++◌, length, take, drop, Option, Some, None, Result, Ok, Err, inl, inr, refl, sym, ap, subst, ◌∙◌, append_assoc, zero-add, arith, length-append, length-drop, take-append-drop}
 use Rattle.std.proofs.lemmas.List.{append-nil, length-take-le, take-append-le, take-take}
-use Rattle.std.specs.Prelude.{◌⊎◌, IfSome, IfOk, IfErr, IsOk, IsSome}
+use Rattle.std.specs.Prelude.{IfSome, IfOk, IfErr, IsOk, IsSome}
 use Rattle.std.specs.Io.KnownBytes.{Consumes, Keeps, IsAtEnd}
 use Rattle.asp_text.specs.Unread.{Unread}
 use Rattle.asp_text.specs.Lines.{cut, lines_of, whole}
 use Rattle.asp_model.specs.declared.program.Program.{Program}
-use Rattle.asp_model.specs.declared.fault.ReadError.{ReadError}
-use Rattle.asp_model.specs.declared.fault.ReadError.TheVariants as errors
+use Rattle.asp_read.specs.declared.fault.ReadError.{ReadError}
+use Rattle.asp_read.specs.declared.fault.ReadError.TheVariants as errors
 use Rattle.asp_read.specs.Seen.{Seen, nothing_seen}
 use Rattle.asp_read.specs.Outcome.{judge, judge_next, judge_all, most_bytes, outcome_from}
 use Rattle.asp_model.specs.Sound.{IsSound}

@@ -7,8 +7,11 @@ use Rattle.std.specs.declared.result.Result.TheVariants.{Ok, Err}
 use Rattle.asp_text.specs.Fields.{is_blank, unblank, field_of, after_field, integer_of}
 use Rattle.asp_model.specs.Sets.{Atoms, has, with_atom}
 use Rattle.asp_model.specs.Holding.{atom_of}
-use Rattle.asp_model.specs.declared.fault.Fault.{Fault}
-use Rattle.asp_model.specs.declared.fault.Fault.TheVariants.{Number, Range, Text, ExtraFields, Size}
+use Rattle.asp_text.specs.Fields.{num_of}
+use Rattle.asp_text.specs.declared.numbers.Num.TheVariants.{Value}
+use Rattle.asp_read.specs.declared.fault.FaultKind.TheVariants as kind
+use Rattle.asp_read.specs.declared.error.FaultAt.{FaultAt}
+use Rattle.asp_read.specs.Places.{broken}
 
 infixl 10 ◌>>=◌
 abbrev pub ◌>>=◌ : {A B E : Type 0} → Result A E → (A → Result B E) → Result B E
@@ -17,23 +20,23 @@ abbrev pub ◌>>=◌ : {A B E : Type 0} → Result A E → (A → Result B E) �
 
 -- a value and the bytes after it
 abbrev pub Reads : Type 0 → Type 0
-Reads A = Result (A × List ℕ) Fault
+Reads A = Result (A × List ℕ) FaultAt
 
--- a whole number in a range
-abbrev pub natural_in : ℕ → ℕ → Option ℤ → Result ℕ Fault
-natural_in low high None = Err Number
-natural_in low high (Some (pos n)) = if nat_le low n && nat_le n high then Ok n else Err Range
-natural_in low high (Some (negsuc n)) = Err Range
+-- a whole number in a range; the line is that from its field on
+abbrev pub natural_in : ℕ → ℕ → List ℕ → Option ℤ → Result ℕ FaultAt
+natural_in low high line None = Err (broken (kind.Natural low high (num_of None)) line)
+natural_in low high line (Some (pos n)) = if nat_le low n && nat_le n high then Ok n else Err (broken (kind.Natural low high (num_of (Some (pos n)))) line)
+natural_in low high line (Some (negsuc n)) = Err (broken (kind.Natural low high (num_of (Some (negsuc n)))) line)
 
-abbrev pub integer_in : ℤ → ℤ → Option ℤ → Result ℤ Fault
-integer_in low high None = Err Number
-integer_in low high (Some z) = if int_lt z low || int_lt high z then Err Range else Ok z
+abbrev pub integer_in : ℤ → ℤ → List ℕ → Option ℤ → Result ℤ FaultAt
+integer_in low high line None = Err (broken (kind.Integer low high (num_of None)) line)
+integer_in low high line (Some z) = if int_lt z low || int_lt high z then Err (broken (kind.Integer low high (num_of (Some z))) line) else Ok z
 
 abbrev pub natural_at : ℕ → ℕ → List ℕ → Reads ℕ
-natural_at low high line = natural_in low high (integer_of (field_of line)) >>= λ n. Ok (n, after_field line)
+natural_at low high line = natural_in low high line (integer_of (field_of line)) >>= λ n. Ok (n, after_field line)
 
 abbrev pub integer_at : ℤ → ℤ → List ℕ → Reads ℤ
-integer_at low high line = integer_in low high (integer_of (field_of line)) >>= λ z. Ok (z, after_field line)
+integer_at low high line = integer_in low high line (integer_of (field_of line)) >>= λ z. Ok (z, after_field line)
 
 abbrev pub most : ℕ
 most = 2147483647
@@ -51,13 +54,13 @@ abbrev pub is_one_too_many : Atoms → ℕ → Bool
 is_one_too_many known atom = not (has known atom) && nat_le most_atoms (length known)
 
 -- an atom, where these are known from before
-abbrev pub room_for : Atoms → ℕ → Result (Unit {0}) Fault
-room_for known atom = if is_one_too_many known atom then Err Size else Ok tt
+abbrev pub room_for : Atoms → ℕ → List ℕ → Result (Unit {0}) FaultAt
+room_for known atom line = if is_one_too_many known atom then Err (broken kind.Atoms line) else Ok tt
 
 unfoldable pub atom_at : Atoms → List ℕ → Reads ℕ
 atom_at known line = do
   atom ← natural_at 1 most line
-  _ ← room_for known atom.0
+  _ ← room_for known atom.0 line
   Ok atom
 
 abbrev pub is_zero : ℤ → Bool
@@ -67,8 +70,8 @@ is_zero (negsuc n) = false
 unfoldable pub literal_at : Atoms → List ℕ → Reads ℤ
 literal_at known line = do
   literal ← integer_at (neg_ℤ (pos most)) (pos most) line
-  if is_zero literal.0 then Err Range else (do
-    _ ← room_for known (atom_of literal.0)
+  if is_zero literal.0 then Err (broken (kind.Integer (neg_ℤ (pos most)) (pos most) (Value (pos 0))) line) else (do
+    _ ← room_for known (atom_of literal.0) line
     Ok literal)
 
 -- a literal and its weight
@@ -86,7 +89,7 @@ most_counted = 16777216
 unfoldable pub count_at : ℕ → List ℕ → Reads ℕ
 count_at used line = do
   n ← natural_at 0 most line
-  if nat_lt most_counted (used + n.0) then Err Size else Ok n
+  if nat_lt most_counted (used + n.0) then Err (broken kind.Counts line) else Ok n
 
 -- so many of them, each with an atom that is known behind it
 unfoldable pub many_at : {A : Type 0} → (A → ℕ) → (Atoms → List ℕ → Reads A) → ℕ → Atoms → List ℕ → Reads (List A)
@@ -112,13 +115,13 @@ ends_field (b ∷ bs) = is_blank b
 
 -- one blank, a text of so many bytes, and the end of the field
 abbrev pub text_at : ℕ → List ℕ → Reads (List ℕ)
-text_at n [] = Err Text
-text_at n (b ∷ bs) = if is_blank b && (nat_le n (length bs) && ends_field (drop n bs)) then Ok (take n bs, drop n bs) else Err Text
+text_at n [] = Err (broken kind.Text [])
+text_at n (b ∷ bs) = if is_blank b && (nat_le n (length bs) && ends_field (drop n bs)) then Ok (take n bs, drop n bs) else Err (broken kind.Text (b ∷ bs))
 
 -- no further field
-abbrev pub ended : List ℕ → Result (Unit {0}) Fault
-ended line = if length (unblank line) == 0 then Ok tt else Err ExtraFields
+abbrev pub ended : List ℕ → Result (Unit {0}) FaultAt
+ended line = if length (unblank line) == 0 then Ok tt else Err (broken kind.ExtraFields line)
 
 -- a value behind which no field stands
-abbrev pub alone : {A : Type 0} → A × List ℕ → Result A Fault
+abbrev pub alone : {A : Type 0} → A × List ℕ → Result A FaultAt
 alone x = ended x.1 >>= λ _. Ok x.0

@@ -1,10 +1,11 @@
-pub mod Sizes
-pub mod Known
+pub mod Places
 pub mod Fields
-pub mod Statements
+pub mod Gives
+pub mod Kept
+pub mod Known
 pub mod Outcome
 pub mod Rows
-pub mod Gives
 pub mod Seen
-pub mod Kept
+pub mod Sizes
+pub mod Statements
 pub mod Stream

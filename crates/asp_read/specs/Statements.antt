@@ -22,8 +22,10 @@ use Rattle.asp_model.specs.declared.program.Program.{Program}
 use Rattle.asp_model.specs.Sets.{Atoms, with_atoms}
 use Rattle.asp_model.specs.Models.{head_atoms}
 use Rattle.asp_read.specs.Sizes.{head_size, program_size}
-use Rattle.asp_model.specs.declared.fault.Fault.{Fault}
-use Rattle.asp_model.specs.declared.fault.Fault.TheVariants as fault
+use Rattle.asp_text.specs.Fields.{num_of}
+use Rattle.asp_read.specs.declared.fault.FaultKind.TheVariants as fault
+use Rattle.asp_read.specs.declared.error.FaultAt.{FaultAt}
+use Rattle.asp_read.specs.Places.{broken}
 use Rattle.asp_read.specs.declared.statement.Statement.{Statement}
 use Rattle.asp_read.specs.declared.statement.Statement.TheVariants as say
 use Rattle.asp_read.specs.Fields.{◌>>=◌, Reads, natural_at, signed_at, atom_at, many_at, literals_at, weights_at, text_at, alone, most, most_counted}
@@ -48,7 +50,7 @@ unfoldable pub head_at : ℕ → Atoms → List ℕ → Reads Head
 head_at used known line = do
   kind ← natural_at 0 1 line
   m ← natural_at 0 most kind.1
-  if kind.0 == 0 && nat_lt 1 m.0 then Err fault.Disjunction else (if nat_lt most_counted (used + m.0) then Err fault.Size else head_among kind.0 m.0 known m.1)
+  if kind.0 == 0 && nat_lt 1 m.0 then Err (broken fault.Disjunction kind.1) else (if nat_lt most_counted (used + m.0) then Err (broken fault.Counts kind.1) else head_among kind.0 m.0 known m.1)
 
 unfoldable pub body_at : ℕ → Atoms → List ℕ → Reads Body
 body_at used known line = do
@@ -92,7 +94,7 @@ is_too_many z seen = not (is_among z seen) && nat_le 1000 (length seen)
 unfoldable pub minimize_at : ℕ → List ℤ → Atoms → List ℕ → Reads Minimize
 minimize_at used seen known line = do
   priority ← signed_at line
-  if is_too_many priority.0 seen then Err fault.Size else (do
+  if is_too_many priority.0 seen then Err (broken fault.Priorities line) else (do
     items ← weights_at used (negsuc most) known priority.1
     Ok (record { priority = priority.0; items = items.0 }, items.1))
 
@@ -115,34 +117,34 @@ external_at known line = do
 -- ---- lines
 
 -- what follows the first field of a statement of this kind, where so much was counted and these priorities and atoms stood before
-unfoldable pub of_kind : ℕ → ℕ → List ℤ → Atoms → List ℕ → Result Statement Fault
+unfoldable pub of_kind : ℕ → ℕ → List ℤ → Atoms → List ℕ → Result Statement FaultAt
 of_kind kind used seen known line =
     if kind == 0 then alone (say.End, line) else (
     if kind == 1 then (rule_at used known line >>= alone >>= λ r. Ok (say.Rule r)) else (
     if kind == 2 then (minimize_at used seen known line >>= alone >>= λ m. Ok (say.Minimize m)) else (
-    if kind == 3 then Err fault.Projection else (
+    if kind == 3 then Err (broken fault.Projection line) else (
     if kind == 4 then (output_at used known line >>= alone >>= λ o. Ok (say.Output o)) else (
     if kind == 5 then (external_at known line >>= alone >>= λ e. Ok (say.External e)) else (
     if kind == 6 then (literals_at used known line >>= alone >>= λ ls. Ok (say.Assume ls)) else (
-    if kind == 7 then Err fault.Heuristic else (
-    if kind == 8 then Err fault.Edge else (
-    if kind == 9 then Err fault.Theory else
+    if kind == 7 then Err (broken fault.Heuristic line) else (
+    if kind == 8 then Err (broken fault.Edge line) else (
+    if kind == 9 then Err (broken fault.Theory line) else
     Ok say.Comment)))))))))
 
 -- a number from 0 to 10
-abbrev pub kind_in : Option ℤ → Result ℕ Fault
-kind_in None = Err fault.Number
-kind_in (Some (pos n)) = if nat_le n 10 then Ok n else Err fault.Kind
-kind_in (Some (negsuc n)) = Err fault.Kind
+abbrev pub kind_in : List ℕ → Option ℤ → Result ℕ FaultAt
+kind_in line None = Err (broken (fault.Statement (num_of None)) line)
+kind_in line (Some (pos n)) = if nat_le n 10 then Ok n else Err (broken (fault.Statement (num_of (Some (pos n)))) line)
+kind_in line (Some (negsuc n)) = Err (broken (fault.Statement (num_of (Some (negsuc n)))) line)
 
 abbrev pub kind_at : List ℕ → Reads ℕ
-kind_at line = kind_in (integer_of (field_of line)) >>= λ kind. Ok (kind, after_field line)
+kind_at line = kind_in line (integer_of (field_of line)) >>= λ kind. Ok (kind, after_field line)
 
-unfoldable pub statement_with : ℕ → List ℤ → Atoms → List ℕ → Result Statement Fault
+unfoldable pub statement_with : ℕ → List ℤ → Atoms → List ℕ → Result Statement FaultAt
 statement_with used seen known line = kind_at line >>= λ kind. of_kind kind.0 used seen known kind.1
 
 -- a statement behind this program, whose atoms are known
-abbrev pub statement_at : Program → Atoms → List ℕ → Result Statement Fault
+abbrev pub statement_at : Program → Atoms → List ℕ → Result Statement FaultAt
 statement_at so_far known line = statement_with (program_size so_far) (priorities so_far) known line
 
 -- ---- the header
@@ -159,13 +161,14 @@ is_word field word = pointwise nat_eq field word
 abbrev pub is_header : List ℕ → List ℕ → List ℕ → List ℕ → Bool
 is_header name version minor revision = is_word name (codes "asp") && (is_number 1 (integer_of version) && (is_number 0 (integer_of minor) && is_some (natural_of revision)))
 
-abbrev pub no_tag : List ℕ → Result (Unit {0}) Fault
-no_tag tag = if length tag == 0 then Ok tt else (if is_word tag (codes "incremental") then Err fault.Incremental else Err fault.Tag)
+-- no field behind the revision
+abbrev pub no_tag : List ℕ → Result (Unit {0}) FaultAt
+no_tag line = if length (field_of line) == 0 then Ok tt else (if is_word (field_of line) (codes "incremental") then Err (broken fault.Incremental line) else Err (broken fault.Tag line))
 
 -- those fields, and no tag
-unfoldable pub header_at : List ℕ → Result (Unit {0}) Fault
+unfoldable pub header_at : List ℕ → Result (Unit {0}) FaultAt
 header_at line =
     let version = after_field line in
     let minor = after_field version in
     let revision = after_field minor in
-    if is_header (field_of line) (field_of version) (field_of minor) (field_of revision) then no_tag (field_of (after_field revision)) else Err fault.Header
+    if is_header (field_of line) (field_of version) (field_of minor) (field_of revision) then no_tag (after_field revision) else Err (broken fault.Header line)

@@ -7,8 +7,8 @@ use Rattle.std.specs.declared.result.Result.TheVariants.{Ok, Err}
 use Rattle.asp_text.specs.Unread.{Unread}
 use Rattle.asp_text.specs.Lines.{lines_of, whole}
 use Rattle.asp_model.specs.declared.program.Program.{Program}
-use Rattle.asp_model.specs.declared.fault.ReadError.{ReadError}
-use Rattle.asp_model.specs.declared.fault.ReadError.TheVariants as errors
+use Rattle.asp_read.specs.declared.fault.ReadError.{ReadError}
+use Rattle.asp_read.specs.declared.fault.ReadError.TheVariants as errors
 use Rattle.asp_read.specs.Seen.{Seen, nothing_seen}
 use Rattle.asp_read.specs.Outcome.{judge_all, outcome_from}
 

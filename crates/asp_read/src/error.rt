@@ -1,17 +1,26 @@
 //! Why a line could not be read.
 ghost use Rattle.std.specs.Prelude.{◌≡◌};
+ghost use Rattle.asp_read.specs.Places.{broken, told};
 ghost use Rattle.asp_read.specs.declared.error.LineError.TheVariants.{Memory};
 
-use asp_model::fault::Fault;
+use crate::fault::{Fault, FaultKind};
+use asp_text::fields;
 use std::alloc::{AllocError, AllocFailed};
+
+/// What is wrong with a line, and how many of its bytes stand from the field on that couldn't be read.
+#[derive(Clone, Copy, Debug, PartialEq, Eq)]
+pub struct FaultAt {
+    pub kind: FaultKind,
+    pub left: usize,
+}
 
 /// Why a line could not be read.
 #[derive(Clone, Copy, Debug, PartialEq, Eq)]
 pub enum LineError {
     /// Memory ran out.
     Memory,
-    /// The line has this fault.
-    Fault(Fault),
+    /// The line can't be read from some field on.
+    Fault(FaultAt),
 }
 
 impl From<AllocError> for LineError {
@@ -27,5 +36,26 @@ impl<T: Drop> From<AllocFailed<T>> for LineError {
 
     fn from(_e: AllocFailed<T>) -> LineError {
         LineError::Memory
+    }
+}
+
+/// The fault of a line that can't be read from here on.
+pub fn broken(kind: FaultKind, rest: &[u8]) -> LineError
+    ensures { result ≡ LineError.Fault (broken kind rest.now) }
+{
+    LineError::Fault(FaultAt {
+        kind,
+        left: rest.len(),
+    })
+}
+
+/// The fault, with the number of its field in place of the bytes.
+pub fn told(line: &[u8], broken: FaultAt) -> Fault
+    ensures { result ≡ told line.now broken }
+{
+    let front = &line[..line.len().saturating_sub(broken.left)];
+    Fault {
+        kind: broken.kind,
+        field: fields(front).count() + 1,
     }
 }

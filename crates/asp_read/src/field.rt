@@ -2,15 +2,14 @@
 ghost use Rattle.std.specs.Prelude.{◌≡◌, ◌∷◌, List, ℕ, length, drop, nat_le, ◌&&◌, ◌+◌, ◌≤◌, IfOk};
 ghost use Rattle.std.specs.declared.result.Result.{Result};
 ghost use Rattle.asp_text.specs.Fields.{unblank};
-ghost use Rattle.asp_model.specs.declared.fault.Fault.{Fault};
 ghost use Rattle.asp_model.specs.Sets.{with_atom};
 ghost use Rattle.asp_model.specs.Holding.{atom_of};
 ghost use Rattle.asp_read.specs.Gives.{Gives};
 ghost use Rattle.asp_read.specs.Fields.{Reads, natural_at, integer_at, signed_at, atom_at, literal_at, weighted_at, count_at, many_at, text_at, ends_field, ended, most_counted};
 
-use crate::error::LineError;
+use crate::error::{LineError, broken};
+use crate::fault::FaultKind;
 use crate::known::KnownAtoms;
-use asp_model::fault::Fault;
 use asp_model::program::Atom;
 use asp_text::{Num, is_blank, split_int, unblank};
 
@@ -23,9 +22,8 @@ pub fn natural(line: &[u8], low: u32, high: u32) -> Result<(u32, &[u8]), LineErr
 {
     let (number, rest) = split_int(line);
     match number {
-        Num::NotNumber => Err(LineError::Fault(Fault::Number)),
         Num::Value(n) if low as i64 <= n && n <= high as i64 => Ok((n as u32, rest)),
-        _ => Err(LineError::Fault(Fault::Range)),
+        _ => Err(broken(FaultKind::Natural(low, high, number), line)),
     }
 }
 
@@ -34,11 +32,10 @@ pub fn integer(line: &[u8], low: i32, high: i32) -> Result<(i32, &[u8]), LineErr
 {
     let (number, rest) = split_int(line);
     match number {
-        Num::NotNumber => Err(LineError::Fault(Fault::Number)),
-        Num::Big => Err(LineError::Fault(Fault::Range)),
+        Num::NotNumber | Num::Big => Err(broken(FaultKind::Integer(low, high, number), line)),
         Num::Value(n) => {
             if n < low as i64 || (high as i64) < n {
-                return Err(LineError::Fault(Fault::Range));
+                return Err(broken(FaultKind::Integer(low, high, number), line));
             }
             Ok((n as i32, rest))
         }
@@ -51,7 +48,7 @@ pub fn atom<'a>(line: &'a [u8], known: &mut KnownAtoms) -> Result<(Atom, &'a [u8
     ensures known { IfOk result (λ x. known.new ≡ with_atom x.0 known.old) }
 {
     let (atom, rest) = natural(line, 1, i32::MAX as u32)?;
-    known.take(atom)?;
+    known.take(atom, line)?;
     Ok((atom, rest))
 }
 
@@ -62,9 +59,10 @@ pub fn literal<'a>(line: &'a [u8], known: &mut KnownAtoms) -> Result<(i32, &'a [
 {
     let (literal, rest) = integer(line, -i32::MAX, i32::MAX)?;
     if literal == 0 {
-        return Err(LineError::Fault(Fault::Range));
+        let zero = FaultKind::Integer(-i32::MAX, i32::MAX, Num::Value(0));
+        return Err(broken(zero, line));
     }
-    known.take(literal.unsigned_abs())?;
+    known.take(literal.unsigned_abs(), line)?;
     Ok((literal, rest))
 }
 
@@ -89,7 +87,7 @@ pub fn count(line: &[u8], used: u32) -> Result<(u32, &[u8]), LineError>
 {
     let (count, rest) = natural(line, 0, i32::MAX as u32)?;
     if used as u64 + count as u64 > MOST_COUNTED as u64 {
-        return Err(LineError::Fault(Fault::Size));
+        return Err(broken(FaultKind::Counts, line));
     }
     Ok((count, rest))
 }
@@ -102,7 +100,7 @@ pub fn text(line: &[u8], len: u32) -> Result<(&[u8], &[u8]), LineError>
         [blank, bytes @ ..] if is_blank(*blank) && ends_at(bytes, len) => {
             Ok(bytes.split_at(len as usize))
         }
-        _ => Err(LineError::Fault(Fault::Text)),
+        _ => Err(broken(FaultKind::Text, line)),
     }
 }
 
@@ -119,7 +117,7 @@ pub fn ended(line: &[u8]) -> Result<(), LineError>
     ensures { Gives (λ u. u) result (ended line.now) }
 {
     if !unblank(line).is_empty() {
-        return Err(LineError::Fault(Fault::ExtraFields));
+        return Err(broken(FaultKind::ExtraFields, line));
     }
     Ok(())
 }

@@ -4,8 +4,8 @@ ghost use Rattle.asp_model.specs.Sets.{with_atom};
 ghost use Rattle.asp_read.specs.Gives.{Gives};
 ghost use Rattle.asp_read.specs.Fields.{room_for};
 
-use crate::error::LineError;
-use asp_model::fault::Fault;
+use crate::error::{LineError, broken};
+use crate::fault::FaultKind;
 use asp_model::program::Atom;
 use std::alloc::{AllocError, Global};
 use std::collections::HashSet;
@@ -52,33 +52,33 @@ impl KnownAtoms {
         })
     }
 
-    /// Takes an atom, unless it would be one too many.
-    pub fn take(&mut self, atom: Atom) -> Result<(), LineError>
-        ensures room { Gives (λ u. u) result (room_for self.old atom) }
+    /// Takes an atom, unless it would be one too many. The line is that from the atom's field on.
+    pub fn take(&mut self, atom: Atom, line: &[u8]) -> Result<(), LineError>
+        ensures room { Gives (λ u. u) result (room_for self.old atom line.now) }
         ensures taken { OnOk result (self.new ≡ with_atom atom self.old) }
     {
         if atom >= FIRST_UNMARKED {
-            return self.take_unless_full(atom);
+            return self.take_unless_full(atom, line);
         }
         let place = (atom % RECENT_PLACES) as usize;
         let mark = (atom / RECENT_PLACES + 1) as u8;
         if self.recent[place] == mark {
             return Ok(());
         }
-        self.take_unless_full(atom)?;
+        self.take_unless_full(atom, line)?;
         self.recent[place] = mark;
         Ok(())
     }
 
-    fn take_unless_full(&mut self, atom: Atom) -> Result<(), LineError>
-        ensures room { Gives (λ u. u) result (room_for self.old atom) }
+    fn take_unless_full(&mut self, atom: Atom, line: &[u8]) -> Result<(), LineError>
+        ensures room { Gives (λ u. u) result (room_for self.old atom line.now) }
         ensures taken { OnOk result (self.new ≡ with_atom atom self.old) }
     {
         if self.atoms.contains(&atom) {
             return Ok(());
         }
         if self.count >= MOST_ATOMS {
-            return Err(LineError::Fault(Fault::Size));
+            return Err(broken(FaultKind::Atoms, line));
         }
         self.atoms.insert(atom)?;
         self.count += 1;

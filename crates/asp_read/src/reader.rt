@@ -5,15 +5,15 @@ ghost use Rattle.asp_read.specs.Seen.{nothing_seen};
 ghost use Rattle.asp_read.specs.Gives.{Gives};
 ghost use Rattle.asp_read.specs.Fields.{most_counted};
 ghost use Rattle.asp_read.specs.Statements.{with_number};
-ghost use Rattle.asp_read.specs.Outcome.{judge, adds, stage_after, at_end};
+ghost use Rattle.asp_read.specs.Outcome.{judge_line, adds, stage_after, at_end, missing};
 ghost use Rattle.asp_read.specs.Stream.{IsOfLines};
 
-use crate::error::LineError;
+use crate::error::{LineError, broken};
+use crate::fault::{Fault, FaultKind, ReadError};
 use crate::known::KnownAtoms;
 use crate::sizes::size_of_rule;
 use crate::statement::Statement;
 use crate::statements::{header, statement};
-use asp_model::fault::{Fault, ReadError};
 use asp_model::program::{External, Minimize, Output, Program, Rule};
 use asp_model::seq::Seq;
 use asp_text::unblank;
@@ -121,7 +121,7 @@ impl Reader {
 
     /// Judges a line, with the lines before it.
     pub fn judge(&mut self, line: &[u8]) -> Result<(), LineError>
-        ensures { Gives (λ _. self.new) result (judge self.old line.now) }
+        ensures { Gives (λ _. self.new) result (judge_line self.old line.now) }
     {
         if unblank(line).is_empty() {
             return Ok(());
@@ -143,7 +143,7 @@ impl Reader {
                 self.add(statement)?;
                 Ok(())
             }
-            Stage::Ended => Err(LineError::Fault(Fault::AfterEnd)),
+            Stage::Ended => Err(broken(FaultKind::AfterEnd, line)),
         }
     }
 
@@ -153,8 +153,8 @@ impl Reader {
         ensures of_lines { IfErr result IsOfLines }
     {
         match self.stage {
-            Stage::Start => Err(ReadError::Refused(Fault::Header, number)),
-            Stage::Within => Err(ReadError::Refused(Fault::NoEnd, number)),
+            Stage::Start => Err(ReadError::Refused(missing(FaultKind::Header), number)),
+            Stage::Within => Err(ReadError::Refused(missing(FaultKind::NoEnd), number)),
             Stage::Ended => Ok(Program {
                 rules: Seq::from_vec(self.rules),
                 minimize: Seq::from_vec(self.minimize),
@@ -164,6 +164,13 @@ impl Reader {
             }),
         }
     }
+}
+
+// A fault of a line that isn't there.
+fn missing(kind: FaultKind) -> Fault
+    ensures { result ≡ missing kind }
+{
+    Fault { kind, field: 1 }
 }
 
 fn with_priority(seen: &mut Vec<i32>, priority: i32) -> Result<(), AllocError>

@@ -1,24 +1,25 @@
 //! Worked rows of the outcome of a text. Each holds by computing.
 
-ghost use Rattle.std.specs.Prelude.{◌≡◌, Ok, Err, codes, [], ◌∷◌, negsuc};
+ghost use Rattle.std.specs.Prelude.{◌≡◌, Ok, codes, [], ◌∷◌, negsuc, pos};
+ghost use Rattle.asp_text.specs.declared.numbers.Num.TheVariants.{Value, NotNumber};
 ghost use Rattle.asp_model.specs.declared.program.Head.TheVariants.{One, Choice};
 ghost use Rattle.asp_model.specs.declared.program.Body.TheVariants.{All, AtLeast};
 ghost use Rattle.asp_read.specs.Sizes.{empty_program};
 ghost use Rattle.asp_read.specs.Outcome.{outcome};
-ghost use Rattle.asp_read.specs.Rows.{after_header, rule_program};
+ghost use Rattle.asp_read.specs.Rows.{after_header, refused, rule_program};
 
-use asp_model::fault::{Fault, ReadError};
+use crate::fault::FaultKind;
 
 /// The faults of the header and of the end.
 #[tactic(auto, unfolding(crate::specs::Outcome::outcome_from, crate::specs::Outcome::judge_all, crate::specs::Statements::header_at, crate::specs::Statements::statement_with, crate::specs::Statements::of_kind))]
 pub fn whole_texts()
-    ensures minor { outcome (codes "asp 1 1 0\n0\n") ≡ Err (ReadError.Refused Fault.Header 1) }
-    ensures short { outcome (codes "asp 1 0\n0\n") ≡ Err (ReadError.Refused Fault.Header 1) }
-    ensures incremental { outcome (codes "asp 1 0 0 incremental\n0\n") ≡ Err (ReadError.Refused Fault.Incremental 1) }
-    ensures tag { outcome (codes "asp 1 0 0 x\n0\n") ≡ Err (ReadError.Refused Fault.Tag 1) }
-    ensures extra { outcome (codes "asp 1 0 0\n0 0\n") ≡ Err (ReadError.Refused Fault.ExtraFields 2) }
-    ensures after_end { outcome (codes "asp 1 0 0\n0\n10 x\n") ≡ Err (ReadError.Refused Fault.AfterEnd 3) }
-    ensures empty { outcome [] ≡ Err (ReadError.Refused Fault.Header 1) }
+    ensures minor { outcome (codes "asp 1 1 0\n0\n") ≡ refused 1 1 FaultKind.Header }
+    ensures short { outcome (codes "asp 1 0\n0\n") ≡ refused 1 1 FaultKind.Header }
+    ensures incremental { outcome (codes "asp 1 0 0 incremental\n0\n") ≡ refused 1 5 FaultKind.Incremental }
+    ensures tag { outcome (codes "asp 1 0 0 x\n0\n") ≡ refused 1 5 FaultKind.Tag }
+    ensures extra { outcome (codes "asp 1 0 0\n0 0\n") ≡ refused 2 2 FaultKind.ExtraFields }
+    ensures after_end { outcome (codes "asp 1 0 0\n0\n10 x\n") ≡ refused 3 1 FaultKind.AfterEnd }
+    ensures empty { outcome [] ≡ refused 1 1 FaultKind.Header }
     ensures no_line_feed { outcome (codes "asp 1 0 7\n0") ≡ Ok empty_program }
     ensures blank_lines { outcome (codes "\n \t\r\nasp 1 0 0\r\n\n0\r\n") ≡ Ok empty_program }
 {}
@@ -26,26 +27,26 @@ pub fn whole_texts()
 /// The faults of a line after the header.
 #[tactic(auto, unfolding(crate::specs::Outcome::outcome_from, crate::specs::Outcome::judge_all, crate::specs::Statements::header_at, crate::specs::Statements::statement_with, crate::specs::Statements::of_kind, crate::specs::Statements::rule_at, crate::specs::Statements::head_at, crate::specs::Statements::body_at, crate::specs::Statements::output_at, crate::specs::Statements::minimize_at, crate::specs::Statements::external_at, crate::specs::Fields::many_at, crate::specs::Fields::count_at, crate::specs::Fields::atom_at, crate::specs::Fields::literal_at, crate::specs::Fields::weighted_at))]
 pub fn refused_lines()
-    ensures kind { outcome (after_header (codes "11 1")) ≡ Err (ReadError.Refused Fault.Kind 2) }
-    ensures heuristic { outcome (after_header (codes "7 0 1 1 1 0")) ≡ Err (ReadError.Refused Fault.Heuristic 2) }
-    ensures edge { outcome (after_header (codes "8 0 1 0")) ≡ Err (ReadError.Refused Fault.Edge 2) }
-    ensures theory { outcome (after_header (codes "9 0 0 1")) ≡ Err (ReadError.Refused Fault.Theory 2) }
-    ensures word { outcome (after_header (codes "x")) ≡ Err (ReadError.Refused Fault.Number 2) }
-    ensures short_rule { outcome (after_header (codes "1 0 1")) ≡ Err (ReadError.Refused Fault.Number 2) }
-    ensures atom_0 { outcome (after_header (codes "1 0 1 0 0 0")) ≡ Err (ReadError.Refused Fault.Range 2) }
-    ensures negative_weight { outcome (after_header (codes "1 0 1 1 1 1 1 2 -1")) ≡ Err (ReadError.Refused Fault.Range 2) }
-    ensures plus { outcome (after_header (codes "1 0 1 1 0 1 +2")) ≡ Err (ReadError.Refused Fault.Number 2) }
-    ensures disjunction { outcome (after_header (codes "1 0 2 1 2 x")) ≡ Err (ReadError.Refused Fault.Disjunction 2) }
-    ensures size { outcome (after_header (codes "1 0 0 0 16777217")) ≡ Err (ReadError.Refused Fault.Size 2) }
-    ensures long_text { outcome (after_header (codes "4 1 ab 1 1")) ≡ Err (ReadError.Refused Fault.Text 2) }
-    ensures no_text { outcome (after_header (codes "4 0")) ≡ Err (ReadError.Refused Fault.Text 2) }
-    ensures no_count { outcome (after_header (codes "4 1 a")) ≡ Err (ReadError.Refused Fault.Number 2) }
-    ensures priority { outcome (after_header (codes "2 99999999999 0")) ≡ Err (ReadError.Refused Fault.Range 2) }
-    ensures great_atom { outcome (after_header (codes "1 0 1 2147483648 0 0")) ≡ Err (ReadError.Refused Fault.Range 2) }
-    ensures head_kind { outcome (after_header (codes "1 2 1 1 0 0")) ≡ Err (ReadError.Refused Fault.Range 2) }
-    ensures external { outcome (after_header (codes "5 1 4")) ≡ Err (ReadError.Refused Fault.Range 2) }
-    ensures literal_0 { outcome (after_header (codes "6 1 0")) ≡ Err (ReadError.Refused Fault.Range 2) }
-    ensures extra { outcome (after_header (codes "1 0 1 1 0 0 0")) ≡ Err (ReadError.Refused Fault.ExtraFields 2) }
+    ensures kind { outcome (after_header (codes "11 1")) ≡ refused 2 1 (FaultKind.Statement (Value (pos 11))) }
+    ensures heuristic { outcome (after_header (codes "7 0 1 1 1 0")) ≡ refused 2 2 FaultKind.Heuristic }
+    ensures edge { outcome (after_header (codes "8 0 1 0")) ≡ refused 2 2 FaultKind.Edge }
+    ensures theory { outcome (after_header (codes "9 0 0 1")) ≡ refused 2 2 FaultKind.Theory }
+    ensures word { outcome (after_header (codes "x")) ≡ refused 2 1 (FaultKind.Statement NotNumber) }
+    ensures short_rule { outcome (after_header (codes "1 0 1")) ≡ refused 2 4 (FaultKind.Natural 1 2147483647 NotNumber) }
+    ensures atom_0 { outcome (after_header (codes "1 0 1 0 0 0")) ≡ refused 2 4 (FaultKind.Natural 1 2147483647 (Value (pos 0))) }
+    ensures negative_weight { outcome (after_header (codes "1 0 1 1 1 1 1 2 -1")) ≡ refused 2 9 (FaultKind.Integer (pos 0) (pos 2147483647) (Value (negsuc 0))) }
+    ensures plus { outcome (after_header (codes "1 0 1 1 0 1 +2")) ≡ refused 2 7 (FaultKind.Integer (negsuc 2147483646) (pos 2147483647) NotNumber) }
+    ensures disjunction { outcome (after_header (codes "1 0 2 1 2 x")) ≡ refused 2 3 FaultKind.Disjunction }
+    ensures size { outcome (after_header (codes "1 0 0 0 16777217")) ≡ refused 2 5 FaultKind.Counts }
+    ensures long_text { outcome (after_header (codes "4 1 ab 1 1")) ≡ refused 2 3 FaultKind.Text }
+    ensures no_text { outcome (after_header (codes "4 0")) ≡ refused 2 3 FaultKind.Text }
+    ensures no_count { outcome (after_header (codes "4 1 a")) ≡ refused 2 4 (FaultKind.Natural 0 2147483647 NotNumber) }
+    ensures priority { outcome (after_header (codes "2 99999999999 0")) ≡ refused 2 2 (FaultKind.Integer (negsuc 2147483647) (pos 2147483647) (Value (pos 99999999999))) }
+    ensures great_atom { outcome (after_header (codes "1 0 1 2147483648 0 0")) ≡ refused 2 4 (FaultKind.Natural 1 2147483647 (Value (pos 2147483648))) }
+    ensures head_kind { outcome (after_header (codes "1 2 1 1 0 0")) ≡ refused 2 2 (FaultKind.Natural 0 1 (Value (pos 2))) }
+    ensures external { outcome (after_header (codes "5 1 4")) ≡ refused 2 3 (FaultKind.Natural 0 3 (Value (pos 4))) }
+    ensures literal_0 { outcome (after_header (codes "6 1 0")) ≡ refused 2 3 (FaultKind.Integer (negsuc 2147483646) (pos 2147483647) (Value (pos 0))) }
+    ensures extra { outcome (after_header (codes "1 0 1 1 0 0 0")) ≡ refused 2 7 FaultKind.ExtraFields }
 {}
 
 /// What is accepted.

@@ -10,13 +10,13 @@ ghost use Rattle.asp_read.specs.Gives.{Gives};
 ghost use Rattle.asp_read.specs.Fields.{literals_at, weights_at, most_counted};
 ghost use Rattle.asp_read.specs.Statements.{head_among, head_at, body_at, rule_at, output_at, value_of, external_at, minimize_at, kind_at, statement_with, of_kind, is_too_many, is_number, is_word, is_header, no_tag, header_at};
 
-use crate::error::LineError;
+use crate::error::{LineError, broken};
+use crate::fault::FaultKind;
 use crate::field::{MOST_COUNTED, atom, count, ended, integer, natural, text};
 use crate::known::KnownAtoms;
 use crate::many::{Atoms, Literals, Weights, many};
 use crate::sizes::size_of_head;
 use crate::statement::Statement;
-use asp_model::fault::Fault;
 use asp_model::program::{Body, External, ExternalValue, Head, Minimize, Output, Rule};
 use asp_model::seq::Seq;
 use asp_text::{Num, is_digits, read_int, split_field, split_int};
@@ -82,17 +82,17 @@ fn head<'a>(
     ensures known { IfOk result (λ x. known.new ≡ with_atoms known.old (head_atoms x.0)) }
 {
     let (kind, rest) = natural(line, 0, 1)?;
-    let (m, rest) = natural(rest, 0, i32::MAX as u32)?;
+    let (m, atoms) = natural(rest, 0, i32::MAX as u32)?;
     if kind == 0 && m > 1 {
-        return Err(LineError::Fault(Fault::Disjunction));
+        return Err(broken(FaultKind::Disjunction, rest));
     }
     if used as u64 + m as u64 > MOST_COUNTED as u64 {
-        return Err(LineError::Fault(Fault::Size));
+        return Err(broken(FaultKind::Counts, rest));
     }
     if kind == 0 {
-        return single(m, rest, known);
+        return single(m, atoms, known);
     }
-    choice(alloc, m, rest, known)
+    choice(alloc, m, atoms, known)
 }
 
 fn choice<'a>(
@@ -214,7 +214,7 @@ fn minimize<'a>(
 {
     let (priority, rest) = integer(line, i32::MIN, i32::MAX)?;
     if is_too_many(priority, seen) {
-        return Err(LineError::Fault(Fault::Size));
+        return Err(broken(FaultKind::Priorities, line));
     }
     let (items, rest) = weights(alloc, rest, used, i32::MIN, known)?;
     Ok((Minimize { priority, items }, rest))
@@ -226,9 +226,8 @@ fn kind_of(line: &[u8]) -> Result<(u32, &[u8]), LineError>
 {
     let (number, rest) = split_int(line);
     match number {
-        Num::NotNumber => Err(LineError::Fault(Fault::Number)),
         Num::Value(n) if 0 <= n && n <= 10 => Ok((n as u32, rest)),
-        _ => Err(LineError::Fault(Fault::Kind)),
+        _ => Err(broken(FaultKind::Statement(number), line)),
     }
 }
 
@@ -262,7 +261,7 @@ fn of_kind(
             ended(rest)?;
             Ok(Statement::Minimize(minimize))
         }
-        3 => Err(LineError::Fault(Fault::Projection)),
+        3 => Err(broken(FaultKind::Projection, line)),
         4 => {
             let (output, rest) = output(alloc, line, used, known)?;
             ended(rest)?;
@@ -278,9 +277,9 @@ fn of_kind(
             ended(rest)?;
             Ok(Statement::Assume(literals))
         }
-        7 => Err(LineError::Fault(Fault::Heuristic)),
-        8 => Err(LineError::Fault(Fault::Edge)),
-        9 => Err(LineError::Fault(Fault::Theory)),
+        7 => Err(broken(FaultKind::Heuristic, line)),
+        8 => Err(broken(FaultKind::Edge, line)),
+        9 => Err(broken(FaultKind::Theory, line)),
         _ => Ok(Statement::Comment),
     }
 }
@@ -324,16 +323,18 @@ fn is_header(name: &[u8], version: &[u8], minor: &[u8], revision: &[u8]) -> bool
     is_word(name, b"asp") && is_number(version, 1) && is_number(minor, 0) && is_digits(revision)
 }
 
-fn no_tag(tag: &[u8]) -> Result<(), LineError>
-    ensures { Gives (λ u. u) result (no_tag tag.now) }
+// No field behind the revision.
+fn no_tag(line: &[u8]) -> Result<(), LineError>
+    ensures { Gives (λ u. u) result (no_tag line.now) }
 {
+    let (tag, _) = split_field(line);
     if tag.is_empty() {
         return Ok(());
     }
     if is_word(tag, b"incremental") {
-        return Err(LineError::Fault(Fault::Incremental));
+        return Err(broken(FaultKind::Incremental, line));
     }
-    Err(LineError::Fault(Fault::Tag))
+    Err(broken(FaultKind::Tag, line))
 }
 
 /// The header `asp 1 0` with any revision.
@@ -346,8 +347,7 @@ pub fn header(line: &[u8]) -> Result<(), LineError>
     let (minor, rest) = split_field(rest);
     let (revision, rest) = split_field(rest);
     if !is_header(name, version, minor, revision) {
-        return Err(LineError::Fault(Fault::Header));
+        return Err(broken(FaultKind::Header, line));
     }
-    let (tag, _) = split_field(rest);
-    no_tag(tag)
+    no_tag(rest)
 }

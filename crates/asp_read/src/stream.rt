@@ -9,10 +9,10 @@ ghost use Rattle.asp_model.specs.Sound.{IsSound};
 ghost use Rattle.asp_read.specs.Seen.{nothing_seen};
 ghost use Rattle.asp_read.specs.Stream.{ReadGives, Becomes, FailsAs, IsOfLines, ReadsText, Answers, StopsAt, outcome_on};
 
-use crate::error::LineError;
+use crate::error::{LineError, told};
+use crate::fault::ReadError;
 use crate::reader::Reader;
 use asp_io::{Failed, Source};
-use asp_model::fault::ReadError;
 use asp_model::program::Program;
 use asp_text::Lines;
 use std::alloc::Global;
@@ -25,7 +25,7 @@ fn judge_numbered(reader: &mut Reader, number: u32, line: &[u8]) -> Result<(), R
     match reader.judge(line) {
         Ok(()) => Ok(()),
         Err(LineError::Memory) => Err(ReadError::Memory),
-        Err(LineError::Fault(fault)) => Err(ReadError::Refused(fault, number)),
+        Err(LineError::Fault(broken)) => Err(ReadError::Refused(told(line, broken), number)),
     }
 }
 

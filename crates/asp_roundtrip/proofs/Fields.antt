@@ -50,22 +50,22 @@ first_field word rest lt h e =
 -- a number that passes the test of its range
 pub record IsInteger (low high z : ℤ) : Type 0 where
   pub short : IsShort z
-  pub passes : integer_in low high (Some z) ≡ Ok z
+  pub passes : (line : List ℕ) → integer_in low high line (Some z) ≡ Ok z
 
 pub integer_back : (low high z : ℤ) (rest : List ℕ) → IsInteger low high z → ends_field rest ≡ true → integer_at low high (integer_field z ++ rest) ≡ Ok (z, rest)
 integer_back low high z rest within e =
     let s = spells_integer z within.short in
     let f = field (signed_decimal z) rest s.some s.bytes e in
-    rw (f.first, f.rest_is, s.value, within.passes) refl
+    rw (f.first, f.rest_is, s.value, within.passes (integer_field z ++ rest)) refl
 
-natural_passes : (low high n : ℕ) → low ≤ n → n ≤ high → natural_in low high (Some (pos n)) ≡ Ok n
-natural_passes low high n l h = grind (arith, nat_tests)
+natural_passes : (low high n : ℕ) (line : List ℕ) → low ≤ n → n ≤ high → natural_in low high line (Some (pos n)) ≡ Ok n
+natural_passes low high n line l h = grind (arith, nat_tests)
 
 pub natural_back : (low high n : ℕ) (rest : List ℕ) → low ≤ n → n ≤ high → high < 2 ^ 32 → ends_field rest ≡ true → natural_at low high (natural_field n ++ rest) ≡ Ok (n, rest)
 natural_back low high n rest l h few e =
     let s = spells_integer (pos n) (omega arith) in
     let f = field (signed_decimal (pos n)) rest s.some s.bytes e in
-    rw (f.first, f.rest_is, s.value, natural_passes low high n l h) refl
+    rw (f.first, f.rest_is, s.value, natural_passes low high n (natural_field n ++ rest) l h) refl
 
 -- one digit
 pub digit_back : (high d : ℕ) (rest : List ℕ) → d < 10 → d ≤ high → high < 2 ^ 32 → ends_field rest ≡ true → natural_at 0 high (32 ∷ (48 + d) ∷ rest) ≡ Ok (d, rest)

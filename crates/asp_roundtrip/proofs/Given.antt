@@ -7,7 +7,7 @@ use Rattle.std.proofs.lemmas.Int.{ints}
 use Rattle.asp_text.specs.Fields.{field_of, after_field, integer_of}
 use Rattle.asp_model.specs.Sets.{Atoms, with_atom, with_atoms}
 use Rattle.asp_model.specs.Holding.{atom_of}
-use Rattle.asp_read.specs.Fields.{◌>>=◌, Reads, natural_in, integer_in, natural_at, integer_at, count_at, room_for, atom_at, literal_at, weighted_at, weighted_atom, many_at, literals_at, weights_at, is_zero, most, most_counted}
+use Rattle.asp_read.specs.Fields.{◌>>=◌, Reads, natural_in, integer_in, natural_at, integer_at, count_at, is_one_too_many, room_for, atom_at, literal_at, weighted_at, weighted_atom, many_at, literals_at, weights_at, is_zero, most, most_counted}
 use Rattle.asp_roundtrip.specs.Readable.{IsBetween, IsAtom, IsLiteral, IsWeighted}
 use Rattle.asp_roundtrip.proofs.Room.{IsRoomy, roomy_more}
 
@@ -37,27 +37,27 @@ given_after read P Q g h = record { each = λ x e. h x (g.each x e) }
 
 -- ---- numbers
 
-natural_in_given : (low high : ℕ) (o : Option ℤ) → Given (natural_in low high o) (λ n. (low ≤ n) × (n ≤ high))
-natural_in_given low high None = given_none _ _
-natural_in_given low high (Some (pos n)) = given_if _ _ _ _
+natural_in_given : (low high : ℕ) (line : List ℕ) (o : Option ℤ) → Given (natural_in low high line o) (λ n. (low ≤ n) × (n ≤ high))
+natural_in_given low high line None = given_none _ _
+natural_in_given low high line (Some (pos n)) = given_if _ _ _ _
     (λ t. let parts = and_parts (leb low n) (leb n high) t in given n _ (leb-true low n parts.0, leb-true n high parts.1))
     (λ f. given_none _ _)
-natural_in_given low high (Some (negsuc n)) = given_none _ _
+natural_in_given low high line (Some (negsuc n)) = given_none _ _
 
 pub natural_given : (low high : ℕ) (line : List ℕ) → Given (natural_at low high line) (λ x. (low ≤ x.0) × (x.0 ≤ high) × (x.1 ≡ after_field line))
-natural_given low high line = given_then _ _ _ _ (natural_in_given low high (integer_of (field_of line))) (λ n within. given _ _ (within.0, within.1, refl))
+natural_given low high line = given_then _ _ _ _ (natural_in_given low high line (integer_of (field_of line))) (λ n within. given _ _ (within.0, within.1, refl))
 
 not_below : (low z : ℤ) → int_lt z low ≡ false → low ≤ℤ z
 not_below low z e = grind (arith, ints)
 
-pub integer_in_given : (low high : ℤ) (o : Option ℤ) → Given (integer_in low high o) (IsBetween low high)
-integer_in_given low high None = given_none _ _
-integer_in_given low high (Some z) = given_if _ _ _ _
+pub integer_in_given : (low high : ℤ) (line : List ℕ) (o : Option ℤ) → Given (integer_in low high line o) (IsBetween low high)
+integer_in_given low high line None = given_none _ _
+integer_in_given low high line (Some z) = given_if _ _ _ _
     (λ t. given_none _ _)
     (λ f. let parts = or_parts (int_lt z low) (int_lt high z) f in given z _ (not_below low z parts.0, not_below z high parts.1))
 
 pub integer_given : (low high : ℤ) (line : List ℕ) → Given (integer_at low high line) (λ x. IsBetween low high x.0)
-integer_given low high line = given_then _ _ _ _ (integer_in_given low high (integer_of (field_of line))) (λ z within. given _ _ within)
+integer_given low high line = given_then _ _ _ _ (integer_in_given low high line (integer_of (field_of line))) (λ z within. given _ _ within)
 
 pub count_given : (used : ℕ) (line : List ℕ) → Given (count_at used line) (λ x. used + x.0 ≤ most_counted)
 unfolding count_at
@@ -67,11 +67,14 @@ count_given used line = given_then _ _ _ _ (natural_given 0 most line) (λ n _. 
 
 -- there was room for the atom
 abbrev pub HasRoom : Atoms → ℕ → Type 0
-HasRoom known a = room_for known a ≡ Ok tt
+HasRoom known a = is_one_too_many known a ≡ false
+
+room_given : (known : Atoms) (a : ℕ) (line : List ℕ) → Given (room_for known a line) (λ _. HasRoom known a)
+room_given known a line = given_if (is_one_too_many known a) _ _ _ (λ t. given_none _ _) (λ f. given tt _ f)
 
 pub atom_given : (known : Atoms) (line : List ℕ) → Given (atom_at known line) (λ x. IsAtom x.0 × HasRoom known x.0)
 unfolding atom_at
-atom_given known line = given_then _ _ _ _ (natural_given 1 most line) (λ a within. given_then _ _ _ _ (given_itself (room_for known a.0)) (λ _ room. given _ _ ((within.0, within.1), room)))
+atom_given known line = given_then _ _ _ _ (natural_given 1 most line) (λ a within. given_then _ _ _ _ (room_given known a.0 line) (λ _ room. given _ _ ((within.0, within.1), room)))
 
 literal_from : (z : ℤ) → IsBetween (neg_ℤ (pos most)) (pos most) z → is_zero z ≡ false → IsLiteral z
 literal_from (pos n) within e = (omega (arith, eqb-false n 0 e), leb→le n most within.1.le)
@@ -80,7 +83,7 @@ literal_from (negsuc n) within e = (omega arith, omega (arith, leb→le n (most 
 pub literal_given : (known : Atoms) (line : List ℕ) → Given (literal_at known line) (λ x. IsLiteral x.0 × HasRoom known (atom_of x.0))
 unfolding literal_at
 literal_given known line = given_then _ _ _ _ (integer_given (neg_ℤ (pos most)) (pos most) line) (λ l within. given_if _ _ _ _ (λ t. given_none _ _)
-    (λ f. given_then _ _ _ _ (given_itself (room_for known (atom_of l.0))) (λ _ room. given _ _ (literal_from l.0 within f, room))))
+    (λ f. given_then _ _ _ _ (room_given known (atom_of l.0) line) (λ _ room. given _ _ (literal_from l.0 within f, room))))
 
 pub weighted_given : (low : ℤ) (known : Atoms) (line : List ℕ) → Given (weighted_at low known line) (λ x. IsWeighted low x.0 × HasRoom known (weighted_atom x.0))
 unfolding weighted_at

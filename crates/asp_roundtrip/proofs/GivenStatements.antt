@@ -166,6 +166,6 @@ of_kind_given kind used seen known line few one roomy =
 pub statement_given : (used : ℕ) (seen : List ℤ) (known : Atoms) (line : List ℕ) → used ≤ most_counted → IsOneLine line → IsRoomy known → Given (statement_with used seen known line) (StatementGiven used seen known)
 unfolding statement_with
 statement_given used seen known line few one roomy =
-    given_then _ _ _ _ (given_then _ _ (λ _. Unit {0}) (λ x. x.1 ≡ after_field line) (given_after _ _ _ (given_itself (kind_in (integer_of (field_of line)))) (λ _ _. tt)) (λ kind _. given (kind, after_field line) _ refl)) (λ kind rest.
+    given_then _ _ _ _ (given_then _ _ (λ _. Unit {0}) (λ x. x.1 ≡ after_field line) (given_after _ _ _ (given_itself (kind_in line (integer_of (field_of line)))) (λ _ _. tt)) (λ kind _. given (kind, after_field line) _ refl)) (λ kind rest.
     let later : IsOneLine kind.1 = rw rest (one_line_after line one) in
     of_kind_given kind.0 used seen known kind.1 few later roomy)

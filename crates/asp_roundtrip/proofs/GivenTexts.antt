@@ -5,8 +5,10 @@ use Rattle.std.specs.List.{AllByRecursion}
 use Rattle.asp_text.specs.Lines.{is_lf, pieces, onto, without_cr, lines_of, whole}
 use Rattle.asp_text.specs.Fields.{unblank}
 use Rattle.asp_model.specs.Sets.{Atoms}
-use Rattle.asp_model.specs.declared.fault.Fault.{Fault}
-use Rattle.asp_model.specs.declared.fault.ReadError.{ReadError}
+use Rattle.asp_read.specs.declared.fault.Fault.{Fault}
+use Rattle.asp_read.specs.declared.error.FaultAt.{FaultAt}
+use Rattle.asp_read.specs.Places.{told_of}
+use Rattle.asp_read.specs.declared.fault.ReadError.{ReadError}
 use Rattle.asp_model.specs.declared.program.Program.{Program}
 use Rattle.asp_model.proofs.MemberLaws.{each-map, each_weaker}
 use Rattle.asp_read.specs.declared.reader.Stage.{Stage}
@@ -14,7 +16,7 @@ use Rattle.asp_read.specs.declared.reader.Stage.TheVariants.{Start, Within, Ende
 use Rattle.asp_read.specs.Sizes.{program_size}
 use Rattle.asp_read.specs.Statements.{header_at, priorities}
 use Rattle.asp_read.specs.Seen.{Seen, nothing_seen}
-use Rattle.asp_read.specs.Outcome.{judge, judge_filled, judge_next, judge_all, at_end, outcome_from, outcome, most_bytes}
+use Rattle.asp_read.specs.Outcome.{judge, judge_line, judge_filled, judge_next, judge_all, at_end, outcome_from, outcome, most_bytes}
 use Rattle.asp_roundtrip.specs.Readable.{IsReadable}
 use Rattle.asp_roundtrip.proofs.Bytes.{IsOneLine, each-take}
 use Rattle.asp_roundtrip.proofs.Given.{Given, given, given_none, given_then, given_if, given_after, given_itself}
@@ -54,8 +56,13 @@ filled_given Within p known line one kept =
     given_then _ _ _ _ (statement_given (program_size p) (priorities p) known line kept.few_counted one kept.roomy) (λ s new. given _ _ (keeps known p s kept new))
 filled_given Ended p known line one kept = given_none _ _
 
+-- a line that was read is the same with its faults told
+pub given_told : {A : Type 0} (line : List ℕ) (read : Result A FaultAt) (P : A → Type 0) → Given read P → Given (told_of line read) P
+given_told line (Ok x) P g = given x P (g.each x refl)
+given_told line (Err b) P g = given_none _ _
+
 pub judge_given : (seen : Seen) (line : List ℕ) → IsOneLine line → IsGood seen → Given (judge seen line) IsGood
-judge_given seen line one kept = given_if (length (unblank line) == 0) _ _ _ (λ _. given _ _ kept) (λ _. filled_given seen.stage seen.program seen.known line one kept)
+judge_given seen line one kept = given_told line (judge_line seen line) _ (given_if (length (unblank line) == 0) _ _ _ (λ _. given _ _ kept) (λ _. filled_given seen.stage seen.program seen.known line one kept))
 
 next_given : (number : ℕ) (read : Result Seen Fault) (go_on : Seen → Result Seen ReadError) → Given read IsGood → ((s : Seen) → IsGood s → Given (go_on s) IsGood) → Given (judge_next number read go_on) IsGood
 next_given number (Ok seen) go_on g h = h seen (g.each seen refl)

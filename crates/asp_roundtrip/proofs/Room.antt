@@ -89,17 +89,17 @@ pub part_all : (U known : Atoms) (atoms : List ℕ) → IsPart U known → HasEa
 part_all U known [] part h = part
 part_all U known (a ∷ atoms) part h = part_all U (with_atom a known) atoms (part_more U known a part h.0) h.1
 
-room_from : (known : Atoms) (a : ℕ) → is_one_too_many known a ≡ false → room_for known a ≡ Ok tt
-room_from known a h = rw h refl
+room_from : (known : Atoms) (a : ℕ) (line : List ℕ) → is_one_too_many known a ≡ false → room_for known a line ≡ Ok tt
+room_from known a line h = rw h refl
 
-pub room_within : (U known : Atoms) (a : ℕ) → IsAscending U → length U ≤ most_atoms → IsPart U known → has U a ≡ true → room_for known a ≡ Ok tt
-room_within U known a up few part h = elim (cases_Bool (has known a)) [
-  | inl there ↦ room_from known a (rw there refl)
+pub room_within : (U known : Atoms) (a : ℕ) (line : List ℕ) → IsAscending U → length U ≤ most_atoms → IsPart U known → has U a ≡ true → room_for known a line ≡ Ok tt
+room_within U known a line up few part h = elim (cases_Bool (has known a)) [
+  | inl there ↦ room_from known a line (rw there refl)
   | inr new ↦
       let more = part_more U known a part h in
       let longer = length-subset U (with_atom a known) up more.ascending more.subset in
       let lt : nat_le most_atoms (length known) ≡ false = grind (arith, nat_tests, length-with_atom a known new, longer, few) in
-      room_from known a (rw (new, lt) refl)
+      room_from known a line (rw (new, lt) refl)
 ]
 
 -- ---- the other way round: where there was room
@@ -109,7 +109,7 @@ pub record IsRoomy (known : Atoms) : Type 0 where
   pub ascending : IsAscending known
   pub few : length known ≤ most_atoms
 
-pub roomy_more : (known : Atoms) (a : ℕ) → IsRoomy known → room_for known a ≡ Ok tt → IsRoomy (with_atom a known)
+pub roomy_more : (known : Atoms) (a : ℕ) → IsRoomy known → is_one_too_many known a ≡ false → IsRoomy (with_atom a known)
 roomy_more known a roomy room = record { ascending = IsAscending-with_atom a known roomy.ascending; few = few (cases_Bool (has known a)) }
   where
     few : (has known a ≡ true) ⊎ (has known a ≡ false) → length (with_atom a known) ≤ most_atoms

@@ -1,5 +1,5 @@
 -- The canonical form of a field is no longer than the field.
-use Rattle.std.proofs.Common.{◌≡◌, ℕ, zero, suc, ◌+◌, ◌-◌, ◌*◌, ◌^◌, ◌<◌, ◌≤◌, true, false, cond, not, eqb, leb, List, [], ◌∷◌, ◌++◌, length, flat_map, take, drop, refl, sym, ap, ◌∙◌, subst, arith, Option, Some, None, Ok, Err, length-append, length-drop, take-append-drop, pow-suc, mul-le-mul_right}
+use Rattle.std.proofs.Common.{◌≡◌, ℕ, zero, suc, ◌+◌, ◌-◌, ◌*◌, ◌^◌, ◌<◌, ◌≤◌, Bool, true, false, cond, not, eqb, leb, List, [], ◌∷◌, ◌++◌, length, flat_map, take, drop, refl, sym, ap, ◌∙◌, subst, arith, Option, Some, None, Ok, Err, length-append, length-drop, take-append-drop, pow-suc, mul-le-mul_right}
 use Rattle.std.specs.Prelude.{ℤ, pos, negsuc, neg_ℤ, if◌then◌else◌, nat_lt, ◌||◌, int_lt, decimal}
 use Rattle.std.specs.Fmt.{signed_decimal}
 use Rattle.std.specs.Char.{is_ascii_digit}
@@ -13,7 +13,7 @@ use Rattle.asp_model.specs.Sets.{Atoms, with_atom}
 use Rattle.asp_model.specs.Holding.{atom_of}
 use Rattle.asp_read.specs.Fields.{Reads, ends_field, natural_in, integer_in, natural_at, integer_at, count_at, room_for, atom_at, literal_at, weighted_at, weighted_atom, many_at, literals_at, weights_at, is_zero, most, most_counted}
 use Rattle.asp_make.specs.Texts.{natural_field, integer_field, weighted_fields, counted_fields}
-use Rattle.asp_model.specs.declared.fault.Fault.TheVariants.{Range}
+use Rattle.asp_read.specs.declared.error.FaultAt.{FaultAt}
 use Rattle.asp_roundtrip.specs.Readable.{IsBetween}
 use Rattle.asp_roundtrip.proofs.Digits.{IsShort, digits_none, spells_integer}
 use Rattle.asp_roundtrip.proofs.Written.{short_from}
@@ -92,13 +92,13 @@ later_shorter line word e some le = record { fits = omega (arith, parts_of line,
 
 -- ---- numbers
 
-natural_in_is : (low high : ℕ) (o : Option ℤ) → Given (natural_in low high o) (λ n. (o ≡ Some (pos n)) × (n ≤ high))
-natural_in_is low high None = given_none _ _
-natural_in_is low high (Some (pos n)) = given_if _ _ _ _ (λ t. given n _ (refl, leb-true n high (and_parts (leb low n) (leb n high) t).1)) (λ f. given_none _ _)
-natural_in_is low high (Some (negsuc n)) = given_none _ _
+natural_in_is : (low high : ℕ) (line : List ℕ) (o : Option ℤ) → Given (natural_in low high line o) (λ n. (o ≡ Some (pos n)) × (n ≤ high))
+natural_in_is low high line None = given_none _ _
+natural_in_is low high line (Some (pos n)) = given_if _ _ _ _ (λ t. given n _ (refl, leb-true n high (and_parts (leb low n) (leb n high) t).1)) (λ f. given_none _ _)
+natural_in_is low high line (Some (negsuc n)) = given_none _ _
 
 pub natural_shorter : (low high : ℕ) (line : List ℕ) → high < 2 ^ 32 → ends_field line ≡ true → Given (natural_at low high line) (λ x. Shorter line (natural_field x.0) x.1)
-natural_shorter low high line few e = given_then _ _ _ _ (natural_in_is low high (integer_of (field_of line))) (λ n is.
+natural_shorter low high line few e = given_then _ _ _ _ (natural_in_is low high line (integer_of (field_of line))) (λ n is.
     let short = integer_shorter (field_of line) (pos n) is.0 (omega (arith, is.1)) in
     let shorter = later_shorter line (decimal n) e (decimal_nonempty n (omega (arith, is.1))) short in
     given _ _ shorter)
@@ -106,27 +106,31 @@ natural_shorter low high line few e = given_then _ _ _ _ (natural_in_is low high
 abbrev some : ℤ → Option ℤ
 some z = Some z
 
-passed : (low high z y : ℤ) → integer_in low high (Some z) ≡ Ok y → z ≡ y
-passed low high z y e = (elim (int_lt z low || int_lt high z) as (λ b. (if b then Err Range else Ok z) ≡ Ok y → z ≡ y) [ true ↦ λ h. absurd cc | false ↦ λ h. cc ]) e
+unless : (b : Bool) (f : FaultAt) (z y : ℤ) → (if b then Err f else Ok z) ≡ Ok y → z ≡ y
+unless true f z y e = absurd cc
+unless false f z y e = cc
 
-integer_in_is : (low high : ℤ) (o : Option ℤ) → Given (integer_in low high o) (λ z. (o ≡ Some z) × IsBetween low high z)
-integer_in_is low high None = given_none _ _
-integer_in_is low high (Some z) = record { each = λ y e. (ap some (passed low high z y e), (integer_in_given low high (Some z)).each y e) }
+passed : (low high : ℤ) (line : List ℕ) (z y : ℤ) → integer_in low high line (Some z) ≡ Ok y → z ≡ y
+passed low high line z y e = unless (int_lt z low || int_lt high z) _ z y e
+
+integer_in_is : (low high : ℤ) (line : List ℕ) (o : Option ℤ) → Given (integer_in low high line o) (λ z. (o ≡ Some z) × IsBetween low high z)
+integer_in_is low high line None = given_none _ _
+integer_in_is low high line (Some z) = record { each = λ y e. (ap some (passed low high line z y e), (integer_in_given low high line (Some z)).each y e) }
 
 pub integer_shorter_at : (low : ℤ) (line : List ℕ) → IsShort low → ends_field line ≡ true → Given (integer_at low (pos most) line) (λ x. Shorter line (integer_field x.0) x.1)
-integer_shorter_at low line few e = given_then _ _ _ _ (integer_in_is low (pos most) (integer_of (field_of line))) (λ z is.
+integer_shorter_at low line few e = given_then _ _ _ _ (integer_in_is low (pos most) line (integer_of (field_of line))) (λ z is.
     let short = short_from low z few is.1 in
     let shorter = later_shorter line (signed_decimal z) e (spells_integer z short).some (integer_shorter (field_of line) z is.0 short) in
     given _ _ shorter)
 
 pub atom_shorter : (known : Atoms) (line : List ℕ) → ends_field line ≡ true → Given (atom_at known line) (λ x. Shorter line (natural_field x.0) x.1)
 unfolding atom_at
-atom_shorter known line e = given_then _ _ _ _ (natural_shorter 1 most line (omega arith) e) (λ a shorter. given_then _ _ _ _ (given_itself (room_for known a.0)) (λ _ _. given _ _ shorter))
+atom_shorter known line e = given_then _ _ _ _ (natural_shorter 1 most line (omega arith) e) (λ a shorter. given_then _ _ _ _ (given_itself (room_for known a.0 line)) (λ _ _. given _ _ shorter))
 
 pub literal_shorter : (known : Atoms) (line : List ℕ) → ends_field line ≡ true → Given (literal_at known line) (λ x. Shorter line (integer_field x.0) x.1)
 unfolding literal_at
 literal_shorter known line e = given_then _ _ _ _ (integer_shorter_at (neg_ℤ (pos most)) line (omega arith) e) (λ l shorter. given_if (is_zero l.0) _ _ _ (λ t. given_none _ _)
-    (λ f. given_then _ _ _ _ (given_itself (room_for known (atom_of l.0))) (λ _ _. given _ _ shorter)))
+    (λ f. given_then _ _ _ _ (given_itself (room_for known (atom_of l.0) line)) (λ _ _. given _ _ shorter)))
 
 pub shorter_both : (line first between second after : List ℕ) → Shorter line first between → Shorter between second after → Shorter line (first ++ second) after
 shorter_both line first between second after a b = record { fits = omega (arith, a.fits, b.fits, length-append first second); next = b.next }

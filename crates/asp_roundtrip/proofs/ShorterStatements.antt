@@ -162,13 +162,13 @@ of_kind_shorter kind used seen known line e =
     given_if (kind == 8) _ _ _ (λ _. given_none _ _) (λ _.
     given_if (kind == 9) _ _ _ (λ _. given_none _ _) (λ _. given say.Comment _ (omega arith)))))))))))
 
-some_word : (word : List ℕ) (k : ℕ) → kind_in (integer_of word) ≡ Ok k → 0 < length word
-some_word [] k e = absurd cc
-some_word (b ∷ word) k e = omega arith
+some_word : (word line : List ℕ) (k : ℕ) → kind_in line (integer_of word) ≡ Ok k → 0 < length word
+some_word [] line k e = absurd cc
+some_word (b ∷ word) line k e = omega arith
 
 kind_shorter : (line : List ℕ) → Given (kind_at line) (λ x. Shorter line (48 ∷ []) x.1)
-kind_shorter line = given_then _ _ _ _ (given_itself (kind_in (integer_of (field_of line)))) (λ kind is.
-    let shorter = first_shorter line (48 ∷ []) (some_word (field_of line) kind is) in
+kind_shorter line = given_then _ _ _ _ (given_itself (kind_in line (integer_of (field_of line)))) (λ kind is.
+    let shorter = first_shorter line (48 ∷ []) (some_word (field_of line) line kind is) in
     given _ _ shorter)
 
 pub statement_shorter : (used : ℕ) (seen : List ℤ) (known : Atoms) (line : List ℕ) → Given (statement_with used seen known line) (λ s. line_length s ≤ length line)
@@ -221,5 +221,5 @@ header_long line t =
 pub header_shorter : (line : List ℕ) → Given (header_at line) (λ _. 9 ≤ length line)
 unfolding header_at
 header_shorter line = given_if (is_header (field_of line) (field_of (after_field line)) (field_of (after_field (after_field line))) (field_of (after_field (after_field (after_field line))))) _ _ _
-    (λ t. given_after _ (λ _. Unit {0}) _ (given_after _ _ _ (given_itself (no_tag (field_of (after_field (after_field (after_field (after_field line))))))) (λ _ _. tt)) (λ _ _. header_long line t))
+    (λ t. given_after _ (λ _. Unit {0}) _ (given_after _ _ _ (given_itself (no_tag (after_field (after_field (after_field (after_field line)))))) (λ _ _. tt)) (λ _ _. header_long line t))
     (λ _. given_none _ _)

@@ -5,8 +5,8 @@ use native.Mathlib.Nat.{pow-le-pow_right}
 use Rattle.std.proofs.lemmas.List.Concat.{flat_map-append}
 use Rattle.asp_text.specs.Lines.{is_lf, pieces, onto, without_cr, lines_of, whole}
 use Rattle.asp_text.specs.Fields.{unblank}
-use Rattle.asp_model.specs.declared.fault.Fault.{Fault}
-use Rattle.asp_model.specs.declared.fault.ReadError.{ReadError}
+use Rattle.asp_read.specs.declared.fault.Fault.{Fault}
+use Rattle.asp_read.specs.declared.fault.ReadError.{ReadError}
 use Rattle.asp_model.specs.declared.program.Program.{Program}
 use Rattle.asp_read.specs.declared.statement.Statement.{Statement}
 use Rattle.asp_read.specs.declared.statement.Statement.TheVariants as say
@@ -14,7 +14,7 @@ use Rattle.asp_read.specs.declared.reader.Stage.{Stage}
 use Rattle.asp_read.specs.declared.reader.Stage.TheVariants.{Start, Within, Ended}
 use Rattle.asp_read.specs.Fields.{most_counted}
 use Rattle.asp_read.specs.Seen.{Seen, nothing_seen}
-use Rattle.asp_read.specs.Outcome.{adds, stage_after, judge, judge_filled, judge_next, judge_all, at_end, outcome_from, outcome, most_bytes}
+use Rattle.asp_read.specs.Outcome.{adds, stage_after, judge, judge_line, judge_filled, judge_next, judge_all, at_end, outcome_from, outcome, most_bytes}
 use Rattle.asp_make.specs.Texts.{natural_field, integer_field, line, lines, rule_text, minimize_text, output_text, external_text, assumptions_text, assumptions_line, text_of}
 use Rattle.asp_roundtrip.proofs.Given.{Given, given, given_none, given_then, given_if, given_after, given_itself}
 use Rattle.std.proofs.lemmas.Fmt.{length-decimal-le}
@@ -22,7 +22,7 @@ use Rattle.asp_roundtrip.proofs.Digits.{spells}
 use Rattle.asp_roundtrip.proofs.Shorter.{digits_below}
 use Rattle.asp_roundtrip.proofs.GivenStatements.{statement_given}
 use Rattle.asp_roundtrip.proofs.Growing.{IsKept, nothing_kept, keeps}
-use Rattle.asp_roundtrip.proofs.GivenTexts.{IsGood, judge_given, lines_are_lines}
+use Rattle.asp_roundtrip.proofs.GivenTexts.{IsGood, given_told, judge_given, lines_are_lines}
 use Rattle.asp_roundtrip.proofs.Bytes.{IsOneLine}
 use Rattle.asp_model.specs.Sets.{Atoms}
 use Rattle.asp_read.specs.Sizes.{program_size}
@@ -144,7 +144,7 @@ filled_shorter Ended p known l one kept = given_none _ _
 
 judge_shorter : (seen : Seen) (l : List ℕ) → IsOneLine l → IsGood seen → Given (judge seen l) (λ s. IsGood s × (written_of s ≤ written_of seen + suc (length l)))
 judge_shorter seen l one kept = given_both _ _ _ (judge_given seen l one kept)
-    (given_if (length (unblank l) == 0) _ _ _ (λ _. given _ _ (omega arith)) (λ _. filled_shorter seen.stage seen.program seen.known l one kept))
+    (given_told l (judge_line seen l) _ (given_if (length (unblank l) == 0) _ _ _ (λ _. given _ _ (omega arith)) (λ _. filled_shorter seen.stage seen.program seen.known l one kept)))
 
 next_shorter : (number : ℕ) (read : Result Seen Fault) (go_on : Seen → Result Seen ReadError) (P Q : Seen → Type 0) → Given read P → ((s : Seen) → P s → Given (go_on s) Q) → Given (judge_next number read go_on) Q
 next_shorter number (Ok seen) go_on P Q g h = h seen (g.each seen refl)

@@ -26,7 +26,7 @@ not_under a b le = grind (arith, ints)
 pub integer_within : (low z : ℤ) → IsShort low → IsBetween low (pos most) z → IsInteger low (pos most) z
 integer_within low z short within =
     let inside = or_from (int_lt z low) (int_lt (pos most) z) (not_under low z within.0) (not_under z (pos most) within.1) in
-    record { short = short_from low z short within; passes = rw inside refl }
+    record { short = short_from low z short within; passes = λ line. rw inside refl }
 
 pub literal_within : (l : ℤ) → IsLiteral l → IsBetween (neg_ℤ (pos most)) (pos most) l
 literal_within (pos n) is = (record { le = tt }, record { le = le→leb n most is.1 })
@@ -39,18 +39,18 @@ literal_not_zero (negsuc n) is = refl
 -- ---- what is read again
 
 module _ (U : Atoms) (roomy : IsRoomy U) where
-  room : (known : Atoms) (a : ℕ) → IsPart U known → has U a ≡ true → room_for known a ≡ Ok tt
-  room known a part there = room_within U known a roomy.ascending roomy.few part there
+  room : (known : Atoms) (a : ℕ) (line : List ℕ) → IsPart U known → has U a ≡ true → room_for known a line ≡ Ok tt
+  room known a line part there = room_within U known a line roomy.ascending roomy.few part there
 
   pub atom_back : (known : Atoms) (a : ℕ) (rest : List ℕ) → IsAtom a → IsPart U known → has U a ≡ true → ends_field rest ≡ true → atom_at known (natural_field a ++ rest) ≡ Ok (a, rest)
   unfolding atom_at
-  atom_back known a rest is part there e = rw (natural_back 1 most a rest is.0 is.1 (omega arith) e, room known a part there) refl
+  atom_back known a rest is part there e = rw (natural_back 1 most a rest is.0 is.1 (omega arith) e, room known a (natural_field a ++ rest) part there) refl
 
   pub literal_back : (known : Atoms) (l : ℤ) (rest : List ℕ) → IsLiteral l → IsPart U known → has U (atom_of l) ≡ true → ends_field rest ≡ true → literal_at known (integer_field l ++ rest) ≡ Ok (l, rest)
   unfolding literal_at
   literal_back known l rest is part there e =
       let within = integer_within (neg_ℤ (pos most)) l (omega arith) (literal_within l is) in
-      rw (integer_back (neg_ℤ (pos most)) (pos most) l rest within e, literal_not_zero l is, room known (atom_of l) part there) refl
+      rw (integer_back (neg_ℤ (pos most)) (pos most) l rest within e, literal_not_zero l is, room known (atom_of l) (integer_field l ++ rest) part there) refl
 
   pub weighted_back : (low : ℤ) → IsShort low → (known : Atoms) (item : ℤ × ℤ) (rest : List ℕ) → IsWeighted low item → IsPart U known → has U (weighted_atom item) ≡ true → ends_field rest ≡ true → weighted_at low known (weighted_fields item ++ rest) ≡ Ok (item, rest)
   unfolding weighted_at

@@ -87,10 +87,10 @@ head_begins (Choice atoms) rest = refl
 head_begins Never rest = refl
 
 -- a kind of one digit
-kind_back : (b k : ℕ) (rest : List ℕ) → 32 < b → kind_in (integer_of (b ∷ [])) ≡ Ok k → ends_field rest ≡ true → kind_at (b ∷ rest) ≡ Ok (k, rest)
+kind_back : (b k : ℕ) (rest : List ℕ) → 32 < b → ((line : List ℕ) → kind_in line (integer_of (b ∷ [])) ≡ Ok k) → ends_field rest ≡ true → kind_at (b ∷ rest) ≡ Ok (k, rest)
 kind_back b k rest lt is e =
     let f = first_field (b ∷ []) rest (omega arith) (lt, tt) e in
-    rw (f.first, f.rest_is, is) refl
+    rw (f.first, f.rest_is, is (b ∷ rest)) refl
 
 module _ (U : Atoms) (roomy : IsRoomy U) where
   head_back : (used : ℕ) (known : Atoms) (head : Head) (rest : List ℕ) → IsHead head → used + head_size head ≤ most_counted → IsPart U known → HasEach U (head_atoms head) → ends_field rest ≡ true → head_at used known (head_fields head ++ rest) ≡ Ok (head, rest)
@@ -169,7 +169,7 @@ module _ (U : Atoms) (roomy : IsRoomy U) where
   unfolding statement_with of_kind
   statement_back used seen known say.End is few again part there = refl
   statement_back used seen known (say.Rule r) is few again part there =
-      let kind = kind_back 49 1 (head_fields r.head ++ body_fields r.body) (omega arith) refl (head_begins r.head (body_fields r.body)) in
+      let kind = kind_back 49 1 (head_fields r.head ++ body_fields r.body) (omega arith) (λ line. refl) (head_begins r.head (body_fields r.body)) in
       let read = without_end (rule_at used known) (head_fields r.head ++ body_fields r.body) r (rule_back used known r [] is few part there refl) in
       rw (kind, read) refl
   statement_back used seen known (say.Minimize m) is few again part there =

@@ -1,8 +1,8 @@
 //! Texts that are read or refused. Want of memory ends a test.
 use asp_io::{MemSource, RepeatSource, Source};
 use asp_model::program::{Body, Head, Program, Rule};
-use asp_read::{Fault, ReadError, read_program};
-use asp_text::push_dec;
+use asp_read::{Fault, FaultKind, ReadError, read_program};
+use asp_text::{Num, push_dec};
 use std::alloc::Global;
 use std::process::Abort;
 
@@ -52,106 +52,154 @@ fn between(rt: &impl Abort, alloc: Global, line: &[u8]) -> Vec<u8> {
     text
 }
 
-// Each of these lines is refused for this fault where it stands.
-fn lines_refused(rt: &impl Abort, alloc: Global, fault: Fault, lines: &[&[u8]]) {
-    for line in lines {
+// A literal is missing: this stands in its place.
+fn literal(found: Num) -> FaultKind {
+    FaultKind::Integer(-2_147_483_647, 2_147_483_647, found)
+}
+
+fn weight(found: Num) -> FaultKind {
+    FaultKind::Integer(0, 2_147_483_647, found)
+}
+
+// A bound, a priority or a weight of a minimize statement.
+fn number(found: Num) -> FaultKind {
+    FaultKind::Integer(-2_147_483_648, 2_147_483_647, found)
+}
+
+fn count(found: Num) -> FaultKind {
+    FaultKind::Natural(0, 2_147_483_647, found)
+}
+
+fn atom(found: Num) -> FaultKind {
+    FaultKind::Natural(1, 2_147_483_647, found)
+}
+
+fn kind(found: Num) -> FaultKind {
+    FaultKind::Natural(0, 1, found)
+}
+
+fn length(found: Num) -> FaultKind {
+    FaultKind::Natural(0, 268_435_456, found)
+}
+
+// The fault of the line behind it, at this field.
+type Row<'a> = (FaultKind, usize, &'a [u8]);
+
+// Each of these lines is refused for its fault where it stands.
+fn lines_refused(rt: &impl Abort, alloc: Global, rows: &[Row<'_>]) {
+    for row in rows {
+        let (kind, field, line) = *row;
         let text = between(rt, alloc, line);
+        let fault = Fault { kind, field };
         gives(rt, alloc, &text, Some(ReadError::Refused(fault, 2)));
     }
 }
 
 #[test]
 fn lines_are_refused_for_their_kind(rt: HostRuntime) {
-    let alloc = rt.alloc();
-    lines_refused(
-        &rt,
-        alloc,
-        Fault::Kind,
-        &[b"11 1", b"-1", b"99999999999999999999"],
-    );
-    lines_refused(
-        &rt,
-        alloc,
-        Fault::Disjunction,
-        &[b"1 0 2 1 2 x", b"1 0 2 1 2 0 0"],
-    );
-    lines_refused(&rt, alloc, Fault::Projection, &[b"3", b"3 1 1"]);
-    lines_refused(&rt, alloc, Fault::Heuristic, &[b"7 0 1 1 1 0"]);
-    lines_refused(&rt, alloc, Fault::Edge, &[b"8 0 1 0"]);
-    lines_refused(&rt, alloc, Fault::Theory, &[b"9 0 0 1"]);
+    let rows: [Row<'_>; 13] = [
+        (FaultKind::Statement(Num::Value(11)), 1, b"11 1"),
+        (FaultKind::Statement(Num::Value(-1)), 1, b"-1"),
+        (FaultKind::Statement(Num::Big), 1, b"99999999999999999999"),
+        (FaultKind::Statement(Num::NotNumber), 1, b"x"),
+        (FaultKind::Statement(Num::NotNumber), 1, b"+2"),
+        (FaultKind::Statement(Num::NotNumber), 1, b"\xef\xbb\xbf0"),
+        (FaultKind::Disjunction, 3, b"1 0 2 1 2 x"),
+        (FaultKind::Disjunction, 3, b"1 0 2 1 2 0 0"),
+        (FaultKind::Projection, 2, b"3"),
+        (FaultKind::Projection, 2, b"3 1 1"),
+        (FaultKind::Heuristic, 2, b"7 0 1 1 1 0"),
+        (FaultKind::Edge, 2, b"8 0 1 0"),
+        (FaultKind::Theory, 2, b"9 0 0 1"),
+    ];
+    lines_refused(&rt, rt.alloc(), &rows);
 }
 
 #[test]
 fn lines_are_refused_for_their_fields(rt: HostRuntime) {
-    let alloc = rt.alloc();
-    let numbers: [&[u8]; 15] = [
-        b"x",
-        b"+2",
-        b"\xef\xbb\xbf0",
-        b"1 0 1",
-        b"1 0 1 1 0 1 +2",
-        b"1 1 2 1",
-        b"1 0 0",
-        b"1 0 0 1 0",
-        b"1 0 0 1 1 1 2",
-        b"1 0 1 1 0 1 -",
-        b"2 0 2 1 1",
-        b"4 1 a",
-        b"4 1a 0",
-        b"5 1",
-        b"1 0 1 1\n0 0",
+    let missing = Num::NotNumber;
+    let numbers: [Row<'_>; 12] = [
+        (atom(missing), 4, b"1 0 1"),
+        (literal(missing), 7, b"1 0 1 1 0 1 +2"),
+        (atom(missing), 5, b"1 1 2 1"),
+        (kind(missing), 4, b"1 0 0"),
+        (count(missing), 6, b"1 0 0 1 0"),
+        (weight(missing), 8, b"1 0 0 1 1 1 2"),
+        (literal(missing), 7, b"1 0 1 1 0 1 -"),
+        (literal(missing), 6, b"2 0 2 1 1"),
+        (count(missing), 4, b"4 1 a"),
+        (length(missing), 2, b"4 1a 0"),
+        (FaultKind::Natural(0, 3, missing), 3, b"5 1"),
+        (kind(missing), 5, b"1 0 1 1\n0 0"),
     ];
-    lines_refused(&rt, alloc, Fault::Number, &numbers);
-    let extra: [&[u8]; 5] = [
-        b"1 0 1 1 0 0 0",
-        b"1 0 1 1 0 0 1 0 1 2 0 0",
-        b"0 0",
-        b"4 1 a 0 0",
-        b"5 1 2 2",
+    lines_refused(&rt, rt.alloc(), &numbers);
+    let extra: [Row<'_>; 5] = [
+        (FaultKind::ExtraFields, 7, b"1 0 1 1 0 0 0"),
+        (FaultKind::ExtraFields, 7, b"1 0 1 1 0 0 1 0 1 2 0 0"),
+        (FaultKind::ExtraFields, 2, b"0 0"),
+        (FaultKind::ExtraFields, 5, b"4 1 a 0 0"),
+        (FaultKind::ExtraFields, 4, b"5 1 2 2"),
     ];
-    lines_refused(&rt, alloc, Fault::ExtraFields, &extra);
+    lines_refused(&rt, rt.alloc(), &extra);
 }
 
 #[test]
 fn lines_are_refused_for_what_they_say(rt: HostRuntime) {
-    let alloc = rt.alloc();
-    let ranges: [&[u8]; 16] = [
-        b"1 0 1 0 0 0",
-        b"1 0 1 2147483648 0 0",
-        b"1 0 1 1 1 1 1 2 -1",
-        b"1 2 1 1 0 0",
-        b"1 0 -1",
-        b"1 0 0 2",
-        b"1 0 0 1 2147483648 0",
-        b"1 0 0 1 1 1 2 2147483648",
-        b"1 0 0 0 1 -2147483648",
-        b"2 99999999999 0",
-        b"2 0 1 1 -2147483649",
-        b"4 -1",
-        b"4 1 a 1 0",
-        b"5 1 4",
-        b"6 1 0",
-        b"6 -1",
+    let ranges: [Row<'_>; 16] = [
+        (atom(Num::Value(0)), 4, b"1 0 1 0 0 0"),
+        (atom(Num::Value(2_147_483_648)), 4, b"1 0 1 2147483648 0 0"),
+        (weight(Num::Value(-1)), 9, b"1 0 1 1 1 1 1 2 -1"),
+        (kind(Num::Value(2)), 2, b"1 2 1 1 0 0"),
+        (count(Num::Value(-1)), 3, b"1 0 -1"),
+        (kind(Num::Value(2)), 4, b"1 0 0 2"),
+        (
+            number(Num::Value(2_147_483_648)),
+            5,
+            b"1 0 0 1 2147483648 0",
+        ),
+        (
+            weight(Num::Value(2_147_483_648)),
+            8,
+            b"1 0 0 1 1 1 2 2147483648",
+        ),
+        (
+            literal(Num::Value(-2_147_483_648)),
+            6,
+            b"1 0 0 0 1 -2147483648",
+        ),
+        (number(Num::Value(99_999_999_999)), 2, b"2 99999999999 0"),
+        (
+            number(Num::Value(-2_147_483_649)),
+            5,
+            b"2 0 1 1 -2147483649",
+        ),
+        (length(Num::Value(-1)), 2, b"4 -1"),
+        (literal(Num::Value(0)), 5, b"4 1 a 1 0"),
+        (FaultKind::Natural(0, 3, Num::Value(4)), 3, b"5 1 4"),
+        (literal(Num::Value(0)), 3, b"6 1 0"),
+        (count(Num::Value(-1)), 2, b"6 -1"),
     ];
-    lines_refused(&rt, alloc, Fault::Range, &ranges);
-    lines_refused(
-        &rt,
-        alloc,
-        Fault::Size,
-        &[b"1 0 0 0 16777217", b"6 2147483647"],
-    );
-    lines_refused(
-        &rt,
-        alloc,
-        Fault::Text,
-        &[b"4 1 ab 1 1", b"4 0", b"4 5 ab 0", b"4 3 a\nb 0"],
-    );
+    lines_refused(&rt, rt.alloc(), &ranges);
+    let others: [Row<'_>; 6] = [
+        (FaultKind::Counts, 5, b"1 0 0 0 16777217"),
+        (FaultKind::Counts, 2, b"6 2147483647"),
+        (FaultKind::Text, 3, b"4 1 ab 1 1"),
+        (FaultKind::Text, 3, b"4 0"),
+        (FaultKind::Text, 3, b"4 5 ab 0"),
+        (FaultKind::Text, 3, b"4 3 a\nb 0"),
+    ];
+    lines_refused(&rt, rt.alloc(), &others);
 }
 
-// Each of these texts is refused for this fault in this line.
-fn texts_refused(rt: &impl Abort, alloc: Global, fault: Fault, line: u32, texts: &[&[u8]]) {
+// The fault at this field of this line.
+fn refused(kind: FaultKind, field: usize, line: u32) -> ReadError {
+    ReadError::Refused(Fault { kind, field }, line)
+}
+
+// Each of these texts is refused so.
+fn texts_refused(rt: &impl Abort, alloc: Global, refusal: ReadError, texts: &[&[u8]]) {
     for text in texts {
-        gives(rt, alloc, text, Some(ReadError::Refused(fault, line)));
+        gives(rt, alloc, text, Some(refusal));
     }
 }
 
@@ -167,25 +215,39 @@ fn texts_are_refused(rt: HostRuntime) {
         b"\xef\xbb\xbfasp 1 0 0\n0\n",
         b"asp 1 0 0\r0\r",
     ];
-    texts_refused(&rt, alloc, Fault::Header, 1, &headers);
-    texts_refused(&rt, alloc, Fault::Header, 3, &[b"\n \n"]);
+    texts_refused(&rt, alloc, refused(FaultKind::Header, 1, 1), &headers);
+    texts_refused(&rt, alloc, refused(FaultKind::Header, 1, 3), &[b"\n \n"]);
     texts_refused(
         &rt,
         alloc,
-        Fault::Incremental,
-        1,
+        refused(FaultKind::Incremental, 5, 1),
         &[b"asp 1 0 0 incremental\n0\n"],
     );
-    texts_refused(&rt, alloc, Fault::Tag, 1, &[b"asp 1 0 0 x\n0\n"]);
-    texts_refused(&rt, alloc, Fault::NoEnd, 2, &[b"asp 1 0 0"]);
-    texts_refused(&rt, alloc, Fault::NoEnd, 3, &[b"asp 1 0 0\n1 0 1 1 0 0\n"]);
+    texts_refused(
+        &rt,
+        alloc,
+        refused(FaultKind::Tag, 5, 1),
+        &[b"asp 1 0 0 x\n0\n"],
+    );
+    texts_refused(&rt, alloc, refused(FaultKind::NoEnd, 1, 2), &[b"asp 1 0 0"]);
+    texts_refused(
+        &rt,
+        alloc,
+        refused(FaultKind::NoEnd, 1, 3),
+        &[b"asp 1 0 0\n1 0 1 1 0 0\n"],
+    );
     let behind: [&[u8]; 3] = [
         b"asp 1 0 0\n0\n10 x\n",
         b"asp 1 0 0\n0\n1 0 1 1 0 0\n",
         b"asp 1 0 0\n0\n\x00\n",
     ];
-    texts_refused(&rt, alloc, Fault::AfterEnd, 3, &behind);
-    texts_refused(&rt, alloc, Fault::Text, 2, &[b"asp 1 0 0\n4 5 ab 0\n0\n"]);
+    texts_refused(&rt, alloc, refused(FaultKind::AfterEnd, 1, 3), &behind);
+    texts_refused(
+        &rt,
+        alloc,
+        refused(FaultKind::Text, 3, 2),
+        &[b"asp 1 0 0\n4 5 ab 0\n0\n"],
+    );
 }
 
 fn lines_read(rt: &impl Abort, alloc: Global, lines: &[&[u8]]) {
@@ -268,11 +330,11 @@ fn front_gives(rt: &impl Abort, alloc: Global, len: usize, wanted: Option<ReadEr
 #[test]
 fn a_front_may_lack_only_the_last_line_feed(rt: HostRuntime) {
     let alloc = rt.alloc();
-    let no_header = Some(ReadError::Refused(Fault::Header, 1));
+    let no_header = Some(refused(FaultKind::Header, 1, 1));
     front_gives(&rt, alloc, 0, no_header);
     front_gives(&rt, alloc, 3, no_header);
     front_gives(&rt, alloc, 8, no_header);
-    front_gives(&rt, alloc, 59, Some(ReadError::Refused(Fault::NoEnd, 6)));
+    front_gives(&rt, alloc, 59, Some(refused(FaultKind::NoEnd, 1, 6)));
     front_gives(&rt, alloc, 61, None);
 }
 
@@ -290,7 +352,7 @@ fn all_bytes_of_a_text_are_kept(rt: HostRuntime) {
 fn fails_in_turn(rt: &impl Abort, alloc: Global, text: &[u8]) {
     for failing in 1..10 {
         let wanted = if failing > 7 {
-            ReadError::Refused(Fault::Projection, 3)
+            refused(FaultKind::Projection, 2, 3)
         } else {
             ReadError::ReadFault
         };
@@ -323,7 +385,7 @@ fn nothing_is_read_behind_the_first_fault(rt: HostRuntime) {
         .expect(&rt, "memory");
     let mut source = MemSource::new(text, 4, Vec::new(alloc));
     let error = read_program(alloc, &mut source).err();
-    assert!(rt; error == Some(ReadError::Refused(Fault::Projection, 2)));
+    assert!(rt; error == Some(refused(FaultKind::Projection, 2, 2)));
     four_are_left(&rt, &mut source, b"1 0 ");
 }
 
@@ -346,10 +408,10 @@ fn a_million_different_atoms_are_read(rt: HostRuntime) {
     let alloc = rt.alloc();
     let mut text = with_a_million(&rt, alloc);
     let endless = refusal(&rt, alloc, &text, 65_536);
-    assert!(rt; endless == Some(ReadError::Refused(Fault::NoEnd, 1_000_003)));
+    assert!(rt; endless == Some(refused(FaultKind::NoEnd, 1, 1_000_003)));
     text.extend_from_slice(b"5 3 0\n").expect(&rt, "memory");
     let large = refusal(&rt, alloc, &text, 65_536);
-    assert!(rt; large == Some(ReadError::Refused(Fault::Size, 1_000_003)));
+    assert!(rt; large == Some(refused(FaultKind::Atoms, 2, 1_000_003)));
 }
 
 // The greatest length of a text.
@@ -363,7 +425,7 @@ fn repeated_gives(rt: &impl Abort, alloc: Global, byte: u8, count: u64, wanted: 
 
 #[test]
 fn each_byte_may_be_a_line_feed(rt: HostRuntime) {
-    let wanted = ReadError::Refused(Fault::Header, 268_435_457);
+    let wanted = refused(FaultKind::Header, 1, 268_435_457);
     repeated_gives(&rt, rt.alloc(), b'\n', MOST, wanted);
 }
 
@@ -374,7 +436,7 @@ fn a_line_feed_may_be_too_many(rt: HostRuntime) {
 
 #[test]
 fn a_line_may_be_as_long_as_a_text(rt: HostRuntime) {
-    let wanted = ReadError::Refused(Fault::Header, 2);
+    let wanted = refused(FaultKind::Header, 1, 2);
     repeated_gives(&rt, rt.alloc(), b' ', MOST, wanted);
 }
 

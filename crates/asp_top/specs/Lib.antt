@@ -4,3 +4,4 @@ pub mod Notes
 pub mod Meaning
 pub mod Runs
 pub mod Words
+pub mod Faults

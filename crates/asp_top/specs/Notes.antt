@@ -2,31 +2,12 @@
 use Rattle.std.specs.Prelude.{◌≡◌, ℕ, ◌≤◌, Bool, true, false, ◌&&◌, if◌then◌else◌, List, [], ◌++◌, codes, decimal, Option, None, Some, Result, OnOk, OnErr, IsSome}
 use Rattle.std.specs.Io.KnownBytes.{Appends}
 use Rattle.asp_io.specs.Causes.{Rose, AppendsFront}
-use Rattle.asp_model.specs.declared.fault.Fault.{Fault}
-use Rattle.asp_model.specs.declared.fault.Fault.TheVariants as fault
 use Rattle.asp_crew_laws.specs.declared.report.Report.{Report}
 use Rattle.asp_top.specs.declared.status.Outcome.{Outcome}
 use Rattle.asp_top.specs.declared.status.Status.{Status}
 use Rattle.asp_top.specs.Usage.{usage_text}
+use Rattle.asp_top.specs.Faults.{fault_text}
 use Rattle.asp_top.specs.declared.status.Status.TheVariants.{All, NoModel, Partial, Unknown, Help, Memory, Usage, Refused, ReadFault, TooLong, WriteFault}
-
-abbrev pub fault_text : Fault → List ℕ
-fault_text fault.Header = codes "not the header of aspif 1.0, which gringo writes and aspenum reads"
-fault_text fault.Incremental = codes "incremental programs not supported"
-fault_text fault.Tag = codes "unknown tag"
-fault_text fault.Kind = codes "unknown statement"
-fault_text fault.Disjunction = codes "disjunctive head not supported"
-fault_text fault.Projection = codes "projection not supported"
-fault_text fault.Heuristic = codes "heuristic not supported"
-fault_text fault.Edge = codes "edge statement not supported"
-fault_text fault.Theory = codes "theory statement not supported"
-fault_text fault.Number = codes "integer expected"
-fault_text fault.Range = codes "integer out of range"
-fault_text fault.Text = codes "output text does not fit its length"
-fault_text fault.ExtraFields = codes "extra field"
-fault_text fault.NoEnd = codes "end of program missing"
-fault_text fault.AfterEnd = codes "statement after the end"
-fault_text fault.Size = codes "more than 1,000,000 different atoms, 1,000 different priorities or 16,777,216 in all counts"
 
 -- the lines for a status; none where results, help or the version were asked for and written. Usage is here the status of
 -- words that can't be had
@@ -38,7 +19,7 @@ note_of Unknown = []
 note_of Help = []
 note_of Memory = codes "aspenum: out of memory\n"
 note_of Usage = codes "aspenum: a word is not UTF-8" ++ usage_text
-note_of (Refused f line) = codes "aspenum: line " ++ decimal line ++ (codes ": " ++ fault_text f) ++ codes "\n"
+note_of (Refused f line) = codes "aspenum: line " ++ decimal line ++ fault_text f ++ codes "\n"
 note_of ReadFault = codes "aspenum: read failed\n"
 note_of TooLong = codes "aspenum: input too long\n"
 note_of WriteFault = codes "aspenum: write failed\n"

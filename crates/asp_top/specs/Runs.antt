@@ -2,9 +2,9 @@
 use Rattle.std.specs.Prelude.{◌≡◌, ◌⊎◌, ℕ, ◌≤◌, Bool, true, false, List, Option, None, Some, Result, Ok, Err, IfSome, IsSome, is_some}
 use Rattle.std.specs.Io.KnownBytes.{Appends, Keeps, IsAtEnd}
 use Rattle.asp_io.specs.Causes.{Rose, AppendsFront}
-use Rattle.asp_model.specs.declared.fault.Fault.{Fault}
-use Rattle.asp_model.specs.declared.fault.ReadError.{ReadError}
-use Rattle.asp_model.specs.declared.fault.ReadError.TheVariants as errors
+use Rattle.asp_read.specs.declared.fault.Fault.{Fault}
+use Rattle.asp_read.specs.declared.fault.ReadError.{ReadError}
+use Rattle.asp_read.specs.declared.fault.ReadError.TheVariants as errors
 use Rattle.asp_model.specs.declared.program.Program.{Program}
 use Rattle.asp_model.specs.declared.results.End.{End}
 use Rattle.asp_model.specs.declared.results.End.TheVariants.{Finished, Unfinished}

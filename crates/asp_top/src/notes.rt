@@ -1,37 +1,14 @@
 //! The line on the notes for each status, and the counts of a run.
 ghost use Rattle.std.specs.Prelude.{◌≡◌, ◌++◌, codes, decimal};
-ghost use Rattle.asp_top.specs.Notes.{IsNoted, Writes, counts_if, counts_of, fault_text, is_answered, note_of, notes_of, stats_of};
+ghost use Rattle.asp_top.specs.Notes.{IsNoted, Writes, counts_if, counts_of, is_answered, note_of, notes_of, stats_of};
 
 use crate::status::{Outcome, Status};
+use crate::texts::write_fault;
 use crate::usage::write_usage;
 use asp_crew::report::Report;
 use asp_io::{Failed, Sink, write_all};
-use asp_model::fault::Fault;
+use asp_read::fault::Fault;
 use itoa::Buffer;
-
-fn fault_text(fault: Fault) -> &'static [u8]
-    ensures { result.now ≡ fault_text fault }
-{
-    match fault {
-        Fault::Header => b"not the header of aspif 1.0, which gringo writes and aspenum reads",
-        Fault::Incremental => b"incremental programs not supported",
-        Fault::Tag => b"unknown tag",
-        Fault::Kind => b"unknown statement",
-        Fault::Disjunction => b"disjunctive head not supported",
-        Fault::Projection => b"projection not supported",
-        Fault::Heuristic => b"heuristic not supported",
-        Fault::Edge => b"edge statement not supported",
-        Fault::Theory => b"theory statement not supported",
-        Fault::Number => b"integer expected",
-        Fault::Range => b"integer out of range",
-        Fault::Text => b"output text does not fit its length",
-        Fault::ExtraFields => b"extra field",
-        Fault::NoEnd => b"end of program missing",
-        Fault::AfterEnd => b"statement after the end",
-        Fault::Size =>
-            b"more than 1,000,000 different atoms, 1,000 different priorities or 16,777,216 in all counts",
-    }
-}
 
 /// Writes all of the bytes.
 pub fn write<N: Sink>(notes: &mut N, bytes: &[u8]) -> Result<(), Failed>
@@ -58,13 +35,6 @@ fn write_line<N: Sink>(notes: &mut N, line: u32) -> Result<(), Failed>
         b"aspenum: line ",
         Buffer::new().format(line).as_bytes(),
     )
-}
-
-fn write_fault<N: Sink>(notes: &mut N, fault: Fault) -> Result<(), Failed>
-    ensures { Writes (N.held notes.old) (N.held notes.new) (N.faults notes.old) (N.faults notes.new)
-        result (codes ": " ++ fault_text fault) }
-{
-    write_both(notes, b": ", fault_text(fault))
 }
 
 fn write_refused<N: Sink>(notes: &mut N, fault: Fault, line: u32) -> Result<(), Failed>

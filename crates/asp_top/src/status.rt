@@ -3,7 +3,7 @@ ghost use Rattle.std.specs.Prelude.{◌≡◌};
 ghost use Rattle.asp_top.specs.Codes.{code_of};
 
 use asp_crew::report::Report;
-use asp_model::fault::Fault;
+use asp_read::fault::Fault;
 
 /// How a run ended.
 #[derive(Clone, Copy, Debug, PartialEq, Eq)]

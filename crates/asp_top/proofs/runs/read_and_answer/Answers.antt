@@ -1,4 +1,4 @@
-use Rattle.asp_model.specs.declared.fault.ReadError.TheVariants as errors
+use Rattle.asp_read.specs.declared.fault.ReadError.TheVariants as errors
 use Rattle.asp_top.proofs.RunLaws.{ok-no-fault, runs-read}
 use Rattle.asp_top.proofs.runs.read_and_answer.Goals as goal
 

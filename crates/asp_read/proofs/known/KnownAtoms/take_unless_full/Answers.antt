@@ -5,7 +5,7 @@ use Rattle.asp_read.proofs.KnownLaws.{stands, stays, inserted, room_known, room_
 use Rattle.asp_read.proofs.known.KnownAtoms.take_unless_full.Goals as goal
 
 pub returns-then-contains-clause-room : goal.returns-then-contains-clause-room
-returns-then-contains-clause-room c = room_known c.args.self.now c.args.atom (stands c.self.inside.atoms.keys c.args.self.now c.args.atom true c.self.view_is c.if-contains.ensures)
+returns-then-contains-clause-room c = room_known c.args.self.now c.args.atom c.args.line.now (stands c.self.inside.atoms.keys c.args.self.now c.args.atom true c.self.view_is c.if-contains.ensures)
 
 pub returns-then-contains-clause-taken : goal.returns-then-contains-clause-taken
 returns-then-contains-clause-taken c =
@@ -15,7 +15,7 @@ pub returns-then-self-ge-MOST_ATOMS-clause-room : goal.returns-then-self-ge-MOST
 returns-then-self-ge-MOST_ATOMS-clause-room c =
     let view : set_of c.self.inside.atoms.keys ≡ c.args.self.now = c.self.view_is in
     let full : most_atoms ≤ length c.args.self.now = omega (arith, c.if-self-ge-MOST_ATOMS.true, c.self.invariant.counted, ap (λ (S : Atoms). length S) view) in
-    room_none c.args.self.now c.args.atom (stands c.self.inside.atoms.keys c.args.self.now c.args.atom false view c.if-contains.ensures) full
+    rw c.broken.ensures (room_none c.args.self.now c.args.atom c.args.line.now (stands c.self.inside.atoms.keys c.args.self.now c.args.atom false view c.if-contains.ensures) full)
 
 pub invariant_of-self-2 : goal.invariant_of-self-2
 invariant_of-self-2 c =
