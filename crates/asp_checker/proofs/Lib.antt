@@ -12,3 +12,5 @@ pub mod BodyLaws
 pub mod AssumeLaws
 pub mod BoundLaws
 pub mod FoundLaws
+pub mod CompletedLaws
+pub mod JudgeLaws

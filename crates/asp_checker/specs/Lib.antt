@@ -7,3 +7,4 @@ pub mod Sweeps
 pub mod Blocks
 pub mod Assuming
 pub mod Loops
+pub mod Judging

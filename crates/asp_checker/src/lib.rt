@@ -5,6 +5,7 @@ pub mod blocks;
 pub mod bounds;
 pub mod close;
 pub mod confirm;
+pub mod judge;
 pub mod laws;
 mod levels;
 pub mod lines;

@@ -1,0 +1,321 @@
+-- Answers and lines that are judged one after another.
+use Rattle.std.proofs.Common.{◌≡◌, ◌≢◌, ℕ, zero, suc, ◌+◌, ◌<◌, ◌≤◌, Bool, true, false, not, cond, ◌&&◌, ◌||◌, List, [], ◌∷◌, ◌++◌, map, length, take, get_or, refl, sym, ap, ◌∙◌, subst, arith, append_assoc, Option, Some, None, inl, inr, Result, Ok, Err}
+use Rattle.std.specs.Prelude.{All, AllPairs, Contains, ℤ, MatchOption, IfOk}
+use Rattle.std.specs.List.{list_any, list_all, AllByRecursion}
+use Rattle.std.specs.declared.cmp.Ordering.{Ordering}
+use Rattle.std.specs.declared.cmp.Ordering.TheVariants.{Less, Equal, Greater}
+use Rattle.std.proofs.lemmas.Bool.{false≢true, cases_order, cases_lt}
+use Rattle.std.proofs.lemmas.List.{take_all, take_more, length_push, get_or_default, length-take-le, map-append}
+use Rattle.std.proofs.lemmas.List.Folds.{list_any_more}
+use Rattle.std.proofs.lemmas.List.Elements.{recursion_from_All, All-from_recursion}
+use Rattle.std.proofs.lemmas.List.Quantifiers.{all_pairs_push}
+use Rattle.asp_model.specs.declared.program.Program.{Program}
+use Rattle.asp_model.specs.Sets.{Atoms, has, IsBefore, IsAscending, set_cmp}
+use Rattle.asp_model.specs.Holding.{all_hold}
+use Rattle.asp_model.specs.Models.{atoms_of, answers, is_stable}
+use Rattle.asp_model.specs.Costs.{cost}
+use Rattle.asp_model.proofs.OrderLaws.{before_from_cmp, cmp_from_before}
+use Rattle.asp_model.proofs.ModelLaws.{answers-are}
+use Rattle.asp_model.proofs.MemberLaws.{each-append, each-map, each_weaker, HasAll-itself}
+use Rattle.asp_vars.specs.Literals.{Literal, has_literal}
+use Rattle.asp_vars.specs.Numbering.{var_count, var_of_atom, literal_of}
+use Rattle.asp_vars.specs.Completion.{completion}
+use Rattle.asp_vars.specs.declared.nogood.Nogood.{Nogood}
+use Rattle.asp_vars.proofs.PlaceLaws.{atom-within, at_each}
+use Rattle.asp_complete.specs.Listed.{pure}
+use Rattle.asp_proof.specs.declared.proof.Line.{Line}
+use Rattle.asp_proof.specs.declared.proof.Line.TheVariants as line
+use Rattle.asp_proof.specs.declared.proof.Proof.{Proof}
+use Rattle.asp_checker.specs.declared.bounds.Bound.{Bound}
+use Rattle.asp_checker.specs.declared.judge.Why.{Why}
+use Rattle.asp_checker.specs.declared.judge.Why.TheVariants as why
+use Rattle.asp_checker.specs.declared.judge.Judgement.TheVariants as judgement
+use Rattle.asp_checker.specs.Propagation.{Known, LeadsToConflict}
+use Rattle.asp_checker.specs.Lines.{IsOf, AreOf, IsLoop, AreConfirmed, IsConfirmed, literals_of, nogood_of, nogood_of_answer, with_nogood, bound_of, known_at_first}
+use Rattle.asp_checker.specs.Right.{closes, IsRight}
+use Rattle.asp_checker.specs.Blocks.{known_by, cost_of_bound}
+use Rattle.asp_checker.specs.Judging.{IsWrongAnswer, HasAnswerFault, IsWrongLine, HasLineFault, IsJudged, IsInOrder, AreRightAnswers, IsRightAnswer, HasLiterals, HasLoopLiterals, known_after, AreRightLines, no_line}
+use Rattle.asp_checker.proofs.CompletedLaws.{completion_vars}
+
+-- ---- the order of sets
+before_then : (S T U : Atoms) → IsBefore S T → IsBefore T U → IsBefore S U
+before_then S T U s t = elim (cases_order s.0 t.0) [
+  | inl same ↦ absurd (false≢true (sym t.2 ∙ ap (has T) (sym same) ∙ s.1))
+  | inr o ↦ elim o [
+    | inl lt ↦ (s.0, sym (t.3 s.0 lt) ∙ s.1, s.2, λ b less. s.3 b less ∙ t.3 b (omega arith))
+    | inr lt ↦ (t.0, t.1, s.3 t.0 lt ∙ t.2, λ b less. s.3 b (omega arith) ∙ t.3 b less)
+  ]
+]
+
+pub not_less : (S T : Atoms) (o : Ordering) → IsAscending S → IsAscending T → set_cmp S T ≡ o → o ≢ Less → IsBefore S T → ⊥
+not_less S T o s t e differ before = differ (sym e ∙ cmp_from_before S T s t before)
+
+-- ---- answers
+pub first_in_order : (opt : Bool) (S : Atoms) → IsInOrder opt [] S
+first_in_order opt S = record { later = tt; single = λ o. refl }
+
+pub later_in_order : (opt : Bool) (before : List Atoms) (S last : Atoms) (i : ℕ) → AllPairs IsBefore before → length before ≡ i + 1 → last ≡ get_or before i last → opt ≡ false → IsBefore last S → IsInOrder opt before S
+later_in_order opt before S last i pairs size is enum after = record {
+  later = recursion_from_All (λ T. IsBefore T S) before (λ k d lt. elim (cases_lt k i) [
+    | inl less ↦ before_then (get_or before k d) last S (subst (IsBefore (get_or before k d)) (at_last d) (pairs k i d less (omega arith))) after
+    | inr past ↦ (
+        let same : k ≡ i = omega arith in
+        subst (λ T. IsBefore T S) (sym (at_last d) ∙ ap (λ j. get_or before j d) (sym same)) after)
+  ]);
+  single = λ o. absurd (false≢true (sym enum ∙ o));
+}
+  where
+    at_last : (d : Atoms) → get_or before i d ≡ last
+    at_last d = get_or_default before i d last (omega arith) ∙ sym is
+
+pub not_single : (before : List Atoms) (S : Atoms) (n : ℕ) → length before ≡ n → 0 < n → IsInOrder true before S → ⊥
+not_single before S n size lt h = let none : length before ≡ 0 = ap length (h.single refl) in omega (arith, none, size)
+
+pub not_after : (opt : Bool) (before : List Atoms) (S last : Atoms) (i : ℕ) → i < length before → last ≡ get_or before i last → (IsBefore last S → ⊥) → IsInOrder opt before S → ⊥
+not_after opt before S last i lt is never h = never (subst (λ T. IsBefore T S) (sym is) (All-from_recursion (λ T. IsBefore T S) before h.later i last lt))
+
+pub is_member : (p : Program) (S : Atoms) → is_stable p S ≡ true → all_hold S p.assumptions ≡ true → Contains (answers p) S
+is_member p S stable hold = (answers-are p S).1 (stable, hold)
+
+pub not_member : (p : Program) (S : Atoms) → is_stable p S ≡ false → Contains (answers p) S → ⊥
+not_member p S e h = false≢true (sym e ∙ ((answers-are p S).0 h).0)
+
+pub not_assumed : (p : Program) (S : Atoms) → all_hold S p.assumptions ≡ false → Contains (answers p) S → ⊥
+not_assumed p S e h = false≢true (sym e ∙ ((answers-are p S).0 h).1)
+
+pub none_listed : (p : Program) (opt : Bool) (listed : List Atoms) → AreRightAnswers p opt (take 0 listed)
+none_listed p opt listed = record { members = tt; order = λ i j d lt within. absurd (omega arith); single = λ o. omega arith }
+
+pub answers_more : (p : Program) (opt : Bool) (listed : List Atoms) (i : ℕ) (S : Atoms) → i < length listed → S ≡ get_or listed i S → AreRightAnswers p opt (take i listed) → IsRightAnswer p opt (take i listed) S → AreRightAnswers p opt (take (i + 1) listed)
+answers_more p opt listed i S lt is before now =
+    let list : take (i + 1) listed ≡ take i listed ++ S ∷ [] = take_more listed i S lt ∙ ap (λ T. take i listed ++ T ∷ []) (sym is) in
+    subst (AreRightAnswers p opt) (sym list) (record {
+      members = each-append (Contains (answers p)) (take i listed) (S ∷ []) before.members (now.member, tt);
+      order = all_pairs_push IsBefore (take i listed) S before.order (All-from_recursion (λ T. IsBefore T S) (take i listed) now.order.later);
+      single = λ o. let none : length (take i listed) ≡ 0 = ap length (now.order.single o) in omega (arith, none, length_push (take i listed) S);
+    })
+
+pub answers_whole : (p : Program) (opt : Bool) (listed : List Atoms) (i : ℕ) → length listed ≤ i → AreRightAnswers p opt (take i listed) → AreRightAnswers p opt listed
+answers_whole p opt listed i le h = subst (AreRightAnswers p opt) (take_all i listed le) h
+
+-- ---- what is known at first
+lits_pure : (ns : List (List Literal)) → map (λ (n : Nogood). n.lits) (map pure ns) ≡ ns
+lits_pure [] = refl
+lits_pure (n ∷ ns) = ap (λ ms. n ∷ ms) (lits_pure ns)
+
+pub completed_is : (p : Program) (nogoods : List Nogood) (rows : List (List Literal)) → nogoods ≡ map pure (completion p) → rows ≡ map (λ (n : Nogood). n.lits) nogoods → rows ≡ completion p
+completed_is p nogoods rows is e = e ∙ ap (map (λ (n : Nogood). n.lits)) is ∙ lits_pure (completion p)
+
+pub lit_made : (p : Program) (S : Atoms) (a v : ℕ) (t : Bool) (l : Literal) → l ≡ record { var = v; truth = t } → v ≡ var_of_atom p a → t ≡ has S a → l ≡ record { var = var_of_atom p a; truth = has S a }
+lit_made p S a v t l is var truth = is ∙ ap (λ w. let m : Literal = record { var = w; truth = t } in m) var ∙ ap (λ b. let m : Literal = record { var = var_of_atom p a; truth = b } in m) truth
+
+pub where_yes : {X : Type 0} (opt : Bool) (rows one other : X) → opt ≡ true → rows ≡ one → rows ≡ cond opt one other
+where_yes opt rows one other e is = is ∙ sym (ap (λ b. cond b one other) e)
+
+pub where_no : {X : Type 0} (opt : Bool) (rows one other : X) → opt ≡ false → rows ≡ other → rows ≡ cond opt one other
+where_no opt rows one other e is = is ∙ sym (ap (λ b. cond b one other) e)
+
+answer_of : (p : Program) (S : Atoms) → AreOf p (nogood_of_answer p S)
+answer_of p S =
+    each-map (IsOf p) (λ a. record { var = var_of_atom p a; truth = has S a }) (atoms_of p)
+    (each_weaker (λ a. has (atoms_of p) a ≡ true) (λ a. IsOf p (record { var = var_of_atom p a; truth = has S a })) (λ a h. (omega arith, atom-within p a h)) (atoms_of p) (HasAll-itself (atoms_of p)))
+
+answers_of : (p : Program) (Ss : List Atoms) → AllByRecursion (AreOf p) (map (nogood_of_answer p) Ss)
+answers_of p [] = tt
+answers_of p (S ∷ Ss) = (answer_of p S, answers_of p Ss)
+
+pub known_of : (p : Program) (opt : Bool) (Ss : List Atoms) (rows : List (List Literal)) → rows ≡ cond opt (completion p) (completion p ++ map (nogood_of_answer p) Ss) → AllByRecursion (AreOf p) rows
+known_of p true Ss rows e = subst (AllByRecursion (AreOf p)) (sym e) (completion_vars p)
+known_of p false Ss rows e = subst (AllByRecursion (AreOf p)) (sym e) (each-append (AreOf p) (completion p) (map (nogood_of_answer p) Ss) (completion_vars p) (answers_of p Ss))
+
+known_is : (p : Program) (proof : Proof) (rows : List (List Literal)) (b : Option Bound) → rows ≡ cond proof.opt (completion p) (completion p ++ map (nogood_of_answer p) proof.answers) → cost_of_bound b ≡ cond proof.opt (bound_of p proof.answers) None →
+    known_by rows b ≡ known_at_first p proof
+known_is p proof rows b e f = cases proof.opt e f
+  where
+    cases : (opt : Bool) → rows ≡ cond opt (completion p) (completion p ++ map (nogood_of_answer p) proof.answers) → cost_of_bound b ≡ cond opt (bound_of p proof.answers) None →
+        known_by rows b ≡ cond opt (record { nogoods = completion p; bound = bound_of p proof.answers }) (record { nogoods = completion p ++ map (nogood_of_answer p) proof.answers; bound = None })
+    cases true g h = ap (λ (ns : List (List Literal)). let k : Known = record { nogoods = ns; bound = cost_of_bound b } in k) g ∙ ap (λ (c : Option (List ℤ)). let k : Known = record { nogoods = completion p; bound = c } in k) h
+    cases false g h = ap (λ (ns : List (List Literal)). let k : Known = record { nogoods = ns; bound = cost_of_bound b } in k) g ∙ ap (λ (c : Option (List ℤ)). let k : Known = record { nogoods = completion p ++ map (nogood_of_answer p) proof.answers; bound = c } in k) h
+
+pub known_from : (p : Program) (proof : Proof) (L : List Atoms) (rows : List (List Literal)) (b : Option Bound) → L ≡ proof.answers → rows ≡ cond proof.opt (completion p) (completion p ++ map (nogood_of_answer p) L) → cost_of_bound b ≡ cond proof.opt (bound_of p L) None → known_by rows b ≡ known_at_first p proof
+known_from p proof L rows b same e f =
+    known_is p proof rows b (subst (λ Ss. rows ≡ cond proof.opt (completion p) (completion p ++ map (nogood_of_answer p) Ss)) same e) (subst (λ Ss. cost_of_bound b ≡ cond proof.opt (bound_of p Ss) None) same f)
+
+-- ---- lines
+pub has_of : (p : Program) (l : Line) → HasLiterals p l → AreOf p (nogood_of l)
+has_of p (line.Loop set nogood) h = h.1
+has_of p (line.Learned nogood) h = h
+has_of p (line.Cube nogood) h = h
+
+known_push : (k : Known) (lines : List Line) (l : Line) → known_after k (lines ++ l ∷ []) ≡ with_nogood (known_after k lines) (nogood_of l)
+known_push k [] l = refl
+known_push k (m ∷ lines) l = known_push (with_nogood k (nogood_of m)) lines l
+
+confirmed_push : (p : Program) (k : Known) (lines : List Line) (l : Line) → AreConfirmed p k lines → AreOf p (nogood_of l) → IsConfirmed p (known_after k lines) l → AreConfirmed p k (lines ++ l ∷ [])
+confirmed_push p k [] l h of now = (of, now, tt)
+confirmed_push p k (m ∷ lines) l h of now = (h.0, h.1, confirmed_push p (with_nogood k (nogood_of m)) lines l h.2 of now)
+
+line_more : (lines : List Line) (i : ℕ) (l : Line) → i < length lines → l ≡ get_or lines i l → take (i + 1) lines ≡ take i lines ++ l ∷ []
+line_more lines i l lt is = take_more lines i l lt ∙ ap (λ m. take i lines ++ m ∷ []) (sym is)
+
+pub known_more : (k now : Known) (lines : List Line) (i : ℕ) (l : Line) → i < length lines → l ≡ get_or lines i l → now ≡ known_after k (take i lines) → with_nogood now (nogood_of l) ≡ known_after k (take (i + 1) lines)
+known_more k now lines i l lt is e = ap (λ m. with_nogood m (nogood_of l)) e ∙ sym (known_push k (take i lines) l) ∙ ap (known_after k) (sym (line_more lines i l lt is))
+
+pub confirmed_more : (p : Program) (k now : Known) (lines : List Line) (i : ℕ) (l : Line) → i < length lines → l ≡ get_or lines i l → now ≡ known_after k (take i lines) → AreConfirmed p k (take i lines) → HasLiterals p l → IsConfirmed p now l → AreConfirmed p k (take (i + 1) lines)
+confirmed_more p k now lines i l lt is e h literals confirmed =
+    subst (AreConfirmed p k) (sym (line_more lines i l lt is)) (confirmed_push p k (take i lines) l h (has_of p l literals) (subst (λ m. IsConfirmed p m l) e confirmed))
+
+pub closes_more : (p : Program) (lines : List Line) (i : ℕ) (l : Line) (before now whole : Bool) → i < length lines → l ≡ get_or lines i l → before ≡ list_any (closes p) (take i lines) → now ≡ closes p l → whole ≡ (before || now) → whole ≡ list_any (closes p) (take (i + 1) lines)
+closes_more p lines i l before now whole lt is e f g =
+    g ∙ ap (λ b. b || now) e ∙ ap (λ b. list_any (closes p) (take i lines) || b) (f ∙ ap (closes p) is) ∙ sym (list_any_more (closes p) lines i l lt)
+
+pub lines_whole : (p : Program) (k : Known) (lines : List Line) (i : ℕ) (whole : Bool) → length lines ≤ i → AreConfirmed p k (take i lines) → whole ≡ list_any (closes p) (take i lines) → AreRightLines p k lines whole
+lines_whole p k lines i whole le h e =
+    let all = take_all i lines le in
+    record { confirmed = subst (AreConfirmed p k) all h; whole_is = e ∙ ap (list_any (closes p)) all }
+
+pub is_right : (p : Program) (proof : Proof) (k : Known) → AreRightAnswers p proof.opt proof.answers → k ≡ known_at_first p proof → AreRightLines p k proof.lines true → IsRight p proof
+is_right p proof k answers e lines = record {
+  members = answers.members;
+  order = answers.order;
+  single = answers.single;
+  lines = subst (λ m. AreConfirmed p m proof.lines) e lines.confirmed;
+  whole = sym lines.whole_is;
+}
+
+pub empty_in_order : (opt : Bool) (before : List Atoms) (S : Atoms) → length before ≡ 0 → IsInOrder opt before S
+empty_in_order opt [] S e = first_in_order opt S
+empty_in_order opt (T ∷ before) S e = absurd (omega arith)
+
+pub wrong_answer : (p : Program) (opt : Bool) (listed : List Atoms) (i : ℕ) (S : Atoms) (w : Why) → i < length listed → S ≡ get_or listed i S → AreRightAnswers p opt (take i listed) → HasAnswerFault p opt (take i listed) S w → IsWrongAnswer p opt listed w i
+wrong_answer p opt listed i S w lt is before fault = record {
+  within = lt;
+  before = before;
+  fault = subst (λ T. HasAnswerFault p opt (take i listed) T w) (is ∙ get_or_default listed i S [] lt) fault;
+}
+
+-- ---- lists that are made one after another
+pub map_more : {X Y : Type 0} (f : X → Y) (xs : List X) (i : ℕ) (d : X) (y : Y) (old new : List Y) → i < length xs → old ≡ map f (take i xs) → new ≡ old ++ y ∷ [] → y ≡ f (get_or xs i d) → new ≡ map f (take (i + 1) xs)
+map_more f xs i d y old new lt e made is =
+    made ∙ ap (λ ys. ys ++ y ∷ []) e ∙ ap (λ z. map f (take i xs) ++ z ∷ []) is ∙ sym (map-append f (take i xs) (get_or xs i d ∷ [])) ∙ ap (map f) (sym (take_more xs i d lt))
+
+pub map_whole : {X Y : Type 0} (f : X → Y) (xs zs : List X) (i : ℕ) (made : List Y) → length xs ≤ i → xs ≡ zs → made ≡ map f (take i xs) → made ≡ map f zs
+map_whole f xs zs i made le same e = e ∙ ap (map f) (take_all i xs le ∙ same)
+
+pub more_behind : {X Y : Type 0} (f : X → Y) (xs : List X) (i : ℕ) (d : X) (y : Y) (first old new : List Y) → i < length xs → old ≡ first ++ map f (take i xs) → new ≡ old ++ y ∷ [] → y ≡ f (get_or xs i d) → new ≡ first ++ map f (take (i + 1) xs)
+more_behind f xs i d y first old new lt e made is =
+    made ∙ ap (λ ys. ys ++ y ∷ []) e ∙ append_assoc first (map f (take i xs)) (y ∷ []) ∙ ap (λ zs. first ++ zs) (map_more f xs i d y (map f (take i xs)) (map f (take i xs) ++ y ∷ []) lt refl refl is)
+
+pub whole_behind : {X Y : Type 0} (f : X → Y) (xs : List X) (i : ℕ) (first made : List Y) → length xs ≤ i → made ≡ first ++ map f (take i xs) → made ≡ first ++ map f xs
+whole_behind f xs i first made le e = e ∙ ap (λ zs. first ++ map f zs) (take_all i xs le)
+
+pub own_atom : (p : Program) (L : List ℕ) (i : ℕ) → L ≡ atoms_of p → i < length L → has (atoms_of p) (get_or L i 0) ≡ true
+own_atom p L i e lt =
+    let inside : i < length (atoms_of p) = let n = ap length e in omega (arith, n, lt) in
+    ap (λ M. has (atoms_of p) (get_or M i 0)) e ∙ at_each (λ a. has (atoms_of p) a ≡ true) (atoms_of p) i 0 (HasAll-itself (atoms_of p)) inside
+
+-- ---- the literals of a line
+pub nogood_found : {V : Type 0} (p : Program) (s n : List ℤ) (o : Option V) (items : V → List Literal) → s ≡ n → MatchOption o (AreOf p (literals_of s) → ⊥) (λ v. (items v ≡ literals_of s) × AreOf p (items v)) → MatchOption o (AreOf p (literals_of n) → ⊥) (λ v. (items v ≡ literals_of n) × AreOf p (literals_of n))
+nogood_found p s n None items e m = λ h. m (subst (λ t. AreOf p (literals_of t)) (sym e) h)
+nogood_found p s n (Some v) items e m = let is = m.0 ∙ ap literals_of e in (is, subst (AreOf p) is m.1)
+
+pub loop_found : {V : Type 0} (p : Program) (set : Atoms) (n : List ℤ) (o : Option V) (items : V → List Literal) → list_all (has (atoms_of p)) set ≡ true → MatchOption o (AreOf p (literals_of n) → ⊥) (λ v. (items v ≡ literals_of n) × AreOf p (literals_of n)) → MatchOption o (HasLoopLiterals p set n → ⊥) (λ v. (items v ≡ literals_of n) × HasLoopLiterals p set n)
+loop_found p set n None items stand m = λ h. m h.1
+loop_found p set n (Some v) items stand m = (m.0, (stand, m.1))
+
+pub closes_learned : (p : Program) (l : Line) {n : List ℤ} (given lits : List Literal) (r : Bool) → l ≡ line.Learned n → lits ≡ nogood_of l → given ≡ map (literal_of p) p.assumptions → r ≡ list_all (has_literal given) lits → r ≡ closes p l
+closes_learned p l {n} given lits r e f g is =
+    is ∙ ap (λ xs. list_all (has_literal xs) lits) g ∙ ap (list_all (has_literal (map (literal_of p) p.assumptions))) (f ∙ ap nogood_of e) ∙ sym (ap (closes p) e)
+
+pub closes_cube : (p : Program) (l : Line) {n : List ℤ} (given lits : List Literal) (r : Bool) → l ≡ line.Cube n → lits ≡ nogood_of l → given ≡ map (literal_of p) p.assumptions → r ≡ list_all (has_literal given) lits → r ≡ closes p l
+closes_cube p l {n} given lits r e f g is =
+    is ∙ ap (λ xs. list_all (has_literal xs) lits) g ∙ ap (list_all (has_literal (map (literal_of p) p.assumptions))) (f ∙ ap nogood_of e) ∙ sym (ap (closes p) e)
+
+-- ---- the fault of a line
+abbrev LoopSays : Program → Atoms → List Literal → Option Why → Type 0
+LoopSays p set lits o = MatchOption o (IsLoop p set lits) (λ w. (w ≡ why.Loop) × (IsLoop p set lits → ⊥))
+
+abbrev NogoodSays : Program → Known → List Literal → Option Why → Type 0
+NogoodSays p k lits o = MatchOption o (LeadsToConflict p k lits) (λ w. (w ≡ why.NotImplied) × (LeadsToConflict p k lits → ⊥))
+
+abbrev LineSays : Program → Known → Line → Option Why → Type 0
+LineSays p k l o = MatchOption o (IsConfirmed p k l) (HasLineFault p k l)
+
+loop_says : (p : Program) (k : Known) (set : Atoms) (n : List ℤ) (o : Option Why) → HasLiterals p (line.Loop set n) → LoopSays p set (literals_of n) o → LineSays p k (line.Loop set n) o
+loop_says p k set n None of h = h
+loop_says p k set n (Some w) of h = subst (HasLineFault p k (line.Loop set n)) (sym h.0) (of, h.1)
+
+learned_says : (p : Program) (k : Known) (n : List ℤ) (o : Option Why) → HasLiterals p (line.Learned n) → NogoodSays p k (literals_of n) o → LineSays p k (line.Learned n) o
+learned_says p k n None of h = h
+learned_says p k n (Some w) of h = subst (HasLineFault p k (line.Learned n)) (sym h.0) (of, h.1)
+
+cube_says : (p : Program) (k : Known) (n : List ℤ) (o : Option Why) → HasLiterals p (line.Cube n) → NogoodSays p k (literals_of n) o → LineSays p k (line.Cube n) o
+cube_says p k n None of h = h
+cube_says p k n (Some w) of h = subst (HasLineFault p k (line.Cube n)) (sym h.0) (of, h.1)
+
+pub loop_judged : {E : Type 0} (p : Program) (k : Known) (l : Line) (set : Atoms) {n : List ℤ} (lits : List Literal) (r : Result (Option Why) E) → l ≡ line.Loop set n → lits ≡ nogood_of l → HasLiterals p l → IfOk r (LoopSays p set lits) → IfOk r (LineSays p k l)
+loop_judged p k l set {n} lits (Ok o) e f of h =
+    subst (λ m. LineSays p k m o) (sym e) (loop_says p k set n o (subst (HasLiterals p) e of) (subst (λ ls. LoopSays p set ls o) (f ∙ ap nogood_of e) h))
+loop_judged p k l set {n} lits (Err x) e f of h = tt
+
+pub learned_judged : {E : Type 0} (p : Program) (k : Known) (l : Line) {n : List ℤ} (lits : List Literal) (r : Result (Option Why) E) → l ≡ line.Learned n → lits ≡ nogood_of l → HasLiterals p l → IfOk r (NogoodSays p k lits) → IfOk r (LineSays p k l)
+learned_judged p k l {n} lits (Ok o) e f of h =
+    subst (λ m. LineSays p k m o) (sym e) (learned_says p k n o (subst (HasLiterals p) e of) (subst (λ ls. NogoodSays p k ls o) (f ∙ ap nogood_of e) h))
+learned_judged p k l {n} lits (Err x) e f of h = tt
+
+pub cube_judged : {E : Type 0} (p : Program) (k : Known) (l : Line) {n : List ℤ} (lits : List Literal) (r : Result (Option Why) E) → l ≡ line.Cube n → lits ≡ nogood_of l → HasLiterals p l → IfOk r (NogoodSays p k lits) → IfOk r (LineSays p k l)
+cube_judged p k l {n} lits (Ok o) e f of h =
+    subst (λ m. LineSays p k m o) (sym e) (cube_says p k n o (subst (HasLiterals p) e of) (subst (λ ls. NogoodSays p k ls o) (f ∙ ap nogood_of e) h))
+cube_judged p k l {n} lits (Err x) e f of h = tt
+
+pub lits_are_of : (p : Program) (l : Line) (lits : List Literal) → lits ≡ nogood_of l → HasLiterals p l → AreOf p lits
+lits_are_of p l lits e of = subst (AreOf p) (sym e) (has_of p l of)
+
+pub loop_stands : (p : Program) (l : Line) (set : Atoms) {n : List ℤ} → l ≡ line.Loop set n → HasLiterals p l → list_all (has (atoms_of p)) set ≡ true
+loop_stands p l set e of = (subst (HasLiterals p) e of).0
+
+pub known_next : (k : Known) (lines : List Line) (i : ℕ) (l : Line) (rows new : List (List Literal)) (b : Option Bound) (lits : List Literal) → i < length lines → l ≡ get_or lines i l → known_by rows b ≡ known_after k (take i lines) → new ≡ rows ++ lits ∷ [] → lits ≡ nogood_of l → known_by new b ≡ known_after k (take (i + 1) lines)
+known_next k lines i l rows new b lits lt is e made f =
+    ap (λ (ns : List (List Literal)). known_by ns b) made ∙ ap (λ n. with_nogood (known_by rows b) n) f ∙ known_more k (known_by rows b) lines i l lt is e
+
+pub wrong_line : (p : Program) (k now : Known) (lines : List Line) (i : ℕ) (l : Line) (w : Why) → i < length lines → l ≡ get_or lines i l → now ≡ known_after k (take i lines) → AreConfirmed p k (take i lines) → HasLineFault p now l w → IsWrongLine p k lines w i
+wrong_line p k now lines i l w lt is e before fault = record {
+  within = lt;
+  before = before;
+  fault = subst (λ m. HasLineFault p (known_after k (take i lines)) m w) (is ∙ get_or_default lines i l no_line lt) (subst (λ m. HasLineFault p m l w) e fault);
+}
+
+-- ---- the bound at first
+pub no_bound : (p : Program) (opt : Bool) (listed : List Atoms) → length listed ≡ 0 → (let o : Option (List ℤ) = None in o) ≡ cond opt (bound_of p listed) None
+no_bound p true [] e = refl
+no_bound p false [] e = refl
+no_bound p opt (S ∷ listed) e = absurd (omega arith)
+
+pub first_bound : (p : Program) (opt : Bool) (listed : List Atoms) (S : Atoms) (c : List ℤ) → opt ≡ true → 0 < length listed → S ≡ get_or listed 0 S → c ≡ cost p S → Some c ≡ cond opt (bound_of p listed) None
+first_bound p opt [] S c e lt is f = absurd (omega arith)
+first_bound p opt (T ∷ listed) S c e lt is f = ap (λ d. let o : Option (List ℤ) = Some d in o) (f ∙ ap (cost p) is) ∙ sym (ap (λ b. cond b (bound_of p (T ∷ listed)) None) e)
+
+-- ---- the whole, where the proof's lists are read as slices
+pub judged_answer : (p : Program) (proof : Proof) (L : List Atoms) (w : Why) (i n : ℕ) → L ≡ proof.answers → IsWrongAnswer p proof.opt L w i → n ≡ i + 3 → IsJudged p proof (judgement.No w n)
+judged_answer p proof L w i n e h is = inl (record { place = i; wrong = subst (λ M. IsWrongAnswer p proof.opt M w i) e h; is = is })
+
+pub judged_line : (p : Program) (proof : Proof) (L : List Atoms) (Ls : List Line) (k : Known) (w : Why) (i n : ℕ) → L ≡ proof.answers → Ls ≡ proof.lines → AreRightAnswers p proof.opt L → k ≡ known_at_first p proof → IsWrongLine p k Ls w i → n ≡ length L + i + 3 → IsJudged p proof (judgement.No w n)
+judged_line p proof L Ls k w i n e f answers known h is = inr (inl (record {
+  answers = subst (AreRightAnswers p proof.opt) e answers;
+  place = i;
+  wrong = subst (λ Ms. IsWrongLine p (known_at_first p proof) Ms w i) f (subst (λ m. IsWrongLine p m Ls w i) known h);
+  is = is ∙ ap (λ M. length M + i + 3) e;
+}))
+
+pub judged_not_whole : (p : Program) (proof : Proof) (L : List Atoms) (Ls : List Line) (k : Known) (n : ℕ) → L ≡ proof.answers → Ls ≡ proof.lines → AreRightAnswers p proof.opt L → k ≡ known_at_first p proof → (whole : Bool) → whole ≡ false → AreRightLines p k Ls whole → n ≡ length L + length Ls + 3 → IsJudged p proof (judgement.No why.NotWhole n)
+judged_not_whole p proof L Ls k n e f answers known whole not_whole right is = let h = subst (AreRightLines p k Ls) not_whole right in inr (inr (record {
+  answers = subst (AreRightAnswers p proof.opt) e answers;
+  lines = subst (λ Ms. AreRightLines p (known_at_first p proof) Ms false) f (subst (λ m. AreRightLines p m Ls false) known h);
+  why = refl;
+  is = is ∙ ap (λ M. length M + length Ls + 3) e ∙ ap (λ Ms. length proof.answers + length Ms + 3) f;
+}))
+
+pub judged_right : (p : Program) (proof : Proof) (L : List Atoms) (Ls : List Line) (k : Known) → L ≡ proof.answers → Ls ≡ proof.lines → AreRightAnswers p proof.opt L → k ≡ known_at_first p proof → (whole : Bool) → whole ≡ true → AreRightLines p k Ls whole → IsRight p proof
+judged_right p proof L Ls k e f answers known whole is_whole right =
+    let h = subst (AreRightLines p k Ls) is_whole right in
+    is_right p proof k (subst (AreRightAnswers p proof.opt) e answers) known (subst (λ Ms. AreRightLines p k Ms true) f h)

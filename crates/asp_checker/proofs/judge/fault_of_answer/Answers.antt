@@ -1,0 +1,17 @@
+use Rattle.std.proofs.Common.{refl, sym}
+use Rattle.asp_checker.proofs.judge.fault_of_answer.Goals as goal
+
+pub is_in_order-requires : goal.is_in_order-requires
+is_in_order-requires c = c.requires.order
+
+pub returns-then-not-is_in_order : goal.returns-then-not-is_in_order
+returns-then-not-is_in_order c = c.if-not-is_in_order.ensures.no refl
+
+pub returns-then-not-are_atoms : goal.returns-then-not-are_atoms
+returns-then-not-are_atoms c = (c.if-not-is_in_order.ensures.yes refl, sym c.if-not-are_atoms.ensures)
+
+pub returns-then-not-member : goal.returns-then-not-member
+returns-then-not-member c = (c.if-not-is_in_order.ensures.yes refl, sym c.if-not-are_atoms.ensures, c.in_ok-member.ensures.no c.if-not-member.true)
+
+pub returns : goal.returns
+returns c = record { order = c.if-not-is_in_order.ensures.yes refl; member = c.in_ok-member.ensures.yes c.if-not-member.false }

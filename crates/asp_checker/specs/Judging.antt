@@ -1,0 +1,138 @@
+-- What a judgement of a proof says: that it is right, or the first line that isn't, and why.
+use Rattle.std.specs.Prelude.{◌≡◌, ℕ, ◌+◌, ◌<◌, ◌≤◌, Bool, true, false, ◌⊎◌, List, [], ◌∷◌, ◌++◌, take, length, slice_index_or, Option, AllPairs, Contains, IsTrue, MatchOption, ℤ}
+use Rattle.std.specs.List.{list_all, list_any, AllByRecursion}
+use Rattle.asp_model.specs.declared.program.Program.{Program}
+use Rattle.asp_model.specs.Sets.{Atoms, has, IsBefore}
+use Rattle.asp_model.specs.Models.{atoms_of, answers}
+use Rattle.asp_proof.specs.declared.proof.Line.{Line}
+use Rattle.asp_proof.specs.declared.proof.Line.TheVariants as line
+use Rattle.asp_proof.specs.declared.proof.Proof.{Proof}
+use Rattle.asp_checker.specs.declared.judge.Why.{Why}
+use Rattle.asp_checker.specs.declared.judge.Why.TheVariants as why
+use Rattle.asp_checker.specs.declared.judge.Judgement.{Judgement}
+use Rattle.asp_checker.specs.declared.judge.Judgement.TheVariants as judgement
+use Rattle.asp_checker.specs.declared.judge.Step.{Step}
+use Rattle.asp_checker.specs.declared.judge.Step.TheVariants as step
+use Rattle.asp_checker.specs.declared.judge.Outcome.{Outcome}
+use Rattle.asp_checker.specs.declared.judge.Outcome.TheVariants as outcome
+use Rattle.asp_checker.specs.Propagation.{Known, LeadsToConflict}
+use Rattle.asp_checker.specs.Lines.{AreOf, IsLoop, IsConfirmed, AreConfirmed, literals_of, nogood_of, with_nogood, known_at_first}
+use Rattle.asp_checker.specs.Right.{closes, IsRight}
+
+-- ---- answers
+-- The set comes after those before it, and there is none before it where an optimum is sought.
+pub record IsInOrder (opt : Bool) (before : List Atoms) (S : Atoms) : Type 0 where
+  pub later : AllByRecursion (λ T. IsBefore T S) before
+  pub single : IsTrue opt → before ≡ []
+
+-- The answers are right, as far as they go.
+pub record AreRightAnswers (p : Program) (opt : Bool) (listed : List Atoms) : Type 0 where
+  pub members : AllByRecursion (Contains (answers p)) listed
+  pub order : AllPairs IsBefore listed
+  pub single : IsTrue opt → length listed ≤ 1
+
+-- The set is right behind them.
+pub record IsRightAnswer (p : Program) (opt : Bool) (before : List Atoms) (S : Atoms) : Type 0 where
+  pub order : IsInOrder opt before S
+  pub member : Contains (answers p) S
+
+-- what is wrong with a set behind answers that are right
+abbrev pub HasAnswerFault : Program → Bool → List Atoms → Atoms → Why → Type 0
+HasAnswerFault p opt before S why.Order = IsInOrder opt before S → ⊥
+HasAnswerFault p opt before S why.Literal = IsInOrder opt before S × (list_all (has (atoms_of p)) S ≡ false)
+HasAnswerFault p opt before S why.Member = IsInOrder opt before S × (list_all (has (atoms_of p)) S ≡ true) × (Contains (answers p) S → ⊥)
+HasAnswerFault p opt before S why.Loop = ⊥
+HasAnswerFault p opt before S why.NotImplied = ⊥
+HasAnswerFault p opt before S why.NotWhole = ⊥
+
+-- the first set that is wrong
+pub record IsWrongAnswer (p : Program) (opt : Bool) (listed : List Atoms) (w : Why) (place : ℕ) : Type 0 where
+  pub within : place < length listed
+  pub before : AreRightAnswers p opt (take place listed)
+  pub fault : HasAnswerFault p opt (take place listed) (slice_index_or listed place []) w
+
+abbrev pub AreAnswersJudged : Program → Bool → List Atoms → Option (Why × ℕ) → Type 0
+AreAnswersJudged p opt listed o = MatchOption o (AreRightAnswers p opt listed) (λ f. IsWrongAnswer p opt listed f.0 f.1)
+
+-- ---- lines
+-- The program has the variables of a loop's literals and the atoms of its set.
+abbrev pub HasLoopLiterals : Program → Atoms → List ℤ → Type 0
+HasLoopLiterals p set nogood = (list_all (has (atoms_of p)) set ≡ true) × AreOf p (literals_of nogood)
+
+-- The program has the variables of the line's literals, and the atoms of its set.
+abbrev pub HasLiterals : Program → Line → Type 0
+HasLiterals p (line.Loop set nogood) = HasLoopLiterals p set nogood
+HasLiterals p (line.Learned nogood) = AreOf p (literals_of nogood)
+HasLiterals p (line.Cube nogood) = AreOf p (literals_of nogood)
+
+-- what the line is to show isn't so
+abbrev pub IsNoLoop : Program → Line → Type 0
+IsNoLoop p (line.Loop set nogood) = IsLoop p set (literals_of nogood) → ⊥
+IsNoLoop p (line.Learned nogood) = ⊥
+IsNoLoop p (line.Cube nogood) = ⊥
+
+abbrev pub IsNotImplied : Program → Known → Line → Type 0
+IsNotImplied p k (line.Loop set nogood) = ⊥
+IsNotImplied p k (line.Learned nogood) = LeadsToConflict p k (literals_of nogood) → ⊥
+IsNotImplied p k (line.Cube nogood) = LeadsToConflict p k (literals_of nogood) → ⊥
+
+-- what is wrong with a line, where this is known
+abbrev pub HasLineFault : Program → Known → Line → Why → Type 0
+HasLineFault p k l why.Literal = HasLiterals p l → ⊥
+HasLineFault p k l why.Loop = HasLiterals p l × IsNoLoop p l
+HasLineFault p k l why.NotImplied = HasLiterals p l × IsNotImplied p k l
+HasLineFault p k l why.Member = ⊥
+HasLineFault p k l why.Order = ⊥
+HasLineFault p k l why.NotWhole = ⊥
+
+-- what a line came to, where this is known
+abbrev pub IsLineJudged : Program → Known → Line → Step → Type 0
+IsLineJudged p k l (step.Wrong w) = HasLineFault p k l w
+IsLineJudged p k l (step.Known n) = (n ≡ nogood_of l) × HasLiterals p l × IsConfirmed p k l
+
+-- what is known behind these lines
+abbrev pub known_after : Known → List Line → Known
+known_after k [] = k
+known_after k (l ∷ lines) = known_after (with_nogood k (nogood_of l)) lines
+
+-- the line past the last
+abbrev pub no_line : Line
+no_line = line.Learned []
+
+-- the first line that is wrong
+pub record IsWrongLine (p : Program) (k : Known) (lines : List Line) (w : Why) (place : ℕ) : Type 0 where
+  pub within : place < length lines
+  pub before : AreConfirmed p k (take place lines)
+  pub fault : HasLineFault p (known_after k (take place lines)) (slice_index_or lines place no_line) w
+
+-- All lines are right, and one of them says that there is nothing else, or none.
+pub record AreRightLines (p : Program) (k : Known) (lines : List Line) (whole : Bool) : Type 0 where
+  pub confirmed : AreConfirmed p k lines
+  pub whole_is : whole ≡ list_any (closes p) lines
+
+abbrev pub AreLinesJudged : Program → Known → List Line → Outcome → Type 0
+AreLinesJudged p k lines (outcome.Wrong w place) = IsWrongLine p k lines w place
+AreLinesJudged p k lines (outcome.Right whole) = AreRightLines p k lines whole
+
+-- ---- the whole
+-- In the text the first answer is on line 3, the answers are followed by the lines, and these by the line 0.
+pub record IsAnswerFault (p : Program) (proof : Proof) (w : Why) (number : ℕ) : Type 0 where
+  pub place : ℕ
+  pub wrong : IsWrongAnswer p proof.opt proof.answers w place
+  pub is : number ≡ place + 3
+
+pub record IsLineFault (p : Program) (proof : Proof) (w : Why) (number : ℕ) : Type 0 where
+  pub answers : AreRightAnswers p proof.opt proof.answers
+  pub place : ℕ
+  pub wrong : IsWrongLine p (known_at_first p proof) proof.lines w place
+  pub is : number ≡ length proof.answers + place + 3
+
+pub record IsNotWhole (p : Program) (proof : Proof) (w : Why) (number : ℕ) : Type 0 where
+  pub answers : AreRightAnswers p proof.opt proof.answers
+  pub lines : AreRightLines p (known_at_first p proof) proof.lines false
+  pub why : w ≡ why.NotWhole
+  pub is : number ≡ length proof.answers + length proof.lines + 3
+
+abbrev pub IsJudged : Program → Proof → Judgement → Type 0
+IsJudged p proof judgement.Yes = IsRight p proof
+IsJudged p proof (judgement.No w number) = IsAnswerFault p proof w number ⊎ (IsLineFault p proof w number ⊎ IsNotWhole p proof w number)
