@@ -14,3 +14,4 @@ pub mod BoundLaws
 pub mod FoundLaws
 pub mod CompletedLaws
 pub mod JudgeLaws
+pub mod RunLaws
