@@ -15,3 +15,4 @@ pub mod FoundLaws
 pub mod CompletedLaws
 pub mod JudgeLaws
 pub mod RunLaws
+pub mod WrongLaws
