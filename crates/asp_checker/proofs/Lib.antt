@@ -14,3 +14,5 @@ pub mod BoundLaws
 pub mod FoundLaws
 pub mod CompletedLaws
 pub mod JudgeLaws
+pub mod RunLaws
+pub mod WrongLaws

@@ -133,6 +133,10 @@ pub record IsNotWhole (p : Program) (proof : Proof) (w : Why) (number : ℕ) : T
   pub why : w ≡ why.NotWhole
   pub is : number ≡ length proof.answers + length proof.lines + 3
 
+-- why a proof isn't right, and on which line
+abbrev pub IsRefused : Program → Proof → Why → ℕ → Type 0
+IsRefused p proof w number = IsAnswerFault p proof w number ⊎ (IsLineFault p proof w number ⊎ IsNotWhole p proof w number)
+
 abbrev pub IsJudged : Program → Proof → Judgement → Type 0
 IsJudged p proof judgement.Yes = IsRight p proof
-IsJudged p proof (judgement.No w number) = IsAnswerFault p proof w number ⊎ (IsLineFault p proof w number ⊎ IsNotWhole p proof w number)
+IsJudged p proof (judgement.No w number) = IsRefused p proof w number

@@ -8,3 +8,4 @@ pub mod Blocks
 pub mod Assuming
 pub mod Loops
 pub mod Judging
+pub mod Runs

@@ -18,11 +18,18 @@ ghost use Rattle.asp_checker.specs.Propagation.{Known, IsPropagated, LeadsToConf
 ghost use Rattle.asp_checker.specs.Lines.{AreOf, IsLoop};
 ghost use Rattle.asp_checker.specs.Right.{IsRight, Shows};
 ghost use Rattle.asp_checker.specs.Steps.{Follow, Forced, IsKnown, is_unit};
+ghost use Rattle.asp_checker.specs.declared.judge.Why.{Why};
+ghost use Rattle.asp_checker.specs.Judging.{IsRefused};
 
 /// A right proof lists all answers, each once and in order, or in an optimisation one that none betters, and none only
 /// where there is none.
 pub fn right_proofs_show_what_they_list()
     ensures { (p : Program) (proof : Proof) → IsSound p → IsRight p proof → Shows p proof }
+{}
+
+/// A proof that is refused isn't right.
+pub fn refused_proofs_are_not_right()
+    ensures { (p : Program) (proof : Proof) (w : Why) (number : ℕ) → IsRight p proof → IsRefused p proof w number → ⊥ }
 {}
 
 /// Where each nogood that is known hits excused models alone, and so does what costs too much, a line from which a conflict

@@ -11,5 +11,6 @@ mod levels;
 pub mod lines;
 pub mod loops;
 pub mod nogoods;
+pub mod run;
 pub mod sweep;
 pub mod weights;

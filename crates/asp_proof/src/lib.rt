@@ -12,5 +12,5 @@ mod write;
 
 pub use error::ProofError;
 pub use read::parse;
-pub use source::read_proof;
+pub use source::{read_all, read_proof};
 pub use write::write_proof;

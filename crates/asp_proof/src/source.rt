@@ -14,8 +14,8 @@ use std::alloc::Global;
 /// The greatest length of a text.
 const MOST_BYTES: usize = 268_435_456;
 
-// All that a source has left, if that isn't too long.
-fn read_all<S: Source>(alloc: Global, source: &mut S) -> Result<Vec<u8>, ProofError>
+/// All that a source has left, if that isn't too long.
+pub fn read_all<S: Source>(alloc: Global, source: &mut S) -> Result<Vec<u8>, ProofError>
     ensures read { IsRead (λ v. v.items) (S.left source.old) result }
     ensures end { OnOk result (IsAtEnd (S.left source.new)) }
     ensures later { S.faults source.old ≤ S.faults source.new }

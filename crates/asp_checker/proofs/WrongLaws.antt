@@ -1,0 +1,109 @@
+-- A proof that is refused isn't right.
+use Rattle.std.proofs.Common.{◌≡◌, ℕ, zero, suc, ◌+◌, ◌<◌, ◌≤◌, Bool, true, false, ◌&&◌, List, [], ◌∷◌, length, take, get_or, refl, sym, ap, ◌∙◌, subst, arith}
+use Rattle.std.specs.Prelude.{AllPairs, Contains, IsTrue, ◌⊎◌}
+use Rattle.std.specs.List.{list_all, list_any, AllByRecursion}
+use Rattle.std.proofs.Common.{inl, inr}
+use Rattle.std.proofs.lemmas.Bool.{false≢true}
+use Rattle.std.proofs.lemmas.List.{get_or-take, get_or_default, length-take-le}
+use Rattle.std.proofs.lemmas.List.Elements.{recursion_from_All, All-from_recursion}
+use Rattle.asp_model.specs.declared.program.Program.{Program}
+use Rattle.asp_model.specs.Sets.{Atoms, has, IsBefore}
+use Rattle.asp_model.specs.Models.{atoms_of, answers, is_stable}
+use Rattle.asp_model.proofs.MemberLaws.{each_weaker, HasAll-itself}
+use Rattle.asp_model.proofs.ModelLaws.{answers-are, stable-subset}
+use Rattle.asp_proof.specs.declared.proof.Line.{Line}
+use Rattle.asp_proof.specs.declared.proof.Line.TheVariants as line
+use Rattle.asp_proof.specs.declared.proof.Proof.{Proof}
+use Rattle.asp_checker.specs.declared.judge.Why.{Why}
+use Rattle.asp_checker.specs.declared.judge.Why.TheVariants as why
+use Rattle.asp_checker.specs.Propagation.{Known}
+use Rattle.asp_checker.specs.Lines.{AreOf, IsConfirmed, AreConfirmed, nogood_of, with_nogood, known_at_first}
+use Rattle.asp_checker.specs.Right.{closes, IsRight}
+use Rattle.asp_checker.specs.Judging.{IsInOrder, HasAnswerFault, IsWrongAnswer, HasLiterals, HasLineFault, IsWrongLine, IsNotWhole, IsRefused, known_after, no_line}
+
+-- ---- answers
+and_true : (a b : Bool) → a ≡ true → b ≡ true → (a && b) ≡ true
+and_true true b e f = f
+and_true false b e f = e
+
+all_pass : (q : ℕ → Bool) (xs : List ℕ) → AllByRecursion (λ a. q a ≡ true) xs → list_all q xs ≡ true
+all_pass q [] h = refl
+all_pass q (x ∷ xs) h = and_true (q x) (list_all q xs) h.0 (all_pass q xs h.1)
+
+-- an answer has atoms of the program alone
+answer_stands : (p : Program) (S : Atoms) → Contains (answers p) S → list_all (has (atoms_of p)) S ≡ true
+answer_stands p S h =
+    let within = stable-subset p S ((answers-are p S).0 h).0 in
+    all_pass (has (atoms_of p)) S (each_weaker (λ a. has S a ≡ true) (λ a. has (atoms_of p) a ≡ true) (λ a e. within.1 a e) S (HasAll-itself S))
+
+in_order : (opt : Bool) (listed : List Atoms) (i : ℕ) → i < length listed → AllPairs IsBefore listed → (IsTrue opt → length listed ≤ 1) → IsInOrder opt (take i listed) (get_or listed i [])
+in_order opt listed i lt pairs few = record {
+  later = recursion_from_All (λ T. IsBefore T (get_or listed i [])) (take i listed) (λ k d less.
+      let below : k < i = let n = length-take-le i listed (omega arith) in omega (arith, n, less) in
+      subst (λ T. IsBefore T (get_or listed i [])) (sym (get_or-take i listed k d below)) (subst (IsBefore (get_or listed k d)) (get_or_default listed i d [] lt) (pairs k i d below lt)));
+  single = λ o. let one = few o in let none : i ≡ 0 = omega arith in ap (λ j. take j listed) none;
+}
+
+answer_fault : (p : Program) (opt : Bool) (listed : List Atoms) (w : Why) (i : ℕ) → i < length listed → IsInOrder opt (take i listed) (get_or listed i []) → Contains (answers p) (get_or listed i []) → HasAnswerFault p opt (take i listed) (get_or listed i []) w → ⊥
+answer_fault p opt listed why.Order i lt order member h = h order
+answer_fault p opt listed why.Literal i lt order member h = false≢true (sym h.1 ∙ answer_stands p (get_or listed i []) member)
+answer_fault p opt listed why.Member i lt order member h = h.2 member
+answer_fault p opt listed why.Loop i lt order member h = h
+answer_fault p opt listed why.NotImplied i lt order member h = h
+answer_fault p opt listed why.NotWhole i lt order member h = h
+
+wrong_answer_no : (p : Program) (proof : Proof) (w : Why) (i : ℕ) → IsRight p proof → IsWrongAnswer p proof.opt proof.answers w i → ⊥
+wrong_answer_no p proof w i right wrong =
+    answer_fault p proof.opt proof.answers w i wrong.within (in_order proof.opt proof.answers i wrong.within right.order right.single)
+    (All-from_recursion (Contains (answers p)) proof.answers right.members i [] wrong.within) wrong.fault
+
+-- ---- lines
+confirmed_of : (p : Program) (k : Known) (lines : List Line) (i : ℕ) → i < length lines → AreConfirmed p k lines → AreOf p (nogood_of (get_or lines i no_line))
+confirmed_of p k [] i lt h = absurd (omega arith)
+confirmed_of p k (l ∷ lines) zero lt h = h.0
+confirmed_of p k (l ∷ lines) (suc i) lt h = confirmed_of p (with_nogood k (nogood_of l)) lines i (omega arith) h.2
+
+confirmed_at : (p : Program) (k : Known) (lines : List Line) (i : ℕ) → i < length lines → AreConfirmed p k lines → IsConfirmed p (known_after k (take i lines)) (get_or lines i no_line)
+confirmed_at p k [] i lt h = absurd (omega arith)
+confirmed_at p k (l ∷ lines) zero lt h = h.1
+confirmed_at p k (l ∷ lines) (suc i) lt h = confirmed_at p (with_nogood k (nogood_of l)) lines i (omega arith) h.2
+
+literals_of_confirmed : (p : Program) (k : Known) (l : Line) → AreOf p (nogood_of l) → IsConfirmed p k l → HasLiterals p l
+literals_of_confirmed p k (line.Loop set n) of h = (h.among, of)
+literals_of_confirmed p k (line.Learned n) of h = of
+literals_of_confirmed p k (line.Cube n) of h = of
+
+no_loop : (p : Program) (k : Known) (l : Line) → IsConfirmed p k l → HasLineFault p k l why.Loop → ⊥
+no_loop p k (line.Loop set n) c h = h.1 c
+no_loop p k (line.Learned n) c h = h.1
+no_loop p k (line.Cube n) c h = h.1
+
+not_implied : (p : Program) (k : Known) (l : Line) → IsConfirmed p k l → HasLineFault p k l why.NotImplied → ⊥
+not_implied p k (line.Loop set n) c h = h.1
+not_implied p k (line.Learned n) c h = h.1 c
+not_implied p k (line.Cube n) c h = h.1 c
+
+line_fault : (p : Program) (k : Known) (l : Line) (w : Why) → AreOf p (nogood_of l) → IsConfirmed p k l → HasLineFault p k l w → ⊥
+line_fault p k l why.Literal of c h = h (literals_of_confirmed p k l of c)
+line_fault p k l why.Loop of c h = no_loop p k l c h
+line_fault p k l why.NotImplied of c h = not_implied p k l c h
+line_fault p k l why.Member of c h = h
+line_fault p k l why.Order of c h = h
+line_fault p k l why.NotWhole of c h = h
+
+wrong_line_no : (p : Program) (k : Known) (lines : List Line) (w : Why) (i : ℕ) → AreConfirmed p k lines → IsWrongLine p k lines w i → ⊥
+wrong_line_no p k lines w i c wrong =
+    line_fault p (known_after k (take i lines)) (get_or lines i no_line) w (confirmed_of p k lines i wrong.within c) (confirmed_at p k lines i wrong.within c) wrong.fault
+
+-- ---- the whole
+not_whole_no : (p : Program) (proof : Proof) (w : Why) (n : ℕ) → IsRight p proof → IsNotWhole p proof w n → ⊥
+not_whole_no p proof w n right h = let lines = h.lines in false≢true (lines.whole_is ∙ right.whole)
+
+pub refused-not_right : (p : Program) (proof : Proof) (w : Why) (n : ℕ) → IsRight p proof → IsRefused p proof w n → ⊥
+refused-not_right p proof w n right refused = elim refused [
+  | inl a ↦ let b = a.wrong in wrong_answer_no p proof w a.place right b
+  | inr o ↦ elim o [
+    | inl l ↦ let b = l.wrong in wrong_line_no p (known_at_first p proof) proof.lines w l.place right.lines b
+    | inr h ↦ not_whole_no p proof w n right h
+  ]
+]
