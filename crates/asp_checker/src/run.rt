@@ -9,10 +9,10 @@ ghost use Rattle.asp_checker.specs.Runs.{CheckSays, ProofSays, ReadSays, program
 
 use crate::judge::{Judgement, Why, judge};
 use asp_io::{CleanSource, Sink, Source, write_all};
-use asp_model::fault::ReadError;
 use asp_model::program::Program;
 use asp_proof::proof::Proof;
 use asp_proof::{ProofError, parse, read_all};
+use asp_read::fault::ReadError;
 use asp_read::read_program;
 use asp_vars::compile::compile;
 use itoa::Buffer;

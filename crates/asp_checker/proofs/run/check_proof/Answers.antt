@@ -1,6 +1,6 @@
 use Rattle.std.proofs.Common.{sym, ap, ◌∙◌, subst, Result, Err}
 use Rattle.asp_model.specs.declared.program.Program.{Program}
-use Rattle.asp_model.specs.declared.fault.ReadError.{ReadError}
+use Rattle.asp_read.specs.declared.fault.ReadError.{ReadError}
 use Rattle.asp_read.specs.Outcome.{outcome}
 use Rattle.asp_read.specs.Stream.{ReadsText}
 use Rattle.asp_checker.specs.Runs.{CheckSays}
