@@ -20,7 +20,7 @@ use Rattle.asp_vars.specs.declared.nogood.Base.TheVariants as base
 use Rattle.asp_vars.specs.declared.nogood.Nogood.{Nogood}
 use Rattle.asp_vars.proofs.LiteralLaws.{beq_same, and_both, and_left, and_right}
 use Rattle.asp_trail.specs.Trails.{IsVar}
-use Rattle.asp_trail.specs.Quiet.{is_open, is_violated, is_unit, is_calm}
+use Rattle.asp_trail.specs.Fixpoint.{is_open, is_violated, is_unit, is_at_fixpoint}
 use Rattle.asp_bound.specs.declared.place.Place.{Place}
 use Rattle.asp_bound.specs.declared.place.Item.{Item}
 use Rattle.asp_bound.specs.Optimism.{optimistic}
@@ -118,14 +118,14 @@ raising-hold a rows d (v ∷ vs) =
     list_all-append (holds_in a) (raising_at a rows d v) (raising_of a rows d vs) ∙ and_both (list_all (holds_in a) (raising_at a rows d v)) (list_all (holds_in a) (raising_of a rows d vs)) (raising_by-hold a (row_at rows v) d v (value_of a v) refl) (raising-hold a rows d vs)
 
 -- ---- so they are violated, or unit with one more
-pub violated-loud : (a : List (Option Bool)) (n : List Literal) → list_all (holds_in a) n ≡ true → is_calm a n ≡ false
+pub violated-loud : (a : List (Option Bool)) (n : List Literal) → list_all (holds_in a) n ≡ true → is_at_fixpoint a n ≡ false
 violated-loud a n h = ap (λ b. not b && not (is_unit a n)) h
 
 weaker-all : (f g : Literal → Bool) (n : List Literal) → ((k : Literal) → f k ≡ true → g k ≡ true) → list_all f n ≡ true → list_all g n ≡ true
 weaker-all f g [] h e = refl
 weaker-all f g (k ∷ n) h e = and_both (g k) (list_all g n) (h k (and_left (f k) (list_all f n) e)) (weaker-all f g n h (and_right (f k) (list_all f n) e))
 
-pub unit-loud : (a : List (Option Bool)) (n : List Literal) (v : ℕ) (b : Bool) → list_all (holds_in a) n ≡ true → value_of a v ≡ None → is_calm a (n ++ record { var = v; truth = b } ∷ []) ≡ false
+pub unit-loud : (a : List (Option Bool)) (n : List Literal) (v : ℕ) (b : Bool) → list_all (holds_in a) n ≡ true → value_of a v ≡ None → is_at_fixpoint a (n ++ record { var = v; truth = b } ∷ []) ≡ false
 unit-loud a n v b h none =
     let l : Literal = record { var = v; truth = b } in
     let test : Literal → Bool = λ k. literal_eq k l || holds_in a k in

@@ -8,7 +8,7 @@ use Rattle.asp_vars.specs.Numbering.{var_count}
 use Rattle.asp_model.specs.Costs.{betters}
 use Rattle.asp_trail.specs.Trails.{IsVar}
 use Rattle.asp_trail.specs.Told.{Told}
-use Rattle.asp_trail.specs.Quiet.{is_calm}
+use Rattle.asp_trail.specs.Fixpoint.{is_at_fixpoint}
 use Rattle.asp_bound.specs.Definition.{ExcludesBelow}
 
 -- the values told, and the bound that stands
@@ -21,13 +21,13 @@ abbrev pub IsSmaller : List ℤ → Option (List ℤ) → Type 0
 IsSmaller c None = Unit {0}
 IsSmaller c (Some d) = betters c d ≡ true
 
--- A nogood that follows by the bound c, and isn't calm.
+-- A nogood that follows by the bound c, and isn't at fixpoint.
 pub record IsGivenBy (t : Told) (c : List ℤ) (n : Nogood) : Type 0 where
   pub base : n.base ≡ base.Below c
   pub excluded : ExcludesBelow t.program c n.lits
   pub below : Below t.program c n.lits
   pub within : All (λ l. IsVar (var_count t.program) l.var) n.lits
-  pub wanted : is_calm t.values n.lits ≡ false
+  pub wanted : is_at_fixpoint t.values n.lits ≡ false
 
 abbrev pub IsGiven : Bounded → Nogood → Type 0
 IsGiven s n = (c : List ℤ) × (s.bound ≡ Some c) × IsGivenBy s.told c n

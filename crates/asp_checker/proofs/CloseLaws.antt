@@ -14,7 +14,7 @@ use Rattle.asp_checker.specs.declared.nogoods.Visit.{Visit}
 use Rattle.asp_checker.specs.declared.nogoods.Visit.TheVariants as visit
 use Rattle.asp_checker.specs.Propagation.{Known, is_broken, reaches_bound, has_conflict, IsPropagated}
 use Rattle.asp_checker.specs.Lines.{IsOf, AreOf}
-use Rattle.asp_checker.specs.Looks.{IsCalm}
+use Rattle.asp_checker.specs.Looks.{IsAtFixpoint}
 use Rattle.asp_checker.specs.Steps.{AreWithin, Follow, IsKnown}
 use Rattle.asp_checker.specs.Sweeps.{AreInRange, open_count, IsNogoodOf, AreNogoodsOf, IsSwept}
 use Rattle.asp_checker.specs.Blocks.{is_blocked, known_by, cost_of_bound, Extends, AreRefuted, IsImplied, AreFree, IsFound, IsStep}
@@ -70,26 +70,26 @@ without_conflict p k x missed free = three (list_any (λ n. list_all (holds_in x
     three false b c e f = f
     three true b c e f = absurd (false≢true (sym e))
 
-pub is_propagated : (p : Program) (k : Known) (x : List (Option Bool)) → length x ≡ var_count p + 1 → AllByRecursion (IsCalm x) k.nogoods → is_blocked p k.bound x ≡ false → AreFree p k.bound x (var_count p) → IsPropagated p k x
-is_propagated p k x size calm free more = record {
+pub is_propagated : (p : Program) (k : Known) (x : List (Option Bool)) → length x ≡ var_count p + 1 → AllByRecursion (IsAtFixpoint x) k.nogoods → is_blocked p k.bound x ≡ false → AreFree p k.bound x (var_count p) → IsPropagated p k x
+is_propagated p k x size fixpoint free more = record {
   size = size;
-  now = without_conflict p k x (each_weaker (IsCalm x) (λ n. list_all (holds_in x) n ≡ false) (λ n h. h.now) k.nogoods calm) free;
-  one_more = λ v b i le none. without_conflict p k (set x v (Some b)) (each_weaker (IsCalm x) (λ n. list_all (holds_in (set x v (Some b))) n ≡ false) (λ n h. h.one_more v b none) k.nogoods calm) (more.free v b i le none);
+  now = without_conflict p k x (each_weaker (IsAtFixpoint x) (λ n. list_all (holds_in x) n ≡ false) (λ n h. h.now) k.nogoods fixpoint) free;
+  one_more = λ v b i le none. without_conflict p k (set x v (Some b)) (each_weaker (IsAtFixpoint x) (λ n. list_all (holds_in (set x v (Some b))) n ≡ false) (λ n h. h.one_more v b none) k.nogoods fixpoint) (more.free v b i le none);
 }
 
 -- ---- what a step came to
-pub step_swept : (p : Program) (rows : List (List Literal)) (bound : Option Bound) (x y : List (Option Bool)) (now : Visit) → AllByRecursion (AreOf p) rows → (now ≡ visit.Calm → ⊥) → IsSwept x y rows now → IsStep p (known_by rows bound) x y now
+pub step_swept : (p : Program) (rows : List (List Literal)) (bound : Option Bound) (x y : List (Option Bool)) (now : Visit) → AllByRecursion (AreOf p) rows → (now ≡ visit.Fixpoint → ⊥) → IsSwept x y rows now → IsStep p (known_by rows bound) x y now
 step_swept p rows bound x y visit.Conflict of quiet h = record { conflict = λ n f. h p (known_by rows bound) n (nogoods_known p rows bound of) f }
 step_swept p rows bound x y visit.Implied of quiet h = (
   record { size = h.1.size; within = h.1.within; follow = λ n f. h.0 p (known_by rows bound) n (nogoods_known p rows bound of) f },
   h.1.fewer,
 )
-step_swept p rows bound x y visit.Calm of quiet h = absurd (quiet refl)
+step_swept p rows bound x y visit.Fixpoint of quiet h = absurd (quiet refl)
 
-pub step_further : (p : Program) (rows : List (List Literal)) (bound : Option Bound) (x z y : List (Option Bool)) (now : Visit) → length x ≡ var_count p + 1 → IsSwept x z rows visit.Calm → IsFound p (known_by rows bound) z y now → IsStep p (known_by rows bound) x y now
+pub step_further : (p : Program) (rows : List (List Literal)) (bound : Option Bound) (x z y : List (Option Bool)) (now : Visit) → length x ≡ var_count p + 1 → IsSwept x z rows visit.Fixpoint → IsFound p (known_by rows bound) z y now → IsStep p (known_by rows bound) x y now
 step_further p rows bound x z y visit.Conflict size swept h = subst (AreRefuted p (known_by rows bound)) swept.0 h
 step_further p rows bound x z y visit.Implied size swept h = subst (λ w. Extends p (known_by rows bound) w y × (open_count y < open_count w)) swept.0 h
-step_further p rows bound x z y visit.Calm size swept h = (
+step_further p rows bound x z y visit.Fixpoint size swept h = (
   h.0 ∙ swept.0,
   is_propagated p (known_by rows bound) x size swept.1 (subst (λ w. is_blocked p (cost_of_bound bound) w ≡ false) swept.0 h.1) (subst (λ w. AreFree p (cost_of_bound bound) w (var_count p)) swept.0 h.2),
 )

@@ -10,7 +10,7 @@ use Rattle.asp_vars.specs.Literals.{Literal, complement, literal_eq, value_of, a
 use Rattle.asp_vars.proofs.LiteralLaws.{same_literal}
 use Rattle.asp_checker.specs.declared.nogoods.Look.{Look}
 use Rattle.asp_checker.specs.declared.nogoods.Look.TheVariants as look
-use Rattle.asp_checker.specs.Looks.{IsCalm, IsUnit, IsSeen}
+use Rattle.asp_checker.specs.Looks.{IsAtFixpoint, IsUnit, IsSeen}
 use Rattle.asp_checker.proofs.StepLaws.{value-held}
 
 -- where one literal fails, not all hold
@@ -73,7 +73,7 @@ other_value : (x : List (Option Bool)) (v : ℕ) (b : Bool) (l : Literal) → l.
 other_value x v b l ne = let other : l.var ≢ v = ne in ap (λ o. agrees o l) (get_or-set_other x v l.var (Some b) None other)
 
 -- ---- one literal more
-failed : (x : List (Option Bool)) (n : List Literal) (l : Literal) → holds_in x (complement l) ≡ true → has_literal n l ≡ true → IsCalm x n
+failed : (x : List (Option Bool)) (n : List Literal) (l : Literal) → holds_in x (complement l) ≡ true → has_literal n l ≡ true → IsAtFixpoint x n
 failed x n l fails among = record {
   now = one_fails x n l among (clash_of (value_of x l.var) l fails);
   one_more = λ v b e.
@@ -81,20 +81,20 @@ failed x n l fails among = record {
       one_fails (set x v (Some b)) n l among (other_value x v b l other ∙ clash_of (value_of x l.var) l fails);
 }
 
-pub with_failed : (x : List (Option Bool)) (l : Literal) → holds_in x (complement l) ≡ true → (n : List Literal) → IsCalm x (n ++ l ∷ [])
+pub with_failed : (x : List (Option Bool)) (l : Literal) → holds_in x (complement l) ≡ true → (n : List Literal) → IsAtFixpoint x (n ++ l ∷ [])
 with_failed x l fails n = failed x (n ++ l ∷ []) l fails (last_among n l)
 
 still_false : (p : Literal → Bool) (n m : List Literal) → list_all p n ≡ false → list_all p (n ++ m) ≡ false
 still_false p n m e = list_all-append p n m ∙ ap (λ b. b && list_all p m) e
 
-pub calm_more : (x : List (Option Bool)) (n m : List Literal) → IsCalm x n → IsCalm x (n ++ m)
-calm_more x n m h = record { now = still_false (holds_in x) n m h.now; one_more = λ v b e. still_false (holds_in (set x v (Some b))) n m (h.one_more v b e) }
+pub fixpoint_more : (x : List (Option Bool)) (n m : List Literal) → IsAtFixpoint x n → IsAtFixpoint x (n ++ m)
+fixpoint_more x n m h = record { now = still_false (holds_in x) n m h.now; one_more = λ v b e. still_false (holds_in (set x v (Some b))) n m (h.one_more v b e) }
 
 one_more_passes : (p : Literal → Bool) (n : List Literal) (l : Literal) → list_all p n ≡ true → p l ≡ true → list_all p (n ++ l ∷ []) ≡ true
 one_more_passes p n l h e = list_all-append p n (l ∷ []) ∙ and_from (list_all p n) (p l && true) h (and_from (p l) true e refl)
 
 pub with_held : (x : List (Option Bool)) (l : Literal) (seen : Look) → holds_in x l ≡ true → (n : List Literal) → IsSeen x n seen → IsSeen x (n ++ l ∷ []) seen
-with_held x l look.Calm held n h = calm_more x n (l ∷ []) h
+with_held x l look.Fixpoint held n h = fixpoint_more x n (l ∷ []) h
 with_held x l (look.Unit k) held n h = record {
   others = one_more_passes (λ m. literal_eq m k || holds_in x m) n l h.others (or_right (literal_eq l k) (holds_in x l) held);
   no_value = h.no_value;
@@ -151,7 +151,7 @@ not_both_hold x k l v t a b differ p q =
       | false ↦ λ e. absurd (false≢true (sym none ∙ sym (other_value x v t m (λ same. false≢true (sym e ∙ eq-eqb m.var v same))) ∙ now))
     ]) refl
 
-two_open : (x : List (Option Bool)) (n : List Literal) (k l : Literal) → has_literal n k ≡ true → has_literal n l ≡ true → holds_in x k ≡ false → holds_in x l ≡ false → literal_eq k l ≡ false → IsCalm x n
+two_open : (x : List (Option Bool)) (n : List Literal) (k l : Literal) → has_literal n k ≡ true → has_literal n l ≡ true → holds_in x k ≡ false → holds_in x l ≡ false → literal_eq k l ≡ false → IsAtFixpoint x n
 two_open x n k l a b none also differ = record {
   now = one_fails x n l b also;
   one_more = λ v t e.
@@ -159,15 +159,15 @@ two_open x n k l a b none also differ = record {
       elim (not_both (holds_in y k) (holds_in y l) (not_both_hold x k l v t none also differ)) [ inl p ↦ one_fails y n k a p | inr q ↦ one_fails y n l b q ];
 }
 
-pub with_second : (x : List (Option Bool)) (k l : Literal) → holds_in x l ≡ false → literal_eq k l ≡ false → (n : List Literal) → IsUnit x n k → IsCalm x (n ++ l ∷ [])
+pub with_second : (x : List (Option Bool)) (k l : Literal) → holds_in x l ≡ false → literal_eq k l ≡ false → (n : List Literal) → IsUnit x n k → IsAtFixpoint x (n ++ l ∷ [])
 with_second x k l none differ n h = two_open x (n ++ l ∷ []) k l (among_more n l k h.among) (last_among n l) (none_holds x k h.no_value) none differ
 
 -- ---- as far as a nogood was read
 pub seen_more : (x : List (Option Bool)) (lits : List Literal) (i : ℕ) (l : Literal) (seen : Look) → i < length lits → l ≡ get_or lits i l → IsSeen x (take i lits ++ l ∷ []) seen → IsSeen x (take (i + 1) lits) seen
 seen_more x lits i l seen lt is h = subst (λ (n : List Literal). IsSeen x n seen) (ap (λ k. take i lits ++ k ∷ []) is ∙ sym (take_more lits i l lt)) h
 
-pub calm_whole : (x : List (Option Bool)) (lits : List Literal) (i : ℕ) → IsCalm x (take i lits) → IsCalm x lits
-calm_whole x lits i h = subst (IsCalm x) (take-append-drop i lits) (calm_more x (take i lits) (drop i lits) h)
+pub fixpoint_whole : (x : List (Option Bool)) (lits : List Literal) (i : ℕ) → IsAtFixpoint x (take i lits) → IsAtFixpoint x lits
+fixpoint_whole x lits i h = subst (IsAtFixpoint x) (take-append-drop i lits) (fixpoint_more x (take i lits) (drop i lits) h)
 
 pub seen_whole : (x : List (Option Bool)) (lits : List Literal) (i : ℕ) (seen : Look) → length lits ≤ i → IsSeen x (take i lits) seen → IsSeen x lits seen
 seen_whole x lits i seen le h = subst (λ (n : List Literal). IsSeen x n seen) (take_all i lits le) h

@@ -12,7 +12,7 @@ use Rattle.asp_checker.specs.declared.nogoods.Visit.TheVariants as visit
 use Rattle.asp_checker.specs.Propagation.{Known}
 use Rattle.asp_checker.specs.Lines.{IsOf, AreOf}
 use Rattle.asp_checker.specs.Steps.{AreWithin, Follow}
-use Rattle.asp_checker.specs.Looks.{IsCalm, IsVisited}
+use Rattle.asp_checker.specs.Looks.{IsAtFixpoint, IsVisited}
 use Rattle.asp_checker.specs.Sweeps.{open_count, Grows, AreInRange, IsNogoodOf, Implies, Refutes, IsSwept, IsSweptSoFar, later}
 use Rattle.asp_checker.proofs.StepLaws.{unit-forces, follow-more, violated-conflicts}
 use Rattle.asp_checker.proofs.LookLaws.{among_range}
@@ -48,7 +48,7 @@ nothing : (x z : List (Option Bool)) (rows : List (List Literal)) → z ≡ x �
 nothing x z rows e = λ p k n known follow. subst (Follow p k n) (sym e) follow
 
 before_row : (x z : List (Option Bool)) (rows front : List (List Literal)) (came : Visit) → IsSweptSoFar x z rows front came → Implies rows x z
-before_row x z rows front visit.Calm h = nothing x z rows h.0
+before_row x z rows front visit.Fixpoint h = nothing x z rows h.0
 before_row x z rows front visit.Conflict h = absurd h
 before_row x z rows front visit.Implied h = h.0
 
@@ -68,7 +68,7 @@ pub grows_then : (x y z : List (Option Bool)) → Grows x y → Grows y z → Gr
 grows_then x y z a b = record { size = b.size ∙ a.size; within = within-then x y z a.within b.within; fewer = let c = a.fewer in let d = b.fewer in omega arith }
 
 grown : (x z y : List (Option Bool)) (rows front : List (List Literal)) (row : List Literal) (came : Visit) → AllByRecursion (λ l. l.var < length z) row → IsSweptSoFar x z rows front came → IsVisited z y row visit.Implied → Grows x y
-grown x z y rows front row visit.Calm range h v = subst (λ w. Grows w y) h.0 (visit_grows z y row range v)
+grown x z y rows front row visit.Fixpoint range h v = subst (λ w. Grows w y) h.0 (visit_grows z y row range v)
 grown x z y rows front row visit.Conflict range h v = absurd h
 grown x z y rows front row visit.Implied range h v = grows_then x z y h.1 (visit_grows z y row range v)
 
@@ -77,9 +77,9 @@ one_more : (x z y : List (Option Bool)) (rows front : List (List Literal)) (i : 
     → (now ≡ visit.Conflict → ⊥) → IsSweptSoFar x z rows front came → IsVisited z y row now → IsSweptSoFar x y rows (front ++ row ∷ []) (later came now)
 one_more x z y rows front i row came visit.Conflict lt e range quiet h v = absurd (quiet refl)
 one_more x z y rows front i row came visit.Implied lt e range quiet h v = (implied x z y rows i row lt e range (before_row x z rows front came h) v, grown x z y rows front row came range h v)
-one_more x z y rows front i row visit.Calm visit.Calm lt e range quiet h v = (v.1 ∙ h.0, each-append (IsCalm x) front (row ∷ []) h.1 (subst (λ (w : List (Option Bool)). IsCalm w row) h.0 v.0, tt))
-one_more x z y rows front i row visit.Implied visit.Calm lt e range quiet h v = subst (λ w. Implies rows x w × Grows x w) (sym v.1) h
-one_more x z y rows front i row visit.Conflict visit.Calm lt e range quiet h v = h
+one_more x z y rows front i row visit.Fixpoint visit.Fixpoint lt e range quiet h v = (v.1 ∙ h.0, each-append (IsAtFixpoint x) front (row ∷ []) h.1 (subst (λ (w : List (Option Bool)). IsAtFixpoint w row) h.0 v.0, tt))
+one_more x z y rows front i row visit.Implied visit.Fixpoint lt e range quiet h v = subst (λ w. Implies rows x w × Grows x w) (sym v.1) h
+one_more x z y rows front i row visit.Conflict visit.Fixpoint lt e range quiet h v = h
 
 pub swept_more : (x z y : List (Option Bool)) (rows : List (List Literal)) (i : ℕ) (row : List Literal) (came now : Visit) → i < length rows → row ≡ get_or rows i row → AreInRange (length z) rows
     → (now ≡ visit.Conflict → ⊥) → IsSweptSoFar x z rows (take i rows) came → IsVisited z y row now → IsSweptSoFar x y rows (take (i + 1) rows) (later came now)
@@ -93,11 +93,11 @@ swept_conflict x z y rows front i row came lt e h v = λ p k n known follow.
     violated-conflicts p k z n row (row_of (IsNogoodOf p k) rows i row lt e known).known (before_row x z rows front came h p k n known follow) v.0
 
 pub swept_whole : (x y : List (Option Bool)) (rows : List (List Literal)) (i : ℕ) (came : Visit) → length rows ≤ i → IsSweptSoFar x y rows (take i rows) came → IsSwept x y rows came
-swept_whole x y rows i visit.Calm le h = (h.0, subst (AllByRecursion (IsCalm x)) (take_all i rows le) h.1)
+swept_whole x y rows i visit.Fixpoint le h = (h.0, subst (AllByRecursion (IsAtFixpoint x)) (take_all i rows le) h.1)
 swept_whole x y rows i visit.Conflict le h = absurd h
 swept_whole x y rows i visit.Implied le h = h
 
 pub same_size : (x y : List (Option Bool)) (n : List Literal) (now : Visit) → IsVisited x y n now → length y ≡ length x
-same_size x y n visit.Calm v = ap length v.1
+same_size x y n visit.Fixpoint v = ap length v.1
 same_size x y n visit.Conflict v = ap length v.1
 same_size x y n visit.Implied v = ap length v.2 ∙ length-set x v.0.var _

@@ -73,10 +73,10 @@ pub record AreFree (p : Program) (bound : Option (List ℤ)) (x : List (Option B
 abbrev pub IsFound : Program → Known → List (Option Bool) → List (Option Bool) → Visit → Type 0
 IsFound p k x y visit.Conflict = AreRefuted p k x
 IsFound p k x y visit.Implied = Extends p k x y × (open_count y < open_count x)
-IsFound p k x y visit.Calm = (y ≡ x) × (is_blocked p k.bound x ≡ false) × AreFree p k.bound x (var_count p)
+IsFound p k x y visit.Fixpoint = (y ≡ x) × (is_blocked p k.bound x ≡ false) × AreFree p k.bound x (var_count p)
 
 -- what a step came to
 abbrev pub IsStep : Program → Known → List (Option Bool) → List (Option Bool) → Visit → Type 0
 IsStep p k x y visit.Conflict = AreRefuted p k x
 IsStep p k x y visit.Implied = Extends p k x y × (open_count y < open_count x)
-IsStep p k x y visit.Calm = (y ≡ x) × IsPropagated p k x
+IsStep p k x y visit.Fixpoint = (y ≡ x) × IsPropagated p k x

@@ -9,7 +9,7 @@ use Rattle.asp_checker.specs.declared.nogoods.Visit.TheVariants as visit
 use Rattle.asp_checker.specs.Steps.{is_unit}
 
 -- The values don't hit the nogood, nor do they with one value more.
-pub record IsCalm (x : List (Option Bool)) (n : List Literal) : Type 0 where
+pub record IsAtFixpoint (x : List (Option Bool)) (n : List Literal) : Type 0 where
   pub now : list_all (holds_in x) n ≡ false
   pub one_more : (v : ℕ) (b : Bool) → value_of x v ≡ None → list_all (holds_in (slice_set x v (Some b))) n ≡ false
 
@@ -21,7 +21,7 @@ pub record IsUnit (x : List (Option Bool)) (n : List Literal) (l : Literal) : Ty
 
 -- what the nogood says
 abbrev pub IsSeen : List (Option Bool) → List Literal → Look → Type 0
-IsSeen x n look.Calm = IsCalm x n
+IsSeen x n look.Fixpoint = IsAtFixpoint x n
 IsSeen x n (look.Unit l) = IsUnit x n l
 IsSeen x n look.Violated = list_all (holds_in x) n ≡ true
 
@@ -29,4 +29,4 @@ IsSeen x n look.Violated = list_all (holds_in x) n ≡ true
 abbrev pub IsVisited : List (Option Bool) → List (Option Bool) → List Literal → Visit → Type 0
 IsVisited x y n visit.Conflict = (list_all (holds_in x) n ≡ true) × (y ≡ x)
 IsVisited x y n visit.Implied = (l : Literal) × IsUnit x n l × (y ≡ slice_set x l.var (Some (not l.truth)))
-IsVisited x y n visit.Calm = IsCalm x n × (y ≡ x)
+IsVisited x y n visit.Fixpoint = IsAtFixpoint x n × (y ≡ x)

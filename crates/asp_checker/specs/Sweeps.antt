@@ -8,7 +8,7 @@ use Rattle.asp_checker.specs.declared.nogoods.Visit.TheVariants as visit
 use Rattle.asp_checker.specs.Propagation.{Known, LeadsToConflict}
 use Rattle.asp_checker.specs.Lines.{AreOf}
 use Rattle.asp_checker.specs.Steps.{AreWithin, Follow, IsKnown}
-use Rattle.asp_checker.specs.Looks.{IsCalm}
+use Rattle.asp_checker.specs.Looks.{IsAtFixpoint}
 
 -- each literal's variable has a place among so many
 abbrev pub AreInRange : ℕ → List (List Literal) → Type 0
@@ -43,11 +43,11 @@ Refutes rows x = (p : Program) (k : Known) (n : List Literal) → AreNogoodsOf p
 abbrev pub IsSwept : List (Option Bool) → List (Option Bool) → List (List Literal) → Visit → Type 0
 IsSwept x y rows visit.Conflict = Refutes rows x
 IsSwept x y rows visit.Implied = Implies rows x y × Grows x y
-IsSwept x y rows visit.Calm = (y ≡ x) × AllByRecursion (IsCalm x) rows
+IsSwept x y rows visit.Fixpoint = (y ≡ x) × AllByRecursion (IsAtFixpoint x) rows
 
 -- what two looks came to
 abbrev pub later : Visit → Visit → Visit
-later before visit.Calm = before
+later before visit.Fixpoint = before
 later before visit.Conflict = visit.Conflict
 later before visit.Implied = visit.Implied
 
@@ -55,4 +55,4 @@ later before visit.Implied = visit.Implied
 abbrev pub IsSweptSoFar : List (Option Bool) → List (Option Bool) → List (List Literal) → List (List Literal) → Visit → Type 0
 IsSweptSoFar x y rows front visit.Conflict = ⊥
 IsSweptSoFar x y rows front visit.Implied = Implies rows x y × Grows x y
-IsSweptSoFar x y rows front visit.Calm = (y ≡ x) × AllByRecursion (IsCalm x) front
+IsSweptSoFar x y rows front visit.Fixpoint = (y ≡ x) × AllByRecursion (IsAtFixpoint x) front

@@ -27,7 +27,7 @@ fn look_further(compiled: &Compiled, bound: &Option<Bound>, values: &mut Assign)
         return Visit::Conflict;
     }
     match implied(compiled, bound, values) {
-        None => Visit::Calm,
+        None => Visit::Fixpoint,
         Some(lit) => {
             values.set(lit);
             Visit::Implied
@@ -45,7 +45,7 @@ fn step(compiled: &Compiled, rows: &[Seq<Lit>], bound: &Option<Bound>, values: &
     match sweep(rows, values) {
         Visit::Conflict => Visit::Conflict,
         Visit::Implied => Visit::Implied,
-        Visit::Calm => look_further(compiled, bound, values),
+        Visit::Fixpoint => look_further(compiled, bound, values),
     }
 }
 
@@ -66,7 +66,7 @@ pub fn close(
     'steps: loop {
         match step(compiled, rows, bound, values) {
             Visit::Conflict => return true,
-            Visit::Calm => return false,
+            Visit::Fixpoint => return false,
             Visit::Implied => {}
         }
     }

@@ -10,7 +10,7 @@ use asp_vars::lit::Lit;
 #[derive(Clone, Copy)]
 pub enum Look {
     /// Nothing, nor would it with one value more be hit.
-    Calm,
+    Fixpoint,
     /// All of its literals hold but this one, which has no value.
     Unit(Lit),
     /// All of its literals hold.
@@ -26,16 +26,16 @@ fn with(look: Look, lit: Lit, values: &Assign) -> Look
         return look;
     }
     if values.holds(lit.complement()) {
-        return Look::Calm;
+        return Look::Fixpoint;
     }
     match look {
-        Look::Calm => Look::Calm,
+        Look::Fixpoint => Look::Fixpoint,
         Look::Violated => Look::Unit(lit),
         Look::Unit(open) => {
             if open == lit {
                 return Look::Unit(open);
             }
-            Look::Calm
+            Look::Fixpoint
         }
     }
 }
@@ -48,8 +48,8 @@ pub fn look_at(lits: &[Lit], values: &Assign) -> Look
     let mut look = Look::Violated;
     for lit in lits {
         look = with(look, *lit, values);
-        if let Look::Calm = look {
-            return Look::Calm;
+        if let Look::Fixpoint = look {
+            return Look::Fixpoint;
         }
     }
     look
@@ -63,7 +63,7 @@ pub enum Visit {
     /// A value was implied, and set.
     Implied,
     /// Nothing.
-    Calm,
+    Fixpoint,
 }
 
 /// Looks at a nogood, and sets the value that it implies.
@@ -72,7 +72,7 @@ pub fn visit_one(lits: &[Lit], values: &mut Assign) -> Visit
     ensures { IsVisited values.old values.new lits.now result }
 {
     match look_at(lits, values) {
-        Look::Calm => Visit::Calm,
+        Look::Fixpoint => Visit::Fixpoint,
         Look::Violated => Visit::Conflict,
         Look::Unit(lit) => {
             values.set(lit.complement());

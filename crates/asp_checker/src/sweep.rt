@@ -13,7 +13,7 @@ fn later(before: Visit, now: Visit) -> Visit
     ensures { result ≡ later before now }
 {
     match now {
-        Visit::Calm => before,
+        Visit::Fixpoint => before,
         Visit::Conflict => Visit::Conflict,
         Visit::Implied => Visit::Implied,
     }
@@ -24,7 +24,7 @@ pub fn sweep(rows: &[Seq<Lit>], values: &mut Assign) -> Visit
     requires { AreInRange (length values.old) rows.now }
     ensures { IsSwept values.old values.new rows.now result }
 {
-    let mut came_to = Visit::Calm;
+    let mut came_to = Visit::Fixpoint;
     for row in rows {
         let visit = visit_one(row.as_slice(), values);
         if let Visit::Conflict = visit {

@@ -95,7 +95,7 @@ impl Stage {
         ensures { self.new ≡ self.old }
     {
         match self.store.propagate(&mut self.trail).expect(rt, "memory") {
-            Propagated::Quiet => None,
+            Propagated::Fixpoint => None,
             Propagated::Violated(id) => Some(id),
         }
     }

@@ -10,7 +10,7 @@ use Rattle.asp_trail.specs.declared.trail.Entry.{Entry}
 use Rattle.asp_trail.specs.Entries.{assignment, cut}
 use Rattle.asp_trail.specs.Trails.{Trailed}
 use Rattle.asp_trail.specs.Told.{Told}
-use Rattle.asp_trail.specs.Quiet.{is_calm}
+use Rattle.asp_trail.specs.Fixpoint.{is_at_fixpoint}
 use Rattle.asp_trail.specs.Reasons.{IsReason}
 use Rattle.asp_store.specs.declared.stored_nogood.StoredNogood.{StoredNogood}
 use Rattle.asp_store.specs.Keeping.{nogood_at}
@@ -21,7 +21,7 @@ use Rattle.asp_store.specs.Storing.{Stored, Fits, IsAdded, Loses, removed, recal
 use Rattle.asp_store.proofs.FitsLaws.{fits_open, fits_imply, fits_cut, fits_clear, fits_add, fits_recall, fits_remove, fits_lose}
 use Rattle.asp_store.proofs.PendingLaws.{kept_within}
 use Rattle.asp_store.specs.Walking.{IsViolated}
-use Rattle.asp_propagate.specs.Propagating.{WasTold, IsFollowed, IsUnnamed, IsReduced, AreUnlocked, AreCalm, Implies, GoesOn}
+use Rattle.asp_propagate.specs.Propagating.{WasTold, IsFollowed, IsUnnamed, IsReduced, AreUnlocked, AreAtFixpoint, Implies, GoesOn}
 use Rattle.asp_propagate.specs.Locking.{HaveSlots}
 use Rattle.asp_propagate.proofs.TellLaws.{told_extends, told_cut, told_none}
 use Rattle.asp_propagate.proofs.AddLaws.{unlocked_added, adds_none, adds_one, implies_none, implies_from}
@@ -108,15 +108,15 @@ followed_reduced t s z r n red l f = record {
   unlocked = unlocked_reduced r.entries s.slots z.slots red f.unlocked;
 }
 
--- ---- a nogood that isn't calm brings an entry
-pub grows : (slots : List (Option StoredNogood)) (vars : ℕ) (es fs : List Entry) (id : ℕ) (n : Nogood) → nogood_at slots id ≡ Some n → is_calm (assignment vars es) n.lits ≡ false →
-    AreCalm slots (assignment vars fs) → Implies es fs → length es < length fs
-grows slots vars es fs id n g wanted calm x = by x.0 x.1
+-- ---- a nogood that isn't at fixpoint brings an entry
+pub grows : (slots : List (Option StoredNogood)) (vars : ℕ) (es fs : List Entry) (id : ℕ) (n : Nogood) → nogood_at slots id ≡ Some n → is_at_fixpoint (assignment vars es) n.lits ≡ false →
+    AreAtFixpoint slots (assignment vars fs) → Implies es fs → length es < length fs
+grows slots vars es fs id n g wanted fixpoint x = by x.0 x.1
   where
     by : (gs : List Entry) → fs ≡ es ++ gs → length es < length fs
     by [] q =
         let same : fs ≡ es = q ∙ append-nil es in
-        absurd (false≢true (sym wanted ∙ (ap (λ (xs : List Entry). is_calm (assignment vars xs) n.lits) (sym same) ∙ calm id n g)))
+        absurd (false≢true (sym wanted ∙ (ap (λ (xs : List Entry). is_at_fixpoint (assignment vars xs) n.lits) (sym same) ∙ fixpoint id n g)))
     by (e ∷ gs) q = omega (arith, ap (length {A = Entry}) q, length-append es (e ∷ gs))
 
 -- ---- what the store does
@@ -142,9 +142,9 @@ goes_settled gives t u b c s z es fs program bound slots x = record {
   implies = implies_from s.slots es fs x;
 }
 
-pub calm_settled : (vars now : ℕ) (old new : List (Option StoredNogood)) (es : List Entry) → now ≡ vars → new ≡ old → AreCalm old (assignment vars es) → AreCalm new (assignment now es)
-calm_settled vars now old new es v q h =
-    subst (λ (m : ℕ). AreCalm new (assignment m es)) (sym v) (subst (λ (xs : List (Option StoredNogood)). AreCalm xs (assignment vars es)) (sym q) h)
+pub fixpoint_settled : (vars now : ℕ) (old new : List (Option StoredNogood)) (es : List Entry) → now ≡ vars → new ≡ old → AreAtFixpoint old (assignment vars es) → AreAtFixpoint new (assignment now es)
+fixpoint_settled vars now old new es v q h =
+    subst (λ (m : ℕ). AreAtFixpoint new (assignment m es)) (sym v) (subst (λ (xs : List (Option StoredNogood)). AreAtFixpoint xs (assignment vars es)) (sym q) h)
 
 pub violated_settled : (vars now : ℕ) (old new : List (Option StoredNogood)) (es : List Entry) (id : ℕ) → now ≡ vars → new ≡ old → IsViolated vars old es id → IsViolated now new es id
 violated_settled vars now old new es id v q h =

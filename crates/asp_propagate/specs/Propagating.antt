@@ -9,7 +9,7 @@ use Rattle.asp_trail.specs.declared.trail.Entry.{Entry}
 use Rattle.asp_trail.specs.Entries.{assignment, level}
 use Rattle.asp_trail.specs.Trails.{Trailed}
 use Rattle.asp_trail.specs.Told.{Told}
-use Rattle.asp_trail.specs.Quiet.{is_calm}
+use Rattle.asp_trail.specs.Fixpoint.{is_at_fixpoint}
 use Rattle.asp_trail.specs.Reasons.{IsReason}
 use Rattle.asp_store.specs.declared.stored_nogood.StoredNogood.{StoredNogood}
 use Rattle.asp_store.specs.declared.stored_nogood.Kind.{Kind}
@@ -100,18 +100,18 @@ pub record GoesOn (gives : Nogood → Type 0) (told after : Told) (bound now : O
   pub implies : Implies old new
 
 -- No nogood that is kept is unit or violated.
-abbrev pub AreCalm : List (Option StoredNogood) → List (Option Bool) → Type 0
-AreCalm slots a = (id : ℕ) (n : Nogood) → nogood_at slots id ≡ Some n → IsTrue (is_calm a n.lits)
+abbrev pub AreAtFixpoint : List (Option StoredNogood) → List (Option Bool) → Type 0
+AreAtFixpoint slots a = (id : ℕ) (n : Nogood) → nogood_at slots id ≡ Some n → IsTrue (is_at_fixpoint a n.lits)
 
 -- Nor has the propagator anything to say.
-pub record IsQuiet (silent : List (Option Bool) → Type 0) (slots : List (Option StoredNogood)) (a : List (Option Bool)) : Type 0 where
-  pub calm : AreCalm slots a
+pub record IsFixpoint (silent : List (Option Bool) → Type 0) (slots : List (Option StoredNogood)) (a : List (Option Bool)) : Type 0 where
+  pub fixpoint : AreAtFixpoint slots a
   pub says_nothing : silent a
 
 -- What comes of asking: the propagator is silent, or it gives a nogood that is unit or violated, which is kept.
 abbrev pub Asked : (List (Option Bool) → Type 0) → (Nogood → Type 0) → List (Option Bool) → Stored → Stored → Bool → Type 0
 Asked silent gives a old new false = (new ≡ old) × silent a
-Asked silent gives a old new true = (n : Nogood) × (id : ℕ) × IsAdded old new id n kind.Given × gives n × (is_calm a n.lits ≡ false)
+Asked silent gives a old new true = (n : Nogood) × (id : ℕ) × IsAdded old new id n kind.Given × gives n × (is_at_fixpoint a n.lits ≡ false)
 
 -- ---- reduction
 -- Nogoods were dropped, but none that is kept forever or that an entry names. All others are as they were.

@@ -1,6 +1,6 @@
 //! The trail with all that follows it: the store of nogoods and a propagator.
 //!
-//! The propagator was told of the first entries, which `told` counts. Only where the store is quiet is it told of the
+//! The propagator was told of the first entries, which `told` counts. Only where the store is at fixpoint is it told of the
 //! others.
 ghost use Rattle.std.specs.Prelude.{◌≡◌, ℕ, ◌<◌, ◌+◌, ◌^◌, [], Some, None, IfOk, OnErr, IfSome, IfNone, length, replicate, if◌then◌else◌};
 ghost use Rattle.std.specs.List.{All};
@@ -12,7 +12,7 @@ ghost use Rattle.asp_store.specs.Fitting.{HaveReasons};
 ghost use Rattle.asp_store.specs.Keeping.{kept_at, unless_given};
 ghost use Rattle.asp_store.specs.Walking.{IsViolated};
 ghost use Rattle.asp_propagate.specs.Useful.{IsSmaller};
-ghost use Rattle.asp_propagate.specs.Propagating.{values_of, with_entry, without_nogood, is_named, Keeps, IsUnnamed, IsImplied, Adds, Implies, IsQuiet, IsReduced};
+ghost use Rattle.asp_propagate.specs.Propagating.{values_of, with_entry, without_nogood, is_named, Keeps, IsUnnamed, IsImplied, Adds, Implies, IsFixpoint, IsReduced};
 
 use crate::locks::lock_reasons;
 use crate::propagator::Propagator;
@@ -151,7 +151,7 @@ impl<P: Propagator> Engine<P> {
         ensures adds { Adds (P.gives self.old.program self.old.bound) self.old.slots self.new.slots }
         ensures implies { Implies self.old.entries self.new.entries }
         ensures reasons { HaveReasons self.new.slots self.new.entries }
-        ensures quiet { IfOk result (λ r. IfNone r (IsQuiet (P.silent self.new.program self.new.bound) self.new.slots (values_of self.new))) }
+        ensures fixpoint { IfOk result (λ r. IfNone r (IsFixpoint (P.silent self.new.program self.new.bound) self.new.slots (values_of self.new))) }
         ensures violated { IfOk result (λ r. IfSome r (IsViolated (var_count self.new.program) self.new.slots self.new.entries)) }
     {
         propagate(

@@ -8,7 +8,7 @@ ghost use Rattle.asp_vars.specs.Literals.{value_of, holds_in};
 ghost use Rattle.asp_vars.specs.Numbering.{var_count};
 ghost use Rattle.asp_trail.specs.Entries.{assignment};
 ghost use Rattle.asp_trail.specs.Trails.{IsVar};
-ghost use Rattle.asp_trail.specs.Quiet.{is_calm};
+ghost use Rattle.asp_trail.specs.Fixpoint.{is_at_fixpoint};
 ghost use Rattle.asp_propagate.specs.Useful.{IsSmaller};
 
 use asp_model::cost::Cost;
@@ -67,10 +67,10 @@ pub trait Propagator: Drop {
         requires { (told self.old).values ≡ assignment trail.now.vars trail.now.entries }
         ensures values { told self.new ≡ told self.old }
         ensures stays { bound self.new ≡ bound self.old }
-        ensures quiet { IfOk result (λ n. IfNone n (silent (told self.old).program (bound self.old) (told self.old).values)) }
+        ensures fixpoint { IfOk result (λ n. IfNone n (silent (told self.old).program (bound self.old) (told self.old).values)) }
         ensures given { IfOk result (λ n. IfSome n (gives (told self.old).program (bound self.old))) }
         ensures within { IfOk result (λ n. IfSome n (λ m. All (λ l. IsVar (var_count (told self.old).program) l.var) m.lits)) }
-        ensures wanted { IfOk result (λ n. IfSome n (λ m. is_calm (told self.old).values m.lits ≡ false)) };
+        ensures wanted { IfOk result (λ n. IfSome n (λ m. is_at_fixpoint (told self.old).values m.lits ≡ false)) };
 
     /// What it gives counts for a search, whatever answers are known.
     ghost sound: { (p : Program) (b : Option (List ℤ)) (n : Nogood) (known : List Atoms) → IsSound p → gives p b n → IsUseful p known b n };

@@ -1,12 +1,12 @@
 //! Propagation by the store and the propagator, in turn.
 //!
-//! The store goes first, until it is quiet, and only then is the propagator told and asked: what is undone after a
+//! The store goes first, until it is at fixpoint, and only then is the propagator told and asked: what is undone after a
 //! violated nogood of the store costs the propagator nothing. What it gives is kept, and is unit or violated, so that
 //! the store goes on.
 ghost use Rattle.std.specs.Prelude.{◌≡◌, ◌≤◌, ◌+◌, ℕ, length, IfOk, OnOk, IfSome, IfNone};
 ghost use Rattle.asp_trail.specs.Entries.{assignment};
 ghost use Rattle.asp_store.specs.Walking.{IsViolated};
-ghost use Rattle.asp_propagate.specs.Propagating.{WasTold, IsFollowed, GoesOn, AreCalm, IsQuiet, Asked};
+ghost use Rattle.asp_propagate.specs.Propagating.{WasTold, IsFollowed, GoesOn, AreAtFixpoint, IsFixpoint, Asked};
 
 use crate::propagator::Propagator;
 use crate::telling::tell;
@@ -17,7 +17,7 @@ use asp_trail::reasons::NogoodId;
 use asp_trail::trail::Trail;
 use std::alloc::AllocError;
 
-// What the store finds. Where it is quiet, the propagator is told of all entries.
+// What the store finds. Where it is at fixpoint, the propagator is told of all entries.
 fn settle<P: Propagator>(
     propagator: &mut P,
     trail: &mut Trail,
@@ -31,14 +31,14 @@ fn settle<P: Propagator>(
     ensures same { store.new.slots ≡ store.old.slots }
     ensures few { OnOk result (length trail.new.entries ≤ trail.new.vars + 1) }
     ensures all { IfOk result (λ r. IfNone r (told.new ≡ length trail.new.entries)) }
-    ensures calm { IfOk result (λ r. IfNone r (AreCalm store.new.slots (assignment trail.new.vars trail.new.entries))) }
+    ensures fixpoint { IfOk result (λ r. IfNone r (AreAtFixpoint store.new.slots (assignment trail.new.vars trail.new.entries))) }
     ensures violated { IfOk result (λ r. IfSome r (IsViolated trail.new.vars store.new.slots trail.new.entries)) }
 {
     let found = store.propagate(trail)?;
     let _level = trail.level();
     match found {
         Propagated::Violated(id) => Ok(Some(id)),
-        Propagated::Quiet => {
+        Propagated::Fixpoint => {
             tell(propagator, trail, *told);
             *told = trail.len();
             Ok(None)
@@ -83,7 +83,7 @@ pub fn propagate<P: Propagator>(
     ensures followed { IsFollowed (P.told propagator.new) store.new trail.new told.new }
     ensures goes { GoesOn (P.gives (P.told propagator.old).program (P.bound propagator.old)) (P.told propagator.old) (P.told propagator.new) (P.bound propagator.old) (P.bound propagator.new)
         store.old.slots store.new.slots trail.old.entries trail.new.entries }
-    ensures quiet { IfOk result (λ r. IfNone r (IsQuiet (P.silent (P.told propagator.old).program (P.bound propagator.old)) store.new.slots (assignment trail.new.vars trail.new.entries))) }
+    ensures fixpoint { IfOk result (λ r. IfNone r (IsFixpoint (P.silent (P.told propagator.old).program (P.bound propagator.old)) store.new.slots (assignment trail.new.vars trail.new.entries))) }
     ensures violated { IfOk result (λ r. IfSome r (IsViolated trail.new.vars store.new.slots trail.new.entries)) }
 {
     let first = settle(propagator, trail, store, told)?;

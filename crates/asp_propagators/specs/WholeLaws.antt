@@ -120,9 +120,9 @@ weights-kept p a v values silent bound items listed =
     let x : ℕ = var_of_form p b in
     let S : Atoms = true_atoms p v in
     let stand : Stands (atoms_of p) b = at_listed (Stands (atoms_of p)) b (bodies_of p) (bodies_of-stand p) listed in
-    let quiet : is_silent_body p a b ≡ true = at_listed (λ c. is_silent_body p a c ≡ true) b (bodies_of p) (passed (is_silent_body p a) (bodies_of p) silent) listed in
+    let fixpoint : is_silent_body p a b ≡ true = at_listed (λ c. is_silent_body p a c ≡ true) b (bodies_of p) (passed (is_silent_body p a) (bodies_of p) silent) listed in
     let value : value_of a x ≡ Some (get_or v x false) = values x (zero-lt-suc _, form-within p b listed) in
-    let said : is_silent_as (Some (get_or v x false)) p a bound items ≡ true = subst (λ (o : Option Bool). is_silent_as o p a bound items ≡ true) value quiet in
+    let said : is_silent_as (Some (get_or v x false)) p a bound items ≡ true = subst (λ (o : Option Bool). is_silent_as o p a bound items ≡ true) value fixpoint in
     kept_as (get_or v x false) p a bound items (weight_of S items)
     (weighs p S (holds_in a) items (λ l stands. holds-value p a v l values stands) stand)
     (weighs p S (λ l. not (holds_in a (complement l))) items (λ l stands. not_false-value p a v l values stands) stand)

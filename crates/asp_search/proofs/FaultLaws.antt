@@ -17,8 +17,8 @@ use Rattle.asp_stable.specs.Founding.{KeepsCompletion, GivesAtoms}
 use Rattle.asp_loop.specs.LoopNogoods.{IsLoopNogood}
 use Rattle.asp_trail.specs.declared.trail.Entry.{Entry}
 use Rattle.asp_trail.specs.Entries.{assignment}
-use Rattle.asp_trail.specs.Quiet.{is_violated, is_unit}
-use Rattle.asp_trail_laws.specs.Calm.{AreCalm}
+use Rattle.asp_trail.specs.Fixpoint.{is_violated, is_unit}
+use Rattle.asp_trail_laws.specs.Fixpoint.{AreAtFixpoint}
 use Rattle.asp_trail_laws.specs.Whole.{AreVars, IsWhole, truths, atoms_on}
 use Rattle.asp_trail_laws.proofs.VarLaws.{completion_are_vars}
 use Rattle.asp_trail_laws.proofs.WholeLaws.{whole_lit, whole_nogood}
@@ -67,9 +67,9 @@ module _ (p : Program) (es : List Entry) (w : IsWhole p (var_count p) es) (S : A
 
   -- the set keeps the completion
   pub kept_by : KeepsCompletion p S
-  kept_by = none_passes (hits (values p S)) (completion p) (along (completion p) w.calm (completion_are_vars p))
+  kept_by = none_passes (hits (values p S)) (completion p) (along (completion p) w.fixpoint (completion_are_vars p))
     where
-      along : (ns : List (List Literal)) → AreCalm (var_count p) ns es → AllByRecursion (AreVars (var_count p)) ns → AllByRecursion (λ n. hits (values p S) n ≡ false) ns
+      along : (ns : List (List Literal)) → AreAtFixpoint (var_count p) ns es → AllByRecursion (AreVars (var_count p)) ns → AllByRecursion (λ n. hits (values p S) n ≡ false) ns
       along [] c a = tt
       along (n ∷ ns) c a = (
         ap (λ (T : Atoms). hits (values p T) n) is

@@ -64,7 +64,7 @@ jump_slots t u w to id slots lit e imply = sym (ap (λ (x : SearchView). x.slots
 module _ (t u : SearchView) (from : List Literal) (to : ℕ) (slots : List (Option StoredNogood)) (n : Nogood) (lit : Literal) (e : u ≡ back t to slots u.ranking) (o : IsOrdered (var_count t.program) t.entries)
     (c : AreContained (var_count t.program) t.entries n.lits) (j : IsJump t.entries from n.lits to lit) where
   pub back_under : (q : List Literal) → IsUnder t q → IsUnder u q
-  back_under q x = subst (λ (y : SearchView). IsUnder y q) (sym e) (record { cube_is = x.cube_is; calm = x.calm })
+  back_under q x = subst (λ (y : SearchView). IsUnder y q) (sym e) (record { cube_is = x.cube_is; fixpoint = x.fixpoint })
 
   pub back_var : IsVar (var_count u.program) lit.var
   back_var = subst (λ (y : SearchView). IsVar (var_count y.program) lit.var) (sym e) (jump_var (var_count t.program) t.entries from n.lits to lit o c j)

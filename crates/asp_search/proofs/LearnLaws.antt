@@ -9,9 +9,9 @@ use Rattle.asp_vars.specs.Literals.{Literal, holds_in}
 use Rattle.asp_vars.specs.declared.nogood.Nogood.{Nogood}
 use Rattle.asp_trail.specs.declared.trail.Entry.{Entry}
 use Rattle.asp_trail.specs.Entries.{assignment}
-use Rattle.asp_trail.specs.Quiet.{is_violated}
+use Rattle.asp_trail.specs.Fixpoint.{is_violated}
 use Rattle.asp_trail.specs.Trails.{IsOrdered, IsVar}
-use Rattle.asp_trail.proofs.QuietLaws.{list_all_at}
+use Rattle.asp_trail.proofs.FixpointLaws.{list_all_at}
 use Rattle.asp_trail.proofs.HoldLaws.{holds_found}
 use Rattle.asp_store.specs.declared.stored_nogood.StoredNogood.{StoredNogood}
 use Rattle.asp_store.specs.Keeping.{nogood_at}

@@ -57,8 +57,8 @@ module _ (md : Mode) (t : SearchView) (c : Paced) (known : List Atoms) (last : O
   pub met_of : (l : Learned) → IsEntered (view_of md t c known last) q → IsOrdered (var_count t.program) t.entries → ((r : List Literal) → IsUnder t r → IsBegun t.program r t.decisions t.entries) →
       HaveReasons t.slots t.entries → AreUseful t.program known t.bound t.slots → Explains (var_count t.program) t.slots t.entries id l → IsMet (view_of md t c known last) q id l
   met_of l e o begun r u x =
-      let b = begun q (record { cube_is = e.cube; calm = e.clear }) in
-      record { entered = e.cube; clear = e.clear; last = e.last; ordered = o; starts = b.starts; calm = b.calm; reasons = r; useful = u; explains = x }
+      let b = begun q (record { cube_is = e.cube; fixpoint = e.clear }) in
+      record { entered = e.cube; clear = e.clear; last = e.last; ordered = o; starts = b.starts; fixpoint = b.fixpoint; reasons = r; useful = u; explains = x }
 
   -- ---- all at level 0
   pub met_within : (n : Nogood) → IsMet (view_of md t c known last) q id (learned.InCube n) → IsWithin n.lits q
@@ -97,7 +97,7 @@ module _ (md : Mode) (t : SearchView) (c : Paced) (known : List Atoms) (last : O
         small = (jump_var vars t.entries x.from.lits n.lits to lit m.ordered x.contained j).1;
         has = has_value (value_of (values_of t) lit.var) (complement lit) holds;
         low = omega (arith, level_in_top t.entries lit.var m.ordered.rising, m.starts.counted);
-        conflict = conflict t.program vars q t.decisions t.entries x.from.lits j.top.0 top m.ordered m.starts m.calm (omega (arith, j.above)) j.top.1 j.top.2 known t.bound settled (from_settled (learned.Jump n to lit) m);
+        conflict = conflict t.program vars q t.decisions t.entries x.from.lits j.top.0 top m.ordered m.starts m.fixpoint (omega (arith, j.above)) j.top.1 j.top.2 known t.bound settled (from_settled (learned.Jump n to lit) m);
       }
 
   -- the nogood that shows the conflict holds on the trail

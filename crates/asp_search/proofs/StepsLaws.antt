@@ -32,7 +32,7 @@ use Rattle.asp_analyze.specs.Learning.{AreContained, IsJump}
 use Rattle.asp_analyze.specs.declared.learn.Learned.TheVariants as learned
 use Rattle.asp_order.specs.Pacing.{Paced}
 use Rattle.asp_order.specs.Waiting.{IsNext}
-use Rattle.asp_propagate.specs.Propagating.{IsQuiet, IsReduced}
+use Rattle.asp_propagate.specs.Propagating.{IsFixpoint, IsReduced}
 use Rattle.asp_trail_laws.proofs.HitLaws.{clash_settled}
 use Rattle.asp_trail_laws.proofs.LitLaws.{only_one}
 use Rattle.asp_trail_laws.proofs.PlaceLaws.{level_last}
@@ -190,14 +190,14 @@ module _ (gives : Nogood → Type 0) (md : Mode) (t : SearchView) (c : Paced) (k
       (subst (λ (y : Paced). Learns gives s (view_of md after y known (Some new)) q f g) (sym pace) learns)
 
   -- ---- decided
-  pub decides_from : (silent : List (Option Bool) → Type 0) (f : Units) (u : SearchView) (l : Literal) (members : List Bool) → last ≡ None → IsQuiet silent t.slots (values_of t) →
+  pub decides_from : (silent : List (Option Bool) → Type 0) (f : Units) (u : SearchView) (l : Literal) (members : List Bool) → last ≡ None → IsFixpoint silent t.slots (values_of t) →
       IsNext (var_count t.program) (values_of t) t.ranking.activities l.var →
       u ≡ record t {
         entries = t.entries ++ record { lit = l; level = length t.decisions + 1; reason = None } ∷ [];
         decisions = t.decisions ++ l ∷ [];
         ranking = record t.ranking { members = members };
       } → Decides gives silent (view_of md t c known last) (view_of md u c known last) f f
-  decides_from silent f u l members none quiet next e =
+  decides_from silent f u l members none fixpoint next e =
       let s : Searching = view_of md t c known last in
       let after : SearchView = record t {
         entries = t.entries ++ record { lit = l; level = length t.decisions + 1; reason = None } ∷ [];
@@ -209,7 +209,7 @@ module _ (gives : Nogood → Type 0) (md : Mode) (t : SearchView) (c : Paced) (k
       let decides : Decides gives silent s (view_of md after c known last) f f = record {
         same = record { program = refl; mode = refl; cube = refl; known = refl; bound = refl };
         fuel = refl;
-        quiet = subst (λ (xs : List Entry). IsQuiet silent t.slots (assignment (var_count t.program) xs)) (sym start) quiet;
+        fixpoint = subst (λ (xs : List Entry). IsFixpoint silent t.slots (assignment (var_count t.program) xs)) (sym start) fixpoint;
         lit = l;
         next = subst (λ (xs : List Entry). IsNext (var_count t.program) (assignment (var_count t.program) xs) t.ranking.activities l.var) (sym start) next;
         entry = ap (λ (xs : List Entry). xs ++ entry ∷ []) (sym start);
@@ -259,18 +259,18 @@ decided_some t u l members e entries decisions =
     ∙ ap (λ (ds : List Literal). let y : SearchView = record t { decisions = ds; entries = more; ranking = order } in y) decisions)
 
 pub decides_now : (gives : Nogood → Type 0) (silent : List (Option Bool) → Type 0) (md : Mode) (t u : SearchView) (c : Paced) (known : List Atoms) (last : Option ℕ) (f : Units) (r : Option Literal) (l : Literal) →
-    r ≡ Some l → last ≡ None → IsQuiet silent t.slots (values_of t) →
+    r ≡ Some l → last ≡ None → IsFixpoint silent t.slots (values_of t) →
     u ≡ record t { decisions = u.decisions; entries = u.entries; ranking = record t.ranking { members = u.ranking.members } } →
     IfSome r (λ k. IsNext (var_count t.program) (values_of t) t.ranking.activities k.var) →
     IfSome r (λ k. u.entries ≡ t.entries ++ record { lit = k; level = length t.decisions + 1; reason = None } ∷ []) →
     IfSome r (λ k. u.decisions ≡ t.decisions ++ k ∷ []) → Decides gives silent (view_of md t c known last) (view_of md u c known last) f f
-decides_now gives silent md t u c known last f r l is none quiet same next entries decisions =
+decides_now gives silent md t u c known last f r l is none fixpoint same next entries decisions =
     let n : IsNext (var_count t.program) (values_of t) t.ranking.activities l.var =
     subst (λ (x : Option Literal). IfSome x (λ k. IsNext (var_count t.program) (values_of t) t.ranking.activities k.var)) is next in
     let e : u.entries ≡ t.entries ++ record { lit = l; level = length t.decisions + 1; reason = None } ∷ [] =
     subst (λ (x : Option Literal). IfSome x (λ k. u.entries ≡ t.entries ++ record { lit = k; level = length t.decisions + 1; reason = None } ∷ [])) is entries in
     let d : u.decisions ≡ t.decisions ++ l ∷ [] = subst (λ (x : Option Literal). IfSome x (λ k. u.decisions ≡ t.decisions ++ k ∷ [])) is decisions in
-    decides_from gives md t c known last silent f u l u.ranking.members none quiet n (decided_some t u l u.ranking.members same e d)
+    decides_from gives md t c known last silent f u l u.ranking.members none fixpoint n (decided_some t u l u.ranking.members same e d)
 
 -- ---- restarted
 all_low : (xs : List Entry) → All (λ e. leb e.level 0 ≡ true) xs → level xs ≡ 0

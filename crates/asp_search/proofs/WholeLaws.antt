@@ -1,4 +1,4 @@
--- A trail on which all variables have values, while all is quiet.
+-- A trail on which all variables have values, while all is at fixpoint.
 use Rattle.std.proofs.Common.{◌≡◌, ℕ, Bool, true, List, ◌∷◌, Option, Some, refl, sym, ap, ◌∙◌, subst, []}
 use Rattle.asp_model.specs.declared.program.Program.{Program}
 use Rattle.asp_model.specs.declared.results.Mode.{Mode}
@@ -11,7 +11,7 @@ use Rattle.asp_vars.specs.Completion.{completion}
 use Rattle.asp_vars.specs.declared.nogood.Base.TheVariants as base
 use Rattle.asp_vars.specs.declared.nogood.Nogood.{Nogood}
 use Rattle.asp_trail.specs.declared.trail.Entry.{Entry}
-use Rattle.asp_trail.specs.Quiet.{is_calm}
+use Rattle.asp_trail.specs.Fixpoint.{is_at_fixpoint}
 use Rattle.asp_trail.specs.Trails.{IsOrdered}
 use Rattle.asp_store.specs.Fitting.{HaveReasons}
 use Rattle.asp_store.specs.Keeping.{nogood_at}
@@ -19,13 +19,13 @@ use Rattle.asp_store.specs.Fitting.{AreSmall}
 use Rattle.asp_store.specs.declared.stored_nogood.StoredNogood.{StoredNogood}
 use Rattle.asp_order.specs.Pacing.{Paced}
 use Rattle.asp_order.specs.Waiting.{AreAssigned}
-use Rattle.asp_trail_laws.specs.Calm.{AreCalm}
+use Rattle.asp_trail_laws.specs.Fixpoint.{AreAtFixpoint}
 use Rattle.asp_trail_laws.specs.Settling.{KeepsSettled}
 use Rattle.asp_trail_laws.specs.Starts.{AreStarts}
 use Rattle.asp_trail_laws.specs.Whole.{AreBlocked, IsWhole, truths, atoms_on}
 use Rattle.asp_trail_laws.proofs.WholeLaws.{trail_valuation, set_value, whole_way}
 use Rattle.asp_trail_laws.proofs.AnswerLaws.{answer_new, answer_settles}
-use Rattle.asp_propagate.specs.Propagating.{IsQuiet}
+use Rattle.asp_propagate.specs.Propagating.{IsFixpoint}
 use Rattle.asp_propagate.specs.Whole.{KeepsAll}
 use Rattle.asp_propagate.specs.Whole as follow
 use Rattle.asp_propagate.proofs.UsefulLaws.{useful_settles}
@@ -43,7 +43,7 @@ pub record IsFull (silent : List (Option Bool) → Type 0) (known : List Atoms) 
   pub reasons : HaveReasons t.slots t.entries
   pub small : AreSmall (var_count t.program) t.slots
   pub completed : KeepsCompletion t.program t.slots
-  pub quiet : IsQuiet silent t.slots (values_of t)
+  pub fixpoint : IsFixpoint silent t.slots (values_of t)
   pub assigned : AreAssigned (var_count t.program) (values_of t)
   pub useful : AreUseful t.program known t.bound t.slots
   pub blocked : AreExcluded t.program t.slots known
@@ -55,11 +55,11 @@ all_blocked p slots (S ∷ known) b = ((b.0.id, b.0.kept.nogood, nogood_kept slo
 
 module _ (silent : List (Option Bool) → Type 0) (known : List Atoms) (t : SearchView) (q : List Literal) (f : IsFull silent known t q)
     (whole : (v : List Bool) → follow.IsWhole t.program (values_of t) v → silent (values_of t) → KeepsAll t.program t.bound v) where
-  -- the completion is calm, since all of it is kept
-  calm_completion : AreCalm (var_count t.program) (completion t.program) t.entries
-  calm_completion =
-      each_weaker (IsForever t.slots) (λ n. is_calm (values_of t) n ≡ true)
-      (λ n c. f.quiet.calm c.id (record { lits = n; base = base.Pure }) (nogood_kept t.slots c.id c.kept c.stands ∙ ap (λ (m : Nogood). Some m) c.nogood))
+  -- the completion is at fixpoint, since all of it is kept
+  fixpoint_completion : AreAtFixpoint (var_count t.program) (completion t.program) t.entries
+  fixpoint_completion =
+      each_weaker (IsForever t.slots) (λ n. is_at_fixpoint (values_of t) n ≡ true)
+      (λ n c. f.fixpoint.fixpoint c.id (record { lits = n; base = base.Pure }) (nogood_kept t.slots c.id c.kept c.stands ∙ ap (λ (m : Nogood). Some m) c.nogood))
       (completion t.program) f.completed
 
   keeps : KeepsAll t.program t.bound (truths (values_of t))
@@ -69,10 +69,10 @@ module _ (silent : List (Option Bool) → Type 0) (known : List Atoms) (t : Sear
         valuation = trail_valuation t.program (var_count t.program) t.entries refl f.ordered;
         values = λ x v. set_value (values_of t) x (f.assigned x v);
       })
-      f.quiet.says_nothing
+      f.fixpoint.says_nothing
 
   pub full_whole : IsWhole t.program (var_count t.program) t.entries
-  full_whole = record { counted = refl; ordered = f.ordered; full = f.assigned; calm = calm_completion; weights = keeps.weights }
+  full_whole = record { counted = refl; ordered = f.ordered; full = f.assigned; fixpoint = fixpoint_completion; weights = keeps.weights }
 
   settled : KeepsSettled t.program known t.bound (nogood_at t.slots)
   settled id n k = useful_settles t.program known t.bound n (f.useful id n k)
@@ -82,7 +82,7 @@ module _ (silent : List (Option Bool) → Type 0) (known : List Atoms) (t : Sear
   full_found m c last stable = record {
     stable = stable;
     hit = whole_way t.program (var_count t.program) t.entries full_whole q t.decisions f.starts;
-    new = answer_new t.program known (var_count t.program) (nogood_at t.slots) t.entries full_whole (all_blocked t.program t.slots known f.blocked) f.small f.quiet.calm;
+    new = answer_new t.program known (var_count t.program) (nogood_at t.slots) t.entries full_whole (all_blocked t.program t.slots known f.blocked) f.small f.fixpoint.fixpoint;
     cheaper = keeps.cheaper;
     settled = answer_settles t.program known t.bound (var_count t.program) (nogood_at t.slots) q t.decisions t.entries full_whole f.reasons settled f.starts;
   }

@@ -13,7 +13,7 @@ use Rattle.asp_trail.specs.Trails.{IsOrdered}
 use Rattle.asp_store.specs.Fitting.{HaveReasons}
 use Rattle.asp_store.specs.Keeping.{nogood_at}
 use Rattle.asp_analyze.specs.declared.learn.Learned.{Learned}
-use Rattle.asp_trail_laws.specs.Calm.{WereCalm}
+use Rattle.asp_trail_laws.specs.Fixpoint.{WereAtFixpoint}
 use Rattle.asp_trail_laws.specs.Starts.{AreStarts}
 use Rattle.asp_search_laws.specs.Explaining.{Explains}
 use Rattle.asp_search_laws.specs.Keeping.{AreUseful}
@@ -27,7 +27,7 @@ pub record IsMet (s : Searching) (q : List Literal) (id : ℕ) (l : Learned) : T
   pub last : s.last ≡ None
   pub ordered : IsOrdered (var_count s.program) s.entries
   pub starts : AreStarts q s.decisions s.entries
-  pub calm : WereCalm (var_count s.program) (completion s.program) s.entries
+  pub fixpoint : WereAtFixpoint (var_count s.program) (completion s.program) s.entries
   pub reasons : HaveReasons s.slots s.entries
   pub useful : AreUseful s.program s.known s.bound s.slots
   pub explains : Explains (var_count s.program) s.slots s.entries id l

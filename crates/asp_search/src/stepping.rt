@@ -12,7 +12,7 @@ ghost use Rattle.asp_vars.specs.Paid.{Units};
 ghost use Rattle.asp_trail.specs.Entries.{cut};
 ghost use Rattle.asp_store.specs.Walking.{IsViolated};
 ghost use Rattle.asp_order.specs.Waiting.{AreAssigned};
-ghost use Rattle.asp_propagate.specs.Propagating.{IsQuiet, IsReduced};
+ghost use Rattle.asp_propagate.specs.Propagating.{IsFixpoint, IsReduced};
 ghost use Rattle.asp_search_laws.specs.Searching.{values_now};
 ghost use Rattle.asp_search_laws.specs.Steps.{Answers, IsDue, IsStep, IsFailure};
 ghost use Rattle.asp_analyze.specs.declared.learn.Learned.TheVariants as learned;
@@ -164,7 +164,7 @@ impl<'a, P: Propagator> Search<'a, P> {
     fn complete(&mut self, fuel: &mut Fuel) -> Result<Step, AllocError>
         requires entered { (q : List Literal) × IsEntered self.old q }
         requires program { fuel.old.program ≡ self.old.program }
-        requires quiet { IsQuiet (P.silent self.old.program self.old.bound) self.old.slots (values_now self.old) }
+        requires fixpoint { IsFixpoint (P.silent self.old.program self.old.bound) self.old.slots (values_now self.old) }
         requires assigned { AreAssigned (var_count self.old.program) (values_now self.old) }
         ensures ok { IfOk result (IsStep (P.gives self.old.program self.old.bound) (P.silent self.old.program self.old.bound) self.old self.new fuel.old fuel.new) }
         ensures err { OnErr result (IsFailure (P.gives self.old.program self.old.bound) self.old self.new fuel.old fuel.new) }
@@ -212,7 +212,7 @@ impl<'a, P: Propagator> Search<'a, P> {
     fn go_on(&mut self, fuel: &mut Fuel) -> Result<Step, AllocError>
         requires entered { (q : List Literal) × IsEntered self.old q }
         requires program { fuel.old.program ≡ self.old.program }
-        requires quiet { IsQuiet (P.silent self.old.program self.old.bound) self.old.slots (values_now self.old) }
+        requires fixpoint { IsFixpoint (P.silent self.old.program self.old.bound) self.old.slots (values_now self.old) }
         ensures ok { IfOk result (IsStep (P.gives self.old.program self.old.bound) (P.silent self.old.program self.old.bound) self.old self.new fuel.old fuel.new) }
         ensures err { OnErr result (IsFailure (P.gives self.old.program self.old.bound) self.old self.new fuel.old fuel.new) }
     {

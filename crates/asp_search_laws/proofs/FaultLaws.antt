@@ -21,7 +21,7 @@ use Rattle.asp_vars.proofs.CompletionLaws.{atom-true}
 use Rattle.asp_vars.proofs.PlaceLaws.{atom-within}
 use Rattle.asp_trail.specs.declared.trail.Entry.{Entry}
 use Rattle.asp_trail.specs.Entries.{assignment}
-use Rattle.asp_trail.specs.Quiet.{is_violated}
+use Rattle.asp_trail.specs.Fixpoint.{is_violated}
 use Rattle.asp_trail.specs.Trails.{IsVar}
 use Rattle.asp_trail.proofs.HoldLaws.{holds_found}
 use Rattle.asp_found.specs.Verdicts.{IsListed, IsBroken}

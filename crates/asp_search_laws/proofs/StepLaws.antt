@@ -50,7 +50,7 @@ module _ (gives : Nogood → Type 0) (silent : List (Option Bool) → Type 0) (s
   decides f g h = record {
     same = task h.same;
     fuel = h.fuel;
-    quiet = h.quiet;
+    fixpoint = h.fixpoint;
     lit = h.lit;
     next = h.next;
     entry = h.entry;

@@ -3,7 +3,7 @@ use Rattle.std.specs.Prelude.{◌≡◌, ℕ, List, Option, Some, IsTrue}
 use Rattle.asp_vars.specs.declared.nogood.Nogood.{Nogood}
 use Rattle.asp_trail.specs.declared.trail.Entry.{Entry}
 use Rattle.asp_trail.specs.Entries.{assignment}
-use Rattle.asp_trail.specs.Quiet.{is_violated}
+use Rattle.asp_trail.specs.Fixpoint.{is_violated}
 use Rattle.asp_analyze.specs.Learning.{Used, IsReached, AreContained, AreAssumed, IsLearned, nogood_of}
 use Rattle.asp_analyze.specs.declared.learn.Learned.{Learned}
 use Rattle.asp_store.specs.declared.stored_nogood.StoredNogood.{StoredNogood}

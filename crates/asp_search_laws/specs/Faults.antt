@@ -6,7 +6,7 @@ use Rattle.asp_vars.specs.declared.nogood.Base.TheVariants as base
 use Rattle.asp_vars.specs.declared.nogood.Nogood.{Nogood}
 use Rattle.asp_trail.specs.declared.trail.Entry.{Entry}
 use Rattle.asp_trail.specs.Entries.{assignment}
-use Rattle.asp_trail.specs.Quiet.{is_violated}
+use Rattle.asp_trail.specs.Fixpoint.{is_violated}
 use Rattle.asp_trail_laws.specs.Whole.{AreVars}
 use Rattle.asp_search_laws.specs.Axioms.{IsAxiom}
 

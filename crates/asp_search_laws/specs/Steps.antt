@@ -20,7 +20,7 @@ use Rattle.asp_trail.specs.Entries.{assignment, level}
 use Rattle.asp_store.specs.Keeping.{nogood_at}
 use Rattle.asp_order.specs.Luby.{term}
 use Rattle.asp_order.specs.Waiting.{IsNext}
-use Rattle.asp_propagate.specs.Propagating.{IsQuiet}
+use Rattle.asp_propagate.specs.Propagating.{IsFixpoint}
 use Rattle.asp_propagate.specs.Useful.{IsSmaller}
 use Rattle.asp_search_laws.specs.Axioms.{AreDerived, IsDerived}
 use Rattle.asp_search_laws.specs.Keeping.{Grows}
@@ -47,11 +47,11 @@ entries_before t = take (length t.entries - 1) t.entries
 abbrev pub values_before : Searching → List (Option Bool)
 values_before t = assignment (var_count t.program) (entries_before t)
 
--- ---- Decided: before the newest entry all was quiet; that one is of the first variable without a value.
+-- ---- Decided: before the newest entry all was at fixpoint; that one is of the first variable without a value.
 pub record Decides (gives : Nogood → Type 0) (silent : List (Option Bool) → Type 0) (s t : Searching) (f g : Units) : Type 0 where
   pub same : HasSameTask s t
   pub fuel : g ≡ f
-  pub quiet : IsQuiet silent t.slots (values_before t)
+  pub fixpoint : IsFixpoint silent t.slots (values_before t)
   pub lit : Literal
   pub next : IsNext (var_count t.program) (values_before t) t.ranking.activities lit.var
   pub entry : t.entries ≡ entries_before t ++ record { lit = lit; level = length s.decisions + 1; reason = None } ∷ []

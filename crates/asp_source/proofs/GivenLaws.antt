@@ -10,7 +10,7 @@ use Rattle.asp_vars.specs.Literals.{Literal, T, F, literal_eq, value_of, agrees,
 use Rattle.asp_vars.specs.Numbering.{var_count, var_of_atom}
 use Rattle.asp_trail.specs.Trails.{IsVar}
 use Rattle.asp_trail.specs.Told.{Told}
-use Rattle.asp_trail.specs.Quiet.{is_open, is_violated, is_unit, is_calm}
+use Rattle.asp_trail.specs.Fixpoint.{is_open, is_violated, is_unit, is_at_fixpoint}
 use Rattle.asp_scc.proofs.ReachLaws.{atom_small}
 use Rattle.asp_vars.proofs.SupportLaws.{or_left, or_right}
 use Rattle.asp_loop.specs.LoopNogoods.{IsLoopNogood}
@@ -49,15 +49,15 @@ true_or_open v None e = inr refl
 true_or_open v (Some true) e = inl refl
 true_or_open v (Some false) e = absurd (false≢true (sym e))
 
-calm_not : (v u : Bool) → (v ≡ true) ⊎ (u ≡ true) → (not v && not u) ≡ false
-calm_not true u h = refl
-calm_not false true h = refl
-calm_not false false (inl e) = absurd (false≢true e)
-calm_not false false (inr e) = absurd (false≢true e)
+fixpoint_not : (v u : Bool) → (v ≡ true) ⊎ (u ≡ true) → (not v && not u) ≡ false
+fixpoint_not true u h = refl
+fixpoint_not false true h = refl
+fixpoint_not false false (inl e) = absurd (false≢true e)
+fixpoint_not false false (inr e) = absurd (false≢true e)
 
 -- the first literal isn't false, and all others hold
-wanted : (x : List (Option Bool)) (v : ℕ) (rest : List Literal) → holds_in x (F v) ≡ false → list_all (holds_in x) rest ≡ true → is_calm x (T v ∷ rest) ≡ false
-wanted x v rest e hold = calm_not (is_violated x (T v ∷ rest)) (is_unit x (T v ∷ rest)) (elim (true_or_open v (value_of x v) e) [
+wanted : (x : List (Option Bool)) (v : ℕ) (rest : List Literal) → holds_in x (F v) ≡ false → list_all (holds_in x) rest ≡ true → is_at_fixpoint x (T v ∷ rest) ≡ false
+wanted x v rest e hold = fixpoint_not (is_violated x (T v ∷ rest)) (is_unit x (T v ∷ rest)) (elim (true_or_open v (value_of x v) e) [
   | inl holds ↦ inl (and_from (holds_in x (T v)) (list_all (holds_in x) rest) holds hold)
   | inr open_ ↦ inr (or_left (is_open x (T v) && list_all (λ k. literal_eq k (T v) || holds_in x k) (T v ∷ rest)) (list_any (λ l. is_open x l && list_all (λ k. literal_eq k l || holds_in x k) (T v ∷ rest)) rest)
       (and_from (is_open x (T v)) (list_all (λ k. literal_eq k (T v) || holds_in x k) (T v ∷ rest)) open_
@@ -76,5 +76,5 @@ given t U a n size first found shape = record {
   within = subst (λ (ls : List Literal). All (λ (l : Literal). IsVar (var_count t.program) l.var) ls) (sym shape.literals)
       (All-from_recursion (λ (l : Literal). IsVar (var_count t.program) l.var) (T (var_of_atom t.program a) ∷ shape.rest)
       ((let some_ : 0 < var_of_atom t.program a = omega arith in some_, let low = atom_small t.program a (found.loop.stand a found.member) in omega (arith, low)), all_within t.values (var_count t.program) shape.rest size first shape.hold));
-  wanted = ap (is_calm t.values) shape.literals ∙ wanted t.values (var_of_atom t.program a) shape.rest (found.loop.not_false a found.member) shape.hold;
+  wanted = ap (is_at_fixpoint t.values) shape.literals ∙ wanted t.values (var_of_atom t.program a) shape.rest (found.loop.not_false a found.member) shape.hold;
 }

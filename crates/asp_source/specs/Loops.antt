@@ -11,7 +11,7 @@ use Rattle.asp_vars.specs.Unfounded.{is_unfounded}
 use Rattle.asp_vars.specs.Entailment.{Entailed}
 use Rattle.asp_trail.specs.Trails.{IsVar}
 use Rattle.asp_trail.specs.Told.{Told}
-use Rattle.asp_trail.specs.Quiet.{is_calm}
+use Rattle.asp_trail.specs.Fixpoint.{is_at_fixpoint}
 use Rattle.asp_scc.specs.Dependencies.{Reaches}
 use Rattle.asp_scc.specs.Components.{Parts, component_of, Stands, IsLoop}
 use Rattle.asp_loop.specs.LoopNogoods.{IsLoopNogood}
@@ -45,7 +45,7 @@ pub record IsGiven (t : Told) (n : Nogood) : Type 0 where
   pub base : n.base ≡ base.Pure
   pub entailed : Entailed t.program n.lits
   pub within : All (λ l. IsVar (var_count t.program) l.var) n.lits
-  pub wanted : is_calm t.values n.lits ≡ false
+  pub wanted : is_at_fixpoint t.values n.lits ≡ false
 
 -- No unfounded set has an atom in the component.
 abbrev pub HasNone : Program → Parts → List (Option Bool) → ℕ → Type 0

@@ -13,7 +13,7 @@ use Rattle.asp_vars.specs.Completion.{completion}
 use Rattle.asp_vars.specs.declared.nogood.Base.{Base}
 use Rattle.asp_vars.specs.declared.nogood.Base.TheVariants as base
 use Rattle.asp_vars.specs.declared.nogood.Nogood.{Nogood}
-use Rattle.asp_trail.specs.Quiet.{is_calm}
+use Rattle.asp_trail.specs.Fixpoint.{is_at_fixpoint}
 use Rattle.asp_complete.specs.Listed.{pure}
 use Rattle.asp_store.specs.declared.stored_nogood.StoredNogood.{StoredNogood}
 use Rattle.asp_store.specs.declared.stored_nogood.Kind.{Kind}
@@ -126,12 +126,12 @@ completed_alone p slots a = record {
 }
 
 -- ---- where no kept nogood is unit or violated
-pub calm_completion : (a : List (Option Bool)) (slots : List (Option StoredNogood)) (ns : List (List Literal)) → follow.AreCalm slots a → AllByRecursion (IsForever slots) ns →
-    AllByRecursion (λ n. IsTrue (is_calm a n)) ns
-calm_completion a slots [] c f = tt
-calm_completion a slots (n ∷ ns) c f = (one f.0, calm_completion a slots ns c f.1)
+pub fixpoint_completion : (a : List (Option Bool)) (slots : List (Option StoredNogood)) (ns : List (List Literal)) → follow.AreAtFixpoint slots a → AllByRecursion (IsForever slots) ns →
+    AllByRecursion (λ n. IsTrue (is_at_fixpoint a n)) ns
+fixpoint_completion a slots [] c f = tt
+fixpoint_completion a slots (n ∷ ns) c f = (one f.0, fixpoint_completion a slots ns c f.1)
   where
-    one : IsForever slots n → IsTrue (is_calm a n)
+    one : IsForever slots n → IsTrue (is_at_fixpoint a n)
     one x =
         let stands : nogood_at slots x.id ≡ Some (record { lits = n; base = base.Pure }) = ap (option_map (λ (k : StoredNogood). k.nogood)) x.stands ∙ ap Some x.nogood in
         c x.id (record { lits = n; base = base.Pure }) stands

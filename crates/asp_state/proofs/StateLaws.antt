@@ -16,9 +16,9 @@ use Rattle.asp_order.specs.Heaps.{Ranking}
 use Rattle.asp_order.specs.Waiting.{HasVars, AreWaiting, IsFuller}
 use Rattle.asp_order.proofs.WaitingLaws.{waiting_more}
 use Rattle.asp_trail_laws.specs.Starts.{AreImplied}
-use Rattle.asp_trail_laws.specs.Calm.{AreCalm}
+use Rattle.asp_trail_laws.specs.Fixpoint.{AreAtFixpoint}
 use Rattle.asp_trail_laws.proofs.StartLaws.{starts_imply, starts_decide, starts_cut}
-use Rattle.asp_trail_laws.proofs.CalmLaws.{calm_imply, calm_push, calm_cut}
+use Rattle.asp_trail_laws.proofs.FixpointLaws.{fixpoint_imply, fixpoint_push, fixpoint_cut}
 use Rattle.asp_state.specs.SearchStates.{IsBegun, IsEntered, IsSearchState, KeepsCompletion}
 
 -- ---- under a cube
@@ -50,7 +50,7 @@ track_implied p cube clashing q decisions es fs old new r c k a kept t =
       few = t.few;
       entered = entered_of p cube clashing q decisions (es ++ fs) c k (record {
         starts = starts_imply q decisions es fs a b.starts;
-        calm = calm_imply (var_count p) (completion p) es fs (level es) a b.calm;
+        fixpoint = fixpoint_imply (var_count p) (completion p) es fs (level es) a b.fixpoint;
       });
       ranked = t.ranked;
       waiting = waiting_all (var_count p) es fs r t.waiting;
@@ -64,15 +64,15 @@ track_kept p cube clashing decisions es old new r kept t = record { few = t.few;
 -- ---- a decision
 pub track_decided : (p : Program) (cube : Option (List Literal)) (clashing : Bool) (q decisions : List Literal) (es : List Entry) (slots : List (Option StoredNogood)) (old new : Ranking)
     (l : Literal) (e : Entry) → cube ≡ Some q → clashing ≡ false → e.lit ≡ l → e.level ≡ level es + 1 → e.reason ≡ None → IsOrdered (var_count p) es →
-    AreCalm (var_count p) (completion p) es → HasVars (var_count p) new → AreWaiting (var_count p) (es ++ e ∷ []) new →
+    AreAtFixpoint (var_count p) (completion p) es → HasVars (var_count p) new → AreWaiting (var_count p) (es ++ e ∷ []) new →
     IsSearchState p cube clashing decisions es slots old → IsSearchState p cube clashing (decisions ++ l ∷ []) (es ++ e ∷ []) slots new
-track_decided p cube clashing q decisions es slots old new l e c k ql qb qr o calm has waits t =
+track_decided p cube clashing q decisions es slots old new l e c k ql qb qr o fixpoint has waits t =
     let b = begun_of p cube clashing q decisions es c k t.entered in
     record {
       few = t.few;
       entered = entered_of p cube clashing q (decisions ++ l ∷ []) (es ++ e ∷ []) c k (record {
         starts = starts_decide (var_count p) q decisions es l e ql qb qr o b.starts;
-        calm = calm_push (var_count p) (completion p) es e (λ none high. calm) b.calm;
+        fixpoint = fixpoint_push (var_count p) (completion p) es e (λ none high. fixpoint) b.fixpoint;
       });
       ranked = has;
       waiting = waits;
@@ -86,7 +86,7 @@ entered_cut p None clashing decisions es k o e = (e.0, ap (take k) e.1 ∙ take-
 entered_cut p (Some q) true decisions es k o e = (e.0, ap (take k) e.1 ∙ take-nil k)
 entered_cut p (Some q) false decisions es k o e = record {
   starts = starts_cut (var_count p) q decisions es k o e.starts;
-  calm = calm_cut (var_count p) (completion p) es k o.rising e.calm;
+  fixpoint = fixpoint_cut (var_count p) (completion p) es k o.rising e.fixpoint;
 }
 
 pub has_vars : (n : ℕ) (old new : Ranking) → new ≡ record old { members = new.members } → HasVars n old → HasVars n new

@@ -16,7 +16,7 @@ use Rattle.asp_store.specs.Keeping.{kept_at}
 use Rattle.asp_order.specs.Heaps.{Ranking}
 use Rattle.asp_order.specs.Waiting.{HasVars, AreWaiting, fresh, all_bumped}
 use Rattle.asp_trail_laws.specs.Starts.{AreStarts}
-use Rattle.asp_trail_laws.specs.Calm.{WereCalm}
+use Rattle.asp_trail_laws.specs.Fixpoint.{WereAtFixpoint}
 use Rattle.asp_propagate.specs.Propagating.{Propagating}
 
 -- There is no cube before a path is entered, nor after one was lost. Under one that clashes nothing is tried.
@@ -47,7 +47,7 @@ pub record Clashes (cube : List Literal) : Type 0 where
 -- A path was entered whose cube doesn't clash.
 pub record IsUnder (t : SearchView) (cube : List Literal) : Type 0 where
   pub cube_is : t.cube ≡ Some cube
-  pub calm : t.clashing ≡ false
+  pub fixpoint : t.clashing ≡ false
 
 -- ---- the ranking in which a search begins
 -- a bump for each place where a variable stands in the nogood
@@ -89,10 +89,10 @@ pub record KeepsCompletionAlone (p : Program) (slots : List (Option StoredNogood
   pub each : KeepsCompletion p slots
   pub only : (id : ℕ) (k : StoredNogood) → kept_at slots id ≡ Some k → Any (λ n. Some k ≡ forever n) (completion p)
 
--- The trail begins with the cube and the decisions, and the completion was calm before each decision.
+-- The trail begins with the cube and the decisions, and the completion was at fixpoint before each decision.
 pub record IsBegun (p : Program) (cube decisions : List Literal) (entries : List Entry) : Type 0 where
   pub starts : AreStarts cube decisions entries
-  pub calm : WereCalm (var_count p) (completion p) entries
+  pub fixpoint : WereAtFixpoint (var_count p) (completion p) entries
 
 -- under a cube, or none
 abbrev pub IsEntered : Program → Option (List Literal) → Bool → List Literal → List Entry → Type 0

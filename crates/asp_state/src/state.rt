@@ -19,7 +19,7 @@ ghost use Rattle.asp_store.specs.Fitting.{AreSmall, HaveReasons};
 ghost use Rattle.asp_store.specs.Walking.{IsViolated};
 ghost use Rattle.asp_order.specs.Waiting.{learnt, AreAssigned, IsFuller, IsNext};
 ghost use Rattle.asp_propagate.specs.Useful.{IsSmaller};
-ghost use Rattle.asp_propagate.specs.Propagating.{is_named, Adds, AreCalm, Implies, IsImplied, IsQuiet, IsReduced};
+ghost use Rattle.asp_propagate.specs.Propagating.{is_named, Adds, AreAtFixpoint, Implies, IsImplied, IsFixpoint, IsReduced};
 ghost use Rattle.asp_state.specs.SearchStates.{first_ranking, path_of, values_of, AreOf, Clashes, IsBegun, IsUnder, KeepsCompletion, KeepsCompletionAlone};
 
 use crate::assume::assume_all;
@@ -209,7 +209,7 @@ impl<P: Propagator> SearchState<P> {
         ensures adds { Adds (P.gives self.old.program self.old.bound) self.old.slots self.new.slots }
         ensures implies { Implies self.old.entries self.new.entries }
         ensures reasons { HaveReasons self.new.slots self.new.entries }
-        ensures quiet { IfOk result (λ r. IfNone r (IsQuiet (P.silent self.new.program self.new.bound) self.new.slots (values_of self.new))) }
+        ensures fixpoint { IfOk result (λ r. IfNone r (IsFixpoint (P.silent self.new.program self.new.bound) self.new.slots (values_of self.new))) }
         ensures violated { IfOk result (λ r. IfSome r (IsViolated (var_count self.new.program) self.new.slots self.new.entries)) }
     {
         self.engine.propagate()
@@ -220,7 +220,7 @@ impl<P: Propagator> SearchState<P> {
     /// Want of memory is the one error: then nothing changed.
     pub fn decide(&mut self) -> Result<Option<Lit>, AllocError>
         requires under { (q : List Literal) × IsUnder self.old q }
-        requires calm { AreCalm self.old.slots (values_of self.old) }
+        requires fixpoint { AreAtFixpoint self.old.slots (values_of self.old) }
         ensures same { self.new ≡ record self.old { decisions = self.new.decisions; entries = self.new.entries; ranking = record self.old.ranking { members = self.new.ranking.members } } }
         ensures next { IfOk result (λ r. IfSome r (λ l. IsNext (var_count self.old.program) (values_of self.old) self.old.ranking.activities l.var)) }
         ensures entries { IfOk result (λ r. IfSome r (λ l. self.new.entries ≡ self.old.entries ++ record { lit = l; level = length self.old.decisions + 1; reason = None } ∷ [])) }

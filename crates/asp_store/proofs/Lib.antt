@@ -1,4 +1,4 @@
-pub mod CalmLaws
+pub mod FixpointLaws
 pub mod FitsLaws
 pub mod GetLaws
 pub mod GrowLaws

@@ -14,7 +14,7 @@ use Rattle.asp_trail.proofs.HoldLaws.{holds_at, holds_found, value_at}
 use Rattle.asp_trail.specs.Reasons.{Stands, IsReason}
 use Rattle.asp_store.specs.Fitting.{IsFalseBy, Watches, IsWatched}
 use Rattle.asp_store.specs.Looking.{AreTrueBeside}
-use Rattle.asp_trail.proofs.QuietLaws.{false_from}
+use Rattle.asp_trail.proofs.FixpointLaws.{false_from}
 use Rattle.asp_store.proofs.WatchLaws.{stands_grow}
 
 pub complement_twice : (l : Literal) → complement (complement l) ≡ l

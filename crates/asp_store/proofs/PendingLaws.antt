@@ -4,7 +4,7 @@ use Rattle.std.specs.List.{slice_get, swap_remove, swap}
 use Rattle.std.specs.Option.{is_some}
 use Rattle.std.proofs.lemmas.Bool.{false≢true}
 use Rattle.asp_trail.specs.Entries.{assignment}
-use Rattle.asp_trail.specs.Quiet.{is_violated}
+use Rattle.asp_trail.specs.Fixpoint.{is_violated}
 use Rattle.asp_store.specs.Walking.{IsViolated}
 use Rattle.std.proofs.lemmas.List.Edits.{length-swap as swapped_length}
 use Rattle.std.proofs.lemmas.Option.{same_Some, slice_get_within, none-some}

@@ -4,7 +4,7 @@ use Rattle.asp_vars.specs.Literals.{Literal, has_literal, literal_eq, holds_in}
 use Rattle.asp_trail.specs.declared.trail.Entry.{Entry}
 use Rattle.asp_trail.specs.Entries.{level, assignment}
 use Rattle.asp_trail.specs.Reasons.{IsReason}
-use Rattle.asp_trail.specs.Quiet.{is_violated}
+use Rattle.asp_trail.specs.Fixpoint.{is_violated}
 use Rattle.asp_store.specs.Fitting.{HasFalse, IsWatched}
 use Rattle.asp_store.specs.declared.looks.Look.{Look}
 use Rattle.asp_store.specs.declared.looks.Look.TheVariants as look

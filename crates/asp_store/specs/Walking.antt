@@ -7,7 +7,7 @@ use Rattle.asp_trail.specs.declared.trail.Entry.{Entry}
 use Rattle.asp_trail.specs.Entries.{assignment}
 use Rattle.asp_trail.specs.Trails.{Trailed}
 use Rattle.asp_trail.specs.Reasons.{Stands}
-use Rattle.asp_trail.specs.Quiet.{is_violated, is_calm}
+use Rattle.asp_trail.specs.Fixpoint.{is_violated, is_at_fixpoint}
 use Rattle.asp_store.specs.declared.stored_nogood.StoredNogood.{StoredNogood}
 use Rattle.asp_store.specs.declared.watch.Watch.{Watch}
 use Rattle.asp_store.specs.declared.watch.Pair.{Pair}
@@ -65,7 +65,7 @@ Steps slots old new t f i (step.Violated id) = IsViolated t.vars slots t.entries
 
 -- No kept nogood is unit or violated, or this one is violated.
 abbrev pub Propagates : ℕ → List (Option StoredNogood) → List Entry → Propagated → Type 0
-Propagates vars slots entries propagated.Quiet = (id : ℕ) (n : Nogood) → nogood_at slots id ≡ Some n → IsTrue (is_calm (assignment vars entries) n.lits)
+Propagates vars slots entries propagated.Fixpoint = (id : ℕ) (n : Nogood) → nogood_at slots id ≡ Some n → IsTrue (is_at_fixpoint (assignment vars entries) n.lits)
 Propagates vars slots entries (propagated.Violated id) = IsViolated vars slots entries id
 
 -- A walk finds a nogood violated, or comes to the end of the list.

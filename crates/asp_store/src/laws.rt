@@ -6,7 +6,7 @@ ghost use Rattle.asp_vars.specs.declared.nogood.Nogood.{Nogood};
 ghost use Rattle.asp_trail.specs.declared.trail.Entry.{Entry};
 ghost use Rattle.asp_trail.specs.Entries.{assignment, cut};
 ghost use Rattle.asp_trail.specs.Trails.{Trailed, IsOrdered};
-ghost use Rattle.asp_trail.specs.Quiet.{is_open, is_calm};
+ghost use Rattle.asp_trail.specs.Fixpoint.{is_open, is_at_fixpoint};
 ghost use Rattle.asp_trail.specs.Reasons.{IsReason};
 ghost use Rattle.asp_store.specs.declared.stored_nogood.Kind.{Kind};
 ghost use Rattle.asp_store.specs.declared.watch.Pair.{Pair};
@@ -15,16 +15,16 @@ ghost use Rattle.asp_store.specs.Fitting.{IsWatched, HasFalse};
 ghost use Rattle.asp_store.specs.Storing.{Stored, Fits, IsAdded, Loses, locked_at, removed, recalled, AreActive};
 
 /// A nogood is neither unit nor violated where two literals of it aren't true, or one is false.
-pub fn calm_nogoods()
+pub fn fixpoint_nogoods()
     ensures two { (a : List (Option Bool)) (n : List Literal) (k l : Literal) → IsTrue (has_literal n k) → IsTrue (has_literal n l) → k ≢ l →
-        holds_in a k ≡ false → holds_in a l ≡ false → IsTrue (is_calm a n) }
-    ensures one { (a : List (Option Bool)) (n : List Literal) (l : Literal) → IsTrue (has_literal n l) → holds_in a l ≡ false → is_open a l ≡ false → IsTrue (is_calm a n) }
+        holds_in a k ≡ false → holds_in a l ≡ false → IsTrue (is_at_fixpoint a n) }
+    ensures one { (a : List (Option Bool)) (n : List Literal) (l : Literal) → IsTrue (has_literal n l) → holds_in a l ≡ false → is_open a l ≡ false → IsTrue (is_at_fixpoint a n) }
 {}
 
-/// Where all entries were seen, a nogood that is watched is calm, and so is one with a literal that is false.
-pub fn watched_nogoods_are_calm()
-    ensures watched { (vars : ℕ) (es : List Entry) (n : List Literal) (p : Pair) → IsOrdered vars es → IsWatched n p es (length es) → IsTrue (is_calm (assignment vars es) n) }
-    ensures settled { (vars : ℕ) (es : List Entry) (n : List Literal) (b : ℕ) → IsOrdered vars es → HasFalse es n b → IsTrue (is_calm (assignment vars es) n) }
+/// Where all entries were seen, a nogood that is watched is at fixpoint, and so is one with a literal that is false.
+pub fn watched_nogoods_are_at_fixpoint()
+    ensures watched { (vars : ℕ) (es : List Entry) (n : List Literal) (p : Pair) → IsOrdered vars es → IsWatched n p es (length es) → IsTrue (is_at_fixpoint (assignment vars es) n) }
+    ensures settled { (vars : ℕ) (es : List Entry) (n : List Literal) (b : ℕ) → IsOrdered vars es → HasFalse es n b → IsTrue (is_at_fixpoint (assignment vars es) n) }
 {}
 
 /// Watches and reasons stay where a trail is extended, and where it is cut to a level.

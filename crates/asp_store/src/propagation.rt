@@ -22,7 +22,7 @@ use std::alloc::AllocError;
 #[derive(Clone, Copy)]
 pub enum Propagated {
     /// No kept nogood is unit or violated.
-    Quiet,
+    Fixpoint,
     /// All literals of this one are true.
     Violated(NogoodId),
 }
@@ -99,5 +99,5 @@ pub fn propagate(
             None => {}
         }
     }
-    Ok(Propagated::Quiet)
+    Ok(Propagated::Fixpoint)
 }

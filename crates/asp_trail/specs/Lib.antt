@@ -1,5 +1,5 @@
 pub mod Entries
 pub mod Reasons
 pub mod Trails
-pub mod Quiet
+pub mod Fixpoint
 pub mod Told

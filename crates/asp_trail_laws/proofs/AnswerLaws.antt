@@ -24,7 +24,7 @@ use Rattle.asp_vars.proofs.NumberingLaws.{value-atom}
 use Rattle.asp_vars.proofs.PlaceLaws.{atom-within}
 use Rattle.asp_trail.specs.declared.trail.Entry.{Entry}
 use Rattle.asp_trail.specs.Entries.{assignment}
-use Rattle.asp_trail.specs.Quiet.{is_violated, is_unit, is_calm}
+use Rattle.asp_trail.specs.Fixpoint.{is_violated, is_unit, is_at_fixpoint}
 use Rattle.asp_trail.specs.Reasons.{AreReasoned}
 use Rattle.asp_trail.specs.Trails.{IsVar}
 use Rattle.asp_trail.proofs.HoldLaws.{holds_found}
@@ -39,9 +39,9 @@ use Rattle.asp_trail_laws.proofs.WholeLaws.{whole_lit, whole_nogood}
 
 -- ---- it is new
 pub answer_new : (p : Program) (K : List Atoms) (vars : ℕ) (kept : ℕ → Option Nogood) (es : List Entry) → IsWhole p vars es → AreBlocked p kept K →
-    ((id : ℕ) (n : Nogood) → kept id ≡ Some n → AreVars vars n.lits) → ((id : ℕ) (n : Nogood) → kept id ≡ Some n → is_calm (assignment vars es) n.lits ≡ true) →
+    ((id : ℕ) (n : Nogood) → kept id ≡ Some n → AreVars vars n.lits) → ((id : ℕ) (n : Nogood) → kept id ≡ Some n → is_at_fixpoint (assignment vars es) n.lits ≡ true) →
     list_any (same_set (atoms_on p vars es)) K ≡ false
-answer_new p K vars kept es w blocked small calm =
+answer_new p K vars kept es w blocked small fixpoint =
     let S : Atoms = atoms_on p vars es in
     false_from_ne_true (list_any (same_set S) K)
     (one_passes ⊥ (same_set S) K
@@ -50,7 +50,7 @@ answer_new p K vars kept es w blocked small calm =
     known : (T : Atoms) (id : ℕ) (n : Nogood) → kept id ≡ Some n → hits (values p T) n.lits ≡ true → atoms_on p vars es ≡ T → ⊥
     known T id n q h e =
         let violated : is_violated (assignment vars es) n.lits ≡ true = whole_nogood p vars es w n.lits (small id n q) ∙ (ap (λ (U : Atoms). hits (values p U) n.lits) e ∙ h) in
-        false≢true (sym (not-true (is_violated (assignment vars es) n.lits) (and_parts (not (is_violated (assignment vars es) n.lits)) (not (is_unit (assignment vars es) n.lits)) (calm id n q)).0) ∙ violated)
+        false≢true (sym (not-true (is_violated (assignment vars es) n.lits) (and_parts (not (is_violated (assignment vars es) n.lits)) (not (is_unit (assignment vars es) n.lits)) (fixpoint id n q)).0) ∙ violated)
 
 -- ---- a part of an ascending list ascends
 part-above : (q : ℕ → Bool) (a : ℕ) (S : Atoms) → AllByRecursion (λ b. a < b) S → AllByRecursion (λ b. a < b) (filter q S)

@@ -9,7 +9,7 @@ use Rattle.asp_trail.specs.Entries.{assignment, level}
 use Rattle.asp_trail.specs.Trails.{IsOrdered}
 use Rattle.asp_trail.proofs.HoldLaws.{holds_found}
 use Rattle.asp_trail_laws.specs.Starts.{IsAssumed, AreAssumed, AreAtZero, AreStarts, AreImplied}
-use Rattle.asp_trail_laws.specs.Calm.{WereCalm}
+use Rattle.asp_trail_laws.specs.Fixpoint.{WereAtFixpoint}
 use Rattle.asp_trail_laws.proofs.LitLaws.{has_append, only_one}
 use Rattle.asp_trail_laws.proofs.PlaceLaws.{blank, stands_grow, level_last}
 
@@ -77,8 +77,8 @@ assumed_starts cube es a z = record {
   decisions_stand = λ k h. absurd (omega (arith, h));
 }
 
-pub assumed_calm : (vars : ℕ) (ns : List (List Literal)) (cube : List Literal) (es : List Entry) → AreAssumed cube es → WereCalm vars ns es
-assumed_calm vars ns cube es a i d h none high = absurd (omega (arith, high, (a i d h).level))
+pub assumed_fixpoint : (vars : ℕ) (ns : List (List Literal)) (cube : List Literal) (es : List Entry) → AreAssumed cube es → WereAtFixpoint vars ns es
+assumed_fixpoint vars ns cube es a i d h none high = absurd (omega (arith, high, (a i d h).level))
 
 -- an entry that a nogood implied
 pub implied_one : (b : ℕ) (l : Literal) (id : ℕ) → AreImplied b (record { lit = l; level = b; reason = Some id } ∷ [])

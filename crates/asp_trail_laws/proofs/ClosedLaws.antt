@@ -1,4 +1,4 @@
--- The literals of a trail on which nogoods are calm are closed under these.
+-- The literals of a trail on which nogoods are at fixpoint are closed under these.
 use Rattle.std.proofs.Common.{◌≡◌, ℕ, ◌<◌, Bool, true, false, not, ◌&&◌, ◌||◌, List, [], ◌∷◌, length, map, get_or, Option, Some, None, refl, sym, ap, ◌∙◌, subst, arith}
 use Rattle.std.specs.List.{list_all, list_any}
 use Rattle.std.specs.Bool.{beq}
@@ -11,11 +11,11 @@ use Rattle.asp_vars.specs.Conflicts.{has_all, is_closed}
 use Rattle.asp_vars.proofs.LiteralLaws.{same_literal}
 use Rattle.asp_trail.specs.declared.trail.Entry.{Entry}
 use Rattle.asp_trail.specs.Entries.{assignment}
-use Rattle.asp_trail.specs.Quiet.{is_open, is_violated, is_unit, is_calm}
+use Rattle.asp_trail.specs.Fixpoint.{is_open, is_violated, is_unit, is_at_fixpoint}
 use Rattle.asp_trail.specs.Trails.{IsOrdered}
 use Rattle.asp_trail.proofs.HoldLaws.{holds_at, holds_found}
-use Rattle.asp_trail.proofs.QuietLaws.{list_all_at}
-use Rattle.asp_trail_laws.specs.Calm.{AreCalm}
+use Rattle.asp_trail.proofs.FixpointLaws.{list_all_at}
+use Rattle.asp_trail_laws.specs.Fixpoint.{AreAtFixpoint}
 use Rattle.asp_trail_laws.proofs.LitLaws.{all_pass, any_pass, has_at, has_place, has_without}
 use Rattle.asp_trail_laws.proofs.PlaceLaws.{blank}
 
@@ -41,11 +41,11 @@ pub hold_lits : (vars : ℕ) (es : List Entry) (l : Literal) → IsOrdered vars 
 hold_lits vars es l o h = let f = holds_found vars es l o h in lits_at es f.0 l f.1 (f.2 blank)
 
 -- ---- one nogood
-calm_unviolated : (a : List (Option Bool)) (n : List Literal) → is_calm a n ≡ true → is_violated a n ≡ false
-calm_unviolated a n c = not-true (is_violated a n) (and_parts (not (is_violated a n)) (not (is_unit a n)) c).0
+fixpoint_unviolated : (a : List (Option Bool)) (n : List Literal) → is_at_fixpoint a n ≡ true → is_violated a n ≡ false
+fixpoint_unviolated a n c = not-true (is_violated a n) (and_parts (not (is_violated a n)) (not (is_unit a n)) c).0
 
-calm_ununit : (a : List (Option Bool)) (n : List Literal) → is_calm a n ≡ true → is_unit a n ≡ false
-calm_ununit a n c = not-true (is_unit a n) (and_parts (not (is_violated a n)) (not (is_unit a n)) c).1
+fixpoint_ununit : (a : List (Option Bool)) (n : List Literal) → is_at_fixpoint a n ≡ true → is_unit a n ≡ false
+fixpoint_ununit a n c = not-true (is_unit a n) (and_parts (not (is_violated a n)) (not (is_unit a n)) c).1
 
 beq_not : (b c : Bool) → beq b c ≡ false → beq b (not c) ≡ true
 beq_not true true e = sym e
@@ -53,10 +53,10 @@ beq_not true false e = refl
 beq_not false true e = refl
 beq_not false false e = sym e
 
--- where all others hold, a literal of a calm nogood is false
-pub other_false : (a : List (Option Bool)) (n : List Literal) (l : Literal) → is_calm a n ≡ true → has_literal n l ≡ true →
+-- where all others hold, a literal of a nogood at fixpoint is false
+pub other_false : (a : List (Option Bool)) (n : List Literal) (l : Literal) → is_at_fixpoint a n ≡ true → has_literal n l ≡ true →
     ((m : Literal) → has_literal n m ≡ true → literal_eq m l ≡ false → holds_in a m ≡ true) → holds_in a (complement l) ≡ true
-other_false a n l calm h others = by_value (value_of a l.var) refl
+other_false a n l fixpoint h others = by_value (value_of a l.var) refl
   where
     every : holds_in a l ≡ true → (m : Literal) → has_literal n m ≡ true → (b : Bool) → b ≡ literal_eq m l → holds_in a m ≡ true
     every t m g true q = ap (holds_in a) (same_literal m l (sym q)) ∙ t
@@ -67,12 +67,12 @@ other_false a n l calm h others = by_value (value_of a l.var) refl
     each m g false q = or_right (literal_eq m l) (holds_in a m) (others m g (sym q))
 
     not_open : is_open a l ≡ true → ⊥
-    not_open t = false≢true (sym (calm_ununit a n calm)
+    not_open t = false≢true (sym (fixpoint_ununit a n fixpoint)
         ∙ any_pass (λ x. is_open a x && list_all (λ k. literal_eq k x || holds_in a k) n) n l h
         (and_from (is_open a l) (list_all (λ k. literal_eq k l || holds_in a k) n) t (all_pass (λ k. literal_eq k l || holds_in a k) n (λ m g. each m g (literal_eq m l) refl))))
 
     not_true : holds_in a l ≡ true → ⊥
-    not_true t = false≢true (sym (calm_unviolated a n calm) ∙ all_pass (holds_in a) n (λ m g. every t m g (literal_eq m l) refl))
+    not_true t = false≢true (sym (fixpoint_unviolated a n fixpoint) ∙ all_pass (holds_in a) n (λ m g. every t m g (literal_eq m l) refl))
 
     by_value : (v : Option Bool) → v ≡ value_of a l.var → agrees (value_of a l.var) (complement l) ≡ true
     by_value None q = absurd (not_open (ap is_none (sym q)))
@@ -80,27 +80,27 @@ other_false a n l calm h others = by_value (value_of a l.var) refl
 
 -- ---- all nogoods
 module _ (vars : ℕ) (es : List Entry) (o : IsOrdered vars es) where
-  closed_at : (n : List Literal) → is_calm (assignment vars es) n ≡ true → (l : Literal) → has_literal n l ≡ true → (not (has_all (lits es) (without l n)) || has_literal (lits es) (complement l)) ≡ true
-  closed_at n calm l h = cases (has_all (lits es) (without l n)) refl
+  closed_at : (n : List Literal) → is_at_fixpoint (assignment vars es) n ≡ true → (l : Literal) → has_literal n l ≡ true → (not (has_all (lits es) (without l n)) || has_literal (lits es) (complement l)) ≡ true
+  closed_at n fixpoint l h = cases (has_all (lits es) (without l n)) refl
     where
       cases : (b : Bool) → b ≡ has_all (lits es) (without l n) → (not b || has_literal (lits es) (complement l)) ≡ true
       cases false q = refl
       cases true q =
-          hold_lits vars es (complement l) o (other_false (assignment vars es) n l calm h (λ m g ne.
+          hold_lits vars es (complement l) o (other_false (assignment vars es) n l fixpoint h (λ m g ne.
           lits_hold vars es m o (list_all_at (has_literal (lits es)) (without l n) m (sym q) (has_without l n m g ne))))
 
-  pub closed_all : (ns : List (List Literal)) → AreCalm vars ns es → is_closed ns (lits es) ≡ true
+  pub closed_all : (ns : List (List Literal)) → AreAtFixpoint vars ns es → is_closed ns (lits es) ≡ true
   closed_all [] c = refl
   closed_all (n ∷ ns) c =
       and_from (list_all (λ l. not (has_all (lits es) (without l n)) || has_literal (lits es) (complement l)) n) (is_closed ns (lits es))
       (all_pass (λ l. not (has_all (lits es) (without l n)) || has_literal (lits es) (complement l)) n (closed_at n c.0)) (closed_all ns c.1)
 
-  pub none_within : (ns : List (List Literal)) → AreCalm vars ns es → list_any (has_all (lits es)) ns ≡ false
+  pub none_within : (ns : List (List Literal)) → AreAtFixpoint vars ns es → list_any (has_all (lits es)) ns ≡ false
   none_within [] c = refl
   none_within (n ∷ ns) c =
       or_from (has_all (lits es) n) (list_any (has_all (lits es)) ns)
       (false_from_ne_true (has_all (lits es) n) (λ h.
-      false≢true (sym (calm_unviolated (assignment vars es) n c.0) ∙ all_pass (holds_in (assignment vars es)) n (λ l g. lits_hold vars es l o (list_all_at (has_literal (lits es)) n l h g)))))
+      false≢true (sym (fixpoint_unviolated (assignment vars es) n c.0) ∙ all_pass (holds_in (assignment vars es)) n (λ l g. lits_hold vars es l o (list_all_at (has_literal (lits es)) n l h g)))))
       (none_within ns c.1)
 
   pub no_clash : (l : Literal) → has_literal (lits es) l ≡ true → has_literal (lits es) (complement l) ≡ false

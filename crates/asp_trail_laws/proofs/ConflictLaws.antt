@@ -14,8 +14,8 @@ use Rattle.asp_trail.specs.declared.trail.Entry.{Entry}
 use Rattle.asp_trail.specs.Entries.{level_in}
 use Rattle.asp_trail.specs.Reasons.{Stands}
 use Rattle.asp_trail.specs.Trails.{IsOrdered}
-use Rattle.asp_trail.proofs.QuietLaws.{list_all_at}
-use Rattle.asp_trail_laws.specs.Calm.{WereCalm}
+use Rattle.asp_trail.proofs.FixpointLaws.{list_all_at}
+use Rattle.asp_trail_laws.specs.Fixpoint.{WereAtFixpoint}
 use Rattle.asp_trail_laws.specs.Starts.{nth_decision, Begins, AreStarts}
 use Rattle.asp_trail_laws.proofs.LitLaws.{all_pass, has_append, has_place}
 use Rattle.asp_trail_laws.proofs.PlaceLaws.{blank, level_at, level_in_top, ordered_take, rising_le, stands_take}
@@ -63,7 +63,7 @@ module _ (vars : ℕ) (es : List Entry) (o : IsOrdered vars es) (D : Literal) (k
 
 -- ---- the conflict
 module _ (p : Program) (vars : ℕ) (cube decisions : List Literal) (es : List Entry) (nogood : List Literal) (l : Literal) (k : ℕ)
-    (o : IsOrdered vars es) (s : AreStarts cube decisions es) (w : WereCalm vars (completion p) es)
+    (o : IsOrdered vars es) (s : AreStarts cube decisions es) (w : WereAtFixpoint vars (completion p) es)
     (high : 0 < k) (has : has_literal nogood l ≡ true) (at : level_in es l.var ≡ k) where
   few : k ≤ length decisions
   few = omega (arith, at, level_in_top es l.var o.rising, s.counted)
@@ -92,13 +92,13 @@ module _ (p : Program) (vars : ℕ) (cube decisions : List Literal) (es : List E
   shows : (b : Begins es (nth_decision decisions (k - 1)) k) → Shows p cube (take k decisions) nogood (lits (take b.place es))
   shows b =
       let first = ordered_take vars es b.place o in
-      let calm = w b.place blank b.stands.within (b.unimplied blank) (omega (arith, b.stands.level blank, high)) in
+      let fixpoint = w b.place blank b.stands.within (b.unimplied blank) (omega (arith, b.stands.level blank, high)) in
       record {
         decided = omega (arith, len, high);
-        closed = closed_all vars (take b.place es) first (completion p) calm;
+        closed = closed_all vars (take b.place es) first (completion p) fixpoint;
         begun = begun b;
         consistent = no_clash vars (take b.place es) first;
-        unbroken = none_within vars (take b.place es) first (completion p) calm;
+        unbroken = none_within vars (take b.place es) first (completion p) fixpoint;
         open_true = open_before vars es o (nth_decision decisions (k - 1)) k b high (last (take k decisions)) (ap (λ (x : Literal). x.var) last_is);
         open_false = open_before vars es o (nth_decision decisions (k - 1)) k b high (complement (last (take k decisions))) (ap (λ (x : Literal). x.var) last_is);
         new = false_from_ne_true (has_all (lits (take b.place es)) nogood) (λ h.

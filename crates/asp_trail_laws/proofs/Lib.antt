@@ -2,7 +2,7 @@ pub mod LitLaws
 pub mod PlaceLaws
 pub mod CutLaws
 pub mod StartLaws
-pub mod CalmLaws
+pub mod FixpointLaws
 pub mod AssumeLaws
 pub mod HitLaws
 pub mod ViolatedLaws

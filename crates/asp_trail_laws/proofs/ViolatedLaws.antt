@@ -13,11 +13,11 @@ use Rattle.asp_vars.specs.Resolution.{IsWithin}
 use Rattle.asp_vars.specs.declared.nogood.Nogood.{Nogood}
 use Rattle.asp_trail.specs.declared.trail.Entry.{Entry}
 use Rattle.asp_trail.specs.Entries.{assignment, level_in, reason_in}
-use Rattle.asp_trail.specs.Quiet.{is_violated}
+use Rattle.asp_trail.specs.Fixpoint.{is_violated}
 use Rattle.asp_trail.specs.Reasons.{AreReasoned}
 use Rattle.asp_trail.specs.Trails.{IsOrdered}
 use Rattle.asp_trail.proofs.HoldLaws.{holds_found}
-use Rattle.asp_trail.proofs.QuietLaws.{list_all_at}
+use Rattle.asp_trail.proofs.FixpointLaws.{list_all_at}
 use Rattle.asp_trail_laws.specs.Settling.{KeepsSettled}
 use Rattle.asp_trail_laws.specs.Starts.{AreStarts}
 use Rattle.asp_trail_laws.proofs.LitLaws.{all_has, all_pass}

@@ -13,12 +13,12 @@ use Rattle.asp_vars.specs.Numbering.{var_count, values}
 use Rattle.asp_vars.specs.Completion.{completion}
 use Rattle.asp_trail.specs.declared.trail.Entry.{Entry}
 use Rattle.asp_trail.specs.Entries.{assign, assignment}
-use Rattle.asp_trail.specs.Quiet.{is_violated, is_unit}
+use Rattle.asp_trail.specs.Fixpoint.{is_violated, is_unit}
 use Rattle.asp_trail.specs.Trails.{IsVar, IsOrdered}
 use Rattle.asp_trail.proofs.EntryLaws.{fold_without, none_at}
 use Rattle.asp_found.specs.Valuations.{IsValuation}
 use Rattle.asp_found.proofs.ValuationLaws.{values_are}
-use Rattle.asp_trail_laws.specs.Calm.{AreCalm}
+use Rattle.asp_trail_laws.specs.Fixpoint.{AreAtFixpoint}
 use Rattle.asp_trail_laws.specs.Starts.{nth_decision, AreStarts}
 use Rattle.asp_trail_laws.specs.Whole.{AreVars, truth_of, truths, atoms_on, IsWhole}
 use Rattle.asp_trail_laws.proofs.LitLaws.{all_pass, has_append, has_place}
@@ -85,7 +85,7 @@ module _ (p : Program) (vars : ℕ) (es : List Entry) (w : IsWhole p vars es) wh
       ap (λ b. b && is_violated (assignment vars es) n) (lit_true l (All-head (λ (k : Literal). IsVar vars k.var) l n a))
       ∙ ap (λ b. is_true (truths (assignment vars es)) l && b) (lits_true n (All-tail (λ (k : Literal). IsVar vars k.var) l n a))
 
-  unhit : (ns : List (List Literal)) → AreCalm vars ns es → AllByRecursion (AreVars (var_count p)) ns → list_any (hits (truths (assignment vars es))) ns ≡ false
+  unhit : (ns : List (List Literal)) → AreAtFixpoint vars ns es → AllByRecursion (AreVars (var_count p)) ns → list_any (hits (truths (assignment vars es))) ns ≡ false
   unhit [] c a = refl
   unhit (n ∷ ns) c a =
       or_from (hits (truths (assignment vars es)) n) (list_any (hits (truths (assignment vars es))) ns)
@@ -94,7 +94,7 @@ module _ (p : Program) (vars : ℕ) (es : List Entry) (w : IsWhole p vars es) wh
       (unhit ns c.1 a.1)
 
   pub whole_same : truths (assignment vars es) ≡ values p (atoms_on p vars es)
-  whole_same = values_are p (truths (assignment vars es)) (trail_valuation p vars es w.counted w.ordered) (unhit (completion p) w.calm (completion_are_vars p)) w.weights
+  whole_same = values_are p (truths (assignment vars es)) (trail_valuation p vars es w.counted w.ordered) (unhit (completion p) w.fixpoint (completion_are_vars p)) w.weights
 
   pub whole_lit : (l : Literal) → IsVar vars l.var → holds_in (assignment vars es) l ≡ is_true (values p (atoms_on p vars es)) l
   whole_lit l v = lit_true l v ∙ ap (λ x. is_true x l) whole_same

@@ -1,4 +1,4 @@
 pub mod Starts
-pub mod Calm
+pub mod Fixpoint
 pub mod Settling
 pub mod Whole

@@ -11,7 +11,7 @@ use Rattle.asp_trail.specs.declared.trail.Entry.{Entry}
 use Rattle.asp_trail.specs.Entries.{assignment}
 use Rattle.asp_trail.specs.Trails.{IsVar, IsOrdered}
 use Rattle.asp_found.specs.Valuations.{KeepsWeights, true_atoms}
-use Rattle.asp_trail_laws.specs.Calm.{AreCalm}
+use Rattle.asp_trail_laws.specs.Fixpoint.{AreAtFixpoint}
 
 -- All literals are of variables 1 to vars.
 abbrev pub AreVars : ℕ → List Literal → Type 0
@@ -30,12 +30,12 @@ truths a = map truth_of a
 abbrev pub atoms_on : Program → ℕ → List Entry → Atoms
 atoms_on p vars entries = true_atoms p (truths (assignment vars entries))
 
--- Each variable has a value, the completion is calm, and the variable of each weight body says whether the body holds.
+-- Each variable has a value, the completion is at fixpoint, and the variable of each weight body says whether the body holds.
 pub record IsWhole (p : Program) (vars : ℕ) (entries : List Entry) : Type 0 where
   pub counted : vars ≡ var_count p
   pub ordered : IsOrdered vars entries
   pub full : (v : ℕ) → IsVar vars v → IsSome (value_of (assignment vars entries) v)
-  pub calm : AreCalm vars (completion p) entries
+  pub fixpoint : AreAtFixpoint vars (completion p) entries
   pub weights : KeepsWeights p (truths (assignment vars entries))
 
 -- Each of these sets hits a nogood that is kept.

@@ -13,11 +13,11 @@ ghost use Rattle.asp_vars.specs.Resolution.{IsWithin};
 ghost use Rattle.asp_vars.specs.declared.nogood.Nogood.{Nogood};
 ghost use Rattle.asp_trail.specs.declared.trail.Entry.{Entry};
 ghost use Rattle.asp_trail.specs.Entries.{assignment, level_in, reason_in};
-ghost use Rattle.asp_trail.specs.Quiet.{is_calm, is_violated};
+ghost use Rattle.asp_trail.specs.Fixpoint.{is_at_fixpoint, is_violated};
 ghost use Rattle.asp_trail.specs.Reasons.{AreReasoned};
 ghost use Rattle.asp_trail.specs.Trails.{IsOrdered, IsVar};
 ghost use Rattle.asp_found.specs.Valuations.{IsValuation};
-ghost use Rattle.asp_trail_laws.specs.Calm.{WereCalm};
+ghost use Rattle.asp_trail_laws.specs.Fixpoint.{WereAtFixpoint};
 ghost use Rattle.asp_trail_laws.specs.Settling.{KeepsSettled};
 ghost use Rattle.asp_trail_laws.specs.Starts.{AreStarts};
 ghost use Rattle.asp_trail_laws.specs.Whole.{AreBlocked, AreVars, IsWhole, atoms_on, truths};
@@ -53,7 +53,7 @@ pub fn violated_nogoods_settle()
 /// a conflict of the cube and the first k decisions, if these and the nogood are settled.
 pub fn conflicts_are_shown()
     ensures { (p : Program) (known : List Atoms) (bound : Option (List ℤ)) (vars : ℕ) (cube decisions : List Literal) (entries : List Entry) (nogood : List Literal) (l : Literal) (k : ℕ) →
-        IsOrdered vars entries → AreStarts cube decisions entries → WereCalm vars (completion p) entries →
+        IsOrdered vars entries → AreStarts cube decisions entries → WereAtFixpoint vars (completion p) entries →
         0 < k → IsTrue (has_literal nogood l) → level_in entries l.var ≡ k → Settled p known bound (cube ++ take k decisions) → Settled p known bound nogood →
         IsConflict p known bound cube (take k decisions) nogood }
 {}
@@ -87,7 +87,7 @@ pub fn whole_trails_are_values()
 pub fn answers_are_new()
     ensures new { (p : Program) (known : List Atoms) (vars : ℕ) (kept : ℕ → Option Nogood) (entries : List Entry) → IsWhole p vars entries → AreBlocked p kept known →
         ((id : ℕ) (n : Nogood) → kept id ≡ Some n → AreVars vars n.lits) →
-        ((id : ℕ) (n : Nogood) → kept id ≡ Some n → IsTrue (is_calm (assignment vars entries) n.lits)) →
+        ((id : ℕ) (n : Nogood) → kept id ≡ Some n → IsTrue (is_at_fixpoint (assignment vars entries) n.lits)) →
         list_any (same_set (atoms_on p vars entries)) known ≡ false }
     ensures settled { (p : Program) (known : List Atoms) (bound : Option (List ℤ)) (vars : ℕ) (kept : ℕ → Option Nogood) (cube decisions : List Literal) (entries : List Entry) →
         IsWhole p vars entries → AreReasoned kept entries → KeepsSettled p known bound kept → AreStarts cube decisions entries →

@@ -6,7 +6,7 @@ ghost use Rattle.asp_vars.specs.Literals.{Literal, complement, has_literal, valu
 ghost use Rattle.asp_trail.specs.declared.trail.Entry.{Entry};
 ghost use Rattle.asp_trail.specs.Entries.{assignment, cut, level};
 ghost use Rattle.asp_trail.specs.Trails.{IsOrdered};
-ghost use Rattle.asp_trail_laws.specs.Calm.{AreCalm, WereCalm};
+ghost use Rattle.asp_trail_laws.specs.Fixpoint.{AreAtFixpoint, WereAtFixpoint};
 ghost use Rattle.asp_trail_laws.specs.Starts.{AreAssumed, AreAtZero, AreImplied, AreStarts};
 
 /// A cube is assumed literal by literal: each comes to hold, or holds, or its complement is of the cube. Once all hold,
@@ -24,7 +24,7 @@ pub fn cubes_are_assumed()
         value_of (assignment vars entries) l.var ≡ Some b → b ≢ l.truth → IsTrue (has_literal cube (complement l)) }
     ensures level { (cube : List Literal) (entries : List Entry) → AreAssumed cube entries → level entries ≡ 0 }
     ensures starts { (cube : List Literal) (entries : List Entry) → AreAssumed cube entries → AreAtZero cube entries → AreStarts cube [] entries }
-    ensures calm { (vars : ℕ) (nogoods : List (List Literal)) (cube : List Literal) (entries : List Entry) → AreAssumed cube entries → WereCalm vars nogoods entries }
+    ensures fixpoint { (vars : ℕ) (nogoods : List (List Literal)) (cube : List Literal) (entries : List Entry) → AreAssumed cube entries → WereAtFixpoint vars nogoods entries }
 {}
 
 /// What begins a trail stays where literals are implied, where one is decided, and where the trail is cut to a level.
@@ -39,18 +39,18 @@ pub fn starts_stay()
         AreStarts cube (take k decisions) (cut k entries) }
 {}
 
-/// That nogoods were calm before each decision stays where literals are implied or assumed, where one is decided while
-/// they are calm, and where the trail is cut to a level.
-pub fn calm_stays()
-    ensures none { (vars : ℕ) (nogoods : List (List Literal)) → WereCalm vars nogoods [] }
-    ensures imply { (vars : ℕ) (nogoods : List (List Literal)) (entries more : List Entry) (b : ℕ) → AreImplied b more → WereCalm vars nogoods entries →
-        WereCalm vars nogoods (entries ++ more) }
-    ensures imply_one { (vars : ℕ) (nogoods : List (List Literal)) (entries : List Entry) (l : Literal) (b id : ℕ) → WereCalm vars nogoods entries →
-        WereCalm vars nogoods (entries ++ record { lit = l; level = b; reason = Some id } ∷ []) }
-    ensures assume { (vars : ℕ) (nogoods : List (List Literal)) (entries : List Entry) (l : Literal) → WereCalm vars nogoods entries →
-        WereCalm vars nogoods (entries ++ record { lit = l; level = 0; reason = None } ∷ []) }
-    ensures decide { (vars : ℕ) (nogoods : List (List Literal)) (entries : List Entry) (l : Literal) (b : ℕ) → AreCalm vars nogoods entries → WereCalm vars nogoods entries →
-        WereCalm vars nogoods (entries ++ record { lit = l; level = b; reason = None } ∷ []) }
-    ensures cut { (vars : ℕ) (nogoods : List (List Literal)) (entries : List Entry) (k : ℕ) → AllPairs (λ e f. e.level ≤ f.level) entries → WereCalm vars nogoods entries →
-        WereCalm vars nogoods (cut k entries) }
+/// That nogoods were at fixpoint before each decision stays where literals are implied or assumed, where one is decided while
+/// they are at fixpoint, and where the trail is cut to a level.
+pub fn fixpoint_stays()
+    ensures none { (vars : ℕ) (nogoods : List (List Literal)) → WereAtFixpoint vars nogoods [] }
+    ensures imply { (vars : ℕ) (nogoods : List (List Literal)) (entries more : List Entry) (b : ℕ) → AreImplied b more → WereAtFixpoint vars nogoods entries →
+        WereAtFixpoint vars nogoods (entries ++ more) }
+    ensures imply_one { (vars : ℕ) (nogoods : List (List Literal)) (entries : List Entry) (l : Literal) (b id : ℕ) → WereAtFixpoint vars nogoods entries →
+        WereAtFixpoint vars nogoods (entries ++ record { lit = l; level = b; reason = Some id } ∷ []) }
+    ensures assume { (vars : ℕ) (nogoods : List (List Literal)) (entries : List Entry) (l : Literal) → WereAtFixpoint vars nogoods entries →
+        WereAtFixpoint vars nogoods (entries ++ record { lit = l; level = 0; reason = None } ∷ []) }
+    ensures decide { (vars : ℕ) (nogoods : List (List Literal)) (entries : List Entry) (l : Literal) (b : ℕ) → AreAtFixpoint vars nogoods entries → WereAtFixpoint vars nogoods entries →
+        WereAtFixpoint vars nogoods (entries ++ record { lit = l; level = b; reason = None } ∷ []) }
+    ensures cut { (vars : ℕ) (nogoods : List (List Literal)) (entries : List Entry) (k : ℕ) → AllPairs (λ e f. e.level ≤ f.level) entries → WereAtFixpoint vars nogoods entries →
+        WereAtFixpoint vars nogoods (cut k entries) }
 {}

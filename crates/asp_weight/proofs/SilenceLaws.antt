@@ -18,12 +18,12 @@ use Rattle.asp_model.specs.Sound.{IsSound}
 use Rattle.asp_model.proofs.MemberLaws.{each-filter}
 use Rattle.asp_vars.specs.Literals.{Literal, complement, value_of, holds_in, agrees}
 use Rattle.asp_vars.specs.Numbering.{bodies_of, var_of_form, literal_of}
-use Rattle.asp_trail.specs.Quiet.{is_open}
+use Rattle.asp_trail.specs.Fixpoint.{is_open}
 use Rattle.asp_trail.proofs.EntryLaws.{same_default}
 use Rattle.asp_weight.specs.declared.item.Item.{Item}
 use Rattle.asp_weight.specs.declared.item.Shape.{Shape}
 use Rattle.asp_weight.specs.Silence.{weight_that, low_of, high_of, opens_pass, is_silent_as, is_silent_body, is_silent}
-use Rattle.asp_weight.specs.Rows.{weight_if, sum_where, total_of, item_of, is_weighed, weighed_bodies, nth_weighed, clamped, IsRow, AreRows, shape_at, row_at, need_of, is_under, is_quiet_as, is_quiet}
+use Rattle.asp_weight.specs.Rows.{weight_if, sum_where, total_of, item_of, is_weighed, weighed_bodies, nth_weighed, clamped, IsRow, AreRows, shape_at, row_at, need_of, is_under, is_silent_row_as, is_silent_row}
 use Rattle.asp_weight.proofs.PositiveLaws.{HasPositive, AreWeights, bodies_positive}
 use Rattle.asp_weight.proofs.SumLaws.{list_all_same, total_split}
 
@@ -132,17 +132,17 @@ module _ (p : Program) (a : List (Option Bool)) (bound : ℤ) (items : List (ℤ
       ap (λ z. int_le (pos (get_or row k d).weight) (z -ℤ bound)) (weight_that-row (λ l. not (holds_in a (complement l))))
       ∙ (high_open bound high lost (get_or row k d).weight (total_of row) (total_split (holds_in a) row) (open_counts a row k d h o) ∙ ap (λ n. ltb (get_or row k d).weight (n - lost)) misses))))
 
-  silent_as : (o : Option Bool) → is_silent_as o p a bound items ≡ is_quiet_as o a s row
+  silent_as : (o : Option Bool) → is_silent_as o p a bound items ≡ is_silent_row_as o a s row
   silent_as None = ap (λ b. b && int_le bound (high_of p a items)) under_low ∙ ap (λ b. is_under true a s row && b) over_high
   silent_as (Some true) =
       ap (λ b. b && opens_pass (λ z. int_le z (high_of p a items -ℤ bound)) p a items) over_high ∙ ap (λ b. is_under false a s row && b) high_opens
   silent_as (Some false) =
       ap (λ b. b && opens_pass (λ z. int_lt z (bound -ℤ low_of p a items)) p a items) under_low ∙ ap (λ b. is_under true a s row && b) low_opens
 
-pub silent_body : (p : Program) (a : List (Option Bool)) (b : Body) (s : Shape) (row : List Item) → is_weighed b ≡ true → HasPositive b → IsRow p b s row → is_silent_body p a b ≡ is_quiet a s row
+pub silent_body : (p : Program) (a : List (Option Bool)) (b : Body) (s : Shape) (row : List Item) → is_weighed b ≡ true → HasPositive b → IsRow p b s row → is_silent_body p a b ≡ is_silent_row a s row
 silent_body p a (body.All literals) s row e w r = absurd (false≢true e)
 silent_body p a (body.AtLeast bound items) s row e w r =
-    silent_as p a bound items s row w r.ordered.items r.reach r.miss (value_of a (var_of_form p (body.AtLeast bound items))) ∙ ap (λ v. is_quiet_as (value_of a v) a s row) (sym r.var)
+    silent_as p a bound items s row w r.ordered.items r.reach r.miss (value_of a (var_of_form p (body.AtLeast bound items))) ∙ ap (λ v. is_silent_row_as (value_of a v) a s row) (sym r.var)
 
 -- ---- a program
 only_weighed : (p : Program) (a : List (Option Bool)) (bs : List Body) → list_all (is_silent_body p a) bs ≡ list_all (is_silent_body p a) (filter is_weighed bs)
@@ -167,13 +167,13 @@ positive_at p w sound h =
     All-from_recursion HasPositive (weighed_bodies p) (each-filter HasPositive is_weighed (bodies_of p) (bodies_positive p sound)) w (body.All []) h
 
 silent_at : (p : Program) (a : List (Option Bool)) (shapes : List Shape) (rows : List (List Item)) (w : ℕ) → IsSound p → AreRows p (weighed_bodies p) shapes rows → w < length rows →
-    is_silent_body p a (nth_weighed p w) ≡ is_quiet a (shape_at shapes w) (row_at rows w)
+    is_silent_body p a (nth_weighed p w) ≡ is_silent_row a (shape_at shapes w) (row_at rows w)
 silent_at p a shapes rows w sound r h =
     let l : w < length (weighed_bodies p) = omega (arith, h, r.whole) in
     silent_body p a (nth_weighed p w) (shape_at shapes w) (row_at rows w) (weighed_at p w l) (positive_at p w sound l) (r.row w l)
 
 pub all_silent : (p : Program) (a : List (Option Bool)) (shapes : List Shape) (rows : List (List Item)) → IsSound p → AreRows p (weighed_bodies p) shapes rows →
-    ((w : ℕ) → w < length rows → is_quiet a (shape_at shapes w) (row_at rows w) ≡ true) → is_silent p a ≡ true
+    ((w : ℕ) → w < length rows → is_silent_row a (shape_at shapes w) (row_at rows w) ≡ true) → is_silent p a ≡ true
 all_silent p a shapes rows sound r f =
     only_weighed p a (bodies_of p)
     ∙ list_all_of (is_silent_body p a) (weighed_bodies p) (λ w d h.
@@ -181,7 +181,7 @@ all_silent p a shapes rows sound r f =
     ∙ (silent_at p a shapes rows w sound r (omega (arith, h, r.whole)) ∙ f w (omega (arith, h, r.whole))))
 
 pub one_speaks : (p : Program) (a : List (Option Bool)) (shapes : List Shape) (rows : List (List Item)) (w : ℕ) → IsSound p → AreRows p (weighed_bodies p) shapes rows → w < length rows →
-    is_quiet a (shape_at shapes w) (row_at rows w) ≡ false → is_silent p a ≡ false
+    is_silent_row a (shape_at shapes w) (row_at rows w) ≡ false → is_silent p a ≡ false
 one_speaks p a shapes rows w sound r h q =
     only_weighed p a (bodies_of p)
     ∙ list_all_at (is_silent_body p a) (weighed_bodies p) w (body.All []) (omega (arith, h, r.whole)) (silent_at p a shapes rows w sound r h ∙ q)

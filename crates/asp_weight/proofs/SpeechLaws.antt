@@ -21,14 +21,14 @@ use Rattle.asp_vars.specs.Tabled.{Stands}
 use Rattle.asp_vars.specs.Entailment.{Entailed}
 use Rattle.asp_vars.proofs.LiteralLaws.{and_left, and_right, and_both, is_true-complement, hits-append}
 use Rattle.asp_vars.proofs.CompletionLaws.{literal-holds, form-true}
-use Rattle.asp_trail.specs.Quiet.{is_open, is_violated, is_unit, is_calm}
+use Rattle.asp_trail.specs.Fixpoint.{is_open, is_violated, is_unit, is_at_fixpoint}
 use Rattle.asp_trail.specs.Trails.{IsVar}
 use Rattle.asp_weight.specs.declared.item.Item.{Item}
 use Rattle.asp_weight.specs.declared.item.Shape.{Shape}
 use Rattle.asp_weight.specs.declared.look.Speech.{Speech}
 use Rattle.asp_weight.specs.Silence.{weight_that}
 use Rattle.asp_weight.specs.Definition.{keeps, Excludes}
-use Rattle.asp_weight.specs.Rows.{on, weight_if, sum_where, total_of, is_weighed, clamped, IsRow, need_of, is_under, is_short, is_quiet_as, is_quiet}
+use Rattle.asp_weight.specs.Rows.{on, weight_if, sum_where, total_of, is_weighed, clamped, IsRow, need_of, is_under, is_short, is_silent_row_as, is_silent_row}
 use Rattle.asp_weight.specs.Spoken.{held, gathered, head_of, item_at, spoken_as, Settles, Speaks}
 use Rattle.asp_weight.proofs.PositiveLaws.{HasPositive}
 use Rattle.asp_weight.proofs.SumLaws.{sum_le, sum_le_but, total_split}
@@ -46,26 +46,26 @@ and_false : (a b : Bool) → b ≡ false → (a && b) ≡ false
 and_false true b e = e
 and_false false b e = refl
 
-quiet_as_short : (o : Option Bool) (side : Bool) (a : List (Option Bool)) (s : Shape) (row : List Item) → o ≡ Some (not side) → is_quiet_as o a s row ≡ is_short side a s row
-quiet_as_short o true a s row e = ap (λ x. is_quiet_as x a s row) e
-quiet_as_short o false a s row e = ap (λ x. is_quiet_as x a s row) e
+silence_as_short : (o : Option Bool) (side : Bool) (a : List (Option Bool)) (s : Shape) (row : List Item) → o ≡ Some (not side) → is_silent_row_as o a s row ≡ is_short side a s row
+silence_as_short o true a s row e = ap (λ x. is_silent_row_as x a s row) e
+silence_as_short o false a s row e = ap (λ x. is_silent_row_as x a s row) e
 
-not_quiet : (x : Option ℕ) (side : Bool) (a : List (Option Bool)) (s : Shape) (row : List Item) → Settles x side a s row → is_quiet a s row ≡ false
-not_quiet None side a s row h = cases (value_of a s.var) side refl h.1 (not_under (sum_where (holds_in a) side row) (need_of side s) h.0)
+not_silent_row : (x : Option ℕ) (side : Bool) (a : List (Option Bool)) (s : Shape) (row : List Item) → Settles x side a s row → is_silent_row a s row ≡ false
+not_silent_row None side a s row h = cases (value_of a s.var) side refl h.1 (not_under (sum_where (holds_in a) side row) (need_of side s) h.0)
   where
     short_from : (side : Bool) → is_under side a s row ≡ false → is_short side a s row ≡ false
     short_from side e =
         ap (λ b. b && list_all (λ (i : Item). not (is_open a i.lit) || ltb i.weight (need_of side s - sum_where (holds_in a) side row)) row) e
 
-    cases : (o : Option Bool) (side : Bool) → o ≡ value_of a s.var → (value_of a s.var ≡ Some side → ⊥) → is_under side a s row ≡ false → is_quiet_as o a s row ≡ false
+    cases : (o : Option Bool) (side : Bool) → o ≡ value_of a s.var → (value_of a s.var ≡ Some side → ⊥) → is_under side a s row ≡ false → is_silent_row_as o a s row ≡ false
     cases None true q f e = ap (λ b. b && is_under false a s row) e
     cases None false q f e = and_false (is_under true a s row) (is_under false a s row) e
     cases (Some true) true q f e = absurd (f (sym q))
     cases (Some true) false q f e = short_from false e
     cases (Some false) true q f e = short_from true e
     cases (Some false) false q f e = absurd (f (sym q))
-not_quiet (Some j) side a s row h =
-    quiet_as_short (value_of a s.var) side a s row h.2
+not_silent_row (Some j) side a s row h =
+    silence_as_short (value_of a s.var) side a s row h.2
     ∙ and_false (is_under side a s row) (list_all test row)
     (list_all_at test row j (record { weight = 0; lit = record { var = 0; truth = false } }) h.0
     (ap (λ b. not b || ltb (item_at row j).weight (need_of side s - sum_where (holds_in a) side row)) h.1
@@ -74,8 +74,8 @@ not_quiet (Some j) side a s row h =
     test : Item → Bool
     test i = not (is_open a i.lit) || ltb i.weight (need_of side s - sum_where (holds_in a) side row)
 
-pub speaks_not_quiet : (x : Speech) (a : List (Option Bool)) (s : Shape) (row : List Item) → Speaks x a s row → is_quiet a s row ≡ false
-speaks_not_quiet x a s row h = not_quiet x.open x.side a s row h
+pub speaks_not_silent : (x : Speech) (a : List (Option Bool)) (s : Shape) (row : List Item) → Speaks x a s row → is_silent_row a s row ≡ false
+speaks_not_silent x a s row h = not_silent_row x.open x.side a s row h
 
 -- ---- the nogood is unit or violated
 list_all-append-both : (t : Literal → Bool) (n m : List Literal) → list_all t n ≡ true → list_all t m ≡ true → list_all t (n ++ m) ≡ true
@@ -111,9 +111,9 @@ or_right : (a b : Bool) → b ≡ true → (a || b) ≡ true
 or_right true b h = refl
 or_right false b h = h
 
-not_calm : (a : List (Option Bool)) (o : Literal) (n : List Literal) → list_all (holds_in a) n ≡ true → (holds_in a o ≡ true) ⊎ (is_open a o ≡ true) → is_calm a (o ∷ n) ≡ false
-not_calm a o n h (inl e) = ap (λ b. not b && not (is_unit a (o ∷ n))) (and_both (holds_in a o) (list_all (holds_in a) n) e h)
-not_calm a o n h (inr e) = and_false (not (is_violated a (o ∷ n))) (not (is_unit a (o ∷ n))) (ap not unit)
+not_at_fixpoint : (a : List (Option Bool)) (o : Literal) (n : List Literal) → list_all (holds_in a) n ≡ true → (holds_in a o ≡ true) ⊎ (is_open a o ≡ true) → is_at_fixpoint a (o ∷ n) ≡ false
+not_at_fixpoint a o n h (inl e) = ap (λ b. not b && not (is_unit a (o ∷ n))) (and_both (holds_in a o) (list_all (holds_in a) n) e h)
+not_at_fixpoint a o n h (inr e) = and_false (not (is_violated a (o ∷ n))) (not (is_unit a (o ∷ n))) (ap not unit)
   where
     others : Literal → Literal → Bool
     others l k = literal_eq k l || holds_in a k
@@ -141,11 +141,11 @@ on_open : (side : Bool) (a : List (Option Bool)) (l : Literal) → is_open a l �
 on_open true a l e = e
 on_open false a l e = e
 
-pub spoken_wanted : (x : Option ℕ) (side : Bool) (a : List (Option Bool)) (s : Shape) (row : List Item) → Settles x side a s row → is_calm a (spoken_as x side a s row) ≡ false
+pub spoken_wanted : (x : Option ℕ) (side : Bool) (a : List (Option Bool)) (s : Shape) (row : List Item) → Settles x side a s row → is_at_fixpoint a (spoken_as x side a s row) ≡ false
 spoken_wanted None side a s row h =
-    not_calm a (head_of side s) (gathered side a (need_of side s) 0 row) (gathered_hold side a (need_of side s) 0 row) (head_wanted side a s h.1)
+    not_at_fixpoint a (head_of side s) (gathered side a (need_of side s) 0 row) (gathered_hold side a (need_of side s) 0 row) (head_wanted side a s h.1)
 spoken_wanted (Some j) side a s row h =
-    not_calm a (on side (item_at row j).lit) (head_of side s ∷ gathered side a (need_of side s) (item_at row j).weight row)
+    not_at_fixpoint a (on side (item_at row j).lit) (head_of side s ∷ gathered side a (need_of side s) (item_at row j).weight row)
     (and_both (holds_in a (head_of side s)) _ (ap (λ o. agrees o (head_of side s)) h.2 ∙ beq_itself (not side)) (gathered_hold side a (need_of side s) (item_at row j).weight row))
     (inr (on_open side a (item_at row j).lit h.1))
 

@@ -19,7 +19,7 @@ use Rattle.asp_vars.specs.declared.nogood.Base.TheVariants as base
 use Rattle.asp_vars.specs.declared.nogood.Nogood.{Nogood}
 use Rattle.asp_vars.proofs.LiteralLaws.{beq_same}
 use Rattle.asp_vars.proofs.StandingLaws.{bodies_of-stand, bodies_of-themselves}
-use Rattle.asp_trail.specs.Quiet.{is_calm}
+use Rattle.asp_trail.specs.Fixpoint.{is_at_fixpoint}
 use Rattle.asp_trail.specs.Trails.{IsVar}
 use Rattle.asp_trail.proofs.EntryLaws.{set_set}
 use Rattle.asp_weight.specs.declared.item.Item.{Item}
@@ -29,16 +29,16 @@ use Rattle.asp_weight.specs.declared.tally.Tally.{Tally}
 use Rattle.asp_weight.specs.declared.look.Speech.{Speech}
 use Rattle.asp_weight.specs.Silence.{is_silent}
 use Rattle.asp_weight.specs.Definition.{Excludes, IsGiven}
-use Rattle.asp_weight.specs.Rows.{on, weight_if, sum_where, total_of, IsRow, is_weighed, weighed_bodies, nth_weighed, AreRows, shape_at, row_at, is_quiet}
+use Rattle.asp_weight.specs.Rows.{on, weight_if, sum_where, total_of, IsRow, is_weighed, weighed_bodies, nth_weighed, AreRows, shape_at, row_at, is_silent_row}
 use Rattle.asp_weight.specs.Tallied.{fresh, tally_at, raise_all, lower_all, sum_in, CanRaise, CanLower}
 use Rattle.asp_weight.specs.Placed.{places_at, touches, ArePlaces, HaveRoom}
 use Rattle.asp_weight.specs.Spoken.{spoken, Speaks, AreReady}
-use Rattle.asp_weight.specs.Kept.{ArePassed, AreCounted, AreQuiet, IsKept}
+use Rattle.asp_weight.specs.Kept.{ArePassed, AreCounted, AreSilentRows, IsKept}
 use Rattle.asp_weight.proofs.TallyLaws.{length-raise_all, length-lower_all, raise_all-reached, raise_all-missed, raise_all-queued, lower_all-reached, lower_all-missed, lower_all-queued, raise_all-start, lower_all-start}
-use Rattle.asp_weight.proofs.SumLaws.{sum_more, turned, value_elsewhere, sum_in-untouched, sum_at-absent, quiet_alike, sum_where-le-total}
+use Rattle.asp_weight.proofs.SumLaws.{sum_more, turned, value_elsewhere, sum_in-untouched, sum_at-absent, silence_alike, sum_where-le-total}
 use Rattle.asp_weight.proofs.PassLaws.{passed_none, passed_more, passed_alike}
 use Rattle.asp_weight.proofs.SilenceLaws.{weighed_at, positive_at, all_silent, one_speaks}
-use Rattle.asp_weight.proofs.SpeechLaws.{speaks_not_quiet, spoken_wanted, spoken_vars, spoken_excluded, excluded_entailed}
+use Rattle.asp_weight.proofs.SpeechLaws.{speaks_not_silent, spoken_wanted, spoken_vars, spoken_excluded, excluded_entailed}
 
 none : Tally
 none = record { reached = 0; missed = 0; start = 0; queued = false }
@@ -69,10 +69,10 @@ alike_untouched p a b shapes rows places v w r pl alike h un k d l = alike (get_
         (sym (pl.sums w v true) ∙ sum_in-untouched w true (places_at places v) un) (sym (pl.sums w v false) ∙ sum_in-untouched w false (places_at places v) un)
 
 -- and it is as silent
-quiet_untouched : (p : Program) (a b : List (Option Bool)) (shapes : List Shape) (rows : List (List Item)) (places : List (List Place)) (v w : ℕ) → AreRows p (weighed_bodies p) shapes rows → ArePlaces shapes rows places →
-    ((u : ℕ) → u ≢ v → value_of a u ≡ value_of b u) → w < length rows → touches w (places_at places v) ≡ false → is_quiet a (shape_at shapes w) (row_at rows w) ≡ is_quiet b (shape_at shapes w) (row_at rows w)
-quiet_untouched p a b shapes rows places v w r pl alike h un =
-    quiet_alike a b (shape_at shapes w) (row_at rows w) (alike (shape_at shapes w).var other) (alike_untouched p a b shapes rows places v w r pl alike h un)
+silence_untouched : (p : Program) (a b : List (Option Bool)) (shapes : List Shape) (rows : List (List Item)) (places : List (List Place)) (v w : ℕ) → AreRows p (weighed_bodies p) shapes rows → ArePlaces shapes rows places →
+    ((u : ℕ) → u ≢ v → value_of a u ≡ value_of b u) → w < length rows → touches w (places_at places v) ≡ false → is_silent_row a (shape_at shapes w) (row_at rows w) ≡ is_silent_row b (shape_at shapes w) (row_at rows w)
+silence_untouched p a b shapes rows places v w r pl alike h un =
+    silence_alike a b (shape_at shapes w) (row_at rows w) (alike (shape_at shapes w).var other) (alike_untouched p a b shapes rows places v w r pl alike h un)
   where
     other : (shape_at shapes w).var ≢ v
     other e = false≢true (sym un ∙ (ap (λ u. touches w (places_at places u)) (sym e) ∙ pl.own w h))
@@ -106,9 +106,9 @@ assigned p a shapes rows places tallies v t k h n = record {
     passed = λ w l.
         subst (ArePassed (set a v (Some t)) (row_at rows w)) (sym (raise_all-start t tallies (places_at places v) w within)) (passed_more a v t (row_at rows w) (tally_at tallies w).start small (k.counted.passed w l));
   };
-  quiet = λ w l q.
+  silence = λ w l q.
       let parts = or_parts (touches w (places_at places v)) (tally_at tallies w).queued (sym (raise_all-queued t tallies (places_at places v) w within) ∙ q) in
-      quiet_untouched p (set a v (Some t)) a shapes rows places v w k.rowed k.placed (λ u ne. value_elsewhere a v u (Some t) ne) l parts.0 ∙ k.quiet w l parts.1;
+      silence_untouched p (set a v (Some t)) a shapes rows places v w k.rowed k.placed (λ u ne. value_elsewhere a v u (Some t) ne) l parts.0 ∙ k.silence w l parts.1;
 }
   where
     small : v < length a
@@ -164,9 +164,9 @@ undone p a shapes rows places tallies l k h e = record {
     missed = λ w. omega (arith, lower_all-missed l.truth tallies (places_at places l.var) w within, k.counted.missed w, sums_less p a shapes rows places l w false k.placed small e);
     passed = λ w m. subst (ArePassed (set a l.var None) (row_at rows w)) (sym (lower_all-start l.truth tallies (places_at places l.var) w within)) (passed w m (touches w (places_at places l.var)) refl);
   };
-  quiet = λ w m q.
+  silence = λ w m q.
       let parts = or_parts (touches w (places_at places l.var)) (tally_at tallies w).queued (sym (lower_all-queued l.truth tallies (places_at places l.var) w within) ∙ q) in
-      quiet_untouched p (set a l.var None) a shapes rows places l.var w k.rowed k.placed (λ u ne. value_elsewhere a l.var u None ne) m parts.0 ∙ k.quiet w m parts.1;
+      silence_untouched p (set a l.var None) a shapes rows places l.var w k.rowed k.placed (λ u ne. value_elsewhere a l.var u None ne) m parts.0 ∙ k.silence w m parts.1;
 }
   where
     small : l.var < length a
@@ -223,7 +223,7 @@ begun p a shapes rows places tallies n sound few r pl e f g = record {
     missed = λ w. ap (λ ts. (tally_at ts w).missed) f ∙ ((fresh_at n w).1 ∙ sym (nothing_holds a false (row_at rows w) all_none));
     passed = λ w h. subst (ArePassed a (row_at rows w)) (sym (ap (λ ts. (tally_at ts w).start) f ∙ (fresh_at n w).2)) (passed_none a (row_at rows w));
   };
-  quiet = λ w h q. absurd (false≢true (sym q ∙ (ap (λ ts. (tally_at ts w).queued) f ∙ fresh_queued n w (omega (arith, h, g, r.shaped, r.whole)))));
+  silence = λ w h q. absurd (false≢true (sym q ∙ (ap (λ ts. (tally_at ts w).queued) f ∙ fresh_queued n w (omega (arith, h, g, r.shaped, r.whole)))));
 }
   where
     all_none : (v : ℕ) → value_of a v ≡ None
@@ -245,7 +245,7 @@ are_ready p a shapes rows places tallies k = record {
 }
 
 pub looked : (p : Program) (a b : List (Option Bool)) (shapes : List Shape) (rows : List (List Item)) (places : List (List Place)) (tallies more : List Tally) → IsKept p a shapes rows places tallies → b ≡ a →
-    AreCounted b rows more → AreQuiet b shapes rows more → IsKept p a shapes rows places more
+    AreCounted b rows more → AreSilentRows b shapes rows more → IsKept p a shapes rows places more
 looked p a b shapes rows places tallies more k e c q = record {
   sound = k.sound;
   few = k.few;
@@ -253,7 +253,7 @@ looked p a b shapes rows places tallies more k e c q = record {
   rowed = k.rowed;
   placed = k.placed;
   counted = subst (λ (x : List (Option Bool)). AreCounted x rows more) e c;
-  quiet = subst (λ (x : List (Option Bool)). AreQuiet x shapes rows more) e q;
+  silence = subst (λ (x : List (Option Bool)). AreSilentRows x shapes rows more) e q;
 }
 
 in_program : (p : Program) (w : ℕ) → w < length (weighed_bodies p) → (list_any (body_eq (nth_weighed p w)) (bodies_of p) ≡ true) × Stands (atoms_of p) (nth_weighed p w)
@@ -269,7 +269,7 @@ given p a shapes rows w x n sound r h s e f =
       base = f;
       entailed = subst (Entailed p) (sym e) (excluded_entailed p (nth_weighed p w) _ (in_program p w l).1 shown);
       within = subst (λ (ls : List Literal). All (λ l. IsVar (var_count p) l.var) ls) (sym e) (spoken_vars (var_count p) x.open x.side a (shape_at shapes w) (row_at rows w) s row.small row.ordered.within);
-      wanted = ap (is_calm a) e ∙ spoken_wanted x.open x.side a (shape_at shapes w) (row_at rows w) s;
+      wanted = ap (is_at_fixpoint a) e ∙ spoken_wanted x.open x.side a (shape_at shapes w) (row_at rows w) s;
       excluded = (nth_weighed p w, subst (Excludes p (nth_weighed p w)) (sym e) shown);
     }
   where
@@ -313,16 +313,16 @@ begun_as p q a shapes also rows places tallies n vars sound few r pl s e v f g s
 pub silent_when_none : (p : Program) (a : List (Option Bool)) (shapes : List Shape) (rows : List (List Item)) (places : List (List Place)) (tallies : List Tally) → IsKept p a shapes rows places tallies →
     All (λ t. t.queued ≡ false) tallies → is_silent p a ≡ true
 silent_when_none p a shapes rows places tallies k none_queued =
-    all_silent p a shapes rows k.sound k.rowed (λ w h. k.quiet w h (none_queued w (record { reached = 0; missed = 0; start = 0; queued = false }) (omega (arith, h, k.counted.whole))))
+    all_silent p a shapes rows k.sound k.rowed (λ w h. k.silence w h (none_queued w (record { reached = 0; missed = 0; start = 0; queued = false }) (omega (arith, h, k.counted.whole))))
 
 pub not_silent : (p : Program) (a : List (Option Bool)) (shapes : List Shape) (rows : List (List Item)) (places : List (List Place)) (tallies : List Tally) (w : ℕ) (x : Speech) → IsKept p a shapes rows places tallies →
     w < length rows → Speaks x a (shape_at shapes w) (row_at rows w) → is_silent p a ≡ false
-not_silent p a shapes rows places tallies w x k h s = one_speaks p a shapes rows w k.sound k.rowed h (speaks_not_quiet x a (shape_at shapes w) (row_at rows w) s)
+not_silent p a shapes rows places tallies w x k h s = one_speaks p a shapes rows w k.sound k.rowed h (speaks_not_silent x a (shape_at shapes w) (row_at rows w) s)
 
 pub none_said : (p : Program) (a b : List (Option Bool)) (shapes also : List Shape) (rows : List (List Item)) (places : List (List Place)) (tallies more : List Tally) → IsKept p a shapes rows places tallies → b ≡ a → also ≡ shapes →
-    AreCounted b rows more → AreQuiet b also rows more → All (λ t. t.queued ≡ false) more → is_silent p a ≡ true
+    AreCounted b rows more → AreSilentRows b also rows more → All (λ t. t.queued ≡ false) more → is_silent p a ≡ true
 none_said p a b shapes also rows places tallies more k e f c q none_queued =
-    silent_when_none p a shapes rows places more (looked p a b shapes rows places tallies more k e c (subst (λ (ss : List Shape). AreQuiet b ss rows more) f q)) none_queued
+    silent_when_none p a shapes rows places more (looked p a b shapes rows places tallies more k e c (subst (λ (ss : List Shape). AreSilentRows b ss rows more) f q)) none_queued
 
 -- what was said of a body is a nogood of the program
 pub one_said : (p : Program) (a b : List (Option Bool)) (shapes also : List Shape) (rows : List (List Item)) (places : List (List Place)) (tallies : List Tally) (w : ℕ) (x : Speech) (s : Shape) (row : List Item) (n : Nogood) →

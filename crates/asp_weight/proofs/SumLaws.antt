@@ -8,11 +8,11 @@ use Rattle.std.proofs.lemmas.Bool.Decides.{nat_tests}
 use Rattle.std.proofs.lemmas.List.Elements.{All-head, All-tail}
 use Rattle.std.proofs.lemmas.List.Sums.{sum_by-cons, get_or-le-sum_by}
 use Rattle.asp_vars.specs.Literals.{Literal, complement, value_of, holds_in, agrees}
-use Rattle.asp_trail.specs.Quiet.{is_open}
+use Rattle.asp_trail.specs.Fixpoint.{is_open}
 use Rattle.asp_weight.specs.declared.item.Item.{Item}
 use Rattle.asp_weight.specs.declared.item.Shape.{Shape}
 use Rattle.asp_weight.specs.declared.item.Place.{Place}
-use Rattle.asp_weight.specs.Rows.{on, weight_if, sum_where, total_of, need_of, is_under, is_short, is_quiet_as, is_quiet}
+use Rattle.asp_weight.specs.Rows.{on, weight_if, sum_where, total_of, need_of, is_under, is_short, is_silent_row_as, is_silent_row}
 use Rattle.asp_weight.specs.Tallied.{weight_in, sum_in}
 use Rattle.asp_weight.specs.Placed.{weight_at, sum_at, touches}
 
@@ -137,8 +137,8 @@ sum_at-absent v row a t f k d h e = both (get_or row k d).lit.truth (get_or row 
     both false c q = omega (arith, a k d h, f, weighs false q, get_or-le-sum_by (weight_at (record { var = v; truth = false })) row k d h)
 
 -- where the values agree on the body's variables it is as silent
-pub quiet_alike : (a b : List (Option Bool)) (s : Shape) (row : List Item) → value_of a s.var ≡ value_of b s.var → All (λ i. value_of a i.lit.var ≡ value_of b i.lit.var) row → is_quiet a s row ≡ is_quiet b s row
-quiet_alike a b s row e r = ap (λ o. is_quiet_as o a s row) e ∙ cases (value_of b s.var)
+pub silence_alike : (a b : List (Option Bool)) (s : Shape) (row : List Item) → value_of a s.var ≡ value_of b s.var → All (λ i. value_of a i.lit.var ≡ value_of b i.lit.var) row → is_silent_row a s row ≡ is_silent_row b s row
+silence_alike a b s row e r = ap (λ o. is_silent_row_as o a s row) e ∙ cases (value_of b s.var)
   where
     sums : (side : Bool) (xs : List Item) → All (λ i. value_of a i.lit.var ≡ value_of b i.lit.var) xs → sum_where (holds_in a) side xs ≡ sum_where (holds_in b) side xs
     sums side [] q = refl
@@ -164,7 +164,7 @@ quiet_alike a b s row e r = ap (λ o. is_quiet_as o a s row) e ∙ cases (value_
         (λ (i : Item). not (is_open b i.lit) || ltb i.weight (need_of side s - sum_where (holds_in b) side row)) row
         (λ k d h. ap (λ o. not (is_none o) || ltb (get_or row k d).weight (need_of side s - sum_where (holds_in b) side row)) (r k d h)))
 
-    cases : (o : Option Bool) → is_quiet_as o a s row ≡ is_quiet_as o b s row
+    cases : (o : Option Bool) → is_silent_row_as o a s row ≡ is_silent_row_as o b s row
     cases None = ap (λ c. c && is_under false a s row) (under true) ∙ ap (λ c. is_under true b s row && c) (under false)
     cases (Some true) = short false
     cases (Some false) = short true

@@ -12,7 +12,7 @@ use Rattle.asp_vars.specs.declared.nogood.Base.TheVariants as base
 use Rattle.asp_vars.specs.declared.nogood.Nogood.{Nogood}
 use Rattle.asp_trail.specs.Trails.{IsVar}
 use Rattle.asp_trail.specs.Told.{Told}
-use Rattle.asp_trail.specs.Quiet.{is_calm}
+use Rattle.asp_trail.specs.Fixpoint.{is_at_fixpoint}
 use Rattle.asp_weight.specs.Silence.{weight_that}
 
 -- whether the values of all variables keep the definition
@@ -31,5 +31,5 @@ pub record IsGiven (t : Told) (n : Nogood) : Type 0 where
   pub base : n.base ≡ base.Pure
   pub entailed : Entailed t.program n.lits
   pub within : All (λ l. IsVar (var_count t.program) l.var) n.lits
-  pub wanted : is_calm t.values n.lits ≡ false
+  pub wanted : is_at_fixpoint t.values n.lits ≡ false
   pub excluded : (b : Body) × Excludes t.program b n.lits

@@ -8,7 +8,7 @@ use Rattle.asp_model.specs.declared.program.Body.TheVariants as body
 use Rattle.asp_model.specs.declared.program.Program.{Program}
 use Rattle.asp_vars.specs.Literals.{Literal, complement, value_of, holds_in}
 use Rattle.asp_vars.specs.Numbering.{bodies_of, var_count, var_of_form, literal_of}
-use Rattle.asp_trail.specs.Quiet.{is_open}
+use Rattle.asp_trail.specs.Fixpoint.{is_open}
 use Rattle.asp_weight.specs.declared.item.Item.{Item}
 use Rattle.asp_weight.specs.declared.item.Shape.{Shape}
 
@@ -101,10 +101,10 @@ is_short side a s row =
     is_under side a s row
     && list_all (λ i. not (is_open a i.lit) || nat_lt i.weight (need_of side s - sum_where (holds_in a) side row)) row
 
-abbrev pub is_quiet_as : Option Bool → List (Option Bool) → Shape → List Item → Bool
-is_quiet_as None a s row = is_under true a s row && is_under false a s row
-is_quiet_as (Some true) a s row = is_short false a s row
-is_quiet_as (Some false) a s row = is_short true a s row
+abbrev pub is_silent_row_as : Option Bool → List (Option Bool) → Shape → List Item → Bool
+is_silent_row_as None a s row = is_under true a s row && is_under false a s row
+is_silent_row_as (Some true) a s row = is_short false a s row
+is_silent_row_as (Some false) a s row = is_short true a s row
 
-abbrev pub is_quiet : List (Option Bool) → Shape → List Item → Bool
-is_quiet a s row = is_quiet_as (value_of a s.var) a s row
+abbrev pub is_silent_row : List (Option Bool) → Shape → List Item → Bool
+is_silent_row a s row = is_silent_row_as (value_of a s.var) a s row

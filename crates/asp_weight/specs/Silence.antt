@@ -6,7 +6,7 @@ use Rattle.asp_model.specs.declared.program.Body.TheVariants as body
 use Rattle.asp_model.specs.declared.program.Program.{Program}
 use Rattle.asp_vars.specs.Literals.{Literal, complement, value_of, holds_in}
 use Rattle.asp_vars.specs.Numbering.{bodies_of, var_of_form, literal_of}
-use Rattle.asp_trail.specs.Quiet.{is_open}
+use Rattle.asp_trail.specs.Fixpoint.{is_open}
 
 -- the sum of the weights of the literals that pass a test
 abbrev pub weight_that : (Literal → Bool) → Program → List (ℤ × ℤ) → ℤ

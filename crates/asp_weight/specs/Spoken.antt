@@ -2,7 +2,7 @@
 use Rattle.std.specs.Prelude.{◌≡◌, ℕ, ◌+◌, ◌<◌, ◌≤◌, ◌^◌, nat_le, Bool, true, not, if◌then◌else◌, List, [], ◌∷◌, ◌++◌, length, slice_index_or, Option, Some, None}
 use Rattle.std.specs.List.{All, AllPairs}
 use Rattle.asp_vars.specs.Literals.{Literal, F, value_of, holds_in}
-use Rattle.asp_trail.specs.Quiet.{is_open}
+use Rattle.asp_trail.specs.Fixpoint.{is_open}
 use Rattle.asp_weight.specs.declared.item.Item.{Item}
 use Rattle.asp_weight.specs.declared.item.Shape.{Shape}
 use Rattle.asp_weight.specs.declared.look.Speech.{Speech}

@@ -2,11 +2,11 @@
 ghost use Rattle.std.specs.Prelude.{◌≡◌, ◌<◌, ◌≤◌, nat_lt, true, false, not, ◌||◌, Some, None, IfNone, IfSome, length};
 ghost use Rattle.std.specs.List.{All, AllPairs, list_all};
 ghost use Rattle.asp_vars.specs.Literals.{value_of, holds_in};
-ghost use Rattle.asp_trail.specs.Quiet.{is_open};
-ghost use Rattle.asp_weight.specs.Rows.{sum_where, need_of, is_short, is_quiet, shape_at, row_at};
+ghost use Rattle.asp_trail.specs.Fixpoint.{is_open};
+ghost use Rattle.asp_weight.specs.Rows.{sum_where, need_of, is_short, is_silent_row, shape_at, row_at};
 ghost use Rattle.asp_weight.specs.Tallied.{sum_for};
 ghost use Rattle.asp_weight.specs.Spoken.{item_at, Speaks, AreReady};
-ghost use Rattle.asp_weight.specs.Kept.{ArePassed, AreCounted, AreQuiet};
+ghost use Rattle.asp_weight.specs.Kept.{ArePassed, AreCounted, AreSilentRows};
 
 use crate::item::{Item, Shape};
 use crate::tally::{Tallies, Tally};
@@ -117,7 +117,7 @@ fn look_at_both(tally: &Tally, shape: &Shape, row: &[Item], values: &Assign) -> 
     requires reached { tally.now.reached ≡ sum_where (holds_in values.now) true row.now }
     requires missed { tally.now.missed ≡ sum_where (holds_in values.now) false row.now }
     requires open { value_of values.now shape.now.var ≡ None }
-    ensures none { IfNone result (is_quiet values.now shape.now row.now ≡ true) }
+    ensures none { IfNone result (is_silent_row values.now shape.now row.now ≡ true) }
     ensures some { IfSome result (λ x. Speaks x values.now shape.now row.now) }
 {
     if shape.reach <= tally.reached {
@@ -145,7 +145,7 @@ pub fn look(tally: &Tally, shape: &Shape, row: &[Item], values: &Assign) -> Find
     requires reached { tally.now.reached ≡ sum_where (holds_in values.now) true row.now }
     requires missed { tally.now.missed ≡ sum_where (holds_in values.now) false row.now }
     requires passed { ArePassed values.now row.now tally.now.start }
-    ensures none { IfNone result.speech (is_quiet values.now shape.now row.now ≡ true) }
+    ensures none { IfNone result.speech (is_silent_row values.now shape.now row.now ≡ true) }
     ensures some { IfSome result.speech (λ x. Speaks x values.now shape.now row.now) }
     ensures passed { ArePassed values.now row.now result.start }
 {
@@ -181,11 +181,11 @@ fn look_at(
     requires body { body < length rows.now }
     requires ready { AreReady values.now shapes.now rows.now }
     requires counted { AreCounted values.now rows.now tallies.old.tallies }
-    requires quiet { AreQuiet values.now shapes.now rows.now tallies.old.tallies }
+    requires silence { AreSilentRows values.now shapes.now rows.now tallies.old.tallies }
     ensures queue { tallies.new.queue ≡ tallies.old.queue }
     ensures counted { AreCounted values.now rows.now tallies.new.tallies }
-    ensures quiet { AreQuiet values.now shapes.now rows.now tallies.new.tallies }
-    ensures none { IfNone result (is_quiet values.now (shape_at shapes.now body) (row_at rows.now body) ≡ true) }
+    ensures silence { AreSilentRows values.now shapes.now rows.now tallies.new.tallies }
+    ensures none { IfNone result (is_silent_row values.now (shape_at shapes.now body) (row_at rows.now body) ≡ true) }
     ensures some { IfSome result (λ x. Speaks x values.now (shape_at shapes.now body) (row_at rows.now body)) }
 {
     let Finding { speech, start } = look(tallies.at(body), &shapes[body], rows.row(body), values);
@@ -202,9 +202,9 @@ pub fn first_speech(
 ) -> Option<(usize, Speech)>
     requires ready { AreReady values.now shapes.now rows.now }
     requires counted { AreCounted values.now rows.now tallies.old.tallies }
-    requires quiet { AreQuiet values.now shapes.now rows.now tallies.old.tallies }
+    requires silence { AreSilentRows values.now shapes.now rows.now tallies.old.tallies }
     ensures counted { AreCounted values.now rows.now tallies.new.tallies }
-    ensures quiet { AreQuiet values.now shapes.now rows.now tallies.new.tallies }
+    ensures silence { AreSilentRows values.now shapes.now rows.now tallies.new.tallies }
     ensures none { IfNone result (All (λ t. t.queued ≡ false) tallies.new.tallies) }
     ensures some { IfSome result (λ r. (r.0 < length rows.now) × Speaks r.1 values.now (shape_at shapes.now r.0) (row_at rows.now r.0)) }
 {

@@ -62,7 +62,7 @@ impl Tallies {
     /// The body that was queued last.
     pub fn newest(&self) -> Option<usize>
         ensures none { IfNone result (self.now.queue ≡ []) }
-        ensures quiet { IfNone result (All (λ t. t.queued ≡ false) self.now.tallies) }
+        ensures silence { IfNone result (All (λ t. t.queued ≡ false) self.now.tallies) }
         ensures newest { IfSome result (λ w. (0 < length self.now.queue) × (w ≡ newest self.now.queue)) }
         ensures within { IfSome result (λ w. w < length self.now.tallies) }
     {

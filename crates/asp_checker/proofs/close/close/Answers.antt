@@ -19,12 +19,12 @@ steps-smaller c = c.in-Implied.ensures.1
 pub returns-in-Conflict-clause-conflict : goal.returns-in-Conflict-clause-conflict
 returns-in-Conflict-clause-conflict c = λ e. refuted_before c.args.compiled.now (known_by c.args.rows.now c.args.bound.now) c.args.values.now c.steps.values c.steps.invariant c.in-Conflict.ensures
 
-pub returns-in-Calm-clause-extends : goal.returns-in-Calm-clause-extends
-returns-in-Calm-clause-extends c = λ e.
+pub returns-in-Fixpoint-clause-extends : goal.returns-in-Fixpoint-clause-extends
+returns-in-Fixpoint-clause-extends c = λ e.
     let k : Known = known_by c.args.rows.now c.args.bound.now in
-    subst (Extends c.args.compiled.now k c.args.values.now) (sym c.in-Calm.ensures.0) c.steps.invariant
+    subst (Extends c.args.compiled.now k c.args.values.now) (sym c.in-Fixpoint.ensures.0) c.steps.invariant
 
-pub returns-in-Calm-clause-propagated : goal.returns-in-Calm-clause-propagated
-returns-in-Calm-clause-propagated c = λ e.
+pub returns-in-Fixpoint-clause-propagated : goal.returns-in-Fixpoint-clause-propagated
+returns-in-Fixpoint-clause-propagated c = λ e.
     let k : Known = known_by c.args.rows.now c.args.bound.now in
-    subst (IsPropagated c.args.compiled.now k) (sym c.in-Calm.ensures.0) c.in-Calm.ensures.1
+    subst (IsPropagated c.args.compiled.now k) (sym c.in-Fixpoint.ensures.0) c.in-Fixpoint.ensures.1

@@ -1,5 +1,5 @@
 use Rattle.std.proofs.Common.{sym, [], ◌∷◌}
-use Rattle.asp_checker.proofs.LookLaws.{with_held, with_failed, with_open, with_same, with_second, calm_more}
+use Rattle.asp_checker.proofs.LookLaws.{with_held, with_failed, with_open, with_same, with_second, fixpoint_more}
 use Rattle.asp_checker.proofs.nogoods.with.Goals as goal
 
 pub returns-then-holds : goal.returns-then-holds
@@ -11,8 +11,8 @@ returns-then-holds-2 c = λ n h. with_failed c.args.values.now c.args.lit (sym (
 pub returns-then-eq : goal.returns-then-eq
 returns-then-eq c = λ n h. with_same c.args.values.now c.in-Unit.open c.args.lit (sym c.if-eq.ensures) n (rw c.in-Unit.is at h)
 
-pub returns-in-Calm : goal.returns-in-Calm
-returns-in-Calm c = λ n h. calm_more c.args.values.now n (c.args.lit ∷ []) (rw c.in-Calm.is at h)
+pub returns-in-Fixpoint : goal.returns-in-Fixpoint
+returns-in-Fixpoint c = λ n h. fixpoint_more c.args.values.now n (c.args.lit ∷ []) (rw c.in-Fixpoint.is at h)
 
 pub returns-in-Violated : goal.returns-in-Violated
 returns-in-Violated c = λ n h. with_open c.args.values.now c.args.lit (sym c.if-holds.ensures) (sym (rw c.complement.ensures at c.if-holds-2.ensures)) n (rw c.in-Violated.is at h)

@@ -6,7 +6,7 @@ use Rattle.asp_trail.specs.Entries.{assignment}
 use Rattle.asp_store.specs.declared.stored_nogood.StoredNogood.{StoredNogood}
 use Rattle.asp_store.specs.Keeping.{nogood_at}
 use Rattle.asp_store.specs.Walking.{IsViolated}
-use Rattle.asp_propagate.specs.Propagating.{AreCalm, Asked}
+use Rattle.asp_propagate.specs.Propagating.{AreAtFixpoint, Asked}
 use Rattle.asp_propagate.proofs.AddLaws.{goes_then}
 use Rattle.asp_propagate.proofs.PropagateLaws.{grows}
 use Rattle.asp_propagate.proofs.rounds.propagate.Goals as goal
@@ -16,7 +16,7 @@ asked-init g c = record {
   followed = c.settle.ensures.followed;
   goes = c.settle.ensures.goes;
   all = subst (λ (o : Option ℕ). IfNone o (c.settle.new.told ≡ length c.settle.new.trail.entries)) c.in-None.is c.in_ok-first.ensures.all;
-  calm = subst (λ (o : Option ℕ). IfNone o (AreCalm c.settle.new.store.slots (assignment c.settle.new.trail.vars c.settle.new.trail.entries))) c.in-None.is c.in_ok-first.ensures.calm;
+  fixpoint = subst (λ (o : Option ℕ). IfNone o (AreAtFixpoint c.settle.new.store.slots (assignment c.settle.new.trail.vars c.settle.new.trail.entries))) c.in-None.is c.in_ok-first.ensures.fixpoint;
 }
 
 pub returns-in-Some-clause-violated : goal.returns-in-Some-clause-violated
@@ -79,7 +79,7 @@ asked-preserved g c =
           c.args.store.now.slots m.store.slots a.store.slots c.args.trail.now.entries m.trail.entries m.trail.entries m.invariant.goes c.ask.ensures.goes)
           c.settle-in-asked.ensures.goes;
       all = subst (λ (o : Option ℕ). IfNone o (z.told ≡ length z.trail.entries)) c.in-None-found.is c.in_ok-found.ensures.all;
-      calm = subst (λ (o : Option ℕ). IfNone o (AreCalm z.store.slots (assignment z.trail.vars z.trail.entries))) c.in-None-found.is c.in_ok-found.ensures.calm;
+      fixpoint = subst (λ (o : Option ℕ). IfNone o (AreAtFixpoint z.store.slots (assignment z.trail.vars z.trail.entries))) c.in-None-found.is c.in_ok-found.ensures.fixpoint;
     }
 
 pub asked-smaller : goal.asked-smaller
@@ -96,8 +96,8 @@ asked-smaller g c =
     let asked =
     subst (λ (x : Bool). Asked (g.P.Propagator.silent p b) (g.P.Propagator.gives p b) (assignment m.trail.vars m.trail.entries) m.store c.ask.new.store x) c.if-branch.true c.in_ok-ask.ensures.ok in
     let kept = ap (λ (xs : List (Option StoredNogood)). nogood_at xs asked.1) e.same ∙ ap (option_map (λ (k : StoredNogood). k.nogood)) asked.2.slots.here in
-    let calm = subst (λ (o : Option ℕ). IfNone o (AreCalm s.store.slots (assignment s.trail.vars s.trail.entries))) c.in-None-found.is c.in_ok-found.ensures.calm in
-    let quiet = subst (λ (n : ℕ). AreCalm s.store.slots (assignment n s.trail.entries)) vars calm in
+    let fixpoint = subst (λ (o : Option ℕ). IfNone o (AreAtFixpoint s.store.slots (assignment s.trail.vars s.trail.entries))) c.in-None-found.is c.in_ok-found.ensures.fixpoint in
+    let fixpoint = subst (λ (n : ℕ). AreAtFixpoint s.store.slots (assignment n s.trail.entries)) vars fixpoint in
     let lt : length m.trail.entries < length s.trail.entries =
-    grows s.store.slots m.trail.vars m.trail.entries s.trail.entries asked.1 asked.0 kept asked.4 quiet e.goes.implies in
+    grows s.store.slots m.trail.vars m.trail.entries s.trail.entries asked.1 asked.0 kept asked.4 fixpoint e.goes.implies in
     omega (arith, lt, c.in_ok-found.ensures.few, vars)

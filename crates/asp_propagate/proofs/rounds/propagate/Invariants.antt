@@ -1,6 +1,6 @@
 use Rattle.std.proofs.Common.{◌≡◌, ◌+◌, ◌-◌, length}
 use Rattle.asp_trail.specs.Entries.{assignment}
-use Rattle.asp_propagate.specs.Propagating.{IsFollowed, GoesOn, AreCalm}
+use Rattle.asp_propagate.specs.Propagating.{IsFollowed, GoesOn, AreAtFixpoint}
 use Rattle.asp_propagate.proofs.rounds.propagate.Given as goal
 
 abbrev pub invariant-asked : goal.invariant-asked
@@ -9,7 +9,7 @@ invariant-asked g l = record {
   goes : GoesOn (g.P.Propagator.gives (g.P.Propagator.told l.fn.propagator).program (g.P.Propagator.bound l.fn.propagator)) (g.P.Propagator.told l.fn.propagator) (g.P.Propagator.told l.propagator)
       (g.P.Propagator.bound l.fn.propagator) (g.P.Propagator.bound l.propagator) l.fn.store.slots l.store.slots l.fn.trail.entries l.trail.entries;
   all : l.told ≡ length l.trail.entries;
-  calm : AreCalm l.store.slots (assignment l.trail.vars l.trail.entries);
+  fixpoint : AreAtFixpoint l.store.slots (assignment l.trail.vars l.trail.entries);
 }
 
 abbrev pub decreases-asked : goal.decreases-asked

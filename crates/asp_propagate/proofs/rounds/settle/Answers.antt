@@ -3,7 +3,7 @@ use Rattle.asp_trail.specs.Trails.{Trailed}
 use Rattle.asp_store.specs.declared.propagation.Propagated.{Propagated}
 use Rattle.asp_store.specs.Walking.{Propagates}
 use Rattle.asp_propagate.specs.Propagating.{WasTold}
-use Rattle.asp_propagate.proofs.PropagateLaws.{followed_settled, told_settled, goes_settled, calm_settled, violated_settled}
+use Rattle.asp_propagate.proofs.PropagateLaws.{followed_settled, told_settled, goes_settled, fixpoint_settled, violated_settled}
 use Rattle.asp_propagate.proofs.rounds.settle.Goals as goal
 
 pub tell-requires : goal.tell-requires
@@ -34,28 +34,28 @@ returns-in-Violated-clause-violated g c =
     (ap (λ (x : Trailed). x.vars) p.ensures.trail ∙ c.requires.fits.same_vars) p.ensures.slots
     (subst (λ (r : Propagated). Propagates c.args.store.now.vars c.args.store.now.slots p.new.trail.entries r) c.in-Violated.is c.in_ok-found.ensures.propagates)
 
-pub returns-in-Quiet-clause-followed : goal.returns-in-Quiet-clause-followed
-returns-in-Quiet-clause-followed g c =
+pub returns-in-Fixpoint-clause-followed : goal.returns-in-Fixpoint-clause-followed
+returns-in-Fixpoint-clause-followed g c =
     let p = c.propagate in
     let u = g.P.Propagator.told c.tell.new.propagator in
     followed_settled (g.P.Propagator.told c.args.propagator.now) u c.args.store.now p.new.self c.args.trail.now p.new.trail c.args.told.now c.len.result
     p.ensures.slots p.ensures.trail p.ensures.fits
     (subst (WasTold u p.new.trail) (sym c.len.ensures.len) c.tell.ensures.told) c.requires
 
-pub returns-in-Quiet-clause-goes : goal.returns-in-Quiet-clause-goes
-returns-in-Quiet-clause-goes g c =
+pub returns-in-Fixpoint-clause-goes : goal.returns-in-Fixpoint-clause-goes
+returns-in-Fixpoint-clause-goes g c =
     let p = c.propagate in
     let t = g.P.Propagator.told c.args.propagator.now in
     let b = g.P.Propagator.bound c.args.propagator.now in
     goes_settled (g.P.Propagator.gives t.program b) t (g.P.Propagator.told c.tell.new.propagator) b (g.P.Propagator.bound c.tell.new.propagator) c.args.store.now p.new.self
     c.args.trail.now.entries p.new.trail.entries c.tell.ensures.program c.tell.ensures.bound p.ensures.slots p.ensures.extends
 
-pub returns-in-Quiet-clause-calm : goal.returns-in-Quiet-clause-calm
-returns-in-Quiet-clause-calm g c =
+pub returns-in-Fixpoint-clause-fixpoint : goal.returns-in-Fixpoint-clause-fixpoint
+returns-in-Fixpoint-clause-fixpoint g c =
     let p = c.propagate in
-    calm_settled c.args.store.now.vars p.new.trail.vars c.args.store.now.slots p.new.self.slots p.new.trail.entries
+    fixpoint_settled c.args.store.now.vars p.new.trail.vars c.args.store.now.slots p.new.self.slots p.new.trail.entries
     (ap (λ (x : Trailed). x.vars) p.ensures.trail ∙ c.requires.fits.same_vars) p.ensures.slots
-    (subst (λ (r : Propagated). Propagates c.args.store.now.vars c.args.store.now.slots p.new.trail.entries r) c.in-Quiet.is c.in_ok-found.ensures.propagates)
+    (subst (λ (r : Propagated). Propagates c.args.store.now.vars c.args.store.now.slots p.new.trail.entries r) c.in-Fixpoint.is c.in_ok-found.ensures.propagates)
 
 pub returns-in_err-found-clause-followed : goal.returns-in_err-found-clause-followed
 returns-in_err-found-clause-followed g c =

@@ -37,7 +37,7 @@ imply-requires-clause-implied g c = implied c.keep_second-id.new.state _ _ c.kee
 pub imply-requires-clause-under : goal.imply-requires-clause-under
 imply-requires-clause-under g c =
     let u = c.requires.under in
-    subst (λ (t : SearchView). (q : List Literal) × IsUnder t q) (sym c.keep_second-id.ensures.same) (u.0, record { cube_is = u.1.cube_is; calm = u.1.calm })
+    subst (λ (t : SearchView). (q : List Literal) × IsUnder t q) (sym c.keep_second-id.ensures.same) (u.0, record { cube_is = u.1.cube_is; fixpoint = u.1.fixpoint })
 
 pub returns-clause-local : goal.returns-clause-local
 returns-clause-local g c = (second, ap (λ (t : SearchView). kept_at t.slots c.keep_second-id.result) c.imply.ensures ∙ c.keep_second-id.ensures.kept, refl)

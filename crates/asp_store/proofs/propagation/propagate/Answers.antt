@@ -4,7 +4,7 @@ use Rattle.asp_trail.specs.Trails.{Trailed}
 use Rattle.asp_store.specs.Sounding.{AreSettled}
 use Rattle.asp_store.specs.Walking.{IsViolated}
 use Rattle.asp_store.proofs.GrowLaws.{extends_more}
-use Rattle.asp_store.proofs.CalmLaws.{all_calm}
+use Rattle.asp_store.proofs.FixpointLaws.{all_at_fixpoint}
 use Rattle.asp_store.proofs.propagation.propagate.Goals as goal
 
 pub returns-in_err-pending-clause-same : goal.returns-in_err-pending-clause-same
@@ -72,5 +72,5 @@ entries-smaller c =
 
 pub returns-clause-propagates : goal.returns-clause-propagates
 returns-clause-propagates c =
-    all_calm c.args.slots.now c.entries.watches c.entries.trail c.len.ensures.ordered (omega (arith, c.entries-test.false, c.len.ensures.len, c.seen.ensures.seen, c.seen.ensures.within))
+    all_at_fixpoint c.args.slots.now c.entries.watches c.entries.trail c.len.ensures.ordered (omega (arith, c.entries-test.false, c.len.ensures.len, c.seen.ensures.seen, c.seen.ensures.within))
     c.entries.invariant.sound c.entries.invariant.settled

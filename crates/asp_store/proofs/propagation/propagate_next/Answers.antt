@@ -5,7 +5,7 @@ use Rattle.asp_trail.specs.Trails.{Trailed}
 use Rattle.asp_store.specs.Fitting.{Extends}
 use Rattle.asp_store.specs.Sounding.{IsSound, AreSettled}
 use Rattle.asp_store.specs.Walking.{Walked}
-use Rattle.asp_store.proofs.CalmLaws.{walk_begins, walk_ends, marked_same}
+use Rattle.asp_store.proofs.FixpointLaws.{walk_begins, walk_ends, marked_same}
 use Rattle.asp_store.proofs.propagation.propagate_next.Goals as goal
 
 pub walk-requires-clause-walking : goal.walk-requires-clause-walking

@@ -1,6 +1,6 @@
 use Rattle.std.proofs.Common.{None, refl, arith}
 use Rattle.std.proofs.lemmas.Bool.{false≢true}
-use Rattle.asp_trail_laws.proofs.AssumeLaws.{assume_one, stand_one, held, clash, assumed_level, assumed_starts, assumed_calm}
+use Rattle.asp_trail_laws.proofs.AssumeLaws.{assume_one, stand_one, held, clash, assumed_level, assumed_starts, assumed_fixpoint}
 use Rattle.asp_trail_laws.proofs.trails.cubes_are_assumed.Goals as goal
 
 pub returns : goal.returns
@@ -13,5 +13,5 @@ returns c = record {
   clash = clash;
   level = assumed_level;
   starts = assumed_starts;
-  calm = assumed_calm;
+  fixpoint = assumed_fixpoint;
 }

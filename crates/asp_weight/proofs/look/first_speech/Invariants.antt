@@ -1,11 +1,11 @@
 use Rattle.std.proofs.Common.{length}
-use Rattle.asp_weight.specs.Kept.{AreCounted, AreQuiet}
+use Rattle.asp_weight.specs.Kept.{AreCounted, AreSilentRows}
 use Rattle.asp_weight.proofs.look.first_speech.Given as goal
 
 abbrev pub invariant-loop-body : goal.invariant-loop-body
 invariant-loop-body l = record {
   counted : AreCounted l.values l.rows l.tallies.tallies;
-  quiet : AreQuiet l.values l.shapes l.rows l.tallies.tallies;
+  silence : AreSilentRows l.values l.shapes l.rows l.tallies.tallies;
 }
 
 abbrev pub decreases-loop-body : goal.decreases-loop-body

@@ -2,7 +2,7 @@
 use Rattle.std.proofs.Common.{ap, arith}
 use Rattle.std.proofs.lemmas.List.{get_or_read}
 use Rattle.asp_weight.proofs.RowLaws.{none_open, light_from}
-use Rattle.asp_trail.specs.Quiet.{is_open}
+use Rattle.asp_trail.specs.Fixpoint.{is_open}
 use Rattle.asp_weight.specs.declared.item.Item.{Item}
 use Rattle.asp_weight.proofs.look.heaviest_open.Goals as goal
 

@@ -3,7 +3,7 @@ use Rattle.std.specs.Prelude.{ℤ, IfOk, IfSome, IfNone}
 use Rattle.asp_model.specs.declared.program.Program.{Program}
 use Rattle.asp_trail.specs.Entries.{assignment}
 use Rattle.asp_store.specs.Walking.{IsViolated}
-use Rattle.asp_propagate.specs.Propagating.{Propagating, Adds, Implies, IsQuiet}
+use Rattle.asp_propagate.specs.Propagating.{Propagating, Adds, Implies, IsFixpoint}
 use Rattle.asp_propagate.proofs.engine.Engine.propagate.Goals as goal
 
 pub returns-clause-program : goal.returns-clause-program
@@ -23,17 +23,17 @@ returns-clause-implies g c =
 pub returns-clause-reasons : goal.returns-clause-reasons
 returns-clause-reasons g c = c.propagate.ensures.followed.fits.reasons
 
-pub returns-clause-quiet : goal.returns-clause-quiet
-returns-clause-quiet g c =
+pub returns-clause-fixpoint : goal.returns-clause-fixpoint
+returns-clause-fixpoint g c =
     let e = c.propagate.ensures in
     let s = c.propagate.new.store.slots in
     let es = c.propagate.new.trail.entries in
     let b = g.P.Propagator.bound c.propagate.new.propagator in
     let silent = g.P.Propagator.silent in
-    subst (λ (n : ℕ). IfOk c.propagate.result (λ r. IfNone r (IsQuiet (silent (g.P.Propagator.told c.propagate.new.propagator).program b) s (assignment n es)))) e.followed.told.vars
-    (subst (λ (x : Option (List ℤ)). IfOk c.propagate.result (λ r. IfNone r (IsQuiet (silent (g.P.Propagator.told c.propagate.new.propagator).program x) s (assignment c.propagate.new.trail.vars es))))
+    subst (λ (n : ℕ). IfOk c.propagate.result (λ r. IfNone r (IsFixpoint (silent (g.P.Propagator.told c.propagate.new.propagator).program b) s (assignment n es)))) e.followed.told.vars
+    (subst (λ (x : Option (List ℤ)). IfOk c.propagate.result (λ r. IfNone r (IsFixpoint (silent (g.P.Propagator.told c.propagate.new.propagator).program x) s (assignment c.propagate.new.trail.vars es))))
     (sym e.goes.bound_stays)
-    (subst (λ (p : Program). IfOk c.propagate.result (λ r. IfNone r (IsQuiet (silent p (g.P.Propagator.bound c.self.inside.propagator)) s (assignment c.propagate.new.trail.vars es)))) (sym e.goes.program) e.quiet))
+    (subst (λ (p : Program). IfOk c.propagate.result (λ r. IfNone r (IsFixpoint (silent p (g.P.Propagator.bound c.self.inside.propagator)) s (assignment c.propagate.new.trail.vars es)))) (sym e.goes.program) e.fixpoint))
 
 pub returns-clause-violated : goal.returns-clause-violated
 returns-clause-violated g c =

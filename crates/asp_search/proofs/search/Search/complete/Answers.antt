@@ -8,7 +8,7 @@ use Rattle.asp_vars.specs.Numbering.{var_count}
 use Rattle.asp_vars.specs.declared.nogood.Nogood.{Nogood}
 use Rattle.asp_store.specs.declared.stored_nogood.Kind.TheVariants as kind
 use Rattle.asp_order.specs.Waiting.{AreAssigned}
-use Rattle.asp_propagate.specs.Propagating.{IsQuiet}
+use Rattle.asp_propagate.specs.Propagating.{IsFixpoint}
 use Rattle.asp_trail_laws.specs.Whole.{atoms_on}
 use Rattle.asp_search_laws.specs.Faults.{IsFault}
 use Rattle.asp_search_laws.specs.Searching.{Searching, values_now}
@@ -36,10 +36,10 @@ fault-requires-clause-whole g c =
     let t = i.state in
     let q = c.requires.entered.0 in
     let e = subst (λ (s : Searching). IsEntered s q) (sym c.self.view_is) c.requires.entered.1 in
-    let under : IsUnder t q = record { cube_is = e.cube; calm = e.clear } in
+    let under : IsUnder t q = record { cube_is = e.cube; fixpoint = e.clear } in
     let silent = g.P.Propagator.silent t.program t.bound in
-    let quiet : IsQuiet silent t.slots (values_of t) =
-    subst (λ (x : Searching). IsQuiet (g.P.Propagator.silent x.program x.bound) x.slots (values_now x)) (sym c.self.view_is) c.requires.quiet in
+    let fixpoint : IsFixpoint silent t.slots (values_of t) =
+    subst (λ (x : Searching). IsFixpoint (g.P.Propagator.silent x.program x.bound) x.slots (values_now x)) (sym c.self.view_is) c.requires.fixpoint in
     let assigned : AreAssigned (var_count t.program) (values_of t) = subst (λ (x : Searching). AreAssigned (var_count x.program) (values_now x)) (sym c.self.view_is) c.requires.assigned in
     let sound : IsSound t.program = subst IsSound c.self.invariant.program c.program-program.ensures.sound in
     let full : IsFull silent i.known.items t q = record {
@@ -48,7 +48,7 @@ fault-requires-clause-whole g c =
       reasons = c.store-store.ensures.reasons;
       small = c.store-store.ensures.small;
       completed = c.store-store.ensures.completed;
-      quiet = quiet;
+      fixpoint = fixpoint;
       assigned = assigned;
       useful = c.self.invariant.useful;
       blocked = c.self.invariant.blocked;
@@ -73,10 +73,10 @@ answer-requires g c =
     let S = c.in_ok-interp.interp in
     let q = c.requires.entered.0 in
     let e = subst (λ (s : Searching). IsEntered s q) (sym c.self.view_is) c.requires.entered.1 in
-    let under : IsUnder t q = record { cube_is = e.cube; calm = e.clear } in
+    let under : IsUnder t q = record { cube_is = e.cube; fixpoint = e.clear } in
     let silent = g.P.Propagator.silent t.program t.bound in
-    let quiet : IsQuiet silent t.slots (values_of t) =
-    subst (λ (x : Searching). IsQuiet (g.P.Propagator.silent x.program x.bound) x.slots (values_now x)) (sym c.self.view_is) c.requires.quiet in
+    let fixpoint : IsFixpoint silent t.slots (values_of t) =
+    subst (λ (x : Searching). IsFixpoint (g.P.Propagator.silent x.program x.bound) x.slots (values_now x)) (sym c.self.view_is) c.requires.fixpoint in
     let assigned : AreAssigned (var_count t.program) (values_of t) = subst (λ (x : Searching). AreAssigned (var_count x.program) (values_now x)) (sym c.self.view_is) c.requires.assigned in
     let sound : IsSound t.program = subst IsSound c.self.invariant.program c.program-program.ensures.sound in
     let full : IsFull silent i.known.items t q = record {
@@ -85,7 +85,7 @@ answer-requires g c =
       reasons = c.store-store.ensures.reasons;
       small = c.store-store.ensures.small;
       completed = c.store-store.ensures.completed;
-      quiet = quiet;
+      fixpoint = fixpoint;
       assigned = assigned;
       useful = c.self.invariant.useful;
       blocked = c.self.invariant.blocked;

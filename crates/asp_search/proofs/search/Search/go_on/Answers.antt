@@ -4,7 +4,7 @@ use Rattle.std.proofs.lemmas.Result.{IfOk-weaker, on_err_weaker}
 use Rattle.asp_vars.specs.Literals.{Literal}
 use Rattle.asp_vars.specs.Numbering.{var_count}
 use Rattle.asp_order.specs.Waiting.{AreAssigned}
-use Rattle.asp_propagate.specs.Propagating.{IsQuiet}
+use Rattle.asp_propagate.specs.Propagating.{IsFixpoint}
 use Rattle.asp_search_laws.specs.Searching.{Searching, values_now}
 use Rattle.asp_search_laws.specs.Steps.{Decides, IsDue, IsStep, IsFailure}
 use Rattle.asp_search_laws.proofs.StepLaws.{Continues, steps_on, fails_on}
@@ -19,7 +19,7 @@ pub decide-requires-clause-under : goal.decide-requires-clause-under
 decide-requires-clause-under g c =
     let q = c.requires.entered.0 in
     let e = subst (λ (s : Searching). IsEntered s q) (sym c.self.view_is) c.requires.entered.1 in
-    (q, record { cube_is = e.cube; calm = e.clear })
+    (q, record { cube_is = e.cube; fixpoint = e.clear })
 
 pub returns-then-is_due-clause-ok : goal.returns-then-is_due-clause-ok
 returns-then-is_due-clause-ok g c = λ q e.
@@ -60,10 +60,10 @@ returns-in-Some-clause-ok g c = λ q e.
     let d = c.in_ok-decide.ensures in
     let new : Searching = view_of i.mode u i.pace i.known.items i.last in
     let last : i.last ≡ None = ap (λ (x : Searching). x.last) c.self.view_is ∙ c.requires.entered.1.last in
-    let quiet : IsQuiet (g.P.Propagator.silent i.state.program i.state.bound) i.state.slots (values_of i.state) =
-    subst (λ (x : Searching). IsQuiet (g.P.Propagator.silent x.program x.bound) x.slots (values_now x)) (sym c.self.view_is) c.requires.quiet in
+    let fixpoint : IsFixpoint (g.P.Propagator.silent i.state.program i.state.bound) i.state.slots (values_of i.state) =
+    subst (λ (x : Searching). IsFixpoint (g.P.Propagator.silent x.program x.bound) x.slots (values_now x)) (sym c.self.view_is) c.requires.fixpoint in
     let decides = decides_now (g.P.Propagator.gives i.state.program i.state.bound) (g.P.Propagator.silent i.state.program i.state.bound) i.mode i.state u i.pace i.known.items i.last f
-    c.in_ok-decide.field-0 c.in-Some.field-0 c.in-Some.is last quiet d.same d.next d.entries d.decisions in
+    c.in_ok-decide.field-0 c.in-Some.field-0 c.in-Some.is last fixpoint d.same d.next d.entries d.decisions in
     subst (λ (z : Searching). Decides (g.P.Propagator.gives z.program z.bound) (g.P.Propagator.silent z.program z.bound) z new f f) c.self.view_is decides
 
 pub returns-in-None-clause-ok : goal.returns-in-None-clause-ok

@@ -38,7 +38,7 @@ pub jump-requires-clause-path : goal.jump-requires-clause-path
 jump-requires-clause-path g c =
     let q = c.requires.met.0 in
     let m = subst (λ (s : Searching). IsMet s q c.args.id (learned.Jump c.args.nogood c.args.to c.args.lit)) (sym c.self.view_is) c.requires.met.1 in
-    (q, record { cube_is = m.entered; calm = m.clear })
+    (q, record { cube_is = m.entered; fixpoint = m.clear })
 
 pub jump-requires-clause-contained : goal.jump-requires-clause-contained
 jump-requires-clause-contained g c =

@@ -7,10 +7,10 @@ use Rattle.asp_trail.specs.declared.trail.Entry.{Entry}
 use Rattle.asp_trail.specs.Entries.{assignment, level}
 use Rattle.asp_trail.specs.Trails.{IsOrdered}
 use Rattle.asp_order.specs.Waiting.{AreWaiting}
-use Rattle.asp_propagate.specs.Propagating.{Propagating, AreCalm, with_entry}
+use Rattle.asp_propagate.specs.Propagating.{Propagating, AreAtFixpoint, with_entry}
 use Rattle.asp_state.specs.SearchStates.{SearchView, values_of}
 use Rattle.asp_state.proofs.KeepLaws.{IsSearchView}
-use Rattle.asp_state.proofs.SlotLaws.{calm_completion}
+use Rattle.asp_state.proofs.SlotLaws.{fixpoint_completion}
 use Rattle.asp_state.proofs.StateLaws.{has_vars, track_decided}
 use Rattle.asp_state.proofs.state.SearchState.decide.Goals as goal
 
@@ -28,8 +28,8 @@ invariant_of-self-in-Some g c =
     let e : Entry = record { lit = l; level = level es + 1; reason = None } in
     let ordered : IsOrdered (var_count p) es =
     subst (λ (k : ℕ). IsOrdered k es) c.trail.ensures.vars (subst (λ (xs : List Entry). IsOrdered c.trail.result.now.vars xs) c.trail.ensures.entries c.len-len.ensures.ordered) in
-    let calm =
-    calm_completion (assignment (var_count p) es) i.engine.slots (completion p) (subst (λ (t : SearchView). AreCalm t.slots (values_of t)) (sym c.self.view_is) c.requires.calm) c.self.invariant.completed in
+    let fixpoint =
+    fixpoint_completion (assignment (var_count p) es) i.engine.slots (completion p) (subst (λ (t : SearchView). AreAtFixpoint t.slots (values_of t)) (sym c.self.view_is) c.requires.fixpoint) c.self.invariant.completed in
     let waits : AreWaiting (var_count p) (es ++ e ∷ []) c.next.new.self =
     subst (λ (k : ℕ). AreWaiting k (es ++ e ∷ []) c.next.new.self) c.trail-2.ensures.vars
     (subst (λ (xs : List Entry). AreWaiting c.trail-2.result.now.vars (xs ++ e ∷ []) c.next.new.self) c.trail-2.ensures.entries
@@ -38,5 +38,5 @@ invariant_of-self-in-Some g c =
     subst (λ (f : Propagating). IsSearchView f cube i.clashing c.push_reserved.new.self.items c.next.new.self) (sym c.decide.ensures)
     (subst (λ (ds : List Literal). IsSearchView (with_entry i.engine l (level es + 1) None) cube i.clashing ds c.next.new.self) (sym items)
     (track_decided p cube i.clashing c.requires.under.0 i.decisions.items es i.engine.slots i.order c.next.new.self l e
-    (ap (λ (t : SearchView). t.cube) c.self.view_is ∙ u.cube_is) (ap (λ (t : SearchView). t.clashing) c.self.view_is ∙ u.calm) refl refl refl ordered calm
+    (ap (λ (t : SearchView). t.cube) c.self.view_is ∙ u.cube_is) (ap (λ (t : SearchView). t.clashing) c.self.view_is ∙ u.fixpoint) refl refl refl ordered fixpoint
     (has_vars (var_count p) i.order c.next.new.self c.next.ensures.same c.self.invariant.ranked) waits c.self.invariant))

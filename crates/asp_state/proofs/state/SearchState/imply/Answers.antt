@@ -16,5 +16,5 @@ invariant_of-self g c =
     subst (λ (x : Propagating). IsSearchState x.program cube i.clashing i.decisions.items x.entries x.slots i.order) (sym c.imply.ensures)
     (track_implied i.engine.program cube i.clashing c.requires.under.0 i.decisions.items i.engine.entries
     (record { lit = c.args.lit; level = level i.engine.entries; reason = Some c.args.id } ∷ []) i.engine.slots i.engine.slots i.order
-    (ap (λ (t : SearchView). t.cube) c.self.view_is ∙ u.cube_is) (ap (λ (t : SearchView). t.clashing) c.self.view_is ∙ u.calm)
+    (ap (λ (t : SearchView). t.cube) c.self.view_is ∙ u.cube_is) (ap (λ (t : SearchView). t.clashing) c.self.view_is ∙ u.fixpoint)
     (implied_one (level i.engine.entries) c.args.lit c.args.id) c.self.invariant.completed c.self.invariant)

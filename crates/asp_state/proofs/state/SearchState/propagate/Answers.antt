@@ -21,7 +21,7 @@ invariant_of-self g c =
     subst (λ (p : Program). IsSearchState p cube i.clashing i.decisions.items c.propagate.new.self.entries c.propagate.new.self.slots i.order) (sym e.program)
     (subst (λ (es : List Entry). IsSearchState i.engine.program cube i.clashing i.decisions.items es c.propagate.new.self.slots i.order) (sym e.implies.1)
     (track_implied i.engine.program cube i.clashing c.requires.0 i.decisions.items i.engine.entries e.implies.0 i.engine.slots c.propagate.new.self.slots i.order
-    (ap (λ (t : SearchView). t.cube) c.self.view_is ∙ u.cube_is) (ap (λ (t : SearchView). t.clashing) c.self.view_is ∙ u.calm)
+    (ap (λ (t : SearchView). t.cube) c.self.view_is ∙ u.cube_is) (ap (λ (t : SearchView). t.clashing) c.self.view_is ∙ u.fixpoint)
     (implied_form (level i.engine.entries) e.implies.0 e.implies.2) kept c.self.invariant))
 
 pub returns-clause-implies : goal.returns-clause-implies

@@ -10,7 +10,7 @@ pub returns-in_default-clause-silent : goal.returns-in_default-clause-silent
 returns-in_default-clause-silent c =
     let e = c.assignment-values.ensures.values ∙ (sym c.requires ∙ ap (λ (t : Told). t.values) (sym c.self.view_is)) in
     let s = none_said c.self.inside.program.value c.self.inside.values c.assignment-values.result.now c.self.inside.shapes.items c.as_slice.result.now c.self.inside.rows c.self.inside.places c.self.inside.tallies.tallies
-    c.first_speech.new.tallies.tallies c.self.invariant e c.as_slice.ensures.value c.first_speech.ensures.counted c.first_speech.ensures.quiet c.in_default.ensures.none in
+    c.first_speech.new.tallies.tallies c.self.invariant e c.as_slice.ensures.value c.first_speech.ensures.counted c.first_speech.ensures.silence c.in_default.ensures.none in
     (λ _. subst (λ (t : Told). is_silent t.program t.values ≡ true) c.self.view_is s, λ _. refl)
 
 pub returns-clause-silent : goal.returns-clause-silent

@@ -7,9 +7,9 @@ use Rattle.asp_vars.specs.declared.nogood.Nogood.{Nogood}
 use Rattle.asp_trail.specs.declared.trail.Entry.{Entry}
 use Rattle.asp_trail.specs.Entries.{assignment, level_in}
 use Rattle.asp_trail.specs.Trails.{Trailed, IsOrdered}
-use Rattle.asp_trail.specs.Quiet.{is_calm}
+use Rattle.asp_trail.specs.Fixpoint.{is_at_fixpoint}
 use Rattle.asp_trail.specs.Reasons.{Stands}
-use Rattle.asp_trail.proofs.QuietLaws.{calm_by_one, calm_by_two}
+use Rattle.asp_trail.proofs.FixpointLaws.{fixpoint_by_one, fixpoint_by_two}
 use Rattle.asp_store.specs.declared.stored_nogood.StoredNogood.{StoredNogood}
 use Rattle.asp_store.specs.declared.watch.Pair.{Pair}
 use Rattle.asp_store.specs.declared.watches.Watches.{Watches}
@@ -25,32 +25,32 @@ use Rattle.asp_store.proofs.PlaceLaws.{listed_end}
 use Rattle.asp_store.proofs.LookLaws.{false_value, false_not_true, stands_found}
 
 -- a nogood with a literal that is false
-pub calm_false : (vars : ℕ) (es : List Entry) (n : List Literal) (b : ℕ) → IsOrdered vars es → HasFalse es n b → is_calm (assignment vars es) n ≡ true
-calm_false vars es n b o f =
-    calm_by_one (assignment vars es) n f.0 f.1 (false_not_true vars es f.0 b o f.2) (ap is_none (false_value vars es f.0 b o f.2))
+pub fixpoint_false : (vars : ℕ) (es : List Entry) (n : List Literal) (b : ℕ) → IsOrdered vars es → HasFalse es n b → is_at_fixpoint (assignment vars es) n ≡ true
+fixpoint_false vars es n b o f =
+    fixpoint_by_one (assignment vars es) n f.0 f.1 (false_not_true vars es f.0 b o f.2) (ap is_none (false_value vars es f.0 b o f.2))
 
 -- a nogood that is watched
-pub calm_watched : (vars : ℕ) (es : List Entry) (n : List Literal) (p : Pair) → IsOrdered vars es → IsWatched n p es (length es) → is_calm (assignment vars es) n ≡ true
-calm_watched vars es n p o t = cases (holds_in (assignment vars es) p.first) (holds_in (assignment vars es) p.second) refl refl
+pub fixpoint_watched : (vars : ℕ) (es : List Entry) (n : List Literal) (p : Pair) → IsOrdered vars es → IsWatched n p es (length es) → is_at_fixpoint (assignment vars es) n ≡ true
+fixpoint_watched vars es n p o t = cases (holds_in (assignment vars es) p.first) (holds_in (assignment vars es) p.second) refl refl
   where
-    one : (l : Literal) → IsOneOf p l → holds_in (assignment vars es) l ≡ true → is_calm (assignment vars es) n ≡ true
+    one : (l : Literal) → IsOneOf p l → holds_in (assignment vars es) l ≡ true → is_at_fixpoint (assignment vars es) n ≡ true
     one l is h =
         let f = stands_found vars es l o h in
-        calm_false vars es n (level_in es l.var) o (t.watches l is f.0 (level_in es l.var) f.1.within f.1)
+        fixpoint_false vars es n (level_in es l.var) o (t.watches l is f.0 (level_in es l.var) f.1.within f.1)
 
-    cases : (x y : Bool) → x ≡ holds_in (assignment vars es) p.first → y ≡ holds_in (assignment vars es) p.second → is_calm (assignment vars es) n ≡ true
+    cases : (x y : Bool) → x ≡ holds_in (assignment vars es) p.first → y ≡ holds_in (assignment vars es) p.second → is_at_fixpoint (assignment vars es) n ≡ true
     cases true y q r = one p.first (inl refl) (sym q)
     cases false true q r = one p.second (inr refl) (sym r)
-    cases false false q r = calm_by_two (assignment vars es) n p.first p.second (t.has p.first (inl refl)) (t.has p.second (inr refl)) t.differ (sym q) (sym r)
+    cases false false q r = fixpoint_by_two (assignment vars es) n p.first p.second (t.has p.first (inl refl)) (t.has p.second (inr refl)) t.differ (sym q) (sym r)
 
-pub all_calm : (slots : List (Option StoredNogood)) (w : Watches) (t : Trailed) → IsOrdered t.vars t.entries → t.seen ≡ length t.entries → IsSound slots w t →
-    AreSettled slots w.pairs t.entries → (id : ℕ) (n : Nogood) → nogood_at slots id ≡ Some n → is_calm (assignment t.vars t.entries) n.lits ≡ true
-all_calm slots w t o e s k id n h = cases (pair_at w.pairs id) refl
+pub all_at_fixpoint : (slots : List (Option StoredNogood)) (w : Watches) (t : Trailed) → IsOrdered t.vars t.entries → t.seen ≡ length t.entries → IsSound slots w t →
+    AreSettled slots w.pairs t.entries → (id : ℕ) (n : Nogood) → nogood_at slots id ≡ Some n → is_at_fixpoint (assignment t.vars t.entries) n.lits ≡ true
+all_at_fixpoint slots w t o e s k id n h = cases (pair_at w.pairs id) refl
   where
-    cases : (q : Option Pair) → q ≡ pair_at w.pairs id → is_calm (assignment t.vars t.entries) n.lits ≡ true
-    cases None q = let f = k id n h (sym q) in calm_false t.vars t.entries n.lits f.0 o f.1
+    cases : (q : Option Pair) → q ≡ pair_at w.pairs id → is_at_fixpoint (assignment t.vars t.entries) n.lits ≡ true
+    cases None q = let f = k id n h (sym q) in fixpoint_false t.vars t.entries n.lits f.0 o f.1
     cases (Some p) q =
-        calm_watched t.vars t.entries n.lits p o (subst (λ (m : ℕ). IsWatched n.lits p t.entries m) e (s.fit.watched id n p h (sym q)))
+        fixpoint_watched t.vars t.entries n.lits p o (subst (λ (m : ℕ). IsWatched n.lits p t.entries m) e (s.fit.watched id n p h (sym q)))
 
 -- ---- a walk begins and ends
 pub walk_begins : (slots : List (Option StoredNogood)) (w : Watches) (t : Trailed) (f : Front) → IsSound slots w t → AreSettled slots w.pairs t.entries →

@@ -16,5 +16,5 @@ is_violated a n = list_all (holds_in a) n
 abbrev pub is_unit : List (Option Bool) → List Literal → Bool
 is_unit a n = list_any (λ l. is_open a l && list_all (λ k. literal_eq k l || holds_in a k) n) n
 
-abbrev pub is_calm : List (Option Bool) → List Literal → Bool
-is_calm a n = not (is_violated a n) && not (is_unit a n)
+abbrev pub is_at_fixpoint : List (Option Bool) → List Literal → Bool
+is_at_fixpoint a n = not (is_violated a n) && not (is_unit a n)

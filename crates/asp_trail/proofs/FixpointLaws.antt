@@ -7,7 +7,7 @@ use Rattle.std.proofs.lemmas.Bool.{false≢true}
 use Rattle.std.proofs.lemmas.Bool.Decides.{nat_tests}
 use Rattle.asp_vars.specs.Literals.{Literal, literal_eq, has_literal, value_of, holds_in, agrees}
 use Rattle.asp_vars.proofs.LiteralLaws.{same_literal, and_left, and_right}
-use Rattle.asp_trail.specs.Quiet.{is_open, is_violated, is_unit, is_calm}
+use Rattle.asp_trail.specs.Fixpoint.{is_open, is_violated, is_unit, is_at_fixpoint}
 
 pub list_all_at : (p : Literal → Bool) (n : List Literal) (l : Literal) → list_all p n ≡ true → has_literal n l ≡ true → p l ≡ true
 list_all_at p [] l h e = absurd (false≢true e)
@@ -48,8 +48,8 @@ any_found p (k ∷ n) e = cases (p k) refl (any_found p n)
         let f = rest (ap (λ b. b || list_any p n) q ∙ e) in
         (f.0, or_right (literal_eq k f.0) (has_literal n f.0) f.1, f.2)
 
-calm_parts : (a : List (Option Bool)) (n : List Literal) → is_violated a n ≡ false → is_unit a n ≡ false → is_calm a n ≡ true
-calm_parts a n v u = ap (λ b. not b && not (is_unit a n)) v ∙ ap (λ b. not false && not b) u
+fixpoint_parts : (a : List (Option Bool)) (n : List Literal) → is_violated a n ≡ false → is_unit a n ≡ false → is_at_fixpoint a n ≡ true
+fixpoint_parts a n v u = ap (λ b. not b && not (is_unit a n)) v ∙ ap (λ b. not false && not b) u
 
 open_not_true : (a : List (Option Bool)) (l : Literal) → is_open a l ≡ true → holds_in a l ≡ false
 open_not_true a l h = cases (value_of a l.var) refl
@@ -59,10 +59,10 @@ open_not_true a l h = cases (value_of a l.var) refl
     cases (Some b) q = absurd (false≢true (ap is_none q ∙ h))
 
 -- two different literals that aren't true
-pub calm_by_two : (a : List (Option Bool)) (n : List Literal) (k l : Literal) → has_literal n k ≡ true → has_literal n l ≡ true → k ≢ l →
-    holds_in a k ≡ false → holds_in a l ≡ false → is_calm a n ≡ true
-calm_by_two a n k l hk hl ne fk fl =
-    calm_parts a n
+pub fixpoint_by_two : (a : List (Option Bool)) (n : List Literal) (k l : Literal) → has_literal n k ≡ true → has_literal n l ≡ true → k ≢ l →
+    holds_in a k ≡ false → holds_in a l ≡ false → is_at_fixpoint a n ≡ true
+fixpoint_by_two a n k l hk hl ne fk fl =
+    fixpoint_parts a n
     (false_from (is_violated a n) (λ h. false≢true (sym fk ∙ list_all_at (holds_in a) n k h hk)))
     (false_from (is_unit a n) (λ h.
     let f = any_found (λ m. is_open a m && list_all (λ j. literal_eq j m || holds_in a j) n) n h in
@@ -79,9 +79,9 @@ calm_by_two a n k l hk hl ne fk fl =
     same x m q h = same_literal x m (or_false (literal_eq x m) (holds_in a x) q h)
 
 -- a literal that is false: neither true nor open
-pub calm_by_one : (a : List (Option Bool)) (n : List Literal) (l : Literal) → has_literal n l ≡ true → holds_in a l ≡ false → is_open a l ≡ false → is_calm a n ≡ true
-calm_by_one a n l hl fl ol =
-    calm_parts a n
+pub fixpoint_by_one : (a : List (Option Bool)) (n : List Literal) (l : Literal) → has_literal n l ≡ true → holds_in a l ≡ false → is_open a l ≡ false → is_at_fixpoint a n ≡ true
+fixpoint_by_one a n l hl fl ol =
+    fixpoint_parts a n
     (false_from (is_violated a n) (λ h. false≢true (sym fl ∙ list_all_at (holds_in a) n l h hl)))
     (false_from (is_unit a n) (λ h.
     let f = any_found (λ m. is_open a m && list_all (λ j. literal_eq j m || holds_in a j) n) n h in
