@@ -13,15 +13,13 @@ use Rattle.asp_model.specs.Models.{rules_in_force, atoms_of, head_atoms}
 use Rattle.asp_model.proofs.MemberLaws.{each_weaker, each-append, each-flat_map, each-map, each-filter, HasAll, HasAll-itself}
 use Rattle.asp_model.proofs.ReductLaws.{rules_in_force-heads}
 use Rattle.asp_vars.specs.Literals.{Literal, T, F, complement}
-use Rattle.asp_vars.specs.Numbering.{normal, body_eq, bodies_of, var_count, var_of_atom, var_of_form, var_of_body, literal_of}
+use Rattle.asp_vars.specs.Numbering.{normal, body_eq, bodies_of, var_count, var_of_atom, var_of_form, var_of_body, literal_of, IsVar}
 use Rattle.asp_vars.specs.Completion.{supports, body_nogoods, rule_nogoods, atom_nogood, completion}
 use Rattle.asp_vars.specs.Tabled.{Stands}
 use Rattle.asp_vars.proofs.PlaceLaws.{atom-within, form-within}
 use Rattle.asp_vars.proofs.StandingLaws.{Among, each_among, each_both, rule_has_form, bodies_of-stand, bodies_of-themselves}
 use Rattle.asp_checker.specs.Lines.{IsOf, AreOf}
 
-abbrev IsVar : ℕ → ℕ → Type 0
-IsVar n v = (0 < v) × (v ≤ n)
 
 abbrev OfVar : Program → Literal → Type 0
 OfVar p l = IsOf p l

@@ -1,16 +1,10 @@
 -- Literals of a line, and the assumptions.
 use Rattle.std.proofs.Common.{◌≡◌, ℕ, zero, suc, ◌+◌, ◌<◌, ◌≤◌, Bool, true, false, List, [], ◌∷◌, ◌++◌, length, map, take, get_or, refl, sym, ap, ◌∙◌, arith}
 use Rattle.std.specs.Prelude.{ℤ, pos, negsuc, int_lt}
-use Rattle.std.specs.List.{AllByRecursion}
 use Rattle.std.proofs.Math.IntN.{nat_abs}
 use Rattle.std.proofs.lemmas.Bool.Decides.{nat_tests}
 use Rattle.std.proofs.lemmas.List.{take_all, take_more, map-append}
 use Rattle.asp_model.specs.declared.program.Program.{Program}
-use Rattle.asp_model.specs.Sets.{has}
-use Rattle.asp_model.specs.Holding.{atom_of}
-use Rattle.asp_model.specs.Models.{atoms_of, mentions}
-use Rattle.asp_model.proofs.MemberLaws.{each_weaker, HasAll-right, HasAll-itself}
-use Rattle.asp_model.proofs.SetLaws.{has-set_of}
 use Rattle.asp_vars.specs.Literals.{Literal}
 use Rattle.asp_checker.specs.Lines.{signed, literals_of, IsOf, AreOf}
 
@@ -23,17 +17,6 @@ same_parts a n b c e t = cc
 pub signed_is : (z : ℤ) (a : ℕ) (b : Bool) → a ≡ nat_abs z → 0 < a → b ≡ int_lt (pos 0) z → lit a b ≡ signed z
 signed_is (pos n) a b e lt t = let positive : int_lt (pos 0) (pos n) ≡ true = grind (arith, nat_tests) in same_parts a n b true e (t ∙ positive)
 signed_is (negsuc n) a b e lt t = same_parts a (suc n) b false e t
-
-each-of-map : (p : Program) (ls : List ℤ) → AllByRecursion (λ a. has (atoms_of p) a ≡ true) (map atom_of ls) → AllByRecursion (λ l. has (atoms_of p) (atom_of l) ≡ true) ls
-each-of-map p [] h = tt
-each-of-map p (l ∷ ls) h = (h.0, each-of-map p ls h.1)
-
--- The assumptions' atoms stand in the program.
-pub assumptions-stand : (p : Program) → AllByRecursion (λ l. has (atoms_of p) (atom_of l) ≡ true) p.assumptions
-assumptions-stand p =
-    let atoms : List ℕ = map atom_of p.assumptions in
-    each-of-map p p.assumptions
-    (each_weaker (λ a. has (mentions p) a ≡ true) (λ a. has (atoms_of p) a ≡ true) (λ a h. has-set_of (mentions p) a ∙ h) atoms (HasAll-right _ atoms atoms (HasAll-itself atoms)))
 
 pub signed_var : (z : ℤ) → (signed z).var ≡ nat_abs z
 signed_var (pos n) = refl

@@ -5,16 +5,17 @@ use Rattle.std.specs.List.{list_all, list_any, AllByRecursion}
 use Rattle.std.proofs.lemmas.Bool.{false≢true, and_parts, and_from, or_cases, or_from, or_left, eqb-true}
 use Rattle.asp_model.specs.declared.program.Program.{Program}
 use Rattle.asp_model.specs.Sets.{Atoms, has, same_set, IsBefore}
-use Rattle.asp_model.specs.Models.{atoms_of, mentions, answers, is_stable}
+use Rattle.asp_model.specs.Models.{atoms_of, answers, is_stable}
 use Rattle.asp_model.specs.Costs.{cost, betters}
 use Rattle.asp_model.specs.Sound.{IsSound}
 use Rattle.std.proofs.lemmas.List.Elements.{All-contains, recursion_from_All, All-from_recursion, All-contains_itself}
 use Rattle.asp_model.specs.Sets.{IsSubset}
 use Rattle.asp_model.specs.Holding.{atom_of, all_hold}
-use Rattle.asp_model.proofs.SetLaws.{same_from_has, has-set_of}
+use Rattle.asp_model.proofs.SetLaws.{same_from_has}
 use Rattle.asp_model.proofs.ListedLaws.{same_from_members, contains_from_test, test_from_contains}
 use Rattle.asp_model.proofs.ModelLaws.{answers-are, answers-rise, stable-subset}
-use Rattle.asp_model.proofs.MemberLaws.{each-append, each_weaker, each-map, HasAll, HasAll-right, HasAll-itself}
+use Rattle.asp_vars.proofs.AssumptionLaws.{assumptions-stand}
+use Rattle.asp_model.proofs.MemberLaws.{each-append, each_weaker, each-map, HasAll, HasAll-itself}
 use Rattle.asp_vars.proofs.StandingLaws.{each_both}
 use Rattle.asp_vars.specs.Literals.{Literal, T, is_true, hits, has_literal}
 use Rattle.asp_vars.specs.Numbering.{literal_of, values, var_of_atom}
@@ -66,16 +67,6 @@ closed-excused p excuse k (l ∷ lines) sound known h e S stable assumed =
     ]
 
 -- ---- the start
-each-of-map : (p : Program) (ls : List ℤ) → HasAll (atoms_of p) (map atom_of ls) → AllByRecursion (λ l. has (atoms_of p) (atom_of l) ≡ true) ls
-each-of-map p [] h = tt
-each-of-map p (l ∷ ls) h = (h.0, each-of-map p ls h.1)
-
-assumptions-stand : (p : Program) → AllByRecursion (λ l. has (atoms_of p) (atom_of l) ≡ true) p.assumptions
-assumptions-stand p =
-    let atoms : List ℕ = map atom_of p.assumptions in
-    each-of-map p p.assumptions
-    (each_weaker (λ a. has (mentions p) a ≡ true) (λ a. has (atoms_of p) a ≡ true) (λ a h. has-set_of (mentions p) a ∙ h) atoms (HasAll-right _ atoms atoms (HasAll-itself atoms)))
-
 answer-hits : (p : Program) (S : Atoms) → all_hold S p.assumptions ≡ true → hits (values p S) (map (literal_of p) p.assumptions) ≡ true
 answer-hits p S h = hits-literals p S p.assumptions (assumptions-stand p) ∙ h
 

@@ -10,10 +10,10 @@ use Rattle.std.proofs.lemmas.List.Folds.{list_any-append}
 use Rattle.asp_model.specs.declared.program.Program.{Program}
 use Rattle.asp_model.specs.Sets.{Atoms, has, same_set}
 use Rattle.asp_model.specs.Holding.{atom_of}
-use Rattle.asp_model.specs.Models.{mentions, atoms_of}
+use Rattle.asp_model.specs.Models.{atoms_of}
 use Rattle.asp_model.specs.Costs.{cost, betters}
-use Rattle.asp_model.proofs.SetLaws.{has-set_of}
-use Rattle.asp_model.proofs.MemberLaws.{each_weaker, each-append, HasAll-right, HasAll-itself, HasAll}
+use Rattle.asp_vars.proofs.AssumptionLaws.{assumptions-stand}
+use Rattle.asp_model.proofs.MemberLaws.{each_weaker, each-append}
 use Rattle.asp_vars.specs.Literals.{Literal, complement, is_true, has_literal, hits}
 use Rattle.asp_vars.specs.Conflicts.{has_all}
 use Rattle.asp_vars.proofs.LiteralLaws.{hits-has}
@@ -44,16 +44,6 @@ each-set P (x ∷ xs) zero y h p = (p, h.1)
 each-set P (x ∷ xs) (suc k) y h p = (h.0, each-set P xs k y h.1 p)
 
 -- ---- the start
-each-of-map : (p : Program) (ls : List ℤ) → HasAll (atoms_of p) (map atom_of ls) → AllByRecursion (λ l. has (atoms_of p) (atom_of l) ≡ true) ls
-each-of-map p [] h = tt
-each-of-map p (l ∷ ls) h = (h.0, each-of-map p ls h.1)
-
-pub assumptions-stand : (p : Program) → AllByRecursion (λ l. has (atoms_of p) (atom_of l) ≡ true) p.assumptions
-assumptions-stand p =
-    let atoms : List ℕ = map atom_of p.assumptions in
-    each-of-map p p.assumptions
-    (each_weaker (λ a. has (mentions p) a ≡ true) (λ a. has (atoms_of p) a ≡ true) (λ a h. has-set_of (mentions p) a ∙ h) atoms (HasAll-right _ atoms atoms (HasAll-itself atoms)))
-
 pub wanted-stand : (t : Task) → IsQuery t.program t.query → AllByRecursion (λ l. has (atoms_of t.program) (atom_of l) ≡ true) (wanted t)
 wanted-stand t query =
     let p : Program = t.program in

@@ -3,7 +3,7 @@ use Rattle.std.specs.Prelude.{◌≡◌, ℕ, ◌+◌, ◌-◌, ◌<◌, ◌≤�
 use Rattle.std.specs.List.{list_any}
 use Rattle.asp_model.specs.declared.program.Program.{Program}
 use Rattle.asp_vars.specs.Literals.{Literal}
-use Rattle.asp_vars.specs.Numbering.{var_count}
+use Rattle.asp_vars.specs.Numbering.{IsVar, var_count}
 use Rattle.asp_vars.specs.Entailment.{HitsOnly}
 use Rattle.asp_vars.specs.Conflicts.{has_all}
 use Rattle.asp_path.specs.declared.status.Status.TheVariants as status
@@ -19,7 +19,7 @@ abbrev pub held_by : ℕ → List Node → ℕ
 held_by s nodes = count_by (λ n. is_held_by s n.status) nodes
 
 abbrev pub IsVariable : Program → ℕ → Type 0
-IsVariable p v = (0 < v) × (v ≤ var_count p)
+IsVariable p v = IsVar (var_count p) v
 
 -- whether a literal of the variable stands in the cube
 abbrev pub has_var : List Literal → ℕ → Bool

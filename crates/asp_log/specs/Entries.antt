@@ -7,20 +7,14 @@ use Rattle.asp_vars.specs.declared.nogood.Base.{Base}
 use Rattle.asp_vars.specs.declared.nogood.Base.TheVariants as base
 use Rattle.asp_vars.specs.declared.nogood.Nogood.{Nogood}
 use Rattle.asp_vars.specs.Literals.{Literal}
-use Rattle.asp_vars.specs.Numbering.{var_count}
-use Rattle.asp_vars.specs.Entailment.{Entailed, Below}
+use Rattle.asp_vars.specs.Numbering.{IsVar, var_count}
+use Rattle.asp_vars.specs.Entailment.{IsSharedBy}
 use Rattle.asp_log.specs.declared.scope.Scope.{Scope}
-
--- The literals hit no stable model, or none whose cost is smaller than the one recorded. What holds for one search alone is no entry.
-abbrev pub IsSharedBy : Program → Base → List Literal → Type 0
-IsSharedBy p base.Pure literals = Entailed p literals
-IsSharedBy p (base.Below c) literals = Below p c literals
-IsSharedBy p base.Local literals = ⊥
 
 -- what each search of the program can use
 pub record IsEntry (p : Program) (n : Nogood) : Type 0 where
   -- The literals' variables are the program's.
-  pub variables : All (λ l. (0 < l.var) × (l.var ≤ var_count p)) n.lits
+  pub variables : All (λ l. IsVar (var_count p) l.var) n.lits
   pub shared : IsSharedBy p n.base n.lits
 
 -- what a log keeps of its entries

@@ -21,7 +21,8 @@ use Rattle.asp_search_laws.specs.Axioms.{IsDerived}
 use Rattle.asp_search_laws.specs.Faults.{IsFault}
 use Rattle.asp_search_laws.specs.Steps.{Fails}
 use Rattle.asp_search_laws.proofs.DerivedLaws.{derived_adds, derived_added}
-use Rattle.asp_search_laws.proofs.SlotLaws.{added_stays, grows_adds}
+use Rattle.asp_store.proofs.KeepLaws.{added_stays}
+use Rattle.asp_search_laws.proofs.SlotLaws.{grows_adds}
 use Rattle.asp_search_laws.proofs.StepLaws.{Continues, fails_after}
 use Rattle.asp_state.specs.SearchStates.{SearchView}
 use Rattle.asp_search.specs.Invariants.{view_of}

@@ -25,7 +25,8 @@ use Rattle.asp_trail_laws.proofs.PlaceLaws.{blank, reason_at}
 use Rattle.asp_propagate.specs.Propagating.{IsUnnamed}
 use Rattle.asp_search_laws.specs.Keeping.{IsBlocking, AreBlocking}
 use Rattle.asp_search_laws.specs.Steps.{blocking_nogood}
-use Rattle.asp_search_laws.proofs.SlotLaws.{nogood_kept, kept_nogood, kept_within, added_stays, added_each, added_apart, grows_forever, excluded_stay, blocking_stay, blocking_push, blocking_pop, removed_none, removed_other, removed_excluded, removed_blocking}
+use Rattle.asp_store.proofs.KeepLaws.{added_stays}
+use Rattle.asp_search_laws.proofs.SlotLaws.{nogood_kept, kept_nogood, kept_within, added_each, added_apart, grows_forever, excluded_stay, blocking_stay, blocking_push, blocking_pop, removed_none, removed_other, removed_excluded, removed_blocking}
 use Rattle.asp_state.specs.SearchStates.{SearchView}
 use Rattle.asp_search.specs.Blocking.{IsRedundant, Drops, Blocks}
 

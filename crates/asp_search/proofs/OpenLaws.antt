@@ -24,7 +24,7 @@ use Rattle.asp_trail_laws.proofs.LitLaws.{eq_itself}
 use Rattle.asp_trail_laws.proofs.PlaceLaws.{blank, level_at}
 use Rattle.asp_search_laws.specs.Keeping.{AreUseful}
 use Rattle.asp_search_laws.specs.Steps.{is_of_use}
-use Rattle.asp_search.specs.Beside.{is_local, is_shared, only_shared, IsShared, IsSharedBy, has_var, IsOpen}
+use Rattle.asp_search.specs.Beside.{is_local, is_shared, only_shared, IsShared, has_var, IsOpen}
 
 -- ---- the first decision
 var_found : (q : List Literal) (v : ℕ) → has_var q v ≡ true → (k : Literal) × (has_literal q k ≡ true) × (k.var ≡ v)

@@ -18,7 +18,8 @@ use Rattle.asp_propagate.specs.Propagating.{Adds, IsReduced}
 use Rattle.asp_propagate.specs.Useful.{IsUseful, IsSmaller}
 use Rattle.asp_propagate.proofs.UsefulLaws.{useful_lower, useful_more}
 use Rattle.asp_search_laws.specs.Keeping.{AreUseful, AreExcluded, IsLast, Grows}
-use Rattle.asp_search_laws.proofs.SlotLaws.{KeepsForever, added_stays, added_newest, grows_forever, grows_adds, reduced_none, useful_none, useful_added, useful_adds, all_excluded, all_excluded_stay, excluded_more, blocking_stay, last_stays}
+use Rattle.asp_store.proofs.KeepLaws.{added_stays}
+use Rattle.asp_search_laws.proofs.SlotLaws.{KeepsForever, added_newest, grows_forever, grows_adds, reduced_none, useful_none, useful_added, useful_adds, all_excluded, all_excluded_stay, excluded_more, blocking_stay, last_stays}
 use Rattle.asp_state.specs.SearchStates.{SearchView}
 use Rattle.asp_search_laws.specs.Steps.{blocking_nogood}
 use Rattle.asp_search.specs.Blocking.{Blocks}

@@ -42,7 +42,8 @@ use Rattle.asp_search_laws.specs.Searching.{Searching}
 use Rattle.asp_search_laws.specs.Steps.{HasSameTask, IsBeside, IsConflictOf, burnt, FollowsByLast, Learns, Stops, Closes, Decides, Restarts, IsDue, Answers, blocking_nogood, Fails, IsFailure}
 use Rattle.asp_search_laws.proofs.DerivedLaws.{derived_same, derived_added, derived_none}
 use Rattle.asp_search_laws.proofs.JumpLaws.{before_newest, jump_beside}
-use Rattle.asp_search_laws.proofs.SlotLaws.{nogood_kept, added_stays, added_newest, reduced_none, grows_none}
+use Rattle.asp_store.proofs.KeepLaws.{added_stays}
+use Rattle.asp_search_laws.proofs.SlotLaws.{nogood_kept, added_newest, reduced_none, grows_none}
 use Rattle.asp_search_laws.proofs.StepLaws.{Continues}
 use Rattle.asp_state.specs.SearchStates.{SearchView, values_of, Clashes}
 use Rattle.asp_search.specs.Blocking.{Blocks}

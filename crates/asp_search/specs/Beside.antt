@@ -4,7 +4,7 @@ use Rattle.std.specs.List.{All, list_any}
 use Rattle.asp_model.specs.declared.program.Program.{Program}
 use Rattle.asp_model.specs.declared.results.Mode.{Mode}
 use Rattle.asp_vars.specs.Literals.{Literal}
-use Rattle.asp_vars.specs.Entailment.{Entailed, Below}
+use Rattle.asp_vars.specs.Entailment.{IsSharedBy}
 use Rattle.asp_vars.specs.Numbering.{var_count}
 use Rattle.asp_vars.specs.declared.nogood.Base.{Base}
 use Rattle.asp_vars.specs.declared.nogood.Base.TheVariants as base
@@ -63,12 +63,6 @@ is_shared n = not (is_local n.base) && nat_le (length n.lits) 8
 abbrev pub only_shared : Option Nogood → Option Nogood
 only_shared None = None
 only_shared (Some n) = if is_shared n then Some n else None
-
--- The literals hit no stable model, or none that costs less than the base says. A local nogood holds for one search alone.
-abbrev pub IsSharedBy : Program → Base → List Literal → Type 0
-IsSharedBy p base.Pure literals = Entailed p literals
-IsSharedBy p (base.Below c) literals = Below p c literals
-IsSharedBy p base.Local literals = ⊥
 
 -- It is of the program's variables, and holds for every search of the program: what a log of nogoods has.
 pub record IsShared (p : Program) (n : Nogood) : Type 0 where

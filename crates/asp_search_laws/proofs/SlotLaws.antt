@@ -18,6 +18,7 @@ use Rattle.asp_store.specs.declared.stored_nogood.StoredNogood.{StoredNogood}
 use Rattle.asp_store.specs.declared.stored_nogood.Kind.{Kind}
 use Rattle.asp_store.specs.declared.stored_nogood.Kind.TheVariants as kind
 use Rattle.asp_store.specs.Keeping.{kept_at, nogood_at, IsAddedAt}
+use Rattle.asp_store.proofs.KeepLaws.{added_stays}
 use Rattle.asp_store.proofs.GetLaws.{is_or_not}
 use Rattle.asp_propagate.specs.Propagating.{Adds, IsReduced}
 use Rattle.asp_propagate.specs.Useful.{IsUseful}
@@ -46,13 +47,6 @@ kept_within (o ∷ slots) zero k q = omega arith
 kept_within (o ∷ slots) (suc id) k q = omega (arith, kept_within slots id k q)
 
 -- ---- one nogood more
-pub added_stays : (old new : List (Option StoredNogood)) (id : ℕ) (n : Nogood) (kind : Kind) → IsAddedAt old new id n kind → (j : ℕ) (k : StoredNogood) → kept_at old j ≡ Some k → kept_at new j ≡ Some k
-added_stays old new id n kind a j k g =
-    elim (is_or_not j id) [
-      | inl e ↦ absurd (no_some k (sym a.free ∙ (ap (kept_at old) (sym e) ∙ g)))
-      | inr ne ↦ a.others j ne ∙ g
-    ]
-
 pub added_newest : (old new : List (Option StoredNogood)) (id : ℕ) (n : Nogood) (kind : Kind) → IsAddedAt old new id n kind → nogood_at new id ≡ Some n
 added_newest old new id n kind a = nogood_kept new id (record { nogood = n; kind = kind; locked = false }) a.here
 

@@ -12,7 +12,8 @@ use Rattle.asp_store.specs.Keeping.{kept_at}
 use Rattle.asp_order.specs.Heaps.{Ranking}
 use Rattle.asp_propagate.specs.Propagating.{Propagating, without_nogood, IsReduced, Keeps}
 use Rattle.asp_state.specs.SearchStates.{IsSearchState}
-use Rattle.asp_state.proofs.SlotLaws.{added_stays, beside_removed, completed_stays, still_forever}
+use Rattle.asp_store.proofs.KeepLaws.{added_stays}
+use Rattle.asp_state.proofs.SlotLaws.{beside_removed, completed_stays, still_forever}
 use Rattle.asp_state.proofs.StateLaws.{track_kept}
 
 -- a state with this engine

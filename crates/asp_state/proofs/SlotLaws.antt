@@ -19,18 +19,12 @@ use Rattle.asp_store.specs.declared.stored_nogood.StoredNogood.{StoredNogood}
 use Rattle.asp_store.specs.declared.stored_nogood.Kind.{Kind}
 use Rattle.asp_store.specs.declared.stored_nogood.Kind.TheVariants as kind
 use Rattle.asp_store.specs.Keeping.{kept_at, nogood_at, IsAddedAt}
+use Rattle.asp_store.proofs.KeepLaws.{added_stays}
 use Rattle.asp_store.proofs.GetLaws.{is_or_not}
 use Rattle.asp_propagate.specs.Propagating as follow
 use Rattle.asp_state.specs.SearchStates.{forever, stays, AddsForever, IsForever, KeepsCompletion, KeepsCompletionAlone}
 
 -- ---- one nogood more
-pub added_stays : (old new : List (Option StoredNogood)) (id : ℕ) (n : Nogood) (kind : Kind) → IsAddedAt old new id n kind → (j : ℕ) (k : StoredNogood) → kept_at old j ≡ Some k → kept_at new j ≡ Some k
-added_stays old new id n kind a j k g =
-    elim (is_or_not j id) [
-      | inl e ↦ absurd (none-some k (sym a.free ∙ (ap (kept_at old) (sym e) ∙ g)))
-      | inr ne ↦ a.others j ne ∙ g
-    ]
-
 -- ---- one nogood less
 base_of : Option StoredNogood → Base
 base_of None = base.Pure

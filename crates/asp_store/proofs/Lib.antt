@@ -9,3 +9,4 @@ pub mod SoundLaws
 pub mod StepLaws
 pub mod StoreLaws
 pub mod WatchLaws
+pub mod KeepLaws

@@ -4,6 +4,7 @@ use Rattle.std.specs.List.{All, AllPairs}
 use Rattle.std.specs.Option.{is_none}
 use Rattle.asp_trail.specs.declared.trail.Entry.{Entry}
 use Rattle.asp_trail.specs.Entries.{assignment}
+pub use Rattle.asp_vars.specs.Numbering.{IsVar}
 
 -- Variables are 1 to vars; a caller has looked at the first entries, and there is memory for so many in all.
 pub record Trailed : Type 0 where
@@ -11,9 +12,6 @@ pub record Trailed : Type 0 where
   pub entries : List Entry
   pub seen : ℕ
   pub room : ℕ
-
-abbrev pub IsVar : ℕ → ℕ → Type 0
-IsVar vars v = (0 < v) × (v ≤ vars)
 
 pub record IsTrail (vars : ℕ) (entries : List Entry) (values : List (Option Bool)) (places : List ℕ) (seen : ℕ) : Type 0 where
   pub values_are : values ≡ assignment vars entries

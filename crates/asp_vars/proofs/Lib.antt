@@ -16,3 +16,4 @@ pub mod RuleLaws
 pub mod HeadLaws
 pub mod NumberedLaws
 pub mod SupportLaws
+pub mod AssumptionLaws

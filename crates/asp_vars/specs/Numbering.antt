@@ -1,5 +1,5 @@
 -- The variables of a program: first its atoms, ascending, then the distinct bodies of its rules in force, in the order of their first occurrence.
-use Rattle.std.specs.Prelude.{ℕ, suc, ◌+◌, ◌==◌, Bool, false, ◌&&◌, if◌then◌else◌, List, [], ◌∷◌, ◌++◌, map, fold, length, slice_index_or, ℤ, pos, ◌+ℤ◌, int_lt}
+use Rattle.std.specs.Prelude.{ℕ, suc, ◌+◌, ◌==◌, ◌<◌, ◌≤◌, Bool, false, ◌&&◌, if◌then◌else◌, List, [], ◌∷◌, ◌++◌, map, fold, length, slice_index_or, ℤ, pos, ◌+ℤ◌, int_lt}
 use Rattle.std.specs.List.{list_any}
 use Rattle.std.specs.Ordering.{int_eq}
 use Rattle.std.specs.Cmp.Lexicographic.{pointwise}
@@ -51,6 +51,10 @@ bodies_of p = distinct (map (λ r. normal r.body) (rules_in_force p))
 -- the number of variables
 abbrev pub var_count : Program → ℕ
 var_count p = length (atoms_of p) + length (bodies_of p)
+
+-- The variables are 1 to n.
+abbrev pub IsVar : ℕ → ℕ → Type 0
+IsVar n v = (0 < v) × (v ≤ n)
 
 -- the place of an atom in a list of atoms, counted from 1
 abbrev pub var_in : Atoms → ℕ → ℕ

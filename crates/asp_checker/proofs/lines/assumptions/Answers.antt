@@ -5,7 +5,7 @@ use Rattle.asp_model.specs.declared.program.Program.{Program}
 use Rattle.asp_model.specs.Sets.{has}
 use Rattle.asp_model.specs.Holding.{atom_of}
 use Rattle.asp_model.specs.Models.{atoms_of}
-use Rattle.asp_checker.proofs.LiteralLaws.{assumptions-stand}
+use Rattle.asp_vars.proofs.AssumptionLaws.{assumptions-stand}
 use Rattle.asp_checker.proofs.lines.assumptions.Goals as goal
 
 pub add_all-requires : goal.add_all-requires
