@@ -1,4 +1,5 @@
 //! Some hundreds of small programs, made from numbers: the search's answers and optima are those of the plain engines.
+//! Want of memory ends a test.
 ghost use Rattle.asp_model.specs.Sound.{IsSound};
 
 use asp_crew::alone::solve_alone;
@@ -10,9 +11,8 @@ use asp_model::program::{Body, Head, Minimize, Program, Rule};
 use asp_model::results::Mode;
 use asp_model::seq::Seq;
 use asp_vars::compile::compile;
-use std::alloc::{AllocError, Global};
+use std::alloc::Global;
 use std::process::Abort;
-use std::test::Fail;
 
 const ATOMS: u64 = 5;
 
@@ -47,136 +47,129 @@ fn literal(number: u64, place: u32) -> i32 {
     }
 }
 
-fn literals(alloc: Global, number: u64) -> Result<Vec<i32>, AllocError> {
+fn literals(rt: &impl Abort, alloc: Global, number: u64) -> Seq<i32> {
     let mut list = Vec::new(alloc);
     for i in 0..(bits(number, 0) % 4) as u32 {
-        list.push(literal(number, 3 + 6 * i))?;
+        list.push(literal(number, 3 + 6 * i)).expect(rt, "memory");
     }
-    Ok(list)
+    Seq::from_vec(list)
 }
 
-fn weighted(alloc: Global, number: u64) -> Result<Vec<(i32, i32)>, AllocError> {
+fn weighted(rt: &impl Abort, alloc: Global, number: u64) -> Seq<(i32, i32)> {
     let mut list = Vec::new(alloc);
     for i in 0..(bits(number, 0) % 4) as u32 {
         let weight = (bits(number, 20 + i) % 3) as i32;
-        list.push((literal(number, 3 + 6 * i), weight))?;
+        list.push((literal(number, 3 + 6 * i), weight))
+            .expect(rt, "memory");
     }
-    Ok(list)
+    Seq::from_vec(list)
 }
 
 // A normal body more often than a weight body.
-fn body(alloc: Global, number: u64) -> Result<Body, AllocError> {
+fn body(rt: &impl Abort, alloc: Global, number: u64) -> Body {
     if bits(number, 9) % 3 == 0 {
         let bound = (bits(number, 13) % 4) as i32;
-        Ok(Body::AtLeast(bound, Seq::from_vec(weighted(alloc, number)?)))
+        Body::AtLeast(bound, weighted(rt, alloc, number))
     } else {
-        Ok(Body::All(Seq::from_vec(literals(alloc, number)?)))
+        Body::All(literals(rt, alloc, number))
     }
 }
 
-fn choice(alloc: Global, number: u64) -> Result<Head, AllocError> {
-    let mut atoms = Vec::new(alloc);
-    atoms.push(atom(number, 11))?;
-    atoms.push(atom(number, 17))?;
-    Ok(Head::Choice(Seq::from_vec(atoms)))
+fn choice(rt: &impl Abort, alloc: Global, number: u64) -> Head {
+    let atoms = [atom(number, 11), atom(number, 17)];
+    Head::Choice(Seq::from_vec(atoms.to_vec(alloc).expect(rt, "memory")))
 }
 
-fn head(alloc: Global, number: u64) -> Result<Head, AllocError> {
+fn head(rt: &impl Abort, alloc: Global, number: u64) -> Head {
     match bits(number, 2) % 6 {
-        0 => Ok(Head::Never),
-        1 | 2 => choice(alloc, number),
-        _ => Ok(Head::One(atom(number, 11))),
+        0 => Head::Never,
+        1 | 2 => choice(rt, alloc, number),
+        _ => Head::One(atom(number, 11)),
     }
 }
 
-fn rule(alloc: Global, number: u64) -> Result<Rule, AllocError> {
-    let head = head(alloc, next(number))?;
-    let body = body(alloc, number)?;
-    Ok(Rule { head, body })
+fn rule(rt: &impl Abort, alloc: Global, number: u64) -> Rule {
+    Rule {
+        head: head(rt, alloc, next(number)),
+        body: body(rt, alloc, number),
+    }
 }
 
-fn rules(alloc: Global, number: u64) -> Result<Vec<Rule>, AllocError> {
+fn rules(rt: &impl Abort, alloc: Global, number: u64) -> Seq<Rule> {
     let mut list = Vec::new(alloc);
     let mut number = number;
     for _ in 0..3 + bits(number, 1) % 8 {
         number = next(number);
-        list.push(rule(alloc, number)?)?;
+        list.push(rule(rt, alloc, number)).expect(rt, "memory");
     }
-    Ok(list)
+    Seq::from_vec(list)
 }
 
-fn minimize(alloc: Global, number: u64) -> Result<Vec<Minimize>, AllocError> {
-    let mut list = Vec::new(alloc);
-    let items = Seq::from_vec(weighted(alloc, next(number))?);
-    list.push(Minimize { priority: 1, items })?;
-    Ok(list)
+fn minimize(rt: &impl Abort, alloc: Global, number: u64) -> Seq<Minimize> {
+    let statement = Minimize {
+        priority: 1,
+        items: weighted(rt, alloc, next(number)),
+    };
+    Seq::from_vec(vec![in alloc; statement].expect(rt, "memory"))
 }
 
-fn program(alloc: Global, number: u64) -> Result<Program, AllocError> {
-    let rules = Seq::from_vec(rules(alloc, number)?);
-    let minimize = Seq::from_vec(minimize(alloc, number)?);
-    Ok(Program {
-        rules,
-        minimize,
+fn program(rt: &impl Abort, alloc: Global, number: u64) -> Program {
+    Program {
+        rules: rules(rt, alloc, number),
+        minimize: minimize(rt, alloc, number),
         outputs: Seq::from_vec(Vec::new(alloc)),
         externals: Seq::from_vec(Vec::new(alloc)),
         assumptions: Seq::from_vec(Vec::new(alloc)),
-    })
+    }
 }
 
-fn searched(alloc: Global, program: Program, mode: Mode) -> Result<Report, AllocError>
+fn searched(rt: &impl Abort, alloc: Global, program: Program, mode: Mode) -> Report
     requires { IsSound program }
 {
-    let compiled = compile(alloc, program)?;
-    solve_alone(alloc, &compiled, mode, BUDGET)
+    let compiled = compile(alloc, program).expect(rt, "memory");
+    solve_alone(alloc, &compiled, mode, BUDGET).expect(rt, "memory")
 }
 
 // Whether both engines list the same answers.
-fn list_the_same(rt: &impl Abort, alloc: Global, number: u64) -> Result<(), AllocError> {
-    let program = program(alloc, number)?;
+fn list_the_same(rt: &impl Abort, alloc: Global, number: u64) {
+    let program = program(rt, alloc, number);
     assert!(rt; program.is_sound());
-    let answers = answers_plain(alloc, &program)?;
-    let report = searched(alloc, program, Mode::Enum)?;
+    let answers = answers_plain(alloc, &program).expect(rt, "memory");
+    let report = searched(rt, alloc, program, Mode::Enum);
     assert!(rt;
         report.results.answers.as_slice() == answers.as_slice(),
         "{number}"
     );
-    Ok(())
 }
 
 // Whether both have one cost, or nothing.
 fn cost_as_much(best: &Option<(Interp, Cost)>, other: &Option<(Interp, Cost)>) -> bool {
-    match best {
-        None => other.is_none(),
-        Some(one) => match other {
-            None => false,
-            Some(two) => one.1 == two.1,
-        },
+    match (best, other) {
+        (None, None) => true,
+        (Some(one), Some(two)) => one.1 == two.1,
+        _ => false,
     }
 }
 
 // Whether both engines give one of the same cost, or none.
-fn cost_the_same(rt: &impl Abort, alloc: Global, number: u64) -> Result<(), AllocError> {
-    let program = program(alloc, number)?;
+fn cost_the_same(rt: &impl Abort, alloc: Global, number: u64) {
+    let program = program(rt, alloc, number);
     assert!(rt; program.is_sound());
-    let best = optimum_plain(alloc, &program)?;
-    let report = searched(alloc, program, Mode::Opt)?;
+    let best = optimum_plain(alloc, &program).expect(rt, "memory");
+    let report = searched(rt, alloc, program, Mode::Opt);
     assert!(rt; cost_as_much(&best, &report.results.best), "{number}");
-    Ok(())
 }
 
 #[test]
-fn answers_are_the_plain_ones(rt: HostRuntime) -> Result<(), Fail> {
+fn answers_are_the_plain_ones(rt: HostRuntime) {
     for number in 0..PROGRAMS {
-        list_the_same(&rt, rt.alloc(), number)?;
+        list_the_same(&rt, rt.alloc(), number);
     }
-    Ok(())
 }
 
 #[test]
-fn optima_cost_what_the_plain_ones_do(rt: HostRuntime) -> Result<(), Fail> {
+fn optima_cost_what_the_plain_ones_do(rt: HostRuntime) {
     for number in 0..PROGRAMS {
-        cost_the_same(&rt, rt.alloc(), number)?;
+        cost_the_same(&rt, rt.alloc(), number);
     }
-    Ok(())
 }

@@ -80,9 +80,13 @@ fn conclude(nogood: Nogood, point: Option<Lit>, trail: &Trail) -> Learned
 /// What learning takes memory for, to be used again. The marks of a conflict stay until the next one.
 #[derive(Drop)]
 pub struct Learner {
+    /// Trails are over the variables up to this one.
     vars: u32,
+    /// The marks of the last conflict.
     marks: Marks,
+    /// So many of the marks' literals were met on the way to the last point; the others were marked to minimise.
     met: usize,
+    /// Literals that are looked at to minimise, each of the reason of the one before. A look at one begins with none.
     path: Vec<Look>,
 }
 

@@ -71,8 +71,11 @@ impl Mark {
 /// The marks, and each marked variable's literal once, in the order in which they were marked.
 #[derive(Drop)]
 pub struct Marks {
+    /// By variable. One more than the variables; 0 is none.
     marks: Vec<Mark>,
+    /// The literals of the variables that have a mark, in the order in which they got it.
     lits: Vec<Lit>,
+    /// How many of the marks are pending.
     pending: usize,
 }
 

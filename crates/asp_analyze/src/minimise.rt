@@ -23,7 +23,9 @@ const LOOKS: usize = 100_000;
 /// A literal whose reason is looked at, and from which place of the reason on.
 #[derive(Clone, Copy)]
 pub struct Look {
+    /// The literal.
     lit: Lit,
+    /// The place in its reason from which on the literals weren't looked at yet.
     next: usize,
 }
 

@@ -38,14 +38,23 @@ use std::marker::Model;
 /// The values told, the places of the weights, the optimistic cost, and the bound.
 #[derive(Drop)]
 pub struct Bound {
+    /// The program, for contracts alone.
     origin: Origin<Program>,
+    /// Gives the memory of the nogoods.
     alloc: Global,
+    /// The values told.
     values: Assign,
+    /// By variable, what it adds at which priority. One row more than the variables; 0 is none.
     rows: Table<Place>,
+    /// By priority, the greatest first: the variables that can add to it, the one that adds most first.
     columns: Table<Item>,
+    /// The variables that have places, each once.
     vars: Vec<Var>,
+    /// By priority, the optimistic cost under the values told.
     sums: Vec<i64>,
+    /// By priority, how many of the column's first variables have values at least.
     starts: Vec<usize>,
+    /// The cost below which answers are sought; None before one is set.
     bound: Option<Cost>,
 }
 

@@ -18,7 +18,9 @@ use asp_vars::lit::{Lit, Var};
 /// A literal that reaches the bound, and how many of the first priorities show it.
 #[derive(Clone, Copy)]
 pub struct Implied {
+    /// The literal, whose variable has no value.
     pub lit: Lit,
+    /// How many of the first priorities show that the bound is reached, counted from the greatest.
     pub depth: usize,
 }
 

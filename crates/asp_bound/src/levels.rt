@@ -135,7 +135,9 @@ fn least(weights: &[i64], vars: Var) -> u64
 // A priority's items, and the sum of what is negative at it.
 #[derive(Drop)]
 struct Level {
+    /// The variables that can add to it, the one that adds most first.
     column: Vec<Item>,
+    /// The negative weights together, as a size.
     least: u64,
 }
 
@@ -164,8 +166,11 @@ fn add_level(
 /// The places by variable, the items by priority, and the optimistic cost where no variable has a value.
 #[derive(Drop)]
 pub struct Levels {
+    /// By variable, what it adds at which priority.
     pub rows: Buckets<Place>,
+    /// By priority, the greatest first: the variables that can add to it, the one that adds most first.
     pub columns: Table<Item>,
+    /// By priority, the optimistic cost where no variable has a value.
     pub sums: Vec<i64>,
 }
 

@@ -20,7 +20,6 @@ use Rattle.asp_vars.proofs.PlaceLaws.{atom-within, form-within}
 use Rattle.asp_vars.proofs.StandingLaws.{Among, each_among, each_both, rule_has_form, bodies_of-stand, bodies_of-themselves}
 use Rattle.asp_checker.specs.Lines.{IsOf, AreOf}
 
-
 abbrev OfVar : Program → Literal → Type 0
 OfVar p l = IsOf p l
 

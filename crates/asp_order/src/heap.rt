@@ -23,10 +23,15 @@ pub const DIVISOR: u64 = 1 << 30;
 /// activity, in the heap or not.
 #[derive(Drop)]
 pub struct Heap {
+    /// By variable, at most `LIMIT`.
     activities: Vec<u64>,
+    /// By variable, whether it is in the heap.
     members: Vec<bool>,
+    /// By variable, its place among the items if it is in the heap.
     places: Vec<usize>,
+    /// The variables in the heap: none comes before the one at its parent's place.
     items: Vec<Var>,
+    /// By how much a bump raises an activity now: from `LEAST_INCREMENT` to `LIMIT`.
     increment: u64,
 }
 

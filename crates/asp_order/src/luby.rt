@@ -10,6 +10,7 @@ pub const TERMS: u32 = u32::MAX;
 /// How many terms were given. After the first 4,294,967,295 each further one is 1.
 #[derive(Drop)]
 pub struct Luby {
+    /// Stands still at `TERMS`.
     given: u32,
 }
 

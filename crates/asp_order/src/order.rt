@@ -20,7 +20,9 @@ use std::marker::Model;
 /// The variables by activity, among them all that have no value.
 #[derive(Drop)]
 pub struct Order {
+    /// The variables by activity: each without a value is in it.
     heap: Heap,
+    /// The value that each variable had last.
     phases: Phases,
 }
 
@@ -136,7 +138,7 @@ impl Order {
         None
     }
 
-    /// The variable with the value that it had last, or false.
+    /// The variable with the value that it had last; before it had any, the one preferred by `prefer`, or false.
     pub fn phase(&self, var: Var) -> Lit
         requires { var < 2 ^ 31 }
         ensures { result.var ≡ var }

@@ -12,10 +12,15 @@ pub const RESTART_UNIT: u64 = 64;
 /// How often the search restarted, what it learnt since, and the term of Luby's sequence by which it restarts next.
 #[derive(Drop)]
 pub struct Pace {
+    /// Gives the term for the restart after the next.
     luby: Luby,
+    /// The term for the next restart, in units of `RESTART_UNIT` learnt nogoods.
     units: u64,
+    /// How many restarts there were. Stands still at the greatest `u64`.
     restarts: u64,
+    /// How many nogoods were learnt since the last restart. Stands still at the greatest `u64`.
     learnt: u64,
+    /// How many reductions there were.
     reductions: Reduce,
 }
 

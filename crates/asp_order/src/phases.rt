@@ -8,6 +8,7 @@ use std::marker::Model;
 /// A value for each variable: false until one is saved.
 #[derive(Drop)]
 pub struct Phases {
+    /// By variable. One more than the variables; 0 is none.
     truths: Vec<bool>,
 }
 

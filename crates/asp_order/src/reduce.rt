@@ -12,6 +12,7 @@ pub const STEP: usize = 500;
 /// The count of the reductions so far, by which the next one falls due.
 #[derive(Drop)]
 pub struct Reduce {
+    /// Stands still at the greatest `usize`.
     count: usize,
 }
 

@@ -20,6 +20,19 @@ use asp_vars::assign::Assign;
 use asp_vars::compiled::Compiled;
 use asp_vars::lit::{Lit, Var};
 
+/// A component of the program, where candidates are gathered.
+#[derive(Drop)]
+pub struct Region<'a> {
+    /// The program.
+    pub compiled: &'a Compiled,
+    /// Its components.
+    pub components: &'a Components,
+    /// The values told.
+    pub values: &'a Assign,
+    /// The component's number.
+    pub component: u32,
+}
+
 /// An atom without source joins the candidates and waits, if it isn't false.
 pub fn join(values: &Assign, loose: &mut [bool], waiting: &mut Queue, joined: &mut Queue, var: Var)
     requires var { 0 < var }
@@ -42,10 +55,7 @@ pub fn join(values: &Assign, loose: &mut [bool], waiting: &mut Queue, joined: &m
 
 // A head of the component that has the body as its source loses it, and joins.
 fn release(
-    compiled: &Compiled,
-    components: &Components,
-    values: &Assign,
-    component: u32,
+    region: &Region,
     sources: &mut [Var],
     loose: &mut [bool],
     waiting: &mut Queue,
@@ -54,31 +64,28 @@ fn release(
     body: Var,
     var: Var,
 )
-    requires components { AreComponents compiled.now components.now }
-    requires values { length values.now ≡ var_count compiled.now + 1 }
-    requires gathering { IsGathering compiled.now components.now values.now component busy sources.old loose.old waiting.old joined.old }
-    requires var { IsAtomVar compiled.now var }
+    requires components { AreComponents region.now.compiled.now region.now.components.now }
+    requires values { length region.now.values.now ≡ var_count region.now.compiled.now + 1 }
+    requires gathering { IsGathering region.now.compiled.now region.now.components.now region.now.values.now region.now.component busy sources.old loose.old waiting.old joined.old }
+    requires var { IsAtomVar region.now.compiled.now var }
     requires body { 0 < body }
-    ensures gathering { IsGathering compiled.now components.now values.now component busy sources.new loose.new waiting.new joined.new }
-    ensures gathers { Gathers values.now sources.old loose.old waiting.old sources.new loose.new waiting.new }
-    ensures gone { slice_index components.now.numbers var ≡ component → IsGone sources.new body var }
+    ensures gathering { IsGathering region.now.compiled.now region.now.components.now region.now.values.now region.now.component busy sources.new loose.new waiting.new joined.new }
+    ensures gathers { Gathers region.now.values.now sources.old loose.old waiting.old sources.new loose.new waiting.new }
+    ensures gone { slice_index region.now.components.now.numbers var ≡ region.now.component → IsGone sources.new body var }
 {
-    let _vars = compiled.vars();
+    let _vars = region.compiled.vars();
     let _ = busy;
-    if components.of(var) != component {
+    if region.components.of(var) != region.component {
         return;
     }
     if !lose(sources, body, var) {
         return;
     }
-    join(values, loose, waiting, joined, var);
+    join(region.values, loose, waiting, joined, var);
 }
 
 fn release_heads(
-    compiled: &Compiled,
-    components: &Components,
-    values: &Assign,
-    component: u32,
+    region: &Region,
     sources: &mut [Var],
     loose: &mut [bool],
     waiting: &mut Queue,
@@ -86,21 +93,18 @@ fn release_heads(
     busy: Var,
     body: usize,
 )
-    requires components { AreComponents compiled.now components.now }
-    requires values { length values.now ≡ var_count compiled.now + 1 }
-    requires gathering { IsGathering compiled.now components.now values.now component busy sources.old loose.old waiting.old joined.old }
-    requires body { body < length (bodies_of compiled.now) }
-    ensures gathering { IsGathering compiled.now components.now values.now component busy sources.new loose.new waiting.new joined.new }
-    ensures gathers { Gathers values.now sources.old loose.old waiting.old sources.new loose.new waiting.new }
-    ensures gone { AreReleased compiled.now components.now component sources.new body }
+    requires components { AreComponents region.now.compiled.now region.now.components.now }
+    requires values { length region.now.values.now ≡ var_count region.now.compiled.now + 1 }
+    requires gathering { IsGathering region.now.compiled.now region.now.components.now region.now.values.now region.now.component busy sources.old loose.old waiting.old joined.old }
+    requires body { body < length (bodies_of region.now.compiled.now) }
+    ensures gathering { IsGathering region.now.compiled.now region.now.components.now region.now.values.now region.now.component busy sources.new loose.new waiting.new joined.new }
+    ensures gathers { Gathers region.now.values.now sources.old loose.old waiting.old sources.new loose.new waiting.new }
+    ensures gone { AreReleased region.now.compiled.now region.now.components.now region.now.component sources.new body }
 {
-    let var_of_body = compiled.body_var(body);
-    for var in compiled.heads(body) {
+    let var_of_body = region.compiled.body_var(body);
+    for var in region.compiled.heads(body) {
         release(
-            compiled,
-            components,
-            values,
-            component,
+            region,
             sources,
             loose,
             waiting,
@@ -114,30 +118,24 @@ fn release_heads(
 
 // Atoms of the component whose source rests on this one lose it, and join.
 fn release_from(
-    compiled: &Compiled,
-    components: &Components,
-    values: &Assign,
-    component: u32,
+    region: &Region,
     sources: &mut [Var],
     loose: &mut [bool],
     waiting: &mut Queue,
     joined: &mut Queue,
     var: Var,
 )
-    requires components { AreComponents compiled.now components.now }
-    requires values { length values.now ≡ var_count compiled.now + 1 }
-    requires gathering { IsGathering compiled.now components.now values.now component var sources.old loose.old waiting.old joined.old }
-    requires var { IsAtomVar compiled.now var }
-    ensures gathering { IsGathering compiled.now components.now values.now component 0 sources.new loose.new waiting.new joined.new }
-    ensures gathers { Gathers values.now sources.old loose.old waiting.old sources.new loose.new waiting.new }
+    requires components { AreComponents region.now.compiled.now region.now.components.now }
+    requires values { length region.now.values.now ≡ var_count region.now.compiled.now + 1 }
+    requires gathering { IsGathering region.now.compiled.now region.now.components.now region.now.values.now region.now.component var sources.old loose.old waiting.old joined.old }
+    requires var { IsAtomVar region.now.compiled.now var }
+    ensures gathering { IsGathering region.now.compiled.now region.now.components.now region.now.values.now region.now.component 0 sources.new loose.new waiting.new joined.new }
+    ensures gathers { Gathers region.now.values.now sources.old loose.old waiting.old sources.new loose.new waiting.new }
 {
-    let _vars = compiled.vars();
-    for occurrence in occurrences(compiled, Lit::new(var, true)) {
+    let _vars = region.compiled.vars();
+    for occurrence in occurrences(region.compiled, Lit::new(var, true)) {
         release_heads(
-            compiled,
-            components,
-            values,
-            component,
+            region,
             sources,
             loose,
             waiting,
@@ -149,88 +147,77 @@ fn release_from(
 }
 
 fn draw(
-    compiled: &Compiled,
-    components: &Components,
-    values: &Assign,
-    component: u32,
+    region: &Region,
     sources: &[Var],
     loose: &mut [bool],
     waiting: &mut Queue,
     joined: &mut Queue,
     lit: Lit,
 )
-    requires components { AreComponents compiled.now components.now }
-    requires values { length values.now ≡ var_count compiled.now + 1 }
-    requires gathering { IsGathering compiled.now components.now values.now component 0 sources.now loose.old waiting.old joined.old }
-    requires atom { IsAtomVar compiled.now lit.var }
-    ensures gathering { IsGathering compiled.now components.now values.now component 0 sources.now loose.new waiting.new joined.new }
-    ensures gathers { Gathers values.now sources.now loose.old waiting.old sources.now loose.new waiting.new }
+    requires components { AreComponents region.now.compiled.now region.now.components.now }
+    requires values { length region.now.values.now ≡ var_count region.now.compiled.now + 1 }
+    requires gathering { IsGathering region.now.compiled.now region.now.components.now region.now.values.now region.now.component 0 sources.now loose.old waiting.old joined.old }
+    requires atom { IsAtomVar region.now.compiled.now lit.var }
+    ensures gathering { IsGathering region.now.compiled.now region.now.components.now region.now.values.now region.now.component 0 sources.now loose.new waiting.new joined.new }
+    ensures gathers { Gathers region.now.values.now sources.now loose.old waiting.old sources.now loose.new waiting.new }
 {
-    let _vars = compiled.vars();
+    let _vars = region.compiled.vars();
     let var = lit.var();
-    if !lit.truth() || components.of(var) != component {
+    if !lit.truth() || region.components.of(var) != region.component {
         return;
     }
     if sources[var as usize] != 0 {
         return;
     }
-    join(values, loose, waiting, joined, var);
+    join(region.values, loose, waiting, joined, var);
 }
 
 fn draw_body(
-    compiled: &Compiled,
-    components: &Components,
-    values: &Assign,
-    component: u32,
+    region: &Region,
     sources: &[Var],
     loose: &mut [bool],
     waiting: &mut Queue,
     joined: &mut Queue,
     body: usize,
 )
-    requires components { AreComponents compiled.now components.now }
-    requires values { length values.now ≡ var_count compiled.now + 1 }
-    requires gathering { IsGathering compiled.now components.now values.now component 0 sources.now loose.old waiting.old joined.old }
-    requires body { body < length (bodies_of compiled.now) }
-    ensures gathering { IsGathering compiled.now components.now values.now component 0 sources.now loose.new waiting.new joined.new }
-    ensures gathers { Gathers values.now sources.now loose.old waiting.old sources.now loose.new waiting.new }
+    requires components { AreComponents region.now.compiled.now region.now.components.now }
+    requires values { length region.now.values.now ≡ var_count region.now.compiled.now + 1 }
+    requires gathering { IsGathering region.now.compiled.now region.now.components.now region.now.values.now region.now.component 0 sources.now loose.old waiting.old joined.old }
+    requires body { body < length (bodies_of region.now.compiled.now) }
+    ensures gathering { IsGathering region.now.compiled.now region.now.components.now region.now.values.now region.now.component 0 sources.now loose.new waiting.new joined.new }
+    ensures gathers { Gathers region.now.values.now sources.now loose.old waiting.old sources.now loose.new waiting.new }
 {
-    if values.holds(Lit::new(compiled.body_var(body), false)) {
+    if region
+        .values
+        .holds(Lit::new(region.compiled.body_var(body), false))
+    {
         return;
     }
-    for lit in compiled.literals(body) {
-        draw(
-            compiled, components, values, component, sources, loose, waiting, joined, *lit,
-        );
+    for lit in region.compiled.literals(body) {
+        draw(region, sources, loose, waiting, joined, *lit);
     }
 }
 
 // Atoms of the component join that have no source, and on which this one could rest.
 fn draw_from(
-    compiled: &Compiled,
-    components: &Components,
-    values: &Assign,
-    component: u32,
+    region: &Region,
     sources: &[Var],
     loose: &mut [bool],
     waiting: &mut Queue,
     joined: &mut Queue,
     var: Var,
 )
-    requires components { AreComponents compiled.now components.now }
-    requires values { length values.now ≡ var_count compiled.now + 1 }
-    requires gathering { IsGathering compiled.now components.now values.now component 0 sources.now loose.old waiting.old joined.old }
-    requires var { IsAtomVar compiled.now var }
-    ensures gathering { IsGathering compiled.now components.now values.now component 0 sources.now loose.new waiting.new joined.new }
-    ensures gathers { Gathers values.now sources.now loose.old waiting.old sources.now loose.new waiting.new }
+    requires components { AreComponents region.now.compiled.now region.now.components.now }
+    requires values { length region.now.values.now ≡ var_count region.now.compiled.now + 1 }
+    requires gathering { IsGathering region.now.compiled.now region.now.components.now region.now.values.now region.now.component 0 sources.now loose.old waiting.old joined.old }
+    requires var { IsAtomVar region.now.compiled.now var }
+    ensures gathering { IsGathering region.now.compiled.now region.now.components.now region.now.values.now region.now.component 0 sources.now loose.new waiting.new joined.new }
+    ensures gathers { Gathers region.now.values.now sources.now loose.old waiting.old sources.now loose.new waiting.new }
 {
-    let atoms = compiled.atom_count();
-    for body in compiled.supports(var) {
+    let atoms = region.compiled.atom_count();
+    for body in region.compiled.supports(var) {
         draw_body(
-            compiled,
-            components,
-            values,
-            component,
+            region,
             sources,
             loose,
             waiting,
@@ -242,45 +229,22 @@ fn draw_from(
 
 /// All candidates that the waiting ones bring with them.
 pub fn gather(
-    compiled: &Compiled,
-    components: &Components,
-    values: &Assign,
-    component: u32,
+    region: &Region,
     sources: &mut [Var],
     loose: &mut [bool],
     waiting: &mut Queue,
     joined: &mut Queue,
 )
-    requires components { AreComponents compiled.now components.now }
-    requires values { length values.now ≡ var_count compiled.now + 1 }
-    requires gathering { IsGathering compiled.now components.now values.now component 0 sources.old loose.old waiting.old joined.old }
-    ensures gathering { IsGathering compiled.now components.now values.now component 0 sources.new loose.new waiting.new joined.new }
-    ensures gathers { Gathers values.now sources.old loose.old waiting.old sources.new loose.new waiting.new }
+    requires components { AreComponents region.now.compiled.now region.now.components.now }
+    requires values { length region.now.values.now ≡ var_count region.now.compiled.now + 1 }
+    requires gathering { IsGathering region.now.compiled.now region.now.components.now region.now.values.now region.now.component 0 sources.old loose.old waiting.old joined.old }
+    ensures gathering { IsGathering region.now.compiled.now region.now.components.now region.now.values.now region.now.component 0 sources.new loose.new waiting.new joined.new }
+    ensures gathers { Gathers region.now.values.now sources.old loose.old waiting.old sources.new loose.new waiting.new }
     ensures done { (k : ℕ) → is_marked waiting.new k ≡ false }
 {
-    let _vars = compiled.vars();
+    let _vars = region.compiled.vars();
     while let Some(place) = waiting.pop() {
-        release_from(
-            compiled,
-            components,
-            values,
-            component,
-            sources,
-            loose,
-            waiting,
-            joined,
-            place + 1,
-        );
-        draw_from(
-            compiled,
-            components,
-            values,
-            component,
-            sources,
-            loose,
-            waiting,
-            joined,
-            place + 1,
-        );
+        release_from(region, sources, loose, waiting, joined, place + 1);
+        draw_from(region, sources, loose, waiting, joined, place + 1);
     }
 }

@@ -9,7 +9,9 @@ use std::marker::Model;
 /// Some of the numbers below a count, with room for all of them.
 #[derive(Drop)]
 pub struct Queue {
+    /// For each number below the count, whether it is there.
     marks: Vec<bool>,
+    /// Those that are there, each once; the last one comes first. Its room is the count.
     queue: Vec<u32>,
 }
 

@@ -10,7 +10,7 @@ ghost use Rattle.asp_source.specs.Loops.{IsFound};
 ghost use Rattle.asp_source.specs.Pointers.{ArePointers};
 ghost use Rattle.asp_model.specs.Sets.{Atoms};
 
-use crate::gather::{gather, join};
+use crate::gather::{Region, gather, join};
 use crate::loose::{atom_at, choose, collect, drain, settle};
 use crate::queue::Queue;
 use asp_model::program::Atom;
@@ -20,12 +20,21 @@ use asp_vars::compiled::Compiled;
 use asp_vars::lit::Var;
 use std::alloc::AllocError;
 
+/// A program with its components, and the values told.
+#[derive(Drop)]
+pub struct Setting<'a> {
+    /// The program.
+    pub compiled: &'a Compiled,
+    /// Its components.
+    pub components: &'a Components,
+    /// The values of its variables.
+    pub values: &'a Assign,
+}
+
 // An unfounded set and an atom of it, a true one if there is one: of those that join an atom without source. If there
 // is none, all of them have a source then, and the queue is as it was. No atom is a candidate before or after it.
 fn look(
-    compiled: &Compiled,
-    components: &Components,
-    values: &Assign,
+    setting: &Setting,
     var: Var,
     sources: &mut [Var],
     queue: &mut Queue,
@@ -34,31 +43,37 @@ fn look(
     joined: &mut Queue,
     atoms: &mut Vec<Atom>,
 ) -> Result<Option<Atom>, AllocError>
-    requires components { AreComponents compiled.now components.now }
-    requires values { length values.now ≡ var_count compiled.now + 1 }
-    requires loose { length loose.old ≡ length (atoms_of compiled.now) + 1 }
+    requires components { AreComponents setting.now.compiled.now setting.now.components.now }
+    requires values { length setting.now.values.now ≡ var_count setting.now.compiled.now + 1 }
+    requires loose { length loose.old ≡ length (atoms_of setting.now.compiled.now) + 1 }
     requires blank { AreBlank loose.old }
-    requires waiting { length waiting.old ≡ length (atoms_of compiled.now) }
-    requires joined { length joined.old ≡ length (atoms_of compiled.now) }
-    requires var { IsAtomVar compiled.now var }
-    requires pointers { ArePointers compiled.now components.now values.now sources.old (slice_set queue.old (var - 1) true) [] }
+    requires waiting { length waiting.old ≡ length (atoms_of setting.now.compiled.now) }
+    requires joined { length joined.old ≡ length (atoms_of setting.now.compiled.now) }
+    requires var { IsAtomVar setting.now.compiled.now var }
+    requires pointers { ArePointers setting.now.compiled.now setting.now.components.now setting.now.values.now sources.old (slice_set queue.old (var - 1) true) [] }
     ensures room { length waiting.new ≡ length waiting.old }
     ensures seats { length joined.new ≡ length joined.old }
     ensures blank { AreBlank loose.new }
-    ensures pointers { ArePointers compiled.now components.now values.now sources.new queue.new [] }
+    ensures pointers { ArePointers setting.now.compiled.now setting.now.components.now setting.now.values.now sources.new queue.new [] }
     ensures same { IfOk result (λ o. IfNone o (queue.new ≡ queue.old)) }
-    ensures found { IfOk result (λ o. IfSome o (λ a. IsFound compiled.now values.now atoms.new.items a)) }
+    ensures found { IfOk result (λ o. IfSome o (λ a. IsFound setting.now.compiled.now setting.now.values.now atoms.new.items a)) }
 {
+    let compiled = setting.compiled;
+    let values = setting.values;
     let _program = compiled.program();
     let _vars = compiled.vars();
-    let component = components.of(var);
-    if sources[var as usize] != 0 || components.trivial(component) {
+    let component = setting.components.of(var);
+    if sources[var as usize] != 0 || setting.components.trivial(component) {
         return Ok(None);
     }
     join(values, loose, waiting, joined, var);
-    gather(
-        compiled, components, values, component, sources, loose, waiting, joined,
-    );
+    let region = Region {
+        compiled,
+        components: setting.components,
+        values,
+        component,
+    };
+    gather(&region, sources, loose, waiting, joined);
     let places = joined.as_slice();
     settle(compiled, values, sources, loose, waiting, places);
     let chosen = choose(values, loose, places);
@@ -73,9 +88,7 @@ fn look(
 
 /// An unfounded set, and an atom of it, if there is one. Atoms that get a source leave the queue, and false ones.
 pub fn first_unfounded(
-    compiled: &Compiled,
-    components: &Components,
-    values: &Assign,
+    setting: &Setting,
     sources: &mut [Var],
     queue: &mut Queue,
     loose: &mut [bool],
@@ -83,27 +96,25 @@ pub fn first_unfounded(
     joined: &mut Queue,
     atoms: &mut Vec<Atom>,
 ) -> Result<Option<Atom>, AllocError>
-    requires components { AreComponents compiled.now components.now }
-    requires values { length values.now ≡ var_count compiled.now + 1 }
-    requires loose { length loose.old ≡ length (atoms_of compiled.now) + 1 }
+    requires components { AreComponents setting.now.compiled.now setting.now.components.now }
+    requires values { length setting.now.values.now ≡ var_count setting.now.compiled.now + 1 }
+    requires loose { length loose.old ≡ length (atoms_of setting.now.compiled.now) + 1 }
     requires blank { AreBlank loose.old }
-    requires waiting { length waiting.old ≡ length (atoms_of compiled.now) }
-    requires joined { length joined.old ≡ length (atoms_of compiled.now) }
-    requires pointers { ArePointers compiled.now components.now values.now sources.old queue.old [] }
+    requires waiting { length waiting.old ≡ length (atoms_of setting.now.compiled.now) }
+    requires joined { length joined.old ≡ length (atoms_of setting.now.compiled.now) }
+    requires pointers { ArePointers setting.now.compiled.now setting.now.components.now setting.now.values.now sources.old queue.old [] }
     ensures room { length waiting.new ≡ length waiting.old }
     ensures seats { length joined.new ≡ length joined.old }
     ensures blank { AreBlank loose.new }
-    ensures pointers { ArePointers compiled.now components.now values.now sources.new queue.new [] }
-    ensures none { IfOk result (λ o. IfNone o ((U : Atoms) → IsUnfoundedLoop compiled.now values.now U → ⊥)) }
-    ensures some { IfOk result (λ o. IfSome o (λ a. IsFound compiled.now values.now atoms.new.items a)) }
+    ensures pointers { ArePointers setting.now.compiled.now setting.now.components.now setting.now.values.now sources.new queue.new [] }
+    ensures none { IfOk result (λ o. IfNone o ((U : Atoms) → IsUnfoundedLoop setting.now.compiled.now setting.now.values.now U → ⊥)) }
+    ensures some { IfOk result (λ o. IfSome o (λ a. IsFound setting.now.compiled.now setting.now.values.now atoms.new.items a)) }
 {
-    let _program = compiled.program();
-    let _vars = compiled.vars();
+    let _program = setting.compiled.program();
+    let _vars = setting.compiled.vars();
     while let Some(place) = queue.pop() {
         let found = look(
-            compiled,
-            components,
-            values,
+            setting,
             place + 1,
             sources,
             queue,

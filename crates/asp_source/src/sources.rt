@@ -20,7 +20,7 @@ ghost use Rattle.asp_source.specs.Loops.{IsUnfoundedLoop, IsGiven};
 use crate::pointers::{lose_by, regain};
 use crate::queue::Queue;
 use crate::rest::{choose_atom, open_atoms};
-use crate::search::first_unfounded;
+use crate::search::{Setting, first_unfounded};
 use crate::start::{has_weights, queue_of};
 use asp_loop::loops::loop_nogood;
 use asp_model::program::Atom;
@@ -37,17 +37,29 @@ use std::marker::Model;
 /// The components of a program, with those that may have an unfounded set under the values told.
 #[derive(Drop)]
 pub struct Sources<'a> {
+    /// Gives the memory of what is found.
     alloc: Global,
+    /// The program.
     compiled: &'a Compiled,
+    /// The components of its positive dependencies.
     components: Components,
+    /// The values told.
     values: Assign,
+    /// By atom, the variable of the body that is its source, or 0 for none. One more than the atoms; 0 is no atom.
     sources: Vec<Var>,
+    /// The atoms to be looked at, by variable less 1.
     queue: Queue,
+    /// Whether all components are trivial.
     tight: bool,
+    /// Whether the program has a weight body.
     weighted: bool,
+    /// By variable, whether the atom is a candidate of the look that is under way; between two looks none is.
     loose: Vec<bool>,
+    /// The candidates that are still to be gone over, by variable less 1.
     waiting: Queue,
+    /// The atoms that came to be candidates in the look, by variable less 1.
     joined: Queue,
+    /// The set that was found last, of which further atoms are told; empty where nothing is left of it.
     atoms: Vec<Atom>,
 }
 
@@ -172,10 +184,13 @@ impl<'a> Sources<'a> {
         if self.tight {
             return Ok(None);
         }
+        let setting = Setting {
+            compiled: self.compiled,
+            components: &self.components,
+            values: &self.values,
+        };
         let found = first_unfounded(
-            self.compiled,
-            &self.components,
-            &self.values,
+            &setting,
             self.sources.as_mut_slice(),
             &mut self.queue,
             self.loose.as_mut_slice(),

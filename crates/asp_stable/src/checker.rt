@@ -11,7 +11,7 @@ ghost use Rattle.asp_found.specs.Marks.{is_marked};
 ghost use Rattle.asp_found.specs.Verdicts.{IsVerdict};
 ghost use Rattle.asp_stable.specs.Founding.{AreLoopless, AreListed, KeepsCompletion, GivesAtoms, IsChecker, IsDerived};
 
-use crate::derive::{are_marked, begin, propagate};
+use crate::derive::{Derivation, are_marked, begin, propagate};
 use crate::order::ranks_of;
 use crate::ranks::are_ranks;
 use asp_found::check::Verdict;
@@ -26,13 +26,22 @@ use std::marker::Model;
 /// The check of a program's answers, with what it takes memory for.
 #[derive(Drop)]
 pub struct Checker<'a> {
+    /// The program.
     compiled: &'a Compiled,
+    /// By variable, whether no positive loop stands below the atom: it needs no derivation. One more than the atoms; 0 is
+    /// no atom.
     flat: Vec<bool>,
+    /// The variables of the atoms that are to be derived where they are true, ascending.
     loops: Vec<Var>,
+    /// The bodies with one of these as a head, ascending.
     bodies: Vec<u32>,
+    /// By body, how many of its literals are positive ones of these.
     needs: Vec<i64>,
+    /// By variable, whether the atom is derived: of the check that is under way, with room for each.
     marks: Vec<bool>,
+    /// By body, how many literals or how much weight it lacks still. Looked at where it came to 0 or below.
     lacks: Vec<i64>,
+    /// The variables of the atoms that were derived, in this order, with room for each.
     found: Vec<Var>,
 }
 
@@ -138,28 +147,25 @@ fn needs(alloc: Global, compiled: &Compiled, flat: &[bool]) -> Result<Vec<i64>, 
 
 // Whether all true atoms among those that loops stand below are derived.
 fn derives(
-    compiled: &Compiled,
-    assign: &Assign,
-    flat: &[bool],
+    by: &Derivation,
     loops: &[Var],
     bodies: &[u32],
-    needs: &[i64],
     marks: &mut [bool],
     found: &mut Vec<Var>,
     lacks: &mut [i64],
 ) -> bool
-    requires assign { length assign.now ≡ suc (var_count compiled.now) }
-    requires checker { IsChecker compiled.now flat.now loops.now }
-    ensures { IsTrue result → IsDerived compiled.now assign.now }
+    requires assign { length by.now.assign.now ≡ suc (var_count by.now.compiled.now) }
+    requires checker { IsChecker by.now.compiled.now by.now.flat.now loops.now }
+    ensures { IsTrue result → IsDerived by.now.compiled.now by.now.assign.now }
 {
-    if marks.len() != flat.len() {
+    if marks.len() != by.flat.len() {
         return false;
     }
-    marks.copy_from_slice(flat);
+    marks.copy_from_slice(by.flat);
     found.clear();
-    begin(compiled, assign, flat, needs, bodies, marks, found, lacks);
-    propagate(compiled, assign, marks, found, lacks);
-    are_marked(assign, marks, loops)
+    begin(by, bodies, marks, found, lacks);
+    propagate(by.compiled, by.assign, marks, found, lacks);
+    are_marked(by.assign, marks, loops)
 }
 
 impl<'a> Checker<'a> {
@@ -195,13 +201,16 @@ impl<'a> Checker<'a> {
         if self.loops.as_slice().is_empty() {
             return true;
         }
-        derives(
-            self.compiled,
+        let by = Derivation {
+            compiled: self.compiled,
             assign,
-            self.flat.as_slice(),
+            flat: self.flat.as_slice(),
+            needs: self.needs.as_slice(),
+        };
+        derives(
+            &by,
             self.loops.as_slice(),
             self.bodies.as_slice(),
-            self.needs.as_slice(),
             self.marks.as_mut_slice(),
             &mut self.found,
             self.lacks.as_mut_slice(),

@@ -16,6 +16,19 @@ use asp_vars::compiled::Compiled;
 use asp_vars::lit::{Lit, Var};
 use asp_vars::occurrence::Occurrence;
 
+/// What the derivation of a set's true atoms goes by.
+#[derive(Drop)]
+pub(crate) struct Derivation<'a> {
+    /// The program.
+    pub(crate) compiled: &'a Compiled,
+    /// The values of its variables under the set.
+    pub(crate) assign: &'a Assign,
+    /// By variable, whether the atom needs no derivation.
+    pub(crate) flat: &'a [bool],
+    /// By body, for how many literals a derivation of it waits.
+    pub(crate) needs: &'a [i64],
+}
+
 // Whether the variable is true.
 fn is_true(assign: &Assign, var: Var) -> bool
     requires { var < length assign.now }
@@ -84,20 +97,20 @@ fn unreached(assign: &Assign, flat: &[bool], lits: &[Lit], weights: &[i64], boun
 }
 
 // What a body that holds lacks before anything is derived.
-fn missing(compiled: &Compiled, assign: &Assign, flat: &[bool], needs: &[i64], body: usize) -> i64
-    requires body { body < length (bodies_of compiled.now) }
-    requires assign { length (atoms_of compiled.now) < length assign.now }
-    requires flat { length (atoms_of compiled.now) < length flat.now }
+fn missing(by: &Derivation, body: usize) -> i64
+    requires body { body < length (bodies_of by.now.compiled.now) }
+    requires assign { length (atoms_of by.now.compiled.now) < length by.now.assign.now }
+    requires flat { length (atoms_of by.now.compiled.now) < length by.now.flat.now }
 {
-    match compiled.bound(body) {
+    match by.compiled.bound(body) {
         Some(bound) => unreached(
-            assign,
-            flat,
-            compiled.literals(body),
-            compiled.weights(body),
+            by.assign,
+            by.flat,
+            by.compiled.literals(body),
+            by.compiled.weights(body),
             i64::from(bound),
         ),
-        None => needs.get(body).copied().unwrap_or(0),
+        None => by.needs.get(body).copied().unwrap_or(0),
     }
 }
 
@@ -130,63 +143,48 @@ fn count_off(compiled: &Compiled, lacks: &mut [i64], body: usize, place: usize) 
 
 // Counts what a body lacks, and looks at it if it holds and lacks nothing.
 fn begin_one(
-    compiled: &Compiled,
-    assign: &Assign,
-    flat: &[bool],
-    needs: &[i64],
+    by: &Derivation,
     marks: &mut [bool],
     found: &mut Vec<Var>,
     lacks: &mut [i64],
     body: usize,
 )
-    requires assign { length assign.now ≡ suc (var_count compiled.now) }
-    requires flat { length (atoms_of compiled.now) < length flat.now }
-    requires marks { length (atoms_of compiled.now) < length marks.old }
-    requires derived { AreDerived compiled.now assign.now marks.old }
-    ensures { AreDerived compiled.now assign.now marks.new }
+    requires assign { length by.now.assign.now ≡ suc (var_count by.now.compiled.now) }
+    requires flat { length (atoms_of by.now.compiled.now) < length by.now.flat.now }
+    requires marks { length (atoms_of by.now.compiled.now) < length marks.old }
+    requires derived { AreDerived by.now.compiled.now by.now.assign.now marks.old }
+    ensures { AreDerived by.now.compiled.now by.now.assign.now marks.new }
 {
-    if body >= compiled.body_count() {
+    if body >= by.compiled.body_count() {
         return;
     }
-    if !is_true(assign, compiled.body_var(body)) {
+    if !is_true(by.assign, by.compiled.body_var(body)) {
         set_count(lacks, body, 0);
         return;
     }
-    let left = missing(compiled, assign, flat, needs, body);
+    let left = missing(by, body);
     set_count(lacks, body, left);
     if left <= 0 {
-        derive_by(compiled, assign, marks, found, body);
+        derive_by(by.compiled, by.assign, marks, found, body);
     }
 }
 
 /// Looks at the bodies that hold and lack nothing from the start.
 pub(crate) fn begin(
-    compiled: &Compiled,
-    assign: &Assign,
-    flat: &[bool],
-    needs: &[i64],
+    by: &Derivation,
     bodies: &[u32],
     marks: &mut [bool],
     found: &mut Vec<Var>,
     lacks: &mut [i64],
 )
-    requires assign { length assign.now ≡ suc (var_count compiled.now) }
-    requires flat { length (atoms_of compiled.now) < length flat.now }
-    requires marks { length (atoms_of compiled.now) < length marks.old }
-    requires derived { AreDerived compiled.now assign.now marks.old }
-    ensures { AreDerived compiled.now assign.now marks.new }
+    requires assign { length by.now.assign.now ≡ suc (var_count by.now.compiled.now) }
+    requires flat { length (atoms_of by.now.compiled.now) < length by.now.flat.now }
+    requires marks { length (atoms_of by.now.compiled.now) < length marks.old }
+    requires derived { AreDerived by.now.compiled.now by.now.assign.now marks.old }
+    ensures { AreDerived by.now.compiled.now by.now.assign.now marks.new }
 {
     for body in bodies {
-        begin_one(
-            compiled,
-            assign,
-            flat,
-            needs,
-            marks,
-            found,
-            lacks,
-            *body as usize,
-        );
+        begin_one(by, marks, found, lacks, *body as usize);
     }
 }
 

@@ -16,21 +16,27 @@ use asp_vars::assign::Assign;
 /// A side of a body that the literals that hold settle, or would with an open one.
 #[derive(Clone, Copy)]
 pub struct Speech {
+    /// Whether the body is true, or false, by the literals.
     pub side: bool,
+    /// The place in the row of the open literal that would settle it; None where it is settled.
     pub open: Option<usize>,
 }
 
 /// What a body says, unless it is silent, and how many of its first items are known to have values.
 #[derive(Clone, Copy)]
 pub struct Finding {
+    /// None where the body is silent.
     pub speech: Option<Speech>,
+    /// So many of the row's first items have values.
     pub start: usize,
 }
 
 // The first item without a value, if it weighs so much, and how many items before it have values.
 #[derive(Clone, Copy)]
 struct Search {
+    /// The item's place in the row; None where all that weigh so much have values.
     open: Option<usize>,
+    /// So many of the row's first items have values.
     start: usize,
 }
 

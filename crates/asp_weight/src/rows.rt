@@ -89,7 +89,9 @@ fn row(alloc: Global, compiled: &Compiled, body: usize) -> Result<Vec<Item>, All
 /// A shape and a row for each weight body.
 #[derive(Drop)]
 pub struct Rows {
+    /// By weight body, in the order of the bodies.
     pub shapes: Vec<Shape>,
+    /// By weight body, its literals: the greatest weight first.
     pub rows: Table<Item>,
 }
 

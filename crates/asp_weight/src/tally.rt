@@ -12,16 +12,22 @@ use std::marker::Model;
 /// before the start have values.
 #[derive(Clone, Copy)]
 pub struct Tally {
+    /// The weights of the true literals together.
     pub reached: u64,
+    /// The weights of the false literals together.
     pub missed: u64,
+    /// So many of the row's first items have values: the next look begins behind them.
     pub start: u32,
+    /// Whether the body is in the queue.
     pub queued: bool,
 }
 
 /// A counter for each weight body. The queue has room for all of them.
 #[derive(Drop)]
 pub struct Tallies {
+    /// By weight body.
     tallies: Vec<Tally>,
+    /// The numbers of the bodies that are to be looked at, each once; the last one comes first.
     queue: Vec<u32>,
 }
 

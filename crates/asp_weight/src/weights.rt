@@ -40,12 +40,19 @@ use std::marker::Model;
 /// The weight bodies of a program, with the sums that the values told give them.
 #[derive(Drop)]
 pub struct Weights {
+    /// Gives the memory of the nogoods.
     alloc: Global,
+    /// The program, for contracts alone.
     program: Origin<Program>,
+    /// The values told.
     values: Assign,
+    /// By weight body: its variable, and the sums that settle it.
     shapes: Vec<Shape>,
+    /// By weight body, its literals: the greatest weight first.
     rows: Table<Item>,
+    /// By variable, where it stands in weight bodies. One row more than the variables; 0 is none.
     places: Table<Place>,
+    /// By weight body, its sums under the values told, and the queue.
     tallies: Tallies,
 }
 

@@ -4,8 +4,8 @@ use Rattle.asp_source.proofs.gather.gather.Goals as goal
 pub loop-place-preserved : goal.loop-place-preserved
 loop-place-preserved c = (
   c.draw_from.ensures.gathering,
-  gathers_then c.args.values.now c.args.sources.now c.args.loose.now c.args.waiting.now c.loop-place.sources c.loop-place.loose c.loop-place.waiting c.release_from.new.sources c.draw_from.new.loose c.draw_from.new.waiting c.loop-place.invariant.1
-      (gathers_then c.args.values.now c.loop-place.sources c.loop-place.loose c.loop-place.waiting c.loop-place.sources c.loop-place.loose c.pop.new.self c.release_from.new.sources c.draw_from.new.loose c.draw_from.new.waiting
-      (gathers_less c.args.values.now c.loop-place.sources c.loop-place.loose c.loop-place.waiting c.pop.new.self c.in-Some.place c.in-Some.ensures.some c.in-Some.ensures.fewer)
-      (gathers_then c.args.values.now c.loop-place.sources c.loop-place.loose c.pop.new.self c.release_from.new.sources c.release_from.new.loose c.release_from.new.waiting c.release_from.new.sources c.draw_from.new.loose c.draw_from.new.waiting c.release_from.ensures.gathers c.draw_from.ensures.gathers)),
+  gathers_then c.args.region.now.values.now c.args.sources.now c.args.loose.now c.args.waiting.now c.loop-place.sources c.loop-place.loose c.loop-place.waiting c.release_from.new.sources c.draw_from.new.loose c.draw_from.new.waiting c.loop-place.invariant.1
+      (gathers_then c.args.region.now.values.now c.loop-place.sources c.loop-place.loose c.loop-place.waiting c.loop-place.sources c.loop-place.loose c.pop.new.self c.release_from.new.sources c.draw_from.new.loose c.draw_from.new.waiting
+      (gathers_less c.args.region.now.values.now c.loop-place.sources c.loop-place.loose c.loop-place.waiting c.pop.new.self c.in-Some.place c.in-Some.ensures.some c.in-Some.ensures.fewer)
+      (gathers_then c.args.region.now.values.now c.loop-place.sources c.loop-place.loose c.pop.new.self c.release_from.new.sources c.release_from.new.loose c.release_from.new.waiting c.release_from.new.sources c.draw_from.new.loose c.draw_from.new.waiting c.release_from.ensures.gathers c.draw_from.ensures.gathers)),
 )

@@ -37,8 +37,8 @@ popped p c x s q r k is lt h = record {
 
 pub look-requires-clause-pointers : goal.look-requires-clause-pointers
 look-requires-clause-pointers c =
-    popped c.args.compiled.now c.args.components.now c.args.values.now c.loop-place.sources c.loop-place.queue c.pop.new.self c.in-Some.place c.in-Some.ensures.some c.in-Some.ensures.within c.loop-place.invariant.pointers
+    popped c.args.setting.now.compiled.now c.args.setting.now.components.now c.args.setting.now.values.now c.loop-place.sources c.loop-place.queue c.pop.new.self c.in-Some.place c.in-Some.ensures.some c.in-Some.ensures.within c.loop-place.invariant.pointers
 
 pub returns-clause-none : goal.returns-clause-none
 returns-clause-none c =
-    none_unfounded c.args.compiled.now c.args.components.now c.args.values.now c.loop-place.sources c.loop-place.queue c.program-program.ensures.sound c.requires.components c.loop-place.invariant.pointers.supports c.loop-place.invariant.pointers.grounded c.loop-place.invariant.pointers.sought c.in_default.ensures.none
+    none_unfounded c.args.setting.now.compiled.now c.args.setting.now.components.now c.args.setting.now.values.now c.loop-place.sources c.loop-place.queue c.program-program.ensures.sound c.requires.components c.loop-place.invariant.pointers.supports c.loop-place.invariant.pointers.grounded c.loop-place.invariant.pointers.sought c.in_default.ensures.none

@@ -6,11 +6,11 @@ use Rattle.asp_source.proofs.search.first_unfounded.Given as goal
 
 abbrev pub invariant-loop-place : goal.invariant-loop-place
 invariant-loop-place l = record {
-  size : length l.loose ≡ length (atoms_of l.compiled) + 1;
+  size : length l.loose ≡ length (atoms_of l.setting.compiled.now) + 1;
   blank : AreBlank l.loose;
-  room : length l.waiting ≡ length (atoms_of l.compiled);
-  seats : length l.joined ≡ length (atoms_of l.compiled);
-  pointers : ArePointers l.compiled l.components l.values l.sources l.queue [];
+  room : length l.waiting ≡ length (atoms_of l.setting.compiled.now);
+  seats : length l.joined ≡ length (atoms_of l.setting.compiled.now);
+  pointers : ArePointers l.setting.compiled.now l.setting.components.now l.setting.values.now l.sources l.queue [];
 }
 
 abbrev pub decreases-loop-place : goal.decreases-loop-place
