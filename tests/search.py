@@ -39,9 +39,9 @@ def random_sat(atoms, ratio, seed):
 # a program, what its last lines must be, and units; conflicts when it was written: the whole search, without restarts, without
 # activities, without minimising
 ROWS = [
-    # 1,182; 2,360; 1,854; 3,329
+    # 1,451; 2,360; 1,854; 3,329
     ("trust of 24", cheapest_trust(24, 6, 4, 3), 30, b"Optimization: 4\nOPTIMUM FOUND\nModels: 1\n", 1500),
-    # 3,575; 3,818; 7,243; 5,141
+    # 3,368; 3,818; 7,243; 5,141
     ("3-SAT of 200", random_sat(200, 4.8, 2), 20, b"UNSATISFIABLE\nModels: 0\n", 4500),
 ]
 

@@ -22,11 +22,11 @@ use Rattle.asp_order.specs.Heaps.{Ranking}
 use Rattle.asp_trail_laws.specs.Starts.{AreStarts}
 use Rattle.asp_trail_laws.proofs.LitLaws.{all_has, has_more, has_append, has_place, has_at}
 use Rattle.asp_trail_laws.proofs.PlaceLaws.{blank, reason_at}
-use Rattle.asp_propagate.specs.Propagating.{IsUnnamed}
+use Rattle.asp_propagate.specs.Propagating.{IsUnnamed, IsReduced}
 use Rattle.asp_search_laws.specs.Keeping.{IsBlocking, AreBlocking}
 use Rattle.asp_search_laws.specs.Steps.{blocking_nogood}
 use Rattle.asp_store.proofs.KeepLaws.{added_stays}
-use Rattle.asp_search_laws.proofs.SlotLaws.{nogood_kept, kept_nogood, kept_within, added_each, added_apart, grows_forever, excluded_stay, blocking_stay, blocking_push, blocking_pop, removed_none, removed_other, removed_excluded, removed_blocking}
+use Rattle.asp_search_laws.proofs.SlotLaws.{nogood_kept, kept_nogood, kept_within, added_each, added_apart, grows_forever, reduced_none, excluded_stay, blocking_stay, blocking_push, blocking_pop, removed_none, removed_other, removed_excluded, removed_blocking}
 use Rattle.asp_state.specs.SearchStates.{SearchView}
 use Rattle.asp_search.specs.Blocking.{IsRedundant, Drops, Blocks}
 
@@ -251,3 +251,17 @@ block_done t a b u k id q newest lits old blocking new is same stand count keep 
     let done : Blocks newest t u (blocking ++ id ∷ []) =
     drop_done newest t u a.slots id blocking (ap (λ (n : Nogood). n.base) is) added (block_same t a b u k count keep undo drop) (step newest id a.slots (sym same) begun) in
     subst (λ (n : Nogood). Blocks n t u new) is (subst (Blocks newest t u) (sym pushed) done)
+
+-- ---- where others go then
+pub block_thinned : (newest : Nogood) (t m u : SearchView) (blocking : List ℕ) (es : List Entry) → Blocks newest t m blocking → u ≡ record m { slots = u.slots } → IsReduced es m.slots u.slots → Blocks newest t u blocking
+block_thinned newest t m u blocking es b same r =
+    let third : SearchView → SearchView = λ x. record x { slots = u.slots } in
+    let fourth : Ranking → SearchView = λ r. record t { entries = cut (length t.decisions - 1) t.entries; decisions = take (length t.decisions - 1) t.decisions; slots = u.slots; ranking = r } in
+    record {
+      same = same ∙ (ap third b.same ∙ ap fourth (sym (ap (λ (x : SearchView). x.ranking) same)));
+      nogoods = λ j n k. b.nogoods j n (reduced_none es m.slots u.slots r j n k);
+      id = b.id;
+      stands = r.forever b.id (record { nogood = newest; kind = kind.Forever; locked = false }) b.stands refl;
+      blocked = λ p S x. excluded_stay p m.slots u.slots S r.forever (b.blocked p S x);
+      blocking_stand = blocking_stay m.slots u.slots blocking r.forever b.blocking_stand;
+    }

@@ -151,7 +151,7 @@ impl<'a, P: Propagator> Search<'a, P> {
             compiled,
             mode,
             state,
-            pace: Pace::new(),
+            pace: Pace::new(vars as usize),
             learner,
             spread,
             checker,

@@ -1,5 +1,5 @@
 -- What a step of the search promises, by its answer.
-use Rattle.std.specs.Prelude.{◌≡◌, ℕ, ◌+◌, ◌-◌, ◌*◌, ◌^◌, ◌<◌, ◌≤◌, ◌⊎◌, Bool, true, false, List, ◌∷◌, ◌++◌, length, take, min, max, Option, Some, None, ℤ, IsTrue, []}
+use Rattle.std.specs.Prelude.{◌≡◌, ℕ, ◌+◌, ◌-◌, ◌^◌, ◌<◌, ◌≤◌, ◌⊎◌, Bool, true, false, List, ◌∷◌, ◌++◌, length, take, min, max, Option, Some, None, ℤ, IsTrue, []}
 use Rattle.std.specs.List.{list_any, All}
 use Rattle.asp_model.specs.declared.results.Mode.{Mode}
 use Rattle.asp_model.specs.declared.results.Mode.TheVariants as mode
@@ -18,7 +18,6 @@ use Rattle.asp_vars.specs.declared.nogood.Nogood.{Nogood}
 use Rattle.asp_trail.specs.declared.trail.Entry.{Entry}
 use Rattle.asp_trail.specs.Entries.{assignment, level}
 use Rattle.asp_store.specs.Keeping.{nogood_at}
-use Rattle.asp_order.specs.Luby.{term}
 use Rattle.asp_order.specs.Waiting.{IsNext}
 use Rattle.asp_propagate.specs.Propagating.{IsFixpoint}
 use Rattle.asp_propagate.specs.Useful.{IsSmaller}
@@ -169,16 +168,14 @@ pub record Answers (gives : Nogood → Type 0) (s t : Searching) (q : List Liter
   pub last : t.last ≡ None
 
 -- ---- Restarted
--- As many nogoods were learnt as make a restart due: 64 for each of the term of Luby's sequence at the count of restarts, and 64 where
--- there were 4,294,967,295 of them.
-pub record IsDue (restarts learnt : ℕ) : Type 0 where
-  pub early : restarts < 2 ^ 32 - 1 → 64 * term restarts ≤ learnt
-  pub late : 2 ^ 32 - 1 ≤ restarts → 64 ≤ learnt
+-- So many nogoods were learnt since the last restart that there may be another.
+abbrev pub IsDue : ℕ → Type 0
+IsDue learnt = 64 ≤ learnt
 
 pub record Restarts (gives : Nogood → Type 0) (s t : Searching) (f g : Units) : Type 0 where
   pub same : HasSameTask s t
   pub fuel : g ≡ f
-  pub due : IsDue s.restarts s.learnt
+  pub due : IsDue s.learnt
   pub level : level t.entries ≡ 0
   pub decisions : t.decisions ≡ []
   pub derived : Derives gives s t
