@@ -104,7 +104,7 @@ fn is_due_from(rt: &impl Abort, pace: &Pace, extra: usize) {
 }
 
 #[test]
-fn a_restart_comes_early_where_many_are_kept(rt: HostRuntime) {
+fn a_restart_comes_early_where_many_were_added(rt: HostRuntime) {
     let mut pace = Pace::new(10);
     count(&mut pace, 63);
     assert!(rt; !pace.is_due(11));
@@ -115,12 +115,12 @@ fn a_restart_comes_early_where_many_are_kept(rt: HostRuntime) {
 }
 
 #[test]
-fn a_restart_comes_early_where_a_reduction_is_due(rt: HostRuntime) {
+fn a_restart_comes_early_where_too_many_are_kept(rt: HostRuntime) {
     let mut pace = Pace::new(10);
-    pace.dropped(1930);
+    pace.dropped(3930);
     is_due_above(&rt, &mut pace, 69);
     pace.restarted();
-    pace.dropped(1901);
+    pace.dropped(3901);
     is_due_above(&rt, &mut pace, 98);
 }
 

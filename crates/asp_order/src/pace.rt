@@ -15,8 +15,8 @@ const FIRST: u64 = 100;
 
 /// What is counted from restart to restart, and what makes the next restart due.
 ///
-/// Restarts get rarer, so that they alone would leave more and more nogoods to be looked at: where nogoods are to be
-/// dropped, a restart is due early.
+/// Restarts get rarer, and alone would leave more and more nogoods to be looked at: where far too many are kept, one is
+/// due early.
 #[derive(Drop)]
 pub struct Pace {
     /// How many restarts there were. Stands still at the greatest `u64`.
@@ -25,7 +25,7 @@ pub struct Pace {
     learnt: u64,
     /// How many learnt nogoods make the next restart due, whatever is kept: `LEAST` to `MOST`.
     wait: u64,
-    /// How many learnt nogoods make a reduction due, as those that the last dropping left are counted in.
+    /// How many learnt nogoods make, with those that the last dropping left, twice as many as reductions allow.
     full: u64,
     /// How many reductions there were.
     reductions: Reduce,
@@ -55,6 +55,11 @@ fn longer(wait: u64) -> u64
     if more < MOST { more } else { MOST }
 }
 
+// How many more nogoods make, with so many, twice as many as reductions allow.
+fn room(reductions: &Reduce, extra: usize) -> u64 {
+    reductions.limit().saturating_mul(2).saturating_sub(extra) as u64
+}
+
 impl Pace {
     /// Nothing happened so far. So many nogoods that may be dropped are never many.
     pub fn new(few: usize) -> Pace
@@ -65,7 +70,7 @@ impl Pace {
             restarts: 0,
             learnt: 0,
             wait: FIRST,
-            full: reductions.limit() as u64,
+            full: room(&reductions, 0),
             reductions,
             few,
             crowd: few,
@@ -104,7 +109,7 @@ impl Pace {
     }
 
     /// Whether a restart is due where so many nogoods are kept that may be dropped: as many were learnt as the schedule
-    /// has, or 64 at least and nogoods are to be dropped.
+    /// has, or 64 at least, and many are kept, or twice as many as reductions allow.
     pub fn is_due(&self, extra: usize) -> bool
         ensures least { IsTrue result → LEAST ≤ self.now.learnt }
         ensures most { MOST ≤ self.now.learnt → IsTrue result }
@@ -145,8 +150,7 @@ impl Pace {
     pub fn dropped(&mut self, extra: usize)
         ensures { self.new ≡ record self.old { crowd = min (self.old.few + 2 * extra) (2 ^ 64 - 1) } }
     {
-        let room = self.reductions.limit().saturating_sub(extra) as u64;
-        self.full = self.learnt.saturating_add(room);
+        self.full = self.learnt.saturating_add(room(&self.reductions, extra));
         self.crowd = extra.saturating_mul(2).saturating_add(self.few);
     }
 }
