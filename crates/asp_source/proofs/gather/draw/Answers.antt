@@ -8,7 +8,7 @@ returns-clause-gathering c =
     let v : ℕ = c.var-var.result in
     let is = subst (λ (u : ℕ). IsAtomVar c.args.region.now.compiled.now u) (sym c.var-var.ensures) c.requires.atom in
     gathered_as c.args.region.now.compiled.now c.args.region.now.components.now c.args.region.now.values.now c.args.region.now.component 0 c.args.sources.now c.args.loose.now c.args.waiting.now c.args.joined.now c.args.sources.now c.join.new.loose c.join.new.waiting c.join.new.joined v c.join.ensures.loose c.join.ensures.waiting c.join.ensures.joined
-    is (sym c.of.ensures ∙ c.if-of-component.false) (drops_none c.args.sources.now v c.if-sources-var-ne0.false) c.requires.gathering
+    is (sym c.of.ensures ∙ c.if-of-region.false) (drops_none c.args.sources.now v c.if-sources-var-ne0.false) c.requires.gathering
 
 pub returns-clause-gathers : goal.returns-clause-gathers
 returns-clause-gathers c =
