@@ -16,3 +16,5 @@ pub mod CompletedLaws
 pub mod JudgeLaws
 pub mod RunLaws
 pub mod WrongLaws
+pub mod FoundingLaws
+pub mod StableLaws
