@@ -16,5 +16,3 @@ pub mod CompletedLaws
 pub mod JudgeLaws
 pub mod RunLaws
 pub mod WrongLaws
-pub mod FoundingLaws
-pub mod StableLaws

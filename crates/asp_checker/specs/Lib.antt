@@ -9,4 +9,3 @@ pub mod Assuming
 pub mod Loops
 pub mod Judging
 pub mod Runs
-pub mod Founding

@@ -11,8 +11,6 @@ mod levels;
 pub mod lines;
 pub mod loops;
 pub mod nogoods;
-mod order;
 pub mod run;
-pub mod stable;
 pub mod sweep;
 pub mod weights;

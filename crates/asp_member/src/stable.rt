@@ -12,10 +12,10 @@ ghost use Rattle.asp_vars.specs.Literals.{holds_in, value_of};
 ghost use Rattle.asp_vars.specs.Numbering.{bodies_of, nth_body, nth_rule, var_count};
 ghost use Rattle.asp_vars.specs.Tabled.{bound_of};
 ghost use Rattle.asp_found.specs.Verdicts.{is_kept};
-ghost use Rattle.asp_checker.specs.Founding.{passes, AreFounded, Derives, Founds, AreWhole, is_done, keeps};
+ghost use Rattle.asp_member.specs.Founding.{passes, AreFounded, Derives, Founds, AreWhole, is_done, keeps};
 
 use crate::order::order;
-use crate::weights::reaches;
+use crate::weighing::reaches;
 use asp_model::interp::Interp;
 use asp_model::program::{Atom, Head};
 use asp_model::stable::stable_plain;

@@ -34,8 +34,8 @@ use Rattle.asp_loop.proofs.FoundedLaws.{has-filter}
 use Rattle.asp_found.specs.Verdicts.{is_kept}
 use Rattle.asp_found.proofs.RestLaws.{none_passes}
 use Rattle.asp_found.proofs.VerdictLaws.{and_parts'}
-use Rattle.asp_checker.specs.Founding.{passes, derived, AreFounded, AreWhole, is_done, keeps}
-use Rattle.asp_checker.proofs.FoundingLaws.{not_both, some_true, some_value, has-derived, body_link, steps_to, in_least, within_least}
+use Rattle.asp_member.specs.Founding.{passes, derived, AreFounded, AreWhole, is_done, keeps}
+use Rattle.asp_member.proofs.FoundingLaws.{not_both, some_true, some_value, has-derived, body_link, steps_to, in_least, within_least}
 
 -- ---- lists
 -- an element that fails the test

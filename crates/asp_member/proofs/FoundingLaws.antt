@@ -34,7 +34,7 @@ use Rattle.asp_loop.specs.Weighing.{weigh}
 use Rattle.asp_loop.proofs.FoundedLaws.{has-filter}
 use Rattle.asp_loop.proofs.LoopLaws.{members}
 use Rattle.asp_loop.proofs.WeightedLaws.{body_stands}
-use Rattle.asp_checker.specs.Founding.{passes, derived, AreFounded, Derives, Founds}
+use Rattle.asp_member.specs.Founding.{passes, derived, AreFounded, Derives, Founds}
 
 -- ---- values
 pub not_both : (o : Option Bool) (v : ℕ) → agrees o (T v) ≡ true → agrees o (F v) ≡ true → ⊥
