@@ -1,5 +1,5 @@
 -- What is derived of a set is founded.
-use Rattle.std.proofs.Common.{◌≡◌, ℕ, suc, ◌+◌, ◌<◌, ◌≤◌, Bool, true, false, not, cond, ◌&&◌, ◌||◌, eqb, List, [], ◌∷◌, map, filter, length, get_or, set, replicate, Option, Some, None, refl, sym, ap, ◌∙◌, subst, arith, add-one, ◌⊎◌, inl, inr}
+use Rattle.std.proofs.Common.{◌≡◌, ℕ, suc, ◌+◌, ◌-◌, ◌<◌, ◌≤◌, Bool, true, false, not, cond, ◌&&◌, ◌||◌, eqb, List, [], ◌∷◌, map, filter, length, get_or, set, replicate, Option, Some, None, refl, sym, ap, ◌∙◌, subst, arith, add-one, ◌⊎◌, inl, inr}
 use Rattle.std.specs.Prelude.{All, ℤ, pos, negsuc, ◌+ℤ◌, int_le, is_none}
 use Rattle.std.specs.List.{list_any, list_all, flat_map, AllByRecursion}
 use Rattle.std.proofs.lemmas.Bool.{false≢true, and_parts, and_from, eqb-true, eq-eqb}
@@ -23,18 +23,19 @@ use Rattle.asp_model.proofs.ModelLaws.{least_model-derived, monotone}
 use Rattle.asp_model.proofs.ReadingLaws.{step_read}
 use Rattle.asp_model.proofs.ReductLaws.{rules_in_force-heads}
 use Rattle.asp_vars.specs.Literals.{Literal, T, F, agrees, value_of, holds_in}
-use Rattle.asp_vars.specs.Numbering.{normal, body_eq, bodies_of, nth_atom, nth_body, place_of, var_count, var_of_atom, literal_of}
+use Rattle.asp_vars.specs.Numbering.{normal, body_eq, bodies_of, nth_body, nth_rule, place_of, var_of_atom, var_of_body, literal_of}
 use Rattle.asp_vars.specs.Tabled.{bound_of, form_literals, form_weights, heads_of, Stands}
 use Rattle.asp_vars.proofs.NumberingLaws.{same_body as equal_body}
 use Rattle.asp_vars.proofs.NormalLaws.{body_holds_between-normal}
-use Rattle.asp_vars.proofs.PlaceLaws.{place_of-within}
-use Rattle.asp_vars.proofs.StandingLaws.{Among, each_among, each_both}
-use Rattle.asp_vars.proofs.SupportLaws.{some, in_map, member, same_atom, at_place}
+use Rattle.asp_vars.proofs.PlaceLaws.{place_of-within, at_each}
+use Rattle.asp_vars.proofs.StandingLaws.{Among, each_among, each_both, rule_has_form}
+use Rattle.asp_vars.proofs.SupportLaws.{some, in_map, member, same_atom}
 use Rattle.asp_loop.specs.Weighing.{weigh}
 use Rattle.asp_loop.proofs.FoundedLaws.{has-filter}
-use Rattle.asp_loop.proofs.LoopLaws.{members}
+use Rattle.asp_loop.proofs.LoopLaws.{members, at_form}
 use Rattle.asp_loop.proofs.WeightedLaws.{body_stands}
-use Rattle.asp_member.specs.Founding.{passes, derived, AreFounded, Derives, Founds}
+use Rattle.asp_found.specs.Verdicts.{is_kept}
+use Rattle.asp_member.specs.Founding.{passes, derived, AreFounded, Derives, Founds, keeps}
 
 -- ---- values
 pub not_both : (o : Option Bool) (v : ℕ) → agrees o (T v) ≡ true → agrees o (F v) ≡ true → ⊥
@@ -86,6 +87,16 @@ body_link p S x (body.AtLeast c items) h stand = ap (int_le c) (along items stan
     along (i ∷ is) s =
         ap (λ b. cond b i.1 (pos 0) +ℤ weigh (holds_in x) (map (λ i. literal_of p i.0) is) (map (λ i. i.1) is)) (literal_link p S x i.0 h s.0)
         ∙ ap (λ w. cond (holds_between S (derived p x) i.0) i.1 (pos 0) +ℤ w) (along is s.1)
+
+pub passes_weighted : (p : Program) (q : Literal → Bool) (b : Body) (c : ℤ) → bound_of b ≡ Some c → int_le c (weigh q (form_literals p b) (form_weights b)) ≡ passes p q b
+passes_weighted p q (body.All ls) c e = cc e
+passes_weighted p q (body.AtLeast bound items) c e =
+    let same : bound ≡ c = cc e in
+    ap (λ n. int_le n (weigh q (form_literals p (body.AtLeast bound items)) (form_weights (body.AtLeast bound items)))) (sym same)
+
+pub passes_normal : (p : Program) (q : Literal → Bool) (b : Body) → bound_of b ≡ None → list_all q (form_literals p b) ≡ passes p q b
+passes_normal p q (body.All ls) e = refl
+passes_normal p q (body.AtLeast bound items) e = cc e
 
 -- ---- a rule whose body holds so derives its heads
 pub steps_to : (p : Program) (S D : Atoms) (r : Rule) (a : ℕ) → Among (rules_in_force p) r → body_holds_between S D r.body ≡ true → has (reduct_heads S r.head) a ≡ true → has (step (reduct S (rules_in_force p)) D) a ≡ true
@@ -180,3 +191,34 @@ derives_more heads x z y i v lt is inside e h = cases (is_none (value_of z v)) r
             let same : v ≡ w = eqb-true v w (sym s) in
             inr (has_at heads w i lt (get_or_default heads i 0 v lt ∙ sym is ∙ same), sym (h.falses w) ∙ open_ w same)
         new w false s f = h.new w (sym (ap (λ o. agrees o (T w)) (get_or-set_other z v w (Some true) None (λ u. false≢true (s ∙ eq-eqb v w (sym u))))) ∙ f)
+
+-- ---- the body of a rule
+rule_form : (p : Program) (i : ℕ) → i < length (rules_in_force p) → list_any (body_eq (normal (nth_rule p i).body)) (bodies_of p) ≡ true
+rule_form p i lt = rule_has_form p (nth_rule p i) (at_each (Among (rules_in_force p)) (rules_in_force p) i (record { head = head.Never; body = body.All [] }) (each_among (rules_in_force p)) lt)
+
+pub rule_place : (p : Program) (i v : ℕ) → i < length (rules_in_force p) → v ≡ var_of_body p (nth_rule p i).body → v - length (atoms_of p) - 1 < length (bodies_of p)
+rule_place p i v lt e =
+    let b : Body = normal (nth_rule p i).body in
+    let within = place_of-within (body_eq b) (bodies_of p) (rule_form p i lt) in
+    omega (arith, within, e)
+
+pub rule_body : (p : Program) (i v : ℕ) → i < length (rules_in_force p) → v ≡ var_of_body p (nth_rule p i).body → nth_body p (v - length (atoms_of p) - 1) ≡ normal (nth_rule p i).body
+rule_body p i v lt e =
+    let b : Body = normal (nth_rule p i).body in
+    let at : v - length (atoms_of p) - 1 ≡ place_of (body_eq b) (bodies_of p) = omega (arith, e) in
+    ap (nth_body p) at ∙ at_form b (bodies_of p) (body.All []) (rule_form p i lt)
+
+-- ---- rules that are kept
+or_true : (a : Bool) → (a || true) ≡ true
+or_true true = refl
+or_true false = refl
+
+or_none : (a : Bool) → a ≡ (a || false)
+or_none true = refl
+or_none false = refl
+
+pub kept_keeps : (p : Program) (S : Atoms) (x : List (Option Bool)) (r : Rule) → is_kept S r.head ≡ true → true ≡ keeps p S x r
+kept_keeps p S x r e = sym (ap (λ b. not (passes p (holds_in x) (normal r.body)) || b) e ∙ or_true (not (passes p (holds_in x) (normal r.body))))
+
+pub unkept_keeps : (p : Program) (S : Atoms) (x : List (Option Bool)) (r : Rule) → is_kept S r.head ≡ false → not (passes p (holds_in x) (normal r.body)) ≡ keeps p S x r
+unkept_keeps p S x r e = or_none (not (passes p (holds_in x) (normal r.body))) ∙ ap (λ b. not (passes p (holds_in x) (normal r.body)) || b) (sym e)

@@ -41,20 +41,20 @@ use Rattle.asp_member.proofs.FoundingLaws.{not_both, some_true, some_value, has-
 -- an element that fails the test
 fails : {X : Type 0} (P : X → Type 0) (q : X → Bool) (xs : List X) → AllByRecursion P xs → list_all q xs ≡ false → (x : X) × P x × (q x ≡ false)
 fails P q [] h e = absurd (false≢true (sym e))
-fails {X = X} P q (x ∷ xs) h e = cases (q x) refl
+fails {X = X} P q (x ∷ xs) h e = cases (q x) refl (fails P q xs h.1)
   where
-    cases : (t : Bool) → t ≡ q x → (y : X) × P y × (q y ≡ false)
-    cases false s = (x, h.0, sym s)
-    cases true s = fails P q xs h.1 (ap (λ t. t && list_all q xs) s ∙ e)
+    cases : (t : Bool) → t ≡ q x → (list_all q xs ≡ false → (y : X) × P y × (q y ≡ false)) → (y : X) × P y × (q y ≡ false)
+    cases false s later = (x, h.0, sym s)
+    cases true s later = later (ap (λ t. t && list_all q xs) s ∙ e)
 
 -- what passes for all passes for a member
 all_has : (q : ℕ → Bool) (xs : List ℕ) (v : ℕ) → list_all q xs ≡ true → has xs v ≡ true → q v ≡ true
 all_has q [] v e h = absurd (false≢true h)
-all_has q (x ∷ xs) v e h = cases (eqb x v) refl
+all_has q (x ∷ xs) v e h = cases (eqb x v) refl (all_has q xs v (and_parts (q x) (list_all q xs) e).1)
   where
-    cases : (t : Bool) → t ≡ eqb x v → q v ≡ true
-    cases true s = subst (λ (u : ℕ). q u ≡ true) (eqb-true x v (sym s)) (and_parts (q x) (list_all q xs) e).0
-    cases false s = all_has q xs v (and_parts (q x) (list_all q xs) e).1 (ap (λ t. t || has xs v) s ∙ h)
+    cases : (t : Bool) → t ≡ eqb x v → (has xs v ≡ true → q v ≡ true) → q v ≡ true
+    cases true s later = subst (λ (u : ℕ). q u ≡ true) (eqb-true x v (sym s)) (and_parts (q x) (list_all q xs) e).0
+    cases false s later = later (ap (λ t. t || has xs v) s ∙ h)
 
 above-filter : (q : ℕ → Bool) (a : ℕ) (xs : List ℕ) → AllByRecursion (λ b. a < b) xs → AllByRecursion (λ b. a < b) (filter q xs)
 above-filter q a [] h = tt
@@ -154,7 +154,7 @@ held_is : (p : Program) (S : Atoms) (x : List (Option Bool)) (r : Rule) → AreF
 held_is p S x r h same s =
     body_link p S x (normal r.body) h (normal-stands (atoms_of p) r.body s.bodies) ∙ ap (λ D. body_holds_between S D (normal r.body)) same ∙ body_holds_between-normal S S r.body ∙ same_body S r.body
 
-pub kept_stable : (p : Program) (S : Atoms) (x : List (Option Bool)) → IsSound p → IsAscending S → IsSubset S (atoms_of p) → AreFounded p S x → AreWhole x (length (atoms_of p)) → list_all (keeps p S x) (rules_in_force p) ≡ true → is_stable p S ≡ true
+kept_stable : (p : Program) (S : Atoms) (x : List (Option Bool)) → IsSound p → IsAscending S → IsSubset S (atoms_of p) → AreFounded p S x → AreWhole x (length (atoms_of p)) → list_all (keeps p S x) (rules_in_force p) ≡ true → is_stable p S ≡ true
 kept_stable p S x sound up within h whole kept =
     and_from (same_set S (least_model p S)) (not (list_any (is_violated S) (rules_in_force p)))
     (ap (same_set S) (sym least) ∙ same_set-itself S) (ap not unviolated_)
@@ -193,7 +193,7 @@ unless : (b : Bool) → (b ≡ true → ⊥) → b ≡ false
 unless true f = absurd (f refl)
 unless false f = refl
 
-pub unkept_unstable : (p : Program) (S : Atoms) (x : List (Option Bool)) → IsSound p → IsAscending S → IsSubset S (atoms_of p) → AreFounded p S x → AreWhole x (length (atoms_of p)) → list_all (keeps p S x) (rules_in_force p) ≡ false → is_stable p S ≡ false
+unkept_unstable : (p : Program) (S : Atoms) (x : List (Option Bool)) → IsSound p → IsAscending S → IsSubset S (atoms_of p) → AreFounded p S x → AreWhole x (length (atoms_of p)) → list_all (keeps p S x) (rules_in_force p) ≡ false → is_stable p S ≡ false
 unkept_unstable p S x sound up within h whole kept = unless (is_stable p S) (λ stable.
     let rule = fails (Sure p) (keeps p S x) (rules_in_force p) (sure p) kept in
     let parts = and_parts' (passes p (holds_in x) (normal rule.0.body)) (is_kept S rule.0.head) rule.2 in
@@ -211,6 +211,14 @@ unkept_unstable p S x sound up within h whole kept = unless (is_stable p S) (λ 
         let violated : list_any (is_violated S) (rules_in_force p) ≡ true = m (is_violated S) (ap (λ (k : Head). is_never k && body_holds S r.body) is ∙ held) in
         let clear = (and_parts (same_set S (least_model p S)) (not (list_any (is_violated S) (rules_in_force p))) stable).1 in
         false≢true (sym (ap not violated) ∙ clear)
+
+-- so the rules decide
+pub whole_decides : (p : Program) (S : Atoms) (x : List (Option Bool)) → IsSound p → IsAscending S → IsSubset S (atoms_of p) → AreFounded p S x → AreWhole x (length (atoms_of p)) → list_all (keeps p S x) (rules_in_force p) ≡ is_stable p S
+whole_decides p S x sound up within h whole = cases (list_all (keeps p S x) (rules_in_force p)) refl
+  where
+    cases : (t : Bool) → t ≡ list_all (keeps p S x) (rules_in_force p) → list_all (keeps p S x) (rules_in_force p) ≡ is_stable p S
+    cases true q = sym q ∙ sym (kept_stable p S x sound up within h whole (sym q))
+    cases false q = sym q ∙ sym (unkept_unstable p S x sound up within h whole (sym q))
 
 -- ---- where some have none, and no body derives more
 heads_have : (p : Program) (r : Rule) (a : ℕ) → Among (rules_in_force p) r → has (head_atoms r.head) a ≡ true → has (heads_of p (normal r.body)) (var_of_atom p a) ≡ true

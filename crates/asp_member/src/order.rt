@@ -46,7 +46,10 @@ fn lack(compiled: &Compiled, open: &[bool], body: usize) -> i64
 {
     let weights = compiled.weights(body);
     let bound = compiled.bound(body);
-    let mut left = bound.map_or(0, |b| i64::from(b));
+    let mut left = match bound {
+        Some(bound) => i64::from(bound),
+        None => 0,
+    };
     for (place, lit) in compiled.literals(body).iter().enumerate() {
         let holds = holds_at_first(open, *lit);
         if bound.is_none() && !holds {
@@ -145,7 +148,12 @@ impl Derivation {
         }
         for occurrence in compiled.occurrences(Lit::new(var, true)) {
             let body = occurrence.body as usize;
-            if count_off(compiled, self.lacks.as_mut_slice(), body, occurrence.place as usize) {
+            if count_off(
+                compiled,
+                self.lacks.as_mut_slice(),
+                body,
+                occurrence.place as usize,
+            ) {
                 self.finish(compiled, body)?;
             }
         }

@@ -117,9 +117,11 @@ fn look(compiled: &Compiled, values: &mut Assign, body: usize)
     if body >= compiled.body_count() {
         return;
     }
-    if holds(compiled, values, body) {
-        derive_all(values, compiled.heads(body));
+    let held = holds(compiled, values, body);
+    if !held {
+        return;
     }
+    derive_all(values, compiled.heads(body));
 }
 
 fn look_at_all(compiled: &Compiled, values: &mut Assign, bodies: &[usize])
@@ -200,11 +202,13 @@ fn keeps(compiled: &Compiled, set: &Interp, values: &Assign, rule: usize) -> boo
     requires size { length values.now ≡ var_count compiled.now + 1 }
     ensures { result ≡ keeps compiled.now set.now values.now (nth_rule compiled.now rule) }
 {
-    let kept = is_kept(set, &compiled.rule(rule).head);
+    if is_kept(set, &compiled.rule(rule).head) {
+        return true;
+    }
     let var = compiled.rule_body(rule);
     let atoms = compiled.atom_count();
     let body = var as usize - atoms - 1;
-    kept || !holds(compiled, values, body)
+    !holds(compiled, values, body)
 }
 
 fn are_kept(compiled: &Compiled, set: &Interp, values: &Assign) -> bool
