@@ -1,12 +1,12 @@
 #!/usr/bin/env python3
 """Gives the checker of proofs right, changed and hostile proofs of random small programs.
 
-    tests/proofs.py [PROGRAM [COUNT [SEED]]]     (build/aspcheck, 40 programs, seed 1)
+    tests/proofs.py [PROGRAM [COUNT [SEED]]]     (build/aspcheck, 20 programs, seed 1)
 
 The proofs are made here, from the reference's answers: a line for each set of literals on the atoms, the longest first, and a
 line of a loop for each supported set that isn't stable. So no proof was made by the solver. Of each program
 
-- the proof as it was made must be a yes;
+- the proof as it was made must be a yes; then lines are left out that it doesn't need;
 - changed at a line, a literal or an answer it may be a yes only where what it lists is right;
 - cut, swapped or with a number that is too great it must be refused as a text that is no proof's.
 """
@@ -21,7 +21,22 @@ ANSWERED, REFUSED = (0, 1), (65, 67, 68)
 
 
 # ---- programs
+def clauses(r):
+    """A free choice of atoms and constraints on three of them each: what has to be shown by cases."""
+    atoms = r.randint(4, 6)
+    lines = ["asp 1 0 0", numbers(1, 1, atoms, *range(1, atoms + 1), 0, 0)]
+    for _ in range(r.randint(3 * atoms, 6 * atoms)):
+        chosen = r.sample(range(1, atoms + 1), 3)
+        lines.append(numbers(1, 0, 0, 0, 3, *(r.choice([-1, 1]) * a for a in chosen)))
+    if r.random() < 0.5:
+        items = [(a, r.randint(1, 3)) for a in range(1, atoms + 1)]
+        lines.append(numbers(2, 1, len(items), *(n for item in items for n in item)))
+    return "\n".join(lines + ["0", ""])
+
+
 def random_program(r):
+    if r.random() < 0.4:
+        return clauses(r)
     atoms = r.randint(2, 5)
     literal = lambda: r.choice([1, 1, -1]) * r.randint(1, atoms)
     lines = ["asp 1 0 0"]
@@ -149,6 +164,15 @@ def proof_of(numbered, mode, answers, lines):
     return "\n".join(["proof 1", mode] + [f"a {counted(sorted(s))}" for s in answers] + lines + ["0", ""])
 
 
+def needed(numbered, mode, answers, lines, is_a_yes):
+    """Leaves out each line without which the proof is a yes still."""
+    for line in list(lines):
+        others = [it for it in lines if it != line]
+        if is_a_yes(proof_of(numbered, mode, answers, others)):
+            lines = others
+    return lines
+
+
 # ---- what is changed
 def is_right(numbered, mode, text):
     answers = [set(map(int, line.split()[2:])) for line in text.split("\n") if line.startswith("a ")]
@@ -206,7 +230,7 @@ def hostile(text, r):
 
 def main():
     program = sys.argv[1] if len(sys.argv) > 1 else "build/aspcheck"
-    count = int(sys.argv[2]) if len(sys.argv) > 2 else 40
+    count = int(sys.argv[2]) if len(sys.argv) > 2 else 20
     r = random.Random(int(sys.argv[3]) if len(sys.argv) > 3 else 1)
     tally, faults = {}, 0
 
@@ -230,6 +254,8 @@ def main():
             proof = proof_of(numbered, mode, answers, lines)
             given = run(text + proof)
             note("right proof", given != (0, "YES\n"), text + proof, given)
+            lines = needed(numbered, mode, answers, lines, lambda proof: run(text + proof)[0] == 0)
+            proof = proof_of(numbered, mode, answers, lines)
             for what, changed in changes(numbered, mode, answers, lines, r):
                 given = run(text + changed)
                 right = is_right(numbered, mode, changed)
