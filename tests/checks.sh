@@ -18,5 +18,8 @@ while IFS='~' read -r status wanted text; do
     fi
 done < tests/checks.txt
 
+# Proofs of a few random programs, right, changed and hostile.
+python3 tests/proofs.py "$program" 4 || failed=$((failed + 1))
+
 echo "checks: $passed passed, $failed failed"
 [ "$failed" = 0 ]

@@ -63,22 +63,6 @@ pub answered_normal : (p : Program) (U vars : Atoms) (n : List Literal) (b : Bod
 answered_normal p U vars n (body.All literals) h stand e = ap (λ b. has_literal n (F (var_of_form p (body.All literals))) || b) (any_within p U vars literals h stand)
 answered_normal p U vars n (body.AtLeast bound items) h stand e = cc e
 
--- ---- a rule
-rule_form : (p : Program) (i : ℕ) → i < length (rules_in_force p) → list_any (body_eq (normal (nth_rule p i).body)) (bodies_of p) ≡ true
-rule_form p i lt = rule_has_form p (nth_rule p i) (at_each (Among (rules_in_force p)) (rules_in_force p) i (record { head = head.Never; body = body.All [] }) (each_among (rules_in_force p)) lt)
-
-pub rule_place : (p : Program) (i v : ℕ) → i < length (rules_in_force p) → v ≡ var_of_body p (nth_rule p i).body → v - length (atoms_of p) - 1 < length (bodies_of p)
-rule_place p i v lt e =
-    let b : Body = normal (nth_rule p i).body in
-    let within = place_of-within (body_eq b) (bodies_of p) (rule_form p i lt) in
-    omega (arith, within, e)
-
-pub rule_body : (p : Program) (i v : ℕ) → i < length (rules_in_force p) → v ≡ var_of_body p (nth_rule p i).body → nth_body p (v - length (atoms_of p) - 1) ≡ normal (nth_rule p i).body
-rule_body p i v lt e =
-    let b : Body = normal (nth_rule p i).body in
-    let at : v - length (atoms_of p) - 1 ≡ place_of (body_eq b) (bodies_of p) = omega (arith, e) in
-    ap (nth_body p) at ∙ at_form b (bodies_of p) (body.All []) (rule_form p i lt)
-
 -- ---- the whole
 pub all_stand : (p : Program) (U : Atoms) → list_all (has (atoms_of p)) U ≡ true → All (λ a. has (atoms_of p) a ≡ true) U
 all_stand p U e = All-from_recursion (λ a. has (atoms_of p) a ≡ true) U (each_passes (has (atoms_of p)) U e)

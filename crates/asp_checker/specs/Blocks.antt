@@ -18,11 +18,6 @@ use Rattle.asp_checker.specs.Sweeps.{open_count}
 abbrev pub is_blocked : Program → Option (List ℤ) → List (Option Bool) → Bool
 is_blocked p bound x = list_any (is_broken p x) (bodies_of p) || reaches_bound p bound x
 
--- whether the literal counts: those that hold, or those that aren't false
-abbrev pub counts : List (Option Bool) → Bool → Literal → Bool
-counts x true l = may_hold x l
-counts x false l = holds_in x l
-
 -- ---- a bound with the weights at each priority
 -- the sum at a priority, by the weights of its literals
 abbrev pub level_sum : List (Option Bool) → ℕ → List ℤ → ℤ

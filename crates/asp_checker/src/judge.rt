@@ -17,8 +17,7 @@ use crate::confirm::confirms;
 use crate::lines::{are_assumed, are_atoms, assumptions, lits_of};
 use crate::loops::is_loop;
 use asp_complete::completion::completion;
-use asp_found::check::Verdict;
-use asp_found::found::check;
+use asp_member::stable::is_stable;
 use asp_model::holding::all_hold;
 use asp_model::interp::Interp;
 use asp_model::seq::Seq;
@@ -88,8 +87,9 @@ fn is_in_order(opt: bool, before: &[Interp], set: &Interp) -> bool
     comes_after(&before[at], set)
 }
 
-// Whether the set is an answer.
+// Whether a set of the program's atoms is an answer.
 fn is_answer(alloc: Global, compiled: &Compiled, set: &Interp) -> Result<bool, AllocError>
+    requires { list_all (has (atoms_of compiled.now)) set.now ≡ true }
     ensures yes { IfOk result (λ yes. yes ≡ true → Contains (answers compiled.now) set.now) }
     ensures no { IfOk result (λ yes. yes ≡ false → Contains (answers compiled.now) set.now → ⊥) }
 {
@@ -98,12 +98,8 @@ fn is_answer(alloc: Global, compiled: &Compiled, set: &Interp) -> Result<bool, A
     if !all_hold(set, assumptions) {
         return Ok(false);
     }
-    let verdict = check(alloc, compiled, set)?;
-    match verdict {
-        Verdict::Stable => Ok(true),
-        Verdict::Broken(_) => Ok(false),
-        Verdict::Unfounded(_) => Ok(false),
-    }
+    let stable = is_stable(alloc, compiled, set)?;
+    Ok(stable)
 }
 
 // What is wrong with a set behind answers that are right.

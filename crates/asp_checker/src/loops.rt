@@ -10,7 +10,7 @@ ghost use Rattle.asp_checker.specs.Lines.{is_answered, IsLoop};
 ghost use Rattle.asp_checker.specs.Loops.{is_answered_rule, has_head};
 
 use crate::lines::{are_atoms, stands};
-use asp_loop::weighing::{take_weight, weight_at};
+use asp_member::weighing::{take_weight, weight_at};
 use asp_model::interp::Interp;
 use asp_model::program::{Atom, Head};
 use asp_vars::compiled::Compiled;

@@ -1,49 +1,13 @@
 //! Weight bodies under values.
-ghost use Rattle.std.specs.Prelude.{◌≡◌, ◌+◌, ◌<◌, ◌≤ℤ◌, pos, Some, All, int_le, length};
+ghost use Rattle.std.specs.Prelude.{◌≡◌, ◌+◌, ◌<◌, Some, length};
 ghost use Rattle.std.specs.List.{list_any};
 ghost use Rattle.asp_vars.specs.Numbering.{bodies_of, nth_body, var_count};
 ghost use Rattle.asp_vars.specs.Tabled.{bound_of};
-ghost use Rattle.asp_loop.specs.Weighing.{weigh};
 ghost use Rattle.asp_checker.specs.Propagation.{is_broken};
-ghost use Rattle.asp_checker.specs.Blocks.{counts};
 
-use asp_loop::weighing::{take_weight, weight_at};
+use asp_member::weighing::reaches;
 use asp_vars::assign::Assign;
 use asp_vars::compiled::Compiled;
-use asp_vars::lit::Lit;
-
-// Whether the literal counts: where it holds, or where it isn't false.
-fn counts(values: &Assign, with_open: bool, lit: Lit) -> bool
-    requires { lit.var < length values.now }
-    ensures { result ≡ counts values.now with_open lit }
-{
-    if with_open {
-        !values.holds(lit.complement())
-    } else {
-        values.holds(lit)
-    }
-}
-
-// Whether the weights of the literals that count reach the bound.
-fn reaches(values: &Assign, with_open: bool, lits: &[Lit], weights: &[i64], bound: i32) -> bool
-    requires lits { All (λ l. l.var < length values.now) lits.now }
-    requires places { length weights.now ≡ length lits.now }
-    requires weights { All (λ w. pos 0 ≤ℤ w) weights.now }
-    ensures { result ≡ int_le bound (weigh (counts values.now with_open) lits.now weights.now) }
-{
-    if bound <= 0 {
-        return true;
-    }
-    let mut left = bound as u64;
-    for i in 0..lits.len() {
-        let counts = counts(values, with_open, lits[i]);
-        match take_weight(left, weight_at(weights, i), counts) {
-            Some(rest) => left = rest,
-            None => return true,
-        }
-    }
-    false
-}
 
 // Whether the body has a value that its literals can't give it any more.
 fn is_weight_body_broken(compiled: &Compiled, values: &Assign, body: usize, bound: i32) -> bool
@@ -62,7 +26,8 @@ fn is_weight_body_broken(compiled: &Compiled, values: &Assign, body: usize, boun
     }
 }
 
-fn is_broken(compiled: &Compiled, values: &Assign, body: usize) -> bool
+/// Whether the weight body is true and out of reach, or false and reached.
+pub(crate) fn is_broken(compiled: &Compiled, values: &Assign, body: usize) -> bool
     requires body { body < length (bodies_of compiled.now) }
     requires size { length values.now ≡ var_count compiled.now + 1 }
     ensures { result ≡ is_broken compiled.now values.now (nth_body compiled.now body) }

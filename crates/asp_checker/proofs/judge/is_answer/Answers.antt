@@ -10,13 +10,10 @@ returns-then-not-all_hold-clause-no c = λ e.
     let same : c.as_slice-assumptions.result.now ≡ c.args.compiled.now.assumptions = c.as_slice-assumptions.ensures.value ∙ ap (λ (p : Program). p.assumptions) c.program-program.ensures.program in
     not_assumed c.args.compiled.now c.args.set.now (ap (all_hold c.args.set.now) (sym same) ∙ sym c.if-not-all_hold.ensures)
 
-pub returns-in-Stable-clause-yes : goal.returns-in-Stable-clause-yes
-returns-in-Stable-clause-yes c = λ e.
+pub returns-clause-yes : goal.returns-clause-yes
+returns-clause-yes c = λ e.
     let same : c.as_slice-assumptions.result.now ≡ c.args.compiled.now.assumptions = c.as_slice-assumptions.ensures.value ∙ ap (λ (p : Program). p.assumptions) c.program-program.ensures.program in
-    is_member c.args.compiled.now c.args.set.now (rw c.in-Stable.is at c.in_ok-verdict.ensures) (ap (all_hold c.args.set.now) (sym same) ∙ sym c.if-not-all_hold.ensures)
-
-pub returns-in-Broken-clause-no : goal.returns-in-Broken-clause-no
-returns-in-Broken-clause-no c = λ e. let says = rw c.in-Broken.is at c.in_ok-verdict.ensures in not_member c.args.compiled.now c.args.set.now says.1
+    is_member c.args.compiled.now c.args.set.now (sym c.in_ok-stable.ensures ∙ e) (ap (all_hold c.args.set.now) (sym same) ∙ sym c.if-not-all_hold.ensures)
 
 pub returns-clause-no : goal.returns-clause-no
-returns-clause-no c = λ e. let says = rw c.in-Unfounded.is at c.in_ok-verdict.ensures in not_member c.args.compiled.now c.args.set.now says.1
+returns-clause-no c = λ e. not_member c.args.compiled.now c.args.set.now (sym c.in_ok-stable.ensures ∙ e)

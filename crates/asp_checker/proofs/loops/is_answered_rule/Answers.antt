@@ -6,7 +6,8 @@ use Rattle.asp_model.specs.Sets.{has}
 use Rattle.asp_model.specs.Models.{head_atoms}
 use Rattle.asp_vars.specs.Numbering.{nth_rule, nth_body}
 use Rattle.asp_checker.specs.Lines.{is_answered}
-use Rattle.asp_checker.proofs.FoundLaws.{outside_rule, inside_rule, rule_place, rule_body}
+use Rattle.asp_member.proofs.FoundingLaws.{rule_place, rule_body}
+use Rattle.asp_checker.proofs.FoundLaws.{outside_rule, inside_rule}
 use Rattle.asp_checker.proofs.loops.is_answered_rule.Goals as goal
 
 pub returns-then-not-inside : goal.returns-then-not-inside

@@ -8,7 +8,7 @@ use Rattle.asp_vars.specs.Numbering.{nth_body, var_of_form}
 use Rattle.asp_vars.specs.Tabled.{form_literals, form_weights}
 use Rattle.asp_loop.specs.Weighing.{weigh}
 use Rattle.asp_loop.proofs.WeightedLaws.{body_weights}
-use Rattle.asp_checker.specs.Blocks.{counts}
+use Rattle.asp_member.specs.Counting.{counts}
 use Rattle.asp_checker.proofs.BodyLaws.{broken_by}
 use Rattle.asp_checker.proofs.weights.is_weight_body_broken.Goals as goal
 

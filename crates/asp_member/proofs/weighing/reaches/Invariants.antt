@@ -1,8 +1,8 @@
 use Rattle.std.proofs.Common.{◌≡◌, ◌<◌, take}
 use Rattle.std.specs.Prelude.{pos, ◌-ℤ◌}
 use Rattle.asp_loop.specs.Weighing.{weigh}
-use Rattle.asp_checker.specs.Blocks.{counts}
-use Rattle.asp_checker.proofs.weights.reaches.Given as goal
+use Rattle.asp_member.specs.Counting.{counts}
+use Rattle.asp_member.proofs.weighing.reaches.Given as goal
 
 abbrev pub invariant-loop-i : goal.invariant-loop-i
 invariant-loop-i l =

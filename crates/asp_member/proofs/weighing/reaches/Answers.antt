@@ -4,9 +4,9 @@ use Rattle.asp_vars.specs.Literals.{Literal}
 use Rattle.std.proofs.lemmas.Int.{to_z-of_z}
 use Rattle.asp_loop.specs.Weighing.{weigh, IsSlack}
 use Rattle.asp_loop.proofs.WeighLaws.{weigh-positive, slack_more, slack_none, slack_whole}
-use Rattle.asp_checker.specs.Blocks.{counts}
+use Rattle.asp_member.specs.Counting.{counts}
 use Rattle.asp_found.proofs.MarkLaws.{low_from, reach_low, reach_yes, reach_no}
-use Rattle.asp_checker.proofs.weights.reaches.Goals as goal
+use Rattle.asp_member.proofs.weighing.reaches.Goals as goal
 
 pub returns-then-bound-le0 : goal.returns-then-bound-le0
 returns-then-bound-le0 c =

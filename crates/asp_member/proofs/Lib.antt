@@ -1,0 +1,2 @@
+pub mod FoundingLaws
+pub mod StableLaws

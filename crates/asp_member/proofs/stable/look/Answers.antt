@@ -1,0 +1,11 @@
+use Rattle.std.proofs.Common.{◌<◌, length, sym, ◌∙◌, arith}
+use Rattle.asp_vars.specs.Numbering.{bodies_of}
+use Rattle.asp_member.proofs.FoundingLaws.{founds_itself, founds_more}
+use Rattle.asp_member.proofs.stable.look.Goals as goal
+
+pub returns-then-not-held : goal.returns-then-not-held
+returns-then-not-held c = founds_itself c.args.compiled.now c.args.values.now
+
+pub returns : goal.returns
+returns c =
+    founds_more c.args.compiled.now c.args.values.now c.derive_all.new.values c.heads.result.now c.args.body c.program-program.ensures.sound (omega arith) c.heads.ensures.heads (sym c.holds-held.ensures ∙ c.if-not-held.false) c.derive_all.ensures

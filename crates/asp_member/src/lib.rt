@@ -1,0 +1,6 @@
+//! Whether a set is a stable model, for the checker of proofs.
+#![tactic(auto)]
+
+mod order;
+pub mod stable;
+pub mod weighing;
