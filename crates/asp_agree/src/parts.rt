@@ -1,5 +1,5 @@
-//! A worked program, where each of the propagators speaks. Want of memory ends the test.
-ghost use Rattle.std.specs.Prelude.{◌≡◌, None};
+//! A worked program, where each of the propagators speaks.
+ghost use Rattle.std.specs.Prelude.{◌≡◌, None, IfOk};
 ghost use Rattle.asp_vars.specs.Numbering.{var_count};
 
 use asp_model::cost::Cost;
@@ -9,104 +9,118 @@ use asp_propagate::engine::Engine;
 use asp_propagators::propagators::Propagators;
 use asp_vars::compile::compile;
 use asp_vars::compiled::Compiled;
-use std::alloc::Global;
+use std::alloc::{AllocError, Global};
 use std::process::Abort;
+use std::test::Fail;
 
-fn seq<T: Copy>(rt: &impl Abort, heap: Global, items: &[T]) -> Seq<T> {
-    Seq::from_vec(items.to_vec(heap).expect(rt, "memory"))
-}
-
-fn rule(rt: &impl Abort, heap: Global, atom: u32, literal: i32) -> Rule {
-    Rule {
+fn rule(heap: Global, atom: u32, literal: i32) -> Result<Rule, AllocError> {
+    let literals = Seq::from_vec(vec![in heap; literal]?);
+    Ok(Rule {
         head: Head::One(atom),
-        body: Body::All(seq(rt, heap, &[literal])),
-    }
+        body: Body::All(literals),
+    })
 }
 
 // { a1; a2 }. a3 <- 1 { a1 = 1; a2 = 1 }. a4 <- a5. a5 <- a4.
-fn rules(rt: &impl Abort, heap: Global) -> Seq<Rule> {
+fn rules(heap: Global) -> Result<Vec<Rule>, AllocError> {
     let free = Rule {
-        head: Head::Choice(seq(rt, heap, &[1, 2])),
+        head: Head::Choice(Seq::from_vec(vec![in heap; 1, 2]?)),
         body: Body::All(Seq::from_vec(Vec::new(heap))),
     };
     let weighed = Rule {
         head: Head::One(3),
-        body: Body::AtLeast(1, seq(rt, heap, &[(1, 1), (2, 1)])),
+        body: Body::AtLeast(1, Seq::from_vec(vec![in heap; (1, 1), (2, 1)]?)),
     };
-    let first = rule(rt, heap, 4, 5);
-    let second = rule(rt, heap, 5, 4);
-    Seq::from_vec(vec![in heap; free, weighed, first, second].expect(rt, "memory"))
+    let rules = vec![in heap; free, weighed, rule(heap, 4, 5)?, rule(heap, 5, 4)?]?;
+    Ok(rules)
 }
 
-// Each free atom costs 1.
-fn minimize(rt: &impl Abort, heap: Global) -> Seq<Minimize> {
+// Each free atom costs 1. The variables of the bodies are 6 to 9.
+fn program(heap: Global) -> Result<Program, AllocError> {
     let dear = Minimize {
         priority: 1,
-        items: seq(rt, heap, &[(1, 1), (2, 1)]),
+        items: Seq::from_vec(vec![in heap; (1, 1), (2, 1)]?),
     };
-    Seq::from_vec(vec![in heap; dear].expect(rt, "memory"))
-}
-
-// The variables of the bodies are 6 to 9.
-fn compiled(rt: &impl Abort, heap: Global) -> Compiled
-    ensures { var_count result ≡ 9 }
-{
-    let program = Program {
-        rules: rules(rt, heap),
-        minimize: minimize(rt, heap),
+    Ok(Program {
+        rules: Seq::from_vec(rules(heap)?),
+        minimize: Seq::from_vec(vec![in heap; dear]?),
         outputs: Seq::from_vec(Vec::new(heap)),
         externals: Seq::from_vec(Vec::new(heap)),
         assumptions: Seq::from_vec(Vec::new(heap)),
-    };
-    assert!(rt; program.is_sound());
-    let compiled = compile(heap, program).expect(rt, "memory");
-    assert!(rt; compiled.vars() == 9);
-    compiled
+    })
 }
 
-fn start<'a>(rt: &impl Abort, heap: Global, compiled: &'a Compiled) -> Engine<Propagators<'a>>
-    ensures program { result.program ≡ compiled.now }
-    ensures bound { result.bound ≡ None }
+fn compiled(rt: &impl Abort, heap: Global) -> Result<Compiled, AllocError>
+    ensures { IfOk result (λ p. var_count p ≡ 9) }
 {
-    let parts = Propagators::new(heap, compiled).expect(rt, "memory");
-    Engine::new(heap, compiled.vars(), parts).expect(rt, "memory")
+    let program = program(heap)?;
+    assert!(rt; program.is_sound());
+    let compiled = compile(heap, program)?;
+    assert!(rt; compiled.vars() == 9);
+    Ok(compiled)
 }
 
-// Nothing is violated, and so many literals hold.
-fn holds(rt: &impl Abort, engine: &mut Engine<Propagators<'_>>, count: usize)
+fn start<'a>(heap: Global, compiled: &'a Compiled) -> Result<Engine<Propagators<'a>>, AllocError>
+    ensures program { IfOk result (λ p. p.program ≡ compiled.now) }
+    ensures bound { IfOk result (λ p. p.bound ≡ None) }
+{
+    let parts = Propagators::new(heap, compiled)?;
+    Engine::new(heap, compiled.vars(), parts)
+}
+
+// With no bound: the loop can't be true, and nothing else follows.
+fn follow_freely(rt: &impl Abort, engine: &mut Engine<Propagators<'_>>) -> Result<(), AllocError>
     ensures program { engine.new.program ≡ engine.old.program }
     ensures bound { engine.new.bound ≡ engine.old.bound }
 {
-    let violated = engine.propagate().expect(rt, "memory");
+    let violated = engine.propagate()?;
     assert!(rt; violated.is_none());
-    assert!(rt; engine.trail().len() == count);
+    assert!(rt; engine.trail().len() == 1);
+    Ok(())
 }
 
-fn want_below_one(rt: &impl Abort, heap: Global, engine: &mut Engine<Propagators<'_>>)
-    requires { engine.old.bound ≡ None }
-    ensures { engine.new.program ≡ engine.old.program }
+// With a bound of 1: no free atom can be true, and so the weight body isn't.
+fn follow_below_one(
+    rt: &impl Abort,
+    heap: Global,
+    engine: &mut Engine<Propagators<'_>>,
+) -> Result<(), AllocError>
+    requires vars { var_count engine.old.program ≡ 9 }
+    requires bound { engine.old.bound ≡ None }
 {
-    engine.set_bound(Cost::from_vec([1].to_vec(heap).expect(rt, "memory")));
+    engine.set_bound(Cost::from_vec(vec![in heap; 1]?));
+    let violated = engine.propagate()?;
+    assert!(rt; violated.is_none());
+    assert!(rt; engine.trail().len() == 4);
+    assert!(rt; engine.trail().value(7) == Some(false));
+    Ok(())
 }
 
-fn is_false(rt: &impl Abort, engine: &Engine<Propagators<'_>>, var: u32)
-    requires { var_count engine.now.program ≡ 9 }
+fn follow(
+    rt: &impl Abort,
+    heap: Global,
+    engine: &mut Engine<Propagators<'_>>,
+) -> Result<(), AllocError>
+    requires vars { var_count engine.old.program ≡ 9 }
+    requires bound { engine.old.bound ≡ None }
 {
-    assert!(rt; var <= 9);
-    assert!(rt; engine.trail().value(var) == Some(false));
+    follow_freely(rt, engine)?;
+    follow_below_one(rt, heap, engine)
 }
 
-// With no bound the loop can't be true, and nothing else follows. With a bound of 1 no free atom can be true, and so the
-// weight body isn't.
-#[test]
-fn each_of_them_speaks(rt: HostRuntime) {
-    let heap = rt.alloc();
-    let compiled = compiled(&rt, heap);
-    let mut engine = start(&rt, heap, &compiled);
-    holds(&rt, &mut engine, 1);
-    want_below_one(&rt, heap, &mut engine);
-    holds(&rt, &mut engine, 4);
-    is_false(&rt, &engine, 7);
+fn speak(rt: &impl Abort, heap: Global, compiled: &Compiled) -> Result<(), AllocError>
+    requires { var_count compiled.now ≡ 9 }
+{
+    let mut engine = start(heap, compiled)?;
+    let followed = follow(rt, heap, &mut engine);
     engine.clear();
-    assert!(rt; engine.trail().len() == 0);
+    followed
+}
+
+#[test]
+fn each_of_them_speaks(rt: HostRuntime) -> Result<(), Fail> {
+    let heap = rt.alloc();
+    let compiled = compiled(&rt, heap)?;
+    speak(&rt, heap, &compiled)?;
+    Ok(())
 }

@@ -1,5 +1,4 @@
 //! Some hundreds of small programs, made from numbers: the search's answers and optima are those of the plain engines.
-//! Want of memory ends a test.
 ghost use Rattle.asp_model.specs.Sound.{IsSound};
 
 use asp_crew::alone::solve_alone;
@@ -11,8 +10,9 @@ use asp_model::program::{Body, Head, Minimize, Program, Rule};
 use asp_model::results::Mode;
 use asp_model::seq::Seq;
 use asp_vars::compile::compile;
-use std::alloc::Global;
+use std::alloc::{AllocError, Global};
 use std::process::Abort;
+use std::test::Fail;
 
 const ATOMS: u64 = 5;
 
@@ -47,129 +47,136 @@ fn literal(number: u64, place: u32) -> i32 {
     }
 }
 
-fn literals(rt: &impl Abort, alloc: Global, number: u64) -> Seq<i32> {
+fn literals(alloc: Global, number: u64) -> Result<Vec<i32>, AllocError> {
     let mut list = Vec::new(alloc);
     for i in 0..(bits(number, 0) % 4) as u32 {
-        list.push(literal(number, 3 + 6 * i)).expect(rt, "memory");
+        list.push(literal(number, 3 + 6 * i))?;
     }
-    Seq::from_vec(list)
+    Ok(list)
 }
 
-fn weighted(rt: &impl Abort, alloc: Global, number: u64) -> Seq<(i32, i32)> {
+fn weighted(alloc: Global, number: u64) -> Result<Vec<(i32, i32)>, AllocError> {
     let mut list = Vec::new(alloc);
     for i in 0..(bits(number, 0) % 4) as u32 {
         let weight = (bits(number, 20 + i) % 3) as i32;
-        list.push((literal(number, 3 + 6 * i), weight))
-            .expect(rt, "memory");
+        list.push((literal(number, 3 + 6 * i), weight))?;
     }
-    Seq::from_vec(list)
+    Ok(list)
 }
 
 // A normal body more often than a weight body.
-fn body(rt: &impl Abort, alloc: Global, number: u64) -> Body {
+fn body(alloc: Global, number: u64) -> Result<Body, AllocError> {
     if bits(number, 9) % 3 == 0 {
         let bound = (bits(number, 13) % 4) as i32;
-        Body::AtLeast(bound, weighted(rt, alloc, number))
+        Ok(Body::AtLeast(bound, Seq::from_vec(weighted(alloc, number)?)))
     } else {
-        Body::All(literals(rt, alloc, number))
+        Ok(Body::All(Seq::from_vec(literals(alloc, number)?)))
     }
 }
 
-fn choice(rt: &impl Abort, alloc: Global, number: u64) -> Head {
-    let atoms = [atom(number, 11), atom(number, 17)];
-    Head::Choice(Seq::from_vec(atoms.to_vec(alloc).expect(rt, "memory")))
+fn choice(alloc: Global, number: u64) -> Result<Head, AllocError> {
+    let mut atoms = Vec::new(alloc);
+    atoms.push(atom(number, 11))?;
+    atoms.push(atom(number, 17))?;
+    Ok(Head::Choice(Seq::from_vec(atoms)))
 }
 
-fn head(rt: &impl Abort, alloc: Global, number: u64) -> Head {
+fn head(alloc: Global, number: u64) -> Result<Head, AllocError> {
     match bits(number, 2) % 6 {
-        0 => Head::Never,
-        1 | 2 => choice(rt, alloc, number),
-        _ => Head::One(atom(number, 11)),
+        0 => Ok(Head::Never),
+        1 | 2 => choice(alloc, number),
+        _ => Ok(Head::One(atom(number, 11))),
     }
 }
 
-fn rule(rt: &impl Abort, alloc: Global, number: u64) -> Rule {
-    Rule {
-        head: head(rt, alloc, next(number)),
-        body: body(rt, alloc, number),
-    }
+fn rule(alloc: Global, number: u64) -> Result<Rule, AllocError> {
+    let head = head(alloc, next(number))?;
+    let body = body(alloc, number)?;
+    Ok(Rule { head, body })
 }
 
-fn rules(rt: &impl Abort, alloc: Global, number: u64) -> Seq<Rule> {
+fn rules(alloc: Global, number: u64) -> Result<Vec<Rule>, AllocError> {
     let mut list = Vec::new(alloc);
     let mut number = number;
     for _ in 0..3 + bits(number, 1) % 8 {
         number = next(number);
-        list.push(rule(rt, alloc, number)).expect(rt, "memory");
+        list.push(rule(alloc, number)?)?;
     }
-    Seq::from_vec(list)
+    Ok(list)
 }
 
-fn minimize(rt: &impl Abort, alloc: Global, number: u64) -> Seq<Minimize> {
-    let statement = Minimize {
-        priority: 1,
-        items: weighted(rt, alloc, next(number)),
-    };
-    Seq::from_vec(vec![in alloc; statement].expect(rt, "memory"))
+fn minimize(alloc: Global, number: u64) -> Result<Vec<Minimize>, AllocError> {
+    let mut list = Vec::new(alloc);
+    let items = Seq::from_vec(weighted(alloc, next(number))?);
+    list.push(Minimize { priority: 1, items })?;
+    Ok(list)
 }
 
-fn program(rt: &impl Abort, alloc: Global, number: u64) -> Program {
-    Program {
-        rules: rules(rt, alloc, number),
-        minimize: minimize(rt, alloc, number),
+fn program(alloc: Global, number: u64) -> Result<Program, AllocError> {
+    let rules = Seq::from_vec(rules(alloc, number)?);
+    let minimize = Seq::from_vec(minimize(alloc, number)?);
+    Ok(Program {
+        rules,
+        minimize,
         outputs: Seq::from_vec(Vec::new(alloc)),
         externals: Seq::from_vec(Vec::new(alloc)),
         assumptions: Seq::from_vec(Vec::new(alloc)),
-    }
+    })
 }
 
-fn searched(rt: &impl Abort, alloc: Global, program: Program, mode: Mode) -> Report
+fn searched(alloc: Global, program: Program, mode: Mode) -> Result<Report, AllocError>
     requires { IsSound program }
 {
-    let compiled = compile(alloc, program).expect(rt, "memory");
-    solve_alone(alloc, &compiled, mode, BUDGET).expect(rt, "memory")
+    let compiled = compile(alloc, program)?;
+    solve_alone(alloc, &compiled, mode, BUDGET)
 }
 
 // Whether both engines list the same answers.
-fn list_the_same(rt: &impl Abort, alloc: Global, number: u64) {
-    let program = program(rt, alloc, number);
+fn list_the_same(rt: &impl Abort, alloc: Global, number: u64) -> Result<(), AllocError> {
+    let program = program(alloc, number)?;
     assert!(rt; program.is_sound());
-    let answers = answers_plain(alloc, &program).expect(rt, "memory");
-    let report = searched(rt, alloc, program, Mode::Enum);
+    let answers = answers_plain(alloc, &program)?;
+    let report = searched(alloc, program, Mode::Enum)?;
     assert!(rt;
         report.results.answers.as_slice() == answers.as_slice(),
         "{number}"
     );
+    Ok(())
 }
 
 // Whether both have one cost, or nothing.
 fn cost_as_much(best: &Option<(Interp, Cost)>, other: &Option<(Interp, Cost)>) -> bool {
-    match (best, other) {
-        (None, None) => true,
-        (Some(one), Some(two)) => one.1 == two.1,
-        _ => false,
+    match best {
+        None => other.is_none(),
+        Some(one) => match other {
+            None => false,
+            Some(two) => one.1 == two.1,
+        },
     }
 }
 
 // Whether both engines give one of the same cost, or none.
-fn cost_the_same(rt: &impl Abort, alloc: Global, number: u64) {
-    let program = program(rt, alloc, number);
+fn cost_the_same(rt: &impl Abort, alloc: Global, number: u64) -> Result<(), AllocError> {
+    let program = program(alloc, number)?;
     assert!(rt; program.is_sound());
-    let best = optimum_plain(alloc, &program).expect(rt, "memory");
-    let report = searched(rt, alloc, program, Mode::Opt);
+    let best = optimum_plain(alloc, &program)?;
+    let report = searched(alloc, program, Mode::Opt)?;
     assert!(rt; cost_as_much(&best, &report.results.best), "{number}");
+    Ok(())
 }
 
 #[test]
-fn answers_are_the_plain_ones(rt: HostRuntime) {
+fn answers_are_the_plain_ones(rt: HostRuntime) -> Result<(), Fail> {
     for number in 0..PROGRAMS {
-        list_the_same(&rt, rt.alloc(), number);
+        list_the_same(&rt, rt.alloc(), number)?;
     }
+    Ok(())
 }
 
 #[test]
-fn optima_cost_what_the_plain_ones_do(rt: HostRuntime) {
+fn optima_cost_what_the_plain_ones_do(rt: HostRuntime) -> Result<(), Fail> {
     for number in 0..PROGRAMS {
-        cost_the_same(&rt, rt.alloc(), number);
+        cost_the_same(&rt, rt.alloc(), number)?;
     }
+    Ok(())
 }
