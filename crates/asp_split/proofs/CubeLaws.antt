@@ -8,14 +8,18 @@ use Rattle.asp_model.specs.Sets.{Atoms}
 use Rattle.asp_model.specs.Models.{answers}
 use Rattle.asp_split.specs.declared.leaf.Leaf.{Leaf}
 use Rattle.asp_split.specs.Parts.{AreStanding, answers_of_parts, assuming}
-use Rattle.asp_split.specs.Dividing.{part, sets_of, cubes_of, IsLeaf, AreLeaves, IsPlaced, IsDivided, IsParted}
+use Rattle.asp_split.specs.Dividing.{part, sets_of, cubes_of, IsLeaf, AreLeaves, IsPlaced, IsDivided, IsParted, IsWhole}
 use Rattle.asp_split.proofs.PartLaws.{answers-assuming, answers_of_parts-is, part-whole}
 
 -- ---- the first leaf
-pub root_parted : (p : Program) (old new : List Leaf) (cube : List ℤ) → old ≡ [] → IsPlaced p old new 0 cube → AreLeaves p new × (sets_of p new ≡ part p cube) × (length new ≤ 1)
-root_parted p old new cube none h =
+pub first_whole : (p : Program) (old new : List Leaf) (cube : List ℤ) → old ≡ [] → cube ≡ [] → IsPlaced p old new 0 cube → IsWhole p new
+first_whole p old new cube none empty h =
     let is : new ≡ h.added = h.is ∙ ap (λ (ls : List Leaf). h.added ++ ls) none ∙ append-nil h.added in
-    (subst (AreLeaves p) (sym is) h.leaves, ap (sets_of p) is ∙ h.sets, omega (arith, ap (λ (ls : List Leaf). length ls) is, h.few))
+    record {
+      leaves = subst (AreLeaves p) (sym is) h.leaves;
+      sets = ap (sets_of p) is ∙ h.sets ∙ ap (part p) empty ∙ part-whole p;
+      few = omega (arith, ap (λ (ls : List Leaf). length ls) is, h.few);
+    }
 
 -- ---- one division more
 pub parted_first : (p : Program) (old : List Leaf) (parts : ℕ) → AreLeaves p old → length old ≤ parts → IsParted p old old parts

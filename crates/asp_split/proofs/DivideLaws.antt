@@ -1,9 +1,10 @@
 -- A leaf is put in place of another.
-use Rattle.std.proofs.Common.{◌≡◌, ℕ, ◌+◌, ◌<◌, ◌≤◌, true, not, List, [], ◌∷◌, ◌++◌, length, get_or, take, drop, refl, zero, suc, sym, ap, ◌∙◌, subst, append_assoc, arith}
-use Rattle.std.specs.Prelude.{ℤ, pos, neg_ℤ, flat_map, insert, Option, Some, None, IsSome}
+use Rattle.std.proofs.Common.{◌≡◌, ℕ, ◌+◌, ◌^◌, ◌<◌, ◌≤◌, nat_lt, true, not, List, [], ◌∷◌, ◌++◌, length, get_or, take, drop, refl, zero, suc, sym, ap, ◌∙◌, subst, append_assoc, arith}
+use Rattle.std.specs.Prelude.{ℤ, pos, neg_ℤ, flat_map, insert, remove, Option, Some, None, IsSome}
 use Rattle.std.specs.List.{AllByRecursion}
 use Rattle.std.proofs.lemmas.Grind.{flat_map-append}
-use Rattle.std.proofs.lemmas.List.{append-nil, length-append, take-append-drop}
+use Rattle.std.proofs.lemmas.List.{append-nil, length-append, length-take, take-append-drop}
+use Rattle.std.proofs.lemmas.Bool.{false≢true, and_parts, ltb-true}
 use Rattle.std.proofs.Math.Seq.{take-append_seam, drop-append_seam}
 use Rattle.asp_model.specs.declared.program.Program.{Program}
 use Rattle.asp_model.specs.Sets.{Atoms, has}
@@ -115,3 +116,32 @@ with-stands p cube a s h = each-append (λ l. has (atoms_of p) (atom_of l) ≡ t
 
 pub without-stands : (p : Program) (cube : List ℤ) (a : ℕ) → AreStanding p cube → has (atoms_of p) a ≡ true → AreStanding p (cube ++ neg_ℤ (pos a) ∷ [])
 without-stands p cube a s h = each-append (λ l. has (atoms_of p) (atom_of l) ≡ true) cube (neg_ℤ (pos a) ∷ []) s (ap (has (atoms_of p)) (atom_of-neg a) ∙ h, tt)
+
+pub in_range : (a : ℕ) → is_atom a ≡ true → a < 2 ^ 31
+in_range a h = ltb-true a (2 ^ 31) (and_parts (nat_lt 0 a) (nat_lt a (2 ^ 31)) h).1
+
+pub some_next : (leaves : List Leaf) (at : ℕ) (leaf : Leaf) → CanBeDivided leaves at → leaf ≡ get_or leaves at leaf → leaf.next ≡ None → ⊥
+some_next leaves at leaf can e none =
+    let some : IsSome leaf.next = subst (λ (l : Leaf). IsSome l.next) (sym e) (can.next leaf) in
+    false≢true (subst (λ (o : Option ℕ). IsSome o) none some)
+
+pub placed_within : (p : Program) (old new : List Leaf) (at : ℕ) (cube : List ℤ) → at ≤ length old → IsPlaced p old new at cube → at ≤ length new
+placed_within p old new at cube le h =
+    omega (arith, le, ap (λ (ls : List Leaf). length ls) h.is, length-append (take at old ++ h.added) (drop at old), length-append (take at old) h.added, length-take at old)
+
+parts_at : (xs : List Leaf) (i : ℕ) (d : Leaf) → i < length xs → xs ≡ take i xs ++ get_or xs i d ∷ drop (suc i) xs
+parts_at [] i d lt = absurd (omega (arith, lt))
+parts_at (x ∷ xs) zero d lt = refl
+parts_at (x ∷ xs) (suc i) d lt = ap (λ (ls : List Leaf). x ∷ ls) (parts_at xs i d (omega (arith, lt)))
+
+pub divided_at : (p : Program) (old rest mid new : List Leaf) (at : ℕ) (leaf : Leaf) (atom : ℕ) (lacking having : List ℤ) → AreLeaves p old → at < length old → leaf ≡ get_or old at leaf → rest ≡ remove old at →
+    Divides p leaf.cube atom → lacking ≡ leaf.cube ++ neg_ℤ (pos atom) ∷ [] → having ≡ leaf.cube ++ pos atom ∷ [] → IsPlaced p rest mid at having → IsPlaced p mid new at lacking → IsDivided p old new
+divided_at p old rest mid new at leaf atom lacking having leaves lt is removed divides lacks has_it first second =
+    let xs : List Leaf = take at old in
+    let ys : List Leaf = drop (suc at) old in
+    let place : at ≡ length xs = omega (arith, lt, length-take at old) in
+    let halves : part p lacking ++ part p having ≡ part p leaf.cube =
+    ap (λ (c : List ℤ). part p c ++ part p having) lacks ∙ (ap (λ (c : List ℤ). part p (leaf.cube ++ neg_ℤ (pos atom) ∷ []) ++ part p c) has_it ∙ divides-halves p leaf.cube atom (one_or_more atom divides.ranges) divides) in
+    divided p xs ys leaf old mid new lacking having (parts_at old at leaf lt ∙ ap (λ (l : Leaf). xs ++ l ∷ ys) (sym is)) leaves
+    (subst (λ n. IsPlaced p (xs ++ ys) mid n having) place (subst (λ (ls : List Leaf). IsPlaced p ls mid at having) removed first))
+    (subst (λ n. IsPlaced p mid new n lacking) place second) halves

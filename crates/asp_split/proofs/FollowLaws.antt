@@ -1,5 +1,5 @@
 -- What a trail under a cube, at level 0, shows of the stable models that hit the cube.
-use Rattle.std.proofs.Common.{◌≡◌, ℕ, ◌<◌, Bool, true, false, List, [], ◌++◌, length, get_or, take, Option, Some, None, IfSome, ◌⊎◌, inl, inr, refl, sym, ap, ◌∙◌, subst, arith, zero, suc, ◌∷◌}
+use Rattle.std.proofs.Common.{◌≡◌, ℕ, ◌<◌, Bool, true, false, not, List, [], ◌++◌, length, get_or, take, Option, Some, None, IfSome, ◌⊎◌, inl, inr, refl, sym, ap, ◌∙◌, subst, arith, zero, suc, ◌∷◌}
 use Rattle.std.specs.List.{AllByRecursion}
 use Rattle.std.specs.Bool.{beq}
 use Rattle.std.specs.Prelude.{ℤ}
@@ -93,6 +93,10 @@ module _ (p : Program) (slots : List (Option StoredNogood)) (lits decisions : Li
       subst (Settled p [] None) (append-nil lits)
       (way_settled p [] None (var_count p) (nogood_at slots) lits decisions es 0 v.0.lits ordered reasons settled starts (settled id v.0 v.1) v.2
       (λ i d h. omega (arith, level_in_top es (get_or v.0.lits i d).var ordered.rising, low)))
+
+pub none_is : (none some : Bool) → some ≡ not none → not some ≡ none
+none_is true some e = ap not e
+none_is false some e = ap not e
 
 -- ---- what is kept true
 pub prober_same : (p : Program) (t u : SearchView) → u.program ≡ t.program → u.bound ≡ t.bound → u.slots ≡ t.slots → IsProber p t → IsProber p u

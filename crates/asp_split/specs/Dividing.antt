@@ -4,7 +4,7 @@ use Rattle.std.specs.List.{AllByRecursion}
 use Rattle.asp_model.specs.declared.program.Program.{Program}
 use Rattle.asp_model.specs.Sets.{Atoms, has}
 use Rattle.asp_model.specs.Holding.{all_hold}
-use Rattle.asp_model.specs.Models.{atoms_of, models}
+use Rattle.asp_model.specs.Models.{atoms_of, models, answers}
 use Rattle.asp_model.specs.Sound.{is_atom}
 use Rattle.asp_split.specs.Parts.{AreStanding}
 use Rattle.asp_split.specs.declared.leaf.Leaf.{Leaf}
@@ -61,6 +61,12 @@ pub record IsDivided (p : Program) (old new : List Leaf) : Type 0 where
   pub leaves : AreLeaves p new
   pub sets : sets_of p new ≡ sets_of p old
   pub few : length new ≤ length old + 1
+
+-- At most one leaf, of all answers.
+pub record IsWhole (p : Program) (given : List Leaf) : Type 0 where
+  pub leaves : AreLeaves p given
+  pub sets : sets_of p given ≡ answers p
+  pub few : length given ≤ 1
 
 -- At most so many leaves, of the same sets.
 pub record IsParted (p : Program) (old new : List Leaf) (parts : ℕ) : Type 0 where

@@ -3,7 +3,7 @@ ghost use Rattle.std.specs.Prelude.{◌≡◌, ◌+◌, ◌<◌, ◌≤◌, [], 
 ghost use Rattle.std.specs.List.{AllByRecursion};
 ghost use Rattle.asp_model.specs.Models.{answers};
 ghost use Rattle.asp_vars.specs.Numbering.{var_count};
-ghost use Rattle.asp_split.specs.Dividing.{cubes_of, AreLeaves, CanBeDivided, IsParted};
+ghost use Rattle.asp_split.specs.Dividing.{cubes_of, AreLeaves, CanBeDivided, IsParted, IsWhole};
 ghost use Rattle.asp_split.specs.Following.{IsProber};
 ghost use Rattle.asp_split.specs.Parts.{answers_of_parts, AreStanding};
 
@@ -38,8 +38,29 @@ fn widest(leaves: &[Leaf]) -> Option<usize>
     }
 }
 
+// The cube without literals.
+fn empty(alloc: Global) -> Seq<i32>
+    ensures { result ≡ [] }
+{
+    Seq::from_vec(Vec::new(alloc))
+}
+
+// The leaf of the whole program, or none where propagation shows that there is no answer.
+fn first_leaf<P: Propagator>(
+    alloc: Global,
+    compiled: &Compiled,
+    state: &mut SearchState<P>,
+) -> Result<Vec<Leaf>, AllocError>
+    requires { IsProber compiled.now state.old }
+    ensures kept { IsProber compiled.now state.new }
+    ensures first { IfOk result (λ leaves. IsWhole compiled.now leaves.items) }
+{
+    let mut leaves = Vec::new(alloc);
+    place(alloc, compiled, state, &mut leaves, 0, empty(alloc))?;
+    Ok(leaves)
+}
+
 // Divides the widest leaf, again and again, as long as there are fewer than wanted.
-#[tactic(none)]
 fn divide_all<P: Propagator>(
     alloc: Global,
     compiled: &Compiled,
@@ -50,7 +71,7 @@ fn divide_all<P: Propagator>(
     requires leaves { AreLeaves compiled.now leaves.old.items }
     requires few { length leaves.old.items ≤ parts }
     requires kept { IsProber compiled.now state.old }
-    ensures parted { OnOk result (IsParted compiled.now leaves.old.items leaves.new.items parts) }
+    ensures { OnOk result (IsParted compiled.now leaves.old.items leaves.new.items parts) }
 {
     // A division that finds one half empty gives no leaf more, so the divisions are counted.
     'divisions: for _ in 0..parts.saturating_mul(4).saturating_add(64) {
@@ -76,7 +97,7 @@ fn whole(alloc: Global) -> Result<Vec<Seq<i32>>, AllocError>
     ensures { IfOk result (λ cubes. cubes.items ≡ [] ∷ []) }
 {
     let mut cubes = Vec::new(alloc);
-    cubes.push(Seq::from_vec(Vec::new(alloc)))?;
+    cubes.push(empty(alloc))?;
     Ok(cubes)
 }
 
@@ -97,7 +118,6 @@ fn cubes_of(alloc: Global, leaves: Vec<Leaf>) -> Result<Vec<Seq<i32>>, AllocErro
 /// Each time that cube is divided under which propagation leaves the most variables open, by the least atom that is open;
 /// where none is open under any cube, or half of the divisions find nothing, there are fewer cubes. Want of memory is the
 /// one error.
-#[tactic(none)]
 pub fn cubes<P: Propagator>(
     alloc: Global,
     compiled: &Compiled,
@@ -115,9 +135,7 @@ pub fn cubes<P: Propagator>(
 {
     let _program = compiled.program();
     let mut state = SearchState::new(alloc, compiled, propagator)?;
-    let mut leaves = Vec::new(alloc);
-    let root = Seq::from_vec(Vec::new(alloc));
-    place(alloc, compiled, &mut state, &mut leaves, 0, root)?;
+    let mut leaves = first_leaf(alloc, compiled, &mut state)?;
     divide_all(alloc, compiled, &mut state, &mut leaves, parts)?;
     cubes_of(alloc, leaves)
 }

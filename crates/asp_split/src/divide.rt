@@ -1,16 +1,33 @@
 //! How a leaf is divided, by an atom that is false in its first half and true in its second.
-ghost use Rattle.std.specs.Prelude.{◌≡◌, ◌++◌, ◌∷◌, [], ◌<◌, ◌≤◌, IfOk, OnOk, length};
+ghost use Rattle.std.specs.Prelude.{◌≡◌, ◌++◌, ◌∷◌, [], ◌^◌, ◌<◌, ◌≤◌, IfOk, OnOk, length, neg_ℤ, pos};
 ghost use Rattle.asp_split.specs.Dividing.{AreLeaves, CanBeDivided, IsDivided, IsPlaced};
 ghost use Rattle.asp_split.specs.Following.{IsProber};
 ghost use Rattle.asp_split.specs.Parts.{AreStanding};
 
 use crate::leaf::Leaf;
 use crate::probe::probe;
+use asp_model::program::Atom;
 use asp_model::seq::Seq;
 use asp_propagate::propagator::Propagator;
 use asp_state::state::SearchState;
 use asp_vars::compiled::Compiled;
 use std::alloc::{AllocError, Global};
+
+// The literal that the atom is in.
+fn positive(atom: Atom) -> i32
+    requires { atom < 2 ^ 31 }
+    ensures { result ≡ pos atom }
+{
+    atom as i32
+}
+
+// The literal that it isn't in.
+fn negative(atom: Atom) -> i32
+    requires { atom < 2 ^ 31 }
+    ensures { result ≡ neg_ℤ (pos atom) }
+{
+    -(atom as i32)
+}
 
 // The cube with one literal more.
 fn with_literal(alloc: Global, cube: &Seq<i32>, literal: i32) -> Result<Seq<i32>, AllocError>
@@ -46,7 +63,6 @@ pub(crate) fn place<P: Propagator>(
 }
 
 /// Divides the leaf at this place. Want of memory is the one error.
-#[tactic(none)]
 pub(crate) fn divide<P: Propagator>(
     alloc: Global,
     compiled: &Compiled,
@@ -68,10 +84,10 @@ pub(crate) fn divide<P: Propagator>(
     match next {
         None => unreachable!(),
         Some(atom) => {
-            let without = with_literal(alloc, &cube, -(atom as i32))?;
-            let with = with_literal(alloc, &cube, atom as i32)?;
-            place(alloc, compiled, state, leaves, at, with)?;
-            place(alloc, compiled, state, leaves, at, without)
+            let lacking = with_literal(alloc, &cube, negative(atom))?;
+            let having = with_literal(alloc, &cube, positive(atom))?;
+            place(alloc, compiled, state, leaves, at, having)?;
+            place(alloc, compiled, state, leaves, at, lacking)
         }
     }
 }

@@ -1,4 +1,5 @@
-use Rattle.std.proofs.Common.{◌≡◌, Bool, not, [], List, None, sym, ap, ◌∙◌, subst}
+use Rattle.std.proofs.Common.{◌≡◌, Bool, [], List, None, sym, ap, ◌∙◌, subst}
+use Rattle.std.specs.Option.{is_some}
 use Rattle.asp_model.specs.Sound.{IsSound}
 use Rattle.asp_vars.specs.Entailment.{is_done}
 use Rattle.asp_vars.specs.declared.nogood.Nogood.{Nogood}
@@ -7,7 +8,7 @@ use Rattle.asp_store.proofs.GrowLaws.{level_stays}
 use Rattle.asp_trail_laws.proofs.HitLaws.{clash_settled}
 use Rattle.asp_state.specs.SearchStates.{SearchView, IsUnder, IsBegun}
 use Rattle.asp_split.specs.Following.{Follows, IsProber}
-use Rattle.asp_split.proofs.FollowLaws.{followed, prober_same, prober_adds}
+use Rattle.asp_split.proofs.FollowLaws.{followed, none_is, prober_same, prober_adds}
 use Rattle.asp_split.proofs.probe.follow.Goals as goal
 
 pub returns-in_err-enter-clause-kept : goal.returns-in_err-enter-clause-kept
@@ -74,4 +75,5 @@ returns-clause-follows g c =
     } in
     let begun : IsBegun u.program lits u.decisions u.entries = c.trail-trail.ensures.begun lits under in
     let low : level u.entries ≡ 0 = ap level i.1 ∙ (level_stays t.entries i.0 i.2 ∙ c.enter.ensures.level) in
-    subst (λ (b : Bool). Follows p u lits (not b)) (sym c.is_none.ensures) (followed p u lits c.in_ok-violated.violated keeps c.trail-trail.ensures.ordered c.propagate.ensures.reasons begun.starts low c.in_ok-violated.ensures.violated)
+    subst (λ (b : Bool). Follows p u lits b) (none_is c.is_none.result (is_some c.in_ok-violated.violated) c.is_none.ensures)
+    (followed p u lits c.in_ok-violated.violated keeps c.trail-trail.ensures.ordered c.propagate.ensures.reasons begun.starts low c.in_ok-violated.ensures.violated)
