@@ -1,5 +1,5 @@
 -- From leaves to cubes.
-use Rattle.std.proofs.Common.{◌≡◌, ℕ, ◌+◌, ◌<◌, ◌≤◌, List, [], ◌∷◌, ◌++◌, map, length, refl, sym, ap, ◌∙◌, subst, arith}
+use Rattle.std.proofs.Common.{◌≡◌, ℕ, ◌<◌, ◌≤◌, List, [], ◌∷◌, ◌++◌, map, length, refl, sym, ap, ◌∙◌, subst, arith}
 use Rattle.std.specs.Prelude.{ℤ, flat_map}
 use Rattle.std.specs.List.{AllByRecursion}
 use Rattle.std.proofs.lemmas.List.{append-nil, length-map}
@@ -8,7 +8,7 @@ use Rattle.asp_model.specs.Sets.{Atoms}
 use Rattle.asp_model.specs.Models.{answers}
 use Rattle.asp_split.specs.declared.leaf.Leaf.{Leaf}
 use Rattle.asp_split.specs.Parts.{AreStanding, answers_of_parts, assuming}
-use Rattle.asp_split.specs.Dividing.{part, sets_of, cubes_of, IsLeaf, AreLeaves, IsPlaced, IsDivided, IsParted, IsWhole}
+use Rattle.asp_split.specs.Dividing.{part, sets_of, cubes_of, AreLeaves, IsPlaced, IsDivided, IsParted, IsWhole}
 use Rattle.asp_split.proofs.PartLaws.{answers-assuming, answers_of_parts-is, part-whole}
 
 -- ---- the first leaf

@@ -1,7 +1,6 @@
 -- What propagation under a cube says of its part.
-use Rattle.std.proofs.Common.{◌≡◌, ℕ, ◌+◌, ◌<◌, ◌≤◌, Bool, true, false, List, [], ◌∷◌, ◌++◌, map, length, get_or, take, drop, Option, Some, None, IsSome, IfSome, refl, sym, ap, ◌∙◌, subst, append_assoc, arith}
-use Rattle.std.specs.Prelude.{ℤ, filter, flat_map, Contains}
-use Rattle.std.specs.List.{AllByRecursion}
+use Rattle.std.proofs.Common.{◌≡◌, ℕ, Bool, true, false, List, [], ◌++◌, map, get_or, Option, Some, None, IsSome, IfSome, refl, sym, ap, ◌∙◌, subst, arith}
+use Rattle.std.specs.Prelude.{ℤ, Contains}
 use Rattle.std.proofs.lemmas.Bool.{false≢true}
 use Rattle.std.proofs.lemmas.List.{map-append}
 use Rattle.std.proofs.lemmas.List.Elements.{All-from_recursion, Contains-get_or}
@@ -20,7 +19,7 @@ use Rattle.asp_vars.proofs.AssumptionLaws.{assumptions-stand}
 use Rattle.asp_vars.proofs.CompletionLaws.{hits-literals}
 use Rattle.asp_vars.proofs.NumberingLaws.{value-atom}
 use Rattle.asp_split.specs.Parts.{AreStanding}
-use Rattle.asp_split.specs.Dividing.{part, AgreeBelow, MayDivide, IsLeaf, IsProbed}
+use Rattle.asp_split.specs.Dividing.{part, AgreeBelow, MayDivide, IsProbed}
 use Rattle.asp_split.specs.declared.leaf.Leaf.{Leaf}
 use Rattle.asp_split.specs.Following.{literals_of, Follow, IsLeastOpen}
 use Rattle.asp_split.proofs.HalfLaws.{filter_none}

@@ -1,5 +1,5 @@
 -- A program in parts, by assumptions.
-use Rattle.std.specs.Prelude.{◌≡◌, ℕ, true, List, ◌++◌, flat_map, ℤ}
+use Rattle.std.specs.Prelude.{◌≡◌, true, List, ◌++◌, flat_map, ℤ}
 use Rattle.std.specs.List.{AllByRecursion}
 use Rattle.asp_model.specs.declared.program.Program.{Program}
 use Rattle.asp_model.specs.Sets.{Atoms, has}

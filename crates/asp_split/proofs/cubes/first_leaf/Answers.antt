@@ -1,5 +1,4 @@
-use Rattle.std.proofs.Common.{List, sym, subst}
-use Rattle.std.specs.Prelude.{ℤ}
+use Rattle.std.proofs.Common.{sym, subst}
 use Rattle.asp_split.specs.Parts.{AreStanding}
 use Rattle.asp_split.proofs.CubeLaws.{first_whole}
 use Rattle.asp_split.proofs.cubes.first_leaf.Goals as goal
