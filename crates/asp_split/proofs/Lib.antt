@@ -1,0 +1,9 @@
+pub mod PartLaws
+pub mod HalfLaws
+pub mod BestLaws
+pub mod RangeLaws
+pub mod DivideLaws
+pub mod FollowLaws
+pub mod LeafLaws
+pub mod OpenLaws
+pub mod CubeLaws

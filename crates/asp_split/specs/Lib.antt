@@ -1,0 +1,4 @@
+pub mod Parts
+pub mod Bests
+pub mod Dividing
+pub mod Following
