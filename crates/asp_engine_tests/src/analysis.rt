@@ -7,7 +7,7 @@ ghost use Rattle.asp_trail.specs.Trails.{IsVar};
 ghost use Rattle.asp_analyze.specs.Learning.{AreContained};
 ghost use Rattle.asp_analyze.specs.Way.{AreUpTo};
 
-use crate::trails::roomy;
+use crate::common::roomy;
 use asp_analyze::learn::{Learned, Learner, learn};
 use asp_trail::reasons::{NogoodId, Reasons};
 use asp_trail::trail::Trail;

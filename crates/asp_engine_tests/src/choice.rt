@@ -2,7 +2,7 @@
 ghost use Rattle.std.specs.Prelude.{◌≡◌, ◌^◌, ◌<◌, ◌≤◌, []};
 ghost use Rattle.asp_order.specs.Waiting.{HasVars, AreWaiting};
 
-use crate::trails::roomy;
+use crate::common::roomy;
 use asp_order::order::Order;
 use asp_order::pace::Pace;
 use asp_trail::trail::Trail;

@@ -1,10 +1,8 @@
-//! Tests of the parts of the search: the trail, the order, and all that propagates and learns.
+//! Tests of the parts of the search: the order of decisions, what a store keeps, and what is learnt.
 #![tactic(auto)]
 
 #[cfg(test)]
 mod analysis;
-#[cfg(test)]
-mod bound;
 #[cfg(test)]
 mod choice;
 #[cfg(test)]
@@ -12,12 +10,4 @@ mod common;
 #[cfg(test)]
 mod order;
 #[cfg(test)]
-mod sources;
-#[cfg(test)]
 mod store;
-#[cfg(test)]
-mod trail;
-#[cfg(test)]
-mod trails;
-#[cfg(test)]
-mod weights;

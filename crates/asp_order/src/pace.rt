@@ -15,7 +15,7 @@ const FIRST: u64 = 100;
 
 /// What is counted from restart to restart, and what makes the next restart due.
 ///
-/// Restarts get rarer, and alone would leave more and more nogoods to be looked at: where far too many are kept, one is
+/// Restarts get rarer geometrically (Walsh, 'Search in a Small World', 1999), and alone would leave more and more nogoods to be looked at: where far too many are kept, one is
 /// due early.
 #[derive(Drop)]
 pub struct Pace {

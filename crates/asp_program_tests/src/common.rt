@@ -1,12 +1,10 @@
-//! Programs made of rules, and what nogoods have. Want of memory ends a test.
+//! Programs made of rules. Want of memory ends a test.
 use asp_model::program::{
     Atom, Body, External, ExternalValue, Head, Minimize, Output, Program, Rule,
 };
 use asp_model::seq::Seq;
 use asp_vars::compile::compile;
 use asp_vars::compiled::Compiled;
-use asp_vars::lit::Var;
-use asp_vars::nogood::Nogood;
 use std::alloc::Global;
 use std::process::Abort;
 
@@ -123,12 +121,4 @@ pub(crate) fn compiled(rt: &impl Abort, alloc: Global, rules: Vec<Rule>) -> Comp
     let program = program(alloc, rules);
     assert!(rt; program.is_sound());
     compile(alloc, program).expect(rt, "memory")
-}
-
-pub(crate) fn has_lits(rt: &impl Abort, nogood: &Nogood, lits: &[(Var, bool)]) {
-    let found = nogood.lits.as_slice();
-    assert!(rt; found.len() == lits.len());
-    for (lit, (var, truth)) in found.iter().zip(lits) {
-        assert!(rt; lit.var() == *var && lit.truth() == *truth);
-    }
 }

@@ -24,8 +24,11 @@ use std::marker::Model;
 /// The weight bodies, the bound and the possible loops of a program.
 #[derive(Drop)]
 pub struct Propagators<'a> {
+    /// Gives nogoods of weight bodies: of a body by its literals, and the other way round.
     weights: Weights,
+    /// Gives nogoods of answers that cost as much as the best one so far, or more; its Model is that of all three.
     bound: Bound,
+    /// Gives loop nogoods: of atoms that have no source outside themselves any more.
     sources: Sources<'a>,
 }
 

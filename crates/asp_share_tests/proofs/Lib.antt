@@ -1,3 +1,1 @@
-mod RowLaws
-mod SeatLaws
 pub mod EntryLaws

@@ -1,10 +1,8 @@
-//! Tests of what workers share: the vault, the log, the tree of paths, the board, the book and the lanes.
+//! Tests of what workers share: the log, the board and the lanes.
 #![tactic(auto)]
 
 #[cfg(test)]
 mod board;
-#[cfg(test)]
-mod book;
 #[cfg(test)]
 mod common;
 #[cfg(test)]
@@ -13,7 +11,3 @@ mod log;
 mod pool;
 #[cfg(test)]
 mod together;
-#[cfg(test)]
-mod tree;
-#[cfg(test)]
-mod vault;

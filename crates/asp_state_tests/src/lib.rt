@@ -1,9 +1,7 @@
-//! Tests of a search's trail: with its store and a propagator, and under a cube.
+//! Tests of a search's trail under a cube, with its store and a propagator.
 #![tactic(auto)]
 
 #[cfg(test)]
 mod common;
-#[cfg(test)]
-mod following;
 #[cfg(test)]
 mod state;

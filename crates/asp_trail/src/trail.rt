@@ -15,18 +15,26 @@ use std::marker::Model;
 /// A literal that holds, its level, and the nogood that implied it, if one did.
 #[derive(Clone, Copy)]
 pub struct Entry {
+    /// The literal that holds.
     pub lit: Lit,
+    /// The decision level: how many decisions stand on the trail up to here; 0 for what holds under no decision.
     pub level: usize,
+    /// The number of the nogood that implied the literal; none for a decision and for what is assumed.
     pub reason: Option<NogoodId>,
 }
 
 /// The literals that hold, the oldest first. A flat array has the value of each variable.
 #[derive(Drop)]
 pub struct Trail {
+    /// The variables are 1 to this number.
     vars: u32,
+    /// The literals that hold, in the order in which they came to hold.
     entries: Vec<Entry>,
+    /// The value of each variable: that of its literal in `entries`, or none.
     values: Assign,
+    /// For each variable the place of its literal in `entries`; of one without a value anything.
     places: Vec<usize>,
+    /// So many entries, the oldest, were followed by the propagation of nogoods: at most all.
     seen: usize,
 }
 
