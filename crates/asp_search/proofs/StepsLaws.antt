@@ -395,6 +395,25 @@ improved gives m t u c known last q S f opt none found e =
     subst (λ (x : Mode). Answers gives (view_of x t c known last) (view_of x u c known last) q f f S) (sym opt)
     (improves gives t u c known last q S f none u.ranking (subst (λ (x : Mode). IsFound (view_of x t c known last) q S) opt found) e)
 
+-- ---- closed, where nogoods were dropped after that
+pub closes_thinned : (gives : Nogood → Type 0) (s t u : Searching) (q : List Literal) (f g : Units) (es : List Entry) → Closes gives s t q f g → u ≡ record t { slots = u.slots } → IsReduced es t.slots u.slots →
+    Closes gives s u q f g
+closes_thinned gives s t u q f g es d same r =
+    subst (λ (y : Searching). Closes gives s y q f g) (sym same)
+    (record {
+      same = record { program = d.same.program; mode = d.same.mode; cube = d.same.cube; known = d.same.known; bound = d.same.bound };
+      fuel = d.fuel;
+      closing = d.closing;
+      within = d.within;
+      why = d.why;
+      settled = d.settled;
+      decisions = d.decisions;
+      derived = λ id n k. d.derived id n (reduced_none es t.slots u.slots r id n k);
+      learnt = d.learnt;
+      restarts = d.restarts;
+      last = d.last;
+    })
+
 -- ---- memory is wanting, and nothing changed
 pub always_err : {X Y : Type 0} (r : Result X Y) (P : Type 0) → P → OnErr r P
 always_err (Ok x) P p = tt

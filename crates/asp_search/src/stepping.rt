@@ -128,6 +128,15 @@ impl<'a, P: Propagator> Search<'a, P> {
         Ok(Step::Learnt)
     }
 
+    // Drops nogoods where many are kept: paths that end before a restart is due would leave more and more.
+    fn make_room(&mut self)
+        requires last { self.old.last ≡ None }
+        ensures same { self.new ≡ record self.old { slots = self.new.slots } }
+        ensures reduced { IsReduced self.old.entries self.old.slots self.new.slots }
+    {
+        thin(&mut self.state, &mut self.pace);
+    }
+
     // Learns from a violated nogood.
     fn meet(&mut self, id: NogoodId, fuel: &mut Fuel) -> Result<Step, AllocError>
         requires entered { (q : List Literal) × IsEntered self.old q }
@@ -139,7 +148,10 @@ impl<'a, P: Propagator> Search<'a, P> {
         let _trail = self.state.trail();
         let _store = self.state.store();
         match learn(&mut self.learner, &self.state, id)? {
-            Learned::InCube(_) => Ok(Step::Closed),
+            Learned::InCube(_) => {
+                self.make_room();
+                Ok(Step::Closed)
+            }
             Learned::Jump { nogood, level, lit } => self.pay(id, nogood, level, lit, fuel),
         }
     }

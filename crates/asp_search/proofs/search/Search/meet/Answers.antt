@@ -11,7 +11,7 @@ use Rattle.asp_search_laws.specs.Steps.{Closes, IsFailure}
 use Rattle.asp_search.specs.Invariants.{view_of}
 use Rattle.asp_search.specs.Stepping.{IsEntered}
 use Rattle.asp_search.proofs.MeetLaws.{met_of}
-use Rattle.asp_search.proofs.StepsLaws.{same_cube, always_err, fails_still, met_closes}
+use Rattle.asp_search.proofs.StepsLaws.{same_cube, always_err, fails_still, met_closes, closes_thinned}
 use Rattle.asp_search.proofs.search.Search.meet.Goals as goal
 
 pub learn-requires-clause-vars : goal.learn-requires-clause-vars
@@ -28,6 +28,9 @@ pay-requires-clause-met g c =
     let l : Learned = learned.Jump c.in-Jump.nogood c.in-Jump.level c.in-Jump.lit in
     let x = subst (λ (y : Learned). Explains (var_count i.state.program) i.state.slots i.state.entries c.args.id y) c.in-Jump.is c.in_ok-learn.ensures.explains in
     (q, met_of i.mode i.state i.pace i.known.items i.last q c.args.id l e c.trail-trail.ensures.ordered c.trail-trail.ensures.begun c.store-store.ensures.reasons c.self.invariant.useful x)
+
+pub make_room-requires : goal.make_room-requires
+make_room-requires g c = record { last = (subst (λ (s : Searching). IsEntered s c.requires.entered.0) (sym c.self.view_is) c.requires.entered.1).last }
 
 pub returns-in_err-learn-clause-err : goal.returns-in_err-learn-clause-err
 returns-in_err-learn-clause-err g c =
@@ -49,9 +52,12 @@ returns-in-InCube-clause-ok g c = λ r h.
     let m = met_of i.mode i.state i.pace i.known.items i.last q c.args.id (learned.InCube n) e c.trail-trail.ensures.ordered c.trail-trail.ensures.begun c.store-store.ensures.reasons
     c.self.invariant.useful x in
     let new : Searching = view_of i.mode i.state i.pace i.known.items i.last in
-    let closes = met_closes (g.P.Propagator.gives i.state.program i.state.bound) i.mode i.state i.pace i.known.items i.last q f c.args.id n m in
-    subst (λ (y : List Literal). Closes (g.P.Propagator.gives s.program s.bound) s new y f f) (same_cube s.cube q r c.requires.entered.1.cube h)
-    (subst (λ (z : Searching). Closes (g.P.Propagator.gives z.program z.bound) z new q f f) c.self.view_is closes)
+    let G = g.P.Propagator.gives i.state.program i.state.bound in
+    let closes = met_closes G i.mode i.state i.pace i.known.items i.last q f c.args.id n m in
+    let end = c.make_room.new.self in
+    let thinned = closes_thinned G new new end q f f i.state.entries closes c.make_room.ensures.same c.make_room.ensures.reduced in
+    subst (λ (y : List Literal). Closes (g.P.Propagator.gives s.program s.bound) s end y f f) (same_cube s.cube q r c.requires.entered.1.cube h)
+    (subst (λ (z : Searching). Closes (g.P.Propagator.gives z.program z.bound) z end q f f) c.self.view_is thinned)
 
 pub returns-clause-err : goal.returns-clause-err
 returns-clause-err g c =
