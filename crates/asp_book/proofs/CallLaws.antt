@@ -27,7 +27,7 @@ pub lawful-rest : (b : Board) (xs ys : List Event) → IsLawful b (xs ++ ys) →
 lawful-rest b [] ys h = h
 lawful-rest b (e ∷ xs) ys h = lawful-rest (happens b e) xs ys h.1
 
-others-are : (n : ℕ) (events : List Event) → NoneBy signed n events → AllByRecursion (λ e. maker e ≡ n → ⊥) events
+pub others-are : (n : ℕ) (events : List Event) → NoneBy signed n events → AllByRecursion (λ e. maker e ≡ n → ⊥) events
 others-are n [] h = tt
 others-are n (e ∷ events) h = (λ same. absurd (false≢true (sym h.0 ∙ eq-eqb (maker e) n same)), others-are n events h.1)
 

@@ -31,10 +31,15 @@ use std::marker::Model;
 /// A board with the journal that led to it, and the fuel that isn't out.
 #[derive(Drop)]
 pub struct Book {
+    /// Where memory comes from.
     alloc: Global,
+    /// The board, whose state the journal leads to.
     state: State,
+    /// What happened, the oldest event first.
     journal: Vec<Event>,
+    /// The units that are not out on lease.
     fuel: Fuel,
+    /// So many places of the journal are promised to calls that must not want memory: one for each leaf that is held.
     places: usize,
 }
 

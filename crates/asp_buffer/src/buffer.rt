@@ -14,7 +14,9 @@ pub const ROOM: usize = 65536;
 /// The bytes that wait.
 #[derive(Drop)]
 pub struct Waiting {
+    /// The bytes that wait, and behind them anything.
     bytes: [u8; ROOM],
+    /// How many bytes wait.
     len: usize,
 }
 

@@ -1,5 +1,5 @@
 -- Loops as the code reads them.
-use Rattle.std.proofs.Common.{◌≡◌, ℕ, zero, suc, ◌+◌, ◌-◌, ◌<◌, ◌≤◌, Bool, true, false, not, cond, ◌&&◌, ◌||◌, List, [], ◌∷◌, ◌++◌, map, length, take, get_or, refl, sym, ap, ◌∙◌, arith, Some, None}
+use Rattle.std.proofs.Common.{◌≡◌, ℕ, zero, suc, ◌+◌, ◌<◌, ◌≤◌, Bool, true, false, not, cond, ◌&&◌, ◌||◌, List, [], ◌∷◌, ◌++◌, map, length, take, get_or, refl, sym, ap, ◌∙◌, arith, Some, None}
 use Rattle.std.specs.Prelude.{ℤ, pos, ◌+ℤ◌, int_lt, int_le, All}
 use Rattle.std.specs.List.{list_any, list_all, AllByRecursion}
 use Rattle.std.proofs.lemmas.Bool.{false≢true, and_parts, and_from}
@@ -8,7 +8,6 @@ use Rattle.std.proofs.lemmas.List.{take_all, take_more}
 use Rattle.std.proofs.lemmas.List.Elements.{All-from_recursion}
 use Rattle.asp_model.specs.declared.program.Body.{Body}
 use Rattle.asp_model.specs.declared.program.Body.TheVariants as body
-use Rattle.asp_model.specs.declared.program.Head.TheVariants as head
 use Rattle.asp_model.specs.declared.program.Rule.{Rule}
 use Rattle.asp_model.specs.declared.program.Program.{Program}
 use Rattle.asp_model.specs.Sets.{Atoms, has, set_of}
@@ -16,15 +15,12 @@ use Rattle.asp_model.specs.Holding.{atom_of, is_positive}
 use Rattle.asp_model.specs.Models.{atoms_of, rules_in_force, head_atoms}
 use Rattle.asp_model.proofs.MemberLaws.{each_passes}
 use Rattle.asp_vars.specs.Literals.{Literal, F, complement, has_literal}
-use Rattle.asp_vars.specs.Numbering.{normal, body_eq, bodies_of, place_of, nth_body, nth_rule, var_of_atom, var_of_body, var_of_form, literal_of}
+use Rattle.asp_vars.specs.Numbering.{normal, var_of_atom, var_of_form, literal_of}
 use Rattle.asp_vars.specs.Tabled.{bound_of, form_literals, form_weights, Stands}
 use Rattle.asp_vars.specs.Unfounded.{is_inside}
-use Rattle.asp_vars.proofs.PlaceLaws.{place_of-within}
-use Rattle.asp_vars.proofs.StandingLaws.{Among, rule_has_form, each_among}
-use Rattle.asp_vars.proofs.PlaceLaws.{at_each}
 use Rattle.asp_loop.specs.LoopNogoods.{weight_where, is_left}
 use Rattle.asp_loop.specs.Weighing.{AreVarsOf, is_within, is_kept, weigh}
-use Rattle.asp_loop.proofs.LoopLaws.{at_form, vars_are}
+use Rattle.asp_loop.proofs.LoopLaws.{vars_are}
 use Rattle.asp_checker.specs.Lines.{is_answered, IsLoop}
 use Rattle.asp_checker.specs.Loops.{is_answered_rule, has_head}
 

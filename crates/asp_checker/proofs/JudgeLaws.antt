@@ -1,11 +1,11 @@
 -- Answers and lines that are judged one after another.
-use Rattle.std.proofs.Common.{◌≡◌, ◌≢◌, ℕ, zero, suc, ◌+◌, ◌<◌, ◌≤◌, Bool, true, false, not, cond, ◌&&◌, ◌||◌, List, [], ◌∷◌, ◌++◌, map, length, take, get_or, refl, sym, ap, ◌∙◌, subst, arith, append_assoc, Option, Some, None, inl, inr, Result, Ok, Err}
-use Rattle.std.specs.Prelude.{All, AllPairs, Contains, ℤ, MatchOption, IfOk}
+use Rattle.std.proofs.Common.{◌≡◌, ◌≢◌, ℕ, ◌+◌, ◌<◌, ◌≤◌, Bool, true, false, cond, ◌||◌, List, [], ◌∷◌, ◌++◌, map, length, take, get_or, refl, sym, ap, ◌∙◌, subst, arith, append_assoc, Option, Some, None, inl, inr, Result, Ok, Err}
+use Rattle.std.specs.Prelude.{AllPairs, Contains, ℤ, MatchOption, IfOk}
 use Rattle.std.specs.List.{list_any, list_all, AllByRecursion}
 use Rattle.std.specs.declared.cmp.Ordering.{Ordering}
-use Rattle.std.specs.declared.cmp.Ordering.TheVariants.{Less, Equal, Greater}
+use Rattle.std.specs.declared.cmp.Ordering.TheVariants.{Less}
 use Rattle.std.proofs.lemmas.Bool.{false≢true, cases_order, cases_lt}
-use Rattle.std.proofs.lemmas.List.{take_all, take_more, length_push, get_or_default, length-take-le, map-append}
+use Rattle.std.proofs.lemmas.List.{take_all, take_more, length_push, get_or_default, map-append}
 use Rattle.std.proofs.lemmas.List.Folds.{list_any_more}
 use Rattle.std.proofs.lemmas.List.Elements.{recursion_from_All, All-from_recursion}
 use Rattle.std.proofs.lemmas.List.Quantifiers.{all_pairs_push}
@@ -14,11 +14,11 @@ use Rattle.asp_model.specs.Sets.{Atoms, has, IsBefore, IsAscending, set_cmp}
 use Rattle.asp_model.specs.Holding.{all_hold}
 use Rattle.asp_model.specs.Models.{atoms_of, answers, is_stable}
 use Rattle.asp_model.specs.Costs.{cost}
-use Rattle.asp_model.proofs.OrderLaws.{before_from_cmp, cmp_from_before}
+use Rattle.asp_model.proofs.OrderLaws.{cmp_from_before}
 use Rattle.asp_model.proofs.ModelLaws.{answers-are}
 use Rattle.asp_model.proofs.MemberLaws.{each-append, each-map, each_weaker, HasAll-itself}
 use Rattle.asp_vars.specs.Literals.{Literal, has_literal}
-use Rattle.asp_vars.specs.Numbering.{var_count, var_of_atom, literal_of}
+use Rattle.asp_vars.specs.Numbering.{var_of_atom, literal_of}
 use Rattle.asp_vars.specs.Completion.{completion}
 use Rattle.asp_vars.specs.declared.nogood.Nogood.{Nogood}
 use Rattle.asp_vars.proofs.PlaceLaws.{atom-within, at_each}

@@ -1,6 +1,6 @@
 -- What right proofs show.
 use Rattle.std.proofs.Common.{◌≡◌, ℕ, ◌≤◌, Bool, true, false, not, cond, ◌||◌, List, [], ◌∷◌, ◌++◌, map, length, eqb, refl, sym, ap, ◌∙◌, subst, arith, Some, None, inl, inr}
-use Rattle.std.specs.Prelude.{ℤ, AllPairs, Contains, MatchBool}
+use Rattle.std.specs.Prelude.{AllPairs, Contains, MatchBool}
 use Rattle.std.specs.List.{list_all, list_any, AllByRecursion}
 use Rattle.std.proofs.lemmas.Bool.{false≢true, and_parts, and_from, or_cases, or_from, or_left, eqb-true}
 use Rattle.asp_model.specs.declared.program.Program.{Program}
@@ -10,12 +10,12 @@ use Rattle.asp_model.specs.Costs.{cost, betters}
 use Rattle.asp_model.specs.Sound.{IsSound}
 use Rattle.std.proofs.lemmas.List.Elements.{All-contains, recursion_from_All, All-from_recursion, All-contains_itself}
 use Rattle.asp_model.specs.Sets.{IsSubset}
-use Rattle.asp_model.specs.Holding.{atom_of, all_hold}
+use Rattle.asp_model.specs.Holding.{all_hold}
 use Rattle.asp_model.proofs.SetLaws.{same_from_has}
 use Rattle.asp_model.proofs.ListedLaws.{same_from_members, contains_from_test, test_from_contains}
 use Rattle.asp_model.proofs.ModelLaws.{answers-are, answers-rise, stable-subset}
 use Rattle.asp_vars.proofs.AssumptionLaws.{assumptions-stand}
-use Rattle.asp_model.proofs.MemberLaws.{each-append, each_weaker, each-map, HasAll, HasAll-itself}
+use Rattle.asp_model.proofs.MemberLaws.{each-append, each_weaker, each-map, HasAll-itself}
 use Rattle.asp_vars.proofs.StandingLaws.{each_both}
 use Rattle.asp_vars.specs.Literals.{Literal, T, is_true, hits, has_literal}
 use Rattle.asp_vars.specs.Numbering.{literal_of, values, var_of_atom}

@@ -1,9 +1,8 @@
 -- What is said of texts, step by step.
-use Rattle.std.proofs.Common.{◌≡◌, ◌≢◌, ℕ, zero, suc, ◌+◌, ◌<◌, ◌≤◌, Bool, true, false, cond, ◌&&◌, ◌==◌, List, [], ◌∷◌, length, take, drop, get_or, refl, sym, ap, ◌∙◌, subst, arith, Option, Some, None, Result, Ok, Err, inl, inr}
+use Rattle.std.proofs.Common.{◌≡◌, ℕ, suc, ◌+◌, ◌<◌, ◌≤◌, Bool, true, false, cond, ◌&&◌, ◌==◌, List, [], ◌∷◌, length, take, drop, get_or, refl, sym, ap, ◌∙◌, subst, arith, Option, Some, None, Result, Ok, Err}
 use Rattle.std.specs.Prelude.{IfSome}
 use Rattle.std.specs.Io.KnownBytes.{Appends, Keeps}
-use Rattle.std.proofs.lemmas.Bool.{false≢true}
-use Rattle.std.proofs.lemmas.List.{at_drop_all, at_drop_more}
+use Rattle.std.proofs.lemmas.List.{at_drop_more}
 use Rattle.asp_model.specs.declared.program.Program.{Program}
 use Rattle.asp_read.specs.declared.fault.ReadError.{ReadError}
 use Rattle.asp_read.specs.declared.fault.ReadError.TheVariants as read
@@ -24,7 +23,7 @@ use Rattle.asp_checker.specs.declared.run.CheckStatus.{CheckStatus}
 use Rattle.asp_checker.specs.declared.run.CheckStatus.TheVariants as status
 use Rattle.asp_checker.specs.Right.{Shows}
 use Rattle.asp_checker.specs.Judging.{IsJudged}
-use Rattle.asp_checker.specs.Runs.{IsProofChecked, IsChecked, RefusesProof, ReadSays, ProofSays, CheckSays, program_error, proof_error, status_of, status_said, said, Writes, TextSays, RunSays, program_part, proof_part, is_proof_line, place_from, proof_place, read_status}
+use Rattle.asp_checker.specs.Runs.{IsChecked, ReadSays, ProofSays, CheckSays, program_error, proof_error, status_of, status_said, said, Writes, TextSays, RunSays, program_part, proof_part, is_proof_line, place_from, proof_place, read_status}
 use Rattle.asp_checker.proofs.RightLaws.{right-shows}
 
 -- ---- two texts

@@ -1,14 +1,14 @@
 -- A proof that is refused isn't right.
-use Rattle.std.proofs.Common.{◌≡◌, ℕ, zero, suc, ◌+◌, ◌<◌, ◌≤◌, Bool, true, false, ◌&&◌, List, [], ◌∷◌, length, take, get_or, refl, sym, ap, ◌∙◌, subst, arith}
-use Rattle.std.specs.Prelude.{AllPairs, Contains, IsTrue, ◌⊎◌}
-use Rattle.std.specs.List.{list_all, list_any, AllByRecursion}
+use Rattle.std.proofs.Common.{◌≡◌, ℕ, zero, suc, ◌<◌, ◌≤◌, Bool, true, false, ◌&&◌, List, [], ◌∷◌, length, take, get_or, refl, sym, ap, ◌∙◌, subst, arith}
+use Rattle.std.specs.Prelude.{AllPairs, Contains, IsTrue}
+use Rattle.std.specs.List.{list_all, AllByRecursion}
 use Rattle.std.proofs.Common.{inl, inr}
 use Rattle.std.proofs.lemmas.Bool.{false≢true}
 use Rattle.std.proofs.lemmas.List.{get_or-take, get_or_default, length-take-le}
 use Rattle.std.proofs.lemmas.List.Elements.{recursion_from_All, All-from_recursion}
 use Rattle.asp_model.specs.declared.program.Program.{Program}
 use Rattle.asp_model.specs.Sets.{Atoms, has, IsBefore}
-use Rattle.asp_model.specs.Models.{atoms_of, answers, is_stable}
+use Rattle.asp_model.specs.Models.{atoms_of, answers}
 use Rattle.asp_model.proofs.MemberLaws.{each_weaker, HasAll-itself}
 use Rattle.asp_model.proofs.ModelLaws.{answers-are, stable-subset}
 use Rattle.asp_proof.specs.declared.proof.Line.{Line}
@@ -18,7 +18,7 @@ use Rattle.asp_checker.specs.declared.judge.Why.{Why}
 use Rattle.asp_checker.specs.declared.judge.Why.TheVariants as why
 use Rattle.asp_checker.specs.Propagation.{Known}
 use Rattle.asp_checker.specs.Lines.{AreOf, IsConfirmed, AreConfirmed, nogood_of, with_nogood, known_at_first}
-use Rattle.asp_checker.specs.Right.{closes, IsRight}
+use Rattle.asp_checker.specs.Right.{IsRight}
 use Rattle.asp_checker.specs.Judging.{IsInOrder, HasAnswerFault, IsWrongAnswer, HasLiterals, HasLineFault, IsWrongLine, IsNotWhole, IsRefused, known_after, no_line}
 
 -- ---- answers

@@ -3,14 +3,14 @@ use Rattle.std.specs.Prelude.{◌≡◌, ℕ, ◌+◌, ◌*◌, ◌<◌, ◌≤�
 use Rattle.std.specs.List.{list_any}
 use Rattle.asp_model.specs.declared.program.Program.{Program}
 use Rattle.asp_model.specs.Costs.{priorities}
-use Rattle.asp_vars.specs.Literals.{Literal, value_of, holds_in}
+use Rattle.asp_vars.specs.Literals.{Literal, value_of}
 use Rattle.asp_vars.specs.Numbering.{bodies_of, var_count}
 use Rattle.asp_bound.specs.Optimism.{items_at, least, sum_to}
 use Rattle.asp_bound.specs.Weights.{AreWeights}
 use Rattle.asp_checker.specs.declared.bounds.Bound.{Bound}
 use Rattle.asp_checker.specs.declared.nogoods.Visit.{Visit}
 use Rattle.asp_checker.specs.declared.nogoods.Visit.TheVariants as visit
-use Rattle.asp_checker.specs.Propagation.{Known, may_hold, is_broken, reaches_bound, IsPropagated, LeadsToConflict}
+use Rattle.asp_checker.specs.Propagation.{Known, is_broken, reaches_bound, IsPropagated, LeadsToConflict}
 use Rattle.asp_checker.specs.Steps.{AreWithin, Follow}
 use Rattle.asp_checker.specs.Sweeps.{open_count}
 

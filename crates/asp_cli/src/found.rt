@@ -11,10 +11,15 @@ use asp_model::results::Mode;
 /// The options that were given, each with its value.
 #[derive(Clone, Copy)]
 pub struct Found {
+    /// How many workers are to search.
     pub workers: Option<u32>,
+    /// The mode that was asked for; within, none for the mode that the program decides.
     pub mode: Option<Option<Mode>>,
+    /// How many conflicts may be met.
     pub budget: Option<u64>,
+    /// The number of the example program that is to be written.
     pub make: Option<u32>,
+    /// Whether a line of counts was asked for.
     pub stats: bool,
 }
 

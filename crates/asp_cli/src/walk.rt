@@ -22,7 +22,9 @@ pub enum Awaits {
 /// What the words up to here said.
 #[derive(Clone, Copy)]
 pub struct State {
+    /// The options up to here.
     pub found: Found,
+    /// What the next word has to be.
     pub awaits: Awaits,
 }
 

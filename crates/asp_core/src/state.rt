@@ -35,20 +35,35 @@ use std::marker::Model;
 /// The program itself isn't kept, but for the statements by which sets are priced.
 #[derive(Drop)]
 pub struct State {
+    /// Where memory comes from.
     alloc: Global,
+    /// Whose answers are sought, as a fact without bytes.
     program: Origin<Program>,
+    /// What is sought: all answers, or one that costs least.
     goal: Goal,
+    /// The units that the search may burn.
     budget: u64,
+    /// After so many different answers the search ends; 0 for no limit.
     limit: u64,
+    /// Literals that each answer sought has to satisfy.
     query: Seq<i32>,
+    /// The program's statements of costs, with no rules.
     prices: Program,
+    /// The paths into which the search was split.
     tree: Tree,
+    /// The answers delivered, the oldest first.
     answers: Vec<Interp>,
+    /// The different ones among them, where there is a limit; else empty.
     different: BTreeSet<Interp>,
+    /// The cheapest answer that was told so far, with its cost.
     best: Option<(Interp, Cost)>,
+    /// The units that are not out on lease.
     pool: u64,
+    /// For each number that took units, how many it has.
     out: Vec<(u32, u64)>,
+    /// How many units were burnt.
     burnt: u64,
+    /// Why each closed leaf has no more answers, the first closed first.
     reasons: Vec<Reason>,
 }
 

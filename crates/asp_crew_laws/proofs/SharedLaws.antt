@@ -23,7 +23,7 @@ use Rattle.asp_crew_laws.proofs.GoneLaws.{cut-later}
 use Rattle.asp_crew_laws.proofs.QuietLaws.{all-join, quiet-both, quiet-closed}
 
 -- ---- nobody holds a leaf
-held-none : (nodes : List Node) → ((n : ℕ) → held_by n nodes ≡ 0) → held_count nodes ≡ 0
+pub held-none : (nodes : List Node) → ((n : ℕ) → held_by n nodes ≡ 0) → held_count nodes ≡ 0
 held-none [] none = refl
 held-none (x ∷ nodes) none = here x.status refl (held-none nodes (λ n. omega (arith, none n, at n)))
   where
@@ -77,7 +77,7 @@ none-more b [] h lawful = tt
 none-more b (e ∷ events) h lawful = (shared-closed b e h lawful.0, none-more (happens b e) events (ap all_closed (still-closed b e h lawful.0) ∙ h) lawful.1)
 
 -- ---- all numbers together
-below-or : (n k : ℕ) → (n ≡ 0) ⊎ (((0 < n) × (n ≤ k)) ⊎ (k < n))
+pub below-or : (n k : ℕ) → (n ≡ 0) ⊎ (((0 < n) × (n ≤ k)) ⊎ (k < n))
 below-or zero k = inl refl
 below-or (suc n) k = here (cases_lt k (suc n))
   where

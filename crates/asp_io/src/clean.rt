@@ -10,6 +10,7 @@ use std::marker::Model;
 /// A source over bytes in memory.
 #[derive(Drop)]
 pub struct CleanSource<'a> {
+    /// The bytes that are still to be read.
     rest: &'a [u8],
 }
 
@@ -47,7 +48,9 @@ impl Source for CleanSource<'_> {
 /// A source of one byte again and again, without the memory for them.
 #[derive(Drop)]
 pub struct RepeatSource {
+    /// What each byte is.
     byte: u8,
+    /// How many are still to be read.
     count: u64,
 }
 
@@ -84,6 +87,7 @@ impl Source for RepeatSource {
 /// A sink that takes everything and keeps only how much that was.
 #[derive(Drop)]
 pub struct CleanSink {
+    /// How many bytes were written.
     count: u64,
 }
 

@@ -13,11 +13,17 @@ use std::marker::Model;
 /// `failing`, counted from 1, fail.
 #[derive(Drop)]
 pub struct MemSource {
+    /// The whole text.
     bytes: Vec<u8>,
+    /// How many of its bytes were read.
     at: usize,
+    /// The most bytes that one read gives, at least 1.
     piece: usize,
+    /// The numbers of the calls that fail, counted from 1.
     failing: Vec<u64>,
+    /// How many calls there were.
     calls: u64,
+    /// How many of them failed.
     faults: u64,
 }
 
@@ -93,11 +99,17 @@ impl Source for MemSource {
 /// counted from 1, fail, and those that want memory which isn't there. Its flushes fail or succeed, all alike.
 #[derive(Drop)]
 pub struct MemSink {
+    /// What was written.
     bytes: Vec<u8>,
+    /// The most bytes that one write takes.
     piece: usize,
+    /// The numbers of the calls of `write` that fail, counted from 1.
     failing: Vec<u64>,
+    /// How many calls of `write` there were.
     calls: u64,
+    /// How many calls failed, flushes among them.
     faults: u64,
+    /// Whether each flush fails.
     fails_flush: bool,
 }
 

@@ -8,7 +8,9 @@ use std::marker::Model;
 /// A reader, as standard input. Its bytes and its answers are the system's, and trusted.
 #[derive(Drop)]
 pub struct StdSource<R: Read + Drop> {
+    /// The system's reader.
     reader: R,
+    /// How many reads failed.
     faults: u64,
 }
 
@@ -48,7 +50,9 @@ impl<R: Read + Drop> Source for StdSource<R> {
 /// A writer, as standard output. What becomes of the bytes is the system's, and trusted.
 #[derive(Drop)]
 pub struct StdSink<W: Write + Drop> {
+    /// The system's writer.
     writer: W,
+    /// How many writes and flushes failed.
     faults: u64,
 }
 

@@ -29,10 +29,15 @@ pub enum AppendError {
 /// Nogoods that hold for every search of one program, in the order in which they were added.
 #[derive(Drop)]
 pub struct Log {
+    /// Where memory comes from.
     alloc: Global,
+    /// Whose nogoods these are, as a fact without bytes.
     program: Origin<Program>,
+    /// The most entries.
     limit: u32,
+    /// The entries in full blocks, the oldest first; views share them.
     blocks: Vec<Arc<Block, Global>>,
+    /// The entries behind the last full block, fewer than a block has.
     tail: Vec<Nogood>,
 }
 

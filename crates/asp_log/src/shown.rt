@@ -13,8 +13,11 @@ use std::sync::Arc;
 /// Entries of a log from a position on, which contracts see as their list. No later append changes them.
 #[derive(Drop)]
 pub struct View {
+    /// The log's full blocks from the one on that holds the position.
     blocks: Vec<Arc<Block, Global>>,
+    /// Copies of the entries behind them.
     tail: Vec<Nogood>,
+    /// So many entries of the first block stand before the position.
     skipped: usize,
 }
 

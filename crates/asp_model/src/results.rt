@@ -26,8 +26,12 @@ pub enum End {
 /// is one, and no list.
 #[derive(Drop)]
 pub struct Results {
+    /// Whether all answers were sought, or one that costs least.
     pub mode: Mode,
+    /// Whether the search ended.
     pub end: End,
+    /// In an enumeration the answers, strictly ascending; else none.
     pub answers: Seq<Interp>,
+    /// In an optimisation the cheapest answer found, with its cost; else none.
     pub best: Option<(Interp, Cost)>,
 }

@@ -24,10 +24,15 @@ pub const NODES: usize = 4_194_304;
 /// A tree of paths, which contracts see as the list of its nodes. What hits its root hits exactly one leaf's cube.
 #[derive(Drop)]
 pub struct Tree {
+    /// The root's cube.
     root: Vec<Lit>,
+    /// The k-th fork made nodes 2k + 1 and 2k + 2.
     forks: Vec<Fork>,
+    /// For each node whether it is open, held, closed or forked.
     statuses: Vec<Status>,
+    /// The open leaves, ascending.
     waiting: Vec<u32>,
+    /// How many leaves are held.
     held: usize,
 }
 

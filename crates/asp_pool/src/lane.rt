@@ -18,7 +18,9 @@ pub(crate) type Thief = Stealer<Leaf, Global, Share, Once>;
 /// The end of a lane at which its owner offers leaves, and takes them back.
 #[derive(Drop)]
 pub struct Lane {
+    /// The owner's end of the deque.
     pub(crate) worker: Worker<Leaf, Global, Share, Once>,
+    /// How many offers there were so far: at most 4096.
     pub(crate) offered: u32,
     ghost fifo: { worker_flavor worker ≡ 0 },
     ghost roomy: { 4096 ≤ worker_capacity worker },

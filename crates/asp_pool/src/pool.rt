@@ -11,6 +11,7 @@ use std::alloc::{AllocError, Global};
 /// What every worker shares: a way to each lane.
 #[derive(Drop)]
 pub struct Pool {
+    /// The other end of each lane, at the place of its owner's number.
     pub(crate) thieves: Vec<Thief>,
     ghost fifo: { Every (λ thief. stealer_flavor thief ≡ 0) thieves.items },
     ghost few: { length thieves.items < 2 ^ 32 },
@@ -19,6 +20,7 @@ pub struct Pool {
 /// What one worker knows of each lane.
 #[derive(Drop)]
 pub struct Pass {
+    /// What is known of each lane, in the order of the lanes.
     pub(crate) seats: Vec<Seat>,
 }
 

@@ -10,7 +10,9 @@ use std::alloc::{AllocError, AllocFailed};
 /// What is wrong with a line, and how many of its bytes stand from the field on that couldn't be read.
 #[derive(Clone, Copy, Debug, PartialEq, Eq)]
 pub struct FaultAt {
+    /// What is wrong.
     pub kind: FaultKind,
+    /// How many of the line's bytes stand from the faulty field on.
     pub left: usize,
 }
 

@@ -49,6 +49,7 @@ pub enum FaultKind {
 /// A fault, and where on its line it is.
 #[derive(Clone, Copy, Debug, PartialEq, Eq)]
 pub struct Fault {
+    /// What is wrong.
     pub kind: FaultKind,
     /// The number of the first field that couldn't be read, from 1: one more than the line has fields where it ends too early, and 1
     /// where the text does. Blanks part fields, also within the text of an output.

@@ -25,8 +25,11 @@ const FIRST_UNMARKED: u32 = 255 * RECENT_PLACES;
 /// comparison.
 #[derive(Drop)]
 pub struct KnownAtoms {
+    /// The set.
     atoms: HashSet<Atom>,
+    /// At each place the mark of the atom that was last asked for there, or 0.
     recent: Vec<u8>,
+    /// How many atoms the set has.
     count: u32,
 }
 

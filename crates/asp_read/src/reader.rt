@@ -32,15 +32,25 @@ pub enum Stage {
 
 #[derive(Drop)]
 pub struct Reader {
+    /// Where memory comes from.
     alloc: Global,
+    /// Whether the header is awaited, statements, or nothing more.
     stage: Stage,
+    /// The rules read so far.
     rules: Vec<Rule>,
+    /// The minimize statements read so far.
     minimize: Vec<Minimize>,
+    /// The output statements read so far.
     outputs: Vec<Output>,
+    /// The external statements read so far.
     externals: Vec<External>,
+    /// The literals assumed so far.
     assumptions: Vec<i32>,
+    /// The size of the statements read so far, which a program may not have beyond a limit.
     used: u32,
+    /// The different priorities of the minimize statements, in the order in which they came.
     priorities: Vec<i32>,
+    /// The atoms met so far, which a program may not have beyond a limit.
     known: KnownAtoms,
 }
 

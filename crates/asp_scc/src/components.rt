@@ -8,8 +8,11 @@ use std::marker::Model;
 /// The components of a program's atoms, numbered from 0 on. Atoms are named by their variables.
 #[derive(Drop)]
 pub struct Components {
+    /// For each variable of an atom the number of its component.
     pub(crate) numbers: Vec<u32>,
+    /// For each component its atoms.
     pub(crate) members: Table<Var>,
+    /// For each component whether it has one atom alone, with no edge to itself.
     pub(crate) trivial: Vec<bool>,
 }
 

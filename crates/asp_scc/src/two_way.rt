@@ -15,7 +15,9 @@ use std::marker::Model;
 /// which its edges go.
 #[derive(Drop)]
 pub struct TwoWay {
+    /// The edges.
     forward: Table<u32>,
+    /// The same edges, turned round.
     backward: Table<u32>,
 }
 

@@ -1,26 +1,22 @@
 -- What the pointers are after a literal came to hold, or was taken back.
-use Rattle.std.proofs.Common.{◌≡◌, ◌≢◌, ℕ, ◌+◌, ◌-◌, ◌<◌, ◌≤◌, Bool, true, false, not, cond, ◌&&◌, eqb, leb, List, [], ◌∷◌, map, length, set, get_or, Option, Some, None, refl, sym, ap, ◌∙◌, subst, arith, ◌⊎◌, inl, inr, get_or-set_same}
+use Rattle.std.proofs.Common.{◌≡◌, ◌≢◌, ℕ, ◌+◌, ◌-◌, ◌<◌, ◌≤◌, Bool, true, false, not, cond, eqb, leb, List, [], ◌∷◌, map, length, set, get_or, Option, Some, None, refl, sym, ap, ◌∙◌, subst, arith, ◌⊎◌, inl, inr, get_or-set_same}
 use Rattle.std.specs.Prelude.{ℤ, is_some}
-use Rattle.std.specs.List.{All, list_any, AllByRecursion}
-use Rattle.std.proofs.lemmas.Bool.{false≢true, and_parts, eqb-true, eq-eqb}
+use Rattle.std.specs.List.{All, AllByRecursion}
+use Rattle.std.proofs.lemmas.Bool.{false≢true, eqb-true, eq-eqb}
 use Rattle.std.proofs.lemmas.Bool.Decides.{nat_tests}
 use Rattle.asp_model.specs.declared.program.Body.{Body}
 use Rattle.asp_model.specs.declared.program.Body.TheVariants as body
-use Rattle.asp_model.specs.declared.program.Rule.{Rule}
 use Rattle.asp_model.specs.declared.program.Program.{Program}
 use Rattle.asp_model.specs.Sets.{has}
 use Rattle.asp_model.specs.Holding.{atom_of}
-use Rattle.asp_model.specs.Models.{rules_in_force, atoms_of, head_atoms}
+use Rattle.asp_model.specs.Models.{atoms_of}
 use Rattle.asp_model.specs.Sound.{IsSound}
 use Rattle.asp_vars.specs.Literals.{Literal, F, complement, has_literal, value_of, agrees, holds_in}
-use Rattle.asp_vars.specs.Numbering.{normal, body_eq, bodies_of, place_of, var_of_atom, var_of_form, literal_of, nth_body}
+use Rattle.asp_vars.specs.Numbering.{body_eq, bodies_of, place_of, var_of_atom, var_of_form, literal_of, nth_body}
 use Rattle.asp_vars.specs.Completion.{supports}
 use Rattle.asp_vars.specs.Tabled.{bound_of, form_literals, heads_of, occurrences_of, IsAtomVar, Stands as BodyStands}
 use Rattle.asp_vars.specs.Unfounded.{is_false}
 use Rattle.asp_vars.proofs.LiteralLaws.{beq_same}
-use Rattle.asp_vars.proofs.NumberingLaws.{same_body}
-use Rattle.asp_vars.proofs.StandingLaws.{Among, each_among}
-use Rattle.asp_vars.proofs.SupportLaws.{some, in_forms}
 use Rattle.asp_scc.specs.Components.{Parts}
 use Rattle.asp_scc.proofs.ReachLaws.{atom_small}
 use Rattle.asp_loop.specs.Parts.{form_of}
@@ -29,9 +25,8 @@ use Rattle.asp_loop.proofs.WeightedLaws.{by_recursion, form_items}
 use Rattle.asp_source.specs.Marks.{is_marked}
 use Rattle.asp_source.specs.Ranks.{source_of}
 use Rattle.asp_source.specs.Pointers.{ArePointers, AreSupports, Loses, IsGone, AreGone, IsGoneBy, seek, regain}
-use Rattle.asp_source.proofs.LooseLaws.{form_of-var}
 use Rattle.asp_source.proofs.LookLaws.{at_member}
-use Rattle.asp_source.proofs.ChangeLaws.{newly, head_listed, excused_back, each_listed, twice, kept_on, set_marked, told_other, unset_less}
+use Rattle.asp_source.proofs.ChangeLaws.{newly, excused_back, each_listed, twice, kept_on, set_marked, told_other, unset_less}
 use Rattle.asp_source.proofs.GatherLaws.{each_occurrence}
 use Rattle.asp_source.proofs.LoseLaws.{less_of}
 use Rattle.asp_source.proofs.PointerLaws.{IsSource, source_is, ranked_less, ranked_values, supports_less, support_at, source_weighted, false_from}

@@ -2,16 +2,14 @@
 use Rattle.std.specs.Prelude.{◌≡◌, ◌≢◌, ℕ, ◌+◌, ◌-◌, ◌<◌, ◌≤◌, ◌==◌, ◌⊎◌, Bool, true, false, not, List, Option, is_some, if◌then◌else◌, slice_index, slice_index_or, slice_set, nat_le, length, IsTrue}
 use Rattle.std.specs.List.{All}
 use Rattle.asp_model.specs.declared.program.Program.{Program}
-use Rattle.asp_model.specs.Sets.{Atoms, has}
+use Rattle.asp_model.specs.Sets.{has}
 use Rattle.asp_model.specs.Models.{atoms_of}
 use Rattle.asp_vars.specs.Literals.{Literal, F, holds_in}
-use Rattle.asp_vars.specs.Numbering.{nth_atom, nth_body, var_of_atom}
+use Rattle.asp_vars.specs.Numbering.{nth_atom, nth_body}
 use Rattle.asp_vars.specs.Completion.{supports}
 use Rattle.asp_vars.specs.Tabled.{bound_of, heads_of, IsAtomVar}
-use Rattle.asp_vars.specs.Unfounded.{is_excused}
 use Rattle.asp_table.specs.declared.columns.Occurrence.{Occurrence}
-use Rattle.asp_scc.specs.Components.{Parts, component_of, Stands}
-use Rattle.asp_loop.specs.Parts.{form_of}
+use Rattle.asp_scc.specs.Components.{Parts}
 use Rattle.asp_source.specs.Marks.{is_marked}
 use Rattle.asp_source.specs.Ranks.{AreRanked}
 

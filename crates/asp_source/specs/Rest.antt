@@ -7,7 +7,6 @@ use Rattle.asp_vars.specs.declared.nogood.Base.TheVariants as base
 use Rattle.asp_vars.specs.declared.nogood.Nogood.{Nogood}
 use Rattle.asp_vars.specs.Literals.{Literal, T, F, holds_in}
 use Rattle.asp_vars.specs.Numbering.{var_of_atom}
-use Rattle.asp_loop.specs.LoopNogoods.{AreSupports, AreParts}
 use Rattle.asp_loop.specs.LoopNogoods.{IsLoopNogood}
 use Rattle.asp_source.specs.Loops.{IsUnfoundedLoop}
 

@@ -8,6 +8,7 @@ use std::marker::Model;
 /// A list that contracts see by its items alone.
 #[derive(Drop)]
 struct Row<T> {
+    /// The items, in their order.
     items: Vec<T>,
 }
 
@@ -33,6 +34,7 @@ impl<T> Row<T> {
 /// Lists, to each of which items can be added. Contracts see the list of the lists.
 #[derive(Drop)]
 pub struct Buckets<T> {
+    /// The lists.
     rows: Vec<Row<T>>,
 }
 

@@ -7,7 +7,9 @@ use std::marker::Model;
 /// Rows of items, one after another. Contracts see the list of the rows.
 #[derive(Drop)]
 pub struct Table<T> {
+    /// For each row where it starts in `items`, and one more for where the last one ends.
     starts: Vec<usize>,
+    /// The items of all rows, one row after another.
     items: Vec<T>,
 }
 

@@ -15,16 +15,22 @@ use std::marker::Model;
 pub struct Line<'a> {
     /// Counted from 1.
     pub number: u32,
+    /// What stands on it.
     pub bytes: &'a [u8],
 }
 
 /// The lines of a text that comes in pieces. It holds the bytes that no line was made of yet.
 #[derive(Drop)]
 pub struct Lines {
+    /// Bytes that came and may not be used up.
     held: Vec<u8>,
+    /// So many bytes of `held` are used up.
     start: usize,
+    /// So many bytes behind those are known to have no line feed.
     clear: usize,
+    /// How many lines were given.
     given: u32,
+    /// How many bytes came.
     fed: u32,
 }
 

@@ -57,6 +57,7 @@ pub fn split_field(line: &[u8]) -> (&[u8], &[u8])
 /// The fields of a line, from the left.
 #[derive(Clone, Copy, Debug)]
 pub struct LineFields<'a> {
+    /// The bytes of which no field was made yet.
     rest: &'a [u8],
 }
 

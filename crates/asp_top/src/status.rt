@@ -57,6 +57,8 @@ impl Status {
 /// the results could not be written.
 #[derive(Drop)]
 pub struct Outcome {
+    /// The run's status, which gives the exit code.
     pub status: Status,
+    /// What the search found and what it took, where it ended.
     pub report: Option<Report>,
 }

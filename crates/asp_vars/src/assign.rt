@@ -9,6 +9,7 @@ use std::marker::Model;
 /// The values of the variables, of which some may have none.
 #[derive(Drop)]
 pub struct Assign {
+    /// The value at the place of each variable; place 0 stands for none.
     values: Vec<Option<bool>>,
 }
 

@@ -11,7 +11,9 @@ use std::marker::Model;
 /// Different bodies in normal form, in the order in which they came. Contracts see their list.
 #[derive(Drop)]
 pub struct Bodies {
+    /// The bodies, in the order in which they came.
     forms: Vec<Form>,
+    /// Where the body with this key stands.
     places: HashMap<Vec<i64>, u32>,
 }
 

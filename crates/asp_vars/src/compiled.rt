@@ -22,15 +22,25 @@ use std::marker::Model;
 /// order of their first occurrence. Bodies and rules are counted from 0.
 #[derive(Drop)]
 pub struct Compiled {
+    /// The program as it was read.
     pub(crate) program: Program,
+    /// The rules that externals stand for, which are in force behind those of the program.
     pub(crate) opened: Vec<Rule>,
+    /// The program's atoms.
     pub(crate) atoms: Interp,
+    /// The variable of each rule's body.
     pub(crate) rule_bodies: Vec<Var>,
+    /// For each body the bound of its sum; none where all literals have to hold.
     pub(crate) bounds: Vec<Option<i32>>,
+    /// Each body's literals.
     pub(crate) literals: Table<Lit>,
+    /// Each weight body's weights, in the order of its literals.
     pub(crate) weights: Table<i64>,
+    /// For each body the atoms that stand in heads of its rules.
     pub(crate) heads: Table<Var>,
+    /// For each variable of an atom the bodies whose rules have it in their heads.
     pub(crate) supports: Table<Var>,
+    /// For each literal, by its code, the bodies that it stands in, and where.
     pub(crate) occurrences: Table<Occurrence>,
 }
 

@@ -15,11 +15,17 @@ use std::marker::Model;
 /// A conflict that a search met. It is spent where a unit is burnt, and can't be copied.
 #[derive(Drop)]
 pub struct Conflict {
+    /// The program that was searched, as a fact without bytes.
     program: Origin<Program>,
+    /// The literals of the path.
     cube: Vec<Lit>,
+    /// The decisions under the path, the oldest first.
     decisions: Vec<Lit>,
+    /// The literals of the nogood that was violated, all true.
     nogood: Vec<Lit>,
+    /// How many answers were known.
     known: u64,
+    /// The cost below which answers were sought.
     bound: Option<Cost>,
 }
 
@@ -71,10 +77,15 @@ fn least(first: Option<Cost>, second: Option<Cost>) -> Option<Cost>
 /// Units of a program's search. For each that was burnt a conflict was spent; that these differ isn't said.
 #[derive(Drop)]
 pub struct Fuel {
+    /// The program that is searched, as a fact without bytes.
     program: Origin<Program>,
+    /// How many conflicts may still be met.
     left: u64,
+    /// How many were met.
     burnt: u64,
+    /// The most answers that were known at a conflict.
     known: u64,
+    /// The least bound that stood at a conflict.
     least: Option<Cost>,
 }
 

@@ -13,6 +13,7 @@ pub type Var = u32;
 /// A variable's number doubled, and one more for "false".
 #[derive(Clone, Copy, Default)]
 pub struct Lit {
+    /// Twice the variable's number, and one more where the literal says that it is false.
     code: u32,
 }
 

@@ -11,6 +11,7 @@ use std::marker::Model;
 /// A list of literals, of which up to six need no memory of their own.
 #[derive(Drop)]
 pub struct Lits {
+    /// The literals, in their order.
     items: SmallVec<Lit, 6>,
 }
 
@@ -97,7 +98,9 @@ impl Base {
 /// A set of literals that must not all be true, with what that rests on.
 #[derive(Drop)]
 pub struct Nogood {
+    /// Literals that no answer has all of.
     pub lits: Lits,
+    /// Which answers that holds for.
     pub base: Base,
 }
 

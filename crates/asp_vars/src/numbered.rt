@@ -23,10 +23,15 @@ const LIMIT: usize = 0x8000_0000;
 /// A program, its atoms, its distinct bodies, and the place of each rule's body. Contracts see it as the program.
 #[derive(Drop)]
 pub struct Numbered {
+    /// The program as it was read.
     pub(crate) program: Program,
+    /// The rules that externals stand for, which are in force behind those of the program.
     pub(crate) opened: Vec<Rule>,
+    /// The program's atoms.
     pub(crate) atoms: Interp,
+    /// The distinct bodies of the rules in force.
     pub(crate) bodies: Bodies,
+    /// For each rule in force the place of its body among them.
     pub(crate) places: Vec<u32>,
 }
 

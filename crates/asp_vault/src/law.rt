@@ -7,6 +7,7 @@ use std::snapshot::Snapshot;
 
 /// The rule: word 0 counts the entries and marks the value as taken, slot 0 holds the value.
 pub struct Law<T: Kept> {
+    /// Nothing, for the type alone.
     marker: PhantomData<T>,
 }
 
@@ -20,6 +21,7 @@ impl<T: Kept> TableRule<Option<T>, View<T::About, T::Entry>, Snapshot<T>> for La
 
 /// Marks the value as taken, or finds it so.
 pub struct Taking<T: Kept> {
+    /// Nothing, for the type alone.
     marker: PhantomData<T>,
 }
 
@@ -31,6 +33,7 @@ impl<T: Kept> Play<Option<T>, View<T::About, T::Entry>> for Taking<T> {
 
 /// Writes the new length, and the value is home.
 pub struct Giving<T: Kept> {
+    /// Nothing, for the type alone.
     marker: PhantomData<T>,
 }
 
@@ -64,6 +67,7 @@ impl<A, E> Join<View<A, E>> for Joining {
 
 /// Compares the lists that two seats have seen, after a split or a join.
 pub struct Comparing<T: Kept> {
+    /// Nothing, for the type alone.
     marker: PhantomData<T>,
 }
 
@@ -75,6 +79,7 @@ impl<T: Kept> Play<Option<T>, View<T::About, T::Entry>> for Comparing<T> {
 
 /// Reads how long the list is.
 pub struct Looking<T: Kept> {
+    /// Nothing, for the type alone.
     marker: PhantomData<T>,
 }
 

@@ -19,6 +19,7 @@ use std::thread;
 /// A vault can be dropped; `close` alone gives the value back.
 #[derive(Drop)]
 pub struct Vault<T: Kept> {
+    /// A word that counts the entries and marks the value as taken, and a slot for the value.
     table: Table<Option<T>, View<T::About, T::Entry>, Snapshot<T>, Law<T>, Global>,
     ghost sized: { (table.shared.table_id.words ≡ 1) × (table.shared.table_id.slots ≡ 1) },
 }
@@ -27,8 +28,11 @@ pub struct Vault<T: Kept> {
 ///
 /// A seat that is dropped stays unjoined for ever, and then the vault can't be closed.
 pub struct Seat<T: Kept> {
+    /// What the seat knows of the vault.
     token: atomic_table::Seat<Option<T>, View<T::About, T::Entry>>,
+    /// The seat's number; the first seat has 0.
     number: u32,
+    /// How many seats were split from the first one.
     splits: u32,
     pub ghost live: { token.me.0.live ≡ true },
     pub ghost carries: { token.me.1 ≡ carried token.me.0.holds } by { Coded-set (coded_list (coded× coded_ℕ (coded_option T.code))) token.me.1 (carried token.me.0.holds) },

@@ -1,4 +1,4 @@
-use Rattle.std.proofs.Common.{subst, ap, arith}
+use Rattle.std.proofs.Common.{subst}
 use Rattle.asp_checker.specs.Judging.{AreRightAnswers}
 use Rattle.asp_checker.proofs.JudgeLaws.{judged_answer}
 use Rattle.asp_checker.proofs.judge.judge.Goals as goal

@@ -1,4 +1,4 @@
-use Rattle.std.proofs.Common.{sym, subst, ap, ◌∙◌, arith}
+use Rattle.std.proofs.Common.{sym, subst, arith}
 use Rattle.asp_checker.specs.Blocks.{known_by}
 use Rattle.asp_checker.specs.Judging.{AreRightAnswers}
 use Rattle.asp_checker.proofs.JudgeLaws.{known_from, judged_line, judged_not_whole, judged_right}

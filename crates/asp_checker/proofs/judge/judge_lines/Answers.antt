@@ -3,7 +3,6 @@ use Rattle.std.specs.List.{AllByRecursion}
 use Rattle.asp_model.proofs.MemberLaws.{each-append}
 use Rattle.asp_vars.specs.Literals.{Literal}
 use Rattle.asp_checker.specs.declared.judge.Step.TheVariants as step
-use Rattle.asp_checker.specs.declared.judge.Why.TheVariants as why
 use Rattle.asp_checker.specs.Lines.{AreOf}
 use Rattle.asp_checker.specs.Blocks.{known_by}
 use Rattle.asp_checker.specs.Judging.{IsLineJudged}

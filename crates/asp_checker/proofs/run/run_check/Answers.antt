@@ -1,6 +1,4 @@
-use Rattle.std.proofs.Common.{sym, ap, ◌∙◌, subst, ◌≤◌, length, Err, Result}
-use Rattle.asp_proof.specs.Grammar.{most_bytes}
-use Rattle.asp_checker.specs.Runs.{TextSays}
+use Rattle.std.proofs.Common.{sym, ap, ◌∙◌, Err}
 use Rattle.asp_checker.proofs.RunLaws.{run_says, read_failed, read_rose, read_writes}
 use Rattle.asp_checker.proofs.run.run_check.Goals as goal
 

@@ -1,5 +1,4 @@
-use Rattle.std.proofs.Common.{sym, ◌∙◌, subst}
-use Rattle.asp_checker.specs.Runs.{Writes}
+use Rattle.std.proofs.Common.{sym, ◌∙◌}
 use Rattle.asp_checker.proofs.RunLaws.{written, half_written, said_writes}
 use Rattle.asp_checker.proofs.run.write_text.Goals as goal
 

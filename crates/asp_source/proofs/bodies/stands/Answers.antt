@@ -1,4 +1,4 @@
-use Rattle.std.proofs.Common.{List, length, not, sym, ap, ◌∙◌}
+use Rattle.std.proofs.Common.{List, not, sym, ap, ◌∙◌}
 use Rattle.std.specs.List.{list_any}
 use Rattle.asp_model.specs.declared.program.Program.{Program}
 use Rattle.asp_vars.specs.Literals.{Literal}

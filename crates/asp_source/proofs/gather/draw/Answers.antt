@@ -1,5 +1,4 @@
 use Rattle.std.proofs.Common.{sym, ◌∙◌}
-use Rattle.asp_source.proofs.GatherLaws.{gathers_same}
 use Rattle.asp_source.proofs.gather.draw.Goals as goal
 
 pub admit-requires-clause-at : goal.admit-requires-clause-at

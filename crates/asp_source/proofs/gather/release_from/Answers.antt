@@ -1,4 +1,4 @@
-use Rattle.std.proofs.Common.{ap, ◌∙◌, length, refl, arith}
+use Rattle.std.proofs.Common.{ap, ◌∙◌, length, arith}
 use Rattle.asp_table.specs.declared.columns.Occurrence.{Occurrence}
 use Rattle.asp_vars.specs.Literals.{T}
 use Rattle.asp_vars.specs.Tabled.{occurrences_of}
