@@ -1,14 +1,18 @@
 #!/usr/bin/env python3
-"""Holds the search to what no contract says: that it restarts, raises activities and minimises what it learns.
+"""Holds the search to what no contract says: that it restarts, raises activities, minimises what it learns, and drops nogoods.
 
     search.py PROGRAM [--measure]
 
 Each program is made here: a cheapest choice with recursion through counts, and random 3-SAT without an answer. Within the units
 of its row the built program must come to its end. The first takes more without any one of the three, the second more without
 activities or minimising (random 3-SAT gains nothing by restarts): each row says what each took when it was written, beside what
-the whole search took. --measure prints what PROGRAM takes: after a change of the search the rows are to be written anew."""
+the whole search took. --measure prints what PROGRAM takes: after a change of the search the rows are to be written anew.
+
+Two more must end within an address space: a search wants more that drops nothing it learns (pigeons), or drops what weight
+bodies give only at the restarts of the schedule, which get rarer (knapsack)."""
 import random
 import re
+import resource
 import subprocess
 import sys
 
@@ -36,18 +40,46 @@ def random_sat(atoms, ratio, seed):
     return ("\n".join([*lines, "0"]) + "\n").encode()
 
 
+def pigeons(count):
+    """So many pigeons, and one hole fewer."""
+    holes = count - 1
+    places = [[1 + it * holes + hole for hole in range(holes)] for it in range(count)]
+    lines = ["asp 1 0 0", f"1 1 {count * holes} {' '.join(map(str, range(1, count * holes + 1)))} 0 0"]
+    lines += [f"1 0 0 0 {holes} {' '.join(f'-{place}' for place in row)}" for row in places]
+    lines += [f"1 0 0 0 2 {one} {two}" for at, row in enumerate(places) for other in places[:at] for one, two in zip(other, row)]
+    return ("\n".join([*lines, "0"]) + "\n").encode()
+
+
+def knapsack(items, limits, seed):
+    """The dearest of so many items that stay within half of each of so many sizes."""
+    choose = random.Random(seed)
+    lines = ["asp 1 0 0", f"1 1 {items} {' '.join(map(str, range(1, items + 1)))} 0 0"]
+    for _ in range(limits):
+        sizes = [choose.randint(10, 60) for _ in range(items)]
+        lines.append(f"1 0 0 1 {sum(sizes) // 2 + 1} {items} {' '.join(f'{it} {size}' for it, size in enumerate(sizes, 1))}")
+    lines.append(f"2 0 {items} {' '.join(f'{it} {-choose.randint(10, 60)}' for it in range(1, items + 1))}")
+    return ("\n".join([*lines, "0"]) + "\n").encode()
+
+
 # a program, what its last lines must be, and units; conflicts when it was written: the whole search, without restarts, without
 # activities, without minimising
 ROWS = [
-    # 1,182; 2,360; 1,854; 3,329
+    # 959; 2,360; 1,854; 3,329
     ("trust of 24", cheapest_trust(24, 6, 4, 3), 30, b"Optimization: 4\nOPTIMUM FOUND\nModels: 1\n", 1500),
-    # 3,575; 3,818; 7,243; 5,141
+    # 3,368; 3,818; 7,243; 5,141
     ("3-SAT of 200", random_sat(200, 4.8, 2), 20, b"UNSATISFIABLE\nModels: 0\n", 4500),
 ]
 
+# a program, what its status and last lines must be
+SMALL = [
+    ("pigeons of 9", pigeons(9), 20, b"UNSATISFIABLE\nModels: 0\n"),
+    ("knapsack of 22", knapsack(22, 3, 1), 30, b"OPTIMUM FOUND\nModels: 1\n"),
+]
+ROOM = 6500 * 1024  # bytes of address space
 
-def run(program, words, text):
-    ran = subprocess.run([program, "--stats", *words], input=text, capture_output=True, timeout=120)
+
+def run(program, words, text, prepare=None):
+    ran = subprocess.run([program, "--stats", *words], input=text, capture_output=True, timeout=120, preexec_fn=prepare)
     conflicts = re.search(r"Conflicts: (\d+)", ran.stderr.decode())
     return ran.returncode, ran.stdout, int(conflicts[1]) if conflicts else None
 
@@ -65,6 +97,13 @@ def main():
         else:
             failed += 1
             print(f"failed: {name}: status {status} after {conflicts} conflicts")
+    for name, text, wanted, ending in SMALL:
+        status, written, conflicts = run(program, [], text, lambda: resource.setrlimit(resource.RLIMIT_AS, (ROOM, ROOM)))
+        if status == wanted and written.endswith(ending):
+            passed += 1
+        else:
+            failed += 1
+            print(f"failed: {name}: status {status} with {ROOM} bytes")
     print(f"search: {passed} programs solved, {failed} failed")
     sys.exit(1 if failed else 0)
 

@@ -66,7 +66,7 @@ fn solved(
     };
     assert!(rt; program.is_sound());
     let compiled = compile(heap, program)?;
-    solve_alone(heap, &compiled, mode, budget)
+    solve_alone(heap, &compiled, mode, budget, false)
 }
 
 fn run(

@@ -128,7 +128,7 @@ fn searched(alloc: Global, program: Program, mode: Mode) -> Result<Report, Alloc
     requires { IsSound program }
 {
     let compiled = compile(alloc, program)?;
-    solve_alone(alloc, &compiled, mode, BUDGET)
+    solve_alone(alloc, &compiled, mode, BUDGET, false)
 }
 
 // Whether both engines list the same answers.

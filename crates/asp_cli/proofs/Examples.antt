@@ -7,7 +7,7 @@ use Rattle.asp_cli.specs.Given.{bad_value, help, misuse, missing, no_words, not_
 
 -- what is asked for where no option is given
 abbrev standard : Options
-standard = record { workers = 1; mode = None; budget = 9223372036854775807; make = None; stats = false }
+standard = record { workers = 1; mode = None; budget = 9223372036854775807; make = None; stats = false; proof = false }
 
 empty_line : words_give [] ≡ misuse no_words
 empty_line = refl
@@ -72,6 +72,9 @@ one_dash = refl
 stats : words_give (codes "aspenum" ∷ codes "--stats" ∷ []) ≡ options (record standard { stats = true })
 stats = refl
 
+proof : words_give (codes "aspenum" ∷ codes "--proof" ∷ []) ≡ options (record standard { proof = true })
+proof = refl
+
 stats_of_one : words_give (codes "aspenum" ∷ codes "--stats=1" ∷ []) ≡ misuse (bad_value Stats (codes "1"))
 stats_of_one = refl
 
@@ -105,5 +108,5 @@ workers_two = refl
 first_from_the_left : words_give (codes "aspenum" ∷ codes "--stats" ∷ codes "--budget=x" ∷ codes "--verson" ∷ []) ≡ misuse (bad_value Budget (codes "x"))
 first_from_the_left = refl
 
-all_options : words_give (codes "aspenum" ∷ codes "--make=2000" ∷ codes "--stats" ∷ codes "--mode=enum" ∷ codes "--budget=7" ∷ codes "--workers=1" ∷ []) ≡ options (record { workers = 1; mode = Some Enum; budget = 7; make = Some 2000; stats = true })
+all_options : words_give (codes "aspenum" ∷ codes "--make=2000" ∷ codes "--stats" ∷ codes "--mode=enum" ∷ codes "--budget=7" ∷ codes "--workers=1" ∷ []) ≡ options (record { workers = 1; mode = Some Enum; budget = 7; make = Some 2000; stats = true; proof = false })
 all_options = refl

@@ -39,7 +39,7 @@ use Rattle.asp_crew.specs.declared.leaf.Course.TheVariants.{Open, Closed, Unpaid
 use Rattle.asp_crew.specs.Running.{unfound, work, work_left, IsRunIn, IsReady, IsEntered, IsUnderway, OnlyRecords, IsRecorded, IsSettled, Goes, Ends}
 use Rattle.asp_crew.proofs.BookLaws.{board-task, query-none}
 use Rattle.asp_crew.proofs.BoundLaws.{fewer-push, fewer-lower}
-use Rattle.asp_crew.proofs.WorkLaws.{work-paid, work-found, work-restarted, work-decided, some_learnt}
+use Rattle.asp_crew.proofs.WorkLaws.{work-paid, work-found, work-restarted, work-decided}
 
 -- ---- the task is the same
 pub program-is : (mode : Mode) (v : Booked) (s : Searching) (f : Units) → IsReady mode v s f → s.program ≡ (board v).task.program
@@ -113,7 +113,7 @@ module _ (gives : Nogood → Type 0) (silent : List (Option Bool) → Type 0) (m
         cube = d.same.cube;
         course = less-same s t f (work_left s f) d.same
             (subst (λ k. work f.left (length (models s.program)) (unfound s.program s.known s.bound) k (var_count s.program + 1) (length t.entries) < work_left s f) (sym d.learnt)
-            (work-restarted f.left (length (models s.program)) (unfound s.program s.known s.bound) s.learnt (var_count s.program + 1) (length s.entries) (length t.entries) (some_learnt s.restarts s.learnt d.due)));
+            (work-restarted f.left (length (models s.program)) (unfound s.program s.known s.bound) s.learnt (var_count s.program + 1) (length s.entries) (length t.entries) (omega (arith, d.due))));
       })
 
   pub learnt : r ≡ step.Learnt → Goes mode v v s t f g Open

@@ -1,11 +1,6 @@
 -- What is left to do falls with each step.
-use Rattle.std.proofs.Common.{ℕ, zero, suc, ◌+◌, ◌-◌, ◌*◌, ◌^◌, ◌<◌, ◌≤◌, [], ◌∷◌, ◌++◌, All, inl, inr, arith}
-use Rattle.std.proofs.Math.Nat.{pow-suc, mul-le-mul_left}
-use Rattle.std.proofs.lemmas.Bool.{cases_lt}
-use Rattle.std.proofs.lemmas.List.Elements.{All-nil, All-cons, All-append}
-use Rattle.asp_order.specs.Luby.{terms, term}
-use Rattle.asp_order.proofs.LubyLaws.{length-terms}
-use Rattle.asp_search_laws.specs.Steps.{IsDue}
+use Rattle.std.proofs.Common.{ℕ, ◌+◌, ◌-◌, ◌*◌, ◌^◌, ◌<◌, ◌≤◌, arith}
+use Rattle.std.proofs.Math.Nat.{mul-le-mul_left}
 use Rattle.asp_crew.specs.Running.{work}
 
 -- The number whose first digit is smaller is smaller.
@@ -33,21 +28,3 @@ work-decided l m u r v e e' longer within = more (((l * (m + 1) + u) * 2 ^ 64 + 
   where
     more : (x : ℕ) → x + (v - e') < x + (v - e)
     more x = omega arith
-
--- ---- a restart is due after a nogood at least
-less_pow : (i : ℕ) → i < 2 ^ i
-less_pow zero = omega arith
-less_pow (suc i) = omega (arith, less_pow i, pow-suc 2 i)
-
-positive : (k : ℕ) → All (λ x. 0 < x) (terms k)
-unfolding terms
-positive zero = All-nil (λ x. 0 < x)
-positive (suc k) =
-    let P : ℕ → Type 0 = λ x. 0 < x in
-    All-append P (terms k ++ terms k) (2 ^ k ∷ []) (All-append P (terms k) (terms k) (positive k) (positive k)) (All-cons P (2 ^ k) [] (omega (arith, less_pow k)) (All-nil P))
-
-term_positive : (i : ℕ) → 0 < term i
-term_positive i = positive (suc i) i 0 (omega (arith, length-terms (suc i), less_pow i, pow-suc 2 i))
-
-pub some_learnt : (restarts learnt : ℕ) → IsDue restarts learnt → 0 < learnt
-some_learnt restarts learnt due = elim (cases_lt restarts (2 ^ 32 - 1)) [ inl few ↦ omega (arith, due.early few, term_positive restarts) | inr many ↦ omega (arith, due.late many) ]

@@ -9,6 +9,7 @@ use crate::leaf::work_off;
 use asp_book::book::Book;
 use asp_model::results::Mode;
 use asp_propagate::propagator::Propagator;
+use asp_recorder::recorder::Recorder;
 use asp_search::search::Search;
 use asp_vars::compiled::Compiled;
 use asp_vars::fuel::{Conflict, Fuel};
@@ -20,6 +21,7 @@ fn work_off_all<P: Propagator>(
     mode: Mode,
     search: &mut Search<'_, P>,
     fuel: &mut Fuel,
+    recorder: Option<&Recorder>,
 ) -> Result<Option<Conflict>, AllocError>
     requires ready { IsReady mode book.old search.old fuel.old }
     requires alone { IsAlone (board book.old) }
@@ -28,7 +30,7 @@ fn work_off_all<P: Propagator>(
     'leaves: loop {
         match book.take(0)? {
             None => return Ok(None),
-            Some(leaf) => match work_off(book, mode, search, fuel, leaf)? {
+            Some(leaf) => match work_off(book, mode, search, fuel, recorder, leaf)? {
                 None => {}
                 Some(conflict) => return Ok(Some(conflict)),
             },
@@ -37,6 +39,7 @@ fn work_off_all<P: Propagator>(
 }
 
 /// Number 0 works off every open leaf, with all units of the pool. The conflict for which none was left, where one was met.
+/// The recorder gets what the search keeps and the cubes of the leaves that are closed.
 ///
 /// No leaf is held before, and no units are out. It returns: each leaf is worked off, and none becomes open. Want of memory
 /// is the one error.
@@ -46,6 +49,7 @@ pub fn finish<P: Propagator>(
     mode: Mode,
     book: &mut Book,
     propagator: P,
+    recorder: Option<&Recorder>,
 ) -> Result<Option<Conflict>, AllocError>
     requires task { IsRunIn mode book.old.task }
     requires of { book.old.task.program ≡ compiled.now }
@@ -59,7 +63,7 @@ pub fn finish<P: Propagator>(
     let _lawful = book.journal();
     let mut search = Search::new(alloc, compiled, mode, propagator)?;
     let mut fuel = book.lease(0, u64::MAX)?;
-    let unpaid = work_off_all(book, mode, &mut search, &mut fuel)?;
+    let unpaid = work_off_all(book, mode, &mut search, &mut fuel, recorder)?;
     book.back(0, fuel);
     Ok(unpaid)
 }

@@ -77,23 +77,56 @@ fn count(pace: &mut Pace, times: u32) {
     }
 }
 
+// A restart is due above this count of nogoods.
+fn is_due_above(rt: &impl Abort, pace: &mut Pace, times: u32) {
+    count(pace, times);
+    assert!(rt; !pace.is_due(0));
+    count(pace, 1);
+    assert!(rt; pace.is_due(0));
+}
+
 // What restarts and reductions wait for.
 #[test]
-fn restarts_are_due_after_64_nogoods(rt: HostRuntime) {
-    let mut pace = Pace::new();
-    count(&mut pace, 63);
-    assert!(rt; !pace.is_due());
-    count(&mut pace, 1);
-    assert!(rt; pace.is_due());
+fn each_restart_waits_for_half_more(rt: HostRuntime) {
+    let mut pace = Pace::new(10);
+    is_due_above(&rt, &mut pace, 99);
     pace.begin();
-    assert!(rt; !pace.is_due());
+    is_due_above(&rt, &mut pace, 99);
     pace.restarted();
-    assert!(rt; !pace.is_due());
+    is_due_above(&rt, &mut pace, 149);
+    pace.restarted();
+    is_due_above(&rt, &mut pace, 224);
+}
+
+// After so many learnt nogoods a restart is due where so many are kept, and not where one fewer is.
+fn is_due_from(rt: &impl Abort, pace: &Pace, extra: usize) {
+    assert!(rt; !pace.is_due(extra.saturating_sub(1)) && pace.is_due(extra));
+}
+
+#[test]
+fn a_restart_comes_early_where_many_were_added(rt: HostRuntime) {
+    let mut pace = Pace::new(10);
+    count(&mut pace, 63);
+    assert!(rt; !pace.is_due(11));
+    count(&mut pace, 1);
+    is_due_from(&rt, &pace, 11);
+    pace.dropped(20);
+    is_due_from(&rt, &pace, 51);
+}
+
+#[test]
+fn a_restart_comes_early_where_too_many_are_kept(rt: HostRuntime) {
+    let mut pace = Pace::new(10);
+    pace.dropped(3930);
+    is_due_above(&rt, &mut pace, 69);
+    pace.restarted();
+    pace.dropped(3901);
+    is_due_above(&rt, &mut pace, 98);
 }
 
 #[test]
 fn each_reduction_takes_more(rt: HostRuntime) {
-    let mut pace = Pace::new();
+    let mut pace = Pace::new(10);
     assert!(rt; !pace.is_full(2000) && pace.is_full(2001));
     pace.reduced();
     assert!(rt; !pace.is_full(2500) && pace.is_full(2501));

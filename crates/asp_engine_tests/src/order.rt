@@ -2,7 +2,6 @@
 ghost use Rattle.std.specs.Prelude.{◌≡◌, ◌<◌, ◌+◌, length};
 
 use asp_order::heap::Heap;
-use asp_order::luby::Luby;
 use asp_order::reduce::Reduce;
 use asp_vars::lit::Var;
 use std::alloc::Global;
@@ -50,14 +49,6 @@ fn what_is_bumped_comes_first(rt: HostRuntime) {
     pops(&rt, &mut heap, Some(1));
     pops(&rt, &mut heap, Some(3));
     pops(&rt, &mut heap, None);
-}
-
-#[test]
-fn restarts_are_by_the_row_of_luby(rt: HostRuntime) {
-    let mut luby = Luby::new();
-    for want in [1, 1, 2, 1, 1, 2, 4, 1, 1, 2, 1, 1, 2, 4, 8, 1] {
-        assert!(rt; luby.next() == want);
-    }
 }
 
 // A reduction is due above this count.

@@ -1,5 +1,4 @@
 pub mod SiftLaws
-pub mod LubyLaws
 pub mod PlacedLaws
 pub mod RankedLaws
 pub mod WaitingLaws

@@ -1,15 +1,16 @@
 -- How a search is paced.
-use Rattle.std.specs.Prelude.{◌≡◌, ℕ, ◌+◌, ◌-◌, ◌^◌, ◌<◌, ◌≤◌, min}
-use Rattle.asp_order.specs.Luby.{term}
+use Rattle.std.specs.Prelude.{ℕ, ◌≤◌}
 
--- How often the search restarted, how many nogoods it learnt since, and how often it dropped some.
+-- How often the search restarted, how many nogoods it learnt since, how often it reduced them, and how many that may be dropped are
+-- never many, and not yet many.
 pub record Paced : Type 0 where
   pub restarts : ℕ
   pub learnt : ℕ
   pub reductions : ℕ
+  pub few : ℕ
+  pub crowd : ℕ
 
--- what every pace keeps: so many terms Luby's sequence gave, of which the last one is in force; once it gave all, that is 1
-pub record IsPaced (restarts terms units : ℕ) : Type 0 where
-  pub given : terms ≡ min (restarts + 1) (2 ^ 32 - 1)
-  pub early : restarts < 2 ^ 32 - 1 → units ≡ term restarts
-  pub late : 2 ^ 32 - 1 ≤ restarts → units ≡ 1
+-- what every pace keeps: between 64 and 1,000,000 nogoods are waited for
+pub record IsPaced (wait : ℕ) : Type 0 where
+  pub least : 64 ≤ wait
+  pub most : wait ≤ 1000000

@@ -32,11 +32,18 @@ impl Reduce {
         Reduce { count: 0 }
     }
 
+    /// How many nogoods that may be dropped are kept after the reductions so far. Stands still at the greatest `usize`.
+    pub fn limit(&self) -> usize
+        ensures { result ≡ min (FIRST + STEP * self.now) (2 ^ 64 - 1) }
+    {
+        self.count.saturating_mul(STEP).saturating_add(FIRST)
+    }
+
     /// Whether so many nogoods that may be dropped are more than are kept after the reductions so far.
     pub fn due(&self, extra: usize) -> bool
         ensures { IsTrue result ↔ (FIRST + STEP * self.now < extra) }
     {
-        extra > FIRST && (extra - FIRST - 1) / STEP >= self.count
+        extra > self.limit()
     }
 
     /// One more reduction. The count stands still at the greatest `usize`.

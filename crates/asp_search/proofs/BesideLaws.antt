@@ -70,8 +70,8 @@ search_begins p m t vars checker sound count same alone e =
     no_index : (i : ℕ) → i < 0 → ⊥
     no_index i h = omega arith
 
-pub search_is_new : (p : Program) (m : Mode) (t : SearchView) (c : Paced) → t ≡ first_state p t.slots →
-    c ≡ record { restarts = 0; learnt = 0; reductions = 0 } → view_of m t c [] None ≡ new_search p m t.slots
+pub search_is_new : {few : ℕ} (p : Program) (m : Mode) (t : SearchView) (c : Paced) → t ≡ first_state p t.slots →
+    c ≡ record { restarts = 0; learnt = 0; reductions = 0; few = few; crowd = few } → view_of m t c [] None ≡ new_search p m t.slots
 search_is_new p m t c e f = ap (λ (x : SearchView). view_of m x c [] None) e ∙ ap (λ (x : Paced). view_of m (first_state p t.slots) x [] None) f
 
 -- the same, of a bound that isn't there

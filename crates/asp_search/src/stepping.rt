@@ -40,12 +40,26 @@ use std::alloc::AllocError;
 
 // Whether a restart is due, and would take something back.
 fn is_due<P: Propagator>(pace: &Pace, state: &SearchState<P>) -> bool
-    ensures { IsTrue result → IsDue pace.now.restarts pace.now.learnt }
+    ensures { IsTrue result → IsDue pace.now.learnt }
 {
     if state.trail().level() == 0 {
         return false;
     }
-    pace.is_due()
+    pace.is_due(state.store().extra())
+}
+
+// Drops the less used nogoods, where too many are kept.
+fn reduce<P: Propagator>(state: &mut SearchState<P>, pace: &mut Pace)
+    ensures same { state.new ≡ record state.old { slots = state.new.slots } }
+    ensures reduced { IsReduced state.old.entries state.old.slots state.new.slots }
+    ensures restarts { pace.new.restarts ≡ pace.old.restarts }
+    ensures learnt { pace.new.learnt ≡ pace.old.learnt }
+{
+    if !pace.is_full(state.store().extra()) {
+        return;
+    }
+    state.reduce();
+    pace.reduced();
 }
 
 // Drops what propagators gave, and more where too many nogoods are kept.
@@ -56,11 +70,21 @@ fn forget<P: Propagator>(state: &mut SearchState<P>, pace: &mut Pace)
     ensures learnt { pace.new.learnt ≡ pace.old.learnt }
 {
     state.drop_given();
-    if !pace.is_full(state.store().extra()) {
+    reduce(state, pace);
+    pace.dropped(state.store().extra());
+}
+
+// The same, where many nogoods are kept.
+fn thin<P: Propagator>(state: &mut SearchState<P>, pace: &mut Pace)
+    ensures same { state.new ≡ record state.old { slots = state.new.slots } }
+    ensures reduced { IsReduced state.old.entries state.old.slots state.new.slots }
+    ensures restarts { pace.new.restarts ≡ pace.old.restarts }
+    ensures learnt { pace.new.learnt ≡ pace.old.learnt }
+{
+    if !pace.is_crowded(state.store().extra()) {
         return;
     }
-    state.reduce();
-    pace.reduced();
+    forget(state, pace);
 }
 
 impl<'a, P: Propagator> Search<'a, P> {
@@ -129,8 +153,10 @@ impl<'a, P: Propagator> Search<'a, P> {
     {
         let copy = interp.copy()?;
         self.known.reserve(1)?;
-        block(self.alloc, &mut self.state, &mut self.blocking)?;
+        let id = block(self.alloc, &mut self.state, &mut self.blocking)?;
+        thin(&mut self.state, &mut self.pace);
         self.known.push_reserved(copy);
+        self.last = Some(id);
         Ok(())
     }
 

@@ -95,6 +95,9 @@ reduced_none es old new r id n q = cases (r.each id)
     cases (inl e) = ap (λ (o : Option StoredNogood). option_map (λ (k : StoredNogood). k.nogood) o) (sym e) ∙ q
     cases (inr e) = absurd (no_some n (ap (λ (o : Option StoredNogood). option_map (λ (k : StoredNogood). k.nogood) o) (sym e) ∙ q))
 
+pub reduced_same : (es : List Entry) (xs : List (Option StoredNogood)) → IsReduced es xs xs
+reduced_same es xs = record { count = refl; each = λ id. inl refl; forever = λ id k q f. q; named = λ i d id h q. refl }
+
 pub reduced_twice : (es : List Entry) (a b c : List (Option StoredNogood)) → IsReduced es a b → IsReduced es b c → IsReduced es a c
 reduced_twice es a b c x y = record {
   count = y.count ∙ x.count;

@@ -1,5 +1,5 @@
 -- What a step of the search promises, by its answer.
-use Rattle.std.specs.Prelude.{◌≡◌, ℕ, ◌+◌, ◌-◌, ◌*◌, ◌^◌, ◌<◌, ◌≤◌, ◌⊎◌, Bool, true, false, List, ◌∷◌, ◌++◌, length, take, min, max, Option, Some, None, ℤ, IsTrue, []}
+use Rattle.std.specs.Prelude.{◌≡◌, ℕ, ◌+◌, ◌-◌, ◌^◌, ◌<◌, ◌≤◌, ◌⊎◌, Bool, true, false, List, ◌∷◌, ◌++◌, length, take, min, max, Option, Some, None, ℤ, IsTrue, []}
 use Rattle.std.specs.List.{list_any, All}
 use Rattle.asp_model.specs.declared.results.Mode.{Mode}
 use Rattle.asp_model.specs.declared.results.Mode.TheVariants as mode
@@ -18,7 +18,6 @@ use Rattle.asp_vars.specs.declared.nogood.Nogood.{Nogood}
 use Rattle.asp_trail.specs.declared.trail.Entry.{Entry}
 use Rattle.asp_trail.specs.Entries.{assignment, level}
 use Rattle.asp_store.specs.Keeping.{nogood_at}
-use Rattle.asp_order.specs.Luby.{term}
 use Rattle.asp_order.specs.Waiting.{IsNext}
 use Rattle.asp_propagate.specs.Propagating.{IsFixpoint}
 use Rattle.asp_propagate.specs.Useful.{IsSmaller}
@@ -142,10 +141,16 @@ pub record Closes (gives : Nogood → Type 0) (s t : Searching) (q : List Litera
 abbrev pub blocking_nogood : List Literal → List Literal → Nogood
 blocking_nogood q decisions = record { lits = q ++ decisions; base = base.Local }
 
+-- The nogood is the last that was kept.
+pub record IsLastKept (t : Searching) (n : Nogood) : Type 0 where
+  pub id : ℕ
+  pub last : t.last ≡ Some id
+  pub kept : nogood_at t.slots id ≡ Some n
+
 -- In an enumeration the answer is known from now on, and its blocking nogood is kept. In an optimisation its cost is the bound.
 abbrev pub Records : Mode → Searching → Searching → List Literal → Atoms → Type 0
-Records mode.Enum s t q S = (t.known ≡ s.known ++ S ∷ []) × (t.bound ≡ s.bound) × ((id : ℕ) × (nogood_at t.slots id ≡ Some (blocking_nogood q s.decisions)))
-Records mode.Opt s t q S = (t.known ≡ s.known) × (t.bound ≡ Some (cost s.program S))
+Records mode.Enum s t q S = (t.known ≡ s.known ++ S ∷ []) × (t.bound ≡ s.bound) × IsLastKept t (blocking_nogood q s.decisions)
+Records mode.Opt s t q S = (t.known ≡ s.known) × (t.bound ≡ Some (cost s.program S)) × (t.last ≡ None)
 
 -- A nogood that is kept is derived, or in an enumeration the answer's blocking one.
 abbrev pub IsDerivedOrBlocking : Mode → (Nogood → Type 0) → Searching → List Literal → Nogood → Type 0
@@ -166,19 +171,16 @@ pub record Answers (gives : Nogood → Type 0) (s t : Searching) (q : List Liter
   pub derived : (id : ℕ) (n : Nogood) → nogood_at t.slots id ≡ Some n → IsDerivedOrBlocking s.mode gives s q n
   pub learnt : t.learnt ≡ s.learnt
   pub restarts : t.restarts ≡ s.restarts
-  pub last : t.last ≡ None
 
 -- ---- Restarted
--- As many nogoods were learnt as make a restart due: 64 for each of the term of Luby's sequence at the count of restarts, and 64 where
--- there were 4,294,967,295 of them.
-pub record IsDue (restarts learnt : ℕ) : Type 0 where
-  pub early : restarts < 2 ^ 32 - 1 → 64 * term restarts ≤ learnt
-  pub late : 2 ^ 32 - 1 ≤ restarts → 64 ≤ learnt
+-- So many nogoods were learnt since the last restart that there may be another.
+abbrev pub IsDue : ℕ → Type 0
+IsDue learnt = 64 ≤ learnt
 
 pub record Restarts (gives : Nogood → Type 0) (s t : Searching) (f g : Units) : Type 0 where
   pub same : HasSameTask s t
   pub fuel : g ≡ f
-  pub due : IsDue s.restarts s.learnt
+  pub due : IsDue s.learnt
   pub level : level t.entries ≡ 0
   pub decisions : t.decisions ≡ []
   pub derived : Derives gives s t

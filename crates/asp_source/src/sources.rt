@@ -15,7 +15,7 @@ ghost use Rattle.asp_vars.specs.Numbering.{var_count};
 ghost use Rattle.asp_trail.specs.Entries.{assignment};
 ghost use Rattle.asp_trail.specs.Trails.{IsVar};
 ghost use Rattle.asp_trail.specs.Told.{told, untold};
-ghost use Rattle.asp_source.specs.Loops.{IsUnfoundedLoop, IsGiven};
+ghost use Rattle.asp_source.specs.Loops.{AreJoined, IsUnfoundedLoop, IsGiven};
 
 use crate::pointers::{lose_by, regain};
 use crate::queue::Queue;
@@ -143,6 +143,13 @@ impl<'a> Sources<'a> {
             &mut self.queue,
             lit,
         );
+    }
+
+    /// The set of whose atoms `next` gave a loop nogood last, in any order.
+    pub fn last_set(&self) -> &[Atom]
+        ensures { AreJoined self.now.program result.now }
+    {
+        self.atoms.as_slice()
     }
 
     // The loop nogood of what is left of the set that was found last, if it is unfounded still.

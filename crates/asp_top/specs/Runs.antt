@@ -10,6 +10,8 @@ use Rattle.asp_model.specs.declared.results.End.{End}
 use Rattle.asp_model.specs.declared.results.End.TheVariants.{Finished, Unfinished}
 use Rattle.asp_model.specs.declared.results.Results.{Results}
 use Rattle.asp_model.specs.Texts.{results_text}
+use Rattle.asp_proof.specs.declared.proof.Proof.{Proof}
+use Rattle.asp_proof.specs.Texts.{text_of}
 use Rattle.asp_read.specs.Outcome.{outcome, most_bytes}
 use Rattle.asp_read.specs.Stream.{StopsAt}
 use Rattle.asp_make.specs.Ring.{ring}
@@ -18,6 +20,7 @@ use Rattle.asp_cli.specs.declared.Options.{Options}
 use Rattle.asp_cli.specs.Texts.{help_page, version_line}
 use Rattle.asp_crew_laws.specs.declared.report.Report.{Report}
 use Rattle.asp_crew_laws.specs.Reports.{IsReport}
+use Rattle.asp_crew_laws.specs.Proofs.{HasProof}
 use Rattle.asp_top.specs.declared.status.Status.{Status}
 use Rattle.asp_top.specs.declared.status.Status.TheVariants.{All, NoModel, Partial, Unknown, Help, Memory, Usage, Refused, ReadFault, TooLong, WriteFault}
 use Rattle.asp_top.specs.declared.status.Outcome.{Outcome}
@@ -64,29 +67,38 @@ abbrev pub IsGiven : Option ℕ → Around → Program → Type 0
 IsGiven None a p = IsRead a p
 IsGiven (Some n) a p = (p ≡ ring n) × IsUnasked a
 
--- the report is that of a run on the program, in the mode and with the units that were given
+-- the text of a report: that of its proof, if it has one, and else that of its results
+abbrev pub text_by : Option Proof → Program → Results → Bool → List ℕ
+text_by (Some proof) p r brief = text_of proof
+text_by None p r brief = results_text p r brief
+
+abbrev pub report_text : Program → Report → Bool → List ℕ
+report_text p r brief = text_by r.proof p r.results brief
+
+-- the report is that of a run on the program, in the mode and with the units that were given, and has a proof if that was asked for
 pub record IsSolved (given : Options) (a : Around) (report : Option Report) : Type 0 where
   pub program : Program
   pub source : IsGiven given.make a program
   pub done : Report
   pub reports : report ≡ Some done
   pub is : IsReport program (mode_of given.mode program) given.budget done
+  pub proof : HasProof given.proof done
 
 -- the lines of a ring's answers are left out
 abbrev pub is_brief : Options → Bool
 is_brief given = is_some given.make
 
--- exactly the text of the report's results was written
+-- exactly the text of the report was written
 pub record IsWritten (given : Options) (a : Around) (report : Option Report) (end : End) (model : Bool) : Type 0 where
   pub solved : IsSolved given a report
   pub end_is : solved.done.results.end ≡ end
   pub model_is : has_model solved.done.results ≡ model
-  pub text : Appends a.held a.held' (results_text solved.program solved.done.results (is_brief given))
+  pub text : Appends a.held a.held' (report_text solved.program solved.done (is_brief given))
 
 -- a front of that text was written, and a fault counted
 pub record IsCutOff (given : Options) (a : Around) (report : Option Report) : Type 0 where
   pub solved : IsSolved given a report
-  pub text : AppendsFront a.held a.held' (results_text solved.program solved.done.results (is_brief given))
+  pub text : AppendsFront a.held a.held' (report_text solved.program solved.done (is_brief given))
   pub cause : Rose a.writes a.writes'
 
 -- nothing was solved and nothing written
@@ -151,23 +163,23 @@ pub record IsExact (given : Options) (a : Around) (status : Status) : Type 0 whe
 abbrev pub TellsFaults : Option (List ℕ) → ℕ → ℕ → Status → Type 0
 TellsFaults held writes writes' status = IsSome held → ¬ (status ≡ WriteFault) → writes' ≡ writes
 
--- the text of the results was written, or cut off by a fault
-abbrev pub DeliveryMeans : Bool → Program → Results → Option (List ℕ) → Option (List ℕ) → ℕ → ℕ → Status → Type 0
+-- the text of the report was written, or cut off by a fault
+abbrev pub DeliveryMeans : Bool → Program → Report → Option (List ℕ) → Option (List ℕ) → ℕ → ℕ → Status → Type 0
 DeliveryMeans brief p r held held' writes writes' status =
-    ((status ≡ status_for r.end (has_model r)) × Appends held held' (results_text p r brief))
-    ⊎ ((status ≡ WriteFault) × AppendsFront held held' (results_text p r brief) × Rose writes writes')
+    ((status ≡ status_for r.results.end (has_model r.results)) × Appends held held' (report_text p r brief))
+    ⊎ ((status ≡ WriteFault) × AppendsFront held held' (report_text p r brief) × Rose writes writes')
 
--- results that were to be written
+-- a report that was to be written
 pub record Delivers (brief : Bool) (p : Program) (r : Report) (held held' : Option (List ℕ)) (writes writes' : ℕ) (o : Outcome) : Type 0 where
   pub reports : o.report ≡ Some r
-  pub means : DeliveryMeans brief p r.results held held' writes writes' o.status
+  pub means : DeliveryMeans brief p r held held' writes writes' o.status
   pub later : writes ≤ writes'
 
 -- The program was solved as was asked, or memory ran out and nothing was written.
 abbrev pub Solves : Options → Program → Option (List ℕ) → Option (List ℕ) → ℕ → ℕ → Outcome → Type 0
 Solves given p held held' writes writes' o =
     ((o ≡ record { status = Memory; report = None }) × Keeps held held' × (writes' ≡ writes))
-    ⊎ ((r : Report) × IsReport p (mode_of given.mode p) given.budget r × Delivers (is_brief given) p r held held' writes writes' o)
+    ⊎ ((r : Report) × (IsReport p (mode_of given.mode p) given.budget r × HasProof given.proof r) × Delivers (is_brief given) p r held held' writes writes' o)
 
 -- a run after the words
 pub record Runs (given : Options) (a : Around) (o : Outcome) : Type 0 where

@@ -7,7 +7,8 @@ ghost use Rattle.asp_cli.specs.Texts.{help_page, version_line};
 ghost use Rattle.asp_cli.specs.Values.{IsRing};
 ghost use Rattle.asp_top.specs.Notes.{IsNoted, Writes, notes_of};
 ghost use Rattle.asp_top.specs.Usage.{misuse_note};
-ghost use Rattle.asp_top.specs.Runs.{Delivers, Runs, RunsOn, Solves, TellsFaults, TextMeans, around, notes_on, status_of};
+ghost use Rattle.asp_proof.specs.Texts.{text_of};
+ghost use Rattle.asp_top.specs.Runs.{Delivers, Runs, RunsOn, Solves, TellsFaults, TextMeans, around, notes_on, report_text, status_of};
 
 use crate::notes::{note, write};
 use crate::solve::{mode_of, status_for};
@@ -22,6 +23,8 @@ use asp_make::ring;
 use asp_model::program::Program;
 use asp_model::results::Results;
 use asp_print::print;
+use asp_proof::proof::Proof;
+use asp_proof::write_proof;
 use asp_read::fault::ReadError;
 use asp_read::read_program;
 use asp_vars::compile::compile;
@@ -50,7 +53,14 @@ fn failed(status: Status) -> Outcome
     }
 }
 
-fn write_text<K: Sink>(
+fn write_proof_text<K: Sink>(sink: &mut K, proof: &Proof) -> Result<(), Failed>
+    ensures { Writes (K.held sink.old) (K.held sink.new) (K.faults sink.old) (K.faults sink.new)
+        result (text_of proof.now) }
+{
+    write_proof(sink, proof)
+}
+
+fn write_results_text<K: Sink>(
     sink: &mut K,
     brief: bool,
     program: &Program,
@@ -62,17 +72,33 @@ fn write_text<K: Sink>(
     print(sink, program, results, brief)
 }
 
-// Writes the text of the results, and flushes the sink.
-fn write_results<K: Sink>(
+// Writes the text of the proof, if there is one, and else that of the results.
+fn write_text<K: Sink>(
     sink: &mut K,
     brief: bool,
     program: &Program,
-    results: &Results,
+    report: &Report,
 ) -> Result<(), Failed>
     ensures { Writes (K.held sink.old) (K.held sink.new) (K.faults sink.old) (K.faults sink.new)
-        result (results_text program.now results.now brief) }
+        result (report_text program.now report.now brief) }
 {
-    write_text(sink, brief, program, results)?;
+    match &report.proof {
+        Some(proof) => write_proof_text(sink, proof),
+        None => write_results_text(sink, brief, program, &report.results),
+    }
+}
+
+// Writes the text of a report, and flushes the sink.
+fn write_report<K: Sink>(
+    sink: &mut K,
+    brief: bool,
+    program: &Program,
+    report: &Report,
+) -> Result<(), Failed>
+    ensures { Writes (K.held sink.old) (K.held sink.new) (K.faults sink.old) (K.faults sink.new)
+        result (report_text program.now report.now brief) }
+{
+    write_text(sink, brief, program, report)?;
     sink.flush()
 }
 
@@ -112,7 +138,7 @@ fn deliver<K: Sink>(sink: &mut K, brief: bool, program: &Program, report: Report
     ensures delivers { Delivers brief program.now report (K.held sink.old) (K.held sink.new) (K.faults sink.old) (K.faults sink.new) result }
     ensures flushed { TellsFaults (K.held sink.old) (K.faults sink.old) (K.faults sink.new) result.status }
 {
-    let status = match write_results(sink, brief, program, &report.results) {
+    let status = match write_report(sink, brief, program, &report) {
         Ok(()) => status_for(&report.results),
         Err(Failed) => Status::WriteFault,
     };
@@ -129,7 +155,7 @@ fn solve<K: Sink>(alloc: Global, options: &Options, compiled: &Compiled, sink: &
 {
     let program = compiled.program();
     let mode = mode_of(options.mode, program);
-    match solve_alone(alloc, compiled, mode, options.budget) {
+    match solve_alone(alloc, compiled, mode, options.budget, options.proof) {
         Ok(report) => deliver(sink, options.make.is_some(), program, report),
         Err(_) => failed(Status::Memory),
     }
@@ -197,7 +223,7 @@ fn outcome_of<S: Source, K: Sink>(
 }
 
 /// A run after the words. It reads a program from the source, or makes a ring, solves it with one search, writes the text
-/// of its results to the sink and flushes it. The notes get a line for each status that isn't one of results, and the
+/// of its results to the sink, or of the proof that was asked for, and flushes it. The notes get a line for each status that isn't one of results, and the
 /// counts where they are asked for.
 pub fn run_alone<S: Source, K: Sink, N: Sink>(
     alloc: Global,

@@ -26,7 +26,7 @@ returns-then-is_due-clause-ok g c = λ q e.
     let s = c.args.self.now in
     let t = c.restart.new.self in
     restarts_from (g.P.Propagator.gives s.program s.bound) s t c.args.fuel.now t.slots t.ranking c.requires.entered.1.last
-    (subst (λ (x : Searching). IsDue x.restarts x.learnt) c.self.view_is (c.is_due.ensures c.if-is_due.true)) c.restart.ensures.reduced c.restart.ensures.same
+    (subst (λ (x : Searching). IsDue x.learnt) c.self.view_is (c.is_due.ensures c.if-is_due.true)) c.restart.ensures.reduced c.restart.ensures.same
 
 pub returns-in_err-decide-clause-err : goal.returns-in_err-decide-clause-err
 returns-in_err-decide-clause-err g c =

@@ -1,5 +1,5 @@
 use Rattle.asp_crew.proofs.ReportLaws.{begun, begun-report}
-use Rattle.asp_crew.proofs.alone.solve_alone.Goals as goal
+use Rattle.asp_crew.proofs.alone.solve.Goals as goal
 
 pub returns-clause-report : goal.returns-clause-report
 returns-clause-report c =
