@@ -3,6 +3,7 @@
 use asp_crew::alone::solve_alone;
 use asp_crew::gate::{Gate, OpenGate};
 use asp_crew::report::Report;
+use asp_crew::watch::{Counts, Unwatched};
 use asp_model::program::{Atom, Body, Head, Minimize, Program, Rule};
 use asp_model::results::{End, Mode};
 use asp_model::seq::Seq;
@@ -55,7 +56,8 @@ fn run(rt: &impl Abort, heap: Global, pairs: &[[i32; 2]], mode: Mode, budget: u6
     };
     assert!(rt; program.is_sound());
     let compiled = compile(heap, program).expect(rt, "memory");
-    solve_alone(heap, &compiled, mode, budget).expect(rt, "memory")
+    let mut counts = Counts::new();
+    solve_alone(heap, &compiled, mode, budget, &mut counts, &mut Unwatched).expect(rt, "memory")
 }
 
 // The run came to its end, with these answers.

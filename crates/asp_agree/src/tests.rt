@@ -4,6 +4,7 @@ ghost use Rattle.asp_model.specs.Sound.{IsSound};
 
 use asp_crew::alone::solve_alone;
 use asp_crew::report::Report;
+use asp_crew::watch::{Counts, Unwatched};
 use asp_model::cost::Cost;
 use asp_model::interp::Interp;
 use asp_model::plain::{answers_plain, optimum_plain};
@@ -127,7 +128,8 @@ fn searched(rt: &impl Abort, alloc: Global, program: Program, mode: Mode) -> Rep
     requires { IsSound program }
 {
     let compiled = compile(alloc, program).expect(rt, "memory");
-    solve_alone(alloc, &compiled, mode, BUDGET).expect(rt, "memory")
+    let mut counts = Counts::new();
+    solve_alone(alloc, &compiled, mode, BUDGET, &mut counts, &mut Unwatched).expect(rt, "memory")
 }
 
 // Whether both engines list the same answers.

@@ -35,6 +35,7 @@ fn start() -> State
         budget: None,
         make: None,
         stats: false,
+        progress: false,
     };
     State {
         found,
@@ -126,6 +127,13 @@ fn alone<'a>(found: Found, word: &'a str) -> Result<State, WordFault<'a>>
         Ok(Name::Stats) => Ok(State {
             found: Found {
                 stats: true,
+                ..found
+            },
+            awaits: Awaits::Option,
+        }),
+        Ok(Name::Progress) => Ok(State {
+            found: Found {
+                progress: true,
                 ..found
             },
             awaits: Awaits::Option,

@@ -5,6 +5,7 @@ ghost use Rattle.asp_crew_laws.specs.Reports.{IsReport};
 use crate::finish::finish;
 use crate::report::Report;
 use crate::reported::reported;
+use crate::watch::{Counts, Watch};
 use asp_book::book::Book;
 use asp_core::goal::Goal;
 use asp_core::state::State;
@@ -17,19 +18,23 @@ use std::alloc::{AllocError, Global};
 ///
 /// It returns: of the units left, the stable models not yet found, the nogoods learnt since the last restart and the
 /// variables without a value, in this order, each step lowers the first that it changes. Want of memory is the one error.
-pub fn solve_alone(
+/// What it does is added to the counts, and told after each step.
+pub fn solve_alone<W: Watch>(
     alloc: Global,
     compiled: &Compiled,
     mode: Mode,
     budget: u64,
+    counts: &mut Counts,
+    watch: &mut W,
 ) -> Result<Report, AllocError>
     ensures report { IfOk result (IsReport compiled.now mode budget) }
     ensures log { IfOk result (λ r. r.log ≡ 0) }
     ensures short { IfOk result (λ r. r.short ≡ false) }
+    ensures heard { W.IsAfter watch.old watch.new }
 {
     let state = State::start(alloc, compiled, Goal::of(mode), budget, 0, [].as_slice())?;
     let mut book = Book::new(alloc, compiled, state);
     let propagator = Propagators::new(alloc, compiled)?;
-    let unpaid = finish(alloc, compiled, mode, &mut book, propagator)?;
+    let unpaid = finish(alloc, compiled, mode, &mut book, propagator, counts, watch)?;
     Ok(reported(mode, book, unpaid, 0, false))
 }
