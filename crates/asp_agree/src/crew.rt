@@ -3,6 +3,7 @@
 use asp_crew::alone::solve_alone;
 use asp_crew::gate::{Gate, OpenGate};
 use asp_crew::report::Report;
+use asp_crew::watch::{Counts, Unwatched};
 use asp_model::interp::Interp;
 use asp_model::program::{Atom, Body, Head, Minimize, Program, Rule};
 use asp_model::results::{End, Mode};
@@ -66,7 +67,8 @@ fn solved(
     };
     assert!(rt; program.is_sound());
     let compiled = compile(heap, program)?;
-    solve_alone(heap, &compiled, mode, budget, false)
+    let mut counts = Counts::new();
+    solve_alone(heap, &compiled, mode, budget, false, &mut counts, &mut Unwatched)
 }
 
 fn run(

@@ -3,6 +3,7 @@ ghost use Rattle.asp_model.specs.Sound.{IsSound};
 
 use asp_crew::alone::solve_alone;
 use asp_crew::report::Report;
+use asp_crew::watch::{Counts, Unwatched};
 use asp_model::cost::Cost;
 use asp_model::interp::Interp;
 use asp_model::plain::{answers_plain, optimum_plain};
@@ -128,7 +129,8 @@ fn searched(alloc: Global, program: Program, mode: Mode) -> Result<Report, Alloc
     requires { IsSound program }
 {
     let compiled = compile(alloc, program)?;
-    solve_alone(alloc, &compiled, mode, BUDGET, false)
+    let mut counts = Counts::new();
+    solve_alone(alloc, &compiled, mode, BUDGET, false, &mut counts, &mut Unwatched)
 }
 
 // Whether both engines list the same answers.

@@ -16,6 +16,7 @@ pub struct Found {
     pub budget: Option<u64>,
     pub make: Option<u32>,
     pub stats: bool,
+    pub progress: bool,
     pub proof: bool,
 }
 
@@ -29,6 +30,7 @@ pub fn has(found: &Found, name: Name) -> bool
         Name::Budget => found.budget.is_some(),
         Name::Make => found.make.is_some(),
         Name::Stats => found.stats,
+        Name::Progress => found.progress,
         Name::Proof => found.proof,
     }
 }
@@ -67,7 +69,7 @@ pub fn with(found: Found, name: Name, text: &str) -> Option<Found>
                 ..found
             })
         }
-        Name::Stats | Name::Proof => None,
+        Name::Stats | Name::Progress | Name::Proof => None,
     }
 }
 
@@ -82,6 +84,7 @@ pub fn options(found: &Found) -> Options
         budget: found.budget.unwrap_or(MOST_UNITS),
         make: found.make,
         stats: found.stats,
+        progress: found.progress,
         proof: found.proof,
     }
 }

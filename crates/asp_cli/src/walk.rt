@@ -35,6 +35,7 @@ fn start() -> State
         budget: None,
         make: None,
         stats: false,
+        progress: false,
         proof: false,
     };
     State {
@@ -134,6 +135,13 @@ fn alone<'a>(found: Found, word: &'a str) -> Result<State, WordFault<'a>>
         Ok(Name::Proof) => Ok(State {
             found: Found {
                 proof: true,
+                ..found
+            },
+            awaits: Awaits::Option,
+        }),
+        Ok(Name::Progress) => Ok(State {
+            found: Found {
+                progress: true,
                 ..found
             },
             awaits: Awaits::Option,

@@ -16,6 +16,7 @@ ghost use Rattle.asp_book.specs.Books.{board};
 ghost use Rattle.asp_search_laws.specs.Steps.{IsStep};
 ghost use Rattle.asp_crew.specs.Running.{IsRunIn, IsReady, IsUnderway, OnlyRecords, IsRecorded, Goes, Ends, LeavesLeaf};
 
+use crate::watch::{Counts, Watch};
 use asp_book::book::Book;
 use asp_model::interp::Interp;
 use asp_model::results::Mode;
@@ -95,23 +96,34 @@ fn step<P: Propagator>(
     Ok(step)
 }
 
-// One step. An answer is recorded.
+// One step, which is counted. An answer is recorded.
 fn advance<P: Propagator>(
     book: &mut Book,
     mode: Mode,
     search: &mut Search<'_, P>,
     fuel: &mut Fuel,
+    counts: &mut Counts,
     recorder: Option<&Recorder>,
 ) -> Result<Course, AllocError>
     requires { IsUnderway mode book.old search.old fuel.old }
     ensures { IfOk result (Goes mode book.old book.new search.old search.new fuel.old fuel.new) }
 {
     match step(search, fuel, recorder)? {
-        Step::Decided => Ok(Course::Open),
-        Step::Learnt => Ok(Course::Open),
-        Step::Restarted => Ok(Course::Open),
+        Step::Decided => {
+            counts.decisions = counts.decisions.saturating_add(1);
+            Ok(Course::Open)
+        }
+        Step::Learnt => {
+            counts.conflicts = counts.conflicts.saturating_add(1);
+            Ok(Course::Open)
+        }
+        Step::Restarted => {
+            counts.restarts = counts.restarts.saturating_add(1);
+            Ok(Course::Open)
+        }
         Step::Answer(set) => {
             record(book, mode, set)?;
+            counts.answers = counts.answers.saturating_add(1);
             Ok(Course::Open)
         }
         Step::Closed => Ok(Course::Closed),
@@ -119,19 +131,33 @@ fn advance<P: Propagator>(
     }
 }
 
-// Steps until nothing else is to be found below the path, or a conflict is met when no unit is left.
-fn run<P: Propagator>(
+// Tells what was counted, and the cost of the best answer.
+fn tell<P: Propagator, W: Watch>(search: &Search<'_, P>, counts: &mut Counts, watch: &mut W)
+    ensures { W.IsAfter watch.old watch.new }
+{
+    counts.keep(search.extra() as u64);
+    watch.tell(counts, search.bound());
+}
+
+// Steps until nothing else is to be found below the path, or a conflict is met when no unit is left. After each the counts
+// are told.
+fn run<P: Propagator, W: Watch>(
     book: &mut Book,
     mode: Mode,
     search: &mut Search<'_, P>,
     fuel: &mut Fuel,
+    counts: &mut Counts,
+    watch: &mut W,
     recorder: Option<&Recorder>,
 ) -> Result<Option<Conflict>, AllocError>
     requires { IsUnderway mode book.old search.old fuel.old }
-    ensures { IfOk result (Ends mode book.old book.new search.old search.new fuel.new) }
+    ensures ends { IfOk result (Ends mode book.old book.new search.old search.new fuel.new) }
+    ensures heard { W.IsAfter watch.old watch.new }
 {
     'steps: loop {
-        match advance(book, mode, search, fuel, recorder)? {
+        let course = advance(book, mode, search, fuel, counts, recorder)?;
+        tell(search, counts, watch);
+        match course {
             Course::Open => {}
             Course::Closed => return Ok(None),
             Course::Unpaid(conflict) => return Ok(Some(conflict)),
@@ -154,21 +180,24 @@ fn cube_of(book: &Book, mode: Mode, leaf: Leaf) -> Result<Vec<Lit>, AllocError>
 }
 
 /// Works off a leaf that number 0 holds: it is closed then, or open again where a conflict was met and no unit is left.
-pub(crate) fn work_off<P: Propagator>(
+pub(crate) fn work_off<P: Propagator, W: Watch>(
     book: &mut Book,
     mode: Mode,
     search: &mut Search<'_, P>,
     fuel: &mut Fuel,
-    recorder: Option<&Recorder>,
     leaf: Leaf,
+    counts: &mut Counts,
+    watch: &mut W,
+    recorder: Option<&Recorder>,
 ) -> Result<Option<Conflict>, AllocError>
     requires ready { IsReady mode book.old search.old fuel.old }
     requires held { status_of (board book.old).nodes leaf ≡ status.Held 0 }
-    ensures { IfOk result (LeavesLeaf mode book.old book.new leaf search.new fuel.new) }
+    ensures leaves { IfOk result (LeavesLeaf mode book.old book.new leaf search.new fuel.new) }
+    ensures heard { W.IsAfter watch.old watch.new }
 {
     let cube = cube_of(book, mode, leaf)?;
     search.enter(cube.as_slice())?;
-    match run(book, mode, search, fuel, recorder)? {
+    match run(book, mode, search, fuel, counts, watch, recorder)? {
         None => {
             book.close(0, leaf, cube.as_slice())?;
             note_cube(recorder, cube.as_slice())?;

@@ -1,5 +1,5 @@
 //! The search: what it keeps, and the calls beside its step.
-ghost use Rattle.std.specs.Prelude.{◌≡◌, ◌≢◌, ◌+◌, ◌≤◌, ◌∷◌, ◌++◌, [], None, Some, true, false, List, IfOk, IfSome, OnOk, OnErr, IsSome, MatchBool, length, option_map, replicate, slice_get};
+ghost use Rattle.std.specs.Prelude.{◌≡◌, ◌≢◌, ◌+◌, ◌≤◌, ◌∷◌, ◌++◌, [], None, Some, true, false, List, IfOk, IfSome, OnOk, OnErr, IsSome, MatchBool, count_by, length, option_map, replicate, slice_get};
 ghost use Rattle.std.specs.List.{All};
 ghost use Rattle.std.specs.Option.{option_copied};
 ghost use Rattle.asp_vars.specs.Entailment.{IsGood, IsSharedBy};
@@ -8,7 +8,7 @@ ghost use Rattle.asp_vars.specs.Numbering.{var_count};
 ghost use Rattle.asp_vars.specs.declared.nogood.Base.TheVariants as base;
 ghost use Rattle.asp_trail.specs.Entries.{level};
 ghost use Rattle.asp_trail.specs.Trails.{IsVar};
-ghost use Rattle.asp_store.specs.Keeping.{nogood_at};
+ghost use Rattle.asp_store.specs.Keeping.{is_extra, nogood_at};
 ghost use Rattle.asp_propagate.specs.Useful.{IsSmaller};
 ghost use Rattle.asp_search_laws.specs.Steps.{is_of_use};
 ghost use Rattle.asp_search.specs.Beside.{new_search, Enters, Leaves, is_local, is_shared, kept_last, only_shared, exported, Imports, IsOpen, IsShared};
@@ -267,6 +267,13 @@ impl<'a, P: Propagator> Search<'a, P> {
             None => None,
             Some(id) => Some(store.lits(id)),
         }
+    }
+
+    /// How many kept nogoods aren't kept forever: those that were learnt, and those of propagators.
+    pub fn extra(&self) -> usize
+        ensures { result ≡ count_by is_extra self.now.slots }
+    {
+        self.state.store().extra()
     }
 
     // How many decisions stand. No variable has two entries.

@@ -27,36 +27,14 @@ use Rattle.asp_loop.specs.Parts.{form_of}
 use Rattle.asp_loop.proofs.LoopLaws.{at_form}
 use Rattle.asp_loop.proofs.WeightedLaws.{by_recursion, form_items}
 use Rattle.asp_source.specs.Marks.{is_marked}
-use Rattle.asp_source.specs.Pointers.{source_of, ArePointers, AreSupports, Loses, IsGone, AreGone, IsGoneBy, seek, regain}
+use Rattle.asp_source.specs.Ranks.{source_of}
+use Rattle.asp_source.specs.Pointers.{ArePointers, AreSupports, Loses, IsGone, AreGone, IsGoneBy, seek, regain}
 use Rattle.asp_source.proofs.LooseLaws.{form_of-var}
 use Rattle.asp_source.proofs.LookLaws.{at_member}
 use Rattle.asp_source.proofs.ChangeLaws.{newly, head_listed, excused_back, each_listed, twice, kept_on, set_marked, told_other, unset_less}
 use Rattle.asp_source.proofs.GatherLaws.{each_occurrence}
 use Rattle.asp_source.proofs.LoseLaws.{less_of}
-use Rattle.asp_source.proofs.PointerLaws.{grounded_less, grounded_values, supports_less, support_at, source_weighted, false_from}
-
--- What a source is: one of the bodies, of which the atom is a head.
-pub record IsSource (p : Program) (a s : ℕ) (d : Body) : Type 0 where
-  pub form : form_of p s ≡ d
-  pub listed : list_any (body_eq d) (bodies_of p) ≡ true
-  pub stands : BodyStands (atoms_of p) d
-  pub var : var_of_form p d ≡ s
-  pub head : has (heads_of p d) (var_of_atom p a) ≡ true
-
-pub source_is : (p : Program) (a s : ℕ) → has (supports p a) s ≡ true → (d : Body) × IsSource p a s d
-source_is p a s e =
-    let form = in_forms p a s e in
-    let rule = some (Among (rules_in_force p)) (λ (r : Rule). has (head_atoms r.head) a && body_eq (normal r.body) form.0) (rules_in_force p) (each_among (rules_in_force p)) form.1.1 in
-    let parts = and_parts (has (head_atoms rule.0.head) a) (body_eq (normal rule.0.body) form.0) rule.2 in (
-      form.0,
-      record {
-        form = ap (form_of p) (sym form.2) ∙ form_of-var p form.0 form.1.0.0;
-        listed = form.1.0.0;
-        stands = form.1.0.1;
-        var = form.2;
-        head = ap (λ b. has (heads_of p b) (var_of_atom p a)) (sym (same_body (normal rule.0.body) form.0 parts.1)) ∙ head_listed p rule.0 a rule.1 parts.0;
-      },
-    )
+use Rattle.asp_source.proofs.PointerLaws.{IsSource, source_is, ranked_less, ranked_values, supports_less, support_at, source_weighted, false_from}
 
 -- none of its heads has the body as its source, so the atom hasn't
 gone_at : (p : Program) (t : List ℕ) (a s : ℕ) (d : Body) → IsSource p a s d → AreGone p t (place_of (body_eq d) (bodies_of p)) → source_of p t a ≢ s
@@ -66,21 +44,22 @@ gone_at p t a s d is gone e =
     (let v = is.var in omega (arith, e, v))
 
 -- a literal comes to hold
-pub assigned : (p : Program) (c : Parts) (x : List (Option Bool)) (s : List ℕ) (q : List Bool) (t : List ℕ) (r : List Bool) (l : Literal) → IsSound p → l.var < length x → value_of x l.var ≡ None → Loses s q t r →
+pub assigned : (p : Program) (c : Parts) (x : List (Option Bool)) (ranks s : List ℕ) (q : List Bool) (t : List ℕ) (r : List Bool) (l : Literal) → IsSound p → l.var < length x → value_of x l.var ≡ None → Loses s q t r →
     (length (atoms_of p) < l.var → l.truth ≡ false → AreGone p t (l.var - length (atoms_of p) - 1)) →
     (l.var ≤ length (atoms_of p) → All (IsGoneBy p t) (occurrences_of p (complement l))) →
-    ArePointers p c x s q [] → ArePointers p c (set x l.var (Some l.truth)) t r []
-assigned p c x s q t r l sound lt none loses false_body lighter_body h = record {
+    ArePointers p c x s ranks q [] → ArePointers p c (set x l.var (Some l.truth)) t ranks r []
+assigned p c x ranks s q t r l sound lt none loses false_body lighter_body h = record {
   size = loses.size ∙ h.size;
+  rank_room = h.rank_room;
   room = loses.room ∙ h.room;
   supports = supported;
-  grounded = grounded_values p c x (set x l.var (Some l.truth)) t (λ U a stands nz e.
+  ranked = ranked_values p c x (set x l.var (Some l.truth)) ranks (is_marked []) t (λ U a stands nz e.
       let sup = support_at p t a supported stands nz in
       let is = source_is p a (source_of p t a) sup in
       excused_back p x (set x l.var (Some l.truth)) U (form_of p (source_of p t a)) (source_weighted p a (source_of p t a) sound sup)
       (λ f. own a is.0 is.1 f)
       (subst (λ (d : Body). AllByRecursion (λ (i : ℤ × ℤ). is_false p (set x l.var (Some l.truth)) i.0 ≡ true → is_false p x i.0 ≡ true) (form_items d)) (sym is.1.form) (items a is.0 is.1 is.0 refl)) e)
-      (grounded_less p c x s t less h.grounded);
+      (ranked_less p c x ranks (is_marked []) s t less h.ranked);
   sought = λ v at z cyclic alive. elim (loses.less v) [
     | inl e ↦ elim (h.sought v at (sym e ∙ z) cyclic (false_from (holds_in (set x l.var (Some l.truth)) (F v)) (holds_in x (F v)) (kept_on x l (F v) none) alive)) [
       | inl f ↦ inl (loses.more (v - 1) f)
@@ -168,14 +147,15 @@ regain_marks p c x s q l v size holds at none cyclic was now = cases (eqb v l.va
         ∙ ap (λ t. is_marked (cond t q (set q (v - 1) true)) (v - 1)) cyclic
         ∙ get_or-set_same q (v - 1) true false (let a = at.0 in let b = at.1 in omega (arith, a, b, size))
 
-pub undone : (p : Program) (c : Parts) (x : List (Option Bool)) (s : List ℕ) (q r : List Bool) (l : Literal) → IsSound p → holds_in x l ≡ true → r ≡ regain p c s q l → length r ≡ length q → ArePointers p c x s q [] → ArePointers p c (set x l.var None) s r []
-undone p c x s q r l sound holds is room h = record {
+pub undone : (p : Program) (c : Parts) (x : List (Option Bool)) (ranks s : List ℕ) (q r : List Bool) (l : Literal) → IsSound p → holds_in x l ≡ true → r ≡ regain p c s q l → length r ≡ length q → ArePointers p c x s ranks q [] → ArePointers p c (set x l.var None) s ranks r []
+undone p c x ranks s q r l sound holds is room h = record {
   size = h.size;
+  rank_room = h.rank_room;
   room = room ∙ h.room;
   supports = h.supports;
-  grounded = grounded_values p c x (set x l.var None) s (λ U a stands nz e.
+  ranked = ranked_values p c x (set x l.var None) ranks (is_marked []) s (λ U a stands nz e.
       excused_back p x (set x l.var None) U (form_of p (source_of p s a)) (source_weighted p a (source_of p s a) sound (support_at p s a h.supports stands nz))
-      (unset_less x l.var (F (var_of_form p (form_of p (source_of p s a))))) (all_less (form_items (form_of p (source_of p s a)))) e) h.grounded;
+      (unset_less x l.var (F (var_of_form p (form_of p (source_of p s a))))) (all_less (form_items (form_of p (source_of p s a)))) e) h.ranked;
   sought = λ v at z cyclic alive. cases v at z cyclic alive (holds_in x (F v)) refl;
 }
   where

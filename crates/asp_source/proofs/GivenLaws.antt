@@ -1,9 +1,9 @@
 -- The nogood that is given, and the start.
-use Rattle.std.proofs.Common.{◌≡◌, ℕ, zero, suc, ◌+◌, ◌<◌, Bool, true, false, not, ◌&&◌, ◌||◌, List, [], ◌∷◌, length, Option, Some, None, refl, sym, ap, ◌∙◌, subst, arith, ◌⊎◌, inl, inr}
+use Rattle.std.proofs.Common.{◌≡◌, ℕ, zero, suc, ◌+◌, ◌<◌, Bool, true, false, not, ◌&&◌, ◌||◌, List, [], ◌∷◌, length, drop, Option, Some, None, refl, sym, ap, ◌∙◌, subst, arith, ◌⊎◌, inl, inr}
 use Rattle.std.specs.Option.{is_none}
 use Rattle.std.specs.List.{All, list_any, list_all, AllByRecursion}
 use Rattle.std.proofs.lemmas.Bool.{false≢true, and_parts, and_from}
-use Rattle.std.proofs.lemmas.List.Elements.{All-from_recursion}
+use Rattle.std.proofs.lemmas.List.Elements.{All-cons, All-from_recursion}
 use Rattle.asp_model.specs.Sets.{Atoms}
 use Rattle.asp_vars.specs.declared.nogood.Nogood.{Nogood}
 use Rattle.asp_vars.specs.Literals.{Literal, T, F, literal_eq, value_of, agrees, holds_in}
@@ -17,6 +17,13 @@ use Rattle.asp_loop.specs.LoopNogoods.{IsLoopNogood}
 use Rattle.asp_loop.proofs.WeighLaws.{literal_eq-itself}
 use Rattle.asp_source.specs.Loops.{IsGiven}
 use Rattle.asp_source.specs.Loops.{IsFound}
+use Rattle.asp_source.specs.Rest.{IsRemembered, IsAgain}
+use Rattle.asp_model.specs.declared.program.Program.{Program}
+use Rattle.asp_model.specs.Sets.{has}
+use Rattle.asp_model.specs.Sound.{IsSound}
+use Rattle.asp_vars.specs.Entailment.{Entailed}
+use Rattle.asp_loop.specs.LoopNogoods.{AreParts}
+use Rattle.asp_loop.proofs.EntailedLaws.{loop_entailed}
 
 -- a literal that holds has one of the variables
 held_within : (x : List (Option Bool)) (n : ℕ) (l : Literal) → length x ≡ n + 1 → value_of x 0 ≡ None → holds_in x l ≡ true → IsVar n l.var
@@ -66,6 +73,7 @@ wanted x v rest e hold = fixpoint_not (is_violated x (T v ∷ rest)) (is_unit x 
 
 pub given : (t : Told) (U : Atoms) (a : ℕ) (n : Nogood) → length t.values ≡ var_count t.program + 1 → value_of t.values 0 ≡ None → IsFound t.program t.values U a → IsLoopNogood t.program t.values U a n → IsGiven t n
 given t U a n size first found shape = record {
+  values = t.values;
   set = U;
   atom = a;
   loop = found.loop;
@@ -78,3 +86,44 @@ given t U a n size first found shape = record {
       ((let some_ : 0 < var_of_atom t.program a = omega arith in some_, let low = atom_small t.program a (found.loop.stand a found.member) in omega (arith, low)), all_within t.values (var_count t.program) shape.rest size first shape.hold));
   wanted = ap (is_at_fixpoint t.values) shape.literals ∙ wanted t.values (var_of_atom t.program a) shape.rest (found.loop.not_false a found.member) shape.hold;
 }
+
+-- ---- another atom of a set that was found
+pub remembered : (t : Told) (U : Atoms) (a : ℕ) (n : Nogood) → IsFound t.program t.values U a → IsLoopNogood t.program t.values U a n → (reason : List Literal) → reason ≡ drop 1 n.lits → IsRemembered t.program U reason
+remembered t U a n found shape reason is = record {
+  values = t.values;
+  atom = a;
+  nogood = n;
+  loop = found.loop;
+  shape = shape;
+  rest = sym (is ∙ ap (drop 1) shape.literals);
+}
+
+pub again_given : (t : Told) (U : Atoms) (reason : List Literal) (n : Nogood) → IsSound t.program → All (λ (l : Literal). IsVar (var_count t.program) l.var) reason → ((a : ℕ) → has U a ≡ true → IsRemembered t.program U reason) → IsAgain t.program t.values U reason n → IsGiven t n
+again_given t U reason n sound within kept again =
+    let p : Program = t.program in
+    let h = kept again.atom again.member in
+    let entailed : Entailed p n.lits = subst (λ (ls : List Literal). Entailed p ls) (sym again.lits)
+    (loop_entailed p U again.atom h.shape.bodies reason sound again.member (h.loop.stand again.atom again.member) h.shape.are_supports (subst (λ (ls : List Literal). AreParts p U h.shape.bodies ls) h.rest h.shape.parts)) in
+    record {
+      values = h.values;
+      set = U;
+      atom = again.atom;
+      loop = h.loop;
+      member = again.member;
+      shape = record {
+        unfounded = h.shape.unfounded;
+        pure = again.base;
+        bodies = h.shape.bodies;
+        rest = reason;
+        are_supports = h.shape.are_supports;
+        literals = again.lits;
+        parts = subst (λ (ls : List Literal). AreParts p U h.shape.bodies ls) h.rest h.shape.parts;
+        hold = subst (λ (ls : List Literal). list_all (holds_in h.values) ls ≡ true) h.rest h.shape.hold;
+        entailed = entailed;
+      };
+      base = again.base;
+      entailed = entailed;
+      within = subst (λ (ls : List Literal). All (λ (l : Literal). IsVar (var_count p) l.var) ls) (sym again.lits)
+          (All-cons (λ (l : Literal). IsVar (var_count p) l.var) (T (var_of_atom p again.atom)) reason (let some_ : 0 < var_of_atom p again.atom = omega arith in some_, let low = atom_small p again.atom (h.loop.stand again.atom again.member) in omega (arith, low)) within);
+      wanted = ap (is_at_fixpoint t.values) again.lits ∙ wanted t.values (var_of_atom p again.atom) reason again.not_false again.hold;
+    }

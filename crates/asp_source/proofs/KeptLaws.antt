@@ -1,26 +1,31 @@
 -- What the propagator keeps, call by call.
-use Rattle.std.proofs.Common.{◌≡◌, ℕ, zero, suc, ◌+◌, ◌-◌, ◌<◌, ◌≤◌, Bool, true, false, not, cond, eqb, leb, List, [], length, get_or, set, replicate, Option, Some, None, refl, sym, ap, ◌∙◌, subst, arith, inl, get_or-set_other}
+use Rattle.std.proofs.Common.{◌≡◌, ℕ, zero, suc, ◌+◌, ◌-◌, ◌<◌, ◌≤◌, Bool, true, false, not, cond, eqb, leb, List, [], length, get_or, set, drop, replicate, Option, Some, None, refl, sym, ap, ◌∙◌, subst, arith, inl, get_or-set_other}
 use Rattle.std.specs.List.{All}
 use Rattle.std.proofs.lemmas.Bool.{false≢true}
 use Rattle.std.proofs.lemmas.List.{length-set, length-replicate}
+use Rattle.std.proofs.lemmas.List.Elements.{All-tail}
 use Rattle.asp_model.specs.declared.program.Program.{Program}
-use Rattle.asp_model.specs.Sets.{Atoms}
+use Rattle.asp_model.specs.Sets.{Atoms, has}
 use Rattle.asp_model.specs.Models.{atoms_of}
 use Rattle.asp_model.specs.Sound.{IsSound}
-use Rattle.asp_vars.specs.Literals.{Literal, complement, value_of, holds_in}
+use Rattle.asp_vars.specs.declared.nogood.Nogood.{Nogood}
+use Rattle.asp_vars.specs.Literals.{Literal, T, complement, value_of, holds_in}
 use Rattle.asp_vars.specs.Numbering.{bodies_of, var_count, var_of_atom}
 use Rattle.asp_vars.specs.Tabled.{IsAtomVar, occurrences_of}
 use Rattle.asp_trail.specs.Trails.{IsVar}
+use Rattle.asp_trail.specs.Told.{Told}
+use Rattle.asp_loop.specs.LoopNogoods.{IsLoopNogood}
 use Rattle.asp_scc.specs.Components.{Parts, AreComponents}
 use Rattle.asp_source.specs.Pointers.{AreNormal}
 use Rattle.asp_source.specs.Marks.{is_marked}
 use Rattle.asp_source.specs.Marks.{AreBlank}
-use Rattle.asp_source.specs.Loops.{AreJoined, IsUnfoundedLoop}
+use Rattle.asp_source.specs.Loops.{IsUnfoundedLoop, IsFound}
+use Rattle.asp_source.specs.Rest.{Rest, IsRemembered}
 use Rattle.asp_source.specs.Pointers.{ArePointers, Loses, AreGone, IsGoneBy, AreMarked, seek, regain}
 use Rattle.asp_source.specs.Kept.{IsKept}
 use Rattle.asp_source.proofs.AssignLaws.{assigned, undone}
+use Rattle.asp_source.proofs.GivenLaws.{given, remembered}
 use Rattle.asp_source.proofs.PointerLaws.{atom_var}
-use Rattle.asp_source.proofs.RestLaws.{none_joined, open_of, rest_joined}
 use Rattle.asp_source.proofs.ChangeLaws.{some_member, cyclic_of}
 
 none_at : (n v : ℕ) → value_of (replicate n None) v ≡ None
@@ -45,26 +50,32 @@ first_kept : (x : List (Option Bool)) (v : ℕ) (t : Option Bool) → 0 < v → 
 first_kept x v t some_ e = get_or-set_other x v 0 t None (λ z. omega (arith, some_, z)) ∙ e
 
 -- where no atom has a source it is enough that each is queued, unless it is alone
-bare_pointers : (p : Program) (c : Parts) (x : List (Option Bool)) (s : List ℕ) (q : List Bool) → length s ≡ length (atoms_of p) + 1 → length q ≡ length (atoms_of p) → AreBare s → ((v : ℕ) → IsAtomVar p v → get_or c.trivial (get_or c.numbers v 0) false ≡ false → is_marked q (v - 1) ≡ true) → ArePointers p c x s q []
-bare_pointers p c x s q size room bare queued = record {
+bare_pointers : (p : Program) (c : Parts) (x : List (Option Bool)) (s ranks : List ℕ) (q : List Bool) → length s ≡ length (atoms_of p) + 1 → length ranks ≡ length (atoms_of p) + 1 → length q ≡ length (atoms_of p) → AreBare s → ((v : ℕ) → IsAtomVar p v → get_or c.trivial (get_or c.numbers v 0) false ≡ false → is_marked q (v - 1) ≡ true) → ArePointers p c x s ranks q []
+bare_pointers p c x s ranks q size ranked room bare queued = record {
   size = size;
+  rank_room = ranked;
   room = room;
   supports = λ v at nz. absurd (nz (bare v));
-  grounded = λ U h a member nz. absurd (nz (bare (var_of_atom p a)));
+  ranked = λ a stands nz. absurd (nz (bare (var_of_atom p a)));
   sought = λ v at z cyclic alive. inl (queued v at cyclic);
 }
 
+-- all begins anew
+pub pointers_anew : (p : Program) (c : Parts) (x : List (Option Bool)) (s ranks : List ℕ) (q : List Bool) → s ≡ replicate (length (atoms_of p) + 1) 0 → length ranks ≡ length (atoms_of p) + 1 → length q ≡ length (atoms_of p) → AreMarked c (length (atoms_of p)) q → ArePointers p c x s ranks q []
+pointers_anew p c x s ranks q is ranked size marked =
+    bare_pointers p c x s ranks q (let none : ℕ = 0 in ap length is ∙ length-replicate (length (atoms_of p) + 1) none) ranked size (subst AreBare (sym is) (zero_at (length (atoms_of p) + 1))) (λ v at cyclic. marked v at.0 at.1 cyclic)
+
 -- ---- a literal comes to hold
-pub kept_by : (p : Program) (c : Parts) (x y : List (Option Bool)) (s : List ℕ) (q : List Bool) (t : List ℕ) (r : List Bool) (tight weighted : Bool) (loose waiting joined : List Bool) (atoms : Atoms) (l : Literal) → IsSound p → IsKept p c x s q tight weighted loose waiting joined atoms → tight ≡ false → IsVar (var_count p) l.var → value_of x l.var ≡ None → y ≡ set x l.var (Some l.truth) → Loses s q t r →
+pub kept_by : (p : Program) (c : Parts) (x y : List (Option Bool)) (s ranks : List ℕ) (q : List Bool) (t : List ℕ) (r : List Bool) (tight weighted : Bool) (loose waiting joined : List Bool) (rest : Rest) (l : Literal) → IsSound p → IsKept p c x s ranks q tight weighted loose waiting joined rest → tight ≡ false → IsVar (var_count p) l.var → value_of x l.var ≡ None → y ≡ set x l.var (Some l.truth) → Loses s q t r →
     (length (atoms_of p) < l.var → l.truth ≡ false → AreGone p t (l.var - length (atoms_of p) - 1)) →
     (l.var ≤ length (atoms_of p) → All (IsGoneBy p t) (occurrences_of p (complement l))) →
-    IsKept p c y t r tight weighted loose waiting joined atoms
-kept_by p c x y s q t r tight weighted loose waiting joined atoms l sound h loose_ is none told loses body_gone lighter =
-    subst (λ (z : List (Option Bool)). IsKept p c z t r tight weighted loose waiting joined atoms) (sym told) (record {
+    IsKept p c y t ranks r tight weighted loose waiting joined rest
+kept_by p c x y s ranks q t r tight weighted loose waiting joined rest l sound h loose_ is none told loses body_gone lighter =
+    subst (λ (z : List (Option Bool)). IsKept p c z t ranks r tight weighted loose waiting joined rest) (sym told) (record {
       components = h.components;
       sized = length-set x l.var (Some l.truth) ∙ h.sized;
       first = first_kept x l.var (Some l.truth) is.0 h.first;
-      pointers = assigned p c x s q t r l sound (let small = is.1 in let size = h.sized in omega (arith, small, size)) none loses body_gone lighter h.pointers;
+      pointers = assigned p c x ranks s q t r l sound (let small = is.1 in let size = h.sized in omega (arith, small, size)) none loses body_gone lighter h.pointers;
       marks = h.marks;
       blank = h.blank;
       room = h.room;
@@ -73,16 +84,17 @@ kept_by p c x y s q t r tight weighted loose waiting joined atoms l sound h loos
       trivial = h.trivial;
       plain = h.plain;
       found = h.found;
+      within = h.within;
     })
 
 -- in a tight program no atom has a source
-pub kept_tight : (p : Program) (c : Parts) (x y : List (Option Bool)) (s : List ℕ) (q : List Bool) (tight weighted : Bool) (loose waiting joined : List Bool) (atoms : Atoms) (l : Literal) → IsKept p c x s q tight weighted loose waiting joined atoms → tight ≡ true → IsVar (var_count p) l.var → y ≡ set x l.var (Some l.truth) → IsKept p c y s q tight weighted loose waiting joined atoms
-kept_tight p c x y s q tight weighted loose waiting joined atoms l h is_tight is told =
-    subst (λ (z : List (Option Bool)). IsKept p c z s q tight weighted loose waiting joined atoms) (sym told) (record {
+pub kept_tight : (p : Program) (c : Parts) (x y : List (Option Bool)) (s ranks : List ℕ) (q : List Bool) (tight weighted : Bool) (loose waiting joined : List Bool) (rest : Rest) (l : Literal) → IsKept p c x s ranks q tight weighted loose waiting joined rest → tight ≡ true → IsVar (var_count p) l.var → y ≡ set x l.var (Some l.truth) → IsKept p c y s ranks q tight weighted loose waiting joined rest
+kept_tight p c x y s ranks q tight weighted loose waiting joined rest l h is_tight is told =
+    subst (λ (z : List (Option Bool)). IsKept p c z s ranks q tight weighted loose waiting joined rest) (sym told) (record {
       components = h.components;
       sized = length-set x l.var (Some l.truth) ∙ h.sized;
       first = first_kept x l.var (Some l.truth) is.0 h.first;
-      pointers = bare_pointers p c (set x l.var (Some l.truth)) s q h.pointers.size h.pointers.room (h.none is_tight) (λ v at cyclic. absurd (false≢true (sym cyclic ∙ h.trivial is_tight v at)));
+      pointers = bare_pointers p c (set x l.var (Some l.truth)) s ranks q h.pointers.size h.pointers.rank_room h.pointers.room (h.none is_tight) (λ v at cyclic. absurd (false≢true (sym cyclic ∙ h.trivial is_tight v at)));
       marks = h.marks;
       blank = h.blank;
       room = h.room;
@@ -91,11 +103,12 @@ kept_tight p c x y s q tight weighted loose waiting joined atoms l h is_tight is
       trivial = h.trivial;
       plain = h.plain;
       found = h.found;
+      within = h.within;
     })
 
 -- the same sources, read in another way
-pub kept_as : (p : Program) (c : Parts) (x : List (Option Bool)) (s t : List ℕ) (q : List Bool) (tight weighted : Bool) (loose waiting joined : List Bool) (atoms : Atoms) → t ≡ s → IsKept p c x s q tight weighted loose waiting joined atoms → IsKept p c x t q tight weighted loose waiting joined atoms
-kept_as p c x s t q tight weighted loose waiting joined atoms same h = subst (λ (u : List ℕ). IsKept p c x u q tight weighted loose waiting joined atoms) (sym same) h
+pub kept_as : (p : Program) (c : Parts) (x : List (Option Bool)) (s t ranks : List ℕ) (q : List Bool) (tight weighted : Bool) (loose waiting joined : List Bool) (rest : Rest) → t ≡ s → IsKept p c x s ranks q tight weighted loose waiting joined rest → IsKept p c x t ranks q tight weighted loose waiting joined rest
+kept_as p c x s t ranks q tight weighted loose waiting joined rest same h = subst (λ (u : List ℕ). IsKept p c x u ranks q tight weighted loose waiting joined rest) (sym same) h
 
 -- ---- a literal that held is taken back
 seek-length : (c : Parts) (s : List ℕ) (q : List Bool) (v : ℕ) → length (seek c s q v) ≡ length q
@@ -114,13 +127,13 @@ regain-length p c s q l = cases l.truth (leb l.var (length (atoms_of p)))
     cases false true = seek-length c s q l.var
     cases false false = refl
 
-pub kept_back : (p : Program) (c : Parts) (x y : List (Option Bool)) (s : List ℕ) (q r : List Bool) (tight weighted : Bool) (loose waiting joined : List Bool) (atoms : Atoms) (l : Literal) → IsSound p → IsKept p c x s q tight weighted loose waiting joined atoms → IsVar (var_count p) l.var → holds_in x l ≡ true → y ≡ set x l.var None → r ≡ regain p c s q l → IsKept p c y s r tight weighted loose waiting joined atoms
-kept_back p c x y s q r tight weighted loose waiting joined atoms l sound h is holds told regained =
-    subst (λ (z : List (Option Bool)). IsKept p c z s r tight weighted loose waiting joined atoms) (sym told) (record {
+pub kept_back : (p : Program) (c : Parts) (x y : List (Option Bool)) (s ranks : List ℕ) (q r : List Bool) (tight weighted : Bool) (loose waiting joined : List Bool) (rest : Rest) (l : Literal) → IsSound p → IsKept p c x s ranks q tight weighted loose waiting joined rest → IsVar (var_count p) l.var → holds_in x l ≡ true → y ≡ set x l.var None → r ≡ regain p c s q l → IsKept p c y s ranks r tight weighted loose waiting joined rest
+kept_back p c x y s ranks q r tight weighted loose waiting joined rest l sound h is holds told regained =
+    subst (λ (z : List (Option Bool)). IsKept p c z s ranks r tight weighted loose waiting joined rest) (sym told) (record {
       components = h.components;
       sized = length-set x l.var None ∙ h.sized;
       first = first_kept x l.var None is.0 h.first;
-      pointers = undone p c x s q r l sound holds regained (ap length regained ∙ regain-length p c s q l) h.pointers;
+      pointers = undone p c x ranks s q r l sound holds regained (ap length regained ∙ regain-length p c s q l) h.pointers;
       marks = h.marks;
       blank = h.blank;
       room = h.room;
@@ -129,15 +142,16 @@ kept_back p c x y s q r tight weighted loose waiting joined atoms l sound h is h
       trivial = h.trivial;
       plain = h.plain;
       found = h.found;
+      within = h.within;
     })
 
 -- ---- the start
-pub kept_first : (p : Program) (c : Parts) (x : List (Option Bool)) (s : List ℕ) (q : List Bool) (tight weighted : Bool) (loose waiting joined : List Bool) (atoms : Atoms) → AreComponents p c → x ≡ replicate (var_count p + 1) None → s ≡ replicate (length (atoms_of p) + 1) 0 → length q ≡ length (atoms_of p) → AreMarked c (length (atoms_of p)) q → (tight ≡ true → (k : ℕ) → is_marked q k ≡ false) → (weighted ≡ false → AreNormal p (length (bodies_of p))) → loose ≡ replicate (length (atoms_of p) + 1) false → waiting ≡ replicate (length (atoms_of p)) false → joined ≡ replicate (length (atoms_of p)) false → atoms ≡ [] → IsKept p c x s q tight weighted loose waiting joined atoms
-kept_first p c x s q tight weighted loose waiting joined atoms are is bare whole marked empty normal blank free seated nothing = record {
+pub kept_first : (p : Program) (c : Parts) (x : List (Option Bool)) (s ranks : List ℕ) (q : List Bool) (tight weighted : Bool) (loose waiting joined : List Bool) (rest : Rest) → AreComponents p c → x ≡ replicate (var_count p + 1) None → s ≡ replicate (length (atoms_of p) + 1) 0 → length ranks ≡ length (atoms_of p) + 1 → length q ≡ length (atoms_of p) → AreMarked c (length (atoms_of p)) q → (tight ≡ true → (k : ℕ) → is_marked q k ≡ false) → (weighted ≡ false → AreNormal p (length (bodies_of p))) → loose ≡ replicate (length (atoms_of p) + 1) false → waiting ≡ replicate (length (atoms_of p)) false → joined ≡ replicate (length (atoms_of p)) false → rest ≡ record { set = []; reason = [] } → IsKept p c x s ranks q tight weighted loose waiting joined rest
+kept_first p c x s ranks q tight weighted loose waiting joined rest are is bare ranked whole marked empty normal blank free seated nothing = record {
   components = are;
   sized = ap length is ∙ length-replicate (var_count p + 1) None;
   first = ap (λ (z : List (Option Bool)). value_of z 0) is ∙ none_at (var_count p + 1) 0;
-  pointers = bare_pointers p c x s q (let none : ℕ = 0 in ap length bare ∙ length-replicate (length (atoms_of p) + 1) none) whole without (λ v at cyclic. marked v at.0 at.1 cyclic);
+  pointers = bare_pointers p c x s ranks q (let none : ℕ = 0 in ap length bare ∙ length-replicate (length (atoms_of p) + 1) none) ranked whole without (λ v at cyclic. marked v at.0 at.1 cyclic);
   marks = ap length blank ∙ length-replicate (length (atoms_of p) + 1) false;
   blank = subst AreBlank (sym blank) (blank_at (length (atoms_of p) + 1));
   room = ap length free ∙ length-replicate (length (atoms_of p)) false;
@@ -145,7 +159,8 @@ kept_first p c x s q tight weighted loose waiting joined atoms are is bare whole
   none = λ e. without;
   trivial = λ e v at. alone e v at (get_or c.trivial (get_or c.numbers v 0) false) refl;
   plain = normal;
-  found = subst (AreJoined p) (sym nothing) (none_joined p);
+  found = λ a e. absurd (false≢true (sym (ap (λ (r : Rest). has r.set a) nothing) ∙ e));
+  within = subst (λ (r : Rest). All (λ (l : Literal). IsVar (var_count p) l.var) r.reason) (sym nothing) (λ i d lt. absurd (omega (arith, lt)));
 }
   where
     without : AreBare s
@@ -156,9 +171,9 @@ kept_first p c x s q tight weighted loose waiting joined atoms are is bare whole
     alone is_tight v at false e = absurd (false≢true (sym (empty is_tight (v - 1)) ∙ marked v at.0 at.1 (sym e)))
 
 -- ---- what is looked for
--- what is left of the set that was found
-pub kept_rest : (p : Program) (c : Parts) (x : List (Option Bool)) (s : List ℕ) (q : List Bool) (tight weighted : Bool) (loose waiting joined : List Bool) (atoms whole new : Atoms) → IsKept p c x s q tight weighted loose waiting joined atoms → whole ≡ atoms → new ≡ open_of p x whole → IsKept p c x s q tight weighted loose waiting joined new
-kept_rest p c x s q tight weighted loose waiting joined atoms whole new h same is = record {
+-- another set that was found
+pub kept_rest : (p : Program) (c : Parts) (x : List (Option Bool)) (s ranks : List ℕ) (q : List Bool) (tight weighted : Bool) (loose waiting joined : List Bool) (rest new : Rest) → IsKept p c x s ranks q tight weighted loose waiting joined rest → ((a : ℕ) → has new.set a ≡ true → IsRemembered p new.set new.reason) → All (λ (l : Literal). IsVar (var_count p) l.var) new.reason → IsKept p c x s ranks q tight weighted loose waiting joined new
+kept_rest p c x s ranks q tight weighted loose waiting joined rest new h found within = record {
   components = h.components;
   sized = h.sized;
   first = h.first;
@@ -170,11 +185,40 @@ kept_rest p c x s q tight weighted loose waiting joined atoms whole new h same i
   none = h.none;
   trivial = h.trivial;
   plain = h.plain;
-  found = rest_joined p x atoms whole new same is h.found;
+  found = found;
+  within = within;
 }
 
+-- other pointers, where no atom is a candidate
+pub kept_searched : (p : Program) (c : Parts) (x : List (Option Bool)) (s ranks : List ℕ) (q : List Bool) (tight weighted : Bool) (loose waiting joined : List Bool) (rest : Rest) (t o : List ℕ) (r m y z : List Bool) → IsKept p c x s ranks q tight weighted loose waiting joined rest → tight ≡ false → ArePointers p c x t o r [] → length m ≡ length (atoms_of p) + 1 → AreBlank m → length y ≡ length waiting → length z ≡ length joined → IsKept p c x t o r tight weighted m y z rest
+kept_searched p c x s ranks q tight weighted loose waiting joined rest t o r m y z h not_tight pointers marks blank room seats = record {
+  components = h.components;
+  sized = h.sized;
+  first = h.first;
+  pointers = pointers;
+  marks = marks;
+  blank = blank;
+  room = room ∙ h.room;
+  seats = seats ∙ h.seats;
+  none = λ e v. absurd (false≢true (sym not_tight ∙ e));
+  trivial = h.trivial;
+  plain = h.plain;
+  found = h.found;
+  within = h.within;
+}
+
+-- one that was found just now
+pub kept_found : (p : Program) (c : Parts) (x : List (Option Bool)) (s ranks : List ℕ) (q : List Bool) (tight weighted : Bool) (loose waiting joined : List Bool) (rest : Rest) (U : Atoms) (a : ℕ) (n : Nogood) (new : Rest) → IsKept p c x s ranks q tight weighted loose waiting joined rest → IsFound p x U a → IsLoopNogood p x U a n → new ≡ record { set = U; reason = drop 1 n.lits } → IsKept p c x s ranks q tight weighted loose waiting joined new
+kept_found p c x s ranks q tight weighted loose waiting joined rest U a n new h found shape is =
+    let t : Told = record { program = p; values = x } in
+    let P : Literal → Type 0 = λ (l : Literal). IsVar (var_count p) l.var in
+    let within : All P n.lits = (given t U a n h.sized h.first found shape).within in
+    let left : All P (drop 1 n.lits) = subst (λ (ls : List Literal). All P (drop 1 ls)) (sym shape.literals) (All-tail P (T (var_of_atom p a)) shape.rest (subst (λ (ls : List Literal). All P ls) shape.literals within)) in
+    subst (λ (r : Rest). IsKept p c x s ranks q tight weighted loose waiting joined r) (sym is)
+    (kept_rest p c x s ranks q tight weighted loose waiting joined rest (record { set = U; reason = drop 1 n.lits }) h (λ b m. remembered t U a n found shape (drop 1 n.lits) refl) left)
+
 -- a tight program has no unfounded set
-pub tight_none : (p : Program) (c : Parts) (x : List (Option Bool)) (s : List ℕ) (q : List Bool) (tight weighted : Bool) (loose waiting joined : List Bool) (atoms : Atoms) → IsKept p c x s q tight weighted loose waiting joined atoms → tight ≡ true → (U : Atoms) → IsUnfoundedLoop p x U → ⊥
-tight_none p c x s q tight weighted loose waiting joined atoms h is_tight U loop =
+pub tight_none : (p : Program) (c : Parts) (x : List (Option Bool)) (s ranks : List ℕ) (q : List Bool) (tight weighted : Bool) (loose waiting joined : List Bool) (rest : Rest) → IsKept p c x s ranks q tight weighted loose waiting joined rest → tight ≡ true → (U : Atoms) → IsUnfoundedLoop p x U → ⊥
+tight_none p c x s ranks q tight weighted loose waiting joined rest h is_tight U loop =
     let a = some_member p x U loop.unfounded in
     false≢true (sym (cyclic_of p c x U a.0 h.components loop a.1) ∙ h.trivial is_tight (var_of_atom p a.0) (atom_var p a.0 (loop.stand a.0 a.1)))

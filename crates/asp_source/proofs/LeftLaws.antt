@@ -78,20 +78,20 @@ atom_left p c x k s l places a h e =
 left_excused : (p : Program) (c : Parts) (x : List (Option Bool)) (k : ℕ) (s : List ℕ) (l : List Bool) (places : List ℕ) (r : Rule) (a : ℕ) → IsSound p → AreCandidates p c x k s l → ((v : ℕ) → is_marked l v ≡ true → has places (v - 1) ≡ true) → AreStuck p x l places → IsLeftAt p c x k l places a → Among (rules_in_force p) r → has (head_atoms r.head) a ≡ true → is_excused p x (atoms_at p l places) (normal r.body) ≡ true
 left_excused p c x k s l places r a sound h listed stuck left m head =
     let v : ℕ = left.place + 1 in
-    let unfounded : is_founded p x (shown p l) (nth_atom p (v - 1)) ≡ false = and_false (is_marked l v) (is_founded p x (shown p l) (nth_atom p (v - 1))) (at_member (λ i. is_dropped p x l (i + 1) ≡ false) places left.place stuck left.there) left.marked in
-    let none : is_founded p x (shown p l) a ≡ false = ap (is_founded p x (shown p l)) (sym (atom_of_var p a v left.stands left.var)) ∙ unfounded in
+    let unfounded : is_founded p x (shown p (is_marked l)) (nth_atom p (v - 1)) ≡ false = and_false (is_marked l v) (is_founded p x (shown p (is_marked l)) (nth_atom p (v - 1))) (at_member (λ i. is_dropped p x l (i + 1) ≡ false) places left.place stuck left.there) left.marked in
+    let none : is_founded p x (shown p (is_marked l)) a ≡ false = ap (is_founded p x (shown p (is_marked l))) (sym (atom_of_var p a v left.stands left.var)) ∙ unfounded in
     let b : Body = normal r.body in
     let test : Body → Bool = λ d. list_any (λ (s : Rule). has (head_atoms s.head) a && body_eq (normal s.body) d) (rules_in_force p) in
     let known = rule_has_form p r m in
     let passes : test b ≡ true = m (λ s. has (head_atoms s.head) a && body_eq (normal s.body) b) (and_from (has (head_atoms r.head) a) (body_eq b b) head (body_eq-itself b)) in
     let supported : has (supports p a) (var_of_form p b) ≡ true = form_in p test b (bodies_of p) known passes in
-    let excused : is_excused p x (shown p l) b ≡ true =
-    ap (is_excused p x (shown p l)) (sym (form_of-var p b known)) ∙ not_false_true (is_excused p x (shown p l) (form_of p (var_of_form p b))) (none_of (λ w. not (is_excused p x (shown p l) (form_of p w))) (supports p a) (var_of_form p b) none supported) in
-    excused_more p x (shown p l) (atoms_at p l places) b within (form_weighted p r sound m) excused
+    let excused : is_excused p x (shown p (is_marked l)) b ≡ true =
+    ap (is_excused p x (shown p (is_marked l))) (sym (form_of-var p b known)) ∙ not_false_true (is_excused p x (shown p (is_marked l)) (form_of p (var_of_form p b))) (none_of (λ w. not (is_excused p x (shown p (is_marked l)) (form_of p w))) (supports p a) (var_of_form p b) none supported) in
+    excused_more p x (shown p (is_marked l)) (atoms_at p l places) b within (form_weighted p r sound m) excused
   where
-    within : IsSubset (shown p l) (atoms_at p l places)
+    within : IsSubset (shown p (is_marked l)) (atoms_at p l places)
     within d e =
-        let parts = and_parts (is_marked l (var_of_atom p d)) (has (atoms_of p) d) (sym (has-shown p l d) ∙ e) in
+        let parts = and_parts (is_marked l (var_of_atom p d)) (has (atoms_of p) d) (sym (has-shown p (is_marked l) d) ∙ e) in
         let some_ = (h.atoms (var_of_atom p d) parts.0).0 in
         subst (λ (w : ℕ). has (atoms_at p l places) w ≡ true) (atom_of_var p d (var_of_atom p d) parts.1 refl)
         (to_atoms p l places (var_of_atom p d - 1) (listed (var_of_atom p d) parts.0) (ap (is_marked l) (omega (arith, some_)) ∙ parts.0))

@@ -9,24 +9,27 @@ use Rattle.asp_vars.specs.Unfounded.{is_excused}
 use Rattle.asp_loop.specs.Parts.{form_of}
 use Rattle.std.specs.List.{All}
 use Rattle.asp_source.specs.Marks.{is_marked, shown, is_dropped}
+use Rattle.asp_source.specs.Ranks.{Ranking, IsRanking, raised}
 
--- The body, of a rule for the variable's atom, isn't excused for the candidates.
-pub record IsFoundBy (p : Program) (x : List (Option Bool)) (loose : List Bool) (v b : ℕ) : Type 0 where
+-- The body, of a rule for the variable's atom, isn't excused for the atoms that pass.
+pub record IsFoundBy (p : Program) (x : List (Option Bool)) (q : ℕ → Bool) (v b : ℕ) : Type 0 where
   pub support : IsTrue (has (supports p (nth_atom p (v - 1))) b)
-  pub firm : is_excused p x (shown p loose) (form_of p b) ≡ false
+  pub firm : is_excused p x (shown p q) (form_of p b) ≡ false
 
 -- Candidates get sources, one after another, each a body that isn't excused for those that are candidates then.
-pub data GetSources (p : Program) (x : List (Option Bool)) (sources : List ℕ) (loose : List Bool) : List ℕ → List Bool → Type 0 where
-  gets_none : GetSources p x sources loose sources loose
-  gets_one : {s : List ℕ} {l : List Bool} {v b : ℕ} → GetSources p x sources loose s l → IsAtomVar p v → is_marked l v ≡ true → IsFoundBy p x l v b → GetSources p x sources loose (slice_set s v b) (slice_set l v false)
+pub data GetSources (p : Program) (x : List (Option Bool)) (sources : List ℕ) (ranks : Ranking) (loose : List Bool) : List ℕ → Ranking → List Bool → Type 0 where
+  gets_none : GetSources p x sources ranks loose sources ranks loose
+  gets_one : {s : List ℕ} {r : Ranking} {l : List Bool} {v b : ℕ} → GetSources p x sources ranks loose s r l → IsAtomVar p v → is_marked l v ≡ true → IsFoundBy p x (is_marked l) v b → IsRanking r.ranks r.clock → GetSources p x sources ranks loose (slice_set s v b) (raised r v) (slice_set l v false)
 
--- They do so, and wait for it, no more than get one.
-pub record Founds (p : Program) (x : List (Option Bool)) (sources : List ℕ) (loose waiting : List Bool) (sources_then : List ℕ) (loose_then waiting_then : List Bool) : Type 0 where
-  pub gets : GetSources p x sources loose sources_then loose_then
+-- They do so, and wait for it, no more than get one. The clock ticks no more than that either.
+pub record Founds (p : Program) (x : List (Option Bool)) (sources : List ℕ) (ranks : Ranking) (loose waiting : List Bool) (sources_then : List ℕ) (ranks_then : Ranking) (loose_then waiting_then : List Bool) : Type 0 where
+  pub gets : GetSources p x sources ranks loose sources_then ranks_then loose_then
   pub size : length sources_then ≡ length sources
+  pub rank_room : length ranks_then.ranks ≡ length ranks.ranks
   pub marks : length loose_then ≡ length loose
   pub room : length waiting_then ≡ length waiting
   pub fewer : count_by (λ b. b) loose_then ≤ count_by (λ b. b) loose
+  pub ticks : ranks_then.clock + count_by (λ b. b) loose_then ≤ ranks.clock + count_by (λ b. b) loose
   pub paid : count_by (λ b. b) waiting_then + count_by (λ b. b) loose_then ≤ count_by (λ b. b) waiting + count_by (λ b. b) loose
 
 -- Of the atoms of these places none is a candidate that a body founds.

@@ -1,35 +1,36 @@
 -- How candidates for an unfounded set are gathered.
-use Rattle.std.specs.Prelude.{◌≡◌, ◌≢◌, ℕ, ◌+◌, ◌-◌, ◌≤◌, ◌⊎◌, ◌||◌, Bool, true, false, List, [], Option, if◌then◌else◌, length, count_by, slice_index, slice_set}
+use Rattle.std.specs.Prelude.{◌≡◌, ℕ, ◌+◌, ◌-◌, ◌<◌, ◌≤◌, ◌==◌, ◌⊎◌, ◌&&◌, ◌||◌, not, Bool, true, false, List, Option, if◌then◌else◌, length, count_by, slice_index, slice_set}
 use Rattle.std.specs.List.{All}
 use Rattle.asp_model.specs.declared.program.Program.{Program}
 use Rattle.asp_model.specs.Models.{atoms_of}
-use Rattle.asp_vars.specs.Literals.{T, F, has_literal, holds_in}
+use Rattle.asp_vars.specs.Literals.{F, holds_in}
 use Rattle.asp_vars.specs.Numbering.{nth_body}
-use Rattle.asp_vars.specs.Tabled.{form_literals, heads_of, IsAtomVar}
+use Rattle.asp_vars.specs.Tabled.{heads_of, IsAtomVar}
+use Rattle.asp_vars.specs.Unfounded.{is_excused}
 use Rattle.asp_scc.specs.Components.{Parts}
 use Rattle.asp_loop.specs.Parts.{form_of}
-use Rattle.asp_source.specs.Marks.{is_marked}
-use Rattle.asp_source.specs.Pointers.{AreGrounded, AreSupports, AreCandidates, IsGone}
+use Rattle.asp_source.specs.Marks.{is_marked, shown}
+use Rattle.asp_source.specs.Founding.{IsFoundBy}
+use Rattle.asp_source.specs.Ranks.{is_above, AreRanked}
+use Rattle.asp_source.specs.Pointers.{AreSupports, AreCandidates}
 
--- No source of an atom of the component has the atom of this variable as a positive literal.
-abbrev pub IsFree : Program → Parts → ℕ → List ℕ → ℕ → Type 0
-IsFree p c k sources v =
-    (h : ℕ) → IsAtomVar p h → slice_index c.numbers h ≡ k → slice_index sources h ≢ 0 → has_literal (form_literals p (form_of p (slice_index sources h))) (T v) ≡ false
+-- whether the variable's atom is a candidate that neither waits nor is looked at just now
+abbrev pub is_done : List Bool → List Bool → ℕ → ℕ → Bool
+is_done loose waiting busy v = (is_marked loose v && not (is_marked waiting (v - 1))) && not (v == busy)
 
--- Candidates are gathered: those that neither wait nor are looked at just now are free. All of them have joined.
-pub record IsGathering (p : Program) (c : Parts) (x : List (Option Bool)) (k busy : ℕ) (sources : List ℕ) (loose waiting joined : List Bool) : Type 0 where
+-- Candidates are gathered: no source rests on those that are done. All of them have joined.
+pub record IsGathering (p : Program) (c : Parts) (x : List (Option Bool)) (k : ℕ) (ranks : List ℕ) (busy : ℕ) (sources : List ℕ) (loose waiting joined : List Bool) : Type 0 where
   pub size : length sources ≡ length (atoms_of p) + 1
+  pub rank_room : length ranks ≡ length (atoms_of p) + 1
   pub waits : length waiting ≡ length (atoms_of p)
   pub joins : length joined ≡ length (atoms_of p)
   pub supports : AreSupports p sources
-  pub grounded : AreGrounded p c x sources []
+  pub ranked : AreRanked p c x ranks (is_done loose waiting busy) sources
   pub candidates : AreCandidates p c x k sources loose
-  pub free : (v : ℕ) → is_marked loose v ≡ true → is_marked waiting (v - 1) ≡ false → v ≢ busy → IsFree p c k sources v
   pub listed : (v : ℕ) → is_marked loose v ≡ true → is_marked joined (v - 1) ≡ true
 
--- Sources go alone, and candidates come: each atom of which the source goes, unless it is false. No more atoms wait than candidates came.
+-- Candidates come: each atom of which the source goes, unless it is false. No more atoms wait than candidates came.
 pub record Gathers (x : List (Option Bool)) (sources : List ℕ) (loose waiting : List Bool) (sources_then : List ℕ) (loose_then waiting_then : List Bool) : Type 0 where
-  pub less : (v : ℕ) → (slice_index sources_then v ≡ slice_index sources v) ⊎ (slice_index sources_then v ≡ 0)
   pub size : length sources_then ≡ length sources
   pub marks : length loose_then ≡ length loose
   pub room : length waiting_then ≡ length waiting
@@ -37,9 +38,42 @@ pub record Gathers (x : List (Option Bool)) (sources : List ℕ) (loose waiting 
   pub left : (v : ℕ) → slice_index sources_then v ≡ 0 → holds_in x (F v) ≡ false → (slice_index sources v ≡ 0) ⊎ (is_marked loose_then v ≡ true)
   pub paid : count_by (λ b. b) waiting_then + count_by (λ b. b) loose ≤ count_by (λ b. b) waiting + count_by (λ b. b) loose_then
 
--- No head of the body that is in the component has it as its source.
-abbrev pub AreReleased : Program → Parts → ℕ → List ℕ → ℕ → Type 0
-AreReleased p c k sources j = All (λ v. slice_index c.numbers v ≡ k → IsGone sources (length (atoms_of p) + 1 + j) v) (heads_of p (nth_body p j))
+-- The body founds the variable's atom from outside of all that is done, and of what isn't lower.
+abbrev pub IsClear : Program → Parts → List (Option Bool) → ℕ → List ℕ → List Bool → List Bool → ℕ → ℕ → Type 0
+IsClear p c x k ranks loose waiting b v =
+    is_excused p x (shown p (is_above c ranks (is_done loose waiting 0) k (slice_index ranks v))) (form_of p b) ≡ false
+
+-- Where the variable's atom is in the component, and has this body as its source, that founds it.
+abbrev pub IsReleased : Program → Parts → List (Option Bool) → ℕ → List ℕ → List ℕ → List Bool → List Bool → ℕ → ℕ → Type 0
+IsReleased p c x k ranks sources loose waiting b v =
+    slice_index c.numbers v ≡ k → slice_index sources v ≡ b → IsClear p c x k ranks loose waiting b v
+
+-- What is so stays so.
+abbrev pub Keeps : Program → Parts → List (Option Bool) → ℕ → List ℕ → List ℕ → List Bool → List Bool → List ℕ → List Bool → List Bool → Type 0
+Keeps p c x k ranks sources loose waiting sources_then loose_then waiting_then =
+    (b v : ℕ) → 0 < b → IsAtomVar p v → IsReleased p c x k ranks sources loose waiting b v → IsReleased p c x k ranks sources_then loose_then waiting_then b v
+
+abbrev pub AreReleased : Program → Parts → List (Option Bool) → ℕ → List ℕ → List ℕ → List Bool → List Bool → ℕ → Type 0
+AreReleased p c x k ranks sources loose waiting j =
+    All (IsReleased p c x k ranks sources loose waiting (length (atoms_of p) + 1 + j)) (heads_of p (nth_body p j))
+
+-- Some sources go or change, and candidates come: what was so of the gathering is so still.
+pub record Steps (p : Program) (c : Parts) (x : List (Option Bool)) (k : ℕ) (ranks : List ℕ) (busy : ℕ) (sources : List ℕ) (loose waiting : List Bool) (sources_then : List ℕ) (loose_then waiting_then joined_then : List Bool) : Type 0 where
+  pub gathering : IsGathering p c x k ranks busy sources_then loose_then waiting_then joined_then
+  pub gathers : Gathers x sources loose waiting sources_then loose_then waiting_then
+  pub keeps : Keeps p c x k ranks sources loose waiting sources_then loose_then waiting_then
+
+-- An atom without source has one again, or is a candidate, or is false.
+pub record Admits (p : Program) (c : Parts) (x : List (Option Bool)) (k : ℕ) (ranks : List ℕ) (busy v : ℕ) (sources : List ℕ) (loose waiting : List Bool) (sources_then : List ℕ) (loose_then waiting_then joined_then : List Bool) : Type 0 where
+  pub steps : Steps p c x k ranks busy sources loose waiting sources_then loose_then waiting_then joined_then
+  pub clear : (b : ℕ) → 0 < b → IsReleased p c x k ranks sources_then loose_then waiting_then b v
+  pub admitted : slice_index sources_then v ≡ 0 → holds_in x (F v) ≡ false → is_marked loose_then v ≡ true
+
+-- The atom gets a source that is founded from outside of the candidates, and of what isn't lower.
+pub record IsReseated (p : Program) (c : Parts) (x : List (Option Bool)) (k : ℕ) (ranks : List ℕ) (loose : List Bool) (v : ℕ) (sources sources_then : List ℕ) : Type 0 where
+  pub body : ℕ
+  pub by : IsFoundBy p x (is_above c ranks (is_marked loose) k (slice_index ranks v)) v body
+  pub is : sources_then ≡ slice_set sources v body
 
 -- the atom is false, or a candidate already
 abbrev pub stays : List (Option Bool) → List Bool → ℕ → Bool

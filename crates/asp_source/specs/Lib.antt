@@ -1,7 +1,9 @@
 pub mod Loops
 pub mod Marks
 pub mod Queues
+pub mod Ranks
 pub mod Pointers
 pub mod Gathering
 pub mod Founding
+pub mod Rest
 pub mod Kept

@@ -35,13 +35,15 @@ pub record IsUnfoundedLoop (p : Program) (x : List (Option Bool)) (U : Atoms) : 
   pub not_false : (a : ℕ) → IsTrue (has U a) → holds_in x (F (var_of_atom p a)) ≡ false
   pub unfounded : IsTrue (is_unfounded p x U)
 
--- The nogood is a loop nogood of such a set. All of its literals hold but the first, which isn't false.
+-- The nogood is a loop nogood of such a set, under the values told or some that were told before. Under the values told all
+-- of its literals hold but one, which isn't false.
 pub record IsGiven (t : Told) (n : Nogood) : Type 0 where
+  pub values : List (Option Bool)
   pub set : Atoms
   pub atom : ℕ
-  pub loop : IsUnfoundedLoop t.program t.values set
+  pub loop : IsUnfoundedLoop t.program values set
   pub member : IsTrue (has set atom)
-  pub shape : IsLoopNogood t.program t.values set atom n
+  pub shape : IsLoopNogood t.program values set atom n
   pub base : n.base ≡ base.Pure
   pub entailed : Entailed t.program n.lits
   pub within : All (λ l. IsVar (var_count t.program) l.var) n.lits

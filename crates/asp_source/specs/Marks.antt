@@ -17,17 +17,17 @@ is_marked marks v = slice_index_or marks v false
 abbrev pub AreBlank : List Bool → Type 0
 AreBlank marks = (v : ℕ) → is_marked marks v ≡ false
 
--- the atoms whose variables are marked
-abbrev pub shown : Program → List Bool → Atoms
-shown p marks = filter (λ a. is_marked marks (var_of_atom p a)) (atoms_of p)
+-- the atoms of which the variable passes
+abbrev pub shown : Program → (ℕ → Bool) → Atoms
+shown p q = filter (λ a. q (var_of_atom p a)) (atoms_of p)
 
--- whether the literal says that a marked atom is true
-abbrev pub lit_inside : List Bool → Literal → Bool
-lit_inside marks l = l.truth && is_marked marks l.var
+-- whether the literal says that such an atom is true
+abbrev pub lit_inside : (ℕ → Bool) → Literal → Bool
+lit_inside q l = l.truth && q l.var
 
--- whether the literal counts from outside of the marked atoms: it isn't false
-abbrev pub lit_outside : List (Option Bool) → List Bool → Literal → Bool
-lit_outside x marks l = not (lit_inside marks l) && not (holds_in x (complement l))
+-- whether the literal counts from outside of those atoms: it isn't false
+abbrev pub lit_outside : List (Option Bool) → (ℕ → Bool) → Literal → Bool
+lit_outside x q l = not (lit_inside q l) && not (holds_in x (complement l))
 
 -- whether a body of a rule for the atom isn't excused
 abbrev pub is_founded : Program → List (Option Bool) → Atoms → ℕ → Bool
@@ -35,7 +35,7 @@ is_founded p x U a = list_any (λ v. not (is_excused p x U (form_of p v))) (supp
 
 -- whether the variable's atom is marked, and founded from outside of the marked ones
 abbrev pub is_dropped : Program → List (Option Bool) → List Bool → ℕ → Bool
-is_dropped p x marks v = is_marked marks v && is_founded p x (shown p marks) (nth_atom p (v - 1))
+is_dropped p x marks v = is_marked marks v && is_founded p x (shown p (is_marked marks)) (nth_atom p (v - 1))
 
 abbrev pub atom_if : Program → List Bool → ℕ → List ℕ
 atom_if p marks v = if is_marked marks v then nth_atom p (v - 1) ∷ [] else []

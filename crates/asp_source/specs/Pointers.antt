@@ -13,22 +13,7 @@ use Rattle.asp_table.specs.declared.columns.Occurrence.{Occurrence}
 use Rattle.asp_scc.specs.Components.{Parts, component_of, Stands}
 use Rattle.asp_loop.specs.Parts.{form_of}
 use Rattle.asp_source.specs.Marks.{is_marked}
-
--- the atom's source, a body's variable; 0 where it has none
-abbrev pub source_of : Program → List ℕ → ℕ → ℕ
-source_of p sources a = slice_index sources (var_of_atom p a)
-
--- A set of atoms within a component, each of which has a source or is marked.
-pub record IsHeld (p : Program) (c : Parts) (sources : List ℕ) (loose : List Bool) (U : Atoms) : Type 0 where
-  pub stand : (a : ℕ) → IsTrue (has U a) → Stands p a
-  pub joined : (a b : ℕ) → IsTrue (has U a) → IsTrue (has U b) → component_of p c a ≡ component_of p c b
-  pub held : (a : ℕ) → IsTrue (has U a) → (source_of p sources a ≢ 0) ⊎ (is_marked loose (var_of_atom p a) ≡ true)
-
--- Of such a set with an atom that has a source, one has a source that founds it from outside of the set.
-abbrev pub AreGrounded : Program → Parts → List (Option Bool) → List ℕ → List Bool → Type 0
-AreGrounded p c x sources loose =
-    (U : Atoms) → IsHeld p c sources loose U → (a : ℕ) → IsTrue (has U a) → source_of p sources a ≢ 0 →
-    (b : ℕ) × IsTrue (has U b) × (source_of p sources b ≢ 0) × (is_excused p x U (form_of p (source_of p sources b)) ≡ false)
+use Rattle.asp_source.specs.Ranks.{AreRanked}
 
 -- A source is the body of a rule for its atom.
 abbrev pub AreSupports : Program → List ℕ → Type 0
@@ -40,11 +25,12 @@ AreSought p c x sources queue loose =
     (v : ℕ) → IsAtomVar p v → slice_index sources v ≡ 0 → slice_index_or c.trivial (slice_index c.numbers v) false ≡ false → holds_in x (F v) ≡ false →
     (is_marked queue (v - 1) ≡ true) ⊎ (is_marked loose v ≡ true)
 
-pub record ArePointers (p : Program) (c : Parts) (x : List (Option Bool)) (sources : List ℕ) (queue loose : List Bool) : Type 0 where
+pub record ArePointers (p : Program) (c : Parts) (x : List (Option Bool)) (sources ranks : List ℕ) (queue loose : List Bool) : Type 0 where
   pub size : length sources ≡ length (atoms_of p) + 1
+  pub rank_room : length ranks ≡ length (atoms_of p) + 1
   pub room : length queue ≡ length (atoms_of p)
   pub supports : AreSupports p sources
-  pub grounded : AreGrounded p c x sources loose
+  pub ranked : AreRanked p c x ranks (is_marked loose) sources
   pub sought : AreSought p c x sources queue loose
 
 -- Each candidate is an atom of the component, isn't false, and has no source.
@@ -78,8 +64,8 @@ abbrev pub IsGoneBy : Program → List ℕ → Occurrence → Type 0
 IsGoneBy p sources o = is_some (bound_of (nth_body p o.body)) ≡ true → AreGone p sources o.body
 
 -- Candidates settle: each goes that gets a source.
-pub record IsSettling (p : Program) (c : Parts) (x : List (Option Bool)) (k : ℕ) (sources : List ℕ) (queue loose : List Bool) : Type 0 where
-  pub pointers : ArePointers p c x sources queue loose
+pub record IsSettling (p : Program) (c : Parts) (x : List (Option Bool)) (k : ℕ) (sources ranks : List ℕ) (queue loose : List Bool) : Type 0 where
+  pub pointers : ArePointers p c x sources ranks queue loose
   pub candidates : AreCandidates p c x k sources loose
 
 -- ---- an atom that is looked for

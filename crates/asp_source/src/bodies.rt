@@ -10,26 +10,29 @@ ghost use Rattle.asp_vars.specs.Unfounded.{needs, is_excused};
 ghost use Rattle.asp_loop.specs.Weighing.{weigh};
 ghost use Rattle.asp_source.specs.Marks.{lit_inside, lit_outside, shown};
 
+use crate::inside::Inside;
 use asp_loop::weighing::{take_weight, weight_at};
 use asp_vars::assign::Assign;
 use asp_vars::compiled::Compiled;
 use asp_vars::lit::Lit;
 use asp_vars::occurrence::Occurrence;
 
-fn is_inside(loose: &[bool], lit: Lit) -> bool
-    requires { lit.var < length loose.now }
-    ensures { result ≡ lit_inside loose.now lit }
+fn is_inside<I: Inside>(set: &I, lit: Lit) -> bool
+    requires { lit.var < I.limit set.now }
+    ensures { result ≡ lit_inside (I.has_var set.now) lit }
 {
-    let marked = loose[lit.var() as usize];
-    lit.truth() && marked
+    if !lit.truth() {
+        return false;
+    }
+    set.is_inside(lit.var())
 }
 
-fn is_some_inside(loose: &[bool], lits: &[Lit]) -> bool
-    requires { All (λ l. l.var < length loose.now) lits.now }
-    ensures { result ≡ list_any (lit_inside loose.now) lits.now }
+fn is_some_inside<I: Inside>(set: &I, lits: &[Lit]) -> bool
+    requires { All (λ l. l.var < I.limit set.now) lits.now }
+    ensures { result ≡ list_any (lit_inside (I.has_var set.now)) lits.now }
 {
     for lit in lits {
-        if is_inside(loose, *lit) {
+        if is_inside(set, *lit) {
             return true;
         }
     }
@@ -37,30 +40,30 @@ fn is_some_inside(loose: &[bool], lits: &[Lit]) -> bool
 }
 
 // Whether a literal counts from outside of the set.
-fn counts(values: &Assign, loose: &[bool], lit: Lit) -> bool
-    requires loose { lit.var < length loose.now }
+fn counts<I: Inside>(values: &Assign, set: &I, lit: Lit) -> bool
+    requires limit { lit.var < I.limit set.now }
     requires values { lit.var < length values.now }
-    ensures { result ≡ lit_outside values.now loose.now lit }
+    ensures { result ≡ lit_outside values.now (I.has_var set.now) lit }
 {
-    let inside = is_inside(loose, lit);
+    let inside = is_inside(set, lit);
     let is_false = values.holds(lit.complement());
     !inside && !is_false
 }
 
 // Whether the weights of the literals that count reach the bound.
-fn reaches(values: &Assign, loose: &[bool], lits: &[Lit], weights: &[i64], bound: i32) -> bool
-    requires loose { All (λ l. l.var < length loose.now) lits.now }
+fn reaches<I: Inside>(values: &Assign, set: &I, lits: &[Lit], weights: &[i64], bound: i32) -> bool
+    requires limit { All (λ l. l.var < I.limit set.now) lits.now }
     requires values { All (λ l. l.var < length values.now) lits.now }
     requires places { length weights.now ≡ length lits.now }
     requires weights { All (λ w. pos 0 ≤ℤ w) weights.now }
-    ensures { result ≡ int_le bound (weigh (lit_outside values.now loose.now) lits.now weights.now) }
+    ensures { result ≡ int_le bound (weigh (lit_outside values.now (I.has_var set.now)) lits.now weights.now) }
 {
     if bound <= 0 {
         return true;
     }
     let mut left = bound as u64;
     for i in 0..lits.len() {
-        let counts = counts(values, loose, lits[i]);
+        let counts = counts(values, set, lits[i]);
         match take_weight(left, weight_at(weights, i), counts) {
             Some(rest) => left = rest,
             None => return true,
@@ -70,43 +73,43 @@ fn reaches(values: &Assign, loose: &[bool], lits: &[Lit], weights: &[i64], bound
 }
 
 // Whether a weight body can hold from outside of the set.
-fn is_reached(compiled: &Compiled, values: &Assign, loose: &[bool], body: usize, bound: i32) -> bool
+fn is_reached<I: Inside>(compiled: &Compiled, values: &Assign, set: &I, body: usize, bound: i32) -> bool
     requires body { body < length (bodies_of compiled.now) }
     requires values { length values.now ≡ var_count compiled.now + 1 }
-    requires loose { length loose.now ≡ length (atoms_of compiled.now) + 1 }
+    requires limit { I.limit set.now ≡ length (atoms_of compiled.now) + 1 }
     requires weighted { bound_of (nth_body compiled.now body) ≡ Some bound }
-    ensures { result ≡ not (needs compiled.now values.now (shown compiled.now loose.now) (nth_body compiled.now body)) }
+    ensures { result ≡ not (needs compiled.now values.now (shown compiled.now (I.has_var set.now)) (nth_body compiled.now body)) }
 {
     let _program = compiled.program();
     let lits = compiled.literals(body);
-    reaches(values, loose, lits, compiled.weights(body), bound)
+    reaches(values, set, lits, compiled.weights(body), bound)
 }
 
 // Whether a body can hold from outside of the set.
-fn stands(compiled: &Compiled, values: &Assign, loose: &[bool], body: usize) -> bool
+fn stands<I: Inside>(compiled: &Compiled, values: &Assign, set: &I, body: usize) -> bool
     requires body { body < length (bodies_of compiled.now) }
     requires values { length values.now ≡ var_count compiled.now + 1 }
-    requires loose { length loose.now ≡ length (atoms_of compiled.now) + 1 }
-    ensures { result ≡ not (needs compiled.now values.now (shown compiled.now loose.now) (nth_body compiled.now body)) }
+    requires limit { I.limit set.now ≡ length (atoms_of compiled.now) + 1 }
+    ensures { result ≡ not (needs compiled.now values.now (shown compiled.now (I.has_var set.now)) (nth_body compiled.now body)) }
 {
     match compiled.bound(body) {
-        Some(bound) => is_reached(compiled, values, loose, body, bound),
-        None => !is_some_inside(loose, compiled.literals(body)),
+        Some(bound) => is_reached(compiled, values, set, body, bound),
+        None => !is_some_inside(set, compiled.literals(body)),
     }
 }
 
 /// Whether a body isn't false and can hold from outside of the set.
-pub fn is_firm(compiled: &Compiled, values: &Assign, loose: &[bool], body: usize) -> bool
+pub fn is_firm<I: Inside>(compiled: &Compiled, values: &Assign, set: &I, body: usize) -> bool
     requires body { body < length (bodies_of compiled.now) }
     requires values { length values.now ≡ var_count compiled.now + 1 }
-    requires loose { length loose.now ≡ length (atoms_of compiled.now) + 1 }
-    ensures { result ≡ not (is_excused compiled.now values.now (shown compiled.now loose.now) (nth_body compiled.now body)) }
+    requires limit { I.limit set.now ≡ length (atoms_of compiled.now) + 1 }
+    ensures { result ≡ not (is_excused compiled.now values.now (shown compiled.now (I.has_var set.now)) (nth_body compiled.now body)) }
 {
     let is_false = values.holds(Lit::new(compiled.body_var(body), false));
     if is_false {
         return false;
     }
-    stands(compiled, values, loose, body)
+    stands(compiled, values, set, body)
 }
 
 /// The bodies in which a literal of an atom's variable stands.

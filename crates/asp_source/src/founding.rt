@@ -2,7 +2,7 @@
 //!
 //! An atom that is a candidate no longer waits until the bodies were looked at in which it stands: they may found their
 //! heads now.
-ghost use Rattle.std.specs.Prelude.{◌≡◌, ◌+◌, ◌-◌, ◌<◌, true, false, All, IfNone, IfSome, IsTrue, length, count_by};
+ghost use Rattle.std.specs.Prelude.{◌≡◌, ◌+◌, ◌-◌, ◌<◌, ◌^◌, true, false, All, IfNone, IfSome, IsTrue, length, count_by};
 ghost use Rattle.std.specs.List.{list_any};
 ghost use Rattle.asp_model.specs.Models.{atoms_of};
 ghost use Rattle.asp_model.specs.Sets.{has};
@@ -15,22 +15,29 @@ ghost use Rattle.asp_source.specs.Marks.{is_marked, shown, is_founded, is_droppe
 ghost use Rattle.asp_source.specs.Founding.{Founds, IsFoundBy};
 
 use crate::bodies::{is_firm, occurrences};
+use crate::inside::{Candidates, Inside};
 use crate::queue::Queue;
+use crate::ranks::Ranks;
 use asp_vars::assign::Assign;
 use asp_vars::compiled::Compiled;
 use asp_vars::lit::{Lit, Var};
 
-// A body of a rule for the atom that isn't excused for the candidates.
-fn find_source(compiled: &Compiled, values: &Assign, loose: &[bool], var: Var) -> Option<Var>
+/// A body of a rule for the atom that founds it from outside of a set.
+pub fn find_source<I: Inside>(
+    compiled: &Compiled,
+    values: &Assign,
+    set: &I,
+    var: Var,
+) -> Option<Var>
     requires var { IsAtomVar compiled.now var }
     requires values { length values.now ≡ var_count compiled.now + 1 }
-    requires loose { length loose.now ≡ length (atoms_of compiled.now) + 1 }
-    ensures none { IfNone result (is_founded compiled.now values.now (shown compiled.now loose.now) (nth_atom compiled.now (var - 1)) ≡ false) }
-    ensures some { IfSome result (IsFoundBy compiled.now values.now loose.now var) }
+    requires limit { I.limit set.now ≡ length (atoms_of compiled.now) + 1 }
+    ensures none { IfNone result (is_founded compiled.now values.now (shown compiled.now (I.has_var set.now)) (nth_atom compiled.now (var - 1)) ≡ false) }
+    ensures some { IfSome result (IsFoundBy compiled.now values.now (I.has_var set.now) var) }
 {
     let atoms = compiled.atom_count();
     for body in compiled.supports(var) {
-        if is_firm(compiled, values, loose, *body as usize - atoms - 1) {
+        if is_firm(compiled, values, set, *body as usize - atoms - 1) {
             return Some(*body);
         }
     }
@@ -42,6 +49,7 @@ pub fn found_one(
     compiled: &Compiled,
     values: &Assign,
     sources: &mut [Var],
+    ranks: &mut Ranks,
     loose: &mut [bool],
     waiting: &mut Queue,
     var: Var,
@@ -51,7 +59,9 @@ pub fn found_one(
     requires sources { length sources.old ≡ length (atoms_of compiled.now) + 1 }
     requires loose { length loose.old ≡ length (atoms_of compiled.now) + 1 }
     requires waiting { length waiting.old ≡ length (atoms_of compiled.now) }
-    ensures founds { Founds compiled.now values.now sources.old loose.old waiting.old sources.new loose.new waiting.new }
+    requires ranks { length ranks.old.ranks ≡ length (atoms_of compiled.now) + 1 }
+    requires time { ranks.old.clock + count_by (λ b. b) loose.old < 2 ^ 64 }
+    ensures founds { Founds compiled.now values.now sources.old ranks.old loose.old waiting.old sources.new ranks.new loose.new waiting.new }
     ensures founded { result ≡ is_dropped compiled.now values.now loose.old var }
     ensures same { result ≡ false → loose.new ≡ loose.old }
     ensures fewer { result ≡ true → count_by (λ b. b) loose.new < count_by (λ b. b) loose.old }
@@ -59,10 +69,12 @@ pub fn found_one(
     if !loose[var as usize] {
         return false;
     }
-    let Some(body) = find_source(compiled, values, loose, var) else {
+    let candidates = Candidates { loose };
+    let Some(body) = find_source(compiled, values, &candidates, var) else {
         return false;
     };
     sources[var as usize] = body;
+    ranks.raise(var);
     loose[var as usize] = false;
     waiting.add(var - 1);
     true
@@ -86,6 +98,7 @@ fn found_each(
     compiled: &Compiled,
     values: &Assign,
     sources: &mut [Var],
+    ranks: &mut Ranks,
     loose: &mut [bool],
     waiting: &mut Queue,
     vars: &[Var],
@@ -95,10 +108,12 @@ fn found_each(
     requires sources { length sources.old ≡ length (atoms_of compiled.now) + 1 }
     requires loose { length loose.old ≡ length (atoms_of compiled.now) + 1 }
     requires waiting { length waiting.old ≡ length (atoms_of compiled.now) }
-    ensures { Founds compiled.now values.now sources.old loose.old waiting.old sources.new loose.new waiting.new }
+    requires ranks { length ranks.old.ranks ≡ length (atoms_of compiled.now) + 1 }
+    requires time { ranks.old.clock + count_by (λ b. b) loose.old < 2 ^ 64 }
+    ensures { Founds compiled.now values.now sources.old ranks.old loose.old waiting.old sources.new ranks.new loose.new waiting.new }
 {
     for var in vars {
-        found_one(compiled, values, sources, loose, waiting, *var);
+        found_one(compiled, values, sources, ranks, loose, waiting, *var);
     }
 }
 
@@ -108,7 +123,7 @@ fn is_founding(compiled: &Compiled, values: &Assign, loose: &[bool], body: usize
     requires values { length values.now ≡ var_count compiled.now + 1 }
     requires loose { length loose.now ≡ length (atoms_of compiled.now) + 1 }
 {
-    is_some_loose(loose, compiled.heads(body)) && is_firm(compiled, values, loose, body)
+    is_some_loose(loose, compiled.heads(body)) && is_firm(compiled, values, &Candidates { loose }, body)
 }
 
 // The heads of a body get sources if it founds them.
@@ -116,6 +131,7 @@ fn found_heads(
     compiled: &Compiled,
     values: &Assign,
     sources: &mut [Var],
+    ranks: &mut Ranks,
     loose: &mut [bool],
     waiting: &mut Queue,
     body: usize,
@@ -125,7 +141,9 @@ fn found_heads(
     requires sources { length sources.old ≡ length (atoms_of compiled.now) + 1 }
     requires loose { length loose.old ≡ length (atoms_of compiled.now) + 1 }
     requires waiting { length waiting.old ≡ length (atoms_of compiled.now) }
-    ensures { Founds compiled.now values.now sources.old loose.old waiting.old sources.new loose.new waiting.new }
+    requires ranks { length ranks.old.ranks ≡ length (atoms_of compiled.now) + 1 }
+    requires time { ranks.old.clock + count_by (λ b. b) loose.old < 2 ^ 64 }
+    ensures { Founds compiled.now values.now sources.old ranks.old loose.old waiting.old sources.new ranks.new loose.new waiting.new }
 {
     if !is_founding(compiled, values, loose, body) {
         return;
@@ -134,6 +152,7 @@ fn found_heads(
         compiled,
         values,
         sources,
+        ranks,
         loose,
         waiting,
         compiled.heads(body),
@@ -145,6 +164,7 @@ fn spread_from(
     compiled: &Compiled,
     values: &Assign,
     sources: &mut [Var],
+    ranks: &mut Ranks,
     loose: &mut [bool],
     waiting: &mut Queue,
     var: Var,
@@ -154,7 +174,9 @@ fn spread_from(
     requires sources { length sources.old ≡ length (atoms_of compiled.now) + 1 }
     requires loose { length loose.old ≡ length (atoms_of compiled.now) + 1 }
     requires waiting { length waiting.old ≡ length (atoms_of compiled.now) }
-    ensures { Founds compiled.now values.now sources.old loose.old waiting.old sources.new loose.new waiting.new }
+    requires ranks { length ranks.old.ranks ≡ length (atoms_of compiled.now) + 1 }
+    requires time { ranks.old.clock + count_by (λ b. b) loose.old < 2 ^ 64 }
+    ensures { Founds compiled.now values.now sources.old ranks.old loose.old waiting.old sources.new ranks.new loose.new waiting.new }
 {
     let _vars = compiled.vars();
     for occurrence in occurrences(compiled, Lit::new(var, true)) {
@@ -162,6 +184,7 @@ fn spread_from(
             compiled,
             values,
             sources,
+        ranks,
             loose,
             waiting,
             occurrence.body as usize,
@@ -174,6 +197,7 @@ pub fn spread(
     compiled: &Compiled,
     values: &Assign,
     sources: &mut [Var],
+    ranks: &mut Ranks,
     loose: &mut [bool],
     waiting: &mut Queue,
 )
@@ -181,10 +205,12 @@ pub fn spread(
     requires sources { length sources.old ≡ length (atoms_of compiled.now) + 1 }
     requires loose { length loose.old ≡ length (atoms_of compiled.now) + 1 }
     requires waiting { length waiting.old ≡ length (atoms_of compiled.now) }
-    ensures { Founds compiled.now values.now sources.old loose.old waiting.old sources.new loose.new waiting.new }
+    requires ranks { length ranks.old.ranks ≡ length (atoms_of compiled.now) + 1 }
+    requires time { ranks.old.clock + count_by (λ b. b) loose.old < 2 ^ 64 }
+    ensures { Founds compiled.now values.now sources.old ranks.old loose.old waiting.old sources.new ranks.new loose.new waiting.new }
 {
     let _vars = compiled.vars();
     while let Some(place) = waiting.pop() {
-        spread_from(compiled, values, sources, loose, waiting, place + 1);
+        spread_from(compiled, values, sources, ranks, loose, waiting, place + 1);
     }
 }

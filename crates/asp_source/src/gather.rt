@@ -1,20 +1,22 @@
 //! The candidates for an unfounded set that atoms without a source bring with them.
 //!
-//! What rests on a candidate is a candidate too, and loses its source: else an atom could get a source that rests on the
-//! atom itself. An atom without source on which a candidate could rest joins as well, so that all of them are looked at
-//! together; that only saves looks.
-ghost use Rattle.std.specs.Prelude.{◌≡◌, ℕ, ◌+◌, ◌-◌, ◌<◌, ◌≤◌, ◌^◌, true, false, List, Bool, length, slice_index, All};
+//! What rests on a candidate loses its source: else an atom could get a source that rests on the atom itself. It gets
+//! another if one founds it from lower atoms alone, and is a candidate too if none does. An atom without source on which a
+//! candidate could rest is asked the same, so that all of them are looked at together; that only saves looks.
+ghost use Rattle.std.specs.Prelude.{◌≡◌, ℕ, ◌+◌, ◌-◌, ◌<◌, ◌≤◌, ◌^◌, true, false, length, slice_index};
 ghost use Rattle.asp_model.specs.Models.{atoms_of};
 ghost use Rattle.asp_vars.specs.Numbering.{bodies_of, var_count};
 ghost use Rattle.asp_vars.specs.Tabled.{IsAtomVar};
 ghost use Rattle.asp_scc.specs.Components.{AreComponents};
 ghost use Rattle.asp_source.specs.Marks.{is_marked};
-ghost use Rattle.asp_source.specs.Pointers.{IsGone};
-ghost use Rattle.asp_source.specs.Gathering.{IsGathering, Gathers, AreReleased, join_loose, join_places};
+ghost use Rattle.asp_source.specs.Gathering.{IsGathering, Gathers, Steps, Admits, IsReseated, IsReleased, AreReleased, join_loose, join_places};
 
 use crate::bodies::occurrences;
+use crate::founding::find_source;
+use crate::inside::Above;
 use crate::pointers::lose;
 use crate::queue::Queue;
+use crate::ranks::Ranks;
 use asp_scc::components::Components;
 use asp_vars::assign::Assign;
 use asp_vars::compiled::Compiled;
@@ -29,6 +31,8 @@ pub struct Region<'a> {
     pub components: &'a Components,
     /// The values told.
     pub values: &'a Assign,
+    /// The ranks of its atoms.
+    pub ranks: &'a Ranks,
     /// The component's number.
     pub component: u32,
 }
@@ -53,7 +57,67 @@ pub fn join(values: &Assign, loose: &mut [bool], waiting: &mut Queue, joined: &m
     joined.add(var - 1);
 }
 
-// A head of the component that has the body as its source loses it, and joins.
+// An atom of the component gets a source again, if a body founds it from outside of the candidates and of the atoms of
+// its rank and above. What rests on the atom needn't be looked at then.
+fn reseat(region: &Region, sources: &mut [Var], loose: &[bool], var: Var) -> bool
+    requires components { AreComponents region.now.compiled.now region.now.components.now }
+    requires values { length region.now.values.now ≡ var_count region.now.compiled.now + 1 }
+    requires ranks { length region.now.ranks.now.ranks ≡ length (atoms_of region.now.compiled.now) + 1 }
+    requires sources { length sources.old ≡ length (atoms_of region.now.compiled.now) + 1 }
+    requires loose { length loose.now ≡ length (atoms_of region.now.compiled.now) + 1 }
+    requires var { IsAtomVar region.now.compiled.now var }
+    ensures same { result ≡ false → sources.new ≡ sources.old }
+    ensures seated { result ≡ true → IsReseated region.now.compiled.now region.now.components.now region.now.values.now region.now.component region.now.ranks.now.ranks loose.now var sources.old sources.new }
+{
+    let _vars = region.compiled.vars();
+    let above = Above {
+        loose,
+        components: region.components,
+        ranks: region.ranks,
+        component: region.component,
+        rank: region.ranks.of(var),
+    };
+    let Some(body) = find_source(region.compiled, region.values, &above, var) else {
+        return false;
+    };
+    sources[var as usize] = body;
+    true
+}
+
+/// An atom of the component without source gets one again if it can, and joins the candidates if not, unless it is false.
+pub fn admit(
+    region: &Region,
+    sources: &mut [Var],
+    loose: &mut [bool],
+    waiting: &mut Queue,
+    joined: &mut Queue,
+    busy: Var,
+    var: Var,
+)
+    requires components { AreComponents region.now.compiled.now region.now.components.now }
+    requires values { length region.now.values.now ≡ var_count region.now.compiled.now + 1 }
+    requires gathering { IsGathering region.now.compiled.now region.now.components.now region.now.values.now region.now.component region.now.ranks.now.ranks busy sources.old loose.old waiting.old joined.old }
+    requires var { IsAtomVar region.now.compiled.now var }
+    requires at { slice_index region.now.components.now.numbers var ≡ region.now.component }
+    requires none { slice_index sources.old var ≡ 0 }
+    ensures { Admits region.now.compiled.now region.now.components.now region.now.values.now region.now.component region.now.ranks.now.ranks busy var sources.old loose.old waiting.old sources.new loose.new waiting.new joined.new }
+{
+    let _program = region.compiled.program();
+    let _vars = region.compiled.vars();
+    let _ = busy;
+    if region.values.holds(Lit::new(var, false)) {
+        return;
+    }
+    if loose[var as usize] {
+        return;
+    }
+    if reseat(region, sources, loose, var) {
+        return;
+    }
+    join(region.values, loose, waiting, joined, var);
+}
+
+// A head of the component that has the body as its source loses it, unless it founds the head still.
 fn release(
     region: &Region,
     sources: &mut [Var],
@@ -66,22 +130,20 @@ fn release(
 )
     requires components { AreComponents region.now.compiled.now region.now.components.now }
     requires values { length region.now.values.now ≡ var_count region.now.compiled.now + 1 }
-    requires gathering { IsGathering region.now.compiled.now region.now.components.now region.now.values.now region.now.component busy sources.old loose.old waiting.old joined.old }
+    requires gathering { IsGathering region.now.compiled.now region.now.components.now region.now.values.now region.now.component region.now.ranks.now.ranks busy sources.old loose.old waiting.old joined.old }
     requires var { IsAtomVar region.now.compiled.now var }
     requires body { 0 < body }
-    ensures gathering { IsGathering region.now.compiled.now region.now.components.now region.now.values.now region.now.component busy sources.new loose.new waiting.new joined.new }
-    ensures gathers { Gathers region.now.values.now sources.old loose.old waiting.old sources.new loose.new waiting.new }
-    ensures gone { slice_index region.now.components.now.numbers var ≡ region.now.component → IsGone sources.new body var }
+    ensures steps { Steps region.now.compiled.now region.now.components.now region.now.values.now region.now.component region.now.ranks.now.ranks busy sources.old loose.old waiting.old sources.new loose.new waiting.new joined.new }
+    ensures released { IsReleased region.now.compiled.now region.now.components.now region.now.values.now region.now.component region.now.ranks.now.ranks sources.new loose.new waiting.new body var }
 {
     let _vars = region.compiled.vars();
-    let _ = busy;
     if region.components.of(var) != region.component {
         return;
     }
     if !lose(sources, body, var) {
         return;
     }
-    join(region.values, loose, waiting, joined, var);
+    admit(region, sources, loose, waiting, joined, busy, var);
 }
 
 fn release_heads(
@@ -95,11 +157,10 @@ fn release_heads(
 )
     requires components { AreComponents region.now.compiled.now region.now.components.now }
     requires values { length region.now.values.now ≡ var_count region.now.compiled.now + 1 }
-    requires gathering { IsGathering region.now.compiled.now region.now.components.now region.now.values.now region.now.component busy sources.old loose.old waiting.old joined.old }
+    requires gathering { IsGathering region.now.compiled.now region.now.components.now region.now.values.now region.now.component region.now.ranks.now.ranks busy sources.old loose.old waiting.old joined.old }
     requires body { body < length (bodies_of region.now.compiled.now) }
-    ensures gathering { IsGathering region.now.compiled.now region.now.components.now region.now.values.now region.now.component busy sources.new loose.new waiting.new joined.new }
-    ensures gathers { Gathers region.now.values.now sources.old loose.old waiting.old sources.new loose.new waiting.new }
-    ensures gone { AreReleased region.now.compiled.now region.now.components.now region.now.component sources.new body }
+    ensures steps { Steps region.now.compiled.now region.now.components.now region.now.values.now region.now.component region.now.ranks.now.ranks busy sources.old loose.old waiting.old sources.new loose.new waiting.new joined.new }
+    ensures released { AreReleased region.now.compiled.now region.now.components.now region.now.values.now region.now.component region.now.ranks.now.ranks sources.new loose.new waiting.new body }
 {
     let var_of_body = region.compiled.body_var(body);
     for var in region.compiled.heads(body) {
@@ -116,7 +177,7 @@ fn release_heads(
     }
 }
 
-// Atoms of the component whose source rests on this one lose it, and join.
+// Atoms of the component whose source rests on this one get another, or join.
 fn release_from(
     region: &Region,
     sources: &mut [Var],
@@ -127,11 +188,12 @@ fn release_from(
 )
     requires components { AreComponents region.now.compiled.now region.now.components.now }
     requires values { length region.now.values.now ≡ var_count region.now.compiled.now + 1 }
-    requires gathering { IsGathering region.now.compiled.now region.now.components.now region.now.values.now region.now.component var sources.old loose.old waiting.old joined.old }
+    requires gathering { IsGathering region.now.compiled.now region.now.components.now region.now.values.now region.now.component region.now.ranks.now.ranks var sources.old loose.old waiting.old joined.old }
     requires var { IsAtomVar region.now.compiled.now var }
-    ensures gathering { IsGathering region.now.compiled.now region.now.components.now region.now.values.now region.now.component 0 sources.new loose.new waiting.new joined.new }
+    ensures gathering { IsGathering region.now.compiled.now region.now.components.now region.now.values.now region.now.component region.now.ranks.now.ranks 0 sources.new loose.new waiting.new joined.new }
     ensures gathers { Gathers region.now.values.now sources.old loose.old waiting.old sources.new loose.new waiting.new }
 {
+    let _program = region.compiled.program();
     let _vars = region.compiled.vars();
     for occurrence in occurrences(region.compiled, Lit::new(var, true)) {
         release_heads(
@@ -148,7 +210,7 @@ fn release_from(
 
 fn draw(
     region: &Region,
-    sources: &[Var],
+    sources: &mut [Var],
     loose: &mut [bool],
     waiting: &mut Queue,
     joined: &mut Queue,
@@ -156,10 +218,10 @@ fn draw(
 )
     requires components { AreComponents region.now.compiled.now region.now.components.now }
     requires values { length region.now.values.now ≡ var_count region.now.compiled.now + 1 }
-    requires gathering { IsGathering region.now.compiled.now region.now.components.now region.now.values.now region.now.component 0 sources.now loose.old waiting.old joined.old }
+    requires gathering { IsGathering region.now.compiled.now region.now.components.now region.now.values.now region.now.component region.now.ranks.now.ranks 0 sources.old loose.old waiting.old joined.old }
     requires atom { IsAtomVar region.now.compiled.now lit.var }
-    ensures gathering { IsGathering region.now.compiled.now region.now.components.now region.now.values.now region.now.component 0 sources.now loose.new waiting.new joined.new }
-    ensures gathers { Gathers region.now.values.now sources.now loose.old waiting.old sources.now loose.new waiting.new }
+    ensures gathering { IsGathering region.now.compiled.now region.now.components.now region.now.values.now region.now.component region.now.ranks.now.ranks 0 sources.new loose.new waiting.new joined.new }
+    ensures gathers { Gathers region.now.values.now sources.old loose.old waiting.old sources.new loose.new waiting.new }
 {
     let _vars = region.compiled.vars();
     let var = lit.var();
@@ -169,12 +231,12 @@ fn draw(
     if sources[var as usize] != 0 {
         return;
     }
-    join(region.values, loose, waiting, joined, var);
+    admit(region, sources, loose, waiting, joined, 0, var);
 }
 
 fn draw_body(
     region: &Region,
-    sources: &[Var],
+    sources: &mut [Var],
     loose: &mut [bool],
     waiting: &mut Queue,
     joined: &mut Queue,
@@ -182,10 +244,10 @@ fn draw_body(
 )
     requires components { AreComponents region.now.compiled.now region.now.components.now }
     requires values { length region.now.values.now ≡ var_count region.now.compiled.now + 1 }
-    requires gathering { IsGathering region.now.compiled.now region.now.components.now region.now.values.now region.now.component 0 sources.now loose.old waiting.old joined.old }
+    requires gathering { IsGathering region.now.compiled.now region.now.components.now region.now.values.now region.now.component region.now.ranks.now.ranks 0 sources.old loose.old waiting.old joined.old }
     requires body { body < length (bodies_of region.now.compiled.now) }
-    ensures gathering { IsGathering region.now.compiled.now region.now.components.now region.now.values.now region.now.component 0 sources.now loose.new waiting.new joined.new }
-    ensures gathers { Gathers region.now.values.now sources.now loose.old waiting.old sources.now loose.new waiting.new }
+    ensures gathering { IsGathering region.now.compiled.now region.now.components.now region.now.values.now region.now.component region.now.ranks.now.ranks 0 sources.new loose.new waiting.new joined.new }
+    ensures gathers { Gathers region.now.values.now sources.old loose.old waiting.old sources.new loose.new waiting.new }
 {
     if region
         .values
@@ -198,10 +260,10 @@ fn draw_body(
     }
 }
 
-// Atoms of the component join that have no source, and on which this one could rest.
+// Atoms of the component without source, on which this one could rest, get one again, or join.
 fn draw_from(
     region: &Region,
-    sources: &[Var],
+    sources: &mut [Var],
     loose: &mut [bool],
     waiting: &mut Queue,
     joined: &mut Queue,
@@ -209,10 +271,10 @@ fn draw_from(
 )
     requires components { AreComponents region.now.compiled.now region.now.components.now }
     requires values { length region.now.values.now ≡ var_count region.now.compiled.now + 1 }
-    requires gathering { IsGathering region.now.compiled.now region.now.components.now region.now.values.now region.now.component 0 sources.now loose.old waiting.old joined.old }
+    requires gathering { IsGathering region.now.compiled.now region.now.components.now region.now.values.now region.now.component region.now.ranks.now.ranks 0 sources.old loose.old waiting.old joined.old }
     requires var { IsAtomVar region.now.compiled.now var }
-    ensures gathering { IsGathering region.now.compiled.now region.now.components.now region.now.values.now region.now.component 0 sources.now loose.new waiting.new joined.new }
-    ensures gathers { Gathers region.now.values.now sources.now loose.old waiting.old sources.now loose.new waiting.new }
+    ensures gathering { IsGathering region.now.compiled.now region.now.components.now region.now.values.now region.now.component region.now.ranks.now.ranks 0 sources.new loose.new waiting.new joined.new }
+    ensures gathers { Gathers region.now.values.now sources.old loose.old waiting.old sources.new loose.new waiting.new }
 {
     let atoms = region.compiled.atom_count();
     for body in region.compiled.supports(var) {
@@ -237,11 +299,12 @@ pub fn gather(
 )
     requires components { AreComponents region.now.compiled.now region.now.components.now }
     requires values { length region.now.values.now ≡ var_count region.now.compiled.now + 1 }
-    requires gathering { IsGathering region.now.compiled.now region.now.components.now region.now.values.now region.now.component 0 sources.old loose.old waiting.old joined.old }
-    ensures gathering { IsGathering region.now.compiled.now region.now.components.now region.now.values.now region.now.component 0 sources.new loose.new waiting.new joined.new }
+    requires gathering { IsGathering region.now.compiled.now region.now.components.now region.now.values.now region.now.component region.now.ranks.now.ranks 0 sources.old loose.old waiting.old joined.old }
+    ensures gathering { IsGathering region.now.compiled.now region.now.components.now region.now.values.now region.now.component region.now.ranks.now.ranks 0 sources.new loose.new waiting.new joined.new }
     ensures gathers { Gathers region.now.values.now sources.old loose.old waiting.old sources.new loose.new waiting.new }
     ensures done { (k : ℕ) → is_marked waiting.new k ≡ false }
 {
+    let _program = region.compiled.program();
     let _vars = region.compiled.vars();
     while let Some(place) = waiting.pop() {
         release_from(region, sources, loose, waiting, joined, place + 1);

@@ -2,7 +2,7 @@
 //!
 //! A candidate with a body that isn't excused for the set of all candidates gets it as its source; so it goes. When none
 //! goes any more, all bodies of those left are excused: they are unfounded, or there are none.
-ghost use Rattle.std.specs.Prelude.{◌≡◌, ℕ, ◌+◌, ◌-◌, ◌<◌, ◌≤◌, ◌^◌, ◌++◌, true, false, All, IfNone, IfSome, OnOk, length, count_by, slice_set};
+ghost use Rattle.std.specs.Prelude.{◌≡◌, ℕ, ◌+◌, ◌-◌, ◌<◌, ◌≤◌, ◌^◌, ◌++◌, true, false, All, IfNone, IfOk, IfSome, OnOk, length, count_by, slice_set};
 ghost use Rattle.asp_model.specs.Models.{atoms_of};
 ghost use Rattle.asp_vars.specs.Numbering.{var_count, nth_atom};
 ghost use Rattle.asp_vars.specs.Tabled.{IsAtomVar};
@@ -12,17 +12,19 @@ ghost use Rattle.asp_source.specs.Founding.{Founds, AreStuck};
 
 use crate::founding::{found_one, spread};
 use crate::queue::Queue;
+use crate::ranks::Ranks;
 use asp_model::program::Atom;
 use asp_vars::assign::Assign;
 use asp_vars::compiled::Compiled;
 use asp_vars::lit::Var;
-use std::alloc::AllocError;
+use std::alloc::{AllocError, Global};
 
 // Looks at each of the atoms once, and says whether there is a candidate less.
 fn sweep(
     compiled: &Compiled,
     values: &Assign,
     sources: &mut [Var],
+    ranks: &mut Ranks,
     loose: &mut [bool],
     waiting: &mut Queue,
     places: &[u32],
@@ -32,14 +34,16 @@ fn sweep(
     requires sources { length sources.old ≡ length (atoms_of compiled.now) + 1 }
     requires loose { length loose.old ≡ length (atoms_of compiled.now) + 1 }
     requires waiting { length waiting.old ≡ length (atoms_of compiled.now) }
-    ensures founds { Founds compiled.now values.now sources.old loose.old waiting.old sources.new loose.new waiting.new }
+    requires ranks { length ranks.old.ranks ≡ length (atoms_of compiled.now) + 1 }
+    requires time { ranks.old.clock + count_by (λ b. b) loose.old < 2 ^ 64 }
+    ensures founds { Founds compiled.now values.now sources.old ranks.old loose.old waiting.old sources.new ranks.new loose.new waiting.new }
     ensures fewer { result ≡ true → count_by (λ b. b) loose.new < count_by (λ b. b) loose.old }
     ensures stuck { result ≡ false → AreStuck compiled.now values.now loose.new places.now }
 {
     let _vars = compiled.vars();
     let mut dropped = false;
     for place in places {
-        if found_one(compiled, values, sources, loose, waiting, *place + 1) {
+        if found_one(compiled, values, sources, ranks, loose, waiting, *place + 1) {
             dropped = true;
         }
     }
@@ -53,6 +57,7 @@ pub fn settle(
     compiled: &Compiled,
     values: &Assign,
     sources: &mut [Var],
+    ranks: &mut Ranks,
     loose: &mut [bool],
     waiting: &mut Queue,
     places: &[u32],
@@ -62,15 +67,17 @@ pub fn settle(
     requires sources { length sources.old ≡ length (atoms_of compiled.now) + 1 }
     requires loose { length loose.old ≡ length (atoms_of compiled.now) + 1 }
     requires waiting { length waiting.old ≡ length (atoms_of compiled.now) }
-    ensures founds { Founds compiled.now values.now sources.old loose.old waiting.old sources.new loose.new waiting.new }
+    requires ranks { length ranks.old.ranks ≡ length (atoms_of compiled.now) + 1 }
+    requires time { ranks.old.clock + count_by (λ b. b) loose.old < 2 ^ 64 }
+    ensures founds { Founds compiled.now values.now sources.old ranks.old loose.old waiting.old sources.new ranks.new loose.new waiting.new }
     ensures stuck { AreStuck compiled.now values.now loose.new places.now }
 {
     'rounds: loop {
-        let dropped = sweep(compiled, values, sources, loose, waiting, places);
+        let dropped = sweep(compiled, values, sources, ranks, loose, waiting, places);
         if !dropped {
             break;
         }
-        spread(compiled, values, sources, loose, waiting);
+        spread(compiled, values, sources, ranks, loose, waiting);
     }
 }
 
@@ -121,21 +128,21 @@ fn push_candidate(
 
 /// The candidates among these atoms.
 pub fn collect(
+    alloc: Global,
     compiled: &Compiled,
     loose: &[bool],
     places: &[u32],
-    atoms: &mut Vec<Atom>,
-) -> Result<(), AllocError>
+) -> Result<Vec<Atom>, AllocError>
     requires places { All (λ k. k < length (atoms_of compiled.now)) places.now }
     requires loose { length loose.now ≡ length (atoms_of compiled.now) + 1 }
-    ensures { OnOk result (atoms.new.items ≡ atoms_at compiled.now loose.now places.now) }
+    ensures { IfOk result (λ atoms. atoms.items ≡ atoms_at compiled.now loose.now places.now) }
 {
     let _vars = compiled.vars();
-    atoms.clear();
+    let mut atoms = Vec::new(alloc);
     for place in places {
-        push_candidate(compiled, loose, *place + 1, atoms)?;
+        push_candidate(compiled, loose, *place + 1, &mut atoms)?;
     }
-    Ok(())
+    Ok(atoms)
 }
 
 // An atom that is a candidate still is queued, and is a candidate no longer.

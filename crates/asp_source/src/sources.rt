@@ -8,20 +8,21 @@
 //! body founded of which a literal comes to be false. `undo` queues an atom that was false, if it lost its source
 //! meanwhile. Atoms of trivial components have no source, and are never queued. Where all components are trivial, the
 //! program is tight: no value makes a set unfounded, and nothing is ever queued.
-ghost use Rattle.std.specs.Prelude.{◌≡◌, ◌+◌, None, IsTrue, IfOk, IfNone, IfSome, replicate};
-ghost use Rattle.asp_model.specs.Sets.{Atoms};
+ghost use Rattle.std.specs.Prelude.{◌≡◌, ℕ, List, Option, Bool, ◌+◌, None, IsTrue, IfOk, IfNone, IfSome, replicate};
+ghost use Rattle.asp_model.specs.Sets.{Atoms, has};
 ghost use Rattle.asp_vars.specs.Literals.{value_of, holds_in};
 ghost use Rattle.asp_vars.specs.Numbering.{var_count};
 ghost use Rattle.asp_trail.specs.Entries.{assignment};
 ghost use Rattle.asp_trail.specs.Trails.{IsVar};
 ghost use Rattle.asp_trail.specs.Told.{told, untold};
-ghost use Rattle.asp_source.specs.Loops.{AreJoined, IsUnfoundedLoop, IsGiven};
+ghost use Rattle.asp_source.specs.Loops.{IsUnfoundedLoop, IsGiven};
 
 use crate::pointers::{lose_by, regain};
 use crate::queue::Queue;
-use crate::rest::{choose_atom, open_atoms};
+use crate::ranks::Ranks;
+use crate::rest::Found;
 use crate::search::{Setting, first_unfounded};
-use crate::start::{has_weights, queue_of};
+use crate::start::{has_weights, queue_of, refresh};
 use asp_loop::loops::loop_nogood;
 use asp_model::program::Atom;
 use asp_scc::components::Components;
@@ -47,6 +48,8 @@ pub struct Sources<'a> {
     values: Assign,
     /// By atom, the variable of the body that is its source, or 0 for none. One more than the atoms; 0 is no atom.
     sources: Vec<Var>,
+    /// How old the sources are: each rests on atoms of lower ranks alone, as far as its component goes.
+    ranks: Ranks,
     /// The atoms to be looked at, by variable less 1.
     queue: Queue,
     /// Whether all components are trivial.
@@ -59,8 +62,8 @@ pub struct Sources<'a> {
     waiting: Queue,
     /// The atoms that came to be candidates in the look, by variable less 1.
     joined: Queue,
-    /// The set that was found last, of which further atoms are told; empty where nothing is left of it.
-    atoms: Vec<Atom>,
+    /// The set that was found last, of which further atoms are told.
+    found: Found,
 }
 
 impl<'a> Model for Sources<'a> {
@@ -72,7 +75,7 @@ impl<'a> Model for Sources<'a> {
 
     ghost view = { λ s. record { program = s.compiled.now; values = s.values } };
 
-    ghost invariant = { λ s. IsKept s.compiled.now s.components s.values s.sources.items s.queue s.tight s.weighted s.loose.items s.waiting s.joined s.atoms.items };
+    ghost invariant = { λ s. IsKept s.compiled.now s.components s.values s.sources.items s.ranks.ranks s.queue s.tight s.weighted s.loose.items s.waiting s.joined s.found };
 }
 
 impl<'a> Sources<'a> {
@@ -85,26 +88,28 @@ impl<'a> Sources<'a> {
         let components = components(alloc, compiled)?;
         let values = Assign::new(alloc, compiled.vars())?;
         let sources = vec![in alloc; 0 as u32; compiled.atom_count() + 1]?;
+        let ranks = Ranks::new(alloc, compiled.atom_count() + 1)?;
         let queue = queue_of(alloc, compiled, &components)?;
         let tight = queue.is_empty();
         let weighted = has_weights(compiled);
         let loose = vec![in alloc; false; compiled.atom_count() + 1]?;
         let waiting = Queue::new(alloc, compiled.atom_count())?;
         let joined = Queue::new(alloc, compiled.atom_count())?;
-        let atoms = Vec::with_capacity(alloc, compiled.atom_count())?;
+        let found = Found::new(alloc);
         Ok(Sources {
             alloc,
             compiled,
             components,
             values,
             sources,
+            ranks,
             queue,
             tight,
             weighted,
             loose,
             waiting,
             joined,
-            atoms,
+            found,
         })
     }
 
@@ -147,35 +152,19 @@ impl<'a> Sources<'a> {
 
     /// The set of whose atoms `next` gave a loop nogood last, in any order.
     pub fn last_set(&self) -> &[Atom]
-        ensures { AreJoined self.now.program result.now }
+        ensures { (a : ℕ) → IsTrue (has result.now a) → (x : List (Option Bool)) × IsUnfoundedLoop self.now.program x result.now }
     {
-        self.atoms.as_slice()
+        self.found.set()
     }
 
-    // The loop nogood of what is left of the set that was found last, if it is unfounded still.
+    // The loop nogood of another atom of the set that was found last, if what made it unfounded holds still.
     fn again(&mut self) -> Result<Option<Nogood>, AllocError>
         ensures same { self.new ≡ self.old }
         ensures given { IfOk result (λ n. IfSome n (IsGiven self.old)) }
     {
         let _program = self.compiled.program();
-        let open = open_atoms(
-            self.alloc,
-            self.compiled,
-            &self.values,
-            self.atoms.as_slice(),
-        )?;
-        self.atoms = open;
-        let Some(atom) = choose_atom(self.compiled, &self.values, self.atoms.as_slice()) else {
-            return Ok(None);
-        };
-        let nogood = loop_nogood(
-            self.alloc,
-            self.compiled,
-            self.atoms.as_slice(),
-            atom,
-            &self.values,
-        )?;
-        let Some(nogood) = nogood else {
+        let again = self.found.again(self.compiled, &self.values)?;
+        let Some(nogood) = again else {
             return Ok(None);
         };
         Ok(Some(nogood))
@@ -191,7 +180,17 @@ impl<'a> Sources<'a> {
         if self.tight {
             return Ok(None);
         }
+        refresh(
+            self.alloc,
+            self.compiled,
+            &self.components,
+            &self.values,
+            &mut self.sources,
+            &mut self.ranks,
+            &mut self.queue,
+        )?;
         let setting = Setting {
+            alloc: self.alloc,
             compiled: self.compiled,
             components: &self.components,
             values: &self.values,
@@ -199,32 +198,27 @@ impl<'a> Sources<'a> {
         let found = first_unfounded(
             &setting,
             self.sources.as_mut_slice(),
+            &mut self.ranks,
             &mut self.queue,
             self.loose.as_mut_slice(),
             &mut self.waiting,
             &mut self.joined,
-            &mut self.atoms,
-        );
-        let found = match found {
-            Ok(found) => found,
-            Err(error) => {
-                self.atoms.clear();
-                return Err(error);
-            }
-        };
-        let Some(atom) = found else {
-            self.atoms.clear();
+        )?;
+        let Some(found) = found else {
             return Ok(None);
         };
         let nogood = loop_nogood(
             self.alloc,
             self.compiled,
-            self.atoms.as_slice(),
-            atom,
+            found.atoms.as_slice(),
+            found.atom,
             &self.values,
         )?;
         match nogood {
-            Some(nogood) => Ok(Some(nogood)),
+            Some(nogood) => {
+                self.found.keep(found.atoms, &nogood)?;
+                Ok(Some(nogood))
+            }
             None => unreachable!(),
         }
     }

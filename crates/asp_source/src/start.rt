@@ -1,14 +1,17 @@
-//! What is kept at the start.
-ghost use Rattle.std.specs.Prelude.{◌≡◌, ◌+◌, ◌<◌, ◌^◌, true, false, IfOk, length, slice_index, slice_index_or, slice_set, if◌then◌else◌};
+//! What is kept at the start, and where all begins anew.
+ghost use Rattle.std.specs.Prelude.{◌≡◌, ◌+◌, ◌<◌, ◌^◌, [], true, false, IfOk, OnOk, length, slice_index, slice_index_or, slice_set, if◌then◌else◌};
 ghost use Rattle.asp_model.specs.Models.{atoms_of};
 ghost use Rattle.asp_vars.specs.Numbering.{bodies_of};
 ghost use Rattle.asp_scc.specs.Components.{AreComponents};
-ghost use Rattle.asp_source.specs.Pointers.{AreMarked};
+ghost use Rattle.asp_source.specs.Pointers.{AreMarked, ArePointers};
 ghost use Rattle.asp_source.specs.Pointers.{AreNormal};
 
 use crate::queue::Queue;
+use crate::ranks::Ranks;
 use asp_scc::components::Components;
+use asp_vars::assign::Assign;
 use asp_vars::compiled::Compiled;
+use asp_vars::lit::Var;
 use std::alloc::{AllocError, Global};
 
 /// Whether some body is a weight body.
@@ -52,4 +55,34 @@ pub fn queue_of(
         queue_atom(components, &mut queue, atom);
     }
     Ok(queue)
+}
+
+/// Where ranks may soon run out all atoms lose their sources, and are queued.
+///
+/// Want of memory leaves all as it was.
+pub fn refresh(
+    alloc: Global,
+    compiled: &Compiled,
+    components: &Components,
+    values: &Assign,
+    sources: &mut Vec<Var>,
+    ranks: &mut Ranks,
+    queue: &mut Queue,
+) -> Result<(), AllocError>
+    requires components { AreComponents compiled.now components.now }
+    requires pointers { ArePointers compiled.now components.now values.now sources.old.items ranks.old.ranks queue.old [] }
+    ensures pointers { ArePointers compiled.now components.now values.now sources.new.items ranks.new.ranks queue.new [] }
+    ensures time { OnOk result (ranks.new.clock < 2 ^ 63) }
+{
+    let _ = values;
+    if !ranks.is_full() {
+        return Ok(());
+    }
+    let bare = vec![in alloc; 0 as u32; compiled.atom_count() + 1]?;
+    let first = Ranks::new(alloc, compiled.atom_count() + 1)?;
+    let all = queue_of(alloc, compiled, components)?;
+    *sources = bare;
+    *ranks = first;
+    *queue = all;
+    Ok(())
 }

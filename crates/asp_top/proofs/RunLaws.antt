@@ -16,7 +16,7 @@ use Rattle.asp_top.specs.declared.status.Status.{Status}
 use Rattle.asp_top.specs.declared.status.Status.TheVariants.{All, NoModel, Partial, Unknown, Help, Memory, Usage, Refused, ReadFault, TooLong, WriteFault}
 use Rattle.asp_top.specs.declared.status.Outcome.{Outcome}
 use Rattle.asp_top.specs.Meaning.{has_model, status_for}
-use Rattle.asp_top.specs.Notes.{is_answered, notes_of}
+use Rattle.asp_top.specs.Notes.{is_answered}
 use Rattle.asp_top.specs.Runs.{Around, DeliveryMeans, IsExact, IsGiven, IsSaid, IsSolved, Means, Runs, Says, Solves, is_brief, report_text, status_of}
 use Rattle.asp_cli.specs.declared.Options.{Options}
 
@@ -147,8 +147,3 @@ runs-ring given a n p o make is left reads s =
 
 pub ok-no-fault : (p : Program) (e : ReadError) → ¬ IsErrOf (Ok p) e
 ok-no-fault p e is = cc
-
--- no counts are written where no results were
-pub unanswered-notes : (stats : Bool) (status : Status) → is_answered status ≡ false → notes_of stats (record { status = status; report = None }) ≡ notes_of false (record { status = status; report = None })
-unanswered-notes true status e = rw e refl
-unanswered-notes false status e = refl

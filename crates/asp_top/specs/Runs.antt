@@ -1,5 +1,5 @@
 -- What each status of a run says of the words, of the bytes read and of the bytes written.
-use Rattle.std.specs.Prelude.{◌≡◌, ◌⊎◌, ℕ, ◌≤◌, Bool, true, false, List, Option, None, Some, Result, Ok, Err, IfSome, IsSome, is_some}
+use Rattle.std.specs.Prelude.{◌≡◌, ◌⊎◌, ℕ, ◌≤◌, Bool, true, false, List, Option, None, Some, Result, Ok, Err, IfSome, IsSome, is_some, length}
 use Rattle.std.specs.Io.KnownBytes.{Appends, Keeps, IsAtEnd}
 use Rattle.asp_io.specs.Causes.{Rose, AppendsFront}
 use Rattle.asp_read.specs.declared.fault.Fault.{Fault}
@@ -18,14 +18,18 @@ use Rattle.asp_make.specs.Ring.{ring}
 use Rattle.asp_cli.specs.Given.{Given, help, misuse, options, version}
 use Rattle.asp_cli.specs.declared.Options.{Options}
 use Rattle.asp_cli.specs.Texts.{help_page, version_line}
+use Rattle.asp_model.specs.Models.{atoms_of}
+use Rattle.asp_vars.specs.Numbering.{bodies_of}
 use Rattle.asp_crew_laws.specs.declared.report.Report.{Report}
 use Rattle.asp_crew_laws.specs.Reports.{IsReport}
 use Rattle.asp_crew_laws.specs.Proofs.{HasProof}
 use Rattle.asp_top.specs.declared.status.Status.{Status}
 use Rattle.asp_top.specs.declared.status.Status.TheVariants.{All, NoModel, Partial, Unknown, Help, Memory, Usage, Refused, ReadFault, TooLong, WriteFault}
 use Rattle.asp_top.specs.declared.status.Outcome.{Outcome}
+use Rattle.asp_top.specs.declared.counts.Tally.{Tally}
 use Rattle.asp_top.specs.Meaning.{has_model, mode_of, status_for}
-use Rattle.asp_top.specs.Notes.{is_answered, notes_of}
+use Rattle.asp_top.specs.Notes.{IsNoted, is_answered, note_of, notes_of}
+use Rattle.asp_top.specs.Progress.{IsTold}
 use Rattle.asp_top.specs.Usage.{misuse_note}
 
 -- the source and the sink before and after a run: the bytes that are left and held, where they are told, and the counts of faults
@@ -212,9 +216,21 @@ RunsOn version a o = Helps version_line a o
 RunsOn (misuse m) a o = Misuses a o
 RunsOn (options given) a o = Runs given a o
 
+-- the atoms of the report's program, and the different bodies of its rules in force
+pub record IsCounted (t : Tally) (r : Report) : Type 0 where
+  pub atoms : t.atoms ≡ length (atoms_of r.paid.program)
+  pub bodies : t.bodies ≡ length (bodies_of r.paid.program)
+
+-- What the notes get of a run after the words: lines while it goes on, where they are asked for, then the line of its status, and
+-- the counts, where they are asked for
+pub record NotesRun (given : Options) (held held' : Option (List ℕ)) (faults faults' : ℕ) (o : Outcome) : Type 0 where
+  pub tally : Tally
+  pub counted : IfSome o.report (IsCounted tally)
+  pub told : IsTold given.progress held held' faults faults' (notes_of given.stats tally o)
+
 -- what the notes get of a run whose words give this
-abbrev pub notes_on : Given → Outcome → List ℕ
-notes_on help o = notes_of false o
-notes_on version o = notes_of false o
-notes_on (misuse m) o = misuse_note m
-notes_on (options given) o = notes_of given.stats o
+abbrev pub NotesOn : Given → Option (List ℕ) → Option (List ℕ) → ℕ → ℕ → Outcome → Type 0
+NotesOn help held held' faults faults' o = IsNoted held held' faults faults' (note_of o.status)
+NotesOn version held held' faults faults' o = IsNoted held held' faults faults' (note_of o.status)
+NotesOn (misuse m) held held' faults faults' o = IsNoted held held' faults faults' (misuse_note m)
+NotesOn (options given) held held' faults faults' o = NotesRun given held held' faults faults' o

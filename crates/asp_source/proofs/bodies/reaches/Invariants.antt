@@ -5,5 +5,5 @@ use Rattle.asp_source.specs.Marks.{lit_outside}
 use Rattle.asp_source.proofs.bodies.reaches.Given as goal
 
 abbrev pub invariant-loop-i : goal.invariant-loop-i
-invariant-loop-i l =
-    (0 < l.left) × (pos l.left ≡ (l.fn.bound -ℤ weigh (lit_outside l.values l.loose) (take l.i l.lits) (take l.i l.weights)))
+invariant-loop-i g l =
+    (0 < l.left) × (pos l.left ≡ (l.fn.bound -ℤ weigh (lit_outside l.values (g.I.Inside.has_var l.set)) (take l.i l.lits) (take l.i l.weights)))

@@ -9,11 +9,11 @@ use Rattle.asp_source.proofs.BodyLaws.{needs_normal, literals_small}
 use Rattle.asp_source.proofs.bodies.stands.Goals as goal
 
 pub is_some_inside-requires : goal.is_some_inside-requires
-is_some_inside-requires c = literals_small c.args.compiled.now c.literals.result.now (length c.args.loose.now) c.requires.loose c.literals.ensures.atoms
+is_some_inside-requires g c = literals_small c.args.compiled.now c.literals.result.now (g.I.Inside.limit c.args.set.now) c.requires.limit c.literals.ensures.atoms
 
 pub returns-in-None : goal.returns-in-None
-returns-in-None c =
+returns-in-None g c =
     let p : Program = c.args.compiled.now in
     ap not (c.is_some_inside.ensures
-    ∙ ap (λ (ls : List Literal). list_any (lit_inside c.args.loose.now) ls) c.literals.ensures.literals
-    ∙ needs_normal p c.args.values.now c.args.loose.now (nth_body p c.args.body) (sym c.in-None.ensures) (body_stands p c.args.body c.requires.body))
+    ∙ ap (λ (ls : List Literal). list_any (lit_inside (g.I.Inside.has_var c.args.set.now)) ls) c.literals.ensures.literals
+    ∙ needs_normal p c.args.values.now (g.I.Inside.has_var c.args.set.now) (nth_body p c.args.body) (sym c.in-None.ensures) (body_stands p c.args.body c.requires.body))

@@ -1,6 +1,7 @@
 use Rattle.std.proofs.Common.{◌≡◌, ◌≢◌, ℕ, ◌+◌, ◌-◌, ◌<◌, Bool, true, false, eqb, List, [], length, set, Option, refl, sym, ap, ◌∙◌, arith, inl, inr, get_or-set_other, get_or-set_same}
 use Rattle.std.proofs.lemmas.Bool.{false≢true, eqb-true, eq-eqb}
 use Rattle.std.proofs.lemmas.List.{length-set}
+use Rattle.std.proofs.lemmas.List.Sums.{count_by-le-length}
 use Rattle.asp_model.specs.declared.program.Program.{Program}
 use Rattle.asp_scc.specs.Components.{Parts}
 use Rattle.asp_source.specs.Marks.{is_marked}
@@ -23,12 +24,13 @@ queued_again q r k j i is lt at e = cases (eqb i j) refl
         ∙ (get_or-set_other q k i false false (λ a. ne (a ∙ sym at)) ∙ e))
 
 -- the pointers when the place that was popped is looked at
-popped : (p : Program) (c : Parts) (x : List (Option Bool)) (s : List ℕ) (q r : List Bool) (k : ℕ) → r ≡ set q k false → k < length q → ArePointers p c x s q [] → ArePointers p c x s (set r ((k + 1) - 1) true) []
-popped p c x s q r k is lt h = record {
+popped : (p : Program) (c : Parts) (x : List (Option Bool)) (s ranks : List ℕ) (q r : List Bool) (k : ℕ) → r ≡ set q k false → k < length q → ArePointers p c x s ranks q [] → ArePointers p c x s ranks (set r ((k + 1) - 1) true) []
+popped p c x s ranks q r k is lt h = record {
   size = h.size;
+  rank_room = h.rank_room;
   room = length-set r ((k + 1) - 1) true ∙ (ap length is ∙ (length-set q k false ∙ h.room));
   supports = h.supports;
-  grounded = h.grounded;
+  ranked = h.ranked;
   sought = λ v at none cyclic alive. elim (h.sought v at none cyclic alive) [
     | inl e ↦ inl (queued_again q r k ((k + 1) - 1) (v - 1) is lt (omega arith) e)
     | inr e ↦ inr e
@@ -37,8 +39,21 @@ popped p c x s q r k is lt h = record {
 
 pub look-requires-clause-pointers : goal.look-requires-clause-pointers
 look-requires-clause-pointers c =
-    popped c.args.setting.now.compiled.now c.args.setting.now.components.now c.args.setting.now.values.now c.loop-place.sources c.loop-place.queue c.pop.new.self c.in-Some.place c.in-Some.ensures.some c.in-Some.ensures.within c.loop-place.invariant.pointers
+    popped c.args.setting.now.compiled.now c.args.setting.now.components.now c.args.setting.now.values.now c.loop-place.sources c.loop-place.ranks.ranks c.loop-place.queue c.pop.new.self c.in-Some.place c.in-Some.ensures.some c.in-Some.ensures.within c.loop-place.invariant.pointers
 
 pub returns-clause-none : goal.returns-clause-none
 returns-clause-none c =
-    none_unfounded c.args.setting.now.compiled.now c.args.setting.now.components.now c.args.setting.now.values.now c.loop-place.sources c.loop-place.queue c.program-program.ensures.sound c.requires.components c.loop-place.invariant.pointers.supports c.loop-place.invariant.pointers.grounded c.loop-place.invariant.pointers.sought c.in_default.ensures.none
+    none_unfounded c.args.setting.now.compiled.now c.args.setting.now.components.now c.args.setting.now.values.now c.loop-place.sources c.loop-place.ranks.ranks c.loop-place.queue c.program-program.ensures.sound c.requires.components c.loop-place.invariant.pointers.supports c.loop-place.invariant.pointers.ranked c.loop-place.invariant.pointers.sought c.in_default.ensures.none
+
+pub look-requires-clause-time : goal.look-requires-clause-time
+look-requires-clause-time c = omega (arith, c.in-Some.ensures.fewer, c.loop-place.invariant.time)
+
+pub loop-place-init : goal.loop-place-init
+loop-place-init c = record {
+  size = c.requires.loose;
+  blank = c.requires.blank;
+  room = c.requires.waiting;
+  seats = c.requires.joined;
+  time = let most = count_by-le-length (λ b. b) c.args.queue.now in omega (arith, most, c.requires.time, c.requires.pointers.room, c.vars-vars.ensures.few);
+  pointers = c.requires.pointers;
+}

@@ -1,4 +1,4 @@
-use Rattle.std.proofs.Common.{◌≡◌, ◌+◌, length, [], count_by}
+use Rattle.std.proofs.Common.{◌≡◌, ◌+◌, ◌*◌, ◌≤◌, length, [], count_by}
 use Rattle.asp_model.specs.Models.{atoms_of}
 use Rattle.asp_source.specs.Marks.{AreBlank}
 use Rattle.asp_source.specs.Pointers.{ArePointers}
@@ -10,7 +10,8 @@ invariant-loop-place l = record {
   blank : AreBlank l.loose;
   room : length l.waiting ≡ length (atoms_of l.setting.compiled.now);
   seats : length l.joined ≡ length (atoms_of l.setting.compiled.now);
-  pointers : ArePointers l.setting.compiled.now l.setting.components.now l.setting.values.now l.sources l.queue [];
+  time : l.ranks.clock + 2147483648 * count_by (λ b. b) l.queue ≤ 13835058055282163712;
+  pointers : ArePointers l.setting.compiled.now l.setting.components.now l.setting.values.now l.sources l.ranks.ranks l.queue [];
 }
 
 abbrev pub decreases-loop-place : goal.decreases-loop-place
