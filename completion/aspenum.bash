@@ -30,7 +30,7 @@ _aspenum() {
 
     given=("${words[@]:1:last-1}")
     given=("${given[@]%%=*}")
-    for option in --mode --budget --workers --make --stats; do
+    for option in --mode --budget --workers --make --stats --progress --proof; do
         [[ " ${given[*]} " == *" $option "* ]] || left+=("$option")
     done
     [[ $last -ne 1 ]] || left+=(--help --version)

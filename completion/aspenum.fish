@@ -8,7 +8,7 @@ end
 # whether the option isn't given yet, alone or with its value behind =; one that waits for its value doesn't count
 function __aspenum_lacks
     set -l words (commandline -opc)
-    if test "$words[-1]" = "--$argv[1]"; and test $argv[1] != stats
+    if test "$words[-1]" = "--$argv[1]"; and not contains $argv[1] stats progress proof
         set -e words[-1]
     end
     for word in $words
@@ -24,5 +24,7 @@ complete -c aspenum -n '__aspenum_lacks budget' -l budget -x -d 'At most so many
 complete -c aspenum -n '__aspenum_lacks workers' -l workers -x -d 'Threads that search' -a '1'
 complete -c aspenum -n '__aspenum_lacks make' -l make -x -d 'Solve a ring of so many nodes, read no program'
 complete -c aspenum -n '__aspenum_lacks stats' -l stats -d 'Write counts to standard error'
+complete -c aspenum -n '__aspenum_lacks progress' -l progress -d 'Write lines to standard error while it runs'
+complete -c aspenum -n '__aspenum_lacks proof' -l proof -d 'Write the proof of a finished run'
 complete -c aspenum -n '__aspenum_first' -s h -l help -d 'Write the options and exit statuses'
 complete -c aspenum -n '__aspenum_first' -l version -d 'Write the version'

@@ -29,7 +29,8 @@ VALUES = ["auto", "enum", "opt"]
 # what is typed, what is shown or filled in, and what isn't
 ROWS = [
     ("aspenum --", OPTIONS, []),
-    ("aspenum --stats --", ["--mode", "--budget", "--workers", "--make"], ["--help", "--version", "--stats "]),
+    ("aspenum --stats --", ["--mode", "--budget", "--workers", "--make", "--progress"], ["--help", "--version", "--stats "]),
+    ("aspenum --progress --", ["--mode", "--stats"], ["--help", "--version", "--progress "]),
     ("aspenum --mode enum --", ["--budget", "--stats"], ["--help", "--mode "]),
     ("aspenum --mode=enum --", ["--budget", "--stats"], ["--help", "--mode "]),
     ("aspenum --mode ", VALUES, ["--stats", "README"]),

@@ -1,6 +1,6 @@
 #!/usr/bin/env bash
-# Runs every example, every row, every refusal, the commands of the README and the manual, and the programs that need a good
-# search through the built program, and compares bytes and status.
+# Runs every example, every row, every refusal, the commands of the README and the manual, the programs that need a good search
+# and those whose progress is told through the built program, and compares bytes and status.
 # Usage: tests/examples.sh [PROGRAM]     (the program is build/aspenum where none is named)
 cd "$(dirname "$0")/.." || exit 1
 program=${1:-build/aspenum}
@@ -78,7 +78,7 @@ echo 'aspenum: read failed' > "$wanted"
 check "a folder as input" 66 "$wanted" "$?" "$notes"
 
 # The counts of a run.
-printf 'Conflicts: 0\nLeaves: 1\nLog: 0\n' > "$wanted"
+printf 'Conflicts: 0\nLeaves: 1\nLog: 0\nDecisions: 1\nRestarts: 0\nKept: 0\nDropped: 0\nAtoms: 2\nBodies: 2\n' > "$wanted"
 "$program" --stats < examples/two_rules.aspif > "$given" 2> "$notes"
 check "counts" 30 "$wanted" "$?" "$notes"
 
@@ -94,6 +94,9 @@ python3 tests/readme.py "$program" man/aspenum.1 || failed=$((failed + 1))
 
 # Programs that are refuted within so many conflicts.
 python3 tests/search.py "$program" || failed=$((failed + 1))
+
+# Lines while a run goes on.
+python3 tests/progress.py "$program" || failed=$((failed + 1))
 
 echo "examples: $passed passed, $failed failed"
 [ "$failed" -eq 0 ]

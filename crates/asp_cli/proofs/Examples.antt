@@ -2,12 +2,12 @@
 use Rattle.std.proofs.Common.{◌≡◌, [], ◌∷◌, true, false, Some, None, codes, refl}
 use Rattle.asp_model.specs.declared.results.Mode.TheVariants.{Enum, Opt}
 use Rattle.asp_cli.specs.declared.Options.{Options}
-use Rattle.asp_cli.specs.declared.names.Name.TheVariants.{Workers, Mode, Budget, Make, Stats}
+use Rattle.asp_cli.specs.declared.names.Name.TheVariants.{Workers, Mode, Budget, Make, Stats, Progress}
 use Rattle.asp_cli.specs.Given.{bad_value, help, misuse, missing, no_words, not_alone, options, twice, unexpected, unknown, version, words_give}
 
 -- what is asked for where no option is given
 abbrev standard : Options
-standard = record { workers = 1; mode = None; budget = 9223372036854775807; make = None; stats = false }
+standard = record { workers = 1; mode = None; budget = 9223372036854775807; make = None; stats = false; progress = false; proof = false }
 
 empty_line : words_give [] ≡ misuse no_words
 empty_line = refl
@@ -72,8 +72,17 @@ one_dash = refl
 stats : words_give (codes "aspenum" ∷ codes "--stats" ∷ []) ≡ options (record standard { stats = true })
 stats = refl
 
+proof : words_give (codes "aspenum" ∷ codes "--proof" ∷ []) ≡ options (record standard { proof = true })
+proof = refl
+
 stats_of_one : words_give (codes "aspenum" ∷ codes "--stats=1" ∷ []) ≡ misuse (bad_value Stats (codes "1"))
 stats_of_one = refl
+
+progress : words_give (codes "aspenum" ∷ codes "--progress" ∷ []) ≡ options (record standard { progress = true })
+progress = refl
+
+progress_of_one : words_give (codes "aspenum" ∷ codes "--progress=1" ∷ []) ≡ misuse (bad_value Progress (codes "1"))
+progress_of_one = refl
 
 option_as_value : words_give (codes "aspenum" ∷ codes "--mode" ∷ codes "--stats" ∷ []) ≡ misuse (bad_value Mode (codes "--stats"))
 option_as_value = refl
@@ -105,5 +114,5 @@ workers_two = refl
 first_from_the_left : words_give (codes "aspenum" ∷ codes "--stats" ∷ codes "--budget=x" ∷ codes "--verson" ∷ []) ≡ misuse (bad_value Budget (codes "x"))
 first_from_the_left = refl
 
-all_options : words_give (codes "aspenum" ∷ codes "--make=2000" ∷ codes "--stats" ∷ codes "--mode=enum" ∷ codes "--budget=7" ∷ codes "--workers=1" ∷ []) ≡ options (record { workers = 1; mode = Some Enum; budget = 7; make = Some 2000; stats = true })
+all_options : words_give (codes "aspenum" ∷ codes "--make=2000" ∷ codes "--stats" ∷ codes "--mode=enum" ∷ codes "--budget=7" ∷ codes "--workers=1" ∷ []) ≡ options (record { workers = 1; mode = Some Enum; budget = 7; make = Some 2000; stats = true; progress = false; proof = false })
 all_options = refl

@@ -2,7 +2,7 @@
 use Rattle.std.specs.Prelude.{ℕ, Bool, false, List, Option, Some, None, is_some, option_map, unwrap_or}
 use Rattle.asp_cli.specs.declared.found.Found.{Found}
 use Rattle.asp_cli.specs.declared.names.Name.{Name}
-use Rattle.asp_cli.specs.declared.names.Name.TheVariants.{Workers, Mode, Budget, Make, Stats}
+use Rattle.asp_cli.specs.declared.names.Name.TheVariants.{Workers, Mode, Budget, Make, Stats, Progress, Proof}
 use Rattle.asp_cli.specs.declared.walk.Awaits.TheVariants as awaits
 use Rattle.asp_cli.specs.declared.walk.State.{State}
 use Rattle.asp_cli.specs.declared.Options.{Options}
@@ -15,6 +15,8 @@ has f Mode = is_some f.mode
 has f Budget = is_some f.budget
 has f Make = is_some f.make
 has f Stats = f.stats
+has f Progress = f.progress
+has f Proof = f.proof
 
 -- what was found with an option's value; none where the option doesn't take it
 abbrev pub found_with : Found → Name → List ℕ → Option Found
@@ -23,6 +25,8 @@ found_with f Mode t = option_map (λ m. record f { mode = Some m }) (mode_named 
 found_with f Budget t = option_map (λ n. record f { budget = Some n }) (number_within 0 9223372036854775807 t)
 found_with f Make t = option_map (λ n. record f { make = Some n }) (number_within 3 2000 t)
 found_with f Stats t = None
+found_with f Progress t = None
+found_with f Proof t = None
 
 -- the options, with what stands where one isn't given
 abbrev pub options_of : Found → Options
@@ -32,8 +36,10 @@ options_of f = record {
   budget = unwrap_or f.budget 9223372036854775807;
   make = f.make;
   stats = f.stats;
+  progress = f.progress;
+  proof = f.proof;
 }
 
 -- nothing was found yet
 abbrev pub start : State
-start = record { found = record { workers = None; mode = None; budget = None; make = None; stats = false }; awaits = awaits.Option }
+start = record { found = record { workers = None; mode = None; budget = None; make = None; stats = false; progress = false; proof = false }; awaits = awaits.Option }

@@ -2,7 +2,7 @@
 use Rattle.std.specs.Prelude.{ℕ, List, ◌++◌, codes}
 
 abbrev pub usage_line : List ℕ
-usage_line = codes "usage: aspenum [--workers 1] [--mode auto|enum|opt] [--budget N] [--make 3..2000] [--stats]"
+usage_line = codes "usage: aspenum [--workers 1] [--mode auto|enum|opt] [--budget N] [--make 3..2000] [--stats] [--progress] [--proof]"
 
 -- the program's name and version
 abbrev pub version_line : List ℕ
@@ -26,6 +26,9 @@ page_back = codes "\n"
     ++ codes "  --make N       solve a ring of N nodes, 3 to 2000, and read no program\n"
     ++ codes "  --workers N    threads that search: 1, the default and so far the only number\n"
     ++ codes "  --stats        write counts of the run to standard error\n"
+    ++ codes "  --progress     write a line to standard error when the conflicts or the answers have\n"
+    ++ codes "                 doubled, and for each cheaper answer\n"
+    ++ codes "  --proof        write the proof of a finished run, for aspcheck, in place of its results\n"
     ++ codes "  --help, -h     write this page; the only word\n"
     ++ codes "  --version      write the version; the only word\n"
     ++ codes "\n"

@@ -21,6 +21,8 @@ pub struct Found {
     pub make: Option<u32>,
     /// Whether a line of counts was asked for.
     pub stats: bool,
+    pub progress: bool,
+    pub proof: bool,
 }
 
 /// Whether the option was given.
@@ -33,6 +35,8 @@ pub fn has(found: &Found, name: Name) -> bool
         Name::Budget => found.budget.is_some(),
         Name::Make => found.make.is_some(),
         Name::Stats => found.stats,
+        Name::Progress => found.progress,
+        Name::Proof => found.proof,
     }
 }
 
@@ -70,7 +74,7 @@ pub fn with(found: Found, name: Name, text: &str) -> Option<Found>
                 ..found
             })
         }
-        Name::Stats => None,
+        Name::Stats | Name::Progress | Name::Proof => None,
     }
 }
 
@@ -85,5 +89,7 @@ pub fn options(found: &Found) -> Options
         budget: found.budget.unwrap_or(MOST_UNITS),
         make: found.make,
         stats: found.stats,
+        progress: found.progress,
+        proof: found.proof,
     }
 }

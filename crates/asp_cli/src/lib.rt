@@ -29,6 +29,10 @@ pub struct Options {
     pub make: Option<u32>,
     /// Whether the notes get counts of the run.
     pub stats: bool,
+    /// Whether the notes get lines while the run goes on.
+    pub progress: bool,
+    /// Whether a finished run writes its proof in place of its results.
+    pub proof: bool,
 }
 
 /// The first fault of a command line, from the left.

@@ -10,6 +10,8 @@ pub enum Name {
     Budget,
     Make,
     Stats,
+    Progress,
+    Proof,
 }
 
 impl Name {
@@ -23,6 +25,8 @@ impl Name {
             Name::Budget => "--budget",
             Name::Make => "--make",
             Name::Stats => "--stats",
+            Name::Progress => "--progress",
+            Name::Proof => "--proof",
         }
     }
 
@@ -35,7 +39,7 @@ impl Name {
             Name::Mode => "auto, enum or opt",
             Name::Budget => "a number up to 9223372036854775807",
             Name::Make => "a number from 3 to 2000",
-            Name::Stats => "no value",
+            Name::Stats | Name::Progress | Name::Proof => "no value",
         }
     }
 }
@@ -54,6 +58,10 @@ pub fn named(word: &str) -> Option<Name>
         Some(Name::Make)
     } else if word == Name::Stats.text() {
         Some(Name::Stats)
+    } else if word == Name::Progress.text() {
+        Some(Name::Progress)
+    } else if word == Name::Proof.text() {
+        Some(Name::Proof)
     } else {
         None
     }

@@ -4,7 +4,7 @@ ghost use Rattle.asp_cli.specs.Texts.{page_back, page_front, usage_line, version
 
 /// The line that tells how the program is called.
 pub const USAGE: &str =
-    "usage: aspenum [--workers 1] [--mode auto|enum|opt] [--budget N] [--make 3..2000] [--stats]";
+    "usage: aspenum [--workers 1] [--mode auto|enum|opt] [--budget N] [--make 3..2000] [--stats] [--progress] [--proof]";
 
 /// The program's name and version.
 pub const VERSION: &str = "aspenum 0.1.0\n";
@@ -24,6 +24,9 @@ Options, each at most once, its value as the next word or behind '=':\n\
 \x20 --make N       solve a ring of N nodes, 3 to 2000, and read no program\n\
 \x20 --workers N    threads that search: 1, the default and so far the only number\n\
 \x20 --stats        write counts of the run to standard error\n\
+\x20 --progress     write a line to standard error when the conflicts or the answers have\n\
+\x20                doubled, and for each cheaper answer\n\
+\x20 --proof        write the proof of a finished run, for aspcheck, in place of its results\n\
 \x20 --help, -h     write this page; the only word\n\
 \x20 --version      write the version; the only word\n\
 \n\

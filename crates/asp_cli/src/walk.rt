@@ -37,6 +37,8 @@ fn start() -> State
         budget: None,
         make: None,
         stats: false,
+        progress: false,
+        proof: false,
     };
     State {
         found,
@@ -128,6 +130,20 @@ fn alone<'a>(found: Found, word: &'a str) -> Result<State, WordFault<'a>>
         Ok(Name::Stats) => Ok(State {
             found: Found {
                 stats: true,
+                ..found
+            },
+            awaits: Awaits::Option,
+        }),
+        Ok(Name::Proof) => Ok(State {
+            found: Found {
+                proof: true,
+                ..found
+            },
+            awaits: Awaits::Option,
+        }),
+        Ok(Name::Progress) => Ok(State {
+            found: Found {
+                progress: true,
                 ..found
             },
             awaits: Awaits::Option,

@@ -6,3 +6,4 @@ pub mod RecordLaws
 pub mod StepLaws
 pub mod FinishLaws
 pub mod ReportLaws
+pub mod ProofLaws

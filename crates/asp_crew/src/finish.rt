@@ -6,29 +6,35 @@ ghost use Rattle.asp_crew_laws.specs.Reports.{IsIdle};
 ghost use Rattle.asp_crew.specs.Running.{IsRunIn, IsReady, IsAlone, LeavesAll, Finishes};
 
 use crate::leaf::work_off;
+use crate::watch::{Counts, Watch};
 use asp_book::book::Book;
 use asp_model::results::Mode;
 use asp_propagate::propagator::Propagator;
+use asp_recorder::recorder::Recorder;
 use asp_search::search::Search;
 use asp_vars::compiled::Compiled;
 use asp_vars::fuel::{Conflict, Fuel};
 use std::alloc::{AllocError, Global};
 
 // Takes one open leaf after another, until none is open or a conflict is met when no unit is left.
-fn work_off_all<P: Propagator>(
+fn work_off_all<P: Propagator, W: Watch>(
     book: &mut Book,
     mode: Mode,
     search: &mut Search<'_, P>,
     fuel: &mut Fuel,
+    counts: &mut Counts,
+    watch: &mut W,
+    recorder: Option<&Recorder>,
 ) -> Result<Option<Conflict>, AllocError>
     requires ready { IsReady mode book.old search.old fuel.old }
     requires alone { IsAlone (board book.old) }
-    ensures { IfOk result (LeavesAll mode book.old book.new search.new fuel.new) }
+    ensures leaves { IfOk result (LeavesAll mode book.old book.new search.new fuel.new) }
+    ensures heard { W.IsAfter watch.old watch.new }
 {
     'leaves: loop {
         match book.take(0)? {
             None => return Ok(None),
-            Some(leaf) => match work_off(book, mode, search, fuel, leaf)? {
+            Some(leaf) => match work_off(book, mode, search, fuel, leaf, counts, watch, recorder)? {
                 None => {}
                 Some(conflict) => return Ok(Some(conflict)),
             },
@@ -37,15 +43,19 @@ fn work_off_all<P: Propagator>(
 }
 
 /// Number 0 works off every open leaf, with all units of the pool. The conflict for which none was left, where one was met.
+/// The recorder gets what the search keeps and the cubes of the leaves that are closed.
 ///
 /// No leaf is held before, and no units are out. It returns: each leaf is worked off, and none becomes open. Want of memory
-/// is the one error.
-pub fn finish<P: Propagator>(
+/// is the one error. What it does is counted, and told after each step.
+pub fn finish<P: Propagator, W: Watch>(
     alloc: Global,
     compiled: &Compiled,
     mode: Mode,
     book: &mut Book,
     propagator: P,
+    counts: &mut Counts,
+    watch: &mut W,
+    recorder: Option<&Recorder>,
 ) -> Result<Option<Conflict>, AllocError>
     requires task { IsRunIn mode book.old.task }
     requires of { book.old.task.program ≡ compiled.now }
@@ -54,12 +64,13 @@ pub fn finish<P: Propagator>(
     requires program { (P.told propagator).program ≡ compiled.now }
     requires fresh { (P.told propagator).values ≡ replicate (var_count compiled.now + 1) None }
     requires unbounded { P.bound propagator ≡ None }
-    ensures { IfOk result (Finishes book.old book.new) }
+    ensures finishes { IfOk result (Finishes book.old book.new) }
+    ensures heard { W.IsAfter watch.old watch.new }
 {
     let _lawful = book.journal();
     let mut search = Search::new(alloc, compiled, mode, propagator)?;
     let mut fuel = book.lease(0, u64::MAX)?;
-    let unpaid = work_off_all(book, mode, &mut search, &mut fuel)?;
+    let unpaid = work_off_all(book, mode, &mut search, &mut fuel, counts, watch, recorder)?;
     book.back(0, fuel);
     Ok(unpaid)
 }

@@ -4,7 +4,7 @@
 //! learnt since the last restart, and the variables without a value. A conflict takes a unit, an answer is found once, a
 //! restart forgets the nogoods that made it due, and a decision gives a variable a value. Each lowers its digit and leaves
 //! the digits before it, so a leaf is worked off.
-ghost use Rattle.std.specs.Prelude.{◌≡◌, IfOk, OnOk, IsTrue};
+ghost use Rattle.std.specs.Prelude.{◌≡◌, ◌+◌, ◌≤◌, IfOk, OnOk, IsSome, IsTrue, length};
 ghost use Rattle.std.specs.List.{All};
 ghost use Rattle.asp_vars.specs.Numbering.{var_count};
 ghost use Rattle.asp_trail.specs.Trails.{IsVar};
@@ -13,13 +13,16 @@ ghost use Rattle.asp_path.specs.Trees.{cube_of, status_of};
 ghost use Rattle.asp_core.specs.Boards.{is_answer};
 ghost use Rattle.asp_core.specs.Invariant.{IsCube};
 ghost use Rattle.asp_book.specs.Books.{board};
+ghost use Rattle.asp_search_laws.specs.Steps.{IsStep};
 ghost use Rattle.asp_crew.specs.Running.{IsRunIn, IsReady, IsUnderway, OnlyRecords, IsRecorded, Goes, Ends, LeavesLeaf};
 
+use crate::watch::{Counts, Watch};
 use asp_book::book::Book;
 use asp_model::interp::Interp;
 use asp_model::results::Mode;
 use asp_path::tree::Leaf;
 use asp_propagate::propagator::Propagator;
+use asp_recorder::recorder::Recorder;
 use asp_search::search::Search;
 use asp_search_laws::step::Step;
 use asp_vars::fuel::{Conflict, Fuel};
@@ -56,22 +59,71 @@ fn record(book: &mut Book, mode: Mode, set: Interp) -> Result<(), AllocError>
     }
 }
 
-// One step. An answer is recorded.
+// Writes down the nogood that the last step kept, if it kept one and somebody wants it.
+fn note<P: Propagator>(
+    recorder: Option<&Recorder>,
+    search: &Search<'_, P>,
+) -> Result<(), AllocError> {
+    if let Some(recorder) = recorder {
+        if let Some(nogood) = search.kept() {
+            recorder.add_learned(nogood)?;
+        }
+    }
+    Ok(())
+}
+
+// Writes down the cube of a path that is closed, if somebody wants it.
+fn note_cube(recorder: Option<&Recorder>, cube: &[Lit]) -> Result<(), AllocError> {
+    if let Some(recorder) = recorder {
+        recorder.add_cube(cube)?;
+    }
+    Ok(())
+}
+
+// One step, of which is written down what it keeps.
+fn step<P: Propagator>(
+    search: &mut Search<'_, P>,
+    fuel: &mut Fuel,
+    recorder: Option<&Recorder>,
+) -> Result<Step, AllocError>
+    requires entered { IsSome search.old.cube }
+    requires program { fuel.old.program ≡ search.old.program }
+    ensures ok { IfOk result (IsStep (P.gives search.old.program search.old.bound) (P.silent search.old.program search.old.bound) search.old search.new fuel.old fuel.new) }
+    ensures few { IfOk result (λ r. length search.new.entries ≤ var_count search.new.program + 1) }
+{
+    let step = search.step(fuel)?;
+    note(recorder, search)?;
+    Ok(step)
+}
+
+// One step, which is counted. An answer is recorded.
 fn advance<P: Propagator>(
     book: &mut Book,
     mode: Mode,
     search: &mut Search<'_, P>,
     fuel: &mut Fuel,
+    counts: &mut Counts,
+    recorder: Option<&Recorder>,
 ) -> Result<Course, AllocError>
     requires { IsUnderway mode book.old search.old fuel.old }
     ensures { IfOk result (Goes mode book.old book.new search.old search.new fuel.old fuel.new) }
 {
-    match search.step(fuel)? {
-        Step::Decided => Ok(Course::Open),
-        Step::Learnt => Ok(Course::Open),
-        Step::Restarted => Ok(Course::Open),
+    match step(search, fuel, recorder)? {
+        Step::Decided => {
+            counts.decisions = counts.decisions.saturating_add(1);
+            Ok(Course::Open)
+        }
+        Step::Learnt => {
+            counts.conflicts = counts.conflicts.saturating_add(1);
+            Ok(Course::Open)
+        }
+        Step::Restarted => {
+            counts.restarts = counts.restarts.saturating_add(1);
+            Ok(Course::Open)
+        }
         Step::Answer(set) => {
             record(book, mode, set)?;
+            counts.answers = counts.answers.saturating_add(1);
             Ok(Course::Open)
         }
         Step::Closed => Ok(Course::Closed),
@@ -79,18 +131,33 @@ fn advance<P: Propagator>(
     }
 }
 
-// Steps until nothing else is to be found below the path, or a conflict is met when no unit is left.
-fn run<P: Propagator>(
+// Tells what was counted, and the cost of the best answer.
+fn tell<P: Propagator, W: Watch>(search: &Search<'_, P>, counts: &mut Counts, watch: &mut W)
+    ensures { W.IsAfter watch.old watch.new }
+{
+    counts.keep(search.extra() as u64);
+    watch.tell(counts, search.bound());
+}
+
+// Steps until nothing else is to be found below the path, or a conflict is met when no unit is left. After each the counts
+// are told.
+fn run<P: Propagator, W: Watch>(
     book: &mut Book,
     mode: Mode,
     search: &mut Search<'_, P>,
     fuel: &mut Fuel,
+    counts: &mut Counts,
+    watch: &mut W,
+    recorder: Option<&Recorder>,
 ) -> Result<Option<Conflict>, AllocError>
     requires { IsUnderway mode book.old search.old fuel.old }
-    ensures { IfOk result (Ends mode book.old book.new search.old search.new fuel.new) }
+    ensures ends { IfOk result (Ends mode book.old book.new search.old search.new fuel.new) }
+    ensures heard { W.IsAfter watch.old watch.new }
 {
     'steps: loop {
-        match advance(book, mode, search, fuel)? {
+        let course = advance(book, mode, search, fuel, counts, recorder)?;
+        tell(search, counts, watch);
+        match course {
             Course::Open => {}
             Course::Closed => return Ok(None),
             Course::Unpaid(conflict) => return Ok(Some(conflict)),
@@ -113,22 +180,27 @@ fn cube_of(book: &Book, mode: Mode, leaf: Leaf) -> Result<Vec<Lit>, AllocError>
 }
 
 /// Works off a leaf that number 0 holds: it is closed then, or open again where a conflict was met and no unit is left.
-pub(crate) fn work_off<P: Propagator>(
+pub(crate) fn work_off<P: Propagator, W: Watch>(
     book: &mut Book,
     mode: Mode,
     search: &mut Search<'_, P>,
     fuel: &mut Fuel,
     leaf: Leaf,
+    counts: &mut Counts,
+    watch: &mut W,
+    recorder: Option<&Recorder>,
 ) -> Result<Option<Conflict>, AllocError>
     requires ready { IsReady mode book.old search.old fuel.old }
     requires held { status_of (board book.old).nodes leaf ≡ status.Held 0 }
-    ensures { IfOk result (LeavesLeaf mode book.old book.new leaf search.new fuel.new) }
+    ensures leaves { IfOk result (LeavesLeaf mode book.old book.new leaf search.new fuel.new) }
+    ensures heard { W.IsAfter watch.old watch.new }
 {
     let cube = cube_of(book, mode, leaf)?;
     search.enter(cube.as_slice())?;
-    match run(book, mode, search, fuel)? {
+    match run(book, mode, search, fuel, counts, watch, recorder)? {
         None => {
             book.close(0, leaf, cube.as_slice())?;
+            note_cube(recorder, cube.as_slice())?;
             Ok(None)
         }
         Some(conflict) => {

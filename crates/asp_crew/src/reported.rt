@@ -30,6 +30,7 @@ pub fn reported(mode: Mode, book: Book, unpaid: Option<Conflict>, log: u32, shor
     ensures journal { result.journal ≡ book.journal }
     ensures log { result.log ≡ log }
     ensures short { result.short ≡ short }
+    ensures proof { result.proof ≡ None }
 {
     let (state, journal, paid) = book.end();
     let end = end_by(state.finished());
@@ -52,5 +53,6 @@ pub fn reported(mode: Mode, book: Book, unpaid: Option<Conflict>, log: u32, shor
         short,
         unpaid,
         paid,
+        proof: None,
     }
 }

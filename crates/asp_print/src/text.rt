@@ -58,7 +58,8 @@ fn put_sum<K: Sink>(sink: &mut K, waiting: &mut Waiting, sum: &i64) -> Result<()
     put_number(sink, waiting, *sum)
 }
 
-fn put_sums<K: Sink>(sink: &mut K, waiting: &mut Waiting, sums: &[i64]) -> Result<(), Failed>
+/// Puts out the sums of a cost, each behind a blank.
+pub fn put_sums<K: Sink>(sink: &mut K, waiting: &mut Waiting, sums: &[i64]) -> Result<(), Failed>
     ensures { Puts (out (K.held sink.old) (K.faults sink.old) waiting.old)
         (out (K.held sink.new) (K.faults sink.new) waiting.new) result
         (flat_map (λ q. 32 ∷ signed_decimal q) sums.now) }

@@ -12,6 +12,7 @@ ghost use Rattle.asp_bound.specs.Gathered.{valueless};
 use asp_bound::bound::Bound;
 use asp_model::cost::Cost;
 use asp_propagate::propagator::Propagator;
+use asp_recorder::recorder::Recorder;
 use asp_source::sources::Sources;
 use asp_trail::trail::Trail;
 use asp_vars::compiled::Compiled;
@@ -30,6 +31,8 @@ pub struct Propagators<'a> {
     bound: Bound,
     /// Gives loop nogoods: of atoms that have no source outside themselves any more.
     sources: Sources<'a>,
+    // what is told of each loop nogood that is given, if somebody wants it
+    recorder: Option<&'a Recorder>,
 }
 
 impl<'a> Model for Propagators<'a> {
@@ -57,7 +60,23 @@ impl<'a> Propagators<'a> {
             weights,
             bound,
             sources,
+            recorder: None,
         })
+    }
+
+    /// From now on the recorder, if there is one, gets the loops whose nogoods are given, each with its set.
+    pub fn record(&mut self, recorder: Option<&'a Recorder>)
+        ensures { self.new ≡ self.old }
+    {
+        self.recorder = recorder;
+    }
+
+    // Tells the recorder of the loop nogood that was given.
+    fn note(&self, nogood: &Nogood) -> Result<(), AllocError> {
+        match self.recorder {
+            Some(recorder) => recorder.add_loop(self.sources.last_set(), nogood.lits.as_slice()),
+            None => Ok(()),
+        }
     }
 }
 
@@ -102,6 +121,7 @@ impl<'a> Propagator for Propagators<'a> {
             return Ok(Some(nogood));
         }
         if let Some(nogood) = self.sources.next(trail)? {
+            self.note(&nogood)?;
             return Ok(Some(nogood));
         }
         Ok(None)

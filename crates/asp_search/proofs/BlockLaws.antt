@@ -132,11 +132,10 @@ pub drop_done : (newest : Nogood) (old new : SearchView) (slots : List (Option S
       decisions = take (length old.decisions - 1) old.decisions;
       slots = new.slots;
       ranking = new.ranking;
-    } → Drops newest id slots new.slots blocking → Blocks newest old new (blocking ++ id ∷ [])
+    } → Drops newest id slots new.slots blocking → Blocks newest old new id (blocking ++ id ∷ [])
 drop_done newest old new slots id blocking local a same d = record {
   same = same;
   nogoods = λ j n q. cases j n (added_each old.slots slots id newest kind.Forever a j n (d.none j n q));
-  id = id;
   stands = d.stands;
   blocked = λ p S b. d.blocked p S (excluded_stay p old.slots slots S (grows_forever old.slots slots (added_stays old.slots slots id newest kind.Forever a)) b);
   blocking_stand =
@@ -244,24 +243,23 @@ pub block_done : (t a b u : SearchView) (k id : ℕ) (q : List Literal) (newest 
     AreBlocking t.slots old → k ≡ length t.decisions - 1 → a ≡ record t { slots = a.slots } → IsAddedAt t.slots a.slots id newest kind.Forever →
     b ≡ record a { decisions = take k a.decisions; entries = cut k a.entries; ranking = b.ranking } → u ≡ record b { slots = u.slots } →
     ((w : Nogood) (j : ℕ) (first : List (Option StoredNogood)) → w.lits ≡ lits → Drops w j first b.slots old → Drops w j first u.slots blocking) →
-    new ≡ blocking ++ id ∷ [] → Blocks (blocking_nogood q t.decisions) t u new
+    new ≡ blocking ++ id ∷ [] → Blocks (blocking_nogood q t.decisions) t u id new
 block_done t a b u k id q newest lits old blocking new is same stand count keep added undo drop step pushed =
     let begun : Drops newest id a.slots b.slots old =
     subst (λ (xs : List (Option StoredNogood)). Drops newest id a.slots xs old) (sym (ap (λ (x : SearchView). x.slots) undo)) (drop_none newest t.slots a.slots id old added stand) in
-    let done : Blocks newest t u (blocking ++ id ∷ []) =
+    let done : Blocks newest t u id (blocking ++ id ∷ []) =
     drop_done newest t u a.slots id blocking (ap (λ (n : Nogood). n.base) is) added (block_same t a b u k count keep undo drop) (step newest id a.slots (sym same) begun) in
-    subst (λ (n : Nogood). Blocks n t u new) is (subst (Blocks newest t u) (sym pushed) done)
+    subst (λ (n : Nogood). Blocks n t u id new) is (subst (Blocks newest t u id) (sym pushed) done)
 
 -- ---- where others go then
-pub block_thinned : (newest : Nogood) (t m u : SearchView) (blocking : List ℕ) (es : List Entry) → Blocks newest t m blocking → u ≡ record m { slots = u.slots } → IsReduced es m.slots u.slots → Blocks newest t u blocking
-block_thinned newest t m u blocking es b same r =
+pub block_thinned : (newest : Nogood) (t m u : SearchView) (id : ℕ) (blocking : List ℕ) (es : List Entry) → Blocks newest t m id blocking → u ≡ record m { slots = u.slots } → IsReduced es m.slots u.slots → Blocks newest t u id blocking
+block_thinned newest t m u id blocking es b same r =
     let third : SearchView → SearchView = λ x. record x { slots = u.slots } in
     let fourth : Ranking → SearchView = λ r. record t { entries = cut (length t.decisions - 1) t.entries; decisions = take (length t.decisions - 1) t.decisions; slots = u.slots; ranking = r } in
     record {
       same = same ∙ (ap third b.same ∙ ap fourth (sym (ap (λ (x : SearchView). x.ranking) same)));
       nogoods = λ j n k. b.nogoods j n (reduced_none es m.slots u.slots r j n k);
-      id = b.id;
-      stands = r.forever b.id (record { nogood = newest; kind = kind.Forever; locked = false }) b.stands refl;
+      stands = r.forever id (record { nogood = newest; kind = kind.Forever; locked = false }) b.stands refl;
       blocked = λ p S x. excluded_stay p m.slots u.slots S r.forever (b.blocked p S x);
       blocking_stand = blocking_stay m.slots u.slots blocking r.forever b.blocking_stand;
     }

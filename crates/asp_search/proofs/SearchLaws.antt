@@ -19,7 +19,7 @@ use Rattle.asp_propagate.specs.Useful.{IsUseful, IsSmaller}
 use Rattle.asp_propagate.proofs.UsefulLaws.{useful_lower, useful_more}
 use Rattle.asp_search_laws.specs.Keeping.{AreUseful, AreExcluded, IsLast, Grows}
 use Rattle.asp_store.proofs.KeepLaws.{added_stays}
-use Rattle.asp_search_laws.proofs.SlotLaws.{KeepsForever, added_newest, grows_forever, grows_adds, reduced_none, useful_none, useful_added, useful_adds, all_excluded, all_excluded_stay, excluded_more, blocking_stay, last_stays}
+use Rattle.asp_search_laws.proofs.SlotLaws.{KeepsForever, added_newest, grows_forever, grows_adds, reduced_none, useful_none, useful_added, useful_adds, all_excluded, all_excluded_stay, excluded_more, blocking_stay, last_stays, nogood_kept}
 use Rattle.asp_state.specs.SearchStates.{SearchView}
 use Rattle.asp_search_laws.specs.Steps.{blocking_nogood}
 use Rattle.asp_search.specs.Blocking.{Blocks}
@@ -116,10 +116,10 @@ search_lower p m t u vars checker known blocking bound c last program bounded sl
 }
 
 -- ---- one more answer, in an enumeration
-pub search_lists : (p : Program) (t u : SearchView) (vars : ℕ) (checker : Program) (known : List Atoms) (blocking new : List ℕ) (bound : Option (List ℤ)) (q : List Literal) (S : Atoms) →
-    Settled t.program (known ++ S ∷ []) t.bound (q ++ t.decisions) → hits (values t.program S) (q ++ t.decisions) ≡ true → Blocks (blocking_nogood q t.decisions) t u new →
-    IsSearch p mode.Enum t vars checker known blocking bound None → IsSearch p mode.Enum u vars checker (known ++ S ∷ []) new bound None
-search_lists p t u vars checker known blocking new bound q S settled hit b s =
+pub search_lists : (p : Program) (t u : SearchView) (vars : ℕ) (checker : Program) (known : List Atoms) (id : ℕ) (blocking new : List ℕ) (bound : Option (List ℤ)) (q : List Literal) (S : Atoms) →
+    Settled t.program (known ++ S ∷ []) t.bound (q ++ t.decisions) → hits (values t.program S) (q ++ t.decisions) ≡ true → Blocks (blocking_nogood q t.decisions) t u id new →
+    IsSearch p mode.Enum t vars checker known blocking bound None → IsSearch p mode.Enum u vars checker (known ++ S ∷ []) new bound (Some id)
+search_lists p t u vars checker known id blocking new bound q S settled hit b s =
     let program : u.program ≡ t.program = ap (λ (y : SearchView). y.program) b.same in
     let bounded : u.bound ≡ t.bound = ap (λ (y : SearchView). y.bound) b.same in
     record {
@@ -129,30 +129,29 @@ search_lists p t u vars checker known blocking new bound q S settled hit b s =
       checked = s.checked;
       useful =
           subst (λ (x : Program). AreUseful x (known ++ S ∷ []) u.bound u.slots) (sym program)
-          (subst (λ (x : Option (List ℤ)). AreUseful t.program (known ++ S ∷ []) x u.slots) (sym bounded) (λ id n k. useful id n (b.nogoods id n k)));
+          (subst (λ (x : Option (List ℤ)). AreUseful t.program (known ++ S ∷ []) x u.slots) (sym bounded) (λ j n k. useful j n (b.nogoods j n k)));
       blocked =
           subst (λ (x : Program). AreExcluded x u.slots (known ++ S ∷ [])) (sym program)
           (excluded_more t.program u.slots known S (all_excluded t.program t.slots u.slots known (b.blocked t.program) s.blocked)
-          (record { id = b.id; kept = record { nogood = blocking_nogood q t.decisions; kind = kind.Forever; locked = false }; stands = b.stands; forever = refl; hit = hit }));
+          (record { id = id; kept = record { nogood = blocking_nogood q t.decisions; kind = kind.Forever; locked = false }; stands = b.stands; forever = refl; hit = hit }));
       blocking_stand = b.blocking_stand;
-      last_stands = tt;
+      last_stands = (blocking_nogood q t.decisions, nogood_kept u.slots id (record { nogood = blocking_nogood q t.decisions; kind = kind.Forever; locked = false }) b.stands);
       alone = λ e. absurd (differ e);
     }
   where
     differ : mode.Enum ≡ mode.Opt → ⊥
     differ e = cc
 
-    useful : (id : ℕ) (n : Nogood) → (nogood_at t.slots id ≡ Some n) ⊎ (n ≡ blocking_nogood q t.decisions) → IsUseful t.program (known ++ S ∷ []) t.bound n
-    useful id n (inl k) = useful_more t.program known S t.bound n (s.useful id n k)
-    useful id n (inr e) = subst (IsUseful t.program (known ++ S ∷ []) t.bound) (sym e) (record { good = settled; counts = tt })
+    useful : (j : ℕ) (n : Nogood) → (nogood_at t.slots j ≡ Some n) ⊎ (n ≡ blocking_nogood q t.decisions) → IsUseful t.program (known ++ S ∷ []) t.bound n
+    useful j n (inl k) = useful_more t.program known S t.bound n (s.useful j n k)
+    useful j n (inr e) = subst (IsUseful t.program (known ++ S ∷ []) t.bound) (sym e) (record { good = settled; counts = tt })
 
 -- the same, of what the code has in its hands
-pub search_listed : (p : Program) (m : Mode) (t u : SearchView) (vars : ℕ) (checker : Program) (known ks : List Atoms) (blocking new : List ℕ) (bound : Option (List ℤ)) (last : Option ℕ) (q : List Literal) (S : Atoms) →
+pub search_listed : (p : Program) (m : Mode) (t u : SearchView) (vars : ℕ) (checker : Program) (known ks : List Atoms) (id : ℕ) (blocking new : List ℕ) (bound : Option (List ℤ)) (last : Option ℕ) (q : List Literal) (S : Atoms) →
     m ≡ mode.Enum → last ≡ None → ks ≡ known ++ S ∷ [] → Settled t.program (known ++ S ∷ []) t.bound (q ++ t.decisions) → hits (values t.program S) (q ++ t.decisions) ≡ true →
-    Blocks (blocking_nogood q t.decisions) t u new → IsSearch p m t vars checker known blocking bound last → IsSearch p m u vars checker ks new bound last
-search_listed p m t u vars checker known ks blocking new bound last q S enum none more settled hit b s =
+    Blocks (blocking_nogood q t.decisions) t u id new → IsSearch p m t vars checker known blocking bound last → IsSearch p m u vars checker ks new bound (Some id)
+search_listed p m t u vars checker known ks id blocking new bound last q S enum none more settled hit b s =
     let first : IsSearch p mode.Enum t vars checker known blocking bound None =
     subst (λ (x : Mode). IsSearch p x t vars checker known blocking bound None) enum (subst (λ (x : Option ℕ). IsSearch p m t vars checker known blocking bound x) none s) in
-    subst (λ (x : Option ℕ). IsSearch p m u vars checker ks new bound x) (sym none)
-    (subst (λ (x : Mode). IsSearch p x u vars checker ks new bound None) (sym enum)
-    (subst (λ (x : List Atoms). IsSearch p mode.Enum u vars checker x new bound None) (sym more) (search_lists p t u vars checker known blocking new bound q S settled hit b first)))
+    subst (λ (x : Mode). IsSearch p x u vars checker ks new bound (Some id)) (sym enum)
+    (subst (λ (x : List Atoms). IsSearch p mode.Enum u vars checker x new bound (Some id)) (sym more) (search_lists p t u vars checker known id blocking new bound q S settled hit b first))

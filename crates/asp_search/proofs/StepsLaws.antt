@@ -313,9 +313,9 @@ blocking_hits : (v : List Bool) (q decisions : List Literal) → hits v (q ++ de
 blocking_hits v q decisions h = (and_parts (hits v q) (hits v decisions) (sym (hits-append v q decisions) ∙ h)).0
 
 module _ (gives : Nogood → Type 0) (t u : SearchView) (c : Paced) (known : List Atoms) (last : Option ℕ) (q : List Literal) (S : Atoms) (f : Units) (none : last ≡ None) where
-  pub lists : (blocking : List ℕ) → IsFound (view_of mode.Enum t c known last) q S → Blocks (blocking_nogood q t.decisions) t u blocking →
-      Answers gives (view_of mode.Enum t c known last) (view_of mode.Enum u c (known ++ S ∷ []) last) q f f S
-  lists blocking found b = record {
+  pub lists : (id : ℕ) (blocking : List ℕ) → IsFound (view_of mode.Enum t c known last) q S → Blocks (blocking_nogood q t.decisions) t u id blocking →
+      Answers gives (view_of mode.Enum t c known last) (view_of mode.Enum u c (known ++ S ∷ []) (Some id)) q f f S
+  lists id blocking found b = record {
     program = ap (λ (y : SearchView). y.program) b.same;
     mode = refl;
     cube = ap (λ (y : SearchView). y.cube) b.same;
@@ -325,16 +325,19 @@ module _ (gives : Nogood → Type 0) (t u : SearchView) (c : Paced) (known : Lis
     new = found.new;
     cheaper = found.cheaper;
     settled = found.settled;
-    records = (refl, ap (λ (y : SearchView). y.bound) b.same, (b.id, nogood_kept u.slots b.id (record { nogood = blocking_nogood q t.decisions; kind = kind.Forever; locked = false }) b.stands));
-    derived = λ id n k. cases id n (b.nogoods id n k);
+    records = (
+      refl,
+      ap (λ (y : SearchView). y.bound) b.same,
+      record { id = id; last = refl; kept = nogood_kept u.slots id (record { nogood = blocking_nogood q t.decisions; kind = kind.Forever; locked = false }) b.stands },
+    );
+    derived = λ j n k. cases j n (b.nogoods j n k);
     learnt = refl;
     restarts = refl;
-    last = none;
   }
     where
-      cases : (id : ℕ) (n : Nogood) → (nogood_at t.slots id ≡ Some n) ⊎ (n ≡ blocking_nogood q t.decisions) → IsDerived t.program gives t.bound (nogood_at t.slots) n ⊎ (n ≡ blocking_nogood q t.decisions)
-      cases id n (inl e) = inl (IsDerived.stands id e)
-      cases id n (inr e) = inr e
+      cases : (j : ℕ) (n : Nogood) → (nogood_at t.slots j ≡ Some n) ⊎ (n ≡ blocking_nogood q t.decisions) → IsDerived t.program gives t.bound (nogood_at t.slots) n ⊎ (n ≡ blocking_nogood q t.decisions)
+      cases j n (inl e) = inl (IsDerived.stands j e)
+      cases j n (inr e) = inr e
 
   pub improves : (ranking : Ranking) → IsFound (view_of mode.Opt t c known last) q S →
       u ≡ record t { bound = Some (cost t.program S); entries = cut 0 t.entries; decisions = []; ranking = ranking } →
@@ -351,11 +354,10 @@ module _ (gives : Nogood → Type 0) (t u : SearchView) (c : Paced) (known : Lis
         new = found.new;
         cheaper = found.cheaper;
         settled = found.settled;
-        records = (refl, refl);
+        records = (refl, refl, none);
         derived = λ id n k. IsDerived.stands id k;
         learnt = refl;
         restarts = refl;
-        last = none;
       })
 
 -- ---- of what the code has in its hands
@@ -369,14 +371,14 @@ view_paced m t c d known last restarts learnt =
     let second : ℕ → Searching = λ n. record (view_of m t d known last) { learnt = n } in
     ap first (sym restarts) ∙ ap second (sym learnt)
 
-pub listed : (gives : Nogood → Type 0) (m : Mode) (t u : SearchView) (c d : Paced) (known ks : List Atoms) (last : Option ℕ) (q : List Literal) (S : Atoms) (f : Units) (blocking : List ℕ) →
-    m ≡ mode.Enum → last ≡ None → IsFound (view_of m t c known last) q S → ks ≡ known ++ S ∷ [] → Blocks (blocking_nogood q t.decisions) t u blocking → d.restarts ≡ c.restarts → d.learnt ≡ c.learnt →
-    Answers gives (view_of m t c known last) (view_of m u d ks last) q f f S
-listed gives m t u c d known ks last q S f blocking enum none found more b restarts learnt =
-    subst (λ (x : Searching). Answers gives (view_of m t c known last) x q f f S) (view_paced m u c d ks last restarts learnt)
-    (subst (λ (x : List Atoms). Answers gives (view_of m t c known last) (view_of m u c x last) q f f S) (sym more)
-    (subst (λ (x : Mode). Answers gives (view_of x t c known last) (view_of x u c (known ++ S ∷ []) last) q f f S) (sym enum)
-    (lists gives t u c known last q S f none blocking (subst (λ (x : Mode). IsFound (view_of x t c known last) q S) enum found) b)))
+pub listed : (gives : Nogood → Type 0) (m : Mode) (t u : SearchView) (c d : Paced) (known ks : List Atoms) (last : Option ℕ) (q : List Literal) (S : Atoms) (f : Units) (id : ℕ) (blocking : List ℕ) →
+    m ≡ mode.Enum → last ≡ None → IsFound (view_of m t c known last) q S → ks ≡ known ++ S ∷ [] → Blocks (blocking_nogood q t.decisions) t u id blocking → d.restarts ≡ c.restarts → d.learnt ≡ c.learnt →
+    Answers gives (view_of m t c known last) (view_of m u d ks (Some id)) q f f S
+listed gives m t u c d known ks last q S f id blocking enum none found more b restarts learnt =
+    subst (λ (x : Searching). Answers gives (view_of m t c known last) x q f f S) (view_paced m u c d ks (Some id) restarts learnt)
+    (subst (λ (x : List Atoms). Answers gives (view_of m t c known last) (view_of m u c x (Some id)) q f f S) (sym more)
+    (subst (λ (x : Mode). Answers gives (view_of x t c known last) (view_of x u c (known ++ S ∷ []) (Some id)) q f f S) (sym enum)
+    (lists gives t u c known last q S f none id blocking (subst (λ (x : Mode). IsFound (view_of x t c known last) q S) enum found) b)))
 
 -- the state where a smaller bound was set and all decisions were taken back
 pub improved_track : (p : Program) (t a u : SearchView) (d : List ℤ) (S : Atoms) → p ≡ t.program → d ≡ cost p S → a ≡ record t { bound = Some d } →

@@ -69,9 +69,13 @@ pub record IsShared (p : Program) (n : Nogood) : Type 0 where
   pub variables : All (λ l. IsVar (var_count p) l.var) n.lits
   pub shared : IsSharedBy p n.base n.lits
 
+-- the nogood that the last step learnt, or by which it blocks an answer
+abbrev pub kept_last : Searching → Option Nogood
+kept_last s = option_and_then (λ id. nogood_at s.slots id) s.last
+
 -- the nogood that the last step learnt, if others can use it
 abbrev pub exported : Searching → Option Nogood
-exported s = only_shared (option_and_then (λ id. nogood_at s.slots id) s.last)
+exported s = only_shared (kept_last s)
 
 -- ---- a literal by which a path can be split
 abbrev pub has_var : List Literal → ℕ → Bool

@@ -32,8 +32,8 @@ pub record Drops (newest : Nogood) (id : ℕ) (old new : List (Option StoredNogo
   pub blocking_stand : AreBlocking new blocking
   pub apart : All (λ i. i ≢ id) blocking
 
--- The newest blocking nogood is kept, and the search is back one level. Others may have gone, whose answers stay blocked.
-pub record Blocks (newest : Nogood) (old new : SearchView) (blocking : List ℕ) : Type 0 where
+-- The newest blocking nogood is kept under this number, and the search is back one level. Others may have gone, whose answers stay blocked.
+pub record Blocks (newest : Nogood) (old new : SearchView) (id : ℕ) (blocking : List ℕ) : Type 0 where
   pub same : new ≡ record old {
     entries = cut (length old.decisions - 1) old.entries;
     decisions = take (length old.decisions - 1) old.decisions;
@@ -41,7 +41,6 @@ pub record Blocks (newest : Nogood) (old new : SearchView) (blocking : List ℕ)
     ranking = new.ranking;
   }
   pub nogoods : (j : ℕ) (n : Nogood) → nogood_at new.slots j ≡ Some n → (nogood_at old.slots j ≡ Some n) ⊎ (n ≡ newest)
-  pub id : ℕ
   pub stands : kept_at new.slots id ≡ kept_blocking newest
   pub blocked : (p : Program) (S : Atoms) → IsExcluded p old.slots S → IsExcluded p new.slots S
   pub blocking_stand : AreBlocking new.slots blocking

@@ -4,7 +4,7 @@
 //! are found before it is taken back, and each has a nogood that begins with the same literals; the one for the last of
 //! them is the shortest, and says all that they say. So the list of these nogoods is looked at from its end, and those
 //! are dropped that begin with the new one: a search of a million answers keeps as many of them as it has levels.
-ghost use Rattle.std.specs.Prelude.{◌≡◌, ◌≢◌, ◌<◌, ◌≤◌, ℕ, List, Some, false, OnOk, OnErr, Option, IsTrue, IsSome, vec_len, vec_capacity};
+ghost use Rattle.std.specs.Prelude.{◌≡◌, ◌≢◌, ◌<◌, ◌≤◌, ℕ, List, Some, false, IfOk, OnErr, Option, IsTrue, IsSome, vec_len, vec_capacity};
 ghost use Rattle.std.specs.List.{All};
 ghost use Rattle.asp_vars.specs.Literals.{Literal};
 ghost use Rattle.asp_vars.specs.declared.nogood.Nogood.{Nogood};
@@ -102,15 +102,15 @@ fn drop_all<P: Propagator>(state: &mut SearchState<P>, blocking: &mut Vec<Nogood
     while drop_last(state, blocking, lits) {}
 }
 
-/// Keeps the blocking nogood of an answer, and goes back one level.
+/// Keeps the blocking nogood of an answer, whose number it gives, and goes back one level.
 pub(crate) fn block<P: Propagator>(
     alloc: Global,
     state: &mut SearchState<P>,
     blocking: &mut Vec<NogoodId>,
-) -> Result<(), AllocError>
+) -> Result<NogoodId, AllocError>
     requires path { (q : List Literal) × IsUnder state.old q }
     requires blocking { AreBlocking state.old.slots blocking.old.items }
-    ensures ok { OnOk result ((q : List Literal) → state.old.cube ≡ Some q → Blocks (blocking_nogood q state.old.decisions) state.old state.new blocking.new.items) }
+    ensures ok { IfOk result (λ id. (q : List Literal) → state.old.cube ≡ Some q → Blocks (blocking_nogood q state.old.decisions) state.old state.new id blocking.new.items) }
     ensures err { OnErr result ((state.new ≡ state.old) × (blocking.new.items ≡ blocking.old.items)) }
 {
     let _trail = state.trail();
@@ -121,5 +121,5 @@ pub(crate) fn block<P: Propagator>(
     state.undo_to(state.decisions().len().saturating_sub(1));
     drop_all(state, blocking, lits.as_slice());
     blocking.push_reserved(id);
-    Ok(())
+    Ok(id)
 }

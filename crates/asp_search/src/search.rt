@@ -1,5 +1,5 @@
 //! The search: what it keeps, and the calls beside its step.
-ghost use Rattle.std.specs.Prelude.{◌≡◌, ◌≢◌, ◌+◌, ◌≤◌, ◌∷◌, ◌++◌, [], None, Some, true, false, List, IfOk, IfSome, OnOk, OnErr, IsSome, MatchBool, length, replicate, slice_get};
+ghost use Rattle.std.specs.Prelude.{◌≡◌, ◌≢◌, ◌+◌, ◌≤◌, ◌∷◌, ◌++◌, [], None, Some, true, false, List, IfOk, IfSome, OnOk, OnErr, IsSome, MatchBool, count_by, length, option_map, replicate, slice_get};
 ghost use Rattle.std.specs.List.{All};
 ghost use Rattle.std.specs.Option.{option_copied};
 ghost use Rattle.asp_vars.specs.Entailment.{IsGood, IsSharedBy};
@@ -8,10 +8,10 @@ ghost use Rattle.asp_vars.specs.Numbering.{var_count};
 ghost use Rattle.asp_vars.specs.declared.nogood.Base.TheVariants as base;
 ghost use Rattle.asp_trail.specs.Entries.{level};
 ghost use Rattle.asp_trail.specs.Trails.{IsVar};
-ghost use Rattle.asp_store.specs.Keeping.{nogood_at};
+ghost use Rattle.asp_store.specs.Keeping.{is_extra, nogood_at};
 ghost use Rattle.asp_propagate.specs.Useful.{IsSmaller};
 ghost use Rattle.asp_search_laws.specs.Steps.{is_of_use};
-ghost use Rattle.asp_search.specs.Beside.{new_search, Enters, Leaves, is_local, is_shared, only_shared, exported, Imports, IsOpen, IsShared};
+ghost use Rattle.asp_search.specs.Beside.{new_search, Enters, Leaves, is_local, is_shared, kept_last, only_shared, exported, Imports, IsOpen, IsShared};
 ghost use Rattle.asp_state.specs.SearchStates.{KeepsCompletionAlone};
 
 use crate::spread::Spread;
@@ -60,7 +60,7 @@ pub struct Search<'a, P: Propagator> {
     pub(crate) blocking: Vec<NogoodId>,
     // the cost below which answers are sought: in an optimisation that of the last answer
     pub(crate) bound: Option<Cost>,
-    // the nogood that the last step learnt
+    // the nogood that the last step learnt, or by which it blocks an answer
     pub(crate) last: Option<NogoodId>,
 }
 
@@ -256,6 +256,24 @@ impl<'a, P: Propagator> Search<'a, P> {
             None => Ok(None),
             Some(id) => copy_shared(self.alloc, store, id),
         }
+    }
+
+    /// The nogood that the last step learnt, or by which it blocks an answer.
+    pub fn kept(&self) -> Option<&[Lit]>
+        ensures { option_map (λ r. r.now) result ≡ option_map (λ n. n.lits) (kept_last self.now) }
+    {
+        let store = self.state.store();
+        match self.last {
+            None => None,
+            Some(id) => Some(store.lits(id)),
+        }
+    }
+
+    /// How many kept nogoods aren't kept forever: those that were learnt, and those of propagators.
+    pub fn extra(&self) -> usize
+        ensures { result ≡ count_by is_extra self.now.slots }
+    {
+        self.state.store().extra()
     }
 
     // How many decisions stand. No variable has two entries.

@@ -165,9 +165,10 @@ impl<'a, P: Propagator> Search<'a, P> {
     {
         let copy = interp.copy()?;
         self.known.reserve(1)?;
-        block(self.alloc, &mut self.state, &mut self.blocking)?;
+        let id = block(self.alloc, &mut self.state, &mut self.blocking)?;
         thin(&mut self.state, &mut self.pace);
         self.known.push_reserved(copy);
+        self.last = Some(id);
         Ok(())
     }
 

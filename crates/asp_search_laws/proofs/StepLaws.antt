@@ -128,7 +128,6 @@ module _ (gives : Nogood → Type 0) (silent : List (Option Bool) → Type 0) (s
     derived = λ id n k. derived_or_blocking s.mode q n (h.derived id n k);
     learnt = h.learnt;
     restarts = h.restarts;
-    last = h.last;
   }
 
   restarted : (f g : Units) → Restarts gives (mid s es slots ranking last) t f g → Restarts gives s t f g

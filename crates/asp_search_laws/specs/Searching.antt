@@ -25,7 +25,7 @@ pub record Searching : Type 0 where
   pub ranking : Ranking
   pub restarts : ℕ
   pub learnt : ℕ  -- how many nogoods since the last restart, or since the path was entered
-  pub last : Option ℕ  -- the number of the nogood that the last step learnt
+  pub last : Option ℕ  -- the number of the nogood that the last step learnt, or by which it blocks an answer
 
 -- the values of the variables
 abbrev pub values_now : Searching → List (Option Bool)

@@ -141,10 +141,16 @@ pub record Closes (gives : Nogood → Type 0) (s t : Searching) (q : List Litera
 abbrev pub blocking_nogood : List Literal → List Literal → Nogood
 blocking_nogood q decisions = record { lits = q ++ decisions; base = base.Local }
 
+-- The nogood is the last that was kept.
+pub record IsLastKept (t : Searching) (n : Nogood) : Type 0 where
+  pub id : ℕ
+  pub last : t.last ≡ Some id
+  pub kept : nogood_at t.slots id ≡ Some n
+
 -- In an enumeration the answer is known from now on, and its blocking nogood is kept. In an optimisation its cost is the bound.
 abbrev pub Records : Mode → Searching → Searching → List Literal → Atoms → Type 0
-Records mode.Enum s t q S = (t.known ≡ s.known ++ S ∷ []) × (t.bound ≡ s.bound) × ((id : ℕ) × (nogood_at t.slots id ≡ Some (blocking_nogood q s.decisions)))
-Records mode.Opt s t q S = (t.known ≡ s.known) × (t.bound ≡ Some (cost s.program S))
+Records mode.Enum s t q S = (t.known ≡ s.known ++ S ∷ []) × (t.bound ≡ s.bound) × IsLastKept t (blocking_nogood q s.decisions)
+Records mode.Opt s t q S = (t.known ≡ s.known) × (t.bound ≡ Some (cost s.program S)) × (t.last ≡ None)
 
 -- A nogood that is kept is derived, or in an enumeration the answer's blocking one.
 abbrev pub IsDerivedOrBlocking : Mode → (Nogood → Type 0) → Searching → List Literal → Nogood → Type 0
@@ -165,7 +171,6 @@ pub record Answers (gives : Nogood → Type 0) (s t : Searching) (q : List Liter
   pub derived : (id : ℕ) (n : Nogood) → nogood_at t.slots id ≡ Some n → IsDerivedOrBlocking s.mode gives s q n
   pub learnt : t.learnt ≡ s.learnt
   pub restarts : t.restarts ≡ s.restarts
-  pub last : t.last ≡ None
 
 -- ---- Restarted
 -- So many nogoods were learnt since the last restart that there may be another.

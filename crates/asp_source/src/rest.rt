@@ -52,6 +52,13 @@ impl Found {
         }
     }
 
+    /// Its atoms.
+    pub fn set(&self) -> &[Atom]
+        ensures { result.now ≡ self.now.set }
+    {
+        self.atoms.as_slice()
+    }
+
     /// Keeps a set and a loop nogood of it.
     ///
     /// Want of memory leaves what was kept.

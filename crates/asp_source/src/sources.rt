@@ -8,8 +8,8 @@
 //! body founded of which a literal comes to be false. `undo` queues an atom that was false, if it lost its source
 //! meanwhile. Atoms of trivial components have no source, and are never queued. Where all components are trivial, the
 //! program is tight: no value makes a set unfounded, and nothing is ever queued.
-ghost use Rattle.std.specs.Prelude.{◌≡◌, ◌+◌, None, IsTrue, IfOk, IfNone, IfSome, replicate};
-ghost use Rattle.asp_model.specs.Sets.{Atoms};
+ghost use Rattle.std.specs.Prelude.{◌≡◌, ℕ, List, Option, Bool, ◌+◌, None, IsTrue, IfOk, IfNone, IfSome, replicate};
+ghost use Rattle.asp_model.specs.Sets.{Atoms, has};
 ghost use Rattle.asp_vars.specs.Literals.{value_of, holds_in};
 ghost use Rattle.asp_vars.specs.Numbering.{var_count};
 ghost use Rattle.asp_trail.specs.Entries.{assignment};
@@ -148,6 +148,13 @@ impl<'a> Sources<'a> {
             &mut self.queue,
             lit,
         );
+    }
+
+    /// The set of whose atoms `next` gave a loop nogood last, in any order.
+    pub fn last_set(&self) -> &[Atom]
+        ensures { (a : ℕ) → IsTrue (has result.now a) → (x : List (Option Bool)) × IsUnfoundedLoop self.now.program x result.now }
+    {
+        self.found.set()
     }
 
     // The loop nogood of another atom of the set that was found last, if what made it unfounded holds still.

@@ -39,6 +39,8 @@ fn words_are_taken(rt: HostRuntime) {
         budget: 9223372036854775807,
         make: None,
         stats: false,
+        progress: false,
+        proof: false,
     };
     assert!(rt; gives(&rt, alloc, "aspenum", Ok(standard)));
     let chosen = Options {
@@ -47,6 +49,8 @@ fn words_are_taken(rt: HostRuntime) {
         budget: 7,
         make: Some(2000),
         stats: true,
+        progress: false,
+        proof: false,
     };
     let line = "aspenum --make=2000 --stats --mode=enum --budget=7 --workers 1 --";
     assert!(rt; gives(&rt, alloc, line, Ok(chosen)));

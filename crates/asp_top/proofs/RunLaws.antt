@@ -8,7 +8,6 @@ use Rattle.asp_read.specs.declared.fault.ReadError.TheVariants as errors
 use Rattle.asp_model.specs.declared.program.Program.{Program}
 use Rattle.asp_model.specs.declared.results.End.{End}
 use Rattle.asp_model.specs.declared.results.End.TheVariants.{Finished, Unfinished}
-use Rattle.asp_model.specs.Texts.{results_text}
 use Rattle.asp_read.specs.Outcome.{outcome, most_bytes}
 use Rattle.asp_read.specs.Stream.{ReadsText, StopsAt}
 use Rattle.asp_make.specs.Ring.{ring}
@@ -17,8 +16,8 @@ use Rattle.asp_top.specs.declared.status.Status.{Status}
 use Rattle.asp_top.specs.declared.status.Status.TheVariants.{All, NoModel, Partial, Unknown, Help, Memory, Usage, Refused, ReadFault, TooLong, WriteFault}
 use Rattle.asp_top.specs.declared.status.Outcome.{Outcome}
 use Rattle.asp_top.specs.Meaning.{has_model, status_for}
-use Rattle.asp_top.specs.Notes.{is_answered, notes_of}
-use Rattle.asp_top.specs.Runs.{Around, DeliveryMeans, IsExact, IsGiven, IsSaid, IsSolved, Means, Runs, Says, Solves, is_brief, status_of}
+use Rattle.asp_top.specs.Notes.{is_answered}
+use Rattle.asp_top.specs.Runs.{Around, DeliveryMeans, IsExact, IsGiven, IsSaid, IsSolved, Means, Runs, Says, Solves, is_brief, report_text, status_of}
 use Rattle.asp_cli.specs.declared.Options.{Options}
 
 says-at : (a : Around) (text : List ℕ) (said : Result Program ReadError) → a.left ≡ Some text → Says a said → outcome text ≡ said
@@ -115,14 +114,14 @@ runs-memory given a kept reads writes quiet =
     record { means = means; exact = exact given a None Memory means (λ told isn't. quiet told); later = (reads, writes) }
 
 written : (given : Options) (a : Around) (report : Option Report) → (s : IsSolved given a report) → (end : End) (model : Bool) → s.done.results.end ≡ end → has_model s.done.results ≡ model
-    → Appends a.held a.held' (results_text s.program s.done.results (is_brief given)) → Means given a report (status_for end model)
+    → Appends a.held a.held' (report_text s.program s.done (is_brief given)) → Means given a report (status_for end model)
 written given a report s Finished true e m text = record { solved = s; end_is = e; model_is = m; text = text }
 written given a report s Finished false e m text = record { solved = s; end_is = e; model_is = m; text = text }
 written given a report s Unfinished true e m text = record { solved = s; end_is = e; model_is = m; text = text }
 written given a report s Unfinished false e m text = record { solved = s; end_is = e; model_is = m; text = text }
 
 delivered : (given : Options) (a : Around) (s : Status) (report : Option Report) → (solved : IsSolved given a report)
-    → DeliveryMeans (is_brief given) solved.program solved.done.results a.held a.held' a.writes a.writes' s → Means given a report s
+    → DeliveryMeans (is_brief given) solved.program solved.done a.held a.held' a.writes a.writes' s → Means given a report s
 delivered given a s report solved (inl m) = subst (Means given a report) (sym m.0) (written given a report solved solved.done.results.end (has_model solved.done.results) refl refl m.1)
 delivered given a s report solved (inr m) = subst (Means given a report) (sym m.0) (record { solved = solved; text = m.1; cause = m.2 })
 
@@ -130,7 +129,7 @@ pub runs-solved : (given : Options) (a : Around) (p : Program) (o : Outcome) →
     → Solves given p a.held a.held' a.writes a.writes' o → Runs given a o
 runs-solved given a p o from reads quiet (inl m) = subst (Runs given a) (sym m.0) (runs-memory given a m.1 reads (omega (arith, m.2)) quiet)
 runs-solved given a p o from reads quiet (inr s) =
-    let solved : IsSolved given a o.report = record { program = p; source = from; done = s.0; reports = s.2.reports; is = s.1 } in
+    let solved : IsSolved given a o.report = record { program = p; source = from; done = s.0; reports = s.2.reports; is = s.1.0; proof = s.1.1 } in
     let means = delivered given a o.status o.report solved s.2.means in
     record { means = means; exact = exact given a o.report o.status means (λ told isn't. quiet told); later = (reads, s.2.later) }
 
@@ -148,8 +147,3 @@ runs-ring given a n p o make is left reads s =
 
 pub ok-no-fault : (p : Program) (e : ReadError) → ¬ IsErrOf (Ok p) e
 ok-no-fault p e is = cc
-
--- no counts are written where no results were
-pub unanswered-notes : (stats : Bool) (status : Status) → is_answered status ≡ false → notes_of stats (record { status = status; report = None }) ≡ notes_of false (record { status = status; report = None })
-unanswered-notes true status e = rw e refl
-unanswered-notes false status e = refl

@@ -1,6 +1,9 @@
 pub mod Codes
 pub mod Usage
+pub mod Counts
 pub mod Notes
+pub mod Progress
+pub mod Telling
 pub mod Meaning
 pub mod Runs
 pub mod Words

@@ -1,10 +1,13 @@
 -- What the notes say of a run.
 use Rattle.std.specs.Prelude.{◌≡◌, ℕ, ◌≤◌, Bool, true, false, ◌&&◌, if◌then◌else◌, List, [], ◌++◌, codes, decimal, Option, None, Some, Result, OnOk, OnErr, IsSome}
+use Rattle.std.specs.List.{flat_map}
 use Rattle.std.specs.Io.KnownBytes.{Appends}
 use Rattle.asp_io.specs.Causes.{Rose, AppendsFront}
 use Rattle.asp_crew_laws.specs.declared.report.Report.{Report}
 use Rattle.asp_top.specs.declared.status.Outcome.{Outcome}
 use Rattle.asp_top.specs.declared.status.Status.{Status}
+use Rattle.asp_top.specs.declared.counts.Tally.{Tally}
+use Rattle.asp_top.specs.Counts.{item_text, stats_items}
 use Rattle.asp_top.specs.Usage.{usage_text}
 use Rattle.asp_top.specs.Faults.{fault_text}
 use Rattle.asp_top.specs.declared.status.Status.TheVariants.{All, NoModel, Partial, Unknown, Help, Memory, Usage, Refused, ReadFault, TooLong, WriteFault}
@@ -24,13 +27,13 @@ note_of ReadFault = codes "aspenum: read failed\n"
 note_of TooLong = codes "aspenum: input too long\n"
 note_of WriteFault = codes "aspenum: write failed\n"
 
--- The counts of a run: the units that were burnt, the leaves of the tree of paths, and the nogoods that workers shared.
-abbrev pub stats_of : Report → List ℕ
-stats_of r = codes "Conflicts: " ++ decimal r.spent ++ (codes "\nLeaves: " ++ decimal r.leaves) ++ (codes "\nLog: " ++ decimal r.log) ++ codes "\n"
+-- the counts of a run, a line each
+abbrev pub stats_of : Tally → Report → List ℕ
+stats_of t r = flat_map item_text (stats_items r t) ++ codes "\n"
 
-abbrev pub counts_of : Option Report → List ℕ
-counts_of None = []
-counts_of (Some r) = stats_of r
+abbrev pub counts_of : Tally → Option Report → List ℕ
+counts_of t None = []
+counts_of t (Some r) = stats_of t r
 
 -- whether results were written
 abbrev pub is_answered : Status → Bool
@@ -41,12 +44,12 @@ is_answered Unknown = true
 is_answered _ = false
 
 -- the counts, where they are asked for and results were written
-abbrev pub counts_if : Bool → Outcome → List ℕ
-counts_if stats o = if stats && is_answered o.status then counts_of o.report else []
+abbrev pub counts_if : Bool → Tally → Outcome → List ℕ
+counts_if stats t o = if stats && is_answered o.status then counts_of t o.report else []
 
 -- what the notes get of an outcome
-abbrev pub notes_of : Bool → Outcome → List ℕ
-notes_of stats o = note_of o.status ++ counts_if stats o
+abbrev pub notes_of : Bool → Tally → Outcome → List ℕ
+notes_of stats t o = note_of o.status ++ counts_if stats t o
 
 -- a call wrote all of the bytes, or failed with a front of them out, and only where a fault was counted; of a sink that
 -- tells its bytes a fault was counted only where it failed

@@ -1,5 +1,5 @@
 -- What each status of a run says of the words, of the bytes read and of the bytes written.
-use Rattle.std.specs.Prelude.{◌≡◌, ◌⊎◌, ℕ, ◌≤◌, Bool, true, false, List, Option, None, Some, Result, Ok, Err, IfSome, IsSome, is_some}
+use Rattle.std.specs.Prelude.{◌≡◌, ◌⊎◌, ℕ, ◌≤◌, Bool, true, false, List, Option, None, Some, Result, Ok, Err, IfSome, IsSome, is_some, length}
 use Rattle.std.specs.Io.KnownBytes.{Appends, Keeps, IsAtEnd}
 use Rattle.asp_io.specs.Causes.{Rose, AppendsFront}
 use Rattle.asp_read.specs.declared.fault.Fault.{Fault}
@@ -10,19 +10,26 @@ use Rattle.asp_model.specs.declared.results.End.{End}
 use Rattle.asp_model.specs.declared.results.End.TheVariants.{Finished, Unfinished}
 use Rattle.asp_model.specs.declared.results.Results.{Results}
 use Rattle.asp_model.specs.Texts.{results_text}
+use Rattle.asp_proof.specs.declared.proof.Proof.{Proof}
+use Rattle.asp_proof.specs.Texts.{text_of}
 use Rattle.asp_read.specs.Outcome.{outcome, most_bytes}
 use Rattle.asp_read.specs.Stream.{StopsAt}
 use Rattle.asp_make.specs.Ring.{ring}
 use Rattle.asp_cli.specs.Given.{Given, help, misuse, options, version}
 use Rattle.asp_cli.specs.declared.Options.{Options}
 use Rattle.asp_cli.specs.Texts.{help_page, version_line}
+use Rattle.asp_model.specs.Models.{atoms_of}
+use Rattle.asp_vars.specs.Numbering.{bodies_of}
 use Rattle.asp_crew_laws.specs.declared.report.Report.{Report}
 use Rattle.asp_crew_laws.specs.Reports.{IsReport}
+use Rattle.asp_crew_laws.specs.Proofs.{HasProof}
 use Rattle.asp_top.specs.declared.status.Status.{Status}
 use Rattle.asp_top.specs.declared.status.Status.TheVariants.{All, NoModel, Partial, Unknown, Help, Memory, Usage, Refused, ReadFault, TooLong, WriteFault}
 use Rattle.asp_top.specs.declared.status.Outcome.{Outcome}
+use Rattle.asp_top.specs.declared.counts.Tally.{Tally}
 use Rattle.asp_top.specs.Meaning.{has_model, mode_of, status_for}
-use Rattle.asp_top.specs.Notes.{is_answered, notes_of}
+use Rattle.asp_top.specs.Notes.{IsNoted, is_answered, note_of, notes_of}
+use Rattle.asp_top.specs.Progress.{IsTold}
 use Rattle.asp_top.specs.Usage.{misuse_note}
 
 -- the source and the sink before and after a run: the bytes that are left and held, where they are told, and the counts of faults
@@ -64,29 +71,38 @@ abbrev pub IsGiven : Option ℕ → Around → Program → Type 0
 IsGiven None a p = IsRead a p
 IsGiven (Some n) a p = (p ≡ ring n) × IsUnasked a
 
--- the report is that of a run on the program, in the mode and with the units that were given
+-- the text of a report: that of its proof, if it has one, and else that of its results
+abbrev pub text_by : Option Proof → Program → Results → Bool → List ℕ
+text_by (Some proof) p r brief = text_of proof
+text_by None p r brief = results_text p r brief
+
+abbrev pub report_text : Program → Report → Bool → List ℕ
+report_text p r brief = text_by r.proof p r.results brief
+
+-- the report is that of a run on the program, in the mode and with the units that were given, and has a proof if that was asked for
 pub record IsSolved (given : Options) (a : Around) (report : Option Report) : Type 0 where
   pub program : Program
   pub source : IsGiven given.make a program
   pub done : Report
   pub reports : report ≡ Some done
   pub is : IsReport program (mode_of given.mode program) given.budget done
+  pub proof : HasProof given.proof done
 
 -- the lines of a ring's answers are left out
 abbrev pub is_brief : Options → Bool
 is_brief given = is_some given.make
 
--- exactly the text of the report's results was written
+-- exactly the text of the report was written
 pub record IsWritten (given : Options) (a : Around) (report : Option Report) (end : End) (model : Bool) : Type 0 where
   pub solved : IsSolved given a report
   pub end_is : solved.done.results.end ≡ end
   pub model_is : has_model solved.done.results ≡ model
-  pub text : Appends a.held a.held' (results_text solved.program solved.done.results (is_brief given))
+  pub text : Appends a.held a.held' (report_text solved.program solved.done (is_brief given))
 
 -- a front of that text was written, and a fault counted
 pub record IsCutOff (given : Options) (a : Around) (report : Option Report) : Type 0 where
   pub solved : IsSolved given a report
-  pub text : AppendsFront a.held a.held' (results_text solved.program solved.done.results (is_brief given))
+  pub text : AppendsFront a.held a.held' (report_text solved.program solved.done (is_brief given))
   pub cause : Rose a.writes a.writes'
 
 -- nothing was solved and nothing written
@@ -151,23 +167,23 @@ pub record IsExact (given : Options) (a : Around) (status : Status) : Type 0 whe
 abbrev pub TellsFaults : Option (List ℕ) → ℕ → ℕ → Status → Type 0
 TellsFaults held writes writes' status = IsSome held → ¬ (status ≡ WriteFault) → writes' ≡ writes
 
--- the text of the results was written, or cut off by a fault
-abbrev pub DeliveryMeans : Bool → Program → Results → Option (List ℕ) → Option (List ℕ) → ℕ → ℕ → Status → Type 0
+-- the text of the report was written, or cut off by a fault
+abbrev pub DeliveryMeans : Bool → Program → Report → Option (List ℕ) → Option (List ℕ) → ℕ → ℕ → Status → Type 0
 DeliveryMeans brief p r held held' writes writes' status =
-    ((status ≡ status_for r.end (has_model r)) × Appends held held' (results_text p r brief))
-    ⊎ ((status ≡ WriteFault) × AppendsFront held held' (results_text p r brief) × Rose writes writes')
+    ((status ≡ status_for r.results.end (has_model r.results)) × Appends held held' (report_text p r brief))
+    ⊎ ((status ≡ WriteFault) × AppendsFront held held' (report_text p r brief) × Rose writes writes')
 
--- results that were to be written
+-- a report that was to be written
 pub record Delivers (brief : Bool) (p : Program) (r : Report) (held held' : Option (List ℕ)) (writes writes' : ℕ) (o : Outcome) : Type 0 where
   pub reports : o.report ≡ Some r
-  pub means : DeliveryMeans brief p r.results held held' writes writes' o.status
+  pub means : DeliveryMeans brief p r held held' writes writes' o.status
   pub later : writes ≤ writes'
 
 -- The program was solved as was asked, or memory ran out and nothing was written.
 abbrev pub Solves : Options → Program → Option (List ℕ) → Option (List ℕ) → ℕ → ℕ → Outcome → Type 0
 Solves given p held held' writes writes' o =
     ((o ≡ record { status = Memory; report = None }) × Keeps held held' × (writes' ≡ writes))
-    ⊎ ((r : Report) × IsReport p (mode_of given.mode p) given.budget r × Delivers (is_brief given) p r held held' writes writes' o)
+    ⊎ ((r : Report) × (IsReport p (mode_of given.mode p) given.budget r × HasProof given.proof r) × Delivers (is_brief given) p r held held' writes writes' o)
 
 -- a run after the words
 pub record Runs (given : Options) (a : Around) (o : Outcome) : Type 0 where
@@ -200,9 +216,21 @@ RunsOn version a o = Helps version_line a o
 RunsOn (misuse m) a o = Misuses a o
 RunsOn (options given) a o = Runs given a o
 
+-- the atoms of the report's program, and the different bodies of its rules in force
+pub record IsCounted (t : Tally) (r : Report) : Type 0 where
+  pub atoms : t.atoms ≡ length (atoms_of r.paid.program)
+  pub bodies : t.bodies ≡ length (bodies_of r.paid.program)
+
+-- What the notes get of a run after the words: lines while it goes on, where they are asked for, then the line of its status, and
+-- the counts, where they are asked for
+pub record NotesRun (given : Options) (held held' : Option (List ℕ)) (faults faults' : ℕ) (o : Outcome) : Type 0 where
+  pub tally : Tally
+  pub counted : IfSome o.report (IsCounted tally)
+  pub told : IsTold given.progress held held' faults faults' (notes_of given.stats tally o)
+
 -- what the notes get of a run whose words give this
-abbrev pub notes_on : Given → Outcome → List ℕ
-notes_on help o = notes_of false o
-notes_on version o = notes_of false o
-notes_on (misuse m) o = misuse_note m
-notes_on (options given) o = notes_of given.stats o
+abbrev pub NotesOn : Given → Option (List ℕ) → Option (List ℕ) → ℕ → ℕ → Outcome → Type 0
+NotesOn help held held' faults faults' o = IsNoted held held' faults faults' (note_of o.status)
+NotesOn version held held' faults faults' o = IsNoted held held' faults faults' (note_of o.status)
+NotesOn (misuse m) held held' faults faults' o = IsNoted held held' faults faults' (misuse_note m)
+NotesOn (options given) held held' faults faults' o = NotesRun given held held' faults faults' o

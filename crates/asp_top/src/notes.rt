@@ -1,10 +1,13 @@
 //! The line on the notes for each status, and the counts of a run.
 ghost use Rattle.std.specs.Prelude.{◌≡◌, ◌++◌, codes, decimal};
+ghost use Rattle.asp_buffer.specs.Out.{Puts, out};
 ghost use Rattle.asp_top.specs.Notes.{IsNoted, Writes, counts_if, counts_of, is_answered, note_of, notes_of, stats_of};
 
+use crate::counts::{Tally, put_items, stats_items};
 use crate::status::{Outcome, Status};
 use crate::texts::write_fault;
 use crate::usage::write_usage;
+use asp_buffer::{Waiting, flush, put};
 use asp_crew::report::Report;
 use asp_io::{Failed, Sink, write_all};
 use asp_read::fault::Fault;
@@ -81,79 +84,84 @@ fn is_answered(status: Status) -> bool
     }
 }
 
-fn write_spent<N: Sink>(notes: &mut N, spent: u64) -> Result<(), Failed>
-    ensures { Writes (N.held notes.old) (N.held notes.new) (N.faults notes.old) (N.faults notes.new)
-        result (codes "Conflicts: " ++ decimal spent) }
+fn put_counts<N: Sink>(
+    notes: &mut N,
+    waiting: &mut Waiting,
+    report: &Report,
+    tally: &Tally,
+) -> Result<(), Failed>
+    ensures { Puts (out (N.held notes.old) (N.faults notes.old) waiting.old)
+        (out (N.held notes.new) (N.faults notes.new) waiting.new) result (stats_of tally.now report.now) }
 {
-    write_both(
-        notes,
-        b"Conflicts: ",
-        Buffer::new().format(spent).as_bytes(),
-    )
+    let items = stats_items(report, tally);
+    put_items(notes, waiting, &items)?;
+    put(notes, waiting, b"\n")
 }
 
-fn write_leaves<N: Sink>(notes: &mut N, leaves: u32) -> Result<(), Failed>
+fn write_counts<N: Sink>(notes: &mut N, tally: &Tally, report: &Report) -> Result<(), Failed>
     ensures { Writes (N.held notes.old) (N.held notes.new) (N.faults notes.old) (N.faults notes.new)
-        result (codes "\nLeaves: " ++ decimal leaves) }
+        result (stats_of tally.now report.now) }
 {
-    write_both(
-        notes,
-        b"\nLeaves: ",
-        Buffer::new().format(leaves).as_bytes(),
-    )
+    let mut waiting = Waiting::new();
+    put_counts(notes, &mut waiting, report, tally)?;
+    flush(notes, &mut waiting)
 }
 
-fn write_log<N: Sink>(notes: &mut N, log: u32) -> Result<(), Failed>
+fn write_report<N: Sink>(
+    notes: &mut N,
+    tally: &Tally,
+    report: &Option<Report>,
+) -> Result<(), Failed>
     ensures { Writes (N.held notes.old) (N.held notes.new) (N.faults notes.old) (N.faults notes.new)
-        result (codes "\nLog: " ++ decimal log) }
-{
-    write_both(notes, b"\nLog: ", Buffer::new().format(log).as_bytes())
-}
-
-fn write_counts<N: Sink>(notes: &mut N, report: &Report) -> Result<(), Failed>
-    ensures { Writes (N.held notes.old) (N.held notes.new) (N.faults notes.old) (N.faults notes.new)
-        result (stats_of report.now) }
-{
-    write_spent(notes, report.spent)?;
-    write_leaves(notes, report.leaves)?;
-    write_log(notes, report.log)?;
-    write(notes, b"\n")
-}
-
-fn write_report<N: Sink>(notes: &mut N, report: &Option<Report>) -> Result<(), Failed>
-    ensures { Writes (N.held notes.old) (N.held notes.new) (N.faults notes.old) (N.faults notes.new)
-        result (counts_of report.now) }
+        result (counts_of tally.now report.now) }
 {
     match report {
-        Some(report) => write_counts(notes, report),
+        Some(report) => write_counts(notes, tally, report),
         None => write(notes, b""),
     }
 }
 
-fn write_counts_if<N: Sink>(notes: &mut N, stats: bool, outcome: &Outcome) -> Result<(), Failed>
+fn write_counts_if<N: Sink>(
+    notes: &mut N,
+    stats: bool,
+    tally: &Tally,
+    outcome: &Outcome,
+) -> Result<(), Failed>
     ensures { Writes (N.held notes.old) (N.held notes.new) (N.faults notes.old) (N.faults notes.new)
-        result (counts_if stats outcome.now) }
+        result (counts_if stats tally.now outcome.now) }
 {
     if stats && is_answered(outcome.status) {
-        write_report(notes, &outcome.report)
+        write_report(notes, tally, &outcome.report)
     } else {
         write(notes, b"")
     }
 }
 
-fn write_notes<N: Sink>(notes: &mut N, stats: bool, outcome: &Outcome) -> Result<(), Failed>
+fn write_notes<N: Sink>(
+    notes: &mut N,
+    stats: bool,
+    tally: &Tally,
+    outcome: &Outcome,
+) -> Result<(), Failed>
     ensures { Writes (N.held notes.old) (N.held notes.new) (N.faults notes.old) (N.faults notes.new)
-        result (notes_of stats outcome.now) }
+        result (notes_of stats tally.now outcome.now) }
 {
     write_note(notes, outcome.status)?;
-    write_counts_if(notes, stats, outcome)
+    write_counts_if(notes, stats, tally, outcome)
 }
 
 /// Writes the line for an outcome's status, and the counts where they are asked for. That the notes fail changes
 /// nothing.
-pub fn note<N: Sink>(notes: &mut N, stats: bool, outcome: &Outcome)
+pub fn note<N: Sink>(notes: &mut N, stats: bool, tally: &Tally, outcome: &Outcome)
     ensures { IsNoted (N.held notes.old) (N.held notes.new) (N.faults notes.old) (N.faults notes.new)
-        (notes_of stats outcome.now) }
+        (notes_of stats tally.now outcome.now) }
 {
-    let _ = write_notes(notes, stats, outcome);
+    let _ = write_notes(notes, stats, tally, outcome);
+}
+
+/// Writes the line for a status where nothing was solved. That the notes fail changes nothing.
+pub fn note_status<N: Sink>(notes: &mut N, status: Status)
+    ensures { IsNoted (N.held notes.old) (N.held notes.new) (N.faults notes.old) (N.faults notes.new) (note_of status) }
+{
+    let _ = write_note(notes, status);
 }

@@ -1,15 +1,18 @@
 //! A whole run: words, reading, solving and writing, in this order; the first that doesn't succeed decides.
-ghost use Rattle.std.specs.Prelude.{◌≡◌, ◌++◌, ℕ, List, Option, None, Some, false, map, string_bytes};
+ghost use Rattle.std.specs.Prelude.{◌≡◌, ◌++◌, ℕ, List, Option, None, Some, IfSome, map, string_bytes};
 ghost use Rattle.asp_model.specs.Sound.{IsSound};
 ghost use Rattle.asp_model.specs.Texts.{results_text};
 ghost use Rattle.asp_cli.specs.Given.{fault_seen, words_give};
 ghost use Rattle.asp_cli.specs.Texts.{help_page, version_line};
 ghost use Rattle.asp_cli.specs.Values.{IsRing};
-ghost use Rattle.asp_top.specs.Notes.{IsNoted, Writes, notes_of};
+ghost use Rattle.asp_top.specs.Notes.{IsNoted, Writes, note_of};
 ghost use Rattle.asp_top.specs.Usage.{misuse_note};
-ghost use Rattle.asp_top.specs.Runs.{Delivers, Runs, RunsOn, Solves, TellsFaults, TextMeans, around, notes_on, status_of};
+ghost use Rattle.asp_proof.specs.Texts.{text_of};
+ghost use Rattle.asp_top.specs.Runs.{Delivers, IsCounted, NotesOn, NotesRun, Runs, RunsOn, Solves, TellsFaults, TextMeans, around, report_text, status_of};
 
-use crate::notes::{note, write};
+use crate::counts::Tally;
+use crate::notes::{note_status, write};
+use crate::progress::Progress;
 use crate::solve::{mode_of, status_for};
 use crate::status::{Outcome, Status};
 use crate::usage::{note_misuse, write_three};
@@ -17,11 +20,14 @@ use asp_cli::{CliError, Options, WordFault, page_back, page_front, usage, versio
 use asp_crew::alone::solve_alone;
 use asp_crew::gate::Gate;
 use asp_crew::report::Report;
+use asp_crew::watch::Watch;
 use asp_io::{Failed, Sink, Source};
 use asp_make::ring;
 use asp_model::program::Program;
 use asp_model::results::Results;
 use asp_print::print;
+use asp_proof::proof::Proof;
+use asp_proof::write_proof;
 use asp_read::fault::ReadError;
 use asp_read::read_program;
 use asp_vars::compile::compile;
@@ -50,7 +56,14 @@ fn failed(status: Status) -> Outcome
     }
 }
 
-fn write_text<K: Sink>(
+fn write_proof_text<K: Sink>(sink: &mut K, proof: &Proof) -> Result<(), Failed>
+    ensures { Writes (K.held sink.old) (K.held sink.new) (K.faults sink.old) (K.faults sink.new)
+        result (text_of proof.now) }
+{
+    write_proof(sink, proof)
+}
+
+fn write_results_text<K: Sink>(
     sink: &mut K,
     brief: bool,
     program: &Program,
@@ -62,17 +75,33 @@ fn write_text<K: Sink>(
     print(sink, program, results, brief)
 }
 
-// Writes the text of the results, and flushes the sink.
-fn write_results<K: Sink>(
+// Writes the text of the proof, if there is one, and else that of the results.
+fn write_text<K: Sink>(
     sink: &mut K,
     brief: bool,
     program: &Program,
-    results: &Results,
+    report: &Report,
 ) -> Result<(), Failed>
     ensures { Writes (K.held sink.old) (K.held sink.new) (K.faults sink.old) (K.faults sink.new)
-        result (results_text program.now results.now brief) }
+        result (report_text program.now report.now brief) }
 {
-    write_text(sink, brief, program, results)?;
+    match &report.proof {
+        Some(proof) => write_proof_text(sink, proof),
+        None => write_results_text(sink, brief, program, &report.results),
+    }
+}
+
+// Writes the text of a report, and flushes the sink.
+fn write_report<K: Sink>(
+    sink: &mut K,
+    brief: bool,
+    program: &Program,
+    report: &Report,
+) -> Result<(), Failed>
+    ensures { Writes (K.held sink.old) (K.held sink.new) (K.faults sink.old) (K.faults sink.new)
+        result (report_text program.now report.now brief) }
+{
+    write_text(sink, brief, program, report)?;
     sink.flush()
 }
 
@@ -112,7 +141,7 @@ fn deliver<K: Sink>(sink: &mut K, brief: bool, program: &Program, report: Report
     ensures delivers { Delivers brief program.now report (K.held sink.old) (K.held sink.new) (K.faults sink.old) (K.faults sink.new) result }
     ensures flushed { TellsFaults (K.held sink.old) (K.faults sink.old) (K.faults sink.new) result.status }
 {
-    let status = match write_results(sink, brief, program, &report.results) {
+    let status = match write_report(sink, brief, program, &report) {
         Ok(()) => status_for(&report.results),
         Err(Failed) => Status::WriteFault,
     };
@@ -123,82 +152,128 @@ fn deliver<K: Sink>(sink: &mut K, brief: bool, program: &Program, report: Report
 }
 
 // Solves a program that was compiled, and writes its results.
-fn solve<K: Sink>(alloc: Global, options: &Options, compiled: &Compiled, sink: &mut K) -> Outcome
+fn solve<K: Sink, W: Watch>(
+    alloc: Global,
+    options: &Options,
+    compiled: &Compiled,
+    sink: &mut K,
+    tally: &mut Tally,
+    watch: &mut W,
+) -> Outcome
     ensures solves { Solves options.now compiled.now (K.held sink.old) (K.held sink.new) (K.faults sink.old) (K.faults sink.new) result }
     ensures flushed { TellsFaults (K.held sink.old) (K.faults sink.old) (K.faults sink.new) result.status }
+    ensures counted { IfSome result.report (IsCounted tally.new) }
+    ensures heard { W.IsAfter watch.old watch.new }
 {
     let program = compiled.program();
     let mode = mode_of(options.mode, program);
-    match solve_alone(alloc, compiled, mode, options.budget) {
+    tally.atoms = compiled.atom_count() as u64;
+    tally.bodies = compiled.body_count() as u64;
+    match solve_alone(
+        alloc,
+        compiled,
+        mode,
+        options.budget,
+        options.proof,
+        &mut tally.counts,
+        watch,
+    ) {
         Ok(report) => deliver(sink, options.make.is_some(), program, report),
         Err(_) => failed(Status::Memory),
     }
 }
 
 // Solves a program, and writes its results.
-fn answer<K: Sink>(alloc: Global, options: &Options, program: Program, sink: &mut K) -> Outcome
+fn answer<K: Sink, W: Watch>(
+    alloc: Global,
+    options: &Options,
+    program: Program,
+    sink: &mut K,
+    tally: &mut Tally,
+    watch: &mut W,
+) -> Outcome
     requires { IsSound program }
     ensures solves { Solves options.now program (K.held sink.old) (K.held sink.new) (K.faults sink.old) (K.faults sink.new) result }
     ensures flushed { TellsFaults (K.held sink.old) (K.faults sink.old) (K.faults sink.new) result.status }
+    ensures counted { IfSome result.report (IsCounted tally.new) }
+    ensures heard { W.IsAfter watch.old watch.new }
 {
     match compile(alloc, program) {
-        Ok(compiled) => solve(alloc, options, &compiled, sink),
+        Ok(compiled) => solve(alloc, options, &compiled, sink, tally, watch),
         Err(_) => failed(Status::Memory),
     }
 }
 
 // Reads a program, and answers it.
-fn read_and_answer<S: Source, K: Sink>(
+fn read_and_answer<S: Source, K: Sink, W: Watch>(
     alloc: Global,
     options: &Options,
     source: &mut S,
     sink: &mut K,
+    tally: &mut Tally,
+    watch: &mut W,
 ) -> Outcome
     requires { options.now.make ≡ None }
     ensures runs { Runs options.now (around (S.left source.old) (S.left source.new) (S.faults source.old) (S.faults source.new)
         (K.held sink.old) (K.held sink.new) (K.faults sink.old) (K.faults sink.new)) result }
     ensures flushed { TellsFaults (K.held sink.old) (K.faults sink.old) (K.faults sink.new) result.status }
+    ensures counted { IfSome result.report (IsCounted tally.new) }
+    ensures heard { W.IsAfter watch.old watch.new }
 {
     match read_program(alloc, source) {
-        Ok(program) => answer(alloc, options, program, sink),
+        Ok(program) => answer(alloc, options, program, sink, tally, watch),
         Err(error) => failed(status_of(error)),
     }
 }
 
 // Answers the ring of so many nodes. The source isn't read.
-fn make_and_answer<K: Sink>(alloc: Global, options: &Options, nodes: u32, sink: &mut K) -> Outcome
+fn make_and_answer<K: Sink, W: Watch>(
+    alloc: Global,
+    options: &Options,
+    nodes: u32,
+    sink: &mut K,
+    tally: &mut Tally,
+    watch: &mut W,
+) -> Outcome
     requires given { options.now.make ≡ Some nodes }
     requires ring { IsRing (Some nodes) }
     ensures runs { (left : Option (List ℕ)) (reads : ℕ) → Runs options.now (around left left reads reads
         (K.held sink.old) (K.held sink.new) (K.faults sink.old) (K.faults sink.new)) result }
     ensures flushed { TellsFaults (K.held sink.old) (K.faults sink.old) (K.faults sink.new) result.status }
+    ensures counted { IfSome result.report (IsCounted tally.new) }
+    ensures heard { W.IsAfter watch.old watch.new }
 {
     match ring(alloc, nodes) {
-        Ok(program) => answer(alloc, options, program, sink),
+        Ok(program) => answer(alloc, options, program, sink, tally, watch),
         Err(_) => failed(Status::Memory),
     }
 }
 
-fn outcome_of<S: Source, K: Sink>(
+fn outcome_of<S: Source, K: Sink, W: Watch>(
     alloc: Global,
     options: &Options,
     source: &mut S,
     sink: &mut K,
+    tally: &mut Tally,
+    watch: &mut W,
 ) -> Outcome
     requires { IsRing options.now.make }
     ensures runs { Runs options.now (around (S.left source.old) (S.left source.new) (S.faults source.old) (S.faults source.new)
         (K.held sink.old) (K.held sink.new) (K.faults sink.old) (K.faults sink.new)) result }
     ensures flushed { TellsFaults (K.held sink.old) (K.faults sink.old) (K.faults sink.new) result.status }
+    ensures counted { IfSome result.report (IsCounted tally.new) }
+    ensures heard { W.IsAfter watch.old watch.new }
 {
     match options.make {
-        None => read_and_answer(alloc, options, source, sink),
-        Some(nodes) => make_and_answer(alloc, options, nodes, sink),
+        None => read_and_answer(alloc, options, source, sink, tally, watch),
+        Some(nodes) => make_and_answer(alloc, options, nodes, sink, tally, watch),
     }
 }
 
 /// A run after the words. It reads a program from the source, or makes a ring, solves it with one search, writes the text
-/// of its results to the sink and flushes it. The notes get a line for each status that isn't one of results, and the
-/// counts where they are asked for.
+/// of its results to the sink, or of the proof that was asked for, and flushes it. The notes get a line for each status
+/// that isn't one of results, and the counts where they are asked for; before them lines while the run goes on, where they
+/// are.
 pub fn run_alone<S: Source, K: Sink, N: Sink>(
     alloc: Global,
     options: &Options,
@@ -210,10 +285,12 @@ pub fn run_alone<S: Source, K: Sink, N: Sink>(
     ensures runs { Runs options.now (around (S.left source.old) (S.left source.new) (S.faults source.old) (S.faults source.new)
         (K.held sink.old) (K.held sink.new) (K.faults sink.old) (K.faults sink.new)) result }
     ensures flushed { TellsFaults (K.held sink.old) (K.faults sink.old) (K.faults sink.new) result.status }
-    ensures notes { IsNoted (N.held notes.old) (N.held notes.new) (N.faults notes.old) (N.faults notes.new) (notes_of options.now.stats result) }
+    ensures notes { NotesRun options.now (N.held notes.old) (N.held notes.new) (N.faults notes.old) (N.faults notes.new) result }
 {
-    let outcome = outcome_of(alloc, options, source, sink);
-    note(notes, options.stats, &outcome);
+    let mut tally = Tally::new();
+    let mut progress = Progress::new(notes, options.progress);
+    let outcome = outcome_of(alloc, options, source, sink, &mut tally, &mut progress);
+    progress.end(options.stats, &tally, &outcome);
     outcome
 }
 
@@ -240,11 +317,10 @@ fn tell_version<K: Sink>(sink: &mut K) -> Status
 // The end of a run that solved nothing.
 fn ended<N: Sink>(notes: &mut N, status: Status) -> Outcome
     ensures outcome { result ≡ record { status = status; report = None } }
-    ensures notes { IsNoted (N.held notes.old) (N.held notes.new) (N.faults notes.old) (N.faults notes.new) (notes_of false result) }
+    ensures notes { IsNoted (N.held notes.old) (N.held notes.new) (N.faults notes.old) (N.faults notes.new) (note_of status) }
 {
-    let outcome = failed(status);
-    note(notes, false, &outcome);
-    outcome
+    note_status(notes, status);
+    failed(status)
 }
 
 // The end of a run on faulty words.
@@ -259,7 +335,7 @@ fn misused<N: Sink>(notes: &mut N, fault: &WordFault<'_>) -> Outcome
 /// A run that can't have its words: nothing is read or written but the line for its status on the notes.
 pub fn end_without_words<N: Sink>(notes: &mut N, status: Status) -> Outcome
     ensures outcome { result ≡ record { status = status; report = None } }
-    ensures notes { IsNoted (N.held notes.old) (N.held notes.new) (N.faults notes.old) (N.faults notes.new) (notes_of false result) }
+    ensures notes { IsNoted (N.held notes.old) (N.held notes.new) (N.faults notes.old) (N.faults notes.new) (note_of status) }
 {
     ended(notes, status)
 }
@@ -277,8 +353,8 @@ pub fn run<R: Threads + Wait + Sync, S: Source, K: Sink, N: Sink, G: Gate + Sync
     ensures runs { RunsOn (words_give (map string_bytes words.now)) (around (S.left source.old) (S.left source.new) (S.faults source.old) (S.faults source.new)
         (K.held sink.old) (K.held sink.new) (K.faults sink.old) (K.faults sink.new)) result }
     ensures flushed { TellsFaults (K.held sink.old) (K.faults sink.old) (K.faults sink.new) result.status }
-    ensures notes { IsNoted (N.held notes.old) (N.held notes.new) (N.faults notes.old) (N.faults notes.new)
-        (notes_on (words_give (map string_bytes words.now)) result) }
+    ensures notes { NotesOn (words_give (map string_bytes words.now)) (N.held notes.old) (N.held notes.new) (N.faults notes.old) (N.faults notes.new)
+        result }
 {
     let _ = rt;
     let _ = gate;

@@ -20,13 +20,13 @@ work_off_all-requires-clause-alone g c =
     (leased-is c.args.book.now c.lease.new.self c.requires.idle (pool-fits c.args.mode c.args.book.now c.requires.task c.journal-lawful.ensures.lawful c.requires.fits)
     (c.in_ok-fuel.ensures.journal ∙ ap (λ (u : Units). with_events c.args.book.now (leased_out 0 u)) c.in_ok-fuel.ensures.fuel)).alone
 
-pub returns : goal.returns
-returns g c =
+pub returns-clause-finishes : goal.returns-clause-finishes
+returns-clause-finishes g c =
     let leased : IsLeased c.args.book.now c.lease.new.self =
     leased-is c.args.book.now c.lease.new.self c.requires.idle (pool-fits c.args.mode c.args.book.now c.requires.task c.journal-lawful.ensures.lawful c.requires.fits)
     (c.in_ok-fuel.ensures.journal ∙ ap (λ (u : Units). with_events c.args.book.now (leased_out 0 u)) c.in_ok-fuel.ensures.fuel) in
     record {
-      task = task-after c.args.mode c.lease.new.self c.work_off_all.new.book c.back.new.self c.work_off_all.new.search c.work_off_all.new.fuel c.in_ok-unpaid.unpaid c.in_ok-unpaid.ensures leased.pool c.back.ensures ∙ leased.task;
-      idle = idle-after c.args.mode c.lease.new.self c.work_off_all.new.book c.back.new.self c.work_off_all.new.search c.work_off_all.new.fuel c.in_ok-unpaid.unpaid c.in_ok-unpaid.ensures leased.pool c.back.ensures;
-      over = finished c.args.mode c.lease.new.self c.work_off_all.new.book c.back.new.self c.work_off_all.new.search c.work_off_all.new.fuel c.in_ok-unpaid.unpaid c.in_ok-unpaid.ensures leased.pool c.back.ensures;
+      task = task-after c.args.mode c.lease.new.self c.work_off_all.new.book c.back.new.self c.work_off_all.new.search c.work_off_all.new.fuel c.in_ok-unpaid.unpaid c.in_ok-unpaid.ensures.leaves leased.pool c.back.ensures ∙ leased.task;
+      idle = idle-after c.args.mode c.lease.new.self c.work_off_all.new.book c.back.new.self c.work_off_all.new.search c.work_off_all.new.fuel c.in_ok-unpaid.unpaid c.in_ok-unpaid.ensures.leaves leased.pool c.back.ensures;
+      over = finished c.args.mode c.lease.new.self c.work_off_all.new.book c.back.new.self c.work_off_all.new.search c.work_off_all.new.fuel c.in_ok-unpaid.unpaid c.in_ok-unpaid.ensures.leaves leased.pool c.back.ensures;
     }

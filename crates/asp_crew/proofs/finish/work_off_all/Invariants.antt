@@ -5,7 +5,10 @@ use Rattle.asp_crew.proofs.FinishLaws.{IsBetween}
 use Rattle.asp_crew.proofs.finish.work_off_all.Given as goal
 
 abbrev pub invariant-leaves : goal.invariant-leaves
-invariant-leaves g l = IsBetween l.mode l.initial.book l.book l.search l.fuel
+invariant-leaves g l = record {
+  between : IsBetween l.mode l.initial.book l.book l.search l.fuel;
+  heard : g.W.Watch.IsAfter l.initial.watch l.watch;
+}
 
 abbrev pub decreases-leaves : goal.decreases-leaves
 decreases-leaves g l = length (open_from 0 (board l.book).nodes)

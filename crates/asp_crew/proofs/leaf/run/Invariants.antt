@@ -3,7 +3,10 @@ use Rattle.asp_crew.proofs.StepLaws.{IsAlong}
 use Rattle.asp_crew.proofs.leaf.run.Given as goal
 
 abbrev pub invariant-steps : goal.invariant-steps
-invariant-steps g l = IsAlong l.mode l.initial.book l.book l.initial.search l.search l.fuel
+invariant-steps g l = record {
+  along : IsAlong l.mode l.initial.book l.book l.initial.search l.search l.fuel;
+  heard : g.W.Watch.IsAfter l.initial.watch l.watch;
+}
 
 abbrev pub decreases-steps : goal.decreases-steps
 decreases-steps g l = work_left l.search l.fuel

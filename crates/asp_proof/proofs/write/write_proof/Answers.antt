@@ -5,9 +5,9 @@ use Rattle.asp_proof.proofs.write.write_proof.Goals as goal
 pub returns-in_err-put_proof : goal.returns-in_err-put_proof
 returns-in_err-put_proof g c =
     let p = printed-fails _ _ _ _ _ _ c.new-waiting.ensures c.in_err-put_proof.ensures c.from_residual.ensures.1 in
-    record { all = p.all; front = p.front; later = p.later; cause = p.cause }
+    record { all = p.all; front = p.front; later = p.later; cause = p.cause; quiet = p.quiet }
 
 pub returns : goal.returns
 returns g c =
     let p = printed _ _ _ _ c.new-waiting.ensures c.flush.ensures.empty (puts_same _ _ _ _ _ (puts_then _ _ _ _ _ _ [] c.in_ok-put_proof.ensures c.flush.ensures.puts) (append-nil _)) in
-    record { all = p.all; front = p.front; later = p.later; cause = p.cause }
+    record { all = p.all; front = p.front; later = p.later; cause = p.cause; quiet = p.quiet }

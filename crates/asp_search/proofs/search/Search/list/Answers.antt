@@ -1,4 +1,4 @@
-use Rattle.std.proofs.Common.{◌≡◌, ◌∷◌, ◌++◌, List, sym, ap, ◌∙◌, subst, []}
+use Rattle.std.proofs.Common.{◌≡◌, ◌∷◌, ◌++◌, List, Some, sym, ap, ◌∙◌, subst, []}
 use Rattle.asp_model.specs.Sets.{Atoms}
 use Rattle.asp_model.specs.declared.results.Mode.TheVariants as mode
 use Rattle.asp_vars.specs.Literals.{Literal}
@@ -20,9 +20,9 @@ invariant_of-self-2 g c =
     let enum : i.mode ≡ mode.Enum = ap (λ (s : Searching). s.mode) c.self.view_is ∙ c.requires.mode in
     let more : c.push_reserved.new.self.items ≡ i.known.items ++ c.args.interp.now ∷ [] =
     c.push_reserved.ensures.items ∙ (ap (λ (xs : List Atoms). xs ++ c.in_ok-copy.copy ∷ []) c.reserve.ensures.items ∙ ap (λ (x : Atoms). i.known.items ++ x ∷ []) c.in_ok-copy.ensures) in
-    let blocks = block_thinned (blocking_nogood q i.state.decisions) i.state c.block.new.state c.thin.new.state c.block.new.blocking.items c.block.new.state.entries (c.in_ok-block.ensures.ok q entered.cube)
+    let blocks = block_thinned (blocking_nogood q i.state.decisions) i.state c.block.new.state c.thin.new.state c.in_ok-id.id c.block.new.blocking.items c.block.new.state.entries (c.in_ok-id.ensures.ok q entered.cube)
     c.thin.ensures.same c.thin.ensures.reduced in
-    search_listed i.compiled.now i.mode i.state c.thin.new.state i.learner i.checker i.known.items c.push_reserved.new.self.items i.blocking.items c.block.new.blocking.items i.bound i.last q c.args.interp.now
+    search_listed i.compiled.now i.mode i.state c.thin.new.state i.learner i.checker i.known.items c.push_reserved.new.self.items c.in_ok-id.id i.blocking.items c.block.new.blocking.items i.bound i.last q c.args.interp.now
     enum entered.last more found.settled found.hit blocks c.self.invariant
 
 pub returns-clause-ok : goal.returns-clause-ok
@@ -34,11 +34,11 @@ returns-clause-ok g c = λ r f e.
     let enum : i.mode ≡ mode.Enum = ap (λ (s : Searching). s.mode) c.self.view_is ∙ c.requires.mode in
     let more : c.push_reserved.new.self.items ≡ i.known.items ++ c.args.interp.now ∷ [] =
     c.push_reserved.ensures.items ∙ (ap (λ (xs : List Atoms). xs ++ c.in_ok-copy.copy ∷ []) c.reserve.ensures.items ∙ ap (λ (x : Atoms). i.known.items ++ x ∷ []) c.in_ok-copy.ensures) in
-    let new : Searching = view_of i.mode c.thin.new.state c.thin.new.pace c.push_reserved.new.self.items i.last in
-    let blocks = block_thinned (blocking_nogood q i.state.decisions) i.state c.block.new.state c.thin.new.state c.block.new.blocking.items c.block.new.state.entries (c.in_ok-block.ensures.ok q entered.cube)
+    let new : Searching = view_of i.mode c.thin.new.state c.thin.new.pace c.push_reserved.new.self.items (Some c.in_ok-id.id) in
+    let blocks = block_thinned (blocking_nogood q i.state.decisions) i.state c.block.new.state c.thin.new.state c.in_ok-id.id c.block.new.blocking.items c.block.new.state.entries (c.in_ok-id.ensures.ok q entered.cube)
     c.thin.ensures.same c.thin.ensures.reduced in
     let first = listed (g.P.Propagator.gives i.state.program i.state.bound) i.mode i.state c.thin.new.state i.pace c.thin.new.pace i.known.items c.push_reserved.new.self.items i.last q c.args.interp.now f
-    c.block.new.blocking.items enum entered.last found more blocks c.thin.ensures.restarts c.thin.ensures.learnt in
+    c.in_ok-id.id c.block.new.blocking.items enum entered.last found more blocks c.thin.ensures.restarts c.thin.ensures.learnt in
     subst (λ (x : List Literal). Answers (g.P.Propagator.gives c.args.self.now.program c.args.self.now.bound) c.args.self.now new x f f c.args.interp.now)
     (same_cube c.args.self.now.cube q r c.requires.found.1.cube e)
     (subst (λ (s : Searching). Answers (g.P.Propagator.gives s.program s.bound) s new q f f c.args.interp.now) c.self.view_is first)

@@ -1,7 +1,0 @@
-use Rattle.asp_crew.proofs.ReportLaws.{begun, begun-report}
-use Rattle.asp_crew.proofs.alone.solve_alone.Goals as goal
-
-pub returns-clause-report : goal.returns-clause-report
-returns-clause-report c =
-    begun-report c.args.compiled.now c.args.mode c.args.budget c.new-book.result c.finish.new.book c.reported.result
-    (begun c.args.compiled.now c.args.mode c.args.budget c.of.result c.as_slice.result.now c.in_ok-state.state c.new-book.result c.of.ensures c.as_slice.ensures c.in_ok-state.ensures c.new-book.ensures) c.in_ok-unpaid.ensures.task c.reported.ensures.report

@@ -1,0 +1,4 @@
+//! What a run writes down of its proof.
+#![tactic(auto)]
+
+pub mod recorder;

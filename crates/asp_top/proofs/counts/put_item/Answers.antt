@@ -1,0 +1,10 @@
+use Rattle.std.proofs.Common.{decimal}
+use Rattle.asp_buffer.proofs.OutLaws.{puts_then, puts_fails}
+use Rattle.asp_top.specs.Counts.{label_of}
+use Rattle.asp_top.proofs.counts.put_item.Goals as goal
+
+pub returns-in_err-put : goal.returns-in_err-put
+returns-in_err-put g c = puts_fails _ _ _ _ _ (label_of c.args.item.now.what) (decimal c.args.item.now.number) (rw c.label_of.ensures at c.in_err-put.ensures) c.from_residual.ensures.1
+
+pub returns : goal.returns
+returns g c = puts_then _ _ _ _ _ (label_of c.args.item.now.what) (decimal c.args.item.now.number) (rw c.label_of.ensures at c.in_ok-put.ensures) c.put_number.ensures

@@ -1,0 +1,44 @@
+-- Numbers with their names.
+use Rattle.std.specs.Prelude.{ℕ, List, [], ◌∷◌, ◌++◌, codes, decimal}
+use Rattle.asp_crew_laws.specs.declared.report.Report.{Report}
+use Rattle.asp_crew.specs.declared.watch.Counts.{Counts}
+use Rattle.asp_top.specs.declared.counts.What.{What}
+use Rattle.asp_top.specs.declared.counts.What.TheVariants.{Spent, Leaves, Log, Decisions, Restarts, Kept, Dropped, Atoms, Bodies, SoFarConflicts, SoFarDecisions, SoFarRestarts, SoFarKept, SoFarAnswers}
+use Rattle.asp_top.specs.declared.counts.Item.{Item}
+use Rattle.asp_top.specs.declared.counts.Tally.{Tally}
+
+-- what stands before a number
+abbrev pub label_of : What → List ℕ
+label_of Spent = codes "Conflicts: "
+label_of Leaves = codes "\nLeaves: "
+label_of Log = codes "\nLog: "
+label_of Decisions = codes "\nDecisions: "
+label_of Restarts = codes "\nRestarts: "
+label_of Kept = codes "\nKept: "
+label_of Dropped = codes "\nDropped: "
+label_of Atoms = codes "\nAtoms: "
+label_of Bodies = codes "\nBodies: "
+label_of SoFarConflicts = codes "Progress: conflicts "
+label_of SoFarDecisions = codes ", decisions "
+label_of SoFarRestarts = codes ", restarts "
+label_of SoFarKept = codes ", nogoods "
+label_of SoFarAnswers = codes ", answers "
+
+abbrev pub item_text : Item → List ℕ
+item_text i = label_of i.what ++ decimal i.number
+
+abbrev count_of : What → ℕ → Item
+count_of what number = record { what = what; number = number }
+
+-- The counts of a run: of its report the units that were burnt, for each of which a nogood was learnt, the leaves of the tree of
+-- paths, and the nogoods that workers shared; and what was counted beside
+abbrev pub stats_items : Report → Tally → List Item
+stats_items r t =
+    count_of Spent r.spent ∷ count_of Leaves r.leaves ∷ count_of Log r.log
+    ∷ count_of Decisions t.counts.decisions ∷ count_of Restarts t.counts.restarts ∷ count_of Kept t.counts.kept ∷ count_of Dropped t.counts.dropped
+    ∷ count_of Atoms t.atoms ∷ count_of Bodies t.bodies ∷ []
+
+-- the counts of a run that goes on
+abbrev pub told_items : Counts → List Item
+told_items c =
+    count_of SoFarConflicts c.conflicts ∷ count_of SoFarDecisions c.decisions ∷ count_of SoFarRestarts c.restarts ∷ count_of SoFarKept c.kept ∷ count_of SoFarAnswers c.answers ∷ []

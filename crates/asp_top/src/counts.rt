@@ -1,0 +1,147 @@
+//! Numbers with their names.
+ghost use Rattle.std.specs.Prelude.{◌≡◌};
+ghost use Rattle.std.specs.List.{flat_map};
+ghost use Rattle.asp_buffer.specs.Out.{Puts, out};
+ghost use Rattle.asp_top.specs.Counts.{item_text, label_of, stats_items, told_items};
+ghost use Rattle.asp_top.specs.Progress.{nothing};
+
+use asp_buffer::{Waiting, put, put_number};
+use asp_crew::report::Report;
+use asp_crew::watch::Counts;
+use asp_io::{Failed, Sink};
+
+/// What a number counts. The names with `SoFar` stand on the line of a run that goes on, the others on lines at its end.
+#[derive(Clone, Copy)]
+pub enum What {
+    Spent,
+    Leaves,
+    Log,
+    Decisions,
+    Restarts,
+    Kept,
+    Dropped,
+    Atoms,
+    Bodies,
+    SoFarConflicts,
+    SoFarDecisions,
+    SoFarRestarts,
+    SoFarKept,
+    SoFarAnswers,
+}
+
+/// A number, and what it counts.
+#[derive(Clone, Copy)]
+pub struct Item {
+    /// What is counted.
+    pub what: What,
+    /// How much there is of it.
+    pub number: u64,
+}
+
+impl Item {
+    // So much of something.
+    fn of(what: What, number: u64) -> Item
+        ensures { result ≡ record { what = what; number = number } }
+    {
+        Item { what, number }
+    }
+}
+
+/// What was counted of a run beside its report.
+#[derive(Clone, Copy)]
+pub struct Tally {
+    /// What the search did.
+    pub counts: Counts,
+    /// The program's standing atoms.
+    pub atoms: u64,
+    /// The distinct bodies of its rules in force.
+    pub bodies: u64,
+}
+
+impl Tally {
+    /// Nothing yet.
+    pub fn new() -> Tally
+        ensures { result ≡ record { counts = nothing; atoms = 0; bodies = 0 } }
+    {
+        Tally {
+            counts: Counts::new(),
+            atoms: 0,
+            bodies: 0,
+        }
+    }
+}
+
+// What stands before a number.
+fn label_of(what: What) -> &'static [u8]
+    ensures { result.now ≡ label_of what }
+{
+    match what {
+        What::Spent => b"Conflicts: ",
+        What::Leaves => b"\nLeaves: ",
+        What::Log => b"\nLog: ",
+        What::Decisions => b"\nDecisions: ",
+        What::Restarts => b"\nRestarts: ",
+        What::Kept => b"\nKept: ",
+        What::Dropped => b"\nDropped: ",
+        What::Atoms => b"\nAtoms: ",
+        What::Bodies => b"\nBodies: ",
+        What::SoFarConflicts => b"Progress: conflicts ",
+        What::SoFarDecisions => b", decisions ",
+        What::SoFarRestarts => b", restarts ",
+        What::SoFarKept => b", nogoods ",
+        What::SoFarAnswers => b", answers ",
+    }
+}
+
+fn put_item<N: Sink>(notes: &mut N, waiting: &mut Waiting, item: &Item) -> Result<(), Failed>
+    ensures { Puts (out (N.held notes.old) (N.faults notes.old) waiting.old)
+        (out (N.held notes.new) (N.faults notes.new) waiting.new) result (item_text item.now) }
+{
+    put(notes, waiting, label_of(item.what))?;
+    put_number(notes, waiting, item.number)
+}
+
+/// Puts out the numbers, each behind its name.
+pub fn put_items<N: Sink>(
+    notes: &mut N,
+    waiting: &mut Waiting,
+    items: &[Item],
+) -> Result<(), Failed>
+    ensures { Puts (out (N.held notes.old) (N.faults notes.old) waiting.old)
+        (out (N.held notes.new) (N.faults notes.new) waiting.new) result (flat_map item_text items.now) }
+{
+    for item in items {
+        put_item(notes, waiting, item)?;
+    }
+    Ok(())
+}
+
+/// What the counts of a run tell, in their order.
+pub fn stats_items(report: &Report, tally: &Tally) -> [Item; 9]
+    ensures { result ≡ stats_items report.now tally.now }
+{
+    [
+        Item::of(What::Spent, report.spent),
+        Item::of(What::Leaves, report.leaves as u64),
+        Item::of(What::Log, report.log as u64),
+        Item::of(What::Decisions, tally.counts.decisions),
+        Item::of(What::Restarts, tally.counts.restarts),
+        Item::of(What::Kept, tally.counts.kept),
+        Item::of(What::Dropped, tally.counts.dropped),
+        Item::of(What::Atoms, tally.atoms),
+        Item::of(What::Bodies, tally.bodies),
+    ]
+}
+
+/// What a line of a run that goes on tells, in its order.
+pub fn told_items(counts: &Counts) -> [Item; 5]
+    ensures { result ≡ told_items counts.now }
+{
+    [
+        Item::of(What::SoFarConflicts, counts.conflicts),
+        Item::of(What::SoFarDecisions, counts.decisions),
+        Item::of(What::SoFarRestarts, counts.restarts),
+        Item::of(What::SoFarKept, counts.kept),
+        Item::of(What::SoFarAnswers, counts.answers),
+    ]
+}

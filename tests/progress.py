@@ -1,0 +1,67 @@
+#!/usr/bin/env python3
+"""Holds --progress to what no contract says: that lines come, when they are due, and with what was counted.
+
+    progress.py PROGRAM
+
+Programs of search.py, and an enumeration, run with the option and without it: standard output and the status are the same. Each
+line stands beside the one before it: the conflicts or the answers have doubled, or in an optimisation a cheaper answer was
+found; and between the last line and the counts of --stats nothing that was due is missing."""
+import re
+import subprocess
+import sys
+
+from search import cheapest_trust, random_sat
+
+LINE = re.compile(r"Progress: conflicts (\d+), decisions (\d+), restarts (\d+), nogoods (\d+), answers (\d+)(?:, best((?: -?\d+)+))?")
+COUNT = re.compile(r"(\w+): (\d+)")
+FREE = f"asp 1 0 0\n1 1 12 {' '.join(map(str, range(1, 13)))} 0 0\n0\n".encode()
+
+# a program, the words, whether it is an optimisation, and the fewest lines that it must give
+ROWS = [
+    ("3-SAT of 200", random_sat(200, 4.8, 2), [], False, 11),
+    ("trust of 24", cheapest_trust(24, 6, 4, 3), [], True, 10),
+    ("12 free atoms", FREE, [], False, 13),
+    ("12 free atoms, a budget", FREE, ["--budget", "0"], False, 13),
+]
+
+
+def faults(name, text, words, optimum, least):
+    plain = subprocess.run([sys.argv[1], *words], input=text, capture_output=True, timeout=120)
+    told = subprocess.run([sys.argv[1], "--progress", "--stats", *words], input=text, capture_output=True, timeout=120)
+    if (plain.stdout, plain.returncode) != (told.stdout, told.returncode):
+        yield "another output or status"
+    if plain.stderr:
+        yield "notes without the option"
+    notes = told.stderr.decode().splitlines()
+    lines = [LINE.fullmatch(line) for line in notes]
+    count = next((it for it, line in enumerate(lines) if not line), len(lines))
+    stats = {it[1]: int(it[2]) for it in map(COUNT.fullmatch, notes[count:]) if it}
+    if count < least or any(lines[count:]):
+        yield f"{count} lines in front of the counts, of {least}"
+    last, cost = [0] * 5, None
+    for line in lines[:count]:
+        now = [int(it) for it in line.groups()[:5]]
+        if not (now[0] >= 2 * last[0] > 0 or now[4] >= 2 * last[4] > 0 or last[0] < now[0] == 1 or last[4] < now[4] == 1 or optimum and now[4] > last[4]):
+            yield f"a line that isn't due: {line[0]}"
+        if any(was > it for was, it in zip(last[:3], now)) or now[4] < last[4]:
+            yield f"a count fell: {line[0]}"
+        if optimum and now[4] > last[4] and (line[6] is None or cost is not None and [int(it) for it in line[6].split()] >= cost):
+            yield f"no cheaper answer: {line[0]}"
+        if not optimum and line[6] is not None:
+            yield f"a cost without an optimisation: {line[0]}"
+        last, cost = now, line[6] and [int(it) for it in line[6].split()]
+    if stats.get("Conflicts", 0) >= max(2 * last[0], 1) or stats.get("Decisions", -1) < last[1] or stats.get("Restarts", -1) < last[2]:
+        yield f"the counts don't follow on the last line: {stats}"
+
+
+def main():
+    failed = 0
+    for row in ROWS:
+        for fault in faults(*row):
+            print(f"failed: {row[0]}: {fault}")
+            failed += 1
+    print(f"progress: {len(ROWS)} programs, {failed} faults")
+    sys.exit(1 if failed else 0)
+
+
+main()

@@ -1,0 +1,76 @@
+#!/usr/bin/env python3
+"""Has the checker look at the proofs that the program writes: each must be confirmed, and none without one of its answers.
+
+    proofs.py PROGRAM CHECKER [COUNT [SEED]]
+
+The programs are those of rows.txt that are solved, the examples, and COUNT (300) random small ones, in both modes."""
+import random
+import subprocess
+import sys
+from glob import glob
+from os.path import abspath, dirname, join
+
+HERE = dirname(abspath(__file__))
+SOLVED = (20, 30)
+
+
+def run(words, text):
+    return subprocess.run(words, input=text, capture_output=True, timeout=120)
+
+
+def rows():
+    """The texts of rows.txt that are solved."""
+    for line in open(join(HERE, "rows.txt")):
+        status, words, text, _ = line.rstrip("\n").split("~")
+        if int(status) in SOLVED and "--make" not in words and "--budget" not in words:
+            yield text.encode().decode("unicode_escape").encode()
+
+
+def examples():
+    for path in sorted(glob(join(HERE, "..", "examples", "*.aspif"))):
+        with open(path, "rb") as file:
+            yield file.read()
+
+
+def random_programs(count, seed):
+    sys.path.insert(0, HERE)
+    from compare import program
+    choose = random.Random(seed)
+    for _ in range(count):
+        yield program(choose).encode()
+
+
+def without_an_answer(proof, choose):
+    lines = proof.split(b"\n")
+    answers = [it for it, line in enumerate(lines) if line.startswith(b"a ")]
+    if not answers:
+        return None
+    del lines[choose.choice(answers)]
+    return b"\n".join(lines)
+
+
+def main():
+    program, checker = sys.argv[1:3]
+    count, seed = (int(word) for word in (sys.argv[3:] + ["300", "1"][len(sys.argv) - 3:]))
+    choose = random.Random(seed)
+    passed = failed = cut = 0
+    for text in [*rows(), *examples(), *random_programs(count, seed)]:
+        for mode in ("enum", "opt"):
+            ran = run([program, "--mode", mode, "--proof"], text)
+            checked = run([checker], text + ran.stdout)
+            if ran.returncode in SOLVED and checked.stdout == b"YES\n":
+                passed += 1
+            else:
+                failed += 1
+                print(f"failed: {text}: --mode {mode}: status {ran.returncode}, {checked.stdout}")
+            less = without_an_answer(ran.stdout, choose)
+            if less is not None:
+                cut += 1
+                if run([checker], text + less).stdout == b"YES\n":
+                    failed += 1
+                    print(f"failed: {text}: --mode {mode}: confirmed without an answer")
+    print(f"proofs: {passed} confirmed, {cut} refused without an answer, {failed} failed")
+    sys.exit(1 if failed else 0)
+
+
+main()
