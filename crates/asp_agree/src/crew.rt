@@ -1,7 +1,6 @@
 //! Programs over two free atoms, run to their end or until a unit is wanting. Want of memory ends a test.
 
 use asp_crew::alone::solve_alone;
-use asp_crew::gate::{Gate, OpenGate};
 use asp_crew::report::Report;
 use asp_model::program::{Atom, Body, Head, Minimize, Program, Rule};
 use asp_model::results::{End, Mode};
@@ -100,7 +99,6 @@ fn what_propagation_excludes_needs_no_unit(rt: HostRuntime) {
     let report = run(&rt, rt.alloc(), &[[1, 1], [-1, -1]], Mode::Enum, 0);
     finds(&rt, &report, &[]);
     assert!(rt; report.unpaid.is_none());
-    OpenGate.pass(0, 0);
 }
 
 const CONTRARY: &[[i32; 2]] = &[[1, 2], [1, -2], [-1, 2], [-1, -2]];

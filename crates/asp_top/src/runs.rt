@@ -11,11 +11,10 @@ ghost use Rattle.asp_top.specs.Runs.{Delivers, Runs, RunsOn, Solves, TellsFaults
 
 use crate::notes::{note, write};
 use crate::solve::{mode_of, status_for};
+use crate::solver::{Alone, Crew, Solver};
 use crate::status::{Outcome, Status};
 use crate::usage::{note_misuse, write_three};
 use asp_cli::{CliError, Options, WordFault, page_back, page_front, usage, version};
-use asp_crew::alone::solve_alone;
-use asp_crew::gate::Gate;
 use asp_crew::report::Report;
 use asp_io::{Failed, Sink, Source};
 use asp_make::ring;
@@ -24,6 +23,7 @@ use asp_model::results::Results;
 use asp_print::print;
 use asp_read::fault::ReadError;
 use asp_read::read_program;
+use asp_team::gate::Gate;
 use asp_vars::compile::compile;
 use asp_vars::compiled::Compiled;
 use std::alloc::Global;
@@ -123,32 +123,45 @@ fn deliver<K: Sink>(sink: &mut K, brief: bool, program: &Program, report: Report
 }
 
 // Solves a program that was compiled, and writes its results.
-fn solve<K: Sink>(alloc: Global, options: &Options, compiled: &Compiled, sink: &mut K) -> Outcome
+fn solve<E: Solver, K: Sink>(
+    solver: &E,
+    alloc: Global,
+    options: &Options,
+    compiled: &Compiled,
+    sink: &mut K,
+) -> Outcome
     ensures solves { Solves options.now compiled.now (K.held sink.old) (K.held sink.new) (K.faults sink.old) (K.faults sink.new) result }
     ensures flushed { TellsFaults (K.held sink.old) (K.faults sink.old) (K.faults sink.new) result.status }
 {
     let program = compiled.program();
     let mode = mode_of(options.mode, program);
-    match solve_alone(alloc, compiled, mode, options.budget) {
+    match solver.solve(alloc, compiled, mode, options.budget) {
         Ok(report) => deliver(sink, options.make.is_some(), program, report),
         Err(_) => failed(Status::Memory),
     }
 }
 
 // Solves a program, and writes its results.
-fn answer<K: Sink>(alloc: Global, options: &Options, program: Program, sink: &mut K) -> Outcome
+fn answer<E: Solver, K: Sink>(
+    solver: &E,
+    alloc: Global,
+    options: &Options,
+    program: Program,
+    sink: &mut K,
+) -> Outcome
     requires { IsSound program }
     ensures solves { Solves options.now program (K.held sink.old) (K.held sink.new) (K.faults sink.old) (K.faults sink.new) result }
     ensures flushed { TellsFaults (K.held sink.old) (K.faults sink.old) (K.faults sink.new) result.status }
 {
     match compile(alloc, program) {
-        Ok(compiled) => solve(alloc, options, &compiled, sink),
+        Ok(compiled) => solve(solver, alloc, options, &compiled, sink),
         Err(_) => failed(Status::Memory),
     }
 }
 
 // Reads a program, and answers it.
-fn read_and_answer<S: Source, K: Sink>(
+fn read_and_answer<E: Solver, S: Source, K: Sink>(
+    solver: &E,
     alloc: Global,
     options: &Options,
     source: &mut S,
@@ -160,13 +173,19 @@ fn read_and_answer<S: Source, K: Sink>(
     ensures flushed { TellsFaults (K.held sink.old) (K.faults sink.old) (K.faults sink.new) result.status }
 {
     match read_program(alloc, source) {
-        Ok(program) => answer(alloc, options, program, sink),
+        Ok(program) => answer(solver, alloc, options, program, sink),
         Err(error) => failed(status_of(error)),
     }
 }
 
 // Answers the ring of so many nodes. The source isn't read.
-fn make_and_answer<K: Sink>(alloc: Global, options: &Options, nodes: u32, sink: &mut K) -> Outcome
+fn make_and_answer<E: Solver, K: Sink>(
+    solver: &E,
+    alloc: Global,
+    options: &Options,
+    nodes: u32,
+    sink: &mut K,
+) -> Outcome
     requires given { options.now.make ≡ Some nodes }
     requires ring { IsRing (Some nodes) }
     ensures runs { (left : Option (List ℕ)) (reads : ℕ) → Runs options.now (around left left reads reads
@@ -174,12 +193,13 @@ fn make_and_answer<K: Sink>(alloc: Global, options: &Options, nodes: u32, sink: 
     ensures flushed { TellsFaults (K.held sink.old) (K.faults sink.old) (K.faults sink.new) result.status }
 {
     match ring(alloc, nodes) {
-        Ok(program) => answer(alloc, options, program, sink),
+        Ok(program) => answer(solver, alloc, options, program, sink),
         Err(_) => failed(Status::Memory),
     }
 }
 
-fn outcome_of<S: Source, K: Sink>(
+fn outcome_of<E: Solver, S: Source, K: Sink>(
+    solver: &E,
     alloc: Global,
     options: &Options,
     source: &mut S,
@@ -191,9 +211,29 @@ fn outcome_of<S: Source, K: Sink>(
     ensures flushed { TellsFaults (K.held sink.old) (K.faults sink.old) (K.faults sink.new) result.status }
 {
     match options.make {
-        None => read_and_answer(alloc, options, source, sink),
-        Some(nodes) => make_and_answer(alloc, options, nodes, sink),
+        None => read_and_answer(solver, alloc, options, source, sink),
+        Some(nodes) => make_and_answer(solver, alloc, options, nodes, sink),
     }
+}
+
+// A run after the words, with what solves its program.
+fn run_by<E: Solver, S: Source, K: Sink, N: Sink>(
+    solver: &E,
+    alloc: Global,
+    options: &Options,
+    source: &mut S,
+    sink: &mut K,
+    notes: &mut N,
+) -> Outcome
+    requires { IsRing options.now.make }
+    ensures runs { Runs options.now (around (S.left source.old) (S.left source.new) (S.faults source.old) (S.faults source.new)
+        (K.held sink.old) (K.held sink.new) (K.faults sink.old) (K.faults sink.new)) result }
+    ensures flushed { TellsFaults (K.held sink.old) (K.faults sink.old) (K.faults sink.new) result.status }
+    ensures notes { IsNoted (N.held notes.old) (N.held notes.new) (N.faults notes.old) (N.faults notes.new) (notes_of options.now.stats result) }
+{
+    let outcome = outcome_of(solver, alloc, options, source, sink);
+    note(notes, options.stats, &outcome);
+    outcome
 }
 
 /// A run after the words. It reads a program from the source, or makes a ring, solves it with one search, writes the text
@@ -212,9 +252,7 @@ pub fn run_alone<S: Source, K: Sink, N: Sink>(
     ensures flushed { TellsFaults (K.held sink.old) (K.faults sink.old) (K.faults sink.new) result.status }
     ensures notes { IsNoted (N.held notes.old) (N.held notes.new) (N.faults notes.old) (N.faults notes.new) (notes_of options.now.stats result) }
 {
-    let outcome = outcome_of(alloc, options, source, sink);
-    note(notes, options.stats, &outcome);
-    outcome
+    run_by(&Alone, alloc, options, source, sink, notes)
 }
 
 fn help<K: Sink>(sink: &mut K) -> Status
@@ -280,10 +318,15 @@ pub fn run<R: Threads + Wait + Sync, S: Source, K: Sink, N: Sink, G: Gate + Sync
     ensures notes { IsNoted (N.held notes.old) (N.held notes.new) (N.faults notes.old) (N.faults notes.new)
         (notes_on (words_give (map string_bytes words.now)) result) }
 {
-    let _ = rt;
-    let _ = gate;
     match asp_cli::words(words) {
-        Ok(options) => run_alone(alloc, &options, source, sink, notes),
+        Ok(options) => {
+            let crew = Crew {
+                rt,
+                gate,
+                workers: options.workers,
+            };
+            run_by(&crew, alloc, &options, source, sink, notes)
+        }
         Err(CliError::Help) => {
             let status = help(sink);
             ended(notes, status)
