@@ -23,7 +23,7 @@ _aspenum() {
     fi
     case $option in
         --mode) mapfile -t COMPREPLY < <(compgen -P "$stem" -W "auto enum opt" -- "$word") && return ;;
-        --workers) mapfile -t COMPREPLY < <(compgen -P "$stem" -W "1" -- "$word") && return ;;
+        --workers) mapfile -t COMPREPLY < <(compgen -P "$stem" -W "1 2 4 8 16 32 64" -- "$word") && return ;;
         --budget | --make | --help | -h | --version | --) return ;;
     esac
     [[ $word == "${words[last]}" ]] || return

@@ -1,7 +1,7 @@
 #!/usr/bin/env python3
 """Compares aspenum with the plain reference, and with clasp where it is there, on random small programs.
 
-    compare.py PROGRAM [COUNT [SEED]]
+    compare.py PROGRAM [COUNT [SEED]]     (PROGRAM may have words behind it: "build/aspenum --workers 4")
 
 Each program has up to seven atoms and every kind of statement. In an enumeration the bytes must be the reference's; in
 an optimisation the closing lines, cost and count, must be. Where clasp lists other answers than the reference, that is
@@ -74,13 +74,13 @@ def differs(aspenum, text):
     """What is wrong with aspenum's answers to a program, or nothing."""
     reference = [sys.executable, join(HERE, "reference.py")]
     wanted = run(reference + ["enum"], text).stdout
-    given = run([aspenum, "--mode", "enum"], text)
+    given = run([*aspenum, "--mode", "enum"], text)
     if given.stdout != wanted:
         return "the enumeration differs from the reference's"
     if given.returncode != (20 if b"UNSATISFIABLE" in wanted else 30):
         return f"the status is {given.returncode}"
     best_wanted = run(reference + ["opt"], text).stdout.decode()
-    best = run([aspenum, "--mode", "opt"], text).stdout.decode()
+    best = run([*aspenum, "--mode", "opt"], text).stdout.decode()
     if without_answer(best) != without_answer(best_wanted):
         return "the optimum differs from the reference's"
     return None
@@ -100,7 +100,7 @@ def clasp_differs(text):
 
 
 def main():
-    aspenum = sys.argv[1]
+    aspenum = sys.argv[1].split()
     count = int(sys.argv[2]) if len(sys.argv) > 2 else 200
     seed = int(sys.argv[3]) if len(sys.argv) > 3 else 1
     random_ = random.Random(seed)

@@ -1,7 +1,7 @@
 #!/usr/bin/env python3
 """Runs gringo's own examples (Debian: /usr/share/doc/gringo/examples) through aspenum and clasp, and compares.
 
-usage: tests/gringo_examples.py PROGRAM [SECONDS]
+usage: tests/gringo_examples.py PROGRAM [SECONDS]     (PROGRAM may have words behind it: "build/aspenum --workers 4")
 
 Each encoding is grounded alone, and together with each other file of its folder or of the folder's instances; a pair that
 gringo refuses, or that says nothing, is left out. Of each grounding it is told whether aspenum refuses it and why, whether
@@ -54,7 +54,7 @@ def verdict(program, files, seconds, room):
             return "gringo takes too long"
     if ground.returncode != 0:
         return "gringo refuses it"
-    code, ours, notes = run([program], text, seconds)
+    code, ours, notes = run(program.split(), text, seconds)
     if code == 65:
         return "refused: " + re.sub(r".*line \d+: ", "", notes.strip())
     _, theirs, _ = run(["clasp", "-n", "0", "--trans-ext=all"], text, seconds)

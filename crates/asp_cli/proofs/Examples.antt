@@ -108,11 +108,17 @@ ring_small = refl
 ring_large : words_give (codes "aspenum" ∷ codes "--make=2001" ∷ []) ≡ misuse (bad_value Make (codes "2001"))
 ring_large = refl
 
-workers_two : words_give (codes "aspenum" ∷ codes "--workers" ∷ codes "2" ∷ []) ≡ misuse (bad_value Workers (codes "2"))
-workers_two = refl
+workers_most : words_give (codes "aspenum" ∷ codes "--workers" ∷ codes "64" ∷ []) ≡ options (record standard { workers = 64 })
+workers_most = refl
+
+workers_none : words_give (codes "aspenum" ∷ codes "--workers=0" ∷ []) ≡ misuse (bad_value Workers (codes "0"))
+workers_none = refl
+
+workers_many : words_give (codes "aspenum" ∷ codes "--workers" ∷ codes "65" ∷ []) ≡ misuse (bad_value Workers (codes "65"))
+workers_many = refl
 
 first_from_the_left : words_give (codes "aspenum" ∷ codes "--stats" ∷ codes "--budget=x" ∷ codes "--verson" ∷ []) ≡ misuse (bad_value Budget (codes "x"))
 first_from_the_left = refl
 
-all_options : words_give (codes "aspenum" ∷ codes "--make=2000" ∷ codes "--stats" ∷ codes "--mode=enum" ∷ codes "--budget=7" ∷ codes "--workers=1" ∷ []) ≡ options (record { workers = 1; mode = Some Enum; budget = 7; make = Some 2000; stats = true; progress = false; proof = false })
+all_options : words_give (codes "aspenum" ∷ codes "--make=2000" ∷ codes "--stats" ∷ codes "--mode=enum" ∷ codes "--budget=7" ∷ codes "--workers=4" ∷ []) ≡ options (record { workers = 4; mode = Some Enum; budget = 7; make = Some 2000; stats = true; progress = false; proof = false })
 all_options = refl

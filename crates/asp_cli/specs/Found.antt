@@ -20,7 +20,7 @@ has f Proof = f.proof
 
 -- what was found with an option's value; none where the option doesn't take it
 abbrev pub found_with : Found → Name → List ℕ → Option Found
-found_with f Workers t = option_map (λ n. record f { workers = Some n }) (number_within 1 1 t)
+found_with f Workers t = option_map (λ n. record f { workers = Some n }) (number_within 1 64 t)
 found_with f Mode t = option_map (λ m. record f { mode = Some m }) (mode_named t)
 found_with f Budget t = option_map (λ n. record f { budget = Some n }) (number_within 0 9223372036854775807 t)
 found_with f Make t = option_map (λ n. record f { make = Some n }) (number_within 3 2000 t)

@@ -14,7 +14,7 @@ text_of Progress = codes "--progress"
 text_of Proof = codes "--proof"
 
 abbrev pub takes_of : Name → List ℕ
-takes_of Workers = codes "1"
+takes_of Workers = codes "a number from 1 to 64"
 takes_of Mode = codes "auto, enum or opt"
 takes_of Budget = codes "a number up to 9223372036854775807"
 takes_of Make = codes "a number from 3 to 2000"

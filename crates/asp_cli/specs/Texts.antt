@@ -2,7 +2,7 @@
 use Rattle.std.specs.Prelude.{ℕ, List, ◌++◌, codes}
 
 abbrev pub usage_line : List ℕ
-usage_line = codes "usage: aspenum [--workers 1] [--mode auto|enum|opt] [--budget N] [--make 3..2000] [--stats] [--progress] [--proof]"
+usage_line = codes "usage: aspenum [--workers 1..64] [--mode auto|enum|opt] [--budget N] [--make 3..2000] [--stats] [--progress] [--proof]"
 
 -- the program's name and version
 abbrev pub version_line : List ℕ
@@ -24,7 +24,7 @@ page_back = codes "\n"
     ++ codes "                 where the program has a minimize statement, and else enum\n"
     ++ codes "  --budget N     at most N conflicts, 0 to 9223372036854775807; the default is the greatest\n"
     ++ codes "  --make N       solve a ring of N nodes, 3 to 2000, and read no program\n"
-    ++ codes "  --workers N    threads that search: 1, the default and so far the only number\n"
+    ++ codes "  --workers N    threads that search, 1 to 64; the default is 1\n"
     ++ codes "  --stats        write counts of the run to standard error\n"
     ++ codes "  --progress     write a line to standard error when the conflicts or the answers have\n"
     ++ codes "                 doubled, and for each cheaper answer\n"

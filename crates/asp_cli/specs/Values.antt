@@ -31,3 +31,7 @@ number_within least most t = if is_number_in least most t then Some (digits_valu
 abbrev pub IsRing : Option ℕ → Type 0
 IsRing None = Unit {0}
 IsRing (Some n) = (3 ≤ n) × (n ≤ 2000)
+
+-- 1 to 64 workers search
+abbrev pub IsCrew : ℕ → Type 0
+IsCrew n = (1 ≤ n) × (n ≤ 64)

@@ -1,7 +1,7 @@
 //! The options that were found so far.
 ghost use Rattle.std.specs.Prelude.{◌≡◌, IfSome};
 ghost use Rattle.asp_cli.specs.Found.{found_with, has, options_of};
-ghost use Rattle.asp_cli.specs.Values.{IsRing};
+ghost use Rattle.asp_cli.specs.Values.{IsCrew, IsRing};
 
 use crate::Options;
 use crate::names::Name;
@@ -44,6 +44,7 @@ pub fn has(found: &Found, name: Name) -> bool
 pub fn with(found: Found, name: Name, text: &str) -> Option<Found>
     ensures value { result ≡ found_with found name text.now }
     ensures ring { IsRing found.make → IfSome result (λ f. IsRing f.make) }
+    ensures crew { IfSome found.workers IsCrew → IfSome result (λ f. IfSome f.workers IsCrew) }
 {
     match name {
         Name::Workers => {
@@ -82,6 +83,7 @@ pub fn with(found: Found, name: Name, text: &str) -> Option<Found>
 pub fn options(found: &Found) -> Options
     ensures value { result ≡ options_of found.now }
     ensures ring { IsRing found.now.make → IsRing result.make }
+    ensures crew { IfSome found.now.workers IsCrew → IsCrew result.workers }
 {
     Options {
         workers: found.workers.unwrap_or(1),

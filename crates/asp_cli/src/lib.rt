@@ -10,7 +10,7 @@ mod walk;
 ghost use Rattle.std.specs.Prelude.{◌≡◌, IfOk, map, string_bytes};
 ghost use Rattle.asp_cli.specs.Given.{asks_help, asks_version, given_after, given_alone, given_by, given_of, walked, words_give};
 ghost use Rattle.asp_cli.specs.Found.{start};
-ghost use Rattle.asp_cli.specs.Values.{IsRing};
+ghost use Rattle.asp_cli.specs.Values.{IsCrew, IsRing};
 
 use asp_model::results::Mode;
 pub use names::Name;
@@ -19,7 +19,7 @@ pub use texts::{page_back, page_front, usage, version};
 /// What the command line asks for.
 #[derive(Clone, Copy, Debug, PartialEq, Eq)]
 pub struct Options {
-    /// How many threads may search: 1.
+    /// How many threads may search: 1 to 64.
     pub workers: u32,
     /// What is sought; None leaves it to the program: an optimum exactly where it minimises something.
     pub mode: Option<Mode>,
@@ -82,6 +82,7 @@ pub(crate) fn asks_for_version(word: &str) -> bool
 fn read<'a>(words: &'a [String]) -> Result<Options, CliError<'a>>
     ensures answers { given_of result ≡ given_by (walked start (map string_bytes words.entry.now)) }
     ensures ring { IfOk result (λ o. IsRing o.make) }
+    ensures crew { IfOk result (λ o. IsCrew o.workers) }
 {
     match walk::walk(words) {
         Ok(options) => Ok(options),
@@ -93,6 +94,7 @@ fn read<'a>(words: &'a [String]) -> Result<Options, CliError<'a>>
 fn alone<'a>(word: &str, words: &'a [String]) -> Result<Options, CliError<'a>>
     ensures answers { given_of result ≡ given_alone word.now (map string_bytes words.entry.now) }
     ensures ring { IfOk result (λ o. IsRing o.make) }
+    ensures crew { IfOk result (λ o. IsCrew o.workers) }
 {
     if asks_for_help(word) {
         Err(CliError::Help)
@@ -106,6 +108,7 @@ fn alone<'a>(word: &str, words: &'a [String]) -> Result<Options, CliError<'a>>
 fn after_name<'a>(words: &'a [String]) -> Result<Options, CliError<'a>>
     ensures answers { given_of result ≡ given_after (map string_bytes words.entry.now) }
     ensures ring { IfOk result (λ o. IsRing o.make) }
+    ensures crew { IfOk result (λ o. IsCrew o.workers) }
 {
     match words {
         [] => read(words),
@@ -119,6 +122,7 @@ fn after_name<'a>(words: &'a [String]) -> Result<Options, CliError<'a>>
 pub fn words<'a>(words: &'a [String]) -> Result<Options, CliError<'a>>
     ensures answers { given_of result ≡ words_give (map string_bytes words.entry.now) }
     ensures ring { IfOk result (λ o. IsRing o.make) }
+    ensures crew { IfOk result (λ o. IsCrew o.workers) }
 {
     match words {
         [] => Err(CliError::Usage(WordFault::NoWords)),

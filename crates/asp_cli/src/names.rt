@@ -35,7 +35,7 @@ impl Name {
         ensures { result.now ≡ takes_of self }
     {
         match self {
-            Name::Workers => "1",
+            Name::Workers => "a number from 1 to 64",
             Name::Mode => "auto, enum or opt",
             Name::Budget => "a number up to 9223372036854775807",
             Name::Make => "a number from 3 to 2000",

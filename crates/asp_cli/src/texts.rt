@@ -4,7 +4,7 @@ ghost use Rattle.asp_cli.specs.Texts.{page_back, page_front, usage_line, version
 
 /// The line that tells how the program is called.
 pub const USAGE: &str =
-    "usage: aspenum [--workers 1] [--mode auto|enum|opt] [--budget N] [--make 3..2000] [--stats] [--progress] [--proof]";
+    "usage: aspenum [--workers 1..64] [--mode auto|enum|opt] [--budget N] [--make 3..2000] [--stats] [--progress] [--proof]";
 
 /// The program's name and version.
 pub const VERSION: &str = "aspenum 0.1.0\n";
@@ -22,7 +22,7 @@ Options, each at most once, its value as the next word or behind '=':\n\
 \x20                where the program has a minimize statement, and else enum\n\
 \x20 --budget N     at most N conflicts, 0 to 9223372036854775807; the default is the greatest\n\
 \x20 --make N       solve a ring of N nodes, 3 to 2000, and read no program\n\
-\x20 --workers N    threads that search: 1, the default and so far the only number\n\
+\x20 --workers N    threads that search, 1 to 64; the default is 1\n\
 \x20 --stats        write counts of the run to standard error\n\
 \x20 --progress     write a line to standard error when the conflicts or the answers have\n\
 \x20                doubled, and for each cheaper answer\n\

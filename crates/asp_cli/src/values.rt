@@ -4,8 +4,8 @@ ghost use Rattle.asp_cli.specs.Values.{mode_named, number_within};
 
 use asp_model::results::Mode;
 
-/// The one number of workers that there may be.
-pub const MOST_WORKERS: u64 = 1;
+/// The greatest number of workers.
+pub const MOST_WORKERS: u64 = 64;
 /// The greatest budget, which stands where none is given.
 pub const MOST_UNITS: u64 = 9223372036854775807;
 /// The least and the greatest number of nodes of a ring.

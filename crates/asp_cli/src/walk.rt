@@ -1,8 +1,8 @@
 //! The walk over the words behind the program's name.
-ghost use Rattle.std.specs.Prelude.{◌≡◌, IfOk, map, option_map, string_bytes};
+ghost use Rattle.std.specs.Prelude.{◌≡◌, IfOk, IfSome, map, option_map, string_bytes};
 ghost use Rattle.asp_cli.specs.Found.{start};
 ghost use Rattle.asp_cli.specs.Given.{after, cut, ended, fault_seen, fresh, looks_like_option, seen, stray, told_alone, told_option, told_value, told_with_value, walked};
-ghost use Rattle.asp_cli.specs.Values.{IsRing};
+ghost use Rattle.asp_cli.specs.Values.{IsCrew, IsRing};
 
 use crate::found::{Found, has, options, with};
 use crate::names::{Name, named};
@@ -95,6 +95,7 @@ fn fresh<'a>(found: &Found, name: &str, word: &'a str) -> Result<Name, WordFault
 fn value<'a>(found: Found, name: Name, text: &'a str) -> Result<State, WordFault<'a>>
     ensures value { seen result ≡ told_value found name text.entry.now }
     ensures ring { IsRing found.make → IfOk result (λ s. IsRing s.found.make) }
+    ensures crew { IfSome found.workers IsCrew → IfOk result (λ s. IfSome s.found.workers IsCrew) }
 {
     match with(found, name, text) {
         Some(found) => Ok(State {
@@ -114,6 +115,7 @@ fn with_value<'a>(
 ) -> Result<State, WordFault<'a>>
     ensures value { seen result ≡ told_with_value found name.now text.entry.now word.entry.now }
     ensures ring { IsRing found.make → IfOk result (λ s. IsRing s.found.make) }
+    ensures crew { IfSome found.workers IsCrew → IfOk result (λ s. IfSome s.found.workers IsCrew) }
 {
     match fresh(&found, name, word) {
         Ok(name) => value(found, name, text),
@@ -125,6 +127,7 @@ fn with_value<'a>(
 fn alone<'a>(found: Found, word: &'a str) -> Result<State, WordFault<'a>>
     ensures value { seen result ≡ told_alone found word.entry.now }
     ensures ring { IsRing found.make → IfOk result (λ s. IsRing s.found.make) }
+    ensures crew { IfSome found.workers IsCrew → IfOk result (λ s. IfSome s.found.workers IsCrew) }
 {
     match fresh(&found, word, word) {
         Ok(Name::Stats) => Ok(State {
@@ -159,6 +162,7 @@ fn alone<'a>(found: Found, word: &'a str) -> Result<State, WordFault<'a>>
 fn option<'a>(found: Found, word: &'a str) -> Result<State, WordFault<'a>>
     ensures value { seen result ≡ told_option found word.entry.now }
     ensures ring { IsRing found.make → IfOk result (λ s. IsRing s.found.make) }
+    ensures crew { IfSome found.workers IsCrew → IfOk result (λ s. IfSome s.found.workers IsCrew) }
 {
     if word == "--" {
         return Ok(State {
@@ -176,6 +180,7 @@ fn option<'a>(found: Found, word: &'a str) -> Result<State, WordFault<'a>>
 fn after<'a>(state: State, word: &'a str) -> Result<State, WordFault<'a>>
     ensures value { seen result ≡ after state word.entry.now }
     ensures ring { IsRing state.found.make → IfOk result (λ s. IsRing s.found.make) }
+    ensures crew { IfSome state.found.workers IsCrew → IfOk result (λ s. IfSome s.found.workers IsCrew) }
 {
     match state.awaits {
         Awaits::Option => option(state.found, word),
@@ -187,6 +192,7 @@ fn after<'a>(state: State, word: &'a str) -> Result<State, WordFault<'a>>
 fn ended<'a>(state: &State) -> Result<Options, WordFault<'a>>
     ensures value { seen result ≡ ended state.now }
     ensures ring { IsRing state.now.found.make → IfOk result (λ o. IsRing o.make) }
+    ensures crew { IfSome state.now.found.workers IsCrew → IfOk result (λ o. IsCrew o.workers) }
 {
     match state.awaits {
         Awaits::Value(name) => Err(WordFault::Missing(name)),
@@ -198,6 +204,7 @@ fn ended<'a>(state: &State) -> Result<Options, WordFault<'a>>
 pub fn walk<'a>(words: &'a [String]) -> Result<Options, WordFault<'a>>
     ensures value { seen result ≡ walked start (map string_bytes words.entry.now) }
     ensures ring { IfOk result (λ o. IsRing o.make) }
+    ensures crew { IfOk result (λ o. IsCrew o.workers) }
 {
     let mut state = start();
     for word in words {

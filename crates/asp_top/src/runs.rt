@@ -14,11 +14,10 @@ use crate::counts::Tally;
 use crate::notes::{note_status, write};
 use crate::progress::Progress;
 use crate::solve::{mode_of, status_for};
+use crate::solver::{Alone, Crew, Solver};
 use crate::status::{Outcome, Status};
 use crate::usage::{note_misuse, write_three};
 use asp_cli::{CliError, Options, WordFault, page_back, page_front, usage, version};
-use asp_crew::alone::solve_alone;
-use asp_crew::gate::Gate;
 use asp_crew::report::Report;
 use asp_crew::watch::Watch;
 use asp_io::{Failed, Sink, Source};
@@ -30,6 +29,7 @@ use asp_proof::proof::Proof;
 use asp_proof::write_proof;
 use asp_read::fault::ReadError;
 use asp_read::read_program;
+use asp_team::gate::Gate;
 use asp_vars::compile::compile;
 use asp_vars::compiled::Compiled;
 use std::alloc::Global;
@@ -270,6 +270,26 @@ fn outcome_of<S: Source, K: Sink, W: Watch>(
     }
 }
 
+// A run after the words, with what solves its program.
+fn run_by<E: Solver, S: Source, K: Sink, N: Sink>(
+    solver: &E,
+    alloc: Global,
+    options: &Options,
+    source: &mut S,
+    sink: &mut K,
+    notes: &mut N,
+) -> Outcome
+    requires { IsRing options.now.make }
+    ensures runs { Runs options.now (around (S.left source.old) (S.left source.new) (S.faults source.old) (S.faults source.new)
+        (K.held sink.old) (K.held sink.new) (K.faults sink.old) (K.faults sink.new)) result }
+    ensures flushed { TellsFaults (K.held sink.old) (K.faults sink.old) (K.faults sink.new) result.status }
+    ensures notes { IsNoted (N.held notes.old) (N.held notes.new) (N.faults notes.old) (N.faults notes.new) (notes_of options.now.stats result) }
+{
+    let outcome = outcome_of(solver, alloc, options, source, sink);
+    note(notes, options.stats, &outcome);
+    outcome
+}
+
 /// A run after the words. It reads a program from the source, or makes a ring, solves it with one search, writes the text
 /// of its results to the sink, or of the proof that was asked for, and flushes it. The notes get a line for each status
 /// that isn't one of results, and the counts where they are asked for; before them lines while the run goes on, where they
@@ -356,10 +376,15 @@ pub fn run<R: Threads + Wait + Sync, S: Source, K: Sink, N: Sink, G: Gate + Sync
     ensures notes { NotesOn (words_give (map string_bytes words.now)) (N.held notes.old) (N.held notes.new) (N.faults notes.old) (N.faults notes.new)
         result }
 {
-    let _ = rt;
-    let _ = gate;
     match asp_cli::words(words) {
-        Ok(options) => run_alone(alloc, &options, source, sink, notes),
+        Ok(options) => {
+            let crew = Crew {
+                rt,
+                gate,
+                workers: options.workers,
+            };
+            run_by(&crew, alloc, &options, source, sink, notes)
+        }
         Err(CliError::Help) => {
             let status = help(sink);
             ended(notes, status)

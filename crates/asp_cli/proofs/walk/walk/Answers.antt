@@ -8,6 +8,7 @@ loop-word-preserved c = record {
   same = walked_more c.loop-word.state c.in_ok-state.state c.args.words.now c.loop-word.word-index c.word-item.result c.as_str.result.now (omega arith) c.word-item.is c.as_str.ensures.value c.in_ok-state.ensures.value
       ∙ c.loop-word.invariant.same;
   ring = c.in_ok-state.ensures.ring c.loop-word.invariant.ring;
+  crew = c.in_ok-state.ensures.crew c.loop-word.invariant.crew;
 }
 
 pub returns-in_err-state-clause-value : goal.returns-in_err-state-clause-value
