@@ -8,7 +8,7 @@ use Rattle.asp_model.specs.declared.results.Mode.TheVariants as mode
 use Rattle.asp_model.specs.Sets.{Atoms}
 use Rattle.asp_vars.specs.Literals.{Literal, literal_eq, has_literal}
 use Rattle.asp_vars.specs.Numbering.{var_count}
-use Rattle.asp_vars.specs.Entailment.{HitsOnly, excuse}
+use Rattle.asp_vars.specs.Entailment.{HitsOnly, IsSharedBy, excuse}
 use Rattle.asp_vars.specs.declared.nogood.Base.{Base}
 use Rattle.asp_vars.specs.declared.nogood.Base.TheVariants as base
 use Rattle.asp_vars.specs.declared.nogood.Nogood.{Nogood}

@@ -1,0 +1,72 @@
+-- A worker's beginning and its end.
+use Rattle.std.proofs.Common.{◌≡◌, ℕ, ◌+◌, ◌≤◌, Bool, true, false, cond, eqb, List, [], ◌∷◌, Option, Some, None, refl, sym, ap, ◌∙◌, subst, arith}
+use Rattle.std.proofs.lemmas.Bool.{eqb-true, eq-eqb}
+use Rattle.asp_model.specs.declared.program.Program.{Program}
+use Rattle.asp_model.specs.declared.results.Mode.{Mode}
+use Rattle.asp_vars.specs.Paid.{Units}
+use Rattle.asp_vault.specs.Moments.{Stays}
+use Rattle.asp_vault.specs.Seats.{view}
+use Rattle.asp_core.specs.declared.event.Event.{Event}
+use Rattle.asp_core.specs.declared.event.Event.TheVariants as event
+use Rattle.asp_core.specs.declared.task.Task.{Task}
+use Rattle.asp_core.specs.Boards.{Board, goal_of}
+use Rattle.asp_core.specs.Units.{out_of, returned}
+use Rattle.asp_core.specs.Events.{held_by, happens, replay}
+use Rattle.asp_book.specs.Calls.{Knows, task_of, seen_board, IsCall}
+use Rattle.asp_book.specs.Fuels.{ComesBack}
+use Rattle.asp_book.specs.Replies.{given_back}
+use Rattle.asp_search.specs.Beside.{new_search}
+use Rattle.asp_search_laws.specs.Searching.{Searching}
+use Rattle.asp_crew_laws.proofs.WorkLaws.{work-begins}
+use Rattle.asp_worker.specs.declared.worker.Worker.{Worker}
+use Rattle.asp_worker.specs.declared.worker.Shared.{Shared}
+use Rattle.asp_worker.specs.Seats.{IsRun, IsSettled, IsRunOf, IsIdle, IsFree, Idles, MayWork, Owes}
+use Rattle.asp_worker.specs.Working.{GoesOn}
+use Rattle.asp_worker.proofs.SeatLaws.{board-task, board-now, lawful-now, settled-on, idles-call, idles-leases, free-idles, settled-idles}
+
+no_units : Program → Units
+no_units p = record { program = p; left = 0; burnt = 0; known = 0; least = None }
+
+-- a new search goes with the board of an idle number
+pub begins : (p : Program) (m : Mode) (v : Knows) (s : Searching) (u : Units) → IsRunOf p m v → IsIdle v → s ≡ new_search p m s.slots → u ≡ record { program = p; left = 0; burnt = 0; known = 0; least = None } → GoesOn m v s u
+begins p m v s u run idle e f =
+    let same : (seen_board v).task.program ≡ p = ap (λ (t : Task). t.program) (board-task v) ∙ run.program in
+    let goal : (seen_board v).task.goal ≡ goal_of m = ap (λ (t : Task). t.goal) (board-task v) ∙ run.goal in
+    let back : ComesBack (seen_board v) (out_of (seen_board v).out v.number) (record { program = p; left = 0; burnt = 0; known = 0; least = None }) =
+    (record { program = sym same; known = omega arith; least = tt }, sym idle.home) in
+    subst (λ (x : Searching). GoesOn m v x u) (sym e)
+    (subst (λ (x : Units). GoesOn m v (new_search p m s.slots) x) (sym f) (record {
+      program = sym run.program;
+      mode_is = refl;
+      work = work-begins (seen_board v) v.number m (record { program = p; left = 0; burnt = 0; known = 0; least = None }) goal back;
+    }))
+
+-- ---- the units are given back
+none-out : (s : ℕ) (out : List (ℕ × ℕ)) → out_of (returned s out) s ≡ 0
+none-out s [] = refl
+none-out s (x ∷ out) = here (eqb x.0 s) refl (none-out s out)
+  where
+    here : (z : Bool) → z ≡ eqb x.0 s → out_of (returned s out) s ≡ 0 → out_of (cond z ((x.0, 0) ∷ out) (x ∷ returned s out)) s ≡ 0
+    here true q rest = ap (λ y. let k : ℕ = cond y 0 (out_of out s) in k) (sym q)
+    here false q rest = ap (λ y. let k : ℕ = cond y x.1 (out_of (returned s out) s) in k) (sym q) ∙ rest
+
+module _ (v w : Knows) (before : List Event) (stays : Stays v w) (u : Units) (set : IsSettled v) (free : IsFree v) (owes : Owes v u) where
+  by-sum : (z : Bool) → z ≡ eqb (u.left + u.burnt) 0 → IsCall v w before (cond z [] (event.Back v.number u.left u.burnt ∷ [])) → IsIdle w
+  by-sum true q call =
+      let i : Idles v w = idles-call v w before stays call in
+      record {
+        settled = settled-idles v w set i;
+        free = free-idles v w free i;
+        home = ap (out_of (seen_board w).out) stays.number ∙ i.spares.units ∙ sym owes.1 ∙ eqb-true (u.left + u.burnt) 0 (sym q);
+      }
+  by-sum false q call =
+      let e : Event = event.Back v.number u.left u.burnt in
+      let now : seen_board w ≡ happens (replay (task_of v) before) e = board-now v w before stays e call in
+      record {
+        settled = settled-on v w set stays (lawful-now v w before stays e call);
+        free = ap (λ n. held_by n (seen_board w).nodes) stays.number ∙ ap (λ (b : Board). held_by v.number b.nodes) now ∙ call.spared.count ∙ free;
+        home = ap (out_of (seen_board w).out) stays.number ∙ ap (λ (b : Board). out_of b.out v.number) now ∙ none-out v.number (replay (task_of v) before).out;
+      }
+
+  pub given-idle : IsCall v w before (given_back v.number u) → IsIdle w
+  given-idle call = by-sum (eqb (u.left + u.burnt) 0) refl call

@@ -1,0 +1,144 @@
+-- A worker's search and its units beside the board, from call to call.
+use Rattle.std.proofs.Common.{◌≡◌, ℕ, ◌+◌, ◌<◌, ◌≤◌, Bool, true, false, cond, List, [], ◌∷◌, ◌++◌, length, Option, Some, None, refl, sym, ap, ◌∙◌, subst, arith}
+use Rattle.std.specs.Prelude.{ℤ, IsTrue, option_map}
+use Rattle.asp_model.specs.declared.program.Program.{Program}
+use Rattle.asp_model.specs.declared.results.Mode.{Mode}
+use Rattle.asp_model.specs.declared.results.Mode.TheVariants.{Enum, Opt}
+use Rattle.asp_model.specs.Sets.{Atoms}
+use Rattle.asp_model.specs.Costs.{cost, betters}
+use Rattle.asp_vars.specs.Entailment.{HitsOnly, Settled}
+use Rattle.asp_vars.specs.Literals.{Literal}
+use Rattle.asp_vars.specs.Paid.{Units}
+use Rattle.asp_vars.proofs.ResolutionLaws.{betters_itself, HitsOnly-weaker}
+use Rattle.asp_vault.specs.Moments.{Stays}
+use Rattle.asp_path.specs.declared.status.Status.TheVariants as status
+use Rattle.asp_path.specs.Trees.{Node, cube_of}
+use Rattle.asp_core.specs.declared.task.Task.{Task}
+use Rattle.asp_core.specs.Units.{out_of}
+use Rattle.asp_core.specs.Boards.{Board, is_excused}
+use Rattle.asp_core.specs.Growth.{Grows}
+use Rattle.asp_core.specs.declared.event.Event.{Event}
+use Rattle.asp_core.specs.Events.{replay}
+use Rattle.asp_book.specs.Calls.{Knows, task_of, seen_board, IsCall}
+use Rattle.asp_book.specs.Fuels.{ComesBack}
+use Rattle.asp_book.proofs.BookLaws.{Fits-grows}
+use Rattle.asp_book.proofs.CallLaws.{task-stays, seen-after}
+use Rattle.asp_propagate.specs.Useful.{IsSmaller}
+use Rattle.asp_search_laws.specs.Searching.{Searching}
+use Rattle.asp_crew_laws.specs.Working.{IsAtWork, Works}
+use Rattle.asp_crew_laws.proofs.AgreeLaws.{settled-excused}
+use Rattle.asp_crew_laws.proofs.WorkLaws.{work-on, work-unimproved}
+use Rattle.asp_worker.specs.Seats.{Passes, Idles, Holds, Owes}
+use Rattle.asp_worker.specs.Sharing.{is_smaller, lowered, lowered_by, with_best}
+use Rattle.asp_worker.specs.Working.{GoesOn, IsOn, IsOff}
+use Rattle.asp_worker.proofs.SeatLaws.{board-task, idles-passes, holds-idles, cube-idles}
+
+pub owes-on : (v w : Knows) (u : Units) → Owes v u → Passes v w → Owes w u
+owes-on v w u owes p = (
+  Fits-grows (seen_board v) (seen_board w) u p.grows owes.0,
+  owes.1 ∙ sym p.units ∙ ap (out_of (seen_board w).out) (sym p.stays.number),
+)
+
+pub goes-on : (m : Mode) (v w : Knows) (s : Searching) (u : Units) → GoesOn m v s u → Passes v w → GoesOn m w s u
+goes-on m v w s u g p = record {
+  program = g.program ∙ ap (λ (t : Task). t.program) (sym (task-stays v w p.stays));
+  mode_is = g.mode_is;
+  work = subst (λ n. IsAtWork (seen_board w) n m s.known s.bound u) (sym p.stays.number)
+      (work-on (seen_board v) (seen_board w) v.number m s.known s.bound u g.work p.grows p.units);
+}
+
+pub goes-owes : (m : Mode) (v : Knows) (s : Searching) (u : Units) → GoesOn m v s u → Owes v u
+goes-owes m v s u g = g.work.units
+
+pub works-on : (v w : Knows) (leaf : ℕ) (cube : Option (List Literal)) → Works (seen_board v) v.number leaf cube → Idles v w → Works (seen_board w) w.number leaf cube
+works-on v w leaf cube k i = record {
+  held = holds-idles v w leaf k.held i;
+  entered = k.entered ∙ ap (λ (q : List Literal). Some q) (sym (cube-idles v w leaf k.held i));
+}
+
+pub on-on : (m : Mode) (v w : Knows) (s : Searching) (u : Units) (leaf : ℕ) → IsOn m v s u leaf → Idles v w → IsOn m w s u leaf
+on-on m v w s u leaf on i = record { going = goes-on m v w s u on.going (idles-passes v w i); works = works-on v w leaf s.cube on.works i }
+
+pub on-off : (m : Mode) (v : Knows) (s : Searching) (u : Units) (leaf : ℕ) → IsOn m v s u leaf → IsOff v u leaf
+on-off m v s u leaf on = record { held = on.works.held; units = on.going.work.units }
+
+pub off-on : (v w : Knows) (u : Units) (leaf : ℕ) → IsOff v u leaf → Idles v w → IsOff w u leaf
+off-on v w u leaf off i = record { held = holds-idles v w leaf off.held i; units = owes-on v w u off.units (idles-passes v w i) }
+
+-- a search that is as good as another: it knows as much, and has the same bound
+pub goes-same : (m : Mode) (v : Knows) (s t : Searching) (u : Units) → t.program ≡ s.program → t.mode ≡ s.mode → t.known ≡ s.known → t.bound ≡ s.bound → GoesOn m v s u → GoesOn m v t u
+goes-same m v s t u p e k b g = record {
+  program = p ∙ g.program;
+  mode_is = e ∙ g.mode_is;
+  work = subst (λ (x : List Atoms). IsAtWork (seen_board v) v.number m x t.bound u) (sym k)
+      (subst (λ (x : Option (List ℤ)). IsAtWork (seen_board v) v.number m s.known x u) (sym b) g.work);
+}
+
+-- ---- the best cost is the bound
+pub lowered-goes : (v : Knows) (B : Atoms) (s : Searching) (u : Units) → (seen_board v).best ≡ Some B → GoesOn Opt v s u → GoesOn Opt v (lowered s (cost (seen_board v).task.program B)) u
+lowered-goes v B s u best g = here (is_smaller (cost (seen_board v).task.program B) s.bound)
+  where
+    c : List ℤ
+    c = cost (seen_board v).task.program B
+
+    here : (x : Bool) → GoesOn Opt v (cond x (record s { bound = Some (cost (seen_board v).task.program B) }) s) u
+    here true = record {
+      program = g.program;
+      mode_is = g.mode_is;
+      work = work-unimproved (seen_board v) v.number B B s.known s.bound u g.work best (betters_itself (cost (seen_board v).task.program B));
+    }
+    here false = g
+
+pub lowered-same : (s : Searching) (c : List ℤ) → ((lowered s c).program ≡ s.program) × ((lowered s c).mode ≡ s.mode) × ((lowered s c).known ≡ s.known) × ((lowered s c).cube ≡ s.cube)
+lowered-same s c = here (is_smaller c s.bound)
+  where
+    here : (x : Bool) → let t : Searching = cond x (record s { bound = Some c }) s in (t.program ≡ s.program) × (t.mode ≡ s.mode) × (t.known ≡ s.known) × (t.cube ≡ s.cube)
+    here true = (refl, refl, refl, refl)
+    here false = (refl, refl, refl, refl)
+
+pub best-goes : (m : Mode) (v : Knows) (s : Searching) (u : Units) → GoesOn m v s u → GoesOn m v (with_best m (seen_board v) s) u
+best-goes Enum v s u g = g
+best-goes Opt v s u g = here (seen_board v).best refl
+  where
+    here : (o : Option Atoms) → o ≡ (seen_board v).best → GoesOn Opt v (lowered_by (option_map (cost (seen_board v).task.program) o) s) u
+    here None e = g
+    here (Some B) e = lowered-goes v B s u (sym e) g
+
+pub best-cube : (m : Mode) (b : Board) (s : Searching) → (with_best m b s).cube ≡ s.cube
+best-cube Enum b s = refl
+best-cube Opt b s = here (option_map (cost b.task.program) b.best)
+  where
+    here : (o : Option (List ℤ)) → (lowered_by o s).cube ≡ s.cube
+    here None = refl
+    here (Some c) = (lowered-same s c).3
+
+-- ---- a leaf may be closed for what the search has settled
+pub done-excused : (m : Mode) (v : Knows) (s : Searching) (u : Units) (q : List Literal) → GoesOn m v s u → Settled s.program s.known s.bound q → HitsOnly (task_of v).program (is_excused (seen_board v)) q
+done-excused m v s u q g h =
+    let same : s.program ≡ (seen_board v).task.program = g.program ∙ ap (λ (t : Task). t.program) (sym (board-task v)) in
+    subst (λ (t : Task). HitsOnly t.program (is_excused (seen_board v)) q) (board-task v)
+    (settled-excused (seen_board v) s.known s.bound q g.work.agrees (subst (λ (p : Program). Settled p s.known s.bound q) same h))
+
+-- ---- a cost beside the bound
+pub smaller-is : (c : List ℤ) (o : Option (List ℤ)) → is_smaller c o ≡ true → IsSmaller c o
+smaller-is c None h = tt
+smaller-is c (Some d) h = h
+
+pub lowered-then : (s : Searching) (c : List ℤ) (b : Bool) → b ≡ is_smaller c s.bound → b ≡ true → record s { bound = Some c } ≡ lowered s c
+lowered-then s c b e h = ap (λ x. cond x (record s { bound = Some c }) s) (sym h ∙ e)
+
+pub lowered-else : (s : Searching) (c : List ℤ) (b : Bool) → b ≡ is_smaller c s.bound → b ≡ false → s ≡ lowered s c
+lowered-else s c b e h = ap (λ x. cond x (record s { bound = Some c }) s) (sym h ∙ e)
+
+-- ---- the best cost that a call told
+pub best-then : (m : Mode) (b : Board) (s : Searching) (r x : Option (List ℤ)) → m ≡ Opt → r ≡ option_map (cost b.task.program) b.best → r ≡ x → lowered_by x s ≡ with_best m b s
+best-then m b s r x e is at = ap (λ (o : Option (List ℤ)). lowered_by o s) (sym at ∙ is) ∙ ap (λ (k : Mode). with_best k b s) (sym e)
+
+pub best-seen : (v w : Knows) (before : List Event) → Stays v w → IsCall v w before [] → (r : Option (List ℤ)) → r ≡ option_map (cost (replay (task_of v) before).task.program) (replay (task_of v) before).best → r ≡ option_map (cost (seen_board w).task.program) (seen_board w).best
+best-seen v w before stays call r e = e ∙ ap (λ (b : Board). option_map (cost b.task.program) b.best) (sym (seen-after v w before [] stays call))
+
+-- ---- a cube that is settled stays so
+pub done-idles : (v w : Knows) (q : List Literal) → Idles v w → HitsOnly (task_of v).program (is_excused (seen_board v)) q → HitsOnly (seen_board w).task.program (is_excused (seen_board w)) q
+done-idles v w q i h =
+    subst (λ (t : Task). HitsOnly t.program (is_excused (seen_board w)) q) (sym (task-stays v w i.stays) ∙ sym (board-task w))
+    (HitsOnly-weaker (task_of v).program (is_excused (seen_board v)) (is_excused (seen_board w)) q i.grows.excused h)

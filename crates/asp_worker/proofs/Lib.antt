@@ -1,0 +1,9 @@
+pub mod Cubes
+pub mod EndLaws
+pub mod GoingLaws
+pub mod PathLaws
+pub mod RecordLaws
+pub mod Replies
+pub mod SeatLaws
+pub mod SharingLaws
+pub mod StepLaws

@@ -1,0 +1,92 @@
+-- A worker on its path, after what a step asked for.
+use Rattle.std.proofs.Common.{◌≡◌, ℕ, List, Option, Some, None, refl, sym, ap, ◌∙◌, subst}
+use Rattle.std.specs.Prelude.{slice_index_or, false}
+use Rattle.std.specs.Option.{IfSome}
+use Rattle.asp_model.specs.declared.program.Program.{Program}
+use Rattle.asp_model.specs.declared.results.Mode.{Mode}
+use Rattle.asp_vars.specs.Literals.{Literal}
+use Rattle.asp_vars.specs.Paid.{Units}
+use Rattle.asp_vars.specs.declared.nogood.Nogood.{Nogood}
+use Rattle.asp_vault.specs.Seats.{view, IsBeside}
+use Rattle.asp_path.specs.declared.status.Status.TheVariants as status
+use Rattle.asp_path.specs.Trees.{Node, nowhere, cube_of}
+use Rattle.asp_pool.specs.Pools.{IsOfPool}
+use Rattle.asp_core.specs.declared.task.Task.{Task}
+use Rattle.asp_core.specs.Events.{has_var, IsVariable}
+use Rattle.asp_book.proofs.CallLaws.{task-stays}
+use Rattle.asp_search.specs.Beside.{IsOpen}
+use Rattle.asp_book.specs.Books.{IsJournalOf}
+use Rattle.asp_book.specs.Calls.{Knows, task_of, seen_board}
+use Rattle.asp_search_laws.specs.Searching.{Searching}
+use Rattle.asp_worker.specs.declared.worker.Worker.{Worker}
+use Rattle.asp_worker.specs.declared.worker.Shared.{Shared}
+use Rattle.asp_worker.specs.Seats.{Idles, Passes, Leases, IsReady, Keeps, Holds, Owes}
+use Rattle.asp_worker.specs.Sharing.{TakesOver}
+use Rattle.asp_worker.specs.Working.{GoesOn, IsOn, IsOff, Finds}
+use Rattle.asp_worker.proofs.SeatLaws.{holds-idles, cube-idles, holds-leases, cube-leases, idles-passes, ready-seat}
+use Rattle.asp_worker.proofs.GoingLaws.{goes-on, owes-on}
+use Rattle.asp_worker.proofs.SharingLaws.{refreshed-goes, refreshed-cube}
+
+-- what others found was taken over
+pub refreshed-on : (m : Mode) (v w : Knows) (t r : Searching) (u : Units) (leaf : ℕ) (xs : List Nogood) → IsOn m v t u leaf → Idles v w → TakesOver m (seen_board w) xs t r → IsOn m w r u leaf
+refreshed-on m v w t r u leaf xs on i e = record {
+  going = refreshed-goes m v w t r u xs on.going i e;
+  works = record {
+    held = holds-idles v w leaf on.works.held i;
+    entered = refreshed-cube m w t r xs e ∙ on.works.entered ∙ ap (λ (q : List Literal). Some q) (sym (cube-idles v w leaf on.works.held i));
+  };
+}
+
+-- memory was wanting, and the number left its leaves and units alone
+pub idled-off : (m : Mode) (v w : Knows) (s : Searching) (u x : Units) (leaf : ℕ) → IsOn m v s u leaf → Idles v w → x ≡ u → IsOff w x leaf
+idled-off m v w s u x leaf on i e = subst (λ (y : Units). IsOff w y leaf) (sym e) (record { held = holds-idles v w leaf on.works.held i; units = owes-on v w u on.going.work.units (idles-passes v w i) })
+
+-- an answer was recorded
+pub recorded-on : (m : Mode) (v w : Knows) (s t r : Searching) (u x : Units) (leaf : ℕ) (S : List ℕ) → Finds m v s t u leaf S → Idles v w → x ≡ u → GoesOn m w r x × (r.cube ≡ t.cube) → IsOn m w r x leaf
+recorded-on m v w s t r u x leaf S f i e h = record {
+  going = h.0;
+  works = record {
+    held = holds-idles v w leaf f.on.works.held i;
+    entered = h.1 ∙ f.cube ∙ f.on.works.entered ∙ ap (λ (q : List Literal). Some q) (sym (cube-idles v w leaf f.on.works.held i));
+  };
+}
+
+pub found-off : (m : Mode) (v w : Knows) (s t : Searching) (u x : Units) (leaf : ℕ) (S : List ℕ) → Finds m v s t u leaf S → Idles v w → x ≡ u → IsOff w x leaf
+found-off m v w s t u x leaf S f i e = idled-off m v w s u x leaf f.on i e
+
+-- units were leased
+pub leased-on : (m : Mode) (v w : Knows) (s t : Searching) (u x : Units) (leaf : ℕ) → IsOn m v s u leaf → Leases v w → t ≡ s → GoesOn m w t x → IsOn m w t x leaf
+leased-on m v w s t u x leaf on l e g = record {
+  going = g;
+  works = record {
+    held = holds-leases v w leaf on.works.held l;
+    entered = ap (λ (y : Searching). y.cube) e ∙ on.works.entered ∙ ap (λ (q : List Literal). Some q) (sym (cube-leases v w leaf on.works.held l));
+  };
+}
+
+pub leased-off : (m : Mode) (v w : Knows) (s t : Searching) (u x : Units) (leaf : ℕ) → IsOn m v s u leaf → Leases v w → GoesOn m w t x → IsOff w x leaf
+leased-off m v w s t u x leaf on l g = record { held = holds-leases v w leaf on.works.held l; units = g.work.units }
+
+-- the number did something, but the leaf is as it was
+pub kept-on : (m : Mode) (v w : Knows) (s : Searching) (u : Units) (leaf : ℕ) → IsOn m v s u leaf → Passes v w → slice_index_or (seen_board w).nodes leaf nowhere ≡ slice_index_or (seen_board v).nodes leaf nowhere → IsOn m w s u leaf
+kept-on m v w s u leaf on p same = record {
+  going = goes-on m v w s u on.going p;
+  works = record {
+    held = ap (λ (x : Node). x.status) same ∙ on.works.held ∙ ap status.Held (sym p.stays.number);
+    entered = on.works.entered ∙ ap (λ (x : Node). Some x.cube) (sym same);
+  };
+}
+
+-- the worker with another seat at the log
+pub ready-pages : (c : Shared) (h k : Worker) → IsReady c h → Keeps h k → IsOfPool c.pool k.pass → view k.seat ≡ view h.seat → IsReady c k
+ready-pages c h k r keeps pool same = ready-seat c h k r keeps pool (subst (λ (v : Knows). IsJournalOf (task_of v) v.seen) (sym same) r.settled.seated.lawful)
+
+-- the first decision's variable may split the path
+pub open-first : (m : Mode) (v w : Knows) (s : Searching) (u : Units) (leaf : ℕ) (l : Literal) (r : Option Literal) → IsOn m v s u leaf → Idles v w → ((q : List Literal) → s.cube ≡ Some q → IfSome r (IsOpen s.program q)) → r ≡ Some l →
+    IsVariable (task_of w).program l.var × (has_var (cube_of (seen_board w).nodes leaf) l.var ≡ false)
+open-first m v w s u leaf l r on i h e =
+    let q : List Literal = cube_of (seen_board v).nodes leaf in
+    let opens : IsOpen s.program q l = subst (λ (x : Option Literal). IfSome x (IsOpen s.program q)) e (h q on.works.entered) in (
+      subst (λ (p : Program). IsVariable p l.var) (on.going.program ∙ ap (λ (t : Task). t.program) (sym (task-stays v w i.stays))) opens.0,
+      ap (λ (x : List Literal). has_var x l.var) (cube-idles v w leaf on.works.held i) ∙ opens.1,
+    )

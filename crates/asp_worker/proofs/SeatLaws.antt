@@ -1,0 +1,521 @@
+-- What a call at the desk tells of the seat that made it.
+use Rattle.std.proofs.Common.{◌≡◌, ℕ, ◌+◌, ◌<◌, ◌≤◌, Bool, true, false, cond, eqb, List, [], ◌∷◌, ◌++◌, length, drop, append_assoc, Option, Some, None, Result, Ok, Err, refl, sym, ap, ◌∙◌, subst, arith}
+use Rattle.std.specs.Prelude.{slice_index_or, unwrap_or, is_some, ℤ}
+use Rattle.std.specs.Option.{IfSome}
+use Rattle.std.specs.Result.{IfOk, OnOk, OnErr, IsErr}
+use Rattle.std.specs.declared.alloc.AllocError.{AllocError}
+use Rattle.std.specs.List.{All, AllByRecursion}
+use Rattle.std.proofs.lemmas.Bool.{false≢true, eq-eqb}
+use Rattle.std.proofs.lemmas.List.{append-nil, length-set, get_or-set_same, get_or-append-add}
+use mathlib.Core.List.{IsPrefix}
+use Rattle.asp_model.specs.declared.program.Program.{Program}
+use Rattle.asp_vars.specs.Literals.{Literal, complement}
+use Rattle.asp_vars.specs.Numbering.{var_count}
+use Rattle.asp_vars.specs.Numbering.{IsVar}
+use Rattle.asp_vault.specs.declared.view.View.{View}
+use Rattle.asp_vault.specs.Makers.{NoneBy}
+use Rattle.asp_vault.specs.Rules.{seeing, Learnt}
+use Rattle.asp_vault.specs.Moments.{Stays}
+use Rattle.asp_vault.specs.Seats.{view, IsBeside}
+use Rattle.asp_vault.proofs.Filters.{drop_prefix}
+use Rattle.asp_vault.proofs.Prefixes.{prefix_self, prefix_trans}
+use Rattle.asp_path.specs.declared.status.Status.{Status}
+use Rattle.asp_path.specs.declared.status.Status.TheVariants as status
+use Rattle.asp_path.specs.Trees.{Node, is_leaf, is_held_by, nowhere, cube_of, status_of, with_status, split, open_from}
+use Rattle.asp_path.proofs.TreeLaws.{leaf-within}
+use Rattle.asp_core.specs.declared.event.Event.{Event}
+use Rattle.asp_core.specs.declared.event.Event.TheVariants as event
+use Rattle.asp_core.specs.declared.task.Task.{Task}
+use Rattle.asp_core.specs.Units.{out_of}
+use Rattle.asp_core.specs.Boards.{Board, start, IsQuery}
+use Rattle.asp_core.specs.Events.{Guard, happens, held_by, maker, run, IsLawful, replay}
+use Rattle.asp_core.specs.Growth.{Grows, Spares}
+use Rattle.asp_core.specs.Invariant.{IsBoard}
+use Rattle.asp_core.proofs.BoardLaws.{held-changed}
+use Rattle.asp_core.proofs.CubeLaws.{cube-at}
+use Rattle.asp_core.proofs.GrowthLaws.{Grows-itself, Grows-trans, Grows-happens, Grows-run, Spares-run}
+use Rattle.asp_core.proofs.ResultLaws.{IsBoard-replay, task-run}
+use Rattle.asp_book.specs.Books.{signed, IsJournalOf}
+use Rattle.asp_book.specs.Calls.{Knows, no_task, task_of, seen_board, IsCall}
+use Rattle.asp_book.specs.Replies.{taken, taken_this, divided}
+use Rattle.asp_book.proofs.CallLaws.{run-append, lawful-rest, task-stays, seen-after, lawful-after}
+use Rattle.asp_crew_laws.specs.Runs.{IsBack}
+use Rattle.asp_crew_laws.specs.Working.{IsSeated}
+use Rattle.asp_pool.specs.Pools.{IsOfPool}
+use Rattle.asp_worker.specs.declared.worker.Worker.{Worker}
+use Rattle.asp_worker.specs.declared.worker.Shared.{Shared}
+use Rattle.asp_worker.specs.Seats.{IsRun, IsSettled, Passes, Idles, Leases, IsFree, IsQuietIf, Holds, HoldsHalf, Takes, Looks, Reads, IsPaged, IsReady, Keeps}
+
+-- ---- the same seat
+pub stays-self : {D E : Type 0} (v : View D E) → v.holds ≡ false → Stays v v
+stays-self v rests = record { rests = rests; about = refl; number = refl; splits = refl; joins = refl; guests = refl; seen = prefix_self v.seen }
+
+pub stays-trans : {D E : Type 0} (u v w : View D E) → Stays u v → Stays v w → Stays u w
+stays-trans u v w s t = record {
+  rests = t.rests;
+  about = t.about ∙ s.about;
+  number = t.number ∙ s.number;
+  splits = t.splits ∙ s.splits;
+  joins = t.joins ∙ s.joins;
+  guests = t.guests ∙ s.guests;
+  seen = prefix_trans u.seen v.seen w.seen s.seen t.seen;
+}
+
+Spares-self : (n : ℕ) (b : Board) → Spares n b b
+Spares-self n b = record { leaves = λ leaf h. refl; count = refl; units = refl }
+
+Spares-trans : (n : ℕ) (a b c : Board) → Spares n a b → Spares n b c → Spares n a c
+Spares-trans n a b c s t = record {
+  leaves = λ leaf h. t.leaves leaf (ap (λ (x : Node). x.status) (s.leaves leaf h) ∙ h) ∙ s.leaves leaf h;
+  count = t.count ∙ s.count;
+  units = t.units ∙ s.units;
+}
+
+-- ---- what goes from call to call
+pub settled-on : (v w : Knows) → IsSettled v → Stays v w → IsJournalOf (task_of w) w.seen → IsSettled w
+settled-on v w s stays lawful = record {
+  seated = record {
+    about = stays.about ∙ s.seated.about ∙ ap (λ (t : Task). Some t) (sym (task-stays v w stays));
+    rests = stays.rests;
+    lawful = lawful;
+  };
+  run = subst IsRun (sym (task-stays v w stays)) s.run;
+}
+
+pub idles-self : (v : Knows) → IsSettled v → Idles v v
+idles-self v s = record { stays = stays-self v s.seated.rests; lawful = s.seated.lawful; grows = Grows-itself (seen_board v); spares = Spares-self v.number (seen_board v) }
+
+pub idles-trans : (u v w : Knows) → Idles u v → Idles v w → Idles u w
+idles-trans u v w i j = record {
+  stays = stays-trans u v w i.stays j.stays;
+  lawful = j.lawful;
+  grows = Grows-trans (seen_board u) (seen_board v) (seen_board w) i.grows j.grows;
+  spares = Spares-trans u.number (seen_board u) (seen_board v) (seen_board w) i.spares (subst (λ n. Spares n (seen_board v) (seen_board w)) i.stays.number j.spares);
+}
+
+pub idles-passes : (v w : Knows) → Idles v w → Passes v w
+idles-passes v w i = record { stays = i.stays; lawful = i.lawful; grows = i.grows; units = i.spares.units }
+
+pub idles-leases : (v w : Knows) → Idles v w → Leases v w
+idles-leases v w i = record { stays = i.stays; lawful = i.lawful; grows = i.grows; leaves = i.spares.leaves }
+
+pub passes-self : (v : Knows) → IsSettled v → Passes v v
+passes-self v s = idles-passes v v (idles-self v s)
+
+pub passes-trans : (u v w : Knows) → Passes u v → Passes v w → Passes u w
+passes-trans u v w p q = record {
+  stays = stays-trans u v w p.stays q.stays;
+  lawful = q.lawful;
+  grows = Grows-trans (seen_board u) (seen_board v) (seen_board w) p.grows q.grows;
+  units = subst (λ n. out_of (seen_board w).out n ≡ out_of (seen_board v).out n) p.stays.number q.units ∙ p.units;
+}
+
+pub settled-idles : (v w : Knows) → IsSettled v → Idles v w → IsSettled w
+settled-idles v w s i = settled-on v w s i.stays i.lawful
+
+pub settled-passes : (v w : Knows) → IsSettled v → Passes v w → IsSettled w
+settled-passes v w s i = settled-on v w s i.stays i.lawful
+
+pub settled-leases : (v w : Knows) → IsSettled v → Leases v w → IsSettled w
+settled-leases v w s i = settled-on v w s i.stays i.lawful
+
+pub free-idles : (v w : Knows) → IsFree v → Idles v w → IsFree w
+free-idles v w free i = ap (λ n. held_by n (seen_board w).nodes) i.stays.number ∙ i.spares.count ∙ free
+
+-- the leaf is as it was
+pub node-idles : (v w : Knows) (leaf : ℕ) → Holds v leaf → Idles v w → slice_index_or (seen_board w).nodes leaf nowhere ≡ slice_index_or (seen_board v).nodes leaf nowhere
+node-idles v w leaf held i = i.spares.leaves leaf held
+
+pub holds-leases : (v w : Knows) (leaf : ℕ) → Holds v leaf → Leases v w → Holds w leaf
+holds-leases v w leaf held i = ap (λ (x : Node). x.status) (i.leaves leaf held) ∙ held ∙ ap status.Held (sym i.stays.number)
+
+pub holds-idles : (v w : Knows) (leaf : ℕ) → Holds v leaf → Idles v w → Holds w leaf
+holds-idles v w leaf held i = holds-leases v w leaf held (idles-leases v w i)
+
+pub cube-leases : (v w : Knows) (leaf : ℕ) → Holds v leaf → Leases v w → cube_of (seen_board w).nodes leaf ≡ cube_of (seen_board v).nodes leaf
+cube-leases v w leaf held i = ap (λ (x : Node). x.cube) (i.leaves leaf held)
+
+pub cube-idles : (v w : Knows) (leaf : ℕ) → Holds v leaf → Idles v w → cube_of (seen_board w).nodes leaf ≡ cube_of (seen_board v).nodes leaf
+cube-idles v w leaf held i = cube-leases v w leaf held (idles-leases v w i)
+
+-- ---- the board that a seat has seen
+pub board-task : (v : Knows) → (seen_board v).task ≡ task_of v
+board-task v = task-run (start (task_of v)) v.seen
+
+pub query-none : (t : Task) → IsRun t → IsQuery t.program t.query
+query-none t run = subst (λ (q : List ℤ). IsQuery t.program q) (sym run.query) tt
+
+pub settled-board : (v : Knows) → IsSettled v → IsBoard (seen_board v)
+settled-board v s = IsBoard-replay (task_of v) v.seen (query-none (task_of v) s.run) s.seated.lawful
+
+-- ---- one call
+lawful-first : (b : Board) (xs ys : List Event) → IsLawful b (xs ++ ys) → IsLawful b xs
+lawful-first b [] ys h = tt
+lawful-first b (e ∷ xs) ys h = (h.0, lawful-first (happens b e) xs ys h.1)
+
+module _ (v w : Knows) (before : List Event) (stays : Stays v w) where
+  -- it added nothing
+  pub idles-call : IsCall v w before [] → Idles v w
+  idles-call call =
+      let now : seen_board w ≡ replay (task_of v) before = seen-after v w before [] stays call in
+      record {
+        stays = stays;
+        lawful = lawful-after v w before [] stays call;
+        grows = subst (Grows (seen_board v)) (sym now) call.grown;
+        spares = subst (Spares v.number (seen_board v)) (sym now) call.spared;
+      }
+
+  -- it added one event
+  module _ (e : Event) (call : IsCall v w before (e ∷ [])) where
+    pub guard-was : Guard (replay (task_of v) before) e
+    guard-was = (lawful-rest (start (task_of v)) before (e ∷ []) call.moment.keeps).0
+
+    pub board-then : IsRun (task_of v) → IsBoard (replay (task_of v) before)
+    board-then run = IsBoard-replay (task_of v) before (query-none (task_of v) run) (lawful-first (start (task_of v)) before (e ∷ []) call.moment.keeps)
+
+    pub board-now : seen_board w ≡ happens (replay (task_of v) before) e
+    board-now = seen-after v w before (e ∷ []) stays call
+
+    pub grows-now : Grows (seen_board v) (seen_board w)
+    grows-now = subst (Grows (seen_board v)) (sym board-now)
+        (Grows-trans (seen_board v) (replay (task_of v) before) (happens (replay (task_of v) before) e) call.grown (Grows-happens (replay (task_of v) before) e guard-was))
+
+    pub lawful-now : IsJournalOf (task_of w) w.seen
+    lawful-now = lawful-after v w before (e ∷ []) stays call
+
+    -- which left the units of the number alone
+    pub passes-now : out_of (happens (replay (task_of v) before) e).out v.number ≡ out_of (replay (task_of v) before).out v.number → Passes v w
+    passes-now same = record {
+      stays = stays;
+      lawful = lawful-now;
+      grows = grows-now;
+      units = ap (λ (b : Board). out_of b.out v.number) board-now ∙ same ∙ call.spared.units;
+    }
+
+    -- which left leaves and units alone
+    pub idles-now : (happens (replay (task_of v) before) e).nodes ≡ (replay (task_of v) before).nodes → (happens (replay (task_of v) before) e).out ≡ (replay (task_of v) before).out → Idles v w
+    idles-now nodes out = record {
+      stays = stays;
+      lawful = lawful-now;
+      grows = grows-now;
+      spares = record {
+        leaves = λ leaf h. ap (λ (b : Board). slice_index_or b.nodes leaf nowhere) board-now ∙ ap (λ (ns : List Node). slice_index_or ns leaf nowhere) nodes ∙ call.spared.leaves leaf h;
+        count = ap (λ (b : Board). held_by v.number b.nodes) board-now ∙ ap (held_by v.number) nodes ∙ call.spared.count;
+        units = ap (λ (b : Board). out_of b.out v.number) board-now ∙ ap (λ (o : List (ℕ × ℕ)). out_of o v.number) out ∙ call.spared.units;
+      };
+    }
+
+    -- which left leaves alone
+    pub leases-now : (happens (replay (task_of v) before) e).nodes ≡ (replay (task_of v) before).nodes → Leases v w
+    leases-now nodes = record {
+      stays = stays;
+      lawful = lawful-now;
+      grows = grows-now;
+      leaves = λ leaf h. ap (λ (b : Board). slice_index_or b.nodes leaf nowhere) board-now ∙ ap (λ (ns : List Node). slice_index_or ns leaf nowhere) nodes ∙ call.spared.leaves leaf h;
+    }
+
+-- ---- a leaf is taken, or given up
+status-set : (nodes : List Node) (n : ℕ) (s : Status) → n < length nodes → status_of (with_status nodes n s) n ≡ s
+status-set nodes n s lt = ap (λ (x : Node). x.status) (get_or-set_same nodes n (record { cube = cube_of nodes n; status = s }) nowhere lt)
+
+-- it holds one less
+given-up : (s : ℕ) (b : Board) (n : ℕ) (new : Status) → IsBoard b → status_of b.nodes n ≡ status.Held s → is_held_by s new ≡ false → held_by s (with_status b.nodes n new) ≡ 0
+given-up s b n new is held none =
+    let lt : n < length b.nodes = leaf-within b.nodes n (ap is_leaf held) in
+    let one : cond (is_held_by s (status_of b.nodes n)) 1 0 ≡ 1 = ap (λ (x : Status). let k : ℕ = cond (is_held_by s x) 1 0 in k) held ∙ ap (λ x. let k : ℕ = cond x 1 0 in k) (eq-eqb s s refl) in
+    let no : cond (is_held_by s new) 1 0 ≡ 0 = ap (λ x. let k : ℕ = cond x 1 0 in k) none in
+    let all : held_by s (with_status b.nodes n new) + cond (is_held_by s (status_of b.nodes n)) 1 0 ≡ held_by s b.nodes + cond (is_held_by s new) 1 0 = held-changed s b.nodes n new lt in
+    let few : held_by s b.nodes ≤ 1 = is.apart s in
+    omega (arith, one, no, all, few)
+
+module _ (v w : Knows) (before : List Event) (stays : Stays v w) (leaf : ℕ) where
+  pub holds-taken : IsCall v w before (event.Take v.number leaf ∷ []) → Holds w leaf
+  holds-taken call =
+      let b : Board = replay (task_of v) before in
+      let open_leaf : status_of b.nodes leaf ≡ status.Open = (guard-was v w before stays (event.Take v.number leaf) call).0 in
+      ap (λ (c : Board). status_of c.nodes leaf) (board-now v w before stays (event.Take v.number leaf) call)
+      ∙ status-set b.nodes leaf (status.Held v.number) (leaf-within b.nodes leaf (ap is_leaf open_leaf))
+      ∙ ap status.Held (sym stays.number)
+
+  pub passes-taken : IsCall v w before (event.Take v.number leaf ∷ []) → Passes v w
+  passes-taken call = passes-now v w before stays (event.Take v.number leaf) call refl
+
+  pub free-released : IsRun (task_of v) → IsCall v w before (event.Release v.number leaf ∷ []) → IsFree w
+  free-released run call =
+      let b : Board = replay (task_of v) before in
+      ap (λ n. held_by n (seen_board w).nodes) stays.number
+      ∙ ap (λ (c : Board). held_by v.number c.nodes) (board-now v w before stays (event.Release v.number leaf) call)
+      ∙ given-up v.number b leaf status.Open (board-then v w before stays (event.Release v.number leaf) call run) (guard-was v w before stays (event.Release v.number leaf) call) refl
+
+  pub passes-released : IsCall v w before (event.Release v.number leaf ∷ []) → Passes v w
+  passes-released call = passes-now v w before stays (event.Release v.number leaf) call refl
+
+  module _ (nogood : List Literal) (call : IsCall v w before (event.Close v.number leaf nogood ∷ [])) where
+    pub free-closed : IsRun (task_of v) → IsFree w
+    free-closed run =
+        let b : Board = replay (task_of v) before in
+        ap (λ n. held_by n (seen_board w).nodes) stays.number
+        ∙ ap (λ (c : Board). held_by v.number c.nodes) (board-now v w before stays (event.Close v.number leaf nogood) call)
+        ∙ given-up v.number b leaf status.Closed (board-then v w before stays (event.Close v.number leaf nogood) call run) (guard-was v w before stays (event.Close v.number leaf nogood) call).0 refl
+
+    pub passes-closed : Passes v w
+    passes-closed = passes-now v w before stays (event.Close v.number leaf nogood) call refl
+
+  -- the leaf is split: the first half is held as the leaf was
+  module _ (l : Literal) (call : IsCall v w before (event.Split v.number leaf l ∷ [])) where
+    first-half : (nodes : List Node) → slice_index_or (split nodes leaf l) (length nodes) nowhere ≡ record { cube = cube_of nodes leaf ++ l ∷ []; status = status_of nodes leaf }
+    first-half nodes =
+        let ws : List Node = with_status nodes leaf status.Forked in
+        let len : length ws ≡ length nodes = length-set nodes leaf (record { cube = cube_of nodes leaf; status = status.Forked }) in
+        let at : length nodes ≡ length ws + 0 = omega (arith, len) in
+        ap (λ n. slice_index_or (split nodes leaf l) n nowhere) at
+        ∙ get_or-append-add ws (record { cube = cube_of nodes leaf ++ l ∷ []; status = status_of nodes leaf } ∷ record { cube = cube_of nodes leaf ++ complement l ∷ []; status = status.Open } ∷ []) 0 nowhere
+
+    pub passes-split : Passes v w
+    passes-split = passes-now v w before stays (event.Split v.number leaf l) call refl
+
+    pub half-held : Holds w (length (replay (task_of v) before).nodes)
+    half-held =
+        let b : Board = replay (task_of v) before in
+        ap (λ (c : Board). status_of c.nodes (length b.nodes)) (board-now v w before stays (event.Split v.number leaf l) call)
+        ∙ ap (λ (x : Node). x.status) (first-half b.nodes)
+        ∙ (guard-was v w before stays (event.Split v.number leaf l) call).0
+        ∙ ap status.Held (sym stays.number)
+
+    pub half-cube : Holds v leaf → cube_of (seen_board w).nodes (length (replay (task_of v) before).nodes) ≡ cube_of (seen_board v).nodes leaf ++ l ∷ []
+    half-cube held =
+        let b : Board = replay (task_of v) before in
+        ap (λ (c : Board). cube_of c.nodes (length b.nodes)) (board-now v w before stays (event.Split v.number leaf l) call)
+        ∙ ap (λ (x : Node). x.cube) (first-half b.nodes)
+        ∙ ap (λ (x : Node). x.cube ++ l ∷ []) (call.spared.leaves leaf held)
+
+-- ---- a look, and then a call that added nothing
+none-append : (n : ℕ) (xs ys : List Event) → NoneBy signed n xs → NoneBy signed n ys → NoneBy signed n (xs ++ ys)
+none-append n [] ys h k = k
+none-append n (e ∷ xs) ys h k = (h.0, none-append n xs ys h.1 k)
+
+others-are : (n : ℕ) (events : List Event) → NoneBy signed n events → AllByRecursion (λ e. maker e ≡ n → ⊥) events
+others-are n [] h = tt
+others-are n (e ∷ events) h = (λ same. absurd (false≢true (sym h.0 ∙ eq-eqb (maker e) n same)), others-are n events h.1)
+
+pub looks-self : (v : Knows) → Looks v v
+looks-self v = record { holds = refl; about = refl; number = refl; splits = refl; joins = refl; guests = refl; own = refl; seen = prefix_self v.seen; others = subst (NoneBy signed v.number) (sym (drop-all v.seen)) tt }
+  where
+    drop-all : (xs : List Event) → drop (length xs) xs ≡ []
+    drop-all xs = ap (drop (length xs)) (sym (append-nil xs)) ∙ drop_prefix xs []
+
+-- what was added since, of two lists of which the first begins the second
+since-is : (n : ℕ) (xs ys : List Event) (p : IsPrefix xs ys) → NoneBy signed n (drop (length xs) ys) → NoneBy signed n p.0
+since-is n xs ys p h = subst (NoneBy signed n) (ap (drop (length xs)) (sym p.1) ∙ drop_prefix xs p.0) h
+
+since-both : (n : ℕ) (xs ys zs : List Event) (p : IsPrefix xs ys) (q : IsPrefix ys zs) → NoneBy signed n p.0 → NoneBy signed n q.0 → NoneBy signed n (drop (length xs) zs)
+since-both n xs ys zs p q h k =
+    subst (λ (l : List Event). NoneBy signed n (drop (length xs) l)) (sym (append_assoc xs p.0 q.0) ∙ ap (λ (l : List Event). l ++ q.0) p.1 ∙ q.1)
+    (subst (NoneBy signed n) (sym (drop_prefix xs (p.0 ++ q.0))) (none-append n p.0 q.0 h k))
+
+pub looks-trans : (u v w : Knows) → Looks u v → Looks v w → Looks u w
+looks-trans u v w k l = record {
+  holds = l.holds ∙ k.holds;
+  about = l.about ∙ k.about;
+  number = l.number ∙ k.number;
+  splits = l.splits ∙ k.splits;
+  joins = l.joins ∙ k.joins;
+  guests = l.guests ∙ k.guests;
+  own = l.own ∙ k.own;
+  seen = prefix_trans u.seen v.seen w.seen k.seen l.seen;
+  others = since-both u.number u.seen v.seen w.seen k.seen l.seen (since-is u.number u.seen v.seen k.seen k.others)
+      (subst (λ n. NoneBy signed n l.seen.0) k.number (since-is v.number v.seen w.seen l.seen l.others));
+}
+
+pub idles-looked : (u v w : Knows) (before : List Event) → IsSettled u → Looks u v → Stays v w → IsCall v w before [] → Idles u w
+idles-looked u v w before s look stays call =
+    let task : task_of v ≡ task_of u = ap (λ (o : Option Task). unwrap_or o no_task) look.about in
+    let task' : task_of w ≡ task_of u = task-stays v w stays ∙ task in
+    let seen : w.seen ≡ before = call.moment.seen ∙ append-nil before in
+    let more : IsPrefix u.seen before = prefix_trans u.seen v.seen before look.seen call.moment.more in
+    let others : NoneBy signed u.number more.0 = since-is u.number u.seen before more
+    (since-both u.number u.seen v.seen before look.seen call.moment.more (since-is u.number u.seen v.seen look.seen look.others)
+    (subst (λ n. NoneBy signed n call.moment.more.0) look.number (since-is v.number v.seen before call.moment.more call.moment.others))) in
+    let lawful : IsJournalOf (task_of u) (u.seen ++ more.0) =
+    subst (IsJournalOf (task_of u)) (sym more.1) (subst (λ (t : Task). IsJournalOf t before) task (subst (IsJournalOf (task_of v)) (append-nil before) call.moment.keeps)) in
+    let since : IsLawful (seen_board u) more.0 = lawful-rest (start (task_of u)) u.seen more.0 lawful in
+    let now : seen_board w ≡ run (seen_board u) more.0 =
+    ap (λ (t : Task). replay t w.seen) task' ∙ ap (replay (task_of u)) (seen ∙ sym more.1) ∙ run-append (start (task_of u)) u.seen more.0 in
+    record {
+      stays = record {
+        rests = stays.rests;
+        about = stays.about ∙ look.about;
+        number = stays.number ∙ look.number;
+        splits = stays.splits ∙ look.splits;
+        joins = stays.joins ∙ look.joins;
+        guests = stays.guests ∙ look.guests;
+        seen = prefix_trans u.seen v.seen w.seen look.seen stays.seen;
+      };
+      lawful = lawful-after v w before [] stays call;
+      grows = subst (Grows (seen_board u)) (sym now) (Grows-run (seen_board u) more.0 since);
+      spares = subst (Spares u.number (seen_board u)) (sym now) (Spares-run (seen_board u) more.0 u.number since (others-are u.number more.0 others));
+    }
+
+-- no leaf was open, and then a call added nothing
+none-back : (n : ℕ) (events : List Event) → NoneBy signed n events → AllByRecursion (λ e. eqb (maker e) n ≡ true → IsBack e) events
+none-back n [] h = tt
+none-back n (e ∷ events) h = (λ same. absurd (false≢true (sym h.0 ∙ same)), none-back n events h.1)
+
+pub quiet-call : (v w : Knows) (before : List Event) → Stays v w → IsCall v w before [] → open_from 0 (seen_board v).nodes ≡ [] → IsQuietIf w None
+quiet-call v w before stays call none = record {
+  before = v.seen;
+  after = call.moment.more.0;
+  is = call.moment.seen ∙ append-nil before ∙ sym call.moment.more.1;
+  none = ap (λ (t : Task). open_from 0 (replay t v.seen).nodes) (task-stays v w stays) ∙ none;
+  since = subst (λ n. AllByRecursion (λ e. eqb (maker e) n ≡ true → IsBack e) call.moment.more.0) (sym stays.number)
+      (none-back v.number call.moment.more.0 (since-is v.number v.seen before call.moment.more call.moment.others));
+}
+
+-- ---- the worker
+pub keeps-self : (c : Shared) (h : Worker) → IsReady c h → Keeps h h
+keeps-self c h r = record { book = refl; log = refl; seat = stays-self (view h.seat) r.settled.seated.rests; pages = stays-self (view h.pages) r.pages.rests }
+
+pub keeps-trans : (h k l : Worker) → Keeps h k → Keeps k l → Keeps h l
+keeps-trans h k l p q = record {
+  book = q.book ∙ p.book;
+  log = q.log ∙ p.log;
+  seat = stays-trans (view h.seat) (view k.seat) (view l.seat) p.seat q.seat;
+  pages = stays-trans (view h.pages) (view k.pages) (view l.pages) p.pages q.pages;
+}
+
+pub paged-on : (p : Program) (v w : Reads) → IsPaged p v → Stays v w → IsPaged p w
+paged-on p v w g stays = record { scope = g.scope; about = stays.about ∙ g.about; program = g.program; rests = stays.rests }
+
+-- the worker is ready still, with another seat at the book
+pub ready-seat : (c : Shared) (h k : Worker) → IsReady c h → Keeps h k → IsOfPool c.pool k.pass → IsJournalOf (task_of (view k.seat)) (view k.seat).seen → IsReady c k
+ready-seat c h k r s pool lawful = record {
+  book = s.book ∙ r.book;
+  log = s.log ∙ r.log;
+  pool = pool;
+  settled = settled-on (view h.seat) (view k.seat) r.settled s.seat lawful;
+  pages = subst (λ (p : Program). IsPaged p (view k.pages)) (ap (λ (t : Task). t.program) (sym (task-stays (view h.seat) (view k.seat) s.seat)))
+      (paged-on (task_of (view h.seat)).program (view h.pages) (view k.pages) r.pages s.pages);
+}
+
+-- ---- what a number that looked for a path has
+pub takes-some : (v : Knows) (o : Option ℕ) (leaf : ℕ) → Takes v (Ok o) → o ≡ Some leaf → Holds v leaf
+takes-some v o leaf h e = subst (λ (x : Option ℕ). Takes v (Ok x)) e h
+
+pub takes-none : (v : Knows) (o : Option ℕ) → Takes v (Ok o) → o ≡ None → IsFree v
+takes-none v o h e = subst (λ (x : Option ℕ). Takes v (Ok x)) e h
+
+module _ (v w : Knows) (stays : Stays v w) where
+  pub none-idles : (call : (before : List Event) × IsCall v w before []) → Idles v w
+  none-idles call = idles-call v w call.0 stays call.1
+
+  pub none-free : IsFree v → (call : (before : List Event) × IsCall v w before []) → IsFree w
+  none-free free call = free-idles v w free (none-idles call)
+
+  module _ (before : List Event) (leaf : ℕ) where
+    pub this-passes : (r : Bool) → IsCall v w before (taken_this v.number leaf r) → Passes v w
+    this-passes true call = passes-taken v w before stays leaf call
+    this-passes false call = idles-passes v w (idles-call v w before stays call)
+
+    pub this-holds : (r : Bool) → r ≡ true → IsCall v w before (taken_this v.number leaf r) → Holds w leaf
+    this-holds true e call = holds-taken v w before stays leaf call
+    this-holds false e call = absurd (false≢true e)
+
+    pub this-free : (r : Bool) → r ≡ false → IsFree v → IsCall v w before (taken_this v.number leaf r) → IsFree w
+    this-free true e free call = absurd (false≢true (sym e))
+    this-free false e free call = free-idles v w free (idles-call v w before stays call)
+
+  by-reply : IsFree v → (before : List Event) (r : Option ℕ) → IsCall v w before (taken v.number r) → Passes v w × Takes w (Ok r)
+  by-reply free before (Some leaf) call = (passes-taken v w before stays leaf call, holds-taken v w before stays leaf call)
+  by-reply free before None call = (idles-passes v w (idles-call v w before stays call), free-idles v w free (idles-call v w before stays call))
+
+  -- the open leaf of least number
+  pub first-taken : IsFree v → (P : List Event → Option ℕ → Type 0) (r : Result (Option ℕ) AllocError) → IfOk r (λ (o : Option ℕ). (before : List Event) × P before o × IsCall v w before (taken v.number o)) → OnErr r ((before : List Event) × IsCall v w before []) →
+      Passes v w × Takes w r
+  first-taken free P (Ok o) ok err = by-reply free ok.0 o ok.2
+  first-taken free P (Err e) ok err = (idles-passes v w (none-idles err), none-free free err)
+
+-- ---- a path is divided
+module _ (v w : Knows) (stays : Stays v w) (leaf : ℕ) (l : Literal) (held : Holds v leaf) where
+  pub divided-passes : (before : List Event) (r : Option (ℕ × ℕ)) → IsCall v w before (divided v.number leaf l r) → Passes v w
+  divided-passes before None call = idles-passes v w (idles-call v w before stays call)
+  divided-passes before (Some leaves) call = passes-split v w before stays leaf l call
+
+  pub divided-none : (before : List Event) (r : Option (ℕ × ℕ)) → r ≡ None → IsCall v w before (divided v.number leaf l r) → slice_index_or (seen_board w).nodes leaf nowhere ≡ slice_index_or (seen_board v).nodes leaf nowhere
+  divided-none before r e call =
+      node-idles v w leaf held (idles-call v w before stays (subst (λ (x : Option (ℕ × ℕ)). IsCall v w before (divided v.number leaf l x)) e call))
+
+  pub divided-some : (before : List Event) (r : Option (ℕ × ℕ)) (half other : ℕ) → r ≡ Some (half, other) → IfSome r (λ (x : ℕ × ℕ). x ≡ (length (replay (task_of v) before).nodes, length (replay (task_of v) before).nodes + 1)) → IsCall v w before (divided v.number leaf l r) →
+      Holds w half × (cube_of (seen_board w).nodes half ≡ cube_of (seen_board v).nodes leaf ++ l ∷ [])
+  divided-some before r half other e at call =
+      let n : ℕ = length (replay (task_of v) before).nodes in
+      let both : (half, other) ≡ (n, n + 1) = subst (λ (x : Option (ℕ × ℕ)). IfSome x (λ (y : ℕ × ℕ). y ≡ (n, n + 1))) e at in
+      let is : half ≡ n = ap (λ (y : ℕ × ℕ). y.0) both in
+      let call' : IsCall v w before (event.Split v.number leaf l ∷ []) = subst (λ (x : Option (ℕ × ℕ)). IsCall v w before (divided v.number leaf l x)) e call in (
+        ap (λ k. status_of (seen_board w).nodes k) is ∙ half-held v w before stays leaf l call',
+        ap (λ k. cube_of (seen_board w).nodes k) is ∙ half-cube v w before stays leaf l call' held,
+      )
+
+pub takes-not : (v : Knows) (o : Option ℕ) → Takes v (Ok o) → is_some o ≡ false → IsFree v
+takes-not v None h e = h
+takes-not v (Some leaf) h e = absurd (false≢true (sym e))
+
+-- a look at the journal
+pub looked : (v w : Knows) → w ≡ seeing w.seen v → Learnt signed v w.seen → Looks v w
+looked v w is learnt = record {
+  holds = ap (λ (x : Knows). x.holds) is;
+  about = ap (λ (x : Knows). x.about) is;
+  number = ap (λ (x : Knows). x.number) is;
+  splits = ap (λ (x : Knows). x.splits) is;
+  joins = ap (λ (x : Knows). x.joins) is;
+  guests = ap (λ (x : Knows). x.guests) is;
+  own = ap (λ (x : Knows). x.own) is;
+  seen = learnt.continues;
+  others = learnt.others;
+}
+
+-- ---- a path is closed, or was not for want of memory
+module _ (v w : Knows) (stays : Stays v w) (leaf : ℕ) (nogood : List Literal) (run : IsRun (task_of v)) (held : Holds v leaf) where
+  pub closed-by : {A : Type 0} (r : Result A AllocError) → OnOk r ((before : List Event) × IsCall v w before (event.Close v.number leaf nogood ∷ [])) → OnErr r ((before : List Event) × IsCall v w before []) →
+      Passes v w × OnOk r (IsFree w) × OnErr r (Holds w leaf)
+  closed-by (Ok x) ok err = (passes-closed v w ok.0 stays leaf nogood ok.1, free-closed v w ok.0 stays leaf nogood ok.1 run, tt)
+  closed-by (Err e) ok err = (idles-passes v w (none-idles v w stays err), tt, holds-idles v w leaf held (none-idles v w stays err))
+
+-- ---- what a path's literals are
+pub cube-vars : (v : Knows) (leaf : ℕ) → IsSettled v → Holds v leaf → All (λ (l : Literal). IsVar (var_count (task_of v).program) l.var) (cube_of (seen_board v).nodes leaf)
+cube-vars v leaf s held =
+    let b : Board = seen_board v in
+    subst (λ (t : Task). All (λ (l : Literal). IsVar (var_count t.program) l.var) (cube_of (seen_board v).nodes leaf)) (board-task v)
+    (cube-at b.task b.nodes leaf (leaf-within b.nodes leaf (ap is_leaf held)) (settled-board v s).cubes).variables
+
+-- ---- the same worker with another seat at the book
+pub keeps-seat : (c : Shared) (h k : Worker) → IsReady c h → IsBeside h.seat k.seat → Stays (view h.seat) (view k.seat) → IsBeside h.pages k.pages → view k.pages ≡ view h.pages → Keeps h k
+keeps-seat c h k r book stays log same = record {
+  book = book;
+  log = log;
+  seat = stays;
+  pages = subst (λ (x : Reads). Stays (view h.pages) x) (sym same) (stays-self (view h.pages) r.pages.rests);
+}
+
+pub keeps-pages : (c : Shared) (h k : Worker) → IsReady c h → IsBeside h.pages k.pages → Stays (view h.pages) (view k.pages) → IsBeside h.seat k.seat → view k.seat ≡ view h.seat → Keeps h k
+keeps-pages c h k r log stays book same = record {
+  book = book;
+  log = log;
+  seat = subst (λ (x : Knows). Stays (view h.seat) x) (sym same) (stays-self (view h.seat) r.settled.seated.rests);
+  pages = stays;
+}
+
+-- ---- after want of memory
+pub takes-err : (v : Knows) (r : Result (Option ℕ) AllocError) → IsErr r → IsFree v → Takes v r
+takes-err v (Ok o) e free = absurd (false≢true e)
+takes-err v (Err x) e free = free
+
+pub half-err : (v w : Knows) (leaf : ℕ) (l : Literal) (r : Result (Option ℕ) AllocError) → IsErr r → Holds w leaf → HoldsHalf v w leaf l r
+half-err v w leaf l (Ok o) e held = absurd (false≢true e)
+half-err v w leaf l (Err x) e held = held
+
+-- what was held still is, or the half of it
+pub half-some : (v w : Knows) (leaf : ℕ) (l : Literal) (o : Option ℕ) (half : ℕ) → HoldsHalf v w leaf l (Ok o) → o ≡ Some half → Holds w half
+half-some v w leaf l o half h e = (subst (λ (x : Option ℕ). HoldsHalf v w leaf l (Ok x)) e h).0
+
+pub half-none : (v w : Knows) (leaf : ℕ) (l : Literal) (o : Option ℕ) → HoldsHalf v w leaf l (Ok o) → o ≡ None → slice_index_or (seen_board w).nodes leaf nowhere ≡ slice_index_or (seen_board v).nodes leaf nowhere
+half-none v w leaf l o h e = subst (λ (x : Option ℕ). HoldsHalf v w leaf l (Ok x)) e h

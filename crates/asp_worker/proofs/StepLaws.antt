@@ -1,0 +1,100 @@
+-- A worker's search after a step on its path, by the step's answer.
+use Rattle.std.proofs.Common.{◌≡◌, ◌⊎◌, ℕ, ◌+◌, ◌-◌, ◌<◌, ◌≤◌, Bool, true, false, List, [], ◌∷◌, ◌++◌, Option, Some, None, refl, sym, ap, ◌∙◌, subst, inl, inr, arith}
+use Rattle.std.specs.Prelude.{ℤ, IsTrue}
+use Rattle.std.specs.List.{list_any}
+use Rattle.asp_model.specs.declared.program.Program.{Program}
+use Rattle.asp_model.specs.declared.results.Mode.{Mode}
+use Rattle.asp_model.specs.declared.results.Mode.TheVariants.{Enum, Opt}
+use Rattle.asp_model.specs.Sets.{Atoms, same_set}
+use Rattle.asp_model.specs.Models.{is_stable}
+use Rattle.asp_model.specs.Costs.{cost}
+use Rattle.asp_vars.specs.Entailment.{Settled}
+use Rattle.asp_vars.specs.Literals.{Literal, hits}
+use Rattle.asp_vars.specs.Numbering.{values}
+use Rattle.asp_vars.specs.Paid.{Units, Clash}
+use Rattle.asp_vars.specs.declared.nogood.Nogood.{Nogood}
+use Rattle.asp_path.specs.Trees.{cube_of}
+use Rattle.asp_core.specs.Boards.{Board}
+use Rattle.asp_book.specs.Calls.{Knows, task_of, seen_board}
+use Rattle.asp_search_laws.specs.Searching.{Searching}
+use Rattle.asp_search_laws.specs.Steps.{HasSameTask, Burns, Fails, IsStep, IsFailure, Steps, Answers}
+use Rattle.asp_search_laws.specs.declared.step.Step.{Step}
+use Rattle.asp_search_laws.specs.declared.step.Step.TheVariants as step
+use Rattle.asp_crew_laws.specs.Working.{IsAtWork, Works}
+use Rattle.asp_crew_laws.proofs.WorkLaws.{work-burnt}
+use Rattle.asp_worker.specs.Seats.{Owes}
+use Rattle.asp_worker.specs.Working.{GoesOn, IsOn, IsOff, Finds}
+use Rattle.asp_worker.proofs.GoingLaws.{goes-same}
+
+module _ (m : Mode) (v : Knows) (s t : Searching) (f : Units) (leaf : ℕ) (on : IsOn m v s f leaf) where
+  -- the same task, and the same units
+  pub on-same : HasSameTask s t → IsOn m v t f leaf
+  on-same same = record {
+    going = goes-same m v s t f same.program same.mode same.known same.bound on.going;
+    works = record { held = on.works.held; entered = same.cube ∙ on.works.entered };
+  }
+
+  -- a unit was burnt
+  pub goes-burnt : (q : List Literal) (g : Units) → Burns s q f g → GoesOn m v s g
+  goes-burnt q g b = subst (λ (u : Units). GoesOn m v s u) (sym b.paid) (record {
+    program = on.going.program;
+    mode_is = on.going.mode_is;
+    work = work-burnt (seen_board v) v.number m s.known s.bound f b.clash on.going.work b.left b.conflict.known b.conflict.bound;
+  })
+
+  pub on-burnt : (q : List Literal) (g : Units) → HasSameTask s t → Burns s q f g → IsOn m v t g leaf
+  on-burnt q g same b = record {
+    going = goes-same m v s t g same.program same.mode same.known same.bound (goes-burnt q g b);
+    works = record { held = on.works.held; entered = same.cube ∙ on.works.entered };
+  }
+
+  module _ (gives : Nogood → Type 0) (silent : List (Option Bool) → Type 0) (g : Units) (r : Step) (h : IsStep gives silent s t f g r) where
+    at : (x : Step) → r ≡ x → Steps gives silent s t (cube_of (seen_board v).nodes leaf) f g x
+    at x e = subst (λ (y : Step). Steps gives silent s t (cube_of (seen_board v).nodes leaf) f g y) e (h (cube_of (seen_board v).nodes leaf) on.works.entered)
+
+    pub on-decided : r ≡ step.Decided → IsOn m v t g leaf
+    on-decided e = let d = at step.Decided e in subst (λ (u : Units). IsOn m v t u leaf) (sym d.fuel) (on-same d.same)
+
+    pub on-restarted : r ≡ step.Restarted → IsOn m v t g leaf
+    on-restarted e = let d = at step.Restarted e in subst (λ (u : Units). IsOn m v t u leaf) (sym d.fuel) (on-same d.same)
+
+    pub on-learnt : r ≡ step.Learnt → IsOn m v t g leaf
+    on-learnt e = let d = at step.Learnt e in on-burnt (cube_of (seen_board v).nodes leaf) g d.same d.burns
+
+    pub on-stopped : (x : Clash) → r ≡ step.NoFuel x → IsOn m v t g leaf
+    on-stopped x e = let d = at (step.NoFuel x) e in subst (λ (u : Units). IsOn m v t u leaf) (sym d.fuel) (on-same d.same)
+
+    pub none-left : (x : Clash) → r ≡ step.NoFuel x → g.left ≡ 0
+    none-left x e = let d = at (step.NoFuel x) e in ap (λ (u : Units). u.left) d.fuel ∙ d.none
+
+    pub on-closed : r ≡ step.Closed → IsOn m v t g leaf
+    on-closed e = let d = at step.Closed e in subst (λ (u : Units). IsOn m v t u leaf) (sym d.fuel) (on-same d.same)
+
+    pub settled-closed : r ≡ step.Closed → Settled t.program t.known t.bound (cube_of (seen_board v).nodes leaf)
+    settled-closed e =
+        let d = at step.Closed e in
+        subst (λ (p : Program). Settled p t.known t.bound (cube_of (seen_board v).nodes leaf)) (sym d.same.program)
+        (subst (λ (k : List Atoms). Settled s.program k t.bound (cube_of (seen_board v).nodes leaf)) (sym d.same.known)
+        (subst (λ (b : Option (List ℤ)). Settled s.program s.known b (cube_of (seen_board v).nodes leaf)) (sym d.same.bound) d.settled))
+
+    pub finds-answer : (S : Atoms) → r ≡ step.Answer S → Finds m v s t g leaf S
+    finds-answer S e =
+        let d = at (step.Answer S) e in
+        record {
+          on = subst (λ (u : Units). IsOn m v s u leaf) (sym d.fuel) on;
+          program = d.program;
+          mode_is = d.mode;
+          cube = d.cube;
+          stable = d.stable;
+          hit = d.hit;
+          new = d.new;
+          records = d.records;
+        }
+
+  -- ---- memory was wanting
+  pub off-failed : (gives : Nogood → Type 0) (g : Units) → IsFailure gives s t f g → IsOff v g leaf
+  off-failed gives g h = here (h (cube_of (seen_board v).nodes leaf) on.works.entered).fuel
+    where
+      here : (g ≡ f) ⊎ Burns s (cube_of (seen_board v).nodes leaf) f g → IsOff v g leaf
+      here (inl e) = subst (λ (u : Units). IsOff v u leaf) (sym e) (record { held = on.works.held; units = on.going.work.units })
+      here (inr b) = record { held = on.works.held; units = (goes-burnt (cube_of (seen_board v).nodes leaf) g b).work.units }

@@ -1,0 +1,60 @@
+use Rattle.std.proofs.Common.{◌≡◌, ℕ, drop, refl, sym, ap, ◌∙◌, subst}
+use Rattle.asp_vars.specs.Paid.{Units}
+use Rattle.asp_vault.specs.Seats.{view}
+use Rattle.asp_core.specs.declared.task.Task.{Task}
+use Rattle.asp_book.specs.Calls.{Knows}
+use Rattle.asp_book.proofs.CallLaws.{task-stays}
+use Rattle.asp_search_laws.specs.Searching.{Searching}
+use Rattle.asp_worker.specs.declared.worker.Worker.{Worker}
+use Rattle.asp_worker.specs.Seats.{IsReady, Keeps, Owes}
+use Rattle.asp_worker.specs.Working.{IsOn, IsOff}
+use Rattle.asp_worker.proofs.Replies.{on-ok, on-err, always-err}
+use Rattle.asp_worker.proofs.SeatLaws.{keeps-seat, keeps-trans, ready-seat, idles-trans, holds-idles, idles-passes}
+use Rattle.asp_worker.proofs.GoingLaws.{owes-on}
+use Rattle.asp_worker.proofs.SharingLaws.{begun-on}
+use Rattle.asp_worker.proofs.share.begin.Goals as goal
+
+pub refresh-requires-clause-ready : goal.refresh-requires-clause-ready
+refresh-requires-clause-ready g c =
+    let h : Worker = c.args.worker.now in let k : Worker = record h { seat = c.enter.new.seat } in
+    ready-seat c.args.shared.now h k c.requires.ready (keeps-seat c.args.shared.now h k c.requires.ready c.enter.ensures.of c.enter.ensures.idles.stays refl refl) c.requires.ready.pool c.enter.ensures.idles.lawful
+
+pub refresh-requires-clause-program : goal.refresh-requires-clause-program
+refresh-requires-clause-program g c =
+    ap (λ (x : Searching). x.program) c.in_ok-enter.ensures.ok.same ∙ c.requires.going.program ∙ ap (λ (t : Task). t.program) (sym (task-stays (view c.args.worker.now.seat) (view c.enter.new.seat) c.enter.ensures.idles.stays))
+
+pub returns-in_err-enter-clause-keeps : goal.returns-in_err-enter-clause-keeps
+returns-in_err-enter-clause-keeps g c =
+    let h : Worker = c.args.worker.now in let k : Worker = record h { seat = c.enter.new.seat } in
+    keeps-seat c.args.shared.now h k c.requires.ready c.enter.ensures.of c.enter.ensures.idles.stays refl refl
+
+pub returns-in_err-enter-clause-ready : goal.returns-in_err-enter-clause-ready
+returns-in_err-enter-clause-ready g c =
+    let h : Worker = c.args.worker.now in let k : Worker = record h { seat = c.enter.new.seat } in
+    ready-seat c.args.shared.now h k c.requires.ready (keeps-seat c.args.shared.now h k c.requires.ready c.enter.ensures.of c.enter.ensures.idles.stays refl refl) c.requires.ready.pool c.enter.ensures.idles.lawful
+
+pub returns-in_err-enter-clause-err : goal.returns-in_err-enter-clause-err
+returns-in_err-enter-clause-err g c =
+    let v : Knows = view c.args.worker.now.seat in let x : Knows = view c.enter.new.seat in
+    always-err c.from_residual.result (IsOff x c.args.engine.now.fuel c.args.leaf)
+    (record { held = holds-idles v x c.args.leaf c.requires.held c.enter.ensures.idles; units = owes-on v x c.args.engine.now.fuel c.requires.going.work.units (idles-passes v x c.enter.ensures.idles) })
+
+pub returns-clause-keeps : goal.returns-clause-keeps
+returns-clause-keeps g c =
+    let h : Worker = c.args.worker.now in let k : Worker = record h { seat = c.enter.new.seat } in
+    keeps-trans h k c.refresh.new.worker (keeps-seat c.args.shared.now h k c.requires.ready c.enter.ensures.of c.enter.ensures.idles.stays refl refl) c.refresh.ensures.keeps
+
+pub returns-clause-idles : goal.returns-clause-idles
+returns-clause-idles g c = idles-trans (view c.args.worker.now.seat) (view c.enter.new.seat) (view c.refresh.new.worker.seat) c.enter.ensures.idles c.refresh.ensures.idles
+
+pub returns-clause-ok : goal.returns-clause-ok
+returns-clause-ok g c =
+    on-ok c.refresh.result (λ e. subst (λ (u : Units). IsOn c.args.shared.now.mode (view c.refresh.new.worker.seat) c.refresh.new.engine.search u c.args.leaf) (sym c.refresh.ensures.fuel)
+    (begun-on c.args.shared.now.mode (view c.args.worker.now.seat) (view c.enter.new.seat) (view c.refresh.new.worker.seat) c.args.engine.now.search c.enter.new.search c.refresh.new.engine.search c.args.engine.now.fuel c.args.leaf (drop c.args.engine.now.read (view c.refresh.new.worker.pages).seen)
+    c.requires.going c.requires.held c.enter.ensures.idles c.in_ok-enter.ensures.ok c.refresh.ensures.idles e)) c.refresh.ensures.ok
+
+pub returns-clause-err : goal.returns-clause-err
+returns-clause-err g c =
+    let v : Knows = view c.args.worker.now.seat in let w : Knows = view c.refresh.new.worker.seat in
+    let i = idles-trans v (view c.enter.new.seat) w c.enter.ensures.idles c.refresh.ensures.idles in
+    on-err c.refresh.result (λ _. subst (λ (u : Units). IsOff w u c.args.leaf) (sym c.refresh.ensures.fuel) (record { held = holds-idles v w c.args.leaf c.requires.held i; units = owes-on v w c.args.engine.now.fuel c.requires.going.work.units (idles-passes v w i) })) c.refresh.ensures.err

@@ -1,0 +1,14 @@
+use Rattle.std.proofs.Common.{◌≤◌, length}
+use Rattle.asp_vault.specs.Seats.{view}
+use Rattle.asp_worker.specs.Seats.{IsReady, Keeps, IsFree}
+use Rattle.asp_worker.specs.Working.{GoesOn}
+use Rattle.asp_worker.proofs.work.search_paths.Given as goal
+
+abbrev pub invariant-paths : goal.invariant-paths
+invariant-paths g l = record {
+  keeps : Keeps l.initial.worker l.worker;
+  ready : IsReady l.shared l.worker;
+  free : IsFree (view l.worker.seat);
+  going : GoesOn l.shared.mode (view l.worker.seat) l.engine.search l.engine.fuel;
+  read : l.engine.read ≤ length (view l.worker.pages).seen;
+}

@@ -1,0 +1,50 @@
+-- What a search takes over from the others.
+use Rattle.std.specs.Prelude.{◌≡◌, Bool, true, if◌then◌else◌, List, [], ◌∷◌, Option, None, Some, ℤ, MatchBool, option_map}
+use Rattle.asp_model.specs.declared.results.Mode.{Mode}
+use Rattle.asp_model.specs.declared.results.Mode.TheVariants as mode
+use Rattle.asp_model.specs.Costs.{betters, cost}
+use Rattle.asp_vars.specs.declared.nogood.Nogood.{Nogood}
+use Rattle.asp_core.specs.Boards.{Board}
+use Rattle.asp_search.specs.Beside.{Imports}
+use Rattle.asp_search_laws.specs.Searching.{Searching}
+use Rattle.asp_search_laws.specs.Steps.{is_of_use}
+
+-- Whether the cost is smaller than the bound, if one stands.
+abbrev pub is_smaller : List ℤ → Option (List ℤ) → Bool
+is_smaller c None = true
+is_smaller c (Some d) = betters c d
+
+-- the search with the cost as its bound, where that is smaller
+abbrev pub lowered : Searching → List ℤ → Searching
+lowered s c = if is_smaller c s.bound then record s { bound = Some c } else s
+
+abbrev pub lowered_by : Option (List ℤ) → Searching → Searching
+lowered_by None s = s
+lowered_by (Some c) s = lowered s c
+
+-- In an optimisation the cost of the best is taken over.
+abbrev pub with_best : Mode → Board → Searching → Searching
+with_best mode.Enum b s = s
+with_best mode.Opt b s = lowered_by (option_map (cost b.task.program) b.best) s
+
+-- The nogood was imported, where it counts for the search.
+abbrev pub ImportsIf : Searching → Searching → Nogood → Type 0
+ImportsIf s t n = MatchBool (is_of_use s.mode s.bound n.base) (Imports s t n) (t ≡ s)
+
+-- One after another, those of the nogoods that count were imported.
+abbrev pub ImportsAll : List Nogood → Searching → Searching → Type 0
+ImportsAll [] s t = t ≡ s
+ImportsAll (n ∷ nogoods) s t = (r : Searching) × ImportsIf s r n × ImportsAll nogoods r t
+
+-- The nogoods that count and the best cost were taken over.
+pub record TakesOver (m : Mode) (b : Board) (nogoods : List Nogood) (s t : Searching) : Type 0 where
+  pub between : Searching
+  pub imported : ImportsAll nogoods s between
+  pub best : t ≡ with_best m b between
+
+-- After want of memory the search may be on no path, but knows what it knew.
+pub record Remembers (s t : Searching) : Type 0 where
+  pub program : t.program ≡ s.program
+  pub mode_is : t.mode ≡ s.mode
+  pub known : t.known ≡ s.known
+  pub bound : t.bound ≡ s.bound

@@ -1,0 +1,65 @@
+-- A worker between two calls: its search and its units beside the board that its seat has seen.
+use Rattle.std.specs.Prelude.{◌≡◌, ℕ, false, List, Some, IsTrue}
+use Rattle.std.specs.List.{list_any}
+use Rattle.asp_model.specs.declared.results.Mode.{Mode}
+use Rattle.asp_model.specs.Models.{is_stable}
+use Rattle.asp_model.specs.Sets.{Atoms, same_set}
+use Rattle.asp_vars.specs.Entailment.{Settled}
+use Rattle.asp_vars.specs.Literals.{hits}
+use Rattle.asp_vars.specs.Numbering.{values}
+use Rattle.asp_vars.specs.Paid.{Units}
+use Rattle.asp_path.specs.Trees.{cube_of}
+use Rattle.asp_book.specs.Calls.{Knows, task_of, seen_board}
+use Rattle.asp_crew_laws.specs.Working.{IsAtWork, Works}
+use Rattle.asp_search_laws.specs.Searching.{Searching}
+use Rattle.asp_search_laws.specs.Steps.{Records}
+use Rattle.asp_worker.specs.declared.path.Course.{Course}
+use Rattle.asp_worker.specs.declared.path.Course.TheVariants.{Open, Done, Spent}
+use Rattle.asp_worker.specs.declared.path.Way.{Way}
+use Rattle.asp_worker.specs.declared.path.Way.TheVariants.{Closed, Left, Short}
+use Rattle.asp_worker.specs.Seats.{Holds, IsFree, Owes}
+
+-- The search is one of the run, and goes with the board as the units do.
+pub record GoesOn (m : Mode) (v : Knows) (s : Searching) (u : Units) : Type 0 where
+  pub program : s.program ≡ (task_of v).program
+  pub mode_is : s.mode ≡ m
+  pub work : IsAtWork (seen_board v) v.number m s.known s.bound u
+
+-- Besides, it is on the path to a leaf that the number holds.
+pub record IsOn (m : Mode) (v : Knows) (s : Searching) (u : Units) (leaf : ℕ) : Type 0 where
+  pub going : GoesOn m v s u
+  pub works : Works (seen_board v) v.number leaf s.cube
+
+-- After want of memory the number still holds the leaf, and has its units.
+pub record IsOff (v : Knows) (u : Units) (leaf : ℕ) : Type 0 where
+  pub held : Holds v leaf
+  pub units : Owes v u
+
+-- From s on the search has found this set, and t knows it.
+pub record Finds (m : Mode) (v : Knows) (s t : Searching) (u : Units) (leaf : ℕ) (S : Atoms) : Type 0 where
+  pub on : IsOn m v s u leaf
+  pub program : t.program ≡ s.program
+  pub mode_is : t.mode ≡ s.mode
+  pub cube : t.cube ≡ s.cube
+  pub stable : IsTrue (is_stable s.program S)
+  pub hit : IsTrue (hits (values s.program S) (cube_of (seen_board v).nodes leaf))
+  pub new : list_any (same_set S) s.known ≡ false
+  pub records : Records s.mode s t (cube_of (seen_board v).nodes leaf) S
+
+-- what is known by how a step left the path
+abbrev pub IsCourse : Knows → Searching → ℕ → Course → Type 0
+IsCourse v s leaf Open = Unit {0}
+IsCourse v s leaf Done = Settled s.program s.known s.bound (cube_of (seen_board v).nodes leaf)
+IsCourse v s leaf Spent = Unit {0}
+
+-- what is known by how the worker left the path: it has none, or still has this one
+abbrev pub IsWay : Mode → Knows → Searching → Units → ℕ → Way → Type 0
+IsWay m v s u leaf Closed = GoesOn m v s u × IsFree v
+IsWay m v s u leaf Left = IsOff v u leaf
+IsWay m v s u leaf Short = IsOff v u leaf
+
+-- what the worker has once it gave up what it still had
+abbrev pub Ended : Mode → Knows → Searching → Units → Way → Type 0
+Ended m v s u Closed = GoesOn m v s u
+Ended m v s u Left = Unit {0}
+Ended m v s u Short = Unit {0}

@@ -1,0 +1,42 @@
+//! A worker's search, with what pays for it.
+ghost use Rattle.std.specs.Prelude.{◌≡◌, None, IfOk};
+ghost use Rattle.asp_search.specs.Beside.{new_search};
+
+use crate::worker::Shared;
+use asp_propagators::propagators::Propagators;
+use asp_search::search::Search;
+use asp_vars::compiled::Compiled;
+use asp_vars::fuel::Fuel;
+use std::alloc::AllocError;
+
+/// A worker's search, with what pays for it.
+#[derive(Drop)]
+pub(crate) struct Engine<'a> {
+    /// The search of the path that the worker is on.
+    pub(crate) search: Search<'a, Propagators<'a>>,
+    /// The units that it leased.
+    pub(crate) fuel: Fuel,
+    /// How many entries of the log it has read.
+    pub(crate) read: u32,
+    /// How many paths it took on.
+    pub(crate) turn: u64,
+    /// How many steps it made.
+    pub(crate) step: u64,
+}
+
+/// A search that knows no answer, without a unit.
+pub(crate) fn start<'a>(shared: &Shared, compiled: &'a Compiled) -> Result<Engine<'a>, AllocError>
+    ensures search { IfOk result (λ e. e.search ≡ new_search compiled.now shared.now.mode e.search.slots) }
+    ensures fuel { IfOk result (λ e. e.fuel ≡ record { program = compiled.now; left = 0; burnt = 0; known = 0; least = None }) }
+    ensures read { IfOk result (λ e. e.read ≡ 0) }
+{
+    let propagators = Propagators::new(shared.alloc, compiled)?;
+    let search = Search::new(shared.alloc, compiled, shared.mode, propagators)?;
+    Ok(Engine {
+        search,
+        fuel: Fuel::of(compiled, 0),
+        read: 0,
+        turn: 0,
+        step: 0,
+    })
+}

@@ -1,0 +1,196 @@
+//! How a worker searches a path.
+ghost use Rattle.std.specs.Prelude.{◌≡◌, ◌<◌, ◌≤◌, length, IfOk, OnOk, OnErr};
+ghost use Rattle.asp_vars.specs.Entailment.{HitsOnly};
+ghost use Rattle.asp_vault.specs.Seats.{view, IsOf, IsBeside};
+ghost use Rattle.asp_path.specs.Trees.{cube_of};
+ghost use Rattle.asp_core.specs.Boards.{is_excused};
+ghost use Rattle.asp_book.specs.Calls.{task_of, seen_board};
+ghost use Rattle.asp_worker.specs.Seats.{IsReady, Keeps, IsSettled, Passes, Holds, IsFree};
+ghost use Rattle.asp_worker.specs.Working.{GoesOn, IsOn, IsOff, IsCourse, IsWay};
+
+use crate::engine::Engine;
+use crate::halt::Halt;
+use crate::share::{begin, share};
+use crate::sharing::{export, lease, record, refresh};
+use crate::worker::{Shared, Worker};
+use asp_book::book::Book;
+use asp_book::desk;
+use asp_path::tree::Leaf;
+use asp_search_laws::step::Step;
+use asp_vault::Seat;
+use std::alloc::AllocError;
+use std::sync::Wait;
+
+/// How a worker left a path.
+#[derive(Clone, Copy, PartialEq, Eq)]
+pub(crate) enum Way {
+    /// It is closed.
+    Closed,
+    /// The worker still has it, and ends.
+    Left,
+    /// Memory was wanting. The worker still has it, and ends.
+    Short,
+}
+
+/// How a step left the path.
+#[derive(Clone, Copy)]
+pub(crate) enum Course {
+    /// There is more to search.
+    Open,
+    /// Nothing is left to be found.
+    Done,
+    /// No unit was left for a conflict.
+    Spent,
+}
+
+// Closes a path of which nothing is left to be found.
+fn close<R: Wait>(
+    rt: &R,
+    shared: &Shared,
+    seat: &mut Seat<Book>,
+    leaf: Leaf,
+) -> Result<(), AllocError>
+    requires of { IsOf shared.now.book seat.old }
+    requires settled { IsSettled (view seat.old) }
+    requires held { Holds (view seat.old) leaf }
+    requires done { HitsOnly (task_of (view seat.old)).program (is_excused (seen_board (view seat.old))) (cube_of (seen_board (view seat.old)).nodes leaf) }
+    ensures of { IsBeside seat.old seat.new }
+    ensures passes { Passes (view seat.old) (view seat.new) }
+    ensures ok { OnOk result (IsFree (view seat.new)) }
+    ensures err { OnErr result (Holds (view seat.new) leaf) }
+{
+    let cube = desk::cube(rt, &shared.book, seat, leaf)?;
+    desk::close(rt, &shared.book, seat, leaf, cube.as_slice())
+}
+
+// One step of the search, and what it asks for.
+fn advance<R: Wait>(
+    rt: &R,
+    shared: &Shared,
+    worker: &mut Worker,
+    engine: &mut Engine<'_>,
+    leaf: Leaf,
+) -> Result<Course, AllocError>
+    requires ready { IsReady shared.now worker.old }
+    requires on { IsOn shared.now.mode (view worker.old.seat) engine.old.search engine.old.fuel leaf }
+    requires read { engine.old.read ≤ length (view worker.old.pages).seen }
+    ensures keeps { Keeps worker.old worker.new }
+    ensures ready { IsReady shared.now worker.new }
+    ensures read { engine.new.read ≤ length (view worker.new.pages).seen }
+    ensures ok { OnOk result (IsOn shared.now.mode (view worker.new.seat) engine.new.search engine.new.fuel leaf) }
+    ensures course { IfOk result (IsCourse (view worker.new.seat) engine.new.search leaf) }
+    ensures err { OnErr result (IsOff (view worker.new.seat) engine.new.fuel leaf) }
+{
+    let _leaf = leaf;
+    match engine.search.step(&mut engine.fuel)? {
+        Step::Decided => Ok(Course::Open),
+        Step::Learnt => {
+            export(rt, shared, &mut worker.pages, &engine.search);
+            Ok(Course::Open)
+        }
+        Step::Restarted => {
+            refresh(rt, shared, worker, engine)?;
+            Ok(Course::Open)
+        }
+        Step::Answer(set) => {
+            record(rt, shared, &mut worker.seat, engine, set)?;
+            Ok(Course::Open)
+        }
+        Step::NoFuel(_) => {
+            let leased = lease(rt, shared, &mut worker.seat, engine)?;
+            if leased {
+                Ok(Course::Open)
+            } else {
+                Ok(Course::Spent)
+            }
+        }
+        Step::Closed => Ok(Course::Done),
+    }
+}
+
+// Steps until the path is closed or left.
+fn search_path<R: Wait, H: Halt>(
+    rt: &R,
+    shared: &Shared,
+    halt: &H,
+    worker: &mut Worker,
+    engine: &mut Engine<'_>,
+    leaf: &mut Leaf,
+) -> Result<Way, AllocError>
+    requires ready { IsReady shared.now worker.old }
+    requires number { 0 < (view worker.old.seat).number }
+    requires on { IsOn shared.now.mode (view worker.old.seat) engine.old.search engine.old.fuel leaf.old }
+    requires read { engine.old.read ≤ length (view worker.old.pages).seen }
+    ensures keeps { Keeps worker.old worker.new }
+    ensures ready { IsReady shared.now worker.new }
+    ensures read { engine.new.read ≤ length (view worker.new.pages).seen }
+    ensures ok { IfOk result (IsWay shared.now.mode (view worker.new.seat) engine.new.search engine.new.fuel leaf.new) }
+    ensures err { OnErr result (IsOff (view worker.new.seat) engine.new.fuel leaf.new) }
+{
+    let number = worker.seat.number() - 1;
+    'steps: for _ in rt.forever() {
+        if halt.stop(number, engine.step) {
+            return Ok(Way::Left);
+        }
+        engine.step = engine.step.wrapping_add(1);
+        let course = advance(rt, shared, worker, engine, *leaf)?;
+        match course {
+            Course::Open => share(rt, shared, worker, engine, leaf)?,
+            Course::Spent => return Ok(Way::Left),
+            Course::Done => {
+                close(rt, shared, &mut worker.seat, *leaf)?;
+                return Ok(Way::Closed);
+            }
+        }
+    }
+    unreachable!()
+}
+
+// Begins a path, and searches it.
+fn try_path<R: Wait, H: Halt>(
+    rt: &R,
+    shared: &Shared,
+    halt: &H,
+    worker: &mut Worker,
+    engine: &mut Engine<'_>,
+    leaf: &mut Leaf,
+) -> Result<Way, AllocError>
+    requires ready { IsReady shared.now worker.old }
+    requires number { 0 < (view worker.old.seat).number }
+    requires held { Holds (view worker.old.seat) leaf.old }
+    requires going { GoesOn shared.now.mode (view worker.old.seat) engine.old.search engine.old.fuel }
+    requires read { engine.old.read ≤ length (view worker.old.pages).seen }
+    ensures keeps { Keeps worker.old worker.new }
+    ensures ready { IsReady shared.now worker.new }
+    ensures read { engine.new.read ≤ length (view worker.new.pages).seen }
+    ensures ok { IfOk result (IsWay shared.now.mode (view worker.new.seat) engine.new.search engine.new.fuel leaf.new) }
+    ensures err { OnErr result (IsOff (view worker.new.seat) engine.new.fuel leaf.new) }
+{
+    begin(rt, shared, worker, engine, *leaf)?;
+    search_path(rt, shared, halt, worker, engine, leaf)
+}
+
+/// Searches a path that the worker holds. Where it isn't closed then, the worker holds the path in `leaf`.
+pub(crate) fn path<R: Wait, H: Halt>(
+    rt: &R,
+    shared: &Shared,
+    halt: &H,
+    worker: &mut Worker,
+    engine: &mut Engine<'_>,
+    leaf: &mut Leaf,
+) -> Way
+    requires ready { IsReady shared.now worker.old }
+    requires number { 0 < (view worker.old.seat).number }
+    requires held { Holds (view worker.old.seat) leaf.old }
+    requires going { GoesOn shared.now.mode (view worker.old.seat) engine.old.search engine.old.fuel }
+    requires read { engine.old.read ≤ length (view worker.old.pages).seen }
+    ensures keeps { Keeps worker.old worker.new }
+    ensures ready { IsReady shared.now worker.new }
+    ensures read { engine.new.read ≤ length (view worker.new.pages).seen }
+    ensures way { IsWay shared.now.mode (view worker.new.seat) engine.new.search engine.new.fuel leaf.new result }
+{
+    match try_path(rt, shared, halt, worker, engine, leaf) {
+        Ok(way) => way,
+        Err(_) => Way::Short,
+    }
+}

@@ -1,0 +1,136 @@
+//! How a worker gives away half of its path.
+ghost use Rattle.std.specs.Prelude.{◌≡◌, ◌≤◌, length, false, OnOk, OnErr};
+ghost use Rattle.asp_vault.specs.Seats.{view, IsOf, IsBeside};
+ghost use Rattle.asp_path.specs.Trees.{cube_of};
+ghost use Rattle.asp_core.specs.Events.{has_var, IsVariable};
+ghost use Rattle.asp_book.specs.Calls.{task_of, seen_board};
+ghost use Rattle.asp_search.specs.Beside.{Enters};
+ghost use Rattle.asp_worker.specs.Seats.{IsReady, Keeps, IsSettled, Idles, Passes, Holds, HoldsHalf};
+ghost use Rattle.asp_worker.specs.Working.{GoesOn, IsOn, IsOff};
+
+use crate::engine::Engine;
+use crate::sharing::refresh;
+use crate::worker::{Shared, Worker};
+use asp_book::book::Book;
+use asp_book::desk;
+use asp_path::tree::Leaf;
+use asp_propagators::propagators::Propagators;
+use asp_search::search::Search;
+use asp_vars::lit::Lit;
+use asp_vault::Seat;
+use std::alloc::AllocError;
+use std::sync::Wait;
+
+/// After so many steps a worker looks whether others want a path.
+const STRIDE: u64 = 32;
+
+// Begins the search of a path that the worker holds.
+fn enter<R: Wait>(
+    rt: &R,
+    shared: &Shared,
+    seat: &mut Seat<Book>,
+    search: &mut Search<'_, Propagators<'_>>,
+    leaf: Leaf,
+) -> Result<(), AllocError>
+    requires of { IsOf shared.now.book seat.old }
+    requires settled { IsSettled (view seat.old) }
+    requires held { Holds (view seat.old) leaf }
+    requires program { search.old.program ≡ (task_of (view seat.old)).program }
+    ensures of { IsBeside seat.old seat.new }
+    ensures idles { Idles (view seat.old) (view seat.new) }
+    ensures ok { OnOk result (Enters search.old search.new (cube_of (seen_board (view seat.new)).nodes leaf)) }
+    ensures err { OnErr result (search.new.program ≡ search.old.program) }
+{
+    let cube = desk::cube(rt, &shared.book, seat, leaf)?;
+    search.enter(cube.as_slice())
+}
+
+/// Begins the search of a path that the worker holds, with what others have found.
+pub(crate) fn begin<R: Wait>(
+    rt: &R,
+    shared: &Shared,
+    worker: &mut Worker,
+    engine: &mut Engine<'_>,
+    leaf: Leaf,
+) -> Result<(), AllocError>
+    requires ready { IsReady shared.now worker.old }
+    requires held { Holds (view worker.old.seat) leaf }
+    requires going { GoesOn shared.now.mode (view worker.old.seat) engine.old.search engine.old.fuel }
+    requires read { engine.old.read ≤ length (view worker.old.pages).seen }
+    ensures keeps { Keeps worker.old worker.new }
+    ensures ready { IsReady shared.now worker.new }
+    ensures idles { Idles (view worker.old.seat) (view worker.new.seat) }
+    ensures read { engine.new.read ≤ length (view worker.new.pages).seen }
+    ensures ok { OnOk result (IsOn shared.now.mode (view worker.new.seat) engine.new.search engine.new.fuel leaf) }
+    ensures err { OnErr result (IsOff (view worker.new.seat) engine.new.fuel leaf) }
+{
+    enter(rt, shared, &mut worker.seat, &mut engine.search, leaf)?;
+    refresh(rt, shared, worker, engine)
+}
+
+// Splits the path on a literal, and offers the half that hasn't it.
+fn divide<R: Wait>(
+    rt: &R,
+    shared: &Shared,
+    worker: &mut Worker,
+    leaf: Leaf,
+    lit: Lit,
+) -> Result<Option<Leaf>, AllocError>
+    requires ready { IsReady shared.now worker.old }
+    requires held { Holds (view worker.old.seat) leaf }
+    requires variable { IsVariable (task_of (view worker.old.seat)).program lit.var }
+    requires new { has_var (cube_of (seen_board (view worker.old.seat)).nodes leaf) lit.var ≡ false }
+    ensures keeps { Keeps worker.old worker.new }
+    ensures ready { IsReady shared.now worker.new }
+    ensures pages { worker.new.pages ≡ worker.old.pages }
+    ensures passes { Passes (view worker.old.seat) (view worker.new.seat) }
+    ensures half { HoldsHalf (view worker.old.seat) (view worker.new.seat) leaf lit result }
+{
+    match desk::split(rt, &shared.book, &mut worker.seat, leaf, lit)? {
+        None => Ok(None),
+        Some((mine, other)) => {
+            let _offered = worker.lane.offer(other);
+            Ok(Some(mine))
+        }
+    }
+}
+
+/// Where it is time and others want a path, splits that of this worker on its first decision, offers one half and goes on with
+/// the other.
+///
+/// The path that the worker then has is in `leaf`, also after want of memory.
+pub(crate) fn share<R: Wait>(
+    rt: &R,
+    shared: &Shared,
+    worker: &mut Worker,
+    engine: &mut Engine<'_>,
+    leaf: &mut Leaf,
+) -> Result<(), AllocError>
+    requires ready { IsReady shared.now worker.old }
+    requires on { IsOn shared.now.mode (view worker.old.seat) engine.old.search engine.old.fuel leaf.old }
+    requires read { engine.old.read ≤ length (view worker.old.pages).seen }
+    ensures keeps { Keeps worker.old worker.new }
+    ensures ready { IsReady shared.now worker.new }
+    ensures read { engine.new.read ≤ length (view worker.new.pages).seen }
+    ensures ok { OnOk result (IsOn shared.now.mode (view worker.new.seat) engine.new.search engine.new.fuel leaf.new) }
+    ensures err { OnErr result (IsOff (view worker.new.seat) engine.new.fuel leaf.new) }
+{
+    if engine.step % STRIDE != 0 {
+        return Ok(());
+    }
+    match engine.search.first() {
+        None => Ok(()),
+        Some(lit) => {
+            if !desk::wanted(rt, &shared.book, &mut worker.seat, shared.workers) {
+                return Ok(());
+            }
+            match divide(rt, shared, worker, *leaf, lit)? {
+                None => Ok(()),
+                Some(half) => {
+                    *leaf = half;
+                    begin(rt, shared, worker, engine, half)
+                }
+            }
+        }
+    }
+}

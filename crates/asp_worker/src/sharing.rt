@@ -1,0 +1,248 @@
+//! What a search tells the others, and what it takes over from them.
+ghost use Rattle.std.specs.Prelude.{◌≡◌, ◌≤◌, ◌<◌, ◌↔◌, ℕ, IsTrue, length, drop, OnOk, OnErr, IfOk, IfSome, All};
+ghost use Rattle.std.specs.Option.{option_copied};
+ghost use Rattle.asp_model.specs.declared.results.Mode.TheVariants as mode;
+ghost use Rattle.asp_vault.specs.Moments.{Stays};
+ghost use Rattle.asp_vault.specs.Seats.{view, IsOf, IsBeside};
+ghost use Rattle.asp_log.specs.Entries.{IsEntry};
+ghost use Rattle.asp_book.specs.Calls.{seen_board, task_of};
+ghost use Rattle.asp_search.specs.Beside.{Leaves};
+ghost use Rattle.asp_search_laws.specs.Searching.{Searching};
+ghost use Rattle.asp_worker.specs.Seats.{IsReady, Keeps, IsSettled, IsPaged, Idles, Leases};
+ghost use Rattle.asp_worker.specs.Sharing.{is_smaller, lowered, with_best, ImportsAll, TakesOver, Remembers};
+ghost use Rattle.asp_worker.specs.Working.{GoesOn, Finds};
+
+use crate::engine::Engine;
+use crate::worker::{Shared, Worker};
+use asp_book::book::Book;
+use asp_book::desk;
+use asp_log::{Log, View, append, glance};
+use asp_model::cost::Cost;
+use asp_model::interp::Interp;
+use asp_model::results::Mode;
+use asp_propagators::propagators::Propagators;
+use asp_search::search::Search;
+use asp_vault::Seat;
+use std::alloc::AllocError;
+use std::sync::Wait;
+
+/// How many units a worker leases at a time.
+pub(crate) const LEASE: u64 = 64;
+
+// Whether a cost is smaller than the bound, if there is one.
+fn beats(cost: &Cost, bound: Option<&Cost>) -> bool
+    ensures { result ≡ is_smaller cost.now (option_copied bound.entry) }
+{
+    match bound {
+        None => true,
+        Some(bound) => *cost < *bound,
+    }
+}
+
+// Seeks only answers that cost less than this one, if it is smaller than the bound.
+fn lower_bound(search: &mut Search<'_, Propagators<'_>>, cost: Cost) -> Result<(), AllocError>
+    ensures ok { OnOk result (search.new ≡ lowered search.old cost) }
+    ensures err { OnErr result (Leaves search.old search.new) }
+{
+    if !beats(&cost, search.bound()) {
+        return Ok(());
+    }
+    search.set_bound(cost)
+}
+
+// Imports those entries of the log that count for the search.
+fn import_all(search: &mut Search<'_, Propagators<'_>>, entries: &View) -> Result<(), AllocError>
+    requires { All (IsEntry search.old.program) entries.now }
+    ensures ok { OnOk result (ImportsAll entries.now search.old search.new) }
+    ensures err { OnErr result (Remembers search.old search.new) }
+{
+    for i in 0..entries.len() {
+        let _used = search.import(entries.entry(i))?;
+    }
+    Ok(())
+}
+
+// Imports what is new in the log.
+fn import_new<R: Wait>(
+    rt: &R,
+    shared: &Shared,
+    pages: &mut Seat<Log>,
+    search: &mut Search<'_, Propagators<'_>>,
+    read: &mut u32,
+) -> Result<(), AllocError>
+    requires of { IsOf shared.now.log pages.old }
+    requires pages { IsPaged search.old.program (view pages.old) }
+    requires read { read.old ≤ length (view pages.old).seen }
+    ensures of { IsBeside pages.old pages.new }
+    ensures stays { Stays (view pages.old) (view pages.new) }
+    ensures read { read.new ≤ length (view pages.new).seen }
+    ensures ok { OnOk result (ImportsAll (drop read.old (view pages.new).seen) search.old search.new) }
+    ensures all { OnOk result (read.new ≡ length (view pages.new).seen) }
+    ensures err { OnErr result (Remembers search.old search.new) }
+{
+    if shared.log.look(pages) <= u64::from(*read) {
+        return Ok(());
+    }
+    let entries = glance(rt, &shared.log, pages, *read)?;
+    import_all(search, &entries)?;
+    *read += entries.len();
+    Ok(())
+}
+
+// Takes over the cost of the best answer, if one is sought.
+fn take_best<R: Wait>(
+    rt: &R,
+    shared: &Shared,
+    seat: &mut Seat<Book>,
+    search: &mut Search<'_, Propagators<'_>>,
+) -> Result<(), AllocError>
+    requires of { IsOf shared.now.book seat.old }
+    requires settled { IsSettled (view seat.old) }
+    ensures of { IsBeside seat.old seat.new }
+    ensures idles { Idles (view seat.old) (view seat.new) }
+    ensures ok { OnOk result (search.new ≡ with_best shared.now.mode (seen_board (view seat.new)) search.old) }
+    ensures err { OnErr result (Remembers search.old search.new) }
+{
+    match shared.mode {
+        Mode::Enum => Ok(()),
+        Mode::Opt => match desk::best(rt, &shared.book, seat)? {
+            None => Ok(()),
+            Some(best) => lower_bound(search, best),
+        },
+    }
+}
+
+/// Takes over what others have found. After want of memory it may be that no path is entered.
+pub(crate) fn refresh<R: Wait>(
+    rt: &R,
+    shared: &Shared,
+    worker: &mut Worker,
+    engine: &mut Engine<'_>,
+) -> Result<(), AllocError>
+    requires ready { IsReady shared.now worker.old }
+    requires program { engine.old.search.program ≡ (task_of (view worker.old.seat)).program }
+    requires read { engine.old.read ≤ length (view worker.old.pages).seen }
+    ensures keeps { Keeps worker.old worker.new }
+    ensures ready { IsReady shared.now worker.new }
+    ensures idles { Idles (view worker.old.seat) (view worker.new.seat) }
+    ensures read { engine.new.read ≤ length (view worker.new.pages).seen }
+    ensures fuel { engine.new.fuel ≡ engine.old.fuel }
+    ensures ok { OnOk result (TakesOver shared.now.mode (seen_board (view worker.new.seat)) (drop engine.old.read (view worker.new.pages).seen) engine.old.search engine.new.search) }
+    ensures all { OnOk result (engine.new.read ≡ length (view worker.new.pages).seen) }
+    ensures err { OnErr result (Remembers engine.old.search engine.new.search) }
+{
+    import_new(
+        rt,
+        shared,
+        &mut worker.pages,
+        &mut engine.search,
+        &mut engine.read,
+    )?;
+    take_best(rt, shared, &mut worker.seat, &mut engine.search)
+}
+
+/// Tells the others what the last step learnt, if that is of use to them and there is room and memory for it.
+pub(crate) fn export<R: Wait>(
+    rt: &R,
+    shared: &Shared,
+    pages: &mut Seat<Log>,
+    search: &Search<'_, Propagators<'_>>,
+)
+    requires of { IsOf shared.now.log pages.old }
+    requires pages { IsPaged search.now.program (view pages.old) }
+    ensures of { IsBeside pages.old pages.new }
+    ensures stays { Stays (view pages.old) (view pages.new) }
+{
+    if let Ok(Some(nogood)) = search.export() {
+        let _told = append(rt, &shared.log, pages, nogood);
+    }
+}
+
+// Lists an answer that the search has found.
+fn list<R: Wait>(
+    rt: &R,
+    shared: &Shared,
+    seat: &mut Seat<Book>,
+    engine: &mut Engine<'_>,
+    set: Interp,
+) -> Result<(), AllocError>
+    requires of { IsOf shared.now.book seat.old }
+    requires settled { IsSettled (view seat.old) }
+    requires found { (s : Searching) × (leaf : ℕ) × Finds mode.Enum (view seat.old) s engine.old.search engine.old.fuel leaf set }
+    ensures of { IsBeside seat.old seat.new }
+    ensures idles { Idles (view seat.old) (view seat.new) }
+    ensures engine { (engine.new.search ≡ engine.old.search) × (engine.new.fuel ≡ engine.old.fuel) × (engine.new.read ≡ engine.old.read) }
+    ensures ok { OnOk result (GoesOn mode.Enum (view seat.new) engine.new.search engine.new.fuel) }
+{
+    let _listed = desk::deliver(rt, &shared.book, seat, set)?;
+    Ok(())
+}
+
+// Makes an answer that the search has found the best one, or takes over the cost of one that is no dearer.
+fn improve<R: Wait>(
+    rt: &R,
+    shared: &Shared,
+    seat: &mut Seat<Book>,
+    engine: &mut Engine<'_>,
+    set: Interp,
+) -> Result<(), AllocError>
+    requires of { IsOf shared.now.book seat.old }
+    requires settled { IsSettled (view seat.old) }
+    requires found { (s : Searching) × (leaf : ℕ) × Finds mode.Opt (view seat.old) s engine.old.search engine.old.fuel leaf set }
+    ensures of { IsBeside seat.old seat.new }
+    ensures idles { Idles (view seat.old) (view seat.new) }
+    ensures engine { (engine.new.fuel ≡ engine.old.fuel) × (engine.new.read ≡ engine.old.read) }
+    ensures ok { OnOk result (GoesOn mode.Opt (view seat.new) engine.new.search engine.new.fuel × (engine.new.search.cube ≡ engine.old.search.cube)) }
+    ensures err { OnErr result (engine.new.search.program ≡ engine.old.search.program) }
+{
+    match desk::improve(rt, &shared.book, seat, set)? {
+        None => Ok(()),
+        Some(best) => lower_bound(&mut engine.search, best),
+    }
+}
+
+/// Records an answer that the search has found.
+pub(crate) fn record<R: Wait>(
+    rt: &R,
+    shared: &Shared,
+    seat: &mut Seat<Book>,
+    engine: &mut Engine<'_>,
+    set: Interp,
+) -> Result<(), AllocError>
+    requires of { IsOf shared.now.book seat.old }
+    requires settled { IsSettled (view seat.old) }
+    requires found { (s : Searching) × (leaf : ℕ) × Finds shared.now.mode (view seat.old) s engine.old.search engine.old.fuel leaf set }
+    ensures of { IsBeside seat.old seat.new }
+    ensures idles { Idles (view seat.old) (view seat.new) }
+    ensures engine { (engine.new.fuel ≡ engine.old.fuel) × (engine.new.read ≡ engine.old.read) }
+    ensures ok { OnOk result (GoesOn shared.now.mode (view seat.new) engine.new.search engine.new.fuel × (engine.new.search.cube ≡ engine.old.search.cube)) }
+{
+    match shared.mode {
+        Mode::Enum => list(rt, shared, seat, engine, set),
+        Mode::Opt => improve(rt, shared, seat, engine, set),
+    }
+}
+
+/// Leases units. False where none was left.
+pub(crate) fn lease<R: Wait>(
+    rt: &R,
+    shared: &Shared,
+    seat: &mut Seat<Book>,
+    engine: &mut Engine<'_>,
+) -> Result<bool, AllocError>
+    requires of { IsOf shared.now.book seat.old }
+    requires settled { IsSettled (view seat.old) }
+    requires going { GoesOn shared.now.mode (view seat.old) engine.old.search engine.old.fuel }
+    requires none { engine.old.fuel.left ≡ 0 }
+    ensures of { IsBeside seat.old seat.new }
+    ensures leases { Leases (view seat.old) (view seat.new) }
+    ensures engine { (engine.new.search ≡ engine.old.search) × (engine.new.read ≡ engine.old.read) }
+    ensures going { GoesOn shared.now.mode (view seat.new) engine.new.search engine.new.fuel }
+    ensures some { IfOk result (λ b. IsTrue b ↔ (0 < engine.new.fuel.left)) }
+    ensures few { engine.new.fuel.left ≤ 64 }
+{
+    let units = desk::lease(rt, &shared.book, seat, LEASE)?;
+    let some = units.left() > 0;
+    engine.fuel.merge(units);
+    Ok(some)
+}

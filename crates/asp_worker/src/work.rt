@@ -1,0 +1,128 @@
+//! A worker's work from its beginning to its end.
+ghost use Rattle.std.specs.Prelude.{◌<◌, ◌≤◌, length};
+ghost use Rattle.asp_vault.specs.Seats.{view};
+ghost use Rattle.asp_worker.specs.Seats.{IsReady, Keeps, Holds, IsFree, Owes, MayWork, Worked};
+ghost use Rattle.asp_worker.specs.Working.{GoesOn, Ended};
+
+use crate::engine::{Engine, start};
+use crate::find::find;
+use crate::gate::Gate;
+use crate::halt::Halt;
+use crate::path::{Way, path};
+use crate::worker::{Shared, Worker};
+use asp_book::desk;
+use asp_path::tree::Leaf;
+use asp_vars::compiled::Compiled;
+use std::sync::Wait;
+
+// Searches a path, and opens it again where it isn't closed.
+fn try_path<R: Wait, H: Halt>(
+    rt: &R,
+    shared: &Shared,
+    halt: &H,
+    worker: &mut Worker,
+    engine: &mut Engine<'_>,
+    leaf: Leaf,
+) -> Way
+    requires ready { IsReady shared.now worker.old }
+    requires number { 0 < (view worker.old.seat).number }
+    requires held { Holds (view worker.old.seat) leaf }
+    requires going { GoesOn shared.now.mode (view worker.old.seat) engine.old.search engine.old.fuel }
+    requires read { engine.old.read ≤ length (view worker.old.pages).seen }
+    ensures keeps { Keeps worker.old worker.new }
+    ensures ready { IsReady shared.now worker.new }
+    ensures read { engine.new.read ≤ length (view worker.new.pages).seen }
+    ensures free { IsFree (view worker.new.seat) }
+    ensures owes { Owes (view worker.new.seat) engine.new.fuel }
+    ensures going { Ended shared.now.mode (view worker.new.seat) engine.new.search engine.new.fuel result }
+{
+    let mut held = leaf;
+    let way = path(rt, shared, halt, worker, engine, &mut held);
+    match way {
+        Way::Closed => Way::Closed,
+        Way::Left => {
+            desk::release(rt, &shared.book, &mut worker.seat, held);
+            Way::Left
+        }
+        Way::Short => {
+            desk::release(rt, &shared.book, &mut worker.seat, held);
+            Way::Short
+        }
+    }
+}
+
+// Takes paths and searches them. Says whether it ended for want of memory.
+fn search_paths<R: Wait, G: Gate, H: Halt>(
+    rt: &R,
+    shared: &Shared,
+    gate: &G,
+    halt: &H,
+    worker: &mut Worker,
+    engine: &mut Engine<'_>,
+) -> bool
+    requires ready { IsReady shared.now worker.old }
+    requires number { 0 < (view worker.old.seat).number }
+    requires free { IsFree (view worker.old.seat) }
+    requires going { GoesOn shared.now.mode (view worker.old.seat) engine.old.search engine.old.fuel }
+    requires read { engine.old.read ≤ length (view worker.old.pages).seen }
+    ensures keeps { Keeps worker.old worker.new }
+    ensures ready { IsReady shared.now worker.new }
+    ensures free { IsFree (view worker.new.seat) }
+    ensures owes { Owes (view worker.new.seat) engine.new.fuel }
+{
+    'paths: for _ in rt.forever() {
+        match find(
+            rt,
+            shared,
+            &mut worker.seat,
+            &mut worker.lane,
+            &mut worker.pass,
+        ) {
+            Err(_) => return true,
+            Ok(found) => match found {
+                None => return false,
+                Some(leaf) => {
+                    gate.pass(worker.seat.number() - 1, engine.turn);
+                    engine.turn = engine.turn.wrapping_add(1);
+                    match try_path(rt, shared, halt, worker, engine, leaf) {
+                        Way::Closed => {}
+                        Way::Left => return false,
+                        Way::Short => return true,
+                    }
+                }
+            },
+        }
+    }
+    unreachable!()
+}
+
+/// A worker's whole work: it searches paths until none is left or wanted, and gives all back.
+pub fn work<R: Wait, G: Gate, H: Halt>(
+    rt: &R,
+    shared: &Shared,
+    compiled: &Compiled,
+    gate: &G,
+    halt: &H,
+    mut worker: Worker,
+) -> Worker
+    requires { MayWork compiled.now shared.now worker }
+    ensures { Worked shared.now worker result }
+{
+    let mut engine = match start(shared, compiled) {
+        Ok(engine) => engine,
+        Err(_) => {
+            worker.short = true;
+            return worker;
+        }
+    };
+    worker.short = search_paths(rt, shared, gate, halt, &mut worker, &mut engine);
+    let Engine {
+        search: _,
+        fuel,
+        read: _,
+        turn: _,
+        step: _,
+    } = engine;
+    desk::back(rt, &shared.book, &mut worker.seat, fuel);
+    worker
+}
