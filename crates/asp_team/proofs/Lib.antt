@@ -1,0 +1,5 @@
+pub mod Ready
+pub mod JoinLaws
+pub mod TeamLaws
+pub mod IdleLaws
+pub mod RunLaws

@@ -1,0 +1,37 @@
+-- A run whose workers have come back.
+use Rattle.std.proofs.Common.{◌≡◌, ℕ, ◌<◌, ◌≤◌, List, length, Some, refl, sym, ◌∙◌, subst, arith}
+use Rattle.std.specs.List.{All}
+use Rattle.asp_model.specs.declared.program.Program.{Program}
+use Rattle.asp_model.specs.declared.results.Mode.{Mode}
+use Rattle.asp_vault.specs.declared.view.View.{View}
+use Rattle.asp_vault.specs.Seats.{view}
+use Rattle.asp_core.specs.declared.task.Task.{Task}
+use Rattle.asp_book.specs.Books.{Booked}
+use Rattle.asp_book.specs.Calls.{Knows}
+use Rattle.asp_crew_laws.specs.declared.report.Report.{Report}
+use Rattle.asp_crew_laws.specs.Reports.{IsReport}
+use Rattle.asp_crew_laws.specs.Runs.{task_of}
+use Rattle.asp_crew.specs.Running.{IsRunIn}
+use Rattle.asp_worker.specs.declared.worker.Worker.{Worker}
+use Rattle.asp_worker.specs.declared.worker.Shared.{Shared}
+use Rattle.asp_team.specs.declared.lead.Lead.{Lead}
+use Rattle.asp_team.specs.Joined.{IsHome, Joins}
+use Rattle.asp_team.specs.Teams.{AreReady, HasOut, IsAllBack}
+use Rattle.asp_team.proofs.IdleLaws.{each-number}
+
+-- ---- each worker has come back
+pub all-back : {D E : Type 0} (v w : View D E) (n : ℕ) → HasOut v n → Joins v w n → IsAllBack w
+all-back v w n out j = omega (arith, out.splits, out.joins, j.splits, j.joins)
+
+pub all-home : (c : Shared) (l k : Lead) (hs : List Worker) → AreReady c l hs → Joins (view l.seat) (view k.seat) (length hs) → All (λ h. IsHome (view k.seat) (view h.seat).number) hs → (n : ℕ) → 0 < n → n ≤ (view k.seat).splits → IsHome (view k.seat) n
+all-home c l k hs ready j came n some few = each-number (IsHome (view k.seat)) 1 hs ready.numbered came n (omega (arith, some)) (omega (arith, few, j.splits, ready.out.splits))
+
+-- ---- what the book is for
+pub book-task : (p : Program) (m : Mode) (budget : ℕ) (b : Booked) (v w : Knows) → Some b.task ≡ w.about → w.about ≡ v.about → v.about ≡ Some (task_of p m budget) → b.task ≡ task_of p m budget
+book-task p m budget b v w is same about = let e : Some b.task ≡ Some (task_of p m budget) = is ∙ same ∙ about in (let f : b.task ≡ task_of p m budget = cc in f)
+
+pub run-in : (p : Program) (m : Mode) (budget : ℕ) (t : Task) → t ≡ task_of p m budget → IsRunIn m t
+run-in p m budget t e = subst (IsRunIn m) (sym e) refl
+
+pub report-is : (p : Program) (m : Mode) (budget : ℕ) (t : Task) (r : Report) → t ≡ task_of p m budget → IsReport t.program m t.budget r → IsReport p m budget r
+report-is p m budget t r e is = subst (λ (x : Task). IsReport x.program m x.budget r) e is

@@ -1,0 +1,7 @@
+use Rattle.asp_vault.specs.Moments.{Stays}
+use Rattle.asp_vault.specs.Seats.{view, IsBeside}
+use Rattle.asp_worker.specs.Seats.{IsIdle}
+use Rattle.asp_team.proofs.fork.fork_all.Given as goal
+
+abbrev pub invariant-forks : goal.invariant-forks
+invariant-forks g l = IsBeside l.initial.seat l.seat × Stays (view l.initial.seat) (view l.seat) × IsIdle (view l.seat)

@@ -1,0 +1,26 @@
+use Rattle.std.proofs.Common.{refl, ◌∙◌, sym, arith}
+use Rattle.asp_team.proofs.TeamLaws.{host-begun}
+use Rattle.asp_team.proofs.team.gathered.Goals as goal
+
+pub workers-requires-clause-host : goal.workers-requires-clause-host
+workers-requires-clause-host g c = host-begun c.args.compiled.now c.args.mode c.args.budget _ _ refl c.in_ok-book.ensures.of c.in_ok-log.ensures.of c.in_ok-book.ensures.begun c.in_ok-log.ensures.paged c.in_ok-log.ensures.first
+
+pub workers-requires-clause-none_out : goal.workers-requires-clause-none_out
+workers-requires-clause-none_out g c = (c.in_ok-book.ensures.begun.out, c.in_ok-log.ensures.out)
+
+pub workers-requires-clause-few : goal.workers-requires-clause-few
+workers-requires-clause-few g c = omega (arith, c.in_ok-pool.ensures.lanes.0, c.requires.1)
+
+pub workers-requires-clause-even : goal.workers-requires-clause-even
+workers-requires-clause-even g c = c.in_ok-pool.ensures.passes.0 ∙ sym c.in_ok-pool.ensures.lanes.0
+
+pub workers-requires-clause-passes : goal.workers-requires-clause-passes
+workers-requires-clause-passes g c = λ k x at. (c.in_ok-pool.ensures.passes.1 k x at).0
+
+pub returns-clause-team : goal.returns-clause-team
+returns-clause-team g c = record {
+  lead = c.in_ok-workers.ensures.host.lead;
+  about = c.in_ok-workers.ensures.about ∙ c.in_ok-book.ensures.begun.about;
+  idle = c.in_ok-workers.ensures.host.idle;
+  ready = c.in_ok-workers.ensures.ready;
+}

@@ -1,0 +1,60 @@
+-- Seats that come back to the first.
+use Rattle.std.specs.Prelude.{◌≡◌, ℕ, ◌+◌, false, List, Option}
+use mathlib.Core.List.{IsPrefix}
+use mathlib.Core.Option.{some}
+use lib.ListN.{get_elem?}
+use Rattle.asp_model.specs.declared.program.Program.{Program}
+use Rattle.asp_vault.specs.declared.view.View.{View}
+use Rattle.asp_vault.specs.Makers.{placed, of_number, named}
+use Rattle.asp_vault.specs.Seats.{view, IsOf}
+use Rattle.asp_core.specs.declared.event.Event.{Event}
+use Rattle.asp_core.specs.declared.task.Task.{Task}
+use Rattle.asp_core.specs.Units.{out_of}
+use Rattle.asp_core.specs.Events.{held_by}
+use Rattle.asp_book.specs.Books.{signed, IsJournalOf}
+use Rattle.asp_book.specs.Calls.{Knows, task_of, seen_board}
+use Rattle.asp_worker.specs.declared.worker.Worker.{Worker}
+use Rattle.asp_worker.specs.declared.worker.Shared.{Shared}
+use Rattle.asp_worker.specs.Seats.{MayWork}
+use Rattle.asp_team.specs.declared.lead.Lead.{Lead}
+
+-- The seats are the first of what the workers share, have neither value, and the one at the book has seen a lawful journal.
+pub record IsLead (c : Shared) (l : Lead) : Type 0 where
+  pub book : IsOf c.book l.seat
+  pub log : IsOf c.log l.pages
+  pub first : (view l.seat).number ≡ 0
+  pub pages_first : (view l.pages).number ≡ 0
+  pub rests : (view l.seat).holds ≡ false
+  pub pages_rest : (view l.pages).holds ≡ false
+  pub lawful : IsJournalOf (task_of (view l.seat)) (view l.seat).seen
+
+-- From v to w so many seats were joined to the first, which did nothing itself.
+pub record Joins {D E : Type 0} (v w : View D E) (n : ℕ) : Type 0 where
+  pub about : w.about ≡ v.about
+  pub splits : w.splits ≡ v.splits
+  pub joins : w.joins ≡ v.joins + n
+  pub own : w.own ≡ v.own
+  pub seen : IsPrefix v.seen w.seen
+
+-- The number's seat was joined to this one, and the number holds no leaf and no units.
+pub record IsHome (v : Knows) (n : ℕ) : Type 0 where
+  pub place : ℕ
+  pub own : List (ℕ × Event)
+  pub guest : get_elem? v.guests place ≡ some (n, own)
+  -- What it did stands in what was seen.
+  pub stands : of_number signed n (placed 0 v.seen) ≡ named signed own
+  pub free : held_by n (seen_board v).nodes ≡ 0
+  pub home : out_of (seen_board v).out n ≡ 0
+
+-- The worker's number is at home.
+abbrev pub CameHome : Knows → Worker → Type 0
+CameHome v h = IsHome v (view h.seat).number
+
+-- Whoever was at home is.
+abbrev pub StayHome : Knows → Knows → Type 0
+StayHome v w = (n : ℕ) → IsHome v n → IsHome w n
+
+-- The worker may begin, and its seat is for this task.
+pub record MayJoin (p : Program) (c : Shared) (about : Option Task) (h : Worker) : Type 0 where
+  pub may : MayWork p c h
+  pub about_is : (view h.seat).about ≡ about

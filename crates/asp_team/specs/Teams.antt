@@ -1,0 +1,66 @@
+-- A team before its workers begin.
+use Rattle.std.specs.Prelude.{◌≡◌, ℕ, suc, ◌<◌, List, [], ◌∷◌, length, Some}
+use Rattle.std.specs.List.{All}
+use Rattle.asp_model.specs.declared.program.Program.{Program}
+use Rattle.asp_model.specs.declared.results.Mode.{Mode}
+use Rattle.asp_vault.specs.declared.view.View.{View}
+use Rattle.asp_vault.specs.Makers.{NoneBy}
+use Rattle.asp_vault.specs.Seats.{view}
+use Rattle.asp_book.specs.Books.{signed}
+use Rattle.asp_book.specs.Calls.{Knows, task_of}
+use Rattle.asp_core.specs.declared.task.Task.{Task}
+use Rattle.asp_crew_laws.specs.Runs as runs
+use Rattle.asp_worker.specs.declared.worker.Worker.{Worker}
+use Rattle.asp_worker.specs.declared.worker.Shared.{Shared}
+use Rattle.asp_worker.specs.Seats.{IsIdle, IsRunOf, IsPaged}
+use Rattle.asp_team.specs.declared.lead.Lead.{Lead}
+use Rattle.asp_team.specs.declared.team.Team.{Team}
+use Rattle.asp_team.specs.Joined.{IsLead, MayJoin}
+
+-- Only numbers that were given to a seat did anything.
+abbrev pub AreNew : Knows → Type 0
+AreNew v = (n : ℕ) → v.splits < n → NoneBy signed n v.seen
+
+-- So many seats were split from the first, and none has come back.
+pub record HasOut {D E : Type 0} (v : View D E) (n : ℕ) : Type 0 where
+  pub splits : v.splits ≡ n
+  pub joins : v.joins ≡ 0
+
+-- Each seat that was split has come back.
+abbrev pub IsAllBack : {D E : Type 0} → View D E → Type 0
+IsAllBack v = v.splits ≡ v.joins
+
+-- The first seat of a board for this task, whose number has nothing. No seat was split from it.
+pub record IsBegun (t : Task) (v : Knows) : Type 0 where
+  pub about : v.about ≡ Some t
+  pub first : v.number ≡ 0
+  pub idle : IsIdle v
+  pub new : AreNew v
+  pub out : HasOut v 0
+
+-- Workers' seats may be split from these, which are of a run in the mode of what is shared.
+pub record IsHost (c : Shared) (l : Lead) : Type 0 where
+  pub lead : IsLead c l
+  pub idle : IsIdle (view l.seat)
+  pub run : IsRunOf (task_of (view l.seat)).program c.mode (view l.seat)
+  pub pages : IsPaged (task_of (view l.seat)).program (view l.pages)
+  pub new : AreNew (view l.seat)
+
+-- The workers' numbers are i and those that follow.
+abbrev pub AreNumbered : ℕ → List Worker → Type 0
+AreNumbered i [] = Unit {0}
+AreNumbered i (h ∷ hs) = ((view h.seat).number ≡ i) × AreNumbered (suc i) hs
+
+-- These workers may begin, whose seats are all that are out.
+pub record AreReady (c : Shared) (l : Lead) (workers : List Worker) : Type 0 where
+  pub out : HasOut (view l.seat) (length workers)
+  pub pages_out : HasOut (view l.pages) (length workers)
+  pub may : All (MayJoin (task_of (view l.seat)).program c (view l.seat).about) workers
+  pub numbered : AreNumbered 1 workers
+
+-- ---- a whole team
+pub record IsTeam (p : Program) (m : Mode) (budget : ℕ) (t : Team) : Type 0 where
+  pub lead : IsLead t.shared t.lead
+  pub about : (view t.lead.seat).about ≡ Some (runs.task_of p m budget)
+  pub idle : IsIdle (view t.lead.seat)
+  pub ready : AreReady t.shared t.lead t.workers.items

@@ -1,0 +1,207 @@
+//! A team: what its workers share, the main thread's seats, and the workers before they begin.
+ghost use Rattle.std.specs.Prelude.{◌≡◌, ◌+◌, ◌^◌, ◌<◌, ◌≤◌, [], length, IfOk, OnOk};
+ghost use Rattle.asp_vault.specs.Moments.{Stays};
+ghost use Rattle.asp_vault.specs.Rules.{opened, parted};
+ghost use Rattle.asp_vault.specs.Seats.{view, IsOf, IsBeside};
+ghost use Rattle.asp_pool.specs.Lists.{Every};
+ghost use Rattle.asp_pool.specs.Pools.{IsOfPool};
+ghost use Rattle.asp_book.specs.Calls.{task_of as seen_task};
+ghost use Rattle.asp_crew_laws.specs.Runs.{task_of};
+ghost use Rattle.asp_worker.specs.Seats.{IsIdle, IsPaged};
+ghost use Rattle.asp_team.specs.Joined.{MayJoin};
+ghost use Rattle.asp_team.specs.Teams.{AreNew, AreReady, HasOut, IsBegun, IsHost, IsTeam};
+
+use crate::fork::fork_all;
+use crate::lead::Lead;
+use asp_book::book::Book;
+use asp_core::goal::Goal;
+use asp_core::state::State;
+use asp_log::Log;
+use asp_model::results::Mode;
+use asp_pool::{Lane, Pass, Pool};
+use asp_vars::compiled::Compiled;
+use asp_vault::{Seat, Vault};
+use asp_worker::worker::{Shared, Worker};
+use std::alloc::{AllocError, Global};
+use std::sync::Wait;
+
+/// How many entries the log may have.
+const LOG_LIMIT: u32 = 1048576;
+
+/// A run before its workers begin.
+#[derive(Drop)]
+pub(crate) struct Team {
+    /// What the workers share.
+    pub(crate) shared: Shared,
+    /// The main thread's seats.
+    pub(crate) lead: Lead,
+    /// Their numbers are 1 and those that follow.
+    pub(crate) workers: Vec<Worker>,
+}
+
+// A vault with the book of a run at which nothing has happened yet, and its first seat.
+fn start(
+    alloc: Global,
+    compiled: &Compiled,
+    mode: Mode,
+    budget: u64,
+) -> Result<(Vault<Book>, Seat<Book>), AllocError>
+    ensures of { IfOk result (λ r. IsOf r.0 r.1) }
+    ensures view { IfOk result (λ r. view r.1 ≡ opened (task_of compiled.now mode budget) []) }
+{
+    let state = State::start(alloc, compiled, Goal::of(mode), budget, 0, [].as_slice())?;
+    Vault::make(alloc, Book::new(alloc, compiled, state))
+}
+
+// Sees that no other number has done anything.
+fn survey<R: Wait>(rt: &R, vault: &Vault<Book>, seat: &mut Seat<Book>)
+    requires of { IsOf vault.now seat.old }
+    requires first { (view seat.old).number ≡ 0 }
+    requires idle { IsIdle (view seat.old) }
+    ensures of { IsBeside seat.old seat.new }
+    ensures stays { Stays (view seat.old) (view seat.new) }
+    ensures idle { IsIdle (view seat.new) }
+    ensures new { AreNew (view seat.new) }
+{
+    let book = vault.take(rt, seat);
+    vault.give(seat, book);
+}
+
+// A vault with the book of a run whose root is split into so many paths, if there are atoms enough, and its first seat.
+fn forked<R: Wait>(
+    rt: &R,
+    alloc: Global,
+    compiled: &Compiled,
+    mode: Mode,
+    budget: u64,
+    paths: u32,
+) -> Result<(Vault<Book>, Seat<Book>), AllocError>
+    ensures of { IfOk result (λ r. IsOf r.0 r.1) }
+    ensures begun { IfOk result (λ r. IsBegun (task_of compiled.now mode budget) (view r.1)) }
+{
+    let (book, mut seat) = start(alloc, compiled, mode, budget)?;
+    fork_all(rt, &book, &mut seat, compiled, paths)?;
+    survey(rt, &book, &mut seat);
+    Ok((book, seat))
+}
+
+// A vault with an empty log, and its first seat.
+fn blank(alloc: Global, compiled: &Compiled) -> Result<(Vault<Log>, Seat<Log>), AllocError>
+    ensures of { IfOk result (λ r. IsOf r.0 r.1) }
+    ensures paged { IfOk result (λ r. IsPaged compiled.now (view r.1)) }
+    ensures first { IfOk result (λ r. (view r.1).number ≡ 0) }
+    ensures out { IfOk result (λ r. HasOut (view r.1) 0) }
+{
+    Vault::make(alloc, Log::new(alloc, compiled, LOG_LIMIT))
+}
+
+// The next worker, with a lane and a pass.
+fn next(shared: &Shared, lead: &mut Lead, lane: Lane, pass: Pass) -> Worker
+    requires host { IsHost shared.now lead.old }
+    requires room { ((view lead.old.seat).splits + 1 < 2 ^ 32) × ((view lead.old.pages).splits + 1 < 2 ^ 32) }
+    requires pass { IsOfPool shared.now.pool pass }
+    ensures host { IsHost shared.now lead.new }
+    ensures seat { view lead.new.seat ≡ parted (view lead.old.seat) }
+    ensures pages { view lead.new.pages ≡ parted (view lead.old.pages) }
+    ensures number { (view result.seat).number ≡ (view lead.old.seat).splits + 1 }
+    ensures may { MayJoin (seen_task (view lead.old.seat)).program shared.now (view lead.old.seat).about result }
+{
+    Worker {
+        seat: shared.book.split(&mut lead.seat),
+        pages: shared.log.split(&mut lead.pages),
+        lane,
+        pass,
+        short: false,
+    }
+}
+
+// Adds the next worker, who takes a pass.
+fn add(
+    shared: &Shared,
+    lead: &mut Lead,
+    workers: &mut Vec<Worker>,
+    lane: Lane,
+    passes: &mut Vec<Pass>,
+) -> Result<(), AllocError>
+    requires host { IsHost shared.now lead.old }
+    requires ready { AreReady shared.now lead.old workers.old.items }
+    requires few { length workers.old.items < 64 }
+    requires some { 0 < length passes.old.items }
+    requires passes { Every (IsOfPool shared.now.pool) passes.old.items }
+    ensures host { IsHost shared.now lead.new }
+    ensures about { (view lead.new.seat).about ≡ (view lead.old.seat).about }
+    ensures ready { OnOk result (AreReady shared.now lead.new workers.new.items) }
+    ensures more { OnOk result (length workers.new.items ≡ length workers.old.items + 1) }
+    ensures fewer { length passes.new.items + 1 ≡ length passes.old.items }
+    ensures passes { Every (IsOfPool shared.now.pool) passes.new.items }
+{
+    match passes.pop() {
+        None => unreachable!(),
+        Some(pass) => {
+            workers.push(next(shared, lead, lane, pass))?;
+            Ok(())
+        }
+    }
+}
+
+// A worker for each lane. The only error is want of memory.
+fn workers(
+    shared: &Shared,
+    lead: &mut Lead,
+    mut lanes: Vec<Lane>,
+    mut passes: Vec<Pass>,
+) -> Result<Vec<Worker>, AllocError>
+    requires host { IsHost shared.now lead.old }
+    requires none_out { HasOut (view lead.old.seat) 0 × HasOut (view lead.old.pages) 0 }
+    requires few { length lanes.items ≤ 64 }
+    requires even { length passes.items ≡ length lanes.items }
+    requires passes { Every (IsOfPool shared.now.pool) passes.items }
+    ensures host { OnOk result (IsHost shared.now lead.new) }
+    ensures about { OnOk result ((view lead.new.seat).about ≡ (view lead.old.seat).about) }
+    ensures ready { IfOk result (λ all. AreReady shared.now lead.new all.items) }
+    ensures count { IfOk result (λ all. length all.items ≡ length lanes.items) }
+{
+    let mut workers = Vec::with_capacity(shared.alloc, lanes.len())?;
+    lanes.reverse();
+    'lanes: while let Some(lane) = lanes.pop() {
+        add(shared, lead, &mut workers, lane, &mut passes)?;
+    }
+    Ok(workers)
+}
+
+/// So many workers, 1 to 64, with what they share and what the main thread has.
+pub(crate) fn gathered<R: Wait>(
+    rt: &R,
+    alloc: Global,
+    compiled: &Compiled,
+    mode: Mode,
+    budget: u64,
+    count: u32,
+) -> Result<Team, AllocError>
+    requires { (1 ≤ count) × (count ≤ 64) }
+    ensures team { IfOk result (IsTeam compiled.now mode budget) }
+    ensures count { IfOk result (λ team. length team.workers.items ≡ count) }
+{
+    let (book, seat) = forked(rt, alloc, compiled, mode, budget, count)?;
+    let (log, pages) = blank(alloc, compiled)?;
+    let (pool, lanes, passes) = Pool::new(alloc, count)?;
+    let shared = Shared {
+        alloc,
+        mode,
+        workers: count,
+        book,
+        log,
+        pool,
+    };
+    let mut lead = Lead {
+        seat,
+        pages,
+        short: false,
+    };
+    let workers = workers(&shared, &mut lead, lanes, passes)?;
+    Ok(Team {
+        shared,
+        lead,
+        workers,
+    })
+}

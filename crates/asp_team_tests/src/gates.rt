@@ -1,0 +1,80 @@
+//! Workers are on their paths at the same time.
+use crate::programs::free_atoms;
+use asp_core::event::Event;
+use asp_model::results::Mode;
+use asp_team::gate::Gate;
+use asp_team::many::solve;
+use asp_team::report::Report;
+use std::sync::atomic::{AtomicU64, Ordering};
+use std::test::Fail;
+use std::thread;
+
+// How often a worker looks whether the others have come.
+const PATIENCE: u64 = 200_000_000;
+
+// Holds each worker's first pass until so many have come.
+#[derive(Drop)]
+struct Holds {
+    come: AtomicU64,
+    wanted: u64,
+    late: AtomicU64,
+}
+
+fn hold(wanted: u64) -> Holds {
+    Holds {
+        come: AtomicU64::new(0),
+        wanted,
+        late: AtomicU64::new(0),
+    }
+}
+
+impl Gate for Holds {
+    fn pass(&self, _worker: u32, turn: u64) {
+        if turn > 0 {
+            return;
+        }
+        self.come.fetch_add(1, Ordering::SeqCst);
+        for _ in 0..PATIENCE {
+            if self.come.load(Ordering::SeqCst) >= self.wanted {
+                return;
+            }
+            thread::yield_now();
+        }
+        self.late.fetch_add(1, Ordering::SeqCst);
+    }
+}
+
+fn has_closed(report: &Report, number: u32) -> bool {
+    for event in report.journal.as_slice() {
+        if let Event::Close(by, _, _) = event {
+            if *by == number {
+                return true;
+            }
+        }
+    }
+    false
+}
+
+#[test]
+fn two_workers_are_on_their_paths_at_once(rt: HostRuntime) -> Result<(), Fail> {
+    let heap = rt.alloc();
+    let compiled = free_atoms(heap, 2)?;
+    let gate = hold(2);
+    let report = solve(&rt, heap, &compiled, Mode::Enum, 100, 2, &gate)?;
+    assert_eq!(rt; gate.late.load(Ordering::SeqCst), 0);
+    assert_eq!(rt; report.results.answers.as_slice().len(), 4);
+    assert!(rt; !report.short);
+    assert!(rt; !has_closed(&report, 0) && has_closed(&report, 1) && has_closed(&report, 2));
+    Ok(())
+}
+
+#[test]
+fn four_workers_are_on_their_paths_at_once(rt: HostRuntime) -> Result<(), Fail> {
+    let heap = rt.alloc();
+    let compiled = free_atoms(heap, 4)?;
+    let gate = hold(4);
+    let report = solve(&rt, heap, &compiled, Mode::Enum, 100, 4, &gate)?;
+    assert_eq!(rt; gate.late.load(Ordering::SeqCst), 0);
+    assert_eq!(rt; report.results.answers.as_slice().len(), 16);
+    Ok(())
+}
