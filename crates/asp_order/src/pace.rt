@@ -15,8 +15,8 @@ const FIRST: u64 = 100;
 
 /// What is counted from restart to restart, and what makes the next restart due.
 ///
-/// Restarts get rarer geometrically (Walsh, 'Search in a Small World', 1999), and alone would leave more and more nogoods to be looked at: where far too many are kept, one is
-/// due early.
+/// Restarts get rarer geometrically (Walsh, 'Search in a Small World', 1999), and alone would leave more and more
+/// nogoods to be looked at: where far too many are kept, one is due early.
 #[derive(Drop)]
 pub struct Pace {
     /// How many restarts there were. Stands still at the greatest `u64`.
