@@ -1,6 +1,6 @@
 #!/usr/bin/env bash
-# Runs every example, every row, every refusal, the commands of the README and the manual, and the programs that need a good
-# search through the built program, and compares bytes and status.
+# Runs every example, every row, every refusal, the commands of the README and the manual, the programs that need a good search,
+# and random programs through the built program, and compares bytes and status.
 # Usage: tests/examples.sh [PROGRAM]     (the program is build/aspenum where none is named)
 cd "$(dirname "$0")/.." || exit 1
 program=${1:-build/aspenum}
@@ -94,6 +94,9 @@ python3 tests/readme.py "$program" man/aspenum.1 || failed=$((failed + 1))
 
 # Programs that are refuted within so many conflicts.
 python3 tests/search.py "$program" || failed=$((failed + 1))
+
+# Random programs beside the plain reference.
+python3 tests/compare.py "$program" 400 --no-clasp || failed=$((failed + 1))
 
 echo "examples: $passed passed, $failed failed"
 [ "$failed" -eq 0 ]
