@@ -1,7 +1,7 @@
 #!/usr/bin/env python3
 """Compares aspenum with the plain reference, and with clasp where it is there, on random small programs.
 
-    compare.py PROGRAM [COUNT [SEED]]     (PROGRAM may have words behind it: "build/aspenum --workers 4")
+    compare.py PROGRAM [COUNT [SEED]] [--no-clasp]     (PROGRAM may have words behind it: "build/aspenum --workers 4")
 
 Each program has up to seven atoms and every kind of statement. In an enumeration the bytes must be the reference's; in
 an optimisation the closing lines, cost and count, must be. Where clasp lists other answers than the reference, that is
@@ -11,9 +11,8 @@ import random
 import shutil
 import subprocess
 import sys
-from os.path import abspath, dirname, join
 
-HERE = dirname(abspath(__file__))
+import reference
 
 
 def literals(random_, atoms, most):
@@ -70,25 +69,25 @@ def without_answer(text):
     return lines[:1] + lines[2:] if lines[0].startswith("Answer: ") else lines
 
 
+def wanted_of(text, mode):
+    return "".join(line + "\n" for line in reference.lines(reference.read(text), mode))
+
+
 def differs(aspenum, text):
     """What is wrong with aspenum's answers to a program, or nothing."""
-    reference = [sys.executable, join(HERE, "reference.py")]
-    wanted = run(reference + ["enum"], text).stdout
-    given = run([*aspenum, "--mode", "enum"], text)
-    if given.stdout != wanted:
-        return "the enumeration differs from the reference's"
-    if given.returncode != (20 if b"UNSATISFIABLE" in wanted else 30):
-        return f"the status is {given.returncode}"
-    best_wanted = run(reference + ["opt"], text).stdout.decode()
-    best = run([*aspenum, "--mode", "opt"], text).stdout.decode()
-    if without_answer(best) != without_answer(best_wanted):
-        return "the optimum differs from the reference's"
+    for mode, part in (("enum", lambda whole: whole), ("opt", without_answer)):
+        wanted = wanted_of(text, mode)
+        given = run([*aspenum, "--mode", mode], text)
+        if part(given.stdout.decode()) != part(wanted):
+            return f"--mode {mode} differs from the reference"
+        if given.returncode != (20 if "UNSATISFIABLE" in wanted else 30):
+            return f"the status is {given.returncode} with --mode {mode}"
     return None
 
 
 def clasp_differs(text):
     """Whether clasp lists other answers than the reference: its own affair, and worth knowing."""
-    wanted = run([sys.executable, join(HERE, "reference.py"), "enum"], text).stdout.decode()
+    wanted = wanted_of(text, "enum")
     try:
         listed = run(["clasp", "-n", "0", "--opt-mode=ignore"], text, 10).stdout.decode()
     except subprocess.TimeoutExpired:
@@ -100,20 +99,23 @@ def clasp_differs(text):
 
 
 def main():
-    aspenum = sys.argv[1].split()
-    count = int(sys.argv[2]) if len(sys.argv) > 2 else 200
-    seed = int(sys.argv[3]) if len(sys.argv) > 3 else 1
+    words = [word for word in sys.argv[1:] if word != "--no-clasp"]
+    aspenum = words[0].split()
+    count = int(words[1]) if len(words) > 1 else 200
+    seed = int(words[2]) if len(words) > 2 else 1
+    with_clasp = "--no-clasp" not in sys.argv and shutil.which("clasp")
     random_ = random.Random(seed)
     failed = others = 0
     for number in range(count):
         text = program(random_)
         wrong = differs(aspenum, text)
         failed += 1 if wrong else 0
-        other = clasp_differs(text) if shutil.which("clasp") else None
+        other = clasp_differs(text) if with_clasp else None
         others += 1 if other else 0
         for message in filter(None, (wrong, other)):
             print(f"program {number}: {message}\n{text}")
-    print(f"compare: {count} programs, {failed} differ; clasp differs on {others} (seed {seed})")
+    clasp = f"clasp differs on {others}" if with_clasp else "not compared with clasp"
+    print(f"compare: {count} programs, {failed} differ; {clasp} (seed {seed})")
     sys.exit(1 if failed else 0)
 
 

@@ -1,6 +1,6 @@
 #!/usr/bin/env bash
-# Runs every example, every row, every refusal, the commands of the README and the manual, the programs that need a good search
-# and those whose progress is told through the built program, and compares bytes and status.
+# Runs every example, every row, every refusal, the commands of the README and the manual, the programs that need a good search,
+# those whose progress is told, and random programs through the built program, and compares bytes and status.
 # Usage: tests/examples.sh [PROGRAM]     (the program is build/aspenum where none is named)
 cd "$(dirname "$0")/.." || exit 1
 program=${1:-build/aspenum}
@@ -97,6 +97,9 @@ python3 tests/search.py "$program" || failed=$((failed + 1))
 
 # Lines while a run goes on.
 python3 tests/progress.py "$program" || failed=$((failed + 1))
+
+# Random programs beside the plain reference.
+python3 tests/compare.py "$program" 400 --no-clasp || failed=$((failed + 1))
 
 echo "examples: $passed passed, $failed failed"
 [ "$failed" -eq 0 ]
