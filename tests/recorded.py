@@ -1,7 +1,7 @@
 #!/usr/bin/env python3
 """Has the checker look at the proofs that the program writes: each must be confirmed, and none without one of its answers.
 
-    proofs.py PROGRAM CHECKER [COUNT [SEED]]
+    recorded.py PROGRAM CHECKER [COUNT [SEED]]
 
 The programs are those of rows.txt that are solved, the examples, and COUNT (300) random small ones, in both modes."""
 import random
@@ -69,7 +69,7 @@ def main():
                 if run([checker], text + less).stdout == b"YES\n":
                     failed += 1
                     print(f"failed: {text}: --mode {mode}: confirmed without an answer")
-    print(f"proofs: {passed} confirmed, {cut} refused without an answer, {failed} failed")
+    print(f"recorded: {passed} confirmed, {cut} refused without an answer, {failed} failed")
     sys.exit(1 if failed else 0)
 
 
