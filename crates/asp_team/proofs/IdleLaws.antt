@@ -1,9 +1,8 @@
 -- When all have come back, nobody has anything.
-use Rattle.std.proofs.Common.{◌≡◌, ◌⊎◌, ℕ, zero, suc, ◌+◌, ◌<◌, ◌≤◌, cond, List, [], ◌∷◌, length, Option, Some, refl, sym, ap, ◌∙◌, subst, inl, inr, arith, eq-eqb}
+use Rattle.std.proofs.Common.{◌≡◌, ◌⊎◌, ℕ, suc, ◌+◌, ◌<◌, ◌≤◌, List, [], ◌∷◌, length, Option, Some, sym, ap, ◌∙◌, subst, inl, inr, arith}
 use Rattle.std.specs.Prelude.{unwrap_or}
 use Rattle.std.specs.List.{All}
-use Rattle.std.proofs.lemmas.Bool.{cases_eq, cases_lt}
-use Rattle.std.proofs.lemmas.List.Sums.{sum_by-cons}
+use Rattle.std.proofs.lemmas.Bool.{cases_eq}
 use mathlib.Core.List.{IsPrefix}
 use lib.ListN.{get_elem?}
 use Rattle.asp_vault.specs.Makers.{placed, of_number, named}
@@ -11,9 +10,7 @@ use Rattle.asp_vault.specs.Rules.{Guests, Learnt, seeing}
 use Rattle.asp_vault.specs.Seats.{view}
 use Rattle.asp_vault.proofs.Filters.{none_if}
 use Rattle.asp_vault.proofs.Prefixes.{prefix_trans}
-use Rattle.asp_path.specs.declared.status.Status.{Status}
 use Rattle.asp_path.specs.declared.status.Status.TheVariants as status
-use Rattle.asp_path.specs.Trees.{Node, is_held, is_held_by, held_count}
 use Rattle.asp_core.specs.declared.event.Event.{Event}
 use Rattle.asp_core.specs.declared.task.Task.{Task}
 use Rattle.asp_core.specs.Units.{out_of}
@@ -23,12 +20,14 @@ use Rattle.asp_core.specs.Growth.{Spares}
 use Rattle.asp_core.proofs.GrowthLaws.{Spares-run}
 use Rattle.asp_book.specs.Books.{Booked, board, signed, IsJournalOf}
 use Rattle.asp_book.specs.Calls.{Knows, no_task, task_of, seen_board}
+use Rattle.asp_book.proofs.CallLaws.{others-are}
 use Rattle.asp_crew_laws.specs.Reports as reports
+use Rattle.asp_crew_laws.proofs.SharedLaws.{held-none, below-or}
 use Rattle.asp_worker.specs.declared.worker.Worker.{Worker}
 use Rattle.asp_worker.specs.Seats.{IsIdle}
 use Rattle.asp_team.specs.Joined.{IsHome}
 use Rattle.asp_team.specs.Teams.{AreNumbered}
-use Rattle.asp_team.proofs.JoinLaws.{since-none, spares-later, others-are}
+use Rattle.asp_team.proofs.JoinLaws.{since-none, spares-later}
 
 -- ---- each number's worker is home
 later : {X : Type 0} (P : X → Type 0) (x : X) (xs : List X) → All P (x ∷ xs) → All P xs
@@ -42,31 +41,6 @@ each-number P i (h ∷ hs) is all n low high =
     here : (n ≡ i) ⊎ (n ≡ i → ⊥) → (suc i ≤ n → P n) → P n
     here (inl e) rest = subst P (is.0 ∙ sym e) (all 0 h (omega arith))
     here (inr ne) rest = rest (omega (arith, low, ne))
-
--- ---- nobody holds a leaf
-held-none : (nodes : List Node) → ((n : ℕ) → held_by n nodes ≡ 0) → held_count nodes ≡ 0
-held-none [] none = refl
-held-none (x ∷ nodes) none = here x.status refl (held-none nodes (λ n. omega (arith, none n, at n)))
-  where
-    at : (n : ℕ) → held_by n (x ∷ nodes) ≡ cond (is_held_by n x.status) 1 0 + held_by n nodes
-    at n = sum_by-cons (λ (y : Node). cond (is_held_by n y.status) 1 0) x nodes
-
-    all : held_count (x ∷ nodes) ≡ cond (is_held x.status) 1 0 + held_count nodes
-    all = sum_by-cons (λ (y : Node). cond (is_held y.status) 1 0) x nodes
-
-    here : (s : Status) → x.status ≡ s → held_count nodes ≡ 0 → held_count (x ∷ nodes) ≡ 0
-    here status.Open q rest = omega (arith, all, rest, ap (λ s. let k : ℕ = cond (is_held s) 1 0 in k) q)
-    here (status.Held n) q rest = absurd (omega (arith, none n, at n, ap (λ s. let k : ℕ = cond (is_held_by n s) 1 0 in k) q, ap (λ b. let k : ℕ = cond b 1 0 in k) (eq-eqb n n refl)))
-    here status.Closed q rest = omega (arith, all, rest, ap (λ s. let k : ℕ = cond (is_held s) 1 0 in k) q)
-    here status.Forked q rest = omega (arith, all, rest, ap (λ s. let k : ℕ = cond (is_held s) 1 0 in k) q)
-
-below-or : (n k : ℕ) → (n ≡ 0) ⊎ (((0 < n) × (n ≤ k)) ⊎ (k < n))
-below-or zero k = inl refl
-below-or (suc n) k = here (cases_lt k (suc n))
-  where
-    here : (k < suc n) ⊎ (suc n ≤ k) → (suc n ≡ 0) ⊎ (((0 < suc n) × (suc n ≤ k)) ⊎ (k < suc n))
-    here (inl more) = inr (inr more)
-    here (inr le) = inr (inl (omega arith, le))
 
 -- ---- the book that was closed: v is the first seat's view, and w when it has looked once more
 module _ (v w : Knows) (b : Booked) (idle : IsIdle v) (first : v.number ≡ 0) (mine : of_number signed v.number (placed 0 v.seen) ≡ named signed v.own) (home : (n : ℕ) → 0 < n → n ≤ v.splits → IsHome v n)

@@ -1,7 +1,5 @@
 -- Numbers whose seats came back to the first: what they left behind stands in what the first has seen.
 use Rattle.std.proofs.Common.{◌≡◌, ℕ, zero, suc, ◌+◌, Bool, true, false, cond, leb, List, [], ◌∷◌, ◌++◌, length, Option, Some, refl, sym, ap, ◌∙◌, subst, arith, length-append}
-use Rattle.std.specs.List.{AllByRecursion}
-use Rattle.std.proofs.lemmas.Bool.{false≢true, eq-eqb}
 use mathlib.Core.List.{IsPrefix}
 use mathlib.Core.Option.{none, some}
 use Rattle.std.specs.Prelude.{unwrap_or}
@@ -15,12 +13,12 @@ use Rattle.asp_core.specs.declared.event.Event.{Event}
 use Rattle.asp_core.specs.declared.task.Task.{Task}
 use Rattle.asp_core.specs.Units.{out_of}
 use Rattle.asp_core.specs.Boards.{start}
-use Rattle.asp_core.specs.Events.{held_by, maker, run, replay}
+use Rattle.asp_core.specs.Events.{held_by, run, replay}
 use Rattle.asp_core.specs.Growth.{Spares}
 use Rattle.asp_core.proofs.GrowthLaws.{Spares-run}
 use Rattle.asp_book.specs.Books.{signed, IsJournalOf}
 use Rattle.asp_book.specs.Calls.{Knows, no_task, task_of, seen_board}
-use Rattle.asp_book.proofs.CallLaws.{run-append, lawful-rest}
+use Rattle.asp_book.proofs.CallLaws.{others-are, run-append, lawful-rest}
 use Rattle.asp_worker.specs.declared.worker.Shared.{Shared}
 use Rattle.asp_worker.specs.Seats.{IsRun, IsIdle, Reads}
 use Rattle.asp_team.specs.declared.lead.Lead.{Lead}
@@ -36,10 +34,6 @@ since-none n xs ys own p h k =
     none_if signed n (length xs) p.0
     (none-more (of_number signed n (placed 0 xs)) (of_number signed n (placed (length xs) p.0))
     (h ∙ sym k ∙ ap (λ (l : List Event). of_number signed n (placed 0 l)) (sym p.1) ∙ of_more signed n xs p.0))
-
-pub others-are : (n : ℕ) (events : List Event) → NoneBy signed n events → AllByRecursion (λ e. maker e ≡ n → ⊥) events
-others-are n [] h = tt
-others-are n (e ∷ events) h = (λ same. absurd (false≢true (sym h.0 ∙ eq-eqb (maker e) n same)), others-are n events h.1)
 
 -- so it has what it had
 pub spares-later : (t : Task) (n : ℕ) (xs ys : List Event) (p : IsPrefix xs ys) → IsJournalOf t ys → NoneBy signed n p.0 → Spares n (replay t xs) (replay t ys)

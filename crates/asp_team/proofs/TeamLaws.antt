@@ -31,7 +31,7 @@ use Rattle.asp_core.proofs.GrowthLaws.{Spares-run}
 use Rattle.asp_book.specs.Books.{Booked, signed, IsJournalOf}
 use Rattle.asp_book.specs.Calls.{Knows, no_task, task_of, seen_board, IsCall}
 use Rattle.asp_book.specs.Replies.{taken}
-use Rattle.asp_book.proofs.CallLaws.{task-stays}
+use Rattle.asp_book.proofs.CallLaws.{others-are, task-stays}
 use Rattle.asp_book.proofs.DeskLaws.{HasTaken, stays_surely, calls}
 use Rattle.asp_crew_laws.specs.Runs as runs
 use Rattle.asp_worker.specs.declared.worker.Worker.{Worker}
@@ -41,7 +41,7 @@ use Rattle.asp_worker.proofs.SeatLaws.{board-task, settled-passes, settled-idles
 use Rattle.asp_team.specs.declared.lead.Lead.{Lead}
 use Rattle.asp_team.specs.Joined.{MayJoin}
 use Rattle.asp_team.specs.Teams.{AreNew, AreNumbered, AreReady, HasOut, IsBegun, IsHost}
-use Rattle.asp_team.proofs.JoinLaws.{others-are, place-kept, place-last}
+use Rattle.asp_team.proofs.JoinLaws.{place-kept, place-last}
 
 -- ---- the number that has nothing still has nothing
 pub idle-passes : (v w : Knows) → IsIdle v → Passes v w → IsFree w → IsIdle w

@@ -1,5 +1,5 @@
 //! A run of many workers.
-ghost use Rattle.std.specs.Prelude.{◌≡◌, ℕ, ◌<◌, ◌≤◌, Some, IfOk};
+ghost use Rattle.std.specs.Prelude.{◌≡◌, ℕ, ◌<◌, ◌≤◌, None, Some, IfOk};
 ghost use Rattle.asp_vault.specs.Seats.{view};
 ghost use Rattle.asp_book.specs.Books.{board};
 ghost use Rattle.asp_crew_laws.specs.Reports.{IsReport, IsIdle as IsIdleBoard};
@@ -13,6 +13,7 @@ use crate::team::{Team, gathered};
 use asp_book::book::Book;
 use asp_crew::finish::finish;
 use asp_crew::reported::reported;
+use asp_crew::watch::{Counts, Unwatched};
 use asp_crew_laws::report::Report;
 use asp_model::results::Mode;
 use asp_propagators::propagators::Propagators;
@@ -66,7 +67,8 @@ pub fn solve_with<R: Threads + Wait + Sync, G: Gate + Sync, H: Halt + Sync>(
     halt: &H,
 ) -> Result<Report, AllocError>
     requires { (1 ≤ count) × (count ≤ 64) }
-    ensures { IfOk result (IsReport compiled.now mode budget) }
+    ensures report { IfOk result (IsReport compiled.now mode budget) }
+    ensures proof { IfOk result (λ r. r.proof ≡ None) }
 {
     let team = gathered(rt, alloc, compiled, mode, budget, count)?;
     let Team {
@@ -78,7 +80,16 @@ pub fn solve_with<R: Threads + Wait + Sync, G: Gate + Sync, H: Halt + Sync>(
     let short = lead.short;
     let (mut book, log) = dismissed(shared, lead);
     let propagators = Propagators::new(alloc, compiled)?;
-    let unpaid = finish(alloc, compiled, mode, &mut book, propagators)?;
+    let unpaid = finish(
+        alloc,
+        compiled,
+        mode,
+        &mut book,
+        propagators,
+        &mut Counts::new(),
+        &mut Unwatched,
+        None,
+    )?;
     Ok(reported(mode, book, unpaid, log, short))
 }
 
@@ -93,7 +104,8 @@ pub fn solve<R: Threads + Wait + Sync, G: Gate + Sync>(
     gate: &G,
 ) -> Result<Report, AllocError>
     requires { (1 ≤ count) × (count ≤ 64) }
-    ensures { IfOk result (IsReport compiled.now mode budget) }
+    ensures report { IfOk result (IsReport compiled.now mode budget) }
+    ensures proof { IfOk result (λ r. r.proof ≡ None) }
 {
     solve_with(rt, alloc, compiled, mode, budget, count, gate, &NoHalt)
 }

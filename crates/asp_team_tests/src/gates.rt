@@ -1,16 +1,14 @@
 //! Workers are on their paths at the same time.
 use crate::programs::free_atoms;
-use asp_core::event::Event;
+use crate::reports::{finished, has_closed};
 use asp_model::results::Mode;
 use asp_team::gate::Gate;
 use asp_team::many::solve;
-use asp_team::report::Report;
 use std::sync::atomic::{AtomicU64, Ordering};
-use std::test::Fail;
 use std::thread;
 
 // How often a worker looks whether the others have come.
-const PATIENCE: u64 = 200_000_000;
+const PATIENCE: u64 = 10_000_000;
 
 // Holds each worker's first pass until so many have come.
 #[derive(Drop)]
@@ -44,37 +42,26 @@ impl Gate for Holds {
     }
 }
 
-fn has_closed(report: &Report, number: u32) -> bool {
-    for event in report.journal.as_slice() {
-        if let Event::Close(by, _, _) = event {
-            if *by == number {
-                return true;
-            }
-        }
-    }
-    false
-}
-
 #[test]
-fn two_workers_are_on_their_paths_at_once(rt: HostRuntime) -> Result<(), Fail> {
+fn two_workers_are_on_their_paths_at_once(rt: HostRuntime) {
     let heap = rt.alloc();
-    let compiled = free_atoms(heap, 2)?;
+    let compiled = free_atoms(&rt, heap, &[1, 2]);
     let gate = hold(2);
-    let report = solve(&rt, heap, &compiled, Mode::Enum, 100, 2, &gate)?;
+    let report = solve(&rt, heap, &compiled, Mode::Enum, 100, 2, &gate).expect(&rt, "memory");
     assert_eq!(rt; gate.late.load(Ordering::SeqCst), 0);
-    assert_eq!(rt; report.results.answers.as_slice().len(), 4);
+    assert_eq!(rt; finished(&report), Some(4));
     assert!(rt; !report.short);
-    assert!(rt; !has_closed(&report, 0) && has_closed(&report, 1) && has_closed(&report, 2));
-    Ok(())
+    assert!(rt; !has_closed(&report, 0));
+    assert!(rt; has_closed(&report, 1));
+    assert!(rt; has_closed(&report, 2));
 }
 
 #[test]
-fn four_workers_are_on_their_paths_at_once(rt: HostRuntime) -> Result<(), Fail> {
+fn four_workers_are_on_their_paths_at_once(rt: HostRuntime) {
     let heap = rt.alloc();
-    let compiled = free_atoms(heap, 4)?;
+    let compiled = free_atoms(&rt, heap, &[1, 2, 3, 4]);
     let gate = hold(4);
-    let report = solve(&rt, heap, &compiled, Mode::Enum, 100, 4, &gate)?;
+    let report = solve(&rt, heap, &compiled, Mode::Enum, 100, 4, &gate).expect(&rt, "memory");
     assert_eq!(rt; gate.late.load(Ordering::SeqCst), 0);
-    assert_eq!(rt; report.results.answers.as_slice().len(), 16);
-    Ok(())
+    assert_eq!(rt; finished(&report), Some(16));
 }

@@ -1,23 +1,25 @@
 //! Whichever worker is stopped, and whenever: what it had is worked off by others.
-use crate::programs::{free_atoms, nothing_left};
-use asp_model::results::{End, Mode};
+use crate::programs::{free_atoms, nothing_left, triangle};
+use crate::reports::{finished, has_closed};
+use asp_model::results::Mode;
 use asp_team::gate::OpenGate;
 use asp_team::halt::Halt;
 use asp_team::many::solve_with;
+use asp_team::report::Report;
 use asp_vars::compiled::Compiled;
-use std::alloc::{AllocError, Global};
+use std::alloc::Global;
+use std::process::Abort;
 use std::sync::Wait;
-use std::test::Fail;
 use std::thread::Threads;
 
 // Stops one worker at a step.
 #[derive(Drop)]
-struct Stops {
+struct StopsOne {
     worker: u32,
     step: u64,
 }
 
-impl Halt for Stops {
+impl Halt for StopsOne {
     ghost never = { λ h. ⊥ };
 
     fn stop(&self, worker: u32, step: u64) -> bool {
@@ -25,31 +27,60 @@ impl Halt for Stops {
     }
 }
 
-// How many answers a run of four workers reports where one is stopped, if it is finished.
-fn found<R: Threads + Wait + Sync>(
-    rt: &R,
-    heap: Global,
-    compiled: &Compiled,
-    halt: &Stops,
-) -> Result<Option<usize>, AllocError> {
-    let report = solve_with(rt, heap, compiled, Mode::Enum, 100, 4, &OpenGate, halt)?;
-    match report.results.end {
-        End::Finished => Ok(Some(report.results.answers.as_slice().len())),
-        End::Unfinished => Ok(None),
+// Stops everybody before the first step.
+#[derive(Drop)]
+struct StopsAll;
+
+impl Halt for StopsAll {
+    ghost never = { λ h. ⊥ };
+
+    fn stop(&self, _worker: u32, _step: u64) -> bool {
+        true
     }
 }
 
-#[test]
-fn what_a_stopped_worker_had_is_worked_off(rt: HostRuntime) -> Result<(), Fail> {
-    let heap = rt.alloc();
-    let free = free_atoms(heap, 2)?;
-    let none = nothing_left(heap)?;
+// A run of four workers.
+fn run<R: Threads + Wait + Sync + Abort, H: Halt + Sync>(
+    rt: &R,
+    heap: Global,
+    compiled: &Compiled,
+    halt: &H,
+) -> Report {
+    solve_with(rt, heap, compiled, Mode::Enum, 100, 4, &OpenGate, halt).expect(rt, "memory")
+}
+
+// Whether so many answers are found, whichever worker is stopped at whichever of its first steps.
+fn are_found<R: Threads + Wait + Sync + Abort>(
+    rt: &R,
+    heap: Global,
+    compiled: &Compiled,
+    answers: usize,
+) -> bool {
     for worker in 0..4 {
         for step in 0..21 {
-            let halt = Stops { worker, step };
-            assert_eq!(rt; found(&rt, heap, &free, &halt)?, Some(4));
-            assert_eq!(rt; found(&rt, heap, &none, &halt)?, Some(0));
+            let report = run(rt, heap, compiled, &StopsOne { worker, step });
+            if finished(&report) != Some(answers) {
+                return false;
+            }
         }
     }
-    Ok(())
+    true
+}
+
+#[test]
+fn what_a_stopped_worker_had_is_worked_off(rt: HostRuntime) {
+    let heap = rt.alloc();
+    assert!(rt; are_found(&rt, heap, &free_atoms(&rt, heap, &[1, 2]), 4));
+    assert!(rt; are_found(&rt, heap, &nothing_left(&rt, heap), 0));
+    assert!(rt; are_found(&rt, heap, &triangle(&rt, heap), 6));
+}
+
+#[test]
+fn the_main_thread_works_off_all_where_everybody_is_stopped(rt: HostRuntime) {
+    let heap = rt.alloc();
+    let report = run(&rt, heap, &free_atoms(&rt, heap, &[1, 2]), &StopsAll);
+    assert_eq!(rt; finished(&report), Some(4));
+    assert!(rt; has_closed(&report, 0));
+    assert!(rt; !has_closed(&report, 1));
+    assert!(rt; !has_closed(&report, 4));
 }

@@ -1,11 +1,10 @@
 -- A worker's beginning and its end.
-use Rattle.std.proofs.Common.{◌≡◌, ℕ, ◌+◌, ◌≤◌, Bool, true, false, cond, eqb, List, [], ◌∷◌, Option, Some, None, refl, sym, ap, ◌∙◌, subst, arith}
-use Rattle.std.proofs.lemmas.Bool.{eqb-true, eq-eqb}
+use Rattle.std.proofs.Common.{◌≡◌, ℕ, ◌+◌, Bool, true, false, cond, eqb, List, [], ◌∷◌, None, refl, sym, ap, ◌∙◌, subst, arith}
+use Rattle.std.proofs.lemmas.Bool.{eqb-true}
 use Rattle.asp_model.specs.declared.program.Program.{Program}
 use Rattle.asp_model.specs.declared.results.Mode.{Mode}
 use Rattle.asp_vars.specs.Paid.{Units}
 use Rattle.asp_vault.specs.Moments.{Stays}
-use Rattle.asp_vault.specs.Seats.{view}
 use Rattle.asp_core.specs.declared.event.Event.{Event}
 use Rattle.asp_core.specs.declared.event.Event.TheVariants as event
 use Rattle.asp_core.specs.declared.task.Task.{Task}
@@ -18,11 +17,9 @@ use Rattle.asp_book.specs.Replies.{given_back}
 use Rattle.asp_search.specs.Beside.{new_search}
 use Rattle.asp_search_laws.specs.Searching.{Searching}
 use Rattle.asp_crew_laws.proofs.WorkLaws.{work-begins}
-use Rattle.asp_worker.specs.declared.worker.Worker.{Worker}
-use Rattle.asp_worker.specs.declared.worker.Shared.{Shared}
-use Rattle.asp_worker.specs.Seats.{IsRun, IsSettled, IsRunOf, IsIdle, IsFree, Idles, MayWork, Owes}
+use Rattle.asp_worker.specs.Seats.{IsSettled, IsRunOf, IsIdle, IsFree, Idles, Owes}
 use Rattle.asp_worker.specs.Working.{GoesOn}
-use Rattle.asp_worker.proofs.SeatLaws.{board-task, board-now, lawful-now, settled-on, idles-call, idles-leases, free-idles, settled-idles}
+use Rattle.asp_worker.proofs.SeatLaws.{board-task, board-now, lawful-now, settled-on, idles-call, free-idles, settled-idles}
 
 no_units : Program → Units
 no_units p = record { program = p; left = 0; burnt = 0; known = 0; least = None }

@@ -1,26 +1,23 @@
 -- A worker's search and its units beside the board, from call to call.
-use Rattle.std.proofs.Common.{◌≡◌, ℕ, ◌+◌, ◌<◌, ◌≤◌, Bool, true, false, cond, List, [], ◌∷◌, ◌++◌, length, Option, Some, None, refl, sym, ap, ◌∙◌, subst, arith}
-use Rattle.std.specs.Prelude.{ℤ, IsTrue, option_map}
+use Rattle.std.proofs.Common.{◌≡◌, ℕ, Bool, true, false, cond, List, [], Option, Some, None, refl, sym, ap, ◌∙◌, subst}
+use Rattle.std.specs.Prelude.{ℤ, option_map}
 use Rattle.asp_model.specs.declared.program.Program.{Program}
 use Rattle.asp_model.specs.declared.results.Mode.{Mode}
 use Rattle.asp_model.specs.declared.results.Mode.TheVariants.{Enum, Opt}
 use Rattle.asp_model.specs.Sets.{Atoms}
-use Rattle.asp_model.specs.Costs.{cost, betters}
+use Rattle.asp_model.specs.Costs.{cost}
 use Rattle.asp_vars.specs.Entailment.{HitsOnly, Settled}
 use Rattle.asp_vars.specs.Literals.{Literal}
 use Rattle.asp_vars.specs.Paid.{Units}
 use Rattle.asp_vars.proofs.ResolutionLaws.{betters_itself, HitsOnly-weaker}
 use Rattle.asp_vault.specs.Moments.{Stays}
 use Rattle.asp_path.specs.declared.status.Status.TheVariants as status
-use Rattle.asp_path.specs.Trees.{Node, cube_of}
 use Rattle.asp_core.specs.declared.task.Task.{Task}
 use Rattle.asp_core.specs.Units.{out_of}
 use Rattle.asp_core.specs.Boards.{Board, is_excused}
-use Rattle.asp_core.specs.Growth.{Grows}
 use Rattle.asp_core.specs.declared.event.Event.{Event}
 use Rattle.asp_core.specs.Events.{replay}
 use Rattle.asp_book.specs.Calls.{Knows, task_of, seen_board, IsCall}
-use Rattle.asp_book.specs.Fuels.{ComesBack}
 use Rattle.asp_book.proofs.BookLaws.{Fits-grows}
 use Rattle.asp_book.proofs.CallLaws.{task-stays, seen-after}
 use Rattle.asp_propagate.specs.Useful.{IsSmaller}
@@ -28,7 +25,7 @@ use Rattle.asp_search_laws.specs.Searching.{Searching}
 use Rattle.asp_crew_laws.specs.Working.{IsAtWork, Works}
 use Rattle.asp_crew_laws.proofs.AgreeLaws.{settled-excused}
 use Rattle.asp_crew_laws.proofs.WorkLaws.{work-on, work-unimproved}
-use Rattle.asp_worker.specs.Seats.{Passes, Idles, Holds, Owes}
+use Rattle.asp_worker.specs.Seats.{Passes, Idles, Owes}
 use Rattle.asp_worker.specs.Sharing.{is_smaller, lowered, lowered_by, with_best}
 use Rattle.asp_worker.specs.Working.{GoesOn, IsOn, IsOff}
 use Rattle.asp_worker.proofs.SeatLaws.{board-task, idles-passes, holds-idles, cube-idles}

@@ -1,5 +1,5 @@
 -- A worker on its path, after what a step asked for.
-use Rattle.std.proofs.Common.{◌≡◌, ℕ, List, Option, Some, None, refl, sym, ap, ◌∙◌, subst}
+use Rattle.std.proofs.Common.{◌≡◌, ℕ, List, Option, Some, sym, ap, ◌∙◌, subst}
 use Rattle.std.specs.Prelude.{slice_index_or, false}
 use Rattle.std.specs.Option.{IfSome}
 use Rattle.asp_model.specs.declared.program.Program.{Program}
@@ -7,7 +7,7 @@ use Rattle.asp_model.specs.declared.results.Mode.{Mode}
 use Rattle.asp_vars.specs.Literals.{Literal}
 use Rattle.asp_vars.specs.Paid.{Units}
 use Rattle.asp_vars.specs.declared.nogood.Nogood.{Nogood}
-use Rattle.asp_vault.specs.Seats.{view, IsBeside}
+use Rattle.asp_vault.specs.Seats.{view}
 use Rattle.asp_path.specs.declared.status.Status.TheVariants as status
 use Rattle.asp_path.specs.Trees.{Node, nowhere, cube_of}
 use Rattle.asp_pool.specs.Pools.{IsOfPool}
@@ -20,7 +20,7 @@ use Rattle.asp_book.specs.Calls.{Knows, task_of, seen_board}
 use Rattle.asp_search_laws.specs.Searching.{Searching}
 use Rattle.asp_worker.specs.declared.worker.Worker.{Worker}
 use Rattle.asp_worker.specs.declared.worker.Shared.{Shared}
-use Rattle.asp_worker.specs.Seats.{Idles, Passes, Leases, IsReady, Keeps, Holds, Owes}
+use Rattle.asp_worker.specs.Seats.{Idles, Passes, Leases, IsReady, Keeps}
 use Rattle.asp_worker.specs.Sharing.{TakesOver}
 use Rattle.asp_worker.specs.Working.{GoesOn, IsOn, IsOff, Finds}
 use Rattle.asp_worker.proofs.SeatLaws.{holds-idles, cube-idles, holds-leases, cube-leases, idles-passes, ready-seat}

@@ -2,15 +2,14 @@
 use Rattle.std.proofs.Common.{◌≡◌, ℕ, ◌+◌, ◌-◌, ◌^◌, ◌<◌, ◌≤◌, Bool, true, false, not, cond, ◌&&◌, eqb, leb, min, max, List, [], ◌∷◌, ◌++◌, length, Option, Some, None, refl, sym, ap, ◌∙◌, subst, arith}
 use Rattle.std.specs.Prelude.{ℤ, IsTrue, option_map}
 use Rattle.std.specs.Option.{IfSome}
-use Rattle.std.specs.List.{list_any}
-use Rattle.std.proofs.lemmas.Bool.{false≢true, eqb-true}
+use Rattle.std.proofs.lemmas.Bool.{eqb-true}
 use Rattle.asp_model.specs.declared.program.Program.{Program}
 use Rattle.asp_model.specs.declared.results.Mode.{Mode}
 use Rattle.asp_model.specs.declared.results.Mode.TheVariants.{Enum, Opt}
 use Rattle.asp_model.specs.Models.{is_stable}
-use Rattle.asp_model.specs.Sets.{Atoms, same_set}
+use Rattle.asp_model.specs.Sets.{Atoms}
 use Rattle.asp_model.specs.Costs.{cost, betters}
-use Rattle.asp_vars.specs.Literals.{Literal, hits}
+use Rattle.asp_vars.specs.Literals.{hits}
 use Rattle.asp_vars.specs.Numbering.{values}
 use Rattle.asp_vars.specs.Paid.{Units, least_of}
 use Rattle.asp_vault.specs.Moments.{Stays}
@@ -19,10 +18,10 @@ use Rattle.asp_path.proofs.TreeLaws.{leaf-within}
 use Rattle.asp_core.specs.declared.event.Event.{Event}
 use Rattle.asp_core.specs.declared.event.Event.TheVariants as event
 use Rattle.asp_core.specs.declared.task.Task.{Task}
-use Rattle.asp_core.specs.Units.{out_of, total_out}
-use Rattle.asp_core.specs.Boards.{Board, start, distinct, lists, is_answer, optimises, is_enough, IsBoundOf}
-use Rattle.asp_core.specs.Events.{Guard, happens, replay}
-use Rattle.asp_core.specs.Growth.{Grows, Spares}
+use Rattle.asp_core.specs.Units.{out_of}
+use Rattle.asp_core.specs.Boards.{Board, start, distinct, lists, is_answer, optimises, is_enough}
+use Rattle.asp_core.specs.Events.{happens, replay}
+use Rattle.asp_core.specs.Growth.{Grows}
 use Rattle.asp_core.proofs.BoardLaws.{wanted-stand}
 use Rattle.asp_core.proofs.CubeLaws.{cube-at, answer-in_cube}
 use Rattle.asp_core.proofs.GrowthLaws.{Grows-itself}
@@ -31,7 +30,6 @@ use Rattle.asp_core.proofs.UnitLaws.{out_of-le-total}
 use Rattle.asp_book.specs.Calls.{Knows, task_of, seen_board, IsCall}
 use Rattle.asp_book.specs.Fuels.{Fits}
 use Rattle.asp_book.specs.Replies.{Improves, delivered, improved, leased_out}
-use Rattle.asp_book.proofs.BookLaws.{Fits-grows}
 use Rattle.asp_book.proofs.CallLaws.{task-stays, seen-after}
 use Rattle.asp_search_laws.specs.Searching.{Searching}
 use Rattle.asp_search_laws.specs.Steps.{Records}

@@ -38,9 +38,8 @@ use Rattle.asp_core.proofs.ResultLaws.{IsBoard-replay, task-run}
 use Rattle.asp_book.specs.Books.{signed, IsJournalOf}
 use Rattle.asp_book.specs.Calls.{Knows, no_task, task_of, seen_board, IsCall}
 use Rattle.asp_book.specs.Replies.{taken, taken_this, divided}
-use Rattle.asp_book.proofs.CallLaws.{run-append, lawful-rest, task-stays, seen-after, lawful-after}
+use Rattle.asp_book.proofs.CallLaws.{others-are, run-append, lawful-rest, task-stays, seen-after, lawful-after}
 use Rattle.asp_crew_laws.specs.Runs.{IsBack}
-use Rattle.asp_crew_laws.specs.Working.{IsSeated}
 use Rattle.asp_pool.specs.Pools.{IsOfPool}
 use Rattle.asp_worker.specs.declared.worker.Worker.{Worker}
 use Rattle.asp_worker.specs.declared.worker.Shared.{Shared}
@@ -293,10 +292,6 @@ module _ (v w : Knows) (before : List Event) (stays : Stays v w) (leaf : ℕ) wh
 none-append : (n : ℕ) (xs ys : List Event) → NoneBy signed n xs → NoneBy signed n ys → NoneBy signed n (xs ++ ys)
 none-append n [] ys h k = k
 none-append n (e ∷ xs) ys h k = (h.0, none-append n xs ys h.1 k)
-
-others-are : (n : ℕ) (events : List Event) → NoneBy signed n events → AllByRecursion (λ e. maker e ≡ n → ⊥) events
-others-are n [] h = tt
-others-are n (e ∷ events) h = (λ same. absurd (false≢true (sym h.0 ∙ eq-eqb (maker e) n same)), others-are n events h.1)
 
 pub looks-self : (v : Knows) → Looks v v
 looks-self v = record { holds = refl; about = refl; number = refl; splits = refl; joins = refl; guests = refl; own = refl; seen = prefix_self v.seen; others = subst (NoneBy signed v.number) (sym (drop-all v.seen)) tt }

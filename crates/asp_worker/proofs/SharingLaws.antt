@@ -1,6 +1,6 @@
 -- What a search takes over from the log, and gives to it.
-use Rattle.std.proofs.Common.{◌≡◌, ◌≢◌, ℕ, ◌+◌, ◌<◌, ◌≤◌, Bool, true, false, cond, List, [], ◌∷◌, ◌++◌, length, take, drop, filter, map, append_assoc, Option, Some, None, refl, sym, ap, ◌∙◌, subst, arith}
-use Rattle.std.specs.Prelude.{ℤ, IsTrue, slice_get, MatchBool, All}
+use Rattle.std.proofs.Common.{◌≡◌, ℕ, ◌+◌, ◌<◌, ◌≤◌, Bool, true, false, List, [], ◌∷◌, ◌++◌, length, take, drop, Option, Some, refl, sym, ap, ◌∙◌, subst, arith}
+use Rattle.std.specs.Prelude.{slice_get, MatchBool, All}
 use Rattle.std.specs.Option.{IfSome}
 use Rattle.std.proofs.lemmas.List.{append-nil, length-drop, take_more}
 use Rattle.std.proofs.lemmas.Option.{get_or_from_slice_get}
@@ -14,18 +14,16 @@ use Rattle.asp_model.specs.declared.program.Program.{Program}
 use Rattle.asp_model.specs.declared.results.Mode.{Mode}
 use Rattle.asp_vars.specs.declared.nogood.Nogood.{Nogood}
 use Rattle.asp_vars.specs.Literals.{Literal}
-use Rattle.asp_vars.specs.Numbering.{var_count}
 use Rattle.asp_vars.specs.Paid.{Units}
-use Rattle.asp_vars.specs.Numbering.{IsVar}
 use Rattle.asp_log.specs.declared.scope.Scope.{Scope}
 use Rattle.asp_log.specs.Entries.{IsEntry}
 use Rattle.asp_path.specs.Trees.{cube_of}
-use Rattle.asp_book.specs.Calls.{Knows, task_of, seen_board}
+use Rattle.asp_book.specs.Calls.{Knows, seen_board}
 use Rattle.asp_search.specs.Beside.{Enters, Imports, Leaves, IsShared}
 use Rattle.asp_search_laws.specs.Searching.{Searching}
 use Rattle.asp_search_laws.specs.Steps.{is_of_use}
 use Rattle.asp_worker.specs.Seats.{Idles, Holds, IsPaged, Reads}
-use Rattle.asp_worker.specs.Sharing.{with_best, ImportsIf, ImportsAll, TakesOver, Remembers}
+use Rattle.asp_worker.specs.Sharing.{ImportsIf, ImportsAll, TakesOver, Remembers}
 use Rattle.asp_worker.specs.Working.{GoesOn, IsOn}
 use Rattle.asp_worker.proofs.SeatLaws.{holds-idles, cube-idles, idles-passes}
 use Rattle.asp_worker.proofs.GoingLaws.{goes-same, goes-on, best-goes, best-cube}

@@ -1,28 +1,20 @@
 -- A worker's search after a step on its path, by the step's answer.
-use Rattle.std.proofs.Common.{◌≡◌, ◌⊎◌, ℕ, ◌+◌, ◌-◌, ◌<◌, ◌≤◌, Bool, true, false, List, [], ◌∷◌, ◌++◌, Option, Some, None, refl, sym, ap, ◌∙◌, subst, inl, inr, arith}
-use Rattle.std.specs.Prelude.{ℤ, IsTrue}
-use Rattle.std.specs.List.{list_any}
+use Rattle.std.proofs.Common.{◌≡◌, ◌⊎◌, ℕ, ◌-◌, Bool, List, Option, sym, ap, ◌∙◌, subst, inl, inr}
+use Rattle.std.specs.Prelude.{ℤ}
 use Rattle.asp_model.specs.declared.program.Program.{Program}
 use Rattle.asp_model.specs.declared.results.Mode.{Mode}
-use Rattle.asp_model.specs.declared.results.Mode.TheVariants.{Enum, Opt}
-use Rattle.asp_model.specs.Sets.{Atoms, same_set}
-use Rattle.asp_model.specs.Models.{is_stable}
-use Rattle.asp_model.specs.Costs.{cost}
+use Rattle.asp_model.specs.Sets.{Atoms}
 use Rattle.asp_vars.specs.Entailment.{Settled}
-use Rattle.asp_vars.specs.Literals.{Literal, hits}
-use Rattle.asp_vars.specs.Numbering.{values}
+use Rattle.asp_vars.specs.Literals.{Literal}
 use Rattle.asp_vars.specs.Paid.{Units, Clash}
 use Rattle.asp_vars.specs.declared.nogood.Nogood.{Nogood}
 use Rattle.asp_path.specs.Trees.{cube_of}
-use Rattle.asp_core.specs.Boards.{Board}
-use Rattle.asp_book.specs.Calls.{Knows, task_of, seen_board}
+use Rattle.asp_book.specs.Calls.{Knows, seen_board}
 use Rattle.asp_search_laws.specs.Searching.{Searching}
-use Rattle.asp_search_laws.specs.Steps.{HasSameTask, Burns, Fails, IsStep, IsFailure, Steps, Answers}
+use Rattle.asp_search_laws.specs.Steps.{HasSameTask, Burns, IsStep, IsFailure, Steps}
 use Rattle.asp_search_laws.specs.declared.step.Step.{Step}
 use Rattle.asp_search_laws.specs.declared.step.Step.TheVariants as step
-use Rattle.asp_crew_laws.specs.Working.{IsAtWork, Works}
 use Rattle.asp_crew_laws.proofs.WorkLaws.{work-burnt}
-use Rattle.asp_worker.specs.Seats.{Owes}
 use Rattle.asp_worker.specs.Working.{GoesOn, IsOn, IsOff, Finds}
 use Rattle.asp_worker.proofs.GoingLaws.{goes-same}
 

@@ -1,5 +1,5 @@
 -- A worker between two calls: its search and its units beside the board that its seat has seen.
-use Rattle.std.specs.Prelude.{◌≡◌, ℕ, false, List, Some, IsTrue}
+use Rattle.std.specs.Prelude.{◌≡◌, ℕ, false, IsTrue}
 use Rattle.std.specs.List.{list_any}
 use Rattle.asp_model.specs.declared.results.Mode.{Mode}
 use Rattle.asp_model.specs.Models.{is_stable}

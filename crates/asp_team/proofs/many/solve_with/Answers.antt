@@ -41,10 +41,10 @@ finish-requires-clause-fits g c =
 pub reported-requires-clause-task : goal.reported-requires-clause-task
 reported-requires-clause-task g c =
     run-in c.args.compiled.now c.args.mode c.args.budget c.finish.new.book.task
-    (c.in_ok-unpaid.ensures.task ∙ book-task c.args.compiled.now c.args.mode c.args.budget c.dismissed-book.result.0 (view c.in_ok-team.team.lead.seat) (view c.crew-lead.result.seat) c.dismissed-book.ensures.task c.crew-lead.ensures.joins.about c.in_ok-team.ensures.team.about)
+    (c.in_ok-unpaid.ensures.finishes.task ∙ book-task c.args.compiled.now c.args.mode c.args.budget c.dismissed-book.result.0 (view c.in_ok-team.team.lead.seat) (view c.crew-lead.result.seat) c.dismissed-book.ensures.task c.crew-lead.ensures.joins.about c.in_ok-team.ensures.team.about)
 
-pub returns : goal.returns
-returns g c =
+pub returns-clause-report : goal.returns-clause-report
+returns-clause-report g c =
     report-is c.args.compiled.now c.args.mode c.args.budget c.finish.new.book.task c.reported.result
-    (c.in_ok-unpaid.ensures.task ∙ book-task c.args.compiled.now c.args.mode c.args.budget c.dismissed-book.result.0 (view c.in_ok-team.team.lead.seat) (view c.crew-lead.result.seat) c.dismissed-book.ensures.task c.crew-lead.ensures.joins.about c.in_ok-team.ensures.team.about)
+    (c.in_ok-unpaid.ensures.finishes.task ∙ book-task c.args.compiled.now c.args.mode c.args.budget c.dismissed-book.result.0 (view c.in_ok-team.team.lead.seat) (view c.crew-lead.result.seat) c.dismissed-book.ensures.task c.crew-lead.ensures.joins.about c.in_ok-team.ensures.team.about)
     c.reported.ensures.report

@@ -1,6 +1,5 @@
-use Rattle.std.proofs.Common.{refl, ap, ◌∙◌}
+use Rattle.std.proofs.Common.{refl, ◌∙◌}
 use Rattle.asp_vault.specs.Seats.{view}
-use Rattle.asp_book.specs.Calls.{Knows}
 use Rattle.asp_worker.proofs.SeatLaws.{looks-self, looks-trans, looked}
 use Rattle.asp_worker.proofs.find.changed.Goals as goal
 

@@ -3,7 +3,7 @@ use Rattle.std.proofs.lemmas.List.{nil_from_length}
 use Rattle.asp_vault.specs.Seats.{view}
 use Rattle.asp_path.specs.Trees.{open_from}
 use Rattle.asp_book.specs.Calls.{Knows, seen_board}
-use Rattle.asp_worker.specs.Seats.{IsSettled, Idles, Passes}
+use Rattle.asp_worker.specs.Seats.{Idles}
 use Rattle.asp_worker.proofs.SeatLaws.{passes-self, passes-trans, settled-passes, settled-idles, free-idles, idles-passes, idles-call, takes-not, takes-err, quiet-call}
 use Rattle.asp_worker.proofs.find.find.Goals as goal
 

@@ -1,4 +1,3 @@
-use Rattle.std.proofs.Common.{refl}
 use Rattle.asp_vault.specs.Seats.{view}
 use Rattle.asp_worker.proofs.SeatLaws.{idles-passes, none-idles, none-free, this-passes, this-holds, this-free, takes-err}
 use Rattle.asp_worker.proofs.find.try_take.Goals as goal

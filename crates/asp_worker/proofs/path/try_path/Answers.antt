@@ -1,4 +1,4 @@
-use Rattle.std.proofs.Common.{◌≡◌, ◌<◌, ℕ, sym, subst}
+use Rattle.std.proofs.Common.{◌<◌, sym, subst}
 use Rattle.asp_worker.proofs.SeatLaws.{keeps-trans}
 use Rattle.asp_vault.specs.Seats.{view}
 use Rattle.asp_worker.specs.Working.{IsOff}

@@ -1,4 +1,4 @@
-use Rattle.std.proofs.Common.{◌≡◌, ℕ, drop, refl, sym, ap, ◌∙◌, subst}
+use Rattle.std.proofs.Common.{drop, refl, sym, ap, ◌∙◌, subst}
 use Rattle.asp_vars.specs.Paid.{Units}
 use Rattle.asp_vault.specs.Seats.{view}
 use Rattle.asp_core.specs.declared.task.Task.{Task}
@@ -6,7 +6,6 @@ use Rattle.asp_book.specs.Calls.{Knows}
 use Rattle.asp_book.proofs.CallLaws.{task-stays}
 use Rattle.asp_search_laws.specs.Searching.{Searching}
 use Rattle.asp_worker.specs.declared.worker.Worker.{Worker}
-use Rattle.asp_worker.specs.Seats.{IsReady, Keeps, Owes}
 use Rattle.asp_worker.specs.Working.{IsOn, IsOff}
 use Rattle.asp_worker.proofs.Replies.{on-ok, on-err, always-err}
 use Rattle.asp_worker.proofs.SeatLaws.{keeps-seat, keeps-trans, ready-seat, idles-trans, holds-idles, idles-passes}

@@ -1,9 +1,7 @@
-use Rattle.std.proofs.Common.{◌≡◌, ℕ, refl, sym, ap, ◌∙◌, subst}
+use Rattle.std.proofs.Common.{refl, sym, subst}
 use Rattle.asp_vault.specs.Seats.{view}
-use Rattle.asp_model.specs.declared.program.Program.{Program}
 use Rattle.asp_core.specs.declared.task.Task.{Task}
 use Rattle.asp_core.specs.Events.{IsVariable}
-use Rattle.asp_book.specs.Calls.{Knows}
 use Rattle.asp_worker.specs.declared.worker.Worker.{Worker}
 use Rattle.asp_worker.proofs.SeatLaws.{board-task, keeps-seat, ready-seat, divided-passes, divided-none, divided-some, none-idles, idles-passes, holds-idles, half-err}
 use Rattle.asp_worker.proofs.share.divide.Goals as goal

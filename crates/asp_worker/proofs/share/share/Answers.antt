@@ -1,17 +1,9 @@
-use Rattle.std.proofs.Common.{◌≡◌, ℕ, List, Some, refl, sym, ap, ◌∙◌, subst}
-use Rattle.std.specs.Option.{IfSome}
-use Rattle.asp_model.specs.declared.program.Program.{Program}
-use Rattle.asp_vars.specs.Literals.{Literal}
+use Rattle.std.proofs.Common.{refl}
 use Rattle.asp_vault.specs.Seats.{view}
-use Rattle.asp_path.specs.Trees.{cube_of}
-use Rattle.asp_core.specs.declared.task.Task.{Task}
-use Rattle.asp_core.specs.Events.{has_var, IsVariable}
-use Rattle.asp_book.specs.Calls.{Knows, seen_board}
-use Rattle.asp_book.proofs.CallLaws.{task-stays}
-use Rattle.asp_search.specs.Beside.{IsOpen}
+use Rattle.asp_book.specs.Calls.{Knows}
 use Rattle.asp_worker.specs.declared.worker.Worker.{Worker}
-use Rattle.asp_worker.specs.Seats.{Idles, HoldsHalf}
-use Rattle.asp_worker.proofs.SeatLaws.{idles-call, idles-passes, holds-idles, cube-idles, keeps-self, keeps-seat, keeps-trans, ready-seat, half-none}
+use Rattle.asp_worker.specs.Seats.{Idles}
+use Rattle.asp_worker.proofs.SeatLaws.{idles-call, idles-passes, holds-idles, keeps-self, keeps-seat, keeps-trans, ready-seat, half-none}
 use Rattle.asp_worker.proofs.GoingLaws.{goes-on, on-on, owes-on}
 use Rattle.asp_worker.specs.Working.{IsOff}
 use Rattle.asp_worker.proofs.Replies.{always-err}

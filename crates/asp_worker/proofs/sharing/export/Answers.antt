@@ -1,4 +1,4 @@
-use Rattle.std.proofs.Common.{◌≡◌, Option, Some, subst}
+use Rattle.std.proofs.Common.{Option, subst}
 use Rattle.std.specs.Option.{IfSome}
 use Rattle.asp_vars.specs.declared.nogood.Nogood.{Nogood}
 use Rattle.asp_vault.specs.Seats.{view}

@@ -1,10 +1,10 @@
-use Rattle.std.proofs.Common.{◌≡◌, ◌+◌, sym, ap, subst, arith}
+use Rattle.std.proofs.Common.{sym, subst}
 use Rattle.asp_vars.specs.Paid.{Units}
 use Rattle.asp_vault.specs.Seats.{view}
 use Rattle.asp_worker.specs.Working.{GoesOn}
 use Rattle.asp_worker.proofs.SeatLaws.{none-idles, idles-leases, idles-passes}
 use Rattle.asp_worker.proofs.GoingLaws.{goes-on}
-use Rattle.asp_worker.proofs.RecordLaws.{leased-program, leased-fits, leased-leases, leased-goes, leased-few}
+use Rattle.asp_worker.proofs.RecordLaws.{leased-program, leased-fits, leased-leases, leased-goes}
 use Rattle.asp_worker.proofs.sharing.lease.Goals as goal
 
 pub merge-requires-clause-program : goal.merge-requires-clause-program

@@ -1,7 +1,7 @@
 use Rattle.asp_vault.specs.Seats.{view}
 use Rattle.asp_worker.proofs.SeatLaws.{none-idles}
 use Rattle.asp_worker.proofs.RecordLaws.{is-answer, is-listed, delivered-goes, delivered-idles}
-use Rattle.asp_model.specs.declared.results.Mode.TheVariants.{Enum, Opt}
+use Rattle.asp_model.specs.declared.results.Mode.TheVariants.{Enum}
 use Rattle.asp_worker.proofs.sharing.list.Goals as goal
 
 pub deliver-requires-clause-listed : goal.deliver-requires-clause-listed

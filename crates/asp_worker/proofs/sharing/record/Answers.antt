@@ -1,4 +1,4 @@
-use Rattle.std.proofs.Common.{◌≡◌, ℕ, refl, sym, ap, ◌∙◌, subst}
+use Rattle.std.proofs.Common.{ℕ, sym, ap, subst}
 use Rattle.asp_model.specs.declared.results.Mode.{Mode}
 use Rattle.asp_vault.specs.Seats.{view}
 use Rattle.asp_search_laws.specs.Searching.{Searching}

@@ -1,7 +1,5 @@
-use Rattle.std.proofs.Common.{◌≡◌, drop, refl, sym, ap, ◌∙◌, subst}
+use Rattle.std.proofs.Common.{drop, refl}
 use Rattle.asp_vault.specs.Seats.{view}
-use Rattle.asp_book.specs.Calls.{seen_board}
-use Rattle.asp_worker.specs.Sharing.{with_best}
 use Rattle.asp_worker.specs.declared.worker.Worker.{Worker}
 use Rattle.asp_worker.proofs.SeatLaws.{keeps-pages, ready-seat, idles-self}
 use Rattle.asp_worker.proofs.Replies.{on-ok, on-err}

@@ -1,5 +1,5 @@
-use Rattle.std.proofs.Common.{◌≡◌, List, [], Option, Some, None, refl, sym, ap, ◌∙◌, subst}
-use Rattle.std.specs.Prelude.{ℤ, OnOk}
+use Rattle.std.proofs.Common.{◌≡◌, Some, None, refl, sym, ap, subst}
+use Rattle.std.specs.Prelude.{OnOk}
 use Rattle.asp_model.specs.declared.results.Mode.{Mode}
 use Rattle.asp_vault.specs.Seats.{view}
 use Rattle.asp_book.specs.Calls.{seen_board}

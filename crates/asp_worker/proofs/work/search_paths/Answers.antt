@@ -1,11 +1,8 @@
-use Rattle.std.proofs.Common.{◌≡◌, ◌<◌, ℕ, Option, Some, None, refl, sym, ap, ◌∙◌, subst}
+use Rattle.std.proofs.Common.{◌<◌, refl, sym, ◌∙◌, subst}
 use Rattle.asp_vault.specs.Seats.{view}
-use Rattle.asp_book.specs.Calls.{Knows}
-use Rattle.asp_worker.specs.declared.path.Way.{Way}
 use Rattle.asp_worker.specs.declared.worker.Worker.{Worker}
-use Rattle.asp_worker.specs.Working.{Ended}
-use Rattle.asp_worker.proofs.SeatLaws.{keeps-self, keeps-seat, keeps-trans, ready-seat, takes-some, takes-none}
-use Rattle.asp_worker.proofs.GoingLaws.{goes-on, owes-on}
+use Rattle.asp_worker.proofs.SeatLaws.{keeps-self, keeps-seat, ready-seat, takes-some}
+use Rattle.asp_worker.proofs.GoingLaws.{goes-on}
 use Rattle.asp_worker.proofs.work.search_paths.Goals as goal
 
 pub paths-init : goal.paths-init

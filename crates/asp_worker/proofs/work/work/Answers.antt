@@ -1,7 +1,7 @@
-use Rattle.std.proofs.Common.{◌≡◌, true, refl, sym, ap, ◌∙◌, subst}
+use Rattle.std.proofs.Common.{true, refl}
 use Rattle.asp_vault.specs.Seats.{view}
 use Rattle.asp_worker.specs.declared.worker.Worker.{Worker}
-use Rattle.asp_worker.proofs.SeatLaws.{stays-self, keeps-self, keeps-seat, keeps-trans, ready-seat}
+use Rattle.asp_worker.proofs.SeatLaws.{stays-self, keeps-seat, keeps-trans, ready-seat}
 use Rattle.asp_worker.proofs.EndLaws.{begins, given-idle}
 use Rattle.asp_worker.proofs.work.work.Goals as goal
 
