@@ -3,7 +3,8 @@
 
     progress.py PROGRAM
 
-Programs of search.py, and an enumeration, run with the option and without it: standard output and the status are the same. Each
+Programs of search.py, and an enumeration, run with the option and without it: standard output and the status are the same. With two
+workers there is no line. Each
 line stands beside the one before it: the conflicts or the answers have doubled, or in an optimisation a cheaper answer was
 found; and between the last line and the counts of --stats nothing that was due is missing."""
 import re
@@ -32,6 +33,9 @@ def faults(name, text, words, optimum, least):
         yield "another output or status"
     if plain.stderr:
         yield "notes without the option"
+    crew = subprocess.run([sys.argv[1], "--progress", "--workers", "2", *words], input=text, capture_output=True, timeout=120)
+    if crew.stderr:
+        yield "notes of two workers"
     notes = told.stderr.decode().splitlines()
     lines = [LINE.fullmatch(line) for line in notes]
     count = next((it for it, line in enumerate(lines) if not line), len(lines))

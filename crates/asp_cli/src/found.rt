@@ -19,9 +19,11 @@ pub struct Found {
     pub budget: Option<u64>,
     /// The number of the example program that is to be written.
     pub make: Option<u32>,
-    /// Whether a line of counts was asked for.
+    /// Whether counts of the run were asked for.
     pub stats: bool,
+    /// Whether lines while the run goes on were asked for.
     pub progress: bool,
+    /// Whether the proof was asked for.
     pub proof: bool,
 }
 

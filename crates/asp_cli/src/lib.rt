@@ -19,7 +19,7 @@ pub use texts::{page_back, page_front, usage, version};
 /// What the command line asks for.
 #[derive(Clone, Copy, Debug, PartialEq, Eq)]
 pub struct Options {
-    /// How many threads may search: 1 to 64.
+    /// How many threads may search: 1 to 64. A run whose proof is asked for takes one.
     pub workers: u32,
     /// What is sought; None leaves it to the program: an optimum exactly where it minimises something.
     pub mode: Option<Mode>,
@@ -29,7 +29,7 @@ pub struct Options {
     pub make: Option<u32>,
     /// Whether the notes get counts of the run.
     pub stats: bool,
-    /// Whether the notes get lines while the run goes on.
+    /// Whether the notes get lines while one search goes on.
     pub progress: bool,
     /// Whether a finished run writes its proof in place of its results.
     pub proof: bool,

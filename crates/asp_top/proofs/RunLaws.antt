@@ -1,6 +1,7 @@
 -- What each status means, from what reading, solving and writing did.
 use Rattle.std.proofs.Common.{◌≡◌, ℕ, ◌≤◌, Bool, true, false, List, refl, sym, subst, inl, inr, arith}
-use Rattle.std.specs.Prelude.{Option, None, Some, Result, Ok, Err, IfSome, IsSome, IsErrOf}
+use Rattle.std.specs.Prelude.{Option, None, Some, Result, Ok, Err, IfErr, IfOk, IfSome, IsSome, IsErrOf}
+use Rattle.std.proofs.KnownBytes.{Keeps-refl}
 use Rattle.std.specs.Io.KnownBytes.{Appends, Keeps, IsAtEnd}
 use Rattle.asp_io.specs.Causes.{Rose}
 use Rattle.asp_read.specs.declared.fault.ReadError.{ReadError}
@@ -12,12 +13,13 @@ use Rattle.asp_read.specs.Outcome.{outcome, most_bytes}
 use Rattle.asp_read.specs.Stream.{ReadsText, StopsAt}
 use Rattle.asp_make.specs.Ring.{ring}
 use Rattle.asp_crew_laws.specs.declared.report.Report.{Report}
+use Rattle.asp_crew_laws.specs.Proofs.{HasProof, HasProofAt}
 use Rattle.asp_top.specs.declared.status.Status.{Status}
 use Rattle.asp_top.specs.declared.status.Status.TheVariants.{All, NoModel, Partial, Unknown, Help, Memory, Usage, Refused, ReadFault, TooLong, WriteFault}
 use Rattle.asp_top.specs.declared.status.Outcome.{Outcome}
 use Rattle.asp_top.specs.Meaning.{has_model, status_for}
 use Rattle.asp_top.specs.Notes.{is_answered}
-use Rattle.asp_top.specs.Runs.{Around, DeliveryMeans, IsExact, IsGiven, IsSaid, IsSolved, Means, Runs, Says, Solves, is_brief, report_text, status_of}
+use Rattle.asp_top.specs.Runs.{Around, DeliveryMeans, IsExact, IsGiven, IsOver, IsReady, IsSaid, IsSolved, Means, Prepares, Runs, Says, Solves, around, is_brief, report_text, status_of}
 use Rattle.asp_cli.specs.declared.Options.{Options}
 
 says-at : (a : Around) (text : List ℕ) (said : Result Program ReadError) → a.left ≡ Some text → Says a said → outcome text ≡ said
@@ -46,7 +48,7 @@ solved-exact given a report status s done quiet = record {
     said None none p from text is e out = ok-or-err (outcome text) p e (says-at a text _ is from.says) out
     said (Some n) none p from text is e out = absurd cc
 
-pub exact : (given : Options) (a : Around) (report : Option Report) (status : Status) → Means given a report status → Quiet a status → IsExact given a status
+exact : (given : Options) (a : Around) (report : Option Report) (status : Status) → Means given a report status → Quiet a status → IsExact given a status
 exact given a report All m quiet = solved-exact given a report All m.solved (λ w. refl) quiet
 exact given a report NoModel m quiet = solved-exact given a report NoModel m.solved (λ w. refl) quiet
 exact given a report Partial m quiet = solved-exact given a report Partial m.solved (λ w. refl) quiet
@@ -80,7 +82,7 @@ exact given a report (Refused f l) m quiet = record {
 }
 
 -- what reading a program says where it gives none
-pub record Unread (a : Around) (e : ReadError) : Type 0 where
+record Unread (a : Around) (e : ReadError) : Type 0 where
   pub text : IfSome a.left (λ t. ReadsText (Err e) (outcome t))
   pub some_text : (text : List ℕ) × ReadsText (Err e) (outcome text)
   pub later : a.reads ≤ a.reads'
@@ -97,7 +99,7 @@ unread-means given a (errors.Refused f l) reads kept u = (reads, record { untouc
 fault-status : (e : ReadError) → e ≡ errors.ReadFault → status_of e ≡ ReadFault
 fault-status e is = rw is refl
 
-pub runs-unread : (given : Options) (a : Around) (e : ReadError) → given.make ≡ None → Keeps a.held a.held' → a.writes ≤ a.writes' → Unread a e
+runs-unread : (given : Options) (a : Around) (e : ReadError) → given.make ≡ None → Keeps a.held a.held' → a.writes ≤ a.writes' → Unread a e
     → Runs given a (record { status = status_of e; report = None })
 runs-unread given a e reads kept writes u =
     let means = unread-means given a e reads kept u in
@@ -107,7 +109,7 @@ runs-unread given a e reads kept writes u =
       later = (u.later, writes);
     }
 
-pub runs-memory : (given : Options) (a : Around) → Keeps a.held a.held' → a.reads ≤ a.reads' → a.writes ≤ a.writes' → (IsSome a.left → a.reads' ≡ a.reads)
+runs-memory : (given : Options) (a : Around) → Keeps a.held a.held' → a.reads ≤ a.reads' → a.writes ≤ a.writes' → (IsSome a.left → a.reads' ≡ a.reads)
     → Runs given a (record { status = Memory; report = None })
 runs-memory given a kept reads writes quiet =
     let means : Means given a None Memory = record { none = refl; kept = kept } in
@@ -125,7 +127,7 @@ delivered : (given : Options) (a : Around) (s : Status) (report : Option Report)
 delivered given a s report solved (inl m) = subst (Means given a report) (sym m.0) (written given a report solved solved.done.results.end (has_model solved.done.results) refl refl m.1)
 delivered given a s report solved (inr m) = subst (Means given a report) (sym m.0) (record { solved = solved; text = m.1; cause = m.2 })
 
-pub runs-solved : (given : Options) (a : Around) (p : Program) (o : Outcome) → IsGiven given.make a p → a.reads ≤ a.reads' → (IsSome a.left → a.reads' ≡ a.reads)
+runs-solved : (given : Options) (a : Around) (p : Program) (o : Outcome) → IsGiven given.make a p → a.reads ≤ a.reads' → (IsSome a.left → a.reads' ≡ a.reads)
     → Solves given p a.held a.held' a.writes a.writes' o → Runs given a o
 runs-solved given a p o from reads quiet (inl m) = subst (Runs given a) (sym m.0) (runs-memory given a m.1 reads (omega (arith, m.2)) quiet)
 runs-solved given a p o from reads quiet (inr s) =
@@ -133,17 +135,54 @@ runs-solved given a p o from reads quiet (inr s) =
     let means = delivered given a o.status o.report solved s.2.means in
     record { means = means; exact = exact given a o.report o.status means (λ told isn't. quiet told); later = (reads, s.2.later) }
 
--- the program of a text is solved
-pub runs-read : (given : Options) (a : Around) (p : Program) (o : Outcome) → given.make ≡ None → Says a (Ok p) → IsSaid (Ok p) → IsAtEnd a.left' → a.reads ≤ a.reads' → (IsSome a.left → a.reads' ≡ a.reads)
-    → Solves given p a.held a.held' a.writes a.writes' o → Runs given a o
-runs-read given a p o none says said end reads quiet s =
-    runs-solved given a p o (subst (λ (m : Option ℕ). IsGiven m a p) (sym none) (record { says = says; said = said; end = end })) reads quiet s
+-- the program of a text is there
+pub ready-read : (given : Options) (l l' : Option (List ℕ)) (r r' : ℕ) (p : Program) → given.make ≡ None → IfSome l (λ text. outcome text ≡ Ok p) → IsSaid (Ok p) → IsAtEnd l' → r ≤ r' → (IsSome l → r' ≡ r)
+    → IsReady given l l' r r' p
+ready-read given l l' r r' p none says said end later quiet = record {
+  source = λ h h' w w'. subst (λ (m : Option ℕ). IsGiven m (around l l' r r' h h' w w') p) (sym none) (record { says = says; said = said; end = end });
+  later = later;
+  quiet = quiet;
+}
 
--- a ring is solved, and nothing read
-pub runs-ring : (given : Options) (a : Around) (n : ℕ) (p : Program) (o : Outcome) → given.make ≡ Some n → p ≡ ring n → Keeps a.left a.left' → a.reads' ≡ a.reads
-    → Solves given p a.held a.held' a.writes a.writes' o → Runs given a o
-runs-ring given a n p o make is left reads s =
-    runs-solved given a p o (subst (λ (m : Option ℕ). IsGiven m a p) (sym make) (is, record { left = left; reads = reads })) (omega (arith, reads)) (λ told. reads) s
+-- a ring is there, and nothing read
+pub ready-ring : (given : Options) (l : Option (List ℕ)) (r n : ℕ) (p : Program) → given.make ≡ Some n → p ≡ ring n → IsReady given l l r r p
+ready-ring given l r n p make is = record {
+  source = λ h h' w w'. subst (λ (m : Option ℕ). IsGiven m (around l l r r h h' w w') p) (sym make) (is, record { left = Keeps-refl l; reads = refl });
+  later = omega arith;
+  quiet = λ told. refl;
+}
+
+-- memory was wanting before the program was there
+pub over-memory : (given : Options) (l l' : Option (List ℕ)) (r r' : ℕ) (status : Status) → status ≡ Memory → r ≤ r' → (IsSome l → r' ≡ r) → IsOver given l l' r r' status
+over-memory given l l' r r' status is later quiet =
+    subst (IsOver given l l' r r') (sym is) (λ h w. runs-memory given (around l l' r r' h h w w) (Keeps-refl h) later (omega arith) quiet)
+
+-- no program was read
+pub over-unread : (given : Options) (l l' : Option (List ℕ)) (r r' : ℕ) (e : ReadError) (status : Status) → status ≡ status_of e → given.make ≡ None
+    → IfSome l (λ t. ReadsText (Err e) (outcome t)) → (text : List ℕ) × ReadsText (Err e) (outcome text) → r ≤ r' → (e ≡ errors.ReadFault → Rose r r') → StopsAt most_bytes l l' (Err e) → (IsSome l → ¬ (e ≡ errors.ReadFault) → r' ≡ r)
+    → IsOver given l l' r r' status
+over-unread given l l' r r' e status is none text some later cause stops quiet =
+    subst (IsOver given l l' r r') (sym is) (λ h w. runs-unread given (around l l' r r' h h w w) e none (Keeps-refl h) (omega arith)
+    (record { text = text; some_text = some; later = later; cause = cause; stops = stops; quiet = quiet }))
+
+-- a program that is there is compiled, unless memory is wanting
+pub prepares : (given : Options) (l l' : Option (List ℕ)) (r r' : ℕ) (p : Program) (result : Result Program Status) → IsReady given l l' r r' p → IfOk result (λ q. q ≡ p) → IfErr result (λ s. s ≡ Memory)
+    → Prepares given l l' r r' result
+prepares given l l' r r' p (Ok q) ready same wanting = subst (IsReady given l l' r r') (sym same) ready
+prepares given l l' r r' p (Err status) ready same wanting = over-memory given l l' r r' status wanting ready.later ready.quiet
+
+-- it is solved
+pub runs-ready : (given : Options) (l l' : Option (List ℕ)) (r r' : ℕ) (h h' : Option (List ℕ)) (w w' : ℕ) (p : Program) (o : Outcome) → IsReady given l l' r r' p → Solves given p h h' w w' o
+    → Runs given (around l l' r r' h h' w w') o
+runs-ready given l l' r r' h h' w w' p o ready solves = runs-solved given (around l l' r r' h h' w w') p o (ready.source h h' w w') ready.later ready.quiet solves
+
+-- without a proof none was asked for
+pub unproved : (r : Report) → r.proof ≡ None → HasProof false r
+unproved r none = at r.results.end
+  where
+    at : (end : End) → HasProofAt end false r.results r.proof
+    at Finished = none
+    at Unfinished = none
 
 pub ok-no-fault : (p : Program) (e : ReadError) → ¬ IsErrOf (Ok p) e
 ok-no-fault p e is = cc

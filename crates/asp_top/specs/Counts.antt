@@ -1,5 +1,5 @@
 -- Numbers with their names.
-use Rattle.std.specs.Prelude.{ℕ, List, [], ◌∷◌, ◌++◌, codes, decimal}
+use Rattle.std.specs.Prelude.{ℕ, List, [], ◌∷◌, ◌++◌, codes, decimal, Option, None, Some}
 use Rattle.asp_crew_laws.specs.declared.report.Report.{Report}
 use Rattle.asp_crew.specs.declared.watch.Counts.{Counts}
 use Rattle.asp_top.specs.declared.counts.What.{What}
@@ -30,13 +30,19 @@ item_text i = label_of i.what ++ decimal i.number
 abbrev count_of : What → ℕ → Item
 count_of what number = record { what = what; number = number }
 
--- The counts of a run: of its report the units that were burnt, for each of which a nogood was learnt, the leaves of the tree of
--- paths, and the nogoods that workers shared; and what was counted beside
-abbrev pub stats_items : Report → Tally → List Item
-stats_items r t =
-    count_of Spent r.spent ∷ count_of Leaves r.leaves ∷ count_of Log r.log
-    ∷ count_of Decisions t.counts.decisions ∷ count_of Restarts t.counts.restarts ∷ count_of Kept t.counts.kept ∷ count_of Dropped t.counts.dropped
-    ∷ count_of Atoms t.atoms ∷ count_of Bodies t.bodies ∷ []
+-- of a report: the units that were burnt, for each of which a nogood was learnt, the leaves of the tree of paths, and the nogoods
+-- that workers shared
+abbrev pub report_items : Report → List Item
+report_items r = count_of Spent r.spent ∷ count_of Leaves r.leaves ∷ count_of Log r.log ∷ []
+
+-- what one search did, if one solved it all
+abbrev pub search_items : Option Counts → List Item
+search_items None = []
+search_items (Some c) = count_of Decisions c.decisions ∷ count_of Restarts c.restarts ∷ count_of Kept c.kept ∷ count_of Dropped c.dropped ∷ []
+
+-- of the program
+abbrev pub program_items : Tally → List Item
+program_items t = count_of Atoms t.atoms ∷ count_of Bodies t.bodies ∷ []
 
 -- the counts of a run that goes on
 abbrev pub told_items : Counts → List Item

@@ -7,7 +7,8 @@ use Rattle.asp_crew_laws.specs.declared.report.Report.{Report}
 use Rattle.asp_top.specs.declared.status.Outcome.{Outcome}
 use Rattle.asp_top.specs.declared.status.Status.{Status}
 use Rattle.asp_top.specs.declared.counts.Tally.{Tally}
-use Rattle.asp_top.specs.Counts.{item_text, stats_items}
+use Rattle.asp_top.specs.declared.counts.Item.{Item}
+use Rattle.asp_top.specs.Counts.{item_text, program_items, report_items, search_items}
 use Rattle.asp_top.specs.Usage.{usage_text}
 use Rattle.asp_top.specs.Faults.{fault_text}
 use Rattle.asp_top.specs.declared.status.Status.TheVariants.{All, NoModel, Partial, Unknown, Help, Memory, Usage, Refused, ReadFault, TooLong, WriteFault}
@@ -27,9 +28,13 @@ note_of ReadFault = codes "aspenum: read failed\n"
 note_of TooLong = codes "aspenum: input too long\n"
 note_of WriteFault = codes "aspenum: write failed\n"
 
+-- numbers with their names, one behind the other
+abbrev pub items_text : List Item → List ℕ
+items_text items = flat_map item_text items
+
 -- the counts of a run, a line each
 abbrev pub stats_of : Tally → Report → List ℕ
-stats_of t r = flat_map item_text (stats_items r t) ++ codes "\n"
+stats_of t r = items_text (report_items r) ++ (items_text (search_items t.search) ++ (items_text (program_items t) ++ codes "\n"))
 
 abbrev pub counts_of : Tally → Option Report → List ℕ
 counts_of t None = []

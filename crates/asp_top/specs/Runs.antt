@@ -1,5 +1,5 @@
 -- What each status of a run says of the words, of the bytes read and of the bytes written.
-use Rattle.std.specs.Prelude.{◌≡◌, ◌⊎◌, ℕ, ◌≤◌, Bool, true, false, List, Option, None, Some, Result, Ok, Err, IfSome, IsSome, is_some, length}
+use Rattle.std.specs.Prelude.{◌≡◌, ◌⊎◌, ℕ, ◌≤◌, ◌==◌, Bool, true, false, ◌&&◌, ◌||◌, List, Option, None, Some, Result, Ok, Err, IfSome, IsSome, is_some, length}
 use Rattle.std.specs.Io.KnownBytes.{Appends, Keeps, IsAtEnd}
 use Rattle.asp_io.specs.Causes.{Rose, AppendsFront}
 use Rattle.asp_read.specs.declared.fault.Fault.{Fault}
@@ -191,6 +191,23 @@ pub record Runs (given : Options) (a : Around) (o : Outcome) : Type 0 where
   pub exact : IsExact given a o.status
   pub later : (a.reads ≤ a.reads') × (a.writes ≤ a.writes')
 
+-- ---- before the program is solved
+-- The program is there, whatever the sink holds: the source was read to its end, or it was made and nothing read.
+pub record IsReady (given : Options) (left left' : Option (List ℕ)) (reads reads' : ℕ) (p : Program) : Type 0 where
+  pub source : (held held' : Option (List ℕ)) (writes writes' : ℕ) → IsGiven given.make (around left left' reads reads' held held' writes writes') p
+  pub later : reads ≤ reads'
+  pub quiet : IsSome left → reads' ≡ reads
+
+-- There is none, and so a run ends with this status that writes nothing, whatever the sink holds.
+abbrev pub IsOver : Options → Option (List ℕ) → Option (List ℕ) → ℕ → ℕ → Status → Type 0
+IsOver given left left' reads reads' status =
+    (held : Option (List ℕ)) (writes : ℕ) → Runs given (around left left' reads reads' held held writes writes) (record { status = status; report = None })
+
+abbrev pub Prepares : Options → Option (List ℕ) → Option (List ℕ) → ℕ → ℕ → Result Program Status → Type 0
+Prepares given left left' reads reads' (Ok p) = IsReady given left left' reads reads' p
+Prepares given left left' reads reads' (Err status) = IsOver given left left' reads reads' status
+
+-- ---- without a program
 -- the text that was asked for
 abbrev pub TextMeans : List ℕ → Option (List ℕ) → Option (List ℕ) → ℕ → ℕ → Status → Type 0
 TextMeans text held held' writes writes' Help = Appends held held' text
@@ -216,21 +233,26 @@ RunsOn version a o = Helps version_line a o
 RunsOn (misuse m) a o = Misuses a o
 RunsOn (options given) a o = Runs given a o
 
--- the atoms of the report's program, and the different bodies of its rules in force
-pub record IsCounted (t : Tally) (r : Report) : Type 0 where
+-- One search does it all: with one worker, and where a proof is asked for.
+abbrev pub is_alone : Options → Bool
+is_alone given = (given.workers == 1) || given.proof
+
+-- the atoms of the report's program, and the different bodies of its rules in force; and what a search did exactly where one did it all
+pub record IsCounted (alone : Bool) (t : Tally) (r : Report) : Type 0 where
   pub atoms : t.atoms ≡ length (atoms_of r.paid.program)
   pub bodies : t.bodies ≡ length (bodies_of r.paid.program)
+  pub search : is_some t.search ≡ alone
 
--- What the notes get of a run after the words: lines while it goes on, where they are asked for, then the line of its status, and
--- the counts, where they are asked for
-pub record NotesRun (given : Options) (held held' : Option (List ℕ)) (faults faults' : ℕ) (o : Outcome) : Type 0 where
+-- What the notes get of a run after the words: lines while it goes on, where they are asked for and one search does it all, then the
+-- line of its status, and the counts, where they are asked for
+pub record NotesRun (alone : Bool) (given : Options) (held held' : Option (List ℕ)) (faults faults' : ℕ) (o : Outcome) : Type 0 where
   pub tally : Tally
-  pub counted : IfSome o.report (IsCounted tally)
-  pub told : IsTold given.progress held held' faults faults' (notes_of given.stats tally o)
+  pub counted : IfSome o.report (IsCounted alone tally)
+  pub told : IsTold (alone && given.progress) held held' faults faults' (notes_of given.stats tally o)
 
 -- what the notes get of a run whose words give this
 abbrev pub NotesOn : Given → Option (List ℕ) → Option (List ℕ) → ℕ → ℕ → Outcome → Type 0
 NotesOn help held held' faults faults' o = IsNoted held held' faults faults' (note_of o.status)
 NotesOn version held held' faults faults' o = IsNoted held held' faults faults' (note_of o.status)
 NotesOn (misuse m) held held' faults faults' o = IsNoted held held' faults faults' (misuse_note m)
-NotesOn (options given) held held' faults faults' o = NotesRun given held held' faults faults' o
+NotesOn (options given) held held' faults faults' o = NotesRun (is_alone given) given held held' faults faults' o

@@ -1,14 +1,16 @@
 //! Numbers with their names.
-ghost use Rattle.std.specs.Prelude.{◌≡◌};
+ghost use Rattle.std.specs.Prelude.{◌≡◌, None, Some, length};
 ghost use Rattle.std.specs.List.{flat_map};
+ghost use Rattle.asp_model.specs.Models.{atoms_of};
+ghost use Rattle.asp_vars.specs.Numbering.{bodies_of};
 ghost use Rattle.asp_buffer.specs.Out.{Puts, out};
-ghost use Rattle.asp_top.specs.Counts.{item_text, label_of, stats_items, told_items};
-ghost use Rattle.asp_top.specs.Progress.{nothing};
+ghost use Rattle.asp_top.specs.Counts.{item_text, label_of, program_items, report_items, search_items, told_items};
 
 use asp_buffer::{Waiting, put, put_number};
 use asp_crew::report::Report;
 use asp_crew::watch::Counts;
 use asp_io::{Failed, Sink};
+use asp_vars::compiled::Compiled;
 
 /// What a number counts. The names with `SoFar` stand on the line of a run that goes on, the others on lines at its end.
 #[derive(Clone, Copy)]
@@ -50,8 +52,8 @@ impl Item {
 /// What was counted of a run beside its report.
 #[derive(Clone, Copy)]
 pub struct Tally {
-    /// What the search did.
-    pub counts: Counts,
+    /// What one search did that solved it all; none where several worked side by side.
+    pub search: Option<Counts>,
     /// The program's standing atoms.
     pub atoms: u64,
     /// The distinct bodies of its rules in force.
@@ -61,12 +63,25 @@ pub struct Tally {
 impl Tally {
     /// Nothing yet.
     pub fn new() -> Tally
-        ensures { result ≡ record { counts = nothing; atoms = 0; bodies = 0 } }
+        ensures { result ≡ record { search = None; atoms = 0; bodies = 0 } }
     {
         Tally {
-            counts: Counts::new(),
+            search: None,
             atoms: 0,
             bodies: 0,
+        }
+    }
+
+    /// What is counted of this program, and what one search did, if one solved it.
+    pub fn of(compiled: &Compiled, search: Option<Counts>) -> Tally
+        ensures search { result.search ≡ search }
+        ensures atoms { result.atoms ≡ length (atoms_of compiled.now) }
+        ensures bodies { result.bodies ≡ length (bodies_of compiled.now) }
+    {
+        Tally {
+            search,
+            atoms: compiled.atom_count() as u64,
+            bodies: compiled.body_count() as u64,
         }
     }
 }
@@ -116,18 +131,34 @@ pub fn put_items<N: Sink>(
     Ok(())
 }
 
-/// What the counts of a run tell, in their order.
-pub fn stats_items(report: &Report, tally: &Tally) -> [Item; 9]
-    ensures { result ≡ stats_items report.now tally.now }
+/// What a report counts, in the order of its lines.
+pub fn report_items(report: &Report) -> [Item; 3]
+    ensures { result ≡ report_items report.now }
 {
     [
         Item::of(What::Spent, report.spent),
         Item::of(What::Leaves, report.leaves as u64),
         Item::of(What::Log, report.log as u64),
-        Item::of(What::Decisions, tally.counts.decisions),
-        Item::of(What::Restarts, tally.counts.restarts),
-        Item::of(What::Kept, tally.counts.kept),
-        Item::of(What::Dropped, tally.counts.dropped),
+    ]
+}
+
+/// What one search did, in the order of its lines.
+pub fn search_items(counts: &Counts) -> [Item; 4]
+    ensures { result ≡ search_items (Some counts.now) }
+{
+    [
+        Item::of(What::Decisions, counts.decisions),
+        Item::of(What::Restarts, counts.restarts),
+        Item::of(What::Kept, counts.kept),
+        Item::of(What::Dropped, counts.dropped),
+    ]
+}
+
+/// What the program has, in the order of its lines.
+pub fn program_items(tally: &Tally) -> [Item; 2]
+    ensures { result ≡ program_items tally.now }
+{
+    [
         Item::of(What::Atoms, tally.atoms),
         Item::of(What::Bodies, tally.bodies),
     ]

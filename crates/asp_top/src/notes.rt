@@ -1,14 +1,16 @@
 //! The line on the notes for each status, and the counts of a run.
-ghost use Rattle.std.specs.Prelude.{◌≡◌, ◌++◌, codes, decimal};
+ghost use Rattle.std.specs.Prelude.{◌≡◌, ◌++◌, Some, codes, decimal};
 ghost use Rattle.asp_buffer.specs.Out.{Puts, out};
-ghost use Rattle.asp_top.specs.Notes.{IsNoted, Writes, counts_if, counts_of, is_answered, note_of, notes_of, stats_of};
+ghost use Rattle.asp_top.specs.Counts.{program_items, report_items, search_items};
+ghost use Rattle.asp_top.specs.Notes.{IsNoted, Writes, counts_if, counts_of, is_answered, items_text, note_of, notes_of, stats_of};
 
-use crate::counts::{Tally, put_items, stats_items};
+use crate::counts::{Tally, program_items, put_items, report_items, search_items};
 use crate::status::{Outcome, Status};
 use crate::texts::write_fault;
 use crate::usage::write_usage;
 use asp_buffer::{Waiting, flush, put};
 use asp_crew::report::Report;
+use asp_crew::watch::Counts;
 use asp_io::{Failed, Sink, write_all};
 use asp_read::fault::Fault;
 use itoa::Buffer;
@@ -84,6 +86,56 @@ fn is_answered(status: Status) -> bool
     }
 }
 
+fn put_report<N: Sink>(
+    notes: &mut N,
+    waiting: &mut Waiting,
+    report: &Report,
+) -> Result<(), Failed>
+    ensures { Puts (out (N.held notes.old) (N.faults notes.old) waiting.old)
+        (out (N.held notes.new) (N.faults notes.new) waiting.new) result (items_text (report_items report.now)) }
+{
+    let items = report_items(report);
+    put_items(notes, waiting, &items)
+}
+
+fn put_one_search<N: Sink>(
+    notes: &mut N,
+    waiting: &mut Waiting,
+    counts: &Counts,
+) -> Result<(), Failed>
+    ensures { Puts (out (N.held notes.old) (N.faults notes.old) waiting.old)
+        (out (N.held notes.new) (N.faults notes.new) waiting.new) result (items_text (search_items (Some counts.now))) }
+{
+    let items = search_items(counts);
+    put_items(notes, waiting, &items)
+}
+
+fn put_search<N: Sink>(
+    notes: &mut N,
+    waiting: &mut Waiting,
+    search: Option<Counts>,
+) -> Result<(), Failed>
+    ensures { Puts (out (N.held notes.old) (N.faults notes.old) waiting.old)
+        (out (N.held notes.new) (N.faults notes.new) waiting.new) result (items_text (search_items search)) }
+{
+    match search {
+        None => put(notes, waiting, b""),
+        Some(counts) => put_one_search(notes, waiting, &counts),
+    }
+}
+
+fn put_program<N: Sink>(
+    notes: &mut N,
+    waiting: &mut Waiting,
+    tally: &Tally,
+) -> Result<(), Failed>
+    ensures { Puts (out (N.held notes.old) (N.faults notes.old) waiting.old)
+        (out (N.held notes.new) (N.faults notes.new) waiting.new) result (items_text (program_items tally.now)) }
+{
+    let items = program_items(tally);
+    put_items(notes, waiting, &items)
+}
+
 fn put_counts<N: Sink>(
     notes: &mut N,
     waiting: &mut Waiting,
@@ -93,8 +145,9 @@ fn put_counts<N: Sink>(
     ensures { Puts (out (N.held notes.old) (N.faults notes.old) waiting.old)
         (out (N.held notes.new) (N.faults notes.new) waiting.new) result (stats_of tally.now report.now) }
 {
-    let items = stats_items(report, tally);
-    put_items(notes, waiting, &items)?;
+    put_report(notes, waiting, report)?;
+    put_search(notes, waiting, tally.search)?;
+    put_program(notes, waiting, tally)?;
     put(notes, waiting, b"\n")
 }
 

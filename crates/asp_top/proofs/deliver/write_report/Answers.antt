@@ -1,5 +1,5 @@
 use Rattle.asp_top.proofs.WriteLaws.{writes_exit, writes_flushed}
-use Rattle.asp_top.proofs.runs.write_report.Goals as goal
+use Rattle.asp_top.proofs.deliver.write_report.Goals as goal
 
 pub returns-in_err-write_text : goal.returns-in_err-write_text
 returns-in_err-write_text g c = writes_exit _ _ _ _ _ _ _ _ c.in_err-write_text.ensures c.from_residual.ensures.1

@@ -1,0 +1,8 @@
+use Rattle.asp_top.proofs.RunLaws.{runs-ready}
+use Rattle.asp_top.proofs.runs.outcome_alone.Goals as goal
+
+pub returns-in-Ok-clause-runs : goal.returns-in-Ok-clause-runs
+returns-in-Ok-clause-runs g c = runs-ready c.args.options.now _ _ _ _ _ _ _ _ c.in-Ok.compiled _ c.in-Ok.ensures c.solve.ensures.solves
+
+pub returns-in-Err-clause-runs : goal.returns-in-Err-clause-runs
+returns-in-Err-clause-runs g c = c.in-Err.ensures _ _

@@ -1,0 +1,12 @@
+use Rattle.std.proofs.Common.{◌∙◌, ap, length, refl, sym}
+use Rattle.asp_model.specs.declared.program.Program.{Program}
+use Rattle.asp_model.specs.Models.{atoms_of}
+use Rattle.asp_vars.specs.Numbering.{bodies_of}
+use Rattle.asp_top.proofs.search.solve.Goals as goal
+
+pub returns-in-Ok-clause-counted : goal.returns-in-Ok-clause-counted
+returns-in-Ok-clause-counted g c = rw c.deliver.ensures.delivers.reports (record {
+  atoms = c.of.ensures.atoms ∙ ap (λ (p : Program). length (atoms_of p)) (sym c.in-Ok.ensures.report.program);
+  bodies = c.of.ensures.bodies ∙ ap (λ (p : Program). length (bodies_of p)) (sym c.in-Ok.ensures.report.program);
+  search = rw c.of.ensures.search refl;
+})

@@ -1,0 +1,90 @@
+//! What a run writes of its report, and the outcome then.
+ghost use Rattle.std.specs.Prelude.{◌≡◌, None};
+ghost use Rattle.asp_model.specs.Texts.{results_text};
+ghost use Rattle.asp_proof.specs.Texts.{text_of};
+ghost use Rattle.asp_top.specs.Notes.{Writes};
+ghost use Rattle.asp_top.specs.Runs.{Delivers, TellsFaults, report_text};
+
+use crate::solve::status_for;
+use crate::status::{Outcome, Status};
+use asp_crew::report::Report;
+use asp_io::{Failed, Sink};
+use asp_model::program::Program;
+use asp_model::results::Results;
+use asp_print::print;
+use asp_proof::proof::Proof;
+use asp_proof::write_proof;
+
+/// The outcome of a run that solved nothing.
+pub fn failed(status: Status) -> Outcome
+    ensures { result ≡ record { status = status; report = None } }
+{
+    Outcome {
+        status,
+        report: None,
+    }
+}
+
+fn write_proof_text<K: Sink>(sink: &mut K, proof: &Proof) -> Result<(), Failed>
+    ensures { Writes (K.held sink.old) (K.held sink.new) (K.faults sink.old) (K.faults sink.new)
+        result (text_of proof.now) }
+{
+    write_proof(sink, proof)
+}
+
+fn write_results_text<K: Sink>(
+    sink: &mut K,
+    brief: bool,
+    program: &Program,
+    results: &Results,
+) -> Result<(), Failed>
+    ensures { Writes (K.held sink.old) (K.held sink.new) (K.faults sink.old) (K.faults sink.new)
+        result (results_text program.now results.now brief) }
+{
+    print(sink, program, results, brief)
+}
+
+// Writes the text of the proof, if there is one, and else that of the results.
+fn write_text<K: Sink>(
+    sink: &mut K,
+    brief: bool,
+    program: &Program,
+    report: &Report,
+) -> Result<(), Failed>
+    ensures { Writes (K.held sink.old) (K.held sink.new) (K.faults sink.old) (K.faults sink.new)
+        result (report_text program.now report.now brief) }
+{
+    match &report.proof {
+        Some(proof) => write_proof_text(sink, proof),
+        None => write_results_text(sink, brief, program, &report.results),
+    }
+}
+
+// Writes the text of a report, and flushes the sink.
+fn write_report<K: Sink>(
+    sink: &mut K,
+    brief: bool,
+    program: &Program,
+    report: &Report,
+) -> Result<(), Failed>
+    ensures { Writes (K.held sink.old) (K.held sink.new) (K.faults sink.old) (K.faults sink.new)
+        result (report_text program.now report.now brief) }
+{
+    write_text(sink, brief, program, report)?;
+    sink.flush()
+}
+
+/// Writes the text of a report, and flushes the sink.
+pub fn deliver<K: Sink>(sink: &mut K, brief: bool, program: &Program, report: Report) -> Outcome
+    ensures delivers { Delivers brief program.now report (K.held sink.old) (K.held sink.new) (K.faults sink.old) (K.faults sink.new) result }
+    ensures flushed { TellsFaults (K.held sink.old) (K.faults sink.old) (K.faults sink.new) result.status }
+{
+    let status = match write_report(sink, brief, program, &report) {
+        Ok(()) => status_for(&report.results),
+        Err(Failed) => Status::WriteFault,
+    };
+    Outcome {
+        status,
+        report: Some(report),
+    }
+}

@@ -1,0 +1,88 @@
+//! A program that was compiled is solved, and its results are written.
+ghost use Rattle.std.specs.Prelude.{◌≡◌, IfSome, false, true};
+ghost use Rattle.asp_cli.specs.Values.{IsCrew};
+ghost use Rattle.asp_top.specs.Runs.{IsCounted, Solves, TellsFaults};
+
+use crate::counts::Tally;
+use crate::deliver::{deliver, failed};
+use crate::solve::mode_of;
+use crate::status::{Outcome, Status};
+use asp_cli::Options;
+use asp_crew::alone::solve_alone;
+use asp_crew::watch::{Counts, Watch};
+use asp_io::Sink;
+use asp_team::gate::Gate;
+use asp_team::many;
+use asp_vars::compiled::Compiled;
+use std::alloc::Global;
+use std::sync::Wait;
+use std::thread::Threads;
+
+/// One search solves it.
+pub fn solve<K: Sink, W: Watch>(
+    alloc: Global,
+    options: &Options,
+    compiled: &Compiled,
+    sink: &mut K,
+    tally: &mut Tally,
+    watch: &mut W,
+) -> Outcome
+    ensures solves { Solves options.now compiled.now (K.held sink.old) (K.held sink.new) (K.faults sink.old) (K.faults sink.new) result }
+    ensures flushed { TellsFaults (K.held sink.old) (K.faults sink.old) (K.faults sink.new) result.status }
+    ensures counted { IfSome result.report (IsCounted true tally.new) }
+    ensures heard { W.IsAfter watch.old watch.new }
+{
+    let program = compiled.program();
+    let mode = mode_of(options.mode, program);
+    let mut counts = Counts::new();
+    match solve_alone(
+        alloc,
+        compiled,
+        mode,
+        options.budget,
+        options.proof,
+        &mut counts,
+        watch,
+    ) {
+        Ok(report) => {
+            *tally = Tally::of(compiled, Some(counts));
+            deliver(sink, options.make.is_some(), program, report)
+        }
+        Err(_) => failed(Status::Memory),
+    }
+}
+
+/// Workers side by side solve it. They write down no proof.
+pub fn solve_by_crew<R: Threads + Wait + Sync, K: Sink, G: Gate + Sync>(
+    rt: &R,
+    alloc: Global,
+    options: &Options,
+    compiled: &Compiled,
+    sink: &mut K,
+    gate: &G,
+    tally: &mut Tally,
+) -> Outcome
+    requires crew { IsCrew options.now.workers }
+    requires proof { options.now.proof ≡ false }
+    ensures solves { Solves options.now compiled.now (K.held sink.old) (K.held sink.new) (K.faults sink.old) (K.faults sink.new) result }
+    ensures flushed { TellsFaults (K.held sink.old) (K.faults sink.old) (K.faults sink.new) result.status }
+    ensures counted { IfSome result.report (IsCounted false tally.new) }
+{
+    let program = compiled.program();
+    let mode = mode_of(options.mode, program);
+    match many::solve(
+        rt,
+        alloc,
+        compiled,
+        mode,
+        options.budget,
+        options.workers,
+        gate,
+    ) {
+        Ok(report) => {
+            *tally = Tally::of(compiled, None);
+            deliver(sink, options.make.is_some(), program, report)
+        }
+        Err(_) => failed(Status::Memory),
+    }
+}
