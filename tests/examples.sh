@@ -1,9 +1,11 @@
 #!/usr/bin/env bash
 # Runs every example, every row, every refusal, the commands of the README and the manual, the programs that need a good search,
 # those whose progress is told, and random programs through the built program, and compares bytes and status.
-# Usage: tests/examples.sh [PROGRAM]     (the program is build/aspenum where none is named)
+# Usage: tests/examples.sh [PROGRAM [CHECKER]]     (the program is build/aspenum where none is named; without a checker no
+# command that calls it is run)
 cd "$(dirname "$0")/.." || exit 1
 program=${1:-build/aspenum}
+checker=${2:-}
 passed=0
 failed=0
 
@@ -94,8 +96,10 @@ for text in examples/*.aspif; do
 done
 
 # The commands of the README and of the manual: each line '$ COMMAND', with what follows it.
-python3 tests/readme.py "$program" README.md || failed=$((failed + 1))
-python3 tests/readme.py "$program" man/aspenum.1 || failed=$((failed + 1))
+for document in README.md man/aspenum.1; do
+    # shellcheck disable=SC2086
+    python3 tests/readme.py "$program" "$document" $checker || failed=$((failed + 1))
+done
 
 # Programs that are refuted within so many conflicts.
 python3 tests/search.py "$program" || failed=$((failed + 1))
@@ -103,8 +107,9 @@ python3 tests/search.py "$program" || failed=$((failed + 1))
 # Lines while a run goes on.
 python3 tests/progress.py "$program" || failed=$((failed + 1))
 
-# Random programs beside the plain reference.
+# Random programs beside the plain reference, by one worker and by four.
 python3 tests/compare.py "$program" 400 --no-clasp || failed=$((failed + 1))
+python3 tests/compare.py "$program --workers 4" 100 --no-clasp || failed=$((failed + 1))
 
 echo "examples: $passed passed, $failed failed"
 [ "$failed" -eq 0 ]
