@@ -1,4 +1,4 @@
-use Rattle.std.proofs.Common.{◌≡◌}
+use Rattle.std.proofs.Common.{◌≡◌, Bool, false, ap, ◌∙◌}
 use Rattle.std.proofs.lemmas.Result.{IfOk-weaker}
 use Rattle.asp_crew_laws.specs.declared.report.Report.{Report}
 use Rattle.asp_crew_laws.specs.Reports.{IsReport}
@@ -10,3 +10,15 @@ returns-clause-report g c =
     let first : Report = c.in_ok-report.report in
     IfOk-weaker c.with_proof.result (λ (r : Report). r ≡ record first { proof = r.proof }) (IsReport c.args.compiled.now c.args.mode c.args.budget)
     (λ r same. report_with c.args.compiled.now c.args.mode c.args.budget first r same c.in_ok-report.ensures.report) c.with_proof.ensures.same
+
+pub returns-clause-log : goal.returns-clause-log
+returns-clause-log g c =
+    let first : Report = c.in_ok-report.report in
+    IfOk-weaker c.with_proof.result (λ (r : Report). r ≡ record first { proof = r.proof }) (λ (r : Report). r.log ≡ 0)
+    (λ r same. ap (λ (x : Report). x.log) same ∙ c.in_ok-report.ensures.log) c.with_proof.ensures.same
+
+pub returns-clause-short : goal.returns-clause-short
+returns-clause-short g c =
+    let first : Report = c.in_ok-report.report in
+    IfOk-weaker c.with_proof.result (λ (r : Report). r ≡ record first { proof = r.proof }) (λ (r : Report). r.short ≡ false)
+    (λ r same. ap (λ (x : Report). x.short) same ∙ c.in_ok-report.ensures.short) c.with_proof.ensures.same

@@ -30,3 +30,9 @@ returns-clause-finishes g c =
       idle = idle-after c.args.mode c.lease.new.self c.work_off_all.new.book c.back.new.self c.work_off_all.new.search c.work_off_all.new.fuel c.in_ok-unpaid.unpaid c.in_ok-unpaid.ensures.leaves leased.pool c.back.ensures;
       over = finished c.args.mode c.lease.new.self c.work_off_all.new.book c.back.new.self c.work_off_all.new.search c.work_off_all.new.fuel c.in_ok-unpaid.unpaid c.in_ok-unpaid.ensures.leaves leased.pool c.back.ensures;
     }
+
+pub returns-in_err-search-clause-heard : goal.returns-in_err-search-clause-heard
+returns-in_err-search-clause-heard g c = g.met.W.Watch.begins c.args.watch.now
+
+pub returns-in_err-fuel-clause-heard : goal.returns-in_err-fuel-clause-heard
+returns-in_err-fuel-clause-heard g c = g.met.W.Watch.begins c.args.watch.now

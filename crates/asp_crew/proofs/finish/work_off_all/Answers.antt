@@ -1,4 +1,4 @@
-use Rattle.std.proofs.Common.{Option, Some, None, subst}
+use Rattle.std.proofs.Common.{Option, Some, None, refl, subst}
 use Rattle.asp_vars.specs.Paid.{Clash}
 use Rattle.asp_book.specs.Books.{board}
 use Rattle.asp_crew.specs.Running.{LeavesLeaf}
@@ -37,3 +37,12 @@ returns-in-Some-2-clause-leaves g c =
     all-stopped c.args.mode c.args.book.now c.leaves.book c.take.new.self c.work_off.new.book c.in-Some.leaf c.leaves.search c.work_off.new.search c.leaves.fuel c.work_off.new.fuel c.in-Some-2.conflict c.leaves.invariant.between
     (taken-by c.args.mode c.leaves.book c.take.new.self c.in-Some.leaf c.leaves.search c.leaves.fuel _ c.leaves.invariant.between.ready c.leaves.invariant.between.alone c.in_ok-take.ensures.leaf c.in_ok-take.ensures.journal c.in-Some.is)
     (subst (λ (o : Option Clash). LeavesLeaf c.args.mode c.take.new.self c.work_off.new.book c.in-Some.leaf c.work_off.new.search c.work_off.new.fuel o) c.in-Some-2.is c.in_ok-work_off-in-Some.ensures.leaves)
+
+pub leaves-init : goal.leaves-init
+leaves-init g c = record { between = record { ready = c.requires.ready; alone = c.requires.alone; task = refl; pool = refl }; heard = g.met.W.Watch.begins c.args.watch.now }
+
+pub returns-in_err-work_off-in-Some-clause-heard : goal.returns-in_err-work_off-in-Some-clause-heard
+returns-in_err-work_off-in-Some-clause-heard g c = g.met.W.Watch.goes_on c.args.watch.now c.leaves.watch c.work_off.new.watch c.leaves.invariant.heard c.work_off.ensures.heard
+
+pub returns-in-Some-2-clause-heard : goal.returns-in-Some-2-clause-heard
+returns-in-Some-2-clause-heard g c = g.met.W.Watch.goes_on c.args.watch.now c.leaves.watch c.work_off.new.watch c.leaves.invariant.heard c.work_off.ensures.heard

@@ -22,3 +22,9 @@ returns-clause-leaves g c =
     leaves-open c.args.mode c.args.book.now c.run.new.book c.release.new.self c.args.leaf c.as_slice.result.now c.enter.new.self c.run.new.search c.run.new.fuel c.in-Some.conflict
     (subst (λ (o : Option Clash). Ends c.args.mode c.args.book.now c.run.new.book c.enter.new.self c.run.new.search c.run.new.fuel o) c.in-Some.is c.in_ok-run.ensures.ends) c.requires.held
     (c.as_slice.ensures.value ∙ c.in_ok-cube.ensures.value) (cube-entered c.args.search.now c.enter.new.self c.as_slice.result.now c.in_ok-enter.ensures.ok) c.release.ensures
+
+pub returns-in_err-cube-clause-heard : goal.returns-in_err-cube-clause-heard
+returns-in_err-cube-clause-heard g c = g.met.W.Watch.begins c.args.watch.now
+
+pub returns-in_err-enter-clause-heard : goal.returns-in_err-enter-clause-heard
+returns-in_err-enter-clause-heard g c = g.met.W.Watch.begins c.args.watch.now
