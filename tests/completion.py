@@ -25,12 +25,15 @@ HELP = os.path.join(HERE, "../crates/asp_cli/src/texts.rt")
 with open(HELP, encoding="utf-8") as page:
     OPTIONS = re.findall(r"^\\x20 (--[a-z]+)", page.read(), re.M)
 VALUES = ["auto", "enum", "opt"]
+PACKAGE = "/usr/share/bash-completion/bash_completion"
 
 # what is typed, what is shown or filled in, and what isn't
 ROWS = [
     ("aspenum --", OPTIONS, []),
     ("aspenum --stats --", ["--mode", "--budget", "--workers", "--make", "--progress"], ["--help", "--version", "--stats "]),
     ("aspenum --progress --", ["--mode", "--stats"], ["--help", "--version", "--progress "]),
+    ("aspenum --proof --", ["--mode", "--workers"], ["--help", "--version", "--proof "]),
+    ("aspenum --workers ", ["16", "64"], ["--stats", "README"]),
     ("aspenum --mode enum --", ["--budget", "--stats"], ["--help", "--mode "]),
     ("aspenum --mode=enum --", ["--budget", "--stats"], ["--help", "--mode "]),
     ("aspenum --mode ", VALUES, ["--stats", "README"]),
@@ -44,7 +47,7 @@ ROWS = [
 
 STARTS = {
     "bash": (["bash", "--norc", "--noprofile", "-i"], "source {files}/aspenum.bash"),
-    "bash-completion": (["bash", "--norc", "--noprofile", "-i"], "XDG_DATA_HOME={data}; source /usr/share/bash-completion/bash_completion"),
+    "bash-completion": (["bash", "--norc", "--noprofile", "-i"], "XDG_DATA_HOME={data}; source " + PACKAGE),
     "zsh": (["zsh", "-f", "-i"], "fpath=({files} $fpath); autoload -Uz compinit; compinit -u -D; unsetopt menu_complete auto_menu; LISTMAX=1000; setopt no_list_beep"),
     "fish": (["fish", "--no-config", "-i"], "set -g fish_autosuggestion_enabled 0; source {files}/aspenum.fish"),
 }
@@ -125,7 +128,8 @@ def tried(name):
 
 
 def main():
-    names = sys.argv[1:] or [it for it in STARTS if shutil.which(STARTS[it][0][0])]
+    there = lambda it: shutil.which(STARTS[it][0][0]) and (it != "bash-completion" or os.path.exists(PACKAGE))
+    names = sys.argv[1:] or list(filter(there, STARTS))
     sys.exit(1 if sum(tried(it) for it in names) else 0)
 
 
