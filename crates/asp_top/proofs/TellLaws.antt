@@ -8,7 +8,7 @@ use Rattle.asp_buffer.proofs.OutLaws.{front-after, front-more}
 use Rattle.asp_crew.specs.declared.watch.Counts.{Counts}
 use Rattle.asp_top.specs.Notes.{IsNoted, Writes}
 use Rattle.asp_top.specs.Progress.{IsMore, IsTold, Rises, Told, line_of, nothing}
-use Rattle.asp_top.specs.Telling.{Chain, EndsWith, Line, Point, Step, Tells, point}
+use Rattle.asp_top.specs.Telling.{Chain, EndsWith, Line, Point, Tells, point}
 use Rattle.asp_top.proofs.WriteLaws.{writes_same, writes_then}
 
 abbrev State : Type 0
