@@ -1,5 +1,5 @@
 -- What each status means, from what reading, solving and writing did.
-use Rattle.std.proofs.Common.{◌≡◌, ℕ, ◌≤◌, Bool, true, false, List, refl, sym, subst, inl, inr, arith}
+use Rattle.std.proofs.Common.{◌≡◌, ℕ, ◌≤◌, Bool, true, false, ◌||◌, List, refl, sym, subst, inl, inr, arith}
 use Rattle.std.specs.Prelude.{Option, None, Some, Result, Ok, Err, IfErr, IfOk, IfSome, IsSome, IsErrOf}
 use Rattle.std.proofs.KnownBytes.{Keeps-refl}
 use Rattle.std.specs.Io.KnownBytes.{Appends, Keeps, IsAtEnd}
@@ -157,13 +157,19 @@ pub over-memory : (given : Options) (l l' : Option (List ℕ)) (r r' : ℕ) (sta
 over-memory given l l' r r' status is later quiet =
     subst (IsOver given l l' r r') (sym is) (λ h w. runs-memory given (around l l' r r' h h w w) (Keeps-refl h) later (omega arith) quiet)
 
+err-of : (e : ReadError) → e ≡ errors.ReadFault → IsErrOf {T = Program} (Err e) errors.ReadFault
+err-of e is = cc
+
+of-err : (e : ReadError) → IsErrOf {T = Program} (Err e) errors.ReadFault → e ≡ errors.ReadFault
+of-err e is = cc
+
 -- no program was read
 pub over-unread : (given : Options) (l l' : Option (List ℕ)) (r r' : ℕ) (e : ReadError) (status : Status) → status ≡ status_of e → given.make ≡ None
-    → IfSome l (λ t. ReadsText (Err e) (outcome t)) → (text : List ℕ) × ReadsText (Err e) (outcome text) → r ≤ r' → (e ≡ errors.ReadFault → Rose r r') → StopsAt most_bytes l l' (Err e) → (IsSome l → ¬ (e ≡ errors.ReadFault) → r' ≡ r)
-    → IsOver given l l' r r' status
+    → IfSome l (λ t. ReadsText (Err e) (outcome t)) → (text : List ℕ) × ReadsText (Err e) (outcome text) → r ≤ r' → (IsErrOf {T = Program} (Err e) errors.ReadFault → Rose r r') → StopsAt most_bytes l l' (Err e)
+    → (IsSome l → ¬ IsErrOf {T = Program} (Err e) errors.ReadFault → r' ≡ r) → IsOver given l l' r r' status
 over-unread given l l' r r' e status is none text some later cause stops quiet =
     subst (IsOver given l l' r r') (sym is) (λ h w. runs-unread given (around l l' r r' h h w w) e none (Keeps-refl h) (omega arith)
-    (record { text = text; some_text = some; later = later; cause = cause; stops = stops; quiet = quiet }))
+    (record { text = text; some_text = some; later = later; cause = λ fault. cause (err-of e fault); stops = stops; quiet = λ told no. quiet told (λ is. no (of-err e is)) }))
 
 -- a program that is there is compiled, unless memory is wanting
 pub prepares : (given : Options) (l l' : Option (List ℕ)) (r r' : ℕ) (p : Program) (result : Result Program Status) → IsReady given l l' r r' p → IfOk result (λ q. q ≡ p) → IfErr result (λ s. s ≡ Memory)
@@ -176,13 +182,21 @@ pub runs-ready : (given : Options) (l l' : Option (List ℕ)) (r r' : ℕ) (h h'
     → Runs given (around l l' r r' h h' w w') o
 runs-ready given l l' r r' h h' w w' p o ready solves = runs-solved given (around l l' r r' h h' w w') p o (ready.source h h' w w') ready.later ready.quiet solves
 
--- without a proof none was asked for
-pub unproved : (r : Report) → r.proof ≡ None → HasProof false r
+unproved : (r : Report) → r.proof ≡ None → HasProof false r
 unproved r none = at r.results.end
   where
     at : (end : End) → HasProofAt end false r.results r.proof
     at Finished = none
     at Unfinished = none
+
+-- a report without a proof is as it should be where none was asked for
+pub none-asked : {E : Type 0} (asked : Bool) (result : Result Report E) → asked ≡ false → IfOk result (λ r. r.proof ≡ None) → IfOk result (HasProof asked)
+none-asked asked (Ok r) is none = subst (λ (a : Bool). HasProof a r) (sym is) (unproved r none)
+none-asked asked (Err e) is none = tt
+
+pub second-false : (a b : Bool) → (a || b) ≡ false → b ≡ false
+second-false true b e = absurd cc
+second-false false b e = e
 
 pub ok-no-fault : (p : Program) (e : ReadError) → ¬ IsErrOf (Ok p) e
 ok-no-fault p e is = cc

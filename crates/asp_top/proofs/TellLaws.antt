@@ -8,7 +8,7 @@ use Rattle.asp_buffer.proofs.OutLaws.{front-after, front-more}
 use Rattle.asp_crew.specs.declared.watch.Counts.{Counts}
 use Rattle.asp_top.specs.Notes.{IsNoted, Writes}
 use Rattle.asp_top.specs.Progress.{IsMore, IsTold, Rises, Told, line_of, nothing}
-use Rattle.asp_top.specs.Telling.{Chain, EndsWith, Line, Point, Step, Tells, point}
+use Rattle.asp_top.specs.Telling.{Chain, EndsWith, Line, Point, Tells, point}
 use Rattle.asp_top.proofs.WriteLaws.{writes_same, writes_then}
 
 abbrev State : Type 0
@@ -69,3 +69,7 @@ told_in_all asked on h f p q j k text a b t e =
       rises = chain-rises on start q t.lines chain;
       noted = ends q.state h q.held j f q.faults k _ text (chain-writes on start q t.lines chain refl) e;
     }
+
+-- the notes are the same at another name
+pub moved : {N : Type 0} (held : N → Option (List ℕ)) (faults : N → ℕ) (on : Bool) (h : Option (List ℕ)) (f : ℕ) (x y : N) (text : List ℕ) → x ≡ y → IsTold on h (held y) f (faults y) text → IsTold on h (held x) f (faults x) text
+moved {N = N} held faults on h f x y text e t = subst (λ (n : N). IsTold on h (held n) f (faults n) text) (sym e) t

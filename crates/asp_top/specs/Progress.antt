@@ -1,11 +1,10 @@
 -- What the notes get while a run goes on.
-use Rattle.std.specs.Prelude.{◌≡◌, ℕ, ◌+◌, ◌<◌, ◌≤◌, Bool, false, List, [], ◌∷◌, ◌++◌, codes, ℤ, Option, None, Some, Result, Ok, Err, MatchResult}
+use Rattle.std.specs.Prelude.{◌≡◌, ℕ, ◌+◌, ◌<◌, ◌≤◌, Bool, false, List, [], ◌∷◌, ◌++◌, codes, ℤ, Option, None, Some}
 use Rattle.std.specs.List.{flat_map}
 use Rattle.std.specs.Fmt.{signed_decimal}
-use Rattle.asp_io.specs.declared.traits.Failed.{Failed}
 use Rattle.asp_crew.specs.declared.watch.Counts.{Counts}
 use Rattle.asp_top.specs.Counts.{item_text, told_items}
-use Rattle.asp_top.specs.Notes.{IsNoted, Writes}
+use Rattle.asp_top.specs.Notes.{IsNoted}
 
 -- what a line tells: the counts, and in an optimisation the cost of the best answer so far
 pub record Told : Type 0 where

@@ -86,11 +86,7 @@ fn is_answered(status: Status) -> bool
     }
 }
 
-fn put_report<N: Sink>(
-    notes: &mut N,
-    waiting: &mut Waiting,
-    report: &Report,
-) -> Result<(), Failed>
+fn put_report<N: Sink>(notes: &mut N, waiting: &mut Waiting, report: &Report) -> Result<(), Failed>
     ensures { Puts (out (N.held notes.old) (N.faults notes.old) waiting.old)
         (out (N.held notes.new) (N.faults notes.new) waiting.new) result (items_text (report_items report.now)) }
 {
@@ -124,11 +120,7 @@ fn put_search<N: Sink>(
     }
 }
 
-fn put_program<N: Sink>(
-    notes: &mut N,
-    waiting: &mut Waiting,
-    tally: &Tally,
-) -> Result<(), Failed>
+fn put_program<N: Sink>(notes: &mut N, waiting: &mut Waiting, tally: &Tally) -> Result<(), Failed>
     ensures { Puts (out (N.held notes.old) (N.faults notes.old) waiting.old)
         (out (N.held notes.new) (N.faults notes.new) waiting.new) result (items_text (program_items tally.now)) }
 {

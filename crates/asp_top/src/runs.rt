@@ -1,5 +1,5 @@
 //! A whole run: words, reading, solving and writing, in this order; the first that doesn't succeed decides.
-ghost use Rattle.std.specs.Prelude.{◌≡◌, ◌++◌, ℕ, List, Option, None, Some, IfSome, false, true, map, string_bytes};
+ghost use Rattle.std.specs.Prelude.{◌≡◌, None, IfSome, false, true, map, string_bytes};
 ghost use Rattle.asp_cli.specs.Given.{fault_seen, words_give};
 ghost use Rattle.asp_cli.specs.Texts.{help_page, version_line};
 ghost use Rattle.asp_cli.specs.Values.{IsCrew, IsRing};

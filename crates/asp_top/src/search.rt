@@ -1,6 +1,8 @@
 //! A program that was compiled is solved, and its results are written.
-ghost use Rattle.std.specs.Prelude.{◌≡◌, IfSome, false, true};
+ghost use Rattle.std.specs.Prelude.{◌≡◌, IfOk, IfSome, false, true};
 ghost use Rattle.asp_cli.specs.Values.{IsCrew};
+ghost use Rattle.asp_crew_laws.specs.Proofs.{HasProof};
+ghost use Rattle.asp_crew_laws.specs.Reports.{IsReport};
 ghost use Rattle.asp_top.specs.Runs.{IsCounted, Solves, TellsFaults};
 
 use crate::counts::Tally;
@@ -9,12 +11,14 @@ use crate::solve::mode_of;
 use crate::status::{Outcome, Status};
 use asp_cli::Options;
 use asp_crew::alone::solve_alone;
+use asp_crew::report::Report;
 use asp_crew::watch::{Counts, Watch};
 use asp_io::Sink;
+use asp_model::results::Mode;
 use asp_team::gate::Gate;
 use asp_team::many;
 use asp_vars::compiled::Compiled;
-use std::alloc::Global;
+use std::alloc::{AllocError, Global};
 use std::sync::Wait;
 use std::thread::Threads;
 
@@ -52,7 +56,32 @@ pub fn solve<K: Sink, W: Watch>(
     }
 }
 
-/// Workers side by side solve it. They write down no proof.
+// What workers side by side find. They write down no proof.
+fn solved_by_crew<R: Threads + Wait + Sync, G: Gate + Sync>(
+    rt: &R,
+    alloc: Global,
+    options: &Options,
+    compiled: &Compiled,
+    mode: Mode,
+    gate: &G,
+) -> Result<Report, AllocError>
+    requires crew { IsCrew options.now.workers }
+    requires proof { options.now.proof ≡ false }
+    ensures report { IfOk result (IsReport compiled.now mode options.now.budget) }
+    ensures proof { IfOk result (HasProof options.now.proof) }
+{
+    many::solve(
+        rt,
+        alloc,
+        compiled,
+        mode,
+        options.budget,
+        options.workers,
+        gate,
+    )
+}
+
+/// Workers side by side solve it, where no proof is asked for.
 pub fn solve_by_crew<R: Threads + Wait + Sync, K: Sink, G: Gate + Sync>(
     rt: &R,
     alloc: Global,
@@ -70,15 +99,7 @@ pub fn solve_by_crew<R: Threads + Wait + Sync, K: Sink, G: Gate + Sync>(
 {
     let program = compiled.program();
     let mode = mode_of(options.mode, program);
-    match many::solve(
-        rt,
-        alloc,
-        compiled,
-        mode,
-        options.budget,
-        options.workers,
-        gate,
-    ) {
+    match solved_by_crew(rt, alloc, options, compiled, mode, gate) {
         Ok(report) => {
             *tally = Tally::of(compiled, None);
             deliver(sink, options.make.is_some(), program, report)

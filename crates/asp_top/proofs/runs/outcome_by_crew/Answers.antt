@@ -5,4 +5,4 @@ pub returns-in-Ok-clause-runs : goal.returns-in-Ok-clause-runs
 returns-in-Ok-clause-runs g c = runs-ready c.args.options.now _ _ _ _ _ _ _ _ c.in-Ok.compiled _ c.in-Ok.ensures c.solve_by_crew.ensures.solves
 
 pub returns-in-Err-clause-runs : goal.returns-in-Err-clause-runs
-returns-in-Err-clause-runs g c = c.in-Err.ensures _ _
+returns-in-Err-clause-runs g c = rw c.failed.ensures (c.in-Err.ensures _ _)

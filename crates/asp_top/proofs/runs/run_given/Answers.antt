@@ -1,7 +1,12 @@
+use Rattle.std.proofs.Common.{◌∙◌, ◌==◌, sym}
+use Rattle.asp_top.proofs.RunLaws.{second-false}
 use Rattle.asp_top.proofs.runs.run_given.Goals as goal
 
+pub run_by_crew-requires-clause-proof : goal.run_by_crew-requires-clause-proof
+run_by_crew-requires-clause-proof g c = λ _ _. second-false (c.args.options.now.workers == 1) c.args.options.now.proof (sym c.is_alone.ensures ∙ c.if-is_alone.false)
+
 pub returns-then-is_alone-clause-notes : goal.returns-then-is_alone-clause-notes
-returns-then-is_alone-clause-notes g c = ?
+returns-then-is_alone-clause-notes g c = rw (sym c.is_alone.ensures ∙ c.if-is_alone.true) c.run_alone.ensures.notes
 
 pub returns-else-is_alone-clause-notes : goal.returns-else-is_alone-clause-notes
-returns-else-is_alone-clause-notes g c = ?
+returns-else-is_alone-clause-notes g c = rw (sym c.is_alone.ensures ∙ c.if-is_alone.false) c.run_by_crew.ensures.notes
