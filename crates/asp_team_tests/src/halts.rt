@@ -39,14 +39,14 @@ impl Halt for StopsAll {
     }
 }
 
-// A run of four workers.
+// A run of three workers.
 fn run<R: Threads + Wait + Sync + Abort, H: Halt + Sync>(
     rt: &R,
     heap: Global,
     compiled: &Compiled,
     halt: &H,
 ) -> Report {
-    solve_with(rt, heap, compiled, Mode::Enum, 100, 4, &OpenGate, halt).expect(rt, "memory")
+    solve_with(rt, heap, compiled, Mode::Enum, 100, 3, &OpenGate, halt).expect(rt, "memory")
 }
 
 // Whether so many answers are found, whichever worker is stopped at whichever of its first steps.
@@ -56,8 +56,8 @@ fn are_found<R: Threads + Wait + Sync + Abort>(
     compiled: &Compiled,
     answers: usize,
 ) -> bool {
-    for worker in 0..4 {
-        for step in 0..21 {
+    for worker in 0..3 {
+        for step in 0..8 {
             let report = run(rt, heap, compiled, &StopsOne { worker, step });
             if finished(&report) != Some(answers) {
                 return false;
@@ -82,5 +82,5 @@ fn the_main_thread_works_off_all_where_everybody_is_stopped(rt: HostRuntime) {
     assert_eq!(rt; finished(&report), Some(4));
     assert!(rt; has_closed(&report, 0));
     assert!(rt; !has_closed(&report, 1));
-    assert!(rt; !has_closed(&report, 4));
+    assert!(rt; !has_closed(&report, 3));
 }
