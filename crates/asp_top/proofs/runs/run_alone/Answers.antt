@@ -1,4 +1,4 @@
-use Rattle.std.proofs.Common.{refl, rules, arith}
+use Rattle.std.proofs.Common.{refl, rules}
 use Rattle.asp_top.specs.Telling.{point}
 use Rattle.asp_top.proofs.TellLaws.{moved, told_in_all}
 use Rattle.asp_top.proofs.runs.run_alone.Goals as goal
@@ -8,7 +8,7 @@ returns-clause-notes g c = record {
   tally = c.outcome_alone-outcome.new.tally;
   counted = c.outcome_alone-outcome.ensures.counted;
   told = moved g.N.Sink.held g.N.Sink.faults _ _ _ _ c.end.new.self.notes.now _
-      (first_of (search (rules, c.end.ensures.same, c.outcome_alone-outcome.ensures.heard.0, c.new-progress.ensures.same), cc (c.end.ensures.same, c.outcome_alone-outcome.ensures.heard.0, c.new-progress.ensures.same), grind (arith, c.end.ensures.same, c.outcome_alone-outcome.ensures.heard.0, c.new-progress.ensures.same)))
+      (search (rules, c.end.ensures.same, c.outcome_alone-outcome.ensures.heard.0, c.new-progress.ensures.same))
       (told_in_all c.args.options.now.progress c.new-progress.result.on (g.N.Sink.held c.args.notes.now) (g.N.Sink.faults c.args.notes.now)
       (point (g.N.Sink.held c.new-progress.result.notes.now) (g.N.Sink.faults c.new-progress.result.notes.now) c.new-progress.result.state c.new-progress.result.last)
       (point (g.N.Sink.held c.outcome_alone-outcome.new.watch.notes.now) (g.N.Sink.faults c.outcome_alone-outcome.new.watch.notes.now) c.outcome_alone-outcome.new.watch.state c.outcome_alone-outcome.new.watch.last)
