@@ -75,7 +75,8 @@ fn judge_by(alloc: Global, program: Program, proof: &Proof) -> Result<Judgement,
     ensures shows { IfOk result (λ j. j ≡ Judgement.Yes → Shows program proof.now) }
 {
     let compiled = compile(alloc, program)?;
-    judge(alloc, &compiled, proof)
+    let judgement = judge(alloc, &compiled, proof)?;
+    Ok(judgement)
 }
 
 fn judge_read(alloc: Global, program: Program, proof: &Proof) -> Result<Judgement, CheckError>
