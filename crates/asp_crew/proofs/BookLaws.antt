@@ -1,11 +1,9 @@
 -- A book whose events are number 0's, and the search and units beside it.
-use Rattle.std.proofs.Common.{◌≡◌, ℕ, ◌+◌, ◌^◌, ◌<◌, ◌≤◌, arith, Bool, true, false, eqb, List, [], ◌∷◌, ◌++◌, Option, Some, None, refl, sym, ap, ◌∙◌, subst, inl, inr}
-use Rattle.std.specs.Prelude.{ℤ, IsTrue}
+use Rattle.std.proofs.Common.{◌≡◌, ℕ, ◌^◌, ◌<◌, arith, Bool, true, false, eqb, List, [], ◌∷◌, refl, sym, ap, ◌∙◌, subst}
+use Rattle.std.specs.Prelude.{IsTrue}
 use Rattle.std.specs.Bool.{beq}
 use Rattle.std.proofs.lemmas.Bool.{eq-eqb, and_from, and_parts, or_left, or_right}
-use Rattle.asp_model.specs.declared.program.Program.{Program}
 use Rattle.asp_model.specs.declared.results.Mode.{Mode}
-use Rattle.asp_model.specs.Sets.{Atoms}
 use Rattle.asp_vars.specs.Literals.{Literal, has_literal, literal_eq}
 use Rattle.asp_vars.specs.Conflicts.{has_all}
 use Rattle.asp_vars.specs.Paid.{Units}
@@ -24,7 +22,6 @@ use Rattle.asp_core.proofs.GrowthLaws.{Grows-happens}
 use Rattle.asp_core.proofs.ResultLaws.{IsBoard-replay, task-run}
 use Rattle.asp_book.specs.Books.{Booked, board, with_events, IsJournalOf}
 use Rattle.asp_search_laws.specs.Searching.{Searching}
-use Rattle.asp_crew_laws.specs.Runs.{task_of}
 use Rattle.asp_crew_laws.specs.Working.{IsAtWork}
 use Rattle.asp_crew_laws.proofs.WorkLaws.{work-on}
 use Rattle.asp_crew.specs.Running.{IsRunIn, IsReady}

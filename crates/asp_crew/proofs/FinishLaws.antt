@@ -1,13 +1,11 @@
 -- One leaf after another, and what is left when number 0 has given its units back.
-use Rattle.std.proofs.Common.{◌≡◌, ◌⊎◌, ℕ, ◌+◌, ◌-◌, ◌^◌, ◌<◌, ◌≤◌, min, Bool, true, false, cond, eqb, List, [], ◌∷◌, length, Option, Some, None, refl, sym, ap, ◌∙◌, subst, inl, inr, arith}
+use Rattle.std.proofs.Common.{◌≡◌, ◌⊎◌, ℕ, ◌+◌, ◌-◌, ◌^◌, ◌<◌, min, Bool, true, false, cond, eqb, List, [], ◌∷◌, length, Option, Some, None, refl, sym, ap, ◌∙◌, subst, inl, inr, arith}
 use Rattle.std.specs.Prelude.{ℤ, slice_get}
 use Rattle.std.specs.Option.{IfSome}
-use Rattle.std.proofs.lemmas.Bool.{eq-eqb, eqb-true, cases_eq, ne_eqb}
-use Rattle.asp_model.specs.declared.program.Program.{Program}
+use Rattle.std.proofs.lemmas.Bool.{eqb-true, cases_eq}
 use Rattle.asp_model.specs.declared.results.Mode.{Mode}
 use Rattle.asp_model.specs.Sets.{Atoms}
 use Rattle.asp_vars.specs.Literals.{Literal}
-use Rattle.asp_vars.specs.Entailment.{HitsOnly}
 use Rattle.asp_vars.specs.Paid.{Clash, Units}
 use Rattle.asp_path.specs.declared.status.Status.{Status}
 use Rattle.asp_path.specs.declared.status.Status.TheVariants as status
@@ -15,20 +13,19 @@ use Rattle.asp_path.specs.Trees.{Node, is_leaf, is_held, is_open, cube_of, statu
 use Rattle.asp_core.specs.declared.event.Event.{Event}
 use Rattle.asp_core.specs.declared.event.Event.TheVariants as event
 use Rattle.asp_core.specs.declared.task.Task.{Task}
-use Rattle.asp_core.specs.Units.{out_of, leased, returned, total_out}
-use Rattle.asp_core.specs.Boards.{Board, start, goal_of}
+use Rattle.asp_core.specs.Units.{out_of, returned}
+use Rattle.asp_core.specs.Boards.{Board, start}
 use Rattle.asp_core.specs.Events.{held_by, Guard, happens}
-use Rattle.asp_core.specs.Invariant.{IsBoard, IsCube}
 use Rattle.asp_core.proofs.GrowthLaws.{out_of-leased_other, out_of-returned_other}
 use Rattle.asp_core.proofs.PlaceLaws.{held_count-changed}
 use Rattle.asp_book.specs.Books.{Booked, board, with_events}
-use Rattle.asp_book.specs.Fuels.{Fits, ComesBack}
+use Rattle.asp_book.specs.Fuels.{ComesBack}
 use Rattle.asp_book.specs.Replies.{taken, leased_out, given_back}
 use Rattle.asp_search_laws.specs.Searching.{Searching}
-use Rattle.asp_crew_laws.specs.Reports.{IsIdle, IsMet, IsUnpaidAt, IsWorkedOff}
+use Rattle.asp_crew_laws.specs.Reports.{IsIdle, IsMet, IsWorkedOff}
 use Rattle.asp_crew_laws.specs.Working.{IsAtWork}
 use Rattle.asp_crew_laws.proofs.WorkLaws.{work-begins, out_of-leased}
-use Rattle.asp_crew.specs.Running.{IsRunIn, IsReady, OnlyRecords, IsOver, Ends, LeavesLeaf, IsAlone, IsThrough, LeavesAll, Finishes}
+use Rattle.asp_crew.specs.Running.{IsRunIn, IsReady, Ends, LeavesLeaf, IsAlone, IsThrough, LeavesAll}
 use Rattle.asp_crew.proofs.BookLaws.{board-task, board-with, ready-with, cube-within}
 use Rattle.asp_crew.proofs.TreeLaws.{open-changed, taken-open, none-taken, status-set, cube-set, held_by-le, closed-when}
 

@@ -1,11 +1,9 @@
 -- What is told of a book is a report.
-use Rattle.std.proofs.Common.{◌≡◌, ℕ, List, [], Option, refl, sym, ap, ◌∙◌, subst}
+use Rattle.std.proofs.Common.{◌≡◌, ℕ, List, [], refl, sym, ap, ◌∙◌, subst}
 use Rattle.std.specs.Prelude.{ℤ, option_map}
 use Rattle.asp_model.specs.declared.program.Program.{Program}
 use Rattle.asp_model.specs.declared.results.Mode.{Mode}
-use Rattle.asp_model.specs.Sets.{Atoms}
 use Rattle.asp_path.specs.Trees.{all_closed, leaf_count}
-use Rattle.asp_core.specs.declared.event.Event.{Event}
 use Rattle.asp_core.specs.declared.goal.Goal.{Goal}
 use Rattle.asp_core.specs.declared.task.Task.{Task}
 use Rattle.asp_core.specs.Boards.{Board, start, goal_of}

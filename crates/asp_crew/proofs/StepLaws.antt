@@ -1,7 +1,7 @@
 -- What is known after each step on a path, by its answer.
-use Rattle.std.proofs.Common.{◌≡◌, ℕ, ◌+◌, ◌-◌, ◌^◌, ◌<◌, ◌≤◌, Bool, true, false, List, [], ◌∷◌, ◌++◌, length, filter, Option, Some, None, refl, sym, ap, ◌∙◌, subst, inl, inr, arith}
-use Rattle.std.specs.Prelude.{ℤ, IsTrue, count_by, not}
-use Rattle.std.specs.Option.{IfSome, IsSome}
+use Rattle.std.proofs.Common.{◌≡◌, ℕ, ◌+◌, ◌-◌, ◌^◌, ◌<◌, ◌≤◌, Bool, false, List, [], ◌∷◌, ◌++◌, length, Option, Some, None, refl, sym, ap, ◌∙◌, subst, inl, inr, arith}
+use Rattle.std.specs.Prelude.{ℤ, IsTrue, not}
+use Rattle.std.specs.Option.{IsSome}
 use Rattle.std.specs.List.{list_any}
 use Rattle.std.proofs.lemmas.List.Sums.{length-filter, count_by-le-length}
 use Rattle.asp_model.specs.declared.program.Program.{Program}
@@ -14,12 +14,11 @@ use Rattle.asp_vars.specs.Literals.{Literal, hits}
 use Rattle.asp_vars.specs.Numbering.{values, var_count}
 use Rattle.asp_vars.specs.Conflicts.{IsConflict}
 use Rattle.asp_vars.specs.Entailment.{Settled, is_done}
-use Rattle.asp_vars.specs.Paid.{Clash, Units, IsAtLeast}
+use Rattle.asp_vars.specs.Paid.{Clash, Units}
 use Rattle.asp_vars.specs.declared.nogood.Nogood.{Nogood}
 use Rattle.asp_core.specs.declared.event.Event.TheVariants as event
 use Rattle.asp_core.specs.declared.task.Task.{Task}
 use Rattle.asp_core.specs.Boards.{Board, is_answer}
-use Rattle.asp_core.specs.Events.{Guard, happens}
 use Rattle.asp_core.specs.Invariant.{IsCube}
 use Rattle.asp_core.proofs.BoardLaws.{wanted-stand}
 use Rattle.asp_core.proofs.CubeLaws.{answer-in_cube}
@@ -27,16 +26,15 @@ use Rattle.asp_book.specs.Books.{Booked, board}
 use Rattle.asp_propagate.specs.Useful.{IsSmaller}
 use Rattle.asp_search.specs.Beside.{Enters}
 use Rattle.asp_search_laws.specs.Searching.{Searching}
-use Rattle.asp_search_laws.specs.Steps.{HasSameTask, IsConflictOf, burnt, IsStep, Answers, Records}
+use Rattle.asp_search_laws.specs.Steps.{HasSameTask, burnt, IsStep, Records}
 use Rattle.asp_search_laws.specs.declared.step.Step.{Step}
 use Rattle.asp_search_laws.specs.declared.step.Step.TheVariants as step
-use Rattle.asp_crew_laws.specs.Reports.{IsMet}
 use Rattle.asp_crew_laws.specs.Working.{IsAtWork}
 use Rattle.asp_crew_laws.proofs.AgreeLaws.{settled-excused}
 use Rattle.asp_crew_laws.proofs.WorkLaws.{work-burnt, work-delivered, work-improved, work-unimproved, work-met}
 use Rattle.asp_crew.specs.declared.leaf.Course.{Course}
 use Rattle.asp_crew.specs.declared.leaf.Course.TheVariants.{Open, Closed, Unpaid}
-use Rattle.asp_crew.specs.Running.{unfound, work, work_left, IsRunIn, IsReady, IsEntered, IsUnderway, OnlyRecords, IsRecorded, IsSettled, Goes, Ends}
+use Rattle.asp_crew.specs.Running.{unfound, work, work_left, IsRunIn, IsReady, IsEntered, IsUnderway, OnlyRecords, IsRecorded, Goes, Ends}
 use Rattle.asp_crew.proofs.BookLaws.{board-task, query-none}
 use Rattle.asp_crew.proofs.BoundLaws.{fewer-push, fewer-lower}
 use Rattle.asp_crew.proofs.WorkLaws.{work-paid, work-found, work-restarted, work-decided}

@@ -1,7 +1,7 @@
 -- Leaves of a tree that are open, and held, when one leaf's status changes.
-use Rattle.std.proofs.Common.{◌≡◌, ℕ, zero, suc, ◌+◌, ◌<◌, ◌≤◌, Bool, true, false, cond, ◌&&◌, eqb, List, [], ◌∷◌, length, get_or, Option, Some, None, refl, sym, ap, ◌∙◌, arith}
+use Rattle.std.proofs.Common.{◌≡◌, ℕ, suc, ◌+◌, ◌<◌, ◌≤◌, Bool, true, false, cond, ◌&&◌, eqb, List, [], ◌∷◌, length, Some, None, refl, ap, ◌∙◌, arith}
 use Rattle.std.specs.Prelude.{slice_get, count_by}
-use Rattle.std.proofs.lemmas.Bool.{eq-eqb, false≢true}
+use Rattle.std.proofs.lemmas.Bool.{eq-eqb}
 use Rattle.std.proofs.lemmas.List.{get_or-set_same}
 use Rattle.std.proofs.lemmas.List.Sums.{sum_by-cons, sum_by-set}
 use Rattle.asp_path.specs.declared.status.Status.{Status}
@@ -10,7 +10,6 @@ use Rattle.asp_path.specs.Trees.{Node, nowhere, is_leaf, is_open, is_held, is_he
 use Rattle.asp_path.proofs.TreeLaws.{leaf-within}
 use Rattle.asp_path.proofs.StoredLaws.{all_closed-counted}
 use Rattle.asp_core.specs.Events.{held_by}
-use Rattle.asp_core.proofs.PlaceLaws.{held_count-changed}
 
 -- ---- how many are open
 open-cons : (x : Node) (nodes : List Node) → count_by (λ n. is_open n.status) (x ∷ nodes) ≡ cond (is_open x.status) 1 0 + count_by (λ n. is_open n.status) nodes

@@ -38,14 +38,7 @@ fn solve<'a, W: Watch>(
     let mut propagator = Propagators::new(alloc, compiled)?;
     propagator.record(recorder);
     let unpaid = finish(
-        alloc,
-        compiled,
-        mode,
-        &mut book,
-        propagator,
-        counts,
-        watch,
-        recorder,
+        alloc, compiled, mode, &mut book, propagator, counts, watch, recorder,
     )?;
     Ok(reported(mode, book, unpaid, 0, false))
 }

@@ -1,6 +1,6 @@
 use Rattle.std.proofs.Common.{sym, ap, ◌∙◌}
 use Rattle.asp_vars.specs.Paid.{Units}
-use Rattle.asp_book.specs.Books.{board, with_events}
+use Rattle.asp_book.specs.Books.{with_events}
 use Rattle.asp_book.specs.Replies.{leased_out}
 use Rattle.asp_search_laws.specs.Searching.{Searching}
 use Rattle.asp_crew.proofs.BookLaws.{pool-fits}

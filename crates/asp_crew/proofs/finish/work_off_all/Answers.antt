@@ -1,8 +1,8 @@
-use Rattle.std.proofs.Common.{Option, Some, None, refl, subst}
+use Rattle.std.proofs.Common.{Option, refl, subst}
 use Rattle.asp_vars.specs.Paid.{Clash}
 use Rattle.asp_book.specs.Books.{board}
 use Rattle.asp_crew.specs.Running.{LeavesLeaf}
-use Rattle.asp_crew.proofs.FinishLaws.{IsTaken, free-now, taken-by, held-taken, between-next, fewer-next, all-stopped, all-through}
+use Rattle.asp_crew.proofs.FinishLaws.{free-now, taken-by, held-taken, between-next, fewer-next, all-stopped}
 use Rattle.asp_crew.proofs.finish.work_off_all.Goals as goal
 
 pub take-requires : goal.take-requires
