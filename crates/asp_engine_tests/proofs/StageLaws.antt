@@ -1,5 +1,5 @@
 -- What a store beside a trail keeps while nogoods come and go.
-use Rattle.std.proofs.Common.{◌≡◌, ℕ, ◌<◌, length, Some, sym, ap, subst, arith}
+use Rattle.std.proofs.Common.{◌≡◌, ℕ, length, Some, sym, ap, subst, arith}
 use Rattle.std.specs.Prelude.{Result, Ok, Err}
 use Rattle.std.specs.Result.{IfOk, OnErr}
 use Rattle.asp_vars.specs.declared.nogood.Nogood.{Nogood}

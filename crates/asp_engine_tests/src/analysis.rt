@@ -54,19 +54,6 @@ fn nogood(rt: &impl Abort, heap: Global, lits: &[Lit]) -> Nogood
     }
 }
 
-// ---- trails of a literal and of another that follows from it
-fn assumed(rt: &impl Abort, heap: Global, vars: Var, lit: Lit) -> Trail
-    requires { IsVar vars lit.var }
-    ensures vars { result.vars ≡ vars }
-    ensures room { vars ≤ result.room }
-    ensures entries { result.entries ≡ record { lit = lit; level = 0; reason = None } ∷ [] }
-{
-    let mut trail = roomy(rt, heap, vars);
-    assert!(rt; trail.value(lit.var()).is_none());
-    trail.assume(lit);
-    trail
-}
-
 fn decided(rt: &impl Abort, heap: Global, vars: Var, lit: Lit) -> Trail
     requires { IsVar vars lit.var }
     ensures vars { result.vars ≡ vars }
@@ -196,44 +183,6 @@ fn check(
     let mut learner = Learner::new(heap, vars).expect(rt, "memory");
     learns(rt, &mut learner, trail, only, from, wanted);
     learns(rt, &mut learner, trail, only, from, wanted);
-}
-
-// { a; b } with all four constraints: a was decided to be false.
-#[test]
-fn a_decision_follows_from_the_conflict(rt: HostRuntime) {
-    let heap = rt.alloc();
-    let f1 = Lit::new(1, false);
-    let t2 = Lit::new(2, true);
-    let mut trail = decided(&rt, heap, 2, f1);
-    let only = follows(&rt, heap, &mut trail, 1, f1, t2);
-    let from = nogood(&rt, heap, [f1, t2].as_slice());
-    let lits = [f1];
-    let wanted = Wanted {
-        lits: &lits,
-        level: 0,
-        implied: f1.complement(),
-    };
-    check(&rt, heap, &trail, 2, &only, &from, &wanted);
-}
-
-// 1 is assumed, and 2 follows from it: the nogood says that 3 has to do with 1.
-#[test]
-fn what_was_assumed_stays(rt: HostRuntime) {
-    let heap = rt.alloc();
-    let t1 = Lit::new(1, true);
-    let t2 = Lit::new(2, true);
-    let t3 = Lit::new(3, true);
-    let mut trail = assumed(&rt, heap, 3, t1);
-    let only = follows(&rt, heap, &mut trail, 0, t1, t2);
-    decide(&rt, &mut trail, &only, t3);
-    let from = nogood(&rt, heap, [t3, t2].as_slice());
-    let lits = [t3, t1];
-    let wanted = Wanted {
-        lits: &lits,
-        level: 0,
-        implied: t3.complement(),
-    };
-    check(&rt, heap, &trail, 3, &only, &from, &wanted);
 }
 
 // 2 follows from 1, which stays.

@@ -100,20 +100,6 @@ impl Stage {
         }
     }
 
-    fn undo_to(&mut self, level: usize)
-        ensures { self.new ≡ self.old }
-    {
-        let _len = self.trail.len();
-        self.trail.undo_to(level);
-    }
-
-    fn start_over(&mut self)
-        ensures { self.new ≡ self.old }
-    {
-        self.store.recall();
-        self.trail.clear();
-    }
-
     // Drops what may be dropped while no literal holds, and says how many that aren't kept forever are left.
     fn reduce(&mut self, rt: &impl Abort) -> usize
         ensures { self.new ≡ self.old }
@@ -143,61 +129,6 @@ impl Stage {
     {
         self.trail.value(var)
     }
-
-    // The level and the reason of a variable that has a value.
-    fn cause(&self, rt: &impl Abort, var: Var) -> (usize, Option<NogoodId>)
-        requires { var ≤ self.now }
-    {
-        assert!(rt; self.trail.value(var) != None);
-        (self.trail.level_of(var), self.trail.reason_of(var))
-    }
-}
-
-#[test]
-fn implies_again_after_an_undo(rt: HostRuntime) {
-    let heap = rt.alloc();
-    let mut stage = Stage::new(&rt, heap, 4);
-    let lits = [Lit::new(1, true), Lit::new(2, true)];
-    stage.decide(&rt, Lit::new(1, true));
-    stage.decide(&rt, Lit::new(3, true));
-    stage.decide(&rt, Lit::new(4, true));
-    let one = stage.keep(&rt, heap, &lits, Kind::Forever, 1);
-    assert_eq!(rt; stage.propagate(&rt), None);
-    assert_eq!(rt; stage.value(2), Some(false));
-    assert_eq!(rt; stage.cause(&rt, 2), (3, Some(one)));
-    stage.undo_to(2);
-    assert_eq!(rt; stage.value(2), None);
-    assert_eq!(rt; stage.propagate(&rt), None);
-    assert_eq!(rt; stage.cause(&rt, 2), (2, Some(one)));
-}
-
-#[test]
-fn implies_again_after_a_recall(rt: HostRuntime) {
-    let heap = rt.alloc();
-    let mut stage = Stage::new(&rt, heap, 2);
-    let one = stage.keep(&rt, heap, &[Lit::new(1, true)], Kind::Forever, 1);
-    assert_eq!(rt; stage.propagate(&rt), None);
-    assert_eq!(rt; stage.value(1), Some(false));
-    // Passes it over, as it is false at level 0.
-    assert_eq!(rt; stage.propagate(&rt), None);
-    stage.start_over();
-    assert_eq!(rt; stage.value(1), None);
-    assert_eq!(rt; stage.propagate(&rt), None);
-    assert_eq!(rt; stage.cause(&rt, 1), (0, Some(one)));
-}
-
-#[test]
-fn two_nogoods_leave_no_value(rt: HostRuntime) {
-    let heap = rt.alloc();
-    let mut stage = Stage::new(&rt, heap, 2);
-    let first = [Lit::new(1, true), Lit::new(2, true)];
-    let second = [Lit::new(1, true), Lit::new(2, false)];
-    stage.keep(&rt, heap, &first, Kind::Forever, 1);
-    stage.decide(&rt, Lit::new(1, true));
-    assert_eq!(rt; stage.propagate(&rt), None);
-    assert_eq!(rt; stage.value(2), Some(false));
-    stage.keep(&rt, heap, &second, Kind::Forever, 1);
-    assert!(rt; stage.propagate(&rt) != None);
 }
 
 #[test]

@@ -24,14 +24,6 @@ fn two_ways(rt: &impl Abort, alloc: Global) -> Program {
     program(alloc, rules)
 }
 
-// a1 <- 3 { not a2 = 1, not a2 = 1, a3 = 1 }. { a2, a3 }.
-fn repeated_literals(rt: &impl Abort, alloc: Global) -> Program {
-    let mut rules = Vec::new(alloc);
-    add_weights(rt, alloc, &mut rules, 1, 3, &[(-2, 1), (-2, 1), (3, 1)]);
-    add_choice(rt, alloc, &mut rules, &[2, 3]);
-    program(alloc, rules)
-}
-
 // The latest value of an atom counts.
 fn externals(rt: &impl Abort, alloc: Global) -> Vec<External> {
     let mut externals = Vec::new(alloc);
@@ -156,49 +148,6 @@ fn loops_have_their_answers(rt: HostRuntime) {
     has_one(&rt, alloc, &looped, &[]);
     let weights = program(alloc, weight_loop(&rt, alloc));
     has_two(&rt, alloc, &weights, &[], &[2]);
-}
-
-#[test]
-fn a_literal_may_be_repeated(rt: HostRuntime) {
-    let alloc = rt.alloc();
-    let found = answers(&rt, alloc, &repeated_literals(&rt, alloc));
-    assert!(rt; found.len() == 4);
-    has(&rt, &found, 0, &[]);
-    has(&rt, &found, 1, &[2]);
-    has(&rt, &found, 2, &[2, 3]);
-    has(&rt, &found, 3, &[1, 3]);
-}
-
-#[test]
-fn externals_have_their_answers(rt: HostRuntime) {
-    let alloc = rt.alloc();
-    let overruled = overruled_external(&rt, alloc);
-    has_two(&rt, alloc, &overruled, &[4], &[3, 4]);
-}
-
-#[test]
-fn costs_leave_the_answers(rt: HostRuntime) {
-    let alloc = rt.alloc();
-    let found = answers(&rt, alloc, &two_priorities(&rt, alloc));
-    assert!(rt; found.len() == 3);
-    has(&rt, &found, 0, &[2]);
-    has(&rt, &found, 1, &[1]);
-    has(&rt, &found, 2, &[1, 2]);
-}
-
-#[test]
-fn assumptions_choose_answers(rt: HostRuntime) {
-    let alloc = rt.alloc();
-    let free = answers(&rt, alloc, &assumed_choice(&rt, alloc, &[]));
-    assert!(rt; free.len() == 4);
-    has(&rt, &free, 0, &[]);
-    has(&rt, &free, 1, &[2147483647]);
-    has(&rt, &free, 2, &[5]);
-    has(&rt, &free, 3, &[5, 2147483647]);
-    let assumed = assumed_choice(&rt, alloc, &[5, -7]);
-    has_two(&rt, alloc, &assumed, &[5], &[5, 2147483647]);
-    let contrary = answers(&rt, alloc, &assumed_choice(&rt, alloc, &[5, -5]));
-    assert!(rt; contrary.is_empty());
 }
 
 // The plain engine's optimum is this set, with these sums.

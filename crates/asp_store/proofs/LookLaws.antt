@@ -1,9 +1,14 @@
 -- Looking at one nogood.
-use Rattle.std.proofs.Common.{◌≡◌, ◌≢◌, ℕ, suc, zero, ◌<◌, ◌≤◌, Bool, true, false, not, eqb, ◌||◌, ◌&&◌, List, [], ◌∷◌, ◌++◌, length, Option, Some, None, get_or, inl, inr, refl, sym, ap, ◌∙◌, subst, arith}
+use Rattle.std.proofs.Common.{◌≡◌, ◌≢◌, ℕ, suc, zero, ◌<◌, ◌≤◌, Bool, true, false, not, eqb, ◌||◌, ◌&&◌, List, [], ◌∷◌, ◌++◌, length, take, drop, Option, Some, None, get_or, inl, inr, refl, sym, ap, ◌∙◌, subst, arith}
+use Rattle.std.specs.Prelude.{◌-◌}
 use Rattle.std.specs.List.{All, list_all}
+use Rattle.std.specs.Option.{IfSome, IfNone}
 use Rattle.std.specs.Bool.{beq}
 use Rattle.std.proofs.lemmas.Bool.{false≢true, eq-eqb, eqb-true}
 use Rattle.std.proofs.lemmas.Bool.Decides.{nat_tests}
+use Rattle.std.proofs.lemmas.List.{take-append-drop, take_all, length-drop}
+use Rattle.std.proofs.lemmas.List.Elements.{All-append}
+use Rattle.std.proofs.lemmas.List.Folds.{list_any-append}
 use Rattle.asp_vars.specs.Literals.{Literal, complement, has_literal, literal_eq, holds_in, agrees, value_of}
 use Rattle.asp_vars.proofs.LiteralLaws.{same_literal}
 use Rattle.asp_trail.specs.declared.trail.Entry.{Entry}
@@ -14,6 +19,7 @@ use Rattle.asp_trail.proofs.HoldLaws.{holds_at, holds_found, value_at}
 use Rattle.asp_trail.specs.Reasons.{Stands, IsReason}
 use Rattle.asp_store.specs.Fitting.{IsFalseBy, Watches, IsWatched}
 use Rattle.asp_store.specs.Looking.{AreTrueBeside}
+use Rattle.asp_store.specs.declared.looks.Spot.{Spot}
 use Rattle.asp_trail.proofs.FixpointLaws.{false_from}
 use Rattle.asp_store.proofs.WatchLaws.{stands_grow}
 
@@ -124,6 +130,32 @@ eq_itself l = both l.var l.truth
 or_right : (a b : Bool) → b ≡ true → (a || b) ≡ true
 or_right true b q = refl
 or_right false b q = q
+
+-- a literal of either part of a list is one of the list, and what holds of both parts holds of it
+pub has_before : (i : ℕ) (n : List Literal) (l : Literal) → has_literal (take i n) l ≡ true → has_literal n l ≡ true
+has_before i n l h =
+    ap (λ (xs : List Literal). has_literal xs l) (sym (take-append-drop i n))
+    ∙ (list_any-append (λ (k : Literal). literal_eq k l) (take i n) (drop i n) ∙ ap (λ b. b || has_literal (drop i n) l) h)
+
+pub has_behind : (i : ℕ) (n : List Literal) (l : Literal) → has_literal (drop i n) l ≡ true → has_literal n l ≡ true
+has_behind i n l h =
+    ap (λ (xs : List Literal). has_literal xs l) (sym (take-append-drop i n))
+    ∙ (list_any-append (λ (k : Literal). literal_eq k l) (take i n) (drop i n) ∙ or_right (has_literal (take i n) l) (has_literal (drop i n) l) h)
+
+pub all_parted : (P : Literal → Type 0) (i : ℕ) (n : List Literal) → All P (take i n) → All P (drop i n) → All P n
+all_parted P i n before behind = subst (All P) (take-append-drop i n) (All-append P (take i n) (drop i n) before behind)
+
+-- what a look at the first literals gives, where one at the others gave nothing
+pub some_before : (values : List (Option Bool)) (other : Literal) (i : ℕ) (n : List Literal) (r : Option Spot) →
+    IfSome r (λ s. (has_literal (take i n) s.lit ≡ true) × (literal_eq s.lit other ≡ false) × (holds_in values s.lit ≡ false)) →
+    IfSome r (λ s. (has_literal n s.lit ≡ true) × (literal_eq s.lit other ≡ false) × (holds_in values s.lit ≡ false))
+some_before values other i n None h = tt
+some_before values other i n (Some s) h = (has_before i n s.lit h.0, h.1, h.2)
+
+pub none_parted : (P : Literal → Type 0) (i : ℕ) (n : List Literal) (r : Option Spot) → All P (take (length n - i) (drop i n)) → IfNone r (All P (take i n)) → IfNone r (All P n)
+none_parted P i n None behind before =
+    all_parted P i n before (subst (All P) (take_all (length n - i) (drop i n) (omega (arith, length-drop i n))) behind)
+none_parted P i n (Some s) behind before = tt
 
 pub list_all_from : (p : Literal → Bool) (n : List Literal) → ((k : Literal) → has_literal n k ≡ true → p k ≡ true) → list_all p n ≡ true
 list_all_from p [] f = refl

@@ -12,6 +12,8 @@ use std::marker::Model;
 pub struct Pairs {
     // By the number.
     items: Vec<Option<Pair>>,
+    // By the number: at which of the nogood's literals the next look for a watch begins. No contract sees it.
+    starts: Vec<u32>,
 }
 
 impl Model for Pairs {
@@ -30,6 +32,7 @@ impl Pairs {
     {
         Pairs {
             items: Vec::new(alloc),
+            starts: Vec::new(alloc),
         }
     }
 
@@ -41,6 +44,25 @@ impl Pairs {
             self.items[id]
         } else {
             None
+        }
+    }
+
+    /// At which of the nogood's literals a look for a watch begins best: any number will do.
+    pub fn start(&self, id: usize) -> usize {
+        match self.starts.get(id) {
+            Some(start) => *start as usize,
+            None => 0,
+        }
+    }
+
+    /// The next look for a watch begins at this place.
+    pub fn set_start(&mut self, id: usize, start: usize)
+        ensures { self.new ≡ self.old }
+    {
+        if let Ok(start) = u32::try_from(start) {
+            if let Some(place) = self.starts.get_mut(id) {
+                *place = start;
+            }
         }
     }
 
@@ -57,7 +79,9 @@ impl Pairs {
         ensures ok { OnOk result (self.new ≡ self.old ++ None ∷ []) }
         ensures err { OnErr result (self.new ≡ self.old) }
     {
+        self.starts.reserve(1)?;
         self.items.push(None)?;
+        self.starts.push_reserved(0);
         Ok(())
     }
 
@@ -66,5 +90,6 @@ impl Pairs {
         ensures { (d : Option Pair) → 0 < length self.old → self.old ≡ self.new ++ slice_index_or self.old (length self.old - 1) d ∷ [] }
     {
         self.items.pop();
+        self.starts.pop();
     }
 }

@@ -21,7 +21,7 @@ ghost use Rattle.asp_store.specs.Sounding.{IsSound};
 ghost use Rattle.asp_store.specs.Walking.{IsWalking, IsVisit, MayWatch, Steps};
 
 use crate::front::{Front, Step};
-use crate::looks::{beside, falsify};
+use crate::looks::{beside_from, falsify};
 use crate::pairs::Pairs;
 use crate::stored_nogood::StoredNogood;
 use crate::watch::{Pair, Watch, other_of};
@@ -220,13 +220,17 @@ fn visit(
             leave(watches, slots, i, id, front, trail);
             Ok(Step::Goes)
         }
-        Some(lits) => match beside(lits, other, trail.assignment()) {
-            Some(lit) => {
-                move_watch(watches, slots, i, id, other, lit, front, trail)?;
-                Ok(Step::Goes)
+        Some(lits) => {
+            let start = watches.pairs.start(id as usize);
+            match beside_from(lits, start, other, trail.assignment()) {
+                Some(spot) => {
+                    watches.pairs.set_start(id as usize, spot.place);
+                    move_watch(watches, slots, i, id, other, spot.lit, front, trail)?;
+                    Ok(Step::Goes)
+                }
+                None => visit_last(watches, slots, lits, i, id, other, front, trail),
             }
-            None => visit_last(watches, slots, lits, i, id, other, front, trail),
-        },
+        }
     }
 }
 

@@ -9,8 +9,8 @@ beside-requires c = λ k d h. omega (arith, c.requires.small k d h, c.assignment
 pub returns-in-Some-clause-found : goal.returns-in-Some-clause-found
 returns-in-Some-clause-found c =
     let t = c.args.trail.now in
-    watched_open t.vars t.entries (length t.entries) c.args.lits.now c.args.first c.in-Some.second c.len-len.ensures.ordered c.requires.has c.in-Some.ensures.some.0
-    c.in-Some.ensures.some.1 c.requires.not_true (subst (λ (a : List (Option Bool)). holds_in a c.in-Some.second ≡ false) c.assignment.ensures.values c.in-Some.ensures.some.2)
+    watched_open t.vars t.entries (length t.entries) c.args.lits.now c.args.first c.in-Some.second.lit c.len-len.ensures.ordered c.requires.has c.in-Some.ensures.some.0
+    c.in-Some.ensures.some.1 c.requires.not_true (subst (λ (a : List (Option Bool)). holds_in a c.in-Some.second.lit ≡ false) c.assignment.ensures.values c.in-Some.ensures.some.2)
 
 pub look_at_last-requires-clause-others : goal.look_at_last-requires-clause-others
 look_at_last-requires-clause-others c = λ k h ne.

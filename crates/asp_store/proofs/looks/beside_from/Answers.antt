@@ -1,0 +1,18 @@
+use Rattle.std.proofs.Common.{◌≡◌, ◌-◌, true, false, length, drop}
+use Rattle.asp_vars.specs.Literals.{literal_eq, holds_in}
+use Rattle.asp_store.proofs.LookLaws.{has_before, has_behind, some_before, none_parted}
+use Rattle.asp_store.proofs.looks.beside_from.Goals as goal
+
+pub returns-in-Some-clause-some : goal.returns-in-Some-clause-some
+returns-in-Some-clause-some c =
+    let n = c.args.lits.now in
+    let i = c.min-start.result in
+    let s = c.in-Some.ensures.some in
+    (has_behind i n c.in-Some.spot.lit (has_before (length n - i) (drop i n) c.in-Some.spot.lit s.0), s.1, s.2)
+
+pub returns-in-None-clause-some : goal.returns-in-None-clause-some
+returns-in-None-clause-some c = some_before c.args.values.now c.args.other c.min-start.result c.args.lits.now c.beside-in-None.result c.beside-in-None.ensures.some
+
+pub returns-in-None-clause-none : goal.returns-in-None-clause-none
+returns-in-None-clause-none c =
+    none_parted (λ k. literal_eq k c.args.other ≡ false → holds_in c.args.values.now k ≡ true) c.min-start.result c.args.lits.now c.beside-in-None.result c.in-None.ensures.none c.beside-in-None.ensures.none
