@@ -14,7 +14,7 @@ ghost use Rattle.asp_store.specs.declared.watch.Pair.{Pair};
 ghost use Rattle.asp_store.specs.declared.watch.Watch.{Watch};
 ghost use Rattle.asp_store.specs.Keeping.{nogood_at};
 ghost use Rattle.asp_store.specs.Lists.{size, place};
-ghost use Rattle.asp_store.specs.Looking.{AreTrueBeside};
+ghost use Rattle.asp_store.specs.Looking.{AreTrueBeside, HaveSame};
 ghost use Rattle.asp_store.specs.Pairs.{pair_at, IsOneOf, IsBeside};
 ghost use Rattle.asp_store.specs.Fitting.{IsFalseBy, Extends};
 ghost use Rattle.asp_store.specs.Sounding.{IsSound};
@@ -135,6 +135,7 @@ fn move_watch(
         Some(Pair {
             first: lit,
             second: other,
+            is_whole: false,
         }),
     );
     leave(watches, slots, i, id, front, trail);
@@ -175,7 +176,7 @@ fn visit_last(
     trail: &mut Trail,
 ) -> Result<Step, AllocError>
     requires visit { IsVisit slots.now watches.old trail.old front.now i id other }
-    requires kept { (n : Nogood) × (nogood_at slots.now id ≡ Some n) × (n.lits ≡ lits.now) }
+    requires kept { (n : Nogood) × (nogood_at slots.now id ≡ Some n) × HaveSame n.lits lits.now }
     requires others { AreTrueBeside trail.old.vars trail.old.entries lits.now other }
     requires room { trail.old.vars ≤ trail.old.room }
     ensures same { trail.new ≡ record trail.old { entries = trail.new.entries } }
@@ -197,8 +198,8 @@ fn visit_last(
     Ok(Step::Goes)
 }
 
-// Looks at the nogood, whose other watch isn't seen to be false.
-fn visit(
+// Looks at the nogood whole, as its other watch isn't seen to be false.
+fn visit_long(
     watches: &mut Watches,
     slots: &[Option<StoredNogood>],
     i: usize,
@@ -231,6 +232,63 @@ fn visit(
                 None => visit_last(watches, slots, lits, i, id, other, front, trail),
             }
         }
+    }
+}
+
+// Whether the nogood under a number has no literals beside its two watches, as far as its pair tells.
+fn is_whole(pairs: &Pairs, id: u32) -> bool
+    ensures { IsTrue result → (p : Pair) × (pair_at pairs.now id ≡ Some p) × IsTrue p.is_whole }
+{
+    match pairs.pair(id as usize) {
+        None => false,
+        Some(pair) => pair.is_whole,
+    }
+}
+
+// The nogood has no literals beside the front's, which holds, and the other watch: it isn't read.
+fn visit_whole(
+    watches: &mut Watches,
+    slots: &[Option<StoredNogood>],
+    i: usize,
+    id: u32,
+    other: Lit,
+    front: &Front,
+    trail: &mut Trail,
+) -> Result<Step, AllocError>
+    requires visit { IsVisit slots.now watches.old trail.old front.now i id other }
+    requires whole { (p : Pair) × (pair_at watches.old.pairs id ≡ Some p) × IsTrue p.is_whole }
+    requires room { trail.old.vars ≤ trail.old.room }
+    ensures same { trail.new ≡ record trail.old { entries = trail.new.entries } }
+    ensures extends { Extends slots.now trail.old.entries trail.new.entries }
+    ensures sound { IsSound slots.now watches.new trail.new }
+    ensures steps { IfOk result (Steps slots.now watches.old watches.new trail.new front.now i) }
+{
+    let _len = trail.len();
+    let lits = [front.lit, other];
+    visit_last(watches, slots, &lits, i, id, other, front, trail)
+}
+
+// Looks at the nogood, whose other watch isn't seen to be false.
+fn visit(
+    watches: &mut Watches,
+    slots: &[Option<StoredNogood>],
+    i: usize,
+    id: u32,
+    other: Lit,
+    front: &Front,
+    trail: &mut Trail,
+) -> Result<Step, AllocError>
+    requires visit { IsVisit slots.now watches.old trail.old front.now i id other }
+    requires room { trail.old.vars ≤ trail.old.room }
+    ensures same { trail.new ≡ record trail.old { entries = trail.new.entries } }
+    ensures extends { Extends slots.now trail.old.entries trail.new.entries }
+    ensures sound { IsSound slots.now watches.new trail.new }
+    ensures steps { IfOk result (Steps slots.now watches.old watches.new trail.new front.now i) }
+{
+    if is_whole(&watches.pairs, id) {
+        visit_whole(watches, slots, i, id, other, front, trail)
+    } else {
+        visit_long(watches, slots, i, id, other, front, trail)
     }
 }
 
