@@ -27,7 +27,7 @@ use Rattle.asp_store.specs.Fitting.{IsFalseBy, HasFalse, Watches as Watching}
 use Rattle.asp_store.specs.Sounding.{IsListed, IsSound}
 use Rattle.asp_store.specs.Walking.{IsWalking, IsVisit, MayWatch, Steps}
 use Rattle.asp_store.proofs.GetLaws.{list_within, length-swap, at_set, at_set_other, get_last}
-use Rattle.asp_store.proofs.PlaceLaws.{code_injective, code_within, place_else, size_here, listed_set, blocker_set, listed_push, listed_new, blocker_push, listed_take, blocker_take, listed_next}
+use Rattle.asp_store.proofs.PlaceLaws.{code_injective, code_within, place_else, size_here, listed_set, blocker_set, listed_push, listed_new, blocker_push, listed_take, blocker_take, listed_next, listed_later}
 use Rattle.asp_store.proofs.WatchLaws.{has_false_grow, stands_grow}
 use Rattle.asp_store.proofs.LookLaws.{watches_open}
 use Rattle.asp_store.proofs.SoundLaws.{Suits, sound_lists, sound_pair, settled_pair, pair_cases, sound_push, sound_grow, settled_grow}
@@ -76,6 +76,22 @@ step_quick slots w t f i x g is_false k = (
   },
   refl,
 )
+
+-- ---- the walk goes on from a later place
+pub walking_later : (slots : List (Option StoredNogood)) (w : Watches) (t : Trailed) (f : Front) (i j : ℕ) →
+    ((k : ℕ) (x : Watch) → i ≤ k → k < j → place w.lists (code_of f.lit) k ≡ Some x → IsFalseBy t.entries x.blocker f.level) → IsWalking slots w t f i → IsWalking slots w t f j
+walking_later slots w t f i j are_false k = record {
+  sound = k.sound;
+  settled = k.settled;
+  done = λ id n p h q o. elim (k.done id n p h q o) [
+    | inl l ↦ elim (listed_later w.lists f.lit i j id n.lits l) [
+      | inl e ↦ inr (e.0.blocker, e.5, are_false e.1 e.0 e.2 e.3 e.4)
+      | inr m ↦ inl m
+    ]
+    | inr m ↦ inr m
+  ];
+  stands = k.stands;
+}
 
 -- ---- the blocker of a place changes
 -- the nogood of a visit has the other watch
