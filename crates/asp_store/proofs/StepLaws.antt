@@ -58,25 +58,6 @@ front_var t f o s =
     let d : Entry = record { lit = f.lit; level = 0; reason = None } in
     omega (arith, (o.within t.seen d s.within).1, ap (λ (l : Literal). l.var) (s.lit d))
 
--- ---- nothing changes
-pub step_quick : (slots : List (Option StoredNogood)) (w : Watches) (t : Trailed) (f : Front) (i : ℕ) (x : Watch) → place w.lists (code_of f.lit) i ≡ Some x →
-    IsFalseBy t.entries x.blocker f.level → IsWalking slots w t f i → Steps slots w w t f i step.Stays
-step_quick slots w t f i x g is_false k = (
-  record {
-    sound = k.sound;
-    settled = k.settled;
-    done = λ id n p h q o. elim (k.done id n p h q o) [
-      | inl l ↦ elim (listed_next w.lists f.lit i id n.lits x g l) [
-        | inl e ↦ inr (x.blocker, e.1, is_false)
-        | inr m ↦ inl (rw add-one m)
-      ]
-      | inr m ↦ inr m
-    ];
-    stands = k.stands;
-  },
-  refl,
-)
-
 -- ---- the walk goes on from a later place
 pub walking_later : (slots : List (Option StoredNogood)) (w : Watches) (t : Trailed) (f : Front) (i j : ℕ) →
     ((k : ℕ) (x : Watch) → i ≤ k → k < j → place w.lists (code_of f.lit) k ≡ Some x → IsFalseBy t.entries x.blocker f.level) → IsWalking slots w t f i → IsWalking slots w t f j

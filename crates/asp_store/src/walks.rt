@@ -84,14 +84,16 @@ pub fn walk(
     ensures walked { IfOk result (Walked slots.now watches.new trail.new front.now) }
 {
     let _len = trail.len();
-    let mut i = 0;
+    let mut i = skip(watches, slots, 0, front, trail);
     'places: while i < watches.lists.len(front.lit) {
         let step = visit_place(watches, slots, i, front, trail)?;
         match step {
             Step::Stays => {
                 i = skip(watches, slots, i + 1, front, trail);
             }
-            Step::Goes => {}
+            Step::Goes => {
+                i = skip(watches, slots, i, front, trail);
+            }
             Step::Violated(id) => return Ok(Some(id)),
         }
     }

@@ -6,8 +6,11 @@ use Rattle.asp_store.proofs.GrowLaws.{extends_none, extends_more}
 use Rattle.asp_store.proofs.StepLaws.{code_of_list, front_var}
 use Rattle.asp_store.proofs.walks.walk.Goals as goal
 
+pub skip-i-requires-clause-within : goal.skip-i-requires-clause-within
+skip-i-requires-clause-within c = omega arith
+
 pub places-init : goal.places-init
-places-init c = record { walking = c.requires.walking; same = refl; extends = extends_none c.args.slots.now c.args.trail.now.entries }
+places-init c = record { walking = c.skip-i.ensures.walking; same = refl; extends = extends_none c.args.slots.now c.args.trail.now.entries }
 
 pub len-requires : goal.len-requires
 len-requires c =
