@@ -64,6 +64,13 @@ false_level vars es l o h =
     let f = stands_found vars es (complement l) o h in
     (f.0, level_in es l.var, omega arith, f.1)
 
+-- where no entry is of a greater level
+pub false_top : (vars : ℕ) (es : List Entry) (l : Literal) (b : ℕ) → IsOrdered vars es → All (λ e. e.level ≤ b) es → holds_in (assignment vars es) (complement l) ≡ true → IsFalseBy es l b
+false_top vars es l b o top h =
+    let f = false_level vars es l o h in
+    let d : Entry = record { lit = l; level = 0; reason = None } in
+    (f.0, f.1, omega (arith, top f.0 d f.3.within, f.3.level d), f.3)
+
 -- a literal with a value that isn't true is false
 pub false_holds : (a : List (Option Bool)) (l : Literal) (b : Bool) → value_of a l.var ≡ Some b → holds_in a l ≡ false → holds_in a (complement l) ≡ true
 false_holds a l b q h =

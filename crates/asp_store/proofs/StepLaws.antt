@@ -29,7 +29,7 @@ use Rattle.asp_store.specs.Sounding.{IsListed, IsSound}
 use Rattle.asp_store.specs.Looking.{AreTrueBeside, HaveSame}
 use Rattle.asp_store.specs.Walking.{IsWalking, IsVisit, MayWatch, Steps}
 use Rattle.asp_store.proofs.GetLaws.{list_within, length-swap, at_set, at_set_other, get_last}
-use Rattle.asp_store.proofs.PlaceLaws.{code_injective, code_within, place_else, size_here, listed_set, blocker_set, listed_push, listed_new, blocker_push, listed_take, blocker_take, listed_next}
+use Rattle.asp_store.proofs.PlaceLaws.{code_injective, code_within, place_else, size_here, listed_set, blocker_set, listed_push, listed_new, blocker_push, listed_take, blocker_take, listed_next, listed_later}
 use Rattle.asp_store.proofs.WatchLaws.{has_false_grow, stands_grow}
 use Rattle.asp_store.proofs.LookLaws.{watches_open, eq_itself, or_left, or_right, one_of_two}
 use Rattle.asp_store.proofs.SoundLaws.{Suits, sound_lists, sound_pair, settled_pair, pair_cases, sound_push, sound_grow, settled_grow}
@@ -60,24 +60,21 @@ front_var t f o s =
     let d : Entry = record { lit = f.lit; level = 0; reason = None } in
     omega (arith, (o.within t.seen d s.within).1, ap (λ (l : Literal). l.var) (s.lit d))
 
--- ---- nothing changes
-pub step_quick : (slots : List (Option StoredNogood)) (w : Watches) (t : Trailed) (f : Front) (i : ℕ) (x : Watch) → place w.lists (code_of f.lit) i ≡ Some x →
-    IsFalseBy t.entries x.blocker f.level → IsWalking slots w t f i → Steps slots w w t f i step.Stays
-step_quick slots w t f i x g is_false k = (
-  record {
-    sound = k.sound;
-    settled = k.settled;
-    done = λ id n p h q o. elim (k.done id n p h q o) [
-      | inl l ↦ elim (listed_next w.lists f.lit i id n.lits x g l) [
-        | inl e ↦ inr (x.blocker, e.1, is_false)
-        | inr m ↦ inl (rw add-one m)
-      ]
-      | inr m ↦ inr m
-    ];
-    stands = k.stands;
-  },
-  refl,
-)
+-- ---- the walk goes on from a later place
+pub walking_later : (slots : List (Option StoredNogood)) (w : Watches) (t : Trailed) (f : Front) (i j : ℕ) →
+    ((k : ℕ) (x : Watch) → i ≤ k → k < j → place w.lists (code_of f.lit) k ≡ Some x → IsFalseBy t.entries x.blocker f.level) → IsWalking slots w t f i → IsWalking slots w t f j
+walking_later slots w t f i j are_false k = record {
+  sound = k.sound;
+  settled = k.settled;
+  done = λ id n p h q o. elim (k.done id n p h q o) [
+    | inl l ↦ elim (listed_later w.lists f.lit i j id n.lits l) [
+      | inl e ↦ inr (e.0.blocker, e.5, are_false e.1 e.0 e.2 e.3 e.4)
+      | inr m ↦ inl m
+    ]
+    | inr m ↦ inr m
+  ];
+  stands = k.stands;
+}
 
 -- ---- the blocker of a place changes
 -- the nogood of a visit has the other watch

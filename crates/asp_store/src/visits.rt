@@ -1,9 +1,9 @@
 //! Visits to the places of a literal's list.
 //!
 //! A nogood stands in the lists of the two literals that it watches, each time beside another literal of it, the blocker.
-//! The literal whose list is walked holds. While the blocker is false nothing more is read. Else the nogood's other watch
-//! tells, or another literal that doesn't hold becomes its watch; where there is none, the other watch is false from now on,
-//! or the nogood is violated. A number whose nogood doesn't watch this literal any more is dropped from the list.
+//! The literal whose list is walked holds. A walk passes the places whose blockers are false. At the others the nogood's
+//! other watch tells, or another literal that doesn't hold becomes its watch; where there is none, the other watch is false
+//! from now on, or the nogood is violated. A number whose nogood doesn't watch this literal any more is dropped from the list.
 ghost use Rattle.std.specs.Prelude.{◌≡◌, ◌≢◌, ℕ, ◌<◌, ◌≤◌, ◌+◌, Some, None, OnOk, IfOk, IfSome, IfNone, MatchOption, IsTrue, length, false, true};
 ghost use Rattle.std.specs.List.{All};
 ghost use Rattle.asp_vars.specs.Codes.{code_of};
@@ -29,6 +29,9 @@ use crate::watches::Watches;
 use asp_trail::trail::Trail;
 use asp_vars::lit::Lit;
 use std::alloc::AllocError;
+
+// To remember where a look ended costs more than it saves for nogoods of no more literals.
+const SHORT: usize = 8;
 
 /// Whether the literal is seen at once to be false at this level or below.
 pub fn is_quick(lit: Lit, level: usize, is_top: bool, trail: &Trail) -> bool
@@ -198,6 +201,24 @@ fn visit_last(
     Ok(Step::Goes)
 }
 
+// Where a look for another watch begins best: short nogoods are gone through from the first literal on.
+fn start_of(pairs: &Pairs, id: u32, lits: &[Lit]) -> usize {
+    if lits.len() > SHORT {
+        pairs.start(id as usize)
+    } else {
+        0
+    }
+}
+
+// The place where a look ended is the next one's beginning.
+fn note_start(pairs: &mut Pairs, id: u32, lits: &[Lit], place: usize)
+    ensures { pairs.new ≡ pairs.old }
+{
+    if lits.len() > SHORT {
+        pairs.set_start(id as usize, place);
+    }
+}
+
 // Looks at the nogood whole, as its other watch isn't seen to be false.
 fn visit_long(
     watches: &mut Watches,
@@ -222,10 +243,10 @@ fn visit_long(
             Ok(Step::Goes)
         }
         Some(lits) => {
-            let start = watches.pairs.start(id as usize);
+            let start = start_of(&watches.pairs, id, lits);
             match beside_from(lits, start, other, trail.assignment()) {
                 Some(spot) => {
-                    watches.pairs.set_start(id as usize, spot.place);
+                    note_start(&mut watches.pairs, id, lits, spot.place);
                     move_watch(watches, slots, i, id, other, spot.lit, front, trail)?;
                     Ok(Step::Goes)
                 }
@@ -309,9 +330,6 @@ pub fn visit_place(
     ensures steps { IfOk result (Steps slots.now watches.old watches.new trail.new front.now i) }
 {
     let watch = watches.lists.watch(front.lit, i);
-    if is_false_by(watch.blocker, front, trail) {
-        return Ok(Step::Stays);
-    }
     match watched_beside(&watches.pairs, watch.id, front.lit) {
         None => {
             leave(watches, slots, i, watch.id, front, trail);

@@ -47,7 +47,7 @@ leave-requires-clause-walking c = c.requires.visit.walking
 pub move_watch-requires-clause-visit : goal.move_watch-requires-clause-visit
 move_watch-requires-clause-visit c =
     let w = c.args.watches.now in
-    let same : record w { pairs = c.set_start.new.self } ≡ w = λ j. record w { pairs = c.set_start.ensures j } in
+    let same : record w { pairs = c.note_start.new.pairs } ≡ w = λ j. record w { pairs = c.note_start.ensures j } in
     subst (λ (x : Watches). IsVisit c.args.slots.now x c.args.trail.now c.args.front.now c.args.i c.args.id c.args.other) (sym same) c.requires.visit
 
 pub returns-in_err-move_watch-in-Some-beside_from-clause-same : goal.returns-in_err-move_watch-in-Some-beside_from-clause-same
@@ -95,7 +95,7 @@ returns-in_ok-move_watch-in-Some-beside_from-clause-sound c = c.move_watch.ensur
 pub returns-in_ok-move_watch-in-Some-beside_from-clause-steps : goal.returns-in_ok-move_watch-in-Some-beside_from-clause-steps
 returns-in_ok-move_watch-in-Some-beside_from-clause-steps c =
     let w = c.args.watches.now in
-    let same : record w { pairs = c.set_start.new.self } ≡ w = λ j. record w { pairs = c.set_start.ensures j } in
+    let same : record w { pairs = c.note_start.new.pairs } ≡ w = λ j. record w { pairs = c.note_start.ensures j } in
     subst (λ (x : Watches). Steps c.args.slots.now x c.move_watch.new.watches c.args.trail.now c.args.front.now c.args.i step.Goes) same c.in_ok-move_watch-in-Some-beside_from.ensures.steps
 
 pub returns-in-None-beside_from-clause-same : goal.returns-in-None-beside_from-clause-same
