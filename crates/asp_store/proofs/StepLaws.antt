@@ -405,9 +405,12 @@ pub whole_at : (slots : List (Option StoredNogood)) (w : Watches) (t : Trailed) 
 whole_at slots w t f i id other v o =
     let is : o.0 ≡ v.pair = same_Some o.0 v.pair (sym o.1 ∙ v.pair_is) in
     let n = v.walking.sound.net.whole id o.0 o.1 o.2 in
-    let was = v.walking.sound.fit.watched id n.0 o.0 n.1 o.1 in
-    (n.0, n.1, λ k. same_by (has_literal n.0.lits k) (has_literal (f.lit ∷ other ∷ []) k) (λ h. into k (one_by o.0 k (subst (λ (p : Pair). IsBeside p f.lit other) (sym is) v.beside) (n.2 k h)))
-    (λ h. out_of n.0 o.0 k was.has (subst (λ (p : Pair). IsBeside p f.lit other) (sym is) v.beside) h))
+    let was = v.walking.sound.fit.watched id n.0 o.0 n.1 o.1 in (
+      n.0,
+      n.1,
+      λ k. same_by (has_literal n.0.lits k) (has_literal (f.lit ∷ other ∷ []) k) (λ h. into k (one_by o.0 k (subst (λ (p : Pair). IsBeside p f.lit other) (sym is) v.beside) (n.2 k h)))
+          (λ h. out_of n.0 o.0 k was.has (subst (λ (p : Pair). IsBeside p f.lit other) (sym is) v.beside) h),
+    )
   where
     same_by : (b c : Bool) → (b ≡ true → c ≡ true) → (c ≡ true → b ≡ true) → b ≡ c
     same_by true c g h = sym (g refl)

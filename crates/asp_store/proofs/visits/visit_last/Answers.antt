@@ -1,5 +1,5 @@
 use Rattle.std.proofs.Common.{◌≡◌, Bool, true, false, Option, List, refl, sym, ◌∙◌, subst, arith, rules}
-use Rattle.asp_vars.specs.Literals.{Literal, holds_in, has_literal}
+use Rattle.asp_vars.specs.Literals.{holds_in}
 use Rattle.asp_trail.specs.Trails.{Trailed, IsVar}
 use Rattle.asp_store.specs.Walking.{IsVisit}
 use Rattle.asp_store.proofs.GrowLaws.{extends_grew, extends_none, grew_by, grew_same, trail_more}

@@ -1,5 +1,4 @@
 use Rattle.std.proofs.Common.{refl}
-use Rattle.asp_vars.specs.Codes.{code_of}
 use Rattle.asp_store.specs.Walking.{IsVisit}
 use Rattle.asp_store.proofs.GrowLaws.{extends_none}
 use Rattle.asp_store.proofs.StepLaws.{visit_var}

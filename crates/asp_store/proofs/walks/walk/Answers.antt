@@ -27,14 +27,6 @@ visit_place-requires-clause-within c = omega (arith, c.len.ensures, c.places-tes
 pub visit_place-requires-clause-room : goal.visit_place-requires-clause-room
 visit_place-requires-clause-room c = omega (arith, c.requires.room, ap (λ (s : Trailed). s.vars) c.places.invariant.same, ap (λ (s : Trailed). s.room) c.places.invariant.same)
 
-pub skip-requires-clause-walking : goal.skip-requires-clause-walking
-skip-requires-clause-walking c =
-    (subst (λ (s : Step). Steps c.args.slots.now c.places.watches c.visit_place.new.watches c.visit_place.new.trail c.args.front.now c.places.i s) c.in-Stays.is c.in_ok-step.ensures.steps).0
-
-pub skip-requires-clause-within : goal.skip-requires-clause-within
-skip-requires-clause-within c =
-    omega (arith, c.len.ensures, c.places-test.true, (subst (λ (s : Step). Steps c.args.slots.now c.places.watches c.visit_place.new.watches c.visit_place.new.trail c.args.front.now c.places.i s) c.in-Stays.is c.in_ok-step.ensures.steps).1)
-
 pub returns-in_err-step-clause-same : goal.returns-in_err-step-clause-same
 returns-in_err-step-clause-same c = c.visit_place.ensures.same ∙ ap (λ (s : Trailed). let r : Trailed = record s { entries = c.visit_place.new.trail.entries } in r) c.places.invariant.same
 
@@ -70,20 +62,20 @@ returns-clause-walked c = (c.places.i, omega (arith, c.len.ensures, c.places-tes
 
 pub places-preserved : goal.places-preserved
 places-preserved c = record {
-  walking = (subst (λ (s : Step). Steps c.args.slots.now c.places.watches c.visit_place.new.watches c.visit_place.new.trail c.args.front.now c.places.i s) c.in-Goes.is c.in_ok-step.ensures.steps).0;
+  walking = c.skip-i-in-Goes.ensures.walking;
   same = c.visit_place.ensures.same ∙ ap (λ (s : Trailed). let r : Trailed = record s { entries = c.visit_place.new.trail.entries } in r) c.places.invariant.same;
   extends = extends_more c.args.slots.now c.args.trail.now.entries c.places.trail.entries c.visit_place.new.trail.entries c.places.invariant.extends c.visit_place.ensures.extends;
 }
 
 pub places-preserved-in-Stays : goal.places-preserved-in-Stays
 places-preserved-in-Stays c = record {
-  walking = c.skip.ensures.walking;
+  walking = c.skip-i-in-Stays.ensures.walking;
   same = c.visit_place.ensures.same ∙ ap (λ (s : Trailed). let r : Trailed = record s { entries = c.visit_place.new.trail.entries } in r) c.places.invariant.same;
   extends = extends_more c.args.slots.now c.args.trail.now.entries c.places.trail.entries c.visit_place.new.trail.entries c.places.invariant.extends c.visit_place.ensures.extends;
 }
 
 pub places-smaller : goal.places-smaller
-places-smaller c = omega (arith, c.len.ensures, c.places-test.true, (subst (λ (s : Step). Steps c.args.slots.now c.places.watches c.visit_place.new.watches c.visit_place.new.trail c.args.front.now c.places.i s) c.in-Goes.is c.in_ok-step.ensures.steps).1)
+places-smaller c = omega (arith, c.len.ensures, c.places-test.true, c.skip-i-in-Goes.ensures.from, (subst (λ (s : Step). Steps c.args.slots.now c.places.watches c.visit_place.new.watches c.visit_place.new.trail c.args.front.now c.places.i s) c.in-Goes.is c.in_ok-step.ensures.steps).1)
 
 pub places-smaller-in-Stays : goal.places-smaller-in-Stays
-places-smaller-in-Stays c = omega (arith, c.len.ensures, c.places-test.true, c.skip.ensures.from, (subst (λ (s : Step). Steps c.args.slots.now c.places.watches c.visit_place.new.watches c.visit_place.new.trail c.args.front.now c.places.i s) c.in-Stays.is c.in_ok-step.ensures.steps).1)
+places-smaller-in-Stays c = omega (arith, c.len.ensures, c.places-test.true, c.skip-i-in-Stays.ensures.from, (subst (λ (s : Step). Steps c.args.slots.now c.places.watches c.visit_place.new.watches c.visit_place.new.trail c.args.front.now c.places.i s) c.in-Stays.is c.in_ok-step.ensures.steps).1)
