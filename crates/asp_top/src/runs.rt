@@ -2,7 +2,7 @@
 ghost use Rattle.std.specs.Prelude.{◌≡◌, None, IfSome, false, true, map, string_bytes};
 ghost use Rattle.asp_cli.specs.Given.{fault_seen, words_give};
 ghost use Rattle.asp_cli.specs.Texts.{help_page, version_line};
-ghost use Rattle.asp_cli.specs.Values.{IsCrew, IsRing};
+ghost use Rattle.asp_cli.specs.Values.{IsCrew, IsPartCount, IsRing};
 ghost use Rattle.asp_top.specs.Notes.{IsNoted, Writes, note_of};
 ghost use Rattle.asp_top.specs.Usage.{misuse_note};
 ghost use Rattle.asp_top.specs.Runs.{IsCounted, NotesOn, NotesRun, Runs, RunsOn, TellsFaults, TextMeans, around, is_alone};
@@ -10,6 +10,7 @@ ghost use Rattle.asp_top.specs.Runs.{IsCounted, NotesOn, NotesRun, Runs, RunsOn,
 use crate::counts::Tally;
 use crate::deliver::failed;
 use crate::notes::{note, note_status, write};
+use crate::parts::divide;
 use crate::prepare::prepare;
 use crate::progress::Progress;
 use crate::search::{solve, solve_by_crew};
@@ -55,7 +56,7 @@ fn write_version<K: Sink>(sink: &mut K) -> Result<(), Failed>
     sink.flush()
 }
 
-// The outcome of a run after the words, whose program one search solves.
+// The outcome of a run after the words, whose program is divided, or solved by one search.
 fn outcome_alone<S: Source, K: Sink, W: Watch>(
     alloc: Global,
     options: &Options,
@@ -64,7 +65,8 @@ fn outcome_alone<S: Source, K: Sink, W: Watch>(
     tally: &mut Tally,
     watch: &mut W,
 ) -> Outcome
-    requires { IsRing options.now.make }
+    requires ring { IsRing options.now.make }
+    requires parts { IsPartCount options.now.split }
     ensures runs { Runs options.now (around (S.left source.old) (S.left source.new) (S.faults source.old) (S.faults source.new)
         (K.held sink.old) (K.held sink.new) (K.faults sink.old) (K.faults sink.new)) result }
     ensures flushed { TellsFaults (K.held sink.old) (K.faults sink.old) (K.faults sink.new) result.status }
@@ -72,7 +74,10 @@ fn outcome_alone<S: Source, K: Sink, W: Watch>(
     ensures heard { W.IsAfter watch.old watch.new }
 {
     match prepare(alloc, options, source) {
-        Ok(compiled) => solve(alloc, options, &compiled, sink, tally, watch),
+        Ok(compiled) => match options.split {
+            None => solve(alloc, options, &compiled, sink, tally, watch),
+            Some(most) => divide(alloc, &compiled, most, sink),
+        },
         Err(status) => failed(status),
     }
 }
@@ -90,6 +95,7 @@ fn outcome_by_crew<R: Threads + Wait + Sync, S: Source, K: Sink, G: Gate + Sync>
     requires ring { IsRing options.now.make }
     requires crew { IsCrew options.now.workers }
     requires proof { options.now.proof ≡ false }
+    requires whole { options.now.split ≡ None }
     ensures runs { Runs options.now (around (S.left source.old) (S.left source.new) (S.faults source.old) (S.faults source.new)
         (K.held sink.old) (K.held sink.new) (K.faults sink.old) (K.faults sink.new)) result }
     ensures flushed { TellsFaults (K.held sink.old) (K.faults sink.old) (K.faults sink.new) result.status }
@@ -102,7 +108,8 @@ fn outcome_by_crew<R: Threads + Wait + Sync, S: Source, K: Sink, G: Gate + Sync>
 }
 
 /// A run after the words. It reads a program from the source, or makes a ring, solves it with one search, writes the text
-/// of its results to the sink, or of the proof that was asked for, and flushes it. The notes get a line for each status
+/// of its results to the sink, or of the proof that was asked for, and flushes it; where parts are asked for, it divides the
+/// program and writes these. The notes get a line for each status
 /// that isn't one of results, and the counts where they are asked for; before them lines while the run goes on, where they
 /// are.
 pub fn run_alone<S: Source, K: Sink, N: Sink>(
@@ -112,7 +119,8 @@ pub fn run_alone<S: Source, K: Sink, N: Sink>(
     sink: &mut K,
     notes: &mut N,
 ) -> Outcome
-    requires { IsRing options.now.make }
+    requires ring { IsRing options.now.make }
+    requires parts { IsPartCount options.now.split }
     ensures runs { Runs options.now (around (S.left source.old) (S.left source.new) (S.faults source.old) (S.faults source.new)
         (K.held sink.old) (K.held sink.new) (K.faults sink.old) (K.faults sink.new)) result }
     ensures flushed { TellsFaults (K.held sink.old) (K.faults sink.old) (K.faults sink.new) result.status }
@@ -138,6 +146,7 @@ fn run_by_crew<R: Threads + Wait + Sync, S: Source, K: Sink, N: Sink, G: Gate + 
     requires ring { IsRing options.now.make }
     requires crew { IsCrew options.now.workers }
     requires proof { options.now.proof ≡ false }
+    requires whole { options.now.split ≡ None }
     ensures runs { Runs options.now (around (S.left source.old) (S.left source.new) (S.faults source.old) (S.faults source.new)
         (K.held sink.old) (K.held sink.new) (K.faults sink.old) (K.faults sink.new)) result }
     ensures flushed { TellsFaults (K.held sink.old) (K.faults sink.old) (K.faults sink.new) result.status }
@@ -149,12 +158,12 @@ fn run_by_crew<R: Threads + Wait + Sync, S: Source, K: Sink, N: Sink, G: Gate + 
     outcome
 }
 
-// Whether one search does all of it: with one worker, and where a proof is asked for, since a search writes down only its
-// own.
+// Whether no workers are started: with one worker, where a proof is asked for, since a search writes down only its own, and
+// where nothing is solved.
 fn is_alone(options: &Options) -> bool
     ensures { result ≡ is_alone options.now }
 {
-    options.workers == 1 || options.proof
+    options.workers == 1 || options.proof || options.split.is_some()
 }
 
 // A run after the words, with as many workers as are asked for. One search starts no thread.
@@ -169,6 +178,7 @@ fn run_given<R: Threads + Wait + Sync, S: Source, K: Sink, N: Sink, G: Gate + Sy
 ) -> Outcome
     requires ring { IsRing options.now.make }
     requires crew { IsCrew options.now.workers }
+    requires parts { IsPartCount options.now.split }
     ensures runs { Runs options.now (around (S.left source.old) (S.left source.new) (S.faults source.old) (S.faults source.new)
         (K.held sink.old) (K.held sink.new) (K.faults sink.old) (K.faults sink.new)) result }
     ensures flushed { TellsFaults (K.held sink.old) (K.faults sink.old) (K.faults sink.new) result.status }
