@@ -1,5 +1,6 @@
 //! The parts of a program are written in place of its results.
-ghost use Rattle.std.specs.Prelude.{◌<◌, IfOk};
+ghost use Rattle.std.specs.Prelude.{◌<◌, IfOk, Some};
+ghost use Rattle.asp_cli.specs.Values.{IsPartCount};
 ghost use Rattle.asp_top.specs.Notes.{Writes};
 ghost use Rattle.asp_top.specs.Parting.{Divides, Hands, IsPartsText};
 ghost use Rattle.asp_top.specs.Runs.{TellsFaults};
@@ -46,7 +47,7 @@ fn hand_out<K: Sink>(sink: &mut K, text: &[u8]) -> Outcome
 
 /// Divides a program into parts, at most so many, writes a line of assumptions for each, and flushes the sink.
 pub fn divide<K: Sink>(alloc: Global, compiled: &Compiled, most: u32, sink: &mut K) -> Outcome
-    requires { 0 < most }
+    requires { IsPartCount (Some most) }
     ensures divides { Divides compiled.now most (K.held sink.old) (K.held sink.new) (K.faults sink.old) (K.faults sink.new) result }
     ensures flushed { TellsFaults (K.held sink.old) (K.faults sink.old) (K.faults sink.new) result.status }
 {

@@ -1,3 +1,5 @@
+use Rattle.std.proofs.Common.{◌∙◌, ap}
+use Rattle.asp_make.specs.Texts.{parts_text}
 use Rattle.asp_top.proofs.parts.text_of_parts.Goals as goal
 
 pub returns : goal.returns
@@ -6,5 +8,5 @@ returns c =
     record {
       cubes = c.in_ok-parts.parts.items;
       parts = record { same = parts.answers; stand = parts.stand; some = parts.some; few = parts.few };
-      is = ?;
+      is = c.in_ok-text.ensures ∙ ap parts_text c.as_slice.ensures.value;
     }
