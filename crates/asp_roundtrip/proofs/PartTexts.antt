@@ -13,7 +13,6 @@ use Rattle.asp_model.specs.declared.program.Head.TheVariants.{One, Choice, Never
 use Rattle.asp_model.specs.declared.program.Body.{Body}
 use Rattle.asp_model.specs.declared.program.Body.TheVariants.{All, AtLeast}
 use Rattle.asp_model.specs.declared.program.Rule.{Rule}
-use Rattle.asp_model.specs.declared.program.Minimize.{Minimize}
 use Rattle.asp_model.specs.declared.program.Program.{Program}
 use Rattle.asp_model.proofs.SetLaws.{has-set_of}
 use Rattle.asp_model.proofs.MemberLaws.{one_passes, each_weaker, each-append, each-flat_map, each-map}
@@ -77,8 +76,9 @@ leads : (number : ℕ) (seen s : Seen) (ls more : List (List ℕ)) → judge_all
 unfolding judge_all
 leads number seen s [] more e = ap (λ n. judge_all n seen more) (sym (add-zero number)) ∙ ap (λ t. judge_all (number + 0) t more) (same_seen seen s e)
 leads number seen s (l ∷ ls) more e =
+    let one_more : number + 1 + length ls ≡ number + length (l ∷ ls) = omega arith in
     next_leads number (judge seen l) (λ t. judge_all (number + 1) t ls) (λ t. judge_all (number + 1) t (ls ++ more)) s (judge_all (number + length (l ∷ ls)) s more)
-    (λ t q. leads (number + 1) t s ls more q ∙ ap (λ n. judge_all n s more) (omega arith)) e
+    (λ t q. leads (number + 1) t s ls more q ∙ ap (λ n. judge_all n s more) one_more) e
 
 next_led : (number : ℕ) (j : Result Seen Fault) (f g : Seen → Result Seen ReadError) (e : Seen) → ((t : Seen) → g t ≡ Ok e → (s : Seen) × (f t ≡ Ok s)) → judge_next number j g ≡ Ok e → (s : Seen) × (judge_next number j f ≡ Ok s)
 next_led number (Ok t) f g e h q = h t q
