@@ -23,7 +23,6 @@ use Rattle.asp_read.specs.declared.reader.Stage.{Stage}
 use Rattle.asp_read.specs.declared.reader.Stage.TheVariants.{Start, Within, Ended}
 use Rattle.asp_read.specs.declared.statement.Statement.TheVariants as say
 use Rattle.asp_read.specs.Fields.{◌>>=◌}
-use Rattle.asp_read.specs.Sizes.{program_size}
 use Rattle.asp_read.specs.Statements.{header_at, statement_with, of_kind}
 use Rattle.asp_read.specs.Seen.{Seen, nothing_seen}
 use Rattle.asp_read.specs.Outcome.{adds, judge, judge_all, judge_next, at_end, outcome_from, outcome, most_bytes}

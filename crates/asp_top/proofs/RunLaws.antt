@@ -1,6 +1,6 @@
 -- What each status means, from what reading, solving and writing did.
 use Rattle.std.proofs.Common.{◌≡◌, ℕ, ◌≤◌, Bool, true, false, ◌||◌, List, refl, sym, subst, inl, inr, arith}
-use Rattle.std.specs.Prelude.{Option, None, Some, Result, Ok, Err, IfErr, IfOk, IfSome, IsSome, IsErrOf, is_some, ℤ}
+use Rattle.std.specs.Prelude.{Option, None, Some, Result, Ok, Err, IfErr, IfOk, IfSome, IsSome, IsErrOf, is_some}
 use Rattle.std.proofs.KnownBytes.{Keeps-refl}
 use Rattle.std.specs.Io.KnownBytes.{Appends, Keeps, IsAtEnd}
 use Rattle.asp_io.specs.Causes.{Rose}
@@ -20,8 +20,8 @@ use Rattle.asp_top.specs.declared.status.Status.TheVariants.{All, NoModel, Parti
 use Rattle.asp_top.specs.declared.status.Outcome.{Outcome}
 use Rattle.asp_top.specs.Meaning.{has_model, status_for}
 use Rattle.asp_top.specs.Notes.{is_answered}
-use Rattle.asp_top.specs.Parting.{Divides, HandingMeans, Hands, IsPartsText}
-use Rattle.asp_top.specs.Runs.{Around, DeliveryMeans, IsDivided, IsExact, IsGiven, IsOver, IsReady, IsSaid, IsSolved, Means, Prepares, Runs, Says, Solves, around, is_brief, report_text, status_of}
+use Rattle.asp_top.specs.Parting.{Divides, HandingMeans}
+use Rattle.asp_top.specs.Runs.{Around, DeliveryMeans, Does, DoesBy, IsDivided, IsExact, IsGiven, IsOver, IsReady, IsSaid, IsSolved, Means, Prepares, Runs, Says, Solves, around, is_brief, report_text, status_of}
 use Rattle.asp_cli.specs.declared.Options.{Options}
 
 says-at : (a : Around) (text : List ℕ) (said : Result Program ReadError) → a.left ≡ Some text → Says a said → outcome text ≡ said
@@ -201,9 +201,18 @@ pub runs-ready : (given : Options) (l l' : Option (List ℕ)) (r r' : ℕ) (h h'
 runs-ready given l l' r r' h h' w w' p o whole ready solves = runs-solved given (around l l' r r' h h' w w') p o whole (ready.source h h' w w') ready.later ready.quiet solves
 
 -- it is divided
-pub runs-parted : (given : Options) (l l' : Option (List ℕ)) (r r' : ℕ) (h h' : Option (List ℕ)) (w w' : ℕ) (p : Program) (most : ℕ) (o : Outcome) → given.split ≡ Some most → IsReady given l l' r r' p
+runs-parted : (given : Options) (l l' : Option (List ℕ)) (r r' : ℕ) (h h' : Option (List ℕ)) (w w' : ℕ) (p : Program) (most : ℕ) (o : Outcome) → given.split ≡ Some most → IsReady given l l' r r' p
     → Divides p most h h' w w' o → Runs given (around l l' r r' h h' w w') o
 runs-parted given l l' r r' h h' w w' p most o asked ready divides = runs-divided given (around l l' r r' h h' w w') p most o asked (ready.source h h' w w') ready.later ready.quiet divides
+
+-- it is divided or solved, as was asked
+pub runs-done : (given : Options) (l l' : Option (List ℕ)) (r r' : ℕ) (h h' : Option (List ℕ)) (w w' : ℕ) (p : Program) (o : Outcome) → IsReady given l l' r r' p → Does given p h h' w w' o
+    → Runs given (around l l' r r' h h' w w') o
+runs-done given l l' r r' h h' w w' p o ready done = go given.split refl done
+  where
+    go : (m : Option ℕ) → given.split ≡ m → DoesBy m given p h h' w w' o → Runs given (around l l' r r' h h' w w') o
+    go None asked d = runs-ready given l l' r r' h h' w w' p o asked ready d
+    go (Some most) asked d = runs-parted given l l' r r' h h' w w' p most o asked ready d
 
 unproved : (r : Report) → r.proof ≡ None → HasProof false r
 unproved r none = at r.results.end

@@ -30,7 +30,7 @@ use Rattle.asp_top.specs.declared.status.Outcome.{Outcome}
 use Rattle.asp_top.specs.declared.counts.Tally.{Tally}
 use Rattle.asp_top.specs.Meaning.{has_model, mode_of, status_for}
 use Rattle.asp_top.specs.Notes.{IsNoted, is_answered, note_of, notes_of}
-use Rattle.asp_top.specs.Parting.{AreParts}
+use Rattle.asp_top.specs.Parting.{AreParts, Divides}
 use Rattle.asp_top.specs.Progress.{IsTold}
 use Rattle.asp_top.specs.Usage.{misuse_note}
 
@@ -210,6 +210,14 @@ abbrev pub Solves : Options → Program → Option (List ℕ) → Option (List �
 Solves given p held held' writes writes' o =
     ((o ≡ record { status = Memory; report = None }) × Keeps held held' × (writes' ≡ writes))
     ⊎ ((r : Report) × (IsReport p (mode_of given.mode p) given.budget r × HasProof given.proof r) × Delivers (is_brief given) p r held held' writes writes' o)
+
+-- The program was divided where parts are asked for, and else solved.
+abbrev pub DoesBy : Option ℕ → Options → Program → Option (List ℕ) → Option (List ℕ) → ℕ → ℕ → Outcome → Type 0
+DoesBy None given p held held' writes writes' o = Solves given p held held' writes writes' o
+DoesBy (Some most) given p held held' writes writes' o = Divides p most held held' writes writes' o
+
+abbrev pub Does : Options → Program → Option (List ℕ) → Option (List ℕ) → ℕ → ℕ → Outcome → Type 0
+Does given p held held' writes writes' o = DoesBy given.split given p held held' writes writes' o
 
 -- a run after the words
 pub record Runs (given : Options) (a : Around) (o : Outcome) : Type 0 where

@@ -5,7 +5,7 @@ ghost use Rattle.asp_cli.specs.Texts.{help_page, version_line};
 ghost use Rattle.asp_cli.specs.Values.{IsCrew, IsPartCount, IsRing};
 ghost use Rattle.asp_top.specs.Notes.{IsNoted, Writes, note_of};
 ghost use Rattle.asp_top.specs.Usage.{misuse_note};
-ghost use Rattle.asp_top.specs.Runs.{IsCounted, NotesOn, NotesRun, Runs, RunsOn, TellsFaults, TextMeans, around, is_alone};
+ghost use Rattle.asp_top.specs.Runs.{Does, IsCounted, NotesOn, NotesRun, Runs, RunsOn, TellsFaults, TextMeans, around, is_alone};
 
 use crate::counts::Tally;
 use crate::deliver::failed;
@@ -20,6 +20,7 @@ use asp_cli::{CliError, Options, WordFault, page_back, page_front, usage, versio
 use asp_crew::watch::Watch;
 use asp_io::{Failed, Sink, Source};
 use asp_team::gate::Gate;
+use asp_vars::compiled::Compiled;
 use std::alloc::Global;
 use std::sync::Wait;
 use std::thread::Threads;
@@ -56,6 +57,27 @@ fn write_version<K: Sink>(sink: &mut K) -> Result<(), Failed>
     sink.flush()
 }
 
+// Divides the program where parts are asked for, and else solves it by one search.
+fn divide_or_solve<K: Sink, W: Watch>(
+    alloc: Global,
+    options: &Options,
+    compiled: &Compiled,
+    sink: &mut K,
+    tally: &mut Tally,
+    watch: &mut W,
+) -> Outcome
+    requires { IsPartCount options.now.split }
+    ensures does { Does options.now compiled.now (K.held sink.old) (K.held sink.new) (K.faults sink.old) (K.faults sink.new) result }
+    ensures flushed { TellsFaults (K.held sink.old) (K.faults sink.old) (K.faults sink.new) result.status }
+    ensures counted { IfSome result.report (IsCounted true tally.new) }
+    ensures heard { W.IsAfter watch.old watch.new }
+{
+    match options.split {
+        None => solve(alloc, options, compiled, sink, tally, watch),
+        Some(most) => divide(alloc, compiled, most, sink),
+    }
+}
+
 // The outcome of a run after the words, whose program is divided, or solved by one search.
 fn outcome_alone<S: Source, K: Sink, W: Watch>(
     alloc: Global,
@@ -74,10 +96,7 @@ fn outcome_alone<S: Source, K: Sink, W: Watch>(
     ensures heard { W.IsAfter watch.old watch.new }
 {
     match prepare(alloc, options, source) {
-        Ok(compiled) => match options.split {
-            None => solve(alloc, options, &compiled, sink, tally, watch),
-            Some(most) => divide(alloc, &compiled, most, sink),
-        },
+        Ok(compiled) => divide_or_solve(alloc, options, &compiled, sink, tally, watch),
         Err(status) => failed(status),
     }
 }

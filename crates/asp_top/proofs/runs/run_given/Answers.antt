@@ -9,7 +9,7 @@ run_by_crew-requires-clause-proof g c = λ _ _.
     (first-false ((c.args.options.now.workers == 1) || c.args.options.now.proof) (is_some c.args.options.now.split) (sym c.is_alone.ensures ∙ c.if-is_alone.false))
 
 pub run_by_crew-requires-clause-whole : goal.run_by_crew-requires-clause-whole
-run_by_crew-requires-clause-whole g c = λ _ _ _.
+run_by_crew-requires-clause-whole g c = λ _ _.
     unsplit c.args.options.now.split
     (second-false ((c.args.options.now.workers == 1) || c.args.options.now.proof) (is_some c.args.options.now.split) (sym c.is_alone.ensures ∙ c.if-is_alone.false))
 
