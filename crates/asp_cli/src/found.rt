@@ -5,7 +5,9 @@ ghost use Rattle.asp_cli.specs.Values.{IsCrew, IsPartCount, IsRing};
 
 use crate::Options;
 use crate::names::Name;
-use crate::values::{LARGEST_RING, LEAST_RING, MOST_PARTS, MOST_UNITS, MOST_WORKERS, named_mode, number};
+use crate::values::{
+    LARGEST_RING, LEAST_RING, MOST_PARTS, MOST_UNITS, MOST_WORKERS, named_mode, number,
+};
 use asp_model::results::Mode;
 
 /// The options that were given, each with its value.
