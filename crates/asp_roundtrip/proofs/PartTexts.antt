@@ -68,7 +68,10 @@ next_leads : (number : ℕ) (j : Result Seen Fault) (f g : Seen → Result Seen 
 next_leads number (Ok t) f g s r h e = h t e
 next_leads number (Err x) f g s r h e = absurd cc
 
-same_seen : (s t : Seen) → Ok {E = ReadError} s ≡ Ok t → s ≡ t
+abbrev seen_ok : Seen → Result Seen ReadError
+seen_ok s = Ok s
+
+same_seen : (s t : Seen) → seen_ok s ≡ seen_ok t → s ≡ t
 same_seen s t e = cc
 
 leads : (number : ℕ) (seen s : Seen) (ls more : List (List ℕ)) → judge_all number seen ls ≡ Ok s → judge_all number seen (ls ++ more) ≡ judge_all (number + length ls) s more
