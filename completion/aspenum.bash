@@ -24,13 +24,16 @@ _aspenum() {
     case $option in
         --mode) mapfile -t COMPREPLY < <(compgen -P "$stem" -W "auto enum opt" -- "$word") && return ;;
         --workers) mapfile -t COMPREPLY < <(compgen -P "$stem" -W "1 2 4 8 16 32 64" -- "$word") && return ;;
-        --budget | --make | --help | -h | --version | --) return ;;
+        --budget | --make | --split | --help | -h | --version | --) return ;;
     esac
     [[ $word == "${words[last]}" ]] || return
 
     given=("${words[@]:1:last-1}")
     given=("${given[@]%%=*}")
-    for option in --mode --budget --workers --make --stats --progress --proof; do
+    # of these two one excludes the other
+    [[ " ${given[*]} " != *" --split "* ]] || given+=(--proof)
+    [[ " ${given[*]} " != *" --proof "* ]] || given+=(--split)
+    for option in --mode --budget --workers --make --stats --progress --proof --split; do
         [[ " ${given[*]} " == *" $option "* ]] || left+=("$option")
     done
     [[ $last -ne 1 ]] || left+=(--help --version)

@@ -25,6 +25,7 @@ complete -c aspenum -n '__aspenum_lacks workers' -l workers -x -d 'Threads that 
 complete -c aspenum -n '__aspenum_lacks make' -l make -x -d 'Solve a ring of so many nodes, read no program'
 complete -c aspenum -n '__aspenum_lacks stats' -l stats -d 'Write counts to standard error'
 complete -c aspenum -n '__aspenum_lacks progress' -l progress -d 'Write lines to standard error while it runs'
-complete -c aspenum -n '__aspenum_lacks proof' -l proof -d 'Write the proof of a finished run'
+complete -c aspenum -n '__aspenum_lacks proof; and __aspenum_lacks split' -l proof -d 'Write the proof of a finished run'
+complete -c aspenum -n '__aspenum_lacks split; and __aspenum_lacks proof' -l split -x -d 'Write the parts of a program, at most so many'
 complete -c aspenum -n '__aspenum_first' -s h -l help -d 'Write the options and exit statuses'
 complete -c aspenum -n '__aspenum_first' -l version -d 'Write the version'

@@ -4,7 +4,7 @@
     compare.py PROGRAM [COUNT [SEED]] [--no-clasp]     (PROGRAM may have words behind it: "build/aspenum --workers 4")
 
 Each program has up to seven atoms and every kind of statement. In an enumeration the bytes must be the reference's; in
-an optimisation the closing lines, cost and count, must be. Where clasp lists other answers than the reference, that is
+an optimisation the closing lines, cost and count, must be. Every fourth program is solved in parts too. Where clasp lists other answers than the reference, that is
 told and counted, and is no failure: clasp 3.3.5 is known to lose answers of choices over weight bodies.
 """
 import random
@@ -85,6 +85,34 @@ def differs(aspenum, text):
     return None
 
 
+def joined(aspenum, text, mode):
+    """What the parts of a program give: their answers one after the other, the least of their costs, how many there are."""
+    most = len(text) % 9 + 1
+    given = run([*aspenum, "--split", str(most)], text)
+    cubes = given.stdout.decode().splitlines()
+    if given.returncode != 0 or not 0 < len(cubes) <= most:
+        return None
+    found, costs = [], []
+    for cube in cubes:
+        part = run([*aspenum, "--mode", mode], text.removesuffix("0\n") + cube + "\n0\n").stdout.decode()
+        found += answers(part)
+        costs += [[int(number) for number in line.split()[1:]] for line in part.split("\n") if line.startswith("Optimization:")]
+    return found, min(costs, default=None)
+
+
+def parts_differ(aspenum, text):
+    """What is wrong with the parts of a program, or nothing."""
+    for mode, at in (("enum", 0), ("opt", 1)):
+        parts = joined(aspenum, text, mode)
+        if parts is None:
+            return "--split writes too many lines, or none"
+        wanted = wanted_of(text, mode)
+        cost = [[int(number) for number in line.split()[1:]] for line in wanted.split("\n") if line.startswith("Optimization:")]
+        if parts[at] != (answers(wanted), min(cost, default=None))[at]:
+            return f"the parts differ from the whole with --mode {mode}"
+    return None
+
+
 def clasp_differs(text):
     """Whether clasp lists other answers than the reference: its own affair, and worth knowing."""
     wanted = wanted_of(text, "enum")
@@ -108,7 +136,7 @@ def main():
     failed = others = 0
     for number in range(count):
         text = program(random_)
-        wrong = differs(aspenum, text)
+        wrong = differs(aspenum, text) or (parts_differ(aspenum, text) if number % 4 == 0 else None)
         failed += 1 if wrong else 0
         other = clasp_differs(text) if with_clasp else None
         others += 1 if other else 0

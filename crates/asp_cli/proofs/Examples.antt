@@ -2,12 +2,12 @@
 use Rattle.std.proofs.Common.{◌≡◌, [], ◌∷◌, true, false, Some, None, codes, refl}
 use Rattle.asp_model.specs.declared.results.Mode.TheVariants.{Enum, Opt}
 use Rattle.asp_cli.specs.declared.Options.{Options}
-use Rattle.asp_cli.specs.declared.names.Name.TheVariants.{Workers, Mode, Budget, Make, Stats, Progress}
-use Rattle.asp_cli.specs.Given.{bad_value, help, misuse, missing, no_words, not_alone, options, twice, unexpected, unknown, version, words_give}
+use Rattle.asp_cli.specs.declared.names.Name.TheVariants.{Workers, Mode, Budget, Make, Stats, Progress, Split}
+use Rattle.asp_cli.specs.Given.{bad_value, help, misuse, missing, no_words, not_alone, options, rivals, twice, unexpected, unknown, version, words_give}
 
 -- what is asked for where no option is given
 abbrev standard : Options
-standard = record { workers = 1; mode = None; budget = 9223372036854775807; make = None; stats = false; progress = false; proof = false }
+standard = record { workers = 1; mode = None; budget = 9223372036854775807; make = None; stats = false; progress = false; proof = false; split = None }
 
 empty_line : words_give [] ≡ misuse no_words
 empty_line = refl
@@ -117,8 +117,26 @@ workers_none = refl
 workers_many : words_give (codes "aspenum" ∷ codes "--workers" ∷ codes "65" ∷ []) ≡ misuse (bad_value Workers (codes "65"))
 workers_many = refl
 
+parts_most : words_give (codes "aspenum" ∷ codes "--split" ∷ codes "100000" ∷ []) ≡ options (record standard { split = Some 100000 })
+parts_most = refl
+
+parts_none : words_give (codes "aspenum" ∷ codes "--split=0" ∷ []) ≡ misuse (bad_value Split (codes "0"))
+parts_none = refl
+
+parts_many : words_give (codes "aspenum" ∷ codes "--split=100001" ∷ []) ≡ misuse (bad_value Split (codes "100001"))
+parts_many = refl
+
+parts_of_a_proof : words_give (codes "aspenum" ∷ codes "--split=2" ∷ codes "--proof" ∷ []) ≡ misuse rivals
+parts_of_a_proof = refl
+
+proof_of_parts : words_give (codes "aspenum" ∷ codes "--proof" ∷ codes "--split" ∷ codes "2" ∷ []) ≡ misuse rivals
+proof_of_parts = refl
+
+parts_twice : words_give (codes "aspenum" ∷ codes "--split=2" ∷ codes "--split=3" ∷ []) ≡ misuse (twice Split)
+parts_twice = refl
+
 first_from_the_left : words_give (codes "aspenum" ∷ codes "--stats" ∷ codes "--budget=x" ∷ codes "--verson" ∷ []) ≡ misuse (bad_value Budget (codes "x"))
 first_from_the_left = refl
 
-all_options : words_give (codes "aspenum" ∷ codes "--make=2000" ∷ codes "--stats" ∷ codes "--mode=enum" ∷ codes "--budget=7" ∷ codes "--workers=4" ∷ []) ≡ options (record { workers = 4; mode = Some Enum; budget = 7; make = Some 2000; stats = true; progress = false; proof = false })
+all_options : words_give (codes "aspenum" ∷ codes "--make=2000" ∷ codes "--stats" ∷ codes "--mode=enum" ∷ codes "--budget=7" ∷ codes "--workers=4" ∷ []) ≡ options (record { workers = 4; mode = Some Enum; budget = 7; make = Some 2000; stats = true; progress = false; proof = false; split = None })
 all_options = refl

@@ -2,7 +2,7 @@
 use Rattle.std.specs.Prelude.{ℕ, Bool, false, List, Option, Some, None, is_some, option_map, unwrap_or}
 use Rattle.asp_cli.specs.declared.found.Found.{Found}
 use Rattle.asp_cli.specs.declared.names.Name.{Name}
-use Rattle.asp_cli.specs.declared.names.Name.TheVariants.{Workers, Mode, Budget, Make, Stats, Progress, Proof}
+use Rattle.asp_cli.specs.declared.names.Name.TheVariants.{Workers, Mode, Budget, Make, Stats, Progress, Proof, Split}
 use Rattle.asp_cli.specs.declared.walk.Awaits.TheVariants as awaits
 use Rattle.asp_cli.specs.declared.walk.State.{State}
 use Rattle.asp_cli.specs.declared.Options.{Options}
@@ -17,6 +17,13 @@ has f Make = is_some f.make
 has f Stats = f.stats
 has f Progress = f.progress
 has f Proof = f.proof
+has f Split = is_some f.split
+
+-- whether an option was given that can't stand beside this one: a proof isn't written of parts
+abbrev pub has_rival : Found → Name → Bool
+has_rival f Proof = is_some f.split
+has_rival f Split = f.proof
+has_rival f _ = false
 
 -- what was found with an option's value; none where the option doesn't take it
 abbrev pub found_with : Found → Name → List ℕ → Option Found
@@ -27,6 +34,7 @@ found_with f Make t = option_map (λ n. record f { make = Some n }) (number_with
 found_with f Stats t = None
 found_with f Progress t = None
 found_with f Proof t = None
+found_with f Split t = option_map (λ n. record f { split = Some n }) (number_within 1 100000 t)
 
 -- the options, with what stands where one isn't given
 abbrev pub options_of : Found → Options
@@ -38,8 +46,9 @@ options_of f = record {
   stats = f.stats;
   progress = f.progress;
   proof = f.proof;
+  split = f.split;
 }
 
 -- nothing was found yet
 abbrev pub start : State
-start = record { found = record { workers = None; mode = None; budget = None; make = None; stats = false; progress = false; proof = false }; awaits = awaits.Option }
+start = record { found = record { workers = None; mode = None; budget = None; make = None; stats = false; progress = false; proof = false; split = None }; awaits = awaits.Option }

@@ -12,8 +12,8 @@ use Rattle.asp_cli.specs.declared.Options.{Options}
 use Rattle.asp_cli.specs.declared.CliError.{CliError}
 use Rattle.asp_cli.specs.declared.CliError.TheVariants.{Usage, Help, Version}
 use Rattle.asp_cli.specs.declared.WordFault.{WordFault}
-use Rattle.asp_cli.specs.declared.WordFault.TheVariants.{NoWords, Unknown, Unexpected, NotAlone, Twice, Missing, Value}
-use Rattle.asp_cli.specs.Found.{found_with, has, options_of, start}
+use Rattle.asp_cli.specs.declared.WordFault.TheVariants.{NoWords, Unknown, Unexpected, NotAlone, Twice, Missing, Value, Rivals}
+use Rattle.asp_cli.specs.Found.{found_with, has, has_rival, options_of, start}
 use Rattle.asp_cli.specs.Names.{named}
 
 abbrev pub Text : Type 0
@@ -28,6 +28,8 @@ pub data Misuse : Type 0 where
   twice : Name → Misuse
   missing : Name → Misuse
   bad_value : Name → Text → Misuse
+  -- `--split` and `--proof` are both there
+  rivals : Misuse
 
 -- what the words came to, but for the options
 abbrev pub fault_seen : WordFault → Misuse
@@ -38,6 +40,7 @@ fault_seen (NotAlone w) = not_alone w.now
 fault_seen (Twice n) = twice n
 fault_seen (Missing n) = missing n
 fault_seen (Value n v) = bad_value n v.now
+fault_seen Rivals = rivals
 
 abbrev pub seen : {T : Type 0} → Result T WordFault → Result T Misuse
 seen (Ok v) = Ok v
@@ -71,9 +74,9 @@ cut w = if nat_lt (position_or_len (λ b. b == 61) w) (length w)
 
 abbrev pub fresh_by : Found → Text → Option Name → Result Name Misuse
 fresh_by f w None = Err (stray w)
-fresh_by f w (Some n) = if has f n then Err (twice n) else Ok n
+fresh_by f w (Some n) = if has f n then Err (twice n) else (if has_rival f n then Err rivals else Ok n)
 
--- the option of this name, which the word gives for the first time
+-- the option of this name, which the word gives for the first time, and which may stand beside the others
 abbrev pub fresh : Found → Text → Text → Result Name Misuse
 fresh f name w = fresh_by f w (named name)
 

@@ -2,7 +2,7 @@
 use Rattle.std.specs.Prelude.{List, ℕ, Option, Some, None, codes, if◌then◌else◌}
 use Rattle.std.specs.Str.{bytes_eq}
 use Rattle.asp_cli.specs.declared.names.Name.{Name}
-use Rattle.asp_cli.specs.declared.names.Name.TheVariants.{Workers, Mode, Budget, Make, Stats, Progress, Proof}
+use Rattle.asp_cli.specs.declared.names.Name.TheVariants.{Workers, Mode, Budget, Make, Stats, Progress, Proof, Split}
 
 abbrev pub text_of : Name → List ℕ
 text_of Workers = codes "--workers"
@@ -12,6 +12,7 @@ text_of Make = codes "--make"
 text_of Stats = codes "--stats"
 text_of Progress = codes "--progress"
 text_of Proof = codes "--proof"
+text_of Split = codes "--split"
 
 abbrev pub takes_of : Name → List ℕ
 takes_of Workers = codes "a number from 1 to 64"
@@ -21,6 +22,7 @@ takes_of Make = codes "a number from 3 to 2000"
 takes_of Stats = codes "no value"
 takes_of Progress = codes "no value"
 takes_of Proof = codes "no value"
+takes_of Split = codes "a number from 1 to 100000"
 
 -- the option that a text names
 abbrev pub named : List ℕ → Option Name
@@ -30,4 +32,5 @@ named t = if bytes_eq t (codes "--workers") then Some Workers
     else (if bytes_eq t (codes "--make") then Some Make
     else (if bytes_eq t (codes "--stats") then Some Stats
     else (if bytes_eq t (codes "--progress") then Some Progress
-    else (if bytes_eq t (codes "--proof") then Some Proof else None))))))
+    else (if bytes_eq t (codes "--proof") then Some Proof
+    else (if bytes_eq t (codes "--split") then Some Split else None)))))))

@@ -2,7 +2,7 @@
 use Rattle.std.specs.Prelude.{ℕ, List, ◌++◌, codes}
 
 abbrev pub usage_line : List ℕ
-usage_line = codes "usage: aspenum [--workers 1..64] [--mode auto|enum|opt] [--budget N] [--make 3..2000] [--stats] [--progress] [--proof]"
+usage_line = codes "usage: aspenum [--workers 1..64] [--mode auto|enum|opt] [--budget N] [--make 3..2000] [--stats] [--progress] [--proof] [--split 1..100000]"
 
 -- the program's name and version
 abbrev pub version_line : List ℕ
@@ -30,6 +30,8 @@ page_back = codes "\n"
     ++ codes "                 doubled, and for each cheaper answer; none while several threads search\n"
     ++ codes "  --proof        write the proof of a finished run, for aspcheck, in place of its results;\n"
     ++ codes "                 it runs on one thread, whatever --workers says\n"
+    ++ codes "  --split N      divide the program and solve nothing: write at most N lines, 1 to 100000,\n"
+    ++ codes "                 each the assumptions of one part; not beside --proof\n"
     ++ codes "  --help, -h     write this page; the only word\n"
     ++ codes "  --version      write the version; the only word\n"
     ++ codes "\n"
@@ -38,7 +40,7 @@ page_back = codes "\n"
     ++ codes "  20  the program has no answer                    65  the text is refused\n"
     ++ codes "  10  the budget was spent with an answer found    66  reading failed\n"
     ++ codes "   1  the budget was spent without one             67  the text is too long\n"
-    ++ codes "   0  help or the version was written              74  writing failed\n"
+    ++ codes "   0  help, the version or parts were written      74  writing failed\n"
     ++ codes "  33  memory ran out\n"
     ++ codes "\n"
     ++ codes "Example:\n"

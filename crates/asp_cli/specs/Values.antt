@@ -32,6 +32,11 @@ abbrev pub IsRing : Option ℕ → Type 0
 IsRing None = Unit {0}
 IsRing (Some n) = (3 ≤ n) × (n ≤ 2000)
 
+-- there are 1 to 100000 parts, where parts are asked for
+abbrev pub IsPartCount : Option ℕ → Type 0
+IsPartCount None = Unit {0}
+IsPartCount (Some n) = (1 ≤ n) × (n ≤ 100000)
+
 -- 1 to 64 workers search
 abbrev pub IsCrew : ℕ → Type 0
 IsCrew n = (1 ≤ n) × (n ≤ 64)

@@ -1,11 +1,13 @@
 //! The options that were found so far.
 ghost use Rattle.std.specs.Prelude.{◌≡◌, IfSome};
-ghost use Rattle.asp_cli.specs.Found.{found_with, has, options_of};
-ghost use Rattle.asp_cli.specs.Values.{IsCrew, IsRing};
+ghost use Rattle.asp_cli.specs.Found.{found_with, has, has_rival, options_of};
+ghost use Rattle.asp_cli.specs.Values.{IsCrew, IsPartCount, IsRing};
 
 use crate::Options;
 use crate::names::Name;
-use crate::values::{LARGEST_RING, LEAST_RING, MOST_UNITS, MOST_WORKERS, named_mode, number};
+use crate::values::{
+    LARGEST_RING, LEAST_RING, MOST_PARTS, MOST_UNITS, MOST_WORKERS, named_mode, number,
+};
 use asp_model::results::Mode;
 
 /// The options that were given, each with its value.
@@ -25,6 +27,8 @@ pub struct Found {
     pub progress: bool,
     /// Whether the proof was asked for.
     pub proof: bool,
+    /// Into how many parts the program is to be divided.
+    pub split: Option<u32>,
 }
 
 /// Whether the option was given.
@@ -39,6 +43,18 @@ pub fn has(found: &Found, name: Name) -> bool
         Name::Stats => found.stats,
         Name::Progress => found.progress,
         Name::Proof => found.proof,
+        Name::Split => found.split.is_some(),
+    }
+}
+
+/// Whether an option was given that can't stand beside this one.
+pub fn has_rival(found: &Found, name: Name) -> bool
+    ensures { result ≡ has_rival found.now name }
+{
+    match name {
+        Name::Proof => found.split.is_some(),
+        Name::Split => found.proof,
+        _ => false,
     }
 }
 
@@ -47,6 +63,7 @@ pub fn with(found: Found, name: Name, text: &str) -> Option<Found>
     ensures value { result ≡ found_with found name text.now }
     ensures ring { IsRing found.make → IfSome result (λ f. IsRing f.make) }
     ensures crew { IfSome found.workers IsCrew → IfSome result (λ f. IfSome f.workers IsCrew) }
+    ensures parts { IsPartCount found.split → IfSome result (λ f. IsPartCount f.split) }
 {
     match name {
         Name::Workers => {
@@ -78,6 +95,13 @@ pub fn with(found: Found, name: Name, text: &str) -> Option<Found>
             })
         }
         Name::Stats | Name::Progress | Name::Proof => None,
+        Name::Split => {
+            let parts = number(text, 1, MOST_PARTS)?;
+            Some(Found {
+                split: Some(parts as u32),
+                ..found
+            })
+        }
     }
 }
 
@@ -86,6 +110,7 @@ pub fn options(found: &Found) -> Options
     ensures value { result ≡ options_of found.now }
     ensures ring { IsRing found.now.make → IsRing result.make }
     ensures crew { IfSome found.now.workers IsCrew → IsCrew result.workers }
+    ensures parts { IsPartCount found.now.split → IsPartCount result.split }
 {
     Options {
         workers: found.workers.unwrap_or(1),
@@ -95,5 +120,6 @@ pub fn options(found: &Found) -> Options
         stats: found.stats,
         progress: found.progress,
         proof: found.proof,
+        split: found.split,
     }
 }

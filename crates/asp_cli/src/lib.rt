@@ -10,7 +10,7 @@ mod walk;
 ghost use Rattle.std.specs.Prelude.{◌≡◌, IfOk, map, string_bytes};
 ghost use Rattle.asp_cli.specs.Given.{asks_help, asks_version, given_after, given_alone, given_by, given_of, walked, words_give};
 ghost use Rattle.asp_cli.specs.Found.{start};
-ghost use Rattle.asp_cli.specs.Values.{IsCrew, IsRing};
+ghost use Rattle.asp_cli.specs.Values.{IsCrew, IsPartCount, IsRing};
 
 use asp_model::results::Mode;
 pub use names::Name;
@@ -33,6 +33,9 @@ pub struct Options {
     pub progress: bool,
     /// Whether a finished run writes its proof in place of its results.
     pub proof: bool,
+    /// Into how many parts at most the program is divided in place of being solved, if it is: 1 to 100000. A proof isn't
+    /// asked for then.
+    pub split: Option<u32>,
 }
 
 /// The first fault of a command line, from the left.
@@ -52,6 +55,8 @@ pub enum WordFault<'a> {
     Missing(Name),
     /// The option doesn't take this value.
     Value(Name, &'a str),
+    /// The option asks for the parts of a program where its proof is asked for, or the other way round.
+    Rivals,
 }
 
 /// Why the words of a command line give no options.
@@ -83,6 +88,7 @@ fn read<'a>(words: &'a [String]) -> Result<Options, CliError<'a>>
     ensures answers { given_of result ≡ given_by (walked start (map string_bytes words.entry.now)) }
     ensures ring { IfOk result (λ o. IsRing o.make) }
     ensures crew { IfOk result (λ o. IsCrew o.workers) }
+    ensures parts { IfOk result (λ o. IsPartCount o.split) }
 {
     match walk::walk(words) {
         Ok(options) => Ok(options),
@@ -95,6 +101,7 @@ fn alone<'a>(word: &str, words: &'a [String]) -> Result<Options, CliError<'a>>
     ensures answers { given_of result ≡ given_alone word.now (map string_bytes words.entry.now) }
     ensures ring { IfOk result (λ o. IsRing o.make) }
     ensures crew { IfOk result (λ o. IsCrew o.workers) }
+    ensures parts { IfOk result (λ o. IsPartCount o.split) }
 {
     if asks_for_help(word) {
         Err(CliError::Help)
@@ -109,6 +116,7 @@ fn after_name<'a>(words: &'a [String]) -> Result<Options, CliError<'a>>
     ensures answers { given_of result ≡ given_after (map string_bytes words.entry.now) }
     ensures ring { IfOk result (λ o. IsRing o.make) }
     ensures crew { IfOk result (λ o. IsCrew o.workers) }
+    ensures parts { IfOk result (λ o. IsPartCount o.split) }
 {
     match words {
         [] => read(words),
@@ -123,6 +131,7 @@ pub fn words<'a>(words: &'a [String]) -> Result<Options, CliError<'a>>
     ensures answers { given_of result ≡ words_give (map string_bytes words.entry.now) }
     ensures ring { IfOk result (λ o. IsRing o.make) }
     ensures crew { IfOk result (λ o. IsCrew o.workers) }
+    ensures parts { IfOk result (λ o. IsPartCount o.split) }
 {
     match words {
         [] => Err(CliError::Usage(WordFault::NoWords)),

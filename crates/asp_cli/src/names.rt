@@ -12,6 +12,7 @@ pub enum Name {
     Stats,
     Progress,
     Proof,
+    Split,
 }
 
 impl Name {
@@ -27,6 +28,7 @@ impl Name {
             Name::Stats => "--stats",
             Name::Progress => "--progress",
             Name::Proof => "--proof",
+            Name::Split => "--split",
         }
     }
 
@@ -40,6 +42,7 @@ impl Name {
             Name::Budget => "a number up to 9223372036854775807",
             Name::Make => "a number from 3 to 2000",
             Name::Stats | Name::Progress | Name::Proof => "no value",
+            Name::Split => "a number from 1 to 100000",
         }
     }
 }
@@ -62,6 +65,8 @@ pub fn named(word: &str) -> Option<Name>
         Some(Name::Progress)
     } else if word == Name::Proof.text() {
         Some(Name::Proof)
+    } else if word == Name::Split.text() {
+        Some(Name::Split)
     } else {
         None
     }

@@ -4,7 +4,7 @@ ghost use Rattle.asp_cli.specs.Texts.{page_back, page_front, usage_line, version
 
 /// The line that tells how the program is called.
 pub const USAGE: &str =
-    "usage: aspenum [--workers 1..64] [--mode auto|enum|opt] [--budget N] [--make 3..2000] [--stats] [--progress] [--proof]";
+    "usage: aspenum [--workers 1..64] [--mode auto|enum|opt] [--budget N] [--make 3..2000] [--stats] [--progress] [--proof] [--split 1..100000]";
 
 /// The program's name and version.
 pub const VERSION: &str = "aspenum 0.1.0\n";
@@ -28,6 +28,8 @@ Options, each at most once, its value as the next word or behind '=':\n\
 \x20                doubled, and for each cheaper answer; none while several threads search\n\
 \x20 --proof        write the proof of a finished run, for aspcheck, in place of its results;\n\
 \x20                it runs on one thread, whatever --workers says\n\
+\x20 --split N      divide the program and solve nothing: write at most N lines, 1 to 100000,\n\
+\x20                each the assumptions of one part; not beside --proof\n\
 \x20 --help, -h     write this page; the only word\n\
 \x20 --version      write the version; the only word\n\
 \n\
@@ -36,7 +38,7 @@ Exit status:\n\
 \x20 20  the program has no answer                    65  the text is refused\n\
 \x20 10  the budget was spent with an answer found    66  reading failed\n\
 \x20  1  the budget was spent without one             67  the text is too long\n\
-\x20  0  help or the version was written              74  writing failed\n\
+\x20  0  help, the version or parts were written      74  writing failed\n\
 \x20 33  memory ran out\n\
 \n\
 Example:\n\

@@ -12,6 +12,8 @@ pub const MOST_UNITS: u64 = 9223372036854775807;
 pub const LEAST_RING: u64 = 3;
 
 pub const LARGEST_RING: u64 = 2000;
+/// The greatest number of parts.
+pub const MOST_PARTS: u64 = 100000;
 
 /// The mode that the text names; `auto` leaves it to the program.
 pub fn named_mode(text: &str) -> Option<Option<Mode>>

@@ -2,9 +2,9 @@
 ghost use Rattle.std.specs.Prelude.{◌≡◌, IfOk, IfSome, map, option_map, string_bytes};
 ghost use Rattle.asp_cli.specs.Found.{start};
 ghost use Rattle.asp_cli.specs.Given.{after, cut, ended, fault_seen, fresh, looks_like_option, seen, stray, told_alone, told_option, told_value, told_with_value, walked};
-ghost use Rattle.asp_cli.specs.Values.{IsCrew, IsRing};
+ghost use Rattle.asp_cli.specs.Values.{IsCrew, IsPartCount, IsRing};
 
-use crate::found::{Found, has, options, with};
+use crate::found::{Found, has, has_rival, options, with};
 use crate::names::{Name, named};
 use crate::{Options, WordFault, asks_for_help, asks_for_version};
 
@@ -39,6 +39,7 @@ fn start() -> State
         stats: false,
         progress: false,
         proof: false,
+        split: None,
     };
     State {
         found,
@@ -76,7 +77,7 @@ fn cut<'a>(word: &'a str) -> Option<(&'a str, &'a str)>
     word.split_once('=')
 }
 
-// The option of this name, which the word gives for the first time.
+// The option of this name, which the word gives for the first time, and which may stand beside the others.
 fn fresh<'a>(found: &Found, name: &str, word: &'a str) -> Result<Name, WordFault<'a>>
     ensures { seen result ≡ fresh found.now name.now word.entry.now }
 {
@@ -85,6 +86,8 @@ fn fresh<'a>(found: &Found, name: &str, word: &'a str) -> Result<Name, WordFault
         Some(name) => {
             if has(found, name) {
                 Err(WordFault::Twice(name))
+            } else if has_rival(found, name) {
+                Err(WordFault::Rivals)
             } else {
                 Ok(name)
             }
@@ -96,6 +99,7 @@ fn value<'a>(found: Found, name: Name, text: &'a str) -> Result<State, WordFault
     ensures value { seen result ≡ told_value found name text.entry.now }
     ensures ring { IsRing found.make → IfOk result (λ s. IsRing s.found.make) }
     ensures crew { IfSome found.workers IsCrew → IfOk result (λ s. IfSome s.found.workers IsCrew) }
+    ensures parts { IsPartCount found.split → IfOk result (λ s. IsPartCount s.found.split) }
 {
     match with(found, name, text) {
         Some(found) => Ok(State {
@@ -116,6 +120,7 @@ fn with_value<'a>(
     ensures value { seen result ≡ told_with_value found name.now text.entry.now word.entry.now }
     ensures ring { IsRing found.make → IfOk result (λ s. IsRing s.found.make) }
     ensures crew { IfSome found.workers IsCrew → IfOk result (λ s. IfSome s.found.workers IsCrew) }
+    ensures parts { IsPartCount found.split → IfOk result (λ s. IsPartCount s.found.split) }
 {
     match fresh(&found, name, word) {
         Ok(name) => value(found, name, text),
@@ -128,6 +133,7 @@ fn alone<'a>(found: Found, word: &'a str) -> Result<State, WordFault<'a>>
     ensures value { seen result ≡ told_alone found word.entry.now }
     ensures ring { IsRing found.make → IfOk result (λ s. IsRing s.found.make) }
     ensures crew { IfSome found.workers IsCrew → IfOk result (λ s. IfSome s.found.workers IsCrew) }
+    ensures parts { IsPartCount found.split → IfOk result (λ s. IsPartCount s.found.split) }
 {
     match fresh(&found, word, word) {
         Ok(Name::Stats) => Ok(State {
@@ -163,6 +169,7 @@ fn option<'a>(found: Found, word: &'a str) -> Result<State, WordFault<'a>>
     ensures value { seen result ≡ told_option found word.entry.now }
     ensures ring { IsRing found.make → IfOk result (λ s. IsRing s.found.make) }
     ensures crew { IfSome found.workers IsCrew → IfOk result (λ s. IfSome s.found.workers IsCrew) }
+    ensures parts { IsPartCount found.split → IfOk result (λ s. IsPartCount s.found.split) }
 {
     if word == "--" {
         return Ok(State {
@@ -181,6 +188,7 @@ fn after<'a>(state: State, word: &'a str) -> Result<State, WordFault<'a>>
     ensures value { seen result ≡ after state word.entry.now }
     ensures ring { IsRing state.found.make → IfOk result (λ s. IsRing s.found.make) }
     ensures crew { IfSome state.found.workers IsCrew → IfOk result (λ s. IfSome s.found.workers IsCrew) }
+    ensures parts { IsPartCount state.found.split → IfOk result (λ s. IsPartCount s.found.split) }
 {
     match state.awaits {
         Awaits::Option => option(state.found, word),
@@ -193,6 +201,7 @@ fn ended<'a>(state: &State) -> Result<Options, WordFault<'a>>
     ensures value { seen result ≡ ended state.now }
     ensures ring { IsRing state.now.found.make → IfOk result (λ o. IsRing o.make) }
     ensures crew { IfSome state.now.found.workers IsCrew → IfOk result (λ o. IsCrew o.workers) }
+    ensures parts { IsPartCount state.now.found.split → IfOk result (λ o. IsPartCount o.split) }
 {
     match state.awaits {
         Awaits::Value(name) => Err(WordFault::Missing(name)),
@@ -205,6 +214,7 @@ pub fn walk<'a>(words: &'a [String]) -> Result<Options, WordFault<'a>>
     ensures value { seen result ≡ walked start (map string_bytes words.entry.now) }
     ensures ring { IfOk result (λ o. IsRing o.make) }
     ensures crew { IfOk result (λ o. IsCrew o.workers) }
+    ensures parts { IfOk result (λ o. IsPartCount o.split) }
 {
     let mut state = start();
     for word in words {

@@ -77,3 +77,7 @@ assumptions_line (l ∷ ls) = line (assumptions_text (l ∷ ls))
 abbrev pub text_of : Program → List ℕ
 text_of p = codes "asp 1 0 0\n" ++ lines rule_text p.rules ++ lines minimize_text p.minimize ++ lines output_text p.outputs
     ++ lines external_text p.externals ++ assumptions_line p.assumptions ++ codes "0\n"
+
+-- for each cube a statement of these assumptions
+abbrev pub parts_text : List (List ℤ) → List ℕ
+parts_text cubes = lines assumptions_text cubes

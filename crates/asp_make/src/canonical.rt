@@ -1,9 +1,10 @@
 //! The canonical text of a program.
 ghost use Rattle.std.specs.Prelude.{◌≡◌, ◌++◌, IfOk, OnOk};
-ghost use Rattle.asp_make.specs.Texts.{assumptions_line, text_of};
+ghost use Rattle.asp_make.specs.Texts.{assumptions_line, parts_text, text_of};
 
 use crate::written::{write_counted, write_each};
 use asp_model::program::Program;
+use asp_model::seq::Seq;
 use std::alloc::{AllocError, Global};
 
 // One statement of all assumptions, where there is any.
@@ -33,5 +34,14 @@ pub fn emit(alloc: Global, program: &Program) -> Result<Vec<u8>, AllocError>
     write_each(program.externals.as_slice(), &mut out)?;
     write_assumptions(program.assumptions.as_slice(), &mut out)?;
     out.extend_from_slice(b"0\n")?;
+    Ok(out)
+}
+
+/// The text of a program's parts: for each cube a statement of its literals as assumptions, in a line of its own.
+pub fn emit_parts(alloc: Global, cubes: &[Seq<i32>]) -> Result<Vec<u8>, AllocError>
+    ensures { IfOk result (λ text. text.items ≡ parts_text cubes.now) }
+{
+    let mut out = Vec::new(alloc);
+    write_each(cubes, &mut out)?;
     Ok(out)
 }

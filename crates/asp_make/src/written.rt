@@ -1,9 +1,10 @@
 //! Texts of fields and statements, appended one by one.
 ghost use Rattle.std.specs.Prelude.{◌≡◌, ◌++◌, ◌∷◌, List, ℕ, flat_map, OnOk};
 ghost use Rattle.asp_make.specs.Texts.{natural_field, integer_field, weighted_fields, counted_fields, head_fields, body_fields, external_field};
-ghost use Rattle.asp_make.specs.Texts.{line, rule_text, minimize_text, output_text, external_text};
+ghost use Rattle.asp_make.specs.Texts.{assumptions_text, line, rule_text, minimize_text, output_text, external_text};
 
 use asp_model::program::{Body, External, ExternalValue, Head, Minimize, Output, Rule};
+use asp_model::seq::Seq;
 use itoa::{Buffer, Integer};
 use std::alloc::AllocError;
 
@@ -160,6 +161,16 @@ impl Written for External {
         out.extend_from_slice(b"5")?;
         write_number(self.atom, out)?;
         self.value.write(out)?;
+        out.extend_from_slice(b"\n")
+    }
+}
+
+impl Written for Seq<i32> {
+    ghost text = { λ cube. line (assumptions_text cube) };
+
+    fn write(&self, out: &mut Vec<u8>) -> Result<(), AllocError> {
+        out.extend_from_slice(b"6")?;
+        write_counted(self.as_slice(), out)?;
         out.extend_from_slice(b"\n")
     }
 }

@@ -68,7 +68,7 @@ next_given : (number : ℕ) (read : Result Seen Fault) (go_on : Seen → Result 
 next_given number (Ok seen) go_on g h = h seen (g.each seen refl)
 next_given number (Err f) go_on g h = given_none _ _
 
-all_given : (number : ℕ) (seen : Seen) (lines : List (List ℕ)) → AllByRecursion IsOneLine lines → IsGood seen → Given (judge_all number seen lines) IsGood
+pub all_given : (number : ℕ) (seen : Seen) (lines : List (List ℕ)) → AllByRecursion IsOneLine lines → IsGood seen → Given (judge_all number seen lines) IsGood
 unfolding judge_all
 all_given number seen [] each kept = given _ _ kept
 all_given number seen (line ∷ lines) each kept =

@@ -164,7 +164,7 @@ keeps known p s kept new = record {
 subset_from : (U : Atoms) (atoms : List ℕ) → HasEach U atoms → IsSubset (set_of atoms) U
 subset_from U atoms h c there = has_one U atoms c h (sym (has-set_of atoms c) ∙ there)
 
-mentions_kept : (known : Atoms) (p : Program) → AreKept known p → HasEach known (mentions p)
+pub mentions_kept : (known : Atoms) (p : Program) → AreKept known p → HasEach known (mentions p)
 mentions_kept known p kept =
     let K : ℕ → Type 0 = λ a. has known a ≡ true in
     each-append K _ _ (each-append K _ _ (each-append K _ _ (each-append K _ _

@@ -11,6 +11,7 @@ mod WrittenStatements
 mod WrittenLines
 mod Says
 mod WrittenTexts
+mod PartTexts
 mod Shorter
 mod ShorterStatements
 mod ShorterTexts

@@ -73,14 +73,14 @@ put_externals p externals = record p { externals = p.externals ++ externals }
 
 -- ---- a statement
 
-abbrev at : Program → Atoms → Seen
+abbrev pub at : Program → Atoms → Seen
 at p known = record { stage = Within; program = p; known = known }
 
 -- a text leads to a program, and to atoms of the set
-record Reaches (U : Atoms) (seen : Seen) (text : List ℕ) (p : Program) : Type 0 where
-  known : Atoms
-  part : IsPart U known
-  says : Says seen text (at p known)
+pub record Reaches (U : Atoms) (seen : Seen) (text : List ℕ) (p : Program) : Type 0 where
+  pub known : Atoms
+  pub part : IsPart U known
+  pub says : Says seen text (at p known)
 
 goes_on : (s : Statement) → (s ≡ say.End → ⊥) → stage_after s ≡ Within
 goes_on say.End h = absurd (h refl)
@@ -92,7 +92,7 @@ goes_on (say.Assume ls) h = refl
 goes_on say.Comment h = refl
 
 module _ (U : Atoms) (roomy : IsRoomy U) where
-  one_statement : (p : Program) (known : Atoms) (s : Statement) → (s ≡ say.End → ⊥) → StandsIn U s → Fits (adds p s) → IsPart U known → Reaches U (at p known) (line (statement_text s)) (adds p s)
+  pub one_statement : (p : Program) (known : Atoms) (s : Statement) → (s ≡ say.End → ⊥) → StandsIn U s → Fits (adds p s) → IsPart U known → Reaches U (at p known) (line (statement_text s)) (adds p s)
   one_statement p known s more stands fits part =
       let few : program_size p + statement_size s ≤ most_counted = omega (arith, size_grows p s, fits.counted) in
       let plain = statement_plain (program_size p) s stands.0 few in
@@ -208,11 +208,11 @@ readable_kept p is =
 
 -- ---- the outcome
 
-end_reached : (number : ℕ) (p : Program) (known : Atoms) → judge_all number (at p known) (lines_of (codes "0\n")) ≡ Ok (record { stage = Ended; program = p; known = known })
+pub end_reached : (number : ℕ) (p : Program) (known : Atoms) → judge_all number (at p known) (lines_of (codes "0\n")) ≡ Ok (record { stage = Ended; program = p; known = known })
 unfolding judge_all statement_with of_kind
 end_reached number p known = refl
 
-outcome_is : (text : List ℕ) (p : Program) (known : Atoms) → length text ≤ most_bytes → judge_all 1 nothing_seen (lines_of text) ≡ Ok (record { stage = Ended; program = p; known = known }) → outcome text ≡ Ok p
+pub outcome_is : (text : List ℕ) (p : Program) (known : Atoms) → length text ≤ most_bytes → judge_all 1 nothing_seen (lines_of text) ≡ Ok (record { stage = Ended; program = p; known = known }) → outcome text ≡ Ok p
 unfolding outcome_from
 outcome_is text p known few e =
     let fits : nat_le (length text) most_bytes ≡ true = le-leb (length text) most_bytes few in

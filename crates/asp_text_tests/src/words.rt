@@ -41,6 +41,7 @@ fn words_are_taken(rt: HostRuntime) {
         stats: false,
         progress: false,
         proof: false,
+        split: None,
     };
     assert!(rt; gives(&rt, alloc, "aspenum", Ok(standard)));
     let chosen = Options {
@@ -51,6 +52,7 @@ fn words_are_taken(rt: HostRuntime) {
         stats: true,
         progress: false,
         proof: false,
+        split: None,
     };
     let line = "aspenum --make=2000 --stats --mode=enum --budget=7 --workers 1 --";
     assert!(rt; gives(&rt, alloc, line, Ok(chosen)));

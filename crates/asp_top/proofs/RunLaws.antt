@@ -1,6 +1,6 @@
 -- What each status means, from what reading, solving and writing did.
 use Rattle.std.proofs.Common.{◌≡◌, ℕ, ◌≤◌, Bool, true, false, ◌||◌, List, refl, sym, subst, inl, inr, arith}
-use Rattle.std.specs.Prelude.{Option, None, Some, Result, Ok, Err, IfErr, IfOk, IfSome, IsSome, IsErrOf}
+use Rattle.std.specs.Prelude.{Option, None, Some, Result, Ok, Err, IfErr, IfOk, IfSome, IsSome, IsErrOf, is_some}
 use Rattle.std.proofs.KnownBytes.{Keeps-refl}
 use Rattle.std.specs.Io.KnownBytes.{Appends, Keeps, IsAtEnd}
 use Rattle.asp_io.specs.Causes.{Rose}
@@ -12,14 +12,16 @@ use Rattle.asp_model.specs.declared.results.End.TheVariants.{Finished, Unfinishe
 use Rattle.asp_read.specs.Outcome.{outcome, most_bytes}
 use Rattle.asp_read.specs.Stream.{ReadsText, StopsAt}
 use Rattle.asp_make.specs.Ring.{ring}
+use Rattle.asp_make.specs.Texts.{parts_text}
 use Rattle.asp_crew_laws.specs.declared.report.Report.{Report}
 use Rattle.asp_crew_laws.specs.Proofs.{HasProof, HasProofAt}
 use Rattle.asp_top.specs.declared.status.Status.{Status}
-use Rattle.asp_top.specs.declared.status.Status.TheVariants.{All, NoModel, Partial, Unknown, Help, Memory, Usage, Refused, ReadFault, TooLong, WriteFault}
+use Rattle.asp_top.specs.declared.status.Status.TheVariants.{All, NoModel, Partial, Unknown, Help, Memory, Usage, Refused, ReadFault, TooLong, WriteFault, Parts}
 use Rattle.asp_top.specs.declared.status.Outcome.{Outcome}
 use Rattle.asp_top.specs.Meaning.{has_model, status_for}
 use Rattle.asp_top.specs.Notes.{is_answered}
-use Rattle.asp_top.specs.Runs.{Around, DeliveryMeans, IsExact, IsGiven, IsOver, IsReady, IsSaid, IsSolved, Means, Prepares, Runs, Says, Solves, around, is_brief, report_text, status_of}
+use Rattle.asp_top.specs.Parting.{Divides, HandingMeans}
+use Rattle.asp_top.specs.Runs.{Around, DeliveryMeans, Does, DoesBy, IsDivided, IsExact, IsGiven, IsOver, IsReady, IsSaid, IsSolved, Means, Prepares, Runs, Says, Solves, around, is_brief, report_text, status_of}
 use Rattle.asp_cli.specs.declared.Options.{Options}
 
 says-at : (a : Around) (text : List ℕ) (said : Result Program ReadError) → a.left ≡ Some text → Says a said → outcome text ≡ said
@@ -34,13 +36,13 @@ one-error o e f p q = cc
 abbrev Quiet : Around → Status → Type 0
 Quiet a status = IsSome a.left → ¬ (status ≡ ReadFault) → a.reads' ≡ a.reads
 
--- an accepted text says the program that was solved, so no other is said
-solved-exact : (given : Options) (a : Around) (report : Option Report) (status : Status) → IsSolved given a report
+-- an accepted text says the program that is there, so no other is said
+given-exact : (given : Options) (a : Around) (p : Program) (status : Status) → IsGiven given.make a p
     → (¬ Rose a.writes a.writes' → is_answered status ≡ true) → Quiet a status → IsExact given a status
-solved-exact given a report status s done quiet = record {
+given-exact given a program status source done quiet = record {
   accepted = λ text r w. inl (done w);
-  refused = λ reads text fault line is out r. absurd (said given.make reads s.program s.source text is (errors.Refused fault line) out);
-  too_long = λ reads text is out r. absurd (said given.make reads s.program s.source text is errors.TooLong out);
+  refused = λ reads text fault line is out r. absurd (said given.make reads program source text is (errors.Refused fault line) out);
+  too_long = λ reads text is out r. absurd (said given.make reads program source text is errors.TooLong out);
   quiet = quiet;
 }
   where
@@ -49,11 +51,13 @@ solved-exact given a report status s done quiet = record {
     said (Some n) none p from text is e out = absurd cc
 
 exact : (given : Options) (a : Around) (report : Option Report) (status : Status) → Means given a report status → Quiet a status → IsExact given a status
-exact given a report All m quiet = solved-exact given a report All m.solved (λ w. refl) quiet
-exact given a report NoModel m quiet = solved-exact given a report NoModel m.solved (λ w. refl) quiet
-exact given a report Partial m quiet = solved-exact given a report Partial m.solved (λ w. refl) quiet
-exact given a report Unknown m quiet = solved-exact given a report Unknown m.solved (λ w. refl) quiet
-exact given a report WriteFault m quiet = solved-exact given a report WriteFault m.solved (λ w. absurd (w m.cause)) quiet
+exact given a report All m quiet = given-exact given a m.solved.program All m.solved.source (λ w. refl) quiet
+exact given a report NoModel m quiet = given-exact given a m.solved.program NoModel m.solved.source (λ w. refl) quiet
+exact given a report Partial m quiet = given-exact given a m.solved.program Partial m.solved.source (λ w. refl) quiet
+exact given a report Unknown m quiet = given-exact given a m.solved.program Unknown m.solved.source (λ w. refl) quiet
+exact given a report Parts m quiet = given-exact given a m.divided.program Parts m.divided.source (λ w. refl) quiet
+exact given a report WriteFault (inl m) quiet = given-exact given a m.solved.program WriteFault m.solved.source (λ w. absurd (w m.cause)) quiet
+exact given a report WriteFault (inr m) quiet = given-exact given a m.divided.program WriteFault m.divided.source (λ w. absurd (w m.cause)) quiet
 exact given a report Help m quiet = absurd m
 exact given a report Usage m quiet = absurd m
 exact given a report Memory m quiet = record {
@@ -125,15 +129,29 @@ written given a report s Unfinished false e m text = record { solved = s; end_is
 delivered : (given : Options) (a : Around) (s : Status) (report : Option Report) → (solved : IsSolved given a report)
     → DeliveryMeans (is_brief given) solved.program solved.done a.held a.held' a.writes a.writes' s → Means given a report s
 delivered given a s report solved (inl m) = subst (Means given a report) (sym m.0) (written given a report solved solved.done.results.end (has_model solved.done.results) refl refl m.1)
-delivered given a s report solved (inr m) = subst (Means given a report) (sym m.0) (record { solved = solved; text = m.1; cause = m.2 })
+delivered given a s report solved (inr m) = subst (Means given a report) (sym m.0) (inl (record { solved = solved; text = m.1; cause = m.2 }))
 
-runs-solved : (given : Options) (a : Around) (p : Program) (o : Outcome) → IsGiven given.make a p → a.reads ≤ a.reads' → (IsSome a.left → a.reads' ≡ a.reads)
+-- the text of parts was written, or cut off
+handed : (given : Options) (a : Around) (s : Status) (report : Option Report) → (divided : IsDivided given a report)
+    → HandingMeans (parts_text divided.cubes) a.held a.held' a.writes a.writes' s → Means given a report s
+handed given a s report divided (inl m) = subst (Means given a report) (sym m.0) (record { divided = divided; text = m.1 })
+handed given a s report divided (inr m) = subst (Means given a report) (sym m.0) (inr (record { divided = divided; text = m.1; cause = m.2 }))
+
+runs-solved : (given : Options) (a : Around) (p : Program) (o : Outcome) → given.split ≡ None → IsGiven given.make a p → a.reads ≤ a.reads' → (IsSome a.left → a.reads' ≡ a.reads)
     → Solves given p a.held a.held' a.writes a.writes' o → Runs given a o
-runs-solved given a p o from reads quiet (inl m) = subst (Runs given a) (sym m.0) (runs-memory given a m.1 reads (omega (arith, m.2)) quiet)
-runs-solved given a p o from reads quiet (inr s) =
-    let solved : IsSolved given a o.report = record { program = p; source = from; done = s.0; reports = s.2.reports; is = s.1.0; proof = s.1.1 } in
+runs-solved given a p o whole from reads quiet (inl m) = subst (Runs given a) (sym m.0) (runs-memory given a m.1 reads (omega (arith, m.2)) quiet)
+runs-solved given a p o whole from reads quiet (inr s) =
+    let solved : IsSolved given a o.report = record { program = p; source = from; whole = whole; done = s.0; reports = s.2.reports; is = s.1.0; proof = s.1.1 } in
     let means = delivered given a o.status o.report solved s.2.means in
     record { means = means; exact = exact given a o.report o.status means (λ told isn't. quiet told); later = (reads, s.2.later) }
+
+runs-divided : (given : Options) (a : Around) (p : Program) (most : ℕ) (o : Outcome) → given.split ≡ Some most → IsGiven given.make a p → a.reads ≤ a.reads' → (IsSome a.left → a.reads' ≡ a.reads)
+    → Divides p most a.held a.held' a.writes a.writes' o → Runs given a o
+runs-divided given a p most o asked from reads quiet (inl m) = subst (Runs given a) (sym m.0) (runs-memory given a m.1 reads (omega (arith, m.2)) quiet)
+runs-divided given a p most o asked from reads quiet (inr d) =
+    let divided : IsDivided given a o.report = record { program = p; source = from; most = most; asked = asked; cubes = d.1.cubes; parts = d.1.parts; none = d.2.none } in
+    let means = handed given a o.status o.report divided (subst (λ (t : List ℕ). HandingMeans t a.held a.held' a.writes a.writes' o.status) d.1.is d.2.means) in
+    record { means = means; exact = exact given a o.report o.status means (λ told isn't. quiet told); later = (reads, d.2.later) }
 
 -- the program of a text is there
 pub ready-read : (given : Options) (l l' : Option (List ℕ)) (r r' : ℕ) (p : Program) → given.make ≡ None → IfSome l (λ text. outcome text ≡ Ok p) → IsSaid (Ok p) → IsAtEnd l' → r ≤ r' → (IsSome l → r' ≡ r)
@@ -178,9 +196,23 @@ prepares given l l' r r' p (Ok q) ready same wanting = subst (IsReady given l l'
 prepares given l l' r r' p (Err status) ready same wanting = over-memory given l l' r r' status wanting ready.later ready.quiet
 
 -- it is solved
-pub runs-ready : (given : Options) (l l' : Option (List ℕ)) (r r' : ℕ) (h h' : Option (List ℕ)) (w w' : ℕ) (p : Program) (o : Outcome) → IsReady given l l' r r' p → Solves given p h h' w w' o
+pub runs-ready : (given : Options) (l l' : Option (List ℕ)) (r r' : ℕ) (h h' : Option (List ℕ)) (w w' : ℕ) (p : Program) (o : Outcome) → given.split ≡ None → IsReady given l l' r r' p → Solves given p h h' w w' o
     → Runs given (around l l' r r' h h' w w') o
-runs-ready given l l' r r' h h' w w' p o ready solves = runs-solved given (around l l' r r' h h' w w') p o (ready.source h h' w w') ready.later ready.quiet solves
+runs-ready given l l' r r' h h' w w' p o whole ready solves = runs-solved given (around l l' r r' h h' w w') p o whole (ready.source h h' w w') ready.later ready.quiet solves
+
+-- it is divided
+runs-parted : (given : Options) (l l' : Option (List ℕ)) (r r' : ℕ) (h h' : Option (List ℕ)) (w w' : ℕ) (p : Program) (most : ℕ) (o : Outcome) → given.split ≡ Some most → IsReady given l l' r r' p
+    → Divides p most h h' w w' o → Runs given (around l l' r r' h h' w w') o
+runs-parted given l l' r r' h h' w w' p most o asked ready divides = runs-divided given (around l l' r r' h h' w w') p most o asked (ready.source h h' w w') ready.later ready.quiet divides
+
+-- it is divided or solved, as was asked
+pub runs-done : (given : Options) (l l' : Option (List ℕ)) (r r' : ℕ) (h h' : Option (List ℕ)) (w w' : ℕ) (p : Program) (o : Outcome) → IsReady given l l' r r' p → Does given p h h' w w' o
+    → Runs given (around l l' r r' h h' w w') o
+runs-done given l l' r r' h h' w w' p o ready done = go given.split refl done
+  where
+    go : (m : Option ℕ) → given.split ≡ m → DoesBy m given p h h' w w' o → Runs given (around l l' r r' h h' w w') o
+    go None asked d = runs-ready given l l' r r' h h' w w' p o asked ready d
+    go (Some most) asked d = runs-parted given l l' r r' h h' w w' p most o asked ready d
 
 unproved : (r : Report) → r.proof ≡ None → HasProof false r
 unproved r none = at r.results.end
@@ -197,6 +229,14 @@ none-asked asked (Err e) is none = tt
 pub second-false : (a b : Bool) → (a || b) ≡ false → b ≡ false
 second-false true b e = absurd cc
 second-false false b e = e
+
+pub first-false : (a b : Bool) → (a || b) ≡ false → a ≡ false
+first-false true b e = absurd cc
+first-false false b e = refl
+
+pub unsplit : (o : Option ℕ) → is_some o ≡ false → o ≡ None
+unsplit None e = refl
+unsplit (Some n) e = absurd cc
 
 pub ok-no-fault : (p : Program) (e : ReadError) → ¬ IsErrOf (Ok p) e
 ok-no-fault p e is = cc

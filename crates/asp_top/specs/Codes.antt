@@ -1,7 +1,7 @@
 -- The exit statuses.
 use Rattle.std.specs.Prelude.{ℕ}
 use Rattle.asp_top.specs.declared.status.Status.{Status}
-use Rattle.asp_top.specs.declared.status.Status.TheVariants.{All, NoModel, Partial, Unknown, Help, Memory, Usage, Refused, ReadFault, TooLong, WriteFault}
+use Rattle.asp_top.specs.declared.status.Status.TheVariants.{All, NoModel, Partial, Unknown, Help, Memory, Usage, Refused, ReadFault, TooLong, WriteFault, Parts}
 
 abbrev pub code_of : Status → ℕ
 code_of All = 30
@@ -15,3 +15,4 @@ code_of (Refused fault line) = 65
 code_of ReadFault = 66
 code_of TooLong = 67
 code_of WriteFault = 74
+code_of Parts = 0

@@ -5,6 +5,7 @@ pub mod Notes
 pub mod Progress
 pub mod Telling
 pub mod Meaning
+pub mod Parting
 pub mod Runs
 pub mod Words
 pub mod Faults

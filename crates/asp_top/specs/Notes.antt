@@ -11,9 +11,9 @@ use Rattle.asp_top.specs.declared.counts.Item.{Item}
 use Rattle.asp_top.specs.Counts.{item_text, program_items, report_items, search_items}
 use Rattle.asp_top.specs.Usage.{usage_text}
 use Rattle.asp_top.specs.Faults.{fault_text}
-use Rattle.asp_top.specs.declared.status.Status.TheVariants.{All, NoModel, Partial, Unknown, Help, Memory, Usage, Refused, ReadFault, TooLong, WriteFault}
+use Rattle.asp_top.specs.declared.status.Status.TheVariants.{All, NoModel, Partial, Unknown, Help, Memory, Usage, Refused, ReadFault, TooLong, WriteFault, Parts}
 
--- the lines for a status; none where results, help or the version were asked for and written. Usage is here the status of
+-- the lines for a status; none where results, parts, help or the version were asked for and written. Usage is here the status of
 -- words that can't be had
 abbrev pub note_of : Status → List ℕ
 note_of All = []
@@ -27,6 +27,7 @@ note_of (Refused f line) = codes "aspenum: line " ++ decimal line ++ fault_text 
 note_of ReadFault = codes "aspenum: read failed\n"
 note_of TooLong = codes "aspenum: input too long\n"
 note_of WriteFault = codes "aspenum: write failed\n"
+note_of Parts = []
 
 -- numbers with their names, one behind the other
 abbrev pub items_text : List Item → List ℕ
@@ -40,12 +41,13 @@ abbrev pub counts_of : Tally → Option Report → List ℕ
 counts_of t None = []
 counts_of t (Some r) = stats_of t r
 
--- whether results were written
+-- whether results or parts were written
 abbrev pub is_answered : Status → Bool
 is_answered All = true
 is_answered NoModel = true
 is_answered Partial = true
 is_answered Unknown = true
+is_answered Parts = true
 is_answered _ = false
 
 -- the counts, where they are asked for and results were written

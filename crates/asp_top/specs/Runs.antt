@@ -1,5 +1,5 @@
 -- What each status of a run says of the words, of the bytes read and of the bytes written.
-use Rattle.std.specs.Prelude.{◌≡◌, ◌⊎◌, ℕ, ◌≤◌, ◌==◌, Bool, true, false, ◌&&◌, ◌||◌, List, Option, None, Some, Result, Ok, Err, IfSome, IsSome, is_some, length}
+use Rattle.std.specs.Prelude.{◌≡◌, ◌⊎◌, ℕ, ◌≤◌, ◌==◌, Bool, true, false, ◌&&◌, ◌||◌, List, Option, None, Some, Result, Ok, Err, IfSome, IsSome, is_some, length, ℤ}
 use Rattle.std.specs.Io.KnownBytes.{Appends, Keeps, IsAtEnd}
 use Rattle.asp_io.specs.Causes.{Rose, AppendsFront}
 use Rattle.asp_read.specs.declared.fault.Fault.{Fault}
@@ -15,6 +15,7 @@ use Rattle.asp_proof.specs.Texts.{text_of}
 use Rattle.asp_read.specs.Outcome.{outcome, most_bytes}
 use Rattle.asp_read.specs.Stream.{StopsAt}
 use Rattle.asp_make.specs.Ring.{ring}
+use Rattle.asp_make.specs.Texts.{parts_text}
 use Rattle.asp_cli.specs.Given.{Given, help, misuse, options, version}
 use Rattle.asp_cli.specs.declared.Options.{Options}
 use Rattle.asp_cli.specs.Texts.{help_page, version_line}
@@ -24,11 +25,12 @@ use Rattle.asp_crew_laws.specs.declared.report.Report.{Report}
 use Rattle.asp_crew_laws.specs.Reports.{IsReport}
 use Rattle.asp_crew_laws.specs.Proofs.{HasProof}
 use Rattle.asp_top.specs.declared.status.Status.{Status}
-use Rattle.asp_top.specs.declared.status.Status.TheVariants.{All, NoModel, Partial, Unknown, Help, Memory, Usage, Refused, ReadFault, TooLong, WriteFault}
+use Rattle.asp_top.specs.declared.status.Status.TheVariants.{All, NoModel, Partial, Unknown, Help, Memory, Usage, Refused, ReadFault, TooLong, WriteFault, Parts}
 use Rattle.asp_top.specs.declared.status.Outcome.{Outcome}
 use Rattle.asp_top.specs.declared.counts.Tally.{Tally}
 use Rattle.asp_top.specs.Meaning.{has_model, mode_of, status_for}
 use Rattle.asp_top.specs.Notes.{IsNoted, is_answered, note_of, notes_of}
+use Rattle.asp_top.specs.Parting.{AreParts, Divides}
 use Rattle.asp_top.specs.Progress.{IsTold}
 use Rattle.asp_top.specs.Usage.{misuse_note}
 
@@ -79,10 +81,12 @@ text_by None p r brief = results_text p r brief
 abbrev pub report_text : Program → Report → Bool → List ℕ
 report_text p r brief = text_by r.proof p r.results brief
 
--- the report is that of a run on the program, in the mode and with the units that were given, and has a proof if that was asked for
+-- no parts are asked for; the report is that of a run on the program, in the mode and with the units that were given, and has a
+-- proof if that was asked for
 pub record IsSolved (given : Options) (a : Around) (report : Option Report) : Type 0 where
   pub program : Program
   pub source : IsGiven given.make a program
+  pub whole : given.split ≡ None
   pub done : Report
   pub reports : report ≡ Some done
   pub is : IsReport program (mode_of given.mode program) given.budget done
@@ -103,6 +107,27 @@ pub record IsWritten (given : Options) (a : Around) (report : Option Report) (en
 pub record IsCutOff (given : Options) (a : Around) (report : Option Report) : Type 0 where
   pub solved : IsSolved given a report
   pub text : AppendsFront a.held a.held' (report_text solved.program solved.done (is_brief given))
+  pub cause : Rose a.writes a.writes'
+
+-- the program was divided into parts as was asked, and not solved
+pub record IsDivided (given : Options) (a : Around) (report : Option Report) : Type 0 where
+  pub program : Program
+  pub source : IsGiven given.make a program
+  pub most : ℕ
+  pub asked : given.split ≡ Some most
+  pub cubes : List (List ℤ)
+  pub parts : AreParts program most cubes
+  pub none : report ≡ None
+
+-- exactly the lines of the parts were written
+pub record IsParted (given : Options) (a : Around) (report : Option Report) : Type 0 where
+  pub divided : IsDivided given a report
+  pub text : Appends a.held a.held' (parts_text divided.cubes)
+
+-- a front of them was written, and a fault counted
+pub record ArePartsCutOff (given : Options) (a : Around) (report : Option Report) : Type 0 where
+  pub divided : IsDivided given a report
+  pub text : AppendsFront a.held a.held' (parts_text divided.cubes)
   pub cause : Rose a.writes a.writes'
 
 -- nothing was solved and nothing written
@@ -146,7 +171,8 @@ Means given a report Usage = ⊥
 Means given a report (Refused fault line) = Reads given × IsRefused a report (errors.Refused fault line)
 Means given a report ReadFault = Reads given × IsUnread a report
 Means given a report TooLong = Reads given × IsRefused a report errors.TooLong
-Means given a report WriteFault = IsCutOff given a report
+Means given a report WriteFault = IsCutOff given a report ⊎ ArePartsCutOff given a report
+Means given a report Parts = IsParted given a report
 
 -- an accepted text, where one is read
 abbrev pub IsAccepted : Options → Around → Type 0
@@ -154,7 +180,7 @@ IsAccepted given a = Reads given → (text : List ℕ) × (p : Program) × (a.le
 
 -- which status comes, but for want of memory
 pub record IsExact (given : Options) (a : Around) (status : Status) : Type 0 where
-  -- an accepted text, or a ring, where neither count rose, is answered
+  -- an accepted text, or a ring, where neither count rose, is answered, or divided where parts are asked for
   pub accepted : IsAccepted given a → ¬ Rose a.reads a.reads' → ¬ Rose a.writes a.writes' → (is_answered status ≡ true) ⊎ (status ≡ Memory)
   -- a faulty text, where the source's count didn't rise, is refused
   pub refused : Reads given → (text : List ℕ) (fault : Fault) (line : ℕ) → a.left ≡ Some text → outcome text ≡ Err (errors.Refused fault line) → ¬ Rose a.reads a.reads' → (status ≡ Refused fault line) ⊎ (status ≡ Memory)
@@ -184,6 +210,14 @@ abbrev pub Solves : Options → Program → Option (List ℕ) → Option (List �
 Solves given p held held' writes writes' o =
     ((o ≡ record { status = Memory; report = None }) × Keeps held held' × (writes' ≡ writes))
     ⊎ ((r : Report) × (IsReport p (mode_of given.mode p) given.budget r × HasProof given.proof r) × Delivers (is_brief given) p r held held' writes writes' o)
+
+-- The program was divided where parts are asked for, and else solved.
+abbrev pub DoesBy : Option ℕ → Options → Program → Option (List ℕ) → Option (List ℕ) → ℕ → ℕ → Outcome → Type 0
+DoesBy None given p held held' writes writes' o = Solves given p held held' writes writes' o
+DoesBy (Some most) given p held held' writes writes' o = Divides p most held held' writes writes' o
+
+abbrev pub Does : Options → Program → Option (List ℕ) → Option (List ℕ) → ℕ → ℕ → Outcome → Type 0
+Does given p held held' writes writes' o = DoesBy given.split given p held held' writes writes' o
 
 -- a run after the words
 pub record Runs (given : Options) (a : Around) (o : Outcome) : Type 0 where
@@ -233,9 +267,9 @@ RunsOn version a o = Helps version_line a o
 RunsOn (misuse m) a o = Misuses a o
 RunsOn (options given) a o = Runs given a o
 
--- One search does it all: with one worker, and where a proof is asked for.
+-- No workers are started: one search does it all with one worker and where a proof is asked for, and none where parts are.
 abbrev pub is_alone : Options → Bool
-is_alone given = (given.workers == 1) || given.proof
+is_alone given = ((given.workers == 1) || given.proof) || is_some given.split
 
 -- the atoms of the report's program, and the different bodies of its rules in force; and what a search did exactly where one did it all
 pub record IsCounted (alone : Bool) (t : Tally) (r : Report) : Type 0 where

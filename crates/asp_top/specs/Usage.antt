@@ -1,6 +1,6 @@
 -- What the notes say of a faulty command line.
 use Rattle.std.specs.Prelude.{ℕ, List, ◌++◌, codes}
-use Rattle.asp_cli.specs.Given.{Misuse, bad_value, missing, no_words, not_alone, twice, unexpected, unknown}
+use Rattle.asp_cli.specs.Given.{Misuse, bad_value, missing, no_words, not_alone, rivals, twice, unexpected, unknown}
 use Rattle.asp_cli.specs.Names.{takes_of, text_of}
 use Rattle.asp_cli.specs.Texts.{usage_line}
 
@@ -11,6 +11,7 @@ misuse_text (unexpected w) = codes "unexpected word " ++ w ++ codes " (the progr
 misuse_text (not_alone w) = w ++ codes " has to stand alone"
 misuse_text (twice n) = text_of n ++ codes " is given twice"
 misuse_text (missing n) = codes "a value is missing behind " ++ text_of n
+misuse_text rivals = codes "--split and --proof exclude each other"
 misuse_text (bad_value n v) = text_of n ++ codes " takes " ++ takes_of n ++ (codes ", not " ++ v)
 
 -- the end of a fault's line, and the usage line

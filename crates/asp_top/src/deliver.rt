@@ -15,7 +15,7 @@ use asp_print::print;
 use asp_proof::proof::Proof;
 use asp_proof::write_proof;
 
-/// The outcome of a run that solved nothing.
+/// The outcome of a run without a report.
 pub fn failed(status: Status) -> Outcome
     ensures { result ≡ record { status = status; report = None } }
 {

@@ -64,9 +64,12 @@ fn write_note<N: Sink>(notes: &mut N, status: Status) -> Result<(), Failed>
         result (note_of status) }
 {
     match status {
-        Status::All | Status::NoModel | Status::Partial | Status::Unknown | Status::Help => write(
-            notes, b"",
-        ),
+        Status::All
+        | Status::NoModel
+        | Status::Partial
+        | Status::Unknown
+        | Status::Help
+        | Status::Parts => write(notes, b""),
         Status::Memory => write(notes, b"aspenum: out of memory\n"),
         Status::Usage => write_not_text(notes),
         Status::Refused(fault, line) => write_refused(notes, fault, line),
@@ -76,12 +79,12 @@ fn write_note<N: Sink>(notes: &mut N, status: Status) -> Result<(), Failed>
     }
 }
 
-// Whether results were written.
+// Whether results or parts were written.
 fn is_answered(status: Status) -> bool
     ensures { result ≡ is_answered status }
 {
     match status {
-        Status::All | Status::NoModel | Status::Partial | Status::Unknown => true,
+        Status::All | Status::NoModel | Status::Partial | Status::Unknown | Status::Parts => true,
         _ => false,
     }
 }

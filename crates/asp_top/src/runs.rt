@@ -2,14 +2,15 @@
 ghost use Rattle.std.specs.Prelude.{◌≡◌, None, IfSome, false, true, map, string_bytes};
 ghost use Rattle.asp_cli.specs.Given.{fault_seen, words_give};
 ghost use Rattle.asp_cli.specs.Texts.{help_page, version_line};
-ghost use Rattle.asp_cli.specs.Values.{IsCrew, IsRing};
+ghost use Rattle.asp_cli.specs.Values.{IsCrew, IsPartCount, IsRing};
 ghost use Rattle.asp_top.specs.Notes.{IsNoted, Writes, note_of};
 ghost use Rattle.asp_top.specs.Usage.{misuse_note};
-ghost use Rattle.asp_top.specs.Runs.{IsCounted, NotesOn, NotesRun, Runs, RunsOn, TellsFaults, TextMeans, around, is_alone};
+ghost use Rattle.asp_top.specs.Runs.{Does, IsCounted, NotesOn, NotesRun, Runs, RunsOn, TellsFaults, TextMeans, around, is_alone};
 
 use crate::counts::Tally;
 use crate::deliver::failed;
 use crate::notes::{note, note_status, write};
+use crate::parts::divide;
 use crate::prepare::prepare;
 use crate::progress::Progress;
 use crate::search::{solve, solve_by_crew};
@@ -19,6 +20,7 @@ use asp_cli::{CliError, Options, WordFault, page_back, page_front, usage, versio
 use asp_crew::watch::Watch;
 use asp_io::{Failed, Sink, Source};
 use asp_team::gate::Gate;
+use asp_vars::compiled::Compiled;
 use std::alloc::Global;
 use std::sync::Wait;
 use std::thread::Threads;
@@ -55,7 +57,28 @@ fn write_version<K: Sink>(sink: &mut K) -> Result<(), Failed>
     sink.flush()
 }
 
-// The outcome of a run after the words, whose program one search solves.
+// Divides the program where parts are asked for, and else solves it by one search.
+fn divide_or_solve<K: Sink, W: Watch>(
+    alloc: Global,
+    options: &Options,
+    compiled: &Compiled,
+    sink: &mut K,
+    tally: &mut Tally,
+    watch: &mut W,
+) -> Outcome
+    requires { IsPartCount options.now.split }
+    ensures does { Does options.now compiled.now (K.held sink.old) (K.held sink.new) (K.faults sink.old) (K.faults sink.new) result }
+    ensures flushed { TellsFaults (K.held sink.old) (K.faults sink.old) (K.faults sink.new) result.status }
+    ensures counted { IfSome result.report (IsCounted true tally.new) }
+    ensures heard { W.IsAfter watch.old watch.new }
+{
+    match options.split {
+        None => solve(alloc, options, compiled, sink, tally, watch),
+        Some(most) => divide(alloc, compiled, most, sink),
+    }
+}
+
+// The outcome of a run after the words, whose program is divided, or solved by one search.
 fn outcome_alone<S: Source, K: Sink, W: Watch>(
     alloc: Global,
     options: &Options,
@@ -64,7 +87,8 @@ fn outcome_alone<S: Source, K: Sink, W: Watch>(
     tally: &mut Tally,
     watch: &mut W,
 ) -> Outcome
-    requires { IsRing options.now.make }
+    requires ring { IsRing options.now.make }
+    requires parts { IsPartCount options.now.split }
     ensures runs { Runs options.now (around (S.left source.old) (S.left source.new) (S.faults source.old) (S.faults source.new)
         (K.held sink.old) (K.held sink.new) (K.faults sink.old) (K.faults sink.new)) result }
     ensures flushed { TellsFaults (K.held sink.old) (K.faults sink.old) (K.faults sink.new) result.status }
@@ -72,7 +96,7 @@ fn outcome_alone<S: Source, K: Sink, W: Watch>(
     ensures heard { W.IsAfter watch.old watch.new }
 {
     match prepare(alloc, options, source) {
-        Ok(compiled) => solve(alloc, options, &compiled, sink, tally, watch),
+        Ok(compiled) => divide_or_solve(alloc, options, &compiled, sink, tally, watch),
         Err(status) => failed(status),
     }
 }
@@ -90,6 +114,7 @@ fn outcome_by_crew<R: Threads + Wait + Sync, S: Source, K: Sink, G: Gate + Sync>
     requires ring { IsRing options.now.make }
     requires crew { IsCrew options.now.workers }
     requires proof { options.now.proof ≡ false }
+    requires whole { options.now.split ≡ None }
     ensures runs { Runs options.now (around (S.left source.old) (S.left source.new) (S.faults source.old) (S.faults source.new)
         (K.held sink.old) (K.held sink.new) (K.faults sink.old) (K.faults sink.new)) result }
     ensures flushed { TellsFaults (K.held sink.old) (K.faults sink.old) (K.faults sink.new) result.status }
@@ -102,7 +127,8 @@ fn outcome_by_crew<R: Threads + Wait + Sync, S: Source, K: Sink, G: Gate + Sync>
 }
 
 /// A run after the words. It reads a program from the source, or makes a ring, solves it with one search, writes the text
-/// of its results to the sink, or of the proof that was asked for, and flushes it. The notes get a line for each status
+/// of its results to the sink, or of the proof that was asked for, and flushes it; where parts are asked for, it divides the
+/// program and writes these. The notes get a line for each status
 /// that isn't one of results, and the counts where they are asked for; before them lines while the run goes on, where they
 /// are.
 pub fn run_alone<S: Source, K: Sink, N: Sink>(
@@ -112,7 +138,8 @@ pub fn run_alone<S: Source, K: Sink, N: Sink>(
     sink: &mut K,
     notes: &mut N,
 ) -> Outcome
-    requires { IsRing options.now.make }
+    requires ring { IsRing options.now.make }
+    requires parts { IsPartCount options.now.split }
     ensures runs { Runs options.now (around (S.left source.old) (S.left source.new) (S.faults source.old) (S.faults source.new)
         (K.held sink.old) (K.held sink.new) (K.faults sink.old) (K.faults sink.new)) result }
     ensures flushed { TellsFaults (K.held sink.old) (K.faults sink.old) (K.faults sink.new) result.status }
@@ -138,6 +165,7 @@ fn run_by_crew<R: Threads + Wait + Sync, S: Source, K: Sink, N: Sink, G: Gate + 
     requires ring { IsRing options.now.make }
     requires crew { IsCrew options.now.workers }
     requires proof { options.now.proof ≡ false }
+    requires whole { options.now.split ≡ None }
     ensures runs { Runs options.now (around (S.left source.old) (S.left source.new) (S.faults source.old) (S.faults source.new)
         (K.held sink.old) (K.held sink.new) (K.faults sink.old) (K.faults sink.new)) result }
     ensures flushed { TellsFaults (K.held sink.old) (K.faults sink.old) (K.faults sink.new) result.status }
@@ -149,12 +177,12 @@ fn run_by_crew<R: Threads + Wait + Sync, S: Source, K: Sink, N: Sink, G: Gate + 
     outcome
 }
 
-// Whether one search does all of it: with one worker, and where a proof is asked for, since a search writes down only its
-// own.
+// Whether no workers are started: with one worker, where a proof is asked for, since a search writes down only its own, and
+// where nothing is solved.
 fn is_alone(options: &Options) -> bool
     ensures { result ≡ is_alone options.now }
 {
-    options.workers == 1 || options.proof
+    options.workers == 1 || options.proof || options.split.is_some()
 }
 
 // A run after the words, with as many workers as are asked for. One search starts no thread.
@@ -169,6 +197,7 @@ fn run_given<R: Threads + Wait + Sync, S: Source, K: Sink, N: Sink, G: Gate + Sy
 ) -> Outcome
     requires ring { IsRing options.now.make }
     requires crew { IsCrew options.now.workers }
+    requires parts { IsPartCount options.now.split }
     ensures runs { Runs options.now (around (S.left source.old) (S.left source.new) (S.faults source.old) (S.faults source.new)
         (K.held sink.old) (K.held sink.new) (K.faults sink.old) (K.faults sink.new)) result }
     ensures flushed { TellsFaults (K.held sink.old) (K.faults sink.old) (K.faults sink.new) result.status }

@@ -30,6 +30,8 @@ pub enum Status {
     TooLong,
     /// The sink failed. A front of what was to be written is out.
     WriteFault,
+    /// The program's parts were asked for and written.
+    Parts,
 }
 
 impl Status {
@@ -49,6 +51,7 @@ impl Status {
             Status::ReadFault => 66,
             Status::TooLong => 67,
             Status::WriteFault => 74,
+            Status::Parts => 0,
         }
     }
 }

@@ -65,6 +65,7 @@ fn write_fault<N: Sink>(notes: &mut N, fault: &WordFault<'_>) -> Result<(), Fail
             name.text().as_bytes(),
         ),
         WordFault::Value(name, value) => write_value(notes, *name, value),
+        WordFault::Rivals => write(notes, b"--split and --proof exclude each other"),
     }
 }
 

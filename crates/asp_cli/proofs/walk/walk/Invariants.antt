@@ -2,7 +2,7 @@ use Rattle.std.proofs.Common.{◌≡◌, drop, map}
 use Rattle.std.specs.Prelude.{IfSome, string_bytes}
 use Rattle.asp_cli.specs.Found.{start}
 use Rattle.asp_cli.specs.Given.{walked}
-use Rattle.asp_cli.specs.Values.{IsCrew, IsRing}
+use Rattle.asp_cli.specs.Values.{IsCrew, IsPartCount, IsRing}
 use Rattle.asp_cli.proofs.walk.walk.Given as goal
 
 abbrev pub invariant-loop-word : goal.invariant-loop-word
@@ -10,4 +10,5 @@ invariant-loop-word l = record {
   same : walked l.state (map string_bytes (drop l.word-index l.words)) ≡ walked start (map string_bytes l.words);
   ring : IsRing l.state.found.make;
   crew : IfSome l.state.found.workers IsCrew;
+  parts : IsPartCount l.state.found.split;
 }

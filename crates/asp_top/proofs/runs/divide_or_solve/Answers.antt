@@ -1,0 +1,18 @@
+use Rattle.std.proofs.Common.{◌≡◌, ℕ, List, Option, None, ap, inl, inr}
+use Rattle.asp_model.specs.declared.program.Program.{Program}
+use Rattle.asp_top.specs.declared.status.Outcome.{Outcome}
+use Rattle.asp_top.specs.Parting.{Divides}
+use Rattle.asp_top.proofs.runs.divide_or_solve.Goals as goal
+
+reports_nothing : (p : Program) (most : ℕ) (h h' : Option (List ℕ)) (w w' : ℕ) (o : Outcome) → Divides p most h h' w w' o → o.report ≡ None
+reports_nothing p most h h' w w' o (inl m) = ap (λ (x : Outcome). x.report) m.0
+reports_nothing p most h h' w w' o (inr d) = d.2.none
+
+pub returns-in-None-clause-does : goal.returns-in-None-clause-does
+returns-in-None-clause-does g c = rw c.in-None.is c.solve.ensures.solves
+
+pub returns-in-Some-clause-does : goal.returns-in-Some-clause-does
+returns-in-Some-clause-does g c = rw c.in-Some.is c.divide.ensures.divides
+
+pub returns-in-Some-clause-counted : goal.returns-in-Some-clause-counted
+returns-in-Some-clause-counted g c = rw (reports_nothing _ _ _ _ _ _ _ c.divide.ensures.divides) tt
