@@ -1,5 +1,5 @@
 -- Values that follow one after another, as hints lead.
-use Rattle.std.proofs.Common.{◌≡◌, ◌≢◌, ℕ, ◌+◌, ◌<◌, Bool, true, false, not, ◌||◌, eqb, List, [], ◌∷◌, ◌++◌, length, take, get_or, get_or-set_other, refl, sym, ap, ◌∙◌, subst, Option, Some, None, set, replicate}
+use Rattle.std.proofs.Common.{◌≡◌, ◌≢◌, ℕ, zero, suc, ◌+◌, ◌<◌, ◌≤◌, Bool, true, false, not, ◌||◌, eqb, List, [], ◌∷◌, ◌++◌, length, take, get_or, get_or-set_same, get_or-set_other, refl, sym, ap, ◌∙◌, subst, arith, Option, Some, None, set, replicate}
 use Rattle.std.specs.Prelude.{ℤ}
 use Rattle.std.specs.List.{list_all, list_any, AllByRecursion}
 use Rattle.std.proofs.lemmas.Bool.{false≢true, or_parts, eqb-true, eq-eqb}
@@ -66,6 +66,9 @@ root_then p k x y h e = record { size = e.size ∙ h.size; follow = e.follow [] 
 pub root_follows : (p : Program) (k : Known) (n : List Literal) (x g : List (Option Bool)) → IsRoot p k g → AreWithin x g → Follow p k n x
 root_follows p k n x g h within y propagated e = within-then x g y within (h.follow y propagated refl)
 
+pub follows_within : (p : Program) (k : Known) (n : List Literal) (x y : List (Option Bool)) → AreWithin x y → Follow p k n y → Follow p k n x
+follows_within p k n x y within f z propagated e = within-then x y z within (f z propagated e)
+
 any_fewer : {X : Type 0} (q : X → Bool) (xs ys : List X) → list_any q (xs ++ ys) ≡ false → list_any q xs ≡ false
 any_fewer q [] ys e = refl
 any_fewer q (x ∷ xs) ys e =
@@ -99,6 +102,30 @@ root_more p rows more bound x h = record {
 -- ---- the trail
 no_some : (b : Bool) → None ≡ Some b → ⊥
 no_some b e = cc
+
+valueless : (m v : ℕ) → value_of (replicate m None) v ≡ None
+valueless zero v = refl
+valueless (suc m) zero = refl
+valueless (suc m) (suc v) = valueless m v
+
+pub empty_within : (m : ℕ) (x y : List (Option Bool)) → x ≡ replicate m None → AreWithin x y
+empty_within m x y e v b is = absurd (no_some b (sym (ap (λ z. value_of z v) e ∙ valueless m v) ∙ is))
+
+pub none_beyond : (x : List (Option Bool)) (v : ℕ) → length x ≤ v → value_of x v ≡ None
+none_beyond [] v le = refl
+none_beyond (o ∷ x) zero le = absurd (omega arith)
+none_beyond (o ∷ x) (suc v) le = none_beyond x v (omega arith)
+
+pub within_unset : (x : List (Option Bool)) (v : ℕ) → v < length x → AreWithin (set x v None) x
+within_unset x v inside u c e = cases (eqb u v) refl
+  where
+    cases : (t : Bool) → t ≡ eqb u v → value_of x u ≡ Some c
+    cases true q =
+        let here : value_of (set x v None) v ≡ None = get_or-set_same x v None None inside in
+        absurd (no_some c (sym here ∙ ap (value_of (set x v None)) (sym (eqb-true u v (sym q))) ∙ e))
+    cases false q =
+        let apart : u ≢ v = λ same. false≢true (q ∙ eq-eqb u v same) in
+        sym (get_or-set_other x v u None None apart) ∙ e
 
 none_within : (y z : List (Option Bool)) (v : ℕ) → AreWithin y z → value_of z v ≡ None → value_of y v ≡ None
 none_within y z v within none = cases (value_of y v) refl
@@ -153,8 +180,11 @@ taken_next z y trail i l lt e within h none =
     subst (AreTakenBack y) (sym list)
     (each-append (λ m. value_of y m.var ≡ None) (take i trail) (l ∷ []) (each_weaker (λ m. value_of z m.var ≡ None) (λ m. value_of y m.var ≡ None) (λ m n. none_within y z m.var within n) (take i trail) h) (none, tt))
 
+pub trailed_from : (x y : List (Option Bool)) (a trail : List Literal) → a ≡ [] → IsTrailedAlike x y a trail → IsTrailed x y trail
+trailed_from x y a trail empty alike = alike.alike x (subst (IsTrailed x x) (sym empty) (record { size = refl; kept = λ w inside t. inside }))
+
 -- what is taken back leaves what follows from what is known
-pub root_undone : (p : Program) (k : Known) (x y z : List (Option Bool)) (trail : List Literal) → IsRoot p k x → IsTrailedAlike x y [] trail → length z ≡ length y → AreWithin z y → AreTakenBack z trail → IsRoot p k z
-root_undone p k x y z trail h alike size within taken =
-    let trailed = alike.alike x (record { size = refl; kept = λ w inside t. inside }) in
+pub root_undone : (p : Program) (k : Known) (x y z : List (Option Bool)) (a trail : List Literal) → IsRoot p k x → a ≡ [] → IsTrailedAlike x y a trail → length z ≡ length y → AreWithin z y → AreTakenBack z trail → IsRoot p k z
+root_undone p k x y z a trail h empty alike size within taken =
+    let trailed = trailed_from x y a trail empty alike in
     record { size = size ∙ trailed.size ∙ h.size; follow = root_follows p k [] z x h (trailed.kept z within taken) }

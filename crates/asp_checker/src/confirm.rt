@@ -31,9 +31,10 @@ fn assume(values: &mut Assign, trail: &mut Vec<Lit>, lit: Lit) -> Result<bool, A
     }
     let held = values.holds(lit);
     values.set(lit);
-    if !held {
-        trail.push(lit)?;
+    if held {
+        return Ok(true);
     }
+    trail.push(lit)?;
     Ok(true)
 }
 
@@ -114,7 +115,8 @@ fn confirms_by(
     if refuted {
         return Ok(true);
     }
-    confirms_plainly(alloc, compiled, rows, bound, values, lits)
+    let confirmed = confirms_plainly(alloc, compiled, rows, bound, values, lits)?;
+    Ok(confirmed)
 }
 
 /// Whether unit propagation from the literals leads to a conflict, where these nogoods and this bound are known. The values

@@ -457,7 +457,8 @@ fn judge_lines(
     let assumptions = assumptions(alloc, compiled)?;
     let assumed = assumptions.as_slice();
     let mut watches = Watches::new(alloc, compiled, bound)?;
-    let mut values = first_root(alloc, compiled, rows.as_slice(), bound, &mut watches)?;
+    let first = rows.as_slice();
+    let mut values = first_root(alloc, compiled, first, bound, &mut watches)?;
     let mut whole = false;
     for at in 0..lines.len() {
         let line = &lines[at];
@@ -470,7 +471,8 @@ fn judge_lines(
                 let closing = closes(assumed, line, own);
                 whole = either(whole, closing);
                 rows.push(lits)?;
-                learn(alloc, compiled, rows.as_slice(), bound, &mut watches, &mut values)?;
+                let more = rows.as_slice();
+                learn(alloc, compiled, more, bound, &mut watches, &mut values)?;
             }
         }
     }

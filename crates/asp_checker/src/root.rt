@@ -33,9 +33,7 @@ fn settle(
 {
     let mut trail = Vec::new(alloc);
     let refuted = chase(compiled, rows, bound, watches, values, &mut trail)?;
-    if refuted {
-        watches.stick();
-    }
+    watches.stick(refuted);
     Ok(())
 }
 
@@ -73,7 +71,8 @@ pub(crate) fn learn(
 {
     watches.restart(values, compiled.vars(), rows)?;
     watches.add_last(values, compiled.vars(), rows)?;
-    settle(alloc, compiled, rows, bound, watches, values)
+    settle(alloc, compiled, rows, bound, watches, values)?;
+    Ok(())
 }
 
 // Takes a variable's value away.
@@ -83,9 +82,10 @@ fn take_back(values: &mut Assign, vars: u32, var: Var)
     ensures within { AreWithin values.new values.old }
     ensures none { value_of values.new var ≡ None }
 {
-    if var <= vars {
-        values.unset(var);
+    if var > vars {
+        return;
     }
+    values.unset(var);
 }
 
 /// Takes the values of the trail's variables away.

@@ -127,8 +127,10 @@ struct Spot {
 fn another_at(values: &Assign, vars: u32, lits: &[Lit], start: usize, end: usize, but: Lit) -> Option<Spot>
     requires { length values.now ≡ vars + 1 }
 {
-    for place in start..end.min(lits.len()) {
-        let lit = lits[place];
+    for place in start..end {
+        let Some(lit) = lits.get(place).copied() else {
+            return None;
+        };
         let held = holds(values, vars, lit);
         if !held && lit != but {
             let place = u32::try_from(place).unwrap_or(0);
@@ -328,31 +330,50 @@ impl Watches {
         Ok(())
     }
 
-    // Retires those that were used longest ago.
-    fn retire(&mut self) -> Result<(), AllocError> {
+    // When the middle one of those that watch was used.
+    fn middle_use(&self) -> Result<usize, AllocError> {
         let mut uses = Vec::new(*self.watching.allocator());
         for place in &self.watching {
             uses.push(self.used(*place))?;
         }
         uses.sort_unstable();
-        let least = uses.get(uses.len() / 2).copied().unwrap_or(0);
-        let mut kept = Vec::new(*self.watching.allocator());
-        for place in &self.watching {
-            if self.used(*place) < least {
-                self.retired.push(*place)?;
-                if let Some(entry) = self.entries.get_mut(*place) {
-                    entry.is_watching = false;
-                }
+        Ok(uses.get(uses.len() / 2).copied().unwrap_or(0))
+    }
+
+    // Retires a nogood that watches.
+    fn retire_one(&mut self, place: usize) -> Result<(), AllocError> {
+        if let Some(entry) = self.entries.get_mut(place) {
+            entry.is_watching = false;
+        }
+        self.retired.push(place)?;
+        Ok(())
+    }
+
+    // Retires those that were used before the middle one.
+    fn retire(&mut self) -> Result<(), AllocError> {
+        let least = self.middle_use()?;
+        let mut left = Vec::new(*self.watching.allocator());
+        for _ in 0..u64::MAX {
+            let Some(place) = self.watching.pop() else {
+                break;
+            };
+            if self.used(place) < least {
+                self.retire_one(place)?;
             } else {
-                kept.push(*place)?;
+                left.push(place)?;
             }
         }
-        self.watching = kept;
+        self.watching = left;
+        self.unwatch();
+        Ok(())
+    }
+
+    // Drops those that don't watch any more from all lists.
+    fn unwatch(&mut self) {
         let entries = self.entries.as_slice();
         for watches in self.by_code.as_mut_slice() {
             watches.retain(|watch| is_watching(entries, *watch));
         }
-        Ok(())
     }
 
     fn used(&self, place: usize) -> usize {
@@ -423,9 +444,11 @@ impl Watches {
         self.last = Some(hint);
     }
 
-    /// What was in conflict last is so with no literal assumed: it is looked at first from here on.
-    pub(crate) fn stick(&mut self) {
-        self.stuck = self.last;
+    /// Where there was a conflict with no literal assumed, what was in conflict last is looked at first from here on.
+    pub(crate) fn stick(&mut self, refuted: bool) {
+        if refuted {
+            self.stuck = self.last;
+        }
     }
 
     // What is to be done with a nogood that watches this literal.

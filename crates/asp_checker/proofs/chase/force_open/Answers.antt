@@ -1,4 +1,4 @@
-use Rattle.std.proofs.Common.{List, Option, Bool, Some, set, ap, ◌∙◌}
+use Rattle.std.proofs.Common.{◌≡◌, List, Option, Bool, Some, set, ap, ◌∙◌}
 use Rattle.asp_checker.specs.Blocks.{known_by}
 use Rattle.asp_checker.proofs.CloseLaws.{found_implied}
 use Rattle.asp_checker.proofs.chase.force_open.Goals as goal
@@ -11,7 +11,9 @@ would_be_blocked_by-blocked-requires-clause-no_value c = rw c.complement.ensures
 
 pub returns : goal.returns
 returns c = λ rows.
+    let now : c.set.new.self ≡ set c.args.values.now c.args.lit.var (Some c.args.lit.truth) =
+        c.set.ensures ∙ ap (λ (z : List (Option Bool)). set z c.args.lit.var (Some c.args.lit.truth)) c.would_be_blocked_by-blocked.ensures.same in
     let found = found_implied c.args.compiled.now (known_by rows c.args.bound.now) c.args.values.now c.set.new.self c.args.lit c.program-program.ensures.sound c.requires.size
     (record { var = c.requires.positive; of = c.requires.of; no_value = c.requires.no_value; blocked = rw c.complement.ensures at (c.would_be_blocked_by-blocked.ensures.blocked c.if-not-blocked.false) })
-    (c.set.ensures ∙ ap (λ (z : List (Option Bool)). set z c.args.lit.var (Some c.args.lit.truth)) c.would_be_blocked_by-blocked.ensures.same) in
-    found.0
+    now in
+    (found.0, now)
