@@ -52,9 +52,9 @@ blocked_by_bound p bound x e = later (list_any (is_broken p x) (bodies_of p)) (r
 
 -- ---- one after another
 pub found_more : (p : Program) (k : Known) (x z y : List (Option Bool)) (f : Found) → (f ≡ found.Conflict → ⊥) → Extends p k x z → IsFoundBy p k z y f → Extends p k x y
-found_more p k x z y found.Conflict no h s = absurd (no refl)
-found_more p k x z y (found.Implied l) no h s = extends_then p k x z y h s.0
-found_more p k x z y found.Nothing no h s = subst (Extends p k x) (sym s) h
+found_more p k x z y found.Conflict isnt h s = absurd (isnt refl)
+found_more p k x z y (found.Implied l) isnt h s = extends_then p k x z y h s.0
+found_more p k x z y found.Nothing isnt h s = subst (Extends p k x) (sym s) h
 
 -- ---- what follows from what is known alone
 pub root_first : (p : Program) (k : Known) (m : ℕ) (x y : List (Option Bool)) → m ≡ var_count p + 1 → x ≡ replicate m None → length x ≡ m → Extends p k x y → IsRoot p k y
@@ -170,9 +170,9 @@ trailed_held x trail l inside held = record {
 }
 
 pub trailed_found : (p : Program) (k : Known) (x y : List (Option Bool)) (trail : List Literal) (f : Found) → (f ≡ found.Conflict → ⊥) → IsFoundBy p k x y f → IsTrailedAlike x y trail (trail_with trail f)
-trailed_found p k x y trail found.Conflict no s = absurd (no refl)
-trailed_found p k x y trail (found.Implied l) no s = subst (λ z. IsTrailedAlike x z trail (trail ++ l ∷ [])) (sym s.1) (trailed_set x trail l)
-trailed_found p k x y trail found.Nothing no s = subst (λ z. IsTrailedAlike x z trail trail) (sym s) (trailed_itself x trail)
+trailed_found p k x y trail found.Conflict isnt s = absurd (isnt refl)
+trailed_found p k x y trail (found.Implied l) isnt s = subst (λ z. IsTrailedAlike x z trail (trail ++ l ∷ [])) (sym s.1) (trailed_set x trail l)
+trailed_found p k x y trail found.Nothing isnt s = subst (λ z. IsTrailedAlike x z trail trail) (sym s) (trailed_itself x trail)
 
 pub taken_next : (z y : List (Option Bool)) (trail : List Literal) (i : ℕ) (l : Literal) → i < length trail → l ≡ get_or trail i l → AreWithin y z → AreTakenBack z (take i trail) → value_of y l.var ≡ None → AreTakenBack y (take (i + 1) trail)
 taken_next z y trail i l lt e within h none =

@@ -6,10 +6,10 @@ use Rattle.asp_checker.proofs.confirm.confirms.Goals as goal
 
 pub undo-requires : goal.undo-requires
 undo-requires c =
-    let trailed = trailed_from c.args.values.now c.confirms_by-confirmed.new.values c.new-trail.result.items c.confirms_by-confirmed.new.trail.items c.new-trail.ensures.items c.in_ok-confirmed.ensures.trailed in
+    let trailed = trailed_from c.args.values.now c.confirms_by.new.values c.new-trail.result.items c.confirms_by.new.trail.items c.new-trail.ensures.items c.in_ok-confirmed.ensures.trailed in
     trailed.size ∙ c.requires.root.size ∙ ap (λ n. n + 1) (sym c.vars.ensures.count)
 
 pub returns-clause-root : goal.returns-clause-root
 returns-clause-root c =
-    root_undone c.args.compiled.now (known_by c.args.rows.now c.args.bound.now) c.args.values.now c.confirms_by-confirmed.new.values c.undo.new.values c.new-trail.result.items c.confirms_by-confirmed.new.trail.items c.requires.root c.new-trail.ensures.items
+    root_undone c.args.compiled.now (known_by c.args.rows.now c.args.bound.now) c.args.values.now c.confirms_by.new.values c.undo.new.values c.new-trail.result.items c.confirms_by.new.trail.items c.requires.root c.new-trail.ensures.items
     c.in_ok-confirmed.ensures.trailed c.undo.ensures.size c.undo.ensures.within (subst (AreTakenBack c.undo.new.values) c.as_slice.ensures.value c.undo.ensures.none)
