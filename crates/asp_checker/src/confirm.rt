@@ -39,11 +39,7 @@ fn assume(values: &mut Assign, trail: &mut Vec<Lit>, lit: Lit) -> Result<bool, A
 }
 
 // Makes all of the literals hold, unless two of them are contrary. The trail has those that didn't hold.
-fn assume_all(
-    values: &mut Assign,
-    trail: &mut Vec<Lit>,
-    lits: &[Lit],
-) -> Result<bool, AllocError>
+fn assume_all(values: &mut Assign, trail: &mut Vec<Lit>, lits: &[Lit]) -> Result<bool, AllocError>
     requires { All (λ l. l.var < length values.old) lits.now }
     ensures assumed { IfOk result (AreAssumed values.old values.new lits.now lits.now) }
     ensures trailed { OnOk result (IsTrailedAlike values.old values.new trail.old.items trail.new.items) }

@@ -110,7 +110,14 @@ pub(crate) fn hints_of_body(
                 hints.push(Hint::Body(body, held))?;
                 return Ok(());
             }
-            add_heavy(hints, compiled, values, body, high.saturating_sub(bound), true)
+            add_heavy(
+                hints,
+                compiled,
+                values,
+                body,
+                high.saturating_sub(bound),
+                true,
+            )
         }
         Some(false) => {
             if low >= bound {
@@ -208,8 +215,12 @@ fn is_dear(
         let place = (var as usize)
             .saturating_mul(2)
             .saturating_add(if value { 0 } else { 1 });
-        let more = weight_at(weights.as_slice(), place)
-            .saturating_sub(least(values, compiled, weights.as_slice(), var));
+        let more = weight_at(weights.as_slice(), place).saturating_sub(least(
+            values,
+            compiled,
+            weights.as_slice(),
+            var,
+        ));
         if more < *left {
             return false;
         }

@@ -463,7 +463,15 @@ fn judge_lines(
     for at in 0..lines.len() {
         let line = &lines[at];
         let known = rows.as_slice();
-        let step = judge_line(alloc, compiled, known, bound, &mut watches, &mut values, line)?;
+        let step = judge_line(
+            alloc,
+            compiled,
+            known,
+            bound,
+            &mut watches,
+            &mut values,
+            line,
+        )?;
         match step {
             Step::Wrong(why) => return Ok(Outcome::Wrong(why, at)),
             Step::Known(lits) => {

@@ -15,6 +15,7 @@ use std::alloc::{AllocError, Global};
 
 // How many nogoods of lines watch before some are retired, and how many more after each time.
 const FIRST_LIMIT: usize = 2000;
+
 const MORE: usize = 300;
 
 // So many literals are few: such a nogood is never retired.
@@ -124,7 +125,14 @@ struct Spot {
 }
 
 // A literal from a place on that doesn't hold, other than this one.
-fn another_at(values: &Assign, vars: u32, lits: &[Lit], start: usize, end: usize, but: Lit) -> Option<Spot>
+fn another_at(
+    values: &Assign,
+    vars: u32,
+    lits: &[Lit],
+    start: usize,
+    end: usize,
+    but: Lit,
+) -> Option<Spot>
     requires { length values.now ≡ vars + 1 }
 {
     for place in start..end {
@@ -452,7 +460,14 @@ impl Watches {
     }
 
     // What is to be done with a nogood that watches this literal.
-    fn turn(&mut self, rows: &[Seq<Lit>], values: &Assign, vars: u32, watch: Watch, held: Lit) -> Turn
+    fn turn(
+        &mut self,
+        rows: &[Seq<Lit>],
+        values: &Assign,
+        vars: u32,
+        watch: Watch,
+        held: Lit,
+    ) -> Turn
         requires { length values.now ≡ vars + 1 }
     {
         if fails(values, vars, watch.other) {
@@ -461,7 +476,11 @@ impl Watches {
         let Some(entry) = self.entries.get_mut(watch.place as usize) else {
             return Turn::Keep;
         };
-        let other = if entry.one == held { entry.two } else { entry.one };
+        let other = if entry.one == held {
+            entry.two
+        } else {
+            entry.one
+        };
         if fails(values, vars, other) {
             return Turn::Keep;
         }

@@ -26,5 +26,7 @@ set-requires c =
 
 pub returns-in-Unit : goal.returns-in-Unit
 returns-in-Unit c = λ b. (
-    unit_extends c.args.compiled.now c.args.rows.now b c.args.values.now c.set.new.self c.args.place c.index-rows-place.result c.in-Unit.lit c.requires.of c.requires.size (omega arith) c.index-rows-place.is
-    (rw c.as_slice.ensures.value at c.in-Unit.ensures) (rw c.complement-held.ensures at c.set.ensures), c.set.ensures)
+  unit_extends c.args.compiled.now c.args.rows.now b c.args.values.now c.set.new.self c.args.place c.index-rows-place.result c.in-Unit.lit c.requires.of c.requires.size (omega arith) c.index-rows-place.is
+      (rw c.as_slice.ensures.value at c.in-Unit.ensures) (rw c.complement-held.ensures at c.set.ensures),
+  c.set.ensures,
+)

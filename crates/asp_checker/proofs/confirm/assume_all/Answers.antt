@@ -30,7 +30,7 @@ loop-lit-preserved c =
     let inside : c.lit-item.result.var < length c.loop-lit.values = omega (arith, range, var, c.loop-lit.invariant.held.size) in
     record {
       held = held_next c.args.values.now c.loop-lit.values c.assume.new.values c.args.lits.now c.loop-lit.lit-index c.lit-item.result c.loop-lit-test.true c.lit-item.is inside c.loop-lit.invariant.held
-      (subst (IsAssumed c.loop-lit.values c.assume.new.values c.lit-item.result) c.if-not-assumed.false c.in_ok-assumed.ensures.assumed);
+          (subst (IsAssumed c.loop-lit.values c.assume.new.values c.lit-item.result) c.if-not-assumed.false c.in_ok-assumed.ensures.assumed);
       trailed = trailed_then c.args.values.now c.loop-lit.values c.assume.new.values c.args.trail.now.items c.loop-lit.trail.items c.assume.new.trail.items c.loop-lit.invariant.trailed c.in_ok-assumed.ensures.trailed;
     }
 
