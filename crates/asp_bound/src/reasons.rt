@@ -65,7 +65,7 @@ fn all_raising(
     requires within { All (λ v. v < length values.now) vars.now }
     ensures { IfOk result (λ lits. lits.items ≡ flat_map (raising_at values.now rows.now depth) vars.now) }
 {
-    let mut lits = Vec::new(alloc);
+    let mut lits = Vec::with_capacity(alloc, vars.len())?;
     for var in vars {
         add_raising(&mut lits, values, rows, depth, *var)?;
     }

@@ -1,6 +1,7 @@
 -- What every search keeps, where its state changes.
 use Rattle.std.proofs.Common.{◌≡◌, ℕ, true, false, List, ◌∷◌, ◌++◌, Option, Some, None, inl, inr, ◌⊎◌, refl, sym, ap, ◌∙◌, subst, []}
 use Rattle.std.specs.Prelude.{ℤ}
+use Rattle.std.specs.Option.{option_map}
 use Rattle.asp_model.specs.declared.program.Program.{Program}
 use Rattle.asp_model.specs.declared.results.Mode.{Mode}
 use Rattle.asp_model.specs.declared.results.Mode.TheVariants as mode
@@ -91,10 +92,18 @@ pub newest_last : (t u : List (Option StoredNogood)) (id : ℕ) (n : Nogood) (ki
 newest_last t u id n kind a = (n, added_newest t u id n kind a)
 
 -- some fewer
+pub search_thinned : (p : Program) (m : Mode) (t u : SearchView) (vars : ℕ) (checker : Program) (known : List Atoms) (blocking : List ℕ) (bound : Option (List ℤ)) (last new : Option ℕ) (es : List Entry) →
+    u.program ≡ t.program → u.bound ≡ t.bound → IsReduced es t.slots u.slots → IsLast u.slots new → IsSearch p m t vars checker known blocking bound last → IsSearch p m u vars checker known blocking bound new
+search_thinned p m t u vars checker known blocking bound last new es program bounded r stands s =
+    search_from p m t u vars checker known blocking bound last new program bounded (useful_none t.program known t.bound t.slots u.slots (reduced_none es t.slots u.slots r) s.useful) r.forever stands s
+
 pub search_reduced : (p : Program) (m : Mode) (t u : SearchView) (vars : ℕ) (checker : Program) (known : List Atoms) (blocking : List ℕ) (bound : Option (List ℤ)) (last : Option ℕ) (es : List Entry) →
     u.program ≡ t.program → u.bound ≡ t.bound → IsReduced es t.slots u.slots → IsSearch p m t vars checker known blocking bound last → IsSearch p m u vars checker known blocking bound None
-search_reduced p m t u vars checker known blocking bound last es program bounded r s =
-    search_from p m t u vars checker known blocking bound last None program bounded (useful_none t.program known t.bound t.slots u.slots (reduced_none es t.slots u.slots r) s.useful) r.forever tt s
+search_reduced p m t u vars checker known blocking bound last es program bounded r s = search_thinned p m t u vars checker known blocking bound last None es program bounded r tt s
+
+-- the nogood that is kept under the number is there still
+pub last_named : (old slots : List (Option StoredNogood)) (id : ℕ) → kept_at slots id ≡ kept_at old id → IsLast old (Some id) → IsLast slots (Some id)
+last_named old slots id e l = (l.0, ap (option_map (λ (k : StoredNogood). k.nogood)) e ∙ l.1)
 
 -- ---- a smaller bound
 pub search_lower : (p : Program) (m : Mode) (t u : SearchView) (vars : ℕ) (checker : Program) (known : List Atoms) (blocking : List ℕ) (bound : Option (List ℤ)) (c : List ℤ) (last : Option ℕ) →

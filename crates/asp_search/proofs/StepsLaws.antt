@@ -2,12 +2,12 @@
 use Rattle.std.proofs.Common.{◌≡◌, ℕ, ◌+◌, ◌-◌, ◌^◌, ◌<◌, ◌≤◌, min, Bool, true, false, leb, List, ◌∷◌, ◌++◌, length, get_or, take, Option, Some, None, inl, inr, ◌⊎◌, refl, sym, ap, ◌∙◌, subst, arith, []}
 use Rattle.std.specs.Prelude.{ℤ, IfSome, IsSome, Result, Ok, Err}
 use Rattle.std.specs.List.{All}
-use Rattle.std.specs.Option.{unwrap_or}
+use Rattle.std.specs.Option.{unwrap_or, option_map}
 use Rattle.std.specs.Result.{OnErr}
 use Rattle.std.proofs.lemmas.Bool.{false≢true}
 use Rattle.std.proofs.lemmas.Bool.{and_parts, or_cases}
 use Rattle.std.proofs.lemmas.Bool.Decides.{nat_tests}
-use Rattle.std.proofs.lemmas.List.{length-append}
+use Rattle.std.proofs.lemmas.List.{length-append, get_or_push}
 use Rattle.std.proofs.lemmas.List.Elements.{filter_passes}
 use Rattle.asp_model.specs.declared.program.Program.{Program}
 use Rattle.asp_model.specs.declared.results.Mode.{Mode}
@@ -26,7 +26,7 @@ use Rattle.asp_trail.specs.declared.trail.Entry.{Entry}
 use Rattle.asp_trail.specs.Entries.{assignment, level, level_in, cut}
 use Rattle.asp_store.specs.declared.stored_nogood.StoredNogood.{StoredNogood}
 use Rattle.asp_store.specs.declared.stored_nogood.Kind.TheVariants as kind
-use Rattle.asp_store.specs.Keeping.{nogood_at, IsAddedAt}
+use Rattle.asp_store.specs.Keeping.{kept_at, nogood_at, IsAddedAt}
 use Rattle.asp_order.specs.Heaps.{Ranking}
 use Rattle.asp_analyze.specs.Learning.{AreContained, IsJump}
 use Rattle.asp_analyze.specs.declared.learn.Learned.TheVariants as learned
@@ -37,10 +37,11 @@ use Rattle.asp_trail_laws.proofs.HitLaws.{clash_settled}
 use Rattle.asp_trail_laws.proofs.LitLaws.{only_one}
 use Rattle.asp_trail_laws.proofs.PlaceLaws.{level_last}
 use Rattle.asp_search_laws.specs.Axioms.{IsAxiom, AreDerived, IsDerived}
-use Rattle.asp_search_laws.specs.Keeping.{Grows}
+use Rattle.asp_search_laws.specs.Keeping.{Grows, GrowsUnlessGiven}
 use Rattle.asp_search_laws.specs.Searching.{Searching}
 use Rattle.asp_search_laws.specs.Steps.{HasSameTask, IsBeside, IsConflictOf, burnt, FollowsByLast, Learns, Stops, Closes, Decides, Restarts, IsDue, Answers, blocking_nogood, Fails, IsFailure}
 use Rattle.asp_search_laws.proofs.DerivedLaws.{derived_same, derived_added, derived_none}
+use Rattle.asp_search_laws.proofs.SlotLaws.{reduced_none}
 use Rattle.asp_search_laws.proofs.JumpLaws.{before_newest, jump_beside}
 use Rattle.asp_store.proofs.KeepLaws.{added_stays}
 use Rattle.asp_search_laws.proofs.SlotLaws.{nogood_kept, added_newest, reduced_none, grows_none}
@@ -182,7 +183,7 @@ module _ (gives : Nogood → Type 0) (md : Mode) (t : SearchView) (c : Paced) (k
         burns = record { clash = x; conflict = conflict; left = left; paid = paid };
         follows = follows;
         decisions = (to, refl);
-        grows = added_stays t.slots slots new n kind.Learnt added;
+        grows = λ j k h ne. added_stays t.slots slots new n kind.Learnt added j k h;
         derived = derived_added t.program gives t.bound t.slots slots new n kind.Learnt added (met_derived md t c known last q id gives (learned.Jump n to lit) m);
         learnt = refl;
         restarts = refl;
@@ -431,3 +432,36 @@ fails_still gives s t f e = subst (λ (x : Searching). IsFailure gives s x f f) 
 pub some_of : {X : Type 0} (o : Option X) → IsSome o → (x : X) × (o ≡ Some x)
 some_of None h = absurd (false≢true h)
 some_of (Some x) h = (x, refl)
+
+-- ---- learnt, and then what propagators gave is dropped
+-- the number of the last nogood is named by the newest entry
+newest_named : (es new : List Entry) (e : Entry) (old slots : List (Option StoredNogood)) (id : ℕ) → new ≡ es ++ e ∷ [] → e.reason ≡ Some id → IsReduced new old slots → kept_at slots id ≡ kept_at old id
+newest_named es new e old slots id is reason r =
+    r.named (length es) e id (omega (arith, ap (length {A = Entry}) is, length-append es (e ∷ [])))
+    (ap (λ (xs : List Entry). (get_or xs (length es) e).reason) is ∙ (ap (λ (x : Entry). x.reason) (get_or_push es e e (length es) refl) ∙ reason))
+
+pub jumped_named : (t u : SearchView) (slots : List (Option StoredNogood)) (to id : ℕ) (lit : Literal) → u.entries ≡ cut to t.entries ++ record { lit = lit; level = level (cut to t.entries); reason = Some id } ∷ [] →
+    IsReduced u.entries u.slots slots → kept_at slots id ≡ kept_at u.slots id
+jumped_named t u slots to id lit is r = newest_named (cut to t.entries) u.entries (record { lit = lit; level = level (cut to t.entries); reason = Some id }) u.slots slots id is refl r
+
+pub learns_swept : (gives : Nogood → Type 0) (s t : Searching) (slots : List (Option StoredNogood)) (q : List Literal) (f g : Units) → ((id : ℕ) → t.last ≡ Some id → kept_at slots id ≡ kept_at t.slots id) →
+    IsReduced t.entries t.slots slots → GrowsUnlessGiven t.slots slots → Learns gives s t q f g → Learns gives s (record t { slots = slots }) q f g
+learns_swept gives s t slots q f g named r others l = record {
+  same = record { program = l.same.program; mode = l.same.mode; cube = l.same.cube; known = l.same.known; bound = l.same.bound };
+  burns = l.burns;
+  follows = record {
+    id = l.follows.id;
+    nogood = l.follows.nogood;
+    last = l.follows.last;
+    kept = ap (option_map (λ (k : StoredNogood). k.nogood)) (named l.follows.id l.follows.last) ∙ l.follows.kept;
+    entry = l.follows.entry;
+    newest = l.follows.newest;
+    has = l.follows.has;
+    others = l.follows.others;
+  };
+  decisions = l.decisions;
+  grows = λ id k h ne. others id k (l.grows id k h ne) ne;
+  derived = λ id n h. l.derived id n (reduced_none t.entries t.slots slots r id n h);
+  learnt = l.learnt;
+  restarts = l.restarts;
+}

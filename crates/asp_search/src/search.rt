@@ -14,6 +14,7 @@ ghost use Rattle.asp_search_laws.specs.Steps.{is_of_use};
 ghost use Rattle.asp_search.specs.Beside.{new_search, Enters, Leaves, is_local, is_shared, kept_last, only_shared, exported, Imports, IsOpen, IsShared};
 ghost use Rattle.asp_state.specs.SearchStates.{KeepsCompletionAlone};
 
+use crate::litter::Litter;
 use crate::spread::Spread;
 use asp_analyze::learn::Learner;
 use asp_model::cost::Cost;
@@ -48,6 +49,8 @@ pub struct Search<'a, P: Propagator> {
     pub(crate) state: SearchState<P>,
     // when restarts and reductions are due
     pub(crate) pace: Pace,
+    // when what propagators gave is to go between restarts
+    pub(crate) litter: Litter,
     // what learning takes memory for
     pub(crate) learner: Learner,
     // what counting levels takes memory for
@@ -152,6 +155,7 @@ impl<'a, P: Propagator> Search<'a, P> {
             mode,
             state,
             pace: Pace::new(vars as usize),
+            litter: Litter::new(vars),
             learner,
             spread,
             checker,

@@ -14,6 +14,7 @@ ghost use Rattle.asp_store.specs.Walking.{IsViolated};
 ghost use Rattle.asp_order.specs.Waiting.{AreAssigned};
 ghost use Rattle.asp_propagate.specs.Propagating.{IsFixpoint, IsReduced};
 ghost use Rattle.asp_search_laws.specs.Searching.{values_now};
+ghost use Rattle.asp_search_laws.specs.Keeping.{GrowsUnlessGiven};
 ghost use Rattle.asp_search_laws.specs.Steps.{Answers, IsDue, IsStep, IsFailure};
 ghost use Rattle.asp_analyze.specs.declared.learn.Learned.TheVariants as learned;
 ghost use Rattle.asp_search.specs.Meeting.{IsMet};
@@ -22,6 +23,7 @@ ghost use Rattle.asp_search.specs.Stepping.{IsEntered, IsFound};
 use crate::blocking::block;
 use crate::conflicts::{conflict, jump, learn};
 use crate::faults::{fault, true_atoms};
+use crate::litter::Litter;
 use crate::search::Search;
 use asp_analyze::learn::Learned;
 use asp_model::cost::cost_of;
@@ -87,6 +89,19 @@ fn thin<P: Propagator>(state: &mut SearchState<P>, pace: &mut Pace)
     forget(state, pace);
 }
 
+// Drops what propagators gave, where much was kept since that was done last.
+fn sweep<P: Propagator>(state: &mut SearchState<P>, litter: &mut Litter)
+    ensures same { state.new ≡ record state.old { slots = state.new.slots } }
+    ensures reduced { IsReduced state.old.entries state.old.slots state.new.slots }
+    ensures others { GrowsUnlessGiven state.old.slots state.new.slots }
+{
+    if !litter.is_much(state.store().extra()) {
+        return;
+    }
+    state.drop_given();
+    litter.dropped(state.store().extra());
+}
+
 impl<'a, P: Propagator> Search<'a, P> {
     // Burns a unit for the conflict that a nogood shows, and keeps what was learnt from it.
     fn pay(
@@ -124,6 +139,7 @@ impl<'a, P: Propagator> Search<'a, P> {
             to,
             lit,
         )?;
+        sweep(&mut self.state, &mut self.litter);
         self.last = Some(new);
         Ok(Step::Learnt)
     }

@@ -1,6 +1,6 @@
 -- What stays kept where nogoods are added and dropped.
 use Rattle.std.proofs.Common.{◌≡◌, ◌≢◌, ℕ, suc, zero, ◌<◌, true, false, List, ◌∷◌, ◌++◌, length, get_or, set, Option, Some, None, ◌⊎◌, inl, inr, refl, sym, ap, ◌∙◌, subst, arith, get_or-set_same, get_or-set_other, []}
-use Rattle.std.specs.Prelude.{ℤ}
+use Rattle.std.specs.Prelude.{ℤ, Bool, not, ◌&&◌, if◌then◌else◌}
 use Rattle.std.specs.List.{All}
 use Rattle.std.specs.Option.{unwrap_or, option_map}
 use Rattle.std.proofs.lemmas.Bool.{cases_eq}
@@ -17,13 +17,13 @@ use Rattle.asp_trail.specs.declared.trail.Entry.{Entry}
 use Rattle.asp_store.specs.declared.stored_nogood.StoredNogood.{StoredNogood}
 use Rattle.asp_store.specs.declared.stored_nogood.Kind.{Kind}
 use Rattle.asp_store.specs.declared.stored_nogood.Kind.TheVariants as kind
-use Rattle.asp_store.specs.Keeping.{kept_at, nogood_at, IsAddedAt}
+use Rattle.asp_store.specs.Keeping.{kept_at, nogood_at, unless_given, IsAddedAt}
 use Rattle.asp_store.proofs.KeepLaws.{added_stays}
 use Rattle.asp_store.proofs.GetLaws.{is_or_not}
 use Rattle.asp_propagate.specs.Propagating.{Adds, IsReduced}
 use Rattle.asp_propagate.specs.Useful.{IsUseful}
 use Rattle.asp_propagate.proofs.AddLaws.{adds_each}
-use Rattle.asp_search_laws.specs.Keeping.{AreUseful, IsExcluded, AreExcluded, IsBlocking, AreBlocking, IsLast, Grows}
+use Rattle.asp_search_laws.specs.Keeping.{AreUseful, IsExcluded, AreExcluded, IsBlocking, AreBlocking, IsLast, Grows, GrowsUnlessGiven}
 
 no_some : {X : Type 0} (x : X) → None ≡ Some x → ⊥
 no_some x q = cc
@@ -94,6 +94,17 @@ reduced_none es old new r id n q = cases (r.each id)
     cases : (kept_at new id ≡ kept_at old id) ⊎ (kept_at new id ≡ None) → nogood_at old id ≡ Some n
     cases (inl e) = ap (λ (o : Option StoredNogood). option_map (λ (k : StoredNogood). k.nogood) o) (sym e) ∙ q
     cases (inr e) = absurd (no_some n (ap (λ (o : Option StoredNogood). option_map (λ (k : StoredNogood). k.nogood) o) (sym e) ∙ q))
+
+-- where what propagators gave is dropped, all else stays
+pub others_stay : (old new : List (Option StoredNogood)) (named : ℕ → Bool) → ((id : ℕ) → kept_at new id ≡ if named id then kept_at old id else unless_given (kept_at old id)) → GrowsUnlessGiven old new
+others_stay old new named each id k h q = cases (named id) (each id)
+  where
+    stays : unless_given (kept_at old id) ≡ Some k
+    stays = ap unless_given h ∙ ap (λ (b : Bool). if b && not k.locked then None else Some k) q
+
+    cases : (b : Bool) → kept_at new id ≡ (if b then kept_at old id else unless_given (kept_at old id)) → kept_at new id ≡ Some k
+    cases true e = e ∙ h
+    cases false e = e ∙ stays
 
 pub reduced_same : (es : List Entry) (xs : List (Option StoredNogood)) → IsReduced es xs xs
 reduced_same es xs = record { count = refl; each = λ id. inl refl; forever = λ id k q f. q; named = λ i d id h q. refl }

@@ -69,7 +69,7 @@ module _ (gives : Nogood → Type 0) (silent : List (Option Bool) → Type 0) (s
     burns = burns q f g h.burns;
     follows = h.follows;
     decisions = h.decisions;
-    grows = grows_more s.slots slots t.slots grows h.grows;
+    grows = λ id k q ne. h.grows id k (grows id k q) ne;
     derived = derives h.derived;
     learnt = h.learnt;
     restarts = h.restarts;

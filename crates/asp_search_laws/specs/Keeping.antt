@@ -1,5 +1,5 @@
 -- The nogoods that a search keeps, and why.
-use Rattle.std.specs.Prelude.{◌≡◌, ◌≢◌, ℕ, List, Option, Some, None, ℤ, IsTrue}
+use Rattle.std.specs.Prelude.{◌≡◌, ◌≢◌, ℕ, false, List, Option, Some, None, ℤ, IsTrue}
 use Rattle.std.specs.List.{All, AllPairs, AllByRecursion}
 use Rattle.asp_model.specs.declared.program.Program.{Program}
 use Rattle.asp_model.specs.Sets.{Atoms}
@@ -9,7 +9,7 @@ use Rattle.asp_vars.specs.declared.nogood.Base.TheVariants as base
 use Rattle.asp_vars.specs.declared.nogood.Nogood.{Nogood}
 use Rattle.asp_store.specs.declared.stored_nogood.StoredNogood.{StoredNogood}
 use Rattle.asp_store.specs.declared.stored_nogood.Kind.TheVariants as kind
-use Rattle.asp_store.specs.Keeping.{kept_at, nogood_at}
+use Rattle.asp_store.specs.Keeping.{kept_at, nogood_at, comes_from_propagator}
 use Rattle.asp_propagate.specs.Useful.{IsUseful}
 
 -- Each nogood that is kept counts for the search.
@@ -47,3 +47,7 @@ IsLast slots (Some id) = (n : Nogood) × (nogood_at slots id ≡ Some n)
 -- All nogoods that were kept are as they were.
 abbrev pub Grows : List (Option StoredNogood) → List (Option StoredNogood) → Type 0
 Grows old new = (id : ℕ) (k : StoredNogood) → kept_at old id ≡ Some k → kept_at new id ≡ Some k
+
+-- All nogoods that were kept are as they were, but for those that propagators gave, which may be gone.
+abbrev pub GrowsUnlessGiven : List (Option StoredNogood) → List (Option StoredNogood) → Type 0
+GrowsUnlessGiven old new = (id : ℕ) (k : StoredNogood) → kept_at old id ≡ Some k → comes_from_propagator k.kind ≡ false → kept_at new id ≡ Some k

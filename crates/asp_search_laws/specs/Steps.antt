@@ -22,7 +22,7 @@ use Rattle.asp_order.specs.Waiting.{IsNext}
 use Rattle.asp_propagate.specs.Propagating.{IsFixpoint}
 use Rattle.asp_propagate.specs.Useful.{IsSmaller}
 use Rattle.asp_search_laws.specs.Axioms.{AreDerived, IsDerived}
-use Rattle.asp_search_laws.specs.Keeping.{Grows}
+use Rattle.asp_search_laws.specs.Keeping.{Grows, GrowsUnlessGiven}
 use Rattle.asp_search_laws.specs.Searching.{Searching, values_now}
 use Rattle.asp_search_laws.specs.declared.step.Step.{Step}
 use Rattle.asp_search_laws.specs.declared.step.Step.TheVariants as step
@@ -104,7 +104,7 @@ pub record Learns (gives : Nogood → Type 0) (s t : Searching) (q : List Litera
   pub burns : Burns s q f g
   pub follows : FollowsByLast t
   pub decisions : (k : ℕ) × (t.decisions ≡ take k s.decisions)
-  pub grows : Grows s.slots t.slots
+  pub grows : GrowsUnlessGiven s.slots t.slots
   pub derived : Derives gives s t
   pub learnt : t.learnt ≡ min (s.learnt + 1) (2 ^ 64 - 1)
   pub restarts : t.restarts ≡ s.restarts

@@ -7,7 +7,7 @@ use Rattle.std.proofs.lemmas.Bool.Decides.{nat_tests}
 use Rattle.std.proofs.lemmas.List.{length-append, get_or_append_left, get_or-append-add, get_or_push, append-nil}
 use Rattle.std.proofs.lemmas.List.Elements.{All-append}
 use Rattle.std.proofs.lemmas.Option.{slice_get-get_or}
-use Rattle.asp_vars.specs.Literals.{Literal}
+use Rattle.asp_vars.specs.Literals.{Literal, complement}
 use Rattle.asp_vars.specs.declared.nogood.Nogood.{Nogood}
 use Rattle.asp_trail.specs.declared.trail.Entry.{Entry}
 use Rattle.asp_trail.specs.Entries.{level, level_or_zero}
@@ -15,7 +15,7 @@ use Rattle.asp_trail.specs.Trails.{Trailed}
 use Rattle.asp_trail.specs.Reasons.{IsReason}
 use Rattle.asp_store.specs.declared.stored_nogood.StoredNogood.{StoredNogood}
 use Rattle.asp_store.specs.Keeping.{nogood_at}
-use Rattle.asp_store.specs.Looking.{Grew}
+use Rattle.asp_store.specs.Looking.{Grew, HaveSame}
 use Rattle.asp_store.specs.Fitting.{HaveReasons, IsImpliedAt, Extends}
 use Rattle.asp_store.proofs.WatchLaws.{reason_grow}
 
@@ -91,3 +91,11 @@ grew_by id n es fs g =
 -- a trail that has entries more, and nothing else that is new
 pub trail_more : (t u : Trailed) (fs : List Entry) → u ≡ record t { entries = u.entries } → u.entries ≡ t.entries ++ fs → u ≡ record t { entries = t.entries ++ fs }
 trail_more t u fs e q = e ∙ ap (λ (es : List Entry). let r : Trailed = record t { entries = es } in r) q
+
+-- the reason of the entry that came has these literals, in whatever order
+pub grew_same : (id : ℕ) (n m : List Literal) (es fs : List Entry) → HaveSame n m → Grew id m es fs → Grew id n es fs
+grew_same id n m es fs same g =
+    elim g [
+      | inl q ↦ inl q
+      | inr r ↦ inr (r.0, r.1, record { has = same (complement r.0) ∙ r.2.has; others = λ k h ne. r.2.others k (sym (same k) ∙ h) ne })
+    ]

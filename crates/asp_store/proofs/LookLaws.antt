@@ -1,5 +1,5 @@
 -- Looking at one nogood.
-use Rattle.std.proofs.Common.{◌≡◌, ◌≢◌, ℕ, suc, zero, ◌<◌, ◌≤◌, Bool, true, false, not, eqb, ◌||◌, ◌&&◌, List, [], ◌∷◌, ◌++◌, length, take, drop, Option, Some, None, get_or, inl, inr, refl, sym, ap, ◌∙◌, subst, arith}
+use Rattle.std.proofs.Common.{◌≡◌, ◌≢◌, ℕ, suc, zero, ◌<◌, ◌≤◌, Bool, true, false, not, eqb, ◌||◌, ◌&&◌, List, [], ◌∷◌, ◌++◌, length, take, drop, Option, Some, None, get_or, inl, inr, ◌⊎◌, refl, sym, ap, ◌∙◌, subst, arith}
 use Rattle.std.specs.Prelude.{◌-◌}
 use Rattle.std.specs.List.{All, list_all}
 use Rattle.std.specs.Option.{IfSome, IfNone}
@@ -18,6 +18,7 @@ use Rattle.asp_trail.proofs.EntryLaws.{find_only}
 use Rattle.asp_trail.proofs.HoldLaws.{holds_at, holds_found, value_at}
 use Rattle.asp_trail.specs.Reasons.{Stands, IsReason}
 use Rattle.asp_store.specs.Fitting.{IsFalseBy, Watches, IsWatched}
+use Rattle.asp_store.specs.Pairs.{IsWhole}
 use Rattle.asp_store.specs.Looking.{AreTrueBeside}
 use Rattle.asp_store.specs.declared.looks.Spot.{Spot}
 use Rattle.asp_trail.proofs.FixpointLaws.{false_from}
@@ -62,6 +63,13 @@ pub false_level : (vars : ℕ) (es : List Entry) (l : Literal) → IsOrdered var
 false_level vars es l o h =
     let f = stands_found vars es (complement l) o h in
     (f.0, level_in es l.var, omega arith, f.1)
+
+-- where no entry is of a greater level
+pub false_top : (vars : ℕ) (es : List Entry) (l : Literal) (b : ℕ) → IsOrdered vars es → All (λ e. e.level ≤ b) es → holds_in (assignment vars es) (complement l) ≡ true → IsFalseBy es l b
+false_top vars es l b o top h =
+    let f = false_level vars es l o h in
+    let d : Entry = record { lit = l; level = 0; reason = None } in
+    (f.0, f.1, omega (arith, top f.0 d f.3.within, f.3.level d), f.3)
 
 -- a literal with a value that isn't true is false
 pub false_holds : (a : List (Option Bool)) (l : Literal) (b : Bool) → value_of a l.var ≡ Some b → holds_in a l ≡ false → holds_in a (complement l) ≡ true
@@ -127,7 +135,11 @@ eq_itself l = both l.var l.truth
     both v true = grind (arith, nat_tests)
     both v false = grind (arith, nat_tests)
 
-or_right : (a b : Bool) → b ≡ true → (a || b) ≡ true
+pub or_left : (a b : Bool) → a ≡ true → (a || b) ≡ true
+or_left true b q = refl
+or_left false b q = absurd (false≢true q)
+
+pub or_right : (a b : Bool) → b ≡ true → (a || b) ≡ true
 or_right true b q = refl
 or_right false b q = q
 
@@ -177,9 +189,9 @@ violated_when vars es n other t h = list_all_from (holds_in (assignment vars es)
 pub differ_from : (k l : Literal) → literal_eq k l ≡ false → l ≢ k
 differ_from k l h e = false≢true (sym h ∙ (ap (λ (x : Literal). literal_eq x l) (sym e) ∙ eq_itself l))
 
-watched_by : (n : List Literal) (es : List Entry) (seen : ℕ) (first second : Literal) → has_literal n first ≡ true → has_literal n second ≡ true → literal_eq second first ≡ false →
-    Watches es seen n first → Watches es seen n second → IsWatched n (record { first = first; second = second }) es seen
-watched_by n es seen first second a b d x y = record {
+watched_by : (n : List Literal) (es : List Entry) (seen : ℕ) (first second : Literal) (whole : Bool) → has_literal n first ≡ true → has_literal n second ≡ true → literal_eq second first ≡ false →
+    Watches es seen n first → Watches es seen n second → IsWatched n (record { first = first; second = second; is_whole = whole }) es seen
+watched_by n es seen first second whole a b d x y = record {
   has = λ l o. elim o [
     | inl e ↦ subst (λ (k : Literal). has_literal n k ≡ true) e a
     | inr e ↦ subst (λ (k : Literal). has_literal n k ≡ true) e b
@@ -192,15 +204,42 @@ watched_by n es seen first second a b d x y = record {
 }
 
 -- neither is true
-pub watched_open : (vars : ℕ) (es : List Entry) (seen : ℕ) (n : List Literal) (first second : Literal) → IsOrdered vars es → has_literal n first ≡ true → has_literal n second ≡ true →
+pub watched_open : (vars : ℕ) (es : List Entry) (seen : ℕ) (n : List Literal) (first second : Literal) (whole : Bool) → IsOrdered vars es → has_literal n first ≡ true → has_literal n second ≡ true →
     literal_eq second first ≡ false → holds_in (assignment vars es) first ≡ false → holds_in (assignment vars es) second ≡ false →
-    IsWatched n (record { first = first; second = second }) es seen
-watched_open vars es seen n first second o a b d p q =
-    watched_by n es seen first second a b d (watches_open vars es seen n first o p) (watches_open vars es seen n second o q)
+    IsWatched n (record { first = first; second = second; is_whole = whole }) es seen
+watched_open vars es seen n first second whole o a b d p q =
+    watched_by n es seen first second whole a b d (watches_open vars es seen n first o p) (watches_open vars es seen n second o q)
 
 -- the first is false, and the second's level isn't below its level
-pub watched_above : (vars : ℕ) (es : List Entry) (seen : ℕ) (n : List Literal) (first second : Literal) (b : ℕ) → IsOrdered vars es → has_literal n first ≡ true →
+pub watched_above : (vars : ℕ) (es : List Entry) (seen : ℕ) (n : List Literal) (first second : Literal) (whole : Bool) (b : ℕ) → IsOrdered vars es → has_literal n first ≡ true →
     IsFalseBy es first b → has_literal n second ≡ true → literal_eq second first ≡ false → b ≤ level_in es second.var →
-    IsWatched n (record { first = first; second = second }) es seen
-watched_above vars es seen n first second b o a f h d le =
-    watched_by n es seen first second a h d (watches_false vars es seen n first b o a f) (watches_above vars es seen n second first b o a f le)
+    IsWatched n (record { first = first; second = second; is_whole = whole }) es seen
+watched_above vars es seen n first second whole b o a f h d le =
+    watched_by n es seen first second whole a h d (watches_false vars es seen n first b o a f) (watches_above vars es seen n second first b o a f le)
+
+-- a literal of two
+pub one_of_two : (a b l : Literal) → has_literal (a ∷ b ∷ []) l ≡ true → (a ≡ l) ⊎ (b ≡ l)
+one_of_two a b l q = cases (literal_eq a l) refl (literal_eq b l) refl q
+  where
+    cases : (u : Bool) → u ≡ literal_eq a l → (v : Bool) → v ≡ literal_eq b l → (u || (v || false)) ≡ true → (a ≡ l) ⊎ (b ≡ l)
+    cases true e v g r = inl (same_literal a l (sym e))
+    cases false e true g r = inr (same_literal b l (sym g))
+    cases false e false g r = absurd (false≢true r)
+
+-- where a nogood has two literals, it has none beside two different ones of them
+pub two_are_all : (n : List Literal) (first second : Literal) → length n ≡ 2 → has_literal n first ≡ true → has_literal n second ≡ true → literal_eq second first ≡ false →
+    IsWhole n (record { first = first; second = second; is_whole = true })
+two_are_all (a ∷ b ∷ []) first second len f s ne k h =
+    elim (one_of_two a b first f) [
+      | inl x ↦ elim (one_of_two a b second s) [
+        | inl y ↦ absurd (differ_from second first ne (sym x ∙ y))
+        | inr y ↦ elim (one_of_two a b k h) [ inl z ↦ inl (sym x ∙ z) | inr z ↦ inr (sym y ∙ z) ]
+      ]
+      | inr x ↦ elim (one_of_two a b second s) [
+        | inl y ↦ elim (one_of_two a b k h) [ inl z ↦ inr (sym y ∙ z) | inr z ↦ inl (sym x ∙ z) ]
+        | inr y ↦ absurd (differ_from second first ne (sym x ∙ y))
+      ]
+    ]
+two_are_all [] first second len f s ne k h = absurd (omega arith)
+two_are_all (a ∷ []) first second len f s ne k h = absurd (omega arith)
+two_are_all (a ∷ b ∷ c ∷ n) first second len f s ne k h = absurd (omega arith)

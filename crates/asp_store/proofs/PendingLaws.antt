@@ -1,4 +1,5 @@
 -- What a look at one of those apart leaves.
+use Rattle.std.specs.Prelude.{IsTrue}
 use Rattle.std.proofs.Common.{◌≡◌, ◌≢◌, ℕ, suc, zero, ◌+◌, ◌<◌, ◌≤◌, true, false, List, [], ◌∷◌, ◌++◌, length, set, Option, Some, None, inl, inr, refl, sym, ap, ◌∙◌, subst, arith}
 use Rattle.std.specs.List.{slice_get, swap_remove, swap}
 use Rattle.std.specs.Option.{is_some}
@@ -19,7 +20,7 @@ use Rattle.asp_store.specs.declared.watches.Watches.{Watches}
 use Rattle.asp_store.specs.declared.front.Step.TheVariants as step
 use Rattle.asp_store.specs.Keeping.{nogood_at}
 use Rattle.asp_store.specs.Lists.{list_at}
-use Rattle.asp_store.specs.Pairs.{IsOneOf}
+use Rattle.asp_store.specs.Pairs.{IsOneOf, IsWhole}
 use Rattle.asp_store.specs.Parted.{Parted, IsFrom}
 use Rattle.asp_store.specs.Fitting.{HasFalse, IsWatched}
 use Rattle.asp_store.specs.Sounding.{IsListed, IsSound, AreSettled}
@@ -96,8 +97,8 @@ sound_both slots w t p id a b s =
     (one, sound_watch slots (with_first w p id) t p.second (record { blocker = p.first; id = id }) b a one)
 
 suits_both : (slots : List (Option StoredNogood)) (w : Watches) (t : Trailed) (p : Pair) (id : ℕ) (n : Nogood) → nogood_at slots id ≡ Some n →
-    IsWatched n.lits p t.entries (length t.entries) → IsSound slots w t → Suits slots (with_both w p id) t id (Some p)
-suits_both slots w t p id n h k s = record {
+    IsWatched n.lits p t.entries (length t.entries) → (IsTrue p.is_whole → IsWhole n.lits p) → IsSound slots w t → Suits slots (with_both w p id) t id (Some p)
+suits_both slots w t p id n h k whole s = record {
   within = omega (arith, s.net.paired, kept_within slots id n h);
   bounded = λ q l e o. subst (λ (x : Pair). IsOneOf x l → l.var ≤ t.vars) (same_Some p q e) (λ z. pair_small slots w t id n p l t.entries (length t.entries) s h k z) o;
   listed = λ m q l g e o.
@@ -110,6 +111,7 @@ suits_both slots w t p id n h k s = record {
       subst (λ (x : Pair). IsWatched m.lits x t.entries t.seen) (same_Some p q e)
       (subst (λ (x : Nogood). IsWatched x.lits p t.entries t.seen) (same m g) (watched_seen n.lits p t.entries t.seen k));
   apart = λ m g e. absurd (none-some p (sym e));
+  whole = λ q e b. subst (λ (x : Pair). IsTrue x.is_whole → (m : Nogood) × (nogood_at slots id ≡ Some m) × IsWhole m.lits x) (same_Some p q e) (λ z. (n, h, whole z)) b;
 }
   where
     same : (m : Nogood) → nogood_at slots id ≡ Some m → n ≡ m
@@ -135,9 +137,9 @@ suits_both slots w t p id n h k s = record {
         (subst (λ (x : Nogood). has_literal x.lits p.first ≡ true) (same m g) (k.has p.first (inl refl)))
 
 pub attached_looking : (slots : List (Option StoredNogood)) (w : Watches) (t : Trailed) (i id : ℕ) (p : Pair) (n : Nogood) → nogood_at slots id ≡ Some n →
-    IsWatched n.lits p t.entries (length t.entries) → IsWaiting slots w t i id → IsLooking slots (attached w p id) t i
-attached_looking slots w t i id p n h k v = record {
-  sound = sound_pair slots (with_both w p id) t id (Some p) (suits_both slots w t p id n h k v.looking.sound)
+    IsWatched n.lits p t.entries (length t.entries) → (IsTrue p.is_whole → IsWhole n.lits p) → IsWaiting slots w t i id → IsLooking slots (attached w p id) t i
+attached_looking slots w t i id p n h k whole v = record {
+  sound = sound_pair slots (with_both w p id) t id (Some p) (suits_both slots w t p id n h k whole v.looking.sound)
       (sound_both slots w t p id (pair_small slots w t id n p p.first t.entries (length t.entries) v.looking.sound h k (inl refl))
       (pair_small slots w t id n p p.second t.entries (length t.entries) v.looking.sound h k (inr refl)) v.looking.sound).1;
   settled = λ j m g q. elim (pair_cases w.pairs id (Some p) j None (omega (arith, v.looking.sound.net.paired, kept_within slots id n h)) q) [

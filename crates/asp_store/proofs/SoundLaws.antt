@@ -1,4 +1,5 @@
 -- Watches are sound, through each change of lists, of a pair, of the numbers apart and of the trail.
+use Rattle.std.specs.Prelude.{IsTrue}
 use Rattle.std.proofs.Common.{◌≡◌, ◌≢◌, ℕ, ◌<◌, ◌≤◌, List, [], ◌∷◌, ◌++◌, length, set, Option, Some, None, inl, inr, ◌⊎◌, sym, ap, ◌∙◌, subst, arith}
 use Rattle.std.proofs.lemmas.List.{length-set}
 use Rattle.asp_vars.specs.Literals.{Literal}
@@ -11,7 +12,7 @@ use Rattle.asp_store.specs.declared.watch.Pair.{Pair}
 use Rattle.asp_store.specs.declared.watches.Watches.{Watches}
 use Rattle.asp_store.specs.Keeping.{nogood_at}
 use Rattle.asp_store.specs.Lists.{place}
-use Rattle.asp_store.specs.Pairs.{pair_at, IsOneOf}
+use Rattle.asp_store.specs.Pairs.{pair_at, IsOneOf, IsWhole}
 use Rattle.asp_store.specs.Parted.{Parted, IsFrom}
 use Rattle.asp_store.specs.Fitting.{HasFalse, IsWatched, AreFit}
 use Rattle.asp_store.specs.Sounding.{IsListed, IsSound, AreSettled}
@@ -32,6 +33,7 @@ sound_lists slots w t lists len blockers listed s = record {
     watched = s.net.watched;
     listed = listed;
     unwatched = s.net.unwatched;
+    whole = s.net.whole;
   };
   fit = s.fit;
 }
@@ -52,6 +54,7 @@ pub record Suits (slots : List (Option StoredNogood)) (w : Watches) (t : Trailed
   pub listed : (n : Nogood) (p : Pair) (l : Literal) → nogood_at slots id ≡ Some n → q ≡ Some p → IsOneOf p l → IsListed w.lists l 0 id n.lits
   pub watched : (n : Nogood) (p : Pair) → nogood_at slots id ≡ Some n → q ≡ Some p → IsWatched n.lits p t.entries t.seen
   pub apart : (n : Nogood) → nogood_at slots id ≡ Some n → q ≡ None → IsFrom w.apart w.apart.retired id
+  pub whole : (p : Pair) → q ≡ Some p → IsTrue p.is_whole → (n : Nogood) × (nogood_at slots id ≡ Some n) × IsWhole n.lits p
 
 pub from_zero : (a : Parted) (i id : ℕ) → IsFrom a i id → IsFrom a 0 id
 from_zero a i id f = (f.0, omega arith, f.2)
@@ -75,6 +78,10 @@ sound_pair slots w t id q u s = record {
     unwatched = λ k n h g. elim (pair_cases w.pairs id q k None u.within g) [
       | inl e ↦ subst (λ (j : ℕ). IsFrom w.apart 0 j) (sym e.0) (from_zero w.apart w.apart.retired id (u.apart n (sym (ap (nogood_at slots) e.0) ∙ h) e.1))
       | inr e ↦ s.net.unwatched k n h e.1
+    ];
+    whole = λ k p g h. elim (pair_cases w.pairs id q k (Some p) u.within g) [
+      | inl e ↦ subst (λ (j : ℕ). (n : Nogood) × (nogood_at slots j ≡ Some n) × IsWhole n.lits p) (sym e.0) (u.whole p e.1 h)
+      | inr e ↦ s.net.whole k p e.1 h
     ];
   };
   fit = record {
@@ -111,6 +118,7 @@ sound_apart slots w t apart all waiting s = record {
     watched = s.net.watched;
     listed = s.net.listed;
     unwatched = all;
+    whole = s.net.whole;
   };
   fit = record {
     watched = s.fit.watched;

@@ -1,11 +1,12 @@
 -- What one visit to a place of a literal's list leaves.
-use Rattle.std.proofs.Common.{◌≡◌, ◌≢◌, ℕ, suc, zero, ◌<◌, ◌≤◌, true, List, [], ◌∷◌, ◌++◌, length, set, Option, Some, None, inl, inr, ◌⊎◌, refl, sym, ap, ◌∙◌, subst, arith, add-one}
+use Rattle.std.specs.Prelude.{IsTrue}
+use Rattle.std.proofs.Common.{◌≡◌, ◌≢◌, ℕ, suc, zero, ◌<◌, ◌≤◌, Bool, true, false, List, [], ◌∷◌, ◌++◌, length, set, Option, Some, None, inl, inr, ◌⊎◌, refl, sym, ap, ◌∙◌, subst, arith, add-one}
 use Rattle.std.specs.List.{All, swap_remove}
 use Rattle.std.specs.Option.{MatchOption, IfNone, IfSome}
 use Rattle.std.proofs.lemmas.Bool.{false≢true}
 use Rattle.std.proofs.lemmas.List.{length-set}
 use Rattle.std.proofs.lemmas.Option.{same_Some, slice_get_within, none-some}
-use Rattle.asp_vars.specs.Literals.{Literal, has_literal, holds_in}
+use Rattle.asp_vars.specs.Literals.{Literal, has_literal, literal_eq, holds_in}
 use Rattle.asp_vars.specs.Codes.{code_of}
 use Rattle.asp_vars.specs.declared.nogood.Nogood.{Nogood}
 use Rattle.asp_trail.specs.declared.trail.Entry.{Entry}
@@ -25,11 +26,12 @@ use Rattle.asp_store.specs.Pairs.{pair_at, IsOneOf, IsBeside}
 use Rattle.asp_store.specs.Parted.{IsFrom}
 use Rattle.asp_store.specs.Fitting.{IsFalseBy, HasFalse, Watches as Watching}
 use Rattle.asp_store.specs.Sounding.{IsListed, IsSound}
+use Rattle.asp_store.specs.Looking.{AreTrueBeside, HaveSame}
 use Rattle.asp_store.specs.Walking.{IsWalking, IsVisit, MayWatch, Steps}
 use Rattle.asp_store.proofs.GetLaws.{list_within, length-swap, at_set, at_set_other, get_last}
-use Rattle.asp_store.proofs.PlaceLaws.{code_injective, code_within, place_else, size_here, listed_set, blocker_set, listed_push, listed_new, blocker_push, listed_take, blocker_take, listed_next}
+use Rattle.asp_store.proofs.PlaceLaws.{code_injective, code_within, place_else, size_here, listed_set, blocker_set, listed_push, listed_new, blocker_push, listed_take, blocker_take, listed_next, listed_later}
 use Rattle.asp_store.proofs.WatchLaws.{has_false_grow, stands_grow}
-use Rattle.asp_store.proofs.LookLaws.{watches_open}
+use Rattle.asp_store.proofs.LookLaws.{watches_open, eq_itself, or_left, or_right, one_of_two}
 use Rattle.asp_store.proofs.SoundLaws.{Suits, sound_lists, sound_pair, settled_pair, pair_cases, sound_push, sound_grow, settled_grow}
 
 -- ---- of a pair
@@ -58,24 +60,21 @@ front_var t f o s =
     let d : Entry = record { lit = f.lit; level = 0; reason = None } in
     omega (arith, (o.within t.seen d s.within).1, ap (λ (l : Literal). l.var) (s.lit d))
 
--- ---- nothing changes
-pub step_quick : (slots : List (Option StoredNogood)) (w : Watches) (t : Trailed) (f : Front) (i : ℕ) (x : Watch) → place w.lists (code_of f.lit) i ≡ Some x →
-    IsFalseBy t.entries x.blocker f.level → IsWalking slots w t f i → Steps slots w w t f i step.Stays
-step_quick slots w t f i x g is_false k = (
-  record {
-    sound = k.sound;
-    settled = k.settled;
-    done = λ id n p h q o. elim (k.done id n p h q o) [
-      | inl l ↦ elim (listed_next w.lists f.lit i id n.lits x g l) [
-        | inl e ↦ inr (x.blocker, e.1, is_false)
-        | inr m ↦ inl (rw add-one m)
-      ]
-      | inr m ↦ inr m
-    ];
-    stands = k.stands;
-  },
-  refl,
-)
+-- ---- the walk goes on from a later place
+pub walking_later : (slots : List (Option StoredNogood)) (w : Watches) (t : Trailed) (f : Front) (i j : ℕ) →
+    ((k : ℕ) (x : Watch) → i ≤ k → k < j → place w.lists (code_of f.lit) k ≡ Some x → IsFalseBy t.entries x.blocker f.level) → IsWalking slots w t f i → IsWalking slots w t f j
+walking_later slots w t f i j are_false k = record {
+  sound = k.sound;
+  settled = k.settled;
+  done = λ id n p h q o. elim (k.done id n p h q o) [
+    | inl l ↦ elim (listed_later w.lists f.lit i j id n.lits l) [
+      | inl e ↦ inr (e.0.blocker, e.5, are_false e.1 e.0 e.2 e.3 e.4)
+      | inr m ↦ inl m
+    ]
+    | inr m ↦ inr m
+  ];
+  stands = k.stands;
+}
 
 -- ---- the blocker of a place changes
 -- the nogood of a visit has the other watch
@@ -220,7 +219,7 @@ walking_pair slots w t f i id q u settled gone k = record {
 }
 
 pub suits_move : (slots : List (Option StoredNogood)) (w : Watches) (t : Trailed) (f : Front) (i id : ℕ) (other l : Literal) → IsOrdered t.vars t.entries → MayWatch slots t id other l →
-    ((n : Nogood) → nogood_at slots id ≡ Some n → IsListed w.lists l 0 id n.lits) → IsVisit slots w t f i id other → Suits slots w t id (Some (record { first = l; second = other }))
+    ((n : Nogood) → nogood_at slots id ≡ Some n → IsListed w.lists l 0 id n.lits) → IsVisit slots w t f i id other → Suits slots w t id (Some (record { first = l; second = other; is_whole = false }))
 suits_move slots w t f i id other l o m listed v = record {
   within = visit_id slots w t f i id other v;
   bounded = λ p k q one. elim (either p k q one) [
@@ -244,13 +243,14 @@ suits_move slots w t f i id other l o m listed v = record {
           | inr e ↦ subst (λ (x : Literal). Watching t.entries t.seen n.lits x) e (was.watches other (beside_one v.pair f.lit other v.beside).1)
         ];
       };
-  apart = λ n h q. absurd (none-some (record { first = l; second = other }) (sym q));
+  apart = λ n h q. absurd (none-some (record { first = l; second = other; is_whole = false }) (sym q));
+  whole = λ p q h. absurd (false≢true (ap (λ (x : Pair). x.is_whole) (made p q) ∙ h));
 }
   where
-    made : (p : Pair) → Some (record { first = l; second = other }) ≡ Some p → record { first = l; second = other } ≡ p
-    made p q = same_Some (record { first = l; second = other }) p q
+    made : (p : Pair) → Some (record { first = l; second = other; is_whole = false }) ≡ Some p → record { first = l; second = other; is_whole = false } ≡ p
+    made p q = same_Some (record { first = l; second = other; is_whole = false }) p q
 
-    either : (p : Pair) (k : Literal) → Some (record { first = l; second = other }) ≡ Some p → IsOneOf p k → (l ≡ k) ⊎ (other ≡ k)
+    either : (p : Pair) (k : Literal) → Some (record { first = l; second = other; is_whole = false }) ≡ Some p → IsOneOf p k → (l ≡ k) ⊎ (other ≡ k)
     either p k q (inl e) = inl (ap (λ (x : Pair). x.first) (made p q) ∙ e)
     either p k q (inr e) = inr (ap (λ (x : Pair). x.second) (made p q) ∙ e)
 
@@ -261,7 +261,7 @@ may_differ slots t f id other l o s m e =
     false≢true (sym m.not_true ∙ (ap (holds_in (assignment t.vars t.entries)) e ∙ front_holds t f o s))
 
 move_gone : (slots : List (Option StoredNogood)) (w : Watches) (t : Trailed) (f : Front) (i id : ℕ) (other l : Literal) → IsOrdered t.vars t.entries → MayWatch slots t id other l →
-    IsVisit slots w t f i id other → (n : Nogood) → nogood_at slots id ≡ Some n → (p : Pair) → record { first = l; second = other } ≡ p → IsOneOf p f.lit → ⊥
+    IsVisit slots w t f i id other → (n : Nogood) → nogood_at slots id ≡ Some n → (p : Pair) → record { first = l; second = other; is_whole = false } ≡ p → IsOneOf p f.lit → ⊥
 move_gone slots w t f i id other l o m v n h p e one =
     elim one [
       | inl a ↦ may_differ slots t f id other l o v.walking.stands m (ap (λ (x : Pair). x.first) e ∙ a)
@@ -271,19 +271,19 @@ move_gone slots w t f i id other l o m v n h p e one =
 -- the pair of the front's literal and the other is that of another one and the other
 pub walking_move : (slots : List (Option StoredNogood)) (w : Watches) (t : Trailed) (f : Front) (i id : ℕ) (other l : Literal) → IsOrdered t.vars t.entries → MayWatch slots t id other l →
     ((n : Nogood) → nogood_at slots id ≡ Some n → IsListed w.lists l 0 id n.lits) → IsVisit slots w t f i id other →
-    IsWalking slots (record w { pairs = set w.pairs id (Some (record { first = l; second = other })) }) t f i
+    IsWalking slots (record w { pairs = set w.pairs id (Some (record { first = l; second = other; is_whole = false })) }) t f i
 walking_move slots w t f i id other l o m listed v =
-    walking_pair slots w t f i id (Some (record { first = l; second = other })) (suits_move slots w t f i id other l o m listed v)
-    (λ k g q. absurd (none-some (record { first = l; second = other }) (sym q)))
-    (λ n p h q one. move_gone slots w t f i id other l o m v n h p (same_Some (record { first = l; second = other }) p q) one) v.walking
+    walking_pair slots w t f i id (Some (record { first = l; second = other; is_whole = false })) (suits_move slots w t f i id other l o m listed v)
+    (λ k g q. absurd (none-some (record { first = l; second = other; is_whole = false }) (sym q)))
+    (λ n p h q one. move_gone slots w t f i id other l o m v n h p (same_Some (record { first = l; second = other; is_whole = false }) p q) one) v.walking
 
 -- after it the front's literal isn't watched
 pub moved_gone : (slots : List (Option StoredNogood)) (w : Watches) (t : Trailed) (f : Front) (i id : ℕ) (other l : Literal) → IsOrdered t.vars t.entries → MayWatch slots t id other l →
     IsVisit slots w t f i id other → (n : Nogood) (p : Pair) → nogood_at slots id ≡ Some n →
-    pair_at (set w.pairs id (Some (record { first = l; second = other }))) id ≡ Some p → IsOneOf p f.lit → ⊥
+    pair_at (set w.pairs id (Some (record { first = l; second = other; is_whole = false }))) id ≡ Some p → IsOneOf p f.lit → ⊥
 moved_gone slots w t f i id other l o m v n p h g one =
     move_gone slots w t f i id other l o m v n h p
-    (same_Some (record { first = l; second = other }) p (sym (at_set w.pairs id (Some (record { first = l; second = other })) None id (visit_id slots w t f i id other v) refl) ∙ g)) one
+    (same_Some (record { first = l; second = other; is_whole = false }) p (sym (at_set w.pairs id (Some (record { first = l; second = other; is_whole = false })) None id (visit_id slots w t f i id other v) refl) ∙ g)) one
 
 -- ---- the nogood of a visit isn't watched any more
 pub visit_apart : (slots : List (Option StoredNogood)) (w : Watches) (t : Trailed) (f : Front) (i id : ℕ) (other : Literal) (x : ℕ) → IsVisit slots w t f i id other →
@@ -313,6 +313,7 @@ walking_apart slots w t f i id other b waits is_false v =
       listed = λ n p l h q o. absurd (none-some p q);
       watched = λ n p h q. absurd (none-some p q);
       apart = λ n h q. waits;
+      whole = λ p q h. absurd (none-some p q);
     }
     (λ n h q. (b, (other, visit_has slots w t f i id other n v h, is_false))) (λ n p h q o. none-some p q) v.walking
 
@@ -350,7 +351,7 @@ visit_small slots w t id n lits s h e = subst (λ (xs : List Literal). All (λ k
 abbrev pub moved : Watches → Literal → Literal → ℕ → Watches
 moved w l other id = record w {
   lists = set w.lists (code_of l) (list_at w.lists (code_of l) ++ record { blocker = other; id = id } ∷ []);
-  pairs = set w.pairs id (Some (record { first = l; second = other }));
+  pairs = set w.pairs id (Some (record { first = l; second = other; is_whole = false }));
 }
 
 moved_visit : (slots : List (Option StoredNogood)) (w : Watches) (t : Trailed) (f : Front) (i id : ℕ) (other l : Literal) → IsOrdered t.vars t.entries → MayWatch slots t id other l →
@@ -396,3 +397,52 @@ pub some_beside : (pairs : List (Option Pair)) (id : ℕ) (l : Literal) (p : Pai
     IfSome r (λ k. (q : Pair) × (pair_at pairs id ≡ Some q) × IsBeside q l k)
 some_beside pairs id l p None e m = tt
 some_beside pairs id l p (Some k) e m = (p, sym e, m)
+
+-- ---- a nogood of the front's literal and the other watch alone
+-- the kept nogood under a number whose pair tells that it has no other literals
+pub whole_at : (slots : List (Option StoredNogood)) (w : Watches) (t : Trailed) (f : Front) (i id : ℕ) (other : Literal) → IsVisit slots w t f i id other →
+    ((p : Pair) × (pair_at w.pairs id ≡ Some p) × IsTrue p.is_whole) → (n : Nogood) × (nogood_at slots id ≡ Some n) × HaveSame n.lits (f.lit ∷ other ∷ [])
+whole_at slots w t f i id other v o =
+    let is : o.0 ≡ v.pair = same_Some o.0 v.pair (sym o.1 ∙ v.pair_is) in
+    let n = v.walking.sound.net.whole id o.0 o.1 o.2 in
+    let was = v.walking.sound.fit.watched id n.0 o.0 n.1 o.1 in (
+      n.0,
+      n.1,
+      λ k. same_by (has_literal n.0.lits k) (has_literal (f.lit ∷ other ∷ []) k) (λ h. into k (one_by o.0 k (subst (λ (p : Pair). IsBeside p f.lit other) (sym is) v.beside) (n.2 k h)))
+          (λ h. out_of n.0 o.0 k was.has (subst (λ (p : Pair). IsBeside p f.lit other) (sym is) v.beside) h),
+    )
+  where
+    same_by : (b c : Bool) → (b ≡ true → c ≡ true) → (c ≡ true → b ≡ true) → b ≡ c
+    same_by true c g h = sym (g refl)
+    same_by false true g h = h refl
+    same_by false false g h = refl
+
+    one_by : (p : Pair) (k : Literal) → IsBeside p f.lit other → IsOneOf p k → (f.lit ≡ k) ⊎ (other ≡ k)
+    one_by p k b m =
+        elim b [
+          | inl e ↦ elim m [ inl y ↦ inl (sym e.0 ∙ y) | inr y ↦ inr (sym e.1 ∙ y) ]
+          | inr e ↦ elim m [ inl y ↦ inr (sym e.0 ∙ y) | inr y ↦ inl (sym e.1 ∙ y) ]
+        ]
+
+    into : (k : Literal) → (f.lit ≡ k) ⊎ (other ≡ k) → has_literal (f.lit ∷ other ∷ []) k ≡ true
+    into k m =
+        elim m [
+          | inl e ↦ subst (λ (x : Literal). has_literal (f.lit ∷ other ∷ []) x ≡ true) e (or_left (literal_eq f.lit f.lit) (has_literal (other ∷ []) f.lit) (eq_itself f.lit))
+          | inr e ↦ subst (λ (x : Literal). has_literal (f.lit ∷ other ∷ []) x ≡ true) e
+              (or_right (literal_eq f.lit other) (has_literal (other ∷ []) other) (or_left (literal_eq other other) false (eq_itself other)))
+        ]
+
+    out_of : (n : Nogood) (p : Pair) (k : Literal) → ((l : Literal) → IsOneOf p l → has_literal n.lits l ≡ true) → IsBeside p f.lit other → has_literal (f.lit ∷ other ∷ []) k ≡ true → has_literal n.lits k ≡ true
+    out_of n p k has b h =
+        let two = beside_one p f.lit other b in
+        elim (one_of_two f.lit other k h) [
+          | inl e ↦ subst (λ (x : Literal). has_literal n.lits x ≡ true) e (has f.lit two.0)
+          | inr e ↦ subst (λ (x : Literal). has_literal n.lits x ≡ true) e (has other two.1)
+        ]
+
+pub whole_beside : (t : Trailed) (f : Front) (other : Literal) → IsOrdered t.vars t.entries → Stands t.entries f.lit t.seen f.level → AreTrueBeside t.vars t.entries (f.lit ∷ other ∷ []) other
+whole_beside t f other o s k h ne =
+    elim (one_of_two f.lit other k h) [
+      | inl e ↦ subst (λ (x : Literal). holds_in (assignment t.vars t.entries) x ≡ true) e (front_holds t f o s)
+      | inr e ↦ absurd (false≢true (sym ne ∙ (ap (λ (x : Literal). literal_eq x other) (sym e) ∙ eq_itself other)))
+    ]

@@ -72,6 +72,7 @@ store_new vars few = record {
     watched = λ id p l g o. absurd (none-some p g);
     listed = λ id n p l g h o. absurd (none-some n g);
     unwatched = λ id n g h. absurd (none-some n g);
+    whole = λ id p g h. absurd (none-some p g);
   };
   counted = refl;
 }
@@ -106,6 +107,10 @@ store_add vars slots new w z extra more id n kind s lists paired a apart small c
       | inl e ↦ subst (λ (k : ℕ). IsFrom z.apart 0 k) (sym e) (from_zero z.apart z.apart.retired id a.waits)
       | inr ne ↦ apart j (s.net.unwatched j m (sym (same_nogood slots new j (a.slots.others j ne)) ∙ g) (sym (a.pairs j ne) ∙ h))
     ];
+    whole = λ j p g h. elim (is_or_not j id) [
+      | inl e ↦ absurd (none-some p (sym a.pair ∙ (sym (ap (pair_at z.pairs) e) ∙ g)))
+      | inr ne ↦ let was = s.net.whole j p (sym (a.pairs j ne) ∙ g) h in (was.0, same_nogood slots new j (a.slots.others j ne) ∙ was.1, was.2)
+    ];
   };
   counted = counted;
 }
@@ -136,6 +141,10 @@ store_lose vars slots new w z extra less s lists paired l counted = record {
       | inl e ↦ absurd (none_kept new j m e.0 g)
       | inr e ↦ subst (λ (a : Parted). IsFrom a 0 j) (sym l.apart) (s.net.unwatched j m (sym (same_nogood slots new j e.0) ∙ g) (sym e.1 ∙ h))
     ];
+    whole = λ j p g h. elim (l.each j) [
+      | inl e ↦ absurd (none-some p (sym e.1 ∙ g))
+      | inr e ↦ let was = s.net.whole j p (sym e.1 ∙ g) h in (was.0, same_nogood slots new j e.0 ∙ was.1, was.2)
+    ];
   };
   counted = counted;
 }
@@ -153,6 +162,7 @@ store_lock vars slots w extra id b h s = record {
     watched = s.net.watched;
     listed = λ j m p k g. s.net.listed j m p k (sym (locked_same b slots id j h) ∙ g);
     unwatched = λ j m g. s.net.unwatched j m (sym (locked_same b slots id j h) ∙ g);
+    whole = λ j p g q. let was = s.net.whole j p g q in (was.0, locked_same b slots id j h ∙ was.1, was.2);
   };
   counted = s.counted ∙ sym (locked_count b slots id);
 }
@@ -292,6 +302,7 @@ store_recall vars slots w extra s = record {
     watched = s.net.watched;
     listed = s.net.listed;
     unwatched = s.net.unwatched;
+    whole = s.net.whole;
   };
   counted = s.counted;
 }

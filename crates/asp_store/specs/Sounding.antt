@@ -11,7 +11,7 @@ use Rattle.asp_store.specs.declared.watch.Pair.{Pair}
 use Rattle.asp_store.specs.declared.watches.Watches.{Watches}
 use Rattle.asp_store.specs.Keeping.{nogood_at}
 use Rattle.asp_store.specs.Lists.{place}
-use Rattle.asp_store.specs.Pairs.{pair_at, IsOneOf}
+use Rattle.asp_store.specs.Pairs.{pair_at, IsOneOf, IsWhole}
 use Rattle.asp_store.specs.Parted.{IsFrom}
 use Rattle.asp_store.specs.Fitting.{HasFalse, AreFit, AreSmall}
 
@@ -33,6 +33,7 @@ pub record IsNet (vars : ℕ) (slots : List (Option StoredNogood)) (w : Watches)
   pub watched : (id : ℕ) (p : Pair) (l : Literal) → pair_at w.pairs id ≡ Some p → IsOneOf p l → l.var ≤ vars
   pub listed : (id : ℕ) (n : Nogood) (p : Pair) (l : Literal) → nogood_at slots id ≡ Some n → pair_at w.pairs id ≡ Some p → IsOneOf p l → IsListed w.lists l 0 id n.lits
   pub unwatched : (id : ℕ) (n : Nogood) → nogood_at slots id ≡ Some n → pair_at w.pairs id ≡ None → IsFrom w.apart 0 id
+  pub whole : (id : ℕ) (p : Pair) → pair_at w.pairs id ≡ Some p → IsTrue p.is_whole → (n : Nogood) × (nogood_at slots id ≡ Some n) × IsWhole n.lits p
 
 pub record IsSound (slots : List (Option StoredNogood)) (w : Watches) (t : Trailed) : Type 0 where
   pub net : IsNet t.vars slots w

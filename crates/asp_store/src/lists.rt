@@ -45,6 +45,14 @@ impl WatchLists {
         self.lists[lit.code()].len()
     }
 
+    /// The literal's list.
+    pub fn list(&self, lit: Lit) -> &[Watch]
+        requires { code_of lit < length self.now }
+        ensures { result.now ≡ list_at self.now (code_of lit) }
+    {
+        self.lists[lit.code()].as_slice()
+    }
+
     /// The i-th watch in the literal's list.
     pub fn watch(&self, lit: Lit, i: usize) -> Watch
         requires { i < size self.now (code_of lit) }

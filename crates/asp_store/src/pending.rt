@@ -1,8 +1,9 @@
 //! Nogoods that aren't watched: new ones, and those that no two literals can watch yet. They are looked at whole as a
 //! propagation begins.
-ghost use Rattle.std.specs.Prelude.{◌≡◌, ℕ, ◌<◌, ◌≤◌, IfOk, IfSome, IfNone, OnOk, Some, length, slice_get};
+ghost use Rattle.std.specs.Prelude.{◌≡◌, ℕ, ◌<◌, ◌≤◌, IfOk, IfSome, IfNone, OnOk, Some, length, slice_get, IsTrue};
 ghost use Rattle.asp_vars.specs.declared.nogood.Nogood.{Nogood};
 ghost use Rattle.asp_store.specs.Keeping.{nogood_at};
+ghost use Rattle.asp_store.specs.Pairs.{IsWhole};
 ghost use Rattle.asp_store.specs.Fitting.{Extends, IsWatched, HasFalse};
 ghost use Rattle.asp_store.specs.Sounding.{IsSound, AreSettled};
 ghost use Rattle.asp_store.specs.Walking.{IsViolated};
@@ -41,6 +42,7 @@ fn attach(
 ) -> Result<(), AllocError>
     requires waiting { IsWaiting slots.now watches.old trail.now i id }
     requires watched { (n : Nogood) → nogood_at slots.now id ≡ Some n → IsWatched n.lits pair trail.now.entries (length trail.now.entries) }
+    requires whole { (n : Nogood) → nogood_at slots.now id ≡ Some n → IsTrue pair.is_whole → IsWhole n.lits pair }
     ensures sound { IsSound slots.now watches.new trail.now }
     ensures looks { OnOk result (Looks slots.now watches.old watches.new trail.now i Step.Goes) }
 {

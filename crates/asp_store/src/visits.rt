@@ -1,9 +1,9 @@
 //! Visits to the places of a literal's list.
 //!
 //! A nogood stands in the lists of the two literals that it watches, each time beside another literal of it, the blocker.
-//! The literal whose list is walked holds. While the blocker is false nothing more is read. Else the nogood's other watch
-//! tells, or another literal that doesn't hold becomes its watch; where there is none, the other watch is false from now on,
-//! or the nogood is violated. A number whose nogood doesn't watch this literal any more is dropped from the list.
+//! The literal whose list is walked holds. A walk passes the places whose blockers are false. At the others the nogood's
+//! other watch tells, or another literal that doesn't hold becomes its watch; where there is none, the other watch is false
+//! from now on, or the nogood is violated. A number whose nogood doesn't watch this literal any more is dropped from the list.
 ghost use Rattle.std.specs.Prelude.{◌≡◌, ◌≢◌, ℕ, ◌<◌, ◌≤◌, ◌+◌, Some, None, OnOk, IfOk, IfSome, IfNone, MatchOption, IsTrue, length, false, true};
 ghost use Rattle.std.specs.List.{All};
 ghost use Rattle.asp_vars.specs.Codes.{code_of};
@@ -14,7 +14,7 @@ ghost use Rattle.asp_store.specs.declared.watch.Pair.{Pair};
 ghost use Rattle.asp_store.specs.declared.watch.Watch.{Watch};
 ghost use Rattle.asp_store.specs.Keeping.{nogood_at};
 ghost use Rattle.asp_store.specs.Lists.{size, place};
-ghost use Rattle.asp_store.specs.Looking.{AreTrueBeside};
+ghost use Rattle.asp_store.specs.Looking.{AreTrueBeside, HaveSame};
 ghost use Rattle.asp_store.specs.Pairs.{pair_at, IsOneOf, IsBeside};
 ghost use Rattle.asp_store.specs.Fitting.{IsFalseBy, Extends};
 ghost use Rattle.asp_store.specs.Sounding.{IsSound};
@@ -29,6 +29,9 @@ use crate::watches::Watches;
 use asp_trail::trail::Trail;
 use asp_vars::lit::Lit;
 use std::alloc::AllocError;
+
+// To remember where a look ended costs more than it saves for nogoods of no more literals.
+const SHORT: usize = 8;
 
 /// Whether the literal is seen at once to be false at this level or below.
 pub fn is_quick(lit: Lit, level: usize, is_top: bool, trail: &Trail) -> bool
@@ -135,6 +138,7 @@ fn move_watch(
         Some(Pair {
             first: lit,
             second: other,
+            is_whole: false,
         }),
     );
     leave(watches, slots, i, id, front, trail);
@@ -175,7 +179,7 @@ fn visit_last(
     trail: &mut Trail,
 ) -> Result<Step, AllocError>
     requires visit { IsVisit slots.now watches.old trail.old front.now i id other }
-    requires kept { (n : Nogood) × (nogood_at slots.now id ≡ Some n) × (n.lits ≡ lits.now) }
+    requires kept { (n : Nogood) × (nogood_at slots.now id ≡ Some n) × HaveSame n.lits lits.now }
     requires others { AreTrueBeside trail.old.vars trail.old.entries lits.now other }
     requires room { trail.old.vars ≤ trail.old.room }
     ensures same { trail.new ≡ record trail.old { entries = trail.new.entries } }
@@ -197,8 +201,26 @@ fn visit_last(
     Ok(Step::Goes)
 }
 
-// Looks at the nogood, whose other watch isn't seen to be false.
-fn visit(
+// Where a look for another watch begins best: short nogoods are gone through from the first literal on.
+fn start_of(pairs: &Pairs, id: u32, lits: &[Lit]) -> usize {
+    if lits.len() > SHORT {
+        pairs.start(id as usize)
+    } else {
+        0
+    }
+}
+
+// The place where a look ended is the next one's beginning.
+fn note_start(pairs: &mut Pairs, id: u32, lits: &[Lit], place: usize)
+    ensures { pairs.new ≡ pairs.old }
+{
+    if lits.len() > SHORT {
+        pairs.set_start(id as usize, place);
+    }
+}
+
+// Looks at the nogood whole, as its other watch isn't seen to be false.
+fn visit_long(
     watches: &mut Watches,
     slots: &[Option<StoredNogood>],
     i: usize,
@@ -221,16 +243,73 @@ fn visit(
             Ok(Step::Goes)
         }
         Some(lits) => {
-            let start = watches.pairs.start(id as usize);
+            let start = start_of(&watches.pairs, id, lits);
             match beside_from(lits, start, other, trail.assignment()) {
                 Some(spot) => {
-                    watches.pairs.set_start(id as usize, spot.place);
+                    note_start(&mut watches.pairs, id, lits, spot.place);
                     move_watch(watches, slots, i, id, other, spot.lit, front, trail)?;
                     Ok(Step::Goes)
                 }
                 None => visit_last(watches, slots, lits, i, id, other, front, trail),
             }
         }
+    }
+}
+
+// Whether the nogood under a number has no literals beside its two watches, as far as its pair tells.
+fn is_whole(pairs: &Pairs, id: u32) -> bool
+    ensures { IsTrue result → (p : Pair) × (pair_at pairs.now id ≡ Some p) × IsTrue p.is_whole }
+{
+    match pairs.pair(id as usize) {
+        None => false,
+        Some(pair) => pair.is_whole,
+    }
+}
+
+// The nogood has no literals beside the front's, which holds, and the other watch: it isn't read.
+fn visit_whole(
+    watches: &mut Watches,
+    slots: &[Option<StoredNogood>],
+    i: usize,
+    id: u32,
+    other: Lit,
+    front: &Front,
+    trail: &mut Trail,
+) -> Result<Step, AllocError>
+    requires visit { IsVisit slots.now watches.old trail.old front.now i id other }
+    requires whole { (p : Pair) × (pair_at watches.old.pairs id ≡ Some p) × IsTrue p.is_whole }
+    requires room { trail.old.vars ≤ trail.old.room }
+    ensures same { trail.new ≡ record trail.old { entries = trail.new.entries } }
+    ensures extends { Extends slots.now trail.old.entries trail.new.entries }
+    ensures sound { IsSound slots.now watches.new trail.new }
+    ensures steps { IfOk result (Steps slots.now watches.old watches.new trail.new front.now i) }
+{
+    let _len = trail.len();
+    let lits = [front.lit, other];
+    visit_last(watches, slots, &lits, i, id, other, front, trail)
+}
+
+// Looks at the nogood, whose other watch isn't seen to be false.
+fn visit(
+    watches: &mut Watches,
+    slots: &[Option<StoredNogood>],
+    i: usize,
+    id: u32,
+    other: Lit,
+    front: &Front,
+    trail: &mut Trail,
+) -> Result<Step, AllocError>
+    requires visit { IsVisit slots.now watches.old trail.old front.now i id other }
+    requires room { trail.old.vars ≤ trail.old.room }
+    ensures same { trail.new ≡ record trail.old { entries = trail.new.entries } }
+    ensures extends { Extends slots.now trail.old.entries trail.new.entries }
+    ensures sound { IsSound slots.now watches.new trail.new }
+    ensures steps { IfOk result (Steps slots.now watches.old watches.new trail.new front.now i) }
+{
+    if is_whole(&watches.pairs, id) {
+        visit_whole(watches, slots, i, id, other, front, trail)
+    } else {
+        visit_long(watches, slots, i, id, other, front, trail)
     }
 }
 
@@ -251,9 +330,6 @@ pub fn visit_place(
     ensures steps { IfOk result (Steps slots.now watches.old watches.new trail.new front.now i) }
 {
     let watch = watches.lists.watch(front.lit, i);
-    if is_false_by(watch.blocker, front, trail) {
-        return Ok(Step::Stays);
-    }
     match watched_beside(&watches.pairs, watch.id, front.lit) {
         None => {
             leave(watches, slots, i, watch.id, front, trail);

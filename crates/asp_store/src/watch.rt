@@ -11,6 +11,8 @@ pub struct Pair {
     pub first: Lit,
     /// The other one.
     pub second: Lit,
+    /// Whether the nogood is known to have no literals beside these.
+    pub is_whole: bool,
 }
 
 /// What the list of a literal has of a nogood that watches it.

@@ -31,7 +31,7 @@ leave-requires-clause-looking c =
     let e : record w { lists = c.push-2.new.self; pairs = c.set.new.self } ≡ attached w p c.args.id = λ j. record w { lists = a j; pairs = b j } in
     subst (λ (x : Watches). IsLooking c.args.slots.now x c.args.trail.now c.args.i) (sym e)
     (attached_looking c.args.slots.now w c.args.trail.now c.args.i c.args.id p c.requires.waiting.kept.0 c.requires.waiting.kept.1
-    (c.requires.watched c.requires.waiting.kept.0 c.requires.waiting.kept.1) c.requires.waiting)
+    (c.requires.watched c.requires.waiting.kept.0 c.requires.waiting.kept.1) (c.requires.whole c.requires.waiting.kept.0 c.requires.waiting.kept.1) c.requires.waiting)
 
 pub leave-requires-clause-none : goal.leave-requires-clause-none
 leave-requires-clause-none c =

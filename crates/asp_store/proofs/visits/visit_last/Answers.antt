@@ -1,26 +1,22 @@
 use Rattle.std.proofs.Common.{◌≡◌, Bool, true, false, Option, List, refl, sym, ◌∙◌, subst, arith, rules}
-use Rattle.std.specs.List.{list_all}
-use Rattle.asp_vars.specs.Literals.{Literal, holds_in, has_literal}
-use Rattle.asp_trail.specs.Entries.{assignment}
+use Rattle.asp_vars.specs.Literals.{holds_in}
 use Rattle.asp_trail.specs.Trails.{Trailed, IsVar}
-use Rattle.asp_store.specs.Looking.{Grew}
 use Rattle.asp_store.specs.Walking.{IsVisit}
-use Rattle.asp_store.proofs.GrowLaws.{extends_grew, extends_none, grew_by, trail_more}
+use Rattle.asp_store.proofs.GrowLaws.{extends_grew, extends_none, grew_by, grew_same, trail_more}
 use Rattle.asp_store.proofs.LookLaws.{all_has, violated_when}
-use Rattle.asp_store.proofs.StepLaws.{visit_has, visit_var, visit_small, visit_grow}
+use Rattle.asp_store.proofs.StepLaws.{visit_has, visit_var, visit_grow}
 use Rattle.asp_store.proofs.visits.visit_last.Goals as goal
 
 pub falsify-level-requires-clause-has : goal.falsify-level-requires-clause-has
 falsify-level-requires-clause-has c =
-    subst (λ (xs : List Literal). has_literal xs c.args.other ≡ true) c.requires.kept.2
-    (visit_has c.args.slots.now c.args.watches.now c.args.trail.now c.args.front.now c.args.i c.args.id c.args.other c.requires.kept.0 c.requires.visit c.requires.kept.1)
+    sym (c.requires.kept.2 c.args.other)
+    ∙ visit_has c.args.slots.now c.args.watches.now c.args.trail.now c.args.front.now c.args.i c.args.id c.args.other c.requires.kept.0 c.requires.visit c.requires.kept.1
 
 pub falsify-level-requires-clause-var : goal.falsify-level-requires-clause-var
 falsify-level-requires-clause-var c =
-    all_has (λ l. IsVar c.args.trail.now.vars l.var) c.args.lits.now c.args.other
-    (visit_small c.args.slots.now c.args.watches.now c.args.trail.now c.args.id c.requires.kept.0 c.args.lits.now c.requires.visit.walking.sound c.requires.kept.1 c.requires.kept.2)
-    (subst (λ (xs : List Literal). has_literal xs c.args.other ≡ true) c.requires.kept.2
-    (visit_has c.args.slots.now c.args.watches.now c.args.trail.now c.args.front.now c.args.i c.args.id c.args.other c.requires.kept.0 c.requires.visit c.requires.kept.1))
+    all_has (λ l. IsVar c.args.trail.now.vars l.var) c.requires.kept.0.lits c.args.other
+    (c.requires.visit.walking.sound.net.small c.args.id c.requires.kept.0 c.requires.kept.1)
+    (visit_has c.args.slots.now c.args.watches.now c.args.trail.now c.args.front.now c.args.i c.args.id c.args.other c.requires.kept.0 c.requires.visit c.requires.kept.1)
 
 pub falsify-level-requires-clause-not_true : goal.falsify-level-requires-clause-not_true
 falsify-level-requires-clause-not_true c =
@@ -31,9 +27,8 @@ returns-then-holds-clause-steps c =
     let t = c.args.trail.now in (
       c.requires.kept.0,
       c.requires.kept.1,
-      subst (λ (xs : List Literal). list_all (holds_in (assignment t.vars t.entries)) xs ≡ true) (sym c.requires.kept.2)
-          (violated_when t.vars t.entries c.args.lits.now c.args.other c.requires.others
-          (λ h. subst (λ (a : List (Option Bool)). holds_in a c.args.other ≡ true) c.assignment.ensures.values (sym c.holds.ensures ∙ c.if-holds.true))),
+      violated_when t.vars t.entries c.requires.kept.0.lits c.args.other (λ k h ne. c.requires.others k (sym (c.requires.kept.2 k) ∙ h) ne)
+          (λ h. subst (λ (a : List (Option Bool)). holds_in a c.args.other ≡ true) c.assignment.ensures.values (sym c.holds.ensures ∙ c.if-holds.true)),
     )
 
 pub block-requires-clause-visit : goal.block-requires-clause-visit
@@ -84,7 +79,7 @@ returns-then-level-front-clause-same c = c.falsify-level.ensures.same
 pub returns-then-level-front-clause-extends : goal.returns-then-level-front-clause-extends
 returns-then-level-front-clause-extends c =
     extends_grew c.args.slots.now c.args.id c.requires.kept.0 c.args.trail.now.entries c.falsify-level.new.trail.entries c.requires.kept.1
-    (subst (λ (xs : List Literal). Grew c.args.id xs c.args.trail.now.entries c.falsify-level.new.trail.entries) (sym c.requires.kept.2) c.falsify-level.ensures.grew)
+    (grew_same c.args.id c.requires.kept.0.lits c.args.lits.now c.args.trail.now.entries c.falsify-level.new.trail.entries c.requires.kept.2 c.falsify-level.ensures.grew)
 
 pub returns-then-level-front-clause-sound : goal.returns-then-level-front-clause-sound
 returns-then-level-front-clause-sound c = c.block.ensures.0.sound
@@ -98,7 +93,7 @@ returns-in_err-set_apart-clause-same c = c.falsify-level.ensures.same
 pub returns-in_err-set_apart-clause-extends : goal.returns-in_err-set_apart-clause-extends
 returns-in_err-set_apart-clause-extends c =
     extends_grew c.args.slots.now c.args.id c.requires.kept.0 c.args.trail.now.entries c.falsify-level.new.trail.entries c.requires.kept.1
-    (subst (λ (xs : List Literal). Grew c.args.id xs c.args.trail.now.entries c.falsify-level.new.trail.entries) (sym c.requires.kept.2) c.falsify-level.ensures.grew)
+    (grew_same c.args.id c.requires.kept.0.lits c.args.lits.now c.args.trail.now.entries c.falsify-level.new.trail.entries c.requires.kept.2 c.falsify-level.ensures.grew)
 
 pub returns-in_err-set_apart-clause-sound : goal.returns-in_err-set_apart-clause-sound
 returns-in_err-set_apart-clause-sound c = c.set_apart.ensures.sound
@@ -112,7 +107,7 @@ returns-clause-same c = c.falsify-level.ensures.same
 pub returns-clause-extends : goal.returns-clause-extends
 returns-clause-extends c =
     extends_grew c.args.slots.now c.args.id c.requires.kept.0 c.args.trail.now.entries c.falsify-level.new.trail.entries c.requires.kept.1
-    (subst (λ (xs : List Literal). Grew c.args.id xs c.args.trail.now.entries c.falsify-level.new.trail.entries) (sym c.requires.kept.2) c.falsify-level.ensures.grew)
+    (grew_same c.args.id c.requires.kept.0.lits c.args.lits.now c.args.trail.now.entries c.falsify-level.new.trail.entries c.requires.kept.2 c.falsify-level.ensures.grew)
 
 pub returns-clause-sound : goal.returns-clause-sound
 returns-clause-sound c = c.set_apart.ensures.sound

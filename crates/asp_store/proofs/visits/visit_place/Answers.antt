@@ -1,29 +1,11 @@
 use Rattle.std.proofs.Common.{refl}
-use Rattle.asp_vars.specs.Codes.{code_of}
 use Rattle.asp_store.specs.Walking.{IsVisit}
 use Rattle.asp_store.proofs.GrowLaws.{extends_none}
-use Rattle.asp_store.proofs.StepLaws.{step_quick, visit_var}
+use Rattle.asp_store.proofs.StepLaws.{visit_var}
 use Rattle.asp_store.proofs.visits.visit_place.Goals as goal
 
 pub watch-watch-requires : goal.watch-watch-requires
 watch-watch-requires c = c.requires.within
-
-pub is_false_by-requires : goal.is_false_by-requires
-is_false_by-requires c = c.requires.walking.sound.net.blockers (code_of c.args.front.now.lit) c.args.i c.watch-watch.result c.watch-watch.ensures
-
-pub returns-then-is_false_by-clause-same : goal.returns-then-is_false_by-clause-same
-returns-then-is_false_by-clause-same c = refl
-
-pub returns-then-is_false_by-clause-extends : goal.returns-then-is_false_by-clause-extends
-returns-then-is_false_by-clause-extends c = extends_none c.args.slots.now c.args.trail.now.entries
-
-pub returns-then-is_false_by-clause-sound : goal.returns-then-is_false_by-clause-sound
-returns-then-is_false_by-clause-sound c = c.requires.walking.sound
-
-pub returns-then-is_false_by-clause-steps : goal.returns-then-is_false_by-clause-steps
-returns-then-is_false_by-clause-steps c =
-    step_quick c.args.slots.now c.args.watches.now c.args.trail.now c.args.front.now c.args.i c.watch-watch.result c.watch-watch.ensures (c.is_false_by.ensures c.if-is_false_by.true)
-    c.requires.walking
 
 pub leave-requires-clause-walking : goal.leave-requires-clause-walking
 leave-requires-clause-walking c = c.requires.walking

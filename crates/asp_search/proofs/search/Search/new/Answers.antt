@@ -15,13 +15,13 @@ invariant_of-result g c =
     let first : IsSearch p c.args.mode t c.in_ok-learner.learner c.in_ok-checker.checker [] [] None None =
     search_begins p c.args.mode t c.in_ok-learner.learner c.in_ok-checker.checker c.program-program.ensures.sound (c.in_ok-learner.ensures ∙ c.vars-vars.ensures.count) c.in_ok-checker.ensures
     c.in_ok-state.ensures.slots e in
-    subst (λ (ks : List Atoms). IsSearch p c.args.mode t c.in_ok-learner.learner c.in_ok-checker.checker ks c.new-7.result.items None None) (sym c.new-6.ensures.items)
-    (subst (λ (blocking : List ℕ). IsSearch p c.args.mode t c.in_ok-learner.learner c.in_ok-checker.checker [] blocking None None) (sym c.new-7.ensures.items) first)
+    subst (λ (ks : List Atoms). IsSearch p c.args.mode t c.in_ok-learner.learner c.in_ok-checker.checker ks c.new-8.result.items None None) (sym c.new-7.ensures.items)
+    (subst (λ (blocking : List ℕ). IsSearch p c.args.mode t c.in_ok-learner.learner c.in_ok-checker.checker [] blocking None None) (sym c.new-8.ensures.items) first)
 
 pub returns-clause-same : goal.returns-clause-same
 returns-clause-same g c =
     let p = c.args.compiled.now in
     let t : SearchView = c.in_ok-state.state in
     let e : t ≡ first_state p t.slots = unbounded_state p _ t c.requires.unbounded c.in_ok-state.ensures.same in
-    subst (λ (ks : List Atoms). view_of c.args.mode t c.new-5.result ks None ≡ new_search p c.args.mode t.slots) (sym c.new-6.ensures.items)
+    subst (λ (ks : List Atoms). view_of c.args.mode t c.new-5.result ks None ≡ new_search p c.args.mode t.slots) (sym c.new-7.ensures.items)
     (search_is_new p c.args.mode t c.new-5.result e c.new-5.ensures)

@@ -1,5 +1,7 @@
-use Rattle.std.proofs.Common.{◌<◌, List, Some, sym, ap, ◌∙◌, subst, arith}
+use Rattle.std.proofs.Common.{◌≡◌, ℕ, ◌<◌, List, Some, sym, ap, ◌∙◌, subst, arith}
+use Rattle.std.proofs.lemmas.Option.{same_Some}
 use Rattle.asp_vars.specs.Literals.{Literal}
+use Rattle.asp_store.specs.Keeping.{kept_at}
 use Rattle.asp_analyze.specs.declared.learn.Learned.TheVariants as learned
 use Rattle.asp_search_laws.specs.Searching.{Searching}
 use Rattle.asp_search_laws.specs.Steps.{Learns, Stops, Fails, IsFailure}
@@ -8,8 +10,8 @@ use Rattle.asp_state.specs.SearchStates.{SearchView}
 use Rattle.asp_search.specs.Invariants.{view_of}
 use Rattle.asp_search.specs.Meeting.{IsMet}
 use Rattle.asp_search.proofs.MeetLaws.{met_shows, met_useful, shown_holds, shows_for, clash_for}
-use Rattle.asp_search.proofs.SearchLaws.{search_added, search_stays, newest_last}
-use Rattle.asp_search.proofs.StepsLaws.{same_cube, always_err, conflict_of, fails_here, fails_paid, met_stops, met_learns}
+use Rattle.asp_search.proofs.SearchLaws.{search_added, search_stays, search_thinned, newest_last, last_named}
+use Rattle.asp_search.proofs.StepsLaws.{same_cube, always_err, conflict_of, fails_here, fails_paid, met_stops, met_learns, learns_swept, jumped_named}
 use Rattle.asp_search.proofs.search.Search.pay.Goals as goal
 
 pub conflict-requires : goal.conflict-requires
@@ -109,12 +111,18 @@ pub invariant_of-self-2 : goal.invariant_of-self-2
 invariant_of-self-2 g c =
     let i = c.self.inside in
     let q = c.requires.met.0 in
+    let u = c.jump.new.state in
+    let w = c.sweep.new.state in
+    let new = c.in_ok-new.new in
     let m = subst (λ (s : Searching). IsMet s q c.args.id (learned.Jump c.args.nogood c.args.to c.args.lit)) (sym c.self.view_is) c.requires.met.1 in
     let e = c.in_ok-new.ensures.ok in
-    search_added i.compiled.now i.mode i.state c.jump.new.state i.learner i.checker i.known.items i.blocking.items i.bound i.last (Some c.in_ok-new.new) c.in_ok-new.new c.args.nogood kind.Learnt
+    let last = newest_last i.state.slots u.slots new c.args.nogood kind.Learnt c.in_ok-new.ensures.added in
+    let added = search_added i.compiled.now i.mode i.state u i.learner i.checker i.known.items i.blocking.items i.bound i.last (Some new) new c.args.nogood kind.Learnt
     (ap (λ (x : SearchView). x.program) e) (ap (λ (x : SearchView). x.bound) e) c.in_ok-new.ensures.added
-    (met_useful i.mode i.state i.pace i.known.items i.last q c.args.id (learned.Jump c.args.nogood c.args.to c.args.lit) m)
-    (newest_last i.state.slots c.jump.new.state.slots c.in_ok-new.new c.args.nogood kind.Learnt c.in_ok-new.ensures.added) c.self.invariant
+    (met_useful i.mode i.state i.pace i.known.items i.last q c.args.id (learned.Jump c.args.nogood c.args.to c.args.lit) m) last c.self.invariant in
+    search_thinned i.compiled.now i.mode u w i.learner i.checker i.known.items i.blocking.items i.bound (Some new) (Some new) u.entries
+    (ap (λ (x : SearchView). x.program) c.sweep.ensures.same) (ap (λ (x : SearchView). x.bound) c.sweep.ensures.same) c.sweep.ensures.reduced
+    (last_named u.slots w.slots new (jumped_named i.state u w.slots c.args.to new c.args.lit (ap (λ (x : SearchView). x.entries) e) c.sweep.ensures.reduced) last) added
 
 pub returns-clause-ok : goal.returns-clause-ok
 returns-clause-ok g c = λ r e.
@@ -131,8 +139,15 @@ returns-clause-ok g c = λ r e.
     c.self.invariant.bounded c.in_ok-conflict.ensures in
     let is = conflict_of (g.P.Propagator.gives i.state.program i.state.bound) i.mode i.state i.pace i.known.items i.last q c.args.id c.args.lit x m.entered shows clash in
     let left : 0 < f.left = omega (arith, c.left.ensures.left, c.if-left-eq0.false) in
-    let new : Searching = view_of i.mode u c.count.new.self i.known.items (Some c.in_ok-new.new) in
-    let learns = met_learns (g.P.Propagator.gives i.state.program i.state.bound) i.mode i.state i.pace i.known.items i.last q f h x u c.count.new.self u.slots u.ranking c.args.id c.in_ok-new.new
+    let w = c.sweep.new.state in
+    let d = c.count.new.self in
+    let new : Searching = view_of i.mode w d i.known.items (Some c.in_ok-new.new) in
+    let jumped = met_learns (g.P.Propagator.gives i.state.program i.state.bound) i.mode i.state i.pace i.known.items i.last q f h x u c.count.new.self u.slots u.ranking c.args.id c.in_ok-new.new
     c.args.to c.args.nogood c.args.lit m is left c.burn.ensures c.in_ok-new.ensures.added c.in_ok-new.ensures.ok c.count.ensures in
+    let G = g.P.Propagator.gives i.state.program i.state.bound in
+    let named = jumped_named i.state u w.slots c.args.to c.in_ok-new.new c.args.lit (ap (λ (x : SearchView). x.entries) c.in_ok-new.ensures.ok) c.sweep.ensures.reduced in
+    let swept = learns_swept G (view_of i.mode i.state i.pace i.known.items i.last) (view_of i.mode u d i.known.items (Some c.in_ok-new.new)) w.slots q f h
+    (λ id is. subst (λ (k : ℕ). kept_at w.slots k ≡ kept_at u.slots k) (same_Some c.in_ok-new.new id is) named) c.sweep.ensures.reduced c.sweep.ensures.others jumped in
+    let learns = subst (λ (x : SearchView). Learns G (view_of i.mode i.state i.pace i.known.items i.last) (view_of i.mode x d i.known.items (Some c.in_ok-new.new)) q f h) (sym c.sweep.ensures.same) swept in
     subst (λ (y : List Literal). Learns (g.P.Propagator.gives s.program s.bound) s new y f h) (same_cube s.cube q r c.requires.met.1.entered e)
     (subst (λ (z : Searching). Learns (g.P.Propagator.gives z.program z.bound) z new q f h) c.self.view_is learns)

@@ -1,4 +1,4 @@
-use Rattle.std.proofs.Common.{◌≡◌, Bool, true, false, Option, List, refl, sym, ◌∙◌, subst, arith, rules}
+use Rattle.std.proofs.Common.{◌≡◌, Bool, true, false, Option, List, refl, sym, ap, ◌∙◌, subst, arith, rules}
 use Rattle.std.proofs.lemmas.Option.{same_Some, none-some}
 use Rattle.asp_vars.specs.Literals.{Literal, holds_in, has_literal, literal_eq}
 use Rattle.asp_vars.specs.declared.nogood.Nogood.{Nogood}
@@ -9,7 +9,7 @@ use Rattle.asp_trail.specs.Trails.{IsVar}
 use Rattle.asp_store.proofs.GrowLaws.{extends_none}
 use Rattle.asp_store.proofs.LookLaws.{all_has, differ_from}
 use Rattle.asp_store.proofs.StepLaws.{visit_small}
-use Rattle.asp_store.proofs.visits.visit.Goals as goal
+use Rattle.asp_store.proofs.visits.visit_long.Goals as goal
 
 pub leave-requires-clause-at : goal.leave-requires-clause-at
 leave-requires-clause-at c = (c.requires.visit.watch, c.requires.visit.at, c.requires.visit.id_is)
@@ -47,7 +47,7 @@ leave-requires-clause-walking c = c.requires.visit.walking
 pub move_watch-requires-clause-visit : goal.move_watch-requires-clause-visit
 move_watch-requires-clause-visit c =
     let w = c.args.watches.now in
-    let same : record w { pairs = c.set_start.new.self } ≡ w = λ j. record w { pairs = c.set_start.ensures j } in
+    let same : record w { pairs = c.note_start.new.pairs } ≡ w = λ j. record w { pairs = c.note_start.ensures j } in
     subst (λ (x : Watches). IsVisit c.args.slots.now x c.args.trail.now c.args.front.now c.args.i c.args.id c.args.other) (sym same) c.requires.visit
 
 pub returns-in_err-move_watch-in-Some-beside_from-clause-same : goal.returns-in_err-move_watch-in-Some-beside_from-clause-same
@@ -66,7 +66,7 @@ pub visit_last-requires-clause-visit : goal.visit_last-requires-clause-visit
 visit_last-requires-clause-visit c = c.requires.visit
 
 pub visit_last-requires-clause-kept : goal.visit_last-requires-clause-kept
-visit_last-requires-clause-kept c = c.in-Some.ensures
+visit_last-requires-clause-kept c = let m = c.in-Some.ensures in (m.0, m.1, λ k. ap (λ (xs : List Literal). has_literal xs k) m.2)
 
 pub visit_last-requires-clause-room : goal.visit_last-requires-clause-room
 visit_last-requires-clause-room c = c.requires.room
@@ -95,7 +95,7 @@ returns-in_ok-move_watch-in-Some-beside_from-clause-sound c = c.move_watch.ensur
 pub returns-in_ok-move_watch-in-Some-beside_from-clause-steps : goal.returns-in_ok-move_watch-in-Some-beside_from-clause-steps
 returns-in_ok-move_watch-in-Some-beside_from-clause-steps c =
     let w = c.args.watches.now in
-    let same : record w { pairs = c.set_start.new.self } ≡ w = λ j. record w { pairs = c.set_start.ensures j } in
+    let same : record w { pairs = c.note_start.new.pairs } ≡ w = λ j. record w { pairs = c.note_start.ensures j } in
     subst (λ (x : Watches). Steps c.args.slots.now x c.move_watch.new.watches c.args.trail.now c.args.front.now c.args.i step.Goes) same c.in_ok-move_watch-in-Some-beside_from.ensures.steps
 
 pub returns-in-None-beside_from-clause-same : goal.returns-in-None-beside_from-clause-same
