@@ -11,7 +11,7 @@ use Rattle.asp_vars.specs.Numbering.{bodies_of, var_count}
 use Rattle.asp_checker.specs.declared.bounds.Bound.{Bound}
 use Rattle.asp_checker.specs.declared.chase.Found.{Found}
 use Rattle.asp_checker.specs.declared.chase.Found.TheVariants as found
-use Rattle.asp_checker.specs.Propagation.{Known, is_broken, reaches_bound, has_conflict, IsPropagated}
+use Rattle.asp_checker.specs.Propagation.{Known, is_broken, reaches_bound, has_conflict}
 use Rattle.asp_checker.specs.Lines.{AreOf}
 use Rattle.asp_checker.specs.Steps.{AreWithin, Follow}
 use Rattle.asp_checker.specs.Looks.{IsUnit}
@@ -22,7 +22,7 @@ use Rattle.asp_checker.proofs.StepLaws.{violated-conflicts, value-held}
 use Rattle.asp_checker.proofs.WeightLaws.{within-then}
 use Rattle.asp_checker.proofs.SweepLaws.{row_of, row_range, visit_follows, visit_grows}
 use Rattle.asp_checker.proofs.BlockLaws.{within-value}
-use Rattle.asp_checker.proofs.CloseLaws.{extends_itself, extends_then, refuted_before, nogoods_known, rows_range}
+use Rattle.asp_checker.proofs.CloseLaws.{extends_then, nogoods_known, rows_range}
 use Rattle.asp_checker.proofs.AssumeLaws.{empty_follows}
 
 -- ---- one nogood

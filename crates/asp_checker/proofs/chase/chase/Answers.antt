@@ -19,9 +19,9 @@ hints-preserved c =
     let p = c.args.compiled.now in
     let k = known_by c.args.rows.now c.args.bound.now in
     record {
-      extends = found_more p k c.args.values.now c.hints.values c.follow-found.new.values c.follow-found.result c.in_default.not-Conflict c.hints.invariant.extends c.follow-found.ensures;
+      extends = found_more p k c.args.values.now c.hints.values c.follow-found.new.values c.follow-found.result c.in_default-found.not-Conflict c.hints.invariant.extends c.follow-found.ensures;
       trailed = trailed_then c.args.values.now c.hints.values c.follow-found.new.values c.args.trail.now.items c.hints.trail.items c.add.new.trail.items c.hints.invariant.trailed
-          (subst (IsTrailedAlike c.hints.values c.follow-found.new.values c.hints.trail.items) (sym c.in_ok-add.ensures) (trailed_found p k c.hints.values c.follow-found.new.values c.hints.trail.items c.follow-found.result c.in_default.not-Conflict c.follow-found.ensures));
+          (subst (IsTrailedAlike c.hints.values c.follow-found.new.values c.hints.trail.items) (sym c.in_ok-add.ensures) (trailed_found p k c.hints.values c.follow-found.new.values c.hints.trail.items c.follow-found.result c.in_default-found.not-Conflict c.follow-found.ensures));
     }
 
 pub returns-in-Conflict-clause-conflict : goal.returns-in-Conflict-clause-conflict

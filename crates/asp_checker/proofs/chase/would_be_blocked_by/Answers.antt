@@ -1,4 +1,4 @@
-use Rattle.std.proofs.Common.{Bool, true, List, Option, None, set, subst, sym, ap, ◌≡◌, ◌∙◌}
+use Rattle.std.proofs.Common.{Bool, true, List, Option, None, set, subst, ap, ◌≡◌, ◌∙◌}
 use Rattle.asp_checker.specs.Blocks.{is_blocked, cost_of_bound}
 use Rattle.asp_checker.proofs.BlockLaws.{set_back}
 use Rattle.asp_checker.proofs.chase.would_be_blocked_by.Goals as goal

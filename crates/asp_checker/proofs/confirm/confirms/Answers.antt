@@ -1,4 +1,4 @@
-use Rattle.std.proofs.Common.{[], ◌+◌, arith, sym, ap, subst, ◌∙◌}
+use Rattle.std.proofs.Common.{◌+◌, sym, ap, subst, ◌∙◌}
 use Rattle.asp_checker.specs.Blocks.{known_by}
 use Rattle.asp_checker.specs.Chasing.{AreTakenBack}
 use Rattle.asp_checker.proofs.ChaseLaws.{trailed_from, root_undone}

@@ -5,7 +5,9 @@ use Rattle.asp_vars.specs.Literals.{Literal}
 use Rattle.asp_checker.specs.declared.judge.Step.TheVariants as step
 use Rattle.asp_checker.specs.Lines.{AreOf}
 use Rattle.asp_checker.specs.Blocks.{known_by}
+use Rattle.asp_checker.specs.Chasing.{IsRoot}
 use Rattle.asp_checker.specs.Judging.{IsLineJudged}
+use Rattle.asp_checker.proofs.ChaseLaws.{root_more}
 use Rattle.asp_checker.proofs.JudgeLaws.{wrong_line, known_next, confirmed_more, closes_more, lines_whole, lits_are_of}
 use Rattle.asp_checker.proofs.judge.judge_lines.Goals as goal
 
@@ -26,6 +28,13 @@ returns-in-Wrong c =
 
 pub closes-closing-requires : goal.closes-closing-requires
 closes-closing-requires c = let says = rw c.in-Known.is at c.in_ok-step.ensures.judged in c.as_slice-own.ensures.value ∙ says.0
+
+pub learn-requires-clause-root : goal.learn-requires-clause-root
+learn-requires-clause-root c =
+    let p = c.args.compiled.now in
+    let values = c.judge_line.new.values in
+    subst (λ (ns : List (List Literal)). IsRoot p (known_by ns c.args.bound.now) values) (sym (c.as_slice-more.ensures.value ∙ c.in_ok-push-in-Known.ensures.items))
+    (root_more p c.loop-at.rows.items (c.in-Known.lits ∷ []) c.args.bound.now values (subst (λ (ns : List (List Literal)). IsRoot p (known_by ns c.args.bound.now) values) c.as_slice-known.ensures.value c.in_ok-step.ensures.root))
 
 pub loop-at-preserved : goal.loop-at-preserved
 loop-at-preserved c =

@@ -1,4 +1,4 @@
-use Rattle.std.proofs.Common.{◌+◌, length, replicate, ap, ◌∙◌, None}
+use Rattle.std.proofs.Common.{◌+◌, length, ap, ◌∙◌, None}
 use Rattle.std.proofs.lemmas.List.{length-replicate}
 use Rattle.asp_checker.specs.Blocks.{known_by}
 use Rattle.asp_checker.proofs.ChaseLaws.{root_first}
