@@ -128,7 +128,7 @@ within-both x y v b i j within u c e = cases (eqb u v) refl
         let apart : u ≢ v = λ same. false≢true (q ∙ eq-eqb u v same) in
         get_or-set_other y v u (Some b) None apart ∙ within u c (sym (get_or-set_other x v u (Some b) None apart) ∙ e)
 
-within-value : (x y : List (Option Bool)) (v : ℕ) (b : Bool) → v < length x → AreWithin x y → value_of y v ≡ Some b → AreWithin (set x v (Some b)) y
+pub within-value : (x y : List (Option Bool)) (v : ℕ) (b : Bool) → v < length x → AreWithin x y → value_of y v ≡ Some b → AreWithin (set x v (Some b)) y
 within-value x y v b i within is u c e = cases (eqb u v) refl
   where
     cases : (t : Bool) → t ≡ eqb u v → value_of y u ≡ Some c

@@ -51,7 +51,7 @@ found_implied p k x y l sound size h e =
     )
 
 -- ---- nogoods
-nogoods_known : (p : Program) (rows : List (List Literal)) (bound : Option Bound) → AllByRecursion (AreOf p) rows → AreNogoodsOf p (known_by rows bound) rows
+pub nogoods_known : (p : Program) (rows : List (List Literal)) (bound : Option Bound) → AllByRecursion (AreOf p) rows → AreNogoodsOf p (known_by rows bound) rows
 nogoods_known p rows bound of =
     each_weaker (λ n. IsKnown (known_by rows bound) n × AreOf p n) (IsNogoodOf p (known_by rows bound)) (λ n h. record { known = h.0; of = h.1 }) rows (each_both (IsKnown (known_by rows bound)) (AreOf p) rows (each_among rows) of)
 

@@ -16,3 +16,4 @@ pub mod CompletedLaws
 pub mod JudgeLaws
 pub mod RunLaws
 pub mod WrongLaws
+pub mod ChaseLaws

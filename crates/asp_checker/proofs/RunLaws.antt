@@ -1,6 +1,6 @@
 -- What is said of texts, step by step.
 use Rattle.std.proofs.Common.{◌≡◌, ℕ, suc, ◌+◌, ◌<◌, ◌≤◌, Bool, true, false, cond, ◌&&◌, ◌==◌, List, [], ◌∷◌, length, take, drop, get_or, refl, sym, ap, ◌∙◌, subst, arith, Option, Some, None, Result, Ok, Err}
-use Rattle.std.specs.Prelude.{IfSome}
+use Rattle.std.specs.Prelude.{IfSome, IfOk}
 use Rattle.std.specs.Io.KnownBytes.{Appends, Keeps}
 use Rattle.std.proofs.lemmas.List.{at_drop_more}
 use Rattle.asp_model.specs.declared.program.Program.{Program}
@@ -141,3 +141,7 @@ read_writes (proof.Refused n) is = cc
 -- ---- a right proof
 pub yes_shows : (p q : Program) (r : Proof) (j : Judgement) → q ≡ p → IsSound p → IsJudged q r j → j ≡ judgement.Yes → Shows p r
 yes_shows p q r j e sound h is = right-shows p r sound (subst (λ i. IsJudged p r i) is (subst (λ m. IsJudged m r j) e h))
+
+pub ends_shown : {E : Type 0} (p q : Program) (r : Proof) (o : Result Judgement E) → q ≡ p → IsSound p → IfOk o (IsJudged q r) → IfOk o (λ j. j ≡ judgement.Yes → Shows p r)
+ends_shown p q r (Ok j) e sound h = yes_shows p q r j e sound h
+ends_shown p q r (Err _) e sound h = tt

@@ -27,13 +27,13 @@ among_of p (k ∷ n) l h e = (elim (literal_eq k l) as (λ v. literal_eq k l ≡
 ]) refl e
 
 -- the value that a nogood implies follows
-visit_follows : (p : Program) (k : Known) (n m : List Literal) (x y : List (Option Bool)) → IsNogoodOf p k m → AllByRecursion (λ l. l.var < length x) m → Follow p k n x → IsVisited x y m visit.Implied → Follow p k n y
+pub visit_follows : (p : Program) (k : Known) (n m : List Literal) (x y : List (Option Bool)) → IsNogoodOf p k m → AllByRecursion (λ l. l.var < length x) m → Follow p k n x → IsVisited x y m visit.Implied → Follow p k n y
 visit_follows p k n m x y of range follow v =
     let u : Literal = v.0 in
     let stands = among_of p m u of.of v.1.among in
     subst (Follow p k n) (sym v.2) (follow-more p k n x (complement u) (among_range (length x) m u range v.1.among) follow (unit-forces p k x m u of.known stands.0 stands.1 v.1.others))
 
-row_of : {A : Type 0} (P : A → Type 0) (xs : List A) (i : ℕ) (x : A) → i < length xs → x ≡ get_or xs i x → AllByRecursion P xs → P x
+pub row_of : {A : Type 0} (P : A → Type 0) (xs : List A) (i : ℕ) (x : A) → i < length xs → x ≡ get_or xs i x → AllByRecursion P xs → P x
 row_of P [] i x lt e h = absurd (omega arith)
 row_of P (y ∷ xs) zero x lt e h = subst P (sym e) h.0
 row_of P (y ∷ xs) (suc i) x lt e h = row_of P xs i x (omega arith) e h.1
@@ -52,7 +52,7 @@ before_row x z rows front visit.Fixpoint h = nothing x z rows h.0
 before_row x z rows front visit.Conflict h = absurd h
 before_row x z rows front visit.Implied h = h.0
 
-visit_grows : (x y : List (Option Bool)) (row : List Literal) → AllByRecursion (λ l. l.var < length x) row → IsVisited x y row visit.Implied → Grows x y
+pub visit_grows : (x y : List (Option Bool)) (row : List Literal) → AllByRecursion (λ l. l.var < length x) row → IsVisited x y row visit.Implied → Grows x y
 visit_grows x y row range v =
     let u : Literal = v.0 in
     let lt : u.var < length x = among_range (length x) row u range v.1.among in

@@ -9,3 +9,4 @@ pub mod Assuming
 pub mod Loops
 pub mod Judging
 pub mod Runs
+pub mod Chasing

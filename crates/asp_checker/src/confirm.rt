@@ -1,14 +1,19 @@
 //! Whether unit propagation from a line's literals leads to a conflict.
-ghost use Rattle.std.specs.Prelude.{◌≡◌, ◌+◌, ◌<◌, true, false, All, IfOk, length};
+ghost use Rattle.std.specs.Prelude.{◌≡◌, ◌+◌, ◌<◌, true, false, All, IfOk, OnOk, [], length};
 ghost use Rattle.std.specs.List.{AllByRecursion};
 ghost use Rattle.asp_vars.specs.Numbering.{var_count};
 ghost use Rattle.asp_checker.specs.Propagation.{LeadsToConflict};
 ghost use Rattle.asp_checker.specs.Lines.{AreOf};
 ghost use Rattle.asp_checker.specs.Blocks.{HasLevels, known_by};
 ghost use Rattle.asp_checker.specs.Assuming.{IsAssumed, AreAssumed};
+ghost use Rattle.asp_checker.specs.Steps.{Follow};
+ghost use Rattle.asp_checker.specs.Chasing.{IsRoot, IsTrailed, IsTrailedAlike};
 
 use crate::bounds::Bound;
+use crate::chase::chase;
 use crate::close::close;
+use crate::root::{copied, undo};
+use crate::watches::Watches;
 use asp_model::seq::Seq;
 use asp_vars::assign::Assign;
 use asp_vars::compiled::Compiled;
@@ -16,48 +21,123 @@ use asp_vars::lit::Lit;
 use std::alloc::{AllocError, Global};
 
 // Makes a literal hold, unless it fails.
-fn assume(values: &mut Assign, lit: Lit) -> bool
+fn assume(values: &mut Assign, trail: &mut Vec<Lit>, lit: Lit) -> Result<bool, AllocError>
     requires { lit.var < length values.old }
-    ensures { IsAssumed values.old values.new lit result }
+    ensures assumed { IfOk result (IsAssumed values.old values.new lit) }
+    ensures trailed { OnOk result (IsTrailedAlike values.old values.new trail.old.items trail.new.items) }
 {
     if values.holds(lit.complement()) {
-        return false;
+        return Ok(false);
     }
+    let held = values.holds(lit);
     values.set(lit);
-    true
+    if held {
+        return Ok(true);
+    }
+    trail.push(lit)?;
+    Ok(true)
 }
 
-// Makes all of the literals hold, unless two of them are contrary.
-fn assume_all(values: &mut Assign, lits: &[Lit]) -> bool
+// Makes all of the literals hold, unless two of them are contrary. The trail has those that didn't hold.
+fn assume_all(values: &mut Assign, trail: &mut Vec<Lit>, lits: &[Lit]) -> Result<bool, AllocError>
     requires { All (λ l. l.var < length values.old) lits.now }
-    ensures { AreAssumed values.old values.new lits.now lits.now result }
+    ensures assumed { IfOk result (AreAssumed values.old values.new lits.now lits.now) }
+    ensures trailed { OnOk result (IsTrailedAlike values.old values.new trail.old.items trail.new.items) }
 {
     for lit in lits {
-        if !assume(values, *lit) {
-            return false;
+        let assumed = assume(values, trail, *lit)?;
+        if !assumed {
+            return Ok(false);
         }
     }
-    true
+    Ok(true)
 }
 
-/// Whether unit propagation from the literals leads to a conflict, where these nogoods and this bound are known.
-pub fn confirms(
+// Whether unit propagation from the literals leads to a conflict, by looks at all that is known. The values follow from
+// the literals.
+fn confirms_plainly(
     alloc: Global,
     compiled: &Compiled,
     rows: &[Seq<Lit>],
     bound: &Option<Bound>,
+    known: &Assign,
     lits: &[Lit],
 ) -> Result<bool, AllocError>
     requires rows { AllByRecursion (AreOf compiled.now) rows.now }
     requires lits { AreOf compiled.now lits.now }
     requires levels { HasLevels compiled.now bound.now }
+    requires size { length known.now ≡ var_count compiled.now + 1 }
+    requires follow { Follow compiled.now (known_by rows.now bound.now) lits.now known.now }
     ensures yes { IfOk result (λ yes. yes ≡ true → LeadsToConflict compiled.now (known_by rows.now bound.now) lits.now) }
     ensures no { IfOk result (λ yes. yes ≡ false → LeadsToConflict compiled.now (known_by rows.now bound.now) lits.now → ⊥) }
 {
     let _program = compiled.program();
-    let mut values = Assign::new(alloc, compiled.vars())?;
-    if !assume_all(&mut values, lits) {
+    let mut values = copied(alloc, compiled, known)?;
+    let mut trail = Vec::new(alloc);
+    let assumed = assume_all(&mut values, &mut trail, lits)?;
+    if !assumed {
         return Ok(true);
     }
     Ok(close(compiled, rows, bound, &mut values))
+}
+
+// Whether unit propagation from the literals leads to a conflict. What it adds to the values is on the trail.
+fn confirms_by(
+    alloc: Global,
+    compiled: &Compiled,
+    rows: &[Seq<Lit>],
+    bound: &Option<Bound>,
+    watches: &mut Watches,
+    values: &mut Assign,
+    trail: &mut Vec<Lit>,
+    lits: &[Lit],
+) -> Result<bool, AllocError>
+    requires rows { AllByRecursion (AreOf compiled.now) rows.now }
+    requires lits { AreOf compiled.now lits.now }
+    requires levels { HasLevels compiled.now bound.now }
+    requires root { IsRoot compiled.now (known_by rows.now bound.now) values.old }
+    ensures yes { IfOk result (λ yes. yes ≡ true → LeadsToConflict compiled.now (known_by rows.now bound.now) lits.now) }
+    ensures no { IfOk result (λ yes. yes ≡ false → LeadsToConflict compiled.now (known_by rows.now bound.now) lits.now → ⊥) }
+    ensures trailed { OnOk result (IsTrailedAlike values.old values.new trail.old.items trail.new.items) }
+{
+    let _program = compiled.program();
+    watches.restart(values, compiled.vars(), rows)?;
+    watches.look_deeper();
+    let assumed = assume_all(values, trail, lits)?;
+    if !assumed {
+        return Ok(true);
+    }
+    let refuted = chase(compiled, rows, bound, watches, values, trail)?;
+    if refuted {
+        return Ok(true);
+    }
+    let confirmed = confirms_plainly(alloc, compiled, rows, bound, values, lits)?;
+    Ok(confirmed)
+}
+
+/// Whether unit propagation from the literals leads to a conflict, where these nogoods and this bound are known. The values
+/// follow from what is known, and are left so. Where the hints lead to no conflict, all that is known is looked at.
+pub fn confirms(
+    alloc: Global,
+    compiled: &Compiled,
+    rows: &[Seq<Lit>],
+    bound: &Option<Bound>,
+    watches: &mut Watches,
+    values: &mut Assign,
+    lits: &[Lit],
+) -> Result<bool, AllocError>
+    requires rows { AllByRecursion (AreOf compiled.now) rows.now }
+    requires lits { AreOf compiled.now lits.now }
+    requires levels { HasLevels compiled.now bound.now }
+    requires root { IsRoot compiled.now (known_by rows.now bound.now) values.old }
+    ensures yes { IfOk result (λ yes. yes ≡ true → LeadsToConflict compiled.now (known_by rows.now bound.now) lits.now) }
+    ensures no { IfOk result (λ yes. yes ≡ false → LeadsToConflict compiled.now (known_by rows.now bound.now) lits.now → ⊥) }
+    ensures root { OnOk result (IsRoot compiled.now (known_by rows.now bound.now) values.new) }
+{
+    let mut trail = Vec::new(alloc);
+    let confirmed = confirms_by(
+        alloc, compiled, rows, bound, watches, values, &mut trail, lits,
+    )?;
+    undo(values, compiled.vars(), trail.as_slice());
+    Ok(confirmed)
 }

@@ -10,18 +10,22 @@ ghost use Rattle.asp_vars.specs.Completion.{completion};
 ghost use Rattle.asp_checker.specs.Propagation.{LeadsToConflict};
 ghost use Rattle.asp_checker.specs.Lines.{AreOf, IsConfirmed, IsLoop, literals_of, nogood_of, nogood_of_answer, bound_of};
 ghost use Rattle.asp_checker.specs.Blocks.{HasLevels, known_by, cost_of_bound};
+ghost use Rattle.asp_checker.specs.Chasing.{IsRoot};
 ghost use Rattle.asp_checker.specs.Judging.{IsInOrder, AreRightAnswers, IsRightAnswer, HasAnswerFault, AreAnswersJudged, HasLiterals, HasLineFault, AreLinesJudged, IsJudged, HasLoopLiterals, IsLineJudged};
 
 use crate::bounds::Bound;
 use crate::confirm::confirms;
 use crate::lines::{are_assumed, are_atoms, assumptions, lits_of};
 use crate::loops::is_loop;
+use crate::root::{first_root, learn};
+use crate::watches::Watches;
 use asp_complete::completion::completion;
 use asp_member::stable::is_stable;
 use asp_model::holding::all_hold;
 use asp_model::interp::Interp;
 use asp_model::seq::Seq;
 use asp_proof::proof::{Line, Proof};
+use asp_vars::assign::Assign;
 use asp_vars::compiled::Compiled;
 use asp_vars::lit::Lit;
 use asp_vars::nogood::Nogood;
@@ -312,15 +316,19 @@ fn fault_of_nogood(
     compiled: &Compiled,
     rows: &[Seq<Lit>],
     bound: &Option<Bound>,
+    watches: &mut Watches,
+    values: &mut Assign,
     lits: &[Lit],
 ) -> Result<Option<Why>, AllocError>
     requires rows { AllByRecursion (AreOf compiled.now) rows.now }
     requires levels { HasLevels compiled.now bound.now }
+    requires root { IsRoot compiled.now (known_by rows.now bound.now) values.old }
     requires lits { AreOf compiled.now lits.now }
-    ensures { IfOk result (λ o. MatchOption o (LeadsToConflict compiled.now (known_by rows.now bound.now) lits.now)
+    ensures judged { IfOk result (λ o. MatchOption o (LeadsToConflict compiled.now (known_by rows.now bound.now) lits.now)
         (λ w. (w ≡ Why.NotImplied) × (LeadsToConflict compiled.now (known_by rows.now bound.now) lits.now → ⊥))) }
+    ensures root { OnOk result (IsRoot compiled.now (known_by rows.now bound.now) values.new) }
 {
-    let confirmed = confirms(alloc, compiled, rows, bound, lits)?;
+    let confirmed = confirms(alloc, compiled, rows, bound, watches, values, lits)?;
     if confirmed {
         return Ok(None);
     }
@@ -333,20 +341,24 @@ fn fault_of_line(
     compiled: &Compiled,
     rows: &[Seq<Lit>],
     bound: &Option<Bound>,
+    watches: &mut Watches,
+    values: &mut Assign,
     line: &Line,
     lits: &[Lit],
 ) -> Result<Option<Why>, AllocError>
     requires rows { AllByRecursion (AreOf compiled.now) rows.now }
     requires levels { HasLevels compiled.now bound.now }
+    requires root { IsRoot compiled.now (known_by rows.now bound.now) values.old }
     requires lits { lits.now ≡ nogood_of line.now }
     requires has { HasLiterals compiled.now line.now }
-    ensures { IfOk result (λ o. MatchOption o (IsConfirmed compiled.now (known_by rows.now bound.now) line.now)
+    ensures judged { IfOk result (λ o. MatchOption o (IsConfirmed compiled.now (known_by rows.now bound.now) line.now)
         (HasLineFault compiled.now (known_by rows.now bound.now) line.now)) }
+    ensures root { OnOk result (IsRoot compiled.now (known_by rows.now bound.now) values.new) }
 {
     match line {
         Line::Loop { set, nogood: _ } => fault_of_loop(alloc, compiled, set, lits),
-        Line::Learned(_) => fault_of_nogood(alloc, compiled, rows, bound, lits),
-        Line::Cube(_) => fault_of_nogood(alloc, compiled, rows, bound, lits),
+        Line::Learned(_) => fault_of_nogood(alloc, compiled, rows, bound, watches, values, lits),
+        Line::Cube(_) => fault_of_nogood(alloc, compiled, rows, bound, watches, values, lits),
     }
 }
 
@@ -377,17 +389,21 @@ fn judge_literals(
     compiled: &Compiled,
     rows: &[Seq<Lit>],
     bound: &Option<Bound>,
+    watches: &mut Watches,
+    values: &mut Assign,
     line: &Line,
     lits: Vec<Lit>,
 ) -> Result<Step, AllocError>
     requires rows { AllByRecursion (AreOf compiled.now) rows.now }
     requires levels { HasLevels compiled.now bound.now }
+    requires root { IsRoot compiled.now (known_by rows.now bound.now) values.old }
     requires lits { lits.items ≡ nogood_of line.now }
     requires has { HasLiterals compiled.now line.now }
-    ensures { IfOk result (IsLineJudged compiled.now (known_by rows.now bound.now) line.now) }
+    ensures judged { IfOk result (IsLineJudged compiled.now (known_by rows.now bound.now) line.now) }
+    ensures root { OnOk result (IsRoot compiled.now (known_by rows.now bound.now) values.new) }
 {
     let own = lits.as_slice();
-    let fault = fault_of_line(alloc, compiled, rows, bound, line, own)?;
+    let fault = fault_of_line(alloc, compiled, rows, bound, watches, values, line, own)?;
     match fault {
         Some(why) => Ok(Step::Wrong(why)),
         None => Ok(Step::Known(Seq::from_vec(lits))),
@@ -400,15 +416,19 @@ fn judge_line(
     compiled: &Compiled,
     rows: &[Seq<Lit>],
     bound: &Option<Bound>,
+    watches: &mut Watches,
+    values: &mut Assign,
     line: &Line,
 ) -> Result<Step, AllocError>
     requires rows { AllByRecursion (AreOf compiled.now) rows.now }
     requires levels { HasLevels compiled.now bound.now }
-    ensures { IfOk result (IsLineJudged compiled.now (known_by rows.now bound.now) line.now) }
+    requires root { IsRoot compiled.now (known_by rows.now bound.now) values.old }
+    ensures judged { IfOk result (IsLineJudged compiled.now (known_by rows.now bound.now) line.now) }
+    ensures root { OnOk result (IsRoot compiled.now (known_by rows.now bound.now) values.new) }
 {
     let found = literals(alloc, compiled, line)?;
     match found {
-        Some(lits) => judge_literals(alloc, compiled, rows, bound, line, lits),
+        Some(lits) => judge_literals(alloc, compiled, rows, bound, watches, values, line, lits),
         None => Ok(Step::Wrong(Why::Literal)),
     }
 }
@@ -436,11 +456,22 @@ fn judge_lines(
 {
     let assumptions = assumptions(alloc, compiled)?;
     let assumed = assumptions.as_slice();
+    let mut watches = Watches::new(alloc, compiled, bound)?;
+    let first = rows.as_slice();
+    let mut values = first_root(alloc, compiled, first, bound, &mut watches)?;
     let mut whole = false;
     for at in 0..lines.len() {
         let line = &lines[at];
         let known = rows.as_slice();
-        let step = judge_line(alloc, compiled, known, bound, line)?;
+        let step = judge_line(
+            alloc,
+            compiled,
+            known,
+            bound,
+            &mut watches,
+            &mut values,
+            line,
+        )?;
         match step {
             Step::Wrong(why) => return Ok(Outcome::Wrong(why, at)),
             Step::Known(lits) => {
@@ -448,6 +479,8 @@ fn judge_lines(
                 let closing = closes(assumed, line, own);
                 whole = either(whole, closing);
                 rows.push(lits)?;
+                let more = rows.as_slice();
+                learn(alloc, compiled, more, bound, &mut watches, &mut values)?;
             }
         }
     }

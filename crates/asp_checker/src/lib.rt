@@ -3,14 +3,18 @@
 
 pub mod blocks;
 pub mod bounds;
+mod chase;
 pub mod close;
 pub mod confirm;
+mod hints;
 pub mod judge;
 pub mod laws;
 mod levels;
 pub mod lines;
 pub mod loops;
 pub mod nogoods;
+mod root;
 pub mod run;
 pub mod sweep;
+pub mod watches;
 pub mod weights;

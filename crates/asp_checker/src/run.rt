@@ -75,8 +75,7 @@ fn judge_by(alloc: Global, program: Program, proof: &Proof) -> Result<Judgement,
     ensures shows { IfOk result (λ j. j ≡ Judgement.Yes → Shows program proof.now) }
 {
     let compiled = compile(alloc, program)?;
-    let judgement = judge(alloc, &compiled, proof)?;
-    Ok(judgement)
+    judge(alloc, &compiled, proof)
 }
 
 fn judge_read(alloc: Global, program: Program, proof: &Proof) -> Result<Judgement, CheckError>

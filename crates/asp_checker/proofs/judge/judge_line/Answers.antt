@@ -6,5 +6,5 @@ judge_literals-requires-clause-lits c = let says = rw c.in-Some.is at c.in_ok-fo
 pub judge_literals-requires-clause-has : goal.judge_literals-requires-clause-has
 judge_literals-requires-clause-has c = let says = rw c.in-Some.is at c.in_ok-found.ensures in says.1
 
-pub returns-in-None : goal.returns-in-None
-returns-in-None c = rw c.in-None.is at c.in_ok-found.ensures
+pub returns-in-None-clause-judged : goal.returns-in-None-clause-judged
+returns-in-None-clause-judged c = rw c.in-None.is at c.in_ok-found.ensures

@@ -1,0 +1,307 @@
+//! What weight bodies and the bound may imply, by their sums. Hints are advice: each is tried before its value is set.
+ghost use Rattle.std.specs.Prelude.{◌≡◌, ◌+◌, length};
+ghost use Rattle.asp_vars.specs.Numbering.{var_count};
+
+use crate::bounds::Bound;
+use asp_vars::assign::Assign;
+use asp_vars::compiled::Compiled;
+use asp_vars::lit::{Lit, Var};
+use std::alloc::{AllocError, Global};
+
+/// What is to be looked at.
+#[derive(Clone, Copy)]
+pub(crate) enum Hint {
+    /// The nogood at this place.
+    Nogood(usize),
+    /// Whether the weight body implies the literal.
+    Body(usize, Lit),
+    /// Whether the bound implies the literal.
+    Bound(Lit),
+}
+
+/// Whether the literal holds.
+pub(crate) fn holds(values: &Assign, vars: u32, lit: Lit) -> bool
+    requires { length values.now ≡ vars + 1 }
+{
+    if lit.var() > vars {
+        return false;
+    }
+    values.holds(lit)
+}
+
+/// Whether the literal fails.
+pub(crate) fn fails(values: &Assign, vars: u32, lit: Lit) -> bool
+    requires { length values.now ≡ vars + 1 }
+{
+    if lit.var() > vars {
+        return false;
+    }
+    values.holds(lit.complement())
+}
+
+// Whether the literal holds, if it has a value.
+fn value_of(compiled: &Compiled, values: &Assign, lit: Lit) -> Option<bool>
+    requires { length values.now ≡ var_count compiled.now + 1 }
+{
+    if lit.var() > compiled.vars() {
+        return None;
+    }
+    match values.value(lit.var()) {
+        Some(value) => Some(value == lit.truth()),
+        None => None,
+    }
+}
+
+// Adds a hint for each literal without a value that weighs more than is left: the literal, or its complement.
+fn add_heavy(
+    hints: &mut Vec<Hint>,
+    compiled: &Compiled,
+    values: &Assign,
+    body: usize,
+    left: i64,
+    truth: bool,
+) -> Result<(), AllocError>
+    requires { length values.now ≡ var_count compiled.now + 1 }
+{
+    if body >= compiled.body_count() {
+        return Ok(());
+    }
+    for (lit, weight) in compiled.literals(body).iter().zip(compiled.weights(body)) {
+        if *weight > left && value_of(compiled, values, *lit).is_none() {
+            let implied = if truth { *lit } else { lit.complement() };
+            hints.push(Hint::Body(body, implied))?;
+        }
+    }
+    Ok(())
+}
+
+/// Adds what a weight body may imply.
+pub(crate) fn hints_of_body(
+    hints: &mut Vec<Hint>,
+    compiled: &Compiled,
+    values: &Assign,
+    body: usize,
+) -> Result<(), AllocError>
+    requires { length values.now ≡ var_count compiled.now + 1 }
+{
+    if body >= compiled.body_count() {
+        return Ok(());
+    }
+    let Some(bound) = compiled.bound(body) else {
+        return Ok(());
+    };
+    let bound = i64::from(bound);
+    let mut low: i64 = 0;
+    let mut high: i64 = 0;
+    for (lit, weight) in compiled.literals(body).iter().zip(compiled.weights(body)) {
+        match value_of(compiled, values, *lit) {
+            Some(true) => {
+                low = low.saturating_add(*weight);
+                high = high.saturating_add(*weight);
+            }
+            Some(false) => {}
+            None => high = high.saturating_add(*weight),
+        }
+    }
+    let held = Lit::new(compiled.body_var(body), true);
+    match value_of(compiled, values, held) {
+        Some(true) => {
+            if high < bound {
+                hints.push(Hint::Body(body, held))?;
+                return Ok(());
+            }
+            add_heavy(
+                hints,
+                compiled,
+                values,
+                body,
+                high.saturating_sub(bound),
+                true,
+            )
+        }
+        Some(false) => {
+            if low >= bound {
+                hints.push(Hint::Body(body, held))?;
+                return Ok(());
+            }
+            let left = bound.saturating_sub(low).saturating_sub(1);
+            add_heavy(hints, compiled, values, body, left, false)
+        }
+        None => {
+            if low >= bound {
+                hints.push(Hint::Body(body, held))?;
+                return Ok(());
+            }
+            if high < bound {
+                hints.push(Hint::Body(body, held.complement()))?;
+                return Ok(());
+            }
+            Ok(())
+        }
+    }
+}
+
+fn weight_at(weights: &[i64], place: usize) -> i64 {
+    weights.get(place).copied().unwrap_or(0)
+}
+
+// What a variable costs at least at a priority, by the weights of its two literals.
+fn least(values: &Assign, compiled: &Compiled, weights: &[i64], var: u32) -> i64
+    requires { length values.now ≡ var_count compiled.now + 1 }
+{
+    let place = (var as usize).saturating_mul(2);
+    let if_true = weight_at(weights, place);
+    let if_false = weight_at(weights, place.saturating_add(1));
+    if var > compiled.vars() {
+        return 0;
+    }
+    match values.value(var) {
+        Some(true) => if_true,
+        Some(false) => if_false,
+        None => if_true.min(0).saturating_add(if_false.min(0)),
+    }
+}
+
+// What is spent at least at a priority.
+fn spent(compiled: &Compiled, weights: &[i64], priced: &[Var], values: &Assign) -> i64
+    requires { length values.now ≡ var_count compiled.now + 1 }
+{
+    let mut sum: i64 = 0;
+    for var in priced {
+        sum = sum.saturating_add(least(values, compiled, weights, *var));
+    }
+    sum
+}
+
+// What is left below the cost at each priority: the cost less what is spent at least.
+fn room(
+    compiled: &Compiled,
+    bound: &Bound,
+    priced: &[Var],
+    values: &Assign,
+    left: &mut Vec<i64>,
+) -> Result<(), AllocError>
+    requires { length values.now ≡ var_count compiled.now + 1 }
+{
+    for (weights, cost) in bound.levels.as_slice().iter().zip(bound.cost.as_slice()) {
+        let sum = spent(compiled, weights.as_slice(), priced, values);
+        left.push((*cost).saturating_sub(sum))?;
+    }
+    Ok(())
+}
+
+// Whether the cost is reached.
+fn is_reached(left: &[i64]) -> bool {
+    for left in left {
+        if *left != 0 {
+            return *left < 0;
+        }
+    }
+    true
+}
+
+// Whether the variable with this value leaves no less than the cost.
+fn is_dear(
+    compiled: &Compiled,
+    bound: &Bound,
+    values: &Assign,
+    left: &[i64],
+    var: u32,
+    value: bool,
+) -> bool
+    requires { length values.now ≡ var_count compiled.now + 1 }
+{
+    for (weights, left) in bound.levels.as_slice().iter().zip(left) {
+        let place = (var as usize)
+            .saturating_mul(2)
+            .saturating_add(if value { 0 } else { 1 });
+        let more = weight_at(weights.as_slice(), place).saturating_sub(least(
+            values,
+            compiled,
+            weights.as_slice(),
+            var,
+        ));
+        if more < *left {
+            return false;
+        }
+        if more > *left {
+            return true;
+        }
+    }
+    true
+}
+
+/// Adds what the bound may imply.
+pub(crate) fn hints_of_bound(
+    hints: &mut Vec<Hint>,
+    compiled: &Compiled,
+    bound: &Bound,
+    priced: &[Var],
+    values: &Assign,
+) -> Result<(), AllocError>
+    requires { length values.now ≡ var_count compiled.now + 1 }
+{
+    let mut left = Vec::new(*hints.allocator());
+    room(compiled, bound, priced, values, &mut left)?;
+    if is_reached(left.as_slice()) {
+        hints.push(Hint::Bound(Lit::new(1, true)))?;
+        return Ok(());
+    }
+    for var in priced {
+        add_dear(hints, compiled, bound, values, left.as_slice(), *var)?;
+    }
+    Ok(())
+}
+
+// Adds a hint where one of the variable's values is dear.
+fn add_dear(
+    hints: &mut Vec<Hint>,
+    compiled: &Compiled,
+    bound: &Bound,
+    values: &Assign,
+    left: &[i64],
+    var: Var,
+) -> Result<(), AllocError>
+    requires { length values.now ≡ var_count compiled.now + 1 }
+{
+    if var > compiled.vars() || values.value(var).is_some() {
+        return Ok(());
+    }
+    let held = Lit::new(var, true);
+    if is_dear(compiled, bound, values, left, var, true) {
+        hints.push(Hint::Bound(held.complement()))?;
+    } else if is_dear(compiled, bound, values, left, var, false) {
+        hints.push(Hint::Bound(held))?;
+    }
+    Ok(())
+}
+
+// Whether the variable has a weight at some priority.
+fn is_priced(bound: &Bound, var: Var) -> bool {
+    let place = (var as usize).saturating_mul(2);
+    for weights in bound.levels.as_slice() {
+        let weights = weights.as_slice();
+        if weight_at(weights, place) != 0 || weight_at(weights, place.saturating_add(1)) != 0 {
+            return true;
+        }
+    }
+    false
+}
+
+/// The variables that cost something.
+pub(crate) fn priced(
+    alloc: Global,
+    compiled: &Compiled,
+    bound: &Option<Bound>,
+) -> Result<Vec<Var>, AllocError> {
+    let mut priced = Vec::new(alloc);
+    let Some(bound) = bound else {
+        return Ok(priced);
+    };
+    for at in 0..compiled.vars() {
+        if is_priced(bound, at + 1) {
+            priced.push(at + 1)?;
+        }
+    }
+    Ok(priced)
+}

@@ -1,0 +1,738 @@
+//! Where unit propagation looks next: nogoods by two of their literals, weight bodies by what touched them, and the bound.
+//!
+//! This is advice alone, and nothing is proved of it but that it ends. What a nogood, a body or the bound says is seen to where
+//! it is looked at, and what isn't named here is found by the passes over all of them.
+ghost use Rattle.std.specs.Prelude.{◌≡◌, ◌+◌, length};
+ghost use Rattle.asp_vars.specs.Numbering.{var_count};
+
+use crate::bounds::Bound;
+use crate::hints::{Hint, fails, hints_of_body, hints_of_bound, holds, priced};
+use asp_model::seq::Seq;
+use asp_vars::assign::Assign;
+use asp_vars::compiled::Compiled;
+use asp_vars::lit::{Lit, Var};
+use std::alloc::{AllocError, Global};
+
+// How many nogoods of lines watch before some are retired, and how many more after each time.
+const FIRST_LIMIT: usize = 2000;
+
+const MORE: usize = 300;
+
+// So many literals are few: such a nogood is never retired.
+const SHORT: usize = 2;
+
+// A nogood among those that watch a literal.
+#[derive(Clone, Copy)]
+struct Watch {
+    // The nogood's place.
+    place: u32,
+    // Another of its literals: where that fails, the nogood needn't be looked at.
+    other: Lit,
+}
+
+// What is kept of a nogood, at its place.
+#[derive(Clone, Copy)]
+struct Entry {
+    // The two literals that it watches.
+    one: Lit,
+    two: Lit,
+    // At which of its literals the next look for a watch begins.
+    start: u32,
+    // How many nogoods there were when it last said something; the greatest number where it always watches.
+    used: usize,
+    // Whether it watches.
+    is_watching: bool,
+}
+
+/// What is still to be looked at, and what watches what.
+#[derive(Drop)]
+pub struct Watches {
+    // By a literal's code, the nogoods that watch it.
+    by_code: Vec<Vec<Watch>>,
+    // The nogoods, by their places.
+    entries: Vec<Entry>,
+    // Those of lines that watch, and how many there may be before some are retired.
+    watching: Vec<usize>,
+    limit: usize,
+    // Those that don't watch any more, of which the next to be looked at, and how many are to be looked at.
+    retired: Vec<usize>,
+    next_retired: usize,
+    retired_left: usize,
+    // Those that said something, and watch again from the next line on.
+    revived: Vec<usize>,
+    // By variable, the weight bodies that it touches.
+    by_var: Vec<Vec<usize>>,
+    // The variables that cost something.
+    priced: Vec<Var>,
+    // How many of the literals that came to hold are done with.
+    done: usize,
+    // How many of the nogoods that watch the next of them are done with.
+    within: usize,
+    // What is to be looked at before anything else.
+    hints: Vec<Hint>,
+    // The weight bodies with a literal that got a value since they were looked at, each once.
+    touched: Vec<usize>,
+    // By body, whether it is one of these.
+    is_touched: Vec<bool>,
+    // How many literals had come to hold when the bound was looked at; none where it is to be looked at.
+    priced_at: Option<usize>,
+    // What was in conflict last.
+    last: Option<Hint>,
+    // What was in conflict when no literal was assumed.
+    stuck: Option<Hint>,
+}
+
+// What is to be done with a nogood that watches a literal that holds.
+enum Turn {
+    // It can't be hit.
+    Keep,
+    // It watches this literal instead, beside the other.
+    Move(Lit, Lit),
+    // All of its literals hold but one at most.
+    Look,
+}
+
+// The first literal that doesn't hold.
+fn first_open(values: &Assign, vars: u32, lits: &[Lit]) -> Option<Lit>
+    requires { length values.now ≡ vars + 1 }
+{
+    for lit in lits {
+        if !holds(values, vars, *lit) {
+            return Some(*lit);
+        }
+    }
+    None
+}
+
+// A literal that doesn't hold, other than this one.
+fn another(values: &Assign, vars: u32, lits: &[Lit], but: Lit) -> Option<Lit>
+    requires { length values.now ≡ vars + 1 }
+{
+    for lit in lits {
+        let held = holds(values, vars, *lit);
+        if !held && *lit != but {
+            return Some(*lit);
+        }
+    }
+    None
+}
+
+// A literal of a nogood, and its place there.
+#[derive(Clone, Copy)]
+struct Spot {
+    lit: Lit,
+    place: u32,
+}
+
+// A literal from a place on that doesn't hold, other than this one.
+fn another_at(
+    values: &Assign,
+    vars: u32,
+    lits: &[Lit],
+    start: usize,
+    end: usize,
+    but: Lit,
+) -> Option<Spot>
+    requires { length values.now ≡ vars + 1 }
+{
+    for place in start..end {
+        let Some(lit) = lits.get(place).copied() else {
+            return None;
+        };
+        let held = holds(values, vars, lit);
+        if !held && lit != but {
+            let place = u32::try_from(place).unwrap_or(0);
+            return Some(Spot { lit, place });
+        }
+    }
+    None
+}
+
+// The same, from a place on and then before it.
+fn another_from(values: &Assign, vars: u32, lits: &[Lit], start: usize, but: Lit) -> Option<Spot>
+    requires { length values.now ≡ vars + 1 }
+{
+    match another_at(values, vars, lits, start, lits.len(), but) {
+        Some(spot) => Some(spot),
+        None => another_at(values, vars, lits, 0, start, but),
+    }
+}
+
+fn is_watching(entries: &[Entry], watch: Watch) -> bool {
+    match entries.get(watch.place as usize) {
+        Some(entry) => entry.is_watching,
+        None => false,
+    }
+}
+
+fn set_mark(marks: &mut [bool], at: usize, mark: bool) {
+    if let Some(place) = marks.get_mut(at) {
+        *place = mark;
+    }
+}
+
+// As many lists, all empty.
+fn lists<T: Drop>(alloc: Global, count: usize) -> Result<Vec<Vec<T>>, AllocError> {
+    let mut lists = Vec::new(alloc);
+    for _ in 0..count {
+        lists.push(Vec::new(alloc))?;
+    }
+    Ok(lists)
+}
+
+// Adds a number to the list at a place.
+fn list_at(lists: &mut Vec<Vec<usize>>, place: usize, number: usize) -> Result<(), AllocError> {
+    if let Some(list) = lists.get_mut(place) {
+        list.push(number)?;
+    }
+    Ok(())
+}
+
+// By variable, the weight bodies in which it stands, and the one whose variable it is.
+fn bodies_by_var(alloc: Global, compiled: &Compiled) -> Result<Vec<Vec<usize>>, AllocError> {
+    let mut by_var = lists(alloc, compiled.vars() as usize + 1)?;
+    for body in 0..compiled.body_count() {
+        if compiled.bound(body).is_some() {
+            list_at(&mut by_var, compiled.body_var(body) as usize, body)?;
+            for lit in compiled.literals(body) {
+                list_at(&mut by_var, lit.var() as usize, body)?;
+            }
+        }
+    }
+    Ok(by_var)
+}
+
+impl Watches {
+    /// For a program and a bound, with no nogood yet. All weight bodies are to be looked at.
+    pub(crate) fn new(
+        alloc: Global,
+        compiled: &Compiled,
+        bound: &Option<Bound>,
+    ) -> Result<Watches, AllocError> {
+        let mut watches = Watches {
+            by_code: lists(alloc, 2 * (compiled.vars() as usize + 1))?,
+            entries: Vec::new(alloc),
+            watching: Vec::new(alloc),
+            limit: FIRST_LIMIT,
+            retired: Vec::new(alloc),
+            next_retired: 0,
+            retired_left: 0,
+            revived: Vec::new(alloc),
+            by_var: bodies_by_var(alloc, compiled)?,
+            priced: priced(alloc, compiled, bound)?,
+            done: 0,
+            within: 0,
+            hints: Vec::new(alloc),
+            touched: Vec::new(alloc),
+            is_touched: vec![in alloc; false; compiled.body_count()]?,
+            priced_at: None,
+            last: None,
+            stuck: None,
+        };
+        for body in 0..compiled.body_count() {
+            watches.touch_body(body)?;
+        }
+        Ok(watches)
+    }
+
+    fn watch(&mut self, lit: Lit, place: usize, other: Lit) -> Result<(), AllocError> {
+        let Ok(place) = u32::try_from(place) else {
+            return Ok(());
+        };
+        if let Some(watches) = self.by_code.get_mut(lit.code()) {
+            watches.push(Watch { place, other })?;
+        }
+        Ok(())
+    }
+
+    // Lets a nogood watch two of its literals that don't hold, if there are two; else it is to be looked at.
+    fn watch_two(
+        &mut self,
+        values: &Assign,
+        vars: u32,
+        lits: &[Lit],
+        place: usize,
+    ) -> Result<(), AllocError>
+        requires { length values.now ≡ vars + 1 }
+    {
+        let Some(one) = first_open(values, vars, lits) else {
+            return self.hint(place);
+        };
+        let Some(two) = another(values, vars, lits, one) else {
+            return self.hint(place);
+        };
+        if let Some(entry) = self.entries.get_mut(place) {
+            entry.one = one;
+            entry.two = two;
+            entry.is_watching = true;
+        }
+        self.watch(one, place, two)?;
+        self.watch(two, place, one)
+    }
+
+    fn hint(&mut self, place: usize) -> Result<(), AllocError> {
+        self.hints.push(Hint::Nogood(place))?;
+        Ok(())
+    }
+
+    // Adds the next nogood.
+    fn add(
+        &mut self,
+        values: &Assign,
+        vars: u32,
+        lits: &[Lit],
+        used: usize,
+    ) -> Result<(), AllocError>
+        requires { length values.now ≡ vars + 1 }
+    {
+        let place = self.entries.len();
+        let none = Lit::new(0, true);
+        self.entries.push(Entry {
+            one: none,
+            two: none,
+            start: 0,
+            used,
+            is_watching: false,
+        })?;
+        self.watch_two(values, vars, lits, place)
+    }
+
+    /// Adds the first nogoods.
+    pub(crate) fn add_all(
+        &mut self,
+        values: &Assign,
+        vars: u32,
+        rows: &[Seq<Lit>],
+    ) -> Result<(), AllocError>
+        requires { length values.now ≡ vars + 1 }
+    {
+        for row in rows {
+            self.add(values, vars, row.as_slice(), usize::MAX)?;
+        }
+        Ok(())
+    }
+
+    /// Adds the last nogood, which is a line's. Where there are too many, some are retired.
+    pub(crate) fn add_last(
+        &mut self,
+        values: &Assign,
+        vars: u32,
+        rows: &[Seq<Lit>],
+    ) -> Result<(), AllocError>
+        requires { length values.now ≡ vars + 1 }
+    {
+        let Some(row) = rows.last() else {
+            return Ok(());
+        };
+        let lits = row.as_slice();
+        if lits.len() <= SHORT {
+            return self.add(values, vars, lits, usize::MAX);
+        }
+        let place = self.entries.len();
+        self.watching.push(place)?;
+        self.add(values, vars, lits, place)?;
+        if self.watching.len() > self.limit {
+            self.limit = self.limit.saturating_add(MORE);
+            return self.retire();
+        }
+        Ok(())
+    }
+
+    // When the middle one of those that watch was used.
+    fn middle_use(&self) -> Result<usize, AllocError> {
+        let mut uses = Vec::new(*self.watching.allocator());
+        for place in &self.watching {
+            uses.push(self.used(*place))?;
+        }
+        uses.sort_unstable();
+        Ok(uses.get(uses.len() / 2).copied().unwrap_or(0))
+    }
+
+    // Retires a nogood that watches.
+    fn retire_one(&mut self, place: usize) -> Result<(), AllocError> {
+        if let Some(entry) = self.entries.get_mut(place) {
+            entry.is_watching = false;
+        }
+        self.retired.push(place)?;
+        Ok(())
+    }
+
+    // Retires those that were used before the middle one.
+    fn retire(&mut self) -> Result<(), AllocError> {
+        let least = self.middle_use()?;
+        let mut left = Vec::new(*self.watching.allocator());
+        for _ in 0..u64::MAX {
+            let Some(place) = self.watching.pop() else {
+                break;
+            };
+            if self.used(place) < least {
+                self.retire_one(place)?;
+            } else {
+                left.push(place)?;
+            }
+        }
+        self.watching = left;
+        self.unwatch();
+        Ok(())
+    }
+
+    // Drops those that don't watch any more from all lists.
+    fn unwatch(&mut self) {
+        let entries = self.entries.as_slice();
+        for watches in self.by_code.as_mut_slice() {
+            watches.retain(|watch| is_watching(entries, *watch));
+        }
+    }
+
+    fn used(&self, place: usize) -> usize {
+        match self.entries.get(place) {
+            Some(entry) => entry.used,
+            None => 0,
+        }
+    }
+
+    // The nogood said something.
+    fn use_now(&mut self, place: usize) {
+        let now = self.entries.len();
+        if let Some(entry) = self.entries.get_mut(place) {
+            if entry.used < now {
+                entry.used = now;
+            }
+        }
+    }
+
+    // Those that said something watch again.
+    fn revive(&mut self, values: &Assign, vars: u32, rows: &[Seq<Lit>]) -> Result<(), AllocError>
+        requires { length values.now ≡ vars + 1 }
+    {
+        for _ in 0..u64::MAX {
+            let Some(place) = self.revived.pop() else {
+                return Ok(());
+            };
+            if let Some(row) = rows.get(place) {
+                self.watching.push(place)?;
+                self.watch_two(values, vars, row.as_slice(), place)?;
+            }
+        }
+        Ok(())
+    }
+
+    /// Begins anew, with no literal that came to hold.
+    pub(crate) fn restart(
+        &mut self,
+        values: &Assign,
+        vars: u32,
+        rows: &[Seq<Lit>],
+    ) -> Result<(), AllocError>
+        requires { length values.now ≡ vars + 1 }
+    {
+        self.hints.clear();
+        for body in &self.touched {
+            set_mark(self.is_touched.as_mut_slice(), *body, false);
+        }
+        self.touched.clear();
+        self.done = 0;
+        self.within = 0;
+        self.priced_at = None;
+        self.retired_left = 0;
+        self.revive(values, vars, rows)?;
+        if let Some(hint) = self.stuck {
+            self.hints.push(hint)?;
+        }
+        Ok(())
+    }
+
+    /// Those that don't watch are to be looked at too.
+    pub(crate) fn look_deeper(&mut self) {
+        self.retired_left = self.retired.len();
+    }
+
+    /// This was in conflict.
+    pub(crate) fn keep(&mut self, hint: Hint) {
+        self.last = Some(hint);
+    }
+
+    /// Where there was a conflict with no literal assumed, what was in conflict last is looked at first from here on.
+    pub(crate) fn stick(&mut self, refuted: bool) {
+        if refuted {
+            self.stuck = self.last;
+        }
+    }
+
+    // What is to be done with a nogood that watches this literal.
+    fn turn(
+        &mut self,
+        rows: &[Seq<Lit>],
+        values: &Assign,
+        vars: u32,
+        watch: Watch,
+        held: Lit,
+    ) -> Turn
+        requires { length values.now ≡ vars + 1 }
+    {
+        if fails(values, vars, watch.other) {
+            return Turn::Keep;
+        }
+        let Some(entry) = self.entries.get_mut(watch.place as usize) else {
+            return Turn::Keep;
+        };
+        let other = if entry.one == held {
+            entry.two
+        } else {
+            entry.one
+        };
+        if fails(values, vars, other) {
+            return Turn::Keep;
+        }
+        let Some(row) = rows.get(watch.place as usize) else {
+            return Turn::Keep;
+        };
+        match another_from(values, vars, row.as_slice(), entry.start as usize, other) {
+            Some(spot) => {
+                entry.one = other;
+                entry.two = spot.lit;
+                entry.start = spot.place;
+                Turn::Move(spot.lit, other)
+            }
+            None => Turn::Look,
+        }
+    }
+
+    // The next nogood that watches this literal.
+    fn watch_at(&self, held: Lit) -> Option<Watch> {
+        let watches = self.by_code.get(held.code())?;
+        watches.get(self.within).copied()
+    }
+
+    // Lets a nogood watch another literal than the one that holds.
+    fn rewatch(&mut self, held: Lit, place: u32, lit: Lit, other: Lit) -> Result<(), AllocError> {
+        if let Some(watches) = self.by_code.get_mut(held.code()) {
+            if self.within < watches.len() {
+                watches.swap_remove(self.within);
+            }
+        }
+        if let Some(watches) = self.by_code.get_mut(lit.code()) {
+            watches.push(Watch { place, other })?;
+        }
+        Ok(())
+    }
+
+    // The next nogood to look at among those that watch a literal that holds.
+    fn next_of(
+        &mut self,
+        rows: &[Seq<Lit>],
+        values: &Assign,
+        vars: u32,
+        held: Lit,
+    ) -> Result<Option<usize>, AllocError>
+        requires { length values.now ≡ vars + 1 }
+    {
+        for _ in 0..u64::MAX {
+            let Some(watch) = self.watch_at(held) else {
+                return Ok(None);
+            };
+            let place = watch.place;
+            match self.turn(rows, values, vars, watch, held) {
+                Turn::Keep => self.within = self.within.saturating_add(1),
+                Turn::Look => {
+                    self.within = self.within.saturating_add(1);
+                    self.use_now(place as usize);
+                    return Ok(Some(place as usize));
+                }
+                Turn::Move(lit, other) => self.rewatch(held, place, lit, other)?,
+            }
+        }
+        Ok(None)
+    }
+
+    // Whether a nogood that doesn't watch says something. Else two of its literals show that it doesn't.
+    fn speaks(&mut self, rows: &[Seq<Lit>], values: &Assign, vars: u32, place: usize) -> bool
+        requires { length values.now ≡ vars + 1 }
+    {
+        let Some(entry) = self.entries.get_mut(place) else {
+            return false;
+        };
+        if fails(values, vars, entry.one) || fails(values, vars, entry.two) {
+            return false;
+        }
+        if !holds(values, vars, entry.one) && !holds(values, vars, entry.two) {
+            return false;
+        }
+        let Some(row) = rows.get(place) else {
+            return false;
+        };
+        let Some(one) = first_open(values, vars, row.as_slice()) else {
+            return true;
+        };
+        match another(values, vars, row.as_slice(), one) {
+            Some(two) => {
+                entry.one = one;
+                entry.two = two;
+                false
+            }
+            None => {
+                if fails(values, vars, one) {
+                    entry.one = one;
+                    return false;
+                }
+                true
+            }
+        }
+    }
+
+    // The next nogood that doesn't watch and says something.
+    fn next_of_retired(
+        &mut self,
+        rows: &[Seq<Lit>],
+        values: &Assign,
+        vars: u32,
+    ) -> Result<Option<usize>, AllocError>
+        requires { length values.now ≡ vars + 1 }
+    {
+        for _ in 0..u64::MAX {
+            if self.retired_left == 0 {
+                return Ok(None);
+            }
+            if self.next_retired >= self.retired.len() {
+                self.next_retired = 0;
+            }
+            let Some(place) = self.retired.get(self.next_retired).copied() else {
+                return Ok(None);
+            };
+            if self.speaks(rows, values, vars, place) {
+                if self.next_retired < self.retired.len() {
+                    self.retired.swap_remove(self.next_retired);
+                }
+                self.retired_left = self.retired.len();
+                self.revived.push(place)?;
+                self.use_now(place);
+                return Ok(Some(place));
+            }
+            self.next_retired = self.next_retired.saturating_add(1);
+            self.retired_left = self.retired_left.saturating_sub(1);
+        }
+        Ok(None)
+    }
+
+    fn touch_body(&mut self, body: usize) -> Result<(), AllocError> {
+        if self.is_touched.get(body).copied().unwrap_or(true) {
+            return Ok(());
+        }
+        set_mark(self.is_touched.as_mut_slice(), body, true);
+        self.touched.push(body)?;
+        Ok(())
+    }
+
+    // The weight bodies that the literal touches are to be looked at.
+    fn touch(&mut self, lit: Lit) -> Result<(), AllocError> {
+        let Some(bodies) = self.by_var.get(lit.var() as usize) else {
+            return Ok(());
+        };
+        for body in bodies {
+            if !self.is_touched.get(*body).copied().unwrap_or(true) {
+                set_mark(self.is_touched.as_mut_slice(), *body, true);
+                self.touched.push(*body)?;
+            }
+        }
+        Ok(())
+    }
+
+    // The next nogood that may be hit, or imply something.
+    fn next_nogood(
+        &mut self,
+        rows: &[Seq<Lit>],
+        values: &Assign,
+        vars: u32,
+        trail: &[Lit],
+    ) -> Result<Option<usize>, AllocError>
+        requires { length values.now ≡ vars + 1 }
+    {
+        for _ in 0..u64::MAX {
+            let Some(held) = trail.get(self.done).copied() else {
+                return Ok(None);
+            };
+            if let Some(place) = self.next_of(rows, values, vars, held)? {
+                return Ok(Some(place));
+            }
+            self.touch(held)?;
+            self.done = self.done.saturating_add(1);
+            self.within = 0;
+        }
+        Ok(None)
+    }
+
+    // What the touched weight bodies may imply.
+    fn weigh(&mut self, compiled: &Compiled, values: &Assign) -> Result<(), AllocError>
+        requires { length values.now ≡ var_count compiled.now + 1 }
+    {
+        for _ in 0..u64::MAX {
+            let Some(body) = self.touched.pop() else {
+                return Ok(());
+            };
+            set_mark(self.is_touched.as_mut_slice(), body, false);
+            hints_of_body(&mut self.hints, compiled, values, body)?;
+            if !self.hints.is_empty() {
+                return Ok(());
+            }
+        }
+        Ok(())
+    }
+
+    // What the bound may imply.
+    fn price(
+        &mut self,
+        compiled: &Compiled,
+        bound: &Option<Bound>,
+        values: &Assign,
+        trail: &[Lit],
+    ) -> Result<(), AllocError>
+        requires { length values.now ≡ var_count compiled.now + 1 }
+    {
+        let held = trail.len();
+        if self.priced_at == Some(held) {
+            return Ok(());
+        }
+        self.priced_at = Some(held);
+        match bound {
+            Some(bound) => hints_of_bound(
+                &mut self.hints,
+                compiled,
+                bound,
+                self.priced.as_slice(),
+                values,
+            ),
+            None => Ok(()),
+        }
+    }
+
+    /// What is to be looked at next, or nothing.
+    pub(crate) fn next(
+        &mut self,
+        compiled: &Compiled,
+        rows: &[Seq<Lit>],
+        bound: &Option<Bound>,
+        values: &Assign,
+        trail: &[Lit],
+    ) -> Result<Option<Hint>, AllocError>
+        requires { length values.now ≡ var_count compiled.now + 1 }
+    {
+        if let Some(hint) = self.hints.pop() {
+            return Ok(Some(hint));
+        }
+        if let Some(place) = self.next_nogood(rows, values, compiled.vars(), trail)? {
+            return Ok(Some(Hint::Nogood(place)));
+        }
+        self.weigh(compiled, values)?;
+        if let Some(hint) = self.hints.pop() {
+            return Ok(Some(hint));
+        }
+        self.price(compiled, bound, values, trail)?;
+        if let Some(hint) = self.hints.pop() {
+            return Ok(Some(hint));
+        }
+        match self.next_of_retired(rows, values, compiled.vars())? {
+            Some(place) => Ok(Some(Hint::Nogood(place))),
+            None => Ok(None),
+        }
+    }
+}
