@@ -78,6 +78,11 @@ check "no output" 74 "$wanted" "$?" "$notes"
 echo 'aspenum: read failed' > "$wanted"
 "$program" < examples 2> "$notes" > "$given"
 check "a folder as input" 66 "$wanted" "$?" "$notes"
+: > "$wanted"
+if [ -w /dev/full ]; then
+    printf 'asp 1 0 0\n1 0 1\n0\n' | "$program" > "$given" 2> /dev/full
+    check "notes that can't be written" 65 "$wanted" "${PIPESTATUS[1]}" "$given"
+fi
 
 # The counts of a run.
 printf 'Conflicts: 0\nLeaves: 1\nLog: 0\nDecisions: 1\nRestarts: 0\nKept: 0\nDropped: 0\nAtoms: 2\nBodies: 2\n' > "$wanted"

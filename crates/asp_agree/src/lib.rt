@@ -1,7 +1,5 @@
-//! Tests of whole searches and runs: that a nogood goes from one search to another, and runs whose input or output fails.
+//! A test of two searches: a nogood goes from one to the other.
 #![tactic(auto)]
 
-#[cfg(test)]
-mod failing;
 #[cfg(test)]
 mod shared;
