@@ -22,10 +22,12 @@ strip --strip-all --remove-section=.comment "$root"/usr/bin/*
 find "$root/usr/share/man" -type f -exec gzip -9n {} +
 
 doc=$root/usr/share/doc/aspenum
-install -d "$doc/examples" "$root/DEBIAN"
+install -d "$doc/examples/cluster" "$root/DEBIAN"
 install -m 644 packaging/copyright "$doc"
 gzip -9nc packaging/changelog > "$doc/changelog.gz"
-install -m 644 examples/* "$doc/examples"
+install -m 644 examples/*.* "$doc/examples"
+install -m 644 examples/cluster/README.md "$doc/examples/cluster"
+install -m 755 examples/cluster/*.sh examples/cluster/*.py "$doc/examples/cluster"
 
 # What the program is linked to, as Debian's own tool tells it where it is there.
 depends="libc6, libgcc-s1"
