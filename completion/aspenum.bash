@@ -24,7 +24,7 @@ _aspenum() {
     case $option in
         --mode) mapfile -t COMPREPLY < <(compgen -P "$stem" -W "auto enum opt" -- "$word") && return ;;
         --workers) mapfile -t COMPREPLY < <(compgen -P "$stem" -W "1 2 4 8 16 32 64" -- "$word") && return ;;
-        --budget | --make | --split | --help | -h | --version | --) return ;;
+        --budget | --models | --make | --split | --help | -h | --version | --) return ;;
     esac
     [[ $word == "${words[last]}" ]] || return
 
@@ -33,7 +33,7 @@ _aspenum() {
     # of these two one excludes the other
     [[ " ${given[*]} " != *" --split "* ]] || given+=(--proof)
     [[ " ${given[*]} " != *" --proof "* ]] || given+=(--split)
-    for option in --mode --budget --workers --make --stats --progress --proof --split; do
+    for option in --mode --budget --models --workers --make --stats --progress --proof --split; do
         [[ " ${given[*]} " == *" $option "* ]] || left+=("$option")
     done
     [[ $last -ne 1 ]] || left+=(--help --version)

@@ -21,6 +21,7 @@ end
 
 complete -c aspenum -n '__aspenum_lacks mode' -l mode -x -d 'What is sought' -a 'auto\t"opt where the program minimises, else enum" enum\t"all answers" opt\t"one answer of least cost"'
 complete -c aspenum -n '__aspenum_lacks budget' -l budget -x -d 'At most so many conflicts'
+complete -c aspenum -n '__aspenum_lacks models' -l models -x -d 'End with so many answers'
 complete -c aspenum -n '__aspenum_lacks workers' -l workers -x -d 'Threads that search' -a '1 2 4 8 16 32 64'
 complete -c aspenum -n '__aspenum_lacks make' -l make -x -d 'Solve a ring of so many nodes, read no program'
 complete -c aspenum -n '__aspenum_lacks stats' -l stats -d 'Write counts to standard error'

@@ -4,8 +4,10 @@
     compare.py PROGRAM [COUNT [SEED]] [--no-clasp]     (PROGRAM may have words behind it: "build/aspenum --workers 4")
 
 Each program has up to seven atoms and every kind of statement. In an enumeration the bytes must be the reference's; in
-an optimisation the closing lines, cost and count, must be. Every fourth program is solved in parts too. Where clasp lists other answers than the reference, that is
-told and counted, and is no failure: clasp 3.3.5 is known to lose answers of choices over weight bodies.
+an optimisation the closing lines, cost and count, must be. With a limit the number of answers must be the reference's, and they
+must be some of its answers in its order. Every fourth program is solved in parts too. Where clasp lists other answers than the
+reference, or with a limit another number of them, that is told and counted, and is no failure: clasp 3.3.5 is known to lose
+answers of choices over weight bodies.
 """
 import random
 import shutil
@@ -73,6 +75,26 @@ def wanted_of(text, mode):
     return "".join(line + "\n" for line in reference.lines(reference.read(text), mode))
 
 
+def is_part(some, all_):
+    """Whether some are members of all, in their order."""
+    rest = iter(all_)
+    return all(answer in rest for answer in some)
+
+
+def limit_differs(aspenum, text, limit):
+    """What is wrong with an enumeration that ends with so many answers, or nothing."""
+    wanted = "".join(line + "\n" for line in reference.lines(reference.read(text), "enum", limit))
+    given = run([*aspenum, "--mode", "enum", "--models", str(limit)], text)
+    found, closing = given.stdout.decode(), wanted.split("\n")[-3:]
+    if found.split("\n")[-3:] != closing or len(answers(found)) != len(answers(wanted)):
+        return f"--models {limit} ends otherwise than the reference"
+    if not is_part(answers(found), answers(wanted_of(text, "enum"))):
+        return f"--models {limit} writes other answers than the reference has, or not in its order"
+    if given.returncode != (11 if "LIMIT" in wanted else 20 if "UNSATISFIABLE" in wanted else 30):
+        return f"the status is {given.returncode} with --models {limit}"
+    return None
+
+
 def differs(aspenum, text):
     """What is wrong with aspenum's answers to a program, or nothing."""
     for mode, part in (("enum", lambda whole: whole), ("opt", without_answer)):
@@ -82,6 +104,11 @@ def differs(aspenum, text):
             return f"--mode {mode} differs from the reference"
         if given.returncode != (20 if "UNSATISFIABLE" in wanted else 30):
             return f"the status is {given.returncode} with --mode {mode}"
+    count = len(answers(wanted_of(text, "enum")))
+    for limit in sorted({1, max(count, 1), count + 1}):
+        wrong = limit_differs(aspenum, text, limit)
+        if wrong:
+            return wrong
     return None
 
 
@@ -123,6 +150,10 @@ def clasp_differs(text):
     mine = sorted(sorted(answer.split()) for answer in answers(wanted))
     if sorted(sorted(answer.split()) for answer in answers(listed)) != mine:
         return "clasp lists other answers than the reference"
+    limit = max(len(mine) // 2, 1)
+    some = run(["clasp", "-n", str(limit), "--opt-mode=ignore"], text, 10).stdout.decode()
+    if len(answers(some)) != min(limit, len(mine)):
+        return f"clasp lists another number of answers with -n {limit}"
     return None
 
 

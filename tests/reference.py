@@ -1,7 +1,10 @@
 #!/usr/bin/env python3
 """What aspenum must write for an aspif program, by walking all sets of atoms.
 
-    reference.py [enum|opt] < program.aspif
+    reference.py [enum|opt [LIMIT]] < program.aspif
+
+With a limit, which an optimisation takes no notice of, an enumeration ends with so many answers: here the first ones, where
+aspenum may write others.
 
 Slow and plain on purpose: it shares nothing with the solver but the format.
 """
@@ -121,8 +124,11 @@ def cost(program, atoms):
     ]
 
 
-def lines(program, mode):
+def lines(program, mode, limit=0):
     found = list(answers(program))
+    enough = mode == "enum" and 0 < limit <= len(found)
+    if enough:
+        found = found[:limit]
     if mode == "opt":
         found = sorted(found, key=lambda atoms: cost(program, atoms))[:1]
     for number, atoms in enumerate(found, 1):
@@ -130,17 +136,20 @@ def lines(program, mode):
         yield " ".join(t for t, condition in program["outputs"] if all(holds(l, atoms) for l in condition))
     if mode == "opt" and found:
         yield " ".join(["Optimization:"] + [str(sum_) for sum_ in cost(program, found[0])])
-    if not found:
+    if enough:
+        yield "LIMIT REACHED"
+    elif not found:
         yield "UNSATISFIABLE"
     else:
         yield "OPTIMUM FOUND" if mode == "opt" else "SATISFIABLE"
-    yield f"Models: {len(found)}"
+    yield f"Models: {len(found)}" + ("+" if enough else "")
 
 
 def main():
     program = read(sys.stdin.buffer.read().decode("latin-1"))
     mode = sys.argv[1] if len(sys.argv) > 1 else ("opt" if program["minimize"] else "enum")
-    text = "".join(line + "\n" for line in lines(program, mode))
+    limit = int(sys.argv[2]) if len(sys.argv) > 2 else 0
+    text = "".join(line + "\n" for line in lines(program, mode, limit))
     sys.stdout.buffer.write(text.encode("latin-1"))
 
 

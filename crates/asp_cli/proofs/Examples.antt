@@ -2,12 +2,12 @@
 use Rattle.std.proofs.Common.{◌≡◌, [], ◌∷◌, true, false, Some, None, codes, refl}
 use Rattle.asp_model.specs.declared.results.Mode.TheVariants.{Enum, Opt}
 use Rattle.asp_cli.specs.declared.Options.{Options}
-use Rattle.asp_cli.specs.declared.names.Name.TheVariants.{Workers, Mode, Budget, Make, Stats, Progress, Split}
+use Rattle.asp_cli.specs.declared.names.Name.TheVariants.{Workers, Mode, Budget, Models, Make, Stats, Progress, Split}
 use Rattle.asp_cli.specs.Given.{bad_value, help, misuse, missing, no_words, not_alone, options, rivals, twice, unexpected, unknown, version, words_give}
 
 -- what is asked for where no option is given
 abbrev standard : Options
-standard = record { workers = 1; mode = None; budget = 9223372036854775807; make = None; stats = false; progress = false; proof = false; split = None }
+standard = record { workers = 1; mode = None; budget = 9223372036854775807; models = 0; make = None; stats = false; progress = false; proof = false; split = None }
 
 empty_line : words_give [] ≡ misuse no_words
 empty_line = refl
@@ -117,6 +117,18 @@ workers_none = refl
 workers_many : words_give (codes "aspenum" ∷ codes "--workers" ∷ codes "65" ∷ []) ≡ misuse (bad_value Workers (codes "65"))
 workers_many = refl
 
+models_most : words_give (codes "aspenum" ∷ codes "--models" ∷ codes "9223372036854775807" ∷ []) ≡ options (record standard { models = 9223372036854775807 })
+models_most = refl
+
+models_none : words_give (codes "aspenum" ∷ codes "--models=0" ∷ []) ≡ options standard
+models_none = refl
+
+models_too_many : words_give (codes "aspenum" ∷ codes "--models=9223372036854775808" ∷ []) ≡ misuse (bad_value Models (codes "9223372036854775808"))
+models_too_many = refl
+
+models_twice : words_give (codes "aspenum" ∷ codes "--models" ∷ codes "2" ∷ codes "--models=2" ∷ []) ≡ misuse (twice Models)
+models_twice = refl
+
 parts_most : words_give (codes "aspenum" ∷ codes "--split" ∷ codes "100000" ∷ []) ≡ options (record standard { split = Some 100000 })
 parts_most = refl
 
@@ -138,5 +150,5 @@ parts_twice = refl
 first_from_the_left : words_give (codes "aspenum" ∷ codes "--stats" ∷ codes "--budget=x" ∷ codes "--verson" ∷ []) ≡ misuse (bad_value Budget (codes "x"))
 first_from_the_left = refl
 
-all_options : words_give (codes "aspenum" ∷ codes "--make=2000" ∷ codes "--stats" ∷ codes "--mode=enum" ∷ codes "--budget=7" ∷ codes "--workers=4" ∷ []) ≡ options (record { workers = 4; mode = Some Enum; budget = 7; make = Some 2000; stats = true; progress = false; proof = false; split = None })
+all_options : words_give (codes "aspenum" ∷ codes "--make=2000" ∷ codes "--stats" ∷ codes "--mode=enum" ∷ codes "--budget=7" ∷ codes "--models=3" ∷ codes "--workers=4" ∷ []) ≡ options (record { workers = 4; mode = Some Enum; budget = 7; models = 3; make = Some 2000; stats = true; progress = false; proof = false; split = None })
 all_options = refl

@@ -2,7 +2,7 @@
 use Rattle.std.specs.Prelude.{ℕ, Bool, false, List, Option, Some, None, is_some, option_map, unwrap_or}
 use Rattle.asp_cli.specs.declared.found.Found.{Found}
 use Rattle.asp_cli.specs.declared.names.Name.{Name}
-use Rattle.asp_cli.specs.declared.names.Name.TheVariants.{Workers, Mode, Budget, Make, Stats, Progress, Proof, Split}
+use Rattle.asp_cli.specs.declared.names.Name.TheVariants.{Workers, Mode, Budget, Models, Make, Stats, Progress, Proof, Split}
 use Rattle.asp_cli.specs.declared.walk.Awaits.TheVariants as awaits
 use Rattle.asp_cli.specs.declared.walk.State.{State}
 use Rattle.asp_cli.specs.declared.Options.{Options}
@@ -13,6 +13,7 @@ abbrev pub has : Found → Name → Bool
 has f Workers = is_some f.workers
 has f Mode = is_some f.mode
 has f Budget = is_some f.budget
+has f Models = is_some f.models
 has f Make = is_some f.make
 has f Stats = f.stats
 has f Progress = f.progress
@@ -30,6 +31,7 @@ abbrev pub found_with : Found → Name → List ℕ → Option Found
 found_with f Workers t = option_map (λ n. record f { workers = Some n }) (number_within 1 64 t)
 found_with f Mode t = option_map (λ m. record f { mode = Some m }) (mode_named t)
 found_with f Budget t = option_map (λ n. record f { budget = Some n }) (number_within 0 9223372036854775807 t)
+found_with f Models t = option_map (λ n. record f { models = Some n }) (number_within 0 9223372036854775807 t)
 found_with f Make t = option_map (λ n. record f { make = Some n }) (number_within 3 2000 t)
 found_with f Stats t = None
 found_with f Progress t = None
@@ -42,6 +44,7 @@ options_of f = record {
   workers = unwrap_or f.workers 1;
   mode = unwrap_or f.mode None;
   budget = unwrap_or f.budget 9223372036854775807;
+  models = unwrap_or f.models 0;
   make = f.make;
   stats = f.stats;
   progress = f.progress;
@@ -51,4 +54,4 @@ options_of f = record {
 
 -- nothing was found yet
 abbrev pub start : State
-start = record { found = record { workers = None; mode = None; budget = None; make = None; stats = false; progress = false; proof = false; split = None }; awaits = awaits.Option }
+start = record { found = record { workers = None; mode = None; budget = None; models = None; make = None; stats = false; progress = false; proof = false; split = None }; awaits = awaits.Option }

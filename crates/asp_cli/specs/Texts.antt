@@ -2,7 +2,7 @@
 use Rattle.std.specs.Prelude.{ℕ, List, ◌++◌, codes}
 
 abbrev pub usage_line : List ℕ
-usage_line = codes "usage: aspenum [--workers 1..64] [--mode auto|enum|opt] [--budget N] [--make 3..2000] [--stats] [--progress] [--proof] [--split 1..100000]"
+usage_line = codes "usage: aspenum [--workers 1..64] [--mode auto|enum|opt] [--budget N] [--make 3..2000] [--stats] [--progress] [--proof] [--models N] [--split 1..100000]"
 
 -- the program's name and version
 abbrev pub version_line : List ℕ
@@ -23,6 +23,8 @@ page_back = codes "\n"
     ++ codes "  --mode MODE    enum: all answers. opt: one of least cost. auto, the default: opt\n"
     ++ codes "                 where the program has a minimize statement, and else enum\n"
     ++ codes "  --budget N     at most N conflicts, 0 to 9223372036854775807; the default is the greatest\n"
+    ++ codes "  --models N     end with N answers of an enumeration; 0, the default, is no limit. An\n"
+    ++ codes "                 optimisation takes no notice of it\n"
     ++ codes "  --make N       solve a ring of N nodes, 3 to 2000, and read no program\n"
     ++ codes "  --workers N    threads that search, 1 to 64; the default is 1\n"
     ++ codes "  --stats        write counts of the run to standard error\n"
@@ -38,9 +40,10 @@ page_back = codes "\n"
     ++ codes "Exit status:\n"
     ++ codes "  30  all answers, or the optimum, were written    64  the words are faulty\n"
     ++ codes "  20  the program has no answer                    65  the text is refused\n"
-    ++ codes "  10  the budget was spent with an answer found    66  reading failed\n"
-    ++ codes "   1  the budget was spent without one             67  the text is too long\n"
-    ++ codes "   0  help, the version or parts were written      74  writing failed\n"
+    ++ codes "  11  as many answers as asked for were written    66  reading failed\n"
+    ++ codes "  10  the budget was spent with an answer found    67  the text is too long\n"
+    ++ codes "   1  the budget was spent without one             74  writing failed\n"
+    ++ codes "   0  help, the version or parts were written\n"
     ++ codes "  33  memory ran out\n"
     ++ codes "\n"
     ++ codes "Example:\n"

@@ -6,7 +6,7 @@ ghost use Rattle.asp_cli.specs.Values.{IsCrew, IsPartCount, IsRing};
 use crate::Options;
 use crate::names::Name;
 use crate::values::{
-    LARGEST_RING, LEAST_RING, MOST_PARTS, MOST_UNITS, MOST_WORKERS, named_mode, number,
+    LARGEST_RING, LEAST_RING, MOST_MODELS, MOST_PARTS, MOST_UNITS, MOST_WORKERS, named_mode, number,
 };
 use asp_model::results::Mode;
 
@@ -19,6 +19,8 @@ pub struct Found {
     pub mode: Option<Option<Mode>>,
     /// How many conflicts may be met.
     pub budget: Option<u64>,
+    /// How many answers are enough.
+    pub models: Option<u64>,
     /// The number of the example program that is to be written.
     pub make: Option<u32>,
     /// Whether counts of the run were asked for.
@@ -39,6 +41,7 @@ pub fn has(found: &Found, name: Name) -> bool
         Name::Workers => found.workers.is_some(),
         Name::Mode => found.mode.is_some(),
         Name::Budget => found.budget.is_some(),
+        Name::Models => found.models.is_some(),
         Name::Make => found.make.is_some(),
         Name::Stats => found.stats,
         Name::Progress => found.progress,
@@ -87,6 +90,13 @@ pub fn with(found: Found, name: Name, text: &str) -> Option<Found>
                 ..found
             })
         }
+        Name::Models => {
+            let models = number(text, 0, MOST_MODELS)?;
+            Some(Found {
+                models: Some(models),
+                ..found
+            })
+        }
         Name::Make => {
             let nodes = number(text, LEAST_RING, LARGEST_RING)?;
             Some(Found {
@@ -116,6 +126,7 @@ pub fn options(found: &Found) -> Options
         workers: found.workers.unwrap_or(1),
         mode: found.mode.unwrap_or(None),
         budget: found.budget.unwrap_or(MOST_UNITS),
+        models: found.models.unwrap_or(0),
         make: found.make,
         stats: found.stats,
         progress: found.progress,

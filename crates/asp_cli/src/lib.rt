@@ -25,6 +25,8 @@ pub struct Options {
     pub mode: Option<Mode>,
     /// How many units of work there are, each of which a conflict costs. The greatest number is 2^63 - 1, which also stands where none was given.
     pub budget: u64,
+    /// How many answers of an enumeration are enough. With 0, which also stands where none was given, there is no limit.
+    pub models: u64,
     /// The number of nodes of the ring that is solved in place of a program that is read, if one is: 3 to 2000.
     pub make: Option<u32>,
     /// Whether the notes get counts of the run.

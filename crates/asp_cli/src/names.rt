@@ -8,6 +8,7 @@ pub enum Name {
     Workers,
     Mode,
     Budget,
+    Models,
     Make,
     Stats,
     Progress,
@@ -24,6 +25,7 @@ impl Name {
             Name::Workers => "--workers",
             Name::Mode => "--mode",
             Name::Budget => "--budget",
+            Name::Models => "--models",
             Name::Make => "--make",
             Name::Stats => "--stats",
             Name::Progress => "--progress",
@@ -39,7 +41,7 @@ impl Name {
         match self {
             Name::Workers => "a number from 1 to 64",
             Name::Mode => "auto, enum or opt",
-            Name::Budget => "a number up to 9223372036854775807",
+            Name::Budget | Name::Models => "a number up to 9223372036854775807",
             Name::Make => "a number from 3 to 2000",
             Name::Stats | Name::Progress | Name::Proof => "no value",
             Name::Split => "a number from 1 to 100000",
@@ -57,6 +59,8 @@ pub fn named(word: &str) -> Option<Name>
         Some(Name::Mode)
     } else if word == Name::Budget.text() {
         Some(Name::Budget)
+    } else if word == Name::Models.text() {
+        Some(Name::Models)
     } else if word == Name::Make.text() {
         Some(Name::Make)
     } else if word == Name::Stats.text() {

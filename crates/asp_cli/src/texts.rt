@@ -4,7 +4,7 @@ ghost use Rattle.asp_cli.specs.Texts.{page_back, page_front, usage_line, version
 
 /// The line that tells how the program is called.
 pub const USAGE: &str =
-    "usage: aspenum [--workers 1..64] [--mode auto|enum|opt] [--budget N] [--make 3..2000] [--stats] [--progress] [--proof] [--split 1..100000]";
+    "usage: aspenum [--workers 1..64] [--mode auto|enum|opt] [--budget N] [--make 3..2000] [--stats] [--progress] [--proof] [--models N] [--split 1..100000]";
 
 /// The program's name and version.
 pub const VERSION: &str = "aspenum 0.1.0\n";
@@ -21,6 +21,8 @@ Options, each at most once, its value as the next word or behind '=':\n\
 \x20 --mode MODE    enum: all answers. opt: one of least cost. auto, the default: opt\n\
 \x20                where the program has a minimize statement, and else enum\n\
 \x20 --budget N     at most N conflicts, 0 to 9223372036854775807; the default is the greatest\n\
+\x20 --models N     end with N answers of an enumeration; 0, the default, is no limit. An\n\
+\x20                optimisation takes no notice of it\n\
 \x20 --make N       solve a ring of N nodes, 3 to 2000, and read no program\n\
 \x20 --workers N    threads that search, 1 to 64; the default is 1\n\
 \x20 --stats        write counts of the run to standard error\n\
@@ -36,9 +38,10 @@ Options, each at most once, its value as the next word or behind '=':\n\
 Exit status:\n\
 \x20 30  all answers, or the optimum, were written    64  the words are faulty\n\
 \x20 20  the program has no answer                    65  the text is refused\n\
-\x20 10  the budget was spent with an answer found    66  reading failed\n\
-\x20  1  the budget was spent without one             67  the text is too long\n\
-\x20  0  help, the version or parts were written      74  writing failed\n\
+\x20 11  as many answers as asked for were written    66  reading failed\n\
+\x20 10  the budget was spent with an answer found    67  the text is too long\n\
+\x20  1  the budget was spent without one             74  writing failed\n\
+\x20  0  help, the version or parts were written\n\
 \x20 33  memory ran out\n\
 \n\
 Example:\n\

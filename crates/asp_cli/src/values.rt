@@ -8,6 +8,8 @@ use asp_model::results::Mode;
 pub const MOST_WORKERS: u64 = 64;
 /// The greatest budget, which stands where none is given.
 pub const MOST_UNITS: u64 = 9223372036854775807;
+/// The greatest limit of answers.
+pub const MOST_MODELS: u64 = 9223372036854775807;
 /// The least and the greatest number of nodes of a ring.
 pub const LEAST_RING: u64 = 3;
 

@@ -35,6 +35,7 @@ fn start() -> State
         workers: None,
         mode: None,
         budget: None,
+        models: None,
         make: None,
         stats: false,
         progress: false,

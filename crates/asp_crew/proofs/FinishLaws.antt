@@ -1,20 +1,20 @@
 -- One leaf after another, and what is left when number 0 has given its units back.
-use Rattle.std.proofs.Common.{◌≡◌, ◌⊎◌, ℕ, ◌+◌, ◌-◌, ◌^◌, ◌<◌, min, Bool, true, false, cond, eqb, List, [], ◌∷◌, length, Option, Some, None, refl, sym, ap, ◌∙◌, subst, inl, inr, arith}
+use Rattle.std.proofs.Common.{◌≡◌, ◌⊎◌, ℕ, ◌+◌, ◌-◌, ◌^◌, ◌<◌, min, Bool, true, false, cond, ◌||◌, eqb, is_some, List, [], ◌∷◌, length, Option, Some, None, refl, sym, ap, ◌∙◌, subst, inl, inr, arith}
 use Rattle.std.specs.Prelude.{ℤ, slice_get}
 use Rattle.std.specs.Option.{IfSome}
-use Rattle.std.proofs.lemmas.Bool.{eqb-true, cases_eq}
+use Rattle.std.proofs.lemmas.Bool.{false≢true, eqb-true, cases_eq}
 use Rattle.asp_model.specs.declared.results.Mode.{Mode}
 use Rattle.asp_model.specs.Sets.{Atoms}
 use Rattle.asp_vars.specs.Literals.{Literal}
 use Rattle.asp_vars.specs.Paid.{Clash, Units}
 use Rattle.asp_path.specs.declared.status.Status.{Status}
 use Rattle.asp_path.specs.declared.status.Status.TheVariants as status
-use Rattle.asp_path.specs.Trees.{Node, is_leaf, is_held, is_open, cube_of, status_of, with_status, open_from, held_count}
+use Rattle.asp_path.specs.Trees.{Node, all_closed, is_leaf, is_held, is_open, cube_of, status_of, with_status, open_from, held_count}
 use Rattle.asp_core.specs.declared.event.Event.{Event}
 use Rattle.asp_core.specs.declared.event.Event.TheVariants as event
 use Rattle.asp_core.specs.declared.task.Task.{Task}
 use Rattle.asp_core.specs.Units.{out_of, returned}
-use Rattle.asp_core.specs.Boards.{Board, start}
+use Rattle.asp_core.specs.Boards.{Board, is_enough, start}
 use Rattle.asp_core.specs.Events.{held_by, Guard, happens}
 use Rattle.asp_core.proofs.GrowthLaws.{out_of-leased_other, out_of-returned_other}
 use Rattle.asp_core.proofs.PlaceLaws.{held_count-changed}
@@ -25,7 +25,7 @@ use Rattle.asp_search_laws.specs.Searching.{Searching}
 use Rattle.asp_crew_laws.specs.Reports.{IsIdle, IsMet, IsWorkedOff}
 use Rattle.asp_crew_laws.specs.Working.{IsAtWork}
 use Rattle.asp_crew_laws.proofs.WorkLaws.{work-begins, out_of-leased}
-use Rattle.asp_crew.specs.Running.{IsRunIn, IsReady, Ends, LeavesLeaf, IsAlone, IsThrough, LeavesAll}
+use Rattle.asp_crew.specs.Running.{IsRunIn, IsReady, OnlyRecords, status_after, Ends, LeavesLeaf, IsAlone, IsThrough, LeavesAll}
 use Rattle.asp_crew.proofs.BookLaws.{board-task, board-with, ready-with, cube-within}
 use Rattle.asp_crew.proofs.TreeLaws.{open-changed, taken-open, none-taken, status-set, cube-set, held_by-le, closed-when}
 
@@ -34,47 +34,72 @@ held-leaf : (nodes : List Node) (leaf : ℕ) → status_of nodes leaf ≡ status
 held-leaf nodes leaf held = ap is_leaf held
 
 -- from v to w the path was searched, and then the leaf was closed
-leaves-closed : (mode : Mode) (v w y : Booked) (leaf : ℕ) (q : List Literal) (s t : Searching) (g : Units) → Ends mode v w s t g None → Guard (board w) (event.Close 0 leaf q) → y ≡ with_events w (event.Close 0 leaf q ∷ []) → LeavesLeaf mode v y leaf t g None
-leaves-closed mode v w y leaf q s t g ends guard now =
+leaves-closed : (mode : Mode) (v w y : Booked) (leaf : ℕ) (q : List Literal) (s t : Searching) (g : Units) → Ends mode v w s t g None → is_enough (board w) ≡ false → Guard (board w) (event.Close 0 leaf q) → y ≡ with_events w (event.Close 0 leaf q ∷ [])
+    → LeavesLeaf mode v y leaf t g None
+leaves-closed mode v w y leaf q s t g ends more guard now =
     let b : board y ≡ happens (board w) (event.Close 0 leaf q) = ap board now ∙ board-with w (event.Close 0 leaf q) in
     record {
       ready = ready-with mode w y t g (event.Close 0 leaf q) ends.ready guard refl now;
       task = ap (λ (x : Booked). x.task) now ∙ ends.only.task;
-      nodes = ap (λ (c : Board). c.nodes) b ∙ ap (λ (n : List Node). with_status n leaf status.Closed) ends.only.nodes;
+      nodes =
+          ap (λ (c : Board). c.nodes) b ∙ ap (λ (n : List Node). with_status n leaf status.Closed) ends.only.nodes
+          ∙ ap (λ x. with_status (board v).nodes leaf (status_after None x)) (sym (ap is_enough b ∙ more));
       out = ap (λ (c : Board). c.out) b ∙ ends.only.out;
       pool = ap (λ (c : Board). c.pool) b ∙ ends.only.pool;
       stopped = tt;
     }
 
-pub closes : (mode : Mode) (v w y : Booked) (leaf : ℕ) (q : List Literal) (s t : Searching) (g : Units) → Ends mode v w s t g None → status_of (board v).nodes leaf ≡ status.Held 0 → q ≡ cube_of (board v).nodes leaf → s.cube ≡ Some q
+pub closes : (mode : Mode) (v w y : Booked) (leaf : ℕ) (q : List Literal) (s t : Searching) (g : Units) → Ends mode v w s t g None → is_enough (board w) ≡ false → status_of (board v).nodes leaf ≡ status.Held 0 → q ≡ cube_of (board v).nodes leaf → s.cube ≡ Some q
     → y ≡ with_events w (event.Close 0 leaf q ∷ []) → LeavesLeaf mode v y leaf t g None
-closes mode v w y leaf q s t g ends held is entered now =
-    leaves-closed mode v w y leaf q s t g ends (ap (λ (n : List Node). status_of n leaf) ends.only.nodes ∙ held, cube-within v w leaf q ends.only.nodes is, ends.over q entered) now
+closes mode v w y leaf q s t g ends more held is entered now =
+    leaves-closed mode v w y leaf q s t g ends more (ap (λ (n : List Node). status_of n leaf) ends.only.nodes ∙ held, cube-within v w leaf q ends.only.nodes is, ends.over more q entered) now
 
 -- or it was opened again
-pub leaves-open : (mode : Mode) (v w y : Booked) (leaf : ℕ) (q : List Literal) (s t : Searching) (g : Units) (x : Clash) → Ends mode v w s t g (Some x) → status_of (board v).nodes leaf ≡ status.Held 0 → q ≡ cube_of (board v).nodes leaf → s.cube ≡ Some q
-    → y ≡ with_events w (event.Release 0 leaf ∷ []) → LeavesLeaf mode v y leaf t g (Some x)
-leaves-open mode v w y leaf q s t g x ends held cube entered now =
-    let e : Event = event.Release 0 leaf in
-    let b : board y ≡ happens (board w) e = ap board now ∙ board-with w e in
-    let still : status_of (board w).nodes leaf ≡ status.Held 0 = ap (λ (n : List Node). status_of n leaf) ends.only.nodes ∙ held in
-    let nodes : (board y).nodes ≡ with_status (board w).nodes leaf status.Open = ap (λ (c : Board). c.nodes) b in
-    let is_q : x.cube ≡ q = (let f : Some x.cube ≡ Some q = sym ends.over.1 ∙ entered in let g : x.cube ≡ q = cc in g) in
-    record {
-      ready = ready-with mode w y t g e ends.ready still refl now;
-      task = ap (λ (z : Booked). z.task) now ∙ ends.only.task;
-      nodes = nodes ∙ ap (λ (n : List Node). with_status n leaf status.Open) ends.only.nodes;
-      out = ap (λ (c : Board). c.out) b ∙ ends.only.out;
-      pool = ap (λ (c : Board). c.pool) b ∙ ends.only.pool;
-      stopped = (
-        ends.over.0,
-        record {
-          unclosed = ap (λ (n : List Node). status_of n leaf) nodes ∙ status-set (board w).nodes leaf status.Open (held-leaf (board w).nodes leaf still);
-          cube = is_q ∙ cube ∙ ap (λ (n : List Node). cube_of n leaf) (sym ends.only.nodes) ∙ sym (cube-set (board w).nodes leaf status.Open (held-leaf (board w).nodes leaf still)) ∙ ap (λ (n : List Node). cube_of n leaf) (sym nodes);
-          met = subst (λ (c : Board). IsMet c x) (sym b) (record { program = ends.over.2.program; known = ends.over.2.known; bound = ends.over.2.bound; conflict = ends.over.2.conflict });
-        },
-      );
-    }
+module _ (mode : Mode) (v w y : Booked) (leaf : ℕ) (q : List Literal) (s t : Searching) (g : Units) (held : status_of (board v).nodes leaf ≡ status.Held 0) (cube : q ≡ cube_of (board v).nodes leaf) (entered : s.cube ≡ Some q)
+    (now : y ≡ with_events w (event.Release 0 leaf ∷ [])) where
+  released : board y ≡ happens (board w) (event.Release 0 leaf)
+  released = ap board now ∙ board-with w (event.Release 0 leaf)
+
+  still : OnlyRecords v w → status_of (board w).nodes leaf ≡ status.Held 0
+  still only = ap (λ (n : List Node). status_of n leaf) only.nodes ∙ held
+
+  opened : (board y).nodes ≡ with_status (board w).nodes leaf status.Open
+  opened = ap (λ (c : Board). c.nodes) released
+
+  pub leaves-open : (o : Option Clash) → Ends mode v w s t g o → (is_some o || is_enough (board w)) ≡ true → LeavesLeaf mode v y leaf t g o
+  leaves-open None ends enough = record {
+    ready = ready-with mode w y t g (event.Release 0 leaf) ends.ready (still ends.only) refl now;
+    task = ap (λ (z : Booked). z.task) now ∙ ends.only.task;
+    nodes =
+        opened ∙ ap (λ (n : List Node). with_status n leaf status.Open) ends.only.nodes
+        ∙ ap (λ x. with_status (board v).nodes leaf (status_after None x)) (sym (ap is_enough released ∙ enough));
+    out = ap (λ (c : Board). c.out) released ∙ ends.only.out;
+    pool = ap (λ (c : Board). c.pool) released ∙ ends.only.pool;
+    stopped = tt;
+  }
+  leaves-open (Some x) ends some =
+      let held_now = held-leaf (board w).nodes leaf (still ends.only) in
+      let is_q : x.cube ≡ q = (let f : Some x.cube ≡ Some q = sym ends.over.2 ∙ entered in let g : x.cube ≡ q = cc in g) in
+      record {
+        ready = ready-with mode w y t g (event.Release 0 leaf) ends.ready (still ends.only) refl now;
+        task = ap (λ (z : Booked). z.task) now ∙ ends.only.task;
+        nodes = opened ∙ ap (λ (n : List Node). with_status n leaf status.Open) ends.only.nodes;
+        out = ap (λ (c : Board). c.out) released ∙ ends.only.out;
+        pool = ap (λ (c : Board). c.pool) released ∙ ends.only.pool;
+        stopped = (
+          ap is_enough released ∙ ends.over.0,
+          ends.over.1,
+          record {
+            unclosed = ap (λ (n : List Node). status_of n leaf) opened ∙ status-set (board w).nodes leaf status.Open held_now;
+            cube = is_q ∙ cube ∙ ap (λ (n : List Node). cube_of n leaf) (sym ends.only.nodes) ∙ sym (cube-set (board w).nodes leaf status.Open held_now) ∙ ap (λ (n : List Node). cube_of n leaf) (sym opened);
+            met = subst (λ (c : Board). IsMet c x) (sym released) (record { program = ends.over.3.program; known = ends.over.3.known; bound = ends.over.3.bound; conflict = ends.over.3.conflict });
+          },
+        );
+      }
+
+pub is-none : (o : Option Clash) → is_some o ≡ false → o ≡ None
+is-none None h = refl
+is-none (Some x) h = absurd (false≢true (sym h))
 
 -- ---- all leaves
 -- what holds between two leaves, from v on
@@ -147,17 +172,35 @@ module _ (mode : Mode) (v w y : Booked) (leaf : ℕ) (s t : Searching) (f g : Un
 pub alone-after : (b c : Board) → IsAlone b → held_count c.nodes ≡ 0 → c.out ≡ b.out → IsAlone c
 alone-after b c alone free out = record { free = free; home = λ s ne. ap (λ (o : List (ℕ × ℕ)). out_of o s) out ∙ alone.home s ne }
 
+not-held : (enough : Bool) → is_held (status_after None enough) ≡ false
+not-held true = refl
+not-held false = refl
+
 -- the next leaf
 pub between-next : (mode : Mode) (u v w y : Booked) (leaf : ℕ) (s t : Searching) (f g : Units) → IsBetween mode u v s f → IsTaken mode v w leaf s f → LeavesLeaf mode w y leaf t g None → IsBetween mode u y t g
 between-next mode u v w y leaf s t f g is taken left = record {
   ready = left.ready;
-  alone = alone-after (board v) (board y) is.alone (free-after mode v w y leaf s t f g None status.Closed taken left.nodes refl is.alone.free) (left.out ∙ taken.out);
+  alone =
+      alone-after (board v) (board y) is.alone (free-after mode v w y leaf s t f g None (status_after None (is_enough (board y))) taken left.nodes (not-held (is_enough (board y))) is.alone.free)
+      (left.out ∙ taken.out);
   task = left.task ∙ taken.task ∙ is.task;
   pool = left.pool ∙ taken.pool ∙ is.pool;
 }
 
-pub fewer-next : (mode : Mode) (v w y : Booked) (leaf : ℕ) (s t : Searching) (f g : Units) → IsTaken mode v w leaf s f → LeavesLeaf mode w y leaf t g None → length (open_from 0 (board y).nodes) < length (open_from 0 (board v).nodes)
-fewer-next mode v w y leaf s t f g taken left = fewer-after mode v w y leaf s t f g None status.Closed taken left.nodes refl refl
+-- how many leaves may be taken still: none where it is enough, and else one more than are open
+abbrev pub takes_left : Board → ℕ
+takes_left b = cond (is_enough b) 0 (length (open_from 0 b.nodes) + 1)
+
+pub fewer-next : (mode : Mode) (v w y : Booked) (leaf : ℕ) (s t : Searching) (f g : Units) → is_enough (board v) ≡ false → IsTaken mode v w leaf s f → LeavesLeaf mode w y leaf t g None → takes_left (board y) < takes_left (board v)
+fewer-next mode v w y leaf s t f g more taken left =
+    subst (λ x. takes_left (board y) < cond x 0 (length (open_from 0 (board v).nodes) + 1)) (sym more) (here (is_enough (board y)) refl)
+  where
+    here : (x : Bool) → x ≡ is_enough (board y) → cond x 0 (length (open_from 0 (board y).nodes) + 1) < length (open_from 0 (board v).nodes) + 1
+    here true q = omega arith
+    here false q =
+        let nodes : (board y).nodes ≡ with_status (board w).nodes leaf status.Closed = left.nodes ∙ ap (λ z. with_status (board w).nodes leaf (status_after None z)) (sym q) in
+        let less : length (open_from 0 (board y).nodes) < length (open_from 0 (board v).nodes) = fewer-after mode v w y leaf s t f g None status.Closed taken nodes refl refl in
+        omega (arith, less)
 
 -- no unit was left
 pub all-stopped : (mode : Mode) (u v w y : Booked) (leaf : ℕ) (s t : Searching) (f g : Units) (x : Clash) → IsBetween mode u v s f → IsTaken mode v w leaf s f → LeavesLeaf mode w y leaf t g (Some x) → LeavesAll mode u y t g (Some x)
@@ -166,14 +209,18 @@ all-stopped mode u v w y leaf s t f g x is taken left = record {
   alone = alone-after (board v) (board y) is.alone (free-after mode v w y leaf s t f g (Some x) status.Open taken left.nodes refl is.alone.free) (left.out ∙ taken.out);
   task = left.task ∙ taken.task ∙ is.task;
   pool = left.pool ∙ taken.pool ∙ is.pool;
-  through = (left.stopped.0, (leaf, left.stopped.1));
+  through = (left.stopped.0, left.stopped.1, (leaf, left.stopped.2));
 }
+
+-- it is enough
+pub all-enough : (mode : Mode) (u v : Booked) (s : Searching) (f : Units) → IsBetween mode u v s f → is_enough (board v) ≡ true → LeavesAll mode u v s f None
+all-enough mode u v s f is enough = record { ready = is.ready; alone = is.alone; task = is.task; pool = is.pool; through = λ more. absurd (false≢true (sym more ∙ enough)) }
 
 -- no leaf was open
 pub all-through : (mode : Mode) (u v w : Booked) (s : Searching) (f : Units) (r : Option ℕ) → IsBetween mode u v s f → r ≡ slice_get (open_from 0 (board v).nodes) 0 → w ≡ with_events v (taken 0 r) → r ≡ None → LeavesAll mode u w s f None
 all-through mode u v w s f r is first now none =
     subst (λ (x : Booked). LeavesAll mode u x s f None) (sym (now ∙ ap (λ (o : Option ℕ). with_events v (taken 0 o)) none))
-    (record { ready = is.ready; alone = is.alone; task = is.task; pool = is.pool; through = none-taken (open_from 0 (board v).nodes) (sym first ∙ none) })
+    (record { ready = is.ready; alone = is.alone; task = is.task; pool = is.pool; through = λ more. none-taken (open_from 0 (board v).nodes) (sym first ∙ none) })
 
 -- ---- units at the start
 -- all units of the pool, for number 0
@@ -277,12 +324,13 @@ back-through : (b : Board) (left burnt : ℕ) (f : Units) (o : Option Clash) →
 back-through b left burnt f None none = none
 back-through b left burnt f (Some x) h = (
   h.0,
+  h.1,
   (
-    h.1.0,
+    h.2.0,
     record {
-      unclosed = h.1.1.unclosed;
-      cube = h.1.1.cube;
-      met = record { program = h.1.1.met.program; known = h.1.1.met.known; bound = h.1.1.met.bound; conflict = h.1.1.met.conflict };
+      unclosed = h.2.1.unclosed;
+      cube = h.2.1.cube;
+      met = record { program = h.2.1.met.program; known = h.2.1.met.known; bound = h.2.1.met.bound; conflict = h.2.1.met.conflict };
     },
   ),
 )
@@ -290,11 +338,15 @@ back-through b left burnt f (Some x) h = (
 -- where a conflict was met no unit is left
 pool-after : (b : Board) (left burnt : ℕ) (f : Units) (o : Option Clash) → IsThrough b f o → left ≡ f.left → b.pool ≡ 0 → IfSome o (λ x. b.pool + left ≡ 0)
 pool-after b left burnt f None h e none = tt
-pool-after b left burnt f (Some x) h e none = omega (arith, h.0, e, none)
+pool-after b left burnt f (Some x) h e none = omega (arith, h.1, e, none)
 
 over-by : (b : Board) (f : Units) (o : Option Clash) → held_count b.nodes ≡ 0 → IfSome o (λ x. b.pool ≡ 0) → IsThrough b f o → IsWorkedOff b o
-over-by b f None free pool none = closed-when b.nodes none free
-over-by b f (Some x) free pool left = (pool, left.1)
+over-by b f None free pool none = here (is_enough b) refl
+  where
+    here : (x : Bool) → x ≡ is_enough b → (x || all_closed b.nodes) ≡ true
+    here true q = refl
+    here false q = closed-when b.nodes (none (sym q)) free
+over-by b f (Some x) free pool left = (left.0, pool, left.2)
 
 zero-pool : (b : Board) (o : Option Clash) → b.pool ≡ 0 → IfSome o (λ x. b.pool ≡ 0)
 zero-pool b None e = tt

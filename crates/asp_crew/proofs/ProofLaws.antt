@@ -2,8 +2,8 @@
 use Rattle.std.proofs.Common.{◌≡◌, ℕ, true, false, Option, Some, None, sym, subst}
 use Rattle.asp_model.specs.declared.program.Program.{Program}
 use Rattle.asp_model.specs.declared.results.End.{End}
-use Rattle.asp_model.specs.declared.results.End.TheVariants.{Finished, Unfinished}
-use Rattle.asp_model.specs.declared.results.Mode.{Mode}
+use Rattle.asp_model.specs.declared.results.End.TheVariants.{Finished, Limited, Unfinished}
+use Rattle.asp_model.specs.declared.results.Ask.{Ask}
 use Rattle.asp_proof.specs.declared.proof.Proof.{Proof}
 use Rattle.asp_crew_laws.specs.declared.report.Report.{Report}
 use Rattle.asp_crew_laws.specs.Proofs.{HasProof, HasProofAt, IsProofOf}
@@ -12,6 +12,9 @@ use Rattle.asp_crew_laws.specs.Reports.{IsReport}
 -- a finished run has one
 pub finished_has : (r : Report) (p : Proof) → r.results.end ≡ Finished → r.proof ≡ Some p → IsProofOf r.results p → HasProof true r
 finished_has r p end has of = subst (λ (e : End). HasProofAt e true r.results r.proof) (sym end) (p, has, of)
+
+pub limited_has : (r : Report) → r.results.end ≡ Limited → r.proof ≡ None → HasProof true r
+limited_has r end has = subst (λ (e : End). HasProofAt e true r.results r.proof) (sym end) has
 
 pub unfinished_has : (r : Report) → r.results.end ≡ Unfinished → r.proof ≡ None → HasProof true r
 unfinished_has r end has = subst (λ (e : End). HasProofAt e true r.results r.proof) (sym end) has
@@ -22,11 +25,12 @@ none_has r has = at r.results.end
   where
     at : (e : End) → HasProofAt e false r.results r.proof
     at Finished = has
+    at Limited = has
     at Unfinished = has
 
 -- what a report says of the program doesn't rest on its proof
-with_it : (p : Program) (mode : Mode) (units : ℕ) (r : Report) (o : Option Proof) → IsReport p mode units r → IsReport p mode units (record r { proof = o })
-with_it p mode units r o is = record {
+with_it : (p : Program) (ask : Ask) (units : ℕ) (r : Report) (o : Option Proof) → IsReport p ask units r → IsReport p ask units (record r { proof = o })
+with_it p ask units r o is = record {
   mode_is = is.mode_is;
   says = is.says;
   program = is.program;
@@ -47,5 +51,5 @@ with_it p mode units r o is = record {
   };
 }
 
-pub report_with : (p : Program) (mode : Mode) (units : ℕ) (r s : Report) → s ≡ record r { proof = s.proof } → IsReport p mode units r → IsReport p mode units s
-report_with p mode units r s same is = subst (IsReport p mode units) (sym same) (with_it p mode units r s.proof is)
+pub report_with : (p : Program) (ask : Ask) (units : ℕ) (r s : Report) → s ≡ record r { proof = s.proof } → IsReport p ask units r → IsReport p ask units s
+report_with p ask units r s same is = subst (IsReport p ask units) (sym same) (with_it p ask units r s.proof is)

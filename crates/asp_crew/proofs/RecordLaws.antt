@@ -1,5 +1,5 @@
 -- An answer is delivered, or recorded as the best.
-use Rattle.std.proofs.Common.{◌≡◌, Bool, true, false, not, ◌&&◌, eqb, leb, List, [], ◌∷◌, length, Option, Some, None, refl, sym, ap, ◌∙◌, subst, inl, inr}
+use Rattle.std.proofs.Common.{◌≡◌, Bool, true, false, not, List, [], ◌∷◌, Option, Some, None, refl, sym, ap, ◌∙◌, subst, inl, inr}
 use Rattle.std.specs.Prelude.{ℤ, IsTrue, option_map}
 use Rattle.std.proofs.lemmas.Bool.{false≢true}
 use Rattle.asp_model.specs.declared.results.Mode.{Mode}
@@ -9,7 +9,7 @@ use Rattle.asp_model.specs.Costs.{cost, betters}
 use Rattle.asp_core.specs.declared.event.Event.{Event}
 use Rattle.asp_core.specs.declared.event.Event.TheVariants as event
 use Rattle.asp_core.specs.declared.task.Task.{Task}
-use Rattle.asp_core.specs.Boards.{Board, distinct, is_answer, is_enough, lists, optimises}
+use Rattle.asp_core.specs.Boards.{Board, is_answer, is_enough, lists, optimises}
 use Rattle.asp_core.specs.Events.{happens}
 use Rattle.asp_book.specs.Books.{Booked, board, with_events}
 use Rattle.asp_book.specs.Replies.{Improves, delivered, improved}
@@ -32,20 +32,17 @@ pub record Recorded (mode : Mode) (v w : Booked) (S : Atoms) : Type 0 where
   pub only : OnlyRecords v w
   pub recorded : IsRecorded mode (board v) (board w) S
 
-never-enough : (mode : Mode) (v : Booked) → IsRunIn mode v.task → is_enough (board v) ≡ false
-never-enough mode v run = ap (λ (t : Task). not (eqb t.limit 0) && leb t.limit (length (distinct (board v).answers))) (board-task v ∙ run)
-
 only-by : (v w : Booked) (e : Event) → w ≡ with_events v (e ∷ []) → (happens (board v) e).nodes ≡ (board v).nodes → (happens (board v) e).out ≡ (board v).out → (happens (board v) e).pool ≡ (board v).pool → OnlyRecords v w
 only-by v w e now nodes out pool =
     let b : board w ≡ happens (board v) e = ap board now ∙ board-with v e in
     record { task = ap (λ (z : Booked). z.task) now; nodes = ap (λ (c : Board). c.nodes) b ∙ nodes; out = ap (λ (c : Board). c.out) b ∙ out; pool = ap (λ (c : Board). c.pool) b ∙ pool }
 
-pub recorded-delivered : (v w : Booked) (S : Atoms) (r : Bool) → IsRunIn Enum v.task → IsTrue (is_answer v.task S) → r ≡ not (is_enough (board v)) → w ≡ with_events v (delivered 0 S r) → Recorded Enum v w S
-recorded-delivered v w S true run answer e now = record {
+pub recorded-delivered : (v w : Booked) (S : Atoms) (r : Bool) → IsRunIn Enum v.task → IsTrue (is_answer v.task S) → is_enough (board v) ≡ false → r ≡ not (is_enough (board v)) → w ≡ with_events v (delivered 0 S r) → Recorded Enum v w S
+recorded-delivered v w S true run answer more e now = record {
   only = only-by v w (event.Deliver 0 S) now refl refl refl;
-  recorded = ((listed-now v S run, answer-now v S answer, never-enough Enum v run), ap board now ∙ board-with v (event.Deliver 0 S));
+  recorded = ((listed-now v S run, answer-now v S answer, more), ap board now ∙ board-with v (event.Deliver 0 S));
 }
-recorded-delivered v w S false run answer e now = absurd (false≢true (e ∙ ap not (never-enough Enum v run)))
+recorded-delivered v w S false run answer more e now = absurd (false≢true (e ∙ ap not more))
 
 unbettered : (b : Board) (S : Atoms) (c : List ℤ) (o : Option Atoms) → b.best ≡ o → option_map (cost b.task.program) o ≡ Some c → betters (cost b.task.program S) c ≡ false → IsUnbettered b S
 unbettered b S c None e h no_better = absurd (let f : ⊥ = cc in f)

@@ -2,8 +2,9 @@
 use Rattle.std.proofs.Common.{◌≡◌, ℕ, List, [], refl, sym, ap, ◌∙◌, subst}
 use Rattle.std.specs.Prelude.{ℤ, option_map}
 use Rattle.asp_model.specs.declared.program.Program.{Program}
+use Rattle.asp_model.specs.declared.results.Ask.{Ask}
 use Rattle.asp_model.specs.declared.results.Mode.{Mode}
-use Rattle.asp_path.specs.Trees.{all_closed, leaf_count}
+use Rattle.asp_path.specs.Trees.{leaf_count}
 use Rattle.asp_core.specs.declared.goal.Goal.{Goal}
 use Rattle.asp_core.specs.declared.task.Task.{Task}
 use Rattle.asp_core.specs.Boards.{Board, start, goal_of}
@@ -12,45 +13,46 @@ use Rattle.asp_core.specs.Sorting.{sorted_once}
 use Rattle.asp_book.specs.Books.{Booked, board, IsJournalOf}
 use Rattle.asp_book.specs.Fuels.{IsOwnFuel}
 use Rattle.asp_crew_laws.specs.declared.report.Report.{Report}
-use Rattle.asp_crew_laws.specs.Runs.{task_of, with_cost}
-use Rattle.asp_crew_laws.specs.Reports.{end_by, IsIdle, IsWorkedOff, IsReport}
+use Rattle.asp_crew_laws.specs.Runs.{asks, task_of, with_cost}
+use Rattle.asp_crew_laws.specs.Reports.{end_of, IsIdle, IsWorkedOff, IsReport}
 use Rattle.asp_crew_laws.proofs.PlayedLaws.{IsToldBy, told-reports}
 use Rattle.asp_crew.specs.Running.{IsRunIn}
 
 pub reports : (mode : Mode) (v : Booked) (r : Report) (s : Board) → IsRunIn mode v.task → IsIdle (board v) → IsWorkedOff (board v) r.unpaid → IsJournalOf v.task v.journal → r.journal ≡ v.journal → s ≡ board v →
-    r.results.answers ≡ sorted_once s.answers → r.results.best ≡ option_map (with_cost s.task.program) s.best → r.results.end ≡ end_by (all_closed s.nodes) → r.leaves ≡ leaf_count s.nodes → r.spent ≡ s.burnt → IsOwnFuel (board v) r.paid →
-    r.results.mode ≡ mode → IsReport v.task.program mode v.task.budget r
+    r.results.answers ≡ sorted_once s.answers → r.results.best ≡ option_map (with_cost s.task.program) s.best → r.results.end ≡ end_of s → r.leaves ≡ leaf_count s.nodes → r.spent ≡ s.burnt → IsOwnFuel (board v) r.paid →
+    r.results.mode ≡ mode → IsReport v.task.program (asks mode v.task.limit) v.task.budget r
 reports mode v r s run idle over lawful journal state answers best end leaves spent paid mode_is =
     let p : Program = v.task.program in
     let told : IsToldBy (board v) r = record {
       answers = answers ∙ ap (λ (b : Board). sorted_once b.answers) state;
       best = best ∙ ap (λ (b : Board). option_map (with_cost b.task.program) b.best) state;
-      end = end ∙ ap (λ (b : Board). end_by (all_closed b.nodes)) state;
+      end = end ∙ ap end_of state;
       leaves = leaves ∙ ap (λ (b : Board). leaf_count b.nodes) state;
       spent = spent ∙ ap (λ (b : Board). b.burnt) state;
       paid = paid;
       idle = idle;
       over = over;
     } in
-    let same : board v ≡ replay (task_of p mode v.task.budget) r.journal = ap (λ (t : Task). replay t v.journal) run ∙ ap (replay (task_of p mode v.task.budget)) (sym journal) in
-    told-reports p mode v.task.budget r (subst (λ (t : Task). IsJournalOf t r.journal) run (subst (IsJournalOf v.task) (sym journal) lawful)) (subst (λ (b : Board). IsToldBy b r) same told) mode_is
+    let ask : Ask = asks mode v.task.limit in
+    let same : board v ≡ replay (task_of p ask v.task.budget) r.journal = ap (λ (t : Task). replay t v.journal) run ∙ ap (replay (task_of p ask v.task.budget)) (sym journal) in
+    told-reports p ask v.task.budget r (subst (λ (t : Task). IsJournalOf t r.journal) run (subst (IsJournalOf v.task) (sym journal) lawful)) (subst (λ (b : Board). IsToldBy b r) same told) mode_is
 
 -- ---- a book at which nothing has happened
-pub begun : (p : Program) (mode : Mode) (budget : ℕ) (g : Goal) (q : List ℤ) (s : Board) (v : Booked) → g ≡ goal_of mode → q ≡ [] → s ≡ start (record { program = p; goal = g; budget = budget; limit = 0; query = q }) → v ≡ record { task = s.task; journal = [] } →
-    v ≡ record { task = task_of p mode budget; journal = [] }
-begun p mode budget g q s v goal none is now =
+pub begun : (p : Program) (ask : Ask) (budget : ℕ) (g : Goal) (q : List ℤ) (s : Board) (v : Booked) → g ≡ goal_of ask.mode → q ≡ [] → s ≡ start (record { program = p; goal = g; budget = budget; limit = ask.models; query = q }) → v ≡ record { task = s.task; journal = [] } →
+    v ≡ record { task = task_of p ask budget; journal = [] }
+begun p ask budget g q s v goal none is now =
     now ∙ ap (λ (b : Board). let x : Booked = record { task = b.task; journal = [] } in x) is
-    ∙ ap (λ (h : Goal). let x : Booked = record { task = record { program = p; goal = h; budget = budget; limit = 0; query = q }; journal = [] } in x) goal
-    ∙ ap (λ (l : List ℤ). let x : Booked = record { task = record { program = p; goal = goal_of mode; budget = budget; limit = 0; query = l }; journal = [] } in x) none
+    ∙ ap (λ (h : Goal). let x : Booked = record { task = record { program = p; goal = h; budget = budget; limit = ask.models; query = q }; journal = [] } in x) goal
+    ∙ ap (λ (l : List ℤ). let x : Booked = record { task = record { program = p; goal = goal_of ask.mode; budget = budget; limit = ask.models; query = l }; journal = [] } in x) none
 
-pub begun-run : (p : Program) (mode : Mode) (budget : ℕ) (v : Booked) → v ≡ record { task = task_of p mode budget; journal = [] } → IsRunIn mode v.task
-begun-run p mode budget v e = subst (λ (x : Booked). IsRunIn mode x.task) (sym e) refl
+pub begun-run : (p : Program) (ask : Ask) (budget : ℕ) (v : Booked) → v ≡ record { task = task_of p ask budget; journal = [] } → IsRunIn ask.mode v.task
+begun-run p ask budget v e = subst (λ (x : Booked). IsRunIn ask.mode x.task) (sym e) refl
 
-pub begun-idle : (p : Program) (mode : Mode) (budget : ℕ) (v : Booked) → v ≡ record { task = task_of p mode budget; journal = [] } → IsIdle (board v)
-begun-idle p mode budget v e = subst (λ (x : Booked). IsIdle (board x)) (sym e) (record { free = refl; home = λ s. refl })
+pub begun-idle : (p : Program) (ask : Ask) (budget : ℕ) (v : Booked) → v ≡ record { task = task_of p ask budget; journal = [] } → IsIdle (board v)
+begun-idle p ask budget v e = subst (λ (x : Booked). IsIdle (board x)) (sym e) (record { free = refl; home = λ s. refl })
 
-pub begun-report : (p : Program) (mode : Mode) (budget : ℕ) (v w : Booked) (r : Report) → v ≡ record { task = task_of p mode budget; journal = [] } → w.task ≡ v.task → IsReport w.task.program mode w.task.budget r → IsReport p mode budget r
-begun-report p mode budget v w r e same is = subst (λ (t : Task). IsReport t.program mode t.budget r) (same ∙ ap (λ (x : Booked). x.task) e) is
+pub begun-report : (p : Program) (ask : Ask) (budget : ℕ) (v w : Booked) (r : Report) → v ≡ record { task = task_of p ask budget; journal = [] } → w.task ≡ v.task → IsReport w.task.program (asks ask.mode w.task.limit) w.task.budget r → IsReport p ask budget r
+begun-report p ask budget v w r e same is = subst (λ (t : Task). IsReport t.program (asks ask.mode t.limit) t.budget r) (same ∙ ap (λ (x : Booked). x.task) e) is
 
 pub still-run : (mode : Mode) (v w : Booked) → w.task ≡ v.task → IsRunIn mode v.task → IsRunIn mode w.task
 still-run mode v w same run = subst (λ (t : Task). IsRunIn mode t) (sym same) run

@@ -1,8 +1,9 @@
 -- What is known after each step on a path, by its answer.
-use Rattle.std.proofs.Common.{◌≡◌, ℕ, ◌+◌, ◌-◌, ◌^◌, ◌<◌, ◌≤◌, Bool, false, List, [], ◌∷◌, ◌++◌, length, Option, Some, None, refl, sym, ap, ◌∙◌, subst, inl, inr, arith}
+use Rattle.std.proofs.Common.{◌≡◌, ℕ, ◌+◌, ◌-◌, ◌^◌, ◌<◌, ◌≤◌, Bool, true, false, List, [], ◌∷◌, ◌++◌, length, Option, Some, None, refl, sym, ap, ◌∙◌, subst, inl, inr, arith}
 use Rattle.std.specs.Prelude.{ℤ, IsTrue, not}
 use Rattle.std.specs.Option.{IsSome}
 use Rattle.std.specs.List.{list_any}
+use Rattle.std.proofs.lemmas.Bool.{false≢true}
 use Rattle.std.proofs.lemmas.List.Sums.{length-filter, count_by-le-length}
 use Rattle.asp_model.specs.declared.program.Program.{Program}
 use Rattle.asp_model.specs.declared.results.Mode.{Mode}
@@ -18,7 +19,7 @@ use Rattle.asp_vars.specs.Paid.{Clash, Units}
 use Rattle.asp_vars.specs.declared.nogood.Nogood.{Nogood}
 use Rattle.asp_core.specs.declared.event.Event.TheVariants as event
 use Rattle.asp_core.specs.declared.task.Task.{Task}
-use Rattle.asp_core.specs.Boards.{Board, is_answer}
+use Rattle.asp_core.specs.Boards.{Board, is_answer, is_enough}
 use Rattle.asp_core.specs.Invariant.{IsCube}
 use Rattle.asp_core.proofs.BoardLaws.{wanted-stand}
 use Rattle.asp_core.proofs.CubeLaws.{answer-in_cube}
@@ -140,8 +141,8 @@ module _ (gives : Nogood → Type 0) (silent : List (Option Bool) → Type 0) (m
             (subst (λ (p : Program). Settled p s.known s.bound q) (program-is mode v s f is.ready) (at gives silent s t f g r step.Closed e h q entered).settled);
       })
 
-  pub unpaid : (x : Clash) → r ≡ step.NoFuel x → Goes mode v v s t f g (Unpaid x)
-  unpaid x e =
+  pub unpaid : is_enough (board v) ≡ false → (x : Clash) → r ≡ step.NoFuel x → Goes mode v v s t f g (Unpaid x)
+  unpaid more x e =
       let d = at gives silent s t f g r (step.NoFuel x) e h path.0 path.1 in
       let p = program-is mode v s f is.ready in
       subst (λ (u : Units). Goes mode v v s t f u (Unpaid x)) (sym d.fuel) (record {
@@ -149,6 +150,7 @@ module _ (gives : Nogood → Type 0) (silent : List (Option Bool) → Type 0) (m
         only = unchanged v;
         cube = d.same.cube;
         course = (
+          more,
           d.none,
           path.1 ∙ ap (λ (q : List Literal). Some q) (sym d.conflict.cube),
           work-met (board v) 0 mode s.known s.bound f x is.ready.work (d.conflict.program ∙ p) d.conflict.known d.conflict.bound (subst (λ (q : Program). IsConflict q s.known s.bound x.cube x.decisions x.nogood) p d.conflict.conflict),
@@ -238,12 +240,15 @@ along-on mode u v w r s t f g how a go = record { underway = go.underway; only =
 pub along-closed : (mode : Mode) (u v w : Booked) (r s t : Searching) (f g : Units) → IsAlong mode u v r s f → Goes mode v w s t f g Closed → Ends mode u w r t g None
 along-closed mode u v w r s t f g a go =
     let b = along-on mode u v w r s t f g Closed a go in
-    record { ready = b.underway.ready; only = b.only; over = λ q e. go.course q (a.cube ∙ e) }
+    record { ready = b.underway.ready; only = b.only; over = λ more q e. go.course q (a.cube ∙ e) }
 
 pub along-stopped : (mode : Mode) (u v w : Booked) (r s t : Searching) (f g : Units) (x : Clash) → IsAlong mode u v r s f → Goes mode v w s t f g (Unpaid x) → Ends mode u w r t g (Some x)
 along-stopped mode u v w r s t f g x a go =
     let b = along-on mode u v w r s t f g (Unpaid x) a go in
-    record { ready = b.underway.ready; only = b.only; over = (go.course.0, (sym a.cube ∙ go.course.1), go.course.2) }
+    record { ready = b.underway.ready; only = b.only; over = (go.course.0, go.course.1, (sym a.cube ∙ go.course.2), go.course.3) }
+
+pub along-enough : (mode : Mode) (u w : Booked) (r t : Searching) (g : Units) → IsAlong mode u w r t g → is_enough (board w) ≡ true → Ends mode u w r t g None
+along-enough mode u w r t g a enough = record { ready = a.underway.ready; only = a.only; over = λ more. absurd (false≢true (sym more ∙ enough)) }
 
 -- ---- the path begins
 pub underway-enters : (mode : Mode) (v : Booked) (s t : Searching) (f : Units) (q : List Literal) → IsReady mode v s f → Enters s t q → IsCube v.task q → IsUnderway mode v t f

@@ -1,5 +1,5 @@
 -- One search that works off the leaves of a board by number 0: what holds after each step, and what is left to do.
-use Rattle.std.specs.Prelude.{◌≡◌, ◌⊎◌, ℕ, ◌+◌, ◌-◌, ◌*◌, ◌^◌, ◌<◌, not, false, List, [], filter, length, ℤ, Option, None, Some}
+use Rattle.std.specs.Prelude.{◌≡◌, ◌⊎◌, Bool, true, ℕ, ◌+◌, ◌-◌, ◌*◌, ◌^◌, ◌<◌, not, false, List, [], filter, length, ℤ, Option, None, Some}
 use Rattle.std.specs.Option.{IfSome}
 use Rattle.asp_model.specs.declared.program.Program.{Program}
 use Rattle.asp_model.specs.declared.results.Mode.{Mode}
@@ -17,12 +17,12 @@ use Rattle.asp_path.specs.Trees.{with_status, held_count, open_from}
 use Rattle.asp_core.specs.declared.event.Event.TheVariants as event
 use Rattle.asp_core.specs.declared.task.Task.{Task}
 use Rattle.asp_core.specs.Units.{out_of}
-use Rattle.asp_core.specs.Boards.{Board, is_excused}
+use Rattle.asp_core.specs.Boards.{Board, is_enough, is_excused}
 use Rattle.asp_core.specs.Events.{Guard, happens}
 use Rattle.asp_core.specs.Invariant.{IsCube}
 use Rattle.asp_book.specs.Books.{Booked, board}
 use Rattle.asp_search_laws.specs.Searching.{Searching}
-use Rattle.asp_crew_laws.specs.Runs.{task_of}
+use Rattle.asp_crew_laws.specs.Runs.{asks, task_of}
 use Rattle.asp_crew_laws.specs.Reports.{IsIdle, IsMet, IsUnpaidAt, IsWorkedOff}
 use Rattle.asp_crew_laws.specs.Working.{IsAtWork}
 use Rattle.asp_crew.specs.declared.leaf.Course.{Course}
@@ -42,7 +42,7 @@ work_left s f = work f.left (length (models s.program)) (unfound s.program s.kno
 
 -- The task is that of a run in this mode.
 abbrev pub IsRunIn : Mode → Task → Type 0
-IsRunIn mode t = t ≡ task_of t.program mode t.budget
+IsRunIn mode t = t ≡ task_of t.program (asks mode t.limit) t.budget
 
 -- Number 0's search and its units go with the book's board.
 pub record IsReady (mode : Mode) (v : Booked) (s : Searching) (f : Units) : Type 0 where
@@ -84,9 +84,9 @@ IsRecorded Opt b c S = (Guard b (event.Improve 0 S) × (c ≡ happens b (event.I
 abbrev pub IsSettled : Board → Searching → Type 0
 IsSettled b s = (q : List Literal) → s.cube ≡ Some q → HitsOnly b.task.program (is_excused b) q
 
--- A conflict was met below the path when no unit was left.
+-- A conflict was met below the path when no unit was left, and more answers are wanted.
 abbrev pub IsStopped : Board → Searching → Units → Clash → Type 0
-IsStopped b s f x = (f.left ≡ 0) × (s.cube ≡ Some x.cube) × IsMet b x
+IsStopped b s f x = (is_enough b ≡ false) × (f.left ≡ 0) × (s.cube ≡ Some x.cube) × IsMet b x
 
 -- what is known of the way in which a step left the path
 abbrev pub IsCourse : Board → Searching → Searching → Units → Units → Course → Type 0
@@ -103,7 +103,7 @@ pub record Goes (mode : Mode) (v w : Booked) (s t : Searching) (f g : Units) (ho
 
 -- how the steps on a path ended
 abbrev pub IsOver : Board → Searching → Units → Option Clash → Type 0
-IsOver b s f None = IsSettled b s
+IsOver b s f None = (is_enough b ≡ false) → IsSettled b s
 IsOver b s f (Some x) = IsStopped b s f x
 
 pub record Ends (mode : Mode) (v w : Booked) (s t : Searching) (g : Units) (unpaid : Option Clash) : Type 0 where
@@ -111,29 +111,30 @@ pub record Ends (mode : Mode) (v w : Booked) (s t : Searching) (g : Units) (unpa
   pub only : OnlyRecords v w
   pub over : IsOver (board w) s g unpaid
 
--- what a leaf is when it was worked on
-abbrev pub status_after : Option Clash → Status
-status_after None = status.Closed
-status_after (Some x) = status.Open
+-- what a leaf is when it was worked on: open again where it was enough, or a conflict was met when no unit was left
+abbrev pub status_after : Option Clash → Bool → Status
+status_after None false = status.Closed
+status_after None true = status.Open
+status_after (Some x) enough = status.Open
 
 -- what is left of one leaf that number 0 held
 pub record LeavesLeaf (mode : Mode) (v w : Booked) (leaf : ℕ) (t : Searching) (g : Units) (unpaid : Option Clash) : Type 0 where
   pub ready : IsReady mode w t g
   pub task : w.task ≡ v.task
-  pub nodes : (board w).nodes ≡ with_status (board v).nodes leaf (status_after unpaid)
+  pub nodes : (board w).nodes ≡ with_status (board v).nodes leaf (status_after unpaid (is_enough (board w)))
   pub out : (board w).out ≡ (board v).out
   pub pool : (board w).pool ≡ (board v).pool
-  pub stopped : IfSome unpaid (λ x. (g.left ≡ 0) × IsUnpaidAt (board w) x leaf)
+  pub stopped : IfSome unpaid (λ x. (is_enough (board w) ≡ false) × (g.left ≡ 0) × IsUnpaidAt (board w) x leaf)
 
 -- Number 0 alone has units, and no leaf is held.
 pub record IsAlone (b : Board) : Type 0 where
   pub free : held_count b.nodes ≡ 0
   pub home : (s : ℕ) → (s ≡ 0 → ⊥) → out_of b.out s ≡ 0
 
--- no leaf is open, or a conflict was met below an open leaf when no unit was left
+-- it is enough, or no leaf is open; or a conflict was met below an open leaf when no unit was left
 abbrev pub IsThrough : Board → Units → Option Clash → Type 0
-IsThrough b f None = open_from 0 b.nodes ≡ []
-IsThrough b f (Some x) = (f.left ≡ 0) × ((leaf : ℕ) × IsUnpaidAt b x leaf)
+IsThrough b f None = (is_enough b ≡ false) → open_from 0 b.nodes ≡ []
+IsThrough b f (Some x) = (is_enough b ≡ false) × (f.left ≡ 0) × ((leaf : ℕ) × IsUnpaidAt b x leaf)
 
 pub record LeavesAll (mode : Mode) (v w : Booked) (t : Searching) (g : Units) (unpaid : Option Clash) : Type 0 where
   pub ready : IsReady mode w t g
@@ -142,7 +143,7 @@ pub record LeavesAll (mode : Mode) (v w : Booked) (t : Searching) (g : Units) (u
   pub pool : (board w).pool ≡ (board v).pool
   pub through : IsThrough (board w) g unpaid
 
--- all that was open is worked off
+-- all that was open is worked off, unless it is enough
 pub record Finishes (v w : Booked) (unpaid : Option Clash) : Type 0 where
   pub task : w.task ≡ v.task
   pub idle : IsIdle (board w)

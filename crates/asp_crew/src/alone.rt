@@ -11,7 +11,7 @@ use crate::watch::{Counts, Watch};
 use asp_book::book::Book;
 use asp_core::goal::Goal;
 use asp_core::state::State;
-use asp_model::results::Mode;
+use asp_model::results::Ask;
 use asp_propagators::propagators::Propagators;
 use asp_recorder::recorder::Recorder;
 use asp_vars::compiled::Compiled;
@@ -21,58 +21,57 @@ use std::alloc::{AllocError, Global};
 fn solve<'a, W: Watch>(
     alloc: Global,
     compiled: &'a Compiled,
-    mode: Mode,
+    ask: Ask,
     budget: u64,
     counts: &mut Counts,
     watch: &mut W,
     recorder: Option<&'a Recorder>,
 ) -> Result<Report, AllocError>
-    ensures report { IfOk result (IsReport compiled.now mode budget) }
+    ensures report { IfOk result (IsReport compiled.now ask budget) }
     ensures log { IfOk result (λ r. r.log ≡ 0) }
     ensures short { IfOk result (λ r. r.short ≡ false) }
     ensures proof { IfOk result (λ r. r.proof ≡ None) }
     ensures heard { W.IsAfter watch.old watch.new }
 {
-    let state = State::start(alloc, compiled, Goal::of(mode), budget, 0, [].as_slice())?;
+    let state = State::start(
+        alloc,
+        compiled,
+        Goal::of(ask.mode),
+        budget,
+        ask.models,
+        [].as_slice(),
+    )?;
     let mut book = Book::new(alloc, compiled, state);
     let mut propagator = Propagators::new(alloc, compiled)?;
     propagator.record(recorder);
     let unpaid = finish(
-        alloc, compiled, mode, &mut book, propagator, counts, watch, recorder,
+        alloc, compiled, ask.mode, &mut book, propagator, counts, watch, recorder,
     )?;
-    Ok(reported(mode, book, unpaid, 0, false))
+    Ok(reported(ask.mode, book, unpaid, 0, false))
 }
 
 // A run that writes down why there is nothing else.
 fn solve_recorded<W: Watch>(
     alloc: Global,
     compiled: &Compiled,
-    mode: Mode,
+    ask: Ask,
     budget: u64,
     counts: &mut Counts,
     watch: &mut W,
 ) -> Result<Report, AllocError>
-    ensures report { IfOk result (IsReport compiled.now mode budget) }
+    ensures report { IfOk result (IsReport compiled.now ask budget) }
     ensures log { IfOk result (λ r. r.log ≡ 0) }
     ensures short { IfOk result (λ r. r.short ≡ false) }
     ensures proof { IfOk result (HasProof true) }
     ensures heard { W.IsAfter watch.old watch.new }
 {
     let recorder = Recorder::new(alloc);
-    let report = solve(
-        alloc,
-        compiled,
-        mode,
-        budget,
-        counts,
-        watch,
-        Some(&recorder),
-    )?;
+    let report = solve(alloc, compiled, ask, budget, counts, watch, Some(&recorder))?;
     with_proof(alloc, report, recorder)
 }
 
-/// All of a program's answers, or one that none betters, by one search with a budget of so many units. A finished run
-/// whose proof is asked for has it.
+/// What is asked of a program: its answers, all or as many as are enough, or one that none betters. One search does it, with
+/// a budget of so many units. A finished run whose proof is asked for has it.
 ///
 /// It returns: of the units left, the stable models not yet found, the nogoods learnt since the last restart and the
 /// variables without a value, in this order, each step lowers the first that it changes. Want of memory is the one error.
@@ -80,21 +79,21 @@ fn solve_recorded<W: Watch>(
 pub fn solve_alone<W: Watch>(
     alloc: Global,
     compiled: &Compiled,
-    mode: Mode,
+    ask: Ask,
     budget: u64,
     proof: bool,
     counts: &mut Counts,
     watch: &mut W,
 ) -> Result<Report, AllocError>
-    ensures report { IfOk result (IsReport compiled.now mode budget) }
+    ensures report { IfOk result (IsReport compiled.now ask budget) }
     ensures log { IfOk result (λ r. r.log ≡ 0) }
     ensures short { IfOk result (λ r. r.short ≡ false) }
     ensures proof { IfOk result (HasProof proof) }
     ensures heard { W.IsAfter watch.old watch.new }
 {
     if proof {
-        solve_recorded(alloc, compiled, mode, budget, counts, watch)
+        solve_recorded(alloc, compiled, ask, budget, counts, watch)
     } else {
-        solve(alloc, compiled, mode, budget, counts, watch, None)
+        solve(alloc, compiled, ask, budget, counts, watch, None)
     }
 }

@@ -16,7 +16,8 @@ use asp_vars::compiled::Compiled;
 use asp_vars::fuel::{Conflict, Fuel};
 use std::alloc::{AllocError, Global};
 
-// Takes one open leaf after another, until none is open or a conflict is met when no unit is left.
+// Takes one open leaf after another, until none is open, as many answers as asked for were found, or a conflict is met when
+// no unit is left.
 fn work_off_all<P: Propagator, W: Watch>(
     book: &mut Book,
     mode: Mode,
@@ -32,6 +33,9 @@ fn work_off_all<P: Propagator, W: Watch>(
     ensures heard { W.IsAfter watch.old watch.new }
 {
     'leaves: loop {
+        if book.enough() {
+            return Ok(None);
+        }
         match book.take(0)? {
             None => return Ok(None),
             Some(leaf) => match work_off(book, mode, search, fuel, leaf, counts, watch, recorder)? {
@@ -42,11 +46,12 @@ fn work_off_all<P: Propagator, W: Watch>(
     }
 }
 
-/// Number 0 works off every open leaf, with all units of the pool. The conflict for which none was left, where one was met.
-/// The recorder gets what the search keeps and the cubes of the leaves that are closed.
+/// Number 0 works off every open leaf, with all units of the pool, or until as many answers as asked for were found. The
+/// conflict for which none was left, where one was met. The recorder gets what the search keeps and the cubes of the leaves
+/// that are closed.
 ///
-/// No leaf is held before, and no units are out. It returns: each leaf is worked off, and none becomes open. Want of memory
-/// is the one error. What it does is counted, and told after each step.
+/// No leaf is held before, and no units are out. It returns: each leaf is worked off, and the search ends with the first that
+/// it opens again. Want of memory is the one error. What it does is counted, and told after each step.
 pub fn finish<P: Propagator, W: Watch>(
     alloc: Global,
     compiled: &Compiled,

@@ -4,13 +4,13 @@
 //! learnt since the last restart, and the variables without a value. A conflict takes a unit, an answer is found once, a
 //! restart forgets the nogoods that made it due, and a decision gives a variable a value. Each lowers its digit and leaves
 //! the digits before it, so a leaf is worked off.
-ghost use Rattle.std.specs.Prelude.{◌≡◌, ◌+◌, ◌≤◌, IfOk, OnOk, IsSome, IsTrue, length};
+ghost use Rattle.std.specs.Prelude.{◌≡◌, ◌+◌, ◌≤◌, false, IfOk, OnOk, IsSome, IsTrue, length};
 ghost use Rattle.std.specs.List.{All};
 ghost use Rattle.asp_vars.specs.Numbering.{var_count};
 ghost use Rattle.asp_trail.specs.Trails.{IsVar};
 ghost use Rattle.asp_path.specs.declared.status.Status.TheVariants as status;
 ghost use Rattle.asp_path.specs.Trees.{cube_of, status_of};
-ghost use Rattle.asp_core.specs.Boards.{is_answer};
+ghost use Rattle.asp_core.specs.Boards.{is_answer, is_enough};
 ghost use Rattle.asp_core.specs.Invariant.{IsCube};
 ghost use Rattle.asp_book.specs.Books.{board};
 ghost use Rattle.asp_search_laws.specs.Steps.{IsStep};
@@ -44,6 +44,7 @@ pub(crate) enum Course {
 fn record(book: &mut Book, mode: Mode, set: Interp) -> Result<(), AllocError>
     requires task { IsRunIn mode book.old.task }
     requires answer { IsTrue (is_answer book.old.task set) }
+    requires wanted { is_enough (board book.old) ≡ false }
     ensures only { OnOk result (OnlyRecords book.old book.new) }
     ensures recorded { OnOk result (IsRecorded mode (board book.old) (board book.new) set) }
 {
@@ -96,7 +97,7 @@ fn step<P: Propagator>(
     Ok(step)
 }
 
-// One step, which is counted. An answer is recorded.
+// One step, where more answers are wanted. It is counted, and an answer is recorded.
 fn advance<P: Propagator>(
     book: &mut Book,
     mode: Mode,
@@ -105,7 +106,8 @@ fn advance<P: Propagator>(
     counts: &mut Counts,
     recorder: Option<&Recorder>,
 ) -> Result<Course, AllocError>
-    requires { IsUnderway mode book.old search.old fuel.old }
+    requires underway { IsUnderway mode book.old search.old fuel.old }
+    requires wanted { is_enough (board book.old) ≡ false }
     ensures { IfOk result (Goes mode book.old book.new search.old search.new fuel.old fuel.new) }
 {
     match step(search, fuel, recorder)? {
@@ -139,8 +141,8 @@ fn tell<P: Propagator, W: Watch>(search: &Search<'_, P>, counts: &mut Counts, wa
     watch.tell(counts, search.bound());
 }
 
-// Steps until nothing else is to be found below the path, or a conflict is met when no unit is left. After each the counts
-// are told.
+// Steps until nothing else is to be found below the path, as many answers as asked for were found, or a conflict is met when
+// no unit is left. After each the counts are told.
 fn run<P: Propagator, W: Watch>(
     book: &mut Book,
     mode: Mode,
@@ -155,6 +157,9 @@ fn run<P: Propagator, W: Watch>(
     ensures heard { W.IsAfter watch.old watch.new }
 {
     'steps: loop {
+        if book.enough() {
+            return Ok(None);
+        }
         let course = advance(book, mode, search, fuel, counts, recorder)?;
         tell(search, counts, watch);
         match course {
@@ -179,7 +184,8 @@ fn cube_of(book: &Book, mode: Mode, leaf: Leaf) -> Result<Vec<Lit>, AllocError>
     Ok(cube)
 }
 
-/// Works off a leaf that number 0 holds: it is closed then, or open again where a conflict was met and no unit is left.
+/// Works off a leaf that number 0 holds: it is closed then, or open again where as many answers as asked for were found, or
+/// a conflict was met and no unit is left.
 pub(crate) fn work_off<P: Propagator, W: Watch>(
     book: &mut Book,
     mode: Mode,
@@ -197,15 +203,12 @@ pub(crate) fn work_off<P: Propagator, W: Watch>(
 {
     let cube = cube_of(book, mode, leaf)?;
     search.enter(cube.as_slice())?;
-    match run(book, mode, search, fuel, counts, watch, recorder)? {
-        None => {
-            book.close(0, leaf, cube.as_slice())?;
-            note_cube(recorder, cube.as_slice())?;
-            Ok(None)
-        }
-        Some(conflict) => {
-            book.release(0, leaf);
-            Ok(Some(conflict))
-        }
+    let unpaid = run(book, mode, search, fuel, counts, watch, recorder)?;
+    if unpaid.is_some() || book.enough() {
+        book.release(0, leaf);
+        return Ok(unpaid);
     }
+    book.close(0, leaf, cube.as_slice())?;
+    note_cube(recorder, cube.as_slice())?;
+    Ok(None)
 }

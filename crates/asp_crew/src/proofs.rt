@@ -73,6 +73,6 @@ pub(crate) fn with_proof(
             report.proof = Some(proof);
             Ok(report)
         }
-        End::Unfinished => Ok(report),
+        End::Limited | End::Unfinished => Ok(report),
     }
 }

@@ -2,6 +2,7 @@
 ghost use Rattle.std.specs.Prelude.{◌≡◌};
 ghost use Rattle.asp_book.specs.Books.{board};
 ghost use Rattle.asp_crew_laws.specs.Reports.{IsIdle, IsReport, IsWorkedOff, end_by};
+ghost use Rattle.asp_crew_laws.specs.Runs.{asks};
 ghost use Rattle.asp_crew.specs.Running.{IsRunIn};
 
 use crate::report::Report;
@@ -10,10 +11,12 @@ use asp_model::results::{End, Mode, Results};
 use asp_model::seq::Seq;
 use asp_vars::fuel::Conflict;
 
-fn end_by(closed: bool) -> End
-    ensures { result ≡ end_by closed }
+fn end_by(enough: bool, closed: bool) -> End
+    ensures { result ≡ end_by enough closed }
 {
-    if closed {
+    if enough {
+        End::Limited
+    } else if closed {
         End::Finished
     } else {
         End::Unfinished
@@ -26,14 +29,14 @@ pub fn reported(mode: Mode, book: Book, unpaid: Option<Conflict>, log: u32, shor
     requires task { IsRunIn mode book.task }
     requires idle { IsIdle (board book) }
     requires over { IsWorkedOff (board book) unpaid }
-    ensures report { IsReport book.task.program mode book.task.budget result }
+    ensures report { IsReport book.task.program (asks mode book.task.limit) book.task.budget result }
     ensures journal { result.journal ≡ book.journal }
     ensures log { result.log ≡ log }
     ensures short { result.short ≡ short }
     ensures proof { result.proof ≡ None }
 {
     let (state, journal, paid) = book.end();
-    let end = end_by(state.finished());
+    let end = end_by(state.enough(), state.finished());
     let leaves = state.leaves();
     let spent = state.spent();
     let (mut answers, best) = state.into_found();

@@ -16,6 +16,7 @@ use Rattle.std.proofs.lemmas.List.Filters.{dedup_is}
 use Rattle.std.proofs.lemmas.List.Kept.{IsStrictlySortedBy-dedup}
 use Rattle.std.proofs.lemmas.List.Sorted.{list_any-IsPermutation}
 use Rattle.asp_model.specs.declared.program.Program.{Program}
+use Rattle.asp_model.specs.declared.results.Ask.{Ask}
 use Rattle.asp_model.specs.declared.results.Mode.{Mode}
 use Rattle.asp_model.specs.declared.results.Mode.TheVariants.{Enum, Opt}
 use Rattle.asp_model.specs.Sets.{Atoms, same_set, set_cmp}
@@ -34,11 +35,11 @@ use Rattle.asp_core.specs.Sorting.{with_set, sorted_once, answers_of}
 use Rattle.asp_core.proofs.SortingLaws.{same_itself, has-answers_of, once-is}
 use Rattle.asp_core.proofs.ResultLaws.{HasResult-finished, IsBoard-replay, task-run}
 use Rattle.asp_path.specs.Trees.{all_closed}
-use Rattle.asp_crew_laws.specs.Runs.{task_of, IsBest, IsFound, with_cost}
+use Rattle.asp_crew_laws.specs.Runs.{asks, task_of, IsBest, IsFound, with_cost}
 
 -- ---- the result
-pub answers-same : (p : Program) (mode : Mode) (budget : ℕ) → answers_of (task_of p mode budget) ≡ answers p
-answers-same p mode budget = ap (λ (ls : List ℤ). filter (λ S. all_hold S ls) (models p)) (append-nil p.assumptions)
+pub answers-same : (p : Program) (ask : Ask) (budget : ℕ) → answers_of (task_of p ask budget) ≡ answers p
+answers-same p ask budget = ap (λ (ls : List ℤ). filter (λ S. all_hold S ls) (models p)) (append-nil p.assumptions)
 
 -- what the answers of an optimisation's board are
 pub none-listed : (t : Task) (A : List Atoms) → t.goal ≡ goal.Opt → AllByRecursion (λ S. IsTrue (lists t S) × IsTrue (is_answer t S)) A → A ≡ []
@@ -50,53 +51,53 @@ none-kept t None q h = refl
 none-kept t (Some S) q h = absurd (false≢true (ap optimises (sym q) ∙ h.0))
 
 -- no answer in the list passes a test that no answer passes
-none-of : (p : Program) (mode : Mode) (budget : ℕ) → ((S : Atoms) → is_answer (task_of p mode budget) S ≡ false) → answers p ≡ []
-none-of p mode budget none = sym (answers-same p mode budget) ∙ empty (answers_of (task_of p mode budget)) (λ S. has-answers_of (task_of p mode budget) S ∙ none S)
+none-of : (p : Program) (ask : Ask) (budget : ℕ) → ((S : Atoms) → is_answer (task_of p ask budget) S ≡ false) → answers p ≡ []
+none-of p ask budget none = sym (answers-same p ask budget) ∙ empty (answers_of (task_of p ask budget)) (λ S. has-answers_of (task_of p ask budget) S ∙ none S)
   where
     empty : (L : List Atoms) → ((S : Atoms) → list_any (same_set S) L ≡ false) → L ≡ []
     empty [] h = refl
     empty (S ∷ L) h = absurd (false≢true (sym (h S) ∙ ap (λ x. x || list_any (same_set S) L) (same_itself S)))
 
-best-by : (p : Program) (budget : ℕ) (best : Option Atoms) → MatchOption best ((S : Atoms) → is_answer (task_of p Opt budget) S ≡ false) (IsOptimum (task_of p Opt budget)) → IsBest p (option_map (with_cost p) best)
-best-by p budget None h = none-of p Opt budget h
-best-by p budget (Some S) h = record {
-  answer = contains_from_test (answers p) S (ap (λ (L : List Atoms). list_any (same_set S) L) (sym (answers-same p Opt budget)) ∙ has-answers_of (task_of p Opt budget) S ∙ h.0);
+best-by : (p : Program) (n budget : ℕ) (best : Option Atoms) → MatchOption best ((S : Atoms) → is_answer (task_of p (asks Opt n) budget) S ≡ false) (IsOptimum (task_of p (asks Opt n) budget)) → IsBest p (option_map (with_cost p) best)
+best-by p n budget None h = none-of p (asks Opt n) budget h
+best-by p n budget (Some S) h = record {
+  answer = contains_from_test (answers p) S (ap (λ (L : List Atoms). list_any (same_set S) L) (sym (answers-same p (asks Opt n) budget)) ∙ has-answers_of (task_of p (asks Opt n) budget) S ∙ h.0);
   sums = refl;
   least = list_any_none (λ (T : Atoms). betters (cost p T) (cost p S)) (answers p) (λ k d within.
       let T : Atoms = get_or (answers p) k d in
-      h.1 T (sym (has-answers_of (task_of p Opt budget) T) ∙ ap (λ (L : List Atoms). list_any (same_set T) L) (answers-same p Opt budget) ∙ test_from_contains (answers p) T (Contains-get_or (answers p) k d within)));
+      h.1 T (sym (has-answers_of (task_of p (asks Opt n) budget) T) ∙ ap (λ (L : List Atoms). list_any (same_set T) L) (answers-same p (asks Opt n) budget) ∙ test_from_contains (answers p) T (Contains-get_or (answers p) k d within)));
 }
 
 pub sorted-nil : (A : List Atoms) → A ≡ [] → sorted_once A ≡ []
 sorted-nil A e = ap sorted_once e
 
-query-none : (p : Program) (mode : Mode) (budget : ℕ) → IsQuery (task_of p mode budget).program (task_of p mode budget).query
-query-none p mode budget = tt
+query-none : (p : Program) (ask : Ask) (budget : ℕ) → IsQuery (task_of p ask budget).program (task_of p ask budget).query
+query-none p ask budget = tt
 
-module _ (p : Program) (budget : ℕ) (journal : List Event) (L : List Atoms) where
-  found-by : (mode : Mode) → IsLawful (start (task_of p mode budget)) journal → all_closed (replay (task_of p mode budget) journal).nodes ≡ true →
-      L ≡ sorted_once (replay (task_of p mode budget) journal).answers → IsFound p mode L (option_map (with_cost p) (replay (task_of p mode budget) journal).best)
+module _ (p : Program) (n budget : ℕ) (journal : List Event) (L : List Atoms) where
+  found-by : (mode : Mode) → IsLawful (start (task_of p (asks mode n) budget)) journal → all_closed (replay (task_of p (asks mode n) budget) journal).nodes ≡ true →
+      L ≡ sorted_once (replay (task_of p (asks mode n) budget) journal).answers → IsFound p mode L (option_map (with_cost p) (replay (task_of p (asks mode n) budget) journal).best)
   found-by Enum lawful closed sorted =
-      let t : Task = task_of p Enum budget in
+      let t : Task = task_of p (asks Enum n) budget in
       let b : Board = replay t journal in
       let is = IsBoard-replay t journal tt lawful in
       let task : b.task ≡ t = task-run (start t) journal in (
-        sorted ∙ HasResult-finished t journal tt lawful closed ∙ ap answers_of task ∙ answers-same p Enum budget,
+        sorted ∙ HasResult-finished t journal tt lawful closed ∙ ap answers_of task ∙ answers-same p (asks Enum n) budget,
         ap (option_map (with_cost p)) (none-kept b.task b.best (ap (λ (x : Task). x.goal) task) is.best),
       )
   found-by Opt lawful closed sorted =
-      let t : Task = task_of p Opt budget in
+      let t : Task = task_of p (asks Opt n) budget in
       let b : Board = replay t journal in
       let is = IsBoard-replay t journal tt lawful in
       let task : b.task ≡ t = task-run (start t) journal in (
         sorted ∙ sorted-nil b.answers (none-listed b.task b.answers (ap (λ (x : Task). x.goal) task) is.delivered),
-        best-by p budget b.best (subst (λ (x : Task). MatchOption b.best ((S : Atoms) → is_answer x S ≡ false) (IsOptimum x)) task (HasResult-finished t journal tt lawful closed)),
+        best-by p n budget b.best (subst (λ (x : Task). MatchOption b.best ((S : Atoms) → is_answer x S ≡ false) (IsOptimum x)) task (HasResult-finished t journal tt lawful closed)),
       )
 
-pub found-once : (p : Program) (mode : Mode) (budget : ℕ) (journal : List Event) (L : List Atoms) → IsLawful (start (task_of p mode budget)) journal → all_closed (replay (task_of p mode budget) journal).nodes ≡ true →
-    L ≡ sorted_once (replay (task_of p mode budget) journal).answers → IsFound p mode L (option_map (with_cost p) (replay (task_of p mode budget) journal).best)
-found-once p mode budget journal L = found-by p budget journal L mode
+pub found-once : (p : Program) (ask : Ask) (budget : ℕ) (journal : List Event) (L : List Atoms) → IsLawful (start (task_of p ask budget)) journal → all_closed (replay (task_of p ask budget) journal).nodes ≡ true →
+    L ≡ sorted_once (replay (task_of p ask budget) journal).answers → IsFound p ask.mode L (option_map (with_cost p) (replay (task_of p ask budget) journal).best)
+found-once p ask budget journal L = found-by p ask.models budget journal L ask.mode
 
-pub found : (p : Program) (mode : Mode) (budget : ℕ) (journal : List Event) (M L : List Atoms) → IsLawful (start (task_of p mode budget)) journal → all_closed (replay (task_of p mode budget) journal).nodes ≡ true →
-    IsPermutation (replay (task_of p mode budget) journal).answers M → IsSorted set_cmp M → IsFiltered (DiffersFromLast same_set) [] M L → IsFound p mode L (option_map (with_cost p) (replay (task_of p mode budget) journal).best)
-found p mode budget journal M L lawful closed moved sorted kept = found-once p mode budget journal L lawful closed (once-is (replay (task_of p mode budget) journal).answers M L moved sorted kept)
+pub found : (p : Program) (ask : Ask) (budget : ℕ) (journal : List Event) (M L : List Atoms) → IsLawful (start (task_of p ask budget)) journal → all_closed (replay (task_of p ask budget) journal).nodes ≡ true →
+    IsPermutation (replay (task_of p ask budget) journal).answers M → IsSorted set_cmp M → IsFiltered (DiffersFromLast same_set) [] M L → IsFound p ask.mode L (option_map (with_cost p) (replay (task_of p ask budget) journal).best)
+found p ask budget journal M L lawful closed moved sorted kept = found-once p ask budget journal L lawful closed (once-is (replay (task_of p ask budget) journal).answers M L moved sorted kept)

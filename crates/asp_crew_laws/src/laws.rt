@@ -1,14 +1,16 @@
 //! Laws of a run's journal. Each function's contract is a law, and its body is empty.
-ghost use Rattle.std.specs.Prelude.{◌≡◌, ◌+◌, ◌-◌, ◌<◌, ◌≤◌, max, ◌||◌, ◌++◌, ◌∷◌, ℕ, ℤ, Bool, length, List, [], true, false, Option, Some, None, IsTrue, option_map};
+ghost use Rattle.std.specs.Prelude.{◌≡◌, ◌+◌, ◌-◌, ◌<◌, ◌≤◌, max, ◌||◌, ◌++◌, ◌∷◌, ℕ, ℤ, Bool, length, List, [], true, false, Option, Some, None, IsTrue, option_map, Contains, AllPairs};
 ghost use Rattle.std.specs.List.{list_any, AllByRecursion};
 ghost use Rattle.std.specs.List.Sorted.{IsPermutation, IsSorted};
 ghost use Rattle.std.specs.List.Retain.{IsFiltered, DiffersFromLast};
 ghost use Rattle.asp_model.specs.declared.program.Program.{Program};
+ghost use Rattle.asp_model.specs.declared.results.Ask.{Ask};
 ghost use Rattle.asp_model.specs.declared.results.Mode.{Mode};
 ghost use Rattle.asp_model.specs.declared.results.Mode.TheVariants.{Enum, Opt};
-ghost use Rattle.asp_model.specs.declared.results.End.TheVariants.{Finished};
+ghost use Rattle.asp_model.specs.declared.results.End.TheVariants.{Finished, Limited};
 ghost use Rattle.asp_model.specs.Costs.{cost, betters};
-ghost use Rattle.asp_model.specs.Sets.{Atoms, same_set, set_cmp};
+ghost use Rattle.asp_model.specs.Models.{answers};
+ghost use Rattle.asp_model.specs.Sets.{Atoms, IsBefore, same_set, set_cmp};
 ghost use Rattle.asp_vars.specs.Entailment.{HitsOnly, Settled};
 ghost use Rattle.asp_vars.specs.Literals.{Literal};
 ghost use Rattle.asp_vars.specs.Paid.{Clash, Units, least_of};
@@ -31,9 +33,9 @@ ghost use Rattle.asp_crew_laws.specs.Runs.{task_of, IsFound, with_cost, Quiet};
 
 /// A lawful journal after which every leaf is closed tells what was to be found.
 pub fn a_closed_board_is_found()
-    ensures { (p : Program) (mode : Mode) (budget : ℕ) (journal : List Event) (sorted once : List Atoms) → IsLawful (start (task_of p mode budget)) journal → all_closed (replay (task_of p mode budget) journal).nodes ≡ true
-        → IsPermutation (replay (task_of p mode budget) journal).answers sorted → IsSorted set_cmp sorted → IsFiltered (DiffersFromLast same_set) [] sorted once
-        → IsFound p mode once (option_map (with_cost p) (replay (task_of p mode budget) journal).best) }
+    ensures { (p : Program) (ask : Ask) (budget : ℕ) (journal : List Event) (sorted once : List Atoms) → IsLawful (start (task_of p ask budget)) journal → all_closed (replay (task_of p ask budget) journal).nodes ≡ true
+        → IsPermutation (replay (task_of p ask budget) journal).answers sorted → IsSorted set_cmp sorted → IsFiltered (DiffersFromLast same_set) [] sorted once
+        → IsFound p ask.mode once (option_map (with_cost p) (replay (task_of p ask budget) journal).best) }
 {}
 
 /// Where each number found no leaf open at its end, all of them found none at one moment; and where no leaf is held, every leaf is closed.
@@ -45,9 +47,18 @@ pub fn quiet_numbers_leave_nothing()
 /// A report whose journal leads to what it says: a finished one has found what was asked, and another a part of it; no conflict
 /// that was paid for knew more answers than are reported.
 pub fn a_journal_explains_its_report()
-    ensures found { (p : Program) (mode : Mode) (units : ℕ) (r : Report) → IsPlayed p mode units r → r.results.end ≡ Finished → IsFound p mode r.results.answers r.results.best }
-    ensures part { (p : Program) (mode : Mode) (units : ℕ) (r : Report) → IsPlayed p mode units r → IsPart p mode r.results }
-    ensures known { (p : Program) (mode : Mode) (units : ℕ) (r : Report) → IsPlayed p mode units r → r.paid.known ≤ length r.results.answers }
+    ensures found { (p : Program) (ask : Ask) (units : ℕ) (r : Report) → IsPlayed p ask units r → r.results.end ≡ Finished → IsFound p ask.mode r.results.answers r.results.best }
+    ensures part { (p : Program) (ask : Ask) (units : ℕ) (r : Report) → IsPlayed p ask units r → IsPart p ask.mode r.results }
+    ensures known { (p : Program) (ask : Ask) (units : ℕ) (r : Report) → IsPlayed p ask units r → r.paid.known ≤ length r.results.answers }
+{}
+
+/// A limit is kept: the answers of a report are distinct answers of the program in their order, as many as were asked for where
+/// the run ended at its limit, and fewer where it ended otherwise.
+pub fn a_limit_is_kept()
+    ensures count { (p : Program) (ask : Ask) (units : ℕ) (r : Report) → IsPlayed p ask units r → r.results.end ≡ Limited → length r.results.answers ≡ ask.models }
+    ensures fewer { (p : Program) (ask : Ask) (units : ℕ) (r : Report) → IsPlayed p ask units r → (r.results.end ≡ Limited → ⊥) → 0 < ask.models → length r.results.answers < ask.models }
+    ensures order { (p : Program) (ask : Ask) (units : ℕ) (r : Report) → IsPlayed p ask units r → AllPairs IsBefore r.results.answers }
+    ensures answers { (p : Program) (ask : Ask) (units : ℕ) (r : Report) (S : Atoms) → IsPlayed p ask units r → Contains r.results.answers S → Contains (answers p) S }
 {}
 
 /// A search at work goes with the board still when the board went on and its number's units are as they were; so it does

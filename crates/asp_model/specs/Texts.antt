@@ -4,7 +4,7 @@ use Rattle.std.specs.List.{join_with_byte}
 use Rattle.std.specs.Fmt.{signed_decimal}
 use Rattle.asp_model.specs.declared.program.Program.{Program}
 use Rattle.asp_model.specs.declared.results.End.{End}
-use Rattle.asp_model.specs.declared.results.End.TheVariants.{Finished, Unfinished}
+use Rattle.asp_model.specs.declared.results.End.TheVariants.{Finished, Limited, Unfinished}
 use Rattle.asp_model.specs.declared.results.Mode.{Mode}
 use Rattle.asp_model.specs.declared.results.Mode.TheVariants.{Enum, Opt}
 use Rattle.asp_model.specs.declared.results.Results.{Results}
@@ -55,12 +55,14 @@ abbrev pub verdict : End → Mode → ℕ → List ℕ
 verdict Finished mode zero = codes "UNSATISFIABLE"
 verdict Finished Enum (suc k) = codes "SATISFIABLE"
 verdict Finished Opt (suc k) = codes "OPTIMUM FOUND"
+verdict Limited mode k = codes "LIMIT REACHED"
 verdict Unfinished mode zero = codes "UNKNOWN"
 verdict Unfinished mode (suc k) = codes "BUDGET SPENT"
 
--- A count of an unfinished run may not be the last.
+-- A count of a run that isn't finished may not be the last.
 abbrev pub count_mark : End → List ℕ
 count_mark Finished = []
+count_mark Limited = codes "+"
 count_mark Unfinished = codes "+"
 
 -- the word line and the count line

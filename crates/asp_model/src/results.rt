@@ -13,11 +13,22 @@ pub enum Mode {
     Opt,
 }
 
-/// Whether the search came to its end.
+/// What a run is asked.
+#[derive(Clone, Copy, Debug, PartialEq, Eq)]
+pub struct Ask {
+    /// Whether all answers are sought, or one that costs least.
+    pub mode: Mode,
+    /// How many different answers of an enumeration are enough. With 0 there is no limit.
+    pub models: u64,
+}
+
+/// How the search ended.
 #[derive(Clone, Copy, Debug, PartialEq, Eq)]
 pub enum End {
     /// Nothing is left to be found.
     Finished,
+    /// As many answers as asked for were found.
+    Limited,
     /// The budget was spent before.
     Unfinished,
 }
@@ -28,7 +39,7 @@ pub enum End {
 pub struct Results {
     /// Whether all answers were sought, or one that costs least.
     pub mode: Mode,
-    /// Whether the search ended.
+    /// How the search ended.
     pub end: End,
     /// In an enumeration the answers, strictly ascending; else none.
     pub answers: Seq<Interp>,

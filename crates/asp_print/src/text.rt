@@ -35,6 +35,7 @@ fn verdict(end: End, mode: Mode, count: usize) -> &'static [u8]
         (End::Finished, _) if count == 0 => b"UNSATISFIABLE",
         (End::Finished, Mode::Enum) => b"SATISFIABLE",
         (End::Finished, Mode::Opt) => b"OPTIMUM FOUND",
+        (End::Limited, _) => b"LIMIT REACHED",
         (End::Unfinished, _) if count == 0 => b"UNKNOWN",
         (End::Unfinished, _) => b"BUDGET SPENT",
     }
@@ -45,7 +46,7 @@ fn count_mark(end: End) -> &'static [u8]
 {
     match end {
         End::Finished => b"",
-        End::Unfinished => b"+",
+        End::Limited | End::Unfinished => b"+",
     }
 }
 

@@ -2,7 +2,7 @@
 use Rattle.std.proofs.Common.{◌≡◌, ℕ, ◌<◌, ◌≤◌, List, length, Some, refl, sym, ◌∙◌, subst, arith}
 use Rattle.std.specs.List.{All}
 use Rattle.asp_model.specs.declared.program.Program.{Program}
-use Rattle.asp_model.specs.declared.results.Mode.{Mode}
+use Rattle.asp_model.specs.declared.results.Ask.{Ask}
 use Rattle.asp_vault.specs.declared.view.View.{View}
 use Rattle.asp_vault.specs.Seats.{view}
 use Rattle.asp_core.specs.declared.task.Task.{Task}
@@ -10,7 +10,7 @@ use Rattle.asp_book.specs.Books.{Booked}
 use Rattle.asp_book.specs.Calls.{Knows}
 use Rattle.asp_crew_laws.specs.declared.report.Report.{Report}
 use Rattle.asp_crew_laws.specs.Reports.{IsReport}
-use Rattle.asp_crew_laws.specs.Runs.{task_of}
+use Rattle.asp_crew_laws.specs.Runs.{asks, task_of}
 use Rattle.asp_crew.specs.Running.{IsRunIn}
 use Rattle.asp_worker.specs.declared.worker.Worker.{Worker}
 use Rattle.asp_worker.specs.declared.worker.Shared.{Shared}
@@ -27,11 +27,11 @@ pub all-home : (c : Shared) (l k : Lead) (hs : List Worker) → AreReady c l hs 
 all-home c l k hs ready j came n some few = each-number (IsHome (view k.seat)) 1 hs ready.numbered came n (omega (arith, some)) (omega (arith, few, j.splits, ready.out.splits))
 
 -- ---- what the book is for
-pub book-task : (p : Program) (m : Mode) (budget : ℕ) (b : Booked) (v w : Knows) → Some b.task ≡ w.about → w.about ≡ v.about → v.about ≡ Some (task_of p m budget) → b.task ≡ task_of p m budget
-book-task p m budget b v w is same about = let e : Some b.task ≡ Some (task_of p m budget) = is ∙ same ∙ about in (let f : b.task ≡ task_of p m budget = cc in f)
+pub book-task : (p : Program) (ask : Ask) (budget : ℕ) (b : Booked) (v w : Knows) → Some b.task ≡ w.about → w.about ≡ v.about → v.about ≡ Some (task_of p ask budget) → b.task ≡ task_of p ask budget
+book-task p ask budget b v w is same about = let e : Some b.task ≡ Some (task_of p ask budget) = is ∙ same ∙ about in (let f : b.task ≡ task_of p ask budget = cc in f)
 
-pub run-in : (p : Program) (m : Mode) (budget : ℕ) (t : Task) → t ≡ task_of p m budget → IsRunIn m t
-run-in p m budget t e = subst (IsRunIn m) (sym e) refl
+pub run-in : (p : Program) (ask : Ask) (budget : ℕ) (t : Task) → t ≡ task_of p ask budget → IsRunIn ask.mode t
+run-in p ask budget t e = subst (IsRunIn ask.mode) (sym e) refl
 
-pub report-is : (p : Program) (m : Mode) (budget : ℕ) (t : Task) (r : Report) → t ≡ task_of p m budget → IsReport t.program m t.budget r → IsReport p m budget r
-report-is p m budget t r e is = subst (λ (x : Task). IsReport x.program m x.budget r) e is
+pub report-is : (p : Program) (ask : Ask) (budget : ℕ) (t : Task) (r : Report) → t ≡ task_of p ask budget → IsReport t.program (asks ask.mode t.limit) t.budget r → IsReport p ask budget r
+report-is p ask budget t r e is = subst (λ (x : Task). IsReport x.program (asks ask.mode x.limit) x.budget r) e is

@@ -8,7 +8,7 @@ use Rattle.std.proofs.lemmas.List.Elements.{All-append, All-nil}
 use mathlib.Core.List.{IsPrefix}
 use lib.ListN.{get_elem?}
 use Rattle.asp_model.specs.declared.program.Program.{Program}
-use Rattle.asp_model.specs.declared.results.Mode.{Mode}
+use Rattle.asp_model.specs.declared.results.Ask.{Ask}
 use Rattle.asp_vault.specs.declared.view.View.{View}
 use Rattle.asp_vault.specs.Makers.{NoneBy, OnlyBy}
 use Rattle.asp_vault.specs.Moments.{Stays}
@@ -73,9 +73,9 @@ pub variable-is : (v : Knows) (p : Program) (n : ℕ) → (task_of v).program �
 variable-is v p n is h = subst (λ (q : Program). IsVariable q n) (sym (ap (λ (t : Task). t.program) (board-task v) ∙ is)) h
 
 -- ---- the first seat at a new book
-pub opened-idle : (p : Program) (m : Mode) (budget : ℕ) (v : Knows) → budget < 2 ^ 64 → v ≡ opened (runs.task_of p m budget) [] → IsIdle v
-opened-idle p m budget v fits is = subst IsIdle (sym is) (record {
-  settled = record { seated = record { about = refl; rests = refl; lawful = tt }; run = record { limit = refl; query = refl; budget = fits } };
+pub opened-idle : (p : Program) (ask : Ask) (budget : ℕ) (v : Knows) → budget < 2 ^ 64 → v ≡ opened (runs.task_of p ask budget) [] → IsIdle v
+opened-idle p ask budget v fits is = subst IsIdle (sym is) (record {
+  settled = record { seated = record { about = refl; rests = refl; lawful = tt }; run = record { query = refl; budget = fits } };
   free = refl;
   home = refl;
 })
@@ -230,9 +230,9 @@ popped-one {X = X} P xs ys o x every is some_x =
     every (length ys) x (ap (λ (l : List X). get_elem? l (length ys)) (is ∙ ap (λ (q : Option X). ys ++ option_to_list q) some_x) ∙ place-last ys x)
 
 -- ---- the whole team
-pub host-begun : (p : Program) (m : Mode) (budget : ℕ) (c : Shared) (l : Lead) → m ≡ c.mode → IsOf c.book l.seat → IsOf c.log l.pages → IsBegun (runs.task_of p m budget) (view l.seat) → IsPaged p (view l.pages) → (view l.pages).number ≡ 0 → IsHost c l
-host-begun p m budget c l mode book log is paged first =
-    let t : Task = runs.task_of p m budget in
+pub host-begun : (p : Program) (ask : Ask) (budget : ℕ) (c : Shared) (l : Lead) → ask.mode ≡ c.mode → IsOf c.book l.seat → IsOf c.log l.pages → IsBegun (runs.task_of p ask budget) (view l.seat) → IsPaged p (view l.pages) → (view l.pages).number ≡ 0 → IsHost c l
+host-begun p ask budget c l mode book log is paged first =
+    let t : Task = runs.task_of p ask budget in
     let same : task_of (view l.seat) ≡ t = ap (λ (o : Option Task). unwrap_or o no_task) is.about in
     record {
       lead = record { book = book; log = log; first = is.first; pages_first = first; rests = is.idle.settled.seated.rests; pages_rest = paged.rests; lawful = is.idle.settled.seated.lawful };
@@ -243,8 +243,8 @@ host-begun p m budget c l mode book log is paged first =
     }
 
 -- the workers may join, by what the team is for
-pub all-may : (p : Program) (m : Mode) (budget : ℕ) (c : Shared) (l : Lead) (hs : List Worker) → (view l.seat).about ≡ Some (runs.task_of p m budget) → AreReady c l hs → All (MayJoin p c (view l.seat).about) hs
-all-may p m budget c l hs about is = subst (λ (q : Program). All (MayJoin q c (view l.seat).about) hs) (ap (λ (o : Option Task). (unwrap_or o no_task).program) about) is.may
+pub all-may : (p : Program) (ask : Ask) (budget : ℕ) (c : Shared) (l : Lead) (hs : List Worker) → (view l.seat).about ≡ Some (runs.task_of p ask budget) → AreReady c l hs → All (MayJoin p c (view l.seat).about) hs
+all-may p ask budget c l hs about is = subst (λ (q : Program). All (MayJoin q c (view l.seat).about) hs) (ap (λ (o : Option Task). (unwrap_or o no_task).program) about) is.may
 
 -- ---- workers are added while lanes are left
 pub record IsGathering (c : Shared) (start now : Lead) (hs : List Worker) (lanes : ℕ) (passes : List Pass) (all : ℕ) : Type 0 where

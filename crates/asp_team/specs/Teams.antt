@@ -2,7 +2,7 @@
 use Rattle.std.specs.Prelude.{◌≡◌, ℕ, suc, ◌<◌, List, [], ◌∷◌, length, Some}
 use Rattle.std.specs.List.{All}
 use Rattle.asp_model.specs.declared.program.Program.{Program}
-use Rattle.asp_model.specs.declared.results.Mode.{Mode}
+use Rattle.asp_model.specs.declared.results.Ask.{Ask}
 use Rattle.asp_vault.specs.declared.view.View.{View}
 use Rattle.asp_vault.specs.Makers.{NoneBy}
 use Rattle.asp_vault.specs.Seats.{view}
@@ -59,8 +59,8 @@ pub record AreReady (c : Shared) (l : Lead) (workers : List Worker) : Type 0 whe
   pub numbered : AreNumbered 1 workers
 
 -- ---- a whole team
-pub record IsTeam (p : Program) (m : Mode) (budget : ℕ) (t : Team) : Type 0 where
+pub record IsTeam (p : Program) (ask : Ask) (budget : ℕ) (t : Team) : Type 0 where
   pub lead : IsLead t.shared t.lead
-  pub about : (view t.lead.seat).about ≡ Some (runs.task_of p m budget)
+  pub about : (view t.lead.seat).about ≡ Some (runs.task_of p ask budget)
   pub idle : IsIdle (view t.lead.seat)
   pub ready : AreReady t.shared t.lead t.workers.items

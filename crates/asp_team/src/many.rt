@@ -15,7 +15,7 @@ use asp_crew::finish::finish;
 use asp_crew::reported::reported;
 use asp_crew::watch::{Counts, Unwatched};
 use asp_crew_laws::report::Report;
-use asp_model::results::Mode;
+use asp_model::results::Ask;
 use asp_propagators::propagators::Propagators;
 use asp_vars::compiled::Compiled;
 use asp_worker::gate::Gate;
@@ -43,6 +43,7 @@ fn dismissed(shared: Shared, lead: Lead) -> (Book, u32)
     let Shared {
         alloc: _,
         mode: _,
+        models: _,
         workers: _,
         book,
         log,
@@ -54,23 +55,23 @@ fn dismissed(shared: Shared, lead: Lead) -> (Book, u32)
 /// A run of so many workers, 1 to 64, which pass the gate before each path and are stopped by `halt`.
 ///
 /// The root is split between the workers before they begin. What they leave open, since they were stopped or short of memory
-/// or units, the main thread works off when all have come back. Nothing says that a worker comes back. Want of memory in the
+/// or units, the main thread works off when all have come back, until as many answers as asked for were found. Nothing says that a worker comes back. Want of memory in the
 /// main thread is the one error.
 pub fn solve_with<R: Threads + Wait + Sync, G: Gate + Sync, H: Halt + Sync>(
     rt: &R,
     alloc: Global,
     compiled: &Compiled,
-    mode: Mode,
+    ask: Ask,
     budget: u64,
     count: u32,
     gate: &G,
     halt: &H,
 ) -> Result<Report, AllocError>
     requires { (1 ≤ count) × (count ≤ 64) }
-    ensures report { IfOk result (IsReport compiled.now mode budget) }
+    ensures report { IfOk result (IsReport compiled.now ask budget) }
     ensures proof { IfOk result (λ r. r.proof ≡ None) }
 {
-    let team = gathered(rt, alloc, compiled, mode, budget, count)?;
+    let team = gathered(rt, alloc, compiled, ask, budget, count)?;
     let Team {
         shared,
         lead,
@@ -83,14 +84,14 @@ pub fn solve_with<R: Threads + Wait + Sync, G: Gate + Sync, H: Halt + Sync>(
     let unpaid = finish(
         alloc,
         compiled,
-        mode,
+        ask.mode,
         &mut book,
         propagators,
         &mut Counts::new(),
         &mut Unwatched,
         None,
     )?;
-    Ok(reported(mode, book, unpaid, log, short))
+    Ok(reported(ask.mode, book, unpaid, log, short))
 }
 
 /// A run of so many workers, 1 to 64, none of whom is stopped.
@@ -98,14 +99,14 @@ pub fn solve<R: Threads + Wait + Sync, G: Gate + Sync>(
     rt: &R,
     alloc: Global,
     compiled: &Compiled,
-    mode: Mode,
+    ask: Ask,
     budget: u64,
     count: u32,
     gate: &G,
 ) -> Result<Report, AllocError>
     requires { (1 ≤ count) × (count ≤ 64) }
-    ensures report { IfOk result (IsReport compiled.now mode budget) }
+    ensures report { IfOk result (IsReport compiled.now ask budget) }
     ensures proof { IfOk result (λ r. r.proof ≡ None) }
 {
-    solve_with(rt, alloc, compiled, mode, budget, count, gate, &NoHalt)
+    solve_with(rt, alloc, compiled, ask, budget, count, gate, &NoHalt)
 }

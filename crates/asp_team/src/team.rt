@@ -17,7 +17,7 @@ use asp_book::book::Book;
 use asp_core::goal::Goal;
 use asp_core::state::State;
 use asp_log::Log;
-use asp_model::results::Mode;
+use asp_model::results::Ask;
 use asp_pool::{Lane, Pass, Pool};
 use asp_vars::compiled::Compiled;
 use asp_vault::{Seat, Vault};
@@ -43,13 +43,20 @@ pub(crate) struct Team {
 fn start(
     alloc: Global,
     compiled: &Compiled,
-    mode: Mode,
+    ask: Ask,
     budget: u64,
 ) -> Result<(Vault<Book>, Seat<Book>), AllocError>
     ensures of { IfOk result (λ r. IsOf r.0 r.1) }
-    ensures view { IfOk result (λ r. view r.1 ≡ opened (task_of compiled.now mode budget) []) }
+    ensures view { IfOk result (λ r. view r.1 ≡ opened (task_of compiled.now ask budget) []) }
 {
-    let state = State::start(alloc, compiled, Goal::of(mode), budget, 0, [].as_slice())?;
+    let state = State::start(
+        alloc,
+        compiled,
+        Goal::of(ask.mode),
+        budget,
+        ask.models,
+        [].as_slice(),
+    )?;
     Vault::make(alloc, Book::new(alloc, compiled, state))
 }
 
@@ -72,14 +79,14 @@ fn forked<R: Wait>(
     rt: &R,
     alloc: Global,
     compiled: &Compiled,
-    mode: Mode,
+    ask: Ask,
     budget: u64,
     paths: u32,
 ) -> Result<(Vault<Book>, Seat<Book>), AllocError>
     ensures of { IfOk result (λ r. IsOf r.0 r.1) }
-    ensures begun { IfOk result (λ r. IsBegun (task_of compiled.now mode budget) (view r.1)) }
+    ensures begun { IfOk result (λ r. IsBegun (task_of compiled.now ask budget) (view r.1)) }
 {
-    let (book, mut seat) = start(alloc, compiled, mode, budget)?;
+    let (book, mut seat) = start(alloc, compiled, ask, budget)?;
     fork_all(rt, &book, &mut seat, compiled, paths)?;
     survey(rt, &book, &mut seat);
     Ok((book, seat))
@@ -174,20 +181,21 @@ pub(crate) fn gathered<R: Wait>(
     rt: &R,
     alloc: Global,
     compiled: &Compiled,
-    mode: Mode,
+    ask: Ask,
     budget: u64,
     count: u32,
 ) -> Result<Team, AllocError>
     requires { (1 ≤ count) × (count ≤ 64) }
-    ensures team { IfOk result (IsTeam compiled.now mode budget) }
+    ensures team { IfOk result (IsTeam compiled.now ask budget) }
     ensures count { IfOk result (λ team. length team.workers.items ≡ count) }
 {
-    let (book, seat) = forked(rt, alloc, compiled, mode, budget, count)?;
+    let (book, seat) = forked(rt, alloc, compiled, ask, budget, count)?;
     let (log, pages) = blank(alloc, compiled)?;
     let (pool, lanes, passes) = Pool::new(alloc, count)?;
     let shared = Shared {
         alloc,
-        mode,
+        mode: ask.mode,
+        models: ask.models,
         workers: count,
         book,
         log,

@@ -1,7 +1,6 @@
 //! A run stops where its units are spent, and never says then that it is finished.
-use crate::programs::triangle;
+use crate::programs::{ALL, triangle};
 use crate::reports::finished;
-use asp_model::results::Mode;
 use asp_team::gate::OpenGate;
 use asp_team::many::solve;
 use asp_team::report::Report;
@@ -18,7 +17,7 @@ fn run<R: Threads + Wait + Sync + Abort>(
     compiled: &Compiled,
     budget: u64,
 ) -> Report {
-    solve(rt, heap, compiled, Mode::Enum, budget, 2, &OpenGate).expect(rt, "memory")
+    solve(rt, heap, compiled, ALL, budget, 2, &OpenGate).expect(rt, "memory")
 }
 
 // Whether it has all six answers, or no unit is left and a conflict is unpaid.

@@ -1,7 +1,6 @@
 //! Workers are on their paths at the same time.
-use crate::programs::free_atoms;
+use crate::programs::{ALL, free_atoms};
 use crate::reports::{finished, has_closed};
-use asp_model::results::Mode;
 use asp_team::gate::Gate;
 use asp_team::many::solve;
 use std::sync::atomic::{AtomicU64, Ordering};
@@ -47,7 +46,7 @@ fn two_workers_are_on_their_paths_at_once(rt: HostRuntime) {
     let heap = rt.alloc();
     let compiled = free_atoms(&rt, heap, &[1, 2]);
     let gate = hold(2);
-    let report = solve(&rt, heap, &compiled, Mode::Enum, 100, 2, &gate).expect(&rt, "memory");
+    let report = solve(&rt, heap, &compiled, ALL, 100, 2, &gate).expect(&rt, "memory");
     assert_eq!(rt; gate.late.load(Ordering::SeqCst), 0);
     assert_eq!(rt; finished(&report), Some(4));
     assert!(rt; !report.short);
@@ -61,7 +60,7 @@ fn four_workers_are_on_their_paths_at_once(rt: HostRuntime) {
     let heap = rt.alloc();
     let compiled = free_atoms(&rt, heap, &[1, 2, 3, 4]);
     let gate = hold(4);
-    let report = solve(&rt, heap, &compiled, Mode::Enum, 100, 4, &gate).expect(&rt, "memory");
+    let report = solve(&rt, heap, &compiled, ALL, 100, 4, &gate).expect(&rt, "memory");
     assert_eq!(rt; gate.late.load(Ordering::SeqCst), 0);
     assert_eq!(rt; finished(&report), Some(16));
 }

@@ -1,7 +1,6 @@
 //! Whichever worker is stopped, and whenever: what it had is worked off by others.
-use crate::programs::{free_atoms, nothing_left, triangle};
+use crate::programs::{ALL, free_atoms, nothing_left, triangle};
 use crate::reports::{finished, has_closed};
-use asp_model::results::Mode;
 use asp_team::gate::OpenGate;
 use asp_team::halt::Halt;
 use asp_team::many::solve_with;
@@ -46,7 +45,7 @@ fn run<R: Threads + Wait + Sync + Abort, H: Halt + Sync>(
     compiled: &Compiled,
     halt: &H,
 ) -> Report {
-    solve_with(rt, heap, compiled, Mode::Enum, 100, 3, &OpenGate, halt).expect(rt, "memory")
+    solve_with(rt, heap, compiled, ALL, 100, 3, &OpenGate, halt).expect(rt, "memory")
 }
 
 // Whether so many answers are found, whichever worker is stopped at whichever of its first steps.

@@ -1,11 +1,18 @@
 //! Programs of the tests. Want of memory ends a test.
 use asp_make::ring;
 use asp_model::program::{Atom, Body, Head, Program, Rule};
+use asp_model::results::{Ask, Mode};
 use asp_model::seq::Seq;
 use asp_vars::compile::compile;
 use asp_vars::compiled::Compiled;
 use std::alloc::Global;
 use std::process::Abort;
+
+/// All answers.
+pub const ALL: Ask = Ask {
+    mode: Mode::Enum,
+    models: 0,
+};
 
 // The atoms are free.
 fn free(rt: &impl Abort, heap: Global, atoms: &[Atom]) -> Rule {

@@ -7,7 +7,7 @@ use asp_team::report::Report;
 pub fn finished(report: &Report) -> Option<usize> {
     match report.results.end {
         End::Finished => Some(report.results.answers.as_slice().len()),
-        End::Unfinished => None,
+        End::Limited | End::Unfinished => None,
     }
 }
 

@@ -37,6 +37,7 @@ fn words_are_taken(rt: HostRuntime) {
         workers: 1,
         mode: None,
         budget: 9223372036854775807,
+        models: 0,
         make: None,
         stats: false,
         progress: false,
@@ -48,13 +49,14 @@ fn words_are_taken(rt: HostRuntime) {
         workers: 1,
         mode: Some(Mode::Enum),
         budget: 7,
+        models: 3,
         make: Some(2000),
         stats: true,
         progress: false,
         proof: false,
         split: None,
     };
-    let line = "aspenum --make=2000 --stats --mode=enum --budget=7 --workers 1 --";
+    let line = "aspenum --make=2000 --stats --mode=enum --budget=7 --models 3 --workers 1 --";
     assert!(rt; gives(&rt, alloc, line, Ok(chosen)));
     for line in ["aspenum --help", "aspenum -h"] {
         assert!(rt; gives(&rt, alloc, line, Err(CliError::Help)));

@@ -1,5 +1,5 @@
 -- What each status means, from what reading, solving and writing did.
-use Rattle.std.proofs.Common.{◌≡◌, ℕ, ◌≤◌, Bool, true, false, ◌||◌, List, refl, sym, subst, inl, inr, arith}
+use Rattle.std.proofs.Common.{◌≡◌, ℕ, ◌<◌, ◌≤◌, Bool, true, false, ◌||◌, List, [], ◌∷◌, length, refl, sym, ap, ◌∙◌, subst, inl, inr, arith}
 use Rattle.std.specs.Prelude.{Option, None, Some, Result, Ok, Err, IfErr, IfOk, IfSome, IsSome, IsErrOf, is_some}
 use Rattle.std.proofs.KnownBytes.{Keeps-refl}
 use Rattle.std.specs.Io.KnownBytes.{Appends, Keeps, IsAtEnd}
@@ -7,21 +7,26 @@ use Rattle.asp_io.specs.Causes.{Rose}
 use Rattle.asp_read.specs.declared.fault.ReadError.{ReadError}
 use Rattle.asp_read.specs.declared.fault.ReadError.TheVariants as errors
 use Rattle.asp_model.specs.declared.program.Program.{Program}
+use Rattle.asp_model.specs.declared.results.Ask.{Ask}
+use Rattle.asp_model.specs.declared.results.Mode.{Mode}
 use Rattle.asp_model.specs.declared.results.End.{End}
-use Rattle.asp_model.specs.declared.results.End.TheVariants.{Finished, Unfinished}
+use Rattle.asp_model.specs.declared.results.End.TheVariants.{Finished, Limited, Unfinished}
+use Rattle.asp_model.specs.Sets.{Atoms}
+use Rattle.asp_model.specs.Texts.{recorded}
 use Rattle.asp_read.specs.Outcome.{outcome, most_bytes}
 use Rattle.asp_read.specs.Stream.{ReadsText, StopsAt}
 use Rattle.asp_make.specs.Ring.{ring}
 use Rattle.asp_make.specs.Texts.{parts_text}
 use Rattle.asp_crew_laws.specs.declared.report.Report.{Report}
 use Rattle.asp_crew_laws.specs.Proofs.{HasProof, HasProofAt}
+use Rattle.asp_crew_laws.specs.Reports.{IsAsked, IsReport, Says as SaysReport}
 use Rattle.asp_top.specs.declared.status.Status.{Status}
-use Rattle.asp_top.specs.declared.status.Status.TheVariants.{All, NoModel, Partial, Unknown, Help, Memory, Usage, Refused, ReadFault, TooLong, WriteFault, Parts}
+use Rattle.asp_top.specs.declared.status.Status.TheVariants.{All, NoModel, Partial, Unknown, Enough, Help, Memory, Usage, Refused, ReadFault, TooLong, WriteFault, Parts}
 use Rattle.asp_top.specs.declared.status.Outcome.{Outcome}
-use Rattle.asp_top.specs.Meaning.{has_model, status_for}
+use Rattle.asp_top.specs.Meaning.{has_model, is_some_of, status_for}
 use Rattle.asp_top.specs.Notes.{is_answered}
 use Rattle.asp_top.specs.Parting.{Divides, HandingMeans}
-use Rattle.asp_top.specs.Runs.{Around, DeliveryMeans, Does, DoesBy, IsDivided, IsExact, IsGiven, IsOver, IsReady, IsSaid, IsSolved, Means, Prepares, Runs, Says, Solves, around, is_brief, report_text, status_of}
+use Rattle.asp_top.specs.Runs.{Around, DeliveryMeans, Does, DoesBy, IsDivided, IsExact, IsGiven, IsOver, IsReady, IsSaid, IsSolved, Means, Prepares, Runs, Says, Solves, around, ask_of, is_brief, report_text, status_of}
 use Rattle.asp_cli.specs.declared.Options.{Options}
 
 says-at : (a : Around) (text : List ℕ) (said : Result Program ReadError) → a.left ≡ Some text → Says a said → outcome text ≡ said
@@ -55,6 +60,7 @@ exact given a report All m quiet = given-exact given a m.solved.program All m.so
 exact given a report NoModel m quiet = given-exact given a m.solved.program NoModel m.solved.source (λ w. refl) quiet
 exact given a report Partial m quiet = given-exact given a m.solved.program Partial m.solved.source (λ w. refl) quiet
 exact given a report Unknown m quiet = given-exact given a m.solved.program Unknown m.solved.source (λ w. refl) quiet
+exact given a report Enough m quiet = given-exact given a m.solved.program Enough m.solved.source (λ w. refl) quiet
 exact given a report Parts m quiet = given-exact given a m.divided.program Parts m.divided.source (λ w. refl) quiet
 exact given a report WriteFault (inl m) quiet = given-exact given a m.solved.program WriteFault m.solved.source (λ w. absurd (w m.cause)) quiet
 exact given a report WriteFault (inr m) quiet = given-exact given a m.divided.program WriteFault m.divided.source (λ w. absurd (w m.cause)) quiet
@@ -119,10 +125,21 @@ runs-memory given a kept reads writes quiet =
     let means : Means given a None Memory = record { none = refl; kept = kept } in
     record { means = means; exact = exact given a None Memory means (λ told isn't. quiet told); later = (reads, writes) }
 
+-- a run that ended at its limit has a model
+some-by : (L : List Atoms) → 0 < length L → is_some_of L ≡ true
+some-by [] h = absurd (let f : ⊥ = omega (arith, h) in f)
+some-by (S ∷ L) h = refl
+
+limited-has : (p : Program) (ask : Ask) (units : ℕ) (r : Report) → IsReport p ask units r → r.results.end ≡ Limited → has_model r.results ≡ true
+limited-has p ask units r is e =
+    let asked : IsAsked p ask r.results = subst (SaysReport p ask r) e is.says in
+    ap (λ (m : Mode). is_some_of (recorded m r.results)) (is.mode_is ∙ asked.mode_is) ∙ some-by r.results.answers (omega (arith, asked.some, asked.count))
+
 written : (given : Options) (a : Around) (report : Option Report) → (s : IsSolved given a report) → (end : End) (model : Bool) → s.done.results.end ≡ end → has_model s.done.results ≡ model
     → Appends a.held a.held' (report_text s.program s.done (is_brief given)) → Means given a report (status_for end model)
 written given a report s Finished true e m text = record { solved = s; end_is = e; model_is = m; text = text }
 written given a report s Finished false e m text = record { solved = s; end_is = e; model_is = m; text = text }
+written given a report s Limited model e m text = record { solved = s; end_is = e; model_is = limited-has s.program (ask_of given s.program) given.budget s.done s.is e; text = text }
 written given a report s Unfinished true e m text = record { solved = s; end_is = e; model_is = m; text = text }
 written given a report s Unfinished false e m text = record { solved = s; end_is = e; model_is = m; text = text }
 
@@ -219,6 +236,7 @@ unproved r none = at r.results.end
   where
     at : (end : End) → HasProofAt end false r.results r.proof
     at Finished = none
+    at Limited = none
     at Unfinished = none
 
 -- a report without a proof is as it should be where none was asked for

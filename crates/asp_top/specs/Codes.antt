@@ -1,13 +1,14 @@
 -- The exit statuses.
 use Rattle.std.specs.Prelude.{ℕ}
 use Rattle.asp_top.specs.declared.status.Status.{Status}
-use Rattle.asp_top.specs.declared.status.Status.TheVariants.{All, NoModel, Partial, Unknown, Help, Memory, Usage, Refused, ReadFault, TooLong, WriteFault, Parts}
+use Rattle.asp_top.specs.declared.status.Status.TheVariants.{All, NoModel, Partial, Unknown, Enough, Help, Memory, Usage, Refused, ReadFault, TooLong, WriteFault, Parts}
 
 abbrev pub code_of : Status → ℕ
 code_of All = 30
 code_of NoModel = 20
 code_of Partial = 10
 code_of Unknown = 1
+code_of Enough = 11
 code_of Help = 0
 code_of Memory = 33
 code_of Usage = 64

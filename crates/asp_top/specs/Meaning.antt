@@ -5,11 +5,11 @@ use Rattle.asp_model.specs.declared.program.Minimize.{Minimize}
 use Rattle.asp_model.specs.declared.results.Mode.{Mode}
 use Rattle.asp_model.specs.declared.results.Mode.TheVariants.{Enum, Opt}
 use Rattle.asp_model.specs.declared.results.End.{End}
-use Rattle.asp_model.specs.declared.results.End.TheVariants.{Finished, Unfinished}
+use Rattle.asp_model.specs.declared.results.End.TheVariants.{Finished, Limited, Unfinished}
 use Rattle.asp_model.specs.declared.results.Results.{Results}
 use Rattle.asp_model.specs.Texts.{recorded}
 use Rattle.asp_top.specs.declared.status.Status.{Status}
-use Rattle.asp_top.specs.declared.status.Status.TheVariants.{All, NoModel, Partial, Unknown}
+use Rattle.asp_top.specs.declared.status.Status.TheVariants.{All, NoModel, Partial, Unknown, Enough}
 
 -- an optimum exactly where something is minimised
 abbrev pub mode_by : List Minimize → Mode
@@ -29,9 +29,10 @@ is_some_of (x ∷ xs) = true
 abbrev pub has_model : Results → Bool
 has_model r = is_some_of (recorded r.mode r)
 
--- a status that tells whether the run came to its end, and whether it has a model
+-- a status that tells how the run ended, and whether it has a model
 abbrev pub status_for : End → Bool → Status
 status_for Finished true = All
 status_for Finished false = NoModel
+status_for Limited model = Enough
 status_for Unfinished true = Partial
 status_for Unfinished false = Unknown

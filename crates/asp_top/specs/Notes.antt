@@ -11,7 +11,7 @@ use Rattle.asp_top.specs.declared.counts.Item.{Item}
 use Rattle.asp_top.specs.Counts.{item_text, program_items, report_items, search_items}
 use Rattle.asp_top.specs.Usage.{usage_text}
 use Rattle.asp_top.specs.Faults.{fault_text}
-use Rattle.asp_top.specs.declared.status.Status.TheVariants.{All, NoModel, Partial, Unknown, Help, Memory, Usage, Refused, ReadFault, TooLong, WriteFault, Parts}
+use Rattle.asp_top.specs.declared.status.Status.TheVariants.{All, NoModel, Partial, Unknown, Enough, Help, Memory, Usage, Refused, ReadFault, TooLong, WriteFault, Parts}
 
 -- the lines for a status; none where results, parts, help or the version were asked for and written. Usage is here the status of
 -- words that can't be had
@@ -20,6 +20,7 @@ note_of All = []
 note_of NoModel = []
 note_of Partial = []
 note_of Unknown = []
+note_of Enough = []
 note_of Help = []
 note_of Memory = codes "aspenum: out of memory\n"
 note_of Usage = codes "aspenum: a word is not UTF-8" ++ usage_text
@@ -47,6 +48,7 @@ is_answered All = true
 is_answered NoModel = true
 is_answered Partial = true
 is_answered Unknown = true
+is_answered Enough = true
 is_answered Parts = true
 is_answered _ = false
 

@@ -6,8 +6,9 @@ use Rattle.asp_read.specs.declared.fault.Fault.{Fault}
 use Rattle.asp_read.specs.declared.fault.ReadError.{ReadError}
 use Rattle.asp_read.specs.declared.fault.ReadError.TheVariants as errors
 use Rattle.asp_model.specs.declared.program.Program.{Program}
+use Rattle.asp_model.specs.declared.results.Ask.{Ask}
 use Rattle.asp_model.specs.declared.results.End.{End}
-use Rattle.asp_model.specs.declared.results.End.TheVariants.{Finished, Unfinished}
+use Rattle.asp_model.specs.declared.results.End.TheVariants.{Finished, Limited, Unfinished}
 use Rattle.asp_model.specs.declared.results.Results.{Results}
 use Rattle.asp_model.specs.Texts.{results_text}
 use Rattle.asp_proof.specs.declared.proof.Proof.{Proof}
@@ -23,9 +24,10 @@ use Rattle.asp_model.specs.Models.{atoms_of}
 use Rattle.asp_vars.specs.Numbering.{bodies_of}
 use Rattle.asp_crew_laws.specs.declared.report.Report.{Report}
 use Rattle.asp_crew_laws.specs.Reports.{IsReport}
+use Rattle.asp_crew_laws.specs.Runs.{asks}
 use Rattle.asp_crew_laws.specs.Proofs.{HasProof}
 use Rattle.asp_top.specs.declared.status.Status.{Status}
-use Rattle.asp_top.specs.declared.status.Status.TheVariants.{All, NoModel, Partial, Unknown, Help, Memory, Usage, Refused, ReadFault, TooLong, WriteFault, Parts}
+use Rattle.asp_top.specs.declared.status.Status.TheVariants.{All, NoModel, Partial, Unknown, Enough, Help, Memory, Usage, Refused, ReadFault, TooLong, WriteFault, Parts}
 use Rattle.asp_top.specs.declared.status.Outcome.{Outcome}
 use Rattle.asp_top.specs.declared.counts.Tally.{Tally}
 use Rattle.asp_top.specs.Meaning.{has_model, mode_of, status_for}
@@ -81,7 +83,11 @@ text_by None p r brief = results_text p r brief
 abbrev pub report_text : Program → Report → Bool → List ℕ
 report_text p r brief = text_by r.proof p r.results brief
 
--- no parts are asked for; the report is that of a run on the program, in the mode and with the units that were given, and has a
+-- what is asked of the program by the options
+abbrev pub ask_of : Options → Program → Ask
+ask_of given p = asks (mode_of given.mode p) given.models
+
+-- no parts are asked for; the report is that of a run on the program, with what is asked and the units that were given, and has a
 -- proof if that was asked for
 pub record IsSolved (given : Options) (a : Around) (report : Option Report) : Type 0 where
   pub program : Program
@@ -89,7 +95,7 @@ pub record IsSolved (given : Options) (a : Around) (report : Option Report) : Ty
   pub whole : given.split ≡ None
   pub done : Report
   pub reports : report ≡ Some done
-  pub is : IsReport program (mode_of given.mode program) given.budget done
+  pub is : IsReport program (ask_of given program) given.budget done
   pub proof : HasProof given.proof done
 
 -- the lines of a ring's answers are left out
@@ -165,6 +171,7 @@ Means given a report All = IsWritten given a report Finished true
 Means given a report NoModel = IsWritten given a report Finished false
 Means given a report Partial = IsWritten given a report Unfinished true
 Means given a report Unknown = IsWritten given a report Unfinished false
+Means given a report Enough = IsWritten given a report Limited true
 Means given a report Help = ⊥
 Means given a report Memory = IsUntouched a report
 Means given a report Usage = ⊥
@@ -209,7 +216,7 @@ pub record Delivers (brief : Bool) (p : Program) (r : Report) (held held' : Opti
 abbrev pub Solves : Options → Program → Option (List ℕ) → Option (List ℕ) → ℕ → ℕ → Outcome → Type 0
 Solves given p held held' writes writes' o =
     ((o ≡ record { status = Memory; report = None }) × Keeps held held' × (writes' ≡ writes))
-    ⊎ ((r : Report) × (IsReport p (mode_of given.mode p) given.budget r × HasProof given.proof r) × Delivers (is_brief given) p r held held' writes writes' o)
+    ⊎ ((r : Report) × (IsReport p (ask_of given p) given.budget r × HasProof given.proof r) × Delivers (is_brief given) p r held held' writes writes' o)
 
 -- The program was divided where parts are asked for, and else solved.
 abbrev pub DoesBy : Option ℕ → Options → Program → Option (List ℕ) → Option (List ℕ) → ℕ → ℕ → Outcome → Type 0

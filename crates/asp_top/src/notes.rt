@@ -68,6 +68,7 @@ fn write_note<N: Sink>(notes: &mut N, status: Status) -> Result<(), Failed>
         | Status::NoModel
         | Status::Partial
         | Status::Unknown
+        | Status::Enough
         | Status::Help
         | Status::Parts => write(notes, b""),
         Status::Memory => write(notes, b"aspenum: out of memory\n"),
@@ -84,7 +85,12 @@ fn is_answered(status: Status) -> bool
     ensures { result ≡ is_answered status }
 {
     match status {
-        Status::All | Status::NoModel | Status::Partial | Status::Unknown | Status::Parts => true,
+        Status::All
+        | Status::NoModel
+        | Status::Partial
+        | Status::Unknown
+        | Status::Enough
+        | Status::Parts => true,
         _ => false,
     }
 }

@@ -3,7 +3,7 @@ ghost use Rattle.std.specs.Prelude.{◌≡◌, IfOk, IfSome, false, true};
 ghost use Rattle.asp_cli.specs.Values.{IsCrew};
 ghost use Rattle.asp_crew_laws.specs.Proofs.{HasProof};
 ghost use Rattle.asp_crew_laws.specs.Reports.{IsReport};
-ghost use Rattle.asp_top.specs.Runs.{IsCounted, Solves, TellsFaults};
+ghost use Rattle.asp_top.specs.Runs.{IsCounted, Solves, TellsFaults, ask_of};
 
 use crate::counts::Tally;
 use crate::deliver::{deliver, failed};
@@ -14,13 +14,24 @@ use asp_crew::alone::solve_alone;
 use asp_crew::report::Report;
 use asp_crew::watch::{Counts, Watch};
 use asp_io::Sink;
-use asp_model::results::Mode;
+use asp_model::program::Program;
+use asp_model::results::Ask;
 use asp_team::gate::Gate;
 use asp_team::many;
 use asp_vars::compiled::Compiled;
 use std::alloc::{AllocError, Global};
 use std::sync::Wait;
 use std::thread::Threads;
+
+// What is asked of the program by the options.
+fn ask_of(options: &Options, program: &Program) -> Ask
+    ensures { result ≡ ask_of options.now program.now }
+{
+    Ask {
+        mode: mode_of(options.mode, program),
+        models: options.models,
+    }
+}
 
 /// One search solves it.
 pub fn solve<K: Sink, W: Watch>(
@@ -37,12 +48,12 @@ pub fn solve<K: Sink, W: Watch>(
     ensures heard { W.IsAfter watch.old watch.new }
 {
     let program = compiled.program();
-    let mode = mode_of(options.mode, program);
+    let ask = ask_of(options, program);
     let mut counts = Counts::new();
     match solve_alone(
         alloc,
         compiled,
-        mode,
+        ask,
         options.budget,
         options.proof,
         &mut counts,
@@ -62,19 +73,19 @@ fn solved_by_crew<R: Threads + Wait + Sync, G: Gate + Sync>(
     alloc: Global,
     options: &Options,
     compiled: &Compiled,
-    mode: Mode,
+    ask: Ask,
     gate: &G,
 ) -> Result<Report, AllocError>
     requires crew { IsCrew options.now.workers }
     requires proof { options.now.proof ≡ false }
-    ensures report { IfOk result (IsReport compiled.now mode options.now.budget) }
+    ensures report { IfOk result (IsReport compiled.now ask options.now.budget) }
     ensures proof { IfOk result (HasProof options.now.proof) }
 {
     many::solve(
         rt,
         alloc,
         compiled,
-        mode,
+        ask,
         options.budget,
         options.workers,
         gate,
@@ -98,8 +109,8 @@ pub fn solve_by_crew<R: Threads + Wait + Sync, K: Sink, G: Gate + Sync>(
     ensures counted { IfSome result.report (IsCounted false tally.new) }
 {
     let program = compiled.program();
-    let mode = mode_of(options.mode, program);
-    match solved_by_crew(rt, alloc, options, compiled, mode, gate) {
+    let ask = ask_of(options, program);
+    match solved_by_crew(rt, alloc, options, compiled, ask, gate) {
         Ok(report) => {
             *tally = Tally::of(compiled, None);
             deliver(sink, options.make.is_some(), program, report)

@@ -36,6 +36,7 @@ pub fn status_for(results: &Results) -> Status
     match (results.end, has_model(results)) {
         (End::Finished, true) => Status::All,
         (End::Finished, false) => Status::NoModel,
+        (End::Limited, _) => Status::Enough,
         (End::Unfinished, true) => Status::Partial,
         (End::Unfinished, false) => Status::Unknown,
     }

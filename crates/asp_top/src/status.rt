@@ -16,6 +16,8 @@ pub enum Status {
     Partial,
     /// The budget was spent with no model recorded.
     Unknown,
+    /// As many answers as asked for were found, and written.
+    Enough,
     /// Help or the version was asked for and written.
     Help,
     /// Memory ran out, and nothing was written to the sink.
@@ -44,6 +46,7 @@ impl Status {
             Status::NoModel => 20,
             Status::Partial => 10,
             Status::Unknown => 1,
+            Status::Enough => 11,
             Status::Help => 0,
             Status::Memory => 33,
             Status::Usage => 64,
@@ -56,8 +59,8 @@ impl Status {
     }
 }
 
-/// How a run ended, and its report where the search ended: with the statuses All, NoModel, Partial and Unknown, and where
-/// the results could not be written.
+/// How a run ended, and its report where the search ended: with the statuses All, NoModel, Partial, Unknown and Enough,
+/// and where the results could not be written.
 #[derive(Drop)]
 pub struct Outcome {
     /// The run's status, which gives the exit code.

@@ -1,5 +1,5 @@
 -- A worker's search beside the board once an answer was recorded, or units were leased.
-use Rattle.std.proofs.Common.{◌≡◌, ℕ, ◌+◌, ◌-◌, ◌^◌, ◌<◌, ◌≤◌, Bool, true, false, not, cond, ◌&&◌, eqb, leb, min, max, List, [], ◌∷◌, ◌++◌, length, Option, Some, None, refl, sym, ap, ◌∙◌, subst, arith}
+use Rattle.std.proofs.Common.{◌≡◌, ℕ, ◌+◌, ◌-◌, ◌^◌, ◌<◌, ◌≤◌, Bool, true, false, cond, eqb, min, max, List, [], ◌∷◌, ◌++◌, Option, Some, None, refl, sym, ap, ◌∙◌, subst, arith}
 use Rattle.std.specs.Prelude.{ℤ, IsTrue, option_map}
 use Rattle.std.specs.Option.{IfSome}
 use Rattle.std.proofs.lemmas.Bool.{eqb-true}
@@ -19,7 +19,7 @@ use Rattle.asp_core.specs.declared.event.Event.{Event}
 use Rattle.asp_core.specs.declared.event.Event.TheVariants as event
 use Rattle.asp_core.specs.declared.task.Task.{Task}
 use Rattle.asp_core.specs.Units.{out_of}
-use Rattle.asp_core.specs.Boards.{Board, start, distinct, lists, is_answer, optimises, is_enough}
+use Rattle.asp_core.specs.Boards.{Board, start, lists, is_answer, optimises}
 use Rattle.asp_core.specs.Events.{happens, replay}
 use Rattle.asp_core.specs.Growth.{Grows}
 use Rattle.asp_core.proofs.BoardLaws.{wanted-stand}
@@ -86,13 +86,8 @@ module _ (v w : Knows) (before : List Event) (stays : Stays v w) (s t : Searchin
         (subst (λ (o : Option (List ℤ)). IsAtWork (happens b (event.Deliver v.number S)) v.number Enum (s.known ++ S ∷ []) o u) (sym records-enum.1)
         (work-delivered b v.number S s.known s.bound u (at-moment Enum (event.Deliver v.number S ∷ []) call f) (guard-was v w before stays (event.Deliver v.number S) call) f.new)))
 
-    none-enough : IsRun (task_of v) → is_enough (replay (task_of v) before) ≡ false
-    none-enough run =
-        ap (λ n. not (eqb n 0) && leb n (length (distinct (replay (task_of v) before).answers)))
-        (ap (λ (x : Task). x.limit) (task-run (start (task_of v)) before) ∙ run.limit)
-
-    pub delivered-goes : IsRun (task_of v) → (r : Bool) → r ≡ not (is_enough (replay (task_of v) before)) → IsCall v w before (delivered v.number S r) → GoesOn Enum w t u
-    delivered-goes run r e call = goes-delivered (subst (λ x. IsCall v w before (delivered v.number S x)) (e ∙ ap not (none-enough run)) call)
+    pub delivered-goes : (r : Bool) → r ≡ true → IsCall v w before (delivered v.number S r) → GoesOn Enum w t u
+    delivered-goes r e call = goes-delivered (subst (λ x. IsCall v w before (delivered v.number S x)) e call)
 
     pub delivered-idles : (r : Bool) → IsCall v w before (delivered v.number S r) → Idles v w
     delivered-idles true call = idles-now v w before stays (event.Deliver v.number S) call refl refl

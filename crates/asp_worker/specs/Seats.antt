@@ -28,9 +28,8 @@ use Rattle.asp_crew_laws.specs.Working.{IsSeated}
 use Rattle.asp_worker.specs.declared.worker.Worker.{Worker}
 use Rattle.asp_worker.specs.declared.worker.Shared.{Shared}
 
--- The run has no limit and no query, and no more units than a word counts.
+-- The run has no query, and no more units than a word counts.
 pub record IsRun (t : Task) : Type 0 where
-  pub limit : t.limit ≡ 0
   pub query : t.query ≡ []
   pub budget : t.budget < 2 ^ 64
 

@@ -9,5 +9,6 @@ pub mod halt;
 mod path;
 mod share;
 mod sharing;
+mod stop;
 pub mod work;
 pub mod worker;

@@ -10,8 +10,9 @@ ghost use Rattle.asp_worker.specs.Working.{GoesOn, IsOn, IsOff, IsCourse, IsWay}
 
 use crate::engine::Engine;
 use crate::halt::Halt;
-use crate::share::{begin, share};
+use crate::share::{begin, is_enough, share};
 use crate::sharing::{export, lease, record, refresh};
+use crate::stop::Stop;
 use crate::worker::{Shared, Worker};
 use asp_book::book::Book;
 use asp_book::desk;
@@ -26,7 +27,7 @@ use std::sync::Wait;
 pub(crate) enum Way {
     /// It is closed.
     Closed,
-    /// The worker still has it, and ends.
+    /// As many answers as asked for were delivered, no unit was left, or the worker was stopped. It still has the path, and ends.
     Left,
     /// Memory was wanting. The worker still has it, and ends.
     Short,
@@ -70,7 +71,7 @@ fn advance<R: Wait>(
     worker: &mut Worker,
     engine: &mut Engine<'_>,
     leaf: Leaf,
-) -> Result<Course, AllocError>
+) -> Result<Course, Stop>
     requires ready { IsReady shared.now worker.old }
     requires on { IsOn shared.now.mode (view worker.old.seat) engine.old.search engine.old.fuel leaf }
     requires read { engine.old.read ≤ length (view worker.old.pages).seen }
@@ -116,7 +117,7 @@ fn search_path<R: Wait, H: Halt>(
     worker: &mut Worker,
     engine: &mut Engine<'_>,
     leaf: &mut Leaf,
-) -> Result<Way, AllocError>
+) -> Result<Way, Stop>
     requires ready { IsReady shared.now worker.old }
     requires number { 0 < (view worker.old.seat).number }
     requires on { IsOn shared.now.mode (view worker.old.seat) engine.old.search engine.old.fuel leaf.old }
@@ -146,7 +147,7 @@ fn search_path<R: Wait, H: Halt>(
     unreachable!()
 }
 
-// Begins a path, and searches it.
+// Begins a path, if answers are wanted still, and searches it.
 fn try_path<R: Wait, H: Halt>(
     rt: &R,
     shared: &Shared,
@@ -154,7 +155,7 @@ fn try_path<R: Wait, H: Halt>(
     worker: &mut Worker,
     engine: &mut Engine<'_>,
     leaf: &mut Leaf,
-) -> Result<Way, AllocError>
+) -> Result<Way, Stop>
     requires ready { IsReady shared.now worker.old }
     requires number { 0 < (view worker.old.seat).number }
     requires held { Holds (view worker.old.seat) leaf.old }
@@ -166,6 +167,9 @@ fn try_path<R: Wait, H: Halt>(
     ensures ok { IfOk result (IsWay shared.now.mode (view worker.new.seat) engine.new.search engine.new.fuel leaf.new) }
     ensures err { OnErr result (IsOff (view worker.new.seat) engine.new.fuel leaf.new) }
 {
+    if is_enough(rt, shared, worker) {
+        return Err(Stop::Enough);
+    }
     begin(rt, shared, worker, engine, *leaf)?;
     search_path(rt, shared, halt, worker, engine, leaf)
 }
@@ -191,6 +195,7 @@ pub(crate) fn path<R: Wait, H: Halt>(
 {
     match try_path(rt, shared, halt, worker, engine, leaf) {
         Ok(way) => way,
-        Err(_) => Way::Short,
+        Err(Stop::Enough) => Way::Left,
+        Err(Stop::Memory) => Way::Short,
     }
 }

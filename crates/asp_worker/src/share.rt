@@ -1,7 +1,8 @@
-//! How a worker gives away half of its path.
-ghost use Rattle.std.specs.Prelude.{◌≡◌, ◌≤◌, length, false, OnOk, OnErr};
+//! How a worker gives away half of its path, and when it gives all of it up.
+ghost use Rattle.std.specs.Prelude.{◌≡◌, ◌≤◌, length, true, false, IsTrue, OnOk, OnErr};
 ghost use Rattle.asp_vault.specs.Seats.{view, IsOf, IsBeside};
 ghost use Rattle.asp_path.specs.Trees.{cube_of};
+ghost use Rattle.asp_core.specs.Boards.{is_enough};
 ghost use Rattle.asp_core.specs.Events.{has_var, IsVariable};
 ghost use Rattle.asp_book.specs.Calls.{task_of, seen_board};
 ghost use Rattle.asp_search.specs.Beside.{Enters};
@@ -10,6 +11,7 @@ ghost use Rattle.asp_worker.specs.Working.{GoesOn, IsOn, IsOff};
 
 use crate::engine::Engine;
 use crate::sharing::refresh;
+use crate::stop::Stop;
 use crate::worker::{Shared, Worker};
 use asp_book::book::Book;
 use asp_book::desk;
@@ -21,7 +23,7 @@ use asp_vault::Seat;
 use std::alloc::AllocError;
 use std::sync::Wait;
 
-/// After so many steps a worker looks whether others want a path.
+/// After so many steps a worker looks whether others want a path, and whether answers are wanted still.
 const STRIDE: u64 = 32;
 
 // Begins the search of a path that the worker holds.
@@ -95,11 +97,10 @@ fn divide<R: Wait>(
     }
 }
 
-/// Where it is time and others want a path, splits that of this worker on its first decision, offers one half and goes on with
-/// the other.
-///
-/// The path that the worker then has is in `leaf`, also after want of memory.
-pub(crate) fn share<R: Wait>(
+// Where others want a path, splits that of this worker on its first decision, offers one half and goes on with the other.
+//
+// The path that the worker then has is in `leaf`, also after want of memory.
+fn offer_half<R: Wait>(
     rt: &R,
     shared: &Shared,
     worker: &mut Worker,
@@ -115,9 +116,6 @@ pub(crate) fn share<R: Wait>(
     ensures ok { OnOk result (IsOn shared.now.mode (view worker.new.seat) engine.new.search engine.new.fuel leaf.new) }
     ensures err { OnErr result (IsOff (view worker.new.seat) engine.new.fuel leaf.new) }
 {
-    if engine.step % STRIDE != 0 {
-        return Ok(());
-    }
     match engine.search.first() {
         None => Ok(()),
         Some(lit) => {
@@ -133,4 +131,47 @@ pub(crate) fn share<R: Wait>(
             }
         }
     }
+}
+
+/// Whether as many answers as asked for were delivered.
+pub(crate) fn is_enough<R: Wait>(rt: &R, shared: &Shared, worker: &mut Worker) -> bool
+    requires ready { IsReady shared.now worker.old }
+    ensures keeps { Keeps worker.old worker.new }
+    ensures ready { IsReady shared.now worker.new }
+    ensures idles { Idles (view worker.old.seat) (view worker.new.seat) }
+    ensures enough { IsTrue result → is_enough (seen_board (view worker.new.seat)) ≡ true }
+{
+    if shared.models == 0 {
+        return false;
+    }
+    desk::enough(rt, &shared.book, &mut worker.seat)
+}
+
+/// Where it is time, stops if as many answers as asked for were delivered, and else gives half of the path away if others want one.
+///
+/// The path that the worker then has is in `leaf`, also after an error.
+pub(crate) fn share<R: Wait>(
+    rt: &R,
+    shared: &Shared,
+    worker: &mut Worker,
+    engine: &mut Engine<'_>,
+    leaf: &mut Leaf,
+) -> Result<(), Stop>
+    requires ready { IsReady shared.now worker.old }
+    requires on { IsOn shared.now.mode (view worker.old.seat) engine.old.search engine.old.fuel leaf.old }
+    requires read { engine.old.read ≤ length (view worker.old.pages).seen }
+    ensures keeps { Keeps worker.old worker.new }
+    ensures ready { IsReady shared.now worker.new }
+    ensures read { engine.new.read ≤ length (view worker.new.pages).seen }
+    ensures ok { OnOk result (IsOn shared.now.mode (view worker.new.seat) engine.new.search engine.new.fuel leaf.new) }
+    ensures err { OnErr result (IsOff (view worker.new.seat) engine.new.fuel leaf.new) }
+{
+    if engine.step % STRIDE != 0 {
+        return Ok(());
+    }
+    if is_enough(rt, shared, worker) {
+        return Err(Stop::Enough);
+    }
+    offer_half(rt, shared, worker, engine, leaf)?;
+    Ok(())
 }

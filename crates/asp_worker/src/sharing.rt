@@ -13,6 +13,7 @@ ghost use Rattle.asp_worker.specs.Sharing.{is_smaller, lowered, with_best, Impor
 ghost use Rattle.asp_worker.specs.Working.{GoesOn, Finds};
 
 use crate::engine::Engine;
+use crate::stop::Stop;
 use crate::worker::{Shared, Worker};
 use asp_book::book::Book;
 use asp_book::desk;
@@ -158,14 +159,14 @@ pub(crate) fn export<R: Wait>(
     }
 }
 
-// Lists an answer that the search has found.
+// Lists an answer that the search has found, unless as many as asked for were listed before.
 fn list<R: Wait>(
     rt: &R,
     shared: &Shared,
     seat: &mut Seat<Book>,
     engine: &mut Engine<'_>,
     set: Interp,
-) -> Result<(), AllocError>
+) -> Result<(), Stop>
     requires of { IsOf shared.now.book seat.old }
     requires settled { IsSettled (view seat.old) }
     requires found { (s : Searching) × (leaf : ℕ) × Finds mode.Enum (view seat.old) s engine.old.search engine.old.fuel leaf set }
@@ -174,8 +175,8 @@ fn list<R: Wait>(
     ensures engine { (engine.new.search ≡ engine.old.search) × (engine.new.fuel ≡ engine.old.fuel) × (engine.new.read ≡ engine.old.read) }
     ensures ok { OnOk result (GoesOn mode.Enum (view seat.new) engine.new.search engine.new.fuel) }
 {
-    let _listed = desk::deliver(rt, &shared.book, seat, set)?;
-    Ok(())
+    let listed = desk::deliver(rt, &shared.book, seat, set)?;
+    if listed { Ok(()) } else { Err(Stop::Enough) }
 }
 
 // Makes an answer that the search has found the best one, or takes over the cost of one that is no dearer.
@@ -201,14 +202,14 @@ fn improve<R: Wait>(
     }
 }
 
-/// Records an answer that the search has found.
+/// Records an answer that the search has found, unless there are as many as asked for.
 pub(crate) fn record<R: Wait>(
     rt: &R,
     shared: &Shared,
     seat: &mut Seat<Book>,
     engine: &mut Engine<'_>,
     set: Interp,
-) -> Result<(), AllocError>
+) -> Result<(), Stop>
     requires of { IsOf shared.now.book seat.old }
     requires settled { IsSettled (view seat.old) }
     requires found { (s : Searching) × (leaf : ℕ) × Finds shared.now.mode (view seat.old) s engine.old.search engine.old.fuel leaf set }
@@ -219,7 +220,10 @@ pub(crate) fn record<R: Wait>(
 {
     match shared.mode {
         Mode::Enum => list(rt, shared, seat, engine, set),
-        Mode::Opt => improve(rt, shared, seat, engine, set),
+        Mode::Opt => {
+            improve(rt, shared, seat, engine, set)?;
+            Ok(())
+        }
     }
 }
 

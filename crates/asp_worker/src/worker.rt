@@ -13,6 +13,8 @@ pub struct Shared {
     pub alloc: Global,
     /// What is sought.
     pub mode: Mode,
+    /// How many different answers are enough. With 0 there is no limit.
+    pub models: u64,
     /// How many workers there are, 1 to 64.
     pub workers: u32,
     /// The paths and what was recorded.

@@ -1,7 +1,5 @@
-use Rattle.std.proofs.Common.{length}
-use Rattle.asp_path.specs.Trees.{open_from}
 use Rattle.asp_book.specs.Books.{board}
-use Rattle.asp_crew.proofs.FinishLaws.{IsBetween}
+use Rattle.asp_crew.proofs.FinishLaws.{IsBetween, takes_left}
 use Rattle.asp_crew.proofs.finish.work_off_all.Given as goal
 
 abbrev pub invariant-leaves : goal.invariant-leaves
@@ -11,4 +9,4 @@ invariant-leaves g l = record {
 }
 
 abbrev pub decreases-leaves : goal.decreases-leaves
-decreases-leaves g l = length (open_from 0 (board l.book).nodes)
+decreases-leaves g l = takes_left (board l.book)

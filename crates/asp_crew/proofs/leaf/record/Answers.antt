@@ -19,13 +19,13 @@ improve-requires-clause-answer c = answer-now c.args.book.now c.args.set c.requi
 
 pub returns-in_ok-_listed-in-Enum-clause-only : goal.returns-in_ok-_listed-in-Enum-clause-only
 returns-in_ok-_listed-in-Enum-clause-only c =
-    (recorded-delivered c.args.book.now c.deliver.new.self c.args.set c.in_ok-_listed-in-Enum._listed (subst (λ (m : Mode). IsRunIn m c.args.book.now.task) c.in-Enum.is c.requires.task) c.requires.answer c.in_ok-_listed-in-Enum.ensures.enough
+    (recorded-delivered c.args.book.now c.deliver.new.self c.args.set c.in_ok-_listed-in-Enum._listed (subst (λ (m : Mode). IsRunIn m c.args.book.now.task) c.in-Enum.is c.requires.task) c.requires.answer c.requires.wanted c.in_ok-_listed-in-Enum.ensures.enough
     c.in_ok-_listed-in-Enum.ensures.journal).only
 
 pub returns-in_ok-_listed-in-Enum-clause-recorded : goal.returns-in_ok-_listed-in-Enum-clause-recorded
 returns-in_ok-_listed-in-Enum-clause-recorded c =
     subst (λ (m : Mode). IsRecorded m (board c.args.book.now) (board c.deliver.new.self) c.args.set) (sym c.in-Enum.is)
-    (recorded-delivered c.args.book.now c.deliver.new.self c.args.set c.in_ok-_listed-in-Enum._listed (subst (λ (m : Mode). IsRunIn m c.args.book.now.task) c.in-Enum.is c.requires.task) c.requires.answer c.in_ok-_listed-in-Enum.ensures.enough
+    (recorded-delivered c.args.book.now c.deliver.new.self c.args.set c.in_ok-_listed-in-Enum._listed (subst (λ (m : Mode). IsRunIn m c.args.book.now.task) c.in-Enum.is c.requires.task) c.requires.answer c.requires.wanted c.in_ok-_listed-in-Enum.ensures.enough
     c.in_ok-_listed-in-Enum.ensures.journal).recorded
 
 pub returns-in_ok-_best-in-Opt-clause-only : goal.returns-in_ok-_best-in-Opt-clause-only

@@ -1,7 +1,7 @@
-use Rattle.std.proofs.Common.{subst}
+use Rattle.std.proofs.Common.{sym, ◌∙◌, subst}
 use Rattle.asp_crew.specs.declared.leaf.Course.{Course}
 use Rattle.asp_crew.specs.Running.{Goes}
-use Rattle.asp_crew.proofs.StepLaws.{along-begins, along-on, along-closed, along-stopped}
+use Rattle.asp_crew.proofs.StepLaws.{along-begins, along-on, along-closed, along-stopped, along-enough}
 use Rattle.asp_crew.proofs.leaf.run.Goals as goal
 
 pub steps-init : goal.steps-init
@@ -35,3 +35,7 @@ returns-in-Unpaid-clause-ends g c =
 
 pub returns-in-Unpaid-clause-heard : goal.returns-in-Unpaid-clause-heard
 returns-in-Unpaid-clause-heard g c = g.met.W.Watch.goes_on c.args.watch.now c.steps.watch c.tell.new.watch c.steps.invariant.heard c.tell.ensures
+
+pub returns-then-enough-clause-ends : goal.returns-then-enough-clause-ends
+returns-then-enough-clause-ends g c =
+    along-enough c.args.mode c.args.book.now c.steps.book c.args.search.now c.steps.search c.steps.fuel c.steps.invariant.along (sym c.enough.ensures ∙ c.if-enough.true)

@@ -6,7 +6,7 @@ use Rattle.asp_team.proofs.TeamLaws.{begun-is, opened-idle}
 use Rattle.asp_team.proofs.team.forked.Goals as goal
 
 pub fork_all-requires-clause-idle : goal.fork_all-requires-clause-idle
-fork_all-requires-clause-idle g c = opened-idle c.args.compiled.now c.args.mode c.args.budget (view c.in_ok-book.seat) (omega (arith, c.ranges.budget)) c.in_ok-book.ensures.view
+fork_all-requires-clause-idle g c = opened-idle c.args.compiled.now c.args.ask c.args.budget (view c.in_ok-book.seat) (omega (arith, c.ranges.budget)) c.in_ok-book.ensures.view
 
 pub fork_all-requires-clause-program : goal.fork_all-requires-clause-program
 fork_all-requires-clause-program g c = ap (λ (x : Knows). (task_of x).program) c.in_ok-book.ensures.view
@@ -16,5 +16,5 @@ survey-requires-clause-first g c = c.fork_all.ensures.stays.number ∙ ap (λ (x
 
 pub returns-clause-begun : goal.returns-clause-begun
 returns-clause-begun g c =
-    begun-is (runs.task_of c.args.compiled.now c.args.mode c.args.budget) (view c.in_ok-book.seat) (view c.fork_all.new.seat) (view c.survey.new.seat) c.in_ok-book.ensures.view c.fork_all.ensures.stays c.survey.ensures.stays
+    begun-is (runs.task_of c.args.compiled.now c.args.ask c.args.budget) (view c.in_ok-book.seat) (view c.fork_all.new.seat) (view c.survey.new.seat) c.in_ok-book.ensures.view c.fork_all.ensures.stays c.survey.ensures.stays
     c.survey.ensures.idle c.survey.ensures.new

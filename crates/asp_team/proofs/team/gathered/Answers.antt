@@ -3,7 +3,7 @@ use Rattle.asp_team.proofs.TeamLaws.{host-begun}
 use Rattle.asp_team.proofs.team.gathered.Goals as goal
 
 pub workers-requires-clause-host : goal.workers-requires-clause-host
-workers-requires-clause-host g c = host-begun c.args.compiled.now c.args.mode c.args.budget _ _ refl c.in_ok-book.ensures.of c.in_ok-log.ensures.of c.in_ok-book.ensures.begun c.in_ok-log.ensures.paged c.in_ok-log.ensures.first
+workers-requires-clause-host g c = host-begun c.args.compiled.now c.args.ask c.args.budget _ _ refl c.in_ok-book.ensures.of c.in_ok-log.ensures.of c.in_ok-book.ensures.begun c.in_ok-log.ensures.paged c.in_ok-log.ensures.first
 
 pub workers-requires-clause-none_out : goal.workers-requires-clause-none_out
 workers-requires-clause-none_out g c = (c.in_ok-book.ensures.begun.out, c.in_ok-log.ensures.out)

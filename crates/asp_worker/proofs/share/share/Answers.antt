@@ -1,81 +1,35 @@
-use Rattle.std.proofs.Common.{refl}
 use Rattle.asp_vault.specs.Seats.{view}
 use Rattle.asp_book.specs.Calls.{Knows}
-use Rattle.asp_worker.specs.declared.worker.Worker.{Worker}
-use Rattle.asp_worker.specs.Seats.{Idles}
-use Rattle.asp_worker.proofs.SeatLaws.{idles-call, idles-passes, holds-idles, keeps-self, keeps-seat, keeps-trans, ready-seat, half-none}
-use Rattle.asp_worker.proofs.GoingLaws.{goes-on, on-on, owes-on}
 use Rattle.asp_worker.specs.Working.{IsOff}
+use Rattle.asp_worker.proofs.SeatLaws.{keeps-self, keeps-trans}
+use Rattle.asp_worker.proofs.GoingLaws.{on-on, on-off, off-on}
 use Rattle.asp_worker.proofs.Replies.{always-err}
-use Rattle.asp_worker.proofs.PathLaws.{kept-on, open-first}
+use Rattle.asp_worker.proofs.SharingLaws.{still-read}
 use Rattle.asp_worker.proofs.share.share.Goals as goal
-
-pub returns-in-None-clause-keeps : goal.returns-in-None-clause-keeps
-returns-in-None-clause-keeps g c = keeps-self c.args.shared.now c.args.worker.now c.requires.ready
-
-pub returns-then-not-wanted-clause-keeps : goal.returns-then-not-wanted-clause-keeps
-returns-then-not-wanted-clause-keeps g c =
-    let h : Worker = c.args.worker.now in let k : Worker = record h { seat = c.wanted.new.seat } in
-    keeps-seat c.args.shared.now h k c.requires.ready c.wanted.ensures.of c.wanted.ensures.stays refl refl
-
-pub returns-then-not-wanted-clause-ready : goal.returns-then-not-wanted-clause-ready
-returns-then-not-wanted-clause-ready g c =
-    let h : Worker = c.args.worker.now in let k : Worker = record h { seat = c.wanted.new.seat } in
-    let i : Idles (view h.seat) (view k.seat) = idles-call (view h.seat) (view k.seat) c.wanted.ensures.call.0 c.wanted.ensures.stays c.wanted.ensures.call.2 in
-    ready-seat c.args.shared.now h k c.requires.ready (keeps-seat c.args.shared.now h k c.requires.ready c.wanted.ensures.of c.wanted.ensures.stays refl refl) c.requires.ready.pool i.lawful
-
-pub returns-then-not-wanted-clause-ok : goal.returns-then-not-wanted-clause-ok
-returns-then-not-wanted-clause-ok g c =
-    let v : Knows = view c.args.worker.now.seat in let m : Knows = view c.wanted.new.seat in
-    on-on c.args.shared.now.mode v m c.args.engine.now.search c.args.engine.now.fuel c.args.leaf.now c.requires.on (idles-call v m c.wanted.ensures.call.0 c.wanted.ensures.stays c.wanted.ensures.call.2)
-
-pub divide-requires-clause-ready : goal.divide-requires-clause-ready
-divide-requires-clause-ready g c =
-    let h : Worker = c.args.worker.now in let k : Worker = record h { seat = c.wanted.new.seat } in
-    let i : Idles (view h.seat) (view k.seat) = idles-call (view h.seat) (view k.seat) c.wanted.ensures.call.0 c.wanted.ensures.stays c.wanted.ensures.call.2 in
-    ready-seat c.args.shared.now h k c.requires.ready (keeps-seat c.args.shared.now h k c.requires.ready c.wanted.ensures.of c.wanted.ensures.stays refl refl) c.requires.ready.pool i.lawful
-
-pub divide-requires-clause-held : goal.divide-requires-clause-held
-divide-requires-clause-held g c =
-    let v : Knows = view c.args.worker.now.seat in let m : Knows = view c.wanted.new.seat in
-    holds-idles v m c.args.leaf.now c.requires.on.works.held (idles-call v m c.wanted.ensures.call.0 c.wanted.ensures.stays c.wanted.ensures.call.2)
-
-pub divide-requires-clause-variable : goal.divide-requires-clause-variable
-divide-requires-clause-variable g c =
-    let v : Knows = view c.args.worker.now.seat in let m : Knows = view c.wanted.new.seat in
-    (open-first c.args.shared.now.mode v m c.args.engine.now.search c.args.engine.now.fuel c.args.leaf.now c.in-Some.lit c.first.result c.requires.on (idles-call v m c.wanted.ensures.call.0 c.wanted.ensures.stays c.wanted.ensures.call.2) c.first.ensures.splits c.in-Some.is).0
-
-pub divide-requires-clause-new : goal.divide-requires-clause-new
-divide-requires-clause-new g c =
-    let v : Knows = view c.args.worker.now.seat in let m : Knows = view c.wanted.new.seat in
-    (open-first c.args.shared.now.mode v m c.args.engine.now.search c.args.engine.now.fuel c.args.leaf.now c.in-Some.lit c.first.result c.requires.on (idles-call v m c.wanted.ensures.call.0 c.wanted.ensures.stays c.wanted.ensures.call.2) c.first.ensures.splits c.in-Some.is).1
 
 pub returns-then-engine-ne0-clause-keeps : goal.returns-then-engine-ne0-clause-keeps
 returns-then-engine-ne0-clause-keeps g c = keeps-self c.args.shared.now c.args.worker.now c.requires.ready
 
-pub returns-in_err-divide-in-Some-clause-keeps : goal.returns-in_err-divide-in-Some-clause-keeps
-returns-in_err-divide-in-Some-clause-keeps g c =
-    let h : Worker = c.args.worker.now in let k : Worker = record h { seat = c.wanted.new.seat } in
-    keeps-trans h k c.divide.new.worker (keeps-seat c.args.shared.now h k c.requires.ready c.wanted.ensures.of c.wanted.ensures.stays refl refl) c.divide.ensures.keeps
+pub returns-then-is_enough-clause-read : goal.returns-then-is_enough-clause-read
+returns-then-is_enough-clause-read g c = still-read c.args.engine.now.read (view c.args.worker.now.pages).seen (view c.is_enough.new.worker.pages).seen c.is_enough.ensures.keeps.pages.seen c.requires.read
 
-pub returns-in_err-divide-in-Some-clause-err : goal.returns-in_err-divide-in-Some-clause-err
-returns-in_err-divide-in-Some-clause-err g c =
-    let v : Knows = view c.args.worker.now.seat in let m : Knows = view c.wanted.new.seat in let w : Knows = view c.divide.new.worker.seat in
-    let i : Idles v m = idles-call v m c.wanted.ensures.call.0 c.wanted.ensures.stays c.wanted.ensures.call.2 in
-    always-err c.from_residual.result (IsOff w c.args.engine.now.fuel c.args.leaf.now)
-    (record { held = c.in_err-divide-in-Some.ensures.half; units = owes-on m w c.args.engine.now.fuel (owes-on v m c.args.engine.now.fuel c.requires.on.going.work.units (idles-passes v m i)) c.divide.ensures.passes })
+pub returns-then-is_enough-clause-err : goal.returns-then-is_enough-clause-err
+returns-then-is_enough-clause-err g c =
+    let v : Knows = view c.args.worker.now.seat in let w : Knows = view c.is_enough.new.worker.seat in
+    off-on v w c.args.engine.now.fuel c.args.leaf.now (on-off c.args.shared.now.mode v c.args.engine.now.search c.args.engine.now.fuel c.args.leaf.now c.requires.on) c.is_enough.ensures.idles
 
-pub begin-requires-clause-going : goal.begin-requires-clause-going
-begin-requires-clause-going g c =
-    let v : Knows = view c.args.worker.now.seat in let m : Knows = view c.wanted.new.seat in let w : Knows = view c.divide.new.worker.seat in
-    let i : Idles v m = idles-call v m c.wanted.ensures.call.0 c.wanted.ensures.stays c.wanted.ensures.call.2 in
-    goes-on c.args.shared.now.mode m w c.args.engine.now.search c.args.engine.now.fuel
-    (goes-on c.args.shared.now.mode v m c.args.engine.now.search c.args.engine.now.fuel c.requires.on.going (idles-passes v m i)) c.divide.ensures.passes
+pub offer_half-requires-clause-on : goal.offer_half-requires-clause-on
+offer_half-requires-clause-on g c =
+    on-on c.args.shared.now.mode (view c.args.worker.now.seat) (view c.is_enough.new.worker.seat) c.args.engine.now.search c.args.engine.now.fuel c.args.leaf.now c.requires.on c.is_enough.ensures.idles
 
-pub returns-in-None-2-clause-ok : goal.returns-in-None-2-clause-ok
-returns-in-None-2-clause-ok g c =
-    let v : Knows = view c.args.worker.now.seat in let m : Knows = view c.wanted.new.seat in let w : Knows = view c.divide.new.worker.seat in
-    let i : Idles v m = idles-call v m c.wanted.ensures.call.0 c.wanted.ensures.stays c.wanted.ensures.call.2 in
-    kept-on c.args.shared.now.mode m w c.args.engine.now.search c.args.engine.now.fuel c.args.leaf.now
-    (on-on c.args.shared.now.mode v m c.args.engine.now.search c.args.engine.now.fuel c.args.leaf.now c.requires.on i) c.divide.ensures.passes
-    (half-none m w c.args.leaf.now c.in-Some.lit c.in_ok-divide-in-Some.field-0 c.in_ok-divide-in-Some.ensures.half c.in-None-2.is)
+pub offer_half-requires-clause-read : goal.offer_half-requires-clause-read
+offer_half-requires-clause-read g c = still-read c.args.engine.now.read (view c.args.worker.now.pages).seen (view c.is_enough.new.worker.pages).seen c.is_enough.ensures.keeps.pages.seen c.requires.read
+
+pub returns-clause-keeps : goal.returns-clause-keeps
+returns-clause-keeps g c = keeps-trans c.args.worker.now c.is_enough.new.worker c.offer_half.new.worker c.is_enough.ensures.keeps c.offer_half.ensures.keeps
+
+pub returns-in_err-offer_half-clause-keeps : goal.returns-in_err-offer_half-clause-keeps
+returns-in_err-offer_half-clause-keeps g c = keeps-trans c.args.worker.now c.is_enough.new.worker c.offer_half.new.worker c.is_enough.ensures.keeps c.offer_half.ensures.keeps
+
+pub returns-in_err-offer_half-clause-err : goal.returns-in_err-offer_half-clause-err
+returns-in_err-offer_half-clause-err g c = always-err c.from_residual.result (IsOff (view c.offer_half.new.worker.seat) c.offer_half.new.engine.fuel c.offer_half.new.leaf) c.in_err-offer_half.ensures.err

@@ -16,6 +16,6 @@ pub returns-in-Enum-clause-ok : goal.returns-in-Enum-clause-ok
 returns-in-Enum-clause-ok g c =
     on-ok c.list.result (λ h. (subst (λ (m : Mode). GoesOn m (view c.list.new.seat) c.list.new.engine.search c.list.new.engine.fuel) (sym c.in-Enum.is) h, ap (λ (x : Searching). x.cube) c.list.ensures.engine.0)) c.list.ensures.ok
 
-pub returns-in-Opt-clause-ok : goal.returns-in-Opt-clause-ok
-returns-in-Opt-clause-ok g c =
-    on-ok c.improve.result (λ h. (subst (λ (m : Mode). GoesOn m (view c.improve.new.seat) c.improve.new.engine.search c.improve.new.engine.fuel) (sym c.in-Opt.is) h.0, h.1)) c.improve.ensures.ok
+pub returns-in_ok-improve-in-Opt-clause-ok : goal.returns-in_ok-improve-in-Opt-clause-ok
+returns-in_ok-improve-in-Opt-clause-ok g c =
+    (subst (λ (m : Mode). GoesOn m (view c.improve.new.seat) c.improve.new.engine.search c.improve.new.engine.fuel) (sym c.in-Opt.is) c.in_ok-improve-in-Opt.ensures.ok.0, c.in_ok-improve-in-Opt.ensures.ok.1)

@@ -1,0 +1,18 @@
+//! Why a worker gives up a path.
+
+use std::alloc::AllocError;
+
+/// Why a worker gives up a path before it is closed.
+#[derive(Clone, Copy)]
+pub(crate) enum Stop {
+    /// As many answers as asked for were delivered.
+    Enough,
+    /// Memory was wanting.
+    Memory,
+}
+
+impl From<AllocError> for Stop {
+    fn from(_error: AllocError) -> Stop {
+        Stop::Memory
+    }
+}
