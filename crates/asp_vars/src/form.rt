@@ -84,6 +84,25 @@ fn entries(alloc: Global, map: &BTreeMap<i32, i64>) -> Result<Vec<(i32, i64)>, A
     map.iter().map(|(key, value)| (*key, *value)).collect(alloc)
 }
 
+// The literals, each once, ascending.
+fn sorted(alloc: Global, literals: &[i32]) -> Result<Seq<i32>, AllocError>
+    ensures { IfOk result (λ seq. seq ≡ fold (λ ks l. with_literal l ks) [] literals.now) }
+{
+    let set = literal_set(alloc, literals)?;
+    let literals = keys(alloc, &set)?;
+    Ok(Seq::from_vec(literals))
+}
+
+// The literals, ascending, each with the sum of its weights.
+fn summed(alloc: Global, items: &[(i32, i32)]) -> Result<Seq<(i32, i64)>, AllocError>
+    requires { length items.now ≤ 16777216 }
+    ensures { IfOk result (λ seq. seq ≡ fold (λ js i. if int_eq i.1 (pos 0) then js else with_weight i js) [] items.now) }
+{
+    let sums = weight_sums(alloc, items)?;
+    let items = entries(alloc, &sums)?;
+    Ok(Seq::from_vec(items))
+}
+
 /// The normal form of a body.
 pub fn normal_form(alloc: Global, body: &Body) -> Result<Form, AllocError>
     requires { weighted_count body.now ≤ 16777216 }
@@ -91,14 +110,12 @@ pub fn normal_form(alloc: Global, body: &Body) -> Result<Form, AllocError>
 {
     match body {
         Body::All(literals) => {
-            let set = literal_set(alloc, literals.as_slice())?;
-            let literals = keys(alloc, &set)?;
-            Ok(Form::All(Seq::from_vec(literals)))
+            let literals = sorted(alloc, literals.as_slice())?;
+            Ok(Form::All(literals))
         }
         Body::AtLeast(bound, items) => {
-            let sums = weight_sums(alloc, items.as_slice())?;
-            let items = entries(alloc, &sums)?;
-            Ok(Form::AtLeast(*bound, Seq::from_vec(items)))
+            let items = summed(alloc, items.as_slice())?;
+            Ok(Form::AtLeast(*bound, items))
         }
     }
 }
