@@ -15,6 +15,7 @@ ghost use Rattle.asp_book.specs.Fuels.{ComesBack, IsOwnFuel};
 ghost use Rattle.asp_book.specs.Replies.{Divides, Improves, IsWanted, taken, taken_this, divided, delivered, improved, leased_out, given_back};
 
 use crate::write::{make_room, write};
+use asp_core::entry::Entry;
 use asp_core::event::Event;
 use asp_core::state::State;
 use asp_model::cost::Cost;
@@ -36,7 +37,7 @@ pub struct Book {
     /// The board, whose state the journal leads to.
     state: State,
     /// What happened, the oldest event first.
-    journal: Vec<Event>,
+    journal: Vec<Entry>,
     /// The units that are not out on lease.
     fuel: Fuel,
     /// So many places of the journal are promised to calls that must not want memory: one for each leaf that is held.
@@ -93,7 +94,7 @@ impl Book {
     }
 
     /// The journal replays to the board, and each of its events was lawful where it happened.
-    pub fn journal(&self) -> &[Event]
+    pub fn journal(&self) -> &[Entry]
         ensures journal { result.now ≡ self.now.journal }
         ensures lawful { IsJournalOf self.now.task self.now.journal }
     {
@@ -108,12 +109,7 @@ impl Book {
         ensures err { OnErr result (self.new ≡ self.old) }
     {
         make_room(&mut self.journal, self.places, 2)?;
-        write(
-            &mut self.state,
-            &mut self.journal,
-            Event::Take(by, leaf),
-            Event::Take(by, leaf),
-        )?;
+        write(&mut self.state, &mut self.journal, Event::Take(by, leaf))?;
         self.places += 1;
         Ok(())
     }
@@ -182,7 +178,6 @@ impl Book {
             &mut self.state,
             &mut self.journal,
             Event::Split(by, leaf, lit),
-            Event::Split(by, leaf, lit),
         )?;
         Ok(Some((first, first + 1)))
     }
@@ -198,14 +193,8 @@ impl Book {
         if self.state.enough() {
             return Ok(false);
         }
-        let again = set.copy()?;
         make_room(&mut self.journal, self.places, 1)?;
-        write(
-            &mut self.state,
-            &mut self.journal,
-            Event::Deliver(by, set),
-            Event::Deliver(by, again),
-        )?;
+        write(&mut self.state, &mut self.journal, Event::Deliver(by, set))?;
         Ok(true)
     }
 
@@ -220,14 +209,8 @@ impl Book {
         if let Some(best) = self.state.unbettered(&set)? {
             return Ok(Some(best));
         }
-        let again = set.copy()?;
         make_room(&mut self.journal, self.places, 1)?;
-        write(
-            &mut self.state,
-            &mut self.journal,
-            Event::Improve(by, set),
-            Event::Improve(by, again),
-        )?;
+        write(&mut self.state, &mut self.journal, Event::Improve(by, set))?;
         Ok(None)
     }
 
@@ -240,12 +223,10 @@ impl Book {
         ensures err { OnErr result (self.new ≡ self.old) }
     {
         let first = Lits::from_slice(self.alloc, nogood)?;
-        let again = Lits::from_slice(self.alloc, nogood)?;
         write(
             &mut self.state,
             &mut self.journal,
             Event::Close(by, leaf, first),
-            Event::Close(by, leaf, again),
         )?;
         self.places -= 1;
         Ok(())
@@ -256,12 +237,7 @@ impl Book {
         requires { status_of (board self.old).nodes leaf ≡ status.Held by }
         ensures { self.new ≡ with_events self.old (event.Release by leaf ∷ []) }
     {
-        let written = write(
-            &mut self.state,
-            &mut self.journal,
-            Event::Release(by, leaf),
-            Event::Release(by, leaf),
-        );
+        let written = write(&mut self.state, &mut self.journal, Event::Release(by, leaf));
         match written {
             Ok(()) => {}
             Err(_) => unreachable!(),
@@ -329,12 +305,7 @@ impl Book {
         }
         let more = one_if_zero(self.state.units_out(by));
         make_room(&mut self.journal, self.places, 2)?;
-        write(
-            &mut self.state,
-            &mut self.journal,
-            Event::Lease(by, n),
-            Event::Lease(by, n),
-        )?;
+        write(&mut self.state, &mut self.journal, Event::Lease(by, n))?;
         self.places += more;
         Ok(self.fuel.part(n))
     }
@@ -354,7 +325,6 @@ impl Book {
             &mut self.state,
             &mut self.journal,
             Event::Back(by, left, burnt),
-            Event::Back(by, left, burnt),
         );
         match written {
             Ok(()) => {}
@@ -365,7 +335,7 @@ impl Book {
     }
 
     /// The state, the journal that led to it, and the fuel: what the pool has is left, and the units burnt are burnt.
-    pub fn end(self) -> (State, Vec<Event>, Fuel)
+    pub fn end(self) -> (State, Vec<Entry>, Fuel)
         ensures state { result.0 ≡ board self }
         ensures journal { result.1.items ≡ self.journal }
         ensures lawful { IsJournalOf self.task self.journal }

@@ -3,12 +3,13 @@ ghost use Rattle.std.specs.Prelude.{◌≡◌, ◌+◌, ◌^◌, ◌<◌, ◌≤
 ghost use Rattle.std.specs.Vec.{vec_len, vec_capacity};
 ghost use Rattle.asp_core.specs.Events.{Guard, happens, wants_memory};
 
+use asp_core::entry::Entry;
 use asp_core::event::Event;
 use asp_core::state::State;
 use std::alloc::AllocError;
 
 /// Makes room in the journal for so many events more, beside the places that are kept.
-pub fn make_room(journal: &mut Vec<Event>, places: usize, more: usize) -> Result<(), AllocError>
+pub fn make_room(journal: &mut Vec<Entry>, places: usize, more: usize) -> Result<(), AllocError>
     requires { places + more < 2 ^ 64 }
     ensures items { journal.new.items ≡ journal.old.items }
     ensures ok { OnOk result (vec_len journal.old + (places + more) ≤ vec_capacity journal.new) }
@@ -18,14 +19,8 @@ pub fn make_room(journal: &mut Vec<Event>, places: usize, more: usize) -> Result
 }
 
 /// Lets an event happen and writes it down. For want of memory neither is done.
-pub fn write(
-    state: &mut State,
-    journal: &mut Vec<Event>,
-    event: Event,
-    again: Event,
-) -> Result<(), AllocError>
+pub fn write(state: &mut State, journal: &mut Vec<Entry>, event: Event) -> Result<(), AllocError>
     requires guard { Guard state.old event }
-    requires same { again ≡ event }
     requires room { vec_len journal.old < vec_capacity journal.old }
     ensures state { OnOk result (state.new ≡ happens state.old event) }
     ensures journal { OnOk result (journal.new.items ≡ journal.old.items ++ event ∷ []) }
@@ -34,7 +29,8 @@ pub fn write(
     ensures capacity { vec_capacity journal.new ≡ vec_capacity journal.old }
     ensures no_memory { wants_memory event ≡ false → IsOk result }
 {
+    let entry = Entry::of(&event);
     state.apply(event)?;
-    journal.push_reserved(again);
+    journal.push_reserved(entry);
     Ok(())
 }

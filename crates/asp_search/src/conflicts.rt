@@ -23,6 +23,7 @@ use asp_vars::compiled::Compiled;
 use asp_vars::fuel::Conflict;
 use asp_vars::lit::Lit;
 use asp_vars::nogood::Nogood;
+use asp_vars::snapshot::Snapshot;
 use std::alloc::{AllocError, Global};
 
 /// Learns from a kept nogood that is violated.
@@ -57,7 +58,7 @@ pub(crate) fn conflict<P: Propagator>(
     alloc: Global,
     compiled: &Compiled,
     state: &SearchState<P>,
-    known: &[Interp],
+    known: &[Snapshot<Interp>],
     bound: &Option<Cost>,
     id: NogoodId,
     lit: Lit,

@@ -46,22 +46,24 @@ fn add_if_held(held: &mut Vec<Atom>, trail: &Trail, atom: Atom, var: Var) -> Res
     Ok(())
 }
 
-/// The set of the atoms that are true on the trail.
+/// The set of the atoms that are true on the trail, in memory of its size. They are gathered in a list that lies ready.
 pub(crate) fn true_atoms(
     alloc: Global,
     compiled: &Compiled,
     trail: &Trail,
+    held: &mut Vec<Atom>,
 ) -> Result<Interp, AllocError>
     requires { trail.now.vars ≡ var_count compiled.now }
     ensures { IfOk result (λ s. s ≡ atoms_on compiled.now trail.now.vars trail.now.entries) }
 {
     let _count = compiled.atom_count();
     let atoms = compiled.atoms().as_slice();
-    let mut held = Vec::new(alloc);
+    held.clear();
     for i in 0..atoms.len() {
-        add_if_held(&mut held, trail, atoms[i], i as u32 + 1)?;
+        add_if_held(held, trail, atoms[i], i as u32 + 1)?;
     }
-    Ok(Interp::from_ascending(held))
+    let set = Vec::from_slice(alloc, held.as_slice())?;
+    Ok(Interp::from_ascending(set))
 }
 
 // The loop nogood of an unfounded set.

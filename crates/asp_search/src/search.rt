@@ -19,6 +19,7 @@ use crate::spread::Spread;
 use asp_analyze::learn::Learner;
 use asp_model::cost::Cost;
 use asp_model::interp::Interp;
+use asp_model::program::Atom;
 use asp_model::results::Mode;
 use asp_order::pace::Pace;
 use asp_propagate::propagator::Propagator;
@@ -30,6 +31,7 @@ use asp_trail::reasons::{NogoodId, Reasons};
 use asp_vars::compiled::Compiled;
 use asp_vars::lit::Lit;
 use asp_vars::nogood::{Base, Lits, Nogood};
+use asp_vars::snapshot::Snapshot;
 use std::alloc::{AllocError, Global};
 use std::marker::Model;
 
@@ -57,10 +59,13 @@ pub struct Search<'a, P: Propagator> {
     pub(crate) spread: Spread,
     // what checking an answer takes memory for
     pub(crate) checker: Checker<'a>,
-    // in an enumeration the answers found, the oldest first; in an optimisation none
-    pub(crate) known: Vec<Interp>,
+    // in an enumeration the answers found, the oldest first, of which contracts alone know more than their number; in an
+    // optimisation none
+    pub(crate) known: Vec<Snapshot<Interp>>,
     // the numbers of the blocking nogoods of answers, the oldest first
     pub(crate) blocking: Vec<NogoodId>,
+    // what gathering an answer's atoms takes memory for
+    pub(crate) held: Vec<Atom>,
     // the cost below which answers are sought: in an optimisation that of the last answer
     pub(crate) bound: Option<Cost>,
     // the nogood that the last step learnt, or by which it blocks an answer
@@ -161,6 +166,7 @@ impl<'a, P: Propagator> Search<'a, P> {
             checker,
             known: Vec::new(alloc),
             blocking: Vec::new(alloc),
+            held: Vec::new(alloc),
             bound: None,
             last: None,
         })

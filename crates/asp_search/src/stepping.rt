@@ -38,6 +38,7 @@ use asp_trail::reasons::NogoodId;
 use asp_vars::fuel::Fuel;
 use asp_vars::lit::Lit;
 use asp_vars::nogood::Nogood;
+use asp_vars::snapshot::Snapshot;
 use std::alloc::AllocError;
 
 // Whether a restart is due, and would take something back.
@@ -179,11 +180,11 @@ impl<'a, P: Propagator> Search<'a, P> {
         ensures ok { OnOk result ((q : List Literal) (f : Units) → self.old.cube ≡ Some q → Answers (P.gives self.old.program self.old.bound) self.old self.new q f f interp.now) }
         ensures err { OnErr result (self.new ≡ self.old) }
     {
-        let copy = interp.copy()?;
+        let answer = Snapshot::of(interp);
         self.known.reserve(1)?;
         let id = block(self.alloc, &mut self.state, &mut self.blocking)?;
         thin(&mut self.state, &mut self.pace);
-        self.known.push_reserved(copy);
+        self.known.push_reserved(answer);
         self.last = Some(id);
         Ok(())
     }
@@ -225,7 +226,12 @@ impl<'a, P: Propagator> Search<'a, P> {
     {
         let _program = self.compiled.program();
         let _store = self.state.store();
-        let interp = true_atoms(self.alloc, self.compiled, self.state.trail())?;
+        let interp = true_atoms(
+            self.alloc,
+            self.compiled,
+            self.state.trail(),
+            &mut self.held,
+        )?;
         match fault(
             self.alloc,
             self.compiled,

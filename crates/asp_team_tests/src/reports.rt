@@ -1,5 +1,5 @@
 //! What the tests ask of a report.
-use asp_core::event::Event;
+use asp_core::entry::{Entry, Kind};
 use asp_model::results::End;
 use asp_team::report::Report;
 
@@ -11,18 +11,18 @@ pub fn finished(report: &Report) -> Option<usize> {
     }
 }
 
-// Whether the number closed a leaf by this event.
-fn is_close(event: &Event, number: u32) -> bool {
-    match event {
-        Event::Close(by, _, _) => *by == number,
+// Whether the number closed a leaf by this entry.
+fn is_close(entry: &Entry, number: u32) -> bool {
+    match entry.kind() {
+        Kind::Close(by, _, _) => *by == number,
         _ => false,
     }
 }
 
 /// Whether the number closed a leaf.
 pub fn has_closed(report: &Report, number: u32) -> bool {
-    for event in report.journal.as_slice() {
-        if is_close(event, number) {
+    for entry in report.journal.as_slice() {
+        if is_close(entry, number) {
             return true;
         }
     }

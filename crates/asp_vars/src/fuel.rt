@@ -7,6 +7,7 @@ ghost use Rattle.asp_vars.specs.Paid.{least_of, IsPaid, IsClash};
 use crate::compiled::Compiled;
 use crate::lit::Lit;
 use crate::origin::Origin;
+use crate::snapshot::Snapshot;
 use asp_model::cost::Cost;
 use asp_model::interp::Interp;
 use asp_model::program::Program;
@@ -46,7 +47,7 @@ impl Conflict {
         cube: Vec<Lit>,
         decisions: Vec<Lit>,
         nogood: Vec<Lit>,
-        known: &[Interp],
+        known: &[Snapshot<Interp>],
         bound: Option<Cost>,
     ) -> Conflict
         requires { IsConflict compiled.now known.now bound cube.items decisions.items nogood.items }

@@ -19,7 +19,7 @@ invariant_of-self-2 g c =
     let found = subst (λ (s : Searching). IsFound s q c.args.interp.now) (sym c.self.view_is) c.requires.found.2 in
     let enum : i.mode ≡ mode.Enum = ap (λ (s : Searching). s.mode) c.self.view_is ∙ c.requires.mode in
     let more : c.push_reserved.new.self.items ≡ i.known.items ++ c.args.interp.now ∷ [] =
-    c.push_reserved.ensures.items ∙ (ap (λ (xs : List Atoms). xs ++ c.in_ok-copy.copy ∷ []) c.reserve.ensures.items ∙ ap (λ (x : Atoms). i.known.items ++ x ∷ []) c.in_ok-copy.ensures) in
+    c.push_reserved.ensures.items ∙ (ap (λ (xs : List Atoms). xs ++ c.of-answer.result ∷ []) c.reserve.ensures.items ∙ ap (λ (x : Atoms). i.known.items ++ x ∷ []) c.of-answer.ensures) in
     let blocks = block_thinned (blocking_nogood q i.state.decisions) i.state c.block.new.state c.thin.new.state c.in_ok-id.id c.block.new.blocking.items c.block.new.state.entries (c.in_ok-id.ensures.ok q entered.cube)
     c.thin.ensures.same c.thin.ensures.reduced in
     search_listed i.compiled.now i.mode i.state c.thin.new.state i.learner i.checker i.known.items c.push_reserved.new.self.items c.in_ok-id.id i.blocking.items c.block.new.blocking.items i.bound i.last q c.args.interp.now
@@ -33,7 +33,7 @@ returns-clause-ok g c = λ r f e.
     let found = subst (λ (s : Searching). IsFound s q c.args.interp.now) (sym c.self.view_is) c.requires.found.2 in
     let enum : i.mode ≡ mode.Enum = ap (λ (s : Searching). s.mode) c.self.view_is ∙ c.requires.mode in
     let more : c.push_reserved.new.self.items ≡ i.known.items ++ c.args.interp.now ∷ [] =
-    c.push_reserved.ensures.items ∙ (ap (λ (xs : List Atoms). xs ++ c.in_ok-copy.copy ∷ []) c.reserve.ensures.items ∙ ap (λ (x : Atoms). i.known.items ++ x ∷ []) c.in_ok-copy.ensures) in
+    c.push_reserved.ensures.items ∙ (ap (λ (xs : List Atoms). xs ++ c.of-answer.result ∷ []) c.reserve.ensures.items ∙ ap (λ (x : Atoms). i.known.items ++ x ∷ []) c.of-answer.ensures) in
     let new : Searching = view_of i.mode c.thin.new.state c.thin.new.pace c.push_reserved.new.self.items (Some c.in_ok-id.id) in
     let blocks = block_thinned (blocking_nogood q i.state.decisions) i.state c.block.new.state c.thin.new.state c.in_ok-id.id c.block.new.blocking.items c.block.new.state.entries (c.in_ok-id.ensures.ok q entered.cube)
     c.thin.ensures.same c.thin.ensures.reduced in
