@@ -1,5 +1,4 @@
 pub mod LiteralLaws
-pub mod FalseLaws
 pub mod ResolutionLaws
 pub mod NormalLaws
 pub mod NumberingLaws

@@ -1,6 +1,5 @@
 pub mod Literals
 pub mod Codes
-pub mod Falses
 pub mod Numbering
 pub mod Entailment
 pub mod Resolution
