@@ -220,6 +220,7 @@ impl Trail {
         requires room { length self.old.entries < self.old.room }
         ensures { self.new ≡ record self.old { entries = self.old.entries ++ record { lit = lit; level = level self.old.entries + 1; reason = None } ∷ [] } }
     {
+        let _vars = self.vars;
         let level = self.level_before(lit.var());
         self.put(Entry {
             lit,
