@@ -1,4 +1,4 @@
-use Rattle.std.proofs.Common.{◌≡◌, ◌∙◌, ◌<◌, ℕ, ◌+ℤ◌, List, ℤ, length, get_or, drop, pos, refl, sym, ap, arith}
+use Rattle.std.proofs.Common.{◌≡◌, eqb, ◌∙◌, ◌<◌, ℕ, ◌+ℤ◌, List, ℤ, length, get_or, drop, pos, refl, sym, ap, arith}
 use Rattle.std.proofs.lemmas.Int.{ints}
 use Rattle.std.proofs.lemmas.List.{take_at}
 use Rattle.asp_bound.specs.Rises.{raised, row_at}
@@ -41,7 +41,7 @@ pub invariant_of-self : goal.invariant_of-self
 invariant_of-self c =
     let v = rw (← c.self.view_is) at c.requires.var in
     let held = rw (← c.self.view_is) at c.requires.none in
-    let bare = sym c.is_empty.ensures ∙ c.if-is_empty.true in
+    let bare = ap (λ (n : ℕ). eqb n 0) (sym c.self.inside.vars.ok.0) ∙ (sym c.is_empty.ensures ∙ c.if-is_empty.true) in
     let kept = bare-told c.self.inside.origin.value c.self.inside.values c.self.inside.rows c.self.inside.columns c.self.inside.vars.items c.self.inside.sums.items c.self.invariant.0 bare c.args.lit.var c.args.lit.truth v.0 v.1 held in
     let within : c.args.lit.var < length c.self.inside.values = omega (arith, c.self.invariant.0.sized, v.1) in
     let starts = starts-told c.self.inside.values c.set.new.self c.self.inside.columns c.self.inside.starts.items c.args.lit.var c.args.lit.truth c.self.invariant.1 within c.set.ensures in

@@ -1,4 +1,4 @@
-use Rattle.std.proofs.Common.{◌≡◌, ◌∙◌, ◌<◌, ◌≤◌, ℕ, ◌+ℤ◌, List, ℤ, None, length, get_or, set, drop, pos, refl, sym, ap, subst, arith}
+use Rattle.std.proofs.Common.{◌≡◌, eqb, ◌∙◌, ◌<◌, ◌≤◌, ℕ, ◌+ℤ◌, List, ℤ, None, length, get_or, set, drop, pos, refl, sym, ap, subst, arith}
 use Rattle.std.specs.List.{All}
 use Rattle.std.proofs.lemmas.Int.{ints}
 use Rattle.std.proofs.lemmas.List.{take_at}
@@ -49,7 +49,7 @@ pub invariant_of-self : goal.invariant_of-self
 invariant_of-self c =
     let v = rw (← c.self.view_is) at c.requires.var in
     let held = held-value c.self.inside.values c.args.lit (rw (← c.self.view_is) at c.requires.holds) in
-    let empty = sym c.is_empty.ensures ∙ c.if-is_empty.true in
+    let empty = ap (λ (n : ℕ). eqb n 0) (sym c.self.inside.vars.ok.0) ∙ (sym c.is_empty.ensures ∙ c.if-is_empty.true) in
     let row = bare_row c.self.inside.origin.value c.self.inside.rows c.self.inside.vars.items c.self.invariant.0.listed empty c.args.lit.var v.0 v.1 in
     let kept = bare-untold c.self.inside.origin.value c.self.inside.values c.self.inside.rows c.self.inside.columns c.self.inside.vars.items c.self.inside.sums.items c.self.invariant.0 empty c.args.lit.var c.args.lit.truth v.0 v.1 held in
     let values = c.unset.ensures ∙ ap (λ (u : ℕ). set c.self.inside.values u None) c.var.ensures in
