@@ -1,8 +1,8 @@
 -- What the propagator keeps, as values come and go.
-use Rattle.std.proofs.Common.{◌≡◌, ℕ, ◌+◌, ◌^◌, ◌<◌, ◌≤◌, Bool, true, List, [], length, get_or, set, Option, Some, None, ℤ, pos, ◌+ℤ◌, neg_ℤ, ◌≤ℤ◌, ◌<ℤ◌, refl, sym, ap, ◌∙◌, subst, arith, replicate}
-use Rattle.std.specs.List.{All}
+use Rattle.std.proofs.Common.{◌≡◌, ℕ, ◌+◌, ◌^◌, ◌<◌, ◌≤◌, Bool, true, eqb, List, [], ◌∷◌, length, get_or, set, Option, Some, None, ℤ, pos, ◌+ℤ◌, neg_ℤ, ◌≤ℤ◌, ◌<ℤ◌, refl, sym, ap, ◌∙◌, subst, arith, replicate}
+use Rattle.std.specs.List.{All, list_any}
 use Rattle.std.proofs.lemmas.Int.{ints}
-use Rattle.std.proofs.lemmas.Bool.{false≢true}
+use Rattle.std.proofs.lemmas.Bool.{eqb-true, false≢true}
 use Rattle.std.proofs.lemmas.List.{get_or_default, same_lists, get_or-map, length-map, length-set, length-replicate}
 use Rattle.std.proofs.lemmas.List.Elements.{All-weaker}
 use Rattle.asp_model.specs.declared.program.Program.{Program}
@@ -15,7 +15,7 @@ use Rattle.asp_bound.specs.declared.place.Place.{Place}
 use Rattle.asp_bound.specs.declared.place.Item.{Item}
 use Rattle.asp_bound.specs.Optimism.{optimistic_at, optimistic}
 use Rattle.asp_bound.specs.Rises.{raised, row_at, nth_priority}
-use Rattle.asp_bound.specs.Kept.{IsOnce, IsKept}
+use Rattle.asp_bound.specs.Kept.{IsOnce, AreVars, IsKept}
 use Rattle.asp_bound.specs.Gathered.{valueless, AreGathered, HasEach}
 use Rattle.asp_bound.proofs.CostLaws.{optimistic_at-set, optimistic_at-unset, optimistic_at-high, optimistic_at-low, rise_at-small}
 
@@ -122,6 +122,30 @@ kept-untold p a rows columns vars sums new kept v b i k some long each = record 
       let lt : j < length sums = omega (arith, sums-count p a rows columns vars sums kept) in
       omega (arith, ints, each j lt, sums-at p a rows columns vars sums kept j lt, kept.rowed.sums j v b low i k, optimistic_at-unset p a v b (nth_priority p j) i k kept.sized some));
 }
+
+-- ---- where nothing is minimised
+pub bare_row : (p : Program) (rows : List (List Place)) (vars : List ℕ) → AreVars p rows vars → eqb (length vars) 0 ≡ true → (v : ℕ) → 0 < v → v ≤ var_count p → row_at rows v ≡ []
+bare_row p rows vars listed e v i k = cases (row_at rows v) refl
+  where
+    never : (xs : List ℕ) → eqb (length xs) 0 ≡ true → list_any (λ x. eqb x v) xs ≡ true → ⊥
+    never [] q h = false≢true h
+    never (x ∷ xs) q h = let bad : length (x ∷ xs) ≡ 0 = eqb-true (length (x ∷ xs)) 0 q in omega (arith, bad)
+
+    cases : (r : List Place) → r ≡ row_at rows v → row_at rows v ≡ []
+    cases [] q = sym q
+    cases (o ∷ r) q = absurd (never vars e (listed.whole v i k (λ z. let bad : o ∷ r ≡ [] = q ∙ z in cc)))
+
+pub bare-told : (p : Program) (a : List (Option Bool)) (rows : List (List Place)) (columns : List (List Item)) (vars : List ℕ) (sums : List ℤ) → IsKept p a rows columns vars sums → eqb (length vars) 0 ≡ true →
+    (v : ℕ) (b : Bool) → 0 < v → v ≤ var_count p → value_of a v ≡ None → IsKept p (set a v (Some b)) rows columns vars sums
+bare-told p a rows columns vars sums kept e v b i k none =
+    let bare = bare_row p rows vars kept.listed e v i k in
+    kept-told p a rows columns vars sums sums kept v b i k none refl (λ j lt. omega (arith, ints, ap (λ (r : List Place). raised r j b) bare))
+
+pub bare-untold : (p : Program) (a : List (Option Bool)) (rows : List (List Place)) (columns : List (List Item)) (vars : List ℕ) (sums : List ℤ) → IsKept p a rows columns vars sums → eqb (length vars) 0 ≡ true →
+    (v : ℕ) (b : Bool) → 0 < v → v ≤ var_count p → value_of a v ≡ Some b → IsKept p (set a v None) rows columns vars sums
+bare-untold p a rows columns vars sums kept e v b i k some =
+    let bare = bare_row p rows vars kept.listed e v i k in
+    kept-untold p a rows columns vars sums sums kept v b i k some refl (λ j lt. omega (arith, ints, ap (λ (r : List Place). raised r j b) bare))
 
 -- ---- at the start
 pub kept-new : (p : Program) (rows : List (List Place)) (columns : List (List Item)) (vars : List ℕ) (sums : List ℤ) → IsSound p → var_count p < 2 ^ 31 → AreGathered p (priorities p.minimize) rows columns sums →

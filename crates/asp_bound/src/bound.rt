@@ -99,6 +99,10 @@ impl Bound {
         requires none { value_of self.old.told.values lit.var ≡ None }
         ensures { self.new ≡ record self.old { told = told self.old.told lit } }
     {
+        if self.vars.is_empty() {
+            self.values.set(lit);
+            return;
+        }
         let row = self.rows.row(lit.var() as usize);
         raise(self.sums.as_mut_slice(), row, lit.truth());
         self.values.set(lit);
@@ -110,6 +114,10 @@ impl Bound {
         requires holds { holds_in self.old.told.values lit ≡ true }
         ensures { self.new ≡ record self.old { told = untold self.old.told lit } }
     {
+        if self.vars.is_empty() {
+            self.values.unset(lit.var());
+            return;
+        }
         let row = self.rows.row(lit.var() as usize);
         lower(self.sums.as_mut_slice(), row, lit.truth());
         take_back(self.starts.as_mut_slice(), row);

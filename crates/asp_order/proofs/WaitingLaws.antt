@@ -1,14 +1,14 @@
 -- Which variables wait, where values come and go.
-use Rattle.std.proofs.Common.{◌≡◌, ◌≢◌, ℕ, suc, zero, ◌+◌, ◌-◌, ◌<◌, ◌≤◌, ◌⊎◌, inl, inr, Bool, true, false, cond, eqb, leb, List, [], ◌∷◌, ◌++◌, length, Option, Some, None, filter, replicate, set, get_or, refl, sym, ap, ◌∙◌, subst, arith, get_or-set_other}
+use Rattle.std.proofs.Common.{◌≡◌, ◌≢◌, ℕ, suc, zero, ◌+◌, ◌-◌, ◌<◌, ◌≤◌, ◌⊎◌, inl, inr, Bool, true, false, cond, leb, List, [], ◌∷◌, ◌++◌, length, Option, Some, None, filter, replicate, set, get_or, refl, sym, ap, ◌∙◌, subst, arith, get_or-set_other}
 use Rattle.std.specs.Option.{is_some}
 use Rattle.std.proofs.lemmas.Bool.{false≢true}
 use Rattle.std.proofs.lemmas.Bool.Decides.{nat_tests}
 use Rattle.std.proofs.lemmas.List.{length-append, get_or_push}
 use Rattle.std.proofs.lemmas.Grind.{fold-append}
 use Rattle.asp_trail.specs.declared.trail.Entry.{Entry}
-use Rattle.asp_trail.specs.Entries.{assign, assignment, level_in, level_or_zero, cut}
+use Rattle.asp_trail.specs.Entries.{assign, assignment, cut}
 use Rattle.asp_trail.specs.Trails.{IsVar, IsOrdered}
-use Rattle.asp_trail.proofs.EntryLaws.{entry_assigned, fold_found, none_at, find_only}
+use Rattle.asp_trail.proofs.EntryLaws.{entry_assigned, fold_found, none_at}
 use Rattle.asp_order.specs.Heaps.{Ranking, is_in}
 use Rattle.asp_order.specs.Waiting.{AreWaiting, AreAssigned, IsFuller}
 
@@ -134,15 +134,3 @@ low_before vars es level from o p h low i d l m = elim (one_of i from l) [
   where
     one_of : (a b : ℕ) → a < b → (a ≡ b - 1) ⊎ (a < b - 1)
     one_of a b q = grind arith
-
-pub not_above : (is_above : Bool) (level l : ℕ) → is_above ≡ false → (level < l → is_above ≡ true) → l ≤ level
-not_above b level l f g = elim (less level l) [ inl h ↦ absurd (false≢true (sym f ∙ g h)) | inr h ↦ h ]
-
--- ---- levels
--- an entry's variable has the entry's level
-pub level_at : (vars : ℕ) (es : List Entry) (i : ℕ) (d : Entry) → IsOrdered vars es → i < length es → level_in es (get_or es i d).lit.var ≡ (get_or es i d).level
-level_at vars es i d o h =
-    ap level_or_zero (find_only (λ e. eqb e.lit.var (get_or es i d).lit.var) es i d h (grind (arith, nat_tests)) (λ j l. differ j l))
-  where
-    differ : (j : ℕ) → j < i → eqb (get_or es j d).lit.var (get_or es i d).lit.var ≡ false
-    differ j l = let ne : (get_or es j d).lit.var ≢ (get_or es i d).lit.var = o.apart j i d l h in grind (arith, nat_tests)

@@ -68,15 +68,6 @@ fn bump_and_decay(heap: &mut Heap, lits: &[Lit], met: &[Lit])
     heap.decay();
 }
 
-// Whether the entry is above the level.
-fn is_above(trail: &Trail, i: usize, level: usize) -> bool
-    requires ordered { IsOrdered trail.now.vars trail.now.entries }
-    requires within { i < length trail.now.entries }
-    ensures { (d : Entry) → IsTrue result ↔ (level < (slice_index_or trail.now.entries i d).level) }
-{
-    trail.level_of(trail.lit(i).var()) > level
-}
-
 impl Order {
     /// All variables, with the activity 0.
     pub fn new(alloc: Global, vars: Var) -> Result<Order, AllocError>
@@ -168,7 +159,7 @@ impl Order {
         ensures waiting { AreWaiting trail.now.vars trail.now.entries self.old → AreWaiting trail.now.vars (cut level trail.now.entries) self.new }
     {
         for i in (0..trail.len()).rev() {
-            if !is_above(trail, i, level) {
+            if trail.level_at(i) <= level {
                 return;
             }
             self.restore(trail.lit(i));

@@ -1,19 +1,15 @@
 -- What a propagator was told of a trail's first entries.
-use Rattle.std.proofs.Common.{◌≡◌, ◌≢◌, ℕ, suc, zero, ◌+◌, ◌-◌, ◌<◌, ◌≤◌, Bool, true, false, List, [], ◌∷◌, ◌++◌, length, take, fold, set, get_or, eqb, replicate, Option, Some, None, refl, sym, ap, ◌∙◌, subst, arith, get_or-set_same}
+use Rattle.std.proofs.Common.{◌≡◌, ◌≢◌, ℕ, suc, zero, ◌+◌, ◌-◌, ◌<◌, ◌≤◌, Bool, true, false, List, [], ◌∷◌, ◌++◌, length, take, fold, set, get_or, replicate, Option, Some, None, refl, sym, ap, ◌∙◌, subst, arith, get_or-set_same}
 use Rattle.std.specs.List.{All, AllPairs}
 use Rattle.std.specs.Bool.{beq}
-use Rattle.std.specs.Option.{is_some}
 use Rattle.std.proofs.lemmas.List.{take_more, take_all, take-take, take-append-le, length-set, length-append, length-take-le, length-replicate, get_or-take}
 use Rattle.std.proofs.lemmas.List.Sums.{fold-append}
-use Rattle.std.proofs.lemmas.Bool.{eq-eqb}
-use Rattle.std.proofs.lemmas.Bool.Decides.{nat_tests}
 use Rattle.asp_vars.specs.Literals.{Literal, agrees, holds_in, value_of}
 use Rattle.asp_trail.specs.declared.trail.Entry.{Entry}
-use Rattle.asp_trail.specs.Entries.{assign, assignment, entry_of, level_in, level_or_zero, reason_in, reason_or_none, cut}
+use Rattle.asp_trail.specs.Entries.{assign, assignment, cut}
 use Rattle.asp_trail.specs.Trails.{Trailed, IsOrdered}
 use Rattle.asp_trail.specs.Told.{Told, told, untold}
-use Rattle.asp_trail.proofs.EntryLaws.{fold_without, none_at, unset, same_default, find_only}
-use Rattle.asp_trail.proofs.HoldLaws.{value_at}
+use Rattle.asp_trail.proofs.EntryLaws.{fold_without, none_at, unset, same_default}
 use Rattle.asp_store.proofs.WatchLaws.{IsFront, front}
 use Rattle.asp_propagate.specs.Propagating.{WasTold}
 
@@ -130,23 +126,3 @@ told_none t r s v w = record {
 
 pub told_values : (t : Told) (r : Trailed) (n : ℕ) → n ≡ length r.entries → WasTold t r n → t.values ≡ assignment r.vars r.entries
 told_values t r n q w = w.values ∙ ap (assignment r.vars) (take_all n r.entries (omega arith))
-
--- ---- an entry by its variable
-entry_at : (vars : ℕ) (es : List Entry) (i : ℕ) (d : Entry) → IsOrdered vars es → i < length es → entry_of es (get_or es i d).lit.var ≡ Some (get_or es i d)
-entry_at vars es i d o h =
-    let v : ℕ = (get_or es i d).lit.var in
-    find_only (λ e. eqb e.lit.var v) es i d h (eq-eqb v v refl)
-    (λ j l. let ne : (get_or es j d).lit.var ≢ v = o.apart j i d l h in grind (arith, nat_tests))
-
-pub level_is : (vars : ℕ) (es : List Entry) (i : ℕ) (l : Literal) (d : Entry) → ((f : Entry) → l ≡ (get_or es i f).lit) → IsOrdered vars es → i < length es →
-    level_in es l.var ≡ (get_or es i d).level
-level_is vars es i l d same o h = ap (λ (k : Literal). level_in es k.var) (same d) ∙ ap level_or_zero (entry_at vars es i d o h)
-
-pub reason_is : (vars : ℕ) (es : List Entry) (i : ℕ) (l : Literal) (d : Entry) → ((f : Entry) → l ≡ (get_or es i f).lit) → IsOrdered vars es → i < length es →
-    reason_in es l.var ≡ (get_or es i d).reason
-reason_is vars es i l d same o h = ap (λ (k : Literal). reason_in es k.var) (same d) ∙ ap reason_or_none (entry_at vars es i d o h)
-
-pub has_value : (vars : ℕ) (es : List Entry) (i : ℕ) (l : Literal) → ((f : Entry) → l ≡ (get_or es i f).lit) → IsOrdered vars es → i < length es →
-    is_some (value_of (assignment vars es) l.var) ≡ true
-has_value vars es i l same o h =
-    ap (λ (k : Literal). is_some (value_of (assignment vars es) k.var)) (same (like l)) ∙ ap is_some (value_at vars es i (like l) o h)

@@ -8,15 +8,6 @@ use asp_store::store::Store;
 use asp_trail::reasons::NogoodId;
 use asp_trail::trail::Trail;
 
-// The reason of an entry.
-fn reason_at(trail: &Trail, i: usize) -> Option<NogoodId>
-    requires { i < length trail.now.entries }
-    ensures { (d : Entry) → result ≡ (slice_index_or trail.now.entries i d).reason }
-{
-    let _len = trail.len();
-    trail.reason_of(trail.lit(i).var())
-}
-
 fn set_lock(store: &mut Store, id: NogoodId, locked: bool)
     requires { id < length store.old.slots }
     ensures { store.new ≡ locked_at store.old id locked }
@@ -34,7 +25,7 @@ fn lock_at(store: &mut Store, trail: &Trail, i: usize, locked: bool)
     requires slots { HaveSlots trail.now.entries (length store.old.slots) }
     ensures { (d : Entry) → store.new ≡ record store.old { slots = lock_reason locked store.old.slots (slice_index_or trail.now.entries i d).reason } }
 {
-    if let Some(id) = reason_at(trail, i) {
+    if let Some(id) = trail.reason_at(i) {
         set_lock(store, id, locked);
     }
 }

@@ -41,15 +41,6 @@ fn untell_at<P: Propagator>(propagator: &mut P, trail: &Trail, i: usize)
     propagator.undo(trail.lit(i));
 }
 
-/// The level of an entry.
-pub fn level_at(trail: &Trail, i: usize) -> usize
-    requires { i < length trail.now.entries }
-    ensures { (d : Entry) → result ≡ (slice_index_or trail.now.entries i d).level }
-{
-    let _len = trail.len();
-    trail.level_of(trail.lit(i).var())
-}
-
 /// Takes back the entries of which it was told that are above a level. Gives how many are left.
 pub fn untell_above<P: Propagator>(
     propagator: &mut P,
@@ -64,7 +55,7 @@ pub fn untell_above<P: Propagator>(
     ensures low { (d : Entry) → 0 < result → (slice_index_or trail.now.entries (result - 1) d).level ≤ level }
 {
     let mut left = told;
-    while left > 0 && level_at(trail, left - 1) > level {
+    while left > 0 && trail.level_at(left - 1) > level {
         left -= 1;
         untell_at(propagator, trail, left);
     }

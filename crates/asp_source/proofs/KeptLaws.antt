@@ -87,14 +87,14 @@ kept_by p c x y s ranks q t r tight weighted loose waiting joined rest l sound h
       within = h.within;
     })
 
--- in a tight program no atom has a source
-pub kept_tight : (p : Program) (c : Parts) (x y : List (Option Bool)) (s ranks : List ℕ) (q : List Bool) (tight weighted : Bool) (loose waiting joined : List Bool) (rest : Rest) (l : Literal) → IsKept p c x s ranks q tight weighted loose waiting joined rest → tight ≡ true → IsVar (var_count p) l.var → y ≡ set x l.var (Some l.truth) → IsKept p c y s ranks q tight weighted loose waiting joined rest
-kept_tight p c x y s ranks q tight weighted loose waiting joined rest l h is_tight is told =
+-- in a tight program no atom has a source, whatever value a variable gets or loses
+pub kept_tight : (p : Program) (c : Parts) (x y : List (Option Bool)) (s ranks : List ℕ) (q : List Bool) (tight weighted : Bool) (loose waiting joined : List Bool) (rest : Rest) (w : ℕ) (o : Option Bool) → IsKept p c x s ranks q tight weighted loose waiting joined rest → tight ≡ true → IsVar (var_count p) w → y ≡ set x w o → IsKept p c y s ranks q tight weighted loose waiting joined rest
+kept_tight p c x y s ranks q tight weighted loose waiting joined rest w o h is_tight is told =
     subst (λ (z : List (Option Bool)). IsKept p c z s ranks q tight weighted loose waiting joined rest) (sym told) (record {
       components = h.components;
-      sized = length-set x l.var (Some l.truth) ∙ h.sized;
-      first = first_kept x l.var (Some l.truth) is.0 h.first;
-      pointers = bare_pointers p c (set x l.var (Some l.truth)) s ranks q h.pointers.size h.pointers.rank_room h.pointers.room (h.none is_tight) (λ v at cyclic. absurd (false≢true (sym cyclic ∙ h.trivial is_tight v at)));
+      sized = length-set x w o ∙ h.sized;
+      first = first_kept x w o is.0 h.first;
+      pointers = bare_pointers p c (set x w o) s ranks q h.pointers.size h.pointers.rank_room h.pointers.room (h.none is_tight) (λ v at cyclic. absurd (false≢true (sym cyclic ∙ h.trivial is_tight v at)));
       marks = h.marks;
       blank = h.blank;
       room = h.room;

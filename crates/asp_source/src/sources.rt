@@ -141,6 +141,9 @@ impl<'a> Sources<'a> {
     {
         let _program = self.compiled.program();
         self.values.unset(lit.var());
+        if self.tight {
+            return;
+        }
         regain(
             self.compiled,
             &self.components,

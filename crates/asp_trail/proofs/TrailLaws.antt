@@ -35,15 +35,17 @@ level_steps (e ∷ es) s =
     let q : slice_get (e ∷ es) (length (e ∷ es) - 1) ≡ Some (get_or (e ∷ es) (length (e ∷ es) - 1) e) = slice_get-get_or (e ∷ es) (length (e ∷ es) - 1) e (omega arith) in
     omega (arith, ap level_or_zero q, s (length (e ∷ es) - 1) e (omega arith))
 
-pub new_entry : (vars : ℕ) (es : List Entry) (values : List (Option Bool)) (places : List ℕ) (seen : ℕ) (e : Entry) →
-    IsTrail vars es values places seen → IsVar vars e.lit.var → get_or (assignment vars es) e.lit.var None ≡ None →
+pub new_entry : (vars : ℕ) (es : List Entry) (values : List (Option Bool)) (places levels : List ℕ) (seen : ℕ) (e : Entry) →
+    IsTrail vars es values places levels seen → IsVar vars e.lit.var → get_or (assignment vars es) e.lit.var None ≡ None →
     level es ≤ e.level → e.level ≤ level es + 1 → (e.reason ≡ None → (e.level ≡ 0) ⊎ (level es < e.level)) →
-    IsTrail vars (es ++ e ∷ []) (set values e.lit.var (Some e.lit.truth)) (set places e.lit.var (length es)) seen
-new_entry vars es values places seen e t v n lo hi first = record {
+    IsTrail vars (es ++ e ∷ []) (set values e.lit.var (Some e.lit.truth)) (set places e.lit.var (length es)) (set levels e.lit.var e.level) seen
+new_entry vars es values places levels seen e t v n lo hi first = record {
   values_are = ap (λ (a : List (Option Bool)). assign a e) t.values_are ∙ sym (fold-append assign (replicate (vars + 1) None) es (e ∷ []));
   sized = length-set values e.lit.var (Some e.lit.truth) ∙ t.sized;
   placed = length-set places e.lit.var (length es) ∙ t.placed;
+  leveled = length-set levels e.lit.var e.level ∙ t.leveled;
   places_are = λ i d h. at i d h (eqb i (length es)) refl;
+  levels_are = λ i d h. level_at i d h (eqb i (length es)) refl;
   within = All-push (λ f. IsVar vars f.lit.var) es e t.within v;
   rising = all_pairs_push (λ f g. f.level ≤ g.level) es e t.rising (λ k d h. omega (arith, level_top es t.rising k d h));
   steps = λ i d h. step i d h (eqb i (length es)) refl;
@@ -78,6 +80,19 @@ new_entry vars es values places seen e t v n lo hi first = record {
         ap (λ f. get_or (set places e.lit.var (length es)) f.lit.var 0) (get_or_append_left es (e ∷ []) d i lt)
         ∙ (get_or-set_other places e.lit.var (get_or es i d).lit.var (length es) 0 (apart i d lt) ∙ t.places_are i d lt)
 
+    level_at : (i : ℕ) (d : Entry) → i < length (es ++ e ∷ []) → (b : Bool) → b ≡ eqb i (length es) →
+        get_or (set levels e.lit.var e.level) (get_or (es ++ e ∷ []) i d).lit.var 0 ≡ (get_or (es ++ e ∷ []) i d).level
+    level_at i d h true q =
+        let p : get_or (es ++ e ∷ []) i d ≡ e = get_or_push es e d i (sym (eqb-true i (length es) (sym q))) in
+        ap (λ f. get_or (set levels e.lit.var e.level) f.lit.var 0) p
+        ∙ (get_or-set_same levels e.lit.var e.level 0 (omega (arith, t.leveled, v.1)) ∙ sym (ap (λ (f : Entry). f.level) p))
+    level_at i d h false q =
+        let ne : i ≢ length es = grind (arith, nat_tests) in
+        let lt : i < length es = old i d h ne in
+        let p = get_or_append_left es (e ∷ []) d i lt in
+        ap (λ f. get_or (set levels e.lit.var e.level) f.lit.var 0) p
+        ∙ (get_or-set_other levels e.lit.var (get_or es i d).lit.var e.level 0 (apart i d lt) ∙ (t.levels_are i d lt ∙ sym (ap (λ (f : Entry). f.level) p)))
+
     step : (i : ℕ) (d : Entry) → i < length (es ++ e ∷ []) → (b : Bool) → b ≡ eqb i (length es) → (get_or (es ++ e ∷ []) i d).level ≤ i + 1
     step i d h true q =
         let s : i ≡ length es = eqb-true i (length es) (sym q) in
@@ -106,31 +121,33 @@ new_entry vars es values places seen e t v n lo hi first = record {
         ∙ t.decided i j d l lt (sym (ap (λ (f : Entry). f.reason) at) ∙ none)
         (sym (ap (λ (f : Entry). f.level) was) ∙ (same ∙ ap (λ (f : Entry). f.level) at))
 
-pub new_entry_at : (vars : ℕ) (es : List Entry) (values : List (Option Bool)) (places : List ℕ) (seen : ℕ) (e : Entry) (n : ℕ) → n ≡ length es →
-    IsTrail vars es values places seen → IsVar vars e.lit.var → get_or (assignment vars es) e.lit.var None ≡ None →
+pub new_entry_at : (vars : ℕ) (es : List Entry) (values : List (Option Bool)) (places levels : List ℕ) (seen : ℕ) (e : Entry) (n : ℕ) → n ≡ length es →
+    IsTrail vars es values places levels seen → IsVar vars e.lit.var → get_or (assignment vars es) e.lit.var None ≡ None →
     level es ≤ e.level → e.level ≤ level es + 1 → (e.reason ≡ None → (e.level ≡ 0) ⊎ (level es < e.level)) →
-    IsTrail vars (es ++ e ∷ []) (set values e.lit.var (Some e.lit.truth)) (set places e.lit.var n) seen
-new_entry_at vars es values places seen e n q t v m lo hi first =
-    subst (λ (k : ℕ). IsTrail vars (es ++ e ∷ []) (set values e.lit.var (Some e.lit.truth)) (set places e.lit.var k) seen) (sym q)
-    (new_entry vars es values places seen e t v m lo hi first)
+    IsTrail vars (es ++ e ∷ []) (set values e.lit.var (Some e.lit.truth)) (set places e.lit.var n) (set levels e.lit.var e.level) seen
+new_entry_at vars es values places levels seen e n q t v m lo hi first =
+    subst (λ (k : ℕ). IsTrail vars (es ++ e ∷ []) (set values e.lit.var (Some e.lit.truth)) (set places e.lit.var k) (set levels e.lit.var e.level) seen) (sym q)
+    (new_entry vars es values places levels seen e t v m lo hi first)
 
 -- the newest entry's variable stands in no other entry
-pub apart_last : (vars : ℕ) (es : List Entry) (values : List (Option Bool)) (places : List ℕ) (seen : ℕ) (e : Entry) →
-    IsTrail vars (es ++ e ∷ []) values places seen → All (λ f. f.lit.var ≢ e.lit.var) es
-apart_last vars es values places seen e t i d h q =
+pub apart_last : (vars : ℕ) (es : List Entry) (values : List (Option Bool)) (places levels : List ℕ) (seen : ℕ) (e : Entry) →
+    IsTrail vars (es ++ e ∷ []) values places levels seen → All (λ f. f.lit.var ≢ e.lit.var) es
+apart_last vars es values places levels seen e t i d h q =
     let one : get_or places (get_or es i d).lit.var 0 ≡ i =
     ap (λ f. get_or places f.lit.var 0) (sym (get_or_append_left es (e ∷ []) d i h)) ∙ t.places_are i d (omega (arith, length-append es (e ∷ []))) in
     let two : get_or places e.lit.var 0 ≡ length es =
     ap (λ f. get_or places f.lit.var 0) (sym (get_or_push es e d (length es) refl)) ∙ t.places_are (length es) d (omega (arith, length-append es (e ∷ []))) in
     omega (arith, one, two, ap (λ w. get_or places w 0) q)
 
-pub less_entry : (vars : ℕ) (es : List Entry) (values : List (Option Bool)) (places : List ℕ) (seen : ℕ) (e : Entry) (n : ℕ) → n ≡ length es →
-    IsTrail vars (es ++ e ∷ []) values places seen → IsTrail vars es (set values e.lit.var None) places (min seen n)
-less_entry vars es values places seen e n q t = record {
+pub less_entry : (vars : ℕ) (es : List Entry) (values : List (Option Bool)) (places levels : List ℕ) (seen : ℕ) (e : Entry) (n : ℕ) → n ≡ length es →
+    IsTrail vars (es ++ e ∷ []) values places levels seen → IsTrail vars es (set values e.lit.var None) places levels (min seen n)
+less_entry vars es values places levels seen e n q t = record {
   values_are = ap (λ (a : List (Option Bool)). set a e.lit.var None) was ∙ unset (assignment vars es) e.lit.var (Some e.lit.truth) none;
   sized = length-set values e.lit.var None ∙ t.sized;
   placed = t.placed;
+  leveled = t.leveled;
   places_are = λ i d h. ap (λ f. get_or places f.lit.var 0) (sym (get_or_append_left es (e ∷ []) d i h)) ∙ t.places_are i d (longer i h);
+  levels_are = λ i d h. let p = get_or_append_left es (e ∷ []) d i h in ap (λ f. get_or levels f.lit.var 0) (sym p) ∙ (t.levels_are i d (longer i h) ∙ ap (λ (f : Entry). f.level) p);
   within = λ i d h. subst (λ (f : Entry). IsVar vars f.lit.var) (get_or_append_left es (e ∷ []) d i h) (t.within i d (longer i h));
   rising = λ i j d l h. omega (arith, ap (λ f. f.level) (get_or_append_left es (e ∷ []) d i (omega arith)), ap (λ f. f.level) (get_or_append_left es (e ∷ []) d j h), t.rising i j d l (longer j h));
   steps = λ i d h. omega (arith, ap (λ f. f.level) (get_or_append_left es (e ∷ []) d i h), t.steps i d (longer i h));
@@ -150,7 +167,7 @@ less_entry vars es values places seen e n q t = record {
     was = t.values_are ∙ fold-append assign (replicate (vars + 1) None) es (e ∷ [])
 
     none : get_or (assignment vars es) e.lit.var None ≡ None
-    none = fold_without (replicate (vars + 1) None) es e.lit.var (apart_last vars es values places seen e t) ∙ none_at (vars + 1) e.lit.var
+    none = fold_without (replicate (vars + 1) None) es e.lit.var (apart_last vars es values places levels seen e t) ∙ none_at (vars + 1) e.lit.var
 
     at_end : IsVar vars e.lit.var
     at_end = subst (λ (f : Entry). IsVar vars f.lit.var) (get_or_push es e e (length es) refl) (t.within (length es) e (omega (arith, length-append es (e ∷ []))))
@@ -163,10 +180,10 @@ less_entry vars es values places seen e n q t = record {
         ∙ get_or-set_same (assignment vars es) e.lit.var (Some e.lit.truth) None (omega (arith, small, ap length was, length-set (assignment vars es) e.lit.var (Some e.lit.truth)))
 
 -- an assigned variable's entry stands at its place
-pub found_at : (vars : ℕ) (es : List Entry) (values : List (Option Bool)) (places : List ℕ) (seen : ℕ) (v : ℕ) → IsTrail vars es values places seen →
+pub found_at : (vars : ℕ) (es : List Entry) (values : List (Option Bool)) (places levels : List ℕ) (seen : ℕ) (v : ℕ) → IsTrail vars es values places levels seen →
     is_some (get_or (assignment vars es) v None) ≡ true →
     (get_or places v 0 < length es) × ((d : Entry) → entry_of es v ≡ Some (get_or es (get_or places v 0) d))
-found_at vars es values places seen v t h =
+found_at vars es values places levels seen v t h =
     let f = fold_found (replicate (vars + 1) None) es v (none_at (vars + 1) v) h in
     let p : (d : Entry) → get_or places v 0 ≡ f.0 = λ d. ap (λ w. get_or places w 0) (sym (f.2 d)) ∙ t.places_are f.0 d f.1 in (
       lower f.0 f.1 p,
@@ -185,10 +202,21 @@ found_at vars es values places seen v t h =
         cases true q =
             absurd (omega (arith, p d, l, t.places_are j d (omega arith), ap (λ w. get_or places w 0) (eqb-true (get_or es j d).lit.var v (sym q))))
 
+-- an assigned variable's level is that of its entry
+pub level_found : (vars : ℕ) (es : List Entry) (values : List (Option Bool)) (places levels : List ℕ) (seen : ℕ) (v : ℕ) → IsTrail vars es values places levels seen →
+    is_some (get_or (assignment vars es) v None) ≡ true → get_or levels v 0 ≡ level_or_zero (entry_of es v)
+level_found vars es values places levels seen v t h =
+    let d : Entry = record { lit = record { var = 0; truth = true }; level = 0; reason = None } in
+    let f = fold_found (replicate (vars + 1) None) es v (none_at (vars + 1) v) h in
+    let at : get_or places v 0 ≡ f.0 = ap (λ w. get_or places w 0) (sym (f.2 d)) ∙ t.places_are f.0 d f.1 in
+    let is : entry_of es v ≡ Some (get_or es (get_or places v 0) d) = (found_at vars es values places levels seen v t h).1 d in
+    ap (λ w. get_or levels w 0) (sym (f.2 d))
+    ∙ (t.levels_are f.0 d f.1 ∙ (sym (ap (λ (k : ℕ). (get_or es k d).level) at) ∙ sym (ap level_or_zero is)))
+
 -- where a variable is open there are fewer entries than variables
-pub open_room : (vars : ℕ) (es : List Entry) (values : List (Option Bool)) (places : List ℕ) (seen : ℕ) (v : ℕ) → IsTrail vars es values places seen →
+pub open_room : (vars : ℕ) (es : List Entry) (values : List (Option Bool)) (places levels : List ℕ) (seen : ℕ) (v : ℕ) → IsTrail vars es values places levels seen →
     0 < v → v ≤ vars → get_or (assignment vars es) v None ≡ None → length es < vars
-open_room vars es values places seen v t p w n =
+open_room vars es values places levels seen v t p w n =
     omega (arith, t.counted, t.sized, one, two, ap ones here, ap ones zeroth, ap ones still)
   where
     here : get_or values v None ≡ None
@@ -211,14 +239,14 @@ upper : (a b : ℕ) → leb a b ≡ true → a ≤ b
 upper a b e = grind (arith, nat_tests)
 
 -- where there are as many entries as variables, none is open
-pub all_set : (vars : ℕ) (es : List Entry) (values : List (Option Bool)) (places : List ℕ) (seen : ℕ) → IsTrail vars es values places seen →
+pub all_set : (vars : ℕ) (es : List Entry) (values : List (Option Bool)) (places levels : List ℕ) (seen : ℕ) → IsTrail vars es values places levels seen →
     (slice : List Entry) → slice ≡ es → leb vars (length slice) ≡ true → (v : ℕ) → IsVar vars v → is_some (get_or (assignment vars es) v None) ≡ true
-all_set vars es values places seen t slice is full v w = cases (get_or (assignment vars es) v None) refl
+all_set vars es values places levels seen t slice is full v w = cases (get_or (assignment vars es) v None) refl
   where
     cases : (o : Option Bool) → o ≡ get_or (assignment vars es) v None → is_some (get_or (assignment vars es) v None) ≡ true
     cases (Some b) q = ap is_some (sym q)
     cases None q =
-        let few = open_room vars es values places seen v t w.0 w.1 (sym q) in
+        let few = open_room vars es values places levels seen v t w.0 w.1 (sym q) in
         let many = upper vars (length slice) full in
         let same = ap length is in
         absurd (omega (arith, few, many, same))
@@ -248,8 +276,8 @@ cut_all l top es a h = sym (filter_all (λ e. leb e.level l) es (λ i d k. small
     small : (n : ℕ) → n ≤ top → leb n l ≡ true
     small n k = grind (arith, nat_tests)
 
-pub ordered : (vars : ℕ) (es : List Entry) (values : List (Option Bool)) (places : List ℕ) (seen : ℕ) → IsTrail vars es values places seen → IsOrdered vars es
-ordered vars es values places seen t = record {
+pub ordered : (vars : ℕ) (es : List Entry) (values : List (Option Bool)) (places levels : List ℕ) (seen : ℕ) → IsTrail vars es values places levels seen → IsOrdered vars es
+ordered vars es values places levels seen t = record {
   within = t.within;
   apart = λ i j d l h q. absurd (omega (arith, l, t.places_are i d (omega arith), t.places_are j d h, ap (λ w. get_or places w 0) q));
   rising = t.rising;

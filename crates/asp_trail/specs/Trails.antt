@@ -13,11 +13,13 @@ pub record Trailed : Type 0 where
   pub seen : ℕ
   pub room : ℕ
 
-pub record IsTrail (vars : ℕ) (entries : List Entry) (values : List (Option Bool)) (places : List ℕ) (seen : ℕ) : Type 0 where
+pub record IsTrail (vars : ℕ) (entries : List Entry) (values : List (Option Bool)) (places levels : List ℕ) (seen : ℕ) : Type 0 where
   pub values_are : values ≡ assignment vars entries
   pub sized : length values ≡ vars + 1
   pub placed : length places ≡ vars + 1
+  pub leveled : length levels ≡ vars + 1
   pub places_are : (i : ℕ) (d : Entry) → i < length entries → slice_index places (slice_index_or entries i d).lit.var ≡ i
+  pub levels_are : (i : ℕ) (d : Entry) → i < length entries → slice_index levels (slice_index_or entries i d).lit.var ≡ (slice_index_or entries i d).level
   pub within : All (λ e. IsVar vars e.lit.var) entries
   pub rising : AllPairs (λ e f. e.level ≤ f.level) entries
   pub steps : (i : ℕ) (d : Entry) → i < length entries → (slice_index_or entries i d).level ≤ i + 1

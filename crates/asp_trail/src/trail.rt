@@ -18,7 +18,7 @@ pub struct Entry {
     /// The literal that holds.
     pub lit: Lit,
     /// The decision level: how many decisions stand on the trail up to here; 0 for what holds under no decision.
-    pub level: usize,
+    pub level: u32,
     /// The number of the nogood that implied the literal; none for a decision and for what is assumed.
     pub reason: Option<NogoodId>,
 }
@@ -33,7 +33,9 @@ pub struct Trail {
     /// The value of each variable: that of its literal in `entries`, or none.
     values: Assign,
     /// For each variable the place of its literal in `entries`; of one without a value anything.
-    places: Vec<usize>,
+    places: Vec<u32>,
+    /// For each variable the level of its literal; of one without a value anything.
+    levels: Vec<u32>,
     /// So many entries, the oldest, were followed by the propagation of nogoods: at most all.
     seen: usize,
 }
@@ -46,7 +48,7 @@ impl Model for Trail {
 
     ghost view = { λ t. record { vars = t.vars; entries = t.entries.items; seen = t.seen; room = vec_capacity t.entries } };
 
-    ghost invariant = { λ t. IsTrail t.vars t.entries.items t.values t.places.items t.seen };
+    ghost invariant = { λ t. IsTrail t.vars t.entries.items t.values t.places.items t.levels.items t.seen };
 }
 
 impl Trail {
@@ -58,11 +60,13 @@ impl Trail {
     {
         let values = Assign::new(alloc, vars)?;
         let places = vec![in alloc; 0; vars as usize + 1]?;
+        let levels = vec![in alloc; 0; vars as usize + 1]?;
         Ok(Trail {
             vars,
             entries: Vec::new(alloc),
             values,
             places,
+            levels,
             seen: 0,
         })
     }
@@ -89,7 +93,7 @@ impl Trail {
     {
         match self.entries.last() {
             None => 0,
-            Some(entry) => entry.level,
+            Some(entry) => entry.level as usize,
         }
     }
 
@@ -109,6 +113,22 @@ impl Trail {
         ensures var { IsVar self.now.vars result.var }
     {
         self.entries[i].lit
+    }
+
+    /// The level of an entry, the oldest being at 0.
+    pub fn level_at(&self, i: usize) -> usize
+        requires { i < length self.now.entries }
+        ensures { (d : Entry) → result ≡ (slice_index_or self.now.entries i d).level }
+    {
+        self.entries[i].level as usize
+    }
+
+    /// The nogood that implied an entry, the oldest being at 0. None where it was assumed or decided.
+    pub fn reason_at(&self, i: usize) -> Option<NogoodId>
+        requires { i < length self.now.entries }
+        ensures { (d : Entry) → result ≡ (slice_index_or self.now.entries i d).reason }
+    {
+        self.entries[i].reason
     }
 
     /// The variable's value, if an entry has it.
@@ -138,6 +158,29 @@ impl Trail {
         &self.values
     }
 
+    // The place of the next entry, that of a variable without a value.
+    fn next_place(&self, var: Var) -> u32
+        requires var { IsVar self.now.vars var }
+        requires none { value_of (assignment self.now.vars self.now.entries) var ≡ None }
+        ensures { result ≡ length self.now.entries }
+    {
+        let _vars = self.vars;
+        let _value = self.value(var);
+        self.entries.len() as u32
+    }
+
+    // The level that stands, as long as this variable has no value.
+    fn level_before(&self, var: Var) -> u32
+        requires var { IsVar self.now.vars var }
+        requires none { value_of (assignment self.now.vars self.now.entries) var ≡ None }
+        ensures level { result ≡ level self.now.entries }
+        ensures few { result < self.now.vars }
+    {
+        let _vars = self.vars;
+        let _value = self.value(var);
+        self.level() as u32
+    }
+
     fn put(&mut self, entry: Entry)
         requires var { IsVar self.old.vars entry.lit.var }
         requires none { value_of (assignment self.old.vars self.old.entries) entry.lit.var ≡ None }
@@ -147,9 +190,11 @@ impl Trail {
         requires decided { entry.reason ≡ None → (entry.level ≡ 0) ⊎ (level self.old.entries < entry.level) }
         ensures { self.new ≡ record self.old { entries = self.old.entries ++ entry ∷ [] } }
     {
-        let place = self.entries.len();
+        let var = entry.lit.var();
+        let place = self.next_place(var);
         self.values.set(entry.lit);
-        self.places[entry.lit.var() as usize] = place;
+        self.places[var as usize] = place;
+        self.levels[var as usize] = entry.level;
         self.entries.push_reserved(entry);
     }
 
@@ -168,13 +213,6 @@ impl Trail {
         });
     }
 
-    fn next_level(&self) -> usize
-        ensures { result ≡ level self.now.entries + 1 }
-    {
-        let _vars = self.vars;
-        self.level() + 1
-    }
-
     /// A literal that is chosen, at a level of its own.
     pub fn decide(&mut self, lit: Lit)
         requires var { IsVar self.old.vars lit.var }
@@ -182,10 +220,11 @@ impl Trail {
         requires room { length self.old.entries < self.old.room }
         ensures { self.new ≡ record self.old { entries = self.old.entries ++ record { lit = lit; level = level self.old.entries + 1; reason = None } ∷ [] } }
     {
-        let level = self.next_level();
+        let _vars = self.vars;
+        let level = self.level_before(lit.var());
         self.put(Entry {
             lit,
-            level,
+            level: level + 1,
             reason: None,
         });
     }
@@ -197,7 +236,7 @@ impl Trail {
         requires room { length self.old.entries < self.old.room }
         ensures { self.new ≡ record self.old { entries = self.old.entries ++ record { lit = lit; level = level self.old.entries; reason = Some id } ∷ [] } }
     {
-        let level = self.level();
+        let level = self.level_before(lit.var());
         self.put(Entry {
             lit,
             level,
@@ -247,8 +286,8 @@ impl Trail {
         requires has { IsSome (value_of (assignment self.now.vars self.now.entries) var) }
         ensures { result ≡ level_in self.now.entries var }
     {
-        let place = self.places[var as usize];
-        self.entries[place].level
+        let level = self.levels[var as usize];
+        level as usize
     }
 
     /// The nogood that implied a variable that has a value. None where it was assumed or decided.
@@ -258,7 +297,7 @@ impl Trail {
         ensures { result ≡ reason_in self.now.entries var }
     {
         let place = self.places[var as usize];
-        self.entries[place].reason
+        self.entries[place as usize].reason
     }
 
     /// The decision of level 1, if there is one.

@@ -1,8 +1,8 @@
-use Rattle.std.proofs.Common.{◌≡◌, ◌∙◌, ◌<◌, ℕ, ◌+ℤ◌, List, ℤ, length, get_or, drop, pos, ap, arith}
+use Rattle.std.proofs.Common.{◌≡◌, eqb, ◌∙◌, ◌<◌, ℕ, ◌+ℤ◌, List, ℤ, length, get_or, drop, pos, refl, sym, ap, arith}
 use Rattle.std.proofs.lemmas.Int.{ints}
 use Rattle.std.proofs.lemmas.List.{take_at}
 use Rattle.asp_bound.specs.Rises.{raised, row_at}
-use Rattle.asp_bound.proofs.KeptLaws.{raised-small, raise-room, raised_as, kept-told, kept_as}
+use Rattle.asp_bound.proofs.KeptLaws.{raised-small, raise-room, raised_as, kept-told, kept_as, bare-told}
 use Rattle.asp_bound.proofs.StartLaws.{starts-told}
 use Rattle.asp_bound.proofs.bound.Bound.assign.Goals as goal
 
@@ -20,8 +20,8 @@ raise-requires-clause-room c = λ j lt.
     let within : j < length c.self.inside.sums.items = omega (arith, lt, ap length c.as_mut_slice.ensures.value) in
     omega (arith, ints, at, ap (λ (s : List ℤ). get_or s j (pos 0)) c.as_mut_slice.ensures.value, raise-room c.self.inside.origin.value c.self.inside.values c.self.inside.rows c.self.inside.columns c.self.inside.vars.items c.self.inside.sums.items c.self.invariant.0 c.args.lit.var c.args.lit.truth v.0 v.1 j within)
 
-pub invariant_of-self : goal.invariant_of-self
-invariant_of-self c =
+pub invariant_of-self-2 : goal.invariant_of-self-2
+invariant_of-self-2 c =
     let v = rw (← c.self.view_is) at c.requires.var in
     let held = rw (← c.self.view_is) at c.requires.none in
     let new = c.raise.new.sums in
@@ -34,5 +34,15 @@ invariant_of-self c =
     step in
     let kept = kept-told c.self.inside.origin.value c.self.inside.values c.self.inside.rows c.self.inside.columns c.self.inside.vars.items c.self.inside.sums.items new c.self.invariant.0 c.args.lit.var c.args.lit.truth v.0 v.1 held long each in
     let within : c.args.lit.var < length c.self.inside.values = omega (arith, c.self.invariant.0.sized, v.1) in
+    let starts = starts-told c.self.inside.values c.set-2.new.self c.self.inside.columns c.self.inside.starts.items c.args.lit.var c.args.lit.truth c.self.invariant.1 within c.set-2.ensures in
+    (kept_as c.self.inside.origin.value _ c.set-2.new.self c.self.inside.rows c.self.inside.columns c.self.inside.vars.items new _ c.set-2.ensures (take_at new (drop (length new) c.self.inside.sums.items) c.self.inside.sums.len (c.raise.auto.sums ∙ c.as_mut_slice.ensures.len)) kept, starts)
+
+pub invariant_of-self : goal.invariant_of-self
+invariant_of-self c =
+    let v = rw (← c.self.view_is) at c.requires.var in
+    let held = rw (← c.self.view_is) at c.requires.none in
+    let bare = ap (λ (n : ℕ). eqb n 0) (sym c.self.inside.vars.ok.0) ∙ (sym c.is_empty.ensures ∙ c.if-is_empty.true) in
+    let kept = bare-told c.self.inside.origin.value c.self.inside.values c.self.inside.rows c.self.inside.columns c.self.inside.vars.items c.self.inside.sums.items c.self.invariant.0 bare c.args.lit.var c.args.lit.truth v.0 v.1 held in
+    let within : c.args.lit.var < length c.self.inside.values = omega (arith, c.self.invariant.0.sized, v.1) in
     let starts = starts-told c.self.inside.values c.set.new.self c.self.inside.columns c.self.inside.starts.items c.args.lit.var c.args.lit.truth c.self.invariant.1 within c.set.ensures in
-    (kept_as c.self.inside.origin.value _ c.set.new.self c.self.inside.rows c.self.inside.columns c.self.inside.vars.items new _ c.set.ensures (take_at new (drop (length new) c.self.inside.sums.items) c.self.inside.sums.len (c.raise.auto.sums ∙ c.as_mut_slice.ensures.len)) kept, starts)
+    (kept_as c.self.inside.origin.value _ c.set.new.self c.self.inside.rows c.self.inside.columns c.self.inside.vars.items c.self.inside.sums.items _ c.set.ensures refl kept, starts)

@@ -1,4 +1,4 @@
-use Rattle.std.proofs.Common.{◌∙◌, ℕ, List, length, drop, ap, subst, arith}
+use Rattle.std.proofs.Common.{◌∙◌, ℕ, List, Some, length, drop, ap, subst, arith}
 use Rattle.std.proofs.lemmas.List.{take_at}
 use Rattle.asp_source.specs.Pointers.{Loses}
 use Rattle.asp_source.proofs.KeptLaws.{kept_by, kept_tight, kept_as}
@@ -10,7 +10,7 @@ set-requires c = let v = rw (← c.self.view_is) at c.requires.var in omega (ari
 pub invariant_of-self : goal.invariant_of-self
 invariant_of-self c =
     let v = rw (← c.self.view_is) at c.requires.var in
-    kept_tight _ c.self.inside.components c.self.inside.values _ c.self.inside.sources.items c.self.inside.ranks.ranks c.self.inside.queue c.self.inside.tight c.self.inside.weighted c.self.inside.loose.items c.self.inside.waiting c.self.inside.joined c.self.inside.found c.args.lit c.self.invariant c.if-self.true v c.set.ensures
+    kept_tight _ c.self.inside.components c.self.inside.values _ c.self.inside.sources.items c.self.inside.ranks.ranks c.self.inside.queue c.self.inside.tight c.self.inside.weighted c.self.inside.loose.items c.self.inside.waiting c.self.inside.joined c.self.inside.found c.args.lit.var (Some c.args.lit.truth) c.self.invariant c.if-self.true v c.set.ensures
 
 pub lose_by-requires-clause-queue : goal.lose_by-requires-clause-queue
 lose_by-requires-clause-queue c = c.self.invariant.pointers.room

@@ -6,4 +6,4 @@ use Rattle.asp_trail.proofs.trail.Trail.len.Goals as goal
 pub returns-clause-ordered : goal.returns-clause-ordered
 returns-clause-ordered c =
     subst (λ (t : Trailed). IsOrdered t.vars t.entries) c.self.view_is
-    (ordered c.self.inside.vars c.self.inside.entries.items c.self.inside.values c.self.inside.places.items c.self.inside.seen c.self.invariant)
+    (ordered c.self.inside.vars c.self.inside.entries.items c.self.inside.values c.self.inside.places.items c.self.inside.levels.items c.self.inside.seen c.self.invariant)

@@ -8,5 +8,6 @@ invariant_of-self c =
     let lo = rw (← c.self.view_is) at c.requires.level in
     let hi = rw (← c.self.view_is) at c.requires.step in
     let first = rw (← c.self.view_is) at c.requires.decided in
-    rw (c.push_reserved.ensures.items, c.set.ensures, c.var.ensures, c.len-place.ensures)
-    (new_entry_at c.self.inside.vars c.self.inside.entries.items c.self.inside.values c.self.inside.places.items c.self.inside.seen c.args.entry _ c.self.inside.entries.ok.0 c.self.invariant v n lo hi first)
+    let place = rw (← c.self.view_is) at c.next_place-place.ensures in
+    rw (c.push_reserved.ensures.items, c.set.ensures, c.var-var.ensures)
+    (new_entry_at c.self.inside.vars c.self.inside.entries.items c.self.inside.values c.self.inside.places.items c.self.inside.levels.items c.self.inside.seen c.args.entry _ place c.self.invariant v n lo hi first)
