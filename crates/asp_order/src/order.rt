@@ -3,10 +3,10 @@
 //! Each variable without a value is in the heap. One that gets a value stays there until it comes first and is
 //! skipped, so nothing is done when a literal comes to hold. Before literals are taken back, their variables are put
 //! into the heap again, and their values are saved: a variable is decided to have the value that it had last.
-ghost use Rattle.std.specs.Prelude.{◌≡◌, ◌+◌, ◌<◌, ◌^◌, ◌↔◌, ◌++◌, ◌∷◌, [], ℕ, All, length, slice_set, slice_index_or, false, IsTrue, IfOk, IfSome, IfNone};
+ghost use Rattle.std.specs.Prelude.{◌≡◌, ◌+◌, ◌<◌, ◌^◌, ◌++◌, ◌∷◌, [], ℕ, All, length, slice_set, false, IsTrue, IfOk, IfSome, IfNone};
 ghost use Rattle.asp_trail.specs.declared.trail.Entry.{Entry};
 ghost use Rattle.asp_trail.specs.Entries.{assignment, cut};
-ghost use Rattle.asp_trail.specs.Trails.{IsVar, IsOrdered};
+ghost use Rattle.asp_trail.specs.Trails.{IsVar};
 ghost use Rattle.asp_order.specs.Heaps.{is_in, IsFirst, reserved};
 ghost use Rattle.asp_order.specs.Waiting.{HasVars, AreWaiting, AreAssigned, IsNext, IsFuller, fresh, all_bumped, learnt};
 

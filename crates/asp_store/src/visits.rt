@@ -40,7 +40,7 @@ pub fn is_quick(lit: Lit, level: usize, is_top: bool, trail: &Trail) -> bool
     ensures { IsTrue result → IsFalseBy trail.now.entries lit level }
 {
     let _len = trail.len();
-    if !trail.assignment().holds(lit.complement()) {
+    if !trail.assignment().is_false(lit) {
         return false;
     }
     is_top || trail.level_of(lit.var()) <= level

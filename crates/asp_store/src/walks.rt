@@ -2,7 +2,7 @@
 //!
 //! Most places need no visit, as their blockers are false: a walk goes past those that follow one another in a loop that does
 //! nothing else.
-ghost use Rattle.std.specs.Prelude.{◌≡◌, ℕ, ◌<◌, ◌≤◌, IfOk, IsTrue, length, slice_index_or, true};
+ghost use Rattle.std.specs.Prelude.{◌≡◌, ℕ, ◌<◌, ◌≤◌, IfOk, length, slice_index_or, true};
 ghost use Rattle.std.specs.List.{All};
 ghost use Rattle.asp_vars.specs.Codes.{code_of};
 ghost use Rattle.asp_vars.specs.Literals.{complement, holds_in};
@@ -20,18 +20,7 @@ use crate::watches::Watches;
 use asp_trail::reasons::NogoodId;
 use asp_trail::trail::Trail;
 use asp_vars::assign::Assign;
-use asp_vars::lit::Lit;
 use std::alloc::AllocError;
-
-fn is_false(lit: Lit, values: &Assign) -> bool
-    requires { lit.var < length values.now }
-    ensures { IsTrue result → holds_in values.now (complement lit) ≡ true }
-{
-    match values.value(lit.var()) {
-        Some(truth) => truth != lit.truth(),
-        None => false,
-    }
-}
 
 // The first place from this one on whose blocker isn't false, or the end of the list.
 fn first_unblocked(list: &[Watch], start: usize, values: &Assign) -> usize
@@ -42,7 +31,7 @@ fn first_unblocked(list: &[Watch], start: usize, values: &Assign) -> usize
     ensures blocked { (k : ℕ) (d : Watch) → start ≤ k → k < result → holds_in values.now (complement (slice_index_or list.now k d).blocker) ≡ true }
 {
     for i in start..list.len() {
-        if !is_false(list[i].blocker, values) {
+        if !values.is_false(list[i].blocker) {
             return i;
         }
     }

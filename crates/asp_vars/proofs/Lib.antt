@@ -1,4 +1,5 @@
 pub mod LiteralLaws
+pub mod FalseLaws
 pub mod ResolutionLaws
 pub mod NormalLaws
 pub mod NumberingLaws

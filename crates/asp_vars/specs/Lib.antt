@@ -1,5 +1,6 @@
 pub mod Literals
 pub mod Codes
+pub mod Falses
 pub mod Numbering
 pub mod Entailment
 pub mod Resolution

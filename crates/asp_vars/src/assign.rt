@@ -1,6 +1,6 @@
 //! Partial assignments of variables.
 ghost use Rattle.std.specs.Prelude.{◌≡◌, ◌<◌, ◌+◌, Some, None, IfOk, length, replicate, slice_set};
-ghost use Rattle.asp_vars.specs.Literals.{value_of, holds_in};
+ghost use Rattle.asp_vars.specs.Literals.{value_of, holds_in, complement};
 
 use crate::lit::{Lit, Var};
 use std::alloc::{AllocError, Global};
@@ -9,16 +9,19 @@ use std::marker::Model;
 /// The values of the variables, of which some may have none.
 #[derive(Drop)]
 pub struct Assign {
-    /// The value at the place of each variable; place 0 stands for none.
-    values: Vec<Option<bool>>,
+    /// By the code of each literal, whether it is false; the first two places stand for no variable.
+    falses: Vec<bool>,
 }
 
 impl Model for Assign {
     ghost use Rattle.std.specs.Prelude.{List, Option, Bool};
+    ghost use Rattle.asp_vars.specs.Falses.{values_of, AreFalses};
 
     ghost Value = { List (Option Bool) };
 
-    ghost view = { λ a. a.values.items };
+    ghost view = { λ a. values_of a.falses.items };
+
+    ghost invariant = { λ a. AreFalses a.falses.items };
 }
 
 impl Assign {
@@ -26,8 +29,8 @@ impl Assign {
     pub fn new(alloc: Global, vars: u32) -> Result<Assign, AllocError>
         ensures { IfOk result (λ a. a ≡ replicate (vars + 1) None) }
     {
-        let values = vec![in alloc; None; vars as usize + 1]?;
-        Ok(Assign { values })
+        let falses = vec![in alloc; false; 2 * (vars as usize) + 2]?;
+        Ok(Assign { falses })
     }
 
     /// The value of a variable, if it has one.
@@ -35,7 +38,15 @@ impl Assign {
         requires { var < length self.now }
         ensures { result ≡ value_of self.now var }
     {
-        self.values[var as usize]
+        let place = 2 * (var as usize);
+        if self.falses[place] {
+            return Some(false);
+        }
+        if self.falses[place + 1] {
+            Some(true)
+        } else {
+            None
+        }
     }
 
     /// Whether the literal's variable has the value that it says.
@@ -43,7 +54,15 @@ impl Assign {
         requires { lit.var < length self.now }
         ensures { result ≡ holds_in self.now lit }
     {
-        self.values[lit.var() as usize] == Some(lit.truth())
+        self.falses[lit.complement().code()]
+    }
+
+    /// Whether the literal's complement holds.
+    pub fn is_false(&self, lit: Lit) -> bool
+        requires { lit.var < length self.now }
+        ensures { result ≡ holds_in self.now (complement lit) }
+    {
+        self.falses[lit.code()]
     }
 
     /// Makes the literal hold.
@@ -51,7 +70,10 @@ impl Assign {
         requires { lit.var < length self.old }
         ensures { self.new ≡ slice_set self.old lit.var (Some lit.truth) }
     {
-        self.values[lit.var() as usize] = Some(lit.truth());
+        let place = 2 * (lit.var() as usize);
+        let truth = lit.truth();
+        self.falses[place] = !truth;
+        self.falses[place + 1] = truth;
     }
 
     /// Takes the variable's value away.
@@ -59,6 +81,8 @@ impl Assign {
         requires { var < length self.old }
         ensures { self.new ≡ slice_set self.old var None }
     {
-        self.values[var as usize] = None;
+        let place = 2 * (var as usize);
+        self.falses[place] = false;
+        self.falses[place + 1] = false;
     }
 }

@@ -68,14 +68,8 @@ impl Lit {
     pub fn complement(self) -> Lit
         ensures { result ≡ complement self }
     {
-        if self.code % 2 == 0 {
-            Lit {
-                code: self.code + 1,
-            }
-        } else {
-            Lit {
-                code: self.code - 1,
-            }
+        Lit {
+            code: self.code ^ 1,
         }
     }
 }

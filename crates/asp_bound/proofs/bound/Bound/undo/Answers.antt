@@ -55,6 +55,7 @@ invariant_of-self c =
     let values = c.unset.ensures ∙ ap (λ (u : ℕ). set c.self.inside.values u None) c.var.ensures in
     let P : Place → Type 0 = λ (o : Place). get_or c.self.inside.starts.items o.level 0 ≤ o.index in
     let starts = starts-untold c.self.inside.values c.self.inside.rows c.self.inside.columns c.self.inside.starts.items c.self.inside.starts.items c.args.lit.var c.self.invariant.1 c.self.invariant.0.linked refl (λ j. omega arith)
-    (subst (λ (r : List Place). All P r) (sym row) (λ k d lt. absurd (omega (arith, lt)))) in
-    (kept_as c.self.inside.origin.value _ c.unset.new.self c.self.inside.rows c.self.inside.columns c.self.inside.vars.items c.self.inside.sums.items _ values refl kept,
-    starts_as (set c.self.inside.values c.args.lit.var None) c.unset.new.self c.self.inside.columns c.self.inside.starts.items _ values refl starts)
+    (subst (λ (r : List Place). All P r) (sym row) (λ k d lt. absurd (omega (arith, lt)))) in (
+      kept_as c.self.inside.origin.value _ c.unset.new.self c.self.inside.rows c.self.inside.columns c.self.inside.vars.items c.self.inside.sums.items _ values refl kept,
+      starts_as (set c.self.inside.values c.args.lit.var None) c.unset.new.self c.self.inside.columns c.self.inside.starts.items _ values refl starts,
+    )
