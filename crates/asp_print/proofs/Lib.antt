@@ -1,3 +1,2 @@
 pub mod ShownLaws
 pub mod PlaceLaws
-pub mod FirstLaws

@@ -1,13 +1,11 @@
 //! The lines of the answers.
-ghost use Rattle.std.specs.Prelude.{◌≡◌, ◌++◌, ◌+◌, ◌^◌, ◌<◌, ◌≤◌, ◌||◌, [], ◌∷◌, length, codes, decimal, if◌then◌else◌, IfOk, IsTrue, false, List, ℤ};
+ghost use Rattle.std.specs.Prelude.{◌≡◌, ◌++◌, ◌+◌, ◌^◌, ◌<◌, ◌≤◌, ◌||◌, [], ◌∷◌, length, codes, decimal, if◌then◌else◌, IfOk, false};
 ghost use Rattle.std.specs.List.{join_with_byte};
 ghost use Rattle.asp_model.specs.Holding.{all_hold, holds};
 ghost use Rattle.asp_model.specs.Texts.{answer_lines, answers_from, ended_line, shown};
 ghost use Rattle.asp_buffer.specs.Out.{Puts, out};
 ghost use Rattle.asp_print.specs.Shown.{piece, pieces, separator};
-ghost use Rattle.asp_print.specs.Firsts.{IsFirst, AreFirst};
 
-use crate::firsts::{first_at, first_literals};
 use crate::place::has_near;
 use asp_buffer::{Waiting, put, put_number};
 use asp_io::{Failed, Sink};
@@ -74,53 +72,21 @@ fn put_if_shown<K: Sink>(
     Ok(any)
 }
 
-// Whether the first literal of a condition shows that it doesn't hold.
-fn is_hidden(interp: &Interp, first: i32, place: &mut usize) -> bool
-    ensures { IsTrue result → (condition : List ℤ) → IsFirst first condition → all_hold interp.now condition ≡ false }
-{
-    first != 0 && !holds_near(interp, first, place)
-}
-
-// Puts out the text of an output whose condition holds, and says whether any text stands there now. It isn't read where the
-// first literal shows that the condition doesn't hold.
-fn put_unless_hidden<K: Sink>(
-    sink: &mut K,
-    waiting: &mut Waiting,
-    interp: &Interp,
-    output: &Output,
-    first: i32,
-    place: &mut usize,
-    any: bool,
-) -> Result<bool, Failed>
-    requires { IsFirst first output.now.condition }
-    ensures puts { Puts (out (K.held sink.old) (K.faults sink.old) waiting.old)
-        (out (K.held sink.new) (K.faults sink.new) waiting.new) result (piece interp.now any output.now) }
-    ensures any { IfOk result (λ now. now ≡ (any || all_hold interp.now output.now.condition)) }
-{
-    if is_hidden(interp, first, place) {
-        return Ok(any);
-    }
-    put_if_shown(sink, waiting, interp, output, place, any)
-}
-
 // Puts out the texts that are shown, one blank between two.
 fn put_texts<K: Sink>(
     sink: &mut K,
     waiting: &mut Waiting,
     interp: &Interp,
     outputs: &[Output],
-    firsts: &[i32],
 ) -> Result<(), Failed>
-    requires { AreFirst outputs.now firsts.now }
     ensures { Puts (out (K.held sink.old) (K.faults sink.old) waiting.old)
         (out (K.held sink.new) (K.faults sink.new) waiting.new) result
         (pieces interp.now false outputs.now) }
 {
     let mut any = false;
     let mut place = 0;
-    for (i, output) in outputs.iter().enumerate() {
-        let first = first_at(firsts, i);
-        any = put_unless_hidden(sink, waiting, interp, output, first, &mut place, any)?;
+    for output in outputs {
+        any = put_if_shown(sink, waiting, interp, output, &mut place, any)?;
     }
     Ok(())
 }
@@ -141,15 +107,13 @@ fn put_shown<K: Sink>(
     sink: &mut K,
     waiting: &mut Waiting,
     program: &Program,
-    firsts: &[i32],
     interp: &Interp,
 ) -> Result<(), Failed>
-    requires { AreFirst program.now.outputs firsts.now }
     ensures { Puts (out (K.held sink.old) (K.faults sink.old) waiting.old)
         (out (K.held sink.new) (K.faults sink.new) waiting.new) result
         (ended_line (join_with_byte 32 (shown program.now interp.now))) }
 {
-    put_texts(sink, waiting, interp, program.outputs.as_slice(), firsts)?;
+    put_texts(sink, waiting, interp, program.outputs.as_slice())?;
     put(sink, waiting, b"\n")
 }
 
@@ -157,17 +121,15 @@ fn put_answer<K: Sink>(
     sink: &mut K,
     waiting: &mut Waiting,
     program: &Program,
-    firsts: &[i32],
     number: u64,
     interp: &Interp,
 ) -> Result<(), Failed>
-    requires { AreFirst program.now.outputs firsts.now }
     ensures { Puts (out (K.held sink.old) (K.faults sink.old) waiting.old)
         (out (K.held sink.new) (K.faults sink.new) waiting.new) result
         (answer_lines program.now number interp.now) }
 {
     put_heading(sink, waiting, number)?;
-    put_shown(sink, waiting, program, firsts, interp)
+    put_shown(sink, waiting, program, interp)
 }
 
 /// Puts out the lines of the answers, numbered from 1.
@@ -181,10 +143,9 @@ pub fn put_answers<K: Sink>(
         (out (K.held sink.new) (K.faults sink.new) waiting.new) result
         (answers_from program.now 1 answers.now) }
 {
-    let firsts = first_literals(program.outputs.as_slice());
     let mut number = 1;
     for interp in answers {
-        put_answer(sink, waiting, program, firsts.as_slice(), number, interp)?;
+        put_answer(sink, waiting, program, number, interp)?;
         number += 1;
     }
     Ok(())
