@@ -1,5 +1,5 @@
 -- A worker's search after a step on its path, by the step's answer.
-use Rattle.std.proofs.Common.{◌≡◌, ◌⊎◌, ℕ, ◌-◌, Bool, List, Option, sym, ap, ◌∙◌, subst, inl, inr}
+use Rattle.std.proofs.Common.{◌≡◌, ◌⊎◌, ℕ, ◌-◌, Bool, List, Option, sym, ap, ◌∙◌, subst, inl, inr, refl}
 use Rattle.std.specs.Prelude.{ℤ}
 use Rattle.asp_model.specs.declared.program.Program.{Program}
 use Rattle.asp_model.specs.declared.results.Mode.{Mode}
@@ -82,6 +82,20 @@ module _ (m : Mode) (v : Knows) (s t : Searching) (f : Units) (leaf : ℕ) (on :
           new = d.new;
           records = d.records;
         }
+
+    -- Whatever the step did, the number holds the leaf, and has its units.
+    pub off-stepped : IsOff v g leaf
+    off-stepped = here r refl
+      where
+        off : IsOn m v t g leaf → IsOff v g leaf
+        off k = record { held = k.works.held; units = k.going.work.units }
+        here : (x : Step) → r ≡ x → IsOff v g leaf
+        here step.Decided e = off (on-decided e)
+        here step.Learnt e = off (on-learnt e)
+        here (step.Answer S) e = let found = finds-answer S e in record { held = found.on.works.held; units = found.on.going.work.units }
+        here step.Closed e = off (on-closed e)
+        here (step.NoFuel x) e = off (on-stopped x e)
+        here step.Restarted e = off (on-restarted e)
 
   -- ---- memory was wanting
   pub off-failed : (gives : Nogood → Type 0) (g : Units) → IsFailure gives s t f g → IsOff v g leaf

@@ -14,6 +14,7 @@ use crate::share::{begin, is_enough, share};
 use crate::sharing::{export, lease, record, refresh};
 use crate::stop::Stop;
 use crate::worker::{Shared, Worker};
+use crate::writing::note;
 use asp_book::book::Book;
 use asp_book::desk;
 use asp_path::tree::Leaf;
@@ -64,7 +65,7 @@ fn close<R: Wait>(
     desk::close(rt, &shared.book, seat, leaf, cube.as_slice())
 }
 
-// One step of the search, and what it asks for.
+// One step of the search, which is counted and written down, and what it asks for.
 fn advance<R: Wait>(
     rt: &R,
     shared: &Shared,
@@ -83,7 +84,10 @@ fn advance<R: Wait>(
     ensures err { OnErr result (IsOff (view worker.new.seat) engine.new.fuel leaf) }
 {
     let _leaf = leaf;
-    match engine.search.step(&mut engine.fuel)? {
+    let step = engine.search.step(&mut engine.fuel)?;
+    engine.did.count(&step, engine.search.extra() as u64);
+    note(rt, shared, engine)?;
+    match step {
         Step::Decided => Ok(Course::Open),
         Step::Learnt => {
             export(rt, shared, &mut worker.pages, &engine.search);

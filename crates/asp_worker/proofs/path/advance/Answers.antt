@@ -5,7 +5,7 @@ use Rattle.asp_core.specs.declared.task.Task.{Task}
 use Rattle.asp_book.specs.Calls.{Knows, task_of}
 use Rattle.asp_worker.specs.declared.worker.Worker.{Worker}
 use Rattle.asp_worker.proofs.SeatLaws.{board-task, keeps-self, keeps-seat, keeps-pages, ready-seat}
-use Rattle.asp_worker.proofs.StepLaws.{on-decided, on-restarted, on-learnt, on-stopped, none-left, on-closed, settled-closed, finds-answer, off-failed}
+use Rattle.asp_worker.proofs.StepLaws.{on-decided, on-restarted, on-learnt, on-stopped, none-left, on-closed, settled-closed, finds-answer, off-stepped, off-failed}
 use Rattle.asp_worker.specs.Working.{IsOn, IsOff}
 use Rattle.asp_worker.proofs.Replies.{always-err}
 use Rattle.asp_worker.proofs.SharingLaws.{still-read, paged-of}
@@ -19,6 +19,14 @@ pub returns-in_err-step-clause-err : goal.returns-in_err-step-clause-err
 returns-in_err-step-clause-err g c =
     always-err c.from_residual.result (IsOff (view c.args.worker.now.seat) c.step.new.fuel c.args.leaf)
     (off-failed c.args.shared.now.mode (view c.args.worker.now.seat) c.args.engine.now.search c.step.new.self c.args.engine.now.fuel c.args.leaf c.requires.on _ c.step.new.fuel c.in_err-step.ensures.err)
+
+pub returns-in_err-note-clause-keeps : goal.returns-in_err-note-clause-keeps
+returns-in_err-note-clause-keeps g c = keeps-self c.args.shared.now c.args.worker.now c.requires.ready
+
+pub returns-in_err-note-clause-err : goal.returns-in_err-note-clause-err
+returns-in_err-note-clause-err g c =
+    always-err c.from_residual-in_err-note.result (IsOff (view c.args.worker.now.seat) c.step.new.fuel c.args.leaf)
+    (off-stepped c.args.shared.now.mode (view c.args.worker.now.seat) c.args.engine.now.search c.step.new.self c.args.engine.now.fuel c.args.leaf c.requires.on _ _ c.step.new.fuel _ c.in_ok-step.ensures.ok)
 
 pub returns-in-Decided-clause-keeps : goal.returns-in-Decided-clause-keeps
 returns-in-Decided-clause-keeps g c = keeps-self c.args.shared.now c.args.worker.now c.requires.ready

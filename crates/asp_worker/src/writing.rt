@@ -1,0 +1,21 @@
+//! What a worker writes down of the proof.
+use crate::engine::Engine;
+use crate::worker::Shared;
+use std::alloc::AllocError;
+use std::sync::Wait;
+
+/// Writes down what the last step found, if a proof is wanted: the loops that were given on the way, and the nogood that the
+/// step kept. No other worker has learnt of it before.
+pub(crate) fn note<R: Wait>(
+    rt: &R,
+    shared: &Shared,
+    engine: &Engine<'_>,
+) -> Result<(), AllocError> {
+    if let Some(recorder) = engine.recorder {
+        if let Some(nogood) = engine.search.kept() {
+            recorder.add_learned(nogood)?;
+        }
+        shared.scroll.take_over(rt, recorder)?;
+    }
+    Ok(())
+}
