@@ -31,9 +31,11 @@ use std::alloc::{AllocError, Global};
 use std::sync::Wait;
 use std::thread::Threads;
 
-/// How a run of many workers goes about it.
+/// What is asked of many workers.
 #[derive(Clone, Copy)]
 pub struct Plan {
+    /// What is asked of the program.
+    pub ask: Ask,
     /// How many workers there are, 1 to 64.
     pub workers: u32,
     /// How many units there are for all of them.
@@ -110,21 +112,20 @@ fn worked<R: Threads + Wait + Sync, G: Gate + Sync, H: Halt + Sync>(
     rt: &R,
     alloc: Global,
     compiled: &Compiled,
-    ask: Ask,
     plan: Plan,
     gate: &G,
     halt: &H,
     deeds: &mut Deeds,
 ) -> Result<(Report, Recorder), AllocError>
     requires { (1 ≤ plan.workers) × (plan.workers ≤ 64) }
-    ensures report { IfOk result (λ r. IsReport compiled.now ask plan.budget r.0) }
+    ensures report { IfOk result (λ r. IsReport compiled.now plan.ask plan.budget r.0) }
     ensures proof { IfOk result (λ r. r.0.proof ≡ None) }
 {
     let team = gathered(
         rt,
         alloc,
         compiled,
-        ask,
+        plan.ask,
         plan.budget,
         plan.workers,
         plan.proof,
@@ -145,14 +146,14 @@ fn worked<R: Threads + Wait + Sync, G: Gate + Sync, H: Halt + Sync>(
     let unpaid = finish(
         alloc,
         compiled,
-        ask.mode,
+        plan.ask.mode,
         &mut book,
         propagators,
         &mut deeds.sum,
         &mut Unwatched,
         wanted,
     )?;
-    Ok((reported(ask.mode, book, unpaid, log, short), recorder))
+    Ok((reported(plan.ask.mode, book, unpaid, log, short), recorder))
 }
 
 /// A run of so many workers, 1 to 64, which pass the gate before each path and are stopped by `halt`. What it did is in
@@ -165,17 +166,16 @@ pub fn solve_with<R: Threads + Wait + Sync, G: Gate + Sync, H: Halt + Sync>(
     rt: &R,
     alloc: Global,
     compiled: &Compiled,
-    ask: Ask,
     plan: Plan,
     gate: &G,
     halt: &H,
     deeds: &mut Deeds,
 ) -> Result<Report, AllocError>
     requires { (1 ≤ plan.workers) × (plan.workers ≤ 64) }
-    ensures report { IfOk result (IsReport compiled.now ask plan.budget) }
+    ensures report { IfOk result (IsReport compiled.now plan.ask plan.budget) }
     ensures proof { IfOk result (HasProof plan.proof) }
 {
-    let (report, recorder) = worked(rt, alloc, compiled, ask, plan, gate, halt, deeds)?;
+    let (report, recorder) = worked(rt, alloc, compiled, plan, gate, halt, deeds)?;
     if plan.proof {
         with_proof(alloc, report, recorder)
     } else {
@@ -188,14 +188,13 @@ pub fn solve<R: Threads + Wait + Sync, G: Gate + Sync>(
     rt: &R,
     alloc: Global,
     compiled: &Compiled,
-    ask: Ask,
     plan: Plan,
     gate: &G,
     deeds: &mut Deeds,
 ) -> Result<Report, AllocError>
     requires { (1 ≤ plan.workers) × (plan.workers ≤ 64) }
-    ensures report { IfOk result (IsReport compiled.now ask plan.budget) }
+    ensures report { IfOk result (IsReport compiled.now plan.ask plan.budget) }
     ensures proof { IfOk result (HasProof plan.proof) }
 {
-    solve_with(rt, alloc, compiled, ask, plan, gate, &NoHalt, deeds)
+    solve_with(rt, alloc, compiled, plan, gate, &NoHalt, deeds)
 }

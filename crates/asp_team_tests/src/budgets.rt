@@ -18,12 +18,13 @@ fn run<R: Threads + Wait + Sync + Abort>(
     budget: u64,
 ) -> Report {
     let plan = Plan {
+        ask: ALL,
         workers: 2,
         budget,
         proof: false,
     };
     let mut deeds = Deeds::new(heap);
-    solve(rt, heap, compiled, ALL, plan, &OpenGate, &mut deeds).expect(rt, "memory")
+    solve(rt, heap, compiled, plan, &OpenGate, &mut deeds).expect(rt, "memory")
 }
 
 // Whether it has all six answers, or no unit is left and a conflict is unpaid.

@@ -1,5 +1,5 @@
 //! Workers are on their paths at the same time.
-ghost use Rattle.std.specs.Prelude.{◌≡◌, false};
+ghost use Rattle.std.specs.Prelude.{◌≡◌};
 
 use crate::programs::{ALL, free_atoms};
 use crate::reports::{finished, has_closed};
@@ -27,11 +27,12 @@ fn hold(wanted: u64) -> Holds {
     }
 }
 
-// So many workers, who have units enough and write down no proof.
+// All answers by so many workers, who have units enough and write down no proof.
 fn of_workers(workers: u32) -> Plan
-    ensures { result ≡ record { workers = workers; budget = 100; proof = false } }
+    ensures { result.workers ≡ workers }
 {
     Plan {
+        ask: ALL,
         workers,
         budget: 100,
         proof: false,
@@ -64,7 +65,6 @@ fn two_workers_are_on_their_paths_at_once(rt: HostRuntime) {
         &rt,
         heap,
         &compiled,
-        ALL,
         of_workers(2),
         &gate,
         &mut deeds,
@@ -88,7 +88,6 @@ fn four_workers_are_on_their_paths_at_once(rt: HostRuntime) {
         &rt,
         heap,
         &compiled,
-        ALL,
         of_workers(4),
         &gate,
         &mut deeds,

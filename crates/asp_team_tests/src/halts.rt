@@ -46,13 +46,14 @@ fn run<R: Threads + Wait + Sync + Abort, H: Halt + Sync>(
     halt: &H,
 ) -> Report {
     let plan = Plan {
+        ask: ALL,
         workers: 3,
         budget: 100,
         proof: false,
     };
     let mut deeds = Deeds::new(heap);
     solve_with(
-        rt, heap, compiled, ALL, plan, &OpenGate, halt, &mut deeds,
+        rt, heap, compiled, plan, &OpenGate, halt, &mut deeds,
     )
     .expect(rt, "memory")
 }

@@ -84,11 +84,12 @@ fn solved_by_crew<R: Threads + Wait + Sync, G: Gate + Sync>(
     ensures proof { IfOk result (HasProof options.now.proof) }
 {
     let plan = Plan {
+        ask,
         workers: options.workers,
         budget: options.budget,
         proof: options.proof,
     };
-    many::solve(rt, alloc, compiled, ask, plan, gate, deeds)
+    many::solve(rt, alloc, compiled, plan, gate, deeds)
 }
 
 /// Workers side by side solve it.

@@ -10,8 +10,8 @@ use Rattle.asp_team.proofs.many.solve_with.Goals as goal
 pub returns-then-plan-clause-report : goal.returns-then-plan-clause-report
 returns-then-plan-clause-report g c =
     let first : Report = c.in_ok-report.report in
-    IfOk-weaker c.with_proof.result (λ (r : Report). r ≡ record first { proof = r.proof }) (IsReport c.args.compiled.now c.args.ask c.args.plan.budget)
-    (λ r same. report_with c.args.compiled.now c.args.ask c.args.plan.budget first r same c.in_ok-report.ensures.report) c.with_proof.ensures.same
+    IfOk-weaker c.with_proof.result (λ (r : Report). r ≡ record first { proof = r.proof }) (IsReport c.args.compiled.now c.args.plan.ask c.args.plan.budget)
+    (λ r same. report_with c.args.compiled.now c.args.plan.ask c.args.plan.budget first r same c.in_ok-report.ensures.report) c.with_proof.ensures.same
 
 pub returns-then-plan-clause-proof : goal.returns-then-plan-clause-proof
 returns-then-plan-clause-proof g c = subst (λ (b : Bool). IfOk c.with_proof.result (HasProof b)) (sym c.if-plan.true) c.with_proof.ensures.proof
