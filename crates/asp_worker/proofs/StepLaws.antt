@@ -1,5 +1,5 @@
 -- A worker's search after a step on its path, by the step's answer.
-use Rattle.std.proofs.Common.{◌≡◌, ◌⊎◌, ℕ, ◌-◌, Bool, List, Option, sym, ap, ◌∙◌, subst, inl, inr, refl}
+use Rattle.std.proofs.Common.{◌≡◌, ◌⊎◌, ℕ, ◌-◌, Bool, List, Option, sym, ap, ◌∙◌, subst, inl, inr}
 use Rattle.std.specs.Prelude.{ℤ}
 use Rattle.asp_model.specs.declared.program.Program.{Program}
 use Rattle.asp_model.specs.declared.results.Mode.{Mode}
@@ -15,7 +15,7 @@ use Rattle.asp_search_laws.specs.Steps.{HasSameTask, Burns, IsStep, IsFailure, S
 use Rattle.asp_search_laws.specs.declared.step.Step.{Step}
 use Rattle.asp_search_laws.specs.declared.step.Step.TheVariants as step
 use Rattle.asp_crew_laws.proofs.WorkLaws.{work-burnt}
-use Rattle.asp_worker.specs.Working.{GoesOn, IsOn, IsOff, Finds}
+use Rattle.asp_worker.specs.Working.{GoesOn, IsOn, IsOff, Finds, Pays}
 use Rattle.asp_worker.proofs.GoingLaws.{goes-same}
 
 module _ (m : Mode) (v : Knows) (s t : Searching) (f : Units) (leaf : ℕ) (on : IsOn m v s f leaf) where
@@ -83,24 +83,25 @@ module _ (m : Mode) (v : Knows) (s t : Searching) (f : Units) (leaf : ℕ) (on :
           records = d.records;
         }
 
-    -- Whatever the step did, the number holds the leaf, and has its units.
-    pub off-stepped : IsOff v g leaf
-    off-stepped = here r refl
-      where
-        off : IsOn m v t g leaf → IsOff v g leaf
-        off k = record { held = k.works.held; units = k.going.work.units }
-        here : (x : Step) → r ≡ x → IsOff v g leaf
-        here step.Decided e = off (on-decided e)
-        here step.Learnt e = off (on-learnt e)
-        here (step.Answer S) e = let found = finds-answer S e in record { held = found.on.works.held; units = found.on.going.work.units }
-        here step.Closed e = off (on-closed e)
-        here (step.NoFuel x) e = off (on-stopped x e)
-        here step.Restarted e = off (on-restarted e)
-
   -- ---- memory was wanting
-  pub off-failed : (gives : Nogood → Type 0) (g : Units) → IsFailure gives s t f g → IsOff v g leaf
-  off-failed gives g h = here (h (cube_of (seen_board v).nodes leaf) on.works.entered).fuel
+  pub off-paid : (g : Units) → Pays s f g → IsOff v g leaf
+  off-paid g h = here (h (cube_of (seen_board v).nodes leaf) on.works.entered)
     where
       here : (g ≡ f) ⊎ Burns s (cube_of (seen_board v).nodes leaf) f g → IsOff v g leaf
       here (inl e) = subst (λ (u : Units). IsOff v u leaf) (sym e) (record { held = on.works.held; units = on.going.work.units })
       here (inr b) = record { held = on.works.held; units = (goes-burnt (cube_of (seen_board v).nodes leaf) g b).work.units }
+
+-- ---- what a step pays
+pub step-pays : (gives : Nogood → Type 0) (silent : List (Option Bool) → Type 0) (s t : Searching) (f g : Units) (r : Step) → IsStep gives silent s t f g r → Pays s f g
+step-pays gives silent s t f g r h q e = here r (h q e)
+  where
+    here : (x : Step) → Steps gives silent s t q f g x → (g ≡ f) ⊎ Burns s q f g
+    here step.Decided d = inl d.fuel
+    here step.Learnt d = inr d.burns
+    here (step.Answer S) d = inl d.fuel
+    here step.Closed d = inl d.fuel
+    here (step.NoFuel x) d = inl d.fuel
+    here step.Restarted d = inl d.fuel
+
+pub failure-pays : (gives : Nogood → Type 0) (s t : Searching) (f g : Units) → IsFailure gives s t f g → Pays s f g
+failure-pays gives s t f g h q e = (h q e).fuel

@@ -1,6 +1,8 @@
 //! What a worker writes down of the proof.
-use crate::engine::Engine;
 use crate::worker::Shared;
+use asp_propagators::propagators::Propagators;
+use asp_recorder::recorder::Recorder;
+use asp_search::search::Search;
 use std::alloc::AllocError;
 use std::sync::Wait;
 
@@ -9,10 +11,11 @@ use std::sync::Wait;
 pub(crate) fn note<R: Wait>(
     rt: &R,
     shared: &Shared,
-    engine: &Engine<'_>,
+    search: &Search<'_, Propagators<'_>>,
+    recorder: Option<&Recorder>,
 ) -> Result<(), AllocError> {
-    if let Some(recorder) = engine.recorder {
-        if let Some(nogood) = engine.search.kept() {
+    if let Some(recorder) = recorder {
+        if let Some(nogood) = search.kept() {
             recorder.add_learned(nogood)?;
         }
         shared.scroll.take_over(rt, recorder)?;
