@@ -51,11 +51,6 @@ impl Recorder {
         }
     }
 
-    /// The recorder, where a proof is wanted.
-    pub fn if_wanted(&self, wanted: bool) -> Option<&Recorder> {
-        if wanted { Some(self) } else { None }
-    }
-
     // The lines so far, which are to be put back. None before the first.
     pub(crate) fn take(&self) -> Option<Vec<Line>> {
         self.lines.take()

@@ -1,9 +1,10 @@
 //! A run of many workers.
-ghost use Rattle.std.specs.Prelude.{◌≡◌, ℕ, ◌<◌, ◌≤◌, None, Some, IfOk};
+ghost use Rattle.std.specs.Prelude.{◌≡◌, ℕ, ◌^◌, ◌<◌, ◌≤◌, None, Some, IfOk};
 ghost use Rattle.asp_vault.specs.Seats.{view};
 ghost use Rattle.asp_book.specs.Books.{board};
 ghost use Rattle.asp_crew_laws.specs.Proofs.{HasProof};
 ghost use Rattle.asp_crew_laws.specs.Reports.{IsReport, IsIdle as IsIdleBoard};
+ghost use Rattle.asp_crew.specs.Running.{Finishes, IsRunIn};
 ghost use Rattle.asp_worker.specs.Seats.{IsIdle};
 ghost use Rattle.asp_team.specs.Joined.{IsHome, IsLead};
 ghost use Rattle.asp_team.specs.Teams.{IsAllBack};
@@ -24,6 +25,7 @@ use asp_propagators::propagators::Propagators;
 use asp_recorder::recorder::Recorder;
 use asp_recorder::scroll::Scroll;
 use asp_vars::compiled::Compiled;
+use asp_vars::fuel::Conflict;
 use asp_worker::gate::Gate;
 use asp_worker::halt::{Halt, NoHalt};
 use asp_worker::worker::Shared;
@@ -107,6 +109,40 @@ fn dismissed(shared: Shared, lead: Lead) -> (Book, u32, Tallies, Scroll)
     )
 }
 
+// What was left open is worked off. The recorder gets what is found, if a proof is wanted.
+fn work_off<'a>(
+    alloc: Global,
+    compiled: &'a Compiled,
+    plan: Plan,
+    book: &mut Book,
+    counts: &mut Counts,
+    recorder: &'a Recorder,
+) -> Result<Option<Conflict>, AllocError>
+    requires task { IsRunIn plan.ask.mode book.old.task }
+    requires of { book.old.task.program ≡ compiled.now }
+    requires fits { book.old.task.budget < 2 ^ 64 }
+    requires idle { IsIdleBoard (board book.old) }
+    ensures { IfOk result (Finishes book.old book.new) }
+{
+    let recorder = if plan.proof {
+        Some(recorder)
+    } else {
+        None
+    };
+    let mut propagators = Propagators::new(alloc, compiled)?;
+    propagators.record(recorder);
+    finish(
+        alloc,
+        compiled,
+        plan.ask.mode,
+        book,
+        propagators,
+        counts,
+        &mut Unwatched,
+        recorder,
+    )
+}
+
 // A run, and what was written down in it.
 fn worked<R: Threads + Wait + Sync, G: Gate + Sync, H: Halt + Sync>(
     rt: &R,
@@ -140,18 +176,13 @@ fn worked<R: Threads + Wait + Sync, G: Gate + Sync, H: Halt + Sync>(
     let (mut book, log, tallies, scroll) = dismissed(shared, lead);
     *deeds = Deeds::of(tallies);
     let recorder = scroll.into_recorder(alloc);
-    let wanted = recorder.if_wanted(plan.proof);
-    let mut propagators = Propagators::new(alloc, compiled)?;
-    propagators.record(wanted);
-    let unpaid = finish(
+    let unpaid = work_off(
         alloc,
         compiled,
-        plan.ask.mode,
+        plan,
         &mut book,
-        propagators,
         &mut deeds.sum,
-        &mut Unwatched,
-        wanted,
+        &recorder,
     )?;
     Ok((reported(plan.ask.mode, book, unpaid, log, short), recorder))
 }

@@ -25,28 +25,28 @@ dismissed-book-requires-clause-idle g c =
 pub dismissed-book-requires-clause-home : goal.dismissed-book-requires-clause-home
 dismissed-book-requires-clause-home g c = all-home c.in_ok-team.team.shared c.in_ok-team.team.lead c.crew-lead.result c.in_ok-team.team.workers.items c.in_ok-team.ensures.team.ready c.crew-lead.ensures.joins c.crew-lead.ensures.came
 
-pub finish-requires-clause-task : goal.finish-requires-clause-task
-finish-requires-clause-task g c =
+pub work_off-requires-clause-task : goal.work_off-requires-clause-task
+work_off-requires-clause-task g c =
     run-in c.args.compiled.now c.args.plan.ask c.args.plan.budget c.dismissed-book.result.0.task
     (book-task c.args.compiled.now c.args.plan.ask c.args.plan.budget c.dismissed-book.result.0 (view c.in_ok-team.team.lead.seat) (view c.crew-lead.result.seat) c.dismissed-book.ensures.task c.crew-lead.ensures.joins.about c.in_ok-team.ensures.team.about)
 
-pub finish-requires-clause-of : goal.finish-requires-clause-of
-finish-requires-clause-of g c =
+pub work_off-requires-clause-of : goal.work_off-requires-clause-of
+work_off-requires-clause-of g c =
     ap (λ (t : Task). t.program)
     (book-task c.args.compiled.now c.args.plan.ask c.args.plan.budget c.dismissed-book.result.0 (view c.in_ok-team.team.lead.seat) (view c.crew-lead.result.seat) c.dismissed-book.ensures.task c.crew-lead.ensures.joins.about c.in_ok-team.ensures.team.about)
 
-pub finish-requires-clause-fits : goal.finish-requires-clause-fits
-finish-requires-clause-fits g c =
+pub work_off-requires-clause-fits : goal.work_off-requires-clause-fits
+work_off-requires-clause-fits g c =
     let e = book-task c.args.compiled.now c.args.plan.ask c.args.plan.budget c.dismissed-book.result.0 (view c.in_ok-team.team.lead.seat) (view c.crew-lead.result.seat) c.dismissed-book.ensures.task c.crew-lead.ensures.joins.about c.in_ok-team.ensures.team.about in
     subst (λ (t : Task). t.budget < 2 ^ 64) (ap (λ (o : Option Task). unwrap_or o no_task) c.in_ok-team.ensures.team.about ∙ sym e) c.in_ok-team.ensures.team.idle.settled.run.budget
 
 pub reported-requires-clause-task : goal.reported-requires-clause-task
 reported-requires-clause-task g c =
-    run-in c.args.compiled.now c.args.plan.ask c.args.plan.budget c.finish.new.book.task
-    (c.in_ok-unpaid.ensures.finishes.task ∙ book-task c.args.compiled.now c.args.plan.ask c.args.plan.budget c.dismissed-book.result.0 (view c.in_ok-team.team.lead.seat) (view c.crew-lead.result.seat) c.dismissed-book.ensures.task c.crew-lead.ensures.joins.about c.in_ok-team.ensures.team.about)
+    run-in c.args.compiled.now c.args.plan.ask c.args.plan.budget c.work_off.new.book.task
+    (c.in_ok-unpaid.ensures.task ∙ book-task c.args.compiled.now c.args.plan.ask c.args.plan.budget c.dismissed-book.result.0 (view c.in_ok-team.team.lead.seat) (view c.crew-lead.result.seat) c.dismissed-book.ensures.task c.crew-lead.ensures.joins.about c.in_ok-team.ensures.team.about)
 
 pub returns-clause-report : goal.returns-clause-report
 returns-clause-report g c =
-    report-is c.args.compiled.now c.args.plan.ask c.args.plan.budget c.finish.new.book.task c.reported.result
-    (c.in_ok-unpaid.ensures.finishes.task ∙ book-task c.args.compiled.now c.args.plan.ask c.args.plan.budget c.dismissed-book.result.0 (view c.in_ok-team.team.lead.seat) (view c.crew-lead.result.seat) c.dismissed-book.ensures.task c.crew-lead.ensures.joins.about c.in_ok-team.ensures.team.about)
+    report-is c.args.compiled.now c.args.plan.ask c.args.plan.budget c.work_off.new.book.task c.reported.result
+    (c.in_ok-unpaid.ensures.task ∙ book-task c.args.compiled.now c.args.plan.ask c.args.plan.budget c.dismissed-book.result.0 (view c.in_ok-team.team.lead.seat) (view c.crew-lead.result.seat) c.dismissed-book.ensures.task c.crew-lead.ensures.joins.about c.in_ok-team.ensures.team.about)
     c.reported.ensures.report
