@@ -3,11 +3,13 @@
 
     recorded.py PROGRAM CHECKER [COUNT [SEED]]
 
-The programs are those of rows.txt that are solved, the examples, and COUNT (300) random small ones, in both modes."""
+The programs are those of rows.txt that are solved, the examples, and COUNT (300) random small ones, in both modes, with one
+worker and with four."""
 import random
 import subprocess
 import sys
 from glob import glob
+from itertools import product
 from os.path import abspath, dirname, join
 
 HERE = dirname(abspath(__file__))
@@ -55,20 +57,20 @@ def main():
     choose = random.Random(seed)
     passed = failed = cut = 0
     for text in [*rows(), *examples(), *random_programs(count, seed)]:
-        for mode in ("enum", "opt"):
-            ran = run([program, "--mode", mode, "--proof"], text)
+        for mode, workers in product(("enum", "opt"), ("1", "4")):
+            ran = run([program, "--mode", mode, "--workers", workers, "--proof"], text)
             checked = run([checker], text + ran.stdout)
             if ran.returncode in SOLVED and checked.stdout == b"YES\n":
                 passed += 1
             else:
                 failed += 1
-                print(f"failed: {text}: --mode {mode}: status {ran.returncode}, {checked.stdout}")
+                print(f"failed: {text}: --mode {mode} --workers {workers}: status {ran.returncode}, {checked.stdout}")
             less = without_an_answer(ran.stdout, choose)
             if less is not None:
                 cut += 1
                 if run([checker], text + less).stdout == b"YES\n":
                     failed += 1
-                    print(f"failed: {text}: --mode {mode}: confirmed without an answer")
+                    print(f"failed: {text}: --mode {mode} --workers {workers}: confirmed without an answer")
     print(f"recorded: {passed} confirmed, {cut} refused without an answer, {failed} failed")
     sys.exit(1 if failed else 0)
 

@@ -255,6 +255,14 @@ impl Book {
         }
     }
 
+    /// How many nodes the tree of paths has, forks too.
+    pub fn nodes(&self) -> usize
+        ensures nodes { result ≡ length (board self.now).nodes }
+        ensures few { result ≤ 4194306 }
+    {
+        self.state.nodes()
+    }
+
     /// How many leaves are open.
     pub fn open_leaves(&self) -> usize
         ensures { result ≡ length (open_from 0 (board self.now).nodes) }

@@ -6,9 +6,11 @@ ghost use Rattle.asp_crew_laws.specs.Reports.{IsIdle};
 ghost use Rattle.asp_crew.specs.Running.{IsRunIn, IsReady, IsAlone, LeavesAll, Finishes};
 
 use crate::leaf::work_off;
-use crate::watch::{Counts, Watch};
 use asp_book::book::Book;
+use asp_counts::counts::Counts;
+use asp_counts::watch::Watch;
 use asp_model::results::Mode;
+use asp_path::tree::Leaf;
 use asp_propagate::propagator::Propagator;
 use asp_recorder::recorder::Recorder;
 use asp_search::search::Search;
@@ -46,9 +48,32 @@ fn work_off_all<P: Propagator, W: Watch>(
     }
 }
 
+// Writes down the cube of each node, behind those of its halves.
+fn note_cubes(book: &Book, recorder: &Recorder) -> Result<(), AllocError> {
+    let nodes = book.nodes();
+    for behind in 0..nodes {
+        let node = nodes - 1 - behind;
+        let cube = book.cube(node as Leaf)?;
+        recorder.add_cube(cube.as_slice())?;
+    }
+    Ok(())
+}
+
+// Writes down why nothing is left below the tree's nodes, if all leaves are closed and somebody wants it.
+fn note_tree(
+    book: &Book,
+    unpaid: &Option<Conflict>,
+    recorder: Option<&Recorder>,
+) -> Result<(), AllocError> {
+    match recorder {
+        Some(recorder) if unpaid.is_none() && !book.enough() => note_cubes(book, recorder),
+        _ => Ok(()),
+    }
+}
+
 /// Number 0 works off every open leaf, with all units of the pool, or until as many answers as asked for were found. The
-/// conflict for which none was left, where one was met. The recorder gets what the search keeps and the cubes of the leaves
-/// that are closed.
+/// conflict for which none was left, where one was met. The recorder gets what the search keeps, and where all leaves are
+/// closed the cube of each node, behind those of its halves.
 ///
 /// No leaf is held before, and no units are out. It returns: each leaf is worked off, and the search ends with the first that
 /// it opens again. Want of memory is the one error. What it does is counted, and told after each step.
@@ -77,5 +102,6 @@ pub fn finish<P: Propagator, W: Watch>(
     let mut fuel = book.lease(0, u64::MAX)?;
     let unpaid = work_off_all(book, mode, &mut search, &mut fuel, counts, watch, recorder)?;
     book.back(0, fuel);
+    note_tree(book, &unpaid, recorder)?;
     Ok(unpaid)
 }

@@ -16,8 +16,9 @@ ghost use Rattle.asp_book.specs.Books.{board};
 ghost use Rattle.asp_search_laws.specs.Steps.{IsStep};
 ghost use Rattle.asp_crew.specs.Running.{IsRunIn, IsReady, IsUnderway, OnlyRecords, IsRecorded, Goes, Ends, LeavesLeaf};
 
-use crate::watch::{Counts, Watch};
 use asp_book::book::Book;
+use asp_counts::counts::Counts;
+use asp_counts::watch::Watch;
 use asp_model::interp::Interp;
 use asp_model::results::Mode;
 use asp_path::tree::Leaf;
@@ -73,18 +74,11 @@ fn note<P: Propagator>(
     Ok(())
 }
 
-// Writes down the cube of a path that is closed, if somebody wants it.
-fn note_cube(recorder: Option<&Recorder>, cube: &[Lit]) -> Result<(), AllocError> {
-    if let Some(recorder) = recorder {
-        recorder.add_cube(cube)?;
-    }
-    Ok(())
-}
-
-// One step, of which is written down what it keeps.
+// One step, which is counted, and of which is written down what it keeps.
 fn step<P: Propagator>(
     search: &mut Search<'_, P>,
     fuel: &mut Fuel,
+    counts: &mut Counts,
     recorder: Option<&Recorder>,
 ) -> Result<Step, AllocError>
     requires entered { IsSome search.old.cube }
@@ -93,6 +87,7 @@ fn step<P: Propagator>(
     ensures few { IfOk result (λ r. length search.new.entries ≤ var_count search.new.program + 1) }
 {
     let step = search.step(fuel)?;
+    counts.count(&step, search.extra() as u64);
     note(recorder, search)?;
     Ok(step)
 }
@@ -110,22 +105,12 @@ fn advance<P: Propagator>(
     requires wanted { is_enough (board book.old) ≡ false }
     ensures { IfOk result (Goes mode book.old book.new search.old search.new fuel.old fuel.new) }
 {
-    match step(search, fuel, recorder)? {
-        Step::Decided => {
-            counts.decisions = counts.decisions.saturating_add(1);
-            Ok(Course::Open)
-        }
-        Step::Learnt => {
-            counts.conflicts = counts.conflicts.saturating_add(1);
-            Ok(Course::Open)
-        }
-        Step::Restarted => {
-            counts.restarts = counts.restarts.saturating_add(1);
-            Ok(Course::Open)
-        }
+    match step(search, fuel, counts, recorder)? {
+        Step::Decided => Ok(Course::Open),
+        Step::Learnt => Ok(Course::Open),
+        Step::Restarted => Ok(Course::Open),
         Step::Answer(set) => {
             record(book, mode, set)?;
-            counts.answers = counts.answers.saturating_add(1);
             Ok(Course::Open)
         }
         Step::Closed => Ok(Course::Closed),
@@ -134,10 +119,9 @@ fn advance<P: Propagator>(
 }
 
 // Tells what was counted, and the cost of the best answer.
-fn tell<P: Propagator, W: Watch>(search: &Search<'_, P>, counts: &mut Counts, watch: &mut W)
+fn tell<P: Propagator, W: Watch>(search: &Search<'_, P>, counts: &Counts, watch: &mut W)
     ensures { W.IsAfter watch.old watch.new }
 {
-    counts.keep(search.extra() as u64);
     watch.tell(counts, search.bound());
 }
 
@@ -209,6 +193,5 @@ pub(crate) fn work_off<P: Propagator, W: Watch>(
         return Ok(unpaid);
     }
     book.close(0, leaf, cube.as_slice())?;
-    note_cube(recorder, cube.as_slice())?;
     Ok(None)
 }

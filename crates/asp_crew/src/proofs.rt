@@ -58,7 +58,7 @@ fn proof_of(alloc: Global, results: &Results, recorder: Recorder) -> Result<Proo
 }
 
 /// The report, with a proof where the run is finished.
-pub(crate) fn with_proof(
+pub fn with_proof(
     alloc: Global,
     mut report: Report,
     recorder: Recorder,

@@ -2,7 +2,7 @@
 //!
 //! What finds a line holds the recorder by a shared reference, if there is one: a propagator the loops that it gives,
 //! a run what its search learns. So the lines stand in the order in which they were found, and without a recorder
-//! nothing is copied. Whether they are right is for a checker to say.
+//! nothing is copied. A recorder is of one thread. Whether the lines are right is for a checker to say.
 ghost use Rattle.std.specs.Prelude.{◌≡◌, map, IfOk};
 ghost use Rattle.asp_recorder.specs.Numbers.{number_of};
 
@@ -51,14 +51,25 @@ impl Recorder {
         }
     }
 
-    // Adds a line at the end. After want of memory there are none.
+    // The lines so far, which are to be put back. None before the first.
+    pub(crate) fn take(&self) -> Option<Vec<Line>> {
+        self.lines.take()
+    }
+
+    // From now on these are the lines.
+    pub(crate) fn put(&self, lines: Vec<Line>) {
+        self.lines.set(Some(lines));
+    }
+
+    // Adds a line at the end. After want of memory the lines are those before.
     fn add(&self, line: Line) -> Result<(), AllocError> {
-        let mut lines = match self.lines.take() {
+        let mut lines = match self.take() {
             Some(lines) => lines,
             None => Vec::new(self.alloc),
         };
-        lines.push(line)?;
-        self.lines.set(Some(lines));
+        let added = lines.push(line);
+        self.put(lines);
+        added?;
         Ok(())
     }
 

@@ -16,9 +16,11 @@ use crate::lead::Lead;
 use asp_book::book::Book;
 use asp_core::goal::Goal;
 use asp_core::state::State;
+use asp_counts::tallies::Tallies;
 use asp_log::Log;
 use asp_model::results::Ask;
 use asp_pool::{Lane, Pass, Pool};
+use asp_recorder::scroll::Scroll;
 use asp_vars::compiled::Compiled;
 use asp_vault::{Seat, Vault};
 use asp_worker::worker::{Shared, Worker};
@@ -176,7 +178,7 @@ fn workers(
     Ok(workers)
 }
 
-/// So many workers, 1 to 64, with what they share and what the main thread has.
+/// So many workers, 1 to 64, with what they share and what the main thread has. They write down a proof, if one is wanted.
 pub(crate) fn gathered<R: Wait>(
     rt: &R,
     alloc: Global,
@@ -184,6 +186,7 @@ pub(crate) fn gathered<R: Wait>(
     ask: Ask,
     budget: u64,
     count: u32,
+    proof: bool,
 ) -> Result<Team, AllocError>
     requires { (1 ≤ count) × (count ≤ 64) }
     ensures team { IfOk result (IsTeam compiled.now ask budget) }
@@ -192,6 +195,7 @@ pub(crate) fn gathered<R: Wait>(
     let (book, seat) = forked(rt, alloc, compiled, ask, budget, count)?;
     let (log, pages) = blank(alloc, compiled)?;
     let (pool, lanes, passes) = Pool::new(alloc, count)?;
+    let tallies = Tallies::new(alloc, count)?;
     let shared = Shared {
         alloc,
         mode: ask.mode,
@@ -200,6 +204,9 @@ pub(crate) fn gathered<R: Wait>(
         book,
         log,
         pool,
+        tallies,
+        proof,
+        scroll: Scroll::new(alloc),
     };
     let mut lead = Lead {
         seat,

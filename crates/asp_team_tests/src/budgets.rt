@@ -2,7 +2,7 @@
 use crate::programs::{ALL, triangle};
 use crate::reports::finished;
 use asp_team::gate::OpenGate;
-use asp_team::many::solve;
+use asp_team::many::{Deeds, Plan, solve};
 use asp_team::report::Report;
 use asp_vars::compiled::Compiled;
 use std::alloc::Global;
@@ -17,7 +17,14 @@ fn run<R: Threads + Wait + Sync + Abort>(
     compiled: &Compiled,
     budget: u64,
 ) -> Report {
-    solve(rt, heap, compiled, ALL, budget, 2, &OpenGate).expect(rt, "memory")
+    let plan = Plan {
+        ask: ALL,
+        workers: 2,
+        budget,
+        proof: false,
+    };
+    let mut deeds = Deeds::new(heap);
+    solve(rt, heap, compiled, plan, &OpenGate, &mut deeds).expect(rt, "memory")
 }
 
 // Whether it has all six answers, or no unit is left and a conflict is unpaid.

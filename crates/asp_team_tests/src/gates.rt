@@ -1,8 +1,10 @@
 //! Workers are on their paths at the same time.
+ghost use Rattle.std.specs.Prelude.{◌≡◌};
+
 use crate::programs::{ALL, free_atoms};
 use crate::reports::{finished, has_closed};
 use asp_team::gate::Gate;
-use asp_team::many::solve;
+use asp_team::many::{Deeds, Plan, solve};
 use std::sync::atomic::{AtomicU64, Ordering};
 use std::thread;
 
@@ -22,6 +24,18 @@ fn hold(wanted: u64) -> Holds {
         come: AtomicU64::new(0),
         wanted,
         late: AtomicU64::new(0),
+    }
+}
+
+// All answers by so many workers, who have units enough and write down no proof.
+fn of_workers(workers: u32) -> Plan
+    ensures { result.workers ≡ workers }
+{
+    Plan {
+        ask: ALL,
+        workers,
+        budget: 100,
+        proof: false,
     }
 }
 
@@ -46,7 +60,16 @@ fn two_workers_are_on_their_paths_at_once(rt: HostRuntime) {
     let heap = rt.alloc();
     let compiled = free_atoms(&rt, heap, &[1, 2]);
     let gate = hold(2);
-    let report = solve(&rt, heap, &compiled, ALL, 100, 2, &gate).expect(&rt, "memory");
+    let mut deeds = Deeds::new(heap);
+    let report = solve(
+        &rt,
+        heap,
+        &compiled,
+        of_workers(2),
+        &gate,
+        &mut deeds,
+    )
+    .expect(&rt, "memory");
     assert_eq!(rt; gate.late.load(Ordering::SeqCst), 0);
     assert_eq!(rt; finished(&report), Some(4));
     assert!(rt; !report.short);
@@ -60,7 +83,18 @@ fn four_workers_are_on_their_paths_at_once(rt: HostRuntime) {
     let heap = rt.alloc();
     let compiled = free_atoms(&rt, heap, &[1, 2, 3, 4]);
     let gate = hold(4);
-    let report = solve(&rt, heap, &compiled, ALL, 100, 4, &gate).expect(&rt, "memory");
+    let mut deeds = Deeds::new(heap);
+    let report = solve(
+        &rt,
+        heap,
+        &compiled,
+        of_workers(4),
+        &gate,
+        &mut deeds,
+    )
+    .expect(&rt, "memory");
     assert_eq!(rt; gate.late.load(Ordering::SeqCst), 0);
     assert_eq!(rt; finished(&report), Some(16));
+    assert_eq!(rt; deeds.workers.len(), 4);
+    assert_eq!(rt; deeds.sum.answers, 16);
 }

@@ -3,7 +3,7 @@ use crate::programs::{ALL, free_atoms, nothing_left, triangle};
 use crate::reports::{finished, has_closed};
 use asp_team::gate::OpenGate;
 use asp_team::halt::Halt;
-use asp_team::many::solve_with;
+use asp_team::many::{Deeds, Plan, solve_with};
 use asp_team::report::Report;
 use asp_vars::compiled::Compiled;
 use std::alloc::Global;
@@ -45,7 +45,17 @@ fn run<R: Threads + Wait + Sync + Abort, H: Halt + Sync>(
     compiled: &Compiled,
     halt: &H,
 ) -> Report {
-    solve_with(rt, heap, compiled, ALL, 100, 3, &OpenGate, halt).expect(rt, "memory")
+    let plan = Plan {
+        ask: ALL,
+        workers: 3,
+        budget: 100,
+        proof: false,
+    };
+    let mut deeds = Deeds::new(heap);
+    solve_with(
+        rt, heap, compiled, plan, &OpenGate, halt, &mut deeds,
+    )
+    .expect(rt, "memory")
 }
 
 // Whether so many answers are found, whichever worker is stopped at whichever of its first steps.

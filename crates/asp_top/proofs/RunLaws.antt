@@ -231,26 +231,9 @@ runs-done given l l' r r' h h' w w' p o ready done = go given.split refl done
     go None asked d = runs-ready given l l' r r' h h' w w' p o asked ready d
     go (Some most) asked d = runs-parted given l l' r r' h h' w w' p most o asked ready d
 
-unproved : (r : Report) → r.proof ≡ None → HasProof false r
-unproved r none = at r.results.end
-  where
-    at : (end : End) → HasProofAt end false r.results r.proof
-    at Finished = none
-    at Limited = none
-    at Unfinished = none
-
--- a report without a proof is as it should be where none was asked for
-pub none-asked : {E : Type 0} (asked : Bool) (result : Result Report E) → asked ≡ false → IfOk result (λ r. r.proof ≡ None) → IfOk result (HasProof asked)
-none-asked asked (Ok r) is none = subst (λ (a : Bool). HasProof a r) (sym is) (unproved r none)
-none-asked asked (Err e) is none = tt
-
 pub second-false : (a b : Bool) → (a || b) ≡ false → b ≡ false
 second-false true b e = absurd cc
 second-false false b e = e
-
-pub first-false : (a b : Bool) → (a || b) ≡ false → a ≡ false
-first-false true b e = absurd cc
-first-false false b e = refl
 
 pub unsplit : (o : Option ℕ) → is_some o ≡ false → o ≡ None
 unsplit None e = refl

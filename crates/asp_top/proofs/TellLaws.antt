@@ -5,7 +5,7 @@ use Rattle.std.specs.List.{flat_map}
 use Rattle.std.proofs.KnownBytes.{Appends-nil, Appends-trans}
 use Rattle.asp_io.specs.declared.traits.Failed.{Failed}
 use Rattle.asp_buffer.proofs.OutLaws.{front-after, front-more}
-use Rattle.asp_crew.specs.declared.watch.Counts.{Counts}
+use Rattle.asp_counts.specs.declared.counts.Counts.{Counts}
 use Rattle.asp_top.specs.Notes.{IsNoted, Writes}
 use Rattle.asp_top.specs.Progress.{IsMore, IsTold, Rises, Told, line_of, nothing}
 use Rattle.asp_top.specs.Telling.{Chain, EndsWith, Line, Point, Tells, point}

@@ -1,9 +1,10 @@
 -- Numbers with their names.
-use Rattle.std.specs.Prelude.{ℕ, List, [], ◌∷◌, ◌++◌, codes, decimal, Option, None, Some}
+use Rattle.std.specs.Prelude.{ℕ, List, [], ◌∷◌, ◌++◌, codes, decimal}
 use Rattle.asp_crew_laws.specs.declared.report.Report.{Report}
-use Rattle.asp_crew.specs.declared.watch.Counts.{Counts}
+use Rattle.asp_counts.specs.declared.counts.Counts.{Counts}
+use Rattle.asp_counts.specs.declared.tallies.WorkerCounts.{WorkerCounts}
 use Rattle.asp_top.specs.declared.counts.What.{What}
-use Rattle.asp_top.specs.declared.counts.What.TheVariants.{Spent, Leaves, Log, Decisions, Restarts, Kept, Dropped, Atoms, Bodies, SoFarConflicts, SoFarDecisions, SoFarRestarts, SoFarKept, SoFarAnswers}
+use Rattle.asp_top.specs.declared.counts.What.TheVariants.{Spent, Leaves, Log, Decisions, Restarts, Kept, Dropped, Worker, ItsConflicts, ItsDecisions, ItsRestarts, ItsAnswers, ItsKept, ItsDropped, Atoms, Bodies, SoFarConflicts, SoFarDecisions, SoFarRestarts, SoFarKept, SoFarAnswers}
 use Rattle.asp_top.specs.declared.counts.Item.{Item}
 use Rattle.asp_top.specs.declared.counts.Tally.{Tally}
 
@@ -16,6 +17,13 @@ label_of Decisions = codes "\nDecisions: "
 label_of Restarts = codes "\nRestarts: "
 label_of Kept = codes "\nKept: "
 label_of Dropped = codes "\nDropped: "
+label_of Worker = codes "\nWorker "
+label_of ItsConflicts = codes ": conflicts "
+label_of ItsDecisions = codes ", decisions "
+label_of ItsRestarts = codes ", restarts "
+label_of ItsAnswers = codes ", answers "
+label_of ItsKept = codes ", kept "
+label_of ItsDropped = codes ", dropped "
 label_of Atoms = codes "\nAtoms: "
 label_of Bodies = codes "\nBodies: "
 label_of SoFarConflicts = codes "Progress: conflicts "
@@ -35,10 +43,15 @@ count_of what number = record { what = what; number = number }
 abbrev pub report_items : Report → List Item
 report_items r = count_of Spent r.spent ∷ count_of Leaves r.leaves ∷ count_of Log r.log ∷ []
 
--- what one search did, if one solved it all
-abbrev pub search_items : Option Counts → List Item
-search_items None = []
-search_items (Some c) = count_of Decisions c.decisions ∷ count_of Restarts c.restarts ∷ count_of Kept c.kept ∷ count_of Dropped c.dropped ∷ []
+-- what the searches did together
+abbrev pub search_items : Counts → List Item
+search_items c = count_of Decisions c.decisions ∷ count_of Restarts c.restarts ∷ count_of Kept c.kept ∷ count_of Dropped c.dropped ∷ []
+
+-- what one of several workers did, on a line
+abbrev pub worker_items : WorkerCounts → List Item
+worker_items w =
+    count_of Worker w.worker ∷ count_of ItsConflicts w.counts.conflicts ∷ count_of ItsDecisions w.counts.decisions ∷ count_of ItsRestarts w.counts.restarts ∷ count_of ItsAnswers w.counts.answers
+    ∷ count_of ItsKept w.counts.kept ∷ count_of ItsDropped w.counts.dropped ∷ []
 
 -- of the program
 abbrev pub program_items : Tally → List Item

@@ -4,11 +4,12 @@ use Rattle.std.specs.List.{flat_map}
 use Rattle.std.specs.Io.KnownBytes.{Appends}
 use Rattle.asp_io.specs.Causes.{Rose, AppendsFront}
 use Rattle.asp_crew_laws.specs.declared.report.Report.{Report}
+use Rattle.asp_counts.specs.declared.tallies.WorkerCounts.{WorkerCounts}
 use Rattle.asp_top.specs.declared.status.Outcome.{Outcome}
 use Rattle.asp_top.specs.declared.status.Status.{Status}
 use Rattle.asp_top.specs.declared.counts.Tally.{Tally}
 use Rattle.asp_top.specs.declared.counts.Item.{Item}
-use Rattle.asp_top.specs.Counts.{item_text, program_items, report_items, search_items}
+use Rattle.asp_top.specs.Counts.{item_text, program_items, report_items, search_items, worker_items}
 use Rattle.asp_top.specs.Usage.{usage_text}
 use Rattle.asp_top.specs.Faults.{fault_text}
 use Rattle.asp_top.specs.declared.status.Status.TheVariants.{All, NoModel, Partial, Unknown, Enough, Help, Memory, Usage, Refused, ReadFault, TooLong, WriteFault, Parts}
@@ -34,9 +35,17 @@ note_of Parts = []
 abbrev pub items_text : List Item → List ℕ
 items_text items = flat_map item_text items
 
+-- what one worker did
+abbrev pub worker_text : WorkerCounts → List ℕ
+worker_text w = items_text (worker_items w)
+
+-- what each of several workers did, a line each
+abbrev pub workers_text : List WorkerCounts → List ℕ
+workers_text ws = flat_map worker_text ws
+
 -- the counts of a run, a line each
 abbrev pub stats_of : Tally → Report → List ℕ
-stats_of t r = items_text (report_items r) ++ (items_text (search_items t.search) ++ (items_text (program_items t) ++ codes "\n"))
+stats_of t r = items_text (report_items r) ++ (items_text (search_items t.search) ++ (workers_text t.workers ++ (items_text (program_items t) ++ codes "\n")))
 
 abbrev pub counts_of : Tally → Option Report → List ℕ
 counts_of t None = []

@@ -2,7 +2,7 @@
 use Rattle.std.specs.Prelude.{◌≡◌, ℕ, ◌+◌, ◌<◌, ◌≤◌, Bool, false, List, [], ◌∷◌, ◌++◌, codes, ℤ, Option, None, Some}
 use Rattle.std.specs.List.{flat_map}
 use Rattle.std.specs.Fmt.{signed_decimal}
-use Rattle.asp_crew.specs.declared.watch.Counts.{Counts}
+use Rattle.asp_counts.specs.declared.counts.Counts.{Counts}
 use Rattle.asp_top.specs.Counts.{item_text, told_items}
 use Rattle.asp_top.specs.Notes.{IsNoted}
 

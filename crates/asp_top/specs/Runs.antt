@@ -1,5 +1,5 @@
 -- What each status of a run says of the words, of the bytes read and of the bytes written.
-use Rattle.std.specs.Prelude.{◌≡◌, ◌⊎◌, ℕ, ◌≤◌, ◌==◌, Bool, true, false, ◌&&◌, ◌||◌, List, Option, None, Some, Result, Ok, Err, IfSome, IsSome, is_some, length, ℤ}
+use Rattle.std.specs.Prelude.{◌≡◌, ◌⊎◌, ℕ, ◌≤◌, ◌==◌, Bool, true, false, ◌&&◌, ◌||◌, List, Option, None, Some, Result, Ok, Err, IfSome, IsSome, is_some, length, ℤ, []}
 use Rattle.std.specs.Io.KnownBytes.{Appends, Keeps, IsAtEnd}
 use Rattle.asp_io.specs.Causes.{Rose, AppendsFront}
 use Rattle.asp_read.specs.declared.fault.Fault.{Fault}
@@ -274,15 +274,15 @@ RunsOn version a o = Helps version_line a o
 RunsOn (misuse m) a o = Misuses a o
 RunsOn (options given) a o = Runs given a o
 
--- No workers are started: one search does it all with one worker and where a proof is asked for, and none where parts are.
+-- No workers are started: one search does it all with one worker, and none where parts are asked for.
 abbrev pub is_alone : Options → Bool
-is_alone given = ((given.workers == 1) || given.proof) || is_some given.split
+is_alone given = (given.workers == 1) || is_some given.split
 
--- the atoms of the report's program, and the different bodies of its rules in force; and what a search did exactly where one did it all
+-- the atoms of the report's program, and the different bodies of its rules in force; workers only where some were started
 pub record IsCounted (alone : Bool) (t : Tally) (r : Report) : Type 0 where
   pub atoms : t.atoms ≡ length (atoms_of r.paid.program)
   pub bodies : t.bodies ≡ length (bodies_of r.paid.program)
-  pub search : is_some t.search ≡ alone
+  pub workers : alone ≡ true → t.workers ≡ []
 
 -- What the notes get of a run after the words: lines while it goes on, where they are asked for and one search does it all, then the
 -- line of its status, and the counts, where they are asked for

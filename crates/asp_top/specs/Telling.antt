@@ -2,7 +2,7 @@
 use Rattle.std.specs.Prelude.{◌≡◌, ℕ, Bool, true, List, [], ◌∷◌, ◌++◌, Option, Result, Ok, Err}
 use Rattle.std.proofs.Common.{refl, sym, subst}
 use Rattle.asp_io.specs.declared.traits.Failed.{Failed}
-use Rattle.asp_crew.specs.declared.watch.Counts.{Counts}
+use Rattle.asp_counts.specs.declared.counts.Counts.{Counts}
 use Rattle.asp_top.specs.Notes.{IsNoted, Writes}
 use Rattle.asp_top.specs.Progress.{IsMore, Told, line_of}
 

@@ -1,18 +1,23 @@
 //! Numbers with their names.
-ghost use Rattle.std.specs.Prelude.{◌≡◌, None, Some, length};
+ghost use Rattle.std.specs.Prelude.{◌≡◌, [], length};
 ghost use Rattle.std.specs.List.{flat_map};
 ghost use Rattle.asp_model.specs.Models.{atoms_of};
 ghost use Rattle.asp_vars.specs.Numbering.{bodies_of};
 ghost use Rattle.asp_buffer.specs.Out.{Puts, out};
-ghost use Rattle.asp_top.specs.Counts.{item_text, label_of, program_items, report_items, search_items, told_items};
+ghost use Rattle.asp_top.specs.Counts.{item_text, label_of, program_items, report_items, search_items, told_items, worker_items};
+ghost use Rattle.asp_top.specs.Progress.{nothing};
 
 use asp_buffer::{Waiting, put, put_number};
+use asp_counts::counts::Counts;
+use asp_counts::tallies::WorkerCounts;
 use asp_crew::report::Report;
-use asp_crew::watch::Counts;
 use asp_io::{Failed, Sink};
+use asp_model::seq::Seq;
 use asp_vars::compiled::Compiled;
+use std::alloc::Global;
 
-/// What a number counts. The names with `SoFar` stand on the line of a run that goes on, the others on lines at its end.
+/// What a number counts. The names with `SoFar` stand on the line of a run that goes on, those with `Its` on the line of a
+/// worker, the others on lines at the end.
 #[derive(Clone, Copy)]
 pub enum What {
     Spent,
@@ -22,6 +27,13 @@ pub enum What {
     Restarts,
     Kept,
     Dropped,
+    Worker,
+    ItsConflicts,
+    ItsDecisions,
+    ItsRestarts,
+    ItsAnswers,
+    ItsKept,
+    ItsDropped,
     Atoms,
     Bodies,
     SoFarConflicts,
@@ -50,10 +62,12 @@ impl Item {
 }
 
 /// What was counted of a run beside its report.
-#[derive(Clone, Copy)]
+#[derive(Drop)]
 pub struct Tally {
-    /// What one search did that solved it all; none where several worked side by side.
-    pub search: Option<Counts>,
+    /// What the searches did together.
+    pub search: Counts,
+    /// What each worker did, where several worked side by side.
+    pub workers: Seq<WorkerCounts>,
     /// The program's standing atoms.
     pub atoms: u64,
     /// The distinct bodies of its rules in force.
@@ -62,24 +76,27 @@ pub struct Tally {
 
 impl Tally {
     /// Nothing yet.
-    pub fn new() -> Tally
-        ensures { result ≡ record { search = None; atoms = 0; bodies = 0 } }
+    pub fn new(alloc: Global) -> Tally
+        ensures { result ≡ record { search = nothing; workers = []; atoms = 0; bodies = 0 } }
     {
         Tally {
-            search: None,
+            search: Counts::new(),
+            workers: Seq::from_vec(Vec::new(alloc)),
             atoms: 0,
             bodies: 0,
         }
     }
 
-    /// What is counted of this program, and what one search did, if one solved it.
-    pub fn of(compiled: &Compiled, search: Option<Counts>) -> Tally
+    /// What is counted of this program, what the searches did together, and what each worker did.
+    pub fn of(compiled: &Compiled, search: Counts, workers: Vec<WorkerCounts>) -> Tally
         ensures search { result.search ≡ search }
+        ensures workers { result.workers ≡ workers.items }
         ensures atoms { result.atoms ≡ length (atoms_of compiled.now) }
         ensures bodies { result.bodies ≡ length (bodies_of compiled.now) }
     {
         Tally {
             search,
+            workers: Seq::from_vec(workers),
             atoms: compiled.atom_count() as u64,
             bodies: compiled.body_count() as u64,
         }
@@ -98,6 +115,13 @@ fn label_of(what: What) -> &'static [u8]
         What::Restarts => b"\nRestarts: ",
         What::Kept => b"\nKept: ",
         What::Dropped => b"\nDropped: ",
+        What::Worker => b"\nWorker ",
+        What::ItsConflicts => b": conflicts ",
+        What::ItsDecisions => b", decisions ",
+        What::ItsRestarts => b", restarts ",
+        What::ItsAnswers => b", answers ",
+        What::ItsKept => b", kept ",
+        What::ItsDropped => b", dropped ",
         What::Atoms => b"\nAtoms: ",
         What::Bodies => b"\nBodies: ",
         What::SoFarConflicts => b"Progress: conflicts ",
@@ -142,15 +166,30 @@ pub fn report_items(report: &Report) -> [Item; 3]
     ]
 }
 
-/// What one search did, in the order of its lines.
+/// What the searches did together, in the order of its lines.
 pub fn search_items(counts: &Counts) -> [Item; 4]
-    ensures { result ≡ search_items (Some counts.now) }
+    ensures { result ≡ search_items counts.now }
 {
     [
         Item::of(What::Decisions, counts.decisions),
         Item::of(What::Restarts, counts.restarts),
         Item::of(What::Kept, counts.kept),
         Item::of(What::Dropped, counts.dropped),
+    ]
+}
+
+/// What one of several workers did, in the order of its line.
+pub fn worker_items(worker: &WorkerCounts) -> [Item; 7]
+    ensures { result ≡ worker_items worker.now }
+{
+    [
+        Item::of(What::Worker, worker.worker as u64),
+        Item::of(What::ItsConflicts, worker.counts.conflicts),
+        Item::of(What::ItsDecisions, worker.counts.decisions),
+        Item::of(What::ItsRestarts, worker.counts.restarts),
+        Item::of(What::ItsAnswers, worker.counts.answers),
+        Item::of(What::ItsKept, worker.counts.kept),
+        Item::of(What::ItsDropped, worker.counts.dropped),
     ]
 }
 

@@ -1,16 +1,17 @@
 //! The line on the notes for each status, and the counts of a run.
-ghost use Rattle.std.specs.Prelude.{◌≡◌, ◌++◌, Some, codes, decimal};
+ghost use Rattle.std.specs.Prelude.{◌≡◌, ◌++◌, codes, decimal};
 ghost use Rattle.asp_buffer.specs.Out.{Puts, out};
 ghost use Rattle.asp_top.specs.Counts.{program_items, report_items, search_items};
-ghost use Rattle.asp_top.specs.Notes.{IsNoted, Writes, counts_if, counts_of, is_answered, items_text, note_of, notes_of, stats_of};
+ghost use Rattle.asp_top.specs.Notes.{IsNoted, Writes, counts_if, counts_of, is_answered, items_text, note_of, notes_of, stats_of, worker_text, workers_text};
 
-use crate::counts::{Tally, program_items, put_items, report_items, search_items};
+use crate::counts::{Tally, program_items, put_items, report_items, search_items, worker_items};
 use crate::status::{Outcome, Status};
 use crate::texts::write_fault;
 use crate::usage::write_usage;
 use asp_buffer::{Waiting, flush, put};
+use asp_counts::counts::Counts;
+use asp_counts::tallies::WorkerCounts;
 use asp_crew::report::Report;
-use asp_crew::watch::Counts;
 use asp_io::{Failed, Sink, write_all};
 use asp_read::fault::Fault;
 use itoa::Buffer;
@@ -103,30 +104,42 @@ fn put_report<N: Sink>(notes: &mut N, waiting: &mut Waiting, report: &Report) ->
     put_items(notes, waiting, &items)
 }
 
-fn put_one_search<N: Sink>(
+fn put_search<N: Sink>(
     notes: &mut N,
     waiting: &mut Waiting,
     counts: &Counts,
 ) -> Result<(), Failed>
     ensures { Puts (out (N.held notes.old) (N.faults notes.old) waiting.old)
-        (out (N.held notes.new) (N.faults notes.new) waiting.new) result (items_text (search_items (Some counts.now))) }
+        (out (N.held notes.new) (N.faults notes.new) waiting.new) result (items_text (search_items counts.now)) }
 {
     let items = search_items(counts);
     put_items(notes, waiting, &items)
 }
 
-fn put_search<N: Sink>(
+fn put_worker<N: Sink>(
     notes: &mut N,
     waiting: &mut Waiting,
-    search: Option<Counts>,
+    worker: &WorkerCounts,
 ) -> Result<(), Failed>
     ensures { Puts (out (N.held notes.old) (N.faults notes.old) waiting.old)
-        (out (N.held notes.new) (N.faults notes.new) waiting.new) result (items_text (search_items search)) }
+        (out (N.held notes.new) (N.faults notes.new) waiting.new) result (worker_text worker.now) }
 {
-    match search {
-        None => put(notes, waiting, b""),
-        Some(counts) => put_one_search(notes, waiting, &counts),
+    let items = worker_items(worker);
+    put_items(notes, waiting, &items)
+}
+
+fn put_workers<N: Sink>(
+    notes: &mut N,
+    waiting: &mut Waiting,
+    workers: &[WorkerCounts],
+) -> Result<(), Failed>
+    ensures { Puts (out (N.held notes.old) (N.faults notes.old) waiting.old)
+        (out (N.held notes.new) (N.faults notes.new) waiting.new) result (workers_text workers.now) }
+{
+    for worker in workers {
+        put_worker(notes, waiting, worker)?;
     }
+    Ok(())
 }
 
 fn put_program<N: Sink>(notes: &mut N, waiting: &mut Waiting, tally: &Tally) -> Result<(), Failed>
@@ -147,7 +160,8 @@ fn put_counts<N: Sink>(
         (out (N.held notes.new) (N.faults notes.new) waiting.new) result (stats_of tally.now report.now) }
 {
     put_report(notes, waiting, report)?;
-    put_search(notes, waiting, tally.search)?;
+    put_search(notes, waiting, &tally.search)?;
+    put_workers(notes, waiting, tally.workers.as_slice())?;
     put_program(notes, waiting, tally)?;
     put(notes, waiting, b"\n")
 }

@@ -17,7 +17,7 @@ use crate::search::{solve, solve_by_crew};
 use crate::status::{Outcome, Status};
 use crate::usage::{note_misuse, write_three};
 use asp_cli::{CliError, Options, WordFault, page_back, page_front, usage, version};
-use asp_crew::watch::Watch;
+use asp_counts::watch::Watch;
 use asp_io::{Failed, Sink, Source};
 use asp_team::gate::Gate;
 use asp_vars::compiled::Compiled;
@@ -113,7 +113,6 @@ fn outcome_by_crew<R: Threads + Wait + Sync, S: Source, K: Sink, G: Gate + Sync>
 ) -> Outcome
     requires ring { IsRing options.now.make }
     requires crew { IsCrew options.now.workers }
-    requires proof { options.now.proof ≡ false }
     requires whole { options.now.split ≡ None }
     ensures runs { Runs options.now (around (S.left source.old) (S.left source.new) (S.faults source.old) (S.faults source.new)
         (K.held sink.old) (K.held sink.new) (K.faults sink.old) (K.faults sink.new)) result }
@@ -145,7 +144,7 @@ pub fn run_alone<S: Source, K: Sink, N: Sink>(
     ensures flushed { TellsFaults (K.held sink.old) (K.faults sink.old) (K.faults sink.new) result.status }
     ensures notes { NotesRun true options.now (N.held notes.old) (N.held notes.new) (N.faults notes.old) (N.faults notes.new) result }
 {
-    let mut tally = Tally::new();
+    let mut tally = Tally::new(alloc);
     let mut progress = Progress::new(notes, options.progress);
     let outcome = outcome_alone(alloc, options, source, sink, &mut tally, &mut progress);
     progress.end(options.stats, &tally, &outcome);
@@ -164,25 +163,23 @@ fn run_by_crew<R: Threads + Wait + Sync, S: Source, K: Sink, N: Sink, G: Gate + 
 ) -> Outcome
     requires ring { IsRing options.now.make }
     requires crew { IsCrew options.now.workers }
-    requires proof { options.now.proof ≡ false }
     requires whole { options.now.split ≡ None }
     ensures runs { Runs options.now (around (S.left source.old) (S.left source.new) (S.faults source.old) (S.faults source.new)
         (K.held sink.old) (K.held sink.new) (K.faults sink.old) (K.faults sink.new)) result }
     ensures flushed { TellsFaults (K.held sink.old) (K.faults sink.old) (K.faults sink.new) result.status }
     ensures notes { NotesRun false options.now (N.held notes.old) (N.held notes.new) (N.faults notes.old) (N.faults notes.new) result }
 {
-    let mut tally = Tally::new();
+    let mut tally = Tally::new(alloc);
     let outcome = outcome_by_crew(rt, alloc, options, source, sink, gate, &mut tally);
     note(notes, options.stats, &tally, &outcome);
     outcome
 }
 
-// Whether no workers are started: with one worker, where a proof is asked for, since a search writes down only its own, and
-// where nothing is solved.
+// Whether no workers are started: with one worker, and where nothing is solved.
 fn is_alone(options: &Options) -> bool
     ensures { result ≡ is_alone options.now }
 {
-    options.workers == 1 || options.proof || options.split.is_some()
+    options.workers == 1 || options.split.is_some()
 }
 
 // A run after the words, with as many workers as are asked for. One search starts no thread.

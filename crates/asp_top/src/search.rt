@@ -10,14 +10,16 @@ use crate::deliver::{deliver, failed};
 use crate::solve::mode_of;
 use crate::status::{Outcome, Status};
 use asp_cli::Options;
+use asp_counts::counts::Counts;
+use asp_counts::watch::Watch;
 use asp_crew::alone::solve_alone;
 use asp_crew::report::Report;
-use asp_crew::watch::{Counts, Watch};
 use asp_io::Sink;
 use asp_model::program::Program;
 use asp_model::results::Ask;
 use asp_team::gate::Gate;
 use asp_team::many;
+use asp_team::many::{Deeds, Plan};
 use asp_vars::compiled::Compiled;
 use std::alloc::{AllocError, Global};
 use std::sync::Wait;
@@ -60,14 +62,14 @@ pub fn solve<K: Sink, W: Watch>(
         watch,
     ) {
         Ok(report) => {
-            *tally = Tally::of(compiled, Some(counts));
+            *tally = Tally::of(compiled, counts, Vec::new(alloc));
             deliver(sink, options.make.is_some(), program, report)
         }
         Err(_) => failed(Status::Memory),
     }
 }
 
-// What workers side by side find. They write down no proof.
+// What workers side by side find.
 fn solved_by_crew<R: Threads + Wait + Sync, G: Gate + Sync>(
     rt: &R,
     alloc: Global,
@@ -75,24 +77,22 @@ fn solved_by_crew<R: Threads + Wait + Sync, G: Gate + Sync>(
     compiled: &Compiled,
     ask: Ask,
     gate: &G,
+    deeds: &mut Deeds,
 ) -> Result<Report, AllocError>
-    requires crew { IsCrew options.now.workers }
-    requires proof { options.now.proof ≡ false }
+    requires { IsCrew options.now.workers }
     ensures report { IfOk result (IsReport compiled.now ask options.now.budget) }
     ensures proof { IfOk result (HasProof options.now.proof) }
 {
-    many::solve(
-        rt,
-        alloc,
-        compiled,
+    let plan = Plan {
         ask,
-        options.budget,
-        options.workers,
-        gate,
-    )
+        workers: options.workers,
+        budget: options.budget,
+        proof: options.proof,
+    };
+    many::solve(rt, alloc, compiled, plan, gate, deeds)
 }
 
-/// Workers side by side solve it, where no proof is asked for.
+/// Workers side by side solve it.
 pub fn solve_by_crew<R: Threads + Wait + Sync, K: Sink, G: Gate + Sync>(
     rt: &R,
     alloc: Global,
@@ -102,17 +102,18 @@ pub fn solve_by_crew<R: Threads + Wait + Sync, K: Sink, G: Gate + Sync>(
     gate: &G,
     tally: &mut Tally,
 ) -> Outcome
-    requires crew { IsCrew options.now.workers }
-    requires proof { options.now.proof ≡ false }
+    requires { IsCrew options.now.workers }
     ensures solves { Solves options.now compiled.now (K.held sink.old) (K.held sink.new) (K.faults sink.old) (K.faults sink.new) result }
     ensures flushed { TellsFaults (K.held sink.old) (K.faults sink.old) (K.faults sink.new) result.status }
     ensures counted { IfSome result.report (IsCounted false tally.new) }
 {
     let program = compiled.program();
     let ask = ask_of(options, program);
-    match solved_by_crew(rt, alloc, options, compiled, ask, gate) {
+    let mut deeds = Deeds::new(alloc);
+    match solved_by_crew(rt, alloc, options, compiled, ask, gate, &mut deeds) {
         Ok(report) => {
-            *tally = Tally::of(compiled, None);
+            let Deeds { sum, workers } = deeds;
+            *tally = Tally::of(compiled, sum, workers);
             deliver(sink, options.make.is_some(), program, report)
         }
         Err(_) => failed(Status::Memory),

@@ -15,7 +15,7 @@ use Rattle.asp_search_laws.specs.Steps.{HasSameTask, Burns, IsStep, IsFailure, S
 use Rattle.asp_search_laws.specs.declared.step.Step.{Step}
 use Rattle.asp_search_laws.specs.declared.step.Step.TheVariants as step
 use Rattle.asp_crew_laws.proofs.WorkLaws.{work-burnt}
-use Rattle.asp_worker.specs.Working.{GoesOn, IsOn, IsOff, Finds}
+use Rattle.asp_worker.specs.Working.{GoesOn, IsOn, IsOff, Finds, Pays}
 use Rattle.asp_worker.proofs.GoingLaws.{goes-same}
 
 module _ (m : Mode) (v : Knows) (s t : Searching) (f : Units) (leaf : ℕ) (on : IsOn m v s f leaf) where
@@ -84,9 +84,24 @@ module _ (m : Mode) (v : Knows) (s t : Searching) (f : Units) (leaf : ℕ) (on :
         }
 
   -- ---- memory was wanting
-  pub off-failed : (gives : Nogood → Type 0) (g : Units) → IsFailure gives s t f g → IsOff v g leaf
-  off-failed gives g h = here (h (cube_of (seen_board v).nodes leaf) on.works.entered).fuel
+  pub off-paid : (g : Units) → Pays s f g → IsOff v g leaf
+  off-paid g h = here (h (cube_of (seen_board v).nodes leaf) on.works.entered)
     where
       here : (g ≡ f) ⊎ Burns s (cube_of (seen_board v).nodes leaf) f g → IsOff v g leaf
       here (inl e) = subst (λ (u : Units). IsOff v u leaf) (sym e) (record { held = on.works.held; units = on.going.work.units })
       here (inr b) = record { held = on.works.held; units = (goes-burnt (cube_of (seen_board v).nodes leaf) g b).work.units }
+
+-- ---- what a step pays
+pub step-pays : (gives : Nogood → Type 0) (silent : List (Option Bool) → Type 0) (s t : Searching) (f g : Units) (r : Step) → IsStep gives silent s t f g r → Pays s f g
+step-pays gives silent s t f g r h q e = here r (h q e)
+  where
+    here : (x : Step) → Steps gives silent s t q f g x → (g ≡ f) ⊎ Burns s q f g
+    here step.Decided d = inl d.fuel
+    here step.Learnt d = inr d.burns
+    here (step.Answer S) d = inl d.fuel
+    here step.Closed d = inl d.fuel
+    here (step.NoFuel x) d = inl d.fuel
+    here step.Restarted d = inl d.fuel
+
+pub failure-pays : (gives : Nogood → Type 0) (s t : Searching) (f g : Units) → IsFailure gives s t f g → Pays s f g
+failure-pays gives s t f g h q e = (h q e).fuel

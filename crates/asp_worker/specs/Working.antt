@@ -1,18 +1,18 @@
 -- A worker between two calls: its search and its units beside the board that its seat has seen.
-use Rattle.std.specs.Prelude.{◌≡◌, ℕ, false, IsTrue}
+use Rattle.std.specs.Prelude.{◌≡◌, ◌⊎◌, ℕ, false, IsTrue, List, Some}
 use Rattle.std.specs.List.{list_any}
 use Rattle.asp_model.specs.declared.results.Mode.{Mode}
 use Rattle.asp_model.specs.Models.{is_stable}
 use Rattle.asp_model.specs.Sets.{Atoms, same_set}
 use Rattle.asp_vars.specs.Entailment.{Settled}
-use Rattle.asp_vars.specs.Literals.{hits}
+use Rattle.asp_vars.specs.Literals.{Literal, hits}
 use Rattle.asp_vars.specs.Numbering.{values}
 use Rattle.asp_vars.specs.Paid.{Units}
 use Rattle.asp_path.specs.Trees.{cube_of}
 use Rattle.asp_book.specs.Calls.{Knows, task_of, seen_board}
 use Rattle.asp_crew_laws.specs.Working.{IsAtWork, Works}
 use Rattle.asp_search_laws.specs.Searching.{Searching}
-use Rattle.asp_search_laws.specs.Steps.{Records}
+use Rattle.asp_search_laws.specs.Steps.{Burns, Records}
 use Rattle.asp_worker.specs.declared.path.Course.{Course}
 use Rattle.asp_worker.specs.declared.path.Course.TheVariants.{Open, Done, Spent}
 use Rattle.asp_worker.specs.declared.path.Way.{Way}
@@ -34,6 +34,10 @@ pub record IsOn (m : Mode) (v : Knows) (s : Searching) (u : Units) (leaf : ℕ) 
 pub record IsOff (v : Knows) (u : Units) (leaf : ℕ) : Type 0 where
   pub held : Holds v leaf
   pub units : Owes v u
+
+-- A step has left the units as they were, or burnt one for a conflict.
+abbrev pub Pays : Searching → Units → Units → Type 0
+Pays s f g = (q : List Literal) → s.cube ≡ Some q → (g ≡ f) ⊎ Burns s q f g
 
 -- From s on the search has found this set, and t knows it.
 pub record Finds (m : Mode) (v : Knows) (s t : Searching) (u : Units) (leaf : ℕ) (S : Atoms) : Type 0 where

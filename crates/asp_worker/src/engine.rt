@@ -3,7 +3,9 @@ ghost use Rattle.std.specs.Prelude.{◌≡◌, None, IfOk};
 ghost use Rattle.asp_search.specs.Beside.{new_search};
 
 use crate::worker::Shared;
+use asp_counts::counts::Counts;
 use asp_propagators::propagators::Propagators;
+use asp_recorder::recorder::Recorder;
 use asp_search::search::Search;
 use asp_vars::compiled::Compiled;
 use asp_vars::fuel::Fuel;
@@ -22,15 +24,29 @@ pub(crate) struct Engine<'a> {
     pub(crate) turn: u64,
     /// How many steps it made.
     pub(crate) step: u64,
+    /// What it did.
+    pub(crate) did: Counts,
+    /// Where it writes down what it finds, if a proof is wanted.
+    pub(crate) recorder: Option<&'a Recorder>,
 }
 
-/// A search that knows no answer, without a unit.
-pub(crate) fn start<'a>(shared: &Shared, compiled: &'a Compiled) -> Result<Engine<'a>, AllocError>
+/// A search that knows no answer, without a unit. The recorder gets what it finds, if a proof is wanted.
+pub(crate) fn start<'a>(
+    shared: &Shared,
+    compiled: &'a Compiled,
+    recorder: &'a Recorder,
+) -> Result<Engine<'a>, AllocError>
     ensures search { IfOk result (λ e. e.search ≡ new_search compiled.now shared.now.mode e.search.slots) }
     ensures fuel { IfOk result (λ e. e.fuel ≡ record { program = compiled.now; left = 0; burnt = 0; known = 0; least = None }) }
     ensures read { IfOk result (λ e. e.read ≡ 0) }
 {
-    let propagators = Propagators::new(shared.alloc, compiled)?;
+    let recorder = if shared.proof {
+        Some(recorder)
+    } else {
+        None
+    };
+    let mut propagators = Propagators::new(shared.alloc, compiled)?;
+    propagators.record(recorder);
     let search = Search::new(shared.alloc, compiled, shared.mode, propagators)?;
     Ok(Engine {
         search,
@@ -38,5 +54,7 @@ pub(crate) fn start<'a>(shared: &Shared, compiled: &'a Compiled) -> Result<Engin
         read: 0,
         turn: 0,
         step: 0,
+        did: Counts::new(),
+        recorder,
     })
 }

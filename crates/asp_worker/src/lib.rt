@@ -12,3 +12,4 @@ mod sharing;
 mod stop;
 pub mod work;
 pub mod worker;
+mod writing;

@@ -1,12 +1,14 @@
 //! How a worker searches a path.
-ghost use Rattle.std.specs.Prelude.{◌≡◌, ◌<◌, ◌≤◌, length, IfOk, OnOk, OnErr};
+ghost use Rattle.std.specs.Prelude.{◌≡◌, ◌<◌, ◌≤◌, length, IfOk, IsSome, OnOk, OnErr};
 ghost use Rattle.asp_vars.specs.Entailment.{HitsOnly};
 ghost use Rattle.asp_vault.specs.Seats.{view, IsOf, IsBeside};
 ghost use Rattle.asp_path.specs.Trees.{cube_of};
 ghost use Rattle.asp_core.specs.Boards.{is_excused};
 ghost use Rattle.asp_book.specs.Calls.{task_of, seen_board};
+ghost use Rattle.asp_propagators.specs.Saying.{AreSilent, gives};
+ghost use Rattle.asp_search_laws.specs.Steps.{IsStep};
 ghost use Rattle.asp_worker.specs.Seats.{IsReady, Keeps, IsSettled, Passes, Holds, IsFree};
-ghost use Rattle.asp_worker.specs.Working.{GoesOn, IsOn, IsOff, IsCourse, IsWay};
+ghost use Rattle.asp_worker.specs.Working.{GoesOn, IsOn, IsOff, IsCourse, IsWay, Pays};
 
 use crate::engine::Engine;
 use crate::halt::Halt;
@@ -14,10 +16,16 @@ use crate::share::{begin, is_enough, share};
 use crate::sharing::{export, lease, record, refresh};
 use crate::stop::Stop;
 use crate::worker::{Shared, Worker};
+use crate::writing::note;
 use asp_book::book::Book;
 use asp_book::desk;
+use asp_counts::counts::Counts;
 use asp_path::tree::Leaf;
+use asp_propagators::propagators::Propagators;
+use asp_recorder::recorder::Recorder;
+use asp_search::search::Search;
 use asp_search_laws::step::Step;
+use asp_vars::fuel::Fuel;
 use asp_vault::Seat;
 use std::alloc::AllocError;
 use std::sync::Wait;
@@ -64,6 +72,26 @@ fn close<R: Wait>(
     desk::close(rt, &shared.book, seat, leaf, cube.as_slice())
 }
 
+// One step of the search, which is counted and written down.
+fn step<R: Wait>(
+    rt: &R,
+    shared: &Shared,
+    search: &mut Search<'_, Propagators<'_>>,
+    fuel: &mut Fuel,
+    did: &mut Counts,
+    recorder: Option<&Recorder>,
+) -> Result<Step, AllocError>
+    requires entered { IsSome search.old.cube }
+    requires program { fuel.old.program ≡ search.old.program }
+    ensures ok { IfOk result (IsStep (gives search.old.program search.old.bound) (AreSilent search.old.program search.old.bound) search.old search.new fuel.old fuel.new) }
+    ensures err { OnErr result (Pays search.old fuel.old fuel.new) }
+{
+    let step = search.step(fuel)?;
+    did.count(&step, search.extra() as u64);
+    note(rt, shared, search, recorder)?;
+    Ok(step)
+}
+
 // One step of the search, and what it asks for.
 fn advance<R: Wait>(
     rt: &R,
@@ -83,7 +111,14 @@ fn advance<R: Wait>(
     ensures err { OnErr result (IsOff (view worker.new.seat) engine.new.fuel leaf) }
 {
     let _leaf = leaf;
-    match engine.search.step(&mut engine.fuel)? {
+    match step(
+        rt,
+        shared,
+        &mut engine.search,
+        &mut engine.fuel,
+        &mut engine.did,
+        engine.recorder,
+    )? {
         Step::Decided => Ok(Course::Open),
         Step::Learnt => {
             export(rt, shared, &mut worker.pages, &engine.search);

@@ -12,6 +12,7 @@ use crate::path::{Way, path};
 use crate::worker::{Shared, Worker};
 use asp_book::desk;
 use asp_path::tree::Leaf;
+use asp_recorder::recorder::Recorder;
 use asp_vars::compiled::Compiled;
 use std::sync::Wait;
 
@@ -108,7 +109,8 @@ pub fn work<R: Wait, G: Gate, H: Halt>(
     requires { MayWork compiled.now shared.now worker }
     ensures { Worked shared.now worker result }
 {
-    let mut engine = match start(shared, compiled) {
+    let recorder = Recorder::new(shared.alloc);
+    let mut engine = match start(shared, compiled, &recorder) {
         Ok(engine) => engine,
         Err(_) => {
             worker.short = true;
@@ -122,7 +124,10 @@ pub fn work<R: Wait, G: Gate, H: Halt>(
         read: _,
         turn: _,
         step: _,
+        did,
+        recorder: _,
     } = engine;
+    shared.tallies.tell(rt, worker.seat.number(), &did);
     desk::back(rt, &shared.book, &mut worker.seat, fuel);
     worker
 }

@@ -1,8 +1,10 @@
 //! What a worker has, and what all workers share.
 use asp_book::book::Book;
+use asp_counts::tallies::Tallies;
 use asp_log::Log;
 use asp_model::results::Mode;
 use asp_pool::{Lane, Pass, Pool};
+use asp_recorder::scroll::Scroll;
 use asp_vault::{Seat, Vault};
 use std::alloc::Global;
 
@@ -23,6 +25,12 @@ pub struct Shared {
     pub log: Vault<Log>,
     /// A way to each worker's lane.
     pub pool: Pool,
+    /// What each worker did.
+    pub tallies: Tallies,
+    /// Whether the proof of a finished run is wanted.
+    pub proof: bool,
+    /// The lines of the proof, if one is wanted.
+    pub scroll: Scroll,
 }
 
 /// What a worker brings to its work, and has again when it has ended. Its search lives in its thread alone.

@@ -1,50 +1,20 @@
-use Rattle.std.proofs.Common.{arith, ap, ◌∙◌, sym}
-use Rattle.asp_vault.specs.Seats.{view}
-use Rattle.asp_core.specs.declared.task.Task.{Task}
-use Rattle.asp_team.proofs.JoinLaws.{still-idle}
-use Rattle.asp_team.proofs.TeamLaws.{all-may}
-use Rattle.asp_team.proofs.RunLaws.{all-back, all-home, book-task, run-in, report-is}
+use Rattle.std.proofs.Common.{◌≡◌, Bool, sym, subst}
+use Rattle.std.specs.Prelude.{IfOk}
+use Rattle.std.proofs.lemmas.Result.{IfOk-weaker}
+use Rattle.asp_crew_laws.specs.declared.report.Report.{Report}
+use Rattle.asp_crew_laws.specs.Proofs.{HasProof}
+use Rattle.asp_crew_laws.specs.Reports.{IsReport}
+use Rattle.asp_crew.proofs.ProofLaws.{none_has, report_with}
 use Rattle.asp_team.proofs.many.solve_with.Goals as goal
 
-pub crew-lead-requires-clause-workers : goal.crew-lead-requires-clause-workers
-crew-lead-requires-clause-workers g c κs w = all-may c.args.compiled.now c.args.ask c.args.budget c.in_ok-team.team.shared c.in_ok-team.team.lead c.in_ok-team.team.workers.items c.in_ok-team.ensures.team.about c.in_ok-team.ensures.team.ready
+pub returns-then-plan-clause-report : goal.returns-then-plan-clause-report
+returns-then-plan-clause-report g c =
+    let first : Report = c.in_ok-report.report in
+    IfOk-weaker c.with_proof.result (λ (r : Report). r ≡ record first { proof = r.proof }) (IsReport c.args.compiled.now c.args.plan.ask c.args.plan.budget)
+    (λ r same. report_with c.args.compiled.now c.args.plan.ask c.args.plan.budget first r same c.in_ok-report.ensures.report) c.with_proof.ensures.same
 
-pub dismissed-book-requires-clause-all : goal.dismissed-book-requires-clause-all
-dismissed-book-requires-clause-all g c = (
-  all-back (view c.in_ok-team.team.lead.seat) (view c.crew-lead.result.seat) _ c.in_ok-team.ensures.team.ready.out c.crew-lead.ensures.joins,
-  all-back (view c.in_ok-team.team.lead.pages) (view c.crew-lead.result.pages) _ c.in_ok-team.ensures.team.ready.pages_out c.crew-lead.ensures.pages_join,
-)
+pub returns-then-plan-clause-proof : goal.returns-then-plan-clause-proof
+returns-then-plan-clause-proof g c = subst (λ (b : Bool). IfOk c.with_proof.result (HasProof b)) (sym c.if-plan.true) c.with_proof.ensures.proof
 
-pub dismissed-book-requires-clause-idle : goal.dismissed-book-requires-clause-idle
-dismissed-book-requires-clause-idle g c =
-    let l = c.in_ok-team.ensures.team.lead in let k = c.crew-lead.ensures.lead in
-    still-idle (view c.in_ok-team.team.lead.seat) (view c.crew-lead.result.seat) _ c.in_ok-team.ensures.team.idle c.crew-lead.ensures.joins (k.first ∙ sym l.first) k.rests k.lawful c.in_ok-team.team.lead.seat.own_seen c.crew-lead.result.seat.own_seen
-
-pub dismissed-book-requires-clause-home : goal.dismissed-book-requires-clause-home
-dismissed-book-requires-clause-home g c = all-home c.in_ok-team.team.shared c.in_ok-team.team.lead c.crew-lead.result c.in_ok-team.team.workers.items c.in_ok-team.ensures.team.ready c.crew-lead.ensures.joins c.crew-lead.ensures.came
-
-pub finish-requires-clause-task : goal.finish-requires-clause-task
-finish-requires-clause-task g c =
-    run-in c.args.compiled.now c.args.ask c.args.budget c.dismissed-book.result.0.task
-    (book-task c.args.compiled.now c.args.ask c.args.budget c.dismissed-book.result.0 (view c.in_ok-team.team.lead.seat) (view c.crew-lead.result.seat) c.dismissed-book.ensures.task c.crew-lead.ensures.joins.about c.in_ok-team.ensures.team.about)
-
-pub finish-requires-clause-of : goal.finish-requires-clause-of
-finish-requires-clause-of g c =
-    ap (λ (t : Task). t.program)
-    (book-task c.args.compiled.now c.args.ask c.args.budget c.dismissed-book.result.0 (view c.in_ok-team.team.lead.seat) (view c.crew-lead.result.seat) c.dismissed-book.ensures.task c.crew-lead.ensures.joins.about c.in_ok-team.ensures.team.about)
-
-pub finish-requires-clause-fits : goal.finish-requires-clause-fits
-finish-requires-clause-fits g c =
-    let e = book-task c.args.compiled.now c.args.ask c.args.budget c.dismissed-book.result.0 (view c.in_ok-team.team.lead.seat) (view c.crew-lead.result.seat) c.dismissed-book.ensures.task c.crew-lead.ensures.joins.about c.in_ok-team.ensures.team.about in
-    omega (arith, ap (λ (t : Task). t.budget) e, c.ranges.budget)
-
-pub reported-requires-clause-task : goal.reported-requires-clause-task
-reported-requires-clause-task g c =
-    run-in c.args.compiled.now c.args.ask c.args.budget c.finish.new.book.task
-    (c.in_ok-unpaid.ensures.finishes.task ∙ book-task c.args.compiled.now c.args.ask c.args.budget c.dismissed-book.result.0 (view c.in_ok-team.team.lead.seat) (view c.crew-lead.result.seat) c.dismissed-book.ensures.task c.crew-lead.ensures.joins.about c.in_ok-team.ensures.team.about)
-
-pub returns-clause-report : goal.returns-clause-report
-returns-clause-report g c =
-    report-is c.args.compiled.now c.args.ask c.args.budget c.finish.new.book.task c.reported.result
-    (c.in_ok-unpaid.ensures.finishes.task ∙ book-task c.args.compiled.now c.args.ask c.args.budget c.dismissed-book.result.0 (view c.in_ok-team.team.lead.seat) (view c.crew-lead.result.seat) c.dismissed-book.ensures.task c.crew-lead.ensures.joins.about c.in_ok-team.ensures.team.about)
-    c.reported.ensures.report
+pub returns-else-plan-clause-proof : goal.returns-else-plan-clause-proof
+returns-else-plan-clause-proof g c = subst (λ (b : Bool). HasProof b c.in_ok-report.report) (sym c.if-plan.false) (none_has c.in_ok-report.report c.in_ok-report.ensures.proof)

@@ -1,17 +1,12 @@
-use Rattle.std.proofs.Common.{◌∙◌, ◌==◌, ◌||◌, sym}
+use Rattle.std.proofs.Common.{◌∙◌, ◌==◌, sym}
 use Rattle.std.specs.Prelude.{is_some}
-use Rattle.asp_top.proofs.RunLaws.{first-false, second-false, unsplit}
+use Rattle.asp_top.proofs.RunLaws.{second-false, unsplit}
 use Rattle.asp_top.proofs.runs.run_given.Goals as goal
-
-pub run_by_crew-requires-clause-proof : goal.run_by_crew-requires-clause-proof
-run_by_crew-requires-clause-proof g c = λ _ _.
-    second-false (c.args.options.now.workers == 1) c.args.options.now.proof
-    (first-false ((c.args.options.now.workers == 1) || c.args.options.now.proof) (is_some c.args.options.now.split) (sym c.is_alone.ensures ∙ c.if-is_alone.false))
 
 pub run_by_crew-requires-clause-whole : goal.run_by_crew-requires-clause-whole
 run_by_crew-requires-clause-whole g c = λ _ _.
     unsplit c.args.options.now.split
-    (second-false ((c.args.options.now.workers == 1) || c.args.options.now.proof) (is_some c.args.options.now.split) (sym c.is_alone.ensures ∙ c.if-is_alone.false))
+    (second-false (c.args.options.now.workers == 1) (is_some c.args.options.now.split) (sym c.is_alone.ensures ∙ c.if-is_alone.false))
 
 pub returns-then-is_alone-clause-notes : goal.returns-then-is_alone-clause-notes
 returns-then-is_alone-clause-notes g c = rw (sym c.is_alone.ensures ∙ c.if-is_alone.true) c.run_alone.ensures.notes

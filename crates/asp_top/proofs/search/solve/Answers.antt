@@ -1,4 +1,4 @@
-use Rattle.std.proofs.Common.{◌∙◌, ap, length, refl, sym}
+use Rattle.std.proofs.Common.{◌∙◌, ap, length, sym}
 use Rattle.asp_model.specs.declared.program.Program.{Program}
 use Rattle.asp_model.specs.Models.{atoms_of}
 use Rattle.asp_vars.specs.Numbering.{bodies_of}
@@ -8,5 +8,5 @@ pub returns-in-Ok-clause-counted : goal.returns-in-Ok-clause-counted
 returns-in-Ok-clause-counted g c = rw c.deliver.ensures.delivers.reports (record {
   atoms = c.of.ensures.atoms ∙ ap (λ (p : Program). length (atoms_of p)) (sym c.in-Ok.ensures.report.program);
   bodies = c.of.ensures.bodies ∙ ap (λ (p : Program). length (bodies_of p)) (sym c.in-Ok.ensures.report.program);
-  search = rw c.of.ensures.search refl;
+  workers = λ alone. c.of.ensures.workers ∙ c.new.ensures.items;
 })

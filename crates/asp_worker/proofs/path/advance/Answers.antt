@@ -5,7 +5,7 @@ use Rattle.asp_core.specs.declared.task.Task.{Task}
 use Rattle.asp_book.specs.Calls.{Knows, task_of}
 use Rattle.asp_worker.specs.declared.worker.Worker.{Worker}
 use Rattle.asp_worker.proofs.SeatLaws.{board-task, keeps-self, keeps-seat, keeps-pages, ready-seat}
-use Rattle.asp_worker.proofs.StepLaws.{on-decided, on-restarted, on-learnt, on-stopped, none-left, on-closed, settled-closed, finds-answer, off-failed}
+use Rattle.asp_worker.proofs.StepLaws.{on-decided, on-restarted, on-learnt, on-stopped, none-left, on-closed, settled-closed, finds-answer, off-paid}
 use Rattle.asp_worker.specs.Working.{IsOn, IsOff}
 use Rattle.asp_worker.proofs.Replies.{always-err}
 use Rattle.asp_worker.proofs.SharingLaws.{still-read, paged-of}
@@ -18,19 +18,19 @@ returns-in_err-step-clause-keeps g c = keeps-self c.args.shared.now c.args.worke
 pub returns-in_err-step-clause-err : goal.returns-in_err-step-clause-err
 returns-in_err-step-clause-err g c =
     always-err c.from_residual.result (IsOff (view c.args.worker.now.seat) c.step.new.fuel c.args.leaf)
-    (off-failed c.args.shared.now.mode (view c.args.worker.now.seat) c.args.engine.now.search c.step.new.self c.args.engine.now.fuel c.args.leaf c.requires.on _ c.step.new.fuel c.in_err-step.ensures.err)
+    (off-paid c.args.shared.now.mode (view c.args.worker.now.seat) c.args.engine.now.search c.step.new.search c.args.engine.now.fuel c.args.leaf c.requires.on c.step.new.fuel c.in_err-step.ensures.err)
 
 pub returns-in-Decided-clause-keeps : goal.returns-in-Decided-clause-keeps
 returns-in-Decided-clause-keeps g c = keeps-self c.args.shared.now c.args.worker.now c.requires.ready
 
 pub returns-in-Decided-clause-ok : goal.returns-in-Decided-clause-ok
 returns-in-Decided-clause-ok g c =
-    on-decided c.args.shared.now.mode (view c.args.worker.now.seat) c.args.engine.now.search c.step.new.self c.args.engine.now.fuel c.args.leaf c.requires.on _ _ c.step.new.fuel _ c.in_ok-step.ensures.ok c.in-Decided.is
+    on-decided c.args.shared.now.mode (view c.args.worker.now.seat) c.args.engine.now.search c.step.new.search c.args.engine.now.fuel c.args.leaf c.requires.on _ _ c.step.new.fuel _ c.in_ok-step.ensures.ok c.in-Decided.is
 
 pub export-requires-clause-pages : goal.export-requires-clause-pages
 export-requires-clause-pages g c =
-    let on = on-learnt c.args.shared.now.mode (view c.args.worker.now.seat) c.args.engine.now.search c.step.new.self c.args.engine.now.fuel c.args.leaf c.requires.on _ _ c.step.new.fuel _ c.in_ok-step.ensures.ok c.in-Learnt.is in
-    paged-of (task_of (view c.args.worker.now.seat)).program c.step.new.self.program (view c.args.worker.now.pages) on.going.program c.requires.ready.pages
+    let on = on-learnt c.args.shared.now.mode (view c.args.worker.now.seat) c.args.engine.now.search c.step.new.search c.args.engine.now.fuel c.args.leaf c.requires.on _ _ c.step.new.fuel _ c.in_ok-step.ensures.ok c.in-Learnt.is in
+    paged-of (task_of (view c.args.worker.now.seat)).program c.step.new.search.program (view c.args.worker.now.pages) on.going.program c.requires.ready.pages
 
 pub returns-in-Learnt-clause-keeps : goal.returns-in-Learnt-clause-keeps
 returns-in-Learnt-clause-keeps g c =
@@ -47,28 +47,28 @@ returns-in-Learnt-clause-read g c = still-read c.args.engine.now.read (view c.ar
 
 pub returns-in-Learnt-clause-ok : goal.returns-in-Learnt-clause-ok
 returns-in-Learnt-clause-ok g c =
-    on-learnt c.args.shared.now.mode (view c.args.worker.now.seat) c.args.engine.now.search c.step.new.self c.args.engine.now.fuel c.args.leaf c.requires.on _ _ c.step.new.fuel _ c.in_ok-step.ensures.ok c.in-Learnt.is
+    on-learnt c.args.shared.now.mode (view c.args.worker.now.seat) c.args.engine.now.search c.step.new.search c.args.engine.now.fuel c.args.leaf c.requires.on _ _ c.step.new.fuel _ c.in_ok-step.ensures.ok c.in-Learnt.is
 
 pub refresh-requires-clause-program : goal.refresh-requires-clause-program
 refresh-requires-clause-program g c =
-    (on-restarted c.args.shared.now.mode (view c.args.worker.now.seat) c.args.engine.now.search c.step.new.self c.args.engine.now.fuel c.args.leaf c.requires.on _ _ c.step.new.fuel _ c.in_ok-step.ensures.ok c.in-Restarted.is).going.program
+    (on-restarted c.args.shared.now.mode (view c.args.worker.now.seat) c.args.engine.now.search c.step.new.search c.args.engine.now.fuel c.args.leaf c.requires.on _ _ c.step.new.fuel _ c.in_ok-step.ensures.ok c.in-Restarted.is).going.program
 
 pub returns-in-Restarted-clause-ok : goal.returns-in-Restarted-clause-ok
 returns-in-Restarted-clause-ok g c =
     let v : Knows = view c.args.worker.now.seat in let w : Knows = view c.refresh.new.worker.seat in
-    let on = on-restarted c.args.shared.now.mode v c.args.engine.now.search c.step.new.self c.args.engine.now.fuel c.args.leaf c.requires.on _ _ c.step.new.fuel _ c.in_ok-step.ensures.ok c.in-Restarted.is in
+    let on = on-restarted c.args.shared.now.mode v c.args.engine.now.search c.step.new.search c.args.engine.now.fuel c.args.leaf c.requires.on _ _ c.step.new.fuel _ c.in_ok-step.ensures.ok c.in-Restarted.is in
     subst (λ (u : Units). IsOn c.args.shared.now.mode w c.refresh.new.engine.search u c.args.leaf) (sym c.refresh.ensures.fuel)
-    (refreshed-on c.args.shared.now.mode v w c.step.new.self c.refresh.new.engine.search c.step.new.fuel c.args.leaf (drop c.args.engine.now.read (view c.refresh.new.worker.pages).seen) on c.refresh.ensures.idles c.in_ok-refresh-in-Restarted.ensures.ok)
+    (refreshed-on c.args.shared.now.mode v w c.step.new.search c.refresh.new.engine.search c.step.new.fuel c.args.leaf (drop c.args.engine.now.read (view c.refresh.new.worker.pages).seen) on c.refresh.ensures.idles c.in_ok-refresh-in-Restarted.ensures.ok)
 
 pub returns-in_err-refresh-in-Restarted-clause-err : goal.returns-in_err-refresh-in-Restarted-clause-err
 returns-in_err-refresh-in-Restarted-clause-err g c =
     let v : Knows = view c.args.worker.now.seat in let w : Knows = view c.refresh.new.worker.seat in
-    let on = on-restarted c.args.shared.now.mode v c.args.engine.now.search c.step.new.self c.args.engine.now.fuel c.args.leaf c.requires.on _ _ c.step.new.fuel _ c.in_ok-step.ensures.ok c.in-Restarted.is in
-    always-err c.from_residual-in_err-refresh-in-Restarted.result (IsOff w c.refresh.new.engine.fuel c.args.leaf) (idled-off c.args.shared.now.mode v w c.step.new.self c.step.new.fuel c.refresh.new.engine.fuel c.args.leaf on c.refresh.ensures.idles c.refresh.ensures.fuel)
+    let on = on-restarted c.args.shared.now.mode v c.args.engine.now.search c.step.new.search c.args.engine.now.fuel c.args.leaf c.requires.on _ _ c.step.new.fuel _ c.in_ok-step.ensures.ok c.in-Restarted.is in
+    always-err c.from_residual-in_err-refresh-in-Restarted.result (IsOff w c.refresh.new.engine.fuel c.args.leaf) (idled-off c.args.shared.now.mode v w c.step.new.search c.step.new.fuel c.refresh.new.engine.fuel c.args.leaf on c.refresh.ensures.idles c.refresh.ensures.fuel)
 
 pub record-requires-clause-found : goal.record-requires-clause-found
 record-requires-clause-found g c =
-    (c.args.engine.now.search, c.args.leaf, finds-answer c.args.shared.now.mode (view c.args.worker.now.seat) c.args.engine.now.search c.step.new.self c.args.engine.now.fuel c.args.leaf c.requires.on _ _ c.step.new.fuel _ c.in_ok-step.ensures.ok c.in-Answer.set c.in-Answer.is)
+    (c.args.engine.now.search, c.args.leaf, finds-answer c.args.shared.now.mode (view c.args.worker.now.seat) c.args.engine.now.search c.step.new.search c.args.engine.now.fuel c.args.leaf c.requires.on _ _ c.step.new.fuel _ c.in_ok-step.ensures.ok c.in-Answer.set c.in-Answer.is)
 
 pub returns-in-Answer-clause-keeps : goal.returns-in-Answer-clause-keeps
 returns-in-Answer-clause-keeps g c =
@@ -83,8 +83,8 @@ returns-in-Answer-clause-ready g c =
 pub returns-in-Answer-clause-ok : goal.returns-in-Answer-clause-ok
 returns-in-Answer-clause-ok g c =
     let v : Knows = view c.args.worker.now.seat in let w : Knows = view c.record.new.seat in
-    let f = finds-answer c.args.shared.now.mode v c.args.engine.now.search c.step.new.self c.args.engine.now.fuel c.args.leaf c.requires.on _ _ c.step.new.fuel _ c.in_ok-step.ensures.ok c.in-Answer.set c.in-Answer.is in
-    recorded-on c.args.shared.now.mode v w c.args.engine.now.search c.step.new.self c.record.new.engine.search c.step.new.fuel c.record.new.engine.fuel c.args.leaf c.in-Answer.set f c.record.ensures.idles c.record.ensures.engine.0 c.in_ok-record-in-Answer.ensures.ok
+    let f = finds-answer c.args.shared.now.mode v c.args.engine.now.search c.step.new.search c.args.engine.now.fuel c.args.leaf c.requires.on _ _ c.step.new.fuel _ c.in_ok-step.ensures.ok c.in-Answer.set c.in-Answer.is in
+    recorded-on c.args.shared.now.mode v w c.args.engine.now.search c.step.new.search c.record.new.engine.search c.step.new.fuel c.record.new.engine.fuel c.args.leaf c.in-Answer.set f c.record.ensures.idles c.record.ensures.engine.0 c.in_ok-record-in-Answer.ensures.ok
 
 pub returns-in_err-record-in-Answer-clause-keeps : goal.returns-in_err-record-in-Answer-clause-keeps
 returns-in_err-record-in-Answer-clause-keeps g c =
@@ -99,27 +99,27 @@ returns-in_err-record-in-Answer-clause-ready g c =
 pub returns-in_err-record-in-Answer-clause-err : goal.returns-in_err-record-in-Answer-clause-err
 returns-in_err-record-in-Answer-clause-err g c =
     let v : Knows = view c.args.worker.now.seat in let w : Knows = view c.record.new.seat in
-    let f = finds-answer c.args.shared.now.mode v c.args.engine.now.search c.step.new.self c.args.engine.now.fuel c.args.leaf c.requires.on _ _ c.step.new.fuel _ c.in_ok-step.ensures.ok c.in-Answer.set c.in-Answer.is in
-    always-err c.from_residual-in_err-record-in-Answer.result (IsOff w c.record.new.engine.fuel c.args.leaf) (found-off c.args.shared.now.mode v w c.args.engine.now.search c.step.new.self c.step.new.fuel c.record.new.engine.fuel c.args.leaf c.in-Answer.set f c.record.ensures.idles c.record.ensures.engine.0)
+    let f = finds-answer c.args.shared.now.mode v c.args.engine.now.search c.step.new.search c.args.engine.now.fuel c.args.leaf c.requires.on _ _ c.step.new.fuel _ c.in_ok-step.ensures.ok c.in-Answer.set c.in-Answer.is in
+    always-err c.from_residual-in_err-record-in-Answer.result (IsOff w c.record.new.engine.fuel c.args.leaf) (found-off c.args.shared.now.mode v w c.args.engine.now.search c.step.new.search c.step.new.fuel c.record.new.engine.fuel c.args.leaf c.in-Answer.set f c.record.ensures.idles c.record.ensures.engine.0)
 
 pub lease-requires-clause-going : goal.lease-requires-clause-going
 lease-requires-clause-going g c =
-    (on-stopped c.args.shared.now.mode (view c.args.worker.now.seat) c.args.engine.now.search c.step.new.self c.args.engine.now.fuel c.args.leaf c.requires.on _ _ c.step.new.fuel _ c.in_ok-step.ensures.ok _ c.in-NoFuel.is).going
+    (on-stopped c.args.shared.now.mode (view c.args.worker.now.seat) c.args.engine.now.search c.step.new.search c.args.engine.now.fuel c.args.leaf c.requires.on _ _ c.step.new.fuel _ c.in_ok-step.ensures.ok _ c.in-NoFuel.is).going
 
 pub lease-requires-clause-none : goal.lease-requires-clause-none
 lease-requires-clause-none g c =
-    none-left c.args.shared.now.mode (view c.args.worker.now.seat) c.args.engine.now.search c.step.new.self c.args.engine.now.fuel c.args.leaf c.requires.on _ _ c.step.new.fuel _ c.in_ok-step.ensures.ok _ c.in-NoFuel.is
+    none-left c.args.shared.now.mode (view c.args.worker.now.seat) c.args.engine.now.search c.step.new.search c.args.engine.now.fuel c.args.leaf c.requires.on _ _ c.step.new.fuel _ c.in_ok-step.ensures.ok _ c.in-NoFuel.is
 
 pub returns-clause-keeps : goal.returns-clause-keeps
 returns-clause-keeps g c = keeps-self c.args.shared.now c.args.worker.now c.requires.ready
 
 pub returns-clause-ok : goal.returns-clause-ok
 returns-clause-ok g c =
-    on-closed c.args.shared.now.mode (view c.args.worker.now.seat) c.args.engine.now.search c.step.new.self c.args.engine.now.fuel c.args.leaf c.requires.on _ _ c.step.new.fuel _ c.in_ok-step.ensures.ok c.in-Closed.is
+    on-closed c.args.shared.now.mode (view c.args.worker.now.seat) c.args.engine.now.search c.step.new.search c.args.engine.now.fuel c.args.leaf c.requires.on _ _ c.step.new.fuel _ c.in_ok-step.ensures.ok c.in-Closed.is
 
 pub returns-clause-course : goal.returns-clause-course
 returns-clause-course g c =
-    settled-closed c.args.shared.now.mode (view c.args.worker.now.seat) c.args.engine.now.search c.step.new.self c.args.engine.now.fuel c.args.leaf c.requires.on _ _ c.step.new.fuel _ c.in_ok-step.ensures.ok c.in-Closed.is
+    settled-closed c.args.shared.now.mode (view c.args.worker.now.seat) c.args.engine.now.search c.step.new.search c.args.engine.now.fuel c.args.leaf c.requires.on _ _ c.step.new.fuel _ c.in_ok-step.ensures.ok c.in-Closed.is
 
 pub returns-then-leased-clause-keeps : goal.returns-then-leased-clause-keeps
 returns-then-leased-clause-keeps g c =
@@ -134,8 +134,8 @@ returns-then-leased-clause-ready g c =
 pub returns-then-leased-clause-ok : goal.returns-then-leased-clause-ok
 returns-then-leased-clause-ok g c =
     let v : Knows = view c.args.worker.now.seat in let w : Knows = view c.lease.new.seat in
-    let on = on-stopped c.args.shared.now.mode v c.args.engine.now.search c.step.new.self c.args.engine.now.fuel c.args.leaf c.requires.on _ _ c.step.new.fuel _ c.in_ok-step.ensures.ok _ c.in-NoFuel.is in
-    leased-on c.args.shared.now.mode v w c.step.new.self c.lease.new.engine.search c.step.new.fuel c.lease.new.engine.fuel c.args.leaf on c.lease.ensures.leases c.lease.ensures.engine.0 c.lease.ensures.going
+    let on = on-stopped c.args.shared.now.mode v c.args.engine.now.search c.step.new.search c.args.engine.now.fuel c.args.leaf c.requires.on _ _ c.step.new.fuel _ c.in_ok-step.ensures.ok _ c.in-NoFuel.is in
+    leased-on c.args.shared.now.mode v w c.step.new.search c.lease.new.engine.search c.step.new.fuel c.lease.new.engine.fuel c.args.leaf on c.lease.ensures.leases c.lease.ensures.engine.0 c.lease.ensures.going
 
 pub returns-in-NoFuel-clause-keeps : goal.returns-in-NoFuel-clause-keeps
 returns-in-NoFuel-clause-keeps g c =
@@ -150,8 +150,8 @@ returns-in-NoFuel-clause-ready g c =
 pub returns-in-NoFuel-clause-ok : goal.returns-in-NoFuel-clause-ok
 returns-in-NoFuel-clause-ok g c =
     let v : Knows = view c.args.worker.now.seat in let w : Knows = view c.lease.new.seat in
-    let on = on-stopped c.args.shared.now.mode v c.args.engine.now.search c.step.new.self c.args.engine.now.fuel c.args.leaf c.requires.on _ _ c.step.new.fuel _ c.in_ok-step.ensures.ok _ c.in-NoFuel.is in
-    leased-on c.args.shared.now.mode v w c.step.new.self c.lease.new.engine.search c.step.new.fuel c.lease.new.engine.fuel c.args.leaf on c.lease.ensures.leases c.lease.ensures.engine.0 c.lease.ensures.going
+    let on = on-stopped c.args.shared.now.mode v c.args.engine.now.search c.step.new.search c.args.engine.now.fuel c.args.leaf c.requires.on _ _ c.step.new.fuel _ c.in_ok-step.ensures.ok _ c.in-NoFuel.is in
+    leased-on c.args.shared.now.mode v w c.step.new.search c.lease.new.engine.search c.step.new.fuel c.lease.new.engine.fuel c.args.leaf on c.lease.ensures.leases c.lease.ensures.engine.0 c.lease.ensures.going
 
 pub returns-in_err-leased-in-NoFuel-clause-keeps : goal.returns-in_err-leased-in-NoFuel-clause-keeps
 returns-in_err-leased-in-NoFuel-clause-keeps g c =
@@ -166,9 +166,9 @@ returns-in_err-leased-in-NoFuel-clause-ready g c =
 pub returns-in_err-leased-in-NoFuel-clause-err : goal.returns-in_err-leased-in-NoFuel-clause-err
 returns-in_err-leased-in-NoFuel-clause-err g c =
     let v : Knows = view c.args.worker.now.seat in let w : Knows = view c.lease.new.seat in
-    let on = on-stopped c.args.shared.now.mode v c.args.engine.now.search c.step.new.self c.args.engine.now.fuel c.args.leaf c.requires.on _ _ c.step.new.fuel _ c.in_ok-step.ensures.ok _ c.in-NoFuel.is in
+    let on = on-stopped c.args.shared.now.mode v c.args.engine.now.search c.step.new.search c.args.engine.now.fuel c.args.leaf c.requires.on _ _ c.step.new.fuel _ c.in_ok-step.ensures.ok _ c.in-NoFuel.is in
     always-err c.from_residual-in_err-leased-in-NoFuel.result (IsOff w c.lease.new.engine.fuel c.args.leaf)
-    (leased-off c.args.shared.now.mode v w c.step.new.self c.lease.new.engine.search c.step.new.fuel c.lease.new.engine.fuel c.args.leaf on c.lease.ensures.leases c.lease.ensures.going)
+    (leased-off c.args.shared.now.mode v w c.step.new.search c.lease.new.engine.search c.step.new.fuel c.lease.new.engine.fuel c.args.leaf on c.lease.ensures.leases c.lease.ensures.going)
 
 pub step-requires-clause-program : goal.step-requires-clause-program
 step-requires-clause-program g c =

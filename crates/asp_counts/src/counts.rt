@@ -1,7 +1,7 @@
-//! What is counted of a run while it goes on, and who hears of it.
+//! What a search did so far.
 ghost use Rattle.std.specs.Prelude.{◌≡◌};
 
-use asp_model::cost::Cost;
+use asp_search_laws::step::Step;
 
 /// What a run did so far. A count stands still at the greatest `u64`.
 #[derive(Clone, Copy)]
@@ -35,40 +35,31 @@ impl Counts {
         }
     }
 
+    /// Counts a step, after which so many nogoods are kept, but not forever.
+    pub fn count(&mut self, step: &Step, kept: u64) {
+        match step {
+            Step::Decided => self.decisions = self.decisions.saturating_add(1),
+            Step::Learnt => self.conflicts = self.conflicts.saturating_add(1),
+            Step::Restarted => self.restarts = self.restarts.saturating_add(1),
+            Step::Answer(_) => self.answers = self.answers.saturating_add(1),
+            Step::Closed | Step::NoFuel(_) => {}
+        }
+        self.keep(kept);
+    }
+
     // So many nogoods are kept now.
-    pub(crate) fn keep(&mut self, kept: u64) {
+    fn keep(&mut self, kept: u64) {
         self.dropped = self.dropped.saturating_add(self.kept.saturating_sub(kept));
         self.kept = kept;
     }
-}
 
-/// Who hears how a run goes on. Whatever it does, the run is the same.
-pub trait Watch {
-    /// That telling may lead from the one to the other.
-    ghost IsAfter: { Self → Self → Type 0 };
-
-    /// Hears what the run did so far, after each step, and what the best answer costs, where one was found of those that
-    /// are compared by their costs.
-    fn tell(&mut self, counts: &Counts, best: Option<&Cost>)
-        ensures { IsAfter self.old self.new };
-
-    /// Nothing need be told.
-    ghost begins: { (w : Self) → IsAfter w w };
-
-    /// More may be told.
-    ghost goes_on: { (u v w : Self) → IsAfter u v → IsAfter v w → IsAfter u w };
-}
-
-/// Hears nothing.
-#[derive(Clone, Copy)]
-pub struct Unwatched;
-
-impl Watch for Unwatched {
-    ghost IsAfter = { λ v w. Unit {0} };
-
-    fn tell(&mut self, _counts: &Counts, _best: Option<&Cost>) {}
-
-    ghost begins = { λ w. tt };
-
-    ghost goes_on = { λ u v w a b. tt };
+    /// Adds what another search did.
+    pub fn add(&mut self, other: &Counts) {
+        self.conflicts = self.conflicts.saturating_add(other.conflicts);
+        self.decisions = self.decisions.saturating_add(other.decisions);
+        self.restarts = self.restarts.saturating_add(other.restarts);
+        self.answers = self.answers.saturating_add(other.answers);
+        self.kept = self.kept.saturating_add(other.kept);
+        self.dropped = self.dropped.saturating_add(other.dropped);
+    }
 }

@@ -1,0 +1,34 @@
+//! Who hears how a run goes on.
+use crate::counts::Counts;
+use asp_model::cost::Cost;
+
+/// Who hears how a run goes on. Whatever it does, the run is the same.
+pub trait Watch {
+    /// That telling may lead from the one to the other.
+    ghost IsAfter: { Self → Self → Type 0 };
+
+    /// Hears what the run did so far, and what the best answer costs, where one was found of those that are compared by
+    /// their costs.
+    fn tell(&mut self, counts: &Counts, best: Option<&Cost>)
+        ensures { IsAfter self.old self.new };
+
+    /// Nothing need be told.
+    ghost begins: { (w : Self) → IsAfter w w };
+
+    /// More may be told.
+    ghost goes_on: { (u v w : Self) → IsAfter u v → IsAfter v w → IsAfter u w };
+}
+
+/// Hears nothing.
+#[derive(Clone, Copy)]
+pub struct Unwatched;
+
+impl Watch for Unwatched {
+    ghost IsAfter = { λ v w. Unit {0} };
+
+    fn tell(&mut self, _counts: &Counts, _best: Option<&Cost>) {}
+
+    ghost begins = { λ w. tt };
+
+    ghost goes_on = { λ u v w a b. tt };
+}

@@ -1,0 +1,54 @@
+//! The lines of a proof that several workers write.
+//!
+//! Each worker has a recorder of its own, and hands over what it wrote before anybody can learn of it. So the lines stand
+//! in an order in which each follows from those before it, whoever wrote them.
+use crate::recorder::Recorder;
+use asp_proof::proof::Line;
+use std::alloc::{AllocError, Global};
+use std::sync::{Mutex, Wait};
+
+/// The lines of a proof that several workers write.
+#[derive(Drop)]
+pub struct Scroll {
+    /// The lines, in the order in which they were handed over.
+    lines: Mutex<Vec<Line>>,
+}
+
+impl Scroll {
+    /// No lines.
+    pub fn new(alloc: Global) -> Scroll {
+        Scroll {
+            lines: Mutex::new(Vec::new(alloc)),
+        }
+    }
+
+    /// Takes over the lines that a recorder got since it was here last. For want of memory the recorder keeps them.
+    pub fn take_over<R: Wait>(&self, rt: &R, recorder: &Recorder) -> Result<(), AllocError> {
+        match recorder.take() {
+            None => Ok(()),
+            Some(mut lines) => {
+                let added = self.append(rt, &mut lines);
+                recorder.put(lines);
+                added
+            }
+        }
+    }
+
+    // Moves the lines to the end.
+    fn append<R: Wait>(&self, rt: &R, lines: &mut Vec<Line>) -> Result<(), AllocError> {
+        if lines.is_empty() {
+            return Ok(());
+        }
+        let mut guard = self.lines.lock(rt);
+        let all = &mut *guard;
+        all.append(lines)
+    }
+
+    /// A recorder that has the lines, and gets those that follow.
+    pub fn into_recorder(self, alloc: Global) -> Recorder {
+        let Scroll { lines } = self;
+        let recorder = Recorder::new(alloc);
+        recorder.put(lines.into_inner());
+        recorder
+    }
+}

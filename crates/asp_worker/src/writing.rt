@@ -1,0 +1,24 @@
+//! What a worker writes down of the proof.
+use crate::worker::Shared;
+use asp_propagators::propagators::Propagators;
+use asp_recorder::recorder::Recorder;
+use asp_search::search::Search;
+use std::alloc::AllocError;
+use std::sync::Wait;
+
+/// Writes down what the last step found, if a proof is wanted: the loops that were given on the way, and the nogood that the
+/// step kept. No other worker has learnt of it before.
+pub(crate) fn note<R: Wait>(
+    rt: &R,
+    shared: &Shared,
+    search: &Search<'_, Propagators<'_>>,
+    recorder: Option<&Recorder>,
+) -> Result<(), AllocError> {
+    if let Some(recorder) = recorder {
+        if let Some(nogood) = search.kept() {
+            recorder.add_learned(nogood)?;
+        }
+        shared.scroll.take_over(rt, recorder)?;
+    }
+    Ok(())
+}
