@@ -101,12 +101,7 @@ fn dismissed(shared: Shared, lead: Lead) -> (Book, u32, Tallies, Scroll)
         proof: _,
         scroll,
     } = shared;
-    (
-        book.close(seat),
-        log.close(pages).count(),
-        tallies,
-        scroll,
-    )
+    (book.close(seat), log.close(pages).count(), tallies, scroll)
 }
 
 // What was left open is worked off. The recorder gets what is found, if a proof is wanted.
@@ -124,11 +119,7 @@ fn work_off<'a>(
     requires idle { IsIdleBoard (board book.old) }
     ensures { IfOk result (Finishes book.old book.new) }
 {
-    let recorder = if plan.proof {
-        Some(recorder)
-    } else {
-        None
-    };
+    let recorder = if plan.proof { Some(recorder) } else { None };
     let mut propagators = Propagators::new(alloc, compiled)?;
     propagators.record(recorder);
     finish(
@@ -176,14 +167,7 @@ fn worked<R: Threads + Wait + Sync, G: Gate + Sync, H: Halt + Sync>(
     let (mut book, log, tallies, scroll) = dismissed(shared, lead);
     *deeds = Deeds::of(tallies);
     let recorder = scroll.into_recorder(alloc);
-    let unpaid = work_off(
-        alloc,
-        compiled,
-        plan,
-        &mut book,
-        &mut deeds.sum,
-        &recorder,
-    )?;
+    let unpaid = work_off(alloc, compiled, plan, &mut book, &mut deeds.sum, &recorder)?;
     Ok((reported(plan.ask.mode, book, unpaid, log, short), recorder))
 }
 

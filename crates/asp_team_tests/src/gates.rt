@@ -61,15 +61,9 @@ fn two_workers_are_on_their_paths_at_once(rt: HostRuntime) {
     let compiled = free_atoms(&rt, heap, &[1, 2]);
     let gate = hold(2);
     let mut deeds = Deeds::new(heap);
-    let report = solve(
-        &rt,
-        heap,
-        &compiled,
-        of_workers(2),
-        &gate,
-        &mut deeds,
-    )
-    .expect(&rt, "memory");
+    let report = solve(&rt, heap, &compiled, of_workers(2), &gate, &mut deeds).expect(
+        &rt, "memory",
+    );
     assert_eq!(rt; gate.late.load(Ordering::SeqCst), 0);
     assert_eq!(rt; finished(&report), Some(4));
     assert!(rt; !report.short);
@@ -84,15 +78,9 @@ fn four_workers_are_on_their_paths_at_once(rt: HostRuntime) {
     let compiled = free_atoms(&rt, heap, &[1, 2, 3, 4]);
     let gate = hold(4);
     let mut deeds = Deeds::new(heap);
-    let report = solve(
-        &rt,
-        heap,
-        &compiled,
-        of_workers(4),
-        &gate,
-        &mut deeds,
-    )
-    .expect(&rt, "memory");
+    let report = solve(&rt, heap, &compiled, of_workers(4), &gate, &mut deeds).expect(
+        &rt, "memory",
+    );
     assert_eq!(rt; gate.late.load(Ordering::SeqCst), 0);
     assert_eq!(rt; finished(&report), Some(16));
     assert_eq!(rt; deeds.workers.len(), 4);

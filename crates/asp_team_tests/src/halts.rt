@@ -52,10 +52,7 @@ fn run<R: Threads + Wait + Sync + Abort, H: Halt + Sync>(
         proof: false,
     };
     let mut deeds = Deeds::new(heap);
-    solve_with(
-        rt, heap, compiled, plan, &OpenGate, halt, &mut deeds,
-    )
-    .expect(rt, "memory")
+    solve_with(rt, heap, compiled, plan, &OpenGate, halt, &mut deeds).expect(rt, "memory")
 }
 
 // Whether so many answers are found, whichever worker is stopped at whichever of its first steps.

@@ -104,11 +104,7 @@ fn put_report<N: Sink>(notes: &mut N, waiting: &mut Waiting, report: &Report) ->
     put_items(notes, waiting, &items)
 }
 
-fn put_search<N: Sink>(
-    notes: &mut N,
-    waiting: &mut Waiting,
-    counts: &Counts,
-) -> Result<(), Failed>
+fn put_search<N: Sink>(notes: &mut N, waiting: &mut Waiting, counts: &Counts) -> Result<(), Failed>
     ensures { Puts (out (N.held notes.old) (N.faults notes.old) waiting.old)
         (out (N.held notes.new) (N.faults notes.new) waiting.new) result (items_text (search_items counts.now)) }
 {

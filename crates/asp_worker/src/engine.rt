@@ -40,11 +40,7 @@ pub(crate) fn start<'a>(
     ensures fuel { IfOk result (λ e. e.fuel ≡ record { program = compiled.now; left = 0; burnt = 0; known = 0; least = None }) }
     ensures read { IfOk result (λ e. e.read ≡ 0) }
 {
-    let recorder = if shared.proof {
-        Some(recorder)
-    } else {
-        None
-    };
+    let recorder = if shared.proof { Some(recorder) } else { None };
     let mut propagators = Propagators::new(shared.alloc, compiled)?;
     propagators.record(recorder);
     let search = Search::new(shared.alloc, compiled, shared.mode, propagators)?;
