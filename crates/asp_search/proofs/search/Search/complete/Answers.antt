@@ -19,16 +19,18 @@ use Rattle.asp_search.specs.Invariants.{view_of}
 use Rattle.asp_search.specs.Stepping.{IsEntered}
 use Rattle.asp_search.proofs.BelowLaws.{fault_useful, fault_continues}
 use Rattle.asp_search.proofs.SearchLaws.{search_checked, search_added, added_last}
-use Rattle.asp_search.proofs.StepsLaws.{always_err, fails_here, fails_still}
+use Rattle.asp_search.proofs.StepsLaws.{always_err, fails_still}
 use Rattle.asp_search.proofs.WholeLaws.{IsFull, full_whole, full_found, whole_for, atoms_for, found_for, stable_for}
 use Rattle.asp_search.proofs.search.Search.complete.Goals as goal
 
 pub returns-in_err-interp-clause-err : goal.returns-in_err-interp-clause-err
 returns-in_err-interp-clause-err g c =
+    let i = c.self.inside in
     let s = c.args.self.now in
     let f = c.args.fuel.now in
     let G = g.P.Propagator.gives s.program s.bound in
-    always_err c.from_residual.result (IsFailure G s s f f) (fails_here G s f)
+    let new : Searching = view_of i.mode i.state i.pace i.known.items i.last in
+    always_err c.from_residual.result (IsFailure G s new f f) (fails_still G s new f c.self.view_is)
 
 pub fault-requires-clause-whole : goal.fault-requires-clause-whole
 fault-requires-clause-whole g c =
