@@ -1,5 +1,5 @@
 //! Atoms that are looked for in a set one after another, mostly in their order: one walk through the set finds them.
-ghost use Rattle.std.specs.Prelude.{◌≡◌, ◌<◌, ◌≤◌, IsTrue, length, slice_index};
+ghost use Rattle.std.specs.Prelude.{◌≡◌, ◌-◌, ◌<◌, ◌≤◌, IsTrue, length, slice_index};
 ghost use Rattle.asp_model.specs.Sets.{IsAscending, has};
 ghost use Rattle.asp_print.specs.Places.{IsBehind};
 
@@ -12,6 +12,51 @@ fn is_behind(atoms: &[Atom], place: usize, atom: Atom) -> bool
     ensures { IsTrue result → IsBehind atoms.now place atom }
 {
     place <= atoms.len() && (place == 0 || atoms[place - 1] < atom)
+}
+
+// One of the halves between two places, where the atoms before the first are below this one and still are.
+fn halve(atoms: &[Atom], low: usize, high: usize, atom: Atom) -> (usize, usize)
+    requires ascending { IsAscending atoms.now }
+    requires behind { IsBehind atoms.now low atom }
+    requires some { low < high }
+    requires within { high ≤ length atoms.now }
+    ensures behind { IsBehind atoms.now result.0 atom }
+    ensures within { result.1 ≤ length atoms.now }
+    ensures less { result.1 - result.0 < high - low }
+{
+    let middle = low + (high - low) / 2;
+    if is_behind(atoms, middle + 1, atom) {
+        (middle + 1, high)
+    } else {
+        (low, middle)
+    }
+}
+
+// How many atoms at the front are below this one, found by halves.
+fn count_below(atoms: &[Atom], atom: Atom) -> usize
+    requires { IsAscending atoms.now }
+    ensures { IsBehind atoms.now result atom }
+{
+    let mut low = 0;
+    let mut high = atoms.len();
+    while low < high {
+        let (from, to) = halve(atoms, low, high, atom);
+        low = from;
+        high = to;
+    }
+    low
+}
+
+// The place, if all atoms before it are below this one, and else one of which that holds.
+fn begin(atoms: &[Atom], place: usize, atom: Atom) -> usize
+    requires { IsAscending atoms.now }
+    ensures { IsBehind atoms.now result atom }
+{
+    if is_behind(atoms, place, atom) {
+        place
+    } else {
+        count_below(atoms, atom)
+    }
 }
 
 // The first place from this one on whose atom isn't below the given one.
@@ -38,16 +83,13 @@ fn stands_at(atoms: &[Atom], place: usize, atom: Atom) -> bool
     place < atoms.len() && atoms[place] == atom
 }
 
-/// Whether the atom is in the set. The place is where it is looked for first, and moves on: any place will do, and atoms
-/// that ascend, from the place 0 on, take one walk through the set.
+/// Whether the atom is in the set. The place is where it is looked for first, and moves to it: any place will do. Atoms that
+/// ascend take one walk through the set, and where they begin anew one search by halves.
 pub(crate) fn has_near(interp: &Interp, atom: Atom, place: &mut usize) -> bool
     ensures { result ≡ has interp.now atom }
 {
     let atoms = interp.as_slice();
-    let from = *place;
-    if !is_behind(atoms, from, atom) {
-        return interp.has(atom);
-    }
+    let from = begin(atoms, *place, atom);
     let at = skip(atoms, from, atom);
     *place = at;
     stands_at(atoms, at, atom)
