@@ -30,10 +30,10 @@ _aspenum() {
 
     given=("${words[@]:1:last-1}")
     given=("${given[@]%%=*}")
-    # of these two one excludes the other
-    [[ " ${given[*]} " != *" --split "* ]] || given+=(--proof)
-    [[ " ${given[*]} " != *" --proof "* ]] || given+=(--split)
-    for option in --mode --budget --models --workers --make --stats --progress --proof --split; do
+    # a proof excludes these two, and each of them a proof
+    [[ " ${given[*]} " != *" --proof "* ]] || given+=(--split --opt-all)
+    [[ " ${given[*]} " != *" --split "* && " ${given[*]} " != *" --opt-all "* ]] || given+=(--proof)
+    for option in --mode --budget --models --opt-all --workers --make --stats --progress --proof --split; do
         [[ " ${given[*]} " == *" $option "* ]] || left+=("$option")
     done
     [[ $last -ne 1 ]] || left+=(--help --version)

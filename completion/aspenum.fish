@@ -8,7 +8,7 @@ end
 # whether the option isn't given yet, alone or with its value behind =; one that waits for its value doesn't count
 function __aspenum_lacks
     set -l words (commandline -opc)
-    if test "$words[-1]" = "--$argv[1]"; and not contains $argv[1] stats progress proof
+    if test "$words[-1]" = "--$argv[1]"; and not contains $argv[1] stats progress proof opt-all
         set -e words[-1]
     end
     for word in $words
@@ -22,11 +22,12 @@ end
 complete -c aspenum -n '__aspenum_lacks mode' -l mode -x -d 'What is sought' -a 'auto\t"opt where the program minimises, else enum" enum\t"all answers" opt\t"one answer of least cost"'
 complete -c aspenum -n '__aspenum_lacks budget' -l budget -x -d 'At most so many conflicts'
 complete -c aspenum -n '__aspenum_lacks models' -l models -x -d 'End with so many answers'
+complete -c aspenum -n '__aspenum_lacks opt-all; and __aspenum_lacks proof' -l opt-all -d 'Write all optima'
 complete -c aspenum -n '__aspenum_lacks workers' -l workers -x -d 'Threads that search' -a '1 2 4 8 16 32 64'
 complete -c aspenum -n '__aspenum_lacks make' -l make -x -d 'Solve a ring of so many nodes, read no program'
 complete -c aspenum -n '__aspenum_lacks stats' -l stats -d 'Write counts to standard error'
 complete -c aspenum -n '__aspenum_lacks progress' -l progress -d 'Write lines to standard error while it runs'
-complete -c aspenum -n '__aspenum_lacks proof; and __aspenum_lacks split' -l proof -d 'Write the proof of a finished run'
+complete -c aspenum -n '__aspenum_lacks proof; and __aspenum_lacks split; and __aspenum_lacks opt-all' -l proof -d 'Write the proof of a finished run'
 complete -c aspenum -n '__aspenum_lacks split; and __aspenum_lacks proof' -l split -x -d 'Write the parts of a program, at most so many'
 complete -c aspenum -n '__aspenum_first' -s h -l help -d 'Write the options and exit statuses'
 complete -c aspenum -n '__aspenum_first' -l version -d 'Write the version'

@@ -3,9 +3,9 @@
 
     compare.py PROGRAM [COUNT [SEED]] [--no-clasp]     (PROGRAM may have words behind it: "build/aspenum --workers 4")
 
-Each program has up to seven atoms and every kind of statement. In an enumeration the bytes must be the reference's; in
-an optimisation the closing lines, cost and count, must be. With a limit the number of answers must be the reference's, and they
-must be some of its answers in its order. Every fourth program is solved in parts too. Where clasp lists other answers than the
+Each program has up to seven atoms and every kind of statement. In an enumeration, and where all optima are listed, the bytes
+must be the reference's; in an optimisation the closing lines, cost and count, must be. With a limit the number of answers must be
+the reference's, and they must be some of its answers in its order. Every fourth program is solved in parts too. Where clasp lists other answers than the
 reference, or with a limit another number of them, that is told and counted, and is no failure: clasp 3.3.5 is known to lose
 answers of choices over weight bodies.
 """
@@ -81,34 +81,49 @@ def is_part(some, all_):
     return all(answer in rest for answer in some)
 
 
-def limit_differs(aspenum, text, limit):
-    """What is wrong with an enumeration that ends with so many answers, or nothing."""
-    wanted = "".join(line + "\n" for line in reference.lines(reference.read(text), "enum", limit))
-    given = run([*aspenum, "--mode", "enum", "--models", str(limit)], text)
-    found, closing = given.stdout.decode(), wanted.split("\n")[-3:]
-    if found.split("\n")[-3:] != closing or len(answers(found)) != len(answers(wanted)):
-        return f"--models {limit} ends otherwise than the reference"
-    if not is_part(answers(found), answers(wanted_of(text, "enum"))):
-        return f"--models {limit} writes other answers than the reference has, or not in its order"
+# the words for each mode of the reference, and what of the bytes is promised
+MODES = {
+    "enum": (["--mode", "enum"], lambda whole: whole),
+    "opt": (["--mode", "opt"], without_answer),
+    "optima": (["--mode", "opt", "--opt-all"], lambda whole: whole),
+}
+
+
+def closing(text):
+    """The lines behind the answers."""
+    lines = text.split("\n")
+    return lines[2 * len(answers(text)) :]
+
+
+def limit_differs(aspenum, text, mode, limit):
+    """What is wrong with a list that ends with so many answers, or nothing."""
+    wanted = "".join(line + "\n" for line in reference.lines(reference.read(text), mode, limit))
+    given = run([*aspenum, *MODES[mode][0], "--models", str(limit)], text)
+    found = given.stdout.decode()
+    if closing(found) != closing(wanted) or len(answers(found)) != len(answers(wanted)):
+        return f"--models {limit} ends otherwise than the reference ({mode})"
+    if not is_part(answers(found), answers(wanted_of(text, mode))):
+        return f"--models {limit} writes other answers than the reference has, or not in its order ({mode})"
     if given.returncode != (11 if "LIMIT" in wanted else 20 if "UNSATISFIABLE" in wanted else 30):
-        return f"the status is {given.returncode} with --models {limit}"
+        return f"the status is {given.returncode} with --models {limit} ({mode})"
     return None
 
 
 def differs(aspenum, text):
     """What is wrong with aspenum's answers to a program, or nothing."""
-    for mode, part in (("enum", lambda whole: whole), ("opt", without_answer)):
+    for mode, (words, part) in MODES.items():
         wanted = wanted_of(text, mode)
-        given = run([*aspenum, "--mode", mode], text)
+        given = run([*aspenum, *words], text)
         if part(given.stdout.decode()) != part(wanted):
-            return f"--mode {mode} differs from the reference"
+            return f"{' '.join(words)} differs from the reference"
         if given.returncode != (20 if "UNSATISFIABLE" in wanted else 30):
-            return f"the status is {given.returncode} with --mode {mode}"
-    count = len(answers(wanted_of(text, "enum")))
-    for limit in sorted({1, max(count, 1), count + 1}):
-        wrong = limit_differs(aspenum, text, limit)
-        if wrong:
-            return wrong
+            return f"the status is {given.returncode} with {' '.join(words)}"
+    for mode in ("enum", "optima"):
+        count = len(answers(wanted_of(text, mode)))
+        for limit in sorted({1, max(count, 1), count + 1}):
+            wrong = limit_differs(aspenum, text, mode, limit)
+            if wrong:
+                return wrong
     return None
 
 
@@ -154,6 +169,10 @@ def clasp_differs(text):
     some = run(["clasp", "-n", str(limit), "--opt-mode=ignore"], text, 10).stdout.decode()
     if len(answers(some)) != min(limit, len(mine)):
         return f"clasp lists another number of answers with -n {limit}"
+    if reference.read(text)["minimize"]:
+        optima = run(["clasp", "--opt-mode=optN", "-n", "0", "-q1"], text, 10).stdout.decode()
+        if sorted(sorted(a.split()) for a in answers(optima)) != sorted(sorted(a.split()) for a in answers(wanted_of(text, "optima"))):
+            return "clasp lists other optima than the reference"
     return None
 
 

@@ -25,11 +25,15 @@ notes=$(mktemp)
 wanted=$(mktemp)
 trap 'rm -f "$given" "$notes" "$wanted"' EXIT
 
+# An example's words, if it has any, stand in its file .words.
 for text in examples/*.aspif; do
     expected=${text%.aspif}.out
+    words=$(cat "${text%.aspif}.words" 2> /dev/null)
     status=30
     grep -q UNSATISFIABLE "$expected" && status=20
-    "$program" < "$text" > "$given" 2> "$notes"
+    grep -q 'LIMIT REACHED' "$expected" && status=11
+    # shellcheck disable=SC2086
+    "$program" $words < "$text" > "$given" 2> "$notes"
     check "$text" "$status" "$expected" "$?" "$given"
 done
 

@@ -1,10 +1,10 @@
 #!/usr/bin/env python3
 """What aspenum must write for an aspif program, by walking all sets of atoms.
 
-    reference.py [enum|opt [LIMIT]] < program.aspif
+    reference.py [enum|opt|optima [LIMIT]] < program.aspif
 
-With a limit, which an optimisation takes no notice of, an enumeration ends with so many answers: here the first ones, where
-aspenum may write others.
+The mode optima is an optimisation that lists all optima. With a limit, which one for a single optimum takes no notice of, a list
+ends with so many answers: here the first ones, where aspenum may write others.
 
 Slow and plain on purpose: it shares nothing with the solver but the format.
 """
@@ -126,22 +126,26 @@ def cost(program, atoms):
 
 def lines(program, mode, limit=0):
     found = list(answers(program))
-    enough = mode == "enum" and 0 < limit <= len(found)
+    optimises = mode in ("opt", "optima")
+    if optimises and found:
+        least = min(cost(program, atoms) for atoms in found)
+        found = [atoms for atoms in found if cost(program, atoms) == least]
+    if mode == "opt":
+        found, limit = found[:1], 0
+    enough = 0 < limit <= len(found)
     if enough:
         found = found[:limit]
-    if mode == "opt":
-        found = sorted(found, key=lambda atoms: cost(program, atoms))[:1]
     for number, atoms in enumerate(found, 1):
         yield f"Answer: {number}"
         yield " ".join(t for t, condition in program["outputs"] if all(holds(l, atoms) for l in condition))
-    if mode == "opt" and found:
+    if optimises and found:
         yield " ".join(["Optimization:"] + [str(sum_) for sum_ in cost(program, found[0])])
     if enough:
         yield "LIMIT REACHED"
     elif not found:
         yield "UNSATISFIABLE"
     else:
-        yield "OPTIMUM FOUND" if mode == "opt" else "SATISFIABLE"
+        yield "OPTIMUM FOUND" if optimises else "SATISFIABLE"
     yield f"Models: {len(found)}" + ("+" if enough else "")
 
 

@@ -2,12 +2,12 @@
 use Rattle.std.proofs.Common.{◌≡◌, [], ◌∷◌, true, false, Some, None, codes, refl}
 use Rattle.asp_model.specs.declared.results.Mode.TheVariants.{Enum, Opt}
 use Rattle.asp_cli.specs.declared.Options.{Options}
-use Rattle.asp_cli.specs.declared.names.Name.TheVariants.{Workers, Mode, Budget, Models, Make, Stats, Progress, Split}
+use Rattle.asp_cli.specs.declared.names.Name.TheVariants.{Workers, Mode, Budget, Models, OptAll, Make, Stats, Progress, Split}
 use Rattle.asp_cli.specs.Given.{bad_value, help, misuse, missing, no_words, not_alone, options, rivals, twice, unexpected, unknown, version, words_give}
 
 -- what is asked for where no option is given
 abbrev standard : Options
-standard = record { workers = 1; mode = None; budget = 9223372036854775807; models = 0; make = None; stats = false; progress = false; proof = false; split = None }
+standard = record { workers = 1; mode = None; budget = 9223372036854775807; models = 0; all_optima = false; make = None; stats = false; progress = false; proof = false; split = None }
 
 empty_line : words_give [] ≡ misuse no_words
 empty_line = refl
@@ -138,11 +138,23 @@ parts_none = refl
 parts_many : words_give (codes "aspenum" ∷ codes "--split=100001" ∷ []) ≡ misuse (bad_value Split (codes "100001"))
 parts_many = refl
 
-parts_of_a_proof : words_give (codes "aspenum" ∷ codes "--split=2" ∷ codes "--proof" ∷ []) ≡ misuse rivals
+parts_of_a_proof : words_give (codes "aspenum" ∷ codes "--split=2" ∷ codes "--proof" ∷ []) ≡ misuse (rivals Split)
 parts_of_a_proof = refl
 
-proof_of_parts : words_give (codes "aspenum" ∷ codes "--proof" ∷ codes "--split" ∷ codes "2" ∷ []) ≡ misuse rivals
+proof_of_parts : words_give (codes "aspenum" ∷ codes "--proof" ∷ codes "--split" ∷ codes "2" ∷ []) ≡ misuse (rivals Split)
 proof_of_parts = refl
+
+all_optima : words_give (codes "aspenum" ∷ codes "--opt-all" ∷ codes "--models=7" ∷ []) ≡ options (record standard { models = 7; all_optima = true })
+all_optima = refl
+
+all_optima_of_one : words_give (codes "aspenum" ∷ codes "--opt-all=1" ∷ []) ≡ misuse (bad_value OptAll (codes "1"))
+all_optima_of_one = refl
+
+all_optima_of_a_proof : words_give (codes "aspenum" ∷ codes "--opt-all" ∷ codes "--proof" ∷ []) ≡ misuse (rivals OptAll)
+all_optima_of_a_proof = refl
+
+proof_of_all_optima : words_give (codes "aspenum" ∷ codes "--proof" ∷ codes "--opt-all" ∷ []) ≡ misuse (rivals OptAll)
+proof_of_all_optima = refl
 
 parts_twice : words_give (codes "aspenum" ∷ codes "--split=2" ∷ codes "--split=3" ∷ []) ≡ misuse (twice Split)
 parts_twice = refl
@@ -150,5 +162,5 @@ parts_twice = refl
 first_from_the_left : words_give (codes "aspenum" ∷ codes "--stats" ∷ codes "--budget=x" ∷ codes "--verson" ∷ []) ≡ misuse (bad_value Budget (codes "x"))
 first_from_the_left = refl
 
-all_options : words_give (codes "aspenum" ∷ codes "--make=2000" ∷ codes "--stats" ∷ codes "--mode=enum" ∷ codes "--budget=7" ∷ codes "--models=3" ∷ codes "--workers=4" ∷ []) ≡ options (record { workers = 4; mode = Some Enum; budget = 7; models = 3; make = Some 2000; stats = true; progress = false; proof = false; split = None })
+all_options : words_give (codes "aspenum" ∷ codes "--make=2000" ∷ codes "--stats" ∷ codes "--mode=enum" ∷ codes "--budget=7" ∷ codes "--models=3" ∷ codes "--workers=4" ∷ []) ≡ options (record { workers = 4; mode = Some Enum; budget = 7; models = 3; all_optima = false; make = Some 2000; stats = true; progress = false; proof = false; split = None })
 all_options = refl

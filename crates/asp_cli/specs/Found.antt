@@ -1,8 +1,8 @@
 -- The options that were found so far.
-use Rattle.std.specs.Prelude.{ℕ, Bool, false, List, Option, Some, None, is_some, option_map, unwrap_or}
+use Rattle.std.specs.Prelude.{◌≡◌, ℕ, Bool, true, false, List, Option, Some, None, is_some, option_map, unwrap_or, if◌then◌else◌}
 use Rattle.asp_cli.specs.declared.found.Found.{Found}
 use Rattle.asp_cli.specs.declared.names.Name.{Name}
-use Rattle.asp_cli.specs.declared.names.Name.TheVariants.{Workers, Mode, Budget, Models, Make, Stats, Progress, Proof, Split}
+use Rattle.asp_cli.specs.declared.names.Name.TheVariants.{Workers, Mode, Budget, Models, OptAll, Make, Stats, Progress, Proof, Split}
 use Rattle.asp_cli.specs.declared.walk.Awaits.TheVariants as awaits
 use Rattle.asp_cli.specs.declared.walk.State.{State}
 use Rattle.asp_cli.specs.declared.Options.{Options}
@@ -14,17 +14,27 @@ has f Workers = is_some f.workers
 has f Mode = is_some f.mode
 has f Budget = is_some f.budget
 has f Models = is_some f.models
+has f OptAll = f.all_optima
 has f Make = is_some f.make
 has f Stats = f.stats
 has f Progress = f.progress
 has f Proof = f.proof
 has f Split = is_some f.split
 
--- whether an option was given that can't stand beside this one: a proof isn't written of parts
-abbrev pub has_rival : Found → Name → Bool
-has_rival f Proof = is_some f.split
-has_rival f Split = f.proof
-has_rival f _ = false
+-- which option can't stand beside `--proof`, where the one of them was given and the other is this: a proof isn't written of parts,
+-- nor of all optima
+abbrev pub rival_of : Found → Name → Option Name
+rival_of f Proof = if is_some f.split then Some Split else (if f.all_optima then Some OptAll else None)
+rival_of f Split = if f.proof then Some Split else None
+rival_of f OptAll = if f.proof then Some OptAll else None
+rival_of f _ = None
+
+-- A proof and all optima aren't asked for together.
+abbrev pub AreApart : Bool → Bool → Type 0
+AreApart proof all_optima = proof ≡ true → all_optima ≡ false
+
+abbrev pub IsApart : Options → Type 0
+IsApart o = AreApart o.proof o.all_optima
 
 -- what was found with an option's value; none where the option doesn't take it
 abbrev pub found_with : Found → Name → List ℕ → Option Found
@@ -33,6 +43,7 @@ found_with f Mode t = option_map (λ m. record f { mode = Some m }) (mode_named 
 found_with f Budget t = option_map (λ n. record f { budget = Some n }) (number_within 0 9223372036854775807 t)
 found_with f Models t = option_map (λ n. record f { models = Some n }) (number_within 0 9223372036854775807 t)
 found_with f Make t = option_map (λ n. record f { make = Some n }) (number_within 3 2000 t)
+found_with f OptAll t = None
 found_with f Stats t = None
 found_with f Progress t = None
 found_with f Proof t = None
@@ -45,6 +56,7 @@ options_of f = record {
   mode = unwrap_or f.mode None;
   budget = unwrap_or f.budget 9223372036854775807;
   models = unwrap_or f.models 0;
+  all_optima = f.all_optima;
   make = f.make;
   stats = f.stats;
   progress = f.progress;
@@ -54,4 +66,4 @@ options_of f = record {
 
 -- nothing was found yet
 abbrev pub start : State
-start = record { found = record { workers = None; mode = None; budget = None; models = None; make = None; stats = false; progress = false; proof = false; split = None }; awaits = awaits.Option }
+start = record { found = record { workers = None; mode = None; budget = None; models = None; all_optima = false; make = None; stats = false; progress = false; proof = false; split = None }; awaits = awaits.Option }

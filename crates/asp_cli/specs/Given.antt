@@ -4,7 +4,7 @@ use Rattle.std.specs.List.{after_first, before_first, position_or_len}
 use Rattle.std.specs.Str.{bytes_eq}
 use Rattle.asp_cli.specs.declared.found.Found.{Found}
 use Rattle.asp_cli.specs.declared.names.Name.{Name}
-use Rattle.asp_cli.specs.declared.names.Name.TheVariants.{Stats, Progress, Proof}
+use Rattle.asp_cli.specs.declared.names.Name.TheVariants.{OptAll, Stats, Progress, Proof}
 use Rattle.asp_cli.specs.declared.walk.Awaits.TheVariants as awaits
 use Rattle.asp_cli.specs.declared.walk.Awaits.{Awaits}
 use Rattle.asp_cli.specs.declared.walk.State.{State}
@@ -13,7 +13,7 @@ use Rattle.asp_cli.specs.declared.CliError.{CliError}
 use Rattle.asp_cli.specs.declared.CliError.TheVariants.{Usage, Help, Version}
 use Rattle.asp_cli.specs.declared.WordFault.{WordFault}
 use Rattle.asp_cli.specs.declared.WordFault.TheVariants.{NoWords, Unknown, Unexpected, NotAlone, Twice, Missing, Value, Rivals}
-use Rattle.asp_cli.specs.Found.{found_with, has, has_rival, options_of, start}
+use Rattle.asp_cli.specs.Found.{found_with, has, options_of, rival_of, start}
 use Rattle.asp_cli.specs.Names.{named}
 
 abbrev pub Text : Type 0
@@ -28,8 +28,8 @@ pub data Misuse : Type 0 where
   twice : Name → Misuse
   missing : Name → Misuse
   bad_value : Name → Text → Misuse
-  -- `--split` and `--proof` are both there
-  rivals : Misuse
+  -- the option and `--proof` are both there
+  rivals : Name → Misuse
 
 -- what the words came to, but for the options
 abbrev pub fault_seen : WordFault → Misuse
@@ -40,7 +40,7 @@ fault_seen (NotAlone w) = not_alone w.now
 fault_seen (Twice n) = twice n
 fault_seen (Missing n) = missing n
 fault_seen (Value n v) = bad_value n v.now
-fault_seen Rivals = rivals
+fault_seen (Rivals n) = rivals n
 
 abbrev pub seen : {T : Type 0} → Result T WordFault → Result T Misuse
 seen (Ok v) = Ok v
@@ -72,9 +72,13 @@ abbrev pub cut : Text → Option (Text × Text)
 cut w = if nat_lt (position_or_len (λ b. b == 61) w) (length w)
     then Some (before_first (λ b. b == 61) w, after_first (λ b. b == 61) w) else None
 
+abbrev pub beside : Name → Option Name → Result Name Misuse
+beside n None = Ok n
+beside n (Some rival) = Err (rivals rival)
+
 abbrev pub fresh_by : Found → Text → Option Name → Result Name Misuse
 fresh_by f w None = Err (stray w)
-fresh_by f w (Some n) = if has f n then Err (twice n) else (if has_rival f n then Err rivals else Ok n)
+fresh_by f w (Some n) = if has f n then Err (twice n) else beside n (rival_of f n)
 
 -- the option of this name, which the word gives for the first time, and which may stand beside the others
 abbrev pub fresh : Found → Text → Text → Result Name Misuse
@@ -93,6 +97,7 @@ abbrev pub told_with_value : Found → Text → Text → Text → Result State M
 told_with_value f name v w = if_ok (fresh f name w) (λ n. told_value f n v)
 
 abbrev pub told_name : Found → Name → State
+told_name f OptAll = record { found = record f { all_optima = true }; awaits = awaits.Option }
 told_name f Stats = record { found = record f { stats = true }; awaits = awaits.Option }
 told_name f Progress = record { found = record f { progress = true }; awaits = awaits.Option }
 told_name f Proof = record { found = record f { proof = true }; awaits = awaits.Option }

@@ -2,7 +2,7 @@
 use Rattle.std.specs.Prelude.{ℕ, List, ◌++◌, codes}
 
 abbrev pub usage_line : List ℕ
-usage_line = codes "usage: aspenum [--workers 1..64] [--mode auto|enum|opt] [--budget N] [--make 3..2000] [--stats] [--progress] [--proof] [--models N] [--split 1..100000]"
+usage_line = codes "usage: aspenum [--workers 1..64] [--mode auto|enum|opt] [--budget N] [--make 3..2000] [--stats] [--progress] [--proof] [--models N] [--opt-all] [--split 1..100000]"
 
 -- the program's name and version
 abbrev pub version_line : List ℕ
@@ -23,8 +23,9 @@ page_back = codes "\n"
     ++ codes "  --mode MODE    enum: all answers. opt: one of least cost. auto, the default: opt\n"
     ++ codes "                 where the program has a minimize statement, and else enum\n"
     ++ codes "  --budget N     at most N conflicts, 0 to 9223372036854775807; the default is the greatest\n"
-    ++ codes "  --models N     end with N answers of an enumeration; 0, the default, is no limit. An\n"
-    ++ codes "                 optimisation takes no notice of it\n"
+    ++ codes "  --models N     end with N answers; 0, the default, is no limit. An optimisation takes no\n"
+    ++ codes "                 notice of it but with --opt-all\n"
+    ++ codes "  --opt-all      an optimisation writes all answers of least cost; not beside --proof\n"
     ++ codes "  --make N       solve a ring of N nodes, 3 to 2000, and read no program\n"
     ++ codes "  --workers N    threads that search, 1 to 64; the default is 1\n"
     ++ codes "  --stats        write counts of the run to standard error\n"

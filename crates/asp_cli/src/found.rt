@@ -1,6 +1,6 @@
 //! The options that were found so far.
 ghost use Rattle.std.specs.Prelude.{◌≡◌, IfSome};
-ghost use Rattle.asp_cli.specs.Found.{found_with, has, has_rival, options_of};
+ghost use Rattle.asp_cli.specs.Found.{AreApart, IsApart, found_with, has, options_of, rival_of};
 ghost use Rattle.asp_cli.specs.Values.{IsCrew, IsPartCount, IsRing};
 
 use crate::Options;
@@ -21,6 +21,8 @@ pub struct Found {
     pub budget: Option<u64>,
     /// How many answers are enough.
     pub models: Option<u64>,
+    /// Whether all optima were asked for.
+    pub all_optima: bool,
     /// The number of the example program that is to be written.
     pub make: Option<u32>,
     /// Whether counts of the run were asked for.
@@ -42,6 +44,7 @@ pub fn has(found: &Found, name: Name) -> bool
         Name::Mode => found.mode.is_some(),
         Name::Budget => found.budget.is_some(),
         Name::Models => found.models.is_some(),
+        Name::OptAll => found.all_optima,
         Name::Make => found.make.is_some(),
         Name::Stats => found.stats,
         Name::Progress => found.progress,
@@ -50,14 +53,22 @@ pub fn has(found: &Found, name: Name) -> bool
     }
 }
 
-/// Whether an option was given that can't stand beside this one.
-pub fn has_rival(found: &Found, name: Name) -> bool
-    ensures { result ≡ has_rival found.now name }
+/// Which option can't stand beside `--proof`, where the one of them was given and the other is this.
+pub fn rival(found: &Found, name: Name) -> Option<Name>
+    ensures { result ≡ rival_of found.now name }
 {
     match name {
-        Name::Proof => found.split.is_some(),
-        Name::Split => found.proof,
-        _ => false,
+        Name::Proof => {
+            if found.split.is_some() {
+                Some(Name::Split)
+            } else if found.all_optima {
+                Some(Name::OptAll)
+            } else {
+                None
+            }
+        }
+        Name::Split | Name::OptAll => { if found.proof { Some(name) } else { None } }
+        _ => None,
     }
 }
 
@@ -67,6 +78,7 @@ pub fn with(found: Found, name: Name, text: &str) -> Option<Found>
     ensures ring { IsRing found.make → IfSome result (λ f. IsRing f.make) }
     ensures crew { IfSome found.workers IsCrew → IfSome result (λ f. IfSome f.workers IsCrew) }
     ensures parts { IsPartCount found.split → IfSome result (λ f. IsPartCount f.split) }
+    ensures apart { AreApart found.proof found.all_optima → IfSome result (λ f. AreApart f.proof f.all_optima) }
 {
     match name {
         Name::Workers => {
@@ -104,7 +116,7 @@ pub fn with(found: Found, name: Name, text: &str) -> Option<Found>
                 ..found
             })
         }
-        Name::Stats | Name::Progress | Name::Proof => None,
+        Name::OptAll | Name::Stats | Name::Progress | Name::Proof => None,
         Name::Split => {
             let parts = number(text, 1, MOST_PARTS)?;
             Some(Found {
@@ -121,12 +133,14 @@ pub fn options(found: &Found) -> Options
     ensures ring { IsRing found.now.make → IsRing result.make }
     ensures crew { IfSome found.now.workers IsCrew → IsCrew result.workers }
     ensures parts { IsPartCount found.now.split → IsPartCount result.split }
+    ensures apart { AreApart found.now.proof found.now.all_optima → IsApart result }
 {
     Options {
         workers: found.workers.unwrap_or(1),
         mode: found.mode.unwrap_or(None),
         budget: found.budget.unwrap_or(MOST_UNITS),
         models: found.models.unwrap_or(0),
+        all_optima: found.all_optima,
         make: found.make,
         stats: found.stats,
         progress: found.progress,

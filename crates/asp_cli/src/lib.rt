@@ -9,7 +9,7 @@ mod walk;
 
 ghost use Rattle.std.specs.Prelude.{◌≡◌, IfOk, map, string_bytes};
 ghost use Rattle.asp_cli.specs.Given.{asks_help, asks_version, given_after, given_alone, given_by, given_of, walked, words_give};
-ghost use Rattle.asp_cli.specs.Found.{start};
+ghost use Rattle.asp_cli.specs.Found.{IsApart, start};
 ghost use Rattle.asp_cli.specs.Values.{IsCrew, IsPartCount, IsRing};
 
 use asp_model::results::Mode;
@@ -25,8 +25,11 @@ pub struct Options {
     pub mode: Option<Mode>,
     /// How many units of work there are, each of which a conflict costs. The greatest number is 2^63 - 1, which also stands where none was given.
     pub budget: u64,
-    /// How many answers of an enumeration are enough. With 0, which also stands where none was given, there is no limit.
+    /// How many answers are enough, where a list of them is sought. With 0, which also stands where none was given, there is no
+    /// limit.
     pub models: u64,
+    /// Whether an optimisation lists all answers of least cost. A proof isn't asked for then.
+    pub all_optima: bool,
     /// The number of nodes of the ring that is solved in place of a program that is read, if one is: 3 to 2000.
     pub make: Option<u32>,
     /// Whether the notes get counts of the run.
@@ -57,8 +60,8 @@ pub enum WordFault<'a> {
     Missing(Name),
     /// The option doesn't take this value.
     Value(Name, &'a str),
-    /// The option asks for the parts of a program where its proof is asked for, or the other way round.
-    Rivals,
+    /// The option is given beside `--proof`, and can't stand there.
+    Rivals(Name),
 }
 
 /// Why the words of a command line give no options.
@@ -91,6 +94,7 @@ fn read<'a>(words: &'a [String]) -> Result<Options, CliError<'a>>
     ensures ring { IfOk result (λ o. IsRing o.make) }
     ensures crew { IfOk result (λ o. IsCrew o.workers) }
     ensures parts { IfOk result (λ o. IsPartCount o.split) }
+    ensures apart { IfOk result IsApart }
 {
     match walk::walk(words) {
         Ok(options) => Ok(options),
@@ -104,6 +108,7 @@ fn alone<'a>(word: &str, words: &'a [String]) -> Result<Options, CliError<'a>>
     ensures ring { IfOk result (λ o. IsRing o.make) }
     ensures crew { IfOk result (λ o. IsCrew o.workers) }
     ensures parts { IfOk result (λ o. IsPartCount o.split) }
+    ensures apart { IfOk result IsApart }
 {
     if asks_for_help(word) {
         Err(CliError::Help)
@@ -119,6 +124,7 @@ fn after_name<'a>(words: &'a [String]) -> Result<Options, CliError<'a>>
     ensures ring { IfOk result (λ o. IsRing o.make) }
     ensures crew { IfOk result (λ o. IsCrew o.workers) }
     ensures parts { IfOk result (λ o. IsPartCount o.split) }
+    ensures apart { IfOk result IsApart }
 {
     match words {
         [] => read(words),
@@ -134,6 +140,7 @@ pub fn words<'a>(words: &'a [String]) -> Result<Options, CliError<'a>>
     ensures ring { IfOk result (λ o. IsRing o.make) }
     ensures crew { IfOk result (λ o. IsCrew o.workers) }
     ensures parts { IfOk result (λ o. IsPartCount o.split) }
+    ensures apart { IfOk result IsApart }
 {
     match words {
         [] => Err(CliError::Usage(WordFault::NoWords)),

@@ -9,6 +9,7 @@ pub enum Name {
     Mode,
     Budget,
     Models,
+    OptAll,
     Make,
     Stats,
     Progress,
@@ -26,6 +27,7 @@ impl Name {
             Name::Mode => "--mode",
             Name::Budget => "--budget",
             Name::Models => "--models",
+            Name::OptAll => "--opt-all",
             Name::Make => "--make",
             Name::Stats => "--stats",
             Name::Progress => "--progress",
@@ -43,7 +45,7 @@ impl Name {
             Name::Mode => "auto, enum or opt",
             Name::Budget | Name::Models => "a number up to 9223372036854775807",
             Name::Make => "a number from 3 to 2000",
-            Name::Stats | Name::Progress | Name::Proof => "no value",
+            Name::OptAll | Name::Stats | Name::Progress | Name::Proof => "no value",
             Name::Split => "a number from 1 to 100000",
         }
     }
@@ -61,6 +63,8 @@ pub fn named(word: &str) -> Option<Name>
         Some(Name::Budget)
     } else if word == Name::Models.text() {
         Some(Name::Models)
+    } else if word == Name::OptAll.text() {
+        Some(Name::OptAll)
     } else if word == Name::Make.text() {
         Some(Name::Make)
     } else if word == Name::Stats.text() {

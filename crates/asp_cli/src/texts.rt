@@ -4,7 +4,7 @@ ghost use Rattle.asp_cli.specs.Texts.{page_back, page_front, usage_line, version
 
 /// The line that tells how the program is called.
 pub const USAGE: &str =
-    "usage: aspenum [--workers 1..64] [--mode auto|enum|opt] [--budget N] [--make 3..2000] [--stats] [--progress] [--proof] [--models N] [--split 1..100000]";
+    "usage: aspenum [--workers 1..64] [--mode auto|enum|opt] [--budget N] [--make 3..2000] [--stats] [--progress] [--proof] [--models N] [--opt-all] [--split 1..100000]";
 
 /// The program's name and version.
 pub const VERSION: &str = "aspenum 0.1.0\n";
@@ -21,8 +21,9 @@ Options, each at most once, its value as the next word or behind '=':\n\
 \x20 --mode MODE    enum: all answers. opt: one of least cost. auto, the default: opt\n\
 \x20                where the program has a minimize statement, and else enum\n\
 \x20 --budget N     at most N conflicts, 0 to 9223372036854775807; the default is the greatest\n\
-\x20 --models N     end with N answers of an enumeration; 0, the default, is no limit. An\n\
-\x20                optimisation takes no notice of it\n\
+\x20 --models N     end with N answers; 0, the default, is no limit. An optimisation takes no\n\
+\x20                notice of it but with --opt-all\n\
+\x20 --opt-all      an optimisation writes all answers of least cost; not beside --proof\n\
 \x20 --make N       solve a ring of N nodes, 3 to 2000, and read no program\n\
 \x20 --workers N    threads that search, 1 to 64; the default is 1\n\
 \x20 --stats        write counts of the run to standard error\n\

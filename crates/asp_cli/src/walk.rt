@@ -1,10 +1,10 @@
 //! The walk over the words behind the program's name.
-ghost use Rattle.std.specs.Prelude.{◌≡◌, IfOk, IfSome, map, option_map, string_bytes};
-ghost use Rattle.asp_cli.specs.Found.{start};
+ghost use Rattle.std.specs.Prelude.{◌≡◌, None, IfOk, IfSome, map, option_map, string_bytes};
+ghost use Rattle.asp_cli.specs.Found.{AreApart, IsApart, rival_of, start};
 ghost use Rattle.asp_cli.specs.Given.{after, cut, ended, fault_seen, fresh, looks_like_option, seen, stray, told_alone, told_option, told_value, told_with_value, walked};
 ghost use Rattle.asp_cli.specs.Values.{IsCrew, IsPartCount, IsRing};
 
-use crate::found::{Found, has, has_rival, options, with};
+use crate::found::{Found, has, options, rival, with};
 use crate::names::{Name, named};
 use crate::{Options, WordFault, asks_for_help, asks_for_version};
 
@@ -36,6 +36,7 @@ fn start() -> State
         mode: None,
         budget: None,
         models: None,
+        all_optima: false,
         make: None,
         stats: false,
         progress: false,
@@ -80,17 +81,18 @@ fn cut<'a>(word: &'a str) -> Option<(&'a str, &'a str)>
 
 // The option of this name, which the word gives for the first time, and which may stand beside the others.
 fn fresh<'a>(found: &Found, name: &str, word: &'a str) -> Result<Name, WordFault<'a>>
-    ensures { seen result ≡ fresh found.now name.now word.entry.now }
+    ensures value { seen result ≡ fresh found.now name.now word.entry.now }
+    ensures apart { IfOk result (λ n. rival_of found.now n ≡ None) }
 {
     match named(name) {
         None => Err(stray(word)),
         Some(name) => {
             if has(found, name) {
-                Err(WordFault::Twice(name))
-            } else if has_rival(found, name) {
-                Err(WordFault::Rivals)
-            } else {
-                Ok(name)
+                return Err(WordFault::Twice(name));
+            }
+            match rival(found, name) {
+                None => Ok(name),
+                Some(rival) => Err(WordFault::Rivals(rival)),
             }
         }
     }
@@ -101,6 +103,7 @@ fn value<'a>(found: Found, name: Name, text: &'a str) -> Result<State, WordFault
     ensures ring { IsRing found.make → IfOk result (λ s. IsRing s.found.make) }
     ensures crew { IfSome found.workers IsCrew → IfOk result (λ s. IfSome s.found.workers IsCrew) }
     ensures parts { IsPartCount found.split → IfOk result (λ s. IsPartCount s.found.split) }
+    ensures apart { AreApart found.proof found.all_optima → IfOk result (λ s. AreApart s.found.proof s.found.all_optima) }
 {
     match with(found, name, text) {
         Some(found) => Ok(State {
@@ -122,6 +125,7 @@ fn with_value<'a>(
     ensures ring { IsRing found.make → IfOk result (λ s. IsRing s.found.make) }
     ensures crew { IfSome found.workers IsCrew → IfOk result (λ s. IfSome s.found.workers IsCrew) }
     ensures parts { IsPartCount found.split → IfOk result (λ s. IsPartCount s.found.split) }
+    ensures apart { AreApart found.proof found.all_optima → IfOk result (λ s. AreApart s.found.proof s.found.all_optima) }
 {
     match fresh(&found, name, word) {
         Ok(name) => value(found, name, text),
@@ -135,11 +139,19 @@ fn alone<'a>(found: Found, word: &'a str) -> Result<State, WordFault<'a>>
     ensures ring { IsRing found.make → IfOk result (λ s. IsRing s.found.make) }
     ensures crew { IfSome found.workers IsCrew → IfOk result (λ s. IfSome s.found.workers IsCrew) }
     ensures parts { IsPartCount found.split → IfOk result (λ s. IsPartCount s.found.split) }
+    ensures apart { AreApart found.proof found.all_optima → IfOk result (λ s. AreApart s.found.proof s.found.all_optima) }
 {
     match fresh(&found, word, word) {
         Ok(Name::Stats) => Ok(State {
             found: Found {
                 stats: true,
+                ..found
+            },
+            awaits: Awaits::Option,
+        }),
+        Ok(Name::OptAll) => Ok(State {
+            found: Found {
+                all_optima: true,
                 ..found
             },
             awaits: Awaits::Option,
@@ -171,6 +183,7 @@ fn option<'a>(found: Found, word: &'a str) -> Result<State, WordFault<'a>>
     ensures ring { IsRing found.make → IfOk result (λ s. IsRing s.found.make) }
     ensures crew { IfSome found.workers IsCrew → IfOk result (λ s. IfSome s.found.workers IsCrew) }
     ensures parts { IsPartCount found.split → IfOk result (λ s. IsPartCount s.found.split) }
+    ensures apart { AreApart found.proof found.all_optima → IfOk result (λ s. AreApart s.found.proof s.found.all_optima) }
 {
     if word == "--" {
         return Ok(State {
@@ -190,6 +203,7 @@ fn after<'a>(state: State, word: &'a str) -> Result<State, WordFault<'a>>
     ensures ring { IsRing state.found.make → IfOk result (λ s. IsRing s.found.make) }
     ensures crew { IfSome state.found.workers IsCrew → IfOk result (λ s. IfSome s.found.workers IsCrew) }
     ensures parts { IsPartCount state.found.split → IfOk result (λ s. IsPartCount s.found.split) }
+    ensures apart { AreApart state.found.proof state.found.all_optima → IfOk result (λ s. AreApart s.found.proof s.found.all_optima) }
 {
     match state.awaits {
         Awaits::Option => option(state.found, word),
@@ -203,6 +217,7 @@ fn ended<'a>(state: &State) -> Result<Options, WordFault<'a>>
     ensures ring { IsRing state.now.found.make → IfOk result (λ o. IsRing o.make) }
     ensures crew { IfSome state.now.found.workers IsCrew → IfOk result (λ o. IsCrew o.workers) }
     ensures parts { IsPartCount state.now.found.split → IfOk result (λ o. IsPartCount o.split) }
+    ensures apart { AreApart state.now.found.proof state.now.found.all_optima → IfOk result IsApart }
 {
     match state.awaits {
         Awaits::Value(name) => Err(WordFault::Missing(name)),
@@ -216,6 +231,7 @@ pub fn walk<'a>(words: &'a [String]) -> Result<Options, WordFault<'a>>
     ensures ring { IfOk result (λ o. IsRing o.make) }
     ensures crew { IfOk result (λ o. IsCrew o.workers) }
     ensures parts { IfOk result (λ o. IsPartCount o.split) }
+    ensures apart { IfOk result IsApart }
 {
     let mut state = start();
     for word in words {

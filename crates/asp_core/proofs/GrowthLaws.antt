@@ -2,8 +2,9 @@
 use Rattle.std.proofs.Common.{◌≡◌, ℕ, ◌+◌, ◌≤◌, Bool, true, false, cond, eqb, List, [], ◌∷◌, ◌++◌, length, Option, Some, None, refl, sym, ap, ◌∙◌, arith}
 use Rattle.std.specs.Prelude.{ℤ}
 use Rattle.std.specs.List.{list_any, AllByRecursion}
-use Rattle.std.proofs.lemmas.Bool.{eqb-true, ne_eqb}
+use Rattle.std.proofs.lemmas.Bool.{eqb-true, ne_eqb, or_left}
 use Rattle.std.proofs.lemmas.List.{length-append}
+use Rattle.std.proofs.lemmas.List.Folds.{list_any-append}
 use Rattle.asp_model.specs.declared.program.Program.{Program}
 use Rattle.asp_model.specs.Sets.{Atoms, same_set}
 use Rattle.asp_model.specs.Costs.{cost, betters}
@@ -26,12 +27,13 @@ use Rattle.asp_core.proofs.HeldLaws.{stays-happens}
 
 -- ---- what is recorded
 pub Grows-itself : (b : Board) → Grows b b
-Grows-itself b = record { task = refl; excused = λ S h. h; known = omega arith; bounds = λ d h. h }
+Grows-itself b = record { task = refl; excused = λ S h. h; listed = λ S h. h; known = omega arith; bounds = λ d h. h }
 
 pub Grows-trans : (a b c : Board) → Grows a b → Grows b c → Grows a c
 Grows-trans a b c g h = record {
   task = h.task ∙ g.task;
   excused = λ S e. h.excused S (g.excused S e);
+  listed = λ S e. h.listed S (g.listed S e);
   known = omega (arith, g.known, h.known);
   bounds = λ d e. h.bounds d (g.bounds d e);
 }
@@ -52,24 +54,26 @@ bound-improved goal.Opt p K (Some B) S d less h =
     betters_trans d (cost p B) (cost p S) h (not_after (cost p B) (cost p S) better)
 
 pub Grows-happens : (b : Board) (e : Event) → Guard b e → Grows b (happens b e)
-Grows-happens b (event.Take s leaf) g = record { task = refl; excused = λ S h. h; known = omega arith; bounds = λ d h. h }
-Grows-happens b (event.Split s leaf l) g = record { task = refl; excused = λ S h. h; known = omega arith; bounds = λ d h. h }
+Grows-happens b (event.Take s leaf) g = record { task = refl; excused = λ S h. h; listed = λ S h. h; known = omega arith; bounds = λ d h. h }
+Grows-happens b (event.Split s leaf l) g = record { task = refl; excused = λ S h. h; listed = λ S h. h; known = omega arith; bounds = λ d h. h }
 Grows-happens b (event.Deliver s S) g = record {
   task = refl;
   excused = λ T h. done-delivered b.task.program b.answers (bound_of b) S T h;
+  listed = λ T h. list_any-append (same_set T) b.answers (S ∷ []) ∙ or_left (list_any (same_set T) b.answers) (list_any (same_set T) (S ∷ [])) h;
   known = distinct-grows b.answers S;
   bounds = λ d h. h;
 }
 Grows-happens b (event.Improve s S) g = record {
   task = refl;
   excused = λ T h. done-improved b.task.goal b.task.program b.answers b.best S T g.0 g.2 h;
+  listed = λ T h. h;
   known = omega arith;
   bounds = λ d h. bound-improved b.task.goal b.task.program b.answers b.best S d g.2 h;
 }
-Grows-happens b (event.Close s leaf n) g = record { task = refl; excused = λ S h. h; known = omega arith; bounds = λ d h. h }
-Grows-happens b (event.Release s leaf) g = record { task = refl; excused = λ S h. h; known = omega arith; bounds = λ d h. h }
-Grows-happens b (event.Lease s n) g = record { task = refl; excused = λ S h. h; known = omega arith; bounds = λ d h. h }
-Grows-happens b (event.Back s left burnt) g = record { task = refl; excused = λ S h. h; known = omega arith; bounds = λ d h. h }
+Grows-happens b (event.Close s leaf n) g = record { task = refl; excused = λ S h. h; listed = λ S h. h; known = omega arith; bounds = λ d h. h }
+Grows-happens b (event.Release s leaf) g = record { task = refl; excused = λ S h. h; listed = λ S h. h; known = omega arith; bounds = λ d h. h }
+Grows-happens b (event.Lease s n) g = record { task = refl; excused = λ S h. h; listed = λ S h. h; known = omega arith; bounds = λ d h. h }
+Grows-happens b (event.Back s left burnt) g = record { task = refl; excused = λ S h. h; listed = λ S h. h; known = omega arith; bounds = λ d h. h }
 
 pub Grows-run : (b : Board) (journal : List Event) → IsLawful b journal → Grows b (run b journal)
 Grows-run b [] lawful = Grows-itself b

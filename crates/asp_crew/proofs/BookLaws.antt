@@ -1,6 +1,6 @@
 -- A book whose events are number 0's, and the search and units beside it.
 use Rattle.std.proofs.Common.{◌≡◌, ℕ, ◌^◌, ◌<◌, arith, Bool, true, false, eqb, List, [], ◌∷◌, refl, sym, ap, ◌∙◌, subst}
-use Rattle.std.specs.Prelude.{IsTrue}
+use Rattle.std.specs.Prelude.{ℤ, IsTrue}
 use Rattle.std.specs.Bool.{beq}
 use Rattle.std.proofs.lemmas.Bool.{eq-eqb, and_from, and_parts, or_left, or_right}
 use Rattle.asp_model.specs.declared.results.Mode.{Mode}
@@ -24,17 +24,17 @@ use Rattle.asp_book.specs.Books.{Booked, board, with_events, IsJournalOf}
 use Rattle.asp_search_laws.specs.Searching.{Searching}
 use Rattle.asp_crew_laws.specs.Working.{IsAtWork}
 use Rattle.asp_crew_laws.proofs.WorkLaws.{work-on}
-use Rattle.asp_crew.specs.Running.{IsRunIn, IsReady}
+use Rattle.asp_crew.specs.Running.{HasNoQuery, IsReady}
 
 -- ---- the board's task
 pub board-task : (v : Booked) → (board v).task ≡ v.task
 board-task v = task-run (start v.task) v.journal
 
-pub query-none : (mode : Mode) (t : Task) → IsRunIn mode t → IsQuery t.program t.query
-query-none mode t is = subst (λ (x : Task). IsQuery x.program x.query) (sym is) tt
+pub query-none : (t : Task) → HasNoQuery t → IsQuery t.program t.query
+query-none t is = subst (λ (q : List ℤ). IsQuery t.program q) (sym is) tt
 
-pub book-board : (mode : Mode) (v : Booked) → IsRunIn mode v.task → IsJournalOf v.task v.journal → IsBoard (board v)
-book-board mode v is lawful = IsBoard-replay v.task v.journal (query-none mode v.task is) lawful
+pub book-board : (v : Booked) → HasNoQuery v.task → IsJournalOf v.task v.journal → IsBoard (board v)
+book-board v is lawful = IsBoard-replay v.task v.journal (query-none v.task is) lawful
 
 -- ---- an event more
 pub board-with : (v : Booked) (e : Event) → board (with_events v (e ∷ [])) ≡ happens (board v) e
@@ -68,16 +68,16 @@ has_all-itself [] = refl
 has_all-itself (l ∷ q) = and_from (has_literal (l ∷ q) l) (has_all (l ∷ q) q) (or_left (literal_eq l l) (has_literal q l) (literal-itself l)) (has-further l q q (has_all-itself q))
 
 -- ---- the cube of a leaf that is held
-pub leaf-cube : (mode : Mode) (v : Booked) (leaf : ℕ) (q : List Literal) → IsRunIn mode v.task → IsJournalOf v.task v.journal → status_of (board v).nodes leaf ≡ status.Held 0 → q ≡ cube_of (board v).nodes leaf → IsCube v.task q
-leaf-cube mode v leaf q run lawful held is =
+pub leaf-cube : (v : Booked) (leaf : ℕ) (q : List Literal) → HasNoQuery v.task → IsJournalOf v.task v.journal → status_of (board v).nodes leaf ≡ status.Held 0 → q ≡ cube_of (board v).nodes leaf → IsCube v.task q
+leaf-cube v leaf q run lawful held is =
     subst (IsCube v.task) (sym is) (subst (λ (t : Task). IsCube t (cube_of (board v).nodes leaf)) (board-task v)
-    (cube-at (board v).task (board v).nodes leaf (leaf-within (board v).nodes leaf (ap is_leaf held)) (book-board mode v run lawful).cubes))
+    (cube-at (board v).task (board v).nodes leaf (leaf-within (board v).nodes leaf (ap is_leaf held)) (book-board v run lawful).cubes))
 
 pub cube-within : (v w : Booked) (leaf : ℕ) (q : List Literal) → (board w).nodes ≡ (board v).nodes → q ≡ cube_of (board v).nodes leaf → IsTrue (has_all (cube_of (board w).nodes leaf) q)
 cube-within v w leaf q nodes is = ap (λ (n : List Node). has_all (cube_of n leaf) q) nodes ∙ ap (has_all (cube_of (board v).nodes leaf)) is ∙ has_all-itself (cube_of (board v).nodes leaf)
 
 -- ---- the pool is no more than the budget
-pub pool-fits : (mode : Mode) (v : Booked) → IsRunIn mode v.task → IsJournalOf v.task v.journal → v.task.budget < 2 ^ 64 → (board v).pool < 2 ^ 64
-pool-fits mode v run lawful fits =
-    let is = book-board mode v run lawful in
+pub pool-fits : (v : Booked) → HasNoQuery v.task → IsJournalOf v.task v.journal → v.task.budget < 2 ^ 64 → (board v).pool < 2 ^ 64
+pool-fits v run lawful fits =
+    let is = book-board v run lawful in
     omega (arith, is.units, fits, ap (λ (t : Task). t.budget) (board-task v))

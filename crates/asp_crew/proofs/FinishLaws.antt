@@ -23,9 +23,9 @@ use Rattle.asp_book.specs.Fuels.{ComesBack}
 use Rattle.asp_book.specs.Replies.{taken, leased_out, given_back}
 use Rattle.asp_search_laws.specs.Searching.{Searching}
 use Rattle.asp_crew_laws.specs.Reports.{IsIdle, IsMet, IsWorkedOff}
-use Rattle.asp_crew_laws.specs.Working.{IsAtWork}
-use Rattle.asp_crew_laws.proofs.WorkLaws.{work-begins, out_of-leased}
-use Rattle.asp_crew.specs.Running.{IsRunIn, IsReady, OnlyRecords, status_after, Ends, LeavesLeaf, IsAlone, IsThrough, LeavesAll}
+use Rattle.asp_crew_laws.specs.Working.{IsAtWork, MayBegin}
+use Rattle.asp_crew_laws.proofs.WorkLaws.{sought-begins, out_of-leased}
+use Rattle.asp_crew.specs.Running.{HasNoQuery, IsReady, OnlyRecords, status_after, Ends, LeavesLeaf, IsAlone, IsThrough, LeavesAll}
 use Rattle.asp_crew.proofs.BookLaws.{board-task, board-with, ready-with, cube-within}
 use Rattle.asp_crew.proofs.TreeLaws.{open-changed, taken-open, none-taken, status-set, cube-set, held_by-le, closed-when}
 
@@ -258,22 +258,22 @@ leased-is v w idle fits now = here (eqb (min (2 ^ 64 - 1) (board v).pool) 0) ref
         }
 
 -- the search begins with them
-pub ready-begins : (mode : Mode) (v w : Booked) (s : Searching) (f : Units) → IsRunIn mode v.task → IsLeased v w → f ≡ all_of (board v) → s.program ≡ v.task.program → s.mode ≡ mode → s.known ≡ [] → s.bound ≡ None → IsReady mode w s f
-ready-begins mode v w s f run is units program mode_is known bound =
+pub ready-begins : (mode : Mode) (bound : Option (List ℤ)) (v w : Booked) (s : Searching) (f : Units) → HasNoQuery v.task → MayBegin mode bound v.task.goal → IsLeased v w → f ≡ all_of (board v) → s.program ≡ v.task.program → s.mode ≡ mode → s.known ≡ [] → s.bound ≡ bound → IsReady mode w s f
+ready-begins mode bound v w s f run may is units program mode_is known under =
     let same : w.task ≡ v.task = is.task in
-    let task : IsRunIn mode w.task = subst (λ (x : Task). IsRunIn mode x) (sym same) run in
     let now : (board w).task ≡ v.task = board-task w ∙ same in
     let back : ComesBack (board w) (out_of (board w).out 0) (all_of (board v)) = (
       record { program = ap (λ (t : Task). t.program) (board-task v ∙ sym now); known = omega arith; least = tt },
       (let z : min (2 ^ 64 - 1) (board v).pool + 0 ≡ min (2 ^ 64 - 1) (board v).pool = omega arith in z) ∙ sym is.units,
     ) in
     record {
-      task = task;
+      task = subst HasNoQuery (sym same) run;
       program = program ∙ ap (λ (t : Task). t.program) (sym same);
       mode_is = mode_is;
       work =
-          subst (λ (k : List Atoms). IsAtWork (board w) 0 mode k s.bound f) (sym known) (subst (λ (o : Option (List ℤ)). IsAtWork (board w) 0 mode [] o f) (sym bound)
-          (subst (λ (u : Units). IsAtWork (board w) 0 mode [] None u) (sym units) (work-begins (board w) 0 mode (all_of (board v)) (ap (λ (t : Task). t.goal) (board-task w ∙ task)) back)));
+          subst (λ (k : List Atoms). IsAtWork (board w) 0 mode k s.bound f) (sym known) (subst (λ (o : Option (List ℤ)). IsAtWork (board w) 0 mode [] o f) (sym under)
+          (subst (λ (u : Units). IsAtWork (board w) 0 mode [] bound u) (sym units)
+          (sought-begins (board w) 0 mode bound (all_of (board v)) (subst (λ (t : Task). MayBegin mode bound t.goal) (sym now) may) back)));
     }
 
 -- ---- units at the end

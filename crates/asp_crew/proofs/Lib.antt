@@ -7,3 +7,4 @@ pub mod StepLaws
 pub mod FinishLaws
 pub mod ReportLaws
 pub mod ProofLaws
+pub mod TieLaws

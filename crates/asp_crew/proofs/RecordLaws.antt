@@ -13,16 +13,15 @@ use Rattle.asp_core.specs.Boards.{Board, is_answer, is_enough, lists, optimises}
 use Rattle.asp_core.specs.Events.{happens}
 use Rattle.asp_book.specs.Books.{Booked, board, with_events}
 use Rattle.asp_book.specs.Replies.{Improves, delivered, improved}
-use Rattle.asp_crew_laws.proofs.WorkLaws.{may-list, may-optimise}
-use Rattle.asp_crew.specs.Running.{IsRunIn, IsRecorded, IsUnbettered, OnlyRecords}
+use Rattle.asp_crew.specs.Running.{IsRecorded, IsUnbettered, MayRecord, OnlyRecords}
 use Rattle.asp_crew.proofs.BookLaws.{board-task, board-with}
 
 -- ---- what the book asks
-pub listed-now : (v : Booked) (S : Atoms) → IsRunIn Enum v.task → IsTrue (lists (board v).task S)
-listed-now v S run = may-list (board v).task S (ap (λ (t : Task). t.goal) (board-task v ∙ run))
+pub listed-now : (v : Booked) (S : Atoms) → MayRecord Enum v.task S → IsTrue (lists (board v).task S)
+listed-now v S may = subst (λ (t : Task). IsTrue (lists t S)) (sym (board-task v)) may
 
-pub optimised-now : (v : Booked) → IsRunIn Opt v.task → IsTrue (optimises (board v).task.goal)
-optimised-now v run = may-optimise (board v).task (ap (λ (t : Task). t.goal) (board-task v ∙ run))
+pub optimised-now : (v : Booked) (S : Atoms) → MayRecord Opt v.task S → IsTrue (optimises (board v).task.goal)
+optimised-now v S may = subst (λ (t : Task). IsTrue (optimises t.goal)) (sym (board-task v)) may
 
 pub answer-now : (v : Booked) (S : Atoms) → IsTrue (is_answer v.task S) → IsTrue (is_answer (board v).task S)
 answer-now v S h = subst (λ (t : Task). IsTrue (is_answer t S)) (sym (board-task v)) h
@@ -37,7 +36,7 @@ only-by v w e now nodes out pool =
     let b : board w ≡ happens (board v) e = ap board now ∙ board-with v e in
     record { task = ap (λ (z : Booked). z.task) now; nodes = ap (λ (c : Board). c.nodes) b ∙ nodes; out = ap (λ (c : Board). c.out) b ∙ out; pool = ap (λ (c : Board). c.pool) b ∙ pool }
 
-pub recorded-delivered : (v w : Booked) (S : Atoms) (r : Bool) → IsRunIn Enum v.task → IsTrue (is_answer v.task S) → is_enough (board v) ≡ false → r ≡ not (is_enough (board v)) → w ≡ with_events v (delivered 0 S r) → Recorded Enum v w S
+pub recorded-delivered : (v w : Booked) (S : Atoms) (r : Bool) → MayRecord Enum v.task S → IsTrue (is_answer v.task S) → is_enough (board v) ≡ false → r ≡ not (is_enough (board v)) → w ≡ with_events v (delivered 0 S r) → Recorded Enum v w S
 recorded-delivered v w S true run answer more e now = record {
   only = only-by v w (event.Deliver 0 S) now refl refl refl;
   recorded = ((listed-now v S run, answer-now v S answer, more), ap board now ∙ board-with v (event.Deliver 0 S));
@@ -52,10 +51,10 @@ unbettered b S c (Some B) e h no_better = record {
   dearer = subst (λ (d : List ℤ). betters (cost b.task.program S) d ≡ false) (let f : c ≡ cost b.task.program B = cc in f) no_better;
 }
 
-pub recorded-improved : (v w : Booked) (S : Atoms) (r : Option (List ℤ)) → IsRunIn Opt v.task → IsTrue (is_answer v.task S) → Improves (board v) S r → w ≡ with_events v (improved 0 S r) → Recorded Opt v w S
+pub recorded-improved : (v w : Booked) (S : Atoms) (r : Option (List ℤ)) → MayRecord Opt v.task S → IsTrue (is_answer v.task S) → Improves (board v) S r → w ≡ with_events v (improved 0 S r) → Recorded Opt v w S
 recorded-improved v w S None run answer is now = record {
   only = only-by v w (event.Improve 0 S) now refl refl refl;
-  recorded = inl ((optimised-now v run, answer-now v S answer, is.better refl), ap board now ∙ board-with v (event.Improve 0 S));
+  recorded = inl ((optimised-now v S run, answer-now v S answer, is.better refl), ap board now ∙ board-with v (event.Improve 0 S));
 }
 recorded-improved v w S (Some c) run answer is now = record {
   only = record { task = ap (λ (z : Booked). z.task) now; nodes = ap (λ (z : Booked). (board z).nodes) now; out = ap (λ (z : Booked). (board z).out) now; pool = ap (λ (z : Booked). (board z).pool) now };

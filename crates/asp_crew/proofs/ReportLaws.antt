@@ -1,5 +1,5 @@
 -- What is told of a book is a report.
-use Rattle.std.proofs.Common.{◌≡◌, ℕ, List, [], refl, sym, ap, ◌∙◌, subst}
+use Rattle.std.proofs.Common.{◌≡◌, ℕ, List, [], None, refl, sym, ap, ◌∙◌, subst, inl}
 use Rattle.std.specs.Prelude.{ℤ, option_map}
 use Rattle.asp_model.specs.declared.program.Program.{Program}
 use Rattle.asp_model.specs.declared.results.Ask.{Ask}
@@ -14,28 +14,29 @@ use Rattle.asp_book.specs.Books.{Booked, board, IsJournalOf}
 use Rattle.asp_book.specs.Fuels.{IsOwnFuel}
 use Rattle.asp_crew_laws.specs.declared.report.Report.{Report}
 use Rattle.asp_crew_laws.specs.Runs.{asks, task_of, with_cost}
-use Rattle.asp_crew_laws.specs.Reports.{end_of, IsIdle, IsWorkedOff, IsReport}
-use Rattle.asp_crew_laws.proofs.PlayedLaws.{IsToldBy, told-reports}
-use Rattle.asp_crew.specs.Running.{IsRunIn}
+use Rattle.asp_crew_laws.specs.Reports.{end_of, IsIdle, IsToldBy, IsWorkedOff, IsReport}
+use Rattle.asp_crew_laws.specs.Working.{MayBegin}
+use Rattle.asp_crew_laws.proofs.PlayedLaws.{told-reports}
+use Rattle.asp_crew.specs.Running.{HasNoQuery, IsRunIn}
 
-pub reports : (mode : Mode) (v : Booked) (r : Report) (s : Board) → IsRunIn mode v.task → IsIdle (board v) → IsWorkedOff (board v) r.unpaid → IsJournalOf v.task v.journal → r.journal ≡ v.journal → s ≡ board v →
-    r.results.answers ≡ sorted_once s.answers → r.results.best ≡ option_map (with_cost s.task.program) s.best → r.results.end ≡ end_of s → r.leaves ≡ leaf_count s.nodes → r.spent ≡ s.burnt → IsOwnFuel (board v) r.paid →
-    r.results.mode ≡ mode → IsReport v.task.program (asks mode v.task.limit) v.task.budget r
-reports mode v r s run idle over lawful journal state answers best end leaves spent paid mode_is =
-    let p : Program = v.task.program in
-    let told : IsToldBy (board v) r = record {
-      answers = answers ∙ ap (λ (b : Board). sorted_once b.answers) state;
-      best = best ∙ ap (λ (b : Board). option_map (with_cost b.task.program) b.best) state;
-      end = end ∙ ap end_of state;
-      leaves = leaves ∙ ap (λ (b : Board). leaf_count b.nodes) state;
-      spent = spent ∙ ap (λ (b : Board). b.burnt) state;
-      paid = paid;
-      idle = idle;
-      over = over;
-    } in
+pub told-by : (v : Booked) (r : Report) (s : Board) → IsIdle (board v) → IsWorkedOff (board v) r.unpaid → s ≡ board v →
+    r.results.answers ≡ sorted_once s.answers → r.results.best ≡ option_map (with_cost s.task.program) s.best → r.results.end ≡ end_of s → r.leaves ≡ leaf_count s.nodes → r.spent ≡ s.burnt → IsOwnFuel (board v) r.paid → IsToldBy (board v) r
+told-by v r s idle over state answers best end leaves spent paid = record {
+  answers = answers ∙ ap (λ (b : Board). sorted_once b.answers) state;
+  best = best ∙ ap (λ (b : Board). option_map (with_cost b.task.program) b.best) state;
+  end = end ∙ ap end_of state;
+  leaves = leaves ∙ ap (λ (b : Board). leaf_count b.nodes) state;
+  spent = spent ∙ ap (λ (b : Board). b.burnt) state;
+  paid = paid;
+  idle = idle;
+  over = over;
+}
+
+pub reports : (mode : Mode) (v : Booked) (r : Report) → IsRunIn mode v.task → IsJournalOf v.task v.journal → r.journal ≡ v.journal → IsToldBy (board v) r → r.second ≡ None → r.results.mode ≡ mode → IsReport v.task.program (asks mode v.task.limit) v.task.budget r
+reports mode v r run lawful journal told alone mode_is =
     let ask : Ask = asks mode v.task.limit in
-    let same : board v ≡ replay (task_of p ask v.task.budget) r.journal = ap (λ (t : Task). replay t v.journal) run ∙ ap (replay (task_of p ask v.task.budget)) (sym journal) in
-    told-reports p ask v.task.budget r (subst (λ (t : Task). IsJournalOf t r.journal) run (subst (IsJournalOf v.task) (sym journal) lawful)) (subst (λ (b : Board). IsToldBy b r) same told) mode_is
+    let same : board v ≡ replay (task_of v.task.program (asks mode v.task.limit) v.task.budget) r.journal = ap (λ (t : Task). replay t v.journal) run ∙ ap (replay (task_of v.task.program (asks mode v.task.limit) v.task.budget)) (sym journal) in
+    told-reports v.task.program mode v.task.limit v.task.budget r (subst (λ (t : Task). IsJournalOf t r.journal) run (subst (IsJournalOf v.task) (sym journal) lawful)) (subst (λ (b : Board). IsToldBy b r) same told) alone mode_is
 
 -- ---- a book at which nothing has happened
 pub begun : (p : Program) (ask : Ask) (budget : ℕ) (g : Goal) (q : List ℤ) (s : Board) (v : Booked) → g ≡ goal_of ask.mode → q ≡ [] → s ≡ start (record { program = p; goal = g; budget = budget; limit = ask.models; query = q }) → v ≡ record { task = s.task; journal = [] } →
@@ -48,10 +49,16 @@ begun p ask budget g q s v goal none is now =
 pub begun-run : (p : Program) (ask : Ask) (budget : ℕ) (v : Booked) → v ≡ record { task = task_of p ask budget; journal = [] } → IsRunIn ask.mode v.task
 begun-run p ask budget v e = subst (λ (x : Booked). IsRunIn ask.mode x.task) (sym e) refl
 
+pub begun-query : (p : Program) (ask : Ask) (budget : ℕ) (v : Booked) → v ≡ record { task = task_of p ask budget; journal = [] } → HasNoQuery v.task
+begun-query p ask budget v e = subst (λ (x : Booked). HasNoQuery x.task) (sym e) refl
+
+pub begun-goal : (p : Program) (ask : Ask) (budget : ℕ) (v : Booked) → v ≡ record { task = task_of p ask budget; journal = [] } → MayBegin ask.mode None v.task.goal
+begun-goal p ask budget v e = subst (λ (x : Booked). MayBegin ask.mode None x.task.goal) (sym e) (inl (refl, refl))
+
 pub begun-idle : (p : Program) (ask : Ask) (budget : ℕ) (v : Booked) → v ≡ record { task = task_of p ask budget; journal = [] } → IsIdle (board v)
 begun-idle p ask budget v e = subst (λ (x : Booked). IsIdle (board x)) (sym e) (record { free = refl; home = λ s. refl })
 
-pub begun-report : (p : Program) (ask : Ask) (budget : ℕ) (v w : Booked) (r : Report) → v ≡ record { task = task_of p ask budget; journal = [] } → w.task ≡ v.task → IsReport w.task.program (asks ask.mode w.task.limit) w.task.budget r → IsReport p ask budget r
+pub begun-report : (p : Program) (ask : Ask) (budget : ℕ) (v w : Booked) (r : Report) → v ≡ record { task = task_of p ask budget; journal = [] } → w.task ≡ v.task → IsReport w.task.program (asks ask.mode w.task.limit) w.task.budget r → IsReport p (asks ask.mode ask.models) budget r
 begun-report p ask budget v w r e same is = subst (λ (t : Task). IsReport t.program (asks ask.mode t.limit) t.budget r) (same ∙ ap (λ (x : Booked). x.task) e) is
 
 pub still-run : (mode : Mode) (v w : Booked) → w.task ≡ v.task → IsRunIn mode v.task → IsRunIn mode w.task

@@ -14,7 +14,7 @@ use Rattle.asp_model.specs.Costs.{cost}
 use Rattle.asp_vars.specs.Literals.{Literal, hits}
 use Rattle.asp_vars.specs.Numbering.{values, var_count}
 use Rattle.asp_vars.specs.Conflicts.{IsConflict}
-use Rattle.asp_vars.specs.Entailment.{Settled, is_done}
+use Rattle.asp_vars.specs.Entailment.{Settled, costs_bound, is_done}
 use Rattle.asp_vars.specs.Paid.{Clash, Units}
 use Rattle.asp_vars.specs.declared.nogood.Nogood.{Nogood}
 use Rattle.asp_core.specs.declared.event.Event.TheVariants as event
@@ -30,12 +30,12 @@ use Rattle.asp_search_laws.specs.Searching.{Searching}
 use Rattle.asp_search_laws.specs.Steps.{HasSameTask, burnt, IsStep, Records}
 use Rattle.asp_search_laws.specs.declared.step.Step.{Step}
 use Rattle.asp_search_laws.specs.declared.step.Step.TheVariants as step
-use Rattle.asp_crew_laws.specs.Working.{IsAtWork}
+use Rattle.asp_crew_laws.specs.Working.{IsAtWork, IsSought}
 use Rattle.asp_crew_laws.proofs.AgreeLaws.{settled-excused}
-use Rattle.asp_crew_laws.proofs.WorkLaws.{work-burnt, work-delivered, work-improved, work-unimproved, work-met}
+use Rattle.asp_crew_laws.proofs.WorkLaws.{may-list, may-optimise, work-burnt, work-delivered, work-improved, work-unimproved, work-met}
 use Rattle.asp_crew.specs.declared.leaf.Course.{Course}
 use Rattle.asp_crew.specs.declared.leaf.Course.TheVariants.{Open, Closed, Unpaid}
-use Rattle.asp_crew.specs.Running.{unfound, work, work_left, IsRunIn, IsReady, IsEntered, IsUnderway, OnlyRecords, IsRecorded, Goes, Ends}
+use Rattle.asp_crew.specs.Running.{unfound, work, work_left, HasNoQuery, IsReady, IsEntered, IsUnderway, MayRecord, OnlyRecords, IsRecorded, Goes, Ends}
 use Rattle.asp_crew.proofs.BookLaws.{board-task, query-none}
 use Rattle.asp_crew.proofs.BoundLaws.{fewer-push, fewer-lower}
 use Rattle.asp_crew.proofs.WorkLaws.{work-paid, work-found, work-restarted, work-decided}
@@ -161,8 +161,25 @@ module _ (gives : Nogood → Type 0) (silent : List (Option Bool) → Type 0) (m
   pub is-answer : (S : Atoms) → r ≡ step.Answer S → IsTrue (is_answer v.task S)
   is-answer S e =
       let d = at gives silent s t f g r (step.Answer S) e h path.0 path.1 in
-      answer-in_cube v.task path.0 S (wanted-stand v.task (query-none mode v.task is.ready.task)) path.2
+      answer-in_cube v.task path.0 S (wanted-stand v.task (query-none v.task is.ready.task)) path.2
       (subst (λ (q : Program). IsTrue (is_stable q S)) is.ready.program d.stable) (subst (λ (q : Program). IsTrue (hits (values q S) path.0)) is.ready.program d.hit)
+
+-- It costs less than the bound, if there is one.
+not-dear : (p : Program) (c : Option (List ℤ)) (S : Atoms) → IsSmaller (cost p S) c → costs_bound p c S ≡ false
+not-dear p None S less = refl
+not-dear p (Some d) S less = ap not less
+
+-- so it may be recorded
+may-record : (mode : Mode) (t : Task) (bound : Option (List ℤ)) (S : Atoms) → IsSought mode bound t.goal → IsSmaller (cost t.program S) bound → MayRecord mode t S
+may-record Enum t bound S e less = may-list t bound S e (not-dear t.program bound S less)
+may-record Opt t bound S e less = may-optimise t e
+
+pub answer-may : (gives : Nogood → Type 0) (silent : List (Option Bool) → Type 0) (mode : Mode) (v : Booked) (s t : Searching) (f g : Units) (is : IsUnderway mode v s f) (r : Step) → IsStep gives silent s t f g r → (S : Atoms) → r ≡ step.Answer S → MayRecord mode v.task S
+answer-may gives silent mode v s t f g is r h S e =
+    let path = entered-by v.task s.cube is.entered in
+    let d = at gives silent s t f g r (step.Answer S) e h path.0 path.1 in
+    may-record mode v.task s.bound S (subst (λ (x : Task). IsSought mode s.bound x.goal) (board-task v) is.ready.work.goal)
+    (subst (λ (p : Program). IsSmaller (cost p S) s.bound) is.ready.program d.cheaper)
 
 -- the search and its units after the answer was recorded
 work-recorded : (mode : Mode) (b c : Board) (s t : Searching) (q : List Literal) (f : Units) (S : Atoms) → s.program ≡ b.task.program → IsAtWork b 0 mode s.known s.bound f → list_any (same_set S) s.known ≡ false → Records mode s t q S → IsRecorded mode b c S →
@@ -197,7 +214,7 @@ answered gives silent mode v w s t f g is r h S e only done =
     subst (λ (u : Units). Goes mode v w s t f u Open) (sym d.fuel) (record {
       underway = record {
         ready = record {
-          task = subst (λ (x : Task). IsRunIn mode x) (sym only.task) is.ready.task;
+          task = subst HasNoQuery (sym only.task) is.ready.task;
           program = d.program ∙ is.ready.program ∙ ap (λ (x : Task). x.program) (sym only.task);
           mode_is = d.mode ∙ is.ready.mode_is;
           work = work-recorded mode (board v) (board w) s t path.0 f S (program-is mode v s f is.ready) is.ready.work d.new records done;

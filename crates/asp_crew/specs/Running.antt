@@ -1,5 +1,5 @@
 -- One search that works off the leaves of a board by number 0: what holds after each step, and what is left to do.
-use Rattle.std.specs.Prelude.{◌≡◌, ◌⊎◌, Bool, true, ℕ, ◌+◌, ◌-◌, ◌*◌, ◌^◌, ◌<◌, not, false, List, [], filter, length, ℤ, Option, None, Some}
+use Rattle.std.specs.Prelude.{◌≡◌, ◌⊎◌, Bool, true, ℕ, ◌+◌, ◌-◌, ◌*◌, ◌^◌, ◌<◌, not, false, List, [], filter, length, ℤ, Option, None, Some, IsTrue}
 use Rattle.std.specs.Option.{IfSome}
 use Rattle.asp_model.specs.declared.program.Program.{Program}
 use Rattle.asp_model.specs.declared.results.Mode.{Mode}
@@ -17,7 +17,7 @@ use Rattle.asp_path.specs.Trees.{with_status, held_count, open_from}
 use Rattle.asp_core.specs.declared.event.Event.TheVariants as event
 use Rattle.asp_core.specs.declared.task.Task.{Task}
 use Rattle.asp_core.specs.Units.{out_of}
-use Rattle.asp_core.specs.Boards.{Board, is_enough, is_excused}
+use Rattle.asp_core.specs.Boards.{Board, is_enough, is_excused, lists, optimises}
 use Rattle.asp_core.specs.Events.{Guard, happens}
 use Rattle.asp_core.specs.Invariant.{IsCube}
 use Rattle.asp_book.specs.Books.{Booked, board}
@@ -40,13 +40,17 @@ work units models unseen learnt vars entries = ((units * (models + 1) + unseen) 
 abbrev pub work_left : Searching → Units → ℕ
 work_left s f = work f.left (length (models s.program)) (unfound s.program s.known s.bound) s.learnt (var_count s.program + 1) (length s.entries)
 
--- The task is that of a run in this mode.
+-- The task is that of a run's first search in this mode.
 abbrev pub IsRunIn : Mode → Task → Type 0
 IsRunIn mode t = t ≡ task_of t.program (asks mode t.limit) t.budget
 
+-- Every answer of the program is an answer of the task.
+abbrev pub HasNoQuery : Task → Type 0
+HasNoQuery t = t.query ≡ []
+
 -- Number 0's search and its units go with the book's board.
 pub record IsReady (mode : Mode) (v : Booked) (s : Searching) (f : Units) : Type 0 where
-  pub task : IsRunIn mode v.task
+  pub task : HasNoQuery v.task
   pub program : s.program ≡ v.task.program
   pub mode_is : s.mode ≡ mode
   pub work : IsAtWork (board v) 0 mode s.known s.bound f
@@ -74,6 +78,11 @@ pub record IsUnbettered (b : Board) (S : Atoms) : Type 0 where
   pub best : Atoms
   pub stands : b.best ≡ Some best
   pub dearer : betters (cost b.task.program S) (cost b.task.program best) ≡ false
+
+-- The answer may be delivered; or a best one is kept.
+abbrev pub MayRecord : Mode → Task → Atoms → Type 0
+MayRecord Enum t S = IsTrue (lists t S)
+MayRecord Opt t S = IsTrue (optimises t.goal)
 
 -- The answer was delivered; or it is the best, if none stood that it doesn't better.
 abbrev pub IsRecorded : Mode → Board → Board → Atoms → Type 0

@@ -1,12 +1,14 @@
 //! A run of one search, which waits for nobody.
-ghost use Rattle.std.specs.Prelude.{◌≡◌, true, false, IfOk};
+ghost use Rattle.std.specs.Prelude.{◌≡◌, true, false, None, IfOk};
 ghost use Rattle.asp_crew_laws.specs.Reports.{IsReport};
+ghost use Rattle.asp_crew_laws.specs.Runs.{asks};
 ghost use Rattle.asp_crew_laws.specs.Proofs.{HasProof};
 
 use crate::finish::finish;
 use crate::proofs::with_proof;
 use crate::report::Report;
 use crate::reported::reported;
+use crate::ties::with_ties;
 use asp_book::book::Book;
 use asp_core::goal::Goal;
 use asp_core::state::State;
@@ -18,8 +20,8 @@ use asp_recorder::recorder::Recorder;
 use asp_vars::compiled::Compiled;
 use std::alloc::{AllocError, Global};
 
-// A run whose recorder, if there is one, gets what its search finds.
-fn solve<'a, W: Watch>(
+// A first search, whose recorder, if there is one, gets what it finds.
+fn first<'a, W: Watch>(
     alloc: Global,
     compiled: &'a Compiled,
     ask: Ask,
@@ -28,7 +30,8 @@ fn solve<'a, W: Watch>(
     watch: &mut W,
     recorder: Option<&'a Recorder>,
 ) -> Result<Report, AllocError>
-    ensures report { IfOk result (IsReport compiled.now ask budget) }
+    ensures report { IfOk result (IsReport compiled.now (asks ask.mode ask.models) budget) }
+    ensures second { IfOk result (λ r. r.second ≡ None) }
     ensures log { IfOk result (λ r. r.log ≡ 0) }
     ensures short { IfOk result (λ r. r.short ≡ false) }
     ensures proof { IfOk result (λ r. r.proof ≡ None) }
@@ -46,9 +49,28 @@ fn solve<'a, W: Watch>(
     let mut propagator = Propagators::new(alloc, compiled)?;
     propagator.record(recorder);
     let unpaid = finish(
-        alloc, compiled, ask.mode, &mut book, propagator, counts, watch, recorder,
+        alloc, compiled, ask.mode, None, &mut book, propagator, counts, watch, recorder,
     )?;
     Ok(reported(ask.mode, book, unpaid, 0, false))
+}
+
+// A run that writes down nothing, with a second search where all optima are asked for.
+fn solve<W: Watch>(
+    alloc: Global,
+    compiled: &Compiled,
+    ask: Ask,
+    budget: u64,
+    counts: &mut Counts,
+    watch: &mut W,
+) -> Result<Report, AllocError>
+    ensures report { IfOk result (IsReport compiled.now ask budget) }
+    ensures log { IfOk result (λ r. r.log ≡ 0) }
+    ensures short { IfOk result (λ r. r.short ≡ false) }
+    ensures proof { IfOk result (λ r. r.proof ≡ None) }
+    ensures heard { W.IsAfter watch.old watch.new }
+{
+    let report = first(alloc, compiled, ask, budget, counts, watch, None)?;
+    with_ties(alloc, compiled, ask, report, counts, watch)
 }
 
 // A run that writes down why there is nothing else.
@@ -60,6 +82,7 @@ fn solve_recorded<W: Watch>(
     counts: &mut Counts,
     watch: &mut W,
 ) -> Result<Report, AllocError>
+    requires { ask.all_optima ≡ false }
     ensures report { IfOk result (IsReport compiled.now ask budget) }
     ensures log { IfOk result (λ r. r.log ≡ 0) }
     ensures short { IfOk result (λ r. r.short ≡ false) }
@@ -67,12 +90,13 @@ fn solve_recorded<W: Watch>(
     ensures heard { W.IsAfter watch.old watch.new }
 {
     let recorder = Recorder::new(alloc);
-    let report = solve(alloc, compiled, ask, budget, counts, watch, Some(&recorder))?;
+    let report = first(alloc, compiled, ask, budget, counts, watch, Some(&recorder))?;
     with_proof(alloc, report, recorder)
 }
 
-/// What is asked of a program: its answers, all or as many as are enough, or one that none betters. One search does it, with
-/// a budget of so many units. A finished run whose proof is asked for has it.
+/// What is asked of a program: its answers, all or as many as are enough, or one that none betters, or all of these, for which
+/// a second search begins when the first has found what they cost. A search does it after the other, with a budget of so many
+/// units together. A finished run whose proof is asked for has it; all optima are not asked for then.
 ///
 /// It returns: of the units left, the stable models not yet found, the nogoods learnt since the last restart and the
 /// variables without a value, in this order, each step lowers the first that it changes. Want of memory is the one error.
@@ -86,6 +110,7 @@ pub fn solve_alone<W: Watch>(
     counts: &mut Counts,
     watch: &mut W,
 ) -> Result<Report, AllocError>
+    requires { proof ≡ true → ask.all_optima ≡ false }
     ensures report { IfOk result (IsReport compiled.now ask budget) }
     ensures log { IfOk result (λ r. r.log ≡ 0) }
     ensures short { IfOk result (λ r. r.short ≡ false) }
@@ -95,6 +120,6 @@ pub fn solve_alone<W: Watch>(
     if proof {
         solve_recorded(alloc, compiled, ask, budget, counts, watch)
     } else {
-        solve(alloc, compiled, ask, budget, counts, watch, None)
+        solve(alloc, compiled, ask, budget, counts, watch)
     }
 }

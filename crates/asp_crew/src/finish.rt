@@ -2,13 +2,16 @@
 ghost use Rattle.std.specs.Prelude.{◌≡◌, ◌+◌, ◌^◌, ◌<◌, None, IfOk, replicate};
 ghost use Rattle.asp_vars.specs.Numbering.{var_count};
 ghost use Rattle.asp_book.specs.Books.{board};
+ghost use Rattle.asp_search.specs.Beside.{new_search};
 ghost use Rattle.asp_crew_laws.specs.Reports.{IsIdle};
-ghost use Rattle.asp_crew.specs.Running.{IsRunIn, IsReady, IsAlone, LeavesAll, Finishes};
+ghost use Rattle.asp_crew_laws.specs.Working.{MayBegin};
+ghost use Rattle.asp_crew.specs.Running.{HasNoQuery, IsReady, IsAlone, LeavesAll, Finishes};
 
 use crate::leaf::work_off;
 use asp_book::book::Book;
 use asp_counts::counts::Counts;
 use asp_counts::watch::Watch;
+use asp_model::cost::Cost;
 use asp_model::results::Mode;
 use asp_path::tree::Leaf;
 use asp_propagate::propagator::Propagator;
@@ -71,9 +74,30 @@ fn note_tree(
     }
 }
 
+// A search that knows no answer, and has this bound.
+fn begin<'a, P: Propagator>(
+    alloc: Global,
+    compiled: &'a Compiled,
+    mode: Mode,
+    bound: Option<Cost>,
+    propagator: P,
+) -> Result<Search<'a, P>, AllocError>
+    requires program { (P.told propagator).program ≡ compiled.now }
+    requires fresh { (P.told propagator).values ≡ replicate (var_count compiled.now + 1) None }
+    requires unbounded { P.bound propagator ≡ None }
+    ensures { IfOk result (λ s. s ≡ record (new_search compiled.now mode s.slots) { bound = bound }) }
+{
+    let mut search = Search::new(alloc, compiled, mode, propagator)?;
+    if let Some(bound) = bound {
+        search.set_bound(bound)?;
+    }
+    Ok(search)
+}
+
 /// Number 0 works off every open leaf, with all units of the pool, or until as many answers as asked for were found. The
 /// conflict for which none was left, where one was met. The recorder gets what the search keeps, and where all leaves are
-/// closed the cube of each node, behind those of its halves.
+/// closed the cube of each node, behind those of its halves. With a bound from the beginning only answers that cost less are
+/// found.
 ///
 /// No leaf is held before, and no units are out. It returns: each leaf is worked off, and the search ends with the first that
 /// it opens again. Want of memory is the one error. What it does is counted, and told after each step.
@@ -81,13 +105,15 @@ pub fn finish<P: Propagator, W: Watch>(
     alloc: Global,
     compiled: &Compiled,
     mode: Mode,
+    bound: Option<Cost>,
     book: &mut Book,
     propagator: P,
     counts: &mut Counts,
     watch: &mut W,
     recorder: Option<&Recorder>,
 ) -> Result<Option<Conflict>, AllocError>
-    requires task { IsRunIn mode book.old.task }
+    requires task { HasNoQuery book.old.task }
+    requires goal { MayBegin mode bound book.old.task.goal }
     requires of { book.old.task.program ≡ compiled.now }
     requires fits { book.old.task.budget < 2 ^ 64 }
     requires idle { IsIdle (board book.old) }
@@ -98,7 +124,7 @@ pub fn finish<P: Propagator, W: Watch>(
     ensures heard { W.IsAfter watch.old watch.new }
 {
     let _lawful = book.journal();
-    let mut search = Search::new(alloc, compiled, mode, propagator)?;
+    let mut search = begin(alloc, compiled, mode, bound, propagator)?;
     let mut fuel = book.lease(0, u64::MAX)?;
     let unpaid = work_off_all(book, mode, &mut search, &mut fuel, counts, watch, recorder)?;
     book.back(0, fuel);

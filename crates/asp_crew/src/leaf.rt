@@ -14,7 +14,7 @@ ghost use Rattle.asp_core.specs.Boards.{is_answer, is_enough};
 ghost use Rattle.asp_core.specs.Invariant.{IsCube};
 ghost use Rattle.asp_book.specs.Books.{board};
 ghost use Rattle.asp_search_laws.specs.Steps.{IsStep};
-ghost use Rattle.asp_crew.specs.Running.{IsRunIn, IsReady, IsUnderway, OnlyRecords, IsRecorded, Goes, Ends, LeavesLeaf};
+ghost use Rattle.asp_crew.specs.Running.{HasNoQuery, IsReady, IsUnderway, MayRecord, OnlyRecords, IsRecorded, Goes, Ends, LeavesLeaf};
 
 use asp_book::book::Book;
 use asp_counts::counts::Counts;
@@ -43,7 +43,7 @@ pub(crate) enum Course {
 
 // Delivers an answer, or records it as the best.
 fn record(book: &mut Book, mode: Mode, set: Interp) -> Result<(), AllocError>
-    requires task { IsRunIn mode book.old.task }
+    requires may { MayRecord mode book.old.task set }
     requires answer { IsTrue (is_answer book.old.task set) }
     requires wanted { is_enough (board book.old) ≡ false }
     ensures only { OnOk result (OnlyRecords book.old book.new) }
@@ -118,11 +118,19 @@ fn advance<P: Propagator>(
     }
 }
 
-// Tells what was counted, and the cost of the best answer.
-fn tell<P: Propagator, W: Watch>(search: &Search<'_, P>, counts: &Counts, watch: &mut W)
+// Tells what was counted, and the cost of the best answer where one is sought.
+fn tell<P: Propagator, W: Watch>(
+    mode: Mode,
+    search: &Search<'_, P>,
+    counts: &Counts,
+    watch: &mut W,
+)
     ensures { W.IsAfter watch.old watch.new }
 {
-    watch.tell(counts, search.bound());
+    match mode {
+        Mode::Enum => watch.tell(counts, None),
+        Mode::Opt => watch.tell(counts, search.bound()),
+    }
 }
 
 // Steps until nothing else is to be found below the path, as many answers as asked for were found, or a conflict is met when
@@ -145,7 +153,7 @@ fn run<P: Propagator, W: Watch>(
             return Ok(None);
         }
         let course = advance(book, mode, search, fuel, counts, recorder)?;
-        tell(search, counts, watch);
+        tell(mode, search, counts, watch);
         match course {
             Course::Open => {}
             Course::Closed => return Ok(None),
@@ -155,14 +163,13 @@ fn run<P: Propagator, W: Watch>(
 }
 
 // The literals of a leaf that number 0 holds.
-fn cube_of(book: &Book, mode: Mode, leaf: Leaf) -> Result<Vec<Lit>, AllocError>
-    requires task { IsRunIn mode book.now.task }
+fn cube_of(book: &Book, leaf: Leaf) -> Result<Vec<Lit>, AllocError>
+    requires task { HasNoQuery book.now.task }
     requires held { status_of (board book.now).nodes leaf ≡ status.Held 0 }
     ensures value { IfOk result (λ cube. cube.items ≡ cube_of (board book.now).nodes leaf) }
     ensures cube { IfOk result (λ cube. IsCube book.now.task cube.items) }
     ensures vars { IfOk result (λ cube. All (λ l. IsVar (var_count book.now.task.program) l.var) cube.items) }
 {
-    let _ = mode;
     let _lawful = book.journal();
     let cube = book.cube(leaf)?;
     Ok(cube)
@@ -185,7 +192,7 @@ pub(crate) fn work_off<P: Propagator, W: Watch>(
     ensures leaves { IfOk result (LeavesLeaf mode book.old book.new leaf search.new fuel.new) }
     ensures heard { W.IsAfter watch.old watch.new }
 {
-    let cube = cube_of(book, mode, leaf)?;
+    let cube = cube_of(book, leaf)?;
     search.enter(cube.as_slice())?;
     let unpaid = run(book, mode, search, fuel, counts, watch, recorder)?;
     if unpaid.is_some() || book.enough() {

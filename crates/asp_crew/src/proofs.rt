@@ -21,15 +21,18 @@ fn is_opt(mode: Mode) -> bool
     }
 }
 
-// The answers that were found: in an optimisation the best alone.
+// The answers that were found: in an optimisation the best alone, where no others are listed.
 fn recorded(results: &Results) -> &[Interp]
     ensures { result.now ≡ recorded results.now.mode results.now }
 {
     match results.mode {
         Mode::Enum => results.answers.as_slice(),
-        Mode::Opt => match &results.best {
-            Some((interp, _)) => slice::from_ref(interp),
-            None => &[],
+        Mode::Opt => match results.answers.as_slice() {
+            [] => match &results.best {
+                Some((interp, _)) => slice::from_ref(interp),
+                None => &[],
+            },
+            [_, ..] => results.answers.as_slice(),
         },
     }
 }

@@ -1,7 +1,7 @@
 //! The report from a board.
-ghost use Rattle.std.specs.Prelude.{◌≡◌};
-ghost use Rattle.asp_book.specs.Books.{board};
-ghost use Rattle.asp_crew_laws.specs.Reports.{IsIdle, IsReport, IsWorkedOff, end_by};
+ghost use Rattle.std.specs.Prelude.{◌≡◌, None};
+ghost use Rattle.asp_book.specs.Books.{board, IsJournalOf};
+ghost use Rattle.asp_crew_laws.specs.Reports.{IsIdle, IsReport, IsToldBy, IsWorkedOff, end_by};
 ghost use Rattle.asp_crew_laws.specs.Runs.{asks};
 ghost use Rattle.asp_crew.specs.Running.{IsRunIn};
 
@@ -23,14 +23,22 @@ fn end_by(enough: bool, closed: bool) -> End
     }
 }
 
-/// What the run has to say whose journal is the book's: its answers in order, each once. So many nogoods were shared, and
-/// `short` says whether a worker ended for want of memory.
-pub fn reported(mode: Mode, book: Book, unpaid: Option<Conflict>, log: u32, short: bool) -> Report
-    requires task { IsRunIn mode book.task }
+/// What one search has to say whose journal is the book's: the answers that were delivered in order, each once, and the best.
+/// So many nogoods were shared, and `short` says whether a worker ended for want of memory.
+pub(crate) fn told(
+    mode: Mode,
+    book: Book,
+    unpaid: Option<Conflict>,
+    log: u32,
+    short: bool,
+) -> Report
     requires idle { IsIdle (board book) }
     requires over { IsWorkedOff (board book) unpaid }
-    ensures report { IsReport book.task.program (asks mode book.task.limit) book.task.budget result }
+    ensures told { IsToldBy (board book) result }
+    ensures lawful { IsJournalOf book.task book.journal }
     ensures journal { result.journal ≡ book.journal }
+    ensures second { result.second ≡ None }
+    ensures mode { result.results.mode ≡ mode }
     ensures log { result.log ≡ log }
     ensures short { result.short ≡ short }
     ensures proof { result.proof ≡ None }
@@ -50,6 +58,7 @@ pub fn reported(mode: Mode, book: Book, unpaid: Option<Conflict>, log: u32, shor
             best,
         },
         journal: Seq::from_vec(journal),
+        second: None,
         spent,
         leaves,
         log,
@@ -58,4 +67,19 @@ pub fn reported(mode: Mode, book: Book, unpaid: Option<Conflict>, log: u32, shor
         paid,
         proof: None,
     }
+}
+
+/// The report of a run's first search.
+pub fn reported(mode: Mode, book: Book, unpaid: Option<Conflict>, log: u32, short: bool) -> Report
+    requires task { IsRunIn mode book.task }
+    requires idle { IsIdle (board book) }
+    requires over { IsWorkedOff (board book) unpaid }
+    ensures report { IsReport book.task.program (asks mode book.task.limit) book.task.budget result }
+    ensures journal { result.journal ≡ book.journal }
+    ensures second { result.second ≡ None }
+    ensures log { result.log ≡ log }
+    ensures short { result.short ≡ short }
+    ensures proof { result.proof ≡ None }
+{
+    told(mode, book, unpaid, log, short)
 }

@@ -4,5 +4,8 @@ pub mod AgreeLaws
 pub mod FuelLaws
 pub mod WorkLaws
 pub mod PlayedLaws
+pub mod TieLaws
+pub mod TwiceLaws
+pub mod LimitLaws
 pub mod GoneLaws
 pub mod SharedLaws

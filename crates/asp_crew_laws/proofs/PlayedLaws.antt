@@ -1,10 +1,9 @@
 -- What a report says of the program follows from its journal.
-use Rattle.std.proofs.Common.{◌≡◌, ℕ, zero, suc, ◌+◌, ◌<◌, ◌≤◌, Bool, true, false, not, cond, eqb, leb, ◌&&◌, ◌||◌, List, [], ◌∷◌, length, filter, Option, Some, None, Contains, refl, sym, ap, ◌∙◌, subst, arith}
+use Rattle.std.proofs.Common.{◌≡◌, ℕ, zero, suc, ◌+◌, ◌<◌, ◌≤◌, Bool, true, false, not, eqb, leb, ◌&&◌, ◌||◌, List, [], ◌∷◌, length, filter, Option, Some, None, refl, sym, ap, ◌∙◌, subst, arith}
 use Rattle.std.specs.Prelude.{ℤ, IfSome, IsTrue, option_map}
-use Rattle.std.specs.List.{list_any, AllByRecursion, AllPairs}
+use Rattle.std.specs.List.{list_any, AllByRecursion}
 use Rattle.std.specs.Cmp.Lexicographic.{same_text}
-use Rattle.std.proofs.lemmas.Bool.{false≢true, and_parts, leb-false, leb-true, ne_eqb, or_right}
-use Rattle.std.proofs.lemmas.List.Kept.{AllPairs-filter}
+use Rattle.std.proofs.lemmas.Bool.{false≢true, and_parts, leb-false, leb-true, ne_eqb}
 use Rattle.asp_model.specs.declared.program.Program.{Program}
 use Rattle.asp_model.specs.declared.results.Ask.{Ask}
 use Rattle.asp_model.specs.declared.results.Mode.{Mode}
@@ -12,36 +11,31 @@ use Rattle.asp_model.specs.declared.results.Mode.TheVariants.{Enum, Opt}
 use Rattle.asp_model.specs.declared.results.End.{End}
 use Rattle.asp_model.specs.declared.results.End.TheVariants.{Finished, Limited, Unfinished}
 use Rattle.asp_model.specs.declared.results.Results.{Results}
-use Rattle.asp_model.specs.Sets.{Atoms, IsBefore, same_set}
+use Rattle.asp_model.specs.Sets.{Atoms, same_set}
 use Rattle.asp_model.specs.Models.{answers}
-use Rattle.asp_model.specs.Costs.{cost, betters}
-use Rattle.asp_model.proofs.ListedLaws.{contains_from_test, test_from_contains}
-use Rattle.asp_model.proofs.ModelLaws.{answers-rise}
-use Rattle.asp_model.proofs.SubsetLaws.{pairs_from_rising}
+use Rattle.asp_model.specs.Costs.{cost, betters, optima}
+use Rattle.asp_model.proofs.ListedLaws.{contains_from_test}
 use Rattle.asp_vars.specs.Literals.{Literal}
 use Rattle.asp_vars.specs.Conflicts.{IsConflict}
 use Rattle.asp_vars.specs.Entailment.{costs_bound, is_done, Settled}
 use Rattle.asp_vars.specs.Paid.{Clash, IsAtLeast}
 use Rattle.asp_vars.proofs.ResolutionLaws.{HitsOnly-weaker}
-use Rattle.asp_path.specs.declared.status.Status.{Status}
 use Rattle.asp_path.specs.declared.status.Status.TheVariants as status
-use Rattle.asp_path.specs.Trees.{Node, all_closed, is_unclosed, status_of, leaf_count}
-use Rattle.asp_core.specs.declared.goal.Goal.{Goal}
+use Rattle.asp_path.specs.Trees.{Node, all_closed, is_unclosed, status_of}
+use Rattle.asp_core.specs.declared.event.Event.{Event}
 use Rattle.asp_core.specs.declared.goal.Goal.TheVariants as goal
 use Rattle.asp_core.specs.declared.task.Task.{Task}
 use Rattle.asp_core.specs.Units.{total_out}
-use Rattle.asp_core.specs.Boards.{Board, start, IsBoundBy, bound_by, bound_of, distinct, goal_of, is_answer, is_enough, lists, optimises}
+use Rattle.asp_core.specs.Boards.{Board, start, IsBoundBy, IsQuery, bound_of, distinct, goal_of, is_answer, is_enough, lists, optimises}
 use Rattle.asp_core.specs.Invariant.{IsBoard}
-use Rattle.asp_core.specs.Sorting.{sorted_once, answers_of}
 use Rattle.asp_core.proofs.CountLaws.{length-sorted_once}
 use Rattle.asp_core.proofs.ResultLaws.{IsBoard-replay, task-run}
 use Rattle.asp_core.proofs.SortingLaws.{has-answers_of, sorted-answers, sorted-has}
 use Rattle.asp_core.proofs.UnitLaws.{total-home}
 use Rattle.asp_book.specs.Books.{IsJournalOf}
-use Rattle.asp_book.specs.Fuels.{IsOwnFuel}
 use Rattle.asp_crew_laws.specs.declared.report.Report.{Report}
 use Rattle.asp_crew_laws.specs.Runs.{asks, task_of, IsFound, with_cost}
-use Rattle.asp_crew_laws.specs.Reports.{last_board, end_by, end_of, best_cost, IsIdle, IsUnpaidAt, IsWorkedOff, IsUnpaid, Ends, IsPlayed, IsPriced, IsPart, IsAsked, Says, IsReport}
+use Rattle.asp_crew_laws.specs.Reports.{board_by, end_by, IsUnpaidAt, IsWorkedOff, IsToldBy, IsUnpaid, Ends, IsPlayed, IsPlayedBy, IsPriced, IsPart, IsAllFound, IsAsked, IsWhole, Says, IsReport}
 use Rattle.asp_crew_laws.proofs.FoundLaws.{answers-same, none-kept, none-listed, sorted-nil, found-once}
 
 is_finished : End → Bool
@@ -54,7 +48,7 @@ is_limited Finished = false
 is_limited Limited = true
 is_limited Unfinished = false
 
-closed-by : (enough closed : Bool) → end_by enough closed ≡ Finished → closed ≡ true
+pub closed-by : (enough closed : Bool) → end_by enough closed ≡ Finished → closed ≡ true
 unfolding is_finished
 closed-by true closed e = absurd (false≢true (ap is_finished e))
 closed-by false true e = refl
@@ -67,17 +61,17 @@ enough-by false true e = ap is_limited e
 enough-by false false e = ap is_limited e
 
 -- A finished report has found what was asked.
-pub finished-found : (p : Program) (ask : Ask) (units : ℕ) (r : Report) → IsPlayed p ask units r → r.results.end ≡ Finished → IsFound p ask.mode r.results.answers r.results.best
+pub finished-found : (p : Program) (ask : Ask) (units : ℕ) (r : Report) → IsPlayed (task_of p ask units) r → r.results.end ≡ Finished → IsFound p ask.mode r.results.answers r.results.best
 finished-found p ask units r is e =
     subst (λ (o : Option (Atoms × List ℤ)). IsFound p ask.mode r.results.answers o) (sym is.best)
-    (found-once p ask units r.journal r.results.answers is.lawful (closed-by (is_enough (last_board p ask units r)) (all_closed (last_board p ask units r).nodes) (sym is.end ∙ e)) is.answers)
+    (found-once p ask units r.journal r.results.answers is.lawful (closed-by (is_enough (board_by (task_of p ask units) r)) (all_closed (board_by (task_of p ask units) r).nodes) (sym is.end ∙ e)) is.answers)
 
 -- No conflict that was paid for knew more answers than are reported.
-pub paid-known : (p : Program) (ask : Ask) (units : ℕ) (r : Report) → IsPlayed p ask units r → r.paid.known ≤ length r.results.answers
-paid-known p ask units r is = omega (arith, is.paid.fits.known, ap length is.answers, length-sorted_once (last_board p ask units r).answers)
+pub paid-known : (t : Task) (r : Report) → IsPlayed t r → r.paid.known ≤ length r.results.answers
+paid-known t r is = omega (arith, is.paid.fits.known, ap length is.answers, length-sorted_once (board_by t r).answers)
 
 -- ---- a part of the answers
-listed-answers : (t : Task) (A : List Atoms) (S : Atoms) → AllByRecursion (λ T. IsTrue (lists t T) × IsTrue (is_answer t T)) A → list_any (same_set S) A ≡ true → is_answer t S ≡ true
+pub listed-answers : (t : Task) (A : List Atoms) (S : Atoms) → AllByRecursion (λ T. IsTrue (lists t T) × IsTrue (is_answer t T)) A → list_any (same_set S) A ≡ true → is_answer t S ≡ true
 listed-answers t [] S h e = absurd (false≢true e)
 listed-answers t (T ∷ A) S h e = here (same_set S T) refl e (listed-answers t A S h.1)
   where
@@ -91,9 +85,9 @@ both true false h = refl
 both false false h = refl
 
 module _ (p : Program) (n units : ℕ) (r : Report) where
-  part-by : (mode : Mode) → IsPlayed p (asks mode n) units r → IsBoard (last_board p (asks mode n) units r) → (last_board p (asks mode n) units r).task ≡ task_of p (asks mode n) units → IsPart p mode r.results
+  part-by : (mode : Mode) → IsPlayed (task_of p (asks mode n) units) r → IsBoard (board_by (task_of p (asks mode n) units) r) → (board_by (task_of p (asks mode n) units) r).task ≡ task_of p (asks mode n) units → IsPart p mode r.results
   part-by Enum is board task =
-      let b : Board = last_board p (asks Enum n) units r in
+      let b : Board = board_by (task_of p (asks Enum n) units) r in
       let t : Task = task_of p (asks Enum n) units in
       let q : Atoms → Bool = λ S. list_any (same_set S) b.answers in
       let delivered : AllByRecursion (λ T. IsTrue (lists t T) × IsTrue (is_answer t T)) b.answers = subst (λ (x : Task). AllByRecursion (λ T. IsTrue (lists x T) × IsTrue (is_answer x T)) b.answers) task board.delivered in (
@@ -101,7 +95,7 @@ module _ (p : Program) (n units : ℕ) (r : Report) where
         is.best ∙ ap (option_map (with_cost p)) (none-kept b.task b.best (ap (λ (x : Task). x.goal) task) board.best),
       )
   part-by Opt is board task =
-      let b : Board = last_board p (asks Opt n) units r in (
+      let b : Board = board_by (task_of p (asks Opt n) units) r in (
         is.answers ∙ sorted-nil b.answers (none-listed b.task b.answers (ap (λ (x : Task). x.goal) task) board.delivered),
         subst (λ (o : Option (Atoms × List ℤ)). IfSome o (IsPriced p)) (sym is.best) (priced b.best (subst (λ (x : Task). IfSome b.best (λ S. IsTrue (optimises x.goal) × IsTrue (is_answer x S))) task board.best)),
       )
@@ -116,12 +110,6 @@ at_least-by mode p best None h = tt
 at_least-by Enum p best (Some c) h = absurd h
 at_least-by Opt p None (Some c) h = absurd h
 at_least-by Opt p (Some S) (Some c) h = ap not h
-
-bound-same : (mode : Mode) (p : Program) (best : Option Atoms) → IfSome best (λ S. optimises (goal_of mode) ≡ true) → bound_by (goal_of mode) p best ≡ option_map (λ x. x.1) (option_map (with_cost p) best)
-bound-same Enum p None h = refl
-bound-same Enum p (Some S) h = absurd (false≢true h)
-bound-same Opt p None h = refl
-bound-same Opt p (Some S) h = refl
 
 -- ---- a conflict by what was recorded is one by what is reported
 settled-more : (p : Program) (K L : List Atoms) (b c : Option (List ℤ)) (way : List Literal) → ((S : Atoms) → list_any (same_set S) K ≡ list_any (same_set S) L) → b ≡ c → Settled p K b way → Settled p L c way
@@ -156,34 +144,27 @@ not-zero zero h = absurd (false≢true h)
 not-zero (suc k) h = omega arith
 
 -- With a limit, as many different answers were delivered exactly where it is enough.
-module _ (p : Program) (ask : Ask) (units : ℕ) (r : Report) (is : IsPlayed p ask units r) (board : IsBoard (last_board p ask units r)) (task : (last_board p ask units r).task ≡ task_of p ask units) where
-  limit : (last_board p ask units r).task.limit ≡ ask.models
-  limit = ap (λ (t : Task). t.limit) task
+module _ (t : Task) (r : Report) (is : IsPlayed t r) (board : IsBoard (board_by t r)) (task : (board_by t r).task ≡ t) where
+  limit : (board_by t r).task.limit ≡ t.limit
+  limit = ap (λ (x : Task). x.limit) task
 
-  count : length r.results.answers ≡ length (distinct (last_board p ask units r).answers)
-  count = ap length is.answers ∙ length-sorted_once (last_board p ask units r).answers
+  count : length r.results.answers ≡ length (distinct (board_by t r).answers)
+  count = ap length is.answers ∙ length-sorted_once (board_by t r).answers
 
-  enough-asked : is_enough (last_board p ask units r) ≡ true → (0 < ask.models) × (length r.results.answers ≡ ask.models)
+  enough-asked : is_enough (board_by t r) ≡ true → (0 < t.limit) × (length r.results.answers ≡ t.limit)
   enough-asked e =
-      let b : Board = last_board p ask units r in
+      let b : Board = board_by t r in
       let parts = and_parts (not (eqb b.task.limit 0)) (leb b.task.limit (length (distinct b.answers))) e in
       let some : 0 < b.task.limit = not-zero b.task.limit parts.0 in
       (omega (arith, some, limit), omega (arith, count, limit, board.limited some, leb-true b.task.limit (length (distinct b.answers)) parts.1))
 
-  enum-by : (mode : Mode) → ask.mode ≡ mode → IsPart p mode r.results → 0 < ask.models → length r.results.answers ≡ ask.models → ask.mode ≡ Enum
-  enum-by Enum e part some long = e
-  enum-by Opt e part some long = absurd (let f : ⊥ = omega (arith, some, long, ap length part.0) in f)
+  pub at-limit : r.results.end ≡ Limited → (0 < t.limit) × (length r.results.answers ≡ t.limit)
+  at-limit q = enough-asked (enough-by (is_enough (board_by t r)) (all_closed (board_by t r).nodes) (sym is.end ∙ q))
 
-  pub limited-asked : r.results.end ≡ Limited → IsAsked p ask r.results
-  limited-asked q =
-      let asked = enough-asked (enough-by (is_enough (last_board p ask units r)) (all_closed (last_board p ask units r).nodes) (sym is.end ∙ q)) in
-      let part : IsPart p ask.mode r.results = part-by p ask.models units r ask.mode is board task in
-      record { mode_is = enum-by ask.mode refl part asked.0 asked.1; some = asked.0; count = asked.1; part = part }
-
-  less : (enough closed : Bool) → enough ≡ is_enough (last_board p ask units r) → r.results.end ≡ end_by enough closed → (r.results.end ≡ Limited → ⊥) → 0 < ask.models → length r.results.answers < ask.models
+  less : (enough closed : Bool) → enough ≡ is_enough (board_by t r) → r.results.end ≡ end_by enough closed → (r.results.end ≡ Limited → ⊥) → 0 < t.limit → length r.results.answers < t.limit
   less true closed e end other some = absurd (other end)
   less false closed e end other some =
-      let b : Board = last_board p ask units r in
+      let b : Board = board_by t r in
       let f : leb b.task.limit (length (distinct b.answers)) ≡ false = and-first (not (eqb b.task.limit 0)) (leb b.task.limit (length (distinct b.answers))) (is-not b.task.limit (omega (arith, some, limit))) (sym e) in
       omega (arith, count, limit, leb-false b.task.limit (length (distinct b.answers)) f)
     where
@@ -194,79 +175,60 @@ module _ (p : Program) (ask : Ask) (units : ℕ) (r : Report) (is : IsPlayed p a
       and-first true y e h = h
       and-first false y e h = absurd (false≢true e)
 
+  pub under-limit : (r.results.end ≡ Limited → ⊥) → 0 < t.limit → length r.results.answers < t.limit
+  under-limit = less (is_enough (board_by t r)) (all_closed (board_by t r).nodes) refl is.end
+
+-- an enumeration at its limit; an optimisation lists nothing
+limited-asked : (p : Program) (mode : Mode) (n : ℕ) (r : Results) → IsPart p mode r → (0 < n) × (length r.answers ≡ n) → IsAsked p (asks mode n) r
+limited-asked p Enum n r part at = record { listing = refl; some = at.0; count = at.1; part = part; best = tt }
+limited-asked p Opt n r part at = absurd (let f : ⊥ = omega (arith, at.0, at.1, ap length part.0) in f)
+
 -- ---- a report that tells what the board has
-pub record IsToldBy (b : Board) (r : Report) : Type 0 where
-  pub answers : r.results.answers ≡ sorted_once b.answers
-  pub best : r.results.best ≡ option_map (with_cost b.task.program) b.best
-  pub end : r.results.end ≡ end_of b
-  pub leaves : r.leaves ≡ leaf_count b.nodes
-  pub spent : r.spent ≡ b.burnt
-  pub paid : IsOwnFuel b r.paid
-  pub idle : IsIdle b
-  pub over : IsWorkedOff b r.unpaid
+module _ (t : Task) (r : Report) (query : IsQuery t.program t.query) (lawful : IsJournalOf t r.journal) (told : IsToldBy (board_by t r) r) where
+  pub is-board : IsBoard (board_by t r)
+  is-board = IsBoard-replay t r.journal query lawful
 
-module _ (p : Program) (ask : Ask) (units : ℕ) (r : Report) (lawful : IsJournalOf (task_of p ask units) r.journal) (told : IsToldBy (last_board p ask units r) r) where
-  is-board : IsBoard (last_board p ask units r)
-  is-board = IsBoard-replay (task_of p ask units) r.journal tt lawful
+  pub task-is : (board_by t r).task ≡ t
+  task-is = task-run (start t) r.journal
 
-  task : (last_board p ask units r).task ≡ task_of p ask units
-  task = task-run (start (task_of p ask units)) r.journal
+  program : (board_by t r).task.program ≡ t.program
+  program = ap (λ (x : Task). x.program) task-is
 
-  program : (last_board p ask units r).task.program ≡ p
-  program = ap (λ (t : Task). t.program) task
+  best : r.results.best ≡ option_map (with_cost t.program) (board_by t r).best
+  best = told.best ∙ ap (λ (q : Program). option_map (with_cost q) (board_by t r).best) program
 
-  best : r.results.best ≡ option_map (with_cost p) (last_board p ask units r).best
-  best = told.best ∙ ap (λ (q : Program). option_map (with_cost q) (last_board p ask units r).best) program
+  home : total_out (board_by t r).out ≡ 0
+  home = total-home (board_by t r).out is-board.single told.idle.home
 
-  home : total_out (last_board p ask units r).out ≡ 0
-  home = total-home (last_board p ask units r).out is-board.single told.idle.home
-
-  bounded : (o : Option (List ℤ)) → IfSome o (λ c. IsBoundBy (last_board p ask units r).task.goal (last_board p ask units r).task.program (last_board p ask units r).best c) → IsAtLeast (best_cost r.results) o
-  bounded o h =
-      let b : Board = last_board p ask units r in
-      subst (λ (x : Option (Atoms × List ℤ)). IsAtLeast (option_map (λ y. y.1) x) o) (sym best)
-      (at_least-by ask.mode p b.best o (subst (λ (t : Task). IfSome o (IsBoundBy t.goal t.program b.best)) task h))
-
-  bound-is : bound_of (last_board p ask units r) ≡ best_cost r.results
-  bound-is =
-      let b : Board = last_board p ask units r in
-      ap (λ (t : Task). bound_by t.goal t.program b.best) task
-      ∙ bound-same ask.mode p b.best (kept b.best (subst (λ (t : Task). IfSome b.best (λ S. IsTrue (optimises t.goal) × IsTrue (is_answer t S))) task is-board.best))
-      ∙ ap (λ (x : Option (Atoms × List ℤ)). option_map (λ y. y.1) x) (sym best)
-    where
-      kept : (o : Option Atoms) → IfSome o (λ S. IsTrue (optimises (goal_of ask.mode)) × IsTrue (is_answer (task_of p ask units) S)) → IfSome o (λ S. optimises (goal_of ask.mode) ≡ true)
-      kept None h = tt
-      kept (Some S) h = h.0
-
-  unpaid : (leaf : ℕ) (x : Clash) → IsUnpaidAt (last_board p ask units r) x leaf → IsUnpaid p (last_board p ask units r) r.results x
+  unpaid : (leaf : ℕ) (x : Clash) → IsUnpaidAt (board_by t r) x leaf → IsUnpaid t (board_by t r) r.results x
   unpaid leaf x is =
-      let b : Board = last_board p ask units r in
+      let b : Board = board_by t r in
       record {
         program = is.met.program ∙ program;
         leaf = leaf;
         unclosed = ap is_unclosed is.unclosed;
         cube = is.cube;
         known = omega (arith, is.met.known, ap length told.answers, length-sorted_once b.answers);
-        bound = bounded x.bound is.met.bound;
+        bound = is.met.bound;
         conflict =
-            conflict-more p b.answers r.results.answers (bound_of b) (best_cost r.results) x (λ S. sym (sorted-has [] b.answers S) ∙ ap (λ (L : List Atoms). list_any (same_set S) L) (sym told.answers)) bound-is
+            conflict-more t.program b.answers r.results.answers (bound_of b) (bound_of b) x (λ S. sym (sorted-has [] b.answers S) ∙ ap (λ (L : List Atoms). list_any (same_set S) L) (sym told.answers)) refl
             (subst (λ (q : Program). IsConflict q b.answers (bound_of b) x.cube x.decisions x.nogood) program is.met.conflict);
       }
 
-  ends-by : (o : Option Clash) → r.unpaid ≡ o → IsWorkedOff (last_board p ask units r) o → Ends p (last_board p ask units r) r r.results.end
-  ends-by None e over = subst (Ends p (last_board p ask units r) r) (sym told.end) (here (is_enough (last_board p ask units r)) (all_closed (last_board p ask units r).nodes) over)
+  ends-by : (o : Option Clash) → r.unpaid ≡ o → IsWorkedOff (board_by t r) o → Ends t (board_by t r) r r.results.end
+  ends-by None e over = subst (Ends t (board_by t r) r) (sym told.end) (here (is_enough (board_by t r)) (all_closed (board_by t r).nodes) over)
     where
-      here : (enough closed : Bool) → (enough || closed) ≡ true → Ends p (last_board p ask units r) r (end_by enough closed)
+      here : (enough closed : Bool) → (enough || closed) ≡ true → Ends t (board_by t r) r (end_by enough closed)
       here true closed h = e
       here false true h = e
       here false false h = absurd (false≢true h)
   ends-by (Some x) e over =
-      let b : Board = last_board p ask units r in
-      subst (Ends p (last_board p ask units r) r) (sym (told.end ∙ ap (λ enough. end_by enough (all_closed b.nodes)) over.0 ∙ ap (end_by false) (open-left b.nodes over.2.0 over.2.1.unclosed)))
+      let b : Board = board_by t r in
+      subst (Ends t (board_by t r) r) (sym (told.end ∙ ap (λ enough. end_by enough (all_closed b.nodes)) over.0 ∙ ap (end_by false) (open-left b.nodes over.2.0 over.2.1.unclosed)))
       (over.1, omega (arith, told.spent, over.1, home, is-board.units), (x, e, unpaid over.2.0 x over.2.1))
 
-  played : IsPlayed p ask units r
-  played = record {
+  pub told-played : IsPlayed t r
+  told-played = record {
     lawful = lawful;
     answers = told.answers;
     best = best;
@@ -278,63 +240,84 @@ module _ (p : Program) (ask : Ask) (units : ℕ) (r : Report) (lawful : IsJourna
     ends = ends-by r.unpaid refl told.over;
   }
 
-  says-by : (e : End) → r.results.end ≡ e → Says p ask r e
-  says-by Finished q = finished-found p ask units r played q
-  says-by Limited q = limited-asked p ask units r played is-board task q
-  says-by Unfinished q = (part-by p ask.models units r ask.mode played is-board task, told.paid.left ∙ (subst (Ends p (last_board p ask units r) r) q played.ends).0)
+  -- what is left and what was spent are the budget
+  pub told-budget : r.paid.left + r.spent ≡ t.budget
+  told-budget = omega (arith, told.paid.left, told.spent, is-board.units, home, ap (λ (x : Task). x.budget) task-is)
 
-  pub told-reports : r.results.mode ≡ ask.mode → IsReport p ask units r
-  told-reports mode_is =
-      let b : Board = last_board p ask units r in
-      record {
-        mode_is = mode_is;
-        says = says-by r.results.end refl;
-        program = told.paid.fits.program ∙ program;
-        spent = told.paid.burnt ∙ sym told.spent;
-        budget = omega (arith, told.paid.left, told.spent, is-board.units, home, ap (λ (t : Task). t.budget) task);
-        known = paid-known p ask units r played;
-        least = bounded r.paid.least told.paid.fits.least;
-        played = played;
-      }
+  -- where a run is unfinished nothing is left
+  pub told-left : r.results.end ≡ Unfinished → r.paid.left ≡ 0
+  told-left q = told.paid.left ∙ (subst (Ends t (board_by t r) r) q told-played.ends).0
 
--- A report has found a part at least.
-pub played-part : (p : Program) (ask : Ask) (units : ℕ) (r : Report) → IsPlayed p ask units r → IsPart p ask.mode r.results
+  -- no bound was used that the search couldn't have
+  pub told-bounds : IfSome r.paid.least (IsBoundBy t.goal t.program (board_by t r).best)
+  told-bounds = subst (λ (x : Task). IfSome r.paid.least (IsBoundBy x.goal x.program (board_by t r).best)) task-is told.paid.fits.least
+
+-- the report of a first search
+module _ (p : Program) (mode : Mode) (n units : ℕ) (r : Report) (lawful : IsJournalOf (task_of p (asks mode n) units) r.journal) (told : IsToldBy (board_by (task_of p (asks mode n) units) r) r) where
+  first-played : IsPlayed (task_of p (asks mode n) units) r
+  first-played = told-played (task_of p (asks mode n) units) r tt lawful told
+
+  first-part : IsPart p mode r.results
+  first-part = part-by p n units r mode first-played (is-board (task_of p (asks mode n) units) r tt lawful told) (task-is (task_of p (asks mode n) units) r tt lawful told)
+
+  says-by : (e : End) → r.results.end ≡ e → Says p (asks mode n) r e
+  says-by Finished q = finished-found p (asks mode n) units r first-played q
+  says-by Limited q =
+      limited-asked p mode n r.results first-part
+      (at-limit (task_of p (asks mode n) units) r first-played (is-board (task_of p (asks mode n) units) r tt lawful told) (task-is (task_of p (asks mode n) units) r tt lawful told) q)
+  says-by Unfinished q = (first-part, told-left (task_of p (asks mode n) units) r tt lawful told q)
+
+  pub told-reports : r.second ≡ None → r.results.mode ≡ mode → IsReport p (asks mode n) units r
+  told-reports alone mode_is = record {
+    mode_is = mode_is;
+    says = says-by r.results.end refl;
+    program = told.paid.fits.program ∙ ap (λ (x : Task). x.program) (task-is (task_of p (asks mode n) units) r tt lawful told);
+    spent = told.paid.burnt ∙ sym told.spent;
+    budget = told-budget (task_of p (asks mode n) units) r tt lawful told;
+    known = paid-known (task_of p (asks mode n) units) r first-played;
+    least =
+        subst (λ (o : Option (Atoms × List ℤ)). IsAtLeast (option_map (λ y. y.1) o) r.paid.least) (sym first-played.best)
+        (at_least-by mode p (board_by (task_of p (asks mode n) units) r).best r.paid.least (told-bounds (task_of p (asks mode n) units) r tt lawful told));
+    played = subst (λ (o : Option (List Event)). IsPlayedBy o p (asks mode n) units r) (sym alone) first-played;
+  }
+
+-- A first search has found a part at least.
+pub played-part : (p : Program) (ask : Ask) (units : ℕ) (r : Report) → IsPlayed (task_of p ask units) r → IsPart p ask.mode r.results
 played-part p ask units r is = part-by p ask.models units r ask.mode is (IsBoard-replay (task_of p ask units) r.journal tt is.lawful) (task-run (start (task_of p ask units)) r.journal)
 
--- A report whose run didn't end at its limit has fewer answers.
-pub fewer : (p : Program) (ask : Ask) (units : ℕ) (r : Report) → IsPlayed p ask units r → (r.results.end ≡ Limited → ⊥) → 0 < ask.models → length r.results.answers < ask.models
-fewer p ask units r is =
-    less p ask units r is (IsBoard-replay (task_of p ask units) r.journal tt is.lawful) (task-run (start (task_of p ask units)) r.journal) (is_enough (last_board p ask units r)) (all_closed (last_board p ask units r).nodes) refl is.end
+-- ---- a run that is left to one search
+-- the optima are those of the answers
+optima-none : (p : Program) → answers p ≡ [] → optima p ≡ []
+optima-none p e = ap (λ (A : List Atoms). filter (λ S. not (list_any (λ T. betters (cost p T) (cost p S)) A)) A) e
 
--- One whose run did has as many as were asked for.
-pub exact : (p : Program) (ask : Ask) (units : ℕ) (r : Report) → IsPlayed p ask units r → r.results.end ≡ Limited → length r.results.answers ≡ ask.models
-exact p ask units r is q =
-    (limited-asked p ask units r is (IsBoard-replay (task_of p ask units) r.journal tt is.lawful) (task-run (start (task_of p ask units)) r.journal) q).count
+whole-found : (p : Program) (L : List Atoms) (best : Option (Atoms × List ℤ)) → IsFound p Opt L best → IsWhole true Finished best → IsAllFound true p Opt L best
+whole-found p L None found whole = (found.0 ∙ sym (optima-none p found.1), found.1)
+whole-found p L (Some b) found whole = absurd whole
 
--- The answers of a part are distinct answers of the program, in their order.
-part-order : (p : Program) (mode : Mode) (r : Results) → IsPart p mode r → AllPairs IsBefore r.answers
-part-order p Enum r part = subst (λ (L : List Atoms). AllPairs IsBefore L) (sym part.0.1) (AllPairs-filter IsBefore part.0.0 (answers p) (answers-rise p))
-part-order p Opt r part = subst (λ (L : List Atoms). AllPairs IsBefore L) (sym part.0) (pairs_from_rising [] tt)
-
-any-filtered : (q chosen : Atoms → Bool) (L : List Atoms) → list_any q (filter chosen L) ≡ true → list_any q L ≡ true
-any-filtered q chosen [] h = h
-any-filtered q chosen (S ∷ L) h = here (chosen S) h (any-filtered q chosen L)
+whole-says : (p : Program) (mode : Mode) (n : ℕ) (r : Report) (e : End) → IsWhole true e r.results.best → Says p (asks mode n) r e → Says p (record { mode = mode; models = n; all_optima = true }) r e
+whole-says p Enum n r Finished whole h = h
+whole-says p Enum n r Limited whole h = record { listing = refl; some = h.some; count = h.count; part = h.part; best = tt }
+whole-says p Enum n r Unfinished whole h = h
+whole-says p Opt n r Finished whole h = whole-found p r.results.answers r.results.best h whole
+whole-says p Opt n r Limited whole h = absurd (false≢true h.listing)
+whole-says p Opt n r Unfinished whole h = ((((λ S. false), h.0.0 ∙ sym (none-chosen (optima p))), h.0.1), h.1)
   where
-    with-rest : (x y z : Bool) → (y ≡ true → z ≡ true) → (x || y) ≡ true → (x || z) ≡ true
-    with-rest true y z rest e = refl
-    with-rest false y z rest e = rest e
+    none-chosen : (L : List Atoms) → filter (λ (S : Atoms). false) L ≡ []
+    none-chosen [] = refl
+    none-chosen (S ∷ L) = none-chosen L
 
-    here : (x : Bool) → list_any q (cond x (S ∷ filter chosen L) (filter chosen L)) ≡ true → (list_any q (filter chosen L) ≡ true → list_any q L ≡ true) → (q S || list_any q L) ≡ true
-    here true e rest = with-rest (q S) (list_any q (filter chosen L)) (list_any q L) rest e
-    here false e rest = or_right (q S) (list_any q L) (rest e)
+alone-by : (all : Bool) (p : Program) (mode : Mode) (n units : ℕ) (r : Report) → IsReport p (asks mode n) units r → r.second ≡ None → IsWhole all r.results.end r.results.best → IsReport p (record { mode = mode; models = n; all_optima = all }) units r
+alone-by false p mode n units r is alone whole = is
+alone-by true p mode n units r is alone whole = record {
+  mode_is = is.mode_is;
+  says = whole-says p mode n r r.results.end whole is.says;
+  program = is.program;
+  spent = is.spent;
+  budget = is.budget;
+  known = is.known;
+  least = is.least;
+  played = subst (λ (o : Option (List Event)). IsPlayedBy o p (record { mode = mode; models = n; all_optima = true }) units r) (sym alone) (subst (λ (o : Option (List Event)). IsPlayedBy o p (asks mode n) units r) alone is.played);
+}
 
-part-answers : (p : Program) (mode : Mode) (r : Results) (S : Atoms) → IsPart p mode r → Contains r.answers S → Contains (answers p) S
-part-answers p Enum r S part has =
-    contains_from_test (answers p) S (any-filtered (same_set S) part.0.0 (answers p) (test_from_contains (filter part.0.0 (answers p)) S (subst (λ (L : List Atoms). Contains L S) part.0.1 has)))
-part-answers p Opt r S part has = absurd (false≢true (test_from_contains [] S (subst (λ (L : List Atoms). Contains L S) part.0 has)))
-
-pub in-order : (p : Program) (ask : Ask) (units : ℕ) (r : Report) → IsPlayed p ask units r → AllPairs IsBefore r.results.answers
-in-order p ask units r is = part-order p ask.mode r.results (played-part p ask units r is)
-
-pub all-answers : (p : Program) (ask : Ask) (units : ℕ) (r : Report) (S : Atoms) → IsPlayed p ask units r → Contains r.results.answers S → Contains (answers p) S
-all-answers p ask units r S is = part-answers p ask.mode r.results S (played-part p ask units r is)
+pub alone-reports : (p : Program) (ask : Ask) (units : ℕ) (r : Report) → IsReport p (asks ask.mode ask.models) units r → r.second ≡ None → IsWhole ask.all_optima r.results.end r.results.best → IsReport p ask units r
+alone-reports p ask units r = alone-by ask.all_optima p ask.mode ask.models units r

@@ -1,34 +1,30 @@
 -- A search at work goes with the board still, after what others did and after what its own number did.
-use Rattle.std.proofs.Common.{◌≡◌, ℕ, ◌+◌, ◌-◌, ◌<◌, ◌≤◌, max, Bool, true, false, cond, ◌||◌, eqb, List, [], ◌∷◌, ◌++◌, length, get_or, Option, Some, None, refl, sym, ap, ◌∙◌, subst, arith, zero-add}
+use Rattle.std.proofs.Common.{◌≡◌, ℕ, ◌+◌, ◌-◌, ◌<◌, ◌≤◌, max, Bool, true, false, not, cond, ◌||◌, eqb, List, [], ◌∷◌, ◌++◌, length, Option, Some, None, refl, sym, ap, ◌∙◌, subst, inl, inr, arith, zero-add}
 use Rattle.std.specs.Prelude.{ℤ, IsTrue}
 use Rattle.std.specs.Option.{IfSome}
-use Rattle.std.specs.List.{list_any, AllByRecursion}
+use Rattle.std.specs.List.{list_any}
 use Rattle.std.specs.Cmp.Lexicographic.{same_text}
-use Rattle.std.proofs.lemmas.Bool.{false≢true, eq-eqb, or_parts}
-use Rattle.asp_model.specs.declared.program.Program.{Program}
+use Rattle.std.proofs.lemmas.Bool.{false≢true, eq-eqb, or_parts, or_right}
 use Rattle.asp_model.specs.declared.results.Mode.{Mode}
 use Rattle.asp_model.specs.declared.results.Mode.TheVariants.{Enum, Opt}
 use Rattle.asp_model.specs.Sets.{Atoms, same_set}
-use Rattle.asp_model.specs.Models.{is_stable}
 use Rattle.asp_model.specs.Costs.{cost, betters}
 use Rattle.asp_model.proofs.MemberLaws.{each_weaker}
-use Rattle.asp_vars.specs.Literals.{Literal, hits}
-use Rattle.asp_vars.specs.Numbering.{values}
+use Rattle.asp_vars.specs.Literals.{Literal}
 use Rattle.asp_vars.specs.Conflicts.{IsConflict}
-use Rattle.asp_vars.specs.Entailment.{Settled, is_done}
+use Rattle.asp_vars.specs.Entailment.{Settled, costs_bound, is_done}
 use Rattle.asp_vars.specs.Paid.{Clash, Units, least_of}
 use Rattle.asp_vars.proofs.ResolutionLaws.{HitsOnly-weaker}
 use Rattle.asp_path.specs.declared.status.Status.TheVariants as status
-use Rattle.asp_path.specs.Trees.{Node, nowhere, cube_of, status_of}
-use Rattle.asp_core.specs.declared.event.Event.{Event}
+use Rattle.asp_path.specs.Trees.{Node}
 use Rattle.asp_core.specs.declared.event.Event.TheVariants as event
 use Rattle.asp_core.specs.declared.goal.Goal.{Goal}
+use Rattle.asp_core.specs.declared.goal.Goal.TheVariants as goal
 use Rattle.asp_core.specs.declared.task.Task.{Task}
 use Rattle.asp_core.specs.Units.{out_of, leased}
-use Rattle.asp_core.specs.Boards.{Board, IsBoundOf, bound_of, distinct, goal_of, is_excused, lists_by, lists, optimises}
+use Rattle.asp_core.specs.Boards.{Board, IsBoundBy, IsBoundOf, bound_by, bound_of, distinct, goal_of, is_excused, lists_by, lists, optimises}
 use Rattle.asp_core.specs.Events.{Guard, happens}
 use Rattle.asp_core.specs.Growth.{Grows, Spares}
-use Rattle.asp_core.specs.Invariant.{IsBoard}
 use Rattle.asp_core.specs.Sorting.{sorted_once}
 use Rattle.asp_core.proofs.SortingLaws.{same_itself, sorted-has}
 use Rattle.asp_core.proofs.CountLaws.{length-sorted_once}
@@ -37,19 +33,20 @@ use Rattle.asp_book.specs.Fuels.{Fits, ComesBack}
 use Rattle.asp_book.proofs.BookLaws.{Fits-grows}
 use Rattle.asp_crew_laws.specs.Agrees.{Agrees, AreApart}
 use Rattle.asp_crew_laws.specs.Reports.{IsMet}
-use Rattle.asp_crew_laws.specs.Working.{IsKept, IsAtWork, Works}
-use Rattle.asp_crew_laws.proofs.AgreeLaws.{agrees-grows, agrees-none, agrees-delivered}
+use Rattle.asp_crew_laws.specs.Working.{IsKept, IsSought, IsAtWork, MayBegin, Works}
+use Rattle.asp_crew_laws.proofs.AgreeLaws.{agrees-grows, agrees-delivered}
 use Rattle.asp_crew_laws.proofs.FuelLaws.{pigeons, agrees-improved, agrees-unimproved}
 
--- ---- the board went on, and the number's units are as they were
-agrees-on : (mode : Mode) (b c : Board) (known : List Atoms) (bound : Option (List ℤ)) → b.task.goal ≡ goal_of mode → IsKept mode known → Grows b c → Agrees b known bound → Agrees c known bound
-agrees-on Enum b c known bound e kept g a = agrees-grows b c known bound e g a
-agrees-on Opt b c known bound e kept g a = agrees-none b c known bound kept g a
+-- ---- what a search may look for
+pub sought-first : (mode : Mode) (g : Goal) → g ≡ goal_of mode → IsSought mode None g
+sought-first Enum g e = inl e
+sought-first Opt g e = e
 
+-- ---- the board went on, and the number's units are as they were
 pub work-on : (b c : Board) (n : ℕ) (mode : Mode) (known : List Atoms) (bound : Option (List ℤ)) (u : Units) → IsAtWork b n mode known bound u → Grows b c → out_of c.out n ≡ out_of b.out n → IsAtWork c n mode known bound u
 work-on b c n mode known bound u w g out = record {
-  goal = ap (λ (t : Task). t.goal) g.task ∙ w.goal;
-  agrees = agrees-on mode b c known bound w.goal w.kept g w.agrees;
+  goal = subst (λ (t : Task). IsSought mode bound t.goal) (sym g.task) w.goal;
+  agrees = agrees-grows b c known bound g w.agrees;
   apart = w.apart;
   kept = w.kept;
   units = (Fits-grows b c u g w.units.0, w.units.1 ∙ sym out);
@@ -62,18 +59,45 @@ works-on b c n leaf cube w s = record {
 }
 
 -- ---- a search that begins
+none-kept : (mode : Mode) → IsKept mode []
+none-kept Enum = tt
+none-kept Opt = refl
+
 pub work-begins : (b : Board) (n : ℕ) (mode : Mode) (u : Units) → b.task.goal ≡ goal_of mode → ComesBack b (out_of b.out n) u → IsAtWork b n mode [] None u
 work-begins b n mode u e units = record {
-  goal = e;
+  goal = sought-first mode b.task.goal e;
   agrees = record { excused = λ S h. absurd (false≢true h); listed = tt; bounded = tt };
   apart = tt;
-  kept = none mode;
+  kept = none-kept mode;
   units = units;
 }
+
+-- among ties: what costs too much for the search does so for the board
+too-dear : (b : Board) (c : Option (List ℤ)) (S : Atoms) → b.task.goal ≡ goal.Ties c → costs_bound b.task.program c S ≡ true → is_excused b S ≡ true
+too-dear b c S e h =
+    or_right (list_any (same_set S) b.answers) (costs_bound b.task.program (bound_of b) S)
+    (ap (λ (g : Goal). costs_bound b.task.program (bound_by g b.task.program b.best) S) e ∙ h)
+
+bound-ties : (b : Board) (c : Option (List ℤ)) → b.task.goal ≡ goal.Ties c → IfSome c (IsBoundOf b)
+bound-ties b c e = subst (λ (g : Goal). IfSome c (IsBoundBy g b.task.program b.best)) (sym e) (own c)
   where
-    none : (mode : Mode) → IsKept mode []
-    none Enum = tt
-    none Opt = refl
+    own : (c : Option (List ℤ)) → IfSome c (IsBoundBy (goal.Ties c) b.task.program b.best)
+    own None = tt
+    own (Some d) = refl
+
+pub ties-begin : (b : Board) (n : ℕ) (c : Option (List ℤ)) (u : Units) → b.task.goal ≡ goal.Ties c → ComesBack b (out_of b.out n) u → IsAtWork b n Enum [] c u
+ties-begin b n c u e units = record {
+  goal = inr e;
+  agrees = record { excused = λ S h. too-dear b c S e h; listed = tt; bounded = bound-ties b c e };
+  apart = tt;
+  kept = tt;
+  units = units;
+}
+
+-- whatever is sought, by the bound that the search has from its beginning
+pub sought-begins : (b : Board) (n : ℕ) (mode : Mode) (c : Option (List ℤ)) (u : Units) → MayBegin mode c b.task.goal → ComesBack b (out_of b.out n) u → IsAtWork b n mode [] c u
+sought-begins b n mode c u (inl may) units = subst (λ (o : Option (List ℤ)). IsAtWork b n mode [] o u) (sym may.1) (work-begins b n mode u may.0 units)
+sought-begins b n mode c u (inr may) units = subst (λ (m : Mode). IsAtWork b n m [] c u) (sym may.0) (ties-begin b n c u may.1 units)
 
 -- ---- a unit is burnt
 -- the answers known were delivered, each once
@@ -135,7 +159,7 @@ pub work-delivered : (b : Board) (n : ℕ) (S : Atoms) (known : List Atoms) (bou
     → IsAtWork (happens b (event.Deliver n S)) n Enum (known ++ S ∷ []) bound u
 work-delivered b n S known bound u w guard new = record {
   goal = w.goal;
-  agrees = agrees-delivered b n S known bound w.goal w.agrees;
+  agrees = agrees-delivered b n S known bound w.agrees;
   apart = apart-push known S w.apart new;
   kept = tt;
   units = (Fits-grows b (happens b (event.Deliver n S)) u (Grows-happens b (event.Deliver n S) guard) w.units.0, w.units.1);
@@ -180,15 +204,16 @@ work-leased b n k mode known bound u v w guard sum fits =
     let g : Grows b (happens b (event.Lease n k)) = Grows-happens b (event.Lease n k) guard in
     record {
       goal = w.goal;
-      agrees = agrees-on mode b (happens b (event.Lease n k)) known bound w.goal w.kept g w.agrees;
+      agrees = agrees-grows b (happens b (event.Lease n k)) known bound g w.agrees;
       apart = w.apart;
       kept = w.kept;
       units = (Fits-grows b (happens b (event.Lease n k)) v g fits, omega (arith, sum, w.units.1, out_of-leased n k b.out));
     }
 
 -- ---- what the guards of an answer ask
-pub may-list : (t : Task) (S : Atoms) → t.goal ≡ goal_of Enum → IsTrue (lists t S)
-may-list t S e = ap (λ (g : Goal). lists_by g t.program S) e
+pub may-list : (t : Task) (bound : Option (List ℤ)) (S : Atoms) → IsSought Enum bound t.goal → costs_bound t.program bound S ≡ false → IsTrue (lists t S)
+may-list t bound S (inl e) less = ap (λ (g : Goal). lists_by g t.program S) e
+may-list t bound S (inr e) less = ap (λ (g : Goal). lists_by g t.program S) e ∙ ap not less
 
 pub may-optimise : (t : Task) → t.goal ≡ goal_of Opt → IsTrue (optimises t.goal)
 may-optimise t e = ap optimises e

@@ -1,5 +1,5 @@
 -- What a report says of a program, and why: its journal.
-use Rattle.std.specs.Prelude.{◌≡◌, ℕ, ◌+◌, ◌<◌, ◌≤◌, ◌||◌, Bool, true, false, List, [], filter, length, Contains, ℤ, Option, None, Some, IfSome, IsTrue, option_map}
+use Rattle.std.specs.Prelude.{◌≡◌, ℕ, ◌+◌, ◌<◌, ◌≤◌, max, ◌||◌, Bool, true, false, List, [], filter, length, Contains, ℤ, Option, None, Some, IfSome, IsTrue, option_map}
 use Rattle.asp_model.specs.declared.program.Program.{Program}
 use Rattle.asp_model.specs.declared.results.Ask.{Ask}
 use Rattle.asp_model.specs.declared.results.Mode.{Mode}
@@ -9,11 +9,13 @@ use Rattle.asp_model.specs.declared.results.End.TheVariants.{Finished, Limited, 
 use Rattle.asp_model.specs.declared.results.Results.{Results}
 use Rattle.asp_model.specs.Sets.{Atoms}
 use Rattle.asp_model.specs.Models.{answers}
-use Rattle.asp_model.specs.Costs.{cost}
+use Rattle.asp_model.specs.Costs.{cost, optima}
 use Rattle.asp_vars.specs.Conflicts.{IsConflict}
-use Rattle.asp_vars.specs.Paid.{Clash, IsAtLeast}
+use Rattle.asp_vars.specs.Paid.{Clash, Units, IsAtLeast, least_of}
 use Rattle.asp_path.specs.declared.status.Status.TheVariants as status
 use Rattle.asp_path.specs.Trees.{all_closed, cube_of, status_of, is_unclosed, held_count, leaf_count}
+use Rattle.asp_core.specs.declared.event.Event.{Event}
+use Rattle.asp_core.specs.declared.task.Task.{Task}
 use Rattle.asp_core.specs.Units.{out_of, total_out}
 use Rattle.asp_core.specs.Boards.{Board, IsBoundOf, bound_of, distinct, is_enough}
 use Rattle.asp_core.specs.Events.{replay}
@@ -21,11 +23,11 @@ use Rattle.asp_core.specs.Sorting.{sorted_once}
 use Rattle.asp_book.specs.Books.{IsJournalOf}
 use Rattle.asp_book.specs.Fuels.{IsOwnFuel}
 use Rattle.asp_crew_laws.specs.declared.report.Report.{Report}
-use Rattle.asp_crew_laws.specs.Runs.{task_of, with_cost, IsFound}
+use Rattle.asp_crew_laws.specs.Runs.{task_of, ties_of, with_cost, IsBest, IsFound}
 
 -- the board to which the report's journal leads
-abbrev pub last_board : Program → Ask → ℕ → Report → Board
-last_board p ask units r = replay (task_of p ask units) r.journal
+abbrev pub board_by : Task → Report → Board
+board_by t r = replay t r.journal
 
 -- how a run ended: whether it had enough, and else whether every leaf was closed
 abbrev pub end_by : Bool → Bool → End
@@ -64,57 +66,128 @@ abbrev pub IsWorkedOff : Board → Option Clash → Type 0
 IsWorkedOff b None = (is_enough b || all_closed b.nodes) ≡ true
 IsWorkedOff b (Some x) = (is_enough b ≡ false) × (b.pool ≡ 0) × ((leaf : ℕ) × IsUnpaidAt b x leaf)
 
+-- What a report tells when it is made of a board: what was found, how it ended, and what was paid.
+pub record IsToldBy (b : Board) (r : Report) : Type 0 where
+  pub answers : r.results.answers ≡ sorted_once b.answers
+  pub best : r.results.best ≡ option_map (with_cost b.task.program) b.best
+  pub end : r.results.end ≡ end_of b
+  pub leaves : r.leaves ≡ leaf_count b.nodes
+  pub spent : r.spent ≡ b.burnt
+  pub paid : IsOwnFuel b r.paid
+  pub idle : IsIdle b
+  pub over : IsWorkedOff b r.unpaid
+
 -- ---- what a report says by its journal
--- A conflict below a leaf that isn't closed, by the answers that were found and the cost of the best.
-pub record IsUnpaid (p : Program) (b : Board) (r : Results) (x : Clash) : Type 0 where
-  pub program : x.program ≡ p
+-- A conflict below a leaf that isn't closed, by the answers that were found and the bound that stood at the end.
+pub record IsUnpaid (t : Task) (b : Board) (r : Results) (x : Clash) : Type 0 where
+  pub program : x.program ≡ t.program
   pub leaf : ℕ
   pub unclosed : IsTrue (is_unclosed (status_of b.nodes leaf))
   pub cube : x.cube ≡ cube_of b.nodes leaf
   pub known : x.known ≤ length r.answers
-  pub bound : IsAtLeast (best_cost r) x.bound
-  pub conflict : IsConflict p r.answers (best_cost r) x.cube x.decisions x.nogood
+  pub bound : IfSome x.bound (IsBoundOf b)
+  pub conflict : IsConflict t.program r.answers (bound_of b) x.cube x.decisions x.nogood
 
 -- No conflict is unpaid, since every leaf is closed or it was enough; or one was met when the budget was spent.
-abbrev pub Ends : Program → Board → Report → End → Type 0
-Ends p b r Finished = r.unpaid ≡ None
-Ends p b r Limited = r.unpaid ≡ None
-Ends p b r Unfinished = (b.pool ≡ 0) × (r.spent ≡ b.task.budget) × ((x : Clash) × (r.unpaid ≡ Some x) × IsUnpaid p b r.results x)
+abbrev pub Ends : Task → Board → Report → End → Type 0
+Ends t b r Finished = r.unpaid ≡ None
+Ends t b r Limited = r.unpaid ≡ None
+Ends t b r Unfinished = (b.pool ≡ 0) × (r.spent ≡ b.task.budget) × ((x : Clash) × (r.unpaid ≡ Some x) × IsUnpaid t b r.results x)
 
--- The journal is lawful, and leads to what the report says.
-pub record IsPlayed (p : Program) (ask : Ask) (units : ℕ) (r : Report) : Type 0 where
-  pub lawful : IsJournalOf (task_of p ask units) r.journal
-  pub answers : r.results.answers ≡ sorted_once (last_board p ask units r).answers
-  pub best : r.results.best ≡ option_map (with_cost p) (last_board p ask units r).best
-  pub end : r.results.end ≡ end_of (last_board p ask units r)
-  pub leaves : r.leaves ≡ leaf_count (last_board p ask units r).nodes
-  pub spent : r.spent ≡ (last_board p ask units r).burnt
-  pub home : total_out (last_board p ask units r).out ≡ 0
-  pub paid : IsOwnFuel (last_board p ask units r) r.paid
-  pub ends : Ends p (last_board p ask units r) r r.results.end
+-- The journal is lawful for the task, and leads to what the report says.
+pub record IsPlayed (t : Task) (r : Report) : Type 0 where
+  pub lawful : IsJournalOf t r.journal
+  pub answers : r.results.answers ≡ sorted_once (board_by t r).answers
+  pub best : r.results.best ≡ option_map (with_cost t.program) (board_by t r).best
+  pub end : r.results.end ≡ end_of (board_by t r)
+  pub leaves : r.leaves ≡ leaf_count (board_by t r).nodes
+  pub spent : r.spent ≡ (board_by t r).burnt
+  pub home : total_out (board_by t r).out ≡ 0
+  pub paid : IsOwnFuel (board_by t r) r.paid
+  pub ends : Ends t (board_by t r) r r.results.end
+
+-- ---- two searches
+-- what both burnt, and what the second left
+abbrev pub summed : Units → Units → Units
+summed u v = record { program = u.program; left = v.left; burnt = u.burnt + v.burnt; known = max u.known v.known; least = least_of u.least v.least }
+
+-- the report of a search for a best answer and of one for all answers that are as good
+abbrev pub joined : Report → Report → Report
+joined first ties = record {
+  results = record { mode = first.results.mode; end = ties.results.end; answers = ties.results.answers; best = first.results.best };
+  journal = first.journal;
+  second = Some ties.journal;
+  spent = first.spent + ties.spent;
+  leaves = ties.leaves;
+  log = first.log;
+  short = first.short;
+  unpaid = ties.unpaid;
+  paid = summed first.paid ties.paid;
+  proof = None;
+}
+
+-- A first search was finished and had found a best answer; a second one went over the answers that cost no more, with the units
+-- that were left.
+pub record IsPlayedTwice (p : Program) (ask : Ask) (units : ℕ) (r : Report) : Type 0 where
+  pub first : Report
+  pub ties : Report
+  pub best : Atoms × List ℤ
+  pub both : r ≡ joined first ties
+  pub finished : first.results.end ≡ Finished
+  pub found : first.results.best ≡ Some best
+  pub played : IsPlayed (task_of p ask units) first
+  pub again : IsPlayed (ties_of p ask best.1 first.paid.left) ties
+
+abbrev pub IsPlayedBy : Option (List Event) → Program → Ask → ℕ → Report → Type 0
+IsPlayedBy None p ask units r = IsPlayed (task_of p ask units) r
+IsPlayedBy (Some second) p ask units r = IsPlayedTwice p ask units r
 
 -- ---- what a report says of the program
 -- an answer with its cost
 abbrev pub IsPriced : Program → Atoms × List ℤ → Type 0
 IsPriced p best = Contains (answers p) best.0 × (best.1 ≡ cost p best.0)
 
--- in an enumeration some of the answers, each once, in their order; in an optimisation at most one, with its cost
+-- what one search found: in an enumeration some of the answers, each once, in their order; in an optimisation at most one, with its
+-- cost
 abbrev pub IsPart : Program → Mode → Results → Type 0
 IsPart p Enum r = ((chosen : Atoms → Bool) × (r.answers ≡ filter chosen (answers p))) × (r.best ≡ None)
 IsPart p Opt r = (r.answers ≡ []) × IfSome r.best (IsPriced p)
 
--- in an enumeration as many of the answers as were asked for, each once, in their order
+-- The same of a run; where all optima are asked for some of these, each once, in their order.
+abbrev pub IsPartOf : Bool → Program → Mode → Results → Type 0
+IsPartOf false p mode r = IsPart p mode r
+IsPartOf true p Enum r = IsPart p Enum r
+IsPartOf true p Opt r = ((chosen : Atoms → Bool) × (r.answers ≡ filter chosen (optima p))) × IfSome r.best (IsPriced p)
+
+-- All that was asked for was found; where all optima are, exactly these, each once, in their order.
+abbrev pub IsAllFound : Bool → Program → Mode → List Atoms → Option (Atoms × List ℤ) → Type 0
+IsAllFound false p mode L best = IsFound p mode L best
+IsAllFound true p Enum L best = IsFound p Enum L best
+IsAllFound true p Opt L best = (L ≡ optima p) × IsBest p best
+
+-- whether a list of answers is asked for
+abbrev pub asks_list : Bool → Mode → Bool
+asks_list all Enum = true
+asks_list all Opt = all
+
+-- An optimisation has a best answer that none betters, or there is no answer.
+abbrev pub HasBest : Program → Mode → Option (Atoms × List ℤ) → Type 0
+HasBest p Enum best = Unit {0}
+HasBest p Opt best = IsBest p best
+
+-- as many of the answers as were asked for, each once, in their order; where all optima were, as many of these
 pub record IsAsked (p : Program) (ask : Ask) (r : Results) : Type 0 where
-  pub mode_is : ask.mode ≡ Enum
+  pub listing : asks_list ask.all_optima ask.mode ≡ true
   pub some : 0 < ask.models
   pub count : length r.answers ≡ ask.models
-  pub part : IsPart p ask.mode r
+  pub part : IsPartOf ask.all_optima p ask.mode r
+  pub best : HasBest p ask.mode r.best
 
 -- All was found; or as many answers as were asked for; or a part was, and the budget is spent.
 abbrev pub Says : Program → Ask → Report → End → Type 0
-Says p ask r Finished = IsFound p ask.mode r.results.answers r.results.best
+Says p ask r Finished = IsAllFound ask.all_optima p ask.mode r.results.answers r.results.best
 Says p ask r Limited = IsAsked p ask r.results
-Says p ask r Unfinished = IsPart p ask.mode r.results × (r.paid.left ≡ 0)
+Says p ask r Unfinished = IsPartOf ask.all_optima p ask.mode r.results × (r.paid.left ≡ 0)
 
 -- Each unit spent was burnt for a conflict of the program, by no more answers than were found, and by no bound below the cost of the best.
 pub record IsReport (p : Program) (ask : Ask) (units : ℕ) (r : Report) : Type 0 where
@@ -125,4 +198,12 @@ pub record IsReport (p : Program) (ask : Ask) (units : ℕ) (r : Report) : Type 
   pub budget : r.paid.left + r.spent ≡ units
   pub known : r.paid.known ≤ length r.results.answers
   pub least : IsAtLeast (best_cost r.results) r.paid.least
-  pub played : IsPlayed p ask units r
+  pub played : IsPlayedBy r.second p ask units r
+
+-- Nothing is left to a second search: all optima aren't asked for, or the first isn't finished, or it found no answer.
+abbrev pub IsWhole : Bool → End → Option (Atoms × List ℤ) → Type 0
+IsWhole false end best = Unit {0}
+IsWhole true Finished None = Unit {0}
+IsWhole true Finished (Some best) = ⊥
+IsWhole true Limited best = Unit {0}
+IsWhole true Unfinished best = Unit {0}

@@ -1,5 +1,5 @@
 -- A number's search and its units, beside the board.
-use Rattle.std.specs.Prelude.{◌≡◌, ℕ, false, List, [], Option, Some, ℤ}
+use Rattle.std.specs.Prelude.{◌≡◌, ◌⊎◌, ℕ, false, List, [], Option, None, Some, ℤ}
 use Rattle.asp_model.specs.declared.results.Mode.{Mode}
 use Rattle.asp_model.specs.declared.results.Mode.TheVariants.{Enum, Opt}
 use Rattle.asp_model.specs.Sets.{Atoms}
@@ -7,6 +7,8 @@ use Rattle.asp_vars.specs.Literals.{Literal}
 use Rattle.asp_vars.specs.Paid.{Units}
 use Rattle.asp_path.specs.declared.status.Status.TheVariants as status
 use Rattle.asp_path.specs.Trees.{cube_of, status_of}
+use Rattle.asp_core.specs.declared.goal.Goal.{Goal}
+use Rattle.asp_core.specs.declared.goal.Goal.TheVariants as goal
 use Rattle.asp_core.specs.declared.task.Task.{Task}
 use Rattle.asp_core.specs.Units.{out_of}
 use Rattle.asp_core.specs.Boards.{Board, goal_of}
@@ -20,9 +22,18 @@ abbrev pub IsKept : Mode → List Atoms → Type 0
 IsKept Enum known = Unit {0}
 IsKept Opt known = known ≡ []
 
+-- A search in this mode and with this bound may look for the goal: in an enumeration for all answers, or for those below its bound.
+abbrev pub IsSought : Mode → Option (List ℤ) → Goal → Type 0
+IsSought Enum bound g = (g ≡ goal.Enum) ⊎ (g ≡ goal.Ties bound)
+IsSought Opt bound g = g ≡ goal.Opt
+
+-- A search in this mode may begin with this bound: with none for the mode's own goal, and among ties with theirs.
+abbrev pub MayBegin : Mode → Option (List ℤ) → Goal → Type 0
+MayBegin mode bound g = ((g ≡ goal_of mode) × (bound ≡ None)) ⊎ ((mode ≡ Enum) × (g ≡ goal.Ties bound))
+
 -- The answers that the search of number n knows, its bound and its units go with the board.
 pub record IsAtWork (b : Board) (n : ℕ) (mode : Mode) (known : List Atoms) (bound : Option (List ℤ)) (u : Units) : Type 0 where
-  pub goal : b.task.goal ≡ goal_of mode
+  pub goal : IsSought mode bound b.task.goal
   pub agrees : Agrees b known bound
   pub apart : AreApart known
   pub kept : IsKept mode known

@@ -20,16 +20,17 @@ ghost use Rattle.asp_core.specs.declared.event.Event.TheVariants as event;
 ghost use Rattle.asp_core.specs.declared.goal.Goal.TheVariants as goal;
 ghost use Rattle.asp_core.specs.declared.task.Task.{Task};
 ghost use Rattle.asp_core.specs.Units.{out_of};
-ghost use Rattle.asp_core.specs.Boards.{Board, start, goal_of, is_excused, IsBoundOf};
+ghost use Rattle.asp_core.specs.Boards.{Board, start, is_excused, IsBoundOf};
 ghost use Rattle.asp_core.specs.Events.{Guard, happens, maker, IsLawful, replay};
 ghost use Rattle.asp_core.specs.Growth.{Grows, Spares};
+ghost use Rattle.asp_book.specs.Books.{IsJournalOf};
 ghost use Rattle.asp_book.specs.Fuels.{Fits, ComesBack};
 ghost use Rattle.asp_crew_laws.specs.declared.report.Report.{Report};
 ghost use Rattle.asp_crew_laws.specs.Agrees.{Agrees, AreApart};
 ghost use Rattle.asp_crew_laws.specs.Gone.{IsCrewGone, IsGone, IsShared};
-ghost use Rattle.asp_crew_laws.specs.Reports.{IsIdle, IsPart, IsPlayed};
-ghost use Rattle.asp_crew_laws.specs.Working.{IsAtWork, Works};
-ghost use Rattle.asp_crew_laws.specs.Runs.{task_of, IsFound, with_cost, Quiet};
+ghost use Rattle.asp_crew_laws.specs.Reports.{board_by, joined, IsIdle, IsPart, IsPlayed, IsReport, IsToldBy, IsWhole};
+ghost use Rattle.asp_crew_laws.specs.Working.{IsAtWork, MayBegin, Works};
+ghost use Rattle.asp_crew_laws.specs.Runs.{asks, task_of, ties_of, IsFound, with_cost, Quiet};
 
 /// A lawful journal after which every leaf is closed tells what was to be found.
 pub fn a_closed_board_is_found()
@@ -44,27 +45,36 @@ pub fn quiet_numbers_leave_nothing()
     ensures closed { (t : Task) (by : ℕ → Bool) (journal : List Event) → Quiet t by journal → ((n : ℕ) → by n ≡ true) → held_count (replay t journal).nodes ≡ 0 → all_closed (replay t journal).nodes ≡ true }
 {}
 
-/// A report whose journal leads to what it says: a finished one has found what was asked, and another a part of it; no conflict
-/// that was paid for knew more answers than are reported.
+/// A first search whose journal leads to what its report says: a finished one has found what was asked, and another a part of
+/// it; no conflict that was paid for knew more answers than are reported.
 pub fn a_journal_explains_its_report()
-    ensures found { (p : Program) (ask : Ask) (units : ℕ) (r : Report) → IsPlayed p ask units r → r.results.end ≡ Finished → IsFound p ask.mode r.results.answers r.results.best }
-    ensures part { (p : Program) (ask : Ask) (units : ℕ) (r : Report) → IsPlayed p ask units r → IsPart p ask.mode r.results }
-    ensures known { (p : Program) (ask : Ask) (units : ℕ) (r : Report) → IsPlayed p ask units r → r.paid.known ≤ length r.results.answers }
+    ensures found { (p : Program) (ask : Ask) (units : ℕ) (r : Report) → IsPlayed (task_of p ask units) r → r.results.end ≡ Finished → IsFound p ask.mode r.results.answers r.results.best }
+    ensures part { (p : Program) (ask : Ask) (units : ℕ) (r : Report) → IsPlayed (task_of p ask units) r → IsPart p ask.mode r.results }
+    ensures known { (t : Task) (r : Report) → IsPlayed t r → r.paid.known ≤ length r.results.answers }
 {}
 
 /// A limit is kept: the answers of a report are distinct answers of the program in their order, as many as were asked for where
 /// the run ended at its limit, and fewer where it ended otherwise.
 pub fn a_limit_is_kept()
-    ensures count { (p : Program) (ask : Ask) (units : ℕ) (r : Report) → IsPlayed p ask units r → r.results.end ≡ Limited → length r.results.answers ≡ ask.models }
-    ensures fewer { (p : Program) (ask : Ask) (units : ℕ) (r : Report) → IsPlayed p ask units r → (r.results.end ≡ Limited → ⊥) → 0 < ask.models → length r.results.answers < ask.models }
-    ensures order { (p : Program) (ask : Ask) (units : ℕ) (r : Report) → IsPlayed p ask units r → AllPairs IsBefore r.results.answers }
-    ensures answers { (p : Program) (ask : Ask) (units : ℕ) (r : Report) (S : Atoms) → IsPlayed p ask units r → Contains r.results.answers S → Contains (answers p) S }
+    ensures count { (p : Program) (ask : Ask) (units : ℕ) (r : Report) → IsReport p ask units r → r.results.end ≡ Limited → length r.results.answers ≡ ask.models }
+    ensures fewer { (p : Program) (ask : Ask) (units : ℕ) (r : Report) → IsReport p ask units r → (r.results.end ≡ Limited → ⊥) → 0 < ask.models → length r.results.answers < ask.models }
+    ensures order { (p : Program) (ask : Ask) (units : ℕ) (r : Report) → IsReport p ask units r → AllPairs IsBefore r.results.answers }
+    ensures answers { (p : Program) (ask : Ask) (units : ℕ) (r : Report) (S : Atoms) → IsReport p ask units r → Contains r.results.answers S → Contains (answers p) S }
+{}
+
+/// A report of a finished first search, and one of a search for all answers that cost no more than its best, are together a
+/// report of a run for all optima. A first search alone is such a run where nothing is left to a second one.
+pub fn two_searches_find_all_optima()
+    ensures joined { (p : Program) (models units : ℕ) (first ties : Report) (S : Atoms) (c : List ℤ) → IsReport p (asks Opt models) units first → first.second ≡ None → first.results.end ≡ Finished → first.results.best ≡ Some (S, c)
+        → IsJournalOf (ties_of p (asks Opt models) c first.paid.left) ties.journal → IsToldBy (board_by (ties_of p (asks Opt models) c first.paid.left) ties) ties
+        → IsReport p (record { mode = Opt; models = models; all_optima = true }) units (joined first ties) }
+    ensures alone { (p : Program) (ask : Ask) (units : ℕ) (r : Report) → IsReport p (asks ask.mode ask.models) units r → r.second ≡ None → IsWhole ask.all_optima r.results.end r.results.best → IsReport p ask units r }
 {}
 
 /// A search at work goes with the board still when the board went on and its number's units are as they were; so it does
 /// after events of others.
 pub fn a_search_at_work_goes_on()
-    ensures begins { (b : Board) (n : ℕ) (mode : Mode) (u : Units) → b.task.goal ≡ goal_of mode → ComesBack b (out_of b.out n) u → IsAtWork b n mode [] None u }
+    ensures begins { (b : Board) (n : ℕ) (mode : Mode) (bound : Option (List ℤ)) (u : Units) → MayBegin mode bound b.task.goal → ComesBack b (out_of b.out n) u → IsAtWork b n mode [] bound u }
     ensures on { (b c : Board) (n : ℕ) (mode : Mode) (known : List Atoms) (bound : Option (List ℤ)) (u : Units) → IsAtWork b n mode known bound u → Grows b c → out_of c.out n ≡ out_of b.out n → IsAtWork c n mode known bound u }
     ensures leaf { (b c : Board) (n leaf : ℕ) (cube : Option (List Literal)) → Works b n leaf cube → Spares n b c → Works c n leaf cube }
 {}
@@ -97,10 +107,10 @@ pub fn gone_workers_shared_the_run()
         → IsShared t short never ((begun ++ rest) ++ more) }
 {}
 
-/// In an enumeration a search that agrees with the board still does after what others did, and after a delivery.
+/// A search that agrees with the board still does after what others did, and after a delivery.
 pub fn a_listing_search_agrees()
-    ensures others { (b c : Board) (known : List Atoms) (bound : Option (List ℤ)) → b.task.goal ≡ goal.Enum → Grows b c → Agrees b known bound → Agrees c known bound }
-    ensures delivered { (b : Board) (s : ℕ) (S : Atoms) (known : List Atoms) (bound : Option (List ℤ)) → b.task.goal ≡ goal.Enum → Agrees b known bound → Agrees (happens b (event.Deliver s S)) (known ++ S ∷ []) bound }
+    ensures others { (b c : Board) (known : List Atoms) (bound : Option (List ℤ)) → Grows b c → Agrees b known bound → Agrees c known bound }
+    ensures delivered { (b : Board) (s : ℕ) (S : Atoms) (known : List Atoms) (bound : Option (List ℤ)) → Agrees b known bound → Agrees (happens b (event.Deliver s S)) (known ++ S ∷ []) bound }
 {}
 
 /// In an optimisation a search agrees with the board by the cost of an answer that is the best, or that a best stands no dearer

@@ -14,3 +14,4 @@ pub mod SoundLaws
 pub mod CostLaws
 pub mod WalkLaws
 pub mod BestLaws
+pub mod AboveLaws

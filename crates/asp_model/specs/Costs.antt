@@ -1,5 +1,5 @@
 -- Costs, and the answers that no answer betters.
-use Rattle.std.specs.Prelude.{◌≡◌, Bool, false, Contains, not, if◌then◌else◌, List, [], ◌∷◌, map, fold, filter, ℤ, pos, ◌+ℤ◌, int_lt}
+use Rattle.std.specs.Prelude.{◌≡◌, Bool, false, Contains, not, if◌then◌else◌, List, [], ◌∷◌, map, fold, filter, Option, None, Some, ℤ, pos, ◌+ℤ◌, int_lt}
 use Rattle.std.specs.List.{list_any}
 use Rattle.std.specs.Ordering.{int_cmp, int_eq, is_lt}
 use Rattle.std.specs.Cmp.Lexicographic.{slice_cmp}
@@ -29,6 +29,17 @@ cost p S = map (cost_at S p.minimize) (priorities p.minimize)
 -- At the first place where the costs differ, c has the smaller number.
 abbrev pub betters : List ℤ → List ℤ → Bool
 betters c d = is_lt (slice_cmp int_cmp c d)
+
+-- the sums, the last of them raised by one
+abbrev pub raised : List ℤ → List ℤ
+raised [] = []
+raised (q ∷ []) = (q +ℤ pos 1) ∷ []
+raised (q ∷ r ∷ c) = q ∷ raised (r ∷ c)
+
+-- the first cost behind c among those of as many sums; none where there are no sums
+abbrev pub just_above : List ℤ → Option (List ℤ)
+just_above [] = None
+just_above (q ∷ c) = Some (raised (q ∷ c))
 
 -- the answers whose cost no answer betters
 abbrev pub optima : Program → List Atoms

@@ -92,5 +92,9 @@ two_ways_shown = record two_ways { outputs = record { text = codes "a"; conditio
 abbrev pub enumerated : End → List Atoms → Results
 enumerated e answers = record { mode = mode.Enum; end = e; answers = answers; best = None }
 
+-- optima that were listed, and the best of the search before
+abbrev pub tied : End → List Atoms → Option (Atoms × List ℤ) → Results
+tied e answers best = record { mode = mode.Opt; end = e; answers = answers; best = best }
+
 abbrev pub optimised : End → Option (Atoms × List ℤ) → Results
-optimised e best = record { mode = mode.Opt; end = e; answers = []; best = best }
+optimised e best = tied e [] best

@@ -40,10 +40,15 @@ abbrev pub best_cost_line : Option (Atoms × List ℤ) → List ℕ
 best_cost_line None = []
 best_cost_line (Some best) = cost_line best.1
 
--- the answers that a run recorded: in an optimisation the best alone
+-- the answers that are listed, or where none is the best
+abbrev pub bests : Option (Atoms × List ℤ) → List Atoms → List Atoms
+bests best [] = best_answers best
+bests best (S ∷ answers) = S ∷ answers
+
+-- the answers that a run recorded: in an optimisation those that it listed, or else the best alone
 abbrev pub recorded : Mode → Results → List Atoms
 recorded Enum r = r.answers
-recorded Opt r = best_answers r.best
+recorded Opt r = bests r.best r.answers
 
 -- An enumeration has no costs.
 abbrev pub costs_text : Mode → Results → List ℕ

@@ -18,8 +18,10 @@ pub enum Mode {
 pub struct Ask {
     /// Whether all answers are sought, or one that costs least.
     pub mode: Mode,
-    /// How many different answers of an enumeration are enough. With 0 there is no limit.
+    /// How many different answers are enough where a list of them is sought. With 0 there is no limit.
     pub models: u64,
+    /// Whether an optimisation lists every answer that none betters. An enumeration takes no notice of it.
+    pub all_optima: bool,
 }
 
 /// How the search ended.
@@ -34,14 +36,14 @@ pub enum End {
 }
 
 /// What a run found: in an enumeration the answers, in order; in an optimisation the best one with its cost, where there
-/// is one, and no list.
+/// is one, and a list of those that are as good only where all of them are asked for.
 #[derive(Drop)]
 pub struct Results {
     /// Whether all answers were sought, or one that costs least.
     pub mode: Mode,
     /// How the search ended.
     pub end: End,
-    /// In an enumeration the answers, strictly ascending; else none.
+    /// In an enumeration the answers, in a search for all optima these, strictly ascending; else none.
     pub answers: Seq<Interp>,
     /// In an optimisation the cheapest answer found, with its cost; else none.
     pub best: Option<(Interp, Cost)>,

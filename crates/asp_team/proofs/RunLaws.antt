@@ -1,5 +1,5 @@
 -- A run whose workers have come back.
-use Rattle.std.proofs.Common.{◌≡◌, ℕ, ◌<◌, ◌≤◌, List, length, Some, refl, sym, ◌∙◌, subst, arith}
+use Rattle.std.proofs.Common.{◌≡◌, ℕ, ◌<◌, ◌≤◌, List, length, Some, None, refl, sym, ◌∙◌, subst, inl, arith}
 use Rattle.std.specs.List.{All}
 use Rattle.asp_model.specs.declared.program.Program.{Program}
 use Rattle.asp_model.specs.declared.results.Ask.{Ask}
@@ -11,7 +11,8 @@ use Rattle.asp_book.specs.Calls.{Knows}
 use Rattle.asp_crew_laws.specs.declared.report.Report.{Report}
 use Rattle.asp_crew_laws.specs.Reports.{IsReport}
 use Rattle.asp_crew_laws.specs.Runs.{asks, task_of}
-use Rattle.asp_crew.specs.Running.{IsRunIn}
+use Rattle.asp_crew_laws.specs.Working.{MayBegin}
+use Rattle.asp_crew.specs.Running.{HasNoQuery, IsRunIn}
 use Rattle.asp_worker.specs.declared.worker.Worker.{Worker}
 use Rattle.asp_worker.specs.declared.worker.Shared.{Shared}
 use Rattle.asp_team.specs.declared.lead.Lead.{Lead}
@@ -33,5 +34,11 @@ book-task p ask budget b v w is same about = let e : Some b.task ≡ Some (task_
 pub run-in : (p : Program) (ask : Ask) (budget : ℕ) (t : Task) → t ≡ task_of p ask budget → IsRunIn ask.mode t
 run-in p ask budget t e = subst (IsRunIn ask.mode) (sym e) refl
 
-pub report-is : (p : Program) (ask : Ask) (budget : ℕ) (t : Task) (r : Report) → t ≡ task_of p ask budget → IsReport t.program (asks ask.mode t.limit) t.budget r → IsReport p ask budget r
+pub run-query : (p : Program) (ask : Ask) (budget : ℕ) (t : Task) → t ≡ task_of p ask budget → HasNoQuery t
+run-query p ask budget t e = subst HasNoQuery (sym e) refl
+
+pub run-begins : (p : Program) (ask : Ask) (budget : ℕ) (t : Task) → t ≡ task_of p ask budget → MayBegin ask.mode None t.goal
+run-begins p ask budget t e = subst (λ (x : Task). MayBegin ask.mode None x.goal) (sym e) (inl (refl, refl))
+
+pub report-is : (p : Program) (ask : Ask) (budget : ℕ) (t : Task) (r : Report) → t ≡ task_of p ask budget → IsReport t.program (asks ask.mode t.limit) t.budget r → IsReport p (asks ask.mode ask.models) budget r
 report-is p ask budget t r e is = subst (λ (x : Task). IsReport x.program (asks ask.mode x.limit) x.budget r) e is

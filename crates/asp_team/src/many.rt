@@ -1,10 +1,12 @@
 //! A run of many workers.
-ghost use Rattle.std.specs.Prelude.{◌≡◌, ℕ, ◌^◌, ◌<◌, ◌≤◌, None, Some, IfOk};
+ghost use Rattle.std.specs.Prelude.{◌≡◌, ℕ, ◌^◌, ◌<◌, ◌≤◌, true, false, None, Some, IfOk};
 ghost use Rattle.asp_vault.specs.Seats.{view};
 ghost use Rattle.asp_book.specs.Books.{board};
 ghost use Rattle.asp_crew_laws.specs.Proofs.{HasProof};
 ghost use Rattle.asp_crew_laws.specs.Reports.{IsReport, IsIdle as IsIdleBoard};
-ghost use Rattle.asp_crew.specs.Running.{Finishes, IsRunIn};
+ghost use Rattle.asp_crew_laws.specs.Runs.{asks};
+ghost use Rattle.asp_crew_laws.specs.Working.{MayBegin};
+ghost use Rattle.asp_crew.specs.Running.{Finishes, HasNoQuery};
 ghost use Rattle.asp_worker.specs.Seats.{IsIdle};
 ghost use Rattle.asp_team.specs.Joined.{IsHome, IsLead};
 ghost use Rattle.asp_team.specs.Teams.{IsAllBack};
@@ -19,6 +21,7 @@ use asp_counts::watch::Unwatched;
 use asp_crew::finish::finish;
 use asp_crew::proofs::with_proof;
 use asp_crew::reported::reported;
+use asp_crew::ties::with_ties;
 use asp_crew_laws::report::Report;
 use asp_model::results::Ask;
 use asp_propagators::propagators::Propagators;
@@ -42,7 +45,7 @@ pub struct Plan {
     pub workers: u32,
     /// How many units there are for all of them.
     pub budget: u64,
-    /// Whether the proof of a finished run is wanted.
+    /// Whether the proof of a finished run is wanted. All optima are not asked for then.
     pub proof: bool,
 }
 
@@ -113,7 +116,8 @@ fn work_off<'a>(
     counts: &mut Counts,
     recorder: &'a Recorder,
 ) -> Result<Option<Conflict>, AllocError>
-    requires task { IsRunIn plan.ask.mode book.old.task }
+    requires task { HasNoQuery book.old.task }
+    requires goal { MayBegin plan.ask.mode None book.old.task.goal }
     requires of { book.old.task.program ≡ compiled.now }
     requires fits { book.old.task.budget < 2 ^ 64 }
     requires idle { IsIdleBoard (board book.old) }
@@ -126,6 +130,7 @@ fn work_off<'a>(
         alloc,
         compiled,
         plan.ask.mode,
+        None,
         book,
         propagators,
         counts,
@@ -145,7 +150,8 @@ fn worked<R: Threads + Wait + Sync, G: Gate + Sync, H: Halt + Sync>(
     deeds: &mut Deeds,
 ) -> Result<(Report, Recorder), AllocError>
     requires { (1 ≤ plan.workers) × (plan.workers ≤ 64) }
-    ensures report { IfOk result (λ r. IsReport compiled.now plan.ask plan.budget r.0) }
+    ensures report { IfOk result (λ r. IsReport compiled.now (asks plan.ask.mode plan.ask.models) plan.budget r.0) }
+    ensures second { IfOk result (λ r. r.0.second ≡ None) }
     ensures proof { IfOk result (λ r. r.0.proof ≡ None) }
 {
     let team = gathered(
@@ -175,8 +181,9 @@ fn worked<R: Threads + Wait + Sync, G: Gate + Sync, H: Halt + Sync>(
 /// `deeds` then.
 ///
 /// The root is split between the workers before they begin. What they leave open, since they were stopped or short of memory
-/// or units, the main thread works off when all have come back, until as many answers as asked for were found. Nothing says that a worker comes back. Want of memory in the
-/// main thread is the one error.
+/// or units, the main thread works off when all have come back, until as many answers as asked for were found. A second
+/// search, where all optima are asked for, is the main thread's alone. Nothing says that a worker comes back. Want of memory
+/// in the main thread is the one error.
 pub fn solve_with<R: Threads + Wait + Sync, G: Gate + Sync, H: Halt + Sync>(
     rt: &R,
     alloc: Global,
@@ -186,7 +193,8 @@ pub fn solve_with<R: Threads + Wait + Sync, G: Gate + Sync, H: Halt + Sync>(
     halt: &H,
     deeds: &mut Deeds,
 ) -> Result<Report, AllocError>
-    requires { (1 ≤ plan.workers) × (plan.workers ≤ 64) }
+    requires count { (1 ≤ plan.workers) × (plan.workers ≤ 64) }
+    requires apart { plan.proof ≡ true → plan.ask.all_optima ≡ false }
     ensures report { IfOk result (IsReport compiled.now plan.ask plan.budget) }
     ensures proof { IfOk result (HasProof plan.proof) }
 {
@@ -194,11 +202,18 @@ pub fn solve_with<R: Threads + Wait + Sync, G: Gate + Sync, H: Halt + Sync>(
     if plan.proof {
         with_proof(alloc, report, recorder)
     } else {
-        Ok(report)
+        with_ties(
+            alloc,
+            compiled,
+            plan.ask,
+            report,
+            &mut deeds.sum,
+            &mut Unwatched,
+        )
     }
 }
 
-/// A run of so many workers, 1 to 64, none of whom is stopped.
+/// A run of so many workers, 1 to 64, none of whom is stopped. A proof and all optima are not asked for together.
 pub fn solve<R: Threads + Wait + Sync, G: Gate + Sync>(
     rt: &R,
     alloc: Global,
@@ -207,7 +222,8 @@ pub fn solve<R: Threads + Wait + Sync, G: Gate + Sync>(
     gate: &G,
     deeds: &mut Deeds,
 ) -> Result<Report, AllocError>
-    requires { (1 ≤ plan.workers) × (plan.workers ≤ 64) }
+    requires count { (1 ≤ plan.workers) × (plan.workers ≤ 64) }
+    requires apart { plan.proof ≡ true → plan.ask.all_optima ≡ false }
     ensures report { IfOk result (IsReport compiled.now plan.ask plan.budget) }
     ensures proof { IfOk result (HasProof plan.proof) }
 {

@@ -12,6 +12,7 @@ use std::process::Abort;
 pub const ALL: Ask = Ask {
     mode: Mode::Enum,
     models: 0,
+    all_optima: false,
 };
 
 // The atoms are free.

@@ -38,6 +38,7 @@ fn words_are_taken(rt: HostRuntime) {
         mode: None,
         budget: 9223372036854775807,
         models: 0,
+        all_optima: false,
         make: None,
         stats: false,
         progress: false,
@@ -50,13 +51,15 @@ fn words_are_taken(rt: HostRuntime) {
         mode: Some(Mode::Enum),
         budget: 7,
         models: 3,
+        all_optima: true,
         make: Some(2000),
         stats: true,
         progress: false,
         proof: false,
         split: None,
     };
-    let line = "aspenum --make=2000 --stats --mode=enum --budget=7 --models 3 --workers 1 --";
+    let line =
+        "aspenum --make=2000 --stats --mode=enum --budget=7 --models 3 --opt-all --workers 1 --";
     assert!(rt; gives(&rt, alloc, line, Ok(chosen)));
     for line in ["aspenum --help", "aspenum -h"] {
         assert!(rt; gives(&rt, alloc, line, Err(CliError::Help)));

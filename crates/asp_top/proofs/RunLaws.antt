@@ -1,6 +1,6 @@
 -- What each status means, from what reading, solving and writing did.
 use Rattle.std.proofs.Common.{◌≡◌, ℕ, ◌<◌, ◌≤◌, Bool, true, false, ◌||◌, List, [], ◌∷◌, length, refl, sym, ap, ◌∙◌, subst, inl, inr, arith}
-use Rattle.std.specs.Prelude.{Option, None, Some, Result, Ok, Err, IfErr, IfOk, IfSome, IsSome, IsErrOf, is_some}
+use Rattle.std.specs.Prelude.{ℤ, Option, None, Some, Result, Ok, Err, IfErr, IfOk, IfSome, IsSome, IsErrOf, is_some}
 use Rattle.std.proofs.KnownBytes.{Keeps-refl}
 use Rattle.std.specs.Io.KnownBytes.{Appends, Keeps, IsAtEnd}
 use Rattle.asp_io.specs.Causes.{Rose}
@@ -9,10 +9,12 @@ use Rattle.asp_read.specs.declared.fault.ReadError.TheVariants as errors
 use Rattle.asp_model.specs.declared.program.Program.{Program}
 use Rattle.asp_model.specs.declared.results.Ask.{Ask}
 use Rattle.asp_model.specs.declared.results.Mode.{Mode}
+use Rattle.asp_model.specs.declared.results.Mode.TheVariants.{Enum, Opt}
+use Rattle.asp_model.specs.declared.results.Results.{Results}
 use Rattle.asp_model.specs.declared.results.End.{End}
 use Rattle.asp_model.specs.declared.results.End.TheVariants.{Finished, Limited, Unfinished}
 use Rattle.asp_model.specs.Sets.{Atoms}
-use Rattle.asp_model.specs.Texts.{recorded}
+use Rattle.asp_model.specs.Texts.{bests, recorded}
 use Rattle.asp_read.specs.Outcome.{outcome, most_bytes}
 use Rattle.asp_read.specs.Stream.{ReadsText, StopsAt}
 use Rattle.asp_make.specs.Ring.{ring}
@@ -126,14 +128,23 @@ runs-memory given a kept reads writes quiet =
     record { means = means; exact = exact given a None Memory means (λ told isn't. quiet told); later = (reads, writes) }
 
 -- a run that ended at its limit has a model
-some-by : (L : List Atoms) → 0 < length L → is_some_of L ≡ true
-some-by [] h = absurd (let f : ⊥ = omega (arith, h) in f)
-some-by (S ∷ L) h = refl
+abbrev recorded-by : Mode → Option (Atoms × List ℤ) → List Atoms → List Atoms
+recorded-by Enum best L = L
+recorded-by Opt best L = bests best L
+
+recorded-is : (mode : Mode) (r : Results) → recorded mode r ≡ recorded-by mode r.best r.answers
+recorded-is Enum r = refl
+recorded-is Opt r = refl
+
+some-by : (mode : Mode) (best : Option (Atoms × List ℤ)) (L : List Atoms) → 0 < length L → is_some_of (recorded-by mode best L) ≡ true
+some-by mode best [] h = absurd (let f : ⊥ = omega (arith, h) in f)
+some-by Enum best (S ∷ L) h = refl
+some-by Opt best (S ∷ L) h = refl
 
 limited-has : (p : Program) (ask : Ask) (units : ℕ) (r : Report) → IsReport p ask units r → r.results.end ≡ Limited → has_model r.results ≡ true
 limited-has p ask units r is e =
     let asked : IsAsked p ask r.results = subst (SaysReport p ask r) e is.says in
-    ap (λ (m : Mode). is_some_of (recorded m r.results)) (is.mode_is ∙ asked.mode_is) ∙ some-by r.results.answers (omega (arith, asked.some, asked.count))
+    ap is_some_of (recorded-is r.results.mode r.results) ∙ some-by r.results.mode r.results.best r.results.answers (omega (arith, asked.some, asked.count))
 
 written : (given : Options) (a : Around) (report : Option Report) → (s : IsSolved given a report) → (end : End) (model : Bool) → s.done.results.end ≡ end → has_model s.done.results ≡ model
     → Appends a.held a.held' (report_text s.program s.done (is_brief given)) → Means given a report (status_for end model)

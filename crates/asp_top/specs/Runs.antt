@@ -24,7 +24,6 @@ use Rattle.asp_model.specs.Models.{atoms_of}
 use Rattle.asp_vars.specs.Numbering.{bodies_of}
 use Rattle.asp_crew_laws.specs.declared.report.Report.{Report}
 use Rattle.asp_crew_laws.specs.Reports.{IsReport}
-use Rattle.asp_crew_laws.specs.Runs.{asks}
 use Rattle.asp_crew_laws.specs.Proofs.{HasProof}
 use Rattle.asp_top.specs.declared.status.Status.{Status}
 use Rattle.asp_top.specs.declared.status.Status.TheVariants.{All, NoModel, Partial, Unknown, Enough, Help, Memory, Usage, Refused, ReadFault, TooLong, WriteFault, Parts}
@@ -85,7 +84,7 @@ report_text p r brief = text_by r.proof p r.results brief
 
 -- what is asked of the program by the options
 abbrev pub ask_of : Options → Program → Ask
-ask_of given p = asks (mode_of given.mode p) given.models
+ask_of given p = record { mode = mode_of given.mode p; models = given.models; all_optima = given.all_optima }
 
 -- no parts are asked for; the report is that of a run on the program, with what is asked and the units that were given, and has a
 -- proof if that was asked for

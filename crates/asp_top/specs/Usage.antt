@@ -11,7 +11,7 @@ misuse_text (unexpected w) = codes "unexpected word " ++ w ++ codes " (the progr
 misuse_text (not_alone w) = w ++ codes " has to stand alone"
 misuse_text (twice n) = text_of n ++ codes " is given twice"
 misuse_text (missing n) = codes "a value is missing behind " ++ text_of n
-misuse_text rivals = codes "--split and --proof exclude each other"
+misuse_text (rivals n) = text_of n ++ codes " and --proof exclude each other"
 misuse_text (bad_value n v) = text_of n ++ codes " takes " ++ takes_of n ++ (codes ", not " ++ v)
 
 -- the end of a fault's line, and the usage line

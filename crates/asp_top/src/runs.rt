@@ -1,6 +1,7 @@
 //! A whole run: words, reading, solving and writing, in this order; the first that doesn't succeed decides.
 ghost use Rattle.std.specs.Prelude.{◌≡◌, None, IfSome, false, true, map, string_bytes};
 ghost use Rattle.asp_cli.specs.Given.{fault_seen, words_give};
+ghost use Rattle.asp_cli.specs.Found.{IsApart};
 ghost use Rattle.asp_cli.specs.Texts.{help_page, version_line};
 ghost use Rattle.asp_cli.specs.Values.{IsCrew, IsPartCount, IsRing};
 ghost use Rattle.asp_top.specs.Notes.{IsNoted, Writes, note_of};
@@ -66,7 +67,8 @@ fn divide_or_solve<K: Sink, W: Watch>(
     tally: &mut Tally,
     watch: &mut W,
 ) -> Outcome
-    requires { IsPartCount options.now.split }
+    requires parts { IsPartCount options.now.split }
+    requires apart { IsApart options.now }
     ensures does { Does options.now compiled.now (K.held sink.old) (K.held sink.new) (K.faults sink.old) (K.faults sink.new) result }
     ensures flushed { TellsFaults (K.held sink.old) (K.faults sink.old) (K.faults sink.new) result.status }
     ensures counted { IfSome result.report (IsCounted true tally.new) }
@@ -89,6 +91,7 @@ fn outcome_alone<S: Source, K: Sink, W: Watch>(
 ) -> Outcome
     requires ring { IsRing options.now.make }
     requires parts { IsPartCount options.now.split }
+    requires apart { IsApart options.now }
     ensures runs { Runs options.now (around (S.left source.old) (S.left source.new) (S.faults source.old) (S.faults source.new)
         (K.held sink.old) (K.held sink.new) (K.faults sink.old) (K.faults sink.new)) result }
     ensures flushed { TellsFaults (K.held sink.old) (K.faults sink.old) (K.faults sink.new) result.status }
@@ -114,6 +117,7 @@ fn outcome_by_crew<R: Threads + Wait + Sync, S: Source, K: Sink, G: Gate + Sync>
     requires ring { IsRing options.now.make }
     requires crew { IsCrew options.now.workers }
     requires whole { options.now.split ≡ None }
+    requires apart { IsApart options.now }
     ensures runs { Runs options.now (around (S.left source.old) (S.left source.new) (S.faults source.old) (S.faults source.new)
         (K.held sink.old) (K.held sink.new) (K.faults sink.old) (K.faults sink.new)) result }
     ensures flushed { TellsFaults (K.held sink.old) (K.faults sink.old) (K.faults sink.new) result.status }
@@ -139,6 +143,7 @@ pub fn run_alone<S: Source, K: Sink, N: Sink>(
 ) -> Outcome
     requires ring { IsRing options.now.make }
     requires parts { IsPartCount options.now.split }
+    requires apart { IsApart options.now }
     ensures runs { Runs options.now (around (S.left source.old) (S.left source.new) (S.faults source.old) (S.faults source.new)
         (K.held sink.old) (K.held sink.new) (K.faults sink.old) (K.faults sink.new)) result }
     ensures flushed { TellsFaults (K.held sink.old) (K.faults sink.old) (K.faults sink.new) result.status }
@@ -164,6 +169,7 @@ fn run_by_crew<R: Threads + Wait + Sync, S: Source, K: Sink, N: Sink, G: Gate + 
     requires ring { IsRing options.now.make }
     requires crew { IsCrew options.now.workers }
     requires whole { options.now.split ≡ None }
+    requires apart { IsApart options.now }
     ensures runs { Runs options.now (around (S.left source.old) (S.left source.new) (S.faults source.old) (S.faults source.new)
         (K.held sink.old) (K.held sink.new) (K.faults sink.old) (K.faults sink.new)) result }
     ensures flushed { TellsFaults (K.held sink.old) (K.faults sink.old) (K.faults sink.new) result.status }
@@ -195,6 +201,7 @@ fn run_given<R: Threads + Wait + Sync, S: Source, K: Sink, N: Sink, G: Gate + Sy
     requires ring { IsRing options.now.make }
     requires crew { IsCrew options.now.workers }
     requires parts { IsPartCount options.now.split }
+    requires apart { IsApart options.now }
     ensures runs { Runs options.now (around (S.left source.old) (S.left source.new) (S.faults source.old) (S.faults source.new)
         (K.held sink.old) (K.held sink.new) (K.faults sink.old) (K.faults sink.new)) result }
     ensures flushed { TellsFaults (K.held sink.old) (K.faults sink.old) (K.faults sink.new) result.status }

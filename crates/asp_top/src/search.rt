@@ -1,5 +1,6 @@
 //! A program that was compiled is solved, and its results are written.
 ghost use Rattle.std.specs.Prelude.{◌≡◌, IfOk, IfSome, false, true};
+ghost use Rattle.asp_cli.specs.Found.{IsApart};
 ghost use Rattle.asp_cli.specs.Values.{IsCrew};
 ghost use Rattle.asp_crew_laws.specs.Proofs.{HasProof};
 ghost use Rattle.asp_crew_laws.specs.Reports.{IsReport};
@@ -32,10 +33,11 @@ fn ask_of(options: &Options, program: &Program) -> Ask
     Ask {
         mode: mode_of(options.mode, program),
         models: options.models,
+        all_optima: options.all_optima,
     }
 }
 
-/// One search solves it.
+/// One search solves it, or two where all optima are asked for.
 pub fn solve<K: Sink, W: Watch>(
     alloc: Global,
     options: &Options,
@@ -44,6 +46,7 @@ pub fn solve<K: Sink, W: Watch>(
     tally: &mut Tally,
     watch: &mut W,
 ) -> Outcome
+    requires { IsApart options.now }
     ensures solves { Solves options.now compiled.now (K.held sink.old) (K.held sink.new) (K.faults sink.old) (K.faults sink.new) result }
     ensures flushed { TellsFaults (K.held sink.old) (K.faults sink.old) (K.faults sink.new) result.status }
     ensures counted { IfSome result.report (IsCounted true tally.new) }
@@ -79,7 +82,8 @@ fn solved_by_crew<R: Threads + Wait + Sync, G: Gate + Sync>(
     gate: &G,
     deeds: &mut Deeds,
 ) -> Result<Report, AllocError>
-    requires { IsCrew options.now.workers }
+    requires crew { IsCrew options.now.workers }
+    requires apart { IsApart options.now }
     ensures report { IfOk result (IsReport compiled.now ask options.now.budget) }
     ensures proof { IfOk result (HasProof options.now.proof) }
 {
@@ -102,7 +106,8 @@ pub fn solve_by_crew<R: Threads + Wait + Sync, K: Sink, G: Gate + Sync>(
     gate: &G,
     tally: &mut Tally,
 ) -> Outcome
-    requires { IsCrew options.now.workers }
+    requires crew { IsCrew options.now.workers }
+    requires apart { IsApart options.now }
     ensures solves { Solves options.now compiled.now (K.held sink.old) (K.held sink.new) (K.faults sink.old) (K.faults sink.new) result }
     ensures flushed { TellsFaults (K.held sink.old) (K.faults sink.old) (K.faults sink.new) result.status }
     ensures counted { IfSome result.report (IsCounted false tally.new) }

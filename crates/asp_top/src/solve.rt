@@ -25,7 +25,10 @@ fn has_model(results: &Results) -> bool
 {
     match results.mode {
         Mode::Enum => !results.answers.as_slice().is_empty(),
-        Mode::Opt => results.best.is_some(),
+        Mode::Opt => match results.answers.as_slice() {
+            [] => results.best.is_some(),
+            [_, ..] => true,
+        },
     }
 }
 

@@ -65,7 +65,11 @@ fn write_fault<N: Sink>(notes: &mut N, fault: &WordFault<'_>) -> Result<(), Fail
             name.text().as_bytes(),
         ),
         WordFault::Value(name, value) => write_value(notes, *name, value),
-        WordFault::Rivals => write(notes, b"--split and --proof exclude each other"),
+        WordFault::Rivals(name) => write_both(
+            notes,
+            name.text().as_bytes(),
+            b" and --proof exclude each other",
+        ),
     }
 }
 

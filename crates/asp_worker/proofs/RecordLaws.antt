@@ -1,5 +1,5 @@
 -- A worker's search beside the board once an answer was recorded, or units were leased.
-use Rattle.std.proofs.Common.{◌≡◌, ℕ, ◌+◌, ◌-◌, ◌^◌, ◌<◌, ◌≤◌, Bool, true, false, cond, eqb, min, max, List, [], ◌∷◌, ◌++◌, Option, Some, None, refl, sym, ap, ◌∙◌, subst, arith}
+use Rattle.std.proofs.Common.{◌≡◌, ℕ, ◌+◌, ◌-◌, ◌^◌, ◌<◌, ◌≤◌, Bool, true, false, not, cond, eqb, min, max, List, [], ◌∷◌, ◌++◌, Option, Some, None, refl, sym, ap, ◌∙◌, subst, arith}
 use Rattle.std.specs.Prelude.{ℤ, IsTrue, option_map}
 use Rattle.std.specs.Option.{IfSome}
 use Rattle.std.proofs.lemmas.Bool.{eqb-true}
@@ -9,6 +9,7 @@ use Rattle.asp_model.specs.declared.results.Mode.TheVariants.{Enum, Opt}
 use Rattle.asp_model.specs.Models.{is_stable}
 use Rattle.asp_model.specs.Sets.{Atoms}
 use Rattle.asp_model.specs.Costs.{cost, betters}
+use Rattle.asp_vars.specs.Entailment.{costs_bound}
 use Rattle.asp_vars.specs.Literals.{hits}
 use Rattle.asp_vars.specs.Numbering.{values}
 use Rattle.asp_vars.specs.Paid.{Units, least_of}
@@ -31,6 +32,7 @@ use Rattle.asp_book.specs.Calls.{Knows, task_of, seen_board, IsCall}
 use Rattle.asp_book.specs.Fuels.{Fits}
 use Rattle.asp_book.specs.Replies.{Improves, delivered, improved, leased_out}
 use Rattle.asp_book.proofs.CallLaws.{task-stays, seen-after}
+use Rattle.asp_propagate.specs.Useful.{IsSmaller}
 use Rattle.asp_search_laws.specs.Searching.{Searching}
 use Rattle.asp_search_laws.specs.Steps.{Records}
 use Rattle.asp_crew_laws.specs.Working.{IsAtWork}
@@ -52,8 +54,14 @@ is-answer m v s t u leaf S set f =
     (subst (λ (p : Program). IsTrue (is_stable p S)) same f.stable)
     (subst (λ (p : Program). IsTrue (hits (values p S) (cube_of b.nodes leaf))) same f.hit)
 
+not-dear : (p : Program) (c : Option (List ℤ)) (S : Atoms) → IsSmaller (cost p S) c → costs_bound p c S ≡ false
+not-dear p None S less = refl
+not-dear p (Some d) S less = ap not less
+
 pub is-listed : (v : Knows) (s t : Searching) (u : Units) (leaf : ℕ) (S : Atoms) → Finds Enum v s t u leaf S → IsTrue (lists (seen_board v).task S)
-is-listed v s t u leaf S f = may-list (seen_board v).task S f.on.going.work.goal
+is-listed v s t u leaf S f =
+    let same : s.program ≡ (seen_board v).task.program = f.on.going.program ∙ ap (λ (x : Task). x.program) (sym (board-task v)) in
+    may-list (seen_board v).task s.bound S f.on.going.work.goal (subst (λ (p : Program). costs_bound p s.bound S ≡ false) same (not-dear s.program s.bound S f.cheaper))
 
 pub is-sought : (v : Knows) (s t : Searching) (u : Units) (leaf : ℕ) (S : Atoms) → Finds Opt v s t u leaf S → IsTrue (optimises (seen_board v).task.goal)
 is-sought v s t u leaf S f = may-optimise (seen_board v).task f.on.going.work.goal

@@ -80,6 +80,7 @@ module _ (m : Mode) (v : Knows) (s t : Searching) (f : Units) (leaf : ℕ) (on :
           stable = d.stable;
           hit = d.hit;
           new = d.new;
+          cheaper = d.cheaper;
           records = d.records;
         }
 

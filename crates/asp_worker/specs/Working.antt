@@ -2,6 +2,7 @@
 use Rattle.std.specs.Prelude.{◌≡◌, ◌⊎◌, ℕ, false, IsTrue, List, Some}
 use Rattle.std.specs.List.{list_any}
 use Rattle.asp_model.specs.declared.results.Mode.{Mode}
+use Rattle.asp_model.specs.Costs.{cost}
 use Rattle.asp_model.specs.Models.{is_stable}
 use Rattle.asp_model.specs.Sets.{Atoms, same_set}
 use Rattle.asp_vars.specs.Entailment.{Settled}
@@ -11,6 +12,7 @@ use Rattle.asp_vars.specs.Paid.{Units}
 use Rattle.asp_path.specs.Trees.{cube_of}
 use Rattle.asp_book.specs.Calls.{Knows, task_of, seen_board}
 use Rattle.asp_crew_laws.specs.Working.{IsAtWork, Works}
+use Rattle.asp_propagate.specs.Useful.{IsSmaller}
 use Rattle.asp_search_laws.specs.Searching.{Searching}
 use Rattle.asp_search_laws.specs.Steps.{Burns, Records}
 use Rattle.asp_worker.specs.declared.path.Course.{Course}
@@ -48,6 +50,7 @@ pub record Finds (m : Mode) (v : Knows) (s t : Searching) (u : Units) (leaf : �
   pub stable : IsTrue (is_stable s.program S)
   pub hit : IsTrue (hits (values s.program S) (cube_of (seen_board v).nodes leaf))
   pub new : list_any (same_set S) s.known ≡ false
+  pub cheaper : IsSmaller (cost s.program S) s.bound
   pub records : Records s.mode s t (cube_of (seen_board v).nodes leaf) S
 
 -- what is known by how a step left the path

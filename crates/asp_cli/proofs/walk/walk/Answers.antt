@@ -10,6 +10,7 @@ loop-word-preserved c = record {
   ring = c.in_ok-state.ensures.ring c.loop-word.invariant.ring;
   crew = c.in_ok-state.ensures.crew c.loop-word.invariant.crew;
   parts = c.in_ok-state.ensures.parts c.loop-word.invariant.parts;
+  apart = c.in_ok-state.ensures.apart c.loop-word.invariant.apart;
 }
 
 pub returns-in_err-state-clause-value : goal.returns-in_err-state-clause-value

@@ -10,20 +10,20 @@ use Rattle.asp_crew.proofs.finish.finish.Goals as goal
 pub work_off_all-requires-clause-ready : goal.work_off_all-requires-clause-ready
 work_off_all-requires-clause-ready g c =
     let leased : IsLeased c.args.book.now c.lease.new.self =
-    leased-is c.args.book.now c.lease.new.self c.requires.idle (pool-fits c.args.mode c.args.book.now c.requires.task c.journal-lawful.ensures.lawful c.requires.fits)
+    leased-is c.args.book.now c.lease.new.self c.requires.idle (pool-fits c.args.book.now c.requires.task c.journal-lawful.ensures.lawful c.requires.fits)
     (c.in_ok-fuel.ensures.journal ∙ ap (λ (u : Units). with_events c.args.book.now (leased_out 0 u)) c.in_ok-fuel.ensures.fuel) in
-    ready-begins c.args.mode c.args.book.now c.lease.new.self c.in_ok-search.search c.in_ok-fuel.fuel c.requires.task leased c.in_ok-fuel.ensures.fuel
-    (ap (λ (s : Searching). s.program) c.in_ok-search.ensures.same ∙ sym c.requires.of) (ap (λ (s : Searching). s.mode) c.in_ok-search.ensures.same) (ap (λ (s : Searching). s.known) c.in_ok-search.ensures.same) (ap (λ (s : Searching). s.bound) c.in_ok-search.ensures.same)
+    ready-begins c.args.mode c.args.bound c.args.book.now c.lease.new.self c.in_ok-search.search c.in_ok-fuel.fuel c.requires.task c.requires.goal leased c.in_ok-fuel.ensures.fuel
+    (ap (λ (s : Searching). s.program) c.in_ok-search.ensures ∙ sym c.requires.of) (ap (λ (s : Searching). s.mode) c.in_ok-search.ensures) (ap (λ (s : Searching). s.known) c.in_ok-search.ensures) (ap (λ (s : Searching). s.bound) c.in_ok-search.ensures)
 
 pub work_off_all-requires-clause-alone : goal.work_off_all-requires-clause-alone
 work_off_all-requires-clause-alone g c =
-    (leased-is c.args.book.now c.lease.new.self c.requires.idle (pool-fits c.args.mode c.args.book.now c.requires.task c.journal-lawful.ensures.lawful c.requires.fits)
+    (leased-is c.args.book.now c.lease.new.self c.requires.idle (pool-fits c.args.book.now c.requires.task c.journal-lawful.ensures.lawful c.requires.fits)
     (c.in_ok-fuel.ensures.journal ∙ ap (λ (u : Units). with_events c.args.book.now (leased_out 0 u)) c.in_ok-fuel.ensures.fuel)).alone
 
 pub returns-clause-finishes : goal.returns-clause-finishes
 returns-clause-finishes g c =
     let leased : IsLeased c.args.book.now c.lease.new.self =
-    leased-is c.args.book.now c.lease.new.self c.requires.idle (pool-fits c.args.mode c.args.book.now c.requires.task c.journal-lawful.ensures.lawful c.requires.fits)
+    leased-is c.args.book.now c.lease.new.self c.requires.idle (pool-fits c.args.book.now c.requires.task c.journal-lawful.ensures.lawful c.requires.fits)
     (c.in_ok-fuel.ensures.journal ∙ ap (λ (u : Units). with_events c.args.book.now (leased_out 0 u)) c.in_ok-fuel.ensures.fuel) in
     record {
       task = task-after c.args.mode c.lease.new.self c.work_off_all.new.book c.back.new.self c.work_off_all.new.search c.work_off_all.new.fuel c.in_ok-unpaid.unpaid c.in_ok-unpaid.ensures.leaves leased.pool c.back.ensures ∙ leased.task;

@@ -1,4 +1,4 @@
-use Rattle.asp_crew.proofs.StepLaws.{may-step, decided, learnt, restarted, is-answer, answered, closed, unpaid}
+use Rattle.asp_crew.proofs.StepLaws.{may-step, answer-may, decided, learnt, restarted, is-answer, answered, closed, unpaid}
 use Rattle.asp_crew.proofs.leaf.advance.Goals as goal
 
 pub step-requires : goal.step-requires
@@ -15,7 +15,7 @@ returns-in-Restarted g c = restarted _ _ c.args.mode c.args.book.now c.args.sear
 
 pub record-requires : goal.record-requires
 record-requires g c = record {
-  task = c.requires.underway.ready.task;
+  may = answer-may _ _ c.args.mode c.args.book.now c.args.search.now c.step.new.search c.args.fuel.now c.step.new.fuel c.requires.underway _ c.in_ok-step.ensures.ok c.in-Answer.set c.in-Answer.is;
   answer = is-answer _ _ c.args.mode c.args.book.now c.args.search.now c.step.new.search c.args.fuel.now c.step.new.fuel c.requires.underway _ c.in_ok-step.ensures.ok c.in-Answer.set c.in-Answer.is;
   wanted = c.requires.wanted;
 }

@@ -9,7 +9,7 @@ pub cube-requires : goal.cube-requires
 cube-requires c = leaf-within (board c.args.book.now).nodes c.args.leaf (ap is_leaf c.requires.held)
 
 pub returns-clause-cube : goal.returns-clause-cube
-returns-clause-cube c = leaf-cube c.args.mode c.args.book.now c.args.leaf c.in_ok-cube.cube.items c.requires.task c.journal-lawful.ensures.lawful c.requires.held c.in_ok-cube.ensures
+returns-clause-cube c = leaf-cube c.args.book.now c.args.leaf c.in_ok-cube.cube.items c.requires.task c.journal-lawful.ensures.lawful c.requires.held c.in_ok-cube.ensures
 
 pub returns-clause-vars : goal.returns-clause-vars
-returns-clause-vars c = (leaf-cube c.args.mode c.args.book.now c.args.leaf c.in_ok-cube.cube.items c.requires.task c.journal-lawful.ensures.lawful c.requires.held c.in_ok-cube.ensures).variables
+returns-clause-vars c = (leaf-cube c.args.book.now c.args.leaf c.in_ok-cube.cube.items c.requires.task c.journal-lawful.ensures.lawful c.requires.held c.in_ok-cube.ensures).variables

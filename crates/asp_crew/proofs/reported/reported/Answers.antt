@@ -1,15 +1,5 @@
-use Rattle.std.proofs.Common.{refl, ap, ◌∙◌}
-use Rattle.asp_core.specs.Boards.{is_enough}
-use Rattle.asp_core.specs.Sorting.{sorted_once}
-use Rattle.asp_core.proofs.SortingLaws.{once-is}
-use Rattle.asp_crew_laws.specs.Reports.{end_by}
 use Rattle.asp_crew.proofs.ReportLaws.{reports}
 use Rattle.asp_crew.proofs.reported.reported.Goals as goal
 
 pub returns-clause-report : goal.returns-clause-report
-returns-clause-report c =
-    reports c.args.mode c.args.book _ c.end-state.result.0 c.requires.task c.requires.idle c.requires.over c.end-state.ensures.lawful (c.from_vec-2.ensures ∙ c.end-state.ensures.journal) c.end-state.ensures.state
-    (c.from_vec.ensures
-    ∙ once-is c.into_found-answers.result.0.items c.sort_unstable.new.self.items c.dedup.new.self.items c.sort_unstable.ensures.permutation c.sort_unstable.ensures.sorted c.dedup.ensures.filtered
-    ∙ ap sorted_once c.into_found-answers.ensures.answers)
-    c.into_found-answers.ensures.best (c.end_by-end.ensures ∙ ap (λ x. end_by x c.finished.result) c.enough.ensures ∙ ap (end_by (is_enough c.end-state.result.0)) c.finished.ensures.closed) c.leaves-leaves.ensures c.spent-spent.ensures c.end-state.ensures.fuel refl
+returns-clause-report c = reports c.args.mode c.args.book c.told.result c.requires.task c.told.ensures.lawful c.told.ensures.journal c.told.ensures.told c.told.ensures.second c.told.ensures.mode

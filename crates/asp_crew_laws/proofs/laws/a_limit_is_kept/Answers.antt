@@ -1,4 +1,4 @@
-use Rattle.asp_crew_laws.proofs.PlayedLaws.{exact, fewer, in-order, all-answers}
+use Rattle.asp_crew_laws.proofs.LimitLaws.{exact, fewer, in-order, all-answers}
 use Rattle.asp_crew_laws.proofs.laws.a_limit_is_kept.Goals as goal
 
 pub returns : goal.returns

@@ -5,7 +5,7 @@ use Rattle.asp_core.specs.declared.task.Task.{Task}
 use Rattle.asp_book.specs.Calls.{no_task}
 use Rattle.asp_team.proofs.JoinLaws.{still-idle}
 use Rattle.asp_team.proofs.TeamLaws.{all-may}
-use Rattle.asp_team.proofs.RunLaws.{all-back, all-home, book-task, run-in, report-is}
+use Rattle.asp_team.proofs.RunLaws.{all-back, all-home, book-task, run-begins, run-in, run-query, report-is}
 use Rattle.asp_team.proofs.many.worked.Goals as goal
 
 pub crew-lead-requires-clause-workers : goal.crew-lead-requires-clause-workers
@@ -27,7 +27,12 @@ dismissed-book-requires-clause-home g c = all-home c.in_ok-team.team.shared c.in
 
 pub work_off-requires-clause-task : goal.work_off-requires-clause-task
 work_off-requires-clause-task g c =
-    run-in c.args.compiled.now c.args.plan.ask c.args.plan.budget c.dismissed-book.result.0.task
+    run-query c.args.compiled.now c.args.plan.ask c.args.plan.budget c.dismissed-book.result.0.task
+    (book-task c.args.compiled.now c.args.plan.ask c.args.plan.budget c.dismissed-book.result.0 (view c.in_ok-team.team.lead.seat) (view c.crew-lead.result.seat) c.dismissed-book.ensures.task c.crew-lead.ensures.joins.about c.in_ok-team.ensures.team.about)
+
+pub work_off-requires-clause-goal : goal.work_off-requires-clause-goal
+work_off-requires-clause-goal g c =
+    run-begins c.args.compiled.now c.args.plan.ask c.args.plan.budget c.dismissed-book.result.0.task
     (book-task c.args.compiled.now c.args.plan.ask c.args.plan.budget c.dismissed-book.result.0 (view c.in_ok-team.team.lead.seat) (view c.crew-lead.result.seat) c.dismissed-book.ensures.task c.crew-lead.ensures.joins.about c.in_ok-team.ensures.team.about)
 
 pub work_off-requires-clause-of : goal.work_off-requires-clause-of

@@ -10,4 +10,4 @@ pub returns-in-Missing : goal.returns-in-Missing
 returns-in-Missing g c = rw c.in-Missing.is (rw (c.as_bytes-in-Missing.ensures.value, c.text-in-Missing.ensures) at c.write_both-in-Missing.ensures)
 
 pub returns-in-Rivals : goal.returns-in-Rivals
-returns-in-Rivals g c = rw c.in-Rivals.is c.write-in-Rivals.ensures
+returns-in-Rivals g c = rw c.in-Rivals.is (rw (c.as_bytes-in-Rivals.ensures.value, c.text-in-Rivals.ensures) at c.write_both-in-Rivals.ensures)

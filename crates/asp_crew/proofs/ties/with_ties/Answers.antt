@@ -1,0 +1,29 @@
+use Rattle.std.proofs.Common.{Option, sym, subst}
+use Rattle.std.specs.Prelude.{MatchOption}
+use Rattle.asp_crew_laws.specs.declared.report.Report.{Report}
+use Rattle.asp_crew_laws.specs.Reports.{IsReport, IsWhole}
+use Rattle.asp_crew_laws.proofs.PlayedLaws.{alone-reports}
+use Rattle.asp_crew.specs.Twice.{IsSecond}
+use Rattle.asp_crew.proofs.TieLaws.{joined-reports, joins-program, joins-units}
+use Rattle.asp_crew.proofs.ties.with_ties.Goals as goal
+
+pub joined-requires-clause-program : goal.joined-requires-clause-program
+joined-requires-clause-program g c =
+    joins-program c.args.compiled.now c.args.ask c.args.report c.in-Some.ties c.requires.report
+    (subst (λ (o : Option Report). MatchOption o (IsWhole c.args.ask.all_optima c.args.report.results.end c.args.report.results.best) (IsSecond c.args.compiled.now c.args.ask c.args.report)) c.in-Some.is c.in_ok-second.ensures.second)
+
+pub joined-requires-clause-units : goal.joined-requires-clause-units
+joined-requires-clause-units g c =
+    joins-units c.args.compiled.now c.args.ask c.args.report c.in-Some.ties
+    (subst (λ (o : Option Report). MatchOption o (IsWhole c.args.ask.all_optima c.args.report.results.end c.args.report.results.best) (IsSecond c.args.compiled.now c.args.ask c.args.report)) c.in-Some.is c.in_ok-second.ensures.second)
+
+pub returns-in-None-clause-report : goal.returns-in-None-clause-report
+returns-in-None-clause-report g c = λ units is.
+    alone-reports c.args.compiled.now c.args.ask units c.args.report is c.requires.second
+    (subst (λ (o : Option Report). MatchOption o (IsWhole c.args.ask.all_optima c.args.report.results.end c.args.report.results.best) (IsSecond c.args.compiled.now c.args.ask c.args.report)) c.in-None.is c.in_ok-second.ensures.second)
+
+pub returns-in-Some-clause-report : goal.returns-in-Some-clause-report
+returns-in-Some-clause-report g c = λ units is.
+    subst (IsReport c.args.compiled.now c.args.ask units) (sym c.joined.ensures)
+    (joined-reports c.args.compiled.now c.args.ask units c.args.report c.in-Some.ties c.requires.second
+    (subst (λ (o : Option Report). MatchOption o (IsWhole c.args.ask.all_optima c.args.report.results.end c.args.report.results.best) (IsSecond c.args.compiled.now c.args.ask c.args.report)) c.in-Some.is c.in_ok-second.ensures.second) is)
