@@ -3,7 +3,7 @@
 # make install     installs it with its manual and completion for bash, zsh and fish; PREFIX (/usr/local) and DESTDIR (none)
 # make uninstall   removes what that installed
 # make deb         builds a Debian package in build/
-# make check       the gate: every proof, every edit that must fail, every test, the documents and every example
+# make check       the gate: every proof, the edits that must fail, the documents, every test and every example
 # make edits       the edits that the gate leaves out; NAMES="asp_text asp_io" those of some crates
 # make clean       removes what was built
 

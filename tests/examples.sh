@@ -88,6 +88,32 @@ if [ -w /dev/full ]; then
     check "notes that can't be written" 65 "$wanted" "${PIPESTATUS[1]}" "$given"
 fi
 
+# Texts of the greatest length, 268,435,456 bytes, in which each byte is a line or all of them are one, and longer ones.
+most=268435456
+for byte in '\n' ' '; do
+    line=2
+    [ "$byte" = ' ' ] || line=$((most + 1))
+    echo "aspenum: line $line: not the header of aspif 1.0, which gringo writes and aspenum reads" > "$wanted"
+    head -c $most /dev/zero | tr '\0' "$byte" | "$program" > "$given" 2> "$notes"
+    check "the greatest length of '$byte'" 65 "$wanted" "${PIPESTATUS[2]}" "$notes"
+    echo 'aspenum: input too long' > "$wanted"
+    head -c $((most + 1)) /dev/zero | tr '\0' "$byte" | "$program" > "$given" 2> "$notes"
+    check "a byte more of '$byte'" 67 "$wanted" "${PIPESTATUS[2]}" "$notes"
+done
+
+# A million different atoms, far apart, and one more.
+million() {
+    echo 'asp 1 0 0'
+    seq 2000 2000 2000000000 | sed 's/.*/1 0 1 & 0 0/'
+    echo '6 2 -4000 2000000000'
+}
+echo 'aspenum: line 1000003: end of program missing' > "$wanted"
+million | "$program" > "$given" 2> "$notes"
+check "a million atoms" 65 "$wanted" "${PIPESTATUS[1]}" "$notes"
+echo 'aspenum: line 1000003: more than 1,000,000 different atoms' > "$wanted"
+{ million; echo '5 3 0'; } | "$program" > "$given" 2> "$notes"
+check "a million atoms and one" 65 "$wanted" "${PIPESTATUS[1]}" "$notes"
+
 # The counts of a run.
 printf 'Conflicts: 0\nLeaves: 1\nLog: 0\nDecisions: 1\nRestarts: 0\nKept: 0\nDropped: 0\nAtoms: 2\nBodies: 2\n' > "$wanted"
 "$program" --stats < examples/two_rules.aspif > "$given" 2> "$notes"

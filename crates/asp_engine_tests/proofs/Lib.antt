@@ -1,2 +1,0 @@
-mod AnalysisLaws
-mod StageLaws

@@ -1,5 +1,0 @@
-//! Tests of `asp_proof`.
-#![tactic(auto)]
-
-#[cfg(test)]
-mod texts;
