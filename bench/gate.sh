@@ -1,7 +1,8 @@
 #!/usr/bin/env bash
 # What the gate costs from nothing: runs it in a fresh clone of what is committed, and prints a table of the processor
 # time of each crate's proofs, tests and edits.
-# Usage: bench/gate.sh [--save FILE] [NAME..]     (the gate's `rt ci`, or that of these crates and those below them alone)
+# Usage: bench/gate.sh [--save FILE] [NAME..]     (the gate's `rt ci` and its tests of calls; or `rt ci` of these crates and
+# those below them alone)
 # `--anew` has rt take nothing that earlier runs kept on this machine, and it leaves that as it is: nothing has to be moved
 # aside. Whatever else runs here makes the processors slower, so have nothing else run.
 root=$(cd "$(dirname "$0")/.." && pwd) || exit 1
@@ -14,4 +15,8 @@ room=$(mktemp -d) || exit 1
 trap 'rm -rf "$room"' EXIT
 git clone -q --no-local "$root" "$room/aspenum" || exit 1
 cd "$room/aspenum" || exit 1
-python3 bench/gate.py "${save[@]}" rt ci --anew "$@"
+if [ $# -gt 0 ]; then
+    python3 bench/gate.py "${save[@]}" rt ci --anew "$@"
+else
+    python3 bench/gate.py "${save[@]}" bash -c 'rt ci --anew && tests/calls.sh'
+fi
