@@ -119,12 +119,7 @@ fn advance<P: Propagator>(
 }
 
 // Tells what was counted, and the cost of the best answer where one is sought.
-fn tell<P: Propagator, W: Watch>(
-    mode: Mode,
-    search: &Search<'_, P>,
-    counts: &Counts,
-    watch: &mut W,
-)
+fn tell<P: Propagator, W: Watch>(mode: Mode, search: &Search<'_, P>, counts: &Counts, watch: &mut W)
     ensures { W.IsAfter watch.old watch.new }
 {
     match mode {
