@@ -4,6 +4,7 @@ use crate::reports::finished;
 use asp_team::gate::OpenGate;
 use asp_team::many::{Deeds, Plan, solve};
 use asp_team::report::Report;
+use asp_team::watch::Unwatched;
 use asp_vars::compiled::Compiled;
 use std::alloc::Global;
 use std::process::Abort;
@@ -24,7 +25,8 @@ fn run<R: Threads + Wait + Sync + Abort>(
         proof: false,
     };
     let mut deeds = Deeds::new(heap);
-    solve(rt, heap, compiled, plan, &OpenGate, &mut deeds).expect(rt, "memory")
+    let (report, _) = solve(rt, heap, compiled, plan, &OpenGate, &mut deeds, Unwatched);
+    report.expect(rt, "memory")
 }
 
 // Whether it has all six answers, or no unit is left and a conflict is unpaid.

@@ -6,6 +6,7 @@ use crate::reports::{finished, has_closed};
 use asp_team::gate::Gate;
 use asp_team::many::{Deeds, Plan, solve};
 use asp_team::report::Report;
+use asp_team::watch::Unwatched;
 use asp_vars::compiled::Compiled;
 use std::alloc::Global;
 use std::process::Abort;
@@ -71,7 +72,9 @@ fn run<R: Threads + Wait + Sync + Abort, G: Gate + Sync>(
     requires { (1 ≤ workers) × (workers ≤ 64) }
 {
     let mut deeds = Deeds::new(heap);
-    solve(rt, heap, compiled, of_workers(workers), gate, &mut deeds).expect(rt, "memory")
+    let plan = of_workers(workers);
+    let (report, _) = solve(rt, heap, compiled, plan, gate, &mut deeds, Unwatched);
+    report.expect(rt, "memory")
 }
 
 // Everybody came in time, and so many answers were found.

@@ -5,6 +5,7 @@ use asp_team::gate::OpenGate;
 use asp_team::halt::Halt;
 use asp_team::many::{Deeds, Plan, solve_with};
 use asp_team::report::Report;
+use asp_team::watch::Unwatched;
 use asp_vars::compiled::Compiled;
 use std::alloc::Global;
 use std::process::Abort;
@@ -52,7 +53,10 @@ fn run<R: Threads + Wait + Sync + Abort, H: Halt + Sync>(
         proof: false,
     };
     let mut deeds = Deeds::new(heap);
-    solve_with(rt, heap, compiled, plan, &OpenGate, halt, &mut deeds).expect(rt, "memory")
+    let (report, _) = solve_with(
+        rt, heap, compiled, plan, &OpenGate, halt, &mut deeds, Unwatched,
+    );
+    report.expect(rt, "memory")
 }
 
 // Whether so many answers are found, whichever worker is stopped at whichever of its first steps.
