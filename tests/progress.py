@@ -3,10 +3,11 @@
 
     progress.py PROGRAM
 
-Programs of search.py, and an enumeration, run with the option and without it: standard output and the status are the same. With two
-workers there is no line. Each
+Programs of search.py, and an enumeration, run with the option and without it: standard output and the status are the same. Each
 line stands beside the one before it: the conflicts or the answers have doubled, or in an optimisation a cheaper answer was
-found; and between the last line and the counts of --stats nothing that was due is missing."""
+found; and between the last line and the counts of --stats nothing that was due is missing. With two and with four workers there
+are lines too, where the run is long enough, whose conflicts and answers don't fall, and standard output is the same where it must
+be."""
 import re
 import subprocess
 import sys
@@ -17,25 +18,28 @@ LINE = re.compile(r"Progress: conflicts (\d+), decisions (\d+), restarts (\d+), 
 COUNT = re.compile(r"(\w+): (\d+)")
 FREE = f"asp 1 0 0\n1 1 12 {' '.join(map(str, range(1, 13)))} 0 0\n0\n".encode()
 
-# a program, the words, whether it is an optimisation, and the fewest lines that it must give
+# a program, the words, whether it is an optimisation, and the fewest lines that it must give to one worker and to several
 ROWS = [
-    ("3-SAT of 200", random_sat(200, 4.8, 2), [], False, 11),
-    ("trust of 24", cheapest_trust(24, 6, 4, 3), [], True, 10),
-    ("12 free atoms", FREE, [], False, 13),
-    ("12 free atoms, a budget", FREE, ["--budget", "0"], False, 13),
+    ("3-SAT of 200", random_sat(200, 4.8, 2), [], False, 11, 1),
+    ("trust of 24", cheapest_trust(24, 6, 4, 3), [], True, 10, 1),
+    ("12 free atoms", FREE, [], False, 13, 0),
+    ("12 free atoms, a budget", FREE, ["--budget", "0"], False, 13, 0),
 ]
 
 
-def faults(name, text, words, optimum, least):
+def faults(name, text, words, optimum, least, crew_least):
     plain = subprocess.run([sys.argv[1], *words], input=text, capture_output=True, timeout=120)
     told = subprocess.run([sys.argv[1], "--progress", "--stats", *words], input=text, capture_output=True, timeout=120)
     if (plain.stdout, plain.returncode) != (told.stdout, told.returncode):
         yield "another output or status"
     if plain.stderr:
         yield "notes without the option"
-    crew = subprocess.run([sys.argv[1], "--progress", "--workers", "2", *words], input=text, capture_output=True, timeout=120)
-    if crew.stderr:
-        yield "notes of two workers"
+    for workers in ("2", "4"):
+        crew = subprocess.run([sys.argv[1], "--progress", "--workers", workers, *words], input=text, capture_output=True, timeout=120)
+        if crew.returncode != plain.returncode or not optimum and crew.stdout != plain.stdout:
+            yield f"another output or status of {workers} workers"
+        for fault in crew_faults([LINE.fullmatch(line) for line in crew.stderr.decode().splitlines()], crew_least):
+            yield f"{fault}, of {workers} workers"
     notes = told.stderr.decode().splitlines()
     lines = [LINE.fullmatch(line) for line in notes]
     count = next((it for it, line in enumerate(lines) if not line), len(lines))
@@ -56,6 +60,18 @@ def faults(name, text, words, optimum, least):
         last, cost = now, line[6] and [int(it) for it in line[6].split()]
     if stats.get("Conflicts", 0) >= max(2 * last[0], 1) or stats.get("Decisions", -1) < last[1] or stats.get("Restarts", -1) < last[2]:
         yield f"the counts don't follow on the last line: {stats}"
+
+
+def crew_faults(lines, least):
+    """What is wrong with the lines of several workers: how early each comes is theirs to tell."""
+    if not all(lines):
+        yield "another note"
+    elif len(lines) < least:
+        yield f"{len(lines)} lines of {least}"
+    else:
+        told = [(int(line[1]), int(line[5])) for line in lines]
+        if any(was[0] > now[0] or was[1] > now[1] or was == now for was, now in zip(told, told[1:])):
+            yield "a count fell"
 
 
 def main():

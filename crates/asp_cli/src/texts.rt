@@ -28,7 +28,7 @@ Options, each at most once, its value as the next word or behind '=':\n\
 \x20 --workers N    threads that search, 1 to 64; the default is 1\n\
 \x20 --stats        write counts of the run to standard error\n\
 \x20 --progress     write a line to standard error when the conflicts or the answers have\n\
-\x20                doubled, and for each cheaper answer; none while several threads search\n\
+\x20                doubled, and for each cheaper answer\n\
 \x20 --proof        write the proof of a finished run, for aspcheck, in place of its results\n\
 \x20 --split N      divide the program and solve nothing: write at most N lines, 1 to 100000,\n\
 \x20                each the assumptions of one part; not beside --proof\n\

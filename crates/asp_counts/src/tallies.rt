@@ -34,19 +34,15 @@ impl Tallies {
         })
     }
 
-    /// The worker of this number, from 1 on, did so much. Another number tells nothing.
-    pub fn tell<R: Wait>(&self, rt: &R, worker: u32, counts: &Counts) {
+    /// The worker of this number, from 1 on, did so much; another number tells nothing. What all of them did together, as far
+    /// as they have told.
+    pub fn tell<R: Wait>(&self, rt: &R, worker: u32, counts: &Counts) -> Counts {
         let mut guard = self.workers.lock(rt);
         let all = &mut *guard;
         if let Some(one) = all.get_mut((worker as usize).wrapping_sub(1)) {
             one.counts = *counts;
         }
-    }
-
-    /// What all of them did together.
-    pub fn sum<R: Wait>(&self, rt: &R) -> Counts {
-        let guard = self.workers.lock(rt);
-        sum_of(guard.as_slice())
+        sum_of(all.as_slice())
     }
 
     /// What each of them did, in the order of their numbers.

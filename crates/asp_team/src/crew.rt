@@ -7,6 +7,7 @@ ghost use Rattle.asp_worker.specs.Seats.{IsIdle, IsReady, MayWork, Worked};
 ghost use Rattle.asp_team.specs.Joined.{CameHome, IsLead, Joins, MayJoin, StayHome};
 
 use crate::lead::Lead;
+use asp_counts::watch::{Unwatched, Watch};
 use asp_vars::compiled::Compiled;
 use asp_worker::gate::Gate;
 use asp_worker::halt::Halt;
@@ -104,7 +105,69 @@ fn beside<R: Threads + Wait + Sync, G: Gate + Sync, H: Halt + Sync>(
     let this = move || -> Worker
         requires { MayWork compiled.now shared.now worker }
         ensures { Worked shared.entry.now worker result }
-    { work(rt, shared, compiled, gate, halt, worker) };
+    { work(rt, shared, compiled, gate, halt, worker, &mut Unwatched) };
     let (lead, done) = join(rt, others, this);
     joined(shared, lead, done)
+}
+
+// A worker's work, with a watch that comes back.
+fn watched<R: Wait, G: Gate, H: Halt, W: Watch + Drop>(
+    rt: &R,
+    shared: &Shared,
+    compiled: &Compiled,
+    gate: &G,
+    halt: &H,
+    worker: Worker,
+    mut watch: W,
+) -> (Worker, W)
+    requires { MayWork compiled.now shared.now worker }
+    ensures work { Worked shared.now worker result.0 }
+    ensures heard { W.IsAfter watch result.1 }
+{
+    let done = work(rt, shared, compiled, gate, halt, worker, &mut watch);
+    (done, watch)
+}
+
+/// The same, where the watch hears what all did, from the worker that works in this thread. It comes back.
+pub fn crew_watched<R: Threads + Wait + Sync, G: Gate + Sync, H: Halt + Sync, W: Watch + Drop>(
+    rt: &R,
+    shared: &Shared,
+    compiled: &Compiled,
+    gate: &G,
+    halt: &H,
+    lead: Lead,
+    mut workers: Vec<Worker>,
+    watch: W,
+) -> (Lead, W)
+    requires lead { IsLead shared.now lead }
+    requires workers { All (MayJoin compiled.now shared.now (view lead.seat).about) workers.items }
+    ensures lead { IsLead shared.now result.0 }
+    ensures joins { Joins (view lead.seat) (view result.0.seat) (length workers.items) }
+    ensures pages_join { Joins (view lead.pages) (view result.0.pages) (length workers.items) }
+    ensures stay { StayHome (view lead.seat) (view result.0.seat) }
+    ensures came { All (CameHome (view result.0.seat)) workers.items }
+    ensures heard { W.IsAfter watch result.1 }
+{
+    match workers.pop() {
+        None => (lead, watch),
+        Some(worker) => {
+            let others = move || -> Lead
+                requires sync { IsSync R.row × IsSync G.row × IsSync H.row }
+                requires lead { IsLead shared.now lead }
+                requires workers { All (MayJoin compiled.now shared.now (view lead.seat).about) workers.items }
+                ensures lead { IsLead shared.entry.now result }
+                ensures joins { Joins (view lead.seat) (view result.seat) (length workers.items) }
+                ensures pages_join { Joins (view lead.pages) (view result.pages) (length workers.items) }
+                ensures stay { StayHome (view lead.seat) (view result.seat) }
+                ensures came { All (CameHome (view result.seat)) workers.items }
+            { crew(rt, shared, compiled, gate, halt, lead, workers) };
+            let this = move || -> (Worker, W)
+                requires { MayWork compiled.now shared.now worker }
+                ensures work { Worked shared.entry.now worker result.0 }
+                ensures heard { W.IsAfter watch result.1 }
+            { watched(rt, shared, compiled, gate, halt, worker, watch) };
+            let (lead, (done, watch)) = join(rt, others, this);
+            (joined(shared, lead, done), watch)
+        }
+    }
 }

@@ -4,20 +4,20 @@ ghost use Rattle.asp_vault.specs.Seats.{view};
 ghost use Rattle.asp_book.specs.Books.{board};
 ghost use Rattle.asp_crew_laws.specs.Proofs.{HasProof};
 ghost use Rattle.asp_crew_laws.specs.Reports.{IsReport, IsIdle as IsIdleBoard};
-ghost use Rattle.asp_crew_laws.specs.Runs.{asks};
+ghost use Rattle.asp_crew_laws.specs.Runs.{asks, task_of};
 ghost use Rattle.asp_crew_laws.specs.Working.{MayBegin};
 ghost use Rattle.asp_crew.specs.Running.{Finishes, HasNoQuery};
 ghost use Rattle.asp_worker.specs.Seats.{IsIdle};
 ghost use Rattle.asp_team.specs.Joined.{IsHome, IsLead};
-ghost use Rattle.asp_team.specs.Teams.{IsAllBack};
+ghost use Rattle.asp_team.specs.Teams.{IsAllBack, IsTeam};
 
-use crate::crew::crew;
+use crate::crew::crew_watched;
 use crate::lead::Lead;
 use crate::team::{Team, gathered};
 use asp_book::book::Book;
 use asp_counts::counts::Counts;
 use asp_counts::tallies::{Tallies, WorkerCounts, sum_of};
-use asp_counts::watch::Unwatched;
+use asp_counts::watch::Watch;
 use asp_crew::finish::finish;
 use asp_crew::proofs::with_proof;
 use asp_crew::reported::reported;
@@ -108,12 +108,13 @@ fn dismissed(shared: Shared, lead: Lead) -> (Book, u32, Tallies, Scroll)
 }
 
 // What was left open is worked off. The recorder gets what is found, if a proof is wanted.
-fn work_off<'a>(
+fn work_off<'a, W: Watch>(
     alloc: Global,
     compiled: &'a Compiled,
     plan: Plan,
     book: &mut Book,
     counts: &mut Counts,
+    watch: &mut W,
     recorder: &'a Recorder,
 ) -> Result<Option<Conflict>, AllocError>
     requires task { HasNoQuery book.old.task }
@@ -121,7 +122,8 @@ fn work_off<'a>(
     requires of { book.old.task.program ≡ compiled.now }
     requires fits { book.old.task.budget < 2 ^ 64 }
     requires idle { IsIdleBoard (board book.old) }
-    ensures { IfOk result (Finishes book.old book.new) }
+    ensures finishes { IfOk result (Finishes book.old book.new) }
+    ensures heard { W.IsAfter watch.old watch.new }
 {
     let recorder = if plan.proof { Some(recorder) } else { None };
     let mut propagators = Propagators::new(alloc, compiled)?;
@@ -134,13 +136,112 @@ fn work_off<'a>(
         book,
         propagators,
         counts,
-        &mut Unwatched,
+        watch,
         recorder,
     )
 }
 
-// A run, and what was written down in it.
-fn worked<R: Threads + Wait + Sync, G: Gate + Sync, H: Halt + Sync>(
+// What the workers left open is worked off, once they have come back. The report, and what was written down.
+fn ended<W: Watch>(
+    alloc: Global,
+    compiled: &Compiled,
+    plan: Plan,
+    shared: Shared,
+    lead: Lead,
+    deeds: &mut Deeds,
+    watch: &mut W,
+) -> Result<(Report, Recorder), AllocError>
+    requires lead { IsLead shared lead }
+    requires all { IsAllBack (view lead.seat) × IsAllBack (view lead.pages) }
+    requires idle { IsIdle (view lead.seat) }
+    requires home { (n : ℕ) → 0 < n → n ≤ (view lead.seat).splits → IsHome (view lead.seat) n }
+    requires about { (view lead.seat).about ≡ Some (task_of compiled.now plan.ask plan.budget) }
+    ensures report { IfOk result (λ r. IsReport compiled.now (asks plan.ask.mode plan.ask.models) plan.budget r.0) }
+    ensures second { IfOk result (λ r. r.0.second ≡ None) }
+    ensures proof { IfOk result (λ r. r.0.proof ≡ None) }
+    ensures heard { W.IsAfter watch.old watch.new }
+{
+    let short = lead.short;
+    let (mut book, log, tallies, scroll) = dismissed(shared, lead);
+    *deeds = Deeds::of(tallies);
+    let recorder = scroll.into_recorder(alloc);
+    let unpaid = work_off(
+        alloc,
+        compiled,
+        plan,
+        &mut book,
+        &mut deeds.sum,
+        watch,
+        &recorder,
+    )?;
+    Ok((reported(plan.ask.mode, book, unpaid, log, short), recorder))
+}
+
+// The same, with the proof if one is wanted, and else a second search where all optima are asked for.
+fn finished<W: Watch>(
+    alloc: Global,
+    compiled: &Compiled,
+    plan: Plan,
+    shared: Shared,
+    lead: Lead,
+    deeds: &mut Deeds,
+    watch: &mut W,
+) -> Result<Report, AllocError>
+    requires lead { IsLead shared lead }
+    requires all { IsAllBack (view lead.seat) × IsAllBack (view lead.pages) }
+    requires idle { IsIdle (view lead.seat) }
+    requires home { (n : ℕ) → 0 < n → n ≤ (view lead.seat).splits → IsHome (view lead.seat) n }
+    requires about { (view lead.seat).about ≡ Some (task_of compiled.now plan.ask plan.budget) }
+    requires apart { plan.proof ≡ true → plan.ask.all_optima ≡ false }
+    ensures report { IfOk result (IsReport compiled.now plan.ask plan.budget) }
+    ensures proof { IfOk result (HasProof plan.proof) }
+    ensures heard { W.IsAfter watch.old watch.new }
+{
+    let (report, recorder) = ended(alloc, compiled, plan, shared, lead, deeds, watch)?;
+    if plan.proof {
+        with_proof(alloc, report, recorder)
+    } else {
+        with_ties(alloc, compiled, plan.ask, report, &mut deeds.sum, watch)
+    }
+}
+
+// A run of workers who are ready. The watch comes back, whatever comes of it.
+fn worked<R: Threads + Wait + Sync, G: Gate + Sync, H: Halt + Sync, W: Watch + Drop>(
+    rt: &R,
+    compiled: &Compiled,
+    plan: Plan,
+    team: Team,
+    gate: &G,
+    halt: &H,
+    deeds: &mut Deeds,
+    watch: W,
+) -> (Result<Report, AllocError>, W)
+    requires team { IsTeam compiled.now plan.ask plan.budget team }
+    requires apart { plan.proof ≡ true → plan.ask.all_optima ≡ false }
+    ensures report { IfOk result.0 (IsReport compiled.now plan.ask plan.budget) }
+    ensures proof { IfOk result.0 (HasProof plan.proof) }
+    ensures heard { W.IsAfter watch result.1 }
+{
+    let Team {
+        shared,
+        lead,
+        workers,
+    } = team;
+    let alloc = shared.alloc;
+    let (lead, mut watch) = crew_watched(rt, &shared, compiled, gate, halt, lead, workers, watch);
+    let report = finished(alloc, compiled, plan, shared, lead, deeds, &mut watch);
+    (report, watch)
+}
+
+/// A run of so many workers, 1 to 64, which pass the gate before each path and are stopped by `halt`. What it did is in
+/// `deeds` then. The watch hears now and then what all did so far, from the worker that works in this thread, and what the
+/// main thread does at the end; it comes back.
+///
+/// The root is split between the workers before they begin. What they leave open, since they were stopped or short of memory
+/// or units, the main thread works off when all have come back, until as many answers as asked for were found. A second
+/// search, where all optima are asked for, is the main thread's alone, and the watch hears of it too. Nothing says that a
+/// worker comes back. Want of memory in the main thread is the one error.
+pub fn solve_with<R: Threads + Wait + Sync, G: Gate + Sync, H: Halt + Sync, W: Watch + Drop>(
     rt: &R,
     alloc: Global,
     compiled: &Compiled,
@@ -148,13 +249,15 @@ fn worked<R: Threads + Wait + Sync, G: Gate + Sync, H: Halt + Sync>(
     gate: &G,
     halt: &H,
     deeds: &mut Deeds,
-) -> Result<(Report, Recorder), AllocError>
-    requires { (1 ≤ plan.workers) × (plan.workers ≤ 64) }
-    ensures report { IfOk result (λ r. IsReport compiled.now (asks plan.ask.mode plan.ask.models) plan.budget r.0) }
-    ensures second { IfOk result (λ r. r.0.second ≡ None) }
-    ensures proof { IfOk result (λ r. r.0.proof ≡ None) }
+    watch: W,
+) -> (Result<Report, AllocError>, W)
+    requires count { (1 ≤ plan.workers) × (plan.workers ≤ 64) }
+    requires apart { plan.proof ≡ true → plan.ask.all_optima ≡ false }
+    ensures report { IfOk result.0 (IsReport compiled.now plan.ask plan.budget) }
+    ensures proof { IfOk result.0 (HasProof plan.proof) }
+    ensures heard { W.IsAfter watch result.1 }
 {
-    let team = gathered(
+    match gathered(
         rt,
         alloc,
         compiled,
@@ -162,70 +265,27 @@ fn worked<R: Threads + Wait + Sync, G: Gate + Sync, H: Halt + Sync>(
         plan.budget,
         plan.workers,
         plan.proof,
-    )?;
-    let Team {
-        shared,
-        lead,
-        workers,
-    } = team;
-    let lead = crew(rt, &shared, compiled, gate, halt, lead, workers);
-    let short = lead.short;
-    let (mut book, log, tallies, scroll) = dismissed(shared, lead);
-    *deeds = Deeds::of(tallies);
-    let recorder = scroll.into_recorder(alloc);
-    let unpaid = work_off(alloc, compiled, plan, &mut book, &mut deeds.sum, &recorder)?;
-    Ok((reported(plan.ask.mode, book, unpaid, log, short), recorder))
-}
-
-/// A run of so many workers, 1 to 64, which pass the gate before each path and are stopped by `halt`. What it did is in
-/// `deeds` then.
-///
-/// The root is split between the workers before they begin. What they leave open, since they were stopped or short of memory
-/// or units, the main thread works off when all have come back, until as many answers as asked for were found. A second
-/// search, where all optima are asked for, is the main thread's alone. Nothing says that a worker comes back. Want of memory
-/// in the main thread is the one error.
-pub fn solve_with<R: Threads + Wait + Sync, G: Gate + Sync, H: Halt + Sync>(
-    rt: &R,
-    alloc: Global,
-    compiled: &Compiled,
-    plan: Plan,
-    gate: &G,
-    halt: &H,
-    deeds: &mut Deeds,
-) -> Result<Report, AllocError>
-    requires count { (1 ≤ plan.workers) × (plan.workers ≤ 64) }
-    requires apart { plan.proof ≡ true → plan.ask.all_optima ≡ false }
-    ensures report { IfOk result (IsReport compiled.now plan.ask plan.budget) }
-    ensures proof { IfOk result (HasProof plan.proof) }
-{
-    let (report, recorder) = worked(rt, alloc, compiled, plan, gate, halt, deeds)?;
-    if plan.proof {
-        with_proof(alloc, report, recorder)
-    } else {
-        with_ties(
-            alloc,
-            compiled,
-            plan.ask,
-            report,
-            &mut deeds.sum,
-            &mut Unwatched,
-        )
+    ) {
+        Err(error) => (Err(error), watch),
+        Ok(team) => worked(rt, compiled, plan, team, gate, halt, deeds, watch),
     }
 }
 
 /// A run of so many workers, 1 to 64, none of whom is stopped. A proof and all optima are not asked for together.
-pub fn solve<R: Threads + Wait + Sync, G: Gate + Sync>(
+pub fn solve<R: Threads + Wait + Sync, G: Gate + Sync, W: Watch + Drop>(
     rt: &R,
     alloc: Global,
     compiled: &Compiled,
     plan: Plan,
     gate: &G,
     deeds: &mut Deeds,
-) -> Result<Report, AllocError>
+    watch: W,
+) -> (Result<Report, AllocError>, W)
     requires count { (1 ≤ plan.workers) × (plan.workers ≤ 64) }
     requires apart { plan.proof ≡ true → plan.ask.all_optima ≡ false }
-    ensures report { IfOk result (IsReport compiled.now plan.ask plan.budget) }
-    ensures proof { IfOk result (HasProof plan.proof) }
+    ensures report { IfOk result.0 (IsReport compiled.now plan.ask plan.budget) }
+    ensures proof { IfOk result.0 (HasProof plan.proof) }
+    ensures heard { W.IsAfter watch result.1 }
 {
-    solve_with(rt, alloc, compiled, plan, gate, &NoHalt, deeds)
+    solve_with(rt, alloc, compiled, plan, gate, &NoHalt, deeds, watch)
 }

@@ -242,6 +242,10 @@ runs-done given l l' r r' h h' w w' p o ready done = go given.split refl done
     go None asked d = runs-ready given l l' r r' h h' w w' p o asked ready d
     go (Some most) asked d = runs-parted given l l' r r' h h' w w' p most o asked ready d
 
+-- the units of a report are of its program
+pub paid-of : {E : Type 0} (p : Program) (ask : Ask) (units : ℕ) (s : Result Report E) (r : Report) → s ≡ Ok r → IfOk s (IsReport p ask units) → r.paid.program ≡ p
+paid-of {E = E} p ask units s r is has = (subst (λ (x : Result Report E). IfOk x (IsReport p ask units)) is has).program
+
 pub second-false : (a b : Bool) → (a || b) ≡ false → b ≡ false
 second-false true b e = absurd cc
 second-false false b e = e

@@ -4,7 +4,7 @@ use Rattle.asp_crew_laws.specs.declared.report.Report.{Report}
 use Rattle.asp_counts.specs.declared.counts.Counts.{Counts}
 use Rattle.asp_counts.specs.declared.tallies.WorkerCounts.{WorkerCounts}
 use Rattle.asp_top.specs.declared.counts.What.{What}
-use Rattle.asp_top.specs.declared.counts.What.TheVariants.{Spent, Leaves, Log, Decisions, Restarts, Kept, Dropped, Worker, ItsConflicts, ItsDecisions, ItsRestarts, ItsAnswers, ItsKept, ItsDropped, Atoms, Bodies, SoFarConflicts, SoFarDecisions, SoFarRestarts, SoFarKept, SoFarAnswers}
+use Rattle.asp_top.specs.declared.counts.What.TheVariants.{Spent, Leaves, Log, Decisions, Restarts, Kept, Dropped, Worker, ItsConflicts, ItsDecisions, ItsRestarts, ItsAnswers, ItsKept, ItsDropped, Atoms, Bodies, Loops, SoFarConflicts, SoFarDecisions, SoFarRestarts, SoFarKept, SoFarAnswers}
 use Rattle.asp_top.specs.declared.counts.Item.{Item}
 use Rattle.asp_top.specs.declared.counts.Tally.{Tally}
 
@@ -26,6 +26,7 @@ label_of ItsKept = codes ", kept "
 label_of ItsDropped = codes ", dropped "
 label_of Atoms = codes "\nAtoms: "
 label_of Bodies = codes "\nBodies: "
+label_of Loops = codes "\nLoops: "
 label_of SoFarConflicts = codes "Progress: conflicts "
 label_of SoFarDecisions = codes ", decisions "
 label_of SoFarRestarts = codes ", restarts "
@@ -56,6 +57,10 @@ worker_items w =
 -- of the program
 abbrev pub program_items : Tally → List Item
 program_items t = count_of Atoms t.atoms ∷ count_of Bodies t.bodies ∷ []
+
+-- of its components with a loop
+abbrev pub loop_items : ℕ → List Item
+loop_items loops = count_of Loops loops ∷ []
 
 -- the counts of a run that goes on
 abbrev pub told_items : Counts → List Item

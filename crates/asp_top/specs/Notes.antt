@@ -9,7 +9,7 @@ use Rattle.asp_top.specs.declared.status.Outcome.{Outcome}
 use Rattle.asp_top.specs.declared.status.Status.{Status}
 use Rattle.asp_top.specs.declared.counts.Tally.{Tally}
 use Rattle.asp_top.specs.declared.counts.Item.{Item}
-use Rattle.asp_top.specs.Counts.{item_text, program_items, report_items, search_items, worker_items}
+use Rattle.asp_top.specs.Counts.{item_text, loop_items, program_items, report_items, search_items, worker_items}
 use Rattle.asp_top.specs.Usage.{usage_text}
 use Rattle.asp_top.specs.Faults.{fault_text}
 use Rattle.asp_top.specs.declared.status.Status.TheVariants.{All, NoModel, Partial, Unknown, Enough, Help, Memory, Usage, Refused, ReadFault, TooLong, WriteFault, Parts}
@@ -43,9 +43,18 @@ worker_text w = items_text (worker_items w)
 abbrev pub workers_text : List WorkerCounts → List ℕ
 workers_text ws = flat_map worker_text ws
 
+-- how many components of the program have a loop, where that was counted
+abbrev pub loops_text : Option ℕ → List ℕ
+loops_text None = []
+loops_text (Some loops) = items_text (loop_items loops)
+
+-- what the program has, a line each
+abbrev pub program_text : Tally → List ℕ
+program_text t = items_text (program_items t) ++ loops_text t.loops
+
 -- the counts of a run, a line each
 abbrev pub stats_of : Tally → Report → List ℕ
-stats_of t r = items_text (report_items r) ++ (items_text (search_items t.search) ++ (workers_text t.workers ++ (items_text (program_items t) ++ codes "\n")))
+stats_of t r = items_text (report_items r) ++ (items_text (search_items t.search) ++ (workers_text t.workers ++ (program_text t ++ codes "\n")))
 
 abbrev pub counts_of : Tally → Option Report → List ℕ
 counts_of t None = []

@@ -29,6 +29,7 @@ use Rattle.asp_top.specs.declared.status.Status.{Status}
 use Rattle.asp_top.specs.declared.status.Status.TheVariants.{All, NoModel, Partial, Unknown, Enough, Help, Memory, Usage, Refused, ReadFault, TooLong, WriteFault, Parts}
 use Rattle.asp_top.specs.declared.status.Outcome.{Outcome}
 use Rattle.asp_top.specs.declared.counts.Tally.{Tally}
+use Rattle.asp_top.specs.Loops.{HasLoops}
 use Rattle.asp_top.specs.Meaning.{has_model, mode_of, status_for}
 use Rattle.asp_top.specs.Notes.{IsNoted, is_answered, note_of, notes_of}
 use Rattle.asp_top.specs.Parting.{AreParts, Divides}
@@ -277,18 +278,20 @@ RunsOn (options given) a o = Runs given a o
 abbrev pub is_alone : Options → Bool
 is_alone given = (given.workers == 1) || is_some given.split
 
--- the atoms of the report's program, and the different bodies of its rules in force; workers only where some were started
+-- the atoms of the report's program, the different bodies of its rules in force, and where they are counted its components with a
+-- loop; workers only where some were started
 pub record IsCounted (alone : Bool) (t : Tally) (r : Report) : Type 0 where
   pub atoms : t.atoms ≡ length (atoms_of r.paid.program)
   pub bodies : t.bodies ≡ length (bodies_of r.paid.program)
+  pub loops : IfSome t.loops (HasLoops r.paid.program)
   pub workers : alone ≡ true → t.workers ≡ []
 
--- What the notes get of a run after the words: lines while it goes on, where they are asked for and one search does it all, then the
--- line of its status, and the counts, where they are asked for
+-- What the notes get of a run after the words: lines while it goes on, where they are asked for, then the line of its status, and the
+-- counts, where they are asked for
 pub record NotesRun (alone : Bool) (given : Options) (held held' : Option (List ℕ)) (faults faults' : ℕ) (o : Outcome) : Type 0 where
   pub tally : Tally
   pub counted : IfSome o.report (IsCounted alone tally)
-  pub told : IsTold (alone && given.progress) held held' faults faults' (notes_of given.stats tally o)
+  pub told : IsTold given.progress held held' faults faults' (notes_of given.stats tally o)
 
 -- what the notes get of a run whose words give this
 abbrev pub NotesOn : Given → Option (List ℕ) → Option (List ℕ) → ℕ → ℕ → Outcome → Type 0

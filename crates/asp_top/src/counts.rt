@@ -1,10 +1,10 @@
 //! Numbers with their names.
-ghost use Rattle.std.specs.Prelude.{◌≡◌, [], length};
+ghost use Rattle.std.specs.Prelude.{◌≡◌, None, [], length};
 ghost use Rattle.std.specs.List.{flat_map};
 ghost use Rattle.asp_model.specs.Models.{atoms_of};
 ghost use Rattle.asp_vars.specs.Numbering.{bodies_of};
 ghost use Rattle.asp_buffer.specs.Out.{Puts, out};
-ghost use Rattle.asp_top.specs.Counts.{item_text, label_of, program_items, report_items, search_items, told_items, worker_items};
+ghost use Rattle.asp_top.specs.Counts.{item_text, label_of, loop_items, program_items, report_items, search_items, told_items, worker_items};
 ghost use Rattle.asp_top.specs.Progress.{nothing};
 
 use asp_buffer::{Waiting, put, put_number};
@@ -36,6 +36,7 @@ pub enum What {
     ItsDropped,
     Atoms,
     Bodies,
+    Loops,
     SoFarConflicts,
     SoFarDecisions,
     SoFarRestarts,
@@ -72,33 +73,44 @@ pub struct Tally {
     pub atoms: u64,
     /// The distinct bodies of its rules in force.
     pub bodies: u64,
+    /// The components of its positive dependencies that have a loop, where they are counted.
+    pub loops: Option<u64>,
 }
 
 impl Tally {
     /// Nothing yet.
     pub fn new(alloc: Global) -> Tally
-        ensures { result ≡ record { search = nothing; workers = []; atoms = 0; bodies = 0 } }
+        ensures { result ≡ record { search = nothing; workers = []; atoms = 0; bodies = 0; loops = None } }
     {
         Tally {
             search: Counts::new(),
             workers: Seq::from_vec(Vec::new(alloc)),
             atoms: 0,
             bodies: 0,
+            loops: None,
         }
     }
 
-    /// What is counted of this program, what the searches did together, and what each worker did.
-    pub fn of(compiled: &Compiled, search: Counts, workers: Vec<WorkerCounts>) -> Tally
+    /// What is counted of this program, with its loops where they are, what the searches did together, and what each worker
+    /// did.
+    pub fn of(
+        compiled: &Compiled,
+        loops: Option<u64>,
+        search: Counts,
+        workers: Vec<WorkerCounts>,
+    ) -> Tally
         ensures search { result.search ≡ search }
         ensures workers { result.workers ≡ workers.items }
         ensures atoms { result.atoms ≡ length (atoms_of compiled.now) }
         ensures bodies { result.bodies ≡ length (bodies_of compiled.now) }
+        ensures loops { result.loops ≡ loops }
     {
         Tally {
             search,
             workers: Seq::from_vec(workers),
             atoms: compiled.atom_count() as u64,
             bodies: compiled.body_count() as u64,
+            loops,
         }
     }
 }
@@ -124,6 +136,7 @@ fn label_of(what: What) -> &'static [u8]
         What::ItsDropped => b", dropped ",
         What::Atoms => b"\nAtoms: ",
         What::Bodies => b"\nBodies: ",
+        What::Loops => b"\nLoops: ",
         What::SoFarConflicts => b"Progress: conflicts ",
         What::SoFarDecisions => b", decisions ",
         What::SoFarRestarts => b", restarts ",
@@ -201,6 +214,13 @@ pub fn program_items(tally: &Tally) -> [Item; 2]
         Item::of(What::Atoms, tally.atoms),
         Item::of(What::Bodies, tally.bodies),
     ]
+}
+
+/// How many components of the program have a loop.
+pub fn loop_items(loops: u64) -> [Item; 1]
+    ensures { result ≡ loop_items loops }
+{
+    [Item::of(What::Loops, loops)]
 }
 
 /// What a line of a run that goes on tells, in its order.

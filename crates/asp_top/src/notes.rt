@@ -1,10 +1,12 @@
 //! The line on the notes for each status, and the counts of a run.
 ghost use Rattle.std.specs.Prelude.{◌≡◌, ◌++◌, codes, decimal};
 ghost use Rattle.asp_buffer.specs.Out.{Puts, out};
-ghost use Rattle.asp_top.specs.Counts.{program_items, report_items, search_items};
-ghost use Rattle.asp_top.specs.Notes.{IsNoted, Writes, counts_if, counts_of, is_answered, items_text, note_of, notes_of, stats_of, worker_text, workers_text};
+ghost use Rattle.asp_top.specs.Counts.{loop_items, program_items, report_items, search_items};
+ghost use Rattle.asp_top.specs.Notes.{IsNoted, Writes, counts_if, counts_of, is_answered, items_text, loops_text, note_of, notes_of, program_text, stats_of, worker_text, workers_text};
 
-use crate::counts::{Tally, program_items, put_items, report_items, search_items, worker_items};
+use crate::counts::{
+    Tally, loop_items, program_items, put_items, report_items, search_items, worker_items,
+};
 use crate::status::{Outcome, Status};
 use crate::texts::write_fault;
 use crate::usage::write_usage;
@@ -138,12 +140,30 @@ fn put_workers<N: Sink>(
     Ok(())
 }
 
+fn put_loops<N: Sink>(
+    notes: &mut N,
+    waiting: &mut Waiting,
+    loops: Option<u64>,
+) -> Result<(), Failed>
+    ensures { Puts (out (N.held notes.old) (N.faults notes.old) waiting.old)
+        (out (N.held notes.new) (N.faults notes.new) waiting.new) result (loops_text loops) }
+{
+    match loops {
+        None => put(notes, waiting, b""),
+        Some(loops) => {
+            let items = loop_items(loops);
+            put_items(notes, waiting, &items)
+        }
+    }
+}
+
 fn put_program<N: Sink>(notes: &mut N, waiting: &mut Waiting, tally: &Tally) -> Result<(), Failed>
     ensures { Puts (out (N.held notes.old) (N.faults notes.old) waiting.old)
-        (out (N.held notes.new) (N.faults notes.new) waiting.new) result (items_text (program_items tally.now)) }
+        (out (N.held notes.new) (N.faults notes.new) waiting.new) result (program_text tally.now) }
 {
     let items = program_items(tally);
-    put_items(notes, waiting, &items)
+    put_items(notes, waiting, &items)?;
+    put_loops(notes, waiting, tally.loops)
 }
 
 fn put_counts<N: Sink>(

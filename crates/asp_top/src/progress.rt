@@ -126,17 +126,22 @@ impl<'a, N: Sink> Progress<'a, N> {
             Err(Failed) => false,
         }
     }
+}
 
-    /// Writes what the notes get at the end, unless they failed.
-    pub fn end(&mut self, stats: bool, tally: &Tally, outcome: &Outcome)
-        ensures same { self.new.notes.ghost_name ≡ self.old.notes.ghost_name }
-        ensures ends { EndsWith self.old.state (N.held self.old.notes.now) (N.held self.new.notes.now) (N.faults self.old.notes.now) (N.faults self.new.notes.now)
-            (notes_of stats tally.now outcome.now) }
-    {
-        match self.state {
-            Ok(()) => note(self.notes, stats, tally, outcome),
-            Err(Failed) => {}
-        }
+/// Writes what the notes get at the end of a run, unless they failed on the way.
+pub fn end<N: Sink>(
+    notes: &mut N,
+    state: Result<(), Failed>,
+    stats: bool,
+    tally: &Tally,
+    outcome: &Outcome,
+)
+    ensures { EndsWith state (N.held notes.old) (N.held notes.new) (N.faults notes.old) (N.faults notes.new)
+        (notes_of stats tally.now outcome.now) }
+{
+    match state {
+        Ok(()) => note(notes, stats, tally, outcome),
+        Err(Failed) => {}
     }
 }
 

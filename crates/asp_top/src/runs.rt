@@ -10,10 +10,10 @@ ghost use Rattle.asp_top.specs.Runs.{Does, IsCounted, NotesOn, NotesRun, Runs, R
 
 use crate::counts::Tally;
 use crate::deliver::failed;
-use crate::notes::{note, note_status, write};
+use crate::notes::{note_status, write};
 use crate::parts::divide;
 use crate::prepare::prepare;
-use crate::progress::Progress;
+use crate::progress::{Progress, end};
 use crate::search::{solve, solve_by_crew};
 use crate::status::{Outcome, Status};
 use crate::usage::{note_misuse, write_three};
@@ -104,8 +104,8 @@ fn outcome_alone<S: Source, K: Sink, W: Watch>(
     }
 }
 
-// The same where workers side by side solve it.
-fn outcome_by_crew<R: Threads + Wait + Sync, S: Source, K: Sink, G: Gate + Sync>(
+// The same where workers side by side solve it. The watch comes back.
+fn outcome_by_crew<R: Threads + Wait + Sync, S: Source, K: Sink, G: Gate + Sync, W: Watch + Drop>(
     rt: &R,
     alloc: Global,
     options: &Options,
@@ -113,19 +113,21 @@ fn outcome_by_crew<R: Threads + Wait + Sync, S: Source, K: Sink, G: Gate + Sync>
     sink: &mut K,
     gate: &G,
     tally: &mut Tally,
-) -> Outcome
+    watch: W,
+) -> (Outcome, W)
     requires ring { IsRing options.now.make }
     requires crew { IsCrew options.now.workers }
     requires whole { options.now.split ≡ None }
     requires apart { IsApart options.now }
     ensures runs { Runs options.now (around (S.left source.old) (S.left source.new) (S.faults source.old) (S.faults source.new)
-        (K.held sink.old) (K.held sink.new) (K.faults sink.old) (K.faults sink.new)) result }
-    ensures flushed { TellsFaults (K.held sink.old) (K.faults sink.old) (K.faults sink.new) result.status }
-    ensures counted { IfSome result.report (IsCounted false tally.new) }
+        (K.held sink.old) (K.held sink.new) (K.faults sink.old) (K.faults sink.new)) result.0 }
+    ensures flushed { TellsFaults (K.held sink.old) (K.faults sink.old) (K.faults sink.new) result.0.status }
+    ensures counted { IfSome result.0.report (IsCounted false tally.new) }
+    ensures heard { W.IsAfter watch result.1 }
 {
     match prepare(alloc, options, source) {
-        Ok(compiled) => solve_by_crew(rt, alloc, options, &compiled, sink, gate, tally),
-        Err(status) => failed(status),
+        Ok(compiled) => solve_by_crew(rt, alloc, options, &compiled, sink, gate, tally, watch),
+        Err(status) => (failed(status), watch),
     }
 }
 
@@ -152,11 +154,17 @@ pub fn run_alone<S: Source, K: Sink, N: Sink>(
     let mut tally = Tally::new(alloc);
     let mut progress = Progress::new(notes, options.progress);
     let outcome = outcome_alone(alloc, options, source, sink, &mut tally, &mut progress);
-    progress.end(options.stats, &tally, &outcome);
+    let Progress {
+        notes,
+        on: _,
+        state,
+        last: _,
+    } = progress;
+    end(notes, state, options.stats, &tally, &outcome);
     outcome
 }
 
-// A run after the words with workers side by side, of whom nothing is told before they have come back.
+// A run after the words with workers side by side.
 fn run_by_crew<R: Threads + Wait + Sync, S: Source, K: Sink, N: Sink, G: Gate + Sync>(
     rt: &R,
     alloc: Global,
@@ -176,8 +184,17 @@ fn run_by_crew<R: Threads + Wait + Sync, S: Source, K: Sink, N: Sink, G: Gate + 
     ensures notes { NotesRun false options.now (N.held notes.old) (N.held notes.new) (N.faults notes.old) (N.faults notes.new) result }
 {
     let mut tally = Tally::new(alloc);
-    let outcome = outcome_by_crew(rt, alloc, options, source, sink, gate, &mut tally);
-    note(notes, options.stats, &tally, &outcome);
+    let progress = Progress::new(notes, options.progress);
+    let (outcome, progress) = outcome_by_crew(
+        rt, alloc, options, source, sink, gate, &mut tally, progress,
+    );
+    let Progress {
+        notes,
+        on: _,
+        state,
+        last: _,
+    } = progress;
+    end(notes, state, options.stats, &tally, &outcome);
     outcome
 }
 

@@ -8,6 +8,7 @@ ghost use Rattle.asp_top.specs.Runs.{IsCounted, Solves, TellsFaults, ask_of};
 
 use crate::counts::Tally;
 use crate::deliver::{deliver, failed};
+use crate::loops::loops;
 use crate::solve::mode_of;
 use crate::status::{Outcome, Status};
 use asp_cli::Options;
@@ -65,15 +66,16 @@ pub fn solve<K: Sink, W: Watch>(
         watch,
     ) {
         Ok(report) => {
-            *tally = Tally::of(compiled, counts, Vec::new(alloc));
+            let loops = loops(alloc, compiled, options.stats);
+            *tally = Tally::of(compiled, loops, counts, Vec::new(alloc));
             deliver(sink, options.make.is_some(), program, report)
         }
         Err(_) => failed(Status::Memory),
     }
 }
 
-// What workers side by side find.
-fn solved_by_crew<R: Threads + Wait + Sync, G: Gate + Sync>(
+// What workers side by side find. The watch comes back.
+fn solved_by_crew<R: Threads + Wait + Sync, G: Gate + Sync, W: Watch + Drop>(
     rt: &R,
     alloc: Global,
     options: &Options,
@@ -81,11 +83,13 @@ fn solved_by_crew<R: Threads + Wait + Sync, G: Gate + Sync>(
     ask: Ask,
     gate: &G,
     deeds: &mut Deeds,
-) -> Result<Report, AllocError>
+    watch: W,
+) -> (Result<Report, AllocError>, W)
     requires crew { IsCrew options.now.workers }
     requires apart { IsApart options.now }
-    ensures report { IfOk result (IsReport compiled.now ask options.now.budget) }
-    ensures proof { IfOk result (HasProof options.now.proof) }
+    ensures report { IfOk result.0 (IsReport compiled.now ask options.now.budget) }
+    ensures proof { IfOk result.0 (HasProof options.now.proof) }
+    ensures heard { W.IsAfter watch result.1 }
 {
     let plan = Plan {
         ask,
@@ -93,11 +97,11 @@ fn solved_by_crew<R: Threads + Wait + Sync, G: Gate + Sync>(
         budget: options.budget,
         proof: options.proof,
     };
-    many::solve(rt, alloc, compiled, plan, gate, deeds)
+    many::solve(rt, alloc, compiled, plan, gate, deeds, watch)
 }
 
-/// Workers side by side solve it.
-pub fn solve_by_crew<R: Threads + Wait + Sync, K: Sink, G: Gate + Sync>(
+/// Workers side by side solve it. The watch comes back.
+pub fn solve_by_crew<R: Threads + Wait + Sync, K: Sink, G: Gate + Sync, W: Watch + Drop>(
     rt: &R,
     alloc: Global,
     options: &Options,
@@ -105,22 +109,31 @@ pub fn solve_by_crew<R: Threads + Wait + Sync, K: Sink, G: Gate + Sync>(
     sink: &mut K,
     gate: &G,
     tally: &mut Tally,
-) -> Outcome
+    watch: W,
+) -> (Outcome, W)
     requires crew { IsCrew options.now.workers }
     requires apart { IsApart options.now }
-    ensures solves { Solves options.now compiled.now (K.held sink.old) (K.held sink.new) (K.faults sink.old) (K.faults sink.new) result }
-    ensures flushed { TellsFaults (K.held sink.old) (K.faults sink.old) (K.faults sink.new) result.status }
-    ensures counted { IfSome result.report (IsCounted false tally.new) }
+    ensures solves { Solves options.now compiled.now (K.held sink.old) (K.held sink.new) (K.faults sink.old) (K.faults sink.new) result.0 }
+    ensures flushed { TellsFaults (K.held sink.old) (K.faults sink.old) (K.faults sink.new) result.0.status }
+    ensures counted { IfSome result.0.report (IsCounted false tally.new) }
+    ensures heard { W.IsAfter watch result.1 }
 {
     let program = compiled.program();
     let ask = ask_of(options, program);
     let mut deeds = Deeds::new(alloc);
-    match solved_by_crew(rt, alloc, options, compiled, ask, gate, &mut deeds) {
+    let (solved, watch) = solved_by_crew(
+        rt, alloc, options, compiled, ask, gate, &mut deeds, watch,
+    );
+    match solved {
         Ok(report) => {
             let Deeds { sum, workers } = deeds;
-            *tally = Tally::of(compiled, sum, workers);
-            deliver(sink, options.make.is_some(), program, report)
+            let loops = loops(alloc, compiled, options.stats);
+            *tally = Tally::of(compiled, loops, sum, workers);
+            (
+                deliver(sink, options.make.is_some(), program, report),
+                watch,
+            )
         }
-        Err(_) => failed(Status::Memory),
+        Err(_) => (failed(Status::Memory), watch),
     }
 }

@@ -12,7 +12,7 @@ ghost use Rattle.asp_worker.specs.Working.{GoesOn, IsOn, IsOff, IsCourse, IsWay,
 
 use crate::engine::Engine;
 use crate::halt::Halt;
-use crate::share::{begin, is_enough, share};
+use crate::share::{STRIDE, begin, is_enough, share};
 use crate::sharing::{export, lease, record, refresh};
 use crate::stop::Stop;
 use crate::worker::{Shared, Worker};
@@ -20,6 +20,7 @@ use crate::writing::note;
 use asp_book::book::Book;
 use asp_book::desk;
 use asp_counts::counts::Counts;
+use asp_counts::watch::Watch;
 use asp_path::tree::Leaf;
 use asp_propagators::propagators::Propagators;
 use asp_recorder::recorder::Recorder;
@@ -144,14 +145,27 @@ fn advance<R: Wait>(
     }
 }
 
+// Where it is time, tells what this worker did, and the watch what all did, with the cost of the best answer that this one
+// knows of.
+fn tell<R: Wait, W: Watch>(rt: &R, shared: &Shared, number: u32, engine: &Engine<'_>, watch: &mut W)
+    ensures { W.IsAfter watch.old watch.new }
+{
+    if engine.step % STRIDE != 0 {
+        return;
+    }
+    let sum = shared.tallies.tell(rt, number, &engine.did);
+    watch.tell(&sum, engine.search.bound());
+}
+
 // Steps until the path is closed or left.
-fn search_path<R: Wait, H: Halt>(
+fn search_path<R: Wait, H: Halt, W: Watch>(
     rt: &R,
     shared: &Shared,
     halt: &H,
     worker: &mut Worker,
     engine: &mut Engine<'_>,
     leaf: &mut Leaf,
+    watch: &mut W,
 ) -> Result<Way, Stop>
     requires ready { IsReady shared.now worker.old }
     requires number { 0 < (view worker.old.seat).number }
@@ -162,6 +176,7 @@ fn search_path<R: Wait, H: Halt>(
     ensures read { engine.new.read ≤ length (view worker.new.pages).seen }
     ensures ok { IfOk result (IsWay shared.now.mode (view worker.new.seat) engine.new.search engine.new.fuel leaf.new) }
     ensures err { OnErr result (IsOff (view worker.new.seat) engine.new.fuel leaf.new) }
+    ensures heard { W.IsAfter watch.old watch.new }
 {
     let number = worker.seat.number() - 1;
     'steps: for _ in rt.forever() {
@@ -170,6 +185,7 @@ fn search_path<R: Wait, H: Halt>(
         }
         engine.step = engine.step.wrapping_add(1);
         let course = advance(rt, shared, worker, engine, *leaf)?;
+        tell(rt, shared, worker.seat.number(), engine, watch);
         match course {
             Course::Open => share(rt, shared, worker, engine, leaf)?,
             Course::Spent => return Ok(Way::Left),
@@ -183,13 +199,14 @@ fn search_path<R: Wait, H: Halt>(
 }
 
 // Begins a path, if answers are wanted still, and searches it.
-fn try_path<R: Wait, H: Halt>(
+fn try_path<R: Wait, H: Halt, W: Watch>(
     rt: &R,
     shared: &Shared,
     halt: &H,
     worker: &mut Worker,
     engine: &mut Engine<'_>,
     leaf: &mut Leaf,
+    watch: &mut W,
 ) -> Result<Way, Stop>
     requires ready { IsReady shared.now worker.old }
     requires number { 0 < (view worker.old.seat).number }
@@ -201,22 +218,24 @@ fn try_path<R: Wait, H: Halt>(
     ensures read { engine.new.read ≤ length (view worker.new.pages).seen }
     ensures ok { IfOk result (IsWay shared.now.mode (view worker.new.seat) engine.new.search engine.new.fuel leaf.new) }
     ensures err { OnErr result (IsOff (view worker.new.seat) engine.new.fuel leaf.new) }
+    ensures heard { W.IsAfter watch.old watch.new }
 {
     if is_enough(rt, shared, worker) {
         return Err(Stop::Enough);
     }
     begin(rt, shared, worker, engine, *leaf)?;
-    search_path(rt, shared, halt, worker, engine, leaf)
+    search_path(rt, shared, halt, worker, engine, leaf, watch)
 }
 
 /// Searches a path that the worker holds. Where it isn't closed then, the worker holds the path in `leaf`.
-pub(crate) fn path<R: Wait, H: Halt>(
+pub(crate) fn path<R: Wait, H: Halt, W: Watch>(
     rt: &R,
     shared: &Shared,
     halt: &H,
     worker: &mut Worker,
     engine: &mut Engine<'_>,
     leaf: &mut Leaf,
+    watch: &mut W,
 ) -> Way
     requires ready { IsReady shared.now worker.old }
     requires number { 0 < (view worker.old.seat).number }
@@ -227,8 +246,9 @@ pub(crate) fn path<R: Wait, H: Halt>(
     ensures ready { IsReady shared.now worker.new }
     ensures read { engine.new.read ≤ length (view worker.new.pages).seen }
     ensures way { IsWay shared.now.mode (view worker.new.seat) engine.new.search engine.new.fuel leaf.new result }
+    ensures heard { W.IsAfter watch.old watch.new }
 {
-    match try_path(rt, shared, halt, worker, engine, leaf) {
+    match try_path(rt, shared, halt, worker, engine, leaf, watch) {
         Ok(way) => way,
         Err(Stop::Enough) => Way::Left,
         Err(Stop::Memory) => Way::Short,

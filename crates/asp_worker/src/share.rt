@@ -24,7 +24,7 @@ use std::alloc::AllocError;
 use std::sync::Wait;
 
 /// After so many steps a worker tells what it did, and looks whether others want a path, and whether answers are wanted still.
-const STRIDE: u64 = 32;
+pub(crate) const STRIDE: u64 = 32;
 
 // Begins the search of a path that the worker holds.
 fn enter<R: Wait>(
@@ -147,7 +147,7 @@ pub(crate) fn is_enough<R: Wait>(rt: &R, shared: &Shared, worker: &mut Worker) -
     desk::enough(rt, &shared.book, &mut worker.seat)
 }
 
-/// Where it is time, tells what the worker did, stops if as many answers as asked for were delivered, and else gives half of the path away if others want one.
+/// Where it is time, stops if as many answers as asked for were delivered, and else gives half of the path away if others want one.
 ///
 /// The path that the worker then has is in `leaf`, also after an error.
 pub(crate) fn share<R: Wait>(
@@ -169,7 +169,6 @@ pub(crate) fn share<R: Wait>(
     if engine.step % STRIDE != 0 {
         return Ok(());
     }
-    shared.tallies.tell(rt, worker.seat.number(), &engine.did);
     if is_enough(rt, shared, worker) {
         return Err(Stop::Enough);
     }

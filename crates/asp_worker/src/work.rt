@@ -11,19 +11,21 @@ use crate::halt::Halt;
 use crate::path::{Way, path};
 use crate::worker::{Shared, Worker};
 use asp_book::desk;
+use asp_counts::watch::Watch;
 use asp_path::tree::Leaf;
 use asp_recorder::recorder::Recorder;
 use asp_vars::compiled::Compiled;
 use std::sync::Wait;
 
 // Searches a path, and opens it again where it isn't closed.
-fn try_path<R: Wait, H: Halt>(
+fn try_path<R: Wait, H: Halt, W: Watch>(
     rt: &R,
     shared: &Shared,
     halt: &H,
     worker: &mut Worker,
     engine: &mut Engine<'_>,
     leaf: Leaf,
+    watch: &mut W,
 ) -> Way
     requires ready { IsReady shared.now worker.old }
     requires number { 0 < (view worker.old.seat).number }
@@ -36,9 +38,10 @@ fn try_path<R: Wait, H: Halt>(
     ensures free { IsFree (view worker.new.seat) }
     ensures owes { Owes (view worker.new.seat) engine.new.fuel }
     ensures going { Ended shared.now.mode (view worker.new.seat) engine.new.search engine.new.fuel result }
+    ensures heard { W.IsAfter watch.old watch.new }
 {
     let mut held = leaf;
-    let way = path(rt, shared, halt, worker, engine, &mut held);
+    let way = path(rt, shared, halt, worker, engine, &mut held, watch);
     match way {
         Way::Closed => Way::Closed,
         Way::Left => {
@@ -53,13 +56,14 @@ fn try_path<R: Wait, H: Halt>(
 }
 
 // Takes paths and searches them. Says whether it ended for want of memory.
-fn search_paths<R: Wait, G: Gate, H: Halt>(
+fn search_paths<R: Wait, G: Gate, H: Halt, W: Watch>(
     rt: &R,
     shared: &Shared,
     gate: &G,
     halt: &H,
     worker: &mut Worker,
     engine: &mut Engine<'_>,
+    watch: &mut W,
 ) -> bool
     requires ready { IsReady shared.now worker.old }
     requires number { 0 < (view worker.old.seat).number }
@@ -70,6 +74,7 @@ fn search_paths<R: Wait, G: Gate, H: Halt>(
     ensures ready { IsReady shared.now worker.new }
     ensures free { IsFree (view worker.new.seat) }
     ensures owes { Owes (view worker.new.seat) engine.new.fuel }
+    ensures heard { W.IsAfter watch.old watch.new }
 {
     'paths: for _ in rt.forever() {
         match find(
@@ -85,7 +90,7 @@ fn search_paths<R: Wait, G: Gate, H: Halt>(
                 Some(leaf) => {
                     gate.pass(worker.seat.number() - 1, engine.turn);
                     engine.turn = engine.turn.wrapping_add(1);
-                    match try_path(rt, shared, halt, worker, engine, leaf) {
+                    match try_path(rt, shared, halt, worker, engine, leaf, watch) {
                         Way::Closed => {}
                         Way::Left => return false,
                         Way::Short => return true,
@@ -97,17 +102,23 @@ fn search_paths<R: Wait, G: Gate, H: Halt>(
     unreachable!()
 }
 
-/// A worker's whole work: it searches paths until none is left or wanted, and gives all back.
-pub fn work<R: Wait, G: Gate, H: Halt>(
+/// A worker's whole work: it searches paths until none is left or wanted, and gives all back. On the way the watch hears now
+/// and then what all workers did so far.
+// Where no thread can be made, workers are called inside each other on one stack: what a search needs of it stays out of those
+// frames.
+#[inline(never)]
+pub fn work<R: Wait, G: Gate, H: Halt, W: Watch>(
     rt: &R,
     shared: &Shared,
     compiled: &Compiled,
     gate: &G,
     halt: &H,
     mut worker: Worker,
+    watch: &mut W,
 ) -> Worker
     requires { MayWork compiled.now shared.now worker }
-    ensures { Worked shared.now worker result }
+    ensures work { Worked shared.now worker result }
+    ensures heard { W.IsAfter watch.old watch.new }
 {
     let recorder = Recorder::new(shared.alloc);
     let mut engine = match start(shared, compiled, &recorder) {
@@ -117,7 +128,7 @@ pub fn work<R: Wait, G: Gate, H: Halt>(
             return worker;
         }
     };
-    worker.short = search_paths(rt, shared, gate, halt, &mut worker, &mut engine);
+    worker.short = search_paths(rt, shared, gate, halt, &mut worker, &mut engine, watch);
     let Engine {
         search: _,
         fuel,
@@ -127,7 +138,7 @@ pub fn work<R: Wait, G: Gate, H: Halt>(
         did,
         recorder: _,
     } = engine;
-    shared.tallies.tell(rt, worker.seat.number(), &did);
+    let _sum = shared.tallies.tell(rt, worker.seat.number(), &did);
     desk::back(rt, &shared.book, &mut worker.seat, fuel);
     worker
 }

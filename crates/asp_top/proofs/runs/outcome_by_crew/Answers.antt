@@ -6,3 +6,6 @@ returns-in-Ok-clause-runs g c = runs-ready c.args.options.now _ _ _ _ _ _ _ _ c.
 
 pub returns-in-Err-clause-runs : goal.returns-in-Err-clause-runs
 returns-in-Err-clause-runs g c = rw c.failed.ensures (c.in-Err.ensures _ _)
+
+pub returns-in-Err-clause-heard : goal.returns-in-Err-clause-heard
+returns-in-Err-clause-heard g c = g.met.W.Watch.begins c.args.watch

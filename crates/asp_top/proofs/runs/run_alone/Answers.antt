@@ -7,10 +7,10 @@ pub returns-clause-notes : goal.returns-clause-notes
 returns-clause-notes g c = record {
   tally = c.outcome_alone-outcome.new.tally;
   counted = c.outcome_alone-outcome.ensures.counted;
-  told = moved g.N.Sink.held g.N.Sink.faults _ _ _ _ c.end.new.self.notes.now _
-      (search (rules, c.end.ensures.same, c.outcome_alone-outcome.ensures.heard.0, c.new-progress.ensures.same))
+  told = moved g.N.Sink.held g.N.Sink.faults _ _ _ _ c.end.new.notes _
+      (search (rules, c.outcome_alone-outcome.ensures.heard.0, c.new-progress.ensures.same))
       (told_in_all c.args.options.now.progress c.new-progress.result.on (g.N.Sink.held c.args.notes.now) (g.N.Sink.faults c.args.notes.now)
       (point (g.N.Sink.held c.new-progress.result.notes.now) (g.N.Sink.faults c.new-progress.result.notes.now) c.new-progress.result.state c.new-progress.result.last)
       (point (g.N.Sink.held c.outcome_alone-outcome.new.watch.notes.now) (g.N.Sink.faults c.outcome_alone-outcome.new.watch.notes.now) c.outcome_alone-outcome.new.watch.state c.outcome_alone-outcome.new.watch.last)
-      _ _ _ c.new-progress.ensures.on (rw (c.new-progress.ensures.now, c.new-progress.ensures.state, c.new-progress.ensures.last) refl) c.outcome_alone-outcome.ensures.heard.2 c.end.ensures.ends);
+      _ _ _ c.new-progress.ensures.on (rw (c.new-progress.ensures.now, c.new-progress.ensures.state, c.new-progress.ensures.last) refl) c.outcome_alone-outcome.ensures.heard.2 c.end.ensures);
 }

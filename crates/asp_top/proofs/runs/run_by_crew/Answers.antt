@@ -1,10 +1,16 @@
-use Rattle.std.proofs.Common.{[], refl}
-use Rattle.asp_top.specs.Progress.{nothing}
+use Rattle.std.proofs.Common.{refl, rules}
+use Rattle.asp_top.specs.Telling.{point}
+use Rattle.asp_top.proofs.TellLaws.{moved, told_in_all}
 use Rattle.asp_top.proofs.runs.run_by_crew.Goals as goal
 
 pub returns-clause-notes : goal.returns-clause-notes
 returns-clause-notes g c = record {
   tally = c.outcome_by_crew-outcome.new.tally;
   counted = c.outcome_by_crew-outcome.ensures.counted;
-  told = record { told = []; silent = λ off. refl; last = nothing; rises = refl; noted = c.note.ensures };
+  told = moved g.N.Sink.held g.N.Sink.faults _ _ _ _ c.end.new.notes _
+      (search (rules, c.outcome_by_crew-outcome.ensures.heard.0, c.new-progress.ensures.same))
+      (told_in_all c.args.options.now.progress c.new-progress.result.on (g.N.Sink.held c.args.notes.now) (g.N.Sink.faults c.args.notes.now)
+      (point (g.N.Sink.held c.new-progress.result.notes.now) (g.N.Sink.faults c.new-progress.result.notes.now) c.new-progress.result.state c.new-progress.result.last)
+      (point (g.N.Sink.held c.outcome_by_crew-outcome.result.1.notes.now) (g.N.Sink.faults c.outcome_by_crew-outcome.result.1.notes.now) c.outcome_by_crew-outcome.result.1.state c.outcome_by_crew-outcome.result.1.last)
+      _ _ _ c.new-progress.ensures.on (rw (c.new-progress.ensures.now, c.new-progress.ensures.state, c.new-progress.ensures.last) refl) c.outcome_by_crew-outcome.ensures.heard.2 c.end.ensures);
 }

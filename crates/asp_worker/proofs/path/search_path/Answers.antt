@@ -10,7 +10,7 @@ use Rattle.asp_worker.proofs.GoingLaws.{goes-on, on-off, owes-on, done-excused}
 use Rattle.asp_worker.proofs.path.search_path.Goals as goal
 
 pub steps-init : goal.steps-init
-steps-init g c = record { keeps = keeps-self c.args.shared.now c.args.worker.now c.requires.ready; ready = c.requires.ready; on = c.requires.on; read = c.requires.read }
+steps-init g c = record { keeps = keeps-self c.args.shared.now c.args.worker.now c.requires.ready; ready = c.requires.ready; on = c.requires.on; read = c.requires.read; heard = g.met.W.Watch.begins c.args.watch.now }
 
 pub returns-then-stop-clause-ok : goal.returns-then-stop-clause-ok
 returns-then-stop-clause-ok g c = on-off c.args.shared.now.mode (view c.steps.worker.seat) c.steps.engine.search c.steps.engine.fuel c.steps.leaf c.steps.invariant.on
@@ -27,6 +27,7 @@ steps-preserved g c = record {
   ready = c.share.ensures.ready;
   on = c.in_ok-share-in-Open.ensures.ok;
   read = c.share.ensures.read;
+  heard = g.met.W.Watch.goes_on c.args.watch.now c.steps.watch c.tell.new.watch c.steps.invariant.heard c.tell.ensures;
 }
 
 pub returns-in_err-share-in-Open-clause-keeps : goal.returns-in_err-share-in-Open-clause-keeps
@@ -76,3 +77,15 @@ pub returns-in_err-close-in-Done-clause-err : goal.returns-in_err-close-in-Done-
 returns-in_err-close-in-Done-clause-err g c =
     always-err c.from_residual-in_err-close-in-Done.result (IsOff (view c.close.new.seat) c.advance.new.engine.fuel c.steps.leaf)
     (record { held = c.in_err-close-in-Done.ensures.err; units = owes-on (view c.advance.new.worker.seat) (view c.close.new.seat) c.advance.new.engine.fuel c.in_ok-course.ensures.ok.going.work.units c.close.ensures.passes })
+
+pub returns-in_err-share-in-Open-clause-heard : goal.returns-in_err-share-in-Open-clause-heard
+returns-in_err-share-in-Open-clause-heard g c = g.met.W.Watch.goes_on c.args.watch.now c.steps.watch c.tell.new.watch c.steps.invariant.heard c.tell.ensures
+
+pub returns-in-Spent-clause-heard : goal.returns-in-Spent-clause-heard
+returns-in-Spent-clause-heard g c = g.met.W.Watch.goes_on c.args.watch.now c.steps.watch c.tell.new.watch c.steps.invariant.heard c.tell.ensures
+
+pub returns-in-Done-clause-heard : goal.returns-in-Done-clause-heard
+returns-in-Done-clause-heard g c = g.met.W.Watch.goes_on c.args.watch.now c.steps.watch c.tell.new.watch c.steps.invariant.heard c.tell.ensures
+
+pub returns-in_err-close-in-Done-clause-heard : goal.returns-in_err-close-in-Done-clause-heard
+returns-in_err-close-in-Done-clause-heard g c = g.met.W.Watch.goes_on c.args.watch.now c.steps.watch c.tell.new.watch c.steps.invariant.heard c.tell.ensures

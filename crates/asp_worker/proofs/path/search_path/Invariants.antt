@@ -10,4 +10,5 @@ invariant-steps g l = record {
   ready : IsReady l.shared l.worker;
   on : IsOn l.shared.mode (view l.worker.seat) l.engine.search l.engine.fuel l.leaf;
   read : l.engine.read ≤ length (view l.worker.pages).seen;
+  heard : g.W.Watch.IsAfter l.initial.watch l.watch;
 }

@@ -39,3 +39,9 @@ returns-in_err-begin-clause-keeps g c = keeps-trans c.args.worker.now c.is_enoug
 
 pub returns-in_err-begin-clause-err : goal.returns-in_err-begin-clause-err
 returns-in_err-begin-clause-err g c = always-err c.from_residual.result (IsOff (view c.begin.new.worker.seat) c.begin.new.engine.fuel c.args.leaf.now) c.in_err-begin.ensures.err
+
+pub returns-then-is_enough-clause-heard : goal.returns-then-is_enough-clause-heard
+returns-then-is_enough-clause-heard g c = g.met.W.Watch.begins c.args.watch.now
+
+pub returns-in_err-begin-clause-heard : goal.returns-in_err-begin-clause-heard
+returns-in_err-begin-clause-heard g c = g.met.W.Watch.begins c.args.watch.now

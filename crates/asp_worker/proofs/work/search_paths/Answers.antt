@@ -1,12 +1,14 @@
 use Rattle.std.proofs.Common.{◌<◌, refl, sym, ◌∙◌, subst}
 use Rattle.asp_vault.specs.Seats.{view}
+use Rattle.asp_worker.specs.declared.path.Way.{Way}
 use Rattle.asp_worker.specs.declared.worker.Worker.{Worker}
-use Rattle.asp_worker.proofs.SeatLaws.{keeps-self, keeps-seat, ready-seat, takes-some}
+use Rattle.asp_worker.specs.Working.{Ended}
+use Rattle.asp_worker.proofs.SeatLaws.{keeps-self, keeps-seat, keeps-trans, ready-seat, takes-some}
 use Rattle.asp_worker.proofs.GoingLaws.{goes-on}
 use Rattle.asp_worker.proofs.work.search_paths.Goals as goal
 
 pub paths-init : goal.paths-init
-paths-init g c = record { keeps = keeps-self c.args.shared.now c.args.worker.now c.requires.ready; ready = c.requires.ready; free = c.requires.free; going = c.requires.going; read = c.requires.read }
+paths-init g c = record { keeps = keeps-self c.args.shared.now c.args.worker.now c.requires.ready; ready = c.requires.ready; free = c.requires.free; going = c.requires.going; read = c.requires.read; heard = g.met.W.Watch.begins c.args.watch.now }
 
 pub try_path-requires-clause-ready : goal.try_path-requires-clause-ready
 try_path-requires-clause-ready g c =
@@ -21,3 +23,23 @@ try_path-requires-clause-held g c = takes-some (view c.find.new.seat) c.in-Ok.fo
 
 pub try_path-requires-clause-going : goal.try_path-requires-clause-going
 try_path-requires-clause-going g c = goes-on c.args.shared.now.mode (view c.paths.worker.seat) (view c.find.new.seat) c.paths.engine.search c.paths.engine.fuel c.paths.invariant.going c.find.ensures.passes
+
+pub paths-preserved : goal.paths-preserved
+paths-preserved g c =
+    let h : Worker = c.paths.worker in let k : Worker = record h { seat = c.find.new.seat; lane = c.find.new.lane; pass = c.find.new.pass } in
+    record {
+      keeps =
+          keeps-trans c.args.worker.now k c.try_path.new.worker
+          (keeps-trans c.args.worker.now h k c.paths.invariant.keeps (keeps-seat c.args.shared.now h k c.paths.invariant.ready c.find.ensures.of c.find.ensures.passes.stays refl refl)) c.try_path.ensures.keeps;
+      ready = c.try_path.ensures.ready;
+      free = c.try_path.ensures.free;
+      going = subst (λ (x : Way). Ended c.args.shared.now.mode (view c.try_path.new.worker.seat) c.try_path.new.engine.search c.try_path.new.engine.fuel x) c.in-Closed.is c.try_path.ensures.going;
+      read = c.try_path.ensures.read;
+      heard = g.met.W.Watch.goes_on c.args.watch.now c.paths.watch c.try_path.new.watch c.paths.invariant.heard c.try_path.ensures.heard;
+    }
+
+pub returns-in-Left-clause-heard : goal.returns-in-Left-clause-heard
+returns-in-Left-clause-heard g c = g.met.W.Watch.goes_on c.args.watch.now c.paths.watch c.try_path.new.watch c.paths.invariant.heard c.try_path.ensures.heard
+
+pub returns-in-Short-clause-heard : goal.returns-in-Short-clause-heard
+returns-in-Short-clause-heard g c = g.met.W.Watch.goes_on c.args.watch.now c.paths.watch c.try_path.new.watch c.paths.invariant.heard c.try_path.ensures.heard

@@ -11,4 +11,5 @@ invariant-paths g l = record {
   free : IsFree (view l.worker.seat);
   going : GoesOn l.shared.mode (view l.worker.seat) l.engine.search l.engine.fuel;
   read : l.engine.read ≤ length (view l.worker.pages).seen;
+  heard : g.W.Watch.IsAfter l.initial.watch l.watch;
 }

@@ -1,0 +1,34 @@
+use Rattle.std.proofs.Common.{◌≡◌, ℕ, Bool, false, None, sym, subst}
+use Rattle.std.specs.Prelude.{IfOk}
+use Rattle.std.proofs.lemmas.Result.{IfOk-weaker}
+use Rattle.asp_crew_laws.specs.declared.report.Report.{Report}
+use Rattle.asp_crew_laws.specs.Proofs.{HasProof}
+use Rattle.asp_crew_laws.specs.Reports.{IsReport}
+use Rattle.asp_crew_laws.specs.Runs.{asks}
+use Rattle.asp_crew.proofs.ProofLaws.{first-whole, none_has, report_with}
+use Rattle.asp_team.proofs.many.finished.Goals as goal
+
+pub returns-then-plan-clause-report : goal.returns-then-plan-clause-report
+returns-then-plan-clause-report g c =
+    let first : Report = c.in_ok-report.report in
+    IfOk-weaker c.with_proof.result (λ (r : Report). r ≡ record first { proof = r.proof }) (IsReport c.args.compiled.now c.args.plan.ask c.args.plan.budget)
+    (λ r same.
+    report_with c.args.compiled.now c.args.plan.ask c.args.plan.budget first r same c.in_ok-report.ensures.second
+    (first-whole c.args.compiled.now c.args.plan.ask c.args.plan.budget first (c.requires.apart c.if-plan.true) c.in_ok-report.ensures.second c.in_ok-report.ensures.report)) c.with_proof.ensures.same
+
+pub returns-then-plan-clause-proof : goal.returns-then-plan-clause-proof
+returns-then-plan-clause-proof g c = subst (λ (b : Bool). IfOk c.with_proof.result (HasProof b)) (sym c.if-plan.true) c.with_proof.ensures.proof
+
+pub with_ties-requires-clause-report : goal.with_ties-requires-clause-report
+with_ties-requires-clause-report g c = (c.args.plan.budget, c.in_ok-report.ensures.report)
+
+pub returns-else-plan-clause-report : goal.returns-else-plan-clause-report
+returns-else-plan-clause-report g c =
+    let first : Report = c.in_ok-report.report in
+    IfOk-weaker c.with_ties.result (λ (r : Report). (units : ℕ) → IsReport c.args.compiled.now (asks c.args.plan.ask.mode c.args.plan.ask.models) units first → IsReport c.args.compiled.now c.args.plan.ask units r) (IsReport c.args.compiled.now c.args.plan.ask c.args.plan.budget)
+    (λ r is. is c.args.plan.budget c.in_ok-report.ensures.report) c.with_ties.ensures.report
+
+pub returns-else-plan-clause-proof : goal.returns-else-plan-clause-proof
+returns-else-plan-clause-proof g c =
+    subst (λ (b : Bool). IfOk c.with_ties.result (HasProof b)) (sym c.if-plan.false)
+    (IfOk-weaker c.with_ties.result (λ (r : Report). r.proof ≡ None) (HasProof false) none_has c.with_ties.ensures.proof)
