@@ -3,12 +3,16 @@
 
 usage: bench/solve.py [--program build/aspenum] [--limit SECONDS] [--jobs N] [--half tuned|held-out] [--small] [--markdown]
                       [--texts FOLDER] [--svg FILE] [NAME..]
+       bench/solve.py --workers N [--program build/aspenum] [--markdown] [--texts FOLDER] [NAME..]
 
 clasp runs twice: as it comes ("default", writing no answers), and in the configuration nearest to this search ("nearest"),
 which switches off what this search has nothing like. Each program runs once in each, within a limit of 20 seconds of processor
 time: what doesn't end is shown with ">" and counted at the limit. The programs are in programs.py, each with its half: we tune
 on 'tuned' alone, and 'held out' tells whether that helped what we didn't look at. bench/README.md says what each is. It ends
-with status 1 where two that ended said different things; it is outside the gate."""
+with status 1 where two that ended said different things; it is outside the gate.
+
+With --workers it runs enumerations (those of workers.py where none is named) with one worker and with so many, and shows the
+busiest thread's processor time, and how many answers were delivered twice; clasp isn't run."""
 import argparse
 import math
 import os
@@ -19,6 +23,7 @@ import sys
 import tempfile
 from concurrent.futures import ThreadPoolExecutor
 
+import workers
 from programs import HALVES, PROGRAMS
 
 HERE = os.path.dirname(os.path.abspath(__file__))
@@ -47,6 +52,15 @@ def run(words, path, output, limit):
     return said, time, used.ru_maxrss / 1024, ended
 
 
+def text_of(name, room):
+    """The path of a program's text in a folder, made where it isn't there."""
+    path = f"{room}/{name}.aspif"
+    if not os.path.exists(path):
+        with open(path, "wb") as it:
+            it.write(PROGRAMS[name][1]())
+    return path
+
+
 def tail_of(output):
     with open(output, "rb") as text:
         text.seek(max(0, os.path.getsize(output) - 4000))
@@ -69,11 +83,7 @@ SIDES = ("aspenum", "nearest", "default")
 
 def measured(program, name, room, limit):
     """A row: for each side the seconds, conflicts and memory, and whether it ended; what the sides that ended said must agree."""
-    half, make = PROGRAMS[name]
-    path, row, said = f"{room}/{name}.aspif", {"name": name, "half": half}, []
-    if not os.path.exists(path):
-        with open(path, "wb") as it:
-            it.write(make())
+    path, row, said = text_of(name, room), {"name": name, "half": PROGRAMS[name][0]}, []
     quiet = ["-q"] if name.startswith("free") else []
     for side, words in zip(SIDES, ([program, "--stats"], [*CLASP, *quiet], DEFAULT)):
         output = f"{room}/{name}.{side}"
@@ -153,8 +163,16 @@ def main():
     words.add_argument("--markdown", action="store_true")
     words.add_argument("--texts", help="a folder that keeps the grounded texts")
     words.add_argument("--svg")
+    words.add_argument("--workers", type=int, help="how work divides among so many threads, in place of all else")
     words.add_argument("names", nargs="*")
     given = words.parse_args()
+    if given.workers:
+        with tempfile.TemporaryDirectory() as temporary:
+            room = given.texts or temporary
+            os.makedirs(room, exist_ok=True)
+            place = lambda name: text_of(name, room) if name else f"{temporary}/notes"
+            workers.table(given.program, given.workers, place, given.names, given.markdown)
+        return 0
     halves = [given.half] if given.half else [*HALVES, *(["small"] if given.small else [])]
     names = given.names or [name for name, (half, _) in PROGRAMS.items() if half in halves]
     heads = ["program", "half", *SIDES, "conflicts", *SIDES[1:], "MB", *SIDES[1:], "same"]
