@@ -1,5 +1,5 @@
 //! The search: what it keeps, and the calls beside its step.
-ghost use Rattle.std.specs.Prelude.{◌≡◌, ◌≢◌, ◌+◌, ◌≤◌, ◌∷◌, ◌++◌, [], None, Some, true, false, List, IfOk, IfSome, OnOk, OnErr, IsSome, MatchBool, count_by, length, option_map, replicate, slice_get};
+ghost use Rattle.std.specs.Prelude.{◌≡◌, ◌≢◌, ◌+◌, ◌≤◌, ◌∷◌, ◌++◌, [], None, Some, true, false, List, IfOk, IfSome, OnOk, OnErr, IsSome, IsTrue, ◌↔◌, MatchBool, count_by, length, option_map, replicate, slice_get};
 ghost use Rattle.std.specs.List.{All};
 ghost use Rattle.std.specs.Option.{option_copied};
 ghost use Rattle.asp_vars.specs.Entailment.{IsGood, IsSharedBy};
@@ -11,7 +11,7 @@ ghost use Rattle.asp_trail.specs.Trails.{IsVar};
 ghost use Rattle.asp_store.specs.Keeping.{is_extra, nogood_at};
 ghost use Rattle.asp_propagate.specs.Useful.{IsSmaller};
 ghost use Rattle.asp_search_laws.specs.Steps.{is_of_use};
-ghost use Rattle.asp_search.specs.Beside.{new_search, Enters, Leaves, is_local, is_shared, kept_last, only_shared, exported, Imports, IsOpen, IsShared};
+ghost use Rattle.asp_search.specs.Beside.{new_search, Enters, Leaves, is_local, is_shared, kept_last, only_shared, exported, Imports, IsOpen, IsShared, IsTakenBack, has_var};
 ghost use Rattle.asp_state.specs.SearchStates.{KeepsCompletionAlone};
 
 use crate::litter::Litter;
@@ -29,7 +29,7 @@ use asp_store::store::Store;
 use asp_store::stored_nogood::Kind;
 use asp_trail::reasons::{NogoodId, Reasons};
 use asp_vars::compiled::Compiled;
-use asp_vars::lit::Lit;
+use asp_vars::lit::{Lit, Var};
 use asp_vars::nogood::{Base, Lits, Nogood};
 use asp_vars::snapshot::Snapshot;
 use std::alloc::{AllocError, Global};
@@ -132,6 +132,13 @@ fn copy_shared(alloc: Global, store: &Store, id: NogoodId) -> Result<Option<Nogo
     let lits = Lits::from_slice(alloc, lits)?;
     let base = base.copy()?;
     Ok(Some(Nogood { lits, base }))
+}
+
+// Whether a cube has a variable.
+fn has_var(cube: &[Lit], var: Var) -> bool
+    ensures { result ≡ has_var cube.now var }
+{
+    cube.iter().any(|lit| lit.var() == var)
 }
 
 impl<'a, P: Propagator> Search<'a, P> {
@@ -293,6 +300,29 @@ impl<'a, P: Propagator> Search<'a, P> {
     {
         let _program = self.compiled.program();
         self.state.trail().level()
+    }
+
+    /// Whether the path can be split on a literal: it is of one of the program's variables, which the cube doesn't have.
+    pub fn is_open(&self, lit: Lit) -> bool
+        ensures { (q : List Literal) → self.now.cube ≡ Some q → (IsTrue result ↔ IsOpen self.now.program q lit) }
+    {
+        let var = lit.var();
+        if var == 0 || self.compiled.vars() < var {
+            return false;
+        }
+        !has_var(self.state.cube(), var)
+    }
+
+    /// Whether a literal is false by what holds under the cube, without a decision.
+    pub fn is_taken_back(&self, lit: Lit) -> bool
+        requires { IsVar (var_count self.now.program) lit.var }
+        ensures { IsTrue result ↔ IsTakenBack (var_count self.now.program) self.now.entries lit }
+    {
+        let trail = self.state.trail();
+        match trail.value(lit.var()) {
+            None => false,
+            Some(truth) => truth != lit.truth() && trail.level_of(lit.var()) == 0,
+        }
     }
 
     /// The first decision, if one stands: a literal by which the path can be split.

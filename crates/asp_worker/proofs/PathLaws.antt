@@ -81,12 +81,7 @@ kept-on m v w s u leaf on p same = record {
 pub ready-pages : (c : Shared) (h k : Worker) → IsReady c h → Keeps h k → IsOfPool c.pool k.pass → view k.seat ≡ view h.seat → IsReady c k
 ready-pages c h k r keeps pool same = ready-seat c h k r keeps pool (subst (λ (v : Knows). IsJournalOf (task_of v) v.seen) (sym same) r.settled.seated.lawful)
 
--- the first decision's variable may split the path
-pub open-first : (m : Mode) (v w : Knows) (s : Searching) (u : Units) (leaf : ℕ) (l : Literal) (r : Option Literal) → IsOn m v s u leaf → Idles v w → ((q : List Literal) → s.cube ≡ Some q → IfSome r (IsOpen s.program q)) → r ≡ Some l →
-    IsVariable (task_of w).program l.var × (has_var (cube_of (seen_board w).nodes leaf) l.var ≡ false)
-open-first m v w s u leaf l r on i h e =
-    let q : List Literal = cube_of (seen_board v).nodes leaf in
-    let opens : IsOpen s.program q l = subst (λ (x : Option Literal). IfSome x (IsOpen s.program q)) e (h q on.works.entered) in (
-      subst (λ (p : Program). IsVariable p l.var) (on.going.program ∙ ap (λ (t : Task). t.program) (sym (task-stays v w i.stays))) opens.0,
-      ap (λ (x : List Literal). has_var x l.var) (cube-idles v w leaf on.works.held i) ∙ opens.1,
-    )
+-- a literal that is open for the search may split the path
+pub open-lit : (m : Mode) (v : Knows) (s : Searching) (u : Units) (leaf : ℕ) (l : Literal) → IsOn m v s u leaf → ((q : List Literal) → s.cube ≡ Some q → IsOpen s.program q l) →
+    IsVariable (task_of v).program l.var × (has_var (cube_of (seen_board v).nodes leaf) l.var ≡ false)
+open-lit m v s u leaf l on h = let opens : IsOpen s.program (cube_of (seen_board v).nodes leaf) l = h (cube_of (seen_board v).nodes leaf) on.works.entered in (subst (λ (p : Program). IsVariable p l.var) on.going.program opens.0, opens.1)

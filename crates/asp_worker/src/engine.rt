@@ -9,6 +9,7 @@ use asp_recorder::recorder::Recorder;
 use asp_search::search::Search;
 use asp_vars::compiled::Compiled;
 use asp_vars::fuel::Fuel;
+use asp_vars::lit::Lit;
 use std::alloc::AllocError;
 
 /// A worker's search, with what pays for it.
@@ -24,6 +25,8 @@ pub(crate) struct Engine<'a> {
     pub(crate) turn: u64,
     /// How many steps it made.
     pub(crate) step: u64,
+    /// The first decision under which the path's last answer was found, until the path is split on it.
+    pub(crate) under: Option<Lit>,
     /// What it did.
     pub(crate) did: Counts,
     /// Where it writes down what it finds, if a proof is wanted.
@@ -50,6 +53,7 @@ pub(crate) fn start<'a>(
         read: 0,
         turn: 0,
         step: 0,
+        under: None,
         did: Counts::new(),
         recorder,
     })

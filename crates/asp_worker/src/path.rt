@@ -112,6 +112,7 @@ fn advance<R: Wait>(
     ensures err { OnErr result (IsOff (view worker.new.seat) engine.new.fuel leaf) }
 {
     let _leaf = leaf;
+    let first = engine.search.first();
     match step(
         rt,
         shared,
@@ -131,6 +132,7 @@ fn advance<R: Wait>(
         }
         Step::Answer(set) => {
             record(rt, shared, &mut worker.seat, engine, set)?;
+            engine.under = first;
             Ok(Course::Open)
         }
         Step::NoFuel(_) => {

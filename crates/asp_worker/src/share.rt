@@ -1,11 +1,12 @@
 //! How a worker gives away half of its path, and when it gives all of it up.
-ghost use Rattle.std.specs.Prelude.{◌≡◌, ◌≤◌, length, true, false, IsTrue, OnOk, OnErr};
+ghost use Rattle.std.specs.Prelude.{◌≡◌, ◌≤◌, List, Some, length, true, false, IsTrue, OnOk, OnErr};
+ghost use Rattle.asp_vars.specs.Literals.{Literal};
 ghost use Rattle.asp_vault.specs.Seats.{view, IsOf, IsBeside};
 ghost use Rattle.asp_path.specs.Trees.{cube_of};
 ghost use Rattle.asp_core.specs.Boards.{is_enough};
 ghost use Rattle.asp_core.specs.Events.{has_var, IsVariable};
 ghost use Rattle.asp_book.specs.Calls.{task_of, seen_board};
-ghost use Rattle.asp_search.specs.Beside.{Enters};
+ghost use Rattle.asp_search.specs.Beside.{Enters, IsOpen};
 ghost use Rattle.asp_worker.specs.Seats.{IsReady, Keeps, IsSettled, Idles, Passes, Holds, HoldsHalf};
 ghost use Rattle.asp_worker.specs.Working.{GoesOn, IsOn, IsOff};
 
@@ -66,6 +67,7 @@ pub(crate) fn begin<R: Wait>(
     ensures ok { OnOk result (IsOn shared.now.mode (view worker.new.seat) engine.new.search engine.new.fuel leaf) }
     ensures err { OnErr result (IsOff (view worker.new.seat) engine.new.fuel leaf) }
 {
+    engine.under = None;
     enter(rt, shared, &mut worker.seat, &mut engine.search, leaf)?;
     refresh(rt, shared, worker, engine)
 }
@@ -97,6 +99,36 @@ fn divide<R: Wait>(
     }
 }
 
+// Splits the path on a literal, offers the half that hasn't it, and goes on with the other.
+//
+// The path that the worker then has is in `leaf`, also after want of memory.
+fn split_on<R: Wait>(
+    rt: &R,
+    shared: &Shared,
+    worker: &mut Worker,
+    engine: &mut Engine<'_>,
+    leaf: &mut Leaf,
+    lit: Lit,
+) -> Result<(), AllocError>
+    requires ready { IsReady shared.now worker.old }
+    requires on { IsOn shared.now.mode (view worker.old.seat) engine.old.search engine.old.fuel leaf.old }
+    requires open { (q : List Literal) → engine.old.search.cube ≡ Some q → IsOpen engine.old.search.program q lit }
+    requires read { engine.old.read ≤ length (view worker.old.pages).seen }
+    ensures keeps { Keeps worker.old worker.new }
+    ensures ready { IsReady shared.now worker.new }
+    ensures read { engine.new.read ≤ length (view worker.new.pages).seen }
+    ensures ok { OnOk result (IsOn shared.now.mode (view worker.new.seat) engine.new.search engine.new.fuel leaf.new) }
+    ensures err { OnErr result (IsOff (view worker.new.seat) engine.new.fuel leaf.new) }
+{
+    match divide(rt, shared, worker, *leaf, lit)? {
+        None => Ok(()),
+        Some(half) => {
+            *leaf = half;
+            begin(rt, shared, worker, engine, half)
+        }
+    }
+}
+
 // Where others want a path, splits that of this worker on its first decision, offers one half and goes on with the other.
 //
 // The path that the worker then has is in `leaf`, also after want of memory.
@@ -122,13 +154,40 @@ fn offer_half<R: Wait>(
             if !desk::wanted(rt, &shared.book, &mut worker.seat, shared.workers) {
                 return Ok(());
             }
-            match divide(rt, shared, worker, *leaf, lit)? {
-                None => Ok(()),
-                Some(half) => {
-                    *leaf = half;
-                    begin(rt, shared, worker, engine, half)
-                }
+            split_on(rt, shared, worker, engine, leaf, lit)
+        }
+    }
+}
+
+// Sheds what was searched. Once the first decision under which answers were found is taken back, the tree still has both of its
+// halves, and a half that is given away later would have these answers in it again. So the path is split on that decision: the
+// half that was searched is closed with the next step, and the other, which this worker takes from its lane then, has none of them.
+//
+// The path that the worker then has is in `leaf`, also after want of memory.
+fn shed<R: Wait>(
+    rt: &R,
+    shared: &Shared,
+    worker: &mut Worker,
+    engine: &mut Engine<'_>,
+    leaf: &mut Leaf,
+) -> Result<(), AllocError>
+    requires ready { IsReady shared.now worker.old }
+    requires on { IsOn shared.now.mode (view worker.old.seat) engine.old.search engine.old.fuel leaf.old }
+    requires read { engine.old.read ≤ length (view worker.old.pages).seen }
+    ensures keeps { Keeps worker.old worker.new }
+    ensures ready { IsReady shared.now worker.new }
+    ensures read { engine.new.read ≤ length (view worker.new.pages).seen }
+    ensures ok { OnOk result (IsOn shared.now.mode (view worker.new.seat) engine.new.search engine.new.fuel leaf.new) }
+    ensures err { OnErr result (IsOff (view worker.new.seat) engine.new.fuel leaf.new) }
+{
+    match engine.under {
+        None => Ok(()),
+        Some(lit) => {
+            if engine.search.is_open(lit) && engine.search.is_taken_back(lit) {
+                engine.under = None;
+                return split_on(rt, shared, worker, engine, leaf, lit);
             }
+            Ok(())
         }
     }
 }
@@ -147,10 +206,10 @@ pub(crate) fn is_enough<R: Wait>(rt: &R, shared: &Shared, worker: &mut Worker) -
     desk::enough(rt, &shared.book, &mut worker.seat)
 }
 
-/// Where it is time, stops if as many answers as asked for were delivered, and else gives half of the path away if others want one.
-///
-/// The path that the worker then has is in `leaf`, also after an error.
-pub(crate) fn share<R: Wait>(
+// Where it is time, stops if as many answers as asked for were delivered, and else gives half of the path away if others want one.
+//
+// The path that the worker then has is in `leaf`, also after an error.
+fn offer<R: Wait>(
     rt: &R,
     shared: &Shared,
     worker: &mut Worker,
@@ -174,4 +233,28 @@ pub(crate) fn share<R: Wait>(
     }
     offer_half(rt, shared, worker, engine, leaf)?;
     Ok(())
+}
+
+/// Sheds what was searched, and where it is time stops if as many answers as asked for were delivered, and else gives half of
+/// the path away if others want one.
+///
+/// The path that the worker then has is in `leaf`, also after an error.
+pub(crate) fn share<R: Wait>(
+    rt: &R,
+    shared: &Shared,
+    worker: &mut Worker,
+    engine: &mut Engine<'_>,
+    leaf: &mut Leaf,
+) -> Result<(), Stop>
+    requires ready { IsReady shared.now worker.old }
+    requires on { IsOn shared.now.mode (view worker.old.seat) engine.old.search engine.old.fuel leaf.old }
+    requires read { engine.old.read ≤ length (view worker.old.pages).seen }
+    ensures keeps { Keeps worker.old worker.new }
+    ensures ready { IsReady shared.now worker.new }
+    ensures read { engine.new.read ≤ length (view worker.new.pages).seen }
+    ensures ok { OnOk result (IsOn shared.now.mode (view worker.new.seat) engine.new.search engine.new.fuel leaf.new) }
+    ensures err { OnErr result (IsOff (view worker.new.seat) engine.new.fuel leaf.new) }
+{
+    shed(rt, shared, worker, engine, leaf)?;
+    offer(rt, shared, worker, engine, leaf)
 }

@@ -135,6 +135,7 @@ pub fn work<R: Wait, G: Gate, H: Halt, W: Watch>(
         read: _,
         turn: _,
         step: _,
+        under: _,
         did,
         recorder: _,
     } = engine;

@@ -1,0 +1,31 @@
+use Rattle.asp_vault.specs.Seats.{view}
+use Rattle.asp_book.specs.Calls.{Knows}
+use Rattle.asp_worker.specs.Working.{IsOff}
+use Rattle.asp_worker.proofs.Replies.{always-err}
+use Rattle.asp_worker.proofs.SeatLaws.{half-none}
+use Rattle.asp_worker.proofs.GoingLaws.{goes-on, owes-on}
+use Rattle.asp_worker.proofs.PathLaws.{kept-on, open-lit}
+use Rattle.asp_worker.proofs.share.split_on.Goals as goal
+
+pub divide-requires-clause-variable : goal.divide-requires-clause-variable
+divide-requires-clause-variable g c = (open-lit c.args.shared.now.mode (view c.args.worker.now.seat) c.args.engine.now.search c.args.engine.now.fuel c.args.leaf.now c.args.lit c.requires.on c.requires.open).0
+
+pub divide-requires-clause-new : goal.divide-requires-clause-new
+divide-requires-clause-new g c = (open-lit c.args.shared.now.mode (view c.args.worker.now.seat) c.args.engine.now.search c.args.engine.now.fuel c.args.leaf.now c.args.lit c.requires.on c.requires.open).1
+
+pub returns-in_err-divide-clause-err : goal.returns-in_err-divide-clause-err
+returns-in_err-divide-clause-err g c =
+    let v : Knows = view c.args.worker.now.seat in let w : Knows = view c.divide.new.worker.seat in
+    always-err c.from_residual.result (IsOff w c.args.engine.now.fuel c.args.leaf.now)
+    (record { held = c.in_err-divide.ensures.half; units = owes-on v w c.args.engine.now.fuel c.requires.on.going.work.units c.divide.ensures.passes })
+
+pub begin-requires-clause-going : goal.begin-requires-clause-going
+begin-requires-clause-going g c =
+    let v : Knows = view c.args.worker.now.seat in let w : Knows = view c.divide.new.worker.seat in
+    goes-on c.args.shared.now.mode v w c.args.engine.now.search c.args.engine.now.fuel c.requires.on.going c.divide.ensures.passes
+
+pub returns-in-None-clause-ok : goal.returns-in-None-clause-ok
+returns-in-None-clause-ok g c =
+    let v : Knows = view c.args.worker.now.seat in let w : Knows = view c.divide.new.worker.seat in
+    kept-on c.args.shared.now.mode v w c.args.engine.now.search c.args.engine.now.fuel c.args.leaf.now c.requires.on c.divide.ensures.passes
+    (half-none v w c.args.leaf.now c.args.lit c.in_ok-divide.field-0 c.in_ok-divide.ensures.half c.in-None.is)
