@@ -62,8 +62,8 @@ def unfounded(n):
 
 
 def priorities(n):
-    rows = [list(range(p * 10 + 1, p * 10 + 11)) for p in range(n // 10)]
-    return [choice(to(n)), *(rule(0, *(-i for i in row)) for row in rows), *(minimise(p, row) for p, row in enumerate(rows))]
+    rows = [range(p * 100 + 1, p * 100 + 101) for p in range(n // 100)]
+    return [choice(to(n)), *(rule(0, -row[0]) for row in rows), *(minimise(p, row) for p, row in enumerate(rows))]
 
 
 def negative(n):
@@ -91,7 +91,7 @@ def lattice(n):
 
 KINDS = {
     "weight body, half implied": weight_body, "n - 1 items by the bound": bound, "free atoms maximised": maximised,
-    "items minimised at -1": negative, "priorities of 10 items": priorities, "atom with n supports": supports,
+    "items minimised at -1": negative, "priorities of 100 items": priorities, "atom with n supports": supports,
     "unfounded weight bodies": unfounded, "chain": chain, "ring": ring, "chain of both ways": two_ways, "lattice of both ways": lattice,
 }
 

@@ -7,6 +7,7 @@ pub mod ReachLaws
 pub mod StepLaws
 pub mod KeptLaws
 pub mod StartLaws
+pub mod RaiserLaws
 pub mod FindLaws
 pub mod NeededLaws
 pub mod NogoodLaws

@@ -6,7 +6,7 @@ use Rattle.std.specs.Option.{is_none}
 use Rattle.std.proofs.lemmas.Int.{ints}
 use Rattle.std.proofs.lemmas.Bool.{false≢true, cases_lt, cases_eq, eqb-true, lt-ltb, or_left, or_right}
 use Rattle.std.proofs.lemmas.List.{append-nil}
-use Rattle.std.proofs.lemmas.List.Elements.{All-append, All-head, All-tail, All-push}
+use Rattle.std.proofs.lemmas.List.Elements.{All-append, All-head, All-tail, All-push, All-weaker}
 use Rattle.std.proofs.lemmas.List.Sums.{sum_by-cons, sum_by-append}
 use Rattle.std.proofs.lemmas.List.Sorted.{list_any-IsPermutation}
 use Rattle.std.proofs.lemmas.List.Folds.{list_any-append, list_all-append}
@@ -28,6 +28,7 @@ use Rattle.asp_bound.specs.Definition.{ExcludesBelow}
 use Rattle.asp_bound.specs.Rises.{rise_at, rise_by, raised, row_at, nth_priority}
 use Rattle.asp_bound.specs.Needed.{total, needed}
 use Rattle.asp_bound.specs.Reasons.{raises, raising_by, raising_at}
+use Rattle.asp_bound.specs.Raisers.{is_raising, is_raising_by, is_raiser, AreRaisers}
 use Rattle.asp_bound.specs.Reach.{reach, lifted}
 use Rattle.asp_bound.specs.Kept.{IsKept}
 use Rattle.asp_bound.specs.Found.{Reaches}
@@ -62,13 +63,15 @@ raised-raises (o ∷ row) j d b lt up =
     first true e h = and_both (ltb o.level d) (ltb 0 (rise_by b o)) (lt-ltb o.level d (omega (arith, eqb-true o.level j e))) (lt-ltb 0 (rise_by b o) h)
     first false e h = absurd (omega arith)
 
-raised-some : (row : List Place) (j : ℕ) (b : Bool) → 0 < raised row j b → row ≢ []
-raised-some [] j b up = absurd (omega arith)
-raised-some (o ∷ row) j b up = λ e. false≢true (sym (ap is_long e))
+raises-raising : (row : List Place) (d : ℕ) (b : Bool) → raises row d b ≡ true → is_raising row b ≡ true
+raises-raising [] d b h = absurd (false≢true h)
+raises-raising (o ∷ row) d b h = by_tests (ltb o.level d) (ltb 0 (rise_by b o)) h (λ g. raises-raising row d b g)
   where
-    is_long : List Place → Bool
-    is_long [] = false
-    is_long (x ∷ xs) = true
+    by_tests : (x y : Bool) → ((x && y) || raises row d b) ≡ true → (raises row d b ≡ true → is_raising row b ≡ true) → (y || is_raising row b) ≡ true
+    by_tests true true g rest = refl
+    by_tests true false g rest = rest g
+    by_tests false true g rest = refl
+    by_tests false false g rest = rest g
 
 among-any : (vs : List ℕ) (v : ℕ) (q : ℕ → Bool) → list_any (λ x. eqb x v) vs ≡ true → q v ≡ true → list_any q vs ≡ true
 among-any [] v q h e = absurd (false≢true h)
@@ -94,11 +97,13 @@ raising-has a rows d vs v b among e up =
     list_any-flat_map (λ k. literal_eq k l) (raising_at a rows d) vs ∙ among-any vs v (λ x. has_literal (raising_at a rows d x) l) among (raising_by-has (row_at rows v) d v b (value_of a v) e up)
 
 -- all that raise the first priorities are among them
-pub raising-whole : (p : Program) (a : List (Option Bool)) (rows : List (List Place)) (columns : List (List Item)) (vars : List ℕ) (sums : List ℤ) (d : ℕ) → IsKept p a rows columns vars sums →
-    (j v : ℕ) (b : Bool) → j < d → j < length (priorities p.minimize) → 0 < v → v ≤ var_count p → value_of a v ≡ Some b → 0 < rise_at p (nth_priority p j) v b → has_literal (raising_of a rows d vars) (record { var = v; truth = b }) ≡ true
-raising-whole p a rows columns vars sums d kept j v b lt low i k e up =
+pub raising-whole : (p : Program) (a : List (Option Bool)) (rows : List (List Place)) (columns : List (List Item)) (vars : List ℕ) (sums : List ℤ) (vs : List ℕ) (d : ℕ) → IsKept p a rows columns vars sums → AreRaisers a rows vs →
+    (j v : ℕ) (b : Bool) → j < d → j < length (priorities p.minimize) → 0 < v → v ≤ var_count p → value_of a v ≡ Some b → 0 < rise_at p (nth_priority p j) v b → has_literal (raising_of a rows d vs) (record { var = v; truth = b }) ≡ true
+raising-whole p a rows columns vars sums vs d kept are j v b lt low i k e up =
     let raise : 0 < raised (row_at rows v) j b = omega (arith, kept.rowed.sums j v b low i k) in
-    raising-has a rows d vars v b (kept.listed.whole v i k (raised-some (row_at rows v) j b raise)) e (raised-raises (row_at rows v) j d b lt raise)
+    let raises_it : raises (row_at rows v) d b ≡ true = raised-raises (row_at rows v) j d b lt raise in
+    let raiser : is_raiser a rows v ≡ true = ap (is_raising_by (row_at rows v)) e ∙ raises-raising (row_at rows v) d b raises_it in
+    raising-has a rows d vs v b (are.whole v raiser) e raises_it
 
 -- ---- they hold
 raising_by-hold : (a : List (Option Bool)) (row : List Place) (d v : ℕ) (o : Option Bool) → value_of a v ≡ o → list_all (holds_in a) (raising_by row d v o) ≡ true
@@ -173,31 +178,33 @@ raising-times a rows d (u ∷ vs) v =
     let counted : count_by (λ x. eqb x v) (u ∷ vs) ≡ cond (eqb u v) 1 0 + count_by (λ x. eqb x v) vs = sum_by-cons (λ (x : ℕ). cond (eqb x v) 1 0) u vs in
     omega (arith, split, first, counted, raising-times a rows d vs v)
 
-pub found-held : (p : Program) (a : List (Option Bool)) (rows : List (List Place)) (columns : List (List Item)) (vars : List ℕ) (sums : List ℤ) (d : ℕ) (found : List Literal) → IsKept p a rows columns vars sums → IsPermutation (raising_of a rows d vars) found → AreHeld p a found
-found-held p a rows columns vars sums d found kept moved =
-    let lits : List Literal = raising_of a rows d vars in
+pub found-held : (p : Program) (a : List (Option Bool)) (rows : List (List Place)) (columns : List (List Item)) (vars : List ℕ) (sums : List ℤ) (vs : List ℕ) (d : ℕ) (found : List Literal) → IsKept p a rows columns vars sums → AreRaisers a rows vs →
+    IsPermutation (raising_of a rows d vs) found → AreHeld p a found
+found-held p a rows columns vars sums vs d found kept are moved =
+    let lits : List Literal = raising_of a rows d vs in
+    let within : All (IsVar (var_count p)) vs = All-weaker (λ v. (0 < v) × (v < length a)) (IsVar (var_count p)) (λ v h. (h.0, omega (arith, kept.sized, h.1))) vs are.within in
     held-permuted p a lits found moved (record {
-      held = λ k g. held-value a k (passes-has (holds_in a) lits k (raising-hold a rows d vars) g);
-      within = λ k g. of-has (λ (l : Literal). IsVar (var_count p) l.var) lits k (raising-within (IsVar (var_count p)) a rows d vars kept.listed.within) g;
-      once = λ v. omega (arith, raising-times a rows d vars v, kept.listed.once v);
+      held = λ k g. held-value a k (passes-has (holds_in a) lits k (raising-hold a rows d vs) g);
+      within = λ k g. of-has (λ (l : Literal). IsVar (var_count p) l.var) lits k (raising-within (IsVar (var_count p)) a rows d vs within) g;
+      once = λ v. omega (arith, raising-times a rows d vs v, are.once v);
     })
 
-found-whole : (p : Program) (a : List (Option Bool)) (rows : List (List Place)) (columns : List (List Item)) (vars : List ℕ) (sums : List ℤ) (d : ℕ) (found : List Literal) → IsKept p a rows columns vars sums → IsPermutation (raising_of a rows d vars) found →
-    OfRaising p a d (λ v b. has_literal found (record { var = v; truth = b }) ≡ true)
-found-whole p a rows columns vars sums d found kept moved = λ j v b lt low i k e up.
-    sym (list_any-IsPermutation (λ (l : Literal). literal_eq l (record { var = v; truth = b })) (raising_of a rows d vars) found moved) ∙ raising-whole p a rows columns vars sums d kept j v b lt low i k e up
+found-whole : (p : Program) (a : List (Option Bool)) (rows : List (List Place)) (columns : List (List Item)) (vars : List ℕ) (sums : List ℤ) (vs : List ℕ) (d : ℕ) (found : List Literal) → IsKept p a rows columns vars sums → AreRaisers a rows vs →
+    IsPermutation (raising_of a rows d vs) found → OfRaising p a d (λ v b. has_literal found (record { var = v; truth = b }) ≡ true)
+found-whole p a rows columns vars sums vs d found kept are moved = λ j v b lt low i k e up.
+    sym (list_any-IsPermutation (λ (l : Literal). literal_eq l (record { var = v; truth = b })) (raising_of a rows d vs) found moved) ∙ raising-whole p a rows columns vars sums vs d kept are j v b lt low i k e up
 
 -- ---- what is given
 abbrev nogood_of : List ℤ → List Literal → Nogood
 nogood_of c n = record { lits = n; base = base.Below c }
 
 pub given-now : (p : Program) (a : List (Option Bool)) (rows : List (List Place)) (columns : List (List Item)) (vars : List ℕ) (sums : List ℤ) → IsKept p a rows columns vars sums →
-    (c : List ℤ) (d : ℕ) (n : Nogood) (found : List Literal) → IsPermutation (raising_of a rows d vars) found → reach sums c ≡ Some d → n ≡ record { lits = needed rows c d sums found ++ []; base = base.Below c } → IsGivenBy (record { program = p; values = a }) c n
-given-now p a rows columns vars sums kept c d n found moved r e =
+    (vs : List ℕ) → AreRaisers a rows vs → (c : List ℤ) (d : ℕ) (n : Nogood) (found : List Literal) → IsPermutation (raising_of a rows d vs) found → reach sums c ≡ Some d → n ≡ record { lits = needed rows c d sums found ++ []; base = base.Below c } → IsGivenBy (record { program = p; values = a }) c n
+given-now p a rows columns vars sums kept vs are c d n found moved r e =
     let lits : List Literal = needed rows c d sums found in
     let plain : lits ++ [] ≡ lits = append-nil lits in
-    let held = found-held p a rows columns vars sums d found kept moved in
-    let whole = found-whole p a rows columns vars sums d found kept moved in
+    let held = found-held p a rows columns vars sums vs d found kept are moved in
+    let whole = found-whole p a rows columns vars sums vs d found kept are moved in
     let excluded : ExcludesBelow p c lits = record {
       excluded = λ x hit. needed-excludes p rows columns vars c d x found a sums kept held (λ j v b lt low i k e up. inl (whole j v b lt low i k e up)) d r (omega arith) hit;
     } in
@@ -239,16 +246,16 @@ covers-told p a d n u t x inside hit whole = λ j v b lt low i k e up. elim (cas
 ]
 
 pub given-with : (p : Program) (a : List (Option Bool)) (rows : List (List Place)) (columns : List (List Item)) (vars : List ℕ) (sums : List ℤ) → IsKept p a rows columns vars sums →
-    (c : List ℤ) (x : Implied) (n : Nogood) (found : List Literal) (left : List ℤ) → IsPermutation (raising_of a rows x.depth vars) found → IsKept p (set a x.lit.var (Some x.lit.truth)) rows columns vars left → Reaches a rows sums c x → 0 < x.lit.var → x.lit.var ≤ var_count p →
+    (vs : List ℕ) → AreRaisers a rows vs → (c : List ℤ) (x : Implied) (n : Nogood) (found : List Literal) (left : List ℤ) → IsPermutation (raising_of a rows x.depth vs) found → IsKept p (set a x.lit.var (Some x.lit.truth)) rows columns vars left → Reaches a rows sums c x → 0 < x.lit.var → x.lit.var ≤ var_count p →
     n ≡ record { lits = needed rows c x.depth left found ++ x.lit ∷ []; base = base.Below c } → IsGivenBy (record { program = p; values = a }) c n
-given-with p a rows columns vars sums kept c x n found left moved more r i k e =
+given-with p a rows columns vars sums kept vs are c x n found left moved more r i k e =
     let d = x.depth in
     let one : List Literal = x.lit ∷ [] in
     let told : List (Option Bool) = set a x.lit.var (Some x.lit.truth) in
     let lits : List Literal = needed rows c d left found in
     let inside : x.lit.var < length a = omega (arith, kept.sized, k) in
-    let held = found-held p a rows columns vars sums d found kept moved in
-    let whole = found-whole p a rows columns vars sums d found kept moved in
+    let held = found-held p a rows columns vars sums vs d found kept are moved in
+    let whole = found-whole p a rows columns vars sums vs d found kept are moved in
     let reached : reach (optimistic p told) c ≡ Some d = sym (reach_at-set p a rows columns vars sums kept c x.lit.var x.lit.truth i k r.no_value) ∙ r.reached in
     let excluded : ExcludesBelow p c (lits ++ one) = record {
       excluded = λ y hit.
@@ -267,11 +274,11 @@ given-with p a rows columns vars sums kept c x n found left moved more r i k e =
 
 -- ---- the same, by what the calls say
 pub given_now_as : (p : Program) (a : List (Option Bool)) (rows : List (List Place)) (columns : List (List Item)) (vars : List ℕ) (sums : List ℤ) → IsKept p a rows columns vars sums →
-    (c s limits : List ℤ) (d : ℕ) (n : Nogood) (lits found : List Literal) (left : List ℤ) → s ≡ sums → limits ≡ c → Some d ≡ reach (lifted (λ j. 0) s) limits → IsPermutation (raising_of a rows d vars) found → left ≡ s →
+    (vs : List ℕ) → AreRaisers a rows vs → (c s limits : List ℤ) (d : ℕ) (n : Nogood) (lits found : List Literal) (left : List ℤ) → s ≡ sums → limits ≡ c → Some d ≡ reach (lifted (λ j. 0) s) limits → IsPermutation (raising_of a rows d vs) found → left ≡ s →
     lits ≡ needed rows limits d left found → n ≡ record { lits = lits ++ []; base = base.Below c } → IsGivenBy (record { program = p; values = a }) c n
-given_now_as p a rows columns vars sums kept c s limits d n lits found left es el r moved same elits e =
+given_now_as p a rows columns vars sums kept vs are c s limits d n lits found left es el r moved same elits e =
     let is : lits ≡ needed rows c d sums found = elits ∙ (ap (λ (k : List ℤ). needed rows k d left found) el ∙ ap (λ (z : List ℤ). needed rows c d z found) (same ∙ es)) in
-    given-now p a rows columns vars sums kept c d n found moved (reached_now sums c s limits (Some d) es el r) (e ∙ ap (λ (ls : List Literal). nogood_of c (ls ++ [])) is)
+    given-now p a rows columns vars sums kept vs are c d n found moved (reached_now sums c s limits (Some d) es el r) (e ∙ ap (λ (ls : List Literal). nogood_of c (ls ++ [])) is)
 
 -- what the sums are with one value more
 pub kept_raised : (p : Program) (a : List (Option Bool)) (rows : List (List Place)) (columns : List (List Item)) (vars : List ℕ) (sums : List ℤ) → IsKept p a rows columns vars sums →
@@ -283,12 +290,12 @@ kept_raised p a rows columns vars sums kept v b row s left i k none er es long e
     omega (arith, ints, each j inside, ap (λ (z : List ℤ). get_or z j (pos 0)) es, ap (λ (r : List Place). raised r j b) er))
 
 pub given_with_as : (p : Program) (a : List (Option Bool)) (rows : List (List Place)) (columns : List (List Item)) (vars : List ℕ) (sums : List ℤ) → IsKept p a rows columns vars sums →
-    (c s limits : List ℤ) (x : Implied) (n : Nogood) (lits found : List Literal) (left : List ℤ) → s ≡ sums → limits ≡ c → Reaches a rows s limits x → (0 < x.lit.var) × (x.lit.var < length a) → IsPermutation (raising_of a rows x.depth vars) found →
+    (vs : List ℕ) → AreRaisers a rows vs → (c s limits : List ℤ) (x : Implied) (n : Nogood) (lits found : List Literal) (left : List ℤ) → s ≡ sums → limits ≡ c → Reaches a rows s limits x → (0 < x.lit.var) × (x.lit.var < length a) → IsPermutation (raising_of a rows x.depth vs) found →
     IsKept p (set a x.lit.var (Some x.lit.truth)) rows columns vars left → lits ≡ needed rows limits x.depth left found → n ≡ record { lits = lits ++ x.lit ∷ []; base = base.Below c } → IsGivenBy (record { program = p; values = a }) c n
-given_with_as p a rows columns vars sums kept c s limits x n lits found left es el r within moved more elits e =
+given_with_as p a rows columns vars sums kept vs are c s limits x n lits found left es el r within moved more elits e =
     let reaches : Reaches a rows sums c x = subst (λ (l : List ℤ). Reaches a rows sums l x) el (subst (λ (z : List ℤ). Reaches a rows z limits x) es r) in
     let is : lits ≡ needed rows c x.depth left found = elits ∙ ap (λ (k : List ℤ). needed rows k x.depth left found) el in
-    given-with p a rows columns vars sums kept c x n found left moved more reaches within.0 (omega (arith, kept.sized, within.1)) (e ∙ ap (λ (ls : List Literal). nogood_of c (ls ++ x.lit ∷ [])) is)
+    given-with p a rows columns vars sums kept vs are c x n found left moved more reaches within.0 (omega (arith, kept.sized, within.1)) (e ∙ ap (λ (ls : List Literal). nogood_of c (ls ++ x.lit ∷ [])) is)
 
 pub found_as : (a : List (Option Bool)) (rows : List (List Place)) (d : ℕ) (vars vs : List ℕ) (lits found : List Literal) → vs ≡ vars → IsPermutation (raising_of a rows d vs) lits → found ≡ lits → IsPermutation (raising_of a rows d vars) found
 found_as a rows d vars vs lits found ev moved ef =

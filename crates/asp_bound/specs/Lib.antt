@@ -12,3 +12,4 @@ pub mod Found
 pub mod Bounded
 pub mod Starts
 pub mod Kept
+pub mod Raisers

@@ -19,6 +19,7 @@ use crate::find::find;
 use crate::levels::{all_levels, vars_of};
 use crate::needed::needed;
 use crate::place::{Item, Place};
+use crate::raisers::Raisers;
 use crate::reach::reach;
 use crate::reasons::{below, raising};
 use crate::starts::take_back;
@@ -52,6 +53,8 @@ pub struct Bound {
     vars: Vec<Var>,
     /// By priority, the optimistic cost under the values told.
     sums: Vec<i64>,
+    /// The variables whose values raise the cost, the newest last. There is room for all that have places.
+    raisers: Raisers,
     /// By priority, how many of the column's first variables have values at least.
     starts: Vec<usize>,
     /// The cost below which answers are sought; None before one is set.
@@ -62,12 +65,14 @@ impl Model for Bound {
     ghost use Rattle.asp_bound.specs.Bounded.{Bounded};
     ghost use Rattle.asp_bound.specs.Kept.{IsKept};
     ghost use Rattle.asp_bound.specs.Starts.{AreStarts};
+    ghost use Rattle.asp_bound.specs.Raisers.{AreRaisers};
+    ghost use Rattle.std.specs.Prelude.{◌≤◌, length};
 
     ghost Value = { Bounded };
 
     ghost view = { λ b. record { told = record { program = b.origin.value; values = b.values }; bound = b.bound } };
 
-    ghost invariant = { λ b. IsKept b.origin.value b.values b.rows b.columns b.vars.items b.sums.items × AreStarts b.values b.columns b.starts.items };
+    ghost invariant = { λ b. IsKept b.origin.value b.values b.rows b.columns b.vars.items b.sums.items × AreStarts b.values b.columns b.starts.items × AreRaisers b.values b.rows b.raisers.vars × (length b.vars.items ≤ b.raisers.room) };
 }
 
 impl Bound {
@@ -80,6 +85,7 @@ impl Bound {
         let rows = levels.rows.into_table(alloc)?;
         let vars = vars_of(alloc, &rows)?;
         let starts = vec![in alloc; 0; levels.columns.len()]?;
+        let raisers = Raisers::new(alloc, vars.len())?;
         Ok(Bound {
             origin: Origin::of(compiled.program()),
             alloc,
@@ -88,6 +94,7 @@ impl Bound {
             columns: levels.columns,
             vars,
             sums: levels.sums,
+            raisers,
             starts,
             bound: None,
         })
@@ -105,6 +112,7 @@ impl Bound {
         }
         let row = self.rows.row(lit.var() as usize);
         raise(self.sums.as_mut_slice(), row, lit.truth());
+        self.raisers.join(row, lit);
         self.values.set(lit);
     }
 
@@ -121,6 +129,7 @@ impl Bound {
         let row = self.rows.row(lit.var() as usize);
         lower(self.sums.as_mut_slice(), row, lit.truth());
         take_back(self.starts.as_mut_slice(), row);
+        self.raisers.leave(row, lit);
         self.values.unset(lit.var());
     }
 
@@ -141,6 +150,7 @@ impl Bound {
         ensures silent { IfOk result (λ n. is_none n ≡ is_silent self.old.told.program self.old.bound self.old.told.values) }
         ensures given { IfOk result (λ n. IfSome n (IsGiven self.old)) }
     {
+        let _ = trail;
         let Some(cost) = &self.bound else {
             return Ok(None);
         };
@@ -148,10 +158,9 @@ impl Bound {
         if let Some(depth) = reach(sums, limits, &[], true) {
             let raising = raising(
                 self.alloc,
-                trail,
                 &self.values,
                 &self.rows,
-                self.vars.as_slice(),
+                self.raisers.as_slice(),
                 depth,
             )?;
             let mut copy = sums.to_vec(self.alloc)?;
@@ -179,10 +188,9 @@ impl Bound {
         };
         let raising = raising(
             self.alloc,
-            trail,
             &self.values,
             &self.rows,
-            self.vars.as_slice(),
+            self.raisers.as_slice(),
             implied.depth,
         )?;
         let mut copy = sums.to_vec(self.alloc)?;

@@ -8,6 +8,7 @@ mod levels;
 mod near;
 mod needed;
 mod place;
+mod raisers;
 mod reach;
 mod reasons;
 mod rise;

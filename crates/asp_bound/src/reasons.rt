@@ -1,9 +1,8 @@
 //! Nogoods that the bound gives.
-ghost use Rattle.std.specs.Prelude.{◌≡◌, ◌<◌, ◌≤◌, ◌+◌, ◌^◌, ◌++◌, IfOk, OnOk, length};
+ghost use Rattle.std.specs.Prelude.{◌≡◌, ◌<◌, ◌≤◌, ◌^◌, ◌++◌, IfOk, OnOk, length};
 ghost use Rattle.std.specs.List.{All, flat_map};
 ghost use Rattle.std.specs.List.Sorted.{IsPermutation};
 ghost use Rattle.std.specs.Option.{option_to_list};
-ghost use Rattle.asp_vars.specs.Literals.{value_of};
 ghost use Rattle.asp_vars.specs.declared.nogood.Base.TheVariants as base;
 ghost use Rattle.asp_bound.specs.Rises.{row_at};
 ghost use Rattle.asp_bound.specs.Reasons.{raises, raising_at};
@@ -12,12 +11,10 @@ use crate::place::Place;
 use crate::sums::rise_by;
 use asp_model::cost::Cost;
 use asp_table::table::Table;
-use asp_trail::trail::Trail;
 use asp_vars::assign::Assign;
 use asp_vars::lit::{Lit, Var};
 use asp_vars::nogood::{Base, Lits, Nogood};
 use std::alloc::{AllocError, Global};
-use std::cmp::Reverse;
 
 // Whether a place in the row adds something by the value, at one of the first priorities.
 fn raises(row: &[Place], depth: usize, truth: bool) -> bool
@@ -72,43 +69,21 @@ fn all_raising(
     Ok(lits)
 }
 
-// The level of the literal's variable, or 0 where that is none of the first variables, or has no value.
-fn level_of(trail: &Trail, vars: usize, lit: Lit) -> usize
-    requires { vars ≤ trail.now.vars + 1 }
-{
-    let var = lit.var();
-    if (var as usize) < vars && trail.value(var) != None {
-        trail.level_of(var)
-    } else {
-        0
-    }
-}
-
-// Puts those of the newest levels first.
-fn sort(lits: &mut [Lit], trail: &Trail, vars: usize)
-    requires { vars ≤ trail.now.vars + 1 }
-    ensures { IsPermutation lits.old lits.new }
-{
-    lits.sort_unstable_by_key(|lit| Reverse(level_of(trail, vars, *lit)));
-}
-
-/// The true literals that raise the cost at one of the first priorities, those of the newest levels first.
+/// The true literals of these variables that raise the cost at one of the first priorities, those of the last ones first.
 pub fn raising(
     alloc: Global,
-    trail: &Trail,
     values: &Assign,
     rows: &Table<Place>,
     vars: &[Var],
     depth: usize,
 ) -> Result<Vec<Lit>, AllocError>
-    requires trail { length values.now ≡ trail.now.vars + 1 }
     requires few { length values.now ≤ 2 ^ 31 }
     requires rows { length rows.now ≡ length values.now }
     requires within { All (λ v. v < length values.now) vars.now }
     ensures { IfOk result (λ lits. IsPermutation (flat_map (raising_at values.now rows.now depth) vars.now) lits.items) }
 {
     let mut lits = all_raising(alloc, values, rows, vars, depth)?;
-    sort(lits.as_mut_slice(), trail, rows.len());
+    lits.as_mut_slice().reverse();
     Ok(lits)
 }
 

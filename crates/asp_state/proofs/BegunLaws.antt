@@ -1,13 +1,18 @@
 -- The ranking in which a search begins.
-use Rattle.std.proofs.Common.{◌≡◌, ℕ, ◌+◌, ◌<◌, List, [], ◌∷◌, fold, map, refl, arith}
+use Rattle.std.proofs.Common.{◌≡◌, ℕ, ◌+◌, ◌<◌, List, [], ◌∷◌, ◌++◌, length, fold, map, refl, sym, ap, subst, ◌∙◌, take, get_or, arith}
 use Rattle.std.specs.List.{All}
+use Rattle.std.proofs.lemmas.List.{take_more}
+use Rattle.asp_model.specs.declared.program.Body.{Body}
+use Rattle.asp_model.specs.declared.program.Program.{Program}
 use Rattle.asp_vars.specs.Literals.{Literal}
 use Rattle.asp_vars.specs.declared.nogood.Nogood.{Nogood}
 use Rattle.asp_trail.specs.Trails.{IsVar}
 use Rattle.asp_complete.specs.Listed.{pure}
 use Rattle.asp_order.specs.Heaps.{Ranking}
+use Rattle.asp_order.specs.Waiting.{HasVars}
+use Rattle.asp_vars.specs.Numbering.{bodies_of}
 use Rattle.asp_order.proofs.HeapLaws.{IsAlike, all_bumped_alike, alike_still}
-use Rattle.asp_state.specs.SearchStates.{with_places}
+use Rattle.asp_state.specs.SearchStates.{with_places, weighed_literals, with_bodies, with_weighted}
 
 -- the same variables are in the heap
 pub places_alike : (r : Ranking) (ns : List Nogood) → IsAlike r (fold (λ (x : Ranking) (n : Nogood). with_places x n.lits) r ns)
@@ -24,3 +29,29 @@ places_listed r (n ∷ ns) = places_listed (with_places r n) ns
 -- variables have an activity
 pub vars_ranked : (vars k : ℕ) (lits : List Literal) → k ≡ vars + 1 → All (λ l. IsVar vars l.var) lits → All (λ l. l.var < k) lits
 vars_ranked vars k lits e a i d h = let v = a i d h in omega (arith, v.1, e)
+
+pub bodies_alike : (p : Program) (r : Ranking) (bs : List Body) → IsAlike r (with_bodies p r bs)
+bodies_alike p r [] = record { members = refl; vars = refl }
+bodies_alike p r (b ∷ bs) =
+    let more : Ranking = with_places r (weighed_literals p b) in
+    alike_still r more (with_bodies p more bs) (all_bumped_alike r (weighed_literals p b)) (bodies_alike p more bs)
+
+pub weighted-vars : (p : Program) (n : ℕ) (old new : Ranking) → new ≡ with_weighted p old → HasVars n old → HasVars n new
+weighted-vars p n old new e h = subst (HasVars n) (sym e) ((bodies_alike p old (bodies_of p)).vars ∙ h)
+
+pub weighted-members : (p : Program) (old new : Ranking) → new ≡ with_weighted p old → new.members ≡ old.members
+weighted-members p old new e = ap (λ (r : Ranking). r.members) e ∙ (bodies_alike p old (bodies_of p)).members
+
+bodies_push : (p : Program) (r : Ranking) (bs : List Body) (b : Body) → with_bodies p r (bs ++ b ∷ []) ≡ with_places (with_bodies p r bs) (weighed_literals p b)
+bodies_push p r [] b = refl
+bodies_push p r (x ∷ bs) b = bodies_push p (with_places r (weighed_literals p x)) bs b
+
+-- a body more
+pub bodies_more : (p : Program) (r old new : Ranking) (i : ℕ) (d : Body) → i < length (bodies_of p) → old ≡ with_bodies p r (take i (bodies_of p)) → new ≡ with_places old (weighed_literals p (get_or (bodies_of p) i d)) →
+    new ≡ with_bodies p r (take (i + 1) (bodies_of p))
+bodies_more p r old new i d lt before made =
+    let b : Body = get_or (bodies_of p) i d in
+    made ∙ (ap (λ (x : Ranking). with_places x (weighed_literals p b)) before ∙ sym (ap (with_bodies p r) (take_more (bodies_of p) i d lt) ∙ bodies_push p r (take i (bodies_of p)) b))
+
+pub bodies-vars : (p : Program) (n i : ℕ) (r old : Ranking) → old ≡ with_bodies p r (take i (bodies_of p)) → HasVars n r → HasVars n old
+bodies-vars p n i r old e h = subst (HasVars n) (sym e) ((bodies_alike p r (take i (bodies_of p))).vars ∙ h)

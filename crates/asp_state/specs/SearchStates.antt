@@ -1,9 +1,11 @@
 -- What a search has on its trail under a cube, and which nogoods it keeps.
-use Rattle.std.specs.Prelude.{◌≡◌, ℕ, ◌<◌, ◌^◌, ◌⊎◌, Bool, true, false, List, [], fold, Option, Some, None, ℤ, IsTrue}
+use Rattle.std.specs.Prelude.{◌≡◌, ℕ, ◌<◌, ◌^◌, ◌⊎◌, Bool, true, false, List, [], fold, Option, Some, None, is_some, if◌then◌else◌, ℤ, IsTrue}
 use Rattle.std.specs.List.{All, AllByRecursion, Any}
+use Rattle.asp_model.specs.declared.program.Body.{Body}
 use Rattle.asp_model.specs.declared.program.Program.{Program}
 use Rattle.asp_vars.specs.Literals.{Literal, complement, has_literal}
-use Rattle.asp_vars.specs.Numbering.{var_count}
+use Rattle.asp_vars.specs.Numbering.{var_count, bodies_of}
+use Rattle.asp_vars.specs.Tabled.{bound_of, form_literals}
 use Rattle.asp_vars.specs.Completion.{completion}
 use Rattle.asp_vars.specs.declared.nogood.Nogood.{Nogood}
 use Rattle.asp_vars.specs.declared.nogood.Base.TheVariants as base
@@ -55,8 +57,24 @@ abbrev pub with_places : Ranking → List Literal → Ranking
 with_places ranking n = all_bumped ranking n
 
 -- a bump for each place where a variable stands in a nogood of the completion
+abbrev pub completed_ranking : Program → Ranking
+completed_ranking p = fold with_places (fresh (var_count p)) (completion p)
+
+-- the literals of a weight body; of a normal body, of whose literals the completion speaks, none
+abbrev pub weighed_literals : Program → Body → List Literal
+weighed_literals p b = if is_some (bound_of b) then form_literals p b else []
+
+-- with a bump for each place where a variable stands in one of these bodies, if it is a weight body
+abbrev pub with_bodies : Program → Ranking → List Body → Ranking
+with_bodies p ranking bodies = fold (λ r b. with_places r (weighed_literals p b)) ranking bodies
+
+-- with a bump for each place where a variable stands in a weight body
+abbrev pub with_weighted : Program → Ranking → Ranking
+with_weighted p ranking = with_bodies p ranking (bodies_of p)
+
+-- a bump for each place where a variable stands in a nogood of the completion, or in a weight body
 abbrev pub first_ranking : Program → Ranking
-first_ranking p = fold with_places (fresh (var_count p)) (completion p)
+first_ranking p = with_weighted p (completed_ranking p)
 
 -- ---- what every state keeps
 -- what is kept forever

@@ -7,9 +7,10 @@ ghost use Rattle.asp_order.specs.Heaps.{is_in};
 ghost use Rattle.asp_order.specs.Waiting.{HasVars};
 ghost use Rattle.asp_vars.specs.Completion.{completion};
 ghost use Rattle.asp_vars.specs.Numbering.{var_count};
-ghost use Rattle.asp_state.specs.SearchStates.{first_ranking, with_places};
+ghost use Rattle.asp_state.specs.SearchStates.{first_ranking, completed_ranking, with_places};
 
 use crate::preferred::prefer_cheap;
+use crate::weighted::begin_weighted;
 use asp_order::order::Order;
 use asp_vars::compiled::Compiled;
 use asp_vars::nogood::Nogood;
@@ -28,7 +29,7 @@ fn begin_all(order: &mut Order, nogoods: &[Nogood])
 // All variables, each with a bump for each place where it stands in the completion, which is given.
 fn ranked(alloc: Global, compiled: &Compiled, nogoods: &[Nogood]) -> Result<Order, AllocError>
     requires { nogoods.now ≡ map pure (completion compiled.now) }
-    ensures first { IfOk result (λ order. order ≡ first_ranking compiled.now) }
+    ensures first { IfOk result (λ order. order ≡ completed_ranking compiled.now) }
     ensures vars { IfOk result (HasVars (var_count compiled.now)) }
     ensures all { IfOk result (λ order. (v : ℕ) → IsVar (var_count compiled.now) v → IsTrue (is_in order.members v)) }
 {
@@ -37,7 +38,7 @@ fn ranked(alloc: Global, compiled: &Compiled, nogoods: &[Nogood]) -> Result<Orde
     Ok(order)
 }
 
-/// All variables, each with a bump for each place where it stands in the completion, which is given.
+/// All variables, each with a bump for each place where it stands in the completion, which is given, or in a weight body.
 /// What is minimised is first decided to have its cheaper value.
 pub fn begun(alloc: Global, compiled: &Compiled, nogoods: &[Nogood]) -> Result<Order, AllocError>
     requires { nogoods.now ≡ map pure (completion compiled.now) }
@@ -46,6 +47,7 @@ pub fn begun(alloc: Global, compiled: &Compiled, nogoods: &[Nogood]) -> Result<O
     ensures all { IfOk result (λ order. (v : ℕ) → IsVar (var_count compiled.now) v → IsTrue (is_in order.members v)) }
 {
     let mut order = ranked(alloc, compiled, nogoods)?;
+    begin_weighted(&mut order, compiled);
     prefer_cheap(&mut order, compiled);
     Ok(order)
 }

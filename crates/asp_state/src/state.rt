@@ -86,7 +86,8 @@ fn push_all(lits: &mut Lits, more: &[Lit]) -> Result<(), AllocError>
 }
 
 impl<P: Propagator> SearchState<P> {
-    /// No path is entered. The completion is kept, and nothing else; each variable has a bump for each place in it.
+    /// No path is entered. The completion is kept, and nothing else; each variable has a bump for each place in it, and
+    /// for each place in a weight body.
     ///
     /// Want of memory is the one error.
     pub fn new(

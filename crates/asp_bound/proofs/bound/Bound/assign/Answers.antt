@@ -2,7 +2,8 @@ use Rattle.std.proofs.Common.{◌≡◌, eqb, ◌∙◌, ◌<◌, ℕ, ◌+ℤ�
 use Rattle.std.proofs.lemmas.Int.{ints}
 use Rattle.std.proofs.lemmas.List.{take_at}
 use Rattle.asp_bound.specs.Rises.{raised, row_at}
-use Rattle.asp_bound.proofs.KeptLaws.{raised-small, raise-room, raised_as, kept-told, kept_as, bare-told}
+use Rattle.asp_bound.proofs.KeptLaws.{raised-small, raise-room, raised_as, kept-told, kept_as, bare_row, bare-told}
+use Rattle.asp_bound.proofs.RaiserLaws.{room_as, told_as, bare_told_as}
 use Rattle.asp_bound.proofs.StartLaws.{starts-told}
 use Rattle.asp_bound.proofs.bound.Bound.assign.Goals as goal
 
@@ -35,7 +36,12 @@ invariant_of-self-2 c =
     let kept = kept-told c.self.inside.origin.value c.self.inside.values c.self.inside.rows c.self.inside.columns c.self.inside.vars.items c.self.inside.sums.items new c.self.invariant.0 c.args.lit.var c.args.lit.truth v.0 v.1 held long each in
     let within : c.args.lit.var < length c.self.inside.values = omega (arith, c.self.invariant.0.sized, v.1) in
     let starts = starts-told c.self.inside.values c.set-2.new.self c.self.inside.columns c.self.inside.starts.items c.args.lit.var c.args.lit.truth c.self.invariant.1 within c.set-2.ensures in
-    (kept_as c.self.inside.origin.value _ c.set-2.new.self c.self.inside.rows c.self.inside.columns c.self.inside.vars.items new _ c.set-2.ensures (take_at new (drop (length new) c.self.inside.sums.items) c.self.inside.sums.len (c.raise.auto.sums ∙ c.as_mut_slice.ensures.len)) kept, starts)
+    let raisers = told_as c.self.inside.values c.set-2.new.self c.self.inside.rows c.self.inside.vars.items c.self.inside.raisers c.join.new.self c.row-row.result.now c.var.result c.args.lit c.self.invariant.2 c.self.invariant.3 v.0 within held c.set-2.ensures c.row-row.ensures c.var.ensures c.join.ensures in (
+      kept_as c.self.inside.origin.value _ c.set-2.new.self c.self.inside.rows c.self.inside.columns c.self.inside.vars.items new _ c.set-2.ensures (take_at new (drop (length new) c.self.inside.sums.items) c.self.inside.sums.len (c.raise.auto.sums ∙ c.as_mut_slice.ensures.len)) kept,
+      starts,
+      raisers.0,
+      raisers.1,
+    )
 
 pub invariant_of-self : goal.invariant_of-self
 invariant_of-self c =
@@ -45,4 +51,17 @@ invariant_of-self c =
     let kept = bare-told c.self.inside.origin.value c.self.inside.values c.self.inside.rows c.self.inside.columns c.self.inside.vars.items c.self.inside.sums.items c.self.invariant.0 bare c.args.lit.var c.args.lit.truth v.0 v.1 held in
     let within : c.args.lit.var < length c.self.inside.values = omega (arith, c.self.invariant.0.sized, v.1) in
     let starts = starts-told c.self.inside.values c.set.new.self c.self.inside.columns c.self.inside.starts.items c.args.lit.var c.args.lit.truth c.self.invariant.1 within c.set.ensures in
-    (kept_as c.self.inside.origin.value _ c.set.new.self c.self.inside.rows c.self.inside.columns c.self.inside.vars.items c.self.inside.sums.items _ c.set.ensures refl kept, starts)
+    let row = bare_row c.self.inside.origin.value c.self.inside.rows c.self.inside.vars.items c.self.invariant.0.listed bare c.args.lit.var v.0 v.1 in
+    let raisers = bare_told_as c.self.inside.values c.set.new.self c.self.inside.rows c.self.inside.vars.items c.self.inside.raisers c.args.lit c.self.invariant.2 c.self.invariant.3 v.0 within held row c.set.ensures in (
+      kept_as c.self.inside.origin.value _ c.set.new.self c.self.inside.rows c.self.inside.columns c.self.inside.vars.items c.self.inside.sums.items _ c.set.ensures refl kept,
+      starts,
+      raisers.0,
+      raisers.1,
+    )
+
+pub join-requires : goal.join-requires
+join-requires c = λ up.
+    let v = rw (← c.self.view_is) at c.requires.var in
+    let held = rw (← c.self.view_is) at c.requires.none in
+    let within : c.args.lit.var < length c.self.inside.values = omega (arith, c.self.invariant.0.sized, v.1) in
+    room_as c.self.inside.origin.value c.self.inside.values c.self.inside.rows c.self.inside.vars.items c.self.inside.raisers c.row-row.result.now c.var.result c.args.lit c.self.invariant.0.sized c.self.invariant.0.listed c.self.invariant.2 c.self.invariant.3 v.0 within held c.row-row.ensures c.var.ensures up

@@ -7,7 +7,7 @@ use Rattle.asp_bound.specs.Reach.{reach, lifted}
 use Rattle.asp_bound.proofs.KeptLaws.{sums-room, rows-small, columns-within, raised_as, raised-small, raise-room}
 use Rattle.asp_bound.proofs.SilentLaws.{loud_now_as, loud_with_as, silent_now_as}
 use Rattle.asp_bound.proofs.NogoodLaws.{given_now_as, given_with_as, found_as, found-held, held-told, kept_raised, left-vars, left-within, left-low}
-use Rattle.asp_bound.proofs.NeededLaws.{assignment-length}
+use Rattle.asp_bound.proofs.RaiserLaws.{within_as}
 use Rattle.std.specs.List.{All}
 use Rattle.asp_bound.specs.declared.place.Place.{Place}
 use Rattle.asp_bound.specs.Rises.{row_at}
@@ -30,9 +30,9 @@ returns-in-Some-reach-clause-given c =
     let reached : Some c.in-Some-reach.depth ≡ reach (lifted (λ j. 0) c.as_slice-sums.result.now) c.as_slice-limits.result.now = c.in-Some-reach.ensures in
     let made : c.in_ok-nogood.nogood ≡ record { lits = c.in_ok-lits.lits ++ []; base = base.Below c.in-Some.cost } = c.in_ok-nogood.ensures in
     let found = c.as_slice-in-Some-reach.result.now in
-    let moved = found_as c.self.inside.values c.self.inside.rows c.in-Some-reach.depth c.self.inside.vars.items c.as_slice.result.now c.in_ok-raising.raising.items found c.as_slice.ensures.value c.in_ok-raising.ensures c.as_slice-in-Some-reach.ensures.value in
+    let moved = found_as c.self.inside.values c.self.inside.rows c.in-Some-reach.depth c.self.inside.raisers.vars c.as_slice.result.now c.in_ok-raising.raising.items found c.as_slice.ensures c.in_ok-raising.ensures c.as_slice-in-Some-reach.ensures.value in
     let same = c.as_mut_slice-left.ensures.value ∙ c.in_ok-copy.ensures.items_if_clones_equal (λ x y q. q) in
-    let given = given_now_as c.self.inside.origin.value c.self.inside.values c.self.inside.rows c.self.inside.columns c.self.inside.vars.items c.self.inside.sums.items c.self.invariant.0 c.in-Some.cost c.as_slice-sums.result.now c.as_slice-limits.result.now c.in-Some-reach.depth c.in_ok-nogood.nogood c.in_ok-lits.lits found c.as_mut_slice-left.result.now
+    let given = given_now_as c.self.inside.origin.value c.self.inside.values c.self.inside.rows c.self.inside.columns c.self.inside.vars.items c.self.inside.sums.items c.self.invariant.0 c.self.inside.raisers.vars c.self.invariant.2 c.in-Some.cost c.as_slice-sums.result.now c.as_slice-limits.result.now c.in-Some-reach.depth c.in_ok-nogood.nogood c.in_ok-lits.lits found c.as_mut_slice-left.result.now
     c.as_slice-sums.ensures.value c.as_slice-limits.ensures reached moved same c.in_ok-lits.ensures made in
     subst (λ (b : Bounded). IsGiven b c.in_ok-nogood.nogood) c.self.view_is (c.in-Some.cost, c.in-Some.is, given)
 
@@ -76,15 +76,15 @@ returns-clause-given c =
     omega (arith, ints, c.raise.ensures j lt, raised_as c.self.inside.rows x.lit.var x.lit.truth c.row-row.result.now c.var.result c.truth.result c.row-row.ensures c.var.ensures c.truth.ensures j)) in
     let made : c.in_ok-nogood-2.nogood ≡ record { lits = c.in_ok-lits-2.lits ++ c.in-Some-find.implied.lit ∷ []; base = base.Below c.in-Some.cost } = c.in_ok-nogood-2.ensures in
     let found = c.as_slice-3.result.now in
-    let moved = found_as c.self.inside.values c.self.inside.rows c.in-Some-find.implied.depth c.self.inside.vars.items c.as_slice-2.result.now c.in_ok-raising-2.raising.items found c.as_slice-2.ensures.value c.in_ok-raising-2.ensures c.as_slice-3.ensures.value in
-    let given = given_with_as c.self.inside.origin.value c.self.inside.values c.self.inside.rows c.self.inside.columns c.self.inside.vars.items c.self.inside.sums.items c.self.invariant.0 c.in-Some.cost c.as_slice-sums.result.now c.as_slice-limits.result.now c.in-Some-find.implied c.in_ok-nogood-2.nogood c.in_ok-lits-2.lits found c.raise.new.sums
+    let moved = found_as c.self.inside.values c.self.inside.rows c.in-Some-find.implied.depth c.self.inside.raisers.vars c.as_slice-2.result.now c.in_ok-raising-2.raising.items found c.as_slice-2.ensures c.in_ok-raising-2.ensures c.as_slice-3.ensures.value in
+    let given = given_with_as c.self.inside.origin.value c.self.inside.values c.self.inside.rows c.self.inside.columns c.self.inside.vars.items c.self.inside.sums.items c.self.invariant.0 c.self.inside.raisers.vars c.self.invariant.2 c.in-Some.cost c.as_slice-sums.result.now c.as_slice-limits.result.now c.in-Some-find.implied c.in_ok-nogood-2.nogood c.in_ok-lits-2.lits found c.raise.new.sums
     c.as_slice-sums.ensures.value c.as_slice-limits.ensures c.in-Some-find.ensures.reaches c.in-Some-find.ensures.within moved more c.in_ok-lits-2.ensures made in
     subst (λ (b : Bounded). IsGiven b c.in_ok-nogood-2.nogood) c.self.view_is (c.in-Some.cost, c.in-Some.is, given)
 
 pub needed-requires-clause-vars : goal.needed-requires-clause-vars
 needed-requires-clause-vars c =
     let kept = subst (IsKept c.self.inside.origin.value c.self.inside.values c.self.inside.rows c.self.inside.columns c.self.inside.vars.items) (sym (c.as_mut_slice-left.ensures.value ∙ (c.in_ok-copy.ensures.items_if_clones_equal (λ x y q. q) ∙ c.as_slice-sums.ensures.value))) c.self.invariant.0 in
-    let held = found-held c.self.inside.origin.value c.self.inside.values c.self.inside.rows c.self.inside.columns c.self.inside.vars.items c.self.inside.sums.items c.in-Some-reach.depth c.as_slice-in-Some-reach.result.now c.self.invariant.0 (found_as c.self.inside.values c.self.inside.rows c.in-Some-reach.depth c.self.inside.vars.items c.as_slice.result.now c.in_ok-raising.raising.items c.as_slice-in-Some-reach.result.now c.as_slice.ensures.value c.in_ok-raising.ensures c.as_slice-in-Some-reach.ensures.value) in
+    let held = found-held c.self.inside.origin.value c.self.inside.values c.self.inside.rows c.self.inside.columns c.self.inside.vars.items c.self.inside.sums.items c.self.inside.raisers.vars c.in-Some-reach.depth c.as_slice-in-Some-reach.result.now c.self.invariant.0 c.self.invariant.2 (found_as c.self.inside.values c.self.inside.rows c.in-Some-reach.depth c.self.inside.raisers.vars c.as_slice.result.now c.in_ok-raising.raising.items c.as_slice-in-Some-reach.result.now c.as_slice.ensures c.in_ok-raising.ensures c.as_slice-in-Some-reach.ensures.value) in
     left-vars c.self.inside.origin.value c.self.inside.values c.self.inside.rows c.self.inside.columns c.self.inside.vars.items c.as_mut_slice-left.result.now c.as_slice-in-Some-reach.result.now kept held
 
 pub needed-requires-clause-within : goal.needed-requires-clause-within
@@ -100,7 +100,7 @@ needed-requires-clause-small c =
 pub needed-requires-clause-low : goal.needed-requires-clause-low
 needed-requires-clause-low c =
     let kept = subst (IsKept c.self.inside.origin.value c.self.inside.values c.self.inside.rows c.self.inside.columns c.self.inside.vars.items) (sym (c.as_mut_slice-left.ensures.value ∙ (c.in_ok-copy.ensures.items_if_clones_equal (λ x y q. q) ∙ c.as_slice-sums.ensures.value))) c.self.invariant.0 in
-    let held = found-held c.self.inside.origin.value c.self.inside.values c.self.inside.rows c.self.inside.columns c.self.inside.vars.items c.self.inside.sums.items c.in-Some-reach.depth c.as_slice-in-Some-reach.result.now c.self.invariant.0 (found_as c.self.inside.values c.self.inside.rows c.in-Some-reach.depth c.self.inside.vars.items c.as_slice.result.now c.in_ok-raising.raising.items c.as_slice-in-Some-reach.result.now c.as_slice.ensures.value c.in_ok-raising.ensures c.as_slice-in-Some-reach.ensures.value) in
+    let held = found-held c.self.inside.origin.value c.self.inside.values c.self.inside.rows c.self.inside.columns c.self.inside.vars.items c.self.inside.sums.items c.self.inside.raisers.vars c.in-Some-reach.depth c.as_slice-in-Some-reach.result.now c.self.invariant.0 c.self.invariant.2 (found_as c.self.inside.values c.self.inside.rows c.in-Some-reach.depth c.self.inside.raisers.vars c.as_slice.result.now c.in_ok-raising.raising.items c.as_slice-in-Some-reach.result.now c.as_slice.ensures c.in_ok-raising.ensures c.as_slice-in-Some-reach.ensures.value) in
     left-low c.self.inside.origin.value c.self.inside.values c.self.inside.rows c.self.inside.columns c.self.inside.vars.items c.as_mut_slice-left.result.now c.as_slice-in-Some-reach.result.now kept held
 
 pub needed-requires-clause-high : goal.needed-requires-clause-high
@@ -115,7 +115,7 @@ needed-requires-2-clause-vars c =
     let es = c.as_mut_slice-left-2.ensures.value ∙ (c.in_ok-copy-2.ensures.items_if_clones_equal (λ x y q. q) ∙ c.as_slice-sums.ensures.value) in
     let kept = kept_raised c.self.inside.origin.value c.self.inside.values c.self.inside.rows c.self.inside.columns c.self.inside.vars.items c.self.inside.sums.items c.self.invariant.0 x.lit.var x.lit.truth (row_at c.self.inside.rows x.lit.var) c.as_mut_slice-left-2.result.now c.raise.new.sums within.0 (omega (arith, c.self.invariant.0.sized, within.1)) c.in-Some-find.ensures.reaches.no_value refl es c.raise.auto.sums (λ j lt.
     omega (arith, ints, c.raise.ensures j lt, raised_as c.self.inside.rows x.lit.var x.lit.truth c.row-row.result.now c.var.result c.truth.result c.row-row.ensures c.var.ensures c.truth.ensures j)) in
-    let held = held-told c.self.inside.origin.value c.self.inside.values c.as_slice-3.result.now x.lit.var x.lit.truth c.in-Some-find.ensures.reaches.no_value (found-held c.self.inside.origin.value c.self.inside.values c.self.inside.rows c.self.inside.columns c.self.inside.vars.items c.self.inside.sums.items x.depth c.as_slice-3.result.now c.self.invariant.0 (found_as c.self.inside.values c.self.inside.rows c.in-Some-find.implied.depth c.self.inside.vars.items c.as_slice-2.result.now c.in_ok-raising-2.raising.items c.as_slice-3.result.now c.as_slice-2.ensures.value c.in_ok-raising-2.ensures c.as_slice-3.ensures.value)) in
+    let held = held-told c.self.inside.origin.value c.self.inside.values c.as_slice-3.result.now x.lit.var x.lit.truth c.in-Some-find.ensures.reaches.no_value (found-held c.self.inside.origin.value c.self.inside.values c.self.inside.rows c.self.inside.columns c.self.inside.vars.items c.self.inside.sums.items c.self.inside.raisers.vars x.depth c.as_slice-3.result.now c.self.invariant.0 c.self.invariant.2 (found_as c.self.inside.values c.self.inside.rows c.in-Some-find.implied.depth c.self.inside.raisers.vars c.as_slice-2.result.now c.in_ok-raising-2.raising.items c.as_slice-3.result.now c.as_slice-2.ensures c.in_ok-raising-2.ensures c.as_slice-3.ensures.value)) in
     left-vars c.self.inside.origin.value (set c.self.inside.values c.in-Some-find.implied.lit.var (Some c.in-Some-find.implied.lit.truth)) c.self.inside.rows c.self.inside.columns c.self.inside.vars.items c.raise.new.sums c.as_slice-3.result.now kept held
 
 pub needed-requires-2-clause-within : goal.needed-requires-2-clause-within
@@ -143,7 +143,7 @@ needed-requires-2-clause-low c =
     let es = c.as_mut_slice-left-2.ensures.value ∙ (c.in_ok-copy-2.ensures.items_if_clones_equal (λ x y q. q) ∙ c.as_slice-sums.ensures.value) in
     let kept = kept_raised c.self.inside.origin.value c.self.inside.values c.self.inside.rows c.self.inside.columns c.self.inside.vars.items c.self.inside.sums.items c.self.invariant.0 x.lit.var x.lit.truth (row_at c.self.inside.rows x.lit.var) c.as_mut_slice-left-2.result.now c.raise.new.sums within.0 (omega (arith, c.self.invariant.0.sized, within.1)) c.in-Some-find.ensures.reaches.no_value refl es c.raise.auto.sums (λ j lt.
     omega (arith, ints, c.raise.ensures j lt, raised_as c.self.inside.rows x.lit.var x.lit.truth c.row-row.result.now c.var.result c.truth.result c.row-row.ensures c.var.ensures c.truth.ensures j)) in
-    let held = held-told c.self.inside.origin.value c.self.inside.values c.as_slice-3.result.now x.lit.var x.lit.truth c.in-Some-find.ensures.reaches.no_value (found-held c.self.inside.origin.value c.self.inside.values c.self.inside.rows c.self.inside.columns c.self.inside.vars.items c.self.inside.sums.items x.depth c.as_slice-3.result.now c.self.invariant.0 (found_as c.self.inside.values c.self.inside.rows c.in-Some-find.implied.depth c.self.inside.vars.items c.as_slice-2.result.now c.in_ok-raising-2.raising.items c.as_slice-3.result.now c.as_slice-2.ensures.value c.in_ok-raising-2.ensures c.as_slice-3.ensures.value)) in
+    let held = held-told c.self.inside.origin.value c.self.inside.values c.as_slice-3.result.now x.lit.var x.lit.truth c.in-Some-find.ensures.reaches.no_value (found-held c.self.inside.origin.value c.self.inside.values c.self.inside.rows c.self.inside.columns c.self.inside.vars.items c.self.inside.sums.items c.self.inside.raisers.vars x.depth c.as_slice-3.result.now c.self.invariant.0 c.self.invariant.2 (found_as c.self.inside.values c.self.inside.rows c.in-Some-find.implied.depth c.self.inside.raisers.vars c.as_slice-2.result.now c.in_ok-raising-2.raising.items c.as_slice-3.result.now c.as_slice-2.ensures c.in_ok-raising-2.ensures c.as_slice-3.ensures.value)) in
     left-low c.self.inside.origin.value (set c.self.inside.values c.in-Some-find.implied.lit.var (Some c.in-Some-find.implied.lit.truth)) c.self.inside.rows c.self.inside.columns c.self.inside.vars.items c.raise.new.sums c.as_slice-3.result.now kept held
 
 pub needed-requires-2-clause-high : goal.needed-requires-2-clause-high
@@ -155,11 +155,11 @@ needed-requires-2-clause-high c =
     omega (arith, ints, c.raise.ensures j lt, raised_as c.self.inside.rows x.lit.var x.lit.truth c.row-row.result.now c.var.result c.truth.result c.row-row.ensures c.var.ensures c.truth.ensures j)) in
     sums-room c.self.inside.origin.value (set c.self.inside.values c.in-Some-find.implied.lit.var (Some c.in-Some-find.implied.lit.truth)) c.self.inside.rows c.self.inside.columns c.self.inside.vars.items c.raise.new.sums kept
 
-pub raising-requires-clause-trail : goal.raising-requires-clause-trail
-raising-requires-clause-trail c = ap length (rw (← c.self.view_is) at c.requires) ∙ assignment-length c.args.trail.now.vars c.args.trail.now.entries
+pub raising-requires-clause-within : goal.raising-requires-clause-within
+raising-requires-clause-within c = within_as c.self.inside.values c.self.inside.rows c.self.inside.raisers.vars c.as_slice.result.now c.self.invariant.2 c.as_slice.ensures
 
-pub raising-requires-2-clause-trail : goal.raising-requires-2-clause-trail
-raising-requires-2-clause-trail c = ap length (rw (← c.self.view_is) at c.requires) ∙ assignment-length c.args.trail.now.vars c.args.trail.now.entries
+pub raising-requires-2-clause-within : goal.raising-requires-2-clause-within
+raising-requires-2-clause-within c = within_as c.self.inside.values c.self.inside.rows c.self.inside.raisers.vars c.as_slice-2.result.now c.self.invariant.2 c.as_slice-2.ensures
 
 pub raise-requires-clause-within : goal.raise-requires-clause-within
 raise-requires-clause-within c =

@@ -5,6 +5,7 @@ use Rattle.std.proofs.lemmas.List.{take_at}
 use Rattle.asp_bound.specs.declared.place.Place.{Place}
 use Rattle.asp_bound.specs.Rises.{raised, row_at}
 use Rattle.asp_bound.proofs.KeptLaws.{raised-small, lower-room, raised_as, kept-untold, kept_as, held-value, bare_row, bare-untold}
+use Rattle.asp_bound.proofs.RaiserLaws.{untold_as, bare_untold_as}
 use Rattle.asp_bound.proofs.StartLaws.{starts-untold, starts_as}
 use Rattle.asp_bound.proofs.bound.Bound.undo.Goals as goal
 
@@ -43,7 +44,13 @@ invariant_of-self-2 c =
     step in
     let taken = subst (λ (r : List Place). All (λ (o : Place). get_or back o.level 0 ≤ o.index) r) (c.row-row.ensures ∙ ap (row_at c.self.inside.rows) c.var-2.ensures) c.take_back.ensures.taken in
     let starts = starts-untold c.self.inside.values c.self.inside.rows c.self.inside.columns c.self.inside.starts.items back c.args.lit.var c.self.invariant.1 c.self.invariant.0.linked many fewer taken in
-    (kept_as c.self.inside.origin.value _ c.unset-2.new.self c.self.inside.rows c.self.inside.columns c.self.inside.vars.items new _ values (take_at new (drop (length new) c.self.inside.sums.items) c.self.inside.sums.len (c.lower.auto.sums ∙ c.as_mut_slice.ensures.len)) kept, starts_as (set c.self.inside.values c.args.lit.var None) c.unset-2.new.self c.self.inside.columns back _ values (take_at back (drop (length back) c.self.inside.starts.items) c.self.inside.starts.len (c.take_back.auto.starts ∙ c.as_mut_slice-2.ensures.len)) starts)
+    let within : c.args.lit.var < length c.self.inside.values = omega (arith, c.self.invariant.0.sized, v.1) in
+    let raisers = untold_as c.self.inside.values c.unset-2.new.self c.self.inside.rows c.self.inside.vars.items c.self.inside.raisers c.leave.new.self c.row-row.result.now c.var-2.result c.args.lit c.self.invariant.2 c.self.invariant.3 within held values c.row-row.ensures c.var-2.ensures c.leave.ensures in (
+      kept_as c.self.inside.origin.value _ c.unset-2.new.self c.self.inside.rows c.self.inside.columns c.self.inside.vars.items new _ values (take_at new (drop (length new) c.self.inside.sums.items) c.self.inside.sums.len (c.lower.auto.sums ∙ c.as_mut_slice.ensures.len)) kept,
+      starts_as (set c.self.inside.values c.args.lit.var None) c.unset-2.new.self c.self.inside.columns back _ values (take_at back (drop (length back) c.self.inside.starts.items) c.self.inside.starts.len (c.take_back.auto.starts ∙ c.as_mut_slice-2.ensures.len)) starts,
+      raisers.0,
+      raisers.1,
+    )
 
 pub invariant_of-self : goal.invariant_of-self
 invariant_of-self c =
@@ -55,7 +62,14 @@ invariant_of-self c =
     let values = c.unset.ensures ∙ ap (λ (u : ℕ). set c.self.inside.values u None) c.var.ensures in
     let P : Place → Type 0 = λ (o : Place). get_or c.self.inside.starts.items o.level 0 ≤ o.index in
     let starts = starts-untold c.self.inside.values c.self.inside.rows c.self.inside.columns c.self.inside.starts.items c.self.inside.starts.items c.args.lit.var c.self.invariant.1 c.self.invariant.0.linked refl (λ j. omega arith)
-    (subst (λ (r : List Place). All P r) (sym row) (λ k d lt. absurd (omega (arith, lt)))) in (
+    (subst (λ (r : List Place). All P r) (sym row) (λ k d lt. absurd (omega (arith, lt)))) in
+    let within : c.args.lit.var < length c.self.inside.values = omega (arith, c.self.invariant.0.sized, v.1) in
+    let raisers = bare_untold_as c.self.inside.values c.unset.new.self c.self.inside.rows c.self.inside.vars.items c.self.inside.raisers c.args.lit c.self.invariant.2 c.self.invariant.3 within held row values in (
       kept_as c.self.inside.origin.value _ c.unset.new.self c.self.inside.rows c.self.inside.columns c.self.inside.vars.items c.self.inside.sums.items _ values refl kept,
       starts_as (set c.self.inside.values c.args.lit.var None) c.unset.new.self c.self.inside.columns c.self.inside.starts.items _ values refl starts,
+      raisers.0,
+      raisers.1,
     )
+
+pub leave-requires : goal.leave-requires
+leave-requires c = c.self.invariant.2.once
