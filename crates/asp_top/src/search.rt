@@ -66,7 +66,7 @@ pub fn solve<K: Sink, W: Watch>(
     ) {
         Ok(report) => {
             *tally = Tally::of(compiled, counts, Vec::new(alloc));
-            deliver(sink, options.make.is_some(), program, report)
+            deliver(alloc, sink, options.make.is_some(), program, report)
         }
         Err(_) => failed(Status::Memory),
     }
@@ -119,7 +119,7 @@ pub fn solve_by_crew<R: Threads + Wait + Sync, K: Sink, G: Gate + Sync>(
         Ok(report) => {
             let Deeds { sum, workers } = deeds;
             *tally = Tally::of(compiled, sum, workers);
-            deliver(sink, options.make.is_some(), program, report)
+            deliver(alloc, sink, options.make.is_some(), program, report)
         }
         Err(_) => failed(Status::Memory),
     }
