@@ -1,41 +1,29 @@
 //! The lines of the answers.
-ghost use Rattle.std.specs.Prelude.{◌≡◌, ◌++◌, ◌+◌, ◌^◌, ◌<◌, ◌≤◌, ◌||◌, [], ◌∷◌, length, codes, decimal, if◌then◌else◌, IfOk, false};
+ghost use Rattle.std.specs.Prelude.{◌≡◌, ◌++◌, ◌+◌, ◌^◌, ◌<◌, ◌≤◌, ◌||◌, [], ◌∷◌, length, codes, decimal, if◌then◌else◌, IfOk, IfSome, false};
+ghost use Rattle.std.specs.Option.{ForSome};
+ghost use Rattle.asp_print.specs.Rows.{IsTableOf};
 ghost use Rattle.std.specs.List.{join_with_byte};
-ghost use Rattle.asp_model.specs.Holding.{all_hold, holds};
+ghost use Rattle.asp_model.specs.Holding.{all_hold};
 ghost use Rattle.asp_model.specs.Texts.{answer_lines, answers_from, ended_line, shown};
 ghost use Rattle.asp_buffer.specs.Out.{Puts, out};
 ghost use Rattle.asp_print.specs.Shown.{piece, pieces, separator};
 
-use crate::place::has_near;
+use crate::holding::all_hold;
+use crate::outputs::OutputTable;
 use asp_buffer::{Waiting, put, put_number};
 use asp_io::{Failed, Sink};
 use asp_model::interp::Interp;
 use asp_model::program::{Output, Program};
-
-// Whether a literal holds. The place is where its atom is looked for first, and moves on.
-fn holds_near(interp: &Interp, literal: i32, place: &mut usize) -> bool
-    ensures { result ≡ holds interp.now literal }
-{
-    let has = has_near(interp, literal.unsigned_abs(), place);
-    if literal < 0 { !has } else { has }
-}
-
-fn all_hold(interp: &Interp, literals: &[i32], place: &mut usize) -> bool
-    ensures { result ≡ all_hold interp.now literals.now }
-{
-    for literal in literals {
-        if !holds_near(interp, *literal, place) {
-            return false;
-        }
-    }
-    true
-}
+use std::alloc::Global;
 
 fn separator(behind_another: bool) -> &'static [u8]
     ensures { result.now ≡ separator behind_another }
 {
     if behind_another { b" " } else { b"" }
 }
+
+// For fewer answers no table of the outputs is made.
+const FEW_ANSWERS: usize = 4;
 
 // Puts out a text, behind a blank where another one stands before it.
 fn put_text<K: Sink>(
@@ -91,6 +79,31 @@ fn put_texts<K: Sink>(
     Ok(())
 }
 
+// The same, a run of outputs that are shown at a time.
+fn put_runs<K: Sink>(
+    sink: &mut K,
+    waiting: &mut Waiting,
+    interp: &Interp,
+    outputs: &[Output],
+    table: &OutputTable,
+) -> Result<(), Failed>
+    requires { IsTableOf table.now outputs.now }
+    ensures { Puts (out (K.held sink.old) (K.faults sink.old) waiting.old)
+        (out (K.held sink.new) (K.faults sink.new) waiting.new) result
+        (pieces interp.now false outputs.now) }
+{
+    let mut any = false;
+    let mut place = 0;
+    let mut from = table.first_shown(outputs, interp, 0, &mut place);
+    while from < outputs.len() {
+        let to = table.run_end(outputs, interp, from, &mut place);
+        put(sink, waiting, table.texts(outputs, from, to, any))?;
+        any = true;
+        from = table.first_shown(outputs, interp, to, &mut place);
+    }
+    Ok(())
+}
+
 // Puts out the line before an answer.
 fn put_heading<K: Sink>(sink: &mut K, waiting: &mut Waiting, number: u64) -> Result<(), Failed>
     ensures { Puts (out (K.held sink.old) (K.faults sink.old) waiting.old)
@@ -102,18 +115,39 @@ fn put_heading<K: Sink>(sink: &mut K, waiting: &mut Waiting, number: u64) -> Res
     put(sink, waiting, b"\n")
 }
 
+// Puts out the texts that are shown.
+fn put_line<K: Sink>(
+    sink: &mut K,
+    waiting: &mut Waiting,
+    interp: &Interp,
+    outputs: &[Output],
+    table: Option<&OutputTable>,
+) -> Result<(), Failed>
+    requires { ForSome table (λ t. IsTableOf t.now outputs.now) }
+    ensures { Puts (out (K.held sink.old) (K.faults sink.old) waiting.old)
+        (out (K.held sink.new) (K.faults sink.new) waiting.new) result
+        (pieces interp.now false outputs.now) }
+{
+    match table {
+        Some(table) => put_runs(sink, waiting, interp, outputs, table),
+        None => put_texts(sink, waiting, interp, outputs),
+    }
+}
+
 // Puts out the line of an answer's texts.
 fn put_shown<K: Sink>(
     sink: &mut K,
     waiting: &mut Waiting,
     program: &Program,
+    table: Option<&OutputTable>,
     interp: &Interp,
 ) -> Result<(), Failed>
+    requires { ForSome table (λ t. IsTableOf t.now program.now.outputs) }
     ensures { Puts (out (K.held sink.old) (K.faults sink.old) waiting.old)
         (out (K.held sink.new) (K.faults sink.new) waiting.new) result
         (ended_line (join_with_byte 32 (shown program.now interp.now))) }
 {
-    put_texts(sink, waiting, interp, program.outputs.as_slice())?;
+    put_line(sink, waiting, interp, program.outputs.as_slice(), table)?;
     put(sink, waiting, b"\n")
 }
 
@@ -121,19 +155,53 @@ fn put_answer<K: Sink>(
     sink: &mut K,
     waiting: &mut Waiting,
     program: &Program,
+    table: Option<&OutputTable>,
     number: u64,
     interp: &Interp,
 ) -> Result<(), Failed>
+    requires { ForSome table (λ t. IsTableOf t.now program.now.outputs) }
     ensures { Puts (out (K.held sink.old) (K.faults sink.old) waiting.old)
         (out (K.held sink.new) (K.faults sink.new) waiting.new) result
         (answer_lines program.now number interp.now) }
 {
     put_heading(sink, waiting, number)?;
-    put_shown(sink, waiting, program, interp)
+    put_shown(sink, waiting, program, table, interp)
 }
 
-/// Puts out the lines of the answers, numbered from 1.
+// Puts out the lines of the answers, numbered from 1.
+fn put_each<K: Sink>(
+    sink: &mut K,
+    waiting: &mut Waiting,
+    program: &Program,
+    table: Option<&OutputTable>,
+    answers: &[Interp],
+) -> Result<(), Failed>
+    requires { ForSome table (λ t. IsTableOf t.now program.now.outputs) }
+    ensures { Puts (out (K.held sink.old) (K.faults sink.old) waiting.old)
+        (out (K.held sink.new) (K.faults sink.new) waiting.new) result
+        (answers_from program.now 1 answers.now) }
+{
+    let mut number = 1;
+    for interp in answers {
+        put_answer(sink, waiting, program, table, number, interp)?;
+        number += 1;
+    }
+    Ok(())
+}
+
+// The table of the outputs, where it is worth its while and memory isn't wanting.
+fn table_of(alloc: Global, outputs: &[Output], answers: usize) -> Option<OutputTable>
+    ensures { IfSome result (λ table. IsTableOf table outputs.now) }
+{
+    if answers < FEW_ANSWERS {
+        return None;
+    }
+    OutputTable::of(alloc, outputs).ok()
+}
+
+/// Puts out the lines of the answers, numbered from 1. Where memory is wanting it takes longer.
 pub fn put_answers<K: Sink>(
+    alloc: Global,
     sink: &mut K,
     waiting: &mut Waiting,
     program: &Program,
@@ -143,10 +211,6 @@ pub fn put_answers<K: Sink>(
         (out (K.held sink.new) (K.faults sink.new) waiting.new) result
         (answers_from program.now 1 answers.now) }
 {
-    let mut number = 1;
-    for interp in answers {
-        put_answer(sink, waiting, program, number, interp)?;
-        number += 1;
-    }
-    Ok(())
+    let table = table_of(alloc, program.outputs.as_slice(), answers.len());
+    put_each(sink, waiting, program, table.as_ref(), answers)
 }

@@ -13,6 +13,7 @@ use asp_model::cost::Cost;
 use asp_model::interp::Interp;
 use asp_model::program::Program;
 use asp_model::results::{End, Mode, Results};
+use std::alloc::Global;
 use std::slice;
 
 // The answers that a run recorded: in an optimisation the best alone, where no others are listed.
@@ -153,6 +154,7 @@ fn put_closing<K: Sink>(
 
 // Puts out the lines of the answers, unless the text is to be brief.
 fn put_recorded<K: Sink>(
+    alloc: Global,
     sink: &mut K,
     waiting: &mut Waiting,
     program: &Program,
@@ -166,7 +168,7 @@ fn put_recorded<K: Sink>(
     if brief {
         put(sink, waiting, b"")
     } else {
-        put_answers(sink, waiting, program, recorded(results))
+        put_answers(alloc, sink, waiting, program, recorded(results))
     }
 }
 
@@ -179,6 +181,7 @@ fn put_ending<K: Sink>(sink: &mut K, waiting: &mut Waiting, results: &Results) -
 }
 
 fn put_results<K: Sink>(
+    alloc: Global,
     sink: &mut K,
     waiting: &mut Waiting,
     program: &Program,
@@ -189,14 +192,15 @@ fn put_results<K: Sink>(
         (out (K.held sink.new) (K.faults sink.new) waiting.new) result
         (results_text program.now results.now brief) }
 {
-    put_recorded(sink, waiting, program, results, brief)?;
+    put_recorded(alloc, sink, waiting, program, results, brief)?;
     put_best_cost(sink, waiting, results)?;
     put_ending(sink, waiting, results)
 }
 
 /// Writes the text of the results: unless it is to be brief two lines for each answer, then in an optimisation the
-/// cost line, the word line and the count line. It takes no memory. After an error a front of the text is out.
+/// cost line, the word line and the count line. Where memory is wanting it takes longer. After an error a front of the text is out.
 pub fn print<K: Sink>(
+    alloc: Global,
     sink: &mut K,
     program: &Program,
     results: &Results,
@@ -209,6 +213,6 @@ pub fn print<K: Sink>(
     ensures quiet { IsSome (K.held sink.old) → OnOk result (K.faults sink.new ≡ K.faults sink.old) }
 {
     let mut waiting = Waiting::new();
-    put_results(sink, &mut waiting, program, results, brief)?;
+    put_results(alloc, sink, &mut waiting, program, results, brief)?;
     flush(sink, &mut waiting)
 }

@@ -14,6 +14,7 @@ use asp_model::results::Results;
 use asp_print::print;
 use asp_proof::proof::Proof;
 use asp_proof::write_proof;
+use std::alloc::Global;
 
 /// The outcome of a run without a report.
 pub fn failed(status: Status) -> Outcome
@@ -33,6 +34,7 @@ fn write_proof_text<K: Sink>(sink: &mut K, proof: &Proof) -> Result<(), Failed>
 }
 
 fn write_results_text<K: Sink>(
+    alloc: Global,
     sink: &mut K,
     brief: bool,
     program: &Program,
@@ -41,11 +43,12 @@ fn write_results_text<K: Sink>(
     ensures { Writes (K.held sink.old) (K.held sink.new) (K.faults sink.old) (K.faults sink.new)
         result (results_text program.now results.now brief) }
 {
-    print(sink, program, results, brief)
+    print(alloc, sink, program, results, brief)
 }
 
 // Writes the text of the proof, if there is one, and else that of the results.
 fn write_text<K: Sink>(
+    alloc: Global,
     sink: &mut K,
     brief: bool,
     program: &Program,
@@ -56,12 +59,13 @@ fn write_text<K: Sink>(
 {
     match &report.proof {
         Some(proof) => write_proof_text(sink, proof),
-        None => write_results_text(sink, brief, program, &report.results),
+        None => write_results_text(alloc, sink, brief, program, &report.results),
     }
 }
 
 // Writes the text of a report, and flushes the sink.
 fn write_report<K: Sink>(
+    alloc: Global,
     sink: &mut K,
     brief: bool,
     program: &Program,
@@ -70,16 +74,22 @@ fn write_report<K: Sink>(
     ensures { Writes (K.held sink.old) (K.held sink.new) (K.faults sink.old) (K.faults sink.new)
         result (report_text program.now report.now brief) }
 {
-    write_text(sink, brief, program, report)?;
+    write_text(alloc, sink, brief, program, report)?;
     sink.flush()
 }
 
 /// Writes the text of a report, and flushes the sink.
-pub fn deliver<K: Sink>(sink: &mut K, brief: bool, program: &Program, report: Report) -> Outcome
+pub fn deliver<K: Sink>(
+    alloc: Global,
+    sink: &mut K,
+    brief: bool,
+    program: &Program,
+    report: Report,
+) -> Outcome
     ensures delivers { Delivers brief program.now report (K.held sink.old) (K.held sink.new) (K.faults sink.old) (K.faults sink.new) result }
     ensures flushed { TellsFaults (K.held sink.old) (K.faults sink.old) (K.faults sink.new) result.status }
 {
-    let status = match write_report(sink, brief, program, &report) {
+    let status = match write_report(alloc, sink, brief, program, &report) {
         Ok(()) => status_for(&report.results),
         Err(Failed) => Status::WriteFault,
     };

@@ -68,7 +68,7 @@ pub fn solve<K: Sink, W: Watch>(
         Ok(report) => {
             let loops = loops(alloc, compiled, options.stats);
             *tally = Tally::of(compiled, loops, counts, Vec::new(alloc));
-            deliver(sink, options.make.is_some(), program, report)
+            deliver(alloc, sink, options.make.is_some(), program, report)
         }
         Err(_) => failed(Status::Memory),
     }
@@ -130,7 +130,7 @@ pub fn solve_by_crew<R: Threads + Wait + Sync, K: Sink, G: Gate + Sync, W: Watch
             let loops = loops(alloc, compiled, options.stats);
             *tally = Tally::of(compiled, loops, sum, workers);
             (
-                deliver(sink, options.make.is_some(), program, report),
+                deliver(alloc, sink, options.make.is_some(), program, report),
                 watch,
             )
         }

@@ -1,6 +1,6 @@
 use Rattle.std.proofs.Common.{◌≡◌, true, take}
 use Rattle.asp_model.specs.Holding.{all_hold}
-use Rattle.asp_print.proofs.answers.all_hold.Given as goal
+use Rattle.asp_print.proofs.holding.all_hold.Given as goal
 
 abbrev pub invariant-loop-literal : goal.invariant-loop-literal
 invariant-loop-literal l = all_hold l.interp (take l.literal-index l.literals) ≡ true

@@ -1,7 +1,7 @@
 use Rattle.std.proofs.Common.{arith}
 use Rattle.asp_buffer.proofs.OutLaws.{midway_more, midway_fails}
 use Rattle.asp_print.proofs.ShownLaws.{answers-turn}
-use Rattle.asp_print.proofs.answers.put_answers.Goals as goal
+use Rattle.asp_print.proofs.answers.put_each.Goals as goal
 
 pub returns-in_err-put_answer : goal.returns-in_err-put_answer
 returns-in_err-put_answer g c = midway_fails _ _ _ _ _ _ _ _ _ _ c.loop-interp.invariant.text c.in_err-put_answer.ensures

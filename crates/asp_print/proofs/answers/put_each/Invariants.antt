@@ -2,7 +2,7 @@ use Rattle.std.proofs.Common.{◌≡◌, ◌+◌, drop}
 use Rattle.asp_model.specs.Texts.{answers_from}
 use Rattle.asp_buffer.specs.Out.{out}
 use Rattle.asp_buffer.proofs.OutLaws.{Midway}
-use Rattle.asp_print.proofs.answers.put_answers.Given as goal
+use Rattle.asp_print.proofs.answers.put_each.Given as goal
 
 abbrev pub invariant-loop-interp : goal.invariant-loop-interp
 invariant-loop-interp g l = record {
