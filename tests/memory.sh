@@ -1,5 +1,5 @@
 #!/usr/bin/env bash
-# Runs the built program under `ulimit -v`, from 2 MB up in small steps, on five programs. Each run must end in want of
+# Runs the built program under `ulimit -v`, from 2 MB up in small steps, on five programs, on one also with many workers. Each run must end in want of
 # memory, with status 33, its line and no output, or as it ends with ample memory: the same bytes and status. A run that
 # the loader ended, for want of memory before `main`, is counted alone: `--help` doesn't come through there either.
 # Usage: tests/memory.sh [PROGRAM [STEP]]     (build/aspenum; STEP in KB, 64 where none is named)
@@ -109,4 +109,5 @@ squeeze 'an optimum' examples/independent_set.aspif
 squeeze '2000 facts' "$room/facts" --stats
 squeeze '1024 answers' "$room/free" --mode enum
 squeeze 'pigeons' "$room/pigeons"
+for workers in 2 16 64; do squeeze "pigeons, $workers workers" "$room/pigeons" --workers "$workers"; done
 [ "$failed" -eq 0 ]
