@@ -83,7 +83,7 @@ fn solved_by_crew<R: Threads + Wait + Sync, G: Gate + Sync>(
     deeds: &mut Deeds,
 ) -> Result<Report, AllocError>
     requires crew { IsCrew options.now.workers }
-    requires apart { IsApart options.now }
+    requires apart { options.now.proof ≡ true → ask.all_optima ≡ false }
     ensures report { IfOk result (IsReport compiled.now ask options.now.budget) }
     ensures proof { IfOk result (HasProof options.now.proof) }
 {
