@@ -34,8 +34,8 @@ cp "$package" "$root/package.deb"
 in_root() { chroot "$root" /usr/bin/env -i PATH=/usr/sbin:/usr/bin:/sbin:/bin "$@"; }
 in_root dpkg -i /package.deb > "$folder/log" 2>&1 || { cat "$folder/log"; fail "dpkg -i"; }
 [ "$(in_root aspenum --version)" = "$(build/aspenum --version)" ] || fail "the version"
-# each example is the text itself and what is written
-in_root sh -c 'cd /usr/share/doc/aspenum/examples && for it in *.aspif; do aspenum < "$it" | cmp -s - "${it%.aspif}.out" || { echo "$it"; exit 1; }; done' || fail "an example"
+# each example is the text itself and what is written, with the words that stand beside it
+in_root sh -c 'cd /usr/share/doc/aspenum/examples && for it in *.aspif; do words=$(cat "${it%.aspif}.words" 2> /dev/null); aspenum $words < "$it" | cmp -s - "${it%.aspif}.out" || { echo "$it"; exit 1; }; done' || fail "an example"
 in_root dpkg -V aspenum || fail "dpkg -V"
 in_root dpkg -P aspenum > "$folder/log" 2>&1 || { cat "$folder/log"; fail "dpkg -P"; }
 [ -z "$(find "$root/usr" -name '*aspenum*')" ] || fail "removing leaves $(find "$root/usr" -name '*aspenum*')"
