@@ -10,6 +10,6 @@ pub returns-in-Ok-clause-counted : goal.returns-in-Ok-clause-counted
 returns-in-Ok-clause-counted g c = rw c.deliver.ensures.delivers.reports (record {
   atoms = c.of.ensures.atoms ∙ ap (λ (p : Program). length (atoms_of p)) (sym c.in-Ok.ensures.report.program);
   bodies = c.of.ensures.bodies ∙ ap (λ (p : Program). length (bodies_of p)) (sym c.in-Ok.ensures.report.program);
-  loops = subst (λ (p : Program). IfSome c.of.result.loops (HasLoops p)) (sym c.in-Ok.ensures.report.program) (rw c.of.ensures.loops c.loops.ensures);
+  loops = subst (λ (p : Program). IfSome c.of.result.loops (HasLoops p)) (sym c.in-Ok.ensures.report.program) (rw c.of.ensures.loops c.loops-loops.ensures);
   workers = λ alone. c.of.ensures.workers ∙ c.new.ensures.items;
 })

@@ -11,6 +11,6 @@ pub returns-in-Ok-clause-counted : goal.returns-in-Ok-clause-counted
 returns-in-Ok-clause-counted g c = rw c.deliver.ensures.delivers.reports (record {
   atoms = c.of.ensures.atoms ∙ ap (λ (p : Program). length (atoms_of p)) (sym (paid-of _ _ _ _ _ c.in-Ok.is c.solved_by_crew-solved.ensures.report));
   bodies = c.of.ensures.bodies ∙ ap (λ (p : Program). length (bodies_of p)) (sym (paid-of _ _ _ _ _ c.in-Ok.is c.solved_by_crew-solved.ensures.report));
-  loops = subst (λ (p : Program). IfSome c.of.result.loops (HasLoops p)) (sym (paid-of _ _ _ _ _ c.in-Ok.is c.solved_by_crew-solved.ensures.report)) (rw c.of.ensures.loops c.loops.ensures);
+  loops = subst (λ (p : Program). IfSome c.of.result.loops (HasLoops p)) (sym (paid-of _ _ _ _ _ c.in-Ok.is c.solved_by_crew-solved.ensures.report)) (rw c.of.ensures.loops c.loops-loops.ensures);
   workers = λ alone. absurd cc;
 })
