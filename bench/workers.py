@@ -10,7 +10,7 @@ import time
 
 TICKS = os.sysconf("SC_CLK_TCK")
 
-# What many workers are judged by: enumerations, each with a name of programs.py or the nodes of a ring.
+# What many workers are judged by: enumerations, each a name of programs.py, or make-N: all colourings of a ring of N nodes.
 NAMES = ("cycle-18", "make-18", "queens-12", "subsets-22")
 HEADS = ("program", "seconds", "by the clock", "of all workers", "by the clock", "busiest", "of one worker's", "answers twice")
 
@@ -34,7 +34,7 @@ def look(pid, times):
 
 
 def run(words, path, notes):
-    """Seconds of the processor and by the clock, those of the busiest thread, what was told, and the number of models."""
+    """Seconds of the processor and by the clock, those of the busiest thread, what was told, and the text's last lines."""
     times, began = {}, time.monotonic()
     with open(path, "rb") as text, open(notes, "w+b") as told:
         process = subprocess.Popen(words, stdin=text, stdout=subprocess.PIPE, stderr=told)
@@ -52,18 +52,31 @@ def run(words, path, notes):
         clock = time.monotonic() - began
         told.seek(0)
         said = told.read().decode()
-    models = re.search(rb"Models: (\d+)", tail)
-    return used.ru_utime + used.ru_stime, clock, max(times.values()), said, int(models[1]) if models else None
+    return used.ru_utime + used.ru_stime, clock, max(times.values()), said, tail.decode(errors="replace")
+
+
+def twice(said, tail):
+    """How many answers of an enumeration were delivered more than once, by those that there are; of an optimum nothing is known."""
+    models = re.search(r"Models: (\d+)", tail)
+    if "Optimization:" in tail or not models or models[1] == "0":
+        return "-"
+    delivered = sum(int(it) for it in re.findall(r"^Worker \d+: .*answers (\d+)", said, re.M))
+    return f"{100 * (delivered / int(models[1]) - 1):.1f} %"
+
+
+def result(tail):
+    """What runs with any number of workers must agree on: cost and number of models."""
+    return re.findall(r"^(?:Optimization|Models):.*", tail, re.M)
 
 
 def measured(program, words, path, notes, workers):
     """A row of the table: one worker beside so many."""
-    one, one_clock, _, _, models = run([program, "--mode", "enum", *words], path, notes)
-    all_of, clock, busiest, said, same = run([program, "--mode", "enum", *words, "--stats", "--workers", str(workers)], path, notes)
-    if models is None or models != same:
-        raise SystemExit(f"{path}: {models} models with one worker, {same} with {workers}")
-    delivered = sum(int(it) for it in re.findall(r"^Worker \d+: .*answers (\d+)", said, re.M))
-    return one, one_clock, all_of, clock, busiest, busiest / one if one else float("nan"), delivered / models - 1 if models else 0
+    one, one_clock, _, _, tail = run([program, *words], path, notes)
+    all_of, clock, busiest, said, same = run([program, *words, "--stats", "--workers", str(workers)], path, notes)
+    if not result(tail) or result(tail) != result(same):
+        raise SystemExit(f"{path}: {result(tail)} with one worker, {result(same)} with {workers}")
+    share = busiest / one if one else float("nan")
+    return [*(f"{it:.2f}" for it in (one, one_clock, all_of, clock, busiest, share)), twice(said, same)]
 
 
 def table(program, workers, path_of, names, markdown):
@@ -75,6 +88,5 @@ def table(program, workers, path_of, names, markdown):
         print("|" + "---|" * len(HEADS))
     for name in names or NAMES:
         ring = re.fullmatch(r"make-(\d+)", name)
-        words, path = (["--make", ring[1]], os.devnull) if ring else ([], path_of(name))
-        *seconds, share, twice = measured(program, words, path, notes, workers)
-        print(line([name, *(f"{it:.2f}" for it in seconds), f"{share:.2f}", f"{100 * twice:.1f} %"]), flush=True)
+        words, path = (["--make", ring[1], "--mode", "enum"], os.devnull) if ring else ([], path_of(name))
+        print(line([name, *measured(program, words, path, notes, workers)]), flush=True)
