@@ -1,12 +1,12 @@
-//! The completion as a list of nogoods.
-ghost use Rattle.std.specs.Prelude.{◌≡◌, ◌+◌, ◌<◌, ◌^◌, [], ◌∷◌, ◌++◌, IfOk, OnOk, All, map, length, flat_map};
+//! The completion as a list of nogoods, or a part of it after another.
+ghost use Rattle.std.specs.Prelude.{◌≡◌, ◌+◌, ◌<◌, ◌^◌, [], ◌∷◌, ◌++◌, IfOk, OnOk, All, map, length, slice_index_or, ◌≤◌};
 ghost use Rattle.asp_model.specs.declared.program.Program.{Program};
 ghost use Rattle.asp_model.specs.Models.{atoms_of, rules_in_force};
 ghost use Rattle.asp_vars.specs.Literals.{T, F, complement};
-ghost use Rattle.asp_vars.specs.Numbering.{bodies_of, var_of_body, nth_body, nth_atom};
+ghost use Rattle.asp_vars.specs.Numbering.{bodies_of, var_of_body, nth_atom, nth_body, nth_rule};
 ghost use Rattle.asp_vars.specs.Entailment.{Entailed};
-ghost use Rattle.asp_vars.specs.Completion.{body_nogoods, rule_nogoods, atom_nogood, completion};
-ghost use Rattle.asp_complete.specs.Listed.{pure, parts};
+ghost use Rattle.asp_vars.specs.Completion.{atom_nogood, body_nogoods, completion, rule_nogoods};
+ghost use Rattle.asp_complete.specs.Listed.{groups, nogoods_between, nogoods_of_rule, pure, parts};
 ghost use Rattle.std.specs.Prelude.{IsTrue};
 ghost use Rattle.std.specs.List.{AllByRecursion};
 ghost use Rattle.asp_model.specs.Sets.{has};
@@ -91,19 +91,6 @@ fn add_body_at(
     Ok(())
 }
 
-fn add_bodies(
-    alloc: Global,
-    nogoods: &mut Vec<Nogood>,
-    compiled: &Compiled,
-) -> Result<(), AllocError>
-    ensures { OnOk result (nogoods.new.items ≡ nogoods.old.items ++ map pure (flat_map (body_nogoods compiled.now) (bodies_of compiled.now))) }
-{
-    for body in 0..compiled.body_count() {
-        add_body_at(alloc, nogoods, compiled, body)?;
-    }
-    Ok(())
-}
-
 fn add_one(alloc: Global, nogoods: &mut Vec<Nogood>, lit: Lit) -> Result<(), AllocError>
     ensures { OnOk result (nogoods.new.items ≡ nogoods.old.items ++ pure (lit ∷ []) ∷ []) }
 {
@@ -136,20 +123,18 @@ fn add_rule(
     }
 }
 
-fn add_rules(
+fn add_rule_at(
     alloc: Global,
     nogoods: &mut Vec<Nogood>,
     compiled: &Compiled,
+    rule: usize,
 ) -> Result<(), AllocError>
-    ensures { OnOk result (nogoods.new.items ≡ nogoods.old.items
-        ++ map pure (flat_map (λ r. rule_nogoods compiled.now (var_of_body compiled.now r.body) r.head) (rules_in_force compiled.now))) }
+    requires { rule < length (rules_in_force compiled.now) }
+    ensures { OnOk result (nogoods.new.items ≡ nogoods.old.items ++ map pure (nogoods_of_rule compiled.now (nth_rule compiled.now rule))) }
 {
-    for i in 0..compiled.rule_count() {
-        let body = compiled.rule_body(i);
-        let rule = compiled.rule(i);
-        add_rule(alloc, nogoods, compiled, body, &rule.head)?;
-    }
-    Ok(())
+    let body = compiled.rule_body(rule);
+    let rule = compiled.rule(rule);
+    add_rule(alloc, nogoods, compiled, body, &rule.head)
 }
 
 fn add_atom(
@@ -170,26 +155,64 @@ fn add_atom(
     Ok(())
 }
 
-fn add_atoms(
+// Adds a group's nogoods.
+fn add_group(
     alloc: Global,
     nogoods: &mut Vec<Nogood>,
     compiled: &Compiled,
+    group: usize,
 ) -> Result<(), AllocError>
-    ensures { OnOk result (nogoods.new.items ≡ nogoods.old.items ++ map pure (map (atom_nogood compiled.now) (atoms_of compiled.now))) }
+    requires { group < length (groups compiled.now) }
+    ensures { OnOk result (nogoods.new.items ≡ nogoods.old.items ++ map pure (slice_index_or (groups compiled.now) group [])) }
 {
-    for atom in 0..compiled.atom_count() {
-        add_atom(alloc, nogoods, compiled, atom)?;
+    let bodies = compiled.body_count();
+    if group < bodies {
+        return add_body_at(alloc, nogoods, compiled, group);
     }
-    Ok(())
+    let rules = compiled.rule_count();
+    let behind = group - bodies;
+    if behind < rules {
+        return add_rule_at(alloc, nogoods, compiled, behind);
+    }
+    let _count = compiled.atom_count();
+    add_atom(alloc, nogoods, compiled, behind - rules)
+}
+
+/// How many groups of nogoods the completion has: one for each body, rule and atom. Where there are too many to be counted, memory
+/// is wanting.
+pub fn group_count(compiled: &Compiled) -> Result<usize, AllocError>
+    ensures { IfOk result (λ count. count ≡ length (groups compiled.now)) }
+{
+    let vars = compiled.body_count() + compiled.atom_count();
+    match vars.checked_add(compiled.rule_count()) {
+        Some(count) => Ok(count),
+        None => Err(AllocError),
+    }
+}
+
+/// The nogoods of the groups from one to before another. Each has the base `Pure`.
+pub fn completion_part(
+    alloc: Global,
+    compiled: &Compiled,
+    from: usize,
+    to: usize,
+) -> Result<Vec<Nogood>, AllocError>
+    requires from { from ≤ to }
+    requires to { to ≤ length (groups compiled.now) }
+    ensures { IfOk result (λ nogoods. nogoods.items ≡ map pure (nogoods_between compiled.now from to)) }
+{
+    let mut nogoods = Vec::new(alloc);
+    for group in from..to {
+        add_group(alloc, &mut nogoods, compiled, group)?;
+    }
+    Ok(nogoods)
 }
 
 fn listed(alloc: Global, compiled: &Compiled) -> Result<Vec<Nogood>, AllocError>
     ensures { IfOk result (λ nogoods. nogoods.items ≡ map pure (completion compiled.now)) }
 {
-    let mut nogoods = Vec::new(alloc);
-    add_bodies(alloc, &mut nogoods, compiled)?;
-    add_rules(alloc, &mut nogoods, compiled)?;
-    add_atoms(alloc, &mut nogoods, compiled)?;
+    let count = group_count(compiled)?;
+    let nogoods = completion_part(alloc, compiled, 0, count)?;
     Ok(nogoods)
 }
 

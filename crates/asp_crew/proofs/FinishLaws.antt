@@ -257,24 +257,24 @@ leased-is v w idle fits now = here (eqb (min (2 ^ 64 - 1) (board v).pool) 0) ref
           units = ap (λ (c : Board). out_of c.out 0) b ∙ out_of-leased 0 k (board v).out ∙ ap (λ m. m + k) (idle.home 0) ∙ (let z : 0 + k ≡ k = omega arith in z);
         }
 
--- the search begins with them
-pub ready-begins : (mode : Mode) (bound : Option (List ℤ)) (v w : Booked) (s : Searching) (f : Units) → HasNoQuery v.task → MayBegin mode bound v.task.goal → IsLeased v w → f ≡ all_of (board v) → s.program ≡ v.task.program → s.mode ≡ mode → s.known ≡ [] → s.bound ≡ bound → IsReady mode w s f
-ready-begins mode bound v w s f run may is units program mode_is known under =
-    let same : w.task ≡ v.task = is.task in
-    let now : (board w).task ≡ v.task = board-task w ∙ same in
+-- the units are for a search that knows no answer yet
+pub leased-works : (mode : Mode) (bound : Option (List ℤ)) (v w : Booked) (f : Units) → MayBegin mode bound v.task.goal → IsLeased v w → f ≡ all_of (board v) → IsAtWork (board w) 0 mode [] bound f
+leased-works mode bound v w f may is units =
+    let now : (board w).task ≡ v.task = board-task w ∙ is.task in
     let back : ComesBack (board w) (out_of (board w).out 0) (all_of (board v)) = (
       record { program = ap (λ (t : Task). t.program) (board-task v ∙ sym now); known = omega arith; least = tt },
       (let z : min (2 ^ 64 - 1) (board v).pool + 0 ≡ min (2 ^ 64 - 1) (board v).pool = omega arith in z) ∙ sym is.units,
     ) in
-    record {
-      task = subst HasNoQuery (sym same) run;
-      program = program ∙ ap (λ (t : Task). t.program) (sym same);
-      mode_is = mode_is;
-      work =
-          subst (λ (k : List Atoms). IsAtWork (board w) 0 mode k s.bound f) (sym known) (subst (λ (o : Option (List ℤ)). IsAtWork (board w) 0 mode [] o f) (sym under)
-          (subst (λ (u : Units). IsAtWork (board w) 0 mode [] bound u) (sym units)
-          (sought-begins (board w) 0 mode bound (all_of (board v)) (subst (λ (t : Task). MayBegin mode bound t.goal) (sym now) may) back)));
-    }
+    subst (λ (u : Units). IsAtWork (board w) 0 mode [] bound u) (sym units) (sought-begins (board w) 0 mode bound (all_of (board v)) (subst (λ (t : Task). MayBegin mode bound t.goal) (sym now) may) back)
+
+-- the search begins with them
+pub ready-begins : (mode : Mode) (bound : Option (List ℤ)) (w : Booked) (s : Searching) (f : Units) → HasNoQuery w.task → IsAtWork (board w) 0 mode [] bound f → s.program ≡ w.task.program → s.mode ≡ mode → s.known ≡ [] → s.bound ≡ bound → IsReady mode w s f
+ready-begins mode bound w s f run work program mode_is known under = record {
+  task = run;
+  program = program;
+  mode_is = mode_is;
+  work = subst (λ (k : List Atoms). IsAtWork (board w) 0 mode k s.bound f) (sym known) (subst (λ (o : Option (List ℤ)). IsAtWork (board w) 0 mode [] o f) (sym under) work);
+}
 
 -- ---- units at the end
 out_of-returned : (s : ℕ) (out : List (ℕ × ℕ)) → out_of (returned s out) s ≡ 0

@@ -4,7 +4,7 @@ ghost use Rattle.asp_crew_laws.specs.Reports.{IsReport};
 ghost use Rattle.asp_crew_laws.specs.Runs.{asks};
 ghost use Rattle.asp_crew_laws.specs.Proofs.{HasProof};
 
-use crate::finish::finish;
+use crate::finish::finish_program;
 use crate::proofs::with_proof;
 use crate::report::Report;
 use crate::reported::reported;
@@ -15,20 +15,19 @@ use asp_core::state::State;
 use asp_counts::counts::Counts;
 use asp_counts::watch::Watch;
 use asp_model::results::Ask;
-use asp_propagators::propagators::Propagators;
 use asp_recorder::recorder::Recorder;
 use asp_vars::compiled::Compiled;
 use std::alloc::{AllocError, Global};
 
 // A first search, whose recorder, if there is one, gets what it finds.
-fn first<'a, W: Watch>(
+fn first<W: Watch>(
     alloc: Global,
-    compiled: &'a Compiled,
+    compiled: &Compiled,
     ask: Ask,
     budget: u64,
     counts: &mut Counts,
     watch: &mut W,
-    recorder: Option<&'a Recorder>,
+    recorder: Option<&Recorder>,
 ) -> Result<Report, AllocError>
     ensures report { IfOk result (IsReport compiled.now (asks ask.mode ask.models) budget) }
     ensures second { IfOk result (λ r. r.second ≡ None) }
@@ -46,10 +45,8 @@ fn first<'a, W: Watch>(
         [].as_slice(),
     )?;
     let mut book = Book::new(alloc, compiled, state);
-    let mut propagator = Propagators::new(alloc, compiled)?;
-    propagator.record(recorder);
-    let unpaid = finish(
-        alloc, compiled, ask.mode, None, &mut book, propagator, counts, watch, recorder,
+    let unpaid = finish_program(
+        alloc, compiled, ask.mode, None, &mut book, counts, watch, recorder,
     )?;
     Ok(reported(ask.mode, book, unpaid, 0, false))
 }

@@ -1,10 +1,11 @@
 //! All that is open on a board, by one search.
-ghost use Rattle.std.specs.Prelude.{◌≡◌, ◌+◌, ◌^◌, ◌<◌, None, IfOk, replicate};
+ghost use Rattle.std.specs.Prelude.{◌≡◌, ◌+◌, ◌^◌, ◌<◌, [], None, IfOk, replicate};
 ghost use Rattle.asp_vars.specs.Numbering.{var_count};
 ghost use Rattle.asp_book.specs.Books.{board};
 ghost use Rattle.asp_search.specs.Beside.{new_search};
+ghost use Rattle.asp_search_laws.specs.Searching.{Searching};
 ghost use Rattle.asp_crew_laws.specs.Reports.{IsIdle};
-ghost use Rattle.asp_crew_laws.specs.Working.{MayBegin};
+ghost use Rattle.asp_crew_laws.specs.Working.{IsAtWork, MayBegin};
 ghost use Rattle.asp_crew.specs.Running.{HasNoQuery, IsReady, IsAlone, LeavesAll, Finishes};
 
 use crate::leaf::work_off;
@@ -15,6 +16,7 @@ use asp_model::cost::Cost;
 use asp_model::results::Mode;
 use asp_path::tree::Leaf;
 use asp_propagate::propagator::Propagator;
+use asp_propagators::propagators::Propagators;
 use asp_recorder::recorder::Recorder;
 use asp_search::search::Search;
 use asp_vars::compiled::Compiled;
@@ -74,24 +76,64 @@ fn note_tree(
     }
 }
 
-// A search that knows no answer, and has this bound.
+// What a search is for.
+#[derive(Drop)]
+struct Aim<'a> {
+    // the program whose answers are sought
+    compiled: &'a Compiled,
+    // whether all of them, or a cheapest one
+    mode: Mode,
+    // the cost below which they are sought, if there is one
+    bound: Option<Cost>,
+}
+
+// A search that knows no answer, and has the aim's bound.
 fn begin<'a, P: Propagator>(
     alloc: Global,
-    compiled: &'a Compiled,
-    mode: Mode,
-    bound: Option<Cost>,
+    aim: Aim<'a>,
     propagator: P,
 ) -> Result<Search<'a, P>, AllocError>
-    requires program { (P.told propagator).program ≡ compiled.now }
-    requires fresh { (P.told propagator).values ≡ replicate (var_count compiled.now + 1) None }
+    requires program { (P.told propagator).program ≡ aim.compiled.now }
+    requires fresh { (P.told propagator).values ≡ replicate (var_count aim.compiled.now + 1) None }
     requires unbounded { P.bound propagator ≡ None }
-    ensures { IfOk result (λ s. s ≡ record (new_search compiled.now mode s.slots) { bound = bound }) }
+    ensures { IfOk result (λ s. s ≡ record (new_search aim.entry.compiled.now aim.entry.mode s.slots) { bound = aim.entry.bound }) }
 {
+    let Aim {
+        compiled,
+        mode,
+        bound,
+    } = aim;
     let mut search = Search::new(alloc, compiled, mode, propagator)?;
     if let Some(bound) = bound {
         search.set_bound(bound)?;
     }
     Ok(search)
+}
+
+// Works off all that is open by a search that is made for it, with the units that number 0 has.
+fn search_all<P: Propagator, W: Watch>(
+    alloc: Global,
+    aim: Aim<'_>,
+    book: &mut Book,
+    propagator: P,
+    fuel: &mut Fuel,
+    counts: &mut Counts,
+    watch: &mut W,
+    recorder: Option<&Recorder>,
+) -> Result<Option<Conflict>, AllocError>
+    requires task { HasNoQuery book.old.task }
+    requires of { book.old.task.program ≡ aim.compiled.now }
+    requires work { IsAtWork (board book.old) 0 aim.mode [] aim.bound fuel.old }
+    requires alone { IsAlone (board book.old) }
+    requires program { (P.told propagator).program ≡ aim.compiled.now }
+    requires fresh { (P.told propagator).values ≡ replicate (var_count aim.compiled.now + 1) None }
+    requires unbounded { P.bound propagator ≡ None }
+    ensures leaves { IfOk result (λ o. (s : Searching) × LeavesAll aim.entry.mode book.old book.new s fuel.new o) }
+    ensures heard { W.IsAfter watch.old watch.new }
+{
+    let mode = aim.mode;
+    let mut search = begin(alloc, aim, propagator)?;
+    work_off_all(book, mode, &mut search, fuel, counts, watch, recorder)
 }
 
 /// Number 0 works off every open leaf, with all units of the pool, or until as many answers as asked for were found. The
@@ -124,10 +166,42 @@ pub fn finish<P: Propagator, W: Watch>(
     ensures heard { W.IsAfter watch.old watch.new }
 {
     let _lawful = book.journal();
-    let mut search = begin(alloc, compiled, mode, bound, propagator)?;
     let mut fuel = book.lease(0, u64::MAX)?;
-    let unpaid = work_off_all(book, mode, &mut search, &mut fuel, counts, watch, recorder)?;
+    let aim = Aim {
+        compiled,
+        mode,
+        bound,
+    };
+    let unpaid = search_all(
+        alloc, aim, book, propagator, &mut fuel, counts, watch, recorder,
+    )?;
     book.back(0, fuel);
     note_tree(book, &unpaid, recorder)?;
     Ok(unpaid)
+}
+
+/// `finish` by the program's propagators. The recorder gets the loops whose nogoods they give, too.
+pub(crate) fn finish_program<'a, W: Watch>(
+    alloc: Global,
+    compiled: &'a Compiled,
+    mode: Mode,
+    bound: Option<Cost>,
+    book: &mut Book,
+    counts: &mut Counts,
+    watch: &mut W,
+    recorder: Option<&'a Recorder>,
+) -> Result<Option<Conflict>, AllocError>
+    requires task { HasNoQuery book.old.task }
+    requires goal { MayBegin mode bound book.old.task.goal }
+    requires of { book.old.task.program ≡ compiled.now }
+    requires fits { book.old.task.budget < 2 ^ 64 }
+    requires idle { IsIdle (board book.old) }
+    ensures finishes { IfOk result (Finishes book.old book.new) }
+    ensures heard { W.IsAfter watch.old watch.new }
+{
+    let mut propagator = Propagators::new(alloc, compiled)?;
+    propagator.record(recorder);
+    finish(
+        alloc, compiled, mode, bound, book, propagator, counts, watch, recorder,
+    )
 }

@@ -9,7 +9,7 @@ ghost use Rattle.asp_crew_laws.specs.Reports.{joined, IsIdle, IsReport, IsWhole}
 ghost use Rattle.asp_crew_laws.specs.Runs.{asks, ties_of};
 ghost use Rattle.asp_crew.specs.Twice.{IsSearched, IsSecond};
 
-use crate::finish::finish;
+use crate::finish::finish_program;
 use crate::report::Report;
 use crate::reported::told;
 use asp_book::book::Book;
@@ -20,7 +20,6 @@ use asp_counts::watch::Watch;
 use asp_model::cost::{Cost, cost_just_above};
 use asp_model::interp::Interp;
 use asp_model::results::{Ask, End, Mode, Results};
-use asp_propagators::propagators::Propagators;
 use asp_vars::compiled::Compiled;
 use std::alloc::{AllocError, Global};
 
@@ -78,14 +77,12 @@ fn search<W: Watch>(
 {
     let bound = cost_just_above(alloc, compiled.program(), best)?;
     let mut book = opened(alloc, compiled, ask, &bound, best, budget)?;
-    let propagator = Propagators::new(alloc, compiled)?;
-    let unpaid = finish(
+    let unpaid = finish_program(
         alloc,
         compiled,
         Mode::Enum,
         bound,
         &mut book,
-        propagator,
         counts,
         watch,
         None,

@@ -1,18 +1,20 @@
 -- The ranking in which a search begins.
-use Rattle.std.proofs.Common.{◌≡◌, ℕ, ◌+◌, ◌<◌, List, [], ◌∷◌, ◌++◌, length, fold, map, refl, sym, ap, subst, ◌∙◌, take, get_or, arith}
+use Rattle.std.proofs.Common.{◌≡◌, ℕ, ◌+◌, ◌<◌, List, [], ◌∷◌, ◌++◌, Bool, true, length, fold, map, refl, sym, ap, subst, ◌∙◌, take, get_or, arith}
+use Rattle.std.specs.Prelude.{IsTrue}
 use Rattle.std.specs.List.{All}
 use Rattle.std.proofs.lemmas.List.{take_more}
 use Rattle.asp_model.specs.declared.program.Body.{Body}
 use Rattle.asp_model.specs.declared.program.Program.{Program}
 use Rattle.asp_vars.specs.Literals.{Literal}
+use Rattle.asp_vars.specs.Numbering.{bodies_of, var_count}
+use Rattle.asp_vars.specs.Completion.{completion}
 use Rattle.asp_vars.specs.declared.nogood.Nogood.{Nogood}
 use Rattle.asp_trail.specs.Trails.{IsVar}
 use Rattle.asp_complete.specs.Listed.{pure}
-use Rattle.asp_order.specs.Heaps.{Ranking}
-use Rattle.asp_order.specs.Waiting.{HasVars}
-use Rattle.asp_vars.specs.Numbering.{bodies_of}
+use Rattle.asp_order.specs.Heaps.{Ranking, is_in}
+use Rattle.asp_order.specs.Waiting.{HasVars, fresh}
 use Rattle.asp_order.proofs.HeapLaws.{IsAlike, all_bumped_alike, alike_still}
-use Rattle.asp_state.specs.SearchStates.{with_places, weighed_literals, with_bodies, with_weighted}
+use Rattle.asp_state.specs.SearchStates.{first_ranking, with_places, weighed_literals, with_bodies, with_weighted}
 
 -- the same variables are in the heap
 pub places_alike : (r : Ranking) (ns : List Nogood) → IsAlike r (fold (λ (x : Ranking) (n : Nogood). with_places x n.lits) r ns)
@@ -55,3 +57,25 @@ bodies_more p r old new i d lt before made =
 
 pub bodies-vars : (p : Program) (n i : ℕ) (r old : Ranking) → old ≡ with_bodies p r (take i (bodies_of p)) → HasVars n r → HasVars n old
 bodies-vars p n i r old e h = subst (HasVars n) (sym e) ((bodies_alike p r (take i (bodies_of p))).vars ∙ h)
+
+-- the ranking when the completion was given, from one in which all variables wait, and then the weight bodies
+pub record IsFirst (p : Program) (ranking : Ranking) : Type 0 where
+  pub first : ranking ≡ first_ranking p
+  pub vars : HasVars (var_count p) ranking
+  pub all : (v : ℕ) → IsVar (var_count p) v → IsTrue (is_in ranking.members v)
+
+pub given_vars : (p : Program) (vars : ℕ) (before given : Ranking) → vars ≡ var_count p → HasVars vars before → given ≡ fold with_places before (completion p) → HasVars (var_count p) given
+given_vars p vars before given count has is =
+    let alike : IsAlike before given = subst (IsAlike before) (places_listed before (completion p) ∙ sym is) (places_alike before (map pure (completion p))) in
+    alike.vars ∙ (has ∙ ap (λ (n : ℕ). n + 1) count)
+
+pub given_first : (p : Program) (vars : ℕ) (before given after : Ranking) → vars ≡ var_count p → before ≡ fresh vars → HasVars vars before → ((v : ℕ) → IsVar vars v → IsTrue (is_in before.members v))
+    → given ≡ fold with_places before (completion p) → after ≡ with_weighted p given → IsFirst p after
+given_first p vars before given after count start has all is weighted =
+    let alike : IsAlike before given = subst (IsAlike before) (places_listed before (completion p) ∙ sym is) (places_alike before (map pure (completion p))) in
+    let members : after.members ≡ before.members = weighted-members p given after weighted ∙ alike.members in
+    record {
+      first = weighted ∙ ap (with_weighted p) (is ∙ ap (λ (r : Ranking). fold with_places r (completion p)) (start ∙ ap fresh count));
+      vars = weighted-vars p (var_count p) given after weighted (given_vars p vars before given count has is);
+      all = λ v iv. subst (λ (ms : List Bool). is_in ms v ≡ true) (sym members) (all v (subst (λ (n : ℕ). IsVar n v) (sym count) iv));
+    }

@@ -1,11 +1,11 @@
 -- The completion's nogoods stay among those that are kept.
-use Rattle.std.proofs.Common.{◌≡◌, ◌≢◌, ℕ, zero, suc, ◌<◌, Bool, true, false, List, [], ◌∷◌, ◌++◌, length, get_or, set, map, Option, Some, None, inl, inr, refl, sym, ap, ◌∙◌, arith, get_or-set_other}
+use Rattle.std.proofs.Common.{◌≡◌, ◌≢◌, ℕ, zero, suc, ◌+◌, ◌<◌, Bool, true, false, List, [], ◌∷◌, ◌++◌, length, get_or, set, map, Option, Some, None, inl, inr, refl, sym, ap, ◌∙◌, arith, get_or-set_other}
 use Rattle.std.specs.Prelude.{option_map, IsTrue}
 use Rattle.std.specs.List.{All, AllByRecursion, Any}
 use Rattle.std.proofs.lemmas.Bool.{false≢true}
 use Rattle.std.proofs.lemmas.Option.{none-some}
-use Rattle.std.proofs.lemmas.List.{length-append, get_or_append_left}
-use Rattle.std.proofs.lemmas.List.Elements.{All-nil, All-push, All-weaker}
+use Rattle.std.proofs.lemmas.List.{length-append, get_or-append-add, get_or_append_left}
+use Rattle.std.proofs.lemmas.List.Elements.{All-append, All-nil, All-push, All-weaker}
 use Rattle.std.proofs.lemmas.List.Quantifiers.{Any-push}
 use Rattle.asp_model.specs.declared.program.Program.{Program}
 use Rattle.asp_vars.specs.Literals.{Literal}
@@ -90,6 +90,30 @@ adds_another ns old mid new id n a x = record {
       | inl was ↦ inl was
       | inr of ↦ inr (any_more k ns n of)
     ]
+  ];
+}
+
+any_left : (k : StoredNogood) (ns ms : List Nogood) → Any (λ m. Some k ≡ stays m) ns → Any (λ m. Some k ≡ stays m) (ns ++ ms)
+any_left k ns ms a = (a.0, a.1, omega (arith, a.2, length-append ns ms), get_or_append_left ns ms a.1 a.0 a.2 ∙ a.3, a.4)
+
+any_right : (k : StoredNogood) (ns ms : List Nogood) → Any (λ m. Some k ≡ stays m) ms → Any (λ m. Some k ≡ stays m) (ns ++ ms)
+any_right k ns ms a = (length ns + a.0, a.1, omega (arith, a.2, length-append ns ms), get_or-append-add ns ms a.0 a.1 ∙ a.3, a.4)
+
+-- and then others
+pub adds_all : (ns ms : List Nogood) (old mid new : List (Option StoredNogood)) → AddsForever ns old mid → AddsForever ms mid new → AddsForever (ns ++ ms) old new
+adds_all ns ms old mid new a b = record {
+  stay = λ j k g. b.stay j k (a.stay j k g);
+  each =
+      All-append (λ (m : Nogood). (i : ℕ) × (kept_at new i ≡ stays m)) ns ms
+      (All-weaker (λ (m : Nogood). (i : ℕ) × (kept_at mid i ≡ stays m)) (λ (m : Nogood). (i : ℕ) × (kept_at new i ≡ stays m))
+      (λ m h. (h.0, b.stay h.0 (record { nogood = m; kind = kind.Forever; locked = false }) h.1)) ns a.each)
+      b.each;
+  only = λ j k g. elim (b.only j k g) [
+    | inl was ↦ elim (a.only j k was) [
+      | inl before ↦ inl before
+      | inr of ↦ inr (any_left k ns ms of)
+    ]
+    | inr of ↦ inr (any_right k ns ms of)
   ];
 }
 

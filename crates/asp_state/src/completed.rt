@@ -1,17 +1,24 @@
-//! An engine on which the completion is kept.
-ghost use Rattle.std.specs.Prelude.{◌≡◌, ◌+◌, None, [], map, replicate, IfOk, OnOk};
+//! The completion, which is kept forever, and in whose order a search begins.
+ghost use Rattle.std.specs.Prelude.{◌≡◌, ◌+◌, ◌≤◌, length, map, fold, IfOk, OnOk};
 ghost use Rattle.std.specs.List.{All};
 ghost use Rattle.asp_vars.specs.Numbering.{var_count};
 ghost use Rattle.asp_vars.specs.Completion.{completion};
-ghost use Rattle.asp_complete.specs.Listed.{pure};
-ghost use Rattle.asp_state.specs.SearchStates.{AddsForever, AreOf, KeepsCompletionAlone};
+ghost use Rattle.asp_complete.specs.Listed.{groups, nogoods_between, pure};
+ghost use Rattle.asp_order.specs.Waiting.{HasVars};
+ghost use Rattle.asp_state.specs.SearchStates.{AddsForever, AreOf, with_places};
 
+use crate::begun::begin_all;
+use asp_complete::completion::{completion_part, group_count};
+use asp_order::order::Order;
 use asp_propagate::engine::Engine;
 use asp_propagate::propagator::Propagator;
 use asp_store::stored_nogood::Kind;
 use asp_vars::compiled::Compiled;
 use asp_vars::nogood::Nogood;
 use std::alloc::{AllocError, Global};
+
+// The completion's nogoods are listed by so many groups at a time.
+const PART: usize = 4096;
 
 // Keeps the nogoods forever.
 fn keep_all<P: Propagator>(engine: &mut Engine<P>, nogoods: Vec<Nogood>) -> Result<(), AllocError>
@@ -25,20 +32,48 @@ fn keep_all<P: Propagator>(engine: &mut Engine<P>, nogoods: Vec<Nogood>) -> Resu
     Ok(())
 }
 
-/// An engine without entries, on which the completion of the propagator's program is kept, which is given.
-pub fn completed<P: Propagator>(
+// Keeps the nogoods of the groups from one to before another forever, with a bump for each place where a variable stands there.
+fn keep_part<P: Propagator>(
     alloc: Global,
     compiled: &Compiled,
-    nogoods: Vec<Nogood>,
-    propagator: P,
-) -> Result<Engine<P>, AllocError>
-    requires program { (P.told propagator).program ≡ compiled.now }
-    requires nogoods { nogoods.items ≡ map pure (completion compiled.now) }
-    requires fresh { (P.told propagator).values ≡ replicate (var_count compiled.now + 1) None }
-    ensures same { IfOk result (λ p. p ≡ record { program = compiled.now; entries = []; slots = p.slots; bound = P.bound propagator }) }
-    ensures slots { IfOk result (λ p. KeepsCompletionAlone compiled.now p.slots) }
+    engine: &mut Engine<P>,
+    order: &mut Order,
+    from: usize,
+    to: usize,
+) -> Result<(), AllocError>
+    requires program { engine.old.program ≡ compiled.now }
+    requires vars { HasVars (var_count compiled.now) order.old }
+    requires from { from ≤ to }
+    requires to { to ≤ length (groups compiled.now) }
+    ensures same { engine.new ≡ record engine.old { slots = engine.new.slots } }
+    ensures adds { OnOk result (AddsForever (map pure (nogoods_between compiled.now from to)) engine.old.slots engine.new.slots) }
+    ensures order { OnOk result (order.new ≡ fold with_places order.old (nogoods_between compiled.now from to)) }
 {
-    let mut engine = Engine::new(alloc, compiled.vars(), propagator)?;
-    keep_all(&mut engine, nogoods)?;
-    Ok(engine)
+    let nogoods = completion_part(alloc, compiled, from, to)?;
+    begin_all(order, nogoods.as_slice());
+    keep_all(engine, nogoods)?;
+    Ok(())
+}
+
+/// Keeps the completion of the engine's program forever, and gives each variable a bump for each place where it stands there.
+pub fn keep_completion<P: Propagator>(
+    alloc: Global,
+    compiled: &Compiled,
+    engine: &mut Engine<P>,
+    order: &mut Order,
+) -> Result<(), AllocError>
+    requires program { engine.old.program ≡ compiled.now }
+    requires vars { HasVars (var_count compiled.now) order.old }
+    ensures same { engine.new ≡ record engine.old { slots = engine.new.slots } }
+    ensures adds { OnOk result (AddsForever (map pure (completion compiled.now)) engine.old.slots engine.new.slots) }
+    ensures order { OnOk result (order.new ≡ fold with_places order.old (completion compiled.now)) }
+{
+    let count = group_count(compiled)?;
+    let mut from = 0;
+    while from < count {
+        let to = from + PART.min(count - from);
+        keep_part(alloc, compiled, engine, order, from, to)?;
+        from = to;
+    }
+    Ok(())
 }

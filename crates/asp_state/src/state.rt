@@ -23,9 +23,9 @@ ghost use Rattle.asp_propagate.specs.Propagating.{is_named, Adds, AreAtFixpoint,
 ghost use Rattle.asp_state.specs.SearchStates.{first_ranking, path_of, values_of, AreOf, Clashes, IsBegun, IsUnder, KeepsCompletion, KeepsCompletionAlone};
 
 use crate::assume::assume_all;
-use crate::begun::begun;
-use crate::completed::completed;
-use asp_complete::completion::completion;
+use crate::completed::keep_completion;
+use crate::preferred::prefer_cheap;
+use crate::weighted::begin_weighted;
 use asp_model::cost::Cost;
 use asp_order::order::Order;
 use asp_propagate::engine::Engine;
@@ -109,10 +109,12 @@ impl<P: Propagator> SearchState<P> {
         }) }
         ensures slots { IfOk result (λ t. KeepsCompletionAlone compiled.now t.slots) }
     {
-        let _vars = compiled.vars();
-        let nogoods = completion(alloc, compiled)?;
-        let order = begun(alloc, compiled, nogoods.as_slice())?;
-        let engine = completed(alloc, compiled, nogoods, propagator)?;
+        let vars = compiled.vars();
+        let mut order = Order::new(alloc, vars)?;
+        let mut engine = Engine::new(alloc, vars, propagator)?;
+        keep_completion(alloc, compiled, &mut engine, &mut order)?;
+        begin_weighted(&mut order, compiled);
+        prefer_cheap(&mut order, compiled);
         Ok(SearchState {
             engine,
             order,

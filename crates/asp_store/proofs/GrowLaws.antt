@@ -1,5 +1,5 @@
 -- How a trail grows by what kept nogoods imply.
-use Rattle.std.proofs.Common.{◌≡◌, ◌≢◌, ℕ, zero, suc, ◌+◌, ◌-◌, ◌<◌, Bool, true, false, eqb, List, [], ◌∷◌, ◌++◌, length, get_or, Option, Some, inl, inr, refl, sym, ap, ◌∙◌, subst, append_assoc, arith}
+use Rattle.std.proofs.Common.{◌≤◌, ◌≡◌, ◌≢◌, ℕ, zero, suc, ◌+◌, ◌-◌, ◌<◌, Bool, true, false, eqb, List, [], ◌∷◌, ◌++◌, length, get_or, Option, Some, inl, inr, refl, sym, ap, ◌∙◌, subst, append_assoc, arith}
 use Rattle.std.specs.Option.{unwrap_or}
 use Rattle.std.specs.List.{All}
 use Rattle.std.proofs.lemmas.Bool.{eqb-true}
@@ -68,6 +68,19 @@ extends_grew slots id n es fs k g =
   where
     new : Literal → Entry
     new l = record { lit = l; level = level es; reason = Some id }
+
+one_low : (b : ℕ) (e : Entry) → e.level ≤ b → All (λ f. f.level ≤ b) (e ∷ [])
+one_low b e h zero d k = h
+one_low b e h (suc i) d k = absurd (omega arith)
+
+-- no level comes that is greater than those before
+pub grew_top : (id : ℕ) (n : List Literal) (es fs : List Entry) (b : ℕ) → Grew id n es fs → level es ≤ b → All (λ e. e.level ≤ b) es → All (λ e. e.level ≤ b) fs
+grew_top id n es fs b g h a =
+    elim g [
+      | inl q ↦ subst (λ (xs : List Entry). All (λ e. e.level ≤ b) xs) (sym q) a
+      | inr r ↦ subst (λ (xs : List Entry). All (λ e. e.level ≤ b) xs) (sym r.1)
+          (All-append (λ e. e.level ≤ b) es (record { lit = r.0; level = level es; reason = Some id } ∷ []) a (one_low b (record { lit = r.0; level = level es; reason = Some id }) h))
+    ]
 
 pub extends_none : (slots : List (Option StoredNogood)) (es : List Entry) → Extends slots es es
 extends_none slots es = ([], sym (append-nil es), λ h. h, λ i d h. absurd (omega arith))

@@ -5,8 +5,10 @@ pub mod GrowLaws
 pub mod LookLaws
 pub mod PendingLaws
 pub mod PlaceLaws
+pub mod ShortLaws
 pub mod SoundLaws
 pub mod StepLaws
 pub mod StoreLaws
+pub mod UnlistLaws
 pub mod WatchLaws
 pub mod KeepLaws

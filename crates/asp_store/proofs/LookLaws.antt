@@ -18,7 +18,6 @@ use Rattle.asp_trail.proofs.EntryLaws.{find_only}
 use Rattle.asp_trail.proofs.HoldLaws.{holds_at, holds_found, value_at}
 use Rattle.asp_trail.specs.Reasons.{Stands, IsReason}
 use Rattle.asp_store.specs.Fitting.{IsFalseBy, Watches, IsWatched}
-use Rattle.asp_store.specs.Pairs.{IsWhole}
 use Rattle.asp_store.specs.Looking.{AreTrueBeside}
 use Rattle.asp_store.specs.declared.looks.Spot.{Spot}
 use Rattle.asp_trail.proofs.FixpointLaws.{false_from}
@@ -189,9 +188,9 @@ violated_when vars es n other t h = list_all_from (holds_in (assignment vars es)
 pub differ_from : (k l : Literal) → literal_eq k l ≡ false → l ≢ k
 differ_from k l h e = false≢true (sym h ∙ (ap (λ (x : Literal). literal_eq x l) (sym e) ∙ eq_itself l))
 
-watched_by : (n : List Literal) (es : List Entry) (seen : ℕ) (first second : Literal) (whole : Bool) → has_literal n first ≡ true → has_literal n second ≡ true → literal_eq second first ≡ false →
-    Watches es seen n first → Watches es seen n second → IsWatched n (record { first = first; second = second; is_whole = whole }) es seen
-watched_by n es seen first second whole a b d x y = record {
+watched_by : (n : List Literal) (es : List Entry) (seen : ℕ) (first second : Literal) → has_literal n first ≡ true → has_literal n second ≡ true → literal_eq second first ≡ false →
+    Watches es seen n first → Watches es seen n second → IsWatched n (record { first = first; second = second }) es seen
+watched_by n es seen first second a b d x y = record {
   has = λ l o. elim o [
     | inl e ↦ subst (λ (k : Literal). has_literal n k ≡ true) e a
     | inr e ↦ subst (λ (k : Literal). has_literal n k ≡ true) e b
@@ -204,18 +203,18 @@ watched_by n es seen first second whole a b d x y = record {
 }
 
 -- neither is true
-pub watched_open : (vars : ℕ) (es : List Entry) (seen : ℕ) (n : List Literal) (first second : Literal) (whole : Bool) → IsOrdered vars es → has_literal n first ≡ true → has_literal n second ≡ true →
+pub watched_open : (vars : ℕ) (es : List Entry) (seen : ℕ) (n : List Literal) (first second : Literal) → IsOrdered vars es → has_literal n first ≡ true → has_literal n second ≡ true →
     literal_eq second first ≡ false → holds_in (assignment vars es) first ≡ false → holds_in (assignment vars es) second ≡ false →
-    IsWatched n (record { first = first; second = second; is_whole = whole }) es seen
-watched_open vars es seen n first second whole o a b d p q =
-    watched_by n es seen first second whole a b d (watches_open vars es seen n first o p) (watches_open vars es seen n second o q)
+    IsWatched n (record { first = first; second = second }) es seen
+watched_open vars es seen n first second o a b d p q =
+    watched_by n es seen first second a b d (watches_open vars es seen n first o p) (watches_open vars es seen n second o q)
 
 -- the first is false, and the second's level isn't below its level
-pub watched_above : (vars : ℕ) (es : List Entry) (seen : ℕ) (n : List Literal) (first second : Literal) (whole : Bool) (b : ℕ) → IsOrdered vars es → has_literal n first ≡ true →
+pub watched_above : (vars : ℕ) (es : List Entry) (seen : ℕ) (n : List Literal) (first second : Literal) (b : ℕ) → IsOrdered vars es → has_literal n first ≡ true →
     IsFalseBy es first b → has_literal n second ≡ true → literal_eq second first ≡ false → b ≤ level_in es second.var →
-    IsWatched n (record { first = first; second = second; is_whole = whole }) es seen
-watched_above vars es seen n first second whole b o a f h d le =
-    watched_by n es seen first second whole a h d (watches_false vars es seen n first b o a f) (watches_above vars es seen n second first b o a f le)
+    IsWatched n (record { first = first; second = second }) es seen
+watched_above vars es seen n first second b o a f h d le =
+    watched_by n es seen first second a h d (watches_false vars es seen n first b o a f) (watches_above vars es seen n second first b o a f le)
 
 -- a literal of two
 pub one_of_two : (a b l : Literal) → has_literal (a ∷ b ∷ []) l ≡ true → (a ≡ l) ⊎ (b ≡ l)
@@ -225,21 +224,3 @@ one_of_two a b l q = cases (literal_eq a l) refl (literal_eq b l) refl q
     cases true e v g r = inl (same_literal a l (sym e))
     cases false e true g r = inr (same_literal b l (sym g))
     cases false e false g r = absurd (false≢true r)
-
--- where a nogood has two literals, it has none beside two different ones of them
-pub two_are_all : (n : List Literal) (first second : Literal) → length n ≡ 2 → has_literal n first ≡ true → has_literal n second ≡ true → literal_eq second first ≡ false →
-    IsWhole n (record { first = first; second = second; is_whole = true })
-two_are_all (a ∷ b ∷ []) first second len f s ne k h =
-    elim (one_of_two a b first f) [
-      | inl x ↦ elim (one_of_two a b second s) [
-        | inl y ↦ absurd (differ_from second first ne (sym x ∙ y))
-        | inr y ↦ elim (one_of_two a b k h) [ inl z ↦ inl (sym x ∙ z) | inr z ↦ inr (sym y ∙ z) ]
-      ]
-      | inr x ↦ elim (one_of_two a b second s) [
-        | inl y ↦ elim (one_of_two a b k h) [ inl z ↦ inr (sym y ∙ z) | inr z ↦ inl (sym x ∙ z) ]
-        | inr y ↦ absurd (differ_from second first ne (sym x ∙ y))
-      ]
-    ]
-two_are_all [] first second len f s ne k h = absurd (omega arith)
-two_are_all (a ∷ []) first second len f s ne k h = absurd (omega arith)
-two_are_all (a ∷ b ∷ c ∷ n) first second len f s ne k h = absurd (omega arith)

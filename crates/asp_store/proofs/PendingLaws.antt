@@ -1,6 +1,5 @@
 -- What a look at one of those apart leaves.
-use Rattle.std.specs.Prelude.{IsTrue}
-use Rattle.std.proofs.Common.{◌≡◌, ◌≢◌, ℕ, suc, zero, ◌+◌, ◌<◌, ◌≤◌, true, false, List, [], ◌∷◌, ◌++◌, length, set, Option, Some, None, inl, inr, refl, sym, ap, ◌∙◌, subst, arith}
+use Rattle.std.proofs.Common.{◌≡◌, ◌≢◌, ℕ, suc, zero, ◌+◌, ◌<◌, ◌≤◌, Bool, true, false, List, [], ◌∷◌, ◌++◌, length, set, Option, Some, None, inl, inr, refl, sym, ap, ◌∙◌, subst, arith}
 use Rattle.std.specs.List.{slice_get, swap_remove, swap}
 use Rattle.std.specs.Option.{is_some}
 use Rattle.std.proofs.lemmas.Bool.{false≢true}
@@ -18,9 +17,9 @@ use Rattle.asp_store.specs.declared.stored_nogood.StoredNogood.{StoredNogood}
 use Rattle.asp_store.specs.declared.watch.Pair.{Pair}
 use Rattle.asp_store.specs.declared.watches.Watches.{Watches}
 use Rattle.asp_store.specs.declared.front.Step.TheVariants as step
-use Rattle.asp_store.specs.Keeping.{nogood_at}
+use Rattle.asp_store.specs.Keeping.{kept_at, nogood_at, is_lasting}
 use Rattle.asp_store.specs.Lists.{list_at}
-use Rattle.asp_store.specs.Pairs.{IsOneOf, IsWhole}
+use Rattle.asp_store.specs.Pairs.{IsOneOf}
 use Rattle.asp_store.specs.Parted.{Parted, IsFrom}
 use Rattle.asp_store.specs.Fitting.{HasFalse, IsWatched}
 use Rattle.asp_store.specs.Sounding.{IsListed, IsSound, AreSettled}
@@ -29,6 +28,7 @@ use Rattle.asp_store.proofs.GetLaws.{is_or_not, get_swap, get_swapped, length-sw
 use Rattle.asp_store.proofs.PlaceLaws.{listed_new, listed_push}
 use Rattle.asp_store.proofs.WatchLaws.{has_false_grow}
 use Rattle.asp_store.proofs.LookLaws.{all_has}
+use Rattle.asp_store.proofs.ShortLaws.{place_new}
 use Rattle.asp_store.proofs.SoundLaws.{Suits, sound_pair, sound_apart, pair_cases, sound_grow}
 use Rattle.asp_store.proofs.StepLaws.{code_of_list, sound_watch}
 
@@ -73,45 +73,53 @@ watched_seen n p es seen t = record {
 }
 
 -- the lists of both have the number
-abbrev pub with_first : Watches → Pair → ℕ → Watches
-with_first w p id = record w { lists = set w.lists (code_of p.first) (list_at w.lists (code_of p.first) ++ record { blocker = p.second; id = id } ∷ []) }
+abbrev pub with_first : Watches → Pair → ℕ → Bool → Watches
+with_first w p id b = record w { lists = set w.lists (code_of p.first) (list_at w.lists (code_of p.first) ++ record { blocker = p.second; id = id; is_short = b } ∷ []) }
 
-abbrev pub with_second : Watches → Pair → ℕ → Watches
-with_second w p id = record w { lists = set w.lists (code_of p.second) (list_at w.lists (code_of p.second) ++ record { blocker = p.first; id = id } ∷ []) }
+abbrev pub with_second : Watches → Pair → ℕ → Bool → Watches
+with_second w p id b = record w { lists = set w.lists (code_of p.second) (list_at w.lists (code_of p.second) ++ record { blocker = p.first; id = id; is_short = b } ∷ []) }
 
-abbrev pub with_both : Watches → Pair → ℕ → Watches
-with_both w p id = with_second (with_first w p id) p id
+abbrev pub with_both : Watches → Pair → ℕ → Bool → Watches
+with_both w p id b = with_second (with_first w p id b) p id b
 
-abbrev pub attached : Watches → Pair → ℕ → Watches
-attached w p id = record (with_both w p id) { pairs = set w.pairs id (Some p) }
+abbrev pub attached : Watches → Pair → ℕ → Bool → Watches
+attached w p id b = record (with_both w p id b) { pairs = set w.pairs id (Some p) }
 
 -- the literals of a pair are of the trail's variables
 pub pair_small : (slots : List (Option StoredNogood)) (w : Watches) (t : Trailed) (id : ℕ) (n : Nogood) (p : Pair) (l : Literal) (es : List Entry) (seen : ℕ) → IsSound slots w t →
     nogood_at slots id ≡ Some n → IsWatched n.lits p es seen → IsOneOf p l → l.var ≤ t.vars
 pair_small slots w t id n p l es seen s h k o = (all_has (λ x. IsVar t.vars x.var) n.lits l (s.net.small id n h) (k.has l o)).1
 
-pub sound_both : (slots : List (Option StoredNogood)) (w : Watches) (t : Trailed) (p : Pair) (id : ℕ) → p.first.var ≤ t.vars → p.second.var ≤ t.vars → IsSound slots w t →
-    IsSound slots (with_first w p id) t × IsSound slots (with_both w p id) t
-sound_both slots w t p id a b s =
-    let one = sound_watch slots w t p.first (record { blocker = p.second; id = id }) a b s in
-    (one, sound_watch slots (with_first w p id) t p.second (record { blocker = p.first; id = id }) b a one)
+pub sound_both : (slots : List (Option StoredNogood)) (w : Watches) (t : Trailed) (p : Pair) (id : ℕ) (n : Nogood) (b : Bool) → nogood_at slots id ≡ Some n → IsWatched n.lits p t.entries (length t.entries) →
+    b ≡ is_lasting (kept_at slots id) → IsSound slots w t → IsSound slots (with_first w p id b) t × IsSound slots (with_both w p id b) t
+sound_both slots w t p id n b h k e s =
+    let x = small p.first (inl refl) in
+    let y = small p.second (inr refl) in
+    let one = sound_watch slots w t p.first (record { blocker = p.second; id = id; is_short = b }) x
+    (place_new t.vars slots id n p.first p.second b e h (k.has p.first (inl refl)) (k.has p.second (inr refl)) k.differ y) s in (
+      one,
+      sound_watch slots (with_first w p id b) t p.second (record { blocker = p.first; id = id; is_short = b }) y
+          (place_new t.vars slots id n p.second p.first b e h (k.has p.second (inr refl)) (k.has p.first (inl refl)) (λ q. k.differ (sym q)) x) one,
+    )
+  where
+    small : (l : Literal) → IsOneOf p l → l.var ≤ t.vars
+    small l o = pair_small slots w t id n p l t.entries (length t.entries) s h k o
 
-suits_both : (slots : List (Option StoredNogood)) (w : Watches) (t : Trailed) (p : Pair) (id : ℕ) (n : Nogood) → nogood_at slots id ≡ Some n →
-    IsWatched n.lits p t.entries (length t.entries) → (IsTrue p.is_whole → IsWhole n.lits p) → IsSound slots w t → Suits slots (with_both w p id) t id (Some p)
-suits_both slots w t p id n h k whole s = record {
+suits_both : (slots : List (Option StoredNogood)) (w : Watches) (t : Trailed) (p : Pair) (id : ℕ) (n : Nogood) (b : Bool) → nogood_at slots id ≡ Some n →
+    IsWatched n.lits p t.entries (length t.entries) → b ≡ is_lasting (kept_at slots id) → IsSound slots w t → Suits slots (with_both w p id b) t id (Some p)
+suits_both slots w t p id n b h k is s = record {
   within = omega (arith, s.net.paired, kept_within slots id n h);
   bounded = λ q l e o. subst (λ (x : Pair). IsOneOf x l → l.var ≤ t.vars) (same_Some p q e) (λ z. pair_small slots w t id n p l t.entries (length t.entries) s h k z) o;
   listed = λ m q l g e o.
-      subst (λ (x : Pair). IsOneOf x l → IsListed (with_both w p id).lists l 0 id m.lits) (same_Some p q e)
+      subst (λ (x : Pair). IsOneOf x l → IsListed (with_both w p id b).lists l 0 id m.lits) (same_Some p q e)
       (λ z. elim z [
-        | inl y ↦ subst (λ (x : Literal). IsListed (with_both w p id).lists x 0 id m.lits) y (first m g)
-        | inr y ↦ subst (λ (x : Literal). IsListed (with_both w p id).lists x 0 id m.lits) y (second m g)
+        | inl y ↦ subst (λ (x : Literal). IsListed (with_both w p id b).lists x 0 id m.lits) y (first m g)
+        | inr y ↦ subst (λ (x : Literal). IsListed (with_both w p id b).lists x 0 id m.lits) y (second m g)
       ]) o;
   watched = λ m q g e.
       subst (λ (x : Pair). IsWatched m.lits x t.entries t.seen) (same_Some p q e)
       (subst (λ (x : Nogood). IsWatched x.lits p t.entries t.seen) (same m g) (watched_seen n.lits p t.entries t.seen k));
   apart = λ m g e. absurd (none-some p (sym e));
-  whole = λ q e b. subst (λ (x : Pair). IsTrue x.is_whole → (m : Nogood) × (nogood_at slots id ≡ Some m) × IsWhole m.lits x) (same_Some p q e) (λ z. (n, h, whole z)) b;
 }
   where
     same : (m : Nogood) → nogood_at slots id ≡ Some m → n ≡ m
@@ -120,28 +128,26 @@ suits_both slots w t p id n h k whole s = record {
     small : (l : Literal) → IsOneOf p l → l.var ≤ t.vars
     small l o = pair_small slots w t id n p l t.entries (length t.entries) s h k o
 
-    two : IsSound slots (with_first w p id) t × IsSound slots (with_both w p id) t
-    two = sound_both slots w t p id (small p.first (inl refl)) (small p.second (inr refl)) s
+    two : IsSound slots (with_first w p id b) t × IsSound slots (with_both w p id b) t
+    two = sound_both slots w t p id n b h k is s
 
-    first : (m : Nogood) → nogood_at slots id ≡ Some m → IsListed (with_both w p id).lists p.first 0 id m.lits
+    first : (m : Nogood) → nogood_at slots id ≡ Some m → IsListed (with_both w p id b).lists p.first 0 id m.lits
     first m g =
-        listed_push (with_first w p id).lists (code_of p.second) (record { blocker = p.first; id = id }) p.first 0 id m.lits
-        (code_of_list slots (with_first w p id) t p.second two.0 (small p.second (inr refl)))
-        (listed_new w.lists (record { blocker = p.second; id = id }) p.first m.lits (code_of_list slots w t p.first s (small p.first (inl refl)))
+        listed_push (with_first w p id b).lists (code_of p.second) (record { blocker = p.first; id = id; is_short = b }) p.first 0 id m.lits
+        (code_of_list slots (with_first w p id b) t p.second two.0 (small p.second (inr refl)))
+        (listed_new w.lists (record { blocker = p.second; id = id; is_short = b }) p.first m.lits (code_of_list slots w t p.first s (small p.first (inl refl)))
         (subst (λ (x : Nogood). has_literal x.lits p.second ≡ true) (same m g) (k.has p.second (inr refl))))
 
-    second : (m : Nogood) → nogood_at slots id ≡ Some m → IsListed (with_both w p id).lists p.second 0 id m.lits
+    second : (m : Nogood) → nogood_at slots id ≡ Some m → IsListed (with_both w p id b).lists p.second 0 id m.lits
     second m g =
-        listed_new (with_first w p id).lists (record { blocker = p.first; id = id }) p.second m.lits
-        (code_of_list slots (with_first w p id) t p.second two.0 (small p.second (inr refl)))
+        listed_new (with_first w p id b).lists (record { blocker = p.first; id = id; is_short = b }) p.second m.lits
+        (code_of_list slots (with_first w p id b) t p.second two.0 (small p.second (inr refl)))
         (subst (λ (x : Nogood). has_literal x.lits p.first ≡ true) (same m g) (k.has p.first (inl refl)))
 
-pub attached_looking : (slots : List (Option StoredNogood)) (w : Watches) (t : Trailed) (i id : ℕ) (p : Pair) (n : Nogood) → nogood_at slots id ≡ Some n →
-    IsWatched n.lits p t.entries (length t.entries) → (IsTrue p.is_whole → IsWhole n.lits p) → IsWaiting slots w t i id → IsLooking slots (attached w p id) t i
-attached_looking slots w t i id p n h k whole v = record {
-  sound = sound_pair slots (with_both w p id) t id (Some p) (suits_both slots w t p id n h k whole v.looking.sound)
-      (sound_both slots w t p id (pair_small slots w t id n p p.first t.entries (length t.entries) v.looking.sound h k (inl refl))
-      (pair_small slots w t id n p p.second t.entries (length t.entries) v.looking.sound h k (inr refl)) v.looking.sound).1;
+pub attached_looking : (slots : List (Option StoredNogood)) (w : Watches) (t : Trailed) (i id : ℕ) (p : Pair) (n : Nogood) (b : Bool) → nogood_at slots id ≡ Some n →
+    IsWatched n.lits p t.entries (length t.entries) → b ≡ is_lasting (kept_at slots id) → IsWaiting slots w t i id → IsLooking slots (attached w p id b) t i
+attached_looking slots w t i id p n b h k is v = record {
+  sound = sound_pair slots (with_both w p id b) t id (Some p) (suits_both slots w t p id n b h k is v.looking.sound) (sound_both slots w t p id n b h k is v.looking.sound).1;
   settled = λ j m g q. elim (pair_cases w.pairs id (Some p) j None (omega (arith, v.looking.sound.net.paired, kept_within slots id n h)) q) [
     | inl e ↦ absurd (none-some p (sym e.1))
     | inr e ↦ v.looking.settled j m g e.1
@@ -149,9 +155,9 @@ attached_looking slots w t i id p n h k whole v = record {
   begun = v.looking.begun;
 }
 
-pub attached_none : (slots : List (Option StoredNogood)) (w : Watches) (t : Trailed) (i id : ℕ) (p : Pair) (n : Nogood) → nogood_at slots id ≡ Some n → IsWaiting slots w t i id →
-    HasNone slots (attached w p id) i
-attached_none slots w t i id p n h v j m at g q =
+pub attached_none : (slots : List (Option StoredNogood)) (w : Watches) (t : Trailed) (i id : ℕ) (p : Pair) (n : Nogood) (b : Bool) → nogood_at slots id ≡ Some n → IsWaiting slots w t i id →
+    HasNone slots (attached w p id b) i
+attached_none slots w t i id p n b h v j m at g q =
     let e : j ≡ id = same_Some j id (sym at ∙ v.at) in
     none-some p (sym q ∙ at_set w.pairs id (Some p) None j (omega (arith, v.looking.sound.net.paired, kept_within slots id n h)) e)
 

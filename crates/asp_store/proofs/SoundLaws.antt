@@ -1,5 +1,4 @@
 -- Watches are sound, through each change of lists, of a pair, of the numbers apart and of the trail.
-use Rattle.std.specs.Prelude.{IsTrue}
 use Rattle.std.proofs.Common.{◌≡◌, ◌≢◌, ℕ, ◌<◌, ◌≤◌, List, [], ◌∷◌, ◌++◌, length, set, Option, Some, None, inl, inr, ◌⊎◌, sym, ap, ◌∙◌, subst, arith}
 use Rattle.std.proofs.lemmas.List.{length-set}
 use Rattle.asp_vars.specs.Literals.{Literal}
@@ -7,33 +6,33 @@ use Rattle.asp_vars.specs.declared.nogood.Nogood.{Nogood}
 use Rattle.asp_trail.specs.declared.trail.Entry.{Entry}
 use Rattle.asp_trail.specs.Trails.{Trailed}
 use Rattle.asp_store.specs.declared.stored_nogood.StoredNogood.{StoredNogood}
-use Rattle.asp_store.specs.declared.watch.Watch.{Watch}
+use Rattle.asp_store.specs.Marks.{Watch}
 use Rattle.asp_store.specs.declared.watch.Pair.{Pair}
 use Rattle.asp_store.specs.declared.watches.Watches.{Watches}
 use Rattle.asp_store.specs.Keeping.{nogood_at}
-use Rattle.asp_store.specs.Lists.{place}
-use Rattle.asp_store.specs.Pairs.{pair_at, IsOneOf, IsWhole}
+use Rattle.asp_store.specs.Pairs.{pair_at, IsOneOf}
 use Rattle.asp_store.specs.Parted.{Parted, IsFrom}
 use Rattle.asp_store.specs.Fitting.{HasFalse, IsWatched, AreFit}
-use Rattle.asp_store.specs.Sounding.{IsListed, IsSound, AreSettled}
+use Rattle.asp_store.specs.Sounding.{IsListed, IsPlace, IsSound, AreSettled}
 use Rattle.asp_store.proofs.GetLaws.{is_or_not, at_set, at_set_other, get_more}
+use Rattle.asp_store.proofs.PlaceLaws.{AllPlaces}
 use Rattle.asp_store.proofs.WatchLaws.{has_false_grow, watched_grow}
 
 -- ---- lists change
 pub sound_lists : (slots : List (Option StoredNogood)) (w : Watches) (t : Trailed) (lists : List (List Watch)) → length lists ≡ length w.lists →
-    ((k p : ℕ) (x : Watch) → place lists k p ≡ Some x → x.blocker.var ≤ t.vars) →
+    AllPlaces (IsPlace t.vars slots) lists →
     ((id : ℕ) (n : Nogood) (p : Pair) (l : Literal) → nogood_at slots id ≡ Some n → pair_at w.pairs id ≡ Some p → IsOneOf p l → IsListed lists l 0 id n.lits) →
     IsSound slots w t → IsSound slots (record w { lists = lists }) t
-sound_lists slots w t lists len blockers listed s = record {
+sound_lists slots w t lists len places listed s = record {
   net = record {
     sized = len ∙ s.net.sized;
     paired = s.net.paired;
     small = s.net.small;
-    blockers = blockers;
+    numbered = s.net.numbered;
+    places = places;
     watched = s.net.watched;
     listed = listed;
     unwatched = s.net.unwatched;
-    whole = s.net.whole;
   };
   fit = s.fit;
 }
@@ -54,7 +53,6 @@ pub record Suits (slots : List (Option StoredNogood)) (w : Watches) (t : Trailed
   pub listed : (n : Nogood) (p : Pair) (l : Literal) → nogood_at slots id ≡ Some n → q ≡ Some p → IsOneOf p l → IsListed w.lists l 0 id n.lits
   pub watched : (n : Nogood) (p : Pair) → nogood_at slots id ≡ Some n → q ≡ Some p → IsWatched n.lits p t.entries t.seen
   pub apart : (n : Nogood) → nogood_at slots id ≡ Some n → q ≡ None → IsFrom w.apart w.apart.retired id
-  pub whole : (p : Pair) → q ≡ Some p → IsTrue p.is_whole → (n : Nogood) × (nogood_at slots id ≡ Some n) × IsWhole n.lits p
 
 pub from_zero : (a : Parted) (i id : ℕ) → IsFrom a i id → IsFrom a 0 id
 from_zero a i id f = (f.0, omega arith, f.2)
@@ -66,7 +64,8 @@ sound_pair slots w t id q u s = record {
     sized = s.net.sized;
     paired = length-set w.pairs id q ∙ s.net.paired;
     small = s.net.small;
-    blockers = s.net.blockers;
+    numbered = s.net.numbered;
+    places = s.net.places;
     watched = λ k p l g o. elim (pair_cases w.pairs id q k (Some p) u.within g) [
       | inl e ↦ u.bounded p l e.1 o
       | inr e ↦ s.net.watched k p l e.1 o
@@ -78,10 +77,6 @@ sound_pair slots w t id q u s = record {
     unwatched = λ k n h g. elim (pair_cases w.pairs id q k None u.within g) [
       | inl e ↦ subst (λ (j : ℕ). IsFrom w.apart 0 j) (sym e.0) (from_zero w.apart w.apart.retired id (u.apart n (sym (ap (nogood_at slots) e.0) ∙ h) e.1))
       | inr e ↦ s.net.unwatched k n h e.1
-    ];
-    whole = λ k p g h. elim (pair_cases w.pairs id q k (Some p) u.within g) [
-      | inl e ↦ subst (λ (j : ℕ). (n : Nogood) × (nogood_at slots j ≡ Some n) × IsWhole n.lits p) (sym e.0) (u.whole p e.1 h)
-      | inr e ↦ s.net.whole k p e.1 h
     ];
   };
   fit = record {
@@ -114,11 +109,11 @@ sound_apart slots w t apart all waiting s = record {
     sized = s.net.sized;
     paired = s.net.paired;
     small = s.net.small;
-    blockers = s.net.blockers;
+    numbered = s.net.numbered;
+    places = s.net.places;
     watched = s.net.watched;
     listed = s.net.listed;
     unwatched = all;
-    whole = s.net.whole;
   };
   fit = record {
     watched = s.fit.watched;

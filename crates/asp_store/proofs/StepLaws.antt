@@ -1,6 +1,5 @@
 -- What one visit to a place of a literal's list leaves.
-use Rattle.std.specs.Prelude.{IsTrue}
-use Rattle.std.proofs.Common.{◌≡◌, ◌≢◌, ℕ, suc, zero, ◌<◌, ◌≤◌, Bool, true, false, List, [], ◌∷◌, ◌++◌, length, set, Option, Some, None, inl, inr, ◌⊎◌, refl, sym, ap, ◌∙◌, subst, arith, add-one}
+use Rattle.std.proofs.Common.{◌≡◌, ◌≢◌, ℕ, suc, zero, ◌+◌, ◌^◌, ◌<◌, ◌≤◌, true, false, List, [], ◌∷◌, ◌++◌, length, set, Option, Some, None, inl, inr, ◌⊎◌, refl, sym, ap, ◌∙◌, subst, arith, add-one}
 use Rattle.std.specs.List.{All, swap_remove}
 use Rattle.std.specs.Option.{MatchOption, IfNone, IfSome}
 use Rattle.std.proofs.lemmas.Bool.{false≢true}
@@ -15,7 +14,7 @@ use Rattle.asp_trail.specs.Trails.{Trailed, IsOrdered, IsVar}
 use Rattle.asp_trail.specs.Reasons.{Stands}
 use Rattle.asp_trail.proofs.HoldLaws.{holds_at}
 use Rattle.asp_store.specs.declared.stored_nogood.StoredNogood.{StoredNogood}
-use Rattle.asp_store.specs.declared.watch.Watch.{Watch}
+use Rattle.asp_store.specs.Marks.{Watch}
 use Rattle.asp_store.specs.declared.watch.Pair.{Pair}
 use Rattle.asp_store.specs.declared.watches.Watches.{Watches}
 use Rattle.asp_store.specs.declared.front.Front.{Front}
@@ -25,13 +24,14 @@ use Rattle.asp_store.specs.Lists.{list_at, place, size}
 use Rattle.asp_store.specs.Pairs.{pair_at, IsOneOf, IsBeside}
 use Rattle.asp_store.specs.Parted.{IsFrom}
 use Rattle.asp_store.specs.Fitting.{IsFalseBy, HasFalse, Watches as Watching}
-use Rattle.asp_store.specs.Sounding.{IsListed, IsSound}
-use Rattle.asp_store.specs.Looking.{AreTrueBeside, HaveSame}
+use Rattle.asp_store.specs.Sounding.{IsListed, IsPlace, IsSound}
+use Rattle.asp_store.specs.Looking.{AreTrueBeside}
 use Rattle.asp_store.specs.Walking.{IsWalking, IsVisit, MayWatch, Steps}
 use Rattle.asp_store.proofs.GetLaws.{list_within, length-swap, at_set, at_set_other, get_last}
-use Rattle.asp_store.proofs.PlaceLaws.{code_injective, code_within, place_else, size_here, listed_set, blocker_set, listed_push, listed_new, blocker_push, listed_take, blocker_take, listed_next, listed_later}
+use Rattle.asp_store.proofs.PlaceLaws.{code_injective, code_within, place_else, size_here, listed_set, places_set, listed_push, listed_new, places_push, listed_take, places_take, listed_next, listed_later}
 use Rattle.asp_store.proofs.WatchLaws.{has_false_grow, stands_grow}
-use Rattle.asp_store.proofs.LookLaws.{watches_open, eq_itself, or_left, or_right, one_of_two}
+use Rattle.asp_store.proofs.LookLaws.{watches_open, eq_itself, one_of_two}
+use Rattle.asp_store.proofs.ShortLaws.{place_long}
 use Rattle.asp_store.proofs.SoundLaws.{Suits, sound_lists, sound_pair, settled_pair, pair_cases, sound_push, sound_grow, settled_grow}
 
 -- ---- of a pair
@@ -94,10 +94,10 @@ same_nogood slots j id n m e h g = same_Some n m (sym h ∙ (ap (nogood_at slots
 
 pub step_block : (slots : List (Option StoredNogood)) (w : Watches) (t : Trailed) (f : Front) (i id : ℕ) (other : Literal) → IsVisit slots w t f i id other →
     IsFalseBy t.entries other f.level →
-    Steps slots w (record w { lists = set w.lists (code_of f.lit) (set (list_at w.lists (code_of f.lit)) i (record { blocker = other; id = id })) }) t f i step.Stays
+    Steps slots w (record w { lists = set w.lists (code_of f.lit) (set (list_at w.lists (code_of f.lit)) i (record { blocker = other; id = id; is_short = false })) }) t f i step.Stays
 step_block slots w t f i id other v is_false = (
   record {
-    sound = sound_lists slots w t lists (length-set w.lists c (set (list_at w.lists c) i x)) (blocker_set t.vars w.lists c i x h (visit_var slots w t f i id other v) k.sound.net.blockers)
+    sound = sound_lists slots w t lists (length-set w.lists c (set (list_at w.lists c) i x)) (places_set (IsPlace t.vars slots) w.lists c i x h (place_long t.vars slots c id other (visit_var slots w t f i id other v)) k.sound.net.places)
         (λ j n p l g q o. stays j n l 0 g (k.sound.net.listed j n p l g q o)) k.sound;
     settled = k.settled;
     done = λ j n p g q o. elim (k.done j n p g q o) [
@@ -119,18 +119,18 @@ step_block slots w t f i id other v is_false = (
     c = code_of f.lit
 
     x : Watch
-    x = record { blocker = other; id = id }
+    x = record { blocker = other; id = id; is_short = false }
 
     lists : List (List Watch)
-    lists = set w.lists (code_of f.lit) (set (list_at w.lists (code_of f.lit)) i (record { blocker = other; id = id }))
+    lists = set w.lists (code_of f.lit) (set (list_at w.lists (code_of f.lit)) i (record { blocker = other; id = id; is_short = false }))
 
     h : i < size w.lists (code_of f.lit)
     h = visit_within slots w t f i id other v
 
     stays : (j : ℕ) (n : Nogood) (l : Literal) (from : ℕ) → nogood_at slots j ≡ Some n → IsListed w.lists l from j n.lits →
-        IsListed (set w.lists (code_of f.lit) (set (list_at w.lists (code_of f.lit)) i (record { blocker = other; id = id }))) l from j n.lits
+        IsListed (set w.lists (code_of f.lit) (set (list_at w.lists (code_of f.lit)) i (record { blocker = other; id = id; is_short = false }))) l from j n.lits
     stays j n l from g s =
-        listed_set w.lists (code_of f.lit) i (record { blocker = other; id = id }) v.watch l from j n.lits h v.at v.id_is
+        listed_set w.lists (code_of f.lit) i (record { blocker = other; id = id; is_short = false }) v.watch l from j n.lits h v.at v.id_is
         (λ e. visit_has slots w t f i id other n v (ap (nogood_at slots) (sym e) ∙ g)) s
 
 -- ---- a place goes
@@ -139,7 +139,7 @@ pub step_leave : (slots : List (Option StoredNogood)) (w : Watches) (t : Trailed
     Steps slots w (record w { lists = set w.lists (code_of f.lit) (swap_remove (list_at w.lists (code_of f.lit)) i d) }) t f i step.Goes
 step_leave slots w t f i id x d g is gone k = (
   record {
-    sound = sound_lists slots w t lists (length-set w.lists (code_of f.lit) (swap_remove (list_at w.lists (code_of f.lit)) i d)) (blocker_take t.vars w.lists (code_of f.lit) i d h k.sound.net.blockers)
+    sound = sound_lists slots w t lists (length-set w.lists (code_of f.lit) (swap_remove (list_at w.lists (code_of f.lit)) i d)) (places_take (IsPlace t.vars slots) w.lists (code_of f.lit) i d h k.sound.net.places)
         (λ j n p l m q o. stays j n p l 0 (omega arith) m q o (k.sound.net.listed j n p l m q o)) k.sound;
     settled = k.settled;
     done = λ j n p m q o. elim (k.done j n p m q o) [
@@ -168,14 +168,14 @@ step_leave slots w t f i id x d g is gone k = (
 pub code_of_list : (slots : List (Option StoredNogood)) (w : Watches) (t : Trailed) (l : Literal) → IsSound slots w t → l.var ≤ t.vars → code_of l < length w.lists
 code_of_list slots w t l s h = omega (arith, code_within l t.vars h, s.net.sized)
 
-pub sound_watch : (slots : List (Option StoredNogood)) (w : Watches) (t : Trailed) (l : Literal) (x : Watch) → l.var ≤ t.vars → x.blocker.var ≤ t.vars → IsSound slots w t →
+pub sound_watch : (slots : List (Option StoredNogood)) (w : Watches) (t : Trailed) (l : Literal) (x : Watch) → l.var ≤ t.vars → IsPlace t.vars slots (code_of l) x → IsSound slots w t →
     IsSound slots (record w { lists = set w.lists (code_of l) (list_at w.lists (code_of l) ++ x ∷ []) }) t
 sound_watch slots w t l x h b s =
     sound_lists slots w t (set w.lists (code_of l) (list_at w.lists (code_of l) ++ x ∷ [])) (length-set w.lists (code_of l) (list_at w.lists (code_of l) ++ x ∷ []))
-    (blocker_push t.vars w.lists (code_of l) x (code_of_list slots w t l s h) b s.net.blockers)
+    (places_push (IsPlace t.vars slots) w.lists (code_of l) x (code_of_list slots w t l s h) b s.net.places)
     (λ j n p k m q o. listed_push w.lists (code_of l) x k 0 j n.lits (code_of_list slots w t l s h) (s.net.listed j n p k m q o)) s
 
-pub visit_push : (slots : List (Option StoredNogood)) (w : Watches) (t : Trailed) (f : Front) (i id : ℕ) (other l : Literal) (x : Watch) → l.var ≤ t.vars → x.blocker.var ≤ t.vars →
+pub visit_push : (slots : List (Option StoredNogood)) (w : Watches) (t : Trailed) (f : Front) (i id : ℕ) (other l : Literal) (x : Watch) → l.var ≤ t.vars → IsPlace t.vars slots (code_of l) x →
     l ≢ f.lit → IsVisit slots w t f i id other → IsVisit slots (record w { lists = set w.lists (code_of l) (list_at w.lists (code_of l) ++ x ∷ []) }) t f i id other
 visit_push slots w t f i id other l x h b ne v = record {
   walking = record {
@@ -204,6 +204,9 @@ visit_id slots w t f i id other v = some_within w.pairs id v.pair v.pair_is
     some_within (x ∷ xs) zero p q = omega arith
     some_within (x ∷ xs) (suc k) p q = omega (arith, some_within xs k p q)
 
+pub visit_few : (slots : List (Option StoredNogood)) (w : Watches) (t : Trailed) (f : Front) (i id : ℕ) (other : Literal) → IsVisit slots w t f i id other → id < 2 ^ 31
+visit_few slots w t f i id other v = omega (arith, visit_id slots w t f i id other v, v.walking.sound.net.paired, v.walking.sound.net.numbered)
+
 -- the literal of the front isn't watched any more
 pub walking_pair : (slots : List (Option StoredNogood)) (w : Watches) (t : Trailed) (f : Front) (i id : ℕ) (q : Option Pair) → Suits slots w t id q →
     ((n : Nogood) → nogood_at slots id ≡ Some n → q ≡ None → (b : ℕ) × HasFalse t.entries n.lits b) → ((n : Nogood) (p : Pair) → nogood_at slots id ≡ Some n → q ≡ Some p → IsOneOf p f.lit → ⊥) → IsWalking slots w t f i →
@@ -219,7 +222,7 @@ walking_pair slots w t f i id q u settled gone k = record {
 }
 
 pub suits_move : (slots : List (Option StoredNogood)) (w : Watches) (t : Trailed) (f : Front) (i id : ℕ) (other l : Literal) → IsOrdered t.vars t.entries → MayWatch slots t id other l →
-    ((n : Nogood) → nogood_at slots id ≡ Some n → IsListed w.lists l 0 id n.lits) → IsVisit slots w t f i id other → Suits slots w t id (Some (record { first = l; second = other; is_whole = false }))
+    ((n : Nogood) → nogood_at slots id ≡ Some n → IsListed w.lists l 0 id n.lits) → IsVisit slots w t f i id other → Suits slots w t id (Some (record { first = l; second = other }))
 suits_move slots w t f i id other l o m listed v = record {
   within = visit_id slots w t f i id other v;
   bounded = λ p k q one. elim (either p k q one) [
@@ -243,14 +246,13 @@ suits_move slots w t f i id other l o m listed v = record {
           | inr e ↦ subst (λ (x : Literal). Watching t.entries t.seen n.lits x) e (was.watches other (beside_one v.pair f.lit other v.beside).1)
         ];
       };
-  apart = λ n h q. absurd (none-some (record { first = l; second = other; is_whole = false }) (sym q));
-  whole = λ p q h. absurd (false≢true (ap (λ (x : Pair). x.is_whole) (made p q) ∙ h));
+  apart = λ n h q. absurd (none-some (record { first = l; second = other }) (sym q));
 }
   where
-    made : (p : Pair) → Some (record { first = l; second = other; is_whole = false }) ≡ Some p → record { first = l; second = other; is_whole = false } ≡ p
-    made p q = same_Some (record { first = l; second = other; is_whole = false }) p q
+    made : (p : Pair) → Some (record { first = l; second = other }) ≡ Some p → record { first = l; second = other } ≡ p
+    made p q = same_Some (record { first = l; second = other }) p q
 
-    either : (p : Pair) (k : Literal) → Some (record { first = l; second = other; is_whole = false }) ≡ Some p → IsOneOf p k → (l ≡ k) ⊎ (other ≡ k)
+    either : (p : Pair) (k : Literal) → Some (record { first = l; second = other }) ≡ Some p → IsOneOf p k → (l ≡ k) ⊎ (other ≡ k)
     either p k q (inl e) = inl (ap (λ (x : Pair). x.first) (made p q) ∙ e)
     either p k q (inr e) = inr (ap (λ (x : Pair). x.second) (made p q) ∙ e)
 
@@ -261,7 +263,7 @@ may_differ slots t f id other l o s m e =
     false≢true (sym m.not_true ∙ (ap (holds_in (assignment t.vars t.entries)) e ∙ front_holds t f o s))
 
 move_gone : (slots : List (Option StoredNogood)) (w : Watches) (t : Trailed) (f : Front) (i id : ℕ) (other l : Literal) → IsOrdered t.vars t.entries → MayWatch slots t id other l →
-    IsVisit slots w t f i id other → (n : Nogood) → nogood_at slots id ≡ Some n → (p : Pair) → record { first = l; second = other; is_whole = false } ≡ p → IsOneOf p f.lit → ⊥
+    IsVisit slots w t f i id other → (n : Nogood) → nogood_at slots id ≡ Some n → (p : Pair) → record { first = l; second = other } ≡ p → IsOneOf p f.lit → ⊥
 move_gone slots w t f i id other l o m v n h p e one =
     elim one [
       | inl a ↦ may_differ slots t f id other l o v.walking.stands m (ap (λ (x : Pair). x.first) e ∙ a)
@@ -271,19 +273,19 @@ move_gone slots w t f i id other l o m v n h p e one =
 -- the pair of the front's literal and the other is that of another one and the other
 pub walking_move : (slots : List (Option StoredNogood)) (w : Watches) (t : Trailed) (f : Front) (i id : ℕ) (other l : Literal) → IsOrdered t.vars t.entries → MayWatch slots t id other l →
     ((n : Nogood) → nogood_at slots id ≡ Some n → IsListed w.lists l 0 id n.lits) → IsVisit slots w t f i id other →
-    IsWalking slots (record w { pairs = set w.pairs id (Some (record { first = l; second = other; is_whole = false })) }) t f i
+    IsWalking slots (record w { pairs = set w.pairs id (Some (record { first = l; second = other })) }) t f i
 walking_move slots w t f i id other l o m listed v =
-    walking_pair slots w t f i id (Some (record { first = l; second = other; is_whole = false })) (suits_move slots w t f i id other l o m listed v)
-    (λ k g q. absurd (none-some (record { first = l; second = other; is_whole = false }) (sym q)))
-    (λ n p h q one. move_gone slots w t f i id other l o m v n h p (same_Some (record { first = l; second = other; is_whole = false }) p q) one) v.walking
+    walking_pair slots w t f i id (Some (record { first = l; second = other })) (suits_move slots w t f i id other l o m listed v)
+    (λ k g q. absurd (none-some (record { first = l; second = other }) (sym q)))
+    (λ n p h q one. move_gone slots w t f i id other l o m v n h p (same_Some (record { first = l; second = other }) p q) one) v.walking
 
 -- after it the front's literal isn't watched
 pub moved_gone : (slots : List (Option StoredNogood)) (w : Watches) (t : Trailed) (f : Front) (i id : ℕ) (other l : Literal) → IsOrdered t.vars t.entries → MayWatch slots t id other l →
     IsVisit slots w t f i id other → (n : Nogood) (p : Pair) → nogood_at slots id ≡ Some n →
-    pair_at (set w.pairs id (Some (record { first = l; second = other; is_whole = false }))) id ≡ Some p → IsOneOf p f.lit → ⊥
+    pair_at (set w.pairs id (Some (record { first = l; second = other }))) id ≡ Some p → IsOneOf p f.lit → ⊥
 moved_gone slots w t f i id other l o m v n p h g one =
     move_gone slots w t f i id other l o m v n h p
-    (same_Some (record { first = l; second = other; is_whole = false }) p (sym (at_set w.pairs id (Some (record { first = l; second = other; is_whole = false })) None id (visit_id slots w t f i id other v) refl) ∙ g)) one
+    (same_Some (record { first = l; second = other }) p (sym (at_set w.pairs id (Some (record { first = l; second = other })) None id (visit_id slots w t f i id other v) refl) ∙ g)) one
 
 -- ---- the nogood of a visit isn't watched any more
 pub visit_apart : (slots : List (Option StoredNogood)) (w : Watches) (t : Trailed) (f : Front) (i id : ℕ) (other : Literal) (x : ℕ) → IsVisit slots w t f i id other →
@@ -313,7 +315,6 @@ walking_apart slots w t f i id other b waits is_false v =
       listed = λ n p l h q o. absurd (none-some p q);
       watched = λ n p h q. absurd (none-some p q);
       apart = λ n h q. waits;
-      whole = λ p q h. absurd (none-some p q);
     }
     (λ n h q. (b, (other, visit_has slots w t f i id other n v h, is_false))) (λ n p h q o. none-some p q) v.walking
 
@@ -322,18 +323,22 @@ pub apart_gone : (slots : List (Option StoredNogood)) (w : Watches) (t : Trailed
 apart_gone slots w t f i id other v p g = none-some p (sym (at_set w.pairs id None None id (visit_id slots w t f i id other v) refl) ∙ g)
 
 -- ---- the trail grows
+pub walking_grow : (slots : List (Option StoredNogood)) (w : Watches) (t : Trailed) (f : Front) (i : ℕ) (fs : List Entry) → t.seen ≤ length t.entries → IsWalking slots w t f i →
+    IsWalking slots w (record t { entries = t.entries ++ fs }) f i
+walking_grow slots w t f i fs le k = record {
+  sound = sound_grow slots w t fs le k.sound;
+  settled = settled_grow slots w.pairs t.entries fs k.settled;
+  done = λ j n p h g o. elim (k.done j n p h g o) [
+    | inl l ↦ inl l
+    | inr m ↦ inr (has_false_grow t.entries fs n.lits f.level m)
+  ];
+  stands = stands_grow t.entries fs f.lit t.seen f.level k.stands;
+}
+
 pub visit_grow : (slots : List (Option StoredNogood)) (w : Watches) (t : Trailed) (f : Front) (i id : ℕ) (other : Literal) (fs : List Entry) → t.seen ≤ length t.entries →
     IsVisit slots w t f i id other → IsVisit slots w (record t { entries = t.entries ++ fs }) f i id other
 visit_grow slots w t f i id other fs le v = record {
-  walking = record {
-    sound = sound_grow slots w t fs le v.walking.sound;
-    settled = settled_grow slots w.pairs t.entries fs v.walking.settled;
-    done = λ j n p h g o. elim (v.walking.done j n p h g o) [
-      | inl l ↦ inl l
-      | inr m ↦ inr (has_false_grow t.entries fs n.lits f.level m)
-    ];
-    stands = stands_grow t.entries fs f.lit t.seen f.level v.walking.stands;
-  };
+  walking = walking_grow slots w t f i fs le v.walking;
   watch = v.watch;
   at = v.at;
   id_is = v.id_is;
@@ -350,21 +355,21 @@ visit_small slots w t id n lits s h e = subst (λ (xs : List Literal). All (λ k
 -- ---- another literal watches in place of the front's
 abbrev pub moved : Watches → Literal → Literal → ℕ → Watches
 moved w l other id = record w {
-  lists = set w.lists (code_of l) (list_at w.lists (code_of l) ++ record { blocker = other; id = id } ∷ []);
-  pairs = set w.pairs id (Some (record { first = l; second = other; is_whole = false }));
+  lists = set w.lists (code_of l) (list_at w.lists (code_of l) ++ record { blocker = other; id = id; is_short = false } ∷ []);
+  pairs = set w.pairs id (Some (record { first = l; second = other }));
 }
 
 moved_visit : (slots : List (Option StoredNogood)) (w : Watches) (t : Trailed) (f : Front) (i id : ℕ) (other l : Literal) → IsOrdered t.vars t.entries → MayWatch slots t id other l →
     IsVisit slots w t f i id other →
-    IsVisit slots (record w { lists = set w.lists (code_of l) (list_at w.lists (code_of l) ++ record { blocker = other; id = id } ∷ []) }) t f i id other
+    IsVisit slots (record w { lists = set w.lists (code_of l) (list_at w.lists (code_of l) ++ record { blocker = other; id = id; is_short = false } ∷ []) }) t f i id other
 moved_visit slots w t f i id other l o m v =
-    visit_push slots w t f i id other l (record { blocker = other; id = id }) m.small (visit_var slots w t f i id other v) (may_differ slots t f id other l o v.walking.stands m) v
+    visit_push slots w t f i id other l (record { blocker = other; id = id; is_short = false }) m.small (place_long t.vars slots (code_of l) id other (visit_var slots w t f i id other v)) (may_differ slots t f id other l o v.walking.stands m) v
 
 pub moved_walking : (slots : List (Option StoredNogood)) (w : Watches) (t : Trailed) (f : Front) (i id : ℕ) (other l : Literal) → IsOrdered t.vars t.entries → MayWatch slots t id other l →
     IsVisit slots w t f i id other → IsWalking slots (moved w l other id) t f i
 moved_walking slots w t f i id other l o m v =
-    walking_move slots (record w { lists = set w.lists (code_of l) (list_at w.lists (code_of l) ++ record { blocker = other; id = id } ∷ []) }) t f i id other l o m
-    (λ n h. listed_new w.lists (record { blocker = other; id = id }) l n.lits (code_of_list slots w t l v.walking.sound m.small) (visit_has slots w t f i id other n v h))
+    walking_move slots (record w { lists = set w.lists (code_of l) (list_at w.lists (code_of l) ++ record { blocker = other; id = id; is_short = false } ∷ []) }) t f i id other l o m
+    (λ n h. listed_new w.lists (record { blocker = other; id = id; is_short = false }) l n.lits (code_of_list slots w t l v.walking.sound m.small) (visit_has slots w t f i id other n v h))
     (moved_visit slots w t f i id other l o m v)
 
 pub moved_at : (slots : List (Option StoredNogood)) (w : Watches) (t : Trailed) (f : Front) (i id : ℕ) (other l : Literal) → IsOrdered t.vars t.entries → MayWatch slots t id other l →
@@ -374,7 +379,7 @@ moved_at slots w t f i id other l o m v = let u = moved_visit slots w t f i id o
 pub moved_size : (slots : List (Option StoredNogood)) (w : Watches) (t : Trailed) (f : Front) (i id : ℕ) (other l : Literal) → IsOrdered t.vars t.entries → MayWatch slots t id other l →
     IsVisit slots w t f i id other → size (moved w l other id).lists (code_of f.lit) ≡ size w.lists (code_of f.lit)
 moved_size slots w t f i id other l o m v =
-    ap (length {A = Watch}) (at_set_other w.lists (code_of l) (list_at w.lists (code_of l) ++ record { blocker = other; id = id } ∷ []) [] (code_of f.lit)
+    ap (length {A = Watch}) (at_set_other w.lists (code_of l) (list_at w.lists (code_of l) ++ record { blocker = other; id = id; is_short = false } ∷ []) [] (code_of f.lit)
     (λ e. may_differ slots t f id other l o v.walking.stands m (sym (code_injective f.lit l e))))
 
 -- the number stands among those apart, and has no pair
@@ -398,51 +403,18 @@ pub some_beside : (pairs : List (Option Pair)) (id : ℕ) (l : Literal) (p : Pai
 some_beside pairs id l p None e m = tt
 some_beside pairs id l p (Some k) e m = (p, sym e, m)
 
--- ---- a nogood of the front's literal and the other watch alone
--- the kept nogood under a number whose pair tells that it has no other literals
-pub whole_at : (slots : List (Option StoredNogood)) (w : Watches) (t : Trailed) (f : Front) (i id : ℕ) (other : Literal) → IsVisit slots w t f i id other →
-    ((p : Pair) × (pair_at w.pairs id ≡ Some p) × IsTrue p.is_whole) → (n : Nogood) × (nogood_at slots id ≡ Some n) × HaveSame n.lits (f.lit ∷ other ∷ [])
-whole_at slots w t f i id other v o =
-    let is : o.0 ≡ v.pair = same_Some o.0 v.pair (sym o.1 ∙ v.pair_is) in
-    let n = v.walking.sound.net.whole id o.0 o.1 o.2 in
-    let was = v.walking.sound.fit.watched id n.0 o.0 n.1 o.1 in (
-      n.0,
-      n.1,
-      λ k. same_by (has_literal n.0.lits k) (has_literal (f.lit ∷ other ∷ []) k) (λ h. into k (one_by o.0 k (subst (λ (p : Pair). IsBeside p f.lit other) (sym is) v.beside) (n.2 k h)))
-          (λ h. out_of n.0 o.0 k was.has (subst (λ (p : Pair). IsBeside p f.lit other) (sym is) v.beside) h),
-    )
-  where
-    same_by : (b c : Bool) → (b ≡ true → c ≡ true) → (c ≡ true → b ≡ true) → b ≡ c
-    same_by true c g h = sym (g refl)
-    same_by false true g h = h refl
-    same_by false false g h = refl
-
-    one_by : (p : Pair) (k : Literal) → IsBeside p f.lit other → IsOneOf p k → (f.lit ≡ k) ⊎ (other ≡ k)
-    one_by p k b m =
-        elim b [
-          | inl e ↦ elim m [ inl y ↦ inl (sym e.0 ∙ y) | inr y ↦ inr (sym e.1 ∙ y) ]
-          | inr e ↦ elim m [ inl y ↦ inr (sym e.0 ∙ y) | inr y ↦ inl (sym e.1 ∙ y) ]
-        ]
-
-    into : (k : Literal) → (f.lit ≡ k) ⊎ (other ≡ k) → has_literal (f.lit ∷ other ∷ []) k ≡ true
-    into k m =
-        elim m [
-          | inl e ↦ subst (λ (x : Literal). has_literal (f.lit ∷ other ∷ []) x ≡ true) e (or_left (literal_eq f.lit f.lit) (has_literal (other ∷ []) f.lit) (eq_itself f.lit))
-          | inr e ↦ subst (λ (x : Literal). has_literal (f.lit ∷ other ∷ []) x ≡ true) e
-              (or_right (literal_eq f.lit other) (has_literal (other ∷ []) other) (or_left (literal_eq other other) false (eq_itself other)))
-        ]
-
-    out_of : (n : Nogood) (p : Pair) (k : Literal) → ((l : Literal) → IsOneOf p l → has_literal n.lits l ≡ true) → IsBeside p f.lit other → has_literal (f.lit ∷ other ∷ []) k ≡ true → has_literal n.lits k ≡ true
-    out_of n p k has b h =
-        let two = beside_one p f.lit other b in
-        elim (one_of_two f.lit other k h) [
-          | inl e ↦ subst (λ (x : Literal). has_literal n.lits x ≡ true) e (has f.lit two.0)
-          | inr e ↦ subst (λ (x : Literal). has_literal n.lits x ≡ true) e (has other two.1)
-        ]
-
-pub whole_beside : (t : Trailed) (f : Front) (other : Literal) → IsOrdered t.vars t.entries → Stands t.entries f.lit t.seen f.level → AreTrueBeside t.vars t.entries (f.lit ∷ other ∷ []) other
-whole_beside t f other o s k h ne =
+-- ---- a place that tells its nogood
+pub told_beside : (t : Trailed) (f : Front) (other : Literal) → IsOrdered t.vars t.entries → Stands t.entries f.lit t.seen f.level → AreTrueBeside t.vars t.entries (f.lit ∷ other ∷ []) other
+told_beside t f other o s k h ne =
     elim (one_of_two f.lit other k h) [
       | inl e ↦ subst (λ (x : Literal). holds_in (assignment t.vars t.entries) x ≡ true) e (front_holds t f o s)
       | inr e ↦ absurd (false≢true (sym ne ∙ (ap (λ (x : Literal). literal_eq x other) (sym e) ∙ eq_itself other)))
     ]
+
+-- the next place, where the one before is of a nogood whose blocker is false now
+pub walking_told : (slots : List (Option StoredNogood)) (w : Watches) (t : Trailed) (f : Front) (i : ℕ) (x : Watch) → place w.lists (code_of f.lit) i ≡ Some x → IsFalseBy t.entries x.blocker f.level →
+    IsWalking slots w t f i → IsWalking slots w t f (i + 1)
+walking_told slots w t f i x g is_false k =
+    walking_later slots w t f i (i + 1)
+    (λ j y from to at. let e : x ≡ y = same_Some x y (sym g ∙ (ap (place w.lists (code_of f.lit)) (let q : i ≡ j = omega arith in q) ∙ at)) in
+    subst (λ (z : Watch). IsFalseBy t.entries z.blocker f.level) e is_false) k

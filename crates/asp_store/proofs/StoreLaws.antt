@@ -9,7 +9,7 @@ use Rattle.asp_vars.specs.declared.nogood.Nogood.{Nogood}
 use Rattle.asp_trail.specs.Trails.{Trailed, IsVar}
 use Rattle.asp_store.specs.declared.stored_nogood.StoredNogood.{StoredNogood}
 use Rattle.asp_store.specs.declared.stored_nogood.Kind.{Kind}
-use Rattle.asp_store.specs.declared.watch.Watch.{Watch}
+use Rattle.asp_store.specs.Marks.{Watch}
 use Rattle.asp_store.specs.declared.watches.Watches.{Watches}
 use Rattle.asp_store.specs.Keeping.{kept_at, nogood_at, is_extra, is_spare, with_lock, Thins}
 use Rattle.asp_store.specs.Lists.{place}
@@ -19,7 +19,10 @@ use Rattle.asp_store.specs.Sounding.{IsListed, IsNet, IsSound}
 use Rattle.asp_store.specs.Fitting.{HaveReasons}
 use Rattle.asp_store.specs.Storing.{Stored, Fits, IsAdded, Loses, IsStore, AreActive}
 use Rattle.asp_store.proofs.GetLaws.{is_or_not, at_set, at_set_other, get_last}
-use Rattle.asp_store.proofs.SoundLaws.{from_zero, from_push}
+use Rattle.asp_store.specs.declared.watch.Pair.{Pair}
+use Rattle.asp_store.specs.Unlisting.{Unlists}
+use Rattle.asp_store.proofs.ShortLaws.{places_add, places_lock, places_remove}
+use Rattle.asp_store.proofs.SoundLaws.{from_zero, from_push, pair_cases}
 use Rattle.asp_store.proofs.FitsLaws.{none_kept, same_nogood, locked_same}
 
 -- what contracts see of a store's parts
@@ -68,11 +71,11 @@ store_new vars few = record {
     sized = length_empty (2 * vars + 2);
     paired = refl;
     small = λ id n g. absurd (none-some n g);
-    blockers = λ c i x g. absurd (none_place (2 * vars + 2) c i x g);
+    numbered = omega arith;
+    places = λ c i x g. absurd (none_place (2 * vars + 2) c i x g);
     watched = λ id p l g o. absurd (none-some p g);
     listed = λ id n p l g h o. absurd (none-some n g);
     unwatched = λ id n g h. absurd (none-some n g);
-    whole = λ id p g h. absurd (none-some p g);
   };
   counted = refl;
 }
@@ -83,8 +86,8 @@ store_new vars few = record {
 -- ---- a nogood more
 pub store_add : (vars : ℕ) (slots new : List (Option StoredNogood)) (w z : Watches) (extra more id : ℕ) (n : Nogood) (kind : Kind) → IsStore vars slots w extra →
     z.lists ≡ w.lists → length z.pairs ≡ length new → IsAdded (view_of vars slots w) (view_of vars new z) id n kind → ((k : ℕ) → IsFrom w.apart 0 k → IsFrom z.apart 0 k) →
-    All (λ l. IsVar vars l.var) n.lits → more ≡ count_by is_extra new → IsStore vars new z more
-store_add vars slots new w z extra more id n kind s lists paired a apart small counted = record {
+    All (λ l. IsVar vars l.var) n.lits → length new ≤ 2 ^ 31 → more ≡ count_by is_extra new → IsStore vars new z more
+store_add vars slots new w z extra more id n kind s lists paired a apart small few counted = record {
   few = s.few;
   net = record {
     sized = ap (length {A = List Watch}) lists ∙ s.net.sized;
@@ -93,7 +96,8 @@ store_add vars slots new w z extra more id n kind s lists paired a apart small c
       | inl e ↦ subst (λ (x : Nogood). All (λ l. IsVar vars l.var) x.lits) (same_Some n m (sym (ap (option_map (λ (k : StoredNogood). k.nogood)) a.slots.here) ∙ (ap (nogood_at new) (sym e) ∙ g))) small
       | inr ne ↦ s.net.small j m (sym (same_nogood slots new j (a.slots.others j ne)) ∙ g)
     ];
-    blockers = λ c i x g. s.net.blockers c i x (sym (ap (λ (ls : List (List Watch)). place ls c i) lists) ∙ g);
+    numbered = few;
+    places = λ c i x g. places_add vars slots new id c x a.slots.free a.slots.others (s.net.places c i x (sym (ap (λ (ls : List (List Watch)). place ls c i) lists) ∙ g));
     watched = λ j p l g o. elim (is_or_not j id) [
       | inl e ↦ absurd (none-some p (sym a.pair ∙ (sym (ap (pair_at z.pairs) e) ∙ g)))
       | inr ne ↦ s.net.watched j p l (sym (a.pairs j ne) ∙ g) o
@@ -107,47 +111,43 @@ store_add vars slots new w z extra more id n kind s lists paired a apart small c
       | inl e ↦ subst (λ (k : ℕ). IsFrom z.apart 0 k) (sym e) (from_zero z.apart z.apart.retired id a.waits)
       | inr ne ↦ apart j (s.net.unwatched j m (sym (same_nogood slots new j (a.slots.others j ne)) ∙ g) (sym (a.pairs j ne) ∙ h))
     ];
-    whole = λ j p g h. elim (is_or_not j id) [
-      | inl e ↦ absurd (none-some p (sym a.pair ∙ (sym (ap (pair_at z.pairs) e) ∙ g)))
-      | inr ne ↦ let was = s.net.whole j p (sym (a.pairs j ne) ∙ g) h in (was.0, same_nogood slots new j (a.slots.others j ne) ∙ was.1, was.2)
-    ];
   };
   counted = counted;
 }
 
--- ---- nogoods go
-pub store_lose : (vars : ℕ) (slots new : List (Option StoredNogood)) (w z : Watches) (extra less : ℕ) → IsStore vars slots w extra → z.lists ≡ w.lists → length z.pairs ≡ length new →
-    Loses (view_of vars slots w) (view_of vars new z) → less ≡ count_by is_extra new → IsStore vars new z less
-store_lose vars slots new w z extra less s lists paired l counted = record {
+-- ---- one goes
+pub store_remove : (vars : ℕ) (slots : List (Option StoredNogood)) (w z : Watches) (extra less id : ℕ) → IsStore vars slots w extra → id < length slots → Unlists slots w.lists z.lists id →
+    z.pairs ≡ set w.pairs id None → z.apart ≡ w.apart → less ≡ count_by is_extra (set slots id None) → IsStore vars (set slots id None) z less
+store_remove vars slots w z extra less id s within u pairs apart counted = record {
   few = s.few;
   net = record {
-    sized = ap (length {A = List Watch}) lists ∙ s.net.sized;
-    paired = paired;
-    small = λ j m g. elim (l.each j) [
-      | inl e ↦ absurd (none_kept new j m e.0 g)
-      | inr e ↦ s.net.small j m (sym (same_nogood slots new j e.0) ∙ g)
+    sized = u.keeps.len ∙ s.net.sized;
+    paired = ap (length {A = Option Pair}) pairs ∙ (length-set w.pairs id None ∙ (s.net.paired ∙ sym (length-set slots id None)));
+    small = λ j m g. s.net.small j m (left j m g).1;
+    numbered = omega (arith, length-set slots id None, s.net.numbered);
+    places = places_remove vars slots w.lists z.lists id s.net.places u;
+    watched = λ j p k g o. elim (pair_cases w.pairs id None j (Some p) inside (sym (ap (λ (ps : List (Option Pair)). pair_at ps j) pairs) ∙ g)) [
+      | inl e ↦ absurd (none-some p e.1)
+      | inr e ↦ s.net.watched j p k e.1 o
     ];
-    blockers = λ c i x g. s.net.blockers c i x (sym (ap (λ (ls : List (List Watch)). place ls c i) lists) ∙ g);
-    watched = λ j p k g o. elim (l.each j) [
-      | inl e ↦ absurd (none-some p (sym e.1 ∙ g))
-      | inr e ↦ s.net.watched j p k (sym e.1 ∙ g) o
+    listed = λ j m p k g h o. elim (pair_cases w.pairs id None j (Some p) inside (sym (ap (λ (ps : List (Option Pair)). pair_at ps j) pairs) ∙ h)) [
+      | inl e ↦ absurd (none-some p e.1)
+      | inr e ↦ u.keeps.stay k j m.lits e.0 (s.net.listed j m p k (left j m g).1 e.1 o)
     ];
-    listed = λ j m p k g h o. elim (l.each j) [
-      | inl e ↦ absurd (none_kept new j m e.0 g)
-      | inr e ↦ subst (λ (ls : List (List Watch)). IsListed ls k 0 j m.lits) (sym lists)
-          (s.net.listed j m p k (sym (same_nogood slots new j e.0) ∙ g) (sym e.1 ∙ h) o)
-    ];
-    unwatched = λ j m g h. elim (l.each j) [
-      | inl e ↦ absurd (none_kept new j m e.0 g)
-      | inr e ↦ subst (λ (a : Parted). IsFrom a 0 j) (sym l.apart) (s.net.unwatched j m (sym (same_nogood slots new j e.0) ∙ g) (sym e.1 ∙ h))
-    ];
-    whole = λ j p g h. elim (l.each j) [
-      | inl e ↦ absurd (none-some p (sym e.1 ∙ g))
-      | inr e ↦ let was = s.net.whole j p (sym e.1 ∙ g) h in (was.0, same_nogood slots new j e.0 ∙ was.1, was.2)
-    ];
+    unwatched = λ j m g h.
+        let l = left j m g in
+        subst (λ (a : Parted). IsFrom a 0 j) (sym apart) (s.net.unwatched j m l.1 (sym (at_set_other w.pairs id None None j l.0) ∙ (sym (ap (λ (ps : List (Option Pair)). pair_at ps j) pairs) ∙ h)));
   };
   counted = counted;
 }
+  where
+    inside : id < length w.pairs
+    inside = omega (arith, within, s.net.paired)
+
+    left : (j : ℕ) (m : Nogood) → nogood_at (set slots id None) j ≡ Some m → (j ≢ id) × (nogood_at slots j ≡ Some m)
+    left j m g =
+        let ne : j ≢ id = λ e. none_kept (set slots id None) j m (at_set slots id None None j within e) g in
+        (ne, sym (same_nogood slots (set slots id None) j (at_set_other slots id None None j ne)) ∙ g)
 
 -- ---- a lock
 pub store_lock : (vars : ℕ) (slots : List (Option StoredNogood)) (w : Watches) (extra id : ℕ) (b : Bool) → id < length slots → IsStore vars slots w extra →
@@ -158,11 +158,11 @@ store_lock vars slots w extra id b h s = record {
     sized = s.net.sized;
     paired = s.net.paired ∙ sym (length-set slots id (with_lock b (kept_at slots id)));
     small = λ j m g. s.net.small j m (sym (locked_same b slots id j h) ∙ g);
-    blockers = s.net.blockers;
+    numbered = omega (arith, length-set slots id (with_lock b (kept_at slots id)), s.net.numbered);
+    places = λ c i x g. places_lock vars slots id c b x h (s.net.places c i x g);
     watched = s.net.watched;
     listed = λ j m p k g. s.net.listed j m p k (sym (locked_same b slots id j h) ∙ g);
     unwatched = λ j m g. s.net.unwatched j m (sym (locked_same b slots id j h) ∙ g);
-    whole = λ j p g q. let was = s.net.whole j p g q in (was.0, locked_same b slots id j h ∙ was.1, was.2);
   };
   counted = s.counted ∙ sym (locked_count b slots id);
 }
@@ -298,11 +298,11 @@ store_recall vars slots w extra s = record {
     sized = s.net.sized;
     paired = s.net.paired;
     small = s.net.small;
-    blockers = s.net.blockers;
+    numbered = s.net.numbered;
+    places = s.net.places;
     watched = s.net.watched;
     listed = s.net.listed;
     unwatched = s.net.unwatched;
-    whole = s.net.whole;
   };
   counted = s.counted;
 }

@@ -2,9 +2,11 @@ pub mod Fitting
 pub mod Keeping
 pub mod Lists
 pub mod Looking
+pub mod Marks
 pub mod Pairs
 pub mod Parted
 pub mod Pending
 pub mod Sounding
 pub mod Storing
+pub mod Unlisting
 pub mod Walking

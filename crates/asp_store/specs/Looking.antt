@@ -5,7 +5,6 @@ use Rattle.asp_trail.specs.declared.trail.Entry.{Entry}
 use Rattle.asp_trail.specs.Entries.{level, assignment}
 use Rattle.asp_trail.specs.Reasons.{IsReason}
 use Rattle.asp_trail.specs.Fixpoint.{is_violated}
-use Rattle.asp_store.specs.Pairs.{IsWhole}
 use Rattle.asp_store.specs.Fitting.{HasFalse, IsWatched}
 use Rattle.asp_store.specs.declared.looks.Look.{Look}
 use Rattle.asp_store.specs.declared.looks.Look.TheVariants as look
@@ -26,6 +25,6 @@ AreTrueBeside vars entries n other = (k : Literal) → IsTrue (has_literal n k) 
 -- A look finds the nogood violated, or two literals that watch it wherever they stand, or one that is false.
 abbrev pub Found : ℕ → List Literal → List Entry → List Entry → Look → Type 0
 Found vars n old new look.Violated = (new ≡ old) × IsTrue (is_violated (assignment vars old) n)
-Found vars n old new (look.Watched p) = IsWatched n p new (length new) × (IsTrue p.is_whole → IsWhole n p)
+Found vars n old new (look.Watched p) = IsWatched n p new (length new)
 Found vars n old new look.Pending = (b : ℕ) × HasFalse new n b
 Found vars n old new look.Retired = HasFalse new n 0

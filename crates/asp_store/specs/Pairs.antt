@@ -1,6 +1,6 @@
 -- The two watched literals of a nogood.
-use Rattle.std.specs.Prelude.{◌≡◌, ℕ, ◌⊎◌, List, Option, None, slice_index_or, IsTrue}
-use Rattle.asp_vars.specs.Literals.{Literal, has_literal}
+use Rattle.std.specs.Prelude.{◌≡◌, ℕ, ◌⊎◌, List, Option, None, slice_index_or}
+use Rattle.asp_vars.specs.Literals.{Literal}
 use Rattle.asp_store.specs.declared.watch.Pair.{Pair}
 
 -- the watched literals of the nogood under a number, if it has any
@@ -13,7 +13,3 @@ IsOneOf p l = (p.first ≡ l) ⊎ (p.second ≡ l)
 -- The pair is of these two, in any order.
 abbrev pub IsBeside : Pair → Literal → Literal → Type 0
 IsBeside p l k = ((p.first ≡ l) × (p.second ≡ k)) ⊎ ((p.first ≡ k) × (p.second ≡ l))
-
--- The nogood has no literals beside these two.
-abbrev pub IsWhole : List Literal → Pair → Type 0
-IsWhole n p = (k : Literal) → IsTrue (has_literal n k) → IsOneOf p k

@@ -9,7 +9,7 @@ use Rattle.asp_trail.specs.Trails.{Trailed}
 use Rattle.asp_trail.specs.Reasons.{Stands}
 use Rattle.asp_trail.specs.Fixpoint.{is_violated, is_at_fixpoint}
 use Rattle.asp_store.specs.declared.stored_nogood.StoredNogood.{StoredNogood}
-use Rattle.asp_store.specs.declared.watch.Watch.{Watch}
+use Rattle.asp_store.specs.Marks.{Watch}
 use Rattle.asp_store.specs.declared.watch.Pair.{Pair}
 use Rattle.asp_store.specs.declared.watches.Watches.{Watches}
 use Rattle.asp_store.specs.declared.front.Front.{Front}

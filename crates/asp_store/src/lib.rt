@@ -13,6 +13,7 @@ pub mod propagation;
 pub mod slots;
 pub mod store;
 pub mod stored_nogood;
+pub mod unlisting;
 pub mod visits;
 pub mod walks;
 pub mod watch;

@@ -1,7 +1,7 @@
 //! For each literal, the list of those that watch it.
 ghost use Rattle.std.specs.Prelude.{◌≡◌, ◌<◌, ◌++◌, ◌∷◌, [], Some, IfOk, OnOk, OnErr, length, replicate, slice_set};
 ghost use Rattle.asp_vars.specs.Codes.{code_of};
-ghost use Rattle.asp_store.specs.Lists.{list_at, place, size, Takes};
+ghost use Rattle.asp_store.specs.Lists.{list_at, place, size, without, Takes};
 
 use crate::watch::Watch;
 use asp_vars::lit::Lit;
@@ -17,7 +17,7 @@ pub struct WatchLists {
 
 impl Model for WatchLists {
     ghost use Rattle.std.specs.Prelude.{List, map};
-    ghost use Rattle.asp_store.specs.declared.watch.Watch.{Watch};
+    ghost use Rattle.asp_store.specs.Marks.{Watch};
 
     ghost Value = { List (List Watch) };
 
@@ -78,6 +78,14 @@ impl WatchLists {
     {
         self.lists[lit.code()].push(watch)?;
         Ok(())
+    }
+
+    /// Takes the watches of a nogood out of the literal's list.
+    pub fn drop_all(&mut self, lit: Lit, id: u32)
+        requires { code_of lit < length self.old }
+        ensures { self.new ≡ without id (code_of lit) self.old }
+    {
+        self.lists[lit.code()].retain(|watch| watch.id() != id);
     }
 
     /// Takes the i-th watch out of the literal's list. The last one takes its place.

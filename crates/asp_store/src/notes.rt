@@ -47,7 +47,10 @@ impl Notes {
 
     /// The number is of a new nogood, of so many levels.
     pub fn put(&mut self, id: NogoodId, levels: u32) -> Result<(), AllocError> {
-        self.age();
+        // What is kept forever needs no worth.
+        if levels != 0 {
+            self.age();
+        }
         let note = Note {
             worth: self.worth,
             levels,

@@ -2,8 +2,7 @@
 //! propagation begins.
 ghost use Rattle.std.specs.Prelude.{◌≡◌, ℕ, ◌<◌, ◌≤◌, IfOk, IfSome, IfNone, OnOk, Some, length, slice_get, IsTrue};
 ghost use Rattle.asp_vars.specs.declared.nogood.Nogood.{Nogood};
-ghost use Rattle.asp_store.specs.Keeping.{nogood_at};
-ghost use Rattle.asp_store.specs.Pairs.{IsWhole};
+ghost use Rattle.asp_store.specs.Keeping.{kept_at, nogood_at, is_lasting};
 ghost use Rattle.asp_store.specs.Fitting.{Extends, IsWatched, HasFalse};
 ghost use Rattle.asp_store.specs.Sounding.{IsSound, AreSettled};
 ghost use Rattle.asp_store.specs.Walking.{IsViolated};
@@ -11,6 +10,7 @@ ghost use Rattle.asp_store.specs.Pending.{IsLooking, IsWaiting, Looks, HasNone};
 
 use crate::front::Step;
 use crate::looks::{Look, look_at};
+use crate::slots::is_lasting_slot;
 use crate::stored_nogood::StoredNogood;
 use crate::visits::lits_at;
 use crate::watch::{Pair, Watch};
@@ -31,6 +31,14 @@ fn leave(watches: &mut Watches, slots: &[Option<StoredNogood>], i: usize, trail:
     watches.apart.drop_at(i);
 }
 
+// Whether the nogood under a number has two literals, and goes only where it is removed by its number.
+fn is_lasting_at(slots: &[Option<StoredNogood>], id: u32) -> bool
+    requires { id < length slots.now }
+    ensures { result ≡ is_lasting (kept_at slots.now id) }
+{
+    is_lasting_slot(&slots[id as usize])
+}
+
 // From now on these two literals watch the nogood at a place.
 fn attach(
     watches: &mut Watches,
@@ -42,25 +50,17 @@ fn attach(
 ) -> Result<(), AllocError>
     requires waiting { IsWaiting slots.now watches.old trail.now i id }
     requires watched { (n : Nogood) → nogood_at slots.now id ≡ Some n → IsWatched n.lits pair trail.now.entries (length trail.now.entries) }
-    requires whole { (n : Nogood) → nogood_at slots.now id ≡ Some n → IsTrue pair.is_whole → IsWhole n.lits pair }
     ensures sound { IsSound slots.now watches.new trail.now }
     ensures looks { OnOk result (Looks slots.now watches.old watches.new trail.now i Step.Goes) }
 {
     let _len = trail.len();
-    watches.lists.push(
-        pair.first,
-        Watch {
-            blocker: pair.second,
-            id,
-        },
-    )?;
-    watches.lists.push(
-        pair.second,
-        Watch {
-            blocker: pair.first,
-            id,
-        },
-    )?;
+    let is_short = is_lasting_at(slots, id);
+    watches
+        .lists
+        .push(pair.first, Watch::new(pair.second, id, is_short))?;
+    watches
+        .lists
+        .push(pair.second, Watch::new(pair.first, id, is_short))?;
     watches.pairs.set(id as usize, Some(pair));
     leave(watches, slots, i, trail);
     Ok(())

@@ -12,6 +12,7 @@ use crate::notes::Notes;
 use crate::propagation::{Propagated, propagate};
 use crate::slots::{is_given_slot, is_spare_slot, remove_slot, set_locked};
 use crate::stored_nogood::{Kind, StoredNogood};
+use crate::unlisting::unlist;
 use crate::watches::Watches;
 use asp_trail::reasons::{NogoodId, Reasons};
 use asp_trail::trail::Trail;
@@ -19,6 +20,9 @@ use asp_vars::lit::Lit;
 use asp_vars::nogood::{Base, Nogood};
 use std::alloc::{AllocError, Global};
 use std::marker::Model;
+
+// Numbers are below this one.
+const MOST: usize = 0x8000_0000;
 
 /// Nogoods, by numbers, with what watches them.
 #[derive(Drop)]
@@ -122,7 +126,7 @@ impl Store {
         ensures err { OnErr result (self.new ≡ self.old) }
     {
         let id = self.slots.len();
-        if id >= u32::MAX as usize {
+        if id >= MOST {
             return Err(AllocError);
         }
         let _len = self.watches.apart.len();
@@ -202,6 +206,7 @@ impl Store {
         requires { id < length self.old.slots }
         ensures { self.new ≡ removed self.old id }
     {
+        unlist(&mut self.watches.lists, self.slots.as_slice(), id);
         self.extra -= remove_slot(self.slots.as_mut_slice(), id);
         self.watches.pairs.set(id, None);
         give_back(&mut self.free, id);

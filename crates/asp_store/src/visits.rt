@@ -1,17 +1,17 @@
 //! Visits to the places of a literal's list.
 //!
 //! A nogood stands in the lists of the two literals that it watches, each time beside another literal of it, the blocker.
-//! The literal whose list is walked holds. A walk passes the places whose blockers are false. At the others the nogood's
-//! other watch tells, or another literal that doesn't hold becomes its watch; where there is none, the other watch is false
+//! The literal whose list is walked holds. A walk passes the places whose blockers are false. At the others a place tells all
+//! of a nogood of two literals. Else the nogood's other watch tells, or another literal that doesn't hold becomes its watch; where there is none, the other watch is false
 //! from now on, or the nogood is violated. A number whose nogood doesn't watch this literal any more is dropped from the list.
 ghost use Rattle.std.specs.Prelude.{◌≡◌, ◌≢◌, ℕ, ◌<◌, ◌≤◌, ◌+◌, Some, None, OnOk, IfOk, IfSome, IfNone, MatchOption, IsTrue, length, false, true};
 ghost use Rattle.std.specs.List.{All};
 ghost use Rattle.asp_vars.specs.Codes.{code_of};
 ghost use Rattle.asp_vars.specs.Literals.{holds_in, has_literal};
 ghost use Rattle.asp_vars.specs.declared.nogood.Nogood.{Nogood};
-ghost use Rattle.asp_trail.specs.Entries.{assignment};
+ghost use Rattle.asp_trail.specs.Entries.{assignment, level};
 ghost use Rattle.asp_store.specs.declared.watch.Pair.{Pair};
-ghost use Rattle.asp_store.specs.declared.watch.Watch.{Watch};
+ghost use Rattle.asp_store.specs.Marks.{Watch};
 ghost use Rattle.asp_store.specs.Keeping.{nogood_at};
 ghost use Rattle.asp_store.specs.Lists.{size, place};
 ghost use Rattle.asp_store.specs.Looking.{AreTrueBeside, HaveSame};
@@ -21,7 +21,7 @@ ghost use Rattle.asp_store.specs.Sounding.{IsSound};
 ghost use Rattle.asp_store.specs.Walking.{IsWalking, IsVisit, MayWatch, Steps};
 
 use crate::front::{Front, Step};
-use crate::looks::{beside_from, falsify};
+use crate::looks::{beside_from, falsify, make_false};
 use crate::pairs::Pairs;
 use crate::stored_nogood::StoredNogood;
 use crate::watch::{Pair, Watch, other_of};
@@ -94,7 +94,7 @@ fn block(
     let _len = trail.len();
     watches
         .lists
-        .set_watch(front.lit, i, Watch { blocker: other, id });
+        .set_watch(front.lit, i, Watch::new(other, id, false));
 }
 
 // The place goes, as the nogood doesn't watch the literal.
@@ -132,13 +132,12 @@ fn move_watch(
     ensures steps { OnOk result (Steps slots.now watches.old watches.new trail.now front.now i Step.Goes) }
 {
     let _len = trail.len();
-    watches.lists.push(lit, Watch { blocker: other, id })?;
+    watches.lists.push(lit, Watch::new(other, id, false))?;
     watches.pairs.set(
         id as usize,
         Some(Pair {
             first: lit,
             second: other,
-            is_whole: false,
         }),
     );
     leave(watches, slots, i, id, front, trail);
@@ -256,61 +255,42 @@ fn visit_long(
     }
 }
 
-// Whether the nogood under a number has no literals beside its two watches, as far as its pair tells.
-fn is_whole(pairs: &Pairs, id: u32) -> bool
-    ensures { IsTrue result → (p : Pair) × (pair_at pairs.now id ≡ Some p) × IsTrue p.is_whole }
+// Whether the place alone tells its nogood, and what is made false now is so at the front's level.
+fn tells_all(watch: Watch, front: &Front, trail: &Trail) -> bool
+    ensures { IsTrue result → IsTrue watch.is_short × (level trail.now.entries ≡ front.now.level) }
 {
-    match pairs.pair(id as usize) {
-        None => false,
-        Some(pair) => pair.is_whole,
-    }
+    watch.is_short() && front.level == trail.level()
 }
 
-// The nogood has no literals beside the front's, which holds, and the other watch: it isn't read.
-fn visit_whole(
-    watches: &mut Watches,
+// The nogood has no literals beside the front's, which holds, and the blocker: it isn't read.
+fn visit_short(
+    watches: &Watches,
     slots: &[Option<StoredNogood>],
     i: usize,
-    id: u32,
-    other: Lit,
+    watch: Watch,
     front: &Front,
     trail: &mut Trail,
-) -> Result<Step, AllocError>
-    requires visit { IsVisit slots.now watches.old trail.old front.now i id other }
-    requires whole { (p : Pair) × (pair_at watches.old.pairs id ≡ Some p) × IsTrue p.is_whole }
+) -> Step
+    requires walking { IsWalking slots.now watches.now trail.old front.now i }
+    requires at { place watches.now.lists (code_of front.now.lit) i ≡ Some watch }
+    requires short { IsTrue watch.is_short }
+    requires level { level trail.old.entries ≡ front.now.level }
     requires room { trail.old.vars ≤ trail.old.room }
     ensures same { trail.new ≡ record trail.old { entries = trail.new.entries } }
     ensures extends { Extends slots.now trail.old.entries trail.new.entries }
-    ensures sound { IsSound slots.now watches.new trail.new }
-    ensures steps { IfOk result (Steps slots.now watches.old watches.new trail.new front.now i) }
+    ensures sound { IsSound slots.now watches.now trail.new }
+    ensures steps { Steps slots.now watches.now watches.now trail.new front.now i result }
 {
     let _len = trail.len();
-    let lits = [front.lit, other];
-    visit_last(watches, slots, &lits, i, id, other, front, trail)
-}
-
-// Looks at the nogood, whose other watch isn't seen to be false.
-fn visit(
-    watches: &mut Watches,
-    slots: &[Option<StoredNogood>],
-    i: usize,
-    id: u32,
-    other: Lit,
-    front: &Front,
-    trail: &mut Trail,
-) -> Result<Step, AllocError>
-    requires visit { IsVisit slots.now watches.old trail.old front.now i id other }
-    requires room { trail.old.vars ≤ trail.old.room }
-    ensures same { trail.new ≡ record trail.old { entries = trail.new.entries } }
-    ensures extends { Extends slots.now trail.old.entries trail.new.entries }
-    ensures sound { IsSound slots.now watches.new trail.new }
-    ensures steps { IfOk result (Steps slots.now watches.old watches.new trail.new front.now i) }
-{
-    if is_whole(&watches.pairs, id) {
-        visit_whole(watches, slots, i, id, other, front, trail)
-    } else {
-        visit_long(watches, slots, i, id, other, front, trail)
+    let _level = trail.level();
+    let id = watch.id();
+    let blocker = watch.blocker();
+    if trail.assignment().holds(blocker) {
+        return Step::Violated(id as usize);
     }
+    make_false(&[front.lit, blocker], blocker, id as usize, trail);
+    let _new_len = trail.len();
+    Step::Stays
 }
 
 /// Visits the i-th place of the front's list.
@@ -330,18 +310,23 @@ pub fn visit_place(
     ensures steps { IfOk result (Steps slots.now watches.old watches.new trail.new front.now i) }
 {
     let watch = watches.lists.watch(front.lit, i);
-    match watched_beside(&watches.pairs, watch.id, front.lit) {
+    if tells_all(watch, front, trail) {
+        let step = visit_short(watches, slots, i, watch, front, trail);
+        return Ok(step);
+    }
+    let id = watch.id();
+    match watched_beside(&watches.pairs, id, front.lit) {
         None => {
-            leave(watches, slots, i, watch.id, front, trail);
+            leave(watches, slots, i, id, front, trail);
             Ok(Step::Goes)
         }
         Some(other) => {
             let is_blocked = is_false_by(other, front, trail);
             if is_blocked {
-                block(watches, slots, i, watch.id, other, front, trail);
+                block(watches, slots, i, id, other, front, trail);
                 return Ok(Step::Stays);
             }
-            visit(watches, slots, i, watch.id, other, front, trail)
+            visit_long(watches, slots, i, id, other, front, trail)
         }
     }
 }

@@ -6,7 +6,7 @@ ghost use Rattle.std.specs.Prelude.{◌≡◌, ℕ, ◌<◌, ◌≤◌, IfOk, le
 ghost use Rattle.std.specs.List.{All};
 ghost use Rattle.asp_vars.specs.Codes.{code_of};
 ghost use Rattle.asp_vars.specs.Literals.{complement, holds_in};
-ghost use Rattle.asp_store.specs.declared.watch.Watch.{Watch};
+ghost use Rattle.asp_store.specs.Marks.{Watch};
 ghost use Rattle.asp_store.specs.Fitting.{Extends};
 ghost use Rattle.asp_store.specs.Lists.{size};
 ghost use Rattle.asp_store.specs.Sounding.{IsSound};
@@ -31,7 +31,7 @@ fn first_unblocked(list: &[Watch], start: usize, values: &Assign) -> usize
     ensures blocked { (k : ℕ) (d : Watch) → start ≤ k → k < result → holds_in values.now (complement (slice_index_or list.now k d).blocker) ≡ true }
 {
     for i in start..list.len() {
-        if !values.is_false(list[i].blocker) {
+        if !values.is_false(list[i].blocker()) {
             return i;
         }
     }

@@ -1,7 +1,6 @@
-use Rattle.std.proofs.Common.{◌≡◌, ◌==◌, List, Option, Bool, false, true, length, arith, subst}
-use Rattle.std.proofs.lemmas.Bool.{eqb-true}
+use Rattle.std.proofs.Common.{◌≡◌, List, Option, Bool, false, true, length, arith, subst}
 use Rattle.asp_vars.specs.Literals.{holds_in, literal_eq}
-use Rattle.asp_store.proofs.LookLaws.{all_has, watched_open, two_are_all}
+use Rattle.asp_store.proofs.LookLaws.{all_has, watched_open}
 use Rattle.asp_store.proofs.looks.look_beside.Goals as goal
 
 pub beside-requires : goal.beside-requires
@@ -10,11 +9,8 @@ beside-requires c = λ k d h. omega (arith, c.requires.small k d h, c.assignment
 pub returns-in-Some-clause-found : goal.returns-in-Some-clause-found
 returns-in-Some-clause-found c =
     let t = c.args.trail.now in
-    let whole : Bool = length c.args.lits.now == 2 in (
-      watched_open t.vars t.entries (length t.entries) c.args.lits.now c.args.first c.in-Some.second.lit whole c.len-len.ensures.ordered c.requires.has c.in-Some.ensures.some.0
-          c.in-Some.ensures.some.1 c.requires.not_true (subst (λ (a : List (Option Bool)). holds_in a c.in-Some.second.lit ≡ false) c.assignment.ensures.values c.in-Some.ensures.some.2),
-      λ q. two_are_all c.args.lits.now c.args.first c.in-Some.second.lit (eqb-true (length c.args.lits.now) 2 q) c.requires.has c.in-Some.ensures.some.0 c.in-Some.ensures.some.1,
-    )
+    watched_open t.vars t.entries (length t.entries) c.args.lits.now c.args.first c.in-Some.second.lit c.len-len.ensures.ordered c.requires.has c.in-Some.ensures.some.0
+    c.in-Some.ensures.some.1 c.requires.not_true (subst (λ (a : List (Option Bool)). holds_in a c.in-Some.second.lit ≡ false) c.assignment.ensures.values c.in-Some.ensures.some.2)
 
 pub look_at_last-requires-clause-others : goal.look_at_last-requires-clause-others
 look_at_last-requires-clause-others c = λ k h ne.

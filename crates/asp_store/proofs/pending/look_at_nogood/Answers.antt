@@ -1,9 +1,7 @@
-use Rattle.std.specs.Prelude.{IsTrue}
 use Rattle.std.proofs.Common.{List, length, sym, subst, arith}
 use Rattle.asp_vars.specs.Literals.{Literal}
 use Rattle.asp_trail.specs.Trails.{Trailed}
 use Rattle.asp_store.specs.declared.looks.Look.{Look}
-use Rattle.asp_store.specs.Pairs.{IsWhole}
 use Rattle.asp_store.specs.Fitting.{HasFalse, IsWatched}
 use Rattle.asp_store.specs.Looking.{Grew, Found}
 use Rattle.asp_store.specs.Pending.{IsWaiting}
@@ -24,10 +22,7 @@ attach-requires-clause-waiting c =
     (waiting_grow c.args.slots.now c.args.watches.now t c.args.i c.args.id g.0 (omega (arith, c.len-len.ensures.len, c.len-len.ensures.seen)) c.requires.waiting)
 
 pub attach-requires-clause-watched : goal.attach-requires-clause-watched
-attach-requires-clause-watched c = for_each c.args.slots.now c.args.id c.requires.kept.0 c.args.lits.now (λ xs. IsWatched xs c.in-Watched.pair c.look_at-found.new.trail.entries (length c.look_at-found.new.trail.entries)) c.requires.kept.1 c.requires.kept.2 (subst (λ (l : Look). Found c.args.trail.now.vars c.args.lits.now c.args.trail.now.entries c.look_at-found.new.trail.entries l) c.in-Watched.is c.look_at-found.ensures.found).0
-
-pub attach-requires-clause-whole : goal.attach-requires-clause-whole
-attach-requires-clause-whole c = for_each c.args.slots.now c.args.id c.requires.kept.0 c.args.lits.now (λ xs. IsTrue c.in-Watched.pair.is_whole → IsWhole xs c.in-Watched.pair) c.requires.kept.1 c.requires.kept.2 (subst (λ (l : Look). Found c.args.trail.now.vars c.args.lits.now c.args.trail.now.entries c.look_at-found.new.trail.entries l) c.in-Watched.is c.look_at-found.ensures.found).1
+attach-requires-clause-watched c = for_each c.args.slots.now c.args.id c.requires.kept.0 c.args.lits.now (λ xs. IsWatched xs c.in-Watched.pair c.look_at-found.new.trail.entries (length c.look_at-found.new.trail.entries)) c.requires.kept.1 c.requires.kept.2 (subst (λ (l : Look). Found c.args.trail.now.vars c.args.lits.now c.args.trail.now.entries c.look_at-found.new.trail.entries l) c.in-Watched.is c.look_at-found.ensures.found)
 
 pub retire-requires-clause-waiting : goal.retire-requires-clause-waiting
 retire-requires-clause-waiting c =

@@ -1,7 +1,7 @@
 use Rattle.std.proofs.Common.{List, sym, subst}
 use Rattle.std.proofs.lemmas.Option.{slice_get_within}
 use Rattle.asp_vars.specs.Codes.{code_of}
-use Rattle.asp_store.specs.declared.watch.Watch.{Watch}
+use Rattle.asp_store.specs.Marks.{Watch}
 use Rattle.asp_store.specs.declared.front.Step.TheVariants as step
 use Rattle.asp_store.specs.Lists.{list_at}
 use Rattle.asp_store.specs.Walking.{Steps}

@@ -1,16 +1,19 @@
-use Rattle.std.proofs.Common.{◌≡◌, Option, List, Some, sym, ap, ◌∙◌, subst}
+use Rattle.std.proofs.Common.{◌≡◌, Option, List, [], ◌∷◌, ◌++◌, Some, set, sym, ap, ◌∙◌, subst}
 use Rattle.asp_vars.specs.Codes.{code_of}
-use Rattle.asp_store.specs.declared.watch.Watch.{Watch}
+use Rattle.asp_store.specs.Marks.{Watch}
 use Rattle.asp_store.specs.declared.watch.Pair.{Pair}
 use Rattle.asp_store.specs.declared.watches.Watches.{Watches}
-use Rattle.asp_store.specs.Lists.{place, size}
+use Rattle.asp_store.specs.Lists.{list_at, place, size}
 use Rattle.asp_vars.specs.declared.nogood.Nogood.{Nogood}
 use Rattle.asp_store.specs.Keeping.{nogood_at}
 use Rattle.asp_store.specs.Pairs.{pair_at, IsOneOf}
 use Rattle.asp_store.specs.Sounding.{IsSound}
 use Rattle.asp_store.specs.Walking.{IsWalking}
-use Rattle.asp_store.proofs.StepLaws.{code_of_list, visit_id, moved, moved_walking, moved_at, moved_size, moved_gone}
+use Rattle.asp_store.proofs.StepLaws.{code_of_list, visit_id, visit_few, moved, moved_walking, moved_at, moved_size, moved_gone}
 use Rattle.asp_store.proofs.visits.move_watch.Goals as goal
+
+pub new-requires : goal.new-requires
+new-requires c = visit_few c.args.slots.now c.args.watches.now c.args.trail.now c.args.front.now c.args.i c.args.id c.args.other c.requires.visit
 
 pub push-requires : goal.push-requires
 push-requires c = code_of_list c.args.slots.now c.args.watches.now c.args.trail.now c.args.lit c.requires.visit.walking.sound c.requires.may.small
@@ -21,7 +24,7 @@ set-requires c = visit_id c.args.slots.now c.args.watches.now c.args.trail.now c
 pub leave-requires-clause-walking : goal.leave-requires-clause-walking
 leave-requires-clause-walking c =
     let w = c.args.watches.now in
-    let a = c.in_ok-push.ensures.ok in
+    let a = (c.in_ok-push.ensures.ok ∙ ap (λ (x : Watch). set c.args.watches.now.lists (code_of c.args.lit) (list_at c.args.watches.now.lists (code_of c.args.lit) ++ x ∷ [])) c.new.ensures) in
     let b = c.set.ensures in
     let e : record w { lists = c.push.new.self; pairs = c.set.new.self } ≡ moved w c.args.lit c.args.other c.args.id = λ j. record w { lists = a j; pairs = b j } in
     subst (λ (x : Watches). IsWalking c.args.slots.now x c.args.trail.now c.args.front.now c.args.i) (sym e)
@@ -30,7 +33,7 @@ leave-requires-clause-walking c =
 pub leave-requires-clause-at : goal.leave-requires-clause-at
 leave-requires-clause-at c =
     let m = moved_at c.args.slots.now c.args.watches.now c.args.trail.now c.args.front.now c.args.i c.args.id c.args.other c.args.lit c.len-len.ensures.ordered c.requires.may c.requires.visit in
-    (m.0, ap (λ (ls : List (List Watch)). place ls (code_of c.args.front.now.lit) c.args.i) c.in_ok-push.ensures.ok ∙ m.1, m.2)
+    (m.0, ap (λ (ls : List (List Watch)). place ls (code_of c.args.front.now.lit) c.args.i) (c.in_ok-push.ensures.ok ∙ ap (λ (x : Watch). set c.args.watches.now.lists (code_of c.args.lit) (list_at c.args.watches.now.lists (code_of c.args.lit) ++ x ∷ [])) c.new.ensures) ∙ m.1, m.2)
 
 pub leave-requires-clause-gone : goal.leave-requires-clause-gone
 leave-requires-clause-gone c =
@@ -44,7 +47,7 @@ returns-clause-sound c = c.leave.ensures.0.sound
 pub returns-clause-steps : goal.returns-clause-steps
 returns-clause-steps c = (
   c.leave.ensures.0,
-  c.leave.ensures.1 ∙ (ap (λ (ls : List (List Watch)). size ls (code_of c.args.front.now.lit)) c.in_ok-push.ensures.ok
+  c.leave.ensures.1 ∙ (ap (λ (ls : List (List Watch)). size ls (code_of c.args.front.now.lit)) (c.in_ok-push.ensures.ok ∙ ap (λ (x : Watch). set c.args.watches.now.lists (code_of c.args.lit) (list_at c.args.watches.now.lists (code_of c.args.lit) ++ x ∷ [])) c.new.ensures)
       ∙ moved_size c.args.slots.now c.args.watches.now c.args.trail.now c.args.front.now c.args.i c.args.id c.args.other c.args.lit c.len-len.ensures.ordered c.requires.may c.requires.visit),
 )
 

@@ -1,4 +1,4 @@
-use Rattle.std.proofs.Common.{refl}
+use Rattle.std.proofs.Common.{refl, sym}
 use Rattle.asp_store.specs.Walking.{IsVisit}
 use Rattle.asp_store.proofs.GrowLaws.{extends_none}
 use Rattle.asp_store.proofs.StepLaws.{visit_var}
@@ -11,31 +11,31 @@ pub leave-requires-clause-walking : goal.leave-requires-clause-walking
 leave-requires-clause-walking c = c.requires.walking
 
 pub leave-requires-clause-at : goal.leave-requires-clause-at
-leave-requires-clause-at c = (c.watch-watch.result, c.watch-watch.ensures, refl)
+leave-requires-clause-at c = (c.watch-watch.result, c.watch-watch.ensures, sym c.id-id.ensures)
 
 pub leave-requires-clause-gone : goal.leave-requires-clause-gone
 leave-requires-clause-gone c = λ n p h g o. c.in-None.ensures.none p g o
 
 pub is_false_by-is_blocked-requires : goal.is_false_by-is_blocked-requires
 is_false_by-is_blocked-requires c =
-    let v : IsVisit c.args.slots.now c.args.watches.now c.args.trail.now c.args.front.now c.args.i c.watch-watch.result.id c.in-Some.other = record {
+    let v : IsVisit c.args.slots.now c.args.watches.now c.args.trail.now c.args.front.now c.args.i c.id-id.result c.in-Some.other = record {
       walking = c.requires.walking;
       watch = c.watch-watch.result;
       at = c.watch-watch.ensures;
-      id_is = refl;
+      id_is = sym c.id-id.ensures;
       pair = c.in-Some.ensures.some.0;
       pair_is = c.in-Some.ensures.some.1;
       beside = c.in-Some.ensures.some.2;
     } in
-    visit_var c.args.slots.now c.args.watches.now c.args.trail.now c.args.front.now c.args.i c.watch-watch.result.id c.in-Some.other v
+    visit_var c.args.slots.now c.args.watches.now c.args.trail.now c.args.front.now c.args.i c.id-id.result c.in-Some.other v
 
 pub block-requires-clause-visit : goal.block-requires-clause-visit
 block-requires-clause-visit c =
-    let v : IsVisit c.args.slots.now c.args.watches.now c.args.trail.now c.args.front.now c.args.i c.watch-watch.result.id c.in-Some.other = record {
+    let v : IsVisit c.args.slots.now c.args.watches.now c.args.trail.now c.args.front.now c.args.i c.id-id.result c.in-Some.other = record {
       walking = c.requires.walking;
       watch = c.watch-watch.result;
       at = c.watch-watch.ensures;
-      id_is = refl;
+      id_is = sym c.id-id.ensures;
       pair = c.in-Some.ensures.some.0;
       pair_is = c.in-Some.ensures.some.1;
       beside = c.in-Some.ensures.some.2;
@@ -57,21 +57,21 @@ returns-then-is_blocked-clause-sound c = c.block.ensures.0.sound
 pub returns-then-is_blocked-clause-steps : goal.returns-then-is_blocked-clause-steps
 returns-then-is_blocked-clause-steps c = c.block.ensures
 
-pub visit-requires-clause-visit : goal.visit-requires-clause-visit
-visit-requires-clause-visit c =
-    let v : IsVisit c.args.slots.now c.args.watches.now c.args.trail.now c.args.front.now c.args.i c.watch-watch.result.id c.in-Some.other = record {
+pub visit_long-requires-clause-visit : goal.visit_long-requires-clause-visit
+visit_long-requires-clause-visit c =
+    let v : IsVisit c.args.slots.now c.args.watches.now c.args.trail.now c.args.front.now c.args.i c.id-id.result c.in-Some.other = record {
       walking = c.requires.walking;
       watch = c.watch-watch.result;
       at = c.watch-watch.ensures;
-      id_is = refl;
+      id_is = sym c.id-id.ensures;
       pair = c.in-Some.ensures.some.0;
       pair_is = c.in-Some.ensures.some.1;
       beside = c.in-Some.ensures.some.2;
     } in
     v
 
-pub visit-requires-clause-room : goal.visit-requires-clause-room
-visit-requires-clause-room c = c.requires.room
+pub visit_long-requires-clause-room : goal.visit_long-requires-clause-room
+visit_long-requires-clause-room c = c.requires.room
 
 pub returns-in-None-clause-same : goal.returns-in-None-clause-same
 returns-in-None-clause-same c = refl
@@ -86,13 +86,40 @@ pub returns-in-None-clause-steps : goal.returns-in-None-clause-steps
 returns-in-None-clause-steps c = c.leave.ensures
 
 pub returns-else-is_blocked-clause-same : goal.returns-else-is_blocked-clause-same
-returns-else-is_blocked-clause-same c = c.visit.ensures.same
+returns-else-is_blocked-clause-same c = c.visit_long.ensures.same
 
 pub returns-else-is_blocked-clause-extends : goal.returns-else-is_blocked-clause-extends
-returns-else-is_blocked-clause-extends c = c.visit.ensures.extends
+returns-else-is_blocked-clause-extends c = c.visit_long.ensures.extends
 
 pub returns-else-is_blocked-clause-sound : goal.returns-else-is_blocked-clause-sound
-returns-else-is_blocked-clause-sound c = c.visit.ensures.sound
+returns-else-is_blocked-clause-sound c = c.visit_long.ensures.sound
 
 pub returns-else-is_blocked-clause-steps : goal.returns-else-is_blocked-clause-steps
-returns-else-is_blocked-clause-steps c = c.visit.ensures.steps
+returns-else-is_blocked-clause-steps c = c.visit_long.ensures.steps
+
+pub visit_short-step-requires-clause-walking : goal.visit_short-step-requires-clause-walking
+visit_short-step-requires-clause-walking c = c.requires.walking
+
+pub visit_short-step-requires-clause-at : goal.visit_short-step-requires-clause-at
+visit_short-step-requires-clause-at c = c.watch-watch.ensures
+
+pub visit_short-step-requires-clause-short : goal.visit_short-step-requires-clause-short
+visit_short-step-requires-clause-short c = (c.tells_all.ensures c.if-tells_all.true).0
+
+pub visit_short-step-requires-clause-level : goal.visit_short-step-requires-clause-level
+visit_short-step-requires-clause-level c = (c.tells_all.ensures c.if-tells_all.true).1
+
+pub visit_short-step-requires-clause-room : goal.visit_short-step-requires-clause-room
+visit_short-step-requires-clause-room c = c.requires.room
+
+pub returns-then-tells_all-clause-same : goal.returns-then-tells_all-clause-same
+returns-then-tells_all-clause-same c = c.visit_short-step.ensures.same
+
+pub returns-then-tells_all-clause-extends : goal.returns-then-tells_all-clause-extends
+returns-then-tells_all-clause-extends c = c.visit_short-step.ensures.extends
+
+pub returns-then-tells_all-clause-sound : goal.returns-then-tells_all-clause-sound
+returns-then-tells_all-clause-sound c = c.visit_short-step.ensures.sound
+
+pub returns-then-tells_all-clause-steps : goal.returns-then-tells_all-clause-steps
+returns-then-tells_all-clause-steps c = c.visit_short-step.ensures.steps

@@ -1,6 +1,6 @@
 use Rattle.std.proofs.Common.{◌≡◌, ℕ, ◌<◌, ◌≤◌, get_or, true}
 use Rattle.asp_vars.specs.Literals.{complement, holds_in}
-use Rattle.asp_store.specs.declared.watch.Watch.{Watch}
+use Rattle.asp_store.specs.Marks.{Watch}
 use Rattle.asp_store.proofs.walks.first_unblocked.Given as goal
 
 abbrev pub invariant-loop-i : goal.invariant-loop-i

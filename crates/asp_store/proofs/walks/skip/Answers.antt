@@ -4,7 +4,7 @@ use Rattle.asp_vars.specs.Codes.{code_of}
 use Rattle.asp_vars.specs.Literals.{complement, holds_in}
 use Rattle.asp_trail.specs.Entries.{assignment}
 use Rattle.asp_trail.specs.Trails.{Trailed}
-use Rattle.asp_store.specs.declared.watch.Watch.{Watch}
+use Rattle.asp_store.specs.Marks.{Watch}
 use Rattle.asp_store.specs.declared.front.Front.{Front}
 use Rattle.asp_store.specs.Lists.{list_at}
 use Rattle.asp_store.proofs.LookLaws.{false_top}
@@ -20,7 +20,7 @@ pub first_unblocked-requires-clause-small : goal.first_unblocked-requires-clause
 first_unblocked-requires-clause-small c =
     rw (c.list.ensures) (λ k d h.
     let xs = list_at c.args.watches.now.lists (code_of c.args.front.now.lit) in
-    omega (arith, c.assignment.ensures.len, c.requires.walking.sound.net.blockers (code_of c.args.front.now.lit) k (get_or xs k d) (slice_get-get_or xs k d h)))
+    omega (arith, c.assignment.ensures.len, (c.requires.walking.sound.net.places (code_of c.args.front.now.lit) k (get_or xs k d) (slice_get-get_or xs k d h)).small))
 
 pub first_unblocked-requires-clause-start : goal.first_unblocked-requires-clause-start
 first_unblocked-requires-clause-start c = omega (arith, c.requires.within, ap (length {A = Watch}) c.list.ensures)

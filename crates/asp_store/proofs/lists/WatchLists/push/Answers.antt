@@ -1,7 +1,7 @@
 use Rattle.std.proofs.Common.{[], ◌∷◌, ◌++◌, List, ap, ◌∙◌}
 use Rattle.std.proofs.lemmas.List.{set-get_or}
 use Rattle.asp_vars.specs.Codes.{code_of}
-use Rattle.asp_store.specs.declared.watch.Watch.{Watch}
+use Rattle.asp_store.specs.Marks.{Watch}
 use Rattle.asp_store.specs.Lists.{list_at}
 use Rattle.asp_store.proofs.GetLaws.{map_set, list_of, on_err}
 use Rattle.asp_store.proofs.lists.WatchLists.push.Goals as goal

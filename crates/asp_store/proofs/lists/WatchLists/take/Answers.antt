@@ -1,7 +1,7 @@
 use Rattle.std.proofs.Common.{List, ap, ◌∙◌}
 use Rattle.std.specs.List.{swap_remove}
 use Rattle.asp_vars.specs.Codes.{code_of}
-use Rattle.asp_store.specs.declared.watch.Watch.{Watch}
+use Rattle.asp_store.specs.Marks.{Watch}
 use Rattle.asp_store.specs.Lists.{list_at}
 use Rattle.asp_store.proofs.GetLaws.{map_set, list_of, list_within}
 use Rattle.asp_store.proofs.lists.WatchLists.take.Goals as goal

@@ -27,6 +27,7 @@ invariant_of-self-2 c =
     (subst (λ (w : Watches). IsStore i.vars new w (i.extra + c.extra_of.result)) (sym c.in_ok-push.ensures.ok)
     (store_add i.vars slots new i.watches z i.extra (i.extra + c.extra_of.result) id c.args.nogood c.args.kind c.self.invariant refl
     (omega (arith, length-append i.watches.pairs (None ∷ []), length-append slots (Some k ∷ []), c.self.invariant.net.paired)) more (λ j f. from_push i.watches.apart id 0 j f) small
+    (omega (arith, length-append slots (Some k ∷ []), at, c.if-id-ge-MOST.false))
     (omega (arith, push_count slots (Some k), c.self.invariant.counted, c.extra_of.ensures))))
 
 pub returns-clause-ok : goal.returns-clause-ok
@@ -52,3 +53,8 @@ invariant_of-self-in_err-push c =
     let i = c.self.inside in
     subst (λ (xs : List (Option StoredNogood)). IsStore i.vars xs c.push.new.self i.extra) (sym c.in_ok-reserve.ensures.items)
     (subst (λ (w : Watches). IsStore i.vars i.slots.items w i.extra) (sym c.in_err-push.ensures.err) c.self.invariant)
+
+pub invariant_of-self : goal.invariant_of-self
+invariant_of-self c =
+    let i = c.self.inside in
+    subst (λ (xs : List (Option StoredNogood)). IsStore i.vars xs i.watches i.extra) (sym c.reserve.ensures.items) c.self.invariant

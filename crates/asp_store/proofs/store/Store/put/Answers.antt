@@ -34,6 +34,7 @@ invariant_of-self-2 c =
     subst (λ (w : Watches). IsStore i.vars (set slots c.args.id (Some k)) w (i.extra + c.extra_of.result)) (sym e)
     (store_add i.vars slots (set slots c.args.id (Some k)) i.watches z i.extra (i.extra + c.extra_of.result) c.args.id c.args.nogood c.args.kind c.self.invariant refl
     (omega (arith, length-set i.watches.pairs c.args.id None, length-set slots c.args.id (Some k), c.self.invariant.net.paired)) more (λ j f. from_push i.watches.apart c.args.id 0 j f) small
+    (omega (arith, length-set slots c.args.id (Some k), c.self.invariant.net.numbered))
     (omega (arith, put_count slots c.args.id (Some k) h free, c.self.invariant.counted, c.extra_of.ensures)))
 
 pub returns-clause-ok : goal.returns-clause-ok
