@@ -170,8 +170,7 @@ def main():
         with tempfile.TemporaryDirectory() as temporary:
             room = given.texts or temporary
             os.makedirs(room, exist_ok=True)
-            place = lambda name: text_of(name, room) if name else f"{temporary}/notes"
-            workers.table(given.program, given.workers, place, given.names, given.markdown)
+            workers.table(given.program, given.workers, lambda name: text_of(name, room), temporary, given.names, given.markdown)
         return 0
     halves = [given.half] if given.half else [*HALVES, *(["small"] if given.small else [])]
     names = given.names or [name for name, (half, _) in PROGRAMS.items() if half in halves]

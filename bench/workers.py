@@ -33,26 +33,19 @@ def look(pid, times):
         pass
 
 
-def run(words, path, notes):
+def run(words, path, room):
     """Seconds of the processor and by the clock, those of the busiest thread, what was told, and the text's last lines."""
-    times, began = {}, time.monotonic()
-    with open(path, "rb") as text, open(notes, "w+b") as told:
-        process = subprocess.Popen(words, stdin=text, stdout=subprocess.PIPE, stderr=told)
-        tail = b""
-        os.set_blocking(process.stdout.fileno(), False)
-        while True:
+    times, began, ended = {}, time.monotonic(), 0
+    with open(path, "rb") as text, open(f"{room}/output", "w+b") as out, open(f"{room}/notes", "w+b") as notes:
+        process = subprocess.Popen(words, stdin=text, stdout=out, stderr=notes)
+        while not ended:
             look(process.pid, times)
-            part = process.stdout.read(1 << 20)
-            if part == b"":
-                break
-            tail = (tail + (part or b""))[-200:]
-            if not part:
-                time.sleep(0.01)
-        _, _, used = os.wait4(process.pid, 0)
+            time.sleep(0.01)
+            ended, _, used = os.wait4(process.pid, os.WNOHANG)
         clock = time.monotonic() - began
-        told.seek(0)
-        said = told.read().decode()
-    return used.ru_utime + used.ru_stime, clock, max(times.values()), said, tail.decode(errors="replace")
+        notes.seek(0)
+        out.seek(max(0, os.path.getsize(out.name) - 200))
+        return used.ru_utime + used.ru_stime, clock, max(times.values()), notes.read().decode(), out.read().decode(errors="replace")
 
 
 def twice(said, tail):
@@ -69,19 +62,18 @@ def result(tail):
     return re.findall(r"^(?:Optimization|Models):.*", tail, re.M)
 
 
-def measured(program, words, path, notes, workers):
+def measured(program, words, path, room, workers):
     """A row of the table: one worker beside so many."""
-    one, one_clock, _, _, tail = run([program, *words], path, notes)
-    all_of, clock, busiest, said, same = run([program, *words, "--stats", "--workers", str(workers)], path, notes)
+    one, one_clock, _, _, tail = run([program, *words], path, room)
+    all_of, clock, busiest, said, same = run([program, *words, "--stats", "--workers", str(workers)], path, room)
     if not result(tail) or result(tail) != result(same):
         raise SystemExit(f"{path}: {result(tail)} with one worker, {result(same)} with {workers}")
     share = busiest / one if one else float("nan")
     return [*(f"{it:.2f}" for it in (one, one_clock, all_of, clock, busiest, share)), twice(said, same)]
 
 
-def table(program, workers, path_of, names, markdown):
-    """Prints a line for each program; `path_of` gives the path of its text."""
-    notes = path_of(None)
+def table(program, workers, path_of, room, names, markdown):
+    """Prints a line for each program; `path_of` gives the path of its text, and what runs write stands in the folder `room`."""
     line = (lambda it: "| " + " | ".join(it) + " |") if markdown else (lambda it: f"{it[0]:14}" + "".join(f"{cell:>16}" for cell in it[1:]))
     print(line(HEADS))
     if markdown:
@@ -89,4 +81,4 @@ def table(program, workers, path_of, names, markdown):
     for name in names or NAMES:
         ring = re.fullmatch(r"make-(\d+)", name)
         words, path = (["--make", ring[1], "--mode", "enum"], os.devnull) if ring else ([], path_of(name))
-        print(line([name, *measured(program, words, path, notes, workers)]), flush=True)
+        print(line([name, *measured(program, words, path, room, workers)]), flush=True)
