@@ -22,7 +22,7 @@ _aspenum() {
         [[ $COMP_WORDBREAKS == *=* ]] || stem="$option="
     fi
     case $option in
-        --mode) mapfile -t COMPREPLY < <(compgen -P "$stem" -W "auto enum opt" -- "$word") && return ;;
+        --mode) mapfile -t COMPREPLY < <(compgen -P "$stem" -W "auto enum opt brave cautious" -- "$word") && return ;;
         --workers) mapfile -t COMPREPLY < <(compgen -P "$stem" -W "1 2 4 8 16 32 64" -- "$word") && return ;;
         --budget | --models | --make | --split | --help | -h | --version | --) return ;;
     esac

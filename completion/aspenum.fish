@@ -19,7 +19,7 @@ function __aspenum_lacks
     true
 end
 
-complete -c aspenum -n '__aspenum_lacks mode' -l mode -x -d 'What is sought' -a 'auto\t"opt where the program minimises, else enum" enum\t"all answers" opt\t"one answer of least cost"'
+complete -c aspenum -n '__aspenum_lacks mode' -l mode -x -d 'What is sought' -a 'auto\t"opt where the program minimises, else enum" enum\t"all answers" opt\t"one answer of least cost" brave\t"the atoms in some answer" cautious\t"the atoms in every answer"'
 complete -c aspenum -n '__aspenum_lacks budget' -l budget -x -d 'At most so many conflicts'
 complete -c aspenum -n '__aspenum_lacks models' -l models -x -d 'End with so many answers'
 complete -c aspenum -n '__aspenum_lacks opt-all; and __aspenum_lacks proof' -l opt-all -d 'Write all optima'

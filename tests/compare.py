@@ -4,7 +4,7 @@
     compare.py PROGRAM [COUNT [SEED]] [--no-clasp]     (PROGRAM may have words behind it: "build/aspenum --workers 4")
 
 Each program has up to seven atoms and every kind of statement. In an enumeration, and where all optima are listed, the bytes
-must be the reference's; in an optimisation the closing lines, cost and count, must be. With a limit the number of answers must be
+must be the reference's, and where consequences are asked for; in an optimisation the closing lines, cost and count, must be. With a limit the number of answers must be
 the reference's, and they must be some of its answers in its order. Every fourth program is solved in parts too. Where clasp lists other answers than the
 reference, or with a limit another number of them, that is told and counted, and is no failure: clasp 3.3.5 is known to lose
 answers of choices over weight bodies.
@@ -86,6 +86,8 @@ MODES = {
     "enum": (["--mode", "enum"], lambda whole: whole),
     "opt": (["--mode", "opt"], without_answer),
     "optima": (["--mode", "opt", "--opt-all"], lambda whole: whole),
+    "brave": (["--mode", "brave"], lambda whole: whole),
+    "cautious": (["--mode", "cautious"], lambda whole: whole),
 }
 
 
@@ -155,6 +157,21 @@ def parts_differ(aspenum, text):
     return None
 
 
+def clasp_consequences(text, mode):
+    """The texts that clasp finds in some or in every answer, or nothing where it finds no answer."""
+    told = run(["clasp", "-e", mode, "--opt-mode=ignore"], text, 10).stdout.decode()
+    if "UNSATISFIABLE" in told:
+        return None
+    lines = told.split("\n")
+    at = max(number for number, line in enumerate(lines) if line.startswith("Answer:"))
+    return sorted(lines[at + 1].split())
+
+
+def my_consequences(text, mode):
+    first, *rest = wanted_of(text, mode).split("\n")
+    return None if first == "UNSATISFIABLE" else sorted(f"p({atom})" for atom in first.split()[1:])
+
+
 def clasp_differs(text):
     """Whether clasp lists other answers than the reference: its own affair, and worth knowing."""
     wanted = wanted_of(text, "enum")
@@ -173,6 +190,9 @@ def clasp_differs(text):
         optima = run(["clasp", "--opt-mode=optN", "-n", "0", "-q1"], text, 10).stdout.decode()
         if sorted(sorted(a.split()) for a in answers(optima)) != sorted(sorted(a.split()) for a in answers(wanted_of(text, "optima"))):
             return "clasp lists other optima than the reference"
+    for mode in ("brave", "cautious"):
+        if clasp_consequences(text, mode) != my_consequences(text, mode):
+            return f"clasp finds other {mode} consequences than the reference"
     return None
 
 

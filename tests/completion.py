@@ -24,7 +24,7 @@ FILES = os.path.join(os.path.dirname(HERE), "completion")
 HELP = os.path.join(HERE, "../crates/asp_cli/src/texts.rt")
 with open(HELP, encoding="utf-8") as page:
     OPTIONS = re.findall(r"^\\x20 (--[a-z-]+)", page.read(), re.M)
-VALUES = ["auto", "enum", "opt"]
+VALUES = ["auto", "enum", "opt", "brave", "cautious"]
 PACKAGE = "/usr/share/bash-completion/bash_completion"
 
 # what is typed, what is shown or filled in, and what isn't

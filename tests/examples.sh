@@ -56,7 +56,7 @@ done < tests/refusals.txt
 printf 'aspenum: unexpected word  (the program is read from standard input)\n%s\n' "$usage" > "$wanted"
 "$program" '' < examples/two_rules.aspif > "$given" 2> "$notes"
 check "an empty word" 64 "$wanted" "$?" "$notes"
-printf 'aspenum: --mode takes auto, enum or opt, not all of them\n%s\n' "$usage" > "$wanted"
+printf 'aspenum: --mode takes auto, enum, opt, brave or cautious, not all of them\n%s\n' "$usage" > "$wanted"
 "$program" --mode 'all of them' < examples/two_rules.aspif > "$given" 2> "$notes"
 check "a blank in a word" 64 "$wanted" "$?" "$notes"
 printf 'aspenum: a word is not UTF-8\n%s\n' "$usage" > "$wanted"

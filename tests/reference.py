@@ -1,10 +1,10 @@
 #!/usr/bin/env python3
 """What aspenum must write for an aspif program, by walking all sets of atoms.
 
-    reference.py [enum|opt|optima [LIMIT]] < program.aspif
+    reference.py [enum|opt|optima|brave|cautious [LIMIT]] < program.aspif
 
-The mode optima is an optimisation that lists all optima. With a limit, which one for a single optimum takes no notice of, a list
-ends with so many answers: here the first ones, where aspenum may write others.
+The mode optima is an optimisation that lists all optima. With a limit, which one for a single optimum and consequences take no
+notice of, a list ends with so many answers: here the first ones, where aspenum may write others.
 
 Slow and plain on purpose: it shares nothing with the solver but the format.
 """
@@ -124,7 +124,21 @@ def cost(program, atoms):
     ]
 
 
+def consequences(program, mode):
+    """The lines of what is in some answer, or in every one."""
+    found = list(answers(program))
+    if not found:
+        yield "UNSATISFIABLE"
+        return
+    known = set.union(*found) if mode == "brave" else set.intersection(*found)
+    yield " ".join(["Consequences:"] + [str(atom) for atom in sorted(known)])
+    yield "CONSEQUENCES FOUND"
+
+
 def lines(program, mode, limit=0):
+    if mode in ("brave", "cautious"):
+        yield from consequences(program, mode)
+        return
     found = list(answers(program))
     optimises = mode in ("opt", "optima")
     if optimises and found:

@@ -1,7 +1,8 @@
 -- A book after one event more.
-use Rattle.std.proofs.Common.{◌≡◌, ℕ, ◌+◌, ◌-◌, ◌≤◌, max, Bool, true, false, cond, List, [], ◌∷◌, ◌++◌, length, Option, Some, None, sym, ap, ◌∙◌, subst, arith}
+use Rattle.std.proofs.Common.{◌≡◌, ℕ, ◌+◌, ◌-◌, ◌≤◌, max, Bool, true, false, cond, ◌||◌, inl, inr, List, [], ◌∷◌, ◌++◌, length, Option, Some, None, sym, ap, ◌∙◌, subst, arith}
 use Rattle.std.specs.Prelude.{ℤ}
-use Rattle.std.specs.Option.{IfSome}
+use Rattle.std.specs.Option.{IfSome, is_some}
+use Rattle.std.proofs.lemmas.Bool.{or_cases}
 use Rattle.std.specs.Vec.{vec_capacity}
 use Rattle.asp_model.specs.Costs.{betters}
 use Rattle.asp_vars.specs.Paid.{Units, least_of}
@@ -9,7 +10,7 @@ use Rattle.asp_vars.specs.Resolution.{smaller}
 use Rattle.asp_core.specs.declared.event.Event.{Event}
 use Rattle.asp_core.specs.declared.event.Event.TheVariants as event
 use Rattle.asp_core.specs.declared.task.Task.{Task}
-use Rattle.asp_core.specs.Boards.{Board, start, IsBoundOf}
+use Rattle.asp_core.specs.Boards.{Board, start, sought, IsBoundOf}
 use Rattle.asp_core.specs.Events.{Guard, happens, replay}
 use Rattle.asp_core.specs.Growth.{Grows}
 use Rattle.asp_core.specs.Invariant.{IsBoard}
@@ -29,6 +30,7 @@ bounds-grow b c (Some d) g h = g.bounds d h
 pub Fits-grows : (b c : Board) (u : Units) → Grows b c → Fits b u → Fits c u
 Fits-grows b c u g fits = record {
   program = fits.program ∙ ap (λ (t : Task). t.program) (sym g.task);
+  reasoned = λ e. ap (λ (t : Task). is_some (sought t.goal)) g.task ∙ fits.reasoned e;
   known = omega (arith, fits.known, g.known);
   least = bounds-grow b c u.least g fits.least;
 }
@@ -63,7 +65,7 @@ state-is i b is view = is.state ∙ ap board view
 -- ---- events that move units
 pub IsOwnFuel-lease : (b c : Board) (s n : ℕ) (u v : Units) → c ≡ happens b (event.Lease s n) → v ≡ record u { left = u.left - n } → IsOwnFuel b u → IsOwnFuel c v
 IsOwnFuel-lease b c s n u v now part is = subst (λ (x : Board). IsOwnFuel x v) (sym now) (subst (IsOwnFuel (happens b (event.Lease s n))) (sym part) (record {
-  fits = record { program = is.fits.program; known = is.fits.known; least = is.fits.least };
+  fits = record { program = is.fits.program; reasoned = is.fits.reasoned; known = is.fits.known; least = is.fits.least };
   left = ap (λ k. k - n) is.left;
   burnt = is.burnt;
 }))
@@ -81,11 +83,12 @@ least-of P (Some c) None p q = p
 least-of P (Some c) (Some d) p q = smaller-of P c d p q
 
 pub IsOwnFuel-back : (b c : Board) (s left burnt : ℕ) (u v w : Units) → c ≡ happens b (event.Back s left burnt) → left ≡ v.left → burnt ≡ v.burnt
-    → w ≡ record { program = u.program; left = u.left + v.left; burnt = u.burnt + v.burnt; known = max u.known v.known; least = least_of u.least v.least } → Fits b v → IsOwnFuel b u → IsOwnFuel c w
+    → w ≡ record { program = u.program; left = u.left + v.left; burnt = u.burnt + v.burnt; reasoned = u.reasoned || v.reasoned; known = max u.known v.known; least = least_of u.least v.least } → Fits b v → IsOwnFuel b u → IsOwnFuel c w
 IsOwnFuel-back b c s left burnt u v w now l r merged fits is =
     subst (λ (x : Board). IsOwnFuel x w) (sym now) (subst (IsOwnFuel (happens b (event.Back s left burnt))) (sym merged) (record {
       fits = record {
         program = is.fits.program;
+        reasoned = λ e. elim (or_cases u.reasoned v.reasoned e) [ inl a ↦ is.fits.reasoned a | inr a ↦ fits.reasoned a ];
         known = omega (arith, is.fits.known, fits.known);
         least = least-of (IsBoundOf b) u.least v.least is.fits.least fits.least;
       };

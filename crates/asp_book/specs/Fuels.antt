@@ -1,15 +1,16 @@
 -- The book's own fuel, and those that come back to it.
-use Rattle.std.specs.Prelude.{◌≡◌, ℕ, ◌+◌, ◌≤◌, ◌==◌, not, List, length, count_by}
-use Rattle.std.specs.Option.{IfSome}
+use Rattle.std.specs.Prelude.{◌≡◌, ℕ, ◌+◌, ◌≤◌, ◌==◌, true, not, List, count_by}
+use Rattle.std.specs.Option.{IfSome, is_some}
 use Rattle.asp_vars.specs.Paid.{Units}
 use Rattle.asp_path.specs.Trees.{held_count}
-use Rattle.asp_core.specs.Boards.{Board, IsBoundOf, distinct}
+use Rattle.asp_core.specs.Boards.{Board, IsBoundOf, known_count, sought}
 
 -- The fuel is of the board's program. No conflict that it burnt a unit for knew more answers than were delivered, or used a
--- smaller bound than the search may have had.
+-- smaller bound than the search may have had; none was one of a search for consequences, unless these are sought.
 pub record Fits (b : Board) (u : Units) : Type 0 where
   pub program : u.program ≡ b.task.program
-  pub known : u.known ≤ length (distinct b.answers)
+  pub reasoned : u.reasoned ≡ true → is_some (sought b.task.goal) ≡ true
+  pub known : u.known ≤ known_count b
   pub least : IfSome u.least (IsBoundOf b)
 
 -- what a fuel that comes back to a book has

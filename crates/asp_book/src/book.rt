@@ -8,7 +8,7 @@ ghost use Rattle.asp_path.specs.declared.status.Status.TheVariants as status;
 ghost use Rattle.asp_path.specs.Trees.{cube_of, status_of, is_open, open_from, held_count};
 ghost use Rattle.asp_core.specs.declared.event.Event.TheVariants as event;
 ghost use Rattle.asp_core.specs.Units.{out_of};
-ghost use Rattle.asp_core.specs.Boards.{start, is_answer, lists, optimises, is_excused, is_enough};
+ghost use Rattle.asp_core.specs.Boards.{start, is_answer, known_of, lists, optimises, is_excused, is_enough};
 ghost use Rattle.asp_core.specs.Events.{held_by, has_var, IsVariable, Guard};
 ghost use Rattle.asp_book.specs.Books.{board, with_events, signed, IsJournalOf};
 ghost use Rattle.asp_book.specs.Fuels.{ComesBack, IsOwnFuel};
@@ -23,6 +23,7 @@ use asp_model::interp::Interp;
 use asp_path::tree::Leaf;
 use asp_vars::compiled::Compiled;
 use asp_vars::fuel::Fuel;
+use asp_vars::known::Known;
 use asp_vars::lit::Lit;
 use asp_vars::nogood::Lits;
 use asp_vault::Kept;
@@ -255,6 +256,16 @@ impl Book {
         }
     }
 
+    /// What the answers delivered have in common, where that is sought. The only error is want of memory.
+    pub fn known(&self) -> Result<Option<Known>, AllocError>
+        ensures { IfOk result (λ r. r ≡ known_of (board self.now)) }
+    {
+        match self.state.known() {
+            Some(known) => Ok(Some(known.copy()?)),
+            None => Ok(None),
+        }
+    }
+
     /// How many nodes the tree of paths has, forks too.
     pub fn nodes(&self) -> usize
         ensures nodes { result ≡ length (board self.now).nodes }
@@ -303,7 +314,7 @@ impl Book {
     /// Gives so many units, or all that the pool has.
     pub fn lease(&mut self, by: u32, n: u64) -> Result<Fuel, AllocError>
         requires { 0 < n }
-        ensures fuel { IfOk result (λ u. u ≡ record { program = (board self.old).task.program; left = min n (board self.old).pool; burnt = 0; known = 0; least = None }) }
+        ensures fuel { IfOk result (λ u. u ≡ record { program = (board self.old).task.program; left = min n (board self.old).pool; burnt = 0; reasoned = false; known = 0; least = None }) }
         ensures journal { IfOk result (λ u. self.new ≡ with_events self.old (leased_out by u)) }
         ensures err { OnErr result (self.new ≡ self.old) }
     {

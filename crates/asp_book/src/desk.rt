@@ -16,7 +16,7 @@ ghost use Rattle.asp_vault.specs.Seats.{view, IsOf, IsBeside};
 ghost use Rattle.asp_core.specs.declared.event.Event.{Event};
 ghost use Rattle.asp_core.specs.declared.event.Event.TheVariants as event;
 ghost use Rattle.asp_core.specs.Units.{out_of};
-ghost use Rattle.asp_core.specs.Boards.{is_answer, lists, optimises, is_excused, is_enough};
+ghost use Rattle.asp_core.specs.Boards.{is_answer, lists, optimises, is_excused, is_enough, known_of};
 ghost use Rattle.asp_core.specs.Events.{held_by, has_var, IsVariable, replay};
 ghost use Rattle.asp_book.specs.Books.{signed, IsJournalOf};
 ghost use Rattle.asp_book.specs.Calls.{task_of, seen_board, IsCall, Adds};
@@ -28,6 +28,7 @@ use asp_model::cost::Cost;
 use asp_model::interp::Interp;
 use asp_path::tree::Leaf;
 use asp_vars::fuel::Fuel;
+use asp_vars::known::Known;
 use asp_vars::lit::Lit;
 use asp_vault::{Seat, Vault};
 use std::alloc::AllocError;
@@ -234,6 +235,25 @@ pub fn best<R: Wait>(
     reply
 }
 
+/// What the answers delivered have in common, where that is sought. The only error is want of memory.
+pub fn known<R: Wait>(
+    rt: &R,
+    vault: &Vault<Book>,
+    seat: &mut Seat<Book>,
+) -> Result<Option<Known>, AllocError>
+    requires of { IsOf vault.now seat.old }
+    requires rests { (view seat.old).holds ≡ false }
+    ensures of { IsBeside seat.old seat.new }
+    ensures stays { Stays (view seat.old) (view seat.new) }
+    ensures ok { IfOk result (λ r. (before : List Event) × (r ≡ known_of (replay (task_of (view seat.old)) before)) × IsCall (view seat.old) (view seat.new) before []) }
+    ensures err { OnErr result ((before : List Event) × IsCall (view seat.old) (view seat.new) before []) }
+{
+    let book = vault.take(rt, seat);
+    let reply = book.known();
+    give(vault, seat, book);
+    reply
+}
+
 /// How many leaves are open.
 pub fn open_leaves<R: Wait>(rt: &R, vault: &Vault<Book>, seat: &mut Seat<Book>) -> usize
     requires of { IsOf vault.now seat.old }
@@ -318,7 +338,7 @@ pub fn lease<R: Wait>(
     requires some { 0 < units }
     ensures of { IsBeside seat.old seat.new }
     ensures stays { Stays (view seat.old) (view seat.new) }
-    ensures ok { IfOk result (λ u. (before : List Event) × (u ≡ record { program = (replay (task_of (view seat.old)) before).task.program; left = min units (replay (task_of (view seat.old)) before).pool; burnt = 0; known = 0; least = None }) × IsCall (view seat.old) (view seat.new) before (leased_out (view seat.old).number u)) }
+    ensures ok { IfOk result (λ u. (before : List Event) × (u ≡ record { program = (replay (task_of (view seat.old)) before).task.program; left = min units (replay (task_of (view seat.old)) before).pool; burnt = 0; reasoned = false; known = 0; least = None }) × IsCall (view seat.old) (view seat.new) before (leased_out (view seat.old).number u)) }
     ensures err { OnErr result ((before : List Event) × IsCall (view seat.old) (view seat.new) before []) }
 {
     let mut book = vault.take(rt, seat);

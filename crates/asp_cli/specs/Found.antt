@@ -1,5 +1,7 @@
 -- The options that were found so far.
-use Rattle.std.specs.Prelude.{◌≡◌, ℕ, Bool, true, false, List, Option, Some, None, is_some, option_map, unwrap_or, if◌then◌else◌}
+use Rattle.std.specs.Prelude.{◌≡◌, ℕ, Bool, true, false, ◌&&◌, List, Option, Some, None, is_some, option_map, unwrap_or, if◌then◌else◌}
+use Rattle.asp_model.specs.declared.results.Mode as results
+use Rattle.asp_model.specs.Asked.{reasoning_of}
 use Rattle.asp_cli.specs.declared.found.Found.{Found}
 use Rattle.asp_cli.specs.declared.names.Name.{Name}
 use Rattle.asp_cli.specs.declared.names.Name.TheVariants.{Workers, Mode, Budget, Models, OptAll, Make, Stats, Progress, Proof, Split}
@@ -21,20 +23,30 @@ has f Progress = f.progress
 has f Proof = f.proof
 has f Split = is_some f.split
 
+-- whether consequences are asked for
+abbrev pub seeks_consequences : Option (Option results.Mode) → Bool
+seeks_consequences None = false
+seeks_consequences (Some None) = false
+seeks_consequences (Some (Some m)) = is_some (reasoning_of m)
+
+-- whether a proof and consequences are
+abbrev pub clashes : Found → Bool
+clashes f = f.proof && seeks_consequences f.mode
+
 -- which option can't stand beside `--proof`, where the one of them was given and the other is this: a proof isn't written of parts,
--- nor of all optima
+-- nor of all optima, nor of consequences
 abbrev pub rival_of : Found → Name → Option Name
-rival_of f Proof = if is_some f.split then Some Split else (if f.all_optima then Some OptAll else None)
+rival_of f Proof = if is_some f.split then Some Split else (if f.all_optima then Some OptAll else (if seeks_consequences f.mode then Some Mode else None))
 rival_of f Split = if f.proof then Some Split else None
 rival_of f OptAll = if f.proof then Some OptAll else None
 rival_of f _ = None
 
--- A proof and all optima aren't asked for together.
-abbrev pub AreApart : Bool → Bool → Type 0
-AreApart proof all_optima = proof ≡ true → all_optima ≡ false
+-- With a proof neither all optima nor consequences are asked for.
+abbrev pub AreApart : Found → Type 0
+AreApart f = f.proof ≡ true → (f.all_optima ≡ false) × (seeks_consequences f.mode ≡ false)
 
 abbrev pub IsApart : Options → Type 0
-IsApart o = AreApart o.proof o.all_optima
+IsApart o = o.proof ≡ true → (o.all_optima ≡ false) × (seeks_consequences (Some o.mode) ≡ false)
 
 -- what was found with an option's value; none where the option doesn't take it
 abbrev pub found_with : Found → Name → List ℕ → Option Found

@@ -4,7 +4,7 @@ use Rattle.std.specs.List.{after_first, before_first, position_or_len}
 use Rattle.std.specs.Str.{bytes_eq}
 use Rattle.asp_cli.specs.declared.found.Found.{Found}
 use Rattle.asp_cli.specs.declared.names.Name.{Name}
-use Rattle.asp_cli.specs.declared.names.Name.TheVariants.{OptAll, Stats, Progress, Proof}
+use Rattle.asp_cli.specs.declared.names.Name.TheVariants.{Mode, OptAll, Stats, Progress, Proof}
 use Rattle.asp_cli.specs.declared.walk.Awaits.TheVariants as awaits
 use Rattle.asp_cli.specs.declared.walk.Awaits.{Awaits}
 use Rattle.asp_cli.specs.declared.walk.State.{State}
@@ -13,7 +13,7 @@ use Rattle.asp_cli.specs.declared.CliError.{CliError}
 use Rattle.asp_cli.specs.declared.CliError.TheVariants.{Usage, Help, Version}
 use Rattle.asp_cli.specs.declared.WordFault.{WordFault}
 use Rattle.asp_cli.specs.declared.WordFault.TheVariants.{NoWords, Unknown, Unexpected, NotAlone, Twice, Missing, Value, Rivals}
-use Rattle.asp_cli.specs.Found.{found_with, has, options_of, rival_of, start}
+use Rattle.asp_cli.specs.Found.{clashes, found_with, has, options_of, rival_of, start}
 use Rattle.asp_cli.specs.Names.{named}
 
 abbrev pub Text : Type 0
@@ -86,7 +86,7 @@ fresh f name w = fresh_by f w (named name)
 
 abbrev pub told_by : Name → Text → Option Found → Result State Misuse
 told_by n v None = Err (bad_value n v)
-told_by n v (Some f) = Ok (record { found = f; awaits = awaits.Option })
+told_by n v (Some f) = if clashes f then Err (rivals Mode) else Ok (record { found = f; awaits = awaits.Option })
 
 -- an option's value
 abbrev pub told_value : Found → Name → Text → Result State Misuse

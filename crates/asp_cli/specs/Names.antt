@@ -18,7 +18,7 @@ text_of Split = codes "--split"
 
 abbrev pub takes_of : Name → List ℕ
 takes_of Workers = codes "a number from 1 to 64"
-takes_of Mode = codes "auto, enum or opt"
+takes_of Mode = codes "auto, enum, opt, brave or cautious"
 takes_of Budget = codes "a number up to 9223372036854775807"
 takes_of Models = codes "a number up to 9223372036854775807"
 takes_of OptAll = codes "no value"

@@ -2,7 +2,7 @@
 use Rattle.std.specs.Prelude.{ℕ, List, ◌++◌, codes}
 
 abbrev pub usage_line : List ℕ
-usage_line = codes "usage: aspenum [--workers 1..64] [--mode auto|enum|opt] [--budget N] [--make 3..2000] [--stats] [--progress] [--proof] [--models N] [--opt-all] [--split 1..100000]"
+usage_line = codes "usage: aspenum [--workers 1..64] [--mode auto|enum|opt|brave|cautious] [--budget N] [--make 3..2000] [--stats] [--progress] [--proof] [--models N] [--opt-all] [--split 1..100000]"
 
 -- the program's name and version
 abbrev pub version_line : List ℕ
@@ -21,10 +21,11 @@ page_back = codes "\n"
     ++ codes "\n"
     ++ codes "Options, each at most once, its value as the next word or behind '=':\n"
     ++ codes "  --mode MODE    enum: all answers. opt: one of least cost. auto, the default: opt\n"
-    ++ codes "                 where the program has a minimize statement, and else enum\n"
+    ++ codes "                 where the program has a minimize statement, and else enum. brave: the\n"
+    ++ codes "                 atoms in some answer. cautious: those in every one; not beside --proof\n"
     ++ codes "  --budget N     at most N conflicts, 0 to 9223372036854775807; the default is the greatest\n"
-    ++ codes "  --models N     end with N answers; 0, the default, is no limit. An optimisation takes no\n"
-    ++ codes "                 notice of it but with --opt-all\n"
+    ++ codes "  --models N     end with N answers; 0, the default, is no limit. An optimisation takes\n"
+    ++ codes "                 notice of it only with --opt-all, brave and cautious never\n"
     ++ codes "  --opt-all      an optimisation writes all answers of least cost; not beside --proof\n"
     ++ codes "  --make N       solve a ring of N nodes, 3 to 2000, and read no program\n"
     ++ codes "  --workers N    threads that search, 1 to 64; the default is 1\n"
@@ -38,7 +39,7 @@ page_back = codes "\n"
     ++ codes "  --version      write the version; the only word\n"
     ++ codes "\n"
     ++ codes "Exit status:\n"
-    ++ codes "  30  all answers, or the optimum, were written    64  the words are faulty\n"
+    ++ codes "  30  all that was sought was found and written    64  the words are faulty\n"
     ++ codes "  20  the program has no answer                    65  the text is refused\n"
     ++ codes "  11  as many answers as asked for were written    66  reading failed\n"
     ++ codes "  10  the budget was spent with an answer found    67  the text is too long\n"

@@ -5,13 +5,16 @@ use Rattle.std.specs.Char.{digit_value}
 use Rattle.std.specs.Str.{bytes_eq}
 use Rattle.std.specs.Str.Parse.{digits_value, without_leading_plus}
 use Rattle.asp_model.specs.declared.results.Mode.{Mode}
-use Rattle.asp_model.specs.declared.results.Mode.TheVariants.{Enum, Opt}
+use Rattle.asp_model.specs.declared.results.Mode.TheVariants.{Enum, Opt, Consequences}
+use Rattle.asp_model.specs.declared.results.Reasoning.TheVariants.{Brave, Cautious}
 
 -- the mode that a name chooses; the name `auto` leaves the choice to the program
 abbrev pub mode_named : List ℕ → Option (Option Mode)
 mode_named t = if bytes_eq t (codes "auto") then Some None
     else (if bytes_eq t (codes "enum") then Some (Some Enum)
-    else (if bytes_eq t (codes "opt") then Some (Some Opt) else None))
+    else (if bytes_eq t (codes "opt") then Some (Some Opt)
+    else (if bytes_eq t (codes "brave") then Some (Some (Consequences Brave))
+    else (if bytes_eq t (codes "cautious") then Some (Some (Consequences Cautious)) else None))))
 
 -- one decimal digit or more, and nothing else
 abbrev pub is_numeral : List ℕ → Bool

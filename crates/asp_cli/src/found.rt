@@ -1,6 +1,6 @@
 //! The options that were found so far.
 ghost use Rattle.std.specs.Prelude.{◌≡◌, IfSome};
-ghost use Rattle.asp_cli.specs.Found.{AreApart, IsApart, found_with, has, options_of, rival_of};
+ghost use Rattle.asp_cli.specs.Found.{AreApart, IsApart, clashes, found_with, has, options_of, rival_of, seeks_consequences};
 ghost use Rattle.asp_cli.specs.Values.{IsCrew, IsPartCount, IsRing};
 
 use crate::Options;
@@ -53,6 +53,23 @@ pub fn has(found: &Found, name: Name) -> bool
     }
 }
 
+// Whether consequences are asked for.
+fn seeks_consequences(mode: Option<Option<Mode>>) -> bool
+    ensures { result ≡ seeks_consequences mode }
+{
+    match mode {
+        None | Some(None) => false,
+        Some(Some(mode)) => mode.reasoning().is_some(),
+    }
+}
+
+/// Whether a proof and consequences are asked for, which exclude each other.
+pub fn clashes(found: &Found) -> bool
+    ensures { result ≡ clashes found.now }
+{
+    found.proof && seeks_consequences(found.mode)
+}
+
 /// Which option can't stand beside `--proof`, where the one of them was given and the other is this.
 pub fn rival(found: &Found, name: Name) -> Option<Name>
     ensures { result ≡ rival_of found.now name }
@@ -63,6 +80,8 @@ pub fn rival(found: &Found, name: Name) -> Option<Name>
                 Some(Name::Split)
             } else if found.all_optima {
                 Some(Name::OptAll)
+            } else if seeks_consequences(found.mode) {
+                Some(Name::Mode)
             } else {
                 None
             }
@@ -78,7 +97,7 @@ pub fn with(found: Found, name: Name, text: &str) -> Option<Found>
     ensures ring { IsRing found.make → IfSome result (λ f. IsRing f.make) }
     ensures crew { IfSome found.workers IsCrew → IfSome result (λ f. IfSome f.workers IsCrew) }
     ensures parts { IsPartCount found.split → IfSome result (λ f. IsPartCount f.split) }
-    ensures apart { AreApart found.proof found.all_optima → IfSome result (λ f. AreApart f.proof f.all_optima) }
+    ensures apart { AreApart found → IfSome result (λ f. (f.proof ≡ true → f.all_optima ≡ false)) }
 {
     match name {
         Name::Workers => {
@@ -133,7 +152,7 @@ pub fn options(found: &Found) -> Options
     ensures ring { IsRing found.now.make → IsRing result.make }
     ensures crew { IfSome found.now.workers IsCrew → IsCrew result.workers }
     ensures parts { IsPartCount found.now.split → IsPartCount result.split }
-    ensures apart { AreApart found.now.proof found.now.all_optima → IsApart result }
+    ensures apart { AreApart found.now → IsApart result }
 {
     Options {
         workers: found.workers.unwrap_or(1),

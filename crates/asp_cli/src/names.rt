@@ -42,7 +42,7 @@ impl Name {
     {
         match self {
             Name::Workers => "a number from 1 to 64",
-            Name::Mode => "auto, enum or opt",
+            Name::Mode => "auto, enum, opt, brave or cautious",
             Name::Budget | Name::Models => "a number up to 9223372036854775807",
             Name::Make => "a number from 3 to 2000",
             Name::OptAll | Name::Stats | Name::Progress | Name::Proof => "no value",

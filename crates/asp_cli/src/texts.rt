@@ -4,7 +4,7 @@ ghost use Rattle.asp_cli.specs.Texts.{page_back, page_front, usage_line, version
 
 /// The line that tells how the program is called.
 pub const USAGE: &str =
-    "usage: aspenum [--workers 1..64] [--mode auto|enum|opt] [--budget N] [--make 3..2000] [--stats] [--progress] [--proof] [--models N] [--opt-all] [--split 1..100000]";
+    "usage: aspenum [--workers 1..64] [--mode auto|enum|opt|brave|cautious] [--budget N] [--make 3..2000] [--stats] [--progress] [--proof] [--models N] [--opt-all] [--split 1..100000]";
 
 /// The program's name and version.
 pub const VERSION: &str = "aspenum 0.1.0\n";
@@ -19,10 +19,11 @@ The program is read from standard input, in the format aspif 1.0 that gringo wri
 \n\
 Options, each at most once, its value as the next word or behind '=':\n\
 \x20 --mode MODE    enum: all answers. opt: one of least cost. auto, the default: opt\n\
-\x20                where the program has a minimize statement, and else enum\n\
+\x20                where the program has a minimize statement, and else enum. brave: the\n\
+\x20                atoms in some answer. cautious: those in every one; not beside --proof\n\
 \x20 --budget N     at most N conflicts, 0 to 9223372036854775807; the default is the greatest\n\
-\x20 --models N     end with N answers; 0, the default, is no limit. An optimisation takes no\n\
-\x20                notice of it but with --opt-all\n\
+\x20 --models N     end with N answers; 0, the default, is no limit. An optimisation takes\n\
+\x20                notice of it only with --opt-all, brave and cautious never\n\
 \x20 --opt-all      an optimisation writes all answers of least cost; not beside --proof\n\
 \x20 --make N       solve a ring of N nodes, 3 to 2000, and read no program\n\
 \x20 --workers N    threads that search, 1 to 64; the default is 1\n\
@@ -36,7 +37,7 @@ Options, each at most once, its value as the next word or behind '=':\n\
 \x20 --version      write the version; the only word\n\
 \n\
 Exit status:\n\
-\x20 30  all answers, or the optimum, were written    64  the words are faulty\n\
+\x20 30  all that was sought was found and written    64  the words are faulty\n\
 \x20 20  the program has no answer                    65  the text is refused\n\
 \x20 11  as many answers as asked for were written    66  reading failed\n\
 \x20 10  the budget was spent with an answer found    67  the text is too long\n\

@@ -2,7 +2,7 @@
 ghost use Rattle.std.specs.Prelude.{◌≡◌, ◌≤◌, ◌&&◌, nat_le, Some, None, IfSome, if◌then◌else◌};
 ghost use Rattle.asp_cli.specs.Values.{mode_named, number_within};
 
-use asp_model::results::Mode;
+use asp_model::results::{Mode, Reasoning};
 
 /// The greatest number of workers.
 pub const MOST_WORKERS: u64 = 64;
@@ -27,6 +27,10 @@ pub fn named_mode(text: &str) -> Option<Option<Mode>>
         Some(Some(Mode::Enum))
     } else if text == "opt" {
         Some(Some(Mode::Opt))
+    } else if text == "brave" {
+        Some(Some(Mode::Consequences(Reasoning::Brave)))
+    } else if text == "cautious" {
+        Some(Some(Mode::Consequences(Reasoning::Cautious)))
     } else {
         None
     }

@@ -4,7 +4,7 @@ ghost use Rattle.asp_cli.specs.Found.{AreApart, IsApart, rival_of, start};
 ghost use Rattle.asp_cli.specs.Given.{after, cut, ended, fault_seen, fresh, looks_like_option, seen, stray, told_alone, told_option, told_value, told_with_value, walked};
 ghost use Rattle.asp_cli.specs.Values.{IsCrew, IsPartCount, IsRing};
 
-use crate::found::{Found, has, options, rival, with};
+use crate::found::{Found, clashes, has, options, rival, with};
 use crate::names::{Name, named};
 use crate::{Options, WordFault, asks_for_help, asks_for_version};
 
@@ -103,13 +103,19 @@ fn value<'a>(found: Found, name: Name, text: &'a str) -> Result<State, WordFault
     ensures ring { IsRing found.make → IfOk result (λ s. IsRing s.found.make) }
     ensures crew { IfSome found.workers IsCrew → IfOk result (λ s. IfSome s.found.workers IsCrew) }
     ensures parts { IsPartCount found.split → IfOk result (λ s. IsPartCount s.found.split) }
-    ensures apart { AreApart found.proof found.all_optima → IfOk result (λ s. AreApart s.found.proof s.found.all_optima) }
+    ensures apart { AreApart found → IfOk result (λ s. AreApart s.found) }
 {
     match with(found, name, text) {
-        Some(found) => Ok(State {
-            found,
-            awaits: Awaits::Option,
-        }),
+        Some(found) => {
+            if clashes(&found) {
+                Err(WordFault::Rivals(Name::Mode))
+            } else {
+                Ok(State {
+                    found,
+                    awaits: Awaits::Option,
+                })
+            }
+        }
         None => Err(WordFault::Value(name, text)),
     }
 }
@@ -125,7 +131,7 @@ fn with_value<'a>(
     ensures ring { IsRing found.make → IfOk result (λ s. IsRing s.found.make) }
     ensures crew { IfSome found.workers IsCrew → IfOk result (λ s. IfSome s.found.workers IsCrew) }
     ensures parts { IsPartCount found.split → IfOk result (λ s. IsPartCount s.found.split) }
-    ensures apart { AreApart found.proof found.all_optima → IfOk result (λ s. AreApart s.found.proof s.found.all_optima) }
+    ensures apart { AreApart found → IfOk result (λ s. AreApart s.found) }
 {
     match fresh(&found, name, word) {
         Ok(name) => value(found, name, text),
@@ -139,7 +145,7 @@ fn alone<'a>(found: Found, word: &'a str) -> Result<State, WordFault<'a>>
     ensures ring { IsRing found.make → IfOk result (λ s. IsRing s.found.make) }
     ensures crew { IfSome found.workers IsCrew → IfOk result (λ s. IfSome s.found.workers IsCrew) }
     ensures parts { IsPartCount found.split → IfOk result (λ s. IsPartCount s.found.split) }
-    ensures apart { AreApart found.proof found.all_optima → IfOk result (λ s. AreApart s.found.proof s.found.all_optima) }
+    ensures apart { AreApart found → IfOk result (λ s. AreApart s.found) }
 {
     match fresh(&found, word, word) {
         Ok(Name::Stats) => Ok(State {
@@ -183,7 +189,7 @@ fn option<'a>(found: Found, word: &'a str) -> Result<State, WordFault<'a>>
     ensures ring { IsRing found.make → IfOk result (λ s. IsRing s.found.make) }
     ensures crew { IfSome found.workers IsCrew → IfOk result (λ s. IfSome s.found.workers IsCrew) }
     ensures parts { IsPartCount found.split → IfOk result (λ s. IsPartCount s.found.split) }
-    ensures apart { AreApart found.proof found.all_optima → IfOk result (λ s. AreApart s.found.proof s.found.all_optima) }
+    ensures apart { AreApart found → IfOk result (λ s. AreApart s.found) }
 {
     if word == "--" {
         return Ok(State {
@@ -203,7 +209,7 @@ fn after<'a>(state: State, word: &'a str) -> Result<State, WordFault<'a>>
     ensures ring { IsRing state.found.make → IfOk result (λ s. IsRing s.found.make) }
     ensures crew { IfSome state.found.workers IsCrew → IfOk result (λ s. IfSome s.found.workers IsCrew) }
     ensures parts { IsPartCount state.found.split → IfOk result (λ s. IsPartCount s.found.split) }
-    ensures apart { AreApart state.found.proof state.found.all_optima → IfOk result (λ s. AreApart s.found.proof s.found.all_optima) }
+    ensures apart { AreApart state.found → IfOk result (λ s. AreApart s.found) }
 {
     match state.awaits {
         Awaits::Option => option(state.found, word),
@@ -217,7 +223,7 @@ fn ended<'a>(state: &State) -> Result<Options, WordFault<'a>>
     ensures ring { IsRing state.now.found.make → IfOk result (λ o. IsRing o.make) }
     ensures crew { IfSome state.now.found.workers IsCrew → IfOk result (λ o. IsCrew o.workers) }
     ensures parts { IsPartCount state.now.found.split → IfOk result (λ o. IsPartCount o.split) }
-    ensures apart { AreApart state.now.found.proof state.now.found.all_optima → IfOk result IsApart }
+    ensures apart { AreApart state.now.found → IfOk result IsApart }
 {
     match state.awaits {
         Awaits::Value(name) => Err(WordFault::Missing(name)),

@@ -2,7 +2,7 @@
 use Rattle.std.proofs.Common.{◌≡◌, ◌⊎◌, inl, inr, ℕ, zero, suc, ◌+◌, ◌<◌, ◌≤◌, Bool, true, false, not, cond, ◌&&◌, ◌||◌, eqb, leb, List, [], ◌∷◌, ◌++◌, length, get_or, set, map, fold, Option, Some, None, refl, sym, ap, ◌∙◌, subst, arith, zero-add}
 use Rattle.std.specs.Prelude.{ℤ, IsTrue, ◌==◌}
 use Rattle.std.specs.List.{list_any, AllByRecursion}
-use Rattle.std.proofs.lemmas.Bool.{false≢true, eqb-true, and_parts, and_from, cases_eq, or_left, or_right, eq-eqb}
+use Rattle.std.proofs.lemmas.Bool.{false≢true, eqb-true, and_parts, and_from, cases_eq, or_cases, or_left, or_right, eq-eqb}
 use Rattle.std.proofs.lemmas.Bool.Decides.{nat_tests}
 use Rattle.std.proofs.lemmas.List.{length-append, get_or-set_same, get_or-set_other}
 use Rattle.std.proofs.lemmas.List.Sums.{sum_by-set, sum_by-append}
@@ -14,13 +14,16 @@ use Rattle.asp_model.specs.Models.{atoms_of}
 use Rattle.asp_model.specs.Costs.{cost, betters}
 use Rattle.asp_vars.proofs.AssumptionLaws.{assumptions-stand}
 use Rattle.asp_model.proofs.MemberLaws.{each_weaker, each-append}
+use Rattle.asp_model.proofs.ConsequenceLaws.{AreAmong, used-more}
+use Rattle.asp_model.specs.declared.results.Reasoning.{Reasoning}
+use Rattle.asp_model.specs.Consequences.{used_up}
 use Rattle.asp_vars.specs.Literals.{Literal, complement, is_true, has_literal, hits}
 use Rattle.asp_vars.specs.Conflicts.{has_all}
 use Rattle.asp_vars.proofs.LiteralLaws.{hits-has}
 use Rattle.asp_core.specs.declared.reason.Reason.{Reason}
 use Rattle.asp_core.proofs.HeldLaws.{closed-stays}
 use Rattle.asp_vars.specs.Numbering.{literal_of, values}
-use Rattle.asp_vars.specs.Entailment.{HitsOnly, costs, is_done}
+use Rattle.asp_vars.specs.Entailment.{HitsOnly, costs, costs_bound, is_done}
 use Rattle.asp_vars.proofs.ResolutionLaws.{HitsOnly-weaker, costs_within, smaller_left}
 use Rattle.asp_vars.proofs.CompletionLaws.{hits-literals}
 use Rattle.asp_path.specs.declared.status.Status.{Status}
@@ -32,7 +35,7 @@ use Rattle.asp_core.specs.declared.event.Event.TheVariants as event
 use Rattle.asp_core.specs.declared.goal.Goal.{Goal}
 use Rattle.asp_core.specs.declared.goal.Goal.TheVariants as goal
 use Rattle.asp_core.specs.declared.task.Task.{Task}
-use Rattle.asp_core.specs.Boards.{Board, IsQuery, wanted, is_answer, start, lists, optimises, bound_by, bound_of, distinct, is_excused}
+use Rattle.asp_core.specs.Boards.{Board, IsQuery, wanted, is_answer, start, lists, optimises, sought, bound_by, bound_of, used, distinct, is_excused}
 use Rattle.asp_core.specs.Events.{held_by, Guard, happens}
 use Rattle.asp_core.specs.Invariant.{IsCube, IsSettled, IsReason, IsBoard}
 use Rattle.asp_core.proofs.UnitLaws.{total-leased, total-returned, single-none, single-leased, single-returned}
@@ -214,6 +217,20 @@ pub done-delivered : (p : Program) (K : List Atoms) (c : Option (List ℤ)) (S T
 done-delivered p K None S T h = ap (λ x. x || false) (list_any-append (same_set T) K (S ∷ [])) ∙ or_more (list_any (same_set T) K) (list_any (same_set T) (S ∷ [])) false h
 done-delivered p K (Some c) S T h = ap (λ x. x || costs p c T) (list_any-append (same_set T) K (S ∷ [])) ∙ or_more (list_any (same_set T) K) (list_any (same_set T) (S ∷ [])) (costs p c T) h
 
+-- What was done is done where an answer more is known.
+pub done-used : (k : Option Reasoning) (p : Program) (K L : List Atoms) (c : Option (List ℤ)) (T : Atoms) → AreAmong K L → is_done p (used_up k p K) c T ≡ true → is_done p (used_up k p L) c T ≡ true
+done-used k p K L c T among h =
+    elim (or_cases (list_any (same_set T) (used_up k p K)) (costs_bound p c T) h) [
+      | inl e ↦ or_left (list_any (same_set T) (used_up k p L)) (costs_bound p c T) (used-more k p K L among T e)
+      | inr e ↦ or_right (list_any (same_set T) (used_up k p L)) (costs_bound p c T) e
+    ]
+
+pub among-more : (K : List Atoms) (S : Atoms) → AreAmong K (K ++ S ∷ [])
+among-more K S T h = list_any-append (same_set T) K (S ∷ []) ∙ or_left (list_any (same_set T) K) (list_any (same_set T) (S ∷ [])) h
+
+pub excused-delivered : (b : Board) (S T : Atoms) → is_excused b T ≡ true → is_excused (record b { answers = b.answers ++ S ∷ [] }) T ≡ true
+excused-delivered b S T h = done-used (sought b.task.goal) b.task.program b.answers (b.answers ++ S ∷ []) (bound_of b) T (among-more b.answers S) h
+
 pub not_after : (c d : List ℤ) → betters d c ≡ true → betters c d ≡ false
 not_after c d e = subst (λ x. betters c (cond x d c) ≡ false) e (smaller_left c d)
 
@@ -221,6 +238,7 @@ pub done-improved : (m : Goal) (p : Program) (K : List Atoms) (best : Option Ato
     is_done p K (bound_by m p best) T ≡ true → is_done p K (bound_by m p (Some S)) T ≡ true
 done-improved goal.Enum p K best S T o less h = absurd (false≢true o)
 done-improved (goal.Ties c) p K best S T o less h = absurd (false≢true o)
+done-improved (goal.Consequences r) p K best S T o less h = absurd (false≢true o)
 done-improved goal.Opt p K None S T o less h = or_right_more (list_any (same_set T) K) false (costs p (cost p S) T) (λ e. absurd (false≢true e)) h
 done-improved goal.Opt p K (Some B) S T o less h =
     let betters_it : betters (cost p S) (cost p B) ≡ true = not_false (betters (cost p S) (cost p B)) (or_none (list_any (same_set S) K) (costs p (cost p B) S) less) in
@@ -258,7 +276,7 @@ IsBoard-happens b (event.Take s leaf) is g =
     IsBoard-with_status b (event.Take s leaf) leaf (status.Held s) is g refl was refl (λ e. let f : ⊥ = cc in f) (apart-taken b leaf s is (leaf-within b.nodes leaf was) g.0 g.1)
 IsBoard-happens b (event.Split s leaf l) is g = IsBoard-split b leaf s l is g
 IsBoard-happens b (event.Deliver s S) is g =
-    let more = λ (T : Atoms). done-delivered b.task.program b.answers (bound_of b) S T in
+    let more = λ (T : Atoms). excused-delivered b S T in
     let c : Board = record b { answers = b.answers ++ S ∷ [] } in
     record {
       covered = is.covered;
@@ -274,7 +292,7 @@ IsBoard-happens b (event.Deliver s S) is g =
       cubes = is.cubes;
     }
 IsBoard-happens b (event.Improve s S) is g =
-    let more = λ (T : Atoms). done-improved b.task.goal b.task.program b.answers b.best S T g.0 g.2 in
+    let more = λ (T : Atoms). done-improved b.task.goal b.task.program (used b) b.best S T g.0 g.2 in
     let c : Board = record b { best = Some S } in
     record {
       covered = is.covered;

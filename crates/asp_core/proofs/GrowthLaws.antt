@@ -6,6 +6,8 @@ use Rattle.std.proofs.lemmas.Bool.{eqb-true, ne_eqb, or_left}
 use Rattle.std.proofs.lemmas.List.{length-append}
 use Rattle.std.proofs.lemmas.List.Folds.{list_any-append}
 use Rattle.asp_model.specs.declared.program.Program.{Program}
+use Rattle.asp_model.specs.declared.results.Reasoning.{Reasoning}
+use Rattle.asp_model.specs.Consequences.{common_sets}
 use Rattle.asp_model.specs.Sets.{Atoms, same_set}
 use Rattle.asp_model.specs.Costs.{cost, betters}
 use Rattle.asp_vars.specs.Entailment.{costs, is_done}
@@ -19,10 +21,10 @@ use Rattle.asp_core.specs.declared.event.Event.TheVariants as event
 use Rattle.asp_core.specs.declared.goal.Goal.{Goal}
 use Rattle.asp_core.specs.declared.goal.Goal.TheVariants as goal
 use Rattle.asp_core.specs.Units.{out_of, leased, returned}
-use Rattle.asp_core.specs.Boards.{Board, IsBoundBy, bound_by, bound_of, distinct}
+use Rattle.asp_core.specs.Boards.{Board, IsBoundBy, bound_by, count_by, distinct, sought, used}
 use Rattle.asp_core.specs.Events.{Guard, happens, held_by, maker, run, IsLawful}
 use Rattle.asp_core.specs.Growth.{Grows, Spares}
-use Rattle.asp_core.proofs.BoardLaws.{distinct-push, done-delivered, done-improved, held-changed, held-split, not_after, not_false, or_none}
+use Rattle.asp_core.proofs.BoardLaws.{distinct-push, excused-delivered, done-improved, held-changed, held-split, not_after, not_false, or_none}
 use Rattle.asp_core.proofs.HeldLaws.{stays-happens}
 
 -- ---- what is recorded
@@ -48,27 +50,36 @@ distinct-grows A S = here (list_any (same_set S) (distinct A)) (distinct-push A 
 bound-improved : (m : Goal) (p : Program) (K : List Atoms) (best : Option Atoms) (S : Atoms) (d : List ℤ) → is_done p K (bound_by m p best) S ≡ false → IsBoundBy m p best d → IsBoundBy m p (Some S) d
 bound-improved goal.Enum p K best S d less h = absurd h
 bound-improved (goal.Ties c) p K best S d less h = h
+bound-improved (goal.Consequences r) p K best S d less h = absurd h
 bound-improved goal.Opt p K None S d less h = absurd h
 bound-improved goal.Opt p K (Some B) S d less h =
     let better : betters (cost p S) (cost p B) ≡ true = not_false (betters (cost p S) (cost p B)) (or_none (list_any (same_set S) K) (costs p (cost p B) S) less) in
     betters_trans d (cost p B) (cost p S) h (not_after (cost p B) (cost p S) better)
+
+one-grows : (r : Reasoning) (p : Program) (A : List Atoms) (S : Atoms) → length (common_sets r p A) ≤ length (common_sets r p (A ++ S ∷ []))
+one-grows r p [] S = omega arith
+one-grows r p (T ∷ A) S = omega arith
+
+count-grows : (k : Option Reasoning) (p : Program) (A : List Atoms) (S : Atoms) → count_by k p A ≤ count_by k p (A ++ S ∷ [])
+count-grows None p A S = distinct-grows A S
+count-grows (Some r) p A S = one-grows r p A S
 
 pub Grows-happens : (b : Board) (e : Event) → Guard b e → Grows b (happens b e)
 Grows-happens b (event.Take s leaf) g = record { task = refl; excused = λ S h. h; listed = λ S h. h; known = omega arith; bounds = λ d h. h }
 Grows-happens b (event.Split s leaf l) g = record { task = refl; excused = λ S h. h; listed = λ S h. h; known = omega arith; bounds = λ d h. h }
 Grows-happens b (event.Deliver s S) g = record {
   task = refl;
-  excused = λ T h. done-delivered b.task.program b.answers (bound_of b) S T h;
+  excused = λ T h. excused-delivered b S T h;
   listed = λ T h. list_any-append (same_set T) b.answers (S ∷ []) ∙ or_left (list_any (same_set T) b.answers) (list_any (same_set T) (S ∷ [])) h;
-  known = distinct-grows b.answers S;
+  known = count-grows (sought b.task.goal) b.task.program b.answers S;
   bounds = λ d h. h;
 }
 Grows-happens b (event.Improve s S) g = record {
   task = refl;
-  excused = λ T h. done-improved b.task.goal b.task.program b.answers b.best S T g.0 g.2 h;
+  excused = λ T h. done-improved b.task.goal b.task.program (used b) b.best S T g.0 g.2 h;
   listed = λ T h. h;
   known = omega arith;
-  bounds = λ d h. bound-improved b.task.goal b.task.program b.answers b.best S d g.2 h;
+  bounds = λ d h. bound-improved b.task.goal b.task.program (used b) b.best S d g.2 h;
 }
 Grows-happens b (event.Close s leaf n) g = record { task = refl; excused = λ S h. h; listed = λ S h. h; known = omega arith; bounds = λ d h. h }
 Grows-happens b (event.Release s leaf) g = record { task = refl; excused = λ S h. h; listed = λ S h. h; known = omega arith; bounds = λ d h. h }

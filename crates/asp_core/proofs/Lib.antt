@@ -10,3 +10,4 @@ pub mod StateLaws
 pub mod RowLaws
 pub mod PriceLaws
 pub mod GrowthLaws
+pub mod SeenLaws

@@ -6,6 +6,9 @@ use Rattle.asp_model.specs.Sets.{Atoms, has, same_set}
 use Rattle.asp_model.specs.Holding.{atom_of, all_hold}
 use Rattle.asp_model.specs.Models.{is_stable, atoms_of}
 use Rattle.asp_model.specs.Costs.{cost, betters}
+use Rattle.asp_model.specs.Consequences.{used_up, common_sets, consequences_of}
+use Rattle.asp_model.specs.declared.results.Reasoning.{Reasoning}
+use Rattle.asp_vars.specs.Knowing.{Knowing}
 use Rattle.asp_vars.specs.Numbering.{literal_of}
 use Rattle.asp_vars.specs.Entailment.{costs_bound, is_done}
 use Rattle.asp_path.specs.Trees.{Node, root}
@@ -46,12 +49,21 @@ start t = record { task = t; nodes = root (map (literal_of t.program) (wanted t)
 abbrev pub goal_of : Mode → Goal
 goal_of mode.Enum = goal.Enum
 goal_of mode.Opt = goal.Opt
+goal_of (mode.Consequences r) = goal.Consequences r
 
--- whether the goal lists the answer
+-- which consequences are sought, if any are
+abbrev pub sought : Goal → Option Reasoning
+sought goal.Enum = None
+sought goal.Opt = None
+sought (goal.Ties c) = None
+sought (goal.Consequences r) = Some r
+
+-- whether the answer may be delivered: the goal lists it, or seeks what answers have in common
 abbrev pub lists_by : Goal → Program → Atoms → Bool
 lists_by goal.Enum p S = true
 lists_by goal.Opt p S = false
 lists_by (goal.Ties c) p S = not (costs_bound p c S)
+lists_by (goal.Consequences r) p S = true
 
 abbrev pub lists : Task → Atoms → Bool
 lists t S = lists_by t.goal t.program S
@@ -61,6 +73,7 @@ abbrev pub optimises : Goal → Bool
 optimises goal.Enum = false
 optimises goal.Opt = true
 optimises (goal.Ties c) = false
+optimises (goal.Consequences r) = false
 
 -- the cost that an answer must be smaller than to be of use
 abbrev pub bound_by : Goal → Program → Option Atoms → Option (List ℤ)
@@ -68,6 +81,7 @@ bound_by goal.Enum p best = None
 bound_by goal.Opt p None = None
 bound_by goal.Opt p (Some S) = Some (cost p S)
 bound_by (goal.Ties c) p best = c
+bound_by (goal.Consequences r) p best = None
 
 abbrev pub bound_of : Board → Option (List ℤ)
 bound_of b = bound_by b.task.goal b.task.program b.best
@@ -78,13 +92,18 @@ IsBoundBy goal.Enum p best c = ⊥
 IsBoundBy goal.Opt p None c = ⊥
 IsBoundBy goal.Opt p (Some S) c = betters c (cost p S) ≡ false
 IsBoundBy (goal.Ties bound) p best c = bound ≡ Some c
+IsBoundBy (goal.Consequences r) p best c = ⊥
 
 abbrev pub IsBoundOf : Board → List ℤ → Type 0
 IsBoundOf b c = IsBoundBy b.task.goal b.task.program b.best c
 
--- whether what was recorded makes the set of no use: it is listed, or costs no less than the bound
+-- the stable models that need not be found again: those listed, or where consequences are sought those that show nothing beside them
+abbrev pub used : Board → List Atoms
+used b = used_up (sought b.task.goal) b.task.program b.answers
+
+-- whether what was recorded makes the set of no use: it need not be found again, or costs no less than the bound
 abbrev pub is_excused : Board → Atoms → Bool
-is_excused b S = is_done b.task.program b.answers (bound_of b) S
+is_excused b S = is_done b.task.program (used b) (bound_of b) S
 
 -- ---- the limit
 -- each set once
@@ -94,3 +113,30 @@ distinct sets = fold (λ Ts S. if list_any (same_set S) Ts then Ts else Ts ++ S 
 -- There is a limit, and as many different sets were delivered.
 abbrev pub is_enough : Board → Bool
 is_enough b = not (b.task.limit == 0) && nat_le b.task.limit (length (distinct b.answers))
+
+-- ---- what a search may know
+-- how many answers a search may know where these were delivered: each once, or where consequences are sought the one set that stands for
+-- them
+abbrev pub count_by : Option Reasoning → Program → List Atoms → ℕ
+count_by None p K = length (distinct K)
+count_by (Some r) p K = length (common_sets r p K)
+
+abbrev pub known_count : Board → ℕ
+known_count b = count_by (sought b.task.goal) b.task.program b.answers
+
+-- what a search for consequences takes over; nothing where none are sought
+abbrev pub known_by : Option Reasoning → Program → List Atoms → Option Knowing
+known_by None p K = None
+known_by (Some r) p K = Some (record { program = p; reasoning = r; sets = common_sets r p K })
+
+abbrev pub known_of : Board → Option Knowing
+known_of b = known_by (sought b.task.goal) b.task.program b.answers
+
+-- what was found, for the report: the list of the answers, but where consequences are sought; and these
+abbrev pub listed_by : Option Reasoning → List Atoms → List Atoms
+listed_by None K = K
+listed_by (Some r) K = []
+
+abbrev pub common_by : Option Reasoning → Program → List Atoms → Option Atoms
+common_by None p K = None
+common_by (Some r) p K = consequences_of r p K

@@ -6,6 +6,7 @@ use mathlib.Core.List.{IsPrefix}
 use Rattle.asp_model.specs.Sets.{Atoms}
 use Rattle.asp_model.specs.Holding.{all_hold}
 use Rattle.asp_model.specs.Costs.{cost, betters}
+use Rattle.asp_model.specs.Consequences.{consequences_of}
 use Rattle.asp_vars.specs.Literals.{Literal}
 use Rattle.asp_vars.specs.Numbering.{literal_of, values}
 use Rattle.asp_vars.specs.Entailment.{HitsOnly}
@@ -66,5 +67,7 @@ abbrev pub HasResult : Goal → Board → Type 0
 HasResult goal.Enum b = sorted_once b.answers ≡ answers_of b.task
 -- They are the answers below the cost.
 HasResult (goal.Ties c) b = sorted_once b.answers ≡ filter (lists b.task) (answers_of b.task)
+-- They have in common what the answers have.
+HasResult (goal.Consequences r) b = consequences_of r b.task.program b.answers ≡ consequences_of r b.task.program (answers_of b.task)
 -- None betters the best; there is none where no answer is.
 HasResult goal.Opt b = MatchOption b.best ((S : Atoms) → is_answer b.task S ≡ false) (IsOptimum b.task)

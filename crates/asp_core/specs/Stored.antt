@@ -1,20 +1,30 @@
 -- How a board is stored: the best with its cost, the minimize statements by which sets are priced, and the different answers.
-use Rattle.std.specs.Prelude.{◌≡◌, ◌+◌, ◌<◌, ◌≤◌, length, option_map}
+use Rattle.std.specs.Prelude.{◌≡◌, ◌+◌, ◌<◌, ◌≤◌, List, [], length, Option, None, Some, option_map}
 use Rattle.std.specs.Option.{IfSome}
 use Rattle.std.specs.Vec.{vec_capacity}
+use Rattle.asp_model.specs.declared.program.Program.{Program}
+use Rattle.asp_model.specs.declared.results.Reasoning.{Reasoning}
+use Rattle.asp_model.specs.Sets.{Atoms}
+use Rattle.asp_model.specs.Models.{atoms_of}
+use Rattle.asp_vars.specs.Knowing.{Knowing}
 use Rattle.asp_model.specs.Costs.{cost}
 use Rattle.asp_model.specs.Sound.{IsSound}
 use Rattle.asp_path.specs.Trees.{held_count}
 use Rattle.asp_core.specs.declared.state.State.TheInside.{Inside}
-use Rattle.asp_core.specs.Boards.{Board}
+use Rattle.asp_core.specs.Boards.{Board, known_by, sought}
 use Rattle.asp_core.specs.Invariant.{IsBoard}
 use Rattle.asp_core.specs.Sorting.{sorted_once}
+
+-- the answers delivered: those listed, or where consequences are sought those told, of which the code keeps only what they have in common
+abbrev pub answers_in : Option Reasoning → List Atoms → List Atoms → List Atoms
+answers_in None listed told = listed
+answers_in (Some r) listed told = told
 
 abbrev pub board_of : Inside → Board
 board_of s = record {
   task = record { program = s.program.value; goal = s.goal; budget = s.budget; limit = s.limit; query = s.query };
   nodes = s.tree;
-  answers = s.answers.items;
+  answers = answers_in (sought s.goal) s.answers.items s.told.items;
   best = option_map (λ x. x.0) s.best;
   pool = s.pool;
   out = s.out.items;
@@ -22,12 +32,18 @@ board_of s = record {
   reasons = s.reasons.items;
 }
 
+-- Where consequences are sought none is listed, and what the answers told have in common and the program's atoms are there.
+abbrev pub IsSeen : Option Reasoning → Program → Option Knowing → List Atoms → List Atoms → Atoms → Type 0
+IsSeen None p known listed told atoms = known ≡ None
+IsSeen (Some r) p known listed told atoms = (known ≡ known_by (Some r) p told) × (listed ≡ []) × (atoms ≡ atoms_of p)
+
 pub record IsState (s : Inside) : Type 0 where
   pub board : IsBoard (board_of s)
   pub priced : s.prices.minimize ≡ s.program.value.minimize
   pub sound : IsSound s.prices
   pub costed : IfSome s.best (λ x. x.1 ≡ cost s.program.value x.0)
   -- With a limit, the different answers stand in a sorted set.
-  pub sorted : 0 < s.limit → s.different.keys ≡ sorted_once s.answers.items
+  pub sorted : 0 < s.limit → s.different.keys ≡ sorted_once (answers_in (sought s.goal) s.answers.items s.told.items)
+  pub seen : IsSeen (sought s.goal) s.program.value s.known s.answers.items s.told.items s.atoms.items
   -- There is a free place for the reason of each held leaf.
   pub room : length s.reasons.items + held_count s.tree ≤ vec_capacity s.reasons

@@ -3,7 +3,7 @@ ghost use Rattle.std.specs.Prelude.{◌≡◌};
 ghost use Rattle.asp_core.specs.Boards.{goal_of};
 
 use asp_model::cost::Cost;
-use asp_model::results::Mode;
+use asp_model::results::{Mode, Reasoning};
 
 /// What a board is to find.
 #[derive(Drop)]
@@ -14,6 +14,8 @@ pub enum Goal {
     Opt,
     /// Every answer below a cost, where one is given.
     Ties(Option<Cost>),
+    /// What holds in some answer, or in every one.
+    Consequences(Reasoning),
 }
 
 impl Goal {
@@ -24,6 +26,7 @@ impl Goal {
         match mode {
             Mode::Enum => Goal::Enum,
             Mode::Opt => Goal::Opt,
+            Mode::Consequences(reasoning) => Goal::Consequences(reasoning),
         }
     }
 }

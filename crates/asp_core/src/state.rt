@@ -1,12 +1,13 @@
 //! The state of a board.
-ghost use Rattle.std.specs.Prelude.{◌≡◌, ◌+◌, ◌++◌, ◌^◌, ◌<◌, ◌≤◌, ◌↔◌, ◌==◌, if◌then◌else◌, false, [], length, slice_get, None, Some, option_map, IfOk, OnOk, OnErr, IsOk, IsTrue};
-ghost use Rattle.std.specs.Option.{IfSome, option_copied};
+ghost use Rattle.std.specs.Prelude.{◌≡◌, ◌+◌, ◌++◌, ◌∷◌, ◌^◌, ◌<◌, ◌≤◌, ◌↔◌, ◌==◌, if◌then◌else◌, true, false, [], length, slice_get, None, Some, option_map, option_and_then, IfOk, OnOk, OnErr, IsOk, IsTrue};
+ghost use Rattle.std.specs.Option.{IfSome, is_some, option_copied};
 ghost use Rattle.asp_model.specs.Costs.{cost, betters};
+ghost use Rattle.asp_model.specs.Models.{atoms_of};
 ghost use Rattle.asp_path.specs.declared.status.Status.TheVariants as status;
 ghost use Rattle.asp_path.specs.Trees.{cube_of, status_of, is_open, all_closed, open_from, held_count, leaf_count};
 ghost use Rattle.asp_core.specs.declared.event.Event.TheVariants as event;
 ghost use Rattle.asp_core.specs.Units.{out_of};
-ghost use Rattle.asp_core.specs.Boards.{start, wanted, optimises, is_excused, is_enough, IsQuery};
+ghost use Rattle.asp_core.specs.Boards.{common_by, start, known_by, known_of, listed_by, sought, wanted, optimises, is_excused, is_enough, IsQuery};
 ghost use Rattle.asp_core.specs.Events.{Guard, happens, wants_memory};
 ghost use Rattle.asp_core.specs.Invariant.{IsBoard, HasResult};
 ghost use Rattle.asp_core.specs.Sorting.{with_set};
@@ -19,13 +20,15 @@ use crate::units::{lease_out, return_out, units_of};
 use crate::wanted::wanted;
 use asp_model::cost::{Cost, cost_of};
 use asp_model::interp::Interp;
-use asp_model::program::Program;
+use asp_model::program::{Atom, Program};
 use asp_model::seq::Seq;
 use asp_path::tree::{Leaf, Tree};
 use asp_vars::compiled::Compiled;
+use asp_vars::known::Known;
 use asp_vars::lit::Lit;
 use asp_vars::nogood::Lits;
 use asp_vars::origin::Origin;
+use asp_vars::snapshot::Snapshot;
 use std::alloc::{AllocError, Global};
 use std::collections::BTreeSet;
 use std::marker::Model;
@@ -39,7 +42,7 @@ pub struct State {
     alloc: Global,
     /// Whose answers are sought, as a fact without bytes.
     program: Origin<Program>,
-    /// What is sought: all answers, or one that costs least.
+    /// What is sought: all answers, one that costs least, or what holds in some or in all.
     goal: Goal,
     /// The units that the search may burn.
     budget: u64,
@@ -51,8 +54,15 @@ pub struct State {
     prices: Program,
     /// The paths into which the search was split.
     tree: Tree,
-    /// The answers delivered, the oldest first.
+    /// The answers delivered, the oldest first, where they are listed; else none.
     answers: Vec<Interp>,
+    /// Where consequences are sought the answers delivered, the oldest first, of which contracts alone know more than their number; else
+    /// none.
+    told: Vec<Snapshot<Interp>>,
+    /// Where consequences are sought, what the answers delivered have in common.
+    known: Option<Known>,
+    /// Where consequences are sought the atoms that stand in the program, ascending; else none.
+    atoms: Vec<Atom>,
     /// The different ones among them, where there is a limit; else empty.
     different: BTreeSet<Interp>,
     /// The cheapest answer that was told so far, with its cost.
@@ -91,6 +101,44 @@ fn count_in(limit: u64, different: &mut BTreeSet<Interp>, set: &Interp) -> Resul
     Ok(())
 }
 
+// No answer, where consequences are sought.
+fn nothing_known(
+    alloc: Global,
+    compiled: &Compiled,
+    goal: &Goal,
+) -> Result<Option<Known>, AllocError>
+    ensures { IfOk result (λ known. known ≡ known_by (sought goal.now) compiled.now []) }
+{
+    match goal {
+        Goal::Enum | Goal::Opt | Goal::Ties(_) => Ok(None),
+        Goal::Consequences(reasoning) => {
+            let known = Known::new(alloc, compiled, *reasoning)?;
+            Ok(Some(known))
+        }
+    }
+}
+
+// The atoms that stand in the program, where consequences are sought.
+fn stated_atoms(alloc: Global, compiled: &Compiled, goal: &Goal) -> Result<Vec<Atom>, AllocError>
+    ensures { IfOk result (λ atoms. is_some (sought goal.now) ≡ true → atoms.items ≡ atoms_of compiled.now) }
+{
+    match goal {
+        Goal::Enum | Goal::Opt | Goal::Ties(_) => Ok(Vec::new(alloc)),
+        Goal::Consequences(_) => Vec::from_slice(alloc, compiled.atoms().as_slice()),
+    }
+}
+
+// What the answers have in common, where that is sought and there is an answer.
+fn common(known: Option<Known>, atoms: Vec<Atom>) -> Option<Interp>
+    requires { IfSome known (λ k. atoms.items ≡ atoms_of k.program) }
+    ensures { result ≡ option_and_then (λ k. slice_get k.sets 0) known }
+{
+    match known {
+        None => None,
+        Some(known) => known.into_set(atoms),
+    }
+}
+
 impl State {
     /// The start of a search whose answers meet the program's assumptions and these literals.
     ///
@@ -111,6 +159,8 @@ impl State {
         let root = wanted(alloc, compiled, query)?;
         let query = Vec::from_slice(alloc, query)?;
         let tree = Tree::root(alloc, root)?;
+        let known = nothing_known(alloc, compiled, &goal)?;
+        let atoms = stated_atoms(alloc, compiled, &goal)?;
         Ok(State {
             alloc,
             program: Origin::of(program),
@@ -121,6 +171,9 @@ impl State {
             prices,
             tree,
             answers: Vec::new(alloc),
+            told: Vec::new(alloc),
+            known,
+            atoms,
             different: BTreeSet::new(alloc),
             best: None,
             pool: budget,
@@ -149,8 +202,9 @@ impl State {
         Ok(())
     }
 
-    fn deliver(&mut self, by: u32, set: Interp) -> Result<(), AllocError>
-        requires { Guard self.old (event.Deliver by set) }
+    fn list(&mut self, by: u32, set: Interp) -> Result<(), AllocError>
+        requires guard { Guard self.old (event.Deliver by set) }
+        requires listed { sought self.old.task.goal ≡ None }
         ensures ok { OnOk result (self.new ≡ happens self.old (event.Deliver by set)) }
         ensures err { OnErr result (self.new ≡ self.old) }
     {
@@ -158,6 +212,24 @@ impl State {
         count_in(self.limit, &mut self.different, &set)?;
         self.answers.push_reserved(set);
         Ok(())
+    }
+
+    fn deliver(&mut self, by: u32, set: Interp) -> Result<(), AllocError>
+        requires { Guard self.old (event.Deliver by set) }
+        ensures ok { OnOk result (self.new ≡ happens self.old (event.Deliver by set)) }
+        ensures err { OnErr result (self.new ≡ self.old) }
+    {
+        match &self.known {
+            None => self.list(by, set),
+            Some(known) => {
+                let known = known.with(&set)?;
+                self.told.reserve(1)?;
+                count_in(self.limit, &mut self.different, &set)?;
+                self.told.push_reserved(Snapshot::of(&set));
+                self.known = Some(known);
+                Ok(())
+            }
+        }
     }
 
     fn improve(&mut self, by: u32, set: Interp) -> Result<(), AllocError>
@@ -281,11 +353,19 @@ impl State {
         units_of(self.out.as_slice(), by)
     }
 
-    /// The sets delivered, in their order.
+    /// The sets delivered, in their order, where they are listed.
     pub fn answers(&self) -> &[Interp]
+        requires { sought self.now.task.goal ≡ None }
         ensures { result.now ≡ self.now.answers }
     {
         self.answers.as_slice()
+    }
+
+    /// What the answers delivered have in common, where that is sought.
+    pub fn known(&self) -> Option<&Known>
+        ensures { option_map (λ r. r.now) result ≡ known_of self.now }
+    {
+        self.known.as_ref()
     }
 
     /// The best answer and its cost, where one was recorded.
@@ -312,9 +392,11 @@ impl State {
         Ok(Some(best.copy()?))
     }
 
-    /// The sets delivered, in their order, and the best answer with its cost, where one was recorded.
-    pub fn into_found(self) -> (Vec<Interp>, Option<(Interp, Cost)>)
-        ensures answers { result.0.items ≡ self.answers }
+    /// The sets delivered, in their order, where they are listed; the best answer with its cost, where one was recorded; and
+    /// the consequences of the answers delivered, where these are sought.
+    pub fn into_found(self) -> (Vec<Interp>, Option<(Interp, Cost)>, Option<Interp>)
+        ensures answers { result.0.items ≡ listed_by (sought self.task.goal) self.answers }
+        ensures known { result.2 ≡ common_by (sought self.task.goal) self.task.program self.answers }
         ensures best { result.1 ≡ option_map (λ S. (S, cost self.task.program S)) self.best }
     {
         let State {
@@ -327,6 +409,9 @@ impl State {
             prices: _,
             tree: _,
             answers,
+            told: _,
+            known,
+            atoms,
             different: _,
             best,
             pool: _,
@@ -334,7 +419,7 @@ impl State {
             burnt: _,
             reasons: _,
         } = self;
-        (answers, best)
+        (answers, best, common(known, atoms))
     }
 
     /// The closed leaves, each with its nogood.

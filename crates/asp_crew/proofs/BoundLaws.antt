@@ -9,10 +9,14 @@ use Rattle.asp_model.specs.declared.program.Program.{Program}
 use Rattle.asp_model.specs.Sets.{Atoms, same_set}
 use Rattle.asp_model.specs.Models.{is_stable, models}
 use Rattle.asp_model.specs.Costs.{cost, betters}
+use Rattle.asp_model.specs.declared.results.Reasoning.{Reasoning}
+use Rattle.asp_model.specs.Consequences.{common_sets, used_up}
+use Rattle.asp_model.proofs.ConsequenceLaws.{used-common, used-itself}
 use Rattle.asp_model.proofs.ListedLaws.{test_from_contains}
 use Rattle.asp_model.proofs.ModelLaws.{models-are}
 use Rattle.asp_vars.specs.Entailment.{costs, costs_bound, is_done}
 use Rattle.asp_vars.proofs.ResolutionLaws.{betters_itself, costs_within, smaller_left, not_true}
+use Rattle.asp_core.proofs.BoardLaws.{among-more, done-used}
 use Rattle.asp_core.proofs.SortingLaws.{same_itself}
 use Rattle.asp_propagate.specs.Useful.{IsSmaller}
 use Rattle.asp_crew.specs.Running.{unfound}
@@ -84,6 +88,20 @@ fewer-push p K b S stable new less =
     fewer-open p K (K ++ S ∷ []) b b S stable (done-push p K b S) (not_done p K b S new less)
     (or_left (list_any (same_set S) (K ++ S ∷ [])) (costs_bound p b S)
     (list_any-append (same_set S) K (S ∷ []) ∙ or_right (list_any (same_set S) K) (list_any (same_set S) (S ∷ [])) (or_left (same_set S S) false (same_itself S))))
+
+-- So it is where consequences are sought: the answer is used up from then on, as all is that was.
+pub fewer-told : (p : Program) (r : Reasoning) (K L : List Atoms) (b : Option (List ℤ)) (S : Atoms) → IsTrue (is_stable p S) → list_any (same_set S) (used_up (Some r) p K) ≡ false → IsSmaller (cost p S) b →
+    L ≡ common_sets r p (K ++ S ∷ []) → unfound p (used_up (Some r) p L) b < unfound p (used_up (Some r) p K) b
+fewer-told p r K L b S stable new less is =
+    subst (λ (U : List Atoms). unfound p U b < unfound p (used_up (Some r) p K) b) (sym (used-common r p (K ++ S ∷ [])) ∙ ap (used_up (Some r) p) (sym is))
+    (fewer-open p (used_up (Some r) p K) (used_up (Some r) p (K ++ S ∷ [])) b b S stable more (not_done p (used_up (Some r) p K) b S new less)
+    (or_left (list_any (same_set S) (used_up (Some r) p (K ++ S ∷ []))) (costs_bound p b S) (used-itself (Some r) p (K ++ S ∷ []) S stable here)))
+  where
+    here : list_any (same_set S) (K ++ S ∷ []) ≡ true
+    here = list_any-append (same_set S) K (S ∷ []) ∙ or_right (list_any (same_set S) K) (list_any (same_set S) (S ∷ [])) (or_left (same_set S S) false (same_itself S))
+
+    more : (T : Atoms) → is_done p (used_up (Some r) p K) b T ≡ true → is_done p (used_up (Some r) p (K ++ S ∷ [])) b T ≡ true
+    more T h = done-used (Some r) p K (K ++ S ∷ []) b T (among-more K S) h
 
 pub fewer-lower : (p : Program) (K : List Atoms) (b : Option (List ℤ)) (S : Atoms) → IsTrue (is_stable p S) → list_any (same_set S) K ≡ false → IsSmaller (cost p S) b → unfound p K (Some (cost p S)) < unfound p K b
 fewer-lower p K b S stable new less =

@@ -225,7 +225,7 @@ all-through mode u v w s f r is first now none =
 -- ---- units at the start
 -- all units of the pool, for number 0
 abbrev pub all_of : Board → Units
-all_of b = record { program = b.task.program; left = min (2 ^ 64 - 1) b.pool; burnt = 0; known = 0; least = None }
+all_of b = record { program = b.task.program; left = min (2 ^ 64 - 1) b.pool; burnt = 0; reasoned = false; known = 0; least = None }
 
 pub record IsLeased (v w : Booked) : Type 0 where
   pub alone : IsAlone (board w)
@@ -262,7 +262,7 @@ pub leased-works : (mode : Mode) (bound : Option (List ℤ)) (v w : Booked) (f :
 leased-works mode bound v w f may is units =
     let now : (board w).task ≡ v.task = board-task w ∙ is.task in
     let back : ComesBack (board w) (out_of (board w).out 0) (all_of (board v)) = (
-      record { program = ap (λ (t : Task). t.program) (board-task v ∙ sym now); known = omega arith; least = tt },
+      record { program = ap (λ (t : Task). t.program) (board-task v ∙ sym now); reasoned = λ e. absurd (false≢true e); known = omega arith; least = tt },
       (let z : min (2 ^ 64 - 1) (board v).pool + 0 ≡ min (2 ^ 64 - 1) (board v).pool = omega arith in z) ∙ sym is.units,
     ) in
     subst (λ (u : Units). IsAtWork (board w) 0 mode [] bound u) (sym units) (sought-begins (board w) 0 mode bound (all_of (board v)) (subst (λ (t : Task). MayBegin mode bound t.goal) (sym now) may) back)

@@ -38,6 +38,7 @@ played_with t r o is = record {
   lawful = is.lawful;
   answers = is.answers;
   best = is.best;
+  common = is.common;
   end = is.end;
   leaves = is.leaves;
   spent = is.spent;
@@ -53,7 +54,9 @@ with_it p ask units r o alone is = record {
   program = is.program;
   spent = is.spent;
   budget = is.budget;
+  reasoned = is.reasoned;
   known = is.known;
+  untold = is.untold;
   least = is.least;
   played = subst (λ (x : Option (List Event)). IsPlayedBy x p ask units (record r { proof = o })) (sym alone) (played_with (task_of p ask units) r o (subst (λ (x : Option (List Event)). IsPlayedBy x p ask units r) alone is.played));
 }

@@ -3,7 +3,8 @@ use Rattle.std.proofs.Common.{◌≡◌, Bool, true, false, not, List, [], ◌�
 use Rattle.std.specs.Prelude.{ℤ, IsTrue, option_map}
 use Rattle.std.proofs.lemmas.Bool.{false≢true}
 use Rattle.asp_model.specs.declared.results.Mode.{Mode}
-use Rattle.asp_model.specs.declared.results.Mode.TheVariants.{Enum, Opt}
+use Rattle.asp_model.specs.declared.results.Mode.TheVariants.{Enum, Opt, Consequences}
+use Rattle.asp_model.specs.declared.results.Reasoning.{Reasoning}
 use Rattle.asp_model.specs.Sets.{Atoms}
 use Rattle.asp_model.specs.Costs.{cost, betters}
 use Rattle.asp_core.specs.declared.event.Event.{Event}
@@ -19,6 +20,9 @@ use Rattle.asp_crew.proofs.BookLaws.{board-task, board-with}
 -- ---- what the book asks
 pub listed-now : (v : Booked) (S : Atoms) → MayRecord Enum v.task S → IsTrue (lists (board v).task S)
 listed-now v S may = subst (λ (t : Task). IsTrue (lists t S)) (sym (board-task v)) may
+
+pub told-now : (v : Booked) (r : Reasoning) (S : Atoms) → MayRecord (Consequences r) v.task S → IsTrue (lists (board v).task S)
+told-now v r S may = subst (λ (t : Task). IsTrue (lists t S)) (sym (board-task v)) may
 
 pub optimised-now : (v : Booked) (S : Atoms) → MayRecord Opt v.task S → IsTrue (optimises (board v).task.goal)
 optimised-now v S may = subst (λ (t : Task). IsTrue (optimises t.goal)) (sym (board-task v)) may
@@ -42,6 +46,14 @@ recorded-delivered v w S true run answer more e now = record {
   recorded = ((listed-now v S run, answer-now v S answer, more), ap board now ∙ board-with v (event.Deliver 0 S));
 }
 recorded-delivered v w S false run answer more e now = absurd (false≢true (e ∙ ap not more))
+
+pub recorded-told : (v w : Booked) (k : Reasoning) (S : Atoms) (r : Bool) → MayRecord (Consequences k) v.task S → IsTrue (is_answer v.task S) → is_enough (board v) ≡ false → r ≡ not (is_enough (board v)) → w ≡ with_events v (delivered 0 S r) →
+    Recorded (Consequences k) v w S
+recorded-told v w k S true run answer more e now = record {
+  only = only-by v w (event.Deliver 0 S) now refl refl refl;
+  recorded = ((told-now v k S run, answer-now v S answer, more), ap board now ∙ board-with v (event.Deliver 0 S));
+}
+recorded-told v w k S false run answer more e now = absurd (false≢true (e ∙ ap not more))
 
 unbettered : (b : Board) (S : Atoms) (c : List ℤ) (o : Option Atoms) → b.best ≡ o → option_map (cost b.task.program) o ≡ Some c → betters (cost b.task.program S) c ≡ false → IsUnbettered b S
 unbettered b S c None e h no_better = absurd (let f : ⊥ = cc in f)

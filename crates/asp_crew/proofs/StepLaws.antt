@@ -7,7 +7,10 @@ use Rattle.std.proofs.lemmas.Bool.{false≢true}
 use Rattle.std.proofs.lemmas.List.Sums.{length-filter, count_by-le-length}
 use Rattle.asp_model.specs.declared.program.Program.{Program}
 use Rattle.asp_model.specs.declared.results.Mode.{Mode}
-use Rattle.asp_model.specs.declared.results.Mode.TheVariants.{Enum, Opt}
+use Rattle.asp_model.specs.declared.results.Mode.TheVariants.{Enum, Opt, Consequences}
+use Rattle.asp_model.specs.declared.results.Reasoning.{Reasoning}
+use Rattle.asp_model.specs.Asked.{reasoning_of}
+use Rattle.asp_model.specs.Consequences.{common_sets, used_up}
 use Rattle.asp_model.specs.Sets.{Atoms, same_set}
 use Rattle.asp_model.specs.Models.{is_stable, models}
 use Rattle.asp_model.specs.Costs.{cost}
@@ -19,30 +22,34 @@ use Rattle.asp_vars.specs.Paid.{Clash, Units}
 use Rattle.asp_vars.specs.declared.nogood.Nogood.{Nogood}
 use Rattle.asp_core.specs.declared.event.Event.TheVariants as event
 use Rattle.asp_core.specs.declared.task.Task.{Task}
-use Rattle.asp_core.specs.Boards.{Board, is_answer, is_enough}
+use Rattle.asp_core.specs.Boards.{Board, is_answer, is_enough, sought}
 use Rattle.asp_core.specs.Invariant.{IsCube}
 use Rattle.asp_core.proofs.BoardLaws.{wanted-stand}
 use Rattle.asp_core.proofs.CubeLaws.{answer-in_cube}
 use Rattle.asp_book.specs.Books.{Booked, board}
 use Rattle.asp_propagate.specs.Useful.{IsSmaller}
 use Rattle.asp_search.specs.Beside.{Enters}
-use Rattle.asp_search_laws.specs.Searching.{Searching}
+use Rattle.asp_search_laws.specs.Searching.{Searching, used}
 use Rattle.asp_search_laws.specs.Steps.{HasSameTask, burnt, IsStep, Records}
 use Rattle.asp_search_laws.specs.declared.step.Step.{Step}
 use Rattle.asp_search_laws.specs.declared.step.Step.TheVariants as step
 use Rattle.asp_crew_laws.specs.Working.{IsAtWork, IsSought}
 use Rattle.asp_crew_laws.proofs.AgreeLaws.{settled-excused}
-use Rattle.asp_crew_laws.proofs.WorkLaws.{may-list, may-optimise, work-burnt, work-delivered, work-improved, work-unimproved, work-met}
+use Rattle.asp_crew_laws.proofs.WorkLaws.{may-list, may-optimise, may-tell, sought-is, work-burnt, work-delivered, work-improved, work-met, work-told, work-unimproved}
 use Rattle.asp_crew.specs.declared.leaf.Course.{Course}
 use Rattle.asp_crew.specs.declared.leaf.Course.TheVariants.{Open, Closed, Unpaid}
 use Rattle.asp_crew.specs.Running.{unfound, work, work_left, HasNoQuery, IsReady, IsEntered, IsUnderway, MayRecord, OnlyRecords, IsRecorded, Goes, Ends}
 use Rattle.asp_crew.proofs.BookLaws.{board-task, query-none}
-use Rattle.asp_crew.proofs.BoundLaws.{fewer-push, fewer-lower}
+use Rattle.asp_crew.proofs.BoundLaws.{fewer-lower, fewer-push, fewer-told}
 use Rattle.asp_crew.proofs.WorkLaws.{work-paid, work-found, work-restarted, work-decided}
 
 -- ---- the task is the same
 pub program-is : (mode : Mode) (v : Booked) (s : Searching) (f : Units) → IsReady mode v s f → s.program ≡ (board v).task.program
 program-is mode v s f is = is.program ∙ ap (λ (t : Task). t.program) (sym (board-task v))
+
+-- which consequences the board seeks
+pub seeks : (mode : Mode) (v : Booked) (s : Searching) (f : Units) → IsReady mode v s f → sought (board v).task.goal ≡ reasoning_of s.mode
+seeks mode v s f is = sought-is mode s.bound (board v).task.goal is.work.goal ∙ ap reasoning_of (sym is.mode_is)
 
 ready-same : (mode : Mode) (v : Booked) (s t : Searching) (f g : Units) → IsReady mode v s f → HasSameTask s t → IsAtWork (board v) 0 mode s.known s.bound g → IsReady mode v t g
 ready-same mode v s t f g is same at = record {
@@ -63,13 +70,14 @@ unchanged : (v : Booked) → OnlyRecords v v
 unchanged v = record { task = refl; nodes = refl; out = refl; pool = refl }
 
 -- the work that is left, by what the search was before
-left-same : (s t : Searching) (g : Units) → HasSameTask s t → work_left t g ≡ work g.left (length (models s.program)) (unfound s.program s.known s.bound) t.learnt (var_count s.program + 1) (length t.entries)
+left-same : (s t : Searching) (g : Units) → HasSameTask s t → work_left t g ≡ work g.left (length (models s.program)) (unfound s.program (used s) s.bound) t.learnt (var_count s.program + 1) (length t.entries)
 left-same s t g same =
-    ap (λ (p : Program). work g.left (length (models p)) (unfound p t.known t.bound) t.learnt (var_count p + 1) (length t.entries)) same.program
-    ∙ ap (λ (k : List Atoms). work g.left (length (models s.program)) (unfound s.program k t.bound) t.learnt (var_count s.program + 1) (length t.entries)) same.known
-    ∙ ap (λ (b : Option (List ℤ)). work g.left (length (models s.program)) (unfound s.program s.known b) t.learnt (var_count s.program + 1) (length t.entries)) same.bound
+    ap (λ (p : Program). work g.left (length (models p)) (unfound p (used_up (reasoning_of t.mode) p t.known) t.bound) t.learnt (var_count p + 1) (length t.entries)) same.program
+    ∙ ap (λ (m : Mode). work g.left (length (models s.program)) (unfound s.program (used_up (reasoning_of m) s.program t.known) t.bound) t.learnt (var_count s.program + 1) (length t.entries)) same.mode
+    ∙ ap (λ (k : List Atoms). work g.left (length (models s.program)) (unfound s.program (used_up (reasoning_of s.mode) s.program k) t.bound) t.learnt (var_count s.program + 1) (length t.entries)) same.known
+    ∙ ap (λ (b : Option (List ℤ)). work g.left (length (models s.program)) (unfound s.program (used s) b) t.learnt (var_count s.program + 1) (length t.entries)) same.bound
 
-less-same : (s t : Searching) (g : Units) (n : ℕ) → HasSameTask s t → work g.left (length (models s.program)) (unfound s.program s.known s.bound) t.learnt (var_count s.program + 1) (length t.entries) < n → work_left t g < n
+less-same : (s t : Searching) (g : Units) (n : ℕ) → HasSameTask s t → work g.left (length (models s.program)) (unfound s.program (used s) s.bound) t.learnt (var_count s.program + 1) (length t.entries) < n → work_left t g < n
 less-same s t g n same less = subst (λ k. k < n) (sym (left-same s t g same)) less
 
 unfound-le : (p : Program) (known : List Atoms) (bound : Option (List ℤ)) → unfound p known bound ≤ length (models p)
@@ -98,8 +106,8 @@ module _ (gives : Nogood → Type 0) (silent : List (Option Bool) → Type 0) (m
         only = unchanged v;
         cube = d.same.cube;
         course = less-same s t f (work_left s f) d.same
-            (subst (λ k. work f.left (length (models s.program)) (unfound s.program s.known s.bound) k (var_count s.program + 1) (length t.entries) < work_left s f) (sym d.learnt)
-            (work-decided f.left (length (models s.program)) (unfound s.program s.known s.bound) s.learnt (var_count s.program + 1) (length s.entries) (length t.entries) d.longer
+            (subst (λ k. work f.left (length (models s.program)) (unfound s.program (used s) s.bound) k (var_count s.program + 1) (length t.entries) < work_left s f) (sym d.learnt)
+            (work-decided f.left (length (models s.program)) (unfound s.program (used s) s.bound) s.learnt (var_count s.program + 1) (length s.entries) (length t.entries) d.longer
             (subst (λ (q : Program). length t.entries ≤ var_count q + 1) d.same.program len)));
       })
 
@@ -111,8 +119,8 @@ module _ (gives : Nogood → Type 0) (silent : List (Option Bool) → Type 0) (m
         only = unchanged v;
         cube = d.same.cube;
         course = less-same s t f (work_left s f) d.same
-            (subst (λ k. work f.left (length (models s.program)) (unfound s.program s.known s.bound) k (var_count s.program + 1) (length t.entries) < work_left s f) (sym d.learnt)
-            (work-restarted f.left (length (models s.program)) (unfound s.program s.known s.bound) s.learnt (var_count s.program + 1) (length s.entries) (length t.entries) (omega (arith, d.due))));
+            (subst (λ k. work f.left (length (models s.program)) (unfound s.program (used s) s.bound) k (var_count s.program + 1) (length t.entries) < work_left s f) (sym d.learnt)
+            (work-restarted f.left (length (models s.program)) (unfound s.program (used s) s.bound) s.learnt (var_count s.program + 1) (length s.entries) (length t.entries) (omega (arith, d.due))));
       })
 
   pub learnt : r ≡ step.Learnt → Goes mode v v s t f g Open
@@ -121,12 +129,12 @@ module _ (gives : Nogood → Type 0) (silent : List (Option Bool) → Type 0) (m
       let x : Clash = d.burns.clash in
       let small : t.learnt < 2 ^ 64 = omega (arith, d.learnt) in
       subst (λ (u : Units). Goes mode v v s t f u Open) (sym d.burns.paid) (record {
-        underway = underway-same mode v s t f (burnt f x) is d.same small (work-burnt (board v) 0 mode s.known s.bound f x is.ready.work d.burns.left d.burns.conflict.known d.burns.conflict.bound);
+        underway = underway-same mode v s t f (burnt f x) is d.same small (work-burnt (board v) 0 mode s.known s.bound f x is.ready.work d.burns.left (d.burns.conflict.reasoning ∙ ap reasoning_of is.ready.mode_is) d.burns.conflict.known d.burns.conflict.bound);
         only = unchanged v;
         cube = d.same.cube;
         course = less-same s t (burnt f x) (work_left s f) d.same
-            (work-paid f.left (length (models s.program)) (unfound s.program s.known s.bound) s.learnt (var_count s.program + 1) (length s.entries) (f.left - 1) (unfound s.program s.known s.bound) t.learnt (length t.entries) (omega (arith, d.burns.left))
-            (unfound-le s.program s.known s.bound) small);
+            (work-paid f.left (length (models s.program)) (unfound s.program (used s) s.bound) s.learnt (var_count s.program + 1) (length s.entries) (f.left - 1) (unfound s.program (used s) s.bound) t.learnt (length t.entries) (omega (arith, d.burns.left))
+            (unfound-le s.program (used s) s.bound) small);
       })
 
   pub closed : r ≡ step.Closed → Goes mode v v s t f g Closed
@@ -138,7 +146,8 @@ module _ (gives : Nogood → Type 0) (silent : List (Option Bool) → Type 0) (m
         cube = d.same.cube;
         course = λ q entered.
             settled-excused (board v) s.known s.bound q is.ready.work.agrees
-            (subst (λ (p : Program). Settled p s.known s.bound q) (program-is mode v s f is.ready) (at gives silent s t f g r step.Closed e h q entered).settled);
+            (subst (λ (p : Program). Settled p (used_up (sought (board v).task.goal) p s.known) s.bound q) (program-is mode v s f is.ready)
+            (subst (λ (k : Option Reasoning). Settled s.program (used_up k s.program s.known) s.bound q) (sym (seeks mode v s f is.ready)) (at gives silent s t f g r step.Closed e h q entered).settled));
       })
 
   pub unpaid : is_enough (board v) ≡ false → (x : Clash) → r ≡ step.NoFuel x → Goes mode v v s t f g (Unpaid x)
@@ -153,7 +162,9 @@ module _ (gives : Nogood → Type 0) (silent : List (Option Bool) → Type 0) (m
           more,
           d.none,
           path.1 ∙ ap (λ (q : List Literal). Some q) (sym d.conflict.cube),
-          work-met (board v) 0 mode s.known s.bound f x is.ready.work (d.conflict.program ∙ p) d.conflict.known d.conflict.bound (subst (λ (q : Program). IsConflict q s.known s.bound x.cube x.decisions x.nogood) p d.conflict.conflict),
+          work-met (board v) 0 mode s.known s.bound f x is.ready.work (d.conflict.program ∙ p) (d.conflict.reasoning ∙ ap reasoning_of is.ready.mode_is) d.conflict.known d.conflict.bound
+              (subst (λ (q : Program). IsConflict q (used_up (reasoning_of mode) q s.known) s.bound x.cube x.decisions x.nogood) p
+              (subst (λ (m : Mode). IsConflict s.program (used_up (reasoning_of m) s.program s.known) s.bound x.cube x.decisions x.nogood) is.ready.mode_is d.conflict.conflict)),
         );
       })
 
@@ -173,6 +184,7 @@ not-dear p (Some d) S less = ap not less
 may-record : (mode : Mode) (t : Task) (bound : Option (List ℤ)) (S : Atoms) → IsSought mode bound t.goal → IsSmaller (cost t.program S) bound → MayRecord mode t S
 may-record Enum t bound S e less = may-list t bound S e (not-dear t.program bound S less)
 may-record Opt t bound S e less = may-optimise t e
+may-record (Consequences r) t bound S e less = may-tell t r bound S e
 
 pub answer-may : (gives : Nogood → Type 0) (silent : List (Option Bool) → Type 0) (mode : Mode) (v : Booked) (s t : Searching) (f g : Units) (is : IsUnderway mode v s f) (r : Step) → IsStep gives silent s t f g r → (S : Atoms) → r ≡ step.Answer S → MayRecord mode v.task S
 answer-may gives silent mode v s t f g is r h S e =
@@ -182,11 +194,15 @@ answer-may gives silent mode v s t f g is r h S e =
     (subst (λ (p : Program). IsSmaller (cost p S) s.bound) is.ready.program d.cheaper)
 
 -- the search and its units after the answer was recorded
-work-recorded : (mode : Mode) (b c : Board) (s t : Searching) (q : List Literal) (f : Units) (S : Atoms) → s.program ≡ b.task.program → IsAtWork b 0 mode s.known s.bound f → list_any (same_set S) s.known ≡ false → Records mode s t q S → IsRecorded mode b c S →
+work-recorded : (mode : Mode) (b c : Board) (s t : Searching) (q : List Literal) (f : Units) (S : Atoms) → s.program ≡ b.task.program → IsAtWork b 0 mode s.known s.bound f → list_any (same_set S) (used_up (reasoning_of mode) s.program s.known) ≡ false → Records mode s t q S → IsRecorded mode b c S →
     IsAtWork c 0 mode t.known t.bound f
 work-recorded Enum b c s t q f S p at new r done =
     subst (λ (k : List Atoms). IsAtWork c 0 Enum k t.bound f) (sym r.0) (subst (λ (o : Option (List ℤ)). IsAtWork c 0 Enum (s.known ++ S ∷ []) o f) (sym r.1)
     (subst (λ (x : Board). IsAtWork x 0 Enum (s.known ++ S ∷ []) s.bound f) (sym done.1) (work-delivered b 0 S s.known s.bound f at done.0 new)))
+work-recorded (Consequences k) b c s t q f S p at new r done =
+    subst (λ (K : List Atoms). IsAtWork c 0 (Consequences k) K t.bound f) (sym (r.0 ∙ ap (λ (x : Program). common_sets k x (s.known ++ S ∷ [])) p))
+    (subst (λ (o : Option (List ℤ)). IsAtWork c 0 (Consequences k) (common_sets k b.task.program (s.known ++ S ∷ [])) o f) (sym r.1)
+    (subst (λ (x : Board). IsAtWork x 0 (Consequences k) (common_sets k b.task.program (s.known ++ S ∷ [])) s.bound f) (sym done.1) (work-told b 0 S k s.known s.bound f at done.0)))
 work-recorded Opt b c s t q f S p at new r (inl done) =
     subst (λ (k : List Atoms). IsAtWork c 0 Opt k t.bound f) (sym r.0) (subst (λ (o : Option (List ℤ)). IsAtWork c 0 Opt s.known o f) (sym (r.1 ∙ ap (λ (x : Program). Some (cost x S)) p))
     (subst (λ (x : Board). IsAtWork x 0 Opt s.known (Some (cost b.task.program S)) f) (sym done.1) (work-improved b 0 S s.known s.bound f at done.0)))
@@ -195,14 +211,24 @@ work-recorded Opt b c s t q f S p at new r (inr done) =
     (subst (λ (x : Board). IsAtWork x 0 Opt s.known (Some (cost b.task.program S)) f) (sym done.0) (work-unimproved b 0 S done.1.best s.known s.bound f at done.1.stands done.1.dearer)))
 
 -- fewer models are left to be found
-fewer-by : (mode : Mode) (s t : Searching) (q : List Literal) (S : Atoms) → IsTrue (is_stable s.program S) → list_any (same_set S) s.known ≡ false → IsSmaller (cost s.program S) s.bound → Records mode s t q S →
-    unfound s.program t.known t.bound < unfound s.program s.known s.bound
+fewer-by : (mode : Mode) (s t : Searching) (q : List Literal) (S : Atoms) → IsTrue (is_stable s.program S) → list_any (same_set S) (used_up (reasoning_of mode) s.program s.known) ≡ false → IsSmaller (cost s.program S) s.bound → Records mode s t q S →
+    unfound s.program (used_up (reasoning_of mode) s.program t.known) t.bound < unfound s.program (used_up (reasoning_of mode) s.program s.known) s.bound
 fewer-by Enum s t q S stable new less r =
     subst (λ (b : Option (List ℤ)). unfound s.program t.known b < unfound s.program s.known s.bound) (sym r.1)
     (subst (λ (k : List Atoms). unfound s.program k s.bound < unfound s.program s.known s.bound) (sym r.0) (fewer-push s.program s.known s.bound S stable new less))
+fewer-by (Consequences k) s t q S stable new less r =
+    subst (λ (b : Option (List ℤ)). unfound s.program (used_up (Some k) s.program t.known) b < unfound s.program (used_up (Some k) s.program s.known) s.bound) (sym r.1)
+    (fewer-told s.program k s.known t.known s.bound S stable new less r.0)
 fewer-by Opt s t q S stable new less r =
     subst (λ (b : Option (List ℤ)). unfound s.program t.known b < unfound s.program s.known s.bound) (sym r.1)
     (subst (λ (k : List Atoms). unfound s.program k (Some (cost s.program S)) < unfound s.program s.known s.bound) (sym r.0) (fewer-lower s.program s.known s.bound S stable new less))
+
+-- the same, by the searches' own modes
+fewer-used : (mode : Mode) (s t : Searching) → s.mode ≡ mode → t.mode ≡ s.mode → unfound s.program (used_up (reasoning_of mode) s.program t.known) t.bound < unfound s.program (used_up (reasoning_of mode) s.program s.known) s.bound →
+    unfound s.program (used_up (reasoning_of t.mode) s.program t.known) t.bound < unfound s.program (used s) s.bound
+fewer-used mode s t is same h =
+    subst (λ (m : Mode). unfound s.program (used_up (reasoning_of m) s.program t.known) t.bound < unfound s.program (used s) s.bound) (sym (same ∙ is))
+    (subst (λ (m : Mode). unfound s.program (used_up (reasoning_of mode) s.program t.known) t.bound < unfound s.program (used_up (reasoning_of m) s.program s.known) s.bound) (sym is) h)
 
 pub answered : (gives : Nogood → Type 0) (silent : List (Option Bool) → Type 0) (mode : Mode) (v w : Booked) (s t : Searching) (f g : Units) (is : IsUnderway mode v s f) (r : Step) (h : IsStep gives silent s t f g r) (S : Atoms) → r ≡ step.Answer S →
     OnlyRecords v w → IsRecorded mode (board v) (board w) S → Goes mode v w s t f g Open
@@ -211,13 +237,14 @@ answered gives silent mode v w s t f g is r h S e only done =
     let d = at gives silent s t f g r (step.Answer S) e h path.0 path.1 in
     let records = subst (λ (m : Mode). Records m s t path.0 S) is.ready.mode_is d.records in
     let small : t.learnt < 2 ^ 64 = subst (λ k. k < 2 ^ 64) (sym d.learnt) is.learnt in
+    let new : list_any (same_set S) (used_up (reasoning_of mode) s.program s.known) ≡ false = ap (λ (m : Mode). list_any (same_set S) (used_up (reasoning_of m) s.program s.known)) (sym is.ready.mode_is) ∙ d.new in
     subst (λ (u : Units). Goes mode v w s t f u Open) (sym d.fuel) (record {
       underway = record {
         ready = record {
           task = subst HasNoQuery (sym only.task) is.ready.task;
           program = d.program ∙ is.ready.program ∙ ap (λ (x : Task). x.program) (sym only.task);
           mode_is = d.mode ∙ is.ready.mode_is;
-          work = work-recorded mode (board v) (board w) s t path.0 f S (program-is mode v s f is.ready) is.ready.work d.new records done;
+          work = work-recorded mode (board v) (board w) s t path.0 f S (program-is mode v s f is.ready) is.ready.work new records done;
         };
         entered = subst (λ (x : Task). IsEntered x t.cube) (sym only.task) (subst (IsEntered v.task) (sym d.cube) is.entered);
         learnt = small;
@@ -225,9 +252,9 @@ answered gives silent mode v w s t f g is r h S e only done =
       only = only;
       cube = d.cube;
       course =
-          subst (λ (p : Program). work f.left (length (models p)) (unfound p t.known t.bound) t.learnt (var_count p + 1) (length t.entries) < work_left s f) (sym d.program)
-          (work-found f.left (length (models s.program)) (unfound s.program s.known s.bound) s.learnt (var_count s.program + 1) (length s.entries) (unfound s.program t.known t.bound) t.learnt (length t.entries)
-          (fewer-by mode s t path.0 S d.stable d.new d.cheaper records) small);
+          subst (λ (p : Program). work f.left (length (models p)) (unfound p (used_up (reasoning_of t.mode) p t.known) t.bound) t.learnt (var_count p + 1) (length t.entries) < work_left s f) (sym d.program)
+          (work-found f.left (length (models s.program)) (unfound s.program (used s) s.bound) s.learnt (var_count s.program + 1) (length s.entries) (unfound s.program (used_up (reasoning_of t.mode) s.program t.known) t.bound) t.learnt (length t.entries)
+          (fewer-used mode s t is.ready.mode_is d.mode (fewer-by mode s t path.0 S d.stable new d.cheaper records)) small);
     })
 
 -- ---- what a step asks

@@ -3,7 +3,8 @@ use Rattle.std.specs.Prelude.{◌≡◌, ◌⊎◌, Bool, true, ℕ, ◌+◌, �
 use Rattle.std.specs.Option.{IfSome}
 use Rattle.asp_model.specs.declared.program.Program.{Program}
 use Rattle.asp_model.specs.declared.results.Mode.{Mode}
-use Rattle.asp_model.specs.declared.results.Mode.TheVariants.{Enum, Opt}
+use Rattle.asp_model.specs.declared.results.Mode.TheVariants.{Enum, Opt, Consequences}
+use Rattle.asp_model.specs.declared.results.Ask.{Ask}
 use Rattle.asp_model.specs.Sets.{Atoms}
 use Rattle.asp_model.specs.Models.{models}
 use Rattle.asp_model.specs.Costs.{cost, betters}
@@ -21,16 +22,16 @@ use Rattle.asp_core.specs.Boards.{Board, is_enough, is_excused, lists, optimises
 use Rattle.asp_core.specs.Events.{Guard, happens}
 use Rattle.asp_core.specs.Invariant.{IsCube}
 use Rattle.asp_book.specs.Books.{Booked, board}
-use Rattle.asp_search_laws.specs.Searching.{Searching}
-use Rattle.asp_crew_laws.specs.Runs.{asks, task_of}
+use Rattle.asp_search_laws.specs.Searching.{Searching, used}
+use Rattle.asp_crew_laws.specs.Runs.{task_of}
 use Rattle.asp_crew_laws.specs.Reports.{IsIdle, IsMet, IsUnpaidAt, IsWorkedOff}
 use Rattle.asp_crew_laws.specs.Working.{IsAtWork}
 use Rattle.asp_crew.specs.declared.leaf.Course.{Course}
 use Rattle.asp_crew.specs.declared.leaf.Course.TheVariants.{Open, Closed, Unpaid}
 
--- how many stable models are neither known nor too dear
+-- how many stable models are neither used up nor too dear
 abbrev pub unfound : Program → List Atoms → Option (List ℤ) → ℕ
-unfound p known bound = length (filter (λ S. not (is_done p known bound S)) (models p))
+unfound p gone bound = length (filter (λ S. not (is_done p gone bound S)) (models p))
 
 -- Units, models not yet found of so many models, nogoods learnt since the last restart, and entries that have room yet: a step
 -- lowers the first of them that it changes, and so this number. (A trail has no more entries than variables and one.)
@@ -38,11 +39,11 @@ abbrev pub work : ℕ → ℕ → ℕ → ℕ → ℕ → ℕ → ℕ
 work units models unseen learnt vars entries = ((units * (models + 1) + unseen) * 2 ^ 64 + learnt) * (vars + 1) + (vars - entries)
 
 abbrev pub work_left : Searching → Units → ℕ
-work_left s f = work f.left (length (models s.program)) (unfound s.program s.known s.bound) s.learnt (var_count s.program + 1) (length s.entries)
+work_left s f = work f.left (length (models s.program)) (unfound s.program (used s) s.bound) s.learnt (var_count s.program + 1) (length s.entries)
 
--- The task is that of a run's first search in this mode.
-abbrev pub IsRunIn : Mode → Task → Type 0
-IsRunIn mode t = t ≡ task_of t.program (asks mode t.limit) t.budget
+-- The task is that of the first search of a run which is asked for this.
+abbrev pub IsRunFor : Ask → Task → Type 0
+IsRunFor ask t = t ≡ task_of t.program ask t.budget
 
 -- Every answer of the program is an answer of the task.
 abbrev pub HasNoQuery : Task → Type 0
@@ -83,10 +84,12 @@ pub record IsUnbettered (b : Board) (S : Atoms) : Type 0 where
 abbrev pub MayRecord : Mode → Task → Atoms → Type 0
 MayRecord Enum t S = IsTrue (lists t S)
 MayRecord Opt t S = IsTrue (optimises t.goal)
+MayRecord (Consequences r) t S = IsTrue (lists t S)
 
 -- The answer was delivered; or it is the best, if none stood that it doesn't better.
 abbrev pub IsRecorded : Mode → Board → Board → Atoms → Type 0
 IsRecorded Enum b c S = Guard b (event.Deliver 0 S) × (c ≡ happens b (event.Deliver 0 S))
+IsRecorded (Consequences r) b c S = Guard b (event.Deliver 0 S) × (c ≡ happens b (event.Deliver 0 S))
 IsRecorded Opt b c S = (Guard b (event.Improve 0 S) × (c ≡ happens b (event.Improve 0 S))) ⊎ ((c ≡ b) × IsUnbettered b S)
 
 -- Each stable model below the path is excused.

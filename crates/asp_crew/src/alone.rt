@@ -1,5 +1,6 @@
 //! A run of one search, which waits for nobody.
 ghost use Rattle.std.specs.Prelude.{◌≡◌, true, false, None, IfOk};
+ghost use Rattle.asp_model.specs.Asked.{reasoning_of};
 ghost use Rattle.asp_crew_laws.specs.Reports.{IsReport};
 ghost use Rattle.asp_crew_laws.specs.Runs.{asks};
 ghost use Rattle.asp_crew_laws.specs.Proofs.{HasProof};
@@ -41,14 +42,14 @@ fn first<W: Watch>(
         compiled,
         Goal::of(ask.mode),
         budget,
-        ask.models,
+        ask.limit(),
         [].as_slice(),
     )?;
     let mut book = Book::new(alloc, compiled, state);
     let unpaid = finish_program(
         alloc, compiled, ask.mode, None, &mut book, counts, watch, recorder,
     )?;
-    Ok(reported(ask.mode, book, unpaid, 0, false))
+    Ok(reported(ask, book, unpaid, 0, false))
 }
 
 // A run that writes down nothing, with a second search where all optima are asked for.
@@ -107,7 +108,7 @@ pub fn solve_alone<W: Watch>(
     counts: &mut Counts,
     watch: &mut W,
 ) -> Result<Report, AllocError>
-    requires { proof ≡ true → ask.all_optima ≡ false }
+    requires { proof ≡ true → (ask.all_optima ≡ false) × (reasoning_of ask.mode ≡ None) }
     ensures report { IfOk result (IsReport compiled.now ask budget) }
     ensures log { IfOk result (λ r. r.log ≡ 0) }
     ensures short { IfOk result (λ r. r.short ≡ false) }

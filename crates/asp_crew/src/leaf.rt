@@ -50,7 +50,7 @@ fn record(book: &mut Book, mode: Mode, set: Interp) -> Result<(), AllocError>
     ensures recorded { OnOk result (IsRecorded mode (board book.old) (board book.new) set) }
 {
     match mode {
-        Mode::Enum => {
+        Mode::Enum | Mode::Consequences(_) => {
             let _listed = book.deliver(0, set)?;
             Ok(())
         }
@@ -123,7 +123,7 @@ fn tell<P: Propagator, W: Watch>(mode: Mode, search: &Search<'_, P>, counts: &Co
     ensures { W.IsAfter watch.old watch.new }
 {
     match mode {
-        Mode::Enum => watch.tell(counts, None),
+        Mode::Enum | Mode::Consequences(_) => watch.tell(counts, None),
         Mode::Opt => watch.tell(counts, search.bound()),
     }
 }

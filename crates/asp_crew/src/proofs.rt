@@ -16,7 +16,7 @@ fn is_opt(mode: Mode) -> bool
     ensures { result ≡ is_opt mode }
 {
     match mode {
-        Mode::Enum => false,
+        Mode::Enum | Mode::Consequences(_) => false,
         Mode::Opt => true,
     }
 }
@@ -34,6 +34,7 @@ fn recorded(results: &Results) -> &[Interp]
             },
             [_, ..] => results.answers.as_slice(),
         },
+        Mode::Consequences(_) => &[],
     }
 }
 

@@ -3,11 +3,11 @@ ghost use Rattle.std.specs.Prelude.{◌≡◌, None};
 ghost use Rattle.asp_book.specs.Books.{board, IsJournalOf};
 ghost use Rattle.asp_crew_laws.specs.Reports.{IsIdle, IsReport, IsToldBy, IsWorkedOff, end_by};
 ghost use Rattle.asp_crew_laws.specs.Runs.{asks};
-ghost use Rattle.asp_crew.specs.Running.{IsRunIn};
+ghost use Rattle.asp_crew.specs.Running.{IsRunFor};
 
 use crate::report::Report;
 use asp_book::book::Book;
-use asp_model::results::{End, Mode, Results};
+use asp_model::results::{Ask, End, Mode, Results};
 use asp_model::seq::Seq;
 use asp_vars::fuel::Conflict;
 
@@ -47,7 +47,7 @@ pub(crate) fn told(
     let end = end_by(state.enough(), state.finished());
     let leaves = state.leaves();
     let spent = state.spent();
-    let (mut answers, best) = state.into_found();
+    let (mut answers, best, known) = state.into_found();
     answers.sort_unstable();
     answers.dedup();
     Report {
@@ -56,6 +56,7 @@ pub(crate) fn told(
             end,
             answers: Seq::from_vec(answers),
             best,
+            known,
         },
         journal: Seq::from_vec(journal),
         second: None,
@@ -70,16 +71,16 @@ pub(crate) fn told(
 }
 
 /// The report of a run's first search.
-pub fn reported(mode: Mode, book: Book, unpaid: Option<Conflict>, log: u32, short: bool) -> Report
-    requires task { IsRunIn mode book.task }
+pub fn reported(ask: Ask, book: Book, unpaid: Option<Conflict>, log: u32, short: bool) -> Report
+    requires task { IsRunFor ask book.task }
     requires idle { IsIdle (board book) }
     requires over { IsWorkedOff (board book) unpaid }
-    ensures report { IsReport book.task.program (asks mode book.task.limit) book.task.budget result }
+    ensures report { IsReport book.task.program (asks ask.mode ask.models) book.task.budget result }
     ensures journal { result.journal ≡ book.journal }
     ensures second { result.second ≡ None }
     ensures log { result.log ≡ log }
     ensures short { result.short ≡ short }
     ensures proof { result.proof ≡ None }
 {
-    told(mode, book, unpaid, log, short)
+    told(ask.mode, book, unpaid, log, short)
 }

@@ -160,6 +160,7 @@ fn joined(first: Report, ties: Report) -> Report
             end: found.end,
             answers: found.answers,
             best: results.best,
+            known: results.known,
         },
         journal,
         second: Some(second),

@@ -1,37 +1,32 @@
 -- What a lawful journal says after which every leaf is closed.
-use Rattle.std.proofs.Common.{◌≡◌, ℕ, Bool, true, false, cond, ◌||◌, ◌&&◌, List, [], ◌∷◌, ◌++◌, filter, fold, get_or, Option, Some, None, refl, sym, ap, ◌∙◌, subst, arith}
+use Rattle.std.proofs.Common.{◌≡◌, ℕ, true, false, ◌||◌, List, [], ◌∷◌, filter, get_or, Option, Some, None, refl, sym, ap, ◌∙◌, subst}
 use Rattle.std.specs.Prelude.{IsTrue, MatchOption, option_map, ℤ}
-use Rattle.std.specs.List.{list_any, AllByRecursion, dedup, dedup_from}
-use Rattle.std.specs.List.Sorted.{IsPermutation, IsSorted, IsStrictlySortedBy}
+use Rattle.std.specs.List.{list_any, AllByRecursion}
+use Rattle.std.specs.List.Sorted.{IsPermutation, IsSorted}
 use Rattle.std.specs.List.Retain.{IsFiltered, DiffersFromLast}
-use Rattle.std.specs.Cmp.Lexicographic.{same_text}
-use Rattle.std.specs.Ordering.{is_eq}
-use Rattle.std.specs.declared.cmp.Ordering.TheVariants.{Less}
 use Rattle.std.proofs.lemmas.Bool.{false≢true}
 use Rattle.std.specs.Option.{IfSome}
 use Rattle.std.proofs.lemmas.List.{append-nil}
 use Rattle.std.proofs.lemmas.List.Elements.{Contains-get_or}
 use Rattle.std.proofs.lemmas.List.Folds.{list_any_none}
-use Rattle.std.proofs.lemmas.List.Filters.{dedup_is}
-use Rattle.std.proofs.lemmas.List.Kept.{IsStrictlySortedBy-dedup}
-use Rattle.std.proofs.lemmas.List.Sorted.{list_any-IsPermutation}
 use Rattle.asp_model.specs.declared.program.Program.{Program}
 use Rattle.asp_model.specs.declared.results.Ask.{Ask}
 use Rattle.asp_model.specs.declared.results.Mode.{Mode}
-use Rattle.asp_model.specs.declared.results.Mode.TheVariants.{Enum, Opt}
+use Rattle.asp_model.specs.declared.results.Mode.TheVariants.{Enum, Opt, Consequences}
+use Rattle.asp_model.specs.Asked.{reasoning_of}
+use Rattle.asp_model.specs.Consequences.{consequences_of}
 use Rattle.asp_model.specs.Sets.{Atoms, same_set, set_cmp}
 use Rattle.asp_model.specs.Holding.{all_hold}
 use Rattle.asp_model.specs.Models.{models, answers}
 use Rattle.asp_model.specs.Costs.{cost, betters}
 use Rattle.asp_model.proofs.ListedLaws.{contains_from_test, test_from_contains}
-use Rattle.asp_model.specs.Orders.{sets_total, sets_tie}
 use Rattle.asp_core.specs.declared.event.Event.{Event}
 use Rattle.asp_core.specs.declared.goal.Goal.TheVariants as goal
 use Rattle.asp_core.specs.declared.task.Task.{Task}
-use Rattle.asp_core.specs.Boards.{Board, start, wanted, lists, lists_by, optimises, is_answer, IsQuery}
+use Rattle.asp_core.specs.Boards.{Board, common_by, listed_by, start, lists, lists_by, optimises, is_answer, IsQuery}
 use Rattle.asp_core.specs.Events.{IsLawful, replay}
-use Rattle.asp_core.specs.Invariant.{IsBoard, IsOptimum, HasResult}
-use Rattle.asp_core.specs.Sorting.{with_set, sorted_once, answers_of}
+use Rattle.asp_core.specs.Invariant.{IsOptimum}
+use Rattle.asp_core.specs.Sorting.{sorted_once, answers_of}
 use Rattle.asp_core.proofs.SortingLaws.{same_itself, has-answers_of, once-is}
 use Rattle.asp_core.proofs.ResultLaws.{HasResult-finished, IsBoard-replay, task-run}
 use Rattle.asp_path.specs.Trees.{all_closed}
@@ -74,9 +69,15 @@ sorted-nil A e = ap sorted_once e
 query-none : (p : Program) (ask : Ask) (budget : ℕ) → IsQuery (task_of p ask budget).program (task_of p ask budget).query
 query-none p ask budget = tt
 
+-- No best stands where none is sought.
+pub none-best : (t : Task) (best : Option Atoms) → optimises t.goal ≡ false → IfSome best (λ S. IsTrue (optimises t.goal) × IsTrue (is_answer t S)) → best ≡ None
+none-best t None q h = refl
+none-best t (Some S) q h = absurd (false≢true (sym q ∙ h.0))
+
 module _ (p : Program) (n budget : ℕ) (journal : List Event) (L : List Atoms) where
   found-by : (mode : Mode) → IsLawful (start (task_of p (asks mode n) budget)) journal → all_closed (replay (task_of p (asks mode n) budget) journal).nodes ≡ true →
-      L ≡ sorted_once (replay (task_of p (asks mode n) budget) journal).answers → IsFound p mode L (option_map (with_cost p) (replay (task_of p (asks mode n) budget) journal).best)
+      L ≡ sorted_once (listed_by (reasoning_of mode) (replay (task_of p (asks mode n) budget) journal).answers) →
+      IsFound p mode L (option_map (with_cost p) (replay (task_of p (asks mode n) budget) journal).best) (common_by (reasoning_of mode) p (replay (task_of p (asks mode n) budget) journal).answers)
   found-by Enum lawful closed sorted =
       let t : Task = task_of p (asks Enum n) budget in
       let b : Board = replay t journal in
@@ -94,10 +95,23 @@ module _ (p : Program) (n budget : ℕ) (journal : List Event) (L : List Atoms) 
         best-by p n budget b.best (subst (λ (x : Task). MatchOption b.best ((S : Atoms) → is_answer x S ≡ false) (IsOptimum x)) task (HasResult-finished t journal tt lawful closed)),
       )
 
+  found-by (Consequences r) lawful closed sorted =
+      let t : Task = task_of p (asks (Consequences r) n) budget in
+      let b : Board = replay t journal in
+      let is = IsBoard-replay t journal tt lawful in
+      let task : b.task ≡ t = task-run (start t) journal in (
+        sorted,
+        ap (option_map (with_cost p)) (none-best b.task b.best (ap (λ (x : Task). optimises x.goal) task) is.best),
+        ap (λ (x : Task). consequences_of r x.program b.answers) (sym task) ∙ HasResult-finished t journal tt lawful closed ∙ ap (λ (x : Task). consequences_of r x.program (answers_of x)) task
+            ∙ ap (consequences_of r p) (answers-same p (asks (Consequences r) n) budget),
+      )
+
 pub found-once : (p : Program) (ask : Ask) (budget : ℕ) (journal : List Event) (L : List Atoms) → IsLawful (start (task_of p ask budget)) journal → all_closed (replay (task_of p ask budget) journal).nodes ≡ true →
-    L ≡ sorted_once (replay (task_of p ask budget) journal).answers → IsFound p ask.mode L (option_map (with_cost p) (replay (task_of p ask budget) journal).best)
+    L ≡ sorted_once (listed_by (reasoning_of ask.mode) (replay (task_of p ask budget) journal).answers) →
+    IsFound p ask.mode L (option_map (with_cost p) (replay (task_of p ask budget) journal).best) (common_by (reasoning_of ask.mode) p (replay (task_of p ask budget) journal).answers)
 found-once p ask budget journal L = found-by p ask.models budget journal L ask.mode
 
 pub found : (p : Program) (ask : Ask) (budget : ℕ) (journal : List Event) (M L : List Atoms) → IsLawful (start (task_of p ask budget)) journal → all_closed (replay (task_of p ask budget) journal).nodes ≡ true →
-    IsPermutation (replay (task_of p ask budget) journal).answers M → IsSorted set_cmp M → IsFiltered (DiffersFromLast same_set) [] M L → IsFound p ask.mode L (option_map (with_cost p) (replay (task_of p ask budget) journal).best)
-found p ask budget journal M L lawful closed moved sorted kept = found-once p ask budget journal L lawful closed (once-is (replay (task_of p ask budget) journal).answers M L moved sorted kept)
+    IsPermutation (listed_by (reasoning_of ask.mode) (replay (task_of p ask budget) journal).answers) M → IsSorted set_cmp M → IsFiltered (DiffersFromLast same_set) [] M L →
+    IsFound p ask.mode L (option_map (with_cost p) (replay (task_of p ask budget) journal).best) (common_by (reasoning_of ask.mode) p (replay (task_of p ask budget) journal).answers)
+found p ask budget journal M L lawful closed moved sorted kept = found-once p ask budget journal L lawful closed (once-is (listed_by (reasoning_of ask.mode) (replay (task_of p ask budget) journal).answers) M L moved sorted kept)

@@ -1,27 +1,23 @@
 -- A worker's units may come back: its conflicts knew no more answers than were delivered, and no bound below the best's cost.
-use Rattle.std.proofs.Common.{◌≡◌, ℕ, suc, ◌+◌, ◌≤◌, Bool, true, false, not, cond, ◌||◌, List, [], ◌∷◌, ◌++◌, length, filter, Option, Some, None, refl, sym, ap, ◌∙◌, subst, arith}
-use Rattle.std.specs.Prelude.{ℤ, IsTrue, option_map}
-use Rattle.std.specs.Option.{IfSome}
+use Rattle.std.proofs.Common.{◌≡◌, ℕ, suc, ◌+◌, ◌≤◌, Bool, true, false, not, cond, ◌||◌, List, [], ◌∷◌, length, filter, Option, Some, None, refl, sym, ap, ◌∙◌, subst, arith}
+use Rattle.std.specs.Prelude.{ℤ, IsTrue}
 use Rattle.std.specs.List.{list_any, AllByRecursion}
 use Rattle.std.specs.Cmp.Lexicographic.{same_text}
 use Rattle.std.proofs.lemmas.Bool.{false≢true}
-use Rattle.std.proofs.lemmas.List.{length-append}
 use Rattle.asp_model.specs.declared.program.Program.{Program}
+use Rattle.asp_model.specs.Consequences.{used_up}
+use Rattle.asp_model.proofs.ConsequenceLaws.{used-none}
 use Rattle.asp_model.specs.Sets.{Atoms, same_set}
 use Rattle.asp_model.specs.Costs.{cost, betters}
 use Rattle.asp_vars.specs.Entailment.{costs, costs_bound, is_done}
-use Rattle.asp_vars.specs.Paid.{Units, IsAtLeast}
 use Rattle.asp_vars.proofs.ResolutionLaws.{betters_trans, betters_itself, not_true}
 use Rattle.asp_core.specs.declared.event.Event.TheVariants as event
 use Rattle.asp_core.specs.declared.goal.Goal.{Goal}
 use Rattle.asp_core.specs.declared.goal.Goal.TheVariants as goal
-use Rattle.asp_core.specs.Boards.{Board, IsBoundOf, IsBoundBy, bound_by, bound_of, is_excused, distinct}
+use Rattle.asp_core.specs.Boards.{Board, IsBoundOf, IsBoundBy, bound_by, is_excused, sought, used}
 use Rattle.asp_core.specs.Events.{happens}
-use Rattle.asp_core.specs.Growth.{Grows}
-use Rattle.asp_core.specs.Sorting.{sorted_once}
-use Rattle.asp_core.proofs.SortingLaws.{same_itself}
-use Rattle.asp_core.proofs.CountLaws.{length-sorted_once}
 use Rattle.asp_crew_laws.specs.Agrees.{Agrees, AreApart}
+use Rattle.asp_crew_laws.proofs.AgreeLaws.{none-recorded}
 
 -- ---- as many different members as a list has
 
@@ -77,25 +73,29 @@ or-right false b h = h
 
 excused-by : (b : Board) (S T : Atoms) → b.task.goal ≡ goal.Opt → b.best ≡ Some S → costs b.task.program (cost b.task.program S) T ≡ true → is_excused b T ≡ true
 excused-by b S T e best h =
-    ap (λ (o : Option (List ℤ)). list_any (same_set T) b.answers || costs_bound b.task.program o T) (ap (λ g. bound_by g b.task.program b.best) e ∙ ap (bound_by goal.Opt b.task.program) best)
-    ∙ or-right (list_any (same_set T) b.answers) (costs b.task.program (cost b.task.program S) T) h
+    ap (λ (o : Option (List ℤ)). list_any (same_set T) (used b) || costs_bound b.task.program o T) (ap (λ g. bound_by g b.task.program b.best) e ∙ ap (bound_by goal.Opt b.task.program) best)
+    ∙ or-right (list_any (same_set T) (used b)) (costs b.task.program (cost b.task.program S) T) h
 
 bound-is : (b : Board) (S : Atoms) (c : List ℤ) → b.task.goal ≡ goal.Opt → b.best ≡ Some S → betters c (cost b.task.program S) ≡ false → IsBoundOf b c
 bound-is b S c e best h = subst (λ g. IsBoundBy g b.task.program b.best c) (sym e) (subst (λ o. IsBoundBy goal.Opt b.task.program o c) (sym best) h)
 
+-- what is done where nothing is known is too dear
+none-known : (g : Goal) (p : Program) (c : List ℤ) (T : Atoms) → is_done p (used_up (sought g) p []) (Some c) T ≡ true → costs p c T ≡ true
+none-known g p c T h = sym (ap (λ x. x || costs p c T) (used-none (sought g) p T)) ∙ h
+
 -- the search's answer is the best now
 pub agrees-improved : (b : Board) (s : ℕ) (S : Atoms) → b.task.goal ≡ goal.Opt → Agrees (happens b (event.Improve s S)) [] (Some (cost b.task.program S))
 agrees-improved b s S e = record {
-  excused = λ T h. excused-by (happens b (event.Improve s S)) S T e refl h;
-  listed = tt;
+  excused = λ T h. excused-by (happens b (event.Improve s S)) S T e refl (none-known b.task.goal b.task.program (cost b.task.program S) T h);
+  recorded = none-recorded (sought b.task.goal) b.task.program b.answers;
   bounded = bound-is (happens b (event.Improve s S)) S (cost b.task.program S) e refl (betters_itself (cost b.task.program S));
 }
 
 -- or a best that it doesn't better stands
 pub agrees-unimproved : (b : Board) (S B : Atoms) → b.task.goal ≡ goal.Opt → b.best ≡ Some B → betters (cost b.task.program S) (cost b.task.program B) ≡ false → Agrees b [] (Some (cost b.task.program S))
 agrees-unimproved b S B e best h = record {
-  excused = λ T k. excused-by b B T e best (ap not (betters_trans (cost b.task.program T) (cost b.task.program S) (cost b.task.program B) (not_true (betters (cost b.task.program T) (cost b.task.program S)) k) h));
-  listed = tt;
+  excused = λ T k. excused-by b B T e best (ap not (betters_trans (cost b.task.program T) (cost b.task.program S) (cost b.task.program B) (not_true (betters (cost b.task.program T) (cost b.task.program S)) (none-known b.task.goal b.task.program (cost b.task.program S) T k)) h));
+  recorded = none-recorded (sought b.task.goal) b.task.program b.answers;
   bounded = bound-is b B (cost b.task.program S) e best h;
 }
 
@@ -107,6 +107,7 @@ bound-later b c d e h k = here b.task.goal refl b.best h
     here goal.Enum q o h = absurd h
     here goal.Opt q None h = absurd h
     here goal.Opt q (Some B) h = betters_trans d c (cost b.task.program B) k h
+    here (goal.Consequences r) q o h = absurd h
     here (goal.Ties u) q o h = absurd (apart u (q ∙ e))
       where
         apart : (u : Option (List ℤ)) → goal.Ties u ≡ goal.Opt → ⊥
@@ -116,3 +117,4 @@ bound-later b c d e h k = here b.task.goal refl b.best h
             is_opt goal.Opt = true
             is_opt goal.Enum = false
             is_opt (goal.Ties c) = false
+            is_opt (goal.Consequences r) = false

@@ -7,7 +7,10 @@ use Rattle.std.proofs.lemmas.List.Kept.{AllPairs-filter}
 use Rattle.asp_model.specs.declared.program.Program.{Program}
 use Rattle.asp_model.specs.declared.results.Ask.{Ask}
 use Rattle.asp_model.specs.declared.results.Mode.{Mode}
-use Rattle.asp_model.specs.declared.results.Mode.TheVariants.{Enum, Opt}
+use Rattle.asp_model.specs.declared.results.Mode.TheVariants.{Enum, Opt, Consequences}
+use Rattle.asp_model.specs.declared.results.Reasoning.{Reasoning}
+use Rattle.asp_model.specs.Asked.{limit_of, reasoning_of}
+use Rattle.asp_model.specs.Consequences.{consequences_of}
 use Rattle.asp_model.specs.declared.results.End.{End}
 use Rattle.asp_model.specs.declared.results.End.TheVariants.{Finished, Limited, Unfinished}
 use Rattle.asp_model.specs.declared.results.Results.{Results}
@@ -19,32 +22,38 @@ use Rattle.asp_model.proofs.ModelLaws.{answers-rise}
 use Rattle.asp_model.proofs.SubsetLaws.{pairs_from_rising}
 use Rattle.asp_core.specs.declared.event.Event.{Event}
 use Rattle.asp_core.specs.declared.task.Task.{Task}
-use Rattle.asp_core.specs.Boards.{start, IsQuery}
+use Rattle.asp_core.specs.Boards.{sought, start, IsQuery}
 use Rattle.asp_core.proofs.ResultLaws.{IsBoard-replay, task-run}
 use Rattle.asp_crew_laws.specs.declared.report.Report.{Report}
 use Rattle.asp_crew_laws.specs.Runs.{task_of, ties_of, IsBest}
 use Rattle.asp_crew_laws.specs.Reports.{IsAllFound, IsAsked, IsPartOf, IsPlayed, IsPlayedBy, IsPriced, IsReport, Says}
-use Rattle.asp_crew_laws.proofs.PlayedLaws.{under-limit}
+use Rattle.asp_crew_laws.proofs.PlayedLaws.{sought-mode, under-limit}
 
 -- A run that ended at its limit has as many answers as were asked for.
 pub exact : (p : Program) (ask : Ask) (units : ℕ) (r : Report) → IsReport p ask units r → r.results.end ≡ Limited → length r.results.answers ≡ ask.models
 exact p ask units r is q = let asked : IsAsked p ask r.results = subst (Says p ask r) q is.says in asked.count
 
 -- One that ended otherwise has fewer.
-under : (t : Task) (r : Report) → IsQuery t.program t.query → IsPlayed t r → (r.results.end ≡ Limited → ⊥) → 0 < t.limit → length r.results.answers < t.limit
-under t r query is = under-limit t r is (IsBoard-replay t r.journal query is.lawful) (task-run (start t) r.journal)
+under : (t : Task) (r : Report) → IsQuery t.program t.query → sought t.goal ≡ None → IsPlayed t r → (r.results.end ≡ Limited → ⊥) → 0 < t.limit → length r.results.answers < t.limit
+under t r query none is = under-limit t r is (IsBoard-replay t r.journal query is.lawful) (task-run (start t) r.journal) none
 
-pub fewer : (p : Program) (ask : Ask) (units : ℕ) (r : Report) → IsReport p ask units r → (r.results.end ≡ Limited → ⊥) → 0 < ask.models → length r.results.answers < ask.models
-fewer p ask units r is other some = here r.second is.played
+limit-listed : (mode : Mode) (n : ℕ) → reasoning_of mode ≡ None → limit_of mode n ≡ n
+limit-listed Enum n e = refl
+limit-listed Opt n e = refl
+limit-listed (Consequences w) n e = absurd (some e)
   where
-    here : (o : Option (List Event)) → IsPlayedBy o p ask units r → length r.results.answers < ask.models
-    here None played = under (task_of p ask units) r tt played other some
-    here (Some second) twice =
-        omega (
-          arith,
-          under (ties_of p ask twice.best.1 twice.first.paid.left) twice.ties tt twice.again (λ e. other (ap (λ (x : Report). x.results.end) twice.both ∙ e)) some,
-          ap (λ (x : Report). length x.results.answers) twice.both,
-        )
+    some : Some w ≡ None → ⊥
+    some e = cc
+
+none-some : (w : Reasoning) → None ≡ Some w → ⊥
+none-some w e = cc
+
+-- where consequences are sought none is listed
+none-told : (all : Bool) (p : Program) (mode : Mode) (w : Reasoning) (r : Results) → reasoning_of mode ≡ Some w → IsPartOf all p mode r → r.answers ≡ []
+none-told all p Enum w r e part = absurd (none-some w e)
+none-told all p Opt w r e part = absurd (none-some w e)
+none-told false p (Consequences v) w r e part = part.0
+none-told true p (Consequences v) w r e part = part.0
 
 -- ---- a part of the answers
 all-chosen : (L : List Atoms) → filter (λ (S : Atoms). true) L ≡ L
@@ -55,7 +64,9 @@ best-priced : (p : Program) (best : Option (Atoms × List ℤ)) → IsBest p bes
 best-priced p None h = tt
 best-priced p (Some best) h = (h.answer, h.sums)
 
-found-part : (all : Bool) (p : Program) (mode : Mode) (r : Results) → IsAllFound all p mode r.answers r.best → IsPartOf all p mode r
+found-part : (all : Bool) (p : Program) (mode : Mode) (r : Results) → IsAllFound all p mode r.answers r.best r.known → IsPartOf all p mode r
+found-part false p (Consequences w) r h = (h.0, h.1, ((λ S. true), h.2 ∙ ap (consequences_of w p) (sym (all-chosen (answers p)))))
+found-part true p (Consequences w) r h = (h.0, h.1, ((λ S. true), h.2 ∙ ap (consequences_of w p) (sym (all-chosen (answers p)))))
 found-part false p Enum r h = (((λ S. true), h.0 ∙ sym (all-chosen (answers p))), h.1)
 found-part false p Opt r h = (h.0, best-priced p r.best h.1)
 found-part true p Enum r h = (((λ S. true), h.0 ∙ sym (all-chosen (answers p))), h.1)
@@ -65,6 +76,24 @@ says-part : (p : Program) (ask : Ask) (r : Report) (e : End) → Says p ask r e 
 says-part p ask r Finished h = found-part ask.all_optima p ask.mode r.results h
 says-part p ask r Limited h = h.part
 says-part p ask r Unfinished h = h.0
+
+pub fewer : (p : Program) (ask : Ask) (units : ℕ) (r : Report) → IsReport p ask units r → (r.results.end ≡ Limited → ⊥) → 0 < ask.models → length r.results.answers < ask.models
+fewer p ask units r is other some = cases (reasoning_of ask.mode) refl
+  where
+    here : reasoning_of ask.mode ≡ None → (o : Option (List Event)) → IsPlayedBy o p ask units r → length r.results.answers < ask.models
+    here none None played =
+        let limit : limit_of ask.mode ask.models ≡ ask.models = limit-listed ask.mode ask.models none in
+        omega (arith, under (task_of p ask units) r tt (sought-mode ask.mode ∙ none) played other (omega (arith, some, limit)), limit)
+    here none (Some second) twice =
+        omega (
+          arith,
+          under (ties_of p ask twice.best.1 twice.first.paid.left) twice.ties tt refl twice.again (λ e. other (ap (λ (x : Report). x.results.end) twice.both ∙ e)) some,
+          ap (λ (x : Report). length x.results.answers) twice.both,
+        )
+
+    cases : (k : Option Reasoning) → reasoning_of ask.mode ≡ k → length r.results.answers < ask.models
+    cases None e = here e r.second is.played
+    cases (Some w) e = omega (arith, some, ap length (none-told ask.all_optima p ask.mode w r.results e (says-part p ask r r.results.end is.says)))
 
 -- They are distinct answers of the program, in their order.
 chosen-order : (chosen : Atoms → Bool) (L M : List Atoms) → L ≡ filter chosen M → AllPairs IsBefore M → AllPairs IsBefore L
@@ -79,6 +108,8 @@ optima-order p = chosen-order (λ S. not (list_any (λ T. betters (cost p T) (co
 part-order : (all : Bool) (p : Program) (mode : Mode) (r : Results) → IsPartOf all p mode r → AllPairs IsBefore r.answers
 part-order false p Enum r part = chosen-order part.0.0 r.answers (answers p) part.0.1 (answers-rise p)
 part-order false p Opt r part = none-order r.answers part.0
+part-order false p (Consequences w) r part = none-order r.answers part.0
+part-order true p (Consequences w) r part = none-order r.answers part.0
 part-order true p Enum r part = chosen-order part.0.0 r.answers (answers p) part.0.1 (answers-rise p)
 part-order true p Opt r part = chosen-order part.0.0 r.answers (optima p) part.0.1 (optima-order p)
 
@@ -100,6 +131,8 @@ chosen-has chosen L M S e h = any-filtered (same_set S) chosen M (sym (ap (list_
 part-has : (all : Bool) (p : Program) (mode : Mode) (r : Results) (S : Atoms) → IsPartOf all p mode r → list_any (same_set S) r.answers ≡ true → list_any (same_set S) (answers p) ≡ true
 part-has false p Enum r S part h = chosen-has part.0.0 r.answers (answers p) S part.0.1 h
 part-has false p Opt r S part h = absurd (false≢true (ap (list_any (same_set S)) (sym part.0) ∙ h))
+part-has false p (Consequences w) r S part h = absurd (false≢true (ap (list_any (same_set S)) (sym part.0) ∙ h))
+part-has true p (Consequences w) r S part h = absurd (false≢true (ap (list_any (same_set S)) (sym part.0) ∙ h))
 part-has true p Enum r S part h = chosen-has part.0.0 r.answers (answers p) S part.0.1 h
 part-has true p Opt r S part h =
     chosen-has (λ S. not (list_any (λ T. betters (cost p T) (cost p S)) (answers p))) (optima p) (answers p) S refl (chosen-has part.0.0 r.answers (optima p) S part.0.1 h)

@@ -1,19 +1,24 @@
 -- What a report says of the program follows from its journal.
 use Rattle.std.proofs.Common.{◌≡◌, ℕ, zero, suc, ◌+◌, ◌<◌, ◌≤◌, Bool, true, false, not, eqb, leb, ◌&&◌, ◌||◌, List, [], ◌∷◌, length, filter, Option, Some, None, refl, sym, ap, ◌∙◌, subst, arith}
-use Rattle.std.specs.Prelude.{ℤ, IfSome, IsTrue, option_map}
+use Rattle.std.specs.Prelude.{ℤ, IfSome, IsTrue, option_map, option_to_list}
 use Rattle.std.specs.List.{list_any, AllByRecursion}
+use Rattle.std.specs.Option.{is_some}
 use Rattle.std.specs.Cmp.Lexicographic.{same_text}
 use Rattle.std.proofs.lemmas.Bool.{false≢true, and_parts, leb-false, leb-true, ne_eqb}
 use Rattle.asp_model.specs.declared.program.Program.{Program}
 use Rattle.asp_model.specs.declared.results.Ask.{Ask}
 use Rattle.asp_model.specs.declared.results.Mode.{Mode}
-use Rattle.asp_model.specs.declared.results.Mode.TheVariants.{Enum, Opt}
+use Rattle.asp_model.specs.declared.results.Mode.TheVariants.{Enum, Opt, Consequences}
+use Rattle.asp_model.specs.declared.results.Reasoning.{Reasoning}
+use Rattle.asp_model.specs.Asked.{reasoning_of}
+use Rattle.asp_model.specs.Consequences.{common_sets, consequences_of, used_up}
 use Rattle.asp_model.specs.declared.results.End.{End}
 use Rattle.asp_model.specs.declared.results.End.TheVariants.{Finished, Limited, Unfinished}
 use Rattle.asp_model.specs.declared.results.Results.{Results}
 use Rattle.asp_model.specs.Sets.{Atoms, same_set}
 use Rattle.asp_model.specs.Models.{answers}
 use Rattle.asp_model.specs.Costs.{cost, betters, optima}
+use Rattle.asp_model.proofs.ConsequenceLaws.{AreAmong, consequences-chosen, used-common}
 use Rattle.asp_model.proofs.ListedLaws.{contains_from_test}
 use Rattle.asp_vars.specs.Literals.{Literal}
 use Rattle.asp_vars.specs.Conflicts.{IsConflict}
@@ -26,8 +31,9 @@ use Rattle.asp_core.specs.declared.event.Event.{Event}
 use Rattle.asp_core.specs.declared.goal.Goal.TheVariants as goal
 use Rattle.asp_core.specs.declared.task.Task.{Task}
 use Rattle.asp_core.specs.Units.{total_out}
-use Rattle.asp_core.specs.Boards.{Board, start, IsBoundBy, IsQuery, bound_of, distinct, goal_of, is_answer, is_enough, lists, optimises}
+use Rattle.asp_core.specs.Boards.{Board, start, IsBoundBy, IsQuery, bound_of, common_by, count_by, distinct, goal_of, is_answer, is_enough, known_count, listed_by, lists, optimises, sought, used}
 use Rattle.asp_core.specs.Invariant.{IsBoard}
+use Rattle.asp_core.specs.Sorting.{sorted_once}
 use Rattle.asp_core.proofs.CountLaws.{length-sorted_once}
 use Rattle.asp_core.proofs.ResultLaws.{IsBoard-replay, task-run}
 use Rattle.asp_core.proofs.SortingLaws.{has-answers_of, sorted-answers, sorted-has}
@@ -35,8 +41,8 @@ use Rattle.asp_core.proofs.UnitLaws.{total-home}
 use Rattle.asp_book.specs.Books.{IsJournalOf}
 use Rattle.asp_crew_laws.specs.declared.report.Report.{Report}
 use Rattle.asp_crew_laws.specs.Runs.{asks, task_of, IsFound, with_cost}
-use Rattle.asp_crew_laws.specs.Reports.{board_by, end_by, IsUnpaidAt, IsWorkedOff, IsToldBy, IsUnpaid, Ends, IsPlayed, IsPlayedBy, IsPriced, IsPart, IsAllFound, IsAsked, IsWhole, Says, IsReport}
-use Rattle.asp_crew_laws.proofs.FoundLaws.{answers-same, none-kept, none-listed, sorted-nil, found-once}
+use Rattle.asp_crew_laws.specs.Reports.{board_by, end_by, known_in, IsUnpaidAt, IsWorkedOff, IsToldBy, IsUnpaid, Ends, IsPlayed, IsPlayedBy, IsPriced, IsPart, IsAllFound, IsAsked, IsWhole, Says, IsReport}
+use Rattle.asp_crew_laws.proofs.FoundLaws.{answers-same, none-best, none-kept, none-listed, sorted-nil, found-once}
 
 is_finished : End → Bool
 is_finished Finished = true
@@ -60,15 +66,42 @@ enough-by true closed e = refl
 enough-by false true e = ap is_limited e
 enough-by false false e = ap is_limited e
 
+-- what a mode's goal seeks
+pub sought-mode : (mode : Mode) → sought (goal_of mode) ≡ reasoning_of mode
+sought-mode Enum = refl
+sought-mode Opt = refl
+sought-mode (Consequences r) = refl
+
 -- A finished report has found what was asked.
-pub finished-found : (p : Program) (ask : Ask) (units : ℕ) (r : Report) → IsPlayed (task_of p ask units) r → r.results.end ≡ Finished → IsFound p ask.mode r.results.answers r.results.best
+pub finished-found : (p : Program) (ask : Ask) (units : ℕ) (r : Report) → IsPlayed (task_of p ask units) r → r.results.end ≡ Finished → IsFound p ask.mode r.results.answers r.results.best r.results.known
 finished-found p ask units r is e =
-    subst (λ (o : Option (Atoms × List ℤ)). IsFound p ask.mode r.results.answers o) (sym is.best)
-    (found-once p ask units r.journal r.results.answers is.lawful (closed-by (is_enough (board_by (task_of p ask units) r)) (all_closed (board_by (task_of p ask units) r).nodes) (sym is.end ∙ e)) is.answers)
+    subst (λ (o : Option (Atoms × List ℤ)). IsFound p ask.mode r.results.answers o r.results.known) (sym is.best)
+    (subst (λ (o : Option Atoms). IsFound p ask.mode r.results.answers (option_map (with_cost p) (board_by (task_of p ask units) r).best) o) (sym (is.common ∙ ap (λ (k : Option Reasoning). common_by k p (board_by (task_of p ask units) r).answers) (sought-mode ask.mode)))
+    (found-once p ask units r.journal r.results.answers is.lawful (closed-by (is_enough (board_by (task_of p ask units) r)) (all_closed (board_by (task_of p ask units) r).nodes) (sym is.end ∙ e)) (is.answers ∙ ap (λ (k : Option Reasoning). sorted_once (listed_by k (board_by (task_of p ask units) r).answers)) (sought-mode ask.mode))))
 
 -- No conflict that was paid for knew more answers than are reported.
-pub paid-known : (t : Task) (r : Report) → IsPlayed t r → r.paid.known ≤ length r.results.answers
-paid-known t r is = omega (arith, is.paid.fits.known, ap length is.answers, length-sorted_once (board_by t r).answers)
+listed-common : (w : Reasoning) (p : Program) (A : List Atoms) → common_sets w p A ≡ option_to_list (consequences_of w p A)
+listed-common w p [] = refl
+listed-common w p (S ∷ A) = refl
+
+pub count-reported : (k : Option Reasoning) (p : Program) (A : List Atoms) (r : Results) → r.answers ≡ sorted_once (listed_by k A) → r.known ≡ common_by k p A → count_by k p A ≡ length (known_in k r)
+count-reported None p A r answers known = sym (ap length answers ∙ length-sorted_once A)
+count-reported (Some w) p A r answers known = ap length (listed-common w p A) ∙ ap (λ (o : Option Atoms). length (option_to_list o)) (sym known)
+
+-- What is reported uses up the same sets as what was delivered.
+used-reported : (k : Option Reasoning) (p : Program) (A : List Atoms) (r : Results) → r.answers ≡ sorted_once (listed_by k A) → r.known ≡ common_by k p A → (S : Atoms) → list_any (same_set S) (used_up k p A) ≡ list_any (same_set S) (used_up k p (known_in k r))
+used-reported None p A r answers known S = sym (sorted-has [] A S) ∙ ap (λ (L : List Atoms). list_any (same_set S) L) (sym answers)
+used-reported (Some w) p A r answers known S =
+    ap (λ (U : List Atoms). list_any (same_set S) U) (sym (used-common w p A) ∙ ap (used_up (Some w) p) (listed-common w p A ∙ ap (λ (o : Option Atoms). option_to_list o) (sym known)))
+
+-- what a report's board is for
+played-task : (t : Task) (r : Report) → IsPlayed t r → (board_by t r).task ≡ t
+played-task t r is = task-run (start t) r.journal
+
+pub paid-known : (t : Task) (r : Report) → IsPlayed t r → r.paid.known ≤ length (known_in (sought t.goal) r.results)
+paid-known t r is =
+    let count : known_count (board_by t r) ≡ count_by (sought t.goal) t.program (board_by t r).answers = ap (λ (x : Task). count_by (sought x.goal) x.program (board_by t r).answers) (played-task t r is) in
+    omega (arith, is.paid.fits.known, count, count-reported (sought t.goal) t.program (board_by t r).answers r.results is.answers is.common)
 
 -- ---- a part of the answers
 pub listed-answers : (t : Task) (A : List Atoms) (S : Atoms) → AllByRecursion (λ T. IsTrue (lists t T) × IsTrue (is_answer t T)) A → list_any (same_set S) A ≡ true → is_answer t S ≡ true
@@ -94,6 +127,17 @@ module _ (p : Program) (n units : ℕ) (r : Report) where
         (q, is.answers ∙ sorted-answers t q b.answers (λ S. both (is_answer t S) (q S) (λ h. listed-answers t b.answers S delivered h)) ∙ ap (filter q) (answers-same p (asks Enum n) units)),
         is.best ∙ ap (option_map (with_cost p)) (none-kept b.task b.best (ap (λ (x : Task). x.goal) task) board.best),
       )
+  part-by (Consequences w) is board task =
+      let b : Board = board_by (task_of p (asks (Consequences w) n) units) r in
+      let t : Task = task_of p (asks (Consequences w) n) units in
+      let q : Atoms → Bool = λ S. list_any (same_set S) b.answers in
+      let delivered : AllByRecursion (λ T. IsTrue (lists t T) × IsTrue (is_answer t T)) b.answers = subst (λ (x : Task). AllByRecursion (λ T. IsTrue (lists x T) × IsTrue (is_answer x T)) b.answers) task board.delivered in
+      let among : AreAmong b.answers (answers p) = λ S h.
+          ap (λ (L : List Atoms). list_any (same_set S) L) (sym (answers-same p (asks (Consequences w) n) units)) ∙ has-answers_of t S ∙ listed-answers t b.answers S delivered h in (
+        is.answers,
+        is.best ∙ ap (option_map (with_cost p)) (none-best b.task b.best (ap (λ (x : Task). optimises x.goal) task) board.best),
+        (q, is.common ∙ consequences-chosen w p b.answers (answers p) among),
+      )
   part-by Opt is board task =
       let b : Board = board_by (task_of p (asks Opt n) units) r in (
         is.answers ∙ sorted-nil b.answers (none-listed b.task b.answers (ap (λ (x : Task). x.goal) task) board.delivered),
@@ -108,6 +152,7 @@ module _ (p : Program) (n units : ℕ) (r : Report) where
 at_least-by : (mode : Mode) (p : Program) (best : Option Atoms) (o : Option (List ℤ)) → IfSome o (IsBoundBy (goal_of mode) p best) → IsAtLeast (option_map (λ x. x.1) (option_map (with_cost p) best)) o
 at_least-by mode p best None h = tt
 at_least-by Enum p best (Some c) h = absurd h
+at_least-by (Consequences w) p best (Some c) h = absurd h
 at_least-by Opt p None (Some c) h = absurd h
 at_least-by Opt p (Some S) (Some c) h = ap not h
 
@@ -148,25 +193,37 @@ module _ (t : Task) (r : Report) (is : IsPlayed t r) (board : IsBoard (board_by 
   limit : (board_by t r).task.limit ≡ t.limit
   limit = ap (λ (x : Task). x.limit) task
 
-  count : length r.results.answers ≡ length (distinct (board_by t r).answers)
-  count = ap length is.answers ∙ length-sorted_once (board_by t r).answers
+  count : sought t.goal ≡ None → length r.results.answers ≡ length (distinct (board_by t r).answers)
+  count none = ap length (is.answers ∙ ap (λ (k : Option Reasoning). sorted_once (listed_by k (board_by t r).answers)) none) ∙ length-sorted_once (board_by t r).answers
 
-  enough-asked : is_enough (board_by t r) ≡ true → (0 < t.limit) × (length r.results.answers ≡ t.limit)
-  enough-asked e =
+  enough-some : is_enough (board_by t r) ≡ true → 0 < t.limit
+  enough-some e =
+      let b : Board = board_by t r in
+      let some : 0 < b.task.limit = not-zero b.task.limit (and_parts (not (eqb b.task.limit 0)) (leb b.task.limit (length (distinct b.answers))) e).0 in
+      omega (arith, some, limit)
+
+  enough-asked : sought t.goal ≡ None → is_enough (board_by t r) ≡ true → length r.results.answers ≡ t.limit
+  enough-asked none e =
       let b : Board = board_by t r in
       let parts = and_parts (not (eqb b.task.limit 0)) (leb b.task.limit (length (distinct b.answers))) e in
       let some : 0 < b.task.limit = not-zero b.task.limit parts.0 in
-      (omega (arith, some, limit), omega (arith, count, limit, board.limited some, leb-true b.task.limit (length (distinct b.answers)) parts.1))
+      omega (arith, count none, limit, board.limited some, leb-true b.task.limit (length (distinct b.answers)) parts.1)
 
-  pub at-limit : r.results.end ≡ Limited → (0 < t.limit) × (length r.results.answers ≡ t.limit)
-  at-limit q = enough-asked (enough-by (is_enough (board_by t r)) (all_closed (board_by t r).nodes) (sym is.end ∙ q))
+  was-enough : r.results.end ≡ Limited → is_enough (board_by t r) ≡ true
+  was-enough q = enough-by (is_enough (board_by t r)) (all_closed (board_by t r).nodes) (sym is.end ∙ q)
 
-  less : (enough closed : Bool) → enough ≡ is_enough (board_by t r) → r.results.end ≡ end_by enough closed → (r.results.end ≡ Limited → ⊥) → 0 < t.limit → length r.results.answers < t.limit
-  less true closed e end other some = absurd (other end)
-  less false closed e end other some =
+  pub limited-some : r.results.end ≡ Limited → 0 < t.limit
+  limited-some q = enough-some (was-enough q)
+
+  pub at-limit : sought t.goal ≡ None → r.results.end ≡ Limited → (0 < t.limit) × (length r.results.answers ≡ t.limit)
+  at-limit none q = (limited-some q, enough-asked none (was-enough q))
+
+  less : sought t.goal ≡ None → (enough closed : Bool) → enough ≡ is_enough (board_by t r) → r.results.end ≡ end_by enough closed → (r.results.end ≡ Limited → ⊥) → 0 < t.limit → length r.results.answers < t.limit
+  less none true closed e end other some = absurd (other end)
+  less none false closed e end other some =
       let b : Board = board_by t r in
       let f : leb b.task.limit (length (distinct b.answers)) ≡ false = and-first (not (eqb b.task.limit 0)) (leb b.task.limit (length (distinct b.answers))) (is-not b.task.limit (omega (arith, some, limit))) (sym e) in
-      omega (arith, count, limit, leb-false b.task.limit (length (distinct b.answers)) f)
+      omega (arith, count none, limit, leb-false b.task.limit (length (distinct b.answers)) f)
     where
       is-not : (k : ℕ) → 0 < k → not (eqb k 0) ≡ true
       is-not k h = ap not (ne_eqb k 0 (λ z. omega (arith, z, h)))
@@ -175,13 +232,21 @@ module _ (t : Task) (r : Report) (is : IsPlayed t r) (board : IsBoard (board_by 
       and-first true y e h = h
       and-first false y e h = absurd (false≢true e)
 
-  pub under-limit : (r.results.end ≡ Limited → ⊥) → 0 < t.limit → length r.results.answers < t.limit
-  under-limit = less (is_enough (board_by t r)) (all_closed (board_by t r).nodes) refl is.end
+  pub under-limit : sought t.goal ≡ None → (r.results.end ≡ Limited → ⊥) → 0 < t.limit → length r.results.answers < t.limit
+  under-limit none = less none (is_enough (board_by t r)) (all_closed (board_by t r).nodes) refl is.end
 
 -- an enumeration at its limit; an optimisation lists nothing
 limited-asked : (p : Program) (mode : Mode) (n : ℕ) (r : Results) → IsPart p mode r → (0 < n) × (length r.answers ≡ n) → IsAsked p (asks mode n) r
 limited-asked p Enum n r part at = record { listing = refl; some = at.0; count = at.1; part = part; best = tt }
 limited-asked p Opt n r part at = absurd (let f : ⊥ = omega (arith, at.0, at.1, ap length part.0) in f)
+limited-asked p (Consequences w) n r part at = absurd (let f : ⊥ = omega (arith, at.0, at.1, ap length part.0) in f)
+
+-- what a mode's first search says at its limit, which a search for consequences has none of
+limited-says : (p : Program) (mode : Mode) (n units : ℕ) (r : Report) → IsPlayed (task_of p (asks mode n) units) r → IsBoard (board_by (task_of p (asks mode n) units) r) → (board_by (task_of p (asks mode n) units) r).task ≡ task_of p (asks mode n) units →
+    IsPart p mode r.results → r.results.end ≡ Limited → IsAsked p (asks mode n) r.results
+limited-says p Enum n units r is board task part q = limited-asked p Enum n r.results part (at-limit (task_of p (asks Enum n) units) r is board task refl q)
+limited-says p Opt n units r is board task part q = limited-asked p Opt n r.results part (at-limit (task_of p (asks Opt n) units) r is board task refl q)
+limited-says p (Consequences w) n units r is board task part q = absurd (let f : ⊥ = omega (arith, limited-some (task_of p (asks (Consequences w) n) units) r is board task q) in f)
 
 -- ---- a report that tells what the board has
 module _ (t : Task) (r : Report) (query : IsQuery t.program t.query) (lawful : IsJournalOf t r.journal) (told : IsToldBy (board_by t r) r) where
@@ -193,6 +258,15 @@ module _ (t : Task) (r : Report) (query : IsQuery t.program t.query) (lawful : I
 
   program : (board_by t r).task.program ≡ t.program
   program = ap (λ (x : Task). x.program) task-is
+
+  answers-told : r.results.answers ≡ sorted_once (listed_by (sought t.goal) (board_by t r).answers)
+  answers-told = told.answers ∙ ap (λ (x : Task). sorted_once (listed_by (sought x.goal) (board_by t r).answers)) task-is
+
+  common-told : r.results.known ≡ common_by (sought t.goal) t.program (board_by t r).answers
+  common-told = told.common ∙ ap (λ (x : Task). common_by (sought x.goal) x.program (board_by t r).answers) task-is
+
+  count-told : known_count (board_by t r) ≡ length (known_in (sought t.goal) r.results)
+  count-told = ap (λ (x : Task). count_by (sought x.goal) x.program (board_by t r).answers) task-is ∙ count-reported (sought t.goal) t.program (board_by t r).answers r.results answers-told common-told
 
   best : r.results.best ≡ option_map (with_cost t.program) (board_by t r).best
   best = told.best ∙ ap (λ (q : Program). option_map (with_cost q) (board_by t r).best) program
@@ -208,11 +282,13 @@ module _ (t : Task) (r : Report) (query : IsQuery t.program t.query) (lawful : I
         leaf = leaf;
         unclosed = ap is_unclosed is.unclosed;
         cube = is.cube;
-        known = omega (arith, is.met.known, ap length told.answers, length-sorted_once b.answers);
+        reasoning = is.met.reasoning ∙ ap (λ (y : Task). sought y.goal) task-is;
+        known = omega (arith, is.met.known, count-told);
         bound = is.met.bound;
         conflict =
-            conflict-more t.program b.answers r.results.answers (bound_of b) (bound_of b) x (λ S. sym (sorted-has [] b.answers S) ∙ ap (λ (L : List Atoms). list_any (same_set S) L) (sym told.answers)) refl
-            (subst (λ (q : Program). IsConflict q b.answers (bound_of b) x.cube x.decisions x.nogood) program is.met.conflict);
+            conflict-more t.program (used_up (sought t.goal) t.program b.answers) (used_up (sought t.goal) t.program (known_in (sought t.goal) r.results)) (bound_of b) (bound_of b) x
+            (used-reported (sought t.goal) t.program b.answers r.results answers-told common-told) refl
+            (subst (λ (y : Task). IsConflict y.program (used_up (sought y.goal) y.program b.answers) (bound_of b) x.cube x.decisions x.nogood) task-is is.met.conflict);
       }
 
   ends-by : (o : Option Clash) → r.unpaid ≡ o → IsWorkedOff (board_by t r) o → Ends t (board_by t r) r r.results.end
@@ -230,8 +306,9 @@ module _ (t : Task) (r : Report) (query : IsQuery t.program t.query) (lawful : I
   pub told-played : IsPlayed t r
   told-played = record {
     lawful = lawful;
-    answers = told.answers;
+    answers = answers-told;
     best = best;
+    common = common-told;
     end = told.end;
     leaves = told.leaves;
     spent = told.spent;
@@ -263,9 +340,11 @@ module _ (p : Program) (mode : Mode) (n units : ℕ) (r : Report) (lawful : IsJo
   says-by : (e : End) → r.results.end ≡ e → Says p (asks mode n) r e
   says-by Finished q = finished-found p (asks mode n) units r first-played q
   says-by Limited q =
-      limited-asked p mode n r.results first-part
-      (at-limit (task_of p (asks mode n) units) r first-played (is-board (task_of p (asks mode n) units) r tt lawful told) (task-is (task_of p (asks mode n) units) r tt lawful told) q)
+      limited-says p mode n units r first-played (is-board (task_of p (asks mode n) units) r tt lawful told) (task-is (task_of p (asks mode n) units) r tt lawful told) first-part q
   says-by Unfinished q = (first-part, told-left (task_of p (asks mode n) units) r tt lawful told q)
+
+  sought-here : sought (board_by (task_of p (asks mode n) units) r).task.goal ≡ reasoning_of mode
+  sought-here = ap (λ (x : Task). sought x.goal) (task-is (task_of p (asks mode n) units) r tt lawful told) ∙ sought-mode mode
 
   pub told-reports : r.second ≡ None → r.results.mode ≡ mode → IsReport p (asks mode n) units r
   told-reports alone mode_is = record {
@@ -274,7 +353,9 @@ module _ (p : Program) (mode : Mode) (n units : ℕ) (r : Report) (lawful : IsJo
     program = told.paid.fits.program ∙ ap (λ (x : Task). x.program) (task-is (task_of p (asks mode n) units) r tt lawful told);
     spent = told.paid.burnt ∙ sym told.spent;
     budget = told-budget (task_of p (asks mode n) units) r tt lawful told;
-    known = paid-known (task_of p (asks mode n) units) r first-played;
+    reasoned = λ e. sym (ap is_some sought-here) ∙ told.paid.fits.reasoned e;
+    known = subst (λ (k : Option Reasoning). r.paid.known ≤ length (known_in k r.results)) (sought-mode mode) (paid-known (task_of p (asks mode n) units) r first-played);
+    untold = λ e. first-played.common ∙ ap (λ (k : Option Reasoning). common_by k p (board_by (task_of p (asks mode n) units) r).answers) (sought-mode mode ∙ e);
     least =
         subst (λ (o : Option (Atoms × List ℤ)). IsAtLeast (option_map (λ y. y.1) o) r.paid.least) (sym first-played.best)
         (at_least-by mode p (board_by (task_of p (asks mode n) units) r).best r.paid.least (told-bounds (task_of p (asks mode n) units) r tt lawful told));
@@ -290,15 +371,18 @@ played-part p ask units r is = part-by p ask.models units r ask.mode is (IsBoard
 optima-none : (p : Program) → answers p ≡ [] → optima p ≡ []
 optima-none p e = ap (λ (A : List Atoms). filter (λ S. not (list_any (λ T. betters (cost p T) (cost p S)) A)) A) e
 
-whole-found : (p : Program) (L : List Atoms) (best : Option (Atoms × List ℤ)) → IsFound p Opt L best → IsWhole true Finished best → IsAllFound true p Opt L best
-whole-found p L None found whole = (found.0 ∙ sym (optima-none p found.1), found.1)
-whole-found p L (Some b) found whole = absurd whole
+whole-found : (p : Program) (L : List Atoms) (best : Option (Atoms × List ℤ)) (known : Option Atoms) → IsFound p Opt L best known → IsWhole true Finished best → IsAllFound true p Opt L best known
+whole-found p L None known found whole = (found.0 ∙ sym (optima-none p found.1), found.1)
+whole-found p L (Some b) known found whole = absurd whole
 
 whole-says : (p : Program) (mode : Mode) (n : ℕ) (r : Report) (e : End) → IsWhole true e r.results.best → Says p (asks mode n) r e → Says p (record { mode = mode; models = n; all_optima = true }) r e
 whole-says p Enum n r Finished whole h = h
 whole-says p Enum n r Limited whole h = record { listing = refl; some = h.some; count = h.count; part = h.part; best = tt }
 whole-says p Enum n r Unfinished whole h = h
-whole-says p Opt n r Finished whole h = whole-found p r.results.answers r.results.best h whole
+whole-says p Opt n r Finished whole h = whole-found p r.results.answers r.results.best r.results.known h whole
+whole-says p (Consequences w) n r Finished whole h = h
+whole-says p (Consequences w) n r Limited whole h = absurd (false≢true h.listing)
+whole-says p (Consequences w) n r Unfinished whole h = h
 whole-says p Opt n r Limited whole h = absurd (false≢true h.listing)
 whole-says p Opt n r Unfinished whole h = ((((λ S. false), h.0.0 ∙ sym (none-chosen (optima p))), h.0.1), h.1)
   where
@@ -314,7 +398,9 @@ alone-by true p mode n units r is alone whole = record {
   program = is.program;
   spent = is.spent;
   budget = is.budget;
+  reasoned = is.reasoned;
   known = is.known;
+  untold = is.untold;
   least = is.least;
   played = subst (λ (o : Option (List Event)). IsPlayedBy o p (record { mode = mode; models = n; all_optima = true }) units r) (sym alone) (subst (λ (o : Option (List Event)). IsPlayedBy o p (asks mode n) units r) alone is.played);
 }

@@ -2,6 +2,7 @@
 use Rattle.std.proofs.Common.{◌≡◌, ℕ, Bool, true, false, not, cond, ◌&&◌, ◌||◌, List, [], ◌∷◌, length, filter, Option, Some, None, refl, sym, ap, ◌∙◌, subst, arith}
 use Rattle.std.specs.Prelude.{ℤ, IfSome, IsTrue, option_map}
 use Rattle.std.specs.List.{list_any, AllByRecursion}
+use Rattle.std.specs.Option.{is_some}
 use Rattle.std.specs.Cmp.Lexicographic.{same_text}
 use Rattle.std.proofs.lemmas.Bool.{false≢true}
 use Rattle.asp_model.specs.declared.program.Program.{Program}
@@ -17,9 +18,9 @@ use Rattle.asp_path.specs.Trees.{all_closed}
 use Rattle.asp_core.specs.declared.event.Event.{Event}
 use Rattle.asp_core.specs.declared.goal.Goal.TheVariants as goal
 use Rattle.asp_core.specs.declared.task.Task.{Task}
-use Rattle.asp_core.specs.Boards.{Board, IsBoundBy, is_answer, is_enough, lists}
+use Rattle.asp_core.specs.Boards.{Board, IsBoundBy, is_answer, is_enough, listed_by, lists, sought}
 use Rattle.asp_core.specs.Invariant.{IsBoard}
-use Rattle.asp_core.specs.Sorting.{answers_of}
+use Rattle.asp_core.specs.Sorting.{answers_of, sorted_once}
 use Rattle.asp_core.proofs.ResultLaws.{HasResult-finished}
 use Rattle.asp_core.proofs.SortingLaws.{sorted-answers}
 use Rattle.asp_book.specs.Books.{IsJournalOf}
@@ -74,10 +75,14 @@ ties-at_least : (p : Program) (c : List ℤ) (best : Option Atoms) (o : Option (
 ties-at_least p c best None h = tt
 ties-at_least p c best (Some d) h = ap not (not-above c d h)
 
+both-unreasoned : (x y : Bool) → (x ≡ true → false ≡ true) → (y ≡ true → false ≡ true) → (x || y) ≡ true → false ≡ true
+both-unreasoned true y f g e = f refl
+both-unreasoned false y f g e = g e
+
 -- ---- the report of both
 module _ (p : Program) (n units : ℕ) (first ties : Report) (S : Atoms) (c : List ℤ) (is : IsReport p (asks Opt n) units first) (alone : first.second ≡ None) (finished : first.results.end ≡ Finished)
     (found : first.results.best ≡ Some (S, c)) (lawful : IsJournalOf (ties_task p n first c) ties.journal) (told : IsToldBy (board_by (ties_task p n first c) ties) ties) where
-  first-found : IsFound p Opt first.results.answers first.results.best
+  first-found : IsFound p Opt first.results.answers first.results.best first.results.known
   first-found = subst (Says p (asks Opt n) first) finished is.says
 
   optimum : IsOptimum p S c
@@ -92,6 +97,9 @@ module _ (p : Program) (n units : ℕ) (first ties : Report) (S : Atoms) (c : Li
   task : (board_by (ties_task p n first c) ties).task ≡ ties_task p n first c
   task = task-is (ties_task p n first c) ties tt lawful told
 
+  listed : ties.results.answers ≡ sorted_once (board_by (ties_task p n first c) ties).answers
+  listed = told.answers ∙ ap (λ (x : Task). sorted_once (listed_by (sought x.goal) (board_by (ties_task p n first c) ties).answers)) task
+
   -- those that the second search lists
   are-optima : filter (lists (ties_task p n first c)) (answers_of (ties_task p n first c)) ≡ optima p
   are-optima = ap (filter (lists (ties_task p n first c))) (answers-same p (asks Opt n) units) ∙ ties-optima p S c optimum
@@ -99,7 +107,7 @@ module _ (p : Program) (n units : ℕ) (first ties : Report) (S : Atoms) (c : Li
   all-listed : ties.results.end ≡ Finished → ties.results.answers ≡ optima p
   all-listed q =
       let b : Board = board_by (ties_task p n first c) ties in
-      told.answers ∙ HasResult-finished (ties_task p n first c) ties.journal tt lawful (closed-by (is_enough b) (all_closed b.nodes) (sym told.end ∙ q))
+      listed ∙ HasResult-finished (ties_task p n first c) ties.journal tt lawful (closed-by (is_enough b) (all_closed b.nodes) (sym told.end ∙ q))
       ∙ ap (λ (x : Task). filter (lists x) (answers_of x)) task ∙ are-optima
 
   some-listed : (chosen : Atoms → Bool) × (ties.results.answers ≡ filter chosen (optima p))
@@ -109,7 +117,7 @@ module _ (p : Program) (n units : ℕ) (first ties : Report) (S : Atoms) (c : Li
       let q : Atoms → Bool = λ R. list_any (same_set R) b.answers in
       let delivered : AllByRecursion (λ T. IsTrue (lists (ties_task p n first c) T) × IsTrue (is_answer (ties_task p n first c) T)) b.answers = subst (λ (x : Task). AllByRecursion (λ T. IsTrue (lists x T) × IsTrue (is_answer x T)) b.answers) task board.delivered in (
         q,
-        told.answers
+        listed
             ∙ sorted-answers t (λ R. lists t R && q R) b.answers (λ R. all-three (is_answer t R) (lists t R) (q R) (λ h. listed-answers t b.answers R delivered h) (λ h. listed-lists t b.answers R delivered h))
             ∙ filter-both (lists t) q (answers_of t) ∙ ap (filter q) are-optima,
       )
@@ -120,7 +128,7 @@ module _ (p : Program) (n units : ℕ) (first ties : Report) (S : Atoms) (c : Li
   ties-say : (e : End) → ties.results.end ≡ e → Says p (all_of n) (joined first ties) e
   ties-say Finished q = (all-listed q, first-found.1)
   ties-say Limited q =
-      let at = at-limit (ties_task p n first c) ties again board task q in
+      let at = at-limit (ties_task p n first c) ties again board task refl q in
       record { listing = refl; some = at.0; count = at.1; part = (some-listed, priced); best = first-found.1 }
   ties-say Unfinished q = ((some-listed, priced), told-left (ties_task p n first c) ties tt lawful told q)
 
@@ -137,7 +145,9 @@ module _ (p : Program) (n units : ℕ) (first ties : Report) (S : Atoms) (c : Li
     program = is.program;
     spent = omega (arith, is.spent, told.paid.burnt, told.spent);
     budget = omega (arith, is.budget, told-budget (ties_task p n first c) ties tt lawful told);
+    reasoned = both-unreasoned first.paid.reasoned ties.paid.reasoned is.reasoned (λ h. sym (ap (λ (x : Task). is_some (sought x.goal)) task) ∙ told.paid.fits.reasoned h);
     known = omega (arith, is.known, ap length first-found.0, paid-known (ties_task p n first c) ties again);
+    untold = is.untold;
     least = at_least-both (option_map (λ y. y.1) first.results.best) first.paid.least ties.paid.least is.least bounds;
     played = record {
       first = first;

@@ -3,7 +3,7 @@ use Rattle.std.specs.Prelude.{◌≡◌, Bool, true, false, Option, None, Some}
 use Rattle.asp_model.specs.declared.results.End.{End}
 use Rattle.asp_model.specs.declared.results.End.TheVariants.{Finished}
 use Rattle.asp_model.specs.declared.results.Mode.{Mode}
-use Rattle.asp_model.specs.declared.results.Mode.TheVariants.{Enum, Opt}
+use Rattle.asp_model.specs.declared.results.Mode.TheVariants.{Enum, Opt, Consequences}
 use Rattle.asp_model.specs.declared.results.Results.{Results}
 use Rattle.asp_model.specs.Texts.{recorded}
 use Rattle.asp_proof.specs.declared.proof.Proof.{Proof}
@@ -13,6 +13,7 @@ use Rattle.asp_crew_laws.specs.declared.report.Report.{Report}
 abbrev pub is_opt : Mode → Bool
 is_opt Enum = false
 is_opt Opt = true
+is_opt (Consequences r) = false
 
 -- It is of the results' kind, and lists their answers.
 pub record IsProofOf (r : Results) (p : Proof) : Type 0 where

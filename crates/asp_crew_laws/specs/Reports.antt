@@ -1,12 +1,16 @@
 -- What a report says of a program, and why: its journal.
-use Rattle.std.specs.Prelude.{◌≡◌, ℕ, ◌+◌, ◌<◌, ◌≤◌, max, ◌||◌, Bool, true, false, List, [], filter, length, Contains, ℤ, Option, None, Some, IfSome, IsTrue, option_map}
+use Rattle.std.specs.Prelude.{◌≡◌, ℕ, ◌+◌, ◌<◌, ◌≤◌, max, ◌||◌, Bool, true, false, List, [], filter, length, Contains, ℤ, Option, None, Some, IfSome, IsTrue, option_map, option_to_list}
 use Rattle.asp_model.specs.declared.program.Program.{Program}
 use Rattle.asp_model.specs.declared.results.Ask.{Ask}
 use Rattle.asp_model.specs.declared.results.Mode.{Mode}
-use Rattle.asp_model.specs.declared.results.Mode.TheVariants.{Enum, Opt}
+use Rattle.asp_model.specs.declared.results.Mode.TheVariants.{Enum, Opt, Consequences}
+use Rattle.asp_model.specs.declared.results.Reasoning.{Reasoning}
+use Rattle.asp_model.specs.Asked.{reasoning_of}
+use Rattle.asp_model.specs.Consequences.{consequences_of, used_up}
 use Rattle.asp_model.specs.declared.results.End.{End}
 use Rattle.asp_model.specs.declared.results.End.TheVariants.{Finished, Limited, Unfinished}
 use Rattle.asp_model.specs.declared.results.Results.{Results}
+use Rattle.std.specs.Option.{is_some}
 use Rattle.asp_model.specs.Sets.{Atoms}
 use Rattle.asp_model.specs.Models.{answers}
 use Rattle.asp_model.specs.Costs.{cost, optima}
@@ -17,7 +21,7 @@ use Rattle.asp_path.specs.Trees.{all_closed, cube_of, status_of, is_unclosed, he
 use Rattle.asp_core.specs.declared.event.Event.{Event}
 use Rattle.asp_core.specs.declared.task.Task.{Task}
 use Rattle.asp_core.specs.Units.{out_of, total_out}
-use Rattle.asp_core.specs.Boards.{Board, IsBoundOf, bound_of, distinct, is_enough}
+use Rattle.asp_core.specs.Boards.{Board, IsBoundOf, bound_of, common_by, is_enough, known_count, listed_by, sought, used}
 use Rattle.asp_core.specs.Events.{replay}
 use Rattle.asp_core.specs.Sorting.{sorted_once}
 use Rattle.asp_book.specs.Books.{IsJournalOf}
@@ -51,9 +55,10 @@ pub record IsIdle (b : Board) : Type 0 where
 -- A conflict of the board's program by what was recorded, that knew no more answers than were delivered.
 pub record IsMet (b : Board) (x : Clash) : Type 0 where
   pub program : x.program ≡ b.task.program
-  pub known : x.known ≤ length (distinct b.answers)
+  pub reasoning : x.reasoning ≡ sought b.task.goal
+  pub known : x.known ≤ known_count b
   pub bound : IfSome x.bound (IsBoundOf b)
-  pub conflict : IsConflict b.task.program b.answers (bound_of b) x.cube x.decisions x.nogood
+  pub conflict : IsConflict b.task.program (used b) (bound_of b) x.cube x.decisions x.nogood
 
 -- The conflict is below this leaf, which is open.
 pub record IsUnpaidAt (b : Board) (x : Clash) (leaf : ℕ) : Type 0 where
@@ -68,8 +73,9 @@ IsWorkedOff b (Some x) = (is_enough b ≡ false) × (b.pool ≡ 0) × ((leaf : �
 
 -- What a report tells when it is made of a board: what was found, how it ended, and what was paid.
 pub record IsToldBy (b : Board) (r : Report) : Type 0 where
-  pub answers : r.results.answers ≡ sorted_once b.answers
+  pub answers : r.results.answers ≡ sorted_once (listed_by (sought b.task.goal) b.answers)
   pub best : r.results.best ≡ option_map (with_cost b.task.program) b.best
+  pub common : r.results.known ≡ common_by (sought b.task.goal) b.task.program b.answers
   pub end : r.results.end ≡ end_of b
   pub leaves : r.leaves ≡ leaf_count b.nodes
   pub spent : r.spent ≡ b.burnt
@@ -78,15 +84,21 @@ pub record IsToldBy (b : Board) (r : Report) : Type 0 where
   pub over : IsWorkedOff b r.unpaid
 
 -- ---- what a report says by its journal
+-- what is known by the report: the answers listed, or where consequences were sought what the answers found have in common
+abbrev pub known_in : Option Reasoning → Results → List Atoms
+known_in None r = r.answers
+known_in (Some w) r = option_to_list r.known
+
 -- A conflict below a leaf that isn't closed, by the answers that were found and the bound that stood at the end.
 pub record IsUnpaid (t : Task) (b : Board) (r : Results) (x : Clash) : Type 0 where
   pub program : x.program ≡ t.program
   pub leaf : ℕ
   pub unclosed : IsTrue (is_unclosed (status_of b.nodes leaf))
   pub cube : x.cube ≡ cube_of b.nodes leaf
-  pub known : x.known ≤ length r.answers
+  pub reasoning : x.reasoning ≡ sought t.goal
+  pub known : x.known ≤ length (known_in (sought t.goal) r)
   pub bound : IfSome x.bound (IsBoundOf b)
-  pub conflict : IsConflict t.program r.answers (bound_of b) x.cube x.decisions x.nogood
+  pub conflict : IsConflict t.program (used_up (sought t.goal) t.program (known_in (sought t.goal) r)) (bound_of b) x.cube x.decisions x.nogood
 
 -- No conflict is unpaid, since every leaf is closed or it was enough; or one was met when the budget was spent.
 abbrev pub Ends : Task → Board → Report → End → Type 0
@@ -97,8 +109,9 @@ Ends t b r Unfinished = (b.pool ≡ 0) × (r.spent ≡ b.task.budget) × ((x : C
 -- The journal is lawful for the task, and leads to what the report says.
 pub record IsPlayed (t : Task) (r : Report) : Type 0 where
   pub lawful : IsJournalOf t r.journal
-  pub answers : r.results.answers ≡ sorted_once (board_by t r).answers
+  pub answers : r.results.answers ≡ sorted_once (listed_by (sought t.goal) (board_by t r).answers)
   pub best : r.results.best ≡ option_map (with_cost t.program) (board_by t r).best
+  pub common : r.results.known ≡ common_by (sought t.goal) t.program (board_by t r).answers
   pub end : r.results.end ≡ end_of (board_by t r)
   pub leaves : r.leaves ≡ leaf_count (board_by t r).nodes
   pub spent : r.spent ≡ (board_by t r).burnt
@@ -109,12 +122,12 @@ pub record IsPlayed (t : Task) (r : Report) : Type 0 where
 -- ---- two searches
 -- what both burnt, and what the second left
 abbrev pub summed : Units → Units → Units
-summed u v = record { program = u.program; left = v.left; burnt = u.burnt + v.burnt; known = max u.known v.known; least = least_of u.least v.least }
+summed u v = record { program = u.program; left = v.left; burnt = u.burnt + v.burnt; reasoned = u.reasoned || v.reasoned; known = max u.known v.known; least = least_of u.least v.least }
 
 -- the report of a search for a best answer and of one for all answers that are as good
 abbrev pub joined : Report → Report → Report
 joined first ties = record {
-  results = record { mode = first.results.mode; end = ties.results.end; answers = ties.results.answers; best = first.results.best };
+  results = record { mode = first.results.mode; end = ties.results.end; answers = ties.results.answers; best = first.results.best; known = first.results.known };
   journal = first.journal;
   second = Some ties.journal;
   spent = first.spent + ties.spent;
@@ -148,32 +161,37 @@ abbrev pub IsPriced : Program → Atoms × List ℤ → Type 0
 IsPriced p best = Contains (answers p) best.0 × (best.1 ≡ cost p best.0)
 
 -- what one search found: in an enumeration some of the answers, each once, in their order; in an optimisation at most one, with its
--- cost
+-- cost; of consequences what is in some, or in each, of some of the answers
 abbrev pub IsPart : Program → Mode → Results → Type 0
 IsPart p Enum r = ((chosen : Atoms → Bool) × (r.answers ≡ filter chosen (answers p))) × (r.best ≡ None)
 IsPart p Opt r = (r.answers ≡ []) × IfSome r.best (IsPriced p)
+IsPart p (Consequences w) r = (r.answers ≡ []) × (r.best ≡ None) × ((chosen : Atoms → Bool) × (r.known ≡ consequences_of w p (filter chosen (answers p))))
 
 -- The same of a run; where all optima are asked for some of these, each once, in their order.
 abbrev pub IsPartOf : Bool → Program → Mode → Results → Type 0
 IsPartOf false p mode r = IsPart p mode r
 IsPartOf true p Enum r = IsPart p Enum r
+IsPartOf true p (Consequences w) r = IsPart p (Consequences w) r
 IsPartOf true p Opt r = ((chosen : Atoms → Bool) × (r.answers ≡ filter chosen (optima p))) × IfSome r.best (IsPriced p)
 
 -- All that was asked for was found; where all optima are, exactly these, each once, in their order.
-abbrev pub IsAllFound : Bool → Program → Mode → List Atoms → Option (Atoms × List ℤ) → Type 0
-IsAllFound false p mode L best = IsFound p mode L best
-IsAllFound true p Enum L best = IsFound p Enum L best
-IsAllFound true p Opt L best = (L ≡ optima p) × IsBest p best
+abbrev pub IsAllFound : Bool → Program → Mode → List Atoms → Option (Atoms × List ℤ) → Option Atoms → Type 0
+IsAllFound false p mode L best known = IsFound p mode L best known
+IsAllFound true p Enum L best known = IsFound p Enum L best known
+IsAllFound true p (Consequences w) L best known = IsFound p (Consequences w) L best known
+IsAllFound true p Opt L best known = (L ≡ optima p) × IsBest p best
 
 -- whether a list of answers is asked for
 abbrev pub asks_list : Bool → Mode → Bool
 asks_list all Enum = true
 asks_list all Opt = all
+asks_list all (Consequences w) = false
 
 -- An optimisation has a best answer that none betters, or there is no answer.
 abbrev pub HasBest : Program → Mode → Option (Atoms × List ℤ) → Type 0
 HasBest p Enum best = Unit {0}
 HasBest p Opt best = IsBest p best
+HasBest p (Consequences w) best = Unit {0}
 
 -- as many of the answers as were asked for, each once, in their order; where all optima were, as many of these
 pub record IsAsked (p : Program) (ask : Ask) (r : Results) : Type 0 where
@@ -185,18 +203,21 @@ pub record IsAsked (p : Program) (ask : Ask) (r : Results) : Type 0 where
 
 -- All was found; or as many answers as were asked for; or a part was, and the budget is spent.
 abbrev pub Says : Program → Ask → Report → End → Type 0
-Says p ask r Finished = IsAllFound ask.all_optima p ask.mode r.results.answers r.results.best
+Says p ask r Finished = IsAllFound ask.all_optima p ask.mode r.results.answers r.results.best r.results.known
 Says p ask r Limited = IsAsked p ask r.results
 Says p ask r Unfinished = IsPartOf ask.all_optima p ask.mode r.results × (r.paid.left ≡ 0)
 
 -- Each unit spent was burnt for a conflict of the program, by no more answers than were found, and by no bound below the cost of the best.
+-- None was a conflict of a search for consequences where these weren't asked for, and then none are told.
 pub record IsReport (p : Program) (ask : Ask) (units : ℕ) (r : Report) : Type 0 where
   pub mode_is : r.results.mode ≡ ask.mode
   pub says : Says p ask r r.results.end
   pub program : r.paid.program ≡ p
   pub spent : r.paid.burnt ≡ r.spent
   pub budget : r.paid.left + r.spent ≡ units
-  pub known : r.paid.known ≤ length r.results.answers
+  pub reasoned : r.paid.reasoned ≡ true → is_some (reasoning_of ask.mode) ≡ true
+  pub known : r.paid.known ≤ length (known_in (reasoning_of ask.mode) r.results)
+  pub untold : reasoning_of ask.mode ≡ None → r.results.known ≡ None
   pub least : IsAtLeast (best_cost r.results) r.paid.least
   pub played : IsPlayedBy r.second p ask units r
 

@@ -1,7 +1,7 @@
 -- A number's search and its units, beside the board.
 use Rattle.std.specs.Prelude.{◌≡◌, ◌⊎◌, ℕ, false, List, [], Option, None, Some, ℤ}
 use Rattle.asp_model.specs.declared.results.Mode.{Mode}
-use Rattle.asp_model.specs.declared.results.Mode.TheVariants.{Enum, Opt}
+use Rattle.asp_model.specs.declared.results.Mode.TheVariants.{Enum, Opt, Consequences}
 use Rattle.asp_model.specs.Sets.{Atoms}
 use Rattle.asp_vars.specs.Literals.{Literal}
 use Rattle.asp_vars.specs.Paid.{Units}
@@ -21,11 +21,20 @@ use Rattle.asp_crew_laws.specs.Agrees.{Agrees, AreApart}
 abbrev pub IsKept : Mode → List Atoms → Type 0
 IsKept Enum known = Unit {0}
 IsKept Opt known = known ≡ []
+IsKept (Consequences r) known = Unit {0}
 
--- A search in this mode and with this bound may look for the goal: in an enumeration for all answers, or for those below its bound.
+-- No answer is known twice; where consequences are sought one set stands for all of them.
+abbrev pub AreApartIn : Mode → List Atoms → Type 0
+AreApartIn Enum known = AreApart known
+AreApartIn Opt known = AreApart known
+AreApartIn (Consequences r) known = Unit {0}
+
+-- A search in this mode and with this bound may look for the goal: in an enumeration for all answers, or for those below its bound; and
+-- for the mode's own.
 abbrev pub IsSought : Mode → Option (List ℤ) → Goal → Type 0
 IsSought Enum bound g = (g ≡ goal.Enum) ⊎ (g ≡ goal.Ties bound)
 IsSought Opt bound g = g ≡ goal.Opt
+IsSought (Consequences r) bound g = g ≡ goal.Consequences r
 
 -- A search in this mode may begin with this bound: with none for the mode's own goal, and among ties with theirs.
 abbrev pub MayBegin : Mode → Option (List ℤ) → Goal → Type 0
@@ -35,7 +44,7 @@ MayBegin mode bound g = ((g ≡ goal_of mode) × (bound ≡ None)) ⊎ ((mode �
 pub record IsAtWork (b : Board) (n : ℕ) (mode : Mode) (known : List Atoms) (bound : Option (List ℤ)) (u : Units) : Type 0 where
   pub goal : IsSought mode bound b.task.goal
   pub agrees : Agrees b known bound
-  pub apart : AreApart known
+  pub apart : AreApartIn mode known
   pub kept : IsKept mode known
   pub units : ComesBack b (out_of b.out n) u
 

@@ -1,12 +1,16 @@
 //! Laws of a run's journal. Each function's contract is a law, and its body is empty.
 ghost use Rattle.std.specs.Prelude.{◌≡◌, ◌+◌, ◌-◌, ◌<◌, ◌≤◌, max, ◌||◌, ◌++◌, ◌∷◌, ℕ, ℤ, Bool, length, List, [], true, false, Option, Some, None, IsTrue, option_map, Contains, AllPairs};
 ghost use Rattle.std.specs.List.{list_any, AllByRecursion};
+ghost use Rattle.std.specs.Option.{is_some};
 ghost use Rattle.std.specs.List.Sorted.{IsPermutation, IsSorted};
 ghost use Rattle.std.specs.List.Retain.{IsFiltered, DiffersFromLast};
 ghost use Rattle.asp_model.specs.declared.program.Program.{Program};
 ghost use Rattle.asp_model.specs.declared.results.Ask.{Ask};
 ghost use Rattle.asp_model.specs.declared.results.Mode.{Mode};
-ghost use Rattle.asp_model.specs.declared.results.Mode.TheVariants.{Enum, Opt};
+ghost use Rattle.asp_model.specs.declared.results.Mode.TheVariants.{Enum, Opt, Consequences};
+ghost use Rattle.asp_model.specs.declared.results.Reasoning.{Reasoning};
+ghost use Rattle.asp_model.specs.Asked.{reasoning_of};
+ghost use Rattle.asp_model.specs.Consequences.{common_sets, used_up};
 ghost use Rattle.asp_model.specs.declared.results.End.TheVariants.{Finished, Limited};
 ghost use Rattle.asp_model.specs.Costs.{cost, betters};
 ghost use Rattle.asp_model.specs.Models.{answers};
@@ -20,7 +24,7 @@ ghost use Rattle.asp_core.specs.declared.event.Event.TheVariants as event;
 ghost use Rattle.asp_core.specs.declared.goal.Goal.TheVariants as goal;
 ghost use Rattle.asp_core.specs.declared.task.Task.{Task};
 ghost use Rattle.asp_core.specs.Units.{out_of};
-ghost use Rattle.asp_core.specs.Boards.{Board, start, is_excused, IsBoundOf};
+ghost use Rattle.asp_core.specs.Boards.{Board, common_by, listed_by, sought, start, is_excused, IsBoundOf};
 ghost use Rattle.asp_core.specs.Events.{Guard, happens, maker, IsLawful, replay};
 ghost use Rattle.asp_core.specs.Growth.{Grows, Spares};
 ghost use Rattle.asp_book.specs.Books.{IsJournalOf};
@@ -28,15 +32,15 @@ ghost use Rattle.asp_book.specs.Fuels.{Fits, ComesBack};
 ghost use Rattle.asp_crew_laws.specs.declared.report.Report.{Report};
 ghost use Rattle.asp_crew_laws.specs.Agrees.{Agrees, AreApart};
 ghost use Rattle.asp_crew_laws.specs.Gone.{IsCrewGone, IsGone, IsShared};
-ghost use Rattle.asp_crew_laws.specs.Reports.{board_by, joined, IsIdle, IsPart, IsPlayed, IsReport, IsToldBy, IsWhole};
+ghost use Rattle.asp_crew_laws.specs.Reports.{board_by, joined, known_in, IsIdle, IsPart, IsPlayed, IsReport, IsToldBy, IsWhole};
 ghost use Rattle.asp_crew_laws.specs.Working.{IsAtWork, MayBegin, Works};
 ghost use Rattle.asp_crew_laws.specs.Runs.{asks, task_of, ties_of, IsFound, with_cost, Quiet};
 
 /// A lawful journal after which every leaf is closed tells what was to be found.
 pub fn a_closed_board_is_found()
     ensures { (p : Program) (ask : Ask) (budget : ℕ) (journal : List Event) (sorted once : List Atoms) → IsLawful (start (task_of p ask budget)) journal → all_closed (replay (task_of p ask budget) journal).nodes ≡ true
-        → IsPermutation (replay (task_of p ask budget) journal).answers sorted → IsSorted set_cmp sorted → IsFiltered (DiffersFromLast same_set) [] sorted once
-        → IsFound p ask.mode once (option_map (with_cost p) (replay (task_of p ask budget) journal).best) }
+        → IsPermutation (listed_by (reasoning_of ask.mode) (replay (task_of p ask budget) journal).answers) sorted → IsSorted set_cmp sorted → IsFiltered (DiffersFromLast same_set) [] sorted once
+        → IsFound p ask.mode once (option_map (with_cost p) (replay (task_of p ask budget) journal).best) (common_by (reasoning_of ask.mode) p (replay (task_of p ask budget) journal).answers) }
 {}
 
 /// Where each number found no leaf open at its end, all of them found none at one moment; and where no leaf is held, every leaf is closed.
@@ -48,9 +52,9 @@ pub fn quiet_numbers_leave_nothing()
 /// A first search whose journal leads to what its report says: a finished one has found what was asked, and another a part of
 /// it; no conflict that was paid for knew more answers than are reported.
 pub fn a_journal_explains_its_report()
-    ensures found { (p : Program) (ask : Ask) (units : ℕ) (r : Report) → IsPlayed (task_of p ask units) r → r.results.end ≡ Finished → IsFound p ask.mode r.results.answers r.results.best }
+    ensures found { (p : Program) (ask : Ask) (units : ℕ) (r : Report) → IsPlayed (task_of p ask units) r → r.results.end ≡ Finished → IsFound p ask.mode r.results.answers r.results.best r.results.known }
     ensures part { (p : Program) (ask : Ask) (units : ℕ) (r : Report) → IsPlayed (task_of p ask units) r → IsPart p ask.mode r.results }
-    ensures known { (t : Task) (r : Report) → IsPlayed t r → r.paid.known ≤ length r.results.answers }
+    ensures known { (t : Task) (r : Report) → IsPlayed t r → r.paid.known ≤ length (known_in (sought t.goal) r.results) }
 {}
 
 /// A limit is kept: the answers of a report are distinct answers of the program in their order, as many as were asked for where
@@ -81,10 +85,14 @@ pub fn a_search_at_work_goes_on()
 
 /// A search at work goes with the board still after a unit was burnt, after its own answer was recorded, and after a lease.
 pub fn a_search_at_work_records()
-    ensures burnt { (b : Board) (n : ℕ) (mode : Mode) (known : List Atoms) (bound : Option (List ℤ)) (u : Units) (x : Clash) → IsAtWork b n mode known bound u → 0 < u.left → x.known ≡ length known → x.bound ≡ bound
-        → IsAtWork b n mode known bound (record { program = u.program; left = u.left - 1; burnt = u.burnt + 1; known = max u.known x.known; least = least_of u.least x.bound }) }
+    ensures burnt { (b : Board) (n : ℕ) (mode : Mode) (known : List Atoms) (bound : Option (List ℤ)) (u : Units) (x : Clash) → IsAtWork b n mode known bound u → 0 < u.left → x.reasoning ≡ reasoning_of mode → x.known ≡ length known → x.bound ≡ bound
+        → IsAtWork b n mode known bound (record { program = u.program; left = u.left - 1; burnt = u.burnt + 1; reasoned = u.reasoned || is_some x.reasoning; known = max u.known x.known; least = least_of u.least x.bound }) }
     ensures delivered { (b : Board) (n : ℕ) (S : Atoms) (known : List Atoms) (bound : Option (List ℤ)) (u : Units) → IsAtWork b n Enum known bound u → Guard b (event.Deliver n S) → list_any (same_set S) known ≡ false
         → IsAtWork (happens b (event.Deliver n S)) n Enum (known ++ S ∷ []) bound u }
+    ensures told { (b : Board) (n : ℕ) (S : Atoms) (r : Reasoning) (known : List Atoms) (bound : Option (List ℤ)) (u : Units) → IsAtWork b n (Consequences r) known bound u → Guard b (event.Deliver n S)
+        → IsAtWork (happens b (event.Deliver n S)) n (Consequences r) (common_sets r b.task.program (known ++ S ∷ [])) bound u }
+    ensures adopted { (b : Board) (n : ℕ) (r : Reasoning) (known : List Atoms) (bound : Option (List ℤ)) (u : Units) → IsAtWork b n (Consequences r) known bound u
+        → IsAtWork b n (Consequences r) (common_sets r b.task.program b.answers) bound u }
     ensures improved { (b : Board) (n : ℕ) (S : Atoms) (known : List Atoms) (bound : Option (List ℤ)) (u : Units) → IsAtWork b n Opt known bound u → Guard b (event.Improve n S)
         → IsAtWork (happens b (event.Improve n S)) n Opt known (Some (cost b.task.program S)) u }
     ensures unimproved { (b : Board) (n : ℕ) (S B : Atoms) (known : List Atoms) (bound : Option (List ℤ)) (u : Units) → IsAtWork b n Opt known bound u → b.best ≡ Some B → betters (cost b.task.program S) (cost b.task.program B) ≡ false
@@ -110,7 +118,9 @@ pub fn gone_workers_shared_the_run()
 /// A search that agrees with the board still does after what others did, and after a delivery.
 pub fn a_listing_search_agrees()
     ensures others { (b c : Board) (known : List Atoms) (bound : Option (List ℤ)) → Grows b c → Agrees b known bound → Agrees c known bound }
-    ensures delivered { (b : Board) (s : ℕ) (S : Atoms) (known : List Atoms) (bound : Option (List ℤ)) → Agrees b known bound → Agrees (happens b (event.Deliver s S)) (known ++ S ∷ []) bound }
+    ensures delivered { (b : Board) (s : ℕ) (S : Atoms) (known : List Atoms) (bound : Option (List ℤ)) → sought b.task.goal ≡ None → Agrees b known bound → Agrees (happens b (event.Deliver s S)) (known ++ S ∷ []) bound }
+    ensures told { (b : Board) (s : ℕ) (S : Atoms) (r : Reasoning) (known : List Atoms) (bound : Option (List ℤ)) → sought b.task.goal ≡ Some r → Agrees b known bound → Agrees (happens b (event.Deliver s S)) (common_sets r b.task.program (known ++ S ∷ [])) bound }
+    ensures adopted { (b : Board) (r : Reasoning) (known : List Atoms) (bound : Option (List ℤ)) → sought b.task.goal ≡ Some r → Agrees b known bound → Agrees b (common_sets r b.task.program b.answers) bound }
 {}
 
 /// In an optimisation a search agrees with the board by the cost of an answer that is the best, or that a best stands no dearer
@@ -124,6 +134,6 @@ pub fn an_optimising_search_agrees()
 /// What a search that agrees with the board has settled, the board excuses; and where no set stands twice among those that it
 /// knows, it knows no more than were delivered.
 pub fn an_agreeing_search_may_close()
-    ensures settled { (b : Board) (known : List Atoms) (bound : Option (List ℤ)) (nogood : List Literal) → Agrees b known bound → Settled b.task.program known bound nogood → HitsOnly b.task.program (is_excused b) nogood }
+    ensures settled { (b : Board) (known : List Atoms) (bound : Option (List ℤ)) (nogood : List Literal) → Agrees b known bound → Settled b.task.program (used_up (sought b.task.goal) b.task.program known) bound nogood → HitsOnly b.task.program (is_excused b) nogood }
     ensures known { (known delivered : List Atoms) → AreApart known → AllByRecursion (λ S. IsTrue (list_any (same_set S) delivered)) known → length known ≤ length delivered }
 {}

@@ -15,3 +15,4 @@ pub mod CostLaws
 pub mod WalkLaws
 pub mod BestLaws
 pub mod AboveLaws
+pub mod ConsequenceLaws

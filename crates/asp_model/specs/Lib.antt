@@ -3,6 +3,8 @@ pub mod Holding
 pub mod Reduct
 pub mod Models
 pub mod Costs
+pub mod Asked
+pub mod Consequences
 pub mod Texts
 pub mod Walks
 pub mod Rows

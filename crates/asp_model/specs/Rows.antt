@@ -8,6 +8,7 @@ use Rattle.asp_model.specs.declared.program.Rule.{Rule}
 use Rattle.asp_model.specs.declared.program.Program.{Program}
 use Rattle.asp_model.specs.declared.results.End.{End}
 use Rattle.asp_model.specs.declared.results.Mode.TheVariants as mode
+use Rattle.asp_model.specs.declared.results.Reasoning.TheVariants as reasoning
 use Rattle.asp_model.specs.declared.results.Results.{Results}
 use Rattle.asp_model.specs.Sets.{Atoms}
 
@@ -90,11 +91,15 @@ abbrev pub two_ways_shown : Program
 two_ways_shown = record two_ways { outputs = record { text = codes "a"; condition = pos 1 ∷ [] } ∷ record { text = codes "b"; condition = pos 2 ∷ [] } ∷ [] }
 
 abbrev pub enumerated : End → List Atoms → Results
-enumerated e answers = record { mode = mode.Enum; end = e; answers = answers; best = None }
+enumerated e answers = record { mode = mode.Enum; end = e; answers = answers; best = None; known = None }
 
 -- optima that were listed, and the best of the search before
 abbrev pub tied : End → List Atoms → Option (Atoms × List ℤ) → Results
-tied e answers best = record { mode = mode.Opt; end = e; answers = answers; best = best }
+tied e answers best = record { mode = mode.Opt; end = e; answers = answers; best = best; known = None }
 
 abbrev pub optimised : End → Option (Atoms × List ℤ) → Results
 optimised e best = tied e [] best
+
+-- what holds in some answer
+abbrev pub brave : End → Option Atoms → Results
+brave e known = record { mode = mode.Consequences reasoning.Brave; end = e; answers = []; best = None; known = known }

@@ -6,7 +6,7 @@ use Rattle.asp_model.specs.declared.program.Program.{Program}
 use Rattle.asp_model.specs.declared.results.End.{End}
 use Rattle.asp_model.specs.declared.results.End.TheVariants.{Finished, Limited, Unfinished}
 use Rattle.asp_model.specs.declared.results.Mode.{Mode}
-use Rattle.asp_model.specs.declared.results.Mode.TheVariants.{Enum, Opt}
+use Rattle.asp_model.specs.declared.results.Mode.TheVariants.{Enum, Opt, Consequences}
 use Rattle.asp_model.specs.declared.results.Results.{Results}
 use Rattle.asp_model.specs.Sets.{Atoms}
 use Rattle.asp_model.specs.Holding.{all_hold}
@@ -45,21 +45,39 @@ abbrev pub bests : Option (Atoms × List ℤ) → List Atoms → List Atoms
 bests best [] = best_answers best
 bests best (S ∷ answers) = S ∷ answers
 
--- the answers that a run recorded: in an optimisation those that it listed, or else the best alone
+-- the answers that a run recorded: in an optimisation those that it listed, or else the best alone; of consequences none is listed
 abbrev pub recorded : Mode → Results → List Atoms
 recorded Enum r = r.answers
 recorded Opt r = bests r.best r.answers
+recorded (Consequences w) r = []
 
--- An enumeration has no costs.
-abbrev pub costs_text : Mode → Results → List ℕ
-costs_text Enum r = []
-costs_text Opt r = best_cost_line r.best
+-- the atoms that hold in some or in all answers, each behind a blank
+abbrev pub consequences_line : Option Atoms → List ℕ
+consequences_line None = []
+consequences_line (Some B) = ended_line (codes "Consequences:" ++ flat_map (λ a. 32 ∷ decimal a) B)
+
+-- what stands between the answers and the word line: in an optimisation the cost, and what holds where that was sought
+abbrev pub sums_text : Mode → Results → List ℕ
+sums_text Enum r = []
+sums_text Opt r = best_cost_line r.best
+sums_text (Consequences w) r = consequences_line r.known
+
+abbrev pub how_many : Option Atoms → ℕ
+how_many None = 0
+how_many (Some B) = 1
+
+-- how many answers are recorded; of consequences one, where they stand
+abbrev pub found_count : Mode → Results → ℕ
+found_count Enum r = length r.answers
+found_count Opt r = length (bests r.best r.answers)
+found_count (Consequences w) r = how_many r.known
 
 -- what is said of a run that recorded so many answers
 abbrev pub verdict : End → Mode → ℕ → List ℕ
 verdict Finished mode zero = codes "UNSATISFIABLE"
 verdict Finished Enum (suc k) = codes "SATISFIABLE"
 verdict Finished Opt (suc k) = codes "OPTIMUM FOUND"
+verdict Finished (Consequences w) (suc k) = codes "CONSEQUENCES FOUND"
 verdict Limited mode k = codes "LIMIT REACHED"
 verdict Unfinished mode zero = codes "UNKNOWN"
 verdict Unfinished mode (suc k) = codes "BUDGET SPENT"
@@ -70,11 +88,17 @@ count_mark Finished = []
 count_mark Limited = codes "+"
 count_mark Unfinished = codes "+"
 
+-- Consequences aren't counted.
+abbrev pub count_line : Mode → End → ℕ → List ℕ
+count_line Enum end k = ended_line (codes "Models: " ++ decimal k ++ count_mark end)
+count_line Opt end k = ended_line (codes "Models: " ++ decimal k ++ count_mark end)
+count_line (Consequences w) end k = []
+
 -- the word line and the count line
 abbrev pub closing_lines : Results → ℕ → List ℕ
-closing_lines r k = ended_line (verdict r.end r.mode k) ++ ended_line (codes "Models: " ++ decimal k ++ count_mark r.end)
+closing_lines r k = ended_line (verdict r.end r.mode k) ++ count_line r.mode r.end k
 
 -- A brief text leaves out the lines of the answers.
 abbrev pub results_text : Program → Results → Bool → List ℕ
 results_text p r brief =
-    (if brief then [] else answers_from p 1 (recorded r.mode r)) ++ costs_text r.mode r ++ closing_lines r (length (recorded r.mode r))
+    (if brief then [] else answers_from p 1 (recorded r.mode r)) ++ sums_text r.mode r ++ closing_lines r (found_count r.mode r)

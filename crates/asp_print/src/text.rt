@@ -3,7 +3,7 @@ ghost use Rattle.std.specs.Prelude.{◌≡◌, ◌++◌, ◌≤◌, [], ◌∷�
 ghost use Rattle.std.specs.Fmt.{signed_decimal};
 ghost use Rattle.std.specs.Io.KnownBytes.{Appends};
 ghost use Rattle.asp_io.specs.Causes.{Rose, AppendsFront};
-ghost use Rattle.asp_model.specs.Texts.{answers_from, closing_lines, cost_line, costs_text, count_mark, ended_line, recorded, results_text, verdict};
+ghost use Rattle.asp_model.specs.Texts.{answers_from, closing_lines, consequences_line, cost_line, count_line, count_mark, ended_line, found_count, how_many, recorded, results_text, sums_text, verdict};
 ghost use Rattle.asp_buffer.specs.Out.{Puts, out};
 
 use crate::answers::put_answers;
@@ -11,7 +11,7 @@ use asp_buffer::{Waiting, flush, put, put_number};
 use asp_io::{Failed, Sink};
 use asp_model::cost::Cost;
 use asp_model::interp::Interp;
-use asp_model::program::Program;
+use asp_model::program::{Atom, Program};
 use asp_model::results::{End, Mode, Results};
 use std::alloc::Global;
 use std::slice;
@@ -29,6 +29,7 @@ fn recorded(results: &Results) -> &[Interp]
             },
             [_, ..] => results.answers.as_slice(),
         },
+        Mode::Consequences(_) => &[],
     }
 }
 
@@ -39,6 +40,7 @@ fn verdict(end: End, mode: Mode, count: usize) -> &'static [u8]
         (End::Finished, _) if count == 0 => b"UNSATISFIABLE",
         (End::Finished, Mode::Enum) => b"SATISFIABLE",
         (End::Finished, Mode::Opt) => b"OPTIMUM FOUND",
+        (End::Finished, Mode::Consequences(_)) => b"CONSEQUENCES FOUND",
         (End::Limited, _) => b"LIMIT REACHED",
         (End::Unfinished, _) if count == 0 => b"UNKNOWN",
         (End::Unfinished, _) => b"BUDGET SPENT",
@@ -84,15 +86,54 @@ fn put_cost<K: Sink>(sink: &mut K, waiting: &mut Waiting, cost: &Cost) -> Result
     put(sink, waiting, b"\n")
 }
 
-// Puts out the cost line, where there is one.
-fn put_best_cost<K: Sink>(
+// Puts out an atom, behind a blank.
+fn put_atom<K: Sink>(sink: &mut K, waiting: &mut Waiting, atom: &Atom) -> Result<(), Failed>
+    ensures { Puts (out (K.held sink.old) (K.faults sink.old) waiting.old)
+        (out (K.held sink.new) (K.faults sink.new) waiting.new) result (32 ∷ decimal atom.now) }
+{
+    put(sink, waiting, b" ")?;
+    put_number(sink, waiting, *atom)
+}
+
+// Puts out the atoms, each behind a blank.
+fn put_atoms<K: Sink>(sink: &mut K, waiting: &mut Waiting, atoms: &[Atom]) -> Result<(), Failed>
+    ensures { Puts (out (K.held sink.old) (K.faults sink.old) waiting.old)
+        (out (K.held sink.new) (K.faults sink.new) waiting.new) result (flat_map (λ a. 32 ∷ decimal a) atoms.now) }
+{
+    for atom in atoms {
+        put_atom(sink, waiting, atom)?;
+    }
+    Ok(())
+}
+
+// Puts out the line of the atoms that hold in some or in all answers, where there is one.
+fn put_known<K: Sink>(
+    sink: &mut K,
+    waiting: &mut Waiting,
+    known: &Option<Interp>,
+) -> Result<(), Failed>
+    ensures { Puts (out (K.held sink.old) (K.faults sink.old) waiting.old)
+        (out (K.held sink.new) (K.faults sink.new) waiting.new) result (consequences_line known.now) }
+{
+    match known {
+        None => put(sink, waiting, b""),
+        Some(known) => {
+            put(sink, waiting, b"Consequences:")?;
+            put_atoms(sink, waiting, known.as_slice())?;
+            put(sink, waiting, b"\n")
+        }
+    }
+}
+
+// Puts out the cost line, or what holds in some or in all answers, where there is such a line.
+fn put_sums_line<K: Sink>(
     sink: &mut K,
     waiting: &mut Waiting,
     results: &Results,
 ) -> Result<(), Failed>
     ensures { Puts (out (K.held sink.old) (K.faults sink.old) waiting.old)
         (out (K.held sink.new) (K.faults sink.new) waiting.new) result
-        (costs_text results.now.mode results.now) }
+        (sums_text results.now.mode results.now) }
 {
     match results.mode {
         Mode::Enum => put(sink, waiting, b""),
@@ -100,6 +141,7 @@ fn put_best_cost<K: Sink>(
             Some((_, cost)) => put_cost(sink, waiting, cost),
             None => put(sink, waiting, b""),
         },
+        Mode::Consequences(_) => put_known(sink, waiting, &results.known),
     }
 }
 
@@ -118,7 +160,26 @@ fn put_verdict<K: Sink>(
     put(sink, waiting, b"\n")
 }
 
-fn put_count<K: Sink>(sink: &mut K, waiting: &mut Waiting, count: usize) -> Result<(), Failed>
+// How many answers were recorded; of consequences one, where they stand.
+fn found_count(results: &Results) -> usize
+    ensures { result ≡ found_count results.now.mode results.now }
+{
+    match results.mode {
+        Mode::Enum | Mode::Opt => recorded(results).len(),
+        Mode::Consequences(_) => how_many(&results.known),
+    }
+}
+
+fn how_many(known: &Option<Interp>) -> usize
+    ensures { result ≡ how_many known.now }
+{
+    match known {
+        None => 0,
+        Some(_) => 1,
+    }
+}
+
+fn put_number_of<K: Sink>(sink: &mut K, waiting: &mut Waiting, count: usize) -> Result<(), Failed>
     ensures { Puts (out (K.held sink.old) (K.faults sink.old) waiting.old)
         (out (K.held sink.new) (K.faults sink.new) waiting.new) result
         (codes "Models: " ++ decimal count) }
@@ -136,6 +197,37 @@ fn put_mark<K: Sink>(sink: &mut K, waiting: &mut Waiting, end: End) -> Result<()
     put(sink, waiting, b"\n")
 }
 
+fn put_models<K: Sink>(
+    sink: &mut K,
+    waiting: &mut Waiting,
+    end: End,
+    count: usize,
+) -> Result<(), Failed>
+    ensures { Puts (out (K.held sink.old) (K.faults sink.old) waiting.old)
+        (out (K.held sink.new) (K.faults sink.new) waiting.new) result
+        (ended_line (codes "Models: " ++ decimal count ++ count_mark end)) }
+{
+    put_number_of(sink, waiting, count)?;
+    put_mark(sink, waiting, end)
+}
+
+// Puts out the count line, where there is one.
+fn put_count<K: Sink>(
+    sink: &mut K,
+    waiting: &mut Waiting,
+    results: &Results,
+    count: usize,
+) -> Result<(), Failed>
+    ensures { Puts (out (K.held sink.old) (K.faults sink.old) waiting.old)
+        (out (K.held sink.new) (K.faults sink.new) waiting.new) result
+        (count_line results.now.mode results.now.end count) }
+{
+    match results.mode {
+        Mode::Enum | Mode::Opt => put_models(sink, waiting, results.end, count),
+        Mode::Consequences(_) => put(sink, waiting, b""),
+    }
+}
+
 // Puts out the word line and the count line.
 fn put_closing<K: Sink>(
     sink: &mut K,
@@ -148,8 +240,7 @@ fn put_closing<K: Sink>(
         (closing_lines results.now count) }
 {
     put_verdict(sink, waiting, results, count)?;
-    put_count(sink, waiting, count)?;
-    put_mark(sink, waiting, results.end)
+    put_count(sink, waiting, results, count)
 }
 
 // Puts out the lines of the answers, unless the text is to be brief.
@@ -175,9 +266,9 @@ fn put_recorded<K: Sink>(
 fn put_ending<K: Sink>(sink: &mut K, waiting: &mut Waiting, results: &Results) -> Result<(), Failed>
     ensures { Puts (out (K.held sink.old) (K.faults sink.old) waiting.old)
         (out (K.held sink.new) (K.faults sink.new) waiting.new) result
-        (closing_lines results.now (length (recorded results.now.mode results.now))) }
+        (closing_lines results.now (found_count results.now.mode results.now)) }
 {
-    put_closing(sink, waiting, results, recorded(results).len())
+    put_closing(sink, waiting, results, found_count(results))
 }
 
 fn put_results<K: Sink>(
@@ -193,12 +284,13 @@ fn put_results<K: Sink>(
         (results_text program.now results.now brief) }
 {
     put_recorded(alloc, sink, waiting, program, results, brief)?;
-    put_best_cost(sink, waiting, results)?;
+    put_sums_line(sink, waiting, results)?;
     put_ending(sink, waiting, results)
 }
 
 /// Writes the text of the results: unless it is to be brief two lines for each answer, then in an optimisation the
-/// cost line, the word line and the count line. Where memory is wanting it takes longer. After an error a front of the text is out.
+/// cost line, the word line and the count line; of consequences the line of the atoms and the word line. Where memory is wanting it
+/// takes longer. After an error a front of the text is out.
 pub fn print<K: Sink>(
     alloc: Global,
     sink: &mut K,

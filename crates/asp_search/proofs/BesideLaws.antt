@@ -84,6 +84,7 @@ unbounded_state p bound t none e =
 of_use_counts : (m : Mode) (bound : Option (List ℤ)) (b : Base) → is_of_use m bound b ≡ true → Counts bound b
 of_use_counts m bound base.Pure h = tt
 of_use_counts mode.Enum bound (base.Below c) h = absurd (false≢true h)
+of_use_counts (mode.Consequences r) bound (base.Below c) h = absurd (false≢true h)
 of_use_counts mode.Opt bound (base.Below c) h = h
 of_use_counts m bound base.Local h = tt
 

@@ -10,3 +10,4 @@ pub mod BelowLaws
 pub mod BesideLaws
 pub mod FaultLaws
 pub mod OpenLaws
+pub mod CoverLaws

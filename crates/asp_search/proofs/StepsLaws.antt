@@ -12,6 +12,8 @@ use Rattle.std.proofs.lemmas.List.Elements.{filter_passes}
 use Rattle.asp_model.specs.declared.program.Program.{Program}
 use Rattle.asp_model.specs.declared.results.Mode.{Mode}
 use Rattle.asp_model.specs.declared.results.Mode.TheVariants as mode
+use Rattle.asp_model.specs.Asked.{reasoning_of}
+use Rattle.asp_model.specs.Consequences.{used_up}
 use Rattle.asp_model.specs.Sets.{Atoms}
 use Rattle.asp_model.specs.Costs.{cost}
 use Rattle.asp_vars.specs.Literals.{Literal, complement, literal_eq, has_literal, hits}
@@ -54,6 +56,10 @@ use Rattle.asp_search.specs.Stepping.{IsFound}
 use Rattle.asp_search.proofs.MeetLaws.{met_within, met_settled, met_derived, met_jump}
 
 module _ (gives : Nogood → Type 0) (md : Mode) (t : SearchView) (c : Paced) (known : List Atoms) (last : Option ℕ) where
+  -- what need not be found again
+  abbrev U : List Atoms
+  U = used_up (reasoning_of md) t.program known
+
   -- ---- nothing changed
   pub fails_same : (q : List Literal) (f : Units) → Fails gives (view_of md t c known last) (view_of md t c known last) q f f
   fails_same q f = record {
@@ -93,7 +99,7 @@ module _ (gives : Nogood → Type 0) (md : Mode) (t : SearchView) (c : Paced) (k
     closing = record { lits = x.lit ∷ complement x.lit ∷ []; base = base.Pure };
     within = λ k h. pair_within k (or_cases (literal_eq x.lit k) (has_literal (complement x.lit ∷ []) k) h);
     why = IsDerived.given (IsAxiom.pair x.lit) tt;
-    settled = clash_settled t.program (is_done t.program known t.bound) q x.lit x.has x.opposite;
+    settled = clash_settled t.program (is_done t.program U t.bound) q x.lit x.has x.opposite;
     decisions = refl;
     derived = derived_same t.program gives t.bound t.slots;
     learnt = refl;
@@ -106,22 +112,23 @@ module _ (gives : Nogood → Type 0) (md : Mode) (t : SearchView) (c : Paced) (k
       pair_within k (inr h) = subst (λ (l : Literal). has_literal q l ≡ true) (only_one (complement x.lit) k h) x.opposite
 
   -- ---- a conflict
-  pub conflict_of : (q : List Literal) (id : ℕ) (lit : Literal) (x : Clash) → t.cube ≡ Some q → ShowsConflict t.program known t.bound t id lit → IsClashOf t.program known t.bound t id lit x →
+  pub conflict_of : (q : List Literal) (id : ℕ) (lit : Literal) (x : Clash) → t.cube ≡ Some q → ShowsConflict t.program U t.bound t id lit → IsClashOf t.program (reasoning_of md) known t.bound t id lit x →
       IsConflictOf (view_of md t c known last) q x
   conflict_of q id lit x entered m is =
       let e = is m in
       record {
         program = ap (λ (y : Clash). y.program) e;
         cube = ap (λ (y : Clash). y.cube) e ∙ ap (λ (o : Option (List Literal)). unwrap_or o q) (sym m.entered ∙ entered);
+        reasoning = ap (λ (y : Clash). y.reasoning) e;
         known = ap (λ (y : Clash). y.known) e;
         bound = ap (λ (y : Clash). y.bound) e;
         level = level_in t.entries lit.var;
         decisions = ap (λ (y : Clash). y.decisions) e;
-        conflict = subst (λ (y : Clash). IsConflict t.program known t.bound y.cube y.decisions y.nogood) (sym e) m.conflict;
+        conflict = subst (λ (y : Clash). IsConflict t.program U t.bound y.cube y.decisions y.nogood) (sym e) m.conflict;
       }
 
-  pub met_stops : (q : List Literal) (f : Units) (id : ℕ) (lit : Literal) (x : Clash) → last ≡ None → f.left ≡ 0 → t.cube ≡ Some q → (m : ShowsConflict t.program known t.bound t id lit) →
-      IsClashOf t.program known t.bound t id lit x → AreContained (var_count t.program) t.entries m.from.lits →
+  pub met_stops : (q : List Literal) (f : Units) (id : ℕ) (lit : Literal) (x : Clash) → last ≡ None → f.left ≡ 0 → t.cube ≡ Some q → (m : ShowsConflict t.program U t.bound t id lit) →
+      IsClashOf t.program (reasoning_of md) known t.bound t id lit x → AreContained (var_count t.program) t.entries m.from.lits →
       Stops gives (view_of md t c known last) (view_of md t c known last) q f f x
   met_stops q f id lit x none empty entered m is holds = record {
     same = same_task;
@@ -310,7 +317,7 @@ restarts_from gives s t f slots ranking none due reduced e =
     })
 
 -- ---- an answer
-blocking_hits : (v : List Bool) (q decisions : List Literal) → hits v (q ++ decisions) ≡ true → hits v q ≡ true
+pub blocking_hits : (v : List Bool) (q decisions : List Literal) → hits v (q ++ decisions) ≡ true → hits v q ≡ true
 blocking_hits v q decisions h = (and_parts (hits v q) (hits v decisions) (sym (hits-append v q decisions) ∙ h)).0
 
 module _ (gives : Nogood → Type 0) (t u : SearchView) (c : Paced) (known : List Atoms) (last : Option ℕ) (q : List Literal) (S : Atoms) (f : Units) (none : last ≡ None) where

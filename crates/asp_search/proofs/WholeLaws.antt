@@ -1,12 +1,18 @@
 -- A trail on which all variables have values, while all is at fixpoint.
-use Rattle.std.proofs.Common.{◌≡◌, ℕ, Bool, true, List, ◌∷◌, Option, Some, refl, sym, ap, ◌∙◌, subst, []}
+use Rattle.std.proofs.Common.{◌≡◌, ℕ, Bool, true, false, List, ◌∷◌, ◌++◌, Option, Some, refl, sym, ap, ◌∙◌, subst, []}
 use Rattle.asp_model.specs.declared.program.Program.{Program}
 use Rattle.asp_model.specs.declared.results.Mode.{Mode}
-use Rattle.asp_model.specs.Sets.{Atoms}
+use Rattle.asp_model.specs.Asked.{reasoning_of}
+use Rattle.asp_model.specs.Consequences.{used_up}
+use Rattle.asp_model.specs.Costs.{cost}
+use Rattle.asp_model.specs.Sets.{Atoms, same_set}
 use Rattle.asp_model.specs.Models.{is_stable}
+use Rattle.std.specs.List.{list_any}
 use Rattle.asp_model.proofs.MemberLaws.{each_weaker}
-use Rattle.asp_vars.specs.Literals.{Literal}
-use Rattle.asp_vars.specs.Numbering.{var_count}
+use Rattle.asp_vars.specs.Literals.{Literal, hits}
+use Rattle.asp_vars.specs.Entailment.{Settled}
+use Rattle.asp_propagate.specs.Useful.{IsSmaller}
+use Rattle.asp_vars.specs.Numbering.{values, var_count}
 use Rattle.asp_vars.specs.Completion.{completion}
 use Rattle.asp_vars.specs.declared.nogood.Base.TheVariants as base
 use Rattle.asp_vars.specs.declared.nogood.Nogood.{Nogood}
@@ -48,6 +54,14 @@ pub record IsFull (silent : List (Option Bool) → Type 0) (known : List Atoms) 
   pub useful : AreUseful t.program known t.bound t.slots
   pub blocked : AreExcluded t.program t.slots known
 
+-- The set is an answer that these don't have, and costs less than the bound.
+pub record IsNew (known : List Atoms) (t : SearchView) (q : List Literal) (S : Atoms) : Type 0 where
+  pub stable : is_stable t.program S ≡ true
+  pub hit : hits (values t.program S) (q ++ t.decisions) ≡ true
+  pub new : list_any (same_set S) known ≡ false
+  pub cheaper : IsSmaller (cost t.program S) t.bound
+  pub settled : Settled t.program (known ++ S ∷ []) t.bound (q ++ t.decisions)
+
 -- each answer that is blocked is so by a kept nogood
 pub all_blocked : (p : Program) (slots : List (Option StoredNogood)) (known : List Atoms) → AreExcluded p slots known → AreBlocked p (nogood_at slots) known
 all_blocked p slots [] b = tt
@@ -77,15 +91,21 @@ module _ (silent : List (Option Bool) → Type 0) (known : List Atoms) (t : Sear
   settled : KeepsSettled t.program known t.bound (nogood_at t.slots)
   settled id n k = useful_settles t.program known t.bound n (f.useful id n k)
 
-  pub full_found : (m : Mode) (c : Paced) (last : Option ℕ) → is_stable t.program (atoms_on t.program (var_count t.program) t.entries) ≡ true →
-      IsFound (view_of m t c known last) q (atoms_on t.program (var_count t.program) t.entries)
-  full_found m c last stable = record {
+  pub full_new : is_stable t.program (atoms_on t.program (var_count t.program) t.entries) ≡ true → IsNew known t q (atoms_on t.program (var_count t.program) t.entries)
+  full_new stable = record {
     stable = stable;
     hit = whole_way t.program (var_count t.program) t.entries full_whole q t.decisions f.starts;
     new = answer_new t.program known (var_count t.program) (nogood_at t.slots) t.entries full_whole (all_blocked t.program t.slots known f.blocked) f.small f.fixpoint.fixpoint;
     cheaper = keeps.cheaper;
     settled = answer_settles t.program known t.bound (var_count t.program) (nogood_at t.slots) q t.decisions t.entries full_whole f.reasons settled f.starts;
   }
+
+pub full_found : (silent : List (Option Bool) → Type 0) (m : Mode) (t : SearchView) (c : Paced) (K : List Atoms) (last : Option ℕ) (q : List Literal) → IsFull silent (used_up (reasoning_of m) t.program K) t q →
+    ((v : List Bool) → follow.IsWhole t.program (values_of t) v → silent (values_of t) → KeepsAll t.program t.bound v) → is_stable t.program (atoms_on t.program (var_count t.program) t.entries) ≡ true →
+    IsFound (view_of m t c K last) q (atoms_on t.program (var_count t.program) t.entries)
+full_found silent m t c K last q f whole stable =
+    let n = full_new silent (used_up (reasoning_of m) t.program K) t q f whole stable in
+    record { stable = n.stable; hit = n.hit; new = n.new; cheaper = n.cheaper; settled = n.settled }
 
 -- ---- of the program that the code has in its hands
 pub whole_for : (p : Program) (t : SearchView) → p ≡ t.program → IsWhole t.program (var_count t.program) t.entries → IsWhole p (var_count p) t.entries

@@ -1,8 +1,11 @@
 -- The calls beside a step.
-use Rattle.std.specs.Prelude.{◌≡◌, ℕ, nat_le, ◌==◌, Bool, true, false, ◌&&◌, not, List, length, Option, Some, None, option_and_then, if◌then◌else◌, []}
+use Rattle.std.specs.Prelude.{◌≡◌, ℕ, nat_le, ◌==◌, Bool, true, false, ◌&&◌, not, ◌⊎◌, List, length, Option, Some, None, option_and_then, if◌then◌else◌, []}
 use Rattle.std.specs.List.{All, list_any}
 use Rattle.asp_model.specs.declared.program.Program.{Program}
 use Rattle.asp_model.specs.declared.results.Mode.{Mode}
+use Rattle.asp_model.specs.declared.results.Reasoning.{Reasoning}
+use Rattle.asp_model.specs.Asked.{reasoning_of}
+use Rattle.asp_model.specs.Sets.{Atoms}
 use Rattle.asp_vars.specs.Literals.{value_of, Literal}
 use Rattle.asp_vars.specs.Entailment.{IsSharedBy}
 use Rattle.asp_vars.specs.Numbering.{var_count}
@@ -16,6 +19,7 @@ use Rattle.asp_store.specs.declared.stored_nogood.StoredNogood.{StoredNogood}
 use Rattle.asp_store.specs.declared.stored_nogood.Kind.TheVariants as kind
 use Rattle.asp_store.specs.Keeping.{nogood_at, IsAddedAt}
 use Rattle.asp_search_laws.specs.Searching.{Searching}
+use Rattle.asp_search_laws.specs.Steps.{covering_nogood}
 use Rattle.asp_state.specs.SearchStates.{first_ranking}
 
 -- a search that knows no answer, has no bound and has entered no path, with the nogoods that it keeps
@@ -44,6 +48,11 @@ pub record Enters (s t : Searching) (q : List Literal) : Type 0 where
 -- No path is entered, and else nothing has changed but the order.
 abbrev pub Leaves : Searching → Searching → Type 0
 Leaves s t = t ≡ record s { cube = None; clashing = t.clashing; entries = t.entries; decisions = []; ranking = t.ranking; last = None }
+
+-- This is known, and nothing else has changed but the nogoods: one is kept that leaves out what shows nothing else.
+pub record Adopts (s t : Searching) (K : List Atoms) : Type 0 where
+  pub same : t ≡ record s { known = K; slots = t.slots; last = None }
+  pub nogoods : (r : Reasoning) → reasoning_of s.mode ≡ Some r → (id : ℕ) (n : Nogood) → nogood_at t.slots id ≡ Some n → (nogood_at s.slots id ≡ Some n) ⊎ (n ≡ covering_nogood r s.program K)
 
 -- Another search's nogood is kept until it is dropped, and else nothing has changed.
 pub record Imports (s t : Searching) (n : Nogood) : Type 0 where

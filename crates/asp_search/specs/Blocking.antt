@@ -44,3 +44,19 @@ pub record Blocks (newest : Nogood) (old new : SearchView) (id : ℕ) (blocking 
   pub stands : kept_at new.slots id ≡ kept_blocking newest
   pub blocked : (p : Program) (S : Atoms) → IsExcluded p old.slots S → IsExcluded p new.slots S
   pub blocking_stand : AreBlocking new.slots blocking
+
+-- ---- where consequences are sought
+-- Blocking nogoods were dropped, but not the one under this number.
+pub record Spares (id : ℕ) (old new : List (Option StoredNogood)) (blocking : List ℕ) : Type 0 where
+  pub none : (j : ℕ) (n : Nogood) → nogood_at new j ≡ Some n → nogood_at old j ≡ Some n
+  pub stands : kept_at new id ≡ kept_at old id
+  pub blocking_stand : AreBlocking new blocking
+  pub apart : All (λ i. i ≢ id) blocking
+
+-- The nogood is kept, at most the decisions were taken back, and others may have gone.
+pub record Covers (newest : Nogood) (old new : SearchView) (blocking : List ℕ) : Type 0 where
+  pub same : new ≡ record old { entries = new.entries; decisions = new.decisions; slots = new.slots; ranking = new.ranking }
+  pub nogoods : (j : ℕ) (n : Nogood) → nogood_at new.slots j ≡ Some n → (nogood_at old.slots j ≡ Some n) ⊎ (n ≡ newest)
+  pub id : ℕ
+  pub stands : kept_at new.slots id ≡ kept_blocking newest
+  pub blocking_stand : AreBlocking new.slots blocking

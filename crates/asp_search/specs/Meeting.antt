@@ -1,6 +1,8 @@
 -- A violated nogood, and the conflict that it shows.
 use Rattle.std.specs.Prelude.{◌≡◌, ℕ, ◌≤◌, false, List, length, take, Option, Some, None, ℤ, IsSome}
 use Rattle.asp_model.specs.declared.program.Program.{Program}
+use Rattle.asp_model.specs.declared.results.Reasoning.{Reasoning}
+use Rattle.asp_model.specs.Consequences.{used_up}
 use Rattle.asp_model.specs.Sets.{Atoms}
 use Rattle.asp_vars.specs.Literals.{Literal, value_of}
 use Rattle.asp_vars.specs.Numbering.{var_count}
@@ -17,7 +19,7 @@ use Rattle.asp_trail_laws.specs.Fixpoint.{WereAtFixpoint}
 use Rattle.asp_trail_laws.specs.Starts.{AreStarts}
 use Rattle.asp_search_laws.specs.Explaining.{Explains}
 use Rattle.asp_search_laws.specs.Keeping.{AreUseful}
-use Rattle.asp_search_laws.specs.Searching.{Searching}
+use Rattle.asp_search_laws.specs.Searching.{Searching, used}
 use Rattle.asp_state.specs.SearchStates.{SearchView, values_of}
 
 -- What is known where a violated nogood was analysed.
@@ -29,7 +31,7 @@ pub record IsMet (s : Searching) (q : List Literal) (id : ℕ) (l : Learned) : T
   pub starts : AreStarts q s.decisions s.entries
   pub fixpoint : WereAtFixpoint (var_count s.program) (completion s.program) s.entries
   pub reasons : HaveReasons s.slots s.entries
-  pub useful : AreUseful s.program s.known s.bound s.slots
+  pub useful : AreUseful s.program (used s) s.bound s.slots
   pub explains : Explains (var_count s.program) s.slots s.entries id l
 
 -- The nogood under this number shows a conflict of the cube and the decisions up to the literal's level.
@@ -44,6 +46,6 @@ pub record ShowsConflict (p : Program) (known : List Atoms) (bound : Option (Lis
   pub conflict : IsConflict p known bound cube (take (level_in t.entries lit.var) t.decisions) from.lits
 
 -- that conflict
-abbrev pub IsClashOf : (p : Program) (known : List Atoms) (bound : Option (List ℤ)) (t : SearchView) (id : ℕ) (lit : Literal) → Clash → Type 0
-IsClashOf p known bound t id lit x = (m : ShowsConflict p known bound t id lit) →
-    x ≡ record { program = p; cube = m.cube; decisions = take (level_in t.entries lit.var) t.decisions; nogood = m.from.lits; known = length known; bound = bound }
+abbrev pub IsClashOf : (p : Program) (k : Option Reasoning) (known : List Atoms) (bound : Option (List ℤ)) (t : SearchView) (id : ℕ) (lit : Literal) → Clash → Type 0
+IsClashOf p k known bound t id lit x = (m : ShowsConflict p (used_up k p known) bound t id lit) →
+    x ≡ record { program = p; cube = m.cube; decisions = take (level_in t.entries lit.var) t.decisions; nogood = m.from.lits; reasoning = k; known = length known; bound = bound }

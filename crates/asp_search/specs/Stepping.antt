@@ -8,7 +8,7 @@ use Rattle.asp_vars.specs.Literals.{Literal, hits}
 use Rattle.asp_vars.specs.Numbering.{values}
 use Rattle.asp_vars.specs.Entailment.{Settled}
 use Rattle.asp_propagate.specs.Useful.{IsSmaller}
-use Rattle.asp_search_laws.specs.Searching.{Searching}
+use Rattle.asp_search_laws.specs.Searching.{Searching, used}
 
 -- A path is entered, under a cube that can be tried, and nothing was learnt in this step.
 pub record IsEntered (s : Searching) (q : List Literal) : Type 0 where
@@ -20,6 +20,6 @@ pub record IsEntered (s : Searching) (q : List Literal) : Type 0 where
 pub record IsFound (s : Searching) (q : List Literal) (S : Atoms) : Type 0 where
   pub stable : IsTrue (is_stable s.program S)
   pub hit : IsTrue (hits (values s.program S) (q ++ s.decisions))
-  pub new : list_any (same_set S) s.known ≡ false
+  pub new : list_any (same_set S) (used s) ≡ false
   pub cheaper : IsSmaller (cost s.program S) s.bound
-  pub settled : Settled s.program (s.known ++ S ∷ []) s.bound (q ++ s.decisions)
+  pub settled : Settled s.program (used s ++ S ∷ []) s.bound (q ++ s.decisions)

@@ -15,7 +15,7 @@ ghost use Rattle.asp_store.specs.Keeping.{nogood_at};
 ghost use Rattle.asp_search_laws.specs.Keeping.{AreBlocking};
 ghost use Rattle.asp_search_laws.specs.Steps.{blocking_nogood};
 ghost use Rattle.asp_state.specs.SearchStates.{IsUnder};
-ghost use Rattle.asp_search.specs.Blocking.{IsRedundant, Drops, Blocks};
+ghost use Rattle.asp_search.specs.Blocking.{IsRedundant, Drops, Blocks, Spares};
 
 use asp_propagate::propagator::Propagator;
 use asp_state::state::SearchState;
@@ -73,6 +73,7 @@ fn drop_last<P: Propagator>(
     ensures same { state.new ≡ record state.old { slots = state.new.slots } }
     ensures drops { (newest : Nogood) (id : ℕ) (first : List (Option StoredNogood)) → newest.lits ≡ lits.now →
         Drops newest id first state.old.slots blocking.old.items → Drops newest id first state.new.slots blocking.new.items }
+    ensures spares { (id : ℕ) (first : List (Option StoredNogood)) → Spares id first state.old.slots blocking.old.items → Spares id first state.new.slots blocking.new.items }
     ensures fewer { IsTrue result → vec_len blocking.new < vec_len blocking.old }
     ensures len { vec_len blocking.new ≤ vec_len blocking.old }
     ensures room { vec_capacity blocking.new ≡ vec_capacity blocking.old }
@@ -90,12 +91,13 @@ fn drop_last<P: Propagator>(
     true
 }
 
-// Drops those that begin with these literals and are no reasons, from the newest on.
-fn drop_all<P: Propagator>(state: &mut SearchState<P>, blocking: &mut Vec<NogoodId>, lits: &[Lit])
+/// Drops those that begin with these literals and are no reasons, from the newest on.
+pub(crate) fn drop_all<P: Propagator>(state: &mut SearchState<P>, blocking: &mut Vec<NogoodId>, lits: &[Lit])
     requires { AreBlocking state.old.slots blocking.old.items }
     ensures same { state.new ≡ record state.old { slots = state.new.slots } }
     ensures drops { (newest : Nogood) (id : ℕ) (first : List (Option StoredNogood)) → newest.lits ≡ lits.now →
         Drops newest id first state.old.slots blocking.old.items → Drops newest id first state.new.slots blocking.new.items }
+    ensures spares { (id : ℕ) (first : List (Option StoredNogood)) → Spares id first state.old.slots blocking.old.items → Spares id first state.new.slots blocking.new.items }
     ensures len { vec_len blocking.new ≤ vec_len blocking.old }
     ensures room { vec_capacity blocking.new ≡ vec_capacity blocking.old }
 {

@@ -1,5 +1,7 @@
 //! What follows from a violated nogood.
 ghost use Rattle.std.specs.Prelude.{◌≡◌, ◌∷◌, ◌++◌, List, [], Some, false, IfOk, OnErr, length, take};
+ghost use Rattle.asp_model.specs.Consequences.{used_up};
+ghost use Rattle.asp_model.specs.Sets.{Atoms};
 ghost use Rattle.asp_vars.specs.Literals.{Literal};
 ghost use Rattle.asp_vars.specs.Numbering.{var_count};
 ghost use Rattle.asp_trail.specs.Entries.{level, cut};
@@ -14,7 +16,7 @@ ghost use Rattle.asp_search.specs.Meeting.{ShowsConflict, IsClashOf};
 use crate::spread::{Spread, note_used};
 use asp_analyze::learn::{Learned, Learner};
 use asp_model::cost::Cost;
-use asp_model::interp::Interp;
+use asp_model::results::Reasoning;
 use asp_propagate::propagator::Propagator;
 use asp_state::state::SearchState;
 use asp_store::stored_nogood::Kind;
@@ -23,7 +25,6 @@ use asp_vars::compiled::Compiled;
 use asp_vars::fuel::Conflict;
 use asp_vars::lit::Lit;
 use asp_vars::nogood::Nogood;
-use asp_vars::snapshot::Snapshot;
 use std::alloc::{AllocError, Global};
 
 /// Learns from a kept nogood that is violated.
@@ -58,20 +59,23 @@ pub(crate) fn conflict<P: Propagator>(
     alloc: Global,
     compiled: &Compiled,
     state: &SearchState<P>,
-    known: &[Snapshot<Interp>],
+    reasoning: Option<Reasoning>,
+    known: u64,
     bound: &Option<Cost>,
     id: NogoodId,
     lit: Lit,
 ) -> Result<Conflict, AllocError>
-    requires { ShowsConflict compiled.now known.now bound.now state.now id lit }
-    ensures { IfOk result (IsClashOf compiled.now known.now bound.now state.now id lit) }
+    requires { (answers : List Atoms) × (length answers ≡ known) × ShowsConflict compiled.now (used_up reasoning compiled.now answers) bound.now state.now id lit }
+    ensures { (answers : List Atoms) → length answers ≡ known → IfOk result (IsClashOf compiled.now reasoning answers bound.now state.now id lit) }
 {
     let top = state.trail().level_of(lit.var());
     let cube = state.cube().to_vec(alloc)?;
     let decisions = state.decisions()[..top].to_vec(alloc)?;
     let nogood = state.store().lits(id).to_vec(alloc)?;
     let bound = copy_bound(bound)?;
-    Ok(Conflict::of(compiled, cube, decisions, nogood, known, bound))
+    Ok(Conflict::of(
+        compiled, cube, decisions, nogood, reasoning, known, bound,
+    ))
 }
 
 /// Keeps what was learnt, and goes back to where it implies the literal.

@@ -2,6 +2,9 @@
 ghost use Rattle.std.specs.Prelude.{◌≡◌, ◌≢◌, ◌+◌, ◌≤◌, ◌∷◌, ◌++◌, [], None, Some, true, false, List, IfOk, IfSome, OnOk, OnErr, IsSome, IsTrue, ◌↔◌, MatchBool, count_by, length, option_map, replicate, slice_get};
 ghost use Rattle.std.specs.List.{All};
 ghost use Rattle.std.specs.Option.{option_copied};
+ghost use Rattle.asp_model.specs.Asked.{reasoning_of};
+ghost use Rattle.asp_model.specs.Consequences.{unshown};
+ghost use Rattle.asp_model.specs.Sets.{IsSubset};
 ghost use Rattle.asp_vars.specs.Entailment.{IsGood, IsSharedBy};
 ghost use Rattle.asp_vars.specs.Literals.{Literal};
 ghost use Rattle.asp_vars.specs.Numbering.{var_count};
@@ -10,10 +13,13 @@ ghost use Rattle.asp_trail.specs.Entries.{level};
 ghost use Rattle.asp_trail.specs.Trails.{IsVar};
 ghost use Rattle.asp_store.specs.Keeping.{is_extra, nogood_at};
 ghost use Rattle.asp_propagate.specs.Useful.{IsSmaller};
+ghost use Rattle.asp_search_laws.specs.Searching.{used};
 ghost use Rattle.asp_search_laws.specs.Steps.{is_of_use};
-ghost use Rattle.asp_search.specs.Beside.{new_search, Enters, Leaves, is_local, is_shared, kept_last, only_shared, exported, Imports, IsOpen, IsShared, IsTakenBack, has_var};
+ghost use Rattle.asp_search.specs.Beside.{new_search, Adopts, Enters, Leaves, is_local, is_shared, kept_last, only_shared, exported, Imports, IsOpen, IsShared, IsTakenBack, has_var};
+ghost use Rattle.asp_search.specs.Invariants.{IsSeen, answers_known};
 ghost use Rattle.asp_state.specs.SearchStates.{KeepsCompletionAlone};
 
+use crate::covering::renew;
 use crate::litter::Litter;
 use crate::spread::Spread;
 use asp_analyze::learn::Learner;
@@ -29,6 +35,7 @@ use asp_store::store::Store;
 use asp_store::stored_nogood::Kind;
 use asp_trail::reasons::{NogoodId, Reasons};
 use asp_vars::compiled::Compiled;
+use asp_vars::known::Known;
 use asp_vars::lit::{Lit, Var};
 use asp_vars::nogood::{Base, Lits, Nogood};
 use asp_vars::snapshot::Snapshot;
@@ -45,7 +52,7 @@ pub struct Search<'a, P: Propagator> {
     pub(crate) alloc: Global,
     // the program, whose atoms and bodies have variables
     pub(crate) compiled: &'a Compiled,
-    // whether all answers are sought, or a cheapest one
+    // whether all answers are sought, a cheapest one, or what holds in some or in all
     pub(crate) mode: Mode,
     // the trail under the cube, and the nogoods that are kept
     pub(crate) state: SearchState<P>,
@@ -59,10 +66,12 @@ pub struct Search<'a, P: Propagator> {
     pub(crate) spread: Spread,
     // what checking an answer takes memory for
     pub(crate) checker: Checker<'a>,
-    // in an enumeration the answers found, the oldest first, of which contracts alone know more than their number; in an
-    // optimisation none
+    // in an enumeration the answers found, the oldest first, of which contracts alone know more than their number; else none
     pub(crate) known: Vec<Snapshot<Interp>>,
-    // the numbers of the blocking nogoods of answers, the oldest first
+    // where consequences are sought, what the answers found and those of which it was told have in common
+    pub(crate) seen: Option<Known>,
+    // the numbers of the blocking nogoods of answers, the oldest first; where consequences are sought the last is that of all
+    // answers known, and the others are reasons still
     pub(crate) blocking: Vec<NogoodId>,
     // what gathering an answer's atoms takes memory for
     pub(crate) held: Vec<Atom>,
@@ -74,13 +83,32 @@ pub struct Search<'a, P: Propagator> {
 
 impl<'a, P: Propagator> Model for Search<'a, P> {
     ghost use Rattle.asp_search_laws.specs.Searching.{Searching};
-    ghost use Rattle.asp_search.specs.Invariants.{IsSearch, view_of};
+    ghost use Rattle.asp_model.specs.Asked.{reasoning_of};
+    ghost use Rattle.asp_search.specs.Invariants.{IsSearch, IsSeen, answers_known, used_in, view_of};
 
     ghost Value = { Searching };
 
-    ghost view = { λ s. view_of s.mode s.state s.pace s.known.items s.last };
+    ghost view = { λ s. view_of s.mode s.state s.pace (answers_known s.known.items s.seen) s.last };
 
-    ghost invariant = { λ s. IsSearch s.compiled.now s.mode s.state s.learner s.checker s.known.items s.blocking.items s.bound s.last };
+    ghost invariant = { λ s. IsSearch s.compiled.now s.mode s.state s.learner s.checker (used_in s.compiled.now s.mode s.known.items s.seen) s.blocking.items s.bound s.last × IsSeen (reasoning_of s.mode) s.compiled.now s.seen };
+}
+
+// No answer, where consequences are sought.
+fn nothing_seen(
+    alloc: Global,
+    compiled: &Compiled,
+    mode: Mode,
+) -> Result<Option<Known>, AllocError>
+    ensures known { IfOk result (λ seen. answers_known [] seen ≡ []) }
+    ensures seen { IfOk result (IsSeen (reasoning_of mode) compiled.now) }
+{
+    match mode {
+        Mode::Enum | Mode::Opt => Ok(None),
+        Mode::Consequences(reasoning) => {
+            let known = Known::new(alloc, compiled, reasoning)?;
+            Ok(Some(known))
+        }
+    }
 }
 
 // Whether a nogood of this base counts for a search, whatever answers it knows.
@@ -161,6 +189,7 @@ impl<'a, P: Propagator> Search<'a, P> {
         let learner = Learner::new(alloc, vars)?;
         let spread = Spread::new(alloc, vars)?;
         let checker = Checker::new(alloc, compiled)?;
+        let seen = nothing_seen(alloc, compiled, mode)?;
         Ok(Search {
             alloc,
             compiled,
@@ -172,6 +201,7 @@ impl<'a, P: Propagator> Search<'a, P> {
             spread,
             checker,
             known: Vec::new(alloc),
+            seen,
             blocking: Vec::new(alloc),
             held: Vec::new(alloc),
             bound: None,
@@ -218,6 +248,39 @@ impl<'a, P: Propagator> Search<'a, P> {
         }
     }
 
+    /// From now on only answers are sought that show something beside these, of which there is one at least, and which show all that those
+    /// known show. After want of memory no path is entered.
+    pub fn set_known(&mut self, known: Known) -> Result<(), AllocError>
+        requires program { known.program ≡ self.old.program }
+        requires reasoning { Some known.reasoning ≡ reasoning_of self.old.mode }
+        requires all { IsSubset (unshown known.reasoning known.program known.sets) (unshown known.reasoning known.program self.old.known) }
+        requires some { known.sets ≢ [] }
+        ensures ok { OnOk result (Adopts self.old self.new known.sets) }
+        ensures err { OnErr result (Leaves self.old self.new) }
+    {
+        match renew(self.alloc, self.compiled, &mut self.state, &mut self.blocking, &known) {
+            Ok(()) => {
+                self.seen = Some(known);
+                self.last = None;
+                Ok(())
+            }
+            Err(error) => {
+                self.leave();
+                Err(error)
+            }
+        }
+    }
+
+    /// How many atoms there are of which no answer known shows what can be shown, where consequences are sought; none where no
+    /// answer is known.
+    pub fn unshown_atoms(&self) -> Option<usize>
+    {
+        match &self.seen {
+            None => None,
+            Some(seen) => { if seen.is_some() { Some(seen.unshown().len()) } else { None } }
+        }
+    }
+
     /// The cost below which answers are sought, if there is one.
     pub fn bound(&self) -> Option<&Cost>
         ensures { option_copied result ≡ self.now.bound }
@@ -229,7 +292,7 @@ impl<'a, P: Propagator> Search<'a, P> {
     // Keeps another search's nogood.
     fn keep(&mut self, nogood: &Nogood) -> Result<(), AllocError>
         requires vars { All (λ l. IsVar (var_count self.old.program) l.var) nogood.now.lits }
-        requires good { IsGood self.old.program self.old.known self.old.bound nogood.now }
+        requires good { IsGood self.old.program (used self.old) self.old.bound nogood.now }
         requires useful { is_of_use self.old.mode self.old.bound nogood.now.base ≡ true }
         ensures ok { OnOk result (Imports self.old self.new nogood.now) }
         ensures err { OnErr result (self.new ≡ self.old) }

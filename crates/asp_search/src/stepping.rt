@@ -5,6 +5,7 @@
 //! conflict is settled. On a whole trail it is the set of the true atoms. A known answer hits a kept nogood, and none is
 //! violated when an answer is found: that is another set.
 ghost use Rattle.std.specs.Prelude.{◌≡◌, ◌+◌, ◌-◌, ◌^◌, ◌≤◌, List, [], None, Some, length, min, IfOk, OnOk, OnErr, IsSome, IsTrue};
+ghost use Rattle.asp_model.specs.Asked.{reasoning_of};
 ghost use Rattle.asp_model.specs.declared.results.Mode.TheVariants as mode;
 ghost use Rattle.asp_vars.specs.Literals.{Literal};
 ghost use Rattle.asp_vars.specs.Numbering.{var_count};
@@ -22,6 +23,7 @@ ghost use Rattle.asp_search.specs.Stepping.{IsEntered, IsFound};
 
 use crate::blocking::block;
 use crate::conflicts::{conflict, jump, learn};
+use crate::covering::{cover, known_count};
 use crate::faults::{fault, true_atoms};
 use crate::litter::Litter;
 use crate::search::Search;
@@ -122,7 +124,8 @@ impl<'a, P: Propagator> Search<'a, P> {
             self.alloc,
             self.compiled,
             &self.state,
-            self.known.as_slice(),
+            self.mode.reasoning(),
+            known_count(&self.known, &self.seen),
             &self.bound,
             id,
             lit,
@@ -204,6 +207,22 @@ impl<'a, P: Propagator> Search<'a, P> {
         Ok(())
     }
 
+    // Where consequences are sought, what shows nothing beside it and the others is left out from now on.
+    fn cover(&mut self, interp: &Interp) -> Result<(), AllocError>
+        requires mode { IsSome (reasoning_of self.old.mode) }
+        requires found { (q : List Literal) × IsEntered self.old q × IsFound self.old q interp.now }
+        ensures ok { OnOk result ((q : List Literal) (f : Units) → self.old.cube ≡ Some q → Answers (P.gives self.old.program self.old.bound) self.old self.new q f f interp.now) }
+        ensures err { OnErr result (self.new ≡ self.old) }
+    {
+        let known = match &self.seen {
+            None => unreachable!(),
+            Some(seen) => seen.with(interp)?,
+        };
+        cover(self.alloc, self.compiled, &mut self.state, &mut self.blocking, &known)?;
+        self.seen = Some(known);
+        Ok(())
+    }
+
     fn answer(&mut self, interp: &Interp) -> Result<(), AllocError>
         requires { (q : List Literal) × IsEntered self.old q × IsFound self.old q interp.now }
         ensures ok { OnOk result ((q : List Literal) (f : Units) → self.old.cube ≡ Some q → Answers (P.gives self.old.program self.old.bound) self.old self.new q f f interp.now) }
@@ -212,6 +231,7 @@ impl<'a, P: Propagator> Search<'a, P> {
         match self.mode {
             Mode::Enum => self.list(interp),
             Mode::Opt => self.improve(interp),
+            Mode::Consequences(_) => self.cover(interp),
         }
     }
 

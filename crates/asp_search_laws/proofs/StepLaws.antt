@@ -41,7 +41,7 @@ module _ (gives : Nogood → Type 0) (silent : List (Option Bool) → Type 0) (s
   derives d = all_derived_more s.program gives s.bound (nogood_at s.slots) (nogood_at slots) (nogood_at t.slots) derived d
 
   conflict : (q : List Literal) (x : Clash) → IsConflictOf (mid s es slots ranking last) q x → IsConflictOf s q x
-  conflict q x h = record { program = h.program; cube = h.cube; known = h.known; bound = h.bound; level = h.level; decisions = h.decisions; conflict = h.conflict }
+  conflict q x h = record { program = h.program; cube = h.cube; reasoning = h.reasoning; known = h.known; bound = h.bound; level = h.level; decisions = h.decisions; conflict = h.conflict }
 
   burns : (q : List Literal) (f g : Units) → Burns (mid s es slots ranking last) q f g → Burns s q f g
   burns q f g h = record { clash = h.clash; conflict = conflict q h.clash h.conflict; left = h.left; paid = h.paid }
@@ -107,11 +107,14 @@ module _ (gives : Nogood → Type 0) (silent : List (Option Bool) → Type 0) (s
   records : (m : Mode) (q : List Literal) (S : Atoms) → Records m (mid s es slots ranking last) t q S → Records m s t q S
   records mode.Enum q S h = h
   records mode.Opt q S h = h
+  records (mode.Consequences r) q S h = h
 
-  derived_or_blocking : (m : Mode) (q : List Literal) (n : Nogood) → IsDerivedOrBlocking m gives (mid s es slots ranking last) q n → IsDerivedOrBlocking m gives s q n
-  derived_or_blocking mode.Enum q n (inl d) = inl (derived_more s.program gives s.bound (nogood_at s.slots) (nogood_at slots) n derived d)
-  derived_or_blocking mode.Enum q n (inr w) = inr w
-  derived_or_blocking mode.Opt q n d = derived_more s.program gives s.bound (nogood_at s.slots) (nogood_at slots) n derived d
+  derived_or_blocking : (m : Mode) (q : List Literal) (S : Atoms) (n : Nogood) → IsDerivedOrBlocking m gives (mid s es slots ranking last) q S n → IsDerivedOrBlocking m gives s q S n
+  derived_or_blocking mode.Enum q S n (inl d) = inl (derived_more s.program gives s.bound (nogood_at s.slots) (nogood_at slots) n derived d)
+  derived_or_blocking mode.Enum q S n (inr w) = inr w
+  derived_or_blocking (mode.Consequences r) q S n (inl d) = inl (derived_more s.program gives s.bound (nogood_at s.slots) (nogood_at slots) n derived d)
+  derived_or_blocking (mode.Consequences r) q S n (inr w) = inr w
+  derived_or_blocking mode.Opt q S n d = derived_more s.program gives s.bound (nogood_at s.slots) (nogood_at slots) n derived d
 
   answers : (q : List Literal) (f g : Units) (S : Atoms) → Answers gives (mid s es slots ranking last) t q f g S → Answers gives s t q f g S
   answers q f g S h = record {
@@ -125,7 +128,7 @@ module _ (gives : Nogood → Type 0) (silent : List (Option Bool) → Type 0) (s
     cheaper = h.cheaper;
     settled = h.settled;
     records = records s.mode q S h.records;
-    derived = λ id n k. derived_or_blocking s.mode q n (h.derived id n k);
+    derived = λ id n k. derived_or_blocking s.mode q S n (h.derived id n k);
     learnt = h.learnt;
     restarts = h.restarts;
   }

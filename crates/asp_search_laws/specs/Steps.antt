@@ -1,13 +1,19 @@
 -- What a step of the search promises, by its answer.
-use Rattle.std.specs.Prelude.{◌≡◌, ℕ, ◌+◌, ◌-◌, ◌^◌, ◌<◌, ◌≤◌, ◌⊎◌, Bool, true, false, List, ◌∷◌, ◌++◌, length, take, min, max, Option, Some, None, ℤ, IsTrue, []}
+use Rattle.std.specs.Prelude.{◌≡◌, ℕ, ◌+◌, ◌-◌, ◌^◌, ◌<◌, ◌≤◌, ◌⊎◌, Bool, true, false, ◌||◌, List, ◌∷◌, ◌++◌, map, length, take, min, max, Option, Some, None, ℤ, IsTrue, []}
 use Rattle.std.specs.List.{list_any, All}
+use Rattle.std.specs.Option.{is_some}
 use Rattle.asp_model.specs.declared.results.Mode.{Mode}
 use Rattle.asp_model.specs.declared.results.Mode.TheVariants as mode
+use Rattle.asp_model.specs.declared.results.Reasoning.{Reasoning}
+use Rattle.asp_model.specs.declared.results.Reasoning.TheVariants.{Brave, Cautious}
+use Rattle.asp_model.specs.Asked.{reasoning_of}
+use Rattle.asp_model.specs.Consequences.{common_sets, unshown}
+use Rattle.asp_model.specs.declared.program.Program.{Program}
 use Rattle.asp_model.specs.Sets.{Atoms, same_set}
 use Rattle.asp_model.specs.Models.{is_stable}
 use Rattle.asp_model.specs.Costs.{cost}
-use Rattle.asp_vars.specs.Literals.{Literal, complement, has_literal, hits, holds_in}
-use Rattle.asp_vars.specs.Numbering.{values, var_count}
+use Rattle.asp_vars.specs.Literals.{Literal, T, F, complement, has_literal, hits, holds_in}
+use Rattle.asp_vars.specs.Numbering.{values, var_count, var_of_atom}
 use Rattle.asp_vars.specs.Entailment.{Settled}
 use Rattle.asp_vars.specs.Conflicts.{IsConflict}
 use Rattle.asp_vars.specs.Paid.{Clash, Units, least_of}
@@ -23,7 +29,7 @@ use Rattle.asp_propagate.specs.Propagating.{IsFixpoint}
 use Rattle.asp_propagate.specs.Useful.{IsSmaller}
 use Rattle.asp_search_laws.specs.Axioms.{AreDerived, IsDerived}
 use Rattle.asp_search_laws.specs.Keeping.{Grows, GrowsUnlessGiven}
-use Rattle.asp_search_laws.specs.Searching.{Searching, values_now}
+use Rattle.asp_search_laws.specs.Searching.{Searching, used, values_now}
 use Rattle.asp_search_laws.specs.declared.step.Step.{Step}
 use Rattle.asp_search_laws.specs.declared.step.Step.TheVariants as step
 
@@ -67,15 +73,16 @@ pub record Decides (gives : Nogood → Type 0) (silent : List (Option Bool) → 
 pub record IsConflictOf (s : Searching) (q : List Literal) (x : Clash) : Type 0 where
   pub program : x.program ≡ s.program
   pub cube : x.cube ≡ q
+  pub reasoning : x.reasoning ≡ reasoning_of s.mode
   pub known : x.known ≡ length s.known
   pub bound : x.bound ≡ s.bound
   pub level : ℕ
   pub decisions : x.decisions ≡ take level s.decisions
-  pub conflict : IsConflict s.program s.known s.bound x.cube x.decisions x.nogood
+  pub conflict : IsConflict s.program (used s) s.bound x.cube x.decisions x.nogood
 
 -- one unit is burnt for a conflict
 abbrev pub burnt : Units → Clash → Units
-burnt f x = record { program = f.program; left = f.left - 1; burnt = f.burnt + 1; known = max f.known x.known; least = least_of f.least x.bound }
+burnt f x = record { program = f.program; left = f.left - 1; burnt = f.burnt + 1; reasoned = f.reasoned || is_some x.reasoning; known = max f.known x.known; least = least_of f.least x.bound }
 
 pub record Burns (s : Searching) (q : List Literal) (f g : Units) : Type 0 where
   pub clash : Clash
@@ -129,7 +136,7 @@ pub record Closes (gives : Nogood → Type 0) (s t : Searching) (q : List Litera
   pub closing : Nogood
   pub within : IsWithin closing.lits q
   pub why : IsDerived s.program gives s.bound (nogood_at s.slots) closing
-  pub settled : Settled s.program s.known s.bound q
+  pub settled : Settled s.program (used s) s.bound q
   pub decisions : t.decisions ≡ s.decisions
   pub derived : Derives gives s t
   pub learnt : t.learnt ≡ s.learnt
@@ -147,15 +154,27 @@ pub record IsLastKept (t : Searching) (n : Nogood) : Type 0 where
   pub last : t.last ≡ Some id
   pub kept : nogood_at t.slots id ≡ Some n
 
--- In an enumeration the answer is known from now on, and its blocking nogood is kept. In an optimisation its cost is the bound.
+-- the nogood that leaves out all that shows nothing beside these answers
+abbrev pub unshown_literal : Reasoning → Program → ℕ → Literal
+unshown_literal Brave p a = F (var_of_atom p a)
+unshown_literal Cautious p a = T (var_of_atom p a)
+
+abbrev pub covering_nogood : Reasoning → Program → List Atoms → Nogood
+covering_nogood r p K = record { lits = map (unshown_literal r p) (unshown r p K); base = base.Local }
+
+-- In an enumeration the answer is known from now on, and its blocking nogood is kept. In an optimisation its cost is the bound. Where
+-- consequences are sought, what it has in common with the other answers is known from now on.
 abbrev pub Records : Mode → Searching → Searching → List Literal → Atoms → Type 0
 Records mode.Enum s t q S = (t.known ≡ s.known ++ S ∷ []) × (t.bound ≡ s.bound) × IsLastKept t (blocking_nogood q s.decisions)
 Records mode.Opt s t q S = (t.known ≡ s.known) × (t.bound ≡ Some (cost s.program S)) × (t.last ≡ None)
+Records (mode.Consequences r) s t q S = (t.known ≡ common_sets r s.program (s.known ++ S ∷ [])) × (t.bound ≡ s.bound) × (t.last ≡ None)
 
--- A nogood that is kept is derived, or in an enumeration the answer's blocking one.
-abbrev pub IsDerivedOrBlocking : Mode → (Nogood → Type 0) → Searching → List Literal → Nogood → Type 0
-IsDerivedOrBlocking mode.Enum gives s q n = IsDerived s.program gives s.bound (nogood_at s.slots) n ⊎ (n ≡ blocking_nogood q s.decisions)
-IsDerivedOrBlocking mode.Opt gives s q n = IsDerived s.program gives s.bound (nogood_at s.slots) n
+-- A nogood that is kept is derived; or in an enumeration the answer's blocking one, where consequences are sought the one that leaves
+-- out what shows nothing else.
+abbrev pub IsDerivedOrBlocking : Mode → (Nogood → Type 0) → Searching → List Literal → Atoms → Nogood → Type 0
+IsDerivedOrBlocking mode.Enum gives s q S n = IsDerived s.program gives s.bound (nogood_at s.slots) n ⊎ (n ≡ blocking_nogood q s.decisions)
+IsDerivedOrBlocking mode.Opt gives s q S n = IsDerived s.program gives s.bound (nogood_at s.slots) n
+IsDerivedOrBlocking (mode.Consequences r) gives s q S n = IsDerived s.program gives s.bound (nogood_at s.slots) n ⊎ (n ≡ covering_nogood r s.program (common_sets r s.program (s.known ++ S ∷ [])))
 
 pub record Answers (gives : Nogood → Type 0) (s t : Searching) (q : List Literal) (f g : Units) (S : Atoms) : Type 0 where
   pub program : t.program ≡ s.program
@@ -164,11 +183,11 @@ pub record Answers (gives : Nogood → Type 0) (s t : Searching) (q : List Liter
   pub fuel : g ≡ f
   pub stable : IsTrue (is_stable s.program S)
   pub hit : IsTrue (hits (values s.program S) q)
-  pub new : list_any (same_set S) s.known ≡ false
+  pub new : list_any (same_set S) (used s) ≡ false
   pub cheaper : IsSmaller (cost s.program S) s.bound
-  pub settled : Settled s.program (s.known ++ S ∷ []) s.bound (q ++ s.decisions)
+  pub settled : Settled s.program (used s ++ S ∷ []) s.bound (q ++ s.decisions)
   pub records : Records s.mode s t q S
-  pub derived : (id : ℕ) (n : Nogood) → nogood_at t.slots id ≡ Some n → IsDerivedOrBlocking s.mode gives s q n
+  pub derived : (id : ℕ) (n : Nogood) → nogood_at t.slots id ≡ Some n → IsDerivedOrBlocking s.mode gives s q S n
   pub learnt : t.learnt ≡ s.learnt
   pub restarts : t.restarts ≡ s.restarts
 
@@ -219,5 +238,6 @@ IsFailure gives s t f g = (q : List Literal) → s.cube ≡ Some q → Fails giv
 abbrev pub is_of_use : Mode → Option (List ℤ) → Base → Bool
 is_of_use m bound base.Pure = true
 is_of_use mode.Enum bound (base.Below c) = false
+is_of_use (mode.Consequences r) bound (base.Below c) = false
 is_of_use mode.Opt bound (base.Below c) = is_bound_within bound c
 is_of_use m bound base.Local = false

@@ -12,7 +12,7 @@ use Rattle.asp_crew_laws.specs.declared.report.Report.{Report}
 use Rattle.asp_crew_laws.specs.Reports.{IsReport}
 use Rattle.asp_crew_laws.specs.Runs.{asks, task_of}
 use Rattle.asp_crew_laws.specs.Working.{MayBegin}
-use Rattle.asp_crew.specs.Running.{HasNoQuery, IsRunIn}
+use Rattle.asp_crew.specs.Running.{HasNoQuery, IsRunFor}
 use Rattle.asp_worker.specs.declared.worker.Worker.{Worker}
 use Rattle.asp_worker.specs.declared.worker.Shared.{Shared}
 use Rattle.asp_team.specs.declared.lead.Lead.{Lead}
@@ -31,8 +31,8 @@ all-home c l k hs ready j came n some few = each-number (IsHome (view k.seat)) 1
 pub book-task : (p : Program) (ask : Ask) (budget : ℕ) (b : Booked) (v w : Knows) → Some b.task ≡ w.about → w.about ≡ v.about → v.about ≡ Some (task_of p ask budget) → b.task ≡ task_of p ask budget
 book-task p ask budget b v w is same about = let e : Some b.task ≡ Some (task_of p ask budget) = is ∙ same ∙ about in (let f : b.task ≡ task_of p ask budget = cc in f)
 
-pub run-in : (p : Program) (ask : Ask) (budget : ℕ) (t : Task) → t ≡ task_of p ask budget → IsRunIn ask.mode t
-run-in p ask budget t e = subst (IsRunIn ask.mode) (sym e) refl
+pub run-in : (p : Program) (ask : Ask) (budget : ℕ) (t : Task) → t ≡ task_of p ask budget → IsRunFor ask t
+run-in p ask budget t e = subst (IsRunFor ask) (sym e) refl
 
 pub run-query : (p : Program) (ask : Ask) (budget : ℕ) (t : Task) → t ≡ task_of p ask budget → HasNoQuery t
 run-query p ask budget t e = subst HasNoQuery (sym e) refl
@@ -40,5 +40,5 @@ run-query p ask budget t e = subst HasNoQuery (sym e) refl
 pub run-begins : (p : Program) (ask : Ask) (budget : ℕ) (t : Task) → t ≡ task_of p ask budget → MayBegin ask.mode None t.goal
 run-begins p ask budget t e = subst (λ (x : Task). MayBegin ask.mode None x.goal) (sym e) (inl (refl, refl))
 
-pub report-is : (p : Program) (ask : Ask) (budget : ℕ) (t : Task) (r : Report) → t ≡ task_of p ask budget → IsReport t.program (asks ask.mode t.limit) t.budget r → IsReport p (asks ask.mode ask.models) budget r
-report-is p ask budget t r e is = subst (λ (x : Task). IsReport x.program (asks ask.mode x.limit) x.budget r) e is
+pub report-is : (p : Program) (ask : Ask) (budget : ℕ) (t : Task) (r : Report) → t ≡ task_of p ask budget → IsReport t.program (asks ask.mode ask.models) t.budget r → IsReport p (asks ask.mode ask.models) budget r
+report-is p ask budget t r e is = subst (λ (x : Task). IsReport x.program (asks ask.mode ask.models) x.budget r) e is

@@ -174,7 +174,7 @@ fn ended<W: Watch>(
         watch,
         &recorder,
     )?;
-    Ok((reported(plan.ask.mode, book, unpaid, log, short), recorder))
+    Ok((reported(plan.ask, book, unpaid, log, short), recorder))
 }
 
 // The same, with the proof if one is wanted, and else a second search where all optima are asked for.

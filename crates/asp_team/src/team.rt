@@ -56,7 +56,7 @@ fn start(
         compiled,
         Goal::of(ask.mode),
         budget,
-        ask.models,
+        ask.limit(),
         [].as_slice(),
     )?;
     Vault::make(alloc, Book::new(alloc, compiled, state))
@@ -199,7 +199,7 @@ pub(crate) fn gathered<R: Wait>(
     let shared = Shared {
         alloc,
         mode: ask.mode,
-        models: ask.models,
+        models: ask.limit(),
         workers: count,
         book,
         log,

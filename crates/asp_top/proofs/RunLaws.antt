@@ -1,6 +1,7 @@
 -- What each status means, from what reading, solving and writing did.
 use Rattle.std.proofs.Common.{◌≡◌, ℕ, ◌<◌, ◌≤◌, Bool, true, false, ◌||◌, List, [], ◌∷◌, length, refl, sym, ap, ◌∙◌, subst, inl, inr, arith}
 use Rattle.std.specs.Prelude.{ℤ, Option, None, Some, Result, Ok, Err, IfErr, IfOk, IfSome, IsSome, IsErrOf, is_some}
+use Rattle.std.proofs.lemmas.Bool.{false≢true}
 use Rattle.std.proofs.KnownBytes.{Keeps-refl}
 use Rattle.std.specs.Io.KnownBytes.{Appends, Keeps, IsAtEnd}
 use Rattle.asp_io.specs.Causes.{Rose}
@@ -9,26 +10,29 @@ use Rattle.asp_read.specs.declared.fault.ReadError.TheVariants as errors
 use Rattle.asp_model.specs.declared.program.Program.{Program}
 use Rattle.asp_model.specs.declared.results.Ask.{Ask}
 use Rattle.asp_model.specs.declared.results.Mode.{Mode}
-use Rattle.asp_model.specs.declared.results.Mode.TheVariants.{Enum, Opt}
+use Rattle.asp_model.specs.declared.results.Mode.TheVariants.{Enum, Opt, Consequences}
 use Rattle.asp_model.specs.declared.results.Results.{Results}
 use Rattle.asp_model.specs.declared.results.End.{End}
 use Rattle.asp_model.specs.declared.results.End.TheVariants.{Finished, Limited, Unfinished}
+use Rattle.asp_model.specs.declared.program.Minimize.{Minimize}
+use Rattle.asp_model.specs.Asked.{reasoning_of}
 use Rattle.asp_model.specs.Sets.{Atoms}
-use Rattle.asp_model.specs.Texts.{bests, recorded}
+use Rattle.asp_model.specs.Texts.{bests}
 use Rattle.asp_read.specs.Outcome.{outcome, most_bytes}
 use Rattle.asp_read.specs.Stream.{ReadsText, StopsAt}
 use Rattle.asp_make.specs.Ring.{ring}
 use Rattle.asp_make.specs.Texts.{parts_text}
 use Rattle.asp_crew_laws.specs.declared.report.Report.{Report}
 use Rattle.asp_crew_laws.specs.Proofs.{HasProof, HasProofAt}
-use Rattle.asp_crew_laws.specs.Reports.{IsAsked, IsReport, Says as SaysReport}
+use Rattle.asp_crew_laws.specs.Reports.{asks_list, IsAsked, IsReport, Says as SaysReport}
 use Rattle.asp_top.specs.declared.status.Status.{Status}
 use Rattle.asp_top.specs.declared.status.Status.TheVariants.{All, NoModel, Partial, Unknown, Enough, Help, Memory, Usage, Refused, ReadFault, TooLong, WriteFault, Parts}
 use Rattle.asp_top.specs.declared.status.Outcome.{Outcome}
-use Rattle.asp_top.specs.Meaning.{has_model, is_some_of, status_for}
+use Rattle.asp_top.specs.Meaning.{has_model, has_model_in, is_some_of, mode_by, mode_of, status_for}
 use Rattle.asp_top.specs.Notes.{is_answered}
 use Rattle.asp_top.specs.Parting.{Divides, HandingMeans}
 use Rattle.asp_top.specs.Runs.{Around, DeliveryMeans, Does, DoesBy, IsDivided, IsExact, IsGiven, IsOver, IsReady, IsSaid, IsSolved, Means, Prepares, Runs, Says, Solves, around, ask_of, is_brief, report_text, status_of}
+use Rattle.asp_cli.specs.Found.{seeks_consequences}
 use Rattle.asp_cli.specs.declared.Options.{Options}
 
 says-at : (a : Around) (text : List ℕ) (said : Result Program ReadError) → a.left ≡ Some text → Says a said → outcome text ≡ said
@@ -128,23 +132,42 @@ runs-memory given a kept reads writes quiet =
     record { means = means; exact = exact given a None Memory means (λ told isn't. quiet told); later = (reads, writes) }
 
 -- a run that ended at its limit has a model
-abbrev recorded-by : Mode → Option (Atoms × List ℤ) → List Atoms → List Atoms
-recorded-by Enum best L = L
-recorded-by Opt best L = bests best L
+recorded-some : (best : Option (Atoms × List ℤ)) (L : List Atoms) → 0 < length L → is_some_of (bests best L) ≡ true
+recorded-some best [] h = absurd (let f : ⊥ = omega (arith, h) in f)
+recorded-some best (S ∷ L) h = refl
 
-recorded-is : (mode : Mode) (r : Results) → recorded mode r ≡ recorded-by mode r.best r.answers
-recorded-is Enum r = refl
-recorded-is Opt r = refl
+listed-some : (L : List Atoms) → 0 < length L → is_some_of L ≡ true
+listed-some [] h = absurd (let f : ⊥ = omega (arith, h) in f)
+listed-some (S ∷ L) h = refl
 
-some-by : (mode : Mode) (best : Option (Atoms × List ℤ)) (L : List Atoms) → 0 < length L → is_some_of (recorded-by mode best L) ≡ true
-some-by mode best [] h = absurd (let f : ⊥ = omega (arith, h) in f)
-some-by Enum best (S ∷ L) h = refl
-some-by Opt best (S ∷ L) h = refl
+some-by : (mode : Mode) (r : Results) → reasoning_of mode ≡ None → 0 < length r.answers → has_model_in mode r ≡ true
+some-by Enum r e h = listed-some r.answers h
+some-by Opt r e h = recorded-some r.best r.answers h
+some-by (Consequences w) r e h = absurd (some e)
+  where
+    some : Some w ≡ None → ⊥
+    some e = cc
+
+listed-mode : (all : Bool) (mode : Mode) → asks_list all mode ≡ true → reasoning_of mode ≡ None
+listed-mode all Enum e = refl
+listed-mode all Opt e = refl
+listed-mode all (Consequences w) e = absurd (false≢true e)
 
 limited-has : (p : Program) (ask : Ask) (units : ℕ) (r : Report) → IsReport p ask units r → r.results.end ≡ Limited → has_model r.results ≡ true
 limited-has p ask units r is e =
     let asked : IsAsked p ask r.results = subst (SaysReport p ask r) e is.says in
-    ap is_some_of (recorded-is r.results.mode r.results) ∙ some-by r.results.mode r.results.best r.results.answers (omega (arith, asked.some, asked.count))
+    some-by r.results.mode r.results (ap reasoning_of is.mode_is ∙ listed-mode ask.all_optima ask.mode asked.listing) (omega (arith, asked.some, asked.count))
+
+-- no consequences are sought beside a proof
+pub unsought : (o : Option Mode) (p : Program) → seeks_consequences (Some o) ≡ false → reasoning_of (mode_of o p) ≡ None
+unsought None p e = own p.minimize
+  where
+    own : (ms : List Minimize) → reasoning_of (mode_by ms) ≡ None
+    own [] = refl
+    own (m ∷ ms) = refl
+unsought (Some Enum) p e = refl
+unsought (Some Opt) p e = refl
+unsought (Some (Consequences r)) p e = absurd (false≢true (sym e))
 
 written : (given : Options) (a : Around) (report : Option Report) → (s : IsSolved given a report) → (end : End) (model : Bool) → s.done.results.end ≡ end → has_model s.done.results ≡ model
     → Appends a.held a.held' (report_text s.program s.done (is_brief given)) → Means given a report (status_for end model)

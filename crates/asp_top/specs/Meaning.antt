@@ -1,9 +1,10 @@
 -- What is asked of a program, and whether a model was recorded.
 use Rattle.std.specs.Prelude.{Bool, true, false, List, [], ◌∷◌, Option, None, Some}
+use Rattle.std.specs.Option.{is_some}
 use Rattle.asp_model.specs.declared.program.Program.{Program}
 use Rattle.asp_model.specs.declared.program.Minimize.{Minimize}
 use Rattle.asp_model.specs.declared.results.Mode.{Mode}
-use Rattle.asp_model.specs.declared.results.Mode.TheVariants.{Enum, Opt}
+use Rattle.asp_model.specs.declared.results.Mode.TheVariants.{Enum, Opt, Consequences}
 use Rattle.asp_model.specs.declared.results.End.{End}
 use Rattle.asp_model.specs.declared.results.End.TheVariants.{Finished, Limited, Unfinished}
 use Rattle.asp_model.specs.declared.results.Results.{Results}
@@ -25,9 +26,14 @@ abbrev pub is_some_of : {A : Type 0} → List A → Bool
 is_some_of [] = false
 is_some_of (x ∷ xs) = true
 
--- whether a model was recorded
+-- whether a model was found: it was recorded, or its part of the consequences was
+abbrev pub has_model_in : Mode → Results → Bool
+has_model_in Enum r = is_some_of (recorded Enum r)
+has_model_in Opt r = is_some_of (recorded Opt r)
+has_model_in (Consequences w) r = is_some r.known
+
 abbrev pub has_model : Results → Bool
-has_model r = is_some_of (recorded r.mode r)
+has_model r = has_model_in r.mode r
 
 -- a status that tells how the run ended, and whether it has a model
 abbrev pub status_for : End → Bool → Status

@@ -29,6 +29,7 @@ fn has_model(results: &Results) -> bool
             [] => results.best.is_some(),
             [_, ..] => true,
         },
+        Mode::Consequences(_) => results.known.is_some(),
     }
 }
 

@@ -15,3 +15,5 @@ pub mod Places
 pub mod Tabled
 pub mod Tables
 pub mod Numbers
+pub mod Knowing
+pub mod Stored

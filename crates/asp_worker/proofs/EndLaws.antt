@@ -1,6 +1,6 @@
 -- A worker's beginning and its end.
 use Rattle.std.proofs.Common.{◌≡◌, ℕ, ◌+◌, Bool, true, false, cond, eqb, List, [], ◌∷◌, None, refl, sym, ap, ◌∙◌, subst, arith}
-use Rattle.std.proofs.lemmas.Bool.{eqb-true}
+use Rattle.std.proofs.lemmas.Bool.{eqb-true, false≢true}
 use Rattle.asp_model.specs.declared.program.Program.{Program}
 use Rattle.asp_model.specs.declared.results.Mode.{Mode}
 use Rattle.asp_vars.specs.Paid.{Units}
@@ -22,20 +22,20 @@ use Rattle.asp_worker.specs.Working.{GoesOn}
 use Rattle.asp_worker.proofs.SeatLaws.{board-task, board-now, lawful-now, settled-on, idles-call, free-idles, settled-idles}
 
 no_units : Program → Units
-no_units p = record { program = p; left = 0; burnt = 0; known = 0; least = None }
+no_units p = record { program = p; left = 0; burnt = 0; reasoned = false; known = 0; least = None }
 
 -- a new search goes with the board of an idle number
-pub begins : (p : Program) (m : Mode) (v : Knows) (s : Searching) (u : Units) → IsRunOf p m v → IsIdle v → s ≡ new_search p m s.slots → u ≡ record { program = p; left = 0; burnt = 0; known = 0; least = None } → GoesOn m v s u
+pub begins : (p : Program) (m : Mode) (v : Knows) (s : Searching) (u : Units) → IsRunOf p m v → IsIdle v → s ≡ new_search p m s.slots → u ≡ record { program = p; left = 0; burnt = 0; reasoned = false; known = 0; least = None } → GoesOn m v s u
 begins p m v s u run idle e f =
     let same : (seen_board v).task.program ≡ p = ap (λ (t : Task). t.program) (board-task v) ∙ run.program in
     let goal : (seen_board v).task.goal ≡ goal_of m = ap (λ (t : Task). t.goal) (board-task v) ∙ run.goal in
-    let back : ComesBack (seen_board v) (out_of (seen_board v).out v.number) (record { program = p; left = 0; burnt = 0; known = 0; least = None }) =
-    (record { program = sym same; known = omega arith; least = tt }, sym idle.home) in
+    let back : ComesBack (seen_board v) (out_of (seen_board v).out v.number) (record { program = p; left = 0; burnt = 0; reasoned = false; known = 0; least = None }) =
+    (record { program = sym same; reasoned = λ e. absurd (false≢true e); known = omega arith; least = tt }, sym idle.home) in
     subst (λ (x : Searching). GoesOn m v x u) (sym e)
     (subst (λ (x : Units). GoesOn m v (new_search p m s.slots) x) (sym f) (record {
       program = sym run.program;
       mode_is = refl;
-      work = work-begins (seen_board v) v.number m (record { program = p; left = 0; burnt = 0; known = 0; least = None }) goal back;
+      work = work-begins (seen_board v) v.number m (record { program = p; left = 0; burnt = 0; reasoned = false; known = 0; least = None }) goal back;
     }))
 
 -- ---- the units are given back

@@ -1,10 +1,16 @@
 -- A worker's search and its units beside the board, from call to call.
-use Rattle.std.proofs.Common.{◌≡◌, ℕ, Bool, true, false, cond, List, [], Option, Some, None, refl, sym, ap, ◌∙◌, subst}
+use Rattle.std.proofs.Common.{◌≡◌, ℕ, Bool, true, false, cond, List, [], Option, Some, None, ◌⊎◌, inl, inr, refl, sym, ap, ◌∙◌, subst}
 use Rattle.std.specs.Prelude.{ℤ, option_map}
+use Rattle.std.proofs.lemmas.Option.{same_Some}
 use Rattle.asp_model.specs.declared.program.Program.{Program}
 use Rattle.asp_model.specs.declared.results.Mode.{Mode}
-use Rattle.asp_model.specs.declared.results.Mode.TheVariants.{Enum, Opt}
-use Rattle.asp_model.specs.Sets.{Atoms}
+use Rattle.asp_model.specs.declared.results.Mode.TheVariants.{Enum, Opt, Consequences}
+use Rattle.asp_model.specs.declared.results.Reasoning.{Reasoning}
+use Rattle.asp_model.specs.Asked.{reasoning_of}
+use Rattle.asp_model.specs.Consequences.{common_sets, unshown, used_up}
+use Rattle.asp_model.specs.Sets.{Atoms, IsSubset}
+use Rattle.asp_model.proofs.ConsequenceLaws.{unshown-common}
+use Rattle.asp_vars.specs.Knowing.{Knowing}
 use Rattle.asp_model.specs.Costs.{cost}
 use Rattle.asp_vars.specs.Entailment.{HitsOnly, Settled}
 use Rattle.asp_vars.specs.Literals.{Literal}
@@ -14,19 +20,21 @@ use Rattle.asp_vault.specs.Moments.{Stays}
 use Rattle.asp_path.specs.declared.status.Status.TheVariants as status
 use Rattle.asp_core.specs.declared.task.Task.{Task}
 use Rattle.asp_core.specs.Units.{out_of}
-use Rattle.asp_core.specs.Boards.{Board, is_excused}
+use Rattle.asp_core.specs.Boards.{Board, is_excused, known_by, known_of, sought}
 use Rattle.asp_core.specs.declared.event.Event.{Event}
 use Rattle.asp_core.specs.Events.{replay}
 use Rattle.asp_book.specs.Calls.{Knows, task_of, seen_board, IsCall}
 use Rattle.asp_book.proofs.BookLaws.{Fits-grows}
 use Rattle.asp_book.proofs.CallLaws.{task-stays, seen-after}
 use Rattle.asp_propagate.specs.Useful.{IsSmaller}
-use Rattle.asp_search_laws.specs.Searching.{Searching}
+use Rattle.asp_search_laws.specs.Searching.{Searching, used}
+use Rattle.asp_search.specs.Beside.{Adopts}
+use Rattle.asp_crew_laws.specs.Agrees.{AreRecorded}
 use Rattle.asp_crew_laws.specs.Working.{IsAtWork, Works}
 use Rattle.asp_crew_laws.proofs.AgreeLaws.{settled-excused}
-use Rattle.asp_crew_laws.proofs.WorkLaws.{work-on, work-unimproved}
+use Rattle.asp_crew_laws.proofs.WorkLaws.{sought-is, work-adopted, work-on, work-unimproved}
 use Rattle.asp_worker.specs.Seats.{Passes, Idles, Owes}
-use Rattle.asp_worker.specs.Sharing.{is_smaller, lowered, lowered_by, with_best}
+use Rattle.asp_worker.specs.Sharing.{is_smaller, lowered, lowered_by, TakesBest}
 use Rattle.asp_worker.specs.Working.{GoesOn, IsOn, IsOff}
 use Rattle.asp_worker.proofs.SeatLaws.{board-task, idles-passes, holds-idles, cube-idles}
 
@@ -93,28 +101,97 @@ lowered-same s c = here (is_smaller c s.bound)
     here true = (refl, refl, refl, refl)
     here false = (refl, refl, refl, refl)
 
-pub best-goes : (m : Mode) (v : Knows) (s : Searching) (u : Units) → GoesOn m v s u → GoesOn m v (with_best m (seen_board v) s) u
-best-goes Enum v s u g = g
-best-goes Opt v s u g = here (seen_board v).best refl
+pub best-goes : (m : Mode) (v : Knows) (s t : Searching) (u : Units) → GoesOn m v s u → TakesBest m (seen_board v) s t → GoesOn m v t u
+best-goes Enum v s t u g e = subst (λ (x : Searching). GoesOn Enum v x u) (sym e) g
+best-goes Opt v s t u g e = subst (λ (x : Searching). GoesOn Opt v x u) (sym e) (here (seen_board v).best refl)
   where
     here : (o : Option Atoms) → o ≡ (seen_board v).best → GoesOn Opt v (lowered_by (option_map (cost (seen_board v).task.program) o) s) u
     here None e = g
     here (Some B) e = lowered-goes v B s u (sym e) g
+best-goes (Consequences r) v s t u g (inl e) = subst (λ (x : Searching). GoesOn (Consequences r) v x u) (sym e) g
+best-goes (Consequences r) v s t u g (inr a) =
+    subst (λ (x : Searching). GoesOn (Consequences r) v x u) (sym a.same)
+    (record { program = g.program; mode_is = g.mode_is; work = work-adopted (seen_board v) v.number r s.known s.bound u g.work })
 
-pub best-cube : (m : Mode) (b : Board) (s : Searching) → (with_best m b s).cube ≡ s.cube
-best-cube Enum b s = refl
-best-cube Opt b s = here (option_map (cost b.task.program) b.best)
+pub best-cube : (m : Mode) (b : Board) (s t : Searching) → TakesBest m b s t → t.cube ≡ s.cube
+best-cube Enum b s t e = ap (λ (x : Searching). x.cube) e
+best-cube Opt b s t e = ap (λ (x : Searching). x.cube) e ∙ here (option_map (cost b.task.program) b.best)
   where
     here : (o : Option (List ℤ)) → (lowered_by o s).cube ≡ s.cube
     here None = refl
     here (Some c) = (lowered-same s c).3
+best-cube (Consequences r) b s t (inl e) = ap (λ (x : Searching). x.cube) e
+best-cube (Consequences r) b s t (inr a) = ap (λ (x : Searching). x.cube) a.same
+
+-- ---- what the answers delivered have in common is known
+pub known-seen : (v w : Knows) (before : List Event) → Stays v w → IsCall v w before [] → (r : Option Knowing) → r ≡ known_of (replay (task_of v) before) → r ≡ known_of (seen_board w)
+known-seen v w before stays call r e = e ∙ ap known_of (sym (seen-after v w before [] stays call))
+
+pub record IsKnown (b : Board) (x : Knowing) : Type 0 where
+  pub reasoning : Reasoning
+  pub seeks : sought b.task.goal ≡ Some reasoning
+  pub is : x ≡ record { program = b.task.program; reasoning = reasoning; sets = common_sets reasoning b.task.program b.answers }
+
+pub known-is : (b : Board) (x : Knowing) → known_of b ≡ Some x → IsKnown b x
+known-is b x e = here (sought b.task.goal) refl e
+  where
+    here : (k : Option Reasoning) → sought b.task.goal ≡ k → known_by k b.task.program b.answers ≡ Some x → IsKnown b x
+    here None q h = absurd (none h)
+      where
+        none : None ≡ Some x → ⊥
+        none z = cc
+    here (Some r) q h = record { reasoning = r; seeks = q; is = sym (same_Some (record { program = b.task.program; reasoning = r; sets = common_sets r b.task.program b.answers }) x h) }
+
+-- a search at work takes it over
+pub record MayTake (s : Searching) (x : Knowing) : Type 0 where
+  pub program : x.program ≡ s.program
+  pub reasoning : Some x.reasoning ≡ reasoning_of s.mode
+  pub all : IsSubset (unshown x.reasoning x.program x.sets) (unshown x.reasoning x.program s.known)
+
+pub may-take : (m : Mode) (v : Knows) (s : Searching) (u : Units) (x : Knowing) → GoesOn m v s u → IsKnown (seen_board v) x → MayTake s x
+may-take m v s u x g k =
+    let b : Board = seen_board v in
+    let r : Reasoning = k.reasoning in
+    let recorded : AreRecorded (Some r) b.task.program s.known b.answers = subst (λ (o : Option Reasoning). AreRecorded o b.task.program s.known b.answers) k.seeks g.work.agrees.recorded in
+    record {
+      program = ap (λ (y : Knowing). y.program) k.is ∙ ap (λ (t : Task). t.program) (board-task v) ∙ sym g.program;
+      reasoning = ap (λ (y : Knowing). Some y.reasoning) k.is ∙ sym k.seeks ∙ sought-is m s.bound b.task.goal g.work.goal ∙ ap reasoning_of (sym g.mode_is);
+      all = subst (λ (y : Knowing). IsSubset (unshown y.reasoning y.program y.sets) (unshown y.reasoning y.program s.known)) (sym k.is)
+          (subst (λ (A : Atoms). IsSubset A (unshown r b.task.program s.known)) (sym (unshown-common r b.task.program b.answers)) recorded.0);
+    }
+
+pub takes-known : (m : Mode) (v : Knows) (s t : Searching) (u : Units) (x : Knowing) → GoesOn m v s u → IsKnown (seen_board v) x → (t ≡ s) ⊎ Adopts s t x.sets → TakesBest m (seen_board v) s t
+takes-known m v s t u x g k h = here m refl
+  where
+    is : sought (seen_board v).task.goal ≡ reasoning_of m
+    is = sought-is m s.bound (seen_board v).task.goal g.work.goal
+
+    none : None ≡ Some k.reasoning → ⊥
+    none z = cc
+
+    sets : (r : Reasoning) → r ≡ k.reasoning → x.sets ≡ common_sets r (seen_board v).task.program (seen_board v).answers
+    sets r e = ap (λ (y : Knowing). y.sets) k.is ∙ ap (λ (w : Reasoning). common_sets w (seen_board v).task.program (seen_board v).answers) (sym e)
+
+    adopts : (r : Reasoning) → r ≡ k.reasoning → (t ≡ s) ⊎ Adopts s t x.sets → (t ≡ s) ⊎ Adopts s t (common_sets r (seen_board v).task.program (seen_board v).answers)
+    adopts r e (inl q) = inl q
+    adopts r e (inr a) = inr (subst (Adopts s t) (sets r e) a)
+
+    here : (n : Mode) → n ≡ m → TakesBest n (seen_board v) s t
+    here Enum e = absurd (none (ap reasoning_of e ∙ sym is ∙ k.seeks))
+    here Opt e = absurd (none (ap reasoning_of e ∙ sym is ∙ k.seeks))
+    here (Consequences r) e = adopts r (same_Some r k.reasoning (ap reasoning_of e ∙ sym is ∙ k.seeks)) h
 
 -- ---- a leaf may be closed for what the search has settled
-pub done-excused : (m : Mode) (v : Knows) (s : Searching) (u : Units) (q : List Literal) → GoesOn m v s u → Settled s.program s.known s.bound q → HitsOnly (task_of v).program (is_excused (seen_board v)) q
+pub done-excused : (m : Mode) (v : Knows) (s : Searching) (u : Units) (q : List Literal) → GoesOn m v s u → Settled s.program (used s) s.bound q → HitsOnly (task_of v).program (is_excused (seen_board v)) q
 done-excused m v s u q g h =
     let same : s.program ≡ (seen_board v).task.program = g.program ∙ ap (λ (t : Task). t.program) (sym (board-task v)) in
     subst (λ (t : Task). HitsOnly t.program (is_excused (seen_board v)) q) (board-task v)
-    (settled-excused (seen_board v) s.known s.bound q g.work.agrees (subst (λ (p : Program). Settled p s.known s.bound q) same h))
+    (settled-excused (seen_board v) s.known s.bound q g.work.agrees
+    (subst (λ (p : Program). Settled p (used_up (sought (seen_board v).task.goal) p s.known) s.bound q) same
+    (subst (λ (k : Option Reasoning). Settled s.program (used_up k s.program s.known) s.bound q) (sym seeks) h)))
+  where
+    seeks : sought (seen_board v).task.goal ≡ reasoning_of s.mode
+    seeks = sought-is m s.bound (seen_board v).task.goal g.work.goal ∙ ap reasoning_of (sym g.mode_is)
 
 -- ---- a cost beside the bound
 pub smaller-is : (c : List ℤ) (o : Option (List ℤ)) → is_smaller c o ≡ true → IsSmaller c o
@@ -128,8 +205,8 @@ pub lowered-else : (s : Searching) (c : List ℤ) (b : Bool) → b ≡ is_smalle
 lowered-else s c b e h = ap (λ x. cond x (record s { bound = Some c }) s) (sym h ∙ e)
 
 -- ---- the best cost that a call told
-pub best-then : (m : Mode) (b : Board) (s : Searching) (r x : Option (List ℤ)) → m ≡ Opt → r ≡ option_map (cost b.task.program) b.best → r ≡ x → lowered_by x s ≡ with_best m b s
-best-then m b s r x e is at = ap (λ (o : Option (List ℤ)). lowered_by o s) (sym at ∙ is) ∙ ap (λ (k : Mode). with_best k b s) (sym e)
+pub best-then : (m : Mode) (b : Board) (s t : Searching) (r x : Option (List ℤ)) → m ≡ Opt → r ≡ option_map (cost b.task.program) b.best → r ≡ x → t ≡ lowered_by x s → TakesBest m b s t
+best-then m b s t r x e is at now = subst (λ (k : Mode). TakesBest k b s t) (sym e) (now ∙ ap (λ (o : Option (List ℤ)). lowered_by o s) (sym at ∙ is))
 
 pub best-seen : (v w : Knows) (before : List Event) → Stays v w → IsCall v w before [] → (r : Option (List ℤ)) → r ≡ option_map (cost (replay (task_of v) before).task.program) (replay (task_of v) before).best → r ≡ option_map (cost (seen_board w).task.program) (seen_board w).best
 best-seen v w before stays call r e = e ∙ ap (λ (b : Board). option_map (cost b.task.program) b.best) (sym (seen-after v w before [] stays call))

@@ -1,13 +1,16 @@
 -- A worker's search beside the board once an answer was recorded, or units were leased.
-use Rattle.std.proofs.Common.{◌≡◌, ℕ, ◌+◌, ◌-◌, ◌^◌, ◌<◌, ◌≤◌, Bool, true, false, not, cond, eqb, min, max, List, [], ◌∷◌, ◌++◌, Option, Some, None, refl, sym, ap, ◌∙◌, subst, arith}
+use Rattle.std.proofs.Common.{◌≡◌, ℕ, ◌+◌, ◌-◌, ◌^◌, ◌<◌, ◌≤◌, Bool, true, false, not, ◌||◌, cond, eqb, min, max, List, [], ◌∷◌, ◌++◌, Option, Some, None, refl, sym, ap, ◌∙◌, subst, arith}
 use Rattle.std.specs.Prelude.{ℤ, IsTrue, option_map}
 use Rattle.std.specs.Option.{IfSome}
-use Rattle.std.proofs.lemmas.Bool.{eqb-true}
+use Rattle.std.specs.List.{list_any}
+use Rattle.std.proofs.lemmas.Bool.{eqb-true, false≢true}
 use Rattle.asp_model.specs.declared.program.Program.{Program}
 use Rattle.asp_model.specs.declared.results.Mode.{Mode}
-use Rattle.asp_model.specs.declared.results.Mode.TheVariants.{Enum, Opt}
+use Rattle.asp_model.specs.declared.results.Mode.TheVariants.{Enum, Opt, Consequences}
+use Rattle.asp_model.specs.Asked.{reasoning_of}
+use Rattle.asp_model.specs.Consequences.{common_sets, used_up}
 use Rattle.asp_model.specs.Models.{is_stable}
-use Rattle.asp_model.specs.Sets.{Atoms}
+use Rattle.asp_model.specs.Sets.{Atoms, same_set}
 use Rattle.asp_model.specs.Costs.{cost, betters}
 use Rattle.asp_vars.specs.Entailment.{costs_bound}
 use Rattle.asp_vars.specs.Literals.{hits}
@@ -20,7 +23,7 @@ use Rattle.asp_core.specs.declared.event.Event.{Event}
 use Rattle.asp_core.specs.declared.event.Event.TheVariants as event
 use Rattle.asp_core.specs.declared.task.Task.{Task}
 use Rattle.asp_core.specs.Units.{out_of}
-use Rattle.asp_core.specs.Boards.{Board, start, lists, is_answer, optimises}
+use Rattle.asp_core.specs.Boards.{Board, goal_of, start, lists, is_answer, optimises}
 use Rattle.asp_core.specs.Events.{happens, replay}
 use Rattle.asp_core.specs.Growth.{Grows}
 use Rattle.asp_core.proofs.BoardLaws.{wanted-stand}
@@ -36,7 +39,7 @@ use Rattle.asp_propagate.specs.Useful.{IsSmaller}
 use Rattle.asp_search_laws.specs.Searching.{Searching}
 use Rattle.asp_search_laws.specs.Steps.{Records}
 use Rattle.asp_crew_laws.specs.Working.{IsAtWork}
-use Rattle.asp_crew_laws.proofs.WorkLaws.{work-on, work-delivered, work-improved, work-unimproved, work-leased, out_of-leased, Fits-merged, may-list, may-optimise}
+use Rattle.asp_crew_laws.proofs.WorkLaws.{work-on, work-delivered, work-improved, work-unimproved, work-leased, work-told, out_of-leased, Fits-merged, may-list, may-optimise, may-tell}
 use Rattle.asp_worker.specs.Seats.{IsRun, IsSettled, Idles, Leases}
 use Rattle.asp_worker.specs.Sharing.{lowered}
 use Rattle.asp_worker.specs.Working.{GoesOn, Finds}
@@ -58,10 +61,13 @@ not-dear : (p : Program) (c : Option (List ℤ)) (S : Atoms) → IsSmaller (cost
 not-dear p None S less = refl
 not-dear p (Some d) S less = ap not less
 
-pub is-listed : (v : Knows) (s t : Searching) (u : Units) (leaf : ℕ) (S : Atoms) → Finds Enum v s t u leaf S → IsTrue (lists (seen_board v).task S)
-is-listed v s t u leaf S f =
+-- in an enumeration and in a search for consequences it may be delivered
+pub is-listed : (m : Mode) (v : Knows) (s t : Searching) (u : Units) (leaf : ℕ) (S : Atoms) → optimises (goal_of m) ≡ false → Finds m v s t u leaf S → IsTrue (lists (seen_board v).task S)
+is-listed Enum v s t u leaf S no f =
     let same : s.program ≡ (seen_board v).task.program = f.on.going.program ∙ ap (λ (x : Task). x.program) (sym (board-task v)) in
     may-list (seen_board v).task s.bound S f.on.going.work.goal (subst (λ (p : Program). costs_bound p s.bound S ≡ false) same (not-dear s.program s.bound S f.cheaper))
+is-listed Opt v s t u leaf S no f = absurd (false≢true (sym no))
+is-listed (Consequences r) v s t u leaf S no f = may-tell (seen_board v).task r s.bound S f.on.going.work.goal
 
 pub is-sought : (v : Knows) (s t : Searching) (u : Units) (leaf : ℕ) (S : Atoms) → Finds Opt v s t u leaf S → IsTrue (optimises (seen_board v).task.goal)
 is-sought v s t u leaf S f = may-optimise (seen_board v).task f.on.going.work.goal
@@ -81,20 +87,35 @@ module _ (v w : Knows) (before : List Event) (stays : Stays v w) (s t : Searchin
   program-then : (m : Mode) → Finds m v s t u leaf S → s.program ≡ (replay (task_of v) before).task.program
   program-then m f = f.on.going.program ∙ ap (λ (x : Task). x.program) (sym (task-run (start (task_of v)) before))
 
-  -- ---- in an enumeration
-  module _ (f : Finds Enum v s t u leaf S) where
-    records-enum : Records Enum s t (cube_of (seen_board v).nodes leaf) S
-    records-enum = subst (λ (m : Mode). Records m s t (cube_of (seen_board v).nodes leaf) S) f.on.going.mode_is f.records
+  -- ---- where answers are delivered
+  records-in : (m : Mode) → Finds m v s t u leaf S → Records m s t (cube_of (seen_board v).nodes leaf) S
+  records-in m f = subst (λ (k : Mode). Records k s t (cube_of (seen_board v).nodes leaf) S) f.on.going.mode_is f.records
 
-    goes-delivered : IsCall v w before (event.Deliver v.number S ∷ []) → GoesOn Enum w t u
+  new-in : (m : Mode) → Finds m v s t u leaf S → list_any (same_set S) (used_up (reasoning_of m) s.program s.known) ≡ false
+  new-in m f = ap (λ (k : Mode). list_any (same_set S) (used_up (reasoning_of k) s.program s.known)) (sym f.on.going.mode_is) ∙ f.new
+
+  delivered-in : (m : Mode) → optimises (goal_of m) ≡ false → Finds m v s t u leaf S → IsCall v w before (event.Deliver v.number S ∷ []) → IsAtWork (happens (replay (task_of v) before) (event.Deliver v.number S)) v.number m t.known t.bound u
+  delivered-in Enum no f call =
+      let b : Board = replay (task_of v) before in
+      let r = records-in Enum f in
+      subst (λ (k : List Atoms). IsAtWork (happens b (event.Deliver v.number S)) v.number Enum k t.bound u) (sym r.0)
+      (subst (λ (o : Option (List ℤ)). IsAtWork (happens b (event.Deliver v.number S)) v.number Enum (s.known ++ S ∷ []) o u) (sym r.1)
+      (work-delivered b v.number S s.known s.bound u (at-moment Enum (event.Deliver v.number S ∷ []) call f) (guard-was v w before stays (event.Deliver v.number S) call) (new-in Enum f)))
+  delivered-in Opt no f call = absurd (false≢true (sym no))
+  delivered-in (Consequences k) no f call =
+      let b : Board = replay (task_of v) before in
+      let r = records-in (Consequences k) f in
+      subst (λ (K : List Atoms). IsAtWork (happens b (event.Deliver v.number S)) v.number (Consequences k) K t.bound u) (sym (r.0 ∙ ap (λ (p : Program). common_sets k p (s.known ++ S ∷ [])) (program-then (Consequences k) f)))
+      (subst (λ (o : Option (List ℤ)). IsAtWork (happens b (event.Deliver v.number S)) v.number (Consequences k) (common_sets k b.task.program (s.known ++ S ∷ [])) o u) (sym r.1)
+      (work-told b v.number S k s.known s.bound u (at-moment (Consequences k) (event.Deliver v.number S ∷ []) call f) (guard-was v w before stays (event.Deliver v.number S) call)))
+
+  module _ (m : Mode) (no : optimises (goal_of m) ≡ false) (f : Finds m v s t u leaf S) where
+    goes-delivered : IsCall v w before (event.Deliver v.number S ∷ []) → GoesOn m w t u
     goes-delivered call =
         let b : Board = replay (task_of v) before in
-        goes-with Enum v w s t u leaf S (happens b (event.Deliver v.number S)) f stays (board-now v w before stays (event.Deliver v.number S) call)
-        (subst (λ (k : List Atoms). IsAtWork (happens b (event.Deliver v.number S)) v.number Enum k t.bound u) (sym records-enum.0)
-        (subst (λ (o : Option (List ℤ)). IsAtWork (happens b (event.Deliver v.number S)) v.number Enum (s.known ++ S ∷ []) o u) (sym records-enum.1)
-        (work-delivered b v.number S s.known s.bound u (at-moment Enum (event.Deliver v.number S ∷ []) call f) (guard-was v w before stays (event.Deliver v.number S) call) f.new)))
+        goes-with m v w s t u leaf S (happens b (event.Deliver v.number S)) f stays (board-now v w before stays (event.Deliver v.number S) call) (delivered-in m no f call)
 
-    pub delivered-goes : (r : Bool) → r ≡ true → IsCall v w before (delivered v.number S r) → GoesOn Enum w t u
+    pub delivered-goes : (r : Bool) → r ≡ true → IsCall v w before (delivered v.number S r) → GoesOn m w t u
     delivered-goes r e call = goes-delivered (subst (λ x. IsCall v w before (delivered v.number S x)) e call)
 
     pub delivered-idles : (r : Bool) → IsCall v w before (delivered v.number S r) → Idles v w
@@ -148,20 +169,20 @@ module _ (v w : Knows) (before : List Event) (stays : Stays v w) (s t : Searchin
 
 -- ---- units
 abbrev pub merged : Units → Units → Units
-merged u x = record { program = u.program; left = u.left + x.left; burnt = u.burnt + x.burnt; known = max u.known x.known; least = least_of u.least x.least }
+merged u x = record { program = u.program; left = u.left + x.left; burnt = u.burnt + x.burnt; reasoned = u.reasoned || x.reasoned; known = max u.known x.known; least = least_of u.least x.least }
 
 -- the same sum of units, otherwise spread
 work-spread : (b : Board) (n : ℕ) (m : Mode) (known : List Atoms) (bound : Option (List ℤ)) (u x : Units) → IsAtWork b n m known bound u → x.left + x.burnt ≡ u.left + u.burnt → Fits b x → IsAtWork b n m known bound x
 work-spread b n m known bound u x w sum fits = record { goal = w.goal; agrees = w.agrees; apart = w.apart; kept = w.kept; units = (fits, sum ∙ w.units.1) }
 
 module _ (v w : Knows) (before : List Event) (stays : Stays v w) (m : Mode) (s : Searching) (u x : Units) (set : IsSettled v) (g : GoesOn m v s u)
-    (is : x ≡ record { program = (replay (task_of v) before).task.program; left = min 64 (replay (task_of v) before).pool; burnt = 0; known = 0; least = None }) where
+    (is : x ≡ record { program = (replay (task_of v) before).task.program; left = min 64 (replay (task_of v) before).pool; burnt = 0; reasoned = false; known = 0; least = None }) where
   work-then : (added : List Event) → IsCall v w before added → IsAtWork (replay (task_of v) before) v.number m s.known s.bound u
   work-then added call = work-on (seen_board v) (replay (task_of v) before) v.number m s.known s.bound u g.work call.grown call.spared.units
 
   fits-then : (added : List Event) → IsCall v w before added → Fits (replay (task_of v) before) (merged u x)
   fits-then added call = Fits-merged (replay (task_of v) before) u x (work-then added call).units.0
-      (subst (Fits (replay (task_of v) before)) (sym is) (record { program = refl; known = omega arith; least = tt }))
+      (subst (Fits (replay (task_of v) before)) (sym is) (record { program = refl; reasoned = λ e. absurd (false≢true e); known = omega arith; least = tt }))
 
   pub leased-program : x.program ≡ u.program
   leased-program = ap (λ (y : Units). y.program) is ∙ ap (λ (y : Task). y.program) (task-run (start (task_of v)) before ∙ sym (board-task v)) ∙ sym g.work.units.0.program

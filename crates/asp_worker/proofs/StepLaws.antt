@@ -3,6 +3,8 @@ use Rattle.std.proofs.Common.{◌≡◌, ◌⊎◌, ℕ, ◌-◌, Bool, List, Op
 use Rattle.std.specs.Prelude.{ℤ}
 use Rattle.asp_model.specs.declared.program.Program.{Program}
 use Rattle.asp_model.specs.declared.results.Mode.{Mode}
+use Rattle.asp_model.specs.Asked.{reasoning_of}
+use Rattle.asp_model.specs.Consequences.{used_up}
 use Rattle.asp_model.specs.Sets.{Atoms}
 use Rattle.asp_vars.specs.Entailment.{Settled}
 use Rattle.asp_vars.specs.Literals.{Literal}
@@ -10,7 +12,7 @@ use Rattle.asp_vars.specs.Paid.{Units, Clash}
 use Rattle.asp_vars.specs.declared.nogood.Nogood.{Nogood}
 use Rattle.asp_path.specs.Trees.{cube_of}
 use Rattle.asp_book.specs.Calls.{Knows, seen_board}
-use Rattle.asp_search_laws.specs.Searching.{Searching}
+use Rattle.asp_search_laws.specs.Searching.{Searching, used}
 use Rattle.asp_search_laws.specs.Steps.{HasSameTask, Burns, IsStep, IsFailure, Steps}
 use Rattle.asp_search_laws.specs.declared.step.Step.{Step}
 use Rattle.asp_search_laws.specs.declared.step.Step.TheVariants as step
@@ -31,7 +33,7 @@ module _ (m : Mode) (v : Knows) (s t : Searching) (f : Units) (leaf : ℕ) (on :
   goes-burnt q g b = subst (λ (u : Units). GoesOn m v s u) (sym b.paid) (record {
     program = on.going.program;
     mode_is = on.going.mode_is;
-    work = work-burnt (seen_board v) v.number m s.known s.bound f b.clash on.going.work b.left b.conflict.known b.conflict.bound;
+    work = work-burnt (seen_board v) v.number m s.known s.bound f b.clash on.going.work b.left (b.conflict.reasoning ∙ ap reasoning_of on.going.mode_is) b.conflict.known b.conflict.bound;
   })
 
   pub on-burnt : (q : List Literal) (g : Units) → HasSameTask s t → Burns s q f g → IsOn m v t g leaf
@@ -62,12 +64,13 @@ module _ (m : Mode) (v : Knows) (s t : Searching) (f : Units) (leaf : ℕ) (on :
     pub on-closed : r ≡ step.Closed → IsOn m v t g leaf
     on-closed e = let d = at step.Closed e in subst (λ (u : Units). IsOn m v t u leaf) (sym d.fuel) (on-same d.same)
 
-    pub settled-closed : r ≡ step.Closed → Settled t.program t.known t.bound (cube_of (seen_board v).nodes leaf)
+    pub settled-closed : r ≡ step.Closed → Settled t.program (used t) t.bound (cube_of (seen_board v).nodes leaf)
     settled-closed e =
         let d = at step.Closed e in
-        subst (λ (p : Program). Settled p t.known t.bound (cube_of (seen_board v).nodes leaf)) (sym d.same.program)
-        (subst (λ (k : List Atoms). Settled s.program k t.bound (cube_of (seen_board v).nodes leaf)) (sym d.same.known)
-        (subst (λ (b : Option (List ℤ)). Settled s.program s.known b (cube_of (seen_board v).nodes leaf)) (sym d.same.bound) d.settled))
+        subst (λ (p : Program). Settled p (used_up (reasoning_of t.mode) p t.known) t.bound (cube_of (seen_board v).nodes leaf)) (sym d.same.program)
+        (subst (λ (k : Mode). Settled s.program (used_up (reasoning_of k) s.program t.known) t.bound (cube_of (seen_board v).nodes leaf)) (sym d.same.mode)
+        (subst (λ (k : List Atoms). Settled s.program (used_up (reasoning_of s.mode) s.program k) t.bound (cube_of (seen_board v).nodes leaf)) (sym d.same.known)
+        (subst (λ (b : Option (List ℤ)). Settled s.program (used s) b (cube_of (seen_board v).nodes leaf)) (sym d.same.bound) d.settled)))
 
     pub finds-answer : (S : Atoms) → r ≡ step.Answer S → Finds m v s t g leaf S
     finds-answer S e =

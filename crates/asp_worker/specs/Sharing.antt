@@ -1,11 +1,12 @@
 -- What a search takes over from the others.
-use Rattle.std.specs.Prelude.{◌≡◌, Bool, true, if◌then◌else◌, List, [], ◌∷◌, Option, None, Some, ℤ, MatchBool, option_map}
+use Rattle.std.specs.Prelude.{◌≡◌, ◌⊎◌, Bool, true, if◌then◌else◌, List, [], ◌∷◌, Option, None, Some, ℤ, MatchBool, option_map}
 use Rattle.asp_model.specs.declared.results.Mode.{Mode}
 use Rattle.asp_model.specs.declared.results.Mode.TheVariants as mode
+use Rattle.asp_model.specs.Consequences.{common_sets}
 use Rattle.asp_model.specs.Costs.{betters, cost}
 use Rattle.asp_vars.specs.declared.nogood.Nogood.{Nogood}
 use Rattle.asp_core.specs.Boards.{Board}
-use Rattle.asp_search.specs.Beside.{Imports}
+use Rattle.asp_search.specs.Beside.{Adopts, Imports}
 use Rattle.asp_search_laws.specs.Searching.{Searching}
 use Rattle.asp_search_laws.specs.Steps.{is_of_use}
 
@@ -22,10 +23,12 @@ abbrev pub lowered_by : Option (List ℤ) → Searching → Searching
 lowered_by None s = s
 lowered_by (Some c) s = lowered s c
 
--- In an optimisation the cost of the best is taken over.
-abbrev pub with_best : Mode → Board → Searching → Searching
-with_best mode.Enum b s = s
-with_best mode.Opt b s = lowered_by (option_map (cost b.task.program) b.best) s
+-- In an optimisation the cost of the best is taken over; where consequences are sought what the answers delivered have in common, unless
+-- the search knew that.
+abbrev pub TakesBest : Mode → Board → Searching → Searching → Type 0
+TakesBest mode.Enum b s t = t ≡ s
+TakesBest mode.Opt b s t = t ≡ lowered_by (option_map (cost b.task.program) b.best) s
+TakesBest (mode.Consequences r) b s t = (t ≡ s) ⊎ Adopts s t (common_sets r b.task.program b.answers)
 
 -- The nogood was imported, where it counts for the search.
 abbrev pub ImportsIf : Searching → Searching → Nogood → Type 0
@@ -36,11 +39,11 @@ abbrev pub ImportsAll : List Nogood → Searching → Searching → Type 0
 ImportsAll [] s t = t ≡ s
 ImportsAll (n ∷ nogoods) s t = (r : Searching) × ImportsIf s r n × ImportsAll nogoods r t
 
--- The nogoods that count and the best cost were taken over.
+-- The nogoods that count, and then the best cost or the answers delivered, were taken over.
 pub record TakesOver (m : Mode) (b : Board) (nogoods : List Nogood) (s t : Searching) : Type 0 where
   pub between : Searching
   pub imported : ImportsAll nogoods s between
-  pub best : t ≡ with_best m b between
+  pub best : TakesBest m b between t
 
 -- After want of memory the search may be on no path, but knows what it knew.
 pub record Remembers (s t : Searching) : Type 0 where

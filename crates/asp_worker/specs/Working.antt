@@ -13,7 +13,7 @@ use Rattle.asp_path.specs.Trees.{cube_of}
 use Rattle.asp_book.specs.Calls.{Knows, task_of, seen_board}
 use Rattle.asp_crew_laws.specs.Working.{IsAtWork, Works}
 use Rattle.asp_propagate.specs.Useful.{IsSmaller}
-use Rattle.asp_search_laws.specs.Searching.{Searching}
+use Rattle.asp_search_laws.specs.Searching.{Searching, used}
 use Rattle.asp_search_laws.specs.Steps.{Burns, Records}
 use Rattle.asp_worker.specs.declared.path.Course.{Course}
 use Rattle.asp_worker.specs.declared.path.Course.TheVariants.{Open, Done, Spent}
@@ -49,14 +49,14 @@ pub record Finds (m : Mode) (v : Knows) (s t : Searching) (u : Units) (leaf : �
   pub cube : t.cube ≡ s.cube
   pub stable : IsTrue (is_stable s.program S)
   pub hit : IsTrue (hits (values s.program S) (cube_of (seen_board v).nodes leaf))
-  pub new : list_any (same_set S) s.known ≡ false
+  pub new : list_any (same_set S) (used s) ≡ false
   pub cheaper : IsSmaller (cost s.program S) s.bound
   pub records : Records s.mode s t (cube_of (seen_board v).nodes leaf) S
 
 -- what is known by how a step left the path
 abbrev pub IsCourse : Knows → Searching → ℕ → Course → Type 0
 IsCourse v s leaf Open = Unit {0}
-IsCourse v s leaf Done = Settled s.program s.known s.bound (cube_of (seen_board v).nodes leaf)
+IsCourse v s leaf Done = Settled s.program (used s) s.bound (cube_of (seen_board v).nodes leaf)
 IsCourse v s leaf Spent = Unit {0}
 
 -- what is known by how the worker left the path: it has none, or still has this one

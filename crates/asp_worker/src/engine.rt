@@ -1,5 +1,5 @@
 //! A worker's search, with what pays for it.
-ghost use Rattle.std.specs.Prelude.{◌≡◌, None, IfOk};
+ghost use Rattle.std.specs.Prelude.{◌≡◌, false, None, IfOk};
 ghost use Rattle.asp_search.specs.Beside.{new_search};
 
 use crate::worker::Shared;
@@ -40,7 +40,7 @@ pub(crate) fn start<'a>(
     recorder: &'a Recorder,
 ) -> Result<Engine<'a>, AllocError>
     ensures search { IfOk result (λ e. e.search ≡ new_search compiled.now shared.now.mode e.search.slots) }
-    ensures fuel { IfOk result (λ e. e.fuel ≡ record { program = compiled.now; left = 0; burnt = 0; known = 0; least = None }) }
+    ensures fuel { IfOk result (λ e. e.fuel ≡ record { program = compiled.now; left = 0; burnt = 0; reasoned = false; known = 0; least = None }) }
     ensures read { IfOk result (λ e. e.read ≡ 0) }
 {
     let recorder = if shared.proof { Some(recorder) } else { None };

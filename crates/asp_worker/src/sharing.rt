@@ -1,15 +1,20 @@
 //! What a search tells the others, and what it takes over from them.
-ghost use Rattle.std.specs.Prelude.{◌≡◌, ◌≤◌, ◌<◌, ◌↔◌, ℕ, IsTrue, length, drop, OnOk, OnErr, IfOk, IfSome, All};
+ghost use Rattle.std.specs.Prelude.{◌≡◌, ◌≤◌, ◌<◌, ◌↔◌, ◌⊎◌, ℕ, Some, false, IsTrue, length, drop, OnOk, OnErr, IfOk, IfSome, All};
 ghost use Rattle.std.specs.Option.{option_copied};
 ghost use Rattle.asp_model.specs.declared.results.Mode.TheVariants as mode;
+ghost use Rattle.asp_model.specs.Asked.{reasoning_of};
+ghost use Rattle.asp_model.specs.Consequences.{unshown};
+ghost use Rattle.asp_model.specs.Sets.{IsSubset};
+ghost use Rattle.asp_vars.specs.Paid.{Units};
+ghost use Rattle.asp_core.specs.Boards.{goal_of, optimises};
 ghost use Rattle.asp_vault.specs.Moments.{Stays};
 ghost use Rattle.asp_vault.specs.Seats.{view, IsOf, IsBeside};
 ghost use Rattle.asp_log.specs.Entries.{IsEntry};
 ghost use Rattle.asp_book.specs.Calls.{seen_board, task_of};
-ghost use Rattle.asp_search.specs.Beside.{Leaves};
+ghost use Rattle.asp_search.specs.Beside.{Adopts, Leaves};
 ghost use Rattle.asp_search_laws.specs.Searching.{Searching};
 ghost use Rattle.asp_worker.specs.Seats.{IsReady, Keeps, IsSettled, IsPaged, Idles, Leases};
-ghost use Rattle.asp_worker.specs.Sharing.{is_smaller, lowered, with_best, ImportsAll, TakesOver, Remembers};
+ghost use Rattle.asp_worker.specs.Sharing.{is_smaller, lowered, ImportsAll, Remembers, TakesBest, TakesOver};
 ghost use Rattle.asp_worker.specs.Working.{GoesOn, Finds};
 
 use crate::engine::Engine;
@@ -23,6 +28,7 @@ use asp_model::interp::Interp;
 use asp_model::results::Mode;
 use asp_propagators::propagators::Propagators;
 use asp_search::search::Search;
+use asp_vars::known::Known;
 use asp_vault::Seat;
 use std::alloc::AllocError;
 use std::sync::Wait;
@@ -90,7 +96,21 @@ fn import_new<R: Wait>(
     Ok(())
 }
 
-// Takes over the cost of the best answer, if one is sought.
+// Leaves out what shows nothing beside the answers delivered, where they show more than those that the search knows.
+fn take_known(search: &mut Search<'_, Propagators<'_>>, known: Known) -> Result<(), AllocError>
+    requires program { known.program ≡ search.old.program }
+    requires reasoning { Some known.reasoning ≡ reasoning_of search.old.mode }
+    requires all { IsSubset (unshown known.reasoning known.program known.sets) (unshown known.reasoning known.program search.old.known) }
+    ensures ok { OnOk result ((search.new ≡ search.old) ⊎ Adopts search.old search.new known.sets) }
+    ensures err { OnErr result (Leaves search.old search.new) }
+{
+    if !known.is_some() || search.unshown_atoms() == Some(known.unshown().len()) {
+        return Ok(());
+    }
+    search.set_known(known)
+}
+
+// Takes over the cost of the best answer, if one is sought, and the answers delivered where consequences are.
 fn take_best<R: Wait>(
     rt: &R,
     shared: &Shared,
@@ -99,9 +119,10 @@ fn take_best<R: Wait>(
 ) -> Result<(), AllocError>
     requires of { IsOf shared.now.book seat.old }
     requires settled { IsSettled (view seat.old) }
+    requires going { (u : Units) × GoesOn shared.now.mode (view seat.old) search.old u }
     ensures of { IsBeside seat.old seat.new }
     ensures idles { Idles (view seat.old) (view seat.new) }
-    ensures ok { OnOk result (search.new ≡ with_best shared.now.mode (seen_board (view seat.new)) search.old) }
+    ensures ok { OnOk result (TakesBest shared.now.mode (seen_board (view seat.new)) search.old search.new) }
     ensures err { OnErr result (Remembers search.old search.new) }
 {
     match shared.mode {
@@ -109,6 +130,10 @@ fn take_best<R: Wait>(
         Mode::Opt => match desk::best(rt, &shared.book, seat)? {
             None => Ok(()),
             Some(best) => lower_bound(search, best),
+        },
+        Mode::Consequences(_) => match desk::known(rt, &shared.book, seat)? {
+            None => Ok(()),
+            Some(known) => take_known(search, known),
         },
     }
 }
@@ -121,7 +146,7 @@ pub(crate) fn refresh<R: Wait>(
     engine: &mut Engine<'_>,
 ) -> Result<(), AllocError>
     requires ready { IsReady shared.now worker.old }
-    requires program { engine.old.search.program ≡ (task_of (view worker.old.seat)).program }
+    requires going { GoesOn shared.now.mode (view worker.old.seat) engine.old.search engine.old.fuel }
     requires read { engine.old.read ≤ length (view worker.old.pages).seen }
     ensures keeps { Keeps worker.old worker.new }
     ensures ready { IsReady shared.now worker.new }
@@ -159,7 +184,7 @@ pub(crate) fn export<R: Wait>(
     }
 }
 
-// Lists an answer that the search has found, unless as many as asked for were listed before.
+// Delivers an answer that the search has found, unless as many as asked for were delivered before.
 fn list<R: Wait>(
     rt: &R,
     shared: &Shared,
@@ -169,11 +194,12 @@ fn list<R: Wait>(
 ) -> Result<(), Stop>
     requires of { IsOf shared.now.book seat.old }
     requires settled { IsSettled (view seat.old) }
-    requires found { (s : Searching) × (leaf : ℕ) × Finds mode.Enum (view seat.old) s engine.old.search engine.old.fuel leaf set }
+    requires listing { optimises (goal_of shared.now.mode) ≡ false }
+    requires found { (s : Searching) × (leaf : ℕ) × Finds shared.now.mode (view seat.old) s engine.old.search engine.old.fuel leaf set }
     ensures of { IsBeside seat.old seat.new }
     ensures idles { Idles (view seat.old) (view seat.new) }
     ensures engine { (engine.new.search ≡ engine.old.search) × (engine.new.fuel ≡ engine.old.fuel) × (engine.new.read ≡ engine.old.read) }
-    ensures ok { OnOk result (GoesOn mode.Enum (view seat.new) engine.new.search engine.new.fuel) }
+    ensures ok { OnOk result (GoesOn shared.now.mode (view seat.new) engine.new.search engine.new.fuel) }
 {
     let listed = desk::deliver(rt, &shared.book, seat, set)?;
     if listed { Ok(()) } else { Err(Stop::Enough) }
@@ -219,7 +245,7 @@ pub(crate) fn record<R: Wait>(
     ensures ok { OnOk result (GoesOn shared.now.mode (view seat.new) engine.new.search engine.new.fuel × (engine.new.search.cube ≡ engine.old.search.cube)) }
 {
     match shared.mode {
-        Mode::Enum => list(rt, shared, seat, engine, set),
+        Mode::Enum | Mode::Consequences(_) => list(rt, shared, seat, engine, set),
         Mode::Opt => {
             improve(rt, shared, seat, engine, set)?;
             Ok(())

@@ -1,4 +1,4 @@
-use Rattle.std.proofs.Common.{◌≡◌, min, None}
+use Rattle.std.proofs.Common.{◌≡◌, false, min, None}
 use Rattle.asp_vault.specs.Seats.{view}
 use Rattle.asp_book.specs.Calls.{Knows}
 use Rattle.asp_book.specs.Replies.{leased_out}
@@ -25,7 +25,7 @@ returns-clause-ok g c =
     let v : Knows = view c.args.seat.now in
     let u : Knows = view c.take-book.new.seat in
     let has : HasTaken v u c.take-book.result c.number.result = record { misses = u.misses; took = c.take-book.ensures.view; learnt = c.take-book.ensures.learnt; about = c.take-book.ensures.about; sound = c.take-book.ensures.sound; number = c.number.ensures } in
-    replies v u c.take-book.result c.number.result has (view c.give.new.seat) c.lease-reply.new.self c.give.ensures.view leased_out (λ b x. x ≡ record { program = b.task.program; left = min c.args.units b.pool; burnt = 0; known = 0; least = None }) c.lease-reply.result c.give.ensures.lawful c.lease-reply.ensures.journal c.lease-reply.ensures.err c.lease-reply.ensures.fuel
+    replies v u c.take-book.result c.number.result has (view c.give.new.seat) c.lease-reply.new.self c.give.ensures.view leased_out (λ b x. x ≡ record { program = b.task.program; left = min c.args.units b.pool; burnt = 0; reasoned = false; known = 0; least = None }) c.lease-reply.result c.give.ensures.lawful c.lease-reply.ensures.journal c.lease-reply.ensures.err c.lease-reply.ensures.fuel
 
 pub returns-clause-err : goal.returns-clause-err
 returns-clause-err g c =

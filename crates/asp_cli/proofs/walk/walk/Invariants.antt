@@ -11,5 +11,5 @@ invariant-loop-word l = record {
   ring : IsRing l.state.found.make;
   crew : IfSome l.state.found.workers IsCrew;
   parts : IsPartCount l.state.found.split;
-  apart : AreApart l.state.found.proof l.state.found.all_optima;
+  apart : AreApart l.state.found;
 }

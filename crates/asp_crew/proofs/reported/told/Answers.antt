@@ -12,4 +12,4 @@ returns-clause-told c =
     (c.from_vec.ensures
     ∙ once-is c.into_found-answers.result.0.items c.sort_unstable.new.self.items c.dedup.new.self.items c.sort_unstable.ensures.permutation c.sort_unstable.ensures.sorted c.dedup.ensures.filtered
     ∙ ap sorted_once c.into_found-answers.ensures.answers)
-    c.into_found-answers.ensures.best (c.end_by-end.ensures ∙ ap (λ x. end_by x c.finished.result) c.enough.ensures ∙ ap (end_by (is_enough c.end-state.result.0)) c.finished.ensures.closed) c.leaves-leaves.ensures c.spent-spent.ensures c.end-state.ensures.fuel
+    c.into_found-answers.ensures.best c.into_found-answers.ensures.known (c.end_by-end.ensures ∙ ap (λ x. end_by x c.finished.result) c.enough.ensures ∙ ap (end_by (is_enough c.end-state.result.0)) c.finished.ensures.closed) c.leaves-leaves.ensures c.spent-spent.ensures c.end-state.ensures.fuel

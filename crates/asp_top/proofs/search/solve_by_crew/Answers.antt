@@ -14,3 +14,6 @@ returns-in-Ok-clause-counted g c = rw c.deliver.ensures.delivers.reports (record
   loops = subst (λ (p : Program). IfSome c.of.result.loops (HasLoops p)) (sym (paid-of _ _ _ _ _ c.in-Ok.is c.solved_by_crew-solved.ensures.report)) (rw c.of.ensures.loops c.loops-loops.ensures);
   workers = λ alone. absurd cc;
 })
+
+pub solved_by_crew-requires-clause-apart : goal.solved_by_crew-requires-clause-apart
+solved_by_crew-requires-clause-apart g c = λ e. (c.requires.apart e).0

@@ -49,9 +49,9 @@ pub returns-in-Learnt-clause-ok : goal.returns-in-Learnt-clause-ok
 returns-in-Learnt-clause-ok g c =
     on-learnt c.args.shared.now.mode (view c.args.worker.now.seat) c.args.engine.now.search c.step.new.search c.args.engine.now.fuel c.args.leaf c.requires.on _ _ c.step.new.fuel _ c.in_ok-step.ensures.ok c.in-Learnt.is
 
-pub refresh-requires-clause-program : goal.refresh-requires-clause-program
-refresh-requires-clause-program g c =
-    (on-restarted c.args.shared.now.mode (view c.args.worker.now.seat) c.args.engine.now.search c.step.new.search c.args.engine.now.fuel c.args.leaf c.requires.on _ _ c.step.new.fuel _ c.in_ok-step.ensures.ok c.in-Restarted.is).going.program
+pub refresh-requires-clause-going : goal.refresh-requires-clause-going
+refresh-requires-clause-going g c =
+    (on-restarted c.args.shared.now.mode (view c.args.worker.now.seat) c.args.engine.now.search c.step.new.search c.args.engine.now.fuel c.args.leaf c.requires.on _ _ c.step.new.fuel _ c.in_ok-step.ensures.ok c.in-Restarted.is).going
 
 pub returns-in-Restarted-clause-ok : goal.returns-in-Restarted-clause-ok
 returns-in-Restarted-clause-ok g c =

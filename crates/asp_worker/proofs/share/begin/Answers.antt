@@ -1,16 +1,13 @@
-use Rattle.std.proofs.Common.{drop, refl, sym, ap, ◌∙◌, subst}
+use Rattle.std.proofs.Common.{drop, refl, sym, subst}
 use Rattle.asp_vars.specs.Paid.{Units}
 use Rattle.asp_vault.specs.Seats.{view}
-use Rattle.asp_core.specs.declared.task.Task.{Task}
 use Rattle.asp_book.specs.Calls.{Knows}
-use Rattle.asp_book.proofs.CallLaws.{task-stays}
-use Rattle.asp_search_laws.specs.Searching.{Searching}
 use Rattle.asp_worker.specs.declared.worker.Worker.{Worker}
 use Rattle.asp_worker.specs.Working.{IsOn, IsOff}
 use Rattle.asp_worker.proofs.Replies.{on-ok, on-err, always-err}
 use Rattle.asp_worker.proofs.SeatLaws.{keeps-seat, keeps-trans, ready-seat, idles-trans, holds-idles, idles-passes}
-use Rattle.asp_worker.proofs.GoingLaws.{owes-on}
-use Rattle.asp_worker.proofs.SharingLaws.{begun-on}
+use Rattle.asp_worker.proofs.GoingLaws.{goes-on, owes-on}
+use Rattle.asp_worker.proofs.SharingLaws.{begun-on, entered-goes}
 use Rattle.asp_worker.proofs.share.begin.Goals as goal
 
 pub refresh-requires-clause-ready : goal.refresh-requires-clause-ready
@@ -18,9 +15,11 @@ refresh-requires-clause-ready g c =
     let h : Worker = c.args.worker.now in let k : Worker = record h { seat = c.enter.new.seat } in
     ready-seat c.args.shared.now h k c.requires.ready (keeps-seat c.args.shared.now h k c.requires.ready c.enter.ensures.of c.enter.ensures.idles.stays refl refl) c.requires.ready.pool c.enter.ensures.idles.lawful
 
-pub refresh-requires-clause-program : goal.refresh-requires-clause-program
-refresh-requires-clause-program g c =
-    ap (λ (x : Searching). x.program) c.in_ok-enter.ensures.ok.same ∙ c.requires.going.program ∙ ap (λ (t : Task). t.program) (sym (task-stays (view c.args.worker.now.seat) (view c.enter.new.seat) c.enter.ensures.idles.stays))
+pub refresh-requires-clause-going : goal.refresh-requires-clause-going
+refresh-requires-clause-going g c =
+    let v : Knows = view c.args.worker.now.seat in let x : Knows = view c.enter.new.seat in
+    entered-goes c.args.shared.now.mode x c.args.engine.now.search c.enter.new.search c.args.engine.now.fuel _
+    (goes-on c.args.shared.now.mode v x c.args.engine.now.search c.args.engine.now.fuel c.requires.going (idles-passes v x c.enter.ensures.idles)) c.in_ok-enter.ensures.ok
 
 pub returns-in_err-enter-clause-keeps : goal.returns-in_err-enter-clause-keeps
 returns-in_err-enter-clause-keeps g c =

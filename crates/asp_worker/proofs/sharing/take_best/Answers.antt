@@ -1,13 +1,11 @@
-use Rattle.std.proofs.Common.{◌≡◌, Some, None, refl, sym, ap, subst}
-use Rattle.std.specs.Prelude.{OnOk}
+use Rattle.std.proofs.Common.{◌≡◌, Some, None, refl, sym, subst}
 use Rattle.asp_model.specs.declared.results.Mode.{Mode}
 use Rattle.asp_vault.specs.Seats.{view}
 use Rattle.asp_book.specs.Calls.{seen_board}
-use Rattle.asp_search_laws.specs.Searching.{Searching}
-use Rattle.asp_worker.specs.Sharing.{with_best, Remembers}
+use Rattle.asp_worker.specs.Sharing.{Remembers, TakesBest}
 use Rattle.asp_worker.proofs.SeatLaws.{idles-self, idles-call, none-idles}
 use Rattle.asp_worker.proofs.GoingLaws.{best-then, best-seen}
-use Rattle.asp_worker.proofs.Replies.{on-err, always-err}
+use Rattle.asp_worker.proofs.Replies.{on-err, on-ok, always-err}
 use Rattle.asp_worker.proofs.SharingLaws.{forgotten-leaves}
 use Rattle.asp_worker.proofs.sharing.take_best.Goals as goal
 
@@ -15,7 +13,7 @@ pub returns-in-Enum-clause-idles : goal.returns-in-Enum-clause-idles
 returns-in-Enum-clause-idles g c = idles-self (view c.args.seat.now) c.requires.settled
 
 pub returns-in-Enum-clause-ok : goal.returns-in-Enum-clause-ok
-returns-in-Enum-clause-ok g c = ap (λ (m : Mode). with_best m (seen_board (view c.args.seat.now)) c.args.search.now) (sym c.in-Enum.is)
+returns-in-Enum-clause-ok g c = subst (λ (m : Mode). TakesBest m (seen_board (view c.args.seat.now)) c.args.search.now c.args.search.now) (sym c.in-Enum.is) refl
 
 pub returns-in_err-best-in-Opt-clause-idles : goal.returns-in_err-best-in-Opt-clause-idles
 returns-in_err-best-in-Opt-clause-idles g c = none-idles (view c.args.seat.now) (view c.best.new.seat) c.best.ensures.stays c.in_err-best-in-Opt.ensures.err
@@ -26,7 +24,7 @@ returns-in-None-clause-idles g c = let k = c.in_ok-best-in-Opt.ensures.ok in idl
 pub returns-in-None-clause-ok : goal.returns-in-None-clause-ok
 returns-in-None-clause-ok g c =
     let k = c.in_ok-best-in-Opt.ensures.ok in let w = view c.best.new.seat in
-    best-then c.args.shared.now.mode (seen_board w) c.args.search.now c.in_ok-best-in-Opt.field-0 None c.in-Opt.is (best-seen (view c.args.seat.now) w k.0 c.best.ensures.stays k.2 c.in_ok-best-in-Opt.field-0 k.1) c.in-None.is
+    best-then c.args.shared.now.mode (seen_board w) c.args.search.now c.args.search.now c.in_ok-best-in-Opt.field-0 None c.in-Opt.is (best-seen (view c.args.seat.now) w k.0 c.best.ensures.stays k.2 c.in_ok-best-in-Opt.field-0 k.1) c.in-None.is refl
 
 pub returns-in-Some-clause-idles : goal.returns-in-Some-clause-idles
 returns-in-Some-clause-idles g c = let k = c.in_ok-best-in-Opt.ensures.ok in idles-call (view c.args.seat.now) (view c.best.new.seat) k.0 c.best.ensures.stays k.2
@@ -34,8 +32,8 @@ returns-in-Some-clause-idles g c = let k = c.in_ok-best-in-Opt.ensures.ok in idl
 pub returns-in-Some-clause-ok : goal.returns-in-Some-clause-ok
 returns-in-Some-clause-ok g c =
     let k = c.in_ok-best-in-Opt.ensures.ok in let w = view c.best.new.seat in
-    subst (λ (x : Searching). OnOk c.lower_bound.result (c.lower_bound.new.search ≡ x))
-    (best-then c.args.shared.now.mode (seen_board w) c.args.search.now c.in_ok-best-in-Opt.field-0 (Some c.in-Some.best) c.in-Opt.is (best-seen (view c.args.seat.now) w k.0 c.best.ensures.stays k.2 c.in_ok-best-in-Opt.field-0 k.1) c.in-Some.is) c.lower_bound.ensures.ok
+    on-ok c.lower_bound.result (λ (e : c.lower_bound.new.search ≡ _). best-then c.args.shared.now.mode (seen_board w) c.args.search.now c.lower_bound.new.search c.in_ok-best-in-Opt.field-0 (Some c.in-Some.best) c.in-Opt.is
+    (best-seen (view c.args.seat.now) w k.0 c.best.ensures.stays k.2 c.in_ok-best-in-Opt.field-0 k.1) c.in-Some.is e) c.lower_bound.ensures.ok
 
 pub returns-in-Some-clause-err : goal.returns-in-Some-clause-err
 returns-in-Some-clause-err g c = on-err c.lower_bound.result (λ e. forgotten-leaves c.args.search.now c.lower_bound.new.search e) c.lower_bound.ensures.err

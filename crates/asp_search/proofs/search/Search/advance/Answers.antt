@@ -7,7 +7,7 @@ use Rattle.asp_search_laws.specs.Searching.{Searching}
 use Rattle.asp_search_laws.specs.Steps.{Closes, Fails, IsStep, IsFailure}
 use Rattle.asp_search_laws.proofs.StepLaws.{Continues, steps_on, fails_on}
 use Rattle.asp_state.specs.SearchStates.{SearchView}
-use Rattle.asp_search.specs.Invariants.{view_of}
+use Rattle.asp_search.specs.Invariants.{answers_known, used_in, view_of}
 use Rattle.asp_search.proofs.BelowLaws.{adds_continue, adds_fail}
 use Rattle.asp_search.proofs.SearchLaws.{search_told}
 use Rattle.asp_search.proofs.StepsLaws.{always_err, clash_closes, some_of}
@@ -17,19 +17,19 @@ pub returns-then-is_clashing-clause-ok : goal.returns-then-is_clashing-clause-ok
 returns-then-is_clashing-clause-ok g c = λ q e.
     let i = c.self.inside in
     let f = c.args.fuel.now in
-    let new : Searching = view_of i.mode i.state i.pace i.known.items None in
+    let new : Searching = view_of i.mode i.state i.pace (answers_known i.known.items i.seen) None in
     let clashes = c.is_clashing.ensures.clashes q (ap (λ (x : Searching). x.cube) c.self.view_is ∙ e) c.if-is_clashing.true in
     subst (λ (z : Searching). Closes (g.P.Propagator.gives z.program z.bound) z new q f f) c.self.view_is
-    (clash_closes (g.P.Propagator.gives i.state.program i.state.bound) i.mode i.state i.pace i.known.items i.last q f clashes)
+    (clash_closes (g.P.Propagator.gives i.state.program i.state.bound) i.mode i.state i.pace (answers_known i.known.items i.seen) i.last q f clashes)
 
 pub invariant_of-self-in_err-id : goal.invariant_of-self-in_err-id
 invariant_of-self-in_err-id g c =
     let i = c.self.inside in
     let t = i.state in
-    let sound : IsSound t.program = subst IsSound c.self.invariant.program c.program-program.ensures.sound in
-    search_told i.compiled.now i.mode t c.propagate.new.self i.learner i.checker i.known.items i.blocking.items i.bound i.last (g.P.Propagator.gives t.program t.bound)
+    let sound : IsSound t.program = subst IsSound c.self.invariant.0.program c.program-program.ensures.sound in
+    (search_told i.compiled.now i.mode t c.propagate.new.self i.learner i.checker (used_in i.compiled.now i.mode i.known.items i.seen) i.blocking.items i.bound i.last (g.P.Propagator.gives t.program t.bound)
     (ap (λ (x : SearchView). x.program) c.propagate.ensures.same) (ap (λ (x : SearchView). x.bound) c.propagate.ensures.same)
-    (λ n h. g.met.P.Propagator.sound t.program t.bound n i.known.items sound h) c.propagate.ensures.adds c.self.invariant
+    (λ n h. g.met.P.Propagator.sound t.program t.bound n (used_in i.compiled.now i.mode i.known.items i.seen) sound h) c.propagate.ensures.adds c.self.invariant.0, c.self.invariant.1)
 
 pub returns-in_err-id-clause-err : goal.returns-in_err-id-clause-err
 returns-in_err-id-clause-err g c =
@@ -39,22 +39,22 @@ returns-in_err-id-clause-err g c =
     let f = c.args.fuel.now in
     let u = c.propagate.new.self in
     let p = c.propagate.ensures in
-    let new : Searching = view_of i.mode u i.pace i.known.items None in
-    let sound : IsSound t.program = subst IsSound c.self.invariant.program c.program-program.ensures.sound in
-    let counts : (n : Nogood) → g.P.Propagator.gives t.program t.bound n → Counts t.bound n.base = λ n h. (g.met.P.Propagator.sound t.program t.bound n i.known.items sound h).counts in
+    let new : Searching = view_of i.mode u i.pace (answers_known i.known.items i.seen) None in
+    let sound : IsSound t.program = subst IsSound c.self.invariant.0.program c.program-program.ensures.sound in
+    let counts : (n : Nogood) → g.P.Propagator.gives t.program t.bound n → Counts t.bound n.base = λ n h. (g.met.P.Propagator.sound t.program t.bound n (used_in i.compiled.now i.mode i.known.items i.seen) sound h).counts in
     let fails : IsFailure (g.P.Propagator.gives s.program s.bound) s new f f = λ q e.
     subst (λ (z : Searching). Fails (g.P.Propagator.gives z.program z.bound) z new q f f) c.self.view_is
-    (adds_fail (g.P.Propagator.gives t.program t.bound) i.mode t u i.pace i.known.items i.last q f counts p.adds p.implies p.same) in
+    (adds_fail (g.P.Propagator.gives t.program t.bound) i.mode t u i.pace (answers_known i.known.items i.seen) i.last q f counts p.adds p.implies p.same) in
     always_err c.from_residual.result (IsFailure (g.P.Propagator.gives s.program s.bound) s new f f) fails
 
 pub invariant_of-self-in-Some : goal.invariant_of-self-in-Some
 invariant_of-self-in-Some g c =
     let i = c.self.inside in
     let t = i.state in
-    let sound : IsSound t.program = subst IsSound c.self.invariant.program c.program-program.ensures.sound in
-    search_told i.compiled.now i.mode t c.propagate.new.self i.learner i.checker i.known.items i.blocking.items i.bound i.last (g.P.Propagator.gives t.program t.bound)
+    let sound : IsSound t.program = subst IsSound c.self.invariant.0.program c.program-program.ensures.sound in
+    (search_told i.compiled.now i.mode t c.propagate.new.self i.learner i.checker (used_in i.compiled.now i.mode i.known.items i.seen) i.blocking.items i.bound i.last (g.P.Propagator.gives t.program t.bound)
     (ap (λ (x : SearchView). x.program) c.propagate.ensures.same) (ap (λ (x : SearchView). x.bound) c.propagate.ensures.same)
-    (λ n h. g.met.P.Propagator.sound t.program t.bound n i.known.items sound h) c.propagate.ensures.adds c.self.invariant
+    (λ n h. g.met.P.Propagator.sound t.program t.bound n (used_in i.compiled.now i.mode i.known.items i.seen) sound h) c.propagate.ensures.adds c.self.invariant.0, c.self.invariant.1)
 
 pub meet-requires-clause-entered : goal.meet-requires-clause-entered
 meet-requires-clause-entered g c =
@@ -73,10 +73,10 @@ pub invariant_of-self-in-None : goal.invariant_of-self-in-None
 invariant_of-self-in-None g c =
     let i = c.self.inside in
     let t = i.state in
-    let sound : IsSound t.program = subst IsSound c.self.invariant.program c.program-program.ensures.sound in
-    search_told i.compiled.now i.mode t c.propagate.new.self i.learner i.checker i.known.items i.blocking.items i.bound i.last (g.P.Propagator.gives t.program t.bound)
+    let sound : IsSound t.program = subst IsSound c.self.invariant.0.program c.program-program.ensures.sound in
+    (search_told i.compiled.now i.mode t c.propagate.new.self i.learner i.checker (used_in i.compiled.now i.mode i.known.items i.seen) i.blocking.items i.bound i.last (g.P.Propagator.gives t.program t.bound)
     (ap (λ (x : SearchView). x.program) c.propagate.ensures.same) (ap (λ (x : SearchView). x.bound) c.propagate.ensures.same)
-    (λ n h. g.met.P.Propagator.sound t.program t.bound n i.known.items sound h) c.propagate.ensures.adds c.self.invariant
+    (λ n h. g.met.P.Propagator.sound t.program t.bound n (used_in i.compiled.now i.mode i.known.items i.seen) sound h) c.propagate.ensures.adds c.self.invariant.0, c.self.invariant.1)
 
 pub go_on-requires-clause-entered : goal.go_on-requires-clause-entered
 go_on-requires-clause-entered g c =
@@ -99,12 +99,12 @@ returns-in-Some-clause-ok g c =
     let f = c.args.fuel.now in
     let u = c.propagate.new.self in
     let p = c.propagate.ensures in
-    let new : Searching = view_of i.mode u i.pace i.known.items None in
-    let sound : IsSound t.program = subst IsSound c.self.invariant.program c.program-program.ensures.sound in
-    let counts : (n : Nogood) → g.P.Propagator.gives t.program t.bound n → Counts t.bound n.base = λ n h. (g.met.P.Propagator.sound t.program t.bound n i.known.items sound h).counts in
+    let new : Searching = view_of i.mode u i.pace (answers_known i.known.items i.seen) None in
+    let sound : IsSound t.program = subst IsSound c.self.invariant.0.program c.program-program.ensures.sound in
+    let counts : (n : Nogood) → g.P.Propagator.gives t.program t.bound n → Counts t.bound n.base = λ n h. (g.met.P.Propagator.sound t.program t.bound n (used_in i.compiled.now i.mode i.known.items i.seen) sound h).counts in
     let on : Continues (g.P.Propagator.gives s.program s.bound) s new =
     subst (λ (z : Searching). Continues (g.P.Propagator.gives z.program z.bound) z new) c.self.view_is
-    (adds_continue (g.P.Propagator.gives t.program t.bound) i.mode t u i.pace i.known.items i.last counts p.adds p.implies p.same) in
+    (adds_continue (g.P.Propagator.gives t.program t.bound) i.mode t u i.pace (answers_known i.known.items i.seen) i.last counts p.adds p.implies p.same) in
     IfOk-weaker c.meet.result
     (IsStep (g.P.Propagator.gives new.program new.bound) (g.P.Propagator.silent new.program new.bound) new c.meet.new.self f c.meet.new.fuel)
     (IsStep (g.P.Propagator.gives s.program s.bound) (g.P.Propagator.silent s.program s.bound) s c.meet.new.self f c.meet.new.fuel)
@@ -118,12 +118,12 @@ returns-in-Some-clause-err g c =
     let f = c.args.fuel.now in
     let u = c.propagate.new.self in
     let p = c.propagate.ensures in
-    let new : Searching = view_of i.mode u i.pace i.known.items None in
-    let sound : IsSound t.program = subst IsSound c.self.invariant.program c.program-program.ensures.sound in
-    let counts : (n : Nogood) → g.P.Propagator.gives t.program t.bound n → Counts t.bound n.base = λ n h. (g.met.P.Propagator.sound t.program t.bound n i.known.items sound h).counts in
+    let new : Searching = view_of i.mode u i.pace (answers_known i.known.items i.seen) None in
+    let sound : IsSound t.program = subst IsSound c.self.invariant.0.program c.program-program.ensures.sound in
+    let counts : (n : Nogood) → g.P.Propagator.gives t.program t.bound n → Counts t.bound n.base = λ n h. (g.met.P.Propagator.sound t.program t.bound n (used_in i.compiled.now i.mode i.known.items i.seen) sound h).counts in
     let on : Continues (g.P.Propagator.gives s.program s.bound) s new =
     subst (λ (z : Searching). Continues (g.P.Propagator.gives z.program z.bound) z new) c.self.view_is
-    (adds_continue (g.P.Propagator.gives t.program t.bound) i.mode t u i.pace i.known.items i.last counts p.adds p.implies p.same) in
+    (adds_continue (g.P.Propagator.gives t.program t.bound) i.mode t u i.pace (answers_known i.known.items i.seen) i.last counts p.adds p.implies p.same) in
     on_err_weaker c.meet.result (fails_on g.P.Propagator.gives g.P.Propagator.silent s new c.meet.new.self f c.meet.new.fuel on) c.meet.ensures.err
 
 pub returns-in-None-clause-ok : goal.returns-in-None-clause-ok
@@ -134,12 +134,12 @@ returns-in-None-clause-ok g c =
     let f = c.args.fuel.now in
     let u = c.propagate.new.self in
     let p = c.propagate.ensures in
-    let new : Searching = view_of i.mode u i.pace i.known.items None in
-    let sound : IsSound t.program = subst IsSound c.self.invariant.program c.program-program.ensures.sound in
-    let counts : (n : Nogood) → g.P.Propagator.gives t.program t.bound n → Counts t.bound n.base = λ n h. (g.met.P.Propagator.sound t.program t.bound n i.known.items sound h).counts in
+    let new : Searching = view_of i.mode u i.pace (answers_known i.known.items i.seen) None in
+    let sound : IsSound t.program = subst IsSound c.self.invariant.0.program c.program-program.ensures.sound in
+    let counts : (n : Nogood) → g.P.Propagator.gives t.program t.bound n → Counts t.bound n.base = λ n h. (g.met.P.Propagator.sound t.program t.bound n (used_in i.compiled.now i.mode i.known.items i.seen) sound h).counts in
     let on : Continues (g.P.Propagator.gives s.program s.bound) s new =
     subst (λ (z : Searching). Continues (g.P.Propagator.gives z.program z.bound) z new) c.self.view_is
-    (adds_continue (g.P.Propagator.gives t.program t.bound) i.mode t u i.pace i.known.items i.last counts p.adds p.implies p.same) in
+    (adds_continue (g.P.Propagator.gives t.program t.bound) i.mode t u i.pace (answers_known i.known.items i.seen) i.last counts p.adds p.implies p.same) in
     IfOk-weaker c.go_on.result
     (IsStep (g.P.Propagator.gives new.program new.bound) (g.P.Propagator.silent new.program new.bound) new c.go_on.new.self f c.go_on.new.fuel)
     (IsStep (g.P.Propagator.gives s.program s.bound) (g.P.Propagator.silent s.program s.bound) s c.go_on.new.self f c.go_on.new.fuel)
@@ -153,10 +153,10 @@ returns-in-None-clause-err g c =
     let f = c.args.fuel.now in
     let u = c.propagate.new.self in
     let p = c.propagate.ensures in
-    let new : Searching = view_of i.mode u i.pace i.known.items None in
-    let sound : IsSound t.program = subst IsSound c.self.invariant.program c.program-program.ensures.sound in
-    let counts : (n : Nogood) → g.P.Propagator.gives t.program t.bound n → Counts t.bound n.base = λ n h. (g.met.P.Propagator.sound t.program t.bound n i.known.items sound h).counts in
+    let new : Searching = view_of i.mode u i.pace (answers_known i.known.items i.seen) None in
+    let sound : IsSound t.program = subst IsSound c.self.invariant.0.program c.program-program.ensures.sound in
+    let counts : (n : Nogood) → g.P.Propagator.gives t.program t.bound n → Counts t.bound n.base = λ n h. (g.met.P.Propagator.sound t.program t.bound n (used_in i.compiled.now i.mode i.known.items i.seen) sound h).counts in
     let on : Continues (g.P.Propagator.gives s.program s.bound) s new =
     subst (λ (z : Searching). Continues (g.P.Propagator.gives z.program z.bound) z new) c.self.view_is
-    (adds_continue (g.P.Propagator.gives t.program t.bound) i.mode t u i.pace i.known.items i.last counts p.adds p.implies p.same) in
+    (adds_continue (g.P.Propagator.gives t.program t.bound) i.mode t u i.pace (answers_known i.known.items i.seen) i.last counts p.adds p.implies p.same) in
     on_err_weaker c.go_on.result (fails_on g.P.Propagator.gives g.P.Propagator.silent s new c.go_on.new.self f c.go_on.new.fuel on) c.go_on.ensures.err

@@ -8,14 +8,14 @@ use Rattle.asp_analyze.specs.declared.learn.Learned.TheVariants as learned
 use Rattle.asp_search_laws.specs.Explaining.{Explains}
 use Rattle.asp_search_laws.specs.Searching.{Searching}
 use Rattle.asp_search_laws.specs.Steps.{Closes, IsFailure}
-use Rattle.asp_search.specs.Invariants.{view_of}
+use Rattle.asp_search.specs.Invariants.{answers_known, view_of}
 use Rattle.asp_search.specs.Stepping.{IsEntered}
-use Rattle.asp_search.proofs.MeetLaws.{met_of}
+use Rattle.asp_search.proofs.MeetLaws.{met_of, all_useful_for}
 use Rattle.asp_search.proofs.StepsLaws.{same_cube, always_err, fails_still, met_closes, closes_thinned}
 use Rattle.asp_search.proofs.search.Search.meet.Goals as goal
 
 pub learn-requires-clause-vars : goal.learn-requires-clause-vars
-learn-requires-clause-vars g c = c.self.invariant.counted
+learn-requires-clause-vars g c = c.self.invariant.0.counted
 
 pub learn-requires-clause-violated : goal.learn-requires-clause-violated
 learn-requires-clause-violated g c = subst (λ (s : Searching). IsViolated (var_count s.program) s.slots s.entries c.args.id) (sym c.self.view_is) c.requires.violated
@@ -27,7 +27,7 @@ pay-requires-clause-met g c =
     let e = subst (λ (s : Searching). IsEntered s q) (sym c.self.view_is) c.requires.entered.1 in
     let l : Learned = learned.Jump c.in-Jump.nogood c.in-Jump.level c.in-Jump.lit in
     let x = subst (λ (y : Learned). Explains (var_count i.state.program) i.state.slots i.state.entries c.args.id y) c.in-Jump.is c.in_ok-learn.ensures.explains in
-    (q, met_of i.mode i.state i.pace i.known.items i.last q c.args.id l e c.trail-trail.ensures.ordered c.trail-trail.ensures.begun c.store-store.ensures.reasons c.self.invariant.useful x)
+    (q, met_of i.mode i.state i.pace (answers_known i.known.items i.seen) i.last q c.args.id l e c.trail-trail.ensures.ordered c.trail-trail.ensures.begun c.store-store.ensures.reasons (all_useful_for i.compiled.now i.state i.mode (answers_known i.known.items i.seen) c.self.invariant.0.program c.self.invariant.0.useful) x)
 
 pub make_room-requires : goal.make_room-requires
 make_room-requires g c = record { last = (subst (λ (s : Searching). IsEntered s c.requires.entered.0) (sym c.self.view_is) c.requires.entered.1).last }
@@ -37,7 +37,7 @@ returns-in_err-learn-clause-err g c =
     let i = c.self.inside in
     let s = c.args.self.now in
     let G = g.P.Propagator.gives s.program s.bound in
-    let new : Searching = view_of i.mode i.state i.pace i.known.items i.last in
+    let new : Searching = view_of i.mode i.state i.pace (answers_known i.known.items i.seen) i.last in
     always_err c.from_residual.result (IsFailure G s new c.args.fuel.now c.args.fuel.now) (fails_still G s new c.args.fuel.now c.self.view_is)
 
 pub returns-in-InCube-clause-ok : goal.returns-in-InCube-clause-ok
@@ -49,11 +49,11 @@ returns-in-InCube-clause-ok g c = λ r h.
     let e = subst (λ (s : Searching). IsEntered s q) (sym c.self.view_is) c.requires.entered.1 in
     let n = c.in-InCube.field-0 in
     let x = subst (λ (y : Learned). Explains (var_count i.state.program) i.state.slots i.state.entries c.args.id y) c.in-InCube.is c.in_ok-learn.ensures.explains in
-    let m = met_of i.mode i.state i.pace i.known.items i.last q c.args.id (learned.InCube n) e c.trail-trail.ensures.ordered c.trail-trail.ensures.begun c.store-store.ensures.reasons
-    c.self.invariant.useful x in
-    let new : Searching = view_of i.mode i.state i.pace i.known.items i.last in
+    let m = met_of i.mode i.state i.pace (answers_known i.known.items i.seen) i.last q c.args.id (learned.InCube n) e c.trail-trail.ensures.ordered c.trail-trail.ensures.begun c.store-store.ensures.reasons
+    (all_useful_for i.compiled.now i.state i.mode (answers_known i.known.items i.seen) c.self.invariant.0.program c.self.invariant.0.useful) x in
+    let new : Searching = view_of i.mode i.state i.pace (answers_known i.known.items i.seen) i.last in
     let G = g.P.Propagator.gives i.state.program i.state.bound in
-    let closes = met_closes G i.mode i.state i.pace i.known.items i.last q f c.args.id n m in
+    let closes = met_closes G i.mode i.state i.pace (answers_known i.known.items i.seen) i.last q f c.args.id n m in
     let end = c.make_room.new.self in
     let thinned = closes_thinned G new new end q f f i.state.entries closes c.make_room.ensures.same c.make_room.ensures.reduced in
     subst (λ (y : List Literal). Closes (g.P.Propagator.gives s.program s.bound) s end y f f) (same_cube s.cube q r c.requires.entered.1.cube h)

@@ -1,6 +1,6 @@
 use Rattle.std.proofs.Common.{codes, decimal}
 use Rattle.asp_buffer.proofs.OutLaws.{puts_then, puts_fails}
-use Rattle.asp_print.proofs.text.put_count.Goals as goal
+use Rattle.asp_print.proofs.text.put_number_of.Goals as goal
 
 pub returns-in_err-put : goal.returns-in_err-put
 returns-in_err-put g c = puts_fails _ _ _ _ _ (codes "Models: ") (decimal c.args.count) c.in_err-put.ensures c.from_residual.ensures.1
