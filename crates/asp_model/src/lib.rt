@@ -3,7 +3,6 @@
 
 pub mod atoms;
 pub mod cost;
-pub mod fault;
 pub mod holding;
 pub mod in_force;
 pub mod interp;

@@ -8,7 +8,7 @@ use asp_text::fields;
 use std::alloc::{AllocError, AllocFailed};
 
 /// What is wrong with a line, and how many of its bytes stand from the field on that couldn't be read.
-#[derive(Clone, Copy, Debug, PartialEq, Eq)]
+#[derive(Clone, Copy)]
 pub struct FaultAt {
     /// What is wrong.
     pub kind: FaultKind,
@@ -17,7 +17,7 @@ pub struct FaultAt {
 }
 
 /// Why a line could not be read.
-#[derive(Clone, Copy, Debug, PartialEq, Eq)]
+#[derive(Clone, Copy)]
 pub enum LineError {
     /// Memory ran out.
     Memory,

@@ -21,7 +21,7 @@ use std::alloc::{AllocError, Global};
 use std::marker::Model;
 
 /// How far the lines have come.
-#[derive(Clone, Copy, Debug, PartialEq, Eq)]
+#[derive(Clone, Copy)]
 pub enum Stage {
     /// The header comes next.
     Start,
@@ -70,6 +70,7 @@ impl Reader {
     pub fn new(alloc: Global) -> Result<Self, AllocError>
         ensures { IfOk result (λ r. r ≡ nothing_seen) }
     {
+        let known = KnownAtoms::new(alloc)?;
         Ok(Reader {
             alloc,
             stage: Stage::Start,
@@ -80,7 +81,7 @@ impl Reader {
             assumptions: Vec::new(alloc),
             used: 0,
             priorities: Vec::new(alloc),
-            known: KnownAtoms::new(alloc)?,
+            known,
         })
     }
 
