@@ -1,7 +1,7 @@
 //! A worker's work from its beginning to its end.
-ghost use Rattle.std.specs.Prelude.{◌<◌, ◌≤◌, length};
+ghost use Rattle.std.specs.Prelude.{◌<◌, ◌≤◌, length, IfOk, OnErr, OnOk};
 ghost use Rattle.asp_vault.specs.Seats.{view};
-ghost use Rattle.asp_worker.specs.Seats.{IsReady, Keeps, Holds, IsFree, Owes, MayWork, Worked};
+ghost use Rattle.asp_worker.specs.Seats.{IsIdle, IsReady, Keeps, Holds, IsFree, Owes, MayWork, Worked};
 ghost use Rattle.asp_worker.specs.Working.{GoesOn, Ended};
 
 use crate::engine::{Engine, start};
@@ -11,10 +11,13 @@ use crate::halt::Halt;
 use crate::path::{Way, path};
 use crate::worker::{Shared, Worker};
 use asp_book::desk;
+use asp_counts::counts::Counts;
 use asp_counts::watch::Watch;
 use asp_path::tree::Leaf;
 use asp_recorder::recorder::Recorder;
 use asp_vars::compiled::Compiled;
+use asp_vars::fuel::Fuel;
+use std::alloc::AllocError;
 use std::sync::Wait;
 
 // Searches a path, and opens it again where it isn't closed.
@@ -102,6 +105,41 @@ fn search_paths<R: Wait, G: Gate, H: Halt, W: Watch>(
     unreachable!()
 }
 
+// A search of paths until none is left or wanted: its units, what it did, and whether memory was wanting. Without memory for a
+// search the worker has nothing.
+fn searched<R: Wait, G: Gate, H: Halt, W: Watch>(
+    rt: &R,
+    shared: &Shared,
+    compiled: &Compiled,
+    recorder: &Recorder,
+    gate: &G,
+    halt: &H,
+    worker: &mut Worker,
+    watch: &mut W,
+) -> Result<(Fuel, Counts, bool), AllocError>
+    requires { MayWork compiled.now shared.now worker.old }
+    ensures keeps { Keeps worker.old worker.new }
+    ensures ready { IsReady shared.now worker.new }
+    ensures free { OnOk result (IsFree (view worker.new.seat)) }
+    ensures owes { IfOk result (λ r. Owes (view worker.new.seat) r.0) }
+    ensures idle { OnErr result (IsIdle (view worker.new.seat)) }
+    ensures heard { W.IsAfter watch.old watch.new }
+{
+    let mut engine = start(shared, compiled, recorder)?;
+    let short = search_paths(rt, shared, gate, halt, worker, &mut engine, watch);
+    let Engine {
+        search: _,
+        fuel,
+        read: _,
+        turn: _,
+        step: _,
+        under: _,
+        did,
+        recorder: _,
+    } = engine;
+    Ok((fuel, did, short))
+}
+
 /// A worker's whole work: it searches paths until none is left or wanted, and gives all back. On the way the watch hears now
 /// and then what all workers did so far.
 // Where no thread can be made, workers are called inside each other on one stack: what a search needs of it stays out of those
@@ -121,25 +159,25 @@ pub fn work<R: Wait, G: Gate, H: Halt, W: Watch>(
     ensures heard { W.IsAfter watch.old watch.new }
 {
     let recorder = Recorder::new(shared.alloc);
-    let mut engine = match start(shared, compiled, &recorder) {
-        Ok(engine) => engine,
+    match searched(
+        rt,
+        shared,
+        compiled,
+        &recorder,
+        gate,
+        halt,
+        &mut worker,
+        watch,
+    ) {
+        Ok((fuel, did, short)) => {
+            worker.short = short;
+            let _sum = shared.tallies.tell(rt, worker.seat.number(), &did);
+            desk::back(rt, &shared.book, &mut worker.seat, fuel);
+            worker
+        }
         Err(_) => {
             worker.short = true;
-            return worker;
+            worker
         }
-    };
-    worker.short = search_paths(rt, shared, gate, halt, &mut worker, &mut engine, watch);
-    let Engine {
-        search: _,
-        fuel,
-        read: _,
-        turn: _,
-        step: _,
-        under: _,
-        did,
-        recorder: _,
-    } = engine;
-    let _sum = shared.tallies.tell(rt, worker.seat.number(), &did);
-    desk::back(rt, &shared.book, &mut worker.seat, fuel);
-    worker
+    }
 }
