@@ -118,8 +118,8 @@ check "a million atoms and one" 65 "$wanted" "${PIPESTATUS[1]}" "$notes"
 printf 'Conflicts: 0\nLeaves: 1\nLog: 0\nDecisions: 1\nRestarts: 0\nKept: 0\nDropped: 0\nAtoms: 2\nBodies: 2\nLoops: 0\n' > "$wanted"
 "$program" --stats < examples/two_rules.aspif > "$given" 2> "$notes"
 check "counts" 30 "$wanted" "$?" "$notes"
-worker='Worker N: conflicts N, decisions N, restarts N, answers N, kept N, dropped N'
-printf '%s\n' 'Conflicts: N' 'Leaves: N' 'Log: N' 'Decisions: N' 'Restarts: N' 'Kept: N' 'Dropped: N' "$worker" "$worker" 'Atoms: N' 'Bodies: N' 'Loops: N' > "$wanted"
+worker='Worker N: conflicts N, decisions N, propagated N, restarts N, answers N, kept N, dropped N'
+printf '%s\n' 'Conflicts: N' 'Leaves: N' 'Log: N' 'Decisions: N' 'Propagated: N' 'Restarts: N' 'Kept: N' 'Dropped: N' "$worker" "$worker" 'Atoms: N' 'Bodies: N' 'Loops: N' > "$wanted"
 "$program" --stats --workers 2 < examples/two_rules.aspif 2> "$notes" > /dev/null
 status=$?
 sed 's/[0-9][0-9]*/N/g' "$notes" > "$given"

@@ -10,6 +10,8 @@ pub struct Counts {
     pub conflicts: u64,
     /// Literals that were decided.
     pub decisions: u64,
+    /// Literals that propagation implied.
+    pub propagated: u64,
     /// How often all decisions were taken back.
     pub restarts: u64,
     /// Answers: all that were found, or in an optimisation each that was cheaper than those before it.
@@ -23,11 +25,12 @@ pub struct Counts {
 impl Counts {
     /// Nothing so far.
     pub fn new() -> Counts
-        ensures { result ≡ record { conflicts = 0; decisions = 0; restarts = 0; answers = 0; kept = 0; dropped = 0 } }
+        ensures { result ≡ record { conflicts = 0; decisions = 0; propagated = 0; restarts = 0; answers = 0; kept = 0; dropped = 0 } }
     {
         Counts {
             conflicts: 0,
             decisions: 0,
+            propagated: 0,
             restarts: 0,
             answers: 0,
             kept: 0,
@@ -35,8 +38,8 @@ impl Counts {
         }
     }
 
-    /// Counts a step, after which so many nogoods are kept, but not forever.
-    pub fn count(&mut self, step: &Step, kept: u64) {
+    /// Counts a step, whose propagation implied so many literals, and after which so many nogoods are kept, but not forever.
+    pub fn count(&mut self, step: &Step, implied: u64, kept: u64) {
         match step {
             Step::Decided => self.decisions = self.decisions.saturating_add(1),
             Step::Learnt => self.conflicts = self.conflicts.saturating_add(1),
@@ -44,6 +47,7 @@ impl Counts {
             Step::Answer(_) => self.answers = self.answers.saturating_add(1),
             Step::Closed | Step::NoFuel(_) => {}
         }
+        self.propagated = self.propagated.saturating_add(implied);
         self.keep(kept);
     }
 
@@ -57,6 +61,7 @@ impl Counts {
     pub fn add(&mut self, other: &Counts) {
         self.conflicts = self.conflicts.saturating_add(other.conflicts);
         self.decisions = self.decisions.saturating_add(other.decisions);
+        self.propagated = self.propagated.saturating_add(other.propagated);
         self.restarts = self.restarts.saturating_add(other.restarts);
         self.answers = self.answers.saturating_add(other.answers);
         self.kept = self.kept.saturating_add(other.kept);

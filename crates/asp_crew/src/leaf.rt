@@ -87,7 +87,7 @@ fn step<P: Propagator>(
     ensures few { IfOk result (λ r. length search.new.entries ≤ var_count search.new.program + 1) }
 {
     let step = search.step(fuel)?;
-    counts.count(&step, search.extra() as u64);
+    counts.count(&step, search.implied() as u64, search.extra() as u64);
     note(recorder, search)?;
     Ok(step)
 }

@@ -56,6 +56,8 @@ pub struct Search<'a, P: Propagator> {
     pub(crate) mode: Mode,
     // the trail under the cube, and the nogoods that are kept
     pub(crate) state: SearchState<P>,
+    // how many literals the last step's propagation implied
+    pub(crate) implied: usize,
     // when restarts and reductions are due
     pub(crate) pace: Pace,
     // when what propagators gave is to go between restarts
@@ -196,6 +198,7 @@ impl<'a, P: Propagator> Search<'a, P> {
             mode,
             state,
             pace: Pace::new(vars as usize),
+            implied: 0,
             litter: Litter::new(vars),
             learner,
             spread,
@@ -354,6 +357,11 @@ impl<'a, P: Propagator> Search<'a, P> {
         ensures { result ≡ count_by is_extra self.now.slots }
     {
         self.state.store().extra()
+    }
+
+    /// How many literals the last step's propagation implied. It is counted, and no clause says it.
+    pub fn implied(&self) -> usize {
+        self.implied
     }
 
     // How many decisions stand. No variable has two entries.

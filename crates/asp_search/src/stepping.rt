@@ -314,10 +314,14 @@ impl<'a, P: Propagator> Search<'a, P> {
     {
         let _program = self.compiled.program();
         self.last = None;
+        self.implied = 0;
         if self.state.is_clashing() {
             return Ok(Step::Closed);
         }
-        match self.state.propagate()? {
+        let before = self.state.trail().len();
+        let met = self.state.propagate()?;
+        self.implied = self.state.trail().len().saturating_sub(before);
+        match met {
             Some(id) => self.meet(id, fuel),
             None => self.go_on(fuel),
         }

@@ -4,7 +4,7 @@ use Rattle.asp_crew_laws.specs.declared.report.Report.{Report}
 use Rattle.asp_counts.specs.declared.counts.Counts.{Counts}
 use Rattle.asp_counts.specs.declared.tallies.WorkerCounts.{WorkerCounts}
 use Rattle.asp_top.specs.declared.counts.What.{What}
-use Rattle.asp_top.specs.declared.counts.What.TheVariants.{Spent, Leaves, Log, Decisions, Restarts, Kept, Dropped, Worker, ItsConflicts, ItsDecisions, ItsRestarts, ItsAnswers, ItsKept, ItsDropped, Atoms, Bodies, Loops, SoFarConflicts, SoFarDecisions, SoFarRestarts, SoFarKept, SoFarAnswers}
+use Rattle.asp_top.specs.declared.counts.What.TheVariants.{Spent, Leaves, Log, Decisions, Propagated, Restarts, Kept, Dropped, Worker, ItsConflicts, ItsDecisions, ItsPropagated, ItsRestarts, ItsAnswers, ItsKept, ItsDropped, Atoms, Bodies, Loops, SoFarConflicts, SoFarDecisions, SoFarRestarts, SoFarKept, SoFarAnswers}
 use Rattle.asp_top.specs.declared.counts.Item.{Item}
 use Rattle.asp_top.specs.declared.counts.Tally.{Tally}
 
@@ -14,12 +14,14 @@ label_of Spent = codes "Conflicts: "
 label_of Leaves = codes "\nLeaves: "
 label_of Log = codes "\nLog: "
 label_of Decisions = codes "\nDecisions: "
+label_of Propagated = codes "\nPropagated: "
 label_of Restarts = codes "\nRestarts: "
 label_of Kept = codes "\nKept: "
 label_of Dropped = codes "\nDropped: "
 label_of Worker = codes "\nWorker "
 label_of ItsConflicts = codes ": conflicts "
 label_of ItsDecisions = codes ", decisions "
+label_of ItsPropagated = codes ", propagated "
 label_of ItsRestarts = codes ", restarts "
 label_of ItsAnswers = codes ", answers "
 label_of ItsKept = codes ", kept "
@@ -46,13 +48,13 @@ report_items r = count_of Spent r.spent ∷ count_of Leaves r.leaves ∷ count_o
 
 -- what the searches did together
 abbrev pub search_items : Counts → List Item
-search_items c = count_of Decisions c.decisions ∷ count_of Restarts c.restarts ∷ count_of Kept c.kept ∷ count_of Dropped c.dropped ∷ []
+search_items c = count_of Decisions c.decisions ∷ count_of Propagated c.propagated ∷ count_of Restarts c.restarts ∷ count_of Kept c.kept ∷ count_of Dropped c.dropped ∷ []
 
 -- what one of several workers did, on a line
 abbrev pub worker_items : WorkerCounts → List Item
 worker_items w =
-    count_of Worker w.worker ∷ count_of ItsConflicts w.counts.conflicts ∷ count_of ItsDecisions w.counts.decisions ∷ count_of ItsRestarts w.counts.restarts ∷ count_of ItsAnswers w.counts.answers
-    ∷ count_of ItsKept w.counts.kept ∷ count_of ItsDropped w.counts.dropped ∷ []
+    count_of Worker w.worker ∷ count_of ItsConflicts w.counts.conflicts ∷ count_of ItsDecisions w.counts.decisions ∷ count_of ItsPropagated w.counts.propagated ∷ count_of ItsRestarts w.counts.restarts
+    ∷ count_of ItsAnswers w.counts.answers ∷ count_of ItsKept w.counts.kept ∷ count_of ItsDropped w.counts.dropped ∷ []
 
 -- of the program
 abbrev pub program_items : Tally → List Item

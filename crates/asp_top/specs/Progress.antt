@@ -32,7 +32,7 @@ Rises c (t ∷ told) d = IsMore c t.counts × Rises t.counts told d
 
 -- what is counted before a run begins
 abbrev pub nothing : Counts
-nothing = record { conflicts = 0; decisions = 0; restarts = 0; answers = 0; kept = 0; dropped = 0 }
+nothing = record { conflicts = 0; decisions = 0; propagated = 0; restarts = 0; answers = 0; kept = 0; dropped = 0 }
 
 -- A front of the lines of a run that went on and of this text was written, and all of it where no fault was counted. Without the
 -- option no line is told.

@@ -24,12 +24,14 @@ pub enum What {
     Leaves,
     Log,
     Decisions,
+    Propagated,
     Restarts,
     Kept,
     Dropped,
     Worker,
     ItsConflicts,
     ItsDecisions,
+    ItsPropagated,
     ItsRestarts,
     ItsAnswers,
     ItsKept,
@@ -124,12 +126,14 @@ fn label_of(what: What) -> &'static [u8]
         What::Leaves => b"\nLeaves: ",
         What::Log => b"\nLog: ",
         What::Decisions => b"\nDecisions: ",
+        What::Propagated => b"\nPropagated: ",
         What::Restarts => b"\nRestarts: ",
         What::Kept => b"\nKept: ",
         What::Dropped => b"\nDropped: ",
         What::Worker => b"\nWorker ",
         What::ItsConflicts => b": conflicts ",
         What::ItsDecisions => b", decisions ",
+        What::ItsPropagated => b", propagated ",
         What::ItsRestarts => b", restarts ",
         What::ItsAnswers => b", answers ",
         What::ItsKept => b", kept ",
@@ -180,11 +184,12 @@ pub fn report_items(report: &Report) -> [Item; 3]
 }
 
 /// What the searches did together, in the order of its lines.
-pub fn search_items(counts: &Counts) -> [Item; 4]
+pub fn search_items(counts: &Counts) -> [Item; 5]
     ensures { result ≡ search_items counts.now }
 {
     [
         Item::of(What::Decisions, counts.decisions),
+        Item::of(What::Propagated, counts.propagated),
         Item::of(What::Restarts, counts.restarts),
         Item::of(What::Kept, counts.kept),
         Item::of(What::Dropped, counts.dropped),
@@ -192,13 +197,14 @@ pub fn search_items(counts: &Counts) -> [Item; 4]
 }
 
 /// What one of several workers did, in the order of its line.
-pub fn worker_items(worker: &WorkerCounts) -> [Item; 7]
+pub fn worker_items(worker: &WorkerCounts) -> [Item; 8]
     ensures { result ≡ worker_items worker.now }
 {
     [
         Item::of(What::Worker, worker.worker as u64),
         Item::of(What::ItsConflicts, worker.counts.conflicts),
         Item::of(What::ItsDecisions, worker.counts.decisions),
+        Item::of(What::ItsPropagated, worker.counts.propagated),
         Item::of(What::ItsRestarts, worker.counts.restarts),
         Item::of(What::ItsAnswers, worker.counts.answers),
         Item::of(What::ItsKept, worker.counts.kept),

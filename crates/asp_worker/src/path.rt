@@ -90,7 +90,7 @@ fn step<R: Wait>(
     ensures err { OnErr result (Pays search.old fuel.old fuel.new) }
 {
     let step = search.step(fuel)?;
-    did.count(&step, search.extra() as u64);
+    did.count(&step, search.implied() as u64, search.extra() as u64);
     note(rt, shared, search, recorder)?;
     Ok(step)
 }

@@ -22,8 +22,8 @@ returns-then-is_clashing-clause-ok g c = λ q e.
     subst (λ (z : Searching). Closes (g.P.Propagator.gives z.program z.bound) z new q f f) c.self.view_is
     (clash_closes (g.P.Propagator.gives i.state.program i.state.bound) i.mode i.state i.pace (answers_known i.known.items i.seen) i.last q f clashes)
 
-pub invariant_of-self-in_err-id : goal.invariant_of-self-in_err-id
-invariant_of-self-in_err-id g c =
+pub invariant_of-self-in_err-met : goal.invariant_of-self-in_err-met
+invariant_of-self-in_err-met g c =
     let i = c.self.inside in
     let t = i.state in
     let sound : IsSound t.program = subst IsSound c.self.invariant.0.program c.program-program.ensures.sound in
@@ -31,8 +31,8 @@ invariant_of-self-in_err-id g c =
     (ap (λ (x : SearchView). x.program) c.propagate.ensures.same) (ap (λ (x : SearchView). x.bound) c.propagate.ensures.same)
     (λ n h. g.met.P.Propagator.sound t.program t.bound n (used_in i.compiled.now i.mode i.known.items i.seen) sound h) c.propagate.ensures.adds c.self.invariant.0, c.self.invariant.1)
 
-pub returns-in_err-id-clause-err : goal.returns-in_err-id-clause-err
-returns-in_err-id-clause-err g c =
+pub returns-in_err-met-clause-err : goal.returns-in_err-met-clause-err
+returns-in_err-met-clause-err g c =
     let i = c.self.inside in
     let t = i.state in
     let s = c.args.self.now in
