@@ -2,11 +2,11 @@
 //!
 //! An answer adds something to those known where it shows an atom that none of them shows. So one nogood leaves out all that adds
 //! nothing: none of these atoms is shown. When an answer is found it loses the literals of the atoms that this one shows.
-ghost use Rattle.std.specs.Prelude.{◌≡◌, ◌<◌, IfOk, OnErr, OnOk, IsTrue, length, map, vec_capacity, vec_len};
+ghost use Rattle.std.specs.Prelude.{◌≡◌, ◌<◌, IfOk, OnErr, OnOk, IsSome, IsTrue, length, map, vec_capacity, vec_len};
 ghost use Rattle.std.specs.List.{All, AllByRecursion};
 ghost use Rattle.asp_model.specs.Models.{atoms_of};
 ghost use Rattle.asp_model.specs.Sets.{has};
-ghost use Rattle.asp_store.specs.Keeping.{IsAddedAt};
+ghost use Rattle.asp_store.specs.Keeping.{IsAddedAt, nogood_at};
 ghost use Rattle.asp_store.specs.declared.stored_nogood.Kind.TheVariants as kind;
 ghost use Rattle.asp_trail.specs.Trails.{IsVar};
 ghost use Rattle.asp_search.specs.Blocking.{Covers};
@@ -15,6 +15,7 @@ ghost use Rattle.asp_search_laws.specs.Keeping.{AreBlocking};
 ghost use Rattle.asp_search_laws.specs.Steps.{covering_nogood, unshown_literal};
 
 use crate::blocking::drop_all;
+use crate::spread::level_of;
 use asp_model::interp::Interp;
 use asp_model::program::Atom;
 use asp_model::results::Reasoning;
@@ -25,7 +26,7 @@ use asp_trail::reasons::{NogoodId, Reasons};
 use asp_trail::trail::Trail;
 use asp_vars::compiled::Compiled;
 use asp_vars::known::Known;
-use asp_vars::lit::{Lit, Var};
+use asp_vars::lit::Lit;
 use asp_vars::nogood::{Base, Lits, Nogood};
 use asp_vars::snapshot::Snapshot;
 use std::alloc::{AllocError, Global};
@@ -81,25 +82,24 @@ fn covering(alloc: Global, compiled: &Compiled, known: &Known) -> Result<Nogood,
     })
 }
 
-// The level at which a variable got its value; 0 where it has none.
-fn level_at(trail: &Trail, var: Var) -> usize
-    requires { IsVar trail.now.vars var }
-{
-    match trail.value(var) {
-        None => 0,
-        Some(_) => trail.level_of(var),
-    }
-}
-
 // The greatest level of these literals.
 fn top(trail: &Trail, lits: &[Lit]) -> usize
     requires { All (λ l. IsVar trail.now.vars l.var) lits.now }
 {
     let mut top = 0;
     for lit in lits {
-        top = top.max(level_at(trail, lit.var()));
+        top = top.max(level_of(trail, lit.var()));
     }
     top
+}
+
+// The greatest level of the literals of a kept nogood.
+fn top_of<P: Propagator>(state: &SearchState<P>, id: NogoodId) -> usize
+    requires { IsSome (nogood_at state.now.slots id) }
+{
+    let trail = state.trail();
+    let store = state.store();
+    top(trail, store.lits(id))
 }
 
 // Keeps the nogood that leaves out all that shows nothing beside these answers, and gives its number, for which there is room in the list.
@@ -160,7 +160,7 @@ pub(crate) fn cover<P: Propagator>(
     ensures err { OnErr result ((state.new ≡ state.old) × (blocking.new.items ≡ blocking.old.items)) }
 {
     let id = keep_cover(alloc, compiled, state, blocking, known)?;
-    let top = top(state.trail(), state.store().lits(id));
+    let top = top_of(state, id);
     state.undo_to(top.saturating_sub(1));
     drop_all(state, blocking, &[]);
     blocking.push_reserved(id);

@@ -1,7 +1,14 @@
-use Rattle.std.proofs.Common.{refl, sym, subst}
+use Rattle.std.proofs.Common.{Option, IsSome, refl, sym, subst}
+use Rattle.asp_store.specs.declared.stored_nogood.Kind.TheVariants as kind
+use Rattle.asp_vars.specs.declared.nogood.Nogood.{Nogood}
 use Rattle.asp_search_laws.specs.Keeping.{AreBlocking}
+use Rattle.asp_search_laws.proofs.SlotLaws.{added_newest}
 use Rattle.asp_search.proofs.CoverLaws.{cover_done, kept_blocking_stand, undone_blocking, undone_same}
 use Rattle.asp_search.proofs.covering.cover.Goals as goal
+
+pub top_of-requires : goal.top_of-requires
+top_of-requires g c =
+    subst (λ (n : Option Nogood). IsSome n) (sym (added_newest c.args.state.now.slots c.keep_cover.new.state.slots c.in_ok-id.id _ kind.Forever c.in_ok-id.ensures.ok)) refl
 
 pub drop_all-requires : goal.drop_all-requires
 drop_all-requires g c =
