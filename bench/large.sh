@@ -56,6 +56,11 @@ def triples(n):
     return [*free(n), *(rule(0, *it) for it in barred)]
 
 
+def equals(n, free_atoms):
+    """n atoms, each behind the first free_atoms as the one free_atoms before it: 2 ^ free_atoms answers."""
+    return [*free(n), *(it for i in range(free_atoms + 1, n + 1) for it in (rule(0, i, free_atoms - i), rule(0, -i, i - free_atoms)))]
+
+
 def facts(n):
     return [*(rule(i) for i in to(n))]
 
@@ -130,10 +135,11 @@ def coloured(n):
             *(rule(0, at(i, c), at((i + 1) % n, c)) for i in range(n) for c in (1, 2, 3))]
 
 
-# name: what both are given, the options of each
+# name: what both are given, the options of each, and how often it is run where a run is short
 QUIET = (["--make", "20", "--mode", "enum"], ["-n", "0", "-q"])
 ALL, ONE = ([], ["-n", "0"]), (["--models", "1"], ["-n", "1"])
 READ = ([], ["--pre=aspif"])
+BRAVE, CAUTIOUS = ((["--mode", mode], ["-n", "0", "-q1", "-e", mode]) for mode in ("brave", "cautious"))
 ROWS = {
     "free-20": (text_of(lambda: free(20)), ALL),
     "triples-30": (text_of(lambda: triples(30)), ALL),
@@ -143,6 +149,10 @@ ROWS = {
     "latin-8-20": (PROGRAMS["latin-8-20"][1], ALL),
     "latin-8-20-b": (PROGRAMS["latin-8-20-b"][1], ALL),
     "wide-12": (text_of(lambda: wide(12, 10_000)), ALL),
+    "brave, 200": (text_of(lambda: free(200)), BRAVE, 50),
+    "brave, 2^40": (text_of(lambda: equals(200, 40)), BRAVE, 50),
+    "cautious, 2^40": (text_of(lambda: equals(200, 40)), CAUTIOUS, 50),
+    "brave, 2000": (text_of(lambda: free(2_000)), BRAVE),
     "gringo, read": (without_end(reached(80_000)), READ),
     "rules, read": (without_end(text_of(lambda: rules(100))), READ),
     "gringo": (reached(20_000), ONE),
@@ -156,45 +166,52 @@ ROWS = {
 }
 
 
-def run(words, path, output, room):
-    """Returns what is told at the end, the processor time in seconds, the greatest memory in MB, the bytes written, and whether it ended."""
+def run(words, path, output, room, times):
+    """Runs the words so often, and returns what is told at the end, the processor time of one run in seconds, the greatest memory in MB, the bytes written,
+    and whether it ended."""
     def limits():
         resource.setrlimit(resource.RLIMIT_CPU, (LIMIT, LIMIT + 1))
         resource.setrlimit(resource.RLIMIT_AS, (6 << 30, 6 << 30))
 
+    # short runs one after the other, since time tells hundredths of a second
+    all_runs = words if times == 1 else ["sh", "-c", f'for each in $(seq {times}); do "$@" < {path}; done', "sh", *words]
     with open(path, "rb") as text, open(output, "wb") as out:
-        status = subprocess.run(["/usr/bin/time", "-o", f"{room}/took", "-f", "%U %S %M", *words], stdin=text, stdout=out, stderr=subprocess.DEVNULL, preexec_fn=limits).returncode
+        status = subprocess.run(["/usr/bin/time", "-o", f"{room}/took", "-f", "%U %S %M", *all_runs], stdin=text, stdout=out, stderr=subprocess.DEVNULL, preexec_fn=limits).returncode
     took = open(f"{room}/took").read().split("\n")[-2].split()
-    size, time = os.path.getsize(output), float(took[0]) + float(took[1])
+    size, time = os.path.getsize(output) // times, (float(took[0]) + float(took[1])) / times
     if words[0] == program and time < LIMIT and status != (65 if path.endswith("-read.aspif") else 30) and status not in (10, 11, 20):
         raise SystemExit(f"{path}: status {status}")
     with open(output, "rb") as text:
-        text.seek(max(0, size - 4000))
+        text.seek(max(0, size * times - 40_000))
         said = text.read().decode(errors="replace")
     os.remove(output)
     return said, time, int(took[2]) / 1024, size, time < LIMIT
 
 
-def models(said):
-    found = re.search(r"^Models\s*: (\d+)", said, re.M)
+def told_by(said):
+    """How many answers there are, or how many atoms are consequences."""
+    known = re.search(r"^Consequences:((?: \d+)*)$", said, re.M)
+    if known:
+        return str(len(known[1].split()))
+    found = re.search(r"^Consequences *: (\d+)", said, re.M) or re.search(r"^Models *: (\d+)", said, re.M)
     return found and found[1]
 
 
 def cells(name, room):
-    make, options = ROWS[name]
+    make, options, times = (*ROWS[name], 1)[:3]
     path = f"{texts or room}/{re.sub('[^a-z0-9]+', '-', name)}.aspif"
     if not os.path.exists(path):
         with open(path, "wb") as it:
             it.write(make())
     row, told, numbers = [name, f"{os.path.getsize(path) / 1e6:.1f}"], [], []
     for words in ([program, *options[0]], *([["clasp", *options[1]]] if shutil.which("clasp") else [])):
-        said, time, memory, written, ended = run(words, path, f"{room}/out", room)
+        said, time, memory, written, ended = run(words, path, f"{room}/out", room, times)
         if ended:
-            told.append(models(said))
+            told.append(told_by(said))
         numbers.append((time, memory))
-        row += [f"{'' if ended else '>'}{time:.2f}", f"{memory:.0f}", f"{written / 1e6:.1f}"]
+        row += [f"{'' if ended else '>'}{time:.{2 if times == 1 else 4}f}", f"{memory:.0f}", f"{written / 1e6:.1f}"]
     if len(numbers) == 2:
-        row += [f"{mine / max(theirs, least):.2f}" for mine, theirs, least in zip(*numbers, (0.01, 1))]
+        row += [f"{mine / max(theirs, least):.2f}" for mine, theirs, least in zip(*numbers, (0.01 / times, 1))]
     row.append({1: "yes", 2: "NO"}[len(set(told))] if len(told) == 2 and None not in told else "-")
     if not texts:
         os.remove(path)

@@ -3,14 +3,18 @@
 
     edits.py libraries COPY NAME..     gives a copy of the repository the libraries that `rt ci` proved of the same files
     edits.py applied COPY NAME..       says which edits of these crates can't be applied to their files
+    edits.py functions COPY NAME..     tries each edit by a check of the one function that it changes, and takes away those
+                                       that are refused there, RT_JOBS of them side by side
 
 A library is taken from what `rt ci` keeps beside the kit, by the sum of all that it was proved from. Where rt has another
 form than the one that this script knows, nothing is taken: rt proves the libraries again then, which costs time alone.
 """
+import concurrent.futures
 import glob
 import importlib.machinery
 import importlib.util
 import os
+import re
 import shutil
 import sys
 
@@ -72,10 +76,70 @@ def applied(copy, names):
     return 1 if bad else 0
 
 
+def indent_of(line):
+    return len(line) - len(line.lstrip())
+
+
+def function_of(path, old, new):
+    """Returns the function in which two texts of the file begin to differ, as `rt check --only` names it, or None."""
+    lines = old.split("\n")
+    at = next((n for n, both in enumerate(zip(lines, new.split("\n"))) if both[0] != both[1]), None)
+    module = "".join(f"{it}::" for it in path[len("src/") : -len(".rt")].split("/") if it not in ("lib", "main"))
+    name, inside = None, at is not None and indent_of(lines[at])
+    for line in reversed(lines[: at + 1] if at is not None else []):
+        head = re.match(r"\s*(?:pub(?:\([a-z ]+\))?\s+)?fn\s+(\w+)", line)
+        if not name and head and indent_of(line) < inside:
+            name = head[1]
+            if not indent_of(line):
+                return f"{module}{name}"
+        owner = re.match(r"impl(?:<.*?>)?\s+(?:(\w+)\S*\s+for\s+)?(\w+)", line)
+        if owner:
+            return f"{module}{owner[2]}{owner[1] or ''}::{name}" if name else None
+    return None
+
+
+def is_refused(rt, crate, edit):
+    """Whether a check of the function that the edit changes refuses it, and what that says."""
+    texts, why = rt.read_edit(edit, crate.folder)
+    if why or len(texts) != 1:
+        return False, ""
+    (path, new), = texts.items()
+    with open(f"{crate.folder}/{path}", encoding="utf-8") as file:
+        function = path.endswith(".rt") and function_of(path, file.read(), new)
+    if not function:
+        return False, ""
+    told = rt.checked(crate, texts, ["--jobs", "1", "--only", function], None)
+    # (not what only says that a proof file names what the edit took away)
+    lines = re.findall(r"^(?:note: )?\S+:\d+:\d+: .*", told.stdout, re.M)
+    lines = [it for it in lines if not re.search(r"has no field|is not in scope|has no `|was not admitted", it)]
+    # (fewer are proved than were checked, and the text was read: an error with a name in brackets is one of reading)
+    is_unproved = re.search(r"^only=(\d+) proved=(?!\1$)", told.stdout, re.M)
+    is_read = not re.search(r"\berror\[[\w-]+\]", told.stdout)
+    return told.returncode == 1 and is_read and bool(is_unproved and lines), "".join(lines[:1])
+
+
+def functions(copy, names):
+    rt = load_rt()
+    rt.Crate.allowed = rt.handles_of(copy)
+    crates = {it.name: it for it in rt.crates_of(copy)}
+    edits = [(crates[name], edit) for name in names for edit in sorted(glob.glob(f"{copy}/crates/{name}/must-fail/*.edit"))]
+
+    def one(of):
+        refused, told = is_refused(rt, *of)
+        if refused:
+            os.remove(of[1])
+            print(f"edits: {of[0].name}/{os.path.basename(of[1])}: refused, as it must be: {told[:160]}", flush=True)
+
+    rt.rtlib.guarded()
+    with concurrent.futures.ThreadPoolExecutor(int(os.environ.get("RT_JOBS", "1"))) as pool:
+        list(pool.map(one, edits))
+    return 0
+
+
 def main():
     command, copy, names = sys.argv[1], os.path.realpath(sys.argv[2]), sys.argv[3:]
     os.chdir(copy)
-    sys.exit({"libraries": libraries, "applied": applied}[command](copy, names))
+    sys.exit({"libraries": libraries, "applied": applied, "functions": functions}[command](copy, names))
 
 
 if __name__ == "__main__":

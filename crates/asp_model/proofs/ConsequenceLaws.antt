@@ -396,9 +396,9 @@ unshown-among r p K L among a h =
 -- Where less is unshown more is covered.
 pub covers-less : (r : Reasoning) (p : Program) (K L : List Atoms) (S : Atoms) → IsSubset (unshown r p L) (unshown r p K) → (L ≡ [] → ⊥) → covers r p K S ≡ true → covers r p L S ≡ true
 covers-less r p K L S sub some c = covers-from r p L S some (λ a there s. elim (cases_Bool (list_any (λ T. shows r T a) L)) [
-    | inl e ↦ e
-    | inr e ↦ absurd (unseen a there s e)
-  ])
+  | inl e ↦ e
+  | inr e ↦ absurd (unseen a there s e)
+])
   where
     unseen : (a : ℕ) → has (atoms_of p) a ≡ true → shows r S a ≡ true → list_any (λ T. shows r T a) L ≡ false → ⊥
     unseen a there s e =

@@ -35,7 +35,7 @@ use asp_store::stored_nogood::Kind;
 use asp_trail::reasons::NogoodId;
 use asp_trail::trail::Trail;
 use asp_vars::compiled::Compiled;
-use asp_vars::lit::Lit;
+use asp_vars::lit::{Lit, Var};
 use asp_vars::nogood::{Base, Lits, Nogood};
 use std::alloc::{AllocError, Global};
 use std::marker::Model;
@@ -253,6 +253,13 @@ impl<P: Propagator> SearchState<P> {
         self.order.restore_above(self.engine.trail(), level);
         self.engine.undo_to(level);
         self.decisions.truncate(level);
+    }
+
+    /// The variable is decided to have this value when it is decided next.
+    pub fn prefer(&mut self, var: Var, truth: bool)
+        ensures { self.new ≡ self.old }
+    {
+        self.order.prefer(var, truth);
     }
 
     /// A literal that follows by a kept nogood, at the level that stands.
