@@ -20,8 +20,8 @@ pub struct Spread {
     counts: u32,
 }
 
-/// The level of a variable, 0 where it has no value.
-pub(crate) fn level_of(trail: &Trail, var: Var) -> usize
+// The level of a variable, 0 where it has no value.
+fn level_of(trail: &Trail, var: Var) -> usize
     requires { var ≤ trail.now.vars }
 {
     match trail.value(var) {
