@@ -70,8 +70,14 @@ literals_shown r p S (a ∷ L) h =
     ∙ ap (λ (b : Bool). not (shows r S a) && b) (literals_shown r p S L h.1)
     ∙ not_or (shows r S a) (list_any (shows r S) L)
 
-pub unshown_stand : (r : Reasoning) (p : Program) (K : List Atoms) → AllByRecursion (λ a. has (atoms_of p) a ≡ true) (unshown r p K)
+unshown_stand : (r : Reasoning) (p : Program) (K : List Atoms) → AllByRecursion (λ a. has (atoms_of p) a ≡ true) (unshown r p K)
 unshown_stand r p K = each-filter (λ a. has (atoms_of p) a ≡ true) (λ a. not (list_any (λ S. shows r S a) K)) (atoms_of p) (HasAll-itself (atoms_of p))
+
+pub all_stand : (r : Reasoning) (p q : Program) (K : List Atoms) (L : Atoms) → p ≡ q → L ≡ unshown r p K → All (λ a. has (atoms_of q) a ≡ true) L
+all_stand r p q K L same is =
+    subst (λ (x : Program). All (λ a. has (atoms_of x) a ≡ true) L) same
+    (subst (λ (xs : Atoms). All (λ a. has (atoms_of p) a ≡ true) xs) (sym is)
+    (All-from_recursion (λ a. has (atoms_of p) a ≡ true) (unshown r p K) (unshown_stand r p K)))
 
 pub covering_hits : (r : Reasoning) (p : Program) (K : List Atoms) (S : Atoms) → K ≢ [] → hits (values p S) (covering_nogood r p K).lits ≡ covers r p K S
 covering_hits r p [] S some = absurd (some refl)

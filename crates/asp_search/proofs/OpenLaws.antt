@@ -98,6 +98,7 @@ of_use_shared m bound (base.Below c) h e = below_local e
     below_local q = cc
 of_use_shared mode.Enum bound base.Local h e = false≢true h
 of_use_shared mode.Opt bound base.Local h e = false≢true h
+of_use_shared (mode.Consequences r) bound base.Local h e = false≢true h
 
 -- ---- what is copied for others
 pub only_is : (p : Program) (k : Option Nogood) → ((n : Nogood) → k ≡ Some n → is_shared n ≡ true → IsShared p n) → IfSome (only_shared k) (IsShared p)

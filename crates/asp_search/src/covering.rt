@@ -3,12 +3,11 @@
 //! An answer adds something to those known where it shows an atom that none of them shows. So one nogood leaves out all that adds
 //! nothing: none of these atoms is shown. When an answer is found it loses the literals of the atoms that this one shows.
 ghost use Rattle.std.specs.Prelude.{◌≡◌, ◌<◌, IfOk, OnErr, OnOk, IsTrue, length, map, vec_capacity, vec_len};
-ghost use Rattle.std.specs.List.{All, AllByRecursion};
+ghost use Rattle.std.specs.List.{All};
 ghost use Rattle.asp_model.specs.Models.{atoms_of};
 ghost use Rattle.asp_model.specs.Sets.{has};
 ghost use Rattle.asp_store.specs.Keeping.{IsAddedAt};
 ghost use Rattle.asp_store.specs.declared.stored_nogood.Kind.TheVariants as kind;
-ghost use Rattle.asp_trail.specs.Trails.{IsVar};
 ghost use Rattle.asp_search.specs.Blocking.{Covers};
 ghost use Rattle.asp_search.specs.Invariants.{answers_known};
 ghost use Rattle.asp_search_laws.specs.Keeping.{AreBlocking};
@@ -21,11 +20,10 @@ use asp_model::results::Reasoning;
 use asp_propagate::propagator::Propagator;
 use asp_state::state::SearchState;
 use asp_store::stored_nogood::Kind;
-use asp_trail::reasons::{NogoodId, Reasons};
-use asp_trail::trail::Trail;
+use asp_trail::reasons::NogoodId;
 use asp_vars::compiled::Compiled;
 use asp_vars::known::Known;
-use asp_vars::lit::{Lit, Var};
+use asp_vars::lit::Lit;
 use asp_vars::nogood::{Base, Lits, Nogood};
 use asp_vars::snapshot::Snapshot;
 use std::alloc::{AllocError, Global};
@@ -59,7 +57,7 @@ fn all_unshown(
     reasoning: Reasoning,
     atoms: &[Atom],
 ) -> Result<Lits, AllocError>
-    requires { AllByRecursion (λ a. IsTrue (has (atoms_of compiled.now) a)) atoms.now }
+    requires { All (λ a. IsTrue (has (atoms_of compiled.now) a)) atoms.now }
     ensures { IfOk result (λ lits. lits ≡ map (unshown_literal reasoning compiled.now) atoms.now) }
 {
     let mut lits = Lits::new(alloc);
@@ -81,25 +79,20 @@ fn covering(alloc: Global, compiled: &Compiled, known: &Known) -> Result<Nogood,
     })
 }
 
-// The level at which a variable got its value; 0 where it has none.
-fn level_at(trail: &Trail, var: Var) -> usize
-    requires { IsVar trail.now.vars var }
+// Whichever of the atoms is decided next, the value is tried first that shows something.
+fn prefer_shown<P: Propagator>(
+    state: &mut SearchState<P>,
+    compiled: &Compiled,
+    reasoning: Reasoning,
+    atoms: &[Atom],
+)
+    requires { All (λ a. IsTrue (has (atoms_of compiled.now) a)) atoms.now }
+    ensures { state.new ≡ state.old }
 {
-    match trail.value(var) {
-        None => 0,
-        Some(_) => trail.level_of(var),
+    for atom in atoms {
+        let unshown = unshown_literal(compiled, reasoning, *atom);
+        state.prefer(unshown.var(), !unshown.truth());
     }
-}
-
-// The greatest level of these literals.
-fn top(trail: &Trail, lits: &[Lit]) -> usize
-    requires { All (λ l. IsVar trail.now.vars l.var) lits.now }
-{
-    let mut top = 0;
-    for lit in lits {
-        top = top.max(level_at(trail, lit.var()));
-    }
-    top
 }
 
 // Keeps the nogood that leaves out all that shows nothing beside these answers, and gives its number, for which there is room in the list.
@@ -145,7 +138,8 @@ pub(crate) fn renew<P: Propagator>(
     Ok(())
 }
 
-/// The same where an answer was found, which that nogood leaves out: goes back to where it isn't violated.
+/// The same where an answer was found, which that nogood leaves out: takes all decisions back, and goes
+/// where atoms are shown that it leaves open.
 pub(crate) fn cover<P: Propagator>(
     alloc: Global,
     compiled: &Compiled,
@@ -160,9 +154,9 @@ pub(crate) fn cover<P: Propagator>(
     ensures err { OnErr result ((state.new ≡ state.old) × (blocking.new.items ≡ blocking.old.items)) }
 {
     let id = keep_cover(alloc, compiled, state, blocking, known)?;
-    let top = top(state.trail(), state.store().lits(id));
-    state.undo_to(top.saturating_sub(1));
+    state.undo_to(0);
     drop_all(state, blocking, &[]);
     blocking.push_reserved(id);
+    prefer_shown(state, compiled, known.reasoning(), known.unshown());
     Ok(())
 }

@@ -104,9 +104,9 @@ fn nothing_seen(
     ensures known { IfOk result (λ seen. answers_known [] seen ≡ []) }
     ensures seen { IfOk result (IsSeen (reasoning_of mode) compiled.now) }
 {
-    match mode {
-        Mode::Enum | Mode::Opt => Ok(None),
-        Mode::Consequences(reasoning) => {
+    match mode.reasoning() {
+        None => Ok(None),
+        Some(reasoning) => {
             let known = Known::new(alloc, compiled, reasoning)?;
             Ok(Some(known))
         }

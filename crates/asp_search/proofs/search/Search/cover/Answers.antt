@@ -1,6 +1,7 @@
-use Rattle.std.proofs.Common.{◌≡◌, ℕ, List, Option, ◌++◌, ◌∷◌, sym, ap, ◌∙◌, subst, []}
+use Rattle.std.proofs.Common.{◌≡◌, ℕ, List, Option, IsSome, ◌++◌, ◌∷◌, sym, ap, ◌∙◌, subst, []}
 use Rattle.asp_model.specs.declared.program.Program.{Program}
 use Rattle.asp_model.specs.declared.results.Reasoning.{Reasoning}
+use Rattle.asp_model.specs.Asked.{reasoning_of}
 use Rattle.asp_model.specs.Consequences.{common_sets}
 use Rattle.asp_model.specs.Sets.{Atoms}
 use Rattle.asp_search_laws.specs.Keeping.{IsLast}
@@ -9,10 +10,15 @@ use Rattle.asp_search_laws.specs.Steps.{Answers, covering_nogood}
 use Rattle.asp_search.specs.Blocking.{Covers}
 use Rattle.asp_search.specs.Invariants.{answers_known, view_of}
 use Rattle.asp_search.specs.Stepping.{IsEntered, IsFound}
-use Rattle.asp_search.proofs.CoverLaws.{covered_answer, search_covers, seen_by, seen_with, some_with, still_seen, used_with}
+use Rattle.asp_search.proofs.CoverLaws.{covered_answer, search_covers, seen_by, seen_some, seen_with, some_with, still_seen, used_with}
 use Rattle.asp_search.proofs.StepsLaws.{same_cube}
 use Rattle.asp_vars.specs.Literals.{Literal}
 use Rattle.asp_search.proofs.search.Search.cover.Goals as goal
+
+pub unreachable-requires : goal.unreachable-requires
+unreachable-requires g c =
+    let i = c.self.inside in
+    seen_some i.mode i.compiled.now i.seen c.self.invariant.1 (subst (λ (s : Searching). IsSome (reasoning_of s.mode)) (sym c.self.view_is) c.requires.mode) c.in-None.is
 
 pub cover-requires-clause-program : goal.cover-requires-clause-program
 cover-requires-clause-program g c =
