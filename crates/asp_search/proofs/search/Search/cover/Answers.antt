@@ -43,10 +43,11 @@ invariant_of-self-2 g c =
     let more = seen_with i.mode p x y S sx c.in_ok-known.ensures in
     let K : List Atoms = answers_known i.known.items i.seen in
     let known : K ≡ x.sets = ap (answers_known i.known.items) c.in-Some.is in
-    let sets : y.sets ≡ common_sets y.reasoning p (K ++ S ∷ []) = more.2 ∙ ap (λ (r : Reasoning). common_sets r p (x.sets ++ S ∷ [])) (sym more.1) ∙ ap (λ (L : List Atoms). common_sets y.reasoning p (L ++ S ∷ [])) (sym known) in
-    (search_covers p i.mode y.reasoning i.state c.cover.new.state i.learner i.checker K y.sets i.blocking.items c.cover.new.blocking.items i.bound i.last i.last more.0.reasoning c.in_ok-cover.ensures.ok
-    (used_with y.reasoning p K y.sets S sets) (some_with y.reasoning p K y.sets S sets) (subst (λ (o : Option ℕ). IsLast c.cover.new.state.slots o) (sym entered.last) tt) c.self.invariant.0,
-    still_seen i.mode p y more.0)
+    let sets : y.sets ≡ common_sets y.reasoning p (K ++ S ∷ []) = more.2 ∙ ap (λ (r : Reasoning). common_sets r p (x.sets ++ S ∷ [])) (sym more.1) ∙ ap (λ (L : List Atoms). common_sets y.reasoning p (L ++ S ∷ [])) (sym known) in (
+      search_covers p i.mode y.reasoning i.state c.cover.new.state i.learner i.checker K y.sets i.blocking.items c.cover.new.blocking.items i.bound i.last i.last more.0.reasoning c.in_ok-cover.ensures.ok
+          (used_with y.reasoning p K y.sets S sets) (some_with y.reasoning p K y.sets S sets) (subst (λ (o : Option ℕ). IsLast c.cover.new.state.slots o) (sym entered.last) tt) c.self.invariant.0,
+      still_seen i.mode p y more.0,
+    )
 
 pub returns-clause-ok : goal.returns-clause-ok
 returns-clause-ok g c = λ r f e.
@@ -62,9 +63,9 @@ returns-clause-ok g c = λ r f e.
     let K : List Atoms = answers_known i.known.items i.seen in
     let known : K ≡ x.sets = ap (answers_known i.known.items) c.in-Some.is in
     let sets : y.sets ≡ common_sets y.reasoning i.state.program (K ++ S ∷ []) =
-        more.2 ∙ ap (λ (w : Reasoning). common_sets w p (x.sets ++ S ∷ [])) (sym more.1) ∙ ap (λ (L : List Atoms). common_sets y.reasoning p (L ++ S ∷ [])) (sym known) ∙ ap (λ (z : Program). common_sets y.reasoning z (K ++ S ∷ [])) c.self.invariant.0.program in
+    more.2 ∙ ap (λ (w : Reasoning). common_sets w p (x.sets ++ S ∷ [])) (sym more.1) ∙ ap (λ (L : List Atoms). common_sets y.reasoning p (L ++ S ∷ [])) (sym known) ∙ ap (λ (z : Program). common_sets y.reasoning z (K ++ S ∷ [])) c.self.invariant.0.program in
     let covers : Covers (covering_nogood y.reasoning i.state.program y.sets) i.state c.cover.new.state c.cover.new.blocking.items =
-        subst (λ (z : Program). Covers (covering_nogood y.reasoning z y.sets) i.state c.cover.new.state c.cover.new.blocking.items) c.self.invariant.0.program c.in_ok-cover.ensures.ok in
+    subst (λ (z : Program). Covers (covering_nogood y.reasoning z y.sets) i.state c.cover.new.state c.cover.new.blocking.items) c.self.invariant.0.program c.in_ok-cover.ensures.ok in
     let new : Searching = view_of i.mode c.cover.new.state i.pace y.sets i.last in
     let first = covered_answer (g.P.Propagator.gives i.state.program i.state.bound) i.mode y.reasoning i.state c.cover.new.state i.pace K y.sets i.last q S f c.cover.new.blocking.items more.0.reasoning entered.last found sets covers in
     subst (λ (z : List Literal). Answers (g.P.Propagator.gives c.args.self.now.program c.args.self.now.bound) c.args.self.now new z f f S) (same_cube c.args.self.now.cube q r c.requires.found.1.cube e)
