@@ -92,7 +92,11 @@ fn drop_last<P: Propagator>(
 }
 
 /// Drops those that begin with these literals and are no reasons, from the newest on.
-pub(crate) fn drop_all<P: Propagator>(state: &mut SearchState<P>, blocking: &mut Vec<NogoodId>, lits: &[Lit])
+pub(crate) fn drop_all<P: Propagator>(
+    state: &mut SearchState<P>,
+    blocking: &mut Vec<NogoodId>,
+    lits: &[Lit],
+)
     requires { AreBlocking state.old.slots blocking.old.items }
     ensures same { state.new ≡ record state.old { slots = state.new.slots } }
     ensures drops { (newest : Nogood) (id : ℕ) (first : List (Option StoredNogood)) → newest.lits ≡ lits.now →

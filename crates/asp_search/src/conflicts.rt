@@ -73,9 +73,7 @@ pub(crate) fn conflict<P: Propagator>(
     let decisions = state.decisions()[..top].to_vec(alloc)?;
     let nogood = state.store().lits(id).to_vec(alloc)?;
     let bound = copy_bound(bound)?;
-    Ok(Conflict::of(
-        compiled, cube, decisions, nogood, reasoning, known, bound,
-    ))
+    Ok(Conflict::of(compiled, cube, decisions, nogood, reasoning, known, bound))
 }
 
 /// Keeps what was learnt, and goes back to where it implies the literal.

@@ -96,11 +96,7 @@ impl<'a, P: Propagator> Model for Search<'a, P> {
 }
 
 // No answer, where consequences are sought.
-fn nothing_seen(
-    alloc: Global,
-    compiled: &Compiled,
-    mode: Mode,
-) -> Result<Option<Known>, AllocError>
+fn nothing_seen(alloc: Global, compiled: &Compiled, mode: Mode) -> Result<Option<Known>, AllocError>
     ensures known { IfOk result (λ seen. answers_known [] seen ≡ []) }
     ensures seen { IfOk result (IsSeen (reasoning_of mode) compiled.now) }
 {
@@ -261,7 +257,13 @@ impl<'a, P: Propagator> Search<'a, P> {
         ensures ok { OnOk result (Adopts self.old self.new known.sets) }
         ensures err { OnErr result (Leaves self.old self.new) }
     {
-        match renew(self.alloc, self.compiled, &mut self.state, &mut self.blocking, &known) {
+        match renew(
+            self.alloc,
+            self.compiled,
+            &mut self.state,
+            &mut self.blocking,
+            &known,
+        ) {
             Ok(()) => {
                 self.seen = Some(known);
                 self.last = None;
@@ -276,11 +278,16 @@ impl<'a, P: Propagator> Search<'a, P> {
 
     /// How many atoms there are of which no answer known shows what can be shown, where consequences are sought; none where no
     /// answer is known.
-    pub fn unshown_atoms(&self) -> Option<usize>
-    {
+    pub fn unshown_atoms(&self) -> Option<usize> {
         match &self.seen {
             None => None,
-            Some(seen) => { if seen.is_some() { Some(seen.unshown().len()) } else { None } }
+            Some(seen) => {
+                if seen.is_some() {
+                    Some(seen.unshown().len())
+                } else {
+                    None
+                }
+            }
         }
     }
 

@@ -218,7 +218,13 @@ impl<'a, P: Propagator> Search<'a, P> {
             None => unreachable!(),
             Some(seen) => seen.with(interp)?,
         };
-        cover(self.alloc, self.compiled, &mut self.state, &mut self.blocking, &known)?;
+        cover(
+            self.alloc,
+            self.compiled,
+            &mut self.state,
+            &mut self.blocking,
+            &known,
+        )?;
         self.seen = Some(known);
         Ok(())
     }

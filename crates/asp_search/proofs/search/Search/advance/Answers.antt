@@ -26,10 +26,12 @@ pub invariant_of-self-in_err-met : goal.invariant_of-self-in_err-met
 invariant_of-self-in_err-met g c =
     let i = c.self.inside in
     let t = i.state in
-    let sound : IsSound t.program = subst IsSound c.self.invariant.0.program c.program-program.ensures.sound in
-    (search_told i.compiled.now i.mode t c.propagate.new.self i.learner i.checker (used_in i.compiled.now i.mode i.known.items i.seen) i.blocking.items i.bound i.last (g.P.Propagator.gives t.program t.bound)
-    (ap (λ (x : SearchView). x.program) c.propagate.ensures.same) (ap (λ (x : SearchView). x.bound) c.propagate.ensures.same)
-    (λ n h. g.met.P.Propagator.sound t.program t.bound n (used_in i.compiled.now i.mode i.known.items i.seen) sound h) c.propagate.ensures.adds c.self.invariant.0, c.self.invariant.1)
+    let sound : IsSound t.program = subst IsSound c.self.invariant.0.program c.program-program.ensures.sound in (
+      search_told i.compiled.now i.mode t c.propagate.new.self i.learner i.checker (used_in i.compiled.now i.mode i.known.items i.seen) i.blocking.items i.bound i.last (g.P.Propagator.gives t.program t.bound)
+          (ap (λ (x : SearchView). x.program) c.propagate.ensures.same) (ap (λ (x : SearchView). x.bound) c.propagate.ensures.same)
+          (λ n h. g.met.P.Propagator.sound t.program t.bound n (used_in i.compiled.now i.mode i.known.items i.seen) sound h) c.propagate.ensures.adds c.self.invariant.0,
+      c.self.invariant.1,
+    )
 
 pub returns-in_err-met-clause-err : goal.returns-in_err-met-clause-err
 returns-in_err-met-clause-err g c =
@@ -51,10 +53,12 @@ pub invariant_of-self-in-Some : goal.invariant_of-self-in-Some
 invariant_of-self-in-Some g c =
     let i = c.self.inside in
     let t = i.state in
-    let sound : IsSound t.program = subst IsSound c.self.invariant.0.program c.program-program.ensures.sound in
-    (search_told i.compiled.now i.mode t c.propagate.new.self i.learner i.checker (used_in i.compiled.now i.mode i.known.items i.seen) i.blocking.items i.bound i.last (g.P.Propagator.gives t.program t.bound)
-    (ap (λ (x : SearchView). x.program) c.propagate.ensures.same) (ap (λ (x : SearchView). x.bound) c.propagate.ensures.same)
-    (λ n h. g.met.P.Propagator.sound t.program t.bound n (used_in i.compiled.now i.mode i.known.items i.seen) sound h) c.propagate.ensures.adds c.self.invariant.0, c.self.invariant.1)
+    let sound : IsSound t.program = subst IsSound c.self.invariant.0.program c.program-program.ensures.sound in (
+      search_told i.compiled.now i.mode t c.propagate.new.self i.learner i.checker (used_in i.compiled.now i.mode i.known.items i.seen) i.blocking.items i.bound i.last (g.P.Propagator.gives t.program t.bound)
+          (ap (λ (x : SearchView). x.program) c.propagate.ensures.same) (ap (λ (x : SearchView). x.bound) c.propagate.ensures.same)
+          (λ n h. g.met.P.Propagator.sound t.program t.bound n (used_in i.compiled.now i.mode i.known.items i.seen) sound h) c.propagate.ensures.adds c.self.invariant.0,
+      c.self.invariant.1,
+    )
 
 pub meet-requires-clause-entered : goal.meet-requires-clause-entered
 meet-requires-clause-entered g c =
@@ -73,10 +77,12 @@ pub invariant_of-self-in-None : goal.invariant_of-self-in-None
 invariant_of-self-in-None g c =
     let i = c.self.inside in
     let t = i.state in
-    let sound : IsSound t.program = subst IsSound c.self.invariant.0.program c.program-program.ensures.sound in
-    (search_told i.compiled.now i.mode t c.propagate.new.self i.learner i.checker (used_in i.compiled.now i.mode i.known.items i.seen) i.blocking.items i.bound i.last (g.P.Propagator.gives t.program t.bound)
-    (ap (λ (x : SearchView). x.program) c.propagate.ensures.same) (ap (λ (x : SearchView). x.bound) c.propagate.ensures.same)
-    (λ n h. g.met.P.Propagator.sound t.program t.bound n (used_in i.compiled.now i.mode i.known.items i.seen) sound h) c.propagate.ensures.adds c.self.invariant.0, c.self.invariant.1)
+    let sound : IsSound t.program = subst IsSound c.self.invariant.0.program c.program-program.ensures.sound in (
+      search_told i.compiled.now i.mode t c.propagate.new.self i.learner i.checker (used_in i.compiled.now i.mode i.known.items i.seen) i.blocking.items i.bound i.last (g.P.Propagator.gives t.program t.bound)
+          (ap (λ (x : SearchView). x.program) c.propagate.ensures.same) (ap (λ (x : SearchView). x.bound) c.propagate.ensures.same)
+          (λ n h. g.met.P.Propagator.sound t.program t.bound n (used_in i.compiled.now i.mode i.known.items i.seen) sound h) c.propagate.ensures.adds c.self.invariant.0,
+      c.self.invariant.1,
+    )
 
 pub go_on-requires-clause-entered : goal.go_on-requires-clause-entered
 go_on-requires-clause-entered g c =

@@ -134,11 +134,13 @@ invariant_of-self-in-Some g c =
     c.in_ok-fault.ensures.fault in
     let fault : IsFault t.program (g.P.Propagator.gives t.program t.bound) (var_count t.program) t.entries n =
     subst (λ (x : Program). IsFault x (g.P.Propagator.gives x t.bound) (var_count x) t.entries n) c.self.invariant.0.program verdict in
-    let a = c.in_ok-id-in-Some.ensures.ok in
-    (search_added p i.mode t u i.learner c.fault.new.checker (used_in i.compiled.now i.mode i.known.items i.seen) i.blocking.items i.bound i.last i.last _ n kind.Given (ap (λ (x : SearchView). x.program) e) (ap (λ (x : SearchView). x.bound) e) a
-    (fault_useful t.program (used_in i.compiled.now i.mode i.known.items i.seen) t.bound (g.P.Propagator.gives t.program t.bound) (var_count t.program) t.entries n fault)
-    (added_last t.slots u.slots _ n kind.Given i.last a c.self.invariant.0.last_stands)
-    (search_checked p i.mode t i.learner i.checker c.fault.new.checker (used_in i.compiled.now i.mode i.known.items i.seen) i.blocking.items i.bound i.last c.fault.ensures.same c.self.invariant.0), c.self.invariant.1)
+    let a = c.in_ok-id-in-Some.ensures.ok in (
+      search_added p i.mode t u i.learner c.fault.new.checker (used_in i.compiled.now i.mode i.known.items i.seen) i.blocking.items i.bound i.last i.last _ n kind.Given (ap (λ (x : SearchView). x.program) e) (ap (λ (x : SearchView). x.bound) e) a
+          (fault_useful t.program (used_in i.compiled.now i.mode i.known.items i.seen) t.bound (g.P.Propagator.gives t.program t.bound) (var_count t.program) t.entries n fault)
+          (added_last t.slots u.slots _ n kind.Given i.last a c.self.invariant.0.last_stands)
+          (search_checked p i.mode t i.learner i.checker c.fault.new.checker (used_in i.compiled.now i.mode i.known.items i.seen) i.blocking.items i.bound i.last c.fault.ensures.same c.self.invariant.0),
+      c.self.invariant.1,
+    )
 
 pub returns-in_ok-answer-in-None-clause-ok : goal.returns-in_ok-answer-in-None-clause-ok
 returns-in_ok-answer-in-None-clause-ok g c = λ q e.

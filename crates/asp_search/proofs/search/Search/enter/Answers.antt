@@ -7,13 +7,17 @@ use Rattle.asp_search.proofs.search.Search.enter.Goals as goal
 pub invariant_of-self : goal.invariant_of-self
 invariant_of-self g c =
     let i = c.self.inside in
-    let e = c.enter.ensures.same in
-    (search_same i.compiled.now i.mode i.state c.enter.new.self i.learner i.checker (used_in i.compiled.now i.mode i.known.items i.seen) i.blocking.items i.bound i.last None (ap (λ (x : SearchView). x.program) e)
-    (ap (λ (x : SearchView). x.bound) e) (ap (λ (x : SearchView). x.slots) e) tt c.self.invariant.0, c.self.invariant.1)
+    let e = c.enter.ensures.same in (
+      search_same i.compiled.now i.mode i.state c.enter.new.self i.learner i.checker (used_in i.compiled.now i.mode i.known.items i.seen) i.blocking.items i.bound i.last None (ap (λ (x : SearchView). x.program) e)
+          (ap (λ (x : SearchView). x.bound) e) (ap (λ (x : SearchView). x.slots) e) tt c.self.invariant.0,
+      c.self.invariant.1,
+    )
 
 pub invariant_of-self-2 : goal.invariant_of-self-2
 invariant_of-self-2 g c =
     let i = c.self.inside in
-    let e = c.enter.ensures.same in
-    (search_same i.compiled.now i.mode i.state c.enter.new.self i.learner i.checker (used_in i.compiled.now i.mode i.known.items i.seen) i.blocking.items i.bound i.last None (ap (λ (x : SearchView). x.program) e)
-    (ap (λ (x : SearchView). x.bound) e) (ap (λ (x : SearchView). x.slots) e) tt c.self.invariant.0, c.self.invariant.1)
+    let e = c.enter.ensures.same in (
+      search_same i.compiled.now i.mode i.state c.enter.new.self i.learner i.checker (used_in i.compiled.now i.mode i.known.items i.seen) i.blocking.items i.bound i.last None (ap (λ (x : SearchView). x.program) e)
+          (ap (λ (x : SearchView). x.bound) e) (ap (λ (x : SearchView). x.slots) e) tt c.self.invariant.0,
+      c.self.invariant.1,
+    )

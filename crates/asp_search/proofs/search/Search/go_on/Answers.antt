@@ -40,16 +40,20 @@ returns-in_err-decide-clause-err g c =
 pub invariant_of-self-in-Some : goal.invariant_of-self-in-Some
 invariant_of-self-in-Some g c =
     let i = c.self.inside in
-    let e = c.in_ok-decide.ensures.same in
-    (search_stays i.compiled.now i.mode i.state c.decide.new.self i.learner i.checker (used_in i.compiled.now i.mode i.known.items i.seen) i.blocking.items i.bound i.last (ap (λ (x : SearchView). x.program) e)
-    (ap (λ (x : SearchView). x.bound) e) (ap (λ (x : SearchView). x.slots) e) c.self.invariant.0, c.self.invariant.1)
+    let e = c.in_ok-decide.ensures.same in (
+      search_stays i.compiled.now i.mode i.state c.decide.new.self i.learner i.checker (used_in i.compiled.now i.mode i.known.items i.seen) i.blocking.items i.bound i.last (ap (λ (x : SearchView). x.program) e)
+          (ap (λ (x : SearchView). x.bound) e) (ap (λ (x : SearchView). x.slots) e) c.self.invariant.0,
+      c.self.invariant.1,
+    )
 
 pub invariant_of-self-in-None : goal.invariant_of-self-in-None
 invariant_of-self-in-None g c =
     let i = c.self.inside in
-    let e = c.in_ok-decide.ensures.same in
-    (search_stays i.compiled.now i.mode i.state c.decide.new.self i.learner i.checker (used_in i.compiled.now i.mode i.known.items i.seen) i.blocking.items i.bound i.last (ap (λ (x : SearchView). x.program) e)
-    (ap (λ (x : SearchView). x.bound) e) (ap (λ (x : SearchView). x.slots) e) c.self.invariant.0, c.self.invariant.1)
+    let e = c.in_ok-decide.ensures.same in (
+      search_stays i.compiled.now i.mode i.state c.decide.new.self i.learner i.checker (used_in i.compiled.now i.mode i.known.items i.seen) i.blocking.items i.bound i.last (ap (λ (x : SearchView). x.program) e)
+          (ap (λ (x : SearchView). x.bound) e) (ap (λ (x : SearchView). x.slots) e) c.self.invariant.0,
+      c.self.invariant.1,
+    )
 
 pub returns-in-Some-clause-ok : goal.returns-in-Some-clause-ok
 returns-in-Some-clause-ok g c = λ q e.

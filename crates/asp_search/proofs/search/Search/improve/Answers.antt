@@ -22,11 +22,13 @@ invariant_of-self g c =
     let undo = c.undo_to.ensures.same in
     let set = c.set_bound.ensures in
     let is : c.in_ok-cost.cost ≡ cost i.state.program c.args.interp.now =
-    c.in_ok-cost.ensures ∙ ap (λ (x : Program). cost x c.args.interp.now) (c.program.ensures.program ∙ c.self.invariant.0.program) in
-    (search_lower i.compiled.now i.mode i.state c.undo_to.new.self i.learner i.checker (used_in i.compiled.now i.mode i.known.items i.seen) i.blocking.items i.bound c.in_ok-cost.cost i.last
-    (ap (λ (x : SearchView). x.program) undo ∙ ap (λ (x : SearchView). x.program) set)
-    (ap (λ (x : SearchView). x.bound) undo ∙ (ap (λ (x : SearchView). x.bound) set ∙ ap (λ (x : List ℤ). Some x) c.in_ok-copy.ensures))
-    (ap (λ (x : SearchView). x.slots) undo ∙ ap (λ (x : SearchView). x.slots) set) (subst (λ (x : List ℤ). IsSmaller x i.state.bound) (sym is) found.cheaper) c.self.invariant.0, c.self.invariant.1)
+    c.in_ok-cost.ensures ∙ ap (λ (x : Program). cost x c.args.interp.now) (c.program.ensures.program ∙ c.self.invariant.0.program) in (
+      search_lower i.compiled.now i.mode i.state c.undo_to.new.self i.learner i.checker (used_in i.compiled.now i.mode i.known.items i.seen) i.blocking.items i.bound c.in_ok-cost.cost i.last
+          (ap (λ (x : SearchView). x.program) undo ∙ ap (λ (x : SearchView). x.program) set)
+          (ap (λ (x : SearchView). x.bound) undo ∙ (ap (λ (x : SearchView). x.bound) set ∙ ap (λ (x : List ℤ). Some x) c.in_ok-copy.ensures))
+          (ap (λ (x : SearchView). x.slots) undo ∙ ap (λ (x : SearchView). x.slots) set) (subst (λ (x : List ℤ). IsSmaller x i.state.bound) (sym is) found.cheaper) c.self.invariant.0,
+      c.self.invariant.1,
+    )
 
 pub returns-clause-ok : goal.returns-clause-ok
 returns-clause-ok g c = λ r f e.

@@ -25,9 +25,11 @@ invariant_of-self-2 g c =
     c.thin.ensures.same c.thin.ensures.reduced in
     let K = used_in i.compiled.now i.mode i.known.items i.seen in
     let used : used_in i.compiled.now i.mode c.push_reserved.new.self.items i.seen ≡ K ++ c.args.interp.now ∷ [] =
-    used_more i.mode i.compiled.now i.seen i.known.items c.push_reserved.new.self.items c.args.interp.now c.self.invariant.1 enum more in
-    (search_listed i.compiled.now i.mode i.state c.thin.new.state i.learner i.checker K (used_in i.compiled.now i.mode c.push_reserved.new.self.items i.seen) c.in_ok-id.id i.blocking.items c.block.new.blocking.items i.bound i.last q c.args.interp.now
-    enum entered.last used (settled_for i.compiled.now i.state i.mode (answers_known i.known.items i.seen) c.args.interp.now (q ++ i.state.decisions) c.self.invariant.0.program found.settled) found.hit blocks c.self.invariant.0, c.self.invariant.1)
+    used_more i.mode i.compiled.now i.seen i.known.items c.push_reserved.new.self.items c.args.interp.now c.self.invariant.1 enum more in (
+      search_listed i.compiled.now i.mode i.state c.thin.new.state i.learner i.checker K (used_in i.compiled.now i.mode c.push_reserved.new.self.items i.seen) c.in_ok-id.id i.blocking.items c.block.new.blocking.items i.bound i.last q c.args.interp.now
+          enum entered.last used (settled_for i.compiled.now i.state i.mode (answers_known i.known.items i.seen) c.args.interp.now (q ++ i.state.decisions) c.self.invariant.0.program found.settled) found.hit blocks c.self.invariant.0,
+      c.self.invariant.1,
+    )
 
 pub returns-clause-ok : goal.returns-clause-ok
 returns-clause-ok g c = λ r f e.

@@ -9,7 +9,9 @@ pub invariant_of-self : goal.invariant_of-self
 invariant_of-self g c =
     let i = c.self.inside in
     let same = c.thin.ensures.same in
-    let none : i.last ≡ None = ap (λ (s : Searching). s.last) c.self.view_is ∙ c.requires.last in
-    (subst (λ (x : Option ℕ). IsSearch i.compiled.now i.mode c.thin.new.state i.learner i.checker (used_in i.compiled.now i.mode i.known.items i.seen) i.blocking.items i.bound x) (sym none)
-    (search_reduced i.compiled.now i.mode i.state c.thin.new.state i.learner i.checker (used_in i.compiled.now i.mode i.known.items i.seen) i.blocking.items i.bound i.last i.state.entries
-    (ap (λ (x : SearchView). x.program) same) (ap (λ (x : SearchView). x.bound) same) c.thin.ensures.reduced c.self.invariant.0), c.self.invariant.1)
+    let none : i.last ≡ None = ap (λ (s : Searching). s.last) c.self.view_is ∙ c.requires.last in (
+      subst (λ (x : Option ℕ). IsSearch i.compiled.now i.mode c.thin.new.state i.learner i.checker (used_in i.compiled.now i.mode i.known.items i.seen) i.blocking.items i.bound x) (sym none)
+          (search_reduced i.compiled.now i.mode i.state c.thin.new.state i.learner i.checker (used_in i.compiled.now i.mode i.known.items i.seen) i.blocking.items i.bound i.last i.state.entries
+          (ap (λ (x : SearchView). x.program) same) (ap (λ (x : SearchView). x.bound) same) c.thin.ensures.reduced c.self.invariant.0),
+      c.self.invariant.1,
+    )

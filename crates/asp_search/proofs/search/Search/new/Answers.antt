@@ -19,11 +19,12 @@ invariant_of-result g c =
     search_begins p c.args.mode t c.in_ok-learner.learner c.in_ok-checker.checker c.program-program.ensures.sound (c.in_ok-learner.ensures ∙ c.vars-vars.ensures.count) c.in_ok-checker.ensures
     c.in_ok-state.ensures.slots e in
     let seen = c.in_ok-seen.seen in
-    let none : used_in p c.args.mode [] seen ≡ [] = ap (used_up (reasoning_of c.args.mode) p) c.in_ok-seen.ensures.known ∙ none_used (reasoning_of c.args.mode) p in
-    (subst (λ (ks : List Atoms). IsSearch p c.args.mode t c.in_ok-learner.learner c.in_ok-checker.checker (used_in p c.args.mode ks seen) c.new-8.result.items None None) (sym c.new-7.ensures.items)
-    (subst (λ (blocking : List ℕ). IsSearch p c.args.mode t c.in_ok-learner.learner c.in_ok-checker.checker (used_in p c.args.mode [] seen) blocking None None) (sym c.new-8.ensures.items)
-    (subst (λ (ks : List Atoms). IsSearch p c.args.mode t c.in_ok-learner.learner c.in_ok-checker.checker ks [] None None) (sym none) first)),
-    c.in_ok-seen.ensures.seen)
+    let none : used_in p c.args.mode [] seen ≡ [] = ap (used_up (reasoning_of c.args.mode) p) c.in_ok-seen.ensures.known ∙ none_used (reasoning_of c.args.mode) p in (
+      subst (λ (ks : List Atoms). IsSearch p c.args.mode t c.in_ok-learner.learner c.in_ok-checker.checker (used_in p c.args.mode ks seen) c.new-8.result.items None None) (sym c.new-7.ensures.items)
+          (subst (λ (blocking : List ℕ). IsSearch p c.args.mode t c.in_ok-learner.learner c.in_ok-checker.checker (used_in p c.args.mode [] seen) blocking None None) (sym c.new-8.ensures.items)
+          (subst (λ (ks : List Atoms). IsSearch p c.args.mode t c.in_ok-learner.learner c.in_ok-checker.checker ks [] None None) (sym none) first)),
+      c.in_ok-seen.ensures.seen,
+    )
 
 pub returns-clause-same : goal.returns-clause-same
 returns-clause-same g c =

@@ -19,9 +19,12 @@ pub conflict-requires : goal.conflict-requires
 conflict-requires g c =
     let i = c.self.inside in
     let q = c.requires.met.0 in
-    let m = subst (λ (s : Searching). IsMet s q c.args.id (learned.Jump c.args.nogood c.args.to c.args.lit)) (sym c.self.view_is) c.requires.met.1 in
-    (answers_known i.known.items i.seen, sym c.known_count.ensures, shows_for i.compiled.now c.reasoning.result (reasoning_of i.mode) (answers_known i.known.items i.seen) (answers_known i.known.items i.seen) i.bound i.state c.args.id c.args.lit c.self.invariant.0.program c.reasoning.ensures refl c.self.invariant.0.bounded
-    (met_shows i.mode i.state i.pace (answers_known i.known.items i.seen) i.last q c.args.id c.args.nogood c.args.to c.args.lit m))
+    let m = subst (λ (s : Searching). IsMet s q c.args.id (learned.Jump c.args.nogood c.args.to c.args.lit)) (sym c.self.view_is) c.requires.met.1 in (
+      answers_known i.known.items i.seen,
+      sym c.known_count.ensures,
+      shows_for i.compiled.now c.reasoning.result (reasoning_of i.mode) (answers_known i.known.items i.seen) (answers_known i.known.items i.seen) i.bound i.state c.args.id c.args.lit c.self.invariant.0.program c.reasoning.ensures refl c.self.invariant.0.bounded
+          (met_shows i.mode i.state i.pace (answers_known i.known.items i.seen) i.last q c.args.id c.args.nogood c.args.to c.args.lit m),
+    )
 
 pub burn-requires-clause-program : goal.burn-requires-clause-program
 burn-requires-clause-program g c =
@@ -81,9 +84,11 @@ returns-then-left-eq0-clause-ok g c = λ r e.
 pub invariant_of-self : goal.invariant_of-self
 invariant_of-self g c =
     let i = c.self.inside in
-    let e = c.in_err-new.ensures.err in
-    (search_stays i.compiled.now i.mode i.state c.jump.new.state i.learner i.checker (used_in i.compiled.now i.mode i.known.items i.seen) i.blocking.items i.bound i.last (ap (λ (x : SearchView). x.program) e)
-    (ap (λ (x : SearchView). x.bound) e) (ap (λ (x : SearchView). x.slots) e) c.self.invariant.0, c.self.invariant.1)
+    let e = c.in_err-new.ensures.err in (
+      search_stays i.compiled.now i.mode i.state c.jump.new.state i.learner i.checker (used_in i.compiled.now i.mode i.known.items i.seen) i.blocking.items i.bound i.last (ap (λ (x : SearchView). x.program) e)
+          (ap (λ (x : SearchView). x.bound) e) (ap (λ (x : SearchView). x.slots) e) c.self.invariant.0,
+      c.self.invariant.1,
+    )
 
 pub returns-in_err-new-clause-err : goal.returns-in_err-new-clause-err
 returns-in_err-new-clause-err g c =
@@ -120,10 +125,12 @@ invariant_of-self-2 g c =
     let last = newest_last i.state.slots u.slots new c.args.nogood kind.Learnt c.in_ok-new.ensures.added in
     let added = search_added i.compiled.now i.mode i.state u i.learner i.checker (used_in i.compiled.now i.mode i.known.items i.seen) i.blocking.items i.bound i.last (Some new) new c.args.nogood kind.Learnt
     (ap (λ (x : SearchView). x.program) e) (ap (λ (x : SearchView). x.bound) e) c.in_ok-new.ensures.added
-    (useful_for i.compiled.now i.state i.mode (answers_known i.known.items i.seen) c.args.nogood c.self.invariant.0.program (met_useful i.mode i.state i.pace (answers_known i.known.items i.seen) i.last q c.args.id (learned.Jump c.args.nogood c.args.to c.args.lit) m)) last c.self.invariant.0 in
-    (search_thinned i.compiled.now i.mode u w i.learner i.checker (used_in i.compiled.now i.mode i.known.items i.seen) i.blocking.items i.bound (Some new) (Some new) u.entries
-    (ap (λ (x : SearchView). x.program) c.sweep.ensures.same) (ap (λ (x : SearchView). x.bound) c.sweep.ensures.same) c.sweep.ensures.reduced
-    (last_named u.slots w.slots new (jumped_named i.state u w.slots c.args.to new c.args.lit (ap (λ (x : SearchView). x.entries) e) c.sweep.ensures.reduced) last) added, c.self.invariant.1)
+    (useful_for i.compiled.now i.state i.mode (answers_known i.known.items i.seen) c.args.nogood c.self.invariant.0.program (met_useful i.mode i.state i.pace (answers_known i.known.items i.seen) i.last q c.args.id (learned.Jump c.args.nogood c.args.to c.args.lit) m)) last c.self.invariant.0 in (
+      search_thinned i.compiled.now i.mode u w i.learner i.checker (used_in i.compiled.now i.mode i.known.items i.seen) i.blocking.items i.bound (Some new) (Some new) u.entries
+          (ap (λ (x : SearchView). x.program) c.sweep.ensures.same) (ap (λ (x : SearchView). x.bound) c.sweep.ensures.same) c.sweep.ensures.reduced
+          (last_named u.slots w.slots new (jumped_named i.state u w.slots c.args.to new c.args.lit (ap (λ (x : SearchView). x.entries) e) c.sweep.ensures.reduced) last) added,
+      c.self.invariant.1,
+    )
 
 pub returns-clause-ok : goal.returns-clause-ok
 returns-clause-ok g c = λ r e.

@@ -34,10 +34,11 @@ invariant_of-self g c =
     let program : x.program ≡ p = c.requires.program ∙ sym (ap (λ (s : Searching). s.program) c.self.view_is) ∙ sym c.self.invariant.0.program in
     let sought : reasoning_of i.mode ≡ Some r = ap (λ (s : Searching). reasoning_of s.mode) c.self.view_is ∙ sym c.requires.reasoning in
     let less : IsSubset (unshown r p x.sets) (unshown r p K) =
-        subst (λ (q : Program). IsSubset (unshown r q x.sets) (unshown r q K)) program
-        (subst (λ (s : Searching). IsSubset (unshown r x.program x.sets) (unshown r x.program s.known)) (sym c.self.view_is) c.requires.all) in
-    (search_covers p i.mode r i.state c.renew.new.state i.learner i.checker K x.sets i.blocking.items c.renew.new.blocking.items i.bound i.last None sought c.in-Ok.ensures.ok (used-less r p K x.sets less c.requires.some) c.requires.some tt c.self.invariant.0,
-    still_seen i.mode p x (record { program = program; reasoning = sought }))
+    subst (λ (q : Program). IsSubset (unshown r q x.sets) (unshown r q K)) program
+    (subst (λ (s : Searching). IsSubset (unshown r x.program x.sets) (unshown r x.program s.known)) (sym c.self.view_is) c.requires.all) in (
+      search_covers p i.mode r i.state c.renew.new.state i.learner i.checker K x.sets i.blocking.items c.renew.new.blocking.items i.bound i.last None sought c.in-Ok.ensures.ok (used-less r p K x.sets less c.requires.some) c.requires.some tt c.self.invariant.0,
+      still_seen i.mode p x (record { program = program; reasoning = sought }),
+    )
 
 pub returns-in-Ok-clause-ok : goal.returns-in-Ok-clause-ok
 returns-in-Ok-clause-ok g c =
@@ -48,10 +49,12 @@ returns-in-Ok-clause-ok g c =
     (adopted i.mode x.reasoning i.state c.renew.new.state i.pace (answers_known i.known.items i.seen) x.sets i.last c.renew.new.blocking.items sought c.renew.ensures.same
     (subst (λ (q : Program). Covers (covering_nogood x.reasoning q x.sets) i.state c.renew.new.state c.renew.new.blocking.items) c.self.invariant.0.program c.in-Ok.ensures.ok))
 
-pub invariant_of-self-2 : goal.invariant_of-self-2
-invariant_of-self-2 g c =
+pub invariant_of-self-in-Err : goal.invariant_of-self-in-Err
+invariant_of-self-in-Err g c =
     let i = c.self.inside in
-    let e = c.in-Err.ensures.err.0 in
-    (subst (λ (ids : List ℕ). IsSearch i.compiled.now i.mode c.renew.new.state i.learner i.checker (used_in i.compiled.now i.mode i.known.items i.seen) ids i.bound i.last) (sym c.in-Err.ensures.err.1)
-    (search_stays i.compiled.now i.mode i.state c.renew.new.state i.learner i.checker (used_in i.compiled.now i.mode i.known.items i.seen) i.blocking.items i.bound i.last
-    (ap (λ (y : SearchView). y.program) e) (ap (λ (y : SearchView). y.bound) e) (ap (λ (y : SearchView). y.slots) e) c.self.invariant.0), c.self.invariant.1)
+    let e = c.in-Err.ensures.err.0 in (
+      subst (λ (ids : List ℕ). IsSearch i.compiled.now i.mode c.renew.new.state i.learner i.checker (used_in i.compiled.now i.mode i.known.items i.seen) ids i.bound i.last) (sym c.in-Err.ensures.err.1)
+          (search_stays i.compiled.now i.mode i.state c.renew.new.state i.learner i.checker (used_in i.compiled.now i.mode i.known.items i.seen) i.blocking.items i.bound i.last
+          (ap (λ (y : SearchView). y.program) e) (ap (λ (y : SearchView). y.bound) e) (ap (λ (y : SearchView). y.slots) e) c.self.invariant.0),
+      c.self.invariant.1,
+    )
