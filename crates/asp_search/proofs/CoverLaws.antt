@@ -126,11 +126,11 @@ useful_among p K L bound n among u = record { good = base_among p K L bound n.ba
 -- ---- what it leaves out
 each_covered : (r : Reasoning) (p : Program) (K : List Atoms) (slots : List (Option StoredNogood)) → ((S : Atoms) → covers r p K S ≡ true → IsExcluded p slots S) → (M : List Atoms) → AreExcluded p slots (filter (covers r p K) M)
 each_covered r p K slots out [] = tt
-each_covered r p K slots out (S ∷ M) = cases (covers r p K S) refl
+each_covered r p K slots out (S ∷ M) = cases (covers r p K S) refl (each_covered r p K slots out M)
   where
-    cases : (t : Bool) → covers r p K S ≡ t → AreExcluded p slots (cond t (S ∷ filter (covers r p K) M) (filter (covers r p K) M))
-    cases true e = (out S e, each_covered r p K slots out M)
-    cases false e = each_covered r p K slots out M
+    cases : (t : Bool) → covers r p K S ≡ t → AreExcluded p slots (filter (covers r p K) M) → AreExcluded p slots (cond t (S ∷ filter (covers r p K) M) (filter (covers r p K) M))
+    cases true e rest = (out S e, rest)
+    cases false e rest = rest
 
 -- ---- the mode
 none_sought : (r : Reasoning) → None ≡ Some r → ⊥

@@ -23,7 +23,7 @@ unreachable-requires g c =
 pub cover-requires-clause-program : goal.cover-requires-clause-program
 cover-requires-clause-program g c =
     let i = c.self.inside in
-    (seen_with i.mode i.compiled.now c.in-Some.seen c.in_ok-known.known c.args.interp.now (seen_by i.mode i.compiled.now i.seen c.in-Some.seen c.self.invariant.1 c.in-Some.is) c.in_ok-known.ensures).0.program
+    (seen_with i.mode i.compiled.now c.in-Some.seen c.in_ok-known-in-Some.known c.args.interp.now (seen_by i.mode i.compiled.now i.seen c.in-Some.seen c.self.invariant.1 c.in-Some.is) c.in_ok-known-in-Some.ensures).0.program
 
 pub cover-requires-clause-counted : goal.cover-requires-clause-counted
 cover-requires-clause-counted g c = c.self.invariant.0.program
@@ -36,11 +36,11 @@ invariant_of-self-2 g c =
     let i = c.self.inside in
     let p : Program = i.compiled.now in
     let x = c.in-Some.seen in
-    let y = c.in_ok-known.known in
+    let y = c.in_ok-known-in-Some.known in
     let S : Atoms = c.args.interp.now in
     let entered = subst (λ (s : Searching). IsEntered s c.requires.found.0) (sym c.self.view_is) c.requires.found.1 in
     let sx = seen_by i.mode p i.seen x c.self.invariant.1 c.in-Some.is in
-    let more = seen_with i.mode p x y S sx c.in_ok-known.ensures in
+    let more = seen_with i.mode p x y S sx c.in_ok-known-in-Some.ensures in
     let K : List Atoms = answers_known i.known.items i.seen in
     let known : K ≡ x.sets = ap (answers_known i.known.items) c.in-Some.is in
     let sets : y.sets ≡ common_sets y.reasoning p (K ++ S ∷ []) = more.2 ∙ ap (λ (r : Reasoning). common_sets r p (x.sets ++ S ∷ [])) (sym more.1) ∙ ap (λ (L : List Atoms). common_sets y.reasoning p (L ++ S ∷ [])) (sym known) in (
@@ -55,11 +55,11 @@ returns-clause-ok g c = λ r f e.
     let q = c.requires.found.0 in
     let p : Program = i.compiled.now in
     let x = c.in-Some.seen in
-    let y = c.in_ok-known.known in
+    let y = c.in_ok-known-in-Some.known in
     let S : Atoms = c.args.interp.now in
     let entered = subst (λ (s : Searching). IsEntered s q) (sym c.self.view_is) c.requires.found.1 in
     let found = subst (λ (s : Searching). IsFound s q S) (sym c.self.view_is) c.requires.found.2 in
-    let more = seen_with i.mode p x y S (seen_by i.mode p i.seen x c.self.invariant.1 c.in-Some.is) c.in_ok-known.ensures in
+    let more = seen_with i.mode p x y S (seen_by i.mode p i.seen x c.self.invariant.1 c.in-Some.is) c.in_ok-known-in-Some.ensures in
     let K : List Atoms = answers_known i.known.items i.seen in
     let known : K ≡ x.sets = ap (answers_known i.known.items) c.in-Some.is in
     let sets : y.sets ≡ common_sets y.reasoning i.state.program (K ++ S ∷ []) =

@@ -49,8 +49,8 @@ returns-in-Ok-clause-ok g c =
     (adopted i.mode x.reasoning i.state c.renew.new.state i.pace (answers_known i.known.items i.seen) x.sets i.last c.renew.new.blocking.items sought c.renew.ensures.same
     (subst (λ (q : Program). Covers (covering_nogood x.reasoning q x.sets) i.state c.renew.new.state c.renew.new.blocking.items) c.self.invariant.0.program c.in-Ok.ensures.ok))
 
-pub invariant_of-self-2 : goal.invariant_of-self-2
-invariant_of-self-2 g c =
+pub invariant_of-self-in-Err : goal.invariant_of-self-in-Err
+invariant_of-self-in-Err g c =
     let i = c.self.inside in
     let e = c.in-Err.ensures.err.0 in (
       subst (λ (ids : List ℕ). IsSearch i.compiled.now i.mode c.renew.new.state i.learner i.checker (used_in i.compiled.now i.mode i.known.items i.seen) ids i.bound i.last) (sym c.in-Err.ensures.err.1)
