@@ -92,9 +92,10 @@ fn solve_recorded<W: Watch>(
     with_proof(alloc, report, recorder)
 }
 
-/// What is asked of a program: its answers, all or as many as are enough, or one that none betters, or all of these, for which
-/// a second search begins when the first has found what they cost. A search does it after the other, with a budget of so many
-/// units together. A finished run whose proof is asked for has it; all optima are not asked for then.
+/// What is asked of a program: its answers, all or as many as are enough; what is in some or in each of them; or one that none
+/// betters, or all of these, for which a second search begins when the first has found what they cost. A search does it after
+/// the other, with a budget of so many units together. A finished run whose proof is asked for has it; neither all optima nor
+/// consequences are asked for then.
 ///
 /// It returns: of the units left, the stable models not yet found, the nogoods learnt since the last restart and the
 /// variables without a value, in this order, each step lowers the first that it changes. Want of memory is the one error.

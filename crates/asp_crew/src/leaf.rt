@@ -1,9 +1,9 @@
 //! One leaf, by one search.
 //!
 //! What is left to do is read as a number with four digits: the units left, the stable models not yet found, the nogoods
-//! learnt since the last restart, and the variables without a value. A conflict takes a unit, an answer is found once, a
-//! restart forgets the nogoods that made it due, and a decision gives a variable a value. Each lowers its digit and leaves
-//! the digits before it, so a leaf is worked off.
+//! learnt since the last restart, and the variables without a value. A conflict takes a unit, an answer is found once (and
+//! excuses all that show nothing else, where consequences are sought), a restart forgets the nogoods that made it due, and a
+//! decision gives a variable a value. Each lowers its digit and leaves the digits before it, so a leaf is worked off.
 ghost use Rattle.std.specs.Prelude.{◌≡◌, ◌+◌, ◌≤◌, false, IfOk, OnOk, IsSome, IsTrue, length};
 ghost use Rattle.std.specs.List.{All};
 ghost use Rattle.asp_vars.specs.Numbering.{var_count};
