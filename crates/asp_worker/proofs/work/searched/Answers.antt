@@ -1,5 +1,7 @@
+use Rattle.std.proofs.Common.{sym, subst}
+use Rattle.asp_vars.specs.Paid.{Units}
 use Rattle.asp_vault.specs.Seats.{view}
-use Rattle.asp_worker.specs.Seats.{IsIdle}
+use Rattle.asp_worker.specs.Seats.{IsIdle, Owes}
 use Rattle.asp_worker.proofs.EndLaws.{begins}
 use Rattle.asp_worker.proofs.Replies.{always-err}
 use Rattle.asp_worker.proofs.SeatLaws.{keeps-self}
@@ -14,6 +16,9 @@ returns-in_err-engine-clause-idle g c = always-err c.from_residual.result (IsIdl
 pub returns-in_err-engine-clause-heard : goal.returns-in_err-engine-clause-heard
 returns-in_err-engine-clause-heard g c = g.met.W.Watch.begins c.args.watch.now
 
-pub search_paths-requires-clause-going : goal.search_paths-requires-clause-going
-search_paths-requires-clause-going g c =
+pub search_paths-short-requires-clause-going : goal.search_paths-short-requires-clause-going
+search_paths-short-requires-clause-going g c =
     begins c.args.compiled.now c.args.shared.now.mode (view c.args.worker.now.seat) c.in_ok-engine.engine.search c.in_ok-engine.engine.fuel c.requires.run c.requires.idle c.in_ok-engine.ensures.search c.in_ok-engine.ensures.fuel
+
+pub returns-clause-owes : goal.returns-clause-owes
+returns-clause-owes g c = subst (λ (u : Units). Owes (view c.search_paths-short.new.worker.seat) u) (sym c.ended-fuel.ensures) c.search_paths-short.ensures.owes
