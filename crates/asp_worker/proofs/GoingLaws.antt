@@ -36,7 +36,7 @@ use Rattle.asp_crew_laws.proofs.WorkLaws.{sought-is, work-adopted, work-on, work
 use Rattle.asp_worker.specs.Seats.{Passes, Idles, Owes}
 use Rattle.asp_worker.specs.Sharing.{is_smaller, lowered, lowered_by, TakesBest}
 use Rattle.asp_worker.specs.Working.{GoesOn, IsOn, IsOff}
-use Rattle.asp_worker.proofs.SeatLaws.{board-task, idles-passes, holds-idles, cube-idles}
+use Rattle.asp_worker.proofs.SeatLaws.{board-task, idles-call, idles-passes, holds-idles, cube-idles}
 
 pub owes-on : (v w : Knows) (u : Units) → Owes v u → Passes v w → Owes w u
 owes-on v w u owes p = (
@@ -142,6 +142,9 @@ known-is b x e = here (sought b.task.goal) refl e
         none z = cc
     here (Some r) q h = record { reasoning = r; seeks = q; is = sym (same_Some (record { program = b.task.program; reasoning = r; sets = common_sets r b.task.program b.answers }) x h) }
 
+pub told-known : (v w : Knows) (before : List Event) → Stays v w → IsCall v w before [] → (r : Option Knowing) (x : Knowing) → r ≡ known_of (replay (task_of v) before) → r ≡ Some x → IsKnown (seen_board w) x
+told-known v w before stays call r x e is = known-is (seen_board w) x (sym (known-seen v w before stays call r e) ∙ is)
+
 -- a search at work takes it over
 pub record MayTake (s : Searching) (x : Knowing) : Type 0 where
   pub program : x.program ≡ s.program
@@ -159,6 +162,11 @@ may-take m v s u x g k =
       all = subst (λ (y : Knowing). IsSubset (unshown y.reasoning y.program y.sets) (unshown y.reasoning y.program s.known)) (sym k.is)
           (subst (λ (A : Atoms). IsSubset A (unshown r b.task.program s.known)) (sym (unshown-common r b.task.program b.answers)) recorded.0);
     }
+
+-- what a call told of the answers delivered
+pub taken-over : (m : Mode) (v w : Knows) (before : List Event) → Stays v w → IsCall v w before [] → (s : Searching) (u : Units) (r : Option Knowing) (x : Knowing) → GoesOn m v s u → r ≡ known_of (replay (task_of v) before) → r ≡ Some x → MayTake s x
+taken-over m v w before stays call s u r x g e is =
+    may-take m w s u x (goes-on m v w s u g (idles-passes v w (idles-call v w before stays call))) (told-known v w before stays call r x e is)
 
 pub takes-known : (m : Mode) (v : Knows) (s t : Searching) (u : Units) (x : Knowing) → GoesOn m v s u → IsKnown (seen_board v) x → (t ≡ s) ⊎ Adopts s t x.sets → TakesBest m (seen_board v) s t
 takes-known m v s t u x g k h = here m refl

@@ -63,11 +63,11 @@ not-dear p (Some d) S less = ap not less
 
 -- in an enumeration and in a search for consequences it may be delivered
 pub is-listed : (m : Mode) (v : Knows) (s t : Searching) (u : Units) (leaf : ℕ) (S : Atoms) → optimises (goal_of m) ≡ false → Finds m v s t u leaf S → IsTrue (lists (seen_board v).task S)
-is-listed Enum v s t u leaf S no f =
+is-listed Enum v s t u leaf S listing f =
     let same : s.program ≡ (seen_board v).task.program = f.on.going.program ∙ ap (λ (x : Task). x.program) (sym (board-task v)) in
     may-list (seen_board v).task s.bound S f.on.going.work.goal (subst (λ (p : Program). costs_bound p s.bound S ≡ false) same (not-dear s.program s.bound S f.cheaper))
-is-listed Opt v s t u leaf S no f = absurd (false≢true (sym no))
-is-listed (Consequences r) v s t u leaf S no f = may-tell (seen_board v).task r s.bound S f.on.going.work.goal
+is-listed Opt v s t u leaf S listing f = absurd (false≢true (sym listing))
+is-listed (Consequences r) v s t u leaf S listing f = may-tell (seen_board v).task r s.bound S f.on.going.work.goal
 
 pub is-sought : (v : Knows) (s t : Searching) (u : Units) (leaf : ℕ) (S : Atoms) → Finds Opt v s t u leaf S → IsTrue (optimises (seen_board v).task.goal)
 is-sought v s t u leaf S f = may-optimise (seen_board v).task f.on.going.work.goal
@@ -95,25 +95,25 @@ module _ (v w : Knows) (before : List Event) (stays : Stays v w) (s t : Searchin
   new-in m f = ap (λ (k : Mode). list_any (same_set S) (used_up (reasoning_of k) s.program s.known)) (sym f.on.going.mode_is) ∙ f.new
 
   delivered-in : (m : Mode) → optimises (goal_of m) ≡ false → Finds m v s t u leaf S → IsCall v w before (event.Deliver v.number S ∷ []) → IsAtWork (happens (replay (task_of v) before) (event.Deliver v.number S)) v.number m t.known t.bound u
-  delivered-in Enum no f call =
+  delivered-in Enum listing f call =
       let b : Board = replay (task_of v) before in
       let r = records-in Enum f in
       subst (λ (k : List Atoms). IsAtWork (happens b (event.Deliver v.number S)) v.number Enum k t.bound u) (sym r.0)
       (subst (λ (o : Option (List ℤ)). IsAtWork (happens b (event.Deliver v.number S)) v.number Enum (s.known ++ S ∷ []) o u) (sym r.1)
       (work-delivered b v.number S s.known s.bound u (at-moment Enum (event.Deliver v.number S ∷ []) call f) (guard-was v w before stays (event.Deliver v.number S) call) (new-in Enum f)))
-  delivered-in Opt no f call = absurd (false≢true (sym no))
-  delivered-in (Consequences k) no f call =
+  delivered-in Opt listing f call = absurd (false≢true (sym listing))
+  delivered-in (Consequences k) listing f call =
       let b : Board = replay (task_of v) before in
       let r = records-in (Consequences k) f in
       subst (λ (K : List Atoms). IsAtWork (happens b (event.Deliver v.number S)) v.number (Consequences k) K t.bound u) (sym (r.0 ∙ ap (λ (p : Program). common_sets k p (s.known ++ S ∷ [])) (program-then (Consequences k) f)))
       (subst (λ (o : Option (List ℤ)). IsAtWork (happens b (event.Deliver v.number S)) v.number (Consequences k) (common_sets k b.task.program (s.known ++ S ∷ [])) o u) (sym r.1)
       (work-told b v.number S k s.known s.bound u (at-moment (Consequences k) (event.Deliver v.number S ∷ []) call f) (guard-was v w before stays (event.Deliver v.number S) call)))
 
-  module _ (m : Mode) (no : optimises (goal_of m) ≡ false) (f : Finds m v s t u leaf S) where
+  module _ (m : Mode) (listing : optimises (goal_of m) ≡ false) (f : Finds m v s t u leaf S) where
     goes-delivered : IsCall v w before (event.Deliver v.number S ∷ []) → GoesOn m w t u
     goes-delivered call =
         let b : Board = replay (task_of v) before in
-        goes-with m v w s t u leaf S (happens b (event.Deliver v.number S)) f stays (board-now v w before stays (event.Deliver v.number S) call) (delivered-in m no f call)
+        goes-with m v w s t u leaf S (happens b (event.Deliver v.number S)) f stays (board-now v w before stays (event.Deliver v.number S) call) (delivered-in m listing f call)
 
     pub delivered-goes : (r : Bool) → r ≡ true → IsCall v w before (delivered v.number S r) → GoesOn m w t u
     delivered-goes r e call = goes-delivered (subst (λ x. IsCall v w before (delivered v.number S x)) e call)

@@ -58,3 +58,20 @@ pub(crate) fn start<'a>(
         recorder,
     })
 }
+
+/// What is left of it at the end: its units, and what it did.
+pub(crate) fn ended(engine: Engine<'_>) -> (Fuel, Counts)
+    ensures { result.0 ≡ engine.fuel }
+{
+    let Engine {
+        search: _,
+        fuel,
+        read: _,
+        turn: _,
+        step: _,
+        under: _,
+        did,
+        recorder: _,
+    } = engine;
+    (fuel, did)
+}

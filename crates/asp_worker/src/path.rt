@@ -97,8 +97,7 @@ fn step<R: Wait>(
 
 // The first decision under which an answer was found, if what was searched below it is to be shed. Where consequences are sought none of it
 // is found again: what others know leaves it out.
-fn under(mode: Mode, first: Option<Lit>) -> Option<Lit>
-{
+fn under(mode: Mode, first: Option<Lit>) -> Option<Lit> {
     match mode {
         Mode::Enum | Mode::Opt => first,
         Mode::Consequences(_) => None,

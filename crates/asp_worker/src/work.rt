@@ -4,7 +4,7 @@ ghost use Rattle.asp_vault.specs.Seats.{view};
 ghost use Rattle.asp_worker.specs.Seats.{IsIdle, IsReady, Keeps, Holds, IsFree, Owes, MayWork, Worked};
 ghost use Rattle.asp_worker.specs.Working.{GoesOn, Ended};
 
-use crate::engine::{Engine, start};
+use crate::engine::{Engine, ended, start};
 use crate::find::find;
 use crate::gate::Gate;
 use crate::halt::Halt;
@@ -127,16 +127,7 @@ fn searched<R: Wait, G: Gate, H: Halt, W: Watch>(
 {
     let mut engine = start(shared, compiled, recorder)?;
     let short = search_paths(rt, shared, gate, halt, worker, &mut engine, watch);
-    let Engine {
-        search: _,
-        fuel,
-        read: _,
-        turn: _,
-        step: _,
-        under: _,
-        did,
-        recorder: _,
-    } = engine;
+    let (fuel, did) = ended(engine);
     Ok((fuel, did, short))
 }
 

@@ -16,4 +16,4 @@ returns-in-Ok-clause-counted g c = rw c.deliver.ensures.delivers.reports (record
 })
 
 pub solve_alone-requires : goal.solve_alone-requires
-solve_alone-requires g c = λ e. ((c.requires e).0, unsought c.args.options.now.mode c.args.compiled.now (c.requires e).1)
+solve_alone-requires g c = λ e. rw c.ask_of-ask.ensures ((c.requires e).0, unsought c.args.options.now.mode _ (c.requires e).1)

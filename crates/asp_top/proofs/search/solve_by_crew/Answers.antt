@@ -16,4 +16,4 @@ returns-in-Ok-clause-counted g c = rw c.deliver.ensures.delivers.reports (record
 })
 
 pub solved_by_crew-requires-clause-apart : goal.solved_by_crew-requires-clause-apart
-solved_by_crew-requires-clause-apart g c = λ e. (c.requires.apart e).0
+solved_by_crew-requires-clause-apart g c = λ e. rw c.ask_of-ask.ensures (c.requires.apart e).0

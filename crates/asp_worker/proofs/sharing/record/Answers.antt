@@ -6,15 +6,8 @@ use Rattle.asp_worker.specs.Working.{GoesOn, Finds}
 use Rattle.asp_worker.proofs.Replies.{on-ok}
 use Rattle.asp_worker.proofs.sharing.record.Goals as goal
 
-pub list-requires-clause-found : goal.list-requires-clause-found
-list-requires-clause-found g c = subst (λ (m : Mode). (s : Searching) × (leaf : ℕ) × Finds m (view c.args.seat.now) s c.args.engine.now.search c.args.engine.now.fuel leaf c.args.set) c.in-Enum.is c.requires.found
-
 pub improve-requires-clause-found : goal.improve-requires-clause-found
 improve-requires-clause-found g c = subst (λ (m : Mode). (s : Searching) × (leaf : ℕ) × Finds m (view c.args.seat.now) s c.args.engine.now.search c.args.engine.now.fuel leaf c.args.set) c.in-Opt.is c.requires.found
-
-pub returns-in-Enum-clause-ok : goal.returns-in-Enum-clause-ok
-returns-in-Enum-clause-ok g c =
-    on-ok c.list.result (λ h. (subst (λ (m : Mode). GoesOn m (view c.list.new.seat) c.list.new.engine.search c.list.new.engine.fuel) (sym c.in-Enum.is) h, ap (λ (x : Searching). x.cube) c.list.ensures.engine.0)) c.list.ensures.ok
 
 pub returns-in_ok-improve-in-Opt-clause-ok : goal.returns-in_ok-improve-in-Opt-clause-ok
 returns-in_ok-improve-in-Opt-clause-ok g c =

@@ -44,6 +44,7 @@ pub take_best-requires-clause-going : goal.take_best-requires-clause-going
 take_best-requires-clause-going g c =
     let s = c.args.engine.now.search in
     let t = c.import_new.new.search in
-    let same : t ≡ record s { slots = t.slots } = slots-only (drop c.args.engine.now.read (view c.import_new.new.pages).seen) s t c.in_ok-import_new.ensures.ok in
-    (c.args.engine.now.fuel,
-    goes-same c.args.shared.now.mode (view c.args.worker.now.seat) s t c.args.engine.now.fuel (ap (λ (x : Searching). x.program) same) (ap (λ (x : Searching). x.mode) same) (ap (λ (x : Searching). x.known) same) (ap (λ (x : Searching). x.bound) same) c.requires.going)
+    let same : t ≡ record s { slots = t.slots } = slots-only (drop c.args.engine.now.read (view c.import_new.new.pages).seen) s t c.in_ok-import_new.ensures.ok in (
+      c.args.engine.now.fuel,
+      goes-same c.args.shared.now.mode (view c.args.worker.now.seat) s t c.args.engine.now.fuel (ap (λ (x : Searching). x.program) same) (ap (λ (x : Searching). x.mode) same) (ap (λ (x : Searching). x.known) same) (ap (λ (x : Searching). x.bound) same) c.requires.going,
+    )

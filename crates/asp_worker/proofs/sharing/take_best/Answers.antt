@@ -4,7 +4,7 @@ use Rattle.asp_vault.specs.Seats.{view}
 use Rattle.asp_book.specs.Calls.{seen_board}
 use Rattle.asp_worker.specs.Sharing.{Remembers, TakesBest}
 use Rattle.asp_worker.proofs.SeatLaws.{idles-self, idles-call, none-idles}
-use Rattle.asp_worker.proofs.GoingLaws.{best-then, best-seen}
+use Rattle.asp_worker.proofs.GoingLaws.{best-then, best-seen, taken-over}
 use Rattle.asp_worker.proofs.Replies.{on-err, on-ok, always-err}
 use Rattle.asp_worker.proofs.SharingLaws.{forgotten-leaves}
 use Rattle.asp_worker.proofs.sharing.take_best.Goals as goal
@@ -40,3 +40,13 @@ returns-in-Some-clause-err g c = on-err c.lower_bound.result (λ e. forgotten-le
 
 pub returns-in_err-best-in-Opt-clause-err : goal.returns-in_err-best-in-Opt-clause-err
 returns-in_err-best-in-Opt-clause-err g c = always-err c.from_residual.result (Remembers c.args.search.now c.args.search.now) (record { program = refl; mode_is = refl; known = refl; bound = refl })
+
+pub take_known-requires-clause-program : goal.take_known-requires-clause-program
+take_known-requires-clause-program g c =
+    let k = c.in_ok-known-in-Consequences.ensures.ok in let v = view c.args.seat.now in let w = view c.known.new.seat in
+    (taken-over c.args.shared.now.mode v w k.0 c.known.ensures.stays k.2 c.args.search.now c.requires.going.0 c.in_ok-known-in-Consequences.field-0 c.in-Some-2.known c.requires.going.1 k.1 c.in-Some-2.is).program
+
+pub take_known-requires-clause-all : goal.take_known-requires-clause-all
+take_known-requires-clause-all g c =
+    let k = c.in_ok-known-in-Consequences.ensures.ok in let v = view c.args.seat.now in let w = view c.known.new.seat in
+    (taken-over c.args.shared.now.mode v w k.0 c.known.ensures.stays k.2 c.args.search.now c.requires.going.0 c.in_ok-known-in-Consequences.field-0 c.in-Some-2.known c.requires.going.1 k.1 c.in-Some-2.is).all

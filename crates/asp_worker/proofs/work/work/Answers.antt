@@ -5,8 +5,8 @@ use Rattle.asp_worker.proofs.SeatLaws.{stays-self, keeps-seat, keeps-trans, read
 use Rattle.asp_worker.proofs.EndLaws.{given-idle}
 use Rattle.asp_worker.proofs.work.work.Goals as goal
 
-pub returns-in-Err-clause-work : goal.returns-in-Err-clause-work
-returns-in-Err-clause-work g c =
+pub returns-clause-work : goal.returns-clause-work
+returns-clause-work g c =
     let m : Worker = c.searched.new.worker in let k : Worker = record m { short = true } in
     let keeps = keeps-seat c.args.shared.now m k c.searched.ensures.ready refl (stays-self (view m.seat) c.searched.ensures.ready.settled.seated.rests) refl refl in
     record { keeps = keeps-trans c.args.worker m k c.searched.ensures.keeps keeps; ready = ready-seat c.args.shared.now m k c.searched.ensures.ready keeps c.searched.ensures.ready.pool c.searched.ensures.ready.settled.seated.lawful; idle = c.in-Err.ensures.idle }
