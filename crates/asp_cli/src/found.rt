@@ -1,5 +1,5 @@
 //! The options that were found so far.
-ghost use Rattle.std.specs.Prelude.{◌≡◌, IfSome};
+ghost use Rattle.std.specs.Prelude.{◌≡◌, false, true, IfSome};
 ghost use Rattle.asp_cli.specs.Found.{AreApart, IsApart, clashes, found_with, has, options_of, rival_of, seeks_consequences};
 ghost use Rattle.asp_cli.specs.Values.{IsCrew, IsPartCount, IsRing};
 

@@ -133,7 +133,6 @@ result-by goal.Opt t A (Some B) delivered kept excused = (
 result-by (goal.Ties c) t A best delivered kept excused = λ S.
     same_bools (list_any (same_set S) A) (is_answer t S && lists_by (goal.Ties c) t.program S) (delivered_all (goal.Ties c) t A S delivered)
     (λ h. let parts = and_parts (is_answer t S) (lists_by (goal.Ties c) t.program S) h in or_else (list_any (same_set S) A) (costs_bound t.program c S) (excused S parts.0) parts.1)
-
 result-by (goal.Consequences r) t A best delivered kept excused =
     consequences-covered r t.program A (answers_of t)
     (λ S h. listed-answers t S ∙ (and_parts (is_answer t S) true (delivered_all (goal.Consequences r) t A S delivered h)).0)

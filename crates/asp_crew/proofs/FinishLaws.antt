@@ -92,7 +92,7 @@ module _ (mode : Mode) (v w y : Booked) (leaf : ℕ) (q : List Literal) (s t : S
           record {
             unclosed = ap (λ (n : List Node). status_of n leaf) opened ∙ status-set (board w).nodes leaf status.Open held_now;
             cube = is_q ∙ cube ∙ ap (λ (n : List Node). cube_of n leaf) (sym ends.only.nodes) ∙ sym (cube-set (board w).nodes leaf status.Open held_now) ∙ ap (λ (n : List Node). cube_of n leaf) (sym opened);
-            met = subst (λ (c : Board). IsMet c x) (sym released) (record { program = ends.over.3.program; known = ends.over.3.known; bound = ends.over.3.bound; conflict = ends.over.3.conflict });
+            met = subst (λ (c : Board). IsMet c x) (sym released) (record { program = ends.over.3.program; reasoning = ends.over.3.reasoning; known = ends.over.3.known; bound = ends.over.3.bound; conflict = ends.over.3.conflict });
           },
         );
       }
@@ -330,7 +330,7 @@ back-through b left burnt f (Some x) h = (
     record {
       unclosed = h.2.1.unclosed;
       cube = h.2.1.cube;
-      met = record { program = h.2.1.met.program; known = h.2.1.met.known; bound = h.2.1.met.bound; conflict = h.2.1.met.conflict };
+      met = record { program = h.2.1.met.program; reasoning = h.2.1.met.reasoning; known = h.2.1.met.known; bound = h.2.1.met.bound; conflict = h.2.1.met.conflict };
     },
   ),
 )

@@ -5,7 +5,7 @@ use Rattle.std.specs.List.{list_any}
 use Rattle.asp_model.specs.declared.program.Program.{Program}
 use Rattle.asp_model.specs.declared.results.Ask.{Ask}
 use Rattle.asp_model.specs.declared.results.Mode.{Mode}
-use Rattle.asp_model.specs.declared.results.Mode.TheVariants.{Enum, Opt}
+use Rattle.asp_model.specs.declared.results.Mode.TheVariants.{Enum, Opt, Consequences}
 use Rattle.asp_model.specs.declared.results.End.{End}
 use Rattle.asp_model.specs.declared.results.End.TheVariants.{Finished, Limited, Unfinished}
 use Rattle.asp_model.specs.Sets.{Atoms, same_set}
@@ -84,6 +84,7 @@ record HasOptimum (p : Program) (mode : Mode) (best : Atoms × List ℤ) : Type 
 has-optimum : (p : Program) (mode : Mode) (n : ℕ) (r : Report) (best : Atoms × List ℤ) → Says p (asks mode n) r Finished → r.results.best ≡ Some best → HasOptimum p mode best
 has-optimum p Enum n r best says found = absurd (none-some best (sym says.1 ∙ found))
 has-optimum p Opt n r best says found = record { opt = refl; optimum = subst (IsBest p) found says.1 }
+has-optimum p (Consequences w) n r best says found = absurd (none-some best (sym says.1 ∙ found))
 
 first-optimum : (p : Program) (ask : Ask) (units : ℕ) (r : Report) (best : Atoms × List ℤ) → IsReport p (asks ask.mode ask.models) units r → r.results.end ≡ Finished → r.results.best ≡ Some best → HasOptimum p ask.mode best
 first-optimum p ask units r best is end found = has-optimum p ask.mode ask.models r best (subst (Says p (asks ask.mode ask.models) r) end is.says) found

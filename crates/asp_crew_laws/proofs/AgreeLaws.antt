@@ -135,7 +135,7 @@ agrees-told b s S r known bound is a =
     let was : AreRecorded (Some r) p known b.answers = subst (λ (k : Option Reasoning). AreRecorded k p known b.answers) is a.recorded in
     let more : List Atoms = common_sets r p (known ++ S ∷ []) in
     let among : AreAmong (used_by b more) (used_by b (b.answers ++ S ∷ [])) =
-        subst (λ (k : Option Reasoning). AreAmong (used_up k p more) (used_up k p (b.answers ++ S ∷ []))) (sym is) (used-told r p known b.answers S was.0) in
+    subst (λ (k : Option Reasoning). AreAmong (used_up k p more) (used_up k p (b.answers ++ S ∷ []))) (sym is) (used-told r p known b.answers S was.0) in
     record {
       excused = λ T h. done-more p (used_by b more) (used_by b (b.answers ++ S ∷ [])) bound (bound_of b) T among (dear-delivered b s S known bound T a) h;
       recorded = subst (λ (k : Option Reasoning). AreRecorded k p more (b.answers ++ S ∷ [])) (sym is) (recorded-told r p known b.answers S was.0);
@@ -148,8 +148,8 @@ agrees-adopted b r known bound is a =
     let p : Program = b.task.program in
     let all : List Atoms = common_sets r p b.answers in
     let among : AreAmong (used_by b all) (used b) =
-        subst (λ (k : Option Reasoning). AreAmong (used_up k p all) (used_up k p b.answers)) (sym is)
-        (subst (λ (L : List Atoms). AreAmong (used_up (Some r) p all) L) (used-common r p b.answers) (λ S h. h)) in
+    subst (λ (k : Option Reasoning). AreAmong (used_up k p all) (used_up k p b.answers)) (sym is)
+    (subst (λ (L : List Atoms). AreAmong (used_up (Some r) p all) L) (used-common r p b.answers) (λ S h. h)) in
     record {
       excused = λ T h. done-more p (used_by b all) (used b) bound (bound_of b) T among (λ e. a.excused T (or_right (list_any (same_set T) (used_by b known)) (costs_bound p bound T) e)) h;
       recorded = subst (λ (k : Option Reasoning). AreRecorded k p all b.answers) (sym is) (subst (IsSubset (unshown r p b.answers)) (sym (unshown-common r p b.answers)) (λ a h. h), omega arith);

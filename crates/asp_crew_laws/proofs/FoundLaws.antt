@@ -94,7 +94,6 @@ module _ (p : Program) (n budget : ℕ) (journal : List Event) (L : List Atoms) 
         sorted ∙ sorted-nil b.answers (none-listed b.task b.answers (ap (λ (x : Task). x.goal) task) is.delivered),
         best-by p n budget b.best (subst (λ (x : Task). MatchOption b.best ((S : Atoms) → is_answer x S ≡ false) (IsOptimum x)) task (HasResult-finished t journal tt lawful closed)),
       )
-
   found-by (Consequences r) lawful closed sorted =
       let t : Task = task_of p (asks (Consequences r) n) budget in
       let b : Board = replay t journal in

@@ -1,5 +1,5 @@
 -- What a number left stays as others go on.
-use Rattle.std.proofs.Common.{◌≡◌, ◌⊎◌, ℕ, Bool, true, eqb, List, [], ◌∷◌, ◌++◌, append_assoc, sym, ap, ◌∙◌, subst, inl, inr}
+use Rattle.std.proofs.Common.{◌≡◌, ◌⊎◌, ℕ, Bool, true, eqb, List, ◌++◌, append_assoc, ap, ◌∙◌, inl, inr}
 use Rattle.std.specs.List.{AllByRecursion}
 use Rattle.std.proofs.lemmas.Bool.{eqb-true}
 use Rattle.asp_model.proofs.MemberLaws.{each_weaker, each-append}
@@ -10,7 +10,7 @@ use Rattle.asp_core.specs.Boards.{Board, start}
 use Rattle.asp_core.specs.Events.{held_by, maker, run, IsLawful, replay}
 use Rattle.asp_core.proofs.GrowthLaws.{Spares-run}
 use Rattle.asp_book.proofs.CallLaws.{run-append, lawful-rest}
-use Rattle.asp_crew_laws.specs.Runs.{IsBack, Quiet}
+use Rattle.asp_crew_laws.specs.Runs.{IsBack}
 use Rattle.asp_crew_laws.specs.Gone.{IsSmall, IsRelease, IsThrough, IsCutShort, IsGone}
 
 pub cut-later : (t : Task) (xs ys : List Event) (short never : Bool) → IsCutShort t short never xs → IsCutShort t short never (xs ++ ys)

@@ -133,7 +133,7 @@ module _ (p : Program) (n units : ℕ) (r : Report) where
       let q : Atoms → Bool = λ S. list_any (same_set S) b.answers in
       let delivered : AllByRecursion (λ T. IsTrue (lists t T) × IsTrue (is_answer t T)) b.answers = subst (λ (x : Task). AllByRecursion (λ T. IsTrue (lists x T) × IsTrue (is_answer x T)) b.answers) task board.delivered in
       let among : AreAmong b.answers (answers p) = λ S h.
-          ap (λ (L : List Atoms). list_any (same_set S) L) (sym (answers-same p (asks (Consequences w) n) units)) ∙ has-answers_of t S ∙ listed-answers t b.answers S delivered h in (
+      ap (λ (L : List Atoms). list_any (same_set S) L) (sym (answers-same p (asks (Consequences w) n) units)) ∙ has-answers_of t S ∙ listed-answers t b.answers S delivered h in (
         is.answers,
         is.best ∙ ap (option_map (with_cost p)) (none-best b.task b.best (ap (λ (x : Task). optimises x.goal) task) board.best),
         (q, is.common ∙ consequences-chosen w p b.answers (answers p) among),

@@ -7,7 +7,7 @@ use Rattle.asp_model.proofs.MemberLaws.{each_weaker, each-append}
 use Rattle.asp_vars.proofs.StandingLaws.{back-append}
 use Rattle.asp_path.specs.declared.status.Status.{Status}
 use Rattle.asp_path.specs.declared.status.Status.TheVariants as status
-use Rattle.asp_path.specs.Trees.{Node, nowhere, is_held, is_held_by, is_unclosed, held_count, status_of, all_closed}
+use Rattle.asp_path.specs.Trees.{Node, is_held, is_held_by, is_unclosed, held_count, status_of, all_closed}
 use Rattle.asp_core.specs.declared.event.Event.{Event}
 use Rattle.asp_core.specs.declared.event.Event.TheVariants as event
 use Rattle.asp_core.specs.declared.task.Task.{Task}
@@ -17,7 +17,7 @@ use Rattle.asp_core.specs.Events.{held_by, Guard, happens, maker, run, IsLawful,
 use Rattle.asp_core.proofs.GrowthLaws.{Spares-run}
 use Rattle.asp_book.proofs.CallLaws.{lawful-rest}
 use Rattle.asp_crew_laws.specs.Runs.{IsBack, Quiet}
-use Rattle.asp_crew_laws.specs.Gone.{IsSmall, IsClose, IsRelease, IsThrough, IsCutShort, IsGone, IsCrewGone, IsUnshared, IsShared}
+use Rattle.asp_crew_laws.specs.Gone.{IsSmall, IsClose, IsRelease, IsThrough, IsCutShort, IsCrewGone, IsUnshared, IsShared}
 use Rattle.asp_crew_laws.specs.Reports.{IsIdle}
 use Rattle.asp_crew_laws.proofs.GoneLaws.{cut-later}
 use Rattle.asp_crew_laws.proofs.QuietLaws.{all-join, quiet-both, quiet-closed}

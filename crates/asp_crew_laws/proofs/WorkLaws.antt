@@ -285,7 +285,7 @@ pub work-met : (b : Board) (n : ℕ) (mode : Mode) (known : List Atoms) (bound :
 work-met b n mode known bound u x w program seeks count under conflict =
     let is : sought b.task.goal ≡ reasoning_of mode = sought-is mode bound b.task.goal w.goal in
     let c : IsConflict b.task.program (used_by b known) bound x.cube x.decisions x.nogood =
-        subst (λ (k : Option Reasoning). IsConflict b.task.program (used_up k b.task.program known) bound x.cube x.decisions x.nogood) (sym is) conflict in
+    subst (λ (k : Option Reasoning). IsConflict b.task.program (used_up k b.task.program known) bound x.cube x.decisions x.nogood) (sym is) conflict in
     record {
       program = program;
       reasoning = seeks ∙ sym is;

@@ -16,7 +16,7 @@ invariant_of-self-2 c =
     let none : sought i.goal ≡ None = ap (λ (b : Board). sought b.task.goal) c.self.view_is ∙ c.requires.listed in
     let pushed : c.push_reserved.new.self.items ≡ i.answers.items ++ c.args.set ∷ [] = c.push_reserved.ensures.items ∙ ap (λ (x : List Atoms). x ++ c.args.set ∷ []) c.in_ok-reserve.ensures.items in
     let more : answers_in (sought i.goal) c.push_reserved.new.self.items i.told.items ≡ answers_in (sought i.goal) i.answers.items i.told.items ++ c.args.set ∷ [] =
-        ap (λ (x : List Atoms). answers_in (sought i.goal) x i.told.items) pushed ∙ list-in (sought i.goal) i.answers.items i.told.items c.args.set none in
+    ap (λ (x : List Atoms). answers_in (sought i.goal) x i.told.items) pushed ∙ list-in (sought i.goal) i.answers.items i.told.items c.args.set none in
     IsState-happens i (record i { answers = c.push_reserved.new.self; different = c.count_in.new.different }) c.args.self.now (event.Deliver c.args.by c.args.set) I c.self.view_is c.requires.guard
     (ap (λ (x : List Atoms). record (board_of i) { answers = x }) more)
     refl refl (I.costed)

@@ -25,7 +25,7 @@ invariant_of-result c =
     let nodes : c.in_ok-tree.tree ≡ root (map (literal_of p) (p.assumptions ++ q)) = c.in_ok-tree.ensures ∙ ap root c.in_ok-root.ensures in
     let none : held_count (root (map (literal_of p) (p.assumptions ++ q))) ≡ 0 = refl in
     let told : answers_in r c.new.result.items c.new-2.result.items ≡ [] =
-        ap (λ (x : List Atoms). answers_in r x c.new-2.result.items) c.new.ensures.items ∙ ap (λ (x : List Atoms). answers_in r [] x) c.new-2.ensures.items ∙ in-none r in
+    ap (λ (x : List Atoms). answers_in r x c.new-2.result.items) c.new.ensures.items ∙ ap (λ (x : List Atoms). answers_in r [] x) c.new-2.ensures.items ∙ in-none r in
     let board : IsBoard (record { task = record { program = c.of.result.value; goal = c.args.goal; budget = c.args.budget; limit = c.args.limit; query = c.from_vec.result }; nodes = c.in_ok-tree.tree; answers = answers_in r c.new.result.items c.new-2.result.items; best = None; pool = c.args.budget; out = c.new-4.result.items; burnt = 0; reasons = c.new-5.result.items }) =
     subst IsBoard
     (sym (λ k. record { task = record { program = same k; goal = c.args.goal; budget = c.args.budget; limit = c.args.limit; query = asked k }; nodes = nodes k; answers = told k; best = None; pool = c.args.budget; out = c.new-4.ensures.items k; burnt = 0; reasons = c.new-5.ensures.items k }))
@@ -52,5 +52,5 @@ returns c =
     let asked : c.from_vec.result ≡ q = c.from_vec.ensures ∙ c.in_ok-query.ensures.items in
     let nodes : c.in_ok-tree.tree ≡ root (map (literal_of p) (p.assumptions ++ q)) = c.in_ok-tree.ensures ∙ ap root c.in_ok-root.ensures in
     let told : answers_in r c.new.result.items c.new-2.result.items ≡ [] =
-        ap (λ (x : List Atoms). answers_in r x c.new-2.result.items) c.new.ensures.items ∙ ap (λ (x : List Atoms). answers_in r [] x) c.new-2.ensures.items ∙ in-none r in
+    ap (λ (x : List Atoms). answers_in r x c.new-2.result.items) c.new.ensures.items ∙ ap (λ (x : List Atoms). answers_in r [] x) c.new-2.ensures.items ∙ in-none r in
     λ k. record { task = record { program = same k; goal = c.args.goal; budget = c.args.budget; limit = c.args.limit; query = asked k }; nodes = nodes k; answers = told k; best = None; pool = c.args.budget; out = c.new-4.ensures.items k; burnt = 0; reasons = c.new-5.ensures.items k }
