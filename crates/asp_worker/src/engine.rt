@@ -61,7 +61,7 @@ pub(crate) fn start<'a>(
 
 /// What is left of it at the end: its units, and what it did.
 pub(crate) fn ended(engine: Engine<'_>) -> (Fuel, Counts)
-    ensures { result.0 ≡ engine.fuel }
+    ensures { result.0 ≡ engine.entry.fuel }
 {
     let Engine {
         search: _,

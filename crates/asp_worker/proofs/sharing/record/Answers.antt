@@ -1,9 +1,8 @@
-use Rattle.std.proofs.Common.{ℕ, sym, ap, subst}
+use Rattle.std.proofs.Common.{ℕ, sym, subst}
 use Rattle.asp_model.specs.declared.results.Mode.{Mode}
 use Rattle.asp_vault.specs.Seats.{view}
 use Rattle.asp_search_laws.specs.Searching.{Searching}
 use Rattle.asp_worker.specs.Working.{GoesOn, Finds}
-use Rattle.asp_worker.proofs.Replies.{on-ok}
 use Rattle.asp_worker.proofs.sharing.record.Goals as goal
 
 pub improve-requires-clause-found : goal.improve-requires-clause-found
