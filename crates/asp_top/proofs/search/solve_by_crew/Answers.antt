@@ -15,5 +15,5 @@ returns-in-Ok-clause-counted g c = rw c.deliver.ensures.delivers.reports (record
   workers = λ alone. absurd cc;
 })
 
-pub solved_by_crew-requires-clause-apart : goal.solved_by_crew-requires-clause-apart
-solved_by_crew-requires-clause-apart g c = λ e. rw c.ask_of-ask.ensures (c.requires.apart e).0
+pub solved_by_crew-solved-requires-clause-apart : goal.solved_by_crew-solved-requires-clause-apart
+solved_by_crew-solved-requires-clause-apart g c = λ e. rw c.ask_of-ask.ensures (c.requires.apart e).0
