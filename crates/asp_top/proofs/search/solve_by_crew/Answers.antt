@@ -1,6 +1,7 @@
-use Rattle.std.proofs.Common.{◌∙◌, ap, length, subst, sym}
+use Rattle.std.proofs.Common.{◌≡◌, ◌∙◌, false, ap, length, subst, sym}
 use Rattle.std.specs.Prelude.{IfSome}
 use Rattle.asp_model.specs.declared.program.Program.{Program}
+use Rattle.asp_model.specs.declared.results.Ask.{Ask}
 use Rattle.asp_model.specs.Models.{atoms_of}
 use Rattle.asp_vars.specs.Numbering.{bodies_of}
 use Rattle.asp_top.proofs.RunLaws.{paid-of}
@@ -15,5 +16,5 @@ returns-in-Ok-clause-counted g c = rw c.deliver.ensures.delivers.reports (record
   workers = λ alone. absurd cc;
 })
 
-pub solved_by_crew-requires-clause-apart : goal.solved_by_crew-requires-clause-apart
-solved_by_crew-requires-clause-apart g c = λ e. rw c.ask_of-ask.ensures (c.requires.apart e).0
+pub solved_by_crew-solved-requires-clause-apart : goal.solved_by_crew-solved-requires-clause-apart
+solved_by_crew-solved-requires-clause-apart g c = λ lifetimes outlives e. subst (λ (a : Ask). a.all_optima ≡ false) (sym c.ask_of-ask.ensures) (c.requires.apart e).0
