@@ -152,7 +152,7 @@ ROWS = {
     "brave, 200": (text_of(lambda: free(200)), BRAVE, 50),
     "brave, 2^40": (text_of(lambda: equals(200, 40)), BRAVE, 50),
     "cautious, 2^40": (text_of(lambda: equals(200, 40)), CAUTIOUS, 50),
-    "brave, 2000": (text_of(lambda: free(2_000)), BRAVE),
+    "brave, 2000": (text_of(lambda: free(2_000)), BRAVE, 10),
     "gringo, read": (without_end(reached(80_000)), READ),
     "rules, read": (without_end(text_of(lambda: rules(100))), READ),
     "gringo": (reached(20_000), ONE),
