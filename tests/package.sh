@@ -1,7 +1,8 @@
 #!/usr/bin/env bash
 # Tries what is installed: `make install` and `make uninstall` in a folder, and the package of `make deb`, by lintian and in a
-# clean root of Debian, where it is installed, run on its own examples, and removed. It needs root, lintian and debootstrap
-# (a network, or ROOT with a tree that debootstrap made: it isn't changed, but copied), and takes some minutes: it isn't in the gate.
+# clean root of Debian, where it is installed, run on its own examples and the README's first one, and removed. It needs root,
+# lintian, debootstrap and a network (ROOT may name a tree that debootstrap made: it isn't changed, but copied), and takes some
+# minutes: it isn't in the gate.
 # Usage: [ROOT=FOLDER] tests/package.sh
 set -euo pipefail
 cd "$(dirname "$0")/.."
@@ -36,6 +37,10 @@ in_root dpkg -i /package.deb > "$folder/log" 2>&1 || { cat "$folder/log"; fail "
 [ "$(in_root aspenum --version)" = "$(build/aspenum --version)" ] || fail "the version"
 # each example is the text itself and what is written, with the words that stand beside it
 in_root sh -c 'cd /usr/share/doc/aspenum/examples && for it in *.aspif; do words=$(cat "${it%.aspif}.words" 2> /dev/null); aspenum $words < "$it" | cmp -s - "${it%.aspif}.out" || { echo "$it"; exit 1; }; done' || fail "an example"
+# the README's first screen, by the package and Debian's gringo alone
+in_root sh -c 'apt-get update && apt-get install -y --no-install-recommends gringo' > "$folder/log" 2>&1 || { tail -n 5 "$folder/log"; fail "gringo"; }
+sed -n '/^\$ gringo examples\/colouring/,/^```$/p' README.md | sed '1d;$d' > "$folder/wanted"
+in_root sh -c 'cd /usr/share/doc/aspenum && gringo examples/colouring.lp | aspenum; true' | cmp - "$folder/wanted" || fail "the README's first screen"
 in_root dpkg -V aspenum || fail "dpkg -V"
 in_root dpkg -P aspenum > "$folder/log" 2>&1 || { cat "$folder/log"; fail "dpkg -P"; }
 [ -z "$(find "$root/usr" -name '*aspenum*')" ] || fail "removing leaves $(find "$root/usr" -name '*aspenum*')"
