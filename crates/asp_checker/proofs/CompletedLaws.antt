@@ -16,6 +16,7 @@ use Rattle.asp_vars.specs.Literals.{Literal, T, F, complement}
 use Rattle.asp_vars.specs.Numbering.{normal, body_eq, bodies_of, var_count, var_of_atom, var_of_form, var_of_body, literal_of, IsVar}
 use Rattle.asp_vars.specs.Completion.{supports, body_nogoods, rule_nogoods, atom_nogood, completion}
 use Rattle.asp_vars.specs.Tabled.{Stands}
+use Rattle.asp_vars.proofs.CompletionLaws.{each_of_body}
 use Rattle.asp_vars.proofs.PlaceLaws.{atom-within, form-within}
 use Rattle.asp_vars.proofs.StandingLaws.{Among, each_among, each_both, rule_has_form, bodies_of-stand, bodies_of-themselves}
 use Rattle.asp_checker.specs.Lines.{IsOf, AreOf}
@@ -34,8 +35,11 @@ form_var p b h = (omega arith, form-within p b h)
 
 body_vars : (p : Program) (b : Body) → list_any (body_eq b) (bodies_of p) ≡ true → Stands (atoms_of p) b → AllByRecursion (Each p) (body_nogoods p b)
 body_vars p (body.All ls) listed stand =
-    let b = form_var p (body.All ls) listed in (
-      (b, each-map (OfVar p) (literal_of p) ls (each_weaker (λ l. has (atoms_of p) (atom_of l) ≡ true) (λ l. OfVar p (literal_of p l)) (λ l h. atom_var p (atom_of l) h) ls stand)),
+    let b = form_var p (body.All ls) listed in
+    let literals : Each p (map (literal_of p) ls) =
+    each-map (OfVar p) (literal_of p) ls (each_weaker (λ l. has (atoms_of p) (atom_of l) ≡ true) (λ l. OfVar p (literal_of p l)) (λ l h. atom_var p (atom_of l) h) ls stand) in
+    each_of_body (Each p) p ls (λ _. literals) (
+      (b, literals),
       each-map (Each p) (λ l. T (var_of_form p (body.All ls)) ∷ complement (literal_of p l) ∷ []) ls
           (each_weaker (λ l. has (atoms_of p) (atom_of l) ≡ true) (λ l. Each p (T (var_of_form p (body.All ls)) ∷ complement (literal_of p l) ∷ [])) (λ l h. (b, (atom_var p (atom_of l) h, tt))) ls stand),
     )

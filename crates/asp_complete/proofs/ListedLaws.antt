@@ -17,8 +17,8 @@ use Rattle.asp_vars.specs.Numbering.{bodies_of, literal_of, nth_atom, nth_body, 
 use Rattle.asp_model.specs.Sound.{IsSound}
 use Rattle.asp_model.proofs.MemberLaws.{each-map}
 use Rattle.asp_vars.specs.Entailment.{Entailed}
-use Rattle.asp_vars.specs.Completion.{atom_nogood, body_nogoods, completion}
-use Rattle.asp_vars.proofs.CompletionLaws.{completion_entailed}
+use Rattle.asp_vars.specs.Completion.{is_barred, atom_nogood, body_nogoods, completion}
+use Rattle.asp_vars.proofs.CompletionLaws.{body_nogoods-barred, body_nogoods-defining, completion_entailed}
 use Rattle.asp_vars.specs.Tabled.{form_literals, bound_of}
 use Rattle.asp_complete.specs.Listed.{groups, nogoods_between, nogoods_of_rule, pure, parts}
 
@@ -26,9 +26,15 @@ same_parts : (p : Program) (v : ℕ) (ls : List ℤ) → map pure (map (λ l. T 
 same_parts p v [] = refl
 same_parts p v (l ∷ ls) = ap (λ ns. pure (T v ∷ complement (literal_of p l) ∷ []) ∷ ns) (same_parts p v ls)
 
-pub body_listed : (p : Program) (b : Body) → is_some (bound_of b) ≡ false → map pure (body_nogoods p b) ≡ pure (F (var_of_form p b) ∷ form_literals p b) ∷ parts (var_of_form p b) (form_literals p b)
-body_listed p (body.All ls) e = ap (λ ns. pure (F (var_of_form p (body.All ls)) ∷ map (literal_of p) ls) ∷ ns) (same_parts p (var_of_form p (body.All ls)) ls)
-body_listed p (body.AtLeast c items) e = absurd (false≢true (sym e))
+pub body_listed : (p : Program) (b : Body) → is_some (bound_of b) ≡ false → is_barred p b ≡ false → map pure (body_nogoods p b) ≡ pure (F (var_of_form p b) ∷ form_literals p b) ∷ parts (var_of_form p b) (form_literals p b)
+body_listed p (body.All ls) e open_ =
+    ap (map pure) (body_nogoods-defining p ls open_)
+    ∙ ap (λ ns. pure (F (var_of_form p (body.All ls)) ∷ map (literal_of p) ls) ∷ ns) (same_parts p (var_of_form p (body.All ls)) ls)
+body_listed p (body.AtLeast c items) e open_ = absurd (false≢true (sym e))
+
+pub barred_listed : (p : Program) (b : Body) → is_some (bound_of b) ≡ false → is_barred p b ≡ true → map pure (body_nogoods p b) ≡ pure (form_literals p b) ∷ []
+barred_listed p (body.All ls) e barred = ap (map pure) (body_nogoods-barred p ls barred)
+barred_listed p (body.AtLeast c items) e barred = absurd (false≢true (sym e))
 
 pub body_unlisted : (p : Program) (b : Body) → is_some (bound_of b) ≡ true → map pure (body_nogoods p b) ≡ []
 body_unlisted p (body.All ls) e = absurd (false≢true e)

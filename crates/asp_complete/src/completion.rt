@@ -73,6 +73,17 @@ fn add_body(
     add_parts(alloc, nogoods, var, literals)
 }
 
+// The literals alone: a nogood of a body that a constraint has.
+fn add_barred(alloc: Global, nogoods: &mut Vec<Nogood>, literals: &[Lit]) -> Result<(), AllocError>
+    ensures { OnOk result (nogoods.new.items ≡ nogoods.old.items ++ pure literals.now ∷ []) }
+{
+    let mut lits = Lits::new(alloc);
+    for literal in literals {
+        lits.push(*literal)?;
+    }
+    push(nogoods, lits)
+}
+
 fn add_body_at(
     alloc: Global,
     nogoods: &mut Vec<Nogood>,
@@ -87,6 +98,9 @@ fn add_body_at(
     }
     let var = compiled.body_var(body);
     let literals = compiled.literals(body);
+    if compiled.is_barred(body) {
+        return add_barred(alloc, nogoods, literals);
+    }
     add_body(alloc, nogoods, var, literals)?;
     Ok(())
 }

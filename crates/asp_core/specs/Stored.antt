@@ -24,7 +24,7 @@ abbrev pub board_of : Inside → Board
 board_of s = record {
   task = record { program = s.program.value; goal = s.goal; budget = s.budget; limit = s.limit; query = s.query };
   nodes = s.tree;
-  answers = answers_in (sought s.goal) s.answers.items s.told.items;
+  answers = answers_in (sought s.goal) s.answers.sets s.told.items;
   best = option_map (λ x. x.0) s.best;
   pool = s.pool;
   out = s.out.items;
@@ -43,7 +43,9 @@ pub record IsState (s : Inside) : Type 0 where
   pub sound : IsSound s.prices
   pub costed : IfSome s.best (λ x. x.1 ≡ cost s.program.value x.0)
   -- With a limit, the different answers stand in a sorted set.
-  pub sorted : 0 < s.limit → s.different.keys ≡ sorted_once (answers_in (sought s.goal) s.answers.items s.told.items)
-  pub seen : IsSeen (sought s.goal) s.program.value s.known s.answers.items s.told.items s.atoms.items
+  pub sorted : 0 < s.limit → s.different.keys ≡ sorted_once (answers_in (sought s.goal) s.answers.sets s.told.items)
+  pub seen : IsSeen (sought s.goal) s.program.value s.known s.answers.sets s.told.items s.atoms.items
+  -- The answers are rows among the program's atoms.
+  pub among : s.answers.atoms ≡ atoms_of s.program.value
   -- There is a free place for the reason of each held leaf.
   pub room : length s.reasons.items + held_count s.tree ≤ vec_capacity s.reasons

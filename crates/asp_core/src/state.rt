@@ -23,6 +23,7 @@ use asp_model::interp::Interp;
 use asp_model::program::{Atom, Program};
 use asp_model::seq::Seq;
 use asp_path::tree::{Leaf, Tree};
+use asp_rows::rows::Rows;
 use asp_vars::compiled::Compiled;
 use asp_vars::known::Known;
 use asp_vars::lit::Lit;
@@ -55,7 +56,7 @@ pub struct State {
     /// The paths into which the search was split.
     tree: Tree,
     /// The answers delivered, the oldest first, where they are listed; else none.
-    answers: Vec<Interp>,
+    answers: Rows,
     /// Where consequences are sought the answers delivered, the oldest first, of which contracts alone know more than their number; else
     /// none.
     told: Vec<Snapshot<Interp>>,
@@ -161,6 +162,7 @@ impl State {
         let tree = Tree::root(alloc, root)?;
         let known = nothing_known(alloc, compiled, &goal)?;
         let atoms = stated_atoms(alloc, compiled, &goal)?;
+        let listed = compiled.atoms().copy()?;
         Ok(State {
             alloc,
             program: Origin::of(program),
@@ -170,7 +172,7 @@ impl State {
             query: Seq::from_vec(query),
             prices,
             tree,
-            answers: Vec::new(alloc),
+            answers: Rows::new(alloc, listed),
             told: Vec::new(alloc),
             known,
             atoms,
@@ -208,10 +210,15 @@ impl State {
         ensures ok { OnOk result (self.new ≡ happens self.old (event.Deliver by set)) }
         ensures err { OnErr result (self.new ≡ self.old) }
     {
-        self.answers.reserve(1)?;
-        count_in(self.limit, &mut self.different, &set)?;
-        self.answers.push_reserved(set);
-        Ok(())
+        let len = self.answers.len();
+        self.answers.push(self.alloc, &set)?;
+        match count_in(self.limit, &mut self.different, &set) {
+            Ok(()) => Ok(()),
+            Err(error) => {
+                self.answers.truncate(len);
+                Err(error)
+            }
+        }
     }
 
     fn deliver(&mut self, by: u32, set: Interp) -> Result<(), AllocError>
@@ -354,11 +361,11 @@ impl State {
     }
 
     /// The sets delivered, in their order, where they are listed.
-    pub fn answers(&self) -> &[Interp]
+    pub fn answers(&self) -> &Rows
         requires { sought self.now.task.goal ≡ None }
-        ensures { result.now ≡ self.now.answers }
+        ensures { result.now.sets ≡ self.now.answers }
     {
-        self.answers.as_slice()
+        &self.answers
     }
 
     /// What the answers delivered have in common, where that is sought.
@@ -394,8 +401,8 @@ impl State {
 
     /// The sets delivered, in their order, where they are listed; the best answer with its cost, where one was recorded; and
     /// the consequences of the answers delivered, where these are sought.
-    pub fn into_found(self) -> (Vec<Interp>, Option<(Interp, Cost)>, Option<Interp>)
-        ensures answers { result.0.items ≡ listed_by (sought self.task.goal) self.answers }
+    pub fn into_found(self) -> (Rows, Option<(Interp, Cost)>, Option<Interp>)
+        ensures answers { result.0.sets ≡ listed_by (sought self.task.goal) self.answers }
         ensures known { result.2 ≡ common_by (sought self.task.goal) self.task.program self.answers }
         ensures best { result.1 ≡ option_map (λ S. (S, cost self.task.program S)) self.best }
     {

@@ -1,5 +1,6 @@
 -- One leaf after another, and what is left when number 0 has given its units back.
 use Rattle.std.proofs.Common.{◌≡◌, ◌⊎◌, ℕ, ◌+◌, ◌-◌, ◌^◌, ◌<◌, min, Bool, true, false, cond, ◌||◌, eqb, is_some, List, [], ◌∷◌, length, Option, Some, None, refl, sym, ap, ◌∙◌, subst, inl, inr, arith}
+use Rattle.std.specs.List.{AllByRecursion}
 use Rattle.std.specs.Prelude.{ℤ, slice_get}
 use Rattle.std.specs.Option.{IfSome}
 use Rattle.std.proofs.lemmas.Bool.{false≢true, eqb-true, cases_eq}
@@ -15,7 +16,7 @@ use Rattle.asp_core.specs.declared.event.Event.TheVariants as event
 use Rattle.asp_core.specs.declared.task.Task.{Task}
 use Rattle.asp_core.specs.Units.{out_of, returned}
 use Rattle.asp_core.specs.Boards.{Board, is_enough, start}
-use Rattle.asp_core.specs.Events.{held_by, Guard, happens}
+use Rattle.asp_core.specs.Events.{held_by, Guard, happens, maker}
 use Rattle.asp_core.proofs.GrowthLaws.{out_of-leased_other, out_of-returned_other}
 use Rattle.asp_core.proofs.PlaceLaws.{held_count-changed}
 use Rattle.asp_book.specs.Books.{Booked, board, with_events}
@@ -25,7 +26,8 @@ use Rattle.asp_search_laws.specs.Searching.{Searching}
 use Rattle.asp_crew_laws.specs.Reports.{IsIdle, IsMet, IsWorkedOff}
 use Rattle.asp_crew_laws.specs.Working.{IsAtWork, MayBegin}
 use Rattle.asp_crew_laws.proofs.WorkLaws.{sought-begins, out_of-leased}
-use Rattle.asp_crew.specs.Running.{HasNoQuery, IsReady, OnlyRecords, status_after, Ends, LeavesLeaf, IsAlone, IsThrough, LeavesAll}
+use Rattle.asp_crew.specs.Running.{HasNoQuery, IsReady, Adds, OnlyRecords, status_after, Ends, LeavesLeaf, IsAlone, IsThrough, LeavesAll}
+use Rattle.asp_crew.proofs.AddLaws.{adds-self, adds-events, adds-trans}
 use Rattle.asp_crew.proofs.BookLaws.{board-task, board-with, ready-with, cube-within}
 use Rattle.asp_crew.proofs.TreeLaws.{open-changed, taken-open, none-taken, status-set, cube-set, held_by-le, closed-when}
 
@@ -41,6 +43,7 @@ leaves-closed mode v w y leaf q s t g ends more guard now =
     record {
       ready = ready-with mode w y t g (event.Close 0 leaf q) ends.ready guard refl now;
       task = ap (λ (x : Booked). x.task) now ∙ ends.only.task;
+      adds = adds-trans v w y ends.only.adds (adds-events w y (event.Close 0 leaf q ∷ []) now (refl, tt));
       nodes =
           ap (λ (c : Board). c.nodes) b ∙ ap (λ (n : List Node). with_status n leaf status.Closed) ends.only.nodes
           ∙ ap (λ x. with_status (board v).nodes leaf (status_after None x)) (sym (ap is_enough b ∙ more));
@@ -70,6 +73,7 @@ module _ (mode : Mode) (v w y : Booked) (leaf : ℕ) (q : List Literal) (s t : S
   leaves-open None ends enough = record {
     ready = ready-with mode w y t g (event.Release 0 leaf) ends.ready (still ends.only) refl now;
     task = ap (λ (z : Booked). z.task) now ∙ ends.only.task;
+    adds = adds-trans v w y ends.only.adds (adds-events w y (event.Release 0 leaf ∷ []) now (refl, tt));
     nodes =
         opened ∙ ap (λ (n : List Node). with_status n leaf status.Open) ends.only.nodes
         ∙ ap (λ x. with_status (board v).nodes leaf (status_after None x)) (sym (ap is_enough released ∙ enough));
@@ -83,6 +87,7 @@ module _ (mode : Mode) (v w y : Booked) (leaf : ℕ) (q : List Literal) (s t : S
       record {
         ready = ready-with mode w y t g (event.Release 0 leaf) ends.ready (still ends.only) refl now;
         task = ap (λ (z : Booked). z.task) now ∙ ends.only.task;
+        adds = adds-trans v w y ends.only.adds (adds-events w y (event.Release 0 leaf ∷ []) now (refl, tt));
         nodes = opened ∙ ap (λ (n : List Node). with_status n leaf status.Open) ends.only.nodes;
         out = ap (λ (c : Board). c.out) released ∙ ends.only.out;
         pool = ap (λ (c : Board). c.pool) released ∙ ends.only.pool;
@@ -107,6 +112,7 @@ pub record IsBetween (mode : Mode) (v w : Booked) (s : Searching) (f : Units) : 
   pub ready : IsReady mode w s f
   pub alone : IsAlone (board w)
   pub task : w.task ≡ v.task
+  pub adds : Adds v w
   pub pool : (board w).pool ≡ (board v).pool
 
 pub free-now : (b : Board) → IsAlone b → held_by 0 b.nodes ≡ 0
@@ -116,6 +122,7 @@ free-now b alone = omega (arith, held_by-le 0 b.nodes, alone.free)
 pub record IsTaken (mode : Mode) (v w : Booked) (leaf : ℕ) (s : Searching) (f : Units) : Type 0 where
   pub ready : IsReady mode w s f
   pub task : w.task ≡ v.task
+  pub adds : Adds v w
   pub was : status_of (board v).nodes leaf ≡ status.Open
   pub nodes : (board w).nodes ≡ with_status (board v).nodes leaf (status.Held 0)
   pub out : (board w).out ≡ (board v).out
@@ -128,6 +135,7 @@ taken-is mode v w leaf s f is alone was now =
     record {
       ready = ready-with mode v w s f e is (was, free-now (board v) alone) refl now;
       task = ap (λ (z : Booked). z.task) now;
+      adds = adds-events v w (e ∷ []) now (refl, tt);
       was = was;
       nodes = ap (λ (c : Board). c.nodes) b;
       out = ap (λ (c : Board). c.out) b;
@@ -184,6 +192,7 @@ between-next mode u v w y leaf s t f g is taken left = record {
       alone-after (board v) (board y) is.alone (free-after mode v w y leaf s t f g None (status_after None (is_enough (board y))) taken left.nodes (not-held (is_enough (board y))) is.alone.free)
       (left.out ∙ taken.out);
   task = left.task ∙ taken.task ∙ is.task;
+  adds = adds-trans u w y (adds-trans u v w is.adds taken.adds) left.adds;
   pool = left.pool ∙ taken.pool ∙ is.pool;
 }
 
@@ -208,19 +217,20 @@ all-stopped mode u v w y leaf s t f g x is taken left = record {
   ready = left.ready;
   alone = alone-after (board v) (board y) is.alone (free-after mode v w y leaf s t f g (Some x) status.Open taken left.nodes refl is.alone.free) (left.out ∙ taken.out);
   task = left.task ∙ taken.task ∙ is.task;
+  adds = adds-trans u w y (adds-trans u v w is.adds taken.adds) left.adds;
   pool = left.pool ∙ taken.pool ∙ is.pool;
   through = (left.stopped.0, left.stopped.1, (leaf, left.stopped.2));
 }
 
 -- it is enough
 pub all-enough : (mode : Mode) (u v : Booked) (s : Searching) (f : Units) → IsBetween mode u v s f → is_enough (board v) ≡ true → LeavesAll mode u v s f None
-all-enough mode u v s f is enough = record { ready = is.ready; alone = is.alone; task = is.task; pool = is.pool; through = λ more. absurd (false≢true (sym more ∙ enough)) }
+all-enough mode u v s f is enough = record { ready = is.ready; alone = is.alone; task = is.task; adds = is.adds; pool = is.pool; through = λ more. absurd (false≢true (sym more ∙ enough)) }
 
 -- no leaf was open
 pub all-through : (mode : Mode) (u v w : Booked) (s : Searching) (f : Units) (r : Option ℕ) → IsBetween mode u v s f → r ≡ slice_get (open_from 0 (board v).nodes) 0 → w ≡ with_events v (taken 0 r) → r ≡ None → LeavesAll mode u w s f None
 all-through mode u v w s f r is first now none =
     subst (λ (x : Booked). LeavesAll mode u x s f None) (sym (now ∙ ap (λ (o : Option ℕ). with_events v (taken 0 o)) none))
-    (record { ready = is.ready; alone = is.alone; task = is.task; pool = is.pool; through = λ more. none-taken (open_from 0 (board v).nodes) (sym first ∙ none) })
+    (record { ready = is.ready; alone = is.alone; task = is.task; adds = is.adds; pool = is.pool; through = λ more. none-taken (open_from 0 (board v).nodes) (sym first ∙ none) })
 
 -- ---- units at the start
 -- all units of the pool, for number 0
@@ -230,6 +240,7 @@ all_of b = record { program = b.task.program; left = min (2 ^ 64 - 1) b.pool; bu
 pub record IsLeased (v w : Booked) : Type 0 where
   pub alone : IsAlone (board w)
   pub task : w.task ≡ v.task
+  pub adds : Adds v w
   pub pool : (board w).pool ≡ 0
   pub units : out_of (board w).out 0 ≡ (all_of (board v)).left
 
@@ -240,6 +251,7 @@ leased-is v w idle fits now = here (eqb (min (2 ^ 64 - 1) (board v).pool) 0) ref
     here true q now = subst (λ (y : Booked). IsLeased v y) (sym now) (record {
       alone = record { free = idle.free; home = λ s ne. idle.home s };
       task = refl;
+      adds = adds-self v;
       pool = omega (arith, fits, eqb-true (min (2 ^ 64 - 1) (board v).pool) 0 (sym q));
       units = idle.home 0 ∙ sym (eqb-true (min (2 ^ 64 - 1) (board v).pool) 0 (sym q));
     })
@@ -253,6 +265,7 @@ leased-is v w idle fits now = here (eqb (min (2 ^ 64 - 1) (board v).pool) 0) ref
             home = λ s ne. ap (λ (c : Board). out_of c.out s) b ∙ out_of-leased_other (board v).out 0 k s (λ z. ne (sym z)) ∙ idle.home s;
           };
           task = ap (λ (z : Booked). z.task) now;
+          adds = adds-events v w (e ∷ []) now (refl, tt);
           pool = ap (λ (c : Board). c.pool) b ∙ (let z : (board v).pool - k ≡ 0 = omega (arith, fits) in z);
           units = ap (λ (c : Board). out_of c.out 0) b ∙ out_of-leased 0 k (board v).out ∙ ap (λ m. m + k) (idle.home 0) ∙ (let z : 0 + k ≡ k = omega arith in z);
         }
@@ -318,6 +331,13 @@ module _ (mode : Mode) (v w y : Booked) (t : Searching) (g : Units) (o : Option 
       here : (x : Bool) → y ≡ with_events w (cond x [] (event.Back 0 g.left g.burnt ∷ [])) → y.task ≡ v.task
       here true now = ap (λ (z : Booked). z.task) now ∙ left.task
       here false now = ap (λ (z : Booked). z.task) now ∙ left.task
+
+  pub adds-after : y ≡ with_events w (given_back 0 g) → Adds v y
+  adds-after now = adds-trans v w y left.adds (adds-events w y (given_back 0 g) now (here (eqb (g.left + g.burnt) 0)))
+    where
+      here : (x : Bool) → AllByRecursion (λ e. maker e ≡ 0) (cond x [] (event.Back 0 g.left g.burnt ∷ []))
+      here true = tt
+      here false = (refl, tt)
 
 -- what is left when the units are back
 back-through : (b : Board) (left burnt : ℕ) (f : Units) (o : Option Clash) → IsThrough b f o → IsThrough (happens b (event.Back 0 left burnt)) f o

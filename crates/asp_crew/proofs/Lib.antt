@@ -2,6 +2,7 @@ pub mod BoundLaws
 pub mod WorkLaws
 pub mod TreeLaws
 pub mod BookLaws
+pub mod AddLaws
 pub mod RecordLaws
 pub mod StepLaws
 pub mod FinishLaws

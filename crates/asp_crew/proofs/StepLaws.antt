@@ -39,6 +39,7 @@ use Rattle.asp_crew_laws.proofs.WorkLaws.{may-list, may-optimise, may-tell, soug
 use Rattle.asp_crew.specs.declared.leaf.Course.{Course}
 use Rattle.asp_crew.specs.declared.leaf.Course.TheVariants.{Open, Closed, Unpaid}
 use Rattle.asp_crew.specs.Running.{unfound, work, work_left, HasNoQuery, IsReady, IsEntered, IsUnderway, MayRecord, OnlyRecords, IsRecorded, Goes, Ends}
+use Rattle.asp_crew.proofs.AddLaws.{adds-self, adds-trans}
 use Rattle.asp_crew.proofs.BookLaws.{board-task, query-none}
 use Rattle.asp_crew.proofs.BoundLaws.{fewer-lower, fewer-push, fewer-told}
 use Rattle.asp_crew.proofs.WorkLaws.{work-paid, work-found, work-restarted, work-decided}
@@ -67,7 +68,7 @@ underway-same mode v s t f g is same learnt at = record {
 }
 
 unchanged : (v : Booked) → OnlyRecords v v
-unchanged v = record { task = refl; nodes = refl; out = refl; pool = refl }
+unchanged v = record { task = refl; adds = adds-self v; nodes = refl; out = refl; pool = refl }
 
 -- the work that is left, by what the search was before
 left-same : (s t : Searching) (g : Units) → HasSameTask s t → work_left t g ≡ work g.left (length (models s.program)) (unfound s.program (used s) s.bound) t.learnt (var_count s.program + 1) (length t.entries)
@@ -276,7 +277,7 @@ pub along-begins : (mode : Mode) (v : Booked) (s : Searching) (f : Units) → Is
 along-begins mode v s f is = record { underway = is; only = unchanged v; cube = refl }
 
 only-further : (u v w : Booked) → OnlyRecords u v → OnlyRecords v w → OnlyRecords u w
-only-further u v w a b = record { task = b.task ∙ a.task; nodes = b.nodes ∙ a.nodes; out = b.out ∙ a.out; pool = b.pool ∙ a.pool }
+only-further u v w a b = record { task = b.task ∙ a.task; adds = adds-trans u v w a.adds b.adds; nodes = b.nodes ∙ a.nodes; out = b.out ∙ a.out; pool = b.pool ∙ a.pool }
 
 pub along-on : (mode : Mode) (u v w : Booked) (r s t : Searching) (f g : Units) (how : Course) → IsAlong mode u v r s f → Goes mode v w s t f g how → IsAlong mode u w r t g
 along-on mode u v w r s t f g how a go = record { underway = go.underway; only = only-further u v w a.only go.only; cube = go.cube ∙ a.cube }

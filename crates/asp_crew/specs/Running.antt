@@ -1,5 +1,6 @@
 -- One search that works off the leaves of a board by number 0: what holds after each step, and what is left to do.
-use Rattle.std.specs.Prelude.{◌≡◌, ◌⊎◌, Bool, true, ℕ, ◌+◌, ◌-◌, ◌*◌, ◌^◌, ◌<◌, not, false, List, [], filter, length, ℤ, Option, None, Some, IsTrue}
+use Rattle.std.specs.Prelude.{◌≡◌, ◌⊎◌, Bool, true, ℕ, ◌+◌, ◌-◌, ◌*◌, ◌^◌, ◌<◌, not, false, List, [], ◌++◌, filter, length, ℤ, Option, None, Some, IsTrue}
+use Rattle.std.specs.List.{AllByRecursion}
 use Rattle.std.specs.Option.{IfSome}
 use Rattle.asp_model.specs.declared.program.Program.{Program}
 use Rattle.asp_model.specs.declared.results.Mode.{Mode}
@@ -15,11 +16,12 @@ use Rattle.asp_vars.specs.Paid.{Clash, Units}
 use Rattle.asp_path.specs.declared.status.Status.{Status}
 use Rattle.asp_path.specs.declared.status.Status.TheVariants as status
 use Rattle.asp_path.specs.Trees.{with_status, held_count, open_from}
+use Rattle.asp_core.specs.declared.event.Event.{Event}
 use Rattle.asp_core.specs.declared.event.Event.TheVariants as event
 use Rattle.asp_core.specs.declared.task.Task.{Task}
 use Rattle.asp_core.specs.Units.{out_of}
 use Rattle.asp_core.specs.Boards.{Board, is_enough, is_excused, lists, optimises}
-use Rattle.asp_core.specs.Events.{Guard, happens}
+use Rattle.asp_core.specs.Events.{Guard, happens, maker}
 use Rattle.asp_core.specs.Invariant.{IsCube}
 use Rattle.asp_book.specs.Books.{Booked, board}
 use Rattle.asp_search_laws.specs.Searching.{Searching, used}
@@ -67,9 +69,16 @@ pub record IsUnderway (mode : Mode) (v : Booked) (s : Searching) (f : Units) : T
   pub entered : IsEntered v.task s.cube
   pub learnt : s.learnt < 2 ^ 64
 
+-- Number 0 added events to the journal, and nobody else did.
+pub record Adds (v w : Booked) : Type 0 where
+  pub more : List Event
+  pub journal : w.journal ≡ v.journal ++ more
+  pub main : AllByRecursion (λ e. maker e ≡ 0) more
+
 -- What was recorded has changed at most.
 pub record OnlyRecords (v w : Booked) : Type 0 where
   pub task : w.task ≡ v.task
+  pub adds : Adds v w
   pub nodes : (board w).nodes ≡ (board v).nodes
   pub out : (board w).out ≡ (board v).out
   pub pool : (board w).pool ≡ (board v).pool
@@ -133,6 +142,7 @@ status_after (Some x) enough = status.Open
 pub record LeavesLeaf (mode : Mode) (v w : Booked) (leaf : ℕ) (t : Searching) (g : Units) (unpaid : Option Clash) : Type 0 where
   pub ready : IsReady mode w t g
   pub task : w.task ≡ v.task
+  pub adds : Adds v w
   pub nodes : (board w).nodes ≡ with_status (board v).nodes leaf (status_after unpaid (is_enough (board w)))
   pub out : (board w).out ≡ (board v).out
   pub pool : (board w).pool ≡ (board v).pool
@@ -152,11 +162,13 @@ pub record LeavesAll (mode : Mode) (v w : Booked) (t : Searching) (g : Units) (u
   pub ready : IsReady mode w t g
   pub alone : IsAlone (board w)
   pub task : w.task ≡ v.task
+  pub adds : Adds v w
   pub pool : (board w).pool ≡ (board v).pool
   pub through : IsThrough (board w) g unpaid
 
 -- all that was open is worked off, unless it is enough
 pub record Finishes (v w : Booked) (unpaid : Option Clash) : Type 0 where
   pub task : w.task ≡ v.task
+  pub adds : Adds v w
   pub idle : IsIdle (board w)
   pub over : IsWorkedOff (board w) unpaid

@@ -1,6 +1,6 @@
 //! The proof of a run, from its results and what was written down on the way.
 ghost use Rattle.std.specs.Prelude.{◌≡◌, true, IfOk};
-ghost use Rattle.asp_model.specs.Texts.{recorded};
+ghost use Rattle.asp_model.specs.Texts.{bests, recorded};
 ghost use Rattle.asp_crew_laws.specs.Proofs.{is_opt, HasProof, IsProofOf};
 
 use crate::report::Report;
@@ -9,8 +9,8 @@ use asp_model::results::{End, Mode, Results};
 use asp_model::seq::Seq;
 use asp_proof::proof::Proof;
 use asp_recorder::recorder::Recorder;
+use asp_rows::sets::Sets;
 use std::alloc::{AllocError, Global};
-use std::slice;
 
 fn is_opt(mode: Mode) -> bool
     ensures { result ≡ is_opt mode }
@@ -21,39 +21,37 @@ fn is_opt(mode: Mode) -> bool
     }
 }
 
-// The answers that were found: in an optimisation the best alone, where no others are listed.
-fn recorded(results: &Results) -> &[Interp]
-    ensures { result.now ≡ recorded results.now.mode results.now }
+// The answers that are listed, or where none is the best.
+fn bests(alloc: Global, results: &Results<Sets>) -> Result<Vec<Interp>, AllocError>
+    ensures { IfOk result (λ copies. copies.items ≡ bests results.now.best results.now.answers) }
 {
-    match results.mode {
-        Mode::Enum => results.answers.as_slice(),
-        Mode::Opt => match results.answers.as_slice() {
-            [] => match &results.best {
-                Some((interp, _)) => slice::from_ref(interp),
-                None => &[],
-            },
-            [_, ..] => results.answers.as_slice(),
-        },
-        Mode::Consequences(_) => &[],
+    let rows = results.answers.rows();
+    if rows.len() != 0 {
+        return rows.to_sets(alloc);
     }
-}
-
-fn copies(alloc: Global, sets: &[Interp]) -> Result<Vec<Interp>, AllocError>
-    ensures { IfOk result (λ copies. copies.items ≡ sets.now) }
-{
-    let mut copies = Vec::with_capacity(alloc, sets.len())?;
-    for set in sets {
-        let copy = set.copy()?;
-        copies.push(copy)?;
+    let mut copies = Vec::new(alloc);
+    if let Some((best, _)) = &results.best {
+        copies.push(best.copy()?)?;
     }
     Ok(copies)
 }
 
+// The answers that were found: in an optimisation the best alone, where no others are listed.
+fn recorded(alloc: Global, results: &Results<Sets>) -> Result<Vec<Interp>, AllocError>
+    ensures { IfOk result (λ copies. copies.items ≡ recorded results.now.mode results.now) }
+{
+    match results.mode {
+        Mode::Enum => results.answers.rows().to_sets(alloc),
+        Mode::Opt => bests(alloc, results),
+        Mode::Consequences(_) => Ok(Vec::new(alloc)),
+    }
+}
+
 // The proof of a finished run with these results.
-fn proof_of(alloc: Global, results: &Results, recorder: Recorder) -> Result<Proof, AllocError>
+fn proof_of(alloc: Global, results: &Results<Sets>, recorder: Recorder) -> Result<Proof, AllocError>
     ensures { IfOk result (IsProofOf results.now) }
 {
-    let answers = copies(alloc, recorded(results))?;
+    let answers = recorded(alloc, results)?;
     Ok(Proof {
         opt: is_opt(results.mode),
         answers: Seq::from_vec(answers),

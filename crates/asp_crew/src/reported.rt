@@ -9,6 +9,7 @@ use crate::report::Report;
 use asp_book::book::Book;
 use asp_model::results::{Ask, End, Mode, Results};
 use asp_model::seq::Seq;
+use asp_rows::sets::Sets;
 use asp_vars::fuel::Conflict;
 
 fn end_by(enough: bool, closed: bool) -> End
@@ -48,13 +49,12 @@ pub(crate) fn told(
     let leaves = state.leaves();
     let spent = state.spent();
     let (mut answers, best, known) = state.into_found();
-    answers.sort_unstable();
-    answers.dedup();
+    answers.make_single();
     Report {
         results: Results {
             mode,
             end,
-            answers: Seq::from_vec(answers),
+            answers: Sets::from_rows(answers),
             best,
             known,
         },

@@ -192,6 +192,7 @@ pub fn with_ties<W: Watch>(
     ensures report { IfOk result (λ r. (units : ℕ) → IsReport compiled.now (asks ask.mode ask.models) units report → IsReport compiled.now ask units r) }
     ensures log { IfOk result (λ r. r.log ≡ report.log) }
     ensures short { IfOk result (λ r. r.short ≡ report.short) }
+    ensures same { IfOk result (λ r. (r.journal ≡ report.journal) × (r.short ≡ report.short)) }
     ensures proof { IfOk result (λ r. r.proof ≡ None) }
     ensures heard { W.IsAfter watch.old watch.new }
 {

@@ -13,7 +13,7 @@ use Rattle.asp_model.specs.Asked.{limit_of, reasoning_of}
 use Rattle.asp_model.specs.Consequences.{consequences_of}
 use Rattle.asp_model.specs.declared.results.End.{End}
 use Rattle.asp_model.specs.declared.results.End.TheVariants.{Finished, Limited, Unfinished}
-use Rattle.asp_model.specs.declared.results.Results.{Results}
+use Rattle.asp_model.specs.Found.{Found}
 use Rattle.asp_model.specs.Sets.{Atoms, IsBefore, same_set}
 use Rattle.asp_model.specs.Models.{answers}
 use Rattle.asp_model.specs.Costs.{cost, betters, optima}
@@ -49,7 +49,7 @@ none-some : (w : Reasoning) → None ≡ Some w → ⊥
 none-some w e = cc
 
 -- where consequences are sought none is listed
-none-told : (all : Bool) (p : Program) (mode : Mode) (w : Reasoning) (r : Results) → reasoning_of mode ≡ Some w → IsPartOf all p mode r → r.answers ≡ []
+none-told : (all : Bool) (p : Program) (mode : Mode) (w : Reasoning) (r : Found) → reasoning_of mode ≡ Some w → IsPartOf all p mode r → r.answers ≡ []
 none-told all p Enum w r e part = absurd (none-some w e)
 none-told all p Opt w r e part = absurd (none-some w e)
 none-told false p (Consequences v) w r e part = part.0
@@ -64,7 +64,7 @@ best-priced : (p : Program) (best : Option (Atoms × List ℤ)) → IsBest p bes
 best-priced p None h = tt
 best-priced p (Some best) h = (h.answer, h.sums)
 
-found-part : (all : Bool) (p : Program) (mode : Mode) (r : Results) → IsAllFound all p mode r.answers r.best r.known → IsPartOf all p mode r
+found-part : (all : Bool) (p : Program) (mode : Mode) (r : Found) → IsAllFound all p mode r.answers r.best r.known → IsPartOf all p mode r
 found-part false p (Consequences w) r h = (h.0, h.1, ((λ S. true), h.2 ∙ ap (consequences_of w p) (sym (all-chosen (answers p)))))
 found-part true p (Consequences w) r h = (h.0, h.1, ((λ S. true), h.2 ∙ ap (consequences_of w p) (sym (all-chosen (answers p)))))
 found-part false p Enum r h = (((λ S. true), h.0 ∙ sym (all-chosen (answers p))), h.1)
@@ -105,7 +105,7 @@ none-order L e = subst (λ (K : List Atoms). AllPairs IsBefore K) (sym e) (pairs
 optima-order : (p : Program) → AllPairs IsBefore (optima p)
 optima-order p = chosen-order (λ S. not (list_any (λ T. betters (cost p T) (cost p S)) (answers p))) (optima p) (answers p) refl (answers-rise p)
 
-part-order : (all : Bool) (p : Program) (mode : Mode) (r : Results) → IsPartOf all p mode r → AllPairs IsBefore r.answers
+part-order : (all : Bool) (p : Program) (mode : Mode) (r : Found) → IsPartOf all p mode r → AllPairs IsBefore r.answers
 part-order false p Enum r part = chosen-order part.0.0 r.answers (answers p) part.0.1 (answers-rise p)
 part-order false p Opt r part = none-order r.answers part.0
 part-order false p (Consequences w) r part = none-order r.answers part.0
@@ -128,7 +128,7 @@ any-filtered q chosen (S ∷ L) h = here (chosen S) h (any-filtered q chosen L)
 chosen-has : (chosen : Atoms → Bool) (L M : List Atoms) (S : Atoms) → L ≡ filter chosen M → list_any (same_set S) L ≡ true → list_any (same_set S) M ≡ true
 chosen-has chosen L M S e h = any-filtered (same_set S) chosen M (sym (ap (list_any (same_set S)) e) ∙ h)
 
-part-has : (all : Bool) (p : Program) (mode : Mode) (r : Results) (S : Atoms) → IsPartOf all p mode r → list_any (same_set S) r.answers ≡ true → list_any (same_set S) (answers p) ≡ true
+part-has : (all : Bool) (p : Program) (mode : Mode) (r : Found) (S : Atoms) → IsPartOf all p mode r → list_any (same_set S) r.answers ≡ true → list_any (same_set S) (answers p) ≡ true
 part-has false p Enum r S part h = chosen-has part.0.0 r.answers (answers p) S part.0.1 h
 part-has false p Opt r S part h = absurd (false≢true (ap (list_any (same_set S)) (sym part.0) ∙ h))
 part-has false p (Consequences w) r S part h = absurd (false≢true (ap (list_any (same_set S)) (sym part.0) ∙ h))

@@ -14,7 +14,7 @@ use Rattle.asp_model.specs.Asked.{reasoning_of}
 use Rattle.asp_model.specs.Consequences.{common_sets, consequences_of, used_up}
 use Rattle.asp_model.specs.declared.results.End.{End}
 use Rattle.asp_model.specs.declared.results.End.TheVariants.{Finished, Limited, Unfinished}
-use Rattle.asp_model.specs.declared.results.Results.{Results}
+use Rattle.asp_model.specs.Found.{Found}
 use Rattle.asp_model.specs.Sets.{Atoms, same_set}
 use Rattle.asp_model.specs.Models.{answers}
 use Rattle.asp_model.specs.Costs.{cost, betters, optima}
@@ -84,12 +84,12 @@ listed-common : (w : Reasoning) (p : Program) (A : List Atoms) → common_sets w
 listed-common w p [] = refl
 listed-common w p (S ∷ A) = refl
 
-pub count-reported : (k : Option Reasoning) (p : Program) (A : List Atoms) (r : Results) → r.answers ≡ sorted_once (listed_by k A) → r.known ≡ common_by k p A → count_by k p A ≡ length (known_in k r)
+pub count-reported : (k : Option Reasoning) (p : Program) (A : List Atoms) (r : Found) → r.answers ≡ sorted_once (listed_by k A) → r.known ≡ common_by k p A → count_by k p A ≡ length (known_in k r)
 count-reported None p A r answers known = sym (ap length answers ∙ length-sorted_once A)
 count-reported (Some w) p A r answers known = ap length (listed-common w p A) ∙ ap (λ (o : Option Atoms). length (option_to_list o)) (sym known)
 
 -- What is reported uses up the same sets as what was delivered.
-used-reported : (k : Option Reasoning) (p : Program) (A : List Atoms) (r : Results) → r.answers ≡ sorted_once (listed_by k A) → r.known ≡ common_by k p A → (S : Atoms) → list_any (same_set S) (used_up k p A) ≡ list_any (same_set S) (used_up k p (known_in k r))
+used-reported : (k : Option Reasoning) (p : Program) (A : List Atoms) (r : Found) → r.answers ≡ sorted_once (listed_by k A) → r.known ≡ common_by k p A → (S : Atoms) → list_any (same_set S) (used_up k p A) ≡ list_any (same_set S) (used_up k p (known_in k r))
 used-reported None p A r answers known S = sym (sorted-has [] A S) ∙ ap (λ (L : List Atoms). list_any (same_set S) L) (sym answers)
 used-reported (Some w) p A r answers known S =
     ap (λ (U : List Atoms). list_any (same_set S) U) (sym (used-common w p A) ∙ ap (used_up (Some w) p) (listed-common w p A ∙ ap (λ (o : Option Atoms). option_to_list o) (sym known)))
@@ -236,7 +236,7 @@ module _ (t : Task) (r : Report) (is : IsPlayed t r) (board : IsBoard (board_by 
   under-limit none = less none (is_enough (board_by t r)) (all_closed (board_by t r).nodes) refl is.end
 
 -- an enumeration at its limit; an optimisation lists nothing
-limited-asked : (p : Program) (mode : Mode) (n : ℕ) (r : Results) → IsPart p mode r → (0 < n) × (length r.answers ≡ n) → IsAsked p (asks mode n) r
+limited-asked : (p : Program) (mode : Mode) (n : ℕ) (r : Found) → IsPart p mode r → (0 < n) × (length r.answers ≡ n) → IsAsked p (asks mode n) r
 limited-asked p Enum n r part at = record { listing = refl; some = at.0; count = at.1; part = part; best = tt }
 limited-asked p Opt n r part at = absurd (let f : ⊥ = omega (arith, at.0, at.1, ap length part.0) in f)
 limited-asked p (Consequences w) n r part at = absurd (let f : ⊥ = omega (arith, at.0, at.1, ap length part.0) in f)

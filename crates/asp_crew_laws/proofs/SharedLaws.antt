@@ -3,7 +3,7 @@ use Rattle.std.proofs.Common.{◌≡◌, ◌⊎◌, ℕ, zero, suc, ◌+◌, ◌
 use Rattle.std.specs.List.{AllByRecursion}
 use Rattle.std.proofs.lemmas.Bool.{false≢true, eq-eqb, and_parts, cases_eq, cases_lt, leb-true, le-leb, or_left, or_right}
 use Rattle.std.proofs.lemmas.List.Sums.{sum_by-cons}
-use Rattle.asp_model.proofs.MemberLaws.{each_weaker, each-append}
+use Rattle.asp_model.proofs.MemberLaws.{each_weaker, each-append, each-front}
 use Rattle.asp_vars.proofs.StandingLaws.{back-append}
 use Rattle.asp_path.specs.declared.status.Status.{Status}
 use Rattle.asp_path.specs.declared.status.Status.TheVariants as status
@@ -17,7 +17,7 @@ use Rattle.asp_core.specs.Events.{held_by, Guard, happens, maker, run, IsLawful,
 use Rattle.asp_core.proofs.GrowthLaws.{Spares-run}
 use Rattle.asp_book.proofs.CallLaws.{lawful-rest}
 use Rattle.asp_crew_laws.specs.Runs.{IsBack, Quiet}
-use Rattle.asp_crew_laws.specs.Gone.{IsSmall, IsClose, IsRelease, IsThrough, IsCutShort, IsCrewGone, IsUnshared, IsShared}
+use Rattle.asp_crew_laws.specs.Gone.{IsSmall, IsRelease, IsEmpty, IsEnough, IsFork, IsThrough, IsCut, IsCutShort, IsCrewGone, IsUnshared, IsShared, Was, WasEarly}
 use Rattle.asp_crew_laws.specs.Reports.{IsIdle}
 use Rattle.asp_crew_laws.proofs.GoneLaws.{cut-later}
 use Rattle.asp_crew_laws.proofs.QuietLaws.{all-join, quiet-both, quiet-closed}
@@ -90,15 +90,15 @@ each-of : (P : Event → Type 0) (workers : ℕ) (xs : List Event) → AllByRecu
 each-of P workers [] few h = tt
 each-of P workers (x ∷ xs) few h = (λ some. (h (maker x) (omega (arith, some)) few.0).0 refl, each-of P workers xs few.1 (λ n some le. (h n some le).1))
 
-unshared-fork : (e : Event) → maker e ≡ 0 → (IsClose e → ⊥) → IsUnshared e → ⊥
-unshared-fork (event.Take s leaf) z close u = u
-unshared-fork (event.Split s leaf l) z close u = u
-unshared-fork (event.Deliver s S) z close u = u
-unshared-fork (event.Improve s S) z close u = u
-unshared-fork (event.Close s leaf n) z close u = close tt
-unshared-fork (event.Release s leaf) z close u = u z
-unshared-fork (event.Lease s n) z close u = u
-unshared-fork (event.Back s left burnt) z close u = u
+unshared-fork : (e : Event) → maker e ≡ 0 → IsFork e → IsUnshared e → ⊥
+unshared-fork (event.Take s leaf) z fork u = u
+unshared-fork (event.Split s leaf l) z fork u = u
+unshared-fork (event.Deliver s S) z fork u = u
+unshared-fork (event.Improve s S) z fork u = u
+unshared-fork (event.Close s leaf n) z fork u = fork
+unshared-fork (event.Release s leaf) z fork u = u z
+unshared-fork (event.Lease s n) z fork u = u
+unshared-fork (event.Back s left burnt) z fork u = u
 
 unshared-worker : (e : Event) → (maker e ≡ 0 → ⊥) → (IsRelease e → ⊥) → IsUnshared e → ⊥
 unshared-worker (event.Take s leaf) ne kept u = u
@@ -144,11 +144,31 @@ module _ (t : Task) (workers : ℕ) (short never : Bool) (begun rest : List Even
   pub idle-when : IsIdle (replay t (begun ++ rest))
   idle-when = record { free = none-held; home = home-all }
 
+  -- ---- number 0 did no more than split the root
+  only-forks : AllByRecursion (λ e. maker e ≡ 0 → IsFork e) (begun ++ rest)
+  only-forks = each-append (λ e. maker e ≡ 0 → IsFork e) begun rest (each_weaker (λ e. (maker e ≡ 0) × IsFork e) (λ e. maker e ≡ 0 → IsFork e) (λ e h z. h.1) begun is.forks)
+      (each_weaker (λ e. maker e ≡ 0 → ⊥) (λ e. maker e ≡ 0 → IsFork e) (λ e h z. absurd (h z)) rest is.since)
+
+  early-when : (P : Board → Type 0) → Was P t (begun ++ rest) → WasEarly P t (begun ++ rest)
+  early-when P w = record {
+    before = w.before;
+    after = w.after;
+    is = w.is;
+    so = w.so;
+    early = each-front (λ e. maker e ≡ 0 → IsFork e) w.before w.after (subst (AllByRecursion (λ e. maker e ≡ 0 → IsFork e)) w.is only-forks);
+  }
+
+  cut-short : IsCut t short never (begun ++ rest) → IsCutShort t short never (begun ++ rest)
+  cut-short (inl s) = inl s
+  cut-short (inr (inl w)) = inr (inl (early-when IsEmpty w))
+  cut-short (inr (inr (inl w))) = inr (inr (inl (early-when IsEnough w)))
+  cut-short (inr (inr (inr h))) = inr (inr (inr h))
+
   -- ---- each worker came through, or one was cut short
   abbrev Outcome : ℕ → Type 0
-  Outcome k = ((n : ℕ) → 0 < n → n ≤ k → IsThrough t n begun (begun ++ rest)) ⊎ IsCutShort t short never (begun ++ rest)
+  Outcome k = ((n : ℕ) → 0 < n → n ≤ k → IsThrough t n begun (begun ++ rest)) ⊎ IsCut t short never (begun ++ rest)
 
-  one-more : (k : ℕ) → Outcome k → IsThrough t (suc k) begun (begun ++ rest) ⊎ IsCutShort t short never (begun ++ rest) → Outcome (suc k)
+  one-more : (k : ℕ) → Outcome k → IsThrough t (suc k) begun (begun ++ rest) ⊎ IsCut t short never (begun ++ rest) → Outcome (suc k)
   one-more k (inr cut) w = inr cut
   one-more k (inl through) (inr cut) = inr cut
   one-more k (inl through) (inl last) = inl (λ n some few. at n some (cases_eq n (suc k)) few)
@@ -212,14 +232,14 @@ module _ (t : Task) (workers : ℕ) (short never : Bool) (begun rest : List Even
     none-unshared =
         let kept : AllByRecursion (λ e. (maker e ≡ 0 → ⊥) → IsRelease e → ⊥) (begun ++ rest) = each-of (λ e. IsRelease e → ⊥) workers (begun ++ rest) is.few (λ n some le. (through n some le).kept) in
         each-append (λ e. IsUnshared e → ⊥) begun rest
-        (each_weaker (λ e. (maker e ≡ 0) × (IsClose e → ⊥)) (λ e. IsUnshared e → ⊥) (λ e h u. unshared-fork e h.0 h.1 u) begun is.forks)
+        (each_weaker (λ e. (maker e ≡ 0) × IsFork e) (λ e. IsUnshared e → ⊥) (λ e h u. unshared-fork e h.0 h.1 u) begun is.forks)
         (all-join (λ e. maker e ≡ 0 → ⊥) (λ e. (maker e ≡ 0 → ⊥) → IsRelease e → ⊥) (λ e. IsUnshared e → ⊥) (λ e ne h u. unshared-worker e ne (h ne) u) rest is.since
         (back-append (λ e. (maker e ≡ 0 → ⊥) → IsRelease e → ⊥) begun rest kept))
 
   module _ (some : 0 < workers) (more : List Event) (lawful : IsLawful (start t) ((begun ++ rest) ++ more)) (main : AllByRecursion (λ e. maker e ≡ 0) more) where
     causes-by : Outcome workers → AllByRecursion (λ e. IsUnshared e → IsCutShort t short never ((begun ++ rest) ++ more)) ((begun ++ rest) ++ more)
     causes-by (inr cut) =
-        let late : IsCutShort t short never ((begun ++ rest) ++ more) = cut-later t (begun ++ rest) more short never cut in
+        let late : IsCutShort t short never ((begun ++ rest) ++ more) = cut-later t (begun ++ rest) more short never (cut-short cut) in
         all-of (λ e. IsUnshared e → IsCutShort t short never ((begun ++ rest) ++ more)) (λ e u. late) ((begun ++ rest) ++ more)
       where
         all-of : (P : Event → Type 0) → ((e : Event) → P e) → (xs : List Event) → AllByRecursion P xs

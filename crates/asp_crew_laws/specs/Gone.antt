@@ -5,7 +5,7 @@ use Rattle.asp_core.specs.declared.event.Event.{Event}
 use Rattle.asp_core.specs.declared.event.Event.TheVariants as event
 use Rattle.asp_core.specs.declared.task.Task.{Task}
 use Rattle.asp_core.specs.Units.{out_of}
-use Rattle.asp_core.specs.Boards.{start}
+use Rattle.asp_core.specs.Boards.{Board, start, is_enough}
 use Rattle.asp_core.specs.Events.{held_by, maker, IsLawful, replay}
 use Rattle.asp_crew_laws.specs.Runs.{Quiet}
 
@@ -20,33 +20,37 @@ IsSmall (event.Improve s S) = Unit {0}
 IsSmall (event.Close s leaf n) = Unit {0}
 IsSmall (event.Release s leaf) = Unit {0}
 
-abbrev pub IsLeaseBy : ℕ → Event → Type 0
-IsLeaseBy m (event.Lease s n) = s ≡ m
-IsLeaseBy m (event.Back s left burnt) = ⊥
-IsLeaseBy m (event.Take s leaf) = ⊥
-IsLeaseBy m (event.Split s leaf l) = ⊥
-IsLeaseBy m (event.Deliver s S) = ⊥
-IsLeaseBy m (event.Improve s S) = ⊥
-IsLeaseBy m (event.Close s leaf n) = ⊥
-IsLeaseBy m (event.Release s leaf) = ⊥
-
--- The pool was empty before the main thread leased.
-pub record WasSpent (t : Task) (journal : List Event) : Type 0 where
+-- At some moment of the journal the board was so.
+pub record Was (P : Board → Type 0) (t : Task) (journal : List Event) : Type 0 where
   pub before : List Event
   pub after : List Event
   pub is : journal ≡ before ++ after
-  pub pool : (replay t before).pool ≡ 0
-  pub early : AllByRecursion (λ e. IsLeaseBy 0 e → ⊥) before
+  pub so : P (replay t before)
 
-abbrev pub IsClose : Event → Type 0
-IsClose (event.Close s leaf n) = Unit {0}
-IsClose (event.Take s leaf) = ⊥
-IsClose (event.Split s leaf l) = ⊥
-IsClose (event.Deliver s S) = ⊥
-IsClose (event.Improve s S) = ⊥
-IsClose (event.Release s leaf) = ⊥
-IsClose (event.Lease s n) = ⊥
-IsClose (event.Back s left burnt) = ⊥
+abbrev pub IsEmpty : Board → Type 0
+IsEmpty b = b.pool ≡ 0
+
+abbrev pub IsEnough : Board → Type 0
+IsEnough b = is_enough b ≡ true
+
+-- what the main thread does before the workers begin: it splits the root
+abbrev pub IsFork : Event → Type 0
+IsFork (event.Take s leaf) = Unit {0}
+IsFork (event.Split s leaf l) = Unit {0}
+IsFork (event.Release s leaf) = Unit {0}
+IsFork (event.Deliver s S) = ⊥
+IsFork (event.Improve s S) = ⊥
+IsFork (event.Close s leaf n) = ⊥
+IsFork (event.Lease s n) = ⊥
+IsFork (event.Back s left burnt) = ⊥
+
+-- The board was so when the main thread hadn't done more than that.
+pub record WasEarly (P : Board → Type 0) (t : Task) (journal : List Event) : Type 0 where
+  pub before : List Event
+  pub after : List Event
+  pub is : journal ≡ before ++ after
+  pub so : P (replay t before)
+  pub early : AllByRecursion (λ e. maker e ≡ 0 → IsFork e) before
 
 abbrev pub IsRelease : Event → Type 0
 IsRelease (event.Release s leaf) = Unit {0}
@@ -64,27 +68,31 @@ pub record IsThrough (t : Task) (n : ℕ) (begun journal : List Event) : Type 0 
   pub late : (mid : List Event) × (quiet.before ≡ begun ++ mid)
   pub kept : AllByRecursion (λ e. maker e ≡ n → IsRelease e → ⊥) journal
 
--- Memory or units were wanting, or somebody was stopped.
-abbrev pub IsCutShort : Task → Bool → Bool → List Event → Type 0
-IsCutShort t short never journal = (short ≡ true) ⊎ (WasSpent t journal ⊎ (never ≡ true → ⊥))
+-- Memory or units were wanting, as many answers as asked for were delivered, or somebody was stopped.
+abbrev pub IsCut : Task → Bool → Bool → List Event → Type 0
+IsCut t short never journal = (short ≡ true) ⊎ (Was IsEmpty t journal ⊎ (Was IsEnough t journal ⊎ (never ≡ true → ⊥)))
 
--- The number holds no leaf and no units. It ended where no leaf was open, or for want of memory or units, or it was stopped.
+-- The same, before the main thread went on.
+abbrev pub IsCutShort : Task → Bool → Bool → List Event → Type 0
+IsCutShort t short never journal = (short ≡ true) ⊎ (WasEarly IsEmpty t journal ⊎ (WasEarly IsEnough t journal ⊎ (never ≡ true → ⊥)))
+
+-- The number holds no leaf and no units. It ended where no leaf was open, or it was cut.
 pub record IsGone (t : Task) (short never : Bool) (n : ℕ) (begun journal : List Event) : Type 0 where
   pub free : held_by n (replay t journal).nodes ≡ 0
   pub home : out_of (replay t journal).out n ≡ 0
   pub leases : AllByRecursion (λ e. maker e ≡ n → IsSmall e) journal
-  pub why : IsThrough t n begun journal ⊎ IsCutShort t short never journal
+  pub why : IsThrough t n begun journal ⊎ IsCut t short never journal
 
 -- ---- the whole run
--- Numbers 1 to `workers` are gone. Number 0 holds no leaf and no units; it has done nothing since the workers began, and closed no
--- leaf before. No other number did anything.
+-- Numbers 1 to `workers` are gone. Number 0 holds no leaf and no units; it has done nothing since the workers began, and no more than
+-- split the root before. No other number did anything.
 pub record IsCrewGone (t : Task) (workers : ℕ) (short never : Bool) (begun rest : List Event) : Type 0 where
   pub lawful : IsLawful (start t) (begun ++ rest)
   pub gone : (n : ℕ) → 0 < n → n ≤ workers → IsGone t short never n begun (begun ++ rest)
   pub free : held_by 0 (replay t (begun ++ rest)).nodes ≡ 0
   pub home : out_of (replay t (begun ++ rest)).out 0 ≡ 0
   pub few : AllByRecursion (λ e. maker e ≤ workers) (begun ++ rest)
-  pub forks : AllByRecursion (λ e. (maker e ≡ 0) × (IsClose e → ⊥)) begun
+  pub forks : AllByRecursion (λ e. (maker e ≡ 0) × IsFork e) begun
   pub since : AllByRecursion (λ e. maker e ≡ 0 → ⊥) rest
 
 -- What the workers were to do: the main thread closed a leaf, or another number gave one back.

@@ -9,7 +9,7 @@ use Rattle.asp_model.specs.Asked.{reasoning_of}
 use Rattle.asp_model.specs.Consequences.{consequences_of, used_up}
 use Rattle.asp_model.specs.declared.results.End.{End}
 use Rattle.asp_model.specs.declared.results.End.TheVariants.{Finished, Limited, Unfinished}
-use Rattle.asp_model.specs.declared.results.Results.{Results}
+use Rattle.asp_model.specs.Found.{Found}
 use Rattle.std.specs.Option.{is_some}
 use Rattle.asp_model.specs.Sets.{Atoms}
 use Rattle.asp_model.specs.Models.{answers}
@@ -43,7 +43,7 @@ end_by false false = Unfinished
 abbrev pub end_of : Board → End
 end_of b = end_by (is_enough b) (all_closed b.nodes)
 
-abbrev pub best_cost : Results → Option (List ℤ)
+abbrev pub best_cost : Found → Option (List ℤ)
 best_cost r = option_map (λ best. best.1) r.best
 
 -- ---- what is left on a board
@@ -85,12 +85,12 @@ pub record IsToldBy (b : Board) (r : Report) : Type 0 where
 
 -- ---- what a report says by its journal
 -- what is known by the report: the answers listed, or where consequences were sought what the answers found have in common
-abbrev pub known_in : Option Reasoning → Results → List Atoms
+abbrev pub known_in : Option Reasoning → Found → List Atoms
 known_in None r = r.answers
 known_in (Some w) r = option_to_list r.known
 
 -- A conflict below a leaf that isn't closed, by the answers that were found and the bound that stood at the end.
-pub record IsUnpaid (t : Task) (b : Board) (r : Results) (x : Clash) : Type 0 where
+pub record IsUnpaid (t : Task) (b : Board) (r : Found) (x : Clash) : Type 0 where
   pub program : x.program ≡ t.program
   pub leaf : ℕ
   pub unclosed : IsTrue (is_unclosed (status_of b.nodes leaf))
@@ -162,13 +162,13 @@ IsPriced p best = Contains (answers p) best.0 × (best.1 ≡ cost p best.0)
 
 -- what one search found: in an enumeration some of the answers, each once, in their order; in an optimisation at most one, with its
 -- cost; of consequences what is in some, or in each, of some of the answers
-abbrev pub IsPart : Program → Mode → Results → Type 0
+abbrev pub IsPart : Program → Mode → Found → Type 0
 IsPart p Enum r = ((chosen : Atoms → Bool) × (r.answers ≡ filter chosen (answers p))) × (r.best ≡ None)
 IsPart p Opt r = (r.answers ≡ []) × IfSome r.best (IsPriced p)
 IsPart p (Consequences w) r = (r.answers ≡ []) × (r.best ≡ None) × ((chosen : Atoms → Bool) × (r.known ≡ consequences_of w p (filter chosen (answers p))))
 
 -- The same of a run; where all optima are asked for some of these, each once, in their order.
-abbrev pub IsPartOf : Bool → Program → Mode → Results → Type 0
+abbrev pub IsPartOf : Bool → Program → Mode → Found → Type 0
 IsPartOf false p mode r = IsPart p mode r
 IsPartOf true p Enum r = IsPart p Enum r
 IsPartOf true p (Consequences w) r = IsPart p (Consequences w) r
@@ -194,7 +194,7 @@ HasBest p Opt best = IsBest p best
 HasBest p (Consequences w) best = Unit {0}
 
 -- as many of the answers as were asked for, each once, in their order; where all optima were, as many of these
-pub record IsAsked (p : Program) (ask : Ask) (r : Results) : Type 0 where
+pub record IsAsked (p : Program) (ask : Ask) (r : Found) : Type 0 where
   pub listing : asks_list ask.all_optima ask.mode ≡ true
   pub some : 0 < ask.models
   pub count : length r.answers ≡ ask.models

@@ -108,7 +108,7 @@ pub fn others_leave_the_gone_alone()
 {}
 
 /// When the workers are gone and number 0 holds nothing, the board is idle. Where the main thread then goes on, the run was shared:
-/// the workers left nothing to it, and gave nothing back, unless they were cut short.
+/// the workers left nothing to it, and gave nothing back, unless they were cut short or it was enough.
 pub fn gone_workers_shared_the_run()
     ensures idle { (t : Task) (workers : ℕ) (short never : Bool) (begun rest : List Event) → IsCrewGone t workers short never begun rest → IsIdle (replay t (begun ++ rest)) }
     ensures shared { (t : Task) (workers : ℕ) (short never : Bool) (begun rest : List Event) → IsCrewGone t workers short never begun rest → 0 < workers → (more : List Event) → IsLawful (start t) ((begun ++ rest) ++ more) → AllByRecursion (λ e. maker e ≡ 0) more

@@ -7,6 +7,8 @@ use Rattle.std.proofs.lemmas.Bool.{false≢true, or_parts, cases_lt}
 use Rattle.std.proofs.lemmas.List.{ext_get_or, length-map}
 use Rattle.asp_model.specs.declared.program.Body.{Body}
 use Rattle.asp_model.specs.declared.program.Body.TheVariants as body
+use Rattle.asp_model.specs.declared.program.Head.{Head}
+use Rattle.asp_model.specs.declared.program.Head.TheVariants as head
 use Rattle.asp_model.specs.declared.program.Rule.{Rule}
 use Rattle.asp_model.specs.declared.program.Program.{Program}
 use Rattle.asp_model.specs.Sets.{Atoms, has, IsAscending, IsSubset}
@@ -17,13 +19,14 @@ use Rattle.asp_model.proofs.SetLaws.{IsAscending-set_of}
 use Rattle.asp_model.proofs.MemberLaws.{each-front, HasAll-itself}
 use Rattle.asp_vars.specs.Literals.{Literal, T, complement, is_true, hits}
 use Rattle.asp_vars.specs.Numbering.{body_eq, bodies_of, var_count, var_of_atom, var_of_form, var_of_body, literal_of, values, nth_body, nth_atom}
-use Rattle.asp_vars.specs.Completion.{body_nogoods, rule_nogoods, atom_nogood, completion}
+use Rattle.asp_vars.specs.Completion.{is_barred, defining_nogoods, body_nogoods, rule_nogoods, atom_nogood, completion}
 use Rattle.asp_vars.specs.Tabled.{Stands}
 use Rattle.asp_vars.specs.Unfounded.{is_unfounded}
 use Rattle.asp_vars.proofs.LiteralLaws.{is_true-complement}
 use Rattle.asp_vars.proofs.NumberingLaws.{value-atom, value-form}
 use Rattle.asp_vars.proofs.PlaceLaws.{at_each, var_of_nth_atom, var_of_nth_body}
-use Rattle.asp_vars.proofs.StandingLaws.{bodies_of-stand, bodies_of-themselves}
+use Rattle.asp_vars.proofs.CompletionLaws.{body_nogoods-barred, body_nogoods-defining, barred_by}
+use Rattle.asp_vars.proofs.StandingLaws.{back-append, bodies_of-stand, bodies_of-themselves}
 use Rattle.asp_loop.proofs.FoundedLaws.{has-filter}
 use Rattle.asp_found.specs.Valuations.{IsValuation, true_atoms, KeepsWeights}
 use Rattle.asp_found.proofs.RestLaws.{each-unflat_map}
@@ -33,9 +36,21 @@ use Rattle.asp_found.proofs.CheckLaws.{no_unfounded_stable}
 abbrev Unhit : List Bool → List (List Literal) → Type 0
 Unhit v ns = AllByRecursion (λ n. hits v n ≡ false) ns
 
+-- nor one of the rules
+abbrev RulesUnhit : Program → List Bool → Type 0
+RulesUnhit p v = AllByRecursion (λ (r : Rule). Unhit v (rule_nogoods p (var_of_body p r.body) r.head)) (rules_in_force p)
+
 unhit : (v : List Bool) (ns : List (List Literal)) → list_any (hits v) ns ≡ false → Unhit v ns
 unhit v [] e = tt
 unhit v (n ∷ ns) e = let parts = or_parts (hits v n) (list_any (hits v) ns) e in (parts.0, unhit v ns parts.1)
+
+rules_unhit : (p : Program) (v : List Bool) → list_any (hits v) (completion p) ≡ false → RulesUnhit p v
+rules_unhit p v e =
+    let P : List Literal → Type 0 = λ n. hits v n ≡ false in
+    let bodies : List (List Literal) = flat_map (body_nogoods p) (bodies_of p) in
+    let rules : List (List Literal) = flat_map (λ (r : Rule). rule_nogoods p (var_of_body p r.body) r.head) (rules_in_force p) in
+    let atoms : List (List Literal) = map (atom_nogood p) (atoms_of p) in
+    each-unflat_map P (λ (r : Rule). rule_nogoods p (var_of_body p r.body) r.head) (rules_in_force p) (back-append P bodies rules (each-front P (bodies ++ rules) atoms (unhit v (completion p) e)))
 
 bodies_unhit : (p : Program) (v : List Bool) → list_any (hits v) (completion p) ≡ false → AllByRecursion (λ b. Unhit v (body_nogoods p b)) (bodies_of p)
 bodies_unhit p v e =
@@ -86,16 +101,33 @@ each_true p v x (l ∷ ls) e stand h =
     let one : is_true v (literal_of p l) ≡ true = not_false (is_true v (literal_of p l)) (ap (λ b. b && true) (sym (is_true-complement v (literal_of p l))) ∙ lost) in
     ap (λ b. b && all_hold (true_atoms p v) ls) (sym (literal_value p v l stand.0) ∙ one) ∙ each_true p v x ls e stand.1 h.1
 
-normal_value : (p : Program) (v : List Bool) (ls : List ℤ) → Stands (atoms_of p) (body.All ls) → Unhit v (body_nogoods p (body.All ls)) → get_or v (var_of_form p (body.All ls)) false ≡ all_hold (true_atoms p v) ls
-normal_value p v ls stand h = cases (get_or v (var_of_form p (body.All ls)) false) refl
+-- the value of a body by the nogoods that define it
+defined_value : (p : Program) (v : List Bool) (ls : List ℤ) → Stands (atoms_of p) (body.All ls) → Unhit v (defining_nogoods p ls) → get_or v (var_of_form p (body.All ls)) false ≡ all_hold (true_atoms p v) ls
+defined_value p v ls stand h = cases (get_or v (var_of_form p (body.All ls)) false) refl
   where
     cases : (b : Bool) → b ≡ get_or v (var_of_form p (body.All ls)) false → b ≡ all_hold (true_atoms p v) ls
     cases true q = sym (each_true p v (var_of_form p (body.All ls)) ls (sym q) stand h.1)
     cases false q = sym (sym (literals_value p v ls stand) ∙ ap (λ b. beq b false && hits v (map (literal_of p) ls)) q ∙ h.0)
 
-form_value : (p : Program) (v : List Bool) (b : Body) → KeepsWeights p v → list_any (body_eq b) (bodies_of p) ≡ true → Stands (atoms_of p) b → Unhit v (body_nogoods p b) → get_or v (var_of_form p b) false ≡ body_holds (true_atoms p v) b
-form_value p v (body.All ls) keeps listed stand h = normal_value p v ls stand h
-form_value p v (body.AtLeast bound items) keeps listed stand h = sym (beq_true (get_or v (var_of_form p (body.AtLeast bound items)) false)) ∙ keeps bound items listed
+-- a constraint's body is false
+barred_value : (p : Program) (v : List Bool) (b : Body) → RulesUnhit p v → is_barred p b ≡ true → get_or v (var_of_form p b) false ≡ false
+barred_value p v b rules =
+    barred_by (λ (r : Rule). Unhit v (rule_nogoods p (var_of_body p r.body) r.head)) (get_or v (var_of_form p b) false ≡ false) p b rules (λ r u is same.
+    let unit : Unhit v (rule_nogoods p (var_of_form p b) head.Never) = subst (λ (c : Body). Unhit v (rule_nogoods p (var_of_form p c) head.Never)) same (subst (λ (h : Head). Unhit v (rule_nogoods p (var_of_body p r.body) h)) is u) in
+    sym (and_true (beq (get_or v (var_of_form p b) false) true) ∙ beq_true (get_or v (var_of_form p b) false)) ∙ unit.0)
+
+normal_value : (p : Program) (v : List Bool) (ls : List ℤ) → RulesUnhit p v → Stands (atoms_of p) (body.All ls) → Unhit v (body_nogoods p (body.All ls)) → get_or v (var_of_form p (body.All ls)) false ≡ all_hold (true_atoms p v) ls
+normal_value p v ls rules stand h = cases (is_barred p (body.All ls)) refl
+  where
+    cases : (t : Bool) → t ≡ is_barred p (body.All ls) → get_or v (var_of_form p (body.All ls)) false ≡ all_hold (true_atoms p v) ls
+    cases true q =
+        let alone : Unhit v (map (literal_of p) ls ∷ []) = subst (Unhit v) (body_nogoods-barred p ls (sym q)) h in
+        barred_value p v (body.All ls) rules (sym q) ∙ sym (sym (literals_value p v ls stand) ∙ alone.0)
+    cases false q = defined_value p v ls stand (subst (Unhit v) (body_nogoods-defining p ls (sym q)) h)
+
+form_value : (p : Program) (v : List Bool) (b : Body) → RulesUnhit p v → KeepsWeights p v → list_any (body_eq b) (bodies_of p) ≡ true → Stands (atoms_of p) b → Unhit v (body_nogoods p b) → get_or v (var_of_form p b) false ≡ body_holds (true_atoms p v) b
+form_value p v (body.All ls) rules keeps listed stand h = normal_value p v ls rules stand h
+form_value p v (body.AtLeast bound items) rules keeps listed stand h = sym (beq_true (get_or v (var_of_form p (body.AtLeast bound items)) false)) ∙ keeps bound items listed
 
 -- ---- all values
 values-length : (p : Program) (S : Atoms) → length (values p S) ≡ suc (var_count p)
@@ -122,7 +154,7 @@ values_are p v is e keeps = ext_get_or false v (values p (true_atoms p v)) (is.s
         let stand : Stands (atoms_of p) b = at_each (Stands (atoms_of p)) (bodies_of p) j (body.All []) (bodies_of-stand p) lt in
         let open_ : Unhit v (body_nogoods p b) = at_each (λ c. Unhit v (body_nogoods p c)) (bodies_of p) j (body.All []) (bodies_unhit p v e) lt in
         subst (λ (n : ℕ). get_or v n false ≡ get_or (values p (true_atoms p v)) n false) (var_of_nth_body p j lt)
-        (form_value p v b keeps listed stand open_ ∙ sym (value-form p (true_atoms p v) b listed))
+        (form_value p v b (rules_unhit p v e) keeps listed stand open_ ∙ sym (value-form p (true_atoms p v) b listed))
 
     at : (i : ℕ) → i < suc (var_count p) → get_or v i false ≡ get_or (values p (true_atoms p v)) i false
     at zero lt = is.first

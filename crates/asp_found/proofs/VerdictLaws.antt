@@ -1,5 +1,6 @@
 -- What the loops of the check show.
 use Rattle.std.proofs.Common.{◌≡◌, ℕ, Bool, true, false, not, cond, ◌&&◌, ◌||◌, List, [], ◌∷◌, ◌++◌, map, filter, refl, sym, ap, ◌∙◌, subst}
+use Rattle.std.specs.Prelude.{ℤ}
 use Rattle.std.specs.List.{list_all, list_any, flat_map, AllByRecursion}
 use Rattle.std.proofs.lemmas.Bool.{false≢true, and_parts, and_from}
 use Rattle.asp_model.specs.declared.program.Body.{Body}
@@ -16,12 +17,12 @@ use Rattle.asp_model.proofs.MemberLaws.{list_any-flat_map, each_weaker, one_pass
 use Rattle.asp_model.proofs.ReductLaws.{rules_in_force-heads}
 use Rattle.asp_vars.specs.Literals.{Literal, T, F, complement, is_true, hits}
 use Rattle.asp_vars.specs.Numbering.{normal, body_eq, bodies_of, var_of_atom, var_of_form, var_of_body, literal_of, values}
-use Rattle.asp_vars.specs.Completion.{body_nogoods, rule_nogoods, atom_nogood, completion}
+use Rattle.asp_vars.specs.Completion.{is_barred, body_nogoods, rule_nogoods, atom_nogood, completion}
 use Rattle.asp_vars.proofs.LiteralLaws.{is_true-complement}
 use Rattle.asp_vars.proofs.NormalLaws.{body_holds-normal}
 use Rattle.asp_vars.specs.Tabled.{Stands}
 use Rattle.asp_vars.proofs.StandingLaws.{Among, each_among, rule_has_form, each_both}
-use Rattle.asp_vars.proofs.CompletionLaws.{hits-literals, literal-holds, form-true, form-false, rule-true, atom-true, atom-false, rule_entailed, atom_entailed, members_hold, bodies_fail}
+use Rattle.asp_vars.proofs.CompletionLaws.{hits-literals, literal-holds, form-true, form-false, rule-true, atom-true, atom-false, rule_entailed, atom_entailed, members_hold, bodies_fail, each_of_body, barred_by}
 use Rattle.std.proofs.lemmas.List.Folds.{list_any-append}
 use Rattle.asp_model.proofs.MemberLaws.{list_any-map, each-append, each-flat_map, each-map, HasAll, HasAll-itself}
 use Rattle.asp_vars.specs.declared.nogood.Base.TheVariants as base
@@ -136,19 +137,31 @@ follows_no false b f = refl
 follows_no true true f = refl
 follows_no true false f = absurd (false≢true (f refl))
 
-body_unhit : (p : Program) (S : Atoms) (b : Body) → list_any (body_eq b) (bodies_of p) ≡ true → Stands (atoms_of p) b → NoneHit p S (body_nogoods p b)
-body_unhit p S (body.All ls) has_var stands = (
-  ap (λ b. b && hits (values p S) (map (literal_of p) ls)) (form-false p S (body.All ls) has_var)
-      ∙ ap (λ b. not (all_hold S ls) && b) (hits-literals p S ls stands) ∙ not_both' (all_hold S ls),
-  each-map (λ n. hits (values p S) n ≡ false) (λ l. T (var_of_form p (body.All ls)) ∷ complement (literal_of p l) ∷ []) ls
-      (each_weaker (λ l. (has (atoms_of p) (atom_of l) ≡ true) × ((S : Atoms) → all_hold S ls ≡ true → holds S l ≡ true))
-      (λ l. hits (values p S) (T (var_of_form p (body.All ls)) ∷ complement (literal_of p l) ∷ []) ≡ false) (λ l f.
-      ap (λ b. b && (is_true (values p S) (complement (literal_of p l)) && true)) (form-true p S (body.All ls) has_var)
-      ∙ ap (λ b. all_hold S ls && (b && true)) (is_true-complement (values p S) (literal_of p l) ∙ ap not (literal-holds p S l f.0))
-      ∙ follows_no (all_hold S ls) (holds S l) (f.1 S)) ls
-      (each_both (λ l. has (atoms_of p) (atom_of l) ≡ true) (λ l. (S : Atoms) → all_hold S ls ≡ true → holds S l ≡ true) ls stands (members_hold ls))),
-)
-body_unhit p S (body.AtLeast c items) has_var stands = tt
+-- the body of a constraint that is kept doesn't hold
+kept_constraint : (a b : Bool) → b ≡ false → (not a || b) ≡ true → a ≡ false
+kept_constraint true b e h = absurd (false≢true (sym e ∙ h))
+kept_constraint false b e h = refl
+
+barred_unhit : (p : Program) (S : Atoms) (ls : List ℤ) → AllByRecursion (λ r. keeps S r ≡ true) (rules_in_force p) → Stands (atoms_of p) (body.All ls) → is_barred p (body.All ls) ≡ true → hits (values p S) (map (literal_of p) ls) ≡ false
+barred_unhit p S ls kept stands barred =
+    hits-literals p S ls stands
+    ∙ barred_by (λ r. keeps S r ≡ true) (all_hold S ls ≡ false) p (body.All ls) kept (λ r k is same.
+    ap (body_holds S) (sym same) ∙ body_holds-normal S r.body ∙ kept_constraint (body_holds S r.body) (is_kept S r.head) (ap (is_kept S) is) k) barred
+
+body_unhit : (p : Program) (S : Atoms) (b : Body) → AllByRecursion (λ r. keeps S r ≡ true) (rules_in_force p) → list_any (body_eq b) (bodies_of p) ≡ true → Stands (atoms_of p) b → NoneHit p S (body_nogoods p b)
+body_unhit p S (body.All ls) kept has_var stands =
+    each_of_body (λ n. hits (values p S) n ≡ false) p ls (barred_unhit p S ls kept stands) (
+      ap (λ b. b && hits (values p S) (map (literal_of p) ls)) (form-false p S (body.All ls) has_var)
+          ∙ ap (λ b. not (all_hold S ls) && b) (hits-literals p S ls stands) ∙ not_both' (all_hold S ls),
+      each-map (λ n. hits (values p S) n ≡ false) (λ l. T (var_of_form p (body.All ls)) ∷ complement (literal_of p l) ∷ []) ls
+          (each_weaker (λ l. (has (atoms_of p) (atom_of l) ≡ true) × ((S : Atoms) → all_hold S ls ≡ true → holds S l ≡ true))
+          (λ l. hits (values p S) (T (var_of_form p (body.All ls)) ∷ complement (literal_of p l) ∷ []) ≡ false) (λ l f.
+          ap (λ b. b && (is_true (values p S) (complement (literal_of p l)) && true)) (form-true p S (body.All ls) has_var)
+          ∙ ap (λ b. all_hold S ls && (b && true)) (is_true-complement (values p S) (literal_of p l) ∙ ap not (literal-holds p S l f.0))
+          ∙ follows_no (all_hold S ls) (holds S l) (f.1 S)) ls
+          (each_both (λ l. has (atoms_of p) (atom_of l) ≡ true) (λ l. (S : Atoms) → all_hold S ls ≡ true → holds S l ≡ true) ls stands (members_hold ls))),
+    )
+body_unhit p S (body.AtLeast c items) kept has_var stands = tt
 
 kept_no : (a b : Bool) → (not a || b) ≡ true → (a && (not b && true)) ≡ false
 kept_no true true e = refl
@@ -205,13 +218,14 @@ none_broken p S kept supported =
     let bodies : List (List Literal) = flat_map (body_nogoods p) (bodies_of p) in
     let rules : List (List Literal) = flat_map (λ (r : Rule). rule_nogoods p (var_of_body p r.body) r.head) (rules_in_force p) in
     let atoms : List (List Literal) = map (atom_nogood p) (atoms_of p) in
+    let each_kept : AllByRecursion (λ r. keeps S r ≡ true) (rules_in_force p) = each_passes (keeps S) (rules_in_force p) kept in
     none_passes (hits (values p S)) (completion p) (each-append P (bodies ++ rules) atoms (each-append P bodies rules
-    (each-flat_map P (body_nogoods p) (bodies_of p) (each_weaker (λ b. (list_any (body_eq b) (bodies_of p) ≡ true) × Stands (atoms_of p) b) (λ b. AllByRecursion P (body_nogoods p b)) (λ b h. body_unhit p S b h.0 h.1) (bodies_of p)
+    (each-flat_map P (body_nogoods p) (bodies_of p) (each_weaker (λ b. (list_any (body_eq b) (bodies_of p) ≡ true) × Stands (atoms_of p) b) (λ b. AllByRecursion P (body_nogoods p b)) (λ b h. body_unhit p S b each_kept h.0 h.1) (bodies_of p)
     (each_both (λ b. list_any (body_eq b) (bodies_of p) ≡ true) (Stands (atoms_of p)) (bodies_of p) (bodies_of-themselves p) (bodies_of-stand p))))
     (each-flat_map P (λ (r : Rule). rule_nogoods p (var_of_body p r.body) r.head) (rules_in_force p)
     (each_weaker (λ r. (Among (rules_in_force p) r × HasAll (atoms_of p) (head_atoms r.head)) × (keeps S r ≡ true)) (λ r. AllByRecursion P (rule_nogoods p (var_of_body p r.body) r.head)) (λ r h. rule_unhit p S r r.head h.0.0 h.0.1 h.1) (rules_in_force p)
     (each_both (λ r. Among (rules_in_force p) r × HasAll (atoms_of p) (head_atoms r.head)) (λ r. keeps S r ≡ true) (rules_in_force p)
-    (each_both (Among (rules_in_force p)) (λ r. HasAll (atoms_of p) (head_atoms r.head)) (rules_in_force p) (each_among (rules_in_force p)) (rules_in_force-heads p)) (each_passes (keeps S) (rules_in_force p) kept)))))
+    (each_both (Among (rules_in_force p)) (λ r. HasAll (atoms_of p) (head_atoms r.head)) (rules_in_force p) (each_among (rules_in_force p)) (rules_in_force-heads p)) each_kept))))
     (each-map P (atom_nogood p) (atoms_of p)
     (each_weaker (λ a. (has (atoms_of p) a ≡ true) × ((not (has S a) || is_supported p S a) ≡ true)) (λ a. P (atom_nogood p a)) (λ a h. atom_unhit p S a h.0 h.1) (atoms_of p)
     (each_both (λ a. has (atoms_of p) a ≡ true) (λ a. (not (has S a) || is_supported p S a) ≡ true) (atoms_of p) (HasAll-itself (atoms_of p)) (each_passes (λ a. not (has S a) || is_supported p S a) (atoms_of p) supported)))))

@@ -5,6 +5,7 @@ pub mod Models
 pub mod Costs
 pub mod Asked
 pub mod Consequences
+pub mod Found
 pub mod Texts
 pub mod Walks
 pub mod Rows

@@ -9,7 +9,7 @@ use Rattle.asp_model.specs.declared.program.Program.{Program}
 use Rattle.asp_model.specs.declared.results.End.{End}
 use Rattle.asp_model.specs.declared.results.Mode.TheVariants as mode
 use Rattle.asp_model.specs.declared.results.Reasoning.TheVariants as reasoning
-use Rattle.asp_model.specs.declared.results.Results.{Results}
+use Rattle.asp_model.specs.Found.{Found}
 use Rattle.asp_model.specs.Sets.{Atoms}
 
 abbrev pub rules_alone : List Rule → Program
@@ -90,16 +90,16 @@ six_atoms = rules_alone (choice (1 ∷ 2 ∷ 3 ∷ 4 ∷ 5 ∷ 6 ∷ []) ∷ con
 abbrev pub two_ways_shown : Program
 two_ways_shown = record two_ways { outputs = record { text = codes "a"; condition = pos 1 ∷ [] } ∷ record { text = codes "b"; condition = pos 2 ∷ [] } ∷ [] }
 
-abbrev pub enumerated : End → List Atoms → Results
+abbrev pub enumerated : End → List Atoms → Found
 enumerated e answers = record { mode = mode.Enum; end = e; answers = answers; best = None; known = None }
 
 -- optima that were listed, and the best of the search before
-abbrev pub tied : End → List Atoms → Option (Atoms × List ℤ) → Results
+abbrev pub tied : End → List Atoms → Option (Atoms × List ℤ) → Found
 tied e answers best = record { mode = mode.Opt; end = e; answers = answers; best = best; known = None }
 
-abbrev pub optimised : End → Option (Atoms × List ℤ) → Results
+abbrev pub optimised : End → Option (Atoms × List ℤ) → Found
 optimised e best = tied e [] best
 
 -- what holds in some answer
-abbrev pub brave : End → Option Atoms → Results
+abbrev pub brave : End → Option Atoms → Found
 brave e known = record { mode = mode.Consequences reasoning.Brave; end = e; answers = []; best = None; known = known }

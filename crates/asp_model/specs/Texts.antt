@@ -7,7 +7,7 @@ use Rattle.asp_model.specs.declared.results.End.{End}
 use Rattle.asp_model.specs.declared.results.End.TheVariants.{Finished, Limited, Unfinished}
 use Rattle.asp_model.specs.declared.results.Mode.{Mode}
 use Rattle.asp_model.specs.declared.results.Mode.TheVariants.{Enum, Opt, Consequences}
-use Rattle.asp_model.specs.declared.results.Results.{Results}
+use Rattle.asp_model.specs.Found.{Found}
 use Rattle.asp_model.specs.Sets.{Atoms}
 use Rattle.asp_model.specs.Holding.{all_hold}
 
@@ -46,7 +46,7 @@ bests best [] = best_answers best
 bests best (S ∷ answers) = S ∷ answers
 
 -- the answers that a run recorded: in an optimisation those that it listed, or else the best alone; of consequences none is listed
-abbrev pub recorded : Mode → Results → List Atoms
+abbrev pub recorded : Mode → Found → List Atoms
 recorded Enum r = r.answers
 recorded Opt r = bests r.best r.answers
 recorded (Consequences w) r = []
@@ -57,7 +57,7 @@ consequences_line None = []
 consequences_line (Some B) = ended_line (codes "Consequences:" ++ flat_map (λ a. 32 ∷ decimal a) B)
 
 -- what stands between the answers and the word line: in an optimisation the cost, and what holds where that was sought
-abbrev pub sums_text : Mode → Results → List ℕ
+abbrev pub sums_text : Mode → Found → List ℕ
 sums_text Enum r = []
 sums_text Opt r = best_cost_line r.best
 sums_text (Consequences w) r = consequences_line r.known
@@ -67,7 +67,7 @@ how_many None = 0
 how_many (Some B) = 1
 
 -- how many answers are recorded; of consequences one, where they stand
-abbrev pub found_count : Mode → Results → ℕ
+abbrev pub found_count : Mode → Found → ℕ
 found_count Enum r = length r.answers
 found_count Opt r = length (bests r.best r.answers)
 found_count (Consequences w) r = how_many r.known
@@ -95,10 +95,10 @@ count_line Opt end k = ended_line (codes "Models: " ++ decimal k ++ count_mark e
 count_line (Consequences w) end k = []
 
 -- the word line and the count line
-abbrev pub closing_lines : Results → ℕ → List ℕ
+abbrev pub closing_lines : Found → ℕ → List ℕ
 closing_lines r k = ended_line (verdict r.end r.mode k) ++ count_line r.mode r.end k
 
 -- A brief text leaves out the lines of the answers.
-abbrev pub results_text : Program → Results → Bool → List ℕ
+abbrev pub results_text : Program → Found → Bool → List ℕ
 results_text p r brief =
     (if brief then [] else answers_from p 1 (recorded r.mode r)) ++ sums_text r.mode r ++ closing_lines r (found_count r.mode r)

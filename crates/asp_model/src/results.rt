@@ -4,7 +4,6 @@ ghost use Rattle.asp_model.specs.Asked.{limit_of, reasoning_of};
 
 use crate::cost::Cost;
 use crate::interp::Interp;
-use crate::seq::Seq;
 
 /// Which consequences of a program are asked for.
 #[derive(Clone, Copy, Debug, PartialEq, Eq)]
@@ -75,15 +74,15 @@ pub enum End {
 
 /// What a run found: in an enumeration the answers, in order; in an optimisation the best one with its cost, where there
 /// is one, and a list of those that are as good only where all of them are asked for; of consequences what holds in some or
-/// in all of the answers found.
+/// in all of the answers found. `A` is a list of sets, in whatever form.
 #[derive(Drop)]
-pub struct Results {
+pub struct Results<A> {
     /// Whether all answers were sought, one that costs least, or what holds in some or in all.
     pub mode: Mode,
     /// How the search ended.
     pub end: End,
     /// In an enumeration the answers, in a search for all optima these, strictly ascending; else none.
-    pub answers: Seq<Interp>,
+    pub answers: A,
     /// In an optimisation the cheapest answer found, with its cost; else none.
     pub best: Option<(Interp, Cost)>,
     /// Where consequences were sought the atoms that are in some, or in all, of the answers found; none where none was found, and

@@ -1,3 +1,3 @@
+pub mod ConditionLaws
 pub mod ShownLaws
-pub mod PlaceLaws
 pub mod RowLaws

@@ -1,16 +1,13 @@
 -- A run of outputs that are shown is a part of the row of all texts.
-use Rattle.std.proofs.Common.{◌≡◌, ℕ, zero, suc, ◌+◌, ◌-◌, ◌<◌, ◌≤◌, Bool, true, false, List, [], ◌∷◌, ◌++◌, map, take, drop, length, get_or, refl, sym, ap, ◌∙◌, append_assoc, append-nil, length-append, length-drop, inl, inr, arith}
+use Rattle.std.proofs.Common.{◌≡◌, ℕ, zero, suc, ◌+◌, ◌-◌, ◌<◌, ◌≤◌, Bool, true, false, List, [], ◌∷◌, ◌++◌, take, drop, length, get_or, refl, sym, ap, ◌∙◌, append_assoc, append-nil, length-append, length-drop, inl, inr, arith}
 use Rattle.std.proofs.Math.Seq.{drop-append_seam, drop-nil, get_or-append_seam, take-add, take-append_seam}
 use Rattle.std.proofs.lemmas.List.{get_or_append_left, take-append-drop, take_more}
-use Rattle.std.specs.Prelude.{if◌then◌else◌, ℤ, pos, negsuc, not, ◌&&◌, nat_le, ◌⊎◌}
+use Rattle.std.specs.Prelude.{if◌then◌else◌, nat_le, ◌⊎◌}
 use Rattle.std.proofs.lemmas.Bool.Decides.{nat_tests}
 use Rattle.asp_model.specs.declared.program.Output.{Output}
-use Rattle.asp_model.specs.Sets.{Atoms, has}
-use Rattle.asp_model.specs.Holding.{all_hold}
+use Rattle.asp_model.specs.Sets.{Atoms}
 use Rattle.asp_print.specs.Shown.{pieces}
-use Rattle.asp_print.specs.Rows.{condition_of, row, row_between, less_blank, shown_first, shown_at}
-use Rattle.asp_print.specs.declared.outputs.Condition.{Condition}
-use Rattle.asp_print.specs.declared.outputs.Condition.TheVariants.{Always, With, Without}
+use Rattle.asp_print.specs.Rows.{row, row_between, less_blank, shown_first, shown_at}
 
 -- ---- lists
 
@@ -135,15 +132,6 @@ run_part any os from to a b blank bytes r is e =
 
 -- ---- one output more
 
-pub conditions_more : (os : List Output) (i : ℕ) (o : Output) (cs : List Condition) → i < length os → o ≡ get_or os i o → cs ≡ map (λ (o : Output). condition_of o.condition) (take i os)
-    → cs ++ condition_of o.condition ∷ [] ≡ map (λ (o : Output). condition_of o.condition) (take (i + 1) os)
-conditions_more os i o cs lt is e =
-    rw e (sym (ap (map (λ (o : Output). condition_of o.condition)) (take_more os i o lt ∙ ap (λ (x : Output). take i os ++ x ∷ []) (sym is)) ∙ pushed (take i os)))
-  where
-    pushed : (xs : List Output) → map (λ (o : Output). condition_of o.condition) (xs ++ o ∷ []) ≡ map (λ (o : Output). condition_of o.condition) xs ++ condition_of o.condition ∷ []
-    pushed [] = refl
-    pushed (x ∷ xs) = ap (λ (t : List Condition). condition_of x.condition ∷ t) (pushed xs)
-
 pub row_more : (os : List Output) (i : ℕ) (o : Output) (bytes : List ℕ) → i < length os → o ≡ get_or os i o → bytes ≡ row (take i os) → (bytes ++ 32 ∷ []) ++ o.text ≡ row (take (i + 1) os)
 row_more os i o bytes lt is e =
     rw e (append_assoc (row (take i os)) (32 ∷ []) o.text ∙ ap (λ (t : List ℕ). row (take i os) ++ (32 ∷ t)) (sym (append-nil o.text))
@@ -163,42 +151,3 @@ starts_more os i n starts len before is k le = elim (cases_le k i le) as (λ _. 
       | true ↦ λ e. inl (grind (arith, nat_tests))
       | false ↦ λ e. inr (grind (arith, nat_tests))
     ] refl
-
--- ---- what an output's condition says
-
-always_holds : (S : Atoms) (ls : List ℤ) → Always ≡ condition_of ls → true ≡ all_hold S ls
-always_holds S [] e = refl
-always_holds S (pos a ∷ []) e = cc
-always_holds S (negsuc a ∷ []) e = cc
-always_holds S (l ∷ m ∷ ls) e = cc
-
-and_true : (b : Bool) → b ≡ (b && true)
-and_true true = refl
-and_true false = refl
-
-with_holds : (S : Atoms) (a : ℕ) (ls : List ℤ) → With a ≡ condition_of ls → has S a ≡ all_hold S ls
-with_holds S a [] e = cc
-with_holds S a (pos b ∷ []) e = let same : a ≡ b = cc in ap (has S) same ∙ and_true (has S b)
-with_holds S a (negsuc b ∷ []) e = cc
-with_holds S a (l ∷ m ∷ ls) e = cc
-
-without_holds : (S : Atoms) (a : ℕ) (ls : List ℤ) → Without a ≡ condition_of ls → not (has S a) ≡ all_hold S ls
-without_holds S a [] e = cc
-without_holds S a (pos b ∷ []) e = cc
-without_holds S a (negsuc b ∷ []) e = let same : a ≡ suc b = cc in ap (λ k. not (has S k)) same ∙ and_true (not (has S (suc b)))
-without_holds S a (l ∷ m ∷ ls) e = cc
-
-pub always_shown : (S : Atoms) (os : List Output) (i : ℕ) (c : Condition) → i < length os → c ≡ get_or (map (λ (o : Output). condition_of o.condition) os) i c → c ≡ Always → true ≡ shown_at S os i
-always_shown S [] i c lt at is = absurd (omega arith)
-always_shown S (o ∷ os) zero c lt at is = always_holds S o.condition (sym is ∙ at)
-always_shown S (o ∷ os) (suc i) c lt at is = always_shown S os i c (omega (arith, lt)) at is
-
-pub with_shown : (S : Atoms) (a : ℕ) (os : List Output) (i : ℕ) (c : Condition) → i < length os → c ≡ get_or (map (λ (o : Output). condition_of o.condition) os) i c → c ≡ With a → has S a ≡ shown_at S os i
-with_shown S a [] i c lt at is = absurd (omega arith)
-with_shown S a (o ∷ os) zero c lt at is = with_holds S a o.condition (sym is ∙ at)
-with_shown S a (o ∷ os) (suc i) c lt at is = with_shown S a os i c (omega (arith, lt)) at is
-
-pub without_shown : (S : Atoms) (a : ℕ) (os : List Output) (i : ℕ) (c : Condition) → i < length os → c ≡ get_or (map (λ (o : Output). condition_of o.condition) os) i c → c ≡ Without a → not (has S a) ≡ shown_at S os i
-without_shown S a [] i c lt at is = absurd (omega arith)
-without_shown S a (o ∷ os) zero c lt at is = without_holds S a o.condition (sym is ∙ at)
-without_shown S a (o ∷ os) (suc i) c lt at is = without_shown S a os i c (omega (arith, lt)) at is

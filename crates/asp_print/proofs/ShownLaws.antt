@@ -7,6 +7,7 @@ use Rattle.asp_model.specs.declared.program.Program.{Program}
 use Rattle.asp_model.specs.Sets.{Atoms}
 use Rattle.asp_model.specs.Holding.{all_hold}
 use Rattle.asp_model.specs.Texts.{ended_line, shown, answer_lines, answers_from}
+use Rattle.asp_rows.specs.declared.row.Row.{Row}
 use Rattle.asp_print.specs.Shown.{piece, pieces}
 use Rattle.asp_buffer.proofs.OutLaws.{drop_turn}
 
@@ -56,9 +57,9 @@ pieces-turn S any now os i o lt is flag =
     ap (pieces S any) (drop_turn os i o lt is) ∙ ap (λ (b : Bool). piece S any o ++ pieces S b (drop (i + 1) os)) (sym flag)
 
 -- the answers from one on
-pub answers-turn : (p : Program) (answers : List Atoms) (i n : ℕ) (S : Atoms) → i < length answers → S ≡ get_or answers i S
-    → answers_from p n (drop i answers) ≡ answer_lines p n S ++ answers_from p (n + 1) (drop (i + 1) answers)
-answers-turn p answers i n S lt is = ap (answers_from p n) (drop_turn answers i S lt is)
+pub rows-turn : (p : Program) (rows : List Row) (i n : ℕ) (r : Row) → i < length rows → r ≡ get_or rows i r
+    → answers_from p n (map (λ (x : Row). x.set) (drop i rows)) ≡ answer_lines p n r.set ++ answers_from p (n + 1) (map (λ (x : Row). x.set) (drop (i + 1) rows))
+rows-turn p rows i n r lt is = ap (λ (t : List Row). answers_from p n (map (λ (x : Row). x.set) t)) (drop_turn rows i r lt is)
 
 pub line_shown : (p : Program) (S : Atoms) (outputs : List Output) → outputs ≡ p.outputs → ended_line (pieces S false outputs) ≡ ended_line (join_with_byte 32 (shown p S))
 line_shown p S outputs is = ap (λ (os : List Output). ended_line (pieces S false os)) is ∙ ap ended_line (all_shown p S)

@@ -1,19 +1,23 @@
 //! The lines of the answers.
-ghost use Rattle.std.specs.Prelude.{◌≡◌, ◌++◌, ◌+◌, ◌^◌, ◌<◌, ◌≤◌, ◌||◌, [], ◌∷◌, length, codes, decimal, if◌then◌else◌, IfOk, IfSome, false};
+ghost use Rattle.std.specs.Prelude.{◌≡◌, ◌++◌, ◌+◌, ◌^◌, ◌<◌, ◌≤◌, ◌||◌, [], ◌∷◌, length, map, codes, decimal, if◌then◌else◌, IfOk, IfSome, false};
 ghost use Rattle.std.specs.Option.{ForSome};
-ghost use Rattle.asp_print.specs.Rows.{IsTableOf};
+ghost use Rattle.asp_model.specs.Sets.{IsAscending};
+ghost use Rattle.asp_rows.specs.Listed.{AreRows};
+ghost use Rattle.asp_print.specs.Rows.{IsRowAmong, IsTableOf};
 ghost use Rattle.std.specs.List.{join_with_byte};
 ghost use Rattle.asp_model.specs.Holding.{all_hold};
 ghost use Rattle.asp_model.specs.Texts.{answer_lines, answers_from, ended_line, shown};
 ghost use Rattle.asp_buffer.specs.Out.{Puts, out};
 ghost use Rattle.asp_print.specs.Shown.{piece, pieces, separator};
 
-use crate::holding::all_hold;
+use crate::holding::{Among, Answer, all_hold};
 use crate::outputs::OutputTable;
 use asp_buffer::{Waiting, put, put_number};
 use asp_io::{Failed, Sink};
 use asp_model::interp::Interp;
-use asp_model::program::{Output, Program};
+use asp_model::program::{Atom, Output, Program};
+use asp_rows::row::Row;
+use asp_rows::rows::Rows;
 use std::alloc::Global;
 
 fn separator(behind_another: bool) -> &'static [u8]
@@ -41,19 +45,19 @@ fn put_text<K: Sink>(
 }
 
 // Puts out the text of an output whose condition holds, and says whether any text stands there now.
-fn put_if_shown<K: Sink>(
+fn put_if_shown<K: Sink, A: Answer>(
     sink: &mut K,
     waiting: &mut Waiting,
-    interp: &Interp,
+    answer: &A,
     output: &Output,
-    place: &mut usize,
     any: bool,
 ) -> Result<bool, Failed>
+    requires { A.is_sound answer.now }
     ensures puts { Puts (out (K.held sink.old) (K.faults sink.old) waiting.old)
-        (out (K.held sink.new) (K.faults sink.new) waiting.new) result (piece interp.now any output.now) }
-    ensures any { IfOk result (λ now. now ≡ (any || all_hold interp.now output.now.condition)) }
+        (out (K.held sink.new) (K.faults sink.new) waiting.new) result (piece (A.set answer.now) any output.now) }
+    ensures any { IfOk result (λ now. now ≡ (any || all_hold (A.set answer.now) output.now.condition)) }
 {
-    if all_hold(interp, output.condition.as_slice(), place) {
+    if all_hold(answer, output.condition.as_slice()) {
         put_text(sink, waiting, output.text.as_slice(), any)?;
         return Ok(true);
     }
@@ -61,20 +65,20 @@ fn put_if_shown<K: Sink>(
 }
 
 // Puts out the texts that are shown, one blank between two.
-fn put_texts<K: Sink>(
+fn put_texts<K: Sink, A: Answer>(
     sink: &mut K,
     waiting: &mut Waiting,
-    interp: &Interp,
+    answer: &A,
     outputs: &[Output],
 ) -> Result<(), Failed>
+    requires { A.is_sound answer.now }
     ensures { Puts (out (K.held sink.old) (K.faults sink.old) waiting.old)
         (out (K.held sink.new) (K.faults sink.new) waiting.new) result
-        (pieces interp.now false outputs.now) }
+        (pieces (A.set answer.now) false outputs.now) }
 {
     let mut any = false;
-    let mut place = 0;
     for output in outputs {
-        any = put_if_shown(sink, waiting, interp, output, &mut place, any)?;
+        any = put_if_shown(sink, waiting, answer, output, any)?;
     }
     Ok(())
 }
@@ -83,23 +87,24 @@ fn put_texts<K: Sink>(
 fn put_runs<K: Sink>(
     sink: &mut K,
     waiting: &mut Waiting,
-    interp: &Interp,
+    atoms: &[Atom],
+    row: &Row,
     outputs: &[Output],
     table: &OutputTable,
 ) -> Result<(), Failed>
-    requires { IsTableOf table.now outputs.now }
+    requires row { IsRowAmong atoms.now row.now }
+    requires table { IsTableOf atoms.now outputs.now table.now }
     ensures { Puts (out (K.held sink.old) (K.faults sink.old) waiting.old)
         (out (K.held sink.new) (K.faults sink.new) waiting.new) result
-        (pieces interp.now false outputs.now) }
+        (pieces row.now.set false outputs.now) }
 {
     let mut any = false;
-    let mut place = 0;
-    let mut from = table.first_shown(outputs, interp, 0, &mut place);
+    let mut from = table.first_shown(atoms, outputs, row, 0);
     while from < outputs.len() {
-        let to = table.run_end(outputs, interp, from, &mut place);
+        let to = table.run_end(atoms, outputs, row, from);
         put(sink, waiting, table.texts(outputs, from, to, any))?;
         any = true;
-        from = table.first_shown(outputs, interp, to, &mut place);
+        from = table.first_shown(atoms, outputs, row, to);
     }
     Ok(())
 }
@@ -119,18 +124,20 @@ fn put_heading<K: Sink>(sink: &mut K, waiting: &mut Waiting, number: u64) -> Res
 fn put_line<K: Sink>(
     sink: &mut K,
     waiting: &mut Waiting,
-    interp: &Interp,
+    atoms: &[Atom],
+    row: &Row,
     outputs: &[Output],
     table: Option<&OutputTable>,
 ) -> Result<(), Failed>
-    requires { ForSome table (λ t. IsTableOf t.now outputs.now) }
+    requires row { IsRowAmong atoms.now row.now }
+    requires table { ForSome table (λ t. IsTableOf atoms.now outputs.now t.now) }
     ensures { Puts (out (K.held sink.old) (K.faults sink.old) waiting.old)
         (out (K.held sink.new) (K.faults sink.new) waiting.new) result
-        (pieces interp.now false outputs.now) }
+        (pieces row.now.set false outputs.now) }
 {
     match table {
-        Some(table) => put_runs(sink, waiting, interp, outputs, table),
-        None => put_texts(sink, waiting, interp, outputs),
+        Some(table) => put_runs(sink, waiting, atoms, row, outputs, table),
+        None => put_texts(sink, waiting, &Among { atoms, row }, outputs),
     }
 }
 
@@ -140,14 +147,16 @@ fn put_shown<K: Sink>(
     waiting: &mut Waiting,
     program: &Program,
     table: Option<&OutputTable>,
-    interp: &Interp,
+    atoms: &[Atom],
+    row: &Row,
 ) -> Result<(), Failed>
-    requires { ForSome table (λ t. IsTableOf t.now program.now.outputs) }
+    requires row { IsRowAmong atoms.now row.now }
+    requires table { ForSome table (λ t. IsTableOf atoms.now program.now.outputs t.now) }
     ensures { Puts (out (K.held sink.old) (K.faults sink.old) waiting.old)
         (out (K.held sink.new) (K.faults sink.new) waiting.new) result
-        (ended_line (join_with_byte 32 (shown program.now interp.now))) }
+        (ended_line (join_with_byte 32 (shown program.now row.now.set))) }
 {
-    put_line(sink, waiting, interp, program.outputs.as_slice(), table)?;
+    put_line(sink, waiting, atoms, row, program.outputs.as_slice(), table)?;
     put(sink, waiting, b"\n")
 }
 
@@ -157,15 +166,47 @@ fn put_answer<K: Sink>(
     program: &Program,
     table: Option<&OutputTable>,
     number: u64,
-    interp: &Interp,
+    atoms: &[Atom],
+    row: &Row,
 ) -> Result<(), Failed>
-    requires { ForSome table (λ t. IsTableOf t.now program.now.outputs) }
+    requires row { IsRowAmong atoms.now row.now }
+    requires table { ForSome table (λ t. IsTableOf atoms.now program.now.outputs t.now) }
     ensures { Puts (out (K.held sink.old) (K.faults sink.old) waiting.old)
         (out (K.held sink.new) (K.faults sink.new) waiting.new) result
-        (answer_lines program.now number interp.now) }
+        (answer_lines program.now number row.now.set) }
 {
     put_heading(sink, waiting, number)?;
-    put_shown(sink, waiting, program, table, interp)
+    put_shown(sink, waiting, program, table, atoms, row)
+}
+
+// Puts out the line of the texts of a set.
+fn put_set_shown<K: Sink>(
+    sink: &mut K,
+    waiting: &mut Waiting,
+    program: &Program,
+    set: &Interp,
+) -> Result<(), Failed>
+    ensures { Puts (out (K.held sink.old) (K.faults sink.old) waiting.old)
+        (out (K.held sink.new) (K.faults sink.new) waiting.new) result
+        (ended_line (join_with_byte 32 (shown program.now set.now))) }
+{
+    put_texts(sink, waiting, set, program.outputs.as_slice())?;
+    put(sink, waiting, b"\n")
+}
+
+/// Puts out the lines of a set as the first answer.
+pub(crate) fn put_set<K: Sink>(
+    sink: &mut K,
+    waiting: &mut Waiting,
+    program: &Program,
+    set: &Interp,
+) -> Result<(), Failed>
+    ensures { Puts (out (K.held sink.old) (K.faults sink.old) waiting.old)
+        (out (K.held sink.new) (K.faults sink.new) waiting.new) result
+        (answer_lines program.now 1 set.now) }
+{
+    put_heading(sink, waiting, 1)?;
+    put_set_shown(sink, waiting, program, set)
 }
 
 // Puts out the lines of the answers, numbered from 1.
@@ -174,43 +215,60 @@ fn put_each<K: Sink>(
     waiting: &mut Waiting,
     program: &Program,
     table: Option<&OutputTable>,
-    answers: &[Interp],
+    atoms: &[Atom],
+    rows: &[Row],
 ) -> Result<(), Failed>
-    requires { ForSome table (λ t. IsTableOf t.now program.now.outputs) }
+    requires ascending { IsAscending atoms.now }
+    requires rows { AreRows atoms.now rows.now }
+    requires table { ForSome table (λ t. IsTableOf atoms.now program.now.outputs t.now) }
     ensures { Puts (out (K.held sink.old) (K.faults sink.old) waiting.old)
         (out (K.held sink.new) (K.faults sink.new) waiting.new) result
-        (answers_from program.now 1 answers.now) }
+        (answers_from program.now 1 (map (λ row. row.set) rows.now)) }
 {
     let mut number = 1;
-    for interp in answers {
-        put_answer(sink, waiting, program, table, number, interp)?;
+    for row in rows {
+        put_answer(sink, waiting, program, table, number, atoms, row)?;
         number += 1;
     }
     Ok(())
 }
 
 // The table of the outputs, where it is worth its while and memory isn't wanting.
-fn table_of(alloc: Global, outputs: &[Output], answers: usize) -> Option<OutputTable>
-    ensures { IfSome result (λ table. IsTableOf table outputs.now) }
+fn table_of(
+    alloc: Global,
+    atoms: &[Atom],
+    outputs: &[Output],
+    answers: usize,
+) -> Option<OutputTable>
+    requires { IsAscending atoms.now }
+    ensures { IfSome result (IsTableOf atoms.now outputs.now) }
 {
     if answers < FEW_ANSWERS {
         return None;
     }
-    OutputTable::of(alloc, outputs).ok()
+    OutputTable::of(alloc, atoms, outputs).ok()
 }
 
 /// Puts out the lines of the answers, numbered from 1. Where memory is wanting it takes longer.
-pub fn put_answers<K: Sink>(
+pub(crate) fn put_answers<K: Sink>(
     alloc: Global,
     sink: &mut K,
     waiting: &mut Waiting,
     program: &Program,
-    answers: &[Interp],
+    answers: &Rows,
 ) -> Result<(), Failed>
     ensures { Puts (out (K.held sink.old) (K.faults sink.old) waiting.old)
         (out (K.held sink.new) (K.faults sink.new) waiting.new) result
-        (answers_from program.now 1 answers.now) }
+        (answers_from program.now 1 answers.now.sets) }
 {
-    let table = table_of(alloc, program.outputs.as_slice(), answers.len());
-    put_each(sink, waiting, program, table.as_ref(), answers)
+    let atoms = answers.atoms().as_slice();
+    let table = table_of(alloc, atoms, program.outputs.as_slice(), answers.len());
+    put_each(
+        sink,
+        waiting,
+        program,
+        table.as_ref(),
+        atoms,
+        answers.as_slice(),
+    )
 }

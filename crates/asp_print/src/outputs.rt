@@ -1,22 +1,24 @@
 //! The outputs of a program side by side: what is written for a run of them stands in one row of bytes.
-ghost use Rattle.std.specs.Prelude.{◌≡◌, ◌++◌, ◌-◌, ◌<◌, ◌≤◌, Bool, true, drop, length, take, IfOk};
+ghost use Rattle.std.specs.Prelude.{◌≡◌, ◌++◌, [], ◌∷◌, ◌-◌, ◌<◌, ◌≤◌, Bool, true, drop, length, take, IfOk};
 ghost use Rattle.asp_print.specs.Shown.{pieces};
-ghost use Rattle.asp_print.specs.Rows.{IsTableOf, condition_of, condition_on, less_blank, row_between, shown_at};
+ghost use Rattle.asp_model.specs.Sets.{IsAscending};
+ghost use Rattle.asp_print.specs.Rows.{HasTextsOf, IsConditionOf, IsRowAmong, IsTableOf, less_blank, row_between, shown_at};
 
-use crate::holding::all_hold;
-use crate::place::has_near;
-use asp_model::interp::Interp;
+use crate::holding::{Among, all_hold};
 use asp_model::program::{Atom, Output};
+use asp_rows::bits::{Bit, bit_of};
+use asp_rows::row::Row;
 use std::alloc::{AllocError, Global};
 
 /// When an output is shown.
 #[derive(Clone, Copy)]
 pub(crate) enum Condition {
     Always,
-    /// Where the atom is in the set.
-    With(Atom),
+    Never,
+    /// Where the atom of this bit is in the set.
+    With(Bit),
     /// Where it isn't.
-    Without(Atom),
+    Without(Bit),
     /// Where two literals or more hold, which only the output has.
     Several,
 }
@@ -32,23 +34,25 @@ pub(crate) struct OutputTable {
     starts: Vec<usize>,
 }
 
-fn condition_on(literal: i32) -> Condition
-    ensures { result ≡ condition_on literal }
+fn condition_on(atoms: &[Atom], literal: i32) -> Condition
+    requires { IsAscending atoms.now }
+    ensures { IsConditionOf atoms.now (literal ∷ []) result }
 {
-    let atom = literal.unsigned_abs();
-    if literal < 0 {
-        Condition::Without(atom)
-    } else {
-        Condition::With(atom)
+    match bit_of(atoms, literal.unsigned_abs()) {
+        Some(bit) if literal < 0 => Condition::Without(bit),
+        Some(bit) => Condition::With(bit),
+        None if literal < 0 => Condition::Always,
+        None => Condition::Never,
     }
 }
 
-fn condition_of(literals: &[i32]) -> Condition
-    ensures { result ≡ condition_of literals.now }
+fn condition_of(atoms: &[Atom], literals: &[i32]) -> Condition
+    requires { IsAscending atoms.now }
+    ensures { IsConditionOf atoms.now literals.now result }
 {
     match literals {
         [] => Condition::Always,
-        [literal] => condition_on(*literal),
+        [literal] => condition_on(atoms, *literal),
         _ => Condition::Several,
     }
 }
@@ -62,14 +66,19 @@ fn part(bytes: &[u8], from: usize, to: usize) -> &[u8]
 }
 
 impl OutputTable {
-    pub(crate) fn of(alloc: Global, outputs: &[Output]) -> Result<OutputTable, AllocError>
-        ensures { IfOk result (λ table. IsTableOf table outputs.now) }
+    pub(crate) fn of(
+        alloc: Global,
+        atoms: &[Atom],
+        outputs: &[Output],
+    ) -> Result<OutputTable, AllocError>
+        requires { IsAscending atoms.now }
+        ensures { IfOk result (IsTableOf atoms.now outputs.now) }
     {
         let mut conditions = Vec::with_capacity(alloc, outputs.len())?;
         let mut texts = Vec::new(alloc);
         let mut starts = vec![in alloc; 0]?;
         for output in outputs {
-            conditions.push(condition_of(output.condition.as_slice()))?;
+            conditions.push(condition_of(atoms, output.condition.as_slice()))?;
             texts.push(b' ')?;
             texts.extend_from_slice(output.text.as_slice())?;
             starts.push(texts.len())?;
@@ -82,36 +91,39 @@ impl OutputTable {
     }
 
     // Whether an output is shown.
-    fn shows(&self, outputs: &[Output], interp: &Interp, i: usize, place: &mut usize) -> bool
-        requires table { IsTableOf self.now outputs.now }
+    fn shows(&self, atoms: &[Atom], outputs: &[Output], row: &Row, i: usize) -> bool
+        requires table { IsTableOf atoms.now outputs.now self.now }
+        requires row { IsRowAmong atoms.now row.now }
         requires within { i < length outputs.now }
-        ensures { result ≡ shown_at interp.now outputs.now i }
+        ensures { result ≡ shown_at row.now.set outputs.now i }
     {
         match self.conditions[i] {
             Condition::Always => true,
-            Condition::With(atom) => has_near(interp, atom, place),
-            Condition::Without(atom) => !has_near(interp, atom, place),
-            Condition::Several => all_hold(interp, outputs[i].condition.as_slice(), place),
+            Condition::Never => false,
+            Condition::With(bit) => row.has(atoms, bit),
+            Condition::Without(bit) => !row.has(atoms, bit),
+            Condition::Several => all_hold(&Among { atoms, row }, outputs[i].condition.as_slice()),
         }
     }
 
     /// The first output from this one on that is shown, or how many there are.
     pub(crate) fn first_shown(
         &self,
+        atoms: &[Atom],
         outputs: &[Output],
-        interp: &Interp,
+        row: &Row,
         from: usize,
-        place: &mut usize,
     ) -> usize
-        requires table { IsTableOf self.now outputs.now }
+        requires table { IsTableOf atoms.now outputs.now self.now }
+        requires row { IsRowAmong atoms.now row.now }
         requires within { from ≤ length outputs.now }
-        ensures passes { (any : Bool) → pieces interp.now any (drop result outputs.now) ≡ pieces interp.now any (drop from outputs.now) }
+        ensures passes { (any : Bool) → pieces row.now.set any (drop result outputs.now) ≡ pieces row.now.set any (drop from outputs.now) }
         ensures later { from ≤ result }
         ensures within { result ≤ length outputs.now }
-        ensures shown { result < length outputs.now → shown_at interp.now outputs.now result ≡ true }
+        ensures shown { result < length outputs.now → shown_at row.now.set outputs.now result ≡ true }
     {
         for i in from..outputs.len() {
-            if self.shows(outputs, interp, i, place) {
+            if self.shows(atoms, outputs, row, i) {
                 return i;
             }
         }
@@ -121,20 +133,21 @@ impl OutputTable {
     /// Where the run of outputs ends that are shown from this one on.
     pub(crate) fn run_end(
         &self,
+        atoms: &[Atom],
         outputs: &[Output],
-        interp: &Interp,
+        row: &Row,
         from: usize,
-        place: &mut usize,
     ) -> usize
-        requires table { IsTableOf self.now outputs.now }
+        requires table { IsTableOf atoms.now outputs.now self.now }
+        requires row { IsRowAmong atoms.now row.now }
         requires within { from < length outputs.now }
-        requires shown { shown_at interp.now outputs.now from ≡ true }
-        ensures run { pieces interp.now true (drop from outputs.now) ≡ row_between outputs.now from result ++ pieces interp.now true (drop result outputs.now) }
+        requires shown { shown_at row.now.set outputs.now from ≡ true }
+        ensures run { pieces row.now.set true (drop from outputs.now) ≡ row_between outputs.now from result ++ pieces row.now.set true (drop result outputs.now) }
         ensures within { result ≤ length outputs.now }
         ensures more { from < result }
     {
         for i in from + 1..outputs.len() {
-            if !self.shows(outputs, interp, i, place) {
+            if !self.shows(atoms, outputs, row, i) {
                 return i;
             }
         }
@@ -143,7 +156,7 @@ impl OutputTable {
 
     /// The texts of the outputs from one to before another, each behind a blank, the first one only where a text stands before it.
     pub(crate) fn texts(&self, outputs: &[Output], from: usize, to: usize, any: bool) -> &[u8]
-        requires table { IsTableOf self.now outputs.now }
+        requires table { HasTextsOf outputs.now self.now }
         requires within { to ≤ length outputs.now }
         requires some { from < to }
         ensures { result.now ≡ less_blank any (row_between outputs.now from to) }

@@ -3,33 +3,30 @@ ghost use Rattle.std.specs.Prelude.{◌≡◌, ◌++◌, ◌≤◌, [], ◌∷�
 ghost use Rattle.std.specs.Fmt.{signed_decimal};
 ghost use Rattle.std.specs.Io.KnownBytes.{Appends};
 ghost use Rattle.asp_io.specs.Causes.{Rose, AppendsFront};
-ghost use Rattle.asp_model.specs.Texts.{answers_from, closing_lines, consequences_line, cost_line, count_line, count_mark, ended_line, found_count, how_many, recorded, results_text, sums_text, verdict};
+ghost use Rattle.asp_model.specs.Texts.{answers_from, best_answers, bests, closing_lines, consequences_line, cost_line, count_line, count_mark, ended_line, found_count, how_many, recorded, results_text, sums_text, verdict};
 ghost use Rattle.asp_buffer.specs.Out.{Puts, out};
 
-use crate::answers::put_answers;
+use crate::answers::{put_answers, put_set};
 use asp_buffer::{Waiting, flush, put, put_number};
 use asp_io::{Failed, Sink};
 use asp_model::cost::Cost;
 use asp_model::interp::Interp;
 use asp_model::program::{Atom, Program};
 use asp_model::results::{End, Mode, Results};
+use asp_rows::sets::Sets;
 use std::alloc::Global;
-use std::slice;
 
-// The answers that a run recorded: in an optimisation the best alone, where no others are listed.
-fn recorded(results: &Results) -> &[Interp]
-    ensures { result.now ≡ recorded results.now.mode results.now }
+// How many answers there are: those that are listed, or where none is the best.
+fn count_of_bests(results: &Results<Sets>) -> usize
+    ensures { result ≡ length (bests results.now.best results.now.answers) }
 {
-    match results.mode {
-        Mode::Enum => results.answers.as_slice(),
-        Mode::Opt => match results.answers.as_slice() {
-            [] => match &results.best {
-                Some((interp, _)) => slice::from_ref(interp),
-                None => &[],
-            },
-            [_, ..] => results.answers.as_slice(),
-        },
-        Mode::Consequences(_) => &[],
+    let listed = results.answers.rows().len();
+    if listed != 0 {
+        return listed;
+    }
+    match results.best {
+        Some(_) => 1,
+        None => 0,
     }
 }
 
@@ -129,7 +126,7 @@ fn put_known<K: Sink>(
 fn put_sums_line<K: Sink>(
     sink: &mut K,
     waiting: &mut Waiting,
-    results: &Results,
+    results: &Results<Sets>,
 ) -> Result<(), Failed>
     ensures { Puts (out (K.held sink.old) (K.faults sink.old) waiting.old)
         (out (K.held sink.new) (K.faults sink.new) waiting.new) result
@@ -149,7 +146,7 @@ fn put_sums_line<K: Sink>(
 fn put_verdict<K: Sink>(
     sink: &mut K,
     waiting: &mut Waiting,
-    results: &Results,
+    results: &Results<Sets>,
     count: usize,
 ) -> Result<(), Failed>
     ensures { Puts (out (K.held sink.old) (K.faults sink.old) waiting.old)
@@ -161,11 +158,12 @@ fn put_verdict<K: Sink>(
 }
 
 // How many answers were recorded; of consequences one, where they stand.
-fn found_count(results: &Results) -> usize
+fn found_count(results: &Results<Sets>) -> usize
     ensures { result ≡ found_count results.now.mode results.now }
 {
     match results.mode {
-        Mode::Enum | Mode::Opt => recorded(results).len(),
+        Mode::Enum => results.answers.rows().len(),
+        Mode::Opt => count_of_bests(results),
         Mode::Consequences(_) => how_many(&results.known),
     }
 }
@@ -215,7 +213,7 @@ fn put_models<K: Sink>(
 fn put_count<K: Sink>(
     sink: &mut K,
     waiting: &mut Waiting,
-    results: &Results,
+    results: &Results<Sets>,
     count: usize,
 ) -> Result<(), Failed>
     ensures { Puts (out (K.held sink.old) (K.faults sink.old) waiting.old)
@@ -232,7 +230,7 @@ fn put_count<K: Sink>(
 fn put_closing<K: Sink>(
     sink: &mut K,
     waiting: &mut Waiting,
-    results: &Results,
+    results: &Results<Sets>,
     count: usize,
 ) -> Result<(), Failed>
     ensures { Puts (out (K.held sink.old) (K.faults sink.old) waiting.old)
@@ -243,13 +241,69 @@ fn put_closing<K: Sink>(
     put_count(sink, waiting, results, count)
 }
 
+// Puts out the lines of the best answer, where there is one.
+fn put_best<K: Sink>(
+    sink: &mut K,
+    waiting: &mut Waiting,
+    program: &Program,
+    best: &Option<(Interp, Cost)>,
+) -> Result<(), Failed>
+    ensures { Puts (out (K.held sink.old) (K.faults sink.old) waiting.old)
+        (out (K.held sink.new) (K.faults sink.new) waiting.new) result
+        (answers_from program.now 1 (best_answers best.now)) }
+{
+    match best {
+        Some((set, _)) => put_set(sink, waiting, program, set),
+        None => put(sink, waiting, b""),
+    }
+}
+
+// Puts out the lines of the answers that are listed, or where none is of the best.
+fn put_bests<K: Sink>(
+    alloc: Global,
+    sink: &mut K,
+    waiting: &mut Waiting,
+    program: &Program,
+    results: &Results<Sets>,
+) -> Result<(), Failed>
+    ensures { Puts (out (K.held sink.old) (K.faults sink.old) waiting.old)
+        (out (K.held sink.new) (K.faults sink.new) waiting.new) result
+        (answers_from program.now 1 (bests results.now.best results.now.answers)) }
+{
+    let rows = results.answers.rows();
+    if rows.len() != 0 {
+        put_answers(alloc, sink, waiting, program, rows)
+    } else {
+        put_best(sink, waiting, program, &results.best)
+    }
+}
+
+// Puts out the lines of the answers that were recorded.
+fn put_found<K: Sink>(
+    alloc: Global,
+    sink: &mut K,
+    waiting: &mut Waiting,
+    program: &Program,
+    results: &Results<Sets>,
+) -> Result<(), Failed>
+    ensures { Puts (out (K.held sink.old) (K.faults sink.old) waiting.old)
+        (out (K.held sink.new) (K.faults sink.new) waiting.new) result
+        (answers_from program.now 1 (recorded results.now.mode results.now)) }
+{
+    match results.mode {
+        Mode::Enum => put_answers(alloc, sink, waiting, program, results.answers.rows()),
+        Mode::Opt => put_bests(alloc, sink, waiting, program, results),
+        Mode::Consequences(_) => put(sink, waiting, b""),
+    }
+}
+
 // Puts out the lines of the answers, unless the text is to be brief.
 fn put_recorded<K: Sink>(
     alloc: Global,
     sink: &mut K,
     waiting: &mut Waiting,
     program: &Program,
-    results: &Results,
+    results: &Results<Sets>,
     brief: bool,
 ) -> Result<(), Failed>
     ensures { Puts (out (K.held sink.old) (K.faults sink.old) waiting.old)
@@ -259,11 +313,15 @@ fn put_recorded<K: Sink>(
     if brief {
         put(sink, waiting, b"")
     } else {
-        put_answers(alloc, sink, waiting, program, recorded(results))
+        put_found(alloc, sink, waiting, program, results)
     }
 }
 
-fn put_ending<K: Sink>(sink: &mut K, waiting: &mut Waiting, results: &Results) -> Result<(), Failed>
+fn put_ending<K: Sink>(
+    sink: &mut K,
+    waiting: &mut Waiting,
+    results: &Results<Sets>,
+) -> Result<(), Failed>
     ensures { Puts (out (K.held sink.old) (K.faults sink.old) waiting.old)
         (out (K.held sink.new) (K.faults sink.new) waiting.new) result
         (closing_lines results.now (found_count results.now.mode results.now)) }
@@ -276,7 +334,7 @@ fn put_results<K: Sink>(
     sink: &mut K,
     waiting: &mut Waiting,
     program: &Program,
-    results: &Results,
+    results: &Results<Sets>,
     brief: bool,
 ) -> Result<(), Failed>
     ensures { Puts (out (K.held sink.old) (K.faults sink.old) waiting.old)
@@ -295,7 +353,7 @@ pub fn print<K: Sink>(
     alloc: Global,
     sink: &mut K,
     program: &Program,
-    results: &Results,
+    results: &Results<Sets>,
     brief: bool,
 ) -> Result<(), Failed>
     ensures all { OnOk result (Appends (K.held sink.old) (K.held sink.new) (results_text program.now results.now brief)) }

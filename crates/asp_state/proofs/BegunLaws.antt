@@ -14,7 +14,7 @@ use Rattle.asp_complete.specs.Listed.{pure}
 use Rattle.asp_order.specs.Heaps.{Ranking, is_in}
 use Rattle.asp_order.specs.Waiting.{HasVars, fresh}
 use Rattle.asp_order.proofs.HeapLaws.{IsAlike, all_bumped_alike, alike_still}
-use Rattle.asp_state.specs.SearchStates.{first_ranking, with_places, weighed_literals, with_bodies, with_weighted}
+use Rattle.asp_state.specs.SearchStates.{first_ranking, with_places, unlisted_literals, with_bodies, with_unlisted}
 
 -- the same variables are in the heap
 pub places_alike : (r : Ranking) (ns : List Nogood) → IsAlike r (fold (λ (x : Ranking) (n : Nogood). with_places x n.lits) r ns)
@@ -35,30 +35,30 @@ vars_ranked vars k lits e a i d h = let v = a i d h in omega (arith, v.1, e)
 pub bodies_alike : (p : Program) (r : Ranking) (bs : List Body) → IsAlike r (with_bodies p r bs)
 bodies_alike p r [] = record { members = refl; vars = refl }
 bodies_alike p r (b ∷ bs) =
-    let more : Ranking = with_places r (weighed_literals p b) in
-    alike_still r more (with_bodies p more bs) (all_bumped_alike r (weighed_literals p b)) (bodies_alike p more bs)
+    let more : Ranking = with_places r (unlisted_literals p b) in
+    alike_still r more (with_bodies p more bs) (all_bumped_alike r (unlisted_literals p b)) (bodies_alike p more bs)
 
-pub weighted-vars : (p : Program) (n : ℕ) (old new : Ranking) → new ≡ with_weighted p old → HasVars n old → HasVars n new
-weighted-vars p n old new e h = subst (HasVars n) (sym e) ((bodies_alike p old (bodies_of p)).vars ∙ h)
+pub unlisted-vars : (p : Program) (n : ℕ) (old new : Ranking) → new ≡ with_unlisted p old → HasVars n old → HasVars n new
+unlisted-vars p n old new e h = subst (HasVars n) (sym e) ((bodies_alike p old (bodies_of p)).vars ∙ h)
 
-pub weighted-members : (p : Program) (old new : Ranking) → new ≡ with_weighted p old → new.members ≡ old.members
-weighted-members p old new e = ap (λ (r : Ranking). r.members) e ∙ (bodies_alike p old (bodies_of p)).members
+pub unlisted-members : (p : Program) (old new : Ranking) → new ≡ with_unlisted p old → new.members ≡ old.members
+unlisted-members p old new e = ap (λ (r : Ranking). r.members) e ∙ (bodies_alike p old (bodies_of p)).members
 
-bodies_push : (p : Program) (r : Ranking) (bs : List Body) (b : Body) → with_bodies p r (bs ++ b ∷ []) ≡ with_places (with_bodies p r bs) (weighed_literals p b)
+bodies_push : (p : Program) (r : Ranking) (bs : List Body) (b : Body) → with_bodies p r (bs ++ b ∷ []) ≡ with_places (with_bodies p r bs) (unlisted_literals p b)
 bodies_push p r [] b = refl
-bodies_push p r (x ∷ bs) b = bodies_push p (with_places r (weighed_literals p x)) bs b
+bodies_push p r (x ∷ bs) b = bodies_push p (with_places r (unlisted_literals p x)) bs b
 
 -- a body more
-pub bodies_more : (p : Program) (r old new : Ranking) (i : ℕ) (d : Body) → i < length (bodies_of p) → old ≡ with_bodies p r (take i (bodies_of p)) → new ≡ with_places old (weighed_literals p (get_or (bodies_of p) i d)) →
+pub bodies_more : (p : Program) (r old new : Ranking) (i : ℕ) (d : Body) → i < length (bodies_of p) → old ≡ with_bodies p r (take i (bodies_of p)) → new ≡ with_places old (unlisted_literals p (get_or (bodies_of p) i d)) →
     new ≡ with_bodies p r (take (i + 1) (bodies_of p))
 bodies_more p r old new i d lt before made =
     let b : Body = get_or (bodies_of p) i d in
-    made ∙ (ap (λ (x : Ranking). with_places x (weighed_literals p b)) before ∙ sym (ap (with_bodies p r) (take_more (bodies_of p) i d lt) ∙ bodies_push p r (take i (bodies_of p)) b))
+    made ∙ (ap (λ (x : Ranking). with_places x (unlisted_literals p b)) before ∙ sym (ap (with_bodies p r) (take_more (bodies_of p) i d lt) ∙ bodies_push p r (take i (bodies_of p)) b))
 
 pub bodies-vars : (p : Program) (n i : ℕ) (r old : Ranking) → old ≡ with_bodies p r (take i (bodies_of p)) → HasVars n r → HasVars n old
 bodies-vars p n i r old e h = subst (HasVars n) (sym e) ((bodies_alike p r (take i (bodies_of p))).vars ∙ h)
 
--- the ranking when the completion was given, from one in which all variables wait, and then the weight bodies
+-- the ranking when the completion was given, from one in which all variables wait, and then the bodies whose definitions aren't listed
 pub record IsFirst (p : Program) (ranking : Ranking) : Type 0 where
   pub first : ranking ≡ first_ranking p
   pub vars : HasVars (var_count p) ranking
@@ -70,12 +70,12 @@ given_vars p vars before given count has is =
     alike.vars ∙ (has ∙ ap (λ (n : ℕ). n + 1) count)
 
 pub given_first : (p : Program) (vars : ℕ) (before given after : Ranking) → vars ≡ var_count p → before ≡ fresh vars → HasVars vars before → ((v : ℕ) → IsVar vars v → IsTrue (is_in before.members v))
-    → given ≡ fold with_places before (completion p) → after ≡ with_weighted p given → IsFirst p after
-given_first p vars before given after count start has all is weighted =
+    → given ≡ fold with_places before (completion p) → after ≡ with_unlisted p given → IsFirst p after
+given_first p vars before given after count start has all is unlisted =
     let alike : IsAlike before given = subst (IsAlike before) (places_listed before (completion p) ∙ sym is) (places_alike before (map pure (completion p))) in
-    let members : after.members ≡ before.members = weighted-members p given after weighted ∙ alike.members in
+    let members : after.members ≡ before.members = unlisted-members p given after unlisted ∙ alike.members in
     record {
-      first = weighted ∙ ap (with_weighted p) (is ∙ ap (λ (r : Ranking). fold with_places r (completion p)) (start ∙ ap fresh count));
-      vars = weighted-vars p (var_count p) given after weighted (given_vars p vars before given count has is);
+      first = unlisted ∙ ap (with_unlisted p) (is ∙ ap (λ (r : Ranking). fold with_places r (completion p)) (start ∙ ap fresh count));
+      vars = unlisted-vars p (var_count p) given after unlisted (given_vars p vars before given count has is);
       all = λ v iv. subst (λ (ms : List Bool). is_in ms v ≡ true) (sym members) (all v (subst (λ (n : ℕ). IsVar n v) (sym count) iv));
     }

@@ -1,12 +1,12 @@
 -- What a search has on its trail under a cube, and which nogoods it keeps.
-use Rattle.std.specs.Prelude.{◌≡◌, ℕ, ◌<◌, ◌^◌, ◌⊎◌, Bool, true, false, List, [], fold, Option, Some, None, is_some, if◌then◌else◌, ℤ, IsTrue}
+use Rattle.std.specs.Prelude.{◌≡◌, ℕ, ◌<◌, ◌^◌, ◌⊎◌, ◌||◌, Bool, true, false, List, [], fold, Option, Some, None, is_some, if◌then◌else◌, ℤ, IsTrue}
 use Rattle.std.specs.List.{All, AllByRecursion, Any}
 use Rattle.asp_model.specs.declared.program.Body.{Body}
 use Rattle.asp_model.specs.declared.program.Program.{Program}
 use Rattle.asp_vars.specs.Literals.{Literal, complement, has_literal}
 use Rattle.asp_vars.specs.Numbering.{var_count, bodies_of}
 use Rattle.asp_vars.specs.Tabled.{bound_of, form_literals}
-use Rattle.asp_vars.specs.Completion.{completion}
+use Rattle.asp_vars.specs.Completion.{completion, is_barred}
 use Rattle.asp_vars.specs.declared.nogood.Nogood.{Nogood}
 use Rattle.asp_vars.specs.declared.nogood.Base.TheVariants as base
 use Rattle.asp_trail.specs.declared.trail.Entry.{Entry}
@@ -60,21 +60,25 @@ with_places ranking n = all_bumped ranking n
 abbrev pub completed_ranking : Program → Ranking
 completed_ranking p = fold with_places (fresh (var_count p)) (completion p)
 
--- the literals of a weight body; of a normal body, of whose literals the completion speaks, none
-abbrev pub weighed_literals : Program → Body → List Literal
-weighed_literals p b = if is_some (bound_of b) then form_literals p b else []
+-- whether the completion doesn't list the body's definition: of a weight body it has nothing, and of a constraint's the literals alone
+abbrev pub is_unlisted : Program → Body → Bool
+is_unlisted p b = is_some (bound_of b) || is_barred p b
 
--- with a bump for each place where a variable stands in one of these bodies, if it is a weight body
+-- the literals of such a body; of any other, in whose definition each literal stands twice, none
+abbrev pub unlisted_literals : Program → Body → List Literal
+unlisted_literals p b = if is_unlisted p b then form_literals p b else []
+
+-- with a bump for each place where a variable stands in one of these bodies, if its definition isn't listed
 abbrev pub with_bodies : Program → Ranking → List Body → Ranking
-with_bodies p ranking bodies = fold (λ r b. with_places r (weighed_literals p b)) ranking bodies
+with_bodies p ranking bodies = fold (λ r b. with_places r (unlisted_literals p b)) ranking bodies
 
--- with a bump for each place where a variable stands in a weight body
-abbrev pub with_weighted : Program → Ranking → Ranking
-with_weighted p ranking = with_bodies p ranking (bodies_of p)
+-- with a bump for each place where a variable stands in such a body
+abbrev pub with_unlisted : Program → Ranking → Ranking
+with_unlisted p ranking = with_bodies p ranking (bodies_of p)
 
--- a bump for each place where a variable stands in a nogood of the completion, or in a weight body
+-- a bump for each place where a variable stands in a nogood of the completion, or in a body whose definition isn't listed
 abbrev pub first_ranking : Program → Ranking
-first_ranking p = with_weighted p (completed_ranking p)
+first_ranking p = with_unlisted p (completed_ranking p)
 
 -- ---- what every state keeps
 -- what is kept forever

@@ -6,4 +6,4 @@ pub mod begun;
 pub mod completed;
 mod preferred;
 pub mod state;
-mod weighted;
+mod unlisted;

@@ -25,7 +25,7 @@ ghost use Rattle.asp_state.specs.SearchStates.{first_ranking, path_of, values_of
 use crate::assume::assume_all;
 use crate::completed::keep_completion;
 use crate::preferred::prefer_cheap;
-use crate::weighted::begin_weighted;
+use crate::unlisted::begin_unlisted;
 use asp_model::cost::Cost;
 use asp_order::order::Order;
 use asp_propagate::engine::Engine;
@@ -113,7 +113,7 @@ impl<P: Propagator> SearchState<P> {
         let mut order = Order::new(alloc, vars)?;
         let mut engine = Engine::new(alloc, vars, propagator)?;
         keep_completion(alloc, compiled, &mut engine, &mut order)?;
-        begin_weighted(&mut order, compiled);
+        begin_unlisted(&mut order, compiled);
         prefer_cheap(&mut order, compiled);
         Ok(SearchState {
             engine,

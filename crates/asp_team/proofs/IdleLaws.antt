@@ -1,11 +1,12 @@
 -- When all have come back, nobody has anything.
-use Rattle.std.proofs.Common.{◌≡◌, ◌⊎◌, ℕ, suc, ◌+◌, ◌<◌, ◌≤◌, List, [], ◌∷◌, length, Option, Some, sym, ap, ◌∙◌, subst, inl, inr, arith}
+use Rattle.std.proofs.Common.{◌≡◌, ◌⊎◌, ℕ, suc, ◌+◌, ◌<◌, ◌≤◌, Bool, List, [], ◌∷◌, ◌++◌, append_assoc, length, Option, Some, sym, ap, ◌∙◌, subst, inl, inr, arith}
 use Rattle.std.specs.Prelude.{unwrap_or}
-use Rattle.std.specs.List.{All}
+use Rattle.std.specs.List.{All, AllByRecursion}
 use Rattle.std.proofs.lemmas.Bool.{cases_eq}
 use mathlib.Core.List.{IsPrefix}
 use lib.ListN.{get_elem?}
-use Rattle.asp_vault.specs.Makers.{placed, of_number, named}
+use Rattle.asp_model.proofs.MemberLaws.{each-append}
+use Rattle.asp_vault.specs.Makers.{placed, of_number, named, NoneBy}
 use Rattle.asp_vault.specs.Rules.{Guests, Learnt, seeing}
 use Rattle.asp_vault.specs.Seats.{view}
 use Rattle.asp_vault.proofs.Filters.{none_if}
@@ -15,7 +16,7 @@ use Rattle.asp_core.specs.declared.event.Event.{Event}
 use Rattle.asp_core.specs.declared.task.Task.{Task}
 use Rattle.asp_core.specs.Units.{out_of}
 use Rattle.asp_core.specs.Boards.{start}
-use Rattle.asp_core.specs.Events.{held_by, replay}
+use Rattle.asp_core.specs.Events.{held_by, maker, replay}
 use Rattle.asp_core.specs.Growth.{Spares}
 use Rattle.asp_core.proofs.GrowthLaws.{Spares-run}
 use Rattle.asp_book.specs.Books.{Booked, board, signed, IsJournalOf}
@@ -25,8 +26,10 @@ use Rattle.asp_crew_laws.specs.Reports as reports
 use Rattle.asp_crew_laws.proofs.SharedLaws.{held-none, below-or}
 use Rattle.asp_worker.specs.declared.worker.Worker.{Worker}
 use Rattle.asp_worker.specs.Seats.{IsIdle}
-use Rattle.asp_team.specs.Joined.{IsHome}
-use Rattle.asp_team.specs.Teams.{AreNumbered}
+use Rattle.asp_crew_laws.specs.Gone.{IsCrewGone, IsGone}
+use Rattle.asp_team.specs.Joined.{IsHome, LeftBy}
+use Rattle.asp_team.specs.Teams.{AreForks, AreNumbered}
+use Rattle.asp_team.proofs.GoneLaws.{all-few, gone-prefix}
 use Rattle.asp_team.proofs.JoinLaws.{since-none, spares-later}
 
 -- ---- each number's worker is home
@@ -83,3 +86,34 @@ module _ (v w : Knows) (b : Booked) (idle : IsIdle v) (first : v.number ≡ 0) (
 
   pub task-closed : Some b.task ≡ v.about
   task-closed = about ∙ ap (λ (x : Knows). x.about) looks
+
+  -- nobody but the workers and number 0 did anything
+  few : AllByRecursion (λ e. maker e ≤ v.splits) b.journal
+  few = all-few v.splits b.journal (λ n over. none_if signed n 0 b.journal (same n ∙ learnt.numbers first n over))
+
+  gone-closed : (n : ℕ) → IsHome v n → (short never : Bool) (begun : List Event) → LeftBy v short never begun n → IsGone b.task short never n begun b.journal
+  gone-closed n h short never begun g =
+      let now : of_number signed n (placed 0 b.journal) ≡ named signed h.own = guests h.place (n, h.own) (ap (λ (x : Knows). get_elem? x.guests h.place) looks ∙ h.guest) in
+      gone-prefix b.task n v.seen b.journal whole lawful (since-none n v.seen b.journal h.own whole h.stands now) short short never (λ s. s) begun (subst (λ (t : Task). IsGone t short never n begun v.seen) task g)
+
+  -- number 0 did nothing since it looked
+  alone : NoneBy signed 0 whole.0
+  alone = subst (λ n. NoneBy signed n whole.0) first (since-none v.number v.seen b.journal v.own whole mine (same v.number ∙ learnt.own))
+
+  pub crew-closed : (short never : Bool) (begun rest : List Event) → v.seen ≡ begun ++ rest → AreForks begun → NoneBy signed 0 rest → ((n : ℕ) → 0 < n → n ≤ v.splits → LeftBy v short never begun n) →
+      (all : List Event) × (b.journal ≡ begun ++ all) × IsCrewGone b.task v.splits short never begun all
+  crew-closed short never begun rest seen forks since gone =
+      let all : List Event = rest ++ whole.0 in
+      let is : b.journal ≡ begun ++ all = sym whole.1 ∙ ap (λ (l : List Event). l ++ whole.0) seen ∙ append_assoc begun rest whole.0 in (
+        all,
+        is,
+        record {
+          lawful = subst (IsJournalOf b.task) is lawful;
+          gone = λ n some le. subst (IsGone b.task short never n begun) is (gone-closed n (home n some le) short never begun (gone n some le));
+          free = subst (λ (l : List Event). held_by 0 (replay b.task l).nodes ≡ 0) is (nothing 0).free;
+          home = subst (λ (l : List Event). out_of (replay b.task l).out 0 ≡ 0) is (nothing 0).units;
+          few = subst (AllByRecursion (λ e. maker e ≤ v.splits)) is few;
+          forks = forks;
+          since = each-append (λ e. maker e ≡ 0 → ⊥) rest whole.0 (others-are 0 rest since) (others-are 0 whole.0 alone);
+        },
+      )

@@ -19,10 +19,12 @@ use Rattle.asp_core.proofs.GrowthLaws.{Spares-run}
 use Rattle.asp_book.specs.Books.{signed, IsJournalOf}
 use Rattle.asp_book.specs.Calls.{Knows, no_task, task_of, seen_board}
 use Rattle.asp_book.proofs.CallLaws.{others-are, run-append, lawful-rest}
+use Rattle.asp_crew_laws.specs.Gone.{IsGone}
 use Rattle.asp_worker.specs.declared.worker.Shared.{Shared}
 use Rattle.asp_worker.specs.Seats.{IsRun, IsIdle, Reads}
+use Rattle.asp_team.proofs.GoneLaws.{gone-prefix}
 use Rattle.asp_team.specs.declared.lead.Lead.{Lead}
-use Rattle.asp_team.specs.Joined.{IsHome, IsLead, Joins}
+use Rattle.asp_team.specs.Joined.{IsHome, IsLead, Joins, LeftBy}
 
 -- ---- a number did nothing since
 none-more : {A : Type 0} (xs ys : List A) → xs ≡ xs ++ ys → ys ≡ []
@@ -96,6 +98,14 @@ module _ (v u w : Knows) (same : u.about ≡ v.about) (is : w ≡ merged v u) (b
         home = ap (λ (t : Task). out_of (replay t w.seen).out n) task-same ∙ s.units ∙ h.home;
       }
 
+  pub still-gone : IsJournalOf (task_of u) u.seen → (n : ℕ) → IsHome v n → (s short : Bool) → (s ≡ true → short ≡ true) → (never : Bool) (begun : List Event) → LeftBy v s never begun n → LeftBy w short never begun n
+  still-gone other n h s short more never begun g =
+      let at : get_elem? w.guests h.place ≡ some (n, h.own) =
+      subst (λ (gs : List (ℕ × List (ℕ × Event))). get_elem? gs h.place ≡ some (n, h.own)) (sym guests-are) (place-kept v.guests ((u.number, u.own) ∷ []) h.place (n, h.own) h.guest) in
+      let law : IsJournalOf (task_of v) w.seen = subst (λ (t : Task). IsJournalOf t w.seen) task-same (joined-lawful other) in
+      subst (λ (t : Task). IsGone t short never n begun w.seen) (sym task-same)
+      (gone-prefix (task_of v) n v.seen w.seen begins.0 law (since-none n v.seen w.seen h.own begins.0 h.stands (guests h.place (n, h.own) at)) s short never more begun g)
+
   pub came-home : IsJournalOf (task_of u) u.seen → of_number signed u.number (placed 0 u.seen) ≡ named signed u.own → held_by u.number (seen_board u).nodes ≡ 0 → out_of (seen_board u).out u.number ≡ 0 → IsHome w u.number
   came-home other own free home =
       let at : get_elem? w.guests (length v.guests) ≡ some (u.number, u.own) =
@@ -111,6 +121,14 @@ module _ (v u w : Knows) (same : u.about ≡ v.about) (is : w ≡ merged v u) (b
         free = ap (λ (t : Task). held_by u.number (replay t w.seen).nodes) task-other ∙ s.count ∙ free;
         home = ap (λ (t : Task). out_of (replay t w.seen).out u.number) task-other ∙ s.units ∙ home;
       }
+
+  pub came-gone : IsJournalOf (task_of u) u.seen → of_number signed u.number (placed 0 u.seen) ≡ named signed u.own → (s short : Bool) → (s ≡ true → short ≡ true) → (never : Bool) (begun : List Event) → LeftBy u s never begun u.number → LeftBy w short never begun u.number
+  came-gone other own s short more never begun g =
+      let at : get_elem? w.guests (length v.guests) ≡ some (u.number, u.own) =
+      subst (λ (gs : List (ℕ × List (ℕ × Event))). get_elem? gs (length v.guests) ≡ some (u.number, u.own)) (sym guests-are) (place-last v.guests (u.number, u.own)) in
+      let law : IsJournalOf (task_of u) w.seen = subst (λ (t : Task). IsJournalOf t w.seen) task-other (joined-lawful other) in
+      subst (λ (t : Task). IsGone t short never u.number begun w.seen) (sym task-other)
+      (gone-prefix (task_of u) u.number u.seen w.seen begins.1 law (since-none u.number u.seen w.seen u.own begins.1 own (guests (length v.guests) (u.number, u.own) at)) s short never more begun g)
 
 -- what a join does to the first seat
 pub merged-joins : {D E : Type 0} (v u w : View D E) → w ≡ merged v u → IsPrefix v.seen w.seen → Joins v w 1

@@ -1,4 +1,5 @@
 pub mod Ready
+pub mod GoneLaws
 pub mod JoinLaws
 pub mod TeamLaws
 pub mod IdleLaws

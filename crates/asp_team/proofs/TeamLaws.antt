@@ -1,5 +1,5 @@
 -- Seats are split from the first ones, a worker at a time.
-use Rattle.std.proofs.Common.{◌≡◌, ℕ, suc, ◌+◌, ◌^◌, ◌<◌, zero, List, [], ◌∷◌, ◌++◌, length, drop, Option, Some, refl, sym, ap, ◌∙◌, subst, arith, length-append}
+use Rattle.std.proofs.Common.{◌≡◌, ℕ, suc, ◌+◌, ◌^◌, ◌<◌, ◌≤◌, zero, List, [], ◌∷◌, ◌++◌, length, drop, Option, Some, None, refl, sym, ap, ◌∙◌, subst, arith, length-append}
 use Rattle.std.specs.Prelude.{unwrap_or, option_to_list, slice_get, Ok}
 use Rattle.std.specs.Option.{IfSome}
 use Rattle.std.specs.List.{All}
@@ -9,6 +9,7 @@ use mathlib.Core.List.{IsPrefix}
 use lib.ListN.{get_elem?}
 use Rattle.asp_model.specs.declared.program.Program.{Program}
 use Rattle.asp_model.specs.declared.results.Ask.{Ask}
+use Rattle.asp_vars.specs.Literals.{Literal}
 use Rattle.asp_vault.specs.declared.view.View.{View}
 use Rattle.asp_vault.specs.Makers.{NoneBy, OnlyBy}
 use Rattle.asp_vault.specs.Moments.{Stays}
@@ -22,25 +23,30 @@ use Rattle.asp_pool.specs.Lists.{Every}
 use Rattle.asp_pool.specs.Pools.{IsOfPool}
 use Rattle.asp_path.specs.Trees.{open_from}
 use Rattle.asp_core.specs.declared.event.Event.{Event}
+use Rattle.asp_core.specs.declared.event.Event.TheVariants as event
 use Rattle.asp_core.specs.declared.task.Task.{Task}
 use Rattle.asp_core.specs.Units.{out_of}
-use Rattle.asp_core.specs.Boards.{start, goal_of}
-use Rattle.asp_core.specs.Events.{IsVariable, replay}
+use Rattle.asp_core.specs.Boards.{Board, start, goal_of}
+use Rattle.asp_core.specs.Events.{IsVariable, maker, replay}
 use Rattle.asp_core.specs.Growth.{Spares}
 use Rattle.asp_core.proofs.GrowthLaws.{Spares-run}
 use Rattle.asp_book.specs.Books.{Booked, signed, IsJournalOf}
 use Rattle.asp_book.specs.Calls.{Knows, no_task, task_of, seen_board, IsCall}
-use Rattle.asp_book.specs.Replies.{taken}
+use Rattle.asp_book.specs.Replies.{taken, divided}
 use Rattle.asp_book.proofs.CallLaws.{others-are, task-stays}
 use Rattle.asp_book.proofs.DeskLaws.{HasTaken, stays_surely, calls}
+use Rattle.asp_crew_laws.specs.Gone.{IsFork}
+use Rattle.asp_crew_laws.proofs.QuietLaws.{all-join}
 use Rattle.asp_crew_laws.specs.Runs as runs
 use Rattle.asp_worker.specs.declared.worker.Worker.{Worker}
 use Rattle.asp_worker.specs.declared.worker.Shared.{Shared}
-use Rattle.asp_worker.specs.Seats.{IsIdle, IsRunOf, IsPaged, Reads, Passes, Idles, IsFree, Takes}
-use Rattle.asp_worker.proofs.SeatLaws.{board-task, settled-passes, settled-idles, free-idles, idles-call, first-taken}
+use Rattle.asp_worker.specs.Seats.{IsSettled, IsIdle, IsRunOf, IsPaged, Reads, Passes, Idles, IsFree, OwnAre, Takes}
+use Rattle.asp_worker.proofs.OwnLaws.{By, own-call}
+use Rattle.asp_worker.proofs.SeatLaws.{board-now, board-task, free-released, lawful-now, settled-on, settled-passes, settled-idles, free-idles, idles-call, first-taken}
 use Rattle.asp_team.specs.declared.lead.Lead.{Lead}
 use Rattle.asp_team.specs.Joined.{MayJoin}
-use Rattle.asp_team.specs.Teams.{AreNew, AreNumbered, AreReady, HasOut, IsBegun, IsHost}
+use Rattle.asp_team.specs.Teams.{AreForks, AreNew, AreNumbered, AreReady, HasOut, IsBegun, IsHost}
+use Rattle.asp_team.proofs.GoneLaws.{all-few}
 use Rattle.asp_team.proofs.JoinLaws.{place-kept, place-last}
 
 -- ---- the number that has nothing still has nothing
@@ -57,6 +63,25 @@ idle-idles v w i j = record {
   free = free-idles v w i.free j;
   home = ap (λ n. out_of (seen_board w).out n) j.stays.number ∙ j.spares.units ∙ i.home;
 }
+
+-- a leaf is given back
+pub idle-released : (v w : Knows) (before : List Event) (leaf : ℕ) → IsSettled v → out_of (seen_board v).out v.number ≡ 0 → Stays v w → IsCall v w before (event.Release v.number leaf ∷ []) → IsIdle w
+idle-released v w before leaf set home stays call =
+    let e : Event = event.Release v.number leaf in
+    record {
+      settled = settled-on v w set stays (lawful-now v w before stays e call);
+      free = free-released v w before stays leaf set.run call;
+      home = ap (out_of (seen_board w).out) stays.number ∙ ap (λ (b : Board). out_of b.out v.number) (board-now v w before stays e call) ∙ call.spared.units ∙ home;
+    }
+
+-- ---- it only splits the root
+pub fork-taken : (n : ℕ) (o : Option ℕ) → By IsFork n (taken n o)
+fork-taken n None = tt
+fork-taken n (Some leaf) = (λ _. tt, tt)
+
+pub fork-divided : (n leaf : ℕ) (l : Literal) (r : Option (ℕ × ℕ)) → By IsFork n (divided n leaf l r)
+fork-divided n leaf l None = tt
+fork-divided n leaf l (Some leaves) = (λ _. tt, tt)
 
 -- ---- the open leaf of least number is taken
 pub taken-first : (v w : Knows) → Stays v w → IsFree v → (o : Option ℕ) → ((before : List Event) × (o ≡ slice_get (open_from 0 (replay (task_of v) before).nodes) 0) × IsCall v w before (taken v.number o)) → Passes v w × Takes w (Ok o)
@@ -111,19 +136,32 @@ module _ (v u : Knows) (b : Booked) (took : u ≡ holding b.journal (after_misse
         let call : (before : List Event) × IsCall v w before [] = calls v u b u.number has w b gave (λ (k : ℕ) (x : Unit {0}). []) tt lawful refl in
         idles-call v w call.0 stays call.1
 
+    pub survey-forks : OwnAre IsFork v → OwnAre IsFork w
+    survey-forks =
+        let has : HasTaken v u b u.number = record { misses = u.misses; took = took; learnt = learnt; about = about; sound = lawful; number = refl } in
+        let stays : Stays v w = stays_surely v u b u.number has w b gave (λ (k : ℕ) (x : Unit {0}). []) tt refl in
+        let call : (before : List Event) × IsCall v w before [] = calls v u b u.number has w b gave (λ (k : ℕ) (x : Unit {0}). []) tt lawful refl in
+        own-call v w call.0 [] stays call.1 IsFork tt
+
     pub survey-new : v.number ≡ 0 → AreNew w
     survey-new first n over =
         let splits : w.splits ≡ v.splits = ap (λ (x : Knows). x.splits) gave ∙ ap (λ (x : Knows). x.splits) took in
         subst (NoneBy signed n) (sym (ap (λ (x : Knows). x.seen) gave)) (none_if signed n 0 b.journal (learnt.numbers first n (omega (arith, over, splits))))
 
+-- ---- number 0 is alone
+forks-are : (w : Knows) → w.number ≡ 0 → w.splits ≡ 0 → AreNew w → OwnAre IsFork w → AreForks w.seen
+forks-are w first none new own = all-join (λ e. maker e ≤ 0) (λ e. maker e ≡ w.number → IsFork e) (λ e. (maker e ≡ 0) × IsFork e) (λ e le f. let z : maker e ≡ 0 = omega (arith, le) in (z, f (z ∙ sym first))) w.seen
+    (all-few 0 w.seen (λ n some. new n (omega (arith, some, none)))) own
+
 -- the first seat when the root is split
-pub begun-is : (t : Task) (v u w : Knows) → v ≡ opened t [] → Stays v u → Stays u w → IsIdle w → AreNew w → IsBegun t w
-begun-is t v u w is s r idle new = record {
+pub begun-is : (t : Task) (v u w : Knows) → v ≡ opened t [] → Stays v u → Stays u w → IsIdle w → AreNew w → (OwnAre IsFork v → OwnAre IsFork u) → (OwnAre IsFork u → OwnAre IsFork w) → IsBegun t w
+begun-is t v u w is s r idle new f k = record {
   about = r.about ∙ s.about ∙ ap (λ (x : Knows). x.about) is;
   first = r.number ∙ s.number ∙ ap (λ (x : Knows). x.number) is;
   idle = idle;
   new = new;
   out = record { splits = r.splits ∙ s.splits ∙ ap (λ (x : Knows). x.splits) is; joins = r.joins ∙ s.joins ∙ ap (λ (x : Knows). x.joins) is };
+  forks = forks-are w (r.number ∙ s.number ∙ ap (λ (x : Knows). x.number) is) (r.splits ∙ s.splits ∙ ap (λ (x : Knows). x.splits) is) new (k (f (subst (OwnAre IsFork) (sym is) tt)));
 }
 
 -- ---- one seat is split in two
@@ -164,6 +202,7 @@ module _ (c : Shared) (l k : Lead) (is : IsHost c l) (beside : IsBeside l.seat k
         run = subst (λ (y : Knows). IsRunOf (task_of y).program c.mode y) (sym e) (record { program = refl; goal = is.run.goal });
         pages = subst (λ (y : Knows). IsPaged (task_of y).program (view k.pages)) (sym e) (subst (IsPaged (task_of v).program) (sym f) p);
         new = subst AreNew (sym e) (λ n more. is.new n (omega (arith, more)));
+        forks = subst (λ (y : Knows). AreForks y.seen) (sym e) is.forks;
       }
 
 -- the new worker may begin
@@ -186,6 +225,7 @@ may-join c l h is beside pages_beside pool e f =
         number = omega (arith, ap (λ (y : Knows). y.number) e);
         run = subst (IsRunOf p c.mode) (sym e) (record { program = refl; goal = is.run.goal });
         idle = idle;
+        new = subst (λ (y : Knows). NoneBy signed y.number y.seen) (sym e) (is.new (v.splits + 1) (omega arith));
       };
       about_is = ap (λ (y : Knows). y.about) e;
     }
@@ -206,8 +246,8 @@ out-more {D = D} {E = E} v w n m is e more = record {
 }
 
 pub ready-more : (c : Shared) (l k : Lead) (hs xs : List Worker) (h : Worker) → AreReady c l hs → view k.seat ≡ parted (view l.seat) → view k.pages ≡ parted (view l.pages) → MayJoin (task_of (view l.seat)).program c (view l.seat).about h →
-    (view h.seat).number ≡ (view l.seat).splits + 1 → xs ≡ hs ++ h ∷ [] → AreReady c k xs
-ready-more c l k hs xs h is e f may number at =
+    (view h.seat).number ≡ (view l.seat).splits + 1 → (view h.seat).seen ≡ (view l.seat).seen → xs ≡ hs ++ h ∷ [] → AreReady c k xs
+ready-more c l k hs xs h is e f may number began at =
     let v : Knows = view l.seat in
     let len : length xs ≡ length hs + 1 = omega (arith, ap length at, length-append hs (h ∷ [])) in
     record {
@@ -216,10 +256,12 @@ ready-more c l k hs xs h is e f may number at =
       may = subst (λ (y : Knows). All (MayJoin (task_of y).program c y.about) xs) (sym e)
           (subst (All (MayJoin (task_of v).program c v.about)) (sym at) (All-append (MayJoin (task_of v).program c v.about) hs (h ∷ []) is.may (only (MayJoin (task_of v).program c v.about) h may)));
       numbered = subst (AreNumbered 1) (sym at) (numbered-more 1 hs h is.numbered (omega (arith, number, is.out.splits)));
+      began = subst (λ (y : Knows). All (λ x. (view x.seat).seen ≡ y.seen) xs) (sym e)
+          (subst (All (λ x. (view x.seat).seen ≡ v.seen)) (sym at) (All-append (λ x. (view x.seat).seen ≡ v.seen) hs (h ∷ []) is.began (only (λ x. (view x.seat).seen ≡ v.seen) h began)));
     }
 
 pub ready-none : (c : Shared) (l : Lead) → HasOut (view l.seat) 0 → HasOut (view l.pages) 0 → AreReady c l []
-ready-none c l out pages_out = record { out = out; pages_out = pages_out; may = All-nil (MayJoin (task_of (view l.seat)).program c (view l.seat).about); numbered = tt }
+ready-none c l out pages_out = record { out = out; pages_out = pages_out; may = All-nil (MayJoin (task_of (view l.seat)).program c (view l.seat).about); numbered = tt; began = All-nil (λ x. (view x.seat).seen ≡ (view l.seat).seen) }
 
 -- ---- a pass is taken
 pub popped-rest : {X : Type 0} (P : X → Type 0) (xs ys : List X) (o : Option X) → Every P xs → xs ≡ ys ++ option_to_list o → Every P ys
@@ -240,6 +282,7 @@ host-begun p ask budget c l mode book log is paged first =
       run = record { program = refl; goal = ap (λ (x : Task). x.goal) same ∙ ap goal_of mode };
       pages = subst (λ (x : Task). IsPaged x.program (view l.pages)) (sym same) paged;
       new = is.new;
+      forks = is.forks;
     }
 
 -- the workers may join, by what the team is for

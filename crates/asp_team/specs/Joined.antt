@@ -1,5 +1,5 @@
 -- Seats that come back to the first.
-use Rattle.std.specs.Prelude.{◌≡◌, ℕ, ◌+◌, false, List, Option}
+use Rattle.std.specs.Prelude.{◌≡◌, ℕ, ◌+◌, Bool, true, false, List, Option}
 use mathlib.Core.List.{IsPrefix}
 use mathlib.Core.Option.{some}
 use lib.ListN.{get_elem?}
@@ -13,6 +13,7 @@ use Rattle.asp_core.specs.Units.{out_of}
 use Rattle.asp_core.specs.Events.{held_by}
 use Rattle.asp_book.specs.Books.{signed, IsJournalOf}
 use Rattle.asp_book.specs.Calls.{Knows, task_of, seen_board}
+use Rattle.asp_crew_laws.specs.Gone.{IsGone}
 use Rattle.asp_worker.specs.declared.worker.Worker.{Worker}
 use Rattle.asp_worker.specs.declared.worker.Shared.{Shared}
 use Rattle.asp_worker.specs.Seats.{MayWork}
@@ -46,13 +47,18 @@ pub record IsHome (v : Knows) (n : ℕ) : Type 0 where
   pub free : held_by n (seen_board v).nodes ≡ 0
   pub home : out_of (seen_board v).out n ≡ 0
 
--- The worker's number is at home.
-abbrev pub CameHome : Knows → Worker → Type 0
-CameHome v h = IsHome v (view h.seat).number
+-- What the number, which began when `begun` was done, left in what was seen.
+abbrev pub LeftBy : Knows → Bool → Bool → List Event → ℕ → Type 0
+LeftBy v short never begun n = IsGone (task_of v) short never n begun v.seen
 
--- Whoever was at home is.
-abbrev pub StayHome : Knows → Knows → Type 0
-StayHome v w = (n : ℕ) → IsHome v n → IsHome w n
+-- The worker's number is at home, and left the leaves that it took as a worker does. `stopped` says that somebody stopped it.
+pub record CameHome (stopped : Type 0) (l : Lead) (h : Worker) : Type 0 where
+  pub home : IsHome (view l.seat) (view h.seat).number
+  pub gone : (never : Bool) → (never ≡ true → stopped → ⊥) → LeftBy (view l.seat) l.short never (view h.seat).seen (view h.seat).number
+
+-- Whoever was at home is, and what it left behind is there.
+abbrev pub StayHome : Lead → Lead → Type 0
+StayHome l k = (n : ℕ) → IsHome (view l.seat) n → IsHome (view k.seat) n × ((never : Bool) (begun : List Event) → LeftBy (view l.seat) l.short never begun n → LeftBy (view k.seat) k.short never begun n)
 
 -- The worker may begin, and its seat is for this task.
 pub record MayJoin (p : Program) (c : Shared) (about : Option Task) (h : Worker) : Type 0 where

@@ -1,10 +1,11 @@
 //! Workers side by side.
-ghost use Rattle.std.specs.Prelude.{◌≡◌, ◌+◌, length};
+ghost use Rattle.std.specs.Prelude.{◌≡◌, ◌+◌, ◌||◌, ℕ, Bool, List, length};
 ghost use Rattle.std.specs.List.{All};
 ghost use denote.Param.Send.{IsSync};
 ghost use Rattle.asp_vault.specs.Seats.{view};
-ghost use Rattle.asp_worker.specs.Seats.{IsIdle, IsReady, MayWork, Worked};
-ghost use Rattle.asp_team.specs.Joined.{CameHome, IsLead, Joins, MayJoin, StayHome};
+ghost use Rattle.asp_core.specs.declared.event.Event.{Event};
+ghost use Rattle.asp_worker.specs.Seats.{IsIdle, IsPlaced, MayWork, Worked};
+ghost use Rattle.asp_team.specs.Joined.{CameHome, IsHome, IsLead, Joins, LeftBy, MayJoin, StayHome};
 
 use crate::lead::Lead;
 use asp_counts::watch::{Unwatched, Watch};
@@ -16,24 +17,31 @@ use asp_worker::worker::{Shared, Worker};
 use std::sync::Wait;
 use std::thread::{Threads, join};
 
+fn either(one: bool, other: bool) -> bool
+    ensures { result ≡ (one || other) }
+{
+    one || other
+}
+
 // Takes a worker's seats back.
 fn joined(shared: &Shared, lead: Lead, worker: Worker) -> Lead
     requires lead { IsLead shared.now lead }
-    requires ready { IsReady shared.now worker }
+    requires placed { IsPlaced shared.now worker }
     requires idle { IsIdle (view worker.seat) }
     requires about { (view worker.seat).about ≡ (view lead.seat).about }
     ensures lead { IsLead shared.now result }
     ensures joins { Joins (view lead.seat) (view result.seat) 1 }
     ensures pages_join { Joins (view lead.pages) (view result.pages) 1 }
-    ensures stay { StayHome (view lead.seat) (view result.seat) }
-    ensures came { CameHome (view result.seat) worker }
+    ensures stay { StayHome lead result }
+    ensures came { IsHome (view result.seat) (view worker.seat).number }
+    ensures gone { (never : Bool) (begun : List Event) → LeftBy (view worker.seat) worker.short never begun (view worker.seat).number → LeftBy (view result.seat) result.short never begun (view worker.seat).number }
 {
     let Lead {
         mut seat,
         mut pages,
         short,
     } = lead;
-    let short = short || worker.short;
+    let short = either(short, worker.short);
     let Worker {
         seat: other,
         pages: others,
@@ -62,8 +70,8 @@ pub fn crew<R: Threads + Wait + Sync, G: Gate + Sync, H: Halt + Sync>(
     ensures lead { IsLead shared.now result }
     ensures joins { Joins (view lead.seat) (view result.seat) (length workers.items) }
     ensures pages_join { Joins (view lead.pages) (view result.pages) (length workers.items) }
-    ensures stay { StayHome (view lead.seat) (view result.seat) }
-    ensures came { All (CameHome (view result.seat)) workers.items }
+    ensures stay { StayHome lead result }
+    ensures came { All (CameHome (H.never halt.now → ⊥) result) workers.items }
 {
     match workers.pop() {
         None => lead,
@@ -89,8 +97,8 @@ fn beside<R: Threads + Wait + Sync, G: Gate + Sync, H: Halt + Sync>(
     ensures lead { IsLead shared.now result }
     ensures joins { Joins (view lead.seat) (view result.seat) (length workers.items + 1) }
     ensures pages_join { Joins (view lead.pages) (view result.pages) (length workers.items + 1) }
-    ensures stay { StayHome (view lead.seat) (view result.seat) }
-    ensures came { All (CameHome (view result.seat)) workers.items × CameHome (view result.seat) worker }
+    ensures stay { StayHome lead result }
+    ensures came { All (CameHome (H.never halt.now → ⊥) result) workers.items × CameHome (H.never halt.now → ⊥) result worker }
 {
     let others = move || -> Lead
         requires sync { IsSync R.row × IsSync G.row × IsSync H.row }
@@ -99,12 +107,12 @@ fn beside<R: Threads + Wait + Sync, G: Gate + Sync, H: Halt + Sync>(
         ensures lead { IsLead shared.entry.now result }
         ensures joins { Joins (view lead.seat) (view result.seat) (length workers.items) }
         ensures pages_join { Joins (view lead.pages) (view result.pages) (length workers.items) }
-        ensures stay { StayHome (view lead.seat) (view result.seat) }
-        ensures came { All (CameHome (view result.seat)) workers.items }
+        ensures stay { StayHome lead result }
+        ensures came { All (CameHome (H.never halt.entry.now → ⊥) result) workers.items }
     { crew(rt, shared, compiled, gate, halt, lead, workers) };
     let this = move || -> Worker
         requires { MayWork compiled.now shared.now worker }
-        ensures { Worked shared.entry.now worker result }
+        ensures { Worked (H.never halt.entry.now → ⊥) shared.entry.now worker result }
     { work(rt, shared, compiled, gate, halt, worker, &mut Unwatched) };
     let (lead, done) = join(rt, others, this);
     joined(shared, lead, done)
@@ -121,7 +129,7 @@ fn watched<R: Wait, G: Gate, H: Halt, W: Watch + Drop>(
     mut watch: W,
 ) -> (Worker, W)
     requires { MayWork compiled.now shared.now worker }
-    ensures work { Worked shared.now worker result.0 }
+    ensures work { Worked (H.never halt.now → ⊥) shared.now worker result.0 }
     ensures heard { W.IsAfter watch result.1 }
 {
     let done = work(rt, shared, compiled, gate, halt, worker, &mut watch);
@@ -144,8 +152,8 @@ pub fn crew_watched<R: Threads + Wait + Sync, G: Gate + Sync, H: Halt + Sync, W:
     ensures lead { IsLead shared.now result.0 }
     ensures joins { Joins (view lead.seat) (view result.0.seat) (length workers.items) }
     ensures pages_join { Joins (view lead.pages) (view result.0.pages) (length workers.items) }
-    ensures stay { StayHome (view lead.seat) (view result.0.seat) }
-    ensures came { All (CameHome (view result.0.seat)) workers.items }
+    ensures stay { StayHome lead result.0 }
+    ensures came { All (CameHome (H.never halt.now → ⊥) result.0) workers.items }
     ensures heard { W.IsAfter watch result.1 }
 {
     match workers.pop() {
@@ -158,12 +166,12 @@ pub fn crew_watched<R: Threads + Wait + Sync, G: Gate + Sync, H: Halt + Sync, W:
                 ensures lead { IsLead shared.entry.now result }
                 ensures joins { Joins (view lead.seat) (view result.seat) (length workers.items) }
                 ensures pages_join { Joins (view lead.pages) (view result.pages) (length workers.items) }
-                ensures stay { StayHome (view lead.seat) (view result.seat) }
-                ensures came { All (CameHome (view result.seat)) workers.items }
+                ensures stay { StayHome lead result }
+                ensures came { All (CameHome (H.never halt.entry.now → ⊥) result) workers.items }
             { crew(rt, shared, compiled, gate, halt, lead, workers) };
             let this = move || -> (Worker, W)
                 requires { MayWork compiled.now shared.now worker }
-                ensures work { Worked shared.entry.now worker result.0 }
+                ensures work { Worked (H.never halt.entry.now → ⊥) shared.entry.now worker result.0 }
                 ensures heard { W.IsAfter watch result.1 }
             { watched(rt, shared, compiled, gate, halt, worker, watch) };
             let (lead, (done, watch)) = join(rt, others, this);

@@ -5,7 +5,8 @@ ghost use Rattle.asp_vault.specs.Seats.{view, IsOf, IsBeside};
 ghost use Rattle.asp_core.specs.Events.{has_var, IsVariable};
 ghost use Rattle.asp_path.specs.Trees.{cube_of};
 ghost use Rattle.asp_book.specs.Calls.{seen_board, task_of};
-ghost use Rattle.asp_worker.specs.Seats.{IsIdle, IsSettled, Holds, Idles, Passes};
+ghost use Rattle.asp_crew_laws.specs.Gone.{IsFork};
+ghost use Rattle.asp_worker.specs.Seats.{IsIdle, IsSettled, Holds, Idles, OwnAre, Passes};
 
 use asp_book::book::Book;
 use asp_book::desk;
@@ -62,6 +63,7 @@ fn cut<R: Wait>(
     requires held { Holds (view seat.old) leaf }
     ensures of { IsBeside seat.old seat.new }
     ensures idles { Idles (view seat.old) (view seat.new) }
+    ensures forks { OwnAre IsFork (view seat.old) → OwnAre IsFork (view seat.new) }
     ensures variable { IfOk result (λ r. IfSome r (λ l. IsVariable compiled.now l.var)) }
     ensures new { IfOk result (λ r. IfSome r (λ l. has_var (cube_of (seen_board (view seat.new)).nodes leaf) l.var ≡ false)) }
 {
@@ -84,6 +86,7 @@ fn halve<R: Wait>(
     requires held { Holds (view seat.old) leaf.old }
     ensures of { IsBeside seat.old seat.new }
     ensures passes { Passes (view seat.old) (view seat.new) }
+    ensures forks { OwnAre IsFork (view seat.old) → OwnAre IsFork (view seat.new) }
     ensures held { Holds (view seat.new) leaf.new }
 {
     match cut(rt, vault, seat, compiled, *leaf)? {
@@ -111,6 +114,7 @@ fn fork<R: Wait>(
     ensures of { IsBeside seat.old seat.new }
     ensures stays { Stays (view seat.old) (view seat.new) }
     ensures idle { IsIdle (view seat.new) }
+    ensures forks { OwnAre IsFork (view seat.old) → OwnAre IsFork (view seat.new) }
 {
     match desk::take(rt, vault, seat)? {
         None => Ok(false),
@@ -137,6 +141,7 @@ fn fork_if<R: Wait>(
     ensures of { IsBeside seat.old seat.new }
     ensures stays { Stays (view seat.old) (view seat.new) }
     ensures idle { IsIdle (view seat.new) }
+    ensures forks { OwnAre IsFork (view seat.old) → OwnAre IsFork (view seat.new) }
 {
     if desk::open_leaves(rt, vault, seat) >= wanted as usize {
         return Ok(false);
@@ -158,6 +163,7 @@ pub(crate) fn fork_all<R: Wait>(
     ensures of { IsBeside seat.old seat.new }
     ensures stays { Stays (view seat.old) (view seat.new) }
     ensures idle { IsIdle (view seat.new) }
+    ensures forks { OwnAre IsFork (view seat.old) → OwnAre IsFork (view seat.new) }
 {
     'forks: for _ in 0..wanted {
         if !fork_if(rt, vault, seat, compiled, wanted)? {

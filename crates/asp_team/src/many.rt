@@ -1,7 +1,9 @@
 //! A run of many workers.
-ghost use Rattle.std.specs.Prelude.{◌≡◌, ℕ, ◌^◌, ◌<◌, ◌≤◌, true, false, None, Some, IfOk};
+ghost use Rattle.std.specs.Prelude.{◌≡◌, ℕ, ◌^◌, ◌<◌, ◌≤◌, Bool, List, ◌++◌, true, false, length, None, Some, IfOk};
 ghost use Rattle.asp_vault.specs.Seats.{view};
 ghost use Rattle.asp_book.specs.Books.{board};
+ghost use Rattle.asp_core.specs.declared.event.Event.{Event};
+ghost use Rattle.asp_crew_laws.specs.Gone.{IsCrewGone, IsShared};
 ghost use Rattle.asp_crew_laws.specs.Proofs.{HasProof};
 ghost use Rattle.asp_crew_laws.specs.Reports.{IsReport, IsIdle as IsIdleBoard};
 ghost use Rattle.asp_crew_laws.specs.Runs.{asks, task_of};
@@ -9,7 +11,7 @@ ghost use Rattle.asp_crew_laws.specs.Working.{MayBegin};
 ghost use Rattle.asp_crew.specs.Running.{Finishes, HasNoQuery};
 ghost use Rattle.asp_worker.specs.Seats.{IsIdle};
 ghost use Rattle.asp_team.specs.Joined.{IsHome, IsLead};
-ghost use Rattle.asp_team.specs.Teams.{IsAllBack, IsTeam};
+ghost use Rattle.asp_team.specs.Teams.{HaveLeft, IsAllBack, IsTeam};
 
 use crate::crew::crew_watched;
 use crate::lead::Lead;
@@ -85,6 +87,7 @@ fn dismissed(shared: Shared, lead: Lead) -> (Book, u32, Tallies, Scroll)
     requires home { (n : ℕ) → 0 < n → n ≤ (view lead.seat).splits → IsHome (view lead.seat) n }
     ensures task { Some result.0.task ≡ (view lead.seat).about }
     ensures idle { IsIdleBoard (board result.0) }
+    ensures crew { (never : Bool) (begun : List Event) → HaveLeft lead never begun → (rest : List Event) × (result.0.journal ≡ begun ++ rest) × IsCrewGone result.0.task (view lead.seat).splits lead.short never begun rest }
 {
     let Lead {
         mut seat,
@@ -155,10 +158,12 @@ fn ended<W: Watch>(
     requires all { IsAllBack (view lead.seat) × IsAllBack (view lead.pages) }
     requires idle { IsIdle (view lead.seat) }
     requires home { (n : ℕ) → 0 < n → n ≤ (view lead.seat).splits → IsHome (view lead.seat) n }
+    requires some { 0 < (view lead.seat).splits }
     requires about { (view lead.seat).about ≡ Some (task_of compiled.now plan.ask plan.budget) }
     ensures report { IfOk result (λ r. IsReport compiled.now (asks plan.ask.mode plan.ask.models) plan.budget r.0) }
     ensures second { IfOk result (λ r. r.0.second ≡ None) }
     ensures proof { IfOk result (λ r. r.0.proof ≡ None) }
+    ensures shared { IfOk result (λ r. (never : Bool) (begun : List Event) → HaveLeft lead never begun → IsShared (task_of compiled.now plan.ask plan.budget) r.0.short never r.0.journal) }
     ensures heard { W.IsAfter watch.old watch.new }
 {
     let short = lead.short;
@@ -191,10 +196,12 @@ fn finished<W: Watch>(
     requires all { IsAllBack (view lead.seat) × IsAllBack (view lead.pages) }
     requires idle { IsIdle (view lead.seat) }
     requires home { (n : ℕ) → 0 < n → n ≤ (view lead.seat).splits → IsHome (view lead.seat) n }
+    requires some { 0 < (view lead.seat).splits }
     requires about { (view lead.seat).about ≡ Some (task_of compiled.now plan.ask plan.budget) }
     requires apart { plan.proof ≡ true → plan.ask.all_optima ≡ false }
     ensures report { IfOk result (IsReport compiled.now plan.ask plan.budget) }
     ensures proof { IfOk result (HasProof plan.proof) }
+    ensures shared { IfOk result (λ r. (never : Bool) (begun : List Event) → HaveLeft lead never begun → IsShared (task_of compiled.now plan.ask plan.budget) r.short never r.journal) }
     ensures heard { W.IsAfter watch.old watch.new }
 {
     let (report, recorder) = ended(alloc, compiled, plan, shared, lead, deeds, watch)?;
@@ -217,9 +224,11 @@ fn worked<R: Threads + Wait + Sync, G: Gate + Sync, H: Halt + Sync, W: Watch + D
     watch: W,
 ) -> (Result<Report, AllocError>, W)
     requires team { IsTeam compiled.now plan.ask plan.budget team }
+    requires some { 0 < length team.workers.items }
     requires apart { plan.proof ≡ true → plan.ask.all_optima ≡ false }
     ensures report { IfOk result.0 (IsReport compiled.now plan.ask plan.budget) }
     ensures proof { IfOk result.0 (HasProof plan.proof) }
+    ensures shared { IfOk result.0 (λ r. (never : Bool) → (never ≡ true → H.never halt.now) → IsShared (task_of compiled.now plan.ask plan.budget) r.short never r.journal) }
     ensures heard { W.IsAfter watch result.1 }
 {
     let Team {
@@ -239,8 +248,9 @@ fn worked<R: Threads + Wait + Sync, G: Gate + Sync, H: Halt + Sync, W: Watch + D
 ///
 /// The root is split between the workers before they begin. What they leave open, since they were stopped or short of memory
 /// or units, the main thread works off when all have come back, until as many answers as asked for were found. A second
-/// search, where all optima are asked for, is the main thread's alone, and the watch hears of it too. Nothing says that a
-/// worker comes back. Want of memory in the main thread is the one error.
+/// search, where all optima are asked for, is the main thread's alone, and the watch hears of it too. So it closes a path of
+/// the first search only after one of these, and else no worker gives one back. Nothing says that a worker comes back. Want of
+/// memory in the main thread is the one error.
 pub fn solve_with<R: Threads + Wait + Sync, G: Gate + Sync, H: Halt + Sync, W: Watch + Drop>(
     rt: &R,
     alloc: Global,
@@ -255,6 +265,7 @@ pub fn solve_with<R: Threads + Wait + Sync, G: Gate + Sync, H: Halt + Sync, W: W
     requires apart { plan.proof ≡ true → plan.ask.all_optima ≡ false }
     ensures report { IfOk result.0 (IsReport compiled.now plan.ask plan.budget) }
     ensures proof { IfOk result.0 (HasProof plan.proof) }
+    ensures shared { IfOk result.0 (λ r. (never : Bool) → (never ≡ true → H.never halt.now) → IsShared (task_of compiled.now plan.ask plan.budget) r.short never r.journal) }
     ensures heard { W.IsAfter watch result.1 }
 {
     match gathered(
@@ -285,6 +296,7 @@ pub fn solve<R: Threads + Wait + Sync, G: Gate + Sync, W: Watch + Drop>(
     requires apart { plan.proof ≡ true → plan.ask.all_optima ≡ false }
     ensures report { IfOk result.0 (IsReport compiled.now plan.ask plan.budget) }
     ensures proof { IfOk result.0 (HasProof plan.proof) }
+    ensures shared { IfOk result.0 (λ r. IsShared (task_of compiled.now plan.ask plan.budget) r.short true r.journal) }
     ensures heard { W.IsAfter watch result.1 }
 {
     solve_with(rt, alloc, compiled, plan, gate, &NoHalt, deeds, watch)

@@ -7,7 +7,8 @@ ghost use Rattle.asp_pool.specs.Lists.{Every};
 ghost use Rattle.asp_pool.specs.Pools.{IsOfPool};
 ghost use Rattle.asp_book.specs.Calls.{task_of as seen_task};
 ghost use Rattle.asp_crew_laws.specs.Runs.{task_of};
-ghost use Rattle.asp_worker.specs.Seats.{IsIdle, IsPaged};
+ghost use Rattle.asp_crew_laws.specs.Gone.{IsFork};
+ghost use Rattle.asp_worker.specs.Seats.{IsIdle, IsPaged, OwnAre};
 ghost use Rattle.asp_team.specs.Joined.{MayJoin};
 ghost use Rattle.asp_team.specs.Teams.{AreNew, AreReady, HasOut, IsBegun, IsHost, IsTeam};
 
@@ -70,6 +71,7 @@ fn survey<R: Wait>(rt: &R, vault: &Vault<Book>, seat: &mut Seat<Book>)
     ensures of { IsBeside seat.old seat.new }
     ensures stays { Stays (view seat.old) (view seat.new) }
     ensures idle { IsIdle (view seat.new) }
+    ensures forks { OwnAre IsFork (view seat.old) → OwnAre IsFork (view seat.new) }
     ensures new { AreNew (view seat.new) }
 {
     let book = vault.take(rt, seat);
@@ -113,6 +115,7 @@ fn next(shared: &Shared, lead: &mut Lead, lane: Lane, pass: Pass) -> Worker
     ensures seat { view lead.new.seat ≡ parted (view lead.old.seat) }
     ensures pages { view lead.new.pages ≡ parted (view lead.old.pages) }
     ensures number { (view result.seat).number ≡ (view lead.old.seat).splits + 1 }
+    ensures began { (view result.seat).seen ≡ (view lead.old.seat).seen }
     ensures may { MayJoin (seen_task (view lead.old.seat)).program shared.now (view lead.old.seat).about result }
 {
     Worker {

@@ -11,7 +11,7 @@ use Rattle.asp_model.specs.declared.program.Program.{Program}
 use Rattle.asp_model.specs.declared.results.Ask.{Ask}
 use Rattle.asp_model.specs.declared.results.Mode.{Mode}
 use Rattle.asp_model.specs.declared.results.Mode.TheVariants.{Enum, Opt, Consequences}
-use Rattle.asp_model.specs.declared.results.Results.{Results}
+use Rattle.asp_model.specs.Found.{Found}
 use Rattle.asp_model.specs.declared.results.End.{End}
 use Rattle.asp_model.specs.declared.results.End.TheVariants.{Finished, Limited, Unfinished}
 use Rattle.asp_model.specs.declared.program.Minimize.{Minimize}
@@ -140,7 +140,7 @@ listed-some : (L : List Atoms) → 0 < length L → is_some_of L ≡ true
 listed-some [] h = absurd (let f : ⊥ = omega (arith, h) in f)
 listed-some (S ∷ L) h = refl
 
-some-by : (mode : Mode) (r : Results) → reasoning_of mode ≡ None → 0 < length r.answers → has_model_in mode r ≡ true
+some-by : (mode : Mode) (r : Found) → reasoning_of mode ≡ None → 0 < length r.answers → has_model_in mode r ≡ true
 some-by Enum r e h = listed-some r.answers h
 some-by Opt r e h = recorded-some r.best r.answers h
 some-by (Consequences w) r e h = absurd (some e)

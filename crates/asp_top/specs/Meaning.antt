@@ -7,7 +7,7 @@ use Rattle.asp_model.specs.declared.results.Mode.{Mode}
 use Rattle.asp_model.specs.declared.results.Mode.TheVariants.{Enum, Opt, Consequences}
 use Rattle.asp_model.specs.declared.results.End.{End}
 use Rattle.asp_model.specs.declared.results.End.TheVariants.{Finished, Limited, Unfinished}
-use Rattle.asp_model.specs.declared.results.Results.{Results}
+use Rattle.asp_model.specs.Found.{Found}
 use Rattle.asp_model.specs.Texts.{recorded}
 use Rattle.asp_top.specs.declared.status.Status.{Status}
 use Rattle.asp_top.specs.declared.status.Status.TheVariants.{All, NoModel, Partial, Unknown, Enough}
@@ -27,12 +27,12 @@ is_some_of [] = false
 is_some_of (x ∷ xs) = true
 
 -- whether a model was found: it was recorded, or its part of the consequences was
-abbrev pub has_model_in : Mode → Results → Bool
+abbrev pub has_model_in : Mode → Found → Bool
 has_model_in Enum r = is_some_of (recorded Enum r)
 has_model_in Opt r = is_some_of (recorded Opt r)
 has_model_in (Consequences w) r = is_some r.known
 
-abbrev pub has_model : Results → Bool
+abbrev pub has_model : Found → Bool
 has_model r = has_model_in r.mode r
 
 -- a status that tells how the run ended, and whether it has a model

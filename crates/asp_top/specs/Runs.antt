@@ -9,7 +9,7 @@ use Rattle.asp_model.specs.declared.program.Program.{Program}
 use Rattle.asp_model.specs.declared.results.Ask.{Ask}
 use Rattle.asp_model.specs.declared.results.End.{End}
 use Rattle.asp_model.specs.declared.results.End.TheVariants.{Finished, Limited, Unfinished}
-use Rattle.asp_model.specs.declared.results.Results.{Results}
+use Rattle.asp_model.specs.Found.{Found}
 use Rattle.asp_model.specs.Texts.{results_text}
 use Rattle.asp_proof.specs.declared.proof.Proof.{Proof}
 use Rattle.asp_proof.specs.Texts.{text_of}
@@ -76,7 +76,7 @@ IsGiven None a p = IsRead a p
 IsGiven (Some n) a p = (p ≡ ring n) × IsUnasked a
 
 -- the text of a report: that of its proof, if it has one, and else that of its results
-abbrev pub text_by : Option Proof → Program → Results → Bool → List ℕ
+abbrev pub text_by : Option Proof → Program → Found → Bool → List ℕ
 text_by (Some proof) p r brief = text_of proof
 text_by None p r brief = results_text p r brief
 

@@ -14,6 +14,7 @@ use asp_model::results::Results;
 use asp_print::print;
 use asp_proof::proof::Proof;
 use asp_proof::write_proof;
+use asp_rows::sets::Sets;
 use std::alloc::Global;
 
 /// The outcome of a run without a report.
@@ -38,7 +39,7 @@ fn write_results_text<K: Sink>(
     sink: &mut K,
     brief: bool,
     program: &Program,
-    results: &Results,
+    results: &Results<Sets>,
 ) -> Result<(), Failed>
     ensures { Writes (K.held sink.old) (K.held sink.new) (K.faults sink.old) (K.faults sink.new)
         result (results_text program.now results.now brief) }

@@ -5,6 +5,7 @@ ghost use Rattle.asp_top.specs.Meaning.{has_model, mode_of, status_for};
 use crate::status::Status;
 use asp_model::program::Program;
 use asp_model::results::{End, Mode, Results};
+use asp_rows::sets::Sets;
 
 /// The mode that was asked for, or else the program's own: an optimum exactly where it minimises something.
 pub fn mode_of(asked: Option<Mode>, program: &Program) -> Mode
@@ -20,21 +21,18 @@ pub fn mode_of(asked: Option<Mode>, program: &Program) -> Mode
 }
 
 // Whether a model was recorded.
-fn has_model(results: &Results) -> bool
+fn has_model(results: &Results<Sets>) -> bool
     ensures { result ≡ has_model results.now }
 {
     match results.mode {
-        Mode::Enum => !results.answers.as_slice().is_empty(),
-        Mode::Opt => match results.answers.as_slice() {
-            [] => results.best.is_some(),
-            [_, ..] => true,
-        },
+        Mode::Enum => results.answers.rows().len() != 0,
+        Mode::Opt => results.answers.rows().len() != 0 || results.best.is_some(),
         Mode::Consequences(_) => results.known.is_some(),
     }
 }
 
 /// The status of results that were written.
-pub fn status_for(results: &Results) -> Status
+pub fn status_for(results: &Results<Sets>) -> Status
     ensures { result ≡ status_for results.now.end (has_model results.now) }
 {
     match (results.end, has_model(results)) {

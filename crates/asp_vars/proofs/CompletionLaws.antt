@@ -3,7 +3,7 @@ use Rattle.std.proofs.Common.{◌≡◌, ℕ, suc, Bool, true, false, not, cond,
 use Rattle.std.specs.Prelude.{ℤ, pos, negsuc}
 use Rattle.std.specs.List.{list_any, flat_map, AllByRecursion}
 use Rattle.std.specs.Bool.{beq}
-use Rattle.std.proofs.lemmas.Bool.{false≢true, and_from}
+use Rattle.std.proofs.lemmas.Bool.{false≢true, and_parts, and_from}
 use Rattle.asp_model.specs.declared.program.Body.{Body}
 use Rattle.asp_model.specs.declared.program.Body.TheVariants as body
 use Rattle.asp_model.specs.declared.program.Head.{Head}
@@ -13,14 +13,14 @@ use Rattle.asp_model.specs.declared.program.Program.{Program}
 use Rattle.asp_model.specs.Sets.{Atoms, has}
 use Rattle.asp_model.specs.Holding.{atom_of, holds, all_hold, body_holds}
 use Rattle.asp_model.specs.Reading.{derived_heads}
-use Rattle.asp_model.specs.Models.{rules_in_force, atoms_of, is_stable, head_atoms}
+use Rattle.asp_model.specs.Models.{rules_in_force, atoms_of, is_stable, head_atoms, is_never}
 use Rattle.asp_model.specs.Sound.{IsSound}
 use Rattle.asp_model.proofs.MemberLaws.{each_weaker, each-append, each-flat_map, each-map, one_passes, HasAll, HasAll-itself}
 use Rattle.asp_model.proofs.ReductLaws.{rules_in_force-heads}
 use Rattle.asp_vars.specs.Literals.{Literal, T, F, complement, is_true, hits}
 use Rattle.asp_vars.specs.Numbering.{normal, body_eq, bodies_of, var_of_atom, var_of_form, var_of_body, literal_of, values}
 use Rattle.asp_vars.specs.Entailment.{Entailed}
-use Rattle.asp_vars.specs.Completion.{supports, body_nogoods, rule_nogoods, atom_nogood, completion}
+use Rattle.asp_vars.specs.Completion.{supports, is_barred, defining_nogoods, body_nogoods, rule_nogoods, atom_nogood, completion}
 use Rattle.asp_vars.proofs.LiteralLaws.{is_true-complement, and_left, and_right}
 use Rattle.asp_vars.proofs.NormalLaws.{body_holds-normal}
 use Rattle.asp_vars.proofs.NumberingLaws.{value-atom, value-form, same_body, body_eq-itself}
@@ -61,6 +61,34 @@ hits-literals p S [] h = refl
 hits-literals p S (l ∷ ls) h =
     ap (λ b. b && hits (values p S) (map (literal_of p) ls)) (literal-holds p S l h.0) ∙ ap (λ b. holds S l && b) (hits-literals p S ls h.1)
 
+-- ---- the nogoods of a normal body
+pub body_nogoods-barred : (p : Program) (ls : List ℤ) → is_barred p (body.All ls) ≡ true → body_nogoods p (body.All ls) ≡ map (literal_of p) ls ∷ []
+body_nogoods-barred p ls e = ap (λ t. cond t (map (literal_of p) ls ∷ []) (defining_nogoods p ls)) e
+
+pub body_nogoods-defining : (p : Program) (ls : List ℤ) → is_barred p (body.All ls) ≡ false → body_nogoods p (body.All ls) ≡ defining_nogoods p ls
+body_nogoods-defining p ls e = ap (λ t. cond t (map (literal_of p) ls ∷ []) (defining_nogoods p ls)) e
+
+-- what holds of the literals alone, where a constraint has the body, and of the nogoods that define it
+pub each_of_body : (P : List Literal → Type 0) (p : Program) (ls : List ℤ) → (is_barred p (body.All ls) ≡ true → P (map (literal_of p) ls)) → AllByRecursion P (defining_nogoods p ls) → AllByRecursion P (body_nogoods p (body.All ls))
+each_of_body P p ls barred defining = cases (is_barred p (body.All ls)) refl
+  where
+    cases : (t : Bool) → t ≡ is_barred p (body.All ls) → AllByRecursion P (cond t (map (literal_of p) ls ∷ []) (defining_nogoods p ls))
+    cases true e = (barred (sym e), tt)
+    cases false e = defining
+
+-- what follows from a constraint that has the body
+pub barred_by : (P : Rule → Type 0) (Q : Type 0) (p : Program) (b : Body) → AllByRecursion P (rules_in_force p) → ((r : Rule) → P r → r.head ≡ head.Never → normal r.body ≡ b → Q) → is_barred p b ≡ true → Q
+barred_by P Q p b all f =
+    one_passes Q (λ r. is_never r.head && body_eq (normal r.body) b) (rules_in_force p)
+    (each_weaker P (λ r. (is_never r.head && body_eq (normal r.body) b) ≡ true → Q) (λ r h e.
+    let parts = and_parts (is_never r.head) (body_eq (normal r.body) b) e in
+    f r h (headless r.head parts.0) (same_body (normal r.body) b parts.1)) (rules_in_force p) all)
+  where
+    headless : (h : Head) → is_never h ≡ true → h ≡ head.Never
+    headless (head.One a) e = absurd (false≢true e)
+    headless (head.Choice atoms) e = absurd (false≢true e)
+    headless head.Never e = refl
+
 -- ---- nogoods that no stable model hits
 never : (p : Program) (n : List Literal) → ((S : Atoms) → is_stable p S ≡ true → hits (values p S) n ≡ true → ⊥) → Entailed p n
 never p n f = record { excused = λ S stable h. absurd (f S stable h) }
@@ -89,14 +117,23 @@ literal_true p ls l stands atom follows =
     let lost : not (holds S l) ≡ true = sym (is_true-complement (values p S) (literal_of p l) ∙ ap not (literal-holds p S l atom)) ∙ fails in
     false≢true (ap not (sym (follows S holds_all)) ∙ lost))
 
+barred_true : (p : Program) (ls : List ℤ) → AllByRecursion (λ l. has (atoms_of p) (atom_of l) ≡ true) ls → is_barred p (body.All ls) ≡ true → Entailed p (map (literal_of p) ls)
+barred_true p ls atoms e =
+    never p _ (λ S stable h.
+    let fails : all_hold S ls ≡ false =
+    barred_by (Among (rules_in_force p)) (all_hold S ls ≡ false) p (body.All ls) (each_among (rules_in_force p)) (λ r m is same.
+    ap (body_holds S) (sym same) ∙ body_holds-normal S r.body ∙ stable-keeps p S r stable m is) e in
+    false≢true (sym fails ∙ sym (hits-literals p S ls atoms) ∙ h))
+
 body_entailed : (p : Program) (b : Body) → list_any (body_eq b) (bodies_of p) ≡ true → Stands (atoms_of p) b → AllByRecursion (Entailed p) (body_nogoods p b)
-body_entailed p (body.All ls) stands atoms = (
-  body_true p ls stands atoms,
-  each-map (Entailed p) (λ l. T (var_of_form p (body.All ls)) ∷ complement (literal_of p l) ∷ []) ls
-      (each_weaker (λ l. (has (atoms_of p) (atom_of l) ≡ true) × ((S : Atoms) → all_hold S ls ≡ true → holds S l ≡ true))
-      (λ l. Entailed p (T (var_of_form p (body.All ls)) ∷ complement (literal_of p l) ∷ [])) (λ l h. literal_true p ls l stands h.0 h.1) ls
-      (each_both (λ l. has (atoms_of p) (atom_of l) ≡ true) (λ l. (S : Atoms) → all_hold S ls ≡ true → holds S l ≡ true) ls atoms (members_hold ls))),
-)
+body_entailed p (body.All ls) stands atoms =
+    each_of_body (Entailed p) p ls (barred_true p ls atoms) (
+      body_true p ls stands atoms,
+      each-map (Entailed p) (λ l. T (var_of_form p (body.All ls)) ∷ complement (literal_of p l) ∷ []) ls
+          (each_weaker (λ l. (has (atoms_of p) (atom_of l) ≡ true) × ((S : Atoms) → all_hold S ls ≡ true → holds S l ≡ true))
+          (λ l. Entailed p (T (var_of_form p (body.All ls)) ∷ complement (literal_of p l) ∷ [])) (λ l h. literal_true p ls l stands h.0 h.1) ls
+          (each_both (λ l. has (atoms_of p) (atom_of l) ≡ true) (λ l. (S : Atoms) → all_hold S ls ≡ true → holds S l ≡ true) ls atoms (members_hold ls))),
+    )
 body_entailed p (body.AtLeast bound items) stands atoms = tt
 
 pub rule_entailed : (p : Program) (r : Rule) (h : Head) → IsSound p → Among (rules_in_force p) r → r.head ≡ h → HasAll (atoms_of p) (head_atoms h) → AllByRecursion (Entailed p) (rule_nogoods p (var_of_body p r.body) h)

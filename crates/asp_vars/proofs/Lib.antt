@@ -16,5 +16,6 @@ pub mod KeyLaws
 pub mod RuleLaws
 pub mod HeadLaws
 pub mod NumberedLaws
+pub mod BarredLaws
 pub mod SupportLaws
 pub mod AssumptionLaws

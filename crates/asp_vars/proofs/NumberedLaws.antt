@@ -63,7 +63,7 @@ both_ways false true f g = absurd (false≢true (g refl))
 abbrev pub rule_place : Program → Rule → ℕ
 rule_place p r = place_of (body_eq (form r)) (bodies_of p)
 
-rules_have_bodies : (p : Program) → AllByRecursion (λ r. list_any (body_eq (form r)) (bodies_of p) ≡ true) (rules_in_force p)
+pub rules_have_bodies : (p : Program) → AllByRecursion (λ r. list_any (body_eq (form r)) (bodies_of p) ≡ true) (rules_in_force p)
 rules_have_bodies p =
     each_weaker (Among (rules_in_force p)) (λ r. list_any (body_eq (form r)) (bodies_of p) ≡ true) (rule_has_form p) (rules_in_force p) (each_among (rules_in_force p))
 
@@ -83,8 +83,8 @@ rule_vars p first e =
     always (r ∷ rs) = (tt, always rs)
 
 -- ---- heads
-here : (bs : List Body) (b : Body) (j : ℕ) (d : Body) → AreDistinct bs → list_any (body_eq b) bs ≡ true → j < length bs → eqb (place_of (body_eq b) bs) j ≡ body_eq b (get_or bs j d)
-here bs b j d distinct e lt =
+pub place_test : (bs : List Body) (b : Body) (j : ℕ) (d : Body) → AreDistinct bs → list_any (body_eq b) bs ≡ true → j < length bs → eqb (place_of (body_eq b) bs) j ≡ body_eq b (get_or bs j d)
+place_test bs b j d distinct e lt =
     both_ways (eqb (place_of (body_eq b) bs) j) (body_eq b (get_or bs j d))
     (λ t. subst (λ (n : ℕ). body_eq b (get_or bs n d) ≡ true) (eqb-true (place_of (body_eq b) bs) j t) (at_place (body_eq b) bs d e))
     (λ t. eq-eqb (place_of (body_eq b) bs) j (ap (λ (x : Body). place_of (body_eq x) bs) (same_body b (get_or bs j d) t) ∙ place_of-distinct bs j d distinct lt))
@@ -92,7 +92,7 @@ here bs b j d distinct e lt =
 heads_flat : (bs : List Body) (j : ℕ) (d : Body) (rs : List Rule) → AreDistinct bs → j < length bs → AllByRecursion (λ r. list_any (body_eq (form r)) bs ≡ true) rs → heads_at j (map (λ r. place_of (body_eq (form r)) bs) rs) rs ≡ flat_map (λ r. cond (body_eq (form r) (get_or bs j d)) (head_atoms r.head) []) rs
 heads_flat bs j d [] distinct lt h = refl
 heads_flat bs j d (r ∷ rs) distinct lt h =
-    ap (λ t. cond t (head_atoms r.head) [] ++ heads_at j (map (λ s. place_of (body_eq (form s)) bs) rs) rs) (here bs (form r) j d distinct h.0 lt)
+    ap (λ t. cond t (head_atoms r.head) [] ++ heads_at j (map (λ s. place_of (body_eq (form s)) bs) rs) rs) (place_test bs (form r) j d distinct h.0 lt)
     ∙ ap (λ xs. cond (body_eq (form r) (get_or bs j d)) (head_atoms r.head) [] ++ xs) (heads_flat bs j d rs distinct lt h.1)
 
 pub heads_are : (p : Program) (rows : List (List ℕ)) → AreHeads rows (atoms_of p) (length (bodies_of p)) (map (rule_place p) (rules_in_force p)) (rules_in_force p) → rows ≡ map (heads_of p) (bodies_of p)

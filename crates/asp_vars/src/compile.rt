@@ -3,6 +3,7 @@ ghost use Rattle.std.specs.Prelude.{◌≡◌, IfOk, map};
 ghost use Rattle.asp_model.specs.Models.{rules_in_force};
 ghost use Rattle.asp_model.specs.Sound.{IsSound};
 ghost use Rattle.asp_vars.specs.Numbering.{bodies_of, var_of_body};
+ghost use Rattle.asp_vars.specs.Completion.{is_barred};
 ghost use Rattle.asp_vars.specs.Tabled.{bound_of, form_literals, form_weights, heads_of, AreSupports, AreOccurrences};
 
 use crate::compiled::Compiled;
@@ -29,6 +30,8 @@ struct Rows {
 struct Places {
     // the variable of each rule's body
     rule_bodies: Vec<Var>,
+    // for each body whether a constraint has it
+    barred: Vec<bool>,
     // for each body the atoms in heads of its rules
     heads: Table<Var>,
     // for each variable of an atom the bodies whose rules have it in their heads
@@ -59,16 +62,19 @@ fn places_of(
 ) -> Result<Places, AllocError>
     requires { literals.now ≡ map (form_literals numbered.now) (bodies_of numbered.now) }
     ensures rule_bodies { IfOk result (λ p. p.rule_bodies.items ≡ map (λ r. var_of_body numbered.now r.body) (rules_in_force numbered.now)) }
+    ensures barred { IfOk result (λ p. p.barred.items ≡ map (is_barred numbered.now) (bodies_of numbered.now)) }
     ensures heads { IfOk result (λ p. p.heads ≡ map (heads_of numbered.now) (bodies_of numbered.now)) }
     ensures supports { IfOk result (λ p. AreSupports numbered.now p.supports) }
     ensures occurrences { IfOk result (λ p. AreOccurrences numbered.now p.occurrences) }
 {
     let rule_bodies = numbered.rule_bodies(alloc)?;
+    let barred = numbered.barred(alloc)?;
     let heads = numbered.heads(alloc)?;
     let supports = numbered.supports(alloc, &heads)?;
     let occurrences = numbered.occurrences(alloc, literals)?;
     Ok(Places {
         rule_bodies,
+        barred,
         heads,
         supports,
         occurrences,
@@ -80,6 +86,7 @@ fn together(numbered: Numbered, rows: Rows, places: Places) -> Compiled
     requires literals { rows.literals ≡ map (form_literals numbered) (bodies_of numbered) }
     requires weights { rows.weights ≡ map form_weights (bodies_of numbered) }
     requires rule_bodies { places.rule_bodies.items ≡ map (λ r. var_of_body numbered r.body) (rules_in_force numbered) }
+    requires barred { places.barred.items ≡ map (is_barred numbered) (bodies_of numbered) }
     requires heads { places.heads ≡ map (heads_of numbered) (bodies_of numbered) }
     requires supports { AreSupports numbered places.supports }
     requires occurrences { AreOccurrences numbered places.occurrences }
@@ -99,6 +106,7 @@ fn together(numbered: Numbered, rows: Rows, places: Places) -> Compiled
     } = rows;
     let Places {
         rule_bodies,
+        barred,
         heads,
         supports,
         occurrences,
@@ -108,6 +116,7 @@ fn together(numbered: Numbered, rows: Rows, places: Places) -> Compiled
         opened,
         atoms,
         rule_bodies,
+        barred,
         bounds,
         literals,
         weights,

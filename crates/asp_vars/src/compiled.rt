@@ -4,7 +4,7 @@ ghost use Rattle.asp_model.specs.Sound.{IsSound};
 ghost use Rattle.asp_model.specs.Models.{rules_in_force, atoms_of};
 ghost use Rattle.asp_model.specs.Sets.{has};
 ghost use Rattle.asp_vars.specs.Numbering.{bodies_of, var_count, var_of_atom, var_of_form, var_of_body, nth_body, nth_rule, nth_atom};
-ghost use Rattle.asp_vars.specs.Completion.{supports};
+ghost use Rattle.asp_vars.specs.Completion.{is_barred, supports};
 ghost use Rattle.asp_vars.specs.Tabled.{bound_of, form_literals, form_weights, heads_of, occurrences_of, find_var, find_atom, IsAtomVar, IsBodyVar};
 
 use crate::lit::{Lit, Var};
@@ -30,6 +30,8 @@ pub struct Compiled {
     pub(crate) atoms: Interp,
     /// The variable of each rule's body.
     pub(crate) rule_bodies: Vec<Var>,
+    /// For each body whether a constraint has it.
+    pub(crate) barred: Vec<bool>,
     /// For each body the bound of its sum; none where all literals have to hold.
     pub(crate) bounds: Vec<Option<i32>>,
     /// Each body's literals.
@@ -164,6 +166,14 @@ impl Compiled {
         ensures few { var_count self.now < 2 ^ 31 }
     {
         (self.atom_count() + body + 1) as u32
+    }
+
+    /// Whether a constraint has the body, which then holds in no stable model.
+    pub fn is_barred(&self, body: usize) -> bool
+        requires { body < length (bodies_of self.now) }
+        ensures { result ≡ is_barred self.now (nth_body self.now body) }
+    {
+        self.barred[body]
     }
 
     /// The bound of a weight body, and none of a normal one.

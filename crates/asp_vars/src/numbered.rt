@@ -3,8 +3,10 @@ ghost use Rattle.std.specs.Prelude.{◌≡◌, ◌+◌, ◌*◌, IfOk, length, m
 ghost use Rattle.asp_model.specs.Sound.{IsSound};
 ghost use Rattle.asp_model.specs.Models.{rules_in_force, atoms_of};
 ghost use Rattle.asp_vars.specs.Numbering.{bodies_of, var_of_body};
+ghost use Rattle.asp_vars.specs.Completion.{is_barred};
 ghost use Rattle.asp_vars.specs.Tabled.{bound_of, form_literals, form_weights, heads_of, AreSupports, AreOccurrences};
 
+use crate::barred::barred_bodies;
 use crate::bodies::Bodies;
 use crate::heads::{body_vars, head_rows, support_rows};
 use crate::lit::{Lit, Var};
@@ -79,6 +81,18 @@ impl Numbered {
         let first = self.atoms.as_slice().len() as u32 + 1;
         let vars = body_vars(alloc, first, self.places.as_slice())?;
         Ok(vars)
+    }
+
+    /// For each body whether a constraint has it.
+    pub fn barred(&self, alloc: Global) -> Result<Vec<bool>, AllocError>
+        ensures { IfOk result (λ list. list.items ≡ map (is_barred self.now) (bodies_of self.now)) }
+    {
+        let rules = self.program.rules.as_slice();
+        let opened = self.opened.as_slice();
+        let places = self.places.as_slice();
+        let count = self.bodies.forms().len();
+        let list = barred_bodies(alloc, count, places, rules, opened)?;
+        Ok(list)
     }
 
     /// The bound of each body.

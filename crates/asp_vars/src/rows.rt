@@ -1,7 +1,7 @@
 //! What small programs and nogoods have, by the definitions.
 ghost use Rattle.std.specs.Prelude.{◌≡◌, [], ◌∷◌, true, false, pos, negsuc};
 ghost use Rattle.asp_model.specs.declared.program.Body.TheVariants as body;
-ghost use Rattle.asp_model.specs.Rows.{positive_loop, two_ways, repeated_literals};
+ghost use Rattle.asp_model.specs.Rows.{positive_loop, two_priorities, two_ways, repeated_literals};
 ghost use Rattle.asp_vars.specs.Literals.{T, F};
 ghost use Rattle.asp_vars.specs.Numbering.{normal, var_count, var_of_body, values, bodies_of};
 ghost use Rattle.asp_vars.specs.declared.nogood.Base.TheVariants as base;
@@ -36,6 +36,11 @@ pub fn normal_forms_join_equal_literals()
 pub fn completion_of_a_positive_loop()
     ensures { completion positive_loop ≡ (F 3 ∷ T 2 ∷ []) ∷ (T 3 ∷ F 2 ∷ []) ∷ (F 4 ∷ T 1 ∷ []) ∷ (T 4 ∷ F 1 ∷ [])
         ∷ (T 3 ∷ F 1 ∷ []) ∷ (T 4 ∷ F 2 ∷ []) ∷ (T 1 ∷ F 3 ∷ []) ∷ (T 2 ∷ F 4 ∷ []) ∷ [] }
+{}
+
+/// The body of a constraint, variable 4, is false; its literals can't both hold.
+pub fn completion_of_a_constraint()
+    ensures { completion two_priorities ≡ (F 3 ∷ []) ∷ (F 2 ∷ F 1 ∷ []) ∷ (T 4 ∷ []) ∷ (T 1 ∷ F 3 ∷ []) ∷ (T 2 ∷ F 3 ∷ []) ∷ [] }
 {}
 
 /// Atoms that support each other alone are unfounded, one of them without the other isn't.

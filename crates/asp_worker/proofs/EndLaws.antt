@@ -1,25 +1,33 @@
 -- A worker's beginning and its end.
-use Rattle.std.proofs.Common.{◌≡◌, ℕ, ◌+◌, Bool, true, false, cond, eqb, List, [], ◌∷◌, None, refl, sym, ap, ◌∙◌, subst, arith}
+use Rattle.std.proofs.Common.{◌≡◌, inl, inr, ℕ, ◌+◌, ◌≤◌, Bool, true, false, cond, eqb, List, [], ◌∷◌, None, refl, sym, ap, ◌∙◌, subst, arith}
+use Rattle.std.specs.List.{AllByRecursion}
 use Rattle.std.proofs.lemmas.Bool.{eqb-true, false≢true}
 use Rattle.asp_model.specs.declared.program.Program.{Program}
 use Rattle.asp_model.specs.declared.results.Mode.{Mode}
 use Rattle.asp_vars.specs.Paid.{Units}
 use Rattle.asp_vault.specs.Moments.{Stays}
+use Rattle.asp_vault.specs.Seats.{view}
 use Rattle.asp_core.specs.declared.event.Event.{Event}
 use Rattle.asp_core.specs.declared.event.Event.TheVariants as event
 use Rattle.asp_core.specs.declared.task.Task.{Task}
-use Rattle.asp_core.specs.Boards.{Board, goal_of}
+use Rattle.asp_core.specs.Boards.{Board, goal_of, is_enough}
 use Rattle.asp_core.specs.Units.{out_of, returned}
-use Rattle.asp_core.specs.Events.{held_by, happens, replay}
+use Rattle.asp_core.specs.Events.{held_by, happens, maker, replay}
 use Rattle.asp_book.specs.Calls.{Knows, task_of, seen_board, IsCall}
 use Rattle.asp_book.specs.Fuels.{ComesBack}
 use Rattle.asp_book.specs.Replies.{given_back}
 use Rattle.asp_search.specs.Beside.{new_search}
 use Rattle.asp_search_laws.specs.Searching.{Searching}
+use Rattle.asp_crew_laws.specs.Gone.{IsSmall}
+use Rattle.asp_crew_laws.specs.Runs.{IsBack}
 use Rattle.asp_crew_laws.proofs.WorkLaws.{work-begins}
-use Rattle.asp_worker.specs.Seats.{IsSettled, IsRunOf, IsIdle, IsFree, Idles, Owes}
+use Rattle.asp_worker.specs.declared.worker.Worker.{Worker}
+use Rattle.asp_worker.specs.declared.worker.Shared.{Shared}
+use Rattle.asp_worker.specs.Seats.{IsReady, MayWork, IsSettled, IsRunOf, IsIdle, IsFree, IsTidy, Idles, HasCause, IsThroughSince, Owes, OwnAre, WasStopped}
 use Rattle.asp_worker.specs.Working.{GoesOn}
-use Rattle.asp_worker.proofs.SeatLaws.{board-task, board-now, lawful-now, settled-on, idles-call, free-idles, settled-idles}
+use Rattle.asp_worker.proofs.OwnLaws.{By, others-own, own-weaker, own-call, quiet-call, was-on}
+use Rattle.asp_worker.proofs.GoingLaws.{owes-by}
+use Rattle.asp_worker.proofs.SeatLaws.{board-task, board-now, grows-now, lawful-now, settled-on, idles-call, free-idles, settled-idles, placed-ready}
 
 no_units : Program → Units
 no_units p = record { program = p; left = 0; burnt = 0; reasoned = false; known = 0; least = None }
@@ -36,6 +44,7 @@ begins p m v s u run idle e f =
       program = sym run.program;
       mode_is = refl;
       work = work-begins (seen_board v) v.number m (record { program = p; left = 0; burnt = 0; reasoned = false; known = 0; least = None }) goal back;
+      few = omega arith;
     }))
 
 -- ---- the units are given back
@@ -54,7 +63,7 @@ module _ (v w : Knows) (before : List Event) (stays : Stays v w) (u : Units) (se
       record {
         settled = settled-idles v w set i;
         free = free-idles v w free i;
-        home = ap (out_of (seen_board w).out) stays.number ∙ i.spares.units ∙ sym owes.1 ∙ eqb-true (u.left + u.burnt) 0 (sym q);
+        home = ap (out_of (seen_board w).out) stays.number ∙ i.spares.units ∙ sym owes.back.1 ∙ eqb-true (u.left + u.burnt) 0 (sym q);
       }
   by-sum false q call =
       let e : Event = event.Back v.number u.left u.burnt in
@@ -67,3 +76,45 @@ module _ (v w : Knows) (before : List Event) (stays : Stays v w) (u : Units) (se
 
   pub given-idle : IsCall v w before (given_back v.number u) → IsIdle w
   given-idle call = by-sum (eqb (u.left + u.burnt) 0) refl call
+
+-- ---- what the number did, and why it ended
+pub begins-ready : (p : Program) (c : Shared) (h : Worker) → MayWork p c h → IsReady c h
+begins-ready p c h may = placed-ready c h may.ready (others-own IsTidy (view h.seat).number (view h.seat).seen may.new)
+
+pub tidy-small : (v : Knows) → OwnAre IsTidy v → OwnAre IsSmall v
+tidy-small v h = own-weaker IsTidy IsSmall v.number v.seen (λ e t. t.0) h
+
+pub stopped-on : (stopped : Type 0) (v w : Knows) → Stays v w → WasStopped stopped v → WasStopped stopped w
+stopped-on stopped v w stays (inl e) = inl (was-on (λ b. b.pool ≡ 0) v w stays e)
+stopped-on stopped v w stays (inr (inl e)) = inr (inl (was-on (λ b. is_enough b ≡ true) v w stays e))
+stopped-on stopped v w stays (inr (inr s)) = inr (inr s)
+
+-- it gave its units back, if it had any
+back-are : (P : Event → Type 0) (n : ℕ) (u : Units) → P (event.Back n u.left u.burnt) → By P n (given_back n u)
+back-are P n u p = here (eqb (u.left + u.burnt) 0)
+  where
+    here : (z : Bool) → By P n (cond z [] (event.Back n u.left u.burnt ∷ []))
+    here true = tt
+    here false = (λ _. p, tt)
+
+module _ (v w : Knows) (before : List Event) (stays : Stays v w) (u : Units) (owes : Owes v u) (call : IsCall v w before (given_back v.number u)) where
+  pub given-small : OwnAre IsSmall v → OwnAre IsSmall w
+  given-small = own-call v w before (given_back v.number u) stays call IsSmall (back-are IsSmall v.number u owes.few)
+
+  pub given-cause : (stopped : Type 0) (short : Bool) (begun : List Event) → HasCause stopped short begun v → HasCause stopped short begun w
+  given-cause stopped short begun (inl t) = inl (record {
+    quiet = quiet-call v w before (given_back v.number u) stays call begun (back-are IsBack v.number u tt) t.quiet;
+    tidy = own-call v w before (given_back v.number u) stays call IsTidy (back-are IsTidy v.number u (owes.few, λ r. r)) t.tidy;
+  })
+  given-cause stopped short begun (inr (inl e)) = inr (inl e)
+  given-cause stopped short begun (inr (inr s)) = inr (inr (stopped-on stopped v w stays s))
+
+-- ---- a leaf is given back
+module _ (v w : Knows) (before : List Event) (stays : Stays v w) (leaf : ℕ) (call : IsCall v w before (event.Release v.number leaf ∷ [])) where
+  pub owes-released : (u : Units) → Owes v u → Owes w u
+  owes-released u owes =
+      let e : Event = event.Release v.number leaf in
+      owes-by v w u owes stays (grows-now v w before stays e call) (ap (λ (b : Board). out_of b.out v.number) (board-now v w before stays e call) ∙ call.spared.units)
+
+  pub small-released : OwnAre IsTidy v → OwnAre IsSmall w
+  small-released tidy = own-call v w before (event.Release v.number leaf ∷ []) stays call IsSmall (λ _. tt, tt) (tidy-small v tidy)

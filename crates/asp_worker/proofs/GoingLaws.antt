@@ -23,6 +23,7 @@ use Rattle.asp_core.specs.Units.{out_of}
 use Rattle.asp_core.specs.Boards.{Board, is_excused, known_by, known_of, sought}
 use Rattle.asp_core.specs.declared.event.Event.{Event}
 use Rattle.asp_core.specs.Events.{replay}
+use Rattle.asp_core.specs.Growth.{Grows}
 use Rattle.asp_book.specs.Calls.{Knows, task_of, seen_board, IsCall}
 use Rattle.asp_book.proofs.BookLaws.{Fits-grows}
 use Rattle.asp_book.proofs.CallLaws.{task-stays, seen-after}
@@ -38,11 +39,17 @@ use Rattle.asp_worker.specs.Sharing.{is_smaller, lowered, lowered_by, TakesBest}
 use Rattle.asp_worker.specs.Working.{GoesOn, IsOn, IsOff}
 use Rattle.asp_worker.proofs.SeatLaws.{board-task, idles-call, idles-passes, holds-idles, cube-idles}
 
+pub owes-by : (v w : Knows) (u : Units) → Owes v u → Stays v w → Grows (seen_board v) (seen_board w) → out_of (seen_board w).out v.number ≡ out_of (seen_board v).out v.number → Owes w u
+owes-by v w u owes stays grows units = record {
+  back = (
+    Fits-grows (seen_board v) (seen_board w) u grows owes.back.0,
+    owes.back.1 ∙ sym units ∙ ap (out_of (seen_board w).out) (sym stays.number),
+  );
+  few = owes.few;
+}
+
 pub owes-on : (v w : Knows) (u : Units) → Owes v u → Passes v w → Owes w u
-owes-on v w u owes p = (
-  Fits-grows (seen_board v) (seen_board w) u p.grows owes.0,
-  owes.1 ∙ sym p.units ∙ ap (out_of (seen_board w).out) (sym p.stays.number),
-)
+owes-on v w u owes p = owes-by v w u owes p.stays p.grows p.units
 
 pub goes-on : (m : Mode) (v w : Knows) (s : Searching) (u : Units) → GoesOn m v s u → Passes v w → GoesOn m w s u
 goes-on m v w s u g p = record {
@@ -50,10 +57,11 @@ goes-on m v w s u g p = record {
   mode_is = g.mode_is;
   work = subst (λ n. IsAtWork (seen_board w) n m s.known s.bound u) (sym p.stays.number)
       (work-on (seen_board v) (seen_board w) v.number m s.known s.bound u g.work p.grows p.units);
+  few = g.few;
 }
 
-pub goes-owes : (m : Mode) (v : Knows) (s : Searching) (u : Units) → GoesOn m v s u → Owes v u
-goes-owes m v s u g = g.work.units
+pub owes-of : {m : Mode} {v : Knows} {s : Searching} {u : Units} → GoesOn m v s u → Owes v u
+owes-of g = record { back = g.work.units; few = g.few }
 
 pub works-on : (v w : Knows) (leaf : ℕ) (cube : Option (List Literal)) → Works (seen_board v) v.number leaf cube → Idles v w → Works (seen_board w) w.number leaf cube
 works-on v w leaf cube k i = record {
@@ -65,7 +73,7 @@ pub on-on : (m : Mode) (v w : Knows) (s : Searching) (u : Units) (leaf : ℕ) �
 on-on m v w s u leaf on i = record { going = goes-on m v w s u on.going (idles-passes v w i); works = works-on v w leaf s.cube on.works i }
 
 pub on-off : (m : Mode) (v : Knows) (s : Searching) (u : Units) (leaf : ℕ) → IsOn m v s u leaf → IsOff v u leaf
-on-off m v s u leaf on = record { held = on.works.held; units = on.going.work.units }
+on-off m v s u leaf on = record { held = on.works.held; units = owes-of on.going }
 
 pub off-on : (v w : Knows) (u : Units) (leaf : ℕ) → IsOff v u leaf → Idles v w → IsOff w u leaf
 off-on v w u leaf off i = record { held = holds-idles v w leaf off.held i; units = owes-on v w u off.units (idles-passes v w i) }
@@ -77,6 +85,7 @@ goes-same m v s t u p e k b g = record {
   mode_is = e ∙ g.mode_is;
   work = subst (λ (x : List Atoms). IsAtWork (seen_board v) v.number m x t.bound u) (sym k)
       (subst (λ (x : Option (List ℤ)). IsAtWork (seen_board v) v.number m s.known x u) (sym b) g.work);
+  few = g.few;
 }
 
 -- ---- the best cost is the bound
@@ -91,6 +100,7 @@ lowered-goes v B s u best g = here (is_smaller (cost (seen_board v).task.program
       program = g.program;
       mode_is = g.mode_is;
       work = work-unimproved (seen_board v) v.number B B s.known s.bound u g.work best (betters_itself (cost (seen_board v).task.program B));
+      few = g.few;
     }
     here false = g
 
@@ -111,7 +121,7 @@ best-goes Opt v s t u g e = subst (λ (x : Searching). GoesOn Opt v x u) (sym e)
 best-goes (Consequences r) v s t u g (inl e) = subst (λ (x : Searching). GoesOn (Consequences r) v x u) (sym e) g
 best-goes (Consequences r) v s t u g (inr a) =
     subst (λ (x : Searching). GoesOn (Consequences r) v x u) (sym a.same)
-    (record { program = g.program; mode_is = g.mode_is; work = work-adopted (seen_board v) v.number r s.known s.bound u g.work })
+    (record { program = g.program; mode_is = g.mode_is; work = work-adopted (seen_board v) v.number r s.known s.bound u g.work; few = g.few })
 
 pub best-cube : (m : Mode) (b : Board) (s t : Searching) → TakesBest m b s t → t.cube ≡ s.cube
 best-cube Enum b s t e = ap (λ (x : Searching). x.cube) e

@@ -1,6 +1,7 @@
 pub mod Cubes
 pub mod EndLaws
 pub mod GoingLaws
+pub mod OwnLaws
 pub mod PathLaws
 pub mod RecordLaws
 pub mod Replies

@@ -15,16 +15,15 @@ use Rattle.asp_core.specs.declared.task.Task.{Task}
 use Rattle.asp_core.specs.Events.{has_var, IsVariable}
 use Rattle.asp_book.proofs.CallLaws.{task-stays}
 use Rattle.asp_search.specs.Beside.{IsOpen}
-use Rattle.asp_book.specs.Books.{IsJournalOf}
 use Rattle.asp_book.specs.Calls.{Knows, task_of, seen_board}
 use Rattle.asp_search_laws.specs.Searching.{Searching}
 use Rattle.asp_worker.specs.declared.worker.Worker.{Worker}
 use Rattle.asp_worker.specs.declared.worker.Shared.{Shared}
-use Rattle.asp_worker.specs.Seats.{Idles, Passes, Leases, IsReady, Keeps}
+use Rattle.asp_worker.specs.Seats.{Behaves, Idles, Passes, Leases, IsReady, Keeps}
 use Rattle.asp_worker.specs.Sharing.{TakesOver}
 use Rattle.asp_worker.specs.Working.{GoesOn, IsOn, IsOff, Finds}
-use Rattle.asp_worker.proofs.SeatLaws.{holds-idles, cube-idles, holds-leases, cube-leases, idles-passes, ready-seat}
-use Rattle.asp_worker.proofs.GoingLaws.{goes-on, owes-on}
+use Rattle.asp_worker.proofs.SeatLaws.{holds-idles, cube-idles, holds-leases, cube-leases, idles-passes, behaves-self, ready-seat}
+use Rattle.asp_worker.proofs.GoingLaws.{owes-of, goes-on, owes-on}
 use Rattle.asp_worker.proofs.SharingLaws.{refreshed-goes, refreshed-cube}
 
 -- what others found was taken over
@@ -39,7 +38,7 @@ refreshed-on m v w t r u leaf xs on i e = record {
 
 -- memory was wanting, and the number left its leaves and units alone
 pub idled-off : (m : Mode) (v w : Knows) (s : Searching) (u x : Units) (leaf : ℕ) → IsOn m v s u leaf → Idles v w → x ≡ u → IsOff w x leaf
-idled-off m v w s u x leaf on i e = subst (λ (y : Units). IsOff w y leaf) (sym e) (record { held = holds-idles v w leaf on.works.held i; units = owes-on v w u on.going.work.units (idles-passes v w i) })
+idled-off m v w s u x leaf on i e = subst (λ (y : Units). IsOff w y leaf) (sym e) (record { held = holds-idles v w leaf on.works.held i; units = owes-on v w u (owes-of on.going) (idles-passes v w i) })
 
 -- an answer was recorded
 pub recorded-on : (m : Mode) (v w : Knows) (s t r : Searching) (u x : Units) (leaf : ℕ) (S : List ℕ) → Finds m v s t u leaf S → Idles v w → x ≡ u → GoesOn m w r x × (r.cube ≡ t.cube) → IsOn m w r x leaf
@@ -65,7 +64,7 @@ leased-on m v w s t u x leaf on l e g = record {
 }
 
 pub leased-off : (m : Mode) (v w : Knows) (s t : Searching) (u x : Units) (leaf : ℕ) → IsOn m v s u leaf → Leases v w → GoesOn m w t x → IsOff w x leaf
-leased-off m v w s t u x leaf on l g = record { held = holds-leases v w leaf on.works.held l; units = g.work.units }
+leased-off m v w s t u x leaf on l g = record { held = holds-leases v w leaf on.works.held l; units = owes-of g }
 
 -- the number did something, but the leaf is as it was
 pub kept-on : (m : Mode) (v w : Knows) (s : Searching) (u : Units) (leaf : ℕ) → IsOn m v s u leaf → Passes v w → slice_index_or (seen_board w).nodes leaf nowhere ≡ slice_index_or (seen_board v).nodes leaf nowhere → IsOn m w s u leaf
@@ -79,7 +78,7 @@ kept-on m v w s u leaf on p same = record {
 
 -- the worker with another seat at the log
 pub ready-pages : (c : Shared) (h k : Worker) → IsReady c h → Keeps h k → IsOfPool c.pool k.pass → view k.seat ≡ view h.seat → IsReady c k
-ready-pages c h k r keeps pool same = ready-seat c h k r keeps pool (subst (λ (v : Knows). IsJournalOf (task_of v) v.seen) (sym same) r.settled.seated.lawful)
+ready-pages c h k r keeps pool same = ready-seat c h k r keeps pool (subst (λ (v : Knows). Behaves (view h.seat) v) (sym same) (behaves-self (view h.seat) r.settled))
 
 -- a literal that is open for the search may split the path
 pub open-lit : (m : Mode) (v : Knows) (s : Searching) (u : Units) (leaf : ℕ) (l : Literal) → IsOn m v s u leaf → ((q : List Literal) → s.cube ≡ Some q → IsOpen s.program q l) →

@@ -40,9 +40,10 @@ use Rattle.asp_search_laws.specs.Searching.{Searching}
 use Rattle.asp_search_laws.specs.Steps.{Records}
 use Rattle.asp_crew_laws.specs.Working.{IsAtWork}
 use Rattle.asp_crew_laws.proofs.WorkLaws.{work-on, work-delivered, work-improved, work-unimproved, work-leased, work-told, out_of-leased, Fits-merged, may-list, may-optimise, may-tell}
-use Rattle.asp_worker.specs.Seats.{IsRun, IsSettled, Idles, Leases}
+use Rattle.asp_worker.specs.Seats.{IsRun, IsSettled, Idles, Leases, WasEmpty}
 use Rattle.asp_worker.specs.Sharing.{lowered}
 use Rattle.asp_worker.specs.Working.{GoesOn, Finds}
+use Rattle.asp_worker.proofs.OwnLaws.{was-call}
 use Rattle.asp_worker.proofs.SeatLaws.{board-task, query-none, settled-board, settled-leases, guard-was, board-now, idles-call, idles-now, leases-now, idles-leases}
 use Rattle.asp_worker.proofs.GoingLaws.{lowered-goes}
 
@@ -78,6 +79,7 @@ goes-with m v w s t u leaf S b f stays now work = record {
   program = f.program ∙ f.on.going.program ∙ ap (λ (x : Task). x.program) (sym (task-stays v w stays));
   mode_is = f.mode_is ∙ f.on.going.mode_is;
   work = subst (λ n. IsAtWork (seen_board w) n m t.known t.bound u) (sym stays.number) (subst (λ (c : Board). IsAtWork c v.number m t.known t.bound u) (sym now) work);
+  few = f.on.going.few;
 }
 
 module _ (v w : Knows) (before : List Event) (stays : Stays v w) (s t : Searching) (u : Units) (leaf : ℕ) (S : Atoms) where
@@ -119,7 +121,7 @@ module _ (v w : Knows) (before : List Event) (stays : Stays v w) (s t : Searchin
     delivered-goes r e call = goes-delivered (subst (λ x. IsCall v w before (delivered v.number S x)) e call)
 
     pub delivered-idles : (r : Bool) → IsCall v w before (delivered v.number S r) → Idles v w
-    delivered-idles true call = idles-now v w before stays (event.Deliver v.number S) call refl refl
+    delivered-idles true call = idles-now v w before stays (event.Deliver v.number S) call (tt, λ r. r) refl refl
     delivered-idles false call = idles-call v w before stays call
 
   -- ---- in an optimisation
@@ -142,7 +144,7 @@ module _ (v w : Knows) (before : List Event) (stays : Stays v w) (s t : Searchin
         (work-improved b v.number S s.known s.bound u (at-moment Opt (event.Improve v.number S ∷ []) call f) (guard-was v w before stays (event.Improve v.number S) call))
 
     pub improved-idles : (r : Option (List ℤ)) → IsCall v w before (improved v.number S r) → Idles v w
-    improved-idles None call = idles-now v w before stays (event.Improve v.number S) call refl refl
+    improved-idles None call = idles-now v w before stays (event.Improve v.number S) call (tt, λ r. r) refl refl
     improved-idles (Some c) call = idles-call v w before stays call
 
     some-inj : (c d : List ℤ) → Some c ≡ Some d → c ≡ d
@@ -212,7 +214,7 @@ module _ (v w : Knows) (before : List Event) (stays : Stays v w) (m : Mode) (s :
       let now : seen_board w ≡ happens b e = board-now v w before stays e call in
       let sum : (merged u x).left + (merged u x).burnt ≡ u.left + u.burnt + k = omega (arith, same, ap (λ (y : Units). y.burnt) is) in
       let work : IsAtWork (happens b e) v.number m s.known s.bound (merged u x) = work-leased b v.number k m s.known s.bound u (merged u x) (work-then (e ∷ []) call) (guard-was v w before stays e call) sum (fits-then (e ∷ []) call) in (
-        leases-now v w before stays e call refl,
+        leases-now v w before stays e call (omega (arith, same, leased-few), λ r. r) refl,
         (let o : out_of (seen_board w).out v.number ≡ out_of b.out v.number + k = ap (λ (y : Board). out_of y.out v.number) now ∙ out_of-leased v.number k b.out in
             let p : out_of b.out v.number ≡ u.left + u.burnt = call.spared.units ∙ sym g.work.units.1 in
             omega (arith, o, p, same)),
@@ -226,12 +228,17 @@ module _ (v w : Knows) (before : List Event) (stays : Stays v w) (m : Mode) (s :
     pub leased-leases : Leases v w
     leased-leases = all.0
 
-    pub leased-goes : GoesOn m w s (merged u x)
-    leased-goes = record {
+    pub leased-goes : u.left ≡ 0 → GoesOn m w s (merged u x)
+    leased-goes none = record {
       program = g.program ∙ ap (λ (y : Task). y.program) (sym (task-stays v w stays));
       mode_is = g.mode_is;
       work = subst (λ n. IsAtWork (seen_board w) n m s.known s.bound (merged u x)) (sym stays.number) all.2;
+      few = omega (arith, none, leased-few);
     }
+
+    -- none was left in the pool
+    pub leased-empty : x.left ≡ 0 → WasEmpty w
+    leased-empty none = was-call v w before (leased_out v.number x) stays call (λ b. b.pool ≡ 0) (omega (arith, none, ap (λ (y : Units). y.left) is))
 
     -- the sum of units fits
     pub leased-fits : u.left + u.burnt + x.left + x.burnt < 2 ^ 64

@@ -43,7 +43,8 @@ use Rattle.asp_crew_laws.specs.Runs.{IsBack}
 use Rattle.asp_pool.specs.Pools.{IsOfPool}
 use Rattle.asp_worker.specs.declared.worker.Worker.{Worker}
 use Rattle.asp_worker.specs.declared.worker.Shared.{Shared}
-use Rattle.asp_worker.specs.Seats.{IsRun, IsSettled, Passes, Idles, Leases, IsFree, IsQuietIf, Holds, HoldsHalf, Takes, Looks, Reads, IsPaged, IsReady, Keeps}
+use Rattle.asp_worker.specs.Seats.{IsRun, IsSettled, IsTidy, OwnAre, Behaves, Passes, Idles, Leases, IsFree, Holds, HoldsHalf, Takes, Looks, Reads, IsPaged, IsPlaced, IsReady, Keeps}
+use Rattle.asp_worker.proofs.OwnLaws.{since-is, own-more, behaves-call}
 
 -- ---- the same seat
 pub stays-self : {D E : Type 0} (v : View D E) → v.holds ≡ false → Stays v v
@@ -81,13 +82,19 @@ settled-on v w s stays lawful = record {
   run = subst IsRun (sym (task-stays v w stays)) s.run;
 }
 
+pub behaves-self : (v : Knows) → IsSettled v → Behaves v v
+behaves-self v s = record { journal = s.seated.lawful; tidy = λ t. t }
+
+behaves-trans : (u v w : Knows) → Behaves u v → Behaves v w → Behaves u w
+behaves-trans u v w b c = record { journal = c.journal; tidy = λ t. c.tidy (b.tidy t) }
+
 pub idles-self : (v : Knows) → IsSettled v → Idles v v
-idles-self v s = record { stays = stays-self v s.seated.rests; lawful = s.seated.lawful; grows = Grows-itself (seen_board v); spares = Spares-self v.number (seen_board v) }
+idles-self v s = record { stays = stays-self v s.seated.rests; lawful = behaves-self v s; grows = Grows-itself (seen_board v); spares = Spares-self v.number (seen_board v) }
 
 pub idles-trans : (u v w : Knows) → Idles u v → Idles v w → Idles u w
 idles-trans u v w i j = record {
   stays = stays-trans u v w i.stays j.stays;
-  lawful = j.lawful;
+  lawful = behaves-trans u v w i.lawful j.lawful;
   grows = Grows-trans (seen_board u) (seen_board v) (seen_board w) i.grows j.grows;
   spares = Spares-trans u.number (seen_board u) (seen_board v) (seen_board w) i.spares (subst (λ n. Spares n (seen_board v) (seen_board w)) i.stays.number j.spares);
 }
@@ -104,19 +111,19 @@ passes-self v s = idles-passes v v (idles-self v s)
 pub passes-trans : (u v w : Knows) → Passes u v → Passes v w → Passes u w
 passes-trans u v w p q = record {
   stays = stays-trans u v w p.stays q.stays;
-  lawful = q.lawful;
+  lawful = behaves-trans u v w p.lawful q.lawful;
   grows = Grows-trans (seen_board u) (seen_board v) (seen_board w) p.grows q.grows;
   units = subst (λ n. out_of (seen_board w).out n ≡ out_of (seen_board v).out n) p.stays.number q.units ∙ p.units;
 }
 
 pub settled-idles : (v w : Knows) → IsSettled v → Idles v w → IsSettled w
-settled-idles v w s i = settled-on v w s i.stays i.lawful
+settled-idles v w s i = settled-on v w s i.stays i.lawful.journal
 
 pub settled-passes : (v w : Knows) → IsSettled v → Passes v w → IsSettled w
-settled-passes v w s i = settled-on v w s i.stays i.lawful
+settled-passes v w s i = settled-on v w s i.stays i.lawful.journal
 
 pub settled-leases : (v w : Knows) → IsSettled v → Leases v w → IsSettled w
-settled-leases v w s i = settled-on v w s i.stays i.lawful
+settled-leases v w s i = settled-on v w s i.stays i.lawful.journal
 
 pub free-idles : (v w : Knows) → IsFree v → Idles v w → IsFree w
 free-idles v w free i = ap (λ n. held_by n (seen_board w).nodes) i.stays.number ∙ i.spares.count ∙ free
@@ -159,7 +166,7 @@ module _ (v w : Knows) (before : List Event) (stays : Stays v w) where
       let now : seen_board w ≡ replay (task_of v) before = seen-after v w before [] stays call in
       record {
         stays = stays;
-        lawful = lawful-after v w before [] stays call;
+        lawful = behaves-call v w before [] stays call tt;
         grows = subst (Grows (seen_board v)) (sym now) call.grown;
         spares = subst (Spares v.number (seen_board v)) (sym now) call.spared;
       }
@@ -182,20 +189,23 @@ module _ (v w : Knows) (before : List Event) (stays : Stays v w) where
     pub lawful-now : IsJournalOf (task_of w) w.seen
     lawful-now = lawful-after v w before (e ∷ []) stays call
 
+    behaves-now : IsTidy e → Behaves v w
+    behaves-now tidy = behaves-call v w before (e ∷ []) stays call (λ _. tidy, tt)
+
     -- which left the units of the number alone
-    pub passes-now : out_of (happens (replay (task_of v) before) e).out v.number ≡ out_of (replay (task_of v) before).out v.number → Passes v w
-    passes-now same = record {
+    pub passes-now : IsTidy e → out_of (happens (replay (task_of v) before) e).out v.number ≡ out_of (replay (task_of v) before).out v.number → Passes v w
+    passes-now tidy same = record {
       stays = stays;
-      lawful = lawful-now;
+      lawful = behaves-now tidy;
       grows = grows-now;
       units = ap (λ (b : Board). out_of b.out v.number) board-now ∙ same ∙ call.spared.units;
     }
 
     -- which left leaves and units alone
-    pub idles-now : (happens (replay (task_of v) before) e).nodes ≡ (replay (task_of v) before).nodes → (happens (replay (task_of v) before) e).out ≡ (replay (task_of v) before).out → Idles v w
-    idles-now nodes out = record {
+    pub idles-now : IsTidy e → (happens (replay (task_of v) before) e).nodes ≡ (replay (task_of v) before).nodes → (happens (replay (task_of v) before) e).out ≡ (replay (task_of v) before).out → Idles v w
+    idles-now tidy nodes out = record {
       stays = stays;
-      lawful = lawful-now;
+      lawful = behaves-now tidy;
       grows = grows-now;
       spares = record {
         leaves = λ leaf h. ap (λ (b : Board). slice_index_or b.nodes leaf nowhere) board-now ∙ ap (λ (ns : List Node). slice_index_or ns leaf nowhere) nodes ∙ call.spared.leaves leaf h;
@@ -205,10 +215,10 @@ module _ (v w : Knows) (before : List Event) (stays : Stays v w) where
     }
 
     -- which left leaves alone
-    pub leases-now : (happens (replay (task_of v) before) e).nodes ≡ (replay (task_of v) before).nodes → Leases v w
-    leases-now nodes = record {
+    pub leases-now : IsTidy e → (happens (replay (task_of v) before) e).nodes ≡ (replay (task_of v) before).nodes → Leases v w
+    leases-now tidy nodes = record {
       stays = stays;
-      lawful = lawful-now;
+      lawful = behaves-now tidy;
       grows = grows-now;
       leaves = λ leaf h. ap (λ (b : Board). slice_index_or b.nodes leaf nowhere) board-now ∙ ap (λ (ns : List Node). slice_index_or ns leaf nowhere) nodes ∙ call.spared.leaves leaf h;
     }
@@ -237,7 +247,7 @@ module _ (v w : Knows) (before : List Event) (stays : Stays v w) (leaf : ℕ) wh
       ∙ ap status.Held (sym stays.number)
 
   pub passes-taken : IsCall v w before (event.Take v.number leaf ∷ []) → Passes v w
-  passes-taken call = passes-now v w before stays (event.Take v.number leaf) call refl
+  passes-taken call = passes-now v w before stays (event.Take v.number leaf) call (tt, λ r. r) refl
 
   pub free-released : IsRun (task_of v) → IsCall v w before (event.Release v.number leaf ∷ []) → IsFree w
   free-released run call =
@@ -245,9 +255,6 @@ module _ (v w : Knows) (before : List Event) (stays : Stays v w) (leaf : ℕ) wh
       ap (λ n. held_by n (seen_board w).nodes) stays.number
       ∙ ap (λ (c : Board). held_by v.number c.nodes) (board-now v w before stays (event.Release v.number leaf) call)
       ∙ given-up v.number b leaf status.Open (board-then v w before stays (event.Release v.number leaf) call run) (guard-was v w before stays (event.Release v.number leaf) call) refl
-
-  pub passes-released : IsCall v w before (event.Release v.number leaf ∷ []) → Passes v w
-  passes-released call = passes-now v w before stays (event.Release v.number leaf) call refl
 
   module _ (nogood : List Literal) (call : IsCall v w before (event.Close v.number leaf nogood ∷ [])) where
     pub free-closed : IsRun (task_of v) → IsFree w
@@ -258,7 +265,7 @@ module _ (v w : Knows) (before : List Event) (stays : Stays v w) (leaf : ℕ) wh
         ∙ given-up v.number b leaf status.Closed (board-then v w before stays (event.Close v.number leaf nogood) call run) (guard-was v w before stays (event.Close v.number leaf nogood) call).0 refl
 
     pub passes-closed : Passes v w
-    passes-closed = passes-now v w before stays (event.Close v.number leaf nogood) call refl
+    passes-closed = passes-now v w before stays (event.Close v.number leaf nogood) call (tt, λ r. r) refl
 
   -- the leaf is split: the first half is held as the leaf was
   module _ (l : Literal) (call : IsCall v w before (event.Split v.number leaf l ∷ [])) where
@@ -271,7 +278,7 @@ module _ (v w : Knows) (before : List Event) (stays : Stays v w) (leaf : ℕ) wh
         ∙ get_or-append-add ws (record { cube = cube_of nodes leaf ++ l ∷ []; status = status_of nodes leaf } ∷ record { cube = cube_of nodes leaf ++ complement l ∷ []; status = status.Open } ∷ []) 0 nowhere
 
     pub passes-split : Passes v w
-    passes-split = passes-now v w before stays (event.Split v.number leaf l) call refl
+    passes-split = passes-now v w before stays (event.Split v.number leaf l) call (tt, λ r. r) refl
 
     pub half-held : Holds w (length (replay (task_of v) before).nodes)
     half-held =
@@ -298,10 +305,6 @@ looks-self v = record { holds = refl; about = refl; number = refl; splits = refl
   where
     drop-all : (xs : List Event) → drop (length xs) xs ≡ []
     drop-all xs = ap (drop (length xs)) (sym (append-nil xs)) ∙ drop_prefix xs []
-
--- what was added since, of two lists of which the first begins the second
-since-is : (n : ℕ) (xs ys : List Event) (p : IsPrefix xs ys) → NoneBy signed n (drop (length xs) ys) → NoneBy signed n p.0
-since-is n xs ys p h = subst (NoneBy signed n) (ap (drop (length xs)) (sym p.1) ∙ drop_prefix xs p.0) h
 
 since-both : (n : ℕ) (xs ys zs : List Event) (p : IsPrefix xs ys) (q : IsPrefix ys zs) → NoneBy signed n p.0 → NoneBy signed n q.0 → NoneBy signed n (drop (length xs) zs)
 since-both n xs ys zs p q h k =
@@ -346,25 +349,13 @@ idles-looked u v w before s look stays call =
         guests = stays.guests ∙ look.guests;
         seen = prefix_trans u.seen v.seen w.seen look.seen stays.seen;
       };
-      lawful = lawful-after v w before [] stays call;
+      lawful = record {
+        journal = lawful-after v w before [] stays call;
+        tidy = own-more IsTidy u w more.0 [] (stays.number ∙ look.number) (seen ∙ sym more.1 ∙ sym (append-nil (u.seen ++ more.0))) others tt;
+      };
       grows = subst (Grows (seen_board u)) (sym now) (Grows-run (seen_board u) more.0 since);
       spares = subst (Spares u.number (seen_board u)) (sym now) (Spares-run (seen_board u) more.0 u.number since (others-are u.number more.0 others));
     }
-
--- no leaf was open, and then a call added nothing
-none-back : (n : ℕ) (events : List Event) → NoneBy signed n events → AllByRecursion (λ e. eqb (maker e) n ≡ true → IsBack e) events
-none-back n [] h = tt
-none-back n (e ∷ events) h = (λ same. absurd (false≢true (sym h.0 ∙ same)), none-back n events h.1)
-
-pub quiet-call : (v w : Knows) (before : List Event) → Stays v w → IsCall v w before [] → open_from 0 (seen_board v).nodes ≡ [] → IsQuietIf w None
-quiet-call v w before stays call none = record {
-  before = v.seen;
-  after = call.moment.more.0;
-  is = call.moment.seen ∙ append-nil before ∙ sym call.moment.more.1;
-  none = ap (λ (t : Task). open_from 0 (replay t v.seen).nodes) (task-stays v w stays) ∙ none;
-  since = subst (λ n. AllByRecursion (λ e. eqb (maker e) n ≡ true → IsBack e) call.moment.more.0) (sym stays.number)
-      (none-back v.number call.moment.more.0 (since-is v.number v.seen before call.moment.more call.moment.others));
-}
 
 -- ---- the worker
 pub keeps-self : (c : Shared) (h : Worker) → IsReady c h → Keeps h h
@@ -381,9 +372,9 @@ keeps-trans h k l p q = record {
 pub paged-on : (p : Program) (v w : Reads) → IsPaged p v → Stays v w → IsPaged p w
 paged-on p v w g stays = record { scope = g.scope; about = stays.about ∙ g.about; program = g.program; rests = stays.rests }
 
--- the worker is ready still, with another seat at the book
-pub ready-seat : (c : Shared) (h k : Worker) → IsReady c h → Keeps h k → IsOfPool c.pool k.pass → IsJournalOf (task_of (view k.seat)) (view k.seat).seen → IsReady c k
-ready-seat c h k r s pool lawful = record {
+-- the worker still shares these, with another seat at the book
+pub placed-seat : (c : Shared) (h k : Worker) → IsPlaced c h → Keeps h k → IsOfPool c.pool k.pass → IsJournalOf (task_of (view k.seat)) (view k.seat).seen → IsPlaced c k
+placed-seat c h k r s pool lawful = record {
   book = s.book ∙ r.book;
   log = s.log ∙ r.log;
   pool = pool;
@@ -391,6 +382,16 @@ ready-seat c h k r s pool lawful = record {
   pages = subst (λ (p : Program). IsPaged p (view k.pages)) (ap (λ (t : Task). t.program) (sym (task-stays (view h.seat) (view k.seat) s.seat)))
       (paged-on (task_of (view h.seat)).program (view h.pages) (view k.pages) r.pages s.pages);
 }
+
+pub ready-placed : (c : Shared) (h : Worker) → IsReady c h → IsPlaced c h
+ready-placed c h r = record { book = r.book; log = r.log; pool = r.pool; settled = r.settled; pages = r.pages }
+
+pub placed-ready : (c : Shared) (h : Worker) → IsPlaced c h → OwnAre IsTidy (view h.seat) → IsReady c h
+placed-ready c h r tidy = record { book = r.book; log = r.log; pool = r.pool; settled = r.settled; pages = r.pages; tidy = tidy }
+
+-- it is ready still
+pub ready-seat : (c : Shared) (h k : Worker) → IsReady c h → Keeps h k → IsOfPool c.pool k.pass → Behaves (view h.seat) (view k.seat) → IsReady c k
+ready-seat c h k r s pool b = placed-ready c k (placed-seat c h k (ready-placed c h r) s pool b.journal) (b.tidy r.tidy)
 
 -- ---- what a number that looked for a path has
 pub takes-some : (v : Knows) (o : Option ℕ) (leaf : ℕ) → Takes v (Ok o) → o ≡ Some leaf → Holds v leaf

@@ -1,5 +1,5 @@
 -- A worker's search after a step on its path, by the step's answer.
-use Rattle.std.proofs.Common.{◌≡◌, ◌⊎◌, ℕ, ◌-◌, Bool, List, Option, sym, ap, ◌∙◌, subst, inl, inr}
+use Rattle.std.proofs.Common.{◌≡◌, ◌⊎◌, ℕ, ◌-◌, ◌≤◌, Bool, List, Option, sym, ap, ◌∙◌, subst, inl, inr, arith}
 use Rattle.std.specs.Prelude.{ℤ}
 use Rattle.asp_model.specs.declared.program.Program.{Program}
 use Rattle.asp_model.specs.declared.results.Mode.{Mode}
@@ -18,7 +18,7 @@ use Rattle.asp_search_laws.specs.declared.step.Step.{Step}
 use Rattle.asp_search_laws.specs.declared.step.Step.TheVariants as step
 use Rattle.asp_crew_laws.proofs.WorkLaws.{work-burnt}
 use Rattle.asp_worker.specs.Working.{GoesOn, IsOn, IsOff, Finds, Pays}
-use Rattle.asp_worker.proofs.GoingLaws.{goes-same}
+use Rattle.asp_worker.proofs.GoingLaws.{owes-of, goes-same}
 
 module _ (m : Mode) (v : Knows) (s t : Searching) (f : Units) (leaf : ℕ) (on : IsOn m v s f leaf) where
   -- the same task, and the same units
@@ -34,6 +34,7 @@ module _ (m : Mode) (v : Knows) (s t : Searching) (f : Units) (leaf : ℕ) (on :
     program = on.going.program;
     mode_is = on.going.mode_is;
     work = work-burnt (seen_board v) v.number m s.known s.bound f b.clash on.going.work b.left (b.conflict.reasoning ∙ ap reasoning_of on.going.mode_is) b.conflict.known b.conflict.bound;
+    few = omega (arith, on.going.few);
   })
 
   pub on-burnt : (q : List Literal) (g : Units) → HasSameTask s t → Burns s q f g → IsOn m v t g leaf
@@ -92,8 +93,8 @@ module _ (m : Mode) (v : Knows) (s t : Searching) (f : Units) (leaf : ℕ) (on :
   off-paid g h = here (h (cube_of (seen_board v).nodes leaf) on.works.entered)
     where
       here : (g ≡ f) ⊎ Burns s (cube_of (seen_board v).nodes leaf) f g → IsOff v g leaf
-      here (inl e) = subst (λ (u : Units). IsOff v u leaf) (sym e) (record { held = on.works.held; units = on.going.work.units })
-      here (inr b) = record { held = on.works.held; units = (goes-burnt (cube_of (seen_board v).nodes leaf) g b).work.units }
+      here (inl e) = subst (λ (u : Units). IsOff v u leaf) (sym e) (record { held = on.works.held; units = owes-of on.going })
+      here (inr b) = record { held = on.works.held; units = owes-of (goes-burnt (cube_of (seen_board v).nodes leaf) g b) }
 
 -- ---- what a step pays
 pub step-pays : (gives : Nogood → Type 0) (silent : List (Option Bool) → Type 0) (s t : Searching) (f g : Units) (r : Step) → IsStep gives silent s t f g r → Pays s f g

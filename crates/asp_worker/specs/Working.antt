@@ -1,5 +1,5 @@
 -- A worker between two calls: its search and its units beside the board that its seat has seen.
-use Rattle.std.specs.Prelude.{◌≡◌, ◌⊎◌, ℕ, false, IsTrue, List, Some}
+use Rattle.std.specs.Prelude.{◌≡◌, ◌⊎◌, ◌≤◌, ℕ, false, IsTrue, List, Some}
 use Rattle.std.specs.List.{list_any}
 use Rattle.asp_model.specs.declared.results.Mode.{Mode}
 use Rattle.asp_model.specs.Costs.{cost}
@@ -19,13 +19,16 @@ use Rattle.asp_worker.specs.declared.path.Course.{Course}
 use Rattle.asp_worker.specs.declared.path.Course.TheVariants.{Open, Done, Spent}
 use Rattle.asp_worker.specs.declared.path.Way.{Way}
 use Rattle.asp_worker.specs.declared.path.Way.TheVariants.{Closed, Left, Short}
-use Rattle.asp_worker.specs.Seats.{Holds, IsFree, Owes}
+use Rattle.asp_worker.specs.declared.stop.Stop.{Stop}
+use Rattle.asp_worker.specs.declared.stop.Stop.TheVariants.{Enough, Memory}
+use Rattle.asp_worker.specs.Seats.{Holds, IsFree, IsTidy, Owes, OwnAre, WasEmpty, WasEnough, WasStopped}
 
 -- The search is one of the run, and goes with the board as the units do.
 pub record GoesOn (m : Mode) (v : Knows) (s : Searching) (u : Units) : Type 0 where
   pub program : s.program ≡ (task_of v).program
   pub mode_is : s.mode ≡ m
   pub work : IsAtWork (seen_board v) v.number m s.known s.bound u
+  pub few : u.left ≤ 64
 
 -- Besides, it is on the path to a leaf that the number holds.
 pub record IsOn (m : Mode) (v : Knows) (s : Searching) (u : Units) (leaf : ℕ) : Type 0 where
@@ -57,16 +60,21 @@ pub record Finds (m : Mode) (v : Knows) (s t : Searching) (u : Units) (leaf : �
 abbrev pub IsCourse : Knows → Searching → ℕ → Course → Type 0
 IsCourse v s leaf Open = Unit {0}
 IsCourse v s leaf Done = Settled s.program (used s) s.bound (cube_of (seen_board v).nodes leaf)
-IsCourse v s leaf Spent = Unit {0}
+IsCourse v s leaf Spent = WasEmpty v
 
--- what is known by how the worker left the path: it has none, or still has this one
-abbrev pub IsWay : Mode → Knows → Searching → Units → ℕ → Way → Type 0
-IsWay m v s u leaf Closed = GoesOn m v s u × IsFree v
-IsWay m v s u leaf Left = IsOff v u leaf
-IsWay m v s u leaf Short = IsOff v u leaf
+-- what is known where a path is given up
+abbrev pub IsStop : Knows → Stop → Type 0
+IsStop v Enough = WasEnough v
+IsStop v Memory = Unit {0}
+
+-- what is known by how the worker left the path: it has none, or still has this one. `stopped` says that somebody stopped it.
+abbrev pub IsWay : Type 0 → Mode → Knows → Searching → Units → ℕ → Way → Type 0
+IsWay stopped m v s u leaf Closed = GoesOn m v s u × IsFree v
+IsWay stopped m v s u leaf Left = IsOff v u leaf × WasStopped stopped v
+IsWay stopped m v s u leaf Short = IsOff v u leaf
 
 -- what the worker has once it gave up what it still had
-abbrev pub Ended : Mode → Knows → Searching → Units → Way → Type 0
-Ended m v s u Closed = GoesOn m v s u
-Ended m v s u Left = Unit {0}
-Ended m v s u Short = Unit {0}
+abbrev pub Ended : Type 0 → Mode → Knows → Searching → Units → Way → Type 0
+Ended stopped m v s u Closed = GoesOn m v s u × OwnAre IsTidy v
+Ended stopped m v s u Left = WasStopped stopped v
+Ended stopped m v s u Short = Unit {0}

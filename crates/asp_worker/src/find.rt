@@ -204,7 +204,7 @@ pub(crate) fn find<R: Wait>(
     ensures passes { Passes (view seat.old) (view seat.new) }
     ensures pool { IsOfPool shared.now.pool pass.new }
     ensures takes { Takes (view seat.new) result }
-    ensures quiet { IfOk result (IsQuietIf (view seat.new)) }
+    ensures quiet { IfOk result (IsQuietIf (view seat.old).seen (view seat.new)) }
 {
     let mut known = None;
     'rounds: for _ in rt.forever() {

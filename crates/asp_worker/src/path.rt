@@ -1,5 +1,5 @@
 //! How a worker searches a path.
-ghost use Rattle.std.specs.Prelude.{◌≡◌, ◌<◌, ◌≤◌, length, IfOk, IsSome, OnOk, OnErr};
+ghost use Rattle.std.specs.Prelude.{◌≡◌, ◌<◌, ◌≤◌, length, IfOk, IfErr, IsSome, OnOk, OnErr};
 ghost use Rattle.asp_vars.specs.Entailment.{HitsOnly};
 ghost use Rattle.asp_vault.specs.Seats.{view, IsOf, IsBeside};
 ghost use Rattle.asp_path.specs.Trees.{cube_of};
@@ -8,7 +8,7 @@ ghost use Rattle.asp_book.specs.Calls.{task_of, seen_board};
 ghost use Rattle.asp_propagators.specs.Saying.{AreSilent, gives};
 ghost use Rattle.asp_search_laws.specs.Steps.{IsStep};
 ghost use Rattle.asp_worker.specs.Seats.{IsReady, Keeps, IsSettled, Passes, Holds, IsFree};
-ghost use Rattle.asp_worker.specs.Working.{GoesOn, IsOn, IsOff, IsCourse, IsWay, Pays};
+ghost use Rattle.asp_worker.specs.Working.{GoesOn, IsOn, IsOff, IsCourse, IsStop, IsWay, Pays};
 
 use crate::engine::Engine;
 use crate::halt::Halt;
@@ -121,6 +121,7 @@ fn advance<R: Wait>(
     ensures ok { OnOk result (IsOn shared.now.mode (view worker.new.seat) engine.new.search engine.new.fuel leaf) }
     ensures course { IfOk result (IsCourse (view worker.new.seat) engine.new.search leaf) }
     ensures err { OnErr result (IsOff (view worker.new.seat) engine.new.fuel leaf) }
+    ensures stop { IfErr result (IsStop (view worker.new.seat)) }
 {
     let _leaf = leaf;
     let first = engine.search.first();
@@ -187,8 +188,9 @@ fn search_path<R: Wait, H: Halt, W: Watch>(
     ensures keeps { Keeps worker.old worker.new }
     ensures ready { IsReady shared.now worker.new }
     ensures read { engine.new.read ≤ length (view worker.new.pages).seen }
-    ensures ok { IfOk result (IsWay shared.now.mode (view worker.new.seat) engine.new.search engine.new.fuel leaf.new) }
+    ensures ok { IfOk result (IsWay (H.never halt.now → ⊥) shared.now.mode (view worker.new.seat) engine.new.search engine.new.fuel leaf.new) }
     ensures err { OnErr result (IsOff (view worker.new.seat) engine.new.fuel leaf.new) }
+    ensures stop { IfErr result (IsStop (view worker.new.seat)) }
     ensures heard { W.IsAfter watch.old watch.new }
 {
     let number = worker.seat.number() - 1;
@@ -229,8 +231,9 @@ fn try_path<R: Wait, H: Halt, W: Watch>(
     ensures keeps { Keeps worker.old worker.new }
     ensures ready { IsReady shared.now worker.new }
     ensures read { engine.new.read ≤ length (view worker.new.pages).seen }
-    ensures ok { IfOk result (IsWay shared.now.mode (view worker.new.seat) engine.new.search engine.new.fuel leaf.new) }
+    ensures ok { IfOk result (IsWay (H.never halt.now → ⊥) shared.now.mode (view worker.new.seat) engine.new.search engine.new.fuel leaf.new) }
     ensures err { OnErr result (IsOff (view worker.new.seat) engine.new.fuel leaf.new) }
+    ensures stop { IfErr result (IsStop (view worker.new.seat)) }
     ensures heard { W.IsAfter watch.old watch.new }
 {
     if is_enough(rt, shared, worker) {
@@ -258,7 +261,7 @@ pub(crate) fn path<R: Wait, H: Halt, W: Watch>(
     ensures keeps { Keeps worker.old worker.new }
     ensures ready { IsReady shared.now worker.new }
     ensures read { engine.new.read ≤ length (view worker.new.pages).seen }
-    ensures way { IsWay shared.now.mode (view worker.new.seat) engine.new.search engine.new.fuel leaf.new result }
+    ensures way { IsWay (H.never halt.now → ⊥) shared.now.mode (view worker.new.seat) engine.new.search engine.new.fuel leaf.new result }
     ensures heard { W.IsAfter watch.old watch.new }
 {
     match try_path(rt, shared, halt, worker, engine, leaf, watch) {

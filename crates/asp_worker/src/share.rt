@@ -1,5 +1,5 @@
 //! How a worker gives away half of its path, and when it gives all of it up.
-ghost use Rattle.std.specs.Prelude.{◌≡◌, ◌≤◌, List, Some, length, true, false, IsTrue, OnOk, OnErr};
+ghost use Rattle.std.specs.Prelude.{◌≡◌, ◌≤◌, List, Some, length, true, false, IsTrue, OnOk, OnErr, IfErr};
 ghost use Rattle.asp_vars.specs.Literals.{Literal};
 ghost use Rattle.asp_vault.specs.Seats.{view, IsOf, IsBeside};
 ghost use Rattle.asp_path.specs.Trees.{cube_of};
@@ -8,7 +8,7 @@ ghost use Rattle.asp_core.specs.Events.{has_var, IsVariable};
 ghost use Rattle.asp_book.specs.Calls.{task_of, seen_board};
 ghost use Rattle.asp_search.specs.Beside.{Enters, IsOpen};
 ghost use Rattle.asp_worker.specs.Seats.{IsReady, Keeps, IsSettled, Idles, Passes, Holds, HoldsHalf};
-ghost use Rattle.asp_worker.specs.Working.{GoesOn, IsOn, IsOff};
+ghost use Rattle.asp_worker.specs.Working.{GoesOn, IsOn, IsOff, IsStop};
 
 use crate::engine::Engine;
 use crate::sharing::refresh;
@@ -224,6 +224,7 @@ fn offer<R: Wait>(
     ensures read { engine.new.read ≤ length (view worker.new.pages).seen }
     ensures ok { OnOk result (IsOn shared.now.mode (view worker.new.seat) engine.new.search engine.new.fuel leaf.new) }
     ensures err { OnErr result (IsOff (view worker.new.seat) engine.new.fuel leaf.new) }
+    ensures stop { IfErr result (IsStop (view worker.new.seat)) }
 {
     if engine.step % STRIDE != 0 {
         return Ok(());
@@ -254,6 +255,7 @@ pub(crate) fn share<R: Wait>(
     ensures read { engine.new.read ≤ length (view worker.new.pages).seen }
     ensures ok { OnOk result (IsOn shared.now.mode (view worker.new.seat) engine.new.search engine.new.fuel leaf.new) }
     ensures err { OnErr result (IsOff (view worker.new.seat) engine.new.fuel leaf.new) }
+    ensures stop { IfErr result (IsStop (view worker.new.seat)) }
 {
     shed(rt, shared, worker, engine, leaf)?;
     offer(rt, shared, worker, engine, leaf)

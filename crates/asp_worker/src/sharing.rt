@@ -1,5 +1,5 @@
 //! What a search tells the others, and what it takes over from them.
-ghost use Rattle.std.specs.Prelude.{◌≡◌, ◌≤◌, ◌<◌, ◌↔◌, ◌⊎◌, ℕ, Some, false, IsTrue, length, drop, OnOk, OnErr, IfOk, IfSome, All};
+ghost use Rattle.std.specs.Prelude.{◌≡◌, ◌≤◌, ◌<◌, ◌↔◌, ◌⊎◌, ℕ, Some, false, IsTrue, length, drop, OnOk, OnErr, IfOk, IfErr, IfSome, All};
 ghost use Rattle.std.specs.Option.{option_copied};
 ghost use Rattle.asp_model.specs.declared.results.Mode.TheVariants as mode;
 ghost use Rattle.asp_model.specs.Asked.{reasoning_of};
@@ -13,9 +13,9 @@ ghost use Rattle.asp_log.specs.Entries.{IsEntry};
 ghost use Rattle.asp_book.specs.Calls.{seen_board, task_of};
 ghost use Rattle.asp_search.specs.Beside.{Adopts, Leaves};
 ghost use Rattle.asp_search_laws.specs.Searching.{Searching};
-ghost use Rattle.asp_worker.specs.Seats.{IsReady, Keeps, IsSettled, IsPaged, Idles, Leases};
+ghost use Rattle.asp_worker.specs.Seats.{IsReady, Keeps, IsSettled, IsPaged, Idles, Leases, WasEmpty};
 ghost use Rattle.asp_worker.specs.Sharing.{is_smaller, lowered, ImportsAll, Remembers, TakesBest, TakesOver};
-ghost use Rattle.asp_worker.specs.Working.{GoesOn, Finds};
+ghost use Rattle.asp_worker.specs.Working.{GoesOn, Finds, IsStop};
 
 use crate::engine::Engine;
 use crate::stop::Stop;
@@ -200,6 +200,7 @@ fn list<R: Wait>(
     ensures idles { Idles (view seat.old) (view seat.new) }
     ensures engine { (engine.new.search ≡ engine.old.search) × (engine.new.fuel ≡ engine.old.fuel) × (engine.new.read ≡ engine.old.read) }
     ensures ok { OnOk result (GoesOn shared.now.mode (view seat.new) engine.new.search engine.new.fuel) }
+    ensures stop { IfErr result (IsStop (view seat.new)) }
 {
     let listed = desk::deliver(rt, &shared.book, seat, set)?;
     if listed { Ok(()) } else { Err(Stop::Enough) }
@@ -243,6 +244,7 @@ pub(crate) fn record<R: Wait>(
     ensures idles { Idles (view seat.old) (view seat.new) }
     ensures engine { (engine.new.fuel ≡ engine.old.fuel) × (engine.new.read ≡ engine.old.read) }
     ensures ok { OnOk result (GoesOn shared.now.mode (view seat.new) engine.new.search engine.new.fuel × (engine.new.search.cube ≡ engine.old.search.cube)) }
+    ensures stop { IfErr result (IsStop (view seat.new)) }
 {
     match shared.mode {
         Mode::Enum | Mode::Consequences(_) => list(rt, shared, seat, engine, set),
@@ -270,6 +272,7 @@ pub(crate) fn lease<R: Wait>(
     ensures going { GoesOn shared.now.mode (view seat.new) engine.new.search engine.new.fuel }
     ensures some { IfOk result (λ b. IsTrue b ↔ (0 < engine.new.fuel.left)) }
     ensures few { engine.new.fuel.left ≤ 64 }
+    ensures spent { IfOk result (λ b. b ≡ false → WasEmpty (view seat.new)) }
 {
     let units = desk::lease(rt, &shared.book, seat, LEASE)?;
     let some = units.left() > 0;

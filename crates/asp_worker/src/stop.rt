@@ -12,6 +12,12 @@ pub(crate) enum Stop {
 }
 
 impl From<AllocError> for Stop {
+    ghost use Rattle.std.specs.Prelude.{◌≡◌};
+    ghost use Rattle.asp_worker.specs.declared.stop.Stop.TheVariants.{Memory};
+
+    // It is the want of memory.
+    ghost from_gives = { λ _ s. s ≡ Memory };
+
     fn from(_error: AllocError) -> Stop {
         Stop::Memory
     }

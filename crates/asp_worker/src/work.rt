@@ -1,7 +1,8 @@
 //! A worker's work from its beginning to its end.
 ghost use Rattle.std.specs.Prelude.{◌<◌, ◌≤◌, length, IfOk, OnErr, OnOk};
 ghost use Rattle.asp_vault.specs.Seats.{view};
-ghost use Rattle.asp_worker.specs.Seats.{IsIdle, IsReady, Keeps, Holds, IsFree, Owes, MayWork, Worked};
+ghost use Rattle.asp_crew_laws.specs.Gone.{IsSmall};
+ghost use Rattle.asp_worker.specs.Seats.{IsIdle, IsPlaced, IsReady, Keeps, Holds, HasCause, IsFree, Owes, OwnAre, MayWork, Worked};
 ghost use Rattle.asp_worker.specs.Working.{GoesOn, Ended};
 
 use crate::engine::{Engine, ended, start};
@@ -36,11 +37,12 @@ fn try_path<R: Wait, H: Halt, W: Watch>(
     requires going { GoesOn shared.now.mode (view worker.old.seat) engine.old.search engine.old.fuel }
     requires read { engine.old.read ≤ length (view worker.old.pages).seen }
     ensures keeps { Keeps worker.old worker.new }
-    ensures ready { IsReady shared.now worker.new }
+    ensures placed { IsPlaced shared.now worker.new }
     ensures read { engine.new.read ≤ length (view worker.new.pages).seen }
     ensures free { IsFree (view worker.new.seat) }
     ensures owes { Owes (view worker.new.seat) engine.new.fuel }
-    ensures going { Ended shared.now.mode (view worker.new.seat) engine.new.search engine.new.fuel result }
+    ensures small { OwnAre IsSmall (view worker.new.seat) }
+    ensures going { Ended (H.never halt.now → ⊥) shared.now.mode (view worker.new.seat) engine.new.search engine.new.fuel result }
     ensures heard { W.IsAfter watch.old watch.new }
 {
     let mut held = leaf;
@@ -74,9 +76,11 @@ fn search_paths<R: Wait, G: Gate, H: Halt, W: Watch>(
     requires going { GoesOn shared.now.mode (view worker.old.seat) engine.old.search engine.old.fuel }
     requires read { engine.old.read ≤ length (view worker.old.pages).seen }
     ensures keeps { Keeps worker.old worker.new }
-    ensures ready { IsReady shared.now worker.new }
+    ensures placed { IsPlaced shared.now worker.new }
     ensures free { IsFree (view worker.new.seat) }
     ensures owes { Owes (view worker.new.seat) engine.new.fuel }
+    ensures small { OwnAre IsSmall (view worker.new.seat) }
+    ensures cause { HasCause (H.never halt.now → ⊥) result (view worker.old.seat).seen (view worker.new.seat) }
     ensures heard { W.IsAfter watch.old watch.new }
 {
     'paths: for _ in rt.forever() {
@@ -119,9 +123,11 @@ fn searched<R: Wait, G: Gate, H: Halt, W: Watch>(
 ) -> Result<(Fuel, Counts, bool), AllocError>
     requires { MayWork compiled.now shared.now worker.old }
     ensures keeps { Keeps worker.old worker.new }
-    ensures ready { IsReady shared.now worker.new }
+    ensures placed { IsPlaced shared.now worker.new }
     ensures free { OnOk result (IsFree (view worker.new.seat)) }
     ensures owes { IfOk result (λ r. Owes (view worker.new.seat) r.0) }
+    ensures small { OwnAre IsSmall (view worker.new.seat) }
+    ensures cause { IfOk result (λ r. HasCause (H.never halt.now → ⊥) r.2 (view worker.old.seat).seen (view worker.new.seat)) }
     ensures idle { OnErr result (IsIdle (view worker.new.seat)) }
     ensures heard { W.IsAfter watch.old watch.new }
 {
@@ -146,7 +152,7 @@ pub fn work<R: Wait, G: Gate, H: Halt, W: Watch>(
     watch: &mut W,
 ) -> Worker
     requires { MayWork compiled.now shared.now worker }
-    ensures work { Worked shared.now worker result }
+    ensures work { Worked (H.never halt.now → ⊥) shared.now worker result }
     ensures heard { W.IsAfter watch.old watch.new }
 {
     let recorder = Recorder::new(shared.alloc);

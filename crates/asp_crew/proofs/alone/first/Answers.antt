@@ -1,4 +1,4 @@
-use Rattle.asp_crew.proofs.ReportLaws.{begun, begun-goal, begun-query, begun-report, begun-run, begun-idle, still-run}
+use Rattle.asp_crew.proofs.ReportLaws.{begun, begun-report}
 use Rattle.asp_crew.proofs.alone.first.Goals as goal
 
 pub returns-clause-report : goal.returns-clause-report

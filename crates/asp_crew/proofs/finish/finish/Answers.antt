@@ -4,8 +4,9 @@ use Rattle.asp_core.specs.declared.task.Task.{Task}
 use Rattle.asp_book.specs.Books.{with_events}
 use Rattle.asp_book.specs.Replies.{leased_out}
 use Rattle.asp_crew.specs.Running.{HasNoQuery}
+use Rattle.asp_crew.proofs.AddLaws.{adds-trans}
 use Rattle.asp_crew.proofs.BookLaws.{pool-fits}
-use Rattle.asp_crew.proofs.FinishLaws.{IsLeased, leased-is, leased-works, idle-after, task-after, finished}
+use Rattle.asp_crew.proofs.FinishLaws.{IsLeased, leased-is, leased-works, idle-after, task-after, adds-after, finished}
 use Rattle.asp_crew.proofs.finish.finish.Goals as goal
 
 pub search_all-requires-clause-task : goal.search_all-requires-clause-task
@@ -43,6 +44,8 @@ returns-clause-finishes g c =
     (c.in_ok-fuel.ensures.journal ∙ ap (λ (u : Units). with_events c.args.book.now (leased_out 0 u)) c.in_ok-fuel.ensures.fuel) in
     record {
       task = task-after c.args.mode c.lease.new.self c.search_all.new.book c.back.new.self c.in_ok-unpaid.ensures.leaves.0 c.search_all.new.fuel c.in_ok-unpaid.unpaid c.in_ok-unpaid.ensures.leaves.1 leased.pool c.back.ensures ∙ leased.task;
+      adds = adds-trans c.args.book.now c.lease.new.self c.back.new.self leased.adds
+          (adds-after c.args.mode c.lease.new.self c.search_all.new.book c.back.new.self c.in_ok-unpaid.ensures.leaves.0 c.search_all.new.fuel c.in_ok-unpaid.unpaid c.in_ok-unpaid.ensures.leaves.1 leased.pool c.back.ensures);
       idle = idle-after c.args.mode c.lease.new.self c.search_all.new.book c.back.new.self c.in_ok-unpaid.ensures.leaves.0 c.search_all.new.fuel c.in_ok-unpaid.unpaid c.in_ok-unpaid.ensures.leaves.1 leased.pool c.back.ensures;
       over = finished c.args.mode c.lease.new.self c.search_all.new.book c.back.new.self c.in_ok-unpaid.ensures.leaves.0 c.search_all.new.fuel c.in_ok-unpaid.unpaid c.in_ok-unpaid.ensures.leaves.1 leased.pool c.back.ensures;
     }

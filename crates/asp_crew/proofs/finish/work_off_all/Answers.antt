@@ -2,6 +2,7 @@ use Rattle.std.proofs.Common.{Option, refl, sym, ◌∙◌, subst}
 use Rattle.asp_vars.specs.Paid.{Clash}
 use Rattle.asp_book.specs.Books.{board}
 use Rattle.asp_crew.specs.Running.{LeavesLeaf}
+use Rattle.asp_crew.proofs.AddLaws.{adds-self}
 use Rattle.asp_crew.proofs.FinishLaws.{free-now, taken-by, held-taken, between-next, fewer-next, all-stopped, all-enough}
 use Rattle.asp_crew.proofs.finish.work_off_all.Goals as goal
 
@@ -39,7 +40,7 @@ returns-in-Some-2-clause-leaves g c =
     (subst (λ (o : Option Clash). LeavesLeaf c.args.mode c.take.new.self c.work_off.new.book c.in-Some.leaf c.work_off.new.search c.work_off.new.fuel o) c.in-Some-2.is c.in_ok-work_off-in-Some.ensures.leaves)
 
 pub leaves-init : goal.leaves-init
-leaves-init g c = record { between = record { ready = c.requires.ready; alone = c.requires.alone; task = refl; pool = refl }; heard = g.met.W.Watch.begins c.args.watch.now }
+leaves-init g c = record { between = record { ready = c.requires.ready; alone = c.requires.alone; task = refl; adds = adds-self c.args.book.now; pool = refl }; heard = g.met.W.Watch.begins c.args.watch.now }
 
 pub returns-in_err-work_off-in-Some-clause-heard : goal.returns-in_err-work_off-in-Some-clause-heard
 returns-in_err-work_off-in-Some-clause-heard g c = g.met.W.Watch.goes_on c.args.watch.now c.leaves.watch c.work_off.new.watch c.leaves.invariant.heard c.work_off.ensures.heard

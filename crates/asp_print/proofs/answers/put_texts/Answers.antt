@@ -8,8 +8,8 @@ loop-output-init g c = midway_start _ _ _ refl
 
 pub returns-in_err-any : goal.returns-in_err-any
 returns-in_err-any g c = midway_fails _ _ _ _ _ _ _ _ _ _ c.loop-output.invariant c.in_err-any.ensures.puts
-    (pieces-turn c.args.interp.now c.loop-output.any _ c.args.outputs.now c.loop-output.output-index c.output-item.result (omega arith) c.output-item.is refl) c.from_residual.ensures.1
+    (pieces-turn (g.A.Answer.set c.args.answer.now) c.loop-output.any _ c.args.outputs.now c.loop-output.output-index c.output-item.result (omega arith) c.output-item.is refl) c.from_residual.ensures.1
 
 pub loop-output-preserved : goal.loop-output-preserved
 loop-output-preserved g c = midway_more _ _ _ _ _ _ _ _ c.loop-output.invariant c.in_ok-any.ensures.puts
-    (pieces-turn c.args.interp.now c.loop-output.any c.in_ok-any.any c.args.outputs.now c.loop-output.output-index c.output-item.result (omega arith) c.output-item.is c.in_ok-any.ensures.any)
+    (pieces-turn (g.A.Answer.set c.args.answer.now) c.loop-output.any c.in_ok-any.any c.args.outputs.now c.loop-output.output-index c.output-item.result (omega arith) c.output-item.is c.in_ok-any.ensures.any)

@@ -8,4 +8,4 @@ abbrev pub invariant-loop-output : goal.invariant-loop-output
 invariant-loop-output g l =
     Midway (out (g.K.Sink.held l.initial.sink) (g.K.Sink.faults l.initial.sink) l.initial.waiting)
     (out (g.K.Sink.held l.sink) (g.K.Sink.faults l.sink) l.waiting)
-    (pieces l.interp false l.outputs) (pieces l.interp l.any (drop l.output-index l.outputs))
+    (pieces (g.A.Answer.set l.answer) false l.outputs) (pieces (g.A.Answer.set l.answer) l.any (drop l.output-index l.outputs))

@@ -2,6 +2,7 @@ use Rattle.std.proofs.Common.{◌≡◌, ◌<◌, length, ap, arith}
 use Rattle.std.specs.Prelude.{option_to_list, vec_len}
 use Rattle.asp_vault.specs.Seats.{view}
 use Rattle.asp_team.specs.Joined.{CameHome, MayJoin}
+use Rattle.asp_team.proofs.GoneLaws.{stay-on, came-on, came-worked}
 use Rattle.asp_team.proofs.Ready.{popped, all-left, all-pushed}
 use Rattle.asp_team.proofs.crew.+workers.Goals as goal
 
@@ -18,4 +19,13 @@ crew-beside-requires-clause-worker g t c κs w =
 
 pub crew-returns-in-Some-clause-came : goal.crew-returns-in-Some-clause-came
 crew-returns-in-Some-clause-came g t c =
-    all-pushed (CameHome (view c.beside.result.seat)) c.args.workers.items c.pop.new.self.items c.pop.result c.in-Some.worker c.pop.ensures.items c.in-Some.is c.beside.ensures.came.0 c.beside.ensures.came.1
+    all-pushed (CameHome (g.H.Halt.never c.args.halt.now → ⊥) c.beside.result) c.args.workers.items c.pop.new.self.items c.pop.result c.in-Some.worker c.pop.ensures.items c.in-Some.is c.beside.ensures.came.0 c.beside.ensures.came.1
+
+pub beside-returns-clause-stay : goal.beside-returns-clause-stay
+beside-returns-clause-stay g t c = stay-on c.args.lead c.join-lead.result.0 c.joined.result c.join-lead.ensures.first.1.1.1.0 c.joined.ensures.stay
+
+pub beside-returns-clause-came : goal.beside-returns-clause-came
+beside-returns-clause-came g t c = (
+  λ k d lt. came-on (g.H.Halt.never c.args.halt.now → ⊥) _ c.joined.result _ c.joined.ensures.stay (c.join-lead.ensures.first.1.1.1.1 k d lt),
+  came-worked (g.H.Halt.never c.args.halt.now → ⊥) c.args.shared.now c.args.worker _ c.joined.result c.join-lead.ensures.second c.joined.ensures.came c.joined.ensures.gone,
+)

@@ -1,9 +1,10 @@
-use Rattle.std.proofs.Common.{◌≡◌, ◌<◌, ℕ, length, ap, arith, rules, sym, ◌∙◌, subst}
+use Rattle.std.proofs.Common.{◌≡◌, ◌<◌, length, ap, arith, rules, sym, ◌∙◌}
 use Rattle.std.specs.Prelude.{option_to_list, vec_len}
 use Rattle.std.specs.List.{All}
 use Rattle.asp_vault.specs.Seats.{view}
 use Rattle.asp_worker.specs.Seats.{MayWork}
-use Rattle.asp_team.specs.Joined.{CameHome, IsHome, MayJoin}
+use Rattle.asp_team.specs.Joined.{CameHome, MayJoin}
+use Rattle.asp_team.proofs.GoneLaws.{stay-on, came-on, came-worked}
 use Rattle.asp_team.proofs.Ready.{popped, all-left, all-pushed}
 use Rattle.asp_team.proofs.crew.crew_watched.Goals as goal
 
@@ -30,9 +31,12 @@ joined-requires-clause-about g c =
 
 pub returns-in-Some-clause-came : goal.returns-in-Some-clause-came
 returns-in-Some-clause-came g c =
-    all-pushed (CameHome (view c.joined.result.seat)) c.args.workers.items c.pop.new.self.items c.pop.result c.in-Some.worker c.pop.ensures.items c.in-Some.is
-    (λ k d lt. c.joined.ensures.stay _ (c.join-lead.ensures.first.1.1.1.1 k d lt))
-    (subst (λ (n : ℕ). IsHome (view c.joined.result.seat) n) c.join-lead.ensures.second.0.keeps.seat.number c.joined.ensures.came)
+    all-pushed (CameHome (g.H.Halt.never c.args.halt.now → ⊥) c.joined.result) c.args.workers.items c.pop.new.self.items c.pop.result c.in-Some.worker c.pop.ensures.items c.in-Some.is
+    (λ k d lt. came-on (g.H.Halt.never c.args.halt.now → ⊥) _ c.joined.result _ c.joined.ensures.stay (c.join-lead.ensures.first.1.1.1.1 k d lt))
+    (came-worked (g.H.Halt.never c.args.halt.now → ⊥) c.args.shared.now c.in-Some.worker _ c.joined.result c.join-lead.ensures.second.0 c.joined.ensures.came c.joined.ensures.gone)
+
+pub returns-in-Some-clause-stay : goal.returns-in-Some-clause-stay
+returns-in-Some-clause-stay g c = stay-on c.args.lead c.join-lead.result.0 c.joined.result c.join-lead.ensures.first.1.1.1.0 c.joined.ensures.stay
 
 pub returns-in-None-clause-heard : goal.returns-in-None-clause-heard
 returns-in-None-clause-heard g c = g.met.W.Watch.begins c.args.watch

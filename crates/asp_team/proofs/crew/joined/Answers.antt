@@ -1,7 +1,9 @@
+use Rattle.std.proofs.Common.{◌∙◌}
+use Rattle.std.proofs.lemmas.Bool.{or_left, or_right}
 use Rattle.asp_vault.specs.Seats.{view}
 use Rattle.asp_book.specs.Books.{IsJournalOf}
 use Rattle.asp_book.specs.Calls.{Knows, task_of}
-use Rattle.asp_team.proofs.JoinLaws.{merged-joins, joined-lawful, lead-joined, still-home, came-home}
+use Rattle.asp_team.proofs.JoinLaws.{merged-joins, joined-lawful, lead-joined, still-home, still-gone, came-home, came-gone}
 use Rattle.asp_team.proofs.crew.joined.Goals as goal
 
 pub returns-clause-lead : goal.returns-clause-lead
@@ -19,7 +21,17 @@ returns-clause-pages_join c = merged-joins (view c.args.lead.pages) (view c.args
 pub returns-clause-stay : goal.returns-clause-stay
 returns-clause-stay c =
     let v : Knows = view c.args.lead.seat in let u : Knows = view c.args.worker.seat in let w : Knows = view c.join.new.seat in
-    still-home v u w c.requires.about c.join.ensures.view c.join.ensures.begins c.join.ensures.guests c.requires.lead.lawful c.requires.idle.settled.seated.lawful
+    λ n h. (
+      still-home v u w c.requires.about c.join.ensures.view c.join.ensures.begins c.join.ensures.guests c.requires.lead.lawful c.requires.idle.settled.seated.lawful n h,
+      still-gone v u w c.requires.about c.join.ensures.view c.join.ensures.begins c.join.ensures.guests c.requires.lead.lawful c.requires.idle.settled.seated.lawful n h c.args.lead.short c.either-short.result
+          (λ e. c.either-short.ensures ∙ or_left c.args.lead.short c.args.worker.short e),
+    )
+
+pub returns-clause-gone : goal.returns-clause-gone
+returns-clause-gone c =
+    let v : Knows = view c.args.lead.seat in let u : Knows = view c.args.worker.seat in let w : Knows = view c.join.new.seat in
+    came-gone v u w c.requires.about c.join.ensures.view c.join.ensures.begins c.join.ensures.guests c.requires.lead.lawful c.requires.idle.settled.seated.lawful c.args.worker.seat.own_seen c.args.worker.short c.either-short.result
+    (λ e. c.either-short.ensures ∙ or_right c.args.lead.short c.args.worker.short e)
 
 pub returns-clause-came : goal.returns-clause-came
 returns-clause-came c =

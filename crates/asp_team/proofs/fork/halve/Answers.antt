@@ -1,4 +1,4 @@
-use Rattle.std.proofs.Common.{◌≡◌, false}
+use Rattle.std.proofs.Common.{◌≡◌, false, []}
 use Rattle.asp_vars.specs.Literals.{Literal}
 use Rattle.asp_vault.specs.Seats.{view}
 use Rattle.asp_path.specs.Trees.{cube_of}
@@ -6,6 +6,9 @@ use Rattle.asp_core.specs.Events.{has_var, IsVariable}
 use Rattle.asp_book.specs.Calls.{Knows, seen_board}
 use Rattle.asp_worker.proofs.SeatLaws.{none-idles, idles-passes, passes-trans, holds-idles, divided-passes, divided-some}
 use Rattle.asp_team.proofs.TeamLaws.{program-is, some-is, variable-is}
+use Rattle.asp_crew_laws.specs.Gone.{IsFork}
+use Rattle.asp_worker.proofs.OwnLaws.{own-call}
+use Rattle.asp_team.proofs.TeamLaws.{fork-divided}
 use Rattle.asp_team.proofs.fork.halve.Goals as goal
 
 pub returns-in_err-cut-clause-passes : goal.returns-in_err-cut-clause-passes
@@ -55,3 +58,25 @@ returns-in-Some-2-clause-held g c =
     let u : Knows = view c.args.seat.now in let v : Knows = view c.cut.new.seat in let w : Knows = view c.split.new.seat in
     let k = c.in_ok-split-in-Some.ensures.ok in
     (divided-some v w c.split.ensures.stays c.args.leaf.now c.in-Some.lit (holds-idles u v c.args.leaf.now c.requires.held c.cut.ensures.idles) k.0 c.in_ok-split-in-Some.field-0 c.in-Some-2.half c.in-Some-2.field-0-1 c.in-Some-2.is k.1.leaves k.2).0
+
+pub returns-in_err-split-in-Some-clause-forks : goal.returns-in_err-split-in-Some-clause-forks
+returns-in_err-split-in-Some-clause-forks g c = λ h.
+    let k = c.in_err-split-in-Some.ensures.err in
+    own-call (view c.cut.new.seat) (view c.split.new.seat) k.0 [] c.split.ensures.stays k.1 IsFork tt (c.cut.ensures.forks h)
+
+pub returns-in-None-2-clause-forks : goal.returns-in-None-2-clause-forks
+returns-in-None-2-clause-forks g c = λ h.
+    let k = c.in_ok-split-in-Some.ensures.ok in let v : Knows = view c.cut.new.seat in
+    own-call v (view c.split.new.seat) k.0 _ c.split.ensures.stays k.2 IsFork (fork-divided v.number c.args.leaf.now c.in-Some.lit c.in_ok-split-in-Some.field-0) (c.cut.ensures.forks h)
+
+pub returns-in-Some-2-clause-forks : goal.returns-in-Some-2-clause-forks
+returns-in-Some-2-clause-forks g c = λ h.
+    let k = c.in_ok-split-in-Some.ensures.ok in let v : Knows = view c.cut.new.seat in
+    own-call v (view c.split.new.seat) k.0 _ c.split.ensures.stays k.2 IsFork (fork-divided v.number c.args.leaf.now c.in-Some.lit c.in_ok-split-in-Some.field-0) (c.cut.ensures.forks h)
+
+pub returns-in-None-2-clause-passes : goal.returns-in-None-2-clause-passes
+returns-in-None-2-clause-passes g c =
+    let u : Knows = view c.args.seat.now in let v : Knows = view c.cut.new.seat in let w : Knows = view c.split.new.seat in
+    let k = c.in_ok-split-in-Some.ensures.ok in
+    passes-trans u v w (idles-passes u v c.cut.ensures.idles)
+    (divided-passes v w c.split.ensures.stays c.args.leaf.now c.in-Some.lit (holds-idles u v c.args.leaf.now c.requires.held c.cut.ensures.idles) k.0 c.in_ok-split-in-Some.field-0 k.2)

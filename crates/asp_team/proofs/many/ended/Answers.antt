@@ -1,9 +1,11 @@
-use Rattle.std.proofs.Common.{◌^◌, ◌<◌, Option, refl, ap, ◌∙◌, subst, sym}
+use Rattle.std.proofs.Common.{◌^◌, ◌<◌, List, ◌++◌, Option, refl, ap, ◌∙◌, subst, sym}
 use Rattle.std.specs.Prelude.{unwrap_or}
 use Rattle.asp_vault.specs.Seats.{view}
+use Rattle.asp_core.specs.declared.event.Event.{Event}
 use Rattle.asp_core.specs.declared.task.Task.{Task}
+use Rattle.asp_crew_laws.specs.Gone.{IsCrewGone}
 use Rattle.asp_book.specs.Calls.{no_task}
-use Rattle.asp_team.proofs.RunLaws.{book-task, run-begins, run-in, run-query, report-is}
+use Rattle.asp_team.proofs.RunLaws.{book-task, report-shared, run-begins, run-in, run-query, report-is}
 use Rattle.asp_team.proofs.many.ended.Goals as goal
 
 pub work_off-requires-clause-task : goal.work_off-requires-clause-task
@@ -38,3 +40,15 @@ returns-clause-report g c =
     (c.in_ok-unpaid.ensures.finishes.task
     ∙ book-task c.args.compiled.now c.args.plan.ask c.args.plan.budget c.dismissed-book.result.0 (view c.args.lead.seat) (view c.args.lead.seat) c.dismissed-book.ensures.task refl c.requires.about)
     c.reported.ensures.report
+
+pub returns-clause-shared : goal.returns-clause-shared
+returns-clause-shared g c = λ never begun left.
+    let b = c.dismissed-book.result.0 in let w = c.work_off.new.book in
+    let e = book-task c.args.compiled.now c.args.plan.ask c.args.plan.budget b (view c.args.lead.seat) (view c.args.lead.seat) c.dismissed-book.ensures.task refl c.requires.about in
+    let crew = c.dismissed-book.ensures.crew never begun left in
+    let adds = c.in_ok-unpaid.ensures.finishes.adds in
+    report-shared c.args.compiled.now c.args.plan.ask c.args.plan.budget c.reported.result
+    (report-is c.args.compiled.now c.args.plan.ask c.args.plan.budget w.task c.reported.result (c.in_ok-unpaid.ensures.finishes.task ∙ e) c.reported.ensures.report) c.reported.ensures.second
+    (view c.args.lead.seat).splits c.args.lead.short never begun crew.0 adds.more c.requires.some
+    (subst (λ (t : Task). IsCrewGone t (view c.args.lead.seat).splits c.args.lead.short never begun crew.0) e crew.2)
+    (c.reported.ensures.journal ∙ adds.journal ∙ ap (λ (l : List Event). l ++ adds.more) crew.1) adds.main c.reported.ensures.short

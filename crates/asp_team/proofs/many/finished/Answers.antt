@@ -1,4 +1,4 @@
-use Rattle.std.proofs.Common.{◌≡◌, ℕ, Bool, false, None, sym, subst}
+use Rattle.std.proofs.Common.{◌≡◌, ℕ, Bool, false, List, None, sym, subst}
 use Rattle.std.specs.Prelude.{IfOk}
 use Rattle.std.proofs.lemmas.Result.{IfOk-weaker}
 use Rattle.asp_crew_laws.specs.declared.report.Report.{Report}
@@ -6,6 +6,10 @@ use Rattle.asp_crew_laws.specs.Proofs.{HasProof}
 use Rattle.asp_crew_laws.specs.Reports.{IsReport}
 use Rattle.asp_crew_laws.specs.Runs.{asks}
 use Rattle.asp_crew.proofs.ProofLaws.{first-whole, none_has, report_with}
+use Rattle.asp_core.specs.declared.event.Event.{Event}
+use Rattle.asp_crew_laws.specs.Gone.{IsShared}
+use Rattle.asp_crew_laws.specs.Runs.{task_of}
+use Rattle.asp_team.specs.Teams.{HaveLeft}
 use Rattle.asp_team.proofs.many.finished.Goals as goal
 
 pub returns-then-plan-clause-report : goal.returns-then-plan-clause-report
@@ -32,3 +36,16 @@ pub returns-else-plan-clause-proof : goal.returns-else-plan-clause-proof
 returns-else-plan-clause-proof g c =
     subst (λ (b : Bool). IfOk c.with_ties.result (HasProof b)) (sym c.if-plan.false)
     (IfOk-weaker c.with_ties.result (λ (r : Report). r.proof ≡ None) (HasProof false) none_has c.with_ties.ensures.proof)
+
+pub returns-then-plan-clause-shared : goal.returns-then-plan-clause-shared
+returns-then-plan-clause-shared g c =
+    let first : Report = c.in_ok-report.report in
+    IfOk-weaker c.with_proof.result (λ (r : Report). r ≡ record first { proof = r.proof }) (λ (r : Report). (never : Bool) (begun : List Event) → HaveLeft c.args.lead never begun → IsShared (task_of c.args.compiled.now c.args.plan.ask c.args.plan.budget) r.short never r.journal)
+    (λ r same never begun left. subst (λ (x : Report). IsShared (task_of c.args.compiled.now c.args.plan.ask c.args.plan.budget) x.short never x.journal) (sym same) (c.in_ok-report.ensures.shared never begun left)) c.with_proof.ensures.same
+
+pub returns-else-plan-clause-shared : goal.returns-else-plan-clause-shared
+returns-else-plan-clause-shared g c =
+    let first : Report = c.in_ok-report.report in
+    IfOk-weaker c.with_ties.result (λ (r : Report). (r.journal ≡ first.journal) × (r.short ≡ first.short)) (λ (r : Report). (never : Bool) (begun : List Event) → HaveLeft c.args.lead never begun → IsShared (task_of c.args.compiled.now c.args.plan.ask c.args.plan.budget) r.short never r.journal)
+    (λ r same never begun left.
+    subst (λ (s : Bool). IsShared (task_of c.args.compiled.now c.args.plan.ask c.args.plan.budget) s never r.journal) (sym same.1) (subst (IsShared (task_of c.args.compiled.now c.args.plan.ask c.args.plan.budget) first.short never) (sym same.0) (c.in_ok-report.ensures.shared never begun left))) c.with_ties.ensures.same

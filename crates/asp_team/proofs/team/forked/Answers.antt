@@ -17,4 +17,4 @@ survey-requires-clause-first g c = c.fork_all.ensures.stays.number ∙ ap (λ (x
 pub returns-clause-begun : goal.returns-clause-begun
 returns-clause-begun g c =
     begun-is (runs.task_of c.args.compiled.now c.args.ask c.args.budget) (view c.in_ok-book.seat) (view c.fork_all.new.seat) (view c.survey.new.seat) c.in_ok-book.ensures.view c.fork_all.ensures.stays c.survey.ensures.stays
-    c.survey.ensures.idle c.survey.ensures.new
+    c.survey.ensures.idle c.survey.ensures.new c.fork_all.ensures.forks c.survey.ensures.forks

@@ -22,5 +22,6 @@ returns-clause-team g c = record {
   lead = c.in_ok-workers.ensures.host.lead;
   about = c.in_ok-workers.ensures.about ∙ c.in_ok-book.ensures.begun.about;
   idle = c.in_ok-workers.ensures.host.idle;
+  forks = c.in_ok-workers.ensures.host.forks;
   ready = c.in_ok-workers.ensures.ready;
 }

@@ -11,3 +11,6 @@ returns-clause-number c = ap (λ (x : Knows). x.number) c.split.ensures.new
 
 pub returns-clause-may : goal.returns-clause-may
 returns-clause-may c = may-join c.args.shared.now c.args.lead.now _ c.requires.host c.split.ensures.of.1 c.split-2.ensures.of.1 c.requires.pass c.split.ensures.new c.split-2.ensures.new
+
+pub returns-clause-began : goal.returns-clause-began
+returns-clause-began c = ap (λ (x : Knows). x.seen) c.split.ensures.new

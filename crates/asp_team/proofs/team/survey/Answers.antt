@@ -1,6 +1,6 @@
 use Rattle.asp_vault.specs.Seats.{view}
 use Rattle.asp_book.specs.Calls.{Knows}
-use Rattle.asp_team.proofs.TeamLaws.{taken-continues, taken-adds, survey-idles, survey-new, idle-idles}
+use Rattle.asp_team.proofs.TeamLaws.{taken-continues, taken-adds, survey-idles, survey-forks, survey-new, idle-idles}
 use Rattle.asp_team.proofs.team.survey.Goals as goal
 
 pub give-requires-clause-continues : goal.give-requires-clause-continues
@@ -23,3 +23,8 @@ pub returns-clause-new : goal.returns-clause-new
 returns-clause-new g c =
     let v : Knows = view c.args.seat.now in let u : Knows = view c.take-book.new.seat in
     survey-new v u c.take-book.result c.take-book.ensures.view c.take-book.ensures.learnt c.take-book.ensures.about c.take-book.ensures.sound (view c.give.new.seat) c.give.ensures.view c.requires.first
+
+pub returns-clause-forks : goal.returns-clause-forks
+returns-clause-forks g c =
+    let v : Knows = view c.args.seat.now in let u : Knows = view c.take-book.new.seat in
+    survey-forks v u c.take-book.result c.take-book.ensures.view c.take-book.ensures.learnt c.take-book.ensures.about c.take-book.ensures.sound (view c.give.new.seat) c.give.ensures.view

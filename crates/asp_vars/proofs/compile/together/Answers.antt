@@ -2,6 +2,7 @@ use Rattle.std.proofs.Common.{map, sym, ap, ◌∙◌, subst}
 use Rattle.asp_model.specs.declared.program.Program.{Program}
 use Rattle.asp_model.specs.Models.{rules_in_force}
 use Rattle.asp_vars.specs.Numbering.{bodies_of, var_of_body}
+use Rattle.asp_vars.specs.Completion.{is_barred}
 use Rattle.asp_vars.specs.Tabled.{bound_of, form_literals, form_weights, heads_of, AreSupports, AreOccurrences}
 use Rattle.asp_vars.proofs.compile.together.Goals as goal
 
@@ -14,6 +15,7 @@ invariant_of-result c =
       opened = c.numbered.invariant.opened;
       atoms = c.numbered.invariant.atoms;
       rule_bodies = c.requires.rule_bodies ∙ ap (λ (q : Program). map (λ r. var_of_body q r.body) (rules_in_force q)) same;
+      barred = c.requires.barred ∙ ap (λ (q : Program). map (is_barred q) (bodies_of q)) same;
       bounds = c.requires.bounds ∙ ap (λ (q : Program). map bound_of (bodies_of q)) same;
       literals = c.requires.literals ∙ ap (λ (q : Program). map (form_literals q) (bodies_of q)) same;
       weights = c.requires.weights ∙ ap (λ (q : Program). map form_weights (bodies_of q)) same;

@@ -1,10 +1,12 @@
-use Rattle.std.proofs.Common.{refl, sym, ◌∙◌, arith}
+use Rattle.std.proofs.Common.{[], refl, sym, ◌∙◌, arith}
 use Rattle.std.proofs.lemmas.List.{nil_from_length}
 use Rattle.asp_vault.specs.Seats.{view}
+use Rattle.asp_vault.proofs.Prefixes.{prefix_trans}
 use Rattle.asp_path.specs.Trees.{open_from}
 use Rattle.asp_book.specs.Calls.{Knows, seen_board}
 use Rattle.asp_worker.specs.Seats.{Idles}
-use Rattle.asp_worker.proofs.SeatLaws.{passes-self, passes-trans, settled-passes, settled-idles, free-idles, idles-passes, idles-call, takes-not, takes-err, quiet-call}
+use Rattle.asp_worker.proofs.SeatLaws.{passes-self, passes-trans, settled-passes, settled-idles, free-idles, idles-passes, idles-call, takes-not, takes-err}
+use Rattle.asp_worker.proofs.OwnLaws.{quiet-call, quiet-later, quiet-now}
 use Rattle.asp_worker.proofs.find.find.Goals as goal
 
 pub rounds-init : goal.rounds-init
@@ -65,6 +67,7 @@ returns-then-held_leaves-eq0-clause-takes g c =
 
 pub returns-then-held_leaves-eq0-clause-quiet : goal.returns-then-held_leaves-eq0-clause-quiet
 returns-then-held_leaves-eq0-clause-quiet g c =
-    let s : Knows = view c.survey-events.new.seat in let w : Knows = view c.held_leaves.new.seat in
-    quiet-call s w c.held_leaves.ensures.call.0 c.held_leaves.ensures.stays c.held_leaves.ensures.call.2
-    (nil_from_length (open_from 0 (seen_board s).nodes) (omega (arith, c.survey-events.ensures.open_leaves)))
+    let v : Knows = view c.args.seat.now in let r : Knows = view c.rounds.seat in let s : Knows = view c.survey-events.new.seat in let w : Knows = view c.held_leaves.new.seat in
+    quiet-later v.seen s.seen w (prefix_trans v.seen r.seen s.seen c.rounds.invariant.1.stays.seen c.survey-events.ensures.idles.stays.seen)
+    (quiet-call s w c.held_leaves.ensures.call.0 [] c.held_leaves.ensures.stays c.held_leaves.ensures.call.2 s.seen tt
+    (quiet-now s (nil_from_length (open_from 0 (seen_board s).nodes) (omega (arith, c.survey-events.ensures.open_leaves)))))

@@ -7,7 +7,7 @@ use Rattle.asp_worker.specs.declared.worker.Worker.{Worker}
 use Rattle.asp_worker.proofs.SeatLaws.{board-task, keeps-self, keeps-seat, keeps-pages, ready-seat}
 use Rattle.asp_worker.proofs.StepLaws.{on-decided, on-restarted, on-learnt, on-stopped, none-left, on-closed, settled-closed, finds-answer, off-paid}
 use Rattle.asp_worker.specs.Working.{IsOn, IsOff}
-use Rattle.asp_worker.proofs.Replies.{always-err}
+use Rattle.asp_worker.proofs.Replies.{always-err, memory-stop, same-stop}
 use Rattle.asp_worker.proofs.SharingLaws.{still-read, paged-of}
 use Rattle.asp_worker.proofs.PathLaws.{refreshed-on, idled-off, recorded-on, found-off, leased-on, leased-off, ready-pages}
 use Rattle.asp_worker.proofs.path.advance.Goals as goal
@@ -173,3 +173,19 @@ returns-in_err-leased-in-NoFuel-clause-err g c =
 pub step-requires-clause-program : goal.step-requires-clause-program
 step-requires-clause-program g c =
     c.requires.on.going.work.units.0.program ∙ ap (λ (t : Task). t.program) (board-task (view c.args.worker.now.seat)) ∙ sym c.requires.on.going.program
+
+pub returns-in_err-step-clause-stop : goal.returns-in_err-step-clause-stop
+returns-in_err-step-clause-stop g c = memory-stop (view c.args.worker.now.seat) c.from_residual.result c.from_residual.ensures.1
+
+pub returns-in_err-refresh-in-Restarted-clause-stop : goal.returns-in_err-refresh-in-Restarted-clause-stop
+returns-in_err-refresh-in-Restarted-clause-stop g c = memory-stop (view c.refresh.new.worker.seat) c.from_residual-in_err-refresh-in-Restarted.result c.from_residual-in_err-refresh-in-Restarted.ensures.1
+
+pub returns-in_err-record-in-Answer-clause-stop : goal.returns-in_err-record-in-Answer-clause-stop
+returns-in_err-record-in-Answer-clause-stop g c =
+    same-stop (view c.record.new.seat) c.from_residual-in_err-record-in-Answer.result _ c.from_residual-in_err-record-in-Answer.ensures.1 c.in_err-record-in-Answer.ensures.stop
+
+pub returns-in_err-leased-in-NoFuel-clause-stop : goal.returns-in_err-leased-in-NoFuel-clause-stop
+returns-in_err-leased-in-NoFuel-clause-stop g c = memory-stop (view c.lease.new.seat) c.from_residual-in_err-leased-in-NoFuel.result c.from_residual-in_err-leased-in-NoFuel.ensures.1
+
+pub returns-in-NoFuel-clause-course : goal.returns-in-NoFuel-clause-course
+returns-in-NoFuel-clause-course g c = c.in_ok-leased-in-NoFuel.ensures.spent c.if-leased.false

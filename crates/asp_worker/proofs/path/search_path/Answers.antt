@@ -1,19 +1,23 @@
-use Rattle.std.proofs.Common.{refl, subst}
+use Rattle.std.proofs.Common.{inl, inr, refl, sym, ◌∙◌, subst}
+use Rattle.std.proofs.lemmas.Bool.{false≢true}
 use Rattle.asp_vault.specs.Seats.{view}
 use Rattle.asp_book.specs.Calls.{Knows}
 use Rattle.asp_worker.specs.declared.path.Course.{Course}
 use Rattle.asp_worker.specs.declared.worker.Worker.{Worker}
 use Rattle.asp_worker.specs.Working.{IsCourse, IsOff}
-use Rattle.asp_worker.proofs.Replies.{always-err}
+use Rattle.asp_worker.proofs.Replies.{always-err, memory-stop, same-stop}
 use Rattle.asp_worker.proofs.SeatLaws.{keeps-self, keeps-seat, keeps-trans, ready-seat}
-use Rattle.asp_worker.proofs.GoingLaws.{goes-on, on-off, owes-on, done-excused}
+use Rattle.asp_worker.proofs.GoingLaws.{goes-on, on-off, owes-of, owes-on, done-excused}
 use Rattle.asp_worker.proofs.path.search_path.Goals as goal
 
 pub steps-init : goal.steps-init
 steps-init g c = record { keeps = keeps-self c.args.shared.now c.args.worker.now c.requires.ready; ready = c.requires.ready; on = c.requires.on; read = c.requires.read; heard = g.met.W.Watch.begins c.args.watch.now }
 
 pub returns-then-stop-clause-ok : goal.returns-then-stop-clause-ok
-returns-then-stop-clause-ok g c = on-off c.args.shared.now.mode (view c.steps.worker.seat) c.steps.engine.search c.steps.engine.fuel c.steps.leaf c.steps.invariant.on
+returns-then-stop-clause-ok g c = (
+  on-off c.args.shared.now.mode (view c.steps.worker.seat) c.steps.engine.search c.steps.engine.fuel c.steps.leaf c.steps.invariant.on,
+  inr (inr (λ never. false≢true (sym (c.stop.ensures never) ∙ c.if-stop.true))),
+)
 
 pub returns-in_err-course-clause-keeps : goal.returns-in_err-course-clause-keeps
 returns-in_err-course-clause-keeps g c = keeps-trans c.args.worker.now c.steps.worker c.advance.new.worker c.steps.invariant.keeps c.advance.ensures.keeps
@@ -41,7 +45,10 @@ pub returns-in-Spent-clause-keeps : goal.returns-in-Spent-clause-keeps
 returns-in-Spent-clause-keeps g c = keeps-trans c.args.worker.now c.steps.worker c.advance.new.worker c.steps.invariant.keeps c.advance.ensures.keeps
 
 pub returns-in-Spent-clause-ok : goal.returns-in-Spent-clause-ok
-returns-in-Spent-clause-ok g c = on-off c.args.shared.now.mode (view c.advance.new.worker.seat) c.advance.new.engine.search c.advance.new.engine.fuel c.steps.leaf c.in_ok-course.ensures.ok
+returns-in-Spent-clause-ok g c = (
+  on-off c.args.shared.now.mode (view c.advance.new.worker.seat) c.advance.new.engine.search c.advance.new.engine.fuel c.steps.leaf c.in_ok-course.ensures.ok,
+  inl (subst (λ (x : Course). IsCourse (view c.advance.new.worker.seat) c.advance.new.engine.search c.steps.leaf x) c.in-Spent.is c.in_ok-course.ensures.course),
+)
 
 pub close-requires-clause-done : goal.close-requires-clause-done
 close-requires-clause-done g c =
@@ -76,7 +83,7 @@ returns-in_err-close-in-Done-clause-ready g c =
 pub returns-in_err-close-in-Done-clause-err : goal.returns-in_err-close-in-Done-clause-err
 returns-in_err-close-in-Done-clause-err g c =
     always-err c.from_residual-in_err-close-in-Done.result (IsOff (view c.close.new.seat) c.advance.new.engine.fuel c.steps.leaf)
-    (record { held = c.in_err-close-in-Done.ensures.err; units = owes-on (view c.advance.new.worker.seat) (view c.close.new.seat) c.advance.new.engine.fuel c.in_ok-course.ensures.ok.going.work.units c.close.ensures.passes })
+    (record { held = c.in_err-close-in-Done.ensures.err; units = owes-on (view c.advance.new.worker.seat) (view c.close.new.seat) c.advance.new.engine.fuel (owes-of c.in_ok-course.ensures.ok.going) c.close.ensures.passes })
 
 pub returns-in_err-share-in-Open-clause-heard : goal.returns-in_err-share-in-Open-clause-heard
 returns-in_err-share-in-Open-clause-heard g c = g.met.W.Watch.goes_on c.args.watch.now c.steps.watch c.tell.new.watch c.steps.invariant.heard c.tell.ensures
@@ -89,3 +96,12 @@ returns-in-Done-clause-heard g c = g.met.W.Watch.goes_on c.args.watch.now c.step
 
 pub returns-in_err-close-in-Done-clause-heard : goal.returns-in_err-close-in-Done-clause-heard
 returns-in_err-close-in-Done-clause-heard g c = g.met.W.Watch.goes_on c.args.watch.now c.steps.watch c.tell.new.watch c.steps.invariant.heard c.tell.ensures
+
+pub returns-in_err-course-clause-stop : goal.returns-in_err-course-clause-stop
+returns-in_err-course-clause-stop g c = same-stop (view c.advance.new.worker.seat) c.from_residual.result _ c.from_residual.ensures.1 c.in_err-course.ensures.stop
+
+pub returns-in_err-share-in-Open-clause-stop : goal.returns-in_err-share-in-Open-clause-stop
+returns-in_err-share-in-Open-clause-stop g c = same-stop (view c.share.new.worker.seat) c.from_residual-in_err-share-in-Open.result _ c.from_residual-in_err-share-in-Open.ensures.1 c.in_err-share-in-Open.ensures.stop
+
+pub returns-in_err-close-in-Done-clause-stop : goal.returns-in_err-close-in-Done-clause-stop
+returns-in_err-close-in-Done-clause-stop g c = memory-stop (view c.close.new.seat) c.from_residual-in_err-close-in-Done.result c.from_residual-in_err-close-in-Done.ensures.1

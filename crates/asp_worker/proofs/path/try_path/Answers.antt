@@ -1,11 +1,13 @@
-use Rattle.std.proofs.Common.{◌<◌, sym, ◌∙◌, subst}
+use Rattle.std.proofs.Common.{◌≡◌, ◌<◌, true, sym, ◌∙◌, subst}
 use Rattle.asp_vault.specs.Seats.{view}
 use Rattle.asp_book.specs.Calls.{Knows}
 use Rattle.asp_worker.specs.Working.{IsOff}
 use Rattle.asp_worker.proofs.SeatLaws.{holds-idles, idles-passes, keeps-trans}
-use Rattle.asp_worker.proofs.GoingLaws.{goes-on, owes-on}
+use Rattle.asp_worker.proofs.GoingLaws.{goes-on, owes-of, owes-on}
 use Rattle.asp_worker.proofs.SharingLaws.{still-read}
-use Rattle.asp_worker.proofs.Replies.{always-err}
+use Rattle.asp_worker.proofs.Replies.{always-err, memory-stop}
+use Rattle.asp_core.specs.Boards.{is_enough}
+use Rattle.asp_worker.proofs.OwnLaws.{was-now}
 use Rattle.asp_worker.proofs.path.try_path.Goals as goal
 
 pub returns-then-is_enough-clause-read : goal.returns-then-is_enough-clause-read
@@ -14,7 +16,7 @@ returns-then-is_enough-clause-read g c = still-read c.args.engine.now.read (view
 pub returns-then-is_enough-clause-err : goal.returns-then-is_enough-clause-err
 returns-then-is_enough-clause-err g c =
     let v : Knows = view c.args.worker.now.seat in let w : Knows = view c.is_enough.new.worker.seat in
-    record { held = holds-idles v w c.args.leaf.now c.requires.held c.is_enough.ensures.idles; units = owes-on v w c.args.engine.now.fuel c.requires.going.work.units (idles-passes v w c.is_enough.ensures.idles) }
+    record { held = holds-idles v w c.args.leaf.now c.requires.held c.is_enough.ensures.idles; units = owes-on v w c.args.engine.now.fuel (owes-of c.requires.going) (idles-passes v w c.is_enough.ensures.idles) }
 
 pub begin-requires-clause-held : goal.begin-requires-clause-held
 begin-requires-clause-held g c = holds-idles (view c.args.worker.now.seat) (view c.is_enough.new.worker.seat) c.args.leaf.now c.requires.held c.is_enough.ensures.idles
@@ -45,3 +47,9 @@ returns-then-is_enough-clause-heard g c = g.met.W.Watch.begins c.args.watch.now
 
 pub returns-in_err-begin-clause-heard : goal.returns-in_err-begin-clause-heard
 returns-in_err-begin-clause-heard g c = g.met.W.Watch.begins c.args.watch.now
+
+pub returns-then-is_enough-clause-stop : goal.returns-then-is_enough-clause-stop
+returns-then-is_enough-clause-stop g c = was-now (λ b. is_enough b ≡ true) (view c.is_enough.new.worker.seat) (c.is_enough.ensures.enough c.if-is_enough.true)
+
+pub returns-in_err-begin-clause-stop : goal.returns-in_err-begin-clause-stop
+returns-in_err-begin-clause-stop g c = memory-stop (view c.begin.new.worker.seat) c.from_residual.result c.from_residual.ensures.1

@@ -6,7 +6,7 @@ use Rattle.asp_worker.specs.declared.worker.Worker.{Worker}
 use Rattle.asp_worker.specs.Working.{IsOn, IsOff}
 use Rattle.asp_worker.proofs.Replies.{on-ok, on-err, always-err}
 use Rattle.asp_worker.proofs.SeatLaws.{keeps-seat, keeps-trans, ready-seat, idles-trans, holds-idles, idles-passes}
-use Rattle.asp_worker.proofs.GoingLaws.{goes-on, owes-on}
+use Rattle.asp_worker.proofs.GoingLaws.{goes-on, owes-of, owes-on}
 use Rattle.asp_worker.proofs.SharingLaws.{begun-on, entered-goes}
 use Rattle.asp_worker.proofs.share.begin.Goals as goal
 
@@ -35,7 +35,7 @@ pub returns-in_err-enter-clause-err : goal.returns-in_err-enter-clause-err
 returns-in_err-enter-clause-err g c =
     let v : Knows = view c.args.worker.now.seat in let x : Knows = view c.enter.new.seat in
     always-err c.from_residual.result (IsOff x c.args.engine.now.fuel c.args.leaf)
-    (record { held = holds-idles v x c.args.leaf c.requires.held c.enter.ensures.idles; units = owes-on v x c.args.engine.now.fuel c.requires.going.work.units (idles-passes v x c.enter.ensures.idles) })
+    (record { held = holds-idles v x c.args.leaf c.requires.held c.enter.ensures.idles; units = owes-on v x c.args.engine.now.fuel (owes-of c.requires.going) (idles-passes v x c.enter.ensures.idles) })
 
 pub returns-clause-keeps : goal.returns-clause-keeps
 returns-clause-keeps g c =
@@ -55,4 +55,4 @@ pub returns-clause-err : goal.returns-clause-err
 returns-clause-err g c =
     let v : Knows = view c.args.worker.now.seat in let w : Knows = view c.refresh.new.worker.seat in
     let i = idles-trans v (view c.enter.new.seat) w c.enter.ensures.idles c.refresh.ensures.idles in
-    on-err c.refresh.result (λ _. subst (λ (u : Units). IsOff w u c.args.leaf) (sym c.refresh.ensures.fuel) (record { held = holds-idles v w c.args.leaf c.requires.held i; units = owes-on v w c.args.engine.now.fuel c.requires.going.work.units (idles-passes v w i) })) c.refresh.ensures.err
+    on-err c.refresh.result (λ _. subst (λ (u : Units). IsOff w u c.args.leaf) (sym c.refresh.ensures.fuel) (record { held = holds-idles v w c.args.leaf c.requires.held i; units = owes-on v w c.args.engine.now.fuel (owes-of c.requires.going) (idles-passes v w i) })) c.refresh.ensures.err

@@ -1,10 +1,13 @@
+use Rattle.std.proofs.Common.{◌≡◌, true}
 use Rattle.asp_vault.specs.Seats.{view}
 use Rattle.asp_book.specs.Calls.{Knows}
 use Rattle.asp_worker.specs.Working.{IsOff}
 use Rattle.asp_worker.proofs.SeatLaws.{keeps-self, keeps-trans}
 use Rattle.asp_worker.proofs.GoingLaws.{on-on, on-off, off-on}
-use Rattle.asp_worker.proofs.Replies.{always-err}
+use Rattle.asp_worker.proofs.Replies.{always-err, memory-stop}
 use Rattle.asp_worker.proofs.SharingLaws.{still-read}
+use Rattle.asp_core.specs.Boards.{is_enough}
+use Rattle.asp_worker.proofs.OwnLaws.{was-now}
 use Rattle.asp_worker.proofs.share.offer.Goals as goal
 
 pub returns-then-engine-ne0-clause-keeps : goal.returns-then-engine-ne0-clause-keeps
@@ -33,3 +36,9 @@ returns-in_err-offer_half-clause-keeps g c = keeps-trans c.args.worker.now c.is_
 
 pub returns-in_err-offer_half-clause-err : goal.returns-in_err-offer_half-clause-err
 returns-in_err-offer_half-clause-err g c = always-err c.from_residual.result (IsOff (view c.offer_half.new.worker.seat) c.offer_half.new.engine.fuel c.offer_half.new.leaf) c.in_err-offer_half.ensures.err
+
+pub returns-then-is_enough-clause-stop : goal.returns-then-is_enough-clause-stop
+returns-then-is_enough-clause-stop g c = was-now (λ b. is_enough b ≡ true) (view c.is_enough.new.worker.seat) (c.is_enough.ensures.enough c.if-is_enough.true)
+
+pub returns-in_err-offer_half-clause-stop : goal.returns-in_err-offer_half-clause-stop
+returns-in_err-offer_half-clause-stop g c = memory-stop (view c.offer_half.new.worker.seat) c.from_residual.result c.from_residual.ensures.1

@@ -3,7 +3,7 @@ use Rattle.asp_book.specs.Calls.{Knows}
 use Rattle.asp_worker.specs.Working.{IsOff}
 use Rattle.asp_worker.proofs.Replies.{always-err}
 use Rattle.asp_worker.proofs.SeatLaws.{half-none}
-use Rattle.asp_worker.proofs.GoingLaws.{goes-on, owes-on}
+use Rattle.asp_worker.proofs.GoingLaws.{goes-on, owes-of, owes-on}
 use Rattle.asp_worker.proofs.PathLaws.{kept-on, open-lit}
 use Rattle.asp_worker.proofs.share.split_on.Goals as goal
 
@@ -17,7 +17,7 @@ pub returns-in_err-divide-clause-err : goal.returns-in_err-divide-clause-err
 returns-in_err-divide-clause-err g c =
     let v : Knows = view c.args.worker.now.seat in let w : Knows = view c.divide.new.worker.seat in
     always-err c.from_residual.result (IsOff w c.args.engine.now.fuel c.args.leaf.now)
-    (record { held = c.in_err-divide.ensures.half; units = owes-on v w c.args.engine.now.fuel c.requires.on.going.work.units c.divide.ensures.passes })
+    (record { held = c.in_err-divide.ensures.half; units = owes-on v w c.args.engine.now.fuel (owes-of c.requires.on.going) c.divide.ensures.passes })
 
 pub begin-requires-clause-going : goal.begin-requires-clause-going
 begin-requires-clause-going g c =

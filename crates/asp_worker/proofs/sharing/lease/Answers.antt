@@ -1,10 +1,11 @@
-use Rattle.std.proofs.Common.{sym, subst}
+use Rattle.std.proofs.Common.{sym, subst, arith}
+use Rattle.std.proofs.lemmas.Bool.{ltb-false}
 use Rattle.asp_vars.specs.Paid.{Units}
 use Rattle.asp_vault.specs.Seats.{view}
 use Rattle.asp_worker.specs.Working.{GoesOn}
 use Rattle.asp_worker.proofs.SeatLaws.{none-idles, idles-leases, idles-passes}
 use Rattle.asp_worker.proofs.GoingLaws.{goes-on}
-use Rattle.asp_worker.proofs.RecordLaws.{leased-program, leased-fits, leased-leases, leased-goes}
+use Rattle.asp_worker.proofs.RecordLaws.{leased-program, leased-fits, leased-leases, leased-goes, leased-empty}
 use Rattle.asp_worker.proofs.sharing.lease.Goals as goal
 
 pub merge-requires-clause-program : goal.merge-requires-clause-program
@@ -35,4 +36,10 @@ pub returns-clause-going : goal.returns-clause-going
 returns-clause-going g c =
     let k = c.in_ok-units.ensures.ok in
     subst (λ (u : Units). GoesOn c.args.shared.now.mode (view c.lease.new.seat) c.args.engine.now.search u) (sym c.merge.ensures)
-    (leased-goes (view c.args.seat.now) (view c.lease.new.seat) k.0 c.lease.ensures.stays c.args.shared.now.mode c.args.engine.now.search c.args.engine.now.fuel c.in_ok-units.units c.requires.settled c.requires.going k.1 k.2)
+    (leased-goes (view c.args.seat.now) (view c.lease.new.seat) k.0 c.lease.ensures.stays c.args.shared.now.mode c.args.engine.now.search c.args.engine.now.fuel c.in_ok-units.units c.requires.settled c.requires.going k.1 k.2 c.requires.none)
+
+pub returns-clause-spent : goal.returns-clause-spent
+returns-clause-spent g c = λ e.
+    let k = c.in_ok-units.ensures.ok in
+    leased-empty (view c.args.seat.now) (view c.lease.new.seat) k.0 c.lease.ensures.stays c.args.shared.now.mode c.args.engine.now.search c.args.engine.now.fuel c.in_ok-units.units c.requires.settled c.requires.going k.1 k.2
+    (omega (arith, c.left-some.ensures.left, ltb-false 0 c.left-some.result e))

@@ -1,7 +1,7 @@
 use Rattle.std.proofs.Common.{◌≡◌, ap, drop, refl}
 use Rattle.asp_vault.specs.Seats.{view}
 use Rattle.asp_worker.specs.declared.worker.Worker.{Worker}
-use Rattle.asp_worker.proofs.SeatLaws.{keeps-pages, ready-seat, idles-self}
+use Rattle.asp_worker.proofs.SeatLaws.{keeps-pages, behaves-self, ready-seat, idles-self}
 use Rattle.asp_worker.proofs.Replies.{on-ok, on-err}
 use Rattle.asp_worker.proofs.SharingLaws.{paged-of, forgotten-after, slots-only}
 use Rattle.asp_search_laws.specs.Searching.{Searching}
@@ -19,7 +19,7 @@ returns-in_err-import_new-clause-keeps g c =
 pub returns-in_err-import_new-clause-ready : goal.returns-in_err-import_new-clause-ready
 returns-in_err-import_new-clause-ready g c =
     let h : Worker = c.args.worker.now in let k : Worker = record h { pages = c.import_new.new.pages } in
-    ready-seat c.args.shared.now h k c.requires.ready (keeps-pages c.args.shared.now h k c.requires.ready c.import_new.ensures.of c.import_new.ensures.stays refl refl) c.requires.ready.pool c.requires.ready.settled.seated.lawful
+    ready-seat c.args.shared.now h k c.requires.ready (keeps-pages c.args.shared.now h k c.requires.ready c.import_new.ensures.of c.import_new.ensures.stays refl refl) c.requires.ready.pool (behaves-self (view h.seat) c.requires.ready.settled)
 
 pub returns-in_err-import_new-clause-idles : goal.returns-in_err-import_new-clause-idles
 returns-in_err-import_new-clause-idles g c = idles-self (view c.args.worker.now.seat) c.requires.ready.settled

@@ -50,3 +50,9 @@ pub take_known-requires-clause-all : goal.take_known-requires-clause-all
 take_known-requires-clause-all g c =
     let k = c.in_ok-known-in-Consequences.ensures.ok in let v = view c.args.seat.now in let w = view c.known.new.seat in
     (taken-over c.args.shared.now.mode v w k.0 c.known.ensures.stays k.2 c.args.search.now c.requires.going.0 c.in_ok-known-in-Consequences.field-0 c.in-Some-2.known c.requires.going.1 k.1 c.in-Some-2.is).all
+
+pub returns-in_err-known-in-Consequences-clause-idles : goal.returns-in_err-known-in-Consequences-clause-idles
+returns-in_err-known-in-Consequences-clause-idles g c = none-idles (view c.args.seat.now) (view c.known.new.seat) c.known.ensures.stays c.in_err-known-in-Consequences.ensures.err
+
+pub returns-in-Some-2-clause-idles : goal.returns-in-Some-2-clause-idles
+returns-in-Some-2-clause-idles g c = let k = c.in_ok-known-in-Consequences.ensures.ok in idles-call (view c.args.seat.now) (view c.known.new.seat) k.0 c.known.ensures.stays k.2

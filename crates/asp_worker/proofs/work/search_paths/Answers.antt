@@ -1,10 +1,13 @@
-use Rattle.std.proofs.Common.{◌<◌, refl, sym, ◌∙◌, subst}
+use Rattle.std.proofs.Common.{◌<◌, ℕ, Option, inl, inr, refl, sym, ◌∙◌, subst}
 use Rattle.asp_vault.specs.Seats.{view}
 use Rattle.asp_worker.specs.declared.path.Way.{Way}
 use Rattle.asp_worker.specs.declared.worker.Worker.{Worker}
+use Rattle.asp_book.specs.Calls.{Knows}
+use Rattle.asp_worker.specs.Seats.{IsQuietIf}
 use Rattle.asp_worker.specs.Working.{Ended}
-use Rattle.asp_worker.proofs.SeatLaws.{keeps-self, keeps-seat, keeps-trans, ready-seat, takes-some}
+use Rattle.asp_worker.proofs.SeatLaws.{keeps-self, keeps-seat, keeps-trans, placed-ready, ready-seat, takes-some}
 use Rattle.asp_worker.proofs.GoingLaws.{goes-on}
+use Rattle.asp_worker.proofs.OwnLaws.{quiet-later}
 use Rattle.asp_worker.proofs.work.search_paths.Goals as goal
 
 pub paths-init : goal.paths-init
@@ -27,13 +30,14 @@ try_path-requires-clause-going g c = goes-on c.args.shared.now.mode (view c.path
 pub paths-preserved : goal.paths-preserved
 paths-preserved g c =
     let h : Worker = c.paths.worker in let k : Worker = record h { seat = c.find.new.seat; lane = c.find.new.lane; pass = c.find.new.pass } in
+    let ended = subst (λ (x : Way). Ended (g.H.Halt.never c.args.halt.now → ⊥) c.args.shared.now.mode (view c.try_path.new.worker.seat) c.try_path.new.engine.search c.try_path.new.engine.fuel x) c.in-Closed.is c.try_path.ensures.going in
     record {
       keeps =
           keeps-trans c.args.worker.now k c.try_path.new.worker
           (keeps-trans c.args.worker.now h k c.paths.invariant.keeps (keeps-seat c.args.shared.now h k c.paths.invariant.ready c.find.ensures.of c.find.ensures.passes.stays refl refl)) c.try_path.ensures.keeps;
-      ready = c.try_path.ensures.ready;
+      ready = placed-ready c.args.shared.now c.try_path.new.worker c.try_path.ensures.placed ended.1;
       free = c.try_path.ensures.free;
-      going = subst (λ (x : Way). Ended c.args.shared.now.mode (view c.try_path.new.worker.seat) c.try_path.new.engine.search c.try_path.new.engine.fuel x) c.in-Closed.is c.try_path.ensures.going;
+      going = ended.0;
       read = c.try_path.ensures.read;
       heard = g.met.W.Watch.goes_on c.args.watch.now c.paths.watch c.try_path.new.watch c.paths.invariant.heard c.try_path.ensures.heard;
     }
@@ -43,3 +47,20 @@ returns-in-Left-clause-heard g c = g.met.W.Watch.goes_on c.args.watch.now c.path
 
 pub returns-in-Short-clause-heard : goal.returns-in-Short-clause-heard
 returns-in-Short-clause-heard g c = g.met.W.Watch.goes_on c.args.watch.now c.paths.watch c.try_path.new.watch c.paths.invariant.heard c.try_path.ensures.heard
+
+pub returns-in-Err-clause-cause : goal.returns-in-Err-clause-cause
+returns-in-Err-clause-cause g c = inr (inl refl)
+
+pub returns-in-None-found-clause-cause : goal.returns-in-None-found-clause-cause
+returns-in-None-found-clause-cause g c =
+    let v : Knows = view c.args.worker.now.seat in let u : Knows = view c.paths.worker.seat in let w : Knows = view c.find.new.seat in
+    inl (record {
+      quiet = quiet-later v.seen u.seen w c.paths.invariant.keeps.seat.seen (subst (λ (o : Option ℕ). IsQuietIf u.seen w o) c.in-None-found.is c.in-Ok.ensures.quiet);
+      tidy = c.find.ensures.passes.lawful.tidy c.paths.invariant.ready.tidy;
+    })
+
+pub returns-in-Left-clause-cause : goal.returns-in-Left-clause-cause
+returns-in-Left-clause-cause g c = inr (inr (subst (λ (x : Way). Ended (g.H.Halt.never c.args.halt.now → ⊥) c.args.shared.now.mode (view c.try_path.new.worker.seat) c.try_path.new.engine.search c.try_path.new.engine.fuel x) c.in-Left.is c.try_path.ensures.going))
+
+pub returns-in-Short-clause-cause : goal.returns-in-Short-clause-cause
+returns-in-Short-clause-cause g c = inr (inl refl)

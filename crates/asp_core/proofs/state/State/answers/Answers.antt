@@ -7,4 +7,4 @@ pub returns : goal.returns
 returns c =
     let i = c.self.inside in
     let none : sought i.goal ≡ None = ap (λ (b : Board). sought b.task.goal) c.self.view_is ∙ c.requires in
-    c.as_slice.ensures.value ∙ sym (in-list (sought i.goal) i.answers.items i.told.items none) ∙ ap (λ (b : Board). b.answers) c.self.view_is
+    sym (in-list (sought i.goal) i.answers.sets i.told.items none) ∙ ap (λ (b : Board). b.answers) c.self.view_is

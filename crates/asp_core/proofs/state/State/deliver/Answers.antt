@@ -18,13 +18,13 @@ invariant_of-self-in-Some-1 c =
     let k : Option Reasoning = sought i.goal in
     let p : Program = i.program.value in
     let S : Atoms = c.args.set in
-    let A : List Atoms = i.answers.items in
+    let A : List Atoms = i.answers.sets in
     let more : c.push_reserved.new.self.items ≡ i.told.items ++ S ∷ [] =
     c.push_reserved.ensures.items ∙ ap (λ (x : List Atoms). x ++ c.of.result ∷ []) c.in_ok-reserve-in-Some.ensures.items ∙ ap (λ (y : Atoms). i.told.items ++ y ∷ []) c.of.ensures in
     let s : Seen k p c.in-Some.known A i.told.items i.atoms.items = seen-some k p i.known c.in-Some.known A i.told.items i.atoms.items I.seen c.in-Some.is in
     let told : answers_in k A c.push_reserved.new.self.items ≡ answers_in k A i.told.items ++ S ∷ [] = ap (λ (x : List Atoms). answers_in k A x) more ∙ tell-in k s.reasoning A i.told.items S s.seeks in
     IsState-happens i (record i { told = c.push_reserved.new.self; known = Some c.in_ok-known-in-Some.known; different = c.count_in.new.different }) c.args.self.now (event.Deliver c.args.by c.args.set) I c.self.view_is c.requires
     (ap (λ (x : List Atoms). record (board_of i) { answers = x }) told)
-    refl refl I.costed
+    refl refl refl I.costed
     (sorted-delivered i.limit i.different.keys c.count_in.new.different.keys (answers_in k A i.told.items) (answers_in k A c.push_reserved.new.self.items) S I.sorted c.in_ok-count_in-in-Some.ensures.ok told)
     (seen-more k p c.in-Some.known c.in_ok-known-in-Some.known A i.told.items c.push_reserved.new.self.items S i.atoms.items s c.in_ok-known-in-Some.ensures more) I.room

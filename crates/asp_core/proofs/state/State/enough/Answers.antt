@@ -10,7 +10,7 @@ use Rattle.asp_core.proofs.state.State.enough.Goals as goal
 pub returns-then-self-ne0 : goal.returns-then-self-ne0
 returns-then-self-ne0 c =
     let i : Inside = c.self.inside in
-    let A : List Atoms = answers_in (sought i.goal) i.answers.items i.told.items in
+    let A : List Atoms = answers_in (sought i.goal) i.answers.sets i.told.items in
     let some : 0 < i.limit = omega arith in
     let many : c.len.result ≡ length (distinct A) = c.len.ensures.len ∙ ap length (c.self.invariant.sorted some) ∙ length-sorted_once A in
     ap (leb i.limit) many ∙ sym (ap (λ x. not x && leb i.limit (length (distinct A))) (ne_eqb i.limit 0 c.if-self-ne0.true)) ∙ ap is_enough c.self.view_is

@@ -6,15 +6,15 @@ use Rattle.asp_core.proofs.state.State.into_found.Goals as goal
 pub common-requires : goal.common-requires
 common-requires c =
     let i = c.self.inside in
-    seen-standing (sought i.goal) i.program.value i.known i.answers.items i.told.items i.atoms.items c.self.invariant.seen
+    seen-standing (sought i.goal) i.program.value i.known i.answers.sets i.told.items i.atoms.items c.self.invariant.seen
 
 pub returns-clause-answers : goal.returns-clause-answers
 returns-clause-answers c =
     let i = c.self.inside in
-    seen-listed (sought i.goal) i.program.value i.known i.answers.items i.told.items i.atoms.items c.self.invariant.seen ∙ ap (λ (b : Board). listed_by (sought b.task.goal) b.answers) c.self.view_is
+    seen-listed (sought i.goal) i.program.value i.known i.answers.sets i.told.items i.atoms.items c.self.invariant.seen ∙ ap (λ (b : Board). listed_by (sought b.task.goal) b.answers) c.self.view_is
 
 pub returns-clause-known : goal.returns-clause-known
 returns-clause-known c =
     let i = c.self.inside in
-    c.common.ensures ∙ seen-common (sought i.goal) i.program.value i.known i.answers.items i.told.items i.atoms.items c.self.invariant.seen
+    c.common.ensures ∙ seen-common (sought i.goal) i.program.value i.known i.answers.sets i.told.items i.atoms.items c.self.invariant.seen
     ∙ ap (λ (b : Board). common_by (sought b.task.goal) b.task.program b.answers) c.self.view_is

@@ -3,7 +3,9 @@ use Rattle.std.specs.Prelude.{ℤ}
 use Rattle.asp_model.specs.declared.program.Program.{Program}
 use Rattle.asp_model.specs.declared.results.Reasoning.{Reasoning}
 use Rattle.asp_model.specs.Sets.{Atoms}
+use Rattle.asp_model.specs.Models.{atoms_of}
 use Rattle.asp_vars.specs.Numbering.{literal_of}
+use Rattle.asp_rows.specs.Listed.{Listed}
 use Rattle.asp_path.specs.Trees.{root, held_count}
 use Rattle.asp_core.specs.declared.task.Task.{Task}
 use Rattle.asp_core.specs.Boards.{sought}
@@ -24,9 +26,10 @@ invariant_of-result c =
     let asked : c.from_vec.result ≡ q = c.from_vec.ensures ∙ c.in_ok-query.ensures.items in
     let nodes : c.in_ok-tree.tree ≡ root (map (literal_of p) (p.assumptions ++ q)) = c.in_ok-tree.ensures ∙ ap root c.in_ok-root.ensures in
     let none : held_count (root (map (literal_of p) (p.assumptions ++ q))) ≡ 0 = refl in
-    let told : answers_in r c.new.result.items c.new-2.result.items ≡ [] =
-    ap (λ (x : List Atoms). answers_in r x c.new-2.result.items) c.new.ensures.items ∙ ap (λ (x : List Atoms). answers_in r [] x) c.new-2.ensures.items ∙ in-none r in
-    let board : IsBoard (record { task = record { program = c.of.result.value; goal = c.args.goal; budget = c.args.budget; limit = c.args.limit; query = c.from_vec.result }; nodes = c.in_ok-tree.tree; answers = answers_in r c.new.result.items c.new-2.result.items; best = None; pool = c.args.budget; out = c.new-4.result.items; burnt = 0; reasons = c.new-5.result.items }) =
+    let listed : c.new.result.sets ≡ [] = ap (λ (l : Listed). l.sets) c.new.ensures in
+    let told : answers_in r c.new.result.sets c.new-2.result.items ≡ [] =
+    ap (λ (x : List Atoms). answers_in r x c.new-2.result.items) listed ∙ ap (λ (x : List Atoms). answers_in r [] x) c.new-2.ensures.items ∙ in-none r in
+    let board : IsBoard (record { task = record { program = c.of.result.value; goal = c.args.goal; budget = c.args.budget; limit = c.args.limit; query = c.from_vec.result }; nodes = c.in_ok-tree.tree; answers = answers_in r c.new.result.sets c.new-2.result.items; best = None; pool = c.args.budget; out = c.new-4.result.items; burnt = 0; reasons = c.new-5.result.items }) =
     subst IsBoard
     (sym (λ k. record { task = record { program = same k; goal = c.args.goal; budget = c.args.budget; limit = c.args.limit; query = asked k }; nodes = nodes k; answers = told k; best = None; pool = c.args.budget; out = c.new-4.ensures.items k; burnt = 0; reasons = c.new-5.ensures.items k }))
     (IsBoard-start t c.requires) in
@@ -36,10 +39,11 @@ invariant_of-result c =
       sound = c.in_ok-prices.ensures.sound;
       costed = tt;
       sorted = λ _. c.new-3.ensures.empty ∙ sym (ap sorted_once told);
-      seen = subst (λ (x : Program). IsSeen r x c.in_ok-known.known c.new.result.items c.new-2.result.items c.in_ok-atoms.atoms.items) (sym same)
-          (subst (λ (x : List Atoms). IsSeen r p c.in_ok-known.known x c.new-2.result.items c.in_ok-atoms.atoms.items) (sym c.new.ensures.items)
+      seen = subst (λ (x : Program). IsSeen r x c.in_ok-known.known c.new.result.sets c.new-2.result.items c.in_ok-atoms.atoms.items) (sym same)
+          (subst (λ (x : List Atoms). IsSeen r p c.in_ok-known.known x c.new-2.result.items c.in_ok-atoms.atoms.items) (sym listed)
           (subst (λ (x : List Atoms). IsSeen r p c.in_ok-known.known [] x c.in_ok-atoms.atoms.items) (sym c.new-2.ensures.items)
           (seen-start r p c.in_ok-known.known c.in_ok-atoms.atoms.items c.in_ok-known.ensures c.in_ok-atoms.ensures)));
+      among = ap (λ (l : Listed). l.atoms) c.new.ensures ∙ c.in_ok-listed.ensures ∙ c.atoms.ensures ∙ ap atoms_of (sym same);
       room = omega (arith, ap length c.new-5.ensures.items, ap held_count nodes, none);
     }
 
@@ -51,6 +55,7 @@ returns c =
     let same : c.of.result.value ≡ p = c.of.ensures ∙ c.program-program.ensures.program in
     let asked : c.from_vec.result ≡ q = c.from_vec.ensures ∙ c.in_ok-query.ensures.items in
     let nodes : c.in_ok-tree.tree ≡ root (map (literal_of p) (p.assumptions ++ q)) = c.in_ok-tree.ensures ∙ ap root c.in_ok-root.ensures in
-    let told : answers_in r c.new.result.items c.new-2.result.items ≡ [] =
-    ap (λ (x : List Atoms). answers_in r x c.new-2.result.items) c.new.ensures.items ∙ ap (λ (x : List Atoms). answers_in r [] x) c.new-2.ensures.items ∙ in-none r in
+    let listed : c.new.result.sets ≡ [] = ap (λ (l : Listed). l.sets) c.new.ensures in
+    let told : answers_in r c.new.result.sets c.new-2.result.items ≡ [] =
+    ap (λ (x : List Atoms). answers_in r x c.new-2.result.items) listed ∙ ap (λ (x : List Atoms). answers_in r [] x) c.new-2.ensures.items ∙ in-none r in
     λ k. record { task = record { program = same k; goal = c.args.goal; budget = c.args.budget; limit = c.args.limit; query = asked k }; nodes = nodes k; answers = told k; best = None; pool = c.args.budget; out = c.new-4.ensures.items k; burnt = 0; reasons = c.new-5.ensures.items k }

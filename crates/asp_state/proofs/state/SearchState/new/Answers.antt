@@ -18,8 +18,8 @@ keep_completion-requires-clause-program g c = ap (λ (f : Propagating). f.progra
 pub keep_completion-requires-clause-vars : goal.keep_completion-requires-clause-vars
 keep_completion-requires-clause-vars g c = c.in_ok-order.ensures.vars ∙ ap (λ (n : ℕ). n + 1) c.vars-vars.ensures.count
 
-pub begin_weighted-requires : goal.begin_weighted-requires
-begin_weighted-requires g c = given_vars c.args.compiled.now c.vars-vars.result c.in_ok-order.order c.keep_completion.new.order c.vars-vars.ensures.count c.in_ok-order.ensures.vars c.in_ok-keep_completion.ensures.order
+pub begin_unlisted-requires : goal.begin_unlisted-requires
+begin_unlisted-requires g c = given_vars c.args.compiled.now c.vars-vars.result c.in_ok-order.order c.keep_completion.new.order c.vars-vars.ensures.count c.in_ok-order.ensures.vars c.in_ok-keep_completion.ensures.order
 
 pub invariant_of-result : goal.invariant_of-result
 invariant_of-result g c =
@@ -27,7 +27,7 @@ invariant_of-result g c =
     let b = g.P.Propagator.bound c.args.propagator in
     let slots = c.keep_completion.new.engine.slots in
     let o = c.in_ok-order.ensures in
-    let first = given_first p c.vars-vars.result c.in_ok-order.order c.keep_completion.new.order c.prefer_cheap.new.order c.vars-vars.ensures.count o.fresh o.vars o.all c.in_ok-keep_completion.ensures.order (c.prefer_cheap.ensures ∙ c.begin_weighted.ensures) in
+    let first = given_first p c.vars-vars.result c.in_ok-order.order c.keep_completion.new.order c.prefer_cheap.new.order c.vars-vars.ensures.count o.fresh o.vars o.all c.in_ok-keep_completion.ensures.order (c.prefer_cheap.ensures ∙ c.begin_unlisted.ensures) in
     let same : c.keep_completion.new.engine ≡ record { program = p; entries = []; slots = slots; bound = b } =
     c.keep_completion.ensures.same
     ∙ ap (λ (f : Propagating). let e : Propagating = record f { slots = slots } in e) c.in_ok-engine.ensures
@@ -47,7 +47,7 @@ returns-clause-same g c =
     let b = g.P.Propagator.bound c.args.propagator in
     let slots = c.keep_completion.new.engine.slots in
     let o = c.in_ok-order.ensures in
-    let first = given_first p c.vars-vars.result c.in_ok-order.order c.keep_completion.new.order c.prefer_cheap.new.order c.vars-vars.ensures.count o.fresh o.vars o.all c.in_ok-keep_completion.ensures.order (c.prefer_cheap.ensures ∙ c.begin_weighted.ensures) in
+    let first = given_first p c.vars-vars.result c.in_ok-order.order c.keep_completion.new.order c.prefer_cheap.new.order c.vars-vars.ensures.count o.fresh o.vars o.all c.in_ok-keep_completion.ensures.order (c.prefer_cheap.ensures ∙ c.begin_unlisted.ensures) in
     let same : c.keep_completion.new.engine ≡ record { program = p; entries = []; slots = slots; bound = b } =
     c.keep_completion.ensures.same
     ∙ ap (λ (f : Propagating). let e : Propagating = record f { slots = slots } in e) c.in_ok-engine.ensures

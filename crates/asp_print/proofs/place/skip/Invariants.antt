@@ -1,5 +1,0 @@
-use Rattle.asp_print.specs.Places.{IsBehind}
-use Rattle.asp_print.proofs.place.skip.Given as goal
-
-abbrev pub invariant-loop-place : goal.invariant-loop-place
-invariant-loop-place l = IsBehind l.atoms l.place l.atom
