@@ -3,7 +3,7 @@ use Rattle.std.proofs.Common.{◌≡◌, ℕ, suc, zero, ◌+◌, ◌-◌, ◌/�
 use Rattle.std.proofs.lemmas.List.{length-set, length-map}
 use Rattle.asp_vars.specs.Literals.{Literal}
 use Rattle.asp_order.specs.Heaps.{Ranking, is_in, within, rescaled, bumped, decayed}
-use Rattle.asp_order.specs.Waiting.{IsOrder, fresh, all_bumped, learnt}
+use Rattle.asp_order.specs.Waiting.{IsOrder, fresh, all_bumped, aged, learnt}
 
 -- ---- filling
 -- the first k variables are in, and the m others not yet
@@ -66,6 +66,23 @@ all_bumped_alike h (l ∷ lits) = alike_still h (bumped h l.var) (all_bumped (bu
 pub learnt_alike : (old new : Ranking) (lits : List Literal) → new ≡ learnt old lits → IsAlike old new
 learnt_alike old new lits n =
     subst (IsAlike old) (sym n) (alike_still old (all_bumped old lits) (learnt old lits) (all_bumped_alike old lits) (decayed_alike (all_bumped old lits)))
+
+pub aged_alike : (h : Ranking) (times : ℕ) → IsAlike h (aged h times)
+unfolding aged
+aged_alike h zero = record { members = refl; vars = refl }
+aged_alike h (suc times) = alike_still h (aged h times) (decayed (aged h times)) (aged_alike h times) (decayed_alike (aged h times))
+
+-- once more
+pub aged_more : (h old new : Ranking) (times : ℕ) → old ≡ aged h times → new ≡ decayed old → new ≡ aged h (times + 1)
+unfolding aged
+aged_more h old new times o n = n ∙ ap decayed o ∙ ap (aged h) (one_more times)
+  where
+    one_more : (k : ℕ) → suc k ≡ k + 1
+    one_more k = omega arith
+
+pub aged_never : (h : Ranking) → h ≡ aged h 0
+unfolding aged
+aged_never h = refl
 
 pub alike_order : (old new : Ranking) → IsAlike old new → IsOrder old → IsOrder new
 alike_order old new a o = record {

@@ -1,5 +1,5 @@
 -- Which variables wait for a decision, and which of them is next.
-use Rattle.std.specs.Prelude.{◌≡◌, ℕ, ◌+◌, Bool, true, false, List, ◌∷◌, length, replicate, fold, Option, None, IsTrue, IsSome}
+use Rattle.std.specs.Prelude.{◌≡◌, ℕ, zero, suc, ◌+◌, Bool, true, false, List, ◌∷◌, length, replicate, fold, Option, None, IsTrue, IsSome}
 use Rattle.asp_vars.specs.Literals.{Literal, value_of}
 use Rattle.asp_trail.specs.declared.trail.Entry.{Entry}
 use Rattle.asp_trail.specs.Entries.{assignment}
@@ -45,3 +45,8 @@ all_bumped ranking lits = fold (λ h l. bumped h l.var) ranking lits
 -- A nogood with these literals was learnt.
 abbrev pub learnt : Ranking → List Literal → Ranking
 learnt ranking lits = decayed (all_bumped ranking lits)
+
+-- What was bumped counts for less: the increment has grown so many times.
+unfoldable pub aged : Ranking → ℕ → Ranking
+aged ranking zero = ranking
+aged ranking (suc times) = decayed (aged ranking times)

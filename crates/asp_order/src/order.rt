@@ -8,7 +8,7 @@ ghost use Rattle.asp_trail.specs.declared.trail.Entry.{Entry};
 ghost use Rattle.asp_trail.specs.Entries.{assignment, cut};
 ghost use Rattle.asp_trail.specs.Trails.{IsVar};
 ghost use Rattle.asp_order.specs.Heaps.{is_in, IsFirst, reserved};
-ghost use Rattle.asp_order.specs.Waiting.{HasVars, AreWaiting, AreAssigned, IsNext, IsFuller, fresh, all_bumped, learnt};
+ghost use Rattle.asp_order.specs.Waiting.{HasVars, AreWaiting, AreAssigned, IsNext, IsFuller, fresh, all_bumped, aged, learnt};
 
 use crate::heap::Heap;
 use crate::phases::Phases;
@@ -68,6 +68,15 @@ fn bump_and_decay(heap: &mut Heap, lits: &[Lit], met: &[Lit])
     heap.decay();
 }
 
+// Lets later bumps count for more, so many times.
+fn decay_all(heap: &mut Heap, times: u32)
+    ensures { heap.new ≡ aged heap.old times }
+{
+    for _ in 0..times {
+        heap.decay();
+    }
+}
+
 impl Order {
     /// All variables, with the activity 0.
     pub fn new(alloc: Global, vars: Var) -> Result<Order, AllocError>
@@ -88,6 +97,14 @@ impl Order {
         ensures { self.new ≡ all_bumped self.old lits.now }
     {
         bump_all(&mut self.heap, lits);
+    }
+
+    /// What was bumped before counts for less from now on: each time by a seventeenth, since the increment grows by its
+    /// sixteenth.
+    pub fn age(&mut self, times: u32)
+        ensures { self.new ≡ aged self.old times }
+    {
+        decay_all(&mut self.heap, times);
     }
 
     /// The variable has this value when it is first decided.

@@ -12,9 +12,9 @@ use Rattle.asp_vars.specs.declared.nogood.Nogood.{Nogood}
 use Rattle.asp_trail.specs.Trails.{IsVar}
 use Rattle.asp_complete.specs.Listed.{pure}
 use Rattle.asp_order.specs.Heaps.{Ranking, is_in}
-use Rattle.asp_order.specs.Waiting.{HasVars, fresh}
-use Rattle.asp_order.proofs.HeapLaws.{IsAlike, all_bumped_alike, alike_still}
-use Rattle.asp_state.specs.SearchStates.{first_ranking, with_places, unlisted_literals, with_bodies, with_unlisted}
+use Rattle.asp_order.specs.Waiting.{HasVars, fresh, aged}
+use Rattle.asp_order.proofs.HeapLaws.{IsAlike, aged_alike, all_bumped_alike, alike_still}
+use Rattle.asp_state.specs.SearchStates.{completed_ranking, first_ranking, with_places, unlisted_literals, with_bodies, with_unlisted}
 
 -- the same variables are in the heap
 pub places_alike : (r : Ranking) (ns : List Nogood) → IsAlike r (fold (λ (x : Ranking) (n : Nogood). with_places x n.lits) r ns)
@@ -58,24 +58,27 @@ bodies_more p r old new i d lt before made =
 pub bodies-vars : (p : Program) (n i : ℕ) (r old : Ranking) → old ≡ with_bodies p r (take i (bodies_of p)) → HasVars n r → HasVars n old
 bodies-vars p n i r old e h = subst (HasVars n) (sym e) ((bodies_alike p r (take i (bodies_of p))).vars ∙ h)
 
--- the ranking when the completion was given, from one in which all variables wait, and then the bodies whose definitions aren't listed
+-- the ranking before the completion is given: bodies whose definitions it doesn't list were bumped, and it has aged
+pub aged-vars : (p : Program) (n times : ℕ) (old unlisted later : Ranking) → unlisted ≡ with_unlisted p old → later ≡ aged unlisted times → HasVars n old → HasVars n later
+aged-vars p n times old unlisted later made older h = subst (HasVars n) (sym older) ((aged_alike unlisted times).vars ∙ unlisted-vars p n old unlisted made h)
+
+aged-members : (p : Program) (times : ℕ) (old unlisted later : Ranking) → unlisted ≡ with_unlisted p old → later ≡ aged unlisted times → later.members ≡ old.members
+aged-members p times old unlisted later made older = ap (λ (r : Ranking). r.members) older ∙ (aged_alike unlisted times).members ∙ unlisted-members p old unlisted made
+
+-- the ranking when the completion was given, from one in which all variables wait
 pub record IsFirst (p : Program) (ranking : Ranking) : Type 0 where
   pub first : ranking ≡ first_ranking p
   pub vars : HasVars (var_count p) ranking
   pub all : (v : ℕ) → IsVar (var_count p) v → IsTrue (is_in ranking.members v)
 
-pub given_vars : (p : Program) (vars : ℕ) (before given : Ranking) → vars ≡ var_count p → HasVars vars before → given ≡ fold with_places before (completion p) → HasVars (var_count p) given
-given_vars p vars before given count has is =
-    let alike : IsAlike before given = subst (IsAlike before) (places_listed before (completion p) ∙ sym is) (places_alike before (map pure (completion p))) in
-    alike.vars ∙ (has ∙ ap (λ (n : ℕ). n + 1) count)
-
-pub given_first : (p : Program) (vars : ℕ) (before given after : Ranking) → vars ≡ var_count p → before ≡ fresh vars → HasVars vars before → ((v : ℕ) → IsVar vars v → IsTrue (is_in before.members v))
-    → given ≡ fold with_places before (completion p) → after ≡ with_unlisted p given → IsFirst p after
-given_first p vars before given after count start has all is unlisted =
-    let alike : IsAlike before given = subst (IsAlike before) (places_listed before (completion p) ∙ sym is) (places_alike before (map pure (completion p))) in
-    let members : after.members ≡ before.members = unlisted-members p given after unlisted ∙ alike.members in
+pub given_first : (p : Program) (vars : ℕ) (before unlisted later given : Ranking) → vars ≡ var_count p → before ≡ fresh vars → HasVars vars before → ((v : ℕ) → IsVar vars v → IsTrue (is_in before.members v))
+    → unlisted ≡ with_unlisted p before → later ≡ aged unlisted 34 → given ≡ completed_ranking p later → IsFirst p given
+given_first p vars before unlisted later given count start has all made older is =
+    let alike : IsAlike later given = subst (IsAlike later) (places_listed later (completion p) ∙ sym is) (places_alike later (map pure (completion p))) in
+    let begun : later ≡ aged (with_unlisted p (fresh (var_count p))) 34 = older ∙ ap (λ (r : Ranking). aged r 34) (made ∙ ap (with_unlisted p) (start ∙ ap fresh count)) in
+    let members : given.members ≡ before.members = alike.members ∙ aged-members p 34 before unlisted later made older in
     record {
-      first = unlisted ∙ ap (with_unlisted p) (is ∙ ap (λ (r : Ranking). fold with_places r (completion p)) (start ∙ ap fresh count));
-      vars = unlisted-vars p (var_count p) given after unlisted (given_vars p vars before given count has is);
+      first = is ∙ ap (completed_ranking p) begun;
+      vars = alike.vars ∙ (aged-vars p vars 34 before unlisted later made older has ∙ ap (λ (n : ℕ). n + 1) count);
       all = λ v iv. subst (λ (ms : List Bool). is_in ms v ≡ true) (sym members) (all v (subst (λ (n : ℕ). IsVar n v) (sym count) iv));
     }

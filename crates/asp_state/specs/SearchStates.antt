@@ -16,7 +16,7 @@ use Rattle.asp_store.specs.declared.stored_nogood.StoredNogood.{StoredNogood}
 use Rattle.asp_store.specs.declared.stored_nogood.Kind.TheVariants as kind
 use Rattle.asp_store.specs.Keeping.{kept_at}
 use Rattle.asp_order.specs.Heaps.{Ranking}
-use Rattle.asp_order.specs.Waiting.{HasVars, AreWaiting, fresh, all_bumped}
+use Rattle.asp_order.specs.Waiting.{HasVars, AreWaiting, fresh, all_bumped, aged}
 use Rattle.asp_trail_laws.specs.Starts.{AreStarts}
 use Rattle.asp_trail_laws.specs.Fixpoint.{WereAtFixpoint}
 use Rattle.asp_propagate.specs.Propagating.{Propagating}
@@ -56,9 +56,9 @@ pub record IsUnder (t : SearchView) (cube : List Literal) : Type 0 where
 abbrev pub with_places : Ranking → List Literal → Ranking
 with_places ranking n = all_bumped ranking n
 
--- a bump for each place where a variable stands in a nogood of the completion
-abbrev pub completed_ranking : Program → Ranking
-completed_ranking p = fold with_places (fresh (var_count p)) (completion p)
+-- with a bump for each place where a variable stands in a nogood of the completion
+abbrev pub completed_ranking : Program → Ranking → Ranking
+completed_ranking p ranking = fold with_places ranking (completion p)
 
 -- whether the completion doesn't list the body's definition: of a weight body it has nothing, and of a constraint's the literals alone
 abbrev pub is_unlisted : Program → Body → Bool
@@ -76,9 +76,10 @@ with_bodies p ranking bodies = fold (λ r b. with_places r (unlisted_literals p 
 abbrev pub with_unlisted : Program → Ranking → Ranking
 with_unlisted p ranking = with_bodies p ranking (bodies_of p)
 
--- a bump for each place where a variable stands in a nogood of the completion, or in a body whose definition isn't listed
+-- A bump for each place where a variable stands in a body whose definition isn't listed, and then one for each place in a nogood of the
+-- completion, which counts about eight times as much.
 abbrev pub first_ranking : Program → Ranking
-first_ranking p = with_unlisted p (completed_ranking p)
+first_ranking p = completed_ranking p (aged (with_unlisted p (fresh (var_count p))) 34)
 
 -- ---- what every state keeps
 -- what is kept forever

@@ -7,7 +7,7 @@ use Rattle.asp_order.specs.Heaps.{Ranking}
 use Rattle.asp_store.specs.declared.stored_nogood.StoredNogood.{StoredNogood}
 use Rattle.asp_propagate.specs.Propagating.{Propagating}
 use Rattle.asp_state.specs.SearchStates.{AddsForever, SearchView, first_ranking}
-use Rattle.asp_state.proofs.BegunLaws.{given_first, given_vars}
+use Rattle.asp_state.proofs.BegunLaws.{aged-vars, given_first}
 use Rattle.asp_state.proofs.KeepLaws.{IsSearchView}
 use Rattle.asp_state.proofs.SlotLaws.{completed_alone}
 use Rattle.asp_state.proofs.state.SearchState.new.Goals as goal
@@ -16,10 +16,12 @@ pub keep_completion-requires-clause-program : goal.keep_completion-requires-clau
 keep_completion-requires-clause-program g c = ap (λ (f : Propagating). f.program) c.in_ok-engine.ensures ∙ c.requires.program
 
 pub keep_completion-requires-clause-vars : goal.keep_completion-requires-clause-vars
-keep_completion-requires-clause-vars g c = c.in_ok-order.ensures.vars ∙ ap (λ (n : ℕ). n + 1) c.vars-vars.ensures.count
+keep_completion-requires-clause-vars g c =
+    aged-vars c.args.compiled.now c.vars-vars.result 34 c.in_ok-order.order c.begin_unlisted.new.order c.age.new.self c.begin_unlisted.ensures c.age.ensures c.in_ok-order.ensures.vars
+    ∙ ap (λ (n : ℕ). n + 1) c.vars-vars.ensures.count
 
 pub begin_unlisted-requires : goal.begin_unlisted-requires
-begin_unlisted-requires g c = given_vars c.args.compiled.now c.vars-vars.result c.in_ok-order.order c.keep_completion.new.order c.vars-vars.ensures.count c.in_ok-order.ensures.vars c.in_ok-keep_completion.ensures.order
+begin_unlisted-requires g c = c.in_ok-order.ensures.vars ∙ ap (λ (n : ℕ). n + 1) c.vars-vars.ensures.count
 
 pub invariant_of-result : goal.invariant_of-result
 invariant_of-result g c =
@@ -27,7 +29,7 @@ invariant_of-result g c =
     let b = g.P.Propagator.bound c.args.propagator in
     let slots = c.keep_completion.new.engine.slots in
     let o = c.in_ok-order.ensures in
-    let first = given_first p c.vars-vars.result c.in_ok-order.order c.keep_completion.new.order c.prefer_cheap.new.order c.vars-vars.ensures.count o.fresh o.vars o.all c.in_ok-keep_completion.ensures.order (c.prefer_cheap.ensures ∙ c.begin_unlisted.ensures) in
+    let first = given_first p c.vars-vars.result c.in_ok-order.order c.begin_unlisted.new.order c.age.new.self c.prefer_cheap.new.order c.vars-vars.ensures.count o.fresh o.vars o.all c.begin_unlisted.ensures c.age.ensures (c.prefer_cheap.ensures ∙ c.in_ok-keep_completion.ensures.order) in
     let same : c.keep_completion.new.engine ≡ record { program = p; entries = []; slots = slots; bound = b } =
     c.keep_completion.ensures.same
     ∙ ap (λ (f : Propagating). let e : Propagating = record f { slots = slots } in e) c.in_ok-engine.ensures
@@ -47,7 +49,7 @@ returns-clause-same g c =
     let b = g.P.Propagator.bound c.args.propagator in
     let slots = c.keep_completion.new.engine.slots in
     let o = c.in_ok-order.ensures in
-    let first = given_first p c.vars-vars.result c.in_ok-order.order c.keep_completion.new.order c.prefer_cheap.new.order c.vars-vars.ensures.count o.fresh o.vars o.all c.in_ok-keep_completion.ensures.order (c.prefer_cheap.ensures ∙ c.begin_unlisted.ensures) in
+    let first = given_first p c.vars-vars.result c.in_ok-order.order c.begin_unlisted.new.order c.age.new.self c.prefer_cheap.new.order c.vars-vars.ensures.count o.fresh o.vars o.all c.begin_unlisted.ensures c.age.ensures (c.prefer_cheap.ensures ∙ c.in_ok-keep_completion.ensures.order) in
     let same : c.keep_completion.new.engine ≡ record { program = p; entries = []; slots = slots; bound = b } =
     c.keep_completion.ensures.same
     ∙ ap (λ (f : Propagating). let e : Propagating = record f { slots = slots } in e) c.in_ok-engine.ensures
