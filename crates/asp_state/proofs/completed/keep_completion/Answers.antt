@@ -1,10 +1,8 @@
-use Rattle.std.proofs.Common.{◌≡◌, ◌∙◌, ℕ, ◌+◌, ◌≤◌, List, length, fold, map, ap, sym, subst, arith, refl}
+use Rattle.std.proofs.Common.{◌∙◌, ℕ, ◌+◌, ◌≤◌, List, length, fold, map, ap, sym, subst, arith, refl}
 use Rattle.std.proofs.lemmas.List.Sums.{fold-append}
-use Rattle.asp_model.specs.declared.program.Program.{Program}
-use Rattle.asp_vars.specs.Numbering.{var_count}
 use Rattle.asp_vars.specs.declared.nogood.Nogood.{Nogood}
 use Rattle.asp_vars.specs.Literals.{Literal}
-use Rattle.asp_complete.specs.Listed.{groups, nogoods_between, pure}
+use Rattle.asp_complete.specs.Listed.{nogoods_between, pure}
 use Rattle.asp_complete.proofs.ListedLaws.{between_all, between_more}
 use Rattle.asp_order.specs.Heaps.{Ranking}
 use Rattle.asp_propagate.specs.Propagating.{Propagating}

@@ -1,12 +1,12 @@
-use Rattle.std.proofs.Common.{◌≡◌, ◌∙◌, ℕ, ◌+◌, List, length, fold, get_or, map, ap, sym, subst}
+use Rattle.std.proofs.Common.{◌∙◌, List, length, fold, get_or, ap, sym, subst}
 use Rattle.std.specs.List.{All}
 use Rattle.asp_model.specs.declared.program.Program.{Program}
 use Rattle.asp_vars.specs.Numbering.{var_count}
 use Rattle.asp_vars.specs.declared.nogood.Nogood.{Nogood}
 use Rattle.asp_trail.specs.Trails.{IsVar}
-use Rattle.asp_complete.specs.Listed.{nogoods_between, pure}
+use Rattle.asp_complete.specs.Listed.{nogoods_between}
 use Rattle.asp_order.specs.Heaps.{Ranking}
-use Rattle.asp_state.specs.SearchStates.{AddsForever, AreOf, with_places}
+use Rattle.asp_state.specs.SearchStates.{AreOf, with_places}
 use Rattle.asp_state.proofs.ListedLaws.{vars_between}
 use Rattle.asp_state.proofs.BegunLaws.{places_listed, vars_ranked}
 use Rattle.asp_state.proofs.completed.keep_part.Goals as goal
