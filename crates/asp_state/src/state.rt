@@ -41,9 +41,9 @@ use std::alloc::{AllocError, Global};
 use std::marker::Model;
 
 // How often the order ages between the bumps for places in bodies whose definitions the completion doesn't list and those
-// for places in the completion. The increment grows by its sixteenth each time, and (17/16)^34 is about 8: a literal of a
-// constraint's body stands in one nogood, and would count as much as one of a rule's body, which stands in two nogoods and
-// has others above it. Measured with an eighth against the whole: fewer conflicts, in programs left out of the choice too.
+// for places in the completion. The increment grows by its sixteenth each time, and (17/16)^34 is about 8. With a whole
+// bump a literal of a constraint's body, which stands in one nogood, would count as much as one of a rule's body, which
+// stands in two; with an eighth programs take fewer conflicts, those left out of the choice too.
 const AGE: u32 = 34;
 
 /// A trail with its cube and its decisions, the nogoods kept, and the order of further decisions.
