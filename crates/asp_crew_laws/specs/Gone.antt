@@ -68,7 +68,7 @@ pub record IsThrough (t : Task) (n : ℕ) (begun journal : List Event) : Type 0 
   pub late : (mid : List Event) × (quiet.before ≡ begun ++ mid)
   pub kept : AllByRecursion (λ e. maker e ≡ n → IsRelease e → ⊥) journal
 
--- Memory or units were wanting, as many answers as asked for were delivered, or somebody was stopped.
+-- Memory or units were wanting, as many answers as asked for were delivered, or nobody says that none is ever stopped.
 abbrev pub IsCut : Task → Bool → Bool → List Event → Type 0
 IsCut t short never journal = (short ≡ true) ⊎ (Was IsEmpty t journal ⊎ (Was IsEnough t journal ⊎ (never ≡ true → ⊥)))
 

@@ -51,7 +51,7 @@ pub record IsHome (v : Knows) (n : ℕ) : Type 0 where
 abbrev pub LeftBy : Knows → Bool → Bool → List Event → ℕ → Type 0
 LeftBy v short never begun n = IsGone (task_of v) short never n begun v.seen
 
--- The worker's number is at home, and left the leaves that it took as a worker does. `stopped` says that somebody stopped it.
+-- The worker's number is at home, and left the leaves that it took as a worker does. `stopped` says that somebody may have stopped it.
 pub record CameHome (stopped : Type 0) (l : Lead) (h : Worker) : Type 0 where
   pub home : IsHome (view l.seat) (view h.seat).number
   pub gone : (never : Bool) → (never ≡ true → stopped → ⊥) → LeftBy (view l.seat) l.short never (view h.seat).seen (view h.seat).number

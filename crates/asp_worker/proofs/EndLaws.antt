@@ -1,6 +1,5 @@
 -- A worker's beginning and its end.
-use Rattle.std.proofs.Common.{◌≡◌, inl, inr, ℕ, ◌+◌, ◌≤◌, Bool, true, false, cond, eqb, List, [], ◌∷◌, None, refl, sym, ap, ◌∙◌, subst, arith}
-use Rattle.std.specs.List.{AllByRecursion}
+use Rattle.std.proofs.Common.{◌≡◌, inl, inr, ℕ, ◌+◌, Bool, true, false, cond, eqb, List, [], ◌∷◌, None, refl, sym, ap, ◌∙◌, subst, arith}
 use Rattle.std.proofs.lemmas.Bool.{eqb-true, false≢true}
 use Rattle.asp_model.specs.declared.program.Program.{Program}
 use Rattle.asp_model.specs.declared.results.Mode.{Mode}
@@ -12,7 +11,7 @@ use Rattle.asp_core.specs.declared.event.Event.TheVariants as event
 use Rattle.asp_core.specs.declared.task.Task.{Task}
 use Rattle.asp_core.specs.Boards.{Board, goal_of, is_enough}
 use Rattle.asp_core.specs.Units.{out_of, returned}
-use Rattle.asp_core.specs.Events.{held_by, happens, maker, replay}
+use Rattle.asp_core.specs.Events.{held_by, happens, replay}
 use Rattle.asp_book.specs.Calls.{Knows, task_of, seen_board, IsCall}
 use Rattle.asp_book.specs.Fuels.{ComesBack}
 use Rattle.asp_book.specs.Replies.{given_back}
@@ -23,7 +22,7 @@ use Rattle.asp_crew_laws.specs.Runs.{IsBack}
 use Rattle.asp_crew_laws.proofs.WorkLaws.{work-begins}
 use Rattle.asp_worker.specs.declared.worker.Worker.{Worker}
 use Rattle.asp_worker.specs.declared.worker.Shared.{Shared}
-use Rattle.asp_worker.specs.Seats.{IsReady, MayWork, IsSettled, IsRunOf, IsIdle, IsFree, IsTidy, Idles, HasCause, IsThroughSince, Owes, OwnAre, WasStopped}
+use Rattle.asp_worker.specs.Seats.{IsReady, MayWork, IsSettled, IsRunOf, IsIdle, IsFree, IsTidy, Idles, HasCause, Owes, OwnAre, WasStopped}
 use Rattle.asp_worker.specs.Working.{GoesOn}
 use Rattle.asp_worker.proofs.OwnLaws.{By, others-own, own-weaker, own-call, quiet-call, was-on}
 use Rattle.asp_worker.proofs.GoingLaws.{owes-by}

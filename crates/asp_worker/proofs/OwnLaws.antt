@@ -14,7 +14,7 @@ use Rattle.asp_core.specs.declared.event.Event.{Event}
 use Rattle.asp_core.specs.declared.task.Task.{Task}
 use Rattle.asp_core.specs.Boards.{Board}
 use Rattle.asp_core.specs.Events.{maker, replay}
-use Rattle.asp_book.specs.Books.{signed, IsJournalOf}
+use Rattle.asp_book.specs.Books.{signed}
 use Rattle.asp_book.specs.Calls.{Knows, task_of, seen_board, IsCall}
 use Rattle.asp_book.proofs.CallLaws.{task-stays, lawful-after}
 use Rattle.asp_crew_laws.specs.Runs.{IsBack}

@@ -1,7 +1,6 @@
 -- A worker on its path, after what a step asked for.
-use Rattle.std.proofs.Common.{◌≡◌, ℕ, List, Option, Some, sym, ap, ◌∙◌, subst}
+use Rattle.std.proofs.Common.{◌≡◌, ℕ, List, Some, sym, ap, ◌∙◌, subst}
 use Rattle.std.specs.Prelude.{slice_index_or, false}
-use Rattle.std.specs.Option.{IfSome}
 use Rattle.asp_model.specs.declared.program.Program.{Program}
 use Rattle.asp_model.specs.declared.results.Mode.{Mode}
 use Rattle.asp_vars.specs.Literals.{Literal}
@@ -11,9 +10,7 @@ use Rattle.asp_vault.specs.Seats.{view}
 use Rattle.asp_path.specs.declared.status.Status.TheVariants as status
 use Rattle.asp_path.specs.Trees.{Node, nowhere, cube_of}
 use Rattle.asp_pool.specs.Pools.{IsOfPool}
-use Rattle.asp_core.specs.declared.task.Task.{Task}
 use Rattle.asp_core.specs.Events.{has_var, IsVariable}
-use Rattle.asp_book.proofs.CallLaws.{task-stays}
 use Rattle.asp_search.specs.Beside.{IsOpen}
 use Rattle.asp_book.specs.Calls.{Knows, task_of, seen_board}
 use Rattle.asp_search_laws.specs.Searching.{Searching}

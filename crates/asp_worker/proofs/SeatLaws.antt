@@ -1,10 +1,10 @@
 -- What a call at the desk tells of the seat that made it.
-use Rattle.std.proofs.Common.{◌≡◌, ℕ, ◌+◌, ◌<◌, ◌≤◌, Bool, true, false, cond, eqb, List, [], ◌∷◌, ◌++◌, length, drop, append_assoc, Option, Some, None, Result, Ok, Err, refl, sym, ap, ◌∙◌, subst, arith}
+use Rattle.std.proofs.Common.{◌≡◌, ℕ, ◌+◌, ◌<◌, ◌≤◌, Bool, true, false, cond, List, [], ◌∷◌, ◌++◌, length, drop, append_assoc, Option, Some, None, Result, Ok, Err, refl, sym, ap, ◌∙◌, subst, arith}
 use Rattle.std.specs.Prelude.{slice_index_or, unwrap_or, is_some, ℤ}
 use Rattle.std.specs.Option.{IfSome}
 use Rattle.std.specs.Result.{IfOk, OnOk, OnErr, IsErr}
 use Rattle.std.specs.declared.alloc.AllocError.{AllocError}
-use Rattle.std.specs.List.{All, AllByRecursion}
+use Rattle.std.specs.List.{All}
 use Rattle.std.proofs.lemmas.Bool.{false≢true, eq-eqb}
 use Rattle.std.proofs.lemmas.List.{append-nil, length-set, get_or-set_same, get_or-append-add}
 use mathlib.Core.List.{IsPrefix}
@@ -21,14 +21,14 @@ use Rattle.asp_vault.proofs.Filters.{drop_prefix}
 use Rattle.asp_vault.proofs.Prefixes.{prefix_self, prefix_trans}
 use Rattle.asp_path.specs.declared.status.Status.{Status}
 use Rattle.asp_path.specs.declared.status.Status.TheVariants as status
-use Rattle.asp_path.specs.Trees.{Node, is_leaf, is_held_by, nowhere, cube_of, status_of, with_status, split, open_from}
+use Rattle.asp_path.specs.Trees.{Node, is_leaf, is_held_by, nowhere, cube_of, status_of, with_status, split}
 use Rattle.asp_path.proofs.TreeLaws.{leaf-within}
 use Rattle.asp_core.specs.declared.event.Event.{Event}
 use Rattle.asp_core.specs.declared.event.Event.TheVariants as event
 use Rattle.asp_core.specs.declared.task.Task.{Task}
 use Rattle.asp_core.specs.Units.{out_of}
 use Rattle.asp_core.specs.Boards.{Board, start, IsQuery}
-use Rattle.asp_core.specs.Events.{Guard, happens, held_by, maker, run, IsLawful, replay}
+use Rattle.asp_core.specs.Events.{Guard, happens, held_by, run, IsLawful, replay}
 use Rattle.asp_core.specs.Growth.{Grows, Spares}
 use Rattle.asp_core.specs.Invariant.{IsBoard}
 use Rattle.asp_core.proofs.BoardLaws.{held-changed}
@@ -39,7 +39,6 @@ use Rattle.asp_book.specs.Books.{signed, IsJournalOf}
 use Rattle.asp_book.specs.Calls.{Knows, no_task, task_of, seen_board, IsCall}
 use Rattle.asp_book.specs.Replies.{taken, taken_this, divided}
 use Rattle.asp_book.proofs.CallLaws.{others-are, run-append, lawful-rest, task-stays, seen-after, lawful-after}
-use Rattle.asp_crew_laws.specs.Runs.{IsBack}
 use Rattle.asp_pool.specs.Pools.{IsOfPool}
 use Rattle.asp_worker.specs.declared.worker.Worker.{Worker}
 use Rattle.asp_worker.specs.declared.worker.Shared.{Shared}
