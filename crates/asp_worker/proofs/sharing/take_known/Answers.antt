@@ -1,7 +1,5 @@
-use Rattle.std.proofs.Common.{sym, ◌∙◌, ap, subst, true, false, Bool}
-use Rattle.std.specs.Prelude.{MatchBool}
-use Rattle.asp_search.specs.Beside.{count_unshown, left_to_show}
-use Rattle.asp_worker.specs.Sharing.{is_fewer}
+use Rattle.std.proofs.Common.{sym, ◌∙◌}
+use Rattle.asp_search.specs.Beside.{left_to_show}
 use Rattle.asp_worker.proofs.GoingLaws.{fewer-some}
 use Rattle.asp_worker.proofs.sharing.take_known.Goals as goal
 

@@ -1,7 +1,5 @@
 use Rattle.std.proofs.Common.{ap, ◌∙◌}
-use Rattle.asp_search_laws.specs.Searching.{Searching}
 use Rattle.asp_search.specs.Beside.{left_to_show}
-use Rattle.asp_search.specs.Invariants.{answers_known}
 use Rattle.asp_search.proofs.CoverLaws.{left-none, left-some}
 use Rattle.asp_search.proofs.search.Search.unshown_atoms.Goals as goal
 
