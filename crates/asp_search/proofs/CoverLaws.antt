@@ -1,6 +1,6 @@
 -- The nogood that a search for consequences keeps leaves out exactly what shows nothing beside the answers known.
 use Rattle.std.proofs.Common.{◌≡◌, ◌≢◌, ℕ, ◌+◌, ◌<◌, set, take, Bool, true, false, cond, not, ◌&&◌, ◌||◌, List, [], ◌∷◌, ◌++◌, length, get_or, map, filter, Option, Some, None, IsSome, inl, inr, ◌⊎◌, refl, sym, ap, ◌∙◌, subst, arith}
-use Rattle.std.specs.Prelude.{ℤ}
+use Rattle.std.specs.Prelude.{ℤ, is_some, slice_get}
 use Rattle.std.specs.List.{All, AllByRecursion, list_any}
 use Rattle.std.proofs.lemmas.Bool.{false≢true, or_left}
 use Rattle.std.proofs.lemmas.List.{length-append, get_or_append_left}
@@ -42,9 +42,9 @@ use Rattle.asp_search_laws.specs.Keeping.{AreBlocking, AreExcluded, AreUseful, I
 use Rattle.asp_search_laws.specs.Steps.{Answers, covering_nogood, unshown_literal}
 use Rattle.asp_search_laws.proofs.SlotLaws.{added_apart, added_each, blocking_pop, blocking_push, blocking_stay, grows_forever, kept_within, removed_blocking, removed_none, removed_other}
 use Rattle.asp_state.specs.SearchStates.{SearchView}
-use Rattle.asp_search.specs.Beside.{Adopts}
+use Rattle.asp_search.specs.Beside.{Adopts, count_unshown, unshown_by}
 use Rattle.asp_search.specs.Blocking.{Covers, Spares}
-use Rattle.asp_search.specs.Invariants.{IsSearch, IsSeen, view_of}
+use Rattle.asp_search.specs.Invariants.{IsSearch, IsSeen, answers_known, view_of}
 use Rattle.asp_search.specs.Stepping.{IsFound}
 use Rattle.asp_search.proofs.BlockLaws.{init_last}
 use Rattle.asp_search.proofs.StepsLaws.{blocking_hits}
@@ -343,6 +343,32 @@ seen_by m p seen x is e = here (reasoning_of m) refl (subst (IsSeen (reasoning_o
 
 pub still_seen : (m : Mode) (p : Program) (x : Knowing) → IsSeenBy m p x → IsSeen (reasoning_of m) p (Some x)
 still_seen m p x s = subst (λ (k : Option Reasoning). IsSeen k p (Some x)) (sym s.reasoning) (s.program, refl)
+
+-- ---- how many atoms are still to be shown
+pub counted-some : (r : Reasoning) (p : Program) (K : List Atoms) (b : Bool) → b ≡ is_some (slice_get K 0) → b ≡ true → Some (length (unshown r p K)) ≡ count_unshown r p K
+counted-some r p [] b e h = absurd (false≢true (sym e ∙ h))
+counted-some r p (S ∷ K) b e h = refl
+
+pub counted-none : (r : Reasoning) (p : Program) (K : List Atoms) (b : Bool) → b ≡ is_some (slice_get K 0) → b ≡ false → None ≡ count_unshown r p K
+counted-none r p [] b e h = refl
+counted-none r p (S ∷ K) b e h = absurd (false≢true (sym h ∙ e))
+
+pub left-some : (m : Mode) (p q : Program) (K : List Atoms) (seen : Option Knowing) (x : Knowing) → p ≡ q → IsSeen (reasoning_of m) p seen → seen ≡ Some x →
+    count_unshown x.reasoning x.program x.sets ≡ unshown_by (reasoning_of m) q (answers_known K seen)
+left-some m p q K seen x same is e =
+    let by = seen_by m p seen x is e in
+    ap (λ (y : Program). count_unshown x.reasoning y x.sets) (by.program ∙ same)
+    ∙ ap (λ (k : Option Reasoning). unshown_by k q x.sets) (sym by.reasoning)
+    ∙ ap (λ (o : Option Knowing). unshown_by (reasoning_of m) q (answers_known K o)) (sym e)
+
+pub left-none : (m : Mode) (p q : Program) (K : List Atoms) (seen : Option Knowing) → IsSeen (reasoning_of m) p seen → seen ≡ None → None ≡ unshown_by (reasoning_of m) q (answers_known K seen)
+left-none m p q K seen is none =
+    here (reasoning_of m) (subst (IsSeen (reasoning_of m) p) none is)
+    ∙ ap (λ (o : Option Knowing). unshown_by (reasoning_of m) q (answers_known K o)) (sym none)
+  where
+    here : (k : Option Reasoning) → IsSeen k p None → None ≡ unshown_by k q K
+    here None h = refl
+    here (Some r) h = absurd h
 
 -- some is kept where consequences are sought
 pub seen_some : (m : Mode) (p : Program) (seen : Option Knowing) → IsSeen (reasoning_of m) p seen → IsSome (reasoning_of m) → seen ≡ None → ⊥

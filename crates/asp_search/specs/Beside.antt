@@ -1,10 +1,11 @@
 -- The calls beside a step.
-use Rattle.std.specs.Prelude.{◌≡◌, ℕ, nat_le, ◌==◌, Bool, true, false, ◌&&◌, not, ◌⊎◌, List, length, Option, Some, None, option_and_then, if◌then◌else◌, []}
+use Rattle.std.specs.Prelude.{◌≡◌, ℕ, nat_le, ◌==◌, Bool, true, false, ◌&&◌, not, ◌⊎◌, List, length, Option, Some, None, option_and_then, if◌then◌else◌, [], ◌∷◌}
 use Rattle.std.specs.List.{All, list_any}
 use Rattle.asp_model.specs.declared.program.Program.{Program}
 use Rattle.asp_model.specs.declared.results.Mode.{Mode}
 use Rattle.asp_model.specs.declared.results.Reasoning.{Reasoning}
 use Rattle.asp_model.specs.Asked.{reasoning_of}
+use Rattle.asp_model.specs.Consequences.{unshown}
 use Rattle.asp_model.specs.Sets.{Atoms}
 use Rattle.asp_vars.specs.Literals.{value_of, Literal}
 use Rattle.asp_vars.specs.Entailment.{IsSharedBy}
@@ -53,6 +54,19 @@ Leaves s t = t ≡ record s { cube = None; clashing = t.clashing; entries = t.en
 pub record Adopts (s t : Searching) (K : List Atoms) : Type 0 where
   pub same : t ≡ record s { known = K; slots = t.slots; last = None }
   pub nogoods : (r : Reasoning) → reasoning_of s.mode ≡ Some r → (id : ℕ) (n : Nogood) → nogood_at t.slots id ≡ Some n → (nogood_at s.slots id ≡ Some n) ⊎ (n ≡ covering_nogood r s.program K)
+
+-- how many of the program's atoms are still to be shown beside these answers: none where there is no answer
+abbrev pub count_unshown : Reasoning → Program → List Atoms → Option ℕ
+count_unshown r p [] = None
+count_unshown r p (S ∷ K) = Some (length (unshown r p (S ∷ K)))
+
+-- the same beside the answers known, where consequences are sought
+abbrev pub unshown_by : Option Reasoning → Program → List Atoms → Option ℕ
+unshown_by None p K = None
+unshown_by (Some r) p K = count_unshown r p K
+
+abbrev pub left_to_show : Searching → Option ℕ
+left_to_show s = unshown_by (reasoning_of s.mode) s.program s.known
 
 -- Another search's nogood is kept until it is dropped, and else nothing has changed.
 pub record Imports (s t : Searching) (n : Nogood) : Type 0 where

@@ -15,7 +15,7 @@ ghost use Rattle.asp_store.specs.Keeping.{is_extra, nogood_at};
 ghost use Rattle.asp_propagate.specs.Useful.{IsSmaller};
 ghost use Rattle.asp_search_laws.specs.Searching.{used};
 ghost use Rattle.asp_search_laws.specs.Steps.{is_of_use};
-ghost use Rattle.asp_search.specs.Beside.{new_search, Adopts, Enters, Leaves, is_local, is_shared, kept_last, only_shared, exported, Imports, IsOpen, IsShared, IsTakenBack, has_var};
+ghost use Rattle.asp_search.specs.Beside.{new_search, Adopts, Enters, Leaves, count_unshown, left_to_show, is_local, is_shared, kept_last, only_shared, exported, Imports, IsOpen, IsShared, IsTakenBack, has_var};
 ghost use Rattle.asp_search.specs.Invariants.{IsSeen, answers_known};
 ghost use Rattle.asp_state.specs.SearchStates.{KeepsCompletionAlone};
 
@@ -106,6 +106,17 @@ fn nothing_seen(alloc: Global, compiled: &Compiled, mode: Mode) -> Result<Option
             let known = Known::new(alloc, compiled, reasoning)?;
             Ok(Some(known))
         }
+    }
+}
+
+/// How many atoms are still to be shown; none where no answer is known.
+pub fn count_unshown(known: &Known) -> Option<usize>
+    ensures { result ≡ count_unshown known.now.reasoning known.now.program known.now.sets }
+{
+    if known.is_some() {
+        Some(known.unshown().len())
+    } else {
+        None
     }
 }
 
@@ -276,18 +287,13 @@ impl<'a, P: Propagator> Search<'a, P> {
         }
     }
 
-    /// How many atoms there are of which no answer known shows what can be shown, where consequences are sought; none where no
-    /// answer is known.
-    pub fn unshown_atoms(&self) -> Option<usize> {
+    /// How many atoms are still to be shown, where consequences are sought; none where no answer is known.
+    pub fn unshown_atoms(&self) -> Option<usize>
+        ensures { result ≡ left_to_show self.now }
+    {
         match &self.seen {
             None => None,
-            Some(seen) => {
-                if seen.is_some() {
-                    Some(seen.unshown().len())
-                } else {
-                    None
-                }
-            }
+            Some(seen) => count_unshown(seen),
         }
     }
 

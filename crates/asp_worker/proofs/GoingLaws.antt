@@ -1,6 +1,7 @@
 -- A worker's search and its units beside the board, from call to call.
-use Rattle.std.proofs.Common.{◌≡◌, ℕ, Bool, true, false, cond, List, [], Option, Some, None, ◌⊎◌, inl, inr, refl, sym, ap, ◌∙◌, subst}
-use Rattle.std.specs.Prelude.{ℤ, option_map}
+use Rattle.std.proofs.Common.{◌≡◌, ◌≢◌, ℕ, Bool, true, false, cond, List, [], ◌∷◌, length, Option, Some, None, refl, sym, ap, ◌∙◌, subst}
+use Rattle.std.specs.Prelude.{ℤ, MatchBool, option_map}
+use Rattle.std.proofs.lemmas.Bool.{false≢true}
 use Rattle.std.proofs.lemmas.Option.{same_Some}
 use Rattle.asp_model.specs.declared.program.Program.{Program}
 use Rattle.asp_model.specs.declared.results.Mode.{Mode}
@@ -29,13 +30,13 @@ use Rattle.asp_book.proofs.BookLaws.{Fits-grows}
 use Rattle.asp_book.proofs.CallLaws.{task-stays, seen-after}
 use Rattle.asp_propagate.specs.Useful.{IsSmaller}
 use Rattle.asp_search_laws.specs.Searching.{Searching, used}
-use Rattle.asp_search.specs.Beside.{Adopts}
+use Rattle.asp_search.specs.Beside.{Adopts, count_unshown, left_to_show}
 use Rattle.asp_crew_laws.specs.Agrees.{AreRecorded}
 use Rattle.asp_crew_laws.specs.Working.{IsAtWork, Works}
 use Rattle.asp_crew_laws.proofs.AgreeLaws.{settled-excused}
 use Rattle.asp_crew_laws.proofs.WorkLaws.{sought-is, work-adopted, work-on, work-unimproved}
 use Rattle.asp_worker.specs.Seats.{Passes, Idles, Owes}
-use Rattle.asp_worker.specs.Sharing.{is_smaller, lowered, lowered_by, TakesBest}
+use Rattle.asp_worker.specs.Sharing.{is_fewer, is_smaller, lowered, lowered_by, show_more, TakesBest}
 use Rattle.asp_worker.specs.Working.{GoesOn, IsOn, IsOff}
 use Rattle.asp_worker.proofs.SeatLaws.{board-task, idles-call, idles-passes, holds-idles, cube-idles}
 
@@ -118,10 +119,13 @@ best-goes Opt v s t u g e = subst (λ (x : Searching). GoesOn Opt v x u) (sym e)
     here : (o : Option Atoms) → o ≡ (seen_board v).best → GoesOn Opt v (lowered_by (option_map (cost (seen_board v).task.program) o) s) u
     here None e = g
     here (Some B) e = lowered-goes v B s u (sym e) g
-best-goes (Consequences r) v s t u g (inl e) = subst (λ (x : Searching). GoesOn (Consequences r) v x u) (sym e) g
-best-goes (Consequences r) v s t u g (inr a) =
-    subst (λ (x : Searching). GoesOn (Consequences r) v x u) (sym a.same)
-    (record { program = g.program; mode_is = g.mode_is; work = work-adopted (seen_board v) v.number r s.known s.bound u g.work; few = g.few })
+best-goes (Consequences r) v s t u g h = here (show_more r (seen_board v) s) h
+  where
+    here : (more : Bool) → MatchBool more (Adopts s t (common_sets r (seen_board v).task.program (seen_board v).answers)) (t ≡ s) → GoesOn (Consequences r) v t u
+    here true a =
+        subst (λ (x : Searching). GoesOn (Consequences r) v x u) (sym a.same)
+        (record { program = g.program; mode_is = g.mode_is; work = work-adopted (seen_board v) v.number r s.known s.bound u g.work; few = g.few })
+    here false e = subst (λ (x : Searching). GoesOn (Consequences r) v x u) (sym e) g
 
 pub best-cube : (m : Mode) (b : Board) (s t : Searching) → TakesBest m b s t → t.cube ≡ s.cube
 best-cube Enum b s t e = ap (λ (x : Searching). x.cube) e
@@ -130,8 +134,11 @@ best-cube Opt b s t e = ap (λ (x : Searching). x.cube) e ∙ here (option_map (
     here : (o : Option (List ℤ)) → (lowered_by o s).cube ≡ s.cube
     here None = refl
     here (Some c) = (lowered-same s c).3
-best-cube (Consequences r) b s t (inl e) = ap (λ (x : Searching). x.cube) e
-best-cube (Consequences r) b s t (inr a) = ap (λ (x : Searching). x.cube) a.same
+best-cube (Consequences r) b s t h = here (show_more r b s) h
+  where
+    here : (more : Bool) → MatchBool more (Adopts s t (common_sets r b.task.program b.answers)) (t ≡ s) → t.cube ≡ s.cube
+    here true a = ap (λ (x : Searching). x.cube) a.same
+    here false e = ap (λ (x : Searching). x.cube) e
 
 -- ---- what the answers delivered have in common is known
 pub known-seen : (v w : Knows) (before : List Event) → Stays v w → IsCall v w before [] → (r : Option Knowing) → r ≡ known_of (replay (task_of v) before) → r ≡ known_of (seen_board w)
@@ -178,26 +185,54 @@ pub taken-over : (m : Mode) (v w : Knows) (before : List Event) → Stays v w �
 taken-over m v w before stays call s u r x g e is =
     may-take m w s u x (goes-on m v w s u g (idles-passes v w (idles-call v w before stays call))) (told-known v w before stays call r x e is)
 
-pub takes-known : (m : Mode) (v : Knows) (s t : Searching) (u : Units) (x : Knowing) → GoesOn m v s u → IsKnown (seen_board v) x → (t ≡ s) ⊎ Adopts s t x.sets → TakesBest m (seen_board v) s t
+-- where fewer atoms are to be shown, an answer is known
+pub fewer-some : (r : Reasoning) (p : Program) (K : List Atoms) (left : Option ℕ) → is_fewer (count_unshown r p K) left ≡ true → K ≢ []
+fewer-some r p K left h none = false≢true (sym (ap (λ (L : List Atoms). is_fewer (count_unshown r p L) left) none) ∙ h)
+
+counted-common : (r : Reasoning) (p : Program) (K : List Atoms) → count_unshown r p (common_sets r p K) ≡ count_unshown r p K
+counted-common r p [] = refl
+counted-common r p (S ∷ K) = ap (λ (L : Atoms). Some (length L)) (unshown-common r p (S ∷ K))
+
+-- what a search takes over, or leaves
+abbrev pub TakesKnown : Searching → Searching → Knowing → Type 0
+TakesKnown s t x = MatchBool (is_fewer (count_unshown x.reasoning x.program x.sets) (left_to_show s)) (Adopts s t x.sets) (t ≡ s)
+
+pub takes-known : (m : Mode) (v : Knows) (s t : Searching) (u : Units) (x : Knowing) → GoesOn m v s u → IsKnown (seen_board v) x → TakesKnown s t x → TakesBest m (seen_board v) s t
 takes-known m v s t u x g k h = here m refl
   where
-    is : sought (seen_board v).task.goal ≡ reasoning_of m
-    is = sought-is m s.bound (seen_board v).task.goal g.work.goal
+    seeks : (n : Mode) → n ≡ m → reasoning_of n ≡ Some k.reasoning
+    seeks n e = ap reasoning_of e ∙ sym (sought-is m s.bound (seen_board v).task.goal g.work.goal) ∙ k.seeks
 
     none : None ≡ Some k.reasoning → ⊥
     none z = cc
 
-    sets : (r : Reasoning) → r ≡ k.reasoning → x.sets ≡ common_sets r (seen_board v).task.program (seen_board v).answers
-    sets r e = ap (λ (y : Knowing). y.sets) k.is ∙ ap (λ (w : Reasoning). common_sets w (seen_board v).task.program (seen_board v).answers) (sym e)
-
-    adopts : (r : Reasoning) → r ≡ k.reasoning → (t ≡ s) ⊎ Adopts s t x.sets → (t ≡ s) ⊎ Adopts s t (common_sets r (seen_board v).task.program (seen_board v).answers)
-    adopts r e (inl q) = inl q
-    adopts r e (inr a) = inr (subst (Adopts s t) (sets r e) a)
-
     here : (n : Mode) → n ≡ m → TakesBest n (seen_board v) s t
-    here Enum e = absurd (none (ap reasoning_of e ∙ sym is ∙ k.seeks))
-    here Opt e = absurd (none (ap reasoning_of e ∙ sym is ∙ k.seeks))
-    here (Consequences r) e = adopts r (same_Some r k.reasoning (ap reasoning_of e ∙ sym is ∙ k.seeks)) h
+    here Enum e = absurd (none (seeks Enum e))
+    here Opt e = absurd (none (seeks Opt e))
+    here (Consequences r) e =
+        subst (λ (q : Reasoning). TakesBest (Consequences q) (seen_board v) s t) (sym (same_Some r k.reasoning (seeks (Consequences r) e)))
+        (subst (λ (o : Option ℕ). MatchBool (is_fewer o (left_to_show s)) (Adopts s t (common_sets k.reasoning (seen_board v).task.program (seen_board v).answers)) (t ≡ s))
+        (counted-common k.reasoning (seen_board v).task.program (seen_board v).answers)
+        (subst (TakesKnown s t) k.is h))
+
+pub taken-best : (m : Mode) (v w : Knows) (before : List Event) → Stays v w → IsCall v w before [] → (s t : Searching) (u : Units) (r : Option Knowing) (x : Knowing) → GoesOn m v s u →
+    r ≡ known_of (replay (task_of v) before) → r ≡ Some x → TakesKnown s t x → TakesBest m (seen_board w) s t
+taken-best m v w before stays call s t u r x g e is =
+    takes-known m w s t u x (goes-on m v w s u g (idles-passes v w (idles-call v w before stays call))) (told-known v w before stays call r x e is)
+
+-- where they are sought a call always tells what the answers delivered have in common
+pub always-known : (m : Mode) (r : Reasoning) (v w : Knows) (before : List Event) → Stays v w → IsCall v w before [] → (s t : Searching) (u : Units) (k : Option Knowing) → GoesOn m v s u → m ≡ Consequences r →
+    k ≡ known_of (replay (task_of v) before) → k ≡ None → TakesBest m (seen_board w) s t
+always-known m r v w before stays call s t u k g is e none = absurd (apart (sym none ∙ known-seen v w before stays call k e ∙ ap (λ (o : Option Reasoning). known_by o (seen_board w).task.program (seen_board w).answers) seeks))
+  where
+    on : GoesOn m w s u
+    on = goes-on m v w s u g (idles-passes v w (idles-call v w before stays call))
+
+    seeks : sought (seen_board w).task.goal ≡ Some r
+    seeks = sought-is m s.bound (seen_board w).task.goal on.work.goal ∙ ap reasoning_of is
+
+    apart : None ≡ known_by (Some r) (seen_board w).task.program (seen_board w).answers → ⊥
+    apart z = cc
 
 -- ---- a leaf may be closed for what the search has settled
 pub done-excused : (m : Mode) (v : Knows) (s : Searching) (u : Units) (q : List Literal) → GoesOn m v s u → Settled s.program (used s) s.bound q → HitsOnly (task_of v).program (is_excused (seen_board v)) q

@@ -1,12 +1,13 @@
 -- What a search takes over from the others.
-use Rattle.std.specs.Prelude.{◌≡◌, ◌⊎◌, Bool, true, if◌then◌else◌, List, [], ◌∷◌, Option, None, Some, ℤ, MatchBool, option_map}
+use Rattle.std.specs.Prelude.{◌≡◌, ℕ, nat_lt, Bool, true, false, if◌then◌else◌, List, [], ◌∷◌, Option, None, Some, ℤ, MatchBool, option_map}
 use Rattle.asp_model.specs.declared.results.Mode.{Mode}
 use Rattle.asp_model.specs.declared.results.Mode.TheVariants as mode
+use Rattle.asp_model.specs.declared.results.Reasoning.{Reasoning}
 use Rattle.asp_model.specs.Consequences.{common_sets}
 use Rattle.asp_model.specs.Costs.{betters, cost}
 use Rattle.asp_vars.specs.declared.nogood.Nogood.{Nogood}
 use Rattle.asp_core.specs.Boards.{Board}
-use Rattle.asp_search.specs.Beside.{Adopts, Imports}
+use Rattle.asp_search.specs.Beside.{Adopts, Imports, count_unshown, left_to_show}
 use Rattle.asp_search_laws.specs.Searching.{Searching}
 use Rattle.asp_search_laws.specs.Steps.{is_of_use}
 
@@ -23,12 +24,22 @@ abbrev pub lowered_by : Option (List ℤ) → Searching → Searching
 lowered_by None s = s
 lowered_by (Some c) s = lowered s c
 
--- In an optimisation the cost of the best is taken over; where consequences are sought what the answers delivered have in common, unless
--- the search knew that.
+-- Whether so many atoms to be shown are fewer than a search has; it has more than any number where it knows no answer.
+abbrev pub is_fewer : Option ℕ → Option ℕ → Bool
+is_fewer None left = false
+is_fewer (Some n) None = true
+is_fewer (Some n) (Some left) = nat_lt n left
+
+-- Whether an answer was delivered, and those delivered leave fewer atoms to be shown than those that the search knows.
+abbrev pub show_more : Reasoning → Board → Searching → Bool
+show_more r b s = is_fewer (count_unshown r b.task.program b.answers) (left_to_show s)
+
+-- In an optimisation the cost of the best is taken over; where consequences are sought what the answers delivered have in common, exactly
+-- where they show more than the search knows.
 abbrev pub TakesBest : Mode → Board → Searching → Searching → Type 0
 TakesBest mode.Enum b s t = t ≡ s
 TakesBest mode.Opt b s t = t ≡ lowered_by (option_map (cost b.task.program) b.best) s
-TakesBest (mode.Consequences r) b s t = (t ≡ s) ⊎ Adopts s t (common_sets r b.task.program b.answers)
+TakesBest (mode.Consequences r) b s t = MatchBool (show_more r b s) (Adopts s t (common_sets r b.task.program b.answers)) (t ≡ s)
 
 -- The nogood was imported, where it counts for the search.
 abbrev pub ImportsIf : Searching → Searching → Nogood → Type 0

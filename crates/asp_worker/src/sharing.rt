@@ -1,5 +1,5 @@
 //! What a search tells the others, and what it takes over from them.
-ghost use Rattle.std.specs.Prelude.{◌≡◌, ◌≤◌, ◌<◌, ◌↔◌, ◌⊎◌, ℕ, Some, false, IsTrue, length, drop, OnOk, OnErr, IfOk, IfErr, IfSome, All};
+ghost use Rattle.std.specs.Prelude.{◌≡◌, ◌≤◌, ◌<◌, ◌↔◌, ℕ, Some, false, IsTrue, MatchBool, length, drop, OnOk, OnErr, IfOk, IfErr, IfSome, All};
 ghost use Rattle.std.specs.Option.{option_copied};
 ghost use Rattle.asp_model.specs.declared.results.Mode.TheVariants as mode;
 ghost use Rattle.asp_model.specs.Asked.{reasoning_of};
@@ -11,10 +11,10 @@ ghost use Rattle.asp_vault.specs.Moments.{Stays};
 ghost use Rattle.asp_vault.specs.Seats.{view, IsOf, IsBeside};
 ghost use Rattle.asp_log.specs.Entries.{IsEntry};
 ghost use Rattle.asp_book.specs.Calls.{seen_board, task_of};
-ghost use Rattle.asp_search.specs.Beside.{Adopts, Leaves};
+ghost use Rattle.asp_search.specs.Beside.{count_unshown, left_to_show, Adopts, Leaves};
 ghost use Rattle.asp_search_laws.specs.Searching.{Searching};
 ghost use Rattle.asp_worker.specs.Seats.{IsReady, Keeps, IsSettled, IsPaged, Idles, Leases, WasEmpty};
-ghost use Rattle.asp_worker.specs.Sharing.{is_smaller, lowered, ImportsAll, Remembers, TakesBest, TakesOver};
+ghost use Rattle.asp_worker.specs.Sharing.{is_fewer, is_smaller, lowered, ImportsAll, Remembers, TakesBest, TakesOver};
 ghost use Rattle.asp_worker.specs.Working.{GoesOn, Finds, IsStop};
 
 use crate::engine::Engine;
@@ -27,7 +27,7 @@ use asp_model::cost::Cost;
 use asp_model::interp::Interp;
 use asp_model::results::Mode;
 use asp_propagators::propagators::Propagators;
-use asp_search::search::Search;
+use asp_search::search::{Search, count_unshown};
 use asp_vars::known::Known;
 use asp_vault::Seat;
 use std::alloc::AllocError;
@@ -96,18 +96,30 @@ fn import_new<R: Wait>(
     Ok(())
 }
 
+// Whether these answers show more than those that the search knows.
+fn show_more(known: &Known, search: &Search<'_, Propagators<'_>>) -> bool
+    ensures { result ≡ is_fewer (count_unshown known.now.reasoning known.now.program known.now.sets) (left_to_show search.now) }
+{
+    match (count_unshown(known), search.unshown_atoms()) {
+        (None, _) => false,
+        (Some(_), None) => true,
+        (Some(count), Some(left)) => count < left,
+    }
+}
+
 // Leaves out what shows nothing beside the answers delivered, where they show more than those that the search knows.
 fn take_known(search: &mut Search<'_, Propagators<'_>>, known: Known) -> Result<(), AllocError>
     requires program { known.program ≡ search.old.program }
     requires reasoning { Some known.reasoning ≡ reasoning_of search.old.mode }
     requires all { IsSubset (unshown known.reasoning known.program known.sets) (unshown known.reasoning known.program search.old.known) }
-    ensures ok { OnOk result ((search.new ≡ search.old) ⊎ Adopts search.old search.new known.sets) }
+    ensures ok { OnOk result (MatchBool (is_fewer (count_unshown known.reasoning known.program known.sets) (left_to_show search.old)) (Adopts search.old search.new known.sets) (search.new ≡ search.old)) }
     ensures err { OnErr result (Leaves search.old search.new) }
 {
-    if !known.is_some() || search.unshown_atoms() == Some(known.unshown().len()) {
-        return Ok(());
+    if show_more(&known, search) {
+        search.set_known(known)
+    } else {
+        Ok(())
     }
-    search.set_known(known)
 }
 
 // Takes over the cost of the best answer, if one is sought, and the answers delivered where consequences are.

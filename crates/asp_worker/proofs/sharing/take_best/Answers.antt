@@ -4,7 +4,7 @@ use Rattle.asp_vault.specs.Seats.{view}
 use Rattle.asp_book.specs.Calls.{seen_board}
 use Rattle.asp_worker.specs.Sharing.{Remembers, TakesBest}
 use Rattle.asp_worker.proofs.SeatLaws.{idles-self, idles-call, none-idles}
-use Rattle.asp_worker.proofs.GoingLaws.{best-then, best-seen, taken-over}
+use Rattle.asp_worker.proofs.GoingLaws.{always-known, best-then, best-seen, taken-best, taken-over}
 use Rattle.asp_worker.proofs.Replies.{on-err, on-ok, always-err}
 use Rattle.asp_worker.proofs.SharingLaws.{forgotten-leaves}
 use Rattle.asp_worker.proofs.sharing.take_best.Goals as goal
@@ -56,3 +56,13 @@ returns-in_err-known-in-Consequences-clause-idles g c = none-idles (view c.args.
 
 pub returns-in-Some-2-clause-idles : goal.returns-in-Some-2-clause-idles
 returns-in-Some-2-clause-idles g c = let k = c.in_ok-known-in-Consequences.ensures.ok in idles-call (view c.args.seat.now) (view c.known.new.seat) k.0 c.known.ensures.stays k.2
+
+pub returns-in-Some-2-clause-ok : goal.returns-in-Some-2-clause-ok
+returns-in-Some-2-clause-ok g c =
+    let k = c.in_ok-known-in-Consequences.ensures.ok in let v = view c.args.seat.now in let w = view c.known.new.seat in
+    on-ok c.take_known.result (taken-best c.args.shared.now.mode v w k.0 c.known.ensures.stays k.2 c.args.search.now c.take_known.new.search c.requires.going.0 c.in_ok-known-in-Consequences.field-0 c.in-Some-2.known c.requires.going.1 k.1 c.in-Some-2.is) c.take_known.ensures.ok
+
+pub returns-in-None-2-clause-ok : goal.returns-in-None-2-clause-ok
+returns-in-None-2-clause-ok g c =
+    let k = c.in_ok-known-in-Consequences.ensures.ok in let v = view c.args.seat.now in let w = view c.known.new.seat in
+    always-known c.args.shared.now.mode c.in-Consequences.field-0 v w k.0 c.known.ensures.stays k.2 c.args.search.now c.args.search.now c.requires.going.0 c.in_ok-known-in-Consequences.field-0 c.requires.going.1 c.in-Consequences.is k.1 c.in-None-2.is
