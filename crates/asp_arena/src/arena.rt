@@ -3,7 +3,7 @@
 //! A change of a row's length writes the row again behind all others, and leaves its old cells as waste. Where more than half
 //! of the cells are waste, the rows are gathered into new ones first. So the cells are at most about twice the literals, and
 //! the gathering costs a constant for each literal that was written.
-ghost use Rattle.std.specs.Prelude.{◌≡◌, ◌+◌, ◌-◌, ◌<◌, ◌++◌, ◌∷◌, [], IfOk, OnOk, OnErr, length, slice_index_or, slice_set, swap};
+ghost use Rattle.std.specs.Prelude.{◌≡◌, ◌+◌, ◌-◌, ◌<◌, ◌++◌, ◌∷◌, [], IfOk, OnOk, OnErr, length, slice_set, swap};
 ghost use Rattle.asp_arena.specs.Rows.{row_at};
 
 use crate::span::{NO_ROW, Span, append, part};
