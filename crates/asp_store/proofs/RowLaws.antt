@@ -1,5 +1,5 @@
 -- Rows of which the first two literals are watched.
-use Rattle.std.proofs.Common.{◌≡◌, ◌≢◌, ℕ, zero, suc, ◌<◌, Bool, true, false, cond, ltb, ◌||◌, List, [], ◌∷◌, length, get_or, set, Option, Some, None, inl, inr, ◌⊎◌, refl, sym, ap, ◌∙◌, subst, arith}
+use Rattle.std.proofs.Common.{◌≡◌, ◌≢◌, ℕ, zero, suc, ◌<◌, Bool, true, false, cond, ltb, ◌||◌, List, [], ◌∷◌, length, get_or, set, Some, None, inl, inr, refl, sym, ap, ◌∙◌, subst, arith}
 use Rattle.std.specs.List.{slice_get, swap}
 use Rattle.std.specs.Option.{is_some}
 use Rattle.std.proofs.lemmas.Bool.{false≢true}
@@ -142,7 +142,7 @@ pair_swapped (a ∷ b ∷ row) p (suc (suc j)) f s ne =
 
 -- none of the literals is this one
 pub has_none : (row : List Literal) (l : Literal) → ((j : ℕ) (d : Literal) → j < length row → literal_eq (get_or row j d) l ≡ false) → has_literal row l ≡ true → ⊥
-has_none row l no h = false≢true (sym (list_any_none (λ (x : Literal). literal_eq x l) row no) ∙ h)
+has_none row l other h = false≢true (sym (list_any_none (λ (x : Literal). literal_eq x l) row other) ∙ h)
 
 -- both literals come to stand there
 pub ordered : (lits : List Literal) (p : Pair) (i j : ℕ) → slice_get lits i ≡ Some p.first → slice_get (swap lits 0 i) j ≡ Some p.second → p.first ≢ p.second →

@@ -22,7 +22,6 @@ use Rattle.asp_store.specs.Sounding.{IsListed, IsNet, IsSound}
 use Rattle.asp_store.specs.Fitting.{HaveReasons}
 use Rattle.asp_store.specs.Storing.{Stored, Fits, IsAdded, Loses, IsStore, AreActive}
 use Rattle.asp_store.proofs.GetLaws.{is_or_not, at_set, at_set_other, get_last}
-use Rattle.asp_store.specs.declared.watch.Pair.{Pair}
 use Rattle.asp_store.specs.Unlisting.{Unlists}
 use Rattle.asp_store.proofs.ShortLaws.{places_add, places_lock, places_remove}
 use Rattle.asp_store.proofs.SoundLaws.{from_zero, from_push, pair_cases}

@@ -200,7 +200,12 @@ fn visit_long(
 {
     let _len = trail.len();
     let start = watches.rows.start(id as usize);
-    match beside_from(watches.rows.row(id as usize), start, other, trail.assignment()) {
+    match beside_from(
+        watches.rows.row(id as usize),
+        start,
+        other,
+        trail.assignment(),
+    ) {
         Some(spot) => {
             move_watch(watches, slots, i, id, other, spot, front, trail)?;
             Ok(Step::Goes)

@@ -11,8 +11,8 @@ returns-in-Some-clause-some c =
     let s = c.in-Some.ensures.some in
     (has_behind i n c.in-Some.spot.lit (has_before (length n - i) (drop i n) c.in-Some.spot.lit s.0), s.1, s.2)
 
-pub overflow_add-place : goal.overflow_add-place
-overflow_add-place c =
+pub overflow_add-result : goal.overflow_add-result
+overflow_add-result c =
     let n = c.args.lits.now in
     let i = c.min-start.result in
     let at = part_at (length n - i) i n c.in-Some.spot.place c.in-Some.spot.lit c.in-Some.ensures.place in

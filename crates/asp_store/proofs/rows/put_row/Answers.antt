@@ -1,9 +1,8 @@
-use Rattle.std.proofs.Common.{◌≡◌, ◌<◌, true, List, Some, length, set, sym, ap, ◌∙◌, subst, arith}
+use Rattle.std.proofs.Common.{◌≡◌, true, List, Some, length, set, sym, ap, ◌∙◌, subst, arith}
 use Rattle.std.specs.List.{slice_get, swap}
 use Rattle.std.proofs.lemmas.List.{set-set}
 use Rattle.std.proofs.lemmas.Option.{slice_get_within}
 use Rattle.asp_vars.specs.Literals.{Literal, has_literal}
-use Rattle.asp_arena.specs.Rows.{row_at}
 use Rattle.asp_store.proofs.RowLaws.{row_set, same_swap, first_within, front_swapped, second_within, ordered}
 use Rattle.asp_store.proofs.rows.put_row.Goals as goal
 

@@ -41,17 +41,17 @@ visit_last-requires-clause-others c = λ k h ne.
     (all_has (λ l. literal_eq l c.args.other ≡ false → holds_in c.assignment.result.now l ≡ true) c.row.result.now k c.in-None.ensures.none
     (subst (λ (xs : List Literal). has_literal xs k ≡ true) (sym c.row.ensures) h) ne)
 
-pub returns-in_err-move_watch-clause-same : goal.returns-in_err-move_watch-clause-same
-returns-in_err-move_watch-clause-same c = refl
+pub returns-in_err-move_watch-in-Some-clause-same : goal.returns-in_err-move_watch-in-Some-clause-same
+returns-in_err-move_watch-in-Some-clause-same c = refl
 
-pub returns-in_err-move_watch-clause-extends : goal.returns-in_err-move_watch-clause-extends
-returns-in_err-move_watch-clause-extends c = extends_none c.args.slots.now c.args.trail.now.entries
+pub returns-in_err-move_watch-in-Some-clause-extends : goal.returns-in_err-move_watch-in-Some-clause-extends
+returns-in_err-move_watch-in-Some-clause-extends c = extends_none c.args.slots.now c.args.trail.now.entries
 
-pub returns-in_err-move_watch-clause-sound : goal.returns-in_err-move_watch-clause-sound
-returns-in_err-move_watch-clause-sound c = c.move_watch.ensures.sound
+pub returns-in_err-move_watch-in-Some-clause-sound : goal.returns-in_err-move_watch-in-Some-clause-sound
+returns-in_err-move_watch-in-Some-clause-sound c = c.move_watch.ensures.sound
 
-pub returns-in_err-move_watch-clause-steps : goal.returns-in_err-move_watch-clause-steps
-returns-in_err-move_watch-clause-steps c = search rules
+pub returns-in_err-move_watch-in-Some-clause-steps : goal.returns-in_err-move_watch-in-Some-clause-steps
+returns-in_err-move_watch-in-Some-clause-steps c = search rules
 
 pub visit_last-requires-clause-visit : goal.visit_last-requires-clause-visit
 visit_last-requires-clause-visit c = c.requires.visit
@@ -59,17 +59,17 @@ visit_last-requires-clause-visit c = c.requires.visit
 pub visit_last-requires-clause-room : goal.visit_last-requires-clause-room
 visit_last-requires-clause-room c = c.requires.room
 
-pub returns-in_ok-move_watch-clause-same : goal.returns-in_ok-move_watch-clause-same
-returns-in_ok-move_watch-clause-same c = refl
+pub returns-in_ok-move_watch-in-Some-clause-same : goal.returns-in_ok-move_watch-in-Some-clause-same
+returns-in_ok-move_watch-in-Some-clause-same c = refl
 
-pub returns-in_ok-move_watch-clause-extends : goal.returns-in_ok-move_watch-clause-extends
-returns-in_ok-move_watch-clause-extends c = extends_none c.args.slots.now c.args.trail.now.entries
+pub returns-in_ok-move_watch-in-Some-clause-extends : goal.returns-in_ok-move_watch-in-Some-clause-extends
+returns-in_ok-move_watch-in-Some-clause-extends c = extends_none c.args.slots.now c.args.trail.now.entries
 
-pub returns-in_ok-move_watch-clause-sound : goal.returns-in_ok-move_watch-clause-sound
-returns-in_ok-move_watch-clause-sound c = c.move_watch.ensures.sound
+pub returns-in_ok-move_watch-in-Some-clause-sound : goal.returns-in_ok-move_watch-in-Some-clause-sound
+returns-in_ok-move_watch-in-Some-clause-sound c = c.move_watch.ensures.sound
 
-pub returns-in_ok-move_watch-clause-steps : goal.returns-in_ok-move_watch-clause-steps
-returns-in_ok-move_watch-clause-steps c = c.in_ok-move_watch.ensures.steps
+pub returns-in_ok-move_watch-in-Some-clause-steps : goal.returns-in_ok-move_watch-in-Some-clause-steps
+returns-in_ok-move_watch-in-Some-clause-steps c = c.in_ok-move_watch-in-Some.ensures.steps
 
 pub returns-in-None-clause-same : goal.returns-in-None-clause-same
 returns-in-None-clause-same c = c.visit_last.ensures.same
