@@ -143,10 +143,10 @@ locks_lose es a b c d u p l q = record {
   vars = ap (λ (s : Stored). s.vars) q ∙ (l.vars ∙ ap (λ (s : Stored). s.vars) p);
   apart = ap (λ (s : Stored). s.apart) q ∙ (l.apart ∙ ap (λ (s : Stored). s.apart) p);
   each = λ id. elim (l.each id) [
-    | inl e ↦ inl (ap (λ (s : Stored). kept_at s.slots id) q ∙ slot_gone es c.slots id e.0, ap (λ (s : Stored). pair_at s.pairs id) q ∙ e.1)
+    | inl e ↦ inl (ap (λ (s : Stored). kept_at s.slots id) q ∙ slot_gone es c.slots id e.0, ap (λ (s : Stored). pair_at s.rows id) q ∙ e.1)
     | inr e ↦ inr (
       ap (λ (s : Stored). kept_at s.slots id) q ∙ slot_back es a.slots c.slots id u (e.0 ∙ ap (λ (s : Stored). kept_at s.slots id) p),
-      ap (λ (s : Stored). pair_at s.pairs id) q ∙ (e.1 ∙ ap (λ (s : Stored). pair_at s.pairs id) p),
+      ap (λ (s : Stored). pair_at s.rows id) q ∙ (e.1 ∙ ap (λ (s : Stored). pair_at s.rows id) p),
     )
   ];
 }

@@ -12,7 +12,7 @@ use Rattle.asp_trail.specs.Reasons.{IsReason}
 use Rattle.asp_store.specs.declared.stored_nogood.StoredNogood.{StoredNogood}
 use Rattle.asp_store.specs.declared.stored_nogood.Kind.{Kind}
 use Rattle.asp_store.specs.Keeping.{kept_at, nogood_at, with_lock}
-use Rattle.asp_store.specs.Pairs.{pair_at}
+use Rattle.asp_store.specs.Pairs.{pair_of, pair_at}
 use Rattle.asp_store.specs.Parted.{Parted, IsFrom}
 use Rattle.asp_store.specs.Fitting.{HaveReasons}
 use Rattle.asp_store.specs.Storing.{Stored, Fits, locked_at, removed, recalled, IsAdded, Loses, AreActive}
@@ -55,7 +55,7 @@ pub fits_open : (s : Stored) (t : Trailed) (e : Entry) → t.seen ≤ length t.e
 fits_open s t e le none f = record {
   same_vars = f.same_vars;
   reasons = reasons_open s.slots t.entries e none f.reasons;
-  fit = fit_grow s.slots s.pairs s.apart t (e ∷ []) le f.fit;
+  fit = fit_grow s.slots s.rows s.apart t (e ∷ []) le f.fit;
 }
 
 pub fits_imply : (s : Stored) (t : Trailed) (e : Entry) (id : ℕ) (n : Nogood) → t.seen ≤ length t.entries → e.reason ≡ Some id → nogood_at s.slots id ≡ Some n →
@@ -63,7 +63,7 @@ pub fits_imply : (s : Stored) (t : Trailed) (e : Entry) (id : ℕ) (n : Nogood) 
 fits_imply s t e id n le some g r f = record {
   same_vars = f.same_vars;
   reasons = reasons_new s.slots id n t.entries e g some r f.reasons;
-  fit = fit_grow s.slots s.pairs s.apart t (e ∷ []) le f.fit;
+  fit = fit_grow s.slots s.rows s.apart t (e ∷ []) le f.fit;
 }
 
 pub fits_cut : (s : Stored) (t : Trailed) (l : ℕ) → AllPairs (λ e f. e.level ≤ f.level) t.entries → Fits s t →
@@ -107,12 +107,12 @@ fits_add s z t id n kind a f = record {
       (r.0, same_nogood s.slots z.slots j (a.slots.others j ne) ∙ r.1, r.2);
   fit = record {
     watched = λ j m p g h. elim (is_or_not j id) [
-      | inl e ↦ absurd (none-some p (sym a.pair ∙ (sym (ap (pair_at z.pairs) e) ∙ h)))
-      | inr ne ↦ f.fit.watched j m p (sym (same_nogood s.slots z.slots j (a.slots.others j ne)) ∙ g) (sym (a.pairs j ne) ∙ h)
+      | inl e ↦ absurd (none-some p (sym a.pair ∙ (sym (ap (pair_at z.rows) e) ∙ h)))
+      | inr ne ↦ f.fit.watched j m p (sym (same_nogood s.slots z.slots j (a.slots.others j ne)) ∙ g) (sym (ap pair_of (a.rows j ne)) ∙ h)
     ];
     unwatched = λ j m g h. elim (is_or_not j id) [
       | inl e ↦ inl (subst (λ (k : ℕ). IsFrom z.apart z.apart.retired k) (sym e) a.waits)
-      | inr ne ↦ elim (f.fit.unwatched j m (sym (same_nogood s.slots z.slots j (a.slots.others j ne)) ∙ g) (sym (a.pairs j ne) ∙ h)) [
+      | inr ne ↦ elim (f.fit.unwatched j m (sym (same_nogood s.slots z.slots j (a.slots.others j ne)) ∙ g) (sym (ap pair_of (a.rows j ne)) ∙ h)) [
         | inl b ↦ inl (a.apart j b)
         | inr b ↦ inr b
       ]
@@ -175,13 +175,13 @@ fits_lose s z t l named f = record {
   };
 }
 
-pub removed_loses : (s : Stored) (id : ℕ) → id < length s.slots → id < length s.pairs → Loses s (removed s id)
+pub removed_loses : (s : Stored) (id : ℕ) → id < length s.slots → id < length s.rows → Loses s (removed s id)
 removed_loses s id h k = record {
   vars = refl;
   apart = refl;
   each = λ j. elim (is_or_not j id) [
-    | inl e ↦ inl (at_set s.slots id None None j h e, at_set s.pairs id None None j k e)
-    | inr ne ↦ inr (at_set_other s.slots id None None j ne, at_set_other s.pairs id None None j ne)
+    | inl e ↦ inl (at_set s.slots id None None j h e, ap pair_of (at_set s.rows id [] [] j k e))
+    | inr ne ↦ inr (at_set_other s.slots id None None j ne, ap pair_of (at_set_other s.rows id [] [] j ne))
   ];
 }
 
@@ -196,11 +196,11 @@ fits_remove s t id h unnamed f = record {
   fit = record {
     watched = λ j n p g k. elim (is_or_not j id) [
       | inl e ↦ absurd (none_kept (set s.slots id None) j n (at_set s.slots id None None j h e) g)
-      | inr ne ↦ f.fit.watched j n p (sym (same_nogood s.slots (set s.slots id None) j (at_set_other s.slots id None None j ne)) ∙ g) (sym (at_set_other s.pairs id None None j ne) ∙ k)
+      | inr ne ↦ f.fit.watched j n p (sym (same_nogood s.slots (set s.slots id None) j (at_set_other s.slots id None None j ne)) ∙ g) (sym (ap pair_of (at_set_other s.rows id [] [] j ne)) ∙ k)
     ];
     unwatched = λ j n g k. elim (is_or_not j id) [
       | inl e ↦ absurd (none_kept (set s.slots id None) j n (at_set s.slots id None None j h e) g)
-      | inr ne ↦ f.fit.unwatched j n (sym (same_nogood s.slots (set s.slots id None) j (at_set_other s.slots id None None j ne)) ∙ g) (sym (at_set_other s.pairs id None None j ne) ∙ k)
+      | inr ne ↦ f.fit.unwatched j n (sym (same_nogood s.slots (set s.slots id None) j (at_set_other s.slots id None None j ne)) ∙ g) (sym (ap pair_of (at_set_other s.rows id [] [] j ne)) ∙ k)
     ];
   };
 }

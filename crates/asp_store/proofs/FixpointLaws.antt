@@ -44,16 +44,16 @@ fixpoint_watched vars es n p o t = cases (holds_in (assignment vars es) p.first)
     cases false false q r = fixpoint_by_two (assignment vars es) n p.first p.second (t.has p.first (inl refl)) (t.has p.second (inr refl)) t.differ (sym q) (sym r)
 
 pub all_at_fixpoint : (slots : List (Option StoredNogood)) (w : Watches) (t : Trailed) → IsOrdered t.vars t.entries → t.seen ≡ length t.entries → IsSound slots w t →
-    AreSettled slots w.pairs t.entries → (id : ℕ) (n : Nogood) → nogood_at slots id ≡ Some n → is_at_fixpoint (assignment t.vars t.entries) n.lits ≡ true
-all_at_fixpoint slots w t o e s k id n h = cases (pair_at w.pairs id) refl
+    AreSettled slots w.rows t.entries → (id : ℕ) (n : Nogood) → nogood_at slots id ≡ Some n → is_at_fixpoint (assignment t.vars t.entries) n.lits ≡ true
+all_at_fixpoint slots w t o e s k id n h = cases (pair_at w.rows id) refl
   where
-    cases : (q : Option Pair) → q ≡ pair_at w.pairs id → is_at_fixpoint (assignment t.vars t.entries) n.lits ≡ true
+    cases : (q : Option Pair) → q ≡ pair_at w.rows id → is_at_fixpoint (assignment t.vars t.entries) n.lits ≡ true
     cases None q = let f = k id n h (sym q) in fixpoint_false t.vars t.entries n.lits f.0 o f.1
     cases (Some p) q =
         fixpoint_watched t.vars t.entries n.lits p o (subst (λ (m : ℕ). IsWatched n.lits p t.entries m) e (s.fit.watched id n p h (sym q)))
 
 -- ---- a walk begins and ends
-pub walk_begins : (slots : List (Option StoredNogood)) (w : Watches) (t : Trailed) (f : Front) → IsSound slots w t → AreSettled slots w.pairs t.entries →
+pub walk_begins : (slots : List (Option StoredNogood)) (w : Watches) (t : Trailed) (f : Front) → IsSound slots w t → AreSettled slots w.rows t.entries →
     Stands t.entries f.lit t.seen f.level → IsWalking slots w t f 0
 walk_begins slots w t f s k at = record {
   sound = s;
@@ -86,7 +86,7 @@ walk_ends slots w t f i le k = record {
   };
 }
   where
-    here : (id : ℕ) (n : Nogood) (p : Pair) → nogood_at slots id ≡ Some n → pair_at w.pairs id ≡ Some p → (l : Literal) (b : ℕ) → IsOneOf p l → Stands t.entries l t.seen b →
+    here : (id : ℕ) (n : Nogood) (p : Pair) → nogood_at slots id ≡ Some n → pair_at w.rows id ≡ Some p → (l : Literal) (b : ℕ) → IsOneOf p l → Stands t.entries l t.seen b →
         HasFalse t.entries n.lits b
     here id n p h q l b o s =
         let e = stands_same t.entries l f.lit t.seen b f.level s k.stands in

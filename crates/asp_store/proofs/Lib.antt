@@ -5,6 +5,7 @@ pub mod GrowLaws
 pub mod LookLaws
 pub mod PendingLaws
 pub mod PlaceLaws
+pub mod RowLaws
 pub mod ShortLaws
 pub mod SoundLaws
 pub mod StepLaws

@@ -1,14 +1,15 @@
 -- Looking at one nogood.
-use Rattle.std.proofs.Common.{◌≡◌, ◌≢◌, ℕ, suc, zero, ◌<◌, ◌≤◌, Bool, true, false, not, eqb, ◌||◌, ◌&&◌, List, [], ◌∷◌, ◌++◌, length, take, drop, Option, Some, None, get_or, inl, inr, ◌⊎◌, refl, sym, ap, ◌∙◌, subst, arith}
+use Rattle.std.proofs.Common.{◌≡◌, ◌≢◌, ℕ, suc, zero, ◌+◌, ◌<◌, ◌≤◌, Bool, true, false, not, eqb, ◌||◌, ◌&&◌, List, [], ◌∷◌, ◌++◌, length, take, drop, Option, Some, None, get_or, inl, inr, ◌⊎◌, refl, sym, ap, ◌∙◌, subst, arith}
 use Rattle.std.specs.Prelude.{◌-◌}
-use Rattle.std.specs.List.{All, list_all}
+use Rattle.std.specs.List.{All, list_all, slice_get}
 use Rattle.std.specs.Option.{IfSome, IfNone}
 use Rattle.std.specs.Bool.{beq}
 use Rattle.std.proofs.lemmas.Bool.{false≢true, eq-eqb, eqb-true}
 use Rattle.std.proofs.lemmas.Bool.Decides.{nat_tests}
 use Rattle.std.proofs.lemmas.List.{take-append-drop, take_all, length-drop}
 use Rattle.std.proofs.lemmas.List.Elements.{All-append}
-use Rattle.std.proofs.lemmas.List.Folds.{list_any-append}
+use Rattle.std.proofs.lemmas.Option.{none-some}
+use Rattle.std.proofs.lemmas.List.Folds.{list_any-append, list_any_at}
 use Rattle.asp_vars.specs.Literals.{Literal, complement, has_literal, literal_eq, holds_in, agrees, value_of}
 use Rattle.asp_vars.proofs.LiteralLaws.{same_literal}
 use Rattle.asp_trail.specs.declared.trail.Entry.{Entry}
@@ -18,9 +19,10 @@ use Rattle.asp_trail.proofs.EntryLaws.{find_only}
 use Rattle.asp_trail.proofs.HoldLaws.{holds_at, holds_found, value_at}
 use Rattle.asp_trail.specs.Reasons.{Stands, IsReason}
 use Rattle.asp_store.specs.Fitting.{IsFalseBy, Watches, IsWatched}
-use Rattle.asp_store.specs.Looking.{AreTrueBeside}
+use Rattle.asp_store.specs.Looking.{AreTrueBeside, HaveSame}
 use Rattle.asp_store.specs.declared.looks.Spot.{Spot}
 use Rattle.asp_trail.proofs.FixpointLaws.{false_from}
+use Rattle.asp_store.proofs.GetLaws.{get_take_some}
 use Rattle.asp_store.proofs.WatchLaws.{stands_grow}
 
 pub complement_twice : (l : Literal) → complement (complement l) ≡ l
@@ -142,6 +144,12 @@ pub or_right : (a b : Bool) → b ≡ true → (a || b) ≡ true
 or_right true b q = refl
 or_right false b q = q
 
+-- what holds of each literal of a list holds of each of another one with the same literals
+pub all_same : (P : Literal → Type 0) (n m : List Literal) → HaveSame n m → All P n → All P m
+all_same P n m same a i d h =
+    let l : Literal = get_or m i d in
+    all_has P n l a (same l ∙ list_any_at (λ (k : Literal). literal_eq k l) m i d h (eq_itself l))
+
 -- a literal of either part of a list is one of the list, and what holds of both parts holds of it
 pub has_before : (i : ℕ) (n : List Literal) (l : Literal) → has_literal (take i n) l ≡ true → has_literal n l ≡ true
 has_before i n l h =
@@ -162,6 +170,19 @@ pub some_before : (values : List (Option Bool)) (other : Literal) (i : ℕ) (n :
     IfSome r (λ s. (has_literal n s.lit ≡ true) × (literal_eq s.lit other ≡ false) × (holds_in values s.lit ≡ false))
 some_before values other i n None h = tt
 some_before values other i n (Some s) h = (has_before i n s.lit h.0, h.1, h.2)
+
+pub place_before : (i : ℕ) (n : List Literal) (r : Option Spot) → IfSome r (λ s. slice_get (take i n) s.place ≡ Some s.lit) → IfSome r (λ s. slice_get n s.place ≡ Some s.lit)
+place_before i n None h = tt
+place_before i n (Some s) h = get_take_some i n s.place s.lit h
+
+get_drop_some : (i : ℕ) (n : List Literal) (p : ℕ) (l : Literal) → slice_get (drop i n) p ≡ Some l → slice_get n (i + p) ≡ Some l
+get_drop_some zero n p l g = ap (slice_get n) (let e : 0 + p ≡ p = omega arith in e) ∙ g
+get_drop_some (suc i) [] p l g = absurd (none-some l g)
+get_drop_some (suc i) (k ∷ n) p l g = ap (slice_get (k ∷ n)) (let e : suc i + p ≡ suc (i + p) = omega arith in e) ∙ get_drop_some i n p l g
+
+-- a place of the others is one of the list
+pub part_at : (m i : ℕ) (n : List Literal) (p : ℕ) (l : Literal) → slice_get (take m (drop i n)) p ≡ Some l → slice_get n (i + p) ≡ Some l
+part_at m i n p l g = get_drop_some i n p l (get_take_some m (drop i n) p l g)
 
 pub none_parted : (P : Literal → Type 0) (i : ℕ) (n : List Literal) (r : Option Spot) → All P (take (length n - i) (drop i n)) → IfNone r (All P (take i n)) → IfNone r (All P n)
 none_parted P i n None behind before =

@@ -19,7 +19,8 @@ use Rattle.asp_store.specs.declared.watches.Watches.{Watches}
 use Rattle.asp_store.specs.declared.front.Step.TheVariants as step
 use Rattle.asp_store.specs.Keeping.{kept_at, nogood_at, is_lasting}
 use Rattle.asp_store.specs.Lists.{list_at}
-use Rattle.asp_store.specs.Pairs.{IsOneOf}
+use Rattle.asp_store.specs.Looking.{HaveSame}
+use Rattle.asp_store.specs.Pairs.{pair_of, IsOneOf}
 use Rattle.asp_store.specs.Parted.{Parted, IsFrom}
 use Rattle.asp_store.specs.Fitting.{HasFalse, IsWatched}
 use Rattle.asp_store.specs.Sounding.{IsListed, IsSound, AreSettled}
@@ -29,7 +30,7 @@ use Rattle.asp_store.proofs.PlaceLaws.{listed_new, listed_push}
 use Rattle.asp_store.proofs.WatchLaws.{has_false_grow}
 use Rattle.asp_store.proofs.LookLaws.{all_has}
 use Rattle.asp_store.proofs.ShortLaws.{place_new}
-use Rattle.asp_store.proofs.SoundLaws.{Suits, sound_pair, sound_apart, pair_cases, sound_grow}
+use Rattle.asp_store.proofs.SoundLaws.{Suits, sound_row, sound_apart, pair_cases, sound_grow}
 use Rattle.asp_store.proofs.StepLaws.{code_of_list, sound_watch}
 
 pub kept_within : (slots : List (Option StoredNogood)) (id : ℕ) (n : Nogood) → nogood_at slots id ≡ Some n → id < length slots
@@ -82,8 +83,8 @@ with_second w p id b = record w { lists = set w.lists (code_of p.second) (list_a
 abbrev pub with_both : Watches → Pair → ℕ → Bool → Watches
 with_both w p id b = with_second (with_first w p id b) p id b
 
-abbrev pub attached : Watches → Pair → ℕ → Bool → Watches
-attached w p id b = record (with_both w p id b) { pairs = set w.pairs id (Some p) }
+abbrev pub attached : Watches → Pair → ℕ → Bool → List Literal → Watches
+attached w p id b r = record (with_both w p id b) { rows = set w.rows id r }
 
 -- the literals of a pair are of the trail's variables
 pub pair_small : (slots : List (Option StoredNogood)) (w : Watches) (t : Trailed) (id : ℕ) (n : Nogood) (p : Pair) (l : Literal) (es : List Entry) (seen : ℕ) → IsSound slots w t →
@@ -105,21 +106,22 @@ sound_both slots w t p id n b h k e s =
     small : (l : Literal) → IsOneOf p l → l.var ≤ t.vars
     small l o = pair_small slots w t id n p l t.entries (length t.entries) s h k o
 
-suits_both : (slots : List (Option StoredNogood)) (w : Watches) (t : Trailed) (p : Pair) (id : ℕ) (n : Nogood) (b : Bool) → nogood_at slots id ≡ Some n →
-    IsWatched n.lits p t.entries (length t.entries) → b ≡ is_lasting (kept_at slots id) → IsSound slots w t → Suits slots (with_both w p id b) t id (Some p)
-suits_both slots w t p id n b h k is s = record {
+suits_both : (slots : List (Option StoredNogood)) (w : Watches) (t : Trailed) (p : Pair) (id : ℕ) (n : Nogood) (b : Bool) (r : List Literal) → nogood_at slots id ≡ Some n →
+    IsWatched n.lits p t.entries (length t.entries) → b ≡ is_lasting (kept_at slots id) → pair_of r ≡ Some p → HaveSame n.lits r → IsSound slots w t → Suits slots (with_both w p id b) t id r
+suits_both slots w t p id n b r h k is first all s = record {
   within = omega (arith, s.net.paired, kept_within slots id n h);
-  bounded = λ q l e o. subst (λ (x : Pair). IsOneOf x l → l.var ≤ t.vars) (same_Some p q e) (λ z. pair_small slots w t id n p l t.entries (length t.entries) s h k z) o;
+  kept = λ q e. (n, h, all);
+  bounded = λ q l e o. subst (λ (x : Pair). IsOneOf x l → l.var ≤ t.vars) (same_Some p q (sym first ∙ e)) (λ z. pair_small slots w t id n p l t.entries (length t.entries) s h k z) o;
   listed = λ m q l g e o.
-      subst (λ (x : Pair). IsOneOf x l → IsListed (with_both w p id b).lists l 0 id m.lits) (same_Some p q e)
+      subst (λ (x : Pair). IsOneOf x l → IsListed (with_both w p id b).lists l 0 id m.lits) (same_Some p q (sym first ∙ e))
       (λ z. elim z [
-        | inl y ↦ subst (λ (x : Literal). IsListed (with_both w p id b).lists x 0 id m.lits) y (first m g)
-        | inr y ↦ subst (λ (x : Literal). IsListed (with_both w p id b).lists x 0 id m.lits) y (second m g)
+        | inl y ↦ subst (λ (x : Literal). IsListed (with_both w p id b).lists x 0 id m.lits) y (one_listed m g)
+        | inr y ↦ subst (λ (x : Literal). IsListed (with_both w p id b).lists x 0 id m.lits) y (other_listed m g)
       ]) o;
   watched = λ m q g e.
-      subst (λ (x : Pair). IsWatched m.lits x t.entries t.seen) (same_Some p q e)
+      subst (λ (x : Pair). IsWatched m.lits x t.entries t.seen) (same_Some p q (sym first ∙ e))
       (subst (λ (x : Nogood). IsWatched x.lits p t.entries t.seen) (same m g) (watched_seen n.lits p t.entries t.seen k));
-  apart = λ m g e. absurd (none-some p (sym e));
+  apart = λ m g e. absurd (none-some p (sym e ∙ first));
 }
   where
     same : (m : Nogood) → nogood_at slots id ≡ Some m → n ≡ m
@@ -131,35 +133,35 @@ suits_both slots w t p id n b h k is s = record {
     two : IsSound slots (with_first w p id b) t × IsSound slots (with_both w p id b) t
     two = sound_both slots w t p id n b h k is s
 
-    first : (m : Nogood) → nogood_at slots id ≡ Some m → IsListed (with_both w p id b).lists p.first 0 id m.lits
-    first m g =
+    one_listed : (m : Nogood) → nogood_at slots id ≡ Some m → IsListed (with_both w p id b).lists p.first 0 id m.lits
+    one_listed m g =
         listed_push (with_first w p id b).lists (code_of p.second) (record { blocker = p.first; id = id; is_short = b }) p.first 0 id m.lits
         (code_of_list slots (with_first w p id b) t p.second two.0 (small p.second (inr refl)))
         (listed_new w.lists (record { blocker = p.second; id = id; is_short = b }) p.first m.lits (code_of_list slots w t p.first s (small p.first (inl refl)))
         (subst (λ (x : Nogood). has_literal x.lits p.second ≡ true) (same m g) (k.has p.second (inr refl))))
 
-    second : (m : Nogood) → nogood_at slots id ≡ Some m → IsListed (with_both w p id b).lists p.second 0 id m.lits
-    second m g =
+    other_listed : (m : Nogood) → nogood_at slots id ≡ Some m → IsListed (with_both w p id b).lists p.second 0 id m.lits
+    other_listed m g =
         listed_new (with_first w p id b).lists (record { blocker = p.first; id = id; is_short = b }) p.second m.lits
         (code_of_list slots (with_first w p id b) t p.second two.0 (small p.second (inr refl)))
         (subst (λ (x : Nogood). has_literal x.lits p.first ≡ true) (same m g) (k.has p.first (inl refl)))
 
-pub attached_looking : (slots : List (Option StoredNogood)) (w : Watches) (t : Trailed) (i id : ℕ) (p : Pair) (n : Nogood) (b : Bool) → nogood_at slots id ≡ Some n →
-    IsWatched n.lits p t.entries (length t.entries) → b ≡ is_lasting (kept_at slots id) → IsWaiting slots w t i id → IsLooking slots (attached w p id b) t i
-attached_looking slots w t i id p n b h k is v = record {
-  sound = sound_pair slots (with_both w p id b) t id (Some p) (suits_both slots w t p id n b h k is v.looking.sound) (sound_both slots w t p id n b h k is v.looking.sound).1;
-  settled = λ j m g q. elim (pair_cases w.pairs id (Some p) j None (omega (arith, v.looking.sound.net.paired, kept_within slots id n h)) q) [
-    | inl e ↦ absurd (none-some p (sym e.1))
+pub attached_looking : (slots : List (Option StoredNogood)) (w : Watches) (t : Trailed) (i id : ℕ) (p : Pair) (n : Nogood) (b : Bool) (r : List Literal) → nogood_at slots id ≡ Some n →
+    IsWatched n.lits p t.entries (length t.entries) → b ≡ is_lasting (kept_at slots id) → pair_of r ≡ Some p → HaveSame n.lits r → IsWaiting slots w t i id → IsLooking slots (attached w p id b r) t i
+attached_looking slots w t i id p n b r h k is first all v = record {
+  sound = sound_row slots (with_both w p id b) t id r (suits_both slots w t p id n b r h k is first all v.looking.sound) (sound_both slots w t p id n b h k is v.looking.sound).1;
+  settled = λ j m g q. elim (pair_cases w.rows id r j None (omega (arith, v.looking.sound.net.paired, kept_within slots id n h)) q) [
+    | inl e ↦ absurd (none-some p (sym e.1 ∙ first))
     | inr e ↦ v.looking.settled j m g e.1
   ];
   begun = v.looking.begun;
 }
 
-pub attached_none : (slots : List (Option StoredNogood)) (w : Watches) (t : Trailed) (i id : ℕ) (p : Pair) (n : Nogood) (b : Bool) → nogood_at slots id ≡ Some n → IsWaiting slots w t i id →
-    HasNone slots (attached w p id b) i
-attached_none slots w t i id p n b h v j m at g q =
+pub attached_none : (slots : List (Option StoredNogood)) (w : Watches) (t : Trailed) (i id : ℕ) (p : Pair) (n : Nogood) (b : Bool) (r : List Literal) → nogood_at slots id ≡ Some n →
+    pair_of r ≡ Some p → IsWaiting slots w t i id → HasNone slots (attached w p id b r) i
+attached_none slots w t i id p n b r h first v j m at g q =
     let e : j ≡ id = same_Some j id (sym at ∙ v.at) in
-    none-some p (sym q ∙ at_set w.pairs id (Some p) None j (omega (arith, v.looking.sound.net.paired, kept_within slots id n h)) e)
+    none-some p (sym q ∙ (ap pair_of (at_set w.rows id r [] j (omega (arith, v.looking.sound.net.paired, kept_within slots id n h)) e) ∙ first))
 
 -- ---- a literal is false
 same_kept : (slots : List (Option StoredNogood)) (i id j : ℕ) (items : List ℕ) (m : Nogood) → slice_get items i ≡ Some id → slice_get items i ≡ Some j → nogood_at slots j ≡ Some m → nogood_at slots id ≡ Some m
@@ -241,7 +243,7 @@ looking_begins slots w t s = record {
   begun = omega arith;
 }
 
-pub looking_ends : (slots : List (Option StoredNogood)) (w : Watches) (t : Trailed) (i : ℕ) → length w.apart.items ≤ i → IsLooking slots w t i → AreSettled slots w.pairs t.entries
+pub looking_ends : (slots : List (Option StoredNogood)) (w : Watches) (t : Trailed) (i : ℕ) → length w.apart.items ≤ i → IsLooking slots w t i → AreSettled slots w.rows t.entries
 looking_ends slots w t i h k id n g q =
     elim (k.settled id n g q) [
       | inl f ↦ absurd (omega (arith, h, f.1, slice_get_within w.apart.items f.0 id f.2))

@@ -1,4 +1,4 @@
--- Watches are sound, through each change of lists, of a pair, of the numbers apart and of the trail.
+-- Watches are sound, through each change of lists, of a row, of the numbers apart and of the trail.
 use Rattle.std.proofs.Common.{◌≡◌, ◌≢◌, ℕ, ◌<◌, ◌≤◌, List, [], ◌∷◌, ◌++◌, length, set, Option, Some, None, inl, inr, ◌⊎◌, sym, ap, ◌∙◌, subst, arith}
 use Rattle.std.proofs.lemmas.List.{length-set}
 use Rattle.asp_vars.specs.Literals.{Literal}
@@ -10,9 +10,10 @@ use Rattle.asp_store.specs.Marks.{Watch}
 use Rattle.asp_store.specs.declared.watch.Pair.{Pair}
 use Rattle.asp_store.specs.declared.watches.Watches.{Watches}
 use Rattle.asp_store.specs.Keeping.{nogood_at}
-use Rattle.asp_store.specs.Pairs.{pair_at, IsOneOf}
+use Rattle.asp_store.specs.Pairs.{pair_of, pair_at, IsOneOf}
 use Rattle.asp_store.specs.Parted.{Parted, IsFrom}
 use Rattle.asp_store.specs.Fitting.{HasFalse, IsWatched, AreFit}
+use Rattle.asp_store.specs.Looking.{HaveSame}
 use Rattle.asp_store.specs.Sounding.{IsListed, IsPlace, IsSound, AreSettled}
 use Rattle.asp_store.proofs.GetLaws.{is_or_not, at_set, at_set_other, get_more}
 use Rattle.asp_store.proofs.PlaceLaws.{AllPlaces}
@@ -21,7 +22,7 @@ use Rattle.asp_store.proofs.WatchLaws.{has_false_grow, watched_grow}
 -- ---- lists change
 pub sound_lists : (slots : List (Option StoredNogood)) (w : Watches) (t : Trailed) (lists : List (List Watch)) → length lists ≡ length w.lists →
     AllPlaces (IsPlace t.vars slots) lists →
-    ((id : ℕ) (n : Nogood) (p : Pair) (l : Literal) → nogood_at slots id ≡ Some n → pair_at w.pairs id ≡ Some p → IsOneOf p l → IsListed lists l 0 id n.lits) →
+    ((id : ℕ) (n : Nogood) (p : Pair) (l : Literal) → nogood_at slots id ≡ Some n → pair_at w.rows id ≡ Some p → IsOneOf p l → IsListed lists l 0 id n.lits) →
     IsSound slots w t → IsSound slots (record w { lists = lists }) t
 sound_lists slots w t lists len places listed s = record {
   net = record {
@@ -30,6 +31,7 @@ sound_lists slots w t lists len places listed s = record {
     small = s.net.small;
     numbered = s.net.numbered;
     places = places;
+    kept = s.net.kept;
     watched = s.net.watched;
     listed = listed;
     unwatched = s.net.unwatched;
@@ -37,72 +39,81 @@ sound_lists slots w t lists len places listed s = record {
   fit = s.fit;
 }
 
--- ---- the pair of one number changes
-pub pair_cases : (pairs : List (Option Pair)) (id : ℕ) (q : Option Pair) (k : ℕ) (o : Option Pair) → id < length pairs → pair_at (set pairs id q) k ≡ o →
-    ((k ≡ id) × (q ≡ o)) ⊎ ((k ≢ id) × (pair_at pairs k ≡ o))
-pair_cases pairs id q k o h g =
+-- ---- the row of one number changes
+pub pair_cases : (rows : List (List Literal)) (id : ℕ) (r : List Literal) (k : ℕ) (o : Option Pair) → id < length rows → pair_at (set rows id r) k ≡ o →
+    ((k ≡ id) × (pair_of r ≡ o)) ⊎ ((k ≢ id) × (pair_at rows k ≡ o))
+pair_cases rows id r k o h g =
     elim (is_or_not k id) [
-      | inl e ↦ inl (e, sym (at_set pairs id q None k h e) ∙ g)
-      | inr ne ↦ inr (ne, sym (at_set_other pairs id q None k ne) ∙ g)
+      | inl e ↦ inl (e, sym (ap pair_of (at_set rows id r [] k h e)) ∙ g)
+      | inr ne ↦ inr (ne, sym (ap pair_of (at_set_other rows id r [] k ne)) ∙ g)
     ]
 
--- what must be true of the new pair of a number
-pub record Suits (slots : List (Option StoredNogood)) (w : Watches) (t : Trailed) (id : ℕ) (q : Option Pair) : Type 0 where
-  pub within : id < length w.pairs
-  pub bounded : (p : Pair) (l : Literal) → q ≡ Some p → IsOneOf p l → l.var ≤ t.vars
-  pub listed : (n : Nogood) (p : Pair) (l : Literal) → nogood_at slots id ≡ Some n → q ≡ Some p → IsOneOf p l → IsListed w.lists l 0 id n.lits
-  pub watched : (n : Nogood) (p : Pair) → nogood_at slots id ≡ Some n → q ≡ Some p → IsWatched n.lits p t.entries t.seen
-  pub apart : (n : Nogood) → nogood_at slots id ≡ Some n → q ≡ None → IsFrom w.apart w.apart.retired id
+-- what must be true of the new row of a number
+pub record Suits (slots : List (Option StoredNogood)) (w : Watches) (t : Trailed) (id : ℕ) (r : List Literal) : Type 0 where
+  pub within : id < length w.rows
+  pub kept : (p : Pair) → pair_of r ≡ Some p → (n : Nogood) × (nogood_at slots id ≡ Some n) × HaveSame n.lits r
+  pub bounded : (p : Pair) (l : Literal) → pair_of r ≡ Some p → IsOneOf p l → l.var ≤ t.vars
+  pub listed : (n : Nogood) (p : Pair) (l : Literal) → nogood_at slots id ≡ Some n → pair_of r ≡ Some p → IsOneOf p l → IsListed w.lists l 0 id n.lits
+  pub watched : (n : Nogood) (p : Pair) → nogood_at slots id ≡ Some n → pair_of r ≡ Some p → IsWatched n.lits p t.entries t.seen
+  pub apart : (n : Nogood) → nogood_at slots id ≡ Some n → pair_of r ≡ None → IsFrom w.apart w.apart.retired id
 
 pub from_zero : (a : Parted) (i id : ℕ) → IsFrom a i id → IsFrom a 0 id
 from_zero a i id f = (f.0, omega arith, f.2)
 
-pub sound_pair : (slots : List (Option StoredNogood)) (w : Watches) (t : Trailed) (id : ℕ) (q : Option Pair) → Suits slots w t id q → IsSound slots w t →
-    IsSound slots (record w { pairs = set w.pairs id q }) t
-sound_pair slots w t id q u s = record {
+pub sound_row : (slots : List (Option StoredNogood)) (w : Watches) (t : Trailed) (id : ℕ) (r : List Literal) → Suits slots w t id r → IsSound slots w t →
+    IsSound slots (record w { rows = set w.rows id r }) t
+sound_row slots w t id r u s = record {
   net = record {
     sized = s.net.sized;
-    paired = length-set w.pairs id q ∙ s.net.paired;
+    paired = length-set w.rows id r ∙ s.net.paired;
     small = s.net.small;
     numbered = s.net.numbered;
     places = s.net.places;
-    watched = λ k p l g o. elim (pair_cases w.pairs id q k (Some p) u.within g) [
+    kept = λ k p g. elim (pair_cases w.rows id r k (Some p) u.within g) [
+      | inl e ↦
+          let o = u.kept p e.1 in
+          (o.0, ap (nogood_at slots) e.0 ∙ o.1, subst (λ (xs : List Literal). HaveSame o.0.lits xs) (sym (at_set w.rows id r [] k u.within e.0)) o.2)
+      | inr e ↦
+          let o = s.net.kept k p e.1 in
+          (o.0, o.1, subst (λ (xs : List Literal). HaveSame o.0.lits xs) (sym (at_set_other w.rows id r [] k e.0)) o.2)
+    ];
+    watched = λ k p l g o. elim (pair_cases w.rows id r k (Some p) u.within g) [
       | inl e ↦ u.bounded p l e.1 o
       | inr e ↦ s.net.watched k p l e.1 o
     ];
-    listed = λ k n p l h g o. elim (pair_cases w.pairs id q k (Some p) u.within g) [
+    listed = λ k n p l h g o. elim (pair_cases w.rows id r k (Some p) u.within g) [
       | inl e ↦ subst (λ (j : ℕ). IsListed w.lists l 0 j n.lits) (sym e.0) (u.listed n p l (sym (ap (nogood_at slots) e.0) ∙ h) e.1 o)
       | inr e ↦ s.net.listed k n p l h e.1 o
     ];
-    unwatched = λ k n h g. elim (pair_cases w.pairs id q k None u.within g) [
+    unwatched = λ k n h g. elim (pair_cases w.rows id r k None u.within g) [
       | inl e ↦ subst (λ (j : ℕ). IsFrom w.apart 0 j) (sym e.0) (from_zero w.apart w.apart.retired id (u.apart n (sym (ap (nogood_at slots) e.0) ∙ h) e.1))
       | inr e ↦ s.net.unwatched k n h e.1
     ];
   };
   fit = record {
-    watched = λ k n p h g. elim (pair_cases w.pairs id q k (Some p) u.within g) [
+    watched = λ k n p h g. elim (pair_cases w.rows id r k (Some p) u.within g) [
       | inl e ↦ u.watched n p (sym (ap (nogood_at slots) e.0) ∙ h) e.1
       | inr e ↦ s.fit.watched k n p h e.1
     ];
-    unwatched = λ k n h g. elim (pair_cases w.pairs id q k None u.within g) [
+    unwatched = λ k n h g. elim (pair_cases w.rows id r k None u.within g) [
       | inl e ↦ inl (subst (λ (j : ℕ). IsFrom w.apart w.apart.retired j) (sym e.0) (u.apart n (sym (ap (nogood_at slots) e.0) ∙ h) e.1))
       | inr e ↦ s.fit.unwatched k n h e.1
     ];
   };
 }
 
-pub settled_pair : (slots : List (Option StoredNogood)) (pairs : List (Option Pair)) (es : List Entry) (id : ℕ) (q : Option Pair) → id < length pairs →
-    ((n : Nogood) → nogood_at slots id ≡ Some n → q ≡ None → (b : ℕ) × HasFalse es n.lits b) → AreSettled slots pairs es → AreSettled slots (set pairs id q) es
-settled_pair slots pairs es id q within here s k n h g =
-    elim (pair_cases pairs id q k None within g) [
+pub settled_row : (slots : List (Option StoredNogood)) (rows : List (List Literal)) (es : List Entry) (id : ℕ) (r : List Literal) → id < length rows →
+    ((n : Nogood) → nogood_at slots id ≡ Some n → pair_of r ≡ None → (b : ℕ) × HasFalse es n.lits b) → AreSettled slots rows es → AreSettled slots (set rows id r) es
+settled_row slots rows es id r within here s k n h g =
+    elim (pair_cases rows id r k None within g) [
       | inl e ↦ here n (sym (ap (nogood_at slots) e.0) ∙ h) e.1
       | inr e ↦ s k n h e.1
     ]
 
 -- ---- those apart change
 pub sound_apart : (slots : List (Option StoredNogood)) (w : Watches) (t : Trailed) (apart : Parted) →
-    ((id : ℕ) (n : Nogood) → nogood_at slots id ≡ Some n → pair_at w.pairs id ≡ None → IsFrom apart 0 id) →
-    ((id : ℕ) (n : Nogood) → nogood_at slots id ≡ Some n → pair_at w.pairs id ≡ None → IsFrom apart apart.retired id ⊎ HasFalse t.entries n.lits 0) →
+    ((id : ℕ) (n : Nogood) → nogood_at slots id ≡ Some n → pair_at w.rows id ≡ None → IsFrom apart 0 id) →
+    ((id : ℕ) (n : Nogood) → nogood_at slots id ≡ Some n → pair_at w.rows id ≡ None → IsFrom apart apart.retired id ⊎ HasFalse t.entries n.lits 0) →
     IsSound slots w t → IsSound slots (record w { apart = apart }) t
 sound_apart slots w t apart all waiting s = record {
   net = record {
@@ -111,6 +122,7 @@ sound_apart slots w t apart all waiting s = record {
     small = s.net.small;
     numbered = s.net.numbered;
     places = s.net.places;
+    kept = s.net.kept;
     watched = s.net.watched;
     listed = s.net.listed;
     unwatched = all;
@@ -130,9 +142,9 @@ sound_push slots w t x s =
     (λ id n h g. elim (s.fit.unwatched id n h g) [ inl f ↦ inl (from_push w.apart x w.apart.retired id f) | inr f ↦ inr f ]) s
 
 -- ---- the trail grows
-pub fit_grow : (slots : List (Option StoredNogood)) (pairs : List (Option Pair)) (apart : Parted) (t : Trailed) (fs : List Entry) → t.seen ≤ length t.entries → AreFit slots pairs apart t →
-    AreFit slots pairs apart (record t { entries = t.entries ++ fs })
-fit_grow slots pairs apart t fs le f = record {
+pub fit_grow : (slots : List (Option StoredNogood)) (rows : List (List Literal)) (apart : Parted) (t : Trailed) (fs : List Entry) → t.seen ≤ length t.entries → AreFit slots rows apart t →
+    AreFit slots rows apart (record t { entries = t.entries ++ fs })
+fit_grow slots rows apart t fs le f = record {
   watched = λ id n p h g. watched_grow t.entries fs t.seen n.lits p le (f.watched id n p h g);
   unwatched = λ id n h g. elim (f.unwatched id n h g) [ inl a ↦ inl a | inr a ↦ inr (has_false_grow t.entries fs n.lits 0 a) ];
 }
@@ -141,8 +153,8 @@ pub sound_grow : (slots : List (Option StoredNogood)) (w : Watches) (t : Trailed
     IsSound slots w (record t { entries = t.entries ++ fs })
 sound_grow slots w t fs le s = record {
   net = s.net;
-  fit = fit_grow slots w.pairs w.apart t fs le s.fit;
+  fit = fit_grow slots w.rows w.apart t fs le s.fit;
 }
 
-pub settled_grow : (slots : List (Option StoredNogood)) (pairs : List (Option Pair)) (es fs : List Entry) → AreSettled slots pairs es → AreSettled slots pairs (es ++ fs)
-settled_grow slots pairs es fs s id n h g = let f = s id n h g in (f.0, has_false_grow es fs n.lits f.0 f.1)
+pub settled_grow : (slots : List (Option StoredNogood)) (rows : List (List Literal)) (es fs : List Entry) → AreSettled slots rows es → AreSettled slots rows (es ++ fs)
+settled_grow slots rows es fs s id n h g = let f = s id n h g in (f.0, has_false_grow es fs n.lits f.0 f.1)

@@ -19,20 +19,21 @@ use Rattle.asp_store.specs.declared.watch.Pair.{Pair}
 use Rattle.asp_store.specs.declared.watches.Watches.{Watches}
 use Rattle.asp_store.specs.declared.front.Front.{Front}
 use Rattle.asp_store.specs.declared.front.Step.TheVariants as step
+use Rattle.asp_arena.specs.Rows.{row_at}
 use Rattle.asp_store.specs.Keeping.{nogood_at}
 use Rattle.asp_store.specs.Lists.{list_at, place, size}
-use Rattle.asp_store.specs.Pairs.{pair_at, IsOneOf, IsBeside}
+use Rattle.asp_store.specs.Pairs.{pair_of, pair_at, IsOneOf, IsBeside}
 use Rattle.asp_store.specs.Parted.{IsFrom}
 use Rattle.asp_store.specs.Fitting.{IsFalseBy, HasFalse, Watches as Watching}
 use Rattle.asp_store.specs.Sounding.{IsListed, IsPlace, IsSound}
-use Rattle.asp_store.specs.Looking.{AreTrueBeside}
+use Rattle.asp_store.specs.Looking.{AreTrueBeside, LeadsWith}
 use Rattle.asp_store.specs.Walking.{IsWalking, IsVisit, MayWatch, Steps}
 use Rattle.asp_store.proofs.GetLaws.{list_within, length-swap, at_set, at_set_other, get_last}
 use Rattle.asp_store.proofs.PlaceLaws.{code_injective, code_within, place_else, size_here, listed_set, places_set, listed_push, listed_new, places_push, listed_take, places_take, listed_next, listed_later}
 use Rattle.asp_store.proofs.WatchLaws.{has_false_grow, stands_grow}
-use Rattle.asp_store.proofs.LookLaws.{watches_open, eq_itself, one_of_two}
+use Rattle.asp_store.proofs.LookLaws.{all_same, watches_open, eq_itself, one_of_two}
 use Rattle.asp_store.proofs.ShortLaws.{place_long}
-use Rattle.asp_store.proofs.SoundLaws.{Suits, sound_lists, sound_pair, settled_pair, pair_cases, sound_push, sound_grow, settled_grow}
+use Rattle.asp_store.proofs.SoundLaws.{Suits, sound_lists, sound_row, settled_row, pair_cases, sound_push, sound_grow, settled_grow}
 
 -- ---- of a pair
 pub beside_one : (p : Pair) (l k : Literal) → IsBeside p l k → IsOneOf p l × IsOneOf p k
@@ -135,7 +136,7 @@ step_block slots w t f i id other v is_false = (
 
 -- ---- a place goes
 pub step_leave : (slots : List (Option StoredNogood)) (w : Watches) (t : Trailed) (f : Front) (i id : ℕ) (x d : Watch) → place w.lists (code_of f.lit) i ≡ Some x → x.id ≡ id →
-    ((n : Nogood) (p : Pair) → nogood_at slots id ≡ Some n → pair_at w.pairs id ≡ Some p → IsOneOf p f.lit → ⊥) → IsWalking slots w t f i →
+    ((n : Nogood) (p : Pair) → nogood_at slots id ≡ Some n → pair_at w.rows id ≡ Some p → IsOneOf p f.lit → ⊥) → IsWalking slots w t f i →
     Steps slots w (record w { lists = set w.lists (code_of f.lit) (swap_remove (list_at w.lists (code_of f.lit)) i d) }) t f i step.Goes
 step_leave slots w t f i id x d g is gone k = (
   record {
@@ -157,12 +158,12 @@ step_leave slots w t f i id x d g is gone k = (
     lists : List (List Watch)
     lists = set w.lists (code_of f.lit) (swap_remove (list_at w.lists (code_of f.lit)) i d)
 
-    stays : (j : ℕ) (n : Nogood) (p : Pair) (l : Literal) (from : ℕ) → from ≤ i → nogood_at slots j ≡ Some n → pair_at w.pairs j ≡ Some p → IsOneOf p l → IsListed w.lists l from j n.lits →
+    stays : (j : ℕ) (n : Nogood) (p : Pair) (l : Literal) (from : ℕ) → from ≤ i → nogood_at slots j ≡ Some n → pair_at w.rows j ≡ Some p → IsOneOf p l → IsListed w.lists l from j n.lits →
         IsListed (set w.lists (code_of f.lit) (swap_remove (list_at w.lists (code_of f.lit)) i d)) l from j n.lits
     stays j n p l from low m q o s =
         listed_take w.lists (code_of f.lit) i d x l from j n.lits h g low
         (λ e y. let z : id ≡ j = sym is ∙ y in
-        gone n p (ap (nogood_at slots) z ∙ m) (ap (pair_at w.pairs) z ∙ q) (subst (λ (b : Literal). IsOneOf p b) (code_injective l f.lit e) o)) s
+        gone n p (ap (nogood_at slots) z ∙ m) (ap (pair_at w.rows) z ∙ q) (subst (λ (b : Literal). IsOneOf p b) (code_injective l f.lit e) o)) s
 
 -- ---- another list gets a watch
 pub code_of_list : (slots : List (Option StoredNogood)) (w : Watches) (t : Trailed) (l : Literal) → IsSound slots w t → l.var ≤ t.vars → code_of l < length w.lists
@@ -195,11 +196,11 @@ visit_push slots w t f i id other l x h b ne v = record {
   beside = v.beside;
 }
 
--- ---- the pair of a visit changes
-pub visit_id : (slots : List (Option StoredNogood)) (w : Watches) (t : Trailed) (f : Front) (i id : ℕ) (other : Literal) → IsVisit slots w t f i id other → id < length w.pairs
-visit_id slots w t f i id other v = some_within w.pairs id v.pair v.pair_is
+-- ---- the row of a visit changes
+pub visit_id : (slots : List (Option StoredNogood)) (w : Watches) (t : Trailed) (f : Front) (i id : ℕ) (other : Literal) → IsVisit slots w t f i id other → id < length w.rows
+visit_id slots w t f i id other v = some_within w.rows id v.pair v.pair_is
   where
-    some_within : (xs : List (Option Pair)) (k : ℕ) (p : Pair) → pair_at xs k ≡ Some p → k < length xs
+    some_within : (xs : List (List Literal)) (k : ℕ) (p : Pair) → pair_at xs k ≡ Some p → k < length xs
     some_within [] k p q = absurd (let e : ⊥ = cc in e)
     some_within (x ∷ xs) zero p q = omega arith
     some_within (x ∷ xs) (suc k) p q = omega (arith, some_within xs k p q)
@@ -208,23 +209,38 @@ pub visit_few : (slots : List (Option StoredNogood)) (w : Watches) (t : Trailed)
 visit_few slots w t f i id other v = omega (arith, visit_id slots w t f i id other v, v.walking.sound.net.paired, v.walking.sound.net.numbered)
 
 -- the literal of the front isn't watched any more
-pub walking_pair : (slots : List (Option StoredNogood)) (w : Watches) (t : Trailed) (f : Front) (i id : ℕ) (q : Option Pair) → Suits slots w t id q →
-    ((n : Nogood) → nogood_at slots id ≡ Some n → q ≡ None → (b : ℕ) × HasFalse t.entries n.lits b) → ((n : Nogood) (p : Pair) → nogood_at slots id ≡ Some n → q ≡ Some p → IsOneOf p f.lit → ⊥) → IsWalking slots w t f i →
-    IsWalking slots (record w { pairs = set w.pairs id q }) t f i
-walking_pair slots w t f i id q u settled gone k = record {
-  sound = sound_pair slots w t id q u k.sound;
-  settled = settled_pair slots w.pairs t.entries id q u.within settled k.settled;
-  done = λ j n p h g o. elim (pair_cases w.pairs id q j (Some p) u.within g) [
+pub walking_row : (slots : List (Option StoredNogood)) (w : Watches) (t : Trailed) (f : Front) (i id : ℕ) (r : List Literal) → Suits slots w t id r →
+    ((n : Nogood) → nogood_at slots id ≡ Some n → pair_of r ≡ None → (b : ℕ) × HasFalse t.entries n.lits b) →
+    ((n : Nogood) (p : Pair) → nogood_at slots id ≡ Some n → pair_of r ≡ Some p → IsOneOf p f.lit → ⊥) → IsWalking slots w t f i → IsWalking slots (record w { rows = set w.rows id r }) t f i
+walking_row slots w t f i id r u settled gone k = record {
+  sound = sound_row slots w t id r u k.sound;
+  settled = settled_row slots w.rows t.entries id r u.within settled k.settled;
+  done = λ j n p h g o. elim (pair_cases w.rows id r j (Some p) u.within g) [
     | inl e ↦ absurd (gone n p (sym (ap (nogood_at slots) e.0) ∙ h) e.1 o)
     | inr e ↦ k.done j n p h e.1 o
   ];
   stands = k.stands;
 }
 
-pub suits_move : (slots : List (Option StoredNogood)) (w : Watches) (t : Trailed) (f : Front) (i id : ℕ) (other l : Literal) → IsOrdered t.vars t.entries → MayWatch slots t id other l →
-    ((n : Nogood) → nogood_at slots id ≡ Some n → IsListed w.lists l 0 id n.lits) → IsVisit slots w t f i id other → Suits slots w t id (Some (record { first = l; second = other }))
-suits_move slots w t f i id other l o m listed v = record {
+-- a watched literal is one of the two that come first
+lead_pair : (old new : List Literal) (l other : Literal) (p : Pair) → LeadsWith old new l other → pair_of new ≡ Some p → IsBeside p l other
+lead_pair old new l other p m q = subst (λ (x : Pair). IsBeside x l other) (same_Some m.pair p (sym m.pair_is ∙ q)) m.beside
+
+either_of : (p : Pair) (l other k : Literal) → IsBeside p l other → IsOneOf p k → (l ≡ k) ⊎ (other ≡ k)
+either_of p l other k (inl e) (inl o) = inl (sym e.0 ∙ o)
+either_of p l other k (inl e) (inr o) = inr (sym e.1 ∙ o)
+either_of p l other k (inr e) (inl o) = inr (sym e.0 ∙ o)
+either_of p l other k (inr e) (inr o) = inl (sym e.1 ∙ o)
+
+differ_of : (p : Pair) (l other : Literal) → IsBeside p l other → l ≢ other → p.first ≢ p.second
+differ_of p l other (inl b) ne e = ne (sym b.0 ∙ (e ∙ b.1))
+differ_of p l other (inr b) ne e = ne (sym b.1 ∙ (sym e ∙ b.0))
+
+pub suits_move : (slots : List (Option StoredNogood)) (w : Watches) (t : Trailed) (f : Front) (i id : ℕ) (other l : Literal) (r : List Literal) → IsOrdered t.vars t.entries → MayWatch slots t id other l →
+    LeadsWith (row_at w.rows id) r l other → ((n : Nogood) → nogood_at slots id ≡ Some n → IsListed w.lists l 0 id n.lits) → IsVisit slots w t f i id other → Suits slots w t id r
+suits_move slots w t f i id other l r o m leads listed v = record {
   within = visit_id slots w t f i id other v;
+  kept = λ p q. let n = v.walking.sound.net.kept id v.pair v.pair_is in (n.0, n.1, λ k. n.2 k ∙ leads.same k);
   bounded = λ p k q one. elim (either p k q one) [
     | inl e ↦ omega (arith, m.small, ap (λ (x : Literal). x.var) e)
     | inr e ↦ omega (arith, visit_var slots w t f i id other v, ap (λ (x : Literal). x.var) e)
@@ -240,21 +256,17 @@ suits_move slots w t f i id other l o m listed v = record {
           | inl e ↦ subst (λ (x : Literal). has_literal n.lits x ≡ true) e (m.has n h)
           | inr e ↦ subst (λ (x : Literal). has_literal n.lits x ≡ true) e (visit_has slots w t f i id other n v h)
         ];
-        differ = λ e. m.differ (ap (λ (x : Pair). x.first) (made p q) ∙ (e ∙ sym (ap (λ (x : Pair). x.second) (made p q))));
+        differ = differ_of p l other (lead_pair (row_at w.rows id) r l other p leads q) m.differ;
         watches = λ k one. elim (either p k q one) [
           | inl e ↦ subst (λ (x : Literal). Watching t.entries t.seen n.lits x) e (watches_open t.vars t.entries t.seen n.lits l o m.not_true)
           | inr e ↦ subst (λ (x : Literal). Watching t.entries t.seen n.lits x) e (was.watches other (beside_one v.pair f.lit other v.beside).1)
         ];
       };
-  apart = λ n h q. absurd (none-some (record { first = l; second = other }) (sym q));
+  apart = λ n h q. absurd (none-some leads.pair (sym q ∙ leads.pair_is));
 }
   where
-    made : (p : Pair) → Some (record { first = l; second = other }) ≡ Some p → record { first = l; second = other } ≡ p
-    made p q = same_Some (record { first = l; second = other }) p q
-
-    either : (p : Pair) (k : Literal) → Some (record { first = l; second = other }) ≡ Some p → IsOneOf p k → (l ≡ k) ⊎ (other ≡ k)
-    either p k q (inl e) = inl (ap (λ (x : Pair). x.first) (made p q) ∙ e)
-    either p k q (inr e) = inr (ap (λ (x : Pair). x.second) (made p q) ∙ e)
+    either : (p : Pair) (k : Literal) → pair_of r ≡ Some p → IsOneOf p k → (l ≡ k) ⊎ (other ≡ k)
+    either p k q one = either_of p l other k (lead_pair (row_at w.rows id) r l other p leads q) one
 
 -- a literal that isn't true isn't the front's
 pub may_differ : (slots : List (Option StoredNogood)) (t : Trailed) (f : Front) (id : ℕ) (other l : Literal) → IsOrdered t.vars t.entries → Stands t.entries f.lit t.seen f.level →
@@ -262,30 +274,27 @@ pub may_differ : (slots : List (Option StoredNogood)) (t : Trailed) (f : Front) 
 may_differ slots t f id other l o s m e =
     false≢true (sym m.not_true ∙ (ap (holds_in (assignment t.vars t.entries)) e ∙ front_holds t f o s))
 
-move_gone : (slots : List (Option StoredNogood)) (w : Watches) (t : Trailed) (f : Front) (i id : ℕ) (other l : Literal) → IsOrdered t.vars t.entries → MayWatch slots t id other l →
-    IsVisit slots w t f i id other → (n : Nogood) → nogood_at slots id ≡ Some n → (p : Pair) → record { first = l; second = other } ≡ p → IsOneOf p f.lit → ⊥
-move_gone slots w t f i id other l o m v n h p e one =
-    elim one [
-      | inl a ↦ may_differ slots t f id other l o v.walking.stands m (ap (λ (x : Pair). x.first) e ∙ a)
-      | inr a ↦ beside_differ v.pair f.lit other (v.walking.sound.fit.watched id n v.pair h v.pair_is).differ v.beside (ap (λ (x : Pair). x.second) e ∙ a)
+move_gone : (slots : List (Option StoredNogood)) (w : Watches) (t : Trailed) (f : Front) (i id : ℕ) (other l : Literal) (r : List Literal) → IsOrdered t.vars t.entries → MayWatch slots t id other l →
+    LeadsWith (row_at w.rows id) r l other → IsVisit slots w t f i id other → (n : Nogood) → nogood_at slots id ≡ Some n → (p : Pair) → pair_of r ≡ Some p → IsOneOf p f.lit → ⊥
+move_gone slots w t f i id other l r o m leads v n h p e one =
+    elim (either_of p l other f.lit (lead_pair (row_at w.rows id) r l other p leads e) one) [
+      | inl a ↦ may_differ slots t f id other l o v.walking.stands m a
+      | inr a ↦ beside_differ v.pair f.lit other (v.walking.sound.fit.watched id n v.pair h v.pair_is).differ v.beside a
     ]
 
 -- the pair of the front's literal and the other is that of another one and the other
-pub walking_move : (slots : List (Option StoredNogood)) (w : Watches) (t : Trailed) (f : Front) (i id : ℕ) (other l : Literal) → IsOrdered t.vars t.entries → MayWatch slots t id other l →
-    ((n : Nogood) → nogood_at slots id ≡ Some n → IsListed w.lists l 0 id n.lits) → IsVisit slots w t f i id other →
-    IsWalking slots (record w { pairs = set w.pairs id (Some (record { first = l; second = other })) }) t f i
-walking_move slots w t f i id other l o m listed v =
-    walking_pair slots w t f i id (Some (record { first = l; second = other })) (suits_move slots w t f i id other l o m listed v)
-    (λ k g q. absurd (none-some (record { first = l; second = other }) (sym q)))
-    (λ n p h q one. move_gone slots w t f i id other l o m v n h p (same_Some (record { first = l; second = other }) p q) one) v.walking
+pub walking_move : (slots : List (Option StoredNogood)) (w : Watches) (t : Trailed) (f : Front) (i id : ℕ) (other l : Literal) (r : List Literal) → IsOrdered t.vars t.entries → MayWatch slots t id other l →
+    LeadsWith (row_at w.rows id) r l other → ((n : Nogood) → nogood_at slots id ≡ Some n → IsListed w.lists l 0 id n.lits) → IsVisit slots w t f i id other →
+    IsWalking slots (record w { rows = set w.rows id r }) t f i
+walking_move slots w t f i id other l r o m leads listed v =
+    walking_row slots w t f i id r (suits_move slots w t f i id other l r o m leads listed v) (λ k g q. absurd (none-some leads.pair (sym q ∙ leads.pair_is)))
+    (λ n p h q one. move_gone slots w t f i id other l r o m leads v n h p q one) v.walking
 
 -- after it the front's literal isn't watched
-pub moved_gone : (slots : List (Option StoredNogood)) (w : Watches) (t : Trailed) (f : Front) (i id : ℕ) (other l : Literal) → IsOrdered t.vars t.entries → MayWatch slots t id other l →
-    IsVisit slots w t f i id other → (n : Nogood) (p : Pair) → nogood_at slots id ≡ Some n →
-    pair_at (set w.pairs id (Some (record { first = l; second = other }))) id ≡ Some p → IsOneOf p f.lit → ⊥
-moved_gone slots w t f i id other l o m v n p h g one =
-    move_gone slots w t f i id other l o m v n h p
-    (same_Some (record { first = l; second = other }) p (sym (at_set w.pairs id (Some (record { first = l; second = other })) None id (visit_id slots w t f i id other v) refl) ∙ g)) one
+pub moved_gone : (slots : List (Option StoredNogood)) (w : Watches) (t : Trailed) (f : Front) (i id : ℕ) (other l : Literal) (r : List Literal) → IsOrdered t.vars t.entries → MayWatch slots t id other l →
+    LeadsWith (row_at w.rows id) r l other → IsVisit slots w t f i id other → (n : Nogood) (p : Pair) → nogood_at slots id ≡ Some n → pair_at (set w.rows id r) id ≡ Some p → IsOneOf p f.lit → ⊥
+moved_gone slots w t f i id other l r o m leads v n p h g one =
+    move_gone slots w t f i id other l r o m leads v n h p (sym (ap pair_of (at_set w.rows id r [] id (visit_id slots w t f i id other v) refl)) ∙ g) one
 
 -- ---- the nogood of a visit isn't watched any more
 pub visit_apart : (slots : List (Option StoredNogood)) (w : Watches) (t : Trailed) (f : Front) (i id : ℕ) (other : Literal) (x : ℕ) → IsVisit slots w t f i id other →
@@ -306,11 +315,12 @@ visit_apart slots w t f i id other x v = record {
 }
 
 pub walking_apart : (slots : List (Option StoredNogood)) (w : Watches) (t : Trailed) (f : Front) (i id : ℕ) (other : Literal) (b : ℕ) → IsFrom w.apart w.apart.retired id →
-    IsFalseBy t.entries other b → IsVisit slots w t f i id other → IsWalking slots (record w { pairs = set w.pairs id None }) t f i
+    IsFalseBy t.entries other b → IsVisit slots w t f i id other → IsWalking slots (record w { rows = set w.rows id [] }) t f i
 walking_apart slots w t f i id other b waits is_false v =
-    walking_pair slots w t f i id None
+    walking_row slots w t f i id []
     record {
       within = visit_id slots w t f i id other v;
+      kept = λ p q. absurd (none-some p q);
       bounded = λ p l q o. absurd (none-some p q);
       listed = λ n p l h q o. absurd (none-some p q);
       watched = λ n p h q. absurd (none-some p q);
@@ -319,15 +329,15 @@ walking_apart slots w t f i id other b waits is_false v =
     (λ n h q. (b, (other, visit_has slots w t f i id other n v h, is_false))) (λ n p h q o. none-some p q) v.walking
 
 pub apart_gone : (slots : List (Option StoredNogood)) (w : Watches) (t : Trailed) (f : Front) (i id : ℕ) (other : Literal) → IsVisit slots w t f i id other → (p : Pair) →
-    pair_at (set w.pairs id None) id ≡ Some p → ⊥
-apart_gone slots w t f i id other v p g = none-some p (sym (at_set w.pairs id None None id (visit_id slots w t f i id other v) refl) ∙ g)
+    pair_at (set w.rows id []) id ≡ Some p → ⊥
+apart_gone slots w t f i id other v p g = none-some p (sym (ap pair_of (at_set w.rows id [] [] id (visit_id slots w t f i id other v) refl)) ∙ g)
 
 -- ---- the trail grows
 pub walking_grow : (slots : List (Option StoredNogood)) (w : Watches) (t : Trailed) (f : Front) (i : ℕ) (fs : List Entry) → t.seen ≤ length t.entries → IsWalking slots w t f i →
     IsWalking slots w (record t { entries = t.entries ++ fs }) f i
 walking_grow slots w t f i fs le k = record {
   sound = sound_grow slots w t fs le k.sound;
-  settled = settled_grow slots w.pairs t.entries fs k.settled;
+  settled = settled_grow slots w.rows t.entries fs k.settled;
   done = λ j n p h g o. elim (k.done j n p h g o) [
     | inl l ↦ inl l
     | inr m ↦ inr (has_false_grow t.entries fs n.lits f.level m)
@@ -352,11 +362,17 @@ pub visit_small : (slots : List (Option StoredNogood)) (w : Watches) (t : Traile
     All (λ k. IsVar t.vars k.var) lits
 visit_small slots w t id n lits s h e = subst (λ (xs : List Literal). All (λ k. IsVar t.vars k.var) xs) e (s.net.small id n h)
 
+-- of a row
+pub row_small : (slots : List (Option StoredNogood)) (w : Watches) (t : Trailed) (id : ℕ) (p : Pair) → IsSound slots w t → pair_at w.rows id ≡ Some p → All (λ k. IsVar t.vars k.var) (row_at w.rows id)
+row_small slots w t id p s q =
+    let n = s.net.kept id p q in
+    all_same (λ k. IsVar t.vars k.var) n.0.lits (row_at w.rows id) n.2 (s.net.small id n.0 n.1)
+
 -- ---- another literal watches in place of the front's
-abbrev pub moved : Watches → Literal → Literal → ℕ → Watches
-moved w l other id = record w {
+abbrev pub moved : Watches → Literal → Literal → ℕ → List Literal → Watches
+moved w l other id r = record w {
   lists = set w.lists (code_of l) (list_at w.lists (code_of l) ++ record { blocker = other; id = id; is_short = false } ∷ []);
-  pairs = set w.pairs id (Some (record { first = l; second = other }));
+  rows = set w.rows id r;
 }
 
 moved_visit : (slots : List (Option StoredNogood)) (w : Watches) (t : Trailed) (f : Front) (i id : ℕ) (other l : Literal) → IsOrdered t.vars t.entries → MayWatch slots t id other l →
@@ -365,26 +381,26 @@ moved_visit : (slots : List (Option StoredNogood)) (w : Watches) (t : Trailed) (
 moved_visit slots w t f i id other l o m v =
     visit_push slots w t f i id other l (record { blocker = other; id = id; is_short = false }) m.small (place_long t.vars slots (code_of l) id other (visit_var slots w t f i id other v)) (may_differ slots t f id other l o v.walking.stands m) v
 
-pub moved_walking : (slots : List (Option StoredNogood)) (w : Watches) (t : Trailed) (f : Front) (i id : ℕ) (other l : Literal) → IsOrdered t.vars t.entries → MayWatch slots t id other l →
-    IsVisit slots w t f i id other → IsWalking slots (moved w l other id) t f i
-moved_walking slots w t f i id other l o m v =
-    walking_move slots (record w { lists = set w.lists (code_of l) (list_at w.lists (code_of l) ++ record { blocker = other; id = id; is_short = false } ∷ []) }) t f i id other l o m
+pub moved_walking : (slots : List (Option StoredNogood)) (w : Watches) (t : Trailed) (f : Front) (i id : ℕ) (other l : Literal) (r : List Literal) → IsOrdered t.vars t.entries → MayWatch slots t id other l →
+    LeadsWith (row_at w.rows id) r l other → IsVisit slots w t f i id other → IsWalking slots (moved w l other id r) t f i
+moved_walking slots w t f i id other l r o m leads v =
+    walking_move slots (record w { lists = set w.lists (code_of l) (list_at w.lists (code_of l) ++ record { blocker = other; id = id; is_short = false } ∷ []) }) t f i id other l r o m leads
     (λ n h. listed_new w.lists (record { blocker = other; id = id; is_short = false }) l n.lits (code_of_list slots w t l v.walking.sound m.small) (visit_has slots w t f i id other n v h))
     (moved_visit slots w t f i id other l o m v)
 
-pub moved_at : (slots : List (Option StoredNogood)) (w : Watches) (t : Trailed) (f : Front) (i id : ℕ) (other l : Literal) → IsOrdered t.vars t.entries → MayWatch slots t id other l →
-    IsVisit slots w t f i id other → (x : Watch) × (place (moved w l other id).lists (code_of f.lit) i ≡ Some x) × (x.id ≡ id)
-moved_at slots w t f i id other l o m v = let u = moved_visit slots w t f i id other l o m v in (u.watch, u.at, u.id_is)
+pub moved_at : (slots : List (Option StoredNogood)) (w : Watches) (t : Trailed) (f : Front) (i id : ℕ) (other l : Literal) (r : List Literal) → IsOrdered t.vars t.entries → MayWatch slots t id other l →
+    IsVisit slots w t f i id other → (x : Watch) × (place (moved w l other id r).lists (code_of f.lit) i ≡ Some x) × (x.id ≡ id)
+moved_at slots w t f i id other l r o m v = let u = moved_visit slots w t f i id other l o m v in (u.watch, u.at, u.id_is)
 
-pub moved_size : (slots : List (Option StoredNogood)) (w : Watches) (t : Trailed) (f : Front) (i id : ℕ) (other l : Literal) → IsOrdered t.vars t.entries → MayWatch slots t id other l →
-    IsVisit slots w t f i id other → size (moved w l other id).lists (code_of f.lit) ≡ size w.lists (code_of f.lit)
-moved_size slots w t f i id other l o m v =
+pub moved_size : (slots : List (Option StoredNogood)) (w : Watches) (t : Trailed) (f : Front) (i id : ℕ) (other l : Literal) (r : List Literal) → IsOrdered t.vars t.entries → MayWatch slots t id other l →
+    IsVisit slots w t f i id other → size (moved w l other id r).lists (code_of f.lit) ≡ size w.lists (code_of f.lit)
+moved_size slots w t f i id other l r o m v =
     ap (length {A = Watch}) (at_set_other w.lists (code_of l) (list_at w.lists (code_of l) ++ record { blocker = other; id = id; is_short = false } ∷ []) [] (code_of f.lit)
     (λ e. may_differ slots t f id other l o v.walking.stands m (sym (code_injective f.lit l e))))
 
--- the number stands among those apart, and has no pair
+-- the number stands among those apart, and has no row
 abbrev pub put_apart : Watches → ℕ → Watches
-put_apart w id = record w { pairs = set w.pairs id None; apart = record w.apart { items = w.apart.items ++ id ∷ [] } }
+put_apart w id = record w { rows = set w.rows id []; apart = record w.apart { items = w.apart.items ++ id ∷ [] } }
 
 pub apart_walking : (slots : List (Option StoredNogood)) (w : Watches) (t : Trailed) (f : Front) (i id : ℕ) (other : Literal) (b : ℕ) → w.apart.retired ≤ length w.apart.items →
     IsFalseBy t.entries other b → IsVisit slots w t f i id other → IsWalking slots (put_apart w id) t f i
@@ -393,15 +409,15 @@ apart_walking slots w t f i id other b begun is_false v =
     (length w.apart.items, begun, get_last w.apart.items id) is_false (visit_apart slots w t f i id other id v)
 
 -- ---- what watches beside a literal
-pub none_beside : (pairs : List (Option Pair)) (id : ℕ) (l : Literal) (p : Pair) (r : Option Literal) → Some p ≡ pair_at pairs id → MatchOption r (IsOneOf p l → ⊥) (IsBeside p l) →
-    IfNone r ((q : Pair) → pair_at pairs id ≡ Some q → IsOneOf q l → ⊥)
-none_beside pairs id l p None e m = λ q g o. m (subst (λ (x : Pair). IsOneOf x l) (sym (same_Some p q (e ∙ g))) o)
-none_beside pairs id l p (Some k) e m = tt
+pub none_beside : (rows : List (List Literal)) (id : ℕ) (l : Literal) (p : Pair) (r : Option Literal) → Some p ≡ pair_at rows id → MatchOption r (IsOneOf p l → ⊥) (IsBeside p l) →
+    IfNone r ((q : Pair) → pair_at rows id ≡ Some q → IsOneOf q l → ⊥)
+none_beside rows id l p None e m = λ q g o. m (subst (λ (x : Pair). IsOneOf x l) (sym (same_Some p q (e ∙ g))) o)
+none_beside rows id l p (Some k) e m = tt
 
-pub some_beside : (pairs : List (Option Pair)) (id : ℕ) (l : Literal) (p : Pair) (r : Option Literal) → Some p ≡ pair_at pairs id → MatchOption r (IsOneOf p l → ⊥) (IsBeside p l) →
-    IfSome r (λ k. (q : Pair) × (pair_at pairs id ≡ Some q) × IsBeside q l k)
-some_beside pairs id l p None e m = tt
-some_beside pairs id l p (Some k) e m = (p, sym e, m)
+pub some_beside : (rows : List (List Literal)) (id : ℕ) (l : Literal) (p : Pair) (r : Option Literal) → Some p ≡ pair_at rows id → MatchOption r (IsOneOf p l → ⊥) (IsBeside p l) →
+    IfSome r (λ k. (q : Pair) × (pair_at rows id ≡ Some q) × IsBeside q l k)
+some_beside rows id l p None e m = tt
+some_beside rows id l p (Some k) e m = (p, sym e, m)
 
 -- ---- a place that tells its nogood
 pub told_beside : (t : Trailed) (f : Front) (other : Literal) → IsOrdered t.vars t.entries → Stands t.entries f.lit t.seen f.level → AreTrueBeside t.vars t.entries (f.lit ∷ other ∷ []) other

@@ -5,21 +5,23 @@ use Rattle.std.specs.Option.{option_map}
 use Rattle.std.proofs.lemmas.List.{length-replicate, length-set}
 use Rattle.std.proofs.lemmas.List.Sums.{sum_by-cons}
 use Rattle.std.proofs.lemmas.Option.{none-some, same_Some}
+use Rattle.asp_vars.specs.Literals.{Literal}
 use Rattle.asp_vars.specs.declared.nogood.Nogood.{Nogood}
 use Rattle.asp_trail.specs.Trails.{Trailed, IsVar}
 use Rattle.asp_store.specs.declared.stored_nogood.StoredNogood.{StoredNogood}
 use Rattle.asp_store.specs.declared.stored_nogood.Kind.{Kind}
 use Rattle.asp_store.specs.Marks.{Watch}
 use Rattle.asp_store.specs.declared.watches.Watches.{Watches}
+use Rattle.asp_arena.specs.Rows.{row_at}
 use Rattle.asp_store.specs.Keeping.{kept_at, nogood_at, is_extra, is_spare, with_lock, Thins}
 use Rattle.asp_store.specs.Lists.{place}
-use Rattle.asp_store.specs.Pairs.{pair_at}
+use Rattle.asp_store.specs.Looking.{HaveSame}
+use Rattle.asp_store.specs.Pairs.{pair_of, pair_at}
 use Rattle.asp_store.specs.Parted.{Parted, IsFrom}
 use Rattle.asp_store.specs.Sounding.{IsListed, IsNet, IsSound}
 use Rattle.asp_store.specs.Fitting.{HaveReasons}
 use Rattle.asp_store.specs.Storing.{Stored, Fits, IsAdded, Loses, IsStore, AreActive}
 use Rattle.asp_store.proofs.GetLaws.{is_or_not, at_set, at_set_other, get_last}
-use Rattle.asp_store.specs.declared.watch.Pair.{Pair}
 use Rattle.asp_store.specs.Unlisting.{Unlists}
 use Rattle.asp_store.proofs.ShortLaws.{places_add, places_lock, places_remove}
 use Rattle.asp_store.proofs.SoundLaws.{from_zero, from_push, pair_cases}
@@ -27,7 +29,7 @@ use Rattle.asp_store.proofs.FitsLaws.{none_kept, same_nogood, locked_same}
 
 -- what contracts see of a store's parts
 abbrev pub view_of : ℕ → List (Option StoredNogood) → Watches → Stored
-view_of vars slots w = record { vars = vars; slots = slots; pairs = w.pairs; apart = w.apart }
+view_of vars slots w = record { vars = vars; slots = slots; rows = w.rows; apart = w.apart }
 
 -- ---- counts
 count_cons : (p : Option StoredNogood → Bool) (o : Option StoredNogood) (slots : List (Option StoredNogood)) → count_by p (o ∷ slots) ≡ cond (p o) 1 0 + count_by p slots
@@ -64,7 +66,7 @@ none_place zero c i x g = none-some x g
 none_place (suc n) zero i x g = none-some x g
 none_place (suc n) (suc c) i x g = none_place n c i x g
 
-pub store_new : (vars : ℕ) → vars < 2 ^ 31 → IsStore vars [] (record { lists = replicate (2 * vars + 2) []; pairs = []; apart = record { items = []; retired = 0 } }) 0
+pub store_new : (vars : ℕ) → vars < 2 ^ 31 → IsStore vars [] (record { lists = replicate (2 * vars + 2) []; rows = []; apart = record { items = []; retired = 0 } }) 0
 store_new vars few = record {
   few = few;
   net = record {
@@ -73,6 +75,7 @@ store_new vars few = record {
     small = λ id n g. absurd (none-some n g);
     numbered = omega arith;
     places = λ c i x g. absurd (none_place (2 * vars + 2) c i x g);
+    kept = λ id p g. absurd (none-some p g);
     watched = λ id p l g o. absurd (none-some p g);
     listed = λ id n p l g h o. absurd (none-some n g);
     unwatched = λ id n g h. absurd (none-some n g);
@@ -85,7 +88,7 @@ store_new vars few = record {
 
 -- ---- a nogood more
 pub store_add : (vars : ℕ) (slots new : List (Option StoredNogood)) (w z : Watches) (extra more id : ℕ) (n : Nogood) (kind : Kind) → IsStore vars slots w extra →
-    z.lists ≡ w.lists → length z.pairs ≡ length new → IsAdded (view_of vars slots w) (view_of vars new z) id n kind → ((k : ℕ) → IsFrom w.apart 0 k → IsFrom z.apart 0 k) →
+    z.lists ≡ w.lists → length z.rows ≡ length new → IsAdded (view_of vars slots w) (view_of vars new z) id n kind → ((k : ℕ) → IsFrom w.apart 0 k → IsFrom z.apart 0 k) →
     All (λ l. IsVar vars l.var) n.lits → length new ≤ 2 ^ 31 → more ≡ count_by is_extra new → IsStore vars new z more
 store_add vars slots new w z extra more id n kind s lists paired a apart small few counted = record {
   few = s.few;
@@ -98,18 +101,24 @@ store_add vars slots new w z extra more id n kind s lists paired a apart small f
     ];
     numbered = few;
     places = λ c i x g. places_add vars slots new id c x a.slots.free a.slots.others (s.net.places c i x (sym (ap (λ (ls : List (List Watch)). place ls c i) lists) ∙ g));
+    kept = λ j p g. elim (is_or_not j id) [
+      | inl e ↦ absurd (none-some p (sym a.pair ∙ (sym (ap (pair_at z.rows) e) ∙ g)))
+      | inr ne ↦
+          let o = s.net.kept j p (sym (ap pair_of (a.rows j ne)) ∙ g) in
+          (o.0, same_nogood slots new j (a.slots.others j ne) ∙ o.1, subst (λ (xs : List Literal). HaveSame o.0.lits xs) (sym (a.rows j ne)) o.2)
+    ];
     watched = λ j p l g o. elim (is_or_not j id) [
-      | inl e ↦ absurd (none-some p (sym a.pair ∙ (sym (ap (pair_at z.pairs) e) ∙ g)))
-      | inr ne ↦ s.net.watched j p l (sym (a.pairs j ne) ∙ g) o
+      | inl e ↦ absurd (none-some p (sym a.pair ∙ (sym (ap (pair_at z.rows) e) ∙ g)))
+      | inr ne ↦ s.net.watched j p l (sym (ap pair_of (a.rows j ne)) ∙ g) o
     ];
     listed = λ j m p l g h o. elim (is_or_not j id) [
-      | inl e ↦ absurd (none-some p (sym a.pair ∙ (sym (ap (pair_at z.pairs) e) ∙ h)))
+      | inl e ↦ absurd (none-some p (sym a.pair ∙ (sym (ap (pair_at z.rows) e) ∙ h)))
       | inr ne ↦ subst (λ (ls : List (List Watch)). IsListed ls l 0 j m.lits) (sym lists)
-          (s.net.listed j m p l (sym (same_nogood slots new j (a.slots.others j ne)) ∙ g) (sym (a.pairs j ne) ∙ h) o)
+          (s.net.listed j m p l (sym (same_nogood slots new j (a.slots.others j ne)) ∙ g) (sym (ap pair_of (a.rows j ne)) ∙ h) o)
     ];
     unwatched = λ j m g h. elim (is_or_not j id) [
       | inl e ↦ subst (λ (k : ℕ). IsFrom z.apart 0 k) (sym e) (from_zero z.apart z.apart.retired id a.waits)
-      | inr ne ↦ apart j (s.net.unwatched j m (sym (same_nogood slots new j (a.slots.others j ne)) ∙ g) (sym (a.pairs j ne) ∙ h))
+      | inr ne ↦ apart j (s.net.unwatched j m (sym (same_nogood slots new j (a.slots.others j ne)) ∙ g) (sym (ap pair_of (a.rows j ne)) ∙ h))
     ];
   };
   counted = counted;
@@ -117,31 +126,40 @@ store_add vars slots new w z extra more id n kind s lists paired a apart small f
 
 -- ---- one goes
 pub store_remove : (vars : ℕ) (slots : List (Option StoredNogood)) (w z : Watches) (extra less id : ℕ) → IsStore vars slots w extra → id < length slots → Unlists slots w.lists z.lists id →
-    z.pairs ≡ set w.pairs id None → z.apart ≡ w.apart → less ≡ count_by is_extra (set slots id None) → IsStore vars (set slots id None) z less
-store_remove vars slots w z extra less id s within u pairs apart counted = record {
+    z.rows ≡ set w.rows id [] → z.apart ≡ w.apart → less ≡ count_by is_extra (set slots id None) → IsStore vars (set slots id None) z less
+store_remove vars slots w z extra less id s within u rows apart counted = record {
   few = s.few;
   net = record {
     sized = u.keeps.len ∙ s.net.sized;
-    paired = ap (length {A = Option Pair}) pairs ∙ (length-set w.pairs id None ∙ (s.net.paired ∙ sym (length-set slots id None)));
+    paired = ap (length {A = List Literal}) rows ∙ (length-set w.rows id [] ∙ (s.net.paired ∙ sym (length-set slots id None)));
     small = λ j m g. s.net.small j m (left j m g).1;
     numbered = omega (arith, length-set slots id None, s.net.numbered);
     places = places_remove vars slots w.lists z.lists id s.net.places u;
-    watched = λ j p k g o. elim (pair_cases w.pairs id None j (Some p) inside (sym (ap (λ (ps : List (Option Pair)). pair_at ps j) pairs) ∙ g)) [
+    kept = λ j p g. elim (pair_cases w.rows id [] j (Some p) inside (sym (ap (λ (rs : List (List Literal)). pair_at rs j) rows) ∙ g)) [
+      | inl e ↦ absurd (none-some p e.1)
+      | inr e ↦
+          let o = s.net.kept j p e.1 in (
+            o.0,
+            same_nogood slots (set slots id None) j (at_set_other slots id None None j e.0) ∙ o.1,
+            subst (λ (xs : List Literal). HaveSame o.0.lits xs) (sym (ap (λ (rs : List (List Literal)). row_at rs j) rows ∙ at_set_other w.rows id [] [] j e.0)) o.2,
+          )
+    ];
+    watched = λ j p k g o. elim (pair_cases w.rows id [] j (Some p) inside (sym (ap (λ (rs : List (List Literal)). pair_at rs j) rows) ∙ g)) [
       | inl e ↦ absurd (none-some p e.1)
       | inr e ↦ s.net.watched j p k e.1 o
     ];
-    listed = λ j m p k g h o. elim (pair_cases w.pairs id None j (Some p) inside (sym (ap (λ (ps : List (Option Pair)). pair_at ps j) pairs) ∙ h)) [
+    listed = λ j m p k g h o. elim (pair_cases w.rows id [] j (Some p) inside (sym (ap (λ (rs : List (List Literal)). pair_at rs j) rows) ∙ h)) [
       | inl e ↦ absurd (none-some p e.1)
       | inr e ↦ u.keeps.stay k j m.lits e.0 (s.net.listed j m p k (left j m g).1 e.1 o)
     ];
     unwatched = λ j m g h.
         let l = left j m g in
-        subst (λ (a : Parted). IsFrom a 0 j) (sym apart) (s.net.unwatched j m l.1 (sym (at_set_other w.pairs id None None j l.0) ∙ (sym (ap (λ (ps : List (Option Pair)). pair_at ps j) pairs) ∙ h)));
+        subst (λ (a : Parted). IsFrom a 0 j) (sym apart) (s.net.unwatched j m l.1 (sym (ap pair_of (at_set_other w.rows id [] [] j l.0)) ∙ (sym (ap (λ (rs : List (List Literal)). pair_at rs j) rows) ∙ h)));
   };
   counted = counted;
 }
   where
-    inside : id < length w.pairs
+    inside : id < length w.rows
     inside = omega (arith, within, s.net.paired)
 
     left : (j : ℕ) (m : Nogood) → nogood_at (set slots id None) j ≡ Some m → (j ≢ id) × (nogood_at slots j ≡ Some m)
@@ -160,6 +178,7 @@ store_lock vars slots w extra id b h s = record {
     small = λ j m g. s.net.small j m (sym (locked_same b slots id j h) ∙ g);
     numbered = omega (arith, length-set slots id (with_lock b (kept_at slots id)), s.net.numbered);
     places = λ c i x g. places_lock vars slots id c b x h (s.net.places c i x g);
+    kept = λ j p g. let o = s.net.kept j p g in (o.0, locked_same b slots id j h ∙ o.1, o.2);
     watched = s.net.watched;
     listed = λ j m p k g. s.net.listed j m p k (sym (locked_same b slots id j h) ∙ g);
     unwatched = λ j m g. s.net.unwatched j m (sym (locked_same b slots id j h) ∙ g);
@@ -190,10 +209,10 @@ store_from_sound vars slots w z extra t v s n = record {
 
 -- ---- how a nogood is added
 -- under a number that has none
-pub added_put : (s : Stored) (id : ℕ) (n : Nogood) (kind : Kind) → id < length s.slots → id < length s.pairs → kept_at s.slots id ≡ None → s.apart.retired ≤ length s.apart.items →
+pub added_put : (s : Stored) (id : ℕ) (n : Nogood) (kind : Kind) → id < length s.slots → id < length s.rows → kept_at s.slots id ≡ None → s.apart.retired ≤ length s.apart.items →
     IsAdded s (record s {
       slots = set s.slots id (Some (record { nogood = n; kind = kind; locked = false }));
-      pairs = set s.pairs id None;
+      rows = set s.rows id [];
       apart = record s.apart { items = s.apart.items ++ id ∷ [] };
     }) id n kind
 added_put s id n kind h k free begun = record {
@@ -203,8 +222,8 @@ added_put s id n kind h k free begun = record {
     here = at_set s.slots id (Some (record { nogood = n; kind = kind; locked = false })) None id h refl;
     others = λ j ne. at_set_other s.slots id (Some (record { nogood = n; kind = kind; locked = false })) None j ne;
   };
-  pair = at_set s.pairs id None None id k refl;
-  pairs = λ j ne. at_set_other s.pairs id None None j ne;
+  pair = ap pair_of (at_set s.rows id [] [] id k refl);
+  rows = λ j ne. at_set_other s.rows id [] [] j ne;
   waits = (length s.apart.items, begun, get_last s.apart.items id);
   apart = λ j f. from_push s.apart id s.apart.retired j f;
 }
@@ -227,10 +246,10 @@ at_end (x ∷ xs) d zero e = absurd (omega arith)
 at_end (x ∷ xs) d (suc k) e = at_end xs d k (omega arith)
 
 -- under a new one
-pub added_push : (s : Stored) (id : ℕ) (n : Nogood) (kind : Kind) → id ≡ length s.slots → length s.pairs ≡ length s.slots → s.apart.retired ≤ length s.apart.items →
+pub added_push : (s : Stored) (id : ℕ) (n : Nogood) (kind : Kind) → id ≡ length s.slots → length s.rows ≡ length s.slots → s.apart.retired ≤ length s.apart.items →
     IsAdded s (record s {
       slots = s.slots ++ Some (record { nogood = n; kind = kind; locked = false }) ∷ [];
-      pairs = s.pairs ++ None ∷ [];
+      rows = s.rows ++ [] ∷ [];
       apart = record s.apart { items = s.apart.items ++ id ∷ [] };
     }) id n kind
 added_push s id n kind e paired begun = record {
@@ -240,8 +259,8 @@ added_push s id n kind e paired begun = record {
     here = at_push s.slots (Some (record { nogood = n; kind = kind; locked = false })) None id e;
     others = λ j ne. at_push_other s.slots (Some (record { nogood = n; kind = kind; locked = false })) None j (λ q. ne (q ∙ sym e));
   };
-  pair = at_push s.pairs None None id (e ∙ sym paired);
-  pairs = λ j ne. at_push_other s.pairs None None j (λ q. ne (q ∙ (paired ∙ sym e)));
+  pair = ap pair_of (at_push s.rows [] [] id (e ∙ sym paired));
+  rows = λ j ne. at_push_other s.rows [] [] j (λ q. ne (q ∙ (paired ∙ sym e)));
   waits = (length s.apart.items, begun, get_last s.apart.items id);
   apart = λ j f. from_push s.apart id s.apart.retired j f;
 }
@@ -300,6 +319,7 @@ store_recall vars slots w extra s = record {
     small = s.net.small;
     numbered = s.net.numbered;
     places = s.net.places;
+    kept = s.net.kept;
     watched = s.net.watched;
     listed = s.net.listed;
     unwatched = s.net.unwatched;
@@ -308,5 +328,5 @@ store_recall vars slots w extra s = record {
 }
 
 pub active_recall : (vars : ℕ) (slots : List (Option StoredNogood)) (w : Watches) (extra : ℕ) → IsStore vars slots w extra →
-    AreActive (record { vars = vars; slots = slots; pairs = w.pairs; apart = record w.apart { retired = 0 } })
+    AreActive (record { vars = vars; slots = slots; rows = w.rows; apart = record w.apart { retired = 0 } })
 active_recall vars slots w extra s = s.net.unwatched

@@ -5,6 +5,8 @@ use Rattle.asp_trail.specs.declared.trail.Entry.{Entry}
 use Rattle.asp_trail.specs.Entries.{level, assignment}
 use Rattle.asp_trail.specs.Reasons.{IsReason}
 use Rattle.asp_trail.specs.Fixpoint.{is_violated}
+use Rattle.asp_store.specs.declared.watch.Pair.{Pair}
+use Rattle.asp_store.specs.Pairs.{pair_of, IsBeside}
 use Rattle.asp_store.specs.Fitting.{HasFalse, IsWatched}
 use Rattle.asp_store.specs.declared.looks.Look.{Look}
 use Rattle.asp_store.specs.declared.looks.Look.TheVariants as look
@@ -17,6 +19,13 @@ Grew id n old new =
 -- They have the same literals.
 abbrev pub HaveSame : List Literal → List Literal → Type 0
 HaveSame n m = (k : Literal) → has_literal n k ≡ has_literal m k
+
+-- The new row has the same literals, and these two come first, in any order.
+pub record LeadsWith (old new : List Literal) (l k : Literal) : Type 0 where
+  pub pair : Pair
+  pub pair_is : pair_of new ≡ Some pair
+  pub beside : IsBeside pair l k
+  pub same : HaveSame old new
 
 -- All literals but this one are true.
 abbrev pub AreTrueBeside : ℕ → List Entry → List Literal → Literal → Type 0

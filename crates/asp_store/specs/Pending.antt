@@ -21,12 +21,12 @@ pub record IsLooking (slots : List (Option StoredNogood)) (w : Watches) (t : Tra
 pub record IsWaiting (slots : List (Option StoredNogood)) (w : Watches) (t : Trailed) (i id : ℕ) : Type 0 where
   pub looking : IsLooking slots w t i
   pub at : slice_get w.apart.items i ≡ Some id
-  pub pair : pair_at w.pairs id ≡ None
+  pub pair : pair_at w.rows id ≡ None
   pub kept : (n : Nogood) × (nogood_at slots id ≡ Some n)
 
 -- No kept nogood that isn't watched has the number at this place.
 abbrev pub HasNone : List (Option StoredNogood) → Watches → ℕ → Type 0
-HasNone slots w i = (id : ℕ) (n : Nogood) → slice_get w.apart.items i ≡ Some id → nogood_at slots id ≡ Some n → pair_at w.pairs id ≡ None → ⊥
+HasNone slots w i = (id : ℕ) (n : Nogood) → slice_get w.apart.items i ≡ Some id → nogood_at slots id ≡ Some n → pair_at w.rows id ≡ None → ⊥
 
 -- A look goes on to the next place, or the place is gone, or a nogood is violated.
 abbrev pub Looks : List (Option StoredNogood) → Watches → Watches → Trailed → ℕ → Step → Type 0

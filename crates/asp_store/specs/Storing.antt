@@ -1,36 +1,38 @@
 -- What a store is, and how it fits a trail.
-use Rattle.std.specs.Prelude.{◌≡◌, ◌≢◌, ℕ, ◌^◌, ◌<◌, ◌⊎◌, Bool, List, Option, Some, None, slice_set, count_by}
+use Rattle.std.specs.Prelude.{◌≡◌, ◌≢◌, ℕ, ◌^◌, ◌<◌, ◌⊎◌, Bool, List, [], Option, Some, None, slice_set, count_by}
+use Rattle.asp_vars.specs.Literals.{Literal}
 use Rattle.asp_vars.specs.declared.nogood.Nogood.{Nogood}
 use Rattle.asp_trail.specs.Trails.{Trailed}
 use Rattle.asp_store.specs.declared.stored_nogood.StoredNogood.{StoredNogood}
 use Rattle.asp_store.specs.declared.stored_nogood.Kind.{Kind}
-use Rattle.asp_store.specs.declared.watch.Pair.{Pair}
 use Rattle.asp_store.specs.declared.watches.Watches.{Watches}
+use Rattle.asp_arena.specs.Rows.{row_at}
 use Rattle.asp_store.specs.Keeping.{kept_at, nogood_at, is_extra, with_lock, IsAddedAt}
 use Rattle.asp_store.specs.Pairs.{pair_at}
 use Rattle.asp_store.specs.Parted.{Parted, IsFrom}
 use Rattle.asp_store.specs.Fitting.{AreFit, HaveReasons}
 use Rattle.asp_store.specs.Sounding.{IsNet}
 
--- Variables are 1 to vars. Nogoods have numbers. Each is watched by two of its literals, or its number stands apart.
+-- Variables are 1 to vars. Nogoods have numbers. Each is watched by two of its literals, which come first in its row, or its
+-- number stands apart.
 pub record Stored : Type 0 where
   pub vars : ℕ
   pub slots : List (Option StoredNogood)
-  pub pairs : List (Option Pair)
+  pub rows : List (List Literal)
   pub apart : Parted
 
 -- The trail's variables are the store's, each literal that was implied has a reason that is kept, and the watches are as they must be.
 pub record Fits (s : Stored) (t : Trailed) : Type 0 where
   pub same_vars : t.vars ≡ s.vars
   pub reasons : HaveReasons s.slots t.entries
-  pub fit : AreFit s.slots s.pairs s.apart t
+  pub fit : AreFit s.slots s.rows s.apart t
 
 abbrev pub locked_at : Stored → ℕ → Bool → Stored
 locked_at s id b = record s { slots = slice_set s.slots id (with_lock b (kept_at s.slots id)) }
 
 -- one nogood less
 abbrev pub removed : Stored → ℕ → Stored
-removed s id = record s { slots = slice_set s.slots id None; pairs = slice_set s.pairs id None }
+removed s id = record s { slots = slice_set s.slots id None; rows = slice_set s.rows id [] }
 
 -- all nogoods that aren't watched are to be looked at
 abbrev pub recalled : Stored → Stored
@@ -40,8 +42,8 @@ recalled s = record s { apart = record s.apart { retired = 0 } }
 pub record IsAdded (old new : Stored) (id : ℕ) (n : Nogood) (kind : Kind) : Type 0 where
   pub vars : new.vars ≡ old.vars
   pub slots : IsAddedAt old.slots new.slots id n kind
-  pub pair : pair_at new.pairs id ≡ None
-  pub pairs : (k : ℕ) → k ≢ id → pair_at new.pairs k ≡ pair_at old.pairs k
+  pub pair : pair_at new.rows id ≡ None
+  pub rows : (k : ℕ) → k ≢ id → row_at new.rows k ≡ row_at old.rows k
   pub waits : IsFrom new.apart new.apart.retired id
   pub apart : (k : ℕ) → IsFrom old.apart old.apart.retired k → IsFrom new.apart new.apart.retired k
 
@@ -49,11 +51,11 @@ pub record IsAdded (old new : Stored) (id : ℕ) (n : Nogood) (kind : Kind) : Ty
 pub record Loses (old new : Stored) : Type 0 where
   pub vars : new.vars ≡ old.vars
   pub apart : new.apart ≡ old.apart
-  pub each : (id : ℕ) → ((kept_at new.slots id ≡ None) × (pair_at new.pairs id ≡ None)) ⊎ ((kept_at new.slots id ≡ kept_at old.slots id) × (pair_at new.pairs id ≡ pair_at old.pairs id))
+  pub each : (id : ℕ) → ((kept_at new.slots id ≡ None) × (pair_at new.rows id ≡ None)) ⊎ ((kept_at new.slots id ≡ kept_at old.slots id) × (pair_at new.rows id ≡ pair_at old.rows id))
 
 -- No kept nogood is retired.
 abbrev pub AreActive : Stored → Type 0
-AreActive s = (id : ℕ) (n : Nogood) → nogood_at s.slots id ≡ Some n → pair_at s.pairs id ≡ None → IsFrom s.apart s.apart.retired id
+AreActive s = (id : ℕ) (n : Nogood) → nogood_at s.slots id ≡ Some n → pair_at s.rows id ≡ None → IsFrom s.apart s.apart.retired id
 
 -- What every store keeps: each kept nogood that is watched stands in two lists, and each other one apart.
 pub record IsStore (vars : ℕ) (slots : List (Option StoredNogood)) (w : Watches) (extra : ℕ) : Type 0 where

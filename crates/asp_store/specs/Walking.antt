@@ -26,13 +26,13 @@ use Rattle.asp_store.specs.Sounding.{IsListed, IsSound, AreSettled}
 -- Each nogood that watches the literal stands at this place of its list or behind it, or has a literal that is false at a level
 -- not above that one's.
 abbrev pub AreDone : List (Option StoredNogood) → Watches → List Entry → Front → ℕ → Type 0
-AreDone slots w entries f i = (id : ℕ) (n : Nogood) (p : Pair) → nogood_at slots id ≡ Some n → pair_at w.pairs id ≡ Some p → IsOneOf p f.lit →
+AreDone slots w entries f i = (id : ℕ) (n : Nogood) (p : Pair) → nogood_at slots id ≡ Some n → pair_at w.rows id ≡ Some p → IsOneOf p f.lit →
     IsListed w.lists f.lit i id n.lits ⊎ HasFalse entries n.lits f.level
 
 -- The list of the first entry not seen was walked up to this place.
 pub record IsWalking (slots : List (Option StoredNogood)) (w : Watches) (t : Trailed) (f : Front) (i : ℕ) : Type 0 where
   pub sound : IsSound slots w t
-  pub settled : AreSettled slots w.pairs t.entries
+  pub settled : AreSettled slots w.rows t.entries
   pub done : AreDone slots w t.entries f i
   pub stands : Stands t.entries f.lit t.seen f.level
 
@@ -43,7 +43,7 @@ pub record IsVisit (slots : List (Option StoredNogood)) (w : Watches) (t : Trail
   pub at : place w.lists (code_of f.lit) i ≡ Some watch
   pub id_is : watch.id ≡ id
   pub pair : Pair
-  pub pair_is : pair_at w.pairs id ≡ Some pair
+  pub pair_is : pair_at w.rows id ≡ Some pair
   pub beside : IsBeside pair f.lit other
 
 -- The literal may watch the nogood under this number beside the other.

@@ -10,6 +10,7 @@ ghost use Rattle.asp_store.specs.Pending.{IsLooking, IsWaiting, Looks, HasNone};
 
 use crate::front::Step;
 use crate::looks::{Look, look_at};
+use crate::rows::{is_watched, put_row};
 use crate::slots::is_lasting_slot;
 use crate::stored_nogood::StoredNogood;
 use crate::visits::lits_at;
@@ -43,12 +44,14 @@ fn is_lasting_at(slots: &[Option<StoredNogood>], id: u32) -> bool
 fn attach(
     watches: &mut Watches,
     slots: &[Option<StoredNogood>],
+    lits: &[Lit],
     i: usize,
     id: u32,
     pair: Pair,
     trail: &Trail,
 ) -> Result<(), AllocError>
     requires waiting { IsWaiting slots.now watches.old trail.now i id }
+    requires kept { (n : Nogood) × (nogood_at slots.now id ≡ Some n) × (n.lits ≡ lits.now) }
     requires watched { (n : Nogood) → nogood_at slots.now id ≡ Some n → IsWatched n.lits pair trail.now.entries (length trail.now.entries) }
     ensures sound { IsSound slots.now watches.new trail.now }
     ensures looks { OnOk result (Looks slots.now watches.old watches.new trail.now i Step.Goes) }
@@ -61,7 +64,7 @@ fn attach(
     watches
         .lists
         .push(pair.second, Watch::new(pair.first, id, is_short))?;
-    watches.pairs.set(id as usize, Some(pair));
+    put_row(&mut watches.rows, id, lits, pair)?;
     leave(watches, slots, i, trail);
     Ok(())
 }
@@ -99,7 +102,7 @@ fn look_at_nogood(
     match found {
         Look::Violated => Ok(Step::Violated(id as usize)),
         Look::Watched(pair) => {
-            attach(watches, slots, i, id, pair, trail)?;
+            attach(watches, slots, lits, i, id, pair, trail)?;
             Ok(Step::Goes)
         }
         Look::Pending => Ok(Step::Stays),
@@ -126,7 +129,7 @@ fn look_at_place(
     ensures looks { IfOk result (Looks slots.now watches.old watches.new trail.new i) }
 {
     let id = watches.apart.id(i);
-    if watches.pairs.pair(id as usize).is_some() {
+    if is_watched(&watches.rows, id) {
         leave(watches, slots, i, trail);
         return Ok(Step::Goes);
     }
@@ -150,7 +153,7 @@ pub fn look_at_pending(
     ensures same { trail.new ≡ record trail.old { entries = trail.new.entries } }
     ensures extends { Extends slots.now trail.old.entries trail.new.entries }
     ensures sound { IsSound slots.now watches.new trail.new }
-    ensures settled { IfOk result (λ r. IfNone r (AreSettled slots.now watches.new.pairs trail.new.entries)) }
+    ensures settled { IfOk result (λ r. IfNone r (AreSettled slots.now watches.new.rows trail.new.entries)) }
     ensures violated { IfOk result (λ r. IfSome r (IsViolated trail.new.vars slots.now trail.new.entries)) }
 {
     let mut i = watches.apart.retired();

@@ -47,14 +47,14 @@ fn propagate_next(
     trail: &mut Trail,
 ) -> Result<Option<NogoodId>, AllocError>
     requires sound { IsSound slots.now watches.old trail.old }
-    requires settled { AreSettled slots.now watches.old.pairs trail.old.entries }
+    requires settled { AreSettled slots.now watches.old.rows trail.old.entries }
     requires more { trail.old.seen < length trail.old.entries }
     requires room { trail.old.vars ≤ trail.old.room }
     ensures same { trail.new ≡ record trail.old { entries = trail.new.entries; seen = trail.new.seen } }
     ensures few { length trail.old.entries ≤ trail.old.vars + 1 }
     ensures extends { Extends slots.now trail.old.entries trail.new.entries }
     ensures sound { IsSound slots.now watches.new trail.new }
-    ensures settled { IfOk result (λ r. IfNone r (AreSettled slots.now watches.new.pairs trail.new.entries)) }
+    ensures settled { IfOk result (λ r. IfNone r (AreSettled slots.now watches.new.rows trail.new.entries)) }
     ensures seen { IfOk result (λ r. IfNone r (trail.new.seen ≡ trail.old.seen + 1)) }
     ensures violated { IfOk result (λ r. IfSome r (IsViolated trail.new.vars slots.now trail.new.entries)) }
 {

@@ -46,7 +46,7 @@ impl Model for Store {
 
     ghost Value = { Stored };
 
-    ghost view = { λ s. record { vars = s.vars; slots = s.slots.items; pairs = s.watches.pairs; apart = s.watches.apart } };
+    ghost view = { λ s. record { vars = s.vars; slots = s.slots.items; rows = s.watches.rows; apart = s.watches.apart } };
 
     ghost invariant = { λ s. IsStore s.vars s.slots.items s.watches s.extra };
 }
@@ -73,7 +73,7 @@ impl Store {
     /// No nogoods, over the variables 1 to `vars`.
     pub fn new(alloc: Global, vars: u32) -> Result<Store, AllocError>
         requires { vars < 2 ^ 31 }
-        ensures { IfOk result (λ s. s ≡ record { vars = vars; slots = []; pairs = []; apart = record { items = []; retired = 0 } }) }
+        ensures { IfOk result (λ s. s ≡ record { vars = vars; slots = []; rows = []; apart = record { items = []; retired = 0 } }) }
     {
         let watches = Watches::new(alloc, 2 * (vars as usize) + 2)?;
         Ok(Store {
@@ -109,7 +109,7 @@ impl Store {
     {
         let _len = self.watches.apart.len();
         self.watches.apart.push(id)?;
-        self.watches.pairs.set(id as usize, None);
+        self.watches.rows.clear(id as usize);
         self.extra += extra_of(kind);
         self.slots[id as usize] = Some(StoredNogood {
             nogood,
@@ -208,7 +208,7 @@ impl Store {
     {
         unlist(&mut self.watches.lists, self.slots.as_slice(), id);
         self.extra -= remove_slot(self.slots.as_mut_slice(), id);
-        self.watches.pairs.set(id, None);
+        self.watches.rows.clear(id);
         give_back(&mut self.free, id);
     }
 

@@ -2,9 +2,10 @@
 //!
 //! A nogood stands in the lists of the two literals that it watches, each time beside another literal of it, the blocker.
 //! The literal whose list is walked holds. A walk passes the places whose blockers are false. At the others a place tells all
-//! of a nogood of two literals. Else the nogood's other watch tells, or another literal that doesn't hold becomes its watch; where there is none, the other watch is false
-//! from now on, or the nogood is violated. A number whose nogood doesn't watch this literal any more is dropped from the list.
-ghost use Rattle.std.specs.Prelude.{◌≡◌, ◌≢◌, ℕ, ◌<◌, ◌≤◌, ◌+◌, Some, None, OnOk, IfOk, IfSome, IfNone, MatchOption, IsTrue, length, false, true};
+//! of a nogood of two literals. Else its row is read: the other watch tells, or another literal that doesn't hold becomes its
+//! watch; where there is none, the other watch is false from now on, or the nogood is violated. A number whose nogood doesn't
+//! watch this literal any more is dropped from the list.
+ghost use Rattle.std.specs.Prelude.{◌≡◌, ◌≢◌, ℕ, ◌<◌, ◌≤◌, ◌+◌, Some, None, OnOk, IfOk, MatchOption, IsTrue, length, slice_get, false, true};
 ghost use Rattle.std.specs.List.{All};
 ghost use Rattle.asp_vars.specs.Codes.{code_of};
 ghost use Rattle.asp_vars.specs.Literals.{holds_in, has_literal};
@@ -12,26 +13,24 @@ ghost use Rattle.asp_vars.specs.declared.nogood.Nogood.{Nogood};
 ghost use Rattle.asp_trail.specs.Entries.{assignment, level};
 ghost use Rattle.asp_store.specs.declared.watch.Pair.{Pair};
 ghost use Rattle.asp_store.specs.Marks.{Watch};
+ghost use Rattle.asp_arena.specs.Rows.{row_at};
 ghost use Rattle.asp_store.specs.Keeping.{nogood_at};
 ghost use Rattle.asp_store.specs.Lists.{size, place};
-ghost use Rattle.asp_store.specs.Looking.{AreTrueBeside, HaveSame};
-ghost use Rattle.asp_store.specs.Pairs.{pair_at, IsOneOf, IsBeside};
+ghost use Rattle.asp_store.specs.Looking.{AreTrueBeside};
+ghost use Rattle.asp_store.specs.Pairs.{pair_at, IsOneOf};
 ghost use Rattle.asp_store.specs.Fitting.{IsFalseBy, Extends};
 ghost use Rattle.asp_store.specs.Sounding.{IsSound};
 ghost use Rattle.asp_store.specs.Walking.{IsWalking, IsVisit, MayWatch, Steps};
 
 use crate::front::{Front, Step};
-use crate::looks::{beside_from, falsify, make_false};
-use crate::pairs::Pairs;
+use crate::looks::{Spot, beside_from, falsify, make_false};
+use crate::rows::{rewatch, watched_beside};
 use crate::stored_nogood::StoredNogood;
-use crate::watch::{Pair, Watch, other_of};
+use crate::watch::Watch;
 use crate::watches::Watches;
 use asp_trail::trail::Trail;
 use asp_vars::lit::Lit;
 use std::alloc::AllocError;
-
-// To remember where a look ended costs more than it saves for nogoods of no more literals.
-const SHORT: usize = 8;
 
 /// Whether the literal is seen at once to be false at this level or below.
 pub fn is_quick(lit: Lit, level: usize, is_top: bool, trail: &Trail) -> bool
@@ -51,17 +50,6 @@ fn is_false_by(lit: Lit, front: &Front, trail: &Trail) -> bool
     ensures { IsTrue result → IsFalseBy trail.now.entries lit front.now.level }
 {
     is_quick(lit, front.level, front.level == trail.level(), trail)
-}
-
-// The other watch of the nogood under a number, if the nogood watches this literal.
-fn watched_beside(pairs: &Pairs, id: u32, lit: Lit) -> Option<Lit>
-    ensures none { IfNone result ((p : Pair) → pair_at pairs.now id ≡ Some p → IsOneOf p lit → ⊥) }
-    ensures some { IfSome result (λ other. (p : Pair) × (pair_at pairs.now id ≡ Some p) × IsBeside p lit other) }
-{
-    match pairs.pair(id as usize) {
-        None => None,
-        Some(pair) => other_of(pair, lit),
-    }
 }
 
 // The literals of the nogood under a number, if it has one.
@@ -108,7 +96,7 @@ fn leave(
 )
     requires walking { IsWalking slots.now watches.old trail.now front.now i }
     requires at { (w : Watch) × (place watches.old.lists (code_of front.now.lit) i ≡ Some w) × (w.id ≡ id) }
-    requires gone { (n : Nogood) (p : Pair) → nogood_at slots.now id ≡ Some n → pair_at watches.old.pairs id ≡ Some p → IsOneOf p front.now.lit → ⊥ }
+    requires gone { (n : Nogood) (p : Pair) → nogood_at slots.now id ≡ Some n → pair_at watches.old.rows id ≡ Some p → IsOneOf p front.now.lit → ⊥ }
     ensures { Steps slots.now watches.old watches.new trail.now front.now i Step.Goes }
 {
     let _len = trail.len();
@@ -122,24 +110,19 @@ fn move_watch(
     i: usize,
     id: u32,
     other: Lit,
-    lit: Lit,
+    spot: Spot,
     front: &Front,
     trail: &Trail,
 ) -> Result<(), AllocError>
     requires visit { IsVisit slots.now watches.old trail.now front.now i id other }
-    requires may { MayWatch slots.now trail.now id other lit }
+    requires may { MayWatch slots.now trail.now id other spot.lit }
+    requires stands { slice_get (row_at watches.old.rows id) spot.place ≡ Some spot.lit }
     ensures sound { IsSound slots.now watches.new trail.now }
     ensures steps { OnOk result (Steps slots.now watches.old watches.new trail.now front.now i Step.Goes) }
 {
     let _len = trail.len();
-    watches.lists.push(lit, Watch::new(other, id, false))?;
-    watches.pairs.set(
-        id as usize,
-        Some(Pair {
-            first: lit,
-            second: other,
-        }),
-    );
+    watches.lists.push(spot.lit, Watch::new(other, id, false))?;
+    rewatch(&mut watches.rows, id, front.lit, other, spot);
     leave(watches, slots, i, id, front, trail);
     Ok(())
 }
@@ -161,7 +144,7 @@ fn set_apart(
 {
     let _len = watches.apart.len();
     watches.apart.push(id)?;
-    watches.pairs.set(id as usize, None);
+    watches.rows.clear(id as usize);
     leave(watches, slots, i, id, front, trail);
     Ok(())
 }
@@ -170,7 +153,6 @@ fn set_apart(
 fn visit_last(
     watches: &mut Watches,
     slots: &[Option<StoredNogood>],
-    lits: &[Lit],
     i: usize,
     id: u32,
     other: Lit,
@@ -178,8 +160,7 @@ fn visit_last(
     trail: &mut Trail,
 ) -> Result<Step, AllocError>
     requires visit { IsVisit slots.now watches.old trail.old front.now i id other }
-    requires kept { (n : Nogood) × (nogood_at slots.now id ≡ Some n) × HaveSame n.lits lits.now }
-    requires others { AreTrueBeside trail.old.vars trail.old.entries lits.now other }
+    requires others { AreTrueBeside trail.old.vars trail.old.entries (row_at watches.old.rows id) other }
     requires room { trail.old.vars ≤ trail.old.room }
     ensures same { trail.new ≡ record trail.old { entries = trail.new.entries } }
     ensures extends { Extends slots.now trail.old.entries trail.new.entries }
@@ -190,7 +171,7 @@ fn visit_last(
     if trail.assignment().holds(other) {
         return Ok(Step::Violated(id as usize));
     }
-    let level = falsify(lits, other, id as usize, trail);
+    let level = falsify(watches.rows.row(id as usize), other, id as usize, trail);
     let _new_len = trail.len();
     if level <= front.level {
         block(watches, slots, i, id, other, front, trail);
@@ -200,25 +181,7 @@ fn visit_last(
     Ok(Step::Goes)
 }
 
-// Where a look for another watch begins best: short nogoods are gone through from the first literal on.
-fn start_of(pairs: &Pairs, id: u32, lits: &[Lit]) -> usize {
-    if lits.len() > SHORT {
-        pairs.start(id as usize)
-    } else {
-        0
-    }
-}
-
-// The place where a look ended is the next one's beginning.
-fn note_start(pairs: &mut Pairs, id: u32, lits: &[Lit], place: usize)
-    ensures { pairs.new ≡ pairs.old }
-{
-    if lits.len() > SHORT {
-        pairs.set_start(id as usize, place);
-    }
-}
-
-// Looks at the nogood whole, as its other watch isn't seen to be false.
+// Looks at the nogood's row, as its other watch isn't seen to be false.
 fn visit_long(
     watches: &mut Watches,
     slots: &[Option<StoredNogood>],
@@ -236,22 +199,18 @@ fn visit_long(
     ensures steps { IfOk result (Steps slots.now watches.old watches.new trail.new front.now i) }
 {
     let _len = trail.len();
-    match lits_at(slots, id) {
-        None => {
-            leave(watches, slots, i, id, front, trail);
+    let start = watches.rows.start(id as usize);
+    match beside_from(
+        watches.rows.row(id as usize),
+        start,
+        other,
+        trail.assignment(),
+    ) {
+        Some(spot) => {
+            move_watch(watches, slots, i, id, other, spot, front, trail)?;
             Ok(Step::Goes)
         }
-        Some(lits) => {
-            let start = start_of(&watches.pairs, id, lits);
-            match beside_from(lits, start, other, trail.assignment()) {
-                Some(spot) => {
-                    note_start(&mut watches.pairs, id, lits, spot.place);
-                    move_watch(watches, slots, i, id, other, spot.lit, front, trail)?;
-                    Ok(Step::Goes)
-                }
-                None => visit_last(watches, slots, lits, i, id, other, front, trail),
-            }
-        }
+        None => visit_last(watches, slots, i, id, other, front, trail),
     }
 }
 
@@ -315,7 +274,7 @@ pub fn visit_place(
         return Ok(step);
     }
     let id = watch.id();
-    match watched_beside(&watches.pairs, id, front.lit) {
+    match watched_beside(&watches.rows, id, front.lit) {
         None => {
             leave(watches, slots, i, id, front, trail);
             Ok(Step::Goes)

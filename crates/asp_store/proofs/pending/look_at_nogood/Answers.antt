@@ -24,6 +24,9 @@ attach-requires-clause-waiting c =
 pub attach-requires-clause-watched : goal.attach-requires-clause-watched
 attach-requires-clause-watched c = for_each c.args.slots.now c.args.id c.requires.kept.0 c.args.lits.now (λ xs. IsWatched xs c.in-Watched.pair c.look_at-found.new.trail.entries (length c.look_at-found.new.trail.entries)) c.requires.kept.1 c.requires.kept.2 (subst (λ (l : Look). Found c.args.trail.now.vars c.args.lits.now c.args.trail.now.entries c.look_at-found.new.trail.entries l) c.in-Watched.is c.look_at-found.ensures.found)
 
+pub attach-requires-clause-kept : goal.attach-requires-clause-kept
+attach-requires-clause-kept c = c.requires.kept
+
 pub retire-requires-clause-waiting : goal.retire-requires-clause-waiting
 retire-requires-clause-waiting c =
     let t = c.args.trail.now in

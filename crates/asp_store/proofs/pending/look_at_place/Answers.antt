@@ -1,5 +1,4 @@
 use Rattle.std.proofs.Common.{sym, ap, ◌∙◌}
-use Rattle.std.specs.Option.{is_some}
 use Rattle.std.proofs.lemmas.Option.{same_Some, none-some}
 use Rattle.asp_store.specs.Keeping.{nogood_at}
 use Rattle.asp_store.specs.Pairs.{pair_at}
@@ -9,8 +8,8 @@ use Rattle.asp_store.proofs.pending.look_at_place.Goals as goal
 
 pub leave-requires-clause-none : goal.leave-requires-clause-none
 leave-requires-clause-none c = λ j m at g q.
-    none_when (pair_at c.args.watches.now.pairs c.id-id.result) (ap is_some (sym c.pair.ensures) ∙ (sym c.is_some.ensures ∙ c.if-is_some.true))
-    (ap (pair_at c.args.watches.now.pairs) (same_Some c.id-id.result j (sym c.id-id.ensures ∙ at)) ∙ q)
+    none_when (pair_at c.args.watches.now.rows c.id-id.result) (sym c.is_watched.ensures ∙ c.if-is_watched.true)
+    (ap (pair_at c.args.watches.now.rows) (same_Some c.id-id.result j (sym c.id-id.ensures ∙ at)) ∙ q)
 
 pub leave-requires-in-None-clause-none : goal.leave-requires-in-None-clause-none
 leave-requires-in-None-clause-none c = λ j m at g q.
@@ -20,12 +19,12 @@ pub look_at_nogood-requires-clause-waiting : goal.look_at_nogood-requires-clause
 look_at_nogood-requires-clause-waiting c = record {
   looking = c.requires.looking;
   at = c.id-id.ensures;
-  pair = none_from (pair_at c.args.watches.now.pairs c.id-id.result) (ap is_some (sym c.pair.ensures) ∙ (sym c.is_some.ensures ∙ c.if-is_some.false));
+  pair = none_from (pair_at c.args.watches.now.rows c.id-id.result) (sym c.is_watched.ensures ∙ c.if-is_watched.false);
   kept = (c.in-Some.ensures.0, c.in-Some.ensures.1);
 }
 
-pub returns-then-is_some-clause-extends : goal.returns-then-is_some-clause-extends
-returns-then-is_some-clause-extends c = extends_none c.args.slots.now c.args.trail.now.entries
+pub returns-then-is_watched-clause-extends : goal.returns-then-is_watched-clause-extends
+returns-then-is_watched-clause-extends c = extends_none c.args.slots.now c.args.trail.now.entries
 
 pub returns-in-None-clause-extends : goal.returns-in-None-clause-extends
 returns-in-None-clause-extends c = extends_none c.args.slots.now c.args.trail.now.entries

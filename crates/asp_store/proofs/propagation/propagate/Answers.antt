@@ -19,7 +19,7 @@ returns-in-Some-clause-propagates c = subst (λ (o : Option ℕ). IfSome o (IsVi
 pub entries-init : goal.entries-init
 entries-init c = record {
   sound = c.look_at_pending.ensures.sound;
-  settled = subst (λ (o : Option ℕ). IfNone o (AreSettled c.args.slots.now c.look_at_pending.new.watches.pairs c.look_at_pending.new.trail.entries)) c.in-None.is c.in_ok-pending.ensures.settled;
+  settled = subst (λ (o : Option ℕ). IfNone o (AreSettled c.args.slots.now c.look_at_pending.new.watches.rows c.look_at_pending.new.trail.entries)) c.in-None.is c.in_ok-pending.ensures.settled;
   same = c.look_at_pending.ensures.same ∙ ap (λ (k : ℕ). let r : Trailed = record c.args.trail.now { entries = c.look_at_pending.new.trail.entries; seen = k } in r) (sym (ap (λ (s : Trailed). s.seen) c.look_at_pending.ensures.same));
   extends = c.look_at_pending.ensures.extends;
 }
@@ -60,7 +60,7 @@ returns-in-Some-found-clause-propagates c = subst (λ (o : Option ℕ). IfSome o
 pub entries-preserved : goal.entries-preserved
 entries-preserved c = record {
   sound = c.propagate_next.ensures.sound;
-  settled = subst (λ (o : Option ℕ). IfNone o (AreSettled c.args.slots.now c.propagate_next.new.watches.pairs c.propagate_next.new.trail.entries)) c.in-None-found.is c.in_ok-found.ensures.settled;
+  settled = subst (λ (o : Option ℕ). IfNone o (AreSettled c.args.slots.now c.propagate_next.new.watches.rows c.propagate_next.new.trail.entries)) c.in-None-found.is c.in_ok-found.ensures.settled;
   same = c.propagate_next.ensures.same ∙ ap (λ (s : Trailed). let r : Trailed = record s { entries = c.propagate_next.new.trail.entries; seen = c.propagate_next.new.trail.seen } in r) c.entries.invariant.same;
   extends = extends_more c.args.slots.now c.args.trail.now.entries c.entries.trail.entries c.propagate_next.new.trail.entries c.entries.invariant.extends c.propagate_next.ensures.extends;
 }

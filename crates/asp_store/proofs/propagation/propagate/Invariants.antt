@@ -6,7 +6,7 @@ use Rattle.asp_store.proofs.propagation.propagate.Given as goal
 abbrev pub invariant-entries : goal.invariant-entries
 invariant-entries l = record {
   sound : IsSound l.slots l.watches l.trail;
-  settled : AreSettled l.slots l.watches.pairs l.trail.entries;
+  settled : AreSettled l.slots l.watches.rows l.trail.entries;
   same : l.trail ≡ record l.fn.trail { entries = l.trail.entries; seen = l.trail.seen };
   extends : Extends l.slots l.fn.trail.entries l.trail.entries;
 }

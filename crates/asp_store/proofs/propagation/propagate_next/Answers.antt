@@ -62,7 +62,7 @@ returns-in-None-clause-sound c =
 pub returns-in-None-clause-settled : goal.returns-in-None-clause-settled
 returns-in-None-clause-settled c =
     let k = subst (λ (o : Option ℕ). Walked c.args.slots.now c.walk.new.watches c.walk.new.trail c.front_of-front.result o) c.in-None.is c.in_ok-found.ensures.walked in
-    subst (λ (u : Trailed). AreSettled c.args.slots.now c.walk.new.watches.pairs u.entries) (sym (c.mark_seen.ensures ∙ ap (λ (k : ℕ). let r : Trailed = record c.walk.new.trail { seen = k + 1 } in r) (c.seen-seen.ensures.seen ∙ sym (ap (λ (s : Trailed). s.seen) c.walk.ensures.same)))) k.2.settled
+    subst (λ (u : Trailed). AreSettled c.args.slots.now c.walk.new.watches.rows u.entries) (sym (c.mark_seen.ensures ∙ ap (λ (k : ℕ). let r : Trailed = record c.walk.new.trail { seen = k + 1 } in r) (c.seen-seen.ensures.seen ∙ sym (ap (λ (s : Trailed). s.seen) c.walk.ensures.same)))) k.2.settled
 
 pub returns-in-None-clause-seen : goal.returns-in-None-clause-seen
 returns-in-None-clause-seen c = ap (λ (s : Trailed). s.seen) c.mark_seen.ensures ∙ ap (λ (k : ℕ). k + 1) c.seen-seen.ensures.seen

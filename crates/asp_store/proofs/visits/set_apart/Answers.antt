@@ -1,5 +1,5 @@
-use Rattle.std.proofs.Common.{◌≡◌, Option, List, sym, ap, ◌∙◌, subst}
-use Rattle.asp_store.specs.declared.watch.Pair.{Pair}
+use Rattle.std.proofs.Common.{◌≡◌, List, sym, ap, ◌∙◌, subst}
+use Rattle.asp_vars.specs.Literals.{Literal}
 use Rattle.asp_store.specs.declared.watches.Watches.{Watches}
 use Rattle.asp_store.specs.Pairs.{pair_at}
 use Rattle.asp_store.specs.Parted.{Parted}
@@ -8,15 +8,15 @@ use Rattle.asp_store.specs.Walking.{IsWalking}
 use Rattle.asp_store.proofs.StepLaws.{visit_id, put_apart, apart_walking, apart_gone}
 use Rattle.asp_store.proofs.visits.set_apart.Goals as goal
 
-pub set-requires : goal.set-requires
-set-requires c = visit_id c.args.slots.now c.args.watches.now c.args.trail.now c.args.front.now c.args.i c.args.id c.args.other c.requires.visit
+pub clear-requires : goal.clear-requires
+clear-requires c = visit_id c.args.slots.now c.args.watches.now c.args.trail.now c.args.front.now c.args.i c.args.id c.args.other c.requires.visit
 
 pub leave-requires-clause-walking : goal.leave-requires-clause-walking
 leave-requires-clause-walking c =
     let w = c.args.watches.now in
     let a = c.in_ok-push.ensures.ok in
-    let b = c.set.ensures in
-    let e : record w { pairs = c.set.new.self; apart = c.push.new.self } ≡ put_apart w c.args.id = λ j. record w { pairs = b j; apart = a j } in
+    let b = c.clear.ensures in
+    let e : record w { rows = c.clear.new.self; apart = c.push.new.self } ≡ put_apart w c.args.id = λ j. record w { rows = b j; apart = a j } in
     subst (λ (x : Watches). IsWalking c.args.slots.now x c.args.trail.now c.args.front.now c.args.i) (sym e)
     (apart_walking c.args.slots.now w c.args.trail.now c.args.front.now c.args.i c.args.id c.args.other c.requires.is_false.0 (rw c.len-len.ensures.len at c.len-len.ensures.retired)
     c.requires.is_false.1 c.requires.visit)
@@ -27,7 +27,7 @@ leave-requires-clause-at c = (c.requires.visit.watch, c.requires.visit.at, c.req
 pub leave-requires-clause-gone : goal.leave-requires-clause-gone
 leave-requires-clause-gone c = λ n p h g o.
     apart_gone c.args.slots.now c.args.watches.now c.args.trail.now c.args.front.now c.args.i c.args.id c.args.other c.requires.visit p
-    (sym (ap (λ (ps : List (Option Pair)). pair_at ps c.args.id) c.set.ensures) ∙ g)
+    (sym (ap (λ (rs : List (List Literal)). pair_at rs c.args.id) c.clear.ensures) ∙ g)
 
 pub returns-clause-sound : goal.returns-clause-sound
 returns-clause-sound c = c.leave.ensures.0.sound

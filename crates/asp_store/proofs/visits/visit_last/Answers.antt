@@ -1,6 +1,7 @@
-use Rattle.std.proofs.Common.{◌≡◌, Bool, true, false, Option, List, refl, sym, ◌∙◌, subst, arith, rules}
-use Rattle.asp_vars.specs.Literals.{holds_in}
+use Rattle.std.proofs.Common.{◌≡◌, Bool, true, false, Option, List, refl, sym, ap, ◌∙◌, subst, arith, rules}
+use Rattle.asp_vars.specs.Literals.{Literal, has_literal, holds_in}
 use Rattle.asp_trail.specs.Trails.{Trailed, IsVar}
+use Rattle.asp_store.specs.Looking.{AreTrueBeside}
 use Rattle.asp_store.specs.Walking.{IsVisit}
 use Rattle.asp_store.proofs.GrowLaws.{extends_grew, extends_none, grew_by, grew_same, trail_more}
 use Rattle.asp_store.proofs.LookLaws.{all_has, violated_when}
@@ -9,14 +10,15 @@ use Rattle.asp_store.proofs.visits.visit_last.Goals as goal
 
 pub falsify-level-requires-clause-has : goal.falsify-level-requires-clause-has
 falsify-level-requires-clause-has c =
-    sym (c.requires.kept.2 c.args.other)
-    ∙ visit_has c.args.slots.now c.args.watches.now c.args.trail.now c.args.front.now c.args.i c.args.id c.args.other c.requires.kept.0 c.requires.visit c.requires.kept.1
+    let k = c.requires.visit.walking.sound.net.kept c.args.id c.requires.visit.pair c.requires.visit.pair_is in
+    subst (λ (xs : List Literal). has_literal xs c.args.other ≡ true) (sym c.row.ensures)
+    (sym (k.2 c.args.other) ∙ visit_has c.args.slots.now c.args.watches.now c.args.trail.now c.args.front.now c.args.i c.args.id c.args.other k.0 c.requires.visit k.1)
 
 pub falsify-level-requires-clause-var : goal.falsify-level-requires-clause-var
 falsify-level-requires-clause-var c =
-    all_has (λ l. IsVar c.args.trail.now.vars l.var) c.requires.kept.0.lits c.args.other
-    (c.requires.visit.walking.sound.net.small c.args.id c.requires.kept.0 c.requires.kept.1)
-    (visit_has c.args.slots.now c.args.watches.now c.args.trail.now c.args.front.now c.args.i c.args.id c.args.other c.requires.kept.0 c.requires.visit c.requires.kept.1)
+    let k = c.requires.visit.walking.sound.net.kept c.args.id c.requires.visit.pair c.requires.visit.pair_is in
+    all_has (λ l. IsVar c.args.trail.now.vars l.var) k.0.lits c.args.other (c.requires.visit.walking.sound.net.small c.args.id k.0 k.1)
+    (visit_has c.args.slots.now c.args.watches.now c.args.trail.now c.args.front.now c.args.i c.args.id c.args.other k.0 c.requires.visit k.1)
 
 pub falsify-level-requires-clause-not_true : goal.falsify-level-requires-clause-not_true
 falsify-level-requires-clause-not_true c =
@@ -24,10 +26,11 @@ falsify-level-requires-clause-not_true c =
 
 pub returns-then-holds-clause-steps : goal.returns-then-holds-clause-steps
 returns-then-holds-clause-steps c =
-    let t = c.args.trail.now in (
-      c.requires.kept.0,
-      c.requires.kept.1,
-      violated_when t.vars t.entries c.requires.kept.0.lits c.args.other (λ k h ne. c.requires.others k (sym (c.requires.kept.2 k) ∙ h) ne)
+    let t = c.args.trail.now in
+    let n = c.requires.visit.walking.sound.net.kept c.args.id c.requires.visit.pair c.requires.visit.pair_is in (
+      n.0,
+      n.1,
+      violated_when t.vars t.entries n.0.lits c.args.other (λ k h ne. c.requires.others k (sym (n.2 k) ∙ h) ne)
           (λ h. subst (λ (a : List (Option Bool)). holds_in a c.args.other ≡ true) c.assignment.ensures.values (sym c.holds.ensures ∙ c.if-holds.true)),
     )
 
@@ -35,7 +38,7 @@ pub block-requires-clause-visit : goal.block-requires-clause-visit
 block-requires-clause-visit c =
     let t = c.args.trail.now in
     let u = c.falsify-level.new.trail in
-    let g = grew_by c.args.id c.args.lits.now t.entries u.entries c.falsify-level.ensures.grew in
+    let g = grew_by c.args.id c.row.result.now t.entries u.entries c.falsify-level.ensures.grew in
     subst (λ (x : Trailed). IsVisit c.args.slots.now c.args.watches.now x c.args.front.now c.args.i c.args.id c.args.other) (sym (trail_more t u g.0 c.falsify-level.ensures.same g.1))
     (visit_grow c.args.slots.now c.args.watches.now t c.args.front.now c.args.i c.args.id c.args.other g.0 (omega (arith, c.len-len.ensures.len, c.len-len.ensures.seen)) c.requires.visit)
 
@@ -48,7 +51,7 @@ pub set_apart-requires-clause-visit : goal.set_apart-requires-clause-visit
 set_apart-requires-clause-visit c =
     let t = c.args.trail.now in
     let u = c.falsify-level.new.trail in
-    let g = grew_by c.args.id c.args.lits.now t.entries u.entries c.falsify-level.ensures.grew in
+    let g = grew_by c.args.id c.row.result.now t.entries u.entries c.falsify-level.ensures.grew in
     subst (λ (x : Trailed). IsVisit c.args.slots.now c.args.watches.now x c.args.front.now c.args.i c.args.id c.args.other) (sym (trail_more t u g.0 c.falsify-level.ensures.same g.1))
     (visit_grow c.args.slots.now c.args.watches.now t c.args.front.now c.args.i c.args.id c.args.other g.0 (omega (arith, c.len-len.ensures.len, c.len-len.ensures.seen)) c.requires.visit)
 
@@ -68,7 +71,8 @@ pub returns-then-holds-clause-sound : goal.returns-then-holds-clause-sound
 returns-then-holds-clause-sound c = c.requires.visit.walking.sound
 
 pub falsify-level-requires-clause-others : goal.falsify-level-requires-clause-others
-falsify-level-requires-clause-others c = c.requires.others
+falsify-level-requires-clause-others c =
+    subst (λ (xs : List Literal). AreTrueBeside c.args.trail.now.vars c.args.trail.now.entries xs c.args.other) (sym c.row.ensures) c.requires.others
 
 pub falsify-level-requires-clause-room : goal.falsify-level-requires-clause-room
 falsify-level-requires-clause-room c = c.requires.room
@@ -78,8 +82,9 @@ returns-then-level-front-clause-same c = c.falsify-level.ensures.same
 
 pub returns-then-level-front-clause-extends : goal.returns-then-level-front-clause-extends
 returns-then-level-front-clause-extends c =
-    extends_grew c.args.slots.now c.args.id c.requires.kept.0 c.args.trail.now.entries c.falsify-level.new.trail.entries c.requires.kept.1
-    (grew_same c.args.id c.requires.kept.0.lits c.args.lits.now c.args.trail.now.entries c.falsify-level.new.trail.entries c.requires.kept.2 c.falsify-level.ensures.grew)
+    let k = c.requires.visit.walking.sound.net.kept c.args.id c.requires.visit.pair c.requires.visit.pair_is in
+    extends_grew c.args.slots.now c.args.id k.0 c.args.trail.now.entries c.falsify-level.new.trail.entries k.1
+    (grew_same c.args.id k.0.lits c.row.result.now c.args.trail.now.entries c.falsify-level.new.trail.entries (λ l. k.2 l ∙ ap (λ (xs : List Literal). has_literal xs l) (sym c.row.ensures)) c.falsify-level.ensures.grew)
 
 pub returns-then-level-front-clause-sound : goal.returns-then-level-front-clause-sound
 returns-then-level-front-clause-sound c = c.block.ensures.0.sound
@@ -92,8 +97,9 @@ returns-in_err-set_apart-clause-same c = c.falsify-level.ensures.same
 
 pub returns-in_err-set_apart-clause-extends : goal.returns-in_err-set_apart-clause-extends
 returns-in_err-set_apart-clause-extends c =
-    extends_grew c.args.slots.now c.args.id c.requires.kept.0 c.args.trail.now.entries c.falsify-level.new.trail.entries c.requires.kept.1
-    (grew_same c.args.id c.requires.kept.0.lits c.args.lits.now c.args.trail.now.entries c.falsify-level.new.trail.entries c.requires.kept.2 c.falsify-level.ensures.grew)
+    let k = c.requires.visit.walking.sound.net.kept c.args.id c.requires.visit.pair c.requires.visit.pair_is in
+    extends_grew c.args.slots.now c.args.id k.0 c.args.trail.now.entries c.falsify-level.new.trail.entries k.1
+    (grew_same c.args.id k.0.lits c.row.result.now c.args.trail.now.entries c.falsify-level.new.trail.entries (λ l. k.2 l ∙ ap (λ (xs : List Literal). has_literal xs l) (sym c.row.ensures)) c.falsify-level.ensures.grew)
 
 pub returns-in_err-set_apart-clause-sound : goal.returns-in_err-set_apart-clause-sound
 returns-in_err-set_apart-clause-sound c = c.set_apart.ensures.sound
@@ -106,8 +112,9 @@ returns-clause-same c = c.falsify-level.ensures.same
 
 pub returns-clause-extends : goal.returns-clause-extends
 returns-clause-extends c =
-    extends_grew c.args.slots.now c.args.id c.requires.kept.0 c.args.trail.now.entries c.falsify-level.new.trail.entries c.requires.kept.1
-    (grew_same c.args.id c.requires.kept.0.lits c.args.lits.now c.args.trail.now.entries c.falsify-level.new.trail.entries c.requires.kept.2 c.falsify-level.ensures.grew)
+    let k = c.requires.visit.walking.sound.net.kept c.args.id c.requires.visit.pair c.requires.visit.pair_is in
+    extends_grew c.args.slots.now c.args.id k.0 c.args.trail.now.entries c.falsify-level.new.trail.entries k.1
+    (grew_same c.args.id k.0.lits c.row.result.now c.args.trail.now.entries c.falsify-level.new.trail.entries (λ l. k.2 l ∙ ap (λ (xs : List Literal). has_literal xs l) (sym c.row.ensures)) c.falsify-level.ensures.grew)
 
 pub returns-clause-sound : goal.returns-clause-sound
 returns-clause-sound c = c.set_apart.ensures.sound

@@ -14,7 +14,7 @@ returns-then-is_given_slot-clause-loses c =
     let i = c.self.inside in
     let h : c.args.id < length i.slots.items = subst (λ (x : Stored). c.args.id < length x.slots) (sym c.self.view_is) c.requires in
     let w : c.args.id < length s.slots = subst (λ (x : Stored). c.args.id < length x.slots) c.self.view_is h in
-    let k : c.args.id < length s.pairs = subst (λ (x : Stored). c.args.id < length x.pairs) c.self.view_is (omega (arith, h, c.self.invariant.net.paired)) in
+    let k : c.args.id < length s.rows = subst (λ (x : Stored). c.args.id < length x.rows) c.self.view_is (omega (arith, h, c.self.invariant.net.paired)) in
     let at : kept_at s.slots c.args.id ≡ c.index.result.now =
     sym (ap (λ (x : Stored). kept_at x.slots c.args.id) c.self.view_is) ∙ (same_default i.slots.items c.args.id None c.index.result.now h ∙ sym c.index.ensures) in
     subst (λ (z : Stored). Loses s z) (sym c.remove.ensures) (removed_loses s c.args.id w k)
@@ -28,7 +28,7 @@ returns-then-is_given_slot-clause-here c =
     let i = c.self.inside in
     let h : c.args.id < length i.slots.items = subst (λ (x : Stored). c.args.id < length x.slots) (sym c.self.view_is) c.requires in
     let w : c.args.id < length s.slots = subst (λ (x : Stored). c.args.id < length x.slots) c.self.view_is h in
-    let k : c.args.id < length s.pairs = subst (λ (x : Stored). c.args.id < length x.pairs) c.self.view_is (omega (arith, h, c.self.invariant.net.paired)) in
+    let k : c.args.id < length s.rows = subst (λ (x : Stored). c.args.id < length x.rows) c.self.view_is (omega (arith, h, c.self.invariant.net.paired)) in
     let at : kept_at s.slots c.args.id ≡ c.index.result.now =
     sym (ap (λ (x : Stored). kept_at x.slots c.args.id) c.self.view_is) ∙ (same_default i.slots.items c.args.id None c.index.result.now h ∙ sym c.index.ensures) in
     let gone : is_given (kept_at s.slots c.args.id) ≡ true = ap is_given at ∙ (sym c.is_given_slot.ensures ∙ c.if-is_given_slot.true) in
@@ -49,7 +49,7 @@ returns-else-is_given_slot-clause-here c =
     let i = c.self.inside in
     let h : c.args.id < length i.slots.items = subst (λ (x : Stored). c.args.id < length x.slots) (sym c.self.view_is) c.requires in
     let w : c.args.id < length s.slots = subst (λ (x : Stored). c.args.id < length x.slots) c.self.view_is h in
-    let k : c.args.id < length s.pairs = subst (λ (x : Stored). c.args.id < length x.pairs) c.self.view_is (omega (arith, h, c.self.invariant.net.paired)) in
+    let k : c.args.id < length s.rows = subst (λ (x : Stored). c.args.id < length x.rows) c.self.view_is (omega (arith, h, c.self.invariant.net.paired)) in
     let at : kept_at s.slots c.args.id ≡ c.index.result.now =
     sym (ap (λ (x : Stored). kept_at x.slots c.args.id) c.self.view_is) ∙ (same_default i.slots.items c.args.id None c.index.result.now h ∙ sym c.index.ensures) in
     let stays : is_given (kept_at s.slots c.args.id) ≡ false = ap is_given at ∙ (sym c.is_given_slot.ensures ∙ c.if-is_given_slot.false) in

@@ -12,7 +12,7 @@ returns-then-is_spare_slot-clause-loses c =
     let i = c.self.inside in
     let h : c.args.id < length i.slots.items = omega (arith, c.if-id-len.true, c.len.ensures, c.self.inside.slots.ok.0) in
     let w : c.args.id < length s.slots = subst (λ (x : Stored). c.args.id < length x.slots) c.self.view_is h in
-    let k : c.args.id < length s.pairs = subst (λ (x : Stored). c.args.id < length x.pairs) c.self.view_is (omega (arith, h, c.self.invariant.net.paired)) in
+    let k : c.args.id < length s.rows = subst (λ (x : Stored). c.args.id < length x.rows) c.self.view_is (omega (arith, h, c.self.invariant.net.paired)) in
     let at : kept_at s.slots c.args.id ≡ c.index.result.now =
     sym (ap (λ (x : Stored). kept_at x.slots c.args.id) c.self.view_is) ∙ (same_default i.slots.items c.args.id None c.index.result.now h ∙ sym c.index.ensures) in
     subst (λ (z : Stored). Loses s z) (sym c.remove.ensures) (removed_loses s c.args.id w k)
@@ -23,7 +23,7 @@ returns-then-is_spare_slot-clause-thins c =
     let i = c.self.inside in
     let h : c.args.id < length i.slots.items = omega (arith, c.if-id-len.true, c.len.ensures, c.self.inside.slots.ok.0) in
     let w : c.args.id < length s.slots = subst (λ (x : Stored). c.args.id < length x.slots) c.self.view_is h in
-    let k : c.args.id < length s.pairs = subst (λ (x : Stored). c.args.id < length x.pairs) c.self.view_is (omega (arith, h, c.self.invariant.net.paired)) in
+    let k : c.args.id < length s.rows = subst (λ (x : Stored). c.args.id < length x.rows) c.self.view_is (omega (arith, h, c.self.invariant.net.paired)) in
     let at : kept_at s.slots c.args.id ≡ c.index.result.now =
     sym (ap (λ (x : Stored). kept_at x.slots c.args.id) c.self.view_is) ∙ (same_default i.slots.items c.args.id None c.index.result.now h ∙ sym c.index.ensures) in
     subst (λ (z : Stored). Thins s.slots z.slots) (sym c.remove.ensures)

@@ -1,4 +1,4 @@
-use Rattle.std.proofs.Common.{◌≡◌, ◌≤◌, ◌+◌, false, [], ◌∷◌, ◌++◌, List, Option, Some, None, length, refl, sym, ap, subst, ◌∙◌, arith}
+use Rattle.std.proofs.Common.{◌≡◌, ◌≤◌, ◌+◌, false, [], ◌∷◌, ◌++◌, List, Option, Some, length, refl, sym, ap, subst, ◌∙◌, arith}
 use Rattle.std.specs.List.{All}
 use Rattle.std.proofs.lemmas.List.{length-append}
 use Rattle.asp_trail.specs.Trails.{IsVar}
@@ -18,7 +18,7 @@ invariant_of-self-2 c =
     let small : All (λ l. IsVar i.vars l.var) c.args.nogood.lits = subst (λ (s : Stored). All (λ l. IsVar s.vars l.var) c.args.nogood.lits) (sym c.self.view_is) c.requires in
     let at : id ≡ length slots = omega (arith, c.len-id.ensures, i.slots.ok.0) in
     let begun : i.watches.apart.retired ≤ length i.watches.apart.items = omega (arith, c.len-len.ensures.len, c.len-len.ensures.retired) in
-    let z : Watches = record i.watches { pairs = i.watches.pairs ++ None ∷ []; apart = record i.watches.apart { items = i.watches.apart.items ++ id ∷ [] } } in
+    let z : Watches = record i.watches { rows = i.watches.rows ++ [] ∷ []; apart = record i.watches.apart { items = i.watches.apart.items ++ id ∷ [] } } in
     let new : List (Option StoredNogood) = slots ++ Some k ∷ [] in
     let grown : c.push_reserved.new.self.items ≡ new = c.push_reserved.ensures.items ∙ ap (λ (xs : List (Option StoredNogood)). xs ++ Some k ∷ []) c.in_ok-reserve.ensures.items in
     let more : IsAdded (view_of i.vars slots i.watches) (view_of i.vars new z) id c.args.nogood c.args.kind =
@@ -26,7 +26,7 @@ invariant_of-self-2 c =
     subst (λ (xs : List (Option StoredNogood)). IsStore i.vars xs c.push.new.self (i.extra + c.extra_of.result)) (sym grown)
     (subst (λ (w : Watches). IsStore i.vars new w (i.extra + c.extra_of.result)) (sym c.in_ok-push.ensures.ok)
     (store_add i.vars slots new i.watches z i.extra (i.extra + c.extra_of.result) id c.args.nogood c.args.kind c.self.invariant refl
-    (omega (arith, length-append i.watches.pairs (None ∷ []), length-append slots (Some k ∷ []), c.self.invariant.net.paired)) more (λ j f. from_push i.watches.apart id 0 j f) small
+    (omega (arith, length-append i.watches.rows ([] ∷ []), length-append slots (Some k ∷ []), c.self.invariant.net.paired)) more (λ j f. from_push i.watches.apart id 0 j f) small
     (omega (arith, length-append slots (Some k ∷ []), at, c.if-id-ge-MOST.false))
     (omega (arith, push_count slots (Some k), c.self.invariant.counted, c.extra_of.ensures))))
 
@@ -39,7 +39,7 @@ returns-clause-ok c =
     let small : All (λ l. IsVar i.vars l.var) c.args.nogood.lits = subst (λ (s : Stored). All (λ l. IsVar s.vars l.var) c.args.nogood.lits) (sym c.self.view_is) c.requires in
     let at : id ≡ length slots = omega (arith, c.len-id.ensures, i.slots.ok.0) in
     let begun : i.watches.apart.retired ≤ length i.watches.apart.items = omega (arith, c.len-len.ensures.len, c.len-len.ensures.retired) in
-    let z : Watches = record i.watches { pairs = i.watches.pairs ++ None ∷ []; apart = record i.watches.apart { items = i.watches.apart.items ++ id ∷ [] } } in
+    let z : Watches = record i.watches { rows = i.watches.rows ++ [] ∷ []; apart = record i.watches.apart { items = i.watches.apart.items ++ id ∷ [] } } in
     let new : List (Option StoredNogood) = slots ++ Some k ∷ [] in
     let grown : c.push_reserved.new.self.items ≡ new = c.push_reserved.ensures.items ∙ ap (λ (xs : List (Option StoredNogood)). xs ++ Some k ∷ []) c.in_ok-reserve.ensures.items in
     let more : IsAdded (view_of i.vars slots i.watches) (view_of i.vars new z) id c.args.nogood c.args.kind =

@@ -10,8 +10,8 @@ use Rattle.asp_store.proofs.SoundLaws.{from_push}
 use Rattle.asp_store.proofs.StoreLaws.{view_of, store_add, added_put, put_count}
 use Rattle.asp_store.proofs.store.Store.put.Goals as goal
 
-pub set-requires : goal.set-requires
-set-requires c =
+pub clear-requires : goal.clear-requires
+clear-requires c =
     let h : c.args.id < length c.self.inside.slots.items = subst (λ (s : Stored). c.args.id < length s.slots) (sym c.self.view_is) c.requires.within in
     omega (arith, h, c.self.invariant.net.paired)
 
@@ -23,17 +23,17 @@ invariant_of-self-2 c =
     let h : c.args.id < length slots = subst (λ (s : Stored). c.args.id < length s.slots) (sym c.self.view_is) c.requires.within in
     let free : kept_at slots c.args.id ≡ None = ap (λ (s : Stored). kept_at s.slots c.args.id) c.self.view_is ∙ c.requires.free in
     let small : All (λ l. IsVar i.vars l.var) c.args.nogood.lits = subst (λ (s : Stored). All (λ l. IsVar s.vars l.var) c.args.nogood.lits) (sym c.self.view_is) c.requires.small in
-    let inside : c.args.id < length i.watches.pairs = omega (arith, h, c.self.invariant.net.paired) in
+    let inside : c.args.id < length i.watches.rows = omega (arith, h, c.self.invariant.net.paired) in
     let begun : i.watches.apart.retired ≤ length i.watches.apart.items = omega (arith, c.len-len.ensures.len, c.len-len.ensures.retired) in
-    let z : Watches = record i.watches { pairs = set i.watches.pairs c.args.id None; apart = record i.watches.apart { items = i.watches.apart.items ++ c.args.id ∷ [] } } in
+    let z : Watches = record i.watches { rows = set i.watches.rows c.args.id []; apart = record i.watches.apart { items = i.watches.apart.items ++ c.args.id ∷ [] } } in
     let a = c.in_ok-push.ensures.ok in
-    let b = c.set.ensures in
-    let e : record i.watches { pairs = c.set.new.self; apart = c.push.new.self } ≡ z = λ j. record i.watches { pairs = b j; apart = a j } in
+    let b = c.clear.ensures in
+    let e : record i.watches { rows = c.clear.new.self; apart = c.push.new.self } ≡ z = λ j. record i.watches { rows = b j; apart = a j } in
     let more : IsAdded (view_of i.vars slots i.watches) (view_of i.vars (set slots c.args.id (Some k)) z) c.args.id c.args.nogood c.args.kind =
     added_put (view_of i.vars slots i.watches) c.args.id c.args.nogood c.args.kind h inside free begun in
     subst (λ (w : Watches). IsStore i.vars (set slots c.args.id (Some k)) w (i.extra + c.extra_of.result)) (sym e)
     (store_add i.vars slots (set slots c.args.id (Some k)) i.watches z i.extra (i.extra + c.extra_of.result) c.args.id c.args.nogood c.args.kind c.self.invariant refl
-    (omega (arith, length-set i.watches.pairs c.args.id None, length-set slots c.args.id (Some k), c.self.invariant.net.paired)) more (λ j f. from_push i.watches.apart c.args.id 0 j f) small
+    (omega (arith, length-set i.watches.rows c.args.id [], length-set slots c.args.id (Some k), c.self.invariant.net.paired)) more (λ j f. from_push i.watches.apart c.args.id 0 j f) small
     (omega (arith, length-set slots c.args.id (Some k), c.self.invariant.net.numbered))
     (omega (arith, put_count slots c.args.id (Some k) h free, c.self.invariant.counted, c.extra_of.ensures)))
 
@@ -45,13 +45,13 @@ returns-clause-ok c =
     let h : c.args.id < length slots = subst (λ (s : Stored). c.args.id < length s.slots) (sym c.self.view_is) c.requires.within in
     let free : kept_at slots c.args.id ≡ None = ap (λ (s : Stored). kept_at s.slots c.args.id) c.self.view_is ∙ c.requires.free in
     let small : All (λ l. IsVar i.vars l.var) c.args.nogood.lits = subst (λ (s : Stored). All (λ l. IsVar s.vars l.var) c.args.nogood.lits) (sym c.self.view_is) c.requires.small in
-    let inside : c.args.id < length i.watches.pairs = omega (arith, h, c.self.invariant.net.paired) in
+    let inside : c.args.id < length i.watches.rows = omega (arith, h, c.self.invariant.net.paired) in
     let begun : i.watches.apart.retired ≤ length i.watches.apart.items = omega (arith, c.len-len.ensures.len, c.len-len.ensures.retired) in
-    let z : Watches = record i.watches { pairs = set i.watches.pairs c.args.id None; apart = record i.watches.apart { items = i.watches.apart.items ++ c.args.id ∷ [] } } in
+    let z : Watches = record i.watches { rows = set i.watches.rows c.args.id []; apart = record i.watches.apart { items = i.watches.apart.items ++ c.args.id ∷ [] } } in
     let a = c.in_ok-push.ensures.ok in
-    let b = c.set.ensures in
-    let e : record i.watches { pairs = c.set.new.self; apart = c.push.new.self } ≡ z = λ j. record i.watches { pairs = b j; apart = a j } in
+    let b = c.clear.ensures in
+    let e : record i.watches { rows = c.clear.new.self; apart = c.push.new.self } ≡ z = λ j. record i.watches { rows = b j; apart = a j } in
     let more : IsAdded (view_of i.vars slots i.watches) (view_of i.vars (set slots c.args.id (Some k)) z) c.args.id c.args.nogood c.args.kind =
     added_put (view_of i.vars slots i.watches) c.args.id c.args.nogood c.args.kind h inside free begun in
-    subst (λ (s : Stored). IsAdded s (view_of i.vars (set slots c.args.id (Some k)) (record i.watches { pairs = c.set.new.self; apart = c.push.new.self })) c.args.id c.args.nogood c.args.kind) c.self.view_is
+    subst (λ (s : Stored). IsAdded s (view_of i.vars (set slots c.args.id (Some k)) (record i.watches { rows = c.clear.new.self; apart = c.push.new.self })) c.args.id c.args.nogood c.args.kind) c.self.view_is
     (subst (λ (w : Watches). IsAdded (view_of i.vars slots i.watches) (view_of i.vars (set slots c.args.id (Some k)) w) c.args.id c.args.nogood c.args.kind) (sym e) more)

@@ -13,10 +13,10 @@ invariant_of-self c =
 pub returns-clause-recalled : goal.returns-clause-recalled
 returns-clause-recalled c =
     let i = c.self.inside in
-    ap (λ (a : Parted). let s : Stored = record { vars = i.vars; slots = i.slots.items; pairs = i.watches.pairs; apart = a } in s) c.recall.ensures ∙ ap recalled c.self.view_is
+    ap (λ (a : Parted). let s : Stored = record { vars = i.vars; slots = i.slots.items; rows = i.watches.rows; apart = a } in s) c.recall.ensures ∙ ap recalled c.self.view_is
 
 pub returns-clause-active : goal.returns-clause-active
 returns-clause-active c =
     let i = c.self.inside in
-    subst (λ (a : Parted). AreActive (record { vars = i.vars; slots = i.slots.items; pairs = i.watches.pairs; apart = a })) (sym c.recall.ensures)
+    subst (λ (a : Parted). AreActive (record { vars = i.vars; slots = i.slots.items; rows = i.watches.rows; apart = a })) (sym c.recall.ensures)
     (active_recall i.vars i.slots.items i.watches i.extra c.self.invariant)

@@ -13,8 +13,8 @@ use Rattle.asp_store.proofs.store.Store.remove.Goals as goal
 pub overflow_sub-self : goal.overflow_sub-self
 overflow_sub-self c = omega (arith, c.remove_slot.ensures.count, ap (count_by is_extra) c.as_mut_slice.ensures.value, c.self.invariant.counted)
 
-pub set-requires : goal.set-requires
-set-requires c =
+pub clear-requires : goal.clear-requires
+clear-requires c =
     let h : c.args.id < length c.self.inside.slots.items = subst (λ (s : Stored). c.args.id < length s.slots) (sym c.self.view_is) c.requires in
     omega (arith, h, c.self.invariant.net.paired)
 
@@ -42,10 +42,10 @@ invariant_of-self c =
     let len : length c.remove_slot.new.slots ≡ i.slots.len = omega (arith, ap (length {A = Option StoredNogood}) e, length-set slots c.args.id None, i.slots.ok.0) in
     let u : Unlists slots i.watches.lists c.unlist.new.lists c.args.id =
     subst (λ (xs : List (Option StoredNogood)). Unlists xs i.watches.lists c.unlist.new.lists c.args.id) c.as_slice.ensures.value c.unlist.ensures in
-    let z : Watches = record i.watches { lists = c.unlist.new.lists; pairs = c.set.new.self } in
+    let z : Watches = record i.watches { lists = c.unlist.new.lists; rows = c.clear.new.self } in
     rw (take_at c.remove_slot.new.slots)
     (subst (λ (xs : List (Option StoredNogood)). IsStore i.vars xs z (i.extra - c.remove_slot.result)) (sym e)
-    (store_remove i.vars slots i.watches z i.extra (i.extra - c.remove_slot.result) c.args.id c.self.invariant h u c.set.ensures refl
+    (store_remove i.vars slots i.watches z i.extra (i.extra - c.remove_slot.result) c.args.id c.self.invariant h u c.clear.ensures refl
     (omega (arith, c.remove_slot.ensures.count, c.self.invariant.counted, ap (count_by is_extra) e, ap (count_by is_extra) c.as_mut_slice.ensures.value))))
 
 pub returns : goal.returns
@@ -56,6 +56,6 @@ returns c =
     let e : c.remove_slot.new.slots ≡ set slots c.args.id None =
     c.remove_slot.ensures.slots ∙ ap (λ (xs : List (Option StoredNogood)). set xs c.args.id None) c.as_mut_slice.ensures.value in
     let len : length c.remove_slot.new.slots ≡ i.slots.len = omega (arith, ap (length {A = Option StoredNogood}) e, length-set slots c.args.id None, i.slots.ok.0) in
-    let k : c.args.id < length i.watches.pairs = omega (arith, h, c.self.invariant.net.paired) in
+    let k : c.args.id < length i.watches.rows = omega (arith, h, c.self.invariant.net.paired) in
     rw (take_at c.remove_slot.new.slots)
-    ((λ j. let s : Stored = record { vars = i.vars; slots = e j; pairs = c.set.ensures j; apart = i.watches.apart } in s) ∙ ap (λ (s : Stored). removed s c.args.id) c.self.view_is)
+    ((λ j. let s : Stored = record { vars = i.vars; slots = e j; rows = c.clear.ensures j; apart = i.watches.apart } in s) ∙ ap (λ (s : Stored). removed s c.args.id) c.self.view_is)
