@@ -36,7 +36,7 @@ use Rattle.asp_crew_laws.specs.Working.{IsAtWork, Works}
 use Rattle.asp_crew_laws.proofs.AgreeLaws.{settled-excused}
 use Rattle.asp_crew_laws.proofs.WorkLaws.{sought-is, work-adopted, work-on, work-unimproved}
 use Rattle.asp_worker.specs.Seats.{Passes, Idles, Owes}
-use Rattle.asp_worker.specs.Sharing.{is_fewer, is_smaller, lowered, lowered_by, show_more, TakesBest}
+use Rattle.asp_worker.specs.Sharing.{is_fewer, is_smaller, lowered, lowered_by, show_more, TakesBest, TakesKnown}
 use Rattle.asp_worker.specs.Working.{GoesOn, IsOn, IsOff}
 use Rattle.asp_worker.proofs.SeatLaws.{board-task, idles-call, idles-passes, holds-idles, cube-idles}
 
@@ -192,10 +192,6 @@ fewer-some r p K left h none = false≢true (sym (ap (λ (L : List Atoms). is_fe
 counted-common : (r : Reasoning) (p : Program) (K : List Atoms) → count_unshown r p (common_sets r p K) ≡ count_unshown r p K
 counted-common r p [] = refl
 counted-common r p (S ∷ K) = ap (λ (L : Atoms). Some (length L)) (unshown-common r p (S ∷ K))
-
--- what a search takes over, or leaves
-abbrev pub TakesKnown : Searching → Searching → Knowing → Type 0
-TakesKnown s t x = MatchBool (is_fewer (count_unshown x.reasoning x.program x.sets) (left_to_show s)) (Adopts s t x.sets) (t ≡ s)
 
 pub takes-known : (m : Mode) (v : Knows) (s t : Searching) (u : Units) (x : Knowing) → GoesOn m v s u → IsKnown (seen_board v) x → TakesKnown s t x → TakesBest m (seen_board v) s t
 takes-known m v s t u x g k h = here m refl

@@ -6,6 +6,7 @@ use Rattle.asp_model.specs.declared.results.Reasoning.{Reasoning}
 use Rattle.asp_model.specs.Consequences.{common_sets}
 use Rattle.asp_model.specs.Costs.{betters, cost}
 use Rattle.asp_vars.specs.declared.nogood.Nogood.{Nogood}
+use Rattle.asp_vars.specs.Knowing.{Knowing}
 use Rattle.asp_core.specs.Boards.{Board}
 use Rattle.asp_search.specs.Beside.{Adopts, Imports, count_unshown, left_to_show}
 use Rattle.asp_search_laws.specs.Searching.{Searching}
@@ -24,11 +25,15 @@ abbrev pub lowered_by : Option (List ℤ) → Searching → Searching
 lowered_by None s = s
 lowered_by (Some c) s = lowered s c
 
--- Whether so many atoms to be shown are fewer than a search has; it has more than any number where it knows no answer.
+-- Whether there are answers that leave fewer atoms to be shown than a search has to show. Any number is fewer where it knows no answer.
 abbrev pub is_fewer : Option ℕ → Option ℕ → Bool
 is_fewer None left = false
 is_fewer (Some n) None = true
 is_fewer (Some n) (Some left) = nat_lt n left
+
+-- What these answers have in common is taken over, exactly where they leave fewer atoms to be shown than those that the search knows.
+abbrev pub TakesKnown : Searching → Searching → Knowing → Type 0
+TakesKnown s t x = MatchBool (is_fewer (count_unshown x.reasoning x.program x.sets) (left_to_show s)) (Adopts s t x.sets) (t ≡ s)
 
 -- Whether an answer was delivered, and those delivered leave fewer atoms to be shown than those that the search knows.
 abbrev pub show_more : Reasoning → Board → Searching → Bool

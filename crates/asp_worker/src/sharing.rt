@@ -1,5 +1,5 @@
 //! What a search tells the others, and what it takes over from them.
-ghost use Rattle.std.specs.Prelude.{◌≡◌, ◌≤◌, ◌<◌, ◌↔◌, ℕ, Some, false, IsTrue, MatchBool, length, drop, OnOk, OnErr, IfOk, IfErr, IfSome, All};
+ghost use Rattle.std.specs.Prelude.{◌≡◌, ◌≤◌, ◌<◌, ◌↔◌, ℕ, Some, false, IsTrue, length, drop, OnOk, OnErr, IfOk, IfErr, IfSome, All};
 ghost use Rattle.std.specs.Option.{option_copied};
 ghost use Rattle.asp_model.specs.declared.results.Mode.TheVariants as mode;
 ghost use Rattle.asp_model.specs.Asked.{reasoning_of};
@@ -11,10 +11,10 @@ ghost use Rattle.asp_vault.specs.Moments.{Stays};
 ghost use Rattle.asp_vault.specs.Seats.{view, IsOf, IsBeside};
 ghost use Rattle.asp_log.specs.Entries.{IsEntry};
 ghost use Rattle.asp_book.specs.Calls.{seen_board, task_of};
-ghost use Rattle.asp_search.specs.Beside.{count_unshown, left_to_show, Adopts, Leaves};
+ghost use Rattle.asp_search.specs.Beside.{count_unshown, left_to_show, Leaves};
 ghost use Rattle.asp_search_laws.specs.Searching.{Searching};
 ghost use Rattle.asp_worker.specs.Seats.{IsReady, Keeps, IsSettled, IsPaged, Idles, Leases, WasEmpty};
-ghost use Rattle.asp_worker.specs.Sharing.{is_fewer, is_smaller, lowered, ImportsAll, Remembers, TakesBest, TakesOver};
+ghost use Rattle.asp_worker.specs.Sharing.{is_fewer, is_smaller, lowered, ImportsAll, Remembers, TakesBest, TakesKnown, TakesOver};
 ghost use Rattle.asp_worker.specs.Working.{GoesOn, Finds, IsStop};
 
 use crate::engine::Engine;
@@ -112,7 +112,7 @@ fn take_known(search: &mut Search<'_, Propagators<'_>>, known: Known) -> Result<
     requires program { known.program ≡ search.old.program }
     requires reasoning { Some known.reasoning ≡ reasoning_of search.old.mode }
     requires all { IsSubset (unshown known.reasoning known.program known.sets) (unshown known.reasoning known.program search.old.known) }
-    ensures ok { OnOk result (MatchBool (is_fewer (count_unshown known.reasoning known.program known.sets) (left_to_show search.old)) (Adopts search.old search.new known.sets) (search.new ≡ search.old)) }
+    ensures ok { OnOk result (TakesKnown search.old search.new known) }
     ensures err { OnErr result (Leaves search.old search.new) }
 {
     if show_more(&known, search) {
