@@ -247,10 +247,10 @@ fn worked<R: Threads + Wait + Sync, G: Gate + Sync, H: Halt + Sync, W: Watch + D
 /// main thread does at the end; it comes back.
 ///
 /// The root is split between the workers before they begin. What they leave open, since they were stopped or short of memory
-/// or units, the main thread works off when all have come back, until as many answers as asked for were found. A second
-/// search, where all optima are asked for, is the main thread's alone, and the watch hears of it too. So it closes a path of
-/// the first search only after one of these, and else no worker gives one back. Nothing says that a worker comes back. Want of
-/// memory in the main thread is the one error.
+/// or units, the main thread works off when all have come back, until as many answers as asked for were found. Under a halt
+/// that never stops anybody it closes no path of the first search, and no worker gives one back, unless memory or units were
+/// wanting or it was enough. A second search, where all optima are asked for, is the main thread's alone, and the watch hears
+/// of it too. Nothing says that a worker comes back. Want of memory in the main thread is the one error.
 pub fn solve_with<R: Threads + Wait + Sync, G: Gate + Sync, H: Halt + Sync, W: Watch + Drop>(
     rt: &R,
     alloc: Global,
