@@ -17,14 +17,19 @@ import sys
 import reference
 
 
-def literals(random_, atoms, most):
-    return [random_.choice([1, -1]) * random_.choice(atoms) for _ in range(random_.randint(0, most))]
+def literals(random_, atoms, most, least=0):
+    return [random_.choice([1, -1]) * random_.choice(atoms) for _ in range(random_.randint(least, most))]
 
 
 def body(random_, atoms):
     if random_.random() < 0.65:
         chosen = literals(random_, atoms, 3)
         return [0, len(chosen)] + chosen
+    if random_.random() < 0.3:
+        # What follows from a long body has its nogood written late: each literal stands there several times.
+        chosen = literals(random_, atoms, 34, 26)
+        items = [number for literal in chosen for number in (literal, random_.randint(1, 3))]
+        return [1, random_.randint(10, 50), len(chosen)] + items
     chosen = literals(random_, atoms, 4)
     items = [number for literal in chosen for number in (literal, random_.randint(0, 3))]
     return [1, random_.randint(-1, 5), len(chosen)] + items

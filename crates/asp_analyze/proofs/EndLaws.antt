@@ -11,18 +11,17 @@ use Rattle.asp_vars.specs.declared.nogood.Base.{Base}
 use Rattle.asp_vars.proofs.LiteralLaws.{same_literal}
 use Rattle.asp_trail.specs.declared.trail.Entry.{Entry}
 use Rattle.asp_trail.specs.Entries.{assignment, level_in, reason_in}
-use Rattle.asp_trail.specs.Reasons.{AreReasoned}
 use Rattle.asp_trail.specs.Trails.{IsOrdered}
 use Rattle.asp_analyze.specs.declared.marks.Mark.{Mark}
 use Rattle.asp_analyze.specs.declared.marks.Mark.TheVariants as mark
 use Rattle.asp_analyze.specs.Marks.{Marked, mark_of, is_clean, is_open, is_met, is_settled, unmarked}
-use Rattle.asp_analyze.specs.Learning.{Used, IsReached, AreContained, AreAssumed, IsJump}
+use Rattle.asp_analyze.specs.Learning.{Used, IsNamed, IsReached, AreContained, AreAssumed, IsJump}
 use Rattle.asp_analyze.specs.Learning.{is_resolved as used_on}
 use Rattle.asp_analyze.specs.Way.{IsOn, AreUpTo, CanStay, Fits, level_unless, AreMarked, Noted, Covers, IsOnTheWay, IsDown, IsPoint, IsTop, IsReady, AreSettled, Goes}
 use Rattle.asp_analyze.proofs.StandLaws.{holds_on, on_holds, on_same}
 use Rattle.asp_analyze.proofs.LitLaws.{all_from, all_has, or_cases, or_left, or_right, eq_itself, differ_eq}
 use Rattle.asp_analyze.proofs.NoteLaws.{open_clean}
-use Rattle.asp_analyze.proofs.OpenLaws.{reason_others}
+use Rattle.asp_analyze.proofs.OpenLaws.{reason_before}
 
 -- ---- the begin
 clean_at : (n v : ℕ) → mark_of (replicate n mark.Clean) v ≡ mark.Clean
@@ -68,14 +67,15 @@ begun_open es n v old new lits e t h =
       | inr c ↦ c.open_now
     ]
 
-pub way_begins : (vars n : ℕ) (es : List Entry) (kept : ℕ → Option Nogood) (from : Nogood) (top : ℕ) (old new : Marked) (b : Base) → IsOrdered vars es → old ≡ unmarked (n + 1) → b ≡ from.base →
-    AreMarked es top new → Noted es old new from.lits → IsOnTheWay es kept from top new b
-way_begins vars n es kept from top old new b o e q a t = record {
+pub way_begins : (vars n : ℕ) (es : List Entry) (says : Literal → ℕ → Nogood → Type 0) (from : Nogood) (top : ℕ) (old new : Marked) (b : Base) → IsOrdered vars es → old ≡ unmarked (n + 1) → b ≡ from.base →
+    AreMarked es top new → Noted es old new from.lits → IsOnTheWay es says from top new b
+way_begins vars n es says from top old new b o e q a t = record {
   marked = a;
   reached = (
     [],
     record {
       reasons = λ i d h. absurd (omega (arith, h));
+      named = λ i d h. absurd (omega (arith, h));
       given = λ l h. t.met l h;
       others = λ i d h. absurd (omega (arith, h));
       resolved = λ l on r. absurd (false≢true (ap is_open (sym r) ∙ begun_open es n l.var old new from.lits e t (ap is_met r)));
@@ -155,9 +155,9 @@ met_cases mark.Kept h = inl refl
 met_cases mark.Resolved h = inr refl
 met_cases mark.Needed h = absurd (false≢true h)
 
-pub left_reached : (es : List Entry) (kept : ℕ → Option Nogood) (from : Nogood) (top : ℕ) (m : Marked) (b : Base) (to : Nogood) → AreReasoned kept es → All (λ l. IsOn es l) from.lits →
-    IsOnTheWay es kept from top m b → to.lits ≡ left m → to.base ≡ b → (used : List Used) × IsReached kept es from used to
-left_reached es kept from top m b to r on w e q = (
+pub left_reached : (es : List Entry) (says : Literal → ℕ → Nogood → Type 0) (from : Nogood) (top : ℕ) (m : Marked) (b : Base) (to : Nogood) → All (λ l. IsOn es l) from.lits →
+    IsOnTheWay es says from top m b → to.lits ≡ left m → to.base ≡ b → (used : List Used) × IsReached es from used to × All (IsNamed says es) used
+left_reached es says from top m b to on w e q = (
   w.reached.0,
   record {
     reasons = c.reasons;
@@ -166,9 +166,10 @@ left_reached es kept from top m b to r on w e q = (
     known = λ l h. let f = left_on es top m l w.marked (subst (λ (xs : List Literal). has_literal xs l ≡ true) e h) in c.known l f.0 f.1;
     base = q ∙ w.reached.2;
   },
+  c.named,
 )
   where
-    c : Covers es kept from m.marks w.reached.0
+    c : Covers es says from m.marks w.reached.0
     c = w.reached.1
 
     met : (l : Literal) → IsOn es l → is_met (mark_of m.marks l.var) ≡ true → (has_literal to.lits l || used_on w.reached.0 l) ≡ true
@@ -181,7 +182,7 @@ left_reached es kept from top m b to r on w e q = (
     other i d h l g ne =
         let u : Used = get_or w.reached.0 i d in
         let t = c.reasons i d h in
-        (reason_others w.marked.ordered.0 es kept u.lit t.reason.0 u.nogood w.marked.ordered.1 r record { place = t.stands.0; stands = t.stands.1 } t.reason.1 (sym t.reason.2) l g ne).on
+        (reason_before w.marked.ordered.0 es u.lit u.nogood w.marked.ordered.1 record { place = t.place; stands = t.stands } t.reason l g ne).on
 
 pub left_contained : (es : List Entry) (top vars : ℕ) (m : Marked) → IsOrdered vars es → AreMarked es top m → AreContained vars es (left m)
 left_contained es top vars m o a = all_from (λ l. holds_in (assignment vars es) l ≡ true) (left m) (λ l h. on_holds vars es l o (left_on es top m l a h).0)

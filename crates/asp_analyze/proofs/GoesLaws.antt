@@ -120,10 +120,11 @@ goes_opened es top old new lit a b on low t = record {
         ]
 
 -- ---- one of level 0 that was assumed stays
-covers_kept : (es : List Entry) (kept : ℕ → Option Nogood) (from : Nogood) (marks : List Mark) (used : List Used) (v : ℕ) → v < length marks → is_open (mark_of marks v) ≡ true →
-    Covers es kept from marks used → Covers es kept from (set marks v mark.Kept) used
-covers_kept es kept from marks used v h o c = record {
+covers_kept : (es : List Entry) (says : Literal → ℕ → Nogood → Type 0) (from : Nogood) (marks : List Mark) (used : List Used) (v : ℕ) → v < length marks → is_open (mark_of marks v) ≡ true →
+    Covers es says from marks used → Covers es says from (set marks v mark.Kept) used
+covers_kept es says from marks used v h o c = record {
   reasons = c.reasons;
+  named = c.named;
   given = λ l g. met l.var (c.given l g);
   others = λ i d k l g ne. met l.var (c.others i d k l g ne);
   resolved = λ l n r.
@@ -139,13 +140,13 @@ covers_kept es kept from marks used v h o c = record {
     met : (w : ℕ) → is_met (mark_of marks w) ≡ true → is_met (mark_of (set marks v mark.Kept) w) ≡ true
     met w g = set_cases (λ x. is_met x ≡ true) marks v w mark.Kept h (λ q. refl) (λ ne. g)
 
-pub way_kept : (es : List Entry) (kept : ℕ → Option Nogood) (from : Nogood) (top : ℕ) (old new : Marked) (b : Base) (lit : Literal) → IsOn es lit → mark_of old.marks lit.var ≡ mark.Zero →
-    reason_in es lit.var ≡ None → new ≡ record old { marks = set old.marks lit.var mark.Kept } → IsOnTheWay es kept from top old b → IsOnTheWay es kept from top new b
-way_kept es kept from top old new b lit on was none e w = record {
+pub way_kept : (es : List Entry) (says : Literal → ℕ → Nogood → Type 0) (from : Nogood) (top : ℕ) (old new : Marked) (b : Base) (lit : Literal) → IsOn es lit → mark_of old.marks lit.var ≡ mark.Zero →
+    reason_in es lit.var ≡ None → new ≡ record old { marks = set old.marks lit.var mark.Kept } → IsOnTheWay es says from top old b → IsOnTheWay es says from top new b
+way_kept es says from top old new b lit on was none e w = record {
   marked = marked_changed es top old new lit mark.Kept w.marked on refl (λ z. none, λ p. absurd (omega (arith, p, level))) (ap is_clean was) e;
   reached = (
     w.reached.0,
-    subst (λ (m : Marked). Covers es kept from m.marks w.reached.0) (sym e) (covers_kept es kept from old.marks w.reached.0 lit.var (w.marked.small lit on) (ap is_open was) w.reached.1),
+    subst (λ (m : Marked). Covers es says from m.marks w.reached.0) (sym e) (covers_kept es says from old.marks w.reached.0 lit.var (w.marked.small lit on) (ap is_open was) w.reached.1),
     w.reached.2,
   );
 }
@@ -154,10 +155,11 @@ way_kept es kept from top old new b lit on was none e w = record {
     level = subst (λ (x : Mark). Fits top (level_in es lit.var) (reason_in es lit.var) x) was (w.marked.fits lit on)
 
 -- ---- one is looked at for the minimisation
-covers_needed : (es : List Entry) (kept : ℕ → Option Nogood) (from : Nogood) (marks : List Mark) (used : List Used) (v : ℕ) → v < length marks → is_clean (mark_of marks v) ≡ true →
-    Covers es kept from marks used → Covers es kept from (set marks v mark.Needed) used
-covers_needed es kept from marks used v h o c = record {
+covers_needed : (es : List Entry) (says : Literal → ℕ → Nogood → Type 0) (from : Nogood) (marks : List Mark) (used : List Used) (v : ℕ) → v < length marks → is_clean (mark_of marks v) ≡ true →
+    Covers es says from marks used → Covers es says from (set marks v mark.Needed) used
+covers_needed es says from marks used v h o c = record {
   reasons = c.reasons;
+  named = c.named;
   given = λ l g. met l.var (c.given l g);
   others = λ i d k l g ne. met l.var (c.others i d k l g ne);
   resolved = λ l n r.
@@ -174,14 +176,14 @@ covers_needed es kept from marks used v h o c = record {
     met w g = set_cases (λ x. is_met x ≡ true) marks v w mark.Needed h
         (λ q. absurd (false≢true (sym (met_clean (mark_of marks w) g) ∙ (ap (λ (u : ℕ). is_clean (mark_of marks u)) q ∙ o)))) (λ ne. g)
 
-pub way_needed : (es : List Entry) (kept : ℕ → Option Nogood) (from : Nogood) (top : ℕ) (old new : Marked) (b : Base) (lit : Literal) → IsOn es lit → is_clean (mark_of old.marks lit.var) ≡ true →
+pub way_needed : (es : List Entry) (says : Literal → ℕ → Nogood → Type 0) (from : Nogood) (top : ℕ) (old new : Marked) (b : Base) (lit : Literal) → IsOn es lit → is_clean (mark_of old.marks lit.var) ≡ true →
     0 < level_in es lit.var → level_in es lit.var < top → new ≡ record { marks = set old.marks lit.var mark.Needed; lits = old.lits ++ lit ∷ [] } →
-    IsOnTheWay es kept from top old b → IsOnTheWay es kept from top new b
-way_needed es kept from top old new b lit on c low high e w = record {
+    IsOnTheWay es says from top old b → IsOnTheWay es says from top new b
+way_needed es says from top old new b lit on c low high e w = record {
   marked = marked_listed es top old new lit mark.Needed w.marked on refl (low, high) e;
   reached = (
     w.reached.0,
-    subst (λ (m : Marked). Covers es kept from m.marks w.reached.0) (sym e) (covers_needed es kept from old.marks w.reached.0 lit.var (w.marked.small lit on) c w.reached.1),
+    subst (λ (m : Marked). Covers es says from m.marks w.reached.0) (sym e) (covers_needed es says from old.marks w.reached.0 lit.var (w.marked.small lit on) c w.reached.1),
     w.reached.2,
   );
 }

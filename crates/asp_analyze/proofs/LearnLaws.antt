@@ -16,12 +16,12 @@ use Rattle.asp_vars.proofs.LiteralLaws.{same_literal, hits-has, is_true-compleme
 use Rattle.asp_vars.proofs.ResolutionLaws.{joined_left, joined_right}
 use Rattle.asp_trail.specs.declared.trail.Entry.{Entry}
 use Rattle.asp_trail.specs.Entries.{level_in}
-use Rattle.asp_trail.specs.Reasons.{Stands, AreReasoned}
+use Rattle.asp_trail.specs.Reasons.{Stands}
 use Rattle.asp_trail.specs.Trails.{IsOrdered}
 use Rattle.asp_analyze.specs.Learning.{Used, IsUsed, is_resolved, IsReached, CanJoinAll, base_after}
 use Rattle.asp_analyze.specs.Way.{IsOn}
 use Rattle.asp_analyze.proofs.LitLaws.{or_cases, or_left, or_right, eq_itself, eq_differ}
-use Rattle.asp_analyze.proofs.OpenLaws.{reason_others}
+use Rattle.asp_analyze.proofs.OpenLaws.{reason_before}
 
 any_at : (p : Used → Bool) (xs : List Used) (d : Used) → list_any p xs ≡ true → (i : ℕ) × (i < length xs) × (p (get_or xs i d) ≡ true)
 any_at p [] d h = absurd (false≢true h)
@@ -57,12 +57,12 @@ excuse_used p known bound S b (u ∷ used) zero d c h e =
 excuse_used p known bound S b (u ∷ used) (suc i) d c h e = excuse_used p known bound S (joined b u.nogood.base) used i d c.1 (omega arith) e
 
 -- ---- where no reason used is hit, what it implied is true
-resolved_true : (vars : ℕ) (kept : ℕ → Option Nogood) (es : List Entry) (from to : Nogood) (used : List Used) (v : List Bool) → IsOrdered vars es → AreReasoned kept es →
-    IsReached kept es from used to → hits v to.lits ≡ true → list_any (λ u. hits v u.nogood.lits) used ≡ false →
+resolved_true : (vars : ℕ) (es : List Entry) (from to : Nogood) (used : List Used) (v : List Bool) → IsOrdered vars es →
+    IsReached es from used to → hits v to.lits ≡ true → list_any (λ u. hits v u.nogood.lits) used ≡ false →
     (n : ℕ) (l : Literal) (i b : ℕ) → is_resolved used l ≡ true → Stands es l i b → i < n → is_true v l ≡ true
-resolved_true vars kept es from to used v o r reached hit none zero l i b q s h = absurd (omega (arith, h))
-resolved_true vars kept es from to used v o r reached hit none (suc n) l i b q s h =
-    here (resolved_true vars kept es from to used v o r reached hit none n)
+resolved_true vars es from to used v o reached hit none zero l i b q s h = absurd (omega (arith, h))
+resolved_true vars es from to used v o reached hit none (suc n) l i b q s h =
+    here (resolved_true vars es from to used v o reached hit none n)
   where
     d : Used
     d = record { lit = l; nogood = from }
@@ -76,18 +76,18 @@ resolved_true vars kept es from to used v o r reached hit none (suc n) l i b q s
     is : u.lit ≡ l
     is = same_literal u.lit l at.2
 
-    t : IsUsed kept es u
+    t : IsUsed es u
     t = reached.reasons at.0 d at.1
 
     on : IsOn es u.lit
-    on = record { place = t.stands.0; stands = t.stands.1 }
+    on = record { place = t.place; stands = t.stands }
 
     place : Stands es u.lit i b
     place = subst (λ (k : Literal). Stands es k i b) (sym is) s
 
     other : ((k : Literal) (j c : ℕ) → is_resolved used k ≡ true → Stands es k j c → j < n → is_true v k ≡ true) → (k : Literal) → has_literal u.nogood.lits k ≡ true → k ≢ complement u.lit → is_true v k ≡ true
     other before k g ne =
-        let e = reason_others vars es kept u.lit t.reason.0 u.nogood o r on t.reason.1 (sym t.reason.2) k g ne in
+        let e = reason_before vars es u.lit u.nogood o on t.reason k g ne in
         elim (or_cases (has_literal to.lits k) (is_resolved used k) (reached.others at.0 d at.1 k g ne)) [
           | inl a ↦ hits-has v to.lits k hit a
           | inr a ↦ before k e.on.place (level_in es k.var) a e.on.stands (omega (arith, e.before i b place, h))
@@ -107,9 +107,9 @@ resolved_true vars kept es from to used v o r reached hit none (suc n) l i b q s
     here before = subst (λ (k : Literal). is_true v k ≡ true) is (cases before (is_true v u.lit) refl)
 
 -- the nogood itself is hit, where no reason is
-given_hit : (vars : ℕ) (kept : ℕ → Option Nogood) (es : List Entry) (from to : Nogood) (used : List Used) (v : List Bool) → IsOrdered vars es → AreReasoned kept es →
-    IsReached kept es from used to → hits v to.lits ≡ true → list_any (λ u. hits v u.nogood.lits) used ≡ false → hits v from.lits ≡ true
-given_hit vars kept es from to used v o r reached hit none =
+given_hit : (vars : ℕ) (es : List Entry) (from to : Nogood) (used : List Used) (v : List Bool) → IsOrdered vars es →
+    IsReached es from used to → hits v to.lits ≡ true → list_any (λ u. hits v u.nogood.lits) used ≡ false → hits v from.lits ≡ true
+given_hit vars es from to used v o reached hit none =
     hits_from v from.lits (λ l g. elim (or_cases (has_literal to.lits l) (is_resolved used l) (reached.given l g)) [
       | inl a ↦ hits-has v to.lits l hit a
       | inr a ↦ true_at l a
@@ -120,14 +120,14 @@ given_hit vars kept es from to used v o r reached hit none =
         let d : Used = record { lit = l; nogood = from } in
         let f = any_at (λ u. literal_eq u.lit l) used d a in
         let t = reached.reasons f.0 d f.1 in
-        let s : Stands es l t.stands.0 (level_in es (get_or used f.0 d).lit.var) =
-        subst (λ (k : Literal). Stands es k t.stands.0 (level_in es (get_or used f.0 d).lit.var)) (same_literal (get_or used f.0 d).lit l f.2) t.stands.1 in
-        resolved_true vars kept es from to used v o r reached hit none (suc t.stands.0) l t.stands.0 (level_in es (get_or used f.0 d).lit.var) a s (omega arith)
+        let s : Stands es l t.place (level_in es (get_or used f.0 d).lit.var) =
+        subst (λ (k : Literal). Stands es k t.place (level_in es (get_or used f.0 d).lit.var)) (same_literal (get_or used f.0 d).lit l f.2) t.stands in
+        resolved_true vars es from to used v o reached hit none (suc t.place) l t.place (level_in es (get_or used f.0 d).lit.var) a s (omega arith)
 
-pub reached_good : (p : Program) (known : List Atoms) (bound : Option (List ℤ)) (vars : ℕ) (kept : ℕ → Option Nogood) (es : List Entry) (from to : Nogood) (used : List Used) →
-    IsOrdered vars es → AreReasoned kept es → IsReached kept es from used to → CanJoinAll bound from.base used →
+pub reached_good : (p : Program) (known : List Atoms) (bound : Option (List ℤ)) (vars : ℕ) (es : List Entry) (from to : Nogood) (used : List Used) →
+    IsOrdered vars es → IsReached es from used to → CanJoinAll bound from.base used →
     IsGood p known bound from → All (λ u. IsGood p known bound u.nogood) used → IsGood p known bound to
-reached_good p known bound vars kept es from to used o r reached can good all = record {
+reached_good p known bound vars es from to used o reached can good all = record {
   excused = λ S stable h.
       subst (λ (b : Base). excuse p known bound b S ≡ true) (sym reached.base) (cases S stable h (list_any (λ u. hits (values p S) u.nogood.lits) used) refl);
 }
@@ -140,4 +140,4 @@ reached_good p known bound vars kept es from to used o r reached can good all = 
         excuse_used p known bound S from.base used f.0 d can f.1 ((all f.0 d f.1).excused S stable f.2)
     cases S stable h false q =
         excuse_from p known bound S from.base used can
-        (good.excused S stable (given_hit vars kept es from to used (values p S) o r reached h (sym q)))
+        (good.excused S stable (given_hit vars es from to used (values p S) o reached h (sym q)))

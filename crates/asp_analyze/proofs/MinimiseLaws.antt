@@ -6,7 +6,7 @@ use Rattle.asp_vars.specs.Literals.{Literal, has_literal}
 use Rattle.asp_vars.specs.declared.nogood.Nogood.{Nogood}
 use Rattle.asp_trail.specs.declared.trail.Entry.{Entry}
 use Rattle.asp_trail.specs.Entries.{level_in, reason_in}
-use Rattle.asp_trail.specs.Reasons.{AreReasoned}
+use Rattle.asp_trail.specs.Reasons.{AreReasons}
 use Rattle.asp_trail.specs.Trails.{IsOrdered}
 use Rattle.asp_analyze.specs.Marks.{Marked}
 use Rattle.asp_analyze.specs.Way.{IsOn, AreMarked, Opened, Goes, CanGo, IsOther}
@@ -25,15 +25,15 @@ pub can_later : (es : List Entry) (top : ℕ) (old new : Marked) (l : Literal) �
 can_later es top old new l g c = record { on = c.on; low = c.low; high = c.high; marked = g.marked l.var c.marked }
 
 -- the other literals of the reason are entries'
-pub others_on : (vars : ℕ) (es : List Entry) (kept : ℕ → Option Nogood) (lit : Literal) (id v : ℕ) (n : Nogood) → IsOrdered vars es → AreReasoned kept es → IsOn es lit →
-    reason_in es lit.var ≡ Some id → Some n ≡ kept id → v ≡ lit.var → All (λ l. l.var ≢ v → IsOn es l) n.lits
-others_on vars es kept lit id v n o r on q k e =
-    all_from (λ l. l.var ≢ v → IsOn es l) n.lits (λ l h ne. (reason_var vars es kept lit id n o r on q k l h (λ s. ne (s ∙ sym e))).on)
+pub others_on : (vars : ℕ) (es : List Entry) (says : Literal → ℕ → Nogood → Type 0) (lit : Literal) (id v : ℕ) (n : Nogood) → IsOrdered vars es → AreReasons says es → IsOn es lit →
+    reason_in es lit.var ≡ Some id → says lit id n → v ≡ lit.var → All (λ l. l.var ≢ v → IsOn es l) n.lits
+others_on vars es says lit id v n o r on q k e =
+    all_from (λ l. l.var ≢ v → IsOn es l) n.lits (λ l h ne. (reason_var vars es says lit id n o r on q k l h (λ s. ne (s ∙ sym e))).on)
 
-pub other_high : (vars : ℕ) (es : List Entry) (kept : ℕ → Option Nogood) (top : ℕ) (m : Marked) (lit other : Literal) (id v : ℕ) (n : Nogood) → IsOrdered vars es → AreReasoned kept es →
-    CanGo es top m lit → reason_in es lit.var ≡ Some id → Some n ≡ kept id → v ≡ lit.var → has_literal n.lits other ≡ true → IsOther es other v → level_in es other.var < top
-other_high vars es kept top m lit other id v n o r c q k e h t =
-    omega (arith, (reason_var vars es kept lit id n o r c.on q k other h (λ s. t.var (s ∙ sym e))).level, c.high)
+pub other_high : (vars : ℕ) (es : List Entry) (says : Literal → ℕ → Nogood → Type 0) (top : ℕ) (m : Marked) (lit other : Literal) (id v : ℕ) (n : Nogood) → IsOrdered vars es → AreReasons says es →
+    CanGo es top m lit → reason_in es lit.var ≡ Some id → says lit id n → v ≡ lit.var → has_literal n.lits other ≡ true → IsOther es other v → level_in es other.var < top
+other_high vars es says top m lit other id v n o r c q k e h t =
+    omega (arith, (reason_var vars es says lit id n o r c.on q k other h (λ s. t.var (s ∙ sym e))).level, c.high)
 
 pub goes_looked : (es : List Entry) (top : ℕ) (old new : Marked) (lit : Literal) → AreMarked es top old → AreMarked es top new → CanGo es top old lit → Opened es lit old new → Goes es old new
 goes_looked es top old new lit a b c t = goes_opened es top old new lit a b c.on (λ p. c.high) t

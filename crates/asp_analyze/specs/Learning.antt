@@ -7,7 +7,7 @@ use Rattle.asp_vars.specs.declared.nogood.Nogood.{Nogood}
 use Rattle.asp_vars.specs.declared.nogood.Base.{Base}
 use Rattle.asp_trail.specs.declared.trail.Entry.{Entry}
 use Rattle.asp_trail.specs.Entries.{assignment, level_in, reason_in}
-use Rattle.asp_trail.specs.Reasons.{Stands}
+use Rattle.asp_trail.specs.Reasons.{Stands, IsReason}
 use Rattle.asp_analyze.specs.declared.learn.Learned.{Learned}
 use Rattle.asp_analyze.specs.declared.learn.Learned.TheVariants as learned
 
@@ -16,10 +16,17 @@ pub record Used : Type 0 where
   pub lit : Literal
   pub nogood : Nogood
 
--- An entry has the literal, and its reason is that nogood.
-pub record IsUsed (kept : ℕ → Option Nogood) (entries : List Entry) (u : Used) : Type 0 where
-  pub stands : (i : ℕ) × Stands entries u.lit i (level_in entries u.lit.var)
-  pub reason : (id : ℕ) × (reason_in entries u.lit.var ≡ Some id) × (kept id ≡ Some u.nogood)
+-- An entry has the literal, and the nogood is a reason of it.
+pub record IsUsed (entries : List Entry) (u : Used) : Type 0 where
+  pub place : ℕ
+  pub stands : Stands entries u.lit place (level_in entries u.lit.var)
+  pub reason : IsReason entries place u.lit u.nogood.lits
+
+-- The nogood is said to be the literal's reason, by the number that the entry names.
+pub record IsNamed (says : Literal → ℕ → Nogood → Type 0) (entries : List Entry) (u : Used) : Type 0 where
+  pub number : ℕ
+  pub names : reason_in entries u.lit.var ≡ Some number
+  pub said : says u.lit number u.nogood
 
 -- One of these was resolved on the literal.
 abbrev pub is_resolved : List Used → Literal → Bool
@@ -36,8 +43,8 @@ base_after b (u ∷ used) = base_after (joined b u.nogood.base) used
 
 -- One nogood is reached from the other by resolution with these reasons, each used once: a literal of the first, or of a reason but
 -- for what it implied, is in the second or was resolved; each literal of the second comes from one of them.
-pub record IsReached (kept : ℕ → Option Nogood) (entries : List Entry) (from : Nogood) (used : List Used) (to : Nogood) : Type 0 where
-  pub reasons : All (IsUsed kept entries) used
+pub record IsReached (entries : List Entry) (from : Nogood) (used : List Used) (to : Nogood) : Type 0 where
+  pub reasons : All (IsUsed entries) used
   pub given : (l : Literal) → IsTrue (has_literal from.lits l) → IsTrue (has_literal to.lits l || is_resolved used l)
   pub others : All (λ u. (l : Literal) → IsTrue (has_literal u.nogood.lits l) → l ≢ complement u.lit → IsTrue (has_literal to.lits l || is_resolved used l)) used
   pub known : (l : Literal) → IsTrue (has_literal to.lits l) → IsTrue (is_from from used l)

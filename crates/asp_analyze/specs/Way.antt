@@ -11,7 +11,7 @@ use Rattle.asp_trail.specs.Trails.{IsOrdered}
 use Rattle.asp_analyze.specs.declared.marks.Mark.{Mark}
 use Rattle.asp_analyze.specs.declared.marks.Mark.TheVariants as mark
 use Rattle.asp_analyze.specs.Marks.{Marked, mark_of, is_clean, is_open, is_met, is_settled}
-use Rattle.asp_analyze.specs.Learning.{Used, IsUsed, is_resolved, is_from, base_after}
+use Rattle.asp_analyze.specs.Learning.{Used, IsUsed, IsNamed, is_resolved, is_from, base_after}
 
 -- The literal is an entry's.
 pub record IsOn (entries : List Entry) (l : Literal) : Type 0 where
@@ -84,16 +84,17 @@ pub record Opened (entries : List Entry) (lit : Literal) (old new : Marked) : Ty
 
 -- Each literal of the nogood, and of the reasons used but for what they implied, was met; each that was resolved was so by a reason
 -- used; and each that is left is from the nogood or from a reason used.
-pub record Covers (entries : List Entry) (kept : ℕ → Option Nogood) (from : Nogood) (marks : List Mark) (used : List Used) : Type 0 where
-  pub reasons : All (IsUsed kept entries) used
+pub record Covers (entries : List Entry) (says : Literal → ℕ → Nogood → Type 0) (from : Nogood) (marks : List Mark) (used : List Used) : Type 0 where
+  pub reasons : All (IsUsed entries) used
+  pub named : All (IsNamed says entries) used
   pub given : (l : Literal) → IsTrue (has_literal from.lits l) → is_met (mark_of marks l.var) ≡ true
   pub others : All (λ u. (l : Literal) → IsTrue (has_literal u.nogood.lits l) → l ≢ complement u.lit → is_met (mark_of marks l.var) ≡ true) used
   pub resolved : (l : Literal) → IsOn entries l → mark_of marks l.var ≡ mark.Resolved → IsTrue (is_resolved used l)
   pub known : (l : Literal) → IsOn entries l → is_open (mark_of marks l.var) ≡ true → IsTrue (is_from from used l)
 
-pub record IsOnTheWay (entries : List Entry) (kept : ℕ → Option Nogood) (from : Nogood) (top : ℕ) (m : Marked) (b : Base) : Type 0 where
+pub record IsOnTheWay (entries : List Entry) (says : Literal → ℕ → Nogood → Type 0) (from : Nogood) (top : ℕ) (m : Marked) (b : Base) : Type 0 where
   pub marked : AreMarked entries top m
-  pub reached : (used : List Used) × Covers entries kept from m.marks used × (b ≡ base_after from.base used)
+  pub reached : (used : List Used) × Covers entries says from m.marks used × (b ≡ base_after from.base used)
 
 -- No entry from i on is pending, and one before is.
 pub record IsDown (entries : List Entry) (i : ℕ) (marks : List Mark) : Type 0 where

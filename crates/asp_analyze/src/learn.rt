@@ -13,9 +13,9 @@ ghost use Rattle.std.specs.List.{All};
 ghost use Rattle.std.specs.Prelude.{filter, length};
 ghost use Rattle.asp_vars.specs.Literals.{Literal, has_literal};
 ghost use Rattle.asp_vars.specs.declared.nogood.Nogood.{Nogood};
-ghost use Rattle.asp_trail.specs.Reasons.{AreReasoned};
+ghost use Rattle.asp_trail.specs.Reasons.{AreAsked, AreReasons};
 ghost use Rattle.asp_analyze.specs.Marks.{mark_of, is_open, unmarked};
-ghost use Rattle.asp_analyze.specs.Learning.{Used, IsReached, AreContained, AreAssumed, IsLearned, nogood_of};
+ghost use Rattle.asp_analyze.specs.Learning.{Used, IsNamed, IsReached, AreContained, AreAssumed, IsLearned, nogood_of};
 ghost use Rattle.asp_analyze.specs.Way.{IsOn, AreUpTo, IsReady};
 
 use crate::levels::{greatest_level, level_beside};
@@ -125,8 +125,9 @@ impl Learner {
     ) -> Result<Learned, AllocError>
         requires vars { AreUpTo self.old trail.now.entries }
         requires contained { AreContained trail.now.vars trail.now.entries lits.now }
-        requires reasons { AreReasoned (R.kept reasons.now) trail.now.entries }
-        ensures reached { IfOk result (λ l. (used : List Used) × IsReached (R.kept reasons.now) trail.now.entries (record { lits = lits.now; base = base.now }) used (nogood_of l)) }
+        requires asked { AreAsked (R.asks reasons.now) trail.now.entries }
+        requires reasons { AreReasons (R.says reasons.now) trail.now.entries }
+        ensures reached { IfOk result (λ l. (used : List Used) × IsReached trail.now.entries (record { lits = lits.now; base = base.now }) used (nogood_of l) × All (IsNamed (R.says reasons.now) trail.now.entries) used) }
         ensures contained { IfOk result (λ l. AreContained trail.now.vars trail.now.entries (nogood_of l).lits) }
         ensures assumed { IfOk result (λ l. AreAssumed trail.now.entries (nogood_of l).lits) }
         ensures learned { IfOk result (IsLearned trail.now.entries lits.now) }
@@ -165,8 +166,9 @@ fn analyse<R: Reasons>(
 ) -> Result<Learned, AllocError>
     requires marks { (vars : ℕ) × (marks.old ≡ unmarked (vars + 1)) × AreUpTo vars trail.now.entries }
     requires contained { AreContained trail.now.vars trail.now.entries lits.now }
-    requires reasons { AreReasoned (R.kept reasons.now) trail.now.entries }
-    ensures reached { IfOk result (λ l. (used : List Used) × IsReached (R.kept reasons.now) trail.now.entries (record { lits = lits.now; base = base.now }) used (nogood_of l)) }
+    requires asked { AreAsked (R.asks reasons.now) trail.now.entries }
+    requires reasons { AreReasons (R.says reasons.now) trail.now.entries }
+    ensures reached { IfOk result (λ l. (used : List Used) × IsReached trail.now.entries (record { lits = lits.now; base = base.now }) used (nogood_of l) × All (IsNamed (R.says reasons.now) trail.now.entries) used) }
     ensures contained { IfOk result (λ l. AreContained trail.now.vars trail.now.entries (nogood_of l).lits) }
     ensures assumed { IfOk result (λ l. AreAssumed trail.now.entries (nogood_of l).lits) }
     ensures learned { IfOk result (IsLearned trail.now.entries lits.now) }
@@ -203,8 +205,9 @@ pub fn learn<R: Reasons>(
     base: &Base,
 ) -> Result<Learned, AllocError>
     requires contained { AreContained trail.now.vars trail.now.entries lits.now }
-    requires reasons { AreReasoned (R.kept reasons.now) trail.now.entries }
-    ensures reached { IfOk result (λ l. (used : List Used) × IsReached (R.kept reasons.now) trail.now.entries (record { lits = lits.now; base = base.now }) used (nogood_of l)) }
+    requires asked { AreAsked (R.asks reasons.now) trail.now.entries }
+    requires reasons { AreReasons (R.says reasons.now) trail.now.entries }
+    ensures reached { IfOk result (λ l. (used : List Used) × IsReached trail.now.entries (record { lits = lits.now; base = base.now }) used (nogood_of l) × All (IsNamed (R.says reasons.now) trail.now.entries) used) }
     ensures contained { IfOk result (λ l. AreContained trail.now.vars trail.now.entries (nogood_of l).lits) }
     ensures assumed { IfOk result (λ l. AreAssumed trail.now.entries (nogood_of l).lits) }
     ensures learned { IfOk result (IsLearned trail.now.entries lits.now) }

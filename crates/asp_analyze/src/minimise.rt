@@ -4,7 +4,7 @@ ghost use Rattle.std.specs.List.{All};
 ghost use Rattle.asp_vars.specs.Literals.{Literal, has_literal};
 ghost use Rattle.asp_vars.specs.declared.nogood.Nogood.{Nogood};
 ghost use Rattle.asp_trail.specs.Entries.{level_in};
-ghost use Rattle.asp_trail.specs.Reasons.{AreReasoned};
+ghost use Rattle.asp_trail.specs.Reasons.{AreAsked, AreReasons};
 ghost use Rattle.asp_analyze.specs.Marks.{mark_of, is_clean};
 ghost use Rattle.asp_analyze.specs.Way.{IsOn, IsOnTheWay, Goes, CanGo, IsOther};
 
@@ -94,11 +94,12 @@ fn visit<R: Reasons>(
     top: usize,
     levels: u64,
 ) -> Result<(), AllocError>
-    requires reasons { AreReasoned (R.kept reasons.now) trail.now.entries }
-    requires way { (from : Nogood) × IsOnTheWay trail.now.entries (R.kept reasons.now) from top marks.old base.old }
+    requires asked { AreAsked (R.asks reasons.now) trail.now.entries }
+    requires reasons { AreReasons (R.says reasons.now) trail.now.entries }
+    requires way { (from : Nogood) × IsOnTheWay trail.now.entries (R.says reasons.now) from top marks.old base.old }
     requires path { All (λ f. CanGo trail.now.entries top marks.old f.lit) path.old.items }
-    ensures way { (from : Nogood) → IsOnTheWay trail.now.entries (R.kept reasons.now) from top marks.old base.old →
-        OnOk result (IsOnTheWay trail.now.entries (R.kept reasons.now) from top marks.new base.new) }
+    ensures way { (from : Nogood) → IsOnTheWay trail.now.entries (R.says reasons.now) from top marks.old base.old →
+        OnOk result (IsOnTheWay trail.now.entries (R.says reasons.now) from top marks.new base.new) }
     ensures path { OnOk result (All (λ f. CanGo trail.now.entries top marks.new f.lit) path.new.items) }
     ensures goes { OnOk result (Goes trail.now.entries marks.old marks.new) }
     ensures size { length marks.new.marks ≡ length marks.old.marks }
@@ -110,8 +111,18 @@ fn visit<R: Reasons>(
         path.clear();
         return Ok(());
     };
-    let reason = reasons.lits(id);
-    match find_other(marks, trail, reason, last.next, last.lit.var()) {
+    // What isn't written is passed over.
+    let Some(reason) = reasons.kept(last.lit, id) else {
+        path.clear();
+        return Ok(());
+    };
+    match find_other(
+        marks,
+        trail,
+        reason.lits.as_slice(),
+        last.next,
+        last.lit.var(),
+    ) {
         None => open(marks, base, trail, reasons, top, last.lit, id),
         Some(other) => {
             if may_follow(marks, trail, levels, other.lit) {
@@ -143,11 +154,12 @@ pub fn minimise<R: Reasons>(
     levels: u64,
     lit: Lit,
 ) -> Result<(), AllocError>
-    requires reasons { AreReasoned (R.kept reasons.now) trail.now.entries }
-    requires way { (from : Nogood) × IsOnTheWay trail.now.entries (R.kept reasons.now) from top marks.old base.old }
+    requires asked { AreAsked (R.asks reasons.now) trail.now.entries }
+    requires reasons { AreReasons (R.says reasons.now) trail.now.entries }
+    requires way { (from : Nogood) × IsOnTheWay trail.now.entries (R.says reasons.now) from top marks.old base.old }
     requires lit { CanGo trail.now.entries top marks.old lit }
-    ensures way { (from : Nogood) → IsOnTheWay trail.now.entries (R.kept reasons.now) from top marks.old base.old →
-        OnOk result (IsOnTheWay trail.now.entries (R.kept reasons.now) from top marks.new base.new) }
+    ensures way { (from : Nogood) → IsOnTheWay trail.now.entries (R.says reasons.now) from top marks.old base.old →
+        OnOk result (IsOnTheWay trail.now.entries (R.says reasons.now) from top marks.new base.new) }
     ensures goes { OnOk result (Goes trail.now.entries marks.old marks.new) }
     ensures size { length marks.new.marks ≡ length marks.old.marks }
 {

@@ -4,7 +4,7 @@ ghost use Rattle.std.specs.Option.{unwrap_or};
 ghost use Rattle.asp_vars.specs.Resolution.{joined};
 ghost use Rattle.asp_vars.specs.declared.nogood.Nogood.{Nogood};
 ghost use Rattle.asp_trail.specs.Entries.{level_in, reason_in};
-ghost use Rattle.asp_trail.specs.Reasons.{AreReasoned};
+ghost use Rattle.asp_trail.specs.Reasons.{AreAsked, AreReasons};
 ghost use Rattle.asp_analyze.specs.Marks.{mark_of, is_clean};
 ghost use Rattle.asp_analyze.specs.Way.{IsOn, Opened, IsOnTheWay};
 
@@ -13,7 +13,7 @@ use crate::note::note_all;
 use asp_trail::reasons::{NogoodId, Reasons};
 use asp_trail::trail::Trail;
 use asp_vars::lit::Lit;
-use asp_vars::nogood::Base;
+use asp_vars::nogood::{Base, Nogood};
 use std::alloc::AllocError;
 
 // The joined base, where it isn't the first one.
@@ -46,6 +46,37 @@ fn join(base: &mut Base, other: &Base) -> Result<(), AllocError>
     Ok(())
 }
 
+// Resolves a marked literal with a reason that is said to have implied it.
+fn resolve<R: Reasons>(
+    marks: &mut Marks,
+    base: &mut Base,
+    trail: &Trail,
+    reasons: &R,
+    top: usize,
+    lit: Lit,
+    id: NogoodId,
+    reason: &Nogood,
+) -> Result<(), AllocError>
+    requires on { IsOn trail.now.entries lit }
+    requires level { level_in trail.now.entries lit.var ≤ top }
+    requires reason { reason_in trail.now.entries lit.var ≡ Some id }
+    requires said { R.says reasons.now lit id reason.now }
+    requires reasons { AreReasons (R.says reasons.now) trail.now.entries }
+    requires marked { is_clean (mark_of marks.old.marks lit.var) ≡ false }
+    requires way { (from : Nogood) × IsOnTheWay trail.now.entries (R.says reasons.now) from top marks.old base.old }
+    ensures way { (from : Nogood) → IsOnTheWay trail.now.entries (R.says reasons.now) from top marks.old base.old →
+        OnOk result (IsOnTheWay trail.now.entries (R.says reasons.now) from top marks.new base.new) }
+    ensures opened { OnOk result (Opened trail.now.entries lit marks.old marks.new) }
+    ensures size { length marks.new.marks ≡ length marks.old.marks }
+{
+    let _ = reasons;
+    let _ = id;
+    join(base, &reason.base)?;
+    marks.change(lit.var(), Mark::Resolved);
+    note_all(marks, trail, top, reason.lits.as_slice());
+    Ok(())
+}
+
 /// Resolves a marked literal with the reason that implied it. After want of memory the marks are as before.
 pub fn open<R: Reasons>(
     marks: &mut Marks,
@@ -59,16 +90,20 @@ pub fn open<R: Reasons>(
     requires on { IsOn trail.now.entries lit }
     requires level { level_in trail.now.entries lit.var ≤ top }
     requires reason { reason_in trail.now.entries lit.var ≡ Some id }
-    requires reasons { AreReasoned (R.kept reasons.now) trail.now.entries }
+    requires asked { AreAsked (R.asks reasons.now) trail.now.entries }
+    requires reasons { AreReasons (R.says reasons.now) trail.now.entries }
     requires marked { is_clean (mark_of marks.old.marks lit.var) ≡ false }
-    requires way { (from : Nogood) × IsOnTheWay trail.now.entries (R.kept reasons.now) from top marks.old base.old }
-    ensures way { (from : Nogood) → IsOnTheWay trail.now.entries (R.kept reasons.now) from top marks.old base.old →
-        OnOk result (IsOnTheWay trail.now.entries (R.kept reasons.now) from top marks.new base.new) }
+    requires way { (from : Nogood) × IsOnTheWay trail.now.entries (R.says reasons.now) from top marks.old base.old }
+    ensures way { (from : Nogood) → IsOnTheWay trail.now.entries (R.says reasons.now) from top marks.old base.old →
+        OnOk result (IsOnTheWay trail.now.entries (R.says reasons.now) from top marks.new base.new) }
     ensures opened { OnOk result (Opened trail.now.entries lit marks.old marks.new) }
     ensures size { length marks.new.marks ≡ length marks.old.marks }
 {
-    join(base, reasons.base(id))?;
-    marks.change(lit.var(), Mark::Resolved);
-    note_all(marks, trail, top, reasons.lits(id));
-    Ok(())
+    match reasons.kept(lit, id) {
+        Some(reason) => resolve(marks, base, trail, reasons, top, lit, id, reason),
+        None => {
+            let reason = reasons.write(lit, id)?;
+            resolve(marks, base, trail, reasons, top, lit, id, &reason)
+        }
+    }
 }

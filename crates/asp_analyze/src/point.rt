@@ -1,7 +1,7 @@
 //! The first unique implication point: the newest literal through which all that led to the conflict at its level goes.
 ghost use Rattle.std.specs.Prelude.{◌≡◌, ◌<◌, ◌+◌, length, OnOk, IfOk, IfSome, IfNone};
 ghost use Rattle.asp_vars.specs.declared.nogood.Nogood.{Nogood};
-ghost use Rattle.asp_trail.specs.Reasons.{AreReasoned};
+ghost use Rattle.asp_trail.specs.Reasons.{AreAsked, AreReasons};
 ghost use Rattle.asp_analyze.specs.Way.{IsOnTheWay, IsDown, IsPoint};
 
 use crate::levels::reason_of;
@@ -23,11 +23,12 @@ fn step<R: Reasons>(
     i: usize,
 ) -> Result<Option<Lit>, AllocError>
     requires i { i < length trail.now.entries }
-    requires reasons { AreReasoned (R.kept reasons.now) trail.now.entries }
-    requires way { (from : Nogood) × IsOnTheWay trail.now.entries (R.kept reasons.now) from top marks.old base.old }
+    requires asked { AreAsked (R.asks reasons.now) trail.now.entries }
+    requires reasons { AreReasons (R.says reasons.now) trail.now.entries }
+    requires way { (from : Nogood) × IsOnTheWay trail.now.entries (R.says reasons.now) from top marks.old base.old }
     requires down { IsDown trail.now.entries (i + 1) marks.old.marks }
-    ensures way { (from : Nogood) → IsOnTheWay trail.now.entries (R.kept reasons.now) from top marks.old base.old →
-        OnOk result (IsOnTheWay trail.now.entries (R.kept reasons.now) from top marks.new base.new) }
+    ensures way { (from : Nogood) → IsOnTheWay trail.now.entries (R.says reasons.now) from top marks.old base.old →
+        OnOk result (IsOnTheWay trail.now.entries (R.says reasons.now) from top marks.new base.new) }
     ensures found { IfOk result (λ point. IfSome point (IsPoint trail.now.entries marks.new.marks)) }
     ensures down { IfOk result (λ point. IfNone point (IsDown trail.now.entries i marks.new.marks)) }
     ensures size { length marks.new.marks ≡ length marks.old.marks }
@@ -59,11 +60,12 @@ pub fn find_point<R: Reasons>(
     reasons: &R,
     top: usize,
 ) -> Result<Option<Lit>, AllocError>
-    requires reasons { AreReasoned (R.kept reasons.now) trail.now.entries }
-    requires way { (from : Nogood) × IsOnTheWay trail.now.entries (R.kept reasons.now) from top marks.old base.old }
+    requires asked { AreAsked (R.asks reasons.now) trail.now.entries }
+    requires reasons { AreReasons (R.says reasons.now) trail.now.entries }
+    requires way { (from : Nogood) × IsOnTheWay trail.now.entries (R.says reasons.now) from top marks.old base.old }
     requires down { 0 < top → IsDown trail.now.entries (length trail.now.entries) marks.old.marks }
-    ensures way { (from : Nogood) → IsOnTheWay trail.now.entries (R.kept reasons.now) from top marks.old base.old →
-        OnOk result (IsOnTheWay trail.now.entries (R.kept reasons.now) from top marks.new base.new) }
+    ensures way { (from : Nogood) → IsOnTheWay trail.now.entries (R.says reasons.now) from top marks.old base.old →
+        OnOk result (IsOnTheWay trail.now.entries (R.says reasons.now) from top marks.new base.new) }
     ensures found { IfOk result (λ point. IfSome point (IsPoint trail.now.entries marks.new.marks)) }
     ensures none { IfOk result (λ point. IfNone point (top ≡ 0)) }
     ensures size { length marks.new.marks ≡ length marks.old.marks }

@@ -5,7 +5,7 @@ ghost use Rattle.std.specs.List.{All};
 ghost use Rattle.asp_vars.specs.declared.nogood.Nogood.{Nogood};
 ghost use Rattle.asp_vars.specs.Literals.{Literal, has_literal};
 ghost use Rattle.asp_trail.specs.Entries.{level_in, reason_in};
-ghost use Rattle.asp_trail.specs.Reasons.{AreReasoned};
+ghost use Rattle.asp_trail.specs.Reasons.{AreAsked, AreReasons};
 ghost use Rattle.asp_analyze.specs.Marks.{mark_of, is_settled};
 ghost use Rattle.asp_analyze.specs.Way.{IsOn, IsOnTheWay, AreSettled, Goes, CanGo};
 
@@ -28,12 +28,13 @@ fn settle_zero<R: Reasons>(
     top: usize,
     lit: Lit,
 ) -> Result<(), AllocError>
-    requires reasons { AreReasoned (R.kept reasons.now) trail.now.entries }
-    requires way { (from : Nogood) × IsOnTheWay trail.now.entries (R.kept reasons.now) from top marks.old base.old }
+    requires asked { AreAsked (R.asks reasons.now) trail.now.entries }
+    requires reasons { AreReasons (R.says reasons.now) trail.now.entries }
+    requires way { (from : Nogood) × IsOnTheWay trail.now.entries (R.says reasons.now) from top marks.old base.old }
     requires on { IsOn trail.now.entries lit }
     requires zero { mark_of marks.old.marks lit.var ≡ Mark.Zero }
-    ensures way { (from : Nogood) → IsOnTheWay trail.now.entries (R.kept reasons.now) from top marks.old base.old →
-        OnOk result (IsOnTheWay trail.now.entries (R.kept reasons.now) from top marks.new base.new) }
+    ensures way { (from : Nogood) → IsOnTheWay trail.now.entries (R.says reasons.now) from top marks.old base.old →
+        OnOk result (IsOnTheWay trail.now.entries (R.says reasons.now) from top marks.new base.new) }
     ensures goes { OnOk result (Goes trail.now.entries marks.old marks.new) }
     ensures settled { OnOk result (IsTrue (is_settled (mark_of marks.new.marks lit.var))) }
     ensures size { length marks.new.marks ≡ length marks.old.marks }
@@ -59,10 +60,11 @@ fn settle_at<R: Reasons>(
     i: usize,
 ) -> Result<(), AllocError>
     requires i { i < length marks.old.lits }
-    requires reasons { AreReasoned (R.kept reasons.now) trail.now.entries }
-    requires way { (from : Nogood) × IsOnTheWay trail.now.entries (R.kept reasons.now) from top marks.old base.old }
-    ensures way { (from : Nogood) → IsOnTheWay trail.now.entries (R.kept reasons.now) from top marks.old base.old →
-        OnOk result (IsOnTheWay trail.now.entries (R.kept reasons.now) from top marks.new base.new) }
+    requires asked { AreAsked (R.asks reasons.now) trail.now.entries }
+    requires reasons { AreReasons (R.says reasons.now) trail.now.entries }
+    requires way { (from : Nogood) × IsOnTheWay trail.now.entries (R.says reasons.now) from top marks.old base.old }
+    ensures way { (from : Nogood) → IsOnTheWay trail.now.entries (R.says reasons.now) from top marks.old base.old →
+        OnOk result (IsOnTheWay trail.now.entries (R.says reasons.now) from top marks.new base.new) }
     ensures goes { OnOk result (Goes trail.now.entries marks.old marks.new) }
     ensures settled { AreSettled i marks.old → OnOk result (AreSettled (i + 1) marks.new) }
     ensures size { length marks.new.marks ≡ length marks.old.marks }
@@ -90,10 +92,11 @@ pub fn settle<R: Reasons>(
     reasons: &R,
     top: usize,
 ) -> Result<(), AllocError>
-    requires reasons { AreReasoned (R.kept reasons.now) trail.now.entries }
-    requires way { (from : Nogood) × IsOnTheWay trail.now.entries (R.kept reasons.now) from top marks.old base.old }
-    ensures way { (from : Nogood) → IsOnTheWay trail.now.entries (R.kept reasons.now) from top marks.old base.old →
-        OnOk result (IsOnTheWay trail.now.entries (R.kept reasons.now) from top marks.new base.new) }
+    requires asked { AreAsked (R.asks reasons.now) trail.now.entries }
+    requires reasons { AreReasons (R.says reasons.now) trail.now.entries }
+    requires way { (from : Nogood) × IsOnTheWay trail.now.entries (R.says reasons.now) from top marks.old base.old }
+    ensures way { (from : Nogood) → IsOnTheWay trail.now.entries (R.says reasons.now) from top marks.old base.old →
+        OnOk result (IsOnTheWay trail.now.entries (R.says reasons.now) from top marks.new base.new) }
     ensures goes { OnOk result (Goes trail.now.entries marks.old marks.new) }
     ensures settled { OnOk result (AreSettled (length marks.new.lits) marks.new) }
     ensures size { length marks.new.marks ≡ length marks.old.marks }

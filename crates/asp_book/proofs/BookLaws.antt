@@ -44,22 +44,22 @@ IsOwnFuel-happens b c e u guard now pool burnt is = subst (λ (x : Board). IsOwn
 })
 
 -- from i to j by an event
-pub IsStored-happens : (i j : Inside) (e : Event) → IsStored i → Guard i.state e → j.state ≡ happens i.state e → j.journal.items ≡ i.journal.items ++ e ∷ []
-    → IsOwnFuel j.state j.fuel → j.places ≡ places_of j.state → length j.journal.items + j.places ≤ vec_capacity j.journal → IsStored j
+pub IsStored-happens : (i j : Inside) (e : Event) → IsStored i → Guard i.state.value e → j.state.value ≡ happens i.state.value e → j.journal.items ≡ i.journal.items ++ e ∷ []
+    → IsOwnFuel j.state.value j.fuel → j.places ≡ places_of j.state.value → length j.journal.items + j.places ≤ vec_capacity j.journal → IsStored j
 IsStored-happens i j e is guard now items fuel places room =
-    let task : j.state.task ≡ i.state.task = ap (λ (b : Board). b.task) now ∙ (Grows-happens i.state e guard).task in
-    let may : Guard (replay i.state.task i.journal.items) e = subst (λ (b : Board). Guard b e) is.state guard in
-    let lawful : IsJournalOf i.state.task (i.journal.items ++ e ∷ []) = IsLawful-push (start i.state.task) i.journal.items e is.lawful may in
+    let task : j.state.value.task ≡ i.state.value.task = ap (λ (b : Board). b.task) now ∙ (Grows-happens i.state.value e guard).task in
+    let may : Guard (replay i.state.value.task i.journal.items) e = subst (λ (b : Board). Guard b e) is.state guard in
+    let lawful : IsJournalOf i.state.value.task (i.journal.items ++ e ∷ []) = IsLawful-push (start i.state.value.task) i.journal.items e is.lawful may in
     record {
-      state = now ∙ ap (λ (b : Board). happens b e) is.state ∙ sym (run-push (start i.state.task) i.journal.items e) ∙ (λ k. replay (sym task k) (sym items k));
-      lawful = subst (λ (t : Task). IsJournalOf t j.journal.items) (sym task) (subst (IsJournalOf i.state.task) (sym items) lawful);
+      state = now ∙ ap (λ (b : Board). happens b e) is.state ∙ sym (run-push (start i.state.value.task) i.journal.items e) ∙ (λ k. replay (sym task k) (sym items k));
+      lawful = subst (λ (t : Task). IsJournalOf t j.journal.items) (sym task) (subst (IsJournalOf i.state.value.task) (sym items) lawful);
       fuel = fuel;
       places = places;
       room = room;
     }
 
 -- what the calls ask of the board, they ask of the state
-pub state-is : (i : Inside) (b : Booked) → IsStored i → booked_of i ≡ b → i.state ≡ board b
+pub state-is : (i : Inside) (b : Booked) → IsStored i → booked_of i ≡ b → i.state.value ≡ board b
 state-is i b is view = is.state ∙ ap board view
 
 -- ---- events that move units

@@ -7,12 +7,12 @@ use Rattle.asp_book.specs.Books.{Booked, IsJournalOf}
 use Rattle.asp_book.specs.Fuels.{IsOwnFuel, places_of}
 
 abbrev pub booked_of : Inside → Booked
-booked_of b = record { task = b.state.task; journal = b.journal.items }
+booked_of b = record { task = b.state.value.task; journal = b.journal.items }
 
 pub record IsStored (b : Inside) : Type 0 where
-  pub state : b.state ≡ replay b.state.task b.journal.items
-  pub lawful : IsJournalOf b.state.task b.journal.items
-  pub fuel : IsOwnFuel b.state b.fuel
-  pub places : b.places ≡ places_of b.state
+  pub state : b.state.value ≡ replay b.state.value.task b.journal.items
+  pub lawful : IsJournalOf b.state.value.task b.journal.items
+  pub fuel : IsOwnFuel b.state.value b.fuel
+  pub places : b.places ≡ places_of b.state.value
   -- The journal has a free place for each event that takes no memory.
   pub room : length b.journal.items + b.places ≤ vec_capacity b.journal

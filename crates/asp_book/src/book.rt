@@ -35,8 +35,8 @@ use std::marker::Model;
 pub struct Book {
     /// Where memory comes from.
     alloc: Global,
-    /// The board, whose state the journal leads to.
-    state: State,
+    /// The board, whose state the journal leads to. It lies on the heap, since a book changes hands at each call of a seat.
+    state: Box<State>,
     /// What happened, the oldest event first.
     journal: Vec<Entry>,
     /// The units that are not out on lease.
@@ -78,20 +78,21 @@ impl Kept for Book {
 }
 
 impl Book {
-    /// A book of this board, at which nothing has happened yet.
-    pub fn new(alloc: Global, compiled: &Compiled, state: State) -> Book
+    /// A book of this board, at which nothing has happened yet. The only error is want of memory.
+    pub fn new(alloc: Global, compiled: &Compiled, state: State) -> Result<Book, AllocError>
         requires program { state.task.program ≡ compiled.now }
         requires start { state ≡ start state.task }
-        ensures { result ≡ record { task = state.task; journal = [] } }
+        ensures { IfOk result (λ book. book ≡ record { task = state.task; journal = [] }) }
     {
         let fuel = Fuel::of(compiled, state.pool());
-        Book {
+        let state = Box::new(alloc, state)?;
+        Ok(Book {
             alloc,
             state,
             journal: Vec::new(alloc),
             fuel,
             places: 0,
-        }
+        })
     }
 
     /// The journal replays to the board, and each of its events was lawful where it happened.
@@ -367,7 +368,7 @@ impl Book {
             fuel,
             places: _,
         } = self;
-        (state, journal, fuel)
+        (Box::into_inner(state), journal, fuel)
     }
 }
 

@@ -19,12 +19,16 @@ pub fn make_room(journal: &mut Vec<Entry>, places: usize, more: usize) -> Result
 }
 
 /// Lets an event happen and writes it down. For want of memory neither is done.
-pub fn write(state: &mut State, journal: &mut Vec<Entry>, event: Event) -> Result<(), AllocError>
-    requires guard { Guard state.old event }
+pub fn write(
+    state: &mut Box<State>,
+    journal: &mut Vec<Entry>,
+    event: Event,
+) -> Result<(), AllocError>
+    requires guard { Guard state.old.value event }
     requires room { vec_len journal.old < vec_capacity journal.old }
-    ensures state { OnOk result (state.new ≡ happens state.old event) }
+    ensures state { OnOk result (state.new.value ≡ happens state.old.value event) }
     ensures journal { OnOk result (journal.new.items ≡ journal.old.items ++ event ∷ []) }
-    ensures err_state { OnErr result (state.new ≡ state.old) }
+    ensures err_state { OnErr result (state.new.value ≡ state.old.value) }
     ensures err_journal { OnErr result (journal.new.items ≡ journal.old.items) }
     ensures capacity { vec_capacity journal.new ≡ vec_capacity journal.old }
     ensures no_memory { wants_memory event ≡ false → IsOk result }

@@ -12,3 +12,4 @@ pub mod FindLaws
 pub mod NeededLaws
 pub mod NogoodLaws
 pub mod SilentLaws
+pub mod ShownLaws

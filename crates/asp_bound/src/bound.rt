@@ -27,8 +27,8 @@ use crate::sums::{lower, raise};
 use asp_model::cost::Cost;
 use asp_model::program::Program;
 use asp_table::table::Table;
+use asp_trail::told::ToldValues;
 use asp_trail::trail::Trail;
-use asp_vars::assign::Assign;
 use asp_vars::compiled::Compiled;
 use asp_vars::lit::{Lit, Var};
 use asp_vars::nogood::Nogood;
@@ -43,8 +43,8 @@ pub struct Bound {
     origin: Origin<Program>,
     /// Gives the memory of the nogoods.
     alloc: Global,
-    /// The values told.
-    values: Assign,
+    /// The values told, for contracts alone.
+    values: ToldValues,
     /// By variable, what it adds at which priority. One row more than the variables; 0 is none.
     rows: Table<Place>,
     /// By priority, the greatest first: the variables that can add to it, the one that adds most first.
@@ -89,7 +89,7 @@ impl Bound {
         Ok(Bound {
             origin: Origin::of(compiled.program()),
             alloc,
-            values: Assign::new(alloc, count)?,
+            values: ToldValues::none(count),
             rows,
             columns: levels.columns,
             vars,
@@ -150,7 +150,7 @@ impl Bound {
         ensures silent { IfOk result (λ n. is_none n ≡ is_silent self.old.told.program self.old.bound self.old.told.values) }
         ensures given { IfOk result (λ n. IfSome n (IsGiven self.old)) }
     {
-        let _ = trail;
+        let values = trail.assignment();
         let Some(cost) = &self.bound else {
             return Ok(None);
         };
@@ -158,7 +158,7 @@ impl Bound {
         if let Some(depth) = reach(sums, limits, &[], true) {
             let raising = raising(
                 self.alloc,
-                &self.values,
+                values,
                 &self.rows,
                 self.raisers.as_slice(),
                 depth,
@@ -177,7 +177,7 @@ impl Bound {
             return Ok(Some(nogood));
         }
         let Some(implied) = find(
-            &self.values,
+            values,
             &self.rows,
             &self.columns,
             sums,
@@ -188,7 +188,7 @@ impl Bound {
         };
         let raising = raising(
             self.alloc,
-            &self.values,
+            values,
             &self.rows,
             self.raisers.as_slice(),
             implied.depth,

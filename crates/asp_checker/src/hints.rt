@@ -1,6 +1,6 @@
 //! What weight bodies and the bound may imply, by their sums. Hints are advice: each is tried before its value is set.
-ghost use Rattle.std.specs.Prelude.{◌≡◌, ◌+◌, length};
-ghost use Rattle.asp_vars.specs.Numbering.{var_count};
+ghost use Rattle.std.specs.Prelude.{◌≡◌, ◌+◌, ◌<◌, length};
+ghost use Rattle.asp_vars.specs.Numbering.{bodies_of, var_count};
 
 use crate::bounds::Bound;
 use asp_vars::assign::Assign;
@@ -75,6 +75,26 @@ fn add_heavy(
     Ok(())
 }
 
+// The least and the greatest sum of the weights of a body's literals that hold.
+fn sums(compiled: &Compiled, values: &Assign, body: usize) -> (i64, i64)
+    requires size { length values.now ≡ var_count compiled.now + 1 }
+    requires body { body < length (bodies_of compiled.now) }
+{
+    let mut low: i64 = 0;
+    let mut high: i64 = 0;
+    for (lit, weight) in compiled.literals(body).iter().zip(compiled.weights(body)) {
+        match value_of(compiled, values, *lit) {
+            Some(true) => {
+                low = low.saturating_add(*weight);
+                high = high.saturating_add(*weight);
+            }
+            Some(false) => {}
+            None => high = high.saturating_add(*weight),
+        }
+    }
+    (low, high)
+}
+
 /// Adds what a weight body may imply.
 pub(crate) fn hints_of_body(
     hints: &mut Vec<Hint>,
@@ -91,54 +111,23 @@ pub(crate) fn hints_of_body(
         return Ok(());
     };
     let bound = i64::from(bound);
-    let mut low: i64 = 0;
-    let mut high: i64 = 0;
-    for (lit, weight) in compiled.literals(body).iter().zip(compiled.weights(body)) {
-        match value_of(compiled, values, *lit) {
-            Some(true) => {
-                low = low.saturating_add(*weight);
-                high = high.saturating_add(*weight);
-            }
-            Some(false) => {}
-            None => high = high.saturating_add(*weight),
-        }
-    }
+    let (low, high) = sums(compiled, values, body);
     let held = Lit::new(compiled.body_var(body), true);
-    match value_of(compiled, values, held) {
-        Some(true) => {
-            if high < bound {
-                hints.push(Hint::Body(body, held))?;
-                return Ok(());
-            }
-            add_heavy(
-                hints,
-                compiled,
-                values,
-                body,
-                high.saturating_sub(bound),
-                true,
-            )
+    let implied = match value_of(compiled, values, held) {
+        Some(true) if high >= bound => {
+            let left = high.saturating_sub(bound);
+            return add_heavy(hints, compiled, values, body, left, true);
         }
-        Some(false) => {
-            if low >= bound {
-                hints.push(Hint::Body(body, held))?;
-                return Ok(());
-            }
+        Some(false) if low < bound => {
             let left = bound.saturating_sub(low).saturating_sub(1);
-            add_heavy(hints, compiled, values, body, left, false)
+            return add_heavy(hints, compiled, values, body, left, false);
         }
-        None => {
-            if low >= bound {
-                hints.push(Hint::Body(body, held))?;
-                return Ok(());
-            }
-            if high < bound {
-                hints.push(Hint::Body(body, held.complement()))?;
-                return Ok(());
-            }
-            Ok(())
-        }
-    }
+        None if low < bound && high >= bound => return Ok(()),
+        None if low < bound => held.complement(),
+        _ => held,
+    };
+    hints.push(Hint::Body(body, implied))?;
+    Ok(())
 }
 
 fn weight_at(weights: &[i64], place: usize) -> i64 {

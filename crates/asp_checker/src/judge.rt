@@ -33,7 +33,7 @@ use std::alloc::{AllocError, Global};
 use std::cmp::Ordering;
 
 /// Why a line of a proof isn't right.
-#[derive(Clone, Copy, Debug, PartialEq, Eq)]
+#[derive(Clone, Copy)]
 pub enum Why {
     /// The set isn't an answer.
     Member,
@@ -50,7 +50,7 @@ pub enum Why {
 }
 
 /// What is said of a proof.
-#[derive(Clone, Copy, Debug, PartialEq, Eq)]
+#[derive(Clone, Copy)]
 pub enum Judgement {
     /// It is right.
     Yes,
@@ -443,6 +443,43 @@ enum Outcome {
 }
 
 // Judges the lines one after another. Each that is right is known to the later ones.
+fn judge_each(
+    alloc: Global,
+    compiled: &Compiled,
+    rows: &mut Vec<Seq<Lit>>,
+    bound: &Option<Bound>,
+    assumed: &[Lit],
+    watches: &mut Watches,
+    values: &mut Assign,
+    lines: &[Line],
+) -> Result<Outcome, AllocError>
+    requires rows { AllByRecursion (AreOf compiled.now) rows.old.items }
+    requires levels { HasLevels compiled.now bound.now }
+    requires assumed { assumed.now ≡ map (literal_of compiled.now) compiled.now.assumptions }
+    requires root { IsRoot compiled.now (known_by rows.old.items bound.now) values.old }
+    ensures { IfOk result (AreLinesJudged compiled.now (known_by rows.old.items bound.now) lines.now) }
+{
+    let mut whole = false;
+    for at in 0..lines.len() {
+        let line = &lines[at];
+        let known = rows.as_slice();
+        let step = judge_line(alloc, compiled, known, bound, watches, values, line)?;
+        match step {
+            Step::Wrong(why) => return Ok(Outcome::Wrong(why, at)),
+            Step::Known(lits) => {
+                let own = lits.as_slice();
+                let closing = closes(assumed, line, own);
+                whole = either(whole, closing);
+                rows.push(lits)?;
+                let more = rows.as_slice();
+                learn(alloc, compiled, more, bound, watches, values)?;
+            }
+        }
+    }
+    Ok(Outcome::Right(whole))
+}
+
+// Judges the lines behind these nogoods. What is made for that is dropped here alone.
 fn judge_lines(
     alloc: Global,
     compiled: &Compiled,
@@ -455,36 +492,20 @@ fn judge_lines(
     ensures { IfOk result (AreLinesJudged compiled.now (known_by rows.items bound.now) lines.now) }
 {
     let assumptions = assumptions(alloc, compiled)?;
-    let assumed = assumptions.as_slice();
     let mut watches = Watches::new(alloc, compiled, bound)?;
     let first = rows.as_slice();
     let mut values = first_root(alloc, compiled, first, bound, &mut watches)?;
-    let mut whole = false;
-    for at in 0..lines.len() {
-        let line = &lines[at];
-        let known = rows.as_slice();
-        let step = judge_line(
-            alloc,
-            compiled,
-            known,
-            bound,
-            &mut watches,
-            &mut values,
-            line,
-        )?;
-        match step {
-            Step::Wrong(why) => return Ok(Outcome::Wrong(why, at)),
-            Step::Known(lits) => {
-                let own = lits.as_slice();
-                let closing = closes(assumed, line, own);
-                whole = either(whole, closing);
-                rows.push(lits)?;
-                let more = rows.as_slice();
-                learn(alloc, compiled, more, bound, &mut watches, &mut values)?;
-            }
-        }
-    }
-    Ok(Outcome::Right(whole))
+    let assumed = assumptions.as_slice();
+    judge_each(
+        alloc,
+        compiled,
+        &mut rows,
+        bound,
+        assumed,
+        &mut watches,
+        &mut values,
+        lines,
+    )
 }
 
 fn either(one: bool, other: bool) -> bool

@@ -19,7 +19,7 @@ use itoa::Buffer;
 use std::alloc::{AllocError, Global};
 
 /// Why no proof was judged.
-#[derive(Clone, Copy, Debug, PartialEq, Eq)]
+#[derive(Clone, Copy)]
 pub enum CheckError {
     /// Memory ran out.
     Memory,
@@ -30,7 +30,7 @@ pub enum CheckError {
 }
 
 /// How a run ended.
-#[derive(Clone, Copy, Debug, PartialEq, Eq)]
+#[derive(Clone, Copy)]
 pub enum CheckStatus {
     /// The proof is right.
     Yes,

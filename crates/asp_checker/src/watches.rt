@@ -2,8 +2,8 @@
 //!
 //! This is advice alone, and nothing is proved of it but that it ends. What a nogood, a body or the bound says is seen to where
 //! it is looked at, and what isn't named here is found by the passes over all of them.
-ghost use Rattle.std.specs.Prelude.{◌≡◌, ◌+◌, length};
-ghost use Rattle.asp_vars.specs.Numbering.{var_count};
+ghost use Rattle.std.specs.Prelude.{◌≡◌, ◌+◌, ◌<◌, length};
+ghost use Rattle.asp_vars.specs.Numbering.{bodies_of, var_count};
 
 use crate::bounds::Bound;
 use crate::hints::{Hint, fails, hints_of_body, hints_of_bound, holds, priced};
@@ -188,15 +188,27 @@ fn list_at(lists: &mut Vec<Vec<usize>>, place: usize, number: usize) -> Result<(
     Ok(())
 }
 
+// Adds a weight body to the lists of its variable and of those that stand in it.
+fn list_body(
+    by_var: &mut Vec<Vec<usize>>,
+    compiled: &Compiled,
+    body: usize,
+) -> Result<(), AllocError>
+    requires { body < length (bodies_of compiled.now) }
+{
+    list_at(by_var, compiled.body_var(body) as usize, body)?;
+    for lit in compiled.literals(body) {
+        list_at(by_var, lit.var() as usize, body)?;
+    }
+    Ok(())
+}
+
 // By variable, the weight bodies in which it stands, and the one whose variable it is.
 fn bodies_by_var(alloc: Global, compiled: &Compiled) -> Result<Vec<Vec<usize>>, AllocError> {
     let mut by_var = lists(alloc, compiled.vars() as usize + 1)?;
     for body in 0..compiled.body_count() {
         if compiled.bound(body).is_some() {
-            list_at(&mut by_var, compiled.body_var(body) as usize, body)?;
-            for lit in compiled.literals(body) {
-                list_at(&mut by_var, lit.var() as usize, body)?;
-            }
+            list_body(&mut by_var, compiled, body)?;
         }
     }
     Ok(by_var)
@@ -209,8 +221,12 @@ impl Watches {
         compiled: &Compiled,
         bound: &Option<Bound>,
     ) -> Result<Watches, AllocError> {
+        let by_code = lists(alloc, 2 * (compiled.vars() as usize + 1))?;
+        let by_var = bodies_by_var(alloc, compiled)?;
+        let priced = priced(alloc, compiled, bound)?;
+        let is_touched = vec![in alloc; false; compiled.body_count()]?;
         let mut watches = Watches {
-            by_code: lists(alloc, 2 * (compiled.vars() as usize + 1))?,
+            by_code,
             entries: Vec::new(alloc),
             watching: Vec::new(alloc),
             limit: FIRST_LIMIT,
@@ -218,21 +234,27 @@ impl Watches {
             next_retired: 0,
             retired_left: 0,
             revived: Vec::new(alloc),
-            by_var: bodies_by_var(alloc, compiled)?,
-            priced: priced(alloc, compiled, bound)?,
+            by_var,
+            priced,
             done: 0,
             within: 0,
             hints: Vec::new(alloc),
             touched: Vec::new(alloc),
-            is_touched: vec![in alloc; false; compiled.body_count()]?,
+            is_touched,
             priced_at: None,
             last: None,
             stuck: None,
         };
-        for body in 0..compiled.body_count() {
-            watches.touch_body(body)?;
-        }
+        watches.touch_all(compiled.body_count())?;
         Ok(watches)
+    }
+
+    // So many weight bodies are to be looked at.
+    fn touch_all(&mut self, count: usize) -> Result<(), AllocError> {
+        for body in 0..count {
+            self.touch_body(body)?;
+        }
+        Ok(())
     }
 
     fn watch(&mut self, lit: Lit, place: usize, other: Lit) -> Result<(), AllocError> {

@@ -17,7 +17,7 @@ pub use names::Name;
 pub use texts::{page_back, page_front, usage, version};
 
 /// What the command line asks for.
-#[derive(Clone, Copy, Debug, PartialEq, Eq)]
+#[derive(Clone, Copy)]
 pub struct Options {
     /// How many threads may search: 1 to 64. A run whose proof is asked for takes one.
     pub workers: u32,
@@ -44,7 +44,7 @@ pub struct Options {
 }
 
 /// The first fault of a command line, from the left.
-#[derive(Clone, Copy, Debug, PartialEq, Eq)]
+#[derive(Clone, Copy)]
 pub enum WordFault<'a> {
     /// Not even the program's name is there.
     NoWords,
@@ -65,7 +65,7 @@ pub enum WordFault<'a> {
 }
 
 /// Why the words of a command line give no options.
-#[derive(Clone, Copy, Debug, PartialEq, Eq)]
+#[derive(Clone, Copy)]
 pub enum CliError<'a> {
     /// The words are faulty.
     Usage(WordFault<'a>),

@@ -45,7 +45,7 @@ fn first<W: Watch>(
         ask.limit(),
         [].as_slice(),
     )?;
-    let mut book = Book::new(alloc, compiled, state);
+    let mut book = Book::new(alloc, compiled, state)?;
     let unpaid = finish_program(
         alloc, compiled, ask.mode, None, &mut book, counts, watch, recorder,
     )?;

@@ -56,7 +56,7 @@ fn opened(
         ask.models,
         [].as_slice(),
     )?;
-    let mut book = Book::new(alloc, compiled, state);
+    let mut book = Book::new(alloc, compiled, state)?;
     let _delivered = book.deliver(0, set)?;
     Ok(book)
 }

@@ -6,7 +6,7 @@ use crate::cost::Cost;
 use crate::interp::Interp;
 
 /// Which consequences of a program are asked for.
-#[derive(Clone, Copy, Debug, PartialEq, Eq)]
+#[derive(Clone, Copy)]
 pub enum Reasoning {
     /// What holds in some answer.
     Brave,
@@ -15,7 +15,7 @@ pub enum Reasoning {
 }
 
 /// What is asked of a program: all its answers, one that none betters, or what holds in some or in every one.
-#[derive(Clone, Copy, Debug, PartialEq, Eq)]
+#[derive(Clone, Copy)]
 pub enum Mode {
     /// All answers.
     Enum,
@@ -38,7 +38,7 @@ impl Mode {
 }
 
 /// What a run is asked.
-#[derive(Clone, Copy, Debug, PartialEq, Eq)]
+#[derive(Clone, Copy)]
 pub struct Ask {
     /// Whether all answers are sought, one that costs least, or what holds in some or in all.
     pub mode: Mode,
@@ -62,7 +62,7 @@ impl Ask {
 }
 
 /// How the search ended.
-#[derive(Clone, Copy, Debug, PartialEq, Eq)]
+#[derive(Clone, Copy)]
 pub enum End {
     /// Nothing is left to be found.
     Finished,

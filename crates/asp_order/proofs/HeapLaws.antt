@@ -48,7 +48,7 @@ within_alike h most = cases (leb most (2 ^ 60))
     cases true = record { members = refl; vars = refl }
     cases false = record { members = refl; vars = length-map h.activities (λ (n : ℕ). n / 2 ^ 30) }
 
-bumped_alike : (h : Ranking) (v : ℕ) → IsAlike h (bumped h v)
+pub bumped_alike : (h : Ranking) (v : ℕ) → IsAlike h (bumped h v)
 bumped_alike h v =
     let w : Ranking = within h (get_or h.activities v 0 + h.increment) in
     alike_still h w (bumped h v) (within_alike h (get_or h.activities v 0 + h.increment))

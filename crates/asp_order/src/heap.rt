@@ -98,6 +98,14 @@ impl Heap {
         self.members.get(var as usize).copied().unwrap_or(false)
     }
 
+    /// Whether the variable is in the heap, before all others of it.
+    pub(crate) fn is_first(&self, var: Var) -> bool {
+        match self.items.first() {
+            None => false,
+            Some(first) => *first == var,
+        }
+    }
+
     /// Puts the variable into the heap.
     pub fn push(&mut self, var: Var)
         requires known { var < length self.old.activities }

@@ -68,6 +68,24 @@ fn bump_and_decay(heap: &mut Heap, lits: &[Lit], met: &[Lit])
     heap.decay();
 }
 
+// So many bumps lift a variable above each other one: the increment grows by its sixteenth with each nogood that is learnt, for which
+// a variable is bumped twice at most, so that all its bumps come to less than 35 of the newest.
+const MOST: u32 = 64;
+
+// Bumps the variable until it is the first in the heap.
+fn lift(heap: &mut Heap, var: Var)
+    requires { var < length heap.old.activities }
+    ensures members { heap.new.members ≡ heap.old.members }
+    ensures vars { length heap.new.activities ≡ length heap.old.activities }
+{
+    for _ in 0..MOST {
+        if heap.is_first(var) {
+            return;
+        }
+        heap.bump(var);
+    }
+}
+
 // Lets later bumps count for more, so many times.
 fn decay_all(heap: &mut Heap, times: u32)
     ensures { heap.new ≡ aged heap.old times }
@@ -97,6 +115,16 @@ impl Order {
         ensures { self.new ≡ all_bumped self.old lits.now }
     {
         bump_all(&mut self.heap, lits);
+    }
+
+    /// Raises the activity of the literal's variable, so that it comes first if it has no value, and then has the literal's.
+    pub fn raise(&mut self, lit: Lit)
+        requires { lit.var < length self.old.activities }
+        ensures members { self.new.members ≡ self.old.members }
+        ensures vars { length self.new.activities ≡ length self.old.activities }
+    {
+        lift(&mut self.heap, lit.var());
+        self.phases.save(lit.var(), lit.truth());
     }
 
     /// What was bumped before counts for less from now on: each time by a seventeenth, since the increment grows by its

@@ -1,5 +1,5 @@
 -- Nogoods and entries that are added.
-use Rattle.std.proofs.Common.{◌≡◌, ℕ, false, List, [], ◌++◌, Option, Some, None, ◌⊎◌, inl, inr, refl, sym, ap, ◌∙◌, subst, append_assoc, arith}
+use Rattle.std.proofs.Common.{◌≡◌, ℕ, false, List, [], ◌++◌, length, Option, Some, None, ◌⊎◌, inl, inr, refl, sym, ap, ◌∙◌, subst, append_assoc, arith}
 use Rattle.std.specs.Prelude.{ℤ}
 use Rattle.std.specs.List.{All}
 use Rattle.std.specs.Option.{option_map}
@@ -17,7 +17,7 @@ use Rattle.asp_store.specs.declared.stored_nogood.Kind.TheVariants as kind
 use Rattle.asp_store.specs.Keeping.{kept_at, nogood_at, IsAddedAt}
 use Rattle.asp_store.specs.Fitting.{IsImpliedAt, Extends}
 use Rattle.asp_store.proofs.GetLaws.{is_or_not}
-use Rattle.asp_store.proofs.GrowLaws.{level_stays}
+use Rattle.asp_store.proofs.GrowLaws.{level_stays, implied_kept}
 use Rattle.asp_propagate.specs.Propagating.{IsGiven, Adds, Implies, GoesOn, AreUnlocked}
 
 -- ---- nogoods
@@ -88,7 +88,7 @@ implies_more es fs gs a b =
     )
 
 pub implies_from : (slots : List (Option StoredNogood)) (es fs : List Entry) → Extends slots es fs → Implies es fs
-implies_from slots es fs x = (x.0, x.1, x.3)
+implies_from slots es fs x = (x.0, x.1, implied_kept (length slots) (level es) x.0 x.3)
 
 -- ---- both
 pub goes_more : (gives : Nogood → Type 0) (t u v : Told) (b c d : Option (List ℤ)) (xs ys zs : List (Option StoredNogood)) (es fs gs : List Entry) →

@@ -3,7 +3,7 @@ use Rattle.std.proofs.Common.{◌≡◌, ℕ, ◌+◌, ◌≤◌, Bool, List, []
 use Rattle.std.specs.Prelude.{ℤ, Result, Ok, Err}
 use Rattle.std.specs.Result.{IfOk, OnErr}
 use Rattle.asp_model.specs.declared.program.Program.{Program}
-use Rattle.asp_vars.specs.Literals.{value_of}
+use Rattle.asp_vars.specs.Literals.{value_of, Literal}
 use Rattle.asp_vars.specs.Numbering.{var_count}
 use Rattle.asp_vars.specs.declared.nogood.Nogood.{Nogood}
 use Rattle.asp_trail.specs.declared.trail.Entry.{Entry}
@@ -16,22 +16,24 @@ use Rattle.asp_store.specs.Keeping.{kept_at}
 use Rattle.asp_store.specs.Storing.{Stored, IsAdded}
 use Rattle.asp_store.proofs.FitsLaws.{fits_begin}
 use Rattle.asp_propagate.specs.Propagating.{Propagating, values_of, IsFollowed}
+use Rattle.asp_propagate.specs.Late.{AreExplained}
+use Rattle.asp_propagate.proofs.LateLaws.{explained_none}
 use Rattle.asp_propagate.proofs.PropagateLaws.{followed_added}
 
 -- what callers see of these parts
 abbrev pub view_of : Told → Option (List ℤ) → Stored → Trailed → Propagating
 view_of t b s r = record { program = t.program; entries = r.entries; slots = s.slots; bound = b }
 
-pub vars_are : (t : Told) (b : Option (List ℤ)) (s : Stored) (r : Trailed) (n : ℕ) (f : Propagating) → view_of t b s r ≡ f → IsFollowed t s r n → r.vars ≡ var_count f.program
-vars_are t b s r n f q w = w.told.vars ∙ ap (λ (x : Propagating). var_count x.program) q
+pub vars_are : (why : Program → List Entry → Literal → ℕ → Type 0) (t : Told) (b : Option (List ℤ)) (s : Stored) (r : Trailed) (n : ℕ) (f : Propagating) → view_of t b s r ≡ f → IsFollowed why t s r n → r.vars ≡ var_count f.program
+vars_are why t b s r n f q w = w.told.vars ∙ ap (λ (x : Propagating). var_count x.program) q
 
-pub var_inside : (t : Told) (b : Option (List ℤ)) (s : Stored) (r : Trailed) (n : ℕ) (f : Propagating) (v : ℕ) → view_of t b s r ≡ f → IsFollowed t s r n →
+pub var_inside : (why : Program → List Entry → Literal → ℕ → Type 0) (t : Told) (b : Option (List ℤ)) (s : Stored) (r : Trailed) (n : ℕ) (f : Propagating) (v : ℕ) → view_of t b s r ≡ f → IsFollowed why t s r n →
     IsVar (var_count f.program) v → IsVar r.vars v
-var_inside t b s r n f v q w h = subst (λ (m : ℕ). IsVar m v) (sym (vars_are t b s r n f q w)) h
+var_inside why t b s r n f v q w h = subst (λ (m : ℕ). IsVar m v) (sym (vars_are why t b s r n f q w)) h
 
-pub none_inside : (t : Told) (b : Option (List ℤ)) (s : Stored) (r : Trailed) (n : ℕ) (f : Propagating) (v : ℕ) → view_of t b s r ≡ f → IsFollowed t s r n →
+pub none_inside : (why : Program → List Entry → Literal → ℕ → Type 0) (t : Told) (b : Option (List ℤ)) (s : Stored) (r : Trailed) (n : ℕ) (f : Propagating) (v : ℕ) → view_of t b s r ≡ f → IsFollowed why t s r n →
     value_of (values_of f) v ≡ None → value_of (assignment r.vars r.entries) v ≡ None
-none_inside t b s r n f v q w h =
+none_inside why t b s r n f v q w h =
     ap (λ (m : ℕ). value_of (assignment m r.entries) v) w.told.vars ∙ (ap (λ (x : Propagating). value_of (values_of x) v) q ∙ h)
 
 pub same_view : (p q : Program) (es fs : List Entry) (xs : List (Option StoredNogood)) (b c : Option (List ℤ)) → p ≡ q → es ≡ fs → b ≡ c →
@@ -47,10 +49,10 @@ pub on_err : {A E : Type 0} (r : Result A E) (P Q : Type 0) → (P → Q) → On
 on_err (Ok x) P Q f h = tt
 on_err (Err e) P Q f h = f h
 
-pub kept_either : {E : Type 0} (r : Result ℕ E) (t : Told) (s z : Stored) (q : Trailed) (n : ℕ) (m : Nogood) (kind : Kind) → IfOk r (λ id. IsAdded s z id m kind) →
-    OnErr r (z ≡ s) → IsFollowed t s q n → IsFollowed t z q n
-kept_either (Ok id) t s z q n m kind a b f = followed_added t s z q n id m kind a f
-kept_either (Err e) t s z q n m kind a b f = subst (λ (y : Stored). IsFollowed t y q n) (sym b) f
+pub kept_either : (why : Program → List Entry → Literal → ℕ → Type 0) {E : Type 0} (r : Result ℕ E) (t : Told) (s z : Stored) (q : Trailed) (n : ℕ) (m : Nogood) (kind : Kind) → IfOk r (λ id. IsAdded s z id m kind) →
+    OnErr r (z ≡ s) → IsFollowed why t s q n → IsFollowed why t z q n
+kept_either why (Ok id) t s z q n m kind a b f = followed_added why t s z q n id m kind a f
+kept_either why (Err e) t s z q n m kind a b f = subst (λ (y : Stored). IsFollowed why t y q n) (sym b) f
 
 pub if_ok : {A E : Type 0} (r : Result A E) (P Q : A → Type 0) → ((x : A) → P x → Q x) → IfOk r P → IfOk r Q
 if_ok (Ok x) P Q f h = f x h
@@ -60,9 +62,9 @@ if_ok (Err e) P Q f h = tt
 none_some : {A : Type 0} (x : A) → None ≡ Some x → ⊥
 none_some x q = cc
 
-pub followed_begin : (t : Told) (s : Stored) (r : Trailed) (vars : ℕ) → s ≡ record { vars = vars; slots = []; rows = []; apart = record { items = []; retired = 0 } } → r.vars ≡ vars →
-    r.entries ≡ [] → vars ≤ r.room → vars ≡ var_count t.program → t.values ≡ replicate (vars + 1) None → IsFollowed t s r 0
-followed_begin t s r vars store v e room count fresh = record {
+pub followed_begin : (why : Program → List Entry → Literal → ℕ → Type 0) (t : Told) (s : Stored) (r : Trailed) (vars : ℕ) → s ≡ record { vars = vars; slots = []; rows = []; apart = record { items = []; retired = 0 }; given = [] } → r.vars ≡ vars →
+    r.entries ≡ [] → vars ≤ r.room → vars ≡ var_count t.program → t.values ≡ replicate (vars + 1) None → IsFollowed why t s r 0
+followed_begin why t s r vars store v e room count fresh = record {
   told = record {
     vars = v ∙ count;
     begun = omega arith;
@@ -71,6 +73,7 @@ followed_begin t s r vars store v e room count fresh = record {
   room = omega (arith, room, v);
   fits = fits_begin s r (v ∙ sym (ap (λ (z : Stored). z.vars) store)) e (ap (λ (z : Stored). z.slots) store);
   unlocked = λ id k g. absurd (none_some k (sym (ap (λ (z : Stored). kept_at z.slots id) store) ∙ g));
+  explained = subst (AreExplained (why t.program)) (sym e) (explained_none (why t.program));
 }
 
 -- ---- a trail that is cut

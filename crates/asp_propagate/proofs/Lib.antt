@@ -4,3 +4,4 @@ pub mod AddLaws
 pub mod PropagateLaws
 pub mod LockLaws
 pub mod EngineLaws
+pub mod LateLaws

@@ -1,8 +1,8 @@
 -- What a propagator was told of a trail's first entries.
-use Rattle.std.proofs.Common.{◌≡◌, ◌≢◌, ℕ, suc, zero, ◌+◌, ◌-◌, ◌<◌, ◌≤◌, Bool, true, false, List, [], ◌∷◌, ◌++◌, length, take, fold, set, get_or, replicate, Option, Some, None, refl, sym, ap, ◌∙◌, subst, arith, get_or-set_same}
+use Rattle.std.proofs.Common.{◌≡◌, ◌≢◌, ℕ, suc, zero, ◌+◌, ◌-◌, ◌<◌, ◌≤◌, Bool, true, false, List, [], ◌∷◌, ◌++◌, length, take, set, get_or, replicate, Option, Some, None, refl, sym, ap, ◌∙◌, subst, arith, get_or-set_same}
 use Rattle.std.specs.List.{All, AllPairs}
 use Rattle.std.specs.Bool.{beq}
-use Rattle.std.proofs.lemmas.List.{take_more, take_all, take-take, take-append-le, length-set, length-append, length-take-le, length-replicate, get_or-take}
+use Rattle.std.proofs.lemmas.List.{take_more, take_all, take-take, take-append-le, length-append, length-take-le, get_or-take}
 use Rattle.std.proofs.lemmas.List.Sums.{fold-append}
 use Rattle.asp_vars.specs.Literals.{Literal, agrees, holds_in, value_of}
 use Rattle.asp_trail.specs.declared.trail.Entry.{Entry}
@@ -10,6 +10,7 @@ use Rattle.asp_trail.specs.Entries.{assign, assignment, cut}
 use Rattle.asp_trail.specs.Trails.{Trailed, IsOrdered}
 use Rattle.asp_trail.specs.Told.{Told, told, untold}
 use Rattle.asp_trail.proofs.EntryLaws.{fold_without, none_at, unset, same_default}
+use Rattle.asp_trail.proofs.HeldLaws.{length_assigned}
 use Rattle.asp_store.proofs.WatchLaws.{IsFront, front}
 use Rattle.asp_propagate.specs.Propagating.{WasTold}
 
@@ -26,13 +27,6 @@ no_value vars es i d o h = fold_without (replicate (vars + 1) None) (take i es) 
         let n : length (take i es) ≡ i = length-take-le i es (omega arith) in
         let lt : j < i = omega arith in
         o.apart j i d lt h (sym (ap (λ (e : Entry). e.lit.var) (get_or-take i es j f lt ∙ same_default es j f d (omega arith))) ∙ q)
-
-length_fold : (z : List (Option Bool)) (es : List Entry) → length (fold assign z es) ≡ length z
-length_fold z [] = refl
-length_fold z (e ∷ es) = length_fold (assign z e) es ∙ length-set z e.lit.var (Some e.lit.truth)
-
-pub length_assigned : (vars : ℕ) (es : List Entry) → length (assignment vars es) ≡ vars + 1
-length_assigned vars es = length_fold (replicate (vars + 1) None) es ∙ length-replicate {A = Option Bool} (vars + 1) None
 
 beq_itself : (b : Bool) → beq b b ≡ true
 beq_itself true = refl

@@ -1,5 +1,5 @@
 -- The slots where the reasons on a trail are locked.
-use Rattle.std.specs.Prelude.{ℕ, ◌≡◌, ◌<◌, Bool, List, length, Option, Some, None, slice_set, slice_index_or, fold}
+use Rattle.std.specs.Prelude.{ℕ, Bool, List, Option, Some, None, slice_set, fold}
 use Rattle.asp_trail.specs.declared.trail.Entry.{Entry}
 use Rattle.asp_store.specs.declared.stored_nogood.StoredNogood.{StoredNogood}
 use Rattle.asp_store.specs.Keeping.{kept_at, with_lock}
@@ -12,7 +12,3 @@ lock_reason b slots (Some id) = slice_set slots id (with_lock b (kept_at slots i
 -- those of the reasons of all entries
 abbrev pub lock_all : Bool → List Entry → List (Option StoredNogood) → List (Option StoredNogood)
 lock_all b entries slots = fold (λ xs e. lock_reason b xs e.reason) slots entries
-
--- Each reason has a slot.
-abbrev pub HaveSlots : List Entry → ℕ → Type 0
-HaveSlots entries n = (i : ℕ) (d : Entry) (id : ℕ) → i < length entries → (slice_index_or entries i d).reason ≡ Some id → id < n

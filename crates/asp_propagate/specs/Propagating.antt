@@ -16,6 +16,7 @@ use Rattle.asp_store.specs.declared.stored_nogood.Kind.{Kind}
 use Rattle.asp_store.specs.declared.stored_nogood.Kind.TheVariants as kind
 use Rattle.asp_store.specs.Keeping.{kept_at, nogood_at, IsAddedAt}
 use Rattle.asp_store.specs.Fitting.{IsImpliedAt}
+use Rattle.asp_propagate.specs.Late.{AreExplained}
 use Rattle.asp_store.specs.Storing.{Stored, Fits, IsAdded}
 
 -- Literals of the program's variables hold, nogoods are kept, and maybe a bound stands.
@@ -69,12 +70,14 @@ pub record WasTold (told : Told) (trail : Trailed) (n : ℕ) : Type 0 where
 abbrev pub AreUnlocked : List (Option StoredNogood) → Type 0
 AreUnlocked slots = (id : ℕ) (k : StoredNogood) → kept_at slots id ≡ Some k → k.locked ≡ false
 
--- The store fits the trail, which has room for all variables, and the propagator was told of the first n entries.
-pub record IsFollowed (t : Told) (store : Stored) (trail : Trailed) (n : ℕ) : Type 0 where
+-- The store fits the trail, which has room for all variables, and the propagator was told of the first n entries. It can explain
+-- those whose reasons no nogood is kept for.
+pub record IsFollowed (why : Program → List Entry → Literal → ℕ → Type 0) (t : Told) (store : Stored) (trail : Trailed) (n : ℕ) : Type 0 where
   pub told : WasTold t trail n
   pub room : trail.vars ≤ trail.room
   pub fits : Fits store trail
   pub unlocked : AreUnlocked store.slots
+  pub explained : AreExplained (why t.program) trail.entries
 
 -- ---- propagation
 -- It passes, came from a propagator, and isn't locked.
@@ -108,10 +111,18 @@ pub record IsFixpoint (silent : List (Option Bool) → Type 0) (slots : List (Op
   pub fixpoint : AreAtFixpoint slots a
   pub says_nothing : silent a
 
--- What comes of asking: the propagator is silent, or it gives a nogood that is unit or violated, which is kept.
-abbrev pub Asked : (List (Option Bool) → Type 0) → (Nogood → Type 0) → List (Option Bool) → Stored → Stored → Bool → Type 0
-Asked silent gives a old new false = (new ≡ old) × silent a
-Asked silent gives a old new true = (n : Nogood) × (id : ℕ) × IsAdded old new id n kind.Given × gives n × (is_at_fixpoint a n.lits ≡ false)
+-- The propagator gave a nogood that is unit or violated, which is kept.
+pub record HasGiven (gives : Nogood → Type 0) (a : List (Option Bool)) (old new : Stored) : Type 0 where
+  pub nogood : Nogood
+  pub id : ℕ
+  pub added : IsAdded old new id nogood kind.Given
+  pub passes : gives nogood
+  pub wanted : is_at_fixpoint a nogood.lits ≡ false
+
+-- What comes of asking: the propagator is silent, or a nogood was kept, or an entry came.
+abbrev pub Asked : (List (Option Bool) → Type 0) → (Nogood → Type 0) → List (Option Bool) → Stored → Stored → List Entry → List Entry → Bool → Type 0
+Asked silent gives a old new es fs false = (new ≡ old) × (fs ≡ es) × silent a
+Asked silent gives a old new es fs true = HasGiven gives a old new ⊎ length es < length fs
 
 -- ---- reduction
 -- Nogoods were dropped, but none that is kept forever or that an entry names. All others are as they were.

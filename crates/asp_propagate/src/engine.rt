@@ -4,11 +4,14 @@
 //! others.
 ghost use Rattle.std.specs.Prelude.{◌≡◌, ℕ, ◌<◌, ◌+◌, ◌^◌, [], Some, None, IfOk, OnErr, IfSome, IfNone, length, replicate, if◌then◌else◌};
 ghost use Rattle.std.specs.List.{All};
+ghost use Rattle.asp_model.specs.Sound.{IsSound};
 ghost use Rattle.asp_vars.specs.Literals.{value_of};
 ghost use Rattle.asp_vars.specs.Numbering.{var_count};
 ghost use Rattle.asp_trail.specs.Entries.{level, cut};
 ghost use Rattle.asp_trail.specs.Trails.{IsVar};
 ghost use Rattle.asp_store.specs.Fitting.{HaveReasons};
+ghost use Rattle.asp_trail.specs.Reasons.{AreAsked, AreReasons, AreImpliedBy};
+ghost use Rattle.asp_propagate.specs.Late.{CanAsk, IsSaid, IsAtHand};
 ghost use Rattle.asp_store.specs.Keeping.{kept_at, unless_given};
 ghost use Rattle.asp_store.specs.Walking.{IsViolated};
 ghost use Rattle.asp_propagate.specs.Useful.{IsSmaller};
@@ -21,7 +24,7 @@ use crate::telling::{untell, untell_above};
 use asp_model::cost::Cost;
 use asp_store::store::Store;
 use asp_store::stored_nogood::Kind;
-use asp_trail::reasons::NogoodId;
+use asp_trail::reasons::{LATE, NogoodId, Reasons};
 use asp_trail::trail::Trail;
 use asp_vars::lit::Lit;
 use asp_vars::nogood::Nogood;
@@ -48,7 +51,7 @@ impl<P: Propagator> Model for Engine<P> {
 
     ghost view = { λ p. record { program = (P.told p.propagator).program; entries = p.trail.entries; slots = p.store.slots; bound = P.bound p.propagator } };
 
-    ghost invariant = { λ p. IsFollowed (P.told p.propagator) p.store p.trail p.told };
+    ghost invariant = { λ p. IsFollowed P.explains (P.told p.propagator) p.store p.trail p.told };
 }
 
 impl<P: Propagator> Engine<P> {
@@ -80,12 +83,17 @@ impl<P: Propagator> Engine<P> {
         &self.trail
     }
 
-    /// The nogoods. Each entry that was implied names one, which is its reason.
+    /// The nogoods. Each entry that was implied names one, which is its reason, or one can be had for it.
     pub fn store(&self) -> &Store
         ensures vars { result.now.vars ≡ var_count self.now.program }
         ensures slots { result.now.slots ≡ self.now.slots }
         ensures reasons { HaveReasons self.now.slots self.now.entries }
+        ensures asked { AreAsked (CanAsk (P.explains self.now.program) self.now.slots self.now.entries) self.now.entries }
+        ensures said { AreReasons (IsSaid (P.late self.now.program) self.now.slots self.now.entries) self.now.entries }
+        ensures implied { IsSound self.now.program → AreImpliedBy (IsAtHand (P.late self.now.program) self.now.slots) self.now.entries }
     {
+        let _len = self.trail.len();
+        let _extra = self.store.extra();
         &self.store
     }
 
@@ -139,6 +147,7 @@ impl<P: Propagator> Engine<P> {
     {
         let _value = self.trail.value(lit.var());
         let _len = self.trail.len();
+        let _extra = self.store.extra();
         self.trail.imply(lit, id);
     }
 
@@ -217,5 +226,32 @@ impl<P: Propagator> Engine<P> {
         lock_reasons(&mut self.store, &self.trail, true);
         self.store.drop_given();
         lock_reasons(&mut self.store, &self.trail, false);
+    }
+}
+
+impl<P: Propagator> Reasons for Engine<P> {
+    ghost use Rattle.asp_propagate.specs.Late.{CanAsk as may_ask, IsSaid as is_said};
+
+    ghost asks = { λ e l id. may_ask (P.explains e.program) e.slots e.entries l id };
+
+    ghost says = { λ e l id n. is_said (P.late e.program) e.slots e.entries l id n };
+
+    fn kept(&self, lit: Lit, id: NogoodId) -> Option<&Nogood> {
+        let _ = lit;
+        if id < LATE {
+            Some(self.store.nogood(id))
+        } else {
+            None
+        }
+    }
+
+    fn write(&self, lit: Lit, id: NogoodId) -> Result<Nogood, AllocError> {
+        if id < LATE {
+            return self.store.nogood(id).copy();
+        }
+        let _len = self.trail.len();
+        let place = self.trail.place_of(lit.var());
+        self.propagator
+            .explain(&self.trail, place, (id - LATE) as u32)
     }
 }

@@ -2,7 +2,7 @@
 ghost use Rattle.std.specs.Prelude.{◌≡◌, ◌<◌, length, slice_index_or};
 ghost use Rattle.asp_trail.specs.declared.trail.Entry.{Entry};
 ghost use Rattle.asp_store.specs.Storing.{locked_at};
-ghost use Rattle.asp_propagate.specs.Locking.{lock_reason, lock_all, HaveSlots};
+ghost use Rattle.asp_propagate.specs.Locking.{lock_reason, lock_all};
 
 use asp_store::store::Store;
 use asp_trail::reasons::NogoodId;
@@ -22,17 +22,17 @@ fn set_lock(store: &mut Store, id: NogoodId, locked: bool)
 // Locks the reason of an entry, or lets it be dropped.
 fn lock_at(store: &mut Store, trail: &Trail, i: usize, locked: bool)
     requires within { i < length trail.now.entries }
-    requires slots { HaveSlots trail.now.entries (length store.old.slots) }
     ensures { (d : Entry) → store.new ≡ record store.old { slots = lock_reason locked store.old.slots (slice_index_or trail.now.entries i d).reason } }
 {
     if let Some(id) = trail.reason_at(i) {
-        set_lock(store, id, locked);
+        if store.has_slot(id) {
+            set_lock(store, id, locked);
+        }
     }
 }
 
 /// Locks the reasons of all entries, or lets them be dropped.
 pub fn lock_reasons(store: &mut Store, trail: &Trail, locked: bool)
-    requires { HaveSlots trail.now.entries (length store.old.slots) }
     ensures { store.new ≡ record store.old { slots = lock_all locked trail.now.entries store.old.slots } }
 {
     for i in 0..trail.len() {

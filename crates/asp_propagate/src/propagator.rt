@@ -1,17 +1,20 @@
 //! What is asked of a part that follows the assignment beside the store.
 //!
 //! It is told of each literal that comes to hold, and of each that is taken back. Asked, it gives a nogood that is unit
-//! or violated and counts for a search, or none, where it has nothing to say.
-ghost use Rattle.std.specs.Prelude.{◌≡◌, Some, None, true, false, IfOk, IfSome, IfNone};
-ghost use Rattle.std.specs.List.{All};
+//! or violated and counts for a search, or a literal that follows, or nothing, where it has nothing to say. Of such a
+//! literal it writes the reason when it is asked for.
+ghost use Rattle.std.specs.Prelude.{◌≡◌, ◌<◌, Some, None, true, IfOk, IfSome, IfNone, length, take, slice_index_or};
 ghost use Rattle.asp_vars.specs.Literals.{value_of, holds_in};
 ghost use Rattle.asp_vars.specs.Numbering.{var_count};
 ghost use Rattle.asp_trail.specs.Entries.{assignment};
 ghost use Rattle.asp_trail.specs.Trails.{IsVar};
-ghost use Rattle.asp_trail.specs.Fixpoint.{is_at_fixpoint};
+ghost use Rattle.asp_trail.specs.Reasons.{IsReason};
+ghost use Rattle.asp_trail.specs.declared.trail.Entry.{Entry};
+ghost use Rattle.asp_propagate.specs.Saying.{IsToSay};
 ghost use Rattle.asp_propagate.specs.Useful.{IsSmaller};
 
 use asp_model::cost::Cost;
+use asp_trail::said::Said;
 use asp_trail::trail::Trail;
 use asp_vars::lit::Lit;
 use asp_vars::nogood::Nogood;
@@ -19,11 +22,14 @@ use std::alloc::AllocError;
 
 /// A part that follows the assignment.
 pub trait Propagator: Drop {
-    ghost use Rattle.std.specs.Prelude.{List, Option, Bool, ℤ};
+    ghost use Rattle.std.specs.Prelude.{ℕ, List, Option, Bool, ℤ};
     ghost use Rattle.asp_model.specs.declared.program.Program.{Program};
     ghost use Rattle.asp_model.specs.Sets.{Atoms};
     ghost use Rattle.asp_model.specs.Sound.{IsSound};
     ghost use Rattle.asp_vars.specs.declared.nogood.Nogood.{Nogood};
+    ghost use Rattle.asp_vars.specs.Literals.{Literal};
+    ghost use Rattle.asp_trail.specs.declared.trail.Entry.{Entry};
+    ghost use Rattle.asp_trail.specs.Trails.{IsOrdered};
     ghost use Rattle.asp_trail.specs.Told.{Told, told as tell, untold as untell};
     ghost use Rattle.asp_propagate.specs.Useful.{IsUseful};
     ghost use Rattle.asp_propagate.specs.Whole.{IsWhole, KeepsAll};
@@ -39,6 +45,12 @@ pub trait Propagator: Drop {
 
     /// That it has nothing to say of a program and a bound under these values.
     ghost silent: { Program → Option (List ℤ) → List (Option Bool) → Type 0 };
+
+    /// That a literal follows from entries, by this name.
+    ghost explains: { Program → List Entry → Literal → ℕ → Type 0 };
+
+    /// What it may write for a program when it is asked for a reason.
+    ghost late: { Program → Nogood → Type 0 };
 
     /// The literal holds from now on.
     fn assign(&mut self, lit: Lit)
@@ -60,17 +72,32 @@ pub trait Propagator: Drop {
         ensures bound { bound self.new ≡ Some cost }
         ensures stays { told self.new ≡ told self.old };
 
-    /// A nogood that is unit or violated under the values told, if it has one.
+    /// What it has to say under the values told, if it isn't silent.
     ///
     /// Want of memory is the one error. Whatever comes, the values and the bound stay.
-    fn next(&mut self, trail: &Trail) -> Result<Option<Nogood>, AllocError>
-        requires { (told self.old).values ≡ assignment trail.now.vars trail.now.entries }
+    fn next(&mut self, trail: &Trail) -> Result<Option<Said>, AllocError>
+        requires vars { trail.now.vars ≡ var_count (told self.old).program }
+        requires values { (told self.old).values ≡ assignment trail.now.vars trail.now.entries }
         ensures values { told self.new ≡ told self.old }
         ensures stays { bound self.new ≡ bound self.old }
         ensures fixpoint { IfOk result (λ n. IfNone n (silent (told self.old).program (bound self.old) (told self.old).values)) }
-        ensures given { IfOk result (λ n. IfSome n (gives (told self.old).program (bound self.old))) }
-        ensures within { IfOk result (λ n. IfSome n (λ m. All (λ l. IsVar (var_count (told self.old).program) l.var) m.lits)) }
-        ensures wanted { IfOk result (λ n. IfSome n (λ m. is_at_fixpoint (told self.old).values m.lits ≡ false)) };
+        ensures said { IfOk result (λ n. IfSome n (IsToSay (gives (told self.old).program (bound self.old)) (explains (told self.old).program) (var_count (told self.old).program) trail.now.entries)) };
+
+    /// The nogood by which the literal at a place followed, as it was said to by this name.
+    ///
+    /// Want of memory is the one error.
+    fn explain(&self, trail: &Trail, place: usize, name: u32) -> Result<Nogood, AllocError>
+        requires vars { trail.now.vars ≡ var_count (told self.now).program }
+        requires place { place < length trail.now.entries }
+        requires explained { (d : Entry) → explains (told self.now).program (take place trail.now.entries) (slice_index_or trail.now.entries place d).lit name }
+        ensures late { IfOk result (late (told self.now).program) }
+        ensures reason { IfOk result (λ n. (d : Entry) → IsReason trail.now.entries place (slice_index_or trail.now.entries place d).lit n.lits) };
+
+    /// What it may write it may give under each bound.
+    ghost given: { (p : Program) (b : Option (List ℤ)) (n : Nogood) → late p n → gives p b n };
+
+    /// What follows has a reason that it may write.
+    ghost reasoned: { (p : Program) (es : List Entry) (l : Literal) (name : ℕ) → IsSound p → IsOrdered (var_count p) es → explains p es l name → (n : Nogood) × late p n × IsReason es (length es) l n.lits };
 
     /// What it gives counts for a search, whatever answers are known.
     ghost sound: { (p : Program) (b : Option (List ℤ)) (n : Nogood) (known : List Atoms) → IsSound p → gives p b n → IsUseful p known b n };

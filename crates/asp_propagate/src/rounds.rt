@@ -3,8 +3,10 @@
 //! The store goes first, until it is at fixpoint, and only then is the propagator told and asked: what is undone after a
 //! violated nogood of the store costs the propagator nothing. What it gives is kept, and is unit or violated, so that
 //! the store goes on.
-ghost use Rattle.std.specs.Prelude.{◌≡◌, ◌≤◌, ◌+◌, ℕ, length, IfOk, OnOk, IfSome, IfNone};
-ghost use Rattle.asp_trail.specs.Entries.{assignment};
+ghost use Rattle.std.specs.Prelude.{◌≡◌, ◌≤◌, ◌+◌, ◌^◌, ◌++◌, ◌∷◌, [], Some, None, length, IfOk, OnOk, IfSome, IfNone};
+ghost use Rattle.asp_trail.specs.Entries.{assignment, level};
+ghost use Rattle.asp_trail.specs.Trails.{IsVar};
+ghost use Rattle.asp_vars.specs.Literals.{value_of};
 ghost use Rattle.asp_store.specs.Walking.{IsViolated};
 ghost use Rattle.asp_propagate.specs.Propagating.{WasTold, IsFollowed, GoesOn, AreAtFixpoint, IsFixpoint, Asked};
 
@@ -13,8 +15,10 @@ use crate::telling::tell;
 use asp_store::propagation::Propagated;
 use asp_store::store::Store;
 use asp_store::stored_nogood::Kind;
-use asp_trail::reasons::NogoodId;
+use asp_trail::reasons::{LATE, NogoodId};
+use asp_trail::said::Said;
 use asp_trail::trail::Trail;
+use asp_vars::lit::Lit;
 use std::alloc::AllocError;
 
 // What the store finds. Where it is at fixpoint, the propagator is told of all entries.
@@ -24,8 +28,8 @@ fn settle<P: Propagator>(
     store: &mut Store,
     told: &mut usize,
 ) -> Result<Option<NogoodId>, AllocError>
-    requires { IsFollowed (P.told propagator.old) store.old trail.old told.old }
-    ensures followed { IsFollowed (P.told propagator.new) store.new trail.new told.new }
+    requires { IsFollowed P.explains (P.told propagator.old) store.old trail.old told.old }
+    ensures followed { IsFollowed P.explains (P.told propagator.new) store.new trail.new told.new }
     ensures goes { GoesOn (P.gives (P.told propagator.old).program (P.bound propagator.old)) (P.told propagator.old) (P.told propagator.new) (P.bound propagator.old) (P.bound propagator.new)
         store.old.slots store.new.slots trail.old.entries trail.new.entries }
     ensures same { store.new.slots ≡ store.old.slots }
@@ -46,27 +50,40 @@ fn settle<P: Propagator>(
     }
 }
 
-// Keeps what the propagator gives. Says whether it gave something.
+// A literal follows whose reason isn't written.
+fn imply_late(trail: &mut Trail, lit: Lit, name: u32)
+    requires var { IsVar trail.old.vars lit.var }
+    requires none { value_of (assignment trail.old.vars trail.old.entries) lit.var ≡ None }
+    requires room { trail.old.vars ≤ trail.old.room }
+    ensures { trail.new ≡ record trail.old { entries = trail.old.entries ++ record { lit = lit; level = level trail.old.entries; reason = Some (2 ^ 31 + name) } ∷ [] } }
+{
+    let _value = trail.value(lit.var());
+    trail.imply(lit, LATE + name as usize);
+}
+
+// Keeps the nogood that the propagator gives, or implies the literal that it says. Says whether it had something to say.
 fn ask<P: Propagator>(
     propagator: &mut P,
-    trail: &Trail,
+    trail: &mut Trail,
     store: &mut Store,
 ) -> Result<bool, AllocError>
-    requires told { WasTold (P.told propagator.old) trail.now (length trail.now.entries) }
-    requires vars { trail.now.vars ≡ store.old.vars }
-    ensures values { P.told propagator.new ≡ P.told propagator.old }
-    ensures bound { P.bound propagator.new ≡ P.bound propagator.old }
+    requires { IsFollowed P.explains (P.told propagator.old) store.old trail.old (length trail.old.entries) }
+    ensures followed { IsFollowed P.explains (P.told propagator.new) store.new trail.new (length trail.old.entries) }
+    ensures same { trail.new ≡ record trail.old { entries = trail.new.entries } }
     ensures ok { IfOk result (Asked (P.silent (P.told propagator.old).program (P.bound propagator.old)) (P.gives (P.told propagator.old).program (P.bound propagator.old))
-        (assignment trail.now.vars trail.now.entries) store.old store.new) }
+        (assignment trail.old.vars trail.old.entries) store.old store.new trail.old.entries trail.new.entries) }
     ensures goes { GoesOn (P.gives (P.told propagator.old).program (P.bound propagator.old)) (P.told propagator.old) (P.told propagator.new) (P.bound propagator.old) (P.bound propagator.new)
-        store.old.slots store.new.slots trail.now.entries trail.now.entries }
-    ensures stays { (n : ℕ) → IsFollowed (P.told propagator.old) store.old trail.now n → IsFollowed (P.told propagator.new) store.new trail.now n }
+        store.old.slots store.new.slots trail.old.entries trail.new.entries }
 {
     let _len = trail.len();
     match propagator.next(trail)? {
         None => Ok(false),
-        Some(nogood) => {
+        Some(Said::Nogood(nogood)) => {
             let _id = store.add(nogood, Kind::Given, u32::MAX)?;
+            Ok(true)
+        }
+        Some(Said::Implied(implied)) => {
+            imply_late(trail, implied.lit, implied.name);
             Ok(true)
         }
     }
@@ -79,8 +96,8 @@ pub fn propagate<P: Propagator>(
     store: &mut Store,
     told: &mut usize,
 ) -> Result<Option<NogoodId>, AllocError>
-    requires { IsFollowed (P.told propagator.old) store.old trail.old told.old }
-    ensures followed { IsFollowed (P.told propagator.new) store.new trail.new told.new }
+    requires { IsFollowed P.explains (P.told propagator.old) store.old trail.old told.old }
+    ensures followed { IsFollowed P.explains (P.told propagator.new) store.new trail.new told.new }
     ensures goes { GoesOn (P.gives (P.told propagator.old).program (P.bound propagator.old)) (P.told propagator.old) (P.told propagator.new) (P.bound propagator.old) (P.bound propagator.new)
         store.old.slots store.new.slots trail.old.entries trail.new.entries }
     ensures fixpoint { IfOk result (λ r. IfNone r (IsFixpoint (P.silent (P.told propagator.old).program (P.bound propagator.old)) store.new.slots (assignment trail.new.vars trail.new.entries))) }

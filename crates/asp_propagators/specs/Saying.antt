@@ -1,24 +1,16 @@
 -- What the propagators of a program give, and when all of them are silent.
 use Rattle.std.specs.Prelude.{◌≡◌, ◌⊎◌, ℕ, true, Bool, List, Option, Some, ℤ}
-use Rattle.asp_model.specs.declared.program.Body.{Body}
 use Rattle.asp_model.specs.declared.program.Program.{Program}
 use Rattle.asp_model.specs.Sets.{Atoms}
 use Rattle.asp_vars.specs.Entailment.{Entailed, Below}
 use Rattle.asp_vars.specs.declared.nogood.Base.TheVariants as base
 use Rattle.asp_vars.specs.declared.nogood.Nogood.{Nogood}
 use Rattle.asp_loop.specs.LoopNogoods.{IsLoopNogood}
-use Rattle.asp_weight.specs.Definition.{Excludes}
+use Rattle.asp_weight.specs.Explained.{IsExcluded}
 use Rattle.asp_weight.specs.Silence.{is_silent as are_weights_silent}
 use Rattle.asp_bound.specs.Definition.{ExcludesBelow}
 use Rattle.asp_bound.specs.Silence.{is_silent as is_bound_silent}
 use Rattle.asp_source.specs.Loops.{IsUnfoundedLoop}
-
--- The definition of one weight body excludes it.
-pub record IsWeighed (p : Program) (n : Nogood) : Type 0 where
-  pub form : Body
-  pub excluded : Excludes p form n.lits
-  pub base : n.base ≡ base.Pure
-  pub entailed : Entailed p n.lits
 
 -- The costs below the bound that stands exclude it.
 pub record IsTooDear (p : Program) (bound : Option (List ℤ)) (n : Nogood) : Type 0 where
@@ -39,7 +31,7 @@ pub record IsOfLoop (p : Program) (n : Nogood) : Type 0 where
   pub entailed : Entailed p n.lits
 
 abbrev pub gives : Program → Option (List ℤ) → Nogood → Type 0
-gives p bound n = IsWeighed p n ⊎ (IsTooDear p bound n ⊎ IsOfLoop p n)
+gives p bound n = IsExcluded p n ⊎ (IsTooDear p bound n ⊎ IsOfLoop p n)
 
 -- The weight bodies and the bound imply nothing, and no loop is unfounded.
 pub record AreSilent (p : Program) (bound : Option (List ℤ)) (a : List (Option Bool)) : Type 0 where

@@ -14,6 +14,7 @@ use asp_model::cost::Cost;
 use asp_propagate::propagator::Propagator;
 use asp_recorder::recorder::Recorder;
 use asp_source::sources::Sources;
+use asp_trail::said::Said;
 use asp_trail::trail::Trail;
 use asp_vars::compiled::Compiled;
 use asp_vars::lit::Lit;
@@ -81,6 +82,9 @@ impl<'a> Propagators<'a> {
 }
 
 impl<'a> Propagator for Propagators<'a> {
+    ghost use Rattle.std.proofs.Common.{inl};
+    ghost use Rattle.asp_weight.specs.Explained.{IsExplained, IsExcluded};
+    ghost use Rattle.asp_weight.proofs.ExplainLaws.{reasoned as weights_reasoned};
     ghost use Rattle.asp_propagators.specs.Saying.{AreSilent, gives as may_give};
     ghost use Rattle.asp_propagators.specs.CountLaws.{gives-count};
     ghost use Rattle.asp_propagators.specs.WholeLaws.{silent-keeps};
@@ -90,6 +94,14 @@ impl<'a> Propagator for Propagators<'a> {
     ghost bound = { λ p. p.bound };
 
     ghost gives = { may_give };
+
+    ghost explains = { IsExplained };
+
+    ghost late = { IsExcluded };
+
+    ghost given = { λ p b n w. inl w };
+
+    ghost reasoned = { weights_reasoned };
 
     ghost silent = { AreSilent };
 
@@ -113,17 +125,22 @@ impl<'a> Propagator for Propagators<'a> {
         self.bound.set(cost);
     }
 
-    fn next(&mut self, trail: &Trail) -> Result<Option<Nogood>, AllocError> {
-        if let Some(nogood) = self.weights.next(trail)? {
-            return Ok(Some(nogood));
+    fn next(&mut self, trail: &Trail) -> Result<Option<Said>, AllocError> {
+        if let Some(said) = self.weights.next(trail)? {
+            return Ok(Some(said));
         }
         if let Some(nogood) = self.bound.next(trail)? {
-            return Ok(Some(nogood));
+            return Ok(Some(Said::Nogood(nogood)));
         }
         if let Some(nogood) = self.sources.next(trail)? {
             self.note(&nogood)?;
-            return Ok(Some(nogood));
+            return Ok(Some(Said::Nogood(nogood)));
         }
         Ok(None)
+    }
+
+    // Only weight bodies say that a reason is written later.
+    fn explain(&self, trail: &Trail, place: usize, name: u32) -> Result<Nogood, AllocError> {
+        self.weights.explain(trail, place, name)
     }
 }

@@ -6,7 +6,7 @@ use asp_text::Num;
 use std::alloc::{AllocError, AllocFailed};
 
 /// What is wrong with a line, or with the end of a text.
-#[derive(Clone, Copy, Debug, PartialEq, Eq)]
+#[derive(Clone, Copy)]
 pub enum FaultKind {
     /// The first line that isn't blank is no header of aspif 1.0.
     Header,
@@ -47,7 +47,7 @@ pub enum FaultKind {
 }
 
 /// A fault, and where on its line it is.
-#[derive(Clone, Copy, Debug, PartialEq, Eq)]
+#[derive(Clone, Copy)]
 pub struct Fault {
     /// What is wrong.
     pub kind: FaultKind,
@@ -57,7 +57,7 @@ pub struct Fault {
 }
 
 /// Why no program was read.
-#[derive(Clone, Copy, Debug, PartialEq, Eq)]
+#[derive(Clone, Copy)]
 pub enum ReadError {
     /// Memory ran out.
     Memory,

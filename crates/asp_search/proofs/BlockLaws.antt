@@ -1,5 +1,5 @@
 -- How an answer is kept from being found again.
-use Rattle.std.proofs.Common.{◌≡◌, ◌≢◌, ℕ, zero, suc, ◌+◌, ◌-◌, ◌<◌, Bool, true, false, cond, eqb, List, ◌∷◌, ◌++◌, length, get_or, set, take, drop, Option, Some, None, IsSome, find, inl, inr, ◌⊎◌, refl, sym, ap, ◌∙◌, subst, arith, take-append-drop, []}
+use Rattle.std.proofs.Common.{◌≡◌, ◌≢◌, ℕ, zero, suc, ◌+◌, ◌-◌, ◌^◌, ◌<◌, ◌≤◌, Bool, true, false, cond, eqb, List, ◌∷◌, ◌++◌, length, get_or, set, take, drop, Option, Some, None, IsSome, find, inl, inr, ◌⊎◌, refl, sym, ap, ◌∙◌, subst, arith, take-append-drop, []}
 use Rattle.std.specs.List.{All, starts_with}
 use Rattle.std.specs.Option.{unwrap_or}
 use Rattle.std.proofs.lemmas.Bool.{eqb-true}
@@ -25,6 +25,7 @@ use Rattle.asp_trail_laws.proofs.PlaceLaws.{blank, reason_at}
 use Rattle.asp_propagate.specs.Propagating.{IsUnnamed, IsReduced}
 use Rattle.asp_search_laws.specs.Keeping.{IsBlocking, AreBlocking}
 use Rattle.asp_search_laws.specs.Steps.{blocking_nogood}
+use Rattle.asp_store.proofs.GrowLaws.{kept_within as nogood_within}
 use Rattle.asp_store.proofs.KeepLaws.{added_stays}
 use Rattle.asp_search_laws.proofs.SlotLaws.{nogood_kept, kept_nogood, kept_within, added_each, added_apart, grows_forever, reduced_none, excluded_stay, blocking_stay, blocking_push, blocking_pop, removed_none, removed_other, removed_excluded, removed_blocking}
 use Rattle.asp_state.specs.SearchStates.{SearchView}
@@ -55,10 +56,10 @@ unvalued_no_reason vars es v id o none q =
     clash b e = cc
 
 -- an entry that names a nogood has its variable there
-pub unnamed : (vars : ℕ) (kept : ℕ → Option Nogood) (es : List Entry) (id : ℕ) (n : Nogood) → IsOrdered vars es → AreReasoned kept es → kept id ≡ Some n →
+pub unnamed : (vars : ℕ) (kept : ℕ → Option Nogood) (es : List Entry) (id : ℕ) (n : Nogood) → IsOrdered vars es → AreReasoned kept es → id < 2 ^ 31 → kept id ≡ Some n →
     All (λ l. reason_in es l.var ≢ Some id) n.lits → IsUnnamed es id
-unnamed vars kept es id n o r k none i d h q =
-    let w = r i d id h q in
+unnamed vars kept es id n o r small k none i d h q =
+    let w = r i d id h small q in
     let same : w.0 ≡ n = some_is w.0 n (sym w.1 ∙ k) in
     let has : has_literal n.lits (complement (get_or es i d).lit) ≡ true = subst (λ (m : Nogood). has_literal m.lits (complement (get_or es i d).lit) ≡ true) same w.2.has in
     all_has (λ l. reason_in es l.var ≢ Some id) n.lits (complement (get_or es i d).lit) none has (reason_at vars es i d (get_or es i d).lit o h refl ∙ q)
@@ -213,11 +214,11 @@ pub some_is : (o : Option Nogood) → IsSome o → (n : Nogood) × (o ≡ Some n
 some_is None h = cc
 some_is (Some n) h = (n, refl)
 
-pub redundant_from : (vars : ℕ) (slots : List (Option StoredNogood)) (es : List Entry) (lits : List Literal) (id : ℕ) (n : Nogood) → IsOrdered vars es → AreReasoned (nogood_at slots) es → nogood_at slots id ≡ Some n →
+pub redundant_from : (vars : ℕ) (slots : List (Option StoredNogood)) (es : List Entry) (lits : List Literal) (id : ℕ) (n : Nogood) → IsOrdered vars es → AreReasoned (nogood_at slots) es → length slots ≤ 2 ^ 31 → nogood_at slots id ≡ Some n →
     starts_with literal_eq n.lits lits ≡ true → All (λ l. reason_in es l.var ≢ Some id) n.lits → IsRedundant slots es lits id
-redundant_from vars slots es lits id n o r k begins none = record {
+redundant_from vars slots es lits id n o r few k begins none = record {
   within = λ m q. subst (λ (x : Nogood). IsWithin lits x.lits) (same_nogood n m (sym k ∙ q)) (begins_within n.lits lits begins);
-  unnamed = unnamed vars (nogood_at slots) es id n o r k none;
+  unnamed = unnamed vars (nogood_at slots) es id n o r (omega (arith, few, nogood_within slots id n k)) k none;
 }
 
 -- ---- the state, where the newest was kept, a level taken back, and others were dropped

@@ -75,15 +75,15 @@ module _ (gives : Nogood → Type 0) (md : Mode) (t : SearchView) (c : Paced) (k
   same_task = record { program = refl; mode = refl; cube = refl; known = refl; bound = refl }
 
   -- ---- closed
-  pub met_closes : (q : List Literal) (f : Units) (id : ℕ) (n : Nogood) → IsMet (view_of md t c known last) q id (learned.InCube n) →
+  pub met_closes : (q : List Literal) (f : Units) (id : ℕ) (n : Nogood) → IsMet gives (view_of md t c known last) q id (learned.InCube n) →
       Closes gives (view_of md t c known last) (view_of md t c known last) q f f
   met_closes q f id n m = record {
     same = same_task;
     fuel = refl;
     closing = n;
-    within = met_within md t c known last q id n m;
-    why = met_derived md t c known last q id gives (learned.InCube n) m;
-    settled = met_settled md t c known last q id n m;
+    within = met_within gives md t c known last q id n m;
+    why = met_derived gives md t c known last q id (learned.InCube n) m;
+    settled = met_settled gives md t c known last q id n m;
     decisions = refl;
     derived = derived_same t.program gives t.bound t.slots;
     learnt = refl;
@@ -159,7 +159,7 @@ module _ (gives : Nogood → Type 0) (md : Mode) (t : SearchView) (c : Paced) (k
 
   -- ---- learnt
   pub met_learns : (q : List Literal) (f g : Units) (x : Clash) (u : SearchView) (d : Paced) (slots : List (Option StoredNogood)) (ranking : Ranking) (id new to : ℕ) (n : Nogood) (lit : Literal) →
-      IsMet (view_of md t c known last) q id (learned.Jump n to lit) → IsConflictOf (view_of md t c known last) q x → 0 < f.left → g ≡ burnt f x → IsAddedAt t.slots slots new n kind.Learnt →
+      IsMet gives (view_of md t c known last) q id (learned.Jump n to lit) → IsConflictOf (view_of md t c known last) q x → 0 < f.left → g ≡ burnt f x → IsAddedAt t.slots slots new n kind.Learnt →
       u ≡ record t {
         entries = cut to t.entries ++ record { lit = lit; level = level (cut to t.entries); reason = Some new } ∷ [];
         decisions = take to t.decisions;
@@ -172,7 +172,7 @@ module _ (gives : Nogood → Type 0) (md : Mode) (t : SearchView) (c : Paced) (k
       let entry : Entry = record { lit = lit; level = level (cut to t.entries); reason = Some new } in
       let after : SearchView = record t { entries = cut to t.entries ++ entry ∷ []; decisions = take to t.decisions; slots = slots; ranking = ranking } in
       let later : Paced = record c { learnt = min (c.learnt + 1) (2 ^ 64 - 1) } in
-      let j : IsJump t.entries m.explains.from.lits n.lits to lit = met_jump md t c known last q id n to lit m in
+      let j : IsJump t.entries m.explains.from.lits n.lits to lit = met_jump gives md t c known last q id n to lit m in
       let start : take (length (cut to t.entries ++ entry ∷ []) - 1) (cut to t.entries ++ entry ∷ []) ≡ cut to t.entries = before_newest (cut to t.entries) (cut to t.entries ++ entry ∷ []) entry refl in
       let beside : All (IsBeside (assignment vars (cut to t.entries)) lit) n.lits = jump_beside vars t.entries m.explains.from.lits n.lits to lit m.ordered m.explains.contained j in
       let follows : FollowsByLast (view_of md after later known (Some new)) = record {
@@ -191,7 +191,7 @@ module _ (gives : Nogood → Type 0) (md : Mode) (t : SearchView) (c : Paced) (k
         follows = follows;
         decisions = (to, refl);
         grows = λ j k h ne. added_stays t.slots slots new n kind.Learnt added j k h;
-        derived = derived_added t.program gives t.bound t.slots slots new n kind.Learnt added (met_derived md t c known last q id gives (learned.Jump n to lit) m);
+        derived = derived_added t.program gives t.bound t.slots slots new n kind.Learnt added (met_derived gives md t c known last q id (learned.Jump n to lit) m);
         learnt = refl;
         restarts = refl;
       } in
@@ -245,6 +245,12 @@ module _ (gives : Nogood → Type 0) (md : Mode) (t : SearchView) (c : Paced) (k
   continues_ranked u ranking e =
       subst (λ (y : SearchView). Continues gives (view_of md t c known last) (view_of md y c known last)) (sym e)
       (record { same = refl; grows = grows_none t.slots; derived = derived_same t.program gives t.bound t.slots; longer = omega arith })
+
+-- ---- other activities
+pub continues_raised : (gives : Nogood → Type 0) (s m : Searching) (ranking : Ranking) → m ≡ record s { ranking = ranking } → Continues gives s m
+continues_raised gives s m ranking e =
+    subst (λ (y : Searching). Continues gives s y) (sym e)
+    (record { same = refl; grows = grows_none s.slots; derived = derived_same s.program gives s.bound s.slots; longer = omega arith })
 
 pub decided_none : (t u : SearchView) (ranking : Ranking) → u ≡ record t { decisions = u.decisions; entries = u.entries; ranking = ranking } → u.entries ≡ t.entries → u.decisions ≡ t.decisions →
     u ≡ record t { ranking = ranking }

@@ -19,14 +19,13 @@ use Rattle.asp_vars.specs.declared.nogood.Nogood.{Nogood}
 use Rattle.asp_trail.specs.declared.trail.Entry.{Entry}
 use Rattle.asp_trail.specs.Fixpoint.{is_at_fixpoint}
 use Rattle.asp_trail.specs.Trails.{IsOrdered}
-use Rattle.asp_store.specs.Fitting.{HaveReasons}
 use Rattle.asp_store.specs.Keeping.{nogood_at}
 use Rattle.asp_store.specs.Fitting.{AreSmall}
 use Rattle.asp_store.specs.declared.stored_nogood.StoredNogood.{StoredNogood}
 use Rattle.asp_order.specs.Pacing.{Paced}
 use Rattle.asp_order.specs.Waiting.{AreAssigned}
 use Rattle.asp_trail_laws.specs.Fixpoint.{AreAtFixpoint}
-use Rattle.asp_trail_laws.specs.Settling.{KeepsSettled}
+use Rattle.asp_trail_laws.specs.Settling.{AreSettled}
 use Rattle.asp_trail_laws.specs.Starts.{AreStarts}
 use Rattle.asp_trail_laws.specs.Whole.{AreBlocked, IsWhole, truths, atoms_on}
 use Rattle.asp_trail_laws.proofs.WholeLaws.{trail_valuation, set_value, whole_way}
@@ -34,8 +33,7 @@ use Rattle.asp_trail_laws.proofs.AnswerLaws.{answer_new, answer_settles}
 use Rattle.asp_propagate.specs.Propagating.{IsFixpoint}
 use Rattle.asp_propagate.specs.Whole.{KeepsAll}
 use Rattle.asp_propagate.specs.Whole as follow
-use Rattle.asp_propagate.proofs.UsefulLaws.{useful_settles}
-use Rattle.asp_search_laws.specs.Keeping.{AreUseful, AreExcluded}
+use Rattle.asp_search_laws.specs.Keeping.{AreExcluded}
 use Rattle.asp_search_laws.specs.Searching.{Searching}
 use Rattle.asp_search_laws.proofs.SlotLaws.{nogood_kept}
 use Rattle.asp_state.specs.SearchStates.{SearchView, values_of, IsForever, KeepsCompletion}
@@ -46,12 +44,11 @@ use Rattle.asp_search.specs.Stepping.{IsFound}
 pub record IsFull (silent : List (Option Bool) → Type 0) (known : List Atoms) (t : SearchView) (q : List Literal) : Type 0 where
   pub ordered : IsOrdered (var_count t.program) t.entries
   pub starts : AreStarts q t.decisions t.entries
-  pub reasons : HaveReasons t.slots t.entries
+  pub reasons : AreSettled t.program known t.bound t.entries
   pub small : AreSmall (var_count t.program) t.slots
   pub completed : KeepsCompletion t.program t.slots
   pub fixpoint : IsFixpoint silent t.slots (values_of t)
   pub assigned : AreAssigned (var_count t.program) (values_of t)
-  pub useful : AreUseful t.program known t.bound t.slots
   pub blocked : AreExcluded t.program t.slots known
 
 -- The set is an answer that these don't have, and costs less than the bound.
@@ -88,16 +85,13 @@ module _ (silent : List (Option Bool) → Type 0) (known : List Atoms) (t : Sear
   pub full_whole : IsWhole t.program (var_count t.program) t.entries
   full_whole = record { counted = refl; ordered = f.ordered; full = f.assigned; fixpoint = fixpoint_completion; weights = keeps.weights }
 
-  settled : KeepsSettled t.program known t.bound (nogood_at t.slots)
-  settled id n k = useful_settles t.program known t.bound n (f.useful id n k)
-
   pub full_new : is_stable t.program (atoms_on t.program (var_count t.program) t.entries) ≡ true → IsNew known t q (atoms_on t.program (var_count t.program) t.entries)
   full_new stable = record {
     stable = stable;
     hit = whole_way t.program (var_count t.program) t.entries full_whole q t.decisions f.starts;
     new = answer_new t.program known (var_count t.program) (nogood_at t.slots) t.entries full_whole (all_blocked t.program t.slots known f.blocked) f.small f.fixpoint.fixpoint;
     cheaper = keeps.cheaper;
-    settled = answer_settles t.program known t.bound (var_count t.program) (nogood_at t.slots) q t.decisions t.entries full_whole f.reasons settled f.starts;
+    settled = answer_settles t.program known t.bound (var_count t.program) q t.decisions t.entries full_whole f.reasons f.starts;
   }
 
 pub full_found : (silent : List (Option Bool) → Type 0) (m : Mode) (t : SearchView) (c : Paced) (K : List Atoms) (last : Option ℕ) (q : List Literal) → IsFull silent (used_up (reasoning_of m) t.program K) t q →

@@ -7,14 +7,13 @@ use Rattle.asp_model.specs.declared.results.Reasoning.{Reasoning}
 use Rattle.asp_model.specs.Asked.{reasoning_of}
 use Rattle.asp_model.specs.Consequences.{unshown}
 use Rattle.asp_model.specs.Sets.{Atoms}
-use Rattle.asp_vars.specs.Literals.{value_of, Literal}
+use Rattle.asp_vars.specs.Literals.{Literal}
 use Rattle.asp_vars.specs.Entailment.{IsSharedBy}
 use Rattle.asp_vars.specs.Numbering.{var_count}
 use Rattle.asp_vars.specs.declared.nogood.Base.{Base}
 use Rattle.asp_vars.specs.declared.nogood.Base.TheVariants as base
 use Rattle.asp_vars.specs.declared.nogood.Nogood.{Nogood}
-use Rattle.asp_trail.specs.declared.trail.Entry.{Entry}
-use Rattle.asp_trail.specs.Entries.{assignment, level, level_in}
+use Rattle.asp_trail.specs.Entries.{level}
 use Rattle.asp_trail.specs.Trails.{IsVar}
 use Rattle.asp_store.specs.declared.stored_nogood.StoredNogood.{StoredNogood}
 use Rattle.asp_store.specs.declared.stored_nogood.Kind.TheVariants as kind
@@ -108,7 +107,3 @@ has_var cube v = list_any (λ l. l.var == v) cube
 -- It is of one of the program's variables, which the cube hasn't got.
 abbrev pub IsOpen : Program → List Literal → Literal → Type 0
 IsOpen p cube l = IsVar (var_count p) l.var × (has_var cube l.var ≡ false)
-
--- It is false by what holds at level 0.
-abbrev pub IsTakenBack : ℕ → List Entry → Literal → Type 0
-IsTakenBack vars entries l = (value_of (assignment vars entries) l.var ≡ Some (not l.truth)) × (level_in entries l.var ≡ 0)

@@ -12,27 +12,29 @@ use Rattle.asp_vars.specs.Paid.{Clash}
 use Rattle.asp_vars.specs.declared.nogood.Nogood.{Nogood}
 use Rattle.asp_trail.specs.Entries.{level_in}
 use Rattle.asp_trail.specs.Trails.{IsOrdered}
-use Rattle.asp_store.specs.Fitting.{HaveReasons}
 use Rattle.asp_store.specs.Keeping.{nogood_at}
 use Rattle.asp_analyze.specs.declared.learn.Learned.{Learned}
 use Rattle.asp_trail_laws.specs.Fixpoint.{WereAtFixpoint}
+use Rattle.asp_trail_laws.specs.Settling.{AreSettled}
 use Rattle.asp_trail_laws.specs.Starts.{AreStarts}
+use Rattle.asp_propagate.specs.Useful.{IsUseful}
 use Rattle.asp_search_laws.specs.Explaining.{Explains}
 use Rattle.asp_search_laws.specs.Keeping.{AreUseful}
 use Rattle.asp_search_laws.specs.Searching.{Searching, used}
 use Rattle.asp_state.specs.SearchStates.{SearchView, values_of}
 
 -- What is known where a violated nogood was analysed.
-pub record IsMet (s : Searching) (q : List Literal) (id : ℕ) (l : Learned) : Type 0 where
+pub record IsMet (gives : Nogood → Type 0) (s : Searching) (q : List Literal) (id : ℕ) (l : Learned) : Type 0 where
   pub entered : s.cube ≡ Some q
   pub clear : s.clashing ≡ false
   pub last : s.last ≡ None
   pub ordered : IsOrdered (var_count s.program) s.entries
   pub starts : AreStarts q s.decisions s.entries
   pub fixpoint : WereAtFixpoint (var_count s.program) (completion s.program) s.entries
-  pub reasons : HaveReasons s.slots s.entries
+  pub reasons : AreSettled s.program (used s) s.bound s.entries
   pub useful : AreUseful s.program (used s) s.bound s.slots
-  pub explains : Explains (var_count s.program) s.slots s.entries id l
+  pub given : (n : Nogood) → gives n → IsUseful s.program (used s) s.bound n
+  pub explains : Explains gives (var_count s.program) s.slots s.entries id l
 
 -- The nogood under this number shows a conflict of the cube and the decisions up to the literal's level.
 pub record ShowsConflict (p : Program) (known : List Atoms) (bound : Option (List ℤ)) (t : SearchView) (id : ℕ) (lit : Literal) : Type 0 where

@@ -20,7 +20,7 @@ ghost use Rattle.asp_search.specs.Blocking.{IsRedundant, Drops, Blocks, Spares};
 use asp_propagate::propagator::Propagator;
 use asp_state::state::SearchState;
 use asp_store::stored_nogood::Kind;
-use asp_trail::reasons::{NogoodId, Reasons};
+use asp_trail::reasons::NogoodId;
 use asp_trail::trail::Trail;
 use asp_vars::lit::{Lit, Var};
 use std::alloc::{AllocError, Global};

@@ -20,7 +20,7 @@ use asp_model::results::Reasoning;
 use asp_propagate::propagator::Propagator;
 use asp_state::state::SearchState;
 use asp_store::stored_nogood::Kind;
-use asp_trail::reasons::{NogoodId, Reasons};
+use asp_trail::reasons::NogoodId;
 use asp_vars::compiled::Compiled;
 use asp_vars::fuel::Conflict;
 use asp_vars::lit::Lit;
@@ -36,10 +36,15 @@ pub(crate) fn learn<P: Propagator>(
     requires vars { learner.old ≡ var_count state.now.program }
     requires violated { IsViolated (var_count state.now.program) state.now.slots state.now.entries id }
     ensures same { learner.new ≡ learner.old }
-    ensures explains { IfOk result (Explains (var_count state.now.program) state.now.slots state.now.entries id) }
+    ensures explains { IfOk result (Explains (P.gives state.now.program state.now.bound) (var_count state.now.program) state.now.slots state.now.entries id) }
 {
-    let store = state.store();
-    learner.learn(state.trail(), store, store.lits(id), store.base(id))
+    let nogood = state.store().nogood(id);
+    learner.learn(
+        state.trail(),
+        state.reasons(),
+        nogood.lits.as_slice(),
+        &nogood.base,
+    )
 }
 
 fn copy_bound(bound: &Option<Cost>) -> Result<Option<Cost>, AllocError>

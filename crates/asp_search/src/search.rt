@@ -15,12 +15,13 @@ ghost use Rattle.asp_store.specs.Keeping.{is_extra, nogood_at};
 ghost use Rattle.asp_propagate.specs.Useful.{IsSmaller};
 ghost use Rattle.asp_search_laws.specs.Searching.{used};
 ghost use Rattle.asp_search_laws.specs.Steps.{is_of_use};
-ghost use Rattle.asp_search.specs.Beside.{new_search, Adopts, Enters, Leaves, count_unshown, left_to_show, is_local, is_shared, kept_last, only_shared, exported, Imports, IsOpen, IsShared, IsTakenBack, has_var};
+ghost use Rattle.asp_search.specs.Beside.{new_search, Adopts, Enters, Leaves, count_unshown, left_to_show, is_local, is_shared, kept_last, only_shared, exported, Imports, IsOpen, IsShared, has_var};
 ghost use Rattle.asp_search.specs.Invariants.{IsSeen, answers_known};
 ghost use Rattle.asp_state.specs.SearchStates.{KeepsCompletionAlone};
 
 use crate::covering::renew;
 use crate::litter::Litter;
+use crate::route::{Route, Turn};
 use crate::spread::Spread;
 use asp_analyze::learn::Learner;
 use asp_model::cost::Cost;
@@ -33,7 +34,7 @@ use asp_stable::checker::Checker;
 use asp_state::state::SearchState;
 use asp_store::store::Store;
 use asp_store::stored_nogood::Kind;
-use asp_trail::reasons::{NogoodId, Reasons};
+use asp_trail::reasons::NogoodId;
 use asp_vars::compiled::Compiled;
 use asp_vars::known::Known;
 use asp_vars::lit::{Lit, Var};
@@ -81,6 +82,8 @@ pub struct Search<'a, P: Propagator> {
     pub(crate) bound: Option<Cost>,
     // the nogood that the last step learnt, or by which it blocks an answer
     pub(crate) last: Option<NogoodId>,
+    // in an enumeration the way on which answers were found, where the path is to be split
+    pub(crate) route: Route,
 }
 
 impl<'a, P: Propagator> Model for Search<'a, P> {
@@ -162,12 +165,13 @@ fn copy_shared(alloc: Global, store: &Store, id: NogoodId) -> Result<Option<Nogo
     requires { IsSome (nogood_at store.now.slots id) }
     ensures { IfOk result (λ copy. copy ≡ only_shared (nogood_at store.now.slots id)) }
 {
-    let (lits, base) = (store.lits(id), store.base(id));
-    if !is_shared(lits, base) {
+    let nogood = store.nogood(id);
+    let lits = nogood.lits.as_slice();
+    if !is_shared(lits, &nogood.base) {
         return Ok(None);
     }
     let lits = Lits::from_slice(alloc, lits)?;
-    let base = base.copy()?;
+    let base = nogood.base.copy()?;
     Ok(Some(Nogood { lits, base }))
 }
 
@@ -216,6 +220,7 @@ impl<'a, P: Propagator> Search<'a, P> {
             held: Vec::new(alloc),
             bound: None,
             last: None,
+            route: Route::new(alloc),
         })
     }
 
@@ -234,6 +239,7 @@ impl<'a, P: Propagator> Search<'a, P> {
         ensures err { OnErr result (Leaves self.old self.new) }
     {
         self.last = None;
+        self.route.reach(cube);
         self.state.enter(self.alloc, cube)?;
         self.pace.begin();
         Ok(())
@@ -397,20 +403,56 @@ impl<'a, P: Propagator> Search<'a, P> {
         !has_var(self.state.cube(), var)
     }
 
-    /// Whether a literal is false by what holds under the cube, without a decision.
-    pub fn is_taken_back(&self, lit: Lit) -> bool
-        requires { IsVar (var_count self.now.program) lit.var }
-        ensures { IsTrue result ↔ IsTakenBack (var_count self.now.program) self.now.entries lit }
+    /// From now on it keeps the way on which answers are found in an enumeration, and takes it again after restarts and in a half
+    /// of its path.
+    pub fn keep_route(&mut self)
+        ensures { self.new ≡ self.old }
     {
+        self.route.keep();
+    }
+
+    // The first turn of the way that isn't settled on the path.
+    fn front(&self) -> Option<Turn> {
+        let vars = self.compiled.vars();
         let trail = self.state.trail();
-        match trail.value(lit.var()) {
-            None => false,
-            Some(truth) => truth != lit.truth() && trail.level_of(lit.var()) == 0,
+        self.route.front(self.state.cube().len(), trail, vars)
+    }
+
+    // The literal, if the path can be split by it.
+    fn if_open(&self, lit: Lit) -> Option<Lit>
+        ensures { (q : List Literal) → self.now.cube ≡ Some q → IfSome result (IsOpen self.now.program q) }
+    {
+        if self.is_open(lit) { Some(lit) } else { None }
+    }
+
+    /// A literal by which the path can be split, and whose side of it was searched, where answers were found on that side, and
+    /// the other side isn't known to be the path's.
+    pub fn searched(&self) -> Option<Lit>
+        ensures { (q : List Literal) → self.now.cube ≡ Some q → IfSome result (IsOpen self.now.program q) }
+    {
+        match self.front() {
+            Some(turn) if turn.searched => self.if_open(turn.lit.complement()),
+            _ => None,
         }
     }
 
-    /// The first decision, if one stands: a literal by which the path can be split.
-    pub fn first(&self) -> Option<Lit>
+    /// A literal by which the path can be split: where answers were found on it, one that all of them have, else the first decision.
+    /// None as long as there is one whose side was searched.
+    pub fn divider(&self) -> Option<Lit>
+        ensures { (q : List Literal) → self.now.cube ≡ Some q → IfSome result (IsOpen self.now.program q) }
+    {
+        if self.route.is_aside(self.state.cube().len()) {
+            return None;
+        }
+        match self.front() {
+            None => self.first(),
+            Some(turn) if turn.searched => None,
+            Some(turn) => self.if_open(turn.lit),
+        }
+    }
+
+    // The first decision, if one stands: a literal by which the path can be split.
+    fn first(&self) -> Option<Lit>
         ensures value { result ≡ slice_get self.now.decisions 0 }
         ensures splits { (q : List Literal) → self.now.cube ≡ Some q → IfSome result (IsOpen self.now.program q) }
     {

@@ -38,7 +38,7 @@ use asp_state::state::SearchState;
 use asp_store::stored_nogood::Kind;
 use asp_trail::reasons::NogoodId;
 use asp_vars::fuel::Fuel;
-use asp_vars::lit::Lit;
+use asp_vars::lit::{Lit, Var};
 use asp_vars::nogood::Nogood;
 use asp_vars::snapshot::Snapshot;
 use std::alloc::AllocError;
@@ -105,6 +105,17 @@ fn sweep<P: Propagator>(state: &mut SearchState<P>, litter: &mut Litter)
     litter.dropped(state.store().extra());
 }
 
+// Raises a literal, if there is one and it is of a variable.
+fn raise<P: Propagator>(state: &mut SearchState<P>, vars: Var, next: Option<Lit>)
+    requires { vars ≡ var_count state.old.program }
+    ensures { state.new ≡ record state.old { ranking = state.new.ranking } }
+{
+    match next {
+        Some(lit) if lit.var() != 0 && lit.var() <= vars => state.raise(lit),
+        _ => {}
+    }
+}
+
 impl<'a, P: Propagator> Search<'a, P> {
     // Burns a unit for the conflict that a nogood shows, and keeps what was learnt from it.
     fn pay(
@@ -115,7 +126,7 @@ impl<'a, P: Propagator> Search<'a, P> {
         lit: Lit,
         fuel: &mut Fuel,
     ) -> Result<Step, AllocError>
-        requires met { (q : List Literal) × IsMet self.old q id (learned.Jump nogood to lit) }
+        requires met { (q : List Literal) × IsMet (P.gives self.old.program self.old.bound) self.old q id (learned.Jump nogood to lit) }
         requires program { fuel.old.program ≡ self.old.program }
         ensures ok { IfOk result (IsStep (P.gives self.old.program self.old.bound) (P.silent self.old.program self.old.bound) self.old self.new fuel.old fuel.new) }
         ensures err { OnErr result (IsFailure (P.gives self.old.program self.old.bound) self.old self.new fuel.old fuel.new) }
@@ -165,6 +176,7 @@ impl<'a, P: Propagator> Search<'a, P> {
         ensures ok { IfOk result (IsStep (P.gives self.old.program self.old.bound) (P.silent self.old.program self.old.bound) self.old self.new fuel.old fuel.new) }
         ensures err { OnErr result (IsFailure (P.gives self.old.program self.old.bound) self.old self.new fuel.old fuel.new) }
     {
+        let _program = self.compiled.program();
         let _trail = self.state.trail();
         let _store = self.state.store();
         match learn(&mut self.learner, &self.state, id)? {
@@ -184,11 +196,14 @@ impl<'a, P: Propagator> Search<'a, P> {
         ensures err { OnErr result (self.new ≡ self.old) }
     {
         let answer = Snapshot::of(interp);
+        let decision = self.state.decisions().last().copied();
         self.known.reserve(1)?;
         let id = block(self.alloc, &mut self.state, &mut self.blocking)?;
         thin(&mut self.state, &mut self.pace);
         self.known.push_reserved(answer);
         self.last = Some(id);
+        let len = self.state.cube().len();
+        self.route.add(len, self.state.decisions(), decision);
         Ok(())
     }
 
@@ -294,6 +309,31 @@ impl<'a, P: Propagator> Search<'a, P> {
         forget(&mut self.state, &mut self.pace);
     }
 
+    // No conflict, and no restart: decides.
+    fn decide(&mut self, fuel: &mut Fuel) -> Result<Step, AllocError>
+        requires entered { (q : List Literal) × IsEntered self.old q }
+        requires program { fuel.old.program ≡ self.old.program }
+        requires fixpoint { IsFixpoint (P.silent self.old.program self.old.bound) self.old.slots (values_now self.old) }
+        ensures ok { IfOk result (IsStep (P.gives self.old.program self.old.bound) (P.silent self.old.program self.old.bound) self.old self.new fuel.old fuel.new) }
+        ensures err { OnErr result (IsFailure (P.gives self.old.program self.old.bound) self.old self.new fuel.old fuel.new) }
+    {
+        match self.state.decide()? {
+            Some(_) => Ok(Step::Decided),
+            None => self.complete(fuel),
+        }
+    }
+
+    // Raises what is to be decided next on the way on which answers were found.
+    fn follow(&mut self)
+        ensures { self.new ≡ record self.old { ranking = self.new.ranking } }
+    {
+        let vars = self.compiled.vars();
+        let len = self.state.cube().len();
+        let decisions = self.state.decisions().len();
+        let next = self.route.next(len, self.state.trail(), vars, decisions);
+        raise(&mut self.state, vars, next);
+    }
+
     // No conflict: goes on.
     fn go_on(&mut self, fuel: &mut Fuel) -> Result<Step, AllocError>
         requires entered { (q : List Literal) × IsEntered self.old q }
@@ -306,10 +346,8 @@ impl<'a, P: Propagator> Search<'a, P> {
             self.restart();
             return Ok(Step::Restarted);
         }
-        match self.state.decide()? {
-            Some(_) => Ok(Step::Decided),
-            None => self.complete(fuel),
-        }
+        self.follow();
+        self.decide(fuel)
     }
 
     fn advance(&mut self, fuel: &mut Fuel) -> Result<Step, AllocError>

@@ -21,7 +21,7 @@ use Rattle.asp_found.specs.Verdicts.{IsListed}
 use Rattle.asp_found.proofs.RestLaws.{none_passes}
 use Rattle.asp_propagate.specs.Useful.{IsUseful}
 use Rattle.asp_search_laws.specs.Axioms.{IsAxiom, IsDerived}
-use Rattle.asp_search_laws.proofs.UsefulLaws.{reached_useful}
+use Rattle.asp_search_laws.proofs.UsefulLaws.{learnt_useful}
 
 -- ---- axioms
 -- no set has a literal and its complement
@@ -60,6 +60,6 @@ pub derived_useful : (p : Program) (gives : Nogood → Type 0) (known : List Ato
     ((m : Nogood) → gives m → IsUseful p known bound m) → ((id : ℕ) (m : Nogood) → kept id ≡ Some m → IsUseful p known bound m) → IsDerived p gives bound kept n → IsUseful p known bound n
 derived_useful p gives known bound kept n sound given useful (IsDerived.given x c) = axiom_useful p gives known bound n sound given x
 derived_useful p gives known bound kept n sound given useful (IsDerived.stands id q) = useful id n q
-derived_useful p gives known bound kept n sound given useful (IsDerived.reached {from = from} reasons es used o r reached first rest) =
-    reached_useful p known bound (var_count p) reasons es from n used o r reached (derived_useful p gives known bound kept from sound given useful first)
+derived_useful p gives known bound kept n sound given useful (IsDerived.reached {from = from} es used o reached first rest) =
+    learnt_useful p known bound (var_count p) es from n used o reached (derived_useful p gives known bound kept from sound given useful first)
     (λ i d h. derived_useful p gives known bound kept (get_or used i d).nogood sound given useful (rest i d h))

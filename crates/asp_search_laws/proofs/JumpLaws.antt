@@ -12,7 +12,8 @@ use Rattle.asp_trail.proofs.EntryLaws.{fold_without, none_at}
 use Rattle.asp_trail.proofs.HoldLaws.{holds_found}
 use Rattle.asp_analyze.specs.Learning.{AreContained, IsJump}
 use Rattle.asp_trail_laws.proofs.LitLaws.{all_has, eq_differ, has_at}
-use Rattle.asp_trail_laws.proofs.PlaceLaws.{blank, stands_at, stands_take, stands_grow, stands_holds, level_at, ordered_take}
+use Rattle.asp_trail_laws.proofs.PlaceLaws.{blank, stands_at, stands_take, stands_grow, stands_holds, level_at}
+use Rattle.asp_trail.proofs.HeldLaws.{ordered_take}
 use Rattle.asp_trail_laws.proofs.CutLaws.{front}
 use Rattle.asp_search_laws.specs.Steps.{IsBeside}
 

@@ -7,7 +7,6 @@ use Rattle.asp_vars.specs.Numbering.{var_count}
 use Rattle.asp_vars.specs.declared.nogood.Base.TheVariants as base
 use Rattle.asp_vars.specs.declared.nogood.Nogood.{Nogood}
 use Rattle.asp_trail.specs.declared.trail.Entry.{Entry}
-use Rattle.asp_trail.specs.Reasons.{AreReasoned}
 use Rattle.asp_trail.specs.Trails.{IsOrdered}
 use Rattle.asp_analyze.specs.Learning.{Used, IsReached}
 use Rattle.asp_found.specs.Verdicts.{IsListed}
@@ -27,8 +26,8 @@ pub data IsAxiom (p : Program) (gives : Nogood → Type 0) : Nogood → Type 0 w
 pub data IsDerived (p : Program) (gives : Nogood → Type 0) (bound : Option (List ℤ)) (kept : ℕ → Option Nogood) : Nogood → Type 0 where
   given : {n : Nogood} → IsAxiom p gives n → Counts bound n.base → IsDerived p gives bound kept n
   stands : {n : Nogood} (id : ℕ) → kept id ≡ Some n → IsDerived p gives bound kept n
-  reached : {from to : Nogood} (reasons : ℕ → Option Nogood) (entries : List Entry) (used : List Used) → IsOrdered (var_count p) entries → AreReasoned reasons entries →
-      IsReached reasons entries from used to → IsDerived p gives bound kept from → ((i : ℕ) (d : Used) → i < length used → IsDerived p gives bound kept (slice_index_or used i d).nogood) →
+  reached : {from to : Nogood} (entries : List Entry) (used : List Used) → IsOrdered (var_count p) entries → IsReached entries from used to → IsDerived p gives bound kept from →
+      ((i : ℕ) (d : Used) → i < length used → IsDerived p gives bound kept (slice_index_or used i d).nogood) →
       IsDerived p gives bound kept to
 
 -- Each nogood that is kept then was kept before, or is derived from those.

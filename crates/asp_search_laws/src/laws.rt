@@ -10,27 +10,23 @@ ghost use Rattle.asp_vars.specs.Unfounded.{assigned, is_unfounded};
 ghost use Rattle.asp_vars.specs.declared.nogood.Nogood.{Nogood};
 ghost use Rattle.asp_trail.specs.declared.trail.Entry.{Entry};
 ghost use Rattle.asp_trail.specs.Entries.{assignment, cut};
-ghost use Rattle.asp_trail.specs.Reasons.{AreReasoned, IsReason};
+ghost use Rattle.asp_trail.specs.Reasons.{IsReason};
 ghost use Rattle.asp_trail.specs.Trails.{IsOrdered};
 ghost use Rattle.asp_analyze.specs.Learning.{Used, AreContained, IsJump, IsReached};
-ghost use Rattle.asp_store.specs.declared.stored_nogood.StoredNogood.{StoredNogood};
-ghost use Rattle.asp_store.specs.Keeping.{nogood_at};
 ghost use Rattle.asp_found.specs.Verdicts.{IsBroken};
 ghost use Rattle.asp_loop.specs.LoopNogoods.{IsLoopNogood};
 ghost use Rattle.asp_trail_laws.specs.Whole.{IsWhole, atoms_on};
 ghost use Rattle.asp_propagate.specs.Useful.{IsUseful};
 ghost use Rattle.asp_search_laws.specs.Axioms.{IsDerived};
 ghost use Rattle.asp_search_laws.specs.Faults.{IsFault};
-ghost use Rattle.asp_search_laws.specs.Keeping.{AreUseful};
 ghost use Rattle.asp_search_laws.specs.Steps.{IsBeside};
 
 use asp_propagate::propagator::Propagator;
 
 /// What is reached by resolution from nogoods that count for a search counts for it.
 pub fn learnt_nogoods_count()
-    ensures { (p : Program) (known : List Atoms) (bound : Option (List ℤ)) (vars : ℕ) (slots : List (Option StoredNogood)) (entries : List Entry) (from to : Nogood) (used : List Used) →
-        IsOrdered vars entries → AreReasoned (nogood_at slots) entries → AreUseful p known bound slots → IsUseful p known bound from →
-        IsReached (nogood_at slots) entries from used to → IsUseful p known bound to }
+    ensures { (p : Program) (known : List Atoms) (bound : Option (List ℤ)) (vars : ℕ) (entries : List Entry) (from to : Nogood) (used : List Used) →
+        IsOrdered vars entries → IsReached entries from used to → IsUseful p known bound from → All (λ u. IsUseful p known bound u.nogood) used → IsUseful p known bound to }
 {}
 
 /// What is derived from nogoods that count for a search counts for it, whatever answers it knows: an axiom does, and so

@@ -14,3 +14,4 @@ pub mod LeftLaws
 pub mod GivenLaws
 pub mod RestLaws
 pub mod KeptLaws
+pub mod ShownLaws

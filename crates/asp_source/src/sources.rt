@@ -27,6 +27,7 @@ use asp_loop::loops::loop_nogood;
 use asp_model::program::Atom;
 use asp_scc::components::Components;
 use asp_scc::find::components;
+use asp_trail::told::ToldValues;
 use asp_trail::trail::Trail;
 use asp_vars::assign::Assign;
 use asp_vars::compiled::Compiled;
@@ -44,8 +45,8 @@ pub struct Sources<'a> {
     compiled: &'a Compiled,
     /// The components of its positive dependencies.
     components: Components,
-    /// The values told.
-    values: Assign,
+    /// The values told, for contracts alone.
+    values: ToldValues,
     /// By atom, the variable of the body that is its source, or 0 for none. One more than the atoms; 0 is no atom.
     sources: Vec<Var>,
     /// How old the sources are: each rests on atoms of lower ranks alone, as far as its component goes.
@@ -86,7 +87,7 @@ impl<'a> Sources<'a> {
         ensures { IfOk result (λ s. s ≡ record { program = compiled.now; values = replicate (var_count compiled.now + 1) None }) }
     {
         let components = components(alloc, compiled)?;
-        let values = Assign::new(alloc, compiled.vars())?;
+        let values = ToldValues::none(compiled.vars());
         let sources = vec![in alloc; 0 as u32; compiled.atom_count() + 1]?;
         let ranks = Ranks::new(alloc, compiled.atom_count() + 1)?;
         let queue = queue_of(alloc, compiled, &components)?;
@@ -161,12 +162,13 @@ impl<'a> Sources<'a> {
     }
 
     // The loop nogood of another atom of the set that was found last, if what made it unfounded holds still.
-    fn again(&mut self) -> Result<Option<Nogood>, AllocError>
+    fn again(&mut self, values: &Assign) -> Result<Option<Nogood>, AllocError>
+        requires { self.old.values ≡ values.now }
         ensures same { self.new ≡ self.old }
         ensures given { IfOk result (λ n. IfSome n (IsGiven self.old)) }
     {
         let _program = self.compiled.program();
-        let again = self.found.again(self.compiled, &self.values)?;
+        let again = self.found.again(self.compiled, values)?;
         let Some(nogood) = again else {
             return Ok(None);
         };
@@ -174,7 +176,8 @@ impl<'a> Sources<'a> {
     }
 
     // The loop nogood of a set that a queued atom brings with it.
-    fn search(&mut self) -> Result<Option<Nogood>, AllocError>
+    fn search(&mut self, values: &Assign) -> Result<Option<Nogood>, AllocError>
+        requires { self.old.values ≡ values.now }
         ensures same { self.new ≡ self.old }
         ensures none { IfOk result (λ n. IfNone n ((U : Atoms) → IsUnfoundedLoop self.old.program self.old.values U → ⊥)) }
         ensures given { IfOk result (λ n. IfSome n (IsGiven self.old)) }
@@ -187,7 +190,7 @@ impl<'a> Sources<'a> {
             self.alloc,
             self.compiled,
             &self.components,
-            &self.values,
+            values,
             &mut self.sources,
             &mut self.ranks,
             &mut self.queue,
@@ -196,7 +199,7 @@ impl<'a> Sources<'a> {
             alloc: self.alloc,
             compiled: self.compiled,
             components: &self.components,
-            values: &self.values,
+            values,
         };
         let found = first_unfounded(
             &setting,
@@ -215,7 +218,7 @@ impl<'a> Sources<'a> {
             self.compiled,
             found.atoms.as_slice(),
             found.atom,
-            &self.values,
+            values,
         )?;
         match nogood {
             Some(nogood) => {
@@ -236,10 +239,10 @@ impl<'a> Sources<'a> {
         ensures none { IfOk result (λ n. IfNone n ((U : Atoms) → IsUnfoundedLoop self.old.program self.old.values U → ⊥)) }
         ensures given { IfOk result (λ n. IfSome n (IsGiven self.old)) }
     {
-        let _ = trail;
-        if let Some(nogood) = self.again()? {
+        let values = trail.assignment();
+        if let Some(nogood) = self.again(values)? {
             return Ok(Some(nogood));
         }
-        self.search()
+        self.search(values)
     }
 }

@@ -21,18 +21,20 @@ use Rattle.asp_vars.proofs.ResolutionLaws.{HitsOnly-weaker}
 use Rattle.asp_trail.specs.declared.trail.Entry.{Entry}
 use Rattle.asp_trail.specs.Entries.{assignment, level}
 use Rattle.asp_trail.specs.Trails.{IsOrdered}
+use Rattle.asp_trail.specs.Reasons.{AreImpliedBy}
+use Rattle.asp_trail.proofs.ReasonLaws.{implied_weaker}
 use Rattle.asp_trail.proofs.HoldLaws.{holds_found}
 use Rattle.asp_trail.proofs.TrailLaws.{level_top}
 use Rattle.asp_store.specs.declared.stored_nogood.StoredNogood.{StoredNogood}
 use Rattle.asp_store.specs.declared.stored_nogood.Kind.TheVariants as kind
 use Rattle.asp_store.specs.Keeping.{kept_at, nogood_at}
-use Rattle.asp_store.specs.Fitting.{HaveReasons}
 use Rattle.asp_store.specs.Walking.{IsViolated}
-use Rattle.asp_trail_laws.specs.Settling.{KeepsSettled}
+use Rattle.asp_trail_laws.specs.Settling.{KeepsSettled, AreSettled}
 use Rattle.asp_trail_laws.specs.Starts.{AreStarts}
 use Rattle.asp_trail_laws.proofs.HitLaws.{trail_hit}
 use Rattle.asp_trail_laws.proofs.PlaceLaws.{blank, level_in_top}
 use Rattle.asp_trail_laws.proofs.ViolatedLaws.{way_settled}
+use Rattle.asp_propagate.specs.Late.{IsAtHand}
 use Rattle.asp_propagate.specs.Propagating.{Adds}
 use Rattle.asp_propagate.proofs.AddLaws.{adds_each}
 use Rattle.asp_propagate.specs.Useful.{IsUseful}
@@ -74,7 +76,7 @@ beq_itself true = refl
 beq_itself false = refl
 
 module _ (p : Program) (slots : List (Option StoredNogood)) (lits decisions : List Literal) (es : List Entry)
-    (ordered : IsOrdered (var_count p) es) (reasons : HaveReasons slots es) (settled : KeepsSettled p [] None (nogood_at slots))
+    (ordered : IsOrdered (var_count p) es) (reasons : AreSettled p [] None es) (settled : KeepsSettled p [] None (nogood_at slots))
     (starts : AreStarts lits decisions es) (low : level es ≡ 0) where
   pub trail_follows : Follow p lits (assignment (var_count p) es)
   trail_follows S stable hit v b e =
@@ -83,13 +85,13 @@ module _ (p : Program) (slots : List (Option StoredNogood)) (lits decisions : Li
       let hit_all : hits (values p S) (lits ++ take 0 decisions) ≡ true = ap (hits (values p S)) (append-nil lits) ∙ hit in
       beq_same (get_or (values p S) v false) b
       (subst (λ (m : Literal). is_true (values p S) m ≡ true) (f.2 blank)
-      (trail_hit p [] None (var_count p) (nogood_at slots) lits decisions es 0 S ordered reasons settled starts stable refl hit_all f.0 blank f.1
+      (trail_hit p [] None (var_count p) lits decisions es 0 S ordered reasons starts stable refl hit_all f.0 blank f.1
       (omega (arith, level_top es ordered.rising f.0 blank f.1, low))))
 
   pub violated_settles : (id : ℕ) → IsViolated (var_count p) slots es id → Settled p [] None lits
   violated_settles id v =
       subst (Settled p [] None) (append-nil lits)
-      (way_settled p [] None (var_count p) (nogood_at slots) lits decisions es 0 v.0.lits ordered reasons settled starts (settled id v.0 v.1) v.2
+      (way_settled p [] None (var_count p) lits decisions es 0 v.0.lits ordered reasons starts (settled id v.0 v.1) v.2
       (λ i d h. omega (arith, level_in_top es (get_or v.0.lits i d).var ordered.rising, low)))
 
 pub none_is : (none some : Bool) → some ≡ not none → not some ≡ none
@@ -124,7 +126,16 @@ prober_begins p t sound program bound alone = record {
   settled = subst (λ (q : Program). KeepsSettled q [] None (nogood_at t.slots)) (sym program) (completion_settled p t.slots sound alone);
 }
 
-pub followed : (p : Program) (u : SearchView) (lits : List Literal) (violated : Option ℕ) → IsProber p u → IsOrdered (var_count u.program) u.entries → HaveReasons u.slots u.entries → AreStarts lits u.decisions u.entries →
+-- the reasons of the entries are settled
+pub reasons_settled : (p : Program) (u : SearchView) (late : Nogood → Type 0) → ((n : Nogood) → late n → IsUseful u.program [] u.bound n) → IsProber p u → AreImpliedBy (IsAtHand late u.slots) u.entries →
+    AreSettled u.program [] None u.entries
+reasons_settled p u late useful h r = implied_weaker (IsAtHand late u.slots) (λ n. Settled u.program [] None n.lits) u.entries each r
+  where
+    each : (n : Nogood) → IsAtHand late u.slots n → Settled u.program [] None n.lits
+    each n (inl k) = h.settled k.0 n k.1
+    each n (inr l) = subst (λ (b : Option (List ℤ)). Settled u.program [] b n.lits) h.unbounded (useful_settles u.program [] u.bound n (useful n l))
+
+pub followed : (p : Program) (u : SearchView) (lits : List Literal) (violated : Option ℕ) → IsProber p u → IsOrdered (var_count u.program) u.entries → AreSettled u.program [] None u.entries → AreStarts lits u.decisions u.entries →
     level u.entries ≡ 0 → IfSome violated (IsViolated (var_count u.program) u.slots u.entries) → Follows p u lits (is_none violated)
 followed p u lits None h ordered reasons starts low v =
     subst (λ (q : Program). Follow q lits (values_of u)) (sym h.program) (trail_follows u.program u.slots lits u.decisions u.entries ordered reasons h.settled starts low)

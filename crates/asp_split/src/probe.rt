@@ -53,6 +53,7 @@ fn follow<P: Propagator>(
     }
     let violated = state.propagate()?;
     let _trail = state.trail();
+    let _store = state.store();
     Ok(violated.is_none())
 }
 

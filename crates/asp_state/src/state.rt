@@ -4,8 +4,9 @@
 //! - the cube and the decisions are what begins the trail's levels;
 //! - no nogood of the completion was unit or violated before a decision, and all of them are kept;
 //! - each variable without a value waits to be decided.
-ghost use Rattle.std.specs.Prelude.{◌≡◌, ◌<◌, ◌≤◌, ◌+◌, ◌∷◌, ◌++◌, [], ℕ, List, true, false, Some, None, IfOk, OnOk, OnErr, IfSome, IfNone, IsTrue, map, take, length, replicate, slice_set, slice_index_or, if◌then◌else◌};
+ghost use Rattle.std.specs.Prelude.{◌≡◌, ◌<◌, ◌≤◌, ◌^◌, ◌+◌, ◌∷◌, ◌++◌, [], ℕ, List, true, false, Some, None, IfOk, OnOk, OnErr, IfSome, IfNone, IsTrue, map, take, length, replicate, slice_set, slice_index_or, if◌then◌else◌};
 ghost use Rattle.std.specs.List.{All};
+ghost use Rattle.asp_model.specs.Sound.{IsSound};
 ghost use Rattle.asp_vars.specs.Literals.{Literal, has_literal, value_of};
 ghost use Rattle.asp_vars.specs.Numbering.{var_count};
 ghost use Rattle.asp_vars.specs.Completion.{completion};
@@ -13,11 +14,13 @@ ghost use Rattle.asp_vars.specs.declared.nogood.Base.TheVariants as base;
 ghost use Rattle.asp_trail.specs.declared.trail.Entry.{Entry};
 ghost use Rattle.asp_trail.specs.Entries.{level, cut};
 ghost use Rattle.asp_trail.specs.Trails.{IsOrdered, IsVar};
+ghost use Rattle.asp_trail.specs.Reasons.{AreAsked, AreReasons, AreImpliedBy};
 ghost use Rattle.asp_store.specs.declared.stored_nogood.StoredNogood.{StoredNogood};
 ghost use Rattle.asp_store.specs.Keeping.{kept_at, unless_given, IsAddedAt};
 ghost use Rattle.asp_store.specs.Fitting.{AreSmall, HaveReasons};
 ghost use Rattle.asp_store.specs.Walking.{IsViolated};
 ghost use Rattle.asp_order.specs.Waiting.{learnt, AreAssigned, IsFuller, IsNext};
+ghost use Rattle.asp_propagate.specs.Late.{CanAsk, IsSaid, IsAtHand};
 ghost use Rattle.asp_propagate.specs.Useful.{IsSmaller};
 ghost use Rattle.asp_propagate.specs.Propagating.{is_named, Adds, AreAtFixpoint, Implies, IsImplied, IsFixpoint, IsReduced};
 ghost use Rattle.asp_state.specs.SearchStates.{first_ranking, path_of, values_of, AreOf, Clashes, IsBegun, IsUnder, KeepsCompletion, KeepsCompletionAlone};
@@ -182,15 +185,29 @@ impl<P: Propagator> SearchState<P> {
         self.engine.trail()
     }
 
-    /// The nogoods that are kept. Each entry that was implied names one, which is its reason.
+    /// The nogoods that are kept. Each entry that was implied has a reason: one of them, or one that the propagator writes.
     pub fn store(&self) -> &Store
         ensures slots { result.now.slots ≡ self.now.slots }
         ensures reasons { HaveReasons self.now.slots self.now.entries }
+        ensures implied { IsSound self.now.program → AreImpliedBy (IsAtHand (P.late self.now.program) self.now.slots) self.now.entries }
+        ensures few { length self.now.slots ≤ 2 ^ 31 }
         ensures small { AreSmall (var_count self.now.program) self.now.slots }
         ensures completed { KeepsCompletion self.now.program self.now.slots }
     {
         let _extra = self.engine.store().extra();
         self.engine.store()
+    }
+
+    /// What knows the reasons of the trail's entries.
+    pub fn reasons(&self) -> &Engine<P>
+        ensures program { result.now.program ≡ self.now.program }
+        ensures entries { result.now.entries ≡ self.now.entries }
+        ensures slots { result.now.slots ≡ self.now.slots }
+        ensures asked { AreAsked (CanAsk (P.explains result.now.program) result.now.slots result.now.entries) result.now.entries }
+        ensures said { AreReasons (IsSaid (P.late result.now.program) result.now.slots result.now.entries) result.now.entries }
+    {
+        let _store = self.engine.store();
+        &self.engine
     }
 
     /// The cube, and none of its literals where no path is entered.
@@ -307,6 +324,14 @@ impl<P: Propagator> SearchState<P> {
         ensures { self.new ≡ record self.old { ranking = learnt self.old.ranking (lits.now ++ met.now) } }
     {
         self.order.bump(lits, met);
+    }
+
+    /// Raises the activity of the literal's variable, so that it is decided next if it has no value, and then has the literal's.
+    pub fn raise(&mut self, lit: Lit)
+        requires { IsVar (var_count self.old.program) lit.var }
+        ensures { self.new ≡ record self.old { ranking = self.new.ranking } }
+    {
+        self.order.raise(lit);
     }
 
     /// Drops nogoods that are little used, but none that is kept forever, is a reason, or has two literals or fewer.

@@ -1,5 +1,5 @@
 -- A store fits a trail, through each change of either.
-use Rattle.std.proofs.Common.{◌≡◌, ◌≢◌, ℕ, ◌<◌, ◌≤◌, Bool, min, List, [], ◌∷◌, ◌++◌, length, get_or, set, Option, Some, None, inl, inr, ◌⊎◌, refl, sym, ap, ◌∙◌, subst, arith}
+use Rattle.std.proofs.Common.{◌≡◌, ◌≢◌, ℕ, ◌<◌, ◌≤◌, ◌^◌, Bool, min, List, [], ◌∷◌, ◌++◌, length, get_or, set, Option, Some, None, inl, inr, ◌⊎◌, refl, sym, ap, ◌∙◌, subst, arith}
 use Rattle.std.specs.List.{AllPairs}
 use Rattle.std.specs.Option.{option_map}
 use Rattle.std.proofs.lemmas.List.{length-append, get_or_append_left, get_or_push}
@@ -31,27 +31,31 @@ same_nogood xs ys i e = ap (option_map (λ (x : StoredNogood). x.nogood)) e
 pub fits_begin : (s : Stored) (t : Trailed) → t.vars ≡ s.vars → t.entries ≡ [] → s.slots ≡ [] → Fits s t
 fits_begin s t v e q = record {
   same_vars = v;
-  reasons = λ i d id h r. absurd (omega (arith, h, ap (length {A = Entry}) e));
+  reasons = λ i d id h lt r. absurd (omega (arith, h, ap (length {A = Entry}) e));
   fit = record {
     watched = λ id n p g h. absurd (none-some n (sym (ap (λ (xs : List (Option StoredNogood)). nogood_at xs id) q) ∙ g));
     unwatched = λ id n g h. absurd (none-some n (sym (ap (λ (xs : List (Option StoredNogood)). nogood_at xs id) q) ∙ g));
   };
 }
 
-reasons_open : (slots : List (Option StoredNogood)) (es : List Entry) (e : Entry) → e.reason ≡ None → HaveReasons slots es → HaveReasons slots (es ++ e ∷ [])
-reasons_open slots es e none h i d id w q = cases (is_or_not i (length es))
+-- the number isn't a kept nogood's
+abbrev pub IsApart : Entry → Type 0
+IsApart e = (id : ℕ) → id < 2 ^ 31 → e.reason ≡ Some id → ⊥
+
+reasons_open : (slots : List (Option StoredNogood)) (es : List Entry) (e : Entry) → IsApart e → HaveReasons slots es → HaveReasons slots (es ++ e ∷ [])
+reasons_open slots es e none h i d id w small q = cases (is_or_not i (length es))
   where
     cases : (i ≡ length es) ⊎ (i ≢ length es) → (m : Nogood) × (nogood_at slots id ≡ Some m) × IsReason (es ++ e ∷ []) i (get_or (es ++ e ∷ []) i d).lit m.lits
     cases (inl s) =
         let is : get_or (es ++ e ∷ []) i d ≡ e = get_or_push es e d i (sym s) in
-        absurd (none-some id (sym none ∙ (sym (ap (λ (f : Entry). f.reason) is) ∙ q)))
+        absurd (none id small (sym (ap (λ (f : Entry). f.reason) is) ∙ q))
     cases (inr ne) =
         let lt : i < length es = omega (arith, w, ne, length-append es (e ∷ [])) in
         let is : get_or (es ++ e ∷ []) i d ≡ get_or es i d = get_or_append_left es (e ∷ []) d i lt in
-        let o = h i d id lt (sym (ap (λ (f : Entry). f.reason) is) ∙ q) in
+        let o = h i d id lt small (sym (ap (λ (f : Entry). f.reason) is) ∙ q) in
         (o.0, o.1, subst (λ (f : Entry). IsReason (es ++ e ∷ []) i f.lit o.0.lits) (sym is) (reason_grow es (e ∷ []) i (get_or es i d).lit o.0.lits o.2))
 
-pub fits_open : (s : Stored) (t : Trailed) (e : Entry) → t.seen ≤ length t.entries → e.reason ≡ None → Fits s t → Fits s (record t { entries = t.entries ++ e ∷ [] })
+pub fits_open : (s : Stored) (t : Trailed) (e : Entry) → t.seen ≤ length t.entries → IsApart e → Fits s t → Fits s (record t { entries = t.entries ++ e ∷ [] })
 fits_open s t e le none f = record {
   same_vars = f.same_vars;
   reasons = reasons_open s.slots t.entries e none f.reasons;
@@ -70,9 +74,9 @@ pub fits_cut : (s : Stored) (t : Trailed) (l : ℕ) → AllPairs (λ e f. e.leve
     Fits s (record t { entries = cut l t.entries; seen = min t.seen (length (cut l t.entries)) })
 fits_cut s t l rising f = record {
   same_vars = f.same_vars;
-  reasons = λ i d id h q.
+  reasons = λ i d id h lt q.
       let is = cut_at l t.entries i d rising h in
-      let o = f.reasons i d id is.0 (sym (ap (λ (e : Entry). e.reason) is.1) ∙ q) in
+      let o = f.reasons i d id is.0 lt (sym (ap (λ (e : Entry). e.reason) is.1) ∙ q) in
       (o.0, o.1, subst (λ (e : Entry). IsReason (cut l t.entries) i e.lit o.0.lits) (sym is.1) (reason_cut l t.entries i (get_or t.entries i d).lit o.0.lits rising h o.2));
   fit = record {
     watched = λ id n p g h. watched_cut l t.entries t.seen n.lits p rising (f.fit.watched id n p g h);
@@ -86,7 +90,7 @@ fits_cut s t l rising f = record {
 pub fits_clear : (s : Stored) (t : Trailed) → AreActive s → Fits s t → Fits s (record t { entries = []; seen = 0 })
 fits_clear s t active f = record {
   same_vars = f.same_vars;
-  reasons = λ i d id h q. absurd (omega arith);
+  reasons = λ i d id h lt q. absurd (omega arith);
   fit = record {
     watched = λ id n p g h. let w = f.fit.watched id n p g h in record {
       has = w.has;
@@ -101,8 +105,8 @@ fits_clear s t active f = record {
 pub fits_add : (s z : Stored) (t : Trailed) (id : ℕ) (n : Nogood) (kind : Kind) → IsAdded s z id n kind → Fits s t → Fits z t
 fits_add s z t id n kind a f = record {
   same_vars = f.same_vars ∙ sym a.vars;
-  reasons = λ i d j h q.
-      let r = f.reasons i d j h q in
+  reasons = λ i d j h lt q.
+      let r = f.reasons i d j h lt q in
       let ne : j ≢ id = λ e. none_kept s.slots id r.0 a.slots.free (sym (ap (nogood_at s.slots) e) ∙ r.1) in
       (r.0, same_nogood s.slots z.slots j (a.slots.others j ne) ∙ r.1, r.2);
   fit = record {
@@ -134,7 +138,7 @@ locked_same b slots id j h =
 pub fits_lock : (s : Stored) (t : Trailed) (id : ℕ) (b : Bool) → id < length s.slots → Fits s t → Fits (locked_at s id b) t
 fits_lock s t id b h f = record {
   same_vars = f.same_vars;
-  reasons = λ i d j w q. let r = f.reasons i d j w q in (r.0, locked_same b s.slots id j h ∙ r.1, r.2);
+  reasons = λ i d j w lt q. let r = f.reasons i d j w lt q in (r.0, locked_same b s.slots id j h ∙ r.1, r.2);
   fit = record {
     watched = λ j n p g q. f.fit.watched j n p (sym (locked_same b s.slots id j h) ∙ g) q;
     unwatched = λ j n g q. f.fit.unwatched j n (sym (locked_same b s.slots id j h) ∙ g) q;
@@ -159,7 +163,7 @@ pub fits_lose : (s z : Stored) (t : Trailed) → Loses s z →
     ((i : ℕ) (d : Entry) (id : ℕ) → i < length t.entries → (get_or t.entries i d).reason ≡ Some id → nogood_at z.slots id ≡ nogood_at s.slots id) → Fits s t → Fits z t
 fits_lose s z t l named f = record {
   same_vars = f.same_vars ∙ sym l.vars;
-  reasons = λ i d id h q. let r = f.reasons i d id h q in (r.0, named i d id h q ∙ r.1, r.2);
+  reasons = λ i d id h lt q. let r = f.reasons i d id h lt q in (r.0, named i d id h q ∙ r.1, r.2);
   fit = record {
     watched = λ id n p g h. elim (l.each id) [
       | inl e ↦ absurd (none_kept z.slots id n e.0 g)
@@ -190,8 +194,8 @@ pub fits_remove : (s : Stored) (t : Trailed) (id : ℕ) → id < length s.slots 
     Fits s t → Fits (removed s id) t
 fits_remove s t id h unnamed f = record {
   same_vars = f.same_vars;
-  reasons = λ i d j w q.
-      let r = f.reasons i d j w q in
+  reasons = λ i d j w lt q.
+      let r = f.reasons i d j w lt q in
       (r.0, same_nogood s.slots (set s.slots id None) j (at_set_other s.slots id None None j (λ e. unnamed i d w (q ∙ ap Some e))) ∙ r.1, r.2);
   fit = record {
     watched = λ j n p g k. elim (is_or_not j id) [

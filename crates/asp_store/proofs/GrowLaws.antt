@@ -16,12 +16,20 @@ use Rattle.asp_trail.specs.Reasons.{IsReason}
 use Rattle.asp_store.specs.declared.stored_nogood.StoredNogood.{StoredNogood}
 use Rattle.asp_store.specs.Keeping.{nogood_at}
 use Rattle.asp_store.specs.Looking.{Grew, HaveSame}
-use Rattle.asp_store.specs.Fitting.{HaveReasons, IsImpliedAt, Extends}
+use Rattle.asp_store.specs.Fitting.{HaveReasons, IsImpliedAt, IsKeptAt, Extends}
 use Rattle.asp_store.proofs.WatchLaws.{reason_grow}
+
+pub kept_within : (slots : List (Option StoredNogood)) (id : ℕ) (n : Nogood) → nogood_at slots id ≡ Some n → id < length slots
+kept_within [] id n g = absurd (none g)
+  where
+    none : nogood_at [] id ≡ Some n → ⊥
+    none q = cc
+kept_within (k ∷ slots) zero n g = omega arith
+kept_within (k ∷ slots) (suc id) n g = omega (arith, kept_within slots id n g)
 
 pub reasons_new : (slots : List (Option StoredNogood)) (id : ℕ) (n : Nogood) (es : List Entry) (e : Entry) → nogood_at slots id ≡ Some n → e.reason ≡ Some id →
     IsReason (es ++ e ∷ []) (length es) e.lit n.lits → HaveReasons slots es → HaveReasons slots (es ++ e ∷ [])
-reasons_new slots id n es e k r h old i d j w q = cases (eqb i (length es)) refl
+reasons_new slots id n es e k r h old i d j w small q = cases (eqb i (length es)) refl
   where
     cases : (b : Bool) → b ≡ eqb i (length es) →
         (m : Nogood) × (nogood_at slots j ≡ Some m) × IsReason (es ++ e ∷ []) i (get_or (es ++ e ∷ []) i d).lit m.lits
@@ -39,12 +47,15 @@ reasons_new slots id n es e k r h old i d j w q = cases (eqb i (length es)) refl
         let ne : i ≢ length es = grind (arith, nat_tests) in
         let lt : i < length es = omega (arith, w, length-append es (e ∷ [])) in
         let is : get_or (es ++ e ∷ []) i d ≡ get_or es i d = get_or_append_left es (e ∷ []) d i lt in
-        let o = old i d j lt (sym (ap (λ (f : Entry). f.reason) is) ∙ q) in
+        let o = old i d j lt small (sym (ap (λ (f : Entry). f.reason) is) ∙ q) in
         (o.0, o.1, subst (λ (f : Entry). IsReason (es ++ e ∷ []) i f.lit o.0.lits) (sym is) (reason_grow es (e ∷ []) i (get_or es i d).lit o.0.lits o.2))
 
-one_implied : (b id : ℕ) (l : Literal) → All (IsImpliedAt b) (record { lit = l; level = b; reason = Some id } ∷ [])
-one_implied b id l zero d h = record { level = refl; implied = (id, refl) }
-one_implied b id l (suc i) d h = absurd (omega arith)
+one_implied : (n b id : ℕ) (l : Literal) → id < n → All (IsKeptAt n b) (record { lit = l; level = b; reason = Some id } ∷ [])
+one_implied n b id l lt zero d h = record { level = refl; implied = (id, refl, lt) }
+one_implied n b id l lt (suc i) d h = absurd (omega arith)
+
+pub implied_kept : (n b : ℕ) (fs : List Entry) → All (IsKeptAt n b) fs → All (IsImpliedAt b) fs
+implied_kept n b fs a i d h = let k = a i d h in record { level = k.level; implied = (k.implied.0, k.implied.1) }
 
 pub level_stays : (es fs : List Entry) → All (IsImpliedAt (level es)) fs → level (es ++ fs) ≡ level es
 level_stays es [] a = ap level (append-nil es)
@@ -62,7 +73,7 @@ extends_grew slots id n es fs k g =
         r.1,
         λ h. subst (λ (xs : List Entry). HaveReasons slots xs) (sym r.1)
             (reasons_new slots id n es (new r.0) k refl (subst (λ (xs : List Entry). IsReason xs (length es) r.0 n.lits) r.1 r.2) h),
-        one_implied (level es) id r.0,
+        one_implied (length slots) (level es) id r.0 (kept_within slots id n k),
       )
     ]
   where
@@ -87,11 +98,11 @@ extends_none slots es = ([], sym (append-nil es), λ h. h, λ i d h. absurd (ome
 
 pub extends_more : (slots : List (Option StoredNogood)) (es fs gs : List Entry) → Extends slots es fs → Extends slots fs gs → Extends slots es gs
 extends_more slots es fs gs a b =
-    let same : level fs ≡ level es = ap level a.1 ∙ level_stays es a.0 a.3 in (
+    let same : level fs ≡ level es = ap level a.1 ∙ level_stays es a.0 (implied_kept (length slots) (level es) a.0 a.3) in (
       a.0 ++ b.0,
       b.1 ∙ (ap (λ (xs : List Entry). xs ++ b.0) a.1 ∙ append_assoc es a.0 b.0),
       λ h. b.2 (a.2 h),
-      All-append (IsImpliedAt (level es)) a.0 b.0 a.3 (subst (λ (n : ℕ). All (IsImpliedAt n) b.0) same b.3),
+      All-append (IsKeptAt (length slots) (level es)) a.0 b.0 a.3 (subst (λ (n : ℕ). All (IsKeptAt (length slots) n) b.0) same b.3),
     )
 
 pub grew_by : (id : ℕ) (n : List Literal) (es fs : List Entry) → Grew id n es fs → (gs : List Entry) × (fs ≡ es ++ gs)

@@ -1,6 +1,7 @@
 pub mod FixpointLaws
 pub mod FitsLaws
 pub mod GetLaws
+pub mod GivenLaws
 pub mod GrowLaws
 pub mod LookLaws
 pub mod PendingLaws

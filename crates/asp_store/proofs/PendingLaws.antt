@@ -1,5 +1,5 @@
 -- What a look at one of those apart leaves.
-use Rattle.std.proofs.Common.{◌≡◌, ◌≢◌, ℕ, suc, zero, ◌+◌, ◌<◌, ◌≤◌, Bool, true, false, List, [], ◌∷◌, ◌++◌, length, set, Option, Some, None, inl, inr, refl, sym, ap, ◌∙◌, subst, arith}
+use Rattle.std.proofs.Common.{◌≡◌, ◌≢◌, ℕ, ◌+◌, ◌<◌, ◌≤◌, Bool, true, false, List, [], ◌∷◌, ◌++◌, length, set, Option, Some, None, inl, inr, refl, sym, ap, ◌∙◌, subst, arith}
 use Rattle.std.specs.List.{slice_get, swap_remove, swap}
 use Rattle.std.specs.Option.{is_some}
 use Rattle.std.proofs.lemmas.Bool.{false≢true}
@@ -26,20 +26,13 @@ use Rattle.asp_store.specs.Fitting.{HasFalse, IsWatched}
 use Rattle.asp_store.specs.Sounding.{IsListed, IsSound, AreSettled}
 use Rattle.asp_store.specs.Pending.{IsLooking, IsWaiting, HasNone, Looks}
 use Rattle.asp_store.proofs.GetLaws.{is_or_not, get_swap, get_swapped, length-swap, at_set}
+use Rattle.asp_store.proofs.GrowLaws.{kept_within}
 use Rattle.asp_store.proofs.PlaceLaws.{listed_new, listed_push}
 use Rattle.asp_store.proofs.WatchLaws.{has_false_grow}
 use Rattle.asp_store.proofs.LookLaws.{all_has}
 use Rattle.asp_store.proofs.ShortLaws.{place_new}
 use Rattle.asp_store.proofs.SoundLaws.{Suits, sound_row, sound_apart, pair_cases, sound_grow}
 use Rattle.asp_store.proofs.StepLaws.{code_of_list, sound_watch}
-
-pub kept_within : (slots : List (Option StoredNogood)) (id : ℕ) (n : Nogood) → nogood_at slots id ≡ Some n → id < length slots
-kept_within [] id n g = absurd (none g)
-  where
-    none : nogood_at [] id ≡ Some n → ⊥
-    none q = cc
-kept_within (k ∷ slots) zero n g = omega arith
-kept_within (k ∷ slots) (suc id) n g = omega (arith, kept_within slots id n g)
 
 -- ---- the place goes
 from_swap : (a : Parted) (i x m id : ℕ) → i < length a.items → m ≤ i → (slice_get a.items i ≡ Some id → ⊥) → IsFrom a m id →

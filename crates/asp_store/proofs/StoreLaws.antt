@@ -3,6 +3,7 @@ use Rattle.std.proofs.Common.{◌≡◌, ◌≢◌, ℕ, suc, zero, ◌+◌, ◌
 use Rattle.std.specs.List.{All, count_by}
 use Rattle.std.specs.Option.{option_map}
 use Rattle.std.proofs.lemmas.List.{length-replicate, length-set}
+use Rattle.std.proofs.lemmas.Bool.{false≢true}
 use Rattle.std.proofs.lemmas.List.Sums.{sum_by-cons}
 use Rattle.std.proofs.lemmas.Option.{none-some, same_Some}
 use Rattle.asp_vars.specs.Literals.{Literal}
@@ -10,26 +11,27 @@ use Rattle.asp_vars.specs.declared.nogood.Nogood.{Nogood}
 use Rattle.asp_trail.specs.Trails.{Trailed, IsVar}
 use Rattle.asp_store.specs.declared.stored_nogood.StoredNogood.{StoredNogood}
 use Rattle.asp_store.specs.declared.stored_nogood.Kind.{Kind}
+use Rattle.asp_store.specs.declared.stored_nogood.Kind.TheVariants as kinds
 use Rattle.asp_store.specs.Marks.{Watch}
 use Rattle.asp_store.specs.declared.watches.Watches.{Watches}
 use Rattle.asp_arena.specs.Rows.{row_at}
-use Rattle.asp_store.specs.Keeping.{kept_at, nogood_at, is_extra, is_spare, with_lock, Thins}
+use Rattle.asp_store.specs.Keeping.{kept_at, nogood_at, is_extra, is_spare, is_from_propagator, comes_from_propagator, with_lock, Thins}
 use Rattle.asp_store.specs.Lists.{place}
 use Rattle.asp_store.specs.Looking.{HaveSame}
 use Rattle.asp_store.specs.Pairs.{pair_of, pair_at}
 use Rattle.asp_store.specs.Parted.{Parted, IsFrom}
 use Rattle.asp_store.specs.Sounding.{IsListed, IsNet, IsSound}
 use Rattle.asp_store.specs.Fitting.{HaveReasons}
-use Rattle.asp_store.specs.Storing.{Stored, Fits, IsAdded, Loses, IsStore, AreActive}
-use Rattle.asp_store.proofs.GetLaws.{is_or_not, at_set, at_set_other, get_last}
+use Rattle.asp_store.specs.Storing.{Stored, Fits, IsAdded, Loses, IsStore, AreActive, Has, with_given}
+use Rattle.asp_store.proofs.GetLaws.{is_or_not, at_set, at_set_other, get_more, get_last}
 use Rattle.asp_store.specs.Unlisting.{Unlists}
 use Rattle.asp_store.proofs.ShortLaws.{places_add, places_lock, places_remove}
 use Rattle.asp_store.proofs.SoundLaws.{from_zero, from_push, pair_cases}
 use Rattle.asp_store.proofs.FitsLaws.{none_kept, same_nogood, locked_same}
 
 -- what contracts see of a store's parts
-abbrev pub view_of : ℕ → List (Option StoredNogood) → Watches → Stored
-view_of vars slots w = record { vars = vars; slots = slots; rows = w.rows; apart = w.apart }
+abbrev pub view_of : ℕ → List (Option StoredNogood) → Watches → List ℕ → Stored
+view_of vars slots w given = record { vars = vars; slots = slots; rows = w.rows; apart = w.apart; given = given }
 
 -- ---- counts
 count_cons : (p : Option StoredNogood → Bool) (o : Option StoredNogood) (slots : List (Option StoredNogood)) → count_by p (o ∷ slots) ≡ cond (p o) 1 0 + count_by p slots
@@ -66,7 +68,7 @@ none_place zero c i x g = none-some x g
 none_place (suc n) zero i x g = none-some x g
 none_place (suc n) (suc c) i x g = none_place n c i x g
 
-pub store_new : (vars : ℕ) → vars < 2 ^ 31 → IsStore vars [] (record { lists = replicate (2 * vars + 2) []; rows = []; apart = record { items = []; retired = 0 } }) 0
+pub store_new : (vars : ℕ) → vars < 2 ^ 31 → IsStore vars [] (record { lists = replicate (2 * vars + 2) []; rows = []; apart = record { items = []; retired = 0 } }) 0 []
 store_new vars few = record {
   few = few;
   net = record {
@@ -81,16 +83,32 @@ store_new vars few = record {
     unwatched = λ id n g h. absurd (none-some n g);
   };
   counted = refl;
+  tracked = λ id h. absurd (false≢true h);
 }
   where
     length_empty : (n : ℕ) → (let o : List Watch = [] in length (replicate n o)) ≡ n
     length_empty n = length-replicate n []
 
+-- ---- numbers of what propagators gave
+has_new : (kind : Kind) (id : ℕ) (given : List ℕ) → comes_from_propagator kind ≡ true → Has (with_given kind id given) id
+has_new kinds.Forever id given h = absurd (false≢true h)
+has_new kinds.Learnt id given h = absurd (false≢true h)
+has_new kinds.Given id given h = (length given, get_last given id)
+
+has_old : (kind : Kind) (id j : ℕ) (given : List ℕ) → Has given j → Has (with_given kind id given) j
+has_old kinds.Forever id j given h = h
+has_old kinds.Learnt id j given h = h
+has_old kinds.Given id j given h = (h.0, get_more given (id ∷ []) h.0 j h.1)
+
+from_lock : (b : Bool) (o : Option StoredNogood) → is_from_propagator (with_lock b o) ≡ is_from_propagator o
+from_lock b None = refl
+from_lock b (Some k) = refl
+
 -- ---- a nogood more
-pub store_add : (vars : ℕ) (slots new : List (Option StoredNogood)) (w z : Watches) (extra more id : ℕ) (n : Nogood) (kind : Kind) → IsStore vars slots w extra →
-    z.lists ≡ w.lists → length z.rows ≡ length new → IsAdded (view_of vars slots w) (view_of vars new z) id n kind → ((k : ℕ) → IsFrom w.apart 0 k → IsFrom z.apart 0 k) →
-    All (λ l. IsVar vars l.var) n.lits → length new ≤ 2 ^ 31 → more ≡ count_by is_extra new → IsStore vars new z more
-store_add vars slots new w z extra more id n kind s lists paired a apart small few counted = record {
+pub store_add : (vars : ℕ) (slots new : List (Option StoredNogood)) (w z : Watches) (given after : List ℕ) (extra more id : ℕ) (n : Nogood) (kind : Kind) → IsStore vars slots w extra given →
+    z.lists ≡ w.lists → length z.rows ≡ length new → IsAdded (view_of vars slots w given) (view_of vars new z after) id n kind → ((k : ℕ) → IsFrom w.apart 0 k → IsFrom z.apart 0 k) →
+    All (λ l. IsVar vars l.var) n.lits → length new ≤ 2 ^ 31 → more ≡ count_by is_extra new → IsStore vars new z more after
+store_add vars slots new w z given after extra more id n kind s lists paired a apart small few counted = record {
   few = s.few;
   net = record {
     sized = ap (length {A = List Watch}) lists ∙ s.net.sized;
@@ -122,12 +140,16 @@ store_add vars slots new w z extra more id n kind s lists paired a apart small f
     ];
   };
   counted = counted;
+  tracked = λ j h. subst (λ (xs : List ℕ). Has xs j) (sym a.given) (elim (is_or_not j id) [
+    | inl e ↦ subst (λ (k : ℕ). Has (with_given kind id given) k) (sym e) (has_new kind id given (sym (ap is_from_propagator a.slots.here) ∙ (ap (λ (k : ℕ). is_from_propagator (kept_at new k)) (sym e) ∙ h)))
+    | inr ne ↦ has_old kind id j given (s.tracked j (sym (ap is_from_propagator (a.slots.others j ne)) ∙ h))
+  ]);
 }
 
 -- ---- one goes
-pub store_remove : (vars : ℕ) (slots : List (Option StoredNogood)) (w z : Watches) (extra less id : ℕ) → IsStore vars slots w extra → id < length slots → Unlists slots w.lists z.lists id →
-    z.rows ≡ set w.rows id [] → z.apart ≡ w.apart → less ≡ count_by is_extra (set slots id None) → IsStore vars (set slots id None) z less
-store_remove vars slots w z extra less id s within u rows apart counted = record {
+pub store_remove : (vars : ℕ) (slots : List (Option StoredNogood)) (w z : Watches) (given : List ℕ) (extra less id : ℕ) → IsStore vars slots w extra given → id < length slots → Unlists slots w.lists z.lists id →
+    z.rows ≡ set w.rows id [] → z.apart ≡ w.apart → less ≡ count_by is_extra (set slots id None) → IsStore vars (set slots id None) z less given
+store_remove vars slots w z given extra less id s within u rows apart counted = record {
   few = s.few;
   net = record {
     sized = u.keeps.len ∙ s.net.sized;
@@ -157,6 +179,10 @@ store_remove vars slots w z extra less id s within u rows apart counted = record
         subst (λ (a : Parted). IsFrom a 0 j) (sym apart) (s.net.unwatched j m l.1 (sym (ap pair_of (at_set_other w.rows id [] [] j l.0)) ∙ (sym (ap (λ (rs : List (List Literal)). pair_at rs j) rows) ∙ h)));
   };
   counted = counted;
+  tracked = λ j h. elim (is_or_not j id) [
+    | inl e ↦ absurd (false≢true (sym (ap is_from_propagator (at_set slots id None None j within e)) ∙ h))
+    | inr ne ↦ s.tracked j (sym (ap is_from_propagator (at_set_other slots id None None j ne)) ∙ h)
+  ];
 }
   where
     inside : id < length w.rows
@@ -168,9 +194,9 @@ store_remove vars slots w z extra less id s within u rows apart counted = record
         (ne, sym (same_nogood slots (set slots id None) j (at_set_other slots id None None j ne)) ∙ g)
 
 -- ---- a lock
-pub store_lock : (vars : ℕ) (slots : List (Option StoredNogood)) (w : Watches) (extra id : ℕ) (b : Bool) → id < length slots → IsStore vars slots w extra →
-    IsStore vars (set slots id (with_lock b (kept_at slots id))) w extra
-store_lock vars slots w extra id b h s = record {
+pub store_lock : (vars : ℕ) (slots : List (Option StoredNogood)) (w : Watches) (given : List ℕ) (extra id : ℕ) (b : Bool) → id < length slots → IsStore vars slots w extra given →
+    IsStore vars (set slots id (with_lock b (kept_at slots id))) w extra given
+store_lock vars slots w given extra id b h s = record {
   few = s.few;
   net = record {
     sized = s.net.sized;
@@ -184,27 +210,33 @@ store_lock vars slots w extra id b h s = record {
     unwatched = λ j m g. s.net.unwatched j m (sym (locked_same b slots id j h) ∙ g);
   };
   counted = s.counted ∙ sym (locked_count b slots id);
+  tracked = λ j g. elim (is_or_not j id) [
+    | inl e ↦ s.tracked j (ap (λ (k : ℕ). is_from_propagator (kept_at slots k)) e ∙ (sym (from_lock b (kept_at slots id)) ∙ (sym (ap is_from_propagator (at_set slots id (with_lock b (kept_at slots id)) None j h e)) ∙ g)))
+    | inr ne ↦ s.tracked j (sym (ap is_from_propagator (at_set_other slots id (with_lock b (kept_at slots id)) None j ne)) ∙ g)
+  ];
 }
 
 -- ---- a store and its watches
-pub sound_from_fits : (vars : ℕ) (slots : List (Option StoredNogood)) (w : Watches) (extra : ℕ) (t : Trailed) → IsStore vars slots w extra → Fits (view_of vars slots w) t → IsSound slots w t
-sound_from_fits vars slots w extra t s f = record {
+pub sound_from_fits : (vars : ℕ) (slots : List (Option StoredNogood)) (w : Watches) (given : List ℕ) (extra : ℕ) (t : Trailed) → IsStore vars slots w extra given → Fits (view_of vars slots w given) t → IsSound slots w t
+sound_from_fits vars slots w given extra t s f = record {
   net = subst (λ (k : ℕ). IsNet k slots w) (sym f.same_vars) s.net;
   fit = f.fit;
 }
 
-pub fits_from_sound : (vars : ℕ) (slots : List (Option StoredNogood)) (w : Watches) (t : Trailed) → t.vars ≡ vars → HaveReasons slots t.entries → IsSound slots w t → Fits (view_of vars slots w) t
-fits_from_sound vars slots w t v r s = record {
+pub fits_from_sound : (vars : ℕ) (slots : List (Option StoredNogood)) (w : Watches) (given : List ℕ) (t : Trailed) → t.vars ≡ vars → HaveReasons slots t.entries → IsSound slots w t → Fits (view_of vars slots w given) t
+fits_from_sound vars slots w given t v r s = record {
   same_vars = v;
   reasons = r;
   fit = s.fit;
 }
 
-pub store_from_sound : (vars : ℕ) (slots : List (Option StoredNogood)) (w z : Watches) (extra : ℕ) (t : Trailed) → t.vars ≡ vars → IsStore vars slots w extra → IsSound slots z t → IsStore vars slots z extra
-store_from_sound vars slots w z extra t v s n = record {
+pub store_from_sound : (vars : ℕ) (slots : List (Option StoredNogood)) (w z : Watches) (given : List ℕ) (extra : ℕ) (t : Trailed) → t.vars ≡ vars → IsStore vars slots w extra given → IsSound slots z t →
+    IsStore vars slots z extra given
+store_from_sound vars slots w z given extra t v s n = record {
   few = s.few;
   net = subst (λ (k : ℕ). IsNet k slots z) v n.net;
   counted = s.counted;
+  tracked = s.tracked;
 }
 
 -- ---- how a nogood is added
@@ -214,6 +246,7 @@ pub added_put : (s : Stored) (id : ℕ) (n : Nogood) (kind : Kind) → id < leng
       slots = set s.slots id (Some (record { nogood = n; kind = kind; locked = false }));
       rows = set s.rows id [];
       apart = record s.apart { items = s.apart.items ++ id ∷ [] };
+      given = with_given kind id s.given;
     }) id n kind
 added_put s id n kind h k free begun = record {
   vars = refl;
@@ -223,6 +256,7 @@ added_put s id n kind h k free begun = record {
     others = λ j ne. at_set_other s.slots id (Some (record { nogood = n; kind = kind; locked = false })) None j ne;
   };
   pair = ap pair_of (at_set s.rows id [] [] id k refl);
+  given = refl;
   rows = λ j ne. at_set_other s.rows id [] [] j ne;
   waits = (length s.apart.items, begun, get_last s.apart.items id);
   apart = λ j f. from_push s.apart id s.apart.retired j f;
@@ -251,6 +285,7 @@ pub added_push : (s : Stored) (id : ℕ) (n : Nogood) (kind : Kind) → id ≡ l
       slots = s.slots ++ Some (record { nogood = n; kind = kind; locked = false }) ∷ [];
       rows = s.rows ++ [] ∷ [];
       apart = record s.apart { items = s.apart.items ++ id ∷ [] };
+      given = with_given kind id s.given;
     }) id n kind
 added_push s id n kind e paired begun = record {
   vars = refl;
@@ -260,6 +295,7 @@ added_push s id n kind e paired begun = record {
     others = λ j ne. at_push_other s.slots (Some (record { nogood = n; kind = kind; locked = false })) None j (λ q. ne (q ∙ sym e));
   };
   pair = ap pair_of (at_push s.rows [] [] id (e ∙ sym paired));
+  given = refl;
   rows = λ j ne. at_push_other s.rows [] [] j (λ q. ne (q ∙ (paired ∙ sym e)));
   waits = (length s.apart.items, begun, get_last s.apart.items id);
   apart = λ j f. from_push s.apart id s.apart.retired j f;
@@ -310,8 +346,9 @@ thins_removed slots id h q = record {
 }
 
 -- ---- the retired ones come back
-pub store_recall : (vars : ℕ) (slots : List (Option StoredNogood)) (w : Watches) (extra : ℕ) → IsStore vars slots w extra → IsStore vars slots (record w { apart = record w.apart { retired = 0 } }) extra
-store_recall vars slots w extra s = record {
+pub store_recall : (vars : ℕ) (slots : List (Option StoredNogood)) (w : Watches) (given : List ℕ) (extra : ℕ) → IsStore vars slots w extra given →
+    IsStore vars slots (record w { apart = record w.apart { retired = 0 } }) extra given
+store_recall vars slots w given extra s = record {
   few = s.few;
   net = record {
     sized = s.net.sized;
@@ -325,8 +362,9 @@ store_recall vars slots w extra s = record {
     unwatched = s.net.unwatched;
   };
   counted = s.counted;
+  tracked = s.tracked;
 }
 
-pub active_recall : (vars : ℕ) (slots : List (Option StoredNogood)) (w : Watches) (extra : ℕ) → IsStore vars slots w extra →
-    AreActive (record { vars = vars; slots = slots; rows = w.rows; apart = record w.apart { retired = 0 } })
-active_recall vars slots w extra s = s.net.unwatched
+pub active_recall : (vars : ℕ) (slots : List (Option StoredNogood)) (w : Watches) (given : List ℕ) (extra : ℕ) → IsStore vars slots w extra given →
+    AreActive (record { vars = vars; slots = slots; rows = w.rows; apart = record w.apart { retired = 0 }; given = given })
+active_recall vars slots w given extra s = s.net.unwatched

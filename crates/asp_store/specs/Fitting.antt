@@ -1,5 +1,5 @@
 -- Watched literals, over a trail's entries.
-use Rattle.std.specs.Prelude.{◌≡◌, ◌≢◌, ℕ, ◌<◌, ◌≤◌, ◌⊎◌, ◌++◌, List, Option, Some, None, IsTrue}
+use Rattle.std.specs.Prelude.{◌≡◌, ◌≢◌, ℕ, ◌<◌, ◌≤◌, ◌⊎◌, ◌++◌, List, length, Option, Some, None, IsTrue}
 use Rattle.std.specs.List.{All}
 use Rattle.asp_vars.specs.Literals.{Literal, complement, has_literal}
 use Rattle.asp_vars.specs.declared.nogood.Nogood.{Nogood}
@@ -36,7 +36,7 @@ pub record AreFit (slots : List (Option StoredNogood)) (rows : List (List Litera
   pub watched : (id : ℕ) (n : Nogood) (p : Pair) → nogood_at slots id ≡ Some n → pair_at rows id ≡ Some p → IsWatched n.lits p t.entries t.seen
   pub unwatched : (id : ℕ) (n : Nogood) → nogood_at slots id ≡ Some n → pair_at rows id ≡ None → IsFrom apart apart.retired id ⊎ HasFalse t.entries n.lits 0
 
--- Each entry that was implied names a nogood that is kept, which is its reason.
+-- Each entry that was implied by a number below 2^31 names a nogood that is kept, which is its reason.
 abbrev pub HaveReasons : List (Option StoredNogood) → List Entry → Type 0
 HaveReasons slots entries = AreReasoned (nogood_at slots) entries
 
@@ -49,6 +49,11 @@ pub record IsImpliedAt (b : ℕ) (e : Entry) : Type 0 where
   pub level : e.level ≡ b
   pub implied : (id : ℕ) × (e.reason ≡ Some id)
 
+-- The entry was implied at this level, by a number below n.
+pub record IsKeptAt (n b : ℕ) (e : Entry) : Type 0 where
+  pub level : e.level ≡ b
+  pub implied : (id : ℕ) × (e.reason ≡ Some id) × (id < n)
+
 -- Entries may be added, each of them implied at the level that stands, by a nogood that is kept.
 abbrev pub Extends : List (Option StoredNogood) → List Entry → List Entry → Type 0
-Extends slots old new = (fs : List Entry) × (new ≡ old ++ fs) × (HaveReasons slots old → HaveReasons slots new) × All (IsImpliedAt (level old)) fs
+Extends slots old new = (fs : List Entry) × (new ≡ old ++ fs) × (HaveReasons slots old → HaveReasons slots new) × All (IsKeptAt (length slots) (level old)) fs

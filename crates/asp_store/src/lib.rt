@@ -3,6 +3,7 @@
 
 pub mod apart;
 pub mod front;
+pub mod given;
 pub mod laws;
 pub mod lists;
 pub mod looks;

@@ -1,5 +1,5 @@
 //! The store of nogoods.
-ghost use Rattle.std.specs.Prelude.{◌≡◌, ◌+◌, ◌*◌, ◌^◌, ◌<◌, ◌≤◌, ◌≢◌, [], ℕ, length, count_by, IfOk, IfSome, OnOk, OnErr, None, true, false, if◌then◌else◌};
+ghost use Rattle.std.specs.Prelude.{◌≡◌, ◌+◌, ◌*◌, ◌^◌, ◌<◌, ◌≤◌, ◌≢◌, [], ℕ, length, count_by, IfOk, IfSome, IsSome, IsTrue, ◌↔◌, OnOk, OnErr, None, Some, slice_index, true, false, if◌then◌else◌};
 ghost use Rattle.std.specs.Vec.{vec_len, vec_capacity};
 ghost use Rattle.std.specs.List.{All};
 ghost use Rattle.asp_trail.specs.Trails.{IsVar};
@@ -8,16 +8,17 @@ ghost use Rattle.asp_store.specs.Fitting.{AreSmall, Extends};
 ghost use Rattle.asp_store.specs.Walking.{Propagates};
 ghost use Rattle.asp_store.specs.Storing.{Fits, IsAdded, removed, locked_at, recalled, AreActive, Loses};
 
+use crate::given::{forget_gone, note_given};
 use crate::notes::Notes;
 use crate::propagation::{Propagated, propagate};
 use crate::slots::{is_given_slot, is_spare_slot, remove_slot, set_locked};
 use crate::stored_nogood::{Kind, StoredNogood};
 use crate::unlisting::unlist;
 use crate::watches::Watches;
-use asp_trail::reasons::{NogoodId, Reasons};
+use asp_trail::reasons::NogoodId;
 use asp_trail::trail::Trail;
 use asp_vars::lit::Lit;
-use asp_vars::nogood::{Base, Nogood};
+use asp_vars::nogood::Nogood;
 use std::alloc::{AllocError, Global};
 use std::marker::Model;
 
@@ -35,6 +36,8 @@ pub struct Store {
     watches: Watches,
     // Numbers that had no nogood when they came here. They are looked at again before they are given out.
     free: Vec<u32>,
+    // The numbers of the nogoods that propagators gave, and some that had such a one once.
+    given: Vec<u32>,
     // By what a reduction chooses.
     notes: Notes,
     // How many kept nogoods aren't kept forever.
@@ -46,9 +49,9 @@ impl Model for Store {
 
     ghost Value = { Stored };
 
-    ghost view = { λ s. record { vars = s.vars; slots = s.slots.items; rows = s.watches.rows; apart = s.watches.apart } };
+    ghost view = { λ s. record { vars = s.vars; slots = s.slots.items; rows = s.watches.rows; apart = s.watches.apart; given = s.given.items } };
 
-    ghost invariant = { λ s. IsStore s.vars s.slots.items s.watches s.extra };
+    ghost invariant = { λ s. IsStore s.vars s.slots.items s.watches s.extra s.given.items };
 }
 
 // How many nogoods of this kind aren't kept forever.
@@ -73,7 +76,7 @@ impl Store {
     /// No nogoods, over the variables 1 to `vars`.
     pub fn new(alloc: Global, vars: u32) -> Result<Store, AllocError>
         requires { vars < 2 ^ 31 }
-        ensures { IfOk result (λ s. s ≡ record { vars = vars; slots = []; rows = []; apart = record { items = []; retired = 0 } }) }
+        ensures { IfOk result (λ s. s ≡ record { vars = vars; slots = []; rows = []; apart = record { items = []; retired = 0 }; given = [] }) }
     {
         let watches = Watches::new(alloc, 2 * (vars as usize) + 2)?;
         Ok(Store {
@@ -81,6 +84,7 @@ impl Store {
             slots: Vec::new(alloc),
             watches,
             free: Vec::new(alloc),
+            given: Vec::new(alloc),
             notes: Notes::new(alloc),
             extra: 0,
         })
@@ -108,8 +112,10 @@ impl Store {
         ensures err { OnErr result (self.new ≡ self.old) }
     {
         let _len = self.watches.apart.len();
+        self.given.reserve(1)?;
         self.watches.apart.push(id)?;
         self.watches.rows.clear(id as usize);
+        note_given(&mut self.given, id, kind);
         self.extra += extra_of(kind);
         self.slots[id as usize] = Some(StoredNogood {
             nogood,
@@ -131,7 +137,9 @@ impl Store {
         }
         let _len = self.watches.apart.len();
         self.slots.reserve(1)?;
+        self.given.reserve(1)?;
         self.watches.push(id as u32)?;
+        note_given(&mut self.given, id as u32, kind);
         self.extra += extra_of(kind);
         self.slots.push_reserved(Some(StoredNogood {
             nogood,
@@ -161,12 +169,40 @@ impl Store {
         }
     }
 
-    /// How many kept nogoods aren't kept forever. The literals of all that are kept are of the store's variables.
+    /// How many kept nogoods aren't kept forever. The literals of all that are kept are of the store's variables, and all
+    /// numbers are below 2^31.
     pub fn extra(&self) -> usize
         ensures extra { result ≡ count_by is_extra self.now.slots }
         ensures small { AreSmall self.now.vars self.now.slots }
+        ensures few { length self.now.slots ≤ 2 ^ 31 }
     {
         self.extra
+    }
+
+    /// The kept nogood under a number that has one.
+    pub fn nogood(&self, id: NogoodId) -> &Nogood
+        requires { IsSome (nogood_at self.now.slots id) }
+        ensures { Some result.now ≡ nogood_at self.now.slots id }
+    {
+        match &self.slots[id] {
+            Some(kept) => &kept.nogood,
+            None => unreachable!(),
+        }
+    }
+
+    /// The literals of the nogood under a number that has one, in their order.
+    pub fn lits(&self, id: NogoodId) -> &[Lit]
+        requires { IsSome (nogood_at self.now.slots id) }
+        ensures { IfSome (nogood_at self.now.slots id) (λ n. result.now ≡ n.lits) }
+    {
+        self.nogood(id).lits.as_slice()
+    }
+
+    /// Whether the number is a nogood's, be it kept or dropped. If not, it is no kept one's.
+    pub fn has_slot(&self, id: NogoodId) -> bool
+        ensures { IsTrue result ↔ id < length self.now.slots }
+    {
+        id < self.slots.len()
     }
 
     /// Says that a nogood was used, which keeps it longer.
@@ -187,6 +223,7 @@ impl Store {
         ensures slots { self.new.slots ≡ self.old.slots }
         ensures trail { trail.new ≡ record trail.old { entries = trail.new.entries; seen = trail.new.seen } }
         ensures extends { Extends self.old.slots trail.old.entries trail.new.entries }
+        ensures few { length self.old.slots ≤ 2 ^ 31 }
         ensures fits { Fits self.new trail.new }
         ensures propagates { IfOk result (Propagates self.old.vars self.old.slots trail.new.entries) }
     {
@@ -266,6 +303,7 @@ impl Store {
         requires { id < length self.old.slots }
         ensures loses { Loses self.old self.new }
         ensures count { length self.new.slots ≡ length self.old.slots }
+        ensures given { self.new.given ≡ self.old.given }
         ensures here { kept_at self.new.slots id ≡ unless_given (kept_at self.old.slots id) }
         ensures others { (k : ℕ) → k ≢ id → kept_at self.new.slots k ≡ kept_at self.old.slots k }
     {
@@ -274,34 +312,36 @@ impl Store {
         }
     }
 
+    // Drops the nogood under the i-th of the numbers, if a propagator gave it and it isn't locked.
+    fn drop_given_number(&mut self, i: usize)
+        requires { i < length self.old.given }
+        ensures loses { Loses self.old self.new }
+        ensures count { length self.new.slots ≡ length self.old.slots }
+        ensures given { self.new.given ≡ self.old.given }
+        ensures here { let id = slice_index self.old.given i in kept_at self.new.slots id ≡ unless_given (kept_at self.old.slots id) }
+        ensures others { (k : ℕ) → k ≢ slice_index self.old.given i → kept_at self.new.slots k ≡ kept_at self.old.slots k }
+    {
+        let id = self.given[i] as usize;
+        if id < self.slots.len() {
+            self.drop_given_at(id);
+        }
+    }
+
+    fn forget_gone(&mut self)
+        ensures { self.new ≡ record self.old { given = self.new.given } }
+    {
+        forget_gone(&mut self.given, self.slots.as_slice());
+    }
+
     /// Drops all nogoods that propagators gave and that aren't locked.
     pub fn drop_given(&mut self)
         ensures loses { Loses self.old self.new }
         ensures count { length self.new.slots ≡ length self.old.slots }
         ensures each { (id : ℕ) → kept_at self.new.slots id ≡ unless_given (kept_at self.old.slots id) }
     {
-        for id in 0..self.slots.len() {
-            self.drop_given_at(id);
+        for i in 0..self.given.len() {
+            self.drop_given_number(i);
         }
-    }
-}
-
-impl Reasons for Store {
-    ghost use Rattle.asp_store.specs.Keeping.{nogood_at};
-
-    ghost kept = { λ s id. nogood_at s.slots id };
-
-    fn lits(&self, id: NogoodId) -> &[Lit] {
-        match &self.slots[id] {
-            Some(kept) => kept.nogood.lits.as_slice(),
-            None => unreachable!(),
-        }
-    }
-
-    fn base(&self, id: NogoodId) -> &Base {
-        match &self.slots[id] {
-            Some(kept) => &kept.nogood.base,
-            None => unreachable!(),
-        }
+        self.forget_gone();
     }
 }

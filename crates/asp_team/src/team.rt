@@ -60,7 +60,8 @@ fn start(
         ask.limit(),
         [].as_slice(),
     )?;
-    Vault::make(alloc, Book::new(alloc, compiled, state))
+    let book = Book::new(alloc, compiled, state)?;
+    Vault::make(alloc, book)
 }
 
 // Sees that no other number has done anything.

@@ -6,7 +6,7 @@ use asp_crew::report::Report;
 use asp_read::fault::Fault;
 
 /// How a run ended.
-#[derive(Clone, Copy, Debug, PartialEq, Eq)]
+#[derive(Clone, Copy)]
 pub enum Status {
     /// Finished with a model: all answers or an optimum were written.
     All,

@@ -1,6 +1,6 @@
 //! The trail: literals in the order in which they came to hold.
-ghost use Rattle.std.specs.Prelude.{◌≡◌, ℕ, false, ◌<◌, ◌≤◌, ◌⊎◌, ◌+◌, ◌-◌, ◌++◌, ◌∷◌, [], Some, None, IfOk, OnOk, OnErr, IsSome, IsTrue, length, min, slice_index_or};
-ghost use Rattle.asp_vars.specs.Literals.{value_of, Literal};
+ghost use Rattle.std.specs.Prelude.{◌≡◌, ℕ, false, ◌<◌, ◌≤◌, ◌⊎◌, ◌+◌, ◌-◌, ◌++◌, ◌∷◌, [], Some, None, IfOk, OnOk, OnErr, IsSome, IsTrue, length, min, slice_index_or, take};
+ghost use Rattle.asp_vars.specs.Literals.{value_of, holds_in, Literal};
 ghost use Rattle.asp_trail.specs.Entries.{assignment, level, level_in, reason_in, cut, first_decision};
 ghost use Rattle.asp_trail.specs.Trails.{IsVar, IsOrdered};
 ghost use Rattle.std.specs.List.{All};
@@ -298,6 +298,28 @@ impl Trail {
     {
         let place = self.places[var as usize];
         self.entries[place as usize].reason
+    }
+
+    /// The place of the entry of a variable that has a value.
+    pub fn place_of(&self, var: Var) -> usize
+        requires small { var ≤ self.now.vars }
+        requires has { IsSome (value_of (assignment self.now.vars self.now.entries) var) }
+        ensures within { result < length self.now.entries }
+        ensures var { (d : Entry) → (slice_index_or self.now.entries result d).lit.var ≡ var }
+    {
+        self.places[var as usize] as usize
+    }
+
+    /// Whether the literal held before the entry at a place came.
+    pub fn held_before(&self, lit: Lit, place: usize) -> bool
+        requires { lit.var ≤ self.now.vars }
+        ensures { result ≡ holds_in (assignment self.now.vars (take place self.now.entries)) lit }
+    {
+        if self.values.holds(lit) {
+            self.place_of(lit.var()) < place
+        } else {
+            false
+        }
     }
 
     /// The decision of level 1, if there is one.

@@ -25,12 +25,11 @@ use Rattle.asp_vars.proofs.PlaceLaws.{atom-within}
 use Rattle.asp_trail.specs.declared.trail.Entry.{Entry}
 use Rattle.asp_trail.specs.Entries.{assignment}
 use Rattle.asp_trail.specs.Fixpoint.{is_violated, is_unit, is_at_fixpoint}
-use Rattle.asp_trail.specs.Reasons.{AreReasoned}
 use Rattle.asp_trail.specs.Trails.{IsVar}
 use Rattle.asp_trail.proofs.HoldLaws.{holds_found}
 use Rattle.asp_trail.proofs.TrailLaws.{level_top}
 use Rattle.asp_loop.proofs.FoundedLaws.{has-filter}
-use Rattle.asp_trail_laws.specs.Settling.{KeepsSettled}
+use Rattle.asp_trail_laws.specs.Settling.{AreSettled}
 use Rattle.asp_trail_laws.specs.Starts.{AreStarts}
 use Rattle.asp_trail_laws.specs.Whole.{AreBlocked, AreVars, IsWhole, atoms_on, truths}
 use Rattle.asp_trail_laws.proofs.HitLaws.{trail_hit}
@@ -70,8 +69,8 @@ part-ascends q (a ∷ S) h = cases (q a) refl (part-ascends q S h.1)
     cases false e rest = rw (← e) rest
 
 -- ---- it is the only one
-module _ (p : Program) (K : List Atoms) (bound : Option (List ℤ)) (vars : ℕ) (kept : ℕ → Option Nogood) (cube decisions : List Literal) (es : List Entry)
-    (w : IsWhole p vars es) (r : AreReasoned kept es) (all : KeepsSettled p K bound kept) (s : AreStarts cube decisions es) where
+module _ (p : Program) (K : List Atoms) (bound : Option (List ℤ)) (vars : ℕ) (cube decisions : List Literal) (es : List Entry)
+    (w : IsWhole p vars es) (r : AreSettled p K bound es) (s : AreStarts cube decisions es) where
   module _ (R : Atoms) (stable : is_stable p R ≡ true) (open_ : is_done p K bound R ≡ false) (h : hits (values p R) (cube ++ decisions) ≡ true) where
     -- an entry is hit
     entry_hit : (l : Literal) → holds_in (assignment vars es) l ≡ true → is_true (values p R) l ≡ true
@@ -80,7 +79,7 @@ module _ (p : Program) (K : List Atoms) (bound : Option (List ℤ)) (vars : ℕ)
         let way : hits (values p R) (cube ++ take (length decisions) decisions) ≡ true =
         subst (λ (n : List Literal). hits (values p R) (cube ++ n) ≡ true) (sym (take_all (length decisions) decisions (omega arith))) h in
         subst (λ (m : Literal). is_true (values p R) m ≡ true) (f.2 blank)
-        (trail_hit p K bound vars kept cube decisions es (length decisions) R w.ordered r all s stable open_ way f.0 blank f.1
+        (trail_hit p K bound vars cube decisions es (length decisions) R w.ordered r s stable open_ way f.0 blank f.1
         (omega (arith, level_top es w.ordered.rising f.0 blank f.1, s.counted)))
 
     -- each variable has the trail's value

@@ -18,7 +18,8 @@ use Rattle.asp_trail.proofs.FixpointLaws.{list_all_at}
 use Rattle.asp_trail_laws.specs.Fixpoint.{WereAtFixpoint}
 use Rattle.asp_trail_laws.specs.Starts.{nth_decision, Begins, AreStarts}
 use Rattle.asp_trail_laws.proofs.LitLaws.{all_pass, has_append, has_place}
-use Rattle.asp_trail_laws.proofs.PlaceLaws.{blank, level_at, level_in_top, ordered_take, rising_le, stands_take}
+use Rattle.asp_trail_laws.proofs.PlaceLaws.{blank, level_at, level_in_top, rising_le, stands_take}
+use Rattle.asp_trail.proofs.HeldLaws.{ordered_take}
 use Rattle.asp_trail_laws.proofs.ClosedLaws.{lits, lits_at, lits_place, closed_all, none_within, no_clash}
 
 -- ---- the entries before a decision

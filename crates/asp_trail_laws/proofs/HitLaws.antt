@@ -9,13 +9,12 @@ use Rattle.asp_model.specs.Models.{is_stable}
 use Rattle.asp_vars.specs.Literals.{Literal, F, complement, literal_eq, has_literal, is_true, hits}
 use Rattle.asp_vars.specs.Numbering.{values}
 use Rattle.asp_vars.specs.Entailment.{HitsOnly, is_done}
-use Rattle.asp_vars.specs.declared.nogood.Nogood.{Nogood}
 use Rattle.asp_vars.proofs.LiteralLaws.{same_literal, is_true-complement, hits-has}
 use Rattle.asp_trail.specs.declared.trail.Entry.{Entry}
-use Rattle.asp_trail.specs.Reasons.{IsReason, AreReasoned}
+use Rattle.asp_trail.specs.Reasons.{IsReason}
 use Rattle.asp_trail.specs.Trails.{IsOrdered}
 use Rattle.asp_trail.proofs.TrailLaws.{level_top}
-use Rattle.asp_trail_laws.specs.Settling.{KeepsSettled}
+use Rattle.asp_trail_laws.specs.Settling.{AreSettled}
 use Rattle.asp_trail_laws.specs.Starts.{IsStart, AreStarts}
 use Rattle.asp_trail_laws.proofs.LitLaws.{eq_differ, all_pass, has_at, has_more, has_later}
 use Rattle.asp_trail_laws.proofs.PlaceLaws.{rising_le}
@@ -61,8 +60,8 @@ reason_hit v es i l n r unhit before = cases (is_true v l) refl
     cases true q = sym q
     cases false q = absurd (unhit (all_pass (is_true v) n (λ m h. other (sym q) m h (literal_eq m (complement l)) refl)))
 
-module _ (p : Program) (K : List Atoms) (bound : Option (List ℤ)) (vars : ℕ) (kept : ℕ → Option Nogood) (cube decisions : List Literal) (es : List Entry) (k : ℕ) (S : Atoms)
-    (o : IsOrdered vars es) (r : AreReasoned kept es) (all : KeepsSettled p K bound kept) (s : AreStarts cube decisions es)
+module _ (p : Program) (K : List Atoms) (bound : Option (List ℤ)) (vars : ℕ) (cube decisions : List Literal) (es : List Entry) (k : ℕ) (S : Atoms)
+    (o : IsOrdered vars es) (r : AreSettled p K bound es) (s : AreStarts cube decisions es)
     (stable : is_stable p S ≡ true) (open_ : is_done p K bound S ≡ false) (h : hits (values p S) (cube ++ take k decisions) ≡ true) where
   next_hit : (i : ℕ) (d : Entry) → i < length es → (get_or es i d).level ≤ k → ((j : ℕ) (e : Entry) → j < i → is_true (values p S) (get_or es j e).lit ≡ true) → is_true (values p S) (get_or es i d).lit ≡ true
   next_hit i d lt le before = cases (get_or es i d).reason refl
@@ -72,7 +71,7 @@ module _ (p : Program) (K : List Atoms) (bound : Option (List ℤ)) (vars : ℕ)
           start_hit (values p S) cube decisions k (get_or es i d) h le (omega (arith, s.counted, level_top es o.rising i d lt)) (s.starts i d lt (sym q))
       cases (Some id) q =
           let t = r i d id lt (sym q) in
-          reason_hit (values p S) es i (get_or es i d).lit t.0.lits t.2 (λ g. false≢true (sym open_ ∙ (all id t.0 t.1).excused S stable g)) before
+          reason_hit (values p S) es i (get_or es i d).lit t.0.lits t.2 (λ g. false≢true (sym open_ ∙ t.1.excused S stable g)) before
 
   same_level : (i : ℕ) (d e : Entry) → i < length es → (get_or es i d).level ≤ k → (get_or es i e).level ≤ k
   same_level i d e lt le = subst (λ (x : Entry). x.level ≤ k) (get_or_default es i d e lt) le

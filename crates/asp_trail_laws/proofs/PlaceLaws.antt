@@ -3,14 +3,13 @@ use Rattle.std.proofs.Common.{◌≡◌, ℕ, suc, ◌+◌, ◌-◌, ◌<◌, �
 use Rattle.std.specs.List.{AllPairs}
 use Rattle.std.specs.Option.{is_none}
 use Rattle.std.proofs.lemmas.Bool.{false≢true, eq-eqb, eqb-true, false_from_ne_true, cases_eq}
-use Rattle.std.proofs.lemmas.List.{length-append, length-take, length-take-le, get_or_append_left, get_or-append_right, get_or-take, get_or_default, append-nil}
-use Rattle.std.proofs.lemmas.List.Elements.{All-take}
+use Rattle.std.proofs.lemmas.List.{length-append, length-take-le, get_or_append_left, get_or-append_right, get_or-take, get_or_default, append-nil}
 use Rattle.std.proofs.lemmas.Option.{slice_get-get_or}
 use Rattle.asp_vars.specs.Literals.{Literal, T, holds_in}
 use Rattle.asp_trail.specs.declared.trail.Entry.{Entry}
 use Rattle.asp_trail.specs.Entries.{assignment, entry_of, level, level_in, level_or_zero, reason_in, reason_or_none}
 use Rattle.asp_trail.specs.Reasons.{Stands}
-use Rattle.asp_trail.specs.Trails.{IsVar, IsOrdered}
+use Rattle.asp_trail.specs.Trails.{IsOrdered}
 use Rattle.asp_trail.proofs.EntryLaws.{find_only}
 use Rattle.asp_trail.proofs.TrailLaws.{level_top}
 use Rattle.asp_trail.proofs.HoldLaws.{holds_at}
@@ -115,24 +114,3 @@ level_in_top es v r = cases (cases_eq 0 (level_in es v))
     cases : (0 ≡ level_in es v) ⊎ (0 ≡ level_in es v → ⊥) → level_in es v ≤ level es
     cases (inl q) = omega (arith, q)
     cases (inr ne) = let f = level_found es v (omega (arith, ne)) in omega (arith, f.2 blank, level_top es r f.0 blank f.1)
-
--- the first entries are a trail's
-pub ordered_take : (vars : ℕ) (es : List Entry) (n : ℕ) → IsOrdered vars es → IsOrdered vars (take n es)
-ordered_take vars es n o = record {
-  within = All-take (λ e. IsVar vars e.lit.var) n es o.within;
-  apart = λ i j d l h q.
-      let b = bounds j h in
-      o.apart i j d l b.1 (sym (ap (λ (e : Entry). e.lit.var) (get_or-take n es i d (omega (arith, l, b.0)))) ∙ (q ∙ ap (λ (e : Entry). e.lit.var) (get_or-take n es j d b.0)));
-  rising = λ i j d l h.
-      let b = bounds j h in
-      omega (arith, ap (λ (e : Entry). e.level) (get_or-take n es i d (omega (arith, l, b.0))), ap (λ (e : Entry). e.level) (get_or-take n es j d b.0), o.rising i j d l b.1);
-  decided = λ i j d l h none same.
-      let b = bounds j h in
-      let at = get_or-take n es j d b.0 in
-      let was = get_or-take n es i d (omega (arith, l, b.0)) in
-      ap (λ (e : Entry). e.level) at
-      ∙ o.decided i j d l b.1 (sym (ap (λ (e : Entry). e.reason) at) ∙ none) (sym (ap (λ (e : Entry). e.level) was) ∙ (same ∙ ap (λ (e : Entry). e.level) at));
-}
-  where
-    bounds : (j : ℕ) → j < length (take n es) → (j < n) × (j < length es)
-    bounds j h = (omega (arith, h, length-take n es), omega (arith, h, length-take n es))

@@ -10,24 +10,22 @@ use Rattle.asp_vars.specs.Literals.{Literal, has_literal, holds_in, is_true, hit
 use Rattle.asp_vars.specs.Numbering.{values}
 use Rattle.asp_vars.specs.Entailment.{Settled, is_done}
 use Rattle.asp_vars.specs.Resolution.{IsWithin}
-use Rattle.asp_vars.specs.declared.nogood.Nogood.{Nogood}
 use Rattle.asp_trail.specs.declared.trail.Entry.{Entry}
 use Rattle.asp_trail.specs.Entries.{assignment, level_in, reason_in}
 use Rattle.asp_trail.specs.Fixpoint.{is_violated}
-use Rattle.asp_trail.specs.Reasons.{AreReasoned}
 use Rattle.asp_trail.specs.Trails.{IsOrdered}
 use Rattle.asp_trail.proofs.HoldLaws.{holds_found}
 use Rattle.asp_trail.proofs.FixpointLaws.{list_all_at}
-use Rattle.asp_trail_laws.specs.Settling.{KeepsSettled}
+use Rattle.asp_trail_laws.specs.Settling.{AreSettled}
 use Rattle.asp_trail_laws.specs.Starts.{AreStarts}
 use Rattle.asp_trail_laws.proofs.LitLaws.{all_has, all_pass}
 use Rattle.asp_trail_laws.proofs.PlaceLaws.{blank, level_at, reason_at}
 use Rattle.asp_trail_laws.proofs.HitLaws.{trail_hit}
 
-pub way_settled : (p : Program) (K : List Atoms) (bound : Option (List ℤ)) (vars : ℕ) (kept : ℕ → Option Nogood) (cube decisions : List Literal) (es : List Entry) (k : ℕ) (n : List Literal) →
-    IsOrdered vars es → AreReasoned kept es → KeepsSettled p K bound kept → AreStarts cube decisions es →
+pub way_settled : (p : Program) (K : List Atoms) (bound : Option (List ℤ)) (vars : ℕ) (cube decisions : List Literal) (es : List Entry) (k : ℕ) (n : List Literal) →
+    IsOrdered vars es → AreSettled p K bound es → AreStarts cube decisions es →
     Settled p K bound n → is_violated (assignment vars es) n ≡ true → All (λ l. level_in es l.var ≤ k) n → Settled p K bound (cube ++ take k decisions)
-way_settled p K bound vars kept cube decisions es k n o r all s settled violated low = record {
+way_settled p K bound vars cube decisions es k n o r s settled violated low = record {
   excused = λ S stable h. cases S stable h (is_done p K bound S) refl;
 }
   where
@@ -37,18 +35,18 @@ way_settled p K bound vars kept cube decisions es k n o r all s settled violated
         let level : level_in es l.var ≡ (get_or es f.0 blank).level = level_at vars es f.0 blank l o f.1 (f.2 blank) in
         let small : level_in es l.var ≤ k = all_has (λ m. level_in es m.var ≤ k) n l low has in
         subst (λ (m : Literal). is_true (values p S) m ≡ true) (f.2 blank)
-        (trail_hit p K bound vars kept cube decisions es k S o r all s stable open_ h f.0 blank f.1 (omega (arith, level, small)))
+        (trail_hit p K bound vars cube decisions es k S o r s stable open_ h f.0 blank f.1 (omega (arith, level, small)))
 
     cases : (S : Atoms) → is_stable p S ≡ true → hits (values p S) (cube ++ take k decisions) ≡ true → (b : Bool) → b ≡ is_done p K bound S → is_done p K bound S ≡ true
     cases S stable h true q = sym q
     cases S stable h false q = settled.excused S stable (all_pass (is_true (values p S)) n (one S stable (sym q) h))
 
-pub cube_settled : (p : Program) (K : List Atoms) (bound : Option (List ℤ)) (vars : ℕ) (kept : ℕ → Option Nogood) (cube decisions : List Literal) (es : List Entry) (n : List Literal) →
-    IsOrdered vars es → AreReasoned kept es → KeepsSettled p K bound kept → AreStarts cube decisions es →
+pub cube_settled : (p : Program) (K : List Atoms) (bound : Option (List ℤ)) (vars : ℕ) (cube decisions : List Literal) (es : List Entry) (n : List Literal) →
+    IsOrdered vars es → AreSettled p K bound es → AreStarts cube decisions es →
     Settled p K bound n → is_violated (assignment vars es) n ≡ true → All (λ l. level_in es l.var ≡ 0) n → Settled p K bound cube
-cube_settled p K bound vars kept cube decisions es n o r all s settled violated low =
+cube_settled p K bound vars cube decisions es n o r s settled violated low =
     subst (Settled p K bound) (append-nil cube)
-    (way_settled p K bound vars kept cube decisions es 0 n o r all s settled violated (λ i d h. omega (arith, low i d h)))
+    (way_settled p K bound vars cube decisions es 0 n o r s settled violated (λ i d h. omega (arith, low i d h)))
 
 pub within_cube : (vars : ℕ) (cube decisions : List Literal) (es : List Entry) (n : List Literal) → IsOrdered vars es → AreStarts cube decisions es →
     All (λ l. holds_in (assignment vars es) l ≡ true) n → All (λ l. level_in es l.var ≡ 0) n → All (λ l. level_in es l.var ≡ 0 → reason_in es l.var ≡ None) n → IsWithin n cube

@@ -14,18 +14,17 @@ ghost use Rattle.asp_vars.specs.declared.nogood.Nogood.{Nogood};
 ghost use Rattle.asp_trail.specs.declared.trail.Entry.{Entry};
 ghost use Rattle.asp_trail.specs.Entries.{assignment, level_in, reason_in};
 ghost use Rattle.asp_trail.specs.Fixpoint.{is_at_fixpoint, is_violated};
-ghost use Rattle.asp_trail.specs.Reasons.{AreReasoned};
 ghost use Rattle.asp_trail.specs.Trails.{IsOrdered, IsVar};
 ghost use Rattle.asp_found.specs.Valuations.{IsValuation};
 ghost use Rattle.asp_trail_laws.specs.Fixpoint.{WereAtFixpoint};
-ghost use Rattle.asp_trail_laws.specs.Settling.{KeepsSettled};
+ghost use Rattle.asp_trail_laws.specs.Settling.{AreSettled};
 ghost use Rattle.asp_trail_laws.specs.Starts.{AreStarts};
 ghost use Rattle.asp_trail_laws.specs.Whole.{AreBlocked, AreVars, IsWhole, atoms_on, truths};
 
 /// A stable model that hits the cube and the first k decisions, and isn't done, hits each entry of the levels up to k.
 pub fn settled_trails_hit()
-    ensures { (p : Program) (known : List Atoms) (bound : Option (List ℤ)) (vars : ℕ) (kept : ℕ → Option Nogood) (cube decisions : List Literal) (entries : List Entry) (k : ℕ) (S : Atoms) →
-        IsOrdered vars entries → AreReasoned kept entries → KeepsSettled p known bound kept → AreStarts cube decisions entries →
+    ensures { (p : Program) (known : List Atoms) (bound : Option (List ℤ)) (vars : ℕ) (cube decisions : List Literal) (entries : List Entry) (k : ℕ) (S : Atoms) →
+        IsOrdered vars entries → AreSettled p known bound entries → AreStarts cube decisions entries →
         IsTrue (is_stable p S) → is_done p known bound S ≡ false → IsTrue (hits (values p S) (cube ++ take k decisions)) →
         (i : ℕ) (d : Entry) → i < length entries → (slice_index_or entries i d).level ≤ k → IsTrue (is_true (values p S) (slice_index_or entries i d).lit) }
 {}
@@ -34,12 +33,12 @@ pub fn settled_trails_hit()
 /// level 0 settles the cube alone, and lies in it where none of its literals was implied. No set hits a cube with a literal
 /// and its complement.
 pub fn violated_nogoods_settle()
-    ensures way { (p : Program) (known : List Atoms) (bound : Option (List ℤ)) (vars : ℕ) (kept : ℕ → Option Nogood) (cube decisions : List Literal) (entries : List Entry) (k : ℕ) (n : List Literal) →
-        IsOrdered vars entries → AreReasoned kept entries → KeepsSettled p known bound kept → AreStarts cube decisions entries →
+    ensures way { (p : Program) (known : List Atoms) (bound : Option (List ℤ)) (vars : ℕ) (cube decisions : List Literal) (entries : List Entry) (k : ℕ) (n : List Literal) →
+        IsOrdered vars entries → AreSettled p known bound entries → AreStarts cube decisions entries →
         Settled p known bound n → IsTrue (is_violated (assignment vars entries) n) → All (λ l. level_in entries l.var ≤ k) n →
         Settled p known bound (cube ++ take k decisions) }
-    ensures cube { (p : Program) (known : List Atoms) (bound : Option (List ℤ)) (vars : ℕ) (kept : ℕ → Option Nogood) (cube decisions : List Literal) (entries : List Entry) (n : List Literal) →
-        IsOrdered vars entries → AreReasoned kept entries → KeepsSettled p known bound kept → AreStarts cube decisions entries →
+    ensures cube { (p : Program) (known : List Atoms) (bound : Option (List ℤ)) (vars : ℕ) (cube decisions : List Literal) (entries : List Entry) (n : List Literal) →
+        IsOrdered vars entries → AreSettled p known bound entries → AreStarts cube decisions entries →
         Settled p known bound n → IsTrue (is_violated (assignment vars entries) n) → All (λ l. level_in entries l.var ≡ 0) n →
         Settled p known bound cube }
     ensures within { (vars : ℕ) (cube decisions : List Literal) (entries : List Entry) (n : List Literal) → IsOrdered vars entries → AreStarts cube decisions entries →
@@ -89,7 +88,7 @@ pub fn answers_are_new()
         ((id : ℕ) (n : Nogood) → kept id ≡ Some n → AreVars vars n.lits) →
         ((id : ℕ) (n : Nogood) → kept id ≡ Some n → IsTrue (is_at_fixpoint (assignment vars entries) n.lits)) →
         list_any (same_set (atoms_on p vars entries)) known ≡ false }
-    ensures settled { (p : Program) (known : List Atoms) (bound : Option (List ℤ)) (vars : ℕ) (kept : ℕ → Option Nogood) (cube decisions : List Literal) (entries : List Entry) →
-        IsWhole p vars entries → AreReasoned kept entries → KeepsSettled p known bound kept → AreStarts cube decisions entries →
+    ensures settled { (p : Program) (known : List Atoms) (bound : Option (List ℤ)) (vars : ℕ) (cube decisions : List Literal) (entries : List Entry) →
+        IsWhole p vars entries → AreSettled p known bound entries → AreStarts cube decisions entries →
         Settled p (known ++ atoms_on p vars entries ∷ []) bound (cube ++ decisions) }
 {}

@@ -12,6 +12,7 @@ pub mod PlaceLaws
 pub mod SettledLaws
 pub mod RowLaws
 pub mod FormLaws
+pub mod PushLaws
 pub mod KeyLaws
 pub mod RuleLaws
 pub mod HeadLaws

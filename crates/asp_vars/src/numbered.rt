@@ -1,8 +1,8 @@
 //! Programs whose atoms and bodies have numbers: what compiling starts from.
-ghost use Rattle.std.specs.Prelude.{◌≡◌, ◌+◌, ◌*◌, IfOk, length, map};
-ghost use Rattle.asp_model.specs.Sound.{IsSound};
+ghost use Rattle.std.specs.Prelude.{◌≡◌, ◌+◌, ◌*◌, ◌<◌, ◌^◌, ◌++◌, All, IfOk, length, map};
+ghost use Rattle.asp_model.specs.Sound.{IsSound, HasFewItems};
 ghost use Rattle.asp_model.specs.Models.{rules_in_force, atoms_of};
-ghost use Rattle.asp_vars.specs.Numbering.{bodies_of, var_of_body};
+ghost use Rattle.asp_vars.specs.Numbering.{normal, body_eq, distinct, place_of, bodies_of, var_of_body};
 ghost use Rattle.asp_vars.specs.Completion.{is_barred};
 ghost use Rattle.asp_vars.specs.Tabled.{bound_of, form_literals, form_weights, heads_of, AreSupports, AreOccurrences};
 
@@ -49,6 +49,28 @@ impl Model for Numbered {
     ghost invariant = { IsNumbered };
 }
 
+// The distinct bodies and the place of each rule's body, unless there are too many rules or variables.
+fn numbers(
+    alloc: Global,
+    rules: &[Rule],
+    opened: &[Rule],
+    atoms: &Interp,
+) -> Result<(Bodies, Vec<u32>), AllocError>
+    requires { All HasFewItems (rules.now ++ opened.now) }
+    ensures bodies { IfOk result (λ r. r.0 ≡ distinct (map (λ x. normal x.body) (rules.now ++ opened.now))) }
+    ensures places { IfOk result (λ r. r.1.items ≡ map (λ x. place_of (body_eq (normal x.body)) r.0) (rules.now ++ opened.now)) }
+    ensures few { IfOk result (λ r. length atoms.now + length r.0 < 2 ^ 31) }
+{
+    if LIMIT <= rules.len() + opened.len() {
+        return Err(AllocError);
+    }
+    let (bodies, places) = number(alloc, rules, opened)?;
+    if LIMIT <= atoms.as_slice().len() + bodies.forms().len() {
+        return Err(AllocError);
+    }
+    Ok((bodies, places))
+}
+
 impl Numbered {
     /// The program with its numbers. Want of memory is also the answer where it has too many rules or variables.
     pub fn of(alloc: Global, program: Program) -> Result<Numbered, AllocError>
@@ -56,15 +78,8 @@ impl Numbered {
         ensures { IfOk result (λ n. n ≡ program) }
     {
         let opened = program.opened_rules(alloc)?;
-        let rules = program.rules.as_slice();
-        if LIMIT <= rules.len() + opened.as_slice().len() {
-            return Err(AllocError);
-        }
-        let (bodies, places) = number(alloc, rules, opened.as_slice())?;
         let atoms = program.atoms(alloc)?;
-        if LIMIT <= atoms.as_slice().len() + bodies.forms().len() {
-            return Err(AllocError);
-        }
+        let (bodies, places) = numbers(alloc, program.rules.as_slice(), opened.as_slice(), &atoms)?;
         Ok(Numbered {
             program,
             opened,

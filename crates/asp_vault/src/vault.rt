@@ -9,10 +9,10 @@ use crate::kept::Kept;
 use crate::law::{Comparing, Giving, Joining, Law, Looking, Parting, Taking};
 use crate::view::View;
 use atomic_table::Table;
+use crossbeam_utils::Backoff;
 use std::alloc::{AllocError, Global};
 use std::snapshot::Snapshot;
 use std::sync::Wait;
-use std::thread;
 
 /// A value that seats take in turns.
 ///
@@ -172,11 +172,12 @@ impl<T: Kept> Vault<T> {
         ensures about { Some (T.about result) ≡ (view seat.old).about }
         ensures sound { T.sound result }
     {
+        let backoff = Backoff::new();
         for _ in rt.forever() {
             if let Some(value) = self.try_take(seat) {
                 return value;
             }
-            thread::yield_now();
+            backoff.snooze();
         }
         unreachable!()
     }

@@ -10,3 +10,5 @@ pub mod PassLaws
 pub mod SilenceLaws
 pub mod SpeechLaws
 pub mod StepLaws
+pub mod LateLaws
+pub mod ExplainLaws

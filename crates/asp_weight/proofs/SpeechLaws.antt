@@ -34,7 +34,7 @@ use Rattle.asp_weight.proofs.PositiveLaws.{HasPositive}
 use Rattle.asp_weight.proofs.SumLaws.{sum_le, sum_le_but, total_split}
 use Rattle.asp_weight.proofs.SilenceLaws.{weight_that-row}
 
-beq_itself : (b : Bool) → beq b b ≡ true
+pub beq_itself : (b : Bool) → beq b b ≡ true
 beq_itself true = refl
 beq_itself false = refl
 
@@ -89,7 +89,7 @@ held_holds side a i = cases (holds_in a (on side i.lit)) refl
     cases true q = and_both (holds_in a (on side i.lit)) true (sym q) refl
     cases false q = refl
 
-gathered_hold : (side : Bool) (a : List (Option Bool)) (need sum : ℕ) (row : List Item) → list_all (holds_in a) (gathered side a need sum row) ≡ true
+pub gathered_hold : (side : Bool) (a : List (Option Bool)) (need sum : ℕ) (row : List Item) → list_all (holds_in a) (gathered side a need sum row) ≡ true
 gathered_hold side a need sum [] = refl
 gathered_hold side a need sum (i ∷ row) = cases (leb need sum) (gathered_hold side a need (sum + weight_if (holds_in a) side i) row)
   where
@@ -100,7 +100,7 @@ gathered_hold side a need sum (i ∷ row) = cases (leb need sum) (gathered_hold 
     cases true e = refl
     cases false e = list_all-append-both (holds_in a) (held side a i) rest (held_holds side a i) e
 
-literal_eq_itself : (l : Literal) → literal_eq l l ≡ true
+pub literal_eq_itself : (l : Literal) → literal_eq l l ≡ true
 literal_eq_itself l = and_both (eqb l.var l.var) (beq l.truth l.truth) (eq-eqb l.var l.var refl) (beq_itself l.truth)
 
 weaker_test : (t u : Literal → Bool) (n : List Literal) → ((l : Literal) → t l ≡ true → u l ≡ true) → list_all t n ≡ true → list_all u n ≡ true
@@ -150,7 +150,7 @@ spoken_wanted (Some j) side a s row h =
     (inr (on_open side a (item_at row j).lit h.1))
 
 -- ---- its variables
-on_var : (side : Bool) (l : Literal) → (on side l).var ≡ l.var
+pub on_var : (side : Bool) (l : Literal) → (on side l).var ≡ l.var
 on_var true l = refl
 on_var false l = refl
 

@@ -256,11 +256,19 @@ looked p a b shapes rows places tallies more k e c q = record {
   silence = subst (λ (x : List (Option Bool)). AreSilentRows x shapes rows more) e q;
 }
 
-in_program : (p : Program) (w : ℕ) → w < length (weighed_bodies p) → (list_any (body_eq (nth_weighed p w)) (bodies_of p) ≡ true) × Stands (atoms_of p) (nth_weighed p w)
+pub in_program : (p : Program) (w : ℕ) → w < length (weighed_bodies p) → (list_any (body_eq (nth_weighed p w)) (bodies_of p) ≡ true) × Stands (atoms_of p) (nth_weighed p w)
 in_program p w h = (
   All-from_recursion (λ b. list_any (body_eq b) (bodies_of p) ≡ true) (weighed_bodies p) (each-filter (λ b. list_any (body_eq b) (bodies_of p) ≡ true) is_weighed (bodies_of p) (bodies_of-themselves p)) w (body.All []) h,
   All-from_recursion (Stands (atoms_of p)) (weighed_bodies p) (each-filter (Stands (atoms_of p)) is_weighed (bodies_of p) (bodies_of-stand p)) w (body.All []) h,
 )
+
+-- what is said of a body its definition excludes
+pub excluded_by : (p : Program) (w : ℕ) (s : Shape) (row : List Item) (x : Speech) (a : List (Option Bool)) → IsSound p → w < length (weighed_bodies p) → IsRow p (nth_weighed p w) s row → Speaks x a s row →
+    Excludes p (nth_weighed p w) (spoken x a s row)
+excluded_by p w s row x a sound h r says = record {
+  stands = (in_program p w h).0;
+  broken = λ v hit. spoken_excluded p (nth_weighed p w) x.open x.side a s row (weighed_at p w h) (positive_at p w sound h) r says v hit;
+}
 
 pub given : (p : Program) (a : List (Option Bool)) (shapes : List Shape) (rows : List (List Item)) (w : ℕ) (x : Speech) (n : Nogood) → IsSound p → AreRows p (weighed_bodies p) shapes rows → w < length rows →
     Speaks x a (shape_at shapes w) (row_at rows w) → n.lits ≡ spoken x a (shape_at shapes w) (row_at rows w) → n.base ≡ base.Pure → IsGiven (record { program = p; values = a }) n
@@ -280,10 +288,7 @@ given p a shapes rows w x n sound r h s e f =
     row = r.row w l
 
     shown : Excludes p (nth_weighed p w) (spoken x a (shape_at shapes w) (row_at rows w))
-    shown = record {
-      stands = (in_program p w l).0;
-      broken = λ v hit. spoken_excluded p (nth_weighed p w) x.open x.side a (shape_at shapes w) (row_at rows w) (weighed_at p w l) (positive_at p w sound l) row s v hit;
-    }
+    shown = excluded_by p w (shape_at shapes w) (row_at rows w) x a sound l row s
 
 -- ---- in the form of the code
 pub kept_as : (p : Program) (a b : List (Option Bool)) (shapes : List Shape) (rows : List (List Item)) (places : List (List Place)) (tallies more : List Tally) → IsKept p a shapes rows places tallies → b ≡ a → more ≡ tallies →
@@ -291,7 +296,7 @@ pub kept_as : (p : Program) (a b : List (Option Bool)) (shapes : List Shape) (ro
 kept_as p a b shapes rows places tallies more k e f =
     subst (λ (ts : List Tally). IsKept p b shapes rows places ts) (sym f) (subst (λ (x : List (Option Bool)). IsKept p x shapes rows places tallies) (sym e) k)
 
-few_rows : (p : Program) → length (weighed_bodies p) ≤ length (bodies_of p)
+pub few_rows : (p : Program) → length (weighed_bodies p) ≤ length (bodies_of p)
 few_rows p = omega (arith, length-filter is_weighed (bodies_of p), count_by-le-length is_weighed (bodies_of p))
 
 pub have_room : (p : Program) (vars : ℕ) (shapes also : List Shape) (rows : List (List Item)) → var_count p < 2 ^ 31 → AreRows p (weighed_bodies p) shapes rows → vars ≡ var_count p → also ≡ shapes → HaveRoom vars also rows

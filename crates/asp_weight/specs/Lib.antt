@@ -5,3 +5,4 @@ pub mod Tallied
 pub mod Placed
 pub mod Spoken
 pub mod Kept
+pub mod Explained

@@ -9,18 +9,21 @@
 //! body in which the variable stands, and the body whose variable it is: both can end a body's silence. A silent body
 //! leaves the queue; one that isn't stays there until what it says is heeded or undone. A look begins where the last one
 //! ended, unless an `undo` touched the body since.
-ghost use Rattle.std.specs.Prelude.{◌≡◌, ◌+◌, None, ◌↔◌, IsTrue, IsNone, IfOk, IfSome, replicate};
+ghost use Rattle.std.specs.Prelude.{◌≡◌, ◌+◌, ◌<◌, None, ◌↔◌, IsTrue, IsNone, IfOk, IfSome, length, replicate, slice_index_or, take};
 ghost use Rattle.asp_vars.specs.Literals.{value_of, holds_in};
 ghost use Rattle.asp_vars.specs.Numbering.{var_count};
 ghost use Rattle.asp_trail.specs.Entries.{assignment};
 ghost use Rattle.asp_trail.specs.Trails.{IsVar};
 ghost use Rattle.asp_trail.specs.Told.{told, untold};
 ghost use Rattle.asp_weight.specs.Silence.{is_silent};
-ghost use Rattle.asp_weight.specs.Definition.{IsGiven};
+ghost use Rattle.asp_weight.specs.Explained.{IsExplained, IsExcluded, IsSaid};
+ghost use Rattle.asp_trail.specs.declared.trail.Entry.{Entry};
+ghost use Rattle.asp_trail.specs.Reasons.{IsReason};
 ghost use Rattle.asp_weight.specs.Tallied.{raise_all, lower_all, CanRaise, CanLower};
 ghost use Rattle.asp_weight.specs.Placed.{places_at};
 
 use crate::item::{Item, Place, Shape};
+use crate::late::{said_of, speech_at};
 use crate::look::first_speech;
 use crate::places::places_of;
 use crate::rows::Rows;
@@ -28,8 +31,9 @@ use crate::speech::speak;
 use crate::tally::Tallies;
 use asp_model::program::Program;
 use asp_table::table::Table;
+use asp_trail::said::{Implied, Said};
+use asp_trail::told::ToldValues;
 use asp_trail::trail::Trail;
-use asp_vars::assign::Assign;
 use asp_vars::compiled::Compiled;
 use asp_vars::lit::Lit;
 use asp_vars::nogood::Nogood;
@@ -44,8 +48,8 @@ pub struct Weights {
     alloc: Global,
     /// The program, for contracts alone.
     program: Origin<Program>,
-    /// The values told.
-    values: Assign,
+    /// The values told, for contracts alone.
+    values: ToldValues,
     /// By weight body: its variable, and the sums that settle it.
     shapes: Vec<Shape>,
     /// By weight body, its literals: the greatest weight first.
@@ -79,7 +83,7 @@ impl Weights {
         let vars = compiled.vars();
         let places = places_of(alloc, vars, shapes.as_slice(), &rows)?;
         let tallies = Tallies::new(alloc, shapes.as_slice().len() as u32)?;
-        let values = Assign::new(alloc, vars)?;
+        let values = ToldValues::none(vars);
         Ok(Weights {
             alloc,
             program: Origin::of(compiled.program()),
@@ -111,14 +115,15 @@ impl Weights {
         lower(&mut self.tallies, &self.places, lit);
     }
 
-    /// A nogood that is unit or violated and that the definition of one weight body entails, if there is one.
+    /// A nogood that is unit or violated and that the definition of one weight body entails, or a literal that follows
+    /// from a long one, if there is one.
     ///
     /// Want of memory is the one error. Whatever comes, the values stay, and a later call looks again.
-    pub fn next(&mut self, trail: &Trail) -> Result<Option<Nogood>, AllocError>
+    pub fn next(&mut self, trail: &Trail) -> Result<Option<Said>, AllocError>
         requires { self.old.values ≡ assignment trail.now.vars trail.now.entries }
         ensures same { self.new ≡ self.old }
         ensures silent { IfOk result (λ n. IsNone n ↔ IsTrue (is_silent self.old.program self.old.values)) }
-        ensures given { IfOk result (λ n. IfSome n (IsGiven self.old)) }
+        ensures said { IfOk result (λ n. IfSome n (IsSaid self.old trail.now.entries)) }
     {
         let values = trail.assignment();
         let Some((body, speech)) = first_speech(
@@ -130,8 +135,30 @@ impl Weights {
             return Ok(None);
         };
         let shape = &self.shapes[body];
-        let nogood = speak(self.alloc, &speech, values, shape, self.rows.row(body))?;
-        Ok(Some(nogood))
+        let row = self.rows.row(body);
+        if let Some(lit) = said_of(&speech, shape, row, values) {
+            let name = body as u32;
+            return Ok(Some(Said::Implied(Implied { lit, name })));
+        }
+        let nogood = speak(self.alloc, &speech, trail, trail.len(), shape, row)?;
+        Ok(Some(Said::Nogood(nogood)))
+    }
+
+    /// The nogood by which the literal at a place followed from the weight body of this name.
+    ///
+    /// Want of memory is the one error.
+    pub fn explain(&self, trail: &Trail, place: usize, name: u32) -> Result<Nogood, AllocError>
+        requires vars { trail.now.vars ≡ var_count self.now.program }
+        requires place { place < length trail.now.entries }
+        requires explained { (d : Entry) → IsExplained self.now.program (take place trail.now.entries) (slice_index_or trail.now.entries place d).lit name }
+        ensures excluded { IfOk result (IsExcluded self.now.program) }
+        ensures reason { IfOk result (λ n. (d : Entry) → IsReason trail.now.entries place (slice_index_or trail.now.entries place d).lit n.lits) }
+    {
+        let _len = trail.len();
+        let shape = &self.shapes[name as usize];
+        let row = self.rows.row(name as usize);
+        let speech = speech_at(trail.lit(place), trail, place, shape, row);
+        speak(self.alloc, &speech, trail, place, shape, row)
     }
 }
 

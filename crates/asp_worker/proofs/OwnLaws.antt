@@ -1,5 +1,5 @@
 -- What a number did, as its seat goes from call to call.
-use Rattle.std.proofs.Common.{◌≡◌, ℕ, Bool, true, false, not, eqb, List, [], ◌∷◌, ◌++◌, length, drop, append_assoc, refl, sym, ap, ◌∙◌, subst}
+use Rattle.std.proofs.Common.{◌≡◌, ℕ, Bool, true, false, not, eqb, List, [], ◌∷◌, ◌++◌, length, drop, Option, Some, None, append_assoc, refl, sym, ap, ◌∙◌, subst}
 use Rattle.std.specs.List.{AllByRecursion}
 use Rattle.std.proofs.lemmas.Bool.{false≢true, eq-eqb, eqb-true}
 use Rattle.std.proofs.lemmas.List.{append-nil}
@@ -18,7 +18,7 @@ use Rattle.asp_book.specs.Books.{signed}
 use Rattle.asp_book.specs.Calls.{Knows, task_of, seen_board, IsCall}
 use Rattle.asp_book.proofs.CallLaws.{task-stays, lawful-after}
 use Rattle.asp_crew_laws.specs.Runs.{IsBack}
-use Rattle.asp_worker.specs.Seats.{IsTidy, OwnAre, Was, IsQuietSince, Behaves}
+use Rattle.asp_worker.specs.Seats.{IsTidy, OwnAre, Was, IsQuietSince, IsQuietIf, Behaves}
 
 abbrev pub By : (Event → Type 0) → ℕ → List Event → Type 0
 By P n events = AllByRecursion (λ e. maker e ≡ n → P e) events
@@ -70,6 +70,10 @@ quiet-now v none = record {
 
 pub quiet-later : (begun since : List Event) (v : Knows) → IsPrefix begun since → IsQuietSince since v → IsQuietSince begun v
 quiet-later begun since v p q = record { quiet = q.quiet; late = prefix_trans begun since q.quiet.before p q.late }
+
+pub quiet-if-later : (begun since : List Event) (v : Knows) → IsPrefix begun since → (o : Option ℕ) → IsQuietIf since v o → IsQuietIf begun v o
+quiet-if-later begun since v p None q = quiet-later begun since v p q
+quiet-if-later begun since v p (Some leaf) q = tt
 
 -- ---- one call
 backs : (n : ℕ) (events : List Event) → By IsBack n events → AllByRecursion (λ e. eqb (maker e) n ≡ true → IsBack e) events

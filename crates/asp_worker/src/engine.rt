@@ -4,12 +4,12 @@ ghost use Rattle.asp_search.specs.Beside.{new_search};
 
 use crate::worker::Shared;
 use asp_counts::counts::Counts;
+use asp_path::tree::Leaf;
 use asp_propagators::propagators::Propagators;
 use asp_recorder::recorder::Recorder;
 use asp_search::search::Search;
 use asp_vars::compiled::Compiled;
 use asp_vars::fuel::Fuel;
-use asp_vars::lit::Lit;
 use std::alloc::AllocError;
 
 /// A worker's search, with what pays for it.
@@ -25,8 +25,8 @@ pub(crate) struct Engine<'a> {
     pub(crate) turn: u64,
     /// How many steps it made.
     pub(crate) step: u64,
-    /// The first decision under which the path's last answer was found, until the path is split on it.
-    pub(crate) under: Option<Lit>,
+    /// The rest of a path of which the other half was searched, until this worker takes it or another path.
+    pub(crate) rest: Option<Leaf>,
     /// What it did.
     pub(crate) did: Counts,
     /// Where it writes down what it finds, if a proof is wanted.
@@ -46,14 +46,15 @@ pub(crate) fn start<'a>(
     let recorder = if shared.proof { Some(recorder) } else { None };
     let mut propagators = Propagators::new(shared.alloc, compiled)?;
     propagators.record(recorder);
-    let search = Search::new(shared.alloc, compiled, shared.mode, propagators)?;
+    let mut search = Search::new(shared.alloc, compiled, shared.mode, propagators)?;
+    search.keep_route();
     Ok(Engine {
         search,
         fuel: Fuel::of(compiled, 0),
         read: 0,
         turn: 0,
         step: 0,
-        under: None,
+        rest: None,
         did: Counts::new(),
         recorder,
     })
@@ -69,7 +70,7 @@ pub(crate) fn ended(engine: Engine<'_>) -> (Fuel, Counts)
         read: _,
         turn: _,
         step: _,
-        under: _,
+        rest: _,
         did,
         recorder: _,
     } = engine;

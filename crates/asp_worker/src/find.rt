@@ -16,6 +16,10 @@ use std::alloc::AllocError;
 use std::sync::Wait;
 use std::thread;
 
+// So often a worker looks for a path before it takes one that nobody offered: that may be the rest of a path of which its worker has
+// yet to close the other half, and the answers that were found on the rest would be found again.
+const PATIENCE: u32 = 256;
+
 // Takes a path, if it is open.
 fn try_take<R: Wait>(
     rt: &R,
@@ -123,13 +127,15 @@ fn take_other<R: Wait>(
     Ok(None)
 }
 
-// Takes an open path: one that this worker offered, one that another did, or that of least number.
+// Takes an open path: one that this worker offered, one that another did, or that of least number. A patient worker leaves alone
+// what nobody offered.
 fn take_any<R: Wait>(
     rt: &R,
     shared: &Shared,
     seat: &mut Seat<Book>,
     lane: &mut Lane,
     pass: &mut Pass,
+    patient: bool,
 ) -> Result<Option<Leaf>, AllocError>
     requires of { IsOf shared.now.book seat.old }
     requires settled { IsSettled (view seat.old) }
@@ -147,6 +153,9 @@ fn take_any<R: Wait>(
     let other = take_other(rt, shared, seat, pass)?;
     if other.is_some() {
         return Ok(other);
+    }
+    if patient {
+        return Ok(None);
     }
     desk::take(rt, &shared.book, seat)
 }
@@ -185,11 +194,42 @@ fn changed<R: Wait>(rt: &R, shared: &Shared, seat: &mut Seat<Book>, known: Optio
     unreachable!()
 }
 
-/// Takes a path, and waits for one as long as another worker has one. `None` where no worker has any.
-///
-/// Nothing opens a path but an event. So the number of events is seen before a path is looked for, and while that stays the
-/// same, the worker waits outside the lock.
-pub(crate) fn find<R: Wait>(
+// What is known of the journal's length at the next look, where none of the open paths was taken. A patient worker looks again
+// at once.
+fn look_again(patience: &mut u32, events: u64) -> Option<u64> {
+    if *patience == 0 {
+        return Some(events);
+    }
+    *patience -= 1;
+    thread::yield_now();
+    None
+}
+
+// Takes the path, if there is one and it is open.
+fn take_rest<R: Wait>(
+    rt: &R,
+    shared: &Shared,
+    seat: &mut Seat<Book>,
+    rest: Option<Leaf>,
+) -> Result<Option<Leaf>, AllocError>
+    requires of { IsOf shared.now.book seat.old }
+    requires settled { IsSettled (view seat.old) }
+    requires free { IsFree (view seat.old) }
+    ensures of { IsBeside seat.old seat.new }
+    ensures passes { Passes (view seat.old) (view seat.new) }
+    ensures takes { Takes (view seat.new) result }
+{
+    match rest {
+        None => Ok(None),
+        Some(leaf) => try_take(rt, shared, seat, leaf),
+    }
+}
+
+// Takes a path, and waits for one as long as another worker has one. `None` where no worker has any.
+//
+// Nothing opens a path but an event. So the number of events is seen before a path is looked for, and while that stays the
+// same, the worker waits outside the lock.
+fn look_for<R: Wait>(
     rt: &R,
     shared: &Shared,
     seat: &mut Seat<Book>,
@@ -207,17 +247,47 @@ pub(crate) fn find<R: Wait>(
     ensures quiet { IfOk result (IsQuietIf (view seat.old).seen (view seat.new)) }
 {
     let mut known = None;
+    let mut patience = PATIENCE;
     'rounds: for _ in rt.forever() {
         let (events, open) = survey(rt, shared, seat, known);
         known = Some(events);
         if open > 0 {
-            let taken = take_any(rt, shared, seat, lane, pass)?;
+            let taken = take_any(rt, shared, seat, lane, pass, patience > 0)?;
             if taken.is_some() {
                 return Ok(taken);
             }
+            known = look_again(&mut patience, events);
         } else if desk::held_leaves(rt, &shared.book, seat) == 0 {
             return Ok(None);
         }
     }
     unreachable!()
+}
+
+/// Takes a path, and waits for one as long as another worker has one. `None` where no worker has any.
+///
+/// The rest of a path of which the other half was closed comes first, if there is one and it is open.
+pub(crate) fn find<R: Wait>(
+    rt: &R,
+    shared: &Shared,
+    seat: &mut Seat<Book>,
+    lane: &mut Lane,
+    pass: &mut Pass,
+    rest: Option<Leaf>,
+) -> Result<Option<Leaf>, AllocError>
+    requires of { IsOf shared.now.book seat.old }
+    requires settled { IsSettled (view seat.old) }
+    requires free { IsFree (view seat.old) }
+    requires pool { IsOfPool shared.now.pool pass.old }
+    ensures of { IsBeside seat.old seat.new }
+    ensures passes { Passes (view seat.old) (view seat.new) }
+    ensures pool { IsOfPool shared.now.pool pass.new }
+    ensures takes { Takes (view seat.new) result }
+    ensures quiet { IfOk result (IsQuietIf (view seat.old).seen (view seat.new)) }
+{
+    let taken = take_rest(rt, shared, seat, rest)?;
+    if taken.is_some() {
+        return Ok(taken);
+    }
+    look_for(rt, shared, seat, lane, pass)
 }

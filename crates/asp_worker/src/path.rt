@@ -21,14 +21,12 @@ use asp_book::book::Book;
 use asp_book::desk;
 use asp_counts::counts::Counts;
 use asp_counts::watch::Watch;
-use asp_model::results::Mode;
 use asp_path::tree::Leaf;
 use asp_propagators::propagators::Propagators;
 use asp_recorder::recorder::Recorder;
 use asp_search::search::Search;
 use asp_search_laws::step::Step;
 use asp_vars::fuel::Fuel;
-use asp_vars::lit::Lit;
 use asp_vault::Seat;
 use std::alloc::AllocError;
 use std::sync::Wait;
@@ -95,15 +93,6 @@ fn step<R: Wait>(
     Ok(step)
 }
 
-// The first decision under which an answer was found, if what was searched below it is to be shed. Where consequences are sought none of it
-// is found again: what others know leaves it out.
-fn under(mode: Mode, first: Option<Lit>) -> Option<Lit> {
-    match mode {
-        Mode::Enum | Mode::Opt => first,
-        Mode::Consequences(_) => None,
-    }
-}
-
 // One step of the search, and what it asks for.
 fn advance<R: Wait>(
     rt: &R,
@@ -124,7 +113,6 @@ fn advance<R: Wait>(
     ensures stop { IfErr result (IsStop (view worker.new.seat)) }
 {
     let _leaf = leaf;
-    let first = engine.search.first();
     match step(
         rt,
         shared,
@@ -144,7 +132,6 @@ fn advance<R: Wait>(
         }
         Step::Answer(set) => {
             record(rt, shared, &mut worker.seat, engine, set)?;
-            engine.under = under(shared.mode, first);
             Ok(Course::Open)
         }
         Step::NoFuel(_) => {

@@ -17,6 +17,7 @@ use crate::worker::{Shared, Worker};
 use asp_book::book::Book;
 use asp_book::desk;
 use asp_path::tree::Leaf;
+use asp_pool::Lane;
 use asp_propagators::propagators::Propagators;
 use asp_search::search::Search;
 use asp_vars::lit::Lit;
@@ -67,18 +68,38 @@ pub(crate) fn begin<R: Wait>(
     ensures ok { OnOk result (IsOn shared.now.mode (view worker.new.seat) engine.new.search engine.new.fuel leaf) }
     ensures err { OnErr result (IsOff (view worker.new.seat) engine.new.fuel leaf) }
 {
-    engine.under = None;
     enter(rt, shared, &mut worker.seat, &mut engine.search, leaf)?;
     refresh(rt, shared, worker, engine)
 }
 
-// Splits the path on a literal, and offers the half that hasn't it.
+// What becomes of a half that this worker doesn't go on with.
+#[derive(Clone, Copy)]
+enum Other {
+    // It is offered to all.
+    Offered,
+    // This worker takes it itself, once its own half is closed.
+    Rest,
+}
+
+// Offers a half, or keeps it in mind.
+fn put(lane: &mut Lane, rest: &mut Option<Leaf>, half: Leaf, other: Other) {
+    match other {
+        Other::Offered => {
+            let _offered = lane.offer(half);
+        }
+        Other::Rest => *rest = Some(half),
+    }
+}
+
+// Splits the path on a literal, and puts the half that hasn't it where it belongs.
 fn divide<R: Wait>(
     rt: &R,
     shared: &Shared,
     worker: &mut Worker,
+    rest: &mut Option<Leaf>,
     leaf: Leaf,
     lit: Lit,
+    other: Other,
 ) -> Result<Option<Leaf>, AllocError>
     requires ready { IsReady shared.now worker.old }
     requires held { Holds (view worker.old.seat) leaf }
@@ -92,14 +113,14 @@ fn divide<R: Wait>(
 {
     match desk::split(rt, &shared.book, &mut worker.seat, leaf, lit)? {
         None => Ok(None),
-        Some((mine, other)) => {
-            let _offered = worker.lane.offer(other);
+        Some((mine, half)) => {
+            put(&mut worker.lane, rest, half, other);
             Ok(Some(mine))
         }
     }
 }
 
-// Splits the path on a literal, offers the half that hasn't it, and goes on with the other.
+// Splits the path on a literal, puts the half that hasn't it where it belongs, and goes on with the other.
 //
 // The path that the worker then has is in `leaf`, also after want of memory.
 fn split_on<R: Wait>(
@@ -109,6 +130,7 @@ fn split_on<R: Wait>(
     engine: &mut Engine<'_>,
     leaf: &mut Leaf,
     lit: Lit,
+    other: Other,
 ) -> Result<(), AllocError>
     requires ready { IsReady shared.now worker.old }
     requires on { IsOn shared.now.mode (view worker.old.seat) engine.old.search engine.old.fuel leaf.old }
@@ -120,7 +142,7 @@ fn split_on<R: Wait>(
     ensures ok { OnOk result (IsOn shared.now.mode (view worker.new.seat) engine.new.search engine.new.fuel leaf.new) }
     ensures err { OnErr result (IsOff (view worker.new.seat) engine.new.fuel leaf.new) }
 {
-    match divide(rt, shared, worker, *leaf, lit)? {
+    match divide(rt, shared, worker, &mut engine.rest, *leaf, lit, other)? {
         None => Ok(()),
         Some(half) => {
             *leaf = half;
@@ -129,7 +151,8 @@ fn split_on<R: Wait>(
     }
 }
 
-// Where others want a path, splits that of this worker on its first decision, offers one half and goes on with the other.
+// Where others want a path, splits that of this worker, offers one half and goes on with the other: by a literal that all answers have
+// that were found on it, so that the other half has none of them.
 //
 // The path that the worker then has is in `leaf`, also after want of memory.
 fn offer_half<R: Wait>(
@@ -148,20 +171,20 @@ fn offer_half<R: Wait>(
     ensures ok { OnOk result (IsOn shared.now.mode (view worker.new.seat) engine.new.search engine.new.fuel leaf.new) }
     ensures err { OnErr result (IsOff (view worker.new.seat) engine.new.fuel leaf.new) }
 {
-    match engine.search.first() {
+    match engine.search.divider() {
         None => Ok(()),
         Some(lit) => {
             if !desk::wanted(rt, &shared.book, &mut worker.seat, shared.workers) {
                 return Ok(());
             }
-            split_on(rt, shared, worker, engine, leaf, lit)
+            split_on(rt, shared, worker, engine, leaf, lit, Other::Offered)
         }
     }
 }
 
-// Sheds what was searched. Once the first decision under which answers were found is taken back, the tree still has both of its
-// halves, and a half that is given away later would have these answers in it again. So the path is split on that decision: the
-// half that was searched is closed with the next step, and the other, which this worker takes from its lane then, has none of them.
+// Sheds what was searched. Once a decision under which answers were found is taken back, the tree still has both of its halves, and
+// a half that is given away later would have these answers in it again. So the path is split on that decision: the half that was
+// searched is closed with the next step, and then this worker takes the other.
 //
 // The path that the worker then has is in `leaf`, also after want of memory.
 fn shed<R: Wait>(
@@ -180,15 +203,9 @@ fn shed<R: Wait>(
     ensures ok { OnOk result (IsOn shared.now.mode (view worker.new.seat) engine.new.search engine.new.fuel leaf.new) }
     ensures err { OnErr result (IsOff (view worker.new.seat) engine.new.fuel leaf.new) }
 {
-    match engine.under {
+    match engine.search.searched() {
         None => Ok(()),
-        Some(lit) => {
-            if engine.search.is_open(lit) && engine.search.is_taken_back(lit) {
-                engine.under = None;
-                return split_on(rt, shared, worker, engine, leaf, lit);
-            }
-            Ok(())
-        }
+        Some(lit) => split_on(rt, shared, worker, engine, leaf, lit, Other::Rest),
     }
 }
 

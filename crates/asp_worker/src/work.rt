@@ -90,6 +90,7 @@ fn search_paths<R: Wait, G: Gate, H: Halt, W: Watch>(
             &mut worker.seat,
             &mut worker.lane,
             &mut worker.pass,
+            engine.rest.take(),
         ) {
             Err(_) => return true,
             Ok(found) => match found {

@@ -4,7 +4,7 @@ use Rattle.asp_vars.specs.Literals.{Literal, has_literal}
 use Rattle.asp_vars.specs.declared.nogood.Nogood.{Nogood}
 use Rattle.asp_trail.specs.Entries.{level_in}
 use Rattle.asp_analyze.specs.Marks.{Marked}
-use Rattle.asp_analyze.specs.Learning.{Used, IsReached, AreContained, AreAssumed}
+use Rattle.asp_analyze.specs.Learning.{Used, IsNamed, IsReached, AreContained, AreAssumed}
 use Rattle.asp_analyze.specs.Way.{IsOn, Noted, IsOnTheWay, IsReady}
 use Rattle.asp_analyze.proofs.EndLaws.{all_on, all_small, all_stay, marked_begins, way_begins, down_begins, left_all_on, left_reached, left_contained, left_assumed, ready}
 use Rattle.asp_analyze.proofs.learn.analyse.Goals as goal
@@ -76,12 +76,12 @@ find_point-requires-clause-way g c =
     let top : ℕ = c.greatest_level-top.result in
     let below : All (λ (l : Literal). level_in es l.var ≤ top) from.lits =
     c.greatest_level-top.ensures.below in
-    let kept = g.R.Reasons.kept c.args.reasons.now in
+    let says = g.R.Reasons.says c.args.reasons.now in
     let first : Marked = c.note_all.new.marks in
     let noted : Noted es old first from.lits = c.note_all.ensures.noted in
     let attained : 0 < top → (l : Literal) × (has_literal from.lits l ≡ true) × (level_in es l.var ≡ top) =
     c.greatest_level-top.ensures.attained in
-    let begun : IsOnTheWay es kept from top first c.in_ok-base.base = way_begins vars n es kept from top old first c.in_ok-base.base o e c.in_ok-base.ensures c.note_all.ensures.marked noted in
+    let begun : IsOnTheWay es says from top first c.in_ok-base.base = way_begins vars n es says from top old first c.in_ok-base.base o e c.in_ok-base.ensures c.note_all.ensures.marked noted in
     (from, begun)
 
 pub find_point-requires-clause-down : goal.find_point-requires-clause-down
@@ -97,12 +97,12 @@ find_point-requires-clause-down g c =
     let top : ℕ = c.greatest_level-top.result in
     let below : All (λ (l : Literal). level_in es l.var ≤ top) from.lits =
     c.greatest_level-top.ensures.below in
-    let kept = g.R.Reasons.kept c.args.reasons.now in
+    let says = g.R.Reasons.says c.args.reasons.now in
     let first : Marked = c.note_all.new.marks in
     let noted : Noted es old first from.lits = c.note_all.ensures.noted in
     let attained : 0 < top → (l : Literal) × (has_literal from.lits l ≡ true) × (level_in es l.var ≡ top) =
     c.greatest_level-top.ensures.attained in
-    let begun : IsOnTheWay es kept from top first c.in_ok-base.base = way_begins vars n es kept from top old first c.in_ok-base.base o e c.in_ok-base.ensures c.note_all.ensures.marked noted in
+    let begun : IsOnTheWay es says from top first c.in_ok-base.base = way_begins vars n es says from top old first c.in_ok-base.base o e c.in_ok-base.ensures c.note_all.ensures.marked noted in
     down_begins vars n es from.lits top old first e on c.note_all.ensures.marked noted attained
 
 pub settle-requires-clause-way : goal.settle-requires-clause-way
@@ -118,12 +118,12 @@ settle-requires-clause-way g c =
     let top : ℕ = c.greatest_level-top.result in
     let below : All (λ (l : Literal). level_in es l.var ≤ top) from.lits =
     c.greatest_level-top.ensures.below in
-    let kept = g.R.Reasons.kept c.args.reasons.now in
+    let says = g.R.Reasons.says c.args.reasons.now in
     let first : Marked = c.note_all.new.marks in
     let noted : Noted es old first from.lits = c.note_all.ensures.noted in
     let attained : 0 < top → (l : Literal) × (has_literal from.lits l ≡ true) × (level_in es l.var ≡ top) =
     c.greatest_level-top.ensures.attained in
-    let begun : IsOnTheWay es kept from top first c.in_ok-base.base = way_begins vars n es kept from top old first c.in_ok-base.base o e c.in_ok-base.ensures c.note_all.ensures.marked noted in
+    let begun : IsOnTheWay es says from top first c.in_ok-base.base = way_begins vars n es says from top old first c.in_ok-base.base o e c.in_ok-base.ensures c.note_all.ensures.marked noted in
     (from, c.in_ok-point.ensures.way from begun)
 
 pub conclude-requires : goal.conclude-requires
@@ -139,14 +139,14 @@ conclude-requires g c =
     let top : ℕ = c.greatest_level-top.result in
     let below : All (λ (l : Literal). level_in es l.var ≤ top) from.lits =
     c.greatest_level-top.ensures.below in
-    let kept = g.R.Reasons.kept c.args.reasons.now in
+    let says = g.R.Reasons.says c.args.reasons.now in
     let first : Marked = c.note_all.new.marks in
     let noted : Noted es old first from.lits = c.note_all.ensures.noted in
     let attained : 0 < top → (l : Literal) × (has_literal from.lits l ≡ true) × (level_in es l.var ≡ top) =
     c.greatest_level-top.ensures.attained in
-    let begun : IsOnTheWay es kept from top first c.in_ok-base.base = way_begins vars n es kept from top old first c.in_ok-base.base o e c.in_ok-base.ensures c.note_all.ensures.marked noted in
+    let begun : IsOnTheWay es says from top first c.in_ok-base.base = way_begins vars n es says from top old first c.in_ok-base.base o e c.in_ok-base.ensures c.note_all.ensures.marked noted in
     let m : Marked = c.settle.new.marks in
-    let way : IsOnTheWay es kept from top m c.settle.new.base = c.in_ok-settle.ensures.way from (c.in_ok-point.ensures.way from begun) in
+    let way : IsOnTheWay es says from top m c.settle.new.base = c.in_ok-settle.ensures.way from (c.in_ok-point.ensures.way from begun) in
     subst (λ (ls : List Literal). All (λ (l : Literal). IsOn es l) ls) (sym c.in_ok-lits.ensures) (left_all_on es top m way.marked)
 
 pub returns-clause-reached : goal.returns-clause-reached
@@ -162,16 +162,16 @@ returns-clause-reached g c =
     let top : ℕ = c.greatest_level-top.result in
     let below : All (λ (l : Literal). level_in es l.var ≤ top) from.lits =
     c.greatest_level-top.ensures.below in
-    let kept = g.R.Reasons.kept c.args.reasons.now in
+    let says = g.R.Reasons.says c.args.reasons.now in
     let first : Marked = c.note_all.new.marks in
     let noted : Noted es old first from.lits = c.note_all.ensures.noted in
     let attained : 0 < top → (l : Literal) × (has_literal from.lits l ≡ true) × (level_in es l.var ≡ top) =
     c.greatest_level-top.ensures.attained in
-    let begun : IsOnTheWay es kept from top first c.in_ok-base.base = way_begins vars n es kept from top old first c.in_ok-base.base o e c.in_ok-base.ensures c.note_all.ensures.marked noted in
+    let begun : IsOnTheWay es says from top first c.in_ok-base.base = way_begins vars n es says from top old first c.in_ok-base.base o e c.in_ok-base.ensures c.note_all.ensures.marked noted in
     let m : Marked = c.settle.new.marks in
-    let way : IsOnTheWay es kept from top m c.settle.new.base = c.in_ok-settle.ensures.way from (c.in_ok-point.ensures.way from begun) in
-    subst (λ (x : Nogood). (used : List Used) × IsReached kept es from used x) (sym c.conclude.ensures.nogood)
-    (left_reached es kept from top m c.settle.new.base record { lits = c.in_ok-lits.lits; base = c.settle.new.base } c.requires.reasons on way c.in_ok-lits.ensures refl)
+    let way : IsOnTheWay es says from top m c.settle.new.base = c.in_ok-settle.ensures.way from (c.in_ok-point.ensures.way from begun) in
+    subst (λ (x : Nogood). (used : List Used) × IsReached es from used x × All (IsNamed says es) used) (sym c.conclude.ensures.nogood)
+    (left_reached es says from top m c.settle.new.base record { lits = c.in_ok-lits.lits; base = c.settle.new.base } on way c.in_ok-lits.ensures refl)
 
 pub returns-clause-contained : goal.returns-clause-contained
 returns-clause-contained g c =
@@ -186,14 +186,14 @@ returns-clause-contained g c =
     let top : ℕ = c.greatest_level-top.result in
     let below : All (λ (l : Literal). level_in es l.var ≤ top) from.lits =
     c.greatest_level-top.ensures.below in
-    let kept = g.R.Reasons.kept c.args.reasons.now in
+    let says = g.R.Reasons.says c.args.reasons.now in
     let first : Marked = c.note_all.new.marks in
     let noted : Noted es old first from.lits = c.note_all.ensures.noted in
     let attained : 0 < top → (l : Literal) × (has_literal from.lits l ≡ true) × (level_in es l.var ≡ top) =
     c.greatest_level-top.ensures.attained in
-    let begun : IsOnTheWay es kept from top first c.in_ok-base.base = way_begins vars n es kept from top old first c.in_ok-base.base o e c.in_ok-base.ensures c.note_all.ensures.marked noted in
+    let begun : IsOnTheWay es says from top first c.in_ok-base.base = way_begins vars n es says from top old first c.in_ok-base.base o e c.in_ok-base.ensures c.note_all.ensures.marked noted in
     let m : Marked = c.settle.new.marks in
-    let way : IsOnTheWay es kept from top m c.settle.new.base = c.in_ok-settle.ensures.way from (c.in_ok-point.ensures.way from begun) in
+    let way : IsOnTheWay es says from top m c.settle.new.base = c.in_ok-settle.ensures.way from (c.in_ok-point.ensures.way from begun) in
     subst (λ (x : Nogood). AreContained vars es x.lits) (sym c.conclude.ensures.nogood)
     (subst (λ (ls : List Literal). AreContained vars es ls) (sym c.in_ok-lits.ensures) (left_contained es top vars m o way.marked))
 
@@ -210,14 +210,14 @@ returns-clause-assumed g c =
     let top : ℕ = c.greatest_level-top.result in
     let below : All (λ (l : Literal). level_in es l.var ≤ top) from.lits =
     c.greatest_level-top.ensures.below in
-    let kept = g.R.Reasons.kept c.args.reasons.now in
+    let says = g.R.Reasons.says c.args.reasons.now in
     let first : Marked = c.note_all.new.marks in
     let noted : Noted es old first from.lits = c.note_all.ensures.noted in
     let attained : 0 < top → (l : Literal) × (has_literal from.lits l ≡ true) × (level_in es l.var ≡ top) =
     c.greatest_level-top.ensures.attained in
-    let begun : IsOnTheWay es kept from top first c.in_ok-base.base = way_begins vars n es kept from top old first c.in_ok-base.base o e c.in_ok-base.ensures c.note_all.ensures.marked noted in
+    let begun : IsOnTheWay es says from top first c.in_ok-base.base = way_begins vars n es says from top old first c.in_ok-base.base o e c.in_ok-base.ensures c.note_all.ensures.marked noted in
     let m : Marked = c.settle.new.marks in
-    let way : IsOnTheWay es kept from top m c.settle.new.base = c.in_ok-settle.ensures.way from (c.in_ok-point.ensures.way from begun) in
+    let way : IsOnTheWay es says from top m c.settle.new.base = c.in_ok-settle.ensures.way from (c.in_ok-point.ensures.way from begun) in
     subst (λ (x : Nogood). AreAssumed es x.lits) (sym c.conclude.ensures.nogood)
     (subst (λ (ls : List Literal). AreAssumed es ls) (sym c.in_ok-lits.ensures) (left_assumed es top m way.marked c.in_ok-settle.ensures.settled))
 
@@ -234,14 +234,14 @@ returns-clause-learned g c =
     let top : ℕ = c.greatest_level-top.result in
     let below : All (λ (l : Literal). level_in es l.var ≤ top) from.lits =
     c.greatest_level-top.ensures.below in
-    let kept = g.R.Reasons.kept c.args.reasons.now in
+    let says = g.R.Reasons.says c.args.reasons.now in
     let first : Marked = c.note_all.new.marks in
     let noted : Noted es old first from.lits = c.note_all.ensures.noted in
     let attained : 0 < top → (l : Literal) × (has_literal from.lits l ≡ true) × (level_in es l.var ≡ top) =
     c.greatest_level-top.ensures.attained in
-    let begun : IsOnTheWay es kept from top first c.in_ok-base.base = way_begins vars n es kept from top old first c.in_ok-base.base o e c.in_ok-base.ensures c.note_all.ensures.marked noted in
+    let begun : IsOnTheWay es says from top first c.in_ok-base.base = way_begins vars n es says from top old first c.in_ok-base.base o e c.in_ok-base.ensures c.note_all.ensures.marked noted in
     let m : Marked = c.settle.new.marks in
-    let way : IsOnTheWay es kept from top m c.settle.new.base = c.in_ok-settle.ensures.way from (c.in_ok-point.ensures.way from begun) in
+    let way : IsOnTheWay es says from top m c.settle.new.base = c.in_ok-settle.ensures.way from (c.in_ok-point.ensures.way from begun) in
     c.conclude.ensures.learned from.lits
     (subst (λ (ls : List Literal). IsReady es from.lits ls c.in_ok-point.point) (sym c.in_ok-lits.ensures)
     (ready es from.lits top c.find_point.new.marks m way.marked c.in_ok-settle.ensures.settled c.in_ok-settle.ensures.goes below attained c.in_ok-point.point c.in_ok-point.ensures.found c.in_ok-point.ensures.none))

@@ -3,21 +3,21 @@ use Rattle.std.specs.List.{All}
 use Rattle.std.proofs.lemmas.List.Elements.{All-push}
 use Rattle.asp_vars.specs.Literals.{Literal, has_literal}
 use Rattle.asp_trail.specs.Entries.{level_in, reason_in}
-use Rattle.asp_trail.proofs.ReasonLaws.{lits_are}
+use Rattle.asp_vars.specs.declared.nogood.Nogood.{Nogood}
 use Rattle.asp_analyze.specs.declared.minimise.Look.{Look}
 use Rattle.asp_analyze.specs.declared.marks.Mark.TheVariants as mark
 use Rattle.asp_analyze.specs.Marks.{Marked, mark_of, is_clean}
 use Rattle.asp_analyze.specs.Way.{IsOn, Opened, IsOnTheWay, Goes, CanGo}
 use Rattle.asp_analyze.proofs.MarkLaws.{mark_set_same}
-use Rattle.asp_analyze.proofs.OpenLaws.{reason_some, reason_at, reason_small}
+use Rattle.asp_analyze.proofs.OpenLaws.{reason_asked, reason_small}
 use Rattle.asp_analyze.proofs.GoesLaws.{way_needed, goes_needed, on_ok_both}
 use Rattle.asp_analyze.proofs.MinimiseLaws.{all_last, all_front, can_later, others_on, other_high, goes_looked}
 use Rattle.asp_analyze.proofs.minimise.visit.Goals as goal
 
-pub lits-reason-requires : goal.lits-reason-requires
-lits-reason-requires g c =
+pub kept-requires : goal.kept-requires
+kept-requires g c =
     let es = c.args.trail.now.entries in
-    let kept = g.R.Reasons.kept c.args.reasons.now in
+    let says = g.R.Reasons.says c.args.reasons.now in
     let top = c.args.top in
     let m : Marked = c.args.marks.now in
     let a = c.requires.way.1.marked in
@@ -27,12 +27,12 @@ lits-reason-requires g c =
     let can : CanGo es top m last.lit = all_last (λ (f : Look). CanGo es top m f.lit) c.pop.new.self.items last path in
     let id = c.in-Some-reason_of.id in
     let reason : reason_in es last.lit.var ≡ Some id = sym c.reason_of.ensures ∙ c.in-Some-reason_of.is in
-    reason_some a.ordered.0 es kept last.lit id a.ordered.1 c.requires.reasons can.on reason
+    reason_asked a.ordered.0 es (g.R.Reasons.asks c.args.reasons.now) last.lit id a.ordered.1 c.requires.asked can.on reason
 
 pub find_other-requires-clause-small : goal.find_other-requires-clause-small
 find_other-requires-clause-small g c =
     let es = c.args.trail.now.entries in
-    let kept = g.R.Reasons.kept c.args.reasons.now in
+    let says = g.R.Reasons.says c.args.reasons.now in
     let top = c.args.top in
     let m : Marked = c.args.marks.now in
     let a = c.requires.way.1.marked in
@@ -42,16 +42,16 @@ find_other-requires-clause-small g c =
     let can : CanGo es top m last.lit = all_last (λ (f : Look). CanGo es top m f.lit) c.pop.new.self.items last path in
     let id = c.in-Some-reason_of.id in
     let reason : reason_in es last.lit.var ≡ Some id = sym c.reason_of.ensures ∙ c.in-Some-reason_of.is in
-    let f = reason_at a.ordered.0 es kept last.lit id a.ordered.1 c.requires.reasons can.on reason in
-    let n = f.0 in
-    let same : c.lits-reason.result.now ≡ n.lits = lits_are (kept id) n c.lits-reason.result.now f.1 c.lits-reason.ensures in
+    let n : Nogood = c.in-Some-kept.reason.now in
+    let k : says last.lit id n = c.in-Some-kept.ensures in
+    let same : c.as_slice.result.now ≡ n.lits = c.as_slice.ensures.value in
     subst (λ (ls : List Literal). All (λ l. l.var < length m.marks) ls) (sym same)
-    (reason_small a.ordered.0 es kept top m last.lit id n a.ordered.1 c.requires.reasons a can.on reason (sym f.1))
+    (reason_small a.ordered.0 es says top m last.lit id n a.ordered.1 c.requires.reasons a can.on reason k)
 
 pub find_other-requires-clause-on : goal.find_other-requires-clause-on
 find_other-requires-clause-on g c =
     let es = c.args.trail.now.entries in
-    let kept = g.R.Reasons.kept c.args.reasons.now in
+    let says = g.R.Reasons.says c.args.reasons.now in
     let top = c.args.top in
     let m : Marked = c.args.marks.now in
     let a = c.requires.way.1.marked in
@@ -61,11 +61,11 @@ find_other-requires-clause-on g c =
     let can : CanGo es top m last.lit = all_last (λ (f : Look). CanGo es top m f.lit) c.pop.new.self.items last path in
     let id = c.in-Some-reason_of.id in
     let reason : reason_in es last.lit.var ≡ Some id = sym c.reason_of.ensures ∙ c.in-Some-reason_of.is in
-    let f = reason_at a.ordered.0 es kept last.lit id a.ordered.1 c.requires.reasons can.on reason in
-    let n = f.0 in
-    let same : c.lits-reason.result.now ≡ n.lits = lits_are (kept id) n c.lits-reason.result.now f.1 c.lits-reason.ensures in
+    let n : Nogood = c.in-Some-kept.reason.now in
+    let k : says last.lit id n = c.in-Some-kept.ensures in
+    let same : c.as_slice.result.now ≡ n.lits = c.as_slice.ensures.value in
     subst (λ (ls : List Literal). All (λ l. l.var ≢ c.var.result → IsOn es l) ls) (sym same)
-    (others_on a.ordered.0 es kept last.lit id c.var.result n a.ordered.1 c.requires.reasons can.on reason (sym f.1) c.var.ensures)
+    (others_on a.ordered.0 es says last.lit id c.var.result n a.ordered.1 c.requires.reasons can.on reason k c.var.ensures)
 
 pub may_follow-requires-clause-small : goal.may_follow-requires-clause-small
 may_follow-requires-clause-small g c = c.requires.way.1.marked.small c.in-Some-find_other.other.lit c.in-Some-find_other.ensures.1.on
@@ -73,7 +73,7 @@ may_follow-requires-clause-small g c = c.requires.way.1.marked.small c.in-Some-f
 pub returns-in-None-clause-path : goal.returns-in-None-clause-path
 returns-in-None-clause-path g c =
     let es = c.args.trail.now.entries in
-    let kept = g.R.Reasons.kept c.args.reasons.now in
+    let says = g.R.Reasons.says c.args.reasons.now in
     let top = c.args.top in
     let m : Marked = c.args.marks.now in
     let a = c.requires.way.1.marked in
@@ -81,7 +81,7 @@ returns-in-None-clause-path g c =
     let path : All (λ (f : Look). CanGo es top m f.lit) (c.pop.new.self.items ++ last ∷ []) =
     subst (λ (xs : List Look). All (λ (f : Look). CanGo es top m f.lit) xs) c.in-Some.ensures.items c.requires.path in
     let can : CanGo es top m last.lit = all_last (λ (f : Look). CanGo es top m f.lit) c.pop.new.self.items last path in
-    on_ok_both c.open.result (Opened es last.lit m c.open.new.marks) (IsOnTheWay es kept c.requires.way.0 top c.open.new.marks c.open.new.base)
+    on_ok_both c.open.result (Opened es last.lit m c.open.new.marks) (IsOnTheWay es says c.requires.way.0 top c.open.new.marks c.open.new.base)
     (All (λ (f : Look). CanGo es top c.open.new.marks f.lit) c.pop.new.self.items)
     (λ t w i d h. can_later es top m c.open.new.marks _ (goes_looked es top m c.open.new.marks last.lit a w.marked can t)
     (all_front (λ (f : Look). CanGo es top m f.lit) c.pop.new.self.items last path i d h))
@@ -90,7 +90,7 @@ returns-in-None-clause-path g c =
 pub returns-in-None-clause-goes : goal.returns-in-None-clause-goes
 returns-in-None-clause-goes g c =
     let es = c.args.trail.now.entries in
-    let kept = g.R.Reasons.kept c.args.reasons.now in
+    let says = g.R.Reasons.says c.args.reasons.now in
     let top = c.args.top in
     let m : Marked = c.args.marks.now in
     let a = c.requires.way.1.marked in
@@ -98,7 +98,7 @@ returns-in-None-clause-goes g c =
     let path : All (λ (f : Look). CanGo es top m f.lit) (c.pop.new.self.items ++ last ∷ []) =
     subst (λ (xs : List Look). All (λ (f : Look). CanGo es top m f.lit) xs) c.in-Some.ensures.items c.requires.path in
     let can : CanGo es top m last.lit = all_last (λ (f : Look). CanGo es top m f.lit) c.pop.new.self.items last path in
-    on_ok_both c.open.result (Opened es last.lit m c.open.new.marks) (IsOnTheWay es kept c.requires.way.0 top c.open.new.marks c.open.new.base)
+    on_ok_both c.open.result (Opened es last.lit m c.open.new.marks) (IsOnTheWay es says c.requires.way.0 top c.open.new.marks c.open.new.base)
     (Goes es m c.open.new.marks)
     (λ t w. goes_looked es top m c.open.new.marks last.lit a w.marked can t)
     c.open.ensures.opened (c.open.ensures.way c.requires.way.0 c.requires.way.1)
@@ -107,7 +107,7 @@ pub returns-in_ok-push-in-Some-find_other-2-clause-way :
     goal.returns-in_ok-push-in-Some-find_other-2-clause-way
 returns-in_ok-push-in-Some-find_other-2-clause-way g c = λ from w.
     let es = c.args.trail.now.entries in
-    let kept = g.R.Reasons.kept c.args.reasons.now in
+    let says = g.R.Reasons.says c.args.reasons.now in
     let top = c.args.top in
     let m : Marked = c.args.marks.now in
     let a = c.requires.way.1.marked in
@@ -117,22 +117,22 @@ returns-in_ok-push-in-Some-find_other-2-clause-way g c = λ from w.
     let can : CanGo es top m last.lit = all_last (λ (f : Look). CanGo es top m f.lit) c.pop.new.self.items last path in
     let id = c.in-Some-reason_of.id in
     let reason : reason_in es last.lit.var ≡ Some id = sym c.reason_of.ensures ∙ c.in-Some-reason_of.is in
-    let f = reason_at a.ordered.0 es kept last.lit id a.ordered.1 c.requires.reasons can.on reason in
-    let n = f.0 in
-    let same : c.lits-reason.result.now ≡ n.lits = lits_are (kept id) n c.lits-reason.result.now f.1 c.lits-reason.ensures in
+    let n : Nogood = c.in-Some-kept.reason.now in
+    let k : says last.lit id n = c.in-Some-kept.ensures in
+    let same : c.as_slice.result.now ≡ n.lits = c.as_slice.ensures.value in
     let other : Look = c.in-Some-find_other.other in
     let is = c.in-Some-find_other.ensures.1 in
     let has : has_literal n.lits other.lit ≡ true = subst (λ (ls : List Literal). has_literal ls other.lit ≡ true) same c.in-Some-find_other.ensures.0 in
     let high : level_in es other.lit.var < top =
-    other_high a.ordered.0 es kept top m last.lit other.lit id c.var.result n a.ordered.1 c.requires.reasons can reason (sym f.1) c.var.ensures has is in
+    other_high a.ordered.0 es says top m last.lit other.lit id c.var.result n a.ordered.1 c.requires.reasons can reason k c.var.ensures has is in
     let clean : is_clean (mark_of m.marks other.lit.var) ≡ true = c.may_follow.ensures c.if-may_follow.true in
-    way_needed es kept from top m c.add.new.self c.args.base.now other.lit is.on clean is.low high c.add.ensures w
+    way_needed es says from top m c.add.new.self c.args.base.now other.lit is.on clean is.low high c.add.ensures w
 
 pub returns-in_ok-push-in-Some-find_other-2-clause-path :
     goal.returns-in_ok-push-in-Some-find_other-2-clause-path
 returns-in_ok-push-in-Some-find_other-2-clause-path g c =
     let es = c.args.trail.now.entries in
-    let kept = g.R.Reasons.kept c.args.reasons.now in
+    let says = g.R.Reasons.says c.args.reasons.now in
     let top = c.args.top in
     let m : Marked = c.args.marks.now in
     let a = c.requires.way.1.marked in
@@ -142,14 +142,14 @@ returns-in_ok-push-in-Some-find_other-2-clause-path g c =
     let can : CanGo es top m last.lit = all_last (λ (f : Look). CanGo es top m f.lit) c.pop.new.self.items last path in
     let id = c.in-Some-reason_of.id in
     let reason : reason_in es last.lit.var ≡ Some id = sym c.reason_of.ensures ∙ c.in-Some-reason_of.is in
-    let f = reason_at a.ordered.0 es kept last.lit id a.ordered.1 c.requires.reasons can.on reason in
-    let n = f.0 in
-    let same : c.lits-reason.result.now ≡ n.lits = lits_are (kept id) n c.lits-reason.result.now f.1 c.lits-reason.ensures in
+    let n : Nogood = c.in-Some-kept.reason.now in
+    let k : says last.lit id n = c.in-Some-kept.ensures in
+    let same : c.as_slice.result.now ≡ n.lits = c.as_slice.ensures.value in
     let other : Look = c.in-Some-find_other.other in
     let is = c.in-Some-find_other.ensures.1 in
     let has : has_literal n.lits other.lit ≡ true = subst (λ (ls : List Literal). has_literal ls other.lit ≡ true) same c.in-Some-find_other.ensures.0 in
     let high : level_in es other.lit.var < top =
-    other_high a.ordered.0 es kept top m last.lit other.lit id c.var.result n a.ordered.1 c.requires.reasons can reason (sym f.1) c.var.ensures has is in
+    other_high a.ordered.0 es says top m last.lit other.lit id c.var.result n a.ordered.1 c.requires.reasons can reason k c.var.ensures has is in
     let clean : is_clean (mark_of m.marks other.lit.var) ≡ true = c.may_follow.ensures c.if-may_follow.true in
     let goes : Goes es m c.add.new.self = goes_needed es top m c.add.new.self other.lit a is.on clean c.add.ensures in
     let P : Look → Type 0 = λ f. CanGo es top c.add.new.self f.lit in
@@ -167,7 +167,7 @@ pub returns-in_ok-push-in-Some-find_other-2-clause-goes :
     goal.returns-in_ok-push-in-Some-find_other-2-clause-goes
 returns-in_ok-push-in-Some-find_other-2-clause-goes g c =
     let es = c.args.trail.now.entries in
-    let kept = g.R.Reasons.kept c.args.reasons.now in
+    let says = g.R.Reasons.says c.args.reasons.now in
     let top = c.args.top in
     let m : Marked = c.args.marks.now in
     let a = c.requires.way.1.marked in
@@ -177,13 +177,13 @@ returns-in_ok-push-in-Some-find_other-2-clause-goes g c =
     let can : CanGo es top m last.lit = all_last (λ (f : Look). CanGo es top m f.lit) c.pop.new.self.items last path in
     let id = c.in-Some-reason_of.id in
     let reason : reason_in es last.lit.var ≡ Some id = sym c.reason_of.ensures ∙ c.in-Some-reason_of.is in
-    let f = reason_at a.ordered.0 es kept last.lit id a.ordered.1 c.requires.reasons can.on reason in
-    let n = f.0 in
-    let same : c.lits-reason.result.now ≡ n.lits = lits_are (kept id) n c.lits-reason.result.now f.1 c.lits-reason.ensures in
+    let n : Nogood = c.in-Some-kept.reason.now in
+    let k : says last.lit id n = c.in-Some-kept.ensures in
+    let same : c.as_slice.result.now ≡ n.lits = c.as_slice.ensures.value in
     let other : Look = c.in-Some-find_other.other in
     let is = c.in-Some-find_other.ensures.1 in
     let has : has_literal n.lits other.lit ≡ true = subst (λ (ls : List Literal). has_literal ls other.lit ≡ true) same c.in-Some-find_other.ensures.0 in
     let high : level_in es other.lit.var < top =
-    other_high a.ordered.0 es kept top m last.lit other.lit id c.var.result n a.ordered.1 c.requires.reasons can reason (sym f.1) c.var.ensures has is in
+    other_high a.ordered.0 es says top m last.lit other.lit id c.var.result n a.ordered.1 c.requires.reasons can reason k c.var.ensures has is in
     let clean : is_clean (mark_of m.marks other.lit.var) ≡ true = c.may_follow.ensures c.if-may_follow.true in
     goes_needed es top m c.add.new.self other.lit a is.on clean c.add.ensures

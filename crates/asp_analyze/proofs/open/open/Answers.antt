@@ -1,83 +1,12 @@
-use Rattle.std.proofs.Common.{◌≡◌, ◌∙◌, Some, set, ap, true}
-use Rattle.asp_vars.specs.declared.nogood.Nogood.{Nogood}
-use Rattle.asp_trail.proofs.ReasonLaws.{nogood_is}
-use Rattle.asp_analyze.specs.declared.marks.Mark.TheVariants as mark
-use Rattle.asp_analyze.specs.Marks.{Marked, mark_of, is_met}
-use Rattle.asp_analyze.proofs.MarkLaws.{mark_set_same}
-use Rattle.asp_analyze.proofs.OpenLaws.{reason_some, reason_small, reason_stays, opened_marked, opened_marks, way_opened}
+use Rattle.asp_analyze.proofs.OpenLaws.{reason_asked}
 use Rattle.asp_analyze.proofs.open.open.Goals as goal
 
-pub base-requires : goal.base-requires
-base-requires g c =
+pub kept-requires : goal.kept-requires
+kept-requires g c =
     let a = c.requires.way.1.marked in
-    reason_some a.ordered.0 c.args.trail.now.entries (g.R.Reasons.kept c.args.reasons.now) c.args.lit c.args.id a.ordered.1 c.requires.reasons c.requires.on c.requires.reason
+    reason_asked a.ordered.0 c.args.trail.now.entries (g.R.Reasons.asks c.args.reasons.now) c.args.lit c.args.id a.ordered.1 c.requires.asked c.requires.on c.requires.reason
 
-pub lits-requires : goal.lits-requires
-lits-requires g c =
+pub write-requires : goal.write-requires
+write-requires g c =
     let a = c.requires.way.1.marked in
-    reason_some a.ordered.0 c.args.trail.now.entries (g.R.Reasons.kept c.args.reasons.now) c.args.lit c.args.id a.ordered.1 c.requires.reasons c.requires.on c.requires.reason
-
-pub note_all-requires-clause-small : goal.note_all-requires-clause-small
-note_all-requires-clause-small g c =
-    let es = c.args.trail.now.entries in
-    let kept = g.R.Reasons.kept c.args.reasons.now in
-    let a = c.requires.way.1.marked in
-    let old : Marked = c.args.marks.now in
-    let mid : Marked = c.change.new.self in
-    let made : mid ≡ record old { marks = set old.marks c.args.lit.var mark.Resolved } = rw c.var.ensures at c.change.ensures in
-    let n : Nogood = record { lits = c.lits.result.now; base = c.base.result.now } in
-    let some = reason_some a.ordered.0 es kept c.args.lit c.args.id a.ordered.1 c.requires.reasons c.requires.on c.requires.reason in
-    let k : Some n ≡ kept c.args.id = nogood_is (kept c.args.id) n.lits n.base some c.lits.ensures c.base.ensures in
-    reason_small a.ordered.0 es kept c.args.top mid c.args.lit c.args.id n a.ordered.1 c.requires.reasons (opened_marked es c.args.top old mid c.args.lit a c.requires.on c.requires.marked made)
-    c.requires.on c.requires.reason k
-
-pub note_all-requires-clause-stays : goal.note_all-requires-clause-stays
-note_all-requires-clause-stays g c =
-    let es = c.args.trail.now.entries in
-    let kept = g.R.Reasons.kept c.args.reasons.now in
-    let a = c.requires.way.1.marked in
-    let old : Marked = c.args.marks.now in
-    let mid : Marked = c.change.new.self in
-    let made : mid ≡ record old { marks = set old.marks c.args.lit.var mark.Resolved } = rw c.var.ensures at c.change.ensures in
-    let n : Nogood = record { lits = c.lits.result.now; base = c.base.result.now } in
-    let some = reason_some a.ordered.0 es kept c.args.lit c.args.id a.ordered.1 c.requires.reasons c.requires.on c.requires.reason in
-    let k : Some n ≡ kept c.args.id = nogood_is (kept c.args.id) n.lits n.base some c.lits.ensures c.base.ensures in
-    let met : is_met (mark_of mid.marks c.args.lit.var) ≡ true =
-    ap (λ (m : Marked). is_met (mark_of m.marks c.args.lit.var)) made ∙ ap is_met (mark_set_same old.marks c.args.lit.var mark.Resolved (a.small c.args.lit c.requires.on)) in
-    reason_stays a.ordered.0 es kept c.args.top mid.marks c.args.lit c.args.id n a.ordered.1 c.requires.reasons c.requires.on c.requires.level c.requires.reason k met
-
-pub note_all-requires-clause-marked : goal.note_all-requires-clause-marked
-note_all-requires-clause-marked g c =
-    let es = c.args.trail.now.entries in
-    let a = c.requires.way.1.marked in
-    let old : Marked = c.args.marks.now in
-    let mid : Marked = c.change.new.self in
-    let made : mid ≡ record old { marks = set old.marks c.args.lit.var mark.Resolved } = rw c.var.ensures at c.change.ensures in
-    opened_marked es c.args.top old mid c.args.lit a c.requires.on c.requires.marked made
-
-pub returns-clause-way : goal.returns-clause-way
-returns-clause-way g c = λ from w.
-    let es = c.args.trail.now.entries in
-    let kept = g.R.Reasons.kept c.args.reasons.now in
-    let a = c.requires.way.1.marked in
-    let old : Marked = c.args.marks.now in
-    let mid : Marked = c.change.new.self in
-    let made : mid ≡ record old { marks = set old.marks c.args.lit.var mark.Resolved } = rw c.var.ensures at c.change.ensures in
-    let n : Nogood = record { lits = c.lits.result.now; base = c.base.result.now } in
-    let some = reason_some a.ordered.0 es kept c.args.lit c.args.id a.ordered.1 c.requires.reasons c.requires.on c.requires.reason in
-    let k : Some n ≡ kept c.args.id = nogood_is (kept c.args.id) n.lits n.base some c.lits.ensures c.base.ensures in
-    way_opened es kept from c.args.top old mid c.note_all.new.marks c.args.base.now c.join.new.base c.args.lit c.args.id n c.requires.reasons c.requires.on c.requires.reason k
-    made c.note_all.ensures.marked c.note_all.ensures.noted c.in_ok-join.ensures.ok w
-
-pub returns-clause-opened : goal.returns-clause-opened
-returns-clause-opened g c =
-    let es = c.args.trail.now.entries in
-    let kept = g.R.Reasons.kept c.args.reasons.now in
-    let a = c.requires.way.1.marked in
-    let old : Marked = c.args.marks.now in
-    let mid : Marked = c.change.new.self in
-    let made : mid ≡ record old { marks = set old.marks c.args.lit.var mark.Resolved } = rw c.var.ensures at c.change.ensures in
-    let n : Nogood = record { lits = c.lits.result.now; base = c.base.result.now } in
-    let some = reason_some a.ordered.0 es kept c.args.lit c.args.id a.ordered.1 c.requires.reasons c.requires.on c.requires.reason in
-    let k : Some n ≡ kept c.args.id = nogood_is (kept c.args.id) n.lits n.base some c.lits.ensures c.base.ensures in
-    opened_marks a.ordered.0 es kept c.args.top old mid c.note_all.new.marks c.args.lit c.args.id n a.ordered.1 c.requires.reasons a c.requires.on c.requires.reason k made c.note_all.ensures.noted
+    reason_asked a.ordered.0 c.args.trail.now.entries (g.R.Reasons.asks c.args.reasons.now) c.args.lit c.args.id a.ordered.1 c.requires.asked c.requires.on c.requires.reason

@@ -5,9 +5,9 @@ use Rattle.asp_analyze.proofs.settle.settle.Given as goal
 
 abbrev pub invariant-loop-i : goal.invariant-loop-i
 invariant-loop-i g l = record {
-  some : (from : Nogood) × IsOnTheWay l.trail.entries (g.R.Reasons.kept l.reasons) from l.top l.marks l.base;
-  way : (from : Nogood) → IsOnTheWay l.trail.entries (g.R.Reasons.kept l.reasons) from l.top l.initial.marks l.initial.base →
-      IsOnTheWay l.trail.entries (g.R.Reasons.kept l.reasons) from l.top l.marks l.base;
+  some : (from : Nogood) × IsOnTheWay l.trail.entries (g.R.Reasons.says l.reasons) from l.top l.marks l.base;
+  way : (from : Nogood) → IsOnTheWay l.trail.entries (g.R.Reasons.says l.reasons) from l.top l.initial.marks l.initial.base →
+      IsOnTheWay l.trail.entries (g.R.Reasons.says l.reasons) from l.top l.marks l.base;
   goes : Goes l.trail.entries l.initial.marks l.marks;
   settled : AreSettled l.i l.marks;
   size : length l.marks.marks ≡ length l.initial.marks.marks;

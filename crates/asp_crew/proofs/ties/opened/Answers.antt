@@ -10,25 +10,25 @@ use Rattle.asp_crew.proofs.ties.opened.Goals as goal
 
 pub deliver-requires-clause-listed : goal.deliver-requires-clause-listed
 deliver-requires-clause-listed c =
-    let begun = begun-ties c.args.compiled.now c.args.ask (cost c.args.compiled.now c.args.best.now) c.args.budget c.in_ok-above.above c.as_slice.result.now c.in_ok-state.state c.new-book.result (c.in_ok-above.ensures ∙ c.requires.bound) c.as_slice.ensures
-    c.in_ok-state.ensures c.new-book.ensures in
-    subst (λ (S : Atoms). IsTrue (lists (board c.new-book.result).task S)) (sym c.in_ok-set.ensures) (best-lists c.args.compiled.now c.args.ask c.args.best.now c.args.budget c.new-book.result c.requires.best begun)
+    let begun = begun-ties c.args.compiled.now c.args.ask (cost c.args.compiled.now c.args.best.now) c.args.budget c.in_ok-above.above c.as_slice.result.now c.in_ok-state.state c.in_ok-book.book (c.in_ok-above.ensures ∙ c.requires.bound) c.as_slice.ensures
+    c.in_ok-state.ensures c.in_ok-book.ensures in
+    subst (λ (S : Atoms). IsTrue (lists (board c.in_ok-book.book).task S)) (sym c.in_ok-set.ensures) (best-lists c.args.compiled.now c.args.ask c.args.best.now c.args.budget c.in_ok-book.book c.requires.best begun)
 
 pub deliver-requires-clause-answer : goal.deliver-requires-clause-answer
 deliver-requires-clause-answer c =
-    let begun = begun-ties c.args.compiled.now c.args.ask (cost c.args.compiled.now c.args.best.now) c.args.budget c.in_ok-above.above c.as_slice.result.now c.in_ok-state.state c.new-book.result (c.in_ok-above.ensures ∙ c.requires.bound) c.as_slice.ensures
-    c.in_ok-state.ensures c.new-book.ensures in
-    subst (λ (S : Atoms). IsTrue (is_answer (board c.new-book.result).task S)) (sym c.in_ok-set.ensures)
-    (best-answers c.args.compiled.now c.args.ask c.args.best.now (cost c.args.compiled.now c.args.best.now) c.args.budget c.new-book.result c.requires.best begun)
+    let begun = begun-ties c.args.compiled.now c.args.ask (cost c.args.compiled.now c.args.best.now) c.args.budget c.in_ok-above.above c.as_slice.result.now c.in_ok-state.state c.in_ok-book.book (c.in_ok-above.ensures ∙ c.requires.bound) c.as_slice.ensures
+    c.in_ok-state.ensures c.in_ok-book.ensures in
+    subst (λ (S : Atoms). IsTrue (is_answer (board c.in_ok-book.book).task S)) (sym c.in_ok-set.ensures)
+    (best-answers c.args.compiled.now c.args.ask c.args.best.now (cost c.args.compiled.now c.args.best.now) c.args.budget c.in_ok-book.book c.requires.best begun)
 
 pub returns-clause-task : goal.returns-clause-task
 returns-clause-task c =
-    let begun = begun-ties c.args.compiled.now c.args.ask (cost c.args.compiled.now c.args.best.now) c.args.budget c.in_ok-above.above c.as_slice.result.now c.in_ok-state.state c.new-book.result (c.in_ok-above.ensures ∙ c.requires.bound) c.as_slice.ensures
-    c.in_ok-state.ensures c.new-book.ensures in
-    opened-task (ties_of c.args.compiled.now c.args.ask (cost c.args.compiled.now c.args.best.now) c.args.budget) c.new-book.result c.deliver.new.self c.in_ok-set.set c.in_ok-_delivered._delivered begun c.in_ok-_delivered.ensures.journal
+    let begun = begun-ties c.args.compiled.now c.args.ask (cost c.args.compiled.now c.args.best.now) c.args.budget c.in_ok-above.above c.as_slice.result.now c.in_ok-state.state c.in_ok-book.book (c.in_ok-above.ensures ∙ c.requires.bound) c.as_slice.ensures
+    c.in_ok-state.ensures c.in_ok-book.ensures in
+    opened-task (ties_of c.args.compiled.now c.args.ask (cost c.args.compiled.now c.args.best.now) c.args.budget) c.in_ok-book.book c.deliver.new.self c.in_ok-set.set c.in_ok-_delivered._delivered begun c.in_ok-_delivered.ensures.journal
 
 pub returns-clause-idle : goal.returns-clause-idle
 returns-clause-idle c =
-    let begun = begun-ties c.args.compiled.now c.args.ask (cost c.args.compiled.now c.args.best.now) c.args.budget c.in_ok-above.above c.as_slice.result.now c.in_ok-state.state c.new-book.result (c.in_ok-above.ensures ∙ c.requires.bound) c.as_slice.ensures
-    c.in_ok-state.ensures c.new-book.ensures in
-    opened-idle (ties_of c.args.compiled.now c.args.ask (cost c.args.compiled.now c.args.best.now) c.args.budget) c.new-book.result c.deliver.new.self c.in_ok-set.set c.in_ok-_delivered._delivered begun c.in_ok-_delivered.ensures.journal
+    let begun = begun-ties c.args.compiled.now c.args.ask (cost c.args.compiled.now c.args.best.now) c.args.budget c.in_ok-above.above c.as_slice.result.now c.in_ok-state.state c.in_ok-book.book (c.in_ok-above.ensures ∙ c.requires.bound) c.as_slice.ensures
+    c.in_ok-state.ensures c.in_ok-book.ensures in
+    opened-idle (ties_of c.args.compiled.now c.args.ask (cost c.args.compiled.now c.args.best.now) c.args.budget) c.in_ok-book.book c.deliver.new.self c.in_ok-set.set c.in_ok-_delivered._delivered begun c.in_ok-_delivered.ensures.journal

@@ -1,18 +1,10 @@
-use Rattle.std.proofs.Common.{◌≡◌, ◌<◌, List, Option, None, true, length, get_or, take, sym, ap, ◌∙◌, subst, arith}
+use Rattle.std.proofs.Common.{◌<◌, List, Option, None, true, length, get_or, sym, ap, ◌∙◌, arith}
 use Rattle.asp_trail.specs.declared.trail.Entry.{Entry}
 use Rattle.asp_store.specs.declared.stored_nogood.StoredNogood.{StoredNogood}
 use Rattle.asp_store.specs.Storing.{Stored}
-use Rattle.asp_propagate.specs.Locking.{lock_reason, HaveSlots}
-use Rattle.asp_propagate.proofs.LockLaws.{lock_all_length, lock_next}
+use Rattle.asp_propagate.specs.Locking.{lock_reason}
+use Rattle.asp_propagate.proofs.LockLaws.{lock_next}
 use Rattle.asp_propagate.proofs.locks.lock_reasons.Goals as goal
-
-pub lock_at-requires-clause-slots : goal.lock_at-requires-clause-slots
-lock_at-requires-clause-slots c =
-    let es = c.args.trail.now.entries in
-    let old = c.args.store.now in
-    let len : length c.loop-i.store.slots ≡ length old.slots =
-    ap (λ (x : Stored). length x.slots) c.loop-i.invariant ∙ lock_all_length c.args.locked (take c.loop-i.i es) old.slots in
-    subst (HaveSlots es) (sym len) c.requires
 
 pub loop-i-preserved : goal.loop-i-preserved
 loop-i-preserved c =

@@ -16,8 +16,8 @@ returns-in-Violated-clause-followed g c =
     let p = c.propagate in
     let t = g.P.Propagator.told c.args.propagator.now in
     let n = c.args.told.now in
-    followed_settled t t c.args.store.now p.new.self c.args.trail.now p.new.trail n n p.ensures.slots p.ensures.trail p.ensures.fits
-    (told_settled t c.args.trail.now p.new.trail n c.args.store.now.slots p.ensures.trail p.ensures.extends c.requires.told) c.requires
+    followed_settled g.P.Propagator.explains t t c.args.store.now p.new.self c.args.trail.now p.new.trail n n p.ensures.slots p.ensures.trail p.ensures.fits
+    (told_settled t c.args.trail.now p.new.trail n c.args.store.now.slots p.ensures.trail p.ensures.extends c.requires.told) refl p.ensures.few p.ensures.extends c.requires
 
 pub returns-in-Violated-clause-goes : goal.returns-in-Violated-clause-goes
 returns-in-Violated-clause-goes g c =
@@ -38,9 +38,9 @@ pub returns-in-Fixpoint-clause-followed : goal.returns-in-Fixpoint-clause-follow
 returns-in-Fixpoint-clause-followed g c =
     let p = c.propagate in
     let u = g.P.Propagator.told c.tell.new.propagator in
-    followed_settled (g.P.Propagator.told c.args.propagator.now) u c.args.store.now p.new.self c.args.trail.now p.new.trail c.args.told.now c.len.result
+    followed_settled g.P.Propagator.explains (g.P.Propagator.told c.args.propagator.now) u c.args.store.now p.new.self c.args.trail.now p.new.trail c.args.told.now c.len.result
     p.ensures.slots p.ensures.trail p.ensures.fits
-    (subst (WasTold u p.new.trail) (sym c.len.ensures.len) c.tell.ensures.told) c.requires
+    (subst (WasTold u p.new.trail) (sym c.len.ensures.len) c.tell.ensures.told) c.tell.ensures.program p.ensures.few p.ensures.extends c.requires
 
 pub returns-in-Fixpoint-clause-goes : goal.returns-in-Fixpoint-clause-goes
 returns-in-Fixpoint-clause-goes g c =
@@ -62,8 +62,8 @@ returns-in_err-found-clause-followed g c =
     let p = c.propagate in
     let t = g.P.Propagator.told c.args.propagator.now in
     let n = c.args.told.now in
-    followed_settled t t c.args.store.now p.new.self c.args.trail.now p.new.trail n n p.ensures.slots p.ensures.trail p.ensures.fits
-    (told_settled t c.args.trail.now p.new.trail n c.args.store.now.slots p.ensures.trail p.ensures.extends c.requires.told) c.requires
+    followed_settled g.P.Propagator.explains t t c.args.store.now p.new.self c.args.trail.now p.new.trail n n p.ensures.slots p.ensures.trail p.ensures.fits
+    (told_settled t c.args.trail.now p.new.trail n c.args.store.now.slots p.ensures.trail p.ensures.extends c.requires.told) refl p.ensures.few p.ensures.extends c.requires
 
 pub returns-in_err-found-clause-goes : goal.returns-in_err-found-clause-goes
 returns-in_err-found-clause-goes g c =

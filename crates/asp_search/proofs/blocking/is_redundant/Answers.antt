@@ -38,4 +38,4 @@ returns g c = λ yes.
     let here : All (λ (l : Literal). reason_in t.entries l.var ≢ Some id) n.lits =
     subst (λ (es : List Entry). All (λ (l : Literal). reason_in es l.var ≢ Some id) n.lits) c.trail.ensures.entries
     (subst (λ (ls : List Literal). All (λ (l : Literal). reason_in c.trail.result.now.entries l.var ≢ Some id) ls) same none) in
-    redundant_from (var_count t.program) t.slots t.entries c.args.lits.now id n c.trail.ensures.ordered c.store.ensures.reasons k.1 begins here
+    redundant_from (var_count t.program) t.slots t.entries c.args.lits.now id n c.trail.ensures.ordered c.store.ensures.reasons c.store.ensures.few k.1 begins here

@@ -1,4 +1,4 @@
-use Rattle.std.proofs.Common.{true, sym, ap, ◌∙◌}
+use Rattle.std.proofs.Common.{sym, ap, ◌∙◌}
 use Rattle.std.proofs.lemmas.Bool.{false≢true}
 use Rattle.asp_vars.specs.Literals.{holds_in}
 use Rattle.asp_source.proofs.GatherLaws.{admits_none, admits_seated, admits_joined}

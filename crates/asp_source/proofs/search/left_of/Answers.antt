@@ -1,4 +1,3 @@
-use Rattle.std.proofs.Common.{◌-◌}
 use Rattle.asp_source.proofs.search.left_of.Goals as goal
 
 pub atom_at-atom-requires : goal.atom_at-atom-requires

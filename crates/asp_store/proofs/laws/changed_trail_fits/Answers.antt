@@ -1,8 +1,10 @@
+use Rattle.std.proofs.Common.{sym, ◌∙◌}
+use Rattle.std.proofs.lemmas.Option.{none-some}
 use Rattle.asp_store.proofs.FitsLaws.{fits_clear, fits_cut, fits_imply, fits_open}
 use Rattle.asp_store.proofs.laws.changed_trail_fits.Goals as goal
 
 pub returns-clause-open : goal.returns-clause-open
-returns-clause-open c s t e le none f = fits_open s t e le none f
+returns-clause-open c s t e le none f = fits_open s t e le (λ id small q. none-some id (sym none ∙ q)) f
 
 pub returns-clause-imply : goal.returns-clause-imply
 returns-clause-imply c s t e id n le some g r f = fits_imply s t e id n le some g r f

@@ -8,7 +8,8 @@ use Rattle.asp_store.specs.Lists.{list_at}
 use Rattle.asp_store.specs.Sounding.{IsSound}
 use Rattle.asp_store.specs.Pending.{IsLooking, HasNone}
 use Rattle.asp_store.proofs.StepLaws.{code_of_list}
-use Rattle.asp_store.proofs.PendingLaws.{kept_within, pair_small, sound_both, with_first, with_both, attached, attached_looking, attached_none}
+use Rattle.asp_store.proofs.GrowLaws.{kept_within}
+use Rattle.asp_store.proofs.PendingLaws.{pair_small, sound_both, with_first, with_both, attached, attached_looking, attached_none}
 use Rattle.asp_store.proofs.pending.attach.Goals as goal
 
 pub is_lasting_at-is_short-requires : goal.is_lasting_at-is_short-requires

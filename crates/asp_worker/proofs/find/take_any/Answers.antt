@@ -33,3 +33,9 @@ returns-clause-passes g c =
 pub returns-clause-takes : goal.returns-clause-takes
 returns-clause-takes g c =
     (first-taken (view c.take_other.new.seat) (view c.take.new.seat) c.take.ensures.stays (takes-not (view c.take_other.new.seat) c.in_ok-other.other c.in_ok-other.ensures.takes (sym c.is_some-2.ensures ∙ c.if-is_some-2.false)) _ c.take.result c.take.ensures.ok c.take.ensures.err).1
+
+pub returns-then-patient-clause-passes : goal.returns-then-patient-clause-passes
+returns-then-patient-clause-passes g c = passes-trans (view c.args.seat.now) (view c.take_own.new.seat) (view c.take_other.new.seat) c.take_own.ensures.passes c.take_other.ensures.passes
+
+pub returns-then-patient-clause-takes : goal.returns-then-patient-clause-takes
+returns-then-patient-clause-takes g c = takes-not (view c.take_other.new.seat) c.in_ok-other.other c.in_ok-other.ensures.takes (sym c.is_some-2.ensures ∙ c.if-is_some-2.false)

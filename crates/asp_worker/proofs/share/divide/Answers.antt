@@ -32,7 +32,7 @@ pub returns-in-Some-clause-passes : goal.returns-in-Some-clause-passes
 returns-in-Some-clause-passes g c = let k = c.in_ok-split.ensures.ok in divided-passes (view c.args.worker.now.seat) (view c.split.new.seat) c.split.ensures.stays c.args.leaf c.args.lit c.requires.held k.0 c.in_ok-split.field-0 k.2
 
 pub returns-in-Some-clause-half : goal.returns-in-Some-clause-half
-returns-in-Some-clause-half g c = let k = c.in_ok-split.ensures.ok in divided-some (view c.args.worker.now.seat) (view c.split.new.seat) c.split.ensures.stays c.args.leaf c.args.lit c.requires.held k.0 c.in_ok-split.field-0 c.in-Some.mine c.in-Some.other c.in-Some.is k.1.leaves k.2
+returns-in-Some-clause-half g c = let k = c.in_ok-split.ensures.ok in divided-some (view c.args.worker.now.seat) (view c.split.new.seat) c.split.ensures.stays c.args.leaf c.args.lit c.requires.held k.0 c.in_ok-split.field-0 c.in-Some.mine c.in-Some.half c.in-Some.is k.1.leaves k.2
 
 pub returns-in_err-split-clause-ready : goal.returns-in_err-split-clause-ready
 returns-in_err-split-clause-ready g c =
@@ -54,12 +54,12 @@ returns-in-None-clause-ready g c =
 
 pub returns-in-Some-clause-keeps : goal.returns-in-Some-clause-keeps
 returns-in-Some-clause-keeps g c =
-    let h : Worker = c.args.worker.now in let k : Worker = record h { seat = c.split.new.seat; lane = c.offer-offered.new.self } in
+    let h : Worker = c.args.worker.now in let k : Worker = record h { seat = c.split.new.seat; lane = c.put.new.lane } in
     keeps-seat c.args.shared.now h k c.requires.ready c.split.ensures.of c.split.ensures.stays refl refl
 
 pub returns-in-Some-clause-ready : goal.returns-in-Some-clause-ready
 returns-in-Some-clause-ready g c =
-    let h : Worker = c.args.worker.now in let k : Worker = record h { seat = c.split.new.seat; lane = c.offer-offered.new.self } in
+    let h : Worker = c.args.worker.now in let k : Worker = record h { seat = c.split.new.seat; lane = c.put.new.lane } in
     let r = c.in_ok-split.ensures.ok in
     let p = divided-passes (view h.seat) (view k.seat) c.split.ensures.stays c.args.leaf c.args.lit c.requires.held r.0 c.in_ok-split.field-0 r.2 in
     ready-seat c.args.shared.now h k c.requires.ready (keeps-seat c.args.shared.now h k c.requires.ready c.split.ensures.of c.split.ensures.stays refl refl) c.requires.ready.pool p.lawful

@@ -40,7 +40,7 @@ split_on-requires-clause-on g c =
     on-on c.args.shared.now.mode v m c.args.engine.now.search c.args.engine.now.fuel c.args.leaf.now c.requires.on (idles-call v m c.wanted.ensures.call.0 c.wanted.ensures.stays c.wanted.ensures.call.2)
 
 pub split_on-requires-clause-open : goal.split_on-requires-clause-open
-split_on-requires-clause-open g c = λ q e. subst (λ (x : Option Literal). IfSome x (IsOpen c.args.engine.now.search.program q)) c.in-Some.is (c.first.ensures.splits q e)
+split_on-requires-clause-open g c = λ q e. subst (λ (x : Option Literal). IfSome x (IsOpen c.args.engine.now.search.program q)) c.in-Some.is (c.divider.ensures q e)
 
 pub returns-else-not-wanted-clause-keeps : goal.returns-else-not-wanted-clause-keeps
 returns-else-not-wanted-clause-keeps g c =

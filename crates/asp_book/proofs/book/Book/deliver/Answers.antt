@@ -1,9 +1,9 @@
-use Rattle.std.proofs.Common.{◌≡◌, List, [], ◌∷◌, ◌++◌, length, refl, sym, ap, ◌∙◌, subst, arith}
+use Rattle.std.proofs.Common.{◌≡◌, false, List, [], ◌∷◌, ◌++◌, length, refl, sym, ap, ◌∙◌, subst, arith}
 use Rattle.std.specs.Prelude.{IsTrue}
 use Rattle.std.proofs.lemmas.List.{length-append}
 use Rattle.asp_core.specs.declared.event.Event.{Event}
 use Rattle.asp_core.specs.declared.event.Event.TheVariants as event
-use Rattle.asp_core.specs.Boards.{Board, lists, is_answer}
+use Rattle.asp_core.specs.Boards.{Board, lists, is_answer, is_enough}
 use Rattle.asp_core.specs.Events.{Guard}
 use Rattle.asp_book.specs.declared.book.Book.TheInside.{Inside}
 use Rattle.asp_book.specs.Books.{board}
@@ -16,13 +16,13 @@ invariant_of-self-2 c =
     let i : Inside = c.self.inside in
     let I = c.self.invariant in
     let e : Event = event.Deliver c.args.by c.args.set in
-    let at : i.state ≡ board c.args.self.now = state-is i c.args.self.now I c.self.view_is in
-    let guard : Guard i.state e = (
+    let at : i.state.value ≡ board c.args.self.now = state-is i c.args.self.now I c.self.view_is in
+    let guard : Guard i.state.value e = (
       subst (λ (b : Board). IsTrue (lists b.task c.args.set)) (sym at) c.requires.listed,
       subst (λ (b : Board). IsTrue (is_answer b.task c.args.set)) (sym at) c.requires.answer,
-      sym c.enough.ensures ∙ c.if-enough.false,
+      subst (λ (b : Board). is_enough b ≡ false) c.deref.ensures (sym c.enough.ensures ∙ c.if-enough.false),
     ) in
-    let places : i.places ≡ places_of c.write.new.state = I.places ∙ sym (ap places_of c.in_ok-write.ensures.state) in
+    let places : i.places ≡ places_of c.write.new.state.value = I.places ∙ sym (ap places_of c.in_ok-write.ensures.state) in
     IsStored-happens i (record i { state = c.write.new.state; journal = c.write.new.journal }) e I guard c.in_ok-write.ensures.state
-    (c.in_ok-write.ensures.journal ∙ ap (λ (l : List Event). l ++ e ∷ []) c.in_ok-make_room.ensures.items) (IsOwnFuel-happens i.state c.write.new.state e i.fuel guard c.in_ok-write.ensures.state refl refl I.fuel) places
+    (c.in_ok-write.ensures.journal ∙ ap (λ (l : List Event). l ++ e ∷ []) c.in_ok-make_room.ensures.items) (IsOwnFuel-happens i.state.value c.write.new.state.value e i.fuel guard c.in_ok-write.ensures.state refl refl I.fuel) places
     (omega (arith, ap length c.in_ok-write.ensures.journal, ap length c.in_ok-make_room.ensures.items, length-append c.make_room.new.journal.items (e ∷ []), c.write.ensures.capacity, c.in_ok-make_room.ensures.ok, c.write.new.journal.ok.0))

@@ -1,19 +1,7 @@
-use Rattle.std.proofs.Common.{◌≡◌, ◌++◌, ℕ, flat_map, ap, ◌∙◌, List}
+use Rattle.std.proofs.Common.{◌++◌, ap, ◌∙◌, List}
 use Rattle.asp_model.specs.declared.program.Rule.{Rule}
-use Rattle.asp_model.specs.Sets.{set_of}
-use Rattle.asp_model.specs.Models.{head_atoms}
-use Rattle.asp_model.specs.Opening.{opened_rule, last_values}
-use Rattle.asp_model.proofs.OpeningLaws.{opened_by_entries}
+use Rattle.asp_model.specs.Opening.{opened_rules}
 use Rattle.asp_model.proofs.program.Program.opened_rules.Goals as goal
 
 pub returns : goal.returns
-returns c =
-    let p = c.args.self.now in
-    let heads_of : List Rule → List ℕ = λ rs. set_of (flat_map (λ (r : Rule). head_atoms r.head) rs) in
-    let heads : c.in_ok-heads.heads ≡ heads_of p.rules = c.in_ok-heads.ensures ∙ ap heads_of c.as_slice.ensures.value in
-    let values : c.in_ok-values.values.entries ≡ last_values p.externals = c.in_ok-values.ensures ∙ ap last_values c.as_slice-2.ensures.value in
-    c.in_ok-add_all_opened.ensures
-    ∙ ap (λ (rs : List Rule). rs ++ flat_map (opened_rule c.in_ok-heads.heads) c.in_ok-values.values.entries) c.new-rules.ensures.items
-    ∙ ap (λ H. flat_map (opened_rule H) c.in_ok-values.values.entries) heads
-    ∙ ap (flat_map (opened_rule (heads_of p.rules))) values
-    ∙ opened_by_entries p
+returns c = c.in_ok-add_opened_rules.ensures ∙ ap (λ (rs : List Rule). rs ++ opened_rules c.args.self.now) c.new-rules.ensures.items

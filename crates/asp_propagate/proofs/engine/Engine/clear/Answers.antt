@@ -11,8 +11,8 @@ pub invariant_of-self : goal.invariant_of-self
 invariant_of-self g c =
     let i = c.self.inside in
     let q = c.recall.ensures in
-    subst (λ (x : Trailed). IsFollowed (g.P.Propagator.told c.untell.new.propagator) c.recall.new.self x 0) (sym c.clear.ensures)
-    (followed_clear (g.P.Propagator.told i.propagator) (g.P.Propagator.told c.untell.new.propagator) i.store c.recall.new.self i.trail i.told q.recalled q.active
+    subst (λ (x : Trailed). IsFollowed g.P.Propagator.explains (g.P.Propagator.told c.untell.new.propagator) c.recall.new.self x 0) (sym c.clear.ensures)
+    (followed_clear g.P.Propagator.explains (g.P.Propagator.told i.propagator) (g.P.Propagator.told c.untell.new.propagator) i.store c.recall.new.self i.trail i.told q.recalled q.active
     c.untell.ensures.told c.self.invariant)
 
 pub returns : goal.returns

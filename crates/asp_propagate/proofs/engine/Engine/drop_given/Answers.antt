@@ -1,27 +1,14 @@
-use Rattle.std.proofs.Common.{◌≡◌, true, length, sym, ap, ◌∙◌, subst}
-use Rattle.asp_store.specs.Storing.{Stored}
+use Rattle.std.proofs.Common.{ap, subst}
 use Rattle.asp_propagate.specs.Propagating.{Propagating, IsReduced}
-use Rattle.asp_propagate.specs.Locking.{HaveSlots}
-use Rattle.asp_propagate.proofs.PropagateLaws.{have_slots, followed_reduced}
-use Rattle.asp_propagate.proofs.LockLaws.{lock_all_length, locks_lose, locks_given, locks_given_reduced, DropsGiven}
+use Rattle.asp_propagate.proofs.PropagateLaws.{followed_reduced}
+use Rattle.asp_propagate.proofs.LockLaws.{locks_lose, locks_given, locks_given_reduced, DropsGiven}
 use Rattle.asp_propagate.proofs.engine.Engine.drop_given.Goals as goal
-
-pub lock_reasons-requires : goal.lock_reasons-requires
-lock_reasons-requires g c = have_slots c.self.inside.store c.self.inside.trail c.self.invariant.fits
-
-pub lock_reasons-requires-2 : goal.lock_reasons-requires-2
-lock_reasons-requires-2 g c =
-    let i = c.self.inside in
-    let es = i.trail.entries in
-    let first : length c.lock_reasons.new.store.slots ≡ length i.store.slots =
-    ap (λ (x : Stored). length x.slots) c.lock_reasons.ensures ∙ lock_all_length true es i.store.slots in
-    subst (HaveSlots es) (sym (c.drop_given.ensures.count ∙ first)) (have_slots i.store i.trail c.self.invariant.fits)
 
 pub invariant_of-self : goal.invariant_of-self
 invariant_of-self g c =
     let i = c.self.inside in
     let es = i.trail.entries in
-    followed_reduced (g.P.Propagator.told i.propagator) i.store c.lock_reasons-2.new.store i.trail i.told
+    followed_reduced g.P.Propagator.explains (g.P.Propagator.told i.propagator) i.store c.lock_reasons-2.new.store i.trail i.told
     (locks_given_reduced es i.store c.lock_reasons.new.store c.drop_given.new.self c.lock_reasons-2.new.store c.self.invariant.unlocked c.lock_reasons.ensures c.drop_given.ensures.count c.drop_given.ensures.each c.lock_reasons-2.ensures)
     (locks_lose es i.store c.lock_reasons.new.store c.drop_given.new.self c.lock_reasons-2.new.store c.self.invariant.unlocked c.lock_reasons.ensures c.drop_given.ensures.loses c.lock_reasons-2.ensures)
     c.self.invariant

@@ -11,7 +11,7 @@ set_bound-requires g c = subst (λ (x : Propagating). IsSmaller c.args.cost x.bo
 pub invariant_of-self : goal.invariant_of-self
 invariant_of-self g c =
     let i = c.self.inside in
-    subst (λ (t : Told). IsFollowed t i.store i.trail i.told) (sym c.set_bound.ensures.stays) c.self.invariant
+    subst (λ (t : Told). IsFollowed g.P.Propagator.explains t i.store i.trail i.told) (sym c.set_bound.ensures.stays) c.self.invariant
 
 pub returns : goal.returns
 returns g c =

@@ -11,10 +11,10 @@ invariant_of-self g c =
     let i = c.self.inside in
     let u = c.untell_above-self-inside.ensures in
     let q = c.undo_to.ensures in
-    subst (λ (x : Trailed). IsFollowed (g.P.Propagator.told c.untell_above-self-inside.new.propagator) i.store x c.untell_above-self-inside.result)
+    subst (λ (x : Trailed). IsFollowed g.P.Propagator.explains (g.P.Propagator.told c.untell_above-self-inside.new.propagator) i.store x c.untell_above-self-inside.result)
     (sym (cut_trail i.trail c.undo_to.new.self c.args.level q.same q.entries q.seen))
-    (followed_cut (g.P.Propagator.told i.propagator) (g.P.Propagator.told c.untell_above-self-inside.new.propagator) i.store i.trail i.told c.untell_above-self-inside.result c.args.level
-    c.len-len.ensures.ordered.rising u.low u.told c.self.invariant)
+    (followed_cut g.P.Propagator.explains (g.P.Propagator.told i.propagator) (g.P.Propagator.told c.untell_above-self-inside.new.propagator) i.store i.trail i.told c.untell_above-self-inside.result c.args.level
+    c.len-len.ensures.ordered.rising u.low u.program u.told c.self.invariant)
 
 pub returns : goal.returns
 returns g c =

@@ -20,7 +20,7 @@ use Rattle.asp_state.specs.SearchStates.{SearchView, values_of, IsUnder}
 use Rattle.asp_search.specs.Invariants.{answers_known, used_in, view_of}
 use Rattle.asp_search.specs.Stepping.{IsEntered}
 use Rattle.asp_search.proofs.BelowLaws.{fault_useful, fault_continues}
-use Rattle.asp_search.proofs.MeetLaws.{all_useful_for, all_excluded_for}
+use Rattle.asp_search.proofs.MeetLaws.{all_excluded_for, settled_reasons}
 use Rattle.asp_search.proofs.SearchLaws.{search_checked, search_added, added_last}
 use Rattle.asp_search.proofs.StepsLaws.{always_err, fails_still}
 use Rattle.asp_search.proofs.WholeLaws.{IsFull, full_whole, full_found, whole_for, atoms_for, found_for, stable_for}
@@ -50,12 +50,12 @@ fault-requires-clause-whole g c =
     let full : IsFull silent (used_up (reasoning_of i.mode) i.state.program (answers_known i.known.items i.seen)) t q = record {
       ordered = c.trail.ensures.ordered;
       starts = (c.trail.ensures.begun q under).starts;
-      reasons = c.store-store.ensures.reasons;
+      reasons = settled_reasons i.compiled.now t i.mode (answers_known i.known.items i.seen) (g.P.Propagator.gives t.program t.bound) (g.P.Propagator.late t.program) c.self.invariant.0.program
+          c.program-program.ensures.sound (g.met.P.Propagator.sound t.program t.bound) (g.met.P.Propagator.given t.program t.bound) c.self.invariant.0.useful c.store-store.ensures.implied;
       small = c.store-store.ensures.small;
       completed = c.store-store.ensures.completed;
       fixpoint = fixpoint;
       assigned = assigned;
-      useful = all_useful_for i.compiled.now t i.mode (answers_known i.known.items i.seen) c.self.invariant.0.program c.self.invariant.0.useful;
       blocked = all_excluded_for i.compiled.now t i.mode (answers_known i.known.items i.seen) c.self.invariant.0.program c.self.invariant.0.blocked;
     } in
     whole_for i.compiled.now t c.self.invariant.0.program
@@ -87,12 +87,12 @@ answer-requires g c =
     let full : IsFull silent (used_up (reasoning_of i.mode) i.state.program (answers_known i.known.items i.seen)) t q = record {
       ordered = c.trail.ensures.ordered;
       starts = (c.trail.ensures.begun q under).starts;
-      reasons = c.store-store.ensures.reasons;
+      reasons = settled_reasons i.compiled.now t i.mode (answers_known i.known.items i.seen) (g.P.Propagator.gives t.program t.bound) (g.P.Propagator.late t.program) c.self.invariant.0.program
+          c.program-program.ensures.sound (g.met.P.Propagator.sound t.program t.bound) (g.met.P.Propagator.given t.program t.bound) c.self.invariant.0.useful c.store-store.ensures.implied;
       small = c.store-store.ensures.small;
       completed = c.store-store.ensures.completed;
       fixpoint = fixpoint;
       assigned = assigned;
-      useful = all_useful_for i.compiled.now t i.mode (answers_known i.known.items i.seen) c.self.invariant.0.program c.self.invariant.0.useful;
       blocked = all_excluded_for i.compiled.now t i.mode (answers_known i.known.items i.seen) c.self.invariant.0.program c.self.invariant.0.blocked;
     } in
     let atoms = atoms_for p c.trail.result.now.vars t c.trail.result.now.entries S c.self.invariant.0.program c.trail.ensures.vars c.trail.ensures.entries c.in_ok-interp.ensures in

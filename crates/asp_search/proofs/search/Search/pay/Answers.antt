@@ -19,19 +19,19 @@ pub conflict-requires : goal.conflict-requires
 conflict-requires g c =
     let i = c.self.inside in
     let q = c.requires.met.0 in
-    let m = subst (λ (s : Searching). IsMet s q c.args.id (learned.Jump c.args.nogood c.args.to c.args.lit)) (sym c.self.view_is) c.requires.met.1 in (
+    let m = subst (λ (s : Searching). IsMet (g.P.Propagator.gives s.program s.bound) s q c.args.id (learned.Jump c.args.nogood c.args.to c.args.lit)) (sym c.self.view_is) c.requires.met.1 in (
       answers_known i.known.items i.seen,
       sym c.known_count.ensures,
       shows_for i.compiled.now c.reasoning.result (reasoning_of i.mode) (answers_known i.known.items i.seen) (answers_known i.known.items i.seen) i.bound i.state c.args.id c.args.lit c.self.invariant.0.program c.reasoning.ensures refl c.self.invariant.0.bounded
-          (met_shows i.mode i.state i.pace (answers_known i.known.items i.seen) i.last q c.args.id c.args.nogood c.args.to c.args.lit m),
+          (met_shows (g.P.Propagator.gives i.state.program i.state.bound) i.mode i.state i.pace (answers_known i.known.items i.seen) i.last q c.args.id c.args.nogood c.args.to c.args.lit m),
     )
 
 pub burn-requires-clause-program : goal.burn-requires-clause-program
 burn-requires-clause-program g c =
     let i = c.self.inside in
     let q = c.requires.met.0 in
-    let m = subst (λ (s : Searching). IsMet s q c.args.id (learned.Jump c.args.nogood c.args.to c.args.lit)) (sym c.self.view_is) c.requires.met.1 in
-    let shows = met_shows i.mode i.state i.pace (answers_known i.known.items i.seen) i.last q c.args.id c.args.nogood c.args.to c.args.lit m in
+    let m = subst (λ (s : Searching). IsMet (g.P.Propagator.gives s.program s.bound) s q c.args.id (learned.Jump c.args.nogood c.args.to c.args.lit)) (sym c.self.view_is) c.requires.met.1 in
+    let shows = met_shows (g.P.Propagator.gives i.state.program i.state.bound) i.mode i.state i.pace (answers_known i.known.items i.seen) i.last q c.args.id c.args.nogood c.args.to c.args.lit m in
     let clash = clash_for i.compiled.now c.reasoning.result (reasoning_of i.mode) (answers_known i.known.items i.seen) (answers_known i.known.items i.seen) i.bound i.state c.args.id c.args.lit c.in_ok-conflict.conflict c.self.invariant.0.program c.reasoning.ensures refl
     c.self.invariant.0.bounded (c.in_ok-conflict.ensures (answers_known i.known.items i.seen) (sym c.known_count.ensures)) in
     let is = conflict_of (g.P.Propagator.gives i.state.program i.state.bound) i.mode i.state i.pace (answers_known i.known.items i.seen) i.last q c.args.id c.args.lit c.in_ok-conflict.conflict m.entered shows clash in
@@ -43,19 +43,19 @@ jump-requires-clause-vars g c = c.self.invariant.0.counted
 pub jump-requires-clause-path : goal.jump-requires-clause-path
 jump-requires-clause-path g c =
     let q = c.requires.met.0 in
-    let m = subst (λ (s : Searching). IsMet s q c.args.id (learned.Jump c.args.nogood c.args.to c.args.lit)) (sym c.self.view_is) c.requires.met.1 in
+    let m = subst (λ (s : Searching). IsMet (g.P.Propagator.gives s.program s.bound) s q c.args.id (learned.Jump c.args.nogood c.args.to c.args.lit)) (sym c.self.view_is) c.requires.met.1 in
     (q, record { cube_is = m.entered; fixpoint = m.clear })
 
 pub jump-requires-clause-contained : goal.jump-requires-clause-contained
 jump-requires-clause-contained g c =
     let q = c.requires.met.0 in
-    let m = subst (λ (s : Searching). IsMet s q c.args.id (learned.Jump c.args.nogood c.args.to c.args.lit)) (sym c.self.view_is) c.requires.met.1 in
+    let m = subst (λ (s : Searching). IsMet (g.P.Propagator.gives s.program s.bound) s q c.args.id (learned.Jump c.args.nogood c.args.to c.args.lit)) (sym c.self.view_is) c.requires.met.1 in
     m.explains.contained
 
 pub jump-requires-clause-jumps : goal.jump-requires-clause-jumps
 jump-requires-clause-jumps g c =
     let q = c.requires.met.0 in
-    let m = subst (λ (s : Searching). IsMet s q c.args.id (learned.Jump c.args.nogood c.args.to c.args.lit)) (sym c.self.view_is) c.requires.met.1 in
+    let m = subst (λ (s : Searching). IsMet (g.P.Propagator.gives s.program s.bound) s q c.args.id (learned.Jump c.args.nogood c.args.to c.args.lit)) (sym c.self.view_is) c.requires.met.1 in
     (m.explains.from.lits, m.explains.learned)
 
 pub returns-in_err-conflict-clause-err : goal.returns-in_err-conflict-clause-err
@@ -71,13 +71,13 @@ returns-then-left-eq0-clause-ok g c = λ r e.
     let q = c.requires.met.0 in
     let f = c.args.fuel.now in
     let x = c.in_ok-conflict.conflict in
-    let m = subst (λ (s : Searching). IsMet s q c.args.id (learned.Jump c.args.nogood c.args.to c.args.lit)) (sym c.self.view_is) c.requires.met.1 in
-    let shows = met_shows i.mode i.state i.pace (answers_known i.known.items i.seen) i.last q c.args.id c.args.nogood c.args.to c.args.lit m in
+    let m = subst (λ (s : Searching). IsMet (g.P.Propagator.gives s.program s.bound) s q c.args.id (learned.Jump c.args.nogood c.args.to c.args.lit)) (sym c.self.view_is) c.requires.met.1 in
+    let shows = met_shows (g.P.Propagator.gives i.state.program i.state.bound) i.mode i.state i.pace (answers_known i.known.items i.seen) i.last q c.args.id c.args.nogood c.args.to c.args.lit m in
     let clash = clash_for i.compiled.now c.reasoning.result (reasoning_of i.mode) (answers_known i.known.items i.seen) (answers_known i.known.items i.seen) i.bound i.state c.args.id c.args.lit x c.self.invariant.0.program c.reasoning.ensures refl
     c.self.invariant.0.bounded (c.in_ok-conflict.ensures (answers_known i.known.items i.seen) (sym c.known_count.ensures)) in
     let stops = met_stops (g.P.Propagator.gives i.state.program i.state.bound) i.mode i.state i.pace (answers_known i.known.items i.seen) i.last q f c.args.id c.args.lit x m.last
     (sym c.left.ensures.left ∙ c.if-left-eq0.true) m.entered shows clash
-    (shown_holds i.mode i.state i.pace (answers_known i.known.items i.seen) i.last q c.args.id (learned.Jump c.args.nogood c.args.to c.args.lit) m c.args.lit shows) in
+    (shown_holds (g.P.Propagator.gives i.state.program i.state.bound) i.mode i.state i.pace (answers_known i.known.items i.seen) i.last q c.args.id (learned.Jump c.args.nogood c.args.to c.args.lit) m c.args.lit shows) in
     subst (λ (y : List Literal). Stops (g.P.Propagator.gives s.program s.bound) s s y f f x) (same_cube s.cube q r c.requires.met.1.entered e)
     (subst (λ (z : Searching). Stops (g.P.Propagator.gives z.program z.bound) z z q f f x) c.self.view_is stops)
 
@@ -99,8 +99,8 @@ returns-in_err-new-clause-err g c =
     let h = c.burn.new.self in
     let x = c.in_ok-conflict.conflict in
     let u = c.jump.new.state in
-    let m = subst (λ (s : Searching). IsMet s q c.args.id (learned.Jump c.args.nogood c.args.to c.args.lit)) (sym c.self.view_is) c.requires.met.1 in
-    let shows = met_shows i.mode i.state i.pace (answers_known i.known.items i.seen) i.last q c.args.id c.args.nogood c.args.to c.args.lit m in
+    let m = subst (λ (s : Searching). IsMet (g.P.Propagator.gives s.program s.bound) s q c.args.id (learned.Jump c.args.nogood c.args.to c.args.lit)) (sym c.self.view_is) c.requires.met.1 in
+    let shows = met_shows (g.P.Propagator.gives i.state.program i.state.bound) i.mode i.state i.pace (answers_known i.known.items i.seen) i.last q c.args.id c.args.nogood c.args.to c.args.lit m in
     let clash = clash_for i.compiled.now c.reasoning.result (reasoning_of i.mode) (answers_known i.known.items i.seen) (answers_known i.known.items i.seen) i.bound i.state c.args.id c.args.lit x c.self.invariant.0.program c.reasoning.ensures refl
     c.self.invariant.0.bounded (c.in_ok-conflict.ensures (answers_known i.known.items i.seen) (sym c.known_count.ensures)) in
     let is = conflict_of (g.P.Propagator.gives i.state.program i.state.bound) i.mode i.state i.pace (answers_known i.known.items i.seen) i.last q c.args.id c.args.lit x m.entered shows clash in
@@ -120,12 +120,12 @@ invariant_of-self-2 g c =
     let u = c.jump.new.state in
     let w = c.sweep.new.state in
     let new = c.in_ok-new.new in
-    let m = subst (λ (s : Searching). IsMet s q c.args.id (learned.Jump c.args.nogood c.args.to c.args.lit)) (sym c.self.view_is) c.requires.met.1 in
+    let m = subst (λ (s : Searching). IsMet (g.P.Propagator.gives s.program s.bound) s q c.args.id (learned.Jump c.args.nogood c.args.to c.args.lit)) (sym c.self.view_is) c.requires.met.1 in
     let e = c.in_ok-new.ensures.ok in
     let last = newest_last i.state.slots u.slots new c.args.nogood kind.Learnt c.in_ok-new.ensures.added in
     let added = search_added i.compiled.now i.mode i.state u i.learner i.checker (used_in i.compiled.now i.mode i.known.items i.seen) i.blocking.items i.bound i.last (Some new) new c.args.nogood kind.Learnt
     (ap (λ (x : SearchView). x.program) e) (ap (λ (x : SearchView). x.bound) e) c.in_ok-new.ensures.added
-    (useful_for i.compiled.now i.state i.mode (answers_known i.known.items i.seen) c.args.nogood c.self.invariant.0.program (met_useful i.mode i.state i.pace (answers_known i.known.items i.seen) i.last q c.args.id (learned.Jump c.args.nogood c.args.to c.args.lit) m)) last c.self.invariant.0 in (
+    (useful_for i.compiled.now i.state i.mode (answers_known i.known.items i.seen) c.args.nogood c.self.invariant.0.program (met_useful (g.P.Propagator.gives i.state.program i.state.bound) i.mode i.state i.pace (answers_known i.known.items i.seen) i.last q c.args.id (learned.Jump c.args.nogood c.args.to c.args.lit) m)) last c.self.invariant.0 in (
       search_thinned i.compiled.now i.mode u w i.learner i.checker (used_in i.compiled.now i.mode i.known.items i.seen) i.blocking.items i.bound (Some new) (Some new) u.entries
           (ap (λ (x : SearchView). x.program) c.sweep.ensures.same) (ap (λ (x : SearchView). x.bound) c.sweep.ensures.same) c.sweep.ensures.reduced
           (last_named u.slots w.slots new (jumped_named i.state u w.slots c.args.to new c.args.lit (ap (λ (x : SearchView). x.entries) e) c.sweep.ensures.reduced) last) added,
@@ -141,8 +141,8 @@ returns-clause-ok g c = λ r e.
     let h = c.burn.new.self in
     let x = c.in_ok-conflict.conflict in
     let u = c.jump.new.state in
-    let m = subst (λ (s : Searching). IsMet s q c.args.id (learned.Jump c.args.nogood c.args.to c.args.lit)) (sym c.self.view_is) c.requires.met.1 in
-    let shows = met_shows i.mode i.state i.pace (answers_known i.known.items i.seen) i.last q c.args.id c.args.nogood c.args.to c.args.lit m in
+    let m = subst (λ (s : Searching). IsMet (g.P.Propagator.gives s.program s.bound) s q c.args.id (learned.Jump c.args.nogood c.args.to c.args.lit)) (sym c.self.view_is) c.requires.met.1 in
+    let shows = met_shows (g.P.Propagator.gives i.state.program i.state.bound) i.mode i.state i.pace (answers_known i.known.items i.seen) i.last q c.args.id c.args.nogood c.args.to c.args.lit m in
     let clash = clash_for i.compiled.now c.reasoning.result (reasoning_of i.mode) (answers_known i.known.items i.seen) (answers_known i.known.items i.seen) i.bound i.state c.args.id c.args.lit x c.self.invariant.0.program c.reasoning.ensures refl
     c.self.invariant.0.bounded (c.in_ok-conflict.ensures (answers_known i.known.items i.seen) (sym c.known_count.ensures)) in
     let is = conflict_of (g.P.Propagator.gives i.state.program i.state.bound) i.mode i.state i.pace (answers_known i.known.items i.seen) i.last q c.args.id c.args.lit x m.entered shows clash in

@@ -6,9 +6,9 @@ pub invariant_of-result : goal.invariant_of-result
 invariant_of-result c =
     let none : Option Bool = None in
     let bare : ℕ = 0 in
-    kept_first c.args.compiled.now c.in_ok-components.components c.in_ok-values.values c.in_ok-sources.sources.items c.in_ok-ranks.ranks.ranks c.in_ok-queue.queue c.is_empty-tight.result c.has_weights-weighted.result c.in_ok-loose.loose.items c.in_ok-waiting.waiting c.in_ok-joined.joined c.new-found.result
+    kept_first c.args.compiled.now c.in_ok-components.components c.none-values.result c.in_ok-sources.sources.items c.in_ok-ranks.ranks.ranks c.in_ok-queue.queue c.is_empty-tight.result c.has_weights-weighted.result c.in_ok-loose.loose.items c.in_ok-waiting.waiting c.in_ok-joined.joined c.new-found.result
     c.in_ok-components.ensures
-    (c.in_ok-values.ensures ∙ ap (λ n. replicate (n + 1) none) c.vars.ensures.count)
+    (c.none-values.ensures ∙ ap (λ n. replicate (n + 1) none) c.vars.ensures.count)
     (c.in_ok-sources.ensures.items_if_clones_equal (λ y q. q) ∙ ap (λ n. replicate (n + 1) bare) c.atom_count.ensures.count)
     (c.in_ok-ranks.ensures.size ∙ ap (λ n. n + 1) c.atom_count-2.ensures.count)
     c.in_ok-queue.ensures.size

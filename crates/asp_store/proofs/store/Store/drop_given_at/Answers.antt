@@ -22,6 +22,9 @@ returns-then-is_given_slot-clause-loses c =
 pub returns-then-is_given_slot-clause-count : goal.returns-then-is_given_slot-clause-count
 returns-then-is_given_slot-clause-count c = ap (λ (z : Stored). length z.slots) c.remove.ensures ∙ length-set c.args.self.now.slots c.args.id None
 
+pub returns-then-is_given_slot-clause-given : goal.returns-then-is_given_slot-clause-given
+returns-then-is_given_slot-clause-given c = ap (λ (z : Stored). z.given) c.remove.ensures
+
 pub returns-then-is_given_slot-clause-here : goal.returns-then-is_given_slot-clause-here
 returns-then-is_given_slot-clause-here c =
     let s = c.args.self.now in
@@ -42,6 +45,9 @@ returns-else-is_given_slot-clause-loses c = lose_none c.args.self.now c.args.sel
 
 pub returns-else-is_given_slot-clause-count : goal.returns-else-is_given_slot-clause-count
 returns-else-is_given_slot-clause-count c = refl
+
+pub returns-else-is_given_slot-clause-given : goal.returns-else-is_given_slot-clause-given
+returns-else-is_given_slot-clause-given c = refl
 
 pub returns-else-is_given_slot-clause-here : goal.returns-else-is_given_slot-clause-here
 returns-else-is_given_slot-clause-here c =

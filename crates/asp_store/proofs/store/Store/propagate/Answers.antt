@@ -1,4 +1,4 @@
-use Rattle.std.proofs.Common.{◌≡◌, ℕ, List, Option, sym, ap, subst, ◌∙◌}
+use Rattle.std.proofs.Common.{◌≡◌, ℕ, ◌≤◌, ◌^◌, List, length, Option, sym, ap, subst, ◌∙◌}
 use Rattle.std.specs.Result.{IfOk}
 use Rattle.asp_trail.specs.Trails.{Trailed}
 use Rattle.asp_store.specs.declared.stored_nogood.StoredNogood.{StoredNogood}
@@ -14,7 +14,7 @@ propagate-requires-clause-sound c =
     let i = c.self.inside in
     let fits = subst (λ (s : Stored). Fits s c.args.trail.now) (sym c.self.view_is) c.requires.fits in
     subst (λ (xs : List (Option StoredNogood)). IsSound xs i.watches c.args.trail.now) (sym c.as_slice.ensures.value)
-    (sound_from_fits i.vars i.slots.items i.watches i.extra c.args.trail.now c.self.invariant fits)
+    (sound_from_fits i.vars i.slots.items i.watches i.given.items i.extra c.args.trail.now c.self.invariant fits)
 
 pub invariant_of-self : goal.invariant_of-self
 invariant_of-self c =
@@ -22,7 +22,7 @@ invariant_of-self c =
     let after = c.propagate.new.trail in
     let fits = subst (λ (s : Stored). Fits s c.args.trail.now) (sym c.self.view_is) c.requires.fits in
     let vars : after.vars ≡ i.vars = ap (λ (s : Trailed). s.vars) c.propagate.ensures.same ∙ fits.same_vars in
-    store_from_sound i.vars i.slots.items i.watches c.propagate.new.watches i.extra after vars c.self.invariant
+    store_from_sound i.vars i.slots.items i.watches c.propagate.new.watches i.given.items i.extra after vars c.self.invariant
     (subst (λ (xs : List (Option StoredNogood)). IsSound xs c.propagate.new.watches after) c.as_slice.ensures.value c.propagate.ensures.sound)
 
 pub returns-clause-extends : goal.returns-clause-extends
@@ -36,7 +36,7 @@ returns-clause-fits c =
     let fits = subst (λ (s : Stored). Fits s c.args.trail.now) (sym c.self.view_is) c.requires.fits in
     let extends = subst (λ (xs : List (Option StoredNogood)). Extends xs c.args.trail.now.entries after.entries) c.as_slice.ensures.value c.propagate.ensures.extends in
     let vars : after.vars ≡ i.vars = ap (λ (s : Trailed). s.vars) c.propagate.ensures.same ∙ fits.same_vars in
-    fits_from_sound i.vars i.slots.items c.propagate.new.watches after vars (extends.2 fits.reasons)
+    fits_from_sound i.vars i.slots.items c.propagate.new.watches i.given.items after vars (extends.2 fits.reasons)
     (subst (λ (xs : List (Option StoredNogood)). IsSound xs c.propagate.new.watches after) c.as_slice.ensures.value c.propagate.ensures.sound)
 
 pub returns-clause-propagates : goal.returns-clause-propagates
@@ -46,3 +46,6 @@ returns-clause-propagates c =
     subst (λ (n : ℕ). IfOk c.propagate.result (Propagates n c.args.self.now.slots after.entries)) vars
     (subst (λ (xs : List (Option StoredNogood)). IfOk c.propagate.result (Propagates after.vars xs after.entries)) (c.as_slice.ensures.value ∙ ap (λ (s : Stored). s.slots) c.self.view_is)
     c.propagate.ensures.propagates)
+
+pub returns-clause-few : goal.returns-clause-few
+returns-clause-few c = subst (λ (s : Stored). length s.slots ≤ 2 ^ 31) c.self.view_is c.self.invariant.net.numbered

@@ -44,8 +44,8 @@ invariant_of-self c =
     subst (λ (xs : List (Option StoredNogood)). Unlists xs i.watches.lists c.unlist.new.lists c.args.id) c.as_slice.ensures.value c.unlist.ensures in
     let z : Watches = record i.watches { lists = c.unlist.new.lists; rows = c.clear.new.self } in
     rw (take_at c.remove_slot.new.slots)
-    (subst (λ (xs : List (Option StoredNogood)). IsStore i.vars xs z (i.extra - c.remove_slot.result)) (sym e)
-    (store_remove i.vars slots i.watches z i.extra (i.extra - c.remove_slot.result) c.args.id c.self.invariant h u c.clear.ensures refl
+    (subst (λ (xs : List (Option StoredNogood)). IsStore i.vars xs z (i.extra - c.remove_slot.result) i.given.items) (sym e)
+    (store_remove i.vars slots i.watches z i.given.items i.extra (i.extra - c.remove_slot.result) c.args.id c.self.invariant h u c.clear.ensures refl
     (omega (arith, c.remove_slot.ensures.count, c.self.invariant.counted, ap (count_by is_extra) e, ap (count_by is_extra) c.as_mut_slice.ensures.value))))
 
 pub returns : goal.returns
@@ -58,4 +58,4 @@ returns c =
     let len : length c.remove_slot.new.slots ≡ i.slots.len = omega (arith, ap (length {A = Option StoredNogood}) e, length-set slots c.args.id None, i.slots.ok.0) in
     let k : c.args.id < length i.watches.rows = omega (arith, h, c.self.invariant.net.paired) in
     rw (take_at c.remove_slot.new.slots)
-    ((λ j. let s : Stored = record { vars = i.vars; slots = e j; rows = c.clear.ensures j; apart = i.watches.apart } in s) ∙ ap (λ (s : Stored). removed s c.args.id) c.self.view_is)
+    ((λ j. let s : Stored = record { vars = i.vars; slots = e j; rows = c.clear.ensures j; apart = i.watches.apart; given = i.given.items } in s) ∙ ap (λ (s : Stored). removed s c.args.id) c.self.view_is)

@@ -2,32 +2,30 @@ use Rattle.std.proofs.Common.{◌≡◌, ◌++◌, List, All, map, length, sym, 
 use Rattle.asp_model.specs.declared.program.Program.{Program}
 use Rattle.asp_model.specs.declared.program.Rule.{Rule}
 use Rattle.asp_model.specs.declared.program.Body.{Body}
-use Rattle.std.proofs.lemmas.List.{length-map}
 use Rattle.asp_vars.specs.Numbering.{normal, body_eq, bodies_of, distinct, place_of}
-use Rattle.asp_vars.specs.Forms.{body_of}
-use Rattle.asp_model.specs.Models.{rules_in_force, atoms_of}
+use Rattle.asp_model.specs.Models.{rules_in_force}
 use Rattle.asp_model.specs.Sound.{HasFewItems}
 use Rattle.asp_model.proofs.SoundLaws.{rules_in_force-few}
 use Rattle.asp_vars.proofs.numbered.Numbered.of.Goals as goal
 
-pub number-requires-clause-items : goal.number-requires-clause-items
-number-requires-clause-items c =
+pub numbers-requires : goal.numbers-requires
+numbers-requires c =
     let p : Program = c.args.program in
-    let all : c.as_slice-rules.result.now ++ c.as_slice-2.result.now ≡ rules_in_force p =
-    ap (λ (rs : List Rule). rs ++ c.as_slice-2.result.now) c.as_slice-rules.ensures.value ∙ ap (λ (rs : List Rule). p.rules ++ rs) (c.as_slice-2.ensures.value ∙ c.in_ok-opened.ensures) in
+    let all : c.as_slice.result.now ++ c.as_slice-2.result.now ≡ rules_in_force p =
+    ap (λ (rs : List Rule). rs ++ c.as_slice-2.result.now) c.as_slice.ensures.value ∙ ap (λ (rs : List Rule). p.rules ++ rs) (c.as_slice-2.ensures.value ∙ c.in_ok-opened.ensures) in
     subst (λ (rs : List Rule). All HasFewItems rs) (sym all) (rules_in_force-few p c.requires)
 
 pub invariant_of-result : goal.invariant_of-result
 invariant_of-result c =
     let p : Program = c.args.program in
-    let all : c.as_slice-rules.result.now ++ c.as_slice-2.result.now ≡ rules_in_force p =
-    ap (λ (rs : List Rule). rs ++ c.as_slice-2.result.now) c.as_slice-rules.ensures.value ∙ ap (λ (rs : List Rule). p.rules ++ rs) (c.as_slice-2.ensures.value ∙ c.in_ok-opened.ensures) in
+    let all : c.as_slice.result.now ++ c.as_slice-2.result.now ≡ rules_in_force p =
+    ap (λ (rs : List Rule). rs ++ c.as_slice-2.result.now) c.as_slice.ensures.value ∙ ap (λ (rs : List Rule). p.rules ++ rs) (c.as_slice-2.ensures.value ∙ c.in_ok-opened.ensures) in
     let bodies : c.in_ok-bodies.bodies ≡ bodies_of p = c.in_ok-bodies.ensures.bodies ∙ ap (λ (rs : List Rule). distinct (map (λ x. normal x.body) rs)) all in
-    let forms : length c.forms.result.now ≡ length (bodies_of p) = sym (length-map c.forms.result.now body_of) ∙ ap length (c.forms.ensures ∙ bodies) in
-    let atoms : length c.as_slice-3.result.now ≡ length (atoms_of p) = ap length (c.as_slice-3.ensures.value ∙ c.in_ok-atoms.ensures) in
+    let body_count = ap length bodies in
+    let atom_count = ap length c.in_ok-atoms.ensures in
     record {
       sound = c.requires;
-      few = omega (arith, c.if-as_slice-forms-ge-LIMIT.false, forms, atoms);
+      few = omega (arith, c.in_ok-bodies.ensures.few, atom_count, body_count);
       opened = c.in_ok-opened.ensures;
       atoms = c.in_ok-atoms.ensures;
       bodies = bodies;

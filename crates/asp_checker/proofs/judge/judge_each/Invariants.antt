@@ -5,7 +5,7 @@ use Rattle.asp_checker.specs.Right.{closes}
 use Rattle.asp_checker.specs.Blocks.{known_by}
 use Rattle.asp_checker.specs.Chasing.{IsRoot}
 use Rattle.asp_checker.specs.Judging.{known_after}
-use Rattle.asp_checker.proofs.judge.judge_lines.Given as goal
+use Rattle.asp_checker.proofs.judge.judge_each.Given as goal
 
 abbrev pub invariant-loop-at : goal.invariant-loop-at
 invariant-loop-at l = record {
