@@ -77,11 +77,7 @@ fn add_body(
 fn add_barred(alloc: Global, nogoods: &mut Vec<Nogood>, literals: &[Lit]) -> Result<(), AllocError>
     ensures { OnOk result (nogoods.new.items ≡ nogoods.old.items ++ pure literals.now ∷ []) }
 {
-    let mut lits = Lits::new(alloc);
-    for literal in literals {
-        lits.push(*literal)?;
-    }
-    push(nogoods, lits)
+    push(nogoods, Lits::from_slice(alloc, literals)?)
 }
 
 fn add_body_at(
