@@ -8,3 +8,6 @@ returns-clause-report g c =
 
 pub returns-in_err-state-clause-heard : goal.returns-in_err-state-clause-heard
 returns-in_err-state-clause-heard g c = g.met.W.Watch.begins c.args.watch.now
+
+pub returns-in_err-book-clause-heard : goal.returns-in_err-book-clause-heard
+returns-in_err-book-clause-heard g c = g.met.W.Watch.begins c.args.watch.now
