@@ -1,5 +1,6 @@
 pub mod SearchLaws
 pub mod MeetLaws
+pub mod ClashLaws
 pub mod LearnLaws
 pub mod JumpedLaws
 pub mod TrueLaws

@@ -118,19 +118,15 @@ module _ (gives : Nogood → Type 0) (md : Mode) (t : SearchView) (c : Paced) (k
       (contained (var_count t.program) t.entries m.explains.from.lits m.explains.violated)
 
 -- ---- of what the code has in its hands
-pub shows_for : (p : Program) (k l : Option Reasoning) (ks known : List Atoms) (bound : Option (List ℤ)) (t : SearchView) (id : ℕ) (lit : Literal) → p ≡ t.program → k ≡ l → ks ≡ known → bound ≡ t.bound →
-    ShowsConflict t.program (used_up l t.program known) t.bound t id lit → ShowsConflict p (used_up k p ks) bound t id lit
-shows_for p k l ks known bound t id lit program sought same bounded m =
-    subst (λ (x : Program). ShowsConflict x (used_up k x ks) bound t id lit) (sym program)
-    (subst (λ (x : Option Reasoning). ShowsConflict t.program (used_up x t.program ks) bound t id lit) (sym sought)
-    (subst (λ (x : List Atoms). ShowsConflict t.program (used_up l t.program x) bound t id lit) (sym same) (subst (λ (x : Option (List ℤ)). ShowsConflict t.program (used_up l t.program known) x t id lit) (sym bounded) m)))
+pub shows_for : (p : Program) (k : Option Reasoning) (known : List Atoms) (bound : Option (List ℤ)) (t : SearchView) (id : ℕ) (lit : Literal) → p ≡ t.program → bound ≡ t.bound →
+    ShowsConflict t.program (used_up k t.program known) t.bound t id lit → ShowsConflict p (used_up k p known) bound t id lit
+shows_for p k known bound t id lit program bounded m =
+    subst (λ (x : Program). ShowsConflict x (used_up k x known) bound t id lit) (sym program) (subst (λ (x : Option (List ℤ)). ShowsConflict t.program (used_up k t.program known) x t id lit) (sym bounded) m)
 
-pub clash_for : (p : Program) (k l : Option Reasoning) (ks known : List Atoms) (bound : Option (List ℤ)) (t : SearchView) (id : ℕ) (lit : Literal) (x : Clash) → p ≡ t.program → k ≡ l → ks ≡ known → bound ≡ t.bound →
-    IsClashOf p k ks bound t id lit x → IsClashOf t.program l known t.bound t id lit x
-clash_for p k l ks known bound t id lit x program sought same bounded c =
-    subst (λ (y : Program). IsClashOf y l known t.bound t id lit x) program
-    (subst (λ (y : Option Reasoning). IsClashOf p y known t.bound t id lit x) sought
-    (subst (λ (y : List Atoms). IsClashOf p k y t.bound t id lit x) same (subst (λ (y : Option (List ℤ)). IsClashOf p k ks y t id lit x) bounded c)))
+pub clash_for : (p : Program) (k : Option Reasoning) (known : List Atoms) (bound : Option (List ℤ)) (t : SearchView) (id : ℕ) (lit : Literal) (x : Clash) → p ≡ t.program → bound ≡ t.bound →
+    IsClashOf p k known bound t id lit x → IsClashOf t.program k known t.bound t id lit x
+clash_for p k known bound t id lit x program bounded c =
+    subst (λ (y : Program). IsClashOf y k known t.bound t id lit x) program (subst (λ (y : Option (List ℤ)). IsClashOf p k known y t id lit x) bounded c)
 
 -- the same of what need not be found again
 pub useful_for : (p : Program) (t : SearchView) (m : Mode) (known : List Atoms) (n : Nogood) → p ≡ t.program → IsUseful t.program (used_up (reasoning_of m) t.program known) t.bound n → IsUseful t.program (used_up (reasoning_of m) p known) t.bound n

@@ -1,30 +1,34 @@
 //! What follows from a violated nogood.
-ghost use Rattle.std.specs.Prelude.{◌≡◌, ◌∷◌, ◌++◌, List, [], Some, false, IfOk, OnErr, length, take};
-ghost use Rattle.asp_model.specs.Consequences.{used_up};
-ghost use Rattle.asp_model.specs.Sets.{Atoms};
+ghost use Rattle.std.specs.Prelude.{◌≡◌, ◌≤◌, ◌∷◌, ◌++◌, List, [], Some, false, IfOk, IfSome, IsSome, OnErr, length, take};
+ghost use Rattle.asp_model.specs.Asked.{reasoning_of};
 ghost use Rattle.asp_vars.specs.Literals.{Literal};
 ghost use Rattle.asp_vars.specs.Numbering.{var_count};
 ghost use Rattle.asp_trail.specs.Entries.{level, cut};
-ghost use Rattle.asp_store.specs.Keeping.{IsAddedAt};
+ghost use Rattle.asp_store.specs.Keeping.{nogood_at, IsAddedAt};
 ghost use Rattle.asp_store.specs.Walking.{IsViolated};
 ghost use Rattle.asp_store.specs.declared.stored_nogood.Kind.TheVariants as kind;
 ghost use Rattle.asp_analyze.specs.Learning.{AreContained, IsJump};
 ghost use Rattle.asp_search_laws.specs.Explaining.{Explains};
 ghost use Rattle.asp_state.specs.SearchStates.{IsUnder};
+ghost use Rattle.asp_search.specs.Invariants.{answers_known, used_in};
 ghost use Rattle.asp_search.specs.Meeting.{ShowsConflict, IsClashOf};
 
+use crate::covering::known_count;
 use crate::spread::{Spread, note_used};
 use asp_analyze::learn::{Learned, Learner};
 use asp_model::cost::Cost;
-use asp_model::results::Reasoning;
+use asp_model::interp::Interp;
+use asp_model::results::Mode;
 use asp_propagate::propagator::Propagator;
 use asp_state::state::SearchState;
 use asp_store::stored_nogood::Kind;
 use asp_trail::reasons::NogoodId;
 use asp_vars::compiled::Compiled;
 use asp_vars::fuel::Conflict;
+use asp_vars::known::Known;
 use asp_vars::lit::Lit;
 use asp_vars::nogood::Nogood;
+use asp_vars::snapshot::Snapshot;
 use std::alloc::{AllocError, Global};
 
 /// Learns from a kept nogood that is violated.
@@ -59,26 +63,71 @@ fn copy_bound(bound: &Option<Cost>) -> Result<Option<Cost>, AllocError>
     }
 }
 
+// The lists of a conflict.
+struct Lists {
+    // the cube
+    cube: Vec<Lit>,
+    // the decisions up to a level
+    decisions: Vec<Lit>,
+    // the literals of the nogood that shows it
+    nogood: Vec<Lit>,
+}
+
+// Copies of the cube, of so many decisions, and of a kept nogood's literals.
+fn copy_lists<P: Propagator>(
+    alloc: Global,
+    state: &SearchState<P>,
+    top: usize,
+    id: NogoodId,
+) -> Result<Lists, AllocError>
+    requires decided { top ≤ length state.now.decisions }
+    requires kept { IsSome (nogood_at state.now.slots id) }
+    ensures cube { (q : List Literal) → state.now.cube ≡ Some q → IfOk result (λ lists. lists.cube.items ≡ q) }
+    ensures decisions { IfOk result (λ lists. lists.decisions.items ≡ take top state.now.decisions) }
+    ensures nogood { IfOk result (λ lists. IfSome (nogood_at state.now.slots id) (λ n. lists.nogood.items ≡ n.lits)) }
+{
+    let cube = Vec::from_slice(alloc, state.cube())?;
+    let decisions = Vec::from_slice(alloc, &state.decisions()[..top])?;
+    let nogood = Vec::from_slice(alloc, state.store().lits(id))?;
+    Ok(Lists {
+        cube,
+        decisions,
+        nogood,
+    })
+}
+
 /// The conflict that a kept nogood shows, of which a literal has the greatest level.
 pub(crate) fn conflict<P: Propagator>(
     alloc: Global,
     compiled: &Compiled,
     state: &SearchState<P>,
-    reasoning: Option<Reasoning>,
-    known: u64,
+    mode: Mode,
+    known: &Vec<Snapshot<Interp>>,
+    seen: &Option<Known>,
     bound: &Option<Cost>,
     id: NogoodId,
     lit: Lit,
 ) -> Result<Conflict, AllocError>
-    requires { (answers : List Atoms) × (length answers ≡ known) × ShowsConflict compiled.now (used_up reasoning compiled.now answers) bound.now state.now id lit }
-    ensures { (answers : List Atoms) → length answers ≡ known → IfOk result (IsClashOf compiled.now reasoning answers bound.now state.now id lit) }
+    requires { ShowsConflict compiled.now (used_in compiled.now mode known.now.items seen.now) bound.now state.now id lit }
+    ensures { IfOk result (IsClashOf compiled.now (reasoning_of mode) (answers_known known.now.items seen.now) bound.now state.now id lit) }
 {
     let top = state.trail().level_of(lit.var());
-    let cube = state.cube().to_vec(alloc)?;
-    let decisions = state.decisions()[..top].to_vec(alloc)?;
-    let nogood = state.store().lits(id).to_vec(alloc)?;
     let bound = copy_bound(bound)?;
-    Ok(Conflict::of(compiled, cube, decisions, nogood, reasoning, known, bound))
+    let lists = copy_lists(alloc, state, top, id)?;
+    let Lists {
+        cube,
+        decisions,
+        nogood,
+    } = lists;
+    Ok(Conflict::of(
+        compiled,
+        cube,
+        decisions,
+        nogood,
+        mode.reasoning(),
+        known_count(known, seen),
+        bound,
+    ))
 }
 
 /// Keeps what was learnt, and goes back to where it implies the literal.

@@ -23,9 +23,10 @@ ghost use Rattle.asp_search.specs.Stepping.{IsEntered, IsFound};
 
 use crate::blocking::block;
 use crate::conflicts::{conflict, jump, learn};
-use crate::covering::{cover, known_count};
+use crate::covering::cover;
 use crate::faults::{fault, true_atoms};
 use crate::litter::Litter;
+use crate::route::Route;
 use crate::search::Search;
 use asp_analyze::learn::Learned;
 use asp_model::cost::cost_of;
@@ -105,6 +106,20 @@ fn sweep<P: Propagator>(state: &mut SearchState<P>, litter: &mut Litter)
     litter.dropped(state.store().extra());
 }
 
+// Tells the way of an answer: these decisions stand, and this one was taken back, if there was one.
+fn add_answer<P: Propagator>(route: &mut Route, state: &SearchState<P>, last: Option<Lit>) {
+    route.add(state.cube().len(), state.decisions(), last);
+}
+
+// What is to be decided next on the way on which answers were found.
+fn next_turn<P: Propagator>(route: &mut Route, state: &SearchState<P>, vars: Var) -> Option<Lit>
+    requires { vars ≡ var_count state.now.program }
+{
+    let len = state.cube().len();
+    let decisions = state.decisions().len();
+    route.next(len, state.trail(), vars, decisions)
+}
+
 // Raises a literal, if there is one and it is of a variable.
 fn raise<P: Propagator>(state: &mut SearchState<P>, vars: Var, next: Option<Lit>)
     requires { vars ≡ var_count state.old.program }
@@ -135,8 +150,9 @@ impl<'a, P: Propagator> Search<'a, P> {
             self.alloc,
             self.compiled,
             &self.state,
-            self.mode.reasoning(),
-            known_count(&self.known, &self.seen),
+            self.mode,
+            &self.known,
+            &self.seen,
             &self.bound,
             id,
             lit,
@@ -195,15 +211,14 @@ impl<'a, P: Propagator> Search<'a, P> {
         ensures ok { OnOk result ((q : List Literal) (f : Units) → self.old.cube ≡ Some q → Answers (P.gives self.old.program self.old.bound) self.old self.new q f f interp.now) }
         ensures err { OnErr result (self.new ≡ self.old) }
     {
-        let answer = Snapshot::of(interp);
-        let decision = self.state.decisions().last().copied();
         self.known.reserve(1)?;
+        let decision = self.state.decisions().last().copied();
         let id = block(self.alloc, &mut self.state, &mut self.blocking)?;
         thin(&mut self.state, &mut self.pace);
+        let answer = Snapshot::of(interp);
         self.known.push_reserved(answer);
         self.last = Some(id);
-        let len = self.state.cube().len();
-        self.route.add(len, self.state.decisions(), decision);
+        add_answer(&mut self.route, &self.state, decision);
         Ok(())
     }
 
@@ -328,9 +343,7 @@ impl<'a, P: Propagator> Search<'a, P> {
         ensures { self.new ≡ record self.old { ranking = self.new.ranking } }
     {
         let vars = self.compiled.vars();
-        let len = self.state.cube().len();
-        let decisions = self.state.decisions().len();
-        let next = self.route.next(len, self.state.trail(), vars, decisions);
+        let next = next_turn(&mut self.route, &self.state, vars);
         raise(&mut self.state, vars, next);
     }
 

@@ -8,10 +8,12 @@ use Rattle.asp_search_laws.specs.Keeping.{IsLast}
 use Rattle.asp_search_laws.specs.Searching.{Searching}
 use Rattle.asp_search_laws.specs.Steps.{Answers, covering_nogood}
 use Rattle.asp_search.specs.Blocking.{Covers}
-use Rattle.asp_search.specs.Invariants.{answers_known, view_of}
+use Rattle.asp_state.specs.SearchStates.{SearchView}
+use Rattle.asp_search.specs.Invariants.{IsSearch, answers_known, used_in, view_of}
 use Rattle.asp_search.specs.Stepping.{IsEntered, IsFound}
 use Rattle.asp_search.proofs.CoverLaws.{covered_answer, search_covers, seen_by, seen_some, seen_with, some_with, still_seen, used_with}
-use Rattle.asp_search.proofs.StepsLaws.{same_cube}
+use Rattle.asp_search.proofs.SearchLaws.{search_stays}
+use Rattle.asp_search.proofs.StepsLaws.{always_err, same_cube}
 use Rattle.asp_vars.specs.Literals.{Literal}
 use Rattle.asp_search.proofs.search.Search.cover.Goals as goal
 
@@ -30,6 +32,22 @@ cover-requires-clause-counted g c = c.self.invariant.0.program
 
 pub cover-requires-clause-blocking : goal.cover-requires-clause-blocking
 cover-requires-clause-blocking g c = c.self.invariant.0.blocking_stand
+
+pub invariant_of-self : goal.invariant_of-self
+invariant_of-self g c =
+    let i = c.self.inside in
+    let e = c.in_err-cover.ensures.err.0 in (
+      subst (λ (ids : List ℕ). IsSearch i.compiled.now i.mode c.cover.new.state i.learner i.checker (used_in i.compiled.now i.mode i.known.items i.seen) ids i.bound i.last) (sym c.in_err-cover.ensures.err.1)
+          (search_stays i.compiled.now i.mode i.state c.cover.new.state i.learner i.checker (used_in i.compiled.now i.mode i.known.items i.seen) i.blocking.items i.bound i.last
+          (ap (λ (y : SearchView). y.program) e) (ap (λ (y : SearchView). y.bound) e) (ap (λ (y : SearchView). y.slots) e) c.self.invariant.0),
+      c.self.invariant.1,
+    )
+
+pub returns-in_err-cover-clause-err : goal.returns-in_err-cover-clause-err
+returns-in_err-cover-clause-err g c =
+    let i = c.self.inside in
+    let new : Searching = view_of i.mode c.cover.new.state i.pace (answers_known i.known.items i.seen) i.last in
+    always_err c.from_residual-in_err-cover.result (new ≡ c.args.self.now) (ap (λ (x : SearchView). view_of i.mode x i.pace (answers_known i.known.items i.seen) i.last) c.in_err-cover.ensures.err.0 ∙ c.self.view_is)
 
 pub invariant_of-self-2 : goal.invariant_of-self-2
 invariant_of-self-2 g c =

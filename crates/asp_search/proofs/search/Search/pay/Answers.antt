@@ -1,4 +1,4 @@
-use Rattle.std.proofs.Common.{◌≡◌, ℕ, ◌<◌, List, Some, refl, sym, ap, ◌∙◌, subst, arith}
+use Rattle.std.proofs.Common.{◌≡◌, ℕ, ◌<◌, List, Some, sym, ap, ◌∙◌, subst, arith}
 use Rattle.std.proofs.lemmas.Option.{same_Some}
 use Rattle.asp_model.specs.Asked.{reasoning_of}
 use Rattle.asp_vars.specs.Literals.{Literal}
@@ -19,12 +19,9 @@ pub conflict-requires : goal.conflict-requires
 conflict-requires g c =
     let i = c.self.inside in
     let q = c.requires.met.0 in
-    let m = subst (λ (s : Searching). IsMet (g.P.Propagator.gives s.program s.bound) s q c.args.id (learned.Jump c.args.nogood c.args.to c.args.lit)) (sym c.self.view_is) c.requires.met.1 in (
-      answers_known i.known.items i.seen,
-      sym c.known_count.ensures,
-      shows_for i.compiled.now c.reasoning.result (reasoning_of i.mode) (answers_known i.known.items i.seen) (answers_known i.known.items i.seen) i.bound i.state c.args.id c.args.lit c.self.invariant.0.program c.reasoning.ensures refl c.self.invariant.0.bounded
-          (met_shows (g.P.Propagator.gives i.state.program i.state.bound) i.mode i.state i.pace (answers_known i.known.items i.seen) i.last q c.args.id c.args.nogood c.args.to c.args.lit m),
-    )
+    let m = subst (λ (s : Searching). IsMet (g.P.Propagator.gives s.program s.bound) s q c.args.id (learned.Jump c.args.nogood c.args.to c.args.lit)) (sym c.self.view_is) c.requires.met.1 in
+    shows_for i.compiled.now (reasoning_of i.mode) (answers_known i.known.items i.seen) i.bound i.state c.args.id c.args.lit c.self.invariant.0.program c.self.invariant.0.bounded
+    (met_shows (g.P.Propagator.gives i.state.program i.state.bound) i.mode i.state i.pace (answers_known i.known.items i.seen) i.last q c.args.id c.args.nogood c.args.to c.args.lit m)
 
 pub burn-requires-clause-program : goal.burn-requires-clause-program
 burn-requires-clause-program g c =
@@ -32,8 +29,8 @@ burn-requires-clause-program g c =
     let q = c.requires.met.0 in
     let m = subst (λ (s : Searching). IsMet (g.P.Propagator.gives s.program s.bound) s q c.args.id (learned.Jump c.args.nogood c.args.to c.args.lit)) (sym c.self.view_is) c.requires.met.1 in
     let shows = met_shows (g.P.Propagator.gives i.state.program i.state.bound) i.mode i.state i.pace (answers_known i.known.items i.seen) i.last q c.args.id c.args.nogood c.args.to c.args.lit m in
-    let clash = clash_for i.compiled.now c.reasoning.result (reasoning_of i.mode) (answers_known i.known.items i.seen) (answers_known i.known.items i.seen) i.bound i.state c.args.id c.args.lit c.in_ok-conflict.conflict c.self.invariant.0.program c.reasoning.ensures refl
-    c.self.invariant.0.bounded (c.in_ok-conflict.ensures (answers_known i.known.items i.seen) (sym c.known_count.ensures)) in
+    let clash = clash_for i.compiled.now (reasoning_of i.mode) (answers_known i.known.items i.seen) i.bound i.state c.args.id c.args.lit c.in_ok-conflict.conflict c.self.invariant.0.program
+    c.self.invariant.0.bounded c.in_ok-conflict.ensures in
     let is = conflict_of (g.P.Propagator.gives i.state.program i.state.bound) i.mode i.state i.pace (answers_known i.known.items i.seen) i.last q c.args.id c.args.lit c.in_ok-conflict.conflict m.entered shows clash in
     is.program ∙ (ap (λ (s : Searching). s.program) c.self.view_is ∙ sym c.requires.program)
 
@@ -73,8 +70,8 @@ returns-then-left-eq0-clause-ok g c = λ r e.
     let x = c.in_ok-conflict.conflict in
     let m = subst (λ (s : Searching). IsMet (g.P.Propagator.gives s.program s.bound) s q c.args.id (learned.Jump c.args.nogood c.args.to c.args.lit)) (sym c.self.view_is) c.requires.met.1 in
     let shows = met_shows (g.P.Propagator.gives i.state.program i.state.bound) i.mode i.state i.pace (answers_known i.known.items i.seen) i.last q c.args.id c.args.nogood c.args.to c.args.lit m in
-    let clash = clash_for i.compiled.now c.reasoning.result (reasoning_of i.mode) (answers_known i.known.items i.seen) (answers_known i.known.items i.seen) i.bound i.state c.args.id c.args.lit x c.self.invariant.0.program c.reasoning.ensures refl
-    c.self.invariant.0.bounded (c.in_ok-conflict.ensures (answers_known i.known.items i.seen) (sym c.known_count.ensures)) in
+    let clash = clash_for i.compiled.now (reasoning_of i.mode) (answers_known i.known.items i.seen) i.bound i.state c.args.id c.args.lit x c.self.invariant.0.program
+    c.self.invariant.0.bounded c.in_ok-conflict.ensures in
     let stops = met_stops (g.P.Propagator.gives i.state.program i.state.bound) i.mode i.state i.pace (answers_known i.known.items i.seen) i.last q f c.args.id c.args.lit x m.last
     (sym c.left.ensures.left ∙ c.if-left-eq0.true) m.entered shows clash
     (shown_holds (g.P.Propagator.gives i.state.program i.state.bound) i.mode i.state i.pace (answers_known i.known.items i.seen) i.last q c.args.id (learned.Jump c.args.nogood c.args.to c.args.lit) m c.args.lit shows) in
@@ -101,8 +98,8 @@ returns-in_err-new-clause-err g c =
     let u = c.jump.new.state in
     let m = subst (λ (s : Searching). IsMet (g.P.Propagator.gives s.program s.bound) s q c.args.id (learned.Jump c.args.nogood c.args.to c.args.lit)) (sym c.self.view_is) c.requires.met.1 in
     let shows = met_shows (g.P.Propagator.gives i.state.program i.state.bound) i.mode i.state i.pace (answers_known i.known.items i.seen) i.last q c.args.id c.args.nogood c.args.to c.args.lit m in
-    let clash = clash_for i.compiled.now c.reasoning.result (reasoning_of i.mode) (answers_known i.known.items i.seen) (answers_known i.known.items i.seen) i.bound i.state c.args.id c.args.lit x c.self.invariant.0.program c.reasoning.ensures refl
-    c.self.invariant.0.bounded (c.in_ok-conflict.ensures (answers_known i.known.items i.seen) (sym c.known_count.ensures)) in
+    let clash = clash_for i.compiled.now (reasoning_of i.mode) (answers_known i.known.items i.seen) i.bound i.state c.args.id c.args.lit x c.self.invariant.0.program
+    c.self.invariant.0.bounded c.in_ok-conflict.ensures in
     let is = conflict_of (g.P.Propagator.gives i.state.program i.state.bound) i.mode i.state i.pace (answers_known i.known.items i.seen) i.last q c.args.id c.args.lit x m.entered shows clash in
     let left : 0 < f.left = omega (arith, c.left.ensures.left, c.if-left-eq0.false) in
     let new : Searching = view_of i.mode u c.count.new.self (answers_known i.known.items i.seen) i.last in
@@ -143,8 +140,8 @@ returns-clause-ok g c = λ r e.
     let u = c.jump.new.state in
     let m = subst (λ (s : Searching). IsMet (g.P.Propagator.gives s.program s.bound) s q c.args.id (learned.Jump c.args.nogood c.args.to c.args.lit)) (sym c.self.view_is) c.requires.met.1 in
     let shows = met_shows (g.P.Propagator.gives i.state.program i.state.bound) i.mode i.state i.pace (answers_known i.known.items i.seen) i.last q c.args.id c.args.nogood c.args.to c.args.lit m in
-    let clash = clash_for i.compiled.now c.reasoning.result (reasoning_of i.mode) (answers_known i.known.items i.seen) (answers_known i.known.items i.seen) i.bound i.state c.args.id c.args.lit x c.self.invariant.0.program c.reasoning.ensures refl
-    c.self.invariant.0.bounded (c.in_ok-conflict.ensures (answers_known i.known.items i.seen) (sym c.known_count.ensures)) in
+    let clash = clash_for i.compiled.now (reasoning_of i.mode) (answers_known i.known.items i.seen) i.bound i.state c.args.id c.args.lit x c.self.invariant.0.program
+    c.self.invariant.0.bounded c.in_ok-conflict.ensures in
     let is = conflict_of (g.P.Propagator.gives i.state.program i.state.bound) i.mode i.state i.pace (answers_known i.known.items i.seen) i.last q c.args.id c.args.lit x m.entered shows clash in
     let left : 0 < f.left = omega (arith, c.left.ensures.left, c.if-left-eq0.false) in
     let w = c.sweep.new.state in
