@@ -200,11 +200,33 @@ impl Route {
         Ok(())
     }
 
+    // Drops the turns from this one on.
+    fn leave(&mut self, lit: Lit) {
+        for _ in 0..self.turns.len() {
+            match self.turns.pop() {
+                None => return,
+                Some(turn) => {
+                    if turn.lit == lit {
+                        return;
+                    }
+                }
+            }
+        }
+    }
+
+    // The last decision, behind which an answer was found, was taken back, and these stand: a turn that was taken back goes.
+    fn follow(&mut self, decisions: &[Lit], last: Lit) -> Result<(), AllocError> {
+        if decisions.len() < self.depth {
+            self.leave(last);
+        }
+        self.extend(decisions, last)
+    }
+
     /// An answer was found on the path, whose cube has so many literals: these decisions stand, and this one was taken back, if
     /// there was one.
     pub(crate) fn add(&mut self, len: usize, decisions: &[Lit], last: Option<Lit>) {
         match last {
-            Some(last) if self.is_known(len) => match self.extend(decisions, last) {
+            Some(last) if self.is_known(len) => match self.follow(decisions, last) {
                 Ok(()) => self.depth = decisions.len(),
                 Err(_) => self.turns.clear(),
             },
