@@ -1,23 +1,19 @@
 -- What a call at the desk tells of the seat that made it.
-use Rattle.std.proofs.Common.{◌≡◌, ℕ, ◌+◌, ◌<◌, ◌≤◌, Bool, true, false, cond, List, [], ◌∷◌, ◌++◌, length, drop, append_assoc, Option, Some, None, Result, Ok, Err, refl, sym, ap, ◌∙◌, subst, arith}
-use Rattle.std.specs.Prelude.{slice_index_or, unwrap_or, is_some, ℤ}
+use Rattle.std.proofs.Common.{◌≡◌, ℕ, ◌+◌, ◌<◌, ◌≤◌, Bool, true, false, cond, List, [], ◌∷◌, ◌++◌, length, Option, Some, None, Result, Ok, Err, refl, sym, ap, ◌∙◌, subst, arith}
+use Rattle.std.specs.Prelude.{slice_index_or, is_some, ℤ}
 use Rattle.std.specs.Option.{IfSome}
-use Rattle.std.specs.Result.{IfOk, OnOk, OnErr, IsErr}
+use Rattle.std.specs.Result.{OnOk, OnErr, IsErr}
 use Rattle.std.specs.declared.alloc.AllocError.{AllocError}
 use Rattle.std.specs.List.{All}
 use Rattle.std.proofs.lemmas.Bool.{false≢true, eq-eqb}
-use Rattle.std.proofs.lemmas.List.{append-nil, length-set, get_or-set_same, get_or-append-add}
-use mathlib.Core.List.{IsPrefix}
+use Rattle.std.proofs.lemmas.List.{length-set, get_or-set_same, get_or-append-add}
 use Rattle.asp_model.specs.declared.program.Program.{Program}
 use Rattle.asp_vars.specs.Literals.{Literal, complement}
 use Rattle.asp_vars.specs.Numbering.{var_count}
 use Rattle.asp_vars.specs.Numbering.{IsVar}
 use Rattle.asp_vault.specs.declared.view.View.{View}
-use Rattle.asp_vault.specs.Makers.{NoneBy}
-use Rattle.asp_vault.specs.Rules.{seeing, Learnt}
 use Rattle.asp_vault.specs.Moments.{Stays}
 use Rattle.asp_vault.specs.Seats.{view, IsBeside}
-use Rattle.asp_vault.proofs.Filters.{drop_prefix}
 use Rattle.asp_vault.proofs.Prefixes.{prefix_self, prefix_trans}
 use Rattle.asp_path.specs.declared.status.Status.{Status}
 use Rattle.asp_path.specs.declared.status.Status.TheVariants as status
@@ -33,17 +29,18 @@ use Rattle.asp_core.specs.Growth.{Grows, Spares}
 use Rattle.asp_core.specs.Invariant.{IsBoard}
 use Rattle.asp_core.proofs.BoardLaws.{held-changed}
 use Rattle.asp_core.proofs.CubeLaws.{cube-at}
-use Rattle.asp_core.proofs.GrowthLaws.{Grows-itself, Grows-trans, Grows-happens, Grows-run, Spares-run}
+use Rattle.asp_core.proofs.GrowthLaws.{Grows-itself, Grows-trans, Grows-happens}
 use Rattle.asp_core.proofs.ResultLaws.{IsBoard-replay, task-run}
-use Rattle.asp_book.specs.Books.{signed, IsJournalOf}
-use Rattle.asp_book.specs.Calls.{Knows, no_task, task_of, seen_board, IsCall}
+use Rattle.asp_book.specs.Books.{IsJournalOf}
+use Rattle.asp_book.specs.Calls.{Knows, task_of, seen_board, IsCall}
 use Rattle.asp_book.specs.Replies.{taken, taken_this, divided}
-use Rattle.asp_book.proofs.CallLaws.{others-are, run-append, lawful-rest, task-stays, seen-after, lawful-after}
+use Rattle.asp_book.proofs.CallLaws.{lawful-rest, task-stays, seen-after, lawful-after}
 use Rattle.asp_pool.specs.Pools.{IsOfPool}
 use Rattle.asp_worker.specs.declared.worker.Worker.{Worker}
 use Rattle.asp_worker.specs.declared.worker.Shared.{Shared}
-use Rattle.asp_worker.specs.Seats.{IsRun, IsSettled, IsTidy, OwnAre, Behaves, Passes, Idles, Leases, IsFree, Holds, HoldsHalf, Takes, Looks, Reads, IsPaged, IsPlaced, IsReady, Keeps}
-use Rattle.asp_worker.proofs.OwnLaws.{since-is, own-more, behaves-call}
+use Rattle.asp_worker.specs.declared.find.Sight.{Sight}
+use Rattle.asp_worker.specs.Seats.{IsRun, IsSettled, IsTidy, OwnAre, Behaves, Passes, Idles, Leases, IsFree, Holds, HoldsHalf, Sees, Takes, Reads, IsPaged, IsPlaced, IsReady, Keeps}
+use Rattle.asp_worker.proofs.OwnLaws.{behaves-call}
 
 -- ---- the same seat
 pub stays-self : {D E : Type 0} (v : View D E) → v.holds ≡ false → Stays v v
@@ -294,68 +291,6 @@ module _ (v w : Knows) (before : List Event) (stays : Stays v w) (leaf : ℕ) wh
         ∙ ap (λ (x : Node). x.cube) (first-half b.nodes)
         ∙ ap (λ (x : Node). x.cube ++ l ∷ []) (call.spared.leaves leaf held)
 
--- ---- a look, and then a call that added nothing
-none-append : (n : ℕ) (xs ys : List Event) → NoneBy signed n xs → NoneBy signed n ys → NoneBy signed n (xs ++ ys)
-none-append n [] ys h k = k
-none-append n (e ∷ xs) ys h k = (h.0, none-append n xs ys h.1 k)
-
-pub looks-self : (v : Knows) → Looks v v
-looks-self v = record { holds = refl; about = refl; number = refl; splits = refl; joins = refl; guests = refl; own = refl; seen = prefix_self v.seen; others = subst (NoneBy signed v.number) (sym (drop-all v.seen)) tt }
-  where
-    drop-all : (xs : List Event) → drop (length xs) xs ≡ []
-    drop-all xs = ap (drop (length xs)) (sym (append-nil xs)) ∙ drop_prefix xs []
-
-since-both : (n : ℕ) (xs ys zs : List Event) (p : IsPrefix xs ys) (q : IsPrefix ys zs) → NoneBy signed n p.0 → NoneBy signed n q.0 → NoneBy signed n (drop (length xs) zs)
-since-both n xs ys zs p q h k =
-    subst (λ (l : List Event). NoneBy signed n (drop (length xs) l)) (sym (append_assoc xs p.0 q.0) ∙ ap (λ (l : List Event). l ++ q.0) p.1 ∙ q.1)
-    (subst (NoneBy signed n) (sym (drop_prefix xs (p.0 ++ q.0))) (none-append n p.0 q.0 h k))
-
-pub looks-trans : (u v w : Knows) → Looks u v → Looks v w → Looks u w
-looks-trans u v w k l = record {
-  holds = l.holds ∙ k.holds;
-  about = l.about ∙ k.about;
-  number = l.number ∙ k.number;
-  splits = l.splits ∙ k.splits;
-  joins = l.joins ∙ k.joins;
-  guests = l.guests ∙ k.guests;
-  own = l.own ∙ k.own;
-  seen = prefix_trans u.seen v.seen w.seen k.seen l.seen;
-  others = since-both u.number u.seen v.seen w.seen k.seen l.seen (since-is u.number u.seen v.seen k.seen k.others)
-      (subst (λ n. NoneBy signed n l.seen.0) k.number (since-is v.number v.seen w.seen l.seen l.others));
-}
-
-pub idles-looked : (u v w : Knows) (before : List Event) → IsSettled u → Looks u v → Stays v w → IsCall v w before [] → Idles u w
-idles-looked u v w before s look stays call =
-    let task : task_of v ≡ task_of u = ap (λ (o : Option Task). unwrap_or o no_task) look.about in
-    let task' : task_of w ≡ task_of u = task-stays v w stays ∙ task in
-    let seen : w.seen ≡ before = call.moment.seen ∙ append-nil before in
-    let more : IsPrefix u.seen before = prefix_trans u.seen v.seen before look.seen call.moment.more in
-    let others : NoneBy signed u.number more.0 = since-is u.number u.seen before more
-    (since-both u.number u.seen v.seen before look.seen call.moment.more (since-is u.number u.seen v.seen look.seen look.others)
-    (subst (λ n. NoneBy signed n call.moment.more.0) look.number (since-is v.number v.seen before call.moment.more call.moment.others))) in
-    let lawful : IsJournalOf (task_of u) (u.seen ++ more.0) =
-    subst (IsJournalOf (task_of u)) (sym more.1) (subst (λ (t : Task). IsJournalOf t before) task (subst (IsJournalOf (task_of v)) (append-nil before) call.moment.keeps)) in
-    let since : IsLawful (seen_board u) more.0 = lawful-rest (start (task_of u)) u.seen more.0 lawful in
-    let now : seen_board w ≡ run (seen_board u) more.0 =
-    ap (λ (t : Task). replay t w.seen) task' ∙ ap (replay (task_of u)) (seen ∙ sym more.1) ∙ run-append (start (task_of u)) u.seen more.0 in
-    record {
-      stays = record {
-        rests = stays.rests;
-        about = stays.about ∙ look.about;
-        number = stays.number ∙ look.number;
-        splits = stays.splits ∙ look.splits;
-        joins = stays.joins ∙ look.joins;
-        guests = stays.guests ∙ look.guests;
-        seen = prefix_trans u.seen v.seen w.seen look.seen stays.seen;
-      };
-      lawful = record {
-        journal = lawful-after v w before [] stays call;
-        tidy = own-more IsTidy u w more.0 [] (stays.number ∙ look.number) (seen ∙ sym more.1 ∙ sym (append-nil (u.seen ++ more.0))) others tt;
-      };
-      grows = subst (Grows (seen_board u)) (sym now) (Grows-run (seen_board u) more.0 since);
-      spares = subst (Spares u.number (seen_board u)) (sym now) (Spares-run (seen_board u) more.0 u.number since (others-are u.number more.0 others));
-    }
-
 -- ---- the worker
 pub keeps-self : (c : Shared) (h : Worker) → IsReady c h → Keeps h h
 keeps-self c h r = record { book = refl; log = refl; seat = stays-self (view h.seat) r.settled.seated.rests; pages = stays-self (view h.pages) r.pages.rests }
@@ -419,15 +354,10 @@ module _ (v w : Knows) (stays : Stays v w) where
     this-free true e free call = absurd (false≢true (sym e))
     this-free false e free call = free-idles v w free (idles-call v w before stays call)
 
-  by-reply : IsFree v → (before : List Event) (r : Option ℕ) → IsCall v w before (taken v.number r) → Passes v w × Takes w (Ok r)
-  by-reply free before (Some leaf) call = (passes-taken v w before stays leaf call, holds-taken v w before stays leaf call)
-  by-reply free before None call = (idles-passes v w (idles-call v w before stays call), free-idles v w free (idles-call v w before stays call))
-
-  -- the open leaf of least number
-  pub first-taken : IsFree v → (P : List Event → Option ℕ → Type 0) (r : Result (Option ℕ) AllocError) → IfOk r (λ (o : Option ℕ). (before : List Event) × P before o × IsCall v w before (taken v.number o)) → OnErr r ((before : List Event) × IsCall v w before []) →
-      Passes v w × Takes w r
-  first-taken free P (Ok o) ok err = by-reply free ok.0 o ok.2
-  first-taken free P (Err e) ok err = (idles-passes v w (none-idles err), none-free free err)
+  -- whatever leaf was open, if one was
+  pub reply-taken : IsFree v → (before : List Event) (r : Option ℕ) → IsCall v w before (taken v.number r) → Passes v w × Takes w (Ok r)
+  reply-taken free before (Some leaf) call = (passes-taken v w before stays leaf call, holds-taken v w before stays leaf call)
+  reply-taken free before None call = (idles-passes v w (idles-call v w before stays call), free-idles v w free (idles-call v w before stays call))
 
 -- ---- a path is divided
 module _ (v w : Knows) (stays : Stays v w) (leaf : ℕ) (l : Literal) (held : Holds v leaf) where
@@ -453,20 +383,6 @@ module _ (v w : Knows) (stays : Stays v w) (leaf : ℕ) (l : Literal) (held : Ho
 pub takes-not : (v : Knows) (o : Option ℕ) → Takes v (Ok o) → is_some o ≡ false → IsFree v
 takes-not v None h e = h
 takes-not v (Some leaf) h e = absurd (false≢true (sym e))
-
--- a look at the journal
-pub looked : (v w : Knows) → w ≡ seeing w.seen v → Learnt signed v w.seen → Looks v w
-looked v w is learnt = record {
-  holds = ap (λ (x : Knows). x.holds) is;
-  about = ap (λ (x : Knows). x.about) is;
-  number = ap (λ (x : Knows). x.number) is;
-  splits = ap (λ (x : Knows). x.splits) is;
-  joins = ap (λ (x : Knows). x.joins) is;
-  guests = ap (λ (x : Knows). x.guests) is;
-  own = ap (λ (x : Knows). x.own) is;
-  seen = learnt.continues;
-  others = learnt.others;
-}
 
 -- ---- a path is closed, or was not for want of memory
 module _ (v w : Knows) (stays : Stays v w) (leaf : ℕ) (nogood : List Literal) (run : IsRun (task_of v)) (held : Holds v leaf) where
@@ -503,6 +419,10 @@ keeps-pages c h k r log stays book same = record {
 pub takes-err : (v : Knows) (r : Result (Option ℕ) AllocError) → IsErr r → IsFree v → Takes v r
 takes-err v (Ok o) e free = absurd (false≢true e)
 takes-err v (Err x) e free = free
+
+pub sees-err : (begun : List Event) (v : Knows) (r : Result Sight AllocError) → IsErr r → IsFree v → Sees begun v r
+sees-err begun v (Ok o) e free = absurd (false≢true e)
+sees-err begun v (Err x) e free = free
 
 pub half-err : (v w : Knows) (leaf : ℕ) (l : Literal) (r : Result (Option ℕ) AllocError) → IsErr r → Holds w leaf → HoldsHalf v w leaf l r
 half-err v w leaf l (Ok o) e held = absurd (false≢true e)

@@ -1,5 +1,5 @@
 -- What a worker's seats know from one call to the next.
-use Rattle.std.specs.Prelude.{◌≡◌, ◌⊎◌, ℕ, ◌^◌, ◌<◌, ◌≤◌, ◌==◌, Bool, true, false, List, [], ◌∷◌, ◌++◌, length, drop, Some, slice_index_or, Option, None, Result, Ok, Err}
+use Rattle.std.specs.Prelude.{◌≡◌, ◌⊎◌, ℕ, ◌^◌, ◌<◌, ◌≤◌, ◌==◌, Bool, true, false, List, [], ◌∷◌, ◌++◌, Some, slice_index_or, Option, None, Result, Ok, Err}
 use Rattle.std.specs.List.{AllByRecursion}
 use Rattle.std.specs.declared.alloc.AllocError.{AllocError}
 use mathlib.Core.List.{IsPrefix}
@@ -28,6 +28,8 @@ use Rattle.asp_pool.specs.Pools.{IsOfPool}
 use Rattle.asp_crew_laws.specs.Gone.{IsSmall, IsRelease}
 use Rattle.asp_crew_laws.specs.Runs.{Quiet}
 use Rattle.asp_crew_laws.specs.Working.{IsSeated}
+use Rattle.asp_worker.specs.declared.find.Sight.{Sight}
+use Rattle.asp_worker.specs.declared.find.Sight.TheVariants.{Nothing, Others, Taken}
 use Rattle.asp_worker.specs.declared.worker.Worker.{Worker}
 use Rattle.asp_worker.specs.declared.worker.Shared.{Shared}
 
@@ -114,6 +116,13 @@ abbrev pub IsQuietIf : List Event → Knows → Option ℕ → Type 0
 IsQuietIf begun v None = IsQuietSince begun v
 IsQuietIf begun v (Some leaf) = Unit {0}
 
+-- what a worker without a path saw on the board: it holds the path that it took, and else none; or no path was open
+abbrev pub Sees : List Event → Knows → Result Sight AllocError → Type 0
+Sees begun v (Ok (Taken leaf)) = Holds v leaf
+Sees begun v (Ok Nothing) = IsFree v × IsQuietSince begun v
+Sees begun v (Ok Others) = IsFree v
+Sees begun v (Err e) = IsFree v
+
 -- After a split the number holds the half with the literal; without one it holds the leaf.
 abbrev pub HoldsHalf : Knows → Knows → ℕ → Literal → Result (Option ℕ) AllocError → Type 0
 HoldsHalf v w leaf l (Ok (Some half)) = Holds w half × (cube_of (seen_board w).nodes half ≡ cube_of (seen_board v).nodes leaf ++ l ∷ [])
@@ -130,18 +139,6 @@ pub record IsIdle (v : Knows) : Type 0 where
   pub settled : IsSettled v
   pub free : IsFree v
   pub home : out_of (seen_board v).out v.number ≡ 0
-
--- From v to w the seat has only looked at the journal, to which others may have added.
-pub record Looks (v w : Knows) : Type 0 where
-  pub holds : w.holds ≡ v.holds
-  pub about : w.about ≡ v.about
-  pub number : w.number ≡ v.number
-  pub splits : w.splits ≡ v.splits
-  pub joins : w.joins ≡ v.joins
-  pub guests : w.guests ≡ v.guests
-  pub own : w.own ≡ v.own
-  pub seen : IsPrefix v.seen w.seen
-  pub others : NoneBy signed v.number (drop (length v.seen) w.seen)
 
 -- ---- the seat at the log
 abbrev pub Reads : Type 0

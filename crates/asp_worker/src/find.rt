@@ -1,10 +1,8 @@
 //! How a worker finds a path.
-ghost use Rattle.std.specs.Prelude.{◌≡◌, ◌<◌, length, IfOk};
+ghost use Rattle.std.specs.Prelude.{◌≡◌, ◌<◌, IfOk};
 ghost use Rattle.asp_vault.specs.Seats.{view, IsOf, IsBeside};
 ghost use Rattle.asp_pool.specs.Pools.{IsOfPool, lane_count};
-ghost use Rattle.asp_path.specs.Trees.{open_from};
-ghost use Rattle.asp_book.specs.Calls.{seen_board};
-ghost use Rattle.asp_worker.specs.Seats.{IsSettled, Idles, Passes, IsFree, IsQuietIf, Looks, Takes};
+ghost use Rattle.asp_worker.specs.Seats.{IsSettled, Idles, Passes, IsFree, IsQuietSince, IsQuietIf, Sees, Takes};
 
 use crate::worker::Shared;
 use asp_book::book::Book;
@@ -16,9 +14,8 @@ use std::alloc::AllocError;
 use std::sync::Wait;
 use std::thread;
 
-// So often a worker looks for a path before it takes one that nobody offered: that may be the rest of a path of which its worker has
-// yet to close the other half, and the answers that were found on the rest would be found again.
-const PATIENCE: u32 = 256;
+// In one of so many rounds a worker that looks for a path looks at the board, which takes the lock.
+const ROUNDS: u32 = 64;
 
 // Takes a path, if it is open.
 fn try_take<R: Wait>(
@@ -127,15 +124,13 @@ fn take_other<R: Wait>(
     Ok(None)
 }
 
-// Takes an open path: one that this worker offered, one that another did, or that of least number. A patient worker leaves alone
-// what nobody offered.
-fn take_any<R: Wait>(
+// Takes a path that was offered, by this worker or by another.
+fn take_offered<R: Wait>(
     rt: &R,
     shared: &Shared,
     seat: &mut Seat<Book>,
     lane: &mut Lane,
     pass: &mut Pass,
-    patient: bool,
 ) -> Result<Option<Leaf>, AllocError>
     requires of { IsOf shared.now.book seat.old }
     requires settled { IsSettled (view seat.old) }
@@ -150,59 +145,69 @@ fn take_any<R: Wait>(
     if own.is_some() {
         return Ok(own);
     }
-    let other = take_other(rt, shared, seat, pass)?;
-    if other.is_some() {
-        return Ok(other);
-    }
-    if patient {
-        return Ok(None);
-    }
-    desk::take(rt, &shared.book, seat)
+    take_other(rt, shared, seat, pass)
 }
 
-// Waits until the journal's length is another than the one known, and answers it, and how many paths are open since then.
-fn survey<R: Wait>(
-    rt: &R,
-    shared: &Shared,
-    seat: &mut Seat<Book>,
-    known: Option<u64>,
-) -> (u64, usize)
+/// What a worker without a path sees on the board.
+#[derive(Clone, Copy)]
+pub(crate) enum Sight {
+    /// A path that nobody offered, which it took.
+    Taken(Leaf),
+    /// No path was open, and none was held.
+    Nothing,
+    /// Others have paths, or it didn't look.
+    Others,
+}
+
+// Whether a worker leaves alone what nobody offered. While another has a path, that may be the rest of it: answers that were found
+// there would be found again. In its first round a fresh worker takes it: the paths into which the search is forked at the start
+// are in no lane.
+fn leaves_alone(open: usize, held: usize, fresh: bool, round: u32) -> bool {
+    held > 0 && (open == 0 || !fresh || round > 0)
+}
+
+// How many paths are open, and how many are held.
+fn count_paths<R: Wait>(rt: &R, shared: &Shared, seat: &mut Seat<Book>) -> (usize, usize)
     requires of { IsOf shared.now.book seat.old }
     requires settled { IsSettled (view seat.old) }
     ensures of { IsBeside seat.old seat.new }
     ensures idles { Idles (view seat.old) (view seat.new) }
-    ensures open_leaves { result.1 ≡ length (open_from 0 (seen_board (view seat.new)).nodes) }
+    ensures quiet { result.0 ≡ 0 → IsQuietSince (view seat.old).seen (view seat.new) }
 {
-    let events = changed(rt, shared, seat, known);
     let open = desk::open_leaves(rt, &shared.book, seat);
-    (events, open)
+    let held = desk::held_leaves(rt, &shared.book, seat);
+    (open, held)
 }
 
-// Waits until the journal's length is another than the one known, and answers it.
-fn changed<R: Wait>(rt: &R, shared: &Shared, seat: &mut Seat<Book>, known: Option<u64>) -> u64
-    requires { IsOf shared.now.book seat.old }
+// Where it is time, looks at the board, and takes an open path that isn't to be left alone.
+fn survey<R: Wait>(
+    rt: &R,
+    shared: &Shared,
+    seat: &mut Seat<Book>,
+    fresh: bool,
+    round: u32,
+) -> Result<Sight, AllocError>
+    requires of { IsOf shared.now.book seat.old }
+    requires settled { IsSettled (view seat.old) }
+    requires free { IsFree (view seat.old) }
     ensures of { IsBeside seat.old seat.new }
-    ensures looks { Looks (view seat.old) (view seat.new) }
+    ensures passes { Passes (view seat.old) (view seat.new) }
+    ensures sees { Sees (view seat.old).seen (view seat.new) result }
 {
-    'looks: for _ in rt.forever() {
-        let events = shared.book.look(seat);
-        if known != Some(events) {
-            return events;
-        }
-        thread::yield_now();
+    if round % ROUNDS != 0 {
+        return Ok(Sight::Others);
     }
-    unreachable!()
-}
-
-// What is known of the journal's length at the next look, where none of the open paths was taken. A patient worker looks again
-// at once.
-fn look_again(patience: &mut u32, events: u64) -> Option<u64> {
-    if *patience == 0 {
-        return Some(events);
+    let (open, held) = count_paths(rt, shared, seat);
+    if leaves_alone(open, held, fresh, round) {
+        return Ok(Sight::Others);
     }
-    *patience -= 1;
-    thread::yield_now();
-    None
+    if open == 0 {
+        return Ok(Sight::Nothing);
+    }
+    match desk::take(rt, &shared.book, seat)? {
+        None => Ok(Sight::Others),
+        Some(leaf) => Ok(Sight::Taken(leaf)),
+    }
 }
 
 // Takes the path, if there is one and it is open.
@@ -227,14 +232,14 @@ fn take_rest<R: Wait>(
 
 // Takes a path, and waits for one as long as another worker has one. `None` where no worker has any.
 //
-// Nothing opens a path but an event. So the number of events is seen before a path is looked for, and while that stays the
-// same, the worker waits outside the lock.
+// What others offer is seen outside the lock.
 fn look_for<R: Wait>(
     rt: &R,
     shared: &Shared,
     seat: &mut Seat<Book>,
     lane: &mut Lane,
     pass: &mut Pass,
+    fresh: bool,
 ) -> Result<Option<Leaf>, AllocError>
     requires of { IsOf shared.now.book seat.old }
     requires settled { IsSettled (view seat.old) }
@@ -246,27 +251,27 @@ fn look_for<R: Wait>(
     ensures takes { Takes (view seat.new) result }
     ensures quiet { IfOk result (IsQuietIf (view seat.old).seen (view seat.new)) }
 {
-    let mut known = None;
-    let mut patience = PATIENCE;
+    let mut round: u32 = 0;
     'rounds: for _ in rt.forever() {
-        let (events, open) = survey(rt, shared, seat, known);
-        known = Some(events);
-        if open > 0 {
-            let taken = take_any(rt, shared, seat, lane, pass, patience > 0)?;
-            if taken.is_some() {
-                return Ok(taken);
-            }
-            known = look_again(&mut patience, events);
-        } else if desk::held_leaves(rt, &shared.book, seat) == 0 {
-            return Ok(None);
+        let taken = take_offered(rt, shared, seat, lane, pass)?;
+        if taken.is_some() {
+            return Ok(taken);
         }
+        match survey(rt, shared, seat, fresh, round)? {
+            Sight::Taken(leaf) => return Ok(Some(leaf)),
+            Sight::Nothing => return Ok(None),
+            Sight::Others => {}
+        }
+        round = round.wrapping_add(1);
+        thread::yield_now();
     }
     unreachable!()
 }
 
 /// Takes a path, and waits for one as long as another worker has one. `None` where no worker has any.
 ///
-/// The rest of a path of which the other half was closed comes first, if there is one and it is open.
+/// The rest of a path of which the other half was closed comes first, if there is one and it is open. A fresh worker, which had no
+/// path yet, takes one that nobody offered at once.
 pub(crate) fn find<R: Wait>(
     rt: &R,
     shared: &Shared,
@@ -274,6 +279,7 @@ pub(crate) fn find<R: Wait>(
     lane: &mut Lane,
     pass: &mut Pass,
     rest: Option<Leaf>,
+    fresh: bool,
 ) -> Result<Option<Leaf>, AllocError>
     requires of { IsOf shared.now.book seat.old }
     requires settled { IsSettled (view seat.old) }
@@ -289,5 +295,5 @@ pub(crate) fn find<R: Wait>(
     if taken.is_some() {
         return Ok(taken);
     }
-    look_for(rt, shared, seat, lane, pass)
+    look_for(rt, shared, seat, lane, pass, fresh)
 }

@@ -91,6 +91,7 @@ fn search_paths<R: Wait, G: Gate, H: Halt, W: Watch>(
             &mut worker.lane,
             &mut worker.pass,
             engine.rest.take(),
+            engine.turn == 0,
         ) {
             Err(_) => return true,
             Ok(found) => match found {

@@ -1,20 +1,57 @@
-use Rattle.std.proofs.Common.{[], length, sym, ap, ◌∙◌}
 use Rattle.asp_vault.specs.Seats.{view}
-use Rattle.asp_path.specs.Trees.{open_from}
-use Rattle.asp_core.specs.Boards.{Board}
-use Rattle.asp_book.proofs.CallLaws.{seen-after}
-use Rattle.asp_worker.proofs.SeatLaws.{idles-looked}
+use Rattle.asp_book.specs.Calls.{Knows}
+use Rattle.asp_worker.proofs.SeatLaws.{passes-self, passes-trans, idles-trans, idles-passes, free-idles, none-idles, none-free, reply-taken, takes-some, takes-none, sees-err}
 use Rattle.asp_worker.proofs.find.survey.Goals as goal
 
-pub open_leaves-open-requires-clause-rests : goal.open_leaves-open-requires-clause-rests
-open_leaves-open-requires-clause-rests g c = c.changed-events.ensures.looks.holds ∙ c.requires.settled.seated.rests
+pub returns-then-round-ne0-clause-passes : goal.returns-then-round-ne0-clause-passes
+returns-then-round-ne0-clause-passes g c = passes-self (view c.args.seat.now) c.requires.settled
 
-pub returns-clause-idles : goal.returns-clause-idles
-returns-clause-idles g c =
-    let k = c.open_leaves-open.ensures.call in
-    idles-looked (view c.args.seat.now) (view c.changed-events.new.seat) (view c.open_leaves-open.new.seat) k.0 c.requires.settled c.changed-events.ensures.looks c.open_leaves-open.ensures.stays k.2
+pub returns-then-leaves_alone-clause-passes : goal.returns-then-leaves_alone-clause-passes
+returns-then-leaves_alone-clause-passes g c = idles-passes (view c.args.seat.now) (view c.count_paths-open.new.seat) c.count_paths-open.ensures.idles
 
-pub returns-clause-open_leaves : goal.returns-clause-open_leaves
-returns-clause-open_leaves g c =
-    let k = c.open_leaves-open.ensures.call in
-    k.1 ∙ ap (λ (b : Board). length (open_from 0 b.nodes)) (sym (seen-after (view c.changed-events.new.seat) (view c.open_leaves-open.new.seat) k.0 [] c.open_leaves-open.ensures.stays k.2))
+pub returns-then-leaves_alone-clause-sees : goal.returns-then-leaves_alone-clause-sees
+returns-then-leaves_alone-clause-sees g c = free-idles (view c.args.seat.now) (view c.count_paths-open.new.seat) c.requires.free c.count_paths-open.ensures.idles
+
+pub returns-then-open-eq0-clause-passes : goal.returns-then-open-eq0-clause-passes
+returns-then-open-eq0-clause-passes g c = idles-passes (view c.args.seat.now) (view c.count_paths-open.new.seat) c.count_paths-open.ensures.idles
+
+pub returns-then-open-eq0-clause-sees : goal.returns-then-open-eq0-clause-sees
+returns-then-open-eq0-clause-sees g c =
+    (free-idles (view c.args.seat.now) (view c.count_paths-open.new.seat) c.requires.free c.count_paths-open.ensures.idles, c.count_paths-open.ensures.quiet c.if-open-eq0.true)
+
+pub take-requires-clause-free : goal.take-requires-clause-free
+take-requires-clause-free g c = free-idles (view c.args.seat.now) (view c.count_paths-open.new.seat) c.requires.free c.count_paths-open.ensures.idles
+
+pub returns-in_err-take-clause-passes : goal.returns-in_err-take-clause-passes
+returns-in_err-take-clause-passes g c =
+    let v : Knows = view c.args.seat.now in let w : Knows = view c.count_paths-open.new.seat in let x : Knows = view c.take.new.seat in
+    idles-passes v x (idles-trans v w x c.count_paths-open.ensures.idles (none-idles w x c.take.ensures.stays c.in_err-take.ensures.err))
+
+pub returns-in_err-take-clause-sees : goal.returns-in_err-take-clause-sees
+returns-in_err-take-clause-sees g c =
+    let v : Knows = view c.args.seat.now in let w : Knows = view c.count_paths-open.new.seat in let x : Knows = view c.take.new.seat in
+    sees-err v.seen x c.from_residual.result c.from_residual.ensures.0 (none-free w x c.take.ensures.stays (free-idles v w c.requires.free c.count_paths-open.ensures.idles) c.in_err-take.ensures.err)
+
+pub returns-in-None-clause-passes : goal.returns-in-None-clause-passes
+returns-in-None-clause-passes g c =
+    let v : Knows = view c.args.seat.now in let w : Knows = view c.count_paths-open.new.seat in let x : Knows = view c.take.new.seat in
+    let k = c.in_ok-take.ensures.ok in
+    passes-trans v w x (idles-passes v w c.count_paths-open.ensures.idles) (reply-taken w x c.take.ensures.stays (free-idles v w c.requires.free c.count_paths-open.ensures.idles) k.0 c.in_ok-take.field-0 k.2).0
+
+pub returns-in-None-clause-sees : goal.returns-in-None-clause-sees
+returns-in-None-clause-sees g c =
+    let v : Knows = view c.args.seat.now in let w : Knows = view c.count_paths-open.new.seat in let x : Knows = view c.take.new.seat in
+    let k = c.in_ok-take.ensures.ok in
+    takes-none x c.in_ok-take.field-0 (reply-taken w x c.take.ensures.stays (free-idles v w c.requires.free c.count_paths-open.ensures.idles) k.0 c.in_ok-take.field-0 k.2).1 c.in-None.is
+
+pub returns-in-Some-clause-passes : goal.returns-in-Some-clause-passes
+returns-in-Some-clause-passes g c =
+    let v : Knows = view c.args.seat.now in let w : Knows = view c.count_paths-open.new.seat in let x : Knows = view c.take.new.seat in
+    let k = c.in_ok-take.ensures.ok in
+    passes-trans v w x (idles-passes v w c.count_paths-open.ensures.idles) (reply-taken w x c.take.ensures.stays (free-idles v w c.requires.free c.count_paths-open.ensures.idles) k.0 c.in_ok-take.field-0 k.2).0
+
+pub returns-in-Some-clause-sees : goal.returns-in-Some-clause-sees
+returns-in-Some-clause-sees g c =
+    let v : Knows = view c.args.seat.now in let w : Knows = view c.count_paths-open.new.seat in let x : Knows = view c.take.new.seat in
+    let k = c.in_ok-take.ensures.ok in
+    takes-some x c.in_ok-take.field-0 c.in-Some.leaf (reply-taken w x c.take.ensures.stays (free-idles v w c.requires.free c.count_paths-open.ensures.idles) k.0 c.in_ok-take.field-0 k.2).1 c.in-Some.is
