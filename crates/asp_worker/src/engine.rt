@@ -11,6 +11,7 @@ use asp_search::search::Search;
 use asp_vars::compiled::Compiled;
 use asp_vars::fuel::Fuel;
 use std::alloc::AllocError;
+use std::mem;
 
 /// A worker's search, with what pays for it.
 #[derive(Drop)]
@@ -65,7 +66,7 @@ pub(crate) fn ended(engine: Engine<'_>) -> (Fuel, Counts)
     ensures { result.0 ≡ engine.entry.fuel }
 {
     let Engine {
-        search: _,
+        search,
         fuel,
         read: _,
         turn: _,
@@ -74,5 +75,6 @@ pub(crate) fn ended(engine: Engine<'_>) -> (Fuel, Counts)
         did,
         recorder: _,
     } = engine;
+    mem::drop(search);
     (fuel, did)
 }
