@@ -42,7 +42,7 @@ use Rattle.asp_worker.specs.declared.worker.Worker.{Worker}
 use Rattle.asp_worker.specs.declared.worker.Shared.{Shared}
 use Rattle.asp_worker.specs.Seats.{IsSettled, IsIdle, IsRunOf, IsPaged, Reads, Passes, Idles, IsFree, OwnAre, Takes}
 use Rattle.asp_worker.proofs.OwnLaws.{By, own-call}
-use Rattle.asp_worker.proofs.SeatLaws.{board-now, board-task, free-released, lawful-now, settled-on, settled-passes, settled-idles, free-idles, idles-call, first-taken}
+use Rattle.asp_worker.proofs.SeatLaws.{board-now, board-task, free-released, lawful-now, settled-on, settled-passes, settled-idles, free-idles, idles-call, reply-taken}
 use Rattle.asp_team.specs.declared.lead.Lead.{Lead}
 use Rattle.asp_team.specs.Joined.{MayJoin}
 use Rattle.asp_team.specs.Teams.{AreForks, AreNew, AreNumbered, AreReady, HasOut, IsBegun, IsHost}
@@ -85,7 +85,7 @@ fork-divided n leaf l (Some leaves) = (λ _. tt, tt)
 
 -- ---- the open leaf of least number is taken
 pub taken-first : (v w : Knows) → Stays v w → IsFree v → (o : Option ℕ) → ((before : List Event) × (o ≡ slice_get (open_from 0 (replay (task_of v) before).nodes) 0) × IsCall v w before (taken v.number o)) → Passes v w × Takes w (Ok o)
-taken-first v w stays free o call = first-taken v w stays free (λ (before : List Event) (x : Option ℕ). x ≡ slice_get (open_from 0 (replay (task_of v) before).nodes) 0) (Ok o) call tt
+taken-first v w stays free o call = reply-taken v w stays free call.0 o call.2
 
 -- ---- a leaf is split
 pub some-is : {X : Type 0} (P : X → Type 0) (o : Option X) (x : X) → o ≡ Some x → IfSome o P → P x
