@@ -19,6 +19,7 @@ use asp_model::results::Ask;
 use asp_recorder::recorder::Recorder;
 use asp_vars::compiled::Compiled;
 use std::alloc::{AllocError, Global};
+use std::mem;
 
 // A first search, whose recorder, if there is one, gets what it finds.
 fn first<W: Watch>(
@@ -46,10 +47,15 @@ fn first<W: Watch>(
         [].as_slice(),
     )?;
     let mut book = Book::new(alloc, compiled, state)?;
-    let unpaid = finish_program(
+    match finish_program(
         alloc, compiled, ask.mode, None, &mut book, counts, watch, recorder,
-    )?;
-    Ok(reported(ask, book, unpaid, 0, false))
+    ) {
+        Ok(unpaid) => Ok(reported(ask, book, unpaid, 0, false)),
+        Err(error) => {
+            mem::drop(book);
+            Err(error)
+        }
+    }
 }
 
 // A run that writes down nothing, with a second search where all optima are asked for.

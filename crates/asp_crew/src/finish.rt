@@ -1,8 +1,7 @@
 //! All that is open on a board, by one search.
-ghost use Rattle.std.specs.Prelude.{◌≡◌, ◌+◌, ◌^◌, ◌<◌, [], None, IfOk, replicate};
+ghost use Rattle.std.specs.Prelude.{◌≡◌, ◌+◌, ◌^◌, ◌<◌, [], None, IfOk, OnOk, replicate};
 ghost use Rattle.asp_vars.specs.Numbering.{var_count};
 ghost use Rattle.asp_book.specs.Books.{board};
-ghost use Rattle.asp_search.specs.Beside.{new_search};
 ghost use Rattle.asp_search_laws.specs.Searching.{Searching};
 ghost use Rattle.asp_crew_laws.specs.Reports.{IsIdle};
 ghost use Rattle.asp_crew_laws.specs.Working.{IsAtWork, MayBegin};
@@ -22,6 +21,7 @@ use asp_search::search::Search;
 use asp_vars::compiled::Compiled;
 use asp_vars::fuel::{Conflict, Fuel};
 use std::alloc::{AllocError, Global};
+use std::mem;
 
 // Takes one open leaf after another, until none is open, as many answers as asked for were found, or a conflict is met when
 // no unit is left.
@@ -87,27 +87,39 @@ struct Aim<'a> {
     bound: Option<Cost>,
 }
 
-// A search that knows no answer, and has the aim's bound.
-fn begin<'a, P: Propagator>(
-    alloc: Global,
-    aim: Aim<'a>,
-    propagator: P,
-) -> Result<Search<'a, P>, AllocError>
-    requires program { (P.told propagator).program ≡ aim.compiled.now }
-    requires fresh { (P.told propagator).values ≡ replicate (var_count aim.compiled.now + 1) None }
-    requires unbounded { P.bound propagator ≡ None }
-    ensures { IfOk result (λ s. s ≡ record (new_search aim.entry.compiled.now aim.entry.mode s.slots) { bound = aim.entry.bound }) }
+// From now on only answers below the bound are sought, if there is one.
+fn set_bound<P: Propagator>(
+    search: &mut Search<'_, P>,
+    bound: Option<Cost>,
+) -> Result<(), AllocError>
+    requires { search.old.bound ≡ None }
+    ensures { OnOk result (search.new ≡ record search.old { bound = bound }) }
 {
-    let Aim {
-        compiled,
-        mode,
-        bound,
-    } = aim;
-    let mut search = Search::new(alloc, compiled, mode, propagator)?;
-    if let Some(bound) = bound {
-        search.set_bound(bound)?;
+    match bound {
+        None => Ok(()),
+        Some(bound) => search.set_bound(bound),
     }
-    Ok(search)
+}
+
+// Works off all that is open below the bound, if there is one.
+fn work_off_below<P: Propagator, W: Watch>(
+    book: &mut Book,
+    mode: Mode,
+    bound: Option<Cost>,
+    search: &mut Search<'_, P>,
+    fuel: &mut Fuel,
+    counts: &mut Counts,
+    watch: &mut W,
+    recorder: Option<&Recorder>,
+) -> Result<Option<Conflict>, AllocError>
+    requires ready { IsReady mode book.old (record search.old { bound = bound }) fuel.old }
+    requires unbounded { search.old.bound ≡ None }
+    requires alone { IsAlone (board book.old) }
+    ensures leaves { IfOk result (LeavesAll mode book.old book.new search.new fuel.new) }
+    ensures heard { W.IsAfter watch.old watch.new }
+{
+    set_bound(search, bound)?;
+    work_off_all(book, mode, search, fuel, counts, watch, recorder)
 }
 
 // Works off all that is open by a search that is made for it, with the units that number 0 has.
@@ -131,9 +143,24 @@ fn search_all<P: Propagator, W: Watch>(
     ensures leaves { IfOk result (λ o. (s : Searching) × LeavesAll aim.entry.mode book.old book.new s fuel.new o) }
     ensures heard { W.IsAfter watch.old watch.new }
 {
-    let mode = aim.mode;
-    let mut search = begin(alloc, aim, propagator)?;
-    work_off_all(book, mode, &mut search, fuel, counts, watch, recorder)
+    let Aim {
+        compiled,
+        mode,
+        bound,
+    } = aim;
+    let mut search = Search::new(alloc, compiled, mode, propagator)?;
+    let unpaid = work_off_below(
+        book,
+        mode,
+        bound,
+        &mut search,
+        fuel,
+        counts,
+        watch,
+        recorder,
+    );
+    mem::drop(search);
+    unpaid
 }
 
 /// Number 0 works off every open leaf, with all units of the pool, or until as many answers as asked for were found. The
@@ -181,7 +208,7 @@ pub fn finish<P: Propagator, W: Watch>(
 }
 
 /// `finish` by the program's propagators. The recorder gets the loops whose nogoods they give, too.
-pub(crate) fn finish_program<'a, W: Watch>(
+pub fn finish_program<'a, W: Watch>(
     alloc: Global,
     compiled: &'a Compiled,
     mode: Mode,

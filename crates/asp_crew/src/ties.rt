@@ -22,6 +22,7 @@ use asp_model::interp::Interp;
 use asp_model::results::{Ask, End, Mode, Results};
 use asp_vars::compiled::Compiled;
 use std::alloc::{AllocError, Global};
+use std::mem;
 
 fn copy(bound: &Option<Cost>) -> Result<Option<Cost>, AllocError>
     ensures { IfOk result (λ copy. copy ≡ bound.now) }
@@ -57,8 +58,13 @@ fn opened(
         [].as_slice(),
     )?;
     let mut book = Book::new(alloc, compiled, state)?;
-    let _delivered = book.deliver(0, set)?;
-    Ok(book)
+    match book.deliver(0, set) {
+        Ok(_listed) => Ok(book),
+        Err(error) => {
+            mem::drop(book);
+            Err(error)
+        }
+    }
 }
 
 // A search for all answers that cost no more than this best one, with so many units.
@@ -77,7 +83,7 @@ fn search<W: Watch>(
 {
     let bound = cost_just_above(alloc, compiled.program(), best)?;
     let mut book = opened(alloc, compiled, ask, &bound, best, budget)?;
-    let unpaid = finish_program(
+    match finish_program(
         alloc,
         compiled,
         Mode::Enum,
@@ -86,8 +92,13 @@ fn search<W: Watch>(
         counts,
         watch,
         None,
-    )?;
-    Ok(told(Mode::Opt, book, unpaid, 0, false))
+    ) {
+        Ok(unpaid) => Ok(told(Mode::Opt, book, unpaid, 0, false)),
+        Err(error) => {
+            mem::drop(book);
+            Err(error)
+        }
+    }
 }
 
 // The second search's report, if one is wanted.

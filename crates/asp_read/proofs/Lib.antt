@@ -3,6 +3,7 @@ pub mod Loop
 pub mod Priorities
 pub mod Streaming
 pub mod Supply
+pub mod TableLaws
 pub mod KnownLaws
 pub mod Soundness
 pub mod Places

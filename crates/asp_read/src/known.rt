@@ -4,11 +4,11 @@ ghost use Rattle.asp_model.specs.Sets.{with_atom};
 ghost use Rattle.asp_read.specs.Gives.{Gives};
 ghost use Rattle.asp_read.specs.Fields.{room_for};
 
+use crate::atom_set::AtomSet;
 use crate::error::{LineError, broken};
 use crate::fault::FaultKind;
 use asp_model::program::Atom;
 use std::alloc::{AllocError, Global};
-use std::collections::HashSet;
 use std::marker::Model;
 
 /// The most different atoms of a program.
@@ -20,13 +20,20 @@ const RECENT_PLACES: u32 = 1 << 20;
 /// The least atom that has no mark of 8 bits.
 const FIRST_UNMARKED: u32 = 255 * RECENT_PLACES;
 
+/// How many places the table of atoms may have for each atom that stood. Each took two bytes of the text at least, so the
+/// table has at most 32 places for each byte that was read, whatever number stood there.
+const PLACES_AN_ATOM: u32 = 64;
+
+/// How many places the table of atoms has at most.
+const MOST_PLACES: u32 = 1 << 21;
+
 /// A set of atoms. Each atom but the greatest has a place of a fixed number of them, and a mark that tells it from the
 /// others of its place. A place has the mark of the atom that was last asked for there, or 0: that atom is found by one
-/// comparison.
+/// comparison, and so is one that stands in the table of atoms.
 #[derive(Drop)]
 pub struct KnownAtoms {
     /// The set.
-    atoms: HashSet<Atom>,
+    atoms: AtomSet,
     /// At each place the mark of the atom that was last asked for there, or 0.
     recent: Vec<u8>,
     /// How many atoms the set has.
@@ -34,23 +41,24 @@ pub struct KnownAtoms {
 }
 
 impl Model for KnownAtoms {
-    ghost use Rattle.asp_model.specs.Sets.{Atoms, set_of};
+    ghost use Rattle.asp_model.specs.Sets.{Atoms};
     ghost use Rattle.asp_read.specs.Known.{IsKnown};
 
     ghost Value = { Atoms };
 
-    ghost view = { λ s. set_of s.atoms.keys };
+    ghost view = { λ s. s.atoms };
 
-    ghost invariant = { λ s. IsKnown s.atoms.keys s.recent.items s.count };
+    ghost invariant = { λ s. IsKnown s.atoms s.recent.items s.count };
 }
 
 impl KnownAtoms {
     pub fn new(alloc: Global) -> Result<Self, AllocError>
         ensures { IfOk result (λ known. known ≡ []) }
     {
+        let recent = zeros(alloc, RECENT_PLACES as usize)?;
         Ok(KnownAtoms {
-            atoms: HashSet::new(alloc),
-            recent: zeros(alloc, RECENT_PLACES as usize)?,
+            atoms: AtomSet::new(alloc),
+            recent,
             count: 0,
         })
     }
@@ -60,6 +68,9 @@ impl KnownAtoms {
         ensures room { Gives (λ u. u) result (room_for self.old atom line.now) }
         ensures taken { OnOk result (self.new ≡ with_atom atom self.old) }
     {
+        if self.atoms.is_near(atom) {
+            return Ok(());
+        }
         if atom >= FIRST_UNMARKED {
             return self.take_unless_full(atom, line);
         }
@@ -77,16 +88,22 @@ impl KnownAtoms {
         ensures room { Gives (λ u. u) result (room_for self.old atom line.now) }
         ensures taken { OnOk result (self.new ≡ with_atom atom self.old) }
     {
-        if self.atoms.contains(&atom) {
+        if self.atoms.has(atom) {
             return Ok(());
         }
         if self.count >= MOST_ATOMS {
             return Err(broken(FaultKind::Atoms, line));
         }
-        self.atoms.insert(atom)?;
+        self.atoms.insert(atom, reach(self.count))?;
         self.count += 1;
         Ok(())
     }
+}
+
+// How many places the table of atoms may have for the next atom, where so many stood.
+fn reach(count: u32) -> u32 {
+    let places = count.saturating_add(1).saturating_mul(PLACES_AN_ATOM);
+    places.min(MOST_PLACES)
 }
 
 fn zeros(alloc: Global, count: usize) -> Result<Vec<u8>, AllocError>

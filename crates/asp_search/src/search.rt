@@ -198,11 +198,12 @@ impl<'a, P: Propagator> Search<'a, P> {
     {
         let vars = compiled.vars();
         let _program = compiled.program();
-        let state = SearchState::new(alloc, compiled, propagator)?;
         let learner = Learner::new(alloc, vars)?;
         let spread = Spread::new(alloc, vars)?;
         let checker = Checker::new(alloc, compiled)?;
         let seen = nothing_seen(alloc, compiled, mode)?;
+        // The state is made last: no way out has it to drop, which would cost the check more than all else here.
+        let state = SearchState::new(alloc, compiled, propagator)?;
         Ok(Search {
             alloc,
             compiled,

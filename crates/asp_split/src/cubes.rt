@@ -14,6 +14,7 @@ use asp_propagate::propagator::Propagator;
 use asp_state::state::SearchState;
 use asp_vars::compiled::Compiled;
 use std::alloc::{AllocError, Global};
+use std::mem;
 
 // Whether the first leaf is the better one to divide; of leaves that are alike the second.
 fn is_wider(leaf: &Leaf, than: &Leaf) -> bool {
@@ -112,6 +113,25 @@ fn cubes_of(alloc: Global, leaves: Vec<Leaf>) -> Result<Vec<Seq<i32>>, AllocErro
     }
 }
 
+// The cubes, by a state that follows the program's nogoods under each.
+fn parted<P: Propagator>(
+    alloc: Global,
+    compiled: &Compiled,
+    state: &mut SearchState<P>,
+    parts: usize,
+) -> Result<Vec<Seq<i32>>, AllocError>
+    requires some { 0 < parts }
+    requires kept { IsProber compiled.now state.old }
+    ensures answers { IfOk result (λ cubes. answers_of_parts compiled.now cubes.items ≡ answers compiled.now) }
+    ensures stand { IfOk result (λ cubes. AllByRecursion (AreStanding compiled.now) cubes.items) }
+    ensures some { IfOk result (λ cubes. 0 < length cubes.items) }
+    ensures few { IfOk result (λ cubes. length cubes.items ≤ parts) }
+{
+    let mut leaves = first_leaf(alloc, compiled, state)?;
+    divide_all(alloc, compiled, state, &mut leaves, parts)?;
+    cubes_of(alloc, leaves)
+}
+
 /// At most so many cubes, and at least one. The answers of the program under each, one cube's after the other's, are the
 /// answers of the program. The propagator was told nothing.
 ///
@@ -135,7 +155,7 @@ pub fn cubes<P: Propagator>(
 {
     let _program = compiled.program();
     let mut state = SearchState::new(alloc, compiled, propagator)?;
-    let mut leaves = first_leaf(alloc, compiled, &mut state)?;
-    divide_all(alloc, compiled, &mut state, &mut leaves, parts)?;
-    cubes_of(alloc, leaves)
+    let found = parted(alloc, compiled, &mut state, parts);
+    mem::drop(state);
+    found
 }

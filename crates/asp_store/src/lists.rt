@@ -8,6 +8,29 @@ use asp_vars::lit::Lit;
 use std::alloc::{AllocError, Global};
 use std::marker::Model;
 
+// Most lists have no more: they fill the least block that an allocator gives.
+const FIRST: usize = 3;
+
+// A list that is empty gets room for the first ones at once.
+fn make_room(list: &mut Vec<Watch>) -> Result<(), AllocError>
+    ensures { list.new.items ≡ list.old.items }
+{
+    if list.capacity() == 0 {
+        list.reserve_exact(FIRST)?;
+    }
+    Ok(())
+}
+
+// Adds a watch at the end of a list.
+fn push_watch(list: &mut Vec<Watch>, watch: Watch) -> Result<(), AllocError>
+    ensures ok { OnOk result (list.new.items ≡ list.old.items ++ watch ∷ []) }
+    ensures err { OnErr result (list.new.items ≡ list.old.items) }
+{
+    make_room(list)?;
+    list.push(watch)?;
+    Ok(())
+}
+
 /// A list of watches for each literal, by its code.
 #[derive(Drop)]
 pub struct WatchLists {
@@ -76,8 +99,7 @@ impl WatchLists {
         ensures ok { OnOk result (self.new ≡ slice_set self.old (code_of lit) (list_at self.old (code_of lit) ++ watch ∷ [])) }
         ensures err { OnErr result (self.new ≡ self.old) }
     {
-        self.lists[lit.code()].push(watch)?;
-        Ok(())
+        push_watch(&mut self.lists[lit.code()], watch)
     }
 
     /// Takes the watches of a nogood out of the literal's list.

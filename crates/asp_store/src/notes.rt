@@ -24,10 +24,12 @@ struct Note {
     levels: u32,
 }
 
-/// A note for each number.
+/// A note for each number, but for those of the first nogoods, as long as these are kept forever.
 #[derive(Drop)]
 pub struct Notes {
-    // by number
+    // the first number that has a note
+    first: usize,
+    // by number, from the first one on
     notes: Vec<Note>,
     // worths and numbers of those that may be dropped, the least worth first
     order: Vec<(u64, u32)>,
@@ -39,24 +41,51 @@ impl Notes {
     /// No numbers.
     pub fn new(alloc: Global) -> Notes {
         Notes {
+            first: 0,
             notes: Vec::new(alloc),
             order: Vec::new(alloc),
             worth: FIRST_WORTH,
         }
     }
 
-    /// The number is of a new nogood, of so many levels.
+    /// The number is of a new nogood, of so many levels: 0 for one that is kept forever.
     pub fn put(&mut self, id: NogoodId, levels: u32) -> Result<(), AllocError> {
+        if levels == 0 && self.notes.is_empty() {
+            self.first = self.first.max(id.saturating_add(1));
+            return Ok(());
+        }
+        if id < self.first {
+            self.note_all()?;
+        }
         // What is kept forever needs no worth.
         if levels != 0 {
             self.age();
         }
-        let note = Note {
-            worth: self.worth,
-            levels,
-        };
-        if id < self.notes.len() {
-            self.notes[id] = note;
+        self.set(
+            id,
+            Note {
+                worth: self.worth,
+                levels,
+            },
+        )
+    }
+
+    // From now on each number has a note.
+    fn note_all(&mut self) -> Result<(), AllocError> {
+        let mut notes = vec![in *self.notes.allocator(); Note {
+            worth: 0,
+            levels: 0
+        }; self.first]?;
+        notes.extend_from_slice(self.notes.as_slice())?;
+        self.notes = notes;
+        self.first = 0;
+        Ok(())
+    }
+
+    fn set(&mut self, id: NogoodId, note: Note) -> Result<(), AllocError> {
+        let place = id.saturating_sub(self.first);
+        if place < self.notes.len() {
+            self.notes[place] = note;
         } else {
             self.notes.push(note)?;
         }
@@ -81,9 +110,13 @@ impl Notes {
 
     /// The nogood was used.
     pub fn used(&mut self, id: NogoodId) {
-        if id < self.notes.len() {
-            let worth = self.notes[id].worth;
-            self.notes[id].worth = worth.saturating_add(self.worth);
+        if id < self.first {
+            return;
+        }
+        let place = id - self.first;
+        if place < self.notes.len() {
+            let worth = self.notes[place].worth;
+            self.notes[place].worth = worth.saturating_add(self.worth);
         }
     }
 
@@ -99,10 +132,14 @@ impl Notes {
 
     // The nogood may be dropped, unless it is of few levels. Where memory is wanting it stays.
     fn offer(&mut self, id: u32) {
-        if id as usize >= self.notes.len() {
+        if (id as usize) < self.first {
             return;
         }
-        let note = self.notes[id as usize];
+        let place = id as usize - self.first;
+        if place >= self.notes.len() {
+            return;
+        }
+        let note = self.notes[place];
         if note.levels > FEW_LEVELS {
             let _ = self.order.push((note.worth, id));
         }

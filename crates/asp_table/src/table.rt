@@ -8,7 +8,7 @@ use std::marker::Model;
 #[derive(Drop)]
 pub struct Table<T> {
     /// For each row where it starts in `items`, and one more for where the last one ends.
-    starts: Vec<usize>,
+    starts: Vec<u32>,
     /// The items of all rows, one row after another.
     items: Vec<T>,
 }
@@ -35,7 +35,7 @@ impl<T: Copy> Table<T> {
         })
     }
 
-    /// The table with one more row.
+    /// The table with one more row. Want of memory is also the answer where the rows have 4294967296 items or more together.
     pub fn with_row(self, row: &[T]) -> Result<Table<T>, AllocError>
         ensures { IfOk result (λ t. t ≡ self ++ row.now ∷ []) }
     {
@@ -44,7 +44,8 @@ impl<T: Copy> Table<T> {
             mut items,
         } = self;
         items.extend_from_slice(row)?;
-        starts.push(items.as_slice().len())?;
+        let end = narrow(items.as_slice().len())?;
+        starts.push(end)?;
         Ok(Table { starts, items })
     }
 
@@ -63,20 +64,30 @@ impl<T: Copy> Table<T> {
     }
 }
 
+// The number as a start has it, if it isn't too large.
+fn narrow(n: usize) -> Result<u32, AllocError>
+    ensures { IfOk result (λ k. k ≡ n) }
+{
+    match u32::try_from(n) {
+        Ok(k) => Ok(k),
+        Err(_) => Err(AllocError),
+    }
+}
+
 // The row from the i-th start.
-fn row_of<'a, T>(starts: &[usize], items: &'a [T], i: usize) -> &'a [T]
+fn row_of<'a, T>(starts: &[u32], items: &'a [T], i: usize) -> &'a [T]
     requires i { i + 1 < length starts.now }
     requires rise { slice_index starts.now i ≤ slice_index starts.now (i + 1) }
     requires within { slice_index starts.now (i + 1) ≤ length items.now }
     ensures { result.now ≡ take (slice_index starts.now (i + 1) - slice_index starts.now i) (drop (slice_index starts.now i) items.now) }
 {
-    let from = starts[i];
-    let to = starts[i + 1];
+    let from = starts[i] as usize;
+    let to = starts[i + 1] as usize;
     &items[from..to]
 }
 
 // One row goes from each start but the last.
-fn rows_of(starts: &[usize]) -> usize
+fn rows_of(starts: &[u32]) -> usize
     ensures { result ≡ length starts.now - 1 }
 {
     if starts.is_empty() {

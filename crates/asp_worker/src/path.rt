@@ -5,7 +5,6 @@ ghost use Rattle.asp_vault.specs.Seats.{view, IsOf, IsBeside};
 ghost use Rattle.asp_path.specs.Trees.{cube_of};
 ghost use Rattle.asp_core.specs.Boards.{is_excused};
 ghost use Rattle.asp_book.specs.Calls.{task_of, seen_board};
-ghost use Rattle.asp_propagators.specs.Saying.{AreSilent, gives};
 ghost use Rattle.asp_search_laws.specs.Steps.{IsStep};
 ghost use Rattle.asp_worker.specs.Seats.{IsReady, Keeps, IsSettled, Passes, Holds, IsFree};
 ghost use Rattle.asp_worker.specs.Working.{GoesOn, IsOn, IsOff, IsCourse, IsStop, IsWay, Pays};
@@ -22,7 +21,7 @@ use asp_book::desk;
 use asp_counts::counts::Counts;
 use asp_counts::watch::Watch;
 use asp_path::tree::Leaf;
-use asp_propagators::propagators::Propagators;
+use asp_propagate::propagator::Propagator;
 use asp_recorder::recorder::Recorder;
 use asp_search::search::Search;
 use asp_search_laws::step::Step;
@@ -74,17 +73,17 @@ fn close<R: Wait>(
 }
 
 // One step of the search, which is counted and written down.
-fn step<R: Wait>(
+fn step<R: Wait, P: Propagator>(
     rt: &R,
     shared: &Shared,
-    search: &mut Search<'_, Propagators<'_>>,
+    search: &mut Search<'_, P>,
     fuel: &mut Fuel,
     did: &mut Counts,
     recorder: Option<&Recorder>,
 ) -> Result<Step, AllocError>
     requires entered { IsSome search.old.cube }
     requires program { fuel.old.program ≡ search.old.program }
-    ensures ok { IfOk result (IsStep (gives search.old.program search.old.bound) (AreSilent search.old.program search.old.bound) search.old search.new fuel.old fuel.new) }
+    ensures ok { IfOk result (IsStep (P.gives search.old.program search.old.bound) (P.silent search.old.program search.old.bound) search.old search.new fuel.old fuel.new) }
     ensures err { OnErr result (Pays search.old fuel.old fuel.new) }
 {
     let step = search.step(fuel)?;

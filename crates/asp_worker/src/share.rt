@@ -18,7 +18,7 @@ use asp_book::book::Book;
 use asp_book::desk;
 use asp_path::tree::Leaf;
 use asp_pool::Lane;
-use asp_propagators::propagators::Propagators;
+use asp_propagate::propagator::Propagator;
 use asp_search::search::Search;
 use asp_vars::lit::Lit;
 use asp_vault::Seat;
@@ -29,11 +29,11 @@ use std::sync::Wait;
 pub(crate) const STRIDE: u64 = 32;
 
 // Begins the search of a path that the worker holds.
-fn enter<R: Wait>(
+fn enter<R: Wait, P: Propagator>(
     rt: &R,
     shared: &Shared,
     seat: &mut Seat<Book>,
-    search: &mut Search<'_, Propagators<'_>>,
+    search: &mut Search<'_, P>,
     leaf: Leaf,
 ) -> Result<(), AllocError>
     requires of { IsOf shared.now.book seat.old }

@@ -26,7 +26,7 @@ use asp_log::{Log, View, append, glance};
 use asp_model::cost::Cost;
 use asp_model::interp::Interp;
 use asp_model::results::Mode;
-use asp_propagators::propagators::Propagators;
+use asp_propagate::propagator::Propagator;
 use asp_search::search::{Search, count_unshown};
 use asp_vars::known::Known;
 use asp_vault::Seat;
@@ -47,7 +47,7 @@ fn beats(cost: &Cost, bound: Option<&Cost>) -> bool
 }
 
 // Seeks only answers that cost less than this one, if it is smaller than the bound.
-fn lower_bound(search: &mut Search<'_, Propagators<'_>>, cost: Cost) -> Result<(), AllocError>
+fn lower_bound<P: Propagator>(search: &mut Search<'_, P>, cost: Cost) -> Result<(), AllocError>
     ensures ok { OnOk result (search.new ≡ lowered search.old cost) }
     ensures err { OnErr result (Leaves search.old search.new) }
 {
@@ -58,7 +58,7 @@ fn lower_bound(search: &mut Search<'_, Propagators<'_>>, cost: Cost) -> Result<(
 }
 
 // Imports those entries of the log that count for the search.
-fn import_all(search: &mut Search<'_, Propagators<'_>>, entries: &View) -> Result<(), AllocError>
+fn import_all<P: Propagator>(search: &mut Search<'_, P>, entries: &View) -> Result<(), AllocError>
     requires { All (IsEntry search.old.program) entries.now }
     ensures ok { OnOk result (ImportsAll entries.now search.old search.new) }
     ensures err { OnErr result (Remembers search.old search.new) }
@@ -70,11 +70,11 @@ fn import_all(search: &mut Search<'_, Propagators<'_>>, entries: &View) -> Resul
 }
 
 // Imports what is new in the log.
-fn import_new<R: Wait>(
+fn import_new<R: Wait, P: Propagator>(
     rt: &R,
     shared: &Shared,
     pages: &mut Seat<Log>,
-    search: &mut Search<'_, Propagators<'_>>,
+    search: &mut Search<'_, P>,
     read: &mut u32,
 ) -> Result<(), AllocError>
     requires of { IsOf shared.now.log pages.old }
@@ -97,7 +97,7 @@ fn import_new<R: Wait>(
 }
 
 // Whether these answers show more than those that the search knows.
-fn show_more(known: &Known, search: &Search<'_, Propagators<'_>>) -> bool
+fn show_more<P: Propagator>(known: &Known, search: &Search<'_, P>) -> bool
     ensures { result ≡ is_fewer (count_unshown known.now.reasoning known.now.program known.now.sets) (left_to_show search.now) }
 {
     match (count_unshown(known), search.unshown_atoms()) {
@@ -108,7 +108,7 @@ fn show_more(known: &Known, search: &Search<'_, Propagators<'_>>) -> bool
 }
 
 // Leaves out what shows nothing beside the answers delivered, where they show more than those that the search knows.
-fn take_known(search: &mut Search<'_, Propagators<'_>>, known: Known) -> Result<(), AllocError>
+fn take_known<P: Propagator>(search: &mut Search<'_, P>, known: Known) -> Result<(), AllocError>
     requires program { known.program ≡ search.old.program }
     requires reasoning { Some known.reasoning ≡ reasoning_of search.old.mode }
     requires all { IsSubset (unshown known.reasoning known.program known.sets) (unshown known.reasoning known.program search.old.known) }
@@ -123,11 +123,11 @@ fn take_known(search: &mut Search<'_, Propagators<'_>>, known: Known) -> Result<
 }
 
 // Takes over the cost of the best answer, if one is sought, and the answers delivered where consequences are.
-fn take_best<R: Wait>(
+fn take_best<R: Wait, P: Propagator>(
     rt: &R,
     shared: &Shared,
     seat: &mut Seat<Book>,
-    search: &mut Search<'_, Propagators<'_>>,
+    search: &mut Search<'_, P>,
 ) -> Result<(), AllocError>
     requires of { IsOf shared.now.book seat.old }
     requires settled { IsSettled (view seat.old) }
@@ -180,11 +180,11 @@ pub(crate) fn refresh<R: Wait>(
 }
 
 /// Tells the others what the last step learnt, if that is of use to them and there is room and memory for it.
-pub(crate) fn export<R: Wait>(
+pub(crate) fn export<R: Wait, P: Propagator>(
     rt: &R,
     shared: &Shared,
     pages: &mut Seat<Log>,
-    search: &Search<'_, Propagators<'_>>,
+    search: &Search<'_, P>,
 )
     requires of { IsOf shared.now.log pages.old }
     requires pages { IsPaged search.now.program (view pages.old) }

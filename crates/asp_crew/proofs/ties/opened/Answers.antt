@@ -21,14 +21,14 @@ deliver-requires-clause-answer c =
     subst (λ (S : Atoms). IsTrue (is_answer (board c.in_ok-book.book).task S)) (sym c.in_ok-set.ensures)
     (best-answers c.args.compiled.now c.args.ask c.args.best.now (cost c.args.compiled.now c.args.best.now) c.args.budget c.in_ok-book.book c.requires.best begun)
 
-pub returns-clause-task : goal.returns-clause-task
-returns-clause-task c =
+pub returns-in-Ok-clause-task : goal.returns-in-Ok-clause-task
+returns-in-Ok-clause-task c =
     let begun = begun-ties c.args.compiled.now c.args.ask (cost c.args.compiled.now c.args.best.now) c.args.budget c.in_ok-above.above c.as_slice.result.now c.in_ok-state.state c.in_ok-book.book (c.in_ok-above.ensures ∙ c.requires.bound) c.as_slice.ensures
     c.in_ok-state.ensures c.in_ok-book.ensures in
-    opened-task (ties_of c.args.compiled.now c.args.ask (cost c.args.compiled.now c.args.best.now) c.args.budget) c.in_ok-book.book c.deliver.new.self c.in_ok-set.set c.in_ok-_delivered._delivered begun c.in_ok-_delivered.ensures.journal
+    opened-task (ties_of c.args.compiled.now c.args.ask (cost c.args.compiled.now c.args.best.now) c.args.budget) c.in_ok-book.book c.deliver.new.self c.in_ok-set.set c.in-Ok._listed begun c.in-Ok.ensures.journal
 
-pub returns-clause-idle : goal.returns-clause-idle
-returns-clause-idle c =
+pub returns-in-Ok-clause-idle : goal.returns-in-Ok-clause-idle
+returns-in-Ok-clause-idle c =
     let begun = begun-ties c.args.compiled.now c.args.ask (cost c.args.compiled.now c.args.best.now) c.args.budget c.in_ok-above.above c.as_slice.result.now c.in_ok-state.state c.in_ok-book.book (c.in_ok-above.ensures ∙ c.requires.bound) c.as_slice.ensures
     c.in_ok-state.ensures c.in_ok-book.ensures in
-    opened-idle (ties_of c.args.compiled.now c.args.ask (cost c.args.compiled.now c.args.best.now) c.args.budget) c.in_ok-book.book c.deliver.new.self c.in_ok-set.set c.in_ok-_delivered._delivered begun c.in_ok-_delivered.ensures.journal
+    opened-idle (ties_of c.args.compiled.now c.args.ask (cost c.args.compiled.now c.args.best.now) c.args.budget) c.in_ok-book.book c.deliver.new.self c.in_ok-set.set c.in-Ok._listed begun c.in-Ok.ensures.journal

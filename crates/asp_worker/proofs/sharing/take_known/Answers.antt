@@ -4,6 +4,6 @@ use Rattle.asp_worker.proofs.GoingLaws.{fewer-some}
 use Rattle.asp_worker.proofs.sharing.take_known.Goals as goal
 
 pub set_known-requires-clause-some : goal.set_known-requires-clause-some
-set_known-requires-clause-some c =
+set_known-requires-clause-some g c =
     let x = c.args.known in
     fewer-some x.reasoning x.program x.sets (left_to_show c.args.search.now) (sym c.show_more.ensures ∙ c.if-show_more.true)
