@@ -1,7 +1,6 @@
 use Rattle.std.proofs.Common.{cond, List, sym, ap, ◌∙◌}
-use Rattle.std.specs.BTreeSet.{insert_key}
 use Rattle.std.proofs.lemmas.Bool.{ne_eqb}
-use Rattle.asp_model.specs.Sets.{Atoms, set_cmp}
+use Rattle.asp_model.specs.Sets.{Atoms}
 use Rattle.asp_core.specs.Sorting.{with_set}
 use Rattle.asp_core.proofs.CountLaws.{insert_key-with_set}
 use Rattle.asp_core.proofs.state.count_in.Goals as goal

@@ -22,8 +22,8 @@ list-requires-clause-row c =
       set = c.in_ok-row-in-None.ensures.set;
     }
 
-pub invariant_of-self-in-Some-1 : goal.invariant_of-self-in-Some-1
-invariant_of-self-in-Some-1 c =
+pub invariant_of-self-in-Some : goal.invariant_of-self-in-Some
+invariant_of-self-in-Some c =
     let i : Inside = c.self.inside in
     let I = c.self.invariant in
     let k : Option Reasoning = sought i.goal in
