@@ -51,7 +51,7 @@ returns-else-listed-clause-idles g c =
     delivered-idles (view c.args.seat.now) (view c.list.new.seat) k.0 c.list.ensures.stays f.0 c.args.engine.now.search c.args.engine.now.fuel f.1 c.args.set c.args.shared.now.mode (listing-enum c.args.shared.now.mode c.requires.listing) f.2 c.in_ok-listed.listed k.2
 
 pub returns-in_err-listed-clause-stop : goal.returns-in_err-listed-clause-stop
-returns-in_err-listed-clause-stop g c = memory-stop (view c.list.new.seat) c.from_residual-2.result c.from_residual-2.ensures.1
+returns-in_err-listed-clause-stop g c = memory-stop (view c.list.new.seat) c.from_residual-in_err-listed.result c.from_residual-in_err-listed.ensures.1
 
 pub returns-else-listed-clause-stop : goal.returns-else-listed-clause-stop
 returns-else-listed-clause-stop g c =
