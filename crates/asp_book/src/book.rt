@@ -214,7 +214,7 @@ impl Book {
         ensures journal { IfOk result (λ r. self.new ≡ with_events self.old (delivered by set r)) }
         ensures err { OnErr result (self.new ≡ self.old) }
     {
-        if self.state.enough() {
+        if self.enough() {
             return Ok(false);
         }
         make_room(&mut self.journal, self.places, 1)?;

@@ -89,12 +89,12 @@ impl Rows {
     }
 
     /// Adds the set of a row among these atoms at the end. Want of memory leaves all as it was.
-    pub fn push_row(&mut self, row: Row) -> Result<(), AllocError>
-        requires { IsRowOf self.old.atoms row }
-        ensures ok { OnOk result (self.new ≡ record self.old { sets = self.old.sets ++ row.set ∷ [] }) }
+    pub fn push_row(&mut self, added: Row) -> Result<(), AllocError>
+        requires { IsRowOf self.old.atoms added }
+        ensures ok { OnOk result (self.new ≡ record self.old { sets = self.old.sets ++ added.set ∷ [] }) }
         ensures err { OnErr result (self.new ≡ self.old) }
     {
-        self.rows.push(row)?;
+        self.rows.push(added)?;
         Ok(())
     }
 

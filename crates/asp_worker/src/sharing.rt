@@ -253,8 +253,8 @@ fn deliver<R: Wait>(
     ensures ok { OnOk result (GoesOn shared.now.mode (view seat.new) engine.new.search engine.new.fuel) }
     ensures stop { IfErr result (IsStop (view seat.new)) }
 {
-    let listed = desk::deliver(rt, &shared.book, seat, set)?;
-    if listed { Ok(()) } else { Err(Stop::Enough) }
+    let told = desk::deliver(rt, &shared.book, seat, set)?;
+    if told { Ok(()) } else { Err(Stop::Enough) }
 }
 
 // Makes an answer that the search has found the best one, or takes over the cost of one that is no dearer.

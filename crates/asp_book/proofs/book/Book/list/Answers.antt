@@ -26,7 +26,7 @@ invariant_of-self-2 c =
     let guard : Guard i.state.value e = (
       subst (λ (b : Board). IsTrue (lists b.task c.args.set)) (sym at) c.requires.listed,
       subst (λ (b : Board). IsTrue (is_answer b.task c.args.set)) (sym at) c.requires.answer,
-      subst (λ (b : Board). is_enough b ≡ false) c.deref.ensures (sym c.enough.ensures ∙ c.if-enough.false),
+      subst (λ (b : Board). is_enough b ≡ false) (sym at) (sym c.enough.ensures ∙ c.if-enough.false),
     ) in
     let places : i.places ≡ places_of c.list.new.state.value = I.places ∙ sym (ap places_of c.in_ok-list.ensures.state) in
     IsStored-happens i (record i { state = c.list.new.state; journal = c.list.new.journal }) e I guard c.in_ok-list.ensures.state
