@@ -20,13 +20,12 @@ use asp_book::book::Book;
 use asp_counts::counts::Counts;
 use asp_counts::tallies::{Tallies, WorkerCounts, sum_of};
 use asp_counts::watch::Watch;
-use asp_crew::finish::finish;
+use asp_crew::finish::finish_program;
 use asp_crew::proofs::with_proof;
 use asp_crew::reported::reported;
 use asp_crew::ties::with_ties;
 use asp_crew_laws::report::Report;
 use asp_model::results::Ask;
-use asp_propagators::propagators::Propagators;
 use asp_recorder::recorder::Recorder;
 use asp_recorder::scroll::Scroll;
 use asp_vars::compiled::Compiled;
@@ -35,6 +34,7 @@ use asp_worker::gate::Gate;
 use asp_worker::halt::{Halt, NoHalt};
 use asp_worker::worker::Shared;
 use std::alloc::{AllocError, Global};
+use std::mem;
 use std::sync::Wait;
 use std::thread::Threads;
 
@@ -129,15 +129,12 @@ fn work_off<'a, W: Watch>(
     ensures heard { W.IsAfter watch.old watch.new }
 {
     let recorder = if plan.proof { Some(recorder) } else { None };
-    let mut propagators = Propagators::new(alloc, compiled)?;
-    propagators.record(recorder);
-    finish(
+    finish_program(
         alloc,
         compiled,
         plan.ask.mode,
         None,
         book,
-        propagators,
         counts,
         watch,
         recorder,
@@ -170,7 +167,7 @@ fn ended<W: Watch>(
     let (mut book, log, tallies, scroll) = dismissed(shared, lead);
     *deeds = Deeds::of(tallies);
     let recorder = scroll.into_recorder(alloc);
-    let unpaid = work_off(
+    match work_off(
         alloc,
         compiled,
         plan,
@@ -178,8 +175,14 @@ fn ended<W: Watch>(
         &mut deeds.sum,
         watch,
         &recorder,
-    )?;
-    Ok((reported(plan.ask, book, unpaid, log, short), recorder))
+    ) {
+        Ok(unpaid) => Ok((reported(plan.ask, book, unpaid, log, short), recorder)),
+        Err(error) => {
+            mem::drop(book);
+            mem::drop(recorder);
+            Err(error)
+        }
+    }
 }
 
 // The same, with the proof if one is wanted, and else a second search where all optima are asked for.
@@ -208,6 +211,7 @@ fn finished<W: Watch>(
     if plan.proof {
         with_proof(alloc, report, recorder)
     } else {
+        mem::drop(recorder);
         with_ties(alloc, compiled, plan.ask, report, &mut deeds.sum, watch)
     }
 }

@@ -26,6 +26,7 @@ use asp_vars::compiled::Compiled;
 use asp_vault::{Seat, Vault};
 use asp_worker::worker::{Shared, Worker};
 use std::alloc::{AllocError, Global};
+use std::mem;
 use std::sync::Wait;
 
 /// How many entries the log may have.
@@ -92,9 +93,17 @@ fn forked<R: Wait>(
     ensures begun { IfOk result (λ r. IsBegun (task_of compiled.now ask budget) (view r.1)) }
 {
     let (book, mut seat) = start(alloc, compiled, ask, budget)?;
-    fork_all(rt, &book, &mut seat, compiled, paths)?;
-    survey(rt, &book, &mut seat);
-    Ok((book, seat))
+    match fork_all(rt, &book, &mut seat, compiled, paths) {
+        Ok(()) => {
+            survey(rt, &book, &mut seat);
+            Ok((book, seat))
+        }
+        Err(error) => {
+            mem::drop(seat);
+            mem::drop(book);
+            Err(error)
+        }
+    }
 }
 
 // A vault with an empty log, and its first seat.
@@ -196,10 +205,10 @@ pub(crate) fn gathered<R: Wait>(
     ensures team { IfOk result (IsTeam compiled.now ask budget) }
     ensures count { IfOk result (λ team. length team.workers.items ≡ count) }
 {
-    let (book, seat) = forked(rt, alloc, compiled, ask, budget, count)?;
-    let (log, pages) = blank(alloc, compiled)?;
     let (pool, lanes, passes) = Pool::new(alloc, count)?;
     let tallies = Tallies::new(alloc, count)?;
+    let (log, pages) = blank(alloc, compiled)?;
+    let (book, seat) = forked(rt, alloc, compiled, ask, budget, count)?;
     let shared = Shared {
         alloc,
         mode: ask.mode,
@@ -217,10 +226,16 @@ pub(crate) fn gathered<R: Wait>(
         pages,
         short: false,
     };
-    let workers = workers(&shared, &mut lead, lanes, passes)?;
-    Ok(Team {
-        shared,
-        lead,
-        workers,
-    })
+    match workers(&shared, &mut lead, lanes, passes) {
+        Ok(workers) => Ok(Team {
+            shared,
+            lead,
+            workers,
+        }),
+        Err(error) => {
+            mem::drop(lead);
+            mem::drop(shared);
+            Err(error)
+        }
+    }
 }

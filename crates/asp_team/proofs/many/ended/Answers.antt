@@ -31,24 +31,24 @@ work_off-requires-clause-fits g c =
 pub reported-requires-clause-task : goal.reported-requires-clause-task
 reported-requires-clause-task g c =
     run-in c.args.compiled.now c.args.plan.ask c.args.plan.budget c.work_off.new.book.task
-    (c.in_ok-unpaid.ensures.finishes.task
+    (c.in-Ok.ensures.finishes.task
     ∙ book-task c.args.compiled.now c.args.plan.ask c.args.plan.budget c.dismissed-book.result.0 (view c.args.lead.seat) (view c.args.lead.seat) c.dismissed-book.ensures.task refl c.requires.about)
 
-pub returns-clause-report : goal.returns-clause-report
-returns-clause-report g c =
+pub returns-in-Ok-clause-report : goal.returns-in-Ok-clause-report
+returns-in-Ok-clause-report g c =
     report-is c.args.compiled.now c.args.plan.ask c.args.plan.budget c.work_off.new.book.task c.reported.result
-    (c.in_ok-unpaid.ensures.finishes.task
+    (c.in-Ok.ensures.finishes.task
     ∙ book-task c.args.compiled.now c.args.plan.ask c.args.plan.budget c.dismissed-book.result.0 (view c.args.lead.seat) (view c.args.lead.seat) c.dismissed-book.ensures.task refl c.requires.about)
     c.reported.ensures.report
 
-pub returns-clause-shared : goal.returns-clause-shared
-returns-clause-shared g c = λ never begun left.
+pub returns-in-Ok-clause-shared : goal.returns-in-Ok-clause-shared
+returns-in-Ok-clause-shared g c = λ never begun left.
     let b = c.dismissed-book.result.0 in let w = c.work_off.new.book in
     let e = book-task c.args.compiled.now c.args.plan.ask c.args.plan.budget b (view c.args.lead.seat) (view c.args.lead.seat) c.dismissed-book.ensures.task refl c.requires.about in
     let crew = c.dismissed-book.ensures.crew never begun left in
-    let adds = c.in_ok-unpaid.ensures.finishes.adds in
+    let adds = c.in-Ok.ensures.finishes.adds in
     report-shared c.args.compiled.now c.args.plan.ask c.args.plan.budget c.reported.result
-    (report-is c.args.compiled.now c.args.plan.ask c.args.plan.budget w.task c.reported.result (c.in_ok-unpaid.ensures.finishes.task ∙ e) c.reported.ensures.report) c.reported.ensures.second
+    (report-is c.args.compiled.now c.args.plan.ask c.args.plan.budget w.task c.reported.result (c.in-Ok.ensures.finishes.task ∙ e) c.reported.ensures.report) c.reported.ensures.second
     (view c.args.lead.seat).splits c.args.lead.short never begun crew.0 adds.more c.requires.some
     (subst (λ (t : Task). IsCrewGone t (view c.args.lead.seat).splits c.args.lead.short never begun crew.0) e crew.2)
     (c.reported.ensures.journal ∙ adds.journal ∙ ap (λ (l : List Event). l ++ adds.more) crew.1) adds.main c.reported.ensures.short

@@ -14,7 +14,7 @@ fork_all-requires-clause-program g c = ap (λ (x : Knows). (task_of x).program) 
 pub survey-requires-clause-first : goal.survey-requires-clause-first
 survey-requires-clause-first g c = c.fork_all.ensures.stays.number ∙ ap (λ (x : Knows). x.number) c.in_ok-book.ensures.view
 
-pub returns-clause-begun : goal.returns-clause-begun
-returns-clause-begun g c =
+pub returns-in-Ok-clause-begun : goal.returns-in-Ok-clause-begun
+returns-in-Ok-clause-begun g c =
     begun-is (runs.task_of c.args.compiled.now c.args.ask c.args.budget) (view c.in_ok-book.seat) (view c.fork_all.new.seat) (view c.survey.new.seat) c.in_ok-book.ensures.view c.fork_all.ensures.stays c.survey.ensures.stays
     c.survey.ensures.idle c.survey.ensures.new c.fork_all.ensures.forks c.survey.ensures.forks

@@ -17,11 +17,11 @@ workers-requires-clause-even g c = c.in_ok-pool.ensures.passes.0 ∙ sym c.in_ok
 pub workers-requires-clause-passes : goal.workers-requires-clause-passes
 workers-requires-clause-passes g c = λ k x at. (c.in_ok-pool.ensures.passes.1 k x at).0
 
-pub returns-clause-team : goal.returns-clause-team
-returns-clause-team g c = record {
-  lead = c.in_ok-workers.ensures.host.lead;
-  about = c.in_ok-workers.ensures.about ∙ c.in_ok-book.ensures.begun.about;
-  idle = c.in_ok-workers.ensures.host.idle;
-  forks = c.in_ok-workers.ensures.host.forks;
-  ready = c.in_ok-workers.ensures.ready;
+pub returns-in-Ok-clause-team : goal.returns-in-Ok-clause-team
+returns-in-Ok-clause-team g c = record {
+  lead = c.in-Ok.ensures.host.lead;
+  about = c.in-Ok.ensures.about ∙ c.in_ok-book.ensures.begun.about;
+  idle = c.in-Ok.ensures.host.idle;
+  forks = c.in-Ok.ensures.host.forks;
+  ready = c.in-Ok.ensures.ready;
 }
