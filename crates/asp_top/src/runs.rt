@@ -23,6 +23,7 @@ use asp_io::{Failed, Sink, Source};
 use asp_team::gate::Gate;
 use asp_vars::compiled::Compiled;
 use std::alloc::Global;
+use std::mem;
 use std::sync::Wait;
 use std::thread::Threads;
 
@@ -99,7 +100,11 @@ fn outcome_alone<S: Source, K: Sink, W: Watch>(
     ensures heard { W.IsAfter watch.old watch.new }
 {
     match prepare(alloc, options, source) {
-        Ok(compiled) => divide_or_solve(alloc, options, &compiled, sink, tally, watch),
+        Ok(compiled) => {
+            let outcome = divide_or_solve(alloc, options, &compiled, sink, tally, watch);
+            mem::drop(compiled);
+            outcome
+        }
         Err(status) => failed(status),
     }
 }
@@ -126,7 +131,11 @@ fn outcome_by_crew<R: Threads + Wait + Sync, S: Source, K: Sink, G: Gate + Sync,
     ensures heard { W.IsAfter watch result.1 }
 {
     match prepare(alloc, options, source) {
-        Ok(compiled) => solve_by_crew(rt, alloc, options, &compiled, sink, gate, tally, watch),
+        Ok(compiled) => {
+            let done = solve_by_crew(rt, alloc, options, &compiled, sink, gate, tally, watch);
+            mem::drop(compiled);
+            done
+        }
         Err(status) => (failed(status), watch),
     }
 }
