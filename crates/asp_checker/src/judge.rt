@@ -31,6 +31,7 @@ use asp_vars::lit::Lit;
 use asp_vars::nogood::Nogood;
 use std::alloc::{AllocError, Global};
 use std::cmp::Ordering;
+use std::mem;
 
 /// Why a line of a proof isn't right.
 #[derive(Clone, Copy)]
@@ -496,7 +497,7 @@ fn judge_lines(
     let first = rows.as_slice();
     let mut values = first_root(alloc, compiled, first, bound, &mut watches)?;
     let assumed = assumptions.as_slice();
-    judge_each(
+    let outcome = judge_each(
         alloc,
         compiled,
         &mut rows,
@@ -505,7 +506,9 @@ fn judge_lines(
         &mut watches,
         &mut values,
         lines,
-    )
+    );
+    mem::drop(watches);
+    outcome
 }
 
 fn either(one: bool, other: bool) -> bool

@@ -17,6 +17,7 @@ use asp_read::read_program;
 use asp_vars::compile::compile;
 use itoa::Buffer;
 use std::alloc::{AllocError, Global};
+use std::mem;
 
 /// Why no proof was judged.
 #[derive(Clone, Copy)]
@@ -75,7 +76,9 @@ fn judge_by(alloc: Global, program: Program, proof: &Proof) -> Result<Judgement,
     ensures shows { IfOk result (λ j. j ≡ Judgement.Yes → Shows program proof.now) }
 {
     let compiled = compile(alloc, program)?;
-    judge(alloc, &compiled, proof)
+    let judgement = judge(alloc, &compiled, proof);
+    mem::drop(compiled);
+    judgement
 }
 
 fn judge_read(alloc: Global, program: Program, proof: &Proof) -> Result<Judgement, CheckError>

@@ -5,7 +5,7 @@ use Rattle.asp_checker.proofs.RunLaws.{ends_shown}
 use Rattle.asp_checker.proofs.run.judge_by.Goals as goal
 
 pub returns-clause-judged : goal.returns-clause-judged
-returns-clause-judged c = subst (λ p. IfOk c.judge.result (IsJudged p c.args.proof.now)) c.in_ok-compiled.ensures c.judge.ensures
+returns-clause-judged c = subst (λ p. IfOk c.judge-judgement.result (IsJudged p c.args.proof.now)) c.in_ok-compiled.ensures c.judge-judgement.ensures
 
 pub returns-clause-shows : goal.returns-clause-shows
-returns-clause-shows c = ends_shown c.args.program c.in_ok-compiled.compiled c.args.proof.now c.judge.result c.in_ok-compiled.ensures c.requires c.judge.ensures
+returns-clause-shows c = ends_shown c.args.program c.in_ok-compiled.compiled c.args.proof.now c.judge-judgement.result c.in_ok-compiled.ensures c.requires c.judge-judgement.ensures
