@@ -129,7 +129,7 @@ pub(crate) fn open_externals(
     rules: &[Rule],
     externals: Seq<External>,
 ) -> Result<Seq<External>, AllocError>
-    ensures { IfOk result (λ open. open ≡ filter (λ e. not (has (heads_of rules.now) e.atom)) externals) }
+    ensures { IfOk result (λ kept. kept ≡ filter (λ e. not (has (heads_of rules.now) e.atom)) externals) }
 {
     if externals.as_slice().is_empty() {
         return Ok(externals);
