@@ -1,4 +1,4 @@
-use Rattle.asp_settle.proofs.RuleLaws.{step-left}
+use Rattle.asp_settle.proofs.StableLaws.{answers-left}
 use Rattle.asp_settle.proofs.laws.settled_answers_are_the_same.Goals as goal
 
 pub returns : goal.returns
