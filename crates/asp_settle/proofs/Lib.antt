@@ -1,3 +1,5 @@
 pub mod ReadLaws
 pub mod RuleLaws
 pub mod StableLaws
+pub mod FactLaws
+pub mod TextLaws
