@@ -3,3 +3,4 @@ pub mod RuleLaws
 pub mod StableLaws
 pub mod FactLaws
 pub mod TextLaws
+pub mod OpenLaws
