@@ -4,3 +4,4 @@ pub mod StableLaws
 pub mod FactLaws
 pub mod TextLaws
 pub mod OpenLaws
+pub mod SoundLaws
