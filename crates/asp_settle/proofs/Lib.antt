@@ -5,3 +5,4 @@ pub mod FactLaws
 pub mod TextLaws
 pub mod OpenLaws
 pub mod SoundLaws
+pub mod MentionLaws
