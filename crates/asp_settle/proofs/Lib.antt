@@ -6,3 +6,4 @@ pub mod TextLaws
 pub mod OpenLaws
 pub mod SoundLaws
 pub mod MentionLaws
+pub mod ResultLaws
