@@ -7,3 +7,4 @@ pub mod OpenLaws
 pub mod SoundLaws
 pub mod MentionLaws
 pub mod ResultLaws
+pub mod TableLaws

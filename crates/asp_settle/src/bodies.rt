@@ -28,11 +28,8 @@ fn without_facts(facts: &FactTable, literals: Seq<i32>) -> Seq<i32>
     ensures { result ≡ filter (λ l. not (has facts.now (atom_of l))) literals }
 {
     let mut literals = literals.into_vec();
-    let count = literals.len();
     literals.retain(|literal| !facts.has(literal.unsigned_abs()));
-    if literals.len() < count {
-        literals.shrink_to_fit();
-    }
+    literals.shrink_to_fit();
     Seq::from_vec(literals)
 }
 
@@ -50,11 +47,8 @@ fn settled_items(facts: &FactTable, items: Seq<(i32, i32)>) -> Seq<(i32, i32)>
     ensures { result ≡ settled_items facts.now items }
 {
     let mut items = items.into_vec();
-    let count = items.len();
     items.retain(|(literal, _)| !facts.has(literal.unsigned_abs()));
-    if items.len() < count {
-        items.shrink_to_fit();
-    }
+    items.shrink_to_fit();
     Seq::from_vec(items)
 }
 
