@@ -8,3 +8,5 @@ pub mod SoundLaws
 pub mod MentionLaws
 pub mod ResultLaws
 pub mod TableLaws
+pub mod WeightLaws
+pub mod WalkLaws

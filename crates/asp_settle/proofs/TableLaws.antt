@@ -3,7 +3,7 @@ use Rattle.std.proofs.Common.{◌≡◌, ℕ, zero, suc, ◌+◌, ◌-◌, ◌<�
 use Rattle.std.specs.List.{AllByRecursion}
 use Rattle.std.proofs.lemmas.Bool.{and_from, and_left, and_right, cases_eq, cases_lt, cond-false, cond-true, eq-eqb, false≢true, le-ltb, lt-ltb, ltb-false, ne_eqb, or_left}
 use Rattle.std.proofs.lemmas.Bool.Decides.{nat_tests}
-use Rattle.std.proofs.lemmas.List.{get_or-set_other, get_or-set_same, get_or_past, length-replicate, length-set, length-take, set_past, take_more}
+use Rattle.std.proofs.lemmas.List.{append-nil, get_or-set_other, get_or-set_same, get_or_past, length-replicate, length-set, length-take, set_past, take_more}
 use Rattle.asp_model.specs.Sets.{Atoms, IsAscending, has, set_of}
 use Rattle.asp_model.proofs.SetLaws.{IsAscending-set_of, has-below, has-set_of, same_from_has}
 use Rattle.asp_model.proofs.ConsequenceLaws.{ascends-filter, has-filter}
@@ -40,11 +40,17 @@ places-push n [] false = refl
 places-push n (true ∷ flags) b = ap (λ xs. n ∷ xs) (places-push (suc n) flags b ∙ ap (λ k. places_from (suc n) flags ++ cond b (k ∷ []) []) (omega arith))
 places-push n (false ∷ flags) b = places-push (suc n) flags b ∙ ap (λ k. places_from (suc n) flags ++ cond b (k ∷ []) []) (omega arith)
 
-pub places_more : (flags : List Bool) (i : ℕ) → i < length flags → places_from 0 (take (i + 1) flags) ≡ places_from 0 (take i flags) ++ cond (get_or flags i false) (i ∷ []) []
+places_more : (flags : List Bool) (i : ℕ) → i < length flags → places_from 0 (take (i + 1) flags) ≡ places_from 0 (take i flags) ++ cond (get_or flags i false) (i ∷ []) []
 places_more flags i lt =
     ap (places_from 0) (take_more flags i false lt)
     ∙ places-push 0 (take i flags) (get_or flags i false)
     ∙ ap (λ k. places_from 0 (take i flags) ++ cond (get_or flags i false) (k ∷ []) []) (omega (arith, length-take i flags))
+
+pub places_pushed : (flags : List Bool) (i : ℕ) (xs : Atoms) → i < length flags → xs ≡ places_from 0 (take i flags) → get_or flags i false ≡ true → xs ++ i ∷ [] ≡ places_from 0 (take (i + 1) flags)
+places_pushed flags i xs lt e up = ap (λ ys. ys ++ i ∷ []) e ∙ ap (λ b. places_from 0 (take i flags) ++ cond b (i ∷ []) []) (sym up) ∙ sym (places_more flags i lt)
+
+pub places_passed : (flags : List Bool) (i : ℕ) (xs : Atoms) → i < length flags → xs ≡ places_from 0 (take i flags) → get_or flags i false ≡ false → xs ≡ places_from 0 (take (i + 1) flags)
+places_passed flags i xs lt e down = e ∙ sym (append-nil (places_from 0 (take i flags))) ∙ ap (λ b. places_from 0 (take i flags) ++ cond b (i ∷ []) []) (sym down) ∙ sym (places_more flags i lt)
 
 -- ---- flags
 set_at : (flags : List Bool) (a : ℕ) (b : Bool) → a < length flags → get_or (set flags a b) a false ≡ cond (eqb a a && ltb a (length flags)) b (get_or flags a false)

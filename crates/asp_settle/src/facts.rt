@@ -123,6 +123,14 @@ fn lower_needed(flags: &mut [bool], program: &Program)
     lower_literals(flags, program.assumptions.as_slice());
 }
 
+// Raises the flags of the facts that nothing else needs.
+fn mark(flags: &mut [bool], program: &Program)
+    ensures { flags.new ≡ with_flags false (with_flags true flags.old (flat_map fact_of program.now.rules)) (needed program.now) }
+{
+    raise_facts(flags, program.rules.as_slice());
+    lower_needed(flags, program);
+}
+
 fn no_flags(alloc: Global, count: usize) -> Result<Vec<bool>, AllocError>
     ensures { IfOk result (λ flags. flags.items ≡ replicate count false) }
 {
@@ -135,10 +143,8 @@ impl FactTable {
         requires { IsSound program.now }
         ensures { IfOk result (λ table. table ≡ facts_of program.now) }
     {
-        let rules = program.rules.as_slice();
-        let mut flags = no_flags(alloc, places(rules))?;
-        raise_facts(flags.as_mut_slice(), rules);
-        lower_needed(flags.as_mut_slice(), program);
+        let mut flags = no_flags(alloc, places(program.rules.as_slice()))?;
+        mark(flags.as_mut_slice(), program);
         Ok(FactTable { flags })
     }
 
