@@ -61,6 +61,12 @@ heads-left F rs a h =
 abbrev is_open : Atoms → External → Bool
 is_open H e = not (has H e.atom)
 
+pub open-set : (H : List ℕ) (es : List External) → filter (λ e. not (has (set_of H) e.atom)) es ≡ filter (λ e. not (has H e.atom)) es
+open-set H [] = refl
+open-set H (e ∷ es) =
+    ap (λ b. cond (not b) (e ∷ filter (λ x. not (has (set_of H) x.atom)) es) (filter (λ x. not (has (set_of H) x.atom)) es)) (has-set_of H e.atom)
+    ∙ ap (λ xs. cond (is_open H e) (e ∷ xs) xs) (open-set H es)
+
 -- what the externals on an atom say in the end, where v was said before
 abbrev last_from : List External → ℕ → ExternalValue → ExternalValue
 last_from es a v = fold (λ u e. cond (eqb e.atom a) e.value u) v es

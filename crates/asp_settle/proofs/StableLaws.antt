@@ -1,19 +1,19 @@
 -- A set is a stable model of what is left exactly where with the facts it is one of the program.
-use Rattle.std.proofs.Common.{◌≡◌, ℕ, suc, ◌<◌, Bool, true, false, not, ◌&&◌, ◌||◌, List, [], ◌∷◌, length, map, filter, flat_map, get_or, fold, refl, sym, ap, ◌∙◌, subst, arith, inl, inr, Contains, ◌↔◌, ℤ}
+use Rattle.std.proofs.Common.{◌≡◌, ℕ, suc, ◌<◌, Bool, true, false, not, ◌&&◌, ◌||◌, eqb, List, [], ◌∷◌, ◌++◌, length, map, filter, flat_map, get_or, fold, refl, sym, ap, ◌∙◌, subst, arith, inl, inr, Contains, ◌↔◌, ℤ}
 use Rattle.std.specs.List.{AllByRecursion, AllPairs, list_any}
 use Rattle.std.specs.Cmp.Lexicographic.{same_text}
 use Rattle.std.proofs.lemmas.Bool.{and_from, and_parts, both_ways, cases_Bool, false_from_ne_true, or_cases, or_from, or_left, or_right, true≢false}
 use Rattle.std.proofs.lemmas.List.{get_or_default}
 use Rattle.std.proofs.lemmas.List.Elements.{recursion_from_All}
-use Rattle.std.proofs.lemmas.List.Folds.{Any-from_list_any}
+use Rattle.std.proofs.lemmas.List.Folds.{Any-from_list_any, list_any-append}
 use Rattle.asp_model.specs.declared.program.Program.{Program}
 use Rattle.asp_model.specs.declared.program.Rule.{Rule}
-use Rattle.asp_model.specs.Sets.{Atoms, IsAscending, IsBefore, IsSubset, has, same_set, with_atom}
+use Rattle.asp_model.specs.Sets.{Atoms, IsAscending, IsBefore, IsSubset, has, same_set, set_of, with_atom}
 use Rattle.asp_model.specs.Reduct.{reduct, step}
 use Rattle.asp_model.specs.Holding.{all_hold}
 use Rattle.asp_model.specs.Models.{answers, is_stable, is_violated, least_model, rules_in_force}
 use Rattle.asp_model.specs.Sound.{HasBody, IsSound}
-use Rattle.asp_model.proofs.SetLaws.{IsAscending-with_atom, same_from_has}
+use Rattle.asp_model.proofs.SetLaws.{IsAscending-set_of, IsAscending-with_atom, has-set_of, same_from_has}
 use Rattle.asp_model.proofs.MemberLaws.{each_of, list_any-map, list_any-weaker}
 use Rattle.asp_model.proofs.StepLaws.{closed_from_step}
 use Rattle.asp_model.proofs.ListedLaws.{contains_from_test, same_from_members, same_set-itself, test_from_contains}
@@ -46,6 +46,12 @@ has-rest F S a = has-filter (λ b. not (has F b)) S a
 pub united-ascends : (F S : Atoms) → IsAscending S → IsAscending (united F S)
 united-ascends [] S up = up
 united-ascends (a ∷ F) S up = united-ascends F (with_atom a S) (IsAscending-with_atom a S up)
+
+-- a list of the atoms of both
+pub united-from : (F S : Atoms) (atoms : List ℕ) → IsAscending S → atoms ≡ S ++ F → set_of atoms ≡ united F S
+united-from F S atoms up e =
+    same_from_has (set_of atoms) (united F S) (IsAscending-set_of atoms) (united-ascends F S up) (λ a.
+    has-set_of atoms a ∙ ap (λ xs. has xs a) e ∙ list_any-append (λ b. eqb b a) S F ∙ sym (has-united F S a))
 
 parted : (f s : Bool) → (f ≡ true → s ≡ true) → ((not f && s) || f) ≡ s
 parted true s h = sym (h refl)
