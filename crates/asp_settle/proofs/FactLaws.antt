@@ -1,6 +1,6 @@
 -- The facts are in each least model, and no literal of an assumption or a minimize statement is theirs.
-use Rattle.std.proofs.Common.{◌≡◌, ℕ, Bool, true, false, not, cond, ◌&&◌, ◌||◌, eqb, nat_lt, List, [], ◌∷◌, ◌++◌, map, filter, flat_map, ℤ, pos, ◌+ℤ◌, refl, sym, ap, ◌∙◌}
-use Rattle.std.specs.List.{list_any, list_all}
+use Rattle.std.proofs.Common.{◌≡◌, ℕ, true, false, not, cond, ◌&&◌, ◌||◌, eqb, nat_lt, List, [], ◌∷◌, ◌++◌, map, flat_map, ℤ, pos, ◌+ℤ◌, refl, sym, ap, ◌∙◌}
+use Rattle.std.specs.List.{list_any}
 use Rattle.std.proofs.lemmas.Bool.{and_from, and_parts, both_ways, eq-eqb, false≢true, false_from_ne_true, not-true, or_left, or_right}
 use Rattle.std.proofs.lemmas.List.Folds.{list_any-append}
 use Rattle.asp_model.specs.declared.program.Body.{Body}
@@ -14,7 +14,7 @@ use Rattle.asp_model.specs.Sets.{Atoms, IsAscending, IsSubset, has, set_of}
 use Rattle.asp_model.specs.Holding.{all_hold, atom_of, holds, is_positive, weight_of}
 use Rattle.asp_model.specs.Costs.{cost, cost_at, priorities}
 use Rattle.asp_model.specs.Reading.{body_holds_between}
-use Rattle.asp_model.specs.Reduct.{reduct, reduct_heads, step}
+use Rattle.asp_model.specs.Reduct.{reduct_heads}
 use Rattle.asp_model.specs.Models.{least_model, rules_in_force}
 use Rattle.asp_model.specs.Opening.{opened_rules}
 use Rattle.asp_model.specs.Sound.{IsSound}

@@ -1,5 +1,5 @@
 -- The facts are atoms of the program, and none of them stands in what is left.
-use Rattle.std.proofs.Common.{◌≡◌, ℕ, Bool, true, false, not, cond, ◌&&◌, ◌||◌, eqb, List, [], ◌∷◌, ◌++◌, map, filter, flat_map, ℤ, refl, sym, ap, ◌∙◌}
+use Rattle.std.proofs.Common.{◌≡◌, ℕ, Bool, true, false, not, cond, ◌&&◌, eqb, List, [], ◌∷◌, ◌++◌, map, filter, flat_map, ℤ, refl, sym, ap, ◌∙◌}
 use Rattle.std.specs.List.{AllByRecursion, list_any}
 use Rattle.std.proofs.lemmas.Bool.{both_ways, ne_eqb, or_from, or_left, or_parts}
 use Rattle.std.proofs.lemmas.List.Folds.{list_any-append}
@@ -16,7 +16,7 @@ use Rattle.asp_model.specs.Models.{atoms_of, head_atoms, mentions}
 use Rattle.asp_model.proofs.SetLaws.{has-set_of}
 use Rattle.asp_model.proofs.MemberLaws.{each-flat_map, each-map, each_of, each_weaker, list_any-flat_map, list_any-weaker}
 use Rattle.asp_model.proofs.ConsequenceLaws.{has-filter}
-use Rattle.asp_settle.specs.Settled.{facts_of, heads_of, is_barred, left_of, needed, settled_body, settled_head, settled_literals, settled_output, settled_rule}
+use Rattle.asp_settle.specs.Settled.{facts_of, heads_of, is_barred, left_of, settled_body, settled_head, settled_literals, settled_output, settled_rule}
 use Rattle.asp_settle.proofs.FactLaws.{fact-unneeded}
 use Rattle.asp_settle.proofs.OpenLaws.{facts-heads}
 
@@ -27,8 +27,8 @@ pub facts-stand : (p : Program) → IsSubset (facts_of p) (atoms_of p)
 facts-stand p a h =
     let heads : list_any (λ (r : Rule). has (head_atoms r.head) a) p.rules ≡ true = sym (list_any-flat_map (λ b. eqb b a) (λ (r : Rule). head_atoms r.head) p.rules) ∙ facts-heads p a h in
     let rules : has (flat_map atoms_at p.rules) a ≡ true =
-        list_any-flat_map (λ b. eqb b a) atoms_at p.rules ∙ list_any-weaker (λ (r : Rule). has (head_atoms r.head) a) (λ r. has (atoms_at r) a) p.rules (each_of (λ r. has (head_atoms r.head) a ≡ true → has (atoms_at r) a ≡ true) (λ r e.
-        list_any-append (λ b. eqb b a) (head_atoms r.head) (body_atoms r.body) ∙ or_left (has (head_atoms r.head) a) (has (body_atoms r.body) a) e) p.rules) heads in
+    list_any-flat_map (λ b. eqb b a) atoms_at p.rules ∙ list_any-weaker (λ (r : Rule). has (head_atoms r.head) a) (λ r. has (atoms_at r) a) p.rules (each_of (λ r. has (head_atoms r.head) a ≡ true → has (atoms_at r) a ≡ true) (λ r e.
+    list_any-append (λ b. eqb b a) (head_atoms r.head) (body_atoms r.body) ∙ or_left (has (head_atoms r.head) a) (has (body_atoms r.body) a) e) p.rules) heads in
     let outputs : List ℕ = flat_map (λ o. map atom_of o.condition) p.outputs in
     let items : List ℕ = flat_map (λ m. map (λ item. atom_of item.0) m.items) p.minimize in
     let externals : List ℕ = map (λ e. e.atom) p.externals in

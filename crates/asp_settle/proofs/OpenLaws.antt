@@ -1,7 +1,7 @@
 -- The rules in force of what is left are those of the program, each without the facts.
 use Rattle.std.proofs.Common.{◌≡◌, ℕ, Bool, true, false, not, cond, ◌&&◌, ◌||◌, eqb, List, [], ◌∷◌, ◌++◌, map, filter, flat_map, fold, refl, sym, ap, ◌∙◌, inl, inr}
 use Rattle.std.specs.List.{AllByRecursion, list_any}
-use Rattle.std.proofs.lemmas.Bool.{and_parts, both_ways, false_from_ne_true, false≢true, ne_eqb, eqb-true, not-true, not-false, or_cases}
+use Rattle.std.proofs.lemmas.Bool.{and_parts, both_ways, false_from_ne_true, false≢true, ne_eqb, eqb-true, not-true, or_cases}
 use Rattle.std.proofs.lemmas.List.Concat.{flat_map-append}
 use Rattle.asp_model.specs.declared.program.Body.TheVariants as body
 use Rattle.asp_model.specs.declared.program.Head.{Head}
@@ -15,9 +15,9 @@ use Rattle.asp_model.specs.Sets.{Atoms, IsSubset, has, set_of}
 use Rattle.asp_model.specs.Models.{external_rule, head_atoms, last_value, open_atoms, rules_in_force}
 use Rattle.asp_model.specs.Opening.{opened_rules}
 use Rattle.asp_model.proofs.SetLaws.{IsAscending-set_of, has-set_of, same_from_has}
-use Rattle.asp_model.proofs.MemberLaws.{each_weaker, list_any-filter, list_any-flat_map, list_any-map, list_any-weaker, each_of}
+use Rattle.asp_model.proofs.MemberLaws.{each_weaker, list_any-flat_map, list_any-weaker, each_of}
 use Rattle.asp_model.proofs.ConsequenceLaws.{ascends-filter, has-filter}
-use Rattle.asp_settle.specs.Settled.{fact_of, facts_of, heads_of, is_always, left_of, settled_body, settled_head, settled_rule, single}
+use Rattle.asp_settle.specs.Settled.{fact_of, facts_of, heads_of, is_always, left_of, settled_head, settled_rule, single}
 use Rattle.asp_settle.proofs.RuleLaws.{parts-read}
 use Rattle.asp_settle.proofs.FactLaws.{fact-given}
 

@@ -1,15 +1,13 @@
 -- What is left of literals, bodies and rules reads in two sets as the whole does in the sets with the facts.
-use Rattle.std.proofs.Common.{◌≡◌, ℕ, suc, Bool, true, false, not, cond, ◌&&◌, ◌||◌, eqb, List, [], ◌∷◌, ◌++◌, map, filter, flat_map, ℤ, pos, negsuc, ◌+ℤ◌, ◌-ℤ◌, ◌≤ℤ◌, int_le, refl, sym, ap, ◌∙◌, arith}
+use Rattle.std.proofs.Common.{◌≡◌, ℕ, suc, Bool, true, false, not, cond, ◌&&◌, ◌||◌, List, [], ◌∷◌, filter, ℤ, pos, negsuc, ◌+ℤ◌, ◌≤ℤ◌, int_le, refl, sym, ap, ◌∙◌, arith}
 use Rattle.std.specs.List.{list_any, list_all}
 use Rattle.std.proofs.lemmas.Int.{ints}
 use Rattle.std.proofs.lemmas.Bool.{and_parts}
 use Rattle.asp_model.specs.declared.program.Body.{Body}
 use Rattle.asp_model.specs.declared.program.Body.TheVariants as body
-use Rattle.asp_model.specs.declared.program.Head.{Head}
 use Rattle.asp_model.specs.declared.program.Head.TheVariants as head
-use Rattle.asp_model.specs.declared.program.Rule.{Rule}
 use Rattle.asp_model.specs.Sets.{Atoms, has}
-use Rattle.asp_model.specs.Holding.{atom_of, is_negative, is_positive, holds, all_hold, weight_of}
+use Rattle.asp_model.specs.Holding.{atom_of, is_positive, holds}
 use Rattle.asp_model.specs.Reading.{holds_between, weight_between, body_holds_between}
 use Rattle.asp_model.specs.Sound.{is_weighted, is_sound_body}
 use Rattle.asp_model.proofs.SetLaws.{has-fold}

@@ -1,12 +1,12 @@
 -- Optima, some of the answers and what they have in common are those of what is left, with the facts.
-use Rattle.std.proofs.Common.{◌≡◌, ℕ, Bool, true, false, not, cond, ◌&&◌, ◌||◌, List, [], ◌∷◌, map, filter, Option, None, Some, refl, sym, ap, ◌∙◌}
+use Rattle.std.proofs.Common.{◌≡◌, ℕ, Bool, true, false, not, cond, ◌&&◌, ◌||◌, List, [], ◌∷◌, map, filter, Some, refl, sym, ap, ◌∙◌}
 use Rattle.std.specs.List.{AllByRecursion, list_any, list_all}
 use Rattle.std.specs.Prelude.{option_map}
 use Rattle.std.proofs.lemmas.Bool.{and_from, and_parts, or_left, or_right}
 use Rattle.asp_model.specs.declared.program.Program.{Program}
 use Rattle.asp_model.specs.declared.results.Reasoning.{Reasoning}
 use Rattle.asp_model.specs.declared.results.Reasoning.TheVariants.{Brave, Cautious}
-use Rattle.asp_model.specs.Sets.{Atoms, IsAscending, IsSubset, has}
+use Rattle.asp_model.specs.Sets.{Atoms, IsAscending, has}
 use Rattle.asp_model.specs.Consequences.{consequences, consequences_of}
 use Rattle.asp_model.specs.Costs.{betters, cost, optima}
 use Rattle.asp_model.specs.Models.{answers, atoms_of, is_stable}
@@ -21,7 +21,7 @@ use Rattle.asp_settle.proofs.FactLaws.{assumed-left, cost-left, facts-ascend, fa
 use Rattle.asp_settle.proofs.OpenLaws.{force-left}
 use Rattle.asp_settle.proofs.SoundLaws.{sound-left}
 use Rattle.asp_settle.proofs.MentionLaws.{facts-stand}
-use Rattle.asp_settle.proofs.StableLaws.{HasAnswersOf, IsApart, IsLeft, answers-left, each-contained, rest, rest-united, stable-apart, stable-left, united-ascends}
+use Rattle.asp_settle.proofs.StableLaws.{IsApart, IsLeft, answers-left, each-contained, rest, rest-united, stable-apart, stable-left, united-ascends}
 
 pub is-left : (p : Program) → IsSound p → IsLeft (facts_of p) p (left_of p)
 is-left p sound = record { ascending = facts-ascend p; rules = force-left p; derived = facts-derived p sound; whole = sound; sound = sound-left p sound }

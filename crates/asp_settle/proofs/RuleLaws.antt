@@ -1,12 +1,12 @@
 -- What is left of a rule derives what the rule does, but for the facts, and is violated where the rule is.
-use Rattle.std.proofs.Common.{◌≡◌, ℕ, Bool, true, false, not, cond, ◌&&◌, ◌||◌, eqb, List, [], ◌∷◌, ◌++◌, map, filter, flat_map, refl, sym, ap, ◌∙◌}
+use Rattle.std.proofs.Common.{◌≡◌, ℕ, Bool, true, false, not, cond, ◌&&◌, ◌||◌, eqb, List, [], ◌∷◌, map, filter, flat_map, refl, sym, ap, ◌∙◌}
 use Rattle.std.specs.List.{AllByRecursion, list_any}
 use Rattle.std.proofs.lemmas.Bool.{both_ways, ne_eqb}
 use Rattle.asp_model.specs.declared.program.Body.{Body}
 use Rattle.asp_model.specs.declared.program.Head.{Head}
 use Rattle.asp_model.specs.declared.program.Head.TheVariants as head
 use Rattle.asp_model.specs.declared.program.Rule.{Rule}
-use Rattle.asp_model.specs.Sets.{Atoms, has, set_of}
+use Rattle.asp_model.specs.Sets.{Atoms, has}
 use Rattle.asp_model.specs.Holding.{body_holds}
 use Rattle.asp_model.specs.Reading.{body_holds_between, derived_heads}
 use Rattle.asp_model.specs.Reduct.{reduct, reduct_heads, step}

@@ -1,5 +1,5 @@
 -- What is left is within the ranges and limits.
-use Rattle.std.proofs.Common.{◌≡◌, ℕ, ◌+◌, ◌≤◌, Bool, true, false, not, cond, ◌&&◌, leb, List, [], ◌∷◌, ◌++◌, length, map, filter, flat_map, ℤ, refl, sym, ap, ◌∙◌, arith}
+use Rattle.std.proofs.Common.{◌≡◌, ℕ, ◌+◌, ◌≤◌, Bool, true, false, not, cond, ◌&&◌, leb, List, [], ◌∷◌, length, map, filter, flat_map, ℤ, refl, arith}
 use Rattle.std.specs.List.{AllByRecursion, list_any, list_all, sum_by}
 use Rattle.std.proofs.lemmas.Bool.{and_from, and_parts, le-leb, leb-true}
 use Rattle.std.proofs.lemmas.List.{length-append}
@@ -15,7 +15,7 @@ use Rattle.asp_model.specs.Sets.{Atoms, has}
 use Rattle.asp_model.specs.Holding.{atom_of}
 use Rattle.asp_model.specs.Sound.{IsSound, has_room, is_atom, is_literal, is_sound_body, is_sound_head, is_sound_output, is_sound_rule, is_weighted, weighted_count, weighted_total}
 use Rattle.asp_model.proofs.MemberLaws.{each-flat_map, each-map, each_passes, each_weaker}
-use Rattle.asp_settle.specs.Settled.{facts_of, heads_of, is_barred, left_of, settled_body, settled_head, settled_items, settled_literals, settled_output, settled_rule}
+use Rattle.asp_settle.specs.Settled.{facts_of, heads_of, is_barred, left_of, settled_body, settled_head, settled_literals, settled_output, settled_rule}
 
 all_from : {X : Type 0} (p : X → Bool) (xs : List X) → AllByRecursion (λ x. p x ≡ true) xs → list_all p xs ≡ true
 all_from p [] h = refl
@@ -143,8 +143,8 @@ sound-left p sound = record {
   assumptions = sound.assumptions;
   weighted = below-limit (weighted_total (left_of p)) (weighted_total p) 16777216 (omega (arith, weighted-left (facts_of p) p.rules)) sound.weighted;
   room = five (has_room p.rules) (has_room p.minimize) (has_room p.outputs) (has_room p.externals) (has_room p.assumptions) _ _ _
-    (below-limit (length (flat_map (settled_rule (facts_of p)) p.rules)) (length p.rules) 268435456 (fewer-left (settled_rule (facts_of p)) (λ r. (few-rule (facts_of p) r).0) p.rules))
-    (below-limit (length (flat_map (settled_output (facts_of p)) p.outputs)) (length p.outputs) 268435456 (fewer-left (settled_output (facts_of p)) (one_output (facts_of p)) p.outputs))
-    (below-limit (length (filter (λ e. not (has (heads_of p.rules) e.atom)) p.externals)) (length p.externals) 268435456 (fewer-filter (λ e. not (has (heads_of p.rules) e.atom)) p.externals))
-    sound.room;
+      (below-limit (length (flat_map (settled_rule (facts_of p)) p.rules)) (length p.rules) 268435456 (fewer-left (settled_rule (facts_of p)) (λ r. (few-rule (facts_of p) r).0) p.rules))
+      (below-limit (length (flat_map (settled_output (facts_of p)) p.outputs)) (length p.outputs) 268435456 (fewer-left (settled_output (facts_of p)) (one_output (facts_of p)) p.outputs))
+      (below-limit (length (filter (λ e. not (has (heads_of p.rules) e.atom)) p.externals)) (length p.externals) 268435456 (fewer-filter (λ e. not (has (heads_of p.rules) e.atom)) p.externals))
+      sound.room;
 }

@@ -1,13 +1,12 @@
 -- A set is a stable model of what is left exactly where with the facts it is one of the program.
-use Rattle.std.proofs.Common.{◌≡◌, ℕ, suc, ◌<◌, Bool, true, false, not, ◌&&◌, ◌||◌, eqb, List, [], ◌∷◌, ◌++◌, length, map, filter, flat_map, get_or, fold, refl, sym, ap, ◌∙◌, subst, arith, inl, inr, Contains, ◌↔◌, ℤ}
+use Rattle.std.proofs.Common.{◌≡◌, ℕ, suc, Bool, true, false, not, ◌&&◌, ◌||◌, eqb, List, [], ◌∷◌, ◌++◌, map, filter, flat_map, get_or, refl, sym, ap, ◌∙◌, subst, arith, inl, inr, Contains}
 use Rattle.std.specs.List.{AllByRecursion, AllPairs, list_any}
 use Rattle.std.specs.Cmp.Lexicographic.{same_text}
-use Rattle.std.proofs.lemmas.Bool.{and_from, and_parts, both_ways, cases_Bool, false_from_ne_true, or_cases, or_from, or_left, or_right, true≢false}
+use Rattle.std.proofs.lemmas.Bool.{and_parts, both_ways, false_from_ne_true, or_cases, or_from, or_left, or_right}
 use Rattle.std.proofs.lemmas.List.{get_or_default}
 use Rattle.std.proofs.lemmas.List.Elements.{recursion_from_All}
 use Rattle.std.proofs.lemmas.List.Folds.{Any-from_list_any, list_any-append}
 use Rattle.asp_model.specs.declared.program.Program.{Program}
-use Rattle.asp_model.specs.declared.program.Rule.{Rule}
 use Rattle.asp_model.specs.Sets.{Atoms, IsAscending, IsBefore, IsSubset, has, same_set, set_of, with_atom}
 use Rattle.asp_model.specs.Reduct.{reduct, step}
 use Rattle.asp_model.specs.Holding.{all_hold}

@@ -1,6 +1,6 @@
 -- The same texts are shown.
 use Rattle.std.proofs.Common.{◌≡◌, ℕ, Bool, true, false, not, cond, ◌&&◌, List, [], ◌∷◌, ◌++◌, map, filter, flat_map, ℤ, refl, sym, ap, ◌∙◌}
-use Rattle.std.specs.List.{list_any, list_all}
+use Rattle.std.specs.List.{list_any}
 use Rattle.std.proofs.lemmas.List.{map-append}
 use Rattle.std.proofs.lemmas.List.Elements.{filter-append}
 use Rattle.asp_model.specs.declared.program.Output.{Output}
@@ -8,7 +8,7 @@ use Rattle.asp_model.specs.declared.program.Program.{Program}
 use Rattle.asp_model.specs.Sets.{Atoms, has}
 use Rattle.asp_model.specs.Holding.{all_hold, atom_of, holds}
 use Rattle.asp_model.specs.Texts.{shown}
-use Rattle.asp_settle.specs.Settled.{facts_of, is_barred, left_of, settled_literals, settled_output, united}
+use Rattle.asp_settle.specs.Settled.{facts_of, is_barred, left_of, settled_output, united}
 use Rattle.asp_settle.proofs.ReadLaws.{all-others, holds-united}
 
 -- the texts of those of the outputs whose conditions hold

@@ -104,10 +104,7 @@ pub(crate) fn settled_body(facts: &FactTable, body: Body) -> Option<Body>
         },
         Body::AtLeast(bound, items) => {
             let weight = settled_weight(facts, items.as_slice());
-            Some(Body::AtLeast(
-                lowered(bound, weight),
-                settled_items(facts, items),
-            ))
+            Some(Body::AtLeast(lowered(bound, weight), settled_items(facts, items)))
         }
     }
 }

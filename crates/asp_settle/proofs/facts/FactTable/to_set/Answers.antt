@@ -1,4 +1,4 @@
-use Rattle.std.proofs.Common.{sym, ap, ◌∙◌, subst, take, Vec, ℕ}
+use Rattle.std.proofs.Common.{sym, ap, ◌∙◌, subst, take}
 use Rattle.std.proofs.lemmas.List.{take_all}
 use Rattle.asp_model.specs.Sets.{IsAscending}
 use Rattle.asp_settle.specs.Tables.{places_from}
