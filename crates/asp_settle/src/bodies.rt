@@ -1,8 +1,8 @@
 //! What is left of literals and bodies.
-ghost use Rattle.std.specs.Prelude.{◌≡◌, ◌*◌, ◌≤◌, filter, not, length, pos, ◌≤ℤ◌, IsTrue};
+ghost use Rattle.std.specs.Prelude.{◌≡◌, ◌*◌, ◌≤◌, filter, not, length, pos, ◌≤ℤ◌, ◌&&◌, if◌then◌else◌, IsTrue};
 ghost use Rattle.std.specs.List.{list_all, list_any};
 ghost use Rattle.std.specs.Option.{option_to_list};
-ghost use Rattle.asp_model.specs.Holding.{atom_of};
+ghost use Rattle.asp_model.specs.Holding.{atom_of, is_positive};
 ghost use Rattle.asp_model.specs.Sets.{has};
 ghost use Rattle.asp_model.specs.Sound.{is_sound_body, is_weighted, weighted_count};
 ghost use Rattle.asp_settle.specs.Settled.{is_barred, lowered, settled_body, settled_items, settled_literals, settled_weight};
@@ -28,11 +28,8 @@ fn without_facts(facts: &FactTable, literals: Seq<i32>) -> Seq<i32>
     ensures { result ≡ filter (λ l. not (has facts.now (atom_of l))) literals }
 {
     let mut literals = literals.into_vec();
-    let count = literals.len();
     literals.retain(|literal| !facts.has(literal.unsigned_abs()));
-    if literals.len() < count {
-        literals.shrink_to_fit();
-    }
+    literals.shrink_to_fit();
     Seq::from_vec(literals)
 }
 
@@ -50,12 +47,23 @@ fn settled_items(facts: &FactTable, items: Seq<(i32, i32)>) -> Seq<(i32, i32)>
     ensures { result ≡ settled_items facts.now items }
 {
     let mut items = items.into_vec();
-    let count = items.len();
     items.retain(|(literal, _)| !facts.has(literal.unsigned_abs()));
-    if items.len() < count {
-        items.shrink_to_fit();
-    }
+    items.shrink_to_fit();
     Seq::from_vec(items)
+}
+
+// The weight, where the literal is a fact.
+fn item_weight(facts: &FactTable, literal: i32, weight: i32) -> i64
+    requires { pos 0 ≤ℤ weight }
+    ensures weight { result ≡ (if is_positive literal && has facts.now (atom_of literal) then weight else pos 0) }
+    ensures low { pos 0 ≤ℤ result }
+    ensures high { result ≤ℤ pos 2147483648 }
+{
+    if literal >= 0 && facts.has(literal.unsigned_abs()) {
+        i64::from(weight)
+    } else {
+        0
+    }
 }
 
 // The weights of the facts.
@@ -68,9 +76,7 @@ fn settled_weight(facts: &FactTable, items: &[(i32, i32)]) -> i64
 {
     let mut total: i64 = 0;
     for (literal, weight) in items {
-        if *literal >= 0 && facts.has(literal.unsigned_abs()) {
-            total += i64::from(*weight);
-        }
+        total += item_weight(facts, *literal, *weight);
     }
     total
 }
@@ -98,10 +104,7 @@ pub(crate) fn settled_body(facts: &FactTable, body: Body) -> Option<Body>
         },
         Body::AtLeast(bound, items) => {
             let weight = settled_weight(facts, items.as_slice());
-            Some(Body::AtLeast(
-                lowered(bound, weight),
-                settled_items(facts, items),
-            ))
+            Some(Body::AtLeast(lowered(bound, weight), settled_items(facts, items)))
         }
     }
 }

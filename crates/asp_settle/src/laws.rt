@@ -1,5 +1,5 @@
 //! Laws of what is settled. Each function's contract is a law, and its body is empty.
-ghost use Rattle.std.specs.Prelude.{◌≡◌, ℕ, false, Bool, filter, map, option_map, IsTrue, List};
+ghost use Rattle.std.specs.Prelude.{◌≡◌, ℕ, false, not, Bool, filter, map, option_map, IsTrue};
 ghost use Rattle.asp_model.specs.declared.program.Program.{Program};
 ghost use Rattle.asp_model.specs.declared.results.Reasoning.{Reasoning};
 ghost use Rattle.asp_model.specs.Consequences.{consequences_of};
@@ -28,6 +28,6 @@ pub fn settled_answers_are_the_same()
 /// So are the optima, what some of the answers are, and what they have in common.
 pub fn settled_results_are_the_same()
     ensures optima { (p : Program) → IsSound p → optima p ≡ map (united (facts_of p)) (optima (left_of p)) }
-    ensures chosen { (p : Program) (chosen : Atoms → Bool) → IsSound p → map (united (facts_of p)) (filter chosen (answers (left_of p))) ≡ filter (λ S. chosen (filter (λ a. not (has (facts_of p) a)) S)) (answers p) }
+    ensures parts { (p : Program) (chosen : Atoms → Bool) → IsSound p → map (united (facts_of p)) (filter chosen (answers (left_of p))) ≡ filter (λ S. chosen (filter (λ a. not (has (facts_of p) a)) S)) (answers p) }
     ensures consequences { (p : Program) (w : Reasoning) (chosen : Atoms → Bool) → IsSound p → consequences_of w p (map (united (facts_of p)) (filter chosen (answers (left_of p)))) ≡ option_map (united (facts_of p)) (consequences_of w (left_of p) (filter chosen (answers (left_of p)))) }
 {}

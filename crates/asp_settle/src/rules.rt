@@ -53,6 +53,18 @@ fn settled_rule(facts: &FactTable, rule: Rule) -> Option<Rule>
     }
 }
 
+// Adds what is left of a rule to others.
+fn push_rule(left: &mut Vec<Rule>, facts: &FactTable, rule: Rule) -> Result<(), AllocError>
+    requires body { HasBody rule }
+    requires few { HasFewItems rule }
+    ensures { OnOk result (left.new.items ≡ left.old.items ++ settled_rule facts.now rule) }
+{
+    if let Some(rule) = settled_rule(facts, rule) {
+        left.push(rule)?;
+    }
+    Ok(())
+}
+
 /// What is left of the rules.
 pub(crate) fn settled_rules(
     alloc: Global,
@@ -65,9 +77,7 @@ pub(crate) fn settled_rules(
 {
     let mut left = Vec::new(alloc);
     for rule in rules {
-        if let Some(rule) = settled_rule(facts, rule) {
-            left.push(rule)?;
-        }
+        push_rule(&mut left, facts, rule)?;
     }
     Ok(left)
 }
@@ -123,19 +133,25 @@ fn head_set(alloc: Global, rules: &[Rule]) -> Result<Interp, AllocError>
     Ok(Interp::from_atoms(atoms))
 }
 
+fn without_heads(mut externals: Vec<External>, heads: &Interp) -> Vec<External>
+    ensures { result.items ≡ filter (λ e. not (has heads.now e.atom)) externals.items }
+{
+    externals.retain(|external| !heads.has(external.atom));
+    externals
+}
+
 /// The externals on atoms that no rule's head has.
 pub(crate) fn open_externals(
     alloc: Global,
     rules: &[Rule],
     externals: Seq<External>,
 ) -> Result<Seq<External>, AllocError>
-    ensures { IfOk result (λ open. open ≡ filter (λ e. not (has (heads_of rules.now) e.atom)) externals) }
+    ensures { IfOk result (λ kept. kept ≡ filter (λ e. not (has (heads_of rules.now) e.atom)) externals) }
 {
     if externals.as_slice().is_empty() {
         return Ok(externals);
     }
     let heads = head_set(alloc, rules)?;
-    let mut externals = externals.into_vec();
-    externals.retain(|external| !heads.has(external.atom));
-    Ok(Seq::from_vec(externals))
+    let open = without_heads(externals.into_vec(), &heads);
+    Ok(Seq::from_vec(open))
 }
