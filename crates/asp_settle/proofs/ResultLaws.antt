@@ -1,5 +1,5 @@
 -- Optima, some of the answers and what they have in common are those of what is left, with the facts.
-use Rattle.std.proofs.Common.{◌≡◌, ℕ, Bool, true, false, not, cond, ◌&&◌, ◌||◌, List, [], ◌∷◌, map, filter, Some, refl, sym, ap, ◌∙◌}
+use Rattle.std.proofs.Common.{◌≡◌, ℕ, Bool, true, false, not, cond, ◌&&◌, ◌||◌, List, [], ◌∷◌, map, filter, Some, refl, sym, ap, ◌∙◌, ℤ, subst, Contains}
 use Rattle.std.specs.List.{AllByRecursion, list_any, list_all}
 use Rattle.std.specs.Prelude.{option_map}
 use Rattle.std.proofs.lemmas.Bool.{and_from, and_parts, or_left, or_right}
@@ -8,20 +8,20 @@ use Rattle.asp_model.specs.declared.results.Reasoning.{Reasoning}
 use Rattle.asp_model.specs.declared.results.Reasoning.TheVariants.{Brave, Cautious}
 use Rattle.asp_model.specs.Sets.{Atoms, IsAscending, has}
 use Rattle.asp_model.specs.Consequences.{consequences, consequences_of}
-use Rattle.asp_model.specs.Costs.{betters, cost, optima}
+use Rattle.asp_model.specs.Costs.{IsOptimum, betters, cost, optima}
 use Rattle.asp_model.specs.Models.{answers, atoms_of, is_stable}
 use Rattle.asp_model.specs.Sound.{IsSound}
 use Rattle.asp_model.proofs.SetLaws.{same_from_has}
 use Rattle.asp_model.proofs.MemberLaws.{each-filter, list_any-map, one_passes, each_weaker}
 use Rattle.asp_model.proofs.ModelLaws.{answers-are, stable-subset}
 use Rattle.asp_model.proofs.ConsequenceLaws.{ascends-filter, atoms-ascend, has-filter}
-use Rattle.asp_settle.specs.Settled.{facts_of, left_of, united}
+use Rattle.asp_settle.specs.Settled.{facts_of, left_of, united, without}
 use Rattle.asp_settle.proofs.ReadLaws.{has-united, or-false}
 use Rattle.asp_settle.proofs.FactLaws.{assumed-left, cost-left, facts-ascend, facts-derived}
 use Rattle.asp_settle.proofs.OpenLaws.{force-left}
 use Rattle.asp_settle.proofs.SoundLaws.{sound-left}
 use Rattle.asp_settle.proofs.MentionLaws.{facts-stand}
-use Rattle.asp_settle.proofs.StableLaws.{IsApart, IsLeft, answers-left, each-contained, rest, rest-united, stable-apart, stable-left, united-ascends}
+use Rattle.asp_settle.proofs.StableLaws.{IsApart, IsLeft, answers-left, contains-map, each-contained, without-united, stable-apart, stable-left, united-ascends}
 
 pub is-left : (p : Program) → IsSound p → IsLeft (facts_of p) p (left_of p)
 is-left p sound = record { ascending = facts-ascend p; rules = force-left p; derived = facts-derived p sound; whole = sound; sound = sound-left p sound }
@@ -77,13 +77,32 @@ optima-left p sound =
     ∙ any-same (λ T. betters (cost p (u T)) (cost p (u S))) (λ T. betters (cost q T) (cost q S)) (λ T. ap (λ c. betters c (cost p (u S))) (cost-left p T) ∙ ap (betters (cost q T)) (cost-left p S)) (answers q))) (answers q)))
 
 -- ---- some of the answers
-pub chosen-left : (p : Program) (chosen : Atoms → Bool) → IsSound p → map (united (facts_of p)) (filter chosen (answers (left_of p))) ≡ filter (λ S. chosen (rest (facts_of p) S)) (answers p)
+pub chosen-left : (p : Program) (chosen : Atoms → Bool) → IsSound p → map (united (facts_of p)) (filter chosen (answers (left_of p))) ≡ filter (λ S. chosen (without (facts_of p) S)) (answers p)
 chosen-left p chosen sound =
     let u = united (facts_of p) in
     let q = left_of p in
-    sym (ap (filter (λ S. chosen (rest (facts_of p) S))) (same-answers p sound)
-    ∙ filter-map (λ S. chosen (rest (facts_of p) S)) u (answers q)
-    ∙ ap (map u) (filter-same (λ S. chosen (rest (facts_of p) (u S))) chosen (answers q) (each_weaker (IsOther p) (λ S. chosen (rest (facts_of p) (u S)) ≡ chosen S) (λ S o. ap chosen (rest-united (facts_of p) S o.ascending o.apart)) (answers q) (others p sound))))
+    sym (ap (filter (λ S. chosen (without (facts_of p) S))) (same-answers p sound)
+    ∙ filter-map (λ S. chosen (without (facts_of p) S)) u (answers q)
+    ∙ ap (map u) (filter-same (λ S. chosen (without (facts_of p) (u S))) chosen (answers q) (each_weaker (IsOther p) (λ S. chosen (without (facts_of p) (u S)) ≡ chosen S) (λ S o. ap chosen (without-united (facts_of p) S o.ascending o.apart)) (answers q) (others p sound))))
+
+pub optima-chosen : (p : Program) (chosen : Atoms → Bool) → IsSound p → map (united (facts_of p)) (filter chosen (optima (left_of p))) ≡ filter (λ S. chosen (without (facts_of p) S)) (optima p)
+optima-chosen p chosen sound =
+    let u = united (facts_of p) in
+    let q = left_of p in
+    sym (ap (filter (λ S. chosen (without (facts_of p) S))) (optima-left p sound)
+    ∙ filter-map (λ S. chosen (without (facts_of p) S)) u (optima q)
+    ∙ ap (map u) (filter-same (λ S. chosen (without (facts_of p) (u S))) chosen (optima q) (each_weaker (IsOther p) (λ S. chosen (without (facts_of p) (u S)) ≡ chosen S) (λ S o. ap chosen (without-united (facts_of p) S o.ascending o.apart)) (optima q)
+    (each-filter (IsOther p) (λ S. not (list_any (λ T. betters (cost q T) (cost q S)) (answers q))) (answers q) (others p sound)))))
+
+pub optimum-left : (p : Program) (S : Atoms) (c : List ℤ) → IsSound p → IsOptimum (left_of p) S c → IsOptimum p (united (facts_of p) S) c
+optimum-left p S c sound o =
+    let u = united (facts_of p) in
+    let q = left_of p in
+    record {
+      answer = subst (λ Ss. Contains Ss (u S)) (sym (same-answers p sound)) (contains-map u (answers q) S o.answer);
+      sums = o.sums ∙ sym (cost-left p S);
+      least = ap (list_any (λ T. betters (cost p T) c)) (same-answers p sound) ∙ list_any-map (λ T. betters (cost p T) c) u (answers q) ∙ any-same (λ T. betters (cost p (u T)) c) (λ T. betters (cost q T) c) (λ T. ap (λ d. betters d c) (cost-left p T)) (answers q) ∙ o.least;
+    }
 
 -- ---- what they have in common
 abbrev held_by : Reasoning → List Atoms → ℕ → Bool
@@ -154,6 +173,9 @@ common-left w p S K all =
 common-of : (w : Reasoning) (p : Program) (K : List Atoms) → AllByRecursion (IsOther p) K → consequences_of w p (map (united (facts_of p)) K) ≡ option_map (united (facts_of p)) (consequences_of w (left_of p) K)
 common-of w p [] all = refl
 common-of w p (S ∷ K) all = ap (λ C. Some C) (common-left w p S K all)
+
+pub all-consequences : (p : Program) (w : Reasoning) → IsSound p → consequences_of w p (answers p) ≡ option_map (united (facts_of p)) (consequences_of w (left_of p) (answers (left_of p)))
+all-consequences p w sound = ap (consequences_of w p) (same-answers p sound) ∙ common-of w p (answers (left_of p)) (others p sound)
 
 pub consequences-left : (p : Program) (w : Reasoning) (chosen : Atoms → Bool) → IsSound p → consequences_of w p (map (united (facts_of p)) (filter chosen (answers (left_of p)))) ≡ option_map (united (facts_of p)) (consequences_of w (left_of p) (filter chosen (answers (left_of p))))
 consequences-left p w chosen sound = common-of w p (filter chosen (answers (left_of p))) (each-filter (IsOther p) chosen (answers (left_of p)) (others p sound))

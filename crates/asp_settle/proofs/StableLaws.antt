@@ -20,7 +20,7 @@ use Rattle.asp_model.proofs.ModelLaws.{answers-are, answers-rise, least_model-as
 use Rattle.asp_model.proofs.SubsetLaws.{IsRising, pairs_from_rising}
 use Rattle.asp_model.proofs.SoundLaws.{rules_in_force-bodies}
 use Rattle.asp_model.proofs.ConsequenceLaws.{ascends-filter, has-filter}
-use Rattle.asp_settle.specs.Settled.{settled_rule, united}
+use Rattle.asp_settle.specs.Settled.{settled_rule, united, without}
 use Rattle.asp_settle.proofs.ReadLaws.{has-united}
 use Rattle.asp_settle.proofs.RuleLaws.{HaveSoundBodies, all-violated, step-apart, step-left}
 
@@ -35,12 +35,8 @@ pub record IsLeft (F : Atoms) (p q : Program) : Type 0 where
 abbrev pub IsApart : Atoms → Atoms → Type 0
 IsApart F S = (a : ℕ) → has F a ≡ true → has S a ≡ false
 
--- the set without F
-abbrev pub rest : Atoms → Atoms → Atoms
-rest F S = filter (λ a. not (has F a)) S
-
-pub has-rest : (F S : Atoms) (a : ℕ) → has (rest F S) a ≡ (not (has F a) && has S a)
-has-rest F S a = has-filter (λ b. not (has F b)) S a
+pub has-without : (F S : Atoms) (a : ℕ) → has (without F S) a ≡ (not (has F a) && has S a)
+has-without F S a = has-filter (λ b. not (has F b)) S a
 
 pub united-ascends : (F S : Atoms) → IsAscending S → IsAscending (united F S)
 united-ascends [] S up = up
@@ -57,20 +53,20 @@ parted true s h = sym (h refl)
 parted false true h = refl
 parted false false h = refl
 
-pub united-rest : (F S : Atoms) → IsAscending S → IsSubset F S → united F (rest F S) ≡ S
-united-rest F S up sub =
-    same_from_has (united F (rest F S)) S (united-ascends F (rest F S) (ascends-filter (λ a. not (has F a)) S up)) up (λ a.
-    has-united F (rest F S) a ∙ ap (λ b. b || has F a) (has-rest F S a) ∙ parted (has F a) (has S a) (sub a))
+pub united-without : (F S : Atoms) → IsAscending S → IsSubset F S → united F (without F S) ≡ S
+united-without F S up sub =
+    same_from_has (united F (without F S)) S (united-ascends F (without F S) (ascends-filter (λ a. not (has F a)) S up)) up (λ a.
+    has-united F (without F S) a ∙ ap (λ b. b || has F a) (has-without F S a) ∙ parted (has F a) (has S a) (sub a))
 
 joined : (f s : Bool) → (f ≡ true → s ≡ false) → (not f && (s || f)) ≡ s
 joined true s h = sym (h refl)
 joined false true h = refl
 joined false false h = refl
 
-pub rest-united : (F S : Atoms) → IsAscending S → IsApart F S → rest F (united F S) ≡ S
-rest-united F S up apart =
-    same_from_has (rest F (united F S)) S (ascends-filter (λ a. not (has F a)) (united F S) (united-ascends F S up)) up (λ a.
-    has-rest F (united F S) a ∙ ap (λ b. not (has F a) && b) (has-united F S a) ∙ joined (has F a) (has S a) (apart a))
+pub without-united : (F S : Atoms) → IsAscending S → IsApart F S → without F (united F S) ≡ S
+without-united F S up apart =
+    same_from_has (without F (united F S)) S (ascends-filter (λ a. not (has F a)) (united F S) (united-ascends F S up)) up (λ a.
+    has-without F (united F S) a ∙ ap (λ b. not (has F a) && b) (has-united F S a) ∙ joined (has F a) (has S a) (apart a))
 
 -- ---- least models
 sound_bodies : (p : Program) → IsSound p → HaveSoundBodies (rules_in_force p)
@@ -99,22 +95,22 @@ least-within F p q l S =
     by a true e h = or_right (has (least_model q S) a) (has F a) e
     by a false e h = or_left (has (least_model q S) a) (has F a) (sym (derived-has q S a l.sound) ∙ left-step F p q l S (least_model q S) a e ∙ h)
 
-least-without : (F : Atoms) (p q : Program) → IsLeft F p q → (S : Atoms) → IsSubset (least_model q S) (rest F (least_model p (united F S)))
+least-without : (F : Atoms) (p q : Program) → IsLeft F p q → (S : Atoms) → IsSubset (least_model q S) (without F (least_model p (united F S)))
 least-without F p q l S =
-    least_model-least q S (rest F (least_model p (united F S))) l.sound (closed_from_step (reduct S (rules_in_force q)) (rest F (least_model p (united F S))) (λ a h.
-    has-rest F (least_model p (united F S)) a ∙ by a (has F a) refl h))
+    least_model-least q S (without F (least_model p (united F S))) l.sound (closed_from_step (reduct S (rules_in_force q)) (without F (least_model p (united F S))) (λ a h.
+    has-without F (least_model p (united F S)) a ∙ by a (has F a) refl h))
   where
-    whole : united F (rest F (least_model p (united F S))) ≡ least_model p (united F S)
-    whole = united-rest F (least_model p (united F S)) (least_model-ascends p (united F S)) (l.derived (united F S))
+    whole : united F (without F (least_model p (united F S))) ≡ least_model p (united F S)
+    whole = united-without F (least_model p (united F S)) (least_model-ascends p (united F S)) (l.derived (united F S))
 
-    there : (a : ℕ) → has F a ≡ false → has (step (reduct S (rules_in_force q)) (rest F (least_model p (united F S)))) a ≡ has (least_model p (united F S)) a
+    there : (a : ℕ) → has F a ≡ false → has (step (reduct S (rules_in_force q)) (without F (least_model p (united F S)))) a ≡ has (least_model p (united F S)) a
     there a e =
-        left-step F p q l S (rest F (least_model p (united F S))) a e
+        left-step F p q l S (without F (least_model p (united F S))) a e
         ∙ ap (λ T. has (step (reduct (united F S) (rules_in_force p)) T) a) whole
         ∙ derived-has p (united F S) a l.whole
 
-    by : (a : ℕ) (f : Bool) → has F a ≡ f → has (step (reduct S (rules_in_force q)) (rest F (least_model p (united F S)))) a ≡ true → (not (has F a) && has (least_model p (united F S)) a) ≡ true
-    by a true e h = absurd (both_ways _ (left-apart F p q l S (rest F (least_model p (united F S))) a e) h)
+    by : (a : ℕ) (f : Bool) → has F a ≡ f → has (step (reduct S (rules_in_force q)) (without F (least_model p (united F S)))) a ≡ true → (not (has F a) && has (least_model p (united F S)) a) ≡ true
+    by a true e h = absurd (both_ways _ (left-apart F p q l S (without F (least_model p (united F S))) a e) h)
     by a false e h = ap (λ b. not b && has (least_model p (united F S)) a) e ∙ sym (there a e) ∙ h
 
 -- The least model of the program is that of what is left, with F.
@@ -123,7 +119,7 @@ least-left F p q l S =
     same_from_has (least_model p (united F S)) (united F (least_model q S)) (least_model-ascends p (united F S)) (united-ascends F (least_model q S) (least_model-ascends q S)) (λ a.
     same_bools (has (least_model p (united F S)) a) (has (united F (least_model q S)) a) (least-within F p q l S a) (λ h.
     elim (or_cases (has (least_model q S) a) (has F a) (sym (has-united F (least_model q S) a) ∙ h)) [
-      | inl m ↦ (and_parts (not (has F a)) (has (least_model p (united F S)) a) (sym (has-rest F (least_model p (united F S)) a) ∙ least-without F p q l S a m)).1
+      | inl m ↦ (and_parts (not (has F a)) (has (least_model p (united F S)) a) (sym (has-without F (least_model p (united F S)) a) ∙ least-without F p q l S a m)).1
       | inr f ↦ l.derived (united F S) a f
     ]))
 
@@ -134,7 +130,7 @@ same_test S T e = subst (λ U. same_set S U ≡ true) e (same_set-itself S)
 same_left : (F : Atoms) (p q : Program) → IsLeft F p q → (S : Atoms) → IsAscending S → IsApart F S → same_set (united F S) (least_model p (united F S)) ≡ same_set S (least_model q S)
 same_left F p q l S up apart =
     same_bools (same_set (united F S) (least_model p (united F S))) (same_set S (least_model q S))
-    (λ e. same_test S (least_model q S) (sym (rest-united F S up apart) ∙ ap (rest F) (same_text (united F S) (least_model p (united F S)) (sym e) ∙ least-left F p q l S) ∙ rest-united F (least_model q S) (least_model-ascends q S) (least-apart F p q l S)))
+    (λ e. same_test S (least_model q S) (sym (without-united F S up apart) ∙ ap (without F) (same_text (united F S) (least_model p (united F S)) (sym e) ∙ least-left F p q l S) ∙ without-united F (least_model q S) (least_model-ascends q S) (least-apart F p q l S)))
     (λ e. same_test (united F S) (least_model p (united F S)) (ap (united F) (same_text S (least_model q S) (sym e)) ∙ sym (least-left F p q l S)))
 
 pub stable-left : (F : Atoms) (p q : Program) → IsLeft F p q → (S : Atoms) → IsAscending S → IsApart F S → is_stable p (united F S) ≡ is_stable q S
@@ -207,11 +203,11 @@ answers-left F p q l =
     there X h =
         let parts = (answers-are p X).0 h in
         let ok = stable-whole F p q l.is X parts.0 in
-        let e : united F (rest F X) ≡ X = united-rest F X ok.0 ok.1 in
-        let apart : IsApart F (rest F X) = λ a fact. has-rest F X a ∙ ap (λ b. not b && has X a) fact in
-        let stable : is_stable q (rest F X) ≡ true = sym (stable-left F p q l.is (rest F X) (ascends-filter (λ a. not (has F a)) X ok.0) apart) ∙ ap (is_stable p) e ∙ parts.0 in
-        let holds : all_hold (rest F X) q.assumptions ≡ true = sym (l.assumed (rest F X)) ∙ ap (λ S. all_hold S p.assumptions) e ∙ parts.1 in
-        subst (Contains (map (united F) (answers q))) e (contains-map (united F) (answers q) (rest F X) ((answers-are q (rest F X)).1 (stable, holds)))
+        let e : united F (without F X) ≡ X = united-without F X ok.0 ok.1 in
+        let apart : IsApart F (without F X) = λ a fact. has-without F X a ∙ ap (λ b. not b && has X a) fact in
+        let stable : is_stable q (without F X) ≡ true = sym (stable-left F p q l.is (without F X) (ascends-filter (λ a. not (has F a)) X ok.0) apart) ∙ ap (is_stable p) e ∙ parts.0 in
+        let holds : all_hold (without F X) q.assumptions ≡ true = sym (l.assumed (without F X)) ∙ ap (λ S. all_hold S p.assumptions) e ∙ parts.1 in
+        subst (Contains (map (united F) (answers q))) e (contains-map (united F) (answers q) (without F X) ((answers-are q (without F X)).1 (stable, holds)))
 
     back : (X : Atoms) → Contains (map (united F) (answers q)) X → Contains (answers p) X
     back X h =

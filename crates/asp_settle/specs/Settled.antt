@@ -96,3 +96,7 @@ left_of p = left_by (facts_of p) p
 -- a set with the facts
 abbrev pub united : Atoms → Atoms → Atoms
 united F S = with_atoms S F
+
+-- a set without the facts
+abbrev pub without : Atoms → Atoms → Atoms
+without F S = filter (λ a. not (has F a)) S
