@@ -26,7 +26,7 @@ use Rattle.asp_cli.specs.Texts.{help_page, version_line}
 use Rattle.asp_model.specs.Models.{atoms_of}
 use Rattle.asp_vars.specs.Numbering.{bodies_of}
 use Rattle.asp_crew_laws.specs.declared.report.Report.{Report}
-use Rattle.asp_crew_laws.specs.Reports.{IsReport, Says}
+use Rattle.asp_crew_laws.specs.Reports.{IsReport, Says as SaysReport}
 use Rattle.asp_crew_laws.specs.Proofs.{HasProof}
 use Rattle.asp_top.specs.declared.prepare.Prepared.{Prepared}
 use Rattle.asp_top.specs.declared.status.Status.{Status}
@@ -56,8 +56,8 @@ around left left' reads reads' held held' writes writes' =
     record { left = left; left' = left'; reads = reads; reads' = reads'; held = held; held' = held'; writes = writes; writes' = writes' }
 
 -- the whole content of the source says this, where it is told
-abbrev pub SaysText : Around → Result Program ReadError → Type 0
-SaysText a said = IfSome a.left (λ text. outcome text ≡ said)
+abbrev pub Says : Around → Result Program ReadError → Type 0
+Says a said = IfSome a.left (λ text. outcome text ≡ said)
 
 -- some text says this
 abbrev pub IsSaid : Result Program ReadError → Type 0
@@ -70,7 +70,7 @@ pub record IsUnasked (a : Around) : Type 0 where
 
 -- the text says the program, and was read to its end; where the source doesn't tell its bytes, some text says it
 pub record IsRead (a : Around) (p : Program) : Type 0 where
-  pub says : SaysText a (Ok p)
+  pub says : Says a (Ok p)
   pub said : IsSaid (Ok p)
   pub end : IsAtEnd a.left'
 
@@ -125,7 +125,7 @@ pub record IsSolved (given : Options) (a : Around) (report : Option Report) : Ty
   pub done : Report
   pub reports : report ≡ Some (told_with (set_aside given program) done)
   pub is : IsReport (searched given program) (ask_of given program) given.budget done
-  pub says : Says program (ask_of given program) (report_with (set_aside given program) done) done.results.end
+  pub says : SaysReport program (ask_of given program) (report_with (set_aside given program) done) done.results.end
   pub proof : HasProof given.proof done
 
 -- the lines of a ring's answers are left out
@@ -174,7 +174,7 @@ pub record IsUntouched (a : Around) (report : Option Report) : Type 0 where
 -- the text was refused, and nothing was read behind the read that decided so
 pub record IsRefused (a : Around) (report : Option Report) (error : ReadError) : Type 0 where
   pub untouched : IsUntouched a report
-  pub says : SaysText a (Err error)
+  pub says : Says a (Err error)
   pub said : IsSaid (Err error)
   pub stops : StopsAt most_bytes a.left a.left' (Err error)
 
@@ -241,6 +241,11 @@ pub record Delivers (brief : Bool) (p : Program) (r : Report) (held held' : Opti
   pub reports : o.report ≡ Some r
   pub means : DeliveryMeans brief p r held held' writes writes' o.status
   pub later : writes ≤ writes'
+
+-- A report was told with the facts, or memory ran out before.
+abbrev pub Concludes : Bool → Program → Atoms → Report → Option (List ℕ) → Option (List ℕ) → ℕ → ℕ → Outcome → Type 0
+Concludes brief p F r held held' writes writes' o =
+    ((o ≡ record { status = Memory; report = None }) × Keeps held held' × (writes' ≡ writes)) ⊎ Delivers brief p (told_with F r) held held' writes writes' o
 
 -- The program was solved as was asked, or memory ran out and nothing was written.
 abbrev pub Solves : Options → Program → Option (List ℕ) → Option (List ℕ) → ℕ → ℕ → Outcome → Type 0

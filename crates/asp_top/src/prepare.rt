@@ -66,7 +66,7 @@ fn whole(alloc: Global, program: Program) -> Result<Prepared, AllocError>
     Ok(Prepared { compiled, facts })
 }
 
-fn prepared(alloc: Global, options: &Options, program: Program) -> Result<Prepared, AllocError>
+fn reduce(alloc: Global, options: &Options, program: Program) -> Result<Prepared, AllocError>
     requires { IsSound program }
     ensures { IfOk result (λ prepared. prepared ≡ prepared_of options.now program) }
 {
@@ -83,7 +83,7 @@ fn ready(alloc: Global, options: &Options, program: Program) -> Result<Prepared,
     ensures same { IfOk result (λ prepared. prepared ≡ prepared_of options.now program) }
     ensures wanting { IfErr result (λ status. status ≡ Status.Memory) }
 {
-    match prepared(alloc, options, program) {
+    match reduce(alloc, options, program) {
         Ok(prepared) => Ok(prepared),
         Err(_) => Err(Status::Memory),
     }

@@ -5,7 +5,7 @@ ghost use Rattle.asp_cli.specs.Values.{IsCrew};
 ghost use Rattle.asp_crew_laws.specs.Proofs.{HasProof};
 ghost use Rattle.asp_crew_laws.specs.Reports.{IsReport};
 ghost use Rattle.asp_model.specs.declared.program.Program.{Program};
-ghost use Rattle.asp_top.specs.Runs.{IsCounted, Solves, TellsFaults, ask_of, prepared_of, told_with};
+ghost use Rattle.asp_top.specs.Runs.{Concludes, IsCounted, Solves, TellsFaults, ask_of, prepared_of, told_with};
 
 use crate::counts::Tally;
 use crate::deliver::{deliver, failed};
@@ -62,7 +62,10 @@ fn conclude<K: Sink>(
     program: &Program,
     facts: &Interp,
     report: Report,
-) -> Outcome {
+) -> Outcome
+    ensures concludes { Concludes brief program.now facts.now report (K.held sink.old) (K.held sink.new) (K.faults sink.old) (K.faults sink.new) result }
+    ensures flushed { TellsFaults (K.held sink.old) (K.faults sink.old) (K.faults sink.new) result.status }
+{
     match told(alloc, facts, report) {
         Ok(report) => deliver(alloc, sink, brief, program, report),
         Err(_) => failed(Status::Memory),
