@@ -1,6 +1,6 @@
 -- What was found of a program without its facts, told with them: it is what was asked of the program, and its text.
-use Rattle.std.proofs.Common.{◌≡◌, ℕ, ◌+◌, Bool, true, false, not, ◌||◌, cond, List, [], ◌∷◌, ◌++◌, map, filter, length, refl, sym, ap, ◌∙◌, subst, ℤ, Contains}
-use Rattle.std.specs.Prelude.{Option, None, Some, IfSome, option_map, is_some, codes, decimal}
+use Rattle.std.proofs.Common.{◌≡◌, ℕ, ◌+◌, Bool, true, false, not, ◌||◌, cond, List, [], ◌∷◌, ◌++◌, map, filter, length, refl, sym, ap, ◌∙◌, subst, ℤ, Contains, inl, inr}
+use Rattle.std.specs.Prelude.{Option, None, Some, Result, Ok, IfOk, IfSome, option_map, is_some, codes, decimal}
 use Rattle.std.specs.List.{join_with_byte}
 use Rattle.std.proofs.lemmas.List.{length-map}
 use Rattle.asp_model.specs.declared.program.Program.{Program}
@@ -24,11 +24,14 @@ use Rattle.asp_settle.proofs.ResultLaws.{all-consequences, chosen-left, conseque
 use Rattle.asp_proof.specs.declared.proof.Proof.{Proof}
 use Rattle.asp_crew_laws.specs.declared.report.Report.{Report}
 use Rattle.asp_crew_laws.specs.Runs.{IsBest, IsFound}
-use Rattle.asp_crew_laws.specs.Reports.{HasBest, IsAllFound, IsAsked, IsPart, IsPartOf, IsPriced, Says as SaysReport}
+use Rattle.asp_crew_laws.specs.Reports.{HasBest, IsAllFound, IsAsked, IsPart, IsPartOf, IsPriced, IsReport, Says as SaysReport}
 use Rattle.asp_crew_laws.specs.Proofs.{HasProof, HasProofAt}
 use Rattle.asp_cli.specs.declared.Options.{Options}
-use Rattle.asp_top.specs.Meaning.{has_model, has_model_in, is_some_of}
-use Rattle.asp_top.specs.Runs.{found_with, is_settled, report_text, report_with, searched, set_aside, text_by, told_with}
+use Rattle.asp_top.specs.Meaning.{has_model, has_model_in, mode_of}
+use Rattle.asp_top.specs.Runs.{Concludes, Delivers, IsCounted, Solves, ask_of, found_with, is_brief, is_settled, prepared_of, report_text, report_with, searched, set_aside, text_by, told_with}
+use Rattle.asp_top.specs.declared.counts.Tally.{Tally}
+use Rattle.asp_top.specs.declared.prepare.Prepared.{Prepared}
+use Rattle.asp_top.specs.declared.status.Outcome.{Outcome}
 
 -- ---- what a report says
 priced-left : (p : Program) (best : Option (Atoms × List ℤ)) → IsSound p → IfSome best (IsPriced (left_of p)) → IfSome (option_map (λ b. (united (facts_of p) b.0, b.1)) best) (IsPriced p)
@@ -210,3 +213,42 @@ model-in F (Consequences w) r = some-known F r.known
 
 pub told-model : (F : Atoms) (r : Report) → has_model (told_with F r).results ≡ has_model r.results
 told-model F r = model-in F r.results.mode r.results
+
+-- ---- a report that was told
+same-mode : (o : Option Mode) (p : Program) → mode_of o (left_of p) ≡ mode_of o p
+same-mode None p = refl
+same-mode (Some mode) p = refl
+
+same-ask : (given : Options) (p : Program) → ask_of given (searched given p) ≡ ask_of given p
+same-ask given p = by (is_settled given)
+  where
+    by : (b : Bool) → ask_of given (cond b (left_of p) p) ≡ ask_of given p
+    by true = ap (λ mode. record { mode = mode; models = given.models; all_optima = given.all_optima }) (same-mode given.mode p)
+    by false = refl
+
+-- what was searched, and with what it is told
+pub solves-by : (given : Options) (p : Program) (x : Prepared) (q : Program) (r : Report) (brief : Bool) (h h' : Option (List ℕ)) (w w' : ℕ) (o : Outcome) → x ≡ prepared_of given p → q ≡ x.compiled → brief ≡ is_brief given
+    → IsReport x.compiled (ask_of given q) given.budget r → HasProof given.proof r → Concludes brief q x.facts r h h' w w' o → Solves given p h h' w w' o
+solves-by given p x q r brief h h' w w' o is of same report proof (inl m) = inl m
+solves-by given p x q r brief h h' w w' o is of same report proof (inr d) =
+    let report' : IsReport x.compiled (ask_of given x.compiled) given.budget r = subst (λ (y : Program). IsReport x.compiled (ask_of given y) given.budget r) of report in
+    let report'' : IsReport (searched given p) (ask_of given (searched given p)) given.budget r = subst (λ (y : Prepared). IsReport y.compiled (ask_of given y.compiled) given.budget r) is report' in
+    let told' : Delivers brief x.compiled (told_with x.facts r) h h' w w' o = subst (λ (y : Program). Delivers brief y (told_with x.facts r) h h' w w' o) of d in
+    let told'' : Delivers brief (searched given p) (told_with (set_aside given p) r) h h' w w' o = subst (λ (y : Prepared). Delivers brief y.compiled (told_with y.facts r) h h' w w' o) is told' in
+    inr (r, (subst (λ (ask : Ask). IsReport (searched given p) ask given.budget r) (same-ask given p) report'', proof), subst (λ (b : Bool). Delivers b (searched given p) (told_with (set_aside given p) r) h h' w w' o) same told'')
+
+pub counted-by : (alone brief : Bool) (p : Program) (F : Atoms) (r : Report) (t : Tally) (h h' : Option (List ℕ)) (w w' : ℕ) (o : Outcome) → Concludes brief p F r h h' w w' o → IsCounted alone t r → IfSome o.report (IsCounted alone t)
+counted-by alone brief p F r t h h' w w' o (inl m) counted = subst (λ x. IfSome x (IsCounted alone t)) (sym (ap (λ (x : Outcome). x.report) m.0)) tt
+counted-by alone brief p F r t h h' w w' o (inr d) counted =
+    subst (λ x. IfSome x (IsCounted alone t)) (sym d.reports) (record { atoms = counted.atoms; bodies = counted.bodies; loops = counted.loops; workers = counted.workers })
+
+pub from-ok : {E : Type 0} (P : Report → Type 0) (s : Result Report E) (r : Report) → s ≡ Ok r → IfOk s P → P r
+from-ok {E = E} P s r is has = subst (λ (x : Result Report E). IfOk x P) is has
+
+-- where parts are asked for, the whole program is there
+pub whole-parted : (given : Options) (p : Program) (x : Prepared) (most : ℕ) → given.split ≡ Some most → x ≡ prepared_of given p → x.compiled ≡ p
+whole-parted given p x most asked is = ap (λ (y : Prepared). y.compiled) is ∙ ap (λ (b : Bool). cond b (left_of p) p) (by given.proof (ap is_some asked))
+  where
+    by : (b : Bool) → is_some given.split ≡ true → not (b || is_some given.split) ≡ false
+    by true e = refl
+    by false e = ap not e
