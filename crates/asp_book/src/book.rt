@@ -2,25 +2,28 @@
 ghost use Rattle.std.specs.Prelude.{◌≡◌, ◌≢◌, ◌+◌, ◌<◌, ◌≤◌, ◌↔◌, ◌==◌, if◌then◌else◌, not, min, true, false, [], ◌∷◌, length, slice_get, option_map, Some, None, IfOk, OnOk, OnErr, IsTrue, IsSome};
 ghost use Rattle.std.specs.Option.{IfSome};
 ghost use Rattle.asp_model.specs.Costs.{cost, betters};
+ghost use Rattle.asp_model.specs.Models.{atoms_of};
+ghost use Rattle.asp_rows.specs.Listed.{IsRowFor};
 ghost use Rattle.asp_vars.specs.Conflicts.{has_all};
 ghost use Rattle.asp_vars.specs.Entailment.{HitsOnly};
 ghost use Rattle.asp_path.specs.declared.status.Status.TheVariants as status;
 ghost use Rattle.asp_path.specs.Trees.{cube_of, status_of, is_open, open_from, held_count};
 ghost use Rattle.asp_core.specs.declared.event.Event.TheVariants as event;
 ghost use Rattle.asp_core.specs.Units.{out_of};
-ghost use Rattle.asp_core.specs.Boards.{start, is_answer, known_of, lists, optimises, is_excused, is_enough};
+ghost use Rattle.asp_core.specs.Boards.{start, is_answer, known_of, lists, optimises, is_excused, is_enough, sought};
 ghost use Rattle.asp_core.specs.Events.{held_by, has_var, IsVariable, Guard};
 ghost use Rattle.asp_book.specs.Books.{board, with_events, signed, IsJournalOf};
 ghost use Rattle.asp_book.specs.Fuels.{ComesBack, IsOwnFuel};
 ghost use Rattle.asp_book.specs.Replies.{Divides, Improves, IsWanted, taken, taken_this, divided, delivered, improved, leased_out, given_back};
 
-use crate::write::{make_room, write};
+use crate::write::{list, make_room, write};
 use asp_core::entry::Entry;
 use asp_core::event::Event;
 use asp_core::state::State;
 use asp_model::cost::Cost;
 use asp_model::interp::Interp;
 use asp_path::tree::Leaf;
+use asp_rows::row::Row;
 use asp_vars::compiled::Compiled;
 use asp_vars::fuel::Fuel;
 use asp_vars::known::Known;
@@ -197,6 +200,25 @@ impl Book {
         }
         make_room(&mut self.journal, self.places, 1)?;
         write(&mut self.state, &mut self.journal, Event::Deliver(by, set))?;
+        Ok(true)
+    }
+
+    /// Delivers an answer that the goal lists, by its row among the program's atoms. False comes exactly where enough were
+    /// delivered before.
+    pub fn list(&mut self, by: u32, row: Row, set: Interp) -> Result<bool, AllocError>
+        requires goal { sought (board self.old).task.goal ≡ None }
+        requires listed { IsTrue (lists (board self.old).task set) }
+        requires answer { IsTrue (is_answer (board self.old).task set) }
+        requires row { IsRowFor (atoms_of (board self.old).task.program) set row }
+        ensures enough { IfOk result (λ r. r ≡ not (is_enough (board self.old))) }
+        ensures journal { IfOk result (λ r. self.new ≡ with_events self.old (delivered by set r)) }
+        ensures err { OnErr result (self.new ≡ self.old) }
+    {
+        if self.enough() {
+            return Ok(false);
+        }
+        make_room(&mut self.journal, self.places, 1)?;
+        list(&mut self.state, &mut self.journal, by, row, set)?;
         Ok(true)
     }
 

@@ -5,6 +5,8 @@
 //! other seats did since then ends none of that.
 ghost use Rattle.std.specs.Prelude.{◌≡◌, ◌+◌, ◌<◌, ◌↔◌, min, true, false, not, List, [], ◌∷◌, ◌++◌, length, slice_get, option_map, Some, None, IfOk, OnOk, OnErr, IsTrue};
 ghost use Rattle.asp_model.specs.Costs.{cost};
+ghost use Rattle.asp_model.specs.Models.{atoms_of};
+ghost use Rattle.asp_rows.specs.Listed.{IsRowFor};
 ghost use Rattle.asp_vars.specs.Conflicts.{has_all};
 ghost use Rattle.asp_vars.specs.Entailment.{HitsOnly};
 ghost use Rattle.asp_path.specs.declared.status.Status.TheVariants as status;
@@ -16,7 +18,7 @@ ghost use Rattle.asp_vault.specs.Seats.{view, IsOf, IsBeside};
 ghost use Rattle.asp_core.specs.declared.event.Event.{Event};
 ghost use Rattle.asp_core.specs.declared.event.Event.TheVariants as event;
 ghost use Rattle.asp_core.specs.Units.{out_of};
-ghost use Rattle.asp_core.specs.Boards.{is_answer, lists, optimises, is_excused, is_enough, known_of};
+ghost use Rattle.asp_core.specs.Boards.{is_answer, lists, optimises, is_excused, is_enough, known_of, sought};
 ghost use Rattle.asp_core.specs.Events.{held_by, has_var, IsVariable, replay};
 ghost use Rattle.asp_book.specs.Books.{signed, IsJournalOf};
 ghost use Rattle.asp_book.specs.Calls.{task_of, seen_board, IsCall, Adds};
@@ -27,6 +29,7 @@ use crate::book::Book;
 use asp_model::cost::Cost;
 use asp_model::interp::Interp;
 use asp_path::tree::Leaf;
+use asp_rows::row::Row;
 use asp_vars::fuel::Fuel;
 use asp_vars::known::Known;
 use asp_vars::lit::Lit;
@@ -152,6 +155,32 @@ pub fn deliver<R: Wait>(
 {
     let mut book = vault.take(rt, seat);
     let reply = book.deliver(seat.number(), set);
+    give(vault, seat, book);
+    reply
+}
+
+/// Delivers an answer that the goal lists, by its row among the program's atoms, which is made before. False comes exactly where
+/// enough were delivered before.
+pub fn list<R: Wait>(
+    rt: &R,
+    vault: &Vault<Book>,
+    seat: &mut Seat<Book>,
+    row: Row,
+    set: Interp,
+) -> Result<bool, AllocError>
+    requires of { IsOf vault.now seat.old }
+    requires rests { (view seat.old).holds ≡ false }
+    requires goal { sought (seen_board (view seat.old)).task.goal ≡ None }
+    requires listed { IsTrue (lists (seen_board (view seat.old)).task set) }
+    requires answer { IsTrue (is_answer (seen_board (view seat.old)).task set) }
+    requires row { IsRowFor (atoms_of (seen_board (view seat.old)).task.program) set row }
+    ensures of { IsBeside seat.old seat.new }
+    ensures stays { Stays (view seat.old) (view seat.new) }
+    ensures ok { IfOk result (λ r. (before : List Event) × (r ≡ not (is_enough (replay (task_of (view seat.old)) before))) × IsCall (view seat.old) (view seat.new) before (delivered (view seat.old).number set r)) }
+    ensures err { OnErr result ((before : List Event) × IsCall (view seat.old) (view seat.new) before []) }
+{
+    let mut book = vault.take(rt, seat);
+    let reply = book.list(seat.number(), row, set);
     give(vault, seat, book);
     reply
 }

@@ -26,7 +26,7 @@ use Rattle.asp_bound.specs.declared.place.Item.{Item}
 use Rattle.asp_bound.specs.Optimism.{optimistic}
 use Rattle.asp_bound.specs.Definition.{ExcludesBelow}
 use Rattle.asp_bound.specs.Rises.{rise_at, rise_by, raised, row_at, nth_priority}
-use Rattle.asp_bound.specs.Needed.{total, needed}
+use Rattle.asp_bound.specs.Needed.{total, needed, MayFall}
 use Rattle.asp_bound.specs.Reasons.{raises, raising_by, raising_at}
 use Rattle.asp_bound.specs.Raisers.{is_raising, is_raising_by, is_raiser, AreRaisers}
 use Rattle.asp_bound.specs.Reach.{reach, lifted}
@@ -37,7 +37,7 @@ use Rattle.asp_bound.specs.declared.find.Implied.{Implied}
 use Rattle.asp_bound.proofs.CostLaws.{cost_of-values}
 use Rattle.asp_bound.proofs.ReachLaws.{reached_now}
 use Rattle.asp_bound.proofs.SilentLaws.{reach_at-set}
-use Rattle.asp_bound.proofs.KeptLaws.{held-value, kept-told, sums-count}
+use Rattle.asp_bound.proofs.KeptLaws.{held-value, kept-told, sums-count, rows-small, sums-room}
 use Rattle.asp_bound.proofs.NeededLaws.{OfRaising, Covers, AreHeld, held-permuted, needed-excludes, needed-among, all-has, total-low, of-has, passes-has, hold-has, times, itself, beq-itself}
 
 -- ---- what a nogood says
@@ -302,12 +302,21 @@ found_as a rows d vars vs lits found ev moved ef =
     subst (λ (ws : List ℕ). IsPermutation (raising_of a rows d ws) found) ev (subst (IsPermutation (raising_of a rows d vs)) (sym ef) moved)
 
 -- ---- what the search for what is needed asks for
-pub left-vars : (p : Program) (a : List (Option Bool)) (rows : List (List Place)) (columns : List (List Item)) (vars : List ℕ) (left : List ℤ) (found : List Literal) → IsKept p a rows columns vars left → AreHeld p a found → All (λ (l : Literal). (0 < l.var) × (l.var < length rows)) found
+left-vars : (p : Program) (a : List (Option Bool)) (rows : List (List Place)) (columns : List (List Item)) (vars : List ℕ) (left : List ℤ) (found : List Literal) → IsKept p a rows columns vars left → AreHeld p a found → All (λ (l : Literal). (0 < l.var) × (l.var < length rows)) found
 left-vars p a rows columns vars left found kept held = all-has (λ (l : Literal). (0 < l.var) × (l.var < length rows)) found (λ k g. ((held.within k g).0, omega (arith, kept.rowed.count, (held.within k g).1)))
 
 pub left-within : (p : Program) (a : List (Option Bool)) (rows : List (List Place)) (columns : List (List Item)) (vars : List ℕ) (left : List ℤ) → IsKept p a rows columns vars left → (v : ℕ) → All (λ (o : Place). o.level < length left) (row_at rows v)
 left-within p a rows columns vars left kept v = subst (λ (n : ℕ). All (λ (o : Place). o.level < n) (row_at rows v)) (sym (sums-count p a rows columns vars left kept)) (kept.rowed.within v)
 
-pub left-low : (p : Program) (a : List (Option Bool)) (rows : List (List Place)) (columns : List (List Item)) (vars : List ℕ) (left : List ℤ) (found : List Literal) → IsKept p a rows columns vars left → AreHeld p a found →
+left-low : (p : Program) (a : List (Option Bool)) (rows : List (List Place)) (columns : List (List Item)) (vars : List ℕ) (left : List ℤ) (found : List Literal) → IsKept p a rows columns vars left → AreHeld p a found →
     (j : ℕ) → j < length left → (neg_ℤ (pos (2 ^ 60)) +ℤ pos (total rows j found)) ≤ℤ get_or left j (pos 0)
 left-low p a rows columns vars left found kept held j lt = omega (arith, ints, total-low p rows columns vars found a left kept held j lt)
+
+pub may_fall : (p : Program) (a : List (Option Bool)) (rows : List (List Place)) (columns : List (List Item)) (vars : List ℕ) (left : List ℤ) (found : List Literal) → IsKept p a rows columns vars left → AreHeld p a found → MayFall rows left found
+may_fall p a rows columns vars left found kept held = record {
+  vars = left-vars p a rows columns vars left found kept held;
+  within = left-within p a rows columns vars left kept;
+  small = rows-small p a rows columns vars left kept;
+  low = left-low p a rows columns vars left found kept held;
+  high = sums-room p a rows columns vars left kept;
+}

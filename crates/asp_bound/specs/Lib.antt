@@ -13,3 +13,4 @@ pub mod Bounded
 pub mod Starts
 pub mod Kept
 pub mod Raisers
+pub mod Lists

@@ -1,5 +1,6 @@
 -- Which literals the bound's nogood needs.
-use Rattle.std.specs.Prelude.{ℕ, suc, nat_le, Bool, false, if◌then◌else◌, List, [], ◌∷◌, Option, Some, None, sum_by, ℤ, pos, ◌-ℤ◌}
+use Rattle.std.specs.Prelude.{ℕ, suc, ◌<◌, ◌^◌, nat_le, Bool, false, if◌then◌else◌, List, [], ◌∷◌, length, slice_index_or, Option, Some, None, sum_by, ℤ, pos, neg_ℤ, ◌+ℤ◌, ◌-ℤ◌, ◌<ℤ◌, ◌≤ℤ◌}
+use Rattle.std.specs.List.{All}
 use Rattle.asp_vars.specs.Literals.{Literal}
 use Rattle.asp_bound.specs.declared.place.Place.{Place}
 use Rattle.asp_bound.specs.Rises.{raised, row_at}
@@ -33,3 +34,11 @@ abbrev pub needed : List (List Place) → List ℤ → ℕ → List ℤ → List
 needed rows bound depth sums [] = []
 needed rows bound depth sums (l ∷ ls) =
     if is_shown depth (reach (without rows sums l) bound) then needed rows bound depth (without rows sums l) ls else l ∷ needed rows bound depth sums ls
+
+-- The sums are such that what each of the literals adds can be taken away.
+pub record MayFall (rows : List (List Place)) (sums : List ℤ) (lits : List Literal) : Type 0 where
+  pub vars : All (λ l. (0 < l.var) × (l.var < length rows)) lits
+  pub within : (v : ℕ) → All (λ o. o.level < length sums) (row_at rows v)
+  pub small : (v j : ℕ) (b : Bool) → 0 < v → v < length rows → j < length sums → raised (row_at rows v) j b < 2 ^ 60
+  pub low : (j : ℕ) → j < length sums → (neg_ℤ (pos (2 ^ 60)) +ℤ pos (total rows j lits)) ≤ℤ slice_index_or sums j (pos 0)
+  pub high : (j : ℕ) → j < length sums → slice_index_or sums j (pos 0) <ℤ pos (2 ^ 60)

@@ -5,7 +5,7 @@
 //! optimistic cost isn't smaller than the bound, enough of the true literals that raised it make a nogood; where it wouldn't be with
 //! one more literal, they make one together with that literal. At each priority the variables stand in the order of what
 //! they can add, so only those that may reach the bound are looked at, from a start on: those before it have values.
-ghost use Rattle.std.specs.Prelude.{◌≡◌, ◌<◌, ◌≤◌, ◌^◌, ◌+◌, IfOk, IfSome, Some, None, true, length, is_none};
+ghost use Rattle.std.specs.Prelude.{◌≡◌, ◌<◌, ◌≤◌, IfOk, IfSome, Some, None, true, length, is_none};
 ghost use Rattle.asp_trail.specs.Entries.{assignment};
 ghost use Rattle.asp_trail.specs.Told.{told, untold};
 ghost use Rattle.asp_trail.specs.Trails.{IsVar};
@@ -15,13 +15,11 @@ ghost use Rattle.asp_bound.specs.Silence.{is_silent};
 ghost use Rattle.asp_bound.specs.Bounded.{IsSmaller, IsGiven};
 ghost use Rattle.asp_bound.specs.Gathered.{valueless};
 
-use crate::find::find;
-use crate::levels::{all_levels, vars_of};
-use crate::needed::needed;
+use crate::given::given;
+use crate::levels::{Tables, all_tables};
+use crate::lists::{Lists, lists_of};
 use crate::place::{Item, Place};
 use crate::raisers::Raisers;
-use crate::reach::reach;
-use crate::reasons::{below, raising};
 use crate::starts::take_back;
 use crate::sums::{lower, raise};
 use asp_model::cost::Cost;
@@ -81,19 +79,26 @@ impl Bound {
         ensures { IfOk result (λ b. b ≡ record { told = record { program = compiled.now; values = valueless compiled.now }; bound = None }) }
     {
         let count = compiled.vars();
-        let levels = all_levels(alloc, compiled)?;
-        let rows = levels.rows.into_table(alloc)?;
-        let vars = vars_of(alloc, &rows)?;
-        let starts = vec![in alloc; 0; levels.columns.len()]?;
-        let raisers = Raisers::new(alloc, vars.len())?;
+        let tables = all_tables(alloc, compiled)?;
+        let lists = lists_of(alloc, &tables.rows, tables.columns.len())?;
+        let Tables {
+            rows,
+            columns,
+            sums,
+        } = tables;
+        let Lists {
+            vars,
+            starts,
+            raisers,
+        } = lists;
         Ok(Bound {
             origin: Origin::of(compiled.program()),
             alloc,
             values: ToldValues::none(count),
             rows,
-            columns: levels.columns,
+            columns,
             vars,
-            sums: levels.sums,
+            sums,
             raisers,
             starts,
             bound: None,
@@ -154,58 +159,21 @@ impl Bound {
         let Some(cost) = &self.bound else {
             return Ok(None);
         };
-        let (sums, limits) = (self.sums.as_slice(), cost.as_slice());
-        if let Some(depth) = reach(sums, limits, &[], true) {
-            let raising = raising(
-                self.alloc,
-                values,
-                &self.rows,
-                self.raisers.as_slice(),
-                depth,
-            )?;
-            let mut copy = sums.to_vec(self.alloc)?;
-            let left = copy.as_mut_slice();
-            let lits = needed(
-                self.alloc,
-                &self.rows,
-                left,
-                limits,
-                depth,
-                raising.as_slice(),
-            )?;
-            let nogood = below(lits, cost, None)?;
-            return Ok(Some(nogood));
-        }
-        let Some(implied) = find(
+        let vars = self.vars.as_slice();
+        let raisers = self.raisers.as_slice();
+        let sums = self.sums.as_slice();
+        let starts = self.starts.as_mut_slice();
+        given(
+            self.alloc,
+            &self.origin,
             values,
             &self.rows,
             &self.columns,
+            vars,
+            raisers,
             sums,
-            limits,
-            self.starts.as_mut_slice(),
-        ) else {
-            return Ok(None);
-        };
-        let raising = raising(
-            self.alloc,
-            values,
-            &self.rows,
-            self.raisers.as_slice(),
-            implied.depth,
-        )?;
-        let mut copy = sums.to_vec(self.alloc)?;
-        let left = copy.as_mut_slice();
-        let row = self.rows.row(implied.lit.var() as usize);
-        raise(left, row, implied.lit.truth());
-        let lits = needed(
-            self.alloc,
-            &self.rows,
-            left,
-            limits,
-            implied.depth,
-            raising.as_slice(),
-        )?;
-        let nogood = below(lits, cost, Some(implied.lit))?;
-        Ok(Some(nogood))
+            cost,
+            starts,
+        )
     }
 }

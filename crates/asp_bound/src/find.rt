@@ -1,5 +1,5 @@
 //! Which variables can't get a value any more.
-ghost use Rattle.std.specs.Prelude.{◌≡◌, ◌<◌, ◌≤◌, ◌^◌, ◌+ℤ◌, ◌<ℤ◌, ◌≤ℤ◌, ℕ, Bool, [], pos, length, slice_index_or, IfSome, IfNone};
+ghost use Rattle.std.specs.Prelude.{◌≡◌, ◌<◌, ◌≤◌, ◌^◌, ◌<ℤ◌, ℕ, Bool, [], pos, length, slice_index_or, IfSome, IfNone};
 ghost use Rattle.std.specs.List.{All, AllPairs};
 ghost use Rattle.asp_bound.specs.declared.place.Item.{Item};
 ghost use Rattle.asp_bound.specs.Rises.{raised, row_at};

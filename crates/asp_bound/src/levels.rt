@@ -1,15 +1,13 @@
 //! The tables of a program's weights, priority by priority.
-ghost use Rattle.std.specs.Prelude.{◌≡◌, ◌<◌, ◌≤◌, ◌+◌, ◌*◌, ◌-◌, ◌^◌, [], ◌∷◌, ◌++◌, ℕ, ℤ, List, IfOk, OnOk, pos, neg_ℤ, length, map, slice_index_or, slice_set, replicate, None, true};
+ghost use Rattle.std.specs.Prelude.{◌≡◌, ◌<◌, ◌≤◌, ◌+◌, ◌*◌, ◌-◌, ◌^◌, [], ◌∷◌, ◌++◌, ℕ, IfOk, OnOk, pos, length, map, slice_index_or, slice_set, true};
 ghost use Rattle.std.specs.List.{All, AllPairs};
 ghost use Rattle.std.specs.List.Sorted.{IsPermutation};
 ghost use Rattle.std.specs.Int.RustNames.{unsigned_abs};
 ghost use Rattle.asp_model.specs.Costs.{priorities};
 ghost use Rattle.asp_vars.specs.Numbering.{var_count};
 ghost use Rattle.asp_bound.specs.Levels.{additions_of, additions_to, item_of, place_of, least_to, ArePlaced};
-ghost use Rattle.asp_bound.specs.Optimism.{items_at, optimistic};
-ghost use Rattle.asp_bound.specs.Rises.{row_at, AreRows, AreColumns, IsColumn, nth_priority};
-ghost use Rattle.asp_bound.specs.Weights.{size_of, AreWeights};
-ghost use Rattle.asp_bound.specs.Kept.{AreSmall, AreVars};
+ghost use Rattle.asp_bound.specs.Optimism.{optimistic};
+ghost use Rattle.asp_bound.specs.Rises.{row_at};
 ghost use Rattle.asp_bound.specs.Kept.{IsOnce};
 ghost use Rattle.asp_bound.specs.Gathered.{IsGathered, AreGathered, HasEach};
 
@@ -196,12 +194,41 @@ fn levels_of(alloc: Global, compiled: &Compiled, priorities: &[i32]) -> Result<L
     })
 }
 
-/// The tables of a program.
-pub fn all_levels(alloc: Global, compiled: &Compiled) -> Result<Levels, AllocError>
+// The tables of a program.
+fn all_levels(alloc: Global, compiled: &Compiled) -> Result<Levels, AllocError>
     ensures { IfOk result (λ l. AreGathered compiled.now (priorities compiled.now.minimize) l.rows l.columns l.sums.items) }
 {
     let priorities = priorities(alloc, compiled.program().minimize.as_slice())?;
     levels_of(alloc, compiled, priorities.as_slice())
+}
+
+/// The same, with the places as a table.
+#[derive(Drop)]
+pub struct Tables {
+    /// By variable, what it adds at which priority.
+    pub rows: Table<Place>,
+    /// By priority, the greatest first: the variables that can add to it, the one that adds most first.
+    pub columns: Table<Item>,
+    /// By priority, the optimistic cost where no variable has a value.
+    pub sums: Vec<i64>,
+}
+
+/// The tables of a program, the places by variable too.
+pub fn all_tables(alloc: Global, compiled: &Compiled) -> Result<Tables, AllocError>
+    ensures { IfOk result (λ t. AreGathered compiled.now (priorities compiled.now.minimize) t.rows t.columns t.sums.items) }
+{
+    let levels = all_levels(alloc, compiled)?;
+    let Levels {
+        rows,
+        columns,
+        sums,
+    } = levels;
+    let table = rows.into_table(alloc)?;
+    Ok(Tables {
+        rows: table,
+        columns,
+        sums,
+    })
 }
 
 /// The variables that have places, each once.

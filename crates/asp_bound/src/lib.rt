@@ -3,8 +3,10 @@
 
 pub mod bound;
 mod find;
+mod given;
 pub mod laws;
 mod levels;
+mod lists;
 mod near;
 mod needed;
 mod place;

@@ -1,5 +1,5 @@
 //! Where a raised cost reaches the bound.
-ghost use Rattle.std.specs.Prelude.{◌≡◌, ◌<◌, ◌≤◌, ◌^◌, ◌+ℤ◌, ◌≤ℤ◌, ◌<ℤ◌, ℕ, length, pos, neg_ℤ, slice_index_or, IfSome};
+ghost use Rattle.std.specs.Prelude.{◌≡◌, ◌<◌, ◌≤◌, ◌^◌, ◌<ℤ◌, ℕ, length, pos, slice_index_or};
 ghost use Rattle.asp_bound.specs.Rises.{raised};
 ghost use Rattle.asp_bound.specs.Reach.{reach, depth, lifted};
 

@@ -4,7 +4,6 @@ ghost use Rattle.std.specs.List.{All, flat_map};
 ghost use Rattle.std.specs.List.Sorted.{IsPermutation};
 ghost use Rattle.std.specs.Option.{option_to_list};
 ghost use Rattle.asp_vars.specs.declared.nogood.Base.TheVariants as base;
-ghost use Rattle.asp_bound.specs.Rises.{row_at};
 ghost use Rattle.asp_bound.specs.Reasons.{raises, raising_at};
 
 use crate::place::Place;

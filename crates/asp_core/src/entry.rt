@@ -1,5 +1,6 @@
 //! Entries of a journal.
 ghost use Rattle.std.specs.Prelude.{◌≡◌};
+ghost use Rattle.asp_core.specs.declared.event.Event.TheVariants as event;
 ghost use Rattle.asp_core.specs.Entries.{event_of};
 
 use crate::event::Event;
@@ -65,6 +66,14 @@ impl Entry {
             Event::Lease(by, n) => Kind::Lease(*by, *n),
             Event::Back(by, left, burnt) => Kind::Back(*by, *left, *burnt),
         };
+        Entry { kind }
+    }
+
+    /// The entry of an answer's listing. It takes no memory.
+    pub fn listing(by: u32, set: &Interp) -> Entry
+        ensures { result ≡ event.Deliver by set.now }
+    {
+        let kind = Kind::Deliver(by, Snapshot::of(set));
         Entry { kind }
     }
 

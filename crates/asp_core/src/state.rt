@@ -3,6 +3,7 @@ ghost use Rattle.std.specs.Prelude.{◌≡◌, ◌+◌, ◌++◌, ◌^◌, ◌<�
 ghost use Rattle.std.specs.Option.{IfSome, is_some, option_copied};
 ghost use Rattle.asp_model.specs.Costs.{cost, betters};
 ghost use Rattle.asp_model.specs.Models.{atoms_of};
+ghost use Rattle.asp_rows.specs.Listed.{IsRowFor};
 ghost use Rattle.asp_path.specs.declared.status.Status.TheVariants as status;
 ghost use Rattle.asp_path.specs.Trees.{cube_of, status_of, is_open, all_closed, open_from, held_count, leaf_count};
 ghost use Rattle.asp_core.specs.declared.event.Event.TheVariants as event;
@@ -23,6 +24,7 @@ use asp_model::interp::Interp;
 use asp_model::program::{Atom, Program};
 use asp_model::seq::Seq;
 use asp_path::tree::{Leaf, Tree};
+use asp_rows::row::Row;
 use asp_rows::rows::Rows;
 use asp_vars::compiled::Compiled;
 use asp_vars::known::Known;
@@ -90,15 +92,15 @@ impl Model for State {
     ghost invariant = { IsState };
 }
 
-// Puts a copy of the set among the different ones, where there is a limit to count them for.
-fn count_in(limit: u64, different: &mut BTreeSet<Interp>, set: &Interp) -> Result<(), AllocError>
-    ensures ok { OnOk result (different.new.keys ≡ (if limit == 0 then different.old.keys else with_set set.now different.old.keys)) }
+// Puts the set among the different ones, where there is a limit to count them for.
+fn count_in(limit: u64, different: &mut BTreeSet<Interp>, set: Interp) -> Result<(), AllocError>
+    ensures ok { OnOk result (different.new.keys ≡ (if limit == 0 then different.old.keys else with_set set different.old.keys)) }
     ensures err { OnErr result (different.new.keys ≡ different.old.keys) }
 {
     if limit == 0 {
         return Ok(());
     }
-    different.insert(set.copy()?)?;
+    different.insert(set)?;
     Ok(())
 }
 
@@ -204,15 +206,19 @@ impl State {
         Ok(())
     }
 
-    fn list(&mut self, by: u32, set: Interp) -> Result<(), AllocError>
+    /// Lets an answer be delivered that is listed, by its row among the program's atoms.
+    ///
+    /// For want of memory the state stays as it was.
+    pub fn list(&mut self, by: u32, row: Row, set: Interp) -> Result<(), AllocError>
         requires guard { Guard self.old (event.Deliver by set) }
         requires listed { sought self.old.task.goal ≡ None }
+        requires row { IsRowFor (atoms_of self.old.task.program) set row }
         ensures ok { OnOk result (self.new ≡ happens self.old (event.Deliver by set)) }
         ensures err { OnErr result (self.new ≡ self.old) }
     {
         let len = self.answers.len();
-        self.answers.push(self.alloc, &set)?;
-        match count_in(self.limit, &mut self.different, &set) {
+        self.answers.push_row(row)?;
+        match count_in(self.limit, &mut self.different, set) {
             Ok(()) => Ok(()),
             Err(error) => {
                 self.answers.truncate(len);
@@ -227,12 +233,16 @@ impl State {
         ensures err { OnErr result (self.new ≡ self.old) }
     {
         match &self.known {
-            None => self.list(by, set),
+            None => {
+                let row = Row::of(self.alloc, self.answers.atoms().as_slice(), &set)?;
+                self.list(by, row, set)
+            }
             Some(known) => {
                 let known = known.with(&set)?;
+                let told = Snapshot::of(&set);
                 self.told.reserve(1)?;
-                count_in(self.limit, &mut self.different, &set)?;
-                self.told.push_reserved(Snapshot::of(&set));
+                count_in(self.limit, &mut self.different, set)?;
+                self.told.push_reserved(told);
                 self.known = Some(known);
                 Ok(())
             }

@@ -62,7 +62,7 @@ if_ok (Err e) P Q f h = tt
 none_some : {A : Type 0} (x : A) → None ≡ Some x → ⊥
 none_some x q = cc
 
-pub followed_begin : (why : Program → List Entry → Literal → ℕ → Type 0) (t : Told) (s : Stored) (r : Trailed) (vars : ℕ) → s ≡ record { vars = vars; slots = []; rows = []; apart = record { items = []; retired = 0 }; given = [] } → r.vars ≡ vars →
+pub followed_begin : (why : Program → List Entry → Literal → ℕ → Type 0) (t : Told) (s : Stored) (r : Trailed) (vars : ℕ) → s ≡ record { vars = vars; slots = []; rows = []; apart = record { items = []; first = 0; last = 0 }; given = [] } → r.vars ≡ vars →
     r.entries ≡ [] → vars ≤ r.room → vars ≡ var_count t.program → t.values ≡ replicate (vars + 1) None → IsFollowed why t s r 0
 followed_begin why t s r vars store v e room count fresh = record {
   told = record {

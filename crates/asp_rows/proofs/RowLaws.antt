@@ -1,10 +1,12 @@
 -- Rows are made word by word, and sorted as their sets.
-use Rattle.std.proofs.Common.{◌≡◌, ℕ, suc, ◌+◌, ◌-◌, ◌*◌, ◌^◌, ◌<◌, ◌≤◌, Bool, true, false, nat_lt, List, [], ◌∷◌, ◌++◌, map, min, take, drop, length, get_or, refl, sym, ap, ◌∙◌, append_assoc, add-one, arith, length-drop}
+use Rattle.std.proofs.Common.{◌≡◌, ℕ, suc, ◌+◌, ◌-◌, ◌*◌, ◌^◌, ◌<◌, ◌≤◌, Bool, true, false, nat_lt, List, [], ◌∷◌, ◌++◌, map, min, take, drop, length, get_or, refl, sym, ap, ◌∙◌, append_assoc, add-one, arith, length-drop, subst}
 use Rattle.std.proofs.Math.Nat.{pow-succ', min_comm}
 use Rattle.std.proofs.lemmas.Bool.Decides.{nat_tests}
 use Rattle.asp_model.specs.Sets.{Atoms, has}
 use Rattle.std.proofs.lemmas.List.{drop-drop, drop_all, take_min, take_more}
-use Rattle.asp_rows.specs.Bits.{bit, encode, value, with_bits, word_count, words}
+use Rattle.asp_rows.specs.Bits.{bit, encode, value, with_bits, word_count, words, IsAmong}
+use Rattle.asp_rows.specs.declared.row.Row.{Row}
+use Rattle.asp_rows.specs.Listed.{IsRowFor, IsRowOf}
 
 -- ---- one word
 
@@ -80,3 +82,7 @@ words_more atoms S from n w done pushed lt is one push before =
     ∙ ap (λ (k : ℕ). done ++ k ∷ encode (drop 64 (drop from atoms)) S) word
     ∙ ap (λ (t : List ℕ). done ++ t) (sym (encode_step (drop from atoms) S (omega (arith, len, lt))))
     ∙ before
+
+-- ---- the row of a set
+pub row-of : (atoms S : Atoms) (row : Row) → IsRowFor atoms S row → IsAmong atoms S → IsRowOf atoms row
+row-of atoms S row is among = record { words = is.words ∙ ap (encode atoms) (sym is.set); among = subst (IsAmong atoms) (sym is.set) among }

@@ -16,6 +16,11 @@ pub record IsRowOf (atoms : Atoms) (row : Row) : Type 0 where
   pub words : row.words.items ≡ encode atoms row.set
   pub among : IsAmong atoms row.set
 
+-- the row of this set among these atoms
+pub record IsRowFor (atoms S : Atoms) (row : Row) : Type 0 where
+  pub words : row.words.items ≡ encode atoms S
+  pub set : row.set ≡ S
+
 abbrev pub AreRows : Atoms → List Row → Type 0
 AreRows atoms rows = AllByRecursion (IsRowOf atoms) rows
 

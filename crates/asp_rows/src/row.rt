@@ -44,7 +44,7 @@ impl Row {
     ghost use Rattle.asp_rows.specs.Listed.{IsRowOf};
 
     /// The row of a set.
-    pub(crate) fn of(alloc: Global, atoms: &[Atom], set: &Interp) -> Result<Row, AllocError>
+    pub fn of(alloc: Global, atoms: &[Atom], set: &Interp) -> Result<Row, AllocError>
         ensures words { IfOk result (λ row. row.words.items ≡ encode atoms.now set.now) }
         ensures set { IfOk result (λ row. row.set ≡ set.now) }
     {

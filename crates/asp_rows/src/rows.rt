@@ -1,7 +1,7 @@
 //! Sets among the same atoms as rows of bits.
 ghost use Rattle.std.specs.Prelude.{◌≡◌, ◌++◌, ◌∷◌, [], length, map, take, IfOk, OnOk, OnErr};
 ghost use Rattle.asp_rows.specs.Bits.{IsAmong};
-ghost use Rattle.asp_rows.specs.Listed.{SortsSingle};
+ghost use Rattle.asp_rows.specs.Listed.{IsRowOf, SortsSingle};
 
 use crate::row::Row;
 use asp_model::interp::Interp;
@@ -85,6 +85,16 @@ impl Rows {
     {
         let row = Row::of(alloc, self.atoms.as_slice(), set)?;
         self.rows.push(row)?;
+        Ok(())
+    }
+
+    /// Adds the set of a row among these atoms at the end. Want of memory leaves all as it was.
+    pub fn push_row(&mut self, added: Row) -> Result<(), AllocError>
+        requires { IsRowOf self.old.atoms added }
+        ensures ok { OnOk result (self.new ≡ record self.old { sets = self.old.sets ++ added.set ∷ [] }) }
+        ensures err { OnErr result (self.new ≡ self.old) }
+    {
+        self.rows.push(added)?;
         Ok(())
     }
 

@@ -4,6 +4,7 @@ ghost use Rattle.std.specs.List.{All};
 ghost use Rattle.std.specs.Option.{option_copied};
 ghost use Rattle.asp_model.specs.Asked.{reasoning_of};
 ghost use Rattle.asp_model.specs.Consequences.{unshown};
+ghost use Rattle.asp_model.specs.Models.{atoms_of};
 ghost use Rattle.asp_model.specs.Sets.{IsSubset};
 ghost use Rattle.asp_vars.specs.Entailment.{IsGood, IsSharedBy};
 ghost use Rattle.asp_vars.specs.Literals.{Literal};
@@ -302,6 +303,13 @@ impl<'a, P: Propagator> Search<'a, P> {
             None => None,
             Some(seen) => count_unshown(seen),
         }
+    }
+
+    /// The atoms that stand in the program, ascending.
+    pub fn atoms(&self) -> &Interp
+        ensures { result.now ≡ atoms_of self.now.program }
+    {
+        self.compiled.atoms()
     }
 
     /// The cost below which answers are sought, if there is one.

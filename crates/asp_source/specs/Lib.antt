@@ -7,3 +7,4 @@ pub mod Gathering
 pub mod Founding
 pub mod Rest
 pub mod Kept
+pub mod Starts

@@ -23,7 +23,7 @@ use asp_vars::compiled::Compiled;
 use asp_vars::lit::{Lit, Var};
 
 /// A component of the program, where candidates are gathered.
-#[derive(Drop)]
+#[derive(Clone, Copy)]
 pub struct Region<'a> {
     /// The program.
     pub compiled: &'a Compiled,

@@ -35,6 +35,15 @@ impl Ranks {
         Ok(Ranks { ranks, clock: 1 })
     }
 
+    /// All ranks are the same again.
+    pub fn renew(&mut self)
+        ensures size { length self.new.ranks ≡ length self.old.ranks }
+        ensures clock { self.new.clock ≡ 1 }
+    {
+        self.ranks.as_mut_slice().fill(0);
+        self.clock = 1;
+    }
+
     /// An atom's rank.
     pub fn of(&self, var: Var) -> u64
         requires { var < length self.now.ranks }

@@ -3,6 +3,7 @@ ghost use Rattle.std.specs.Prelude.{◌≡◌, ℕ, ◌+◌, ◌-◌, ◌^◌, �
 ghost use Rattle.asp_model.specs.Models.{atoms_of};
 ghost use Rattle.asp_vars.specs.Numbering.{var_count, nth_atom};
 ghost use Rattle.asp_vars.specs.Tabled.{IsAtomVar};
+ghost use Rattle.asp_loop.specs.LoopNogoods.{IsLoopNogood};
 ghost use Rattle.asp_scc.specs.Components.{AreComponents};
 ghost use Rattle.asp_source.specs.Loops.{IsUnfoundedLoop};
 ghost use Rattle.asp_source.specs.Marks.{is_marked, atoms_at, AreBlank};
@@ -14,15 +15,17 @@ use crate::gather::{Region, admit, gather};
 use crate::loose::{atom_at, choose, collect, drain, settle};
 use crate::queue::Queue;
 use crate::ranks::Ranks;
+use asp_loop::loops::loop_nogood;
 use asp_model::program::Atom;
 use asp_scc::components::Components;
 use asp_vars::assign::Assign;
 use asp_vars::compiled::Compiled;
 use asp_vars::lit::Var;
+use asp_vars::nogood::Nogood;
 use std::alloc::{AllocError, Global};
 
 /// A program with its components, and the values told.
-#[derive(Drop)]
+#[derive(Clone, Copy)]
 pub struct Setting<'a> {
     /// Gives the memory of what is found.
     pub alloc: Global,
@@ -116,11 +119,7 @@ fn look(
     settle(compiled, values, sources, ranks, loose, waiting, places);
     let left = left_of(setting, loose, places);
     drain(queue, loose, joined);
-    let left = left?;
-    let Some(found) = left else {
-        return Ok(None);
-    };
-    Ok(Some(found))
+    left
 }
 
 /// An unfounded set, and an atom of it, if there is one. Atoms that get a source leave the queue, and false ones.
@@ -166,4 +165,24 @@ pub fn first_unfounded(
         }
     }
     Ok(None)
+}
+
+/// The loop nogood of an unfounded set that was found.
+pub fn nogood_of(setting: &Setting, found: &Unfounded) -> Result<Nogood, AllocError>
+    requires found { IsFound setting.now.compiled.now setting.now.values.now found.now.atoms.items found.now.atom }
+    requires values { length setting.now.values.now ≡ var_count setting.now.compiled.now + 1 }
+    ensures { IfOk result (IsLoopNogood setting.now.compiled.now setting.now.values.now found.now.atoms.items found.now.atom) }
+{
+    let atoms = found.atoms.as_slice();
+    let nogood = loop_nogood(
+        setting.alloc,
+        setting.compiled,
+        atoms,
+        found.atom,
+        setting.values,
+    )?;
+    match nogood {
+        Some(nogood) => Ok(nogood),
+        None => unreachable!(),
+    }
 }

@@ -21,9 +21,8 @@ use crate::pointers::{lose_by, regain};
 use crate::queue::Queue;
 use crate::ranks::Ranks;
 use crate::rest::Found;
-use crate::search::{Setting, first_unfounded};
-use crate::start::{has_weights, queue_of, refresh};
-use asp_loop::loops::loop_nogood;
+use crate::search::{Setting, first_unfounded, nogood_of};
+use crate::start::{Bare, Blank, bare_pointers, blank_marks, has_weights, refresh};
 use asp_model::program::Atom;
 use asp_scc::components::Components;
 use asp_scc::find::components;
@@ -88,14 +87,20 @@ impl<'a> Sources<'a> {
     {
         let components = components(alloc, compiled)?;
         let values = ToldValues::none(compiled.vars());
-        let sources = vec![in alloc; 0 as u32; compiled.atom_count() + 1]?;
-        let ranks = Ranks::new(alloc, compiled.atom_count() + 1)?;
-        let queue = queue_of(alloc, compiled, &components)?;
+        let pointers = bare_pointers(alloc, compiled, &components)?;
+        let marks = blank_marks(alloc, compiled)?;
+        let Bare {
+            sources,
+            ranks,
+            queue,
+        } = pointers;
+        let Blank {
+            loose,
+            waiting,
+            joined,
+        } = marks;
         let tight = queue.is_empty();
         let weighted = has_weights(compiled);
-        let loose = vec![in alloc; false; compiled.atom_count() + 1]?;
-        let waiting = Queue::new(alloc, compiled.atom_count())?;
-        let joined = Queue::new(alloc, compiled.atom_count())?;
         let found = Found::new(alloc);
         Ok(Sources {
             alloc,
@@ -186,47 +191,37 @@ impl<'a> Sources<'a> {
         if self.tight {
             return Ok(None);
         }
+        let sources = self.sources.as_mut_slice();
         refresh(
-            self.alloc,
             self.compiled,
             &self.components,
             values,
-            &mut self.sources,
+            sources,
             &mut self.ranks,
             &mut self.queue,
-        )?;
+        );
         let setting = Setting {
             alloc: self.alloc,
             compiled: self.compiled,
             components: &self.components,
             values,
         };
+        let loose = self.loose.as_mut_slice();
         let found = first_unfounded(
             &setting,
-            self.sources.as_mut_slice(),
+            sources,
             &mut self.ranks,
             &mut self.queue,
-            self.loose.as_mut_slice(),
+            loose,
             &mut self.waiting,
             &mut self.joined,
         )?;
         let Some(found) = found else {
             return Ok(None);
         };
-        let nogood = loop_nogood(
-            self.alloc,
-            self.compiled,
-            found.atoms.as_slice(),
-            found.atom,
-            values,
-        )?;
-        match nogood {
-            Some(nogood) => {
-                self.found.keep(found.atoms, &nogood)?;
-                Ok(Some(nogood))
-            }
-            None => unreachable!(),
-        }
+        let nogood = nogood_of(&setting, &found)?;
+        self.found.keep(found.atoms, &nogood)?;
+        Ok(Some(nogood))
     }
 
     /// The loop nogood of a set of atoms that aren't false, within a component that isn't trivial, which is unfounded

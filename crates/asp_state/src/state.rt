@@ -42,6 +42,7 @@ use asp_vars::lit::{Lit, Var};
 use asp_vars::nogood::{Base, Lits, Nogood};
 use std::alloc::{AllocError, Global};
 use std::marker::Model;
+use std::mem;
 
 // How often the order ages between the bumps for places in bodies whose definitions the completion doesn't list and those
 // for places in the completion. The increment grows by its sixteenth each time, and (17/16)^34 is about 8. With a whole
@@ -123,15 +124,23 @@ impl<P: Propagator> SearchState<P> {
         let mut engine = Engine::new(alloc, vars, propagator)?;
         begin_unlisted(&mut order, compiled);
         order.age(AGE);
-        keep_completion(alloc, compiled, &mut engine, &mut order)?;
-        prefer_cheap(&mut order, compiled);
-        Ok(SearchState {
-            engine,
-            order,
-            cube: None,
-            clashing: false,
-            decisions: Vec::new(alloc),
-        })
+        match keep_completion(alloc, compiled, &mut engine, &mut order) {
+            Ok(()) => {
+                prefer_cheap(&mut order, compiled);
+                Ok(SearchState {
+                    engine,
+                    order,
+                    cube: None,
+                    clashing: false,
+                    decisions: Vec::new(alloc),
+                })
+            }
+            Err(error) => {
+                mem::drop(engine);
+                mem::drop(order);
+                Err(error)
+            }
+        }
     }
 
     /// No path is entered any more: nothing holds.

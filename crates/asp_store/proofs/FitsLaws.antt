@@ -3,7 +3,7 @@ use Rattle.std.proofs.Common.{◌≡◌, ◌≢◌, ℕ, ◌<◌, ◌≤◌, ◌
 use Rattle.std.specs.List.{AllPairs}
 use Rattle.std.specs.Option.{option_map}
 use Rattle.std.proofs.lemmas.List.{length-append, get_or_append_left, get_or_push}
-use Rattle.std.proofs.lemmas.Option.{none-some}
+use Rattle.std.proofs.lemmas.Option.{slice_get_within, none-some}
 use Rattle.asp_vars.specs.declared.nogood.Nogood.{Nogood}
 use Rattle.asp_trail.specs.declared.trail.Entry.{Entry}
 use Rattle.asp_trail.specs.Entries.{cut}
@@ -19,7 +19,7 @@ use Rattle.asp_store.specs.Storing.{Stored, Fits, locked_at, removed, recalled, 
 use Rattle.asp_store.proofs.GetLaws.{is_or_not, at_set, at_set_other}
 use Rattle.asp_store.proofs.WatchLaws.{reason_grow, reason_cut, cut_at, watched_cut, has_false_cut}
 use Rattle.asp_store.proofs.GrowLaws.{reasons_new}
-use Rattle.asp_store.proofs.SoundLaws.{fit_grow, from_zero}
+use Rattle.asp_store.proofs.SoundLaws.{fit_grow}
 
 pub none_kept : (slots : List (Option StoredNogood)) (id : ℕ) (n : Nogood) → kept_at slots id ≡ None → nogood_at slots id ≡ Some n → ⊥
 none_kept slots id n e g = none-some n (sym (ap (option_map (λ (x : StoredNogood). x.nogood)) e) ∙ g)
@@ -115,7 +115,7 @@ fits_add s z t id n kind a f = record {
       | inr ne ↦ f.fit.watched j m p (sym (same_nogood s.slots z.slots j (a.slots.others j ne)) ∙ g) (sym (ap pair_of (a.rows j ne)) ∙ h)
     ];
     unwatched = λ j m g h. elim (is_or_not j id) [
-      | inl e ↦ inl (subst (λ (k : ℕ). IsFrom z.apart z.apart.retired k) (sym e) a.waits)
+      | inl e ↦ inl (subst (λ (k : ℕ). IsFrom z.apart z.apart.first k) (sym e) a.waits)
       | inr ne ↦ elim (f.fit.unwatched j m (sym (same_nogood s.slots z.slots j (a.slots.others j ne)) ∙ g) (sym (ap pair_of (a.rows j ne)) ∙ h)) [
         | inl b ↦ inl (a.apart j b)
         | inr b ↦ inr b
@@ -152,7 +152,7 @@ fits_recall s t f = record {
   fit = record {
     watched = f.fit.watched;
     unwatched = λ id n g h. elim (f.fit.unwatched id n g h) [
-      | inl a ↦ inl (from_zero s.apart s.apart.retired id a)
+      | inl a ↦ inl (a.0, omega arith, slice_get_within s.apart.items a.0 id a.3, a.3)
       | inr a ↦ inr a
     ];
   };
@@ -172,7 +172,7 @@ fits_lose s z t l named f = record {
     unwatched = λ id n g h. elim (l.each id) [
       | inl e ↦ absurd (none_kept z.slots id n e.0 g)
       | inr e ↦ elim (f.fit.unwatched id n (sym (same_nogood s.slots z.slots id e.0) ∙ g) (sym e.1 ∙ h)) [
-        | inl a ↦ inl (subst (λ (p : Parted). IsFrom p p.retired id) (sym l.apart) a)
+        | inl a ↦ inl (subst (λ (p : Parted). IsFrom p p.first id) (sym l.apart) a)
         | inr a ↦ inr a
       ]
     ];

@@ -80,6 +80,11 @@ get_swap xs i d p x h ne g = cases (is_or_not p (length xs - 1))
           λ m a b. b,
         )
 
+pub get_swap_before : {A : Type 0} (xs : List A) (i : ℕ) (d : A) (p : ℕ) → i < length xs → p < i → slice_get (swap_remove xs i d) p ≡ slice_get xs p
+get_swap_before xs i d p h lt =
+    let ne : p ≢ i = λ e. absurd (omega (arith, e, lt)) in
+    get_take (length xs - 1) (set xs i (get_or xs (length xs - 1) d)) p (omega arith) ∙ get_set_other xs i (get_or xs (length xs - 1) d) p ne
+
 pub get_swap_some : {A : Type 0} (xs : List A) (i : ℕ) (d : A) (q : ℕ) (x : A) → i < length xs → slice_get (swap_remove xs i d) q ≡ Some x →
     (p : ℕ) × (slice_get xs p ≡ Some x)
 get_swap_some xs i d q x h g =
@@ -136,9 +141,9 @@ length-swap xs i d h =
     omega (arith, length-take_le (length xs - 1) (set xs i (get_or xs (length xs - 1) d)) (omega (arith, len)))
 
 -- where two change places, each one is there still
-pub get_swapped : {A : Type 0} (xs : List A) (a b p : ℕ) (x : A) → a < length xs → b < length xs → a ≤ b → slice_get xs p ≡ Some x →
-    (q : ℕ) × (slice_get (swap xs a b) q ≡ Some x) × (p ≢ b → a ≤ p → a + 1 ≤ q) × (b < p → q ≡ p)
-get_swapped {A = A} xs a b p x ha hb le g = cases (is_or_not p a) (is_or_not p b) (is_or_not a b)
+pub get_swapped : {A : Type 0} (xs : List A) (a b p : ℕ) (x : A) → a < length xs → b < length xs → slice_get xs p ≡ Some x →
+    (q : ℕ) × (slice_get (swap xs a b) q ≡ Some x) × (((p ≡ a) × (q ≡ b)) ⊎ (((p ≡ b) × (q ≡ a)) ⊎ ((p ≢ a) × (p ≢ b) × (q ≡ p))))
+get_swapped {A = A} xs a b p x ha hb g = cases (is_or_not p a) (is_or_not p b) (is_or_not a b)
   where
     is : set (set xs a (get_or xs b x)) b (get_or xs a x) ≡ swap xs a b
     is = swap_is xs a b x ha hb
@@ -149,25 +154,23 @@ get_swapped {A = A} xs a b p x ha hb le g = cases (is_or_not p a) (is_or_not p b
     seen : (k : ℕ) → slice_get (set (set xs a (get_or xs b x)) b (get_or xs a x)) k ≡ Some x → slice_get (swap xs a b) k ≡ Some x
     seen k h = ap (λ (ys : List A). slice_get ys k) (sym is) ∙ h
 
-    cases : (p ≡ a) ⊎ (p ≢ a) → (p ≡ b) ⊎ (p ≢ b) → (a ≡ b) ⊎ (a ≢ b) → (q : ℕ) × (slice_get (swap xs a b) q ≡ Some x) × (p ≢ b → a ≤ p → a + 1 ≤ q) × (b < p → q ≡ p)
+    cases : (p ≡ a) ⊎ (p ≢ a) → (p ≡ b) ⊎ (p ≢ b) → (a ≡ b) ⊎ (a ≢ b) →
+        (q : ℕ) × (slice_get (swap xs a b) q ≡ Some x) × (((p ≡ a) × (q ≡ b)) ⊎ (((p ≡ b) × (q ≡ a)) ⊎ ((p ≢ a) × (p ≢ b) × (q ≡ p))))
     cases (inl e) o s = (
       b,
       seen b (get_set_same (set xs a (get_or xs b x)) b (get_or xs a x) (omega (arith, hb, length-set xs a (get_or xs b x))) ∙ at a e ha),
-      λ ne low. omega (arith, e, le),
-      λ h. omega (arith, e, le),
+      inl (e, refl),
     )
     cases (inr n) (inl e) (inl s) = absurd (omega (arith, e, s, n))
     cases (inr n) (inl e) (inr s) = (
       a,
       seen a (get_set_other (set xs a (get_or xs b x)) b (get_or xs a x) a s ∙ (get_set_same xs a (get_or xs b x) ha ∙ at b e hb)),
-      λ ne low. absurd (ne e),
-      λ h. absurd (omega (arith, e)),
+      inr (inl (e, refl)),
     )
     cases (inr n) (inr m) s = (
       p,
       seen p (get_set_other (set xs a (get_or xs b x)) b (get_or xs a x) p m ∙ (get_set_other xs a (get_or xs b x) p n ∙ g)),
-      λ ne low. omega (arith, n),
-      λ h. refl,
+      inr (inr (n, m, refl)),
     )
 
 -- lists with one more are equal where the lists are

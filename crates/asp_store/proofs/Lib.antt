@@ -4,6 +4,7 @@ pub mod GetLaws
 pub mod GivenLaws
 pub mod GrowLaws
 pub mod LookLaws
+pub mod PartedLaws
 pub mod PendingLaws
 pub mod PlaceLaws
 pub mod RowLaws

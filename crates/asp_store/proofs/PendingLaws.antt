@@ -1,13 +1,12 @@
 -- What a look at one of those apart leaves.
-use Rattle.std.proofs.Common.{◌≡◌, ◌≢◌, ℕ, ◌+◌, ◌<◌, ◌≤◌, Bool, true, false, List, [], ◌∷◌, ◌++◌, length, set, Option, Some, None, inl, inr, refl, sym, ap, ◌∙◌, subst, arith}
-use Rattle.std.specs.List.{slice_get, swap_remove, swap}
+use Rattle.std.proofs.Common.{◌≡◌, ℕ, ◌≤◌, Bool, true, false, List, [], ◌∷◌, ◌++◌, length, set, Option, Some, None, inl, inr, refl, sym, ap, ◌∙◌, subst, arith}
+use Rattle.std.specs.List.{slice_get}
 use Rattle.std.specs.Option.{is_some}
 use Rattle.std.proofs.lemmas.Bool.{false≢true}
 use Rattle.asp_trail.specs.Entries.{assignment}
 use Rattle.asp_trail.specs.Fixpoint.{is_violated}
 use Rattle.asp_store.specs.Walking.{IsViolated}
-use Rattle.std.proofs.lemmas.List.Edits.{length-swap as swapped_length}
-use Rattle.std.proofs.lemmas.Option.{same_Some, slice_get_within, none-some}
+use Rattle.std.proofs.lemmas.Option.{same_Some, none-some}
 use Rattle.asp_vars.specs.Literals.{Literal, has_literal}
 use Rattle.asp_vars.specs.Codes.{code_of}
 use Rattle.asp_vars.specs.declared.nogood.Nogood.{Nogood}
@@ -21,11 +20,11 @@ use Rattle.asp_store.specs.Keeping.{kept_at, nogood_at, is_lasting}
 use Rattle.asp_store.specs.Lists.{list_at}
 use Rattle.asp_store.specs.Looking.{HaveSame}
 use Rattle.asp_store.specs.Pairs.{pair_of, IsOneOf}
-use Rattle.asp_store.specs.Parted.{Parted, IsFrom}
+use Rattle.asp_store.specs.Parted.{Parted, Retires, Drops}
 use Rattle.asp_store.specs.Fitting.{HasFalse, IsWatched}
 use Rattle.asp_store.specs.Sounding.{IsListed, IsSound, AreSettled}
 use Rattle.asp_store.specs.Pending.{IsLooking, IsWaiting, HasNone, Looks}
-use Rattle.asp_store.proofs.GetLaws.{is_or_not, get_swap, get_swapped, length-swap, at_set}
+use Rattle.asp_store.proofs.GetLaws.{is_or_not, at_set}
 use Rattle.asp_store.proofs.GrowLaws.{kept_within}
 use Rattle.asp_store.proofs.PlaceLaws.{listed_new, listed_push}
 use Rattle.asp_store.proofs.WatchLaws.{has_false_grow}
@@ -35,27 +34,23 @@ use Rattle.asp_store.proofs.SoundLaws.{Suits, sound_row, sound_apart, pair_cases
 use Rattle.asp_store.proofs.StepLaws.{code_of_list, sound_watch}
 
 -- ---- the place goes
-from_swap : (a : Parted) (i x m id : ℕ) → i < length a.items → m ≤ i → (slice_get a.items i ≡ Some id → ⊥) → IsFrom a m id →
-    IsFrom (record a { items = swap_remove a.items i x }) m id
-from_swap a i x m id h low ne f = let g = get_swap a.items i x f.0 id h (λ e. ne (ap (slice_get a.items) (sym e) ∙ f.2)) f.2 in (g.0, g.2 m low f.1, g.1)
-
-pub looks_leave : (slots : List (Option StoredNogood)) (w : Watches) (t : Trailed) (i x : ℕ) → i < length w.apart.items → HasNone slots w i → IsLooking slots w t i →
-    Looks slots w (record w { apart = record w.apart { items = swap_remove w.apart.items i x } }) t i step.Goes
-looks_leave slots w t i x h none k = (
+pub looks_leave : (slots : List (Option StoredNogood)) (w : Watches) (t : Trailed) (i : ℕ) (new : Parted) → Drops w.apart new i → HasNone slots w i → IsLooking slots w t i →
+    Looks slots w (record w { apart = new }) t i step.Goes
+looks_leave slots w t i new d none k = (
   record {
-    sound = sound_apart slots w t (record w.apart { items = swap_remove w.apart.items i x })
-        (λ id n g p. from_swap w.apart i x 0 id h (omega arith) (λ e. none id n e g p) (k.sound.net.unwatched id n g p))
+    sound = sound_apart slots w t new
+        (λ id n g p. elim (d.apart id (k.sound.net.unwatched id n g p)) [ inl e ↦ absurd (none id n e g p) | inr f ↦ f ])
         (λ id n g p. elim (k.sound.fit.unwatched id n g p) [
-          | inl f ↦ inl (from_swap w.apart i x w.apart.retired id h k.begun (λ e. none id n e g p) f)
+          | inl f ↦ elim (d.passes.waits id f) [ inl e ↦ absurd (none id n e g p) | inr h ↦ inl h ]
           | inr f ↦ inr f
         ]) k.sound;
     settled = λ id n g p. elim (k.settled id n g p) [
-      | inl f ↦ inl (from_swap w.apart i x i id h (omega arith) (λ e. none id n e g p) f)
+      | inl f ↦ elim (d.passes.behind id f) [ inl e ↦ absurd (none id n e g p) | inr h ↦ inl h ]
       | inr f ↦ inr f
     ];
-    begun = k.begun;
+    begun = d.passes.begun;
   },
-  length-swap w.apart.items i x h,
+  omega (arith, d.passes.left),
 )
 
 -- ---- two literals watch
@@ -167,8 +162,8 @@ looks_pending slots w t i id b is_false v = (
     sound = v.looking.sound;
     settled = λ j m g q. elim (v.looking.settled j m g q) [
       | inl f ↦ elim (is_or_not f.0 i) [
-        | inl e ↦ inr (b, is_false m (same_kept slots i id j w.apart.items m v.at (ap (slice_get w.apart.items) (sym e) ∙ f.2) g))
-        | inr ne ↦ inl (f.0, omega (arith, f.1, ne), f.2)
+        | inl e ↦ inr (b, is_false m (same_kept slots i id j w.apart.items m v.at (ap (slice_get w.apart.items) (sym e) ∙ f.3) g))
+        | inr ne ↦ inl (f.0, omega (arith, f.1, ne), f.2, f.3)
       ]
       | inr f ↦ inr f
     ];
@@ -178,35 +173,26 @@ looks_pending slots w t i id b is_false v = (
 )
 
 -- ---- and at level 0
--- the number at one place changes with that at another before it
-pub record Retires (a new : Parted) (i : ℕ) : Type 0 where
-  pub len : length new.items ≡ length a.items
-  pub count : new.retired ≡ a.retired + 1
-  pub stays : (p id : ℕ) → slice_get a.items p ≡ Some id → (q : ℕ) × (slice_get new.items q ≡ Some id) × (p ≢ i → a.retired ≤ p → a.retired + 1 ≤ q) × (i < p → q ≡ p)
-
-pub looks_retire : (slots : List (Option StoredNogood)) (w : Watches) (t : Trailed) (i id : ℕ) (new : Parted) → ((n : Nogood) → nogood_at slots id ≡ Some n → HasFalse t.entries n.lits 0) →
-    Retires w.apart new i → IsWaiting slots w t i id → Looks slots w (record w { apart = new }) t i step.Stays
-looks_retire slots w t i id new is_false r v = (
-  record {
-    sound = sound_apart slots w t new (λ j m g q. let f = v.looking.sound.net.unwatched j m g q in let s = r.stays f.0 j f.2 in (s.0, omega arith, s.1))
-        (λ j m g q. elim (v.looking.sound.fit.unwatched j m g q) [
-          | inl f ↦ elim (is_or_not f.0 i) [
-            | inl e ↦ inr (is_false m (same_kept slots i id j w.apart.items m v.at (ap (slice_get w.apart.items) (sym e) ∙ f.2) g))
-            | inr ne ↦ let s = r.stays f.0 j f.2 in inl (s.0, omega (arith, r.count, s.2 ne f.1), s.1)
-          ]
-          | inr f ↦ inr f
-        ]) v.looking.sound;
-    settled = λ j m g q. elim (v.looking.settled j m g q) [
-      | inl f ↦ elim (is_or_not f.0 i) [
-        | inl e ↦ inr (0, is_false m (same_kept slots i id j w.apart.items m v.at (ap (slice_get w.apart.items) (sym e) ∙ f.2) g))
-        | inr ne ↦ let s = r.stays f.0 j f.2 in inl (s.0, omega (arith, f.1, ne, s.3 (omega (arith, f.1, ne))), s.1)
-      ]
-      | inr f ↦ inr f
-    ];
-    begun = omega (arith, r.count, v.looking.begun);
-  },
-  r.len,
-)
+pub looking_retired : (slots : List (Option StoredNogood)) (w : Watches) (t : Trailed) (i next id : ℕ) (new : Parted) → ((n : Nogood) → nogood_at slots id ≡ Some n → HasFalse t.entries n.lits 0) →
+    Retires w.apart new i next → IsWaiting slots w t i id → IsLooking slots (record w { apart = new }) t next
+looking_retired slots w t i next id new is_false r v = record {
+  sound = sound_apart slots w t new (λ j m g q. r.apart j (v.looking.sound.net.unwatched j m g q))
+      (λ j m g q. elim (v.looking.sound.fit.unwatched j m g q) [
+        | inl f ↦ elim (r.passes.waits j f) [
+          | inl e ↦ inr (is_false m (same_kept slots i id j w.apart.items m v.at e g))
+          | inr h ↦ inl h
+        ]
+        | inr f ↦ inr f
+      ]) v.looking.sound;
+  settled = λ j m g q. elim (v.looking.settled j m g q) [
+    | inl f ↦ elim (r.passes.behind j f) [
+      | inl e ↦ inr (0, is_false m (same_kept slots i id j w.apart.items m v.at e g))
+      | inr h ↦ inl h
+    ]
+    | inr f ↦ inr f
+  ];
+  begun = r.passes.begun;
+}
 
 -- ---- the trail grows
 pub waiting_grow : (slots : List (Option StoredNogood)) (w : Watches) (t : Trailed) (i id : ℕ) (fs : List Entry) → t.seen ≤ length t.entries → IsWaiting slots w t i id →
@@ -220,13 +206,14 @@ waiting_grow slots w t i id fs le v = record {
     ];
     begun = v.looking.begun;
   };
+  within = v.within;
   at = v.at;
   pair = v.pair;
   kept = v.kept;
 }
 
 -- ---- the look begins and ends
-pub looking_begins : (slots : List (Option StoredNogood)) (w : Watches) (t : Trailed) → IsSound slots w t → IsLooking slots w t w.apart.retired
+pub looking_begins : (slots : List (Option StoredNogood)) (w : Watches) (t : Trailed) → IsSound slots w t → IsLooking slots w t w.apart.first
 looking_begins slots w t s = record {
   sound = s;
   settled = λ id n g q. elim (s.fit.unwatched id n g q) [
@@ -236,19 +223,12 @@ looking_begins slots w t s = record {
   begun = omega arith;
 }
 
-pub looking_ends : (slots : List (Option StoredNogood)) (w : Watches) (t : Trailed) (i : ℕ) → length w.apart.items ≤ i → IsLooking slots w t i → AreSettled slots w.rows t.entries
+pub looking_ends : (slots : List (Option StoredNogood)) (w : Watches) (t : Trailed) (i : ℕ) → w.apart.last ≤ i → IsLooking slots w t i → AreSettled slots w.rows t.entries
 looking_ends slots w t i h k id n g q =
     elim (k.settled id n g q) [
-      | inl f ↦ absurd (omega (arith, h, f.1, slice_get_within w.apart.items f.0 id f.2))
+      | inl f ↦ absurd (omega (arith, h, f.1, f.2))
       | inr f ↦ f
     ]
-
-pub retires : (a : Parted) (i : ℕ) → i < length a.items → a.retired ≤ i → Retires a (record { items = swap a.items a.retired i; retired = a.retired + 1 }) i
-retires a i h le = record {
-  len = swapped_length a.items a.retired i;
-  count = refl;
-  stays = λ p id g. get_swapped a.items a.retired i p id (omega (arith, h, le)) h le g;
-}
 
 -- ---- what a look at the nogood found
 pub found_violated : (slots : List (Option StoredNogood)) (t u : Trailed) (id : ℕ) (n : Nogood) (lits : List Literal) → u ≡ record t { entries = u.entries } → u.entries ≡ t.entries →

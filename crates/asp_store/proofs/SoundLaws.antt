@@ -1,5 +1,5 @@
 -- Watches are sound, through each change of lists, of a row, of the numbers apart and of the trail.
-use Rattle.std.proofs.Common.{◌≡◌, ◌≢◌, ℕ, ◌<◌, ◌≤◌, List, [], ◌∷◌, ◌++◌, length, set, Option, Some, None, inl, inr, ◌⊎◌, sym, ap, ◌∙◌, subst, arith}
+use Rattle.std.proofs.Common.{◌≡◌, ◌≢◌, ℕ, ◌<◌, ◌≤◌, List, [], ◌++◌, length, set, Option, Some, None, inl, inr, ◌⊎◌, sym, ap, ◌∙◌, subst}
 use Rattle.std.proofs.lemmas.List.{length-set}
 use Rattle.asp_vars.specs.Literals.{Literal}
 use Rattle.asp_vars.specs.declared.nogood.Nogood.{Nogood}
@@ -11,11 +11,11 @@ use Rattle.asp_store.specs.declared.watch.Pair.{Pair}
 use Rattle.asp_store.specs.declared.watches.Watches.{Watches}
 use Rattle.asp_store.specs.Keeping.{nogood_at}
 use Rattle.asp_store.specs.Pairs.{pair_of, pair_at, IsOneOf}
-use Rattle.asp_store.specs.Parted.{Parted, IsFrom}
+use Rattle.asp_store.specs.Parted.{Parted, IsApart, IsFrom, Adds}
 use Rattle.asp_store.specs.Fitting.{HasFalse, IsWatched, AreFit}
 use Rattle.asp_store.specs.Looking.{HaveSame}
 use Rattle.asp_store.specs.Sounding.{IsListed, IsPlace, IsSound, AreSettled}
-use Rattle.asp_store.proofs.GetLaws.{is_or_not, at_set, at_set_other, get_more}
+use Rattle.asp_store.proofs.GetLaws.{is_or_not, at_set, at_set_other}
 use Rattle.asp_store.proofs.PlaceLaws.{AllPlaces}
 use Rattle.asp_store.proofs.WatchLaws.{has_false_grow, watched_grow}
 
@@ -55,10 +55,10 @@ pub record Suits (slots : List (Option StoredNogood)) (w : Watches) (t : Trailed
   pub bounded : (p : Pair) (l : Literal) → pair_of r ≡ Some p → IsOneOf p l → l.var ≤ t.vars
   pub listed : (n : Nogood) (p : Pair) (l : Literal) → nogood_at slots id ≡ Some n → pair_of r ≡ Some p → IsOneOf p l → IsListed w.lists l 0 id n.lits
   pub watched : (n : Nogood) (p : Pair) → nogood_at slots id ≡ Some n → pair_of r ≡ Some p → IsWatched n.lits p t.entries t.seen
-  pub apart : (n : Nogood) → nogood_at slots id ≡ Some n → pair_of r ≡ None → IsFrom w.apart w.apart.retired id
+  pub apart : (n : Nogood) → nogood_at slots id ≡ Some n → pair_of r ≡ None → IsFrom w.apart w.apart.first id
 
-pub from_zero : (a : Parted) (i id : ℕ) → IsFrom a i id → IsFrom a 0 id
-from_zero a i id f = (f.0, omega arith, f.2)
+pub apart_from : (a : Parted) (i id : ℕ) → IsFrom a i id → IsApart a id
+apart_from a i id f = (f.0, f.3)
 
 pub sound_row : (slots : List (Option StoredNogood)) (w : Watches) (t : Trailed) (id : ℕ) (r : List Literal) → Suits slots w t id r → IsSound slots w t →
     IsSound slots (record w { rows = set w.rows id r }) t
@@ -86,7 +86,7 @@ sound_row slots w t id r u s = record {
       | inr e ↦ s.net.listed k n p l h e.1 o
     ];
     unwatched = λ k n h g. elim (pair_cases w.rows id r k None u.within g) [
-      | inl e ↦ subst (λ (j : ℕ). IsFrom w.apart 0 j) (sym e.0) (from_zero w.apart w.apart.retired id (u.apart n (sym (ap (nogood_at slots) e.0) ∙ h) e.1))
+      | inl e ↦ subst (λ (j : ℕ). IsApart w.apart j) (sym e.0) (apart_from w.apart w.apart.first id (u.apart n (sym (ap (nogood_at slots) e.0) ∙ h) e.1))
       | inr e ↦ s.net.unwatched k n h e.1
     ];
   };
@@ -96,7 +96,7 @@ sound_row slots w t id r u s = record {
       | inr e ↦ s.fit.watched k n p h e.1
     ];
     unwatched = λ k n h g. elim (pair_cases w.rows id r k None u.within g) [
-      | inl e ↦ inl (subst (λ (j : ℕ). IsFrom w.apart w.apart.retired j) (sym e.0) (u.apart n (sym (ap (nogood_at slots) e.0) ∙ h) e.1))
+      | inl e ↦ inl (subst (λ (j : ℕ). IsFrom w.apart w.apart.first j) (sym e.0) (u.apart n (sym (ap (nogood_at slots) e.0) ∙ h) e.1))
       | inr e ↦ s.fit.unwatched k n h e.1
     ];
   };
@@ -112,8 +112,8 @@ settled_row slots rows es id r within here s k n h g =
 
 -- ---- those apart change
 pub sound_apart : (slots : List (Option StoredNogood)) (w : Watches) (t : Trailed) (apart : Parted) →
-    ((id : ℕ) (n : Nogood) → nogood_at slots id ≡ Some n → pair_at w.rows id ≡ None → IsFrom apart 0 id) →
-    ((id : ℕ) (n : Nogood) → nogood_at slots id ≡ Some n → pair_at w.rows id ≡ None → IsFrom apart apart.retired id ⊎ HasFalse t.entries n.lits 0) →
+    ((id : ℕ) (n : Nogood) → nogood_at slots id ≡ Some n → pair_at w.rows id ≡ None → IsApart apart id) →
+    ((id : ℕ) (n : Nogood) → nogood_at slots id ≡ Some n → pair_at w.rows id ≡ None → IsFrom apart apart.first id ⊎ HasFalse t.entries n.lits 0) →
     IsSound slots w t → IsSound slots (record w { apart = apart }) t
 sound_apart slots w t apart all waiting s = record {
   net = record {
@@ -133,13 +133,10 @@ sound_apart slots w t apart all waiting s = record {
   };
 }
 
-pub from_push : (a : Parted) (x i id : ℕ) → IsFrom a i id → IsFrom (record a { items = a.items ++ x ∷ [] }) i id
-from_push a x i id f = (f.0, f.1, get_more a.items (x ∷ []) f.0 id f.2)
-
-pub sound_push : (slots : List (Option StoredNogood)) (w : Watches) (t : Trailed) (x : ℕ) → IsSound slots w t → IsSound slots (record w { apart = record w.apart { items = w.apart.items ++ x ∷ [] } }) t
-sound_push slots w t x s =
-    sound_apart slots w t (record w.apart { items = w.apart.items ++ x ∷ [] }) (λ id n h g. from_push w.apart x 0 id (s.net.unwatched id n h g))
-    (λ id n h g. elim (s.fit.unwatched id n h g) [ inl f ↦ inl (from_push w.apart x w.apart.retired id f) | inr f ↦ inr f ]) s
+pub sound_push : (slots : List (Option StoredNogood)) (w : Watches) (t : Trailed) (new : Parted) (x : ℕ) → Adds w.apart new x → IsSound slots w t → IsSound slots (record w { apart = new }) t
+sound_push slots w t new x a s =
+    sound_apart slots w t new (λ id n h g. a.apart id (s.net.unwatched id n h g))
+    (λ id n h g. elim (s.fit.unwatched id n h g) [ inl f ↦ inl (a.waits id f) | inr f ↦ inr f ]) s
 
 -- ---- the trail grows
 pub fit_grow : (slots : List (Option StoredNogood)) (rows : List (List Literal)) (apart : Parted) (t : Trailed) (fs : List Entry) → t.seen ≤ length t.entries → AreFit slots rows apart t →

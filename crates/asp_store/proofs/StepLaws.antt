@@ -23,12 +23,12 @@ use Rattle.asp_arena.specs.Rows.{row_at}
 use Rattle.asp_store.specs.Keeping.{nogood_at}
 use Rattle.asp_store.specs.Lists.{list_at, place, size}
 use Rattle.asp_store.specs.Pairs.{pair_of, pair_at, IsOneOf, IsBeside}
-use Rattle.asp_store.specs.Parted.{IsFrom}
+use Rattle.asp_store.specs.Parted.{Parted, IsFrom, Adds}
 use Rattle.asp_store.specs.Fitting.{IsFalseBy, HasFalse, Watches as Watching}
 use Rattle.asp_store.specs.Sounding.{IsListed, IsPlace, IsSound}
 use Rattle.asp_store.specs.Looking.{AreTrueBeside, LeadsWith}
 use Rattle.asp_store.specs.Walking.{IsWalking, IsVisit, MayWatch, Steps}
-use Rattle.asp_store.proofs.GetLaws.{list_within, length-swap, at_set, at_set_other, get_last}
+use Rattle.asp_store.proofs.GetLaws.{list_within, length-swap, at_set, at_set_other}
 use Rattle.asp_store.proofs.PlaceLaws.{code_injective, code_within, place_else, size_here, listed_set, places_set, listed_push, listed_new, places_push, listed_take, places_take, listed_next, listed_later}
 use Rattle.asp_store.proofs.WatchLaws.{has_false_grow, stands_grow}
 use Rattle.asp_store.proofs.LookLaws.{all_same, watches_open, eq_itself, one_of_two}
@@ -297,11 +297,11 @@ moved_gone slots w t f i id other l r o m leads v n p h g one =
     move_gone slots w t f i id other l r o m leads v n h p (sym (ap pair_of (at_set w.rows id r [] id (visit_id slots w t f i id other v) refl)) ∙ g) one
 
 -- ---- the nogood of a visit isn't watched any more
-pub visit_apart : (slots : List (Option StoredNogood)) (w : Watches) (t : Trailed) (f : Front) (i id : ℕ) (other : Literal) (x : ℕ) → IsVisit slots w t f i id other →
-    IsVisit slots (record w { apart = record w.apart { items = w.apart.items ++ x ∷ [] } }) t f i id other
-visit_apart slots w t f i id other x v = record {
+pub visit_apart : (slots : List (Option StoredNogood)) (w : Watches) (t : Trailed) (f : Front) (i id : ℕ) (other : Literal) (new : Parted) (x : ℕ) → Adds w.apart new x → IsVisit slots w t f i id other →
+    IsVisit slots (record w { apart = new }) t f i id other
+visit_apart slots w t f i id other new x a v = record {
   walking = record {
-    sound = sound_push slots w t x v.walking.sound;
+    sound = sound_push slots w t new x a v.walking.sound;
     settled = v.walking.settled;
     done = v.walking.done;
     stands = v.walking.stands;
@@ -314,7 +314,7 @@ visit_apart slots w t f i id other x v = record {
   beside = v.beside;
 }
 
-pub walking_apart : (slots : List (Option StoredNogood)) (w : Watches) (t : Trailed) (f : Front) (i id : ℕ) (other : Literal) (b : ℕ) → IsFrom w.apart w.apart.retired id →
+pub walking_apart : (slots : List (Option StoredNogood)) (w : Watches) (t : Trailed) (f : Front) (i id : ℕ) (other : Literal) (b : ℕ) → IsFrom w.apart w.apart.first id →
     IsFalseBy t.entries other b → IsVisit slots w t f i id other → IsWalking slots (record w { rows = set w.rows id [] }) t f i
 walking_apart slots w t f i id other b waits is_false v =
     walking_row slots w t f i id []
@@ -399,14 +399,13 @@ moved_size slots w t f i id other l r o m v =
     (λ e. may_differ slots t f id other l o v.walking.stands m (sym (code_injective f.lit l e))))
 
 -- the number stands among those apart, and has no row
-abbrev pub put_apart : Watches → ℕ → Watches
-put_apart w id = record w { rows = set w.rows id []; apart = record w.apart { items = w.apart.items ++ id ∷ [] } }
+abbrev pub put_apart : Watches → Parted → ℕ → Watches
+put_apart w new id = record w { rows = set w.rows id []; apart = new }
 
-pub apart_walking : (slots : List (Option StoredNogood)) (w : Watches) (t : Trailed) (f : Front) (i id : ℕ) (other : Literal) (b : ℕ) → w.apart.retired ≤ length w.apart.items →
-    IsFalseBy t.entries other b → IsVisit slots w t f i id other → IsWalking slots (put_apart w id) t f i
-apart_walking slots w t f i id other b begun is_false v =
-    walking_apart slots (record w { apart = record w.apart { items = w.apart.items ++ id ∷ [] } }) t f i id other b
-    (length w.apart.items, begun, get_last w.apart.items id) is_false (visit_apart slots w t f i id other id v)
+pub apart_walking : (slots : List (Option StoredNogood)) (w : Watches) (t : Trailed) (f : Front) (i id : ℕ) (other : Literal) (b : ℕ) (new : Parted) → Adds w.apart new id →
+    IsFalseBy t.entries other b → IsVisit slots w t f i id other → IsWalking slots (put_apart w new id) t f i
+apart_walking slots w t f i id other b new a is_false v =
+    walking_apart slots (record w { apart = new }) t f i id other b a.here is_false (visit_apart slots w t f i id other new id a v)
 
 -- ---- what watches beside a literal
 pub none_beside : (rows : List (List Literal)) (id : ℕ) (l : Literal) (p : Pair) (r : Option Literal) → Some p ≡ pair_at rows id → MatchOption r (IsOneOf p l → ⊥) (IsBeside p l) →

@@ -5,7 +5,7 @@ use Rattle.std.specs.Option.{option_map}
 use Rattle.std.proofs.lemmas.List.{length-replicate, length-set}
 use Rattle.std.proofs.lemmas.Bool.{false≢true}
 use Rattle.std.proofs.lemmas.List.Sums.{sum_by-cons}
-use Rattle.std.proofs.lemmas.Option.{none-some, same_Some}
+use Rattle.std.proofs.lemmas.Option.{none-some, same_Some, slice_get_within}
 use Rattle.asp_vars.specs.Literals.{Literal}
 use Rattle.asp_vars.specs.declared.nogood.Nogood.{Nogood}
 use Rattle.asp_trail.specs.Trails.{Trailed, IsVar}
@@ -19,14 +19,14 @@ use Rattle.asp_store.specs.Keeping.{kept_at, nogood_at, is_extra, is_spare, is_f
 use Rattle.asp_store.specs.Lists.{place}
 use Rattle.asp_store.specs.Looking.{HaveSame}
 use Rattle.asp_store.specs.Pairs.{pair_of, pair_at}
-use Rattle.asp_store.specs.Parted.{Parted, IsFrom}
+use Rattle.asp_store.specs.Parted.{Parted, IsApart, Adds}
 use Rattle.asp_store.specs.Sounding.{IsListed, IsNet, IsSound}
 use Rattle.asp_store.specs.Fitting.{HaveReasons}
 use Rattle.asp_store.specs.Storing.{Stored, Fits, IsAdded, Loses, IsStore, AreActive, Has, with_given}
 use Rattle.asp_store.proofs.GetLaws.{is_or_not, at_set, at_set_other, get_more, get_last}
 use Rattle.asp_store.specs.Unlisting.{Unlists}
 use Rattle.asp_store.proofs.ShortLaws.{places_add, places_lock, places_remove}
-use Rattle.asp_store.proofs.SoundLaws.{from_zero, from_push, pair_cases}
+use Rattle.asp_store.proofs.SoundLaws.{apart_from, pair_cases}
 use Rattle.asp_store.proofs.FitsLaws.{none_kept, same_nogood, locked_same}
 
 -- what contracts see of a store's parts
@@ -68,7 +68,7 @@ none_place zero c i x g = none-some x g
 none_place (suc n) zero i x g = none-some x g
 none_place (suc n) (suc c) i x g = none_place n c i x g
 
-pub store_new : (vars : ℕ) → vars < 2 ^ 31 → IsStore vars [] (record { lists = replicate (2 * vars + 2) []; rows = []; apart = record { items = []; retired = 0 } }) 0 []
+pub store_new : (vars : ℕ) → vars < 2 ^ 31 → IsStore vars [] (record { lists = replicate (2 * vars + 2) []; rows = []; apart = record { items = []; first = 0; last = 0 } }) 0 []
 store_new vars few = record {
   few = few;
   net = record {
@@ -106,7 +106,7 @@ from_lock b (Some k) = refl
 
 -- ---- a nogood more
 pub store_add : (vars : ℕ) (slots new : List (Option StoredNogood)) (w z : Watches) (given after : List ℕ) (extra more id : ℕ) (n : Nogood) (kind : Kind) → IsStore vars slots w extra given →
-    z.lists ≡ w.lists → length z.rows ≡ length new → IsAdded (view_of vars slots w given) (view_of vars new z after) id n kind → ((k : ℕ) → IsFrom w.apart 0 k → IsFrom z.apart 0 k) →
+    z.lists ≡ w.lists → length z.rows ≡ length new → IsAdded (view_of vars slots w given) (view_of vars new z after) id n kind → ((k : ℕ) → IsApart w.apart k → IsApart z.apart k) →
     All (λ l. IsVar vars l.var) n.lits → length new ≤ 2 ^ 31 → more ≡ count_by is_extra new → IsStore vars new z more after
 store_add vars slots new w z given after extra more id n kind s lists paired a apart small few counted = record {
   few = s.few;
@@ -135,7 +135,7 @@ store_add vars slots new w z given after extra more id n kind s lists paired a a
           (s.net.listed j m p l (sym (same_nogood slots new j (a.slots.others j ne)) ∙ g) (sym (ap pair_of (a.rows j ne)) ∙ h) o)
     ];
     unwatched = λ j m g h. elim (is_or_not j id) [
-      | inl e ↦ subst (λ (k : ℕ). IsFrom z.apart 0 k) (sym e) (from_zero z.apart z.apart.retired id a.waits)
+      | inl e ↦ subst (λ (k : ℕ). IsApart z.apart k) (sym e) (apart_from z.apart z.apart.first id a.waits)
       | inr ne ↦ apart j (s.net.unwatched j m (sym (same_nogood slots new j (a.slots.others j ne)) ∙ g) (sym (ap pair_of (a.rows j ne)) ∙ h))
     ];
   };
@@ -176,7 +176,7 @@ store_remove vars slots w z given extra less id s within u rows apart counted = 
     ];
     unwatched = λ j m g h.
         let l = left j m g in
-        subst (λ (a : Parted). IsFrom a 0 j) (sym apart) (s.net.unwatched j m l.1 (sym (ap pair_of (at_set_other w.rows id [] [] j l.0)) ∙ (sym (ap (λ (rs : List (List Literal)). pair_at rs j) rows) ∙ h)));
+        subst (λ (a : Parted). IsApart a j) (sym apart) (s.net.unwatched j m l.1 (sym (ap pair_of (at_set_other w.rows id [] [] j l.0)) ∙ (sym (ap (λ (rs : List (List Literal)). pair_at rs j) rows) ∙ h)));
   };
   counted = counted;
   tracked = λ j h. elim (is_or_not j id) [
@@ -241,14 +241,14 @@ store_from_sound vars slots w z given extra t v s n = record {
 
 -- ---- how a nogood is added
 -- under a number that has none
-pub added_put : (s : Stored) (id : ℕ) (n : Nogood) (kind : Kind) → id < length s.slots → id < length s.rows → kept_at s.slots id ≡ None → s.apart.retired ≤ length s.apart.items →
+pub added_put : (s : Stored) (id : ℕ) (n : Nogood) (kind : Kind) (new : Parted) → id < length s.slots → id < length s.rows → kept_at s.slots id ≡ None → Adds s.apart new id →
     IsAdded s (record s {
       slots = set s.slots id (Some (record { nogood = n; kind = kind; locked = false }));
       rows = set s.rows id [];
-      apart = record s.apart { items = s.apart.items ++ id ∷ [] };
+      apart = new;
       given = with_given kind id s.given;
     }) id n kind
-added_put s id n kind h k free begun = record {
+added_put s id n kind new h k free more = record {
   vars = refl;
   slots = record {
     free = free;
@@ -258,8 +258,8 @@ added_put s id n kind h k free begun = record {
   pair = ap pair_of (at_set s.rows id [] [] id k refl);
   given = refl;
   rows = λ j ne. at_set_other s.rows id [] [] j ne;
-  waits = (length s.apart.items, begun, get_last s.apart.items id);
-  apart = λ j f. from_push s.apart id s.apart.retired j f;
+  waits = more.here;
+  apart = more.waits;
 }
 
 at_push : {A : Type 0} (xs : List A) (y d : A) (k : ℕ) → k ≡ length xs → get_or (xs ++ y ∷ []) k d ≡ y
@@ -280,14 +280,14 @@ at_end (x ∷ xs) d zero e = absurd (omega arith)
 at_end (x ∷ xs) d (suc k) e = at_end xs d k (omega arith)
 
 -- under a new one
-pub added_push : (s : Stored) (id : ℕ) (n : Nogood) (kind : Kind) → id ≡ length s.slots → length s.rows ≡ length s.slots → s.apart.retired ≤ length s.apart.items →
+pub added_push : (s : Stored) (id : ℕ) (n : Nogood) (kind : Kind) (new : Parted) → id ≡ length s.slots → length s.rows ≡ length s.slots → Adds s.apart new id →
     IsAdded s (record s {
       slots = s.slots ++ Some (record { nogood = n; kind = kind; locked = false }) ∷ [];
       rows = s.rows ++ [] ∷ [];
-      apart = record s.apart { items = s.apart.items ++ id ∷ [] };
+      apart = new;
       given = with_given kind id s.given;
     }) id n kind
-added_push s id n kind e paired begun = record {
+added_push s id n kind new e paired more = record {
   vars = refl;
   slots = record {
     free = at_end s.slots None id e;
@@ -297,8 +297,8 @@ added_push s id n kind e paired begun = record {
   pair = ap pair_of (at_push s.rows [] [] id (e ∙ sym paired));
   given = refl;
   rows = λ j ne. at_push_other s.rows [] [] j (λ q. ne (q ∙ (paired ∙ sym e)));
-  waits = (length s.apart.items, begun, get_last s.apart.items id);
-  apart = λ j f. from_push s.apart id s.apart.retired j f;
+  waits = more.here;
+  apart = more.waits;
 }
 
 -- ---- what goes, more than once
@@ -347,7 +347,7 @@ thins_removed slots id h q = record {
 
 -- ---- the retired ones come back
 pub store_recall : (vars : ℕ) (slots : List (Option StoredNogood)) (w : Watches) (given : List ℕ) (extra : ℕ) → IsStore vars slots w extra given →
-    IsStore vars slots (record w { apart = record w.apart { retired = 0 } }) extra given
+    IsStore vars slots (record w { apart = record w.apart { first = 0; last = length w.apart.items } }) extra given
 store_recall vars slots w given extra s = record {
   few = s.few;
   net = record {
@@ -366,5 +366,5 @@ store_recall vars slots w given extra s = record {
 }
 
 pub active_recall : (vars : ℕ) (slots : List (Option StoredNogood)) (w : Watches) (given : List ℕ) (extra : ℕ) → IsStore vars slots w extra given →
-    AreActive (record { vars = vars; slots = slots; rows = w.rows; apart = record w.apart { retired = 0 }; given = given })
-active_recall vars slots w given extra s = s.net.unwatched
+    AreActive (record { vars = vars; slots = slots; rows = w.rows; apart = record w.apart { first = 0; last = length w.apart.items }; given = given })
+active_recall vars slots w given extra s = λ id n g h. let f = s.net.unwatched id n g h in (f.0, omega arith, slice_get_within w.apart.items f.0 id f.1, f.1)

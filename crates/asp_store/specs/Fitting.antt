@@ -34,7 +34,7 @@ pub record IsWatched (n : List Literal) (p : Pair) (entries : List Entry) (seen 
 -- Each kept nogood is watched, or is to be looked at whole, or has a literal that is false at level 0.
 pub record AreFit (slots : List (Option StoredNogood)) (rows : List (List Literal)) (apart : Parted) (t : Trailed) : Type 0 where
   pub watched : (id : ℕ) (n : Nogood) (p : Pair) → nogood_at slots id ≡ Some n → pair_at rows id ≡ Some p → IsWatched n.lits p t.entries t.seen
-  pub unwatched : (id : ℕ) (n : Nogood) → nogood_at slots id ≡ Some n → pair_at rows id ≡ None → IsFrom apart apart.retired id ⊎ HasFalse t.entries n.lits 0
+  pub unwatched : (id : ℕ) (n : Nogood) → nogood_at slots id ≡ Some n → pair_at rows id ≡ None → IsFrom apart apart.first id ⊎ HasFalse t.entries n.lits 0
 
 -- Each entry that was implied by a number below 2^31 names a nogood that is kept, which is its reason.
 abbrev pub HaveReasons : List (Option StoredNogood) → List Entry → Type 0

@@ -1,5 +1,5 @@
 -- What the look at those apart keeps.
-use Rattle.std.specs.Prelude.{◌≡◌, ℕ, ◌+◌, ◌≤◌, List, length, Option, Some, None, slice_get}
+use Rattle.std.specs.Prelude.{◌≡◌, ℕ, ◌+◌, ◌<◌, ◌≤◌, List, Option, Some, None, slice_get}
 use Rattle.asp_vars.specs.declared.nogood.Nogood.{Nogood}
 use Rattle.asp_trail.specs.Trails.{Trailed}
 use Rattle.asp_store.specs.declared.stored_nogood.StoredNogood.{StoredNogood}
@@ -15,11 +15,12 @@ use Rattle.asp_store.specs.Walking.{IsViolated}
 pub record IsLooking (slots : List (Option StoredNogood)) (w : Watches) (t : Trailed) (i : ℕ) : Type 0 where
   pub sound : IsSound slots w t
   pub settled : AreSettledFrom slots w t.entries i
-  pub begun : w.apart.retired ≤ i
+  pub begun : w.apart.first ≤ i
 
 -- At this place stands this number, whose nogood isn't watched.
 pub record IsWaiting (slots : List (Option StoredNogood)) (w : Watches) (t : Trailed) (i id : ℕ) : Type 0 where
   pub looking : IsLooking slots w t i
+  pub within : i < w.apart.last
   pub at : slice_get w.apart.items i ≡ Some id
   pub pair : pair_at w.rows id ≡ None
   pub kept : (n : Nogood) × (nogood_at slots id ≡ Some n)
@@ -30,6 +31,6 @@ HasNone slots w i = (id : ℕ) (n : Nogood) → slice_get w.apart.items i ≡ So
 
 -- A look goes on to the next place, or the place is gone, or a nogood is violated.
 abbrev pub Looks : List (Option StoredNogood) → Watches → Watches → Trailed → ℕ → Step → Type 0
-Looks slots old new t i step.Stays = IsLooking slots new t (i + 1) × (length new.apart.items ≡ length old.apart.items)
-Looks slots old new t i step.Goes = IsLooking slots new t i × (length new.apart.items + 1 ≡ length old.apart.items)
+Looks slots old new t i step.Stays = IsLooking slots new t (i + 1) × (new.apart.last ≡ old.apart.last)
+Looks slots old new t i step.Goes = IsLooking slots new t i × (new.apart.last + 1 ≡ old.apart.last)
 Looks slots old new t i (step.Violated id) = IsViolated t.vars slots t.entries id

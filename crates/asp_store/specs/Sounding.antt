@@ -13,7 +13,7 @@ use Rattle.asp_arena.specs.Rows.{row_at}
 use Rattle.asp_store.specs.Keeping.{kept_at, nogood_at, is_lasting}
 use Rattle.asp_store.specs.Lists.{place}
 use Rattle.asp_store.specs.Pairs.{pair_at, IsOneOf}
-use Rattle.asp_store.specs.Parted.{IsFrom}
+use Rattle.asp_store.specs.Parted.{IsApart, IsFrom}
 use Rattle.asp_store.specs.Looking.{HaveSame}
 use Rattle.asp_store.specs.Fitting.{HasFalse, AreFit, AreSmall}
 
@@ -51,7 +51,7 @@ pub record IsNet (vars : ℕ) (slots : List (Option StoredNogood)) (w : Watches)
   pub kept : (id : ℕ) (p : Pair) → pair_at w.rows id ≡ Some p → (n : Nogood) × (nogood_at slots id ≡ Some n) × HaveSame n.lits (row_at w.rows id)
   pub watched : (id : ℕ) (p : Pair) (l : Literal) → pair_at w.rows id ≡ Some p → IsOneOf p l → l.var ≤ vars
   pub listed : (id : ℕ) (n : Nogood) (p : Pair) (l : Literal) → nogood_at slots id ≡ Some n → pair_at w.rows id ≡ Some p → IsOneOf p l → IsListed w.lists l 0 id n.lits
-  pub unwatched : (id : ℕ) (n : Nogood) → nogood_at slots id ≡ Some n → pair_at w.rows id ≡ None → IsFrom w.apart 0 id
+  pub unwatched : (id : ℕ) (n : Nogood) → nogood_at slots id ≡ Some n → pair_at w.rows id ≡ None → IsApart w.apart id
 
 pub record IsSound (slots : List (Option StoredNogood)) (w : Watches) (t : Trailed) : Type 0 where
   pub net : IsNet t.vars slots w

@@ -1,5 +1,5 @@
 -- What a store is, and how it fits a trail.
-use Rattle.std.specs.Prelude.{◌≡◌, ◌≢◌, ℕ, ◌^◌, ◌<◌, ◌⊎◌, Bool, List, [], ◌∷◌, ◌++◌, Option, Some, None, IsTrue, if◌then◌else◌, slice_get, slice_set, count_by}
+use Rattle.std.specs.Prelude.{◌≡◌, ◌≢◌, ℕ, ◌^◌, ◌<◌, ◌⊎◌, Bool, List, [], ◌∷◌, ◌++◌, Option, Some, None, IsTrue, if◌then◌else◌, length, slice_get, slice_set, count_by}
 use Rattle.asp_vars.specs.Literals.{Literal}
 use Rattle.asp_vars.specs.declared.nogood.Nogood.{Nogood}
 use Rattle.asp_trail.specs.Trails.{Trailed}
@@ -37,7 +37,7 @@ removed s id = record s { slots = slice_set s.slots id None; rows = slice_set s.
 
 -- all nogoods that aren't watched are to be looked at
 abbrev pub recalled : Stored → Stored
-recalled s = record s { apart = record s.apart { retired = 0 } }
+recalled s = record s { apart = record s.apart { first = 0; last = length s.apart.items } }
 
 -- The number is in the list.
 abbrev pub Has : List ℕ → ℕ → Type 0
@@ -58,8 +58,8 @@ pub record IsAdded (old new : Stored) (id : ℕ) (n : Nogood) (kind : Kind) : Ty
   pub pair : pair_at new.rows id ≡ None
   pub given : new.given ≡ with_given kind id old.given
   pub rows : (k : ℕ) → k ≢ id → row_at new.rows k ≡ row_at old.rows k
-  pub waits : IsFrom new.apart new.apart.retired id
-  pub apart : (k : ℕ) → IsFrom old.apart old.apart.retired k → IsFrom new.apart new.apart.retired k
+  pub waits : IsFrom new.apart new.apart.first id
+  pub apart : (k : ℕ) → IsFrom old.apart old.apart.first k → IsFrom new.apart new.apart.first k
 
 -- Nogoods were dropped. All others are as they were.
 pub record Loses (old new : Stored) : Type 0 where
@@ -69,7 +69,7 @@ pub record Loses (old new : Stored) : Type 0 where
 
 -- No kept nogood is retired.
 abbrev pub AreActive : Stored → Type 0
-AreActive s = (id : ℕ) (n : Nogood) → nogood_at s.slots id ≡ Some n → pair_at s.rows id ≡ None → IsFrom s.apart s.apart.retired id
+AreActive s = (id : ℕ) (n : Nogood) → nogood_at s.slots id ≡ Some n → pair_at s.rows id ≡ None → IsFrom s.apart s.apart.first id
 
 -- What every store keeps: each kept nogood that is watched stands in two lists, and each other one apart.
 pub record IsStore (vars : ℕ) (slots : List (Option StoredNogood)) (w : Watches) (extra : ℕ) (given : List ℕ) : Type 0 where

@@ -25,7 +25,7 @@ use std::alloc::AllocError;
 fn leave(watches: &mut Watches, slots: &[Option<StoredNogood>], i: usize, trail: &Trail)
     requires looking { IsLooking slots.now watches.old trail.now i }
     requires none { HasNone slots.now watches.old i }
-    requires within { i < length watches.old.apart.items }
+    requires within { i < watches.old.apart.last }
     ensures { Looks slots.now watches.old watches.new trail.now i Step.Goes }
 {
     let _len = trail.len();
@@ -69,14 +69,29 @@ fn attach(
     Ok(())
 }
 
-// The nogood at a place has a literal that is false at level 0.
-fn retire(watches: &mut Watches, slots: &[Option<StoredNogood>], i: usize, id: u32, trail: &Trail)
+// The nogood at a place has a literal that is false at level 0. The others are looked at in the order in which they were if
+// two literals watched it, where it has two: that order decides how lists stand, and so what a search finds first.
+fn retire(
+    watches: &mut Watches,
+    slots: &[Option<StoredNogood>],
+    lits: &[Lit],
+    i: usize,
+    id: u32,
+    trail: &Trail,
+) -> Step
     requires waiting { IsWaiting slots.now watches.old trail.now i id }
     requires is_false { (n : Nogood) → nogood_at slots.now id ≡ Some n → HasFalse trail.now.entries n.lits 0 }
-    ensures { Looks slots.now watches.old watches.new trail.now i Step.Stays }
+    ensures sound { IsSound slots.now watches.new trail.now }
+    ensures looks { Looks slots.now watches.old watches.new trail.now i result }
 {
     let _len = trail.len();
-    watches.apart.retire(i);
+    if lits.len() == 1 {
+        watches.apart.retire_first(i);
+        Step::Stays
+    } else {
+        watches.apart.retire_last(i);
+        Step::Goes
+    }
 }
 
 // Looks at the nogood at a place, whose literals these are.
@@ -107,8 +122,8 @@ fn look_at_nogood(
         }
         Look::Pending => Ok(Step::Stays),
         Look::Retired => {
-            retire(watches, slots, i, id, trail);
-            Ok(Step::Stays)
+            let step = retire(watches, slots, lits, i, id, trail);
+            Ok(step)
         }
     }
 }
@@ -121,7 +136,7 @@ fn look_at_place(
     trail: &mut Trail,
 ) -> Result<Step, AllocError>
     requires looking { IsLooking slots.now watches.old trail.old i }
-    requires within { i < length watches.old.apart.items }
+    requires within { i < watches.old.apart.last }
     requires room { trail.old.vars ≤ trail.old.room }
     ensures same { trail.new ≡ record trail.old { entries = trail.new.entries } }
     ensures extends { Extends slots.now trail.old.entries trail.new.entries }
@@ -156,8 +171,8 @@ pub fn look_at_pending(
     ensures settled { IfOk result (λ r. IfNone r (AreSettled slots.now watches.new.rows trail.new.entries)) }
     ensures violated { IfOk result (λ r. IfSome r (IsViolated trail.new.vars slots.now trail.new.entries)) }
 {
-    let mut i = watches.apart.retired();
-    'places: while i < watches.apart.len() {
+    let mut i = watches.apart.first();
+    'places: while i < watches.apart.last() {
         let step = look_at_place(watches, slots, i, trail)?;
         match step {
             Step::Stays => {

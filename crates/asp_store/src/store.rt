@@ -76,7 +76,7 @@ impl Store {
     /// No nogoods, over the variables 1 to `vars`.
     pub fn new(alloc: Global, vars: u32) -> Result<Store, AllocError>
         requires { vars < 2 ^ 31 }
-        ensures { IfOk result (λ s. s ≡ record { vars = vars; slots = []; rows = []; apart = record { items = []; retired = 0 }; given = [] }) }
+        ensures { IfOk result (λ s. s ≡ record { vars = vars; slots = []; rows = []; apart = record { items = []; first = 0; last = 0 }; given = [] }) }
     {
         let watches = Watches::new(alloc, 2 * (vars as usize) + 2)?;
         Ok(Store {
@@ -111,7 +111,6 @@ impl Store {
         ensures ok { OnOk result (IsAdded self.old self.new id nogood kind) }
         ensures err { OnErr result (self.new ≡ self.old) }
     {
-        let _len = self.watches.apart.len();
         self.given.reserve(1)?;
         self.watches.apart.push(id)?;
         self.watches.rows.clear(id as usize);
@@ -135,7 +134,6 @@ impl Store {
         if id >= MOST {
             return Err(AllocError);
         }
-        let _len = self.watches.apart.len();
         self.slots.reserve(1)?;
         self.given.reserve(1)?;
         self.watches.push(id as u32)?;

@@ -142,7 +142,6 @@ fn set_apart(
     ensures sound { IsSound slots.now watches.new trail.now }
     ensures steps { OnOk result (Steps slots.now watches.old watches.new trail.now front.now i Step.Goes) }
 {
-    let _len = watches.apart.len();
     watches.apart.push(id)?;
     watches.rows.clear(id as usize);
     leave(watches, slots, i, id, front, trail);

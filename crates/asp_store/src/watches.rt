@@ -1,5 +1,6 @@
 //! All that is known of watches: the lists by literal, the rows by number, and the numbers that aren't watched.
-ghost use Rattle.std.specs.Prelude.{◌≡◌, ◌<◌, ◌++◌, ◌∷◌, [], IfOk, OnOk, OnErr, replicate, length};
+ghost use Rattle.std.specs.Prelude.{◌≡◌, ◌++◌, ◌∷◌, [], IfOk, OnOk, OnErr, replicate};
+ghost use Rattle.asp_store.specs.Parted.{Parted, Adds};
 
 use crate::apart::Apart;
 use crate::lists::WatchLists;
@@ -20,7 +21,7 @@ pub struct Watches {
 impl Watches {
     /// No watches, in lists for so many literals.
     pub fn new(alloc: Global, literals: usize) -> Result<Watches, AllocError>
-        ensures { IfOk result (λ w. w ≡ record { lists = replicate literals []; rows = []; apart = record { items = []; retired = 0 } }) }
+        ensures { IfOk result (λ w. w ≡ record { lists = replicate literals []; rows = []; apart = record { items = []; first = 0; last = 0 } }) }
     {
         let lists = WatchLists::new(alloc, literals)?;
         Ok(Watches {
@@ -32,7 +33,7 @@ impl Watches {
 
     /// One number more, to be looked at whole. Want of memory leaves all as it was.
     pub fn push(&mut self, id: u32) -> Result<(), AllocError>
-        ensures ok { OnOk result (self.new ≡ record self.old { rows = self.old.rows ++ [] ∷ []; apart = record self.old.apart { items = self.old.apart.items ++ id ∷ [] } }) }
+        ensures ok { OnOk result ((a : Parted) × Adds self.old.apart a id × (self.new ≡ record self.old { rows = self.old.rows ++ [] ∷ []; apart = a })) }
         ensures err { OnErr result (self.new ≡ self.old) }
     {
         self.rows.push()?;

@@ -1,5 +1,5 @@
 -- A worker's search beside the board once an answer was recorded, or units were leased.
-use Rattle.std.proofs.Common.{◌≡◌, ℕ, ◌+◌, ◌-◌, ◌^◌, ◌<◌, ◌≤◌, Bool, true, false, not, ◌||◌, cond, eqb, min, max, List, [], ◌∷◌, ◌++◌, Option, Some, None, refl, sym, ap, ◌∙◌, subst, arith}
+use Rattle.std.proofs.Common.{◌≡◌, ℕ, ◌+◌, ◌-◌, ◌^◌, ◌<◌, ◌≤◌, Bool, true, false, not, ◌||◌, cond, eqb, min, max, List, [], ◌∷◌, ◌++◌, Option, Some, None, inl, inr, refl, sym, ap, ◌∙◌, subst, arith}
 use Rattle.std.specs.Prelude.{ℤ, IsTrue, option_map}
 use Rattle.std.specs.Option.{IfSome}
 use Rattle.std.specs.List.{list_any}
@@ -23,7 +23,7 @@ use Rattle.asp_core.specs.declared.event.Event.{Event}
 use Rattle.asp_core.specs.declared.event.Event.TheVariants as event
 use Rattle.asp_core.specs.declared.task.Task.{Task}
 use Rattle.asp_core.specs.Units.{out_of}
-use Rattle.asp_core.specs.Boards.{Board, goal_of, start, lists, is_answer, optimises}
+use Rattle.asp_core.specs.Boards.{Board, goal_of, start, lists, is_answer, optimises, sought}
 use Rattle.asp_core.specs.Events.{happens, replay}
 use Rattle.asp_core.specs.Growth.{Grows}
 use Rattle.asp_core.proofs.BoardLaws.{wanted-stand}
@@ -38,7 +38,7 @@ use Rattle.asp_book.proofs.CallLaws.{task-stays, seen-after}
 use Rattle.asp_propagate.specs.Useful.{IsSmaller}
 use Rattle.asp_search_laws.specs.Searching.{Searching}
 use Rattle.asp_search_laws.specs.Steps.{Records}
-use Rattle.asp_crew_laws.specs.Working.{IsAtWork}
+use Rattle.asp_crew_laws.specs.Working.{IsAtWork, IsSought}
 use Rattle.asp_crew_laws.proofs.WorkLaws.{work-on, work-delivered, work-improved, work-unimproved, work-leased, work-told, out_of-leased, Fits-merged, may-list, may-optimise, may-tell}
 use Rattle.asp_worker.specs.Seats.{IsRun, IsSettled, Idles, Leases, WasEmpty}
 use Rattle.asp_worker.specs.Sharing.{lowered}
@@ -48,6 +48,20 @@ use Rattle.asp_worker.proofs.SeatLaws.{board-task, query-none, settled-board, se
 use Rattle.asp_worker.proofs.GoingLaws.{lowered-goes}
 
 -- ---- what is found is an answer
+-- the search is one of the board's program
+pub found-program : (m : Mode) (v : Knows) (s t : Searching) (u : Units) (leaf : ℕ) (S : Atoms) → Finds m v s t u leaf S → t.program ≡ (seen_board v).task.program
+found-program m v s t u leaf S f = f.program ∙ f.on.going.program ∙ ap (λ (x : Task). x.program) (sym (board-task v))
+
+-- an enumeration doesn't optimise
+pub listing-enum : (m : Mode) → m ≡ Enum → optimises (goal_of m) ≡ false
+listing-enum m e = ap (λ (k : Mode). optimises (goal_of k)) e
+
+-- an enumeration doesn't seek consequences
+pub sought-none : (m : Mode) (v : Knows) (s t : Searching) (u : Units) (leaf : ℕ) (S : Atoms) → m ≡ Enum → Finds m v s t u leaf S → sought (seen_board v).task.goal ≡ None
+sought-none m v s t u leaf S e f =
+    let is : IsSought Enum s.bound (seen_board v).task.goal = subst (λ (k : Mode). IsSought k s.bound (seen_board v).task.goal) e f.on.going.work.goal in
+    elim is [ inl g ↦ ap sought g | inr g ↦ ap sought g ]
+
 pub is-answer : (m : Mode) (v : Knows) (s t : Searching) (u : Units) (leaf : ℕ) (S : Atoms) → IsSettled v → Finds m v s t u leaf S → IsTrue (is_answer (seen_board v).task S)
 is-answer m v s t u leaf S set f =
     let b : Board = seen_board v in

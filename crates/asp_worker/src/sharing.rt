@@ -5,6 +5,8 @@ ghost use Rattle.asp_model.specs.declared.results.Mode.TheVariants as mode;
 ghost use Rattle.asp_model.specs.Asked.{reasoning_of};
 ghost use Rattle.asp_model.specs.Consequences.{unshown};
 ghost use Rattle.asp_model.specs.Sets.{IsSubset};
+ghost use Rattle.asp_model.specs.Models.{atoms_of};
+ghost use Rattle.asp_rows.specs.Listed.{IsRowFor};
 ghost use Rattle.asp_vars.specs.Paid.{Units};
 ghost use Rattle.asp_core.specs.Boards.{goal_of, optimises};
 ghost use Rattle.asp_vault.specs.Moments.{Stays};
@@ -27,10 +29,11 @@ use asp_model::cost::Cost;
 use asp_model::interp::Interp;
 use asp_model::results::Mode;
 use asp_propagate::propagator::Propagator;
+use asp_rows::row::Row;
 use asp_search::search::{Search, count_unshown};
 use asp_vars::known::Known;
 use asp_vault::Seat;
-use std::alloc::AllocError;
+use std::alloc::{AllocError, Global};
 use std::sync::Wait;
 
 /// How many units a worker leases at a time.
@@ -196,8 +199,44 @@ pub(crate) fn export<R: Wait, P: Propagator>(
     }
 }
 
-// Delivers an answer that the search has found, unless as many as asked for were delivered before.
+// The row of an answer, which is made before the lock is taken.
+fn row_of<P: Propagator>(
+    alloc: Global,
+    search: &Search<'_, P>,
+    set: &Interp,
+) -> Result<Row, AllocError>
+    ensures { IfOk result (IsRowFor (atoms_of search.now.program) set.now) }
+{
+    let atoms = search.atoms().as_slice();
+    let row = Row::of(alloc, atoms, set)?;
+    Ok(row)
+}
+
+// Delivers an answer that an enumeration has found, unless as many as asked for were delivered before.
 fn list<R: Wait>(
+    rt: &R,
+    shared: &Shared,
+    seat: &mut Seat<Book>,
+    engine: &mut Engine<'_>,
+    set: Interp,
+) -> Result<(), Stop>
+    requires of { IsOf shared.now.book seat.old }
+    requires settled { IsSettled (view seat.old) }
+    requires listing { shared.now.mode ≡ mode.Enum }
+    requires found { (s : Searching) × (leaf : ℕ) × Finds shared.now.mode (view seat.old) s engine.old.search engine.old.fuel leaf set }
+    ensures of { IsBeside seat.old seat.new }
+    ensures idles { Idles (view seat.old) (view seat.new) }
+    ensures engine { (engine.new.search ≡ engine.old.search) × (engine.new.fuel ≡ engine.old.fuel) × (engine.new.read ≡ engine.old.read) }
+    ensures ok { OnOk result (GoesOn shared.now.mode (view seat.new) engine.new.search engine.new.fuel) }
+    ensures stop { IfErr result (IsStop (view seat.new)) }
+{
+    let row = row_of(shared.alloc, &engine.search, &set)?;
+    let listed = desk::list(rt, &shared.book, seat, row, set)?;
+    if listed { Ok(()) } else { Err(Stop::Enough) }
+}
+
+// Tells of an answer that the search has found where consequences are sought, unless as many as asked for were delivered before.
+fn deliver<R: Wait>(
     rt: &R,
     shared: &Shared,
     seat: &mut Seat<Book>,
@@ -214,8 +253,8 @@ fn list<R: Wait>(
     ensures ok { OnOk result (GoesOn shared.now.mode (view seat.new) engine.new.search engine.new.fuel) }
     ensures stop { IfErr result (IsStop (view seat.new)) }
 {
-    let listed = desk::deliver(rt, &shared.book, seat, set)?;
-    if listed { Ok(()) } else { Err(Stop::Enough) }
+    let told = desk::deliver(rt, &shared.book, seat, set)?;
+    if told { Ok(()) } else { Err(Stop::Enough) }
 }
 
 // Makes an answer that the search has found the best one, or takes over the cost of one that is no dearer.
@@ -259,7 +298,8 @@ pub(crate) fn record<R: Wait>(
     ensures stop { IfErr result (IsStop (view seat.new)) }
 {
     match shared.mode {
-        Mode::Enum | Mode::Consequences(_) => list(rt, shared, seat, engine, set),
+        Mode::Enum => list(rt, shared, seat, engine, set),
+        Mode::Consequences(_) => deliver(rt, shared, seat, engine, set),
         Mode::Opt => {
             improve(rt, shared, seat, engine, set)?;
             Ok(())

@@ -1,5 +1,4 @@
 use Rattle.std.proofs.Common.{◌≡◌, ◌<◌, true, [], ◌∷◌, ◌++◌, List, length, set, inl, inr, refl, sym, ap, ◌∙◌, subst, arith}
-use Rattle.std.proofs.lemmas.Option.{slice_get_within}
 use Rattle.asp_vars.specs.Literals.{Literal, has_literal}
 use Rattle.asp_vars.specs.Codes.{code_of}
 use Rattle.asp_store.specs.Marks.{Watch}
@@ -92,7 +91,7 @@ leave-requires-clause-none c =
     (attached_none c.args.slots.now w c.args.trail.now c.args.i c.args.id p k.0 d o.0 k.1 o.2 c.requires.waiting)
 
 pub leave-requires-clause-within : goal.leave-requires-clause-within
-leave-requires-clause-within c = slice_get_within c.args.watches.now.apart.items c.args.i c.args.id c.requires.waiting.at
+leave-requires-clause-within c = c.requires.waiting.within
 
 pub returns-in_err-push-clause-sound : goal.returns-in_err-push-clause-sound
 returns-in_err-push-clause-sound c = subst (λ (ls : List (List Watch)). IsSound c.args.slots.now (record c.args.watches.now { lists = ls }) c.args.trail.now) (sym c.in_err-push.ensures.err) c.requires.waiting.looking.sound

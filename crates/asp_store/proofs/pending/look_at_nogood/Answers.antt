@@ -27,16 +27,16 @@ attach-requires-clause-watched c = for_each c.args.slots.now c.args.id c.require
 pub attach-requires-clause-kept : goal.attach-requires-clause-kept
 attach-requires-clause-kept c = c.requires.kept
 
-pub retire-requires-clause-waiting : goal.retire-requires-clause-waiting
-retire-requires-clause-waiting c =
+pub retire-step-requires-clause-waiting : goal.retire-step-requires-clause-waiting
+retire-step-requires-clause-waiting c =
     let t = c.args.trail.now in
     let u = c.look_at-found.new.trail in
     let g = grew_by c.args.id c.args.lits.now t.entries u.entries c.look_at-found.ensures.grew in
     subst (λ (x : Trailed). IsWaiting c.args.slots.now c.args.watches.now x c.args.i c.args.id) (sym (trail_more t u g.0 c.look_at-found.ensures.same g.1))
     (waiting_grow c.args.slots.now c.args.watches.now t c.args.i c.args.id g.0 (omega (arith, c.len-len.ensures.len, c.len-len.ensures.seen)) c.requires.waiting)
 
-pub retire-requires-clause-is_false : goal.retire-requires-clause-is_false
-retire-requires-clause-is_false c = for_each c.args.slots.now c.args.id c.requires.kept.0 c.args.lits.now (λ xs. HasFalse c.look_at-found.new.trail.entries xs 0) c.requires.kept.1 c.requires.kept.2 (subst (λ (l : Look). Found c.args.trail.now.vars c.args.lits.now c.args.trail.now.entries c.look_at-found.new.trail.entries l) c.in-Retired.is c.look_at-found.ensures.found)
+pub retire-step-requires-clause-is_false : goal.retire-step-requires-clause-is_false
+retire-step-requires-clause-is_false c = for_each c.args.slots.now c.args.id c.requires.kept.0 c.args.lits.now (λ xs. HasFalse c.look_at-found.new.trail.entries xs 0) c.requires.kept.1 c.requires.kept.2 (subst (λ (l : Look). Found c.args.trail.now.vars c.args.lits.now c.args.trail.now.entries c.look_at-found.new.trail.entries l) c.in-Retired.is c.look_at-found.ensures.found)
 
 pub returns-in-Violated-clause-sound : goal.returns-in-Violated-clause-sound
 returns-in-Violated-clause-sound c = (let t = c.args.trail.now in
@@ -68,10 +68,10 @@ returns-in-Pending-clause-looks c =
     (waiting_grow c.args.slots.now c.args.watches.now t c.args.i c.args.id g.0 (omega (arith, c.len-len.ensures.len, c.len-len.ensures.seen)) c.requires.waiting))
 
 pub returns-in-Retired-clause-sound : goal.returns-in-Retired-clause-sound
-returns-in-Retired-clause-sound c = c.retire.ensures.0.sound
+returns-in-Retired-clause-sound c = c.retire-step.ensures.sound
 
 pub returns-in-Retired-clause-looks : goal.returns-in-Retired-clause-looks
-returns-in-Retired-clause-looks c = c.retire.ensures
+returns-in-Retired-clause-looks c = c.retire-step.ensures.looks
 
 pub returns-in_err-attach-in-Watched-clause-sound : goal.returns-in_err-attach-in-Watched-clause-sound
 returns-in_err-attach-in-Watched-clause-sound c = c.attach.ensures.sound

@@ -8,7 +8,7 @@ use Rattle.asp_store.proofs.pending.look_at_pending.Goals as goal
 
 pub places-init : goal.places-init
 places-init c = record {
-  looking = subst (λ (k : ℕ). IsLooking c.args.slots.now c.args.watches.now c.args.trail.now k) (sym c.retired-i.ensures) (looking_begins c.args.slots.now c.args.watches.now c.args.trail.now c.requires.sound);
+  looking = subst (λ (k : ℕ). IsLooking c.args.slots.now c.args.watches.now c.args.trail.now k) (sym c.first-i.ensures) (looking_begins c.args.slots.now c.args.watches.now c.args.trail.now c.requires.sound);
   same = refl;
   extends = extends_none c.args.slots.now c.args.trail.now.entries;
 }
@@ -17,7 +17,7 @@ pub look_at_place-requires-clause-looking : goal.look_at_place-requires-clause-l
 look_at_place-requires-clause-looking c = c.places.invariant.looking
 
 pub look_at_place-requires-clause-within : goal.look_at_place-requires-clause-within
-look_at_place-requires-clause-within c = omega (arith, c.len.ensures.len, c.places-test.true)
+look_at_place-requires-clause-within c = omega (arith, c.last.ensures, c.places-test.true)
 
 pub look_at_place-requires-clause-room : goal.look_at_place-requires-clause-room
 look_at_place-requires-clause-room c = omega (arith, c.requires.room, ap (λ (s : Trailed). s.vars) c.places.invariant.same, ap (λ (s : Trailed). s.room) c.places.invariant.same)
@@ -53,7 +53,7 @@ pub returns-clause-sound : goal.returns-clause-sound
 returns-clause-sound c = c.places.invariant.looking.sound
 
 pub returns-clause-settled : goal.returns-clause-settled
-returns-clause-settled c = looking_ends c.args.slots.now c.places.watches c.places.trail c.places.i (omega (arith, c.len.ensures.len, c.places-test.false)) c.places.invariant.looking
+returns-clause-settled c = looking_ends c.args.slots.now c.places.watches c.places.trail c.places.i (omega (arith, c.last.ensures, c.places-test.false)) c.places.invariant.looking
 
 pub places-preserved : goal.places-preserved
 places-preserved c = record {
@@ -70,7 +70,7 @@ places-preserved-in-Stays c = record {
 }
 
 pub places-smaller : goal.places-smaller
-places-smaller c = omega (arith, c.len.ensures.len, c.places-test.true, (subst (λ (s : Step). Looks c.args.slots.now c.places.watches c.look_at_place.new.watches c.look_at_place.new.trail c.places.i s) c.in-Goes.is c.in_ok-step.ensures.looks).1)
+places-smaller c = omega (arith, c.last.ensures, c.places-test.true, (subst (λ (s : Step). Looks c.args.slots.now c.places.watches c.look_at_place.new.watches c.look_at_place.new.trail c.places.i s) c.in-Goes.is c.in_ok-step.ensures.looks).1)
 
 pub places-smaller-in-Stays : goal.places-smaller-in-Stays
-places-smaller-in-Stays c = omega (arith, c.len.ensures.len, c.places-test.true, (subst (λ (s : Step). Looks c.args.slots.now c.places.watches c.look_at_place.new.watches c.look_at_place.new.trail c.places.i s) c.in-Stays.is c.in_ok-step.ensures.looks).1)
+places-smaller-in-Stays c = omega (arith, c.last.ensures, c.places-test.true, (subst (λ (s : Step). Looks c.args.slots.now c.places.watches c.look_at_place.new.watches c.look_at_place.new.trail c.places.i s) c.in-Stays.is c.in_ok-step.ensures.looks).1)

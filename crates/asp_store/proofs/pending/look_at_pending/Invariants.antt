@@ -1,4 +1,4 @@
-use Rattle.std.proofs.Common.{◌≡◌, ◌-◌, length}
+use Rattle.std.proofs.Common.{◌≡◌, ◌-◌}
 use Rattle.asp_store.specs.Fitting.{Extends}
 use Rattle.asp_store.specs.Pending.{IsLooking}
 use Rattle.asp_store.proofs.pending.look_at_pending.Given as goal
@@ -11,4 +11,4 @@ invariant-places l = record {
 }
 
 abbrev pub decreases-places : goal.decreases-places
-decreases-places l = length l.watches.apart.items - l.i
+decreases-places l = l.watches.apart.last - l.i

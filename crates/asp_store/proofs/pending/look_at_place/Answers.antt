@@ -18,6 +18,7 @@ leave-requires-in-None-clause-none c = λ j m at g q.
 pub look_at_nogood-requires-clause-waiting : goal.look_at_nogood-requires-clause-waiting
 look_at_nogood-requires-clause-waiting c = record {
   looking = c.requires.looking;
+  within = c.requires.within;
   at = c.id-id.ensures;
   pair = none_from (pair_at c.args.watches.now.rows c.id-id.result) (sym c.is_watched.ensures ∙ c.if-is_watched.false);
   kept = (c.in-Some.ensures.0, c.in-Some.ensures.1);

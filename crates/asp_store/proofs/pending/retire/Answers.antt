@@ -1,21 +1,33 @@
-use Rattle.std.proofs.Common.{◌+◌, sym, subst}
-use Rattle.std.specs.List.{swap}
-use Rattle.std.proofs.lemmas.Option.{slice_get_within}
-use Rattle.asp_store.specs.declared.front.Step.TheVariants as step
-use Rattle.asp_store.specs.Parted.{Parted}
-use Rattle.asp_store.specs.Pending.{Looks}
-use Rattle.asp_store.proofs.PendingLaws.{looks_retire, retires}
+use Rattle.std.proofs.Common.{◌+◌, arith}
+use Rattle.asp_store.proofs.PendingLaws.{looking_retired}
 use Rattle.asp_store.proofs.pending.retire.Goals as goal
 
-pub retire-requires-clause-within : goal.retire-requires-clause-within
-retire-requires-clause-within c = slice_get_within c.args.watches.now.apart.items c.args.i c.args.id c.requires.waiting.at
+pub retire_first-requires-clause-within : goal.retire_first-requires-clause-within
+retire_first-requires-clause-within c = c.requires.waiting.within
 
-pub retire-requires-clause-waits : goal.retire-requires-clause-waits
-retire-requires-clause-waits c = c.requires.waiting.looking.begun
+pub retire_first-requires-clause-waits : goal.retire_first-requires-clause-waits
+retire_first-requires-clause-waits c = c.requires.waiting.looking.begun
 
-pub returns : goal.returns
-returns c =
-    let a = c.args.watches.now.apart in
-    subst (λ (x : Parted). Looks c.args.slots.now c.args.watches.now (record c.args.watches.now { apart = x }) c.args.trail.now c.args.i step.Stays) (sym c.retire.ensures)
-    (looks_retire c.args.slots.now c.args.watches.now c.args.trail.now c.args.i c.args.id (record { items = swap a.items a.retired c.args.i; retired = a.retired + 1 }) c.requires.is_false
-    (retires a c.args.i (slice_get_within a.items c.args.i c.args.id c.requires.waiting.at) c.requires.waiting.looking.begun) c.requires.waiting)
+pub retire_last-requires-clause-within : goal.retire_last-requires-clause-within
+retire_last-requires-clause-within c = c.requires.waiting.within
+
+pub retire_last-requires-clause-waits : goal.retire_last-requires-clause-waits
+retire_last-requires-clause-waits c = c.requires.waiting.looking.begun
+
+pub returns-then-lits-eq1-clause-sound : goal.returns-then-lits-eq1-clause-sound
+returns-then-lits-eq1-clause-sound c = (looking_retired c.args.slots.now c.args.watches.now c.args.trail.now c.args.i (c.args.i + 1) c.args.id c.retire_first.new.self c.requires.is_false c.retire_first.ensures c.requires.waiting).sound
+
+pub returns-then-lits-eq1-clause-looks : goal.returns-then-lits-eq1-clause-looks
+returns-then-lits-eq1-clause-looks c = (
+  looking_retired c.args.slots.now c.args.watches.now c.args.trail.now c.args.i (c.args.i + 1) c.args.id c.retire_first.new.self c.requires.is_false c.retire_first.ensures c.requires.waiting,
+  omega (arith, c.retire_first.ensures.passes.left),
+)
+
+pub returns-else-lits-eq1-clause-sound : goal.returns-else-lits-eq1-clause-sound
+returns-else-lits-eq1-clause-sound c = (looking_retired c.args.slots.now c.args.watches.now c.args.trail.now c.args.i c.args.i c.args.id c.retire_last.new.self c.requires.is_false c.retire_last.ensures c.requires.waiting).sound
+
+pub returns-else-lits-eq1-clause-looks : goal.returns-else-lits-eq1-clause-looks
+returns-else-lits-eq1-clause-looks c = (
+  looking_retired c.args.slots.now c.args.watches.now c.args.trail.now c.args.i c.args.i c.args.id c.retire_last.new.self c.requires.is_false c.retire_last.ensures c.requires.waiting,
+  omega (arith, c.retire_last.ensures.passes.left),
+)

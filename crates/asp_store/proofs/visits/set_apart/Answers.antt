@@ -14,11 +14,10 @@ clear-requires c = visit_id c.args.slots.now c.args.watches.now c.args.trail.now
 pub leave-requires-clause-walking : goal.leave-requires-clause-walking
 leave-requires-clause-walking c =
     let w = c.args.watches.now in
-    let a = c.in_ok-push.ensures.ok in
     let b = c.clear.ensures in
-    let e : record w { rows = c.clear.new.self; apart = c.push.new.self } ≡ put_apart w c.args.id = λ j. record w { rows = b j; apart = a j } in
+    let e : record w { rows = c.clear.new.self; apart = c.push.new.self } ≡ put_apart w c.push.new.self c.args.id = λ j. record w { rows = b j; apart = c.push.new.self } in
     subst (λ (x : Watches). IsWalking c.args.slots.now x c.args.trail.now c.args.front.now c.args.i) (sym e)
-    (apart_walking c.args.slots.now w c.args.trail.now c.args.front.now c.args.i c.args.id c.args.other c.requires.is_false.0 (rw c.len-len.ensures.len at c.len-len.ensures.retired)
+    (apart_walking c.args.slots.now w c.args.trail.now c.args.front.now c.args.i c.args.id c.args.other c.requires.is_false.0 c.push.new.self c.in_ok-push.ensures.ok
     c.requires.is_false.1 c.requires.visit)
 
 pub leave-requires-clause-at : goal.leave-requires-clause-at

@@ -1,18 +1,29 @@
 use Rattle.std.proofs.Common.{◌≡◌, List, [], ◌∷◌, ◌++◌, Option, Some, refl, ap, ◌∙◌}
 use Rattle.asp_model.specs.declared.program.Program.{Program}
 use Rattle.asp_model.specs.declared.results.Reasoning.{Reasoning}
+use Rattle.asp_model.specs.Models.{atoms_of}
 use Rattle.asp_model.specs.Sets.{Atoms}
+use Rattle.asp_rows.specs.Bits.{encode}
 use Rattle.asp_core.specs.declared.event.Event.TheVariants as event
 use Rattle.asp_core.specs.declared.state.State.TheInside.{Inside}
-use Rattle.asp_core.specs.Boards.{sought}
+use Rattle.asp_core.specs.Boards.{Board, sought}
 use Rattle.asp_core.specs.Stored.{answers_in, board_of}
 use Rattle.asp_core.proofs.CountLaws.{sorted-delivered}
 use Rattle.asp_core.proofs.SeenLaws.{Seen, seen-more, seen-some, tell-in}
 use Rattle.asp_core.proofs.StateLaws.{IsState-happens}
 use Rattle.asp_core.proofs.state.State.deliver.Goals as goal
 
-pub invariant_of-self-in-Some-1 : goal.invariant_of-self-in-Some-1
-invariant_of-self-in-Some-1 c =
+pub list-requires-clause-row : goal.list-requires-clause-row
+list-requires-clause-row c =
+    let i : Inside = c.self.inside in
+    let same : i.program.value ≡ c.args.self.now.task.program = ap (λ (b : Board). b.task.program) c.self.view_is in
+    record {
+      words = c.in_ok-row-in-None.ensures.words ∙ ap (λ (L : Atoms). encode L c.args.set) (c.as_slice.ensures.value ∙ c.atoms.ensures ∙ c.self.invariant.among ∙ ap atoms_of same);
+      set = c.in_ok-row-in-None.ensures.set;
+    }
+
+pub invariant_of-self-in-Some : goal.invariant_of-self-in-Some
+invariant_of-self-in-Some c =
     let i : Inside = c.self.inside in
     let I = c.self.invariant in
     let k : Option Reasoning = sought i.goal in
@@ -20,7 +31,7 @@ invariant_of-self-in-Some-1 c =
     let S : Atoms = c.args.set in
     let A : List Atoms = i.answers.sets in
     let more : c.push_reserved.new.self.items ≡ i.told.items ++ S ∷ [] =
-    c.push_reserved.ensures.items ∙ ap (λ (x : List Atoms). x ++ c.of.result ∷ []) c.in_ok-reserve-in-Some.ensures.items ∙ ap (λ (y : Atoms). i.told.items ++ y ∷ []) c.of.ensures in
+    c.push_reserved.ensures.items ∙ ap (λ (x : List Atoms). x ++ c.of-told.result ∷ []) c.in_ok-reserve-in-Some.ensures.items ∙ ap (λ (y : Atoms). i.told.items ++ y ∷ []) c.of-told.ensures in
     let s : Seen k p c.in-Some.known A i.told.items i.atoms.items = seen-some k p i.known c.in-Some.known A i.told.items i.atoms.items I.seen c.in-Some.is in
     let told : answers_in k A c.push_reserved.new.self.items ≡ answers_in k A i.told.items ++ S ∷ [] = ap (λ (x : List Atoms). answers_in k A x) more ∙ tell-in k s.reasoning A i.told.items S s.seeks in
     IsState-happens i (record i { told = c.push_reserved.new.self; known = Some c.in_ok-known-in-Some.known; different = c.count_in.new.different }) c.args.self.now (event.Deliver c.args.by c.args.set) I c.self.view_is c.requires

@@ -1,0 +1,34 @@
+use Rattle.std.proofs.Common.{◌≡◌, false, List, [], ◌∷◌, ◌++◌, length, refl, sym, ap, ◌∙◌, subst, arith}
+use Rattle.std.specs.Prelude.{IsTrue}
+use Rattle.std.proofs.lemmas.List.{length-append}
+use Rattle.asp_model.specs.Models.{atoms_of}
+use Rattle.asp_rows.specs.Listed.{IsRowFor}
+use Rattle.asp_core.specs.declared.event.Event.{Event}
+use Rattle.asp_core.specs.declared.event.Event.TheVariants as event
+use Rattle.asp_core.specs.Boards.{Board, lists, is_answer, is_enough}
+use Rattle.asp_core.specs.Events.{Guard}
+use Rattle.asp_book.specs.declared.book.Book.TheInside.{Inside}
+use Rattle.asp_book.specs.Books.{board}
+use Rattle.asp_book.specs.Fuels.{places_of}
+use Rattle.asp_book.proofs.BookLaws.{IsOwnFuel-happens, IsStored-happens, state-is}
+use Rattle.asp_book.proofs.book.Book.list.Goals as goal
+
+pub list-requires-clause-row : goal.list-requires-clause-row
+list-requires-clause-row c =
+    subst (λ (b : Board). IsRowFor (atoms_of b.task.program) c.args.set c.args.row) (sym (state-is c.self.inside c.args.self.now c.self.invariant c.self.view_is)) c.requires.row
+
+pub invariant_of-self-2 : goal.invariant_of-self-2
+invariant_of-self-2 c =
+    let i : Inside = c.self.inside in
+    let I = c.self.invariant in
+    let e : Event = event.Deliver c.args.by c.args.set in
+    let at : i.state.value ≡ board c.args.self.now = state-is i c.args.self.now I c.self.view_is in
+    let guard : Guard i.state.value e = (
+      subst (λ (b : Board). IsTrue (lists b.task c.args.set)) (sym at) c.requires.listed,
+      subst (λ (b : Board). IsTrue (is_answer b.task c.args.set)) (sym at) c.requires.answer,
+      subst (λ (b : Board). is_enough b ≡ false) (sym at) (sym c.enough.ensures ∙ c.if-enough.false),
+    ) in
+    let places : i.places ≡ places_of c.list.new.state.value = I.places ∙ sym (ap places_of c.in_ok-list.ensures.state) in
+    IsStored-happens i (record i { state = c.list.new.state; journal = c.list.new.journal }) e I guard c.in_ok-list.ensures.state
+    (c.in_ok-list.ensures.journal ∙ ap (λ (l : List Event). l ++ e ∷ []) c.in_ok-make_room.ensures.items) (IsOwnFuel-happens i.state.value c.list.new.state.value e i.fuel guard c.in_ok-list.ensures.state refl refl I.fuel) places
+    (omega (arith, ap length c.in_ok-list.ensures.journal, ap length c.in_ok-make_room.ensures.items, length-append c.make_room.new.journal.items (e ∷ []), c.list.ensures.capacity, c.in_ok-make_room.ensures.ok, c.list.new.journal.ok.0))
