@@ -1,5 +1,5 @@
 -- What was found of a program without its facts, told with them: it is what was asked of the program, and its text.
-use Rattle.std.proofs.Common.{◌≡◌, ℕ, ◌+◌, Bool, true, false, not, ◌||◌, cond, List, [], ◌∷◌, ◌++◌, map, filter, length, refl, sym, ap, ◌∙◌, subst, ℤ, Contains, inl, inr}
+use Rattle.std.proofs.Common.{◌≡◌, ℕ, ◌+◌, Bool, true, false, not, ◌||◌, cond, List, [], ◌∷◌, ◌++◌, map, length, refl, sym, ap, ◌∙◌, subst, ℤ, Contains, inl, inr}
 use Rattle.std.specs.Prelude.{Option, None, Some, Result, Ok, IfOk, IfSome, option_map, is_some, codes, decimal}
 use Rattle.std.specs.List.{join_with_byte}
 use Rattle.std.proofs.lemmas.List.{length-map}
@@ -11,11 +11,10 @@ use Rattle.asp_model.specs.declared.results.Mode.{Mode}
 use Rattle.asp_model.specs.declared.results.Mode.TheVariants.{Enum, Opt, Consequences}
 use Rattle.asp_model.specs.Sets.{Atoms}
 use Rattle.asp_model.specs.Models.{answers}
-use Rattle.asp_model.specs.Costs.{cost, optima}
 use Rattle.asp_model.specs.Consequences.{consequences_of}
 use Rattle.asp_model.specs.Found.{Found}
 use Rattle.asp_model.specs.Sound.{IsSound}
-use Rattle.asp_model.specs.Texts.{answer_lines, answers_from, best_answers, best_cost_line, bests, closing_lines, consequences_line, ended_line, found_count, how_many, recorded, results_text, sums_text}
+use Rattle.asp_model.specs.Texts.{answer_lines, answers_from, best_answers, best_cost_line, bests, closing_lines, ended_line, found_count, recorded, results_text, sums_text}
 use Rattle.asp_settle.specs.Settled.{facts_of, left_of, united, without}
 use Rattle.asp_settle.proofs.FactLaws.{cost-left}
 use Rattle.asp_settle.proofs.TextLaws.{shown-left}
@@ -24,11 +23,12 @@ use Rattle.asp_settle.proofs.ResultLaws.{all-consequences, chosen-left, conseque
 use Rattle.asp_proof.specs.declared.proof.Proof.{Proof}
 use Rattle.asp_crew_laws.specs.declared.report.Report.{Report}
 use Rattle.asp_crew_laws.specs.Runs.{IsBest, IsFound}
-use Rattle.asp_crew_laws.specs.Reports.{HasBest, IsAllFound, IsAsked, IsPart, IsPartOf, IsPriced, IsReport, Says as SaysReport}
+use Rattle.asp_crew_laws.specs.Reports.{HasBest, IsAllFound, IsPart, IsPartOf, IsPriced, IsReport, Says as SaysReport}
 use Rattle.asp_crew_laws.specs.Proofs.{HasProof, HasProofAt}
 use Rattle.asp_cli.specs.declared.Options.{Options}
+use Rattle.asp_top.specs.Parting.{Divides}
 use Rattle.asp_top.specs.Meaning.{has_model, has_model_in, mode_of}
-use Rattle.asp_top.specs.Runs.{Concludes, Delivers, IsCounted, Solves, ask_of, found_with, is_brief, is_settled, prepared_of, report_text, report_with, searched, set_aside, text_by, told_with}
+use Rattle.asp_top.specs.Runs.{Concludes, Delivers, Does, DoesBy, IsCounted, Solves, ask_of, found_with, is_brief, is_settled, prepared_of, report_text, report_with, searched, set_aside, text_by, told_with}
 use Rattle.asp_top.specs.declared.counts.Tally.{Tally}
 use Rattle.asp_top.specs.declared.prepare.Prepared.{Prepared}
 use Rattle.asp_top.specs.declared.status.Outcome.{Outcome}
@@ -138,7 +138,7 @@ text-left : (p : Program) (r : Found) (brief : Bool) → results_text (left_of p
 text-left p r brief =
     let F = facts_of p in
     let lines : answers_from (left_of p) 1 (recorded r.mode (told F r)) ≡ answers_from p 1 (recorded r.mode (found_with F r)) =
-        ap (answers_from (left_of p) 1) (recorded-told F r.mode r) ∙ same-lines p 1 (recorded r.mode r) ∙ ap (answers_from p 1) (sym (recorded-with F r.mode r)) in
+    ap (answers_from (left_of p) 1) (recorded-told F r.mode r) ∙ same-lines p 1 (recorded r.mode r) ∙ ap (answers_from p 1) (sym (recorded-with F r.mode r)) in
     ap (λ xs. cond brief [] xs ++ sums_text r.mode (told F r) ++ closing_lines r (found_count r.mode (told F r))) lines
     ∙ ap (λ xs. cond brief [] (answers_from p 1 (recorded r.mode (found_with F r))) ++ xs ++ closing_lines r (found_count r.mode (told F r))) (sums-with F r.mode r)
     ∙ ap (λ k. cond brief [] (answers_from p 1 (recorded r.mode (found_with F r))) ++ sums_text r.mode (found_with F r) ++ closing_lines r k) (count-with F r.mode r)
@@ -246,9 +246,16 @@ pub from-ok : {E : Type 0} (P : Report → Type 0) (s : Result Report E) (r : Re
 from-ok {E = E} P s r is has = subst (λ (x : Result Report E). IfOk x P) is has
 
 -- where parts are asked for, the whole program is there
-pub whole-parted : (given : Options) (p : Program) (x : Prepared) (most : ℕ) → given.split ≡ Some most → x ≡ prepared_of given p → x.compiled ≡ p
+whole-parted : (given : Options) (p : Program) (x : Prepared) (most : ℕ) → given.split ≡ Some most → x ≡ prepared_of given p → x.compiled ≡ p
 whole-parted given p x most asked is = ap (λ (y : Prepared). y.compiled) is ∙ ap (λ (b : Bool). cond b (left_of p) p) (by given.proof (ap is_some asked))
   where
     by : (b : Bool) → is_some given.split ≡ true → not (b || is_some given.split) ≡ false
     by true e = refl
     by false e = ap not e
+
+pub does-solve : (given : Options) (p : Program) (h h' : Option (List ℕ)) (w w' : ℕ) (o : Outcome) → given.split ≡ None → Solves given p h h' w w' o → Does given p h h' w w' o
+does-solve given p h h' w w' o asked solves = subst (λ (m : Option ℕ). DoesBy m given p h h' w w' o) (sym asked) solves
+
+pub does-divide : (given : Options) (p : Program) (x : Prepared) (most : ℕ) (h h' : Option (List ℕ)) (w w' : ℕ) (o : Outcome) → given.split ≡ Some most → x ≡ prepared_of given p → Divides x.compiled most h h' w w' o → Does given p h h' w w' o
+does-divide given p x most h h' w w' o asked is divides =
+    subst (λ (m : Option ℕ). DoesBy m given p h h' w w' o) (sym asked) (subst (λ (q : Program). Divides q most h h' w w' o) (whole-parted given p x most asked is) divides)

@@ -90,11 +90,7 @@ fn ready(alloc: Global, options: &Options, program: Program) -> Result<Prepared,
 }
 
 // The program that the source gives.
-fn read<S: Source>(
-    alloc: Global,
-    options: &Options,
-    source: &mut S,
-) -> Result<Prepared, Status>
+fn read<S: Source>(alloc: Global, options: &Options, source: &mut S) -> Result<Prepared, Status>
     ensures { options.now.make ≡ None → Prepares options.now (S.left source.old) (S.left source.new) (S.faults source.old) (S.faults source.new) result }
 {
     match read_program(alloc, source) {

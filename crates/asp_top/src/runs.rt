@@ -23,6 +23,7 @@ use asp_counts::watch::Watch;
 use asp_io::{Failed, Sink, Source};
 use asp_team::gate::Gate;
 use std::alloc::Global;
+use std::mem;
 use std::sync::Wait;
 use std::thread::Threads;
 
@@ -99,7 +100,11 @@ fn outcome_alone<S: Source, K: Sink, W: Watch>(
     ensures heard { W.IsAfter watch.old watch.new }
 {
     match prepare(alloc, options, source) {
-        Ok(prepared) => divide_or_solve(alloc, options, &prepared, sink, tally, watch),
+        Ok(prepared) => {
+            let outcome = divide_or_solve(alloc, options, &prepared, sink, tally, watch);
+            mem::drop(prepared);
+            outcome
+        }
         Err(status) => failed(status),
     }
 }
@@ -126,7 +131,11 @@ fn outcome_by_crew<R: Threads + Wait + Sync, S: Source, K: Sink, G: Gate + Sync,
     ensures heard { W.IsAfter watch result.1 }
 {
     match prepare(alloc, options, source) {
-        Ok(prepared) => solve_by_crew(rt, alloc, options, &prepared, sink, gate, tally, watch),
+        Ok(prepared) => {
+            let done = solve_by_crew(rt, alloc, options, &prepared, sink, gate, tally, watch);
+            mem::drop(prepared);
+            done
+        }
         Err(status) => (failed(status), watch),
     }
 }

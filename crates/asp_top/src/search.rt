@@ -28,6 +28,7 @@ use asp_team::many;
 use asp_team::many::{Deeds, Plan};
 use asp_vars::compiled::Compiled;
 use std::alloc::{AllocError, Global};
+use std::mem;
 use std::sync::Wait;
 use std::thread::Threads;
 
@@ -184,6 +185,9 @@ pub fn solve_by_crew<R: Threads + Wait + Sync, K: Sink, G: Gate + Sync, W: Watch
                 watch,
             )
         }
-        Err(_) => (failed(Status::Memory), watch),
+        Err(_) => {
+            mem::drop(deeds);
+            (failed(Status::Memory), watch)
+        }
     }
 }
