@@ -1,3 +1,4 @@
+pub mod ToldLaws
 pub mod RunLaws
 pub mod WriteLaws
 pub mod TellLaws

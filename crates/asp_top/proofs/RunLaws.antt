@@ -4,7 +4,7 @@ use Rattle.std.specs.Prelude.{ℤ, Option, None, Some, Result, Ok, Err, IfErr, I
 use Rattle.std.proofs.lemmas.Bool.{false≢true}
 use Rattle.std.proofs.KnownBytes.{Keeps-refl}
 use Rattle.std.specs.Io.KnownBytes.{Appends, Keeps, IsAtEnd}
-use Rattle.asp_io.specs.Causes.{Rose}
+use Rattle.asp_io.specs.Causes.{AppendsFront, Rose}
 use Rattle.asp_read.specs.declared.fault.ReadError.{ReadError}
 use Rattle.asp_read.specs.declared.fault.ReadError.TheVariants as errors
 use Rattle.asp_model.specs.declared.program.Program.{Program}
@@ -30,7 +30,10 @@ use Rattle.asp_top.specs.declared.status.Outcome.{Outcome}
 use Rattle.asp_top.specs.Meaning.{has_model, has_model_in, is_some_of, mode_by, mode_of, status_for}
 use Rattle.asp_top.specs.Notes.{is_answered}
 use Rattle.asp_top.specs.Parting.{Divides, HandingMeans}
-use Rattle.asp_top.specs.Runs.{Around, DeliveryMeans, Does, DoesBy, IsDivided, IsExact, IsGiven, IsOver, IsReady, IsSaid, IsSolved, Means, Prepares, Runs, Says, Solves, around, ask_of, is_brief, report_text, status_of}
+use Rattle.asp_top.specs.Runs.{Around, DeliveryMeans, Does, DoesBy, IsDivided, IsExact, IsGiven, IsOver, IsReady, IsSaid, IsSolved, Means, Prepares, Runs, Says, Solves, around, ask_of, is_brief, prepared_of, report_text, report_with, searched, set_aside, status_of, told_with}
+use Rattle.asp_top.specs.declared.prepare.Prepared.{Prepared}
+use Rattle.asp_top.proofs.ToldLaws.{told-model, told-says, told-text}
+use Rattle.asp_model.specs.Sound.{IsSound}
 use Rattle.asp_cli.specs.Found.{seeks_consequences}
 use Rattle.asp_cli.specs.declared.Options.{Options}
 
@@ -169,17 +172,23 @@ unsought (Some Opt) p e = refl
 unsought (Some (Consequences r)) p e = absurd (false≢true (sym e))
 
 written : (given : Options) (a : Around) (report : Option Report) → (s : IsSolved given a report) → (end : End) (model : Bool) → s.done.results.end ≡ end → has_model s.done.results ≡ model
-    → Appends a.held a.held' (report_text s.program s.done (is_brief given)) → Means given a report (status_for end model)
+    → Appends a.held a.held' (report_text s.program (report_with (set_aside given s.program) s.done) (is_brief given)) → Means given a report (status_for end model)
 written given a report s Finished true e m text = record { solved = s; end_is = e; model_is = m; text = text }
 written given a report s Finished false e m text = record { solved = s; end_is = e; model_is = m; text = text }
-written given a report s Limited model e m text = record { solved = s; end_is = e; model_is = limited-has s.program (ask_of given s.program) given.budget s.done s.is e; text = text }
+written given a report s Limited model e m text = record { solved = s; end_is = e; model_is = limited-has (searched given s.program) (ask_of given s.program) given.budget s.done s.is e; text = text }
 written given a report s Unfinished true e m text = record { solved = s; end_is = e; model_is = m; text = text }
 written given a report s Unfinished false e m text = record { solved = s; end_is = e; model_is = m; text = text }
 
 delivered : (given : Options) (a : Around) (s : Status) (report : Option Report) → (solved : IsSolved given a report)
-    → DeliveryMeans (is_brief given) solved.program solved.done a.held a.held' a.writes a.writes' s → Means given a report s
-delivered given a s report solved (inl m) = subst (Means given a report) (sym m.0) (written given a report solved solved.done.results.end (has_model solved.done.results) refl refl m.1)
-delivered given a s report solved (inr m) = subst (Means given a report) (sym m.0) (inl (record { solved = solved; text = m.1; cause = m.2 }))
+    → DeliveryMeans (is_brief given) (searched given solved.program) (told_with (set_aside given solved.program) solved.done) a.held a.held' a.writes a.writes' s → Means given a report s
+delivered given a s report solved (inl m) =
+    let F = set_aside given solved.program in
+    let done = solved.done in
+    let is : s ≡ status_for done.results.end (has_model done.results) = m.0 ∙ ap (status_for done.results.end) (told-model F done) in
+    let text = subst (Appends a.held a.held') (told-text given solved.program done (is_brief given) solved.proof) m.1 in
+    subst (Means given a report) (sym is) (written given a report solved done.results.end (has_model done.results) refl refl text)
+delivered given a s report solved (inr m) =
+    subst (Means given a report) (sym m.0) (inl (record { solved = solved; text = subst (AppendsFront a.held a.held') (told-text given solved.program solved.done (is_brief given) solved.proof) m.1; cause = m.2 }))
 
 -- the text of parts was written, or cut off
 handed : (given : Options) (a : Around) (s : Status) (report : Option Report) → (divided : IsDivided given a report)
@@ -187,11 +196,11 @@ handed : (given : Options) (a : Around) (s : Status) (report : Option Report) �
 handed given a s report divided (inl m) = subst (Means given a report) (sym m.0) (record { divided = divided; text = m.1 })
 handed given a s report divided (inr m) = subst (Means given a report) (sym m.0) (inr (record { divided = divided; text = m.1; cause = m.2 }))
 
-runs-solved : (given : Options) (a : Around) (p : Program) (o : Outcome) → given.split ≡ None → IsGiven given.make a p → a.reads ≤ a.reads' → (IsSome a.left → a.reads' ≡ a.reads)
+runs-solved : (given : Options) (a : Around) (p : Program) (o : Outcome) → given.split ≡ None → IsGiven given.make a p → IsSound p → a.reads ≤ a.reads' → (IsSome a.left → a.reads' ≡ a.reads)
     → Solves given p a.held a.held' a.writes a.writes' o → Runs given a o
-runs-solved given a p o whole from reads quiet (inl m) = subst (Runs given a) (sym m.0) (runs-memory given a m.1 reads (omega (arith, m.2)) quiet)
-runs-solved given a p o whole from reads quiet (inr s) =
-    let solved : IsSolved given a o.report = record { program = p; source = from; whole = whole; done = s.0; reports = s.2.reports; is = s.1.0; proof = s.1.1 } in
+runs-solved given a p o whole from sound reads quiet (inl m) = subst (Runs given a) (sym m.0) (runs-memory given a m.1 reads (omega (arith, m.2)) quiet)
+runs-solved given a p o whole from sound reads quiet (inr s) =
+    let solved : IsSolved given a o.report = record { program = p; source = from; whole = whole; done = s.0; reports = s.2.reports; is = s.1.0; says = told-says given p (ask_of given p) s.0 s.0.results.end sound s.1.0.says; proof = s.1.1 } in
     let means = delivered given a o.status o.report solved s.2.means in
     record { means = means; exact = exact given a o.report o.status means (λ told isn't. quiet told); later = (reads, s.2.later) }
 
@@ -204,18 +213,20 @@ runs-divided given a p most o asked from reads quiet (inr d) =
     record { means = means; exact = exact given a o.report o.status means (λ told isn't. quiet told); later = (reads, d.2.later) }
 
 -- the program of a text is there
-pub ready-read : (given : Options) (l l' : Option (List ℕ)) (r r' : ℕ) (p : Program) → given.make ≡ None → IfSome l (λ text. outcome text ≡ Ok p) → IsSaid (Ok p) → IsAtEnd l' → r ≤ r' → (IsSome l → r' ≡ r)
+pub ready-read : (given : Options) (l l' : Option (List ℕ)) (r r' : ℕ) (p : Program) → given.make ≡ None → IsSound p → IfSome l (λ text. outcome text ≡ Ok p) → IsSaid (Ok p) → IsAtEnd l' → r ≤ r' → (IsSome l → r' ≡ r)
     → IsReady given l l' r r' p
-ready-read given l l' r r' p none says said end later quiet = record {
+ready-read given l l' r r' p none sound says said end later quiet = record {
   source = λ h h' w w'. subst (λ (m : Option ℕ). IsGiven m (around l l' r r' h h' w w') p) (sym none) (record { says = says; said = said; end = end });
+  sound = sound;
   later = later;
   quiet = quiet;
 }
 
 -- a ring is there, and nothing read
-pub ready-ring : (given : Options) (l : Option (List ℕ)) (r n : ℕ) (p : Program) → given.make ≡ Some n → p ≡ ring n → IsReady given l l r r p
-ready-ring given l r n p make is = record {
+pub ready-ring : (given : Options) (l : Option (List ℕ)) (r n : ℕ) (p : Program) → given.make ≡ Some n → IsSound p → p ≡ ring n → IsReady given l l r r p
+ready-ring given l r n p make sound is = record {
   source = λ h h' w w'. subst (λ (m : Option ℕ). IsGiven m (around l l r r h h' w w') p) (sym make) (is, record { left = Keeps-refl l; reads = refl });
+  sound = sound;
   later = omega arith;
   quiet = λ told. refl;
 }
@@ -240,15 +251,15 @@ over-unread given l l' r r' e status is none text some later cause stops quiet =
     (record { text = text; some_text = some; later = later; cause = λ fault. cause (err-of e fault); stops = stops; quiet = λ told no. quiet told (λ is. no (of-err e is)) }))
 
 -- a program that is there is compiled, unless memory is wanting
-pub prepares : (given : Options) (l l' : Option (List ℕ)) (r r' : ℕ) (p : Program) (result : Result Program Status) → IsReady given l l' r r' p → IfOk result (λ q. q ≡ p) → IfErr result (λ s. s ≡ Memory)
+pub prepares : (given : Options) (l l' : Option (List ℕ)) (r r' : ℕ) (p : Program) (result : Result Prepared Status) → IsReady given l l' r r' p → IfOk result (λ x. x ≡ prepared_of given p) → IfErr result (λ s. s ≡ Memory)
     → Prepares given l l' r r' result
-prepares given l l' r r' p (Ok q) ready same wanting = subst (IsReady given l l' r r') (sym same) ready
+prepares given l l' r r' p (Ok x) ready same wanting = (p, ready, same)
 prepares given l l' r r' p (Err status) ready same wanting = over-memory given l l' r r' status wanting ready.later ready.quiet
 
 -- it is solved
 pub runs-ready : (given : Options) (l l' : Option (List ℕ)) (r r' : ℕ) (h h' : Option (List ℕ)) (w w' : ℕ) (p : Program) (o : Outcome) → given.split ≡ None → IsReady given l l' r r' p → Solves given p h h' w w' o
     → Runs given (around l l' r r' h h' w w') o
-runs-ready given l l' r r' h h' w w' p o whole ready solves = runs-solved given (around l l' r r' h h' w w') p o whole (ready.source h h' w w') ready.later ready.quiet solves
+runs-ready given l l' r r' h h' w w' p o whole ready solves = runs-solved given (around l l' r r' h h' w w') p o whole (ready.source h h' w w') ready.sound ready.later ready.quiet solves
 
 -- it is divided
 runs-parted : (given : Options) (l l' : Option (List ℕ)) (r r' : ℕ) (h h' : Option (List ℕ)) (w w' : ℕ) (p : Program) (most : ℕ) (o : Outcome) → given.split ≡ Some most → IsReady given l l' r r' p

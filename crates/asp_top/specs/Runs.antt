@@ -1,5 +1,5 @@
 -- What each status of a run says of the words, of the bytes read and of the bytes written.
-use Rattle.std.specs.Prelude.{◌≡◌, ◌⊎◌, ℕ, ◌≤◌, ◌==◌, Bool, true, false, ◌||◌, List, Option, None, Some, Result, Ok, Err, IfSome, IsSome, is_some, length, ℤ, []}
+use Rattle.std.specs.Prelude.{◌≡◌, ◌⊎◌, ℕ, ◌≤◌, ◌==◌, Bool, true, false, not, ◌||◌, if◌then◌else◌, List, Option, None, Some, Result, Ok, Err, IfSome, IsSome, is_some, length, map, option_map, ℤ, []}
 use Rattle.std.specs.Io.KnownBytes.{Appends, Keeps, IsAtEnd}
 use Rattle.asp_io.specs.Causes.{Rose, AppendsFront}
 use Rattle.asp_read.specs.declared.fault.Fault.{Fault}
@@ -10,6 +10,9 @@ use Rattle.asp_model.specs.declared.results.Ask.{Ask}
 use Rattle.asp_model.specs.declared.results.End.{End}
 use Rattle.asp_model.specs.declared.results.End.TheVariants.{Finished, Limited, Unfinished}
 use Rattle.asp_model.specs.Found.{Found}
+use Rattle.asp_model.specs.Sets.{Atoms}
+use Rattle.asp_model.specs.Sound.{IsSound}
+use Rattle.asp_settle.specs.Settled.{facts_of, left_of, united}
 use Rattle.asp_model.specs.Texts.{results_text}
 use Rattle.asp_proof.specs.declared.proof.Proof.{Proof}
 use Rattle.asp_proof.specs.Texts.{text_of}
@@ -23,8 +26,9 @@ use Rattle.asp_cli.specs.Texts.{help_page, version_line}
 use Rattle.asp_model.specs.Models.{atoms_of}
 use Rattle.asp_vars.specs.Numbering.{bodies_of}
 use Rattle.asp_crew_laws.specs.declared.report.Report.{Report}
-use Rattle.asp_crew_laws.specs.Reports.{IsReport}
+use Rattle.asp_crew_laws.specs.Reports.{IsReport, Says as SaysReport}
 use Rattle.asp_crew_laws.specs.Proofs.{HasProof}
+use Rattle.asp_top.specs.declared.prepare.Prepared.{Prepared}
 use Rattle.asp_top.specs.declared.status.Status.{Status}
 use Rattle.asp_top.specs.declared.status.Status.TheVariants.{All, NoModel, Partial, Unknown, Enough, Help, Memory, Usage, Refused, ReadFault, TooLong, WriteFault, Parts}
 use Rattle.asp_top.specs.declared.status.Outcome.{Outcome}
@@ -87,15 +91,41 @@ report_text p r brief = text_by r.proof p r.results brief
 abbrev pub ask_of : Options → Program → Ask
 ask_of given p = record { mode = mode_of given.mode p; models = given.models; all_optima = given.all_optima }
 
--- no parts are asked for; the report is that of a run on the program, with what is asked and the units that were given, and has a
--- proof if that was asked for
+-- ---- facts are settled before the search
+-- A proof is of the whole program, and so are parts.
+abbrev pub is_settled : Options → Bool
+is_settled given = not (given.proof || is_some given.split)
+
+-- the program that is searched: what is left without the facts
+abbrev pub searched : Options → Program → Program
+searched given p = if is_settled given then left_of p else p
+
+-- the facts that are settled before
+abbrev pub set_aside : Options → Program → Atoms
+set_aside given p = if is_settled given then facts_of p else []
+
+-- what was found, each set with the facts
+abbrev pub found_with : Atoms → Found → Found
+found_with F r = record r { answers = map (united F) r.answers; best = option_map (λ best. (united F best.0, best.1)) r.best; known = option_map (united F) r.known }
+
+-- the report of a search for what is left, as one on the program
+abbrev pub report_with : Atoms → Report → Report
+report_with F r = record r { results = found_with F r.results }
+
+-- the same where no answer is listed
+abbrev pub told_with : Atoms → Report → Report
+told_with F r = record r { results = record r.results { known = option_map (united F) r.results.known } }
+
+-- No parts are asked for. The report is that of a run on the program without the facts, with what is asked and the units that were given;
+-- with the facts it says of the program what was asked, and has a proof if that was asked for.
 pub record IsSolved (given : Options) (a : Around) (report : Option Report) : Type 0 where
   pub program : Program
   pub source : IsGiven given.make a program
   pub whole : given.split ≡ None
   pub done : Report
-  pub reports : report ≡ Some done
-  pub is : IsReport program (ask_of given program) given.budget done
+  pub reports : report ≡ Some (told_with (set_aside given program) done)
+  pub is : IsReport (searched given program) (ask_of given program) given.budget done
+  pub says : SaysReport program (ask_of given program) (report_with (set_aside given program) done) done.results.end
   pub proof : HasProof given.proof done
 
 -- the lines of a ring's answers are left out
@@ -107,12 +137,12 @@ pub record IsWritten (given : Options) (a : Around) (report : Option Report) (en
   pub solved : IsSolved given a report
   pub end_is : solved.done.results.end ≡ end
   pub model_is : has_model solved.done.results ≡ model
-  pub text : Appends a.held a.held' (report_text solved.program solved.done (is_brief given))
+  pub text : Appends a.held a.held' (report_text solved.program (report_with (set_aside given solved.program) solved.done) (is_brief given))
 
 -- a front of that text was written, and a fault counted
 pub record IsCutOff (given : Options) (a : Around) (report : Option Report) : Type 0 where
   pub solved : IsSolved given a report
-  pub text : AppendsFront a.held a.held' (report_text solved.program solved.done (is_brief given))
+  pub text : AppendsFront a.held a.held' (report_text solved.program (report_with (set_aside given solved.program) solved.done) (is_brief given))
   pub cause : Rose a.writes a.writes'
 
 -- the program was divided into parts as was asked, and not solved
@@ -212,11 +242,16 @@ pub record Delivers (brief : Bool) (p : Program) (r : Report) (held held' : Opti
   pub means : DeliveryMeans brief p r held held' writes writes' o.status
   pub later : writes ≤ writes'
 
+-- A report was told with the facts, or memory ran out before.
+abbrev pub Concludes : Bool → Program → Atoms → Report → Option (List ℕ) → Option (List ℕ) → ℕ → ℕ → Outcome → Type 0
+Concludes brief p F r held held' writes writes' o =
+    ((o ≡ record { status = Memory; report = None }) × Keeps held held' × (writes' ≡ writes)) ⊎ Delivers brief p (told_with F r) held held' writes writes' o
+
 -- The program was solved as was asked, or memory ran out and nothing was written.
 abbrev pub Solves : Options → Program → Option (List ℕ) → Option (List ℕ) → ℕ → ℕ → Outcome → Type 0
 Solves given p held held' writes writes' o =
     ((o ≡ record { status = Memory; report = None }) × Keeps held held' × (writes' ≡ writes))
-    ⊎ ((r : Report) × (IsReport p (ask_of given p) given.budget r × HasProof given.proof r) × Delivers (is_brief given) p r held held' writes writes' o)
+    ⊎ ((r : Report) × (IsReport (searched given p) (ask_of given p) given.budget r × HasProof given.proof r) × Delivers (is_brief given) (searched given p) (told_with (set_aside given p) r) held held' writes writes' o)
 
 -- The program was divided where parts are asked for, and else solved.
 abbrev pub DoesBy : Option ℕ → Options → Program → Option (List ℕ) → Option (List ℕ) → ℕ → ℕ → Outcome → Type 0
@@ -236,6 +271,7 @@ pub record Runs (given : Options) (a : Around) (o : Outcome) : Type 0 where
 -- The program is there, whatever the sink holds: the source was read to its end, or it was made and nothing read.
 pub record IsReady (given : Options) (left left' : Option (List ℕ)) (reads reads' : ℕ) (p : Program) : Type 0 where
   pub source : (held held' : Option (List ℕ)) (writes writes' : ℕ) → IsGiven given.make (around left left' reads reads' held held' writes writes') p
+  pub sound : IsSound p
   pub later : reads ≤ reads'
   pub quiet : IsSome left → reads' ≡ reads
 
@@ -244,8 +280,13 @@ abbrev pub IsOver : Options → Option (List ℕ) → Option (List ℕ) → ℕ 
 IsOver given left left' reads reads' status =
     (held : Option (List ℕ)) (writes : ℕ) → Runs given (around left left' reads reads' held held writes writes) (record { status = status; report = None })
 
-abbrev pub Prepares : Options → Option (List ℕ) → Option (List ℕ) → ℕ → ℕ → Result Program Status → Type 0
-Prepares given left left' reads reads' (Ok p) = IsReady given left left' reads reads' p
+-- what is searched of the program, and what is set aside
+abbrev pub prepared_of : Options → Program → Prepared
+prepared_of given p = record { compiled = searched given p; facts = set_aside given p }
+
+-- The program is there, and what is searched of it.
+abbrev pub Prepares : Options → Option (List ℕ) → Option (List ℕ) → ℕ → ℕ → Result Prepared Status → Type 0
+Prepares given left left' reads reads' (Ok prepared) = (p : Program) × IsReady given left left' reads reads' p × (prepared ≡ prepared_of given p)
 Prepares given left left' reads reads' (Err status) = IsOver given left left' reads reads' status
 
 -- ---- without a program

@@ -1,20 +1,31 @@
 //! The program of a run: read from the source or made, and compiled.
-ghost use Rattle.std.specs.Prelude.{◌≡◌, ℕ, List, Option, None, Some, IfErr, IfOk};
+ghost use Rattle.std.specs.Prelude.{◌≡◌, ℕ, List, [], Option, None, Some, IfErr, IfOk};
 ghost use Rattle.asp_model.specs.Sound.{IsSound};
-ghost use Rattle.asp_cli.specs.declared.Options.{Options};
 ghost use Rattle.asp_cli.specs.Values.{IsRing};
-ghost use Rattle.asp_top.specs.Runs.{Prepares, status_of};
+ghost use Rattle.asp_settle.specs.Settled.{facts_of, left_of};
+ghost use Rattle.asp_top.specs.Runs.{Prepares, is_settled, prepared_of, status_of};
 
 use crate::status::Status;
 use asp_cli::Options;
 use asp_io::Source;
 use asp_make::ring;
+use asp_model::interp::Interp;
 use asp_model::program::Program;
 use asp_read::fault::ReadError;
 use asp_read::read_program;
+use asp_settle::settle::{Settled, settle};
 use asp_vars::compile::compile;
 use asp_vars::compiled::Compiled;
-use std::alloc::Global;
+use std::alloc::{AllocError, Global};
+
+/// The program that is searched, compiled, and the facts that were settled before.
+#[derive(Drop)]
+pub struct Prepared {
+    /// What is searched.
+    pub compiled: Compiled,
+    /// What is set aside: in each answer, and in none of the program's statements that is searched.
+    pub facts: Interp,
+}
 
 fn status_of(error: ReadError) -> Status
     ensures { result ≡ status_of error }
@@ -27,35 +38,74 @@ fn status_of(error: ReadError) -> Status
     }
 }
 
-// The program, compiled.
-fn ready(alloc: Global, program: Program) -> Result<Compiled, Status>
+// Whether facts are settled: a proof is of the whole program, and so are parts.
+fn is_settled(options: &Options) -> bool
+    ensures { result ≡ is_settled options.now }
+{
+    !(options.proof || options.split.is_some())
+}
+
+// The program without its facts, compiled.
+fn without_facts(alloc: Global, program: Program) -> Result<Prepared, AllocError>
     requires { IsSound program }
-    ensures same { IfOk result (λ compiled. compiled ≡ program) }
+    ensures { IfOk result (λ prepared. prepared ≡ record { compiled = left_of program; facts = facts_of program }) }
+{
+    let settled = settle(alloc, program)?;
+    let Settled { facts, left } = settled;
+    let compiled = compile(alloc, left)?;
+    Ok(Prepared { compiled, facts })
+}
+
+// The whole program, compiled.
+fn whole(alloc: Global, program: Program) -> Result<Prepared, AllocError>
+    requires { IsSound program }
+    ensures { IfOk result (λ prepared. prepared ≡ record { compiled = program; facts = [] }) }
+{
+    let facts = Interp::new(alloc);
+    let compiled = compile(alloc, program)?;
+    Ok(Prepared { compiled, facts })
+}
+
+fn reduce(alloc: Global, options: &Options, program: Program) -> Result<Prepared, AllocError>
+    requires { IsSound program }
+    ensures { IfOk result (λ prepared. prepared ≡ prepared_of options.now program) }
+{
+    if is_settled(options) {
+        without_facts(alloc, program)
+    } else {
+        whole(alloc, program)
+    }
+}
+
+// The program, compiled.
+fn ready(alloc: Global, options: &Options, program: Program) -> Result<Prepared, Status>
+    requires { IsSound program }
+    ensures same { IfOk result (λ prepared. prepared ≡ prepared_of options.now program) }
     ensures wanting { IfErr result (λ status. status ≡ Status.Memory) }
 {
-    match compile(alloc, program) {
-        Ok(compiled) => Ok(compiled),
+    match reduce(alloc, options, program) {
+        Ok(prepared) => Ok(prepared),
         Err(_) => Err(Status::Memory),
     }
 }
 
 // The program that the source gives.
-fn read<S: Source>(alloc: Global, source: &mut S) -> Result<Compiled, Status>
-    ensures { (given : Options) → given.make ≡ None → Prepares given (S.left source.old) (S.left source.new) (S.faults source.old) (S.faults source.new) result }
+fn read<S: Source>(alloc: Global, options: &Options, source: &mut S) -> Result<Prepared, Status>
+    ensures { options.now.make ≡ None → Prepares options.now (S.left source.old) (S.left source.new) (S.faults source.old) (S.faults source.new) result }
 {
     match read_program(alloc, source) {
-        Ok(program) => ready(alloc, program),
+        Ok(program) => ready(alloc, options, program),
         Err(error) => Err(status_of(error)),
     }
 }
 
 // The ring of so many nodes. The source isn't read.
-fn made(alloc: Global, nodes: u32) -> Result<Compiled, Status>
+fn made(alloc: Global, options: &Options, nodes: u32) -> Result<Prepared, Status>
     requires { IsRing (Some nodes) }
-    ensures { (given : Options) (left : Option (List ℕ)) (reads : ℕ) → given.make ≡ Some nodes → Prepares given left left reads reads result }
+    ensures { (left : Option (List ℕ)) (reads : ℕ) → options.now.make ≡ Some nodes → Prepares options.now left left reads reads result }
 {
     match ring(alloc, nodes) {
-        Ok(program) => ready(alloc, program),
+        Ok(program) => ready(alloc, options, program),
         Err(_) => Err(Status::Memory),
     }
 }
@@ -65,12 +115,12 @@ pub fn prepare<S: Source>(
     alloc: Global,
     options: &Options,
     source: &mut S,
-) -> Result<Compiled, Status>
+) -> Result<Prepared, Status>
     requires { IsRing options.now.make }
     ensures { Prepares options.now (S.left source.old) (S.left source.new) (S.faults source.old) (S.faults source.new) result }
 {
     match options.make {
-        None => read(alloc, source),
-        Some(nodes) => made(alloc, nodes),
+        None => read(alloc, options, source),
+        Some(nodes) => made(alloc, options, nodes),
     }
 }

@@ -6,13 +6,14 @@ ghost use Rattle.asp_cli.specs.Texts.{help_page, version_line};
 ghost use Rattle.asp_cli.specs.Values.{IsCrew, IsPartCount, IsRing};
 ghost use Rattle.asp_top.specs.Notes.{IsNoted, Writes, note_of};
 ghost use Rattle.asp_top.specs.Usage.{misuse_note};
-ghost use Rattle.asp_top.specs.Runs.{Does, IsCounted, NotesOn, NotesRun, Runs, RunsOn, TellsFaults, TextMeans, around, is_alone};
+ghost use Rattle.asp_top.specs.Runs.{Does, IsCounted, NotesOn, NotesRun, Runs, RunsOn, TellsFaults, TextMeans, around, is_alone, prepared_of};
+ghost use Rattle.asp_model.specs.declared.program.Program.{Program};
 
 use crate::counts::Tally;
 use crate::deliver::failed;
 use crate::notes::{note_status, write};
 use crate::parts::divide;
-use crate::prepare::prepare;
+use crate::prepare::{Prepared, prepare};
 use crate::progress::{Progress, end};
 use crate::search::{solve, solve_by_crew};
 use crate::status::{Outcome, Status};
@@ -21,7 +22,6 @@ use asp_cli::{CliError, Options, WordFault, page_back, page_front, usage, versio
 use asp_counts::watch::Watch;
 use asp_io::{Failed, Sink, Source};
 use asp_team::gate::Gate;
-use asp_vars::compiled::Compiled;
 use std::alloc::Global;
 use std::mem;
 use std::sync::Wait;
@@ -63,21 +63,21 @@ fn write_version<K: Sink>(sink: &mut K) -> Result<(), Failed>
 fn divide_or_solve<K: Sink, W: Watch>(
     alloc: Global,
     options: &Options,
-    compiled: &Compiled,
+    prepared: &Prepared,
     sink: &mut K,
     tally: &mut Tally,
     watch: &mut W,
 ) -> Outcome
     requires parts { IsPartCount options.now.split }
     requires apart { IsApart options.now }
-    ensures does { Does options.now compiled.now (K.held sink.old) (K.held sink.new) (K.faults sink.old) (K.faults sink.new) result }
+    ensures does { (p : Program) → prepared.now ≡ prepared_of options.now p → Does options.now p (K.held sink.old) (K.held sink.new) (K.faults sink.old) (K.faults sink.new) result }
     ensures flushed { TellsFaults (K.held sink.old) (K.faults sink.old) (K.faults sink.new) result.status }
     ensures counted { IfSome result.report (IsCounted true tally.new) }
     ensures heard { W.IsAfter watch.old watch.new }
 {
     match options.split {
-        None => solve(alloc, options, compiled, sink, tally, watch),
-        Some(most) => divide(alloc, compiled, most, sink),
+        None => solve(alloc, options, prepared, sink, tally, watch),
+        Some(most) => divide(alloc, &prepared.compiled, most, sink),
     }
 }
 
@@ -100,9 +100,9 @@ fn outcome_alone<S: Source, K: Sink, W: Watch>(
     ensures heard { W.IsAfter watch.old watch.new }
 {
     match prepare(alloc, options, source) {
-        Ok(compiled) => {
-            let outcome = divide_or_solve(alloc, options, &compiled, sink, tally, watch);
-            mem::drop(compiled);
+        Ok(prepared) => {
+            let outcome = divide_or_solve(alloc, options, &prepared, sink, tally, watch);
+            mem::drop(prepared);
             outcome
         }
         Err(status) => failed(status),
@@ -131,9 +131,9 @@ fn outcome_by_crew<R: Threads + Wait + Sync, S: Source, K: Sink, G: Gate + Sync,
     ensures heard { W.IsAfter watch result.1 }
 {
     match prepare(alloc, options, source) {
-        Ok(compiled) => {
-            let done = solve_by_crew(rt, alloc, options, &compiled, sink, gate, tally, watch);
-            mem::drop(compiled);
+        Ok(prepared) => {
+            let done = solve_by_crew(rt, alloc, options, &prepared, sink, gate, tally, watch);
+            mem::drop(prepared);
             done
         }
         Err(status) => (failed(status), watch),

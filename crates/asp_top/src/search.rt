@@ -4,11 +4,13 @@ ghost use Rattle.asp_cli.specs.Found.{IsApart};
 ghost use Rattle.asp_cli.specs.Values.{IsCrew};
 ghost use Rattle.asp_crew_laws.specs.Proofs.{HasProof};
 ghost use Rattle.asp_crew_laws.specs.Reports.{IsReport};
-ghost use Rattle.asp_top.specs.Runs.{IsCounted, Solves, TellsFaults, ask_of};
+ghost use Rattle.asp_model.specs.declared.program.Program.{Program};
+ghost use Rattle.asp_top.specs.Runs.{Concludes, IsCounted, Solves, TellsFaults, ask_of, prepared_of, told_with};
 
 use crate::counts::Tally;
 use crate::deliver::{deliver, failed};
 use crate::loops::loops;
+use crate::prepare::Prepared;
 use crate::solve::mode_of;
 use crate::status::{Outcome, Status};
 use asp_cli::Options;
@@ -17,8 +19,10 @@ use asp_counts::watch::Watch;
 use asp_crew::alone::solve_alone;
 use asp_crew::report::Report;
 use asp_io::Sink;
+use asp_model::interp::Interp;
 use asp_model::program::Program;
 use asp_model::results::Ask;
+use asp_settle::settle::unite;
 use asp_team::gate::Gate;
 use asp_team::many;
 use asp_team::many::{Deeds, Plan};
@@ -39,21 +43,52 @@ fn ask_of(options: &Options, program: &Program) -> Ask
     }
 }
 
+// The report with the facts among what is known.
+fn told(alloc: Global, facts: &Interp, report: Report) -> Result<Report, AllocError>
+    ensures { IfOk result (λ whole. whole ≡ told_with facts.now report) }
+{
+    let mut report = report;
+    if let Some(known) = &report.results.known {
+        let whole = unite(alloc, facts, known)?;
+        report.results.known = Some(whole);
+    }
+    Ok(report)
+}
+
+// Writes the text of a report with the facts, or nothing where memory is wanting.
+fn conclude<K: Sink>(
+    alloc: Global,
+    sink: &mut K,
+    brief: bool,
+    program: &Program,
+    facts: &Interp,
+    report: Report,
+) -> Outcome
+    ensures concludes { Concludes brief program.now facts.now report (K.held sink.old) (K.held sink.new) (K.faults sink.old) (K.faults sink.new) result }
+    ensures flushed { TellsFaults (K.held sink.old) (K.faults sink.old) (K.faults sink.new) result.status }
+{
+    match told(alloc, facts, report) {
+        Ok(report) => deliver(alloc, sink, brief, program, report),
+        Err(_) => failed(Status::Memory),
+    }
+}
+
 /// One search solves it, or two where all optima are asked for.
 pub fn solve<K: Sink, W: Watch>(
     alloc: Global,
     options: &Options,
-    compiled: &Compiled,
+    prepared: &Prepared,
     sink: &mut K,
     tally: &mut Tally,
     watch: &mut W,
 ) -> Outcome
     requires { IsApart options.now }
-    ensures solves { Solves options.now compiled.now (K.held sink.old) (K.held sink.new) (K.faults sink.old) (K.faults sink.new) result }
+    ensures solves { (p : Program) → prepared.now ≡ prepared_of options.now p → Solves options.now p (K.held sink.old) (K.held sink.new) (K.faults sink.old) (K.faults sink.new) result }
     ensures flushed { TellsFaults (K.held sink.old) (K.faults sink.old) (K.faults sink.new) result.status }
     ensures counted { IfSome result.report (IsCounted true tally.new) }
     ensures heard { W.IsAfter watch.old watch.new }
 {
+    let compiled = &prepared.compiled;
     let program = compiled.program();
     let ask = ask_of(options, program);
     let mut counts = Counts::new();
@@ -69,7 +104,14 @@ pub fn solve<K: Sink, W: Watch>(
         Ok(report) => {
             let loops = loops(alloc, compiled, options.stats);
             *tally = Tally::of(compiled, loops, counts, Vec::new(alloc));
-            deliver(alloc, sink, options.make.is_some(), program, report)
+            conclude(
+                alloc,
+                sink,
+                options.make.is_some(),
+                program,
+                &prepared.facts,
+                report,
+            )
         }
         Err(_) => failed(Status::Memory),
     }
@@ -106,7 +148,7 @@ pub fn solve_by_crew<R: Threads + Wait + Sync, K: Sink, G: Gate + Sync, W: Watch
     rt: &R,
     alloc: Global,
     options: &Options,
-    compiled: &Compiled,
+    prepared: &Prepared,
     sink: &mut K,
     gate: &G,
     tally: &mut Tally,
@@ -114,11 +156,12 @@ pub fn solve_by_crew<R: Threads + Wait + Sync, K: Sink, G: Gate + Sync, W: Watch
 ) -> (Outcome, W)
     requires crew { IsCrew options.now.workers }
     requires apart { IsApart options.now }
-    ensures solves { Solves options.now compiled.now (K.held sink.old) (K.held sink.new) (K.faults sink.old) (K.faults sink.new) result.0 }
+    ensures solves { (p : Program) → prepared.now ≡ prepared_of options.now p → Solves options.now p (K.held sink.old) (K.held sink.new) (K.faults sink.old) (K.faults sink.new) result.0 }
     ensures flushed { TellsFaults (K.held sink.old) (K.faults sink.old) (K.faults sink.new) result.0.status }
     ensures counted { IfSome result.0.report (IsCounted false tally.new) }
     ensures heard { W.IsAfter watch result.1 }
 {
+    let compiled = &prepared.compiled;
     let program = compiled.program();
     let ask = ask_of(options, program);
     let mut deeds = Deeds::new(alloc);
@@ -131,7 +174,14 @@ pub fn solve_by_crew<R: Threads + Wait + Sync, K: Sink, G: Gate + Sync, W: Watch
             let loops = loops(alloc, compiled, options.stats);
             *tally = Tally::of(compiled, loops, sum, workers);
             (
-                deliver(alloc, sink, options.make.is_some(), program, report),
+                conclude(
+                    alloc,
+                    sink,
+                    options.make.is_some(),
+                    program,
+                    &prepared.facts,
+                    report,
+                ),
                 watch,
             )
         }

@@ -4,12 +4,24 @@ use Rattle.asp_model.specs.declared.program.Program.{Program}
 use Rattle.asp_model.specs.declared.results.Ask.{Ask}
 use Rattle.asp_model.specs.Models.{atoms_of}
 use Rattle.asp_vars.specs.Numbering.{bodies_of}
+use Rattle.asp_crew_laws.specs.Proofs.{HasProof}
+use Rattle.asp_crew_laws.specs.Reports.{IsReport}
 use Rattle.asp_top.proofs.RunLaws.{paid-of}
+use Rattle.asp_top.proofs.ToldLaws.{counted-by, from-ok, solves-by}
 use Rattle.asp_top.specs.Loops.{HasLoops}
 use Rattle.asp_top.proofs.search.solve_by_crew.Goals as goal
 
+pub returns-in-Ok-clause-solves : goal.returns-in-Ok-clause-solves
+returns-in-Ok-clause-solves g c = λ p is.
+    let given = c.args.options.now in
+    let x = c.args.prepared.now in
+    let q = c.program-program.result.now in
+    let report = from-ok (IsReport x.compiled c.ask_of-ask.result given.budget) _ c.in-Ok.report c.in-Ok.is c.solved_by_crew-solved.ensures.report in
+    solves-by given p x q c.in-Ok.report c.is_some.result _ _ _ _ _ is c.program-program.ensures.program c.is_some.ensures
+    (subst (λ (ask : Ask). IsReport x.compiled ask given.budget c.in-Ok.report) c.ask_of-ask.ensures report) (from-ok (HasProof given.proof) _ c.in-Ok.report c.in-Ok.is c.solved_by_crew-solved.ensures.proof) c.conclude.ensures.concludes
+
 pub returns-in-Ok-clause-counted : goal.returns-in-Ok-clause-counted
-returns-in-Ok-clause-counted g c = rw c.deliver.ensures.delivers.reports (record {
+returns-in-Ok-clause-counted g c = counted-by _ c.is_some.result c.program-program.result.now c.args.prepared.now.facts c.in-Ok.report _ _ _ _ _ _ c.conclude.ensures.concludes (record {
   atoms = c.of.ensures.atoms ∙ ap (λ (p : Program). length (atoms_of p)) (sym (paid-of _ _ _ _ _ c.in-Ok.is c.solved_by_crew-solved.ensures.report));
   bodies = c.of.ensures.bodies ∙ ap (λ (p : Program). length (bodies_of p)) (sym (paid-of _ _ _ _ _ c.in-Ok.is c.solved_by_crew-solved.ensures.report));
   loops = subst (λ (p : Program). IfSome c.of.result.loops (HasLoops p)) (sym (paid-of _ _ _ _ _ c.in-Ok.is c.solved_by_crew-solved.ensures.report)) (rw c.of.ensures.loops c.loops-loops.ensures);

@@ -1,0 +1,12 @@
+pub mod ReadLaws
+pub mod RuleLaws
+pub mod StableLaws
+pub mod FactLaws
+pub mod TextLaws
+pub mod OpenLaws
+pub mod SoundLaws
+pub mod MentionLaws
+pub mod ResultLaws
+pub mod TableLaws
+pub mod WeightLaws
+pub mod WalkLaws

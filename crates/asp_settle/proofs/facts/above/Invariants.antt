@@ -1,0 +1,7 @@
+use Rattle.std.proofs.Common.{◌≡◌, ℕ, ◌<◌, ◌≤◌, true, take, flat_map}
+use Rattle.asp_model.specs.Sets.{has}
+use Rattle.asp_settle.specs.Settled.{fact_of}
+use Rattle.asp_settle.proofs.facts.above.Given as goal
+
+abbrev pub invariant-loop-rule : goal.invariant-loop-rule
+invariant-loop-rule l = ((a : ℕ) → has (flat_map fact_of (take l.rule-index l.rules)) a ≡ true → a < l.above) × (l.above ≤ 4294967296)

@@ -1,0 +1,7 @@
+use Rattle.std.proofs.Common.{◌≡◌, true, take, flat_map}
+use Rattle.asp_settle.specs.Settled.{fact_of}
+use Rattle.asp_settle.specs.Tables.{with_flags}
+use Rattle.asp_settle.proofs.facts.raise_facts.Given as goal
+
+abbrev pub invariant-loop-rule : goal.invariant-loop-rule
+invariant-loop-rule l = l.flags ≡ with_flags true l.initial.flags (flat_map fact_of (take l.rule-index l.rules))

@@ -1,0 +1,110 @@
+//! What is left of literals and bodies.
+ghost use Rattle.std.specs.Prelude.{◌≡◌, ◌*◌, ◌≤◌, filter, not, length, pos, ◌≤ℤ◌, ◌&&◌, if◌then◌else◌, IsTrue};
+ghost use Rattle.std.specs.List.{list_all, list_any};
+ghost use Rattle.std.specs.Option.{option_to_list};
+ghost use Rattle.asp_model.specs.Holding.{atom_of, is_positive};
+ghost use Rattle.asp_model.specs.Sets.{has};
+ghost use Rattle.asp_model.specs.Sound.{is_sound_body, is_weighted, weighted_count};
+ghost use Rattle.asp_settle.specs.Settled.{is_barred, lowered, settled_body, settled_items, settled_literals, settled_weight};
+
+use crate::facts::FactTable;
+use asp_model::program::Body;
+use asp_model::seq::Seq;
+
+// Whether a literal says that a fact is absent.
+fn is_barred(facts: &FactTable, literal: i32) -> bool
+    ensures { result ≡ is_barred facts.now literal }
+{
+    literal < 0 && facts.has(literal.unsigned_abs())
+}
+
+fn is_some_barred(facts: &FactTable, literals: &[i32]) -> bool
+    ensures { result ≡ list_any (is_barred facts.now) literals.now }
+{
+    literals.iter().any(|literal| is_barred(facts, *literal))
+}
+
+fn without_facts(facts: &FactTable, literals: Seq<i32>) -> Seq<i32>
+    ensures { result ≡ filter (λ l. not (has facts.now (atom_of l))) literals }
+{
+    let mut literals = literals.into_vec();
+    literals.retain(|literal| !facts.has(literal.unsigned_abs()));
+    literals.shrink_to_fit();
+    Seq::from_vec(literals)
+}
+
+/// The literals that aren't facts; none where one of them can't hold.
+pub(crate) fn settled_literals(facts: &FactTable, literals: Seq<i32>) -> Option<Seq<i32>>
+    ensures { option_to_list result ≡ settled_literals facts.now literals }
+{
+    if is_some_barred(facts, literals.as_slice()) {
+        return None;
+    }
+    Some(without_facts(facts, literals))
+}
+
+fn settled_items(facts: &FactTable, items: Seq<(i32, i32)>) -> Seq<(i32, i32)>
+    ensures { result ≡ settled_items facts.now items }
+{
+    let mut items = items.into_vec();
+    items.retain(|(literal, _)| !facts.has(literal.unsigned_abs()));
+    items.shrink_to_fit();
+    Seq::from_vec(items)
+}
+
+// The weight, where the literal is a fact.
+fn item_weight(facts: &FactTable, literal: i32, weight: i32) -> i64
+    requires { pos 0 ≤ℤ weight }
+    ensures weight { result ≡ (if is_positive literal && has facts.now (atom_of literal) then weight else pos 0) }
+    ensures low { pos 0 ≤ℤ result }
+    ensures high { result ≤ℤ pos 2147483648 }
+{
+    if literal >= 0 && facts.has(literal.unsigned_abs()) {
+        i64::from(weight)
+    } else {
+        0
+    }
+}
+
+// The weights of the facts.
+fn settled_weight(facts: &FactTable, items: &[(i32, i32)]) -> i64
+    requires few { length items.now ≤ 16777216 }
+    requires weighted { IsTrue (list_all is_weighted items.now) }
+    ensures weight { result ≡ settled_weight facts.now items.now }
+    ensures low { pos 0 ≤ℤ result }
+    ensures high { result ≤ℤ pos (2147483648 * length items.now) }
+{
+    let mut total: i64 = 0;
+    for (literal, weight) in items {
+        total += item_weight(facts, *literal, *weight);
+    }
+    total
+}
+
+// The bound behind a weight, 0 at least.
+fn lowered(bound: i32, weight: i64) -> i32
+    requires low { pos 0 ≤ℤ weight }
+    requires high { weight ≤ℤ pos 36028797018963968 }
+    ensures { result ≡ lowered bound weight }
+{
+    let rest = i64::from(bound) - weight;
+    if rest <= 0 { 0 } else { rest as i32 }
+}
+
+/// What is left of the body; none where it can't hold.
+pub(crate) fn settled_body(facts: &FactTable, body: Body) -> Option<Body>
+    requires sound { IsTrue (is_sound_body body) }
+    requires few { weighted_count body ≤ 16777216 }
+    ensures { option_to_list result ≡ settled_body facts.now body }
+{
+    match body {
+        Body::All(literals) => match settled_literals(facts, literals) {
+            Some(literals) => Some(Body::All(literals)),
+            None => None,
+        },
+        Body::AtLeast(bound, items) => {
+            let weight = settled_weight(facts, items.as_slice());
+            Some(Body::AtLeast(lowered(bound, weight), settled_items(facts, items)))
+        }
+    }
+}

@@ -1,0 +1,157 @@
+//! What is left of rules, outputs and externals.
+ghost use Rattle.std.specs.Prelude.{◌≡◌, ◌++◌, ◌≤◌, All, filter, flat_map, not, IfOk, OnOk, IsTrue};
+ghost use Rattle.std.specs.Option.{option_to_list};
+ghost use Rattle.asp_model.specs.Models.{head_atoms};
+ghost use Rattle.asp_model.specs.Sets.{has, set_of};
+ghost use Rattle.asp_model.specs.Sound.{HasBody, HasFewItems};
+ghost use Rattle.asp_settle.specs.Settled.{heads_of, settled_head, settled_output, settled_rule};
+
+use crate::bodies::{settled_body, settled_literals};
+use crate::facts::FactTable;
+use asp_model::interp::Interp;
+use asp_model::program::{Atom, External, Head, Output, Rule};
+use asp_model::seq::Seq;
+use std::alloc::{AllocError, Global};
+
+fn other_atoms(facts: &FactTable, atoms: Seq<Atom>) -> Seq<Atom>
+    ensures { result ≡ filter (λ a. not (has facts.now a)) atoms }
+{
+    let mut atoms = atoms.into_vec();
+    atoms.retain(|atom| !facts.has(*atom));
+    Seq::from_vec(atoms)
+}
+
+// What is left of the head; none where it is a fact.
+fn settled_head(facts: &FactTable, head: Head) -> Option<Head>
+    ensures { option_to_list result ≡ settled_head facts.now head }
+{
+    match head {
+        Head::One(atom) => {
+            if facts.has(atom) {
+                return None;
+            }
+            Some(Head::One(atom))
+        }
+        Head::Choice(atoms) => Some(Head::Choice(other_atoms(facts, atoms))),
+        Head::Never => Some(Head::Never),
+    }
+}
+
+// What is left of the rule; none where its head is a fact, or its body can't hold.
+fn settled_rule(facts: &FactTable, rule: Rule) -> Option<Rule>
+    requires body { HasBody rule }
+    requires few { HasFewItems rule }
+    ensures { option_to_list result ≡ settled_rule facts.now rule }
+{
+    let Rule { head, body } = rule;
+    match settled_head(facts, head) {
+        Some(head) => match settled_body(facts, body) {
+            Some(body) => Some(Rule { head, body }),
+            None => None,
+        },
+        None => None,
+    }
+}
+
+// Adds what is left of a rule to others.
+fn push_rule(left: &mut Vec<Rule>, facts: &FactTable, rule: Rule) -> Result<(), AllocError>
+    requires body { HasBody rule }
+    requires few { HasFewItems rule }
+    ensures { OnOk result (left.new.items ≡ left.old.items ++ settled_rule facts.now rule) }
+{
+    if let Some(rule) = settled_rule(facts, rule) {
+        left.push(rule)?;
+    }
+    Ok(())
+}
+
+/// What is left of the rules.
+pub(crate) fn settled_rules(
+    alloc: Global,
+    facts: &FactTable,
+    rules: Vec<Rule>,
+) -> Result<Vec<Rule>, AllocError>
+    requires bodies { All HasBody rules.items }
+    requires few { All HasFewItems rules.items }
+    ensures { IfOk result (λ left. left.items ≡ flat_map (settled_rule facts.now) rules.items) }
+{
+    let mut left = Vec::new(alloc);
+    for rule in rules {
+        push_rule(&mut left, facts, rule)?;
+    }
+    Ok(left)
+}
+
+fn settled_output(facts: &FactTable, output: Output) -> Option<Output>
+    ensures { option_to_list result ≡ settled_output facts.now output }
+{
+    let Output { text, condition } = output;
+    match settled_literals(facts, condition) {
+        Some(condition) => Some(Output { text, condition }),
+        None => None,
+    }
+}
+
+/// What is left of the outputs.
+pub(crate) fn settled_outputs(
+    alloc: Global,
+    facts: &FactTable,
+    outputs: Vec<Output>,
+) -> Result<Vec<Output>, AllocError>
+    ensures { IfOk result (λ left. left.items ≡ flat_map (settled_output facts.now) outputs.items) }
+{
+    let mut left = Vec::new(alloc);
+    for output in outputs {
+        if let Some(output) = settled_output(facts, output) {
+            left.push(output)?;
+        }
+    }
+    Ok(left)
+}
+
+fn push_head(atoms: &mut Vec<Atom>, head: &Head) -> Result<(), AllocError>
+    ensures { OnOk result (atoms.new.items ≡ atoms.old.items ++ head_atoms head.now) }
+{
+    match head {
+        Head::One(atom) => {
+            atoms.push(*atom)?;
+            Ok(())
+        }
+        Head::Choice(choices) => atoms.extend_from_slice(choices.as_slice()),
+        Head::Never => Ok(()),
+    }
+}
+
+// The atoms that stand in heads.
+fn head_set(alloc: Global, rules: &[Rule]) -> Result<Interp, AllocError>
+    ensures { IfOk result (λ heads. heads ≡ set_of (heads_of rules.now)) }
+{
+    let mut atoms = Vec::new(alloc);
+    for rule in rules {
+        push_head(&mut atoms, &rule.head)?;
+    }
+    Ok(Interp::from_atoms(atoms))
+}
+
+fn without_heads(mut externals: Vec<External>, heads: &Interp) -> Vec<External>
+    ensures { result.items ≡ filter (λ e. not (has heads.now e.atom)) externals.items }
+{
+    externals.retain(|external| !heads.has(external.atom));
+    externals
+}
+
+/// The externals on atoms that no rule's head has.
+pub(crate) fn open_externals(
+    alloc: Global,
+    rules: &[Rule],
+    externals: Seq<External>,
+) -> Result<Seq<External>, AllocError>
+    ensures { IfOk result (λ kept. kept ≡ filter (λ e. not (has (heads_of rules.now) e.atom)) externals) }
+{
+    if externals.as_slice().is_empty() {
+        return Ok(externals);
+    }
+    let heads = head_set(alloc, rules)?;
+    let open = without_heads(externals.into_vec(), &heads);
+    Ok(Seq::from_vec(open))
+}

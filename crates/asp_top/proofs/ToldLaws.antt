@@ -1,0 +1,261 @@
+-- What was found of a program without its facts, told with them: it is what was asked of the program, and its text.
+use Rattle.std.proofs.Common.{◌≡◌, ℕ, ◌+◌, Bool, true, false, not, ◌||◌, cond, List, [], ◌∷◌, ◌++◌, map, length, refl, sym, ap, ◌∙◌, subst, ℤ, Contains, inl, inr}
+use Rattle.std.specs.Prelude.{Option, None, Some, Result, Ok, IfOk, IfSome, option_map, is_some, codes, decimal}
+use Rattle.std.specs.List.{join_with_byte}
+use Rattle.std.proofs.lemmas.List.{length-map}
+use Rattle.asp_model.specs.declared.program.Program.{Program}
+use Rattle.asp_model.specs.declared.results.Ask.{Ask}
+use Rattle.asp_model.specs.declared.results.End.{End}
+use Rattle.asp_model.specs.declared.results.End.TheVariants.{Finished, Limited, Unfinished}
+use Rattle.asp_model.specs.declared.results.Mode.{Mode}
+use Rattle.asp_model.specs.declared.results.Mode.TheVariants.{Enum, Opt, Consequences}
+use Rattle.asp_model.specs.Sets.{Atoms}
+use Rattle.asp_model.specs.Models.{answers}
+use Rattle.asp_model.specs.Consequences.{consequences_of}
+use Rattle.asp_model.specs.Found.{Found}
+use Rattle.asp_model.specs.Sound.{IsSound}
+use Rattle.asp_model.specs.Texts.{answer_lines, answers_from, best_answers, best_cost_line, bests, closing_lines, ended_line, found_count, recorded, results_text, sums_text}
+use Rattle.asp_settle.specs.Settled.{facts_of, left_of, united, without}
+use Rattle.asp_settle.proofs.FactLaws.{cost-left}
+use Rattle.asp_settle.proofs.TextLaws.{shown-left}
+use Rattle.asp_settle.proofs.StableLaws.{contains-map}
+use Rattle.asp_settle.proofs.ResultLaws.{all-consequences, chosen-left, consequences-left, optima-chosen, optima-left, optimum-left, same-answers}
+use Rattle.asp_proof.specs.declared.proof.Proof.{Proof}
+use Rattle.asp_crew_laws.specs.declared.report.Report.{Report}
+use Rattle.asp_crew_laws.specs.Runs.{IsBest, IsFound}
+use Rattle.asp_crew_laws.specs.Reports.{HasBest, IsAllFound, IsPart, IsPartOf, IsPriced, IsReport, Says as SaysReport}
+use Rattle.asp_crew_laws.specs.Proofs.{HasProof, HasProofAt}
+use Rattle.asp_cli.specs.declared.Options.{Options}
+use Rattle.asp_top.specs.Parting.{Divides}
+use Rattle.asp_top.specs.Meaning.{has_model, has_model_in, mode_of}
+use Rattle.asp_top.specs.Runs.{Concludes, Delivers, Does, DoesBy, IsCounted, Solves, ask_of, found_with, is_brief, is_settled, prepared_of, report_text, report_with, searched, set_aside, text_by, told_with}
+use Rattle.asp_top.specs.declared.counts.Tally.{Tally}
+use Rattle.asp_top.specs.declared.prepare.Prepared.{Prepared}
+use Rattle.asp_top.specs.declared.status.Outcome.{Outcome}
+
+-- ---- what a report says
+priced-left : (p : Program) (best : Option (Atoms × List ℤ)) → IsSound p → IfSome best (IsPriced (left_of p)) → IfSome (option_map (λ b. (united (facts_of p) b.0, b.1)) best) (IsPriced p)
+priced-left p None sound h = h
+priced-left p (Some b) sound h =
+    (subst (λ Ss. Contains Ss (united (facts_of p) b.0)) (sym (same-answers p sound)) (contains-map (united (facts_of p)) (answers (left_of p)) b.0 h.0), h.1 ∙ sym (cost-left p b.0))
+
+part-left : (p : Program) (mode : Mode) (r : Found) → IsSound p → IsPart (left_of p) mode r → IsPart p mode (found_with (facts_of p) r)
+part-left p Enum r sound h =
+    ((λ S. h.0.0 (without (facts_of p) S), ap (map (united (facts_of p))) h.0.1 ∙ chosen-left p h.0.0 sound), ap (option_map (λ (b : Atoms × List ℤ). (united (facts_of p) b.0, b.1))) h.1)
+part-left p Opt r sound h = (ap (map (united (facts_of p))) h.0, priced-left p r.best sound h.1)
+part-left p (Consequences w) r sound h = (
+  ap (map (united (facts_of p))) h.0,
+  ap (option_map (λ (b : Atoms × List ℤ). (united (facts_of p) b.0, b.1))) h.1,
+  (λ S. h.2.0 (without (facts_of p) S), ap (option_map (united (facts_of p))) h.2.1 ∙ sym (consequences-left p w h.2.0 sound) ∙ ap (consequences_of w p) (chosen-left p h.2.0 sound)),
+)
+
+part_of-left : (p : Program) (all : Bool) (mode : Mode) (r : Found) → IsSound p → IsPartOf all (left_of p) mode r → IsPartOf all p mode (found_with (facts_of p) r)
+part_of-left p false mode r sound h = part-left p mode r sound h
+part_of-left p true Enum r sound h = part-left p Enum r sound h
+part_of-left p true (Consequences w) r sound h = part-left p (Consequences w) r sound h
+part_of-left p true Opt r sound h =
+    ((λ S. h.0.0 (without (facts_of p) S), ap (map (united (facts_of p))) h.0.1 ∙ optima-chosen p h.0.0 sound), priced-left p r.best sound h.1)
+
+best-left : (p : Program) (best : Option (Atoms × List ℤ)) → IsSound p → IsBest (left_of p) best → IsBest p (option_map (λ b. (united (facts_of p) b.0, b.1)) best)
+best-left p None sound h = same-answers p sound ∙ ap (map (united (facts_of p))) h
+best-left p (Some b) sound h = optimum-left p b.0 b.1 sound h
+
+found-left : (p : Program) (mode : Mode) (r : Found) → IsSound p → IsFound (left_of p) mode r.answers r.best r.known →
+    IsFound p mode (found_with (facts_of p) r).answers (found_with (facts_of p) r).best (found_with (facts_of p) r).known
+found-left p Enum r sound h = (ap (map (united (facts_of p))) h.0 ∙ sym (same-answers p sound), ap (option_map (λ (b : Atoms × List ℤ). (united (facts_of p) b.0, b.1))) h.1)
+found-left p Opt r sound h = (ap (map (united (facts_of p))) h.0, best-left p r.best sound h.1)
+found-left p (Consequences w) r sound h =
+    (ap (map (united (facts_of p))) h.0, ap (option_map (λ (b : Atoms × List ℤ). (united (facts_of p) b.0, b.1))) h.1, ap (option_map (united (facts_of p))) h.2 ∙ sym (all-consequences p w sound))
+
+all_found-left : (p : Program) (all : Bool) (mode : Mode) (r : Found) → IsSound p → IsAllFound all (left_of p) mode r.answers r.best r.known →
+    IsAllFound all p mode (found_with (facts_of p) r).answers (found_with (facts_of p) r).best (found_with (facts_of p) r).known
+all_found-left p false mode r sound h = found-left p mode r sound h
+all_found-left p true Enum r sound h = found-left p Enum r sound h
+all_found-left p true (Consequences w) r sound h = found-left p (Consequences w) r sound h
+all_found-left p true Opt r sound h = (ap (map (united (facts_of p))) h.0 ∙ sym (optima-left p sound), best-left p r.best sound h.1)
+
+has_best-left : (p : Program) (mode : Mode) (best : Option (Atoms × List ℤ)) → IsSound p → HasBest (left_of p) mode best → HasBest p mode (option_map (λ b. (united (facts_of p) b.0, b.1)) best)
+has_best-left p Enum best sound h = tt
+has_best-left p Opt best sound h = best-left p best sound h
+has_best-left p (Consequences w) best sound h = tt
+
+pub says-left : (p : Program) (ask : Ask) (r : Report) (end : End) → IsSound p → SaysReport (left_of p) ask r end → SaysReport p ask (report_with (facts_of p) r) end
+says-left p ask r Finished sound h = all_found-left p ask.all_optima ask.mode r.results sound h
+says-left p ask r Limited sound h = record {
+  listing = h.listing;
+  some = h.some;
+  count = length-map r.results.answers (united (facts_of p)) ∙ h.count;
+  part = part_of-left p ask.all_optima ask.mode r.results sound h.part;
+  best = has_best-left p ask.mode r.results.best sound h.best;
+}
+says-left p ask r Unfinished sound h = (part_of-left p ask.all_optima ask.mode r.results sound h.0, h.1)
+
+-- ---- the text
+same-line : (p : Program) (i : ℕ) (S : Atoms) → answer_lines (left_of p) i S ≡ answer_lines p i (united (facts_of p) S)
+same-line p i S = ap (λ (ts : List (List ℕ)). ended_line (codes "Answer: " ++ decimal i) ++ ended_line (join_with_byte 32 ts)) (sym (shown-left p S))
+
+same-lines : (p : Program) (i : ℕ) (Ss : List Atoms) → answers_from (left_of p) i Ss ≡ answers_from p i (map (united (facts_of p)) Ss)
+same-lines p i [] = refl
+same-lines p i (S ∷ Ss) = ap (λ xs. xs ++ answers_from (left_of p) (i + 1) Ss) (same-line p i S) ∙ ap (λ xs. answer_lines p i (united (facts_of p) S) ++ xs) (same-lines p (i + 1) Ss)
+
+best_answers-with : (F : Atoms) (best : Option (Atoms × List ℤ)) → best_answers (option_map (λ b. (united F b.0, b.1)) best) ≡ map (united F) (best_answers best)
+best_answers-with F None = refl
+best_answers-with F (Some b) = refl
+
+bests-with : (F : Atoms) (best : Option (Atoms × List ℤ)) (Ss : List Atoms) → bests (option_map (λ b. (united F b.0, b.1)) best) (map (united F) Ss) ≡ map (united F) (bests best Ss)
+bests-with F best [] = best_answers-with F best
+bests-with F best (S ∷ Ss) = refl
+
+recorded-with : (F : Atoms) (mode : Mode) (r : Found) → recorded mode (found_with F r) ≡ map (united F) (recorded mode r)
+recorded-with F Enum r = refl
+recorded-with F Opt r = bests-with F r.best r.answers
+recorded-with F (Consequences w) r = refl
+
+cost_line-with : (F : Atoms) (best : Option (Atoms × List ℤ)) → best_cost_line best ≡ best_cost_line (option_map (λ b. (united F b.0, b.1)) best)
+cost_line-with F None = refl
+cost_line-with F (Some b) = refl
+
+-- what is told of a search for what is left
+abbrev told : Atoms → Found → Found
+told F r = record r { known = option_map (united F) r.known }
+
+sums-with : (F : Atoms) (mode : Mode) (r : Found) → sums_text mode (told F r) ≡ sums_text mode (found_with F r)
+sums-with F Enum r = refl
+sums-with F Opt r = cost_line-with F r.best
+sums-with F (Consequences w) r = refl
+
+count-with : (F : Atoms) (mode : Mode) (r : Found) → found_count mode (told F r) ≡ found_count mode (found_with F r)
+count-with F Enum r = sym (length-map r.answers (united F))
+count-with F Opt r = sym (length-map (bests r.best r.answers) (united F)) ∙ ap length (sym (bests-with F r.best r.answers))
+count-with F (Consequences w) r = refl
+
+recorded-told : (F : Atoms) (mode : Mode) (r : Found) → recorded mode (told F r) ≡ recorded mode r
+recorded-told F Enum r = refl
+recorded-told F Opt r = refl
+recorded-told F (Consequences w) r = refl
+
+text-left : (p : Program) (r : Found) (brief : Bool) → results_text (left_of p) (told (facts_of p) r) brief ≡ results_text p (found_with (facts_of p) r) brief
+text-left p r brief =
+    let F = facts_of p in
+    let lines : answers_from (left_of p) 1 (recorded r.mode (told F r)) ≡ answers_from p 1 (recorded r.mode (found_with F r)) =
+    ap (answers_from (left_of p) 1) (recorded-told F r.mode r) ∙ same-lines p 1 (recorded r.mode r) ∙ ap (answers_from p 1) (sym (recorded-with F r.mode r)) in
+    ap (λ xs. cond brief [] xs ++ sums_text r.mode (told F r) ++ closing_lines r (found_count r.mode (told F r))) lines
+    ∙ ap (λ xs. cond brief [] (answers_from p 1 (recorded r.mode (found_with F r))) ++ xs ++ closing_lines r (found_count r.mode (told F r))) (sums-with F r.mode r)
+    ∙ ap (λ k. cond brief [] (answers_from p 1 (recorded r.mode (found_with F r))) ++ sums_text r.mode (found_with F r) ++ closing_lines r k) (count-with F r.mode r)
+
+-- ---- with nothing set aside
+same-best : (best : Option (Atoms × List ℤ)) → option_map (λ b. (united [] b.0, b.1)) best ≡ best
+same-best None = refl
+same-best (Some b) = refl
+
+same-known : (known : Option Atoms) → option_map (united []) known ≡ known
+same-known None = refl
+same-known (Some S) = refl
+
+same-sets : (Ss : List Atoms) → map (united []) Ss ≡ Ss
+same-sets [] = refl
+same-sets (S ∷ Ss) = ap (λ Ts. S ∷ Ts) (same-sets Ss)
+
+same-found : (r : Found) → found_with [] r ≡ r
+same-found r =
+    ap (λ Ss. record r { answers = Ss; best = option_map (λ b. (united [] b.0, b.1)) r.best; known = option_map (united []) r.known }) (same-sets r.answers)
+    ∙ ap (λ best. record r { best = best; known = option_map (united []) r.known }) (same-best r.best)
+    ∙ ap (λ known. record r { known = known }) (same-known r.known)
+
+same-report : (r : Report) → report_with [] r ≡ r
+same-report r = ap (λ f. record r { results = f }) (same-found r.results)
+
+same-told : (r : Report) → told_with [] r ≡ r
+same-told r = ap (λ k. record r { results = record r.results { known = k } }) (same-known r.results.known)
+
+-- ---- as was asked
+no-proof : (end : End) (r : Found) (proof : Option Proof) → HasProofAt end false r proof → proof ≡ None
+no-proof Finished r proof h = h
+no-proof Limited r proof h = h
+no-proof Unfinished r proof h = h
+
+unasked : (given : Options) → is_settled given ≡ true → given.proof ≡ false
+unasked given e = by given.proof e
+  where
+    by : (b : Bool) → not (b || is_some given.split) ≡ true → b ≡ false
+    by true h = absurd cc
+    by false h = refl
+
+text_without : (p : Program) (r : Report) (brief : Bool) → r.proof ≡ None → report_text (left_of p) (told_with (facts_of p) r) brief ≡ report_text p (report_with (facts_of p) r) brief
+text_without p r brief none =
+    ap (λ proof. text_by proof (left_of p) (told (facts_of p) r.results) brief) none
+    ∙ text-left p r.results brief
+    ∙ ap (λ proof. text_by proof p (found_with (facts_of p) r.results) brief) (sym none)
+
+pub told-text : (given : Options) (p : Program) (r : Report) (brief : Bool) → HasProof given.proof r →
+    report_text (searched given p) (told_with (set_aside given p) r) brief ≡ report_text p (report_with (set_aside given p) r) brief
+told-text given p r brief proof = by (is_settled given) refl
+  where
+    by : (b : Bool) → is_settled given ≡ b → report_text (cond b (left_of p) p) (told_with (cond b (facts_of p) []) r) brief ≡ report_text p (report_with (cond b (facts_of p) []) r) brief
+    by true e = text_without p r brief (no-proof r.results.end r.results r.proof (subst (λ asked. HasProof asked r) (unasked given e) proof))
+    by false e = ap (λ x. report_text p x brief) (same-told r ∙ sym (same-report r))
+
+pub told-says : (given : Options) (p : Program) (ask : Ask) (r : Report) (end : End) → IsSound p → SaysReport (searched given p) ask r end → SaysReport p ask (report_with (set_aside given p) r) end
+told-says given p ask r end sound h = by (is_settled given) h
+  where
+    by : (b : Bool) → SaysReport (cond b (left_of p) p) ask r end → SaysReport p ask (report_with (cond b (facts_of p) []) r) end
+    by true s = says-left p ask r end sound s
+    by false s = subst (λ x. SaysReport p ask x end) (sym (same-report r)) s
+
+some-known : (F : Atoms) (known : Option Atoms) → is_some (option_map (united F) known) ≡ is_some known
+some-known F None = refl
+some-known F (Some S) = refl
+
+model-in : (F : Atoms) (mode : Mode) (r : Found) → has_model_in mode (told F r) ≡ has_model_in mode r
+model-in F Enum r = refl
+model-in F Opt r = refl
+model-in F (Consequences w) r = some-known F r.known
+
+pub told-model : (F : Atoms) (r : Report) → has_model (told_with F r).results ≡ has_model r.results
+told-model F r = model-in F r.results.mode r.results
+
+-- ---- a report that was told
+same-mode : (o : Option Mode) (p : Program) → mode_of o (left_of p) ≡ mode_of o p
+same-mode None p = refl
+same-mode (Some mode) p = refl
+
+same-ask : (given : Options) (p : Program) → ask_of given (searched given p) ≡ ask_of given p
+same-ask given p = by (is_settled given)
+  where
+    by : (b : Bool) → ask_of given (cond b (left_of p) p) ≡ ask_of given p
+    by true = ap (λ mode. record { mode = mode; models = given.models; all_optima = given.all_optima }) (same-mode given.mode p)
+    by false = refl
+
+-- what was searched, and with what it is told
+pub solves-by : (given : Options) (p : Program) (x : Prepared) (q : Program) (r : Report) (brief : Bool) (h h' : Option (List ℕ)) (w w' : ℕ) (o : Outcome) → x ≡ prepared_of given p → q ≡ x.compiled → brief ≡ is_brief given
+    → IsReport x.compiled (ask_of given q) given.budget r → HasProof given.proof r → Concludes brief q x.facts r h h' w w' o → Solves given p h h' w w' o
+solves-by given p x q r brief h h' w w' o is of same report proof (inl m) = inl m
+solves-by given p x q r brief h h' w w' o is of same report proof (inr d) =
+    let report' : IsReport x.compiled (ask_of given x.compiled) given.budget r = subst (λ (y : Program). IsReport x.compiled (ask_of given y) given.budget r) of report in
+    let report'' : IsReport (searched given p) (ask_of given (searched given p)) given.budget r = subst (λ (y : Prepared). IsReport y.compiled (ask_of given y.compiled) given.budget r) is report' in
+    let told' : Delivers brief x.compiled (told_with x.facts r) h h' w w' o = subst (λ (y : Program). Delivers brief y (told_with x.facts r) h h' w w' o) of d in
+    let told'' : Delivers brief (searched given p) (told_with (set_aside given p) r) h h' w w' o = subst (λ (y : Prepared). Delivers brief y.compiled (told_with y.facts r) h h' w w' o) is told' in
+    inr (r, (subst (λ (ask : Ask). IsReport (searched given p) ask given.budget r) (same-ask given p) report'', proof), subst (λ (b : Bool). Delivers b (searched given p) (told_with (set_aside given p) r) h h' w w' o) same told'')
+
+pub counted-by : (alone brief : Bool) (p : Program) (F : Atoms) (r : Report) (t : Tally) (h h' : Option (List ℕ)) (w w' : ℕ) (o : Outcome) → Concludes brief p F r h h' w w' o → IsCounted alone t r → IfSome o.report (IsCounted alone t)
+counted-by alone brief p F r t h h' w w' o (inl m) counted = subst (λ x. IfSome x (IsCounted alone t)) (sym (ap (λ (x : Outcome). x.report) m.0)) tt
+counted-by alone brief p F r t h h' w w' o (inr d) counted =
+    subst (λ x. IfSome x (IsCounted alone t)) (sym d.reports) (record { atoms = counted.atoms; bodies = counted.bodies; loops = counted.loops; workers = counted.workers })
+
+pub from-ok : {E : Type 0} (P : Report → Type 0) (s : Result Report E) (r : Report) → s ≡ Ok r → IfOk s P → P r
+from-ok {E = E} P s r is has = subst (λ (x : Result Report E). IfOk x P) is has
+
+-- where parts are asked for, the whole program is there
+whole-parted : (given : Options) (p : Program) (x : Prepared) (most : ℕ) → given.split ≡ Some most → x ≡ prepared_of given p → x.compiled ≡ p
+whole-parted given p x most asked is = ap (λ (y : Prepared). y.compiled) is ∙ ap (λ (b : Bool). cond b (left_of p) p) (by given.proof (ap is_some asked))
+  where
+    by : (b : Bool) → is_some given.split ≡ true → not (b || is_some given.split) ≡ false
+    by true e = refl
+    by false e = ap not e
+
+pub does-solve : (given : Options) (p : Program) (h h' : Option (List ℕ)) (w w' : ℕ) (o : Outcome) → given.split ≡ None → Solves given p h h' w w' o → Does given p h h' w w' o
+does-solve given p h h' w w' o asked solves = subst (λ (m : Option ℕ). DoesBy m given p h h' w w' o) (sym asked) solves
+
+pub does-divide : (given : Options) (p : Program) (x : Prepared) (most : ℕ) (h h' : Option (List ℕ)) (w w' : ℕ) (o : Outcome) → given.split ≡ Some most → x ≡ prepared_of given p → Divides x.compiled most h h' w w' o → Does given p h h' w w' o
+does-divide given p x most h h' w w' o asked is divides =
+    subst (λ (m : Option ℕ). DoesBy m given p h h' w w' o) (sym asked) (subst (λ (q : Program). Divides q most h h' w w' o) (whole-parted given p x most asked is) divides)
