@@ -1,12 +1,11 @@
-use Rattle.std.proofs.Common.{rules, ◌≡◌, None, not, true, false, List, [], ◌∷◌, ◌++◌, sym, ap, ◌∙◌, subst, arith}
+use Rattle.std.proofs.Common.{◌≡◌, None, true, ◌∷◌, ◌++◌, sym, ap, ◌∙◌, subst, arith}
 use Rattle.std.specs.Prelude.{IsTrue}
 use Rattle.std.specs.Vec.Iter.{into_iter_items}
 use Rattle.std.proofs.lemmas.Grind.{common_steps}
 use Rattle.asp_model.specs.Models.{atoms_of}
 use Rattle.asp_rows.specs.Listed.{IsRowFor}
 use Rattle.asp_core.specs.declared.task.Task.{Task}
-use Rattle.asp_core.specs.Boards.{Board, lists, is_answer, is_enough, sought}
-use Rattle.asp_book.specs.declared.listing.Listing.{Listing}
+use Rattle.asp_core.specs.Boards.{lists, is_answer, is_enough, sought}
 use Rattle.asp_book.specs.Books.{board}
 use Rattle.asp_book.specs.Replies.{deliveries}
 use Rattle.asp_book.proofs.ListLaws.{task-listed, board-listed, full, listed-less, listing-next, lists-enough}
