@@ -3,3 +3,4 @@ pub mod BookLaws
 pub mod CallLaws
 pub mod DeskLaws
 pub mod ReplyLaws
+pub mod ListLaws

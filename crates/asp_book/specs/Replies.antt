@@ -1,10 +1,18 @@
 -- What a call on a book replies, and what it adds to the journal by its reply.
-use Rattle.std.specs.Prelude.{◌≡◌, ◌<◌, ◌↔◌, length, IsSome, option_map, ℕ, ◌+◌, ◌==◌, Bool, true, false, if◌then◌else◌, List, [], ◌∷◌, Option, Some, None, ℤ}
+use Rattle.std.specs.Prelude.{◌≡◌, ◌<◌, ◌↔◌, length, map, IsSome, IsTrue, option_map, Result, ℕ, ◌+◌, ◌==◌, Bool, true, false, if◌then◌else◌, List, [], ◌∷◌, Option, Some, None, ℤ}
 use Rattle.std.specs.Option.{IfSome}
+use Rattle.std.specs.Result.{IfOk}
+use Rattle.std.specs.declared.alloc.AllocError.{AllocError}
+use mathlib.Core.List.{IsPrefix}
+use Rattle.asp_model.specs.Models.{atoms_of}
 use Rattle.asp_model.specs.Costs.{cost, betters}
 use Rattle.asp_model.specs.Sets.{Atoms}
 use Rattle.asp_path.specs.Trees.{open_from, held_count}
-use Rattle.asp_core.specs.Boards.{Board, is_excused}
+use Rattle.asp_core.specs.Boards.{Board, is_answer, is_enough, is_excused, lists}
+use Rattle.asp_core.specs.Events.{run}
+use Rattle.asp_core.specs.declared.task.Task.{Task}
+use Rattle.asp_rows.specs.Listed.{IsRowFor}
+use Rattle.asp_book.specs.declared.listing.Listing.{Listing}
 use Rattle.asp_vars.specs.Literals.{Literal}
 use Rattle.asp_vars.specs.Paid.{Units}
 use Rattle.asp_core.specs.declared.event.Event.{Event}
@@ -26,6 +34,10 @@ abbrev pub delivered : ℕ → Atoms → Bool → List Event
 delivered by S true = event.Deliver by S ∷ []
 delivered by S false = []
 
+-- what is delivered of several answers, in their order
+abbrev pub deliveries : ℕ → List Listing → List Event
+deliveries by found = map (λ (x : Listing). event.Deliver by x.set) found
+
 -- nothing where a best stood that the set doesn't better
 abbrev pub improved : ℕ → Atoms → Option (List ℤ) → List Event
 improved by S None = event.Improve by S ∷ []
@@ -38,6 +50,19 @@ leased_out by u = if u.left == 0 then [] else event.Lease by u.left ∷ []
 -- nothing where the number had no unit
 abbrev pub given_back : ℕ → Units → List Event
 given_back by u = if u.left + u.burnt == 0 then [] else event.Back by u.left u.burnt ∷ []
+
+-- ---- several answers
+-- The goal lists it, it is an answer, and the row is its own.
+pub record IsListing (t : Task) (x : Listing) : Type 0 where
+  pub listed : IsTrue (lists t x.set)
+  pub answer : IsTrue (is_answer t x.set)
+  pub row : IsRowFor (atoms_of t.program) x.set x.row
+
+-- The front of the list was delivered: all of it where the reply is true. Where it is false, some are left, and it was enough.
+pub record Lists (by : ℕ) (b : Board) (found : List Listing) (r : Result Bool AllocError) (front : List Listing) : Type 0 where
+  pub begins : IsPrefix front found
+  pub all : IfOk r (λ x. x ≡ true → front ≡ found)
+  pub enough : IfOk r (λ x. x ≡ false → (length front < length found) × (is_enough (run b (deliveries by front)) ≡ true))
 
 -- ---- replies of two facts
 -- the leaves are the next two nodes, and there are none exactly where there is no room

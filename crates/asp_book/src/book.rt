@@ -1,5 +1,6 @@
 //! The book: a board with the journal of the events that led to it.
-ghost use Rattle.std.specs.Prelude.{◌≡◌, ◌≢◌, ◌+◌, ◌<◌, ◌≤◌, ◌↔◌, ◌==◌, if◌then◌else◌, not, min, true, false, [], ◌∷◌, length, slice_get, option_map, Some, None, IfOk, OnOk, OnErr, IsTrue, IsSome};
+ghost use Rattle.std.specs.Prelude.{◌≡◌, ◌≢◌, ◌+◌, ◌<◌, ◌≤◌, ◌↔◌, ◌==◌, if◌then◌else◌, not, min, true, false, List, [], ◌∷◌, length, slice_get, option_map, Some, None, IfOk, OnOk, OnErr, IsTrue, IsSome};
+ghost use Rattle.std.specs.List.{AllByRecursion};
 ghost use Rattle.std.specs.Option.{IfSome};
 ghost use Rattle.asp_model.specs.Costs.{cost, betters};
 ghost use Rattle.asp_model.specs.Models.{atoms_of};
@@ -14,8 +15,10 @@ ghost use Rattle.asp_core.specs.Boards.{start, is_answer, known_of, lists, optim
 ghost use Rattle.asp_core.specs.Events.{held_by, has_var, IsVariable, Guard};
 ghost use Rattle.asp_book.specs.Books.{board, with_events, signed, IsJournalOf};
 ghost use Rattle.asp_book.specs.Fuels.{ComesBack, IsOwnFuel};
-ghost use Rattle.asp_book.specs.Replies.{Divides, Improves, IsWanted, taken, taken_this, divided, delivered, improved, leased_out, given_back};
+ghost use Rattle.asp_book.specs.declared.listing.Listing.{Listing as Listed};
+ghost use Rattle.asp_book.specs.Replies.{Divides, Improves, IsListing, IsWanted, Lists, taken, taken_this, divided, delivered, deliveries, improved, leased_out, given_back};
 
+use crate::listing::Listing;
 use crate::write::{list, make_room, write};
 use asp_core::entry::Entry;
 use asp_core::event::Event;
@@ -219,6 +222,22 @@ impl Book {
         }
         make_room(&mut self.journal, self.places, 1)?;
         list(&mut self.state, &mut self.journal, by, row, set)?;
+        Ok(true)
+    }
+
+    /// Delivers these answers in their order. Where it is enough on the way the reply is false, and the others are left out; for want
+    /// of memory those before are delivered.
+    pub fn list_all(&mut self, by: u32, found: Vec<Listing>) -> Result<bool, AllocError>
+        requires goal { sought (board self.old).task.goal ≡ None }
+        requires found { AllByRecursion (IsListing (board self.old).task) found.items }
+        ensures { (front : List Listed) × Lists by (board self.old) found.items result front × (self.new ≡ with_events self.old (deliveries by front)) }
+    {
+        for listing in found {
+            let Listing { row, set } = listing;
+            if !self.list(by, row, set)? {
+                return Ok(false);
+            }
+        }
         Ok(true)
     }
 

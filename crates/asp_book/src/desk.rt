@@ -4,6 +4,7 @@
 //! moment of the call. What a call asks of the board, it asks of the board that the events seen by its seat lead to; what
 //! other seats did since then ends none of that.
 ghost use Rattle.std.specs.Prelude.{◌≡◌, ◌+◌, ◌<◌, ◌↔◌, min, true, false, not, List, [], ◌∷◌, ◌++◌, length, slice_get, option_map, Some, None, IfOk, OnOk, OnErr, IsTrue};
+ghost use Rattle.std.specs.List.{AllByRecursion};
 ghost use Rattle.asp_model.specs.Costs.{cost};
 ghost use Rattle.asp_model.specs.Models.{atoms_of};
 ghost use Rattle.asp_rows.specs.Listed.{IsRowFor};
@@ -23,9 +24,11 @@ ghost use Rattle.asp_core.specs.Events.{held_by, has_var, IsVariable, replay};
 ghost use Rattle.asp_book.specs.Books.{signed, IsJournalOf};
 ghost use Rattle.asp_book.specs.Calls.{task_of, seen_board, IsCall, Adds};
 ghost use Rattle.asp_book.specs.Fuels.{ComesBack};
-ghost use Rattle.asp_book.specs.Replies.{Divides, Improves, IsWanted, taken, taken_this, divided, delivered, improved, leased_out, given_back};
+ghost use Rattle.asp_book.specs.declared.listing.Listing.{Listing as Listed};
+ghost use Rattle.asp_book.specs.Replies.{Divides, Improves, IsListing, IsWanted, Lists, taken, taken_this, divided, delivered, deliveries, improved, leased_out, given_back};
 
 use crate::book::Book;
+use crate::listing::Listing;
 use asp_model::cost::Cost;
 use asp_model::interp::Interp;
 use asp_path::tree::Leaf;
@@ -181,6 +184,28 @@ pub fn list<R: Wait>(
 {
     let mut book = vault.take(rt, seat);
     let reply = book.list(seat.number(), row, set);
+    give(vault, seat, book);
+    reply
+}
+
+/// Delivers these answers in their order, in one turn. Where it is enough on the way the reply is false, and the others are left out;
+/// for want of memory those before are delivered.
+pub fn list_all<R: Wait>(
+    rt: &R,
+    vault: &Vault<Book>,
+    seat: &mut Seat<Book>,
+    found: Vec<Listing>,
+) -> Result<bool, AllocError>
+    requires of { IsOf vault.now seat.old }
+    requires rests { (view seat.old).holds ≡ false }
+    requires goal { sought (seen_board (view seat.old)).task.goal ≡ None }
+    requires found { AllByRecursion (IsListing (seen_board (view seat.old)).task) found.items }
+    ensures of { IsBeside seat.old seat.new }
+    ensures stays { Stays (view seat.old) (view seat.new) }
+    ensures call { (before : List Event) × (front : List Listed) × Lists (view seat.old).number (replay (task_of (view seat.old)) before) found.items result front × IsCall (view seat.old) (view seat.new) before (deliveries (view seat.old).number front) }
+{
+    let mut book = vault.take(rt, seat);
+    let reply = book.list_all(seat.number(), found);
     give(vault, seat, book);
     reply
 }

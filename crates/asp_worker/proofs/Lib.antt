@@ -1,5 +1,6 @@
 pub mod Cubes
 pub mod EndLaws
+pub mod GatherLaws
 pub mod GoingLaws
 pub mod OwnLaws
 pub mod PathLaws

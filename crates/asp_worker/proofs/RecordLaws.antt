@@ -72,7 +72,7 @@ is-answer m v s t u leaf S set f =
     (subst (λ (p : Program). IsTrue (is_stable p S)) same f.stable)
     (subst (λ (p : Program). IsTrue (hits (values p S) (cube_of b.nodes leaf))) same f.hit)
 
-not-dear : (p : Program) (c : Option (List ℤ)) (S : Atoms) → IsSmaller (cost p S) c → costs_bound p c S ≡ false
+pub not-dear : (p : Program) (c : Option (List ℤ)) (S : Atoms) → IsSmaller (cost p S) c → costs_bound p c S ≡ false
 not-dear p None S less = refl
 not-dear p (Some d) S less = ap not less
 

@@ -1,15 +1,18 @@
 -- A worker between two calls: its search and its units beside the board that its seat has seen.
-use Rattle.std.specs.Prelude.{◌≡◌, ◌⊎◌, ◌≤◌, ℕ, false, IsTrue, List, Some}
+use Rattle.std.specs.Prelude.{◌≡◌, ◌⊎◌, ◌≤◌, ◌++◌, ◌∷◌, [], ℕ, false, map, IsTrue, List, Some}
 use Rattle.std.specs.List.{list_any}
 use Rattle.asp_model.specs.declared.results.Mode.{Mode}
+use Rattle.asp_model.specs.declared.results.Mode.TheVariants.{Enum}
 use Rattle.asp_model.specs.Costs.{cost}
-use Rattle.asp_model.specs.Models.{is_stable}
+use Rattle.asp_model.specs.Models.{atoms_of, is_stable}
 use Rattle.asp_model.specs.Sets.{Atoms, same_set}
 use Rattle.asp_vars.specs.Entailment.{Settled}
 use Rattle.asp_vars.specs.Literals.{Literal, hits}
 use Rattle.asp_vars.specs.Numbering.{values}
 use Rattle.asp_vars.specs.Paid.{Units}
 use Rattle.asp_path.specs.Trees.{cube_of}
+use Rattle.asp_rows.specs.Listed.{IsRowFor}
+use Rattle.asp_book.specs.declared.listing.Listing.{Listing}
 use Rattle.asp_book.specs.Calls.{Knows, task_of, seen_board}
 use Rattle.asp_crew_laws.specs.Working.{IsAtWork, Works}
 use Rattle.asp_propagate.specs.Useful.{IsSmaller}
@@ -56,6 +59,32 @@ pub record Finds (m : Mode) (v : Knows) (s t : Searching) (u : Units) (leaf : �
   pub cheaper : IsSmaller (cost s.program S) s.bound
   pub records : Records s.mode s t (cube_of (seen_board v).nodes leaf) S
 
+-- ---- answers that wait
+-- The answer is one that a search seeks on this cube, and none of those that it knows; the row is its own.
+pub record IsNew (s : Searching) (q : List Literal) (known : List Atoms) (x : Listing) : Type 0 where
+  pub row : IsRowFor (atoms_of s.program) x.set x.row
+  pub stable : IsTrue (is_stable s.program x.set)
+  pub hit : IsTrue (hits (values s.program x.set) q)
+  pub new : list_any (same_set x.set) known ≡ false
+  pub cheaper : IsSmaller (cost s.program x.set) s.bound
+
+-- Each is so, where the search knows those before it too.
+abbrev pub AreNew : Searching → List Literal → List Atoms → List Listing → Type 0
+AreNew s q known [] = Unit {0}
+AreNew s q known (x ∷ found) = IsNew s q known x × AreNew s q (known ++ x.set ∷ []) found
+
+-- From s on an enumeration has found these on its cube, one after another, and t knows them.
+pub record Gathers (s t : Searching) (q : List Literal) (found : List Listing) : Type 0 where
+  pub listing : s.mode ≡ Enum
+  pub entered : s.cube ≡ Some q
+  pub program : t.program ≡ s.program
+  pub mode_is : t.mode ≡ s.mode
+  pub cube : t.cube ≡ s.cube
+  pub bound : t.bound ≡ s.bound
+  pub known : t.known ≡ s.known ++ map (λ (x : Listing). x.set) found
+  pub new : AreNew s q s.known found
+
+-- ---- how a step left the path
 -- what is known by how a step left the path
 abbrev pub IsCourse : Knows → Searching → ℕ → Course → Type 0
 IsCourse v s leaf Open = Unit {0}

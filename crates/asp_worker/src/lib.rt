@@ -5,6 +5,7 @@
 mod engine;
 mod find;
 pub mod gate;
+mod gather;
 pub mod halt;
 mod path;
 mod share;

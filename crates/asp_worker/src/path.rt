@@ -10,9 +10,10 @@ ghost use Rattle.asp_worker.specs.Seats.{IsReady, Keeps, IsSettled, Passes, Hold
 ghost use Rattle.asp_worker.specs.Working.{GoesOn, IsOn, IsOff, IsCourse, IsStop, IsWay, Pays};
 
 use crate::engine::Engine;
+use crate::gather::answer;
 use crate::halt::Halt;
 use crate::share::{STRIDE, begin, is_enough, share};
-use crate::sharing::{export, lease, record, refresh};
+use crate::sharing::{export, lease, refresh};
 use crate::stop::Stop;
 use crate::worker::{Shared, Worker};
 use crate::writing::note;
@@ -72,8 +73,8 @@ fn close<R: Wait>(
     desk::close(rt, &shared.book, seat, leaf, cube.as_slice())
 }
 
-// One step of the search, which is counted and written down.
-fn step<R: Wait, P: Propagator>(
+/// One step of the search, which is counted and written down.
+pub(crate) fn step<R: Wait, P: Propagator>(
     rt: &R,
     shared: &Shared,
     search: &mut Search<'_, P>,
@@ -92,7 +93,7 @@ fn step<R: Wait, P: Propagator>(
     Ok(step)
 }
 
-// One step of the search, and what it asks for.
+// A step of the search, and what it asks for.
 fn advance<R: Wait>(
     rt: &R,
     shared: &Shared,
@@ -129,10 +130,7 @@ fn advance<R: Wait>(
             refresh(rt, shared, worker, engine)?;
             Ok(Course::Open)
         }
-        Step::Answer(set) => {
-            record(rt, shared, &mut worker.seat, engine, set)?;
-            Ok(Course::Open)
-        }
+        Step::Answer(set) => answer(rt, shared, worker, engine, leaf, set),
         Step::NoFuel(_) => {
             let leased = lease(rt, shared, &mut worker.seat, engine)?;
             if leased {

@@ -199,8 +199,8 @@ pub(crate) fn export<R: Wait, P: Propagator>(
     }
 }
 
-// The row of an answer, which is made before the lock is taken.
-fn row_of<P: Propagator>(
+/// The row of an answer, which is made before the lock is taken.
+pub(crate) fn row_of<P: Propagator>(
     alloc: Global,
     search: &Search<'_, P>,
     set: &Interp,

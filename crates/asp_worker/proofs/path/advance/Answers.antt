@@ -7,9 +7,9 @@ use Rattle.asp_worker.specs.declared.worker.Worker.{Worker}
 use Rattle.asp_worker.proofs.SeatLaws.{board-task, keeps-self, keeps-seat, keeps-pages, ready-seat}
 use Rattle.asp_worker.proofs.StepLaws.{on-decided, on-restarted, on-learnt, on-stopped, none-left, on-closed, settled-closed, finds-answer, off-paid}
 use Rattle.asp_worker.specs.Working.{IsOn, IsOff}
-use Rattle.asp_worker.proofs.Replies.{always-err, memory-stop, same-stop}
+use Rattle.asp_worker.proofs.Replies.{always-err, memory-stop}
 use Rattle.asp_worker.proofs.SharingLaws.{still-read, paged-of}
-use Rattle.asp_worker.proofs.PathLaws.{refreshed-on, idled-off, recorded-on, found-off, leased-on, leased-off, ready-pages}
+use Rattle.asp_worker.proofs.PathLaws.{refreshed-on, idled-off, leased-on, leased-off, ready-pages}
 use Rattle.asp_worker.proofs.path.advance.Goals as goal
 
 pub returns-in_err-step-clause-keeps : goal.returns-in_err-step-clause-keeps
@@ -66,41 +66,9 @@ returns-in_err-refresh-in-Restarted-clause-err g c =
     let on = on-restarted c.args.shared.now.mode v c.args.engine.now.search c.step.new.search c.args.engine.now.fuel c.args.leaf c.requires.on _ _ c.step.new.fuel _ c.in_ok-step.ensures.ok c.in-Restarted.is in
     always-err c.from_residual-in_err-refresh-in-Restarted.result (IsOff w c.refresh.new.engine.fuel c.args.leaf) (idled-off c.args.shared.now.mode v w c.step.new.search c.step.new.fuel c.refresh.new.engine.fuel c.args.leaf on c.refresh.ensures.idles c.refresh.ensures.fuel)
 
-pub record-requires-clause-found : goal.record-requires-clause-found
-record-requires-clause-found g c =
-    (c.args.engine.now.search, c.args.leaf, finds-answer c.args.shared.now.mode (view c.args.worker.now.seat) c.args.engine.now.search c.step.new.search c.args.engine.now.fuel c.args.leaf c.requires.on _ _ c.step.new.fuel _ c.in_ok-step.ensures.ok c.in-Answer.set c.in-Answer.is)
-
-pub returns-in-Answer-clause-keeps : goal.returns-in-Answer-clause-keeps
-returns-in-Answer-clause-keeps g c =
-    let h : Worker = c.args.worker.now in let k : Worker = record h { seat = c.record.new.seat } in
-    keeps-seat c.args.shared.now h k c.requires.ready c.record.ensures.of c.record.ensures.idles.stays refl refl
-
-pub returns-in-Answer-clause-ready : goal.returns-in-Answer-clause-ready
-returns-in-Answer-clause-ready g c =
-    let h : Worker = c.args.worker.now in let k : Worker = record h { seat = c.record.new.seat } in
-    ready-seat c.args.shared.now h k c.requires.ready (keeps-seat c.args.shared.now h k c.requires.ready c.record.ensures.of c.record.ensures.idles.stays refl refl) c.requires.ready.pool c.record.ensures.idles.lawful
-
-pub returns-in-Answer-clause-ok : goal.returns-in-Answer-clause-ok
-returns-in-Answer-clause-ok g c =
-    let v : Knows = view c.args.worker.now.seat in let w : Knows = view c.record.new.seat in
-    let f = finds-answer c.args.shared.now.mode v c.args.engine.now.search c.step.new.search c.args.engine.now.fuel c.args.leaf c.requires.on _ _ c.step.new.fuel _ c.in_ok-step.ensures.ok c.in-Answer.set c.in-Answer.is in
-    recorded-on c.args.shared.now.mode v w c.args.engine.now.search c.step.new.search c.record.new.engine.search c.step.new.fuel c.record.new.engine.fuel c.args.leaf c.in-Answer.set f c.record.ensures.idles c.record.ensures.engine.0 c.in_ok-record-in-Answer.ensures.ok
-
-pub returns-in_err-record-in-Answer-clause-keeps : goal.returns-in_err-record-in-Answer-clause-keeps
-returns-in_err-record-in-Answer-clause-keeps g c =
-    let h : Worker = c.args.worker.now in let k : Worker = record h { seat = c.record.new.seat } in
-    keeps-seat c.args.shared.now h k c.requires.ready c.record.ensures.of c.record.ensures.idles.stays refl refl
-
-pub returns-in_err-record-in-Answer-clause-ready : goal.returns-in_err-record-in-Answer-clause-ready
-returns-in_err-record-in-Answer-clause-ready g c =
-    let h : Worker = c.args.worker.now in let k : Worker = record h { seat = c.record.new.seat } in
-    ready-seat c.args.shared.now h k c.requires.ready (keeps-seat c.args.shared.now h k c.requires.ready c.record.ensures.of c.record.ensures.idles.stays refl refl) c.requires.ready.pool c.record.ensures.idles.lawful
-
-pub returns-in_err-record-in-Answer-clause-err : goal.returns-in_err-record-in-Answer-clause-err
-returns-in_err-record-in-Answer-clause-err g c =
-    let v : Knows = view c.args.worker.now.seat in let w : Knows = view c.record.new.seat in
-    let f = finds-answer c.args.shared.now.mode v c.args.engine.now.search c.step.new.search c.args.engine.now.fuel c.args.leaf c.requires.on _ _ c.step.new.fuel _ c.in_ok-step.ensures.ok c.in-Answer.set c.in-Answer.is in
-    always-err c.from_residual-in_err-record-in-Answer.result (IsOff w c.record.new.engine.fuel c.args.leaf) (found-off c.args.shared.now.mode v w c.args.engine.now.search c.step.new.search c.step.new.fuel c.record.new.engine.fuel c.args.leaf c.in-Answer.set f c.record.ensures.idles c.record.ensures.engine.0)
+pub answer-requires-clause-found : goal.answer-requires-clause-found
+answer-requires-clause-found g c =
+    (c.args.engine.now.search, finds-answer c.args.shared.now.mode (view c.args.worker.now.seat) c.args.engine.now.search c.step.new.search c.args.engine.now.fuel c.args.leaf c.requires.on _ _ c.step.new.fuel _ c.in_ok-step.ensures.ok c.in-Answer.set c.in-Answer.is)
 
 pub lease-requires-clause-going : goal.lease-requires-clause-going
 lease-requires-clause-going g c =
@@ -179,10 +147,6 @@ returns-in_err-step-clause-stop g c = memory-stop (view c.args.worker.now.seat) 
 
 pub returns-in_err-refresh-in-Restarted-clause-stop : goal.returns-in_err-refresh-in-Restarted-clause-stop
 returns-in_err-refresh-in-Restarted-clause-stop g c = memory-stop (view c.refresh.new.worker.seat) c.from_residual-in_err-refresh-in-Restarted.result c.from_residual-in_err-refresh-in-Restarted.ensures.1
-
-pub returns-in_err-record-in-Answer-clause-stop : goal.returns-in_err-record-in-Answer-clause-stop
-returns-in_err-record-in-Answer-clause-stop g c =
-    same-stop (view c.record.new.seat) c.from_residual-in_err-record-in-Answer.result _ c.from_residual-in_err-record-in-Answer.ensures.1 c.in_err-record-in-Answer.ensures.stop
 
 pub returns-in_err-leased-in-NoFuel-clause-stop : goal.returns-in_err-leased-in-NoFuel-clause-stop
 returns-in_err-leased-in-NoFuel-clause-stop g c = memory-stop (view c.lease.new.seat) c.from_residual-in_err-leased-in-NoFuel.result c.from_residual-in_err-leased-in-NoFuel.ensures.1

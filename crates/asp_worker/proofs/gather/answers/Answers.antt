@@ -1,0 +1,91 @@
+use Rattle.std.proofs.Common.{drop, sym, ◌∙◌, subst}
+use Rattle.asp_vars.specs.Paid.{Units}
+use Rattle.asp_vault.specs.Seats.{view}
+use Rattle.asp_path.specs.Trees.{cube_of}
+use Rattle.asp_book.specs.Calls.{Knows, seen_board}
+use Rattle.asp_worker.specs.Working.{IsOn}
+use Rattle.asp_worker.proofs.GatherLaws.{gathers-begun, gathered-on}
+use Rattle.asp_worker.proofs.PathLaws.{refreshed-on}
+use Rattle.asp_worker.proofs.RecordLaws.{found-program}
+use Rattle.asp_worker.proofs.gather.answers.Goals as goal
+
+pub gather-requires-clause-program : goal.gather-requires-clause-program
+gather-requires-clause-program g c =
+    let f = c.requires.found in
+    f.1.on.going.work.units.0.program ∙ sym (found-program c.args.shared.now.mode (view c.args.worker.now.seat) f.0 c.args.engine.now.search c.args.engine.now.fuel c.args.leaf c.args.set f.1)
+
+pub list_all-requires-clause-found : goal.list_all-requires-clause-found
+list_all-requires-clause-found g c =
+    let v : Knows = view c.args.worker.now.seat in
+    let f = c.requires.found in
+    let k = c.in_ok-keep.ensures in
+    let G = c.in_ok-pause.ensures.gathers f.0 (cube_of (seen_board v).nodes c.args.leaf)
+    (gathers-begun c.args.shared.now.mode v f.0 c.args.engine.now.search c.args.engine.now.fuel c.args.leaf c.args.set k.0 c.new-found.result.items c.keep.new.found.items c.requires.listing f.1 k.1 c.new-found.ensures.items k.2) in
+    (f.0, c.gather.new.engine.search, c.args.engine.now.fuel, c.args.leaf, f.1.on, G)
+
+pub refresh-requires-clause-going : goal.refresh-requires-clause-going
+refresh-requires-clause-going g c =
+    let v : Knows = view c.args.worker.now.seat in
+    let f = c.requires.found in
+    let k = c.in_ok-keep.ensures in
+    let G = c.in_ok-pause.ensures.gathers f.0 (cube_of (seen_board v).nodes c.args.leaf)
+    (gathers-begun c.args.shared.now.mode v f.0 c.args.engine.now.search c.args.engine.now.fuel c.args.leaf c.args.set k.0 c.new-found.result.items c.keep.new.found.items c.requires.listing f.1 k.1 c.new-found.ensures.items k.2) in
+    let w : Knows = view c.list_all.new.seat in
+    let l = c.in_ok-list_all.ensures.ok in
+    let on : IsOn c.args.shared.now.mode w c.gather.new.engine.search c.gather.new.engine.fuel c.args.leaf =
+    gathered-on v w l.0 c.list_all.ensures.idles.stays c.gather.new.found.items l.1 c.args.shared.now.mode f.0 c.gather.new.engine.search c.args.engine.now.fuel c.args.leaf f.1.on G c.gather.new.engine.fuel c.gather.ensures.engine.0 in
+    on.going
+
+pub returns-in-Due-clause-ok : goal.returns-in-Due-clause-ok
+returns-in-Due-clause-ok g c =
+    let v : Knows = view c.args.worker.now.seat in
+    let f = c.requires.found in
+    let k = c.in_ok-keep.ensures in
+    let G = c.in_ok-pause.ensures.gathers f.0 (cube_of (seen_board v).nodes c.args.leaf)
+    (gathers-begun c.args.shared.now.mode v f.0 c.args.engine.now.search c.args.engine.now.fuel c.args.leaf c.args.set k.0 c.new-found.result.items c.keep.new.found.items c.requires.listing f.1 k.1 c.new-found.ensures.items k.2) in
+    let w : Knows = view c.list_all.new.seat in
+    let l = c.in_ok-list_all.ensures.ok in
+    let on : IsOn c.args.shared.now.mode w c.gather.new.engine.search c.gather.new.engine.fuel c.args.leaf =
+    gathered-on v w l.0 c.list_all.ensures.idles.stays c.gather.new.found.items l.1 c.args.shared.now.mode f.0 c.gather.new.engine.search c.args.engine.now.fuel c.args.leaf f.1.on G c.gather.new.engine.fuel c.gather.ensures.engine.0 in
+    on
+
+pub returns-in-Closed-clause-ok : goal.returns-in-Closed-clause-ok
+returns-in-Closed-clause-ok g c =
+    let v : Knows = view c.args.worker.now.seat in
+    let f = c.requires.found in
+    let k = c.in_ok-keep.ensures in
+    let G = c.in_ok-pause.ensures.gathers f.0 (cube_of (seen_board v).nodes c.args.leaf)
+    (gathers-begun c.args.shared.now.mode v f.0 c.args.engine.now.search c.args.engine.now.fuel c.args.leaf c.args.set k.0 c.new-found.result.items c.keep.new.found.items c.requires.listing f.1 k.1 c.new-found.ensures.items k.2) in
+    let w : Knows = view c.list_all.new.seat in
+    let l = c.in_ok-list_all.ensures.ok in
+    let on : IsOn c.args.shared.now.mode w c.gather.new.engine.search c.gather.new.engine.fuel c.args.leaf =
+    gathered-on v w l.0 c.list_all.ensures.idles.stays c.gather.new.found.items l.1 c.args.shared.now.mode f.0 c.gather.new.engine.search c.args.engine.now.fuel c.args.leaf f.1.on G c.gather.new.engine.fuel c.gather.ensures.engine.0 in
+    on
+
+pub returns-in-Closed-clause-course : goal.returns-in-Closed-clause-course
+returns-in-Closed-clause-course g c =
+    let v : Knows = view c.args.worker.now.seat in
+    let f = c.requires.found in
+    let k = c.in_ok-keep.ensures in
+    let G = c.in_ok-pause.ensures.gathers f.0 (cube_of (seen_board v).nodes c.args.leaf)
+    (gathers-begun c.args.shared.now.mode v f.0 c.args.engine.now.search c.args.engine.now.fuel c.args.leaf c.args.set k.0 c.new-found.result.items c.keep.new.found.items c.requires.listing f.1 k.1 c.new-found.ensures.items k.2) in
+    let w : Knows = view c.list_all.new.seat in
+    let l = c.in_ok-list_all.ensures.ok in
+    let on : IsOn c.args.shared.now.mode w c.gather.new.engine.search c.gather.new.engine.fuel c.args.leaf =
+    gathered-on v w l.0 c.list_all.ensures.idles.stays c.gather.new.found.items l.1 c.args.shared.now.mode f.0 c.gather.new.engine.search c.args.engine.now.fuel c.args.leaf f.1.on G c.gather.new.engine.fuel c.gather.ensures.engine.0 in
+    c.in_ok-pause.ensures.closed c.in-Closed.is (cube_of (seen_board w).nodes c.args.leaf) on.works.entered
+
+pub returns-in_ok-refresh-in-Restarted-clause-ok : goal.returns-in_ok-refresh-in-Restarted-clause-ok
+returns-in_ok-refresh-in-Restarted-clause-ok g c =
+    let v : Knows = view c.args.worker.now.seat in
+    let f = c.requires.found in
+    let k = c.in_ok-keep.ensures in
+    let G = c.in_ok-pause.ensures.gathers f.0 (cube_of (seen_board v).nodes c.args.leaf)
+    (gathers-begun c.args.shared.now.mode v f.0 c.args.engine.now.search c.args.engine.now.fuel c.args.leaf c.args.set k.0 c.new-found.result.items c.keep.new.found.items c.requires.listing f.1 k.1 c.new-found.ensures.items k.2) in
+    let w : Knows = view c.list_all.new.seat in
+    let l = c.in_ok-list_all.ensures.ok in
+    let on : IsOn c.args.shared.now.mode w c.gather.new.engine.search c.gather.new.engine.fuel c.args.leaf =
+    gathered-on v w l.0 c.list_all.ensures.idles.stays c.gather.new.found.items l.1 c.args.shared.now.mode f.0 c.gather.new.engine.search c.args.engine.now.fuel c.args.leaf f.1.on G c.gather.new.engine.fuel c.gather.ensures.engine.0 in
+    let x : Knows = view c.refresh.new.worker.seat in
+    subst (λ (u : Units). IsOn c.args.shared.now.mode x c.refresh.new.engine.search u c.args.leaf) (sym c.refresh.ensures.fuel)
+    (refreshed-on c.args.shared.now.mode w x c.gather.new.engine.search c.refresh.new.engine.search c.gather.new.engine.fuel c.args.leaf (drop c.gather.new.engine.read (view c.refresh.new.worker.pages).seen) on c.refresh.ensures.idles c.in_ok-refresh-in-Restarted.ensures.ok)
