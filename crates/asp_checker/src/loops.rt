@@ -3,6 +3,7 @@ ghost use Rattle.std.specs.Prelude.{◌≡◌, ◌<◌, ◌≤ℤ◌, ℕ, List,
 ghost use Rattle.std.specs.List.{list_any, list_all};
 ghost use Rattle.asp_model.specs.Sets.{has, set_of};
 ghost use Rattle.asp_model.specs.Models.{atoms_of, rules_in_force, head_atoms};
+ghost use Rattle.asp_model.specs.Views.{head_seen};
 ghost use Rattle.asp_vars.specs.Numbering.{bodies_of, nth_body, nth_rule, var_of_atom};
 ghost use Rattle.asp_vars.specs.Tabled.{bound_of, form_literals, form_weights};
 ghost use Rattle.asp_loop.specs.Weighing.{AreVarsOf, is_within, is_kept, weigh};
@@ -12,7 +13,8 @@ ghost use Rattle.asp_checker.specs.Loops.{is_answered_rule, has_head};
 use crate::lines::{are_atoms, stands};
 use asp_member::weighing::{take_weight, weight_at};
 use asp_model::interp::Interp;
-use asp_model::program::{Atom, Head};
+use asp_model::program::Atom;
+use asp_model::view::HeadView;
 use asp_vars::compiled::Compiled;
 use asp_vars::lit::Lit;
 use std::alloc::{AllocError, Global};
@@ -100,13 +102,13 @@ fn is_answered(compiled: &Compiled, vars: &Interp, nogood: &[Lit], body: usize) 
     }
 }
 
-fn is_some_inside(set: &Interp, head: &Head) -> bool
-    ensures { result ≡ list_any (has set.now) (head_atoms head.now) }
+fn is_some_inside(set: &Interp, head: HeadView<'_>) -> bool
+    ensures { result ≡ list_any (has set.now) (head_atoms (head_seen head.entry)) }
 {
     match head {
-        Head::One(atom) => set.has(*atom),
-        Head::Choice(atoms) => atoms.as_slice().iter().any(|atom| set.has(*atom)),
-        Head::Never => false,
+        HeadView::One(atom) => set.has(atom),
+        HeadView::Choice(atoms) => atoms.iter().any(|atom| set.has(*atom)),
+        HeadView::Never => false,
     }
 }
 
@@ -121,7 +123,7 @@ fn is_answered_rule(
     requires vars { AreVarsOf compiled.now set.now vars.now }
     ensures { result ≡ is_answered_rule compiled.now set.now nogood.now (nth_rule compiled.now rule) }
 {
-    let inside = is_some_inside(set, &compiled.rule(rule).head);
+    let inside = is_some_inside(set, compiled.rule(rule).head);
     if !inside {
         return true;
     }

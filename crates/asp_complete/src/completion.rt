@@ -11,8 +11,9 @@ ghost use Rattle.std.specs.Prelude.{IsTrue};
 ghost use Rattle.std.specs.List.{AllByRecursion};
 ghost use Rattle.asp_model.specs.Sets.{has};
 ghost use Rattle.asp_model.specs.Models.{head_atoms};
+ghost use Rattle.asp_model.specs.Views.{head_seen};
 
-use asp_model::program::Head;
+use asp_model::view::HeadView;
 use asp_vars::compiled::Compiled;
 use asp_vars::lit::{Lit, Var};
 use asp_vars::nogood::{Base, Lits, Nogood, all_false};
@@ -114,22 +115,22 @@ fn add_rule(
     nogoods: &mut Vec<Nogood>,
     compiled: &Compiled,
     body: Var,
-    head: &Head,
+    head: HeadView<'_>,
 ) -> Result<(), AllocError>
     requires small { body < 2 ^ 31 }
-    requires stand { AllByRecursion (λ a. IsTrue (has (atoms_of compiled.now) a)) (head_atoms head.now) }
-    ensures { OnOk result (nogoods.new.items ≡ nogoods.old.items ++ map pure (rule_nogoods compiled.now body head.now)) }
+    requires stand { AllByRecursion (λ a. IsTrue (has (atoms_of compiled.now) a)) (head_atoms (head_seen head)) }
+    ensures { OnOk result (nogoods.new.items ≡ nogoods.old.items ++ map pure (rule_nogoods compiled.now body (head_seen head.entry))) }
 {
     match head {
-        Head::One(atom) => {
-            let other = [Lit::new(compiled.atom_var(*atom), false)];
+        HeadView::One(atom) => {
+            let other = [Lit::new(compiled.atom_var(atom), false)];
             push(
                 nogoods,
                 with_first(alloc, Lit::new(body, true), other.as_slice())?,
             )
         }
-        Head::Choice(_) => Ok(()),
-        Head::Never => add_one(alloc, nogoods, Lit::new(body, true)),
+        HeadView::Choice(_) => Ok(()),
+        HeadView::Never => add_one(alloc, nogoods, Lit::new(body, true)),
     }
 }
 
@@ -144,7 +145,7 @@ fn add_rule_at(
 {
     let body = compiled.rule_body(rule);
     let rule = compiled.rule(rule);
-    add_rule(alloc, nogoods, compiled, body, &rule.head)
+    add_rule(alloc, nogoods, compiled, body, rule.head)
 }
 
 fn add_atom(

@@ -3,6 +3,7 @@ ghost use Rattle.std.specs.Prelude.{◌≡◌, IfOk};
 ghost use Rattle.asp_model.specs.Sound.{IsSound};
 
 use asp_model::program::{Minimize, Program};
+use asp_model::rules::Rules;
 use asp_model::seq::Seq;
 use std::alloc::{AllocError, Global};
 
@@ -27,8 +28,9 @@ pub fn prices(alloc: Global, program: &Program) -> Result<Program, AllocError>
     ensures sound { IfOk result IsSound }
 {
     let minimize = copied(alloc, program.minimize.as_slice())?;
+    let rules = Rules::new(alloc)?;
     Ok(Program {
-        rules: Seq::from_vec(Vec::new(alloc)),
+        rules,
         minimize: Seq::from_vec(minimize),
         outputs: Seq::from_vec(Vec::new(alloc)),
         externals: Seq::from_vec(Vec::new(alloc)),

@@ -2,6 +2,7 @@
 ghost use Rattle.std.specs.Prelude.{◌≡◌, ◌<◌, ◌≤◌, ◌-◌, slice_index, ◌^◌, ◌∷◌, ◌++◌, ◌||◌, not, List, All, IsTrue, IfOk, OnOk, MatchOption, length, map};
 ghost use Rattle.std.specs.List.{list_all, list_any, AllByRecursion};
 ghost use Rattle.asp_model.specs.Sets.{has};
+ghost use Rattle.asp_model.specs.Views.{head_seen};
 ghost use Rattle.asp_model.specs.Models.{rules_in_force, atoms_of, head_atoms};
 ghost use Rattle.asp_vars.specs.Literals.{F};
 ghost use Rattle.asp_vars.specs.Numbering.{values, var_of_body, nth_rule, nth_atom};
@@ -11,7 +12,8 @@ ghost use Rattle.asp_found.specs.Marks.{is_marked};
 ghost use Rattle.asp_found.specs.Verdicts.{is_kept, keeps, is_supported, rule_literals, IsBroken};
 
 use asp_model::interp::Interp;
-use asp_model::program::{Atom, Head};
+use asp_model::program::Atom;
+use asp_model::view::HeadView;
 use asp_vars::compiled::Compiled;
 use asp_vars::lit::{Lit, Var};
 use asp_vars::nogood::{Base, Lits, Nogood};
@@ -36,14 +38,14 @@ fn has_atom(compiled: &Compiled, interp: &Interp, truths: &[bool], atom: Atom) -
     }
 }
 
-fn is_kept(compiled: &Compiled, interp: &Interp, truths: &[bool], head: &Head) -> bool
+fn is_kept(compiled: &Compiled, interp: &Interp, truths: &[bool], head: HeadView<'_>) -> bool
     requires { truths.now ≡ values compiled.now interp.now }
-    ensures { result ≡ is_kept interp.now head.now }
+    ensures { result ≡ is_kept interp.now (head_seen head.entry) }
 {
     match head {
-        Head::One(atom) => has_atom(compiled, interp, truths, *atom),
-        Head::Choice(_) => true,
-        Head::Never => false,
+        HeadView::One(atom) => has_atom(compiled, interp, truths, atom),
+        HeadView::Choice(_) => true,
+        HeadView::Never => false,
     }
 }
 
@@ -54,23 +56,23 @@ fn keeps(compiled: &Compiled, interp: &Interp, truths: &[bool], rule: usize) -> 
     ensures { result ≡ keeps interp.now (nth_rule compiled.now rule) }
 {
     let holds = truths[compiled.rule_body(rule) as usize];
-    !holds || is_kept(compiled, interp, truths, &compiled.rule(rule).head)
+    !holds || is_kept(compiled, interp, truths, compiled.rule(rule).head)
 }
 
 fn rule_nogood(
     alloc: Global,
     compiled: &Compiled,
     rule: usize,
-    head: &Head,
+    head: HeadView<'_>,
 ) -> Result<Nogood, AllocError>
     requires rule { rule < length (rules_in_force compiled.now) }
-    requires stand { AllByRecursion (λ a. IsTrue (has (atoms_of compiled.now) a)) (head_atoms head.now) }
-    ensures { IfOk result (λ n. n ≡ record { lits = rule_literals compiled.now (var_of_body compiled.now (nth_rule compiled.now rule).body) head.now; base = base.Pure }) }
+    requires stand { AllByRecursion (λ a. IsTrue (has (atoms_of compiled.now) a)) (head_atoms (head_seen head)) }
+    ensures { IfOk result (λ n. n ≡ record { lits = rule_literals compiled.now (var_of_body compiled.now (nth_rule compiled.now rule).body) (head_seen head.entry); base = base.Pure }) }
 {
     let mut lits = Lits::new(alloc);
     lits.push(Lit::new(compiled.rule_body(rule), true))?;
-    if let Head::One(atom) = head {
-        lits.push(Lit::new(compiled.atom_var(*atom), false))?;
+    if let HeadView::One(atom) = head {
+        lits.push(Lit::new(compiled.atom_var(atom), false))?;
     }
     Ok(Nogood {
         lits,
@@ -92,7 +94,7 @@ pub fn broken_rule(
     for i in 0..compiled.rule_count() {
         let kept = keeps(compiled, interp, truths, i);
         if !kept {
-            let nogood = rule_nogood(alloc, compiled, i, &compiled.rule(i).head)?;
+            let nogood = rule_nogood(alloc, compiled, i, compiled.rule(i).head)?;
             return Ok(Some(nogood));
         }
     }

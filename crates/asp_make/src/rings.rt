@@ -4,6 +4,7 @@ ghost use Rattle.asp_model.specs.Sound.{IsSound};
 ghost use Rattle.asp_make.specs.Ring.{any_colours, atoms_of_node, coloured, each_below, edge_rules, first_colours, never, node_rules, not_both, ring, some_of};
 
 use asp_model::program::{Atom, Body, Head, Minimize, Program, Rule};
+use asp_model::rules::Rules;
 use asp_model::seq::Seq;
 use std::alloc::{AllocError, Global};
 
@@ -158,10 +159,11 @@ fn assembled(alloc: Global, nodes: u32) -> Result<Program, AllocError>
     rules.push(any_colours(alloc, nodes)?)?;
     push_nodes(alloc, &mut rules, nodes)?;
     push_edges(alloc, &mut rules, nodes)?;
+    let rules = Rules::from_slice(alloc, rules.as_slice())?;
     let mut minimize = Vec::new(alloc);
     minimize.push(first_colours(alloc, nodes)?)?;
     Ok(Program {
-        rules: Seq::from_vec(rules),
+        rules,
         minimize: Seq::from_vec(minimize),
         outputs: Seq::from_vec(Vec::new(alloc)),
         externals: Seq::from_vec(Vec::new(alloc)),

@@ -1,10 +1,13 @@
 //! Texts of fields and statements, appended one by one.
 ghost use Rattle.std.specs.Prelude.{◌≡◌, ◌++◌, ◌∷◌, List, ℕ, flat_map, OnOk};
+ghost use Rattle.asp_model.specs.Views.{head_seen, body_seen, rule_seen};
 ghost use Rattle.asp_make.specs.Texts.{natural_field, integer_field, weighted_fields, counted_fields, head_fields, body_fields, external_field};
 ghost use Rattle.asp_make.specs.Texts.{assumptions_text, line, rule_text, minimize_text, output_text, external_text};
 
-use asp_model::program::{Body, External, ExternalValue, Head, Minimize, Output, Rule};
+use asp_model::program::{External, ExternalValue, Minimize, Output};
+use asp_model::rules::Rules;
 use asp_model::seq::Seq;
+use asp_model::view::{BodyView, HeadView, RuleView};
 use itoa::{Buffer, Integer};
 use std::alloc::AllocError;
 
@@ -69,42 +72,6 @@ impl Written for (i32, i32) {
     }
 }
 
-impl Written for Head {
-    ghost text = { head_fields };
-
-    fn write(&self, out: &mut Vec<u8>) -> Result<(), AllocError> {
-        match self {
-            Head::One(atom) => {
-                out.extend_from_slice(b" 0 1")?;
-                write_number(*atom, out)
-            }
-            Head::Choice(atoms) => {
-                out.extend_from_slice(b" 1")?;
-                write_counted(atoms.as_slice(), out)
-            }
-            Head::Never => out.extend_from_slice(b" 0 0"),
-        }
-    }
-}
-
-impl Written for Body {
-    ghost text = { body_fields };
-
-    fn write(&self, out: &mut Vec<u8>) -> Result<(), AllocError> {
-        match self {
-            Body::All(literals) => {
-                out.extend_from_slice(b" 0")?;
-                write_counted(literals.as_slice(), out)
-            }
-            Body::AtLeast(bound, items) => {
-                out.extend_from_slice(b" 1")?;
-                write_number(*bound, out)?;
-                write_counted(items.as_slice(), out)
-            }
-        }
-    }
-}
-
 impl Written for ExternalValue {
     ghost text = { external_field };
 
@@ -118,15 +85,56 @@ impl Written for ExternalValue {
     }
 }
 
-impl Written for Rule {
-    ghost text = { λ r. line (rule_text r) };
-
-    fn write(&self, out: &mut Vec<u8>) -> Result<(), AllocError> {
-        out.extend_from_slice(b"1")?;
-        self.head.write(out)?;
-        self.body.write(out)?;
-        out.extend_from_slice(b"\n")
+fn write_head(head: HeadView<'_>, out: &mut Vec<u8>) -> Result<(), AllocError>
+    ensures { OnOk result (out.new.items ≡ out.old.items ++ head_fields (head_seen head.entry)) }
+{
+    match head {
+        HeadView::One(atom) => {
+            out.extend_from_slice(b" 0 1")?;
+            write_number(atom, out)
+        }
+        HeadView::Choice(atoms) => {
+            out.extend_from_slice(b" 1")?;
+            write_counted(atoms, out)
+        }
+        HeadView::Never => out.extend_from_slice(b" 0 0"),
     }
+}
+
+fn write_body(body: BodyView<'_>, out: &mut Vec<u8>) -> Result<(), AllocError>
+    ensures { OnOk result (out.new.items ≡ out.old.items ++ body_fields (body_seen body.entry)) }
+{
+    match body {
+        BodyView::All(literals) => {
+            out.extend_from_slice(b" 0")?;
+            write_counted(literals, out)
+        }
+        BodyView::AtLeast(bound, items) => {
+            out.extend_from_slice(b" 1")?;
+            write_number(bound, out)?;
+            write_counted(items, out)
+        }
+    }
+}
+
+// Appends a rule in a line of its own.
+fn write_rule(rule: RuleView<'_>, out: &mut Vec<u8>) -> Result<(), AllocError>
+    ensures { OnOk result (out.new.items ≡ out.old.items ++ line (rule_text (rule_seen rule.entry))) }
+{
+    out.extend_from_slice(b"1")?;
+    write_head(rule.head, out)?;
+    write_body(rule.body, out)?;
+    out.extend_from_slice(b"\n")
+}
+
+/// Appends rules, each in a line of its own.
+pub fn write_rules(rules: &Rules, out: &mut Vec<u8>) -> Result<(), AllocError>
+    ensures { OnOk result (out.new.items ≡ out.old.items ++ flat_map (λ r. line (rule_text r)) rules.now) }
+{
+    for i in 0..rules.len() {
+        write_rule(rules.rule(i), out)?;
+    }
+    Ok(())
 }
 
 impl Written for Minimize {

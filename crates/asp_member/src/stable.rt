@@ -7,6 +7,7 @@
 ghost use Rattle.std.specs.Prelude.{◌≡◌, ◌+◌, ◌^◌, ◌<◌, true, false, not, is_none, Some, All, IfOk, if◌then◌else◌, slice_set, length};
 ghost use Rattle.std.specs.List.{list_all};
 ghost use Rattle.asp_model.specs.Sets.{has};
+ghost use Rattle.asp_model.specs.Views.{head_seen};
 ghost use Rattle.asp_model.specs.Models.{atoms_of, is_stable, rules_in_force};
 ghost use Rattle.asp_vars.specs.Literals.{holds_in, value_of};
 ghost use Rattle.asp_vars.specs.Numbering.{bodies_of, nth_body, nth_rule, var_count};
@@ -17,8 +18,9 @@ ghost use Rattle.asp_member.specs.Founding.{passes, AreFounded, Derives, Founds,
 use crate::order::order;
 use crate::weighing::reaches;
 use asp_model::interp::Interp;
-use asp_model::program::{Atom, Head};
+use asp_model::program::Atom;
 use asp_model::stable::stable_plain;
+use asp_model::view::HeadView;
 use asp_vars::assign::Assign;
 use asp_vars::compiled::Compiled;
 use asp_vars::lit::{Lit, Var};
@@ -186,13 +188,13 @@ fn is_closed(compiled: &Compiled, values: &Assign) -> bool
     true
 }
 
-fn is_kept(set: &Interp, head: &Head) -> bool
-    ensures { result ≡ is_kept set.now head.now }
+fn is_kept(set: &Interp, head: HeadView<'_>) -> bool
+    ensures { result ≡ is_kept set.now (head_seen head.entry) }
 {
     match head {
-        Head::One(atom) => set.has(*atom),
-        Head::Choice(_) => true,
-        Head::Never => false,
+        HeadView::One(atom) => set.has(atom),
+        HeadView::Choice(_) => true,
+        HeadView::Never => false,
     }
 }
 
@@ -202,7 +204,7 @@ fn keeps(compiled: &Compiled, set: &Interp, values: &Assign, rule: usize) -> boo
     requires size { length values.now ≡ var_count compiled.now + 1 }
     ensures { result ≡ keeps compiled.now set.now values.now (nth_rule compiled.now rule) }
 {
-    if is_kept(set, &compiled.rule(rule).head) {
+    if is_kept(set, compiled.rule(rule).head) {
         return true;
     }
     let var = compiled.rule_body(rule);

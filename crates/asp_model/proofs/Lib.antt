@@ -16,3 +16,4 @@ pub mod WalkLaws
 pub mod BestLaws
 pub mod AboveLaws
 pub mod ConsequenceLaws
+pub mod StoredLaws

@@ -14,3 +14,5 @@ pub mod Orders
 pub mod Sound
 pub mod Reading
 pub mod Opening
+pub mod Views
+pub mod Stored

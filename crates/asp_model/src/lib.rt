@@ -3,6 +3,7 @@
 
 pub mod atoms;
 pub mod cost;
+mod extras;
 pub mod holding;
 pub mod in_force;
 pub mod interp;
@@ -11,7 +12,9 @@ pub mod plain;
 pub mod program;
 pub mod results;
 pub mod rows;
+pub mod rules;
 pub mod seq;
 pub mod sound;
 pub mod stable;
 mod subsets;
+pub mod view;

@@ -1,5 +1,5 @@
 // What the lines so far said, and the next line.
-ghost use Rattle.std.specs.Prelude.{◌≡◌, ◌+◌, ◌≤◌, IfOk, IfErr, OnOk, OnErr};
+ghost use Rattle.std.specs.Prelude.{◌≡◌, ◌+◌, ◌≤◌, [], ◌∷◌, ◌++◌, IfOk, IfErr, OnOk, OnErr};
 ghost use Rattle.asp_read.specs.Sizes.{program_size, statement_size};
 ghost use Rattle.asp_read.specs.Seen.{nothing_seen};
 ghost use Rattle.asp_read.specs.Gives.{Gives};
@@ -14,11 +14,13 @@ use crate::known::KnownAtoms;
 use crate::sizes::size_of_rule;
 use crate::statement::Statement;
 use crate::statements::{header, statement};
-use asp_model::program::{External, Minimize, Output, Program, Rule};
+use asp_model::program::{External, Minimize, Output, Program};
+use asp_model::rules::Rules;
 use asp_model::seq::Seq;
 use asp_text::unblank;
 use std::alloc::{AllocError, Global};
 use std::marker::Model;
+use std::mem;
 
 /// How far the lines have come.
 #[derive(Clone, Copy)]
@@ -37,7 +39,7 @@ pub struct Reader {
     /// Whether the header is awaited, statements, or nothing more.
     stage: Stage,
     /// The rules read so far.
-    rules: Vec<Rule>,
+    rules: Rules,
     /// The minimize statements read so far.
     minimize: Vec<Minimize>,
     /// The output statements read so far.
@@ -61,20 +63,21 @@ impl Model for Reader {
 
     ghost use Rattle.asp_read.specs.Kept.{IsKept};
 
-    ghost view = { λ r. record { stage = r.stage; program = record { rules = r.rules.items; minimize = r.minimize.items; outputs = r.outputs.items; externals = r.externals.items; assumptions = r.assumptions.items }; known = r.known } };
+    ghost view = { λ r. record { stage = r.stage; program = record { rules = r.rules; minimize = r.minimize.items; outputs = r.outputs.items; externals = r.externals.items; assumptions = r.assumptions.items }; known = r.known } };
 
-    ghost invariant = { λ r. IsKept (record { rules = r.rules.items; minimize = r.minimize.items; outputs = r.outputs.items; externals = r.externals.items; assumptions = r.assumptions.items }) r.used r.priorities.items };
+    ghost invariant = { λ r. IsKept (record { rules = r.rules; minimize = r.minimize.items; outputs = r.outputs.items; externals = r.externals.items; assumptions = r.assumptions.items }) r.used r.priorities.items };
 }
 
 impl Reader {
     pub fn new(alloc: Global) -> Result<Self, AllocError>
         ensures { IfOk result (λ r. r ≡ nothing_seen) }
     {
+        let rules = Rules::new(alloc)?;
         let known = KnownAtoms::new(alloc)?;
         Ok(Reader {
             alloc,
             stage: Stage::Start,
-            rules: Vec::new(alloc),
+            rules,
             minimize: Vec::new(alloc),
             outputs: Vec::new(alloc),
             externals: Vec::new(alloc),
@@ -99,15 +102,13 @@ impl Reader {
             Statement::Comment => Ok(()),
             Statement::Rule(rule) => {
                 let size = size_of_rule(&rule);
-                self.rules.push(rule)?;
+                self.rules.push(rule.view())?;
                 self.used += size;
                 Ok(())
             }
             Statement::Minimize(minimize) => {
                 let size = minimize.items.as_slice().len() as u32;
-                self.minimize.reserve(1)?;
-                with_priority(&mut self.priorities, minimize.priority)?;
-                self.minimize.push_reserved(minimize);
+                add_minimize(&mut self.minimize, &mut self.priorities, minimize)?;
                 self.used += size;
                 Ok(())
             }
@@ -123,7 +124,7 @@ impl Reader {
             }
             Statement::Assume(literals) => {
                 let size = literals.as_slice().len() as u32;
-                self.assumptions.extend_from_slice(literals.as_slice())?;
+                add_literals(&mut self.assumptions, literals)?;
                 self.used += size;
                 Ok(())
             }
@@ -158,21 +159,50 @@ impl Reader {
         }
     }
 
+    // The program, without what was kept beside it.
+    fn into_program(self) -> Program
+        ensures { result ≡ self.program }
+    {
+        let Reader {
+            alloc: _,
+            stage: _,
+            rules,
+            minimize,
+            outputs,
+            externals,
+            assumptions,
+            used: _,
+            priorities,
+            known,
+        } = self;
+        mem::drop(priorities);
+        mem::drop(known);
+        Program {
+            rules,
+            minimize: Seq::from_vec(minimize),
+            outputs: Seq::from_vec(outputs),
+            externals: Seq::from_vec(externals),
+            assumptions: Seq::from_vec(assumptions),
+        }
+    }
+
     /// The end of the text, as the line with this number.
     pub fn end(self, number: u32) -> Result<Program, ReadError>
         ensures end { result ≡ at_end number self.stage self.program }
         ensures of_lines { IfErr result IsOfLines }
     {
-        match self.stage {
-            Stage::Start => Err(ReadError::Refused(missing(FaultKind::Header), number)),
-            Stage::Within => Err(ReadError::Refused(missing(FaultKind::NoEnd), number)),
-            Stage::Ended => Ok(Program {
-                rules: Seq::from_vec(self.rules),
-                minimize: Seq::from_vec(self.minimize),
-                outputs: Seq::from_vec(self.outputs),
-                externals: Seq::from_vec(self.externals),
-                assumptions: Seq::from_vec(self.assumptions),
-            }),
+        let stage = self.stage;
+        let program = self.into_program();
+        match stage {
+            Stage::Start => {
+                mem::drop(program);
+                Err(ReadError::Refused(missing(FaultKind::Header), number))
+            }
+            Stage::Within => {
+                mem::drop(program);
+                Err(ReadError::Refused(missing(FaultKind::NoEnd), number))
+            }
+            Stage::Ended => Ok(program),
         }
     }
 }
@@ -192,5 +222,31 @@ fn with_priority(seen: &mut Vec<i32>, priority: i32) -> Result<(), AllocError>
         return Ok(());
     }
     seen.push(priority)?;
+    Ok(())
+}
+
+// Adds a minimize statement, and its priority to those that stood before.
+fn add_minimize(
+    list: &mut Vec<Minimize>,
+    seen: &mut Vec<i32>,
+    minimize: Minimize,
+) -> Result<(), AllocError>
+    ensures list { OnOk result (list.new.items ≡ list.old.items ++ minimize ∷ []) }
+    ensures seen { OnOk result (seen.new.items ≡ with_number seen.old.items minimize.priority) }
+    ensures same_list { OnErr result (list.new.items ≡ list.old.items) }
+    ensures same_seen { OnErr result (seen.new.items ≡ seen.old.items) }
+{
+    list.reserve(1)?;
+    with_priority(seen, minimize.priority)?;
+    list.push_reserved(minimize);
+    Ok(())
+}
+
+// Adds the literals that a statement assumes.
+fn add_literals(list: &mut Vec<i32>, literals: Seq<i32>) -> Result<(), AllocError>
+    ensures ok { OnOk result (list.new.items ≡ list.old.items ++ literals) }
+    ensures err { OnErr result (list.new.items ≡ list.old.items) }
+{
+    list.extend_from_slice(literals.as_slice())?;
     Ok(())
 }

@@ -9,4 +9,3 @@ pub mod MentionLaws
 pub mod ResultLaws
 pub mod TableLaws
 pub mod WeightLaws
-pub mod WalkLaws

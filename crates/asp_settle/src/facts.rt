@@ -4,11 +4,14 @@ ghost use Rattle.std.specs.Option.{option_to_list};
 ghost use Rattle.asp_model.specs.Holding.{atom_of};
 ghost use Rattle.asp_model.specs.Sets.{has};
 ghost use Rattle.asp_model.specs.Sound.{IsSound};
+ghost use Rattle.asp_model.specs.Views.{rule_seen};
 ghost use Rattle.asp_settle.specs.Settled.{fact_of, facts_of, needed};
 ghost use Rattle.asp_settle.specs.Tables.{with_flags};
 
 use asp_model::interp::Interp;
-use asp_model::program::{Atom, Body, Head, Minimize, Program, Rule};
+use asp_model::program::{Atom, Minimize, Program};
+use asp_model::rules::Rules;
+use asp_model::view::{BodyView, HeadView, RuleView};
 use std::alloc::{AllocError, Global};
 use std::marker::Model;
 
@@ -35,23 +38,23 @@ impl Model for FactTable {
 }
 
 // The atom that the rule makes a fact, if it does.
-fn fact_of(rule: &Rule) -> Option<Atom>
-    ensures { option_to_list result ≡ fact_of rule.now }
+fn fact_of(rule: RuleView<'_>) -> Option<Atom>
+    ensures { option_to_list result ≡ fact_of (rule_seen rule.entry) }
 {
-    match (&rule.head, &rule.body) {
-        (Head::One(atom), Body::All(literals)) if literals.as_slice().is_empty() => Some(*atom),
+    match (rule.head, rule.body) {
+        (HeadView::One(atom), BodyView::All(literals)) if literals.is_empty() => Some(atom),
         _ => None,
     }
 }
 
 // The least number above all facts of the rules.
-fn above(rules: &[Rule]) -> usize
+fn above(rules: &Rules) -> usize
     ensures above { (a : ℕ) → IsTrue (has (flat_map fact_of rules.now) a) → a < result }
     ensures most { result ≤ 4294967296 }
 {
     let mut above = 0usize;
-    for rule in rules {
-        if let Some(atom) = fact_of(rule) {
+    for i in 0..rules.len() {
+        if let Some(atom) = fact_of(rules.rule(i)) {
             above = above.max(atom as usize + 1);
         }
     }
@@ -59,7 +62,7 @@ fn above(rules: &[Rule]) -> usize
 }
 
 // How many places the table of the rules' facts has.
-fn places(rules: &[Rule]) -> usize
+fn places(rules: &Rules) -> usize
     requires { length rules.now ≤ 268435456 }
     ensures reaches { (a : ℕ) → IsTrue (has (flat_map fact_of rules.now) a) → nat_lt a result ≡ nat_lt a (16 * (length rules.now + 1)) }
     ensures most { result ≤ 4294967296 }
@@ -76,19 +79,19 @@ fn set_flag(flags: &mut [bool], atom: Atom, up: bool)
     }
 }
 
-fn raise_fact(flags: &mut [bool], rule: &Rule)
-    ensures { flags.new ≡ with_flags true flags.old (fact_of rule.now) }
+fn raise_fact(flags: &mut [bool], rule: RuleView<'_>)
+    ensures { flags.new ≡ with_flags true flags.old (fact_of (rule_seen rule.entry)) }
 {
     if let Some(atom) = fact_of(rule) {
         set_flag(flags, atom, true);
     }
 }
 
-fn raise_facts(flags: &mut [bool], rules: &[Rule])
+fn raise_facts(flags: &mut [bool], rules: &Rules)
     ensures { flags.new ≡ with_flags true flags.old (flat_map fact_of rules.now) }
 {
-    for rule in rules {
-        raise_fact(flags, rule);
+    for i in 0..rules.len() {
+        raise_fact(flags, rules.rule(i));
     }
 }
 
@@ -127,7 +130,7 @@ fn lower_needed(flags: &mut [bool], program: &Program)
 fn mark(flags: &mut [bool], program: &Program)
     ensures { flags.new ≡ with_flags false (with_flags true flags.old (flat_map fact_of program.now.rules)) (needed program.now) }
 {
-    raise_facts(flags, program.rules.as_slice());
+    raise_facts(flags, &program.rules);
     lower_needed(flags, program);
 }
 
@@ -143,7 +146,7 @@ impl FactTable {
         requires { IsSound program.now }
         ensures { IfOk result (λ table. table ≡ facts_of program.now) }
     {
-        let mut flags = no_flags(alloc, places(program.rules.as_slice()))?;
+        let mut flags = no_flags(alloc, places(&program.rules))?;
         mark(flags.as_mut_slice(), program);
         Ok(FactTable { flags })
     }

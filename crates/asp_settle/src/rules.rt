@@ -2,6 +2,7 @@
 ghost use Rattle.std.specs.Prelude.{◌≡◌, ◌++◌, ◌≤◌, All, filter, flat_map, not, IfOk, OnOk, IsTrue};
 ghost use Rattle.std.specs.Option.{option_to_list};
 ghost use Rattle.asp_model.specs.Models.{head_atoms};
+ghost use Rattle.asp_model.specs.Views.{head_seen};
 ghost use Rattle.asp_model.specs.Sets.{has, set_of};
 ghost use Rattle.asp_model.specs.Sound.{HasBody, HasFewItems};
 ghost use Rattle.asp_settle.specs.Settled.{heads_of, settled_head, settled_output, settled_rule};
@@ -10,7 +11,9 @@ use crate::bodies::{settled_body, settled_literals};
 use crate::facts::FactTable;
 use asp_model::interp::Interp;
 use asp_model::program::{Atom, External, Head, Output, Rule};
+use asp_model::rules::Rules;
 use asp_model::seq::Seq;
+use asp_model::view::HeadView;
 use std::alloc::{AllocError, Global};
 
 fn other_atoms(facts: &FactTable, atoms: Seq<Atom>) -> Seq<Atom>
@@ -54,13 +57,13 @@ fn settled_rule(facts: &FactTable, rule: Rule) -> Option<Rule>
 }
 
 // Adds what is left of a rule to others.
-fn push_rule(left: &mut Vec<Rule>, facts: &FactTable, rule: Rule) -> Result<(), AllocError>
+fn push_rule(left: &mut Rules, facts: &FactTable, rule: Rule) -> Result<(), AllocError>
     requires body { HasBody rule }
     requires few { HasFewItems rule }
-    ensures { OnOk result (left.new.items ≡ left.old.items ++ settled_rule facts.now rule) }
+    ensures { OnOk result (left.new ≡ left.old ++ settled_rule facts.now rule) }
 {
     if let Some(rule) = settled_rule(facts, rule) {
-        left.push(rule)?;
+        left.push(rule.view())?;
     }
     Ok(())
 }
@@ -69,14 +72,15 @@ fn push_rule(left: &mut Vec<Rule>, facts: &FactTable, rule: Rule) -> Result<(), 
 pub(crate) fn settled_rules(
     alloc: Global,
     facts: &FactTable,
-    rules: Vec<Rule>,
-) -> Result<Vec<Rule>, AllocError>
-    requires bodies { All HasBody rules.items }
-    requires few { All HasFewItems rules.items }
-    ensures { IfOk result (λ left. left.items ≡ flat_map (settled_rule facts.now) rules.items) }
+    rules: &Rules,
+) -> Result<Rules, AllocError>
+    requires bodies { All HasBody rules.now }
+    requires few { All HasFewItems rules.now }
+    ensures { IfOk result (λ left. left ≡ flat_map (settled_rule facts.now) rules.now) }
 {
-    let mut left = Vec::new(alloc);
-    for rule in rules {
+    let mut left = Rules::new(alloc)?;
+    for i in 0..rules.len() {
+        let rule = rules.rule(i).copy(alloc)?;
         push_rule(&mut left, facts, rule)?;
     }
     Ok(left)
@@ -109,26 +113,26 @@ pub(crate) fn settled_outputs(
     Ok(left)
 }
 
-fn push_head(atoms: &mut Vec<Atom>, head: &Head) -> Result<(), AllocError>
-    ensures { OnOk result (atoms.new.items ≡ atoms.old.items ++ head_atoms head.now) }
+fn push_head(atoms: &mut Vec<Atom>, head: HeadView<'_>) -> Result<(), AllocError>
+    ensures { OnOk result (atoms.new.items ≡ atoms.old.items ++ head_atoms (head_seen head.entry)) }
 {
     match head {
-        Head::One(atom) => {
-            atoms.push(*atom)?;
+        HeadView::One(atom) => {
+            atoms.push(atom)?;
             Ok(())
         }
-        Head::Choice(choices) => atoms.extend_from_slice(choices.as_slice()),
-        Head::Never => Ok(()),
+        HeadView::Choice(choices) => atoms.extend_from_slice(choices),
+        HeadView::Never => Ok(()),
     }
 }
 
 // The atoms that stand in heads.
-fn head_set(alloc: Global, rules: &[Rule]) -> Result<Interp, AllocError>
+fn head_set(alloc: Global, rules: &Rules) -> Result<Interp, AllocError>
     ensures { IfOk result (λ heads. heads ≡ set_of (heads_of rules.now)) }
 {
     let mut atoms = Vec::new(alloc);
-    for rule in rules {
-        push_head(&mut atoms, &rule.head)?;
+    for i in 0..rules.len() {
+        push_head(&mut atoms, rules.rule(i).head)?;
     }
     Ok(Interp::from_atoms(atoms))
 }
@@ -143,7 +147,7 @@ fn without_heads(mut externals: Vec<External>, heads: &Interp) -> Vec<External>
 /// The externals on atoms that no rule's head has.
 pub(crate) fn open_externals(
     alloc: Global,
-    rules: &[Rule],
+    rules: &Rules,
     externals: Seq<External>,
 ) -> Result<Seq<External>, AllocError>
     ensures { IfOk result (λ kept. kept ≡ filter (λ e. not (has (heads_of rules.now) e.atom)) externals) }

@@ -33,14 +33,14 @@ pub fn settle(alloc: Global, program: Program) -> Result<Settled, AllocError>
         externals,
         assumptions,
     } = program;
-    let externals = open_externals(alloc, rules.as_slice(), externals)?;
-    let rules = settled_rules(alloc, &facts, rules.into_vec())?;
+    let externals = open_externals(alloc, &rules, externals)?;
+    let rules = settled_rules(alloc, &facts, &rules)?;
     let outputs = settled_outputs(alloc, &facts, outputs.into_vec())?;
     let set = facts.to_set(alloc)?;
     Ok(Settled {
         facts: set,
         left: Program {
-            rules: Seq::from_vec(rules),
+            rules,
             minimize,
             outputs: Seq::from_vec(outputs),
             externals,

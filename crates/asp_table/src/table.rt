@@ -1,5 +1,5 @@
 //! Lists of lists in one flat array.
-ghost use Rattle.std.specs.Prelude.{◌≡◌, ◌+◌, ◌<◌, ◌^◌, [], ◌∷◌, ◌++◌, IfOk, length, take, drop, slice_index, slice_index_or, ◌-◌, ◌≤◌};
+ghost use Rattle.std.specs.Prelude.{◌≡◌, ◌+◌, ◌<◌, ◌^◌, [], ◌∷◌, ◌++◌, IfOk, OnOk, OnErr, length, take, drop, slice_index, slice_index_or, ◌-◌, ◌≤◌};
 
 use std::alloc::{AllocError, Global};
 use std::marker::Model;
@@ -49,6 +49,18 @@ impl<T: Copy> Table<T> {
         Ok(Table { starts, items })
     }
 
+    /// One more row. Want of memory leaves all as it was, as do 4294967296 items or more together.
+    pub fn push_row(&mut self, row: &[T]) -> Result<(), AllocError>
+        ensures ok { OnOk result (self.new ≡ self.old ++ row.now ∷ []) }
+        ensures err { OnErr result (self.new ≡ self.old) }
+    {
+        let end = end_behind(self.items.len(), row.len())?;
+        self.starts.reserve(1)?;
+        self.items.extend_from_slice(row)?;
+        self.starts.push_reserved(end);
+        Ok(())
+    }
+
     /// How many rows there are.
     pub fn len(&self) -> usize
         ensures { result ≡ length self.now }
@@ -71,6 +83,16 @@ fn narrow(n: usize) -> Result<u32, AllocError>
     match u32::try_from(n) {
         Ok(k) => Ok(k),
         Err(_) => Err(AllocError),
+    }
+}
+
+// Where so many items end behind these, if it isn't too far.
+fn end_behind(start: usize, count: usize) -> Result<u32, AllocError>
+    ensures { IfOk result (λ end. end ≡ start + count) }
+{
+    match start.checked_add(count) {
+        Some(end) => narrow(end),
+        None => Err(AllocError),
     }
 }
 

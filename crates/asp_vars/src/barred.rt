@@ -1,18 +1,21 @@
 //! Which bodies constraints have.
 ghost use Rattle.std.specs.Prelude.{◌≡◌, ◌+◌, ◌<◌, ◌++◌, true, All, IfOk, length, if◌then◌else◌, slice_set};
 ghost use Rattle.asp_model.specs.Models.{is_never};
+ghost use Rattle.asp_model.specs.Views.{head_seen};
 ghost use Rattle.asp_vars.specs.Headed.{AreBarred};
 
 use crate::rules::rule_at;
-use asp_model::program::{Head, Rule};
+use asp_model::program::Rule;
+use asp_model::rules::Rules;
+use asp_model::view::HeadView;
 use std::alloc::{AllocError, Global};
 
 // Marks the rule's body, if the rule is a constraint.
-fn mark(marks: &mut Vec<bool>, body: usize, head: &Head)
+fn mark(marks: &mut Vec<bool>, body: usize, head: HeadView<'_>)
     requires { body < length marks.old.items }
-    ensures { marks.new.items ≡ (if is_never head.now then slice_set marks.old.items body true else marks.old.items) }
+    ensures { marks.new.items ≡ (if is_never (head_seen head.entry) then slice_set marks.old.items body true else marks.old.items) }
 {
-    if let Head::Never = head {
+    if let HeadView::Never = head {
         marks[body] = true;
     }
 }
@@ -22,7 +25,7 @@ pub fn barred_bodies(
     alloc: Global,
     count: usize,
     places: &[u32],
-    rules: &[Rule],
+    rules: &Rules,
     opened: &[Rule],
 ) -> Result<Vec<bool>, AllocError>
     requires places { length places.now ≡ length rules.now + length opened.now }
@@ -32,7 +35,7 @@ pub fn barred_bodies(
     let mut marks = vec![in alloc; false; count]?;
     for (i, place) in places.iter().enumerate() {
         let rule = rule_at(rules, opened, i);
-        mark(&mut marks, *place as usize, &rule.head);
+        mark(&mut marks, *place as usize, rule.head);
     }
     Ok(marks)
 }

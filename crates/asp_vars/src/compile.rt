@@ -13,6 +13,7 @@ use asp_model::program::Program;
 use asp_table::columns::Occurrence;
 use asp_table::table::Table;
 use std::alloc::{AllocError, Global};
+use std::mem;
 
 // What stands in each body.
 #[derive(Drop)]
@@ -134,7 +135,18 @@ pub fn compile(alloc: Global, program: Program) -> Result<Compiled, AllocError>
     ensures { IfOk result (λ compiled. compiled ≡ program) }
 {
     let numbered = Numbered::of(alloc, program)?;
-    let rows = rows_of(alloc, &numbered)?;
-    let places = places_of(alloc, &numbered, &rows.literals)?;
-    Ok(together(numbered, rows, places))
+    match rows_of(alloc, &numbered) {
+        Ok(rows) => match places_of(alloc, &numbered, &rows.literals) {
+            Ok(places) => Ok(together(numbered, rows, places)),
+            Err(error) => {
+                mem::drop(rows);
+                mem::drop(numbered);
+                Err(error)
+            }
+        },
+        Err(error) => {
+            mem::drop(numbered);
+            Err(error)
+        }
+    }
 }

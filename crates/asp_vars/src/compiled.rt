@@ -3,6 +3,7 @@ ghost use Rattle.std.specs.Prelude.{◌≡◌, ◌+◌, ◌-◌, ◌<◌, ◌≤
 ghost use Rattle.asp_model.specs.Sound.{IsSound};
 ghost use Rattle.asp_model.specs.Models.{rules_in_force, atoms_of};
 ghost use Rattle.asp_model.specs.Sets.{has};
+ghost use Rattle.asp_model.specs.Views.{rule_seen};
 ghost use Rattle.asp_vars.specs.Numbering.{bodies_of, var_count, var_of_atom, var_of_form, var_of_body, nth_body, nth_rule, nth_atom};
 ghost use Rattle.asp_vars.specs.Completion.{is_barred, supports};
 ghost use Rattle.asp_vars.specs.Tabled.{bound_of, form_literals, form_weights, heads_of, occurrences_of, find_var, find_atom, IsAtomVar, IsBodyVar};
@@ -13,6 +14,7 @@ use crate::place::place;
 use crate::rules::rule_at;
 use asp_model::interp::Interp;
 use asp_model::program::{Atom, Program, Rule};
+use asp_model::view::RuleView;
 use asp_table::table::Table;
 use std::marker::Model;
 
@@ -75,12 +77,12 @@ impl Compiled {
     }
 
     /// A rule in force.
-    pub fn rule(&self, rule: usize) -> &Rule
+    pub fn rule(&self, rule: usize) -> RuleView<'_>
         requires { rule < length (rules_in_force self.now) }
-        ensures { result.now ≡ nth_rule self.now rule }
+        ensures { rule_seen result ≡ nth_rule self.now rule }
     {
         let _ = &self.opened;
-        rule_at(self.program.rules.as_slice(), self.opened.as_slice(), rule)
+        rule_at(&self.program.rules, self.opened.as_slice(), rule)
     }
 
     /// The variable of a rule's body.

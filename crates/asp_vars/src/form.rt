@@ -3,11 +3,12 @@ ghost use Rattle.std.specs.Prelude.{◌≡◌, ◌+◌, ◌≤◌, ◌<◌, [], 
 ghost use Rattle.std.specs.Ordering.{int_cmp, int_eq};
 ghost use Rattle.std.specs.BTreeMap.{get, values};
 ghost use Rattle.asp_model.specs.Sound.{weighted_count};
+ghost use Rattle.asp_model.specs.Views.{body_seen};
 ghost use Rattle.asp_vars.specs.Numbering.{normal, with_literal, with_weight};
 ghost use Rattle.asp_vars.specs.Forms.{body_of, IsSmall, item_words, key_of};
 
-use asp_model::program::Body;
 use asp_model::seq::Seq;
+use asp_model::view::BodyView;
 use std::alloc::{AllocError, Global};
 use std::collections::{BTreeMap, BTreeSet};
 
@@ -104,18 +105,18 @@ fn summed(alloc: Global, items: &[(i32, i32)]) -> Result<Seq<(i32, i64)>, AllocE
 }
 
 /// The normal form of a body.
-pub fn normal_form(alloc: Global, body: &Body) -> Result<Form, AllocError>
-    requires { weighted_count body.now ≤ 16777216 }
-    ensures { IfOk result (λ form. body_of form ≡ normal body.now) }
+pub fn normal_form(alloc: Global, body: BodyView<'_>) -> Result<Form, AllocError>
+    requires { weighted_count (body_seen body) ≤ 16777216 }
+    ensures { IfOk result (λ form. body_of form ≡ normal (body_seen body.entry)) }
 {
     match body {
-        Body::All(literals) => {
-            let literals = sorted(alloc, literals.as_slice())?;
+        BodyView::All(literals) => {
+            let literals = sorted(alloc, literals)?;
             Ok(Form::All(literals))
         }
-        Body::AtLeast(bound, items) => {
-            let items = summed(alloc, items.as_slice())?;
-            Ok(Form::AtLeast(*bound, items))
+        BodyView::AtLeast(bound, items) => {
+            let items = summed(alloc, items)?;
+            Ok(Form::AtLeast(bound, items))
         }
     }
 }

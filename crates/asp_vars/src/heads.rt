@@ -3,13 +3,16 @@ ghost use Rattle.std.specs.Prelude.{◌≡◌, ℕ, ◌+◌, ◌<◌, ◌^◌, [
 ghost use Rattle.std.specs.List.{AllByRecursion};
 ghost use Rattle.asp_model.specs.Sets.{IsAscending, has};
 ghost use Rattle.asp_model.specs.Models.{head_atoms};
+ghost use Rattle.asp_model.specs.Views.{head_seen};
 ghost use Rattle.asp_vars.specs.Numbering.{var_in};
 ghost use Rattle.asp_vars.specs.Headed.{HeadsStand, AreHeads};
 
 use crate::lit::Var;
 use crate::place::var_in;
 use crate::rules::rule_at;
-use asp_model::program::{Atom, Head, Rule};
+use asp_model::program::{Atom, Rule};
+use asp_model::rules::Rules;
+use asp_model::view::HeadView;
 use asp_table::buckets::Buckets;
 use asp_table::columns::Occurrence;
 use asp_table::table::Table;
@@ -37,18 +40,18 @@ fn add_head(
     heads: &mut Buckets<Var>,
     atoms: &[Atom],
     body: usize,
-    head: &Head,
+    head: HeadView<'_>,
 ) -> Result<(), AllocError>
     requires body { body < length heads.old }
     requires up { IsAscending atoms.now }
     requires few { length atoms.now < 2 ^ 31 }
-    requires stand { AllByRecursion (λ a. IsTrue (has atoms.now a)) (head_atoms head.now) }
-    ensures { OnOk result (heads.new ≡ slice_set heads.old body (slice_index_or heads.old body [] ++ map (var_in atoms.now) (head_atoms head.now))) }
+    requires stand { AllByRecursion (λ a. IsTrue (has atoms.now a)) (head_atoms (head_seen head)) }
+    ensures { OnOk result (heads.new ≡ slice_set heads.old body (slice_index_or heads.old body [] ++ map (var_in atoms.now) (head_atoms (head_seen head.entry)))) }
 {
     match head {
-        Head::One(atom) => heads.push(body, var_in(atoms, *atom)),
-        Head::Choice(more) => add_atoms(heads, atoms, body, more.as_slice()),
-        Head::Never => Ok(()),
+        HeadView::One(atom) => heads.push(body, var_in(atoms, atom)),
+        HeadView::Choice(more) => add_atoms(heads, atoms, body, more),
+        HeadView::Never => Ok(()),
     }
 }
 
@@ -58,7 +61,7 @@ pub fn head_rows(
     atoms: &[Atom],
     count: usize,
     places: &[u32],
-    rules: &[Rule],
+    rules: &Rules,
     opened: &[Rule],
 ) -> Result<Table<Var>, AllocError>
     requires up { IsAscending atoms.now }
@@ -71,7 +74,7 @@ pub fn head_rows(
     let mut heads = Buckets::new(alloc, count)?;
     for (i, place) in places.iter().enumerate() {
         let rule = rule_at(rules, opened, i);
-        add_head(&mut heads, atoms, *place as usize, &rule.head)?;
+        add_head(&mut heads, atoms, *place as usize, rule.head)?;
     }
     heads.into_table(alloc)
 }

@@ -2,7 +2,8 @@
 ghost use Rattle.std.specs.Prelude.{◌≡◌, ◌+◌, ◌*◌, ◌<◌, ◌^◌, ◌++◌, All, IfOk, length, map};
 ghost use Rattle.asp_model.specs.Sound.{IsSound, HasFewItems};
 ghost use Rattle.asp_model.specs.Models.{rules_in_force, atoms_of};
-ghost use Rattle.asp_vars.specs.Numbering.{normal, body_eq, distinct, place_of, bodies_of, var_of_body};
+ghost use Rattle.asp_model.specs.Opening.{opened_rules};
+ghost use Rattle.asp_vars.specs.Numbering.{normal, body_eq, distinct, place_of, bodies_of, var_count, var_of_body};
 ghost use Rattle.asp_vars.specs.Completion.{is_barred};
 ghost use Rattle.asp_vars.specs.Tabled.{bound_of, form_literals, form_weights, heads_of, AreSupports, AreOccurrences};
 
@@ -14,10 +15,12 @@ use crate::rules::number;
 use crate::tables::{bounds, code_rows, literal_rows, weight_rows};
 use asp_model::interp::Interp;
 use asp_model::program::{Program, Rule};
+use asp_model::rules::Rules;
 use asp_table::columns::{Occurrence, columns};
 use asp_table::table::Table;
 use std::alloc::{AllocError, Global};
 use std::marker::Model;
+use std::mem;
 
 /// How many variables there can be.
 const LIMIT: usize = 0x8000_0000;
@@ -52,7 +55,7 @@ impl Model for Numbered {
 // The distinct bodies and the place of each rule's body, unless there are too many rules or variables.
 fn numbers(
     alloc: Global,
-    rules: &[Rule],
+    rules: &Rules,
     opened: &[Rule],
     atoms: &Interp,
 ) -> Result<(Bodies, Vec<u32>), AllocError>
@@ -61,7 +64,8 @@ fn numbers(
     ensures places { IfOk result (λ r. r.1.items ≡ map (λ x. place_of (body_eq (normal x.body)) r.0) (rules.now ++ opened.now)) }
     ensures few { IfOk result (λ r. length atoms.now + length r.0 < 2 ^ 31) }
 {
-    if LIMIT <= rules.len() + opened.len() {
+    let count = rules.len();
+    if LIMIT <= count || LIMIT - count <= opened.len() {
         return Err(AllocError);
     }
     let (bodies, places) = number(alloc, rules, opened)?;
@@ -71,22 +75,65 @@ fn numbers(
     Ok((bodies, places))
 }
 
+// What the numbers of a program are made of.
+#[derive(Drop)]
+struct Parts {
+    // the rules that externals stand for
+    opened: Vec<Rule>,
+    // its atoms
+    atoms: Interp,
+    // the distinct bodies of its rules in force
+    bodies: Bodies,
+    // for each rule in force the place of its body
+    places: Vec<u32>,
+}
+
+fn parts_of(alloc: Global, program: &Program) -> Result<Parts, AllocError>
+    requires { IsSound program.now }
+    ensures few { IfOk result (λ _. var_count program.now < 2 ^ 31) }
+    ensures opened { IfOk result (λ parts. parts.opened.items ≡ opened_rules program.now) }
+    ensures atoms { IfOk result (λ parts. parts.atoms ≡ atoms_of program.now) }
+    ensures bodies { IfOk result (λ parts. parts.bodies ≡ bodies_of program.now) }
+    ensures places { IfOk result (λ parts. parts.places.items ≡ map (λ r. place_of (body_eq (normal r.body)) (bodies_of program.now)) (rules_in_force program.now)) }
+{
+    let opened = program.opened_rules(alloc)?;
+    let atoms = program.atoms(alloc)?;
+    let (bodies, places) = numbers(alloc, &program.rules, opened.as_slice(), &atoms)?;
+    Ok(Parts {
+        opened,
+        atoms,
+        bodies,
+        places,
+    })
+}
+
 impl Numbered {
     /// The program with its numbers. Want of memory is also the answer where it has too many rules or variables.
     pub fn of(alloc: Global, program: Program) -> Result<Numbered, AllocError>
         requires { IsSound program }
         ensures { IfOk result (λ n. n ≡ program) }
     {
-        let opened = program.opened_rules(alloc)?;
-        let atoms = program.atoms(alloc)?;
-        let (bodies, places) = numbers(alloc, program.rules.as_slice(), opened.as_slice(), &atoms)?;
-        Ok(Numbered {
-            program,
-            opened,
-            atoms,
-            bodies,
-            places,
-        })
+        match parts_of(alloc, &program) {
+            Ok(parts) => {
+                let Parts {
+                    opened,
+                    atoms,
+                    bodies,
+                    places,
+                } = parts;
+                Ok(Numbered {
+                    program,
+                    opened,
+                    atoms,
+                    bodies,
+                    places,
+                })
+            }
+            Err(error) => {
+                mem::drop(program);
+                Err(error)
+            }
+        }
     }
 
     /// The variables of the bodies of the rules in force.
@@ -102,7 +149,7 @@ impl Numbered {
     pub fn barred(&self, alloc: Global) -> Result<Vec<bool>, AllocError>
         ensures { IfOk result (λ list. list.items ≡ map (is_barred self.now) (bodies_of self.now)) }
     {
-        let rules = self.program.rules.as_slice();
+        let rules = &self.program.rules;
         let opened = self.opened.as_slice();
         let places = self.places.as_slice();
         let count = self.bodies.forms().len();
@@ -138,7 +185,7 @@ impl Numbered {
     pub fn heads(&self, alloc: Global) -> Result<Table<Var>, AllocError>
         ensures { IfOk result (λ rows. rows ≡ map (heads_of self.now) (bodies_of self.now)) }
     {
-        let rules = self.program.rules.as_slice();
+        let rules = &self.program.rules;
         let opened = self.opened.as_slice();
         let places = self.places.as_slice();
         let atoms = self.atoms.as_slice();

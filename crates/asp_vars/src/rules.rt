@@ -1,29 +1,32 @@
 //! The rules in force, and the numbers of their bodies.
 ghost use Rattle.std.specs.Prelude.{◌≡◌, ◌+◌, ◌<◌, ◌^◌, ◌++◌, All, IfOk, map, length, slice_index_or};
 ghost use Rattle.asp_model.specs.Sound.{HasFewItems};
+ghost use Rattle.asp_model.specs.Views.{rule_seen};
 ghost use Rattle.asp_vars.specs.Numbering.{normal, body_eq, distinct, place_of};
 
 use crate::bodies::Bodies;
 use crate::form::normal_form;
 use asp_model::program::Rule;
+use asp_model::rules::Rules;
+use asp_model::view::RuleView;
 use std::alloc::{AllocError, Global};
 
 /// A rule of the one list and then of the other.
-pub fn rule_at<'a>(rules: &'a [Rule], opened: &'a [Rule], rule: usize) -> &'a Rule
+pub fn rule_at<'a>(rules: &'a Rules, opened: &'a [Rule], rule: usize) -> RuleView<'a>
     requires { rule < length rules.now + length opened.now }
-    ensures { result.now ≡ slice_index_or (rules.now ++ opened.now) rule result.now }
+    ensures { rule_seen result ≡ slice_index_or (rules.now ++ opened.now) rule (rule_seen result) }
 {
     if rule < rules.len() {
-        &rules[rule]
+        rules.rule(rule)
     } else {
-        &opened[rule - rules.len()]
+        opened[rule - rules.len()].view()
     }
 }
 
 /// The distinct bodies of the rules, and the place of each rule's body among them.
 pub fn number(
     alloc: Global,
-    rules: &[Rule],
+    rules: &Rules,
     opened: &[Rule],
 ) -> Result<(Bodies, Vec<u32>), AllocError>
     requires few { length rules.now + length opened.now < 2 ^ 31 }
@@ -35,7 +38,7 @@ pub fn number(
     let mut places = Vec::new(alloc);
     for i in 0..rules.len() + opened.len() {
         let rule = rule_at(rules, opened, i);
-        let form = normal_form(alloc, &rule.body)?;
+        let form = normal_form(alloc, rule.body)?;
         let (more, place) = bodies.with(alloc, form)?;
         bodies = more;
         places.push(place)?;

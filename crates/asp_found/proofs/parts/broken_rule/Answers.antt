@@ -3,6 +3,7 @@ use Rattle.asp_model.specs.declared.program.Program.{Program}
 use Rattle.asp_model.specs.declared.program.Rule.{Rule}
 use Rattle.asp_model.specs.Sets.{Atoms}
 use Rattle.asp_model.specs.Models.{rules_in_force}
+use Rattle.asp_model.specs.Views.{rule_seen}
 use Rattle.asp_vars.specs.declared.nogood.Base.TheVariants as base
 use Rattle.asp_vars.specs.declared.nogood.Nogood.{Nogood}
 use Rattle.asp_vars.specs.Numbering.{var_of_body, nth_rule}
@@ -14,7 +15,7 @@ use Rattle.asp_found.proofs.parts.broken_rule.Goals as goal
 pub rule_nogood-requires-clause-stand : goal.rule_nogood-requires-clause-stand
 rule_nogood-requires-clause-stand c =
     let lt : c.loop-i.i < length (rules_in_force c.args.compiled.now) = omega (arith, c.loop-i-test.true, c.rule_count-i-end.ensures) in
-    item_stands c.args.compiled.now c.rule.result.now c.loop-i.i lt (rule_at c.args.compiled.now c.rule.result.now c.loop-i.i lt c.rule.ensures)
+    item_stands c.args.compiled.now (rule_seen c.rule.result) c.loop-i.i lt (rule_at c.args.compiled.now (rule_seen c.rule.result) c.loop-i.i lt c.rule.ensures)
 
 pub loop-i-preserved : goal.loop-i-preserved
 loop-i-preserved c =

@@ -3,5 +3,5 @@ use Rattle.asp_model.specs.Sets.{has}
 use Rattle.asp_settle.specs.Settled.{fact_of}
 use Rattle.asp_settle.proofs.facts.above.Given as goal
 
-abbrev pub invariant-loop-rule : goal.invariant-loop-rule
-invariant-loop-rule l = ((a : ℕ) → has (flat_map fact_of (take l.rule-index l.rules)) a ≡ true → a < l.above) × (l.above ≤ 4294967296)
+abbrev pub invariant-loop-i : goal.invariant-loop-i
+invariant-loop-i l = ((a : ℕ) → has (flat_map fact_of (take l.i l.rules)) a ≡ true → a < l.above) × (l.above ≤ 4294967296)

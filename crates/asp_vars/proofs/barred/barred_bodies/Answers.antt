@@ -2,6 +2,7 @@ use Rattle.std.proofs.Common.{◌<◌, ◌++◌, true, false, cond, ℕ, List, g
 use Rattle.std.specs.Prelude.{Bool}
 use Rattle.std.proofs.Math.ListN.{set}
 use Rattle.asp_model.specs.declared.program.Rule.{Rule}
+use Rattle.asp_model.specs.Views.{rule_seen}
 use Rattle.asp_model.specs.Models.{is_never}
 use Rattle.asp_vars.proofs.BarredLaws.{mark_length, mark_step}
 use Rattle.asp_vars.proofs.barred.barred_bodies.Goals as goal
@@ -11,7 +12,7 @@ loop-i-preserved c =
     let all : List Rule = c.args.rules.now ++ c.args.opened.now in
     let ns : List ℕ = c.args.places.now in
     let i : ℕ = c.loop-i.i in
-    let r : Rule = c.rule_at-rule.result.now in
+    let r : Rule = rule_seen c.rule_at-rule.result in
     let marks : List Bool = c.loop-i.marks.items in
     let total = length-append c.args.rules.now c.args.opened.now in
     let lt : i < length ns = c.loop-i-test.true in

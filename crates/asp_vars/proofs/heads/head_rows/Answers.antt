@@ -2,6 +2,7 @@ use Rattle.std.proofs.Common.{◌<◌, ◌++◌, [], ℕ, List, map, get_or, len
 use Rattle.std.proofs.Math.ListN.{set}
 use Rattle.std.proofs.lemmas.List.{length-set}
 use Rattle.asp_model.specs.declared.program.Rule.{Rule}
+use Rattle.asp_model.specs.Views.{rule_seen}
 use Rattle.asp_model.specs.Models.{head_atoms}
 use Rattle.asp_vars.specs.Numbering.{var_in}
 use Rattle.asp_vars.proofs.HeadLaws.{head_step}
@@ -12,7 +13,7 @@ loop-i-preserved c =
     let all : List Rule = c.args.rules.now ++ c.args.opened.now in
     let ns : List ℕ = c.args.places.now in
     let i : ℕ = c.loop-i.i in
-    let r : Rule = c.rule_at-rule.result.now in
+    let r : Rule = rule_seen c.rule_at-rule.result in
     let rows : List (List ℕ) = c.loop-i.heads in
     let total = length-append c.args.rules.now c.args.opened.now in
     let lt : i < length ns = c.loop-i-test.true in

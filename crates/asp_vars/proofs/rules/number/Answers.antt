@@ -1,6 +1,7 @@
 use Rattle.std.proofs.Common.{◌≡◌, ◌<◌, ◌++◌, ◌+◌, ◌∷◌, [], ℕ, List, map, length, get_or, take, ap, ◌∙◌, sym, arith, length-append}
 use Rattle.asp_model.specs.declared.program.Body.{Body}
 use Rattle.asp_model.specs.declared.program.Rule.{Rule}
+use Rattle.asp_model.specs.Views.{rule_seen}
 use Rattle.asp_vars.specs.Forms.{body_of}
 use Rattle.asp_vars.specs.Numbering.{body_eq, with_body, place_of}
 use Rattle.asp_vars.proofs.RuleLaws.{form, place_in, length_distinct, distinct_more, places_more}
@@ -18,7 +19,7 @@ pub loop-i-preserved : goal.loop-i-preserved
 loop-i-preserved c =
     let all : List Rule = c.args.rules.now ++ c.args.opened.now in
     let i : ℕ = c.loop-i.i in
-    let r : Rule = c.rule_at-rule.result.now in
+    let r : Rule = rule_seen c.rule_at-rule.result in
     let total = length-append c.args.rules.now c.args.opened.now in
     let lt : i < length all = omega (arith, total, c.loop-i-test.true) in
     let b : Body = form (get_or all i r) in

@@ -5,8 +5,9 @@ use Rattle.asp_worker.specs.declared.worker.Worker.{Worker}
 use Rattle.asp_book.specs.Calls.{Knows}
 use Rattle.asp_worker.specs.Seats.{IsQuietIf}
 use Rattle.asp_worker.specs.Working.{Ended}
-use Rattle.asp_worker.proofs.SeatLaws.{keeps-self, keeps-seat, keeps-trans, placed-ready, ready-seat, takes-some}
-use Rattle.asp_worker.proofs.GoingLaws.{goes-on}
+use Rattle.asp_worker.proofs.SeatLaws.{keeps-self, keeps-seat, keeps-trans, placed-ready, ready-placed, ready-seat, takes-none, takes-some}
+use Rattle.asp_worker.proofs.EndLaws.{tidy-small}
+use Rattle.asp_worker.proofs.GoingLaws.{goes-on, owes-of}
 use Rattle.asp_worker.proofs.OwnLaws.{quiet-later}
 use Rattle.asp_worker.proofs.work.search_paths.Goals as goal
 
@@ -64,3 +65,99 @@ returns-in-Left-clause-cause g c = inr (inr (subst (λ (x : Way). Ended (g.H.Hal
 
 pub returns-in-Short-clause-cause : goal.returns-in-Short-clause-cause
 returns-in-Short-clause-cause g c = inr (inl refl)
+
+pub returns-in-Err-clause-keeps : goal.returns-in-Err-clause-keeps
+returns-in-Err-clause-keeps g c =
+    let h : Worker = c.paths.worker in let k : Worker = record h { seat = c.find.new.seat; lane = c.find.new.lane; pass = c.find.new.pass } in
+    keeps-trans c.args.worker.now h k c.paths.invariant.keeps (keeps-seat c.args.shared.now h k c.paths.invariant.ready c.find.ensures.of c.find.ensures.passes.stays refl refl)
+
+pub returns-in-Err-clause-placed : goal.returns-in-Err-clause-placed
+returns-in-Err-clause-placed g c =
+    let h : Worker = c.paths.worker in let k : Worker = record h { seat = c.find.new.seat; lane = c.find.new.lane; pass = c.find.new.pass } in
+    ready-placed c.args.shared.now k (ready-seat c.args.shared.now h k c.paths.invariant.ready (keeps-seat c.args.shared.now h k c.paths.invariant.ready c.find.ensures.of c.find.ensures.passes.stays refl refl) c.find.ensures.pool c.find.ensures.passes.lawful)
+
+pub returns-in-Err-clause-free : goal.returns-in-Err-clause-free
+returns-in-Err-clause-free g c =
+    c.in-Err.ensures.takes
+
+pub returns-in-Err-clause-owes : goal.returns-in-Err-clause-owes
+returns-in-Err-clause-owes g c =
+    owes-of (goes-on c.args.shared.now.mode (view c.paths.worker.seat) (view c.find.new.seat) c.paths.engine.search c.paths.engine.fuel c.paths.invariant.going c.find.ensures.passes)
+
+pub returns-in-Err-clause-small : goal.returns-in-Err-clause-small
+returns-in-Err-clause-small g c =
+    let h : Worker = c.paths.worker in let k : Worker = record h { seat = c.find.new.seat; lane = c.find.new.lane; pass = c.find.new.pass } in
+    tidy-small (view k.seat) (ready-seat c.args.shared.now h k c.paths.invariant.ready (keeps-seat c.args.shared.now h k c.paths.invariant.ready c.find.ensures.of c.find.ensures.passes.stays refl refl) c.find.ensures.pool c.find.ensures.passes.lawful).tidy
+
+pub returns-in-Err-clause-heard : goal.returns-in-Err-clause-heard
+returns-in-Err-clause-heard g c =
+    c.paths.invariant.heard
+
+pub returns-in-None-found-clause-keeps : goal.returns-in-None-found-clause-keeps
+returns-in-None-found-clause-keeps g c =
+    let h : Worker = c.paths.worker in let k : Worker = record h { seat = c.find.new.seat; lane = c.find.new.lane; pass = c.find.new.pass } in
+    keeps-trans c.args.worker.now h k c.paths.invariant.keeps (keeps-seat c.args.shared.now h k c.paths.invariant.ready c.find.ensures.of c.find.ensures.passes.stays refl refl)
+
+pub returns-in-None-found-clause-placed : goal.returns-in-None-found-clause-placed
+returns-in-None-found-clause-placed g c =
+    let h : Worker = c.paths.worker in let k : Worker = record h { seat = c.find.new.seat; lane = c.find.new.lane; pass = c.find.new.pass } in
+    ready-placed c.args.shared.now k (ready-seat c.args.shared.now h k c.paths.invariant.ready (keeps-seat c.args.shared.now h k c.paths.invariant.ready c.find.ensures.of c.find.ensures.passes.stays refl refl) c.find.ensures.pool c.find.ensures.passes.lawful)
+
+pub returns-in-None-found-clause-free : goal.returns-in-None-found-clause-free
+returns-in-None-found-clause-free g c =
+    takes-none (view c.find.new.seat) c.in-Ok.found c.in-Ok.ensures.takes c.in-None-found.is
+
+pub returns-in-None-found-clause-owes : goal.returns-in-None-found-clause-owes
+returns-in-None-found-clause-owes g c =
+    owes-of (goes-on c.args.shared.now.mode (view c.paths.worker.seat) (view c.find.new.seat) c.paths.engine.search c.paths.engine.fuel c.paths.invariant.going c.find.ensures.passes)
+
+pub returns-in-None-found-clause-small : goal.returns-in-None-found-clause-small
+returns-in-None-found-clause-small g c =
+    let h : Worker = c.paths.worker in let k : Worker = record h { seat = c.find.new.seat; lane = c.find.new.lane; pass = c.find.new.pass } in
+    tidy-small (view k.seat) (ready-seat c.args.shared.now h k c.paths.invariant.ready (keeps-seat c.args.shared.now h k c.paths.invariant.ready c.find.ensures.of c.find.ensures.passes.stays refl refl) c.find.ensures.pool c.find.ensures.passes.lawful).tidy
+
+pub returns-in-None-found-clause-heard : goal.returns-in-None-found-clause-heard
+returns-in-None-found-clause-heard g c =
+    c.paths.invariant.heard
+
+pub returns-in-Left-clause-keeps : goal.returns-in-Left-clause-keeps
+returns-in-Left-clause-keeps g c =
+    let h : Worker = c.paths.worker in let k : Worker = record h { seat = c.find.new.seat; lane = c.find.new.lane; pass = c.find.new.pass } in
+    keeps-trans c.args.worker.now k c.try_path.new.worker (keeps-trans c.args.worker.now h k c.paths.invariant.keeps (keeps-seat c.args.shared.now h k c.paths.invariant.ready c.find.ensures.of c.find.ensures.passes.stays refl refl)) c.try_path.ensures.keeps
+
+pub returns-in-Left-clause-placed : goal.returns-in-Left-clause-placed
+returns-in-Left-clause-placed g c =
+    c.try_path.ensures.placed
+
+pub returns-in-Left-clause-free : goal.returns-in-Left-clause-free
+returns-in-Left-clause-free g c =
+    c.try_path.ensures.free
+
+pub returns-in-Left-clause-owes : goal.returns-in-Left-clause-owes
+returns-in-Left-clause-owes g c =
+    c.try_path.ensures.owes
+
+pub returns-in-Left-clause-small : goal.returns-in-Left-clause-small
+returns-in-Left-clause-small g c =
+    c.try_path.ensures.small
+
+pub returns-in-Short-clause-keeps : goal.returns-in-Short-clause-keeps
+returns-in-Short-clause-keeps g c =
+    let h : Worker = c.paths.worker in let k : Worker = record h { seat = c.find.new.seat; lane = c.find.new.lane; pass = c.find.new.pass } in
+    keeps-trans c.args.worker.now k c.try_path.new.worker (keeps-trans c.args.worker.now h k c.paths.invariant.keeps (keeps-seat c.args.shared.now h k c.paths.invariant.ready c.find.ensures.of c.find.ensures.passes.stays refl refl)) c.try_path.ensures.keeps
+
+pub returns-in-Short-clause-placed : goal.returns-in-Short-clause-placed
+returns-in-Short-clause-placed g c =
+    c.try_path.ensures.placed
+
+pub returns-in-Short-clause-free : goal.returns-in-Short-clause-free
+returns-in-Short-clause-free g c =
+    c.try_path.ensures.free
+
+pub returns-in-Short-clause-owes : goal.returns-in-Short-clause-owes
+returns-in-Short-clause-owes g c =
+    c.try_path.ensures.owes
+
+pub returns-in-Short-clause-small : goal.returns-in-Short-clause-small
+returns-in-Short-clause-small g c =
+    c.try_path.ensures.small

@@ -14,7 +14,7 @@ returns c =
     let old = c.as_mut_slice.ensures.value ∙ c.in_ok-flags.ensures in
     let new = c.mark.ensures ∙ ap (λ f. with_flags false (with_flags true f (flat_map fact_of p.rules)) (needed p)) old in
     let Reaches : List Rule → Type 0 = λ rs. (a : ℕ) → has (flat_map fact_of rs) a ≡ true → nat_lt a c.places.result ≡ nat_lt a (16 * (length rs + 1)) in
-    let within = subst Reaches c.as_slice.ensures.value c.places.ensures.reaches in
+    let within : Reaches p.rules = c.places.ensures.reaches in
     let count = ap length c.mark.ensures ∙ length-flags false (with_flags true c.as_mut_slice.result.now (flat_map fact_of p.rules)) (needed p) ∙ length-flags true c.as_mut_slice.result.now (flat_map fact_of p.rules) ∙ ap length c.as_mut_slice.ensures.value ∙ sym c.in_ok-flags.flags.ok.0 in
     ap (places_from 0) (take_at c.mark.new.flags (drop (length c.mark.new.flags) items) c.in_ok-flags.flags.len count ∙ new)
     ∙ table-is c.places.result (reach p) (flat_map fact_of p.rules) (needed p) within

@@ -24,13 +24,13 @@ pub returns : goal.returns
 returns c =
     let p : Program = c.self.inside.program in
     let marks : List Bool = c.in_ok-list.list.items in
-    let all : c.as_slice-rules.result.now ++ c.as_slice-opened.result.now ≡ rules_in_force p =
-    ap (λ (rs : List Rule). rs ++ c.as_slice-opened.result.now) c.as_slice-rules.ensures.value ∙ ap (λ (rs : List Rule). p.rules ++ rs) (c.as_slice-opened.ensures.value ∙ c.self.invariant.opened) in
+    let all : p.rules ++ c.as_slice-opened.result.now ≡ rules_in_force p =
+    ap (λ (rs : List Rule). p.rules ++ rs) (c.as_slice-opened.ensures.value ∙ c.self.invariant.opened) in
     let places : c.as_slice-places.result.now ≡ map (rule_place p) (rules_in_force p) = c.as_slice-places.ensures.value ∙ c.self.invariant.places in
     let count : length c.forms-count.result.now ≡ length (bodies_of p) = sym (length-map c.forms-count.result.now body_of) ∙ ap length (c.forms-count.ensures ∙ c.self.invariant.bodies) in
-    let first : AreBarred marks (length (bodies_of p)) c.as_slice-places.result.now (c.as_slice-rules.result.now ++ c.as_slice-opened.result.now) =
-    subst (λ (n : ℕ). AreBarred marks n c.as_slice-places.result.now (c.as_slice-rules.result.now ++ c.as_slice-opened.result.now)) count c.in_ok-list.ensures in
-    let second : AreBarred marks (length (bodies_of p)) (map (rule_place p) (rules_in_force p)) (c.as_slice-rules.result.now ++ c.as_slice-opened.result.now) =
-    subst (λ (js : List ℕ). AreBarred marks (length (bodies_of p)) js (c.as_slice-rules.result.now ++ c.as_slice-opened.result.now)) places first in
+    let first : AreBarred marks (length (bodies_of p)) c.as_slice-places.result.now (p.rules ++ c.as_slice-opened.result.now) =
+    subst (λ (n : ℕ). AreBarred marks n c.as_slice-places.result.now (p.rules ++ c.as_slice-opened.result.now)) count c.in_ok-list.ensures in
+    let second : AreBarred marks (length (bodies_of p)) (map (rule_place p) (rules_in_force p)) (p.rules ++ c.as_slice-opened.result.now) =
+    subst (λ (js : List ℕ). AreBarred marks (length (bodies_of p)) js (p.rules ++ c.as_slice-opened.result.now)) places first in
     barred_are p marks (subst (λ (rs : List Rule). AreBarred marks (length (bodies_of p)) (map (rule_place p) (rules_in_force p)) rs) all second)
     ∙ ap (λ (q : Program). map (is_barred q) (bodies_of q)) c.self.view_is
