@@ -2,6 +2,7 @@
 ghost use Rattle.std.specs.Prelude.{◌≡◌, IfOk};
 ghost use Rattle.asp_model.specs.Sound.{IsSound};
 
+use asp_model::outputs::Outputs;
 use asp_model::program::{Minimize, Program};
 use asp_model::rules::Rules;
 use asp_model::seq::Seq;
@@ -29,10 +30,11 @@ pub fn prices(alloc: Global, program: &Program) -> Result<Program, AllocError>
 {
     let minimize = copied(alloc, program.minimize.as_slice())?;
     let rules = Rules::new(alloc)?;
+    let outputs = Outputs::new(alloc)?;
     Ok(Program {
         rules,
         minimize: Seq::from_vec(minimize),
-        outputs: Seq::from_vec(Vec::new(alloc)),
+        outputs,
         externals: Seq::from_vec(Vec::new(alloc)),
         assumptions: Seq::from_vec(Vec::new(alloc)),
     })

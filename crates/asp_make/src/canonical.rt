@@ -2,7 +2,7 @@
 ghost use Rattle.std.specs.Prelude.{◌≡◌, ◌++◌, IfOk, OnOk};
 ghost use Rattle.asp_make.specs.Texts.{assumptions_line, parts_text, text_of};
 
-use crate::written::{write_counted, write_each, write_rules};
+use crate::written::{write_counted, write_each, write_outputs, write_rules};
 use asp_model::program::Program;
 use asp_model::seq::Seq;
 use std::alloc::{AllocError, Global};
@@ -30,7 +30,7 @@ pub fn emit(alloc: Global, program: &Program) -> Result<Vec<u8>, AllocError>
     out.extend_from_slice(b"asp 1 0 0\n")?;
     write_rules(&program.rules, &mut out)?;
     write_each(program.minimize.as_slice(), &mut out)?;
-    write_each(program.outputs.as_slice(), &mut out)?;
+    write_outputs(&program.outputs, &mut out)?;
     write_each(program.externals.as_slice(), &mut out)?;
     write_assumptions(program.assumptions.as_slice(), &mut out)?;
     out.extend_from_slice(b"0\n")?;

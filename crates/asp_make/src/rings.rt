@@ -3,6 +3,7 @@ ghost use Rattle.std.specs.Prelude.{◌≡◌, ◌≤◌, ◌<◌, ◌++◌, ◌
 ghost use Rattle.asp_model.specs.Sound.{IsSound};
 ghost use Rattle.asp_make.specs.Ring.{any_colours, atoms_of_node, coloured, each_below, edge_rules, first_colours, never, node_rules, not_both, ring, some_of};
 
+use asp_model::outputs::Outputs;
 use asp_model::program::{Atom, Body, Head, Minimize, Program, Rule};
 use asp_model::rules::Rules;
 use asp_model::seq::Seq;
@@ -160,12 +161,13 @@ fn assembled(alloc: Global, nodes: u32) -> Result<Program, AllocError>
     push_nodes(alloc, &mut rules, nodes)?;
     push_edges(alloc, &mut rules, nodes)?;
     let rules = Rules::from_slice(alloc, rules.as_slice())?;
+    let outputs = Outputs::new(alloc)?;
     let mut minimize = Vec::new(alloc);
     minimize.push(first_colours(alloc, nodes)?)?;
     Ok(Program {
         rules,
         minimize: Seq::from_vec(minimize),
-        outputs: Seq::from_vec(Vec::new(alloc)),
+        outputs,
         externals: Seq::from_vec(Vec::new(alloc)),
         assumptions: Seq::from_vec(Vec::new(alloc)),
     })

@@ -1,10 +1,11 @@
 //! Texts of fields and statements, appended one by one.
 ghost use Rattle.std.specs.Prelude.{◌≡◌, ◌++◌, ◌∷◌, List, ℕ, flat_map, OnOk};
-ghost use Rattle.asp_model.specs.Views.{head_seen, body_seen, rule_seen};
+ghost use Rattle.asp_model.specs.Views.{head_seen, body_seen, rule_seen, output_seen};
 ghost use Rattle.asp_make.specs.Texts.{natural_field, integer_field, weighted_fields, counted_fields, head_fields, body_fields, external_field};
 ghost use Rattle.asp_make.specs.Texts.{assumptions_text, line, rule_text, minimize_text, output_text, external_text};
 
-use asp_model::program::{External, ExternalValue, Minimize, Output};
+use asp_model::outputs::{OutputView, Outputs};
+use asp_model::program::{External, ExternalValue, Minimize};
 use asp_model::rules::Rules;
 use asp_model::seq::Seq;
 use asp_model::view::{BodyView, HeadView, RuleView};
@@ -148,18 +149,27 @@ impl Written for Minimize {
     }
 }
 
-impl Written for Output {
-    ghost text = { λ o. line (output_text o) };
+// Appends an output in a line of its own.
+fn write_output(output: OutputView<'_>, out: &mut Vec<u8>) -> Result<(), AllocError>
+    ensures { OnOk result (out.new.items ≡ out.old.items ++ line (output_text (output_seen output.entry))) }
+{
+    let text = output.text;
+    out.extend_from_slice(b"4")?;
+    write_number(text.len(), out)?;
+    out.extend_from_slice(b" ")?;
+    out.extend_from_slice(text)?;
+    write_counted(output.condition, out)?;
+    out.extend_from_slice(b"\n")
+}
 
-    fn write(&self, out: &mut Vec<u8>) -> Result<(), AllocError> {
-        let text = self.text.as_slice();
-        out.extend_from_slice(b"4")?;
-        write_number(text.len(), out)?;
-        out.extend_from_slice(b" ")?;
-        out.extend_from_slice(text)?;
-        write_counted(self.condition.as_slice(), out)?;
-        out.extend_from_slice(b"\n")
+/// Appends outputs, each in a line of its own.
+pub fn write_outputs(outputs: &Outputs, out: &mut Vec<u8>) -> Result<(), AllocError>
+    ensures { OnOk result (out.new.items ≡ out.old.items ++ flat_map (λ o. line (output_text o)) outputs.now) }
+{
+    for i in 0..outputs.len() {
+        write_output(outputs.output(i), out)?;
     }
+    Ok(())
 }
 
 impl Written for External {

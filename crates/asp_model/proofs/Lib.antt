@@ -16,4 +16,6 @@ pub mod WalkLaws
 pub mod BestLaws
 pub mod AboveLaws
 pub mod ConsequenceLaws
+pub mod ZippedLaws
 pub mod StoredLaws
+pub mod OutputLaws

@@ -11,44 +11,21 @@ use Rattle.asp_model.specs.declared.extras.HeadMark.TheVariants as head_mark
 use Rattle.asp_model.specs.declared.extras.Mark.{Mark}
 use Rattle.asp_model.specs.declared.extras.Mark.TheVariants as mark
 use Rattle.asp_model.specs.declared.extras.Weighted.{Weighted}
+use Rattle.asp_model.proofs.ZippedLaws.{length-zipped, length-second, first_at, zipped-at, zipped-push, AreZipped-push, zipped-same, AreZipped-weaker}
 use Rattle.asp_model.specs.Stored.{head_of, weighted_in, weighted_rule, rule_of, rules_of, IsHeadStored, IsWeightedStored, IsStored, AreStored, Keeps}
 
 -- ---- rules by their places
 pub length-rules_of : (e : Extras) (ms : List Mark) (rows : List (List ℤ)) → AreStored e ms rows → length (rules_of e ms rows) ≡ length ms
-length-rules_of e [] rows s = refl
-length-rules_of e (m ∷ ms) [] s = absurd s
-length-rules_of e (m ∷ ms) (row ∷ rows) s = ap suc (length-rules_of e ms rows s.1)
+length-rules_of e = length-zipped (IsStored e) (rule_of e)
 
 pub length-rows : (e : Extras) (ms : List Mark) (rows : List (List ℤ)) → AreStored e ms rows → length rows ≡ length ms
-length-rows e [] [] s = refl
-length-rows e [] (row ∷ rows) s = absurd s
-length-rows e (m ∷ ms) [] s = absurd s
-length-rows e (m ∷ ms) (row ∷ rows) s = ap suc (length-rows e ms rows s.1)
+length-rows e = length-second (IsStored e)
 
 pub stored_at : (e : Extras) (ms : List Mark) (rows : List (List ℤ)) (i : ℕ) (m : Mark) → AreStored e ms rows → i < length ms → IsStored e (get_or ms i m)
-stored_at e [] rows i m s lt = absurd (omega arith)
-stored_at e (n ∷ ms) [] i m s lt = absurd s
-stored_at e (n ∷ ms) (row ∷ rows) zero m s lt = s.0
-stored_at e (n ∷ ms) (row ∷ rows) (suc i) m s lt = stored_at e ms rows i m s.1 (omega arith)
+stored_at e = first_at (IsStored e)
 
 pub rules_of-at : (e : Extras) (ms : List Mark) (rows : List (List ℤ)) (i : ℕ) (m : Mark) (r : Rule) → AreStored e ms rows → i < length ms → get_or (rules_of e ms rows) i r ≡ rule_of e (get_or ms i m) (get_or rows i [])
-rules_of-at e [] rows i m r s lt = absurd (omega arith)
-rules_of-at e (n ∷ ms) [] i m r s lt = absurd s
-rules_of-at e (n ∷ ms) (row ∷ rows) zero m r s lt = refl
-rules_of-at e (n ∷ ms) (row ∷ rows) (suc i) m r s lt = rules_of-at e ms rows i m r s.1 (omega arith)
-
--- ---- a rule more
-pub rules_of-push : (e : Extras) (ms : List Mark) (rows : List (List ℤ)) (m : Mark) (row : List ℤ) → AreStored e ms rows → rules_of e (ms ++ m ∷ []) (rows ++ row ∷ []) ≡ rules_of e ms rows ++ rule_of e m row ∷ []
-rules_of-push e [] [] m row s = refl
-rules_of-push e [] (first ∷ rows) m row s = absurd s
-rules_of-push e (n ∷ ms) [] m row s = absurd s
-rules_of-push e (n ∷ ms) (first ∷ rows) m row s = ap (λ rs. rule_of e n first ∷ rs) (rules_of-push e ms rows m row s.1)
-
-pub stored-push : (e : Extras) (ms : List Mark) (rows : List (List ℤ)) (m : Mark) (row : List ℤ) → AreStored e ms rows → IsStored e m → AreStored e (ms ++ m ∷ []) (rows ++ row ∷ [])
-stored-push e [] [] m row s one = (one, tt)
-stored-push e [] (first ∷ rows) m row s one = absurd s
-stored-push e (n ∷ ms) [] m row s one = absurd s
-stored-push e (n ∷ ms) (first ∷ rows) m row s one = (s.0, stored-push e ms rows m row s.1 one)
+rules_of-at e ms rows i m r = zipped-at (IsStored e) (rule_of e) ms rows i m [] r
 
 -- a fact that holds whatever the result is
 pub on_err : {T E Q : Type 0} (r : Result T E) → Q → OnErr r Q
@@ -56,19 +33,11 @@ on_err (Ok x) q = tt
 on_err (Err e) q = q
 
 -- ---- where more is stored
-pub rules_of-keeps : (d e : Extras) (ms : List Mark) (rows : List (List ℤ)) → Keeps d e → AreStored d ms rows → rules_of e ms rows ≡ rules_of d ms rows
-rules_of-keeps d e [] rows k s = refl
-rules_of-keeps d e (m ∷ ms) [] k s = absurd s
-rules_of-keeps d e (m ∷ ms) (row ∷ rows) k s =
-    let first = (k.rules m row s.0).1 in
-    let rest = rules_of-keeps d e ms rows k s.1 in
-    λ i. first i ∷ rest i
+rules_of-keeps : (d e : Extras) (ms : List Mark) (rows : List (List ℤ)) → Keeps d e → AreStored d ms rows → rules_of e ms rows ≡ rules_of d ms rows
+rules_of-keeps d e ms rows k = zipped-same (IsStored d) (rule_of d) (rule_of e) ms rows (λ m row s. (k.rules m row s).1)
 
-pub stored-keeps : (d e : Extras) (ms : List Mark) (rows : List (List ℤ)) → Keeps d e → AreStored d ms rows → AreStored e ms rows
-stored-keeps d e [] [] k s = tt
-stored-keeps d e [] (row ∷ rows) k s = absurd s
-stored-keeps d e (m ∷ ms) [] k s = absurd s
-stored-keeps d e (m ∷ ms) (row ∷ rows) k s = ((k.rules m row s.0).0, stored-keeps d e ms rows k s.1)
+stored-keeps : (d e : Extras) (ms : List Mark) (rows : List (List ℤ)) → Keeps d e → AreStored d ms rows → AreStored e ms rows
+stored-keeps d e ms rows k = AreZipped-weaker (IsStored d) (IsStored e) ms rows (λ m s. (k.rules m [] s).0)
 
 -- after a call that gave up, and after one that added a rule
 pub rules_kept : (d e : Extras) (ms ns : List Mark) (rows others : List (List ℤ)) → Keeps d e → AreStored d ms rows → ns ≡ ms → others ≡ rows → AreStored e ns others × (rules_of e ns others ≡ rules_of d ms rows)
@@ -80,10 +49,10 @@ rules_kept d e ms ns rows others k s marks_are rows_are = (
 pub rules_more : (d e : Extras) (ms ns : List Mark) (rows others : List (List ℤ)) (m : Mark) (row : List ℤ) → Keeps d e → AreStored d ms rows → IsStored e m → ns ≡ ms ++ m ∷ [] → others ≡ rows ++ row ∷ [] → AreStored e ns others × (rules_of e ns others ≡ rules_of d ms rows ++ rule_of e m row ∷ [])
 rules_more d e ms ns rows others m row k s one marks_are rows_are =
     let stored = stored-keeps d e ms rows k s in (
-      subst (λ (xs : List Mark). AreStored e xs others) (sym marks_are) (subst (λ (ys : List (List ℤ)). AreStored e (ms ++ m ∷ []) ys) (sym rows_are) (stored-push e ms rows m row stored one)),
+      subst (λ (xs : List Mark). AreStored e xs others) (sym marks_are) (subst (λ (ys : List (List ℤ)). AreStored e (ms ++ m ∷ []) ys) (sym rows_are) (AreZipped-push (IsStored e) ms rows m row stored one)),
       ap (λ (xs : List Mark). rules_of e xs others) marks_are
           ∙ ap (λ (ys : List (List ℤ)). rules_of e (ms ++ m ∷ []) ys) rows_are
-          ∙ rules_of-push e ms rows m row stored
+          ∙ zipped-push (IsStored e) (rule_of e) ms rows m row stored
           ∙ ap (λ (rs : List Rule). rs ++ rule_of e m row ∷ []) (rules_of-keeps d e ms rows k s),
     )
 

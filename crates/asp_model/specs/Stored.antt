@@ -3,6 +3,7 @@ use Rattle.std.specs.Prelude.{◌≡◌, ℕ, ℤ, pos, ◌<◌, List, [], ◌�
 use Rattle.asp_model.specs.declared.program.Body.TheVariants as body
 use Rattle.asp_model.specs.declared.program.Head.{Head}
 use Rattle.asp_model.specs.declared.program.Head.TheVariants as head
+use Rattle.asp_model.specs.declared.program.Output.{Output}
 use Rattle.asp_model.specs.declared.program.Rule.{Rule}
 use Rattle.asp_model.specs.declared.extras.Extras.{Extras}
 use Rattle.asp_model.specs.declared.extras.HeadMark.{HeadMark}
@@ -11,6 +12,20 @@ use Rattle.asp_model.specs.declared.extras.Mark.{Mark}
 use Rattle.asp_model.specs.declared.extras.Mark.TheVariants as mark
 use Rattle.asp_model.specs.declared.extras.Weighted.{Weighted}
 
+-- ---- two lists, place by place
+abbrev pub zipped : {M R X : Type 0} → (M → R → X) → List M → List R → List X
+zipped f [] rs = []
+zipped f (m ∷ ms) [] = []
+zipped f (m ∷ ms) (r ∷ rs) = f m r ∷ zipped f ms rs
+
+-- The first list's are as they should be, and the lists are of one length.
+abbrev pub AreZipped : {M R : Type 0} → (M → Type 0) → List M → List R → Type 0
+AreZipped P [] [] = Unit {0}
+AreZipped P [] (r ∷ rs) = ⊥
+AreZipped P (m ∷ ms) [] = ⊥
+AreZipped P (m ∷ ms) (r ∷ rs) = P m × AreZipped P ms rs
+
+-- ---- rules
 abbrev pub mark_of : HeadMark → Mark
 mark_of (head_mark.One a) = mark.One a
 mark_of (head_mark.Choice row) = mark.Choice row
@@ -37,9 +52,7 @@ rule_of e (mark.Weighted k) literals = weighted_rule e k
 
 -- each with the row of literals at its place
 abbrev pub rules_of : Extras → List Mark → List (List ℤ) → List Rule
-rules_of e [] rows = []
-rules_of e (m ∷ ms) [] = []
-rules_of e (m ∷ ms) (row ∷ rows) = rule_of e m row ∷ rules_of e ms rows
+rules_of e ms rows = zipped (rule_of e) ms rows
 
 -- ---- what marks point to is there
 abbrev pub IsHeadStored : Extras → HeadMark → Type 0
@@ -60,12 +73,19 @@ IsStored e (mark.Weighted k) = IsWeightedStored e k
 
 -- All marks have their rows.
 abbrev pub AreStored : Extras → List Mark → List (List ℤ) → Type 0
-AreStored e [] [] = Unit {0}
-AreStored e [] (row ∷ rows) = ⊥
-AreStored e (m ∷ ms) [] = ⊥
-AreStored e (m ∷ ms) (row ∷ rows) = IsStored e m × AreStored e ms rows
+AreStored e ms rows = AreZipped (IsStored e) ms rows
 
 -- What is stored in d is in e too, and says the same.
 pub record Keeps (d e : Extras) : Type 0 where
   pub heads : (m : HeadMark) → IsHeadStored d m → IsHeadStored e m × (head_of e m ≡ head_of d m)
   pub rules : (m : Mark) (literals : List ℤ) → IsStored d m → IsStored e m × (rule_of e m literals ≡ rule_of d m literals)
+
+-- ---- outputs, each with the row of its condition
+abbrev pub output_of : List (List ℤ) → ℕ → List ℕ → Output
+output_of conditions k text = record { text = text; condition = slice_index_or conditions k [] }
+
+abbrev pub outputs_of : List (List ℤ) → List ℕ → List (List ℕ) → List Output
+outputs_of conditions ks texts = zipped (output_of conditions) ks texts
+
+abbrev pub AreOutputsStored : List (List ℤ) → List ℕ → List (List ℕ) → Type 0
+AreOutputsStored conditions ks texts = AreZipped (λ k. k < length conditions) ks texts

@@ -5,6 +5,8 @@ use Rattle.asp_model.specs.declared.program.Body.TheVariants as body
 use Rattle.asp_model.specs.declared.program.Head.{Head}
 use Rattle.asp_model.specs.declared.program.Head.TheVariants as head
 use Rattle.asp_model.specs.declared.program.Rule.{Rule}
+use Rattle.asp_model.specs.declared.program.Output.{Output}
+use Rattle.asp_model.specs.declared.outputs.OutputView.{OutputView}
 use Rattle.asp_model.specs.declared.view.BodyView.{BodyView}
 use Rattle.asp_model.specs.declared.view.BodyView.TheVariants as body_view
 use Rattle.asp_model.specs.declared.view.HeadView.{HeadView}
@@ -27,3 +29,6 @@ rule_seen v = record { head = head_seen v.head; body = body_seen v.body }
 abbrev pub literals_seen : BodyView → List ℤ
 literals_seen (body_view.All literals) = literals.now
 literals_seen (body_view.AtLeast bound items) = []
+
+abbrev pub output_seen : OutputView → Output
+output_seen v = record { text = v.text.now; condition = v.condition.now }

@@ -4,6 +4,7 @@ ghost use Rattle.asp_model.specs.declared.program.Body.TheVariants as body;
 ghost use Rattle.asp_model.specs.Views.{head_seen, rule_seen, literals_seen};
 ghost use Rattle.asp_model.specs.Stored.{head_of, mark_of, rule_of, weighted_rule, IsHeadStored, IsStored, IsWeightedStored, Keeps};
 
+use crate::narrow::narrow;
 use crate::program::Atom;
 use crate::view::{BodyView, HeadView, RuleView};
 use asp_table::table::Table;
@@ -53,16 +54,6 @@ pub struct Extras {
     pub weighted: Vec<Weighted>,
     /// Literals with their weights.
     pub items: Table<(i32, i32)>,
-}
-
-// The number as a mark has it, if it isn't too large.
-fn narrow(n: usize) -> Result<u32, AllocError>
-    ensures { IfOk result (λ k. k ≡ n) }
-{
-    match u32::try_from(n) {
-        Ok(k) => Ok(k),
-        Err(_) => Err(AllocError),
-    }
 }
 
 // The mark of a rule over literals.

@@ -6,6 +6,7 @@ ghost use Rattle.asp_rows.specs.Listed.{AreRows};
 ghost use Rattle.asp_print.specs.Rows.{IsRowAmong, IsTableOf};
 ghost use Rattle.std.specs.List.{join_with_byte};
 ghost use Rattle.asp_model.specs.Holding.{all_hold};
+ghost use Rattle.asp_model.specs.Views.{output_seen};
 ghost use Rattle.asp_model.specs.Texts.{answer_lines, answers_from, ended_line, shown};
 ghost use Rattle.asp_buffer.specs.Out.{Puts, out};
 ghost use Rattle.asp_print.specs.Shown.{piece, pieces, separator};
@@ -15,7 +16,8 @@ use crate::outputs::OutputTable;
 use asp_buffer::{Waiting, put, put_number};
 use asp_io::{Failed, Sink};
 use asp_model::interp::Interp;
-use asp_model::program::{Atom, Output, Program};
+use asp_model::outputs::{OutputView, Outputs};
+use asp_model::program::{Atom, Program};
 use asp_rows::row::Row;
 use asp_rows::rows::Rows;
 use std::alloc::Global;
@@ -49,16 +51,16 @@ fn put_if_shown<K: Sink, A: Answer>(
     sink: &mut K,
     waiting: &mut Waiting,
     answer: &A,
-    output: &Output,
+    output: OutputView<'_>,
     any: bool,
 ) -> Result<bool, Failed>
     requires { A.is_sound answer.now }
     ensures puts { Puts (out (K.held sink.old) (K.faults sink.old) waiting.old)
-        (out (K.held sink.new) (K.faults sink.new) waiting.new) result (piece (A.set answer.now) any output.now) }
-    ensures any { IfOk result (λ now. now ≡ (any || all_hold (A.set answer.now) output.now.condition)) }
+        (out (K.held sink.new) (K.faults sink.new) waiting.new) result (piece (A.set answer.now) any (output_seen output.entry)) }
+    ensures any { IfOk result (λ now. now ≡ (any || all_hold (A.set answer.now) (output_seen output.entry).condition)) }
 {
-    if all_hold(answer, output.condition.as_slice()) {
-        put_text(sink, waiting, output.text.as_slice(), any)?;
+    if all_hold(answer, output.condition) {
+        put_text(sink, waiting, output.text, any)?;
         return Ok(true);
     }
     Ok(any)
@@ -69,7 +71,7 @@ fn put_texts<K: Sink, A: Answer>(
     sink: &mut K,
     waiting: &mut Waiting,
     answer: &A,
-    outputs: &[Output],
+    outputs: &Outputs,
 ) -> Result<(), Failed>
     requires { A.is_sound answer.now }
     ensures { Puts (out (K.held sink.old) (K.faults sink.old) waiting.old)
@@ -77,8 +79,8 @@ fn put_texts<K: Sink, A: Answer>(
         (pieces (A.set answer.now) false outputs.now) }
 {
     let mut any = false;
-    for output in outputs {
-        any = put_if_shown(sink, waiting, answer, output, any)?;
+    for i in 0..outputs.len() {
+        any = put_if_shown(sink, waiting, answer, outputs.output(i), any)?;
     }
     Ok(())
 }
@@ -89,7 +91,7 @@ fn put_runs<K: Sink>(
     waiting: &mut Waiting,
     atoms: &[Atom],
     row: &Row,
-    outputs: &[Output],
+    outputs: &Outputs,
     table: &OutputTable,
 ) -> Result<(), Failed>
     requires row { IsRowAmong atoms.now row.now }
@@ -126,7 +128,7 @@ fn put_line<K: Sink>(
     waiting: &mut Waiting,
     atoms: &[Atom],
     row: &Row,
-    outputs: &[Output],
+    outputs: &Outputs,
     table: Option<&OutputTable>,
 ) -> Result<(), Failed>
     requires row { IsRowAmong atoms.now row.now }
@@ -156,7 +158,7 @@ fn put_shown<K: Sink>(
         (out (K.held sink.new) (K.faults sink.new) waiting.new) result
         (ended_line (join_with_byte 32 (shown program.now row.now.set))) }
 {
-    put_line(sink, waiting, atoms, row, program.outputs.as_slice(), table)?;
+    put_line(sink, waiting, atoms, row, &program.outputs, table)?;
     put(sink, waiting, b"\n")
 }
 
@@ -190,7 +192,7 @@ fn put_set_shown<K: Sink>(
         (out (K.held sink.new) (K.faults sink.new) waiting.new) result
         (ended_line (join_with_byte 32 (shown program.now set.now))) }
 {
-    put_texts(sink, waiting, set, program.outputs.as_slice())?;
+    put_texts(sink, waiting, set, &program.outputs)?;
     put(sink, waiting, b"\n")
 }
 
@@ -234,12 +236,7 @@ fn put_each<K: Sink>(
 }
 
 // The table of the outputs, where it is worth its while and memory isn't wanting.
-fn table_of(
-    alloc: Global,
-    atoms: &[Atom],
-    outputs: &[Output],
-    answers: usize,
-) -> Option<OutputTable>
+fn table_of(alloc: Global, atoms: &[Atom], outputs: &Outputs, answers: usize) -> Option<OutputTable>
     requires { IsAscending atoms.now }
     ensures { IfSome result (IsTableOf atoms.now outputs.now) }
 {
@@ -262,7 +259,7 @@ pub(crate) fn put_answers<K: Sink>(
         (answers_from program.now 1 answers.now.sets) }
 {
     let atoms = answers.atoms().as_slice();
-    let table = table_of(alloc, atoms, program.outputs.as_slice(), answers.len());
+    let table = table_of(alloc, atoms, &program.outputs, answers.len());
     put_each(
         sink,
         waiting,

@@ -5,7 +5,8 @@ ghost use Rattle.asp_model.specs.Sets.{IsAscending};
 ghost use Rattle.asp_print.specs.Rows.{HasTextsOf, IsConditionOf, IsRowAmong, IsTableOf, less_blank, row_between, shown_at};
 
 use crate::holding::{Among, all_hold};
-use asp_model::program::{Atom, Output};
+use asp_model::outputs::Outputs;
+use asp_model::program::Atom;
 use asp_rows::bits::{Bit, bit_of};
 use asp_rows::row::Row;
 use std::alloc::{AllocError, Global};
@@ -69,7 +70,7 @@ impl OutputTable {
     pub(crate) fn of(
         alloc: Global,
         atoms: &[Atom],
-        outputs: &[Output],
+        outputs: &Outputs,
     ) -> Result<OutputTable, AllocError>
         requires { IsAscending atoms.now }
         ensures { IfOk result (IsTableOf atoms.now outputs.now) }
@@ -77,10 +78,11 @@ impl OutputTable {
         let mut conditions = Vec::with_capacity(alloc, outputs.len())?;
         let mut texts = Vec::new(alloc);
         let mut starts = vec![in alloc; 0]?;
-        for output in outputs {
-            conditions.push(condition_of(atoms, output.condition.as_slice()))?;
+        for i in 0..outputs.len() {
+            let output = outputs.output(i);
+            conditions.push(condition_of(atoms, output.condition))?;
             texts.push(b' ')?;
-            texts.extend_from_slice(output.text.as_slice())?;
+            texts.extend_from_slice(output.text)?;
             starts.push(texts.len())?;
         }
         Ok(OutputTable {
@@ -91,7 +93,7 @@ impl OutputTable {
     }
 
     // Whether an output is shown.
-    fn shows(&self, atoms: &[Atom], outputs: &[Output], row: &Row, i: usize) -> bool
+    fn shows(&self, atoms: &[Atom], outputs: &Outputs, row: &Row, i: usize) -> bool
         requires table { IsTableOf atoms.now outputs.now self.now }
         requires row { IsRowAmong atoms.now row.now }
         requires within { i < length outputs.now }
@@ -102,7 +104,7 @@ impl OutputTable {
             Condition::Never => false,
             Condition::With(bit) => row.has(atoms, bit),
             Condition::Without(bit) => !row.has(atoms, bit),
-            Condition::Several => all_hold(&Among { atoms, row }, outputs[i].condition.as_slice()),
+            Condition::Several => all_hold(&Among { atoms, row }, outputs.output(i).condition),
         }
     }
 
@@ -110,7 +112,7 @@ impl OutputTable {
     pub(crate) fn first_shown(
         &self,
         atoms: &[Atom],
-        outputs: &[Output],
+        outputs: &Outputs,
         row: &Row,
         from: usize,
     ) -> usize
@@ -131,13 +133,7 @@ impl OutputTable {
     }
 
     /// Where the run of outputs ends that are shown from this one on.
-    pub(crate) fn run_end(
-        &self,
-        atoms: &[Atom],
-        outputs: &[Output],
-        row: &Row,
-        from: usize,
-    ) -> usize
+    pub(crate) fn run_end(&self, atoms: &[Atom], outputs: &Outputs, row: &Row, from: usize) -> usize
         requires table { IsTableOf atoms.now outputs.now self.now }
         requires row { IsRowAmong atoms.now row.now }
         requires within { from < length outputs.now }
@@ -155,7 +151,7 @@ impl OutputTable {
     }
 
     /// The texts of the outputs from one to before another, each behind a blank, the first one only where a text stands before it.
-    pub(crate) fn texts(&self, outputs: &[Output], from: usize, to: usize, any: bool) -> &[u8]
+    pub(crate) fn texts(&self, outputs: &Outputs, from: usize, to: usize, any: bool) -> &[u8]
         requires table { HasTextsOf outputs.now self.now }
         requires within { to ≤ length outputs.now }
         requires some { from < to }

@@ -14,7 +14,8 @@ use crate::known::KnownAtoms;
 use crate::sizes::size_of_rule;
 use crate::statement::Statement;
 use crate::statements::{header, statement};
-use asp_model::program::{External, Minimize, Output, Program};
+use asp_model::outputs::Outputs;
+use asp_model::program::{External, Minimize, Program};
 use asp_model::rules::Rules;
 use asp_model::seq::Seq;
 use asp_text::unblank;
@@ -43,7 +44,7 @@ pub struct Reader {
     /// The minimize statements read so far.
     minimize: Vec<Minimize>,
     /// The output statements read so far.
-    outputs: Vec<Output>,
+    outputs: Outputs,
     /// The external statements read so far.
     externals: Vec<External>,
     /// The literals assumed so far.
@@ -63,9 +64,9 @@ impl Model for Reader {
 
     ghost use Rattle.asp_read.specs.Kept.{IsKept};
 
-    ghost view = { λ r. record { stage = r.stage; program = record { rules = r.rules; minimize = r.minimize.items; outputs = r.outputs.items; externals = r.externals.items; assumptions = r.assumptions.items }; known = r.known } };
+    ghost view = { λ r. record { stage = r.stage; program = record { rules = r.rules; minimize = r.minimize.items; outputs = r.outputs; externals = r.externals.items; assumptions = r.assumptions.items }; known = r.known } };
 
-    ghost invariant = { λ r. IsKept (record { rules = r.rules; minimize = r.minimize.items; outputs = r.outputs.items; externals = r.externals.items; assumptions = r.assumptions.items }) r.used r.priorities.items };
+    ghost invariant = { λ r. IsKept (record { rules = r.rules; minimize = r.minimize.items; outputs = r.outputs; externals = r.externals.items; assumptions = r.assumptions.items }) r.used r.priorities.items };
 }
 
 impl Reader {
@@ -73,13 +74,14 @@ impl Reader {
         ensures { IfOk result (λ r. r ≡ nothing_seen) }
     {
         let rules = Rules::new(alloc)?;
+        let outputs = Outputs::new(alloc)?;
         let known = KnownAtoms::new(alloc)?;
         Ok(Reader {
             alloc,
             stage: Stage::Start,
             rules,
             minimize: Vec::new(alloc),
-            outputs: Vec::new(alloc),
+            outputs,
             externals: Vec::new(alloc),
             assumptions: Vec::new(alloc),
             used: 0,
@@ -114,7 +116,7 @@ impl Reader {
             }
             Statement::Output(output) => {
                 let size = output.condition.as_slice().len() as u32;
-                self.outputs.push(output)?;
+                self.outputs.push(output.view())?;
                 self.used += size;
                 Ok(())
             }
@@ -180,7 +182,7 @@ impl Reader {
         Program {
             rules,
             minimize: Seq::from_vec(minimize),
-            outputs: Seq::from_vec(outputs),
+            outputs,
             externals: Seq::from_vec(externals),
             assumptions: Seq::from_vec(assumptions),
         }

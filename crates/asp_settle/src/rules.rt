@@ -2,7 +2,7 @@
 ghost use Rattle.std.specs.Prelude.{◌≡◌, ◌++◌, ◌≤◌, All, filter, flat_map, not, IfOk, OnOk, IsTrue};
 ghost use Rattle.std.specs.Option.{option_to_list};
 ghost use Rattle.asp_model.specs.Models.{head_atoms};
-ghost use Rattle.asp_model.specs.Views.{head_seen};
+ghost use Rattle.asp_model.specs.Views.{head_seen, output_seen};
 ghost use Rattle.asp_model.specs.Sets.{has, set_of};
 ghost use Rattle.asp_model.specs.Sound.{HasBody, HasFewItems};
 ghost use Rattle.asp_settle.specs.Settled.{heads_of, settled_head, settled_output, settled_rule};
@@ -10,7 +10,8 @@ ghost use Rattle.asp_settle.specs.Settled.{heads_of, settled_head, settled_outpu
 use crate::bodies::{settled_body, settled_literals};
 use crate::facts::FactTable;
 use asp_model::interp::Interp;
-use asp_model::program::{Atom, External, Head, Output, Rule};
+use asp_model::outputs::{OutputView, Outputs};
+use asp_model::program::{Atom, External, Head, Rule};
 use asp_model::rules::Rules;
 use asp_model::seq::Seq;
 use asp_model::view::HeadView;
@@ -86,29 +87,36 @@ pub(crate) fn settled_rules(
     Ok(left)
 }
 
-fn settled_output(facts: &FactTable, output: Output) -> Option<Output>
-    ensures { option_to_list result ≡ settled_output facts.now output }
+// Adds what is left of an output to others.
+fn push_output(
+    alloc: Global,
+    left: &mut Outputs,
+    facts: &FactTable,
+    output: OutputView<'_>,
+) -> Result<(), AllocError>
+    ensures { OnOk result (left.new ≡ left.old ++ settled_output facts.now (output_seen output.entry)) }
 {
-    let Output { text, condition } = output;
-    match settled_literals(facts, condition) {
-        Some(condition) => Some(Output { text, condition }),
-        None => None,
+    let literals = Seq::from_vec(Vec::from_slice(alloc, output.condition)?);
+    if let Some(condition) = settled_literals(facts, literals) {
+        left.push(OutputView {
+            text: output.text,
+            condition: condition.as_slice(),
+        })?;
     }
+    Ok(())
 }
 
 /// What is left of the outputs.
 pub(crate) fn settled_outputs(
     alloc: Global,
     facts: &FactTable,
-    outputs: Vec<Output>,
-) -> Result<Vec<Output>, AllocError>
-    ensures { IfOk result (λ left. left.items ≡ flat_map (settled_output facts.now) outputs.items) }
+    outputs: &Outputs,
+) -> Result<Outputs, AllocError>
+    ensures { IfOk result (λ left. left ≡ flat_map (settled_output facts.now) outputs.now) }
 {
-    let mut left = Vec::new(alloc);
-    for output in outputs {
-        if let Some(output) = settled_output(facts, output) {
-            left.push(output)?;
-        }
+    let mut left = Outputs::new(alloc)?;
+    for i in 0..outputs.len() {
+        push_output(alloc, &mut left, facts, outputs.output(i))?;
     }
     Ok(left)
 }

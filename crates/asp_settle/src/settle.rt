@@ -35,14 +35,14 @@ pub fn settle(alloc: Global, program: Program) -> Result<Settled, AllocError>
     } = program;
     let externals = open_externals(alloc, &rules, externals)?;
     let rules = settled_rules(alloc, &facts, &rules)?;
-    let outputs = settled_outputs(alloc, &facts, outputs.into_vec())?;
+    let outputs = settled_outputs(alloc, &facts, &outputs)?;
     let set = facts.to_set(alloc)?;
     Ok(Settled {
         facts: set,
         left: Program {
             rules,
             minimize,
-            outputs: Seq::from_vec(outputs),
+            outputs,
             externals,
             assumptions,
         },

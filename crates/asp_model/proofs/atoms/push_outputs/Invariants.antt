@@ -2,5 +2,5 @@ use Rattle.std.proofs.Common.{◌≡◌, ◌++◌, take, map, flat_map}
 use Rattle.asp_model.specs.Holding.{atom_of}
 use Rattle.asp_model.proofs.atoms.push_outputs.Given as goal
 
-abbrev pub invariant-loop-output : goal.invariant-loop-output
-invariant-loop-output l = l.atoms.items ≡ l.initial.atoms.items ++ flat_map (λ o. map atom_of o.condition) (take l.output-index l.outputs)
+abbrev pub invariant-loop-i : goal.invariant-loop-i
+invariant-loop-i l = l.atoms.items ≡ l.initial.atoms.items ++ flat_map (λ o. map atom_of o.condition) (take l.i l.outputs)

@@ -4,8 +4,8 @@ use Rattle.asp_print.specs.Shown.{pieces}
 use Rattle.asp_buffer.proofs.OutLaws.{Midway}
 use Rattle.asp_print.proofs.answers.put_texts.Given as goal
 
-abbrev pub invariant-loop-output : goal.invariant-loop-output
-invariant-loop-output g l =
+abbrev pub invariant-loop-i : goal.invariant-loop-i
+invariant-loop-i g l =
     Midway (out (g.K.Sink.held l.initial.sink) (g.K.Sink.faults l.initial.sink) l.initial.waiting)
     (out (g.K.Sink.held l.sink) (g.K.Sink.faults l.sink) l.waiting)
-    (pieces (g.A.Answer.set l.answer) false l.outputs) (pieces (g.A.Answer.set l.answer) l.any (drop l.output-index l.outputs))
+    (pieces (g.A.Answer.set l.answer) false l.outputs) (pieces (g.A.Answer.set l.answer) l.any (drop l.i l.outputs))

@@ -2,10 +2,10 @@ use Rattle.std.proofs.Common.{◌≡◌, ℕ, ◌+◌, ◌≤◌, take, length, 
 use Rattle.asp_print.specs.Rows.{AreConditionsOf, row}
 use Rattle.asp_print.proofs.outputs.OutputTable.of.Given as goal
 
-abbrev pub invariant-loop-output : goal.invariant-loop-output
-invariant-loop-output l = record {
-  conditions : AreConditionsOf l.atoms (take l.output-index l.outputs) l.conditions.items;
-  texts : l.texts.items ≡ row (take l.output-index l.outputs);
-  count : length l.starts.items ≡ l.output-index + 1;
-  starts : (k : ℕ) → k ≤ l.output-index → get_or l.starts.items k 0 ≡ length (row (take k l.outputs));
+abbrev pub invariant-loop-i : goal.invariant-loop-i
+invariant-loop-i l = record {
+  conditions : AreConditionsOf l.atoms (take l.i l.outputs) l.conditions.items;
+  texts : l.texts.items ≡ row (take l.i l.outputs);
+  count : length l.starts.items ≡ l.i + 1;
+  starts : (k : ℕ) → k ≤ l.i → get_or l.starts.items k 0 ≡ length (row (take k l.outputs));
 }
