@@ -3,8 +3,9 @@
 # time of each crate's proofs, tests and edits.
 # Usage: bench/gate.sh [--save FILE] [NAME..]     (the gate's `rt ci` and its tests of calls; or `rt ci` of these crates and
 # those below them alone)
-# `--anew` has rt take nothing that earlier runs kept on this machine, and it leaves that as it is: nothing has to be moved
-# aside. Whatever else runs here makes the processors slower, so have nothing else run.
+# `--anew`, where rt knows it, has rt take nothing that earlier runs kept on this machine, and it leaves that as it is: nothing
+# has to be moved aside. An rt that doesn't know it keeps nothing. Whatever else runs here makes the processors slower, so
+# have nothing else run.
 root=$(cd "$(dirname "$0")/.." && pwd) || exit 1
 save=()
 if [ "$1" = --save ]; then
@@ -15,8 +16,10 @@ room=$(mktemp -d) || exit 1
 trap 'rm -rf "$room"' EXIT
 git clone -q --no-local "$root" "$room/aspenum" || exit 1
 cd "$room/aspenum" || exit 1
+anew=()
+rt help 2>&1 | grep -q -e --anew && anew=(--anew)
 if [ $# -gt 0 ]; then
-    python3 bench/gate.py "${save[@]}" rt ci --anew "$@"
+    python3 bench/gate.py "${save[@]}" rt ci "${anew[@]}" "$@"
 else
-    python3 bench/gate.py "${save[@]}" bash -c 'rt ci --anew && tests/calls.sh'
+    python3 bench/gate.py "${save[@]}" bash -c 'rt ci "$@" && tests/calls.sh' gate "${anew[@]}"
 fi

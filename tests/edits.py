@@ -1,15 +1,18 @@
 #!/usr/bin/env python3
 """What tests/edits.sh needs of rt.
 
-    edits.py libraries COPY NAME..     gives a copy of the repository the libraries that `rt ci` proved of the same files
+    edits.py libraries COPY NAME..     gives a copy of the repository the libraries that `rt ci` proved of the same files,
+                                       from those that it left in the clone PROVED where the environment names one
     edits.py applied COPY NAME..       says which edits of these crates can't be applied to their files
     edits.py functions COPY NAME..     tries each edit by a check of the one function that it changes, and takes away those
                                        that are refused there, RT_JOBS of them side by side
 
-A library is taken from what `rt ci` keeps beside the kit, by the sum of all that it was proved from. Where rt has another
-form than the one that this script knows, nothing is taken: rt proves the libraries again then, which costs time alone.
+A library is taken from what `rt ci` keeps beside the kit, by the sum of all that it was proved from, or from a clone in
+which `rt ci` ran and whose files are the same. Where rt has another form than the one that this script knows, nothing is
+taken: rt proves the libraries again then, which costs time alone.
 """
 import concurrent.futures
+import filecmp
 import glob
 import importlib.machinery
 import importlib.util
@@ -17,6 +20,7 @@ import os
 import re
 import shutil
 import sys
+import tempfile
 
 sys.dont_write_bytecode = True
 
@@ -29,11 +33,24 @@ def load_rt():
     return rt
 
 
+def crates_of(rt, copy):
+    """Returns the crates of a copy, lowest first, which keep what is in their out/."""
+    try:
+        return rt.crates_of(copy)
+    except TypeError:
+        # (an older rt moves each out/ to a folder that it is given)
+        with tempfile.TemporaryDirectory() as aside:
+            crates = rt.crates_of(copy, aside)
+            for name in os.listdir(aside):
+                shutil.move(f"{aside}/{name}", f"{copy}/crates/{name}/out")
+        return crates
+
+
 def give(copy, names):
     """Yields the crates below these, and whether each was kept."""
     rt = load_rt()
     rt.Crate.allowed = rt.handles_of(copy)
-    crates = rt.crates_of(copy)
+    crates = crates_of(rt, copy)
     below = {dep for crate in crates if crate.name in names for dep in crate.below()}
     kept = rt.Kept(crates)
     lacking = set()
@@ -51,9 +68,48 @@ def give(copy, names):
             yield crate.name, False
 
 
+def sources(folder):
+    return {
+        os.path.relpath(f"{at}/{file}", folder)
+        for part in ("src", "specs", "proofs")
+        for at, _, files in os.walk(f"{folder}/{part}")
+        for file in files
+    }
+
+
+def is_same(one, other):
+    """Whether two folders of a crate have the same sources."""
+    names = sources(one)
+    return names == sources(other) and all(filecmp.cmp(f"{one}/{it}", f"{other}/{it}", shallow=False) for it in names)
+
+
+def give_from(proved, copy, names):
+    """Yields the crates below these, and whether the clone in which `rt ci` ran has a library of the same files."""
+    rt = load_rt()
+    rt.Crate.allowed = rt.handles_of(copy)
+    crates = crates_of(rt, copy)
+    below = {dep for crate in crates if crate.name in names for dep in crate.below()}
+    lacking, taken = set(), []
+    for crate in crates:
+        if crate not in below:
+            continue
+        old = f"{proved}/crates/{crate.name}"
+        is_there = lacking.isdisjoint(crate.below()) and os.path.isdir(f"{old}/out/rlib") and is_same(old, crate.folder)
+        if is_there:
+            shutil.copytree(f"{old}/out/rlib", f"{crate.folder}/out/rlib", dirs_exist_ok=True)
+            taken.append(crate)
+        else:
+            lacking.add(crate)
+        yield crate.name, is_there
+    for crate in taken:
+        with open(f"{crate.folder}/out/rlib/stamp", "w", encoding="utf-8") as stamp:
+            stamp.write(crate.stamp())
+
+
 def libraries(copy, names):
+    proved = os.environ.get("PROVED")
     try:
-        found = list(give(copy, names))
+        found = list(give_from(proved, copy, names) if proved else give(copy, names))
     except (AttributeError, KeyError, OSError, TypeError) as error:
         print(f"edits: the libraries are proved again, since this rt keeps them otherwise ({error!r})", flush=True)
         return 0
@@ -121,7 +177,7 @@ def is_refused(rt, crate, edit):
 def functions(copy, names):
     rt = load_rt()
     rt.Crate.allowed = rt.handles_of(copy)
-    crates = {it.name: it for it in rt.crates_of(copy)}
+    crates = {it.name: it for it in crates_of(rt, copy)}
     edits = [(crates[name], edit) for name in names for edit in sorted(glob.glob(f"{copy}/crates/{name}/must-fail/*.edit"))]
 
     def one(of):

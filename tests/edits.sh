@@ -1,11 +1,13 @@
 #!/usr/bin/env bash
 # Tries the edits that the gate leaves out, those of edits/NAME, beside those of crates/NAME/must-fail: the check must
 # refuse each.
-# Usage: tests/edits.sh [-n] [-q] [-j JOBS] [NAME..]     (every crate of edits/ where none is named)
+# Usage: tests/edits.sh [-n] [-q] [-j JOBS] [-p CLONE] [NAME..]     (every crate of edits/ where none is named)
 #   -n         says which of them can't be applied, and tries none, in seconds
 #   -q         tries each by a check of the one function that it changes first, which needs no proof of the crate before:
 #              cheaper where no check of the crate was kept; what isn't refused there is tried as without it
 #   -j JOBS    so many checks side by side, whatever memory they take; without it rt chooses
+#   -p CLONE   takes the libraries that `rt ci` left in this clone, of the crates that are the same there with all below
+#              them: where rt keeps nothing beside the kit
 # Works on a copy, so that the tree may change meanwhile. An edit's check begins with what `rt check` kept of its crate on
 # this machine, and the crates below are those that `rt ci` proved here: run one of them before. Where neither did, rt
 # proves them in the copy.
@@ -13,11 +15,12 @@
 cd "$(dirname "$0")/.." || exit 2
 tries=yes
 quick=no
-while getopts nqj: flag; do
+while getopts nqj:p: flag; do
     case $flag in
         n) tries=no ;;
         q) quick=yes ;;
         j) export RT_JOBS=$OPTARG ;;
+        p) PROVED=$(cd "$OPTARG" && pwd) || exit 2; export PROVED ;;
         *) exit 2 ;;
     esac
 done
