@@ -61,5 +61,5 @@ pub rows-turn : (p : Program) (rows : List Row) (i n : ℕ) (r : Row) → i < le
     → answers_from p n (map (λ (x : Row). x.set) (drop i rows)) ≡ answer_lines p n r.set ++ answers_from p (n + 1) (map (λ (x : Row). x.set) (drop (i + 1) rows))
 rows-turn p rows i n r lt is = ap (λ (t : List Row). answers_from p n (map (λ (x : Row). x.set) t)) (drop_turn rows i r lt is)
 
-pub line_shown : (p : Program) (S : Atoms) (outputs : List Output) → outputs ≡ p.outputs → ended_line (pieces S false outputs) ≡ ended_line (join_with_byte 32 (shown p S))
-line_shown p S outputs is = ap (λ (os : List Output). ended_line (pieces S false os)) is ∙ ap ended_line (all_shown p S)
+pub line_shown : (p : Program) (S : Atoms) → ended_line (pieces S false p.outputs) ≡ ended_line (join_with_byte 32 (shown p S))
+line_shown p S = ap ended_line (all_shown p S)

@@ -27,6 +27,7 @@ impl Model for AtomSet {
 }
 
 impl AtomSet {
+    /// No atoms.
     pub fn new(alloc: Global) -> AtomSet
         ensures { result ≡ [] }
     {
@@ -43,6 +44,7 @@ impl AtomSet {
         is_marked(self.near.as_slice(), atom)
     }
 
+    /// Whether the set has the atom.
     pub fn has(&self, atom: Atom) -> bool
         ensures { result ≡ has self.now atom }
     {

@@ -9,3 +9,4 @@ pub mod MentionLaws
 pub mod ResultLaws
 pub mod TableLaws
 pub mod WeightLaws
+pub mod StayLaws

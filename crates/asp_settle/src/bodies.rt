@@ -1,15 +1,17 @@
 //! What is left of literals and bodies.
-ghost use Rattle.std.specs.Prelude.{◌≡◌, ◌*◌, ◌≤◌, filter, not, length, pos, ◌≤ℤ◌, ◌&&◌, if◌then◌else◌, IsTrue};
+ghost use Rattle.std.specs.Prelude.{◌≡◌, ◌∷◌, [], ◌*◌, ◌≤◌, filter, not, true, length, pos, ◌≤ℤ◌, ◌&&◌, if◌then◌else◌, IsTrue};
 ghost use Rattle.std.specs.List.{list_all, list_any};
 ghost use Rattle.std.specs.Option.{option_to_list};
 ghost use Rattle.asp_model.specs.Holding.{atom_of, is_positive};
 ghost use Rattle.asp_model.specs.Sets.{has};
 ghost use Rattle.asp_model.specs.Sound.{is_sound_body, is_weighted, weighted_count};
+ghost use Rattle.asp_model.specs.Views.{body_seen};
 ghost use Rattle.asp_settle.specs.Settled.{is_barred, lowered, settled_body, settled_items, settled_literals, settled_weight};
 
 use crate::facts::FactTable;
 use asp_model::program::Body;
 use asp_model::seq::Seq;
+use asp_model::view::BodyView;
 
 // Whether a literal says that a fact is absent.
 fn is_barred(facts: &FactTable, literal: i32) -> bool
@@ -106,5 +108,32 @@ pub(crate) fn settled_body(facts: &FactTable, body: Body) -> Option<Body>
             let weight = settled_weight(facts, items.as_slice());
             Some(Body::AtLeast(lowered(bound, weight), settled_items(facts, items)))
         }
+    }
+}
+
+/// Whether none of the literals' atoms is a fact.
+pub(crate) fn literals_stay(facts: &FactTable, literals: &[i32]) -> bool
+    ensures { result ≡ list_all (λ l. not (has facts.now (atom_of l))) literals.now }
+{
+    literals
+        .iter()
+        .all(|literal| !facts.has(literal.unsigned_abs()))
+}
+
+fn items_stay(facts: &FactTable, items: &[(i32, i32)]) -> bool
+    ensures { result ≡ list_all (λ i. not (has facts.now (atom_of i.0))) items.now }
+{
+    items
+        .iter()
+        .all(|(literal, _)| !facts.has(literal.unsigned_abs()))
+}
+
+/// Whether the body is seen to stay as it is.
+pub(crate) fn body_stays(facts: &FactTable, body: BodyView<'_>) -> bool
+    ensures { result ≡ true → settled_body facts.now (body_seen body.entry) ≡ body_seen body.entry ∷ [] }
+{
+    match body {
+        BodyView::All(literals) => literals_stay(facts, literals),
+        BodyView::AtLeast(bound, items) => bound >= 0 && items_stay(facts, items),
     }
 }

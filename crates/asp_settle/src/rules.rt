@@ -1,20 +1,21 @@
 //! What is left of rules, outputs and externals.
-ghost use Rattle.std.specs.Prelude.{◌≡◌, ◌++◌, ◌≤◌, All, filter, flat_map, not, IfOk, OnOk, IsTrue};
+ghost use Rattle.std.specs.Prelude.{◌≡◌, ◌∷◌, [], ◌++◌, All, filter, flat_map, not, true, IfOk, OnOk};
+ghost use Rattle.std.specs.List.{list_all};
 ghost use Rattle.std.specs.Option.{option_to_list};
 ghost use Rattle.asp_model.specs.Models.{head_atoms};
-ghost use Rattle.asp_model.specs.Views.{head_seen, output_seen};
+ghost use Rattle.asp_model.specs.Views.{head_seen, output_seen, rule_seen};
 ghost use Rattle.asp_model.specs.Sets.{has, set_of};
 ghost use Rattle.asp_model.specs.Sound.{HasBody, HasFewItems};
 ghost use Rattle.asp_settle.specs.Settled.{heads_of, settled_head, settled_output, settled_rule};
 
-use crate::bodies::{settled_body, settled_literals};
+use crate::bodies::{body_stays, literals_stay, settled_body, settled_literals};
 use crate::facts::FactTable;
 use asp_model::interp::Interp;
 use asp_model::outputs::{OutputView, Outputs};
 use asp_model::program::{Atom, External, Head, Rule};
 use asp_model::rules::Rules;
 use asp_model::seq::Seq;
-use asp_model::view::HeadView;
+use asp_model::view::{HeadView, RuleView};
 use std::alloc::{AllocError, Global};
 
 fn other_atoms(facts: &FactTable, atoms: Seq<Atom>) -> Seq<Atom>
@@ -57,34 +58,105 @@ fn settled_rule(facts: &FactTable, rule: Rule) -> Option<Rule>
     }
 }
 
-// Adds what is left of a rule to others.
-fn push_rule(left: &mut Rules, facts: &FactTable, rule: Rule) -> Result<(), AllocError>
-    requires body { HasBody rule }
-    requires few { HasFewItems rule }
-    ensures { OnOk result (left.new ≡ left.old ++ settled_rule facts.now rule) }
+fn atoms_stay(facts: &FactTable, atoms: &[Atom]) -> bool
+    ensures { result ≡ list_all (λ a. not (has facts.now a)) atoms.now }
 {
-    if let Some(rule) = settled_rule(facts, rule) {
+    atoms.iter().all(|atom| !facts.has(*atom))
+}
+
+// Whether the head is seen to stay as it is.
+fn head_stays(facts: &FactTable, head: HeadView<'_>) -> bool
+    ensures { result ≡ true → settled_head facts.now (head_seen head.entry) ≡ head_seen head.entry ∷ [] }
+{
+    match head {
+        HeadView::One(atom) => !facts.has(atom),
+        HeadView::Choice(atoms) => atoms_stay(facts, atoms),
+        HeadView::Never => true,
+    }
+}
+
+// Whether the rule is seen to stay as it is.
+fn rule_stays(facts: &FactTable, rule: RuleView<'_>) -> bool
+    ensures { result ≡ true → settled_rule facts.now (rule_seen rule.entry) ≡ rule_seen rule.entry ∷ [] }
+{
+    head_stays(facts, rule.head) && body_stays(facts, rule.body)
+}
+
+fn rules_stay(facts: &FactTable, rules: &Rules) -> bool
+    ensures { result ≡ true → flat_map (settled_rule facts.now) rules.now ≡ rules.now }
+{
+    for i in 0..rules.len() {
+        if !rule_stays(facts, rules.rule(i)) {
+            return false;
+        }
+    }
+    true
+}
+
+// Adds what is left of a rule to others.
+fn push_rule(
+    alloc: Global,
+    left: &mut Rules,
+    facts: &FactTable,
+    rule: RuleView<'_>,
+) -> Result<(), AllocError>
+    requires body { HasBody (rule_seen rule) }
+    requires few { HasFewItems (rule_seen rule) }
+    ensures { OnOk result (left.new ≡ left.old ++ settled_rule facts.now (rule_seen rule.entry)) }
+{
+    if rule_stays(facts, rule) {
+        return left.push(rule);
+    }
+    if let Some(rule) = settled_rule(facts, rule.copy(alloc)?) {
         left.push(rule.view())?;
     }
     Ok(())
 }
 
-/// What is left of the rules.
-pub(crate) fn settled_rules(
-    alloc: Global,
-    facts: &FactTable,
-    rules: &Rules,
-) -> Result<Rules, AllocError>
+fn left_rules(alloc: Global, facts: &FactTable, rules: &Rules) -> Result<Rules, AllocError>
     requires bodies { All HasBody rules.now }
     requires few { All HasFewItems rules.now }
     ensures { IfOk result (λ left. left ≡ flat_map (settled_rule facts.now) rules.now) }
 {
     let mut left = Rules::new(alloc)?;
     for i in 0..rules.len() {
-        let rule = rules.rule(i).copy(alloc)?;
-        push_rule(&mut left, facts, rule)?;
+        push_rule(alloc, &mut left, facts, rules.rule(i))?;
     }
     Ok(left)
+}
+
+/// What is left of the rules: these themselves where each stays.
+pub(crate) fn settled_rules(
+    alloc: Global,
+    facts: &FactTable,
+    rules: Rules,
+) -> Result<Rules, AllocError>
+    requires bodies { All HasBody rules }
+    requires few { All HasFewItems rules }
+    ensures { IfOk result (λ left. left ≡ flat_map (settled_rule facts.now) rules) }
+{
+    if rules_stay(facts, &rules) {
+        return Ok(rules);
+    }
+    left_rules(alloc, facts, &rules)
+}
+
+// Whether the output is seen to stay as it is.
+fn output_stays(facts: &FactTable, output: OutputView<'_>) -> bool
+    ensures { result ≡ true → settled_output facts.now (output_seen output.entry) ≡ output_seen output.entry ∷ [] }
+{
+    literals_stay(facts, output.condition)
+}
+
+fn outputs_stay(facts: &FactTable, outputs: &Outputs) -> bool
+    ensures { result ≡ true → flat_map (settled_output facts.now) outputs.now ≡ outputs.now }
+{
+    for i in 0..outputs.len() {
+        if !output_stays(facts, outputs.output(i)) {
+            return false;
+        }
+    }
+    true
 }
 
 // Adds what is left of an output to others.
@@ -96,6 +168,9 @@ fn push_output(
 ) -> Result<(), AllocError>
     ensures { OnOk result (left.new ≡ left.old ++ settled_output facts.now (output_seen output.entry)) }
 {
+    if output_stays(facts, output) {
+        return left.push(output);
+    }
     let literals = Seq::from_vec(Vec::from_slice(alloc, output.condition)?);
     if let Some(condition) = settled_literals(facts, literals) {
         left.push(OutputView {
@@ -106,12 +181,7 @@ fn push_output(
     Ok(())
 }
 
-/// What is left of the outputs.
-pub(crate) fn settled_outputs(
-    alloc: Global,
-    facts: &FactTable,
-    outputs: &Outputs,
-) -> Result<Outputs, AllocError>
+fn left_outputs(alloc: Global, facts: &FactTable, outputs: &Outputs) -> Result<Outputs, AllocError>
     ensures { IfOk result (λ left. left ≡ flat_map (settled_output facts.now) outputs.now) }
 {
     let mut left = Outputs::new(alloc)?;
@@ -119,6 +189,20 @@ pub(crate) fn settled_outputs(
         push_output(alloc, &mut left, facts, outputs.output(i))?;
     }
     Ok(left)
+}
+
+/// What is left of the outputs: these themselves where each stays.
+pub(crate) fn settled_outputs(
+    alloc: Global,
+    facts: &FactTable,
+    outputs: Outputs,
+) -> Result<Outputs, AllocError>
+    ensures { IfOk result (λ left. left ≡ flat_map (settled_output facts.now) outputs) }
+{
+    if outputs_stay(facts, &outputs) {
+        return Ok(outputs);
+    }
+    left_outputs(alloc, facts, &outputs)
 }
 
 fn push_head(atoms: &mut Vec<Atom>, head: HeadView<'_>) -> Result<(), AllocError>

@@ -34,8 +34,8 @@ pub fn settle(alloc: Global, program: Program) -> Result<Settled, AllocError>
         assumptions,
     } = program;
     let externals = open_externals(alloc, &rules, externals)?;
-    let rules = settled_rules(alloc, &facts, &rules)?;
-    let outputs = settled_outputs(alloc, &facts, &outputs)?;
+    let rules = settled_rules(alloc, &facts, rules)?;
+    let outputs = settled_outputs(alloc, &facts, outputs)?;
     let set = facts.to_set(alloc)?;
     Ok(Settled {
         facts: set,

@@ -1,4 +1,4 @@
-use Rattle.std.proofs.Common.{◌≡◌, ℕ, ◌+◌, ◌*◌, nat_lt, List, false, true, ap, ◌∙◌, sym, subst, flat_map, drop, length}
+use Rattle.std.proofs.Common.{◌≡◌, ℕ, ◌+◌, ◌*◌, nat_lt, List, false, true, ap, ◌∙◌, sym, flat_map, drop, length}
 use Rattle.std.proofs.lemmas.List.{take_at}
 use Rattle.asp_model.specs.declared.program.Rule.{Rule}
 use Rattle.asp_model.specs.Sets.{has}

@@ -1,6 +1,6 @@
 use Rattle.std.proofs.Common.{◌≡◌, take, flat_map}
 use Rattle.asp_settle.specs.Settled.{settled_output}
-use Rattle.asp_settle.proofs.rules.settled_outputs.Given as goal
+use Rattle.asp_settle.proofs.rules.left_outputs.Given as goal
 
 abbrev pub invariant-loop-i : goal.invariant-loop-i
 invariant-loop-i l = l.left ≡ flat_map (settled_output l.facts) (take l.i l.outputs)

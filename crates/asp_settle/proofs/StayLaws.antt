@@ -1,0 +1,73 @@
+-- What names no fact is left as it is.
+use Rattle.std.proofs.Common.{◌≡◌, ℕ, Bool, true, false, not, cond, ◌&&◌, ◌||◌, List, [], ◌∷◌, ◌++◌, map, filter, flat_map, ℤ, pos, ◌+ℤ◌, ◌≤ℤ◌, refl, ap, ◌∙◌, arith}
+use Rattle.std.specs.List.{list_all, list_any}
+use Rattle.std.proofs.lemmas.Bool.{and_parts}
+use Rattle.std.proofs.lemmas.Int.{ints}
+use Rattle.asp_model.specs.declared.program.Body.{Body}
+use Rattle.asp_model.specs.declared.program.Body.TheVariants as body
+use Rattle.asp_model.specs.declared.program.Head.{Head}
+use Rattle.asp_model.specs.declared.program.Head.TheVariants as head
+use Rattle.asp_model.specs.declared.program.Output.{Output}
+use Rattle.asp_model.specs.declared.program.Rule.{Rule}
+use Rattle.asp_model.specs.Sets.{Atoms, has}
+use Rattle.asp_model.specs.Holding.{atom_of, is_negative, is_positive}
+use Rattle.asp_settle.specs.Settled.{is_barred, lowered, settled_body, settled_head, settled_literals, settled_output, settled_rule, settled_weight}
+
+filter-kept : {X : Type 0} (p : X → Bool) (xs : List X) → list_all p xs ≡ true → filter p xs ≡ xs
+filter-kept p [] h = refl
+filter-kept p (x ∷ xs) h =
+    let parts = and_parts (p x) (list_all p xs) h in
+    ap (λ b. cond b (x ∷ filter p xs) (filter p xs)) parts.0 ∙ ap (λ ys. x ∷ ys) (filter-kept p xs parts.1)
+
+-- ---- literals
+not_both : (a b c : Bool) → not b ≡ true → c ≡ false → ((a && b) || c) ≡ false
+not_both true true c h e = cc
+not_both true false c h e = e
+not_both false b c h e = e
+
+none-barred : (F : Atoms) (ls : List ℤ) → list_all (λ l. not (has F (atom_of l))) ls ≡ true → list_any (is_barred F) ls ≡ false
+none-barred F [] h = refl
+none-barred F (l ∷ ls) h =
+    let parts = and_parts (not (has F (atom_of l))) (list_all (λ k. not (has F (atom_of k))) ls) h in
+    not_both (is_negative l) (has F (atom_of l)) (list_any (is_barred F) ls) parts.0 (none-barred F ls parts.1)
+
+literals-stay : (F : Atoms) (ls : List ℤ) → list_all (λ l. not (has F (atom_of l))) ls ≡ true → settled_literals F ls ≡ ls ∷ []
+literals-stay F ls h =
+    ap (λ b. cond b [] (filter (λ l. not (has F (atom_of l))) ls ∷ [])) (none-barred F ls h)
+    ∙ ap (λ ks. ks ∷ []) (filter-kept (λ l. not (has F (atom_of l))) ls h)
+
+-- ---- weights
+unweighted : (a b : Bool) (w : ℤ) → not b ≡ true → cond (a && b) w (pos 0) ≡ pos 0
+unweighted true true w h = cc
+unweighted true false w h = refl
+unweighted false b w h = refl
+
+weight-none : (F : Atoms) (items : List (ℤ × ℤ)) → list_all (λ i. not (has F (atom_of i.0))) items ≡ true → settled_weight F items ≡ pos 0
+weight-none F [] h = refl
+weight-none F (i ∷ items) h =
+    let parts = and_parts (not (has F (atom_of i.0))) (list_all (λ j. not (has F (atom_of j.0))) items) h in
+    ap (λ z. z +ℤ settled_weight F items) (unweighted (is_positive i.0) (has F (atom_of i.0)) i.1 parts.0) ∙ ap (λ z. pos 0 +ℤ z) (weight-none F items parts.1)
+
+lowered-none : (bound : ℤ) → pos 0 ≤ℤ bound → lowered bound (pos 0) ≡ bound
+lowered-none bound h = grind (arith, ints)
+
+-- ---- heads, bodies, rules and outputs
+pub choice-stays : (F : Atoms) (atoms : List ℕ) → list_all (λ a. not (has F a)) atoms ≡ true → settled_head F (head.Choice atoms) ≡ head.Choice atoms ∷ []
+choice-stays F atoms h = ap (λ xs. head.Choice xs ∷ []) (filter-kept (λ a. not (has F a)) atoms h)
+
+pub all-stays : (F : Atoms) (ls : List ℤ) → list_all (λ l. not (has F (atom_of l))) ls ≡ true → settled_body F (body.All ls) ≡ body.All ls ∷ []
+all-stays F ls h = ap (map (λ ks. body.All ks)) (literals-stay F ls h)
+
+pub weighted-stays : (F : Atoms) (bound : ℤ) (items : List (ℤ × ℤ)) → pos 0 ≤ℤ bound → list_all (λ i. not (has F (atom_of i.0))) items ≡ true → settled_body F (body.AtLeast bound items) ≡ body.AtLeast bound items ∷ []
+weighted-stays F bound items low h =
+    ap (λ z. body.AtLeast (lowered bound z) (filter (λ i. not (has F (atom_of i.0))) items) ∷ []) (weight-none F items h)
+    ∙ ap (λ z. body.AtLeast z (filter (λ i. not (has F (atom_of i.0))) items) ∷ []) (lowered-none bound low)
+    ∙ ap (λ xs. body.AtLeast bound xs ∷ []) (filter-kept (λ i. not (has F (atom_of i.0))) items h)
+
+pub rule-stays : (F : Atoms) (r : Rule) → settled_head F r.head ≡ r.head ∷ [] → settled_body F r.body ≡ r.body ∷ [] → settled_rule F r ≡ r ∷ []
+rule-stays F r heads bodies =
+    ap (λ (hs : List Head). flat_map (λ h. map (λ b. record { head = h; body = b }) (settled_body F r.body)) hs) heads
+    ∙ ap (λ (bs : List Body). map (λ b. record { head = r.head; body = b }) bs ++ []) bodies
+
+pub output-stays : (F : Atoms) (o : Output) → list_all (λ l. not (has F (atom_of l))) o.condition ≡ true → settled_output F o ≡ o ∷ []
+output-stays F o h = ap (map (λ ls. record { text = o.text; condition = ls })) (literals-stay F o.condition h)
