@@ -158,13 +158,14 @@ impl State {
         ensures { IfOk result (λ s. s ≡ start (record { program = compiled.now; goal = goal; budget = budget; limit = limit; query = query.now })) }
     {
         let program = compiled.program();
-        let prices = prices(alloc, program)?;
         let root = wanted(alloc, compiled, query)?;
         let query = Vec::from_slice(alloc, query)?;
         let tree = Tree::root(alloc, root)?;
         let known = nothing_known(alloc, compiled, &goal)?;
         let atoms = stated_atoms(alloc, compiled, &goal)?;
         let listed = compiled.atoms().copy()?;
+        // The prices are a program: they are made last, so that no way out has them to drop.
+        let prices = prices(alloc, program)?;
         Ok(State {
             alloc,
             program: Origin::of(program),
