@@ -35,6 +35,7 @@ use asp_vars::snapshot::Snapshot;
 use std::alloc::{AllocError, Global};
 use std::collections::BTreeSet;
 use std::marker::Model;
+use std::mem;
 
 /// The state of a search, which contracts see as its board.
 ///
@@ -424,19 +425,24 @@ impl State {
             budget: _,
             limit: _,
             query: _,
-            prices: _,
-            tree: _,
+            prices,
+            tree,
             answers,
-            told: _,
+            told,
             known,
             atoms,
-            different: _,
+            different,
             best,
             pool: _,
             out: _,
             burnt: _,
-            reasons: _,
+            reasons,
         } = self;
+        mem::drop(prices);
+        mem::drop(tree);
+        mem::drop(told);
+        mem::drop(different);
+        mem::drop(reasons);
         (answers, best, common(known, atoms))
     }
 
