@@ -35,6 +35,7 @@ use asp_vars::snapshot::Snapshot;
 use std::alloc::{AllocError, Global};
 use std::collections::BTreeSet;
 use std::marker::Model;
+use std::mem;
 
 /// The state of a search, which contracts see as its board.
 ///
@@ -158,13 +159,14 @@ impl State {
         ensures { IfOk result (λ s. s ≡ start (record { program = compiled.now; goal = goal; budget = budget; limit = limit; query = query.now })) }
     {
         let program = compiled.program();
-        let prices = prices(alloc, program)?;
         let root = wanted(alloc, compiled, query)?;
         let query = Vec::from_slice(alloc, query)?;
         let tree = Tree::root(alloc, root)?;
         let known = nothing_known(alloc, compiled, &goal)?;
         let atoms = stated_atoms(alloc, compiled, &goal)?;
         let listed = compiled.atoms().copy()?;
+        // The prices are a program: they are made last, so that no way out has them to drop.
+        let prices = prices(alloc, program)?;
         Ok(State {
             alloc,
             program: Origin::of(program),
@@ -423,19 +425,24 @@ impl State {
             budget: _,
             limit: _,
             query: _,
-            prices: _,
-            tree: _,
+            prices,
+            tree,
             answers,
-            told: _,
+            told,
             known,
             atoms,
-            different: _,
+            different,
             best,
             pool: _,
             out: _,
             burnt: _,
-            reasons: _,
+            reasons,
         } = self;
+        mem::drop(prices);
+        mem::drop(tree);
+        mem::drop(told);
+        mem::drop(different);
+        mem::drop(reasons);
         (answers, best, common(known, atoms))
     }
 

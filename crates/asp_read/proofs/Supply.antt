@@ -151,11 +151,11 @@ failed_program e = Err e
 refusal_is : (d e : ReadError) → failed_program d ≡ failed_program e → d ≡ e
 refusal_is d e h = cc
 
-err_is : (r : Result Program ReadError) (y e : ReadError) → r ≡ Err y → r ≡ Err e → y ≡ e
+err_is : {A : Type 0} (r : Result A ReadError) (y e : ReadError) → r ≡ Err y → r ≡ Err e → y ≡ e
 err_is r y e p q = cc
 
 -- an error of lines is no failed read
-pub never : (r : Result Program ReadError) (y e : ReadError) → r ≡ Err y → y ≡ e → IsOfLines e → r ≡ Err errors.ReadFault → ⊥
+pub never : {A : Type 0} (r : Result A ReadError) (y e : ReadError) → r ≡ Err y → y ≡ e → IsOfLines e → r ≡ Err errors.ReadFault → ⊥
 never r y e p q of_lines h = let is : e ≡ errors.ReadFault = sym q ∙ err_is r y errors.ReadFault p h in subst IsOfLines is of_lines
 
 pub no_failed_read : (r : Result Program ReadError) → IfErr r IsOfLines → r ≡ Err errors.ReadFault → ⊥

@@ -1,5 +1,5 @@
 -- What a function returned is what reading gives, unless memory ran out.
-use Rattle.std.specs.Prelude.{◌≡◌, ◌⊎◌, ℕ, ◌+◌, ◌≤◌, List, [], ◌++◌, length, IsOk, IfSome}
+use Rattle.std.specs.Prelude.{◌≡◌, ◌⊎◌, ℕ, ◌+◌, ◌≤◌, List, [], ◌++◌, length, IsOk, IfSome, IfErr}
 use Rattle.std.specs.declared.option.Option.{Option}
 use Rattle.std.specs.declared.option.Option.TheVariants.{None, Some}
 use Rattle.std.specs.declared.result.Result.{Result}
@@ -96,3 +96,10 @@ abbrev pub StopsAt : ℕ → Option (List ℕ) → Option (List ℕ) → Result 
 StopsAt limit None now result = Unit {0}
 StopsAt limit (Some text) None result = ⊥
 StopsAt limit (Some text) (Some rest) result = Stops limit text rest result
+
+-- what is answered at the end of a source, by whoever ends what was read of it
+abbrev pub EndsWith : Option (List ℕ) → ℕ → Unread → Seen → Type 0
+EndsWith initial limit lines seen = (r : Result Program ReadError) → ((room : ℕ) → ReadGives r (outcome_on lines seen room [])) → Answers initial limit r
+
+abbrev pub EndsAt : Option (List ℕ) → Option (List ℕ) → ℕ → Type 0
+EndsAt initial next limit = (r : Result Program ReadError) → IfErr r IsOfLines → StopsAt limit initial next r

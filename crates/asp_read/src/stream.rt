@@ -1,5 +1,5 @@
 // A program from a source, in whatever pieces its reads come.
-ghost use Rattle.std.specs.Prelude.{◌≡◌, ◌+◌, ◌++◌, ◌≤◌, ◌<◌, List, ℕ, [], length, None, Ok, IfOk, IfErr, IfSome, IsSome, OnOk, IsErrOf};
+ghost use Rattle.std.specs.Prelude.{◌≡◌, ◌+◌, ◌++◌, ◌≤◌, ◌<◌, List, ℕ, [], length, None, Ok, Err, IfOk, IfErr, IfSome, IsSome, OnOk, IsErrOf};
 ghost use Rattle.asp_text.specs.Lines.{cut};
 ghost use Rattle.asp_text.specs.Unread.{most_bytes};
 ghost use Rattle.asp_read.specs.Outcome.{judge, judge_next, outcome_from, outcome};
@@ -7,7 +7,7 @@ ghost use Rattle.std.specs.Io.KnownBytes.{IsAtEnd};
 ghost use Rattle.asp_io.specs.Causes.{Rose};
 ghost use Rattle.asp_model.specs.Sound.{IsSound};
 ghost use Rattle.asp_read.specs.Seen.{nothing_seen};
-ghost use Rattle.asp_read.specs.Stream.{ReadGives, Becomes, FailsAs, IsOfLines, ReadsText, Answers, StopsAt, outcome_on};
+ghost use Rattle.asp_read.specs.Stream.{ReadGives, Becomes, FailsAs, IsOfLines, ReadsText, Answers, StopsAt, EndsWith, EndsAt, outcome_on};
 
 use crate::error::{LineError, told};
 use crate::fault::ReadError;
@@ -16,6 +16,7 @@ use asp_io::{Failed, Source};
 use asp_model::program::Program;
 use asp_text::Lines;
 use std::alloc::Global;
+use std::mem;
 
 // The line with this number.
 fn judge_numbered(reader: &mut Reader, number: u32, line: &[u8]) -> Result<(), ReadError>
@@ -73,6 +74,47 @@ fn take_piece(lines: &mut Lines, reader: &mut Reader, piece: &[u8]) -> Result<()
     judge_lines(lines, reader)
 }
 
+// Reads on to the end of what the source gives, at most so many bytes of it.
+fn read_all<S: Source>(
+    source: &mut S,
+    lines: &mut Lines,
+    reader: &mut Reader,
+    limit: u32,
+    buf: &mut [u8],
+) -> Result<(), ReadError>
+    requires start { reader.old ≡ nothing_seen }
+    requires lines { lines.old ≡ record { bytes = []; given = 0; fed = 0 } }
+    requires limit { limit ≤ most_bytes }
+    requires buf { 0 < length buf.old }
+    ensures none_left { OnOk result (cut lines.new.bytes ≡ None) }
+    ensures ends { OnOk result (EndsWith (S.left source.old) limit lines.new reader.new) }
+    ensures ends_there { OnOk result (EndsAt (S.left source.old) (S.left source.new) limit) }
+    ensures end { OnOk result (IsAtEnd (S.left source.new)) }
+    ensures answers { IfErr result (λ e. Answers (S.left source.old) limit (Err e)) }
+    ensures stops { IfErr result (λ e. StopsAt limit (S.left source.old) (S.left source.new) (Err e)) }
+    ensures later { S.faults source.old ≤ S.faults source.new }
+    ensures cause { IsErrOf result ReadError.ReadFault → Rose (S.faults source.old) (S.faults source.new) }
+    ensures quiet { IsSome (S.left source.old) → ¬ IsErrOf result ReadError.ReadFault → S.faults source.new ≡ S.faults source.old }
+{
+    let mut room = limit;
+    'reading: loop {
+        let most = buf.len().min(room as usize + 1);
+        let count = match source.read(&mut buf[..most]) {
+            Ok(count) => count,
+            Err(Failed) => return Err(ReadError::ReadFault),
+        };
+        if count == 0 {
+            return Ok(());
+        }
+        if count > room as usize {
+            take_piece(lines, reader, &buf[..room as usize])?;
+            return Err(ReadError::TooLong);
+        }
+        take_piece(lines, reader, &buf[..count])?;
+        room -= count as u32;
+    }
+}
+
 // The program of what the source gives, at most so many bytes of it.
 fn read_within<S: Source>(
     alloc: Global,
@@ -92,22 +134,12 @@ fn read_within<S: Source>(
     ensures quiet { IsSome (S.left source.old) → ¬ IsErrOf result ReadError.ReadFault → S.faults source.new ≡ S.faults source.old }
 {
     let mut lines = Lines::new(alloc);
-    let mut room = limit;
-    'reading: loop {
-        let most = buf.len().min(room as usize + 1);
-        let count = match source.read(&mut buf[..most]) {
-            Ok(count) => count,
-            Err(Failed) => return Err(ReadError::ReadFault),
-        };
-        if count == 0 {
-            return finish(&mut lines, reader);
+    match read_all(source, &mut lines, &mut reader, limit, buf) {
+        Ok(()) => finish(&mut lines, reader),
+        Err(error) => {
+            mem::drop(reader);
+            Err(error)
         }
-        if count > room as usize {
-            take_piece(&mut lines, &mut reader, &buf[..room as usize])?;
-            return Err(ReadError::TooLong);
-        }
-        take_piece(&mut lines, &mut reader, &buf[..count])?;
-        room -= count as u32;
     }
 }
 
