@@ -54,8 +54,13 @@ fn finish(lines: &mut Lines, mut reader: Reader) -> Result<Program, ReadError>
     match lines.finish() {
         Some(line) => {
             let number = line.number;
-            judge_numbered(&mut reader, number, line.bytes)?;
-            reader.end(number + 1)
+            match judge_numbered(&mut reader, number, line.bytes) {
+                Ok(()) => reader.end(number + 1),
+                Err(error) => {
+                    mem::drop(reader);
+                    Err(error)
+                }
+            }
         }
         None => reader.end(lines.count() + 1),
     }

@@ -1,22 +1,20 @@
 use Rattle.std.proofs.Common.{◌≡◌, ◌+◌, ap, arith}
 use Rattle.asp_text.specs.Unread.{Unread}
 use Rattle.asp_text.proofs.Cutting.{tail_none}
-use Rattle.std.proofs.lemmas.Result.{err_from_is_err_and}
 use Rattle.asp_read.proofs.Streaming.{last_line_ends, last_line_fails, no_last_line, gives_itself}
 use Rattle.asp_read.proofs.stream.finish.Goals as goal
 
-pub returns-in_err-judge_numbered-in-Some-clause-text : goal.returns-in_err-judge_numbered-in-Some-clause-text
-returns-in_err-judge_numbered-in-Some-clause-text c =
-    let p = err_from_is_err_and c.from_residual.result c.from_residual.ensures.1 in
+pub returns-in-Err-clause-text : goal.returns-in-Err-clause-text
+returns-in-Err-clause-text c =
     let t = tail_none c.args.lines.now.bytes c.requires in
     let number : c.in-Some.line.number ≡ c.args.lines.now.given + 1 = omega (arith, c.in-Some.ensures.number, t.1) in
-    rw (p.1, p.2) (λ room. last_line_fails c.args.lines.now c.args.reader c.in_err-judge_numbered-in-Some.field-0.0 c.in-Some.line.number room c.in-Some.line.bytes.now c.requires (rw t.0 at c.in-Some.ensures.line) number c.in_err-judge_numbered-in-Some.ensures.reader)
+    λ room. last_line_fails c.args.lines.now c.args.reader c.in-Err.error c.in-Some.line.number room c.in-Some.line.bytes.now c.requires (rw t.0 at c.in-Some.ensures.line) number c.in-Err.ensures.reader
 
-pub returns-in_ok-judge_numbered-in-Some-clause-text : goal.returns-in_ok-judge_numbered-in-Some-clause-text
-returns-in_ok-judge_numbered-in-Some-clause-text c =
+pub returns-in-Ok-clause-text : goal.returns-in-Ok-clause-text
+returns-in-Ok-clause-text c =
     let t = tail_none c.args.lines.now.bytes c.requires in
     let number : c.in-Some.line.number ≡ c.args.lines.now.given + 1 = omega (arith, c.in-Some.ensures.number, t.1) in
-    λ room. rw (c.end.ensures.end, last_line_ends c.args.lines.now c.args.reader c.judge_numbered.new.reader c.in-Some.line.number room c.in-Some.line.bytes.now c.requires (rw t.0 at c.in-Some.ensures.line) number c.in_ok-judge_numbered-in-Some.ensures.reader) (gives_itself _)
+    λ room. rw (c.end.ensures.end, last_line_ends c.args.lines.now c.args.reader c.judge_numbered.new.reader c.in-Some.line.number room c.in-Some.line.bytes.now c.requires (rw t.0 at c.in-Some.ensures.line) number c.in-Ok.ensures.reader) (gives_itself _)
 
 pub returns-in-None-clause-text : goal.returns-in-None-clause-text
 returns-in-None-clause-text c =
