@@ -4,8 +4,10 @@
     edits.py libraries COPY NAME..     gives a copy of the repository the libraries that `rt ci` proved of the same files,
                                        from those that it left in the clone PROVED where the environment names one
     edits.py applied COPY NAME..       says which edits of these crates can't be applied to their files
-    edits.py functions COPY NAME..     tries each edit by a check of the one function that it changes, and takes away those
-                                       that are refused there, RT_JOBS of them side by side
+    edits.py together COPY NAME..      tries the edits of a crate by one check of all functions that they change, at most one
+                                       edit a function, and takes away those that are refused in theirs, RT_JOBS crates
+                                       side by side
+    edits.py functions COPY NAME..     the same by a check for each edit of the one function that it changes
 
 A library is taken from what `rt ci` keeps beside the kit, by the sum of all that it was proved from, or from a clone in
 which `rt ci` ran and whose files are the same. Where rt has another form than the one that this script knows, nothing is
@@ -122,7 +124,7 @@ def libraries(copy, names):
 def applied(copy, names):
     rt, count, bad = load_rt(), 0, 0
     for name in names:
-        for edit in sorted(glob.glob(f"{copy}/crates/{name}/must-fail/*.edit")):
+        for edit in edits_of(copy, name):
             why = rt.read_edit(edit, f"{copy}/crates/{name}")[1]
             count += 1
             if why:
@@ -136,22 +138,98 @@ def indent_of(line):
     return len(line) - len(line.lstrip())
 
 
-def function_of(path, old, new):
-    """Returns the function in which two texts of the file begin to differ, as `rt check --only` names it, or None."""
-    lines = old.split("\n")
-    at = next((n for n, both in enumerate(zip(lines, new.split("\n"))) if both[0] != both[1]), None)
+def functions_in(path, text):
+    """Yields each function of a file, as `rt check --only` names it, with its first and its last line, counted from 1."""
     module = "".join(f"{it}::" for it in path[len("src/") : -len(".rt")].split("/") if it not in ("lib", "main"))
-    name, inside = None, at is not None and indent_of(lines[at])
-    for line in reversed(lines[: at + 1] if at is not None else []):
+    owner, begun = "", []
+    for number, line in enumerate(text.split("\n"), 1):
         head = re.match(r"\s*(?:pub(?:\([a-z ]+\))?\s+)?fn\s+(\w+)", line)
-        if not name and head and indent_of(line) < inside:
-            name = head[1]
-            if not indent_of(line):
-                return f"{module}{name}"
-        owner = re.match(r"impl(?:<.*?>)?\s+(?:(\w+)\S*\s+for\s+)?(\w+)", line)
-        if owner:
-            return f"{module}{owner[2]}{owner[1] or ''}::{name}" if name else None
-    return None
+        block = re.match(r"(?:impl(?:<.*?>)?\s+(?:(\w+)\S*\s+for\s+)?(\w+)|(?:pub\s+)?trait\s+(\w+))", line)
+        if block:
+            owner = f"{block[2] or block[3]}{block[1] or ''}::"
+        if head:
+            begun.append((indent_of(line), number, f"{module}{owner}{head[1]}"))
+        elif begun and line.strip() == "}" and indent_of(line) == begun[-1][0]:
+            _, first, name = begun.pop()
+            yield first, number, name
+        if line.startswith("}"):
+            owner = ""
+
+
+def function_at(path, text, number):
+    """Returns the innermost function that a line of the file is of, or None."""
+    found = [(first, name) for first, last, name in functions_in(path, text) if first <= number <= last]
+    return max(found)[1] if found else None
+
+
+def function_of(path, old, new):
+    """Returns the function in which two texts of the file begin to differ, or None."""
+    lines = zip(old.split("\n"), new.split("\n"))
+    at = next((number for number, both in enumerate(lines, 1) if both[0] != both[1]), None)
+    return at and function_at(path, old, at)
+
+
+# (what only says that a proof file names what the edit took away isn't a refusal)
+ONLY_NAMES = re.compile(r"has no field|is not in scope|has no `|was not admitted")
+
+
+def told_of(line, room):
+    """Returns the function that a line of a check's words speaks of, or None."""
+    at = re.match(r"(?:note: )?(?:\./)?(src|proofs)/(\S+?):(\d+):\d+: ", line)
+    if not at:
+        return None
+    if at[1] == "proofs":
+        return "::".join(at[2].split("/")[:-1])
+    with open(f"{room}/src/{at[2]}", encoding="utf-8") as file:
+        return function_at(f"src/{at[2]}", file.read(), int(at[3]))
+
+
+def plant(rt, crate, edits, room):
+    """Puts edits into a copy of a crate, one a function at most. Returns those that went in, by function, and the others."""
+    for part in ("src", "specs", "proofs"):
+        if os.path.isdir(f"{crate.folder}/{part}"):
+            shutil.copytree(f"{crate.folder}/{part}", f"{room}/{part}")
+    planted, left = {}, []
+    for edit in edits:
+        texts, why = rt.read_edit(edit, room)
+        path, new = next(iter(texts.items())) if not why and len(texts) == 1 else ("", "")
+        function = None
+        if path.endswith(".rt"):
+            with open(f"{room}/{path}", encoding="utf-8") as file:
+                function = function_of(path, file.read(), new)
+        if not function or function in planted:
+            left.append(edit)
+            continue
+        with open(f"{room}/{path}", "w", encoding="utf-8") as file:
+            file.write(new)
+        planted[function] = edit, path, new
+    return planted, left
+
+
+def refused_together(rt, crate, edits):
+    """Returns the edits that a check with all of them refuses in the functions that they change, each with what it says."""
+    refused = []
+    while edits:
+        with tempfile.TemporaryDirectory() as room:
+            planted, edits = plant(rt, crate, edits, room)
+            if not planted:
+                break
+            texts = {}
+            for _, path, _ in planted.values():
+                with open(f"{room}/{path}", encoding="utf-8") as file:
+                    texts[path] = file.read()
+            flags = ["--jobs", "1", *(word for function in planted for word in ("--only", function))]
+            told = rt.checked(crate, texts, flags, None).stdout
+            # (an error with a name in brackets is one of reading: then nothing was tried)
+            if re.search(r"\berror\[[\w-]+\]", told):
+                continue
+            lines = re.findall(r"^(?:note: )?\S+:\d+:\d+: .*(?:it is not proved|error: ).*", told, re.M)
+            said = {}
+            for line in lines:
+                if not ONLY_NAMES.search(line):
+                    said.setdefault(told_of(line, room), line)
+            refused += [(edit, said[function]) for function, (edit, _, _) in planted.items() if function in said]
+    return refused
 
 
 def is_refused(rt, crate, edit):
@@ -165,37 +243,60 @@ def is_refused(rt, crate, edit):
     if not function:
         return False, ""
     told = rt.checked(crate, texts, ["--jobs", "1", "--only", function], None)
-    # (not what only says that a proof file names what the edit took away)
     lines = re.findall(r"^(?:note: )?\S+:\d+:\d+: .*", told.stdout, re.M)
-    lines = [it for it in lines if not re.search(r"has no field|is not in scope|has no `|was not admitted", it)]
+    lines = [it for it in lines if not ONLY_NAMES.search(it)]
     # (fewer are proved than were checked, and the text was read: an error with a name in brackets is one of reading)
     is_unproved = re.search(r"^only=(\d+) proved=(?!\1$)", told.stdout, re.M)
     is_read = not re.search(r"\berror\[[\w-]+\]", told.stdout)
     return told.returncode == 1 and is_read and bool(is_unproved and lines), "".join(lines[:1])
 
 
+def edits_of(copy, name):
+    return sorted(glob.glob(f"{copy}/crates/{name}/must-fail/*.edit"))
+
+
+def say_refused(crate, edit, told):
+    os.remove(edit)
+    print(f"edits: {crate.name}/{os.path.basename(edit)}: refused, as it must be: {told[:160]}", flush=True)
+
+
+def side_by_side(rt, call, items):
+    rt.rtlib.guarded()
+    with concurrent.futures.ThreadPoolExecutor(int(os.environ.get("RT_JOBS", "1"))) as pool:
+        list(pool.map(call, items))
+
+
+def together(copy, names):
+    rt = load_rt()
+    rt.Crate.allowed = rt.handles_of(copy)
+    crates = {it.name: it for it in crates_of(rt, copy)}
+
+    def one(name):
+        for edit, told in refused_together(rt, crates[name], edits_of(copy, name)):
+            say_refused(crates[name], edit, told)
+
+    side_by_side(rt, one, names)
+    return 0
+
+
 def functions(copy, names):
     rt = load_rt()
     rt.Crate.allowed = rt.handles_of(copy)
     crates = {it.name: it for it in crates_of(rt, copy)}
-    edits = [(crates[name], edit) for name in names for edit in sorted(glob.glob(f"{copy}/crates/{name}/must-fail/*.edit"))]
 
     def one(of):
         refused, told = is_refused(rt, *of)
         if refused:
-            os.remove(of[1])
-            print(f"edits: {of[0].name}/{os.path.basename(of[1])}: refused, as it must be: {told[:160]}", flush=True)
+            say_refused(*of, told)
 
-    rt.rtlib.guarded()
-    with concurrent.futures.ThreadPoolExecutor(int(os.environ.get("RT_JOBS", "1"))) as pool:
-        list(pool.map(one, edits))
+    side_by_side(rt, one, [(crates[name], edit) for name in names for edit in edits_of(copy, name)])
     return 0
 
 
 def main():
     command, copy, names = sys.argv[1], os.path.realpath(sys.argv[2]), sys.argv[3:]
     os.chdir(copy)
-    sys.exit({"libraries": libraries, "applied": applied, "functions": functions}[command](copy, names))
+    sys.exit({"libraries": libraries, "applied": applied, "together": together, "functions": functions}[command](copy, names))
 
 
 if __name__ == "__main__":

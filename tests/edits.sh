@@ -1,10 +1,12 @@
 #!/usr/bin/env bash
 # Tries the edits that the gate leaves out, those of edits/NAME, beside those of crates/NAME/must-fail: the check must
 # refuse each.
-# Usage: tests/edits.sh [-n] [-q] [-j JOBS] [-p CLONE] [NAME..]     (every crate of edits/ where none is named)
+# Usage: tests/edits.sh [-n] [-q] [-t] [-j JOBS] [-p CLONE] [NAME..]     (every crate of edits/ where none is named)
 #   -n         says which of them can't be applied, and tries none, in seconds
 #   -q         tries each by a check of the one function that it changes first, which needs no proof of the crate before:
 #              cheaper where no check of the crate was kept; what isn't refused there is tried as without it
+#   -t         tries those of a crate by one check with all of them first, at most one a function: what isn't refused in the
+#              function that it changes is tried as without it. Cheapest for many edits
 #   -j JOBS    so many checks side by side, whatever memory they take; without it rt chooses
 #   -p CLONE   takes the libraries that `rt ci` left in this clone, of the crates that are the same there with all below
 #              them: where rt keeps nothing beside the kit
@@ -15,10 +17,12 @@
 cd "$(dirname "$0")/.." || exit 2
 tries=yes
 quick=no
-while getopts nqj:p: flag; do
+at_once=no
+while getopts nqtj:p: flag; do
     case $flag in
         n) tries=no ;;
         q) quick=yes ;;
+        t) at_once=yes ;;
         j) export RT_JOBS=$OPTARG ;;
         p) PROVED=$(cd "$OPTARG" && pwd) || exit 2; export PROVED ;;
         *) exit 2 ;;
@@ -64,15 +68,19 @@ fi
 python3 tests/edits.py libraries "$room" "${names[@]}"
 status=0
 : > "$room/told"
-if [ "$quick" = yes ]; then
-    python3 tests/edits.py functions "$room" "${names[@]}" 2>&1 | tee "$room/told"
-    status=${PIPESTATUS[0]}
+# Tries edits another way, which takes away those that it finds refused.
+try_by() {
+    [ ${#names[@]} -gt 0 ] || return
+    python3 tests/edits.py "$1" "$room" "${names[@]}" 2>&1 | tee -a "$room/told"
+    status=$((status + PIPESTATUS[0]))
     left=()
     for name in "${names[@]}"; do
         compgen -G "$room/crates/$name/must-fail/*.edit" > /dev/null && left+=("$name")
     done
     names=("${left[@]}")
-fi
+}
+[ "$at_once" = no ] || try_by together
+[ "$quick" = no ] || try_by functions
 if [ ${#names[@]} -gt 0 ]; then
     (cd "$room" && rt must-fail "${names[@]}") 2>&1 | tee -a "$room/told"
     status=$((status + PIPESTATUS[0]))
