@@ -35,35 +35,42 @@ def load_rt():
     return rt
 
 
-def crates_of(rt, copy):
-    """Returns the crates of a copy, lowest first, which keep what is in their out/."""
+def crates_of(copy):
+    """Returns rt and the crates of a copy, lowest first, which keep what is in their out/."""
+    rt = load_rt()
+    rt.Crate.allowed = rt.handles_of(copy)
     try:
-        return rt.crates_of(copy)
+        return rt, rt.crates_of(copy)
     except TypeError:
         # (an older rt moves each out/ to a folder that it is given)
         with tempfile.TemporaryDirectory() as aside:
             crates = rt.crates_of(copy, aside)
             for name in os.listdir(aside):
                 shutil.move(f"{aside}/{name}", f"{copy}/crates/{name}/out")
-        return crates
+        return rt, crates
+
+
+def below_of(crates, names):
+    """Returns the crates below those of these names, lowest first."""
+    below = {dep for crate in crates if crate.name in names for dep in crate.below()}
+    return [crate for crate in crates if crate in below]
+
+
+def stamp(crate):
+    """Says that the library is made of these files, which `rt ci` leaves out and the other commands ask for."""
+    with open(f"{crate.folder}/out/rlib/stamp", "w", encoding="utf-8") as file:
+        file.write(crate.stamp())
 
 
 def give(copy, names):
     """Yields the crates below these, and whether each was kept."""
-    rt = load_rt()
-    rt.Crate.allowed = rt.handles_of(copy)
-    crates = crates_of(rt, copy)
-    below = {dep for crate in crates if crate.name in names for dep in crate.below()}
+    rt, crates = crates_of(copy)
     kept = rt.Kept(crates)
     lacking = set()
-    for crate in crates:
-        if crate not in below:
-            continue
+    for crate in below_of(crates, names):
         if lacking.isdisjoint(crate.below()) and kept.give(crate, False, kept.key(crate)):
             kept.is_built(crate)
-            # `rt ci` leaves out what tells the other commands that the library is made of these files
-            with open(f"{crate.folder}/out/rlib/stamp", "w", encoding="utf-8") as stamp:
-                stamp.write(crate.stamp())
+            stamp(crate)
             yield crate.name, True
         else:
             lacking.add(crate)
@@ -87,14 +94,9 @@ def is_same(one, other):
 
 def give_from(proved, copy, names):
     """Yields the crates below these, and whether the clone in which `rt ci` ran has a library of the same files."""
-    rt = load_rt()
-    rt.Crate.allowed = rt.handles_of(copy)
-    crates = crates_of(rt, copy)
-    below = {dep for crate in crates if crate.name in names for dep in crate.below()}
+    _, crates = crates_of(copy)
     lacking, taken = set(), []
-    for crate in crates:
-        if crate not in below:
-            continue
+    for crate in below_of(crates, names):
         old = f"{proved}/crates/{crate.name}"
         is_there = lacking.isdisjoint(crate.below()) and os.path.isdir(f"{old}/out/rlib") and is_same(old, crate.folder)
         if is_there:
@@ -104,8 +106,7 @@ def give_from(proved, copy, names):
             lacking.add(crate)
         yield crate.name, is_there
     for crate in taken:
-        with open(f"{crate.folder}/out/rlib/stamp", "w", encoding="utf-8") as stamp:
-            stamp.write(crate.stamp())
+        stamp(crate)
 
 
 def libraries(copy, names):
@@ -202,7 +203,7 @@ def plant(rt, crate, edits, room):
             continue
         with open(f"{room}/{path}", "w", encoding="utf-8") as file:
             file.write(new)
-        planted[function] = edit, path, new
+        planted[function] = edit, path
     return planted, left
 
 
@@ -215,7 +216,7 @@ def refused_together(rt, crate, edits):
             if not planted:
                 break
             texts = {}
-            for _, path, _ in planted.values():
+            for _, path in planted.values():
                 with open(f"{room}/{path}", encoding="utf-8") as file:
                     texts[path] = file.read()
             flags = ["--jobs", "1", *(word for function in planted for word in ("--only", function))]
@@ -228,7 +229,7 @@ def refused_together(rt, crate, edits):
             for line in lines:
                 if not ONLY_NAMES.search(line):
                     said.setdefault(told_of(line, room), line)
-            refused += [(edit, said[function]) for function, (edit, _, _) in planted.items() if function in said]
+            refused += [(edit, said[function]) for function, (edit, _) in planted.items() if function in said]
     return refused
 
 
@@ -267,9 +268,8 @@ def side_by_side(rt, call, items):
 
 
 def together(copy, names):
-    rt = load_rt()
-    rt.Crate.allowed = rt.handles_of(copy)
-    crates = {it.name: it for it in crates_of(rt, copy)}
+    rt, found = crates_of(copy)
+    crates = {it.name: it for it in found}
 
     def one(name):
         for edit, told in refused_together(rt, crates[name], edits_of(copy, name)):
@@ -280,9 +280,8 @@ def together(copy, names):
 
 
 def functions(copy, names):
-    rt = load_rt()
-    rt.Crate.allowed = rt.handles_of(copy)
-    crates = {it.name: it for it in crates_of(rt, copy)}
+    rt, found = crates_of(copy)
+    crates = {it.name: it for it in found}
 
     def one(of):
         refused, told = is_refused(rt, *of)
