@@ -101,8 +101,8 @@ body-kept p S (body.All literals) listed stands = refl
 body-kept p S (body.AtLeast c items) listed stands =
     let b : Body = body.AtLeast c items in
     let y = assigned p S in
-    let t : holds_in y (T (var_of_form p b)) ≡ int_le c (weight_of S items) = holds-assigned p S (T (var_of_form p b)) (form-within p b listed) ∙ form-true p S b listed in
-    let f : holds_in y (F (var_of_form p b)) ≡ not (int_le c (weight_of S items)) = holds-assigned p S (F (var_of_form p b)) (form-within p b listed) ∙ form-false p S b listed in
+    let t : holds_in y (T (var_of_form p b)) ≡ int_le c (weight_of S items) = holds-assigned p S (T (var_of_form p b)) (form-within p b (wide_among b (bodies_of p) refl listed)) ∙ form-true p S b listed in
+    let f : holds_in y (F (var_of_form p b)) ≡ not (int_le c (weight_of S items)) = holds-assigned p S (F (var_of_form p b)) (form-within p b (wide_among b (bodies_of p) refl listed)) ∙ form-false p S b listed in
     let high : weight_by (may_hold y) p items ≡ weight_of S items = weight-held p S (may_hold y) items (each_item p S (may_hold y) (literal-may p S) items stands) in
     let low : weight_by (holds_in y) p items ≡ weight_of S items = weight-held p S (holds_in y) items (each_item p S (holds_in y) (literal-held p S) items stands) in
     rw (t, f, high, low) (not_both c (weight_of S items))

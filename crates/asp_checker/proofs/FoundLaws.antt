@@ -15,7 +15,7 @@ use Rattle.asp_model.specs.Holding.{atom_of, is_positive}
 use Rattle.asp_model.specs.Models.{atoms_of, rules_in_force, head_atoms}
 use Rattle.asp_model.proofs.MemberLaws.{each_passes}
 use Rattle.asp_vars.specs.Literals.{Literal, F, complement, has_literal}
-use Rattle.asp_vars.specs.Numbering.{normal, var_of_atom, var_of_form, literal_of}
+use Rattle.asp_vars.specs.Numbering.{normal, var_of_atom, literal_of_form, literal_of}
 use Rattle.asp_vars.specs.Tabled.{bound_of, form_literals, form_weights, Stands}
 use Rattle.asp_vars.specs.Unfounded.{is_inside}
 use Rattle.asp_loop.specs.LoopNogoods.{weight_where, is_left}
@@ -45,18 +45,18 @@ less_not a c = grind (arith, ints)
 
 -- ---- a body
 pub answered_weighted : (p : Program) (U vars : Atoms) (n : List Literal) (b : Body) (c : ℤ) → AreVarsOf p U vars → Stands (atoms_of p) b → bound_of b ≡ Some c →
-    (has_literal n (F (var_of_form p b)) || not (int_le c (weigh (is_kept vars n) (form_literals p b) (form_weights b)))) ≡ is_answered p U n b
+    (has_literal n (complement (literal_of_form p b)) || not (int_le c (weigh (is_kept vars n) (form_literals p b) (form_weights b)))) ≡ is_answered p U n b
 answered_weighted p U vars n (body.All literals) c h stand e = cc e
 answered_weighted p U vars n (body.AtLeast bound items) c h stand e =
     let same : bound ≡ c = cc e in
-    let f : Bool = has_literal n (F (var_of_form p (body.AtLeast bound items))) in
+    let f : Bool = has_literal n (complement (literal_of_form p (body.AtLeast bound items))) in
     ap (λ w. f || not (int_le c w)) (kept_weight p U vars n items h stand)
     ∙ ap (λ b. f || b) (less_not (weight_where (is_left p U n) items) c)
     ∙ ap (λ d. f || int_lt (weight_where (is_left p U n) items) d) (sym same)
 
 pub answered_normal : (p : Program) (U vars : Atoms) (n : List Literal) (b : Body) → AreVarsOf p U vars → Stands (atoms_of p) b → bound_of b ≡ None →
-    (has_literal n (F (var_of_form p b)) || list_any (is_within vars) (form_literals p b)) ≡ is_answered p U n b
-answered_normal p U vars n (body.All literals) h stand e = ap (λ b. has_literal n (F (var_of_form p (body.All literals))) || b) (any_within p U vars literals h stand)
+    (has_literal n (complement (literal_of_form p b)) || list_any (is_within vars) (form_literals p b)) ≡ is_answered p U n b
+answered_normal p U vars n (body.All literals) h stand e = ap (λ b. has_literal n (complement (literal_of_form p (body.All literals))) || b) (any_within p U vars literals h stand)
 answered_normal p U vars n (body.AtLeast bound items) h stand e = cc e
 
 -- ---- the whole
@@ -102,14 +102,14 @@ pub all_whole : {X : Type 0} (q : X → Bool) (xs : List X) (i : ℕ) → length
 all_whole q xs i le e = sym (ap (list_all q) (sym (take_all i xs le)) ∙ e)
 
 -- ---- a body that isn't false in the nogood
-pub answered_false : (p : Program) (U : Atoms) (n : List Literal) (b : Body) → has_literal n (F (var_of_form p b)) ≡ true → true ≡ is_answered p U n b
+pub answered_false : (p : Program) (U : Atoms) (n : List Literal) (b : Body) → has_literal n (complement (literal_of_form p b)) ≡ true → true ≡ is_answered p U n b
 answered_false p U n (body.All literals) e = sym (ap (λ t. t || list_any (is_inside U) literals) e)
 answered_false p U n (body.AtLeast bound items) e = sym (ap (λ t. t || int_lt (weight_where (is_left p U n) items) bound) e)
 
-pub open_weighted : (p : Program) (U vars : Atoms) (n : List Literal) (b : Body) (c : ℤ) → AreVarsOf p U vars → Stands (atoms_of p) b → bound_of b ≡ Some c → has_literal n (F (var_of_form p b)) ≡ false →
+pub open_weighted : (p : Program) (U vars : Atoms) (n : List Literal) (b : Body) (c : ℤ) → AreVarsOf p U vars → Stands (atoms_of p) b → bound_of b ≡ Some c → has_literal n (complement (literal_of_form p b)) ≡ false →
     not (int_le c (weigh (is_kept vars n) (form_literals p b) (form_weights b))) ≡ is_answered p U n b
 open_weighted p U vars n b c h stand e f = sym (ap (λ t. t || not (int_le c (weigh (is_kept vars n) (form_literals p b) (form_weights b)))) f) ∙ answered_weighted p U vars n b c h stand e
 
-pub open_normal : (p : Program) (U vars : Atoms) (n : List Literal) (b : Body) → AreVarsOf p U vars → Stands (atoms_of p) b → bound_of b ≡ None → has_literal n (F (var_of_form p b)) ≡ false →
+pub open_normal : (p : Program) (U vars : Atoms) (n : List Literal) (b : Body) → AreVarsOf p U vars → Stands (atoms_of p) b → bound_of b ≡ None → has_literal n (complement (literal_of_form p b)) ≡ false →
     list_any (is_within vars) (form_literals p b) ≡ is_answered p U n b
 open_normal p U vars n b h stand e f = sym (ap (λ t. t || list_any (is_within vars) (form_literals p b)) f) ∙ answered_normal p U vars n b h stand e

@@ -35,7 +35,7 @@ use Rattle.asp_checker.specs.Lines.{IsOf, AreOf, IsLoop, AreConfirmed, IsConfirm
 use Rattle.asp_checker.specs.Right.{closes, IsRight}
 use Rattle.asp_checker.specs.Blocks.{known_by, cost_of_bound}
 use Rattle.asp_checker.specs.Judging.{IsWrongAnswer, HasAnswerFault, IsWrongLine, HasLineFault, IsJudged, IsInOrder, AreRightAnswers, IsRightAnswer, HasLiterals, HasLoopLiterals, known_after, AreRightLines, no_line}
-use Rattle.asp_checker.proofs.CompletedLaws.{completion_vars}
+use Rattle.asp_vars.proofs.VarLaws.{completion_vars}
 
 -- ---- the order of sets
 before_then : (S T U : Atoms) → IsBefore S T → IsBefore T U → IsBefore S U

@@ -12,7 +12,6 @@ pub mod BodyLaws
 pub mod AssumeLaws
 pub mod BoundLaws
 pub mod FoundLaws
-pub mod CompletedLaws
 pub mod JudgeLaws
 pub mod RunLaws
 pub mod WrongLaws

@@ -19,7 +19,7 @@ use Rattle.asp_model.specs.Sound.{IsSound}
 use Rattle.asp_model.proofs.SetLaws.{has-set_of}
 use Rattle.asp_model.proofs.MemberLaws.{list_any-flat_map, each_passes, one_passes, HasAll-itself}
 use Rattle.asp_vars.specs.Literals.{Literal, T, F, complement, is_true, hits, has_literal}
-use Rattle.asp_vars.specs.Numbering.{normal, body_eq, bodies_of, var_of_atom, var_of_form, literal_of, values}
+use Rattle.asp_vars.specs.Numbering.{normal, body_eq, bodies_of, var_of_atom, literal_of_form, literal_of, values}
 use Rattle.asp_vars.specs.Tabled.{Stands}
 use Rattle.asp_vars.specs.Entailment.{Entailed}
 use Rattle.asp_vars.specs.Unfounded.{is_inside}
@@ -112,7 +112,7 @@ turned : (b : Bool) → b ≡ false → not b ≡ true
 turned true e = absurd (false≢true (sym e))
 turned false e = refl
 
-body_not_false : (p : Program) (S T U : Atoms) (b : Body) → list_any (body_eq b) (bodies_of p) ≡ true → Apart S T U → AreItems (form_items b) → body_holds_between S T b ≡ true → is_true (values p S) (F (var_of_form p b)) ≡ true → ⊥
+body_not_false : (p : Program) (S T U : Atoms) (b : Body) → list_any (body_eq b) (bodies_of p) ≡ true → Apart S T U → AreItems (form_items b) → body_holds_between S T b ≡ true → is_true (values p S) (complement (literal_of_form p b)) ≡ true → ⊥
 body_not_false p S T U b listed h weighted e f =
     false≢true (sym (ap not (body_between S T U b h weighted e)) ∙ sym (form-false p S b listed) ∙ f)
 
@@ -132,13 +132,13 @@ left_holds p S T U part l stands hit h e =
 -- no body of a rule that holds from outside is answered
 answered_hit : (p : Program) (S T U : Atoms) (b : Body) (n : List Literal) → list_any (body_eq b) (bodies_of p) ≡ true → Stands (atoms_of p) b → AreItems (form_items b) → Apart S T U → body_holds_between S T b ≡ true → is_answered p U n b ≡ true → hits (values p S) n ≡ true → ⊥
 answered_hit p S T U (body.All ls) n listed stands weighted h e answered hit =
-    elim (or_cases (has_literal n (F (var_of_form p (body.All ls)))) (list_any (is_inside U) ls) answered) [
-      | inl has ↦ body_not_false p S T U (body.All ls) listed h weighted e (hits-has (values p S) n (F (var_of_form p (body.All ls))) hit has)
+    elim (or_cases (has_literal n (complement (literal_of_form p (body.All ls)))) (list_any (is_inside U) ls) answered) [
+      | inl has ↦ body_not_false p S T U (body.All ls) listed h weighted e (hits-has (values p S) n (complement (literal_of_form p (body.All ls))) hit has)
       | inr inside ↦ false≢true (sym (none_inside S T U ls h e) ∙ inside)
     ]
 answered_hit p S T U (body.AtLeast c items) n listed stands weighted h e answered hit =
-    elim (or_cases (has_literal n (F (var_of_form p (body.AtLeast c items)))) (int_lt (weight_where (is_left p U n) items) c) answered) [
-      | inl has ↦ body_not_false p S T U (body.AtLeast c items) listed h weighted e (hits-has (values p S) n (F (var_of_form p (body.AtLeast c items))) hit has)
+    elim (or_cases (has_literal n (complement (literal_of_form p (body.AtLeast c items)))) (int_lt (weight_where (is_left p U n) items) c) answered) [
+      | inl has ↦ body_not_false p S T U (body.AtLeast c items) listed h weighted e (hits-has (values p S) n (complement (literal_of_form p (body.AtLeast c items))) hit has)
       | inr light ↦ too_light c (weight_between S T items) (weight_where (is_left p U n) items) e (weight_less S T (is_left p U n) items weighted (left items stands)) light
     ]
   where

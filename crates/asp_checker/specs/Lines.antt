@@ -7,8 +7,8 @@ use Rattle.asp_model.specs.declared.program.Program.{Program}
 use Rattle.asp_model.specs.Sets.{Atoms, has}
 use Rattle.asp_model.specs.Models.{rules_in_force, atoms_of, head_atoms}
 use Rattle.asp_model.specs.Costs.{cost}
-use Rattle.asp_vars.specs.Literals.{Literal, T, F, has_literal}
-use Rattle.asp_vars.specs.Numbering.{normal, var_count, var_of_atom, var_of_form}
+use Rattle.asp_vars.specs.Literals.{Literal, T, F, complement, has_literal}
+use Rattle.asp_vars.specs.Numbering.{normal, var_count, var_of_atom, literal_of_form}
 use Rattle.asp_vars.specs.Completion.{completion}
 use Rattle.asp_vars.specs.Unfounded.{is_inside}
 use Rattle.asp_loop.specs.LoopNogoods.{weight_where, is_left}
@@ -33,9 +33,9 @@ nogood_of (line.Cube nogood) = literals_of nogood
 -- ---- loops
 -- Where the nogood's literals hold, the body is false or can't hold from outside of U.
 abbrev pub is_answered : Program → Atoms → List Literal → Body → Bool
-is_answered p U n (body.All literals) = has_literal n (F (var_of_form p (body.All literals))) || list_any (is_inside U) literals
+is_answered p U n (body.All literals) = has_literal n (complement (literal_of_form p (body.All literals))) || list_any (is_inside U) literals
 is_answered p U n (body.AtLeast bound items) =
-    has_literal n (F (var_of_form p (body.AtLeast bound items))) || int_lt (weight_where (is_left p U n) items) bound
+    has_literal n (complement (literal_of_form p (body.AtLeast bound items))) || int_lt (weight_where (is_left p U n) items) bound
 
 -- An atom of U is true in the nogood, and each body of a rule with a head atom in U is answered.
 pub record IsLoop (p : Program) (U : Atoms) (n : List Literal) : Type 0 where

@@ -112,7 +112,7 @@ pub(crate) fn hints_of_body(
     };
     let bound = i64::from(bound);
     let (low, high) = sums(compiled, values, body);
-    let held = Lit::new(compiled.body_var(body), true);
+    let held = compiled.body_lit(body);
     let implied = match value_of(compiled, values, held) {
         Some(true) if high >= bound => {
             let left = high.saturating_sub(bound);

@@ -91,8 +91,7 @@ fn is_answered(compiled: &Compiled, vars: &Interp, nogood: &[Lit], body: usize) 
     requires { body < length (bodies_of compiled.now) }
     ensures { (set : List ℕ) → AreVarsOf compiled.now set vars.now → result ≡ is_answered compiled.now set nogood.now (nth_body compiled.now body) }
 {
-    let var = compiled.body_var(body);
-    let is_false = stands(nogood, Lit::new(var, false));
+    let is_false = stands(nogood, compiled.body_lit(body).complement());
     if is_false {
         return true;
     }
@@ -127,10 +126,7 @@ fn is_answered_rule(
     if !inside {
         return true;
     }
-    let var = compiled.rule_body(rule);
-    let atoms = compiled.atom_count();
-    let body = var as usize - atoms - 1;
-    is_answered(compiled, vars, nogood, body)
+    is_answered(compiled, vars, nogood, compiled.rule_body(rule))
 }
 
 fn are_answered(compiled: &Compiled, set: &Interp, vars: &Interp, nogood: &[Lit]) -> bool

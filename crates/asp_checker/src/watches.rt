@@ -196,7 +196,7 @@ fn list_body(
 ) -> Result<(), AllocError>
     requires { body < length (bodies_of compiled.now) }
 {
-    list_at(by_var, compiled.body_var(body) as usize, body)?;
+    list_at(by_var, compiled.body_lit(body).var() as usize, body)?;
     for lit in compiled.literals(body) {
         list_at(by_var, lit.var() as usize, body)?;
     }

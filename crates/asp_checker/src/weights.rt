@@ -19,7 +19,7 @@ fn is_weight_body_broken(compiled: &Compiled, values: &Assign, body: usize, boun
     let _program = compiled.program();
     let lits = compiled.literals(body);
     let weights = compiled.weights(body);
-    match values.value(compiled.body_var(body)) {
+    match values.value(compiled.body_lit(body).var()) {
         None => false,
         Some(true) => !reaches(values, true, lits, weights, bound),
         Some(false) => reaches(values, false, lits, weights, bound),

@@ -12,29 +12,35 @@ use Rattle.asp_model.specs.declared.program.Head.TheVariants as head
 use Rattle.asp_model.specs.declared.program.Program.{Program}
 use Rattle.asp_model.specs.Models.{rules_in_force, atoms_of}
 use Rattle.asp_vars.specs.declared.nogood.Nogood.{Nogood}
-use Rattle.asp_vars.specs.Literals.{Literal, T, F, complement}
-use Rattle.asp_vars.specs.Numbering.{bodies_of, literal_of, nth_atom, nth_body, nth_rule, var_of_form}
+use Rattle.asp_vars.specs.Literals.{Literal, complement}
+use Rattle.asp_vars.specs.Numbering.{bodies_of, literal_of, nth_atom, nth_body, nth_rule, is_wide, literal_of_form}
 use Rattle.asp_model.specs.Sound.{IsSound}
 use Rattle.asp_model.proofs.MemberLaws.{each-map}
 use Rattle.asp_vars.specs.Entailment.{Entailed}
 use Rattle.asp_vars.specs.Completion.{is_barred, atom_nogood, body_nogoods, completion}
-use Rattle.asp_vars.proofs.CompletionLaws.{body_nogoods-barred, body_nogoods-defining, completion_entailed}
+use Rattle.asp_vars.proofs.CompletionLaws.{body_nogoods-wide, normal_nogoods-barred, normal_nogoods-defining, completion_entailed}
 use Rattle.asp_vars.specs.Tabled.{form_literals, bound_of}
 use Rattle.asp_complete.specs.Listed.{groups, nogoods_between, nogoods_of_rule, pure, parts}
 
-same_parts : (p : Program) (v : ℕ) (ls : List ℤ) → map pure (map (λ l. T v ∷ complement (literal_of p l) ∷ []) ls) ≡ parts v (map (literal_of p) ls)
-same_parts p v [] = refl
-same_parts p v (l ∷ ls) = ap (λ ns. pure (T v ∷ complement (literal_of p l) ∷ []) ∷ ns) (same_parts p v ls)
+same_parts : (p : Program) (b : Literal) (ls : List ℤ) → map pure (map (λ l. b ∷ complement (literal_of p l) ∷ []) ls) ≡ parts b (map (literal_of p) ls)
+same_parts p b [] = refl
+same_parts p b (l ∷ ls) = ap (λ ns. pure (b ∷ complement (literal_of p l) ∷ []) ∷ ns) (same_parts p b ls)
 
-pub body_listed : (p : Program) (b : Body) → is_some (bound_of b) ≡ false → is_barred p b ≡ false → map pure (body_nogoods p b) ≡ pure (F (var_of_form p b) ∷ form_literals p b) ∷ parts (var_of_form p b) (form_literals p b)
-body_listed p (body.All ls) e open_ =
-    ap (map pure) (body_nogoods-defining p ls open_)
-    ∙ ap (λ ns. pure (F (var_of_form p (body.All ls)) ∷ map (literal_of p) ls) ∷ ns) (same_parts p (var_of_form p (body.All ls)) ls)
-body_listed p (body.AtLeast c items) e open_ = absurd (false≢true (sym e))
+pub body_listed : (p : Program) (b : Body) → is_some (bound_of b) ≡ false → is_wide b ≡ true → is_barred p b ≡ false → map pure (body_nogoods p b) ≡ pure (complement (literal_of_form p b) ∷ form_literals p b) ∷ parts (literal_of_form p b) (form_literals p b)
+body_listed p (body.All ls) e wide open_ =
+    ap (map pure) (body_nogoods-wide p ls wide ∙ normal_nogoods-defining p ls open_)
+    ∙ ap (λ ns. pure (complement (literal_of_form p (body.All ls)) ∷ map (literal_of p) ls) ∷ ns) (same_parts p (literal_of_form p (body.All ls)) ls)
+body_listed p (body.AtLeast c items) e wide open_ = absurd (false≢true (sym e))
 
-pub barred_listed : (p : Program) (b : Body) → is_some (bound_of b) ≡ false → is_barred p b ≡ true → map pure (body_nogoods p b) ≡ pure (form_literals p b) ∷ []
-barred_listed p (body.All ls) e barred = ap (map pure) (body_nogoods-barred p ls barred)
-barred_listed p (body.AtLeast c items) e barred = absurd (false≢true (sym e))
+pub barred_listed : (p : Program) (b : Body) → is_some (bound_of b) ≡ false → is_wide b ≡ true → is_barred p b ≡ true → map pure (body_nogoods p b) ≡ pure (form_literals p b) ∷ []
+barred_listed p (body.All ls) e wide barred = ap (map pure) (body_nogoods-wide p ls wide ∙ normal_nogoods-barred p ls barred)
+barred_listed p (body.AtLeast c items) e wide barred = absurd (false≢true (sym e))
+
+pub narrow_unlisted : (p : Program) (b : Body) → is_wide b ≡ false → map pure (body_nogoods p b) ≡ []
+narrow_unlisted p (body.All []) e = absurd (false≢true (sym e))
+narrow_unlisted p (body.All (l ∷ [])) e = refl
+narrow_unlisted p (body.All (l ∷ k ∷ ks)) e = absurd (false≢true (sym e))
+narrow_unlisted p (body.AtLeast c items) e = absurd (false≢true (sym e))
 
 pub body_unlisted : (p : Program) (b : Body) → is_some (bound_of b) ≡ true → map pure (body_nogoods p b) ≡ []
 body_unlisted p (body.All ls) e = absurd (false≢true e)

@@ -1,9 +1,9 @@
 //! The completion as a list of nogoods, or a part of it after another.
-ghost use Rattle.std.specs.Prelude.{◌≡◌, ◌+◌, ◌<◌, ◌^◌, [], ◌∷◌, ◌++◌, IfOk, OnOk, All, map, length, slice_index_or, ◌≤◌};
+ghost use Rattle.std.specs.Prelude.{◌≡◌, ◌+◌, ◌<◌, [], ◌∷◌, ◌++◌, IfOk, OnOk, All, map, length, slice_index_or, ◌≤◌};
 ghost use Rattle.asp_model.specs.declared.program.Program.{Program};
 ghost use Rattle.asp_model.specs.Models.{atoms_of, rules_in_force};
-ghost use Rattle.asp_vars.specs.Literals.{T, F, complement};
-ghost use Rattle.asp_vars.specs.Numbering.{bodies_of, var_of_body, nth_atom, nth_body, nth_rule};
+ghost use Rattle.asp_vars.specs.Literals.{Literal, complement};
+ghost use Rattle.asp_vars.specs.Numbering.{bodies_of, nth_atom, nth_body, nth_rule};
 ghost use Rattle.asp_vars.specs.Entailment.{Entailed};
 ghost use Rattle.asp_vars.specs.Completion.{atom_nogood, body_nogoods, completion, rule_nogoods};
 ghost use Rattle.asp_complete.specs.Listed.{groups, nogoods_between, nogoods_of_rule, pure, parts};
@@ -15,8 +15,9 @@ ghost use Rattle.asp_model.specs.Views.{head_seen};
 
 use asp_model::view::HeadView;
 use asp_vars::compiled::Compiled;
-use asp_vars::lit::{Lit, Var};
-use asp_vars::nogood::{Base, Lits, Nogood, all_false};
+use asp_vars::lit::Lit;
+use asp_vars::nogood::{Base, Lits, Nogood};
+use asp_vars::support::atom_nogood;
 use std::alloc::{AllocError, Global};
 
 fn push(nogoods: &mut Vec<Nogood>, lits: Lits) -> Result<(), AllocError>
@@ -45,18 +46,14 @@ fn with_first(alloc: Global, first: Lit, others: &[Lit]) -> Result<Lits, AllocEr
 fn add_parts(
     alloc: Global,
     nogoods: &mut Vec<Nogood>,
-    var: Var,
+    body: Lit,
     literals: &[Lit],
 ) -> Result<(), AllocError>
-    requires { var < 2 ^ 31 }
-    ensures { OnOk result (nogoods.new.items ≡ nogoods.old.items ++ parts var literals.now) }
+    ensures { OnOk result (nogoods.new.items ≡ nogoods.old.items ++ parts body literals.now) }
 {
     for literal in literals {
         let other = [literal.complement()];
-        push(
-            nogoods,
-            with_first(alloc, Lit::new(var, true), other.as_slice())?,
-        )?;
+        push(nogoods, with_first(alloc, body, other.as_slice())?)?;
     }
     Ok(())
 }
@@ -64,14 +61,13 @@ fn add_parts(
 fn add_body(
     alloc: Global,
     nogoods: &mut Vec<Nogood>,
-    var: Var,
+    body: Lit,
     literals: &[Lit],
 ) -> Result<(), AllocError>
-    requires { var < 2 ^ 31 }
-    ensures { OnOk result (nogoods.new.items ≡ nogoods.old.items ++ pure (F var ∷ literals.now) ∷ parts var literals.now) }
+    ensures { OnOk result (nogoods.new.items ≡ nogoods.old.items ++ pure (complement body ∷ literals.now) ∷ parts body literals.now) }
 {
-    push(nogoods, with_first(alloc, Lit::new(var, false), literals)?)?;
-    add_parts(alloc, nogoods, var, literals)
+    push(nogoods, with_first(alloc, body.complement(), literals)?)?;
+    add_parts(alloc, nogoods, body, literals)
 }
 
 // The literals alone: a nogood of a body that a constraint has.
@@ -93,12 +89,14 @@ fn add_body_at(
     if compiled.bound(body).is_some() {
         return Ok(());
     }
-    let var = compiled.body_var(body);
     let literals = compiled.literals(body);
+    if !compiled.is_wide(body) {
+        return Ok(());
+    }
     if compiled.is_barred(body) {
         return add_barred(alloc, nogoods, literals);
     }
-    add_body(alloc, nogoods, var, literals)?;
+    add_body(alloc, nogoods, compiled.body_lit(body), literals)?;
     Ok(())
 }
 
@@ -114,23 +112,19 @@ fn add_rule(
     alloc: Global,
     nogoods: &mut Vec<Nogood>,
     compiled: &Compiled,
-    body: Var,
+    body: Lit,
     head: HeadView<'_>,
 ) -> Result<(), AllocError>
-    requires small { body < 2 ^ 31 }
     requires stand { AllByRecursion (λ a. IsTrue (has (atoms_of compiled.now) a)) (head_atoms (head_seen head)) }
     ensures { OnOk result (nogoods.new.items ≡ nogoods.old.items ++ map pure (rule_nogoods compiled.now body (head_seen head.entry))) }
 {
     match head {
         HeadView::One(atom) => {
             let other = [Lit::new(compiled.atom_var(atom), false)];
-            push(
-                nogoods,
-                with_first(alloc, Lit::new(body, true), other.as_slice())?,
-            )
+            push(nogoods, with_first(alloc, body, other.as_slice())?)
         }
         HeadView::Choice(_) => Ok(()),
-        HeadView::Never => add_one(alloc, nogoods, Lit::new(body, true)),
+        HeadView::Never => add_one(alloc, nogoods, body),
     }
 }
 
@@ -143,7 +137,7 @@ fn add_rule_at(
     requires { rule < length (rules_in_force compiled.now) }
     ensures { OnOk result (nogoods.new.items ≡ nogoods.old.items ++ map pure (nogoods_of_rule compiled.now (nth_rule compiled.now rule))) }
 {
-    let body = compiled.rule_body(rule);
+    let body = compiled.body_lit(compiled.rule_body(rule));
     let rule = compiled.rule(rule);
     add_rule(alloc, nogoods, compiled, body, rule.head)
 }
@@ -159,9 +153,7 @@ fn add_atom(
 {
     let _count = compiled.atom_count();
     let var = atom as u32 + 1;
-    let supports = compiled.supports(var);
-    let first = Lit::new(var, true);
-    let lits = all_false(alloc, first, supports)?;
+    let lits = atom_nogood(alloc, compiled, var)?;
     push(nogoods, lits)?;
     Ok(())
 }

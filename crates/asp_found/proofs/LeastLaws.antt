@@ -35,7 +35,8 @@ use Rattle.asp_loop.specs.LoopNogoods.{weight_where}
 use Rattle.asp_loop.specs.Weighing.{weigh}
 use Rattle.asp_loop.proofs.FoundedLaws.{has-filter}
 use Rattle.asp_loop.proofs.EntailedLaws.{weight_less, reached}
-use Rattle.asp_loop.proofs.LoopLaws.{at_form, members}
+use Rattle.asp_vars.proofs.SupportLaws.{at_form}
+use Rattle.asp_loop.proofs.LoopLaws.{members}
 use Rattle.asp_loop.proofs.WeightedLaws.{AreItems, form_items, nth_weighted, form_weighted, body_stands}
 use Rattle.asp_found.specs.Marks.{is_marked, Shows, shown, lit_between, marks_hold, derive_by}
 use Rattle.asp_found.specs.Derivings.{IsDeriving, AreDerived}

@@ -20,7 +20,7 @@ use Rattle.asp_model.proofs.ModelLaws.{least_model-least, least_model-ascends}
 use Rattle.asp_model.proofs.ReductLaws.{rules_in_force-heads}
 use Rattle.asp_model.proofs.ReadingLaws.{step_read, same_body}
 use Rattle.asp_vars.specs.Literals.{Literal, T, F, is_true, hits}
-use Rattle.asp_vars.specs.Numbering.{bodies_of, var_of_atom, var_of_body, values}
+use Rattle.asp_vars.specs.Numbering.{bodies_of, var_of_atom, literal_of_body, values}
 use Rattle.asp_vars.specs.Completion.{body_nogoods, rule_nogoods, atom_nogood, completion}
 use Rattle.asp_vars.proofs.NumberingLaws.{value-atom}
 use Rattle.asp_vars.proofs.StandingLaws.{Among, each_among, back-append, each_both}
@@ -41,13 +41,13 @@ each-unflat_map P f [] h = tt
 each-unflat_map P f (x ∷ xs) h = (each-front P (f x) (flat_map f xs) h, each-unflat_map P f xs (back-append P (f x) (flat_map f xs) h))
 
 -- the rules' nogoods
-rules_unhit : (p : Program) (S : Atoms) → NoneHit p S (completion p) → AllByRecursion (λ (r : Rule). NoneHit p S (rule_nogoods p (var_of_body p r.body) r.head)) (rules_in_force p)
+rules_unhit : (p : Program) (S : Atoms) → NoneHit p S (completion p) → AllByRecursion (λ (r : Rule). NoneHit p S (rule_nogoods p (literal_of_body p r.body) r.head)) (rules_in_force p)
 rules_unhit p S h =
     let P : List Literal → Type 0 = λ n. hits (values p S) n ≡ false in
     let bodies : List (List Literal) = flat_map (body_nogoods p) (bodies_of p) in
-    let rules : List (List Literal) = flat_map (λ (r : Rule). rule_nogoods p (var_of_body p r.body) r.head) (rules_in_force p) in
+    let rules : List (List Literal) = flat_map (λ (r : Rule). rule_nogoods p (literal_of_body p r.body) r.head) (rules_in_force p) in
     let atoms : List (List Literal) = map (atom_nogood p) (atoms_of p) in
-    each-unflat_map P (λ (r : Rule). rule_nogoods p (var_of_body p r.body) r.head) (rules_in_force p) (back-append P bodies rules (each-front P (bodies ++ rules) atoms h))
+    each-unflat_map P (λ (r : Rule). rule_nogoods p (literal_of_body p r.body) r.head) (rules_in_force p) (back-append P bodies rules (each-front P (bodies ++ rules) atoms h))
 
 not_false : (b : Bool) → (not b && true) ≡ false → b ≡ true
 not_false true e = refl
@@ -61,12 +61,12 @@ is_false_F p S a h = ap (λ v. beq v false) (value-atom p S a h) ∙ turned (has
     turned false = refl
 
 -- what a rule derives from S is in S
-rule_keeps : (p : Program) (S : Atoms) (r : Rule) (h : Head) (a : ℕ) → Among (rules_in_force p) r → has (head_atoms h) a ≡ true → AllByRecursion (λ x. has (atoms_of p) x ≡ true) (head_atoms h) → NoneHit p S (rule_nogoods p (var_of_body p r.body) h) → body_holds S r.body ≡ true → has (reduct_heads S h) a ≡ true → has S a ≡ true
+rule_keeps : (p : Program) (S : Atoms) (r : Rule) (h : Head) (a : ℕ) → Among (rules_in_force p) r → has (head_atoms h) a ≡ true → AllByRecursion (λ x. has (atoms_of p) x ≡ true) (head_atoms h) → NoneHit p S (rule_nogoods p (literal_of_body p r.body) h) → body_holds S r.body ≡ true → has (reduct_heads S h) a ≡ true → has S a ≡ true
 rule_keeps p S r (head.One b) a m in_head stand unhit holds_body in_reduct = cases (eqb b a) refl in_head
   where
     same : b ≡ a → has S a ≡ true
     same e =
-        let first : is_true (values p S) (T (var_of_body p r.body)) ≡ true = rule-true p S r m ∙ holds_body in
+        let first : is_true (values p S) (literal_of_body p r.body) ≡ true = rule-true p S r m ∙ holds_body in
         let second : (is_true (values p S) (F (var_of_atom p b)) && true) ≡ false = sym (ap (λ x. x && (is_true (values p S) (F (var_of_atom p b)) && true)) first) ∙ unhit.0 in
         let in_b : has S b ≡ true = not_false (has S b) (sym (ap (λ x. x && true) (is_false_F p S b stand.0)) ∙ second) in
         subst (λ (x : ℕ). has S x ≡ true) e in_b
@@ -144,20 +144,20 @@ pub least-within : (p : Program) (S : Atoms) → IsSound p → NoneHit p S (comp
 least-within p S sound unhit =
     least_model-least p S S sound (closed_from_step (reduct S (rules_in_force p)) S (λ a h.
     one_passes (has S a ≡ true) (λ r. has (derived_heads S S r) a) (rules_in_force p)
-    (each_weaker (λ r. (Among (rules_in_force p) r × AllByRecursion (λ x. has (atoms_of p) x ≡ true) (head_atoms r.head)) × NoneHit p S (rule_nogoods p (var_of_body p r.body) r.head))
+    (each_weaker (λ r. (Among (rules_in_force p) r × AllByRecursion (λ x. has (atoms_of p) x ≡ true) (head_atoms r.head)) × NoneHit p S (rule_nogoods p (literal_of_body p r.body) r.head))
     (λ r. has (derived_heads S S r) a ≡ true → has S a ≡ true) (λ r f e.
     let parts = derived_split S S r a e in
     rule_keeps p S r r.head a f.0.0 (reduct_in_heads S a r.head parts.1) f.0.1 f.1 (sym (same_body S r.body) ∙ parts.0) parts.1) (rules_in_force p)
-    (each_both (λ r. Among (rules_in_force p) r × AllByRecursion (λ x. has (atoms_of p) x ≡ true) (head_atoms r.head)) (λ r. NoneHit p S (rule_nogoods p (var_of_body p r.body) r.head)) (rules_in_force p)
+    (each_both (λ r. Among (rules_in_force p) r × AllByRecursion (λ x. has (atoms_of p) x ≡ true) (head_atoms r.head)) (λ r. NoneHit p S (rule_nogoods p (literal_of_body p r.body) r.head)) (rules_in_force p)
     (each_both (Among (rules_in_force p)) (λ r. AllByRecursion (λ x. has (atoms_of p) x ≡ true) (head_atoms r.head)) (rules_in_force p) (each_among (rules_in_force p)) (heads_stand p)) (rules_unhit p S unhit)))
     (sym (list_any-flat_map (λ b. eqb b a) (derived_heads S S) (rules_in_force p)) ∙ sym (has-set_of (flat_map (derived_heads S S) (rules_in_force p)) a) ∙ ap (λ T. has T a) (sym (step_read S S (rules_in_force p))) ∙ h)))
 
 -- ---- no constraint is broken
-never_fails : (p : Program) (S : Atoms) (r : Rule) (h : Head) → Among (rules_in_force p) r → NoneHit p S (rule_nogoods p (var_of_body p r.body) h) → (is_never h && body_holds S r.body) ≡ false
+never_fails : (p : Program) (S : Atoms) (r : Rule) (h : Head) → Among (rules_in_force p) r → NoneHit p S (rule_nogoods p (literal_of_body p r.body) h) → (is_never h && body_holds S r.body) ≡ false
 never_fails p S r (head.One a) m u = refl
 never_fails p S r (head.Choice xs) m u = refl
 never_fails p S r head.Never m u =
-    sym (rule-true p S r m) ∙ true_last (is_true (values p S) (T (var_of_body p r.body))) ∙ u.0
+    sym (rule-true p S r m) ∙ true_last (is_true (values p S) (literal_of_body p r.body)) ∙ u.0
   where
     true_last : (b : Bool) → b ≡ (b && true)
     true_last true = refl
@@ -170,8 +170,8 @@ none_passes q (x ∷ xs) h = ap (λ b. b || list_any q xs) h.0 ∙ none_passes q
 unviolated : (p : Program) (S : Atoms) → NoneHit p S (completion p) → list_any (is_violated S) (rules_in_force p) ≡ false
 unviolated p S unhit =
     none_passes (is_violated S) (rules_in_force p)
-    (each_weaker (λ r. Among (rules_in_force p) r × NoneHit p S (rule_nogoods p (var_of_body p r.body) r.head)) (λ r. is_violated S r ≡ false) (λ r f. never_fails p S r r.head f.0 f.1) (rules_in_force p)
-    (each_both (Among (rules_in_force p)) (λ r. NoneHit p S (rule_nogoods p (var_of_body p r.body) r.head)) (rules_in_force p) (each_among (rules_in_force p)) (rules_unhit p S unhit)))
+    (each_weaker (λ r. Among (rules_in_force p) r × NoneHit p S (rule_nogoods p (literal_of_body p r.body) r.head)) (λ r. is_violated S r ≡ false) (λ r f. never_fails p S r r.head f.0 f.1) (rules_in_force p)
+    (each_both (Among (rules_in_force p)) (λ r. NoneHit p S (rule_nogoods p (literal_of_body p r.body) r.head)) (rules_in_force p) (each_among (rules_in_force p)) (rules_unhit p S unhit)))
 
 -- ---- no rest
 filter_none : (q : ℕ → Bool) (xs : List ℕ) (a : ℕ) → filter q xs ≡ [] → has xs a ≡ true → q a ≡ false

@@ -25,7 +25,7 @@ use Rattle.asp_model.proofs.MemberLaws.{list_any-flat_map, each_weaker}
 use Rattle.asp_model.proofs.ModelLaws.{least_model-derived}
 use Rattle.asp_model.proofs.ReadingLaws.{step_read}
 use Rattle.asp_vars.specs.Literals.{Literal, F, complement, is_true, agrees, holds_in}
-use Rattle.asp_vars.specs.Numbering.{normal, body_eq, bodies_of, place_of, var_of_atom, var_of_form, literal_of, values}
+use Rattle.asp_vars.specs.Numbering.{normal, body_eq, bodies_of, wide_bodies, place_of, var_of_atom, literal_of_form, literal_of, values}
 use Rattle.asp_vars.specs.Completion.{completion}
 use Rattle.asp_vars.specs.Unfounded.{assigned, is_false, is_inside, outside_weight, needs, is_excused, is_unfounded}
 use Rattle.asp_vars.proofs.LiteralLaws.{and_left, and_right, is_true-complement}
@@ -33,6 +33,7 @@ use Rattle.asp_vars.proofs.NormalLaws.{body_holds_between-normal}
 use Rattle.asp_vars.specs.Tabled.{Stands}
 use Rattle.asp_vars.proofs.StandingLaws.{Among, each_among, rule_has_form, normal-stands, rules_in_force-bodies, each_both}
 use Rattle.asp_vars.proofs.CompletionLaws.{literal-holds, form-false}
+use Rattle.asp_vars.proofs.RowLaws.{form_literal}
 use Rattle.asp_found.specs.Rests.{rest}
 use Rattle.asp_found.proofs.RestLaws.{NoneHit, least-within, stable_without_rest, has-filter_from, has-filtered}
 
@@ -66,15 +67,15 @@ place_of-lt test (x ∷ xs) e = cases (test x) refl (place_of-lt test xs)
     cases true q f = omega arith
     cases false q f = let h = f (ap (λ b. b || list_any test xs) q ∙ e) in omega (arith, h)
 
-length-values : (p : Program) (S : Atoms) → length (values p S) ≡ suc (length (atoms_of p) + length (bodies_of p))
+length-values : (p : Program) (S : Atoms) → length (values p S) ≡ suc (length (atoms_of p) + length (wide_bodies p))
 length-values p S =
-    let a = length-append (map (has S) (atoms_of p)) (map (body_holds S) (bodies_of p)) in
+    let a = length-append (map (has S) (atoms_of p)) (map (body_holds S) (wide_bodies p)) in
     let b = length-map (atoms_of p) (has S) in
-    let c = length-map (bodies_of p) (body_holds S) in
+    let c = length-map (wide_bodies p) (body_holds S) in
     omega (arith, a, b, c)
 
-form_within : (p : Program) (S : Atoms) (b : Body) → list_any (body_eq b) (bodies_of p) ≡ true → var_of_form p b < length (values p S)
-form_within p S b e = omega (arith, length-values p S, place_of-lt (body_eq b) (bodies_of p) e)
+form_within : (p : Program) (S : Atoms) (b : Body) → list_any (body_eq b) (bodies_of p) ≡ true → (literal_of_form p b).var < length (values p S)
+form_within p S b e = let is = form_literal p b e in let within = is.1 in omega (arith, length-values p S, within)
 
 atom_within : (p : Program) (S : Atoms) (a : ℕ) → has (atoms_of p) a ≡ true → var_of_atom p a < length (values p S)
 atom_within p S a e = omega (arith, length-values p S, place_of-lt (λ b. eqb b a) (atoms_of p) e)
@@ -150,8 +151,8 @@ body_needs p S (body.AtLeast c items) within stands h e =
 body_excused : (p : Program) (S : Atoms) (b : Body) → IsSubset (least_model p S) S → Stands (atoms_of p) b → list_any (body_eq b) (bodies_of p) ≡ true → body_holds_between S (least_model p S) b ≡ false → is_excused p (assigned p S) (rest p S) b ≡ true
 body_excused p S b within stands has_var e = cases (body_holds S b) refl
   where
-    first : holds_in (assigned p S) (F (var_of_form p b)) ≡ not (body_holds S b)
-    first = assigned-holds p S (F (var_of_form p b)) (form_within p S b has_var) ∙ form-false p S b has_var
+    first : holds_in (assigned p S) (complement (literal_of_form p b)) ≡ not (body_holds S b)
+    first = assigned-holds p S (complement (literal_of_form p b)) (form_within p S b has_var) ∙ form-false p S b has_var
 
     skip : (x y : Bool) → y ≡ true → (x || y) ≡ true
     skip true y e = refl
@@ -159,7 +160,7 @@ body_excused p S b within stands has_var e = cases (body_holds S b) refl
 
     cases : (t : Bool) → t ≡ body_holds S b → is_excused p (assigned p S) (rest p S) b ≡ true
     cases false q = ap (λ x. x || needs p (assigned p S) (rest p S) b) (first ∙ ap not (sym q))
-    cases true q = skip (holds_in (assigned p S) (F (var_of_form p b))) (needs p (assigned p S) (rest p S) b) (body_needs p S b within stands (sym q) e)
+    cases true q = skip (holds_in (assigned p S) (complement (literal_of_form p b))) (needs p (assigned p S) (rest p S) b) (body_needs p S b within stands (sym q) e)
 
 -- ---- the whole set
 any_member : (q : ℕ → Bool) (xs : List ℕ) → list_any q xs ≡ true → (a : ℕ) × (has xs a ≡ true) × (q a ≡ true)

@@ -18,15 +18,17 @@ use Rattle.asp_model.specs.Sound.{IsSound}
 use Rattle.asp_model.proofs.SetLaws.{IsAscending-set_of}
 use Rattle.asp_model.proofs.MemberLaws.{each-front, HasAll-itself}
 use Rattle.asp_vars.specs.Literals.{Literal, T, complement, is_true, hits}
-use Rattle.asp_vars.specs.Numbering.{body_eq, bodies_of, var_count, var_of_atom, var_of_form, var_of_body, literal_of, values, nth_body, nth_atom}
-use Rattle.asp_vars.specs.Completion.{is_barred, defining_nogoods, body_nogoods, rule_nogoods, atom_nogood, completion}
+use Rattle.asp_vars.specs.Numbering.{body_eq, bodies_of, is_wide, wide_bodies, var_count, var_of_atom, var_of_form, literal_of_form, literal_of_body, literal_of, values, nth_atom}
+use Rattle.asp_vars.specs.Completion.{is_barred, defining_nogoods, normal_nogoods, body_nogoods, rule_nogoods, atom_nogood, completion}
 use Rattle.asp_vars.specs.Tabled.{Stands}
 use Rattle.asp_vars.specs.Unfounded.{is_unfounded}
 use Rattle.asp_vars.proofs.LiteralLaws.{is_true-complement}
-use Rattle.asp_vars.proofs.NumberingLaws.{value-atom, value-form}
-use Rattle.asp_vars.proofs.PlaceLaws.{at_each, var_of_nth_atom, var_of_nth_body}
-use Rattle.asp_vars.proofs.CompletionLaws.{body_nogoods-barred, body_nogoods-defining, barred_by}
-use Rattle.asp_vars.proofs.StandingLaws.{back-append, bodies_of-stand, bodies_of-themselves}
+use Rattle.asp_vars.proofs.NumberingLaws.{value-atom, value-form, wide_among}
+use Rattle.asp_vars.proofs.HeldLaws.{literal_by-wide}
+use Rattle.asp_vars.proofs.SupportLaws.{each-filter}
+use Rattle.asp_vars.proofs.PlaceLaws.{at_each, var_of_nth_atom, var_of_nth_wide}
+use Rattle.asp_vars.proofs.CompletionLaws.{body_nogoods-wide, normal_nogoods-barred, normal_nogoods-defining, barred_by}
+use Rattle.asp_vars.proofs.StandingLaws.{back-append, each_both, bodies_of-stand, bodies_of-themselves}
 use Rattle.asp_loop.proofs.FoundedLaws.{has-filter}
 use Rattle.asp_found.specs.Valuations.{IsValuation, true_atoms, KeepsWeights}
 use Rattle.asp_found.proofs.RestLaws.{each-unflat_map}
@@ -38,7 +40,7 @@ Unhit v ns = AllByRecursion (λ n. hits v n ≡ false) ns
 
 -- nor one of the rules
 abbrev RulesUnhit : Program → List Bool → Type 0
-RulesUnhit p v = AllByRecursion (λ (r : Rule). Unhit v (rule_nogoods p (var_of_body p r.body) r.head)) (rules_in_force p)
+RulesUnhit p v = AllByRecursion (λ (r : Rule). Unhit v (rule_nogoods p (literal_of_body p r.body) r.head)) (rules_in_force p)
 
 unhit : (v : List Bool) (ns : List (List Literal)) → list_any (hits v) ns ≡ false → Unhit v ns
 unhit v [] e = tt
@@ -48,15 +50,15 @@ rules_unhit : (p : Program) (v : List Bool) → list_any (hits v) (completion p)
 rules_unhit p v e =
     let P : List Literal → Type 0 = λ n. hits v n ≡ false in
     let bodies : List (List Literal) = flat_map (body_nogoods p) (bodies_of p) in
-    let rules : List (List Literal) = flat_map (λ (r : Rule). rule_nogoods p (var_of_body p r.body) r.head) (rules_in_force p) in
+    let rules : List (List Literal) = flat_map (λ (r : Rule). rule_nogoods p (literal_of_body p r.body) r.head) (rules_in_force p) in
     let atoms : List (List Literal) = map (atom_nogood p) (atoms_of p) in
-    each-unflat_map P (λ (r : Rule). rule_nogoods p (var_of_body p r.body) r.head) (rules_in_force p) (back-append P bodies rules (each-front P (bodies ++ rules) atoms (unhit v (completion p) e)))
+    each-unflat_map P (λ (r : Rule). rule_nogoods p (literal_of_body p r.body) r.head) (rules_in_force p) (back-append P bodies rules (each-front P (bodies ++ rules) atoms (unhit v (completion p) e)))
 
 bodies_unhit : (p : Program) (v : List Bool) → list_any (hits v) (completion p) ≡ false → AllByRecursion (λ b. Unhit v (body_nogoods p b)) (bodies_of p)
 bodies_unhit p v e =
     let P : List Literal → Type 0 = λ n. hits v n ≡ false in
     let bodies : List (List Literal) = flat_map (body_nogoods p) (bodies_of p) in
-    let rules : List (List Literal) = flat_map (λ (r : Rule). rule_nogoods p (var_of_body p r.body) r.head) (rules_in_force p) in
+    let rules : List (List Literal) = flat_map (λ (r : Rule). rule_nogoods p (literal_of_body p r.body) r.head) (rules_in_force p) in
     let atoms : List (List Literal) = map (atom_nogood p) (atoms_of p) in
     each-unflat_map P (body_nogoods p) (bodies_of p) (each-front P bodies rules (each-front P (bodies ++ rules) atoms (unhit v (completion p) e)))
 
@@ -101,40 +103,50 @@ each_true p v x (l ∷ ls) e stand h =
     let one : is_true v (literal_of p l) ≡ true = not_false (is_true v (literal_of p l)) (ap (λ b. b && true) (sym (is_true-complement v (literal_of p l))) ∙ lost) in
     ap (λ b. b && all_hold (true_atoms p v) ls) (sym (literal_value p v l stand.0) ∙ one) ∙ each_true p v x ls e stand.1 h.1
 
--- the value of a body by the nogoods that define it
-defined_value : (p : Program) (v : List Bool) (ls : List ℤ) → Stands (atoms_of p) (body.All ls) → Unhit v (defining_nogoods p ls) → get_or v (var_of_form p (body.All ls)) false ≡ all_hold (true_atoms p v) ls
-defined_value p v ls stand h = cases (get_or v (var_of_form p (body.All ls)) false) refl
+-- the value of a body's variable by the nogoods that define the body
+defined_value : (p : Program) (v : List Bool) (ls : List ℤ) → is_wide (body.All ls) ≡ true → Stands (atoms_of p) (body.All ls) → Unhit v (defining_nogoods p ls) → get_or v (var_of_form p (body.All ls)) false ≡ all_hold (true_atoms p v) ls
+defined_value p v ls wide stand unhit = cases (get_or v x false) refl
   where
+    x : ℕ
+    x = var_of_form p (body.All ls)
+
+    h : Unhit v ((complement (T x) ∷ map (literal_of p) ls) ∷ map (λ l. T x ∷ complement (literal_of p l) ∷ []) ls)
+    h = subst (λ (b : Literal). Unhit v ((complement b ∷ map (literal_of p) ls) ∷ map (λ l. b ∷ complement (literal_of p l) ∷ []) ls)) (literal_by-wide (atoms_of p) x (body.All ls) wide) unhit
+
     cases : (b : Bool) → b ≡ get_or v (var_of_form p (body.All ls)) false → b ≡ all_hold (true_atoms p v) ls
     cases true q = sym (each_true p v (var_of_form p (body.All ls)) ls (sym q) stand h.1)
     cases false q = sym (sym (literals_value p v ls stand) ∙ ap (λ b. beq b false && hits v (map (literal_of p) ls)) q ∙ h.0)
 
 -- a constraint's body is false
-barred_value : (p : Program) (v : List Bool) (b : Body) → RulesUnhit p v → is_barred p b ≡ true → get_or v (var_of_form p b) false ≡ false
-barred_value p v b rules =
-    barred_by (λ (r : Rule). Unhit v (rule_nogoods p (var_of_body p r.body) r.head)) (get_or v (var_of_form p b) false ≡ false) p b rules (λ r u is same.
-    let unit : Unhit v (rule_nogoods p (var_of_form p b) head.Never) = subst (λ (c : Body). Unhit v (rule_nogoods p (var_of_form p c) head.Never)) same (subst (λ (h : Head). Unhit v (rule_nogoods p (var_of_body p r.body) h)) is u) in
-    sym (and_true (beq (get_or v (var_of_form p b) false) true) ∙ beq_true (get_or v (var_of_form p b) false)) ∙ unit.0)
+barred_value : (p : Program) (v : List Bool) (b : Body) → is_wide b ≡ true → RulesUnhit p v → is_barred p b ≡ true → get_or v (var_of_form p b) false ≡ false
+barred_value p v b wide rules =
+    barred_by (λ (r : Rule). Unhit v (rule_nogoods p (literal_of_body p r.body) r.head)) (get_or v (var_of_form p b) false ≡ false) p b rules (λ r u is same.
+    let unit : Unhit v (rule_nogoods p (literal_of_form p b) head.Never) = subst (λ (c : Body). Unhit v (rule_nogoods p (literal_of_form p c) head.Never)) same (subst (λ (h : Head). Unhit v (rule_nogoods p (literal_of_body p r.body) h)) is u) in
+    let alone : Unhit v (rule_nogoods p (T (var_of_form p b)) head.Never) = subst (λ (l : Literal). Unhit v (rule_nogoods p l head.Never)) (literal_by-wide (atoms_of p) (var_of_form p b) b wide) unit in
+    sym (and_true (beq (get_or v (var_of_form p b) false) true) ∙ beq_true (get_or v (var_of_form p b) false)) ∙ alone.0)
 
-normal_value : (p : Program) (v : List Bool) (ls : List ℤ) → RulesUnhit p v → Stands (atoms_of p) (body.All ls) → Unhit v (body_nogoods p (body.All ls)) → get_or v (var_of_form p (body.All ls)) false ≡ all_hold (true_atoms p v) ls
-normal_value p v ls rules stand h = cases (is_barred p (body.All ls)) refl
+normal_value : (p : Program) (v : List Bool) (ls : List ℤ) → is_wide (body.All ls) ≡ true → RulesUnhit p v → Stands (atoms_of p) (body.All ls) → Unhit v (body_nogoods p (body.All ls)) → get_or v (var_of_form p (body.All ls)) false ≡ all_hold (true_atoms p v) ls
+normal_value p v ls wide rules stand unhit = cases (is_barred p (body.All ls)) refl
   where
+    h : Unhit v (normal_nogoods p ls)
+    h = subst (Unhit v) (body_nogoods-wide p ls wide) unhit
+
     cases : (t : Bool) → t ≡ is_barred p (body.All ls) → get_or v (var_of_form p (body.All ls)) false ≡ all_hold (true_atoms p v) ls
     cases true q =
-        let alone : Unhit v (map (literal_of p) ls ∷ []) = subst (Unhit v) (body_nogoods-barred p ls (sym q)) h in
-        barred_value p v (body.All ls) rules (sym q) ∙ sym (sym (literals_value p v ls stand) ∙ alone.0)
-    cases false q = defined_value p v ls stand (subst (Unhit v) (body_nogoods-defining p ls (sym q)) h)
+        let alone : Unhit v (map (literal_of p) ls ∷ []) = subst (Unhit v) (normal_nogoods-barred p ls (sym q)) h in
+        barred_value p v (body.All ls) wide rules (sym q) ∙ sym (sym (literals_value p v ls stand) ∙ alone.0)
+    cases false q = defined_value p v ls wide stand (subst (Unhit v) (normal_nogoods-defining p ls (sym q)) h)
 
-form_value : (p : Program) (v : List Bool) (b : Body) → RulesUnhit p v → KeepsWeights p v → list_any (body_eq b) (bodies_of p) ≡ true → Stands (atoms_of p) b → Unhit v (body_nogoods p b) → get_or v (var_of_form p b) false ≡ body_holds (true_atoms p v) b
-form_value p v (body.All ls) rules keeps listed stand h = normal_value p v ls rules stand h
-form_value p v (body.AtLeast bound items) rules keeps listed stand h = sym (beq_true (get_or v (var_of_form p (body.AtLeast bound items)) false)) ∙ keeps bound items listed
+form_value : (p : Program) (v : List Bool) (b : Body) → is_wide b ≡ true → RulesUnhit p v → KeepsWeights p v → list_any (body_eq b) (bodies_of p) ≡ true → Stands (atoms_of p) b → Unhit v (body_nogoods p b) → get_or v (var_of_form p b) false ≡ body_holds (true_atoms p v) b
+form_value p v (body.All ls) wide rules keeps listed stand h = normal_value p v ls wide rules stand h
+form_value p v (body.AtLeast bound items) wide rules keeps listed stand h = sym (beq_true (get_or v (var_of_form p (body.AtLeast bound items)) false)) ∙ keeps bound items listed
 
 -- ---- all values
 values-length : (p : Program) (S : Atoms) → length (values p S) ≡ suc (var_count p)
 values-length p S =
-    let whole = length-append (map (has S) (atoms_of p)) (map (body_holds S) (bodies_of p)) in
+    let whole = length-append (map (has S) (atoms_of p)) (map (body_holds S) (wide_bodies p)) in
     let atoms = length-map (atoms_of p) (has S) in
-    let bodies = length-map (bodies_of p) (body_holds S) in
+    let bodies = length-map (wide_bodies p) (body_holds S) in
     omega (arith, whole, atoms, bodies)
 
 pub values_are : (p : Program) (v : List Bool) → IsValuation p v → list_any (hits v) (completion p) ≡ false → KeepsWeights p v → v ≡ values p (true_atoms p v)
@@ -147,14 +159,17 @@ values_are p v is e keeps = ext_get_or false v (values p (true_atoms p v)) (is.s
         subst (λ (n : ℕ). get_or v n false ≡ get_or (values p (true_atoms p v)) n false) (var_of_nth_atom p i lt)
         (atom_value p v a stands ∙ sym (value-atom p (true_atoms p v) a stands))
 
-    body_at : (j : ℕ) → j < length (bodies_of p) → get_or v (suc (length (atoms_of p) + j)) false ≡ get_or (values p (true_atoms p v)) (suc (length (atoms_of p) + j)) false
+    body_at : (j : ℕ) → j < length (wide_bodies p) → get_or v (suc (length (atoms_of p) + j)) false ≡ get_or (values p (true_atoms p v)) (suc (length (atoms_of p) + j)) false
     body_at j lt =
-        let b : Body = nth_body p j in
-        let listed : list_any (body_eq b) (bodies_of p) ≡ true = at_each (λ c. list_any (body_eq c) (bodies_of p) ≡ true) (bodies_of p) j (body.All []) (bodies_of-themselves p) lt in
-        let stand : Stands (atoms_of p) b = at_each (Stands (atoms_of p)) (bodies_of p) j (body.All []) (bodies_of-stand p) lt in
-        let open_ : Unhit v (body_nogoods p b) = at_each (λ c. Unhit v (body_nogoods p c)) (bodies_of p) j (body.All []) (bodies_unhit p v e) lt in
-        subst (λ (n : ℕ). get_or v n false ≡ get_or (values p (true_atoms p v)) n false) (var_of_nth_body p j lt)
-        (form_value p v b (rules_unhit p v e) keeps listed stand open_ ∙ sym (value-form p (true_atoms p v) b listed))
+        let Is : Body → Type 0 = λ b. ((list_any (body_eq b) (bodies_of p) ≡ true) × Stands (atoms_of p) b) × Unhit v (body_nogoods p b) in
+        let b : Body = get_or (wide_bodies p) j (body.All []) in
+        let all : AllByRecursion Is (bodies_of p) =
+        each_both (λ b. (list_any (body_eq b) (bodies_of p) ≡ true) × Stands (atoms_of p) b) (λ b. Unhit v (body_nogoods p b)) (bodies_of p)
+        (each_both (λ b. list_any (body_eq b) (bodies_of p) ≡ true) (Stands (atoms_of p)) (bodies_of p) (bodies_of-themselves p) (bodies_of-stand p)) (bodies_unhit p v e) in
+        let is : Is b × (is_wide b ≡ true) = at_each (λ c. Is c × (is_wide c ≡ true)) (wide_bodies p) j (body.All []) (each-filter Is is_wide (bodies_of p) all) lt in
+        let listed : list_any (body_eq b) (bodies_of p) ≡ true = is.0.0.0 in
+        subst (λ (n : ℕ). get_or v n false ≡ get_or (values p (true_atoms p v)) n false) (var_of_nth_wide p j lt)
+        (form_value p v b is.1 (rules_unhit p v e) keeps listed is.0.0.1 is.0.1 ∙ sym (value-form p (true_atoms p v) b (wide_among b (bodies_of p) is.1 listed)))
 
     at : (i : ℕ) → i < suc (var_count p) → get_or v i false ≡ get_or (values p (true_atoms p v)) i false
     at zero lt = is.first

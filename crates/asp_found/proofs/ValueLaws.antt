@@ -1,11 +1,10 @@
 -- The values of all variables under a set.
-use Rattle.std.proofs.Common.{◌≡◌, ℕ, zero, suc, ◌+◌, ◌<◌, ◌≤◌, Bool, true, false, not, ◌&&◌, ◌||◌, eqb, List, [], ◌∷◌, ◌++◌, map, length, take, refl, sym, ap, ◌∙◌, arith}
-use Rattle.std.specs.Prelude.{All}
+use Rattle.std.proofs.Common.{◌≡◌, ℕ, zero, suc, ◌+◌, ◌<◌, ◌≤◌, Bool, true, false, not, ◌&&◌, ◌||◌, eqb, List, [], ◌∷◌, ◌++◌, map, filter, cond, length, take, refl, sym, ap, ◌∙◌, arith}
 use Rattle.std.specs.List.{list_any}
-use Rattle.std.specs.Bool.{beq}
 use Rattle.std.proofs.lemmas.Bool.{eqb-true}
+use Rattle.std.proofs.lemmas.List.Elements.{filter_more}
 use Rattle.std.proofs.lemmas.List.{append_assoc, map-append, length-append, length-map, take_more}
-use Rattle.std.proofs.lemmas.List.Elements.{All-weaker}
+use Rattle.asp_model.specs.declared.program.Body.{Body}
 use Rattle.asp_model.specs.declared.program.Body.TheVariants as body
 use Rattle.asp_model.specs.declared.program.Program.{Program}
 use Rattle.asp_model.specs.Sets.{Atoms, has}
@@ -13,11 +12,14 @@ use Rattle.asp_model.specs.Holding.{body_holds}
 use Rattle.asp_model.specs.Models.{rules_in_force, atoms_of}
 use Rattle.asp_model.proofs.MemberLaws.{HasAll-itself}
 use Rattle.asp_model.proofs.ReadingLaws.{same_body}
-use Rattle.asp_vars.specs.Literals.{F, hits}
-use Rattle.asp_vars.specs.Numbering.{bodies_of, var_count, var_of_atom, var_of_body, values, nth_atom, nth_body, nth_rule, normal}
-use Rattle.asp_vars.specs.Tabled.{IsBodyVar}
-use Rattle.asp_vars.specs.Completion.{supports}
-use Rattle.asp_vars.proofs.NumberingLaws.{get_or-place_of, value-atom, value-form}
+use Rattle.asp_vars.specs.Literals.{Literal, complement, hits, is_true}
+use Rattle.asp_vars.specs.Numbering.{bodies_of, is_wide, wide_bodies, var_count, var_of_atom, form_at, literal_of_form, place_of_body, values, nth_atom, nth_body, nth_rule, normal}
+use Rattle.asp_vars.specs.Tabled.{IsLiteral}
+use Rattle.asp_vars.specs.Completion.{supports, support_bodies}
+use Rattle.asp_vars.proofs.NumberingLaws.{get_or-place_of, value-atom}
+use Rattle.asp_vars.proofs.LiteralLaws.{is_true-complement}
+use Rattle.asp_vars.proofs.CompletionLaws.{form-true}
+use Rattle.asp_vars.proofs.SupportLaws.{body_of_nth_rule, of_supports}
 use Rattle.asp_vars.proofs.NormalLaws.{body_holds-normal}
 use Rattle.asp_vars.proofs.PlaceLaws.{at_each, var_of_nth_atom}
 use Rattle.asp_vars.proofs.StandingLaws.{Among, each_among, rule_has_form}
@@ -37,17 +39,23 @@ pub begun_size : (p : Program) (S : Atoms) (V ys : List Bool) → V ≡ (false �
 begun_size p S V ys is =
     let a = ap length is in let b = length-append (false ∷ map (has S) (atoms_of p)) ys in let c = length-map (atoms_of p) (has S) in omega (arith, a, b, c)
 
-pub value_more : (p : Program) (S : Atoms) (V W : List Bool) (j : ℕ) → j < length (bodies_of p) → V ≡ (false ∷ map (has S) (atoms_of p)) ++ map (body_holds S) (take j (bodies_of p)) → W ≡ V ++ marks_hold p V V (nth_body p j) ∷ [] → W ≡ (false ∷ map (has S) (atoms_of p)) ++ map (body_holds S) (take (j + 1) (bodies_of p))
+pub value_more : (p : Program) (S : Atoms) (V W : List Bool) (j : ℕ) → j < length (bodies_of p) → V ≡ (false ∷ map (has S) (atoms_of p)) ++ map (body_holds S) (filter is_wide (take j (bodies_of p))) → W ≡ V ++ map (marks_hold p V V) (filter is_wide (nth_body p j ∷ [])) → W ≡ (false ∷ map (has S) (atoms_of p)) ++ map (body_holds S) (filter is_wide (take (j + 1) (bodies_of p)))
 value_more p S V W j lt is new =
-    let shows : Shows p S V = begun_shows p S V (map (body_holds S) (take j (bodies_of p))) is in
-    let holds : marks_hold p V V (nth_body p j) ≡ body_holds S (nth_body p j) = marks_link p S S V V (nth_body p j) shows shows (body_stands p j lt) ∙ same_body S (nth_body p j) in
+    let b : Body = nth_body p j in
+    let before : List Body = filter is_wide (take j (bodies_of p)) in
+    let shows : Shows p S V = begun_shows p S V (map (body_holds S) before) is in
+    let holds : marks_hold p V V b ≡ body_holds S b = marks_link p S S V V b shows shows (body_stands p j lt) ∙ same_body S b in
     let marks : List Bool = false ∷ map (has S) (atoms_of p) in
     new
-    ∙ ap (λ b. V ++ b ∷ []) holds
-    ∙ ap (λ U. U ++ body_holds S (nth_body p j) ∷ []) is
-    ∙ append_assoc marks (map (body_holds S) (take j (bodies_of p))) (body_holds S (nth_body p j) ∷ [])
-    ∙ ap (λ ys. marks ++ ys) (sym (map-append (body_holds S) (take j (bodies_of p)) (nth_body p j ∷ [])))
-    ∙ ap (λ bs. marks ++ map (body_holds S) bs) (sym (take_more (bodies_of p) j (body.All []) lt))
+    ∙ ap (λ ys. V ++ ys) (one (is_wide b) b holds)
+    ∙ ap (λ U. U ++ map (body_holds S) (filter is_wide (b ∷ []))) is
+    ∙ append_assoc marks (map (body_holds S) before) (map (body_holds S) (filter is_wide (b ∷ [])))
+    ∙ ap (λ ys. marks ++ ys) (sym (map-append (body_holds S) before (filter is_wide (b ∷ []))))
+    ∙ ap (λ bs. marks ++ map (body_holds S) bs) (sym (filter_more is_wide (bodies_of p) j (body.All []) lt))
+  where
+    one : (t : Bool) (b : Body) → marks_hold p V V b ≡ body_holds S b → map (marks_hold p V V) (cond t (b ∷ []) []) ≡ map (body_holds S) (cond t (b ∷ []) [])
+    one true b h = ap (λ v. v ∷ []) h
+    one false b h = refl
 
 take_whole : {X : Type 0} (xs : List X) (n : ℕ) → length xs ≤ n → take n xs ≡ xs
 take_whole [] zero h = refl
@@ -55,20 +63,19 @@ take_whole [] (suc n) h = refl
 take_whole (x ∷ xs) zero h = absurd (omega arith)
 take_whole (x ∷ xs) (suc n) h = ap (λ ys. x ∷ ys) (take_whole xs n (omega arith))
 
-pub value_all : (p : Program) (S : Atoms) (V : List Bool) (j : ℕ) → length (bodies_of p) ≤ j → V ≡ (false ∷ map (has S) (atoms_of p)) ++ map (body_holds S) (take j (bodies_of p)) → V ≡ values p S
-value_all p S V j end is = is ∙ ap (λ bs. (false ∷ map (has S) (atoms_of p)) ++ map (body_holds S) bs) (take_whole (bodies_of p) j end)
+pub value_all : (p : Program) (S : Atoms) (V : List Bool) (j : ℕ) → length (bodies_of p) ≤ j → V ≡ (false ∷ map (has S) (atoms_of p)) ++ map (body_holds S) (filter is_wide (take j (bodies_of p))) → V ≡ values p S
+value_all p S V j end is = is ∙ ap (λ bs. (false ∷ map (has S) (atoms_of p)) ++ map (body_holds S) (filter is_wide bs)) (take_whole (bodies_of p) j end)
 
 -- ---- what they say
 pub value_count : (p : Program) (S : Atoms) (V : List Bool) → V ≡ values p S → length V ≡ suc (var_count p)
 value_count p S V is =
-    let a = ap length is in let b = length-append (map (has S) (atoms_of p)) (map (body_holds S) (bodies_of p)) in let c = length-map (atoms_of p) (has S) in let d = length-map (bodies_of p) (body_holds S) in omega (arith, a, b, c, d)
+    let a = ap length is in let b = length-append (map (has S) (atoms_of p)) (map (body_holds S) (wide_bodies p)) in let c = length-map (atoms_of p) (has S) in let d = length-map (wide_bodies p) (body_holds S) in omega (arith, a, b, c, d)
 
 pub values_show : (p : Program) (S : Atoms) (V : List Bool) → V ≡ values p S → Shows p S V
-values_show p S V is = begun_shows p S V (map (body_holds S) (bodies_of p)) is
+values_show p S V is = begun_shows p S V (map (body_holds S) (wide_bodies p)) is
 
-pub bodies_small : (p : Program) (S : Atoms) (V : List Bool) (vars : List ℕ) → V ≡ values p S → All (IsBodyVar p) vars → All (λ v. v < length V) vars
-bodies_small p S V vars is h =
-    let size = value_count p S V is in All-weaker (IsBodyVar p) (λ v. v < length V) (λ v b. let small = b.1 in omega (arith, small, size)) vars h
+pub literal_small : (p : Program) (S : Atoms) (V : List Bool) (l : Literal) → V ≡ values p S → IsLiteral p l → l.var < length V
+literal_small p S V l is h = let size = value_count p S V is in let small = h.1 in omega (arith, small, size)
 
 pub atom_value : (p : Program) (S : Atoms) (V : List Bool) (i : ℕ) → V ≡ values p S → i < length (atoms_of p) → is_marked V (i + 1) ≡ has S (nth_atom p i)
 atom_value p S V i is lt =
@@ -79,25 +86,36 @@ atom_value p S V i is lt =
 pub nth_among : (p : Program) (i : ℕ) → i < length (rules_in_force p) → Among (rules_in_force p) (nth_rule p i)
 nth_among p i lt = at_each (Among (rules_in_force p)) (rules_in_force p) i _ (each_among (rules_in_force p)) lt
 
-pub rule_value : (p : Program) (S : Atoms) (V : List Bool) (i v : ℕ) → V ≡ values p S → i < length (rules_in_force p) → v ≡ var_of_body p (nth_rule p i).body → is_marked V v ≡ body_holds S (nth_rule p i).body
-rule_value p S V i v is lt var =
-    ap (λ U. is_marked U v) is ∙ ap (is_marked (values p S)) var
-    ∙ value-form p S (normal (nth_rule p i).body) (rule_has_form p (nth_rule p i) (nth_among p i lt)) ∙ body_holds-normal S (nth_rule p i).body
+pub rule_value : (p : Program) (S : Atoms) (V : List Bool) (i n : ℕ) (l : Literal) → V ≡ values p S → i < length (rules_in_force p) → n ≡ place_of_body p (nth_rule p i).body → l ≡ literal_of_form p (nth_body p n) → is_true V l ≡ body_holds S (nth_rule p i).body
+rule_value p S V i n l is lt place lit =
+    let b : Body = normal (nth_rule p i).body in
+    ap (λ U. is_true U l) is
+    ∙ ap (is_true (values p S)) (lit ∙ ap (λ (m : ℕ). literal_of_form p (nth_body p m)) place ∙ ap (literal_of_form p) (body_of_nth_rule p i lt))
+    ∙ form-true p S b (rule_has_form p (nth_rule p i) (nth_among p i lt)) ∙ body_holds-normal S (nth_rule p i).body
 
-any_not_hit : (V : List Bool) (vars : List ℕ) → list_any (is_marked V) vars ≡ not (hits V (map F vars))
-any_not_hit V [] = refl
-any_not_hit V (v ∷ vars) = ap (λ b. is_marked V v || b) (any_not_hit V vars) ∙ turned (is_marked V v) (hits V (map F vars))
+any_not_hit : (V : List Bool) (f : ℕ → Literal) (ns : List ℕ) → list_any (λ n. is_true V (f n)) ns ≡ not (hits V (map (λ n. complement (f n)) ns))
+any_not_hit V f [] = refl
+any_not_hit V f (n ∷ ns) =
+    ap (λ b. is_true V (f n) || b) (any_not_hit V f ns)
+    ∙ turned (is_true V (f n)) (hits V (map (λ m. complement (f m)) ns))
+    ∙ ap (λ b. not (b && hits V (map (λ m. complement (f m)) ns))) (sym (is_true-complement V (f n)))
   where
-    turned : (a b : Bool) → (a || not b) ≡ not (beq a false && b)
+    turned : (a b : Bool) → (a || not b) ≡ not (not a && b)
     turned true b = refl
     turned false b = refl
 
-pub supported_is : (p : Program) (S : Atoms) (V : List Bool) (a : ℕ) (vars : List ℕ) → V ≡ values p S → vars ≡ supports p a → list_any (is_marked V) vars ≡ is_supported p S a
-supported_is p S V a vars is row =
-    ap (λ U. list_any (is_marked U) vars) is ∙ ap (list_any (is_marked (values p S))) row
-    ∙ any_not_hit (values p S) (supports p a) ∙ cases (is_supported p S a) (hits (values p S) (map F (supports p a))) refl refl
+pub supported_is : (p : Program) (S : Atoms) (V : List Bool) (a : ℕ) (numbers : List ℕ) → V ≡ values p S → numbers ≡ supports p a → list_any (λ n. is_true V (literal_of_form p (form_at p n))) numbers ≡ is_supported p S a
+supported_is p S V a numbers is row =
+    ap (λ U. list_any (λ n. is_true U (literal_of_form p (form_at p n))) numbers) is
+    ∙ ap (list_any (λ n. is_true (values p S) (literal_of_form p (form_at p n)))) row
+    ∙ any_not_hit (values p S) (λ n. literal_of_form p (form_at p n)) (supports p a)
+    ∙ ap (λ ls. not (hits (values p S) ls)) (of_supports p (λ b. complement (literal_of_form p b)) a)
+    ∙ cases (is_supported p S a) (hits (values p S) others) refl refl
   where
-    cases : (s h : Bool) → s ≡ is_supported p S a → h ≡ hits (values p S) (map F (supports p a)) → not (hits (values p S) (map F (supports p a))) ≡ is_supported p S a
+    others : List Literal
+    others = map (λ b. complement (literal_of_form p b)) (support_bodies p a)
+
+    cases : (s h : Bool) → s ≡ is_supported p S a → h ≡ hits (values p S) others → not (hits (values p S) others) ≡ is_supported p S a
     cases true true q r = absurd (supports_unhit p S a (sym r) (sym q))
     cases true false q r = ap not (sym r) ∙ q
     cases false h q r = ap not (supports_hit p S a (sym q)) ∙ q

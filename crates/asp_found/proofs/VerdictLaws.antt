@@ -16,7 +16,7 @@ use Rattle.asp_model.specs.Sound.{IsSound}
 use Rattle.asp_model.proofs.MemberLaws.{list_any-flat_map, each_weaker, one_passes}
 use Rattle.asp_model.proofs.ReductLaws.{rules_in_force-heads}
 use Rattle.asp_vars.specs.Literals.{Literal, T, F, complement, is_true, hits}
-use Rattle.asp_vars.specs.Numbering.{normal, body_eq, bodies_of, var_of_atom, var_of_form, var_of_body, literal_of, values}
+use Rattle.asp_vars.specs.Numbering.{normal, body_eq, bodies_of, var_of_atom, literal_of_form, literal_of_body, literal_of, values}
 use Rattle.asp_vars.specs.Completion.{is_barred, body_nogoods, rule_nogoods, atom_nogood, completion}
 use Rattle.asp_vars.proofs.LiteralLaws.{is_true-complement}
 use Rattle.asp_vars.proofs.NormalLaws.{body_holds-normal}
@@ -26,7 +26,7 @@ use Rattle.asp_vars.proofs.CompletionLaws.{hits-literals, literal-holds, form-tr
 use Rattle.std.proofs.lemmas.List.Folds.{list_any-append}
 use Rattle.asp_model.proofs.MemberLaws.{list_any-map, each-append, each-flat_map, each-map, HasAll, HasAll-itself}
 use Rattle.asp_vars.specs.declared.nogood.Base.TheVariants as base
-use Rattle.asp_vars.specs.Completion.{supports}
+use Rattle.asp_vars.specs.Completion.{support_bodies}
 use Rattle.asp_vars.proofs.StandingLaws.{bodies_of-stand, bodies_of-themselves}
 use Rattle.asp_vars.proofs.NumberingLaws.{same_body as equal_body, body_eq-itself}
 use Rattle.asp_found.specs.Verdicts.{is_kept, keeps, is_supported, rule_literals, IsListed, IsBroken}
@@ -41,21 +41,21 @@ or_right true b e = refl
 or_right false b e = e
 
 -- ---- nogoods of the completion
-rule_listed : (p : Program) (r : Rule) (n : List Literal) → Among (rules_in_force p) r → ((q : List Literal → Bool) → q n ≡ true → list_any q (rule_nogoods p (var_of_body p r.body) r.head) ≡ true) → IsListed p n
+rule_listed : (p : Program) (r : Rule) (n : List Literal) → Among (rules_in_force p) r → ((q : List Literal → Bool) → q n ≡ true → list_any q (rule_nogoods p (literal_of_body p r.body) r.head) ≡ true) → IsListed p n
 rule_listed p r n m at q e =
     let bodies : List (List Literal) = flat_map (body_nogoods p) (bodies_of p) in
-    let rules : List (List Literal) = flat_map (λ (s : Rule). rule_nogoods p (var_of_body p s.body) s.head) (rules_in_force p) in
+    let rules : List (List Literal) = flat_map (λ (s : Rule). rule_nogoods p (literal_of_body p s.body) s.head) (rules_in_force p) in
     let atoms : List (List Literal) = map (atom_nogood p) (atoms_of p) in
     let here : list_any q rules ≡ true =
-    list_any-flat_map q (λ (s : Rule). rule_nogoods p (var_of_body p s.body) s.head) (rules_in_force p)
-    ∙ m (λ s. list_any q (rule_nogoods p (var_of_body p s.body) s.head)) (at q e) in
+    list_any-flat_map q (λ (s : Rule). rule_nogoods p (literal_of_body p s.body) s.head) (rules_in_force p)
+    ∙ m (λ s. list_any q (rule_nogoods p (literal_of_body p s.body) s.head)) (at q e) in
     list_any-append q (bodies ++ rules) atoms
     ∙ or_left (list_any q (bodies ++ rules)) (list_any q atoms) (list_any-append q bodies rules ∙ or_right (list_any q bodies) (list_any q rules) here)
 
 atom_listed : (p : Program) (a : ℕ) → Among (atoms_of p) a → IsListed p (atom_nogood p a)
 atom_listed p a m q e =
     let bodies : List (List Literal) = flat_map (body_nogoods p) (bodies_of p) in
-    let rules : List (List Literal) = flat_map (λ (s : Rule). rule_nogoods p (var_of_body p s.body) s.head) (rules_in_force p) in
+    let rules : List (List Literal) = flat_map (λ (s : Rule). rule_nogoods p (literal_of_body p s.body) s.head) (rules_in_force p) in
     let atoms : List (List Literal) = map (atom_nogood p) (atoms_of p) in
     list_any-append q (bodies ++ rules) atoms
     ∙ or_right (list_any q (bodies ++ rules)) (list_any q atoms) (list_any-map q (atom_nogood p) (atoms_of p) ∙ m (λ b. q (atom_nogood p b)) e)
@@ -70,21 +70,21 @@ both_true true true e f = refl
 both_true true false e f = f
 both_true false b e f = absurd (false≢true e)
 
-pub rule_broken : (p : Program) (S : Atoms) (r : Rule) (h : Head) → IsSound p → Among (rules_in_force p) r → r.head ≡ h → HasAll (atoms_of p) (head_atoms h) → (not (body_holds S r.body) || is_kept S h) ≡ false → IsBroken p S (record { lits = rule_literals p (var_of_body p r.body) h; base = base.Pure })
+pub rule_broken : (p : Program) (S : Atoms) (r : Rule) (h : Head) → IsSound p → Among (rules_in_force p) r → r.head ≡ h → HasAll (atoms_of p) (head_atoms h) → (not (body_holds S r.body) || is_kept S h) ≡ false → IsBroken p S (record { lits = rule_literals p (literal_of_body p r.body) h; base = base.Pure })
 rule_broken p S r (head.One a) sound m e stand fails =
     let parts = and_parts' (body_holds S r.body) (has S a) fails in
     record {
       pure = refl;
-      listed = rule_listed p r _ m (λ q f. subst (λ (h : Head). list_any q (rule_nogoods p (var_of_body p r.body) h) ≡ true) (sym e) (or_left (q (T (var_of_body p r.body) ∷ F (var_of_atom p a) ∷ [])) false f));
+      listed = rule_listed p r _ m (λ q f. subst (λ (h : Head). list_any q (rule_nogoods p (literal_of_body p r.body) h) ≡ true) (sym e) (or_left (q (literal_of_body p r.body ∷ F (var_of_atom p a) ∷ [])) false f));
       entailed = (rule_entailed p r (head.One a) sound m e stand).0;
-      hit = both_true (is_true (values p S) (T (var_of_body p r.body))) (is_true (values p S) (F (var_of_atom p a))) (rule-true p S r m ∙ parts.0) (atom-false p S a stand.0 ∙ ap not parts.1);
+      hit = both_true (is_true (values p S) (literal_of_body p r.body)) (is_true (values p S) (F (var_of_atom p a))) (rule-true p S r m ∙ parts.0) (atom-false p S a stand.0 ∙ ap not parts.1);
     }
 rule_broken p S r (head.Choice atoms) sound m e stand fails = absurd (false≢true (sym (and_parts' (body_holds S r.body) true fails).1))
 rule_broken p S r head.Never sound m e stand fails =
     let parts = and_parts' (body_holds S r.body) false fails in
     record {
       pure = refl;
-      listed = rule_listed p r _ m (λ q f. subst (λ (h : Head). list_any q (rule_nogoods p (var_of_body p r.body) h) ≡ true) (sym e) (or_left (q (T (var_of_body p r.body) ∷ [])) false f));
+      listed = rule_listed p r _ m (λ q f. subst (λ (h : Head). list_any q (rule_nogoods p (literal_of_body p r.body) h) ≡ true) (sym e) (or_left (q (literal_of_body p r.body ∷ [])) false f));
       entailed = (rule_entailed p r head.Never sound m e stand).0;
       hit = ap (λ b. b && true) (rule-true p S r m ∙ parts.0);
     }
@@ -105,16 +105,16 @@ supported_false p S a b none e =
         cases false q = sym q
         cases true q = absurd (false≢true (sym none ∙ m (λ s. has (head_atoms s.head) a && body_holds S s.body) (and_from (has (head_atoms r.head) a) (body_holds S r.body) h (sym q))))
 
-falses_hit : (p : Program) (S : Atoms) (q : Body → Bool) (bs : List Body) → AllByRecursion (λ b. list_any (body_eq b) (bodies_of p) ≡ true) bs → ((b : Body) → q b ≡ true → body_holds S b ≡ false) → hits (values p S) (map F (map (var_of_form p) (filter q bs))) ≡ true
+falses_hit : (p : Program) (S : Atoms) (q : Body → Bool) (bs : List Body) → AllByRecursion (λ b. list_any (body_eq b) (bodies_of p) ≡ true) bs → ((b : Body) → q b ≡ true → body_holds S b ≡ false) → hits (values p S) (map (λ c. complement (literal_of_form p c)) (filter q bs)) ≡ true
 falses_hit p S q [] stand f = refl
 falses_hit p S q (b ∷ bs) stand f = cases (q b) refl (falses_hit p S q bs stand.1 f)
   where
-    cases : (t : Bool) → t ≡ q b → hits (values p S) (map F (map (var_of_form p) (filter q bs))) ≡ true → hits (values p S) (map F (map (var_of_form p) (cond (q b) (b ∷ filter q bs) (filter q bs)))) ≡ true
-    cases true e rest_hit = ap (λ t. hits (values p S) (map F (map (var_of_form p) (cond t (b ∷ filter q bs) (filter q bs))))) (sym e)
-        ∙ and_from (is_true (values p S) (F (var_of_form p b))) (hits (values p S) (map F (map (var_of_form p) (filter q bs)))) (form-false p S b stand.0 ∙ ap not (f b (sym e))) rest_hit
-    cases false e rest_hit = ap (λ t. hits (values p S) (map F (map (var_of_form p) (cond t (b ∷ filter q bs) (filter q bs))))) (sym e) ∙ rest_hit
+    cases : (t : Bool) → t ≡ q b → hits (values p S) (map (λ c. complement (literal_of_form p c)) (filter q bs)) ≡ true → hits (values p S) (map (λ c. complement (literal_of_form p c)) (cond (q b) (b ∷ filter q bs) (filter q bs))) ≡ true
+    cases true e rest_hit = ap (λ t. hits (values p S) (map (λ c. complement (literal_of_form p c)) (cond t (b ∷ filter q bs) (filter q bs)))) (sym e)
+        ∙ and_from (is_true (values p S) (complement (literal_of_form p b))) (hits (values p S) (map (λ c. complement (literal_of_form p c)) (filter q bs))) (form-false p S b stand.0 ∙ ap not (f b (sym e))) rest_hit
+    cases false e rest_hit = ap (λ t. hits (values p S) (map (λ c. complement (literal_of_form p c)) (cond t (b ∷ filter q bs) (filter q bs)))) (sym e) ∙ rest_hit
 
-pub supports_hit : (p : Program) (S : Atoms) (a : ℕ) → is_supported p S a ≡ false → hits (values p S) (map F (supports p a)) ≡ true
+pub supports_hit : (p : Program) (S : Atoms) (a : ℕ) → is_supported p S a ≡ false → hits (values p S) (map (λ c. complement (literal_of_form p c)) (support_bodies p a)) ≡ true
 supports_hit p S a none =
     falses_hit p S (λ b. list_any (λ (r : Rule). has (head_atoms r.head) a && body_eq (normal r.body) b) (rules_in_force p)) (bodies_of p) (bodies_of-themselves p) (λ b e. supported_false p S a b none e)
 
@@ -123,7 +123,7 @@ atom_broken p S a sound m stands in_set none = record {
   pure = refl;
   listed = atom_listed p a m;
   entailed = atom_entailed p a sound stands;
-  hit = and_from (is_true (values p S) (T (var_of_atom p a))) (hits (values p S) (map F (supports p a))) (atom-true p S a stands ∙ in_set)
+  hit = and_from (is_true (values p S) (T (var_of_atom p a))) (hits (values p S) (map (λ c. complement (literal_of_form p c)) (support_bodies p a))) (atom-true p S a stands ∙ in_set)
       (supports_hit p S a none);
 }
 
@@ -153,9 +153,9 @@ body_unhit p S (body.All ls) kept has_var stands =
     each_of_body (λ n. hits (values p S) n ≡ false) p ls (barred_unhit p S ls kept stands) (
       ap (λ b. b && hits (values p S) (map (literal_of p) ls)) (form-false p S (body.All ls) has_var)
           ∙ ap (λ b. not (all_hold S ls) && b) (hits-literals p S ls stands) ∙ not_both' (all_hold S ls),
-      each-map (λ n. hits (values p S) n ≡ false) (λ l. T (var_of_form p (body.All ls)) ∷ complement (literal_of p l) ∷ []) ls
+      each-map (λ n. hits (values p S) n ≡ false) (λ l. literal_of_form p (body.All ls) ∷ complement (literal_of p l) ∷ []) ls
           (each_weaker (λ l. (has (atoms_of p) (atom_of l) ≡ true) × ((S : Atoms) → all_hold S ls ≡ true → holds S l ≡ true))
-          (λ l. hits (values p S) (T (var_of_form p (body.All ls)) ∷ complement (literal_of p l) ∷ []) ≡ false) (λ l f.
+          (λ l. hits (values p S) (literal_of_form p (body.All ls) ∷ complement (literal_of p l) ∷ []) ≡ false) (λ l f.
           ap (λ b. b && (is_true (values p S) (complement (literal_of p l)) && true)) (form-true p S (body.All ls) has_var)
           ∙ ap (λ b. all_hold S ls && (b && true)) (is_true-complement (values p S) (literal_of p l) ∙ ap not (literal-holds p S l f.0))
           ∙ follows_no (all_hold S ls) (holds S l) (f.1 S)) ls
@@ -172,7 +172,7 @@ never_no : (a : Bool) → (not a || false) ≡ true → (a && true) ≡ false
 never_no true e = absurd (false≢true e)
 never_no false e = refl
 
-rule_unhit : (p : Program) (S : Atoms) (r : Rule) (h : Head) → Among (rules_in_force p) r → HasAll (atoms_of p) (head_atoms h) → (not (body_holds S r.body) || is_kept S h) ≡ true → NoneHit p S (rule_nogoods p (var_of_body p r.body) h)
+rule_unhit : (p : Program) (S : Atoms) (r : Rule) (h : Head) → Among (rules_in_force p) r → HasAll (atoms_of p) (head_atoms h) → (not (body_holds S r.body) || is_kept S h) ≡ true → NoneHit p S (rule_nogoods p (literal_of_body p r.body) h)
 rule_unhit p S r (head.One a) m stand kept = (
   ap (λ b. b && (is_true (values p S) (F (var_of_atom p a)) && true)) (rule-true p S r m)
       ∙ ap (λ b. body_holds S r.body && (b && true)) (atom-false p S a stand.0) ∙ kept_no (body_holds S r.body) (has S a) kept,
@@ -182,7 +182,7 @@ rule_unhit p S r (head.Choice atoms) m stand kept = tt
 rule_unhit p S r head.Never m stand kept = (ap (λ b. b && true) (rule-true p S r m) ∙ never_no (body_holds S r.body) kept, tt)
 
 -- where all supports fail, so does each rule for the atom
-pub supports_unhit : (p : Program) (S : Atoms) (a : ℕ) → hits (values p S) (map F (supports p a)) ≡ true → is_supported p S a ≡ true → ⊥
+pub supports_unhit : (p : Program) (S : Atoms) (a : ℕ) → hits (values p S) (map (λ c. complement (literal_of_form p c)) (support_bodies p a)) ≡ true → is_supported p S a ≡ true → ⊥
 supports_unhit p S a h supported =
     let test : Body → Bool = λ b. list_any (λ (r : Rule). has (head_atoms r.head) a && body_eq (normal r.body) b) (rules_in_force p) in
     let all_fail : AllByRecursion (λ b. test b ≡ true → body_holds S b ≡ false) (bodies_of p) = bodies_fail p S test (bodies_of p) (bodies_of-themselves p) h in
@@ -197,10 +197,10 @@ supports_unhit p S a h supported =
     false≢true (sym fails ∙ body_holds-normal S r.body ∙ parts.1)) (rules_in_force p) (each_among (rules_in_force p))) supported
 
 atom_unhit : (p : Program) (S : Atoms) (a : ℕ) → has (atoms_of p) a ≡ true → (not (has S a) || is_supported p S a) ≡ true → hits (values p S) (atom_nogood p a) ≡ false
-atom_unhit p S a stands kept = cases (has S a) (hits (values p S) (map F (supports p a))) refl refl
+atom_unhit p S a stands kept = cases (has S a) (hits (values p S) (map (λ c. complement (literal_of_form p c)) (support_bodies p a))) refl refl
   where
-    cases : (b c : Bool) → b ≡ has S a → c ≡ hits (values p S) (map F (supports p a)) → hits (values p S) (atom_nogood p a) ≡ false
-    cases false c q r = ap (λ b. b && hits (values p S) (map F (supports p a))) (atom-true p S a stands ∙ sym q)
+    cases : (b c : Bool) → b ≡ has S a → c ≡ hits (values p S) (map (λ c. complement (literal_of_form p c)) (support_bodies p a)) → hits (values p S) (atom_nogood p a) ≡ false
+    cases false c q r = ap (λ b. b && hits (values p S) (map (λ c. complement (literal_of_form p c)) (support_bodies p a))) (atom-true p S a stands ∙ sym q)
     cases true false q r = ap (λ b. is_true (values p S) (T (var_of_atom p a)) && b) (sym r) ∙ never (is_true (values p S) (T (var_of_atom p a)))
       where
         never : (b : Bool) → (b && false) ≡ false
@@ -216,14 +216,14 @@ pub none_broken : (p : Program) (S : Atoms) → list_all (keeps S) (rules_in_for
 none_broken p S kept supported =
     let P : List Literal → Type 0 = λ n. hits (values p S) n ≡ false in
     let bodies : List (List Literal) = flat_map (body_nogoods p) (bodies_of p) in
-    let rules : List (List Literal) = flat_map (λ (r : Rule). rule_nogoods p (var_of_body p r.body) r.head) (rules_in_force p) in
+    let rules : List (List Literal) = flat_map (λ (r : Rule). rule_nogoods p (literal_of_body p r.body) r.head) (rules_in_force p) in
     let atoms : List (List Literal) = map (atom_nogood p) (atoms_of p) in
     let each_kept : AllByRecursion (λ r. keeps S r ≡ true) (rules_in_force p) = each_passes (keeps S) (rules_in_force p) kept in
     none_passes (hits (values p S)) (completion p) (each-append P (bodies ++ rules) atoms (each-append P bodies rules
     (each-flat_map P (body_nogoods p) (bodies_of p) (each_weaker (λ b. (list_any (body_eq b) (bodies_of p) ≡ true) × Stands (atoms_of p) b) (λ b. AllByRecursion P (body_nogoods p b)) (λ b h. body_unhit p S b each_kept h.0 h.1) (bodies_of p)
     (each_both (λ b. list_any (body_eq b) (bodies_of p) ≡ true) (Stands (atoms_of p)) (bodies_of p) (bodies_of-themselves p) (bodies_of-stand p))))
-    (each-flat_map P (λ (r : Rule). rule_nogoods p (var_of_body p r.body) r.head) (rules_in_force p)
-    (each_weaker (λ r. (Among (rules_in_force p) r × HasAll (atoms_of p) (head_atoms r.head)) × (keeps S r ≡ true)) (λ r. AllByRecursion P (rule_nogoods p (var_of_body p r.body) r.head)) (λ r h. rule_unhit p S r r.head h.0.0 h.0.1 h.1) (rules_in_force p)
+    (each-flat_map P (λ (r : Rule). rule_nogoods p (literal_of_body p r.body) r.head) (rules_in_force p)
+    (each_weaker (λ r. (Among (rules_in_force p) r × HasAll (atoms_of p) (head_atoms r.head)) × (keeps S r ≡ true)) (λ r. AllByRecursion P (rule_nogoods p (literal_of_body p r.body) r.head)) (λ r h. rule_unhit p S r r.head h.0.0 h.0.1 h.1) (rules_in_force p)
     (each_both (λ r. Among (rules_in_force p) r × HasAll (atoms_of p) (head_atoms r.head)) (λ r. keeps S r ≡ true) (rules_in_force p)
     (each_both (Among (rules_in_force p)) (λ r. HasAll (atoms_of p) (head_atoms r.head)) (rules_in_force p) (each_among (rules_in_force p)) (rules_in_force-heads p)) each_kept))))
     (each-map P (atom_nogood p) (atoms_of p)

@@ -76,16 +76,20 @@ fn derive_by(
     derive_all(set, marks, found, compiled.heads(body))
 }
 
+// Whether the literal holds, where the set has room for it.
+fn may_hold(set: &[bool], lit: Lit) -> bool {
+    match set.get(lit.var() as usize) {
+        Some(value) => *value == lit.truth(),
+        None => true,
+    }
+}
+
 // What a body lacks before anything is derived. A normal body lacks its positive literals, a weight body what its
 // negative literals leave of the bound. A body that doesn't hold in the set never comes to hold.
 fn missing(compiled: &Compiled, set: &[bool], body: usize) -> i64
     requires { body < length (bodies_of compiled.now) }
 {
-    let holds = set
-        .get(compiled.body_var(body) as usize)
-        .copied()
-        .unwrap_or(true);
-    if !holds {
+    if !may_hold(set, compiled.body_lit(body)) {
         return i64::MAX;
     }
     let lits = compiled.literals(body);
@@ -307,11 +311,7 @@ fn pass_one(
     ensures { OnOk result (IsDeriving compiled.now set.now marks.new found.new.items) }
 {
     let _program = compiled.program();
-    let holds = set
-        .get(compiled.body_var(body) as usize)
-        .copied()
-        .unwrap_or(true);
-    if !holds {
+    if !may_hold(set, compiled.body_lit(body)) {
         return Ok(());
     }
     derive_by(compiled, set, marks, found, body)

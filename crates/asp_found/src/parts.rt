@@ -1,22 +1,23 @@
 //! The parts of the check.
-ghost use Rattle.std.specs.Prelude.{◌≡◌, ◌<◌, ◌≤◌, ◌-◌, slice_index, ◌^◌, ◌∷◌, ◌++◌, ◌||◌, not, List, All, IsTrue, IfOk, OnOk, MatchOption, length, map};
+ghost use Rattle.std.specs.Prelude.{◌≡◌, suc, ◌<◌, ◌≤◌, ◌-◌, slice_index, ◌^◌, ◌||◌, not, All, IsTrue, IfOk, MatchOption, length};
 ghost use Rattle.std.specs.List.{list_all, list_any, AllByRecursion};
 ghost use Rattle.asp_model.specs.Sets.{has};
 ghost use Rattle.asp_model.specs.Views.{head_seen};
 ghost use Rattle.asp_model.specs.Models.{rules_in_force, atoms_of, head_atoms};
-ghost use Rattle.asp_vars.specs.Literals.{F};
-ghost use Rattle.asp_vars.specs.Numbering.{values, var_of_body, nth_rule, nth_atom};
+ghost use Rattle.asp_vars.specs.Literals.{is_true};
+ghost use Rattle.asp_vars.specs.Numbering.{values, var_count, form_at, literal_of_body, literal_of_form, nth_rule, nth_atom};
 ghost use Rattle.asp_vars.specs.Completion.{atom_nogood};
 ghost use Rattle.asp_vars.specs.declared.nogood.Base.TheVariants as base;
-ghost use Rattle.asp_found.specs.Marks.{is_marked};
+ghost use Rattle.asp_vars.specs.Tabled.{IsBodyNumber};
 ghost use Rattle.asp_found.specs.Verdicts.{is_kept, keeps, is_supported, rule_literals, IsBroken};
 
 use asp_model::interp::Interp;
 use asp_model::program::Atom;
 use asp_model::view::HeadView;
 use asp_vars::compiled::Compiled;
-use asp_vars::lit::{Lit, Var};
+use asp_vars::lit::Lit;
 use asp_vars::nogood::{Base, Lits, Nogood};
+use asp_vars::support::atom_nogood;
 use std::alloc::{AllocError, Global};
 
 // Whether the atom's number is its place, counted from 1, as it is where the program's atoms have no gaps.
@@ -49,13 +50,21 @@ fn is_kept(compiled: &Compiled, interp: &Interp, truths: &[bool], head: HeadView
     }
 }
 
+// Whether the literal holds.
+fn holds(truths: &[bool], lit: Lit) -> bool
+    requires { lit.var < length truths.now }
+    ensures { result ≡ is_true truths.now lit }
+{
+    truths[lit.var() as usize] == lit.truth()
+}
+
 // Whether a rule is kept. The head is looked at only where the body holds.
 fn keeps(compiled: &Compiled, interp: &Interp, truths: &[bool], rule: usize) -> bool
     requires rule { rule < length (rules_in_force compiled.now) }
     requires truths { truths.now ≡ values compiled.now interp.now }
     ensures { result ≡ keeps interp.now (nth_rule compiled.now rule) }
 {
-    let holds = truths[compiled.rule_body(rule) as usize];
+    let holds = holds(truths, compiled.body_lit(compiled.rule_body(rule)));
     !holds || is_kept(compiled, interp, truths, compiled.rule(rule).head)
 }
 
@@ -67,10 +76,10 @@ fn rule_nogood(
 ) -> Result<Nogood, AllocError>
     requires rule { rule < length (rules_in_force compiled.now) }
     requires stand { AllByRecursion (λ a. IsTrue (has (atoms_of compiled.now) a)) (head_atoms (head_seen head)) }
-    ensures { IfOk result (λ n. n ≡ record { lits = rule_literals compiled.now (var_of_body compiled.now (nth_rule compiled.now rule).body) (head_seen head.entry); base = base.Pure }) }
+    ensures { IfOk result (λ n. n ≡ record { lits = rule_literals compiled.now (literal_of_body compiled.now (nth_rule compiled.now rule).body) (head_seen head.entry); base = base.Pure }) }
 {
     let mut lits = Lits::new(alloc);
-    lits.push(Lit::new(compiled.rule_body(rule), true))?;
+    lits.push(compiled.body_lit(compiled.rule_body(rule)))?;
     if let HeadView::One(atom) = head {
         lits.push(Lit::new(compiled.atom_var(atom), false))?;
     }
@@ -101,41 +110,28 @@ pub fn broken_rule(
     Ok(None)
 }
 
-// Adds that each of these variables is false.
-fn push_false(lits: &mut Lits, vars: &[Var]) -> Result<(), AllocError>
-    requires { All (λ v. v < 2 ^ 31) vars.now }
-    ensures { OnOk result (lits.new ≡ lits.old ++ map F vars.now) }
-{
-    for var in vars {
-        lits.push(Lit::new(*var, false))?;
-    }
-    Ok(())
-}
-
 // The nogood that an atom is true and all of its supports are false.
-fn atom_nogood(alloc: Global, compiled: &Compiled, atom: usize) -> Result<Nogood, AllocError>
+fn unsupported(alloc: Global, compiled: &Compiled, atom: usize) -> Result<Nogood, AllocError>
     requires { atom < length (atoms_of compiled.now) }
     ensures { IfOk result (λ n. n ≡ record { lits = atom_nogood compiled.now (nth_atom compiled.now atom); base = base.Pure }) }
 {
     let count = compiled.atom_count();
     prove!(atom < count);
-    let var = atom as u32 + 1;
-    let mut lits = Lits::new(alloc);
-    lits.push(Lit::new(var, true))?;
-    push_false(&mut lits, compiled.supports(var))?;
+    let lits = atom_nogood(alloc, compiled, atom as u32 + 1)?;
     Ok(Nogood {
         lits,
         base: Base::Pure,
     })
 }
 
-// Whether one of the variables is true.
-fn any_true(truths: &[bool], vars: &[Var]) -> bool
-    requires { All (λ v. v < length truths.now) vars.now }
-    ensures { result ≡ list_any (is_marked truths.now) vars.now }
+// Whether one of the bodies with these numbers holds.
+fn any_holds(compiled: &Compiled, truths: &[bool], numbers: &[u32]) -> bool
+    requires numbers { All (IsBodyNumber compiled.now) numbers.now }
+    requires truths { length truths.now ≡ suc (var_count compiled.now) }
+    ensures { result ≡ list_any (λ n. is_true truths.now (literal_of_form compiled.now (form_at compiled.now n))) numbers.now }
 {
-    for var in vars {
-        if truths[*var as usize] {
+    for number in numbers {
+        if holds(truths, compiled.body_lit(compiled.body_at(*number))) {
             return true;
         }
     }
@@ -152,7 +148,7 @@ fn is_reasoned(compiled: &Compiled, interp: &Interp, truths: &[bool], place: usi
     let count = compiled.atom_count();
     prove!(place < count);
     let stands = truths[place + 1];
-    !stands || any_true(truths, compiled.supports(place as u32 + 1))
+    !stands || any_holds(compiled, truths, compiled.supports(place as u32 + 1))
 }
 
 /// The nogood of an atom in the set that no rule supports, if there is one.
@@ -169,7 +165,7 @@ pub fn unsupported_atom(
     for i in 0..compiled.atom_count() {
         let reasoned = is_reasoned(compiled, interp, truths, i);
         if !reasoned {
-            let nogood = atom_nogood(alloc, compiled, i)?;
+            let nogood = unsupported(alloc, compiled, i)?;
             return Ok(Some(nogood));
         }
     }

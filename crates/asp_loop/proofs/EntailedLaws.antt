@@ -19,7 +19,7 @@ use Rattle.asp_model.specs.Sound.{IsSound}
 use Rattle.asp_model.proofs.SetLaws.{has-set_of}
 use Rattle.asp_model.proofs.MemberLaws.{list_any-flat_map}
 use Rattle.asp_vars.specs.Literals.{Literal, T, F, complement, is_true, hits, has_literal}
-use Rattle.asp_vars.specs.Numbering.{normal, body_eq, bodies_of, var_of_atom, var_of_form, literal_of, values}
+use Rattle.asp_vars.specs.Numbering.{normal, body_eq, bodies_of, var_of_atom, literal_of_form, literal_of, values}
 use Rattle.asp_vars.specs.Tabled.{Stands}
 use Rattle.asp_vars.specs.Entailment.{Entailed}
 use Rattle.asp_vars.specs.Unfounded.{is_inside}
@@ -111,7 +111,7 @@ turned : (b : Bool) → b ≡ false → not b ≡ true
 turned true e = absurd (false≢true (sym e))
 turned false e = refl
 
-body_not_false : (p : Program) (S T U : Atoms) (b : Body) → list_any (body_eq b) (bodies_of p) ≡ true → Apart S T U → AreItems (form_items b) → body_holds_between S T b ≡ true → is_true (values p S) (F (var_of_form p b)) ≡ true → ⊥
+body_not_false : (p : Program) (S T U : Atoms) (b : Body) → list_any (body_eq b) (bodies_of p) ≡ true → Apart S T U → AreItems (form_items b) → body_holds_between S T b ≡ true → is_true (values p S) (complement (literal_of_form p b)) ≡ true → ⊥
 body_not_false p S T U b listed h weighted e f =
     false≢true (sym (ap not (body_between S T U b h weighted e)) ∙ sym (form-false p S b listed) ∙ f)
 
@@ -130,8 +130,8 @@ left_holds p S T U part l stands hit h e =
 part_hit : (p : Program) (S T U : Atoms) (b : Body) (part : List Literal) → list_any (body_eq b) (bodies_of p) ≡ true → Stands (atoms_of p) b → AreItems (form_items b) → Apart S T U → body_holds_between S T b ≡ true → IsPart p U b part → hits (values p S) part ≡ true → ⊥
 part_hit p S T U (body.All ls) part listed stands weighted h e shape hit =
     let none : list_any (is_inside U) ls ≡ false = none_inside S T U ls h e in
-    let is : part ≡ F (var_of_form p (body.All ls)) ∷ [] = shape ∙ ap (λ b. cond b [] (F (var_of_form p (body.All ls)) ∷ [])) none in
-    body_not_false p S T U (body.All ls) listed h weighted e (and_left (is_true (values p S) (F (var_of_form p (body.All ls)))) true (sym (ap (hits (values p S)) is) ∙ hit))
+    let is : part ≡ complement (literal_of_form p (body.All ls)) ∷ [] = shape ∙ ap (λ b. cond b [] (complement (literal_of_form p (body.All ls)) ∷ [])) none in
+    body_not_false p S T U (body.All ls) listed h weighted e (and_left (is_true (values p S) (complement (literal_of_form p (body.All ls)))) true (sym (ap (hits (values p S)) is) ∙ hit))
 part_hit p S T U (body.AtLeast c items) part listed stands weighted h e shape hit = cases (int_lt (weight_where (λ l. not (is_inside U l)) items) c) refl
   where
     outside : (is : List (ℤ × ℤ)) → AllByRecursion (λ (i : ℤ × ℤ). holds_between S T i.0 ≡ true → not (is_inside U i.0) ≡ true) is
@@ -144,9 +144,9 @@ part_hit p S T U (body.AtLeast c items) part listed stands weighted h e shape hi
 
     cases : (b : Bool) → b ≡ int_lt (weight_where (λ l. not (is_inside U l)) items) c → ⊥
     cases true q = too_light c (weight_between S T items) (weight_where (λ l. not (is_inside U l)) items) e (weight_less S T (λ l. not (is_inside U l)) items weighted (outside items)) (sym q)
-    cases false q = elim (subst (λ (b : Bool). MatchBool b (part ≡ []) ((part ≡ F (var_of_form p (body.AtLeast c items)) ∷ []) ⊎ IsChosen p U c items part)) (sym q) shape) [
+    cases false q = elim (subst (λ (b : Bool). MatchBool b (part ≡ []) ((part ≡ complement (literal_of_form p (body.AtLeast c items)) ∷ []) ⊎ IsChosen p U c items part)) (sym q) shape) [
       | inl is ↦
-          body_not_false p S T U (body.AtLeast c items) listed h weighted e (and_left (is_true (values p S) (F (var_of_form p (body.AtLeast c items)))) true (sym (ap (hits (values p S)) is) ∙ hit))
+          body_not_false p S T U (body.AtLeast c items) listed h weighted e (and_left (is_true (values p S) (complement (literal_of_form p (body.AtLeast c items)))) true (sym (ap (hits (values p S)) is) ∙ hit))
       | inr chosen ↦ too_light c (weight_between S T items) (weight_where (is_left p U part) items) e (weight_less S T (is_left p U part) items weighted (left items stands)) chosen.enough
     ]
 

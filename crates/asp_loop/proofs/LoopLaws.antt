@@ -18,15 +18,15 @@ use Rattle.asp_model.proofs.SetLaws.{has-set_of}
 use Rattle.asp_model.proofs.MemberLaws.{list_any-flat_map}
 use Rattle.asp_vars.specs.declared.nogood.Base.TheVariants as base
 use Rattle.asp_vars.specs.Literals.{Literal, T, holds_in}
-use Rattle.asp_vars.specs.Numbering.{normal, body_eq, bodies_of, place_of, var_of_atom, var_of_form, nth_atom, nth_body}
+use Rattle.asp_vars.specs.Numbering.{normal, body_eq, bodies_of, place_of, var_of_atom, number_of_form, nth_atom, nth_body}
 use Rattle.asp_vars.specs.Completion.{supports}
-use Rattle.asp_vars.specs.Tabled.{IsBodyVar}
+use Rattle.asp_vars.specs.Tabled.{IsBodyNumber}
 use Rattle.asp_vars.specs.Unfounded.{is_excused, is_unfounded}
 use Rattle.asp_vars.specs.Entailment.{Entailed}
 use Rattle.asp_vars.proofs.NumberingLaws.{same_body, body_eq-itself}
 use Rattle.asp_vars.proofs.StandingLaws.{Among, each_among, rule_has_form}
-use Rattle.asp_vars.proofs.RowLaws.{support_vars}
-use Rattle.asp_vars.proofs.SupportLaws.{some, or_left, or_right, in_map, map_in, at_place, same_atom, form_in, in_forms}
+use Rattle.asp_vars.proofs.RowLaws.{support_numbers}
+use Rattle.asp_vars.proofs.SupportLaws.{some, or_left, or_right, in_map, map_in, at_place, same_atom, form_in, in_forms, form_at-number}
 use Rattle.asp_loop.specs.LoopNogoods.{supports_some, IsPart, AreParts, AreSupports, IsLoopNogood}
 use Rattle.asp_loop.specs.Weighing.{AreVarsOf}
 use Rattle.asp_loop.specs.Parts.{Adds, form_of, AddsAll, HasFirm}
@@ -112,18 +112,6 @@ vars_are p U vars stand is a stands =
         subst (λ (c : ℕ). has U c ≡ true) (same_atom p found.0 a found.1.0 stands found.2) found.1.1
 
 -- ---- the supporting bodies
-pub at_form : (b : Body) (bs : List Body) (d : Body) → list_any (body_eq b) bs ≡ true → get_or bs (place_of (body_eq b) bs) d ≡ b
-at_form b [] d e = absurd (false≢true e)
-at_form b (c ∷ bs) d e = cases (body_eq b c) refl (at_form b bs d)
-  where
-    cases : (t : Bool) → t ≡ body_eq b c → (list_any (body_eq b) bs ≡ true → get_or bs (place_of (body_eq b) bs) d ≡ b) → get_or (c ∷ bs) (cond (body_eq b c) 0 (suc (place_of (body_eq b) bs))) d ≡ b
-    cases true q later = rw (← q) (sym (same_body b c (sym q)))
-    cases false q later = rw (← q) (later (ap (λ t. t || list_any (body_eq b) bs) q ∙ e))
-
-form_of-var : (p : Program) (b : Body) → list_any (body_eq b) (bodies_of p) ≡ true → form_of p (var_of_form p b) ≡ b
-form_of-var p b listed =
-    ap (nth_body p) (let e : var_of_form p b - length (atoms_of p) - 1 ≡ place_of (body_eq b) (bodies_of p) = omega arith in e) ∙ at_form b (bodies_of p) (body.All []) listed
-
 in_flat : (f : ℕ → List ℕ) (xs : List ℕ) (v : ℕ) → has (flat_map f xs) v ≡ list_any (λ a. has (f a) v) xs
 in_flat f xs v = list_any-flat_map (λ b. eqb b v) f xs
 
@@ -142,7 +130,7 @@ supports_are p U vars is b = same_when (list_any (body_eq b) (map (form_of p) va
         let v = some (λ v. has vars v ≡ true) (λ v. body_eq b (form_of p v)) vars (members vars) (sym (mapped vars) ∙ e) in
         let a = some (λ a. has U a ≡ true) (λ a. has (supports p a) v.0) U (members U) (sym (of_var v.0) ∙ v.1) in
         let form = in_forms p a.0 v.0 a.2 in
-        let same : form.0 ≡ b = sym (form_of-var p form.0 form.1.0.0) ∙ ap (form_of p) form.2 ∙ sym (same_body b (form_of p v.0) v.2) in
+        let same : form.0 ≡ b = sym (form_at-number p form.0 form.1.0.0) ∙ ap (form_of p) form.2 ∙ sym (same_body b (form_of p v.0) v.2) in
         let rule = some (Among (rules_in_force p)) (λ (r : Rule). has (head_atoms r.head) a.0 && body_eq (normal r.body) form.0) (rules_in_force p) (each_among (rules_in_force p)) form.1.1 in
         let parts = and_parts (has (head_atoms rule.0.head) a.0) (body_eq (normal rule.0.body) form.0) rule.2 in
         rule.1 (λ r. list_any (has U) (head_atoms r.head) && body_eq (normal r.body) b)
@@ -157,21 +145,21 @@ supports_are p U vars is b = same_when (list_any (body_eq b) (map (form_of p) va
         let a = some (λ a. has (head_atoms rule.0.head) a ≡ true) (has U) (head_atoms rule.0.head) (members (head_atoms rule.0.head)) parts.0 in
         let test : Body → Bool = λ c. list_any (λ (r : Rule). has (head_atoms r.head) a.0 && body_eq (normal r.body) c) (rules_in_force p) in
         let passes : test b ≡ true = rule.1 (λ r. has (head_atoms r.head) a.0 && body_eq (normal r.body) b) (and_from (has (head_atoms rule.0.head) a.0) (body_eq (normal rule.0.body) b) a.1 parts.1) in
-        let supported : has (supports p a.0) (var_of_form p b) ≡ true = form_in p test b (bodies_of p) listed passes in
-        let there : has vars (var_of_form p b) ≡ true = of_var (var_of_form p b) ∙ any_of (λ c. has (supports p c) (var_of_form p b)) U a.0 a.2 supported in
-        mapped vars ∙ any_of (λ v. body_eq b (form_of p v)) vars (var_of_form p b) there (ap (body_eq b) (form_of-var p b listed) ∙ body_eq-itself b)
+        let supported : has (supports p a.0) (number_of_form p b) ≡ true = form_in p test b (bodies_of p) listed passes in
+        let there : has vars (number_of_form p b) ≡ true = of_var (number_of_form p b) ∙ any_of (λ c. has (supports p c) (number_of_form p b)) U a.0 a.2 supported in
+        mapped vars ∙ any_of (λ v. body_eq b (form_of p v)) vars (number_of_form p b) there (ap (body_eq b) (form_at-number p b listed) ∙ body_eq-itself b)
 
 is_at : (xs : List ℕ) (k : ℕ) (d : ℕ) → k < length xs → has xs (get_or xs k d) ≡ true
 is_at [] k d lt = absurd (omega arith)
 is_at (x ∷ xs) zero d lt = or_left (eqb x x) (has xs x) (eq-eqb x x refl)
 is_at (x ∷ xs) (suc k) d lt = or_right (eqb x (get_or xs k d)) (has xs (get_or xs k d)) (is_at xs k d (omega arith))
 
-pub vars_of_bodies : (p : Program) (U vars : Atoms) → vars ≡ set_of (flat_map (supports p) U) → All (IsBodyVar p) vars
+pub vars_of_bodies : (p : Program) (U vars : Atoms) → vars ≡ set_of (flat_map (supports p) U) → All (IsBodyNumber p) vars
 vars_of_bodies p U vars is k d lt =
     let v : ℕ = get_or vars k d in
     let a = some (λ a. has U a ≡ true) (λ a. has (supports p a) v) U (members U) (sym (ap (λ vs. has vs v) is ∙ has-set_of (flat_map (supports p) U) v ∙ in_flat (supports p) U v) ∙ is_at vars k d lt) in
-    let found = some (IsBodyVar p) (λ w. eqb w v) (supports p a.0) (support_vars p a.0) a.2 in
-    subst (IsBodyVar p) (eqb-true found.0 v found.2) found.1
+    let found = some (IsBodyNumber p) (λ w. eqb w v) (supports p a.0) (support_numbers p a.0) a.2 in
+    subst (IsBodyNumber p) (eqb-true found.0 v found.2) found.1
 
 pub supports_more : (p : Program) (xs : List ℕ) (i v : ℕ) (old new row : List ℕ) → i < length xs → has (atoms_of p) (get_or xs i 0) ≡ true → v ≡ var_of_atom p (get_or xs i 0) → row ≡ supports p (nth_atom p (v - 1)) → old ≡ flat_map (supports p) (take i xs) → new ≡ old ++ row → new ≡ flat_map (supports p) (take (i + 1) xs)
 supports_more p xs i v old new row lt stands at is before after =

@@ -11,7 +11,7 @@ use Rattle.asp_model.specs.Sets.{Atoms, has}
 use Rattle.asp_model.specs.Holding.{atom_of, is_positive}
 use Rattle.asp_model.specs.Models.{atoms_of}
 use Rattle.asp_vars.specs.Literals.{Literal, F, complement, literal_eq, has_literal, holds_in}
-use Rattle.asp_vars.specs.Numbering.{var_of_form, literal_of}
+use Rattle.asp_vars.specs.Numbering.{literal_of_form, literal_of}
 use Rattle.asp_vars.specs.Tabled.{bound_of, form_literals, form_weights, Stands}
 use Rattle.asp_vars.specs.Unfounded.{is_false, is_inside, outside_weight, is_excused}
 use Rattle.asp_vars.proofs.LiteralLaws.{same_literal}
@@ -45,22 +45,22 @@ normal_nothing p x U vars (body.All ls) old h none stand e =
     record {
       part = [];
       is = append_nil old;
-      shape = sym (ap (λ b. cond b [] (F (var_of_form p (body.All ls)) ∷ [])) inside);
+      shape = sym (ap (λ b. cond b [] (complement (literal_of_form p (body.All ls)) ∷ [])) inside);
       hold = refl;
-      excused = or_right (holds_in x (F (var_of_form p (body.All ls)))) (list_any (is_inside U) ls) inside;
+      excused = or_right (holds_in x (complement (literal_of_form p (body.All ls)))) (list_any (is_inside U) ls) inside;
     }
 normal_nothing p x U vars (body.AtLeast c items) old h none stand e = cc none
 
-pub normal_added : (p : Program) (x : List (Option Bool)) (U vars : Atoms) (b : Body) (old new : List Literal) (added : Bool) → AreVarsOf p U vars → bound_of b ≡ None → Stands (atoms_of p) b → list_any (is_within vars) (form_literals p b) ≡ false → AddsFalse x (F (var_of_form p b)) old new added → MatchBool added (Adds p x U b old new) (is_excused p x U b ≡ false)
+pub normal_added : (p : Program) (x : List (Option Bool)) (U vars : Atoms) (b : Body) (old new : List Literal) (added : Bool) → AreVarsOf p U vars → bound_of b ≡ None → Stands (atoms_of p) b → list_any (is_within vars) (form_literals p b) ≡ false → AddsFalse x (complement (literal_of_form p b)) old new added → MatchBool added (Adds p x U b old new) (is_excused p x U b ≡ false)
 normal_added p x U vars (body.AtLeast c items) old new added h none stand e f = cc none
 normal_added p x U vars (body.All ls) old new true h none stand e f =
     let inside : list_any (is_inside U) ls ≡ false = sym (any_within p U vars ls h stand) ∙ e in
     record {
-      part = F (var_of_form p (body.All ls)) ∷ [];
+      part = complement (literal_of_form p (body.All ls)) ∷ [];
       is = f.1;
-      shape = sym (ap (λ b. cond b [] (F (var_of_form p (body.All ls)) ∷ [])) inside);
-      hold = one_holds x (F (var_of_form p (body.All ls))) f.0;
-      excused = or_left (holds_in x (F (var_of_form p (body.All ls)))) (list_any (is_inside U) ls) f.0;
+      shape = sym (ap (λ b. cond b [] (complement (literal_of_form p (body.All ls)) ∷ [])) inside);
+      hold = one_holds x (complement (literal_of_form p (body.All ls))) f.0;
+      excused = or_left (holds_in x (complement (literal_of_form p (body.All ls)))) (list_any (is_inside U) ls) f.0;
     }
 normal_added p x U vars (body.All ls) old new false h none stand e f =
     ap (λ b. b || list_any (is_inside U) ls) f.0 ∙ sym (any_within p U vars ls h stand) ∙ e
@@ -145,7 +145,7 @@ weighted_nothing p x U vars (body.AtLeast c items) old bound s h is stand weight
       is = append_nil old;
       shape = rw light refl;
       hold = refl;
-      excused = or_right (holds_in x (F (var_of_form p (body.AtLeast c items)))) (int_lt (outside_weight p x U items) c) (lighter c (outside_weight p x U items) (weight_where (λ l. not (is_inside U l)) items) (open_less p x U items weighted) light);
+      excused = or_right (holds_in x (complement (literal_of_form p (body.AtLeast c items)))) (int_lt (outside_weight p x U items) c) (lighter c (outside_weight p x U items) (weight_where (λ l. not (is_inside U l)) items) (open_less p x U items weighted) light);
     }
 
 heavy : (p : Program) (x : List (Option Bool)) (U vars : Atoms) (c bound : ℤ) (items : List (ℤ × ℤ)) → AreVarsOf p U vars → c ≡ bound → AllByRecursion (λ i. has (atoms_of p) (atom_of i.0) ≡ true) items → bound ≤ℤ weigh (counts x vars false) (map (λ i. literal_of p i.0) items) (map (λ i. i.1) items) → int_lt (weight_where (λ l. not (is_inside U l)) items) c ≡ false
@@ -153,19 +153,19 @@ heavy p x U vars c bound items h same stand slack =
     let sum = weigh_items p (counts x vars false) (λ l. not (is_inside U l)) items (outside_same p x U vars items h stand) in
     not_below c (weight_where (λ l. not (is_inside U l)) items) (subst (λ w. c ≤ℤ w) sum (subst (λ d. d ≤ℤ weigh (counts x vars false) (map (λ i. literal_of p i.0) items) (map (λ i. i.1) items)) (sym same) slack))
 
-pub weighted_false : (p : Program) (x : List (Option Bool)) (U vars : Atoms) (b : Body) (old new : List Literal) (bound : ℤ) → AreVarsOf p U vars → bound_of b ≡ Some bound → Stands (atoms_of p) b → IsSlack bound (weigh (counts x vars false) (form_literals p b) (form_weights b)) None → AddsFalse x (F (var_of_form p b)) old new true → Adds p x U b old new
+pub weighted_false : (p : Program) (x : List (Option Bool)) (U vars : Atoms) (b : Body) (old new : List Literal) (bound : ℤ) → AreVarsOf p U vars → bound_of b ≡ Some bound → Stands (atoms_of p) b → IsSlack bound (weigh (counts x vars false) (form_literals p b) (form_weights b)) None → AddsFalse x (complement (literal_of_form p b)) old new true → Adds p x U b old new
 weighted_false p x U vars (body.All ls) old new bound h is stand slack f = cc is
 weighted_false p x U vars (body.AtLeast c items) old new bound h is stand slack f =
     let full = heavy p x U vars c bound items h (same_some c bound is) stand slack in
     record {
-      part = F (var_of_form p (body.AtLeast c items)) ∷ [];
+      part = complement (literal_of_form p (body.AtLeast c items)) ∷ [];
       is = f.1;
       shape = rw full (inl refl);
-      hold = one_holds x (F (var_of_form p (body.AtLeast c items))) f.0;
-      excused = or_left (holds_in x (F (var_of_form p (body.AtLeast c items)))) (int_lt (outside_weight p x U items) c) f.0;
+      hold = one_holds x (complement (literal_of_form p (body.AtLeast c items))) f.0;
+      excused = or_left (holds_in x (complement (literal_of_form p (body.AtLeast c items)))) (int_lt (outside_weight p x U items) c) f.0;
     }
 
-pub weighted_firm : (p : Program) (x : List (Option Bool)) (U vars : Atoms) (b : Body) (old new : List Literal) (bound : ℤ) → AreVarsOf p U vars → bound_of b ≡ Some bound → Stands (atoms_of p) b → AddsFalse x (F (var_of_form p b)) old new false → IsSlack bound (weigh (counts x vars true) (form_literals p b) (form_weights b)) None → is_excused p x U b ≡ false
+pub weighted_firm : (p : Program) (x : List (Option Bool)) (U vars : Atoms) (b : Body) (old new : List Literal) (bound : ℤ) → AreVarsOf p U vars → bound_of b ≡ Some bound → Stands (atoms_of p) b → AddsFalse x (complement (literal_of_form p b)) old new false → IsSlack bound (weigh (counts x vars true) (form_literals p b) (form_weights b)) None → is_excused p x U b ≡ false
 weighted_firm p x U vars (body.All ls) old new bound h is stand f slack = cc is
 weighted_firm p x U vars (body.AtLeast c items) old new bound h is stand f slack =
     let same : c ≡ bound = same_some c bound is in
@@ -203,7 +203,7 @@ choices_hold x vars lits (l ∷ part) h =
     let holds = (and_parts (not (is_within vars found.0)) (holds_in x (complement found.0)) parts.0).1 in
     and_from (holds_in x l) (list_all (holds_in x) part) (sym (ap (holds_in x) (same_literal (complement found.0) l parts.1)) ∙ holds) (choices_hold x vars lits part h.1)
 
-pub weighted_chosen : (p : Program) (x : List (Option Bool)) (U vars : Atoms) (b : Body) (old middle new : List Literal) (bound : ℤ) (s : ℕ) → AreVarsOf p U vars → bound_of b ≡ Some bound → Stands (atoms_of p) b → IsSlack bound (weigh (counts x vars false) (form_literals p b) (form_weights b)) None → AddsFalse x (F (var_of_form p b)) old middle false → IsSlack bound (weigh (counts x vars true) (form_literals p b) (form_weights b)) (Some s) → Chooses x vars (form_literals p b) (form_weights b) s middle new → Adds p x U b old new
+pub weighted_chosen : (p : Program) (x : List (Option Bool)) (U vars : Atoms) (b : Body) (old middle new : List Literal) (bound : ℤ) (s : ℕ) → AreVarsOf p U vars → bound_of b ≡ Some bound → Stands (atoms_of p) b → IsSlack bound (weigh (counts x vars false) (form_literals p b) (form_weights b)) None → AddsFalse x (complement (literal_of_form p b)) old middle false → IsSlack bound (weigh (counts x vars true) (form_literals p b) (form_weights b)) (Some s) → Chooses x vars (form_literals p b) (form_weights b) s middle new → Adds p x U b old new
 weighted_chosen p x U vars (body.All ls) old middle new bound s h is stand full f slack choice = cc is
 weighted_chosen p x U vars (body.AtLeast c items) old middle new bound s h is stand full f slack choice =
     let same : c ≡ bound = same_some c bound is in
@@ -221,7 +221,7 @@ weighted_chosen p x U vars (body.AtLeast c items) old middle new bound s h is st
         enough = lit_lt (weight_where (is_left p U part) items) c (omega (arith, ints, kept, enough, slack0, same));
       }));
       hold = choices_hold x vars (map (λ i. literal_of p i.0) items) part choice.chosen;
-      excused = or_right (holds_in x (F (var_of_form p (body.AtLeast c items)))) (int_lt (outside_weight p x U items) c)
+      excused = or_right (holds_in x (complement (literal_of_form p (body.AtLeast c items)))) (int_lt (outside_weight p x U items) c)
           (below c (outside_weight p x U items) s (omega (arith, ints, slack0, open_, same)) slack.1);
     }
   where

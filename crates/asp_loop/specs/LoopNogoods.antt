@@ -8,8 +8,8 @@ use Rattle.asp_model.specs.Sets.{Atoms, has}
 use Rattle.asp_model.specs.Models.{rules_in_force, head_atoms}
 use Rattle.asp_vars.specs.declared.nogood.Base.TheVariants as base
 use Rattle.asp_vars.specs.declared.nogood.Nogood.{Nogood}
-use Rattle.asp_vars.specs.Literals.{Literal, T, F, complement, literal_eq, has_literal, holds_in}
-use Rattle.asp_vars.specs.Numbering.{normal, body_eq, var_of_atom, var_of_form, literal_of}
+use Rattle.asp_vars.specs.Literals.{Literal, T, complement, literal_eq, has_literal, holds_in}
+use Rattle.asp_vars.specs.Numbering.{normal, body_eq, var_of_atom, literal_of_form, literal_of}
 use Rattle.asp_vars.specs.Entailment.{Entailed}
 use Rattle.asp_vars.specs.Unfounded.{is_inside, is_unfounded}
 
@@ -35,9 +35,9 @@ pub record IsChosen (p : Program) (U : Atoms) (bound : ℤ) (items : List (ℤ �
 -- A weight body adds nothing if it can't be reached from outside of U, and else that it is false or why it isn't reached.
 abbrev pub IsPart : Program → Atoms → Body → List Literal → Type 0
 IsPart p U (body.All literals) part =
-    part ≡ (if list_any (is_inside U) literals then [] else F (var_of_form p (body.All literals)) ∷ [])
+    part ≡ (if list_any (is_inside U) literals then [] else complement (literal_of_form p (body.All literals)) ∷ [])
 IsPart p U (body.AtLeast bound items) part =
-    MatchBool (int_lt (weight_where (λ l. not (is_inside U l)) items) bound) (part ≡ []) ((part ≡ F (var_of_form p (body.AtLeast bound items)) ∷ []) ⊎ IsChosen p U bound items part)
+    MatchBool (int_lt (weight_where (λ l. not (is_inside U l)) items) bound) (part ≡ []) ((part ≡ complement (literal_of_form p (body.AtLeast bound items)) ∷ []) ⊎ IsChosen p U bound items part)
 
 -- what the bodies add, one after another
 abbrev pub AreParts : Program → Atoms → List Body → List Literal → Type 0

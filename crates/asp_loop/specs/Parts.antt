@@ -30,7 +30,7 @@ abbrev pub IsAdded : Program → List (Option Bool) → Atoms → Body → List 
 IsAdded p x vars b old new added =
     (U : Atoms) → AreVarsOf p U vars → MatchBool added (Adds p x U b old new) (is_excused p x U b ≡ false)
 
--- the body of a body's variable
+-- the body with this number
 abbrev pub form_of : Program → ℕ → Body
 form_of p v = nth_body p (v - length (atoms_of p) - 1)
 

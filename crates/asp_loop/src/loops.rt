@@ -9,7 +9,7 @@ ghost use Rattle.asp_model.specs.Sets.{has, set_of};
 ghost use Rattle.asp_model.specs.Models.{atoms_of};
 ghost use Rattle.asp_vars.specs.Numbering.{var_count, var_of_atom};
 ghost use Rattle.asp_vars.specs.Completion.{supports};
-ghost use Rattle.asp_vars.specs.Tabled.{IsBodyVar};
+ghost use Rattle.asp_vars.specs.Tabled.{IsBodyNumber};
 ghost use Rattle.asp_vars.specs.Unfounded.{is_unfounded};
 ghost use Rattle.asp_loop.specs.LoopNogoods.{IsLoopNogood};
 
@@ -34,16 +34,16 @@ fn vars_of(alloc: Global, compiled: &Compiled, atoms: &[Atom]) -> Result<Interp,
     Ok(Interp::from_atoms(vars))
 }
 
-// The variables of the bodies of the rules for these atoms.
-fn support_vars(alloc: Global, compiled: &Compiled, atoms: &[Atom]) -> Result<Interp, AllocError>
+// The numbers of the bodies of the rules for these atoms.
+fn support_numbers(alloc: Global, compiled: &Compiled, atoms: &[Atom]) -> Result<Interp, AllocError>
     requires { All (λ a. IsTrue (has (atoms_of compiled.now) a)) atoms.now }
-    ensures { IfOk result (λ vars. vars ≡ set_of (flat_map (supports compiled.now) atoms.now)) }
+    ensures { IfOk result (λ numbers. numbers ≡ set_of (flat_map (supports compiled.now) atoms.now)) }
 {
-    let mut vars = Vec::new(alloc);
+    let mut numbers = Vec::new(alloc);
     for atom in atoms {
-        vars.extend_from_slice(compiled.supports(compiled.atom_var(*atom)))?;
+        numbers.extend_from_slice(compiled.supports(compiled.atom_var(*atom)))?;
     }
-    Ok(Interp::from_atoms(vars))
+    Ok(Interp::from_atoms(numbers))
 }
 
 /// The loop nogood of a set of atoms and one of them, if the set is unfounded under the assignment. All of its literals
@@ -62,7 +62,7 @@ pub fn loop_nogood(
 {
     let _program = compiled.program();
     let vars = vars_of(alloc, compiled, u)?;
-    let bodies = support_vars(alloc, compiled, u)?;
+    let bodies = support_numbers(alloc, compiled, u)?;
     let mut lits = Lits::new(alloc);
     lits.push(Lit::new(compiled.atom_var(a), true))?;
     let excused = add_parts(compiled, &vars, assign, bodies.as_slice(), &mut lits)?;

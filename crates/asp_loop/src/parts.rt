@@ -1,9 +1,9 @@
 //! What a body of a rule for an unfounded set adds to its loop nogood.
 ghost use Rattle.std.specs.Prelude.{◌≡◌, ◌<◌, ◌+◌, IfOk, All, length, IsTrue};
 ghost use Rattle.std.specs.List.{list_any};
-ghost use Rattle.asp_vars.specs.Literals.{F, holds_in};
-ghost use Rattle.asp_vars.specs.Numbering.{bodies_of, var_count, var_of_form, nth_body};
-ghost use Rattle.asp_vars.specs.Tabled.{bound_of, IsBodyVar};
+ghost use Rattle.asp_vars.specs.Literals.{complement, holds_in};
+ghost use Rattle.asp_vars.specs.Numbering.{bodies_of, var_count, literal_of_form, nth_body};
+ghost use Rattle.asp_vars.specs.Tabled.{bound_of, IsBodyNumber};
 ghost use Rattle.std.specs.Prelude.{Some, None};
 ghost use Rattle.asp_loop.specs.Weighing.{is_within};
 ghost use Rattle.asp_loop.specs.Parts.{AddsFalse, IsAdded, AreAdded};
@@ -12,7 +12,7 @@ use crate::weighing::{choose, is_within, slack};
 use asp_model::interp::Interp;
 use asp_vars::assign::Assign;
 use asp_vars::compiled::Compiled;
-use asp_vars::lit::{Lit, Var};
+use asp_vars::lit::Lit;
 use asp_vars::nogood::Lits;
 use std::alloc::AllocError;
 
@@ -25,9 +25,9 @@ fn add_false(
 ) -> Result<bool, AllocError>
     requires body { body < length (bodies_of compiled.now) }
     requires vars { length assign.now ≡ var_count compiled.now + 1 }
-    ensures { IfOk result (AddsFalse assign.now (F (var_of_form compiled.now (nth_body compiled.now body))) lits.old lits.new) }
+    ensures { IfOk result (AddsFalse assign.now (complement (literal_of_form compiled.now (nth_body compiled.now body))) lits.old lits.new) }
 {
-    let lit = Lit::new(compiled.body_var(body), false);
+    let lit = compiled.body_lit(body).complement();
     if assign.holds(lit) {
         lits.push(lit)?;
         Ok(true)
@@ -119,10 +119,10 @@ pub(crate) fn add_parts(
     compiled: &Compiled,
     vars: &Interp,
     assign: &Assign,
-    bodies: &[Var],
+    bodies: &[u32],
     lits: &mut Lits,
 ) -> Result<bool, AllocError>
-    requires bodies { All (IsBodyVar compiled.now) bodies.now }
+    requires bodies { All (IsBodyNumber compiled.now) bodies.now }
     requires vars { length assign.now ≡ var_count compiled.now + 1 }
     ensures { IfOk result (AreAdded compiled.now assign.now vars.now bodies.now lits.old lits.new) }
 {

@@ -23,7 +23,7 @@ use Rattle.asp_model.proofs.ModelLaws.{least_model-derived, monotone}
 use Rattle.asp_model.proofs.ReadingLaws.{step_read}
 use Rattle.asp_model.proofs.ReductLaws.{rules_in_force-heads}
 use Rattle.asp_vars.specs.Literals.{Literal, T, F, agrees, value_of, holds_in}
-use Rattle.asp_vars.specs.Numbering.{normal, body_eq, bodies_of, nth_body, nth_rule, place_of, var_of_atom, var_of_body, literal_of}
+use Rattle.asp_vars.specs.Numbering.{normal, body_eq, bodies_of, nth_body, nth_rule, place_of, place_of_body, var_of_atom, literal_of}
 use Rattle.asp_vars.specs.Tabled.{bound_of, form_literals, form_weights, heads_of, Stands}
 use Rattle.asp_vars.proofs.NumberingLaws.{same_body as equal_body}
 use Rattle.asp_vars.proofs.NormalLaws.{body_holds_between-normal}
@@ -32,7 +32,8 @@ use Rattle.asp_vars.proofs.StandingLaws.{Among, each_among, each_both, rule_has_
 use Rattle.asp_vars.proofs.SupportLaws.{some, in_map, member, same_atom}
 use Rattle.asp_loop.specs.Weighing.{weigh}
 use Rattle.asp_loop.proofs.FoundedLaws.{has-filter}
-use Rattle.asp_loop.proofs.LoopLaws.{members, at_form}
+use Rattle.asp_vars.proofs.SupportLaws.{body_of_nth_rule}
+use Rattle.asp_loop.proofs.LoopLaws.{members}
 use Rattle.asp_loop.proofs.WeightedLaws.{body_stands}
 use Rattle.asp_found.specs.Verdicts.{is_kept}
 use Rattle.asp_member.specs.Founding.{passes, derived, AreFounded, Derives, Founds, keeps}
@@ -193,20 +194,8 @@ derives_more heads x z y i v lt is inside e h = cases (is_none (value_of z v)) r
         new w false s f = h.new w (sym (ap (λ o. agrees o (T w)) (get_or-set_other z v w (Some true) None (λ u. false≢true (s ∙ eq-eqb v w (sym u))))) ∙ f)
 
 -- ---- the body of a rule
-rule_form : (p : Program) (i : ℕ) → i < length (rules_in_force p) → list_any (body_eq (normal (nth_rule p i).body)) (bodies_of p) ≡ true
-rule_form p i lt = rule_has_form p (nth_rule p i) (at_each (Among (rules_in_force p)) (rules_in_force p) i (record { head = head.Never; body = body.All [] }) (each_among (rules_in_force p)) lt)
-
-pub rule_place : (p : Program) (i v : ℕ) → i < length (rules_in_force p) → v ≡ var_of_body p (nth_rule p i).body → v - length (atoms_of p) - 1 < length (bodies_of p)
-rule_place p i v lt e =
-    let b : Body = normal (nth_rule p i).body in
-    let within = place_of-within (body_eq b) (bodies_of p) (rule_form p i lt) in
-    omega (arith, within, e)
-
-pub rule_body : (p : Program) (i v : ℕ) → i < length (rules_in_force p) → v ≡ var_of_body p (nth_rule p i).body → nth_body p (v - length (atoms_of p) - 1) ≡ normal (nth_rule p i).body
-rule_body p i v lt e =
-    let b : Body = normal (nth_rule p i).body in
-    let at : v - length (atoms_of p) - 1 ≡ place_of (body_eq b) (bodies_of p) = omega (arith, e) in
-    ap (nth_body p) at ∙ at_form b (bodies_of p) (body.All []) (rule_form p i lt)
+pub rule_body : (p : Program) (i n : ℕ) → i < length (rules_in_force p) → n ≡ place_of_body p (nth_rule p i).body → nth_body p n ≡ normal (nth_rule p i).body
+rule_body p i n lt e = ap (nth_body p) e ∙ body_of_nth_rule p i lt
 
 -- ---- rules that are kept
 or_true : (a : Bool) → (a || true) ≡ true

@@ -207,10 +207,7 @@ fn keeps(compiled: &Compiled, set: &Interp, values: &Assign, rule: usize) -> boo
     if is_kept(set, compiled.rule(rule).head) {
         return true;
     }
-    let var = compiled.rule_body(rule);
-    let atoms = compiled.atom_count();
-    let body = var as usize - atoms - 1;
-    !holds(compiled, values, body)
+    !holds(compiled, values, compiled.rule_body(rule))
 }
 
 fn are_kept(compiled: &Compiled, set: &Interp, values: &Assign) -> bool

@@ -12,7 +12,7 @@ use Rattle.asp_model.specs.Sets.{has}
 use Rattle.asp_model.specs.Holding.{atom_of, is_positive}
 use Rattle.asp_model.specs.Models.{rules_in_force, atoms_of, head_atoms}
 use Rattle.asp_model.proofs.MemberLaws.{HasAll}
-use Rattle.asp_vars.specs.Numbering.{normal, body_eq, bodies_of, place_of, var_of_atom, var_of_form, literal_of}
+use Rattle.asp_vars.specs.Numbering.{normal, body_eq, bodies_of, place_of, var_of_atom, number_of_form, literal_of}
 use Rattle.asp_vars.specs.Completion.{supports}
 use Rattle.asp_vars.proofs.NumberingLaws.{same_body, body_eq-itself}
 use Rattle.asp_vars.proofs.StandingLaws.{Among, each_among, rule_has_form}
@@ -38,7 +38,7 @@ pub atom_edges : (p : Program) (a : ℕ) → has (atoms_of p) a ≡ true → edg
 atom_edges p a e =
     place_at (λ b. eqb b a) (supports p) (atoms_of p) (map (positives p) (bodies_of p)) [] (supports p a) (λ b h. ap (supports p) (eqb-true b a h)) e
 
-pub body_edges : (p : Program) (b : Body) → list_any (body_eq b) (bodies_of p) ≡ true → edges (graph_of p) (var_of_form p b) ≡ positives p b
+pub body_edges : (p : Program) (b : Body) → list_any (body_eq b) (bodies_of p) ≡ true → edges (graph_of p) (number_of_form p b) ≡ positives p b
 body_edges p b e =
     ap (λ n. get_or (map (supports p) (atoms_of p) ++ map (positives p) (bodies_of p)) (n + place_of (body_eq b) (bodies_of p)) []) (sym (length-map (atoms_of p) (supports p)))
     ∙ get_or-append-add (map (supports p) (atoms_of p)) (map (positives p) (bodies_of p)) (place_of (body_eq b) (bodies_of p)) []
@@ -90,8 +90,8 @@ dependence_edges p a b stands e =
     let test : Body → Bool = λ c. list_any (λ (r : Rule). has (head_atoms r.head) a && body_eq (normal r.body) c) (rules_in_force p) in
     let passes : test form ≡ true = found.1 (λ (r : Rule). has (head_atoms r.head) a && body_eq (normal r.body) form) (and_from (has (head_atoms found.0.head) a) (body_eq form form) parts.0 (body_eq-itself form)) in
     record {
-      via = var_of_form p form;
-      first = ap (λ row. is_in row (var_of_form p form)) (atom_edges p a stands) ∙ form_in p test form (bodies_of p) listed passes;
+      via = number_of_form p form;
+      first = ap (λ row. is_in row (number_of_form p form)) (atom_edges p a stands) ∙ form_in p test form (bodies_of p) listed passes;
       second = ap (λ row. is_in row (var_of_atom p b)) (body_edges p form listed ∙ positive_vars p form) ∙ map_in (var_of_atom p) (positive_atoms form) b parts.1;
     }
 

@@ -1,7 +1,7 @@
 //! The graph of a program's positive dependencies.
 ghost use Rattle.std.specs.Prelude.{◌≡◌, ◌≤◌, ◌<◌, ◌^◌, ◌++◌, [], ◌∷◌, ℕ, IfOk, OnOk, All, map, filter, length};
 ghost use Rattle.asp_model.specs.Models.{atoms_of};
-ghost use Rattle.asp_vars.specs.Numbering.{bodies_of, var_count};
+ghost use Rattle.asp_vars.specs.Numbering.{bodies_of, number_count};
 ghost use Rattle.asp_vars.specs.Completion.{supports};
 ghost use Rattle.asp_vars.specs.Tabled.{IsAtomVar};
 ghost use Rattle.asp_scc.specs.Dependencies.{positives, graph_of};
@@ -24,9 +24,9 @@ fn positive_vars(alloc: Global, literals: &[Lit]) -> Result<Vec<Var>, AllocError
 
 // The rows, and the bodies of each atom's rules.
 fn with_atoms(compiled: &Compiled, rows: Table<Var>) -> Result<Table<Var>, AllocError>
-    requires { All (All (λ v. v ≤ var_count compiled.now)) rows }
+    requires { All (All (λ v. v ≤ number_count compiled.now)) rows }
     ensures rows { IfOk result (λ t. t ≡ rows ++ map (supports compiled.now) (atoms_of compiled.now)) }
-    ensures within { IfOk result (All (All (λ v. v ≤ var_count compiled.now))) }
+    ensures within { IfOk result (All (All (λ v. v ≤ number_count compiled.now))) }
 {
     let mut rows = rows;
     for atom in 0..compiled.atom_count() {
@@ -41,9 +41,9 @@ fn with_bodies(
     compiled: &Compiled,
     rows: Table<Var>,
 ) -> Result<Table<Var>, AllocError>
-    requires { All (All (λ v. v ≤ var_count compiled.now)) rows }
+    requires { All (All (λ v. v ≤ number_count compiled.now)) rows }
     ensures rows { IfOk result (λ t. t ≡ rows ++ map (positives compiled.now) (bodies_of compiled.now)) }
-    ensures within { IfOk result (All (All (λ v. v ≤ var_count compiled.now))) }
+    ensures within { IfOk result (All (All (λ v. v ≤ number_count compiled.now))) }
 {
     let mut rows = rows;
     for body in 0..compiled.body_count() {
@@ -57,7 +57,7 @@ fn with_bodies(
 /// literals.
 pub fn dependencies(alloc: Global, compiled: &Compiled) -> Result<Table<Var>, AllocError>
     ensures graph { IfOk result (λ g. g ≡ graph_of compiled.now) }
-    ensures within { IfOk result (All (All (λ v. v ≤ var_count compiled.now))) }
+    ensures within { IfOk result (All (All (λ v. v ≤ number_count compiled.now))) }
 {
     let none = Vec::new(alloc);
     let rows = Table::new(alloc)?.with_row(none.as_slice())?;

@@ -13,7 +13,7 @@ use Rattle.asp_model.specs.Sets.{Atoms, has, IsSubset}
 use Rattle.asp_model.specs.Models.{atoms_of, rules_in_force, head_atoms}
 use Rattle.asp_model.proofs.MemberLaws.{each_weaker}
 use Rattle.asp_vars.specs.Literals.{Literal, T, F, complement, value_of, agrees, holds_in, is_true}
-use Rattle.asp_vars.specs.Numbering.{normal, var_count, var_of_atom, var_of_form, literal_of, values}
+use Rattle.asp_vars.specs.Numbering.{normal, var_count, var_of_atom, literal_of_form, literal_of, values}
 use Rattle.asp_vars.specs.Completion.{completion}
 use Rattle.asp_vars.specs.Unfounded.{assigned, is_inside, is_false, outside_weight, needs, is_excused, is_unfounded}
 use Rattle.asp_vars.specs.declared.nogood.Nogood.{Nogood}
@@ -90,7 +90,7 @@ module _ (p : Program) (U : Atoms) (x y : List (Option Bool)) (same : (l : Liter
   needs_same (body.AtLeast bound items) = ap (λ (w : ℤ). int_lt w bound) (weight_same items)
 
   excused_same : (b : Body) → is_excused p x U b ≡ is_excused p y U b
-  excused_same b = ap₂ (λ (c d : Bool). c || d) (same (F (var_of_form p b)) (omega arith)) (needs_same b)
+  excused_same b = ap₂ (λ (c d : Bool). c || d) (same (complement (literal_of_form p b)) (omega arith)) (needs_same b)
 
   rules_same : (rs : List Rule) → list_all (λ r. not (list_any (has U) (head_atoms r.head)) || is_excused p x U (normal r.body)) rs ≡ list_all (λ r. not (list_any (has U) (head_atoms r.head)) || is_excused p y U (normal r.body)) rs
   rules_same [] = refl

@@ -1,7 +1,8 @@
 -- What the pointers are after a literal came to hold, or was taken back.
-use Rattle.std.proofs.Common.{◌≡◌, ◌≢◌, ℕ, ◌+◌, ◌-◌, ◌<◌, ◌≤◌, Bool, true, false, not, cond, eqb, leb, List, [], ◌∷◌, map, length, set, get_or, Option, Some, None, refl, sym, ap, ◌∙◌, subst, arith, ◌⊎◌, inl, inr, get_or-set_same}
+use Rattle.std.proofs.Common.{◌≡◌, ◌≢◌, ℕ, ◌+◌, ◌-◌, ◌<◌, ◌≤◌, Bool, true, false, not, cond, ◌||◌, eqb, leb, List, [], ◌∷◌, map, length, set, get_or, Option, Some, None, refl, sym, ap, ◌∙◌, subst, arith, ◌⊎◌, inl, inr, get_or-set_same}
 use Rattle.std.specs.Prelude.{ℤ, is_some}
 use Rattle.std.specs.List.{All, AllByRecursion}
+use Rattle.std.specs.Bool.{beq}
 use Rattle.std.proofs.lemmas.Bool.{false≢true, eqb-true, eq-eqb}
 use Rattle.std.proofs.lemmas.Bool.Decides.{nat_tests}
 use Rattle.asp_model.specs.declared.program.Body.{Body}
@@ -11,36 +12,43 @@ use Rattle.asp_model.specs.Sets.{has}
 use Rattle.asp_model.specs.Holding.{atom_of}
 use Rattle.asp_model.specs.Models.{atoms_of}
 use Rattle.asp_model.specs.Sound.{IsSound}
-use Rattle.asp_vars.specs.Literals.{Literal, F, complement, has_literal, value_of, agrees, holds_in}
-use Rattle.asp_vars.specs.Numbering.{body_eq, bodies_of, place_of, var_of_atom, var_of_form, literal_of, nth_body}
+use Rattle.asp_vars.specs.Literals.{Literal, F, complement, literal_eq, has_literal, value_of, agrees, holds_in}
+use Rattle.asp_vars.specs.Numbering.{body_eq, bodies_of, place_of, var_of_atom, literal_of_form, literal_of, nth_body}
 use Rattle.asp_vars.specs.Completion.{supports}
-use Rattle.asp_vars.specs.Tabled.{bound_of, form_literals, heads_of, occurrences_of, IsAtomVar, Stands as BodyStands}
+use Rattle.asp_vars.specs.Tabled.{bound_of, form_literals, heads_of, held_row, bodies_with, occurrences_of, IsAtomVar, Stands as BodyStands}
 use Rattle.asp_vars.specs.Unfounded.{is_false}
 use Rattle.asp_vars.proofs.LiteralLaws.{beq_same}
 use Rattle.asp_scc.specs.Components.{Parts}
 use Rattle.asp_scc.proofs.ReachLaws.{atom_small}
 use Rattle.asp_loop.specs.Parts.{form_of}
-use Rattle.asp_loop.proofs.LoopLaws.{at_form}
+use Rattle.asp_vars.proofs.SupportLaws.{at_form}
 use Rattle.asp_loop.proofs.WeightedLaws.{by_recursion, form_items}
 use Rattle.asp_source.specs.Marks.{is_marked}
 use Rattle.asp_source.specs.Ranks.{source_of}
-use Rattle.asp_source.specs.Pointers.{ArePointers, AreSupports, Loses, IsGone, AreGone, IsGoneBy, seek, regain}
+use Rattle.asp_source.specs.Pointers.{ArePointers, AreSupports, Loses, IsGone, AreGone, IsGoneAt, IsGoneBy, seek, regain}
 use Rattle.asp_source.proofs.LookLaws.{at_member}
 use Rattle.asp_source.proofs.ChangeLaws.{newly, excused_back, each_listed, twice, kept_on, set_marked, told_other, unset_less}
 use Rattle.asp_source.proofs.GatherLaws.{each_occurrence}
 use Rattle.asp_source.proofs.LoseLaws.{less_of}
 use Rattle.asp_source.proofs.PointerLaws.{IsSource, source_is, ranked_less, ranked_values, supports_less, support_at, source_weighted, false_from}
 
+literal_eq-itself : (l : Literal) → literal_eq l l ≡ true
+literal_eq-itself l = rw (eq-eqb l.var l.var refl) (same l.truth)
+  where
+    same : (t : Bool) → beq t t ≡ true
+    same true = refl
+    same false = refl
+
 -- none of its heads has the body as its source, so the atom hasn't
 gone_at : (p : Program) (t : List ℕ) (a s : ℕ) (d : Body) → IsSource p a s d → AreGone p t (place_of (body_eq d) (bodies_of p)) → source_of p t a ≢ s
 gone_at p t a s d is gone e =
     at_member (IsGone t (length (atoms_of p) + 1 + place_of (body_eq d) (bodies_of p))) (heads_of p (nth_body p (place_of (body_eq d) (bodies_of p)))) (var_of_atom p a) gone
     (ap (λ b. has (heads_of p b) (var_of_atom p a)) (at_form d (bodies_of p) (body.All []) is.listed) ∙ is.head)
-    (let v = is.var in omega (arith, e, v))
+    (let v = is.number in omega (arith, e, v))
 
 -- a literal comes to hold
 pub assigned : (p : Program) (c : Parts) (x : List (Option Bool)) (ranks s : List ℕ) (q : List Bool) (t : List ℕ) (r : List Bool) (l : Literal) → IsSound p → l.var < length x → value_of x l.var ≡ None → Loses s q t r →
-    (length (atoms_of p) < l.var → l.truth ≡ false → AreGone p t (l.var - length (atoms_of p) - 1)) →
+    All (IsGoneAt p t) (bodies_with p (complement l)) →
     (l.var ≤ length (atoms_of p) → All (IsGoneBy p t) (occurrences_of p (complement l))) →
     ArePointers p c x s ranks q [] → ArePointers p c (set x l.var (Some l.truth)) t ranks r []
 assigned p c x ranks s q t r l sound lt none loses false_body lighter_body h = record {
@@ -70,14 +78,15 @@ assigned p c x ranks s q t r l sound lt none loses false_body lighter_body h = r
     supported : AreSupports p t
     supported = supports_less p s t (less_of s q t r loses) h.supports
 
-    own : (a : ℕ) (d : Body) → IsSource p a (source_of p t a) d → holds_in (set x l.var (Some l.truth)) (F (var_of_form p (form_of p (source_of p t a)))) ≡ true → holds_in x (F (var_of_form p (form_of p (source_of p t a)))) ≡ true
-    own a d is f = elim (newly x l (F (var_of_form p (form_of p (source_of p t a)))) lt f) [
+    own : (a : ℕ) (d : Body) → IsSource p a (source_of p t a) d → holds_in (set x l.var (Some l.truth)) (complement (literal_of_form p (form_of p (source_of p t a)))) ≡ true → holds_in x (complement (literal_of_form p (form_of p (source_of p t a)))) ≡ true
+    own a d is f = elim (newly x l (complement (literal_of_form p (form_of p (source_of p t a)))) lt f) [
       | inl before ↦ before
       | inr same ↦
-          let at : l.var ≡ var_of_form p d = ap (λ (k : Literal). k.var) (sym same) ∙ ap (var_of_form p) is.form in
-          let gone = false_body (omega (arith, at)) (ap (λ (k : Literal). k.truth) (sym same)) in
-          let place : l.var - length (atoms_of p) - 1 ≡ place_of (body_eq d) (bodies_of p) = omega (arith, at) in
-          absurd (gone_at p t a (source_of p t a) d is (subst (AreGone p t) place gone) refl)
+          let here : complement l ≡ literal_of_form p d = ap complement (sym same) ∙ twice (literal_of_form p (form_of p (source_of p t a))) ∙ ap (literal_of_form p) is.form in
+          let gone = each_occurrence p (held_row p) (AreGone p t) (literal_of_form p d) d (bodies_of p)
+          (subst (λ (k : Literal). AllByRecursion (IsGoneAt p t) (bodies_with p k)) here (by_recursion (IsGoneAt p t) (bodies_with p (complement l)) false_body))
+          is.listed (ap (λ t. t || false) (literal_eq-itself (literal_of_form p d))) in
+          absurd (gone_at p t a (source_of p t a) d is gone refl)
     ]
 
     each : (a : ℕ) (d : Body) → IsSource p a (source_of p t a) d → (bound : ℤ) (all : List (ℤ × ℤ)) → d ≡ body.AtLeast bound all → (is : List (ℤ × ℤ)) → AllByRecursion (λ (i : ℤ × ℤ). has_literal (map (λ j. literal_of p j.0) all) (literal_of p i.0) ≡ true) is → AllByRecursion (λ (i : ℤ × ℤ). has (atoms_of p) (atom_of i.0) ≡ true) is → AllByRecursion (λ (i : ℤ × ℤ). is_false p (set x l.var (Some l.truth)) i.0 ≡ true → is_false p x i.0 ≡ true) is
@@ -89,7 +98,7 @@ assigned p c x ranks s q t r l sound lt none loses false_body lighter_body h = r
             let stands = atom_small p (atom_of i.0) atoms.0 in
             let at : l.var ≡ (literal_of p i.0).var = ap (λ (k : Literal). k.var) (sym same) in
             let here : complement l ≡ literal_of p i.0 = ap complement (sym same) ∙ twice (literal_of p i.0) in
-            let gone = each_occurrence p (λ j. is_some (bound_of (nth_body p j)) ≡ true → AreGone p t j) (literal_of p i.0) d (bodies_of p)
+            let gone = each_occurrence p (form_literals p) (λ j. is_some (bound_of (nth_body p j)) ≡ true → AreGone p t j) (literal_of p i.0) d (bodies_of p)
             (subst (λ (k : Literal). AllByRecursion (IsGoneBy p t) (occurrences_of p k)) here (by_recursion (IsGoneBy p t) (occurrences_of p (complement l)) (lighter_body (omega (arith, at, stands)))))
             source.listed (ap (λ b. has_literal (form_literals p b) (literal_of p i.0)) form ∙ listed.0) in
             absurd (gone_at p t a (source_of p t a) d source (gone (ap (λ b. is_some (bound_of b)) (at_form d (bodies_of p) (body.All []) source.listed ∙ form))) refl)
@@ -150,7 +159,7 @@ undone p c x ranks s q r l sound holds is room h = record {
   supports = h.supports;
   ranked = ranked_values p c x (set x l.var None) ranks (is_marked []) s (λ U a stands nz e.
       excused_back p x (set x l.var None) U (form_of p (source_of p s a)) (source_weighted p a (source_of p s a) sound (support_at p s a h.supports stands nz))
-      (unset_less x l.var (F (var_of_form p (form_of p (source_of p s a))))) (all_less (form_items (form_of p (source_of p s a)))) e) h.ranked;
+      (unset_less x l.var (complement (literal_of_form p (form_of p (source_of p s a))))) (all_less (form_items (form_of p (source_of p s a)))) e) h.ranked;
   sought = λ v at z cyclic alive. cases v at z cyclic alive (holds_in x (F v)) refl;
 }
   where

@@ -15,7 +15,7 @@ use Rattle.asp_model.specs.Sets.{Atoms, has}
 use Rattle.asp_model.specs.Models.{rules_in_force, head_atoms}
 use Rattle.asp_model.proofs.MemberLaws.{list_any-flat_map}
 use Rattle.asp_vars.specs.Literals.{Literal, F, complement, literal_eq, has_literal, value_of, agrees, holds_in}
-use Rattle.asp_vars.specs.Numbering.{normal, body_eq, bodies_of, place_of, var_of_atom, var_of_form, literal_of, nth_atom}
+use Rattle.asp_vars.specs.Numbering.{normal, body_eq, bodies_of, place_of, var_of_atom, literal_of_form, literal_of, nth_atom}
 use Rattle.asp_vars.specs.Tabled.{form_literals, heads_of, occurrences_of, IsAtomVar}
 use Rattle.asp_vars.specs.Unfounded.{is_false, is_inside, outside_weight, needs, is_excused, is_unfounded}
 use Rattle.asp_vars.proofs.LiteralLaws.{beq_same, same_literal}
@@ -64,10 +64,10 @@ open_more p x y U (i ∷ items) h less =
     one false false true s = omega (arith, ints)
     one false false false s = omega (arith, ints)
 
-pub excused_back : (p : Program) (x y : List (Option Bool)) (U : Atoms) (b : Body) → AreItems (form_items b) → (holds_in y (F (var_of_form p b)) ≡ true → holds_in x (F (var_of_form p b)) ≡ true) → AllByRecursion (λ (i : ℤ × ℤ). is_false p y i.0 ≡ true → is_false p x i.0 ≡ true) (form_items b) → is_excused p y U b ≡ true → is_excused p x U b ≡ true
-excused_back p x y U b weighted f g e = elim (either (holds_in y (F (var_of_form p b))) (needs p y U b) e) [
-  | inl h ↦ or_left (holds_in x (F (var_of_form p b))) (needs p x U b) (f h)
-  | inr h ↦ or_right (holds_in x (F (var_of_form p b))) (needs p x U b) (needs_back b weighted g h)
+pub excused_back : (p : Program) (x y : List (Option Bool)) (U : Atoms) (b : Body) → AreItems (form_items b) → (holds_in y (complement (literal_of_form p b)) ≡ true → holds_in x (complement (literal_of_form p b)) ≡ true) → AllByRecursion (λ (i : ℤ × ℤ). is_false p y i.0 ≡ true → is_false p x i.0 ≡ true) (form_items b) → is_excused p y U b ≡ true → is_excused p x U b ≡ true
+excused_back p x y U b weighted f g e = elim (either (holds_in y (complement (literal_of_form p b))) (needs p y U b) e) [
+  | inl h ↦ or_left (holds_in x (complement (literal_of_form p b))) (needs p x U b) (f h)
+  | inr h ↦ or_right (holds_in x (complement (literal_of_form p b))) (needs p x U b) (needs_back b weighted g h)
 ]
   where
     needs_back : (d : Body) → AreItems (form_items d) → AllByRecursion (λ (i : ℤ × ℤ). is_false p y i.0 ≡ true → is_false p x i.0 ≡ true) (form_items d) → needs p y U d ≡ true → needs p x U d ≡ true

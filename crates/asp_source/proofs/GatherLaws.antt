@@ -21,7 +21,7 @@ use Rattle.asp_vars.proofs.RowLaws.{all_of, head_vars}
 use Rattle.asp_vars.proofs.SupportLaws.{either}
 use Rattle.asp_scc.specs.Components.{Parts, Stands}
 use Rattle.asp_loop.specs.Parts.{form_of}
-use Rattle.asp_loop.proofs.LoopLaws.{at_form}
+use Rattle.asp_vars.proofs.SupportLaws.{at_form}
 use Rattle.asp_loop.proofs.WeightedLaws.{by_recursion}
 use Rattle.asp_source.specs.Marks.{is_marked, shown}
 use Rattle.asp_source.specs.Ranks.{is_above, above, source_of, AreRanked}
@@ -218,14 +218,14 @@ gathers_one x s l w t v lt within drops = cases (stays x l v) refl
         }
 
 -- ---- nothing rests on the atom any more
-pub each_occurrence : (p : Program) (P : ℕ → Type 0) (m : Literal) (d : Body) (bs : List Body) → AllByRecursion (λ (o : Occurrence). P o.body) (map (λ (e : Body). record { body = place_of (body_eq e) (bodies_of p); place = place_of (λ k. literal_eq k m) (form_literals p e) }) (filter (λ e. has_literal (form_literals p e) m) bs)) → list_any (body_eq d) bs ≡ true → has_literal (form_literals p d) m ≡ true → P (place_of (body_eq d) (bodies_of p))
-each_occurrence p P m d [] h listed inside = absurd (false≢true listed)
-each_occurrence p P m d (e ∷ bs) h listed inside = cases (has_literal (form_literals p e) m) refl h (either (body_eq d e) (list_any (body_eq d) bs) listed) (λ g i. each_occurrence p P m d bs g i inside)
+pub each_occurrence : (p : Program) (row : Body → List Literal) (P : ℕ → Type 0) (m : Literal) (d : Body) (bs : List Body) → AllByRecursion (λ (o : Occurrence). P o.body) (map (λ (e : Body). record { body = place_of (body_eq e) (bodies_of p); place = place_of (λ k. literal_eq k m) (row e) }) (filter (λ e. has_literal (row e) m) bs)) → list_any (body_eq d) bs ≡ true → has_literal (row d) m ≡ true → P (place_of (body_eq d) (bodies_of p))
+each_occurrence p row P m d [] h listed inside = absurd (false≢true listed)
+each_occurrence p row P m d (e ∷ bs) h listed inside = cases (has_literal (row e) m) refl h (either (body_eq d e) (list_any (body_eq d) bs) listed) (λ g i. each_occurrence p row P m d bs g i inside)
   where
-    cases : (t : Bool) → t ≡ has_literal (form_literals p e) m → AllByRecursion (λ (o : Occurrence). P o.body) (map (λ (e : Body). record { body = place_of (body_eq e) (bodies_of p); place = place_of (λ k. literal_eq k m) (form_literals p e) }) (cond t (e ∷ filter (λ e. has_literal (form_literals p e) m) bs) (filter (λ e. has_literal (form_literals p e) m) bs))) → (body_eq d e ≡ true) ⊎ (list_any (body_eq d) bs ≡ true) → (AllByRecursion (λ (o : Occurrence). P o.body) (map (λ (e : Body). record { body = place_of (body_eq e) (bodies_of p); place = place_of (λ k. literal_eq k m) (form_literals p e) }) (filter (λ e. has_literal (form_literals p e) m) bs)) → list_any (body_eq d) bs ≡ true → P (place_of (body_eq d) (bodies_of p))) → P (place_of (body_eq d) (bodies_of p))
+    cases : (t : Bool) → t ≡ has_literal (row e) m → AllByRecursion (λ (o : Occurrence). P o.body) (map (λ (e : Body). record { body = place_of (body_eq e) (bodies_of p); place = place_of (λ k. literal_eq k m) (row e) }) (cond t (e ∷ filter (λ e. has_literal (row e) m) bs) (filter (λ e. has_literal (row e) m) bs))) → (body_eq d e ≡ true) ⊎ (list_any (body_eq d) bs ≡ true) → (AllByRecursion (λ (o : Occurrence). P o.body) (map (λ (e : Body). record { body = place_of (body_eq e) (bodies_of p); place = place_of (λ k. literal_eq k m) (row e) }) (filter (λ e. has_literal (row e) m) bs)) → list_any (body_eq d) bs ≡ true → P (place_of (body_eq d) (bodies_of p))) → P (place_of (body_eq d) (bodies_of p))
     cases true q h (inl i) later = subst (λ (b : Body). P (place_of (body_eq b) (bodies_of p))) (sym (same_body d e i)) h.0
     cases true q h (inr i) later = later h.1 i
-    cases false q h (inl i) later = absurd (false≢true (q ∙ (ap (λ b. has_literal (form_literals p b) m) (sym (same_body d e i)) ∙ inside)))
+    cases false q h (inl i) later = absurd (false≢true (q ∙ (ap (λ b. has_literal (row b) m) (sym (same_body d e i)) ∙ inside)))
     cases false q h (inr i) later = later h i
 
 -- the body that is a source stands where its head is listed
@@ -235,10 +235,10 @@ source_released p c x k ranks s l w v a supported stands nz inside all =
     let source = source_is p a b (support_at p s a supported stands nz) in
     let d : Body = source.0 in
     let there : has_literal (form_literals p d) (T v) ≡ true = ap (λ e. has_literal (form_literals p e) (T v)) (sym source.1.form) ∙ inside in
-    let released = each_occurrence p (λ j. AreReleased p c x k ranks s l w j) (T v) d (bodies_of p) (by_recursion (λ (o : Occurrence). AreReleased p c x k ranks s l w o.body) (occurrences_of p (T v)) all) source.1.listed there in
+    let released = each_occurrence p (form_literals p) (λ j. AreReleased p c x k ranks s l w j) (T v) d (bodies_of p) (by_recursion (λ (o : Occurrence). AreReleased p c x k ranks s l w o.body) (occurrences_of p (T v)) all) source.1.listed there in
     let head : has (heads_of p (nth_body p (place_of (body_eq d) (bodies_of p)))) (var_of_atom p a) ≡ true =
     ap (λ e. has (heads_of p e) (var_of_atom p a)) (at_form d (bodies_of p) (body.All []) source.1.listed) ∙ source.1.head in
-    let at : length (atoms_of p) + 1 + place_of (body_eq d) (bodies_of p) ≡ b = let e = source.1.var in omega (arith, e) in
+    let at : length (atoms_of p) + 1 + place_of (body_eq d) (bodies_of p) ≡ b = let e = source.1.number in omega (arith, e) in
     subst (λ (n : ℕ). IsReleased p c x k ranks s l w n (var_of_atom p a)) at
     (at_member (IsReleased p c x k ranks s l w (length (atoms_of p) + 1 + place_of (body_eq d) (bodies_of p))) (heads_of p (nth_body p (place_of (body_eq d) (bodies_of p)))) (var_of_atom p a) released head)
 

@@ -11,7 +11,7 @@ use Rattle.asp_model.specs.Sound.{IsSound}
 use Rattle.asp_vars.specs.declared.nogood.Nogood.{Nogood}
 use Rattle.asp_vars.specs.Literals.{Literal, T, complement, value_of, holds_in}
 use Rattle.asp_vars.specs.Numbering.{bodies_of, var_count, var_of_atom}
-use Rattle.asp_vars.specs.Tabled.{IsAtomVar, occurrences_of}
+use Rattle.asp_vars.specs.Tabled.{bodies_with, IsAtomVar, occurrences_of}
 use Rattle.asp_trail.specs.Trails.{IsVar}
 use Rattle.asp_trail.specs.Told.{Told}
 use Rattle.asp_loop.specs.LoopNogoods.{IsLoopNogood}
@@ -21,7 +21,7 @@ use Rattle.asp_source.specs.Marks.{is_marked}
 use Rattle.asp_source.specs.Marks.{AreBlank}
 use Rattle.asp_source.specs.Loops.{IsUnfoundedLoop, IsFound}
 use Rattle.asp_source.specs.Rest.{Rest, IsRemembered}
-use Rattle.asp_source.specs.Pointers.{ArePointers, Loses, AreGone, IsGoneBy, AreMarked, seek, regain}
+use Rattle.asp_source.specs.Pointers.{ArePointers, Loses, IsGoneAt, IsGoneBy, AreMarked, seek, regain}
 use Rattle.asp_source.specs.Kept.{IsKept}
 use Rattle.asp_source.proofs.AssignLaws.{assigned, undone}
 use Rattle.asp_source.proofs.GivenLaws.{given, remembered}
@@ -67,7 +67,7 @@ pointers_anew p c x s ranks q is ranked size marked =
 
 -- ---- a literal comes to hold
 pub kept_by : (p : Program) (c : Parts) (x y : List (Option Bool)) (s ranks : List ℕ) (q : List Bool) (t : List ℕ) (r : List Bool) (tight weighted : Bool) (loose waiting joined : List Bool) (rest : Rest) (l : Literal) → IsSound p → IsKept p c x s ranks q tight weighted loose waiting joined rest → tight ≡ false → IsVar (var_count p) l.var → value_of x l.var ≡ None → y ≡ set x l.var (Some l.truth) → Loses s q t r →
-    (length (atoms_of p) < l.var → l.truth ≡ false → AreGone p t (l.var - length (atoms_of p) - 1)) →
+    All (IsGoneAt p t) (bodies_with p (complement l)) →
     (l.var ≤ length (atoms_of p) → All (IsGoneBy p t) (occurrences_of p (complement l))) →
     IsKept p c y t ranks r tight weighted loose waiting joined rest
 kept_by p c x y s ranks q t r tight weighted loose waiting joined rest l sound h loose_ is none told loses body_gone lighter =

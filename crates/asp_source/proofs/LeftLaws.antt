@@ -10,12 +10,12 @@ use Rattle.asp_model.specs.Models.{rules_in_force, atoms_of, head_atoms}
 use Rattle.asp_model.specs.Sound.{IsSound}
 use Rattle.asp_model.proofs.MemberLaws.{list_any-flat_map}
 use Rattle.asp_vars.specs.Literals.{F, holds_in}
-use Rattle.asp_vars.specs.Numbering.{normal, body_eq, bodies_of, var_of_atom, var_of_form, nth_atom}
+use Rattle.asp_vars.specs.Numbering.{normal, body_eq, bodies_of, var_of_atom, number_of_form, nth_atom}
 use Rattle.asp_vars.specs.Completion.{supports}
 use Rattle.asp_vars.specs.Unfounded.{is_excused}
 use Rattle.asp_vars.proofs.NumberingLaws.{body_eq-itself}
 use Rattle.asp_vars.proofs.StandingLaws.{Among, rule_has_form}
-use Rattle.asp_vars.proofs.SupportLaws.{some, or_left, form_in}
+use Rattle.asp_vars.proofs.SupportLaws.{form_at-number, some, or_left, form_in}
 use Rattle.asp_scc.specs.Components.{Parts, component_of, Stands, AreComponents, IsAlone}
 use Rattle.asp_loop.specs.Parts.{form_of}
 use Rattle.asp_loop.proofs.EntailedLaws.{any_of}
@@ -27,7 +27,7 @@ use Rattle.asp_source.specs.Loops.{IsFound}
 use Rattle.asp_source.specs.Founding.{AreStuck}
 use Rattle.asp_source.specs.Pointers.{AreCandidates}
 use Rattle.asp_source.proofs.BodyLaws.{has-shown}
-use Rattle.asp_source.proofs.LooseLaws.{excused_more, atom_of_var, form_of-var}
+use Rattle.asp_source.proofs.LooseLaws.{excused_more, atom_of_var}
 use Rattle.asp_source.proofs.LookLaws.{at_member, var_at, atom_stands, unfounded_from, none_of, not_false_true, and_false}
 
 -- what holds of a candidate that is left
@@ -84,9 +84,9 @@ left_excused p c x k s l places r a sound h listed stuck left m head =
     let test : Body → Bool = λ d. list_any (λ (s : Rule). has (head_atoms s.head) a && body_eq (normal s.body) d) (rules_in_force p) in
     let known = rule_has_form p r m in
     let passes : test b ≡ true = m (λ s. has (head_atoms s.head) a && body_eq (normal s.body) b) (and_from (has (head_atoms r.head) a) (body_eq b b) head (body_eq-itself b)) in
-    let supported : has (supports p a) (var_of_form p b) ≡ true = form_in p test b (bodies_of p) known passes in
+    let supported : has (supports p a) (number_of_form p b) ≡ true = form_in p test b (bodies_of p) known passes in
     let excused : is_excused p x (shown p (is_marked l)) b ≡ true =
-    ap (is_excused p x (shown p (is_marked l))) (sym (form_of-var p b known)) ∙ not_false_true (is_excused p x (shown p (is_marked l)) (form_of p (var_of_form p b))) (none_of (λ w. not (is_excused p x (shown p (is_marked l)) (form_of p w))) (supports p a) (var_of_form p b) none supported) in
+    ap (is_excused p x (shown p (is_marked l))) (sym (form_at-number p b known)) ∙ not_false_true (is_excused p x (shown p (is_marked l)) (form_of p (number_of_form p b))) (none_of (λ w. not (is_excused p x (shown p (is_marked l)) (form_of p w))) (supports p a) (number_of_form p b) none supported) in
     excused_more p x (shown p (is_marked l)) (atoms_at p l places) b within (form_weighted p r sound m) excused
   where
     within : IsSubset (shown p (is_marked l)) (atoms_at p l places)

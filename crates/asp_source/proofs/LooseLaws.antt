@@ -12,16 +12,16 @@ use Rattle.asp_model.specs.Sets.{Atoms, has, IsSubset}
 use Rattle.asp_model.specs.Holding.{atom_of, is_positive}
 use Rattle.asp_model.specs.Models.{rules_in_force, atoms_of, head_atoms}
 use Rattle.asp_model.specs.Sound.{IsSound}
-use Rattle.asp_vars.specs.Literals.{F, holds_in}
-use Rattle.asp_vars.specs.Numbering.{normal, body_eq, bodies_of, place_of, var_of_atom, var_of_form, nth_atom, nth_body}
+use Rattle.asp_vars.specs.Literals.{complement, holds_in}
+use Rattle.asp_vars.specs.Numbering.{normal, body_eq, bodies_of, place_of, var_of_atom, literal_of_form, nth_atom, nth_body}
 use Rattle.asp_vars.specs.Completion.{supports}
 use Rattle.asp_vars.specs.Unfounded.{is_false, is_inside, outside_weight, needs, is_excused, is_unfounded}
 use Rattle.asp_vars.proofs.NumberingLaws.{same_body}
 use Rattle.asp_vars.proofs.StandingLaws.{Among, each_among}
-use Rattle.asp_vars.proofs.SupportLaws.{some, either, or_left, or_right, at_place, in_forms}
+use Rattle.asp_vars.proofs.SupportLaws.{some, either, or_left, or_right, at_place, in_forms, form_at-number}
 use Rattle.asp_loop.specs.Parts.{form_of}
 use Rattle.asp_loop.proofs.EntailedLaws.{any_of}
-use Rattle.asp_loop.proofs.LoopLaws.{members, at_form, rule_excused}
+use Rattle.asp_loop.proofs.LoopLaws.{members, rule_excused}
 use Rattle.asp_loop.proofs.WeightedLaws.{AreItems, form_items, form_weighted}
 use Rattle.asp_source.specs.Marks.{is_marked, is_founded}
 use Rattle.asp_source.proofs.QueueLaws.{fewer, marked_within}
@@ -62,9 +62,9 @@ needs_more p x U V (body.AtLeast c items) sub weighted e =
     lighter c (outside_weight p x V items) (outside_weight p x U items) (outside_fewer p x U V items sub weighted) e
 
 pub excused_more : (p : Program) (x : List (Option Bool)) (U V : Atoms) (b : Body) → IsSubset U V → AreItems (form_items b) → is_excused p x U b ≡ true → is_excused p x V b ≡ true
-excused_more p x U V b sub weighted e = elim (either (holds_in x (F (var_of_form p b))) (needs p x U b) e) [
-  | inl h ↦ or_left (holds_in x (F (var_of_form p b))) (needs p x V b) h
-  | inr h ↦ or_right (holds_in x (F (var_of_form p b))) (needs p x V b) (needs_more p x U V b sub weighted h)
+excused_more p x U V b sub weighted e = elim (either (holds_in x (complement (literal_of_form p b))) (needs p x U b) e) [
+  | inl h ↦ or_left (holds_in x (complement (literal_of_form p b))) (needs p x V b) h
+  | inr h ↦ or_right (holds_in x (complement (literal_of_form p b))) (needs p x V b) (needs_more p x U V b sub weighted h)
 ]
 
 -- ---- rules for an unfounded set
@@ -90,16 +90,12 @@ rule_is_excused p x U r a unfounded m head member =
     or_then (list_any (has U) (head_atoms r.head)) (is_excused p x U (normal r.body)) (any_of (has U) (head_atoms r.head) a head member)
     (all_among (rule_excused p x U) (rules_in_force p) r (and_parts (ltb 0 (length U)) (list_all (rule_excused p x U) (rules_in_force p)) unfounded).1 m)
 
-pub form_of-var : (p : Program) (b : Body) → list_any (body_eq b) (bodies_of p) ≡ true → form_of p (var_of_form p b) ≡ b
-form_of-var p b listed =
-    ap (nth_body p) (let e : var_of_form p b - length (atoms_of p) - 1 ≡ place_of (body_eq b) (bodies_of p) = omega arith in e) ∙ at_form b (bodies_of p) (body.All []) listed
-
 -- what is founded from outside of a set is in no unfounded part of it
 pub founded_out : (p : Program) (x : List (Option Bool)) (V U : Atoms) (a : ℕ) → IsSound p → is_founded p x V a ≡ true → is_unfounded p x U ≡ true → IsSubset U V → has U a ≡ true → ⊥
 founded_out p x V U a sound founded unfounded sub member =
     let found = some (λ w. has (supports p a) w ≡ true) (λ w. not (is_excused p x V (form_of p w))) (supports p a) (members (supports p a)) founded in
     let form = in_forms p a found.0 found.1 in
-    let same : form_of p found.0 ≡ form.0 = ap (form_of p) (sym form.2) ∙ form_of-var p form.0 form.1.0.0 in
+    let same : form_of p found.0 ≡ form.0 = ap (form_of p) (sym form.2) ∙ form_at-number p form.0 form.1.0.0 in
     let rule = some (Among (rules_in_force p)) (λ (r : Rule). has (head_atoms r.head) a && body_eq (normal r.body) form.0) (rules_in_force p) (each_among (rules_in_force p)) form.1.1 in
     let parts = and_parts (has (head_atoms rule.0.head) a) (body_eq (normal rule.0.body) form.0) rule.2 in
     let is_form : normal rule.0.body ≡ form.0 = same_body (normal rule.0.body) form.0 parts.1 in

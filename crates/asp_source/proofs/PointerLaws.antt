@@ -7,7 +7,7 @@ use Rattle.asp_model.specs.declared.program.Program.{Program}
 use Rattle.asp_model.specs.Sets.{Atoms, has, IsSubset}
 use Rattle.asp_model.specs.Models.{rules_in_force, atoms_of, head_atoms}
 use Rattle.asp_model.specs.Sound.{IsSound}
-use Rattle.asp_vars.specs.Numbering.{normal, body_eq, bodies_of, var_of_atom, var_of_form, nth_atom}
+use Rattle.asp_vars.specs.Numbering.{normal, body_eq, bodies_of, var_of_atom, number_of_form, nth_atom}
 use Rattle.std.specs.List.{list_any}
 use Rattle.asp_model.specs.declared.program.Body.{Body}
 use Rattle.asp_vars.specs.Completion.{supports}
@@ -15,7 +15,7 @@ use Rattle.asp_vars.specs.Tabled.{heads_of, IsAtomVar, Stands as BodyStands}
 use Rattle.asp_vars.specs.Unfounded.{is_excused}
 use Rattle.asp_vars.proofs.NumberingLaws.{same_body}
 use Rattle.asp_vars.proofs.StandingLaws.{Among, each_among}
-use Rattle.asp_vars.proofs.SupportLaws.{some, either, or_left, or_right, in_forms}
+use Rattle.asp_vars.proofs.SupportLaws.{form_at-number, some, either, or_left, or_right, in_forms}
 use Rattle.asp_scc.specs.Components.{Parts, Stands, AreComponents}
 use Rattle.asp_scc.proofs.ReachLaws.{atom_small}
 use Rattle.asp_loop.specs.Parts.{form_of}
@@ -27,7 +27,7 @@ use Rattle.asp_source.specs.Founding.{IsFoundBy}
 use Rattle.asp_source.specs.Ranks.{IsRanking, is_above, above, source_of, AreRanked}
 use Rattle.asp_source.specs.Pointers.{AreSupports, AreSought}
 use Rattle.asp_source.proofs.BodyLaws.{has-shown}
-use Rattle.asp_source.proofs.LooseLaws.{excused_more, founded_out, form_of-var, atom_of_var, unset_marked}
+use Rattle.asp_source.proofs.LooseLaws.{excused_more, founded_out, atom_of_var, unset_marked}
 use Rattle.asp_source.proofs.ChangeLaws.{some_member, cyclic_of, head_listed}
 
 pub false_from : (a b : Bool) → (b ≡ true → a ≡ true) → a ≡ false → b ≡ false
@@ -42,7 +42,7 @@ atom_var p a stands = (let some_ : 0 < var_of_atom p a = omega arith in some_, a
 pub source_weighted : (p : Program) (a s : ℕ) → IsSound p → has (supports p a) s ≡ true → AreItems (form_items (form_of p s))
 source_weighted p a s sound e =
     let form = in_forms p a s e in
-    let same : form_of p s ≡ form.0 = ap (form_of p) (sym form.2) ∙ form_of-var p form.0 form.1.0.0 in
+    let same : form_of p s ≡ form.0 = ap (form_of p) (sym form.2) ∙ form_at-number p form.0 form.1.0.0 in
     let rule = some (Among (rules_in_force p)) (λ (r : Rule). has (head_atoms r.head) a && body_eq (normal r.body) form.0) (rules_in_force p) (each_among (rules_in_force p)) form.1.1 in
     let parts = and_parts (has (head_atoms rule.0.head) a) (body_eq (normal rule.0.body) form.0) rule.2 in
     subst (λ b. AreItems (form_items b)) (same_body (normal rule.0.body) form.0 parts.1 ∙ sym same) (form_weighted p rule.0 sound rule.1)
@@ -56,7 +56,7 @@ pub record IsSource (p : Program) (a s : ℕ) (d : Body) : Type 0 where
   pub form : form_of p s ≡ d
   pub listed : list_any (body_eq d) (bodies_of p) ≡ true
   pub stands : BodyStands (atoms_of p) d
-  pub var : var_of_form p d ≡ s
+  pub number : number_of_form p d ≡ s
   pub head : has (heads_of p d) (var_of_atom p a) ≡ true
 
 pub source_is : (p : Program) (a s : ℕ) → has (supports p a) s ≡ true → (d : Body) × IsSource p a s d
@@ -66,10 +66,10 @@ source_is p a s e =
     let parts = and_parts (has (head_atoms rule.0.head) a) (body_eq (normal rule.0.body) form.0) rule.2 in (
       form.0,
       record {
-        form = ap (form_of p) (sym form.2) ∙ form_of-var p form.0 form.1.0.0;
+        form = ap (form_of p) (sym form.2) ∙ form_at-number p form.0 form.1.0.0;
         listed = form.1.0.0;
         stands = form.1.0.1;
-        var = form.2;
+        number = form.2;
         head = ap (λ b. has (heads_of p b) (var_of_atom p a)) (sym (same_body (normal rule.0.body) form.0 parts.1)) ∙ head_listed p rule.0 a rule.1 parts.0;
       },
     )

@@ -9,8 +9,8 @@ use Rattle.asp_model.specs.declared.program.Body.TheVariants as body
 use Rattle.asp_model.specs.declared.program.Program.{Program}
 use Rattle.asp_model.specs.Sets.{Atoms, has}
 use Rattle.asp_model.specs.Holding.{atom_of, is_positive}
-use Rattle.asp_vars.specs.Literals.{Literal, T, F, literal_eq, has_literal, holds_in}
-use Rattle.asp_vars.specs.Numbering.{var_of_atom, var_of_form, literal_of}
+use Rattle.asp_vars.specs.Literals.{Literal, T, F, complement, literal_eq, has_literal, holds_in}
+use Rattle.asp_vars.specs.Numbering.{var_of_atom, literal_of_form, literal_of}
 use Rattle.asp_vars.specs.Tabled.{form_literals}
 use Rattle.asp_vars.specs.Unfounded.{is_false, is_inside, outside_weight, needs, is_excused}
 use Rattle.asp_vars.proofs.StandingLaws.{Among, each_among}
@@ -84,7 +84,7 @@ needs_within p x U V (body.AtLeast c items) within w e =
     (outside_less p x U V items w (each_then (λ (i : ℤ × ℤ). has_literal (map (λ j. literal_of p j.0) items) (literal_of p i.0) ≡ true) (λ (i : ℤ × ℤ). is_inside U i.0 ≡ true → is_inside V i.0 ≡ true) (λ i there. one_inside p (body.AtLeast c items) U V i.0 within there) items (each_item p items))) e
 
 pub excused_within : (p : Program) (x : List (Option Bool)) (U V : Atoms) (b : Body) → IsWithin p b U V → AreItems (form_items b) → is_excused p x U b ≡ true → is_excused p x V b ≡ true
-excused_within p x U V b within w e = elim (either (holds_in x (F (var_of_form p b))) (needs p x U b) e) [
-  | inl h ↦ or_left (holds_in x (F (var_of_form p b))) (needs p x V b) h
-  | inr h ↦ or_right (holds_in x (F (var_of_form p b))) (needs p x V b) (needs_within p x U V b within w h)
+excused_within p x U V b within w e = elim (either (holds_in x (complement (literal_of_form p b))) (needs p x U b) e) [
+  | inl h ↦ or_left (holds_in x (complement (literal_of_form p b))) (needs p x V b) h
+  | inr h ↦ or_right (holds_in x (complement (literal_of_form p b))) (needs p x V b) (needs_within p x U V b within w h)
 ]

@@ -58,6 +58,10 @@ IsGone sources body v = slice_index sources v ≢ body
 abbrev pub AreGone : Program → List ℕ → ℕ → Type 0
 AreGone p sources j = All (IsGone sources (length (atoms_of p) + 1 + j)) (heads_of p (nth_body p j))
 
+-- No head of the body that the occurrence is of has it as its source.
+abbrev pub IsGoneAt : Program → List ℕ → Occurrence → Type 0
+IsGoneAt p sources o = AreGone p sources o.body
+
 abbrev pub IsGoneBy : Program → List ℕ → Occurrence → Type 0
 IsGoneBy p sources o = is_some (bound_of (nth_body p o.body)) ≡ true → AreGone p sources o.body
 

@@ -111,7 +111,7 @@ pub fn is_firm<I: Inside>(compiled: &Compiled, values: &Assign, set: &I, body: u
     requires limit { I.limit set.now ≡ length (atoms_of compiled.now) + 1 }
     ensures { result ≡ not (is_excused compiled.now values.now (shown compiled.now (I.has_var set.now)) (nth_body compiled.now body)) }
 {
-    let is_false = values.holds(Lit::new(compiled.body_var(body), false));
+    let is_false = values.holds(compiled.body_lit(body).complement());
     if is_false {
         return false;
     }

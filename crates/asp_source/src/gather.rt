@@ -162,18 +162,9 @@ fn release_heads(
     ensures steps { Steps region.now.compiled.now region.now.components.now region.now.values.now region.now.component region.now.ranks.now.ranks busy sources.old loose.old waiting.old sources.new loose.new waiting.new joined.new }
     ensures released { AreReleased region.now.compiled.now region.now.components.now region.now.values.now region.now.component region.now.ranks.now.ranks sources.new loose.new waiting.new body }
 {
-    let var_of_body = region.compiled.body_var(body);
+    let number = region.compiled.body_number(body);
     for var in region.compiled.heads(body) {
-        release(
-            region,
-            sources,
-            loose,
-            waiting,
-            joined,
-            busy,
-            var_of_body,
-            *var,
-        );
+        release(region, sources, loose, waiting, joined, busy, number, *var);
     }
 }
 
@@ -251,7 +242,7 @@ fn draw_body(
 {
     if region
         .values
-        .holds(Lit::new(region.compiled.body_var(body), false))
+        .holds(region.compiled.body_lit(body).complement())
     {
         return;
     }

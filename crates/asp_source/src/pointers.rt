@@ -1,4 +1,4 @@
-//! Source pointers: for an atom the body of a rule that founds it, as the body's variable, or 0 for none.
+//! Source pointers: for an atom the number of the body of a rule that founds it, or 0 for none.
 //!
 //! An atom of a component that isn't trivial has a source, or is false, or is queued. A source isn't false, and rests on
 //! atoms of its component that don't rest on its head: so a set of atoms with sources always has one whose source is
@@ -8,10 +8,10 @@ ghost use Rattle.std.specs.Prelude.{◌≡◌, ◌+◌, ◌-◌, ◌<◌, ◌==�
 ghost use Rattle.asp_model.specs.Models.{atoms_of};
 ghost use Rattle.asp_vars.specs.Literals.{complement};
 ghost use Rattle.asp_vars.specs.Numbering.{bodies_of, var_count};
-ghost use Rattle.asp_vars.specs.Tabled.{IsAtomVar, IsBodyVar, occurrences_of};
+ghost use Rattle.asp_vars.specs.Tabled.{IsAtomVar, IsLiteral, bodies_with, occurrences_of};
 ghost use Rattle.asp_trail.specs.Trails.{IsVar};
 ghost use Rattle.asp_scc.specs.Components.{AreComponents};
-ghost use Rattle.asp_source.specs.Pointers.{Loses, IsGone, AreGone, IsGoneBy, seek, regain};
+ghost use Rattle.asp_source.specs.Pointers.{Loses, IsGone, AreGone, IsGoneAt, IsGoneBy, seek, regain};
 ghost use Rattle.asp_source.specs.Pointers.{AreNormal};
 
 use crate::bodies::occurrences;
@@ -58,9 +58,9 @@ fn lose_heads(compiled: &Compiled, sources: &mut [Var], queue: &mut Queue, body:
     ensures gone { AreGone compiled.now sources.new body }
 {
     let _vars = compiled.vars();
-    let var_of_body = compiled.body_var(body);
+    let number = compiled.body_number(body);
     for var in compiled.heads(body) {
-        lose_queued(sources, queue, var_of_body, *var);
+        lose_queued(sources, queue, number, *var);
     }
 }
 
@@ -96,19 +96,17 @@ fn lose_all(compiled: &Compiled, sources: &mut [Var], queue: &mut Queue, lit: Li
     }
 }
 
-// The heads of a body that comes to be false lose it.
-fn lose_body(compiled: &Compiled, sources: &mut [Var], queue: &mut Queue, lit: Lit)
+// The heads of the bodies that come to be false lose them: of those that have the literal's complement.
+fn lose_bodies(compiled: &Compiled, sources: &mut [Var], queue: &mut Queue, lit: Lit)
     requires sources { length sources.old ≡ length (atoms_of compiled.now) + 1 }
     requires queue { length queue.old ≡ length (atoms_of compiled.now) }
-    requires body { IsBodyVar compiled.now lit.var }
+    requires literal { IsLiteral compiled.now lit }
     ensures loses { Loses sources.old queue.old sources.new queue.new }
-    ensures gone { lit.truth ≡ false → AreGone compiled.now sources.new (lit.var - length (atoms_of compiled.now) - 1) }
+    ensures gone { All (IsGoneAt compiled.now sources.new) (bodies_with compiled.now (complement lit)) }
 {
-    if lit.truth() {
-        return;
+    for cell in compiled.bodies_with(lit.complement()) {
+        lose_heads(compiled, sources, queue, cell.body as usize);
     }
-    let body = lit.var() as usize - compiled.atom_count() - 1;
-    lose_heads(compiled, sources, queue, body);
 }
 
 /// What a literal that comes to hold takes away: a false body its heads' source, and a false literal of a weight body
@@ -125,14 +123,11 @@ pub fn lose_by(
     requires queue { length queue.old ≡ length (atoms_of compiled.now) }
     requires var { IsVar (var_count compiled.now) lit.var }
     ensures loses { Loses sources.old queue.old sources.new queue.new }
-    ensures body { length (atoms_of compiled.now) < lit.var → lit.truth ≡ false → AreGone compiled.now sources.new (lit.var - length (atoms_of compiled.now) - 1) }
+    ensures body { All (IsGoneAt compiled.now sources.new) (bodies_with compiled.now (complement lit)) }
     ensures atom { lit.var ≤ length (atoms_of compiled.now) → All (IsGoneBy compiled.now sources.new) (occurrences_of compiled.now (complement lit)) }
 {
-    if lit.var() as usize > compiled.atom_count() {
-        lose_body(compiled, sources, queue, lit);
-        return;
-    }
-    if !weighted {
+    lose_bodies(compiled, sources, queue, lit);
+    if !weighted || lit.var() as usize > compiled.atom_count() {
         return;
     }
     lose_all(compiled, sources, queue, lit);

@@ -46,7 +46,7 @@ pub struct Sources<'a> {
     components: Components,
     /// The values told, for contracts alone.
     values: ToldValues,
-    /// By atom, the variable of the body that is its source, or 0 for none. One more than the atoms; 0 is no atom.
+    /// By atom, the number of the body that is its source, or 0 for none. One more than the atoms; 0 is no atom.
     sources: Vec<Var>,
     /// How old the sources are: each rests on atoms of lower ranks alone, as far as its component goes.
     ranks: Ranks,

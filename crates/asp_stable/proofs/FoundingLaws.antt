@@ -28,7 +28,8 @@ use Rattle.asp_vars.proofs.PlaceLaws.{place_of-within}
 use Rattle.asp_vars.proofs.StandingLaws.{Among, each_among, rule_has_form}
 use Rattle.asp_vars.proofs.SupportLaws.{some, in_map, map_in, member, same_atom}
 use Rattle.asp_vars.proofs.CompletionLaws.{literal-holds, atom-true}
-use Rattle.asp_loop.proofs.LoopLaws.{at_form, members}
+use Rattle.asp_vars.proofs.SupportLaws.{at_form}
+use Rattle.asp_loop.proofs.LoopLaws.{members}
 use Rattle.asp_loop.proofs.WeightedLaws.{nth_weighted, body_stands}
 use Rattle.asp_found.specs.Marks.{is_marked}
 use Rattle.asp_found.specs.Verdicts.{is_supported}

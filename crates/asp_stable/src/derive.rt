@@ -158,7 +158,7 @@ fn begin_one(
     if body >= by.compiled.body_count() {
         return;
     }
-    if !is_true(by.assign, by.compiled.body_var(body)) {
+    if !by.assign.holds(by.compiled.body_lit(body)) {
         set_count(lacks, body, 0);
         return;
     }

@@ -1,81 +1,13 @@
 -- The completion's literals are of the program's variables.
-use Rattle.std.proofs.Common.{◌≡◌, ℕ, true, ◌&&◌, List, [], ◌∷◌, ◌++◌, map, filter, arith}
-use Rattle.std.specs.List.{list_any, flat_map, AllByRecursion}
+use Rattle.std.specs.List.{AllByRecursion}
 use Rattle.std.proofs.lemmas.List.Elements.{All-from_recursion}
-use Rattle.asp_model.specs.declared.program.Body.{Body}
-use Rattle.asp_model.specs.declared.program.Body.TheVariants as body
-use Rattle.asp_model.specs.declared.program.Head.{Head}
-use Rattle.asp_model.specs.declared.program.Head.TheVariants as head
-use Rattle.asp_model.specs.declared.program.Rule.{Rule}
 use Rattle.asp_model.specs.declared.program.Program.{Program}
-use Rattle.asp_model.specs.Sets.{has}
-use Rattle.asp_model.specs.Holding.{atom_of}
-use Rattle.asp_model.specs.Models.{rules_in_force, atoms_of, head_atoms}
-use Rattle.asp_model.proofs.MemberLaws.{each_weaker, each-append, each-flat_map, each-map, each-filter, HasAll, HasAll-itself}
-use Rattle.asp_model.proofs.ReductLaws.{rules_in_force-heads}
-use Rattle.asp_vars.specs.Literals.{Literal, T, F, complement}
-use Rattle.asp_vars.specs.Numbering.{normal, body_eq, bodies_of, var_count, var_of_atom, var_of_form, var_of_body, literal_of}
-use Rattle.asp_vars.specs.Completion.{supports, body_nogoods, rule_nogoods, atom_nogood, completion}
-use Rattle.asp_vars.specs.Tabled.{Stands}
-use Rattle.asp_vars.proofs.CompletionLaws.{each_of_body}
-use Rattle.asp_vars.proofs.PlaceLaws.{atom-within, form-within}
-use Rattle.asp_vars.proofs.StandingLaws.{Among, each_among, each_both, rule_has_form, bodies_of-stand, bodies_of-themselves}
-use Rattle.asp_trail.specs.Trails.{IsVar}
+use Rattle.asp_model.proofs.MemberLaws.{each_weaker}
+use Rattle.asp_vars.specs.Completion.{completion}
+use Rattle.asp_vars.specs.Numbering.{var_count}
+use Rattle.asp_vars.specs.Tabled.{IsLiteral}
+use Rattle.asp_vars.proofs.VarLaws.{Each, completion_vars}
 use Rattle.asp_trail_laws.specs.Whole.{AreVars}
 
-abbrev OfVar : Program → Literal → Type 0
-OfVar p l = IsVar (var_count p) l.var
-
-abbrev Each : Program → List Literal → Type 0
-Each p n = AllByRecursion (OfVar p) n
-
-atom_var : (p : Program) (a : ℕ) → has (atoms_of p) a ≡ true → IsVar (var_count p) (var_of_atom p a)
-atom_var p a h = (omega arith, atom-within p a h)
-
-form_var : (p : Program) (b : Body) → list_any (body_eq b) (bodies_of p) ≡ true → IsVar (var_count p) (var_of_form p b)
-form_var p b h = (omega arith, form-within p b h)
-
-body_vars : (p : Program) (b : Body) → list_any (body_eq b) (bodies_of p) ≡ true → Stands (atoms_of p) b → AllByRecursion (Each p) (body_nogoods p b)
-body_vars p (body.All ls) listed stand =
-    let b = form_var p (body.All ls) listed in
-    let literals : Each p (map (literal_of p) ls) =
-    each-map (OfVar p) (literal_of p) ls (each_weaker (λ l. has (atoms_of p) (atom_of l) ≡ true) (λ l. OfVar p (literal_of p l)) (λ l h. atom_var p (atom_of l) h) ls stand) in
-    each_of_body (Each p) p ls (λ _. literals) (
-      (b, literals),
-      each-map (Each p) (λ l. T (var_of_form p (body.All ls)) ∷ complement (literal_of p l) ∷ []) ls
-          (each_weaker (λ l. has (atoms_of p) (atom_of l) ≡ true) (λ l. Each p (T (var_of_form p (body.All ls)) ∷ complement (literal_of p l) ∷ [])) (λ l h. (b, (atom_var p (atom_of l) h, tt))) ls stand),
-    )
-body_vars p (body.AtLeast bound items) listed stand = tt
-
-rule_vars : (p : Program) (v : ℕ) (h : Head) → IsVar (var_count p) v → HasAll (atoms_of p) (head_atoms h) → AllByRecursion (Each p) (rule_nogoods p v h)
-rule_vars p v (head.One a) b atoms = ((b, (atom_var p a atoms.0, tt)), tt)
-rule_vars p v (head.Choice xs) b atoms = tt
-rule_vars p v head.Never b atoms = ((b, tt), tt)
-
-atom_vars : (p : Program) (a : ℕ) → has (atoms_of p) a ≡ true → Each p (atom_nogood p a)
-atom_vars p a h = (
-  atom_var p a h,
-  each-map (OfVar p) F (supports p a)
-      (each-map (λ v. IsVar (var_count p) v) (var_of_form p) (filter (λ b. list_any (λ r. has (head_atoms r.head) a && body_eq (normal r.body) b) (rules_in_force p)) (bodies_of p))
-      (each-filter (λ b. IsVar (var_count p) (var_of_form p b)) (λ b. list_any (λ r. has (head_atoms r.head) a && body_eq (normal r.body) b) (rules_in_force p)) (bodies_of p)
-      (each_weaker (λ b. list_any (body_eq b) (bodies_of p) ≡ true) (λ b. IsVar (var_count p) (var_of_form p b)) (form_var p) (bodies_of p) (bodies_of-themselves p)))),
-)
-
-pub completion_vars : (p : Program) → AllByRecursion (Each p) (completion p)
-completion_vars p =
-    let bodies : List (List Literal) = flat_map (body_nogoods p) (bodies_of p) in
-    let rules : List (List Literal) = flat_map (λ (r : Rule). rule_nogoods p (var_of_body p r.body) r.head) (rules_in_force p) in
-    let atoms : List (List Literal) = map (atom_nogood p) (atoms_of p) in
-    each-append (Each p) (bodies ++ rules) atoms
-    (each-append (Each p) bodies rules
-    (each-flat_map (Each p) (body_nogoods p) (bodies_of p)
-    (each_weaker (λ b. (list_any (body_eq b) (bodies_of p) ≡ true) × Stands (atoms_of p) b) (λ b. AllByRecursion (Each p) (body_nogoods p b)) (λ b h. body_vars p b h.0 h.1) (bodies_of p)
-    (each_both (λ b. list_any (body_eq b) (bodies_of p) ≡ true) (Stands (atoms_of p)) (bodies_of p) (bodies_of-themselves p) (bodies_of-stand p))))
-    (each-flat_map (Each p) (λ (r : Rule). rule_nogoods p (var_of_body p r.body) r.head) (rules_in_force p)
-    (each_weaker (λ r. Among (rules_in_force p) r × HasAll (atoms_of p) (head_atoms r.head)) (λ r. AllByRecursion (Each p) (rule_nogoods p (var_of_body p r.body) r.head)) (λ r h. rule_vars p (var_of_body p r.body) r.head (form_var p (normal r.body) (rule_has_form p r h.0)) h.1) (rules_in_force p)
-    (each_both (Among (rules_in_force p)) (λ r. HasAll (atoms_of p) (head_atoms r.head)) (rules_in_force p) (each_among (rules_in_force p)) (rules_in_force-heads p)))))
-    (each-map (Each p) (atom_nogood p) (atoms_of p)
-    (each_weaker (λ a. has (atoms_of p) a ≡ true) (λ a. Each p (atom_nogood p a)) (λ a h. atom_vars p a h) (atoms_of p) (HasAll-itself (atoms_of p))))
-
 pub completion_are_vars : (p : Program) → AllByRecursion (AreVars (var_count p)) (completion p)
-completion_are_vars p = each_weaker (Each p) (AreVars (var_count p)) (λ n h. All-from_recursion (OfVar p) n h) (completion p) (completion_vars p)
+completion_are_vars p = each_weaker (Each p) (AreVars (var_count p)) (λ n h. All-from_recursion (IsLiteral p) n h) (completion p) (completion_vars p)

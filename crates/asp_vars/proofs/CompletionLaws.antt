@@ -18,14 +18,14 @@ use Rattle.asp_model.specs.Sound.{IsSound}
 use Rattle.asp_model.proofs.MemberLaws.{each_weaker, each-append, each-flat_map, each-map, one_passes, HasAll, HasAll-itself}
 use Rattle.asp_model.proofs.ReductLaws.{rules_in_force-heads}
 use Rattle.asp_vars.specs.Literals.{Literal, T, F, complement, is_true, hits}
-use Rattle.asp_vars.specs.Numbering.{normal, body_eq, bodies_of, var_of_atom, var_of_form, var_of_body, literal_of, values}
+use Rattle.asp_vars.specs.Numbering.{normal, body_eq, bodies_of, is_wide, wide_bodies, var_of_atom, var_of_form, literal_of_form, literal_of_body, literal_of, values}
 use Rattle.asp_vars.specs.Entailment.{Entailed}
-use Rattle.asp_vars.specs.Completion.{supports, is_barred, defining_nogoods, body_nogoods, rule_nogoods, atom_nogood, completion}
+use Rattle.asp_vars.specs.Completion.{support_bodies, is_barred, defining_nogoods, normal_nogoods, body_nogoods, rule_nogoods, atom_nogood, completion}
 use Rattle.asp_vars.proofs.LiteralLaws.{is_true-complement, and_left, and_right}
 use Rattle.asp_vars.proofs.NormalLaws.{body_holds-normal}
-use Rattle.asp_vars.proofs.NumberingLaws.{value-atom, value-form, same_body, body_eq-itself}
+use Rattle.asp_vars.proofs.NumberingLaws.{value-atom, value-form, wide_among, same_body, body_eq-itself}
 use Rattle.asp_vars.specs.Tabled.{Stands}
-use Rattle.asp_vars.proofs.StandingLaws.{Among, each_among, each_both, rule_has_form, bodies_of-stand, bodies_of-themselves}
+use Rattle.asp_vars.proofs.StandingLaws.{Among, each_among, each_both, rule_has_form, form-stands, bodies_of-stand, bodies_of-themselves}
 use Rattle.asp_vars.proofs.StableLaws.{stable-derived, stable-closed, stable-keeps, derived-parts}
 
 -- ---- literals
@@ -41,13 +41,26 @@ pub literal-holds : (p : Program) (S : Atoms) (l : ℤ) → has (atoms_of p) (at
 literal-holds p S (pos a) h = ap (λ v. beq v true) (value-atom p S a h) ∙ beq_true (has S a)
 literal-holds p S (negsuc a) h = ap (λ v. beq v false) (value-atom p S (suc a) h) ∙ beq_false (has S (suc a))
 
-pub form-true : (p : Program) (S : Atoms) (b : Body) → list_any (body_eq b) (bodies_of p) ≡ true → is_true (values p S) (T (var_of_form p b)) ≡ body_holds S b
-form-true p S b h = ap (λ v. beq v true) (value-form p S b h) ∙ beq_true (body_holds S b)
+wide-true : (p : Program) (S : Atoms) (b : Body) → is_wide b ≡ true → list_any (body_eq b) (bodies_of p) ≡ true → is_true (values p S) (T (var_of_form p b)) ≡ body_holds S b
+wide-true p S b w h = ap (λ v. beq v true) (value-form p S b (wide_among b (bodies_of p) w h)) ∙ beq_true (body_holds S b)
 
-pub form-false : (p : Program) (S : Atoms) (b : Body) → list_any (body_eq b) (bodies_of p) ≡ true → is_true (values p S) (F (var_of_form p b)) ≡ not (body_holds S b)
-form-false p S b h = ap (λ v. beq v false) (value-form p S b h) ∙ beq_false (body_holds S b)
+and_one : (a : Bool) → a ≡ (a && true)
+and_one true = refl
+and_one false = refl
 
-pub rule-true : (p : Program) (S : Atoms) (r : Rule) → Among (rules_in_force p) r → is_true (values p S) (T (var_of_body p r.body)) ≡ body_holds S r.body
+form-holds : (p : Program) (S : Atoms) (b : Body) → list_any (body_eq b) (bodies_of p) ≡ true → Stands (atoms_of p) b → is_true (values p S) (literal_of_form p b) ≡ body_holds S b
+form-holds p S (body.All []) h s = wide-true p S (body.All []) refl h
+form-holds p S (body.All (l ∷ [])) h s = literal-holds p S l s.0 ∙ and_one (holds S l)
+form-holds p S (body.All (l ∷ k ∷ ks)) h s = wide-true p S (body.All (l ∷ k ∷ ks)) refl h
+form-holds p S (body.AtLeast bound items) h s = wide-true p S (body.AtLeast bound items) refl h
+
+pub form-true : (p : Program) (S : Atoms) (b : Body) → list_any (body_eq b) (bodies_of p) ≡ true → is_true (values p S) (literal_of_form p b) ≡ body_holds S b
+form-true p S b h = form-holds p S b h (form-stands p b h)
+
+pub form-false : (p : Program) (S : Atoms) (b : Body) → list_any (body_eq b) (bodies_of p) ≡ true → is_true (values p S) (complement (literal_of_form p b)) ≡ not (body_holds S b)
+form-false p S b h = is_true-complement (values p S) (literal_of_form p b) ∙ ap not (form-true p S b h)
+
+pub rule-true : (p : Program) (S : Atoms) (r : Rule) → Among (rules_in_force p) r → is_true (values p S) (literal_of_body p r.body) ≡ body_holds S r.body
 rule-true p S r m = form-true p S (normal r.body) (rule_has_form p r m) ∙ body_holds-normal S r.body
 
 pub atom-true : (p : Program) (S : Atoms) (a : ℕ) → has (atoms_of p) a ≡ true → is_true (values p S) (T (var_of_atom p a)) ≡ has S a
@@ -62,19 +75,30 @@ hits-literals p S (l ∷ ls) h =
     ap (λ b. b && hits (values p S) (map (literal_of p) ls)) (literal-holds p S l h.0) ∙ ap (λ b. holds S l && b) (hits-literals p S ls h.1)
 
 -- ---- the nogoods of a normal body
-pub body_nogoods-barred : (p : Program) (ls : List ℤ) → is_barred p (body.All ls) ≡ true → body_nogoods p (body.All ls) ≡ map (literal_of p) ls ∷ []
-body_nogoods-barred p ls e = ap (λ t. cond t (map (literal_of p) ls ∷ []) (defining_nogoods p ls)) e
+pub normal_nogoods-barred : (p : Program) (ls : List ℤ) → is_barred p (body.All ls) ≡ true → normal_nogoods p ls ≡ map (literal_of p) ls ∷ []
+normal_nogoods-barred p ls e = ap (λ t. cond t (map (literal_of p) ls ∷ []) (defining_nogoods p ls)) e
 
-pub body_nogoods-defining : (p : Program) (ls : List ℤ) → is_barred p (body.All ls) ≡ false → body_nogoods p (body.All ls) ≡ defining_nogoods p ls
-body_nogoods-defining p ls e = ap (λ t. cond t (map (literal_of p) ls ∷ []) (defining_nogoods p ls)) e
+pub normal_nogoods-defining : (p : Program) (ls : List ℤ) → is_barred p (body.All ls) ≡ false → normal_nogoods p ls ≡ defining_nogoods p ls
+normal_nogoods-defining p ls e = ap (λ t. cond t (map (literal_of p) ls ∷ []) (defining_nogoods p ls)) e
 
--- what holds of the literals alone, where a constraint has the body, and of the nogoods that define it
-pub each_of_body : (P : List Literal → Type 0) (p : Program) (ls : List ℤ) → (is_barred p (body.All ls) ≡ true → P (map (literal_of p) ls)) → AllByRecursion P (defining_nogoods p ls) → AllByRecursion P (body_nogoods p (body.All ls))
-each_of_body P p ls barred defining = cases (is_barred p (body.All ls)) refl
+-- a body that has a variable has these nogoods
+pub body_nogoods-wide : (p : Program) (ls : List ℤ) → is_wide (body.All ls) ≡ true → body_nogoods p (body.All ls) ≡ normal_nogoods p ls
+body_nogoods-wide p [] w = refl
+body_nogoods-wide p (l ∷ []) w = absurd (false≢true w)
+body_nogoods-wide p (l ∷ k ∷ ks) w = refl
+
+each_of_normal : (P : List Literal → Type 0) (p : Program) (ls : List ℤ) → (is_barred p (body.All ls) ≡ true → P (map (literal_of p) ls)) → AllByRecursion P (defining_nogoods p ls) → AllByRecursion P (normal_nogoods p ls)
+each_of_normal P p ls barred defining = cases (is_barred p (body.All ls)) refl
   where
     cases : (t : Bool) → t ≡ is_barred p (body.All ls) → AllByRecursion P (cond t (map (literal_of p) ls ∷ []) (defining_nogoods p ls))
     cases true e = (barred (sym e), tt)
     cases false e = defining
+
+-- what holds of the literals alone, where a constraint has the body, and of the nogoods that define it
+pub each_of_body : (P : List Literal → Type 0) (p : Program) (ls : List ℤ) → (is_barred p (body.All ls) ≡ true → P (map (literal_of p) ls)) → AllByRecursion P (defining_nogoods p ls) → AllByRecursion P (body_nogoods p (body.All ls))
+each_of_body P p [] barred defining = each_of_normal P p [] barred defining
+each_of_body P p (l ∷ []) barred defining = tt
+each_of_body P p (l ∷ k ∷ ks) barred defining = each_of_normal P p (l ∷ k ∷ ks) barred defining
 
 -- what follows from a constraint that has the body
 pub barred_by : (P : Rule → Type 0) (Q : Type 0) (p : Program) (b : Body) → AllByRecursion P (rules_in_force p) → ((r : Rule) → P r → r.head ≡ head.Never → normal r.body ≡ b → Q) → is_barred p b ≡ true → Q
@@ -97,7 +121,7 @@ not_both : (a : Bool) → (not a && a) ≡ true → ⊥
 not_both true e = false≢true e
 not_both false e = false≢true e
 
-body_true : (p : Program) (ls : List ℤ) → list_any (body_eq (body.All ls)) (bodies_of p) ≡ true → AllByRecursion (λ l. has (atoms_of p) (atom_of l) ≡ true) ls → Entailed p (F (var_of_form p (body.All ls)) ∷ map (literal_of p) ls)
+body_true : (p : Program) (ls : List ℤ) → list_any (body_eq (body.All ls)) (bodies_of p) ≡ true → AllByRecursion (λ l. has (atoms_of p) (atom_of l) ≡ true) ls → Entailed p (complement (literal_of_form p (body.All ls)) ∷ map (literal_of p) ls)
 body_true p ls stands atoms = never p _ (λ S stable h. not_both (all_hold S ls) (sym (ap (λ b. b && hits (values p S) (map (literal_of p) ls)) (form-false p S (body.All ls) stands) ∙ ap (λ b. not (all_hold S ls) && b) (hits-literals p S ls atoms)) ∙ h))
 
 pub members_hold : (ls : List ℤ) → AllByRecursion (λ l. (S : Atoms) → all_hold S ls ≡ true → holds S l ≡ true) ls
@@ -107,10 +131,10 @@ members_hold (l ∷ ls) = (
   each_weaker (λ k. (S : Atoms) → all_hold S ls ≡ true → holds S k ≡ true) (λ k. (S : Atoms) → all_hold S (l ∷ ls) ≡ true → holds S k ≡ true) (λ k f S e. f S (and_right (holds S l) (all_hold S ls) e)) ls (members_hold ls),
 )
 
-literal_true : (p : Program) (ls : List ℤ) (l : ℤ) → list_any (body_eq (body.All ls)) (bodies_of p) ≡ true → has (atoms_of p) (atom_of l) ≡ true → ((S : Atoms) → all_hold S ls ≡ true → holds S l ≡ true) → Entailed p (T (var_of_form p (body.All ls)) ∷ complement (literal_of p l) ∷ [])
+literal_true : (p : Program) (ls : List ℤ) (l : ℤ) → list_any (body_eq (body.All ls)) (bodies_of p) ≡ true → has (atoms_of p) (atom_of l) ≡ true → ((S : Atoms) → all_hold S ls ≡ true → holds S l ≡ true) → Entailed p (literal_of_form p (body.All ls) ∷ complement (literal_of p l) ∷ [])
 literal_true p ls l stands atom follows =
     never p _ (λ S stable h.
-    let first : Literal = T (var_of_form p (body.All ls)) in
+    let first : Literal = literal_of_form p (body.All ls) in
     let other : Literal = complement (literal_of p l) in
     let holds_all : all_hold S ls ≡ true = sym (form-true p S (body.All ls) stands) ∙ and_left (is_true (values p S) first) (is_true (values p S) other && true) h in
     let fails : is_true (values p S) other ≡ true = and_left (is_true (values p S) other) true (and_right (is_true (values p S) first) (is_true (values p S) other && true) h) in
@@ -129,17 +153,17 @@ body_entailed : (p : Program) (b : Body) → list_any (body_eq b) (bodies_of p) 
 body_entailed p (body.All ls) stands atoms =
     each_of_body (Entailed p) p ls (barred_true p ls atoms) (
       body_true p ls stands atoms,
-      each-map (Entailed p) (λ l. T (var_of_form p (body.All ls)) ∷ complement (literal_of p l) ∷ []) ls
+      each-map (Entailed p) (λ l. literal_of_form p (body.All ls) ∷ complement (literal_of p l) ∷ []) ls
           (each_weaker (λ l. (has (atoms_of p) (atom_of l) ≡ true) × ((S : Atoms) → all_hold S ls ≡ true → holds S l ≡ true))
-          (λ l. Entailed p (T (var_of_form p (body.All ls)) ∷ complement (literal_of p l) ∷ [])) (λ l h. literal_true p ls l stands h.0 h.1) ls
+          (λ l. Entailed p (literal_of_form p (body.All ls) ∷ complement (literal_of p l) ∷ [])) (λ l h. literal_true p ls l stands h.0 h.1) ls
           (each_both (λ l. has (atoms_of p) (atom_of l) ≡ true) (λ l. (S : Atoms) → all_hold S ls ≡ true → holds S l ≡ true) ls atoms (members_hold ls))),
     )
 body_entailed p (body.AtLeast bound items) stands atoms = tt
 
-pub rule_entailed : (p : Program) (r : Rule) (h : Head) → IsSound p → Among (rules_in_force p) r → r.head ≡ h → HasAll (atoms_of p) (head_atoms h) → AllByRecursion (Entailed p) (rule_nogoods p (var_of_body p r.body) h)
+pub rule_entailed : (p : Program) (r : Rule) (h : Head) → IsSound p → Among (rules_in_force p) r → r.head ≡ h → HasAll (atoms_of p) (head_atoms h) → AllByRecursion (Entailed p) (rule_nogoods p (literal_of_body p r.body) h)
 rule_entailed p r (head.One a) sound m e atoms = (
   never p _ (λ S stable h.
-      let first : Literal = T (var_of_body p r.body) in
+      let first : Literal = literal_of_body p r.body in
       let other : Literal = F (var_of_atom p a) in
       let holds_body : body_holds S r.body ≡ true = sym (rule-true p S r m) ∙ and_left (is_true (values p S) first) (is_true (values p S) other && true) h in
       let fails : is_true (values p S) other ≡ true = and_left (is_true (values p S) other) true (and_right (is_true (values p S) first) (is_true (values p S) other && true) h) in
@@ -150,14 +174,14 @@ rule_entailed p r (head.One a) sound m e atoms = (
 rule_entailed p r (head.Choice xs) sound m e atoms = tt
 rule_entailed p r head.Never sound m e atoms = (
   never p _ (λ S stable h.
-      let first : Literal = T (var_of_body p r.body) in
+      let first : Literal = literal_of_body p r.body in
       let holds_body : body_holds S r.body ≡ true = sym (rule-true p S r m) ∙ and_left (is_true (values p S) first) true h in
       false≢true (sym (stable-keeps p S r stable m e) ∙ holds_body)),
   tt,
 )
 
 -- where all supports are false, so are their bodies
-pub bodies_fail : (p : Program) (S : Atoms) (q : Body → Bool) (bs : List Body) → AllByRecursion (λ b. list_any (body_eq b) (bodies_of p) ≡ true) bs → hits (values p S) (map F (map (var_of_form p) (filter q bs))) ≡ true → AllByRecursion (λ b. q b ≡ true → body_holds S b ≡ false) bs
+pub bodies_fail : (p : Program) (S : Atoms) (q : Body → Bool) (bs : List Body) → AllByRecursion (λ b. list_any (body_eq b) (bodies_of p) ≡ true) bs → hits (values p S) (map (λ c. complement (literal_of_form p c)) (filter q bs)) ≡ true → AllByRecursion (λ b. q b ≡ true → body_holds S b ≡ false) bs
 bodies_fail p S q [] stand h = tt
 bodies_fail p S q (b ∷ bs) stand h = cases (q b) refl (bodies_fail p S q bs stand.1)
   where
@@ -165,15 +189,15 @@ bodies_fail p S q (b ∷ bs) stand h = cases (q b) refl (bodies_fail p S q bs st
     not_true true e = absurd (false≢true e)
     not_true false e = refl
 
-    cases : (t : Bool) → t ≡ q b → (hits (values p S) (map F (map (var_of_form p) (filter q bs))) ≡ true → AllByRecursion (λ c. q c ≡ true → body_holds S c ≡ false) bs) → (q b ≡ true → body_holds S b ≡ false) × AllByRecursion (λ c. q c ≡ true → body_holds S c ≡ false) bs
+    cases : (t : Bool) → t ≡ q b → (hits (values p S) (map (λ c. complement (literal_of_form p c)) (filter q bs)) ≡ true → AllByRecursion (λ c. q c ≡ true → body_holds S c ≡ false) bs) → (q b ≡ true → body_holds S b ≡ false) × AllByRecursion (λ c. q c ≡ true → body_holds S c ≡ false) bs
     cases true e f =
-        let whole : (is_true (values p S) (F (var_of_form p b)) && hits (values p S) (map F (map (var_of_form p) (filter q bs)))) ≡ true = ap (λ t. hits (values p S) (map F (map (var_of_form p) (cond t (b ∷ filter q bs) (filter q bs))))) e ∙ h in (
-          λ _. not_true (body_holds S b) (sym (form-false p S b stand.0) ∙ and_left (is_true (values p S) (F (var_of_form p b))) (hits (values p S) (map F (map (var_of_form p) (filter q bs)))) whole),
-          f (and_right (is_true (values p S) (F (var_of_form p b))) (hits (values p S) (map F (map (var_of_form p) (filter q bs)))) whole),
+        let whole : (is_true (values p S) (complement (literal_of_form p b)) && hits (values p S) (map (λ c. complement (literal_of_form p c)) (filter q bs))) ≡ true = ap (λ t. hits (values p S) (map (λ c. complement (literal_of_form p c)) (cond t (b ∷ filter q bs) (filter q bs)))) e ∙ h in (
+          λ _. not_true (body_holds S b) (sym (form-false p S b stand.0) ∙ and_left (is_true (values p S) (complement (literal_of_form p b))) (hits (values p S) (map (λ c. complement (literal_of_form p c)) (filter q bs))) whole),
+          f (and_right (is_true (values p S) (complement (literal_of_form p b))) (hits (values p S) (map (λ c. complement (literal_of_form p c)) (filter q bs))) whole),
         )
     cases false e f = (
       λ t. absurd (false≢true (e ∙ t)),
-      f (ap (λ t. hits (values p S) (map F (map (var_of_form p) (cond t (b ∷ filter q bs) (filter q bs))))) e ∙ h),
+      f (ap (λ t. hits (values p S) (map (λ c. complement (literal_of_form p c)) (cond t (b ∷ filter q bs) (filter q bs)))) e ∙ h),
     )
 
 pub atom_entailed : (p : Program) (a : ℕ) → IsSound p → has (atoms_of p) a ≡ true → Entailed p (atom_nogood p a)
@@ -183,7 +207,7 @@ atom_entailed p a sound stands = never p _ (λ S stable h. broken S stable h)
     broken S stable h =
         let test : Body → Bool = λ b. list_any (λ (r : Rule). has (head_atoms r.head) a && body_eq (normal r.body) b) (rules_in_force p) in
         let atom : Literal = T (var_of_atom p a) in
-        let others : List Literal = map F (supports p a) in
+        let others : List Literal = map (λ c. complement (literal_of_form p c)) (support_bodies p a) in
         let in_set : has S a ≡ true = sym (atom-true p S a stands) ∙ and_left (is_true (values p S) atom) (hits (values p S) others) h in
         let all_fail : AllByRecursion (λ b. test b ≡ true → body_holds S b ≡ false) (bodies_of p) = bodies_fail p S test (bodies_of p) (bodies_of-themselves p) (and_right (is_true (values p S) atom) (hits (values p S) others) h) in
         let derived : list_any (λ r. has (derived_heads S S r) a) (rules_in_force p) ≡ true = sym (stable-derived p S a sound stable) ∙ in_set in
@@ -200,15 +224,15 @@ atom_entailed p a sound stands = never p _ (λ S stable h. broken S stable h)
 pub completion_entailed : (p : Program) → IsSound p → AllByRecursion (Entailed p) (completion p)
 completion_entailed p sound =
     let bodies : List (List Literal) = flat_map (body_nogoods p) (bodies_of p) in
-    let rules : List (List Literal) = flat_map (λ (r : Rule). rule_nogoods p (var_of_body p r.body) r.head) (rules_in_force p) in
+    let rules : List (List Literal) = flat_map (λ (r : Rule). rule_nogoods p (literal_of_body p r.body) r.head) (rules_in_force p) in
     let atoms : List (List Literal) = map (atom_nogood p) (atoms_of p) in
     each-append (Entailed p) (bodies ++ rules) atoms
     (each-append (Entailed p) bodies rules
     (each-flat_map (Entailed p) (body_nogoods p) (bodies_of p)
     (each_weaker (λ b. (list_any (body_eq b) (bodies_of p) ≡ true) × Stands (atoms_of p) b) (λ b. AllByRecursion (Entailed p) (body_nogoods p b)) (λ b h. body_entailed p b h.0 h.1) (bodies_of p)
     (each_both (λ b. list_any (body_eq b) (bodies_of p) ≡ true) (Stands (atoms_of p)) (bodies_of p) (bodies_of-themselves p) (bodies_of-stand p))))
-    (each-flat_map (Entailed p) (λ (r : Rule). rule_nogoods p (var_of_body p r.body) r.head) (rules_in_force p)
-    (each_weaker (λ r. Among (rules_in_force p) r × HasAll (atoms_of p) (head_atoms r.head)) (λ r. AllByRecursion (Entailed p) (rule_nogoods p (var_of_body p r.body) r.head)) (λ r h. rule_entailed p r r.head sound h.0 refl h.1) (rules_in_force p)
+    (each-flat_map (Entailed p) (λ (r : Rule). rule_nogoods p (literal_of_body p r.body) r.head) (rules_in_force p)
+    (each_weaker (λ r. Among (rules_in_force p) r × HasAll (atoms_of p) (head_atoms r.head)) (λ r. AllByRecursion (Entailed p) (rule_nogoods p (literal_of_body p r.body) r.head)) (λ r h. rule_entailed p r r.head sound h.0 refl h.1) (rules_in_force p)
     (each_both (Among (rules_in_force p)) (λ r. HasAll (atoms_of p) (head_atoms r.head)) (rules_in_force p) (each_among (rules_in_force p)) (rules_in_force-heads p)))))
     (each-map (Entailed p) (atom_nogood p) (atoms_of p)
     (each_weaker (λ a. has (atoms_of p) a ≡ true) (λ a. Entailed p (atom_nogood p a)) (λ a h. atom_entailed p a sound h) (atoms_of p) (HasAll-itself (atoms_of p))))

@@ -17,6 +17,8 @@ pub mod KeyLaws
 pub mod RuleLaws
 pub mod HeadLaws
 pub mod NumberedLaws
+pub mod HeldLaws
+pub mod VarLaws
 pub mod BarredLaws
 pub mod SupportLaws
 pub mod AssumptionLaws

@@ -20,20 +20,20 @@ use Rattle.asp_table.proofs.ColumnLaws.{AreBelow, column_below}
 use Rattle.asp_vars.specs.Literals.{Literal, literal_eq, has_literal}
 use Rattle.asp_vars.specs.Codes as code
 use Rattle.asp_vars.specs.Codes.{code_of}
-use Rattle.asp_vars.specs.Numbering.{normal, body_eq, bodies_of, var_in, var_of_atom, var_of_form, var_of_body, var_count, nth_atom}
-use Rattle.asp_vars.specs.Tabled.{form_literals, heads_of, IsAtomVar, AreSupports, AreOccurrences, Stands}
+use Rattle.asp_vars.specs.Numbering.{normal, body_eq, bodies_of, var_in, var_of_atom, number_of_form, number_count, var_count, literal_of_form, nth_atom}
+use Rattle.asp_vars.specs.Tabled.{form_literals, heads_of, held_row, places_in, IsAtomVar, AreSupports, AreOccurrences, AreShared, Stands}
 use Rattle.asp_vars.specs.Headed.{heads_at, AreHeads}
 use Rattle.asp_vars.proofs.NumberingLaws.{same_body}
 use Rattle.asp_vars.proofs.PlaceLaws.{AreDistinct, bodies_of-distinct, place_of-distinct, place_of-within, place_of-ascending, at_each}
-use Rattle.asp_vars.proofs.StandingLaws.{Among, each_among, each-unmap, rule_has_form, bodies_of-stand}
-use Rattle.asp_vars.proofs.RowLaws.{all_of, literal_vars, head_vars}
+use Rattle.asp_vars.proofs.StandingLaws.{Among, each_among, each-unmap, rule_has_form, bodies_of-stand, bodies_of-themselves}
+use Rattle.asp_vars.proofs.RowLaws.{all_of, literal_vars, head_vars, form_literal}
 use Rattle.asp_vars.proofs.RuleLaws.{form}
 
 pub map-after : {X Y Z : Type 0} (g : Y → Z) (f : X → Y) (xs : List X) → map g (map f xs) ≡ map (λ x. g (f x)) xs
 map-after g f [] = refl
 map-after g f (x ∷ xs) = ap (λ ys. g (f x) ∷ ys) (map-after g f xs)
 
-map_each : {X Y : Type 0} (P : X → Type 0) (f g : X → Y) → ((x : X) → P x → f x ≡ g x) → (xs : List X) → AllByRecursion P xs → map f xs ≡ map g xs
+pub map_each : {X Y : Type 0} (P : X → Type 0) (f g : X → Y) → ((x : X) → P x → f x ≡ g x) → (xs : List X) → AllByRecursion P xs → map f xs ≡ map g xs
 map_each P f g h [] a = refl
 map_each P f g h (x ∷ xs) a = ap (λ y. y ∷ map f xs) (h x a.0) ∙ ap (λ ys. g x ∷ ys) (map_each P f g h xs a.1)
 
@@ -72,15 +72,6 @@ places_within p =
     all_of (λ j. j < length (bodies_of p)) (map (rule_place p) (rules_in_force p))
     (each-map (λ j. j < length (bodies_of p)) (rule_place p) (rules_in_force p)
     (each_weaker (λ r. list_any (body_eq (form r)) (bodies_of p) ≡ true) (λ r. rule_place p r < length (bodies_of p)) (λ r e. place_of-within (body_eq (form r)) (bodies_of p) e) (rules_in_force p) (rules_have_bodies p)))
-
-pub rule_vars : (p : Program) (first : ℕ) → first ≡ length (atoms_of p) + 1 → map (λ j. first + j) (map (rule_place p) (rules_in_force p)) ≡ map (λ r. var_of_body p r.body) (rules_in_force p)
-rule_vars p first e =
-    map-after (λ j. first + j) (rule_place p) (rules_in_force p)
-    ∙ map_each (λ _. Unit {0}) (λ r. first + rule_place p r) (λ r. var_of_body p r.body) (λ r _. omega (arith, e)) (rules_in_force p) (always (rules_in_force p))
-  where
-    always : (rs : List Rule) → AllByRecursion (λ _. Unit {0}) rs
-    always [] = tt
-    always (r ∷ rs) = (tt, always rs)
 
 -- ---- heads
 pub place_test : (bs : List Body) (b : Body) (j : ℕ) (d : Body) → AreDistinct bs → list_any (body_eq b) bs ≡ true → j < length bs → eqb (place_of (body_eq b) bs) j ≡ body_eq b (get_or bs j d)
@@ -172,7 +163,7 @@ supports_are p first heads rows columns e of_heads read is = record {
       ∙ ap (map (λ o. first + o.body)) (read.cells (i + 1) (omega arith) ∙ ap (column 0 (i + 1)) of_heads ∙ ap (λ n. column 0 n (map (heads_of p) (bodies_of p))) (next i) ∙ column_of_bodies p (heads_of p) (suc i))
       ∙ map-after (λ o. first + o.body) (λ b. cell (body_place p b) (place_of (λ x. eqb x (suc i)) (heads_of p b))) (filter (λ b. has_key (heads_of p b) (suc i)) (bodies_of p))
       ∙ ap (map (λ b. first + body_place p b)) (filter_each (λ b. has_key (heads_of p b) (suc i)) (λ b. list_any (λ r. has (head_atoms r.head) (nth_atom p i) && body_eq (normal r.body) b) (rules_in_force p)) (λ b. head_test p b i lt) (bodies_of p))
-      ∙ map_all (λ b. first + body_place p b) (var_of_form p) (λ b. omega (arith, e)) (filter (λ b. list_any (λ r. has (head_atoms r.head) (nth_atom p i) && body_eq (normal r.body) b) (rules_in_force p)) (bodies_of p));
+      ∙ map_all (λ b. first + body_place p b) (number_of_form p) (λ b. omega (arith, e)) (filter (λ b. list_any (λ r. has (head_atoms r.head) (nth_atom p i) && body_eq (normal r.body) b) (rules_in_force p)) (bodies_of p));
 }
   where
     next : (i : ℕ) → i + 1 ≡ suc i
@@ -182,7 +173,7 @@ supports_are p first heads rows columns e of_heads read is = record {
     map_all f g h [] = refl
     map_all f g h (b ∷ bs) = ap (λ n. n ∷ map f bs) (h b) ∙ ap (λ ns. g b ∷ ns) (map_all f g h bs)
 
-pub supports_small : (p : Program) (first : ℕ) (heads : List (List ℕ)) (columns : List (List Occurrence)) → first ≡ length (atoms_of p) + 1 → heads ≡ map (heads_of p) (bodies_of p) → IsRead columns (length (atoms_of p) + 1) heads → var_count p < 2 ^ 31 → All (λ row. All (λ o. first + o.body < 2 ^ 31) row) columns
+pub supports_small : (p : Program) (first : ℕ) (heads : List (List ℕ)) (columns : List (List Occurrence)) → first ≡ length (atoms_of p) + 1 → heads ≡ map (heads_of p) (bodies_of p) → IsRead columns (length (atoms_of p) + 1) heads → number_count p < 2 ^ 31 → All (λ row. All (λ o. first + o.body < 2 ^ 31) row) columns
 supports_small p first heads columns e of_heads read few = λ k d lt i o within.
     let below : k < length (atoms_of p) + 1 = subst (λ (n : ℕ). k < n) read.whole lt in
     let count : length heads ≡ length (bodies_of p) = ap length of_heads ∙ length-map (bodies_of p) (heads_of p) in
@@ -211,8 +202,8 @@ heads_within p heads e =
     (each_weaker (IsAtomVar p) (λ k. k < length (atoms_of p) + 1) (λ k v. omega (arith, v.1)) (heads_of p (get_or (bodies_of p) i d)) (head_vars p (get_or (bodies_of p) i d)))))))
 
 -- ---- occurrences
-abbrev pub codes_of : Program → Body → List ℕ
-codes_of p b = map code_of (form_literals p b)
+abbrev pub codes_of : (Body → List Literal) → Body → List ℕ
+codes_of row b = map code_of (row b)
 
 code_test : (v : ℕ) (t : Bool) (n : ℕ) → eqb (2 * v + cond t 0 1) n ≡ (eqb v (n / 2) && beq t (eqb (n % 2) 0))
 code_test v true n = grind (arith, nat_tests)
@@ -231,23 +222,25 @@ any_code : (ls : List Literal) (n : ℕ) → has_key (map code_of ls) n ≡ has_
 any_code [] n = refl
 any_code (l ∷ ls) n = ap (λ t. t || has_key (map code_of ls) n) (code_eq l n) ∙ ap (λ t. literal_eq l (code.literal_of n) || t) (any_code ls n)
 
-codes_are : (p : Program) (codes : List (List ℕ)) (literals : List (List Literal)) → codes ≡ map (map code_of) literals → literals ≡ map (form_literals p) (bodies_of p) → codes ≡ map (codes_of p) (bodies_of p)
+-- the column of a literal's code, where each row has a body's literals
+literal_column : (p : Program) (row : Body → List Literal) (n : ℕ) → column 0 n (map (codes_of row) (bodies_of p)) ≡ places_in p row (code.literal_of n)
+literal_column p row n =
+    column_of_bodies p (codes_of row) n
+    ∙ map_all (λ b. cell (body_place p b) (place_of (λ x. eqb x n) (codes_of row b))) (λ b. cell (body_place p b) (place_of (λ k. literal_eq k (code.literal_of n)) (row b))) (λ b. ap (cell (body_place p b)) (place_of-map (row b) n)) (filter (λ b. has_key (codes_of row b) n) (bodies_of p))
+    ∙ ap (map (λ b. cell (body_place p b) (place_of (λ k. literal_eq k (code.literal_of n)) (row b)))) (filter_each (λ b. has_key (codes_of row b) n) (λ b. has_literal (row b) (code.literal_of n)) (λ b. any_code (row b) n) (bodies_of p))
+  where
+    map_all : (f g : Body → Occurrence) → ((b : Body) → f b ≡ g b) → (bs : List Body) → map f bs ≡ map g bs
+    map_all f g h [] = refl
+    map_all f g h (b ∷ bs) = ap (λ n. n ∷ map f bs) (h b) ∙ ap (λ ns. g b ∷ ns) (map_all f g h bs)
+
+codes_are : (p : Program) (codes : List (List ℕ)) (literals : List (List Literal)) → codes ≡ map (map code_of) literals → literals ≡ map (form_literals p) (bodies_of p) → codes ≡ map (codes_of (form_literals p)) (bodies_of p)
 codes_are p codes literals is of_bodies = is ∙ ap (map (map code_of)) of_bodies ∙ map-after (map code_of) (form_literals p) (bodies_of p)
 
 pub occurrences_are : (p : Program) (codes : List (List ℕ)) (literals : List (List Literal)) (rows : List (List Occurrence)) → codes ≡ map (map code_of) literals → literals ≡ map (form_literals p) (bodies_of p) → IsRead rows (2 * length (atoms_of p) + 2) codes → AreOccurrences p rows
 occurrences_are p codes literals rows is of_bodies read = record {
   count = read.whole;
-  row = λ n lt.
-      read.cells n lt
-      ∙ ap (column 0 n) (codes_are p codes literals is of_bodies)
-      ∙ column_of_bodies p (codes_of p) n
-      ∙ map_all (λ b. cell (body_place p b) (place_of (λ x. eqb x n) (codes_of p b))) (λ b. cell (body_place p b) (place_of (λ k. literal_eq k (code.literal_of n)) (form_literals p b))) (λ b. ap (cell (body_place p b)) (place_of-map (form_literals p b) n)) (filter (λ b. has_key (codes_of p b) n) (bodies_of p))
-      ∙ ap (map (λ b. cell (body_place p b) (place_of (λ k. literal_eq k (code.literal_of n)) (form_literals p b)))) (filter_each (λ b. has_key (codes_of p b) n) (λ b. has_literal (form_literals p b) (code.literal_of n)) (λ b. any_code (form_literals p b) n) (bodies_of p));
+  row = λ n lt. read.cells n lt ∙ ap (column 0 n) (codes_are p codes literals is of_bodies) ∙ literal_column p (form_literals p) n;
 }
-  where
-    map_all : (f g : Body → Occurrence) → ((b : Body) → f b ≡ g b) → (bs : List Body) → map f bs ≡ map g bs
-    map_all f g h [] = refl
-    map_all f g h (b ∷ bs) = ap (λ n. n ∷ map f bs) (h b) ∙ ap (λ ns. g b ∷ ns) (map_all f g h bs)
 
 code_below : (k : Literal) (n : ℕ) → k.var ≤ n → code_of k < 2 * n + 2
 code_below k n le = below k.var k.truth le
@@ -259,10 +252,10 @@ code_below k n le = below k.var k.truth le
 pub codes_within : (p : Program) (codes : List (List ℕ)) (literals : List (List Literal)) → codes ≡ map (map code_of) literals → literals ≡ map (form_literals p) (bodies_of p) → All (λ row. All (λ k. k < 2 * length (atoms_of p) + 2) row) codes
 codes_within p codes literals is of_bodies =
     subst (λ (t : List (List ℕ)). All (λ row. All (λ k. k < 2 * length (atoms_of p) + 2) row) t) (sym (codes_are p codes literals is of_bodies))
-    (all_of (λ row. All (λ k. k < 2 * length (atoms_of p) + 2) row) (map (codes_of p) (bodies_of p))
-    (each-map (λ row. All (λ k. k < 2 * length (atoms_of p) + 2) row) (codes_of p) (bodies_of p)
-    (each_all (λ b. All (λ k. k < 2 * length (atoms_of p) + 2) (codes_of p b)) (bodies_of p) (λ i d lt.
-    all_of (λ k. k < 2 * length (atoms_of p) + 2) (codes_of p (get_or (bodies_of p) i d))
+    (all_of (λ row. All (λ k. k < 2 * length (atoms_of p) + 2) row) (map (codes_of (form_literals p)) (bodies_of p))
+    (each-map (λ row. All (λ k. k < 2 * length (atoms_of p) + 2) row) (codes_of (form_literals p)) (bodies_of p)
+    (each_all (λ b. All (λ k. k < 2 * length (atoms_of p) + 2) (codes_of (form_literals p) b)) (bodies_of p) (λ i d lt.
+    all_of (λ k. k < 2 * length (atoms_of p) + 2) (codes_of (form_literals p) (get_or (bodies_of p) i d))
     (each-map (λ k. k < 2 * length (atoms_of p) + 2) code_of (form_literals p (get_or (bodies_of p) i d))
     (each_weaker (λ (l : Literal). IsAtomVar p l.var) (λ l. code_of l < 2 * length (atoms_of p) + 2) (λ l v. code_below l (length (atoms_of p)) v.1) (form_literals p (get_or (bodies_of p) i d)) (vars i d lt)))))))
   where
@@ -273,6 +266,24 @@ codes_within p codes literals is of_bodies =
         get_or_any [] i d e lt = absurd (omega arith)
         get_or_any (x ∷ xs) zero d e lt = refl
         get_or_any (x ∷ xs) (suc i) d e lt = get_or_any xs i d e (omega arith)
+
+-- ---- the literals of bodies
+held_are : (p : Program) (codes : List (List ℕ)) (held : List Literal) → codes ≡ map (λ l. code_of l ∷ []) held → held ≡ map (literal_of_form p) (bodies_of p) → codes ≡ map (codes_of (held_row p)) (bodies_of p)
+held_are p codes held is of_bodies = is ∙ ap (map (λ l. code_of l ∷ [])) of_bodies ∙ map-after (λ l. code_of l ∷ []) (literal_of_form p) (bodies_of p)
+
+pub shared_are : (p : Program) (codes : List (List ℕ)) (held : List Literal) (rows : List (List Occurrence)) → codes ≡ map (λ l. code_of l ∷ []) held → held ≡ map (literal_of_form p) (bodies_of p) → IsRead rows (2 * var_count p + 2) codes → AreShared p rows
+shared_are p codes held rows is of_bodies read = record {
+  count = read.whole;
+  row = λ n lt. read.cells n lt ∙ ap (column 0 n) (held_are p codes held is of_bodies) ∙ literal_column p (held_row p) n;
+}
+
+pub held_within : (p : Program) (codes : List (List ℕ)) (held : List Literal) → codes ≡ map (λ l. code_of l ∷ []) held → held ≡ map (literal_of_form p) (bodies_of p) → All (λ row. All (λ k. k < 2 * var_count p + 2) row) codes
+held_within p codes held is of_bodies =
+    subst (λ (t : List (List ℕ)). All (λ row. All (λ k. k < 2 * var_count p + 2) row) t) (sym (held_are p codes held is of_bodies))
+    (all_of (λ row. All (λ k. k < 2 * var_count p + 2) row) (map (codes_of (held_row p)) (bodies_of p))
+    (each-map (λ row. All (λ k. k < 2 * var_count p + 2) row) (codes_of (held_row p)) (bodies_of p)
+    (each_weaker (λ b. list_any (body_eq b) (bodies_of p) ≡ true) (λ b. All (λ k. k < 2 * var_count p + 2) (codes_of (held_row p) b)) (λ b e.
+    all_of (λ k. k < 2 * var_count p + 2) (codes_of (held_row p) b) (code_below (literal_of_form p b) (var_count p) (form_literal p b e).1, tt)) (bodies_of p) (bodies_of-themselves p))))
 
 -- ---- forms
 pub forms_stand : {X : Type 0} (p : Program) (f : X → Body) (xs : List X) → map f xs ≡ bodies_of p → All (λ x. Stands (atoms_of p) (f x)) xs

@@ -1,5 +1,5 @@
 -- Places in lists in which each element stands once.
-use Rattle.std.proofs.Common.{◌≡◌, ℕ, zero, suc, ◌+◌, ◌<◌, ◌≤◌, Bool, true, false, cond, ◌||◌, eqb, List, [], ◌∷◌, ◌++◌, map, fold, length, get_or, Some, None, Result, Ok, Err, refl, sym, ap, ◌∙◌, subst, arith}
+use Rattle.std.proofs.Common.{◌≡◌, ℕ, zero, suc, ◌+◌, ◌<◌, ◌≤◌, Bool, true, false, cond, ◌||◌, eqb, List, [], ◌∷◌, ◌++◌, map, filter, fold, length, get_or, Some, None, Result, Ok, Err, refl, sym, ap, ◌∙◌, subst, arith}
 use Rattle.std.specs.List.{list_any, AllByRecursion}
 use Rattle.std.specs.List.Sorted.{IsBinarySearchResult}
 use Rattle.std.specs.Ordering.{nat_cmp}
@@ -15,7 +15,7 @@ use Rattle.asp_model.specs.declared.program.Rule.{Rule}
 use Rattle.asp_model.specs.Models.{rules_in_force, atoms_of, mentions}
 use Rattle.asp_model.proofs.MemberLaws.{each_weaker}
 use Rattle.asp_model.proofs.SetLaws.{get_or-ascending, get_or-below, has_at, place_found, IsAscending-set_of}
-use Rattle.asp_vars.specs.Numbering.{normal, body_eq, bodies_of, place_of, var_count, var_of_atom, var_of_form, var_of_body, nth_body, nth_rule, nth_atom}
+use Rattle.asp_vars.specs.Numbering.{normal, body_eq, bodies_of, is_wide, wide_bodies, place_of, place_of_body, number_of_form, number_count, var_count, var_of_atom, var_of_form, nth_body, nth_rule, nth_atom}
 use Rattle.asp_vars.specs.Places.{place_in}
 use Rattle.asp_vars.proofs.NumberingLaws.{same_body, body_eq-itself}
 use Rattle.asp_vars.proofs.StandingLaws.{Among, each_among, rule_has_form}
@@ -49,7 +49,7 @@ AreDistinct [] = Unit {0}
 AreDistinct (b ∷ bs) = (list_any (body_eq b) bs ≡ false) × AreDistinct bs
 
 -- equality of bodies read the other way
-turned : (b c : Body) → body_eq b c ≡ false → body_eq c b ≡ false
+pub turned : (b c : Body) → body_eq b c ≡ false → body_eq c b ≡ false
 turned b c e = cases (body_eq c b) refl
   where
     cases : (t : Bool) → t ≡ body_eq c b → body_eq c b ≡ false
@@ -73,6 +73,25 @@ AreDistinct-fold bs (c ∷ cs) d = AreDistinct-fold (cond (list_any (body_eq c) 
 pub bodies_of-distinct : (p : Program) → AreDistinct (bodies_of p)
 bodies_of-distinct p = AreDistinct-fold [] (map (λ r. normal r.body) (rules_in_force p)) tt
 
+none_filter : (q : Body → Bool) (b : Body) (bs : List Body) → list_any (body_eq b) bs ≡ false → list_any (body_eq b) (filter q bs) ≡ false
+none_filter q b [] e = refl
+none_filter q b (c ∷ bs) e = let parts = or_parts (body_eq b c) (list_any (body_eq b) bs) e in cases (q c) parts.0 (none_filter q b bs parts.1)
+  where
+    cases : (t : Bool) → body_eq b c ≡ false → list_any (body_eq b) (filter q bs) ≡ false → list_any (body_eq b) (cond t (c ∷ filter q bs) (filter q bs)) ≡ false
+    cases true ne rest = ap (λ t. t || list_any (body_eq b) (filter q bs)) ne ∙ rest
+    cases false ne rest = rest
+
+AreDistinct-filter : (q : Body → Bool) (bs : List Body) → AreDistinct bs → AreDistinct (filter q bs)
+AreDistinct-filter q [] d = tt
+AreDistinct-filter q (b ∷ bs) d = cases (q b) (AreDistinct-filter q bs d.1)
+  where
+    cases : (t : Bool) → AreDistinct (filter q bs) → AreDistinct (cond t (b ∷ filter q bs) (filter q bs))
+    cases true rest = (none_filter q b bs d.0, rest)
+    cases false rest = rest
+
+pub wide_bodies-distinct : (p : Program) → AreDistinct (wide_bodies p)
+wide_bodies-distinct p = AreDistinct-filter is_wide (bodies_of p) (bodies_of-distinct p)
+
 none_at : (q : Body → Bool) (bs : List Body) (j : ℕ) (d : Body) → list_any q bs ≡ false → j < length bs → q (get_or bs j d) ≡ false
 none_at q [] j d e lt = absurd (omega arith)
 none_at q (b ∷ bs) zero d e lt = (or_parts (q b) (list_any q bs) e).0
@@ -95,8 +114,11 @@ place_of-within test (x ∷ xs) e = cases (test x) refl (place_of-within test xs
     cases true q f = omega arith
     cases false q f = let h = f (ap (λ b. b || list_any test xs) q ∙ e) in omega (arith, h)
 
-pub form-within : (p : Program) (b : Body) → list_any (body_eq b) (bodies_of p) ≡ true → var_of_form p b ≤ var_count p
-form-within p b e = let h = place_of-within (body_eq b) (bodies_of p) e in omega (arith, h)
+pub form-within : (p : Program) (b : Body) → list_any (body_eq b) (wide_bodies p) ≡ true → var_of_form p b ≤ var_count p
+form-within p b e = let h = place_of-within (body_eq b) (wide_bodies p) e in omega (arith, h)
+
+pub number-within : (p : Program) (b : Body) → list_any (body_eq b) (bodies_of p) ≡ true → number_of_form p b ≤ number_count p
+number-within p b e = let h = place_of-within (body_eq b) (bodies_of p) e in omega (arith, h)
 
 pub atom-within : (p : Program) (a : ℕ) → has (atoms_of p) a ≡ true → var_of_atom p a ≤ var_count p
 atom-within p a e = let h = place_of-within (λ b. eqb b a) (atoms_of p) e in omega (arith, h)
@@ -106,13 +128,17 @@ at_each P [] i d h lt = absurd (omega arith)
 at_each P (x ∷ xs) zero d h lt = h.0
 at_each P (x ∷ xs) (suc i) d h lt = at_each P xs i d h.1 (omega arith)
 
-pub var_of_nth_body : (p : Program) (j : ℕ) → j < length (bodies_of p) → var_of_form p (nth_body p j) ≡ suc (length (atoms_of p) + j)
-var_of_nth_body p j lt =
+pub number_of_nth_body : (p : Program) (j : ℕ) → j < length (bodies_of p) → number_of_form p (nth_body p j) ≡ suc (length (atoms_of p) + j)
+number_of_nth_body p j lt =
     ap (λ n. suc (length (atoms_of p) + n)) (place_of-distinct (bodies_of p) j (body.All []) (bodies_of-distinct p) lt)
 
-pub var_of_nth_rule : (p : Program) (i : ℕ) → i < length (rules_in_force p) → var_of_body p (nth_rule p i).body ≤ var_count p
-var_of_nth_rule p i lt =
-    form-within p (normal (nth_rule p i).body)
+pub var_of_nth_wide : (p : Program) (j : ℕ) → j < length (wide_bodies p) → var_of_form p (get_or (wide_bodies p) j (body.All [])) ≡ suc (length (atoms_of p) + j)
+var_of_nth_wide p j lt =
+    ap (λ n. suc (length (atoms_of p) + n)) (place_of-distinct (wide_bodies p) j (body.All []) (wide_bodies-distinct p) lt)
+
+pub place_of_nth_rule : (p : Program) (i : ℕ) → i < length (rules_in_force p) → place_of_body p (nth_rule p i).body < length (bodies_of p)
+place_of_nth_rule p i lt =
+    place_of-within (body_eq (normal (nth_rule p i).body)) (bodies_of p)
     (at_each (λ (r : Rule). list_any (body_eq (normal r.body)) (bodies_of p) ≡ true) (rules_in_force p) i (record { head = head.Never; body = body.All [] })
     (each_weaker (Among (rules_in_force p)) (λ r. list_any (body_eq (normal r.body)) (bodies_of p) ≡ true) (λ r m. rule_has_form p r m) (rules_in_force p) (each_among (rules_in_force p))) lt)
 

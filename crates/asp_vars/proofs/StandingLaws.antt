@@ -18,7 +18,7 @@ use Rattle.asp_model.specs.Sets.{has}
 use Rattle.asp_model.specs.Holding.{atom_of, body_atoms}
 use Rattle.asp_model.specs.Models.{rules_in_force, atoms_of, head_atoms, external_rule, last_value, open_atoms}
 use Rattle.asp_model.proofs.SetLaws.{has-set_of}
-use Rattle.asp_model.proofs.MemberLaws.{each_of, each_weaker, each-append, each-flat_map, HasAll, HasAll-left, HasAll-flat_map}
+use Rattle.asp_model.proofs.MemberLaws.{each_of, each_weaker, each-append, each-flat_map, one_passes, HasAll, HasAll-left, HasAll-flat_map}
 use Rattle.asp_vars.specs.Tabled.{Stands}
 use Rattle.asp_vars.specs.Numbering.{with_literal, with_weight, normal, body_eq, bodies_of}
 use Rattle.asp_vars.proofs.NumberingLaws.{same_body, body_eq-itself}
@@ -176,6 +176,12 @@ bodies_of-stand p =
     mapped : (rs : List Rule) → AllByRecursion (λ (r : Rule). HasAll (atoms_of p) (body_atoms r.body)) rs → AllByRecursion (Stands (atoms_of p)) (map (λ r. normal r.body) rs)
     mapped [] h = tt
     mapped (r ∷ rs) h = (normal-stands (atoms_of p) r.body h.0, mapped rs h.1)
+
+-- the atoms of a body of the program
+pub form-stands : (p : Program) (b : Body) → list_any (body_eq b) (bodies_of p) ≡ true → Stands (atoms_of p) b
+form-stands p b =
+    one_passes (Stands (atoms_of p) b) (body_eq b) (bodies_of p)
+    (each_weaker (Stands (atoms_of p)) (λ c. body_eq b c ≡ true → Stands (atoms_of p) b) (λ c s same. subst (λ (x : Body). Stands (atoms_of p) x) (sym (same_body b c same)) s) (bodies_of p) (bodies_of-stand p))
 
 pub bodies_of-themselves : (p : Program) → AllByRecursion (λ b. list_any (body_eq b) (bodies_of p) ≡ true) (bodies_of p)
 bodies_of-themselves p =

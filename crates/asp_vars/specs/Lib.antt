@@ -10,6 +10,7 @@ pub mod Paid
 pub mod Unfounded
 pub mod Forms
 pub mod Headed
+pub mod Held
 pub mod Placed
 pub mod Places
 pub mod Tabled

@@ -1,5 +1,5 @@
--- The variables of a program: first its atoms, ascending, then the distinct bodies of its rules in force, in the order of their first occurrence.
-use Rattle.std.specs.Prelude.{ℕ, suc, ◌+◌, ◌==◌, ◌<◌, ◌≤◌, Bool, false, ◌&&◌, if◌then◌else◌, List, [], ◌∷◌, ◌++◌, map, fold, length, slice_index_or, ℤ, pos, ◌+ℤ◌, int_lt}
+-- The variables of a program: first its atoms, ascending, then those distinct bodies of its rules in force that aren't one literal, in the order of their first occurrence. A body of one literal is that literal.
+use Rattle.std.specs.Prelude.{ℕ, suc, ◌+◌, ◌-◌, ◌==◌, ◌<◌, ◌≤◌, Bool, true, false, ◌&&◌, if◌then◌else◌, List, [], ◌∷◌, ◌++◌, map, fold, filter, length, slice_index_or, ℤ, pos, ◌+ℤ◌, int_lt}
 use Rattle.std.specs.List.{list_any}
 use Rattle.std.specs.Ordering.{int_eq}
 use Rattle.std.specs.Cmp.Lexicographic.{pointwise}
@@ -12,7 +12,7 @@ use Rattle.asp_model.specs.declared.program.Program.{Program}
 use Rattle.asp_model.specs.Sets.{Atoms, has}
 use Rattle.asp_model.specs.Holding.{atom_of, is_positive, body_holds}
 use Rattle.asp_model.specs.Models.{rules_in_force, atoms_of}
-use Rattle.asp_vars.specs.Literals.{Literal}
+use Rattle.asp_vars.specs.Literals.{Literal, T}
 
 -- ---- a body's normal form, in which equal literals stand once
 -- the ascending list with the literal in it
@@ -48,9 +48,19 @@ distinct bodies = fold with_body [] bodies
 abbrev pub bodies_of : Program → List Body
 bodies_of p = distinct (map (λ r. normal r.body) (rules_in_force p))
 
+-- Whether a body has a variable of its own: one of a single literal hasn't.
+abbrev pub is_wide : Body → Bool
+is_wide (body.All []) = true
+is_wide (body.All (l ∷ [])) = false
+is_wide (body.All (l ∷ k ∷ ks)) = true
+is_wide (body.AtLeast bound items) = true
+
+abbrev pub wide_bodies : Program → List Body
+wide_bodies p = filter is_wide (bodies_of p)
+
 -- the number of variables
 abbrev pub var_count : Program → ℕ
-var_count p = length (atoms_of p) + length (bodies_of p)
+var_count p = length (atoms_of p) + length (wide_bodies p)
 
 -- The variables are 1 to n.
 abbrev pub IsVar : ℕ → ℕ → Type 0
@@ -63,13 +73,6 @@ var_in atoms a = suc (place_of (λ b. b == a) atoms)
 abbrev pub var_of_atom : Program → ℕ → ℕ
 var_of_atom p a = var_in (atoms_of p) a
 
--- of a body in normal form
-abbrev pub var_of_form : Program → Body → ℕ
-var_of_form p b = suc (length (atoms_of p) + place_of (body_eq b) (bodies_of p))
-
-abbrev pub var_of_body : Program → Body → ℕ
-var_of_body p b = var_of_form p (normal b)
-
 -- an atom's literal as a literal of its variable
 abbrev pub literal_in : Atoms → ℤ → Literal
 literal_in atoms l = record { var = var_in atoms (atom_of l); truth = is_positive l }
@@ -77,12 +80,45 @@ literal_in atoms l = record { var = var_in atoms (atom_of l); truth = is_positiv
 abbrev pub literal_of : Program → ℤ → Literal
 literal_of p l = literal_in (atoms_of p) l
 
+-- of a body in normal form that has a variable of its own
+abbrev pub var_of_form : Program → Body → ℕ
+var_of_form p b = suc (length (atoms_of p) + place_of (body_eq b) (wide_bodies p))
+
+-- that a body in normal form holds, by the number of its variable, if it has one
+abbrev pub literal_by : Atoms → ℕ → Body → Literal
+literal_by atoms v (body.All []) = T v
+literal_by atoms v (body.All (l ∷ [])) = literal_in atoms l
+literal_by atoms v (body.All (l ∷ k ∷ ks)) = T v
+literal_by atoms v (body.AtLeast bound items) = T v
+
+abbrev pub literal_of_form : Program → Body → Literal
+literal_of_form p b = literal_by (atoms_of p) (var_of_form p b) b
+
+abbrev pub literal_of_body : Program → Body → Literal
+literal_of_body p b = literal_of_form p (normal b)
+
+-- The number of a body in normal form. Bodies are numbered behind the atoms, whether or not they have variables.
+abbrev pub number_of_form : Program → Body → ℕ
+number_of_form p b = suc (length (atoms_of p) + place_of (body_eq b) (bodies_of p))
+
+-- the last of these numbers
+abbrev pub number_count : Program → ℕ
+number_count p = length (atoms_of p) + length (bodies_of p)
+
+-- the place of a body among the distinct ones
+abbrev pub place_of_body : Program → Body → ℕ
+place_of_body p b = place_of (body_eq (normal b)) (bodies_of p)
+
 -- The value in S of each variable, which stands at the place of its number. No variable has the number 0.
 abbrev pub values : Program → Atoms → List Bool
-values p S = false ∷ map (has S) (atoms_of p) ++ map (body_holds S) (bodies_of p)
+values p S = false ∷ map (has S) (atoms_of p) ++ map (body_holds S) (wide_bodies p)
 
 abbrev pub nth_body : Program → ℕ → Body
 nth_body p j = slice_index_or (bodies_of p) j (body.All [])
+
+-- the body with this number
+abbrev pub form_at : Program → ℕ → Body
+form_at p n = nth_body p (n - length (atoms_of p) - 1)
 
 abbrev pub nth_rule : Program → ℕ → Rule
 nth_rule p i = slice_index_or (rules_in_force p) i (record { head = head.Never; body = body.All [] })

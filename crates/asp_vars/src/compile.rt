@@ -2,9 +2,9 @@
 ghost use Rattle.std.specs.Prelude.{◌≡◌, IfOk, map};
 ghost use Rattle.asp_model.specs.Models.{rules_in_force};
 ghost use Rattle.asp_model.specs.Sound.{IsSound};
-ghost use Rattle.asp_vars.specs.Numbering.{bodies_of, var_of_body};
+ghost use Rattle.asp_vars.specs.Numbering.{bodies_of, var_count, literal_of_form, place_of_body};
 ghost use Rattle.asp_vars.specs.Completion.{is_barred};
-ghost use Rattle.asp_vars.specs.Tabled.{bound_of, form_literals, form_weights, heads_of, AreSupports, AreOccurrences};
+ghost use Rattle.asp_vars.specs.Tabled.{bound_of, form_literals, form_weights, heads_of, AreSupports, AreOccurrences, AreShared};
 
 use crate::compiled::Compiled;
 use crate::lit::{Lit, Var};
@@ -24,19 +24,23 @@ struct Rows {
     literals: Table<Lit>,
     // a weight body's weights, in the order of its literals
     weights: Table<i64>,
+    // the literal that says that it holds
+    held: Vec<Lit>,
+    // how many variables there are
+    vars: Var,
 }
 
 // Where bodies and literals stand.
 #[derive(Drop)]
 struct Places {
-    // the variable of each rule's body
-    rule_bodies: Vec<Var>,
     // for each body whether a constraint has it
     barred: Vec<bool>,
     // for each body the atoms in heads of its rules
     heads: Table<Var>,
-    // for each variable of an atom the bodies whose rules have it in their heads
-    supports: Table<Var>,
+    // for each variable of an atom the numbers of the bodies whose rules have it in their heads
+    supports: Table<u32>,
+    // for each literal, by its code, the bodies that have it
+    shared: Table<Occurrence>,
     // for each literal, by its code, the bodies that it stands in, and where
     occurrences: Table<Occurrence>,
 }
@@ -45,39 +49,42 @@ fn rows_of(alloc: Global, numbered: &Numbered) -> Result<Rows, AllocError>
     ensures bounds { IfOk result (λ r. r.bounds.items ≡ map bound_of (bodies_of numbered.now)) }
     ensures literals { IfOk result (λ r. r.literals ≡ map (form_literals numbered.now) (bodies_of numbered.now)) }
     ensures weights { IfOk result (λ r. r.weights ≡ map form_weights (bodies_of numbered.now)) }
+    ensures held { IfOk result (λ r. r.held.items ≡ map (literal_of_form numbered.now) (bodies_of numbered.now)) }
+    ensures vars { IfOk result (λ r. r.vars ≡ var_count numbered.now) }
 {
     let bounds = numbered.bounds(alloc)?;
     let literals = numbered.literals(alloc)?;
     let weights = numbered.weights(alloc)?;
+    let (held, vars) = numbered.held(alloc)?;
     Ok(Rows {
         bounds,
         literals,
         weights,
+        held,
+        vars,
     })
 }
 
-fn places_of(
-    alloc: Global,
-    numbered: &Numbered,
-    literals: &Table<Lit>,
-) -> Result<Places, AllocError>
-    requires { literals.now ≡ map (form_literals numbered.now) (bodies_of numbered.now) }
-    ensures rule_bodies { IfOk result (λ p. p.rule_bodies.items ≡ map (λ r. var_of_body numbered.now r.body) (rules_in_force numbered.now)) }
+fn places_of(alloc: Global, numbered: &Numbered, rows: &Rows) -> Result<Places, AllocError>
+    requires literals { rows.now.literals ≡ map (form_literals numbered.now) (bodies_of numbered.now) }
+    requires held { rows.now.held.items ≡ map (literal_of_form numbered.now) (bodies_of numbered.now) }
+    requires vars { rows.now.vars ≡ var_count numbered.now }
     ensures barred { IfOk result (λ p. p.barred.items ≡ map (is_barred numbered.now) (bodies_of numbered.now)) }
     ensures heads { IfOk result (λ p. p.heads ≡ map (heads_of numbered.now) (bodies_of numbered.now)) }
     ensures supports { IfOk result (λ p. AreSupports numbered.now p.supports) }
+    ensures shared { IfOk result (λ p. AreShared numbered.now p.shared) }
     ensures occurrences { IfOk result (λ p. AreOccurrences numbered.now p.occurrences) }
 {
-    let rule_bodies = numbered.rule_bodies(alloc)?;
     let barred = numbered.barred(alloc)?;
     let heads = numbered.heads(alloc)?;
     let supports = numbered.supports(alloc, &heads)?;
-    let occurrences = numbered.occurrences(alloc, literals)?;
+    let shared = numbered.shared(alloc, rows.held.as_slice(), rows.vars)?;
+    let occurrences = numbered.occurrences(alloc, &rows.literals)?;
     Ok(Places {
-        rule_bodies,
         barred,
         heads,
         supports,
+        shared,
         occurrences,
     })
 }
@@ -86,10 +93,12 @@ fn together(numbered: Numbered, rows: Rows, places: Places) -> Compiled
     requires bounds { rows.bounds.items ≡ map bound_of (bodies_of numbered) }
     requires literals { rows.literals ≡ map (form_literals numbered) (bodies_of numbered) }
     requires weights { rows.weights ≡ map form_weights (bodies_of numbered) }
-    requires rule_bodies { places.rule_bodies.items ≡ map (λ r. var_of_body numbered r.body) (rules_in_force numbered) }
+    requires held { rows.held.items ≡ map (literal_of_form numbered) (bodies_of numbered) }
+    requires vars { rows.vars ≡ var_count numbered }
     requires barred { places.barred.items ≡ map (is_barred numbered) (bodies_of numbered) }
     requires heads { places.heads ≡ map (heads_of numbered) (bodies_of numbered) }
     requires supports { AreSupports numbered places.supports }
+    requires shared { AreShared numbered places.shared }
     requires occurrences { AreOccurrences numbered places.occurrences }
     ensures { result ≡ numbered }
 {
@@ -98,31 +107,36 @@ fn together(numbered: Numbered, rows: Rows, places: Places) -> Compiled
         opened,
         atoms,
         bodies: _,
-        places: _,
+        places: rule_bodies,
     } = numbered;
     let Rows {
         bounds,
         literals,
         weights,
+        held,
+        vars,
     } = rows;
     let Places {
-        rule_bodies,
         barred,
         heads,
         supports,
+        shared,
         occurrences,
     } = places;
     Compiled {
         program,
         opened,
         atoms,
+        vars,
         rule_bodies,
+        held,
         barred,
         bounds,
         literals,
         weights,
         heads,
         supports,
+        shared,
         occurrences,
     }
 }
@@ -136,7 +150,7 @@ pub fn compile(alloc: Global, program: Program) -> Result<Compiled, AllocError>
 {
     let numbered = Numbered::of(alloc, program)?;
     match rows_of(alloc, &numbered) {
-        Ok(rows) => match places_of(alloc, &numbered, &rows.literals) {
+        Ok(rows) => match places_of(alloc, &numbered, &rows) {
             Ok(places) => Ok(together(numbered, rows, places)),
             Err(error) => {
                 mem::drop(rows);

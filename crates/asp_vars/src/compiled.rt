@@ -4,9 +4,9 @@ ghost use Rattle.asp_model.specs.Sound.{IsSound};
 ghost use Rattle.asp_model.specs.Models.{rules_in_force, atoms_of};
 ghost use Rattle.asp_model.specs.Sets.{has};
 ghost use Rattle.asp_model.specs.Views.{rule_seen};
-ghost use Rattle.asp_vars.specs.Numbering.{bodies_of, var_count, var_of_atom, var_of_form, var_of_body, nth_body, nth_rule, nth_atom};
+ghost use Rattle.asp_vars.specs.Numbering.{bodies_of, var_count, var_of_atom, literal_of_form, place_of_body, number_of_form, number_count, is_wide, form_at, nth_body, nth_rule, nth_atom};
 ghost use Rattle.asp_vars.specs.Completion.{is_barred, supports};
-ghost use Rattle.asp_vars.specs.Tabled.{bound_of, form_literals, form_weights, heads_of, occurrences_of, find_var, find_atom, IsAtomVar, IsBodyVar};
+ghost use Rattle.asp_vars.specs.Tabled.{bound_of, form_literals, form_weights, heads_of, occurrences_of, find_var, find_atom, IsAtomVar, IsBodyNumber, IsLiteral, bodies_with};
 
 use crate::lit::{Lit, Var};
 use crate::occurrence::Occurrence;
@@ -20,8 +20,8 @@ use std::marker::Model;
 
 /// A program with the tables of its variables. Contracts see it as the program, of which each table is a function.
 ///
-/// Its atoms, ascending, are the variables from 1 on; the distinct bodies of its rules in force follow them, in the
-/// order of their first occurrence. Bodies and rules are counted from 0.
+/// Its atoms, ascending, are the variables from 1 on; those distinct bodies of its rules in force that aren't one literal follow
+/// them, in the order of their first occurrence. Bodies and rules are counted from 0.
 #[derive(Drop)]
 pub struct Compiled {
     /// The program as it was read.
@@ -30,8 +30,12 @@ pub struct Compiled {
     pub(crate) opened: Vec<Rule>,
     /// The program's atoms.
     pub(crate) atoms: Interp,
-    /// The variable of each rule's body.
-    pub(crate) rule_bodies: Vec<Var>,
+    /// How many variables there are.
+    pub(crate) vars: Var,
+    /// The body of each rule.
+    pub(crate) rule_bodies: Vec<u32>,
+    /// For each body the literal that says that it holds.
+    pub(crate) held: Vec<Lit>,
     /// For each body whether a constraint has it.
     pub(crate) barred: Vec<bool>,
     /// For each body the bound of its sum; none where all literals have to hold.
@@ -42,8 +46,10 @@ pub struct Compiled {
     pub(crate) weights: Table<i64>,
     /// For each body the atoms that stand in heads of its rules.
     pub(crate) heads: Table<Var>,
-    /// For each variable of an atom the bodies whose rules have it in their heads.
-    pub(crate) supports: Table<Var>,
+    /// For each variable of an atom the numbers of the bodies whose rules have it in their heads.
+    pub(crate) supports: Table<u32>,
+    /// For each literal, by its code, the bodies of which it says that they hold.
+    pub(crate) shared: Table<Occurrence>,
     /// For each literal, by its code, the bodies that it stands in, and where.
     pub(crate) occurrences: Table<Occurrence>,
 }
@@ -85,14 +91,13 @@ impl Compiled {
         rule_at(&self.program.rules, self.opened.as_slice(), rule)
     }
 
-    /// The variable of a rule's body.
-    pub fn rule_body(&self, rule: usize) -> Var
+    /// A rule's body.
+    pub fn rule_body(&self, rule: usize) -> usize
         requires { rule < length (rules_in_force self.now) }
-        ensures var { result ≡ var_of_body self.now (nth_rule self.now rule).body }
-        ensures body { IsBodyVar self.now result }
-        ensures few { var_count self.now < 2 ^ 31 }
+        ensures place { result ≡ place_of_body self.now (nth_rule self.now rule).body }
+        ensures body { result < length (bodies_of self.now) }
     {
-        self.rule_bodies[rule]
+        self.rule_bodies[rule] as usize
     }
 
     /// The atoms that stand in the program.
@@ -106,6 +111,7 @@ impl Compiled {
     pub fn atom_count(&self) -> usize
         ensures count { result ≡ length (atoms_of self.now) }
         ensures few { var_count self.now < 2 ^ 31 }
+        ensures numbers { number_count self.now < 2 ^ 31 }
     {
         self.atoms.as_slice().len()
     }
@@ -114,6 +120,7 @@ impl Compiled {
     pub fn body_count(&self) -> usize
         ensures count { result ≡ length (bodies_of self.now) }
         ensures few { var_count self.now < 2 ^ 31 }
+        ensures numbers { number_count self.now < 2 ^ 31 }
     {
         self.bounds.len()
     }
@@ -123,7 +130,7 @@ impl Compiled {
         ensures count { result ≡ var_count self.now }
         ensures few { var_count self.now < 2 ^ 31 }
     {
-        (self.atom_count() + self.body_count()) as u32
+        self.vars
     }
 
     /// The variable of an atom, if it stands in the program.
@@ -159,15 +166,50 @@ impl Compiled {
         atoms.get(var as usize - 1).copied()
     }
 
-    /// The variable of a body.
-    pub fn body_var(&self, body: usize) -> Var
+    /// The number of a body. The bodies are numbered behind the atoms' variables.
+    pub fn body_number(&self, body: usize) -> u32
         requires { body < length (bodies_of self.now) }
-        ensures var { result ≡ var_of_form self.now (nth_body self.now body) }
-        ensures number { result ≡ length (atoms_of self.now) + body + 1 }
-        ensures body { IsBodyVar self.now result }
-        ensures few { var_count self.now < 2 ^ 31 }
+        ensures number { result ≡ number_of_form self.now (nth_body self.now body) }
+        ensures sum { result ≡ length (atoms_of self.now) + body + 1 }
+        ensures body { IsBodyNumber self.now result }
+        ensures numbers { number_count self.now < 2 ^ 31 }
     {
         (self.atom_count() + body + 1) as u32
+    }
+
+    /// The body with a number.
+    pub fn body_at(&self, number: u32) -> usize
+        requires { IsBodyNumber self.now number }
+        ensures body { result < length (bodies_of self.now) }
+        ensures form { nth_body self.now result ≡ form_at self.now number }
+    {
+        number as usize - self.atom_count() - 1
+    }
+
+    /// The literal that says that a body holds: that its variable is true, or the body's one literal.
+    pub fn body_lit(&self, body: usize) -> Lit
+        requires { body < length (bodies_of self.now) }
+        ensures lit { result ≡ literal_of_form self.now (nth_body self.now body) }
+        ensures literal { IsLiteral self.now result }
+        ensures few { var_count self.now < 2 ^ 31 }
+    {
+        self.held[body]
+    }
+
+    /// Whether a body has a variable of its own: one of a single literal hasn't.
+    pub fn is_wide(&self, body: usize) -> bool
+        requires { body < length (bodies_of self.now) }
+        ensures { result ≡ is_wide (nth_body self.now body) }
+    {
+        self.bound(body).is_some() || self.literals(body).len() != 1
+    }
+
+    /// The bodies of which the literal says that they hold, ascending.
+    pub fn bodies_with(&self, lit: Lit) -> &[Occurrence]
+        requires { IsLiteral self.now lit }
+        ensures { result.now ≡ bodies_with self.now lit }
+    {
+        self.shared.row(lit.code())
     }
 
     /// Whether a constraint has the body, which then holds in no stable model.
@@ -212,12 +254,13 @@ impl Compiled {
         self.heads.row(body)
     }
 
-    /// The variables, ascending, of the bodies of the rules that have an atom in their heads.
-    pub fn supports(&self, var: Var) -> &[Var]
+    /// The numbers, ascending, of the bodies of the rules that have an atom in their heads.
+    pub fn supports(&self, var: Var) -> &[u32]
         requires { IsAtomVar self.now var }
         ensures supports { result.now ≡ supports self.now (nth_atom self.now (var - 1)) }
-        ensures bodies { All (IsBodyVar self.now) result.now }
+        ensures bodies { All (IsBodyNumber self.now) result.now }
         ensures few { var_count self.now < 2 ^ 31 }
+        ensures numbers { number_count self.now < 2 ^ 31 }
     {
         self.supports.row(var as usize)
     }

@@ -79,7 +79,7 @@ pub fn head_rows(
     heads.into_table(alloc)
 }
 
-fn support_row(alloc: Global, first: u32, cells: &[Occurrence]) -> Result<Vec<Var>, AllocError>
+fn support_row(alloc: Global, first: u32, cells: &[Occurrence]) -> Result<Vec<u32>, AllocError>
     requires { All (λ o. first + o.body < 2 ^ 31) cells.now }
     ensures { IfOk result (λ row. row.items ≡ map (λ o. first + o.body) cells.now) }
 {
@@ -90,12 +90,12 @@ fn support_row(alloc: Global, first: u32, cells: &[Occurrence]) -> Result<Vec<Va
     Ok(row)
 }
 
-/// The variables of the bodies in each row, where the first body has this variable.
+/// The numbers of the bodies in each row, where the first body has this number.
 pub fn support_rows(
     alloc: Global,
     first: u32,
     rows: &Table<Occurrence>,
-) -> Result<Table<Var>, AllocError>
+) -> Result<Table<u32>, AllocError>
     requires { All (λ row. All (λ o. first + o.body < 2 ^ 31) row) rows.now }
     ensures { IfOk result (λ supports. supports ≡ map (λ row. map (λ o. first + o.body) row) rows.now) }
 {
@@ -105,16 +105,4 @@ pub fn support_rows(
         supports = supports.with_row(row.as_slice())?;
     }
     Ok(supports)
-}
-
-/// The variables of bodies at these places, where the first body has this variable.
-pub fn body_vars(alloc: Global, first: u32, places: &[u32]) -> Result<Vec<Var>, AllocError>
-    requires { All (λ j. first + j < 2 ^ 31) places.now }
-    ensures { IfOk result (λ vars. vars.items ≡ map (λ j. first + j) places.now) }
-{
-    let mut vars = Vec::new(alloc);
-    for place in places {
-        vars.push(first + *place)?;
-    }
-    Ok(vars)
 }

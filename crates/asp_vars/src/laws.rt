@@ -7,8 +7,8 @@ ghost use Rattle.asp_model.specs.Sets.{Atoms, has};
 ghost use Rattle.asp_model.specs.Holding.{atom_of, holds, body_holds};
 ghost use Rattle.asp_model.specs.Models.{atoms_of};
 ghost use Rattle.asp_model.specs.Sound.{IsSound};
-ghost use Rattle.asp_vars.specs.Literals.{T, is_true};
-ghost use Rattle.asp_vars.specs.Numbering.{normal, body_eq, bodies_of, literal_of, var_of_form, values};
+ghost use Rattle.asp_vars.specs.Literals.{is_true};
+ghost use Rattle.asp_vars.specs.Numbering.{normal, body_eq, bodies_of, literal_of, literal_of_form, values};
 ghost use Rattle.asp_vars.specs.Entailment.{Entailed};
 ghost use Rattle.asp_vars.specs.Completion.{completion};
 ghost use Rattle.std.specs.Prelude.{Option, ◌++◌};
@@ -20,12 +20,12 @@ ghost use Rattle.std.specs.Prelude.{Bool, false, Some, None, ◌∷◌, []};
 ghost use Rattle.asp_model.specs.Costs.{betters};
 ghost use Rattle.asp_vars.specs.Conflicts.{IsConflict, Shows};
 
-/// A literal of an atom's variable holds where the atom's literal does, a body's where the body does.
+/// A literal of an atom's variable holds where the atom's literal does, a body's literal where the body does.
 pub fn variables_stand_for_atoms_and_bodies()
     ensures literals { (p : Program) (S : Atoms) (l : ℤ) → IsTrue (has (atoms_of p) (atom_of l)) →
         is_true (values p S) (literal_of p l) ≡ holds S l }
     ensures bodies { (p : Program) (S : Atoms) (b : Body) → IsTrue (list_any (body_eq b) (bodies_of p)) →
-        is_true (values p S) (T (var_of_form p b)) ≡ body_holds S b }
+        is_true (values p S) (literal_of_form p b) ≡ body_holds S b }
     ensures normal { (S : Atoms) (b : Body) → body_holds S (normal b) ≡ body_holds S b }
 {}
 

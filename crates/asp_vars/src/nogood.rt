@@ -1,8 +1,7 @@
 //! Nogoods: sets of literals that must not all be true.
-ghost use Rattle.std.specs.Prelude.{◌≡◌, ◌<◌, ◌^◌, ◌++◌, ◌∷◌, [], All, IfOk, OnOk, OnErr, length, map};
-ghost use Rattle.asp_vars.specs.Literals.{F};
+ghost use Rattle.std.specs.Prelude.{◌≡◌, ◌++◌, ◌∷◌, [], IfOk, OnOk, OnErr, length};
 
-use crate::lit::{Lit, Var};
+use crate::lit::Lit;
 use asp_model::cost::Cost;
 use smallvec::SmallVec;
 use std::alloc::{AllocError, Global};
@@ -113,17 +112,4 @@ impl Nogood {
         let base = self.base.copy()?;
         Ok(Nogood { lits, base })
     }
-}
-
-/// A literal, and the literals that these variables are false.
-pub fn all_false(alloc: Global, first: Lit, vars: &[Var]) -> Result<Lits, AllocError>
-    requires { All (λ v. v < 2 ^ 31) vars.now }
-    ensures { IfOk result (λ lits. lits ≡ first ∷ map F vars.now) }
-{
-    let mut lits = Lits::new(alloc);
-    lits.push(first)?;
-    for var in vars {
-        lits.push(Lit::new(*var, false))?;
-    }
-    Ok(lits)
 }

@@ -3,13 +3,14 @@ ghost use Rattle.std.specs.Prelude.{◌≡◌, ◌+◌, ◌*◌, ◌<◌, ◌^�
 ghost use Rattle.asp_model.specs.Sound.{IsSound, HasFewItems};
 ghost use Rattle.asp_model.specs.Models.{rules_in_force, atoms_of};
 ghost use Rattle.asp_model.specs.Opening.{opened_rules};
-ghost use Rattle.asp_vars.specs.Numbering.{normal, body_eq, distinct, place_of, bodies_of, var_count, var_of_body};
+ghost use Rattle.asp_vars.specs.Numbering.{normal, body_eq, distinct, place_of, bodies_of, var_count, number_count, literal_of_form};
 ghost use Rattle.asp_vars.specs.Completion.{is_barred};
-ghost use Rattle.asp_vars.specs.Tabled.{bound_of, form_literals, form_weights, heads_of, AreSupports, AreOccurrences};
+ghost use Rattle.asp_vars.specs.Tabled.{bound_of, form_literals, form_weights, heads_of, AreSupports, AreOccurrences, AreShared};
 
 use crate::barred::barred_bodies;
 use crate::bodies::Bodies;
-use crate::heads::{body_vars, head_rows, support_rows};
+use crate::heads::{head_rows, support_rows};
+use crate::held::{held, held_codes};
 use crate::lit::{Lit, Var};
 use crate::rules::number;
 use crate::tables::{bounds, code_rows, literal_rows, weight_rows};
@@ -90,7 +91,7 @@ struct Parts {
 
 fn parts_of(alloc: Global, program: &Program) -> Result<Parts, AllocError>
     requires { IsSound program.now }
-    ensures few { IfOk result (λ _. var_count program.now < 2 ^ 31) }
+    ensures few { IfOk result (λ _. number_count program.now < 2 ^ 31) }
     ensures opened { IfOk result (λ parts. parts.opened.items ≡ opened_rules program.now) }
     ensures atoms { IfOk result (λ parts. parts.atoms ≡ atoms_of program.now) }
     ensures bodies { IfOk result (λ parts. parts.bodies ≡ bodies_of program.now) }
@@ -136,13 +137,32 @@ impl Numbered {
         }
     }
 
-    /// The variables of the bodies of the rules in force.
-    pub fn rule_bodies(&self, alloc: Global) -> Result<Vec<Var>, AllocError>
-        ensures { IfOk result (λ vars. vars.items ≡ map (λ r. var_of_body self.now r.body) (rules_in_force self.now)) }
+    /// The literal of each body, and how many variables there are.
+    pub fn held(&self, alloc: Global) -> Result<(Vec<Lit>, Var), AllocError>
+        ensures lits { IfOk result (λ r. r.0.items ≡ map (literal_of_form self.now) (bodies_of self.now)) }
+        ensures vars { IfOk result (λ r. r.1 ≡ var_count self.now) }
     {
-        let first = self.atoms.as_slice().len() as u32 + 1;
-        let vars = body_vars(alloc, first, self.places.as_slice())?;
-        Ok(vars)
+        let atoms = self.atoms.as_slice();
+        let first = atoms.len() as u32 + 1;
+        let (lits, next) = held(alloc, atoms, first, self.bodies.forms())?;
+        Ok((lits, next - 1))
+    }
+
+    /// The bodies of which each literal says that they hold, by the literal of each body and the number of variables.
+    pub fn shared(
+        &self,
+        alloc: Global,
+        held: &[Lit],
+        vars: Var,
+    ) -> Result<Table<Occurrence>, AllocError>
+        requires held { held.now ≡ map (literal_of_form self.now) (bodies_of self.now) }
+        requires vars { vars ≡ var_count self.now }
+        ensures { IfOk result (AreShared self.now) }
+    {
+        let _ = &self.atoms;
+        let codes = held_codes(alloc, held)?;
+        let rows = columns(alloc, 2 * vars as usize + 2, &codes)?;
+        Ok(rows)
     }
 
     /// For each body whether a constraint has it.
@@ -194,8 +214,8 @@ impl Numbered {
         Ok(rows)
     }
 
-    /// The variables of the bodies that support each atom, by the heads of each body.
-    pub fn supports(&self, alloc: Global, heads: &Table<Var>) -> Result<Table<Var>, AllocError>
+    /// The numbers of the bodies that support each atom, by the heads of each body.
+    pub fn supports(&self, alloc: Global, heads: &Table<Var>) -> Result<Table<u32>, AllocError>
         requires { heads.now ≡ map (heads_of self.now) (bodies_of self.now) }
         ensures { IfOk result (AreSupports self.now) }
     {

@@ -3,7 +3,7 @@ ghost use Rattle.std.specs.Prelude.{◌≡◌, [], ◌∷◌, true, false, pos, 
 ghost use Rattle.asp_model.specs.declared.program.Body.TheVariants as body;
 ghost use Rattle.asp_model.specs.Rows.{positive_loop, two_priorities, two_ways, repeated_literals};
 ghost use Rattle.asp_vars.specs.Literals.{T, F};
-ghost use Rattle.asp_vars.specs.Numbering.{normal, var_count, var_of_body, values, bodies_of};
+ghost use Rattle.asp_vars.specs.Numbering.{normal, var_count, literal_of_body, values, bodies_of};
 ghost use Rattle.asp_vars.specs.declared.nogood.Base.TheVariants as base;
 ghost use Rattle.asp_vars.specs.Resolution.{resolvent, joined};
 ghost use Rattle.asp_vars.specs.Completion.{completion};
@@ -11,12 +11,12 @@ ghost use Rattle.asp_vars.specs.Unfounded.{is_unfounded, assigned};
 ghost use Rattle.std.specs.Prelude.{IsTrue};
 ghost use Rattle.asp_model.specs.Rows.{weight_loop};
 
-/// Body 3 is atom 2, body 4 is atom 1.
-pub fn bodies_stand_after_atoms()
-    ensures count { var_count positive_loop ≡ 4 }
-    ensures first { var_of_body positive_loop (body.All (pos 2 ∷ [])) ≡ 3 }
-    ensures second { var_of_body positive_loop (body.All (pos 1 ∷ [])) ≡ 4 }
-    ensures values { values positive_loop (2 ∷ []) ≡ false ∷ false ∷ true ∷ true ∷ false ∷ [] }
+/// The bodies of one literal are these atoms.
+pub fn bodies_of_one_literal_are_it()
+    ensures count { var_count positive_loop ≡ 2 }
+    ensures first { literal_of_body positive_loop (body.All (pos 2 ∷ [])) ≡ T 2 }
+    ensures second { literal_of_body positive_loop (body.All (pos 1 ∷ [])) ≡ T 1 }
+    ensures values { values positive_loop (2 ∷ []) ≡ false ∷ false ∷ true ∷ [] }
 {}
 
 pub fn resolvent_has_the_other_literals()
@@ -34,8 +34,7 @@ pub fn normal_forms_join_equal_literals()
 {}
 
 pub fn completion_of_a_positive_loop()
-    ensures { completion positive_loop ≡ (F 3 ∷ T 2 ∷ []) ∷ (T 3 ∷ F 2 ∷ []) ∷ (F 4 ∷ T 1 ∷ []) ∷ (T 4 ∷ F 1 ∷ [])
-        ∷ (T 3 ∷ F 1 ∷ []) ∷ (T 4 ∷ F 2 ∷ []) ∷ (T 1 ∷ F 3 ∷ []) ∷ (T 2 ∷ F 4 ∷ []) ∷ [] }
+    ensures { completion positive_loop ≡ (T 2 ∷ F 1 ∷ []) ∷ (T 1 ∷ F 2 ∷ []) ∷ (T 1 ∷ F 2 ∷ []) ∷ (T 2 ∷ F 1 ∷ []) ∷ [] }
 {}
 
 /// The body of a constraint, variable 4, is false; its literals can't both hold.

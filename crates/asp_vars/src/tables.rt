@@ -15,8 +15,8 @@ use asp_model::program::Atom;
 use asp_table::table::Table;
 use std::alloc::{AllocError, Global};
 
-// An atom's literal as a literal of its variable.
-fn lit(atoms: &[Atom], literal: i32) -> Lit
+/// An atom's literal as a literal of its variable.
+pub fn lit(atoms: &[Atom], literal: i32) -> Lit
     requires up { IsAscending atoms.now }
     requires few { length atoms.now < 2 ^ 31 }
     requires stands { IsTrue (has atoms.now (atom_of literal)) }

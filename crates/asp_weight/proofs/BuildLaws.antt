@@ -15,7 +15,7 @@ use Rattle.asp_model.specs.Models.{atoms_of}
 use Rattle.asp_model.specs.Sound.{IsSound}
 use Rattle.asp_vars.specs.Literals.{Literal}
 use Rattle.asp_vars.specs.Numbering.{bodies_of, nth_body, var_count, var_of_form, literal_in}
-use Rattle.asp_vars.specs.Tabled.{bound_of, form_literals, form_weights, IsAtomVar, IsBodyVar}
+use Rattle.asp_vars.specs.Tabled.{bound_of, form_literals, form_weights, IsAtomVar}
 use Rattle.asp_weight.specs.declared.item.Item.{Item}
 use Rattle.asp_weight.specs.declared.item.Shape.{Shape}
 use Rattle.asp_weight.specs.Rows.{item_of, row_of, is_weighed, first_weighed, total_of, clamped, reach_of, IsOrdered, IsRow, AreRows, shape_at, row_at}
@@ -118,7 +118,7 @@ next_unweighed p w h e =
     sym (filter_more is_weighed (bodies_of p) w (body.All []) h ∙ (ap (λ b. first_weighed p w ++ cond b (nth_body p w ∷ []) []) (unweighed (nth_body p w) e) ∙ append-nil (first_weighed p w)))
 
 pub is_row : (p : Program) (b : Body) (bound : ℤ) (s : Shape) (row : List Item) (total var : ℕ) → bound_of b ≡ Some bound → IsOrdered p b row → (total ≡ total_of row) × (total < 2 ^ 63) →
-    var ≡ var_of_form p b → IsBodyVar p var → s ≡ record { var = var; reach = clamped bound; miss = total + 1 - clamped bound } → IsRow p b s row
+    var ≡ var_of_form p b → (0 < var) × (var ≤ var_count p) → s ≡ record { var = var; reach = clamped bound; miss = total + 1 - clamped bound } → IsRow p b s row
 is_row p b bound s row total var e o t v within is = record {
   ordered = o;
   var = ap (λ (x : Shape). x.var) is ∙ v;

@@ -111,7 +111,7 @@ impl Rows {
     {
         let row = row(alloc, compiled, body)?;
         let total = total(row.as_slice())?;
-        let shape = shape(compiled.body_var(body), bound, total);
+        let shape = shape(compiled.body_lit(body).var(), bound, total);
         let Rows { mut shapes, rows } = self;
         shapes.push(shape)?;
         let rows = rows.with_row(row.as_slice())?;

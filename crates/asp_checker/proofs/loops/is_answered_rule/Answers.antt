@@ -6,7 +6,7 @@ use Rattle.asp_model.specs.Sets.{has}
 use Rattle.asp_model.specs.Models.{head_atoms}
 use Rattle.asp_vars.specs.Numbering.{nth_rule, nth_body}
 use Rattle.asp_checker.specs.Lines.{is_answered}
-use Rattle.asp_member.proofs.FoundingLaws.{rule_place, rule_body}
+use Rattle.asp_member.proofs.FoundingLaws.{rule_body}
 use Rattle.asp_checker.proofs.FoundLaws.{outside_rule, inside_rule}
 use Rattle.asp_checker.proofs.loops.is_answered_rule.Goals as goal
 
@@ -15,14 +15,9 @@ returns-then-not-inside c =
     outside_rule c.args.compiled.now c.args.set.now c.args.nogood.now (nth_rule c.args.compiled.now c.args.rule)
     (ap (λ (r : Rule). list_any (has c.args.set.now) (head_atoms r.head)) (sym c.rule.ensures) ∙ sym c.is_some_inside-inside.ensures ∙ c.if-not-inside.true)
 
-pub is_answered-requires : goal.is_answered-requires
-is_answered-requires c = omega (arith, rule_place c.args.compiled.now c.args.rule c.rule_body-var.result c.requires.rule c.rule_body-var.ensures.var, c.atom_count-atoms.ensures.count)
-
 pub returns : goal.returns
 returns c =
     let p : Program = c.args.compiled.now in
-    let v = c.rule_body-var.result in
-    let at = ap (λ n. v - n - 1) c.atom_count-atoms.ensures.count in
     inside_rule p c.args.set.now c.args.nogood.now (nth_rule p c.args.rule) c.is_answered.result
     (ap (λ (r : Rule). list_any (has c.args.set.now) (head_atoms r.head)) (sym c.rule.ensures) ∙ sym c.is_some_inside-inside.ensures ∙ c.if-not-inside.false)
-    (c.is_answered.ensures c.args.set.now c.requires.vars ∙ ap (is_answered p c.args.set.now c.args.nogood.now) (ap (nth_body p) at ∙ rule_body p c.args.rule v c.requires.rule c.rule_body-var.ensures.var))
+    (c.is_answered.ensures c.args.set.now c.requires.vars ∙ ap (is_answered p c.args.set.now c.args.nogood.now) (rule_body p c.args.rule c.rule_body.result c.requires.rule c.rule_body.ensures.place))

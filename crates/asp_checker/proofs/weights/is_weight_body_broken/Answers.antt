@@ -5,7 +5,9 @@ use Rattle.asp_model.specs.declared.program.Program.{Program}
 use Rattle.asp_model.specs.declared.program.Body.{Body}
 use Rattle.asp_vars.specs.Literals.{Literal, value_of}
 use Rattle.asp_vars.specs.Numbering.{nth_body, var_of_form}
+use Rattle.asp_model.specs.Models.{atoms_of}
 use Rattle.asp_vars.specs.Tabled.{form_literals, form_weights}
+use Rattle.asp_vars.proofs.HeldLaws.{literal_by-weighed}
 use Rattle.asp_loop.specs.Weighing.{weigh}
 use Rattle.asp_loop.proofs.WeightedLaws.{body_weights}
 use Rattle.asp_member.specs.Counting.{counts}
@@ -29,7 +31,7 @@ returns-in-Some-true c =
     ∙ ap (λ (ls : List Literal). int_le c.args.bound (weigh q ls c.weights-weights.result.now)) c.literals-lits.ensures.literals
     ∙ ap (λ (ws : List ℤ). int_le c.args.bound (weigh q (form_literals p b) ws)) c.weights-weights.ensures in
     let value : value_of c.args.values.now (var_of_form p b) ≡ Some true =
-    ap (value_of c.args.values.now) (sym c.body_var.ensures.var) ∙ sym c.in-Some-true.ensures ∙ ap (λ (t : Bool). let o : Option Bool = Some t in o) c.in-Some-true.field-0-test in
+    ap (value_of c.args.values.now) (sym (c.var.ensures ∙ ap (λ (l : Literal). l.var) (c.body_lit.ensures.lit ∙ literal_by-weighed (atoms_of p) (var_of_form p b) b c.args.bound c.requires.weighted))) ∙ sym c.in-Some-true.ensures ∙ ap (λ (t : Bool). let o : Option Bool = Some t in o) c.in-Some-true.field-0-test in
     ap not sums ∙ sym (broken_by p c.args.values.now b c.args.bound (Some true) c.requires.weighted value)
 
 pub returns-in-Some-false : goal.returns-in-Some-false
@@ -43,5 +45,5 @@ returns-in-Some-false c =
     ∙ ap (λ (ls : List Literal). int_le c.args.bound (weigh q ls c.weights-weights.result.now)) c.literals-lits.ensures.literals
     ∙ ap (λ (ws : List ℤ). int_le c.args.bound (weigh q (form_literals p b) ws)) c.weights-weights.ensures in
     let value : value_of c.args.values.now (var_of_form p b) ≡ Some false =
-    ap (value_of c.args.values.now) (sym c.body_var.ensures.var) ∙ sym c.in-Some-false.ensures ∙ ap (λ (t : Bool). let o : Option Bool = Some t in o) c.in-Some-false.field-0-test in
+    ap (value_of c.args.values.now) (sym (c.var.ensures ∙ ap (λ (l : Literal). l.var) (c.body_lit.ensures.lit ∙ literal_by-weighed (atoms_of p) (var_of_form p b) b c.args.bound c.requires.weighted))) ∙ sym c.in-Some-false.ensures ∙ ap (λ (t : Bool). let o : Option Bool = Some t in o) c.in-Some-false.field-0-test in
     sums ∙ sym (broken_by p c.args.values.now b c.args.bound (Some false) c.requires.weighted value)

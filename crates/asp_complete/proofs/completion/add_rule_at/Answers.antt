@@ -1,4 +1,4 @@
-use Rattle.std.proofs.Common.{◌≡◌, ◌++◌, ℕ, true, [], map, sym, subst}
+use Rattle.std.proofs.Common.{◌≡◌, ◌++◌, ℕ, true, [], map, sym, ap, ◌∙◌, subst}
 use Rattle.std.specs.List.{AllByRecursion}
 use Rattle.std.specs.Result.{OnOk}
 use Rattle.asp_model.specs.declared.program.Body.TheVariants as body
@@ -9,8 +9,9 @@ use Rattle.asp_model.specs.Sets.{has}
 use Rattle.asp_model.specs.Models.{rules_in_force, atoms_of, head_atoms}
 use Rattle.asp_model.proofs.ReductLaws.{rules_in_force-heads}
 use Rattle.asp_vars.proofs.PlaceLaws.{at_each}
+use Rattle.asp_vars.proofs.SupportLaws.{body_of_nth_rule}
 use Rattle.asp_vars.specs.Completion.{rule_nogoods}
-use Rattle.asp_vars.specs.Numbering.{nth_rule, var_of_body}
+use Rattle.asp_vars.specs.Numbering.{literal_of_body, literal_of_form, nth_body, nth_rule}
 use Rattle.asp_complete.specs.Listed.{pure}
 use Rattle.asp_complete.proofs.completion.add_rule_at.Goals as goal
 
@@ -24,6 +25,9 @@ add_rule-requires-clause-stand c =
 pub returns : goal.returns
 returns c =
     let p : Program = c.args.compiled.now in
-    let v : ℕ = var_of_body p (nth_rule p c.args.rule).body in
-    subst (λ (x : Rule). OnOk c.add_rule.result (c.add_rule.new.nogoods.items ≡ c.args.nogoods.now.items ++ map pure (rule_nogoods p v x.head))) c.rule-rule.ensures
-    (rw c.rule_body-body.ensures.var at c.add_rule.ensures)
+    let r : Rule = nth_rule p c.args.rule in
+    let form : literal_of_form p (nth_body p c.rule_body.result) ≡ literal_of_body p r.body =
+    ap (λ (n : ℕ). literal_of_form p (nth_body p n)) c.rule_body.ensures.place ∙ ap (literal_of_form p) (body_of_nth_rule p c.args.rule c.requires) in
+    let lit : c.body_lit-body.result ≡ literal_of_body p r.body = c.body_lit-body.ensures.lit ∙ form in
+    subst (λ (x : Rule). OnOk c.add_rule.result (c.add_rule.new.nogoods.items ≡ c.args.nogoods.now.items ++ map pure (rule_nogoods p (literal_of_body p r.body) x.head))) c.rule-rule.ensures
+    (rw lit at c.add_rule.ensures)

@@ -6,7 +6,7 @@ use Rattle.asp_model.specs.Models.{rules_in_force}
 use Rattle.asp_model.specs.Views.{rule_seen}
 use Rattle.asp_vars.specs.declared.nogood.Base.TheVariants as base
 use Rattle.asp_vars.specs.declared.nogood.Nogood.{Nogood}
-use Rattle.asp_vars.specs.Numbering.{var_of_body, nth_rule}
+use Rattle.asp_vars.specs.Numbering.{literal_of_body, nth_rule}
 use Rattle.asp_found.specs.Verdicts.{rule_literals, IsBroken, keeps}
 use Rattle.asp_found.proofs.VerdictLaws.{rule_broken}
 use Rattle.asp_found.proofs.PartLaws.{item_stands, item_among, rule_at, keeps_more}
@@ -31,7 +31,7 @@ returns-then-not-kept c =
     let r : Rule = nth_rule p i in
     let lt : i < length (rules_in_force p) = omega (arith, c.loop-i-test.true, c.rule_count-i-end.ensures) in
     let fails : keeps S r ≡ false = sym c.keeps-kept.ensures ∙ c.if-not-kept.true in
-    let nogood : c.in_ok-nogood.nogood ≡ record { lits = rule_literals p (var_of_body p r.body) r.head; base = base.Pure } =
-    c.in_ok-nogood.ensures ∙ ap (λ (x : Rule). let n : Nogood = record { lits = rule_literals p (var_of_body p r.body) x.head; base = base.Pure } in n) c.rule.ensures in
+    let nogood : c.in_ok-nogood.nogood ≡ record { lits = rule_literals p (literal_of_body p r.body) r.head; base = base.Pure } =
+    c.in_ok-nogood.ensures ∙ ap (λ (x : Rule). let n : Nogood = record { lits = rule_literals p (literal_of_body p r.body) x.head; base = base.Pure } in n) c.rule.ensures in
     subst (λ (n : Nogood). IsBroken p S n) (sym nogood)
     (rule_broken p S r r.head c.program-program.ensures.sound (item_among p r i lt (rule_at p r i lt refl)) refl (item_stands p r i lt (rule_at p r i lt refl)) fails)

@@ -1,6 +1,6 @@
 use Rattle.std.proofs.Common.{◌≡◌, List, [], ◌∷◌, ◌++◌, ℕ, Bool, sym, ap, ◌∙◌, subst}
 use Rattle.std.specs.Prelude.{All}
-use Rattle.asp_vars.specs.Tabled.{IsBodyVar}
+use Rattle.asp_vars.specs.Tabled.{IsBodyNumber}
 use Rattle.asp_vars.specs.Literals.{Literal, T}
 use Rattle.asp_vars.specs.Numbering.{var_of_atom}
 use Rattle.asp_loop.specs.Parts.{AreAdded}
@@ -12,7 +12,7 @@ atom_var-requires c = member_stands c.args.compiled.now c.args.u.now c.args.a c.
 
 pub add_parts-requires-clause-bodies : goal.add_parts-requires-clause-bodies
 add_parts-requires-clause-bodies c =
-    subst (λ (xs : List ℕ). All (IsBodyVar c.args.compiled.now) xs) (sym c.as_slice.ensures.value) (vars_of_bodies c.args.compiled.now c.args.u.now c.in_ok-bodies.bodies c.in_ok-bodies.ensures)
+    subst (λ (xs : List ℕ). All (IsBodyNumber c.args.compiled.now) xs) (sym c.as_slice.ensures.value) (vars_of_bodies c.args.compiled.now c.args.u.now c.in_ok-bodies.bodies c.in_ok-bodies.ensures)
 
 pub returns-then-excused : goal.returns-then-excused
 returns-then-excused c =

@@ -1,8 +1,8 @@
 use Rattle.std.proofs.lemmas.Int.{to_z-of_z}
 use Rattle.std.proofs.Common.{◌≡◌, w32, to_z, of_z, Some, None, Bool, true, false, sym, ◌∙◌, refl, subst}
-use Rattle.asp_vars.specs.Numbering.{nth_body, var_of_form}
+use Rattle.asp_vars.specs.Numbering.{nth_body, literal_of_form}
 use Rattle.asp_vars.specs.Tabled.{form_literals, form_weights}
-use Rattle.asp_vars.specs.Literals.{F}
+use Rattle.asp_vars.specs.Literals.{complement}
 use Rattle.asp_model.specs.declared.program.Program.{Program}
 use Rattle.asp_model.specs.declared.program.Body.{Body}
 use Rattle.asp_loop.specs.Weighing.{counts}
@@ -37,7 +37,7 @@ returns-then-is_false c = λ U of_U.
     let none = none_of c.slack.result (sym c.is_some-unreachable.ensures ∙ c.if-unreachable.false) in
     weighted_false p c.args.assign.now U c.args.vars.now b c.args.lits.now c.add_false.new.lits c.args.bound of_U c.requires.weighted (body_stands p c.args.body c.requires.body)
     (slack_of (counts c.args.assign.now c.args.vars.now false) c.literals-literals.result.now (form_literals p b) c.weights-weights.result.now (form_weights b) (to_z w32 (of_z w32 c.args.bound)) c.args.bound c.slack.result None c.literals-literals.ensures.literals c.weights-weights.ensures fits none c.slack.ensures)
-    (subst (λ (t : Bool). AddsFalse c.args.assign.now (F (var_of_form p b)) c.args.lits.now c.add_false.new.lits t) c.if-is_false.true c.in_ok-is_false.ensures)
+    (subst (λ (t : Bool). AddsFalse c.args.assign.now (complement (literal_of_form p b)) c.args.lits.now c.add_false.new.lits t) c.if-is_false.true c.in_ok-is_false.ensures)
 
 pub returns-in_ok-choose-in-Some : goal.returns-in_ok-choose-in-Some
 returns-in_ok-choose-in-Some c = λ U of_U.
@@ -47,7 +47,7 @@ returns-in_ok-choose-in-Some c = λ U of_U.
     let none = none_of c.slack.result (sym c.is_some-unreachable.ensures ∙ c.if-unreachable.false) in
     weighted_chosen p c.args.assign.now U c.args.vars.now b c.args.lits.now c.add_false.new.lits c.choose.new.part c.args.bound c.in-Some.slack of_U c.requires.weighted (body_stands p c.args.body c.requires.body)
     (slack_of (counts c.args.assign.now c.args.vars.now false) c.literals-literals.result.now (form_literals p b) c.weights-weights.result.now (form_weights b) (to_z w32 (of_z w32 c.args.bound)) c.args.bound c.slack.result None c.literals-literals.ensures.literals c.weights-weights.ensures fits none c.slack.ensures)
-    (subst (λ (t : Bool). AddsFalse c.args.assign.now (F (var_of_form p b)) c.args.lits.now c.add_false.new.lits t) c.if-is_false.false c.in_ok-is_false.ensures)
+    (subst (λ (t : Bool). AddsFalse c.args.assign.now (complement (literal_of_form p b)) c.args.lits.now c.add_false.new.lits t) c.if-is_false.false c.in_ok-is_false.ensures)
     (slack_of (counts c.args.assign.now c.args.vars.now true) c.literals-literals.result.now (form_literals p b) c.weights-weights.result.now (form_weights b) (to_z w32 (of_z w32 c.args.bound)) c.args.bound (Some c.in-Some.slack) (Some c.in-Some.slack) c.literals-literals.ensures.literals c.weights-weights.ensures fits refl c.in-Some.ensures)
     (chooses_of c.args.assign.now c.args.vars.now c.literals-literals.result.now (form_literals p b) c.weights-weights.result.now (form_weights b) c.in-Some.slack c.add_false.new.lits c.choose.new.part c.literals-literals.ensures.literals c.weights-weights.ensures c.in_ok-choose-in-Some.ensures)
 
@@ -57,5 +57,5 @@ returns-in-None c = λ U of_U.
     let fits : to_z w32 (of_z w32 c.args.bound) ≡ c.args.bound = to_z-of_z w32 c.args.bound c.ranges.bound in
     let b : Body = nth_body p c.args.body in
     weighted_firm p c.args.assign.now U c.args.vars.now b c.args.lits.now c.add_false.new.lits c.args.bound of_U c.requires.weighted (body_stands p c.args.body c.requires.body)
-    (subst (λ (t : Bool). AddsFalse c.args.assign.now (F (var_of_form p b)) c.args.lits.now c.add_false.new.lits t) c.if-is_false.false c.in_ok-is_false.ensures)
+    (subst (λ (t : Bool). AddsFalse c.args.assign.now (complement (literal_of_form p b)) c.args.lits.now c.add_false.new.lits t) c.if-is_false.false c.in_ok-is_false.ensures)
     (slack_of (counts c.args.assign.now c.args.vars.now true) c.literals-literals.result.now (form_literals p b) c.weights-weights.result.now (form_weights b) (to_z w32 (of_z w32 c.args.bound)) c.args.bound None None c.literals-literals.ensures.literals c.weights-weights.ensures fits refl c.in-None.ensures)

@@ -5,19 +5,14 @@ use Rattle.asp_vars.specs.Literals.{holds_in}
 use Rattle.asp_vars.specs.Numbering.{normal, nth_body, nth_rule}
 use Rattle.asp_found.specs.Verdicts.{is_kept}
 use Rattle.asp_member.specs.Founding.{passes}
-use Rattle.asp_member.proofs.FoundingLaws.{rule_place, rule_body, kept_keeps, unkept_keeps}
+use Rattle.asp_member.proofs.FoundingLaws.{rule_body, kept_keeps, unkept_keeps}
 use Rattle.asp_member.proofs.stable.keeps.Goals as goal
 
 pub returns-then-is_kept : goal.returns-then-is_kept
 returns-then-is_kept c = kept_keeps c.args.compiled.now c.args.set.now c.args.values.now (nth_rule c.args.compiled.now c.args.rule) (ap (λ (r : Rule). is_kept c.args.set.now r.head) (sym c.rule.ensures) ∙ sym c.if-is_kept.ensures)
 
-pub holds-requires-clause-body : goal.holds-requires-clause-body
-holds-requires-clause-body c = omega (arith, rule_place c.args.compiled.now c.args.rule c.rule_body-var.result c.requires.rule c.rule_body-var.ensures.var, c.atom_count-atoms.ensures.count)
-
 pub returns : goal.returns
 returns c =
     let p : Program = c.args.compiled.now in
-    let v = c.rule_body-var.result in
-    let at = ap (λ n. v - n - 1) c.atom_count-atoms.ensures.count in
-    let held = c.holds.ensures ∙ ap (passes p (holds_in c.args.values.now)) (ap (nth_body p) at ∙ rule_body p c.args.rule v c.requires.rule c.rule_body-var.ensures.var) in
+    let held = c.holds.ensures ∙ ap (passes p (holds_in c.args.values.now)) (rule_body p c.args.rule c.rule_body.result c.requires.rule c.rule_body.ensures.place) in
     ap not held ∙ unkept_keeps p c.args.set.now c.args.values.now (nth_rule p c.args.rule) (ap (λ (r : Rule). is_kept c.args.set.now r.head) (sym c.rule.ensures) ∙ sym c.if-is_kept.ensures)

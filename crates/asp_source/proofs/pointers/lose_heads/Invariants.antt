@@ -7,5 +7,5 @@ use Rattle.asp_source.proofs.pointers.lose_heads.Given as goal
 abbrev pub invariant-loop-var : goal.invariant-loop-var
 invariant-loop-var l = record {
   loses : Loses l.initial.sources l.initial.queue l.sources l.queue;
-  gone : (i d : ℕ) → i < l.var-index → i < length (heads_of l.compiled (nth_body l.compiled l.body)) → IsGone l.sources l.var_of_body (get_or (heads_of l.compiled (nth_body l.compiled l.body)) i d);
+  gone : (i d : ℕ) → i < l.var-index → i < length (heads_of l.compiled (nth_body l.compiled l.body)) → IsGone l.sources l.number (get_or (heads_of l.compiled (nth_body l.compiled l.body)) i d);
 }

@@ -3,8 +3,8 @@ use Rattle.asp_model.specs.declared.program.Program.{Program}
 use Rattle.asp_model.specs.Models.{atoms_of}
 use Rattle.asp_vars.specs.Numbering.{nth_atom}
 use Rattle.asp_vars.specs.Completion.{supports}
-use Rattle.asp_vars.specs.Tabled.{IsBodyVar}
-use Rattle.asp_vars.proofs.RowLaws.{all_of, support_vars}
+use Rattle.asp_vars.specs.Tabled.{IsBodyNumber}
+use Rattle.asp_vars.proofs.RowLaws.{all_of, support_numbers}
 use Rattle.asp_vars.proofs.compiled.Compiled.supports.Goals as goal
 
 row_is : (c : goal.After-row) → c.row.result.now ≡ supports c.args.self.now (nth_atom c.args.self.now (c.args.var - 1))
@@ -24,4 +24,4 @@ returns-clause-supports c = row_is c
 pub returns-clause-bodies : goal.returns-clause-bodies
 returns-clause-bodies c =
     let p : Program = c.args.self.now in
-    subst (λ (vs : List ℕ). All (IsBodyVar p) vs) (sym (row_is c)) (all_of (IsBodyVar p) (supports p (nth_atom p (c.args.var - 1))) (support_vars p (nth_atom p (c.args.var - 1))))
+    subst (λ (vs : List ℕ). All (IsBodyNumber p) vs) (sym (row_is c)) (all_of (IsBodyNumber p) (supports p (nth_atom p (c.args.var - 1))) (support_numbers p (nth_atom p (c.args.var - 1))))

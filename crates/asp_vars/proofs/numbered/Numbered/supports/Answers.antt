@@ -2,7 +2,7 @@ use Rattle.std.proofs.Common.{◌≡◌, ◌<◌, ◌+◌, ◌^◌, ℕ, All, le
 use Rattle.asp_model.specs.declared.program.Program.{Program}
 use Rattle.asp_model.specs.Models.{atoms_of}
 use Rattle.asp_table.specs.Columns.{IsRead}
-use Rattle.asp_vars.specs.Numbering.{var_count}
+use Rattle.asp_vars.specs.Numbering.{number_count}
 use Rattle.asp_vars.proofs.NumberedLaws.{supports_are, supports_small, heads_within}
 use Rattle.asp_vars.proofs.numbered.Numbered.supports.Goals as goal
 
@@ -16,7 +16,7 @@ pub support_rows-requires : goal.support_rows-requires
 support_rows-requires c =
     let p : Program = c.args.self.now in
     let atoms : length c.as_slice-count.result.now ≡ length (atoms_of p) = ap length (c.as_slice-count.ensures.value ∙ c.self.invariant.atoms ∙ ap atoms_of c.self.view_is) in
-    let few : var_count p < 2 ^ 31 = subst (λ (q : Program). var_count q < 2 ^ 31) c.self.view_is c.self.invariant.few in
+    let few : number_count p < 2 ^ 31 = subst (λ (q : Program). number_count q < 2 ^ 31) c.self.view_is c.self.invariant.few in
     let read : IsRead c.in_ok-rows.rows (length (atoms_of p) + 1) c.args.heads.now = subst (λ (n : ℕ). IsRead c.in_ok-rows.rows (n + 1) c.args.heads.now) atoms c.in_ok-rows.ensures in
     supports_small p (length c.as_slice-count.result.now + 1) c.args.heads.now c.in_ok-rows.rows (ap (λ (n : ℕ). n + 1) atoms) c.requires read few
 

@@ -1,0 +1,21 @@
+use Rattle.std.proofs.Common.{◌≡◌, Bool, true, false, cond, List, [], ◌∷◌, ◌++◌, map, sym, ap, ◌∙◌, append-nil}
+use Rattle.asp_model.specs.declared.program.Body.{Body}
+use Rattle.asp_vars.specs.Numbering.{is_wide, nth_body}
+use Rattle.asp_found.specs.Marks.{marks_hold}
+use Rattle.asp_found.proofs.values.push_body.Goals as goal
+
+pub returns-then-not-is_wide : goal.returns-then-not-is_wide
+returns-then-not-is_wide c =
+    let old : List Bool = c.args.values.now.items in
+    let b : Body = nth_body c.args.compiled.now c.args.body in
+    let narrow : is_wide b ≡ false = sym c.is_wide.ensures ∙ c.if-not-is_wide.true in
+    sym (ap (λ t. old ++ map (marks_hold c.args.compiled.now old old) (cond t (b ∷ []) [])) narrow ∙ append-nil old)
+
+pub returns : goal.returns
+returns c =
+    let old : List Bool = c.args.values.now.items in
+    let b : Body = nth_body c.args.compiled.now c.args.body in
+    let wide : is_wide b ≡ true = sym c.is_wide.ensures ∙ c.if-not-is_wide.false in
+    c.in_ok-push.ensures.items
+    ∙ ap (λ v. old ++ v ∷ []) c.holds-holds.ensures
+    ∙ sym (ap (λ t. old ++ map (marks_hold c.args.compiled.now old old) (cond t (b ∷ []) [])) wide)
