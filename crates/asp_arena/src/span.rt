@@ -2,6 +2,7 @@
 ghost use Rattle.std.specs.Prelude.{◌≡◌, ◌+◌, ◌≤◌, ◌++◌, IfOk, OnOk, OnErr, length};
 ghost use Rattle.asp_arena.specs.Rows.{cells_of};
 
+use asp_table::narrow::narrow;
 use asp_vars::lit::Lit;
 use std::alloc::AllocError;
 
@@ -31,16 +32,6 @@ pub fn part(cells: &[Lit], span: Span) -> &[Lit]
     let start = span.start as usize;
     let end = start + span.len as usize;
     &cells[start..end]
-}
-
-// The number as a span has it, if it isn't too large.
-fn narrow(n: usize) -> Result<u32, AllocError>
-    ensures { IfOk result (λ k. k ≡ n) }
-{
-    match u32::try_from(n) {
-        Ok(k) => Ok(k),
-        Err(_) => Err(AllocError),
-    }
 }
 
 /// Puts literals behind all cells, and gives where they stand. Want of memory, or of places below 2^32, leaves all as it was.

@@ -1,5 +1,5 @@
 -- What marks stand for: a rule more, the rule at a place, and what stays as it was where more is stored.
-use Rattle.std.proofs.Common.{◌≡◌, ℕ, zero, suc, ℤ, ◌+◌, ◌<◌, List, [], ◌∷◌, ◌++◌, length, get_or, Result, Ok, Err, pos, refl, sym, ap, ◌∙◌, subst, arith, length-append}
+use Rattle.std.proofs.Common.{◌≡◌, ℕ, ℤ, ◌+◌, ◌<◌, List, [], ◌∷◌, ◌++◌, length, get_or, Result, Ok, Err, pos, refl, sym, ap, ◌∙◌, subst, arith, length-append}
 use Rattle.std.specs.Result.{OnErr}
 use Rattle.std.proofs.lemmas.List.{get_or_append_left}
 use Rattle.asp_model.specs.declared.program.Body.TheVariants as body
@@ -12,7 +12,7 @@ use Rattle.asp_model.specs.declared.extras.Mark.{Mark}
 use Rattle.asp_model.specs.declared.extras.Mark.TheVariants as mark
 use Rattle.asp_model.specs.declared.extras.Weighted.{Weighted}
 use Rattle.asp_model.proofs.ZippedLaws.{length-zipped, length-second, first_at, zipped-at, zipped-push, AreZipped-push, zipped-same, AreZipped-weaker}
-use Rattle.asp_model.specs.Stored.{head_of, weighted_in, weighted_rule, rule_of, rules_of, IsHeadStored, IsWeightedStored, IsStored, AreStored, Keeps}
+use Rattle.asp_model.specs.Stored.{head_of, weighted_in, rule_of, rules_of, IsHeadStored, IsStored, AreStored, Keeps}
 
 -- ---- rules by their places
 pub length-rules_of : (e : Extras) (ms : List Mark) (rows : List (List ℤ)) → AreStored e ms rows → length (rules_of e ms rows) ≡ length ms

@@ -4,9 +4,9 @@ ghost use Rattle.asp_model.specs.declared.program.Body.TheVariants as body;
 ghost use Rattle.asp_model.specs.Views.{head_seen, rule_seen, literals_seen};
 ghost use Rattle.asp_model.specs.Stored.{head_of, mark_of, rule_of, weighted_rule, IsHeadStored, IsStored, IsWeightedStored, Keeps};
 
-use crate::narrow::narrow;
 use crate::program::Atom;
 use crate::view::{BodyView, HeadView, RuleView};
+use asp_table::narrow::narrow;
 use asp_table::table::Table;
 use std::alloc::{AllocError, Global};
 

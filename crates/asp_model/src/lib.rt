@@ -8,7 +8,6 @@ pub mod holding;
 pub mod in_force;
 pub mod interp;
 pub mod laws;
-mod narrow;
 pub mod outputs;
 pub mod plain;
 pub mod program;

@@ -2,8 +2,8 @@
 ghost use Rattle.std.specs.Prelude.{◌≡◌, ◌<◌, [], ◌∷◌, ◌++◌, IfOk, OnOk, OnErr, length, slice_index_or};
 ghost use Rattle.asp_model.specs.Views.{output_seen};
 
-use crate::narrow::narrow;
 use crate::program::Output;
+use asp_table::narrow::narrow;
 use asp_table::table::Table;
 use std::alloc::{AllocError, Global};
 use std::marker::Model;

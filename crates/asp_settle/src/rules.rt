@@ -2,14 +2,14 @@
 ghost use Rattle.std.specs.Prelude.{◌≡◌, ◌∷◌, [], ◌++◌, All, filter, flat_map, not, true, IfOk, OnOk};
 ghost use Rattle.std.specs.List.{list_all};
 ghost use Rattle.std.specs.Option.{option_to_list};
-ghost use Rattle.asp_model.specs.Models.{head_atoms};
 ghost use Rattle.asp_model.specs.Views.{head_seen, output_seen, rule_seen};
-ghost use Rattle.asp_model.specs.Sets.{has, set_of};
+ghost use Rattle.asp_model.specs.Sets.{has};
 ghost use Rattle.asp_model.specs.Sound.{HasBody, HasFewItems};
 ghost use Rattle.asp_settle.specs.Settled.{heads_of, settled_head, settled_output, settled_rule};
 
 use crate::bodies::{body_stays, literals_stay, settled_body, settled_literals};
 use crate::facts::FactTable;
+use asp_model::in_force::head_set;
 use asp_model::interp::Interp;
 use asp_model::outputs::{OutputView, Outputs};
 use asp_model::program::{Atom, External, Head, Rule};
@@ -203,30 +203,6 @@ pub(crate) fn settled_outputs(
         return Ok(outputs);
     }
     left_outputs(alloc, facts, &outputs)
-}
-
-fn push_head(atoms: &mut Vec<Atom>, head: HeadView<'_>) -> Result<(), AllocError>
-    ensures { OnOk result (atoms.new.items ≡ atoms.old.items ++ head_atoms (head_seen head.entry)) }
-{
-    match head {
-        HeadView::One(atom) => {
-            atoms.push(atom)?;
-            Ok(())
-        }
-        HeadView::Choice(choices) => atoms.extend_from_slice(choices),
-        HeadView::Never => Ok(()),
-    }
-}
-
-// The atoms that stand in heads.
-fn head_set(alloc: Global, rules: &Rules) -> Result<Interp, AllocError>
-    ensures { IfOk result (λ heads. heads ≡ set_of (heads_of rules.now)) }
-{
-    let mut atoms = Vec::new(alloc);
-    for i in 0..rules.len() {
-        push_head(&mut atoms, rules.rule(i).head)?;
-    }
-    Ok(Interp::from_atoms(atoms))
 }
 
 fn without_heads(mut externals: Vec<External>, heads: &Interp) -> Vec<External>

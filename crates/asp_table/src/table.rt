@@ -1,6 +1,7 @@
 //! Lists of lists in one flat array.
-ghost use Rattle.std.specs.Prelude.{◌≡◌, ◌+◌, ◌<◌, ◌^◌, [], ◌∷◌, ◌++◌, IfOk, OnOk, OnErr, length, take, drop, slice_index, slice_index_or, ◌-◌, ◌≤◌};
+ghost use Rattle.std.specs.Prelude.{◌≡◌, ◌+◌, ◌<◌, [], ◌∷◌, ◌++◌, IfOk, OnOk, OnErr, length, take, drop, slice_index, slice_index_or, ◌-◌, ◌≤◌};
 
+use crate::narrow::narrow;
 use std::alloc::{AllocError, Global};
 use std::marker::Model;
 
@@ -73,16 +74,6 @@ impl<T: Copy> Table<T> {
         ensures { result.now ≡ slice_index_or self.now i [] }
     {
         row_of(self.starts.as_slice(), self.items.as_slice(), i)
-    }
-}
-
-// The number as a start has it, if it isn't too large.
-fn narrow(n: usize) -> Result<u32, AllocError>
-    ensures { IfOk result (λ k. k ≡ n) }
-{
-    match u32::try_from(n) {
-        Ok(k) => Ok(k),
-        Err(_) => Err(AllocError),
     }
 }
 

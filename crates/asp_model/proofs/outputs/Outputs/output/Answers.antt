@@ -1,7 +1,6 @@
-use Rattle.std.proofs.Common.{◌<◌, ◌≡◌, ℕ, ℤ, List, [], length, get_or, sym, ap, ◌∙◌, subst, arith}
+use Rattle.std.proofs.Common.{◌<◌, ℕ, ℤ, List, [], length, get_or, sym, ap, ◌∙◌, subst, arith}
 use Rattle.asp_model.specs.declared.program.Output.{Output}
 use Rattle.asp_model.specs.Stored.{output_of}
-use Rattle.asp_model.specs.Views.{output_seen}
 use Rattle.asp_model.proofs.ZippedLaws.{length-zipped, length-second, first_at, zipped-at}
 use Rattle.asp_model.proofs.outputs.Outputs.output.Goals as goal
 

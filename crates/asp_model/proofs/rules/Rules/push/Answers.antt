@@ -1,7 +1,7 @@
 use Rattle.std.proofs.Common.{◌≡◌, ◌∷◌, ◌++◌, [], List, refl, ap, ◌∙◌}
 use Rattle.asp_model.specs.declared.extras.Mark.{Mark}
 use Rattle.asp_model.specs.declared.program.Rule.{Rule}
-use Rattle.asp_model.specs.Stored.{rules_of, rule_of}
+use Rattle.asp_model.specs.Stored.{rule_of}
 use Rattle.asp_model.specs.Views.{rule_seen}
 use Rattle.asp_model.proofs.StoredLaws.{rules_kept, rules_more, on_err}
 use Rattle.asp_model.proofs.rules.Rules.push.Goals as goal

@@ -1,4 +1,4 @@
-use Rattle.std.proofs.Common.{◌<◌, ◌≡◌, ℤ, List, [], length, get_or, sym, ap, ◌∙◌, subst, arith}
+use Rattle.std.proofs.Common.{◌<◌, ℤ, List, length, get_or, sym, ap, ◌∙◌, subst, arith}
 use Rattle.asp_model.specs.declared.extras.Extras.{Extras}
 use Rattle.asp_model.specs.declared.extras.Mark.{Mark}
 use Rattle.asp_model.specs.declared.program.Rule.{Rule}
