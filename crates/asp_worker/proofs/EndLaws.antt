@@ -28,9 +28,6 @@ use Rattle.asp_worker.proofs.OwnLaws.{By, others-own, own-weaker, own-call, quie
 use Rattle.asp_worker.proofs.GoingLaws.{owes-by}
 use Rattle.asp_worker.proofs.SeatLaws.{board-task, board-now, grows-now, lawful-now, settled-on, idles-call, free-idles, settled-idles, placed-ready}
 
-no_units : Program → Units
-no_units p = record { program = p; left = 0; burnt = 0; reasoned = false; known = 0; least = None }
-
 -- a new search goes with the board of an idle number
 pub begins : (p : Program) (m : Mode) (v : Knows) (s : Searching) (u : Units) → IsRunOf p m v → IsIdle v → s ≡ new_search p m s.slots → u ≡ record { program = p; left = 0; burnt = 0; reasoned = false; known = 0; least = None } → GoesOn m v s u
 begins p m v s u run idle e f =

@@ -5,6 +5,7 @@ ghost use Rattle.asp_search.specs.Beside.{new_search};
 use crate::worker::Shared;
 use asp_counts::counts::Counts;
 use asp_path::tree::Leaf;
+use asp_propagate::propagator::Propagator;
 use asp_propagators::propagators::Propagators;
 use asp_recorder::recorder::Recorder;
 use asp_search::search::Search;
@@ -15,9 +16,9 @@ use std::mem;
 
 /// A worker's search, with what pays for it.
 #[derive(Drop)]
-pub(crate) struct Engine<'a> {
+pub(crate) struct Engine<'a, P: Propagator> {
     /// The search of the path that the worker is on.
-    pub(crate) search: Search<'a, Propagators<'a>>,
+    pub(crate) search: Search<'a, P>,
     /// The units that it leased.
     pub(crate) fuel: Fuel,
     /// How many entries of the log it has read.
@@ -39,7 +40,7 @@ pub(crate) fn start<'a>(
     shared: &Shared,
     compiled: &'a Compiled,
     recorder: &'a Recorder,
-) -> Result<Engine<'a>, AllocError>
+) -> Result<Engine<'a, Propagators<'a>>, AllocError>
     ensures search { IfOk result (λ e. e.search ≡ new_search compiled.now shared.now.mode e.search.slots) }
     ensures fuel { IfOk result (λ e. e.fuel ≡ record { program = compiled.now; left = 0; burnt = 0; reasoned = false; known = 0; least = None }) }
     ensures read { IfOk result (λ e. e.read ≡ 0) }
@@ -62,7 +63,7 @@ pub(crate) fn start<'a>(
 }
 
 /// What is left of it at the end: its units, and what it did.
-pub(crate) fn ended(engine: Engine<'_>) -> (Fuel, Counts)
+pub(crate) fn ended<P: Propagator>(engine: Engine<'_, P>) -> (Fuel, Counts)
     ensures { result.0 ≡ engine.entry.fuel }
 {
     let Engine {

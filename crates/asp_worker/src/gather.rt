@@ -76,10 +76,10 @@ fn keep<P: Propagator>(
 
 // One step more, which pays for no conflict: as long as answers wait, the board doesn't have them, and a unit may be burnt only by
 // answers that it has. A conflict is met again by the step after they were delivered.
-fn turn<R: Wait>(
+fn turn<R: Wait, P: Propagator>(
     rt: &R,
     shared: &Shared,
-    engine: &mut Engine<'_>,
+    engine: &mut Engine<'_, P>,
     found: &mut Vec<Listing>,
 ) -> Result<Option<Pause>, AllocError>
     requires program { engine.old.fuel.program ≡ engine.old.search.program }
@@ -110,15 +110,15 @@ fn turn<R: Wait>(
 }
 
 // Whether the answers that wait are to be delivered now.
-fn is_due(engine: &Engine<'_>, found: &Vec<Listing>) -> bool {
+fn is_due<P: Propagator>(engine: &Engine<'_, P>, found: &Vec<Listing>) -> bool {
     found.len() >= TOGETHER || engine.step % STRIDE == 0 || engine.search.searched().is_some()
 }
 
 // Gathers the answers that the next steps find.
-fn gather<R: Wait>(
+fn gather<R: Wait, P: Propagator>(
     rt: &R,
     shared: &Shared,
-    engine: &mut Engine<'_>,
+    engine: &mut Engine<'_, P>,
     found: &mut Vec<Listing>,
 ) -> Result<Pause, AllocError>
     requires program { engine.old.fuel.program ≡ engine.old.search.program }
@@ -159,11 +159,11 @@ fn list_all<R: Wait>(
 }
 
 // Delivers an answer that the search has found with those that it finds next.
-fn answers<R: Wait>(
+fn answers<R: Wait, P: Propagator>(
     rt: &R,
     shared: &Shared,
     worker: &mut Worker,
-    engine: &mut Engine<'_>,
+    engine: &mut Engine<'_, P>,
     leaf: Leaf,
     set: Interp,
 ) -> Result<Course, Stop>
@@ -196,11 +196,11 @@ fn answers<R: Wait>(
 
 /// Records an answer that the search has found, unless there are as many as asked for. Where all are asked for, it goes on a few
 /// steps first, and delivers what these find with it.
-pub(crate) fn answer<R: Wait>(
+pub(crate) fn answer<R: Wait, P: Propagator>(
     rt: &R,
     shared: &Shared,
     worker: &mut Worker,
-    engine: &mut Engine<'_>,
+    engine: &mut Engine<'_, P>,
     leaf: Leaf,
     set: Interp,
 ) -> Result<Course, Stop>

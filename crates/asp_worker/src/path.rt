@@ -94,11 +94,11 @@ pub(crate) fn step<R: Wait, P: Propagator>(
 }
 
 // A step of the search, and what it asks for.
-fn advance<R: Wait>(
+fn advance<R: Wait, P: Propagator>(
     rt: &R,
     shared: &Shared,
     worker: &mut Worker,
-    engine: &mut Engine<'_>,
+    engine: &mut Engine<'_, P>,
     leaf: Leaf,
 ) -> Result<Course, Stop>
     requires ready { IsReady shared.now worker.old }
@@ -145,7 +145,13 @@ fn advance<R: Wait>(
 
 // Where it is time, tells what this worker did, and the watch what all did, with the cost of the best answer that this one
 // knows of.
-fn tell<R: Wait, W: Watch>(rt: &R, shared: &Shared, number: u32, engine: &Engine<'_>, watch: &mut W)
+fn tell<R: Wait, P: Propagator, W: Watch>(
+    rt: &R,
+    shared: &Shared,
+    number: u32,
+    engine: &Engine<'_, P>,
+    watch: &mut W,
+)
     ensures { W.IsAfter watch.old watch.new }
 {
     if engine.step % STRIDE != 0 {
@@ -156,12 +162,12 @@ fn tell<R: Wait, W: Watch>(rt: &R, shared: &Shared, number: u32, engine: &Engine
 }
 
 // Steps until the path is closed or left.
-fn search_path<R: Wait, H: Halt, W: Watch>(
+fn search_path<R: Wait, P: Propagator, H: Halt, W: Watch>(
     rt: &R,
     shared: &Shared,
     halt: &H,
     worker: &mut Worker,
-    engine: &mut Engine<'_>,
+    engine: &mut Engine<'_, P>,
     leaf: &mut Leaf,
     watch: &mut W,
 ) -> Result<Way, Stop>
@@ -198,12 +204,12 @@ fn search_path<R: Wait, H: Halt, W: Watch>(
 }
 
 // Begins a path, if answers are wanted still, and searches it.
-fn try_path<R: Wait, H: Halt, W: Watch>(
+fn try_path<R: Wait, P: Propagator, H: Halt, W: Watch>(
     rt: &R,
     shared: &Shared,
     halt: &H,
     worker: &mut Worker,
-    engine: &mut Engine<'_>,
+    engine: &mut Engine<'_, P>,
     leaf: &mut Leaf,
     watch: &mut W,
 ) -> Result<Way, Stop>
@@ -228,12 +234,12 @@ fn try_path<R: Wait, H: Halt, W: Watch>(
 }
 
 /// Searches a path that the worker holds. Where it isn't closed then, the worker holds the path in `leaf`.
-pub(crate) fn path<R: Wait, H: Halt, W: Watch>(
+pub(crate) fn path<R: Wait, P: Propagator, H: Halt, W: Watch>(
     rt: &R,
     shared: &Shared,
     halt: &H,
     worker: &mut Worker,
-    engine: &mut Engine<'_>,
+    engine: &mut Engine<'_, P>,
     leaf: &mut Leaf,
     watch: &mut W,
 ) -> Way

@@ -50,11 +50,11 @@ fn enter<R: Wait, P: Propagator>(
 }
 
 /// Begins the search of a path that the worker holds, with what others have found.
-pub(crate) fn begin<R: Wait>(
+pub(crate) fn begin<R: Wait, P: Propagator>(
     rt: &R,
     shared: &Shared,
     worker: &mut Worker,
-    engine: &mut Engine<'_>,
+    engine: &mut Engine<'_, P>,
     leaf: Leaf,
 ) -> Result<(), AllocError>
     requires ready { IsReady shared.now worker.old }
@@ -123,11 +123,11 @@ fn divide<R: Wait>(
 // Splits the path on a literal, puts the half that hasn't it where it belongs, and goes on with the other.
 //
 // The path that the worker then has is in `leaf`, also after want of memory.
-fn split_on<R: Wait>(
+fn split_on<R: Wait, P: Propagator>(
     rt: &R,
     shared: &Shared,
     worker: &mut Worker,
-    engine: &mut Engine<'_>,
+    engine: &mut Engine<'_, P>,
     leaf: &mut Leaf,
     lit: Lit,
     other: Other,
@@ -155,11 +155,11 @@ fn split_on<R: Wait>(
 // that were found on it, so that the other half has none of them.
 //
 // The path that the worker then has is in `leaf`, also after want of memory.
-fn offer_half<R: Wait>(
+fn offer_half<R: Wait, P: Propagator>(
     rt: &R,
     shared: &Shared,
     worker: &mut Worker,
-    engine: &mut Engine<'_>,
+    engine: &mut Engine<'_, P>,
     leaf: &mut Leaf,
 ) -> Result<(), AllocError>
     requires ready { IsReady shared.now worker.old }
@@ -187,11 +187,11 @@ fn offer_half<R: Wait>(
 // searched is closed with the next step, and then this worker takes the other.
 //
 // The path that the worker then has is in `leaf`, also after want of memory.
-fn shed<R: Wait>(
+fn shed<R: Wait, P: Propagator>(
     rt: &R,
     shared: &Shared,
     worker: &mut Worker,
-    engine: &mut Engine<'_>,
+    engine: &mut Engine<'_, P>,
     leaf: &mut Leaf,
 ) -> Result<(), AllocError>
     requires ready { IsReady shared.now worker.old }
@@ -226,11 +226,11 @@ pub(crate) fn is_enough<R: Wait>(rt: &R, shared: &Shared, worker: &mut Worker) -
 // Where it is time, stops if as many answers as asked for were delivered, and else gives half of the path away if others want one.
 //
 // The path that the worker then has is in `leaf`, also after an error.
-fn offer<R: Wait>(
+fn offer<R: Wait, P: Propagator>(
     rt: &R,
     shared: &Shared,
     worker: &mut Worker,
-    engine: &mut Engine<'_>,
+    engine: &mut Engine<'_, P>,
     leaf: &mut Leaf,
 ) -> Result<(), Stop>
     requires ready { IsReady shared.now worker.old }
@@ -257,11 +257,11 @@ fn offer<R: Wait>(
 /// the path away if others want one.
 ///
 /// The path that the worker then has is in `leaf`, also after an error.
-pub(crate) fn share<R: Wait>(
+pub(crate) fn share<R: Wait, P: Propagator>(
     rt: &R,
     shared: &Shared,
     worker: &mut Worker,
-    engine: &mut Engine<'_>,
+    engine: &mut Engine<'_, P>,
     leaf: &mut Leaf,
 ) -> Result<(), Stop>
     requires ready { IsReady shared.now worker.old }

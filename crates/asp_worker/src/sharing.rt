@@ -154,11 +154,11 @@ fn take_best<R: Wait, P: Propagator>(
 }
 
 /// Takes over what others have found. After want of memory it may be that no path is entered.
-pub(crate) fn refresh<R: Wait>(
+pub(crate) fn refresh<R: Wait, P: Propagator>(
     rt: &R,
     shared: &Shared,
     worker: &mut Worker,
-    engine: &mut Engine<'_>,
+    engine: &mut Engine<'_, P>,
 ) -> Result<(), AllocError>
     requires ready { IsReady shared.now worker.old }
     requires going { GoesOn shared.now.mode (view worker.old.seat) engine.old.search engine.old.fuel }
@@ -213,11 +213,11 @@ pub(crate) fn row_of<P: Propagator>(
 }
 
 // Delivers an answer that an enumeration has found, unless as many as asked for were delivered before.
-fn list<R: Wait>(
+fn list<R: Wait, P: Propagator>(
     rt: &R,
     shared: &Shared,
     seat: &mut Seat<Book>,
-    engine: &mut Engine<'_>,
+    engine: &mut Engine<'_, P>,
     set: Interp,
 ) -> Result<(), Stop>
     requires of { IsOf shared.now.book seat.old }
@@ -236,11 +236,11 @@ fn list<R: Wait>(
 }
 
 // Tells of an answer that the search has found where consequences are sought, unless as many as asked for were delivered before.
-fn deliver<R: Wait>(
+fn deliver<R: Wait, P: Propagator>(
     rt: &R,
     shared: &Shared,
     seat: &mut Seat<Book>,
-    engine: &mut Engine<'_>,
+    engine: &mut Engine<'_, P>,
     set: Interp,
 ) -> Result<(), Stop>
     requires of { IsOf shared.now.book seat.old }
@@ -258,11 +258,11 @@ fn deliver<R: Wait>(
 }
 
 // Makes an answer that the search has found the best one, or takes over the cost of one that is no dearer.
-fn improve<R: Wait>(
+fn improve<R: Wait, P: Propagator>(
     rt: &R,
     shared: &Shared,
     seat: &mut Seat<Book>,
-    engine: &mut Engine<'_>,
+    engine: &mut Engine<'_, P>,
     set: Interp,
 ) -> Result<(), AllocError>
     requires of { IsOf shared.now.book seat.old }
@@ -281,11 +281,11 @@ fn improve<R: Wait>(
 }
 
 /// Records an answer that the search has found, unless there are as many as asked for.
-pub(crate) fn record<R: Wait>(
+pub(crate) fn record<R: Wait, P: Propagator>(
     rt: &R,
     shared: &Shared,
     seat: &mut Seat<Book>,
-    engine: &mut Engine<'_>,
+    engine: &mut Engine<'_, P>,
     set: Interp,
 ) -> Result<(), Stop>
     requires of { IsOf shared.now.book seat.old }
@@ -308,11 +308,11 @@ pub(crate) fn record<R: Wait>(
 }
 
 /// Leases units. False where none was left.
-pub(crate) fn lease<R: Wait>(
+pub(crate) fn lease<R: Wait, P: Propagator>(
     rt: &R,
     shared: &Shared,
     seat: &mut Seat<Book>,
-    engine: &mut Engine<'_>,
+    engine: &mut Engine<'_, P>,
 ) -> Result<bool, AllocError>
     requires of { IsOf shared.now.book seat.old }
     requires settled { IsSettled (view seat.old) }

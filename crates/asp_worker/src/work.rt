@@ -15,6 +15,7 @@ use asp_book::desk;
 use asp_counts::counts::Counts;
 use asp_counts::watch::Watch;
 use asp_path::tree::Leaf;
+use asp_propagate::propagator::Propagator;
 use asp_recorder::recorder::Recorder;
 use asp_vars::compiled::Compiled;
 use asp_vars::fuel::Fuel;
@@ -22,12 +23,12 @@ use std::alloc::AllocError;
 use std::sync::Wait;
 
 // Searches a path, and opens it again where it isn't closed.
-fn try_path<R: Wait, H: Halt, W: Watch>(
+fn try_path<R: Wait, P: Propagator, H: Halt, W: Watch>(
     rt: &R,
     shared: &Shared,
     halt: &H,
     worker: &mut Worker,
-    engine: &mut Engine<'_>,
+    engine: &mut Engine<'_, P>,
     leaf: Leaf,
     watch: &mut W,
 ) -> Way
@@ -61,13 +62,13 @@ fn try_path<R: Wait, H: Halt, W: Watch>(
 }
 
 // Takes paths and searches them. Says whether it ended for want of memory.
-fn search_paths<R: Wait, G: Gate, H: Halt, W: Watch>(
+fn search_paths<R: Wait, P: Propagator, G: Gate, H: Halt, W: Watch>(
     rt: &R,
     shared: &Shared,
     gate: &G,
     halt: &H,
     worker: &mut Worker,
-    engine: &mut Engine<'_>,
+    engine: &mut Engine<'_, P>,
     watch: &mut W,
 ) -> bool
     requires ready { IsReady shared.now worker.old }
