@@ -109,8 +109,15 @@ fn check_read(alloc: Global, program: Program, proof: &[u8]) -> Result<Judgement
     ensures { ProofSays program proof.now result }
 {
     match parse(alloc, proof) {
-        Ok(read) => judge_read(alloc, program, &read),
-        Err(error) => Err(proof_error(error)),
+        Ok(read) => {
+            let judged = judge_read(alloc, program, &read);
+            mem::drop(read);
+            judged
+        }
+        Err(error) => {
+            mem::drop(program);
+            Err(proof_error(error))
+        }
     }
 }
 

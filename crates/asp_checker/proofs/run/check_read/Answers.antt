@@ -6,7 +6,7 @@ use Rattle.asp_checker.proofs.RunLaws.{proof_checked, proof_refused}
 use Rattle.asp_checker.proofs.run.check_read.Goals as goal
 
 pub returns-in-Ok : goal.returns-in-Ok
-returns-in-Ok c = proof_checked c.args.program c.args.proof.now c.in-Ok.read c.judge_read.result c.in-Ok.ensures.right c.judge_read.ensures
+returns-in-Ok c = proof_checked c.args.program c.args.proof.now c.in-Ok.read c.judge_read-judged.result c.in-Ok.ensures.right c.judge_read-judged.ensures
 
 pub returns-in-Err : goal.returns-in-Err
 returns-in-Err c =
