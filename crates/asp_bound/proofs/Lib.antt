@@ -13,3 +13,4 @@ pub mod NeededLaws
 pub mod NogoodLaws
 pub mod SilentLaws
 pub mod ShownLaws
+pub mod LateLaws

@@ -28,7 +28,8 @@ use Rattle.asp_bound.specs.Definition.{ExcludesBelow}
 use Rattle.asp_bound.specs.Rises.{rise_at, rise_by, raised, row_at, nth_priority}
 use Rattle.asp_bound.specs.Needed.{total, needed, MayFall}
 use Rattle.asp_bound.specs.Reasons.{raises, raising_by, raising_at}
-use Rattle.asp_bound.specs.Raisers.{is_raising, is_raising_by, is_raiser, AreRaisers}
+use Rattle.asp_bound.specs.Late.{HaveRaisers}
+use Rattle.asp_bound.specs.Raisers.{is_raising, is_raising_by, is_raiser}
 use Rattle.asp_bound.specs.Reach.{reach, lifted}
 use Rattle.asp_bound.specs.Kept.{IsKept}
 use Rattle.asp_bound.specs.Found.{Reaches}
@@ -48,7 +49,7 @@ excludes_below p c n h = record {
 }
 
 -- ---- the literals that raise the cost
-raised-raises : (row : List Place) (j d : ℕ) (b : Bool) → j < d → 0 < raised row j b → raises row d b ≡ true
+pub raised-raises : (row : List Place) (j d : ℕ) (b : Bool) → j < d → 0 < raised row j b → raises row d b ≡ true
 raised-raises [] j d b lt up = absurd (omega arith)
 raised-raises (o ∷ row) j d b lt up =
     let split : raised (o ∷ row) j b ≡ cond (eqb o.level j) (rise_by b o) 0 + raised row j b = sum_by-cons (λ (x : Place). cond (eqb x.level j) (rise_by b x) 0) o row in
@@ -63,7 +64,7 @@ raised-raises (o ∷ row) j d b lt up =
     first true e h = and_both (ltb o.level d) (ltb 0 (rise_by b o)) (lt-ltb o.level d (omega (arith, eqb-true o.level j e))) (lt-ltb 0 (rise_by b o) h)
     first false e h = absurd (omega arith)
 
-raises-raising : (row : List Place) (d : ℕ) (b : Bool) → raises row d b ≡ true → is_raising row b ≡ true
+pub raises-raising : (row : List Place) (d : ℕ) (b : Bool) → raises row d b ≡ true → is_raising row b ≡ true
 raises-raising [] d b h = absurd (false≢true h)
 raises-raising (o ∷ row) d b h = by_tests (ltb o.level d) (ltb 0 (rise_by b o)) h (λ g. raises-raising row d b g)
   where
@@ -97,7 +98,7 @@ raising-has a rows d vs v b among e up =
     list_any-flat_map (λ k. literal_eq k l) (raising_at a rows d) vs ∙ among-any vs v (λ x. has_literal (raising_at a rows d x) l) among (raising_by-has (row_at rows v) d v b (value_of a v) e up)
 
 -- all that raise the first priorities are among them
-pub raising-whole : (p : Program) (a : List (Option Bool)) (rows : List (List Place)) (columns : List (List Item)) (vars : List ℕ) (sums : List ℤ) (vs : List ℕ) (d : ℕ) → IsKept p a rows columns vars sums → AreRaisers a rows vs →
+pub raising-whole : (p : Program) (a : List (Option Bool)) (rows : List (List Place)) (columns : List (List Item)) (vars : List ℕ) (sums : List ℤ) (vs : List ℕ) (d : ℕ) → IsKept p a rows columns vars sums → HaveRaisers a rows vs →
     (j v : ℕ) (b : Bool) → j < d → j < length (priorities p.minimize) → 0 < v → v ≤ var_count p → value_of a v ≡ Some b → 0 < rise_at p (nth_priority p j) v b → has_literal (raising_of a rows d vs) (record { var = v; truth = b }) ≡ true
 raising-whole p a rows columns vars sums vs d kept are j v b lt low i k e up =
     let raise : 0 < raised (row_at rows v) j b = omega (arith, kept.rowed.sums j v b low i k) in
@@ -178,7 +179,7 @@ raising-times a rows d (u ∷ vs) v =
     let counted : count_by (λ x. eqb x v) (u ∷ vs) ≡ cond (eqb u v) 1 0 + count_by (λ x. eqb x v) vs = sum_by-cons (λ (x : ℕ). cond (eqb x v) 1 0) u vs in
     omega (arith, split, first, counted, raising-times a rows d vs v)
 
-pub found-held : (p : Program) (a : List (Option Bool)) (rows : List (List Place)) (columns : List (List Item)) (vars : List ℕ) (sums : List ℤ) (vs : List ℕ) (d : ℕ) (found : List Literal) → IsKept p a rows columns vars sums → AreRaisers a rows vs →
+pub found-held : (p : Program) (a : List (Option Bool)) (rows : List (List Place)) (columns : List (List Item)) (vars : List ℕ) (sums : List ℤ) (vs : List ℕ) (d : ℕ) (found : List Literal) → IsKept p a rows columns vars sums → HaveRaisers a rows vs →
     IsPermutation (raising_of a rows d vs) found → AreHeld p a found
 found-held p a rows columns vars sums vs d found kept are moved =
     let lits : List Literal = raising_of a rows d vs in
@@ -189,7 +190,7 @@ found-held p a rows columns vars sums vs d found kept are moved =
       once = λ v. omega (arith, raising-times a rows d vs v, are.once v);
     })
 
-found-whole : (p : Program) (a : List (Option Bool)) (rows : List (List Place)) (columns : List (List Item)) (vars : List ℕ) (sums : List ℤ) (vs : List ℕ) (d : ℕ) (found : List Literal) → IsKept p a rows columns vars sums → AreRaisers a rows vs →
+found-whole : (p : Program) (a : List (Option Bool)) (rows : List (List Place)) (columns : List (List Item)) (vars : List ℕ) (sums : List ℤ) (vs : List ℕ) (d : ℕ) (found : List Literal) → IsKept p a rows columns vars sums → HaveRaisers a rows vs →
     IsPermutation (raising_of a rows d vs) found → OfRaising p a d (λ v b. has_literal found (record { var = v; truth = b }) ≡ true)
 found-whole p a rows columns vars sums vs d found kept are moved = λ j v b lt low i k e up.
     sym (list_any-IsPermutation (λ (l : Literal). literal_eq l (record { var = v; truth = b })) (raising_of a rows d vs) found moved) ∙ raising-whole p a rows columns vars sums vs d kept are j v b lt low i k e up
@@ -199,7 +200,7 @@ abbrev nogood_of : List ℤ → List Literal → Nogood
 nogood_of c n = record { lits = n; base = base.Below c }
 
 pub given-now : (p : Program) (a : List (Option Bool)) (rows : List (List Place)) (columns : List (List Item)) (vars : List ℕ) (sums : List ℤ) → IsKept p a rows columns vars sums →
-    (vs : List ℕ) → AreRaisers a rows vs → (c : List ℤ) (d : ℕ) (n : Nogood) (found : List Literal) → IsPermutation (raising_of a rows d vs) found → reach sums c ≡ Some d → n ≡ record { lits = needed rows c d sums found ++ []; base = base.Below c } → IsGivenBy (record { program = p; values = a }) c n
+    (vs : List ℕ) → HaveRaisers a rows vs → (c : List ℤ) (d : ℕ) (n : Nogood) (found : List Literal) → IsPermutation (raising_of a rows d vs) found → reach sums c ≡ Some d → n ≡ record { lits = needed rows c d sums found ++ []; base = base.Below c } → IsGivenBy (record { program = p; values = a }) c n
 given-now p a rows columns vars sums kept vs are c d n found moved r e =
     let lits : List Literal = needed rows c d sums found in
     let plain : lits ++ [] ≡ lits = append-nil lits in
@@ -246,7 +247,7 @@ covers-told p a d n u t x inside hit whole = λ j v b lt low i k e up. elim (cas
 ]
 
 pub given-with : (p : Program) (a : List (Option Bool)) (rows : List (List Place)) (columns : List (List Item)) (vars : List ℕ) (sums : List ℤ) → IsKept p a rows columns vars sums →
-    (vs : List ℕ) → AreRaisers a rows vs → (c : List ℤ) (x : Implied) (n : Nogood) (found : List Literal) (left : List ℤ) → IsPermutation (raising_of a rows x.depth vs) found → IsKept p (set a x.lit.var (Some x.lit.truth)) rows columns vars left → Reaches a rows sums c x → 0 < x.lit.var → x.lit.var ≤ var_count p →
+    (vs : List ℕ) → HaveRaisers a rows vs → (c : List ℤ) (x : Implied) (n : Nogood) (found : List Literal) (left : List ℤ) → IsPermutation (raising_of a rows x.depth vs) found → IsKept p (set a x.lit.var (Some x.lit.truth)) rows columns vars left → Reaches a rows sums c x → 0 < x.lit.var → x.lit.var ≤ var_count p →
     n ≡ record { lits = needed rows c x.depth left found ++ x.lit ∷ []; base = base.Below c } → IsGivenBy (record { program = p; values = a }) c n
 given-with p a rows columns vars sums kept vs are c x n found left moved more r i k e =
     let d = x.depth in
@@ -274,7 +275,7 @@ given-with p a rows columns vars sums kept vs are c x n found left moved more r 
 
 -- ---- the same, by what the calls say
 pub given_now_as : (p : Program) (a : List (Option Bool)) (rows : List (List Place)) (columns : List (List Item)) (vars : List ℕ) (sums : List ℤ) → IsKept p a rows columns vars sums →
-    (vs : List ℕ) → AreRaisers a rows vs → (c s limits : List ℤ) (d : ℕ) (n : Nogood) (lits found : List Literal) (left : List ℤ) → s ≡ sums → limits ≡ c → Some d ≡ reach (lifted (λ j. 0) s) limits → IsPermutation (raising_of a rows d vs) found → left ≡ s →
+    (vs : List ℕ) → HaveRaisers a rows vs → (c s limits : List ℤ) (d : ℕ) (n : Nogood) (lits found : List Literal) (left : List ℤ) → s ≡ sums → limits ≡ c → Some d ≡ reach (lifted (λ j. 0) s) limits → IsPermutation (raising_of a rows d vs) found → left ≡ s →
     lits ≡ needed rows limits d left found → n ≡ record { lits = lits ++ []; base = base.Below c } → IsGivenBy (record { program = p; values = a }) c n
 given_now_as p a rows columns vars sums kept vs are c s limits d n lits found left es el r moved same elits e =
     let is : lits ≡ needed rows c d sums found = elits ∙ (ap (λ (k : List ℤ). needed rows k d left found) el ∙ ap (λ (z : List ℤ). needed rows c d z found) (same ∙ es)) in
@@ -290,7 +291,7 @@ kept_raised p a rows columns vars sums kept v b row s left i k none er es long e
     omega (arith, ints, each j inside, ap (λ (z : List ℤ). get_or z j (pos 0)) es, ap (λ (r : List Place). raised r j b) er))
 
 pub given_with_as : (p : Program) (a : List (Option Bool)) (rows : List (List Place)) (columns : List (List Item)) (vars : List ℕ) (sums : List ℤ) → IsKept p a rows columns vars sums →
-    (vs : List ℕ) → AreRaisers a rows vs → (c s limits : List ℤ) (x : Implied) (n : Nogood) (lits found : List Literal) (left : List ℤ) → s ≡ sums → limits ≡ c → Reaches a rows s limits x → (0 < x.lit.var) × (x.lit.var < length a) → IsPermutation (raising_of a rows x.depth vs) found →
+    (vs : List ℕ) → HaveRaisers a rows vs → (c s limits : List ℤ) (x : Implied) (n : Nogood) (lits found : List Literal) (left : List ℤ) → s ≡ sums → limits ≡ c → Reaches a rows s limits x → (0 < x.lit.var) × (x.lit.var < length a) → IsPermutation (raising_of a rows x.depth vs) found →
     IsKept p (set a x.lit.var (Some x.lit.truth)) rows columns vars left → lits ≡ needed rows limits x.depth left found → n ≡ record { lits = lits ++ x.lit ∷ []; base = base.Below c } → IsGivenBy (record { program = p; values = a }) c n
 given_with_as p a rows columns vars sums kept vs are c s limits x n lits found left es el r within moved more elits e =
     let reaches : Reaches a rows sums c x = subst (λ (l : List ℤ). Reaches a rows sums l x) el (subst (λ (z : List ℤ). Reaches a rows z limits x) es r) in

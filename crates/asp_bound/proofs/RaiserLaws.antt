@@ -44,7 +44,7 @@ without-none v (x ∷ vs) e =
     let both = or_cases (eqb x v) (list_any (is v) vs) e in
     ap (λ (b : Bool). cond (not b) (x ∷ without v vs) (without v vs)) both.0 ∙ ap (λ (ys : List ℕ). x ∷ ys) (without-none v vs both.1)
 
-counts-none : (v : ℕ) (vs : List ℕ) → count_by (is v) vs ≡ 0 → list_any (is v) vs ≡ false
+pub counts-none : (v : ℕ) (vs : List ℕ) → count_by (is v) vs ≡ 0 → list_any (is v) vs ≡ false
 counts-none v [] e = refl
 counts-none v (x ∷ vs) e = cases (λ h. counts-none v vs h) (eqb x v) refl
   where

@@ -13,4 +13,6 @@ pub mod Bounded
 pub mod Starts
 pub mod Kept
 pub mod Raisers
+pub mod Explained
+pub mod Late
 pub mod Lists

@@ -1,7 +1,9 @@
 -- The literals that raise the optimistic cost.
-use Rattle.std.specs.Prelude.{ℕ, nat_lt, Bool, ◌&&◌, if◌then◌else◌, List, [], ◌∷◌, Option, Some, None}
+use Rattle.std.specs.Prelude.{ℕ, nat_lt, Bool, ◌&&◌, if◌then◌else◌, List, [], ◌∷◌, take, Option, Some, None}
 use Rattle.std.specs.List.{list_any}
 use Rattle.asp_vars.specs.Literals.{Literal, value_of}
+use Rattle.asp_trail.specs.Entries.{assignment}
+use Rattle.asp_trail.specs.Trails.{Trailed}
 use Rattle.asp_bound.specs.declared.place.Place.{Place}
 use Rattle.asp_bound.specs.Rises.{rise_by, row_at}
 
@@ -16,3 +18,7 @@ raising_by row depth v (Some b) = if raises row depth b then record { var = v; t
 
 abbrev pub raising_at : List (Option Bool) → List (List Place) → ℕ → ℕ → List Literal
 raising_at a rows depth v = raising_by (row_at rows v) depth v (value_of a v)
+
+-- the values before the entry at a place came
+abbrev pub before : Trailed → ℕ → List (Option Bool)
+before t place = assignment t.vars (take place t.entries)

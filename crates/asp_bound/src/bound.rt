@@ -3,19 +3,23 @@
 //! It keeps the optimistic cost of the values that it was told: at each priority the weights of the true literals, and of
 //! those without a value the negative ones. A value only raises it, by what stands in the variable's row. Where the
 //! optimistic cost isn't smaller than the bound, enough of the true literals that raised it make a nogood; where it wouldn't be with
-//! one more literal, they make one together with that literal. At each priority the variables stand in the order of what
+//! one more literal, that literal's complement follows, and they make its reason with it when that is asked for. At each priority the variables stand in the order of what
 //! they can add, so only those that may reach the bound are looked at, from a start on: those before it have values.
-ghost use Rattle.std.specs.Prelude.{◌≡◌, ◌<◌, ◌≤◌, IfOk, IfSome, Some, None, true, length, is_none};
+ghost use Rattle.std.specs.Prelude.{◌≡◌, ◌+◌, ◌^◌, ◌<◌, ◌≤◌, IfOk, IfSome, Some, None, true, length, take, slice_index_or, is_none};
 ghost use Rattle.asp_trail.specs.Entries.{assignment};
 ghost use Rattle.asp_trail.specs.Told.{told, untold};
 ghost use Rattle.asp_trail.specs.Trails.{IsVar};
+ghost use Rattle.asp_trail.specs.Reasons.{IsReason};
+ghost use Rattle.asp_trail.specs.declared.trail.Entry.{Entry};
 ghost use Rattle.asp_vars.specs.Literals.{value_of, holds_in};
 ghost use Rattle.asp_vars.specs.Numbering.{var_count};
 ghost use Rattle.asp_bound.specs.Silence.{is_silent};
-ghost use Rattle.asp_bound.specs.Bounded.{IsSmaller, IsGiven};
+ghost use Rattle.asp_bound.specs.Bounded.{IsSmaller};
+ghost use Rattle.asp_bound.specs.Explained.{IsExplained, IsTooDear, IsSaid, AreTold};
 ghost use Rattle.asp_bound.specs.Gathered.{valueless};
 
-use crate::given::given;
+use crate::given::{following, given};
+use crate::late::explained;
 use crate::levels::{Tables, all_tables};
 use crate::lists::{Lists, lists_of};
 use crate::place::{Item, Place};
@@ -25,6 +29,7 @@ use crate::sums::{lower, raise};
 use asp_model::cost::Cost;
 use asp_model::program::Program;
 use asp_table::table::Table;
+use asp_trail::said::{Implied, Said};
 use asp_trail::told::ToldValues;
 use asp_trail::trail::Trail;
 use asp_vars::compiled::Compiled;
@@ -51,6 +56,8 @@ pub struct Bound {
     vars: Vec<Var>,
     /// By priority, the optimistic cost under the values told.
     sums: Vec<i64>,
+    /// By priority, the optimistic cost where no variable has a value.
+    least: Vec<i64>,
     /// The variables whose values raise the cost, the newest last. There is room for all that have places.
     raisers: Raisers,
     /// By priority, how many of the column's first variables have values at least.
@@ -61,6 +68,7 @@ pub struct Bound {
 
 impl Model for Bound {
     ghost use Rattle.asp_bound.specs.Bounded.{Bounded};
+    ghost use Rattle.asp_bound.specs.Gathered.{valueless};
     ghost use Rattle.asp_bound.specs.Kept.{IsKept};
     ghost use Rattle.asp_bound.specs.Starts.{AreStarts};
     ghost use Rattle.asp_bound.specs.Raisers.{AreRaisers};
@@ -70,7 +78,7 @@ impl Model for Bound {
 
     ghost view = { λ b. record { told = record { program = b.origin.value; values = b.values }; bound = b.bound } };
 
-    ghost invariant = { λ b. IsKept b.origin.value b.values b.rows b.columns b.vars.items b.sums.items × AreStarts b.values b.columns b.starts.items × AreRaisers b.values b.rows b.raisers.vars × (length b.vars.items ≤ b.raisers.room) };
+    ghost invariant = { λ b. IsKept b.origin.value b.values b.rows b.columns b.vars.items b.sums.items × AreStarts b.values b.columns b.starts.items × AreRaisers b.values b.rows b.raisers.vars × (length b.vars.items ≤ b.raisers.room) × IsKept b.origin.value (valueless b.origin.value) b.rows b.columns b.vars.items b.least.items };
 }
 
 impl Bound {
@@ -91,6 +99,7 @@ impl Bound {
             starts,
             raisers,
         } = lists;
+        let least = sums.as_slice().to_vec(alloc)?;
         Ok(Bound {
             origin: Origin::of(compiled.program()),
             alloc,
@@ -99,6 +108,7 @@ impl Bound {
             columns,
             vars,
             sums,
+            least,
             raisers,
             starts,
             bound: None,
@@ -147,13 +157,14 @@ impl Bound {
         self.bound = Some(cost);
     }
 
-    /// A nogood by the bound that stands, which is unit or violated. None exactly where no bound stands, or the optimistic
-    /// cost is smaller and stays so with any one more variable.
-    pub fn next(&mut self, trail: &Trail) -> Result<Option<Nogood>, AllocError>
-        requires { self.old.told.values ≡ assignment trail.now.vars trail.now.entries }
+    /// A nogood by the bound that stands, which is unit or violated, or a literal that follows by it. None exactly where no
+    /// bound stands, or the optimistic cost is smaller and stays so with any one more variable.
+    pub fn next(&mut self, trail: &Trail) -> Result<Option<Said>, AllocError>
+        requires vars { trail.now.vars ≡ var_count self.old.told.program }
+        requires values { self.old.told.values ≡ assignment trail.now.vars trail.now.entries }
         ensures same { self.new ≡ self.old }
         ensures silent { IfOk result (λ n. is_none n ≡ is_silent self.old.told.program self.old.bound self.old.told.values) }
-        ensures given { IfOk result (λ n. IfSome n (IsGiven self.old)) }
+        ensures said { IfOk result (λ n. IfSome n (IsSaid self.old trail.now.entries)) }
     {
         let values = trail.assignment();
         let Some(cost) = &self.bound else {
@@ -166,6 +177,7 @@ impl Bound {
         given(
             self.alloc,
             &self.origin,
+            trail,
             values,
             &self.rows,
             &self.columns,
@@ -174,6 +186,64 @@ impl Bound {
             sums,
             cost,
             starts,
+        )
+    }
+
+    /// One more literal that follows by the bound. None says nothing.
+    pub fn more(&mut self, trail: &Trail) -> Option<Implied>
+        requires vars { trail.now.vars ≡ var_count self.old.told.program }
+        requires values { self.old.told.values ≡ assignment trail.now.vars trail.now.entries }
+        ensures same { self.new ≡ self.old }
+        ensures follows { IfSome result (λ i. IsExplained self.old.told.program self.old.bound trail.now.entries i.lit × (i.name + 1 ≡ 2 ^ 31)) }
+    {
+        let values = trail.assignment();
+        let Some(cost) = &self.bound else {
+            return None;
+        };
+        let vars = self.vars.as_slice();
+        let sums = self.sums.as_slice();
+        let starts = self.starts.as_mut_slice();
+        following(
+            &self.origin,
+            trail,
+            values,
+            &self.rows,
+            &self.columns,
+            vars,
+            sums,
+            cost,
+            starts,
+        )
+    }
+
+    /// The nogood by which the literal at a place followed.
+    ///
+    /// Want of memory is the one error.
+    pub fn explain(&self, trail: &Trail, place: usize) -> Result<Nogood, AllocError>
+        requires vars { trail.now.vars ≡ var_count self.now.told.program }
+        requires place { place < length trail.now.entries }
+        requires told { AreTold self.now.told.values place trail.now.entries }
+        requires explained { (d : Entry) → IsExplained self.now.told.program self.now.bound (take place trail.now.entries) (slice_index_or trail.now.entries place d).lit }
+        ensures dear { IfOk result (IsTooDear self.now.told.program self.now.bound) }
+        ensures reason { IfOk result (λ n. (d : Entry) → IsReason trail.now.entries place (slice_index_or trail.now.entries place d).lit n.lits) }
+    {
+        let vars = self.vars.as_slice();
+        let raisers = self.raisers.as_slice();
+        let least = self.least.as_slice();
+        let Some(cost) = &self.bound else {
+            unreachable!()
+        };
+        explained(
+            self.alloc,
+            &self.origin,
+            trail,
+            place,
+            &self.rows,
+            &self.columns,
+            vars,
+            raisers,
+            least,
+            cost,
         )
     }
 }

@@ -1,9 +1,11 @@
 //! The bound of a search for an optimum: which values can't lead to a smaller cost.
 #![tactic(auto)]
 
+mod before;
 pub mod bound;
 mod find;
-mod given;
+pub mod given;
+mod late;
 pub mod laws;
 mod levels;
 mod lists;

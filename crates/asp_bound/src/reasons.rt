@@ -1,16 +1,17 @@
 //! Nogoods that the bound gives.
-ghost use Rattle.std.specs.Prelude.{◌≡◌, ◌<◌, ◌≤◌, ◌^◌, ◌++◌, IfOk, OnOk, length};
+ghost use Rattle.std.specs.Prelude.{◌≡◌, ◌+◌, ◌<◌, ◌≤◌, ◌^◌, ◌++◌, IfOk, OnOk, length};
 ghost use Rattle.std.specs.List.{All, flat_map};
 ghost use Rattle.std.specs.List.Sorted.{IsPermutation};
 ghost use Rattle.std.specs.Option.{option_to_list};
 ghost use Rattle.asp_vars.specs.declared.nogood.Base.TheVariants as base;
-ghost use Rattle.asp_bound.specs.Reasons.{raises, raising_at};
+ghost use Rattle.asp_bound.specs.Reasons.{before, raises, raising_at};
 
+use crate::before::value_before;
 use crate::place::Place;
 use crate::sums::rise_by;
 use asp_model::cost::Cost;
 use asp_table::table::Table;
-use asp_vars::assign::Assign;
+use asp_trail::trail::Trail;
 use asp_vars::lit::{Lit, Var};
 use asp_vars::nogood::{Base, Lits, Nogood};
 use std::alloc::{AllocError, Global};
@@ -27,20 +28,21 @@ fn raises(row: &[Place], depth: usize, truth: bool) -> bool
     false
 }
 
-// Adds the literal of the variable's value, if it adds something.
+// Adds the literal of the variable's value before a place, if it adds something.
 fn add_raising(
     lits: &mut Vec<Lit>,
-    values: &Assign,
+    trail: &Trail,
+    place: usize,
     rows: &Table<Place>,
     depth: usize,
     var: Var,
 ) -> Result<(), AllocError>
     requires few { var < 2 ^ 31 }
-    requires var { var < length values.now }
+    requires var { var ≤ trail.now.vars }
     requires row { var < length rows.now }
-    ensures { OnOk result (lits.new.items ≡ lits.old.items ++ raising_at values.now rows.now depth var) }
+    ensures { OnOk result (lits.new.items ≡ lits.old.items ++ raising_at (before trail.now place) rows.now depth var) }
 {
-    if let Some(truth) = values.value(var) {
+    if let Some(truth) = value_before(trail, place, var) {
         if raises(rows.row(var as usize), depth, truth) {
             lits.push(Lit::new(var, truth))?;
         }
@@ -48,40 +50,43 @@ fn add_raising(
     Ok(())
 }
 
-// The true literals that raise the cost at one of the first priorities.
+// The literals of values before a place that raise the cost at one of the first priorities.
 fn all_raising(
     alloc: Global,
-    values: &Assign,
+    trail: &Trail,
+    place: usize,
     rows: &Table<Place>,
     vars: &[Var],
     depth: usize,
 ) -> Result<Vec<Lit>, AllocError>
-    requires few { length values.now ≤ 2 ^ 31 }
-    requires rows { length rows.now ≡ length values.now }
-    requires within { All (λ v. v < length values.now) vars.now }
-    ensures { IfOk result (λ lits. lits.items ≡ flat_map (raising_at values.now rows.now depth) vars.now) }
+    requires few { trail.now.vars < 2 ^ 31 }
+    requires rows { length rows.now ≡ trail.now.vars + 1 }
+    requires within { All (λ v. v ≤ trail.now.vars) vars.now }
+    ensures { IfOk result (λ lits. lits.items ≡ flat_map (raising_at (before trail.now place) rows.now depth) vars.now) }
 {
     let mut lits = Vec::with_capacity(alloc, vars.len())?;
     for var in vars {
-        add_raising(&mut lits, values, rows, depth, *var)?;
+        add_raising(&mut lits, trail, place, rows, depth, *var)?;
     }
     Ok(lits)
 }
 
-/// The true literals of these variables that raise the cost at one of the first priorities, those of the last ones first.
+/// The literals of these variables that held before a place and raise the cost at one of the first priorities, those of the
+/// last variables first.
 pub fn raising(
     alloc: Global,
-    values: &Assign,
+    trail: &Trail,
+    place: usize,
     rows: &Table<Place>,
     vars: &[Var],
     depth: usize,
 ) -> Result<Vec<Lit>, AllocError>
-    requires few { length values.now ≤ 2 ^ 31 }
-    requires rows { length rows.now ≡ length values.now }
-    requires within { All (λ v. v < length values.now) vars.now }
-    ensures { IfOk result (λ lits. IsPermutation (flat_map (raising_at values.now rows.now depth) vars.now) lits.items) }
+    requires few { trail.now.vars < 2 ^ 31 }
+    requires rows { length rows.now ≡ trail.now.vars + 1 }
+    requires within { All (λ v. v ≤ trail.now.vars) vars.now }
+    ensures { IfOk result (λ lits. IsPermutation (flat_map (raising_at (before trail.now place) rows.now depth) vars.now) lits.items) }
 {
-    let mut lits = all_raising(alloc, values, rows, vars, depth)?;
+    let mut lits = all_raising(alloc, trail, place, rows, vars, depth)?;
     lits.as_mut_slice().reverse();
     Ok(lits)
 }

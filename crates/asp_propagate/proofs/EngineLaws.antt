@@ -16,8 +16,8 @@ use Rattle.asp_store.specs.Keeping.{kept_at}
 use Rattle.asp_store.specs.Storing.{Stored, IsAdded}
 use Rattle.asp_store.proofs.FitsLaws.{fits_begin}
 use Rattle.asp_propagate.specs.Propagating.{Propagating, values_of, IsFollowed}
-use Rattle.asp_propagate.specs.Late.{AreExplained}
-use Rattle.asp_propagate.proofs.LateLaws.{explained_none}
+use Rattle.asp_propagate.specs.Late.{AreExplained, AreLateBy}
+use Rattle.asp_propagate.proofs.LateLaws.{explained_none, late_none}
 use Rattle.asp_propagate.proofs.PropagateLaws.{followed_added}
 
 -- what callers see of these parts
@@ -74,6 +74,7 @@ followed_begin why t s r vars store v e room count fresh = record {
   fits = fits_begin s r (v ∙ sym (ap (λ (z : Stored). z.vars) store)) e (ap (λ (z : Stored). z.slots) store);
   unlocked = λ id k g. absurd (none_some k (sym (ap (λ (z : Stored). kept_at z.slots id) store) ∙ g));
   explained = subst (AreExplained (why t.program)) (sym e) (explained_none (why t.program));
+  late_told = subst (λ (xs : List Entry). AreLateBy xs 0) (sym e) (late_none 0);
 }
 
 -- ---- a trail that is cut

@@ -7,7 +7,7 @@ use Rattle.std.specs.List.{All, AllPairs}
 use Rattle.std.proofs.lemmas.Bool.Decides.{nat_tests}
 use Rattle.std.proofs.lemmas.List.{length-append, length-take, get_or_append_left, get_or-append_right, get_or_push, get_or-take, take-append-le, take-take, take_all}
 use Rattle.std.proofs.lemmas.Option.{same_Some}
-use Rattle.asp_vars.specs.Literals.{Literal, value_of}
+use Rattle.asp_vars.specs.Literals.{Literal, value_of, holds_in}
 use Rattle.asp_vars.specs.declared.nogood.Nogood.{Nogood}
 use Rattle.asp_trail.specs.declared.trail.Entry.{Entry}
 use Rattle.asp_trail.specs.Entries.{assignment, cut}
@@ -19,7 +19,11 @@ use Rattle.asp_store.specs.declared.stored_nogood.StoredNogood.{StoredNogood}
 use Rattle.asp_store.specs.Fitting.{HaveReasons}
 use Rattle.asp_store.proofs.GetLaws.{is_or_not}
 use Rattle.asp_store.proofs.WatchLaws.{IsFront, front}
-use Rattle.asp_propagate.specs.Late.{AreExplained, IsLate, CanAsk, IsSaid, IsAtHand}
+use Rattle.asp_trail.specs.Trails.{Trailed}
+use Rattle.asp_trail.specs.Told.{Told}
+use Rattle.asp_trail.proofs.HoldLaws.{holds_at}
+use Rattle.asp_propagate.specs.Propagating.{WasTold}
+use Rattle.asp_propagate.specs.Late.{AreTold, AreLateBy, AreExplained, IsLate, CanAsk, IsSaid, IsAtHand}
 
 before_push : (es : List Entry) (e : Entry) → take (length es) (es ++ e ∷ []) ≡ es
 before_push es e = take-append-le (length es) es (e ∷ []) (omega arith) ∙ take_all (length es) es (omega arith)
@@ -81,6 +85,59 @@ explained_cut why l es rising f = by (front l es rising)
 pub explained_none : (why : List Entry → Literal → ℕ → Type 0) → AreExplained why []
 explained_none why i d name w q = absurd (omega arith)
 
+-- ---- how many were told where one came
+pub late_push : (es : List Entry) (e : Entry) (n : ℕ) → ((name : ℕ) → e.reason ≡ Some (2 ^ 31 + name) → length es ≤ n) → AreLateBy es n → AreLateBy (es ++ e ∷ []) n
+late_push es e n h f i d name w q = cases (is_or_not i (length es))
+  where
+    cases : (i ≡ length es) ⊎ (i ≢ length es) → i ≤ n
+    cases (inl s) =
+        let is : get_or (es ++ e ∷ []) i d ≡ e = get_or_push es e d i (sym s) in
+        omega (arith, s, h name (sym (ap (λ (g : Entry). g.reason) is) ∙ q))
+    cases (inr ne) =
+        let lt : i < length es = omega (arith, w, ne, length-append es (e ∷ [])) in
+        f i d name lt (sym (ap (λ (g : Entry). g.reason) (get_or_append_left es (e ∷ []) d i lt)) ∙ q)
+
+-- whose numbers are below
+pub late_more : (es fs : List Entry) (n m : ℕ) → n ≤ m → All (λ e. (id : ℕ) → e.reason ≡ Some id → id < 2 ^ 31) fs → AreLateBy es n → AreLateBy (es ++ fs) m
+late_more es fs n m le low f i d name w q = cases (ltb i (length es)) refl
+  where
+    cases : (b : Bool) → b ≡ ltb i (length es) → i ≤ m
+    cases true s =
+        let lt : i < length es = grind (arith, nat_tests) in
+        omega (arith, le, f i d name lt (sym (ap (λ (g : Entry). g.reason) (get_or_append_left es fs d i lt)) ∙ q))
+    cases false s =
+        let ge : length es ≤ i = grind (arith, nat_tests) in
+        let is : get_or (es ++ fs) i d ≡ get_or fs (i - length es) d = get_or-append_right es fs (length es) i d refl ge in
+        absurd (omega (arith, low (i - length es) d (omega (arith, w, ge, length-append es fs)) (2 ^ 31 + name) (sym (ap (λ (g : Entry). g.reason) is) ∙ q)))
+
+-- all that were told and stay are told still
+pub late_cut : (l : ℕ) (es : List Entry) (n m : ℕ) → AllPairs (λ e f. e.level ≤ f.level) es → ((i : ℕ) (d : Entry) → m ≤ i → i < n → l < (get_or es i d).level) → AreLateBy es n → AreLateBy (cut l es) m
+late_cut l es n m rising above f = by (front l es rising)
+  where
+    by : (k : ℕ) × IsFront l k es → AreLateBy (cut l es) m
+    by p = subst (λ (xs : List Entry). AreLateBy xs m) (sym p.1.is) (λ i d name w q.
+        let b : (i < p.0) × (i < length es) = (omega (arith, w, length-take p.0 es), omega (arith, w, length-take p.0 es)) in
+        let is : get_or (take p.0 es) i d ≡ get_or es i d = get_or-take p.0 es i d b.0 in
+        let le : i ≤ n = f i d name b.1 (sym (ap (λ (g : Entry). g.reason) is) ∙ q) in
+        within i d b.0 le (ltb m i) refl)
+      where
+        within : (i : ℕ) (d : Entry) → i < p.0 → i ≤ n → (b : Bool) → b ≡ ltb m i → i ≤ m
+        within i d low le true s =
+            let lt : m < i = grind (arith, nat_tests) in
+            absurd (omega (arith, above (i - 1) d (omega (arith, lt)) (omega (arith, lt, le)), p.1.high (i - 1) d (omega (arith, lt, low))))
+        within i d low le false s = grind (arith, nat_tests)
+
+-- so all entries before it were told
+pub late_all_told : (t : Told) (r : Trailed) (n p name : ℕ) (d : Entry) → IsOrdered r.vars r.entries → WasTold t r n → AreLateBy r.entries n → p < length r.entries → (get_or r.entries p d).reason ≡ Some (2 ^ 31 + name) → AreTold t.values p r.entries
+late_all_told t r n p name d o w late h q i e lt within =
+    let le : p ≤ n = late p d name h q in
+    let inside : i < length (take n r.entries) = omega (arith, length-take n r.entries, lt, le, within) in
+    ap (λ (v : List (Option Bool)). holds_in v (get_or r.entries i e).lit) w.values
+    ∙ holds_at r.vars (take n r.entries) i e (get_or r.entries i e).lit (ordered_take r.vars r.entries n o) inside (ap (λ (x : Entry). x.lit) (get_or-take n r.entries i e (omega (arith, lt, le))))
+
+pub late_none : (n : ℕ) → AreLateBy [] n
+late_none n i d name w q = absurd (omega arith)
+
 -- ---- what can be asked, and what is said then
 pub all_asked : (why : List Entry → Literal → ℕ → Type 0) (slots : List (Option StoredNogood)) (es : List Entry) → HaveReasons slots es → AreExplained why es → AreAsked (CanAsk why slots es) es
 all_asked why slots es r x i d id h q = cases (ltb id (2 ^ 31)) refl
@@ -101,6 +158,7 @@ all_asked why slots es r x i d id h q = cases (ltb id (2 ^ 31)) refl
           place = i;
           within = h;
           lit = λ f. ap (λ (g : Entry). g.lit) (same_default es i f d h);
+          named = λ f. ap (λ (g : Entry). g.reason) (same_default es i f d h) ∙ q;
           explained = e.1;
         }
 
@@ -170,6 +228,14 @@ late_explained vars why es l id p o x h var d =
     let name : x.name ≡ id - 2 ^ 31 = omega (arith, x.number) in
     subst (λ (n : ℕ). why (take p es) (get_or es p d).lit n) name
     (subst (λ (k : ℕ). why (take k es) (get_or es k d).lit x.name) at (subst (λ (k : Literal). why (take x.place es) k x.name) (sym (x.lit d)) x.explained))
+
+-- all entries before it were told
+pub late_told_at : (t : Told) (r : Trailed) (n : ℕ) (why : List Entry → Literal → ℕ → Type 0) (l : Literal) (id p : ℕ) → IsOrdered r.vars r.entries → WasTold t r n → AreLateBy r.entries n → IsLate why r.entries l id → p < length r.entries →
+    ((d : Entry) → (get_or r.entries p d).lit.var ≡ l.var) → AreTold t.values p r.entries
+late_told_at t r n why l id p o w late x h var =
+    let d : Entry = record { lit = l; level = 0; reason = None } in
+    let at : x.place ≡ p = same_place r.vars r.entries x.place p d o x.within h (ap (λ (k : Literal). k.var) (x.lit d) ∙ sym (var d)) in
+    late_all_told t r n p x.name d o w late h (ap (λ (k : ℕ). (get_or r.entries k d).reason) (sym at) ∙ (x.named d ∙ ap (λ (k : ℕ). let z : Option ℕ = Some k in z) x.number))
 
 pub written_said : {E : Type 0} (vars : ℕ) (late : Nogood → Type 0) (slots : List (Option StoredNogood)) (es : List Entry) (l : Literal) (id p : ℕ) (r : Result Nogood E) → IsOrdered vars es →
     2 ^ 31 ≤ id → p < length es → ((d : Entry) → (get_or es p d).lit.var ≡ l.var) → IfOk r late →

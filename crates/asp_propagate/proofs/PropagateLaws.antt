@@ -1,5 +1,5 @@
 -- What follows a trail does so still, through each change.
-use Rattle.std.proofs.Common.{◌≡◌, ℕ, zero, suc, set, ◌+◌, ◌-◌, ◌^◌, ◌<◌, ◌≤◌, false, List, [], ◌∷◌, ◌++◌, length, get_or, Option, Some, None, inl, inr, refl, sym, ap, ◌∙◌, subst, arith, min}
+use Rattle.std.proofs.Common.{◌≡◌, ℕ, zero, suc, set, ◌+◌, ◌-◌, ◌^◌, ◌<◌, ◌≤◌, false, List, [], ◌∷◌, ◌++◌, length, get_or, take, Option, Some, None, inl, inr, refl, sym, ap, ◌∙◌, subst, arith, min}
 use Rattle.std.specs.Prelude.{ℤ}
 use Rattle.std.specs.List.{All, AllPairs}
 use Rattle.std.specs.Option.{option_map}
@@ -25,8 +25,8 @@ use Rattle.asp_store.proofs.FitsLaws.{fits_open, fits_imply, fits_cut, fits_clea
 use Rattle.asp_store.proofs.GrowLaws.{kept_within}
 use Rattle.asp_store.specs.Walking.{IsViolated}
 use Rattle.asp_propagate.specs.Propagating.{WasTold, IsFollowed, IsUnnamed, IsReduced, AreUnlocked, AreAtFixpoint, Implies, GoesOn}
-use Rattle.asp_propagate.specs.Late.{AreExplained}
-use Rattle.asp_propagate.proofs.LateLaws.{explained_push, explained_more, explained_cut, explained_none}
+use Rattle.asp_propagate.specs.Late.{AreExplained, AreLateBy}
+use Rattle.asp_propagate.proofs.LateLaws.{explained_push, explained_more, explained_cut, explained_none, late_push, late_more, late_cut, late_none}
 use Rattle.asp_propagate.proofs.TellLaws.{told_extends, told_cut, told_none}
 use Rattle.asp_propagate.proofs.AddLaws.{unlocked_added, adds_none, adds_one, implies_none, implies_from}
 
@@ -41,12 +41,13 @@ followed_open why t s r n e le none f = record {
   fits = fits_open s r e le (λ id small q. none_some id (sym none ∙ q)) f.fits;
   unlocked = f.unlocked;
   explained = explained_push (why t.program) r.entries e (λ name q. absurd (none_some (2 ^ 31 + name) (sym none ∙ q))) f.explained;
+  late_told = late_push r.entries e n (λ name q. absurd (none_some (2 ^ 31 + name) (sym none ∙ q))) f.late_told;
 }
 
 -- one that follows as the propagator explains
 pub followed_late : (why : Program → List Entry → Literal → ℕ → Type 0) (t : Told) (s : Stored) (r : Trailed) (n : ℕ) (e : Entry) (name : ℕ) → r.seen ≤ length r.entries → e.reason ≡ Some (2 ^ 31 + name) →
-    name < 2 ^ 31 → why t.program r.entries e.lit name → IsFollowed why t s r n → IsFollowed why t s (record r { entries = r.entries ++ e ∷ [] }) n
-followed_late why t s r n e name le some small x f = record {
+    name < 2 ^ 31 → length r.entries ≤ n → why t.program r.entries e.lit name → IsFollowed why t s r n → IsFollowed why t s (record r { entries = r.entries ++ e ∷ [] }) n
+followed_late why t s r n e name le some small all x f = record {
   told = told_extends t r (record r { entries = r.entries ++ e ∷ [] }) n (e ∷ []) refl refl f.told;
   room = f.room;
   fits = fits_open s r e le (λ id lt q. absurd (omega (arith, lt, same_Some id (2 ^ 31 + name) (sym q ∙ some)))) f.fits;
@@ -54,6 +55,7 @@ followed_late why t s r n e name le some small x f = record {
   explained = explained_push (why t.program) r.entries e (λ k q.
       let same : k ≡ name = omega (arith, same_Some (2 ^ 31 + k) (2 ^ 31 + name) (sym q ∙ some)) in
       (omega (arith, same, small), subst (λ (j : ℕ). why t.program r.entries e.lit j) (sym same) x)) f.explained;
+  late_told = late_push r.entries e n (λ k q. all) f.late_told;
 }
 
 pub followed_imply : (why : Program → List Entry → Literal → ℕ → Type 0) (t : Told) (s : Stored) (r : Trailed) (n : ℕ) (e : Entry) (id : ℕ) (m : Nogood) → length s.slots ≤ 2 ^ 31 → r.seen ≤ length r.entries → e.reason ≡ Some id →
@@ -66,6 +68,8 @@ followed_imply why t s r n e id m few le some g q f = record {
   unlocked = f.unlocked;
   explained = explained_push (why t.program) r.entries e (λ name k.
       absurd (omega (arith, few, kept_within s.slots id m g, same_Some id (2 ^ 31 + name) (sym some ∙ k)))) f.explained;
+  late_told = late_push r.entries e n (λ name k.
+      absurd (omega (arith, few, kept_within s.slots id m g, same_Some id (2 ^ 31 + name) (sym some ∙ k)))) f.late_told;
 }
 
 pub followed_added : (why : Program → List Entry → Literal → ℕ → Type 0) (t : Told) (s z : Stored) (r : Trailed) (n id : ℕ) (m : Nogood) (kind : Kind) → IsAdded s z id m kind → IsFollowed why t s r n → IsFollowed why t z r n
@@ -75,12 +79,13 @@ followed_added why t s z r n id m kind a f = record {
   fits = fits_add s z r id m kind a f.fits;
   unlocked = unlocked_added s.slots z.slots id m kind a.slots f.unlocked;
   explained = f.explained;
+  late_told = f.late_told;
 }
 
 pub followed_cut : (why : Program → List Entry → Literal → ℕ → Type 0) (t u : Told) (s : Stored) (r : Trailed) (n m l : ℕ) → AllPairs (λ e f. e.level ≤ f.level) r.entries →
-    ((d : Entry) → 0 < m → (get_or r.entries (m - 1) d).level ≤ l) → u.program ≡ t.program → WasTold u r m → IsFollowed why t s r n →
+    ((d : Entry) → 0 < m → (get_or r.entries (m - 1) d).level ≤ l) → ((i : ℕ) (d : Entry) → m ≤ i → i < n → l < (get_or r.entries i d).level) → u.program ≡ t.program → WasTold u r m → IsFollowed why t s r n →
     IsFollowed why u s (record r { entries = cut l r.entries; seen = min r.seen (length (cut l r.entries)) }) m
-followed_cut why t u s r n m l rising low p w f =
+followed_cut why t u s r n m l rising low above p w f =
     let after : Trailed = record r { entries = cut l r.entries; seen = min r.seen (length (cut l r.entries)) } in
     record {
       told = told_cut u r after m l refl refl rising low w;
@@ -88,6 +93,7 @@ followed_cut why t u s r n m l rising low p w f =
       fits = fits_cut s r l rising f.fits;
       unlocked = f.unlocked;
       explained = subst (λ (x : Program). AreExplained (why x) (cut l r.entries)) (sym p) (explained_cut (why t.program) l r.entries rising f.explained);
+      late_told = late_cut l r.entries n m rising above f.late_told;
     }
 
 pub followed_clear : (why : Program → List Entry → Literal → ℕ → Type 0) (t u : Told) (s z : Stored) (r : Trailed) (n : ℕ) → z ≡ recalled s → AreActive z → WasTold u r 0 → IsFollowed why t s r n →
@@ -98,6 +104,7 @@ followed_clear why t u s z r n same active w f = record {
   fits = fits_clear z r active (subst (λ (x : Stored). Fits x r) (sym same) (fits_recall s r f.fits));
   unlocked = subst AreUnlocked (sym (ap (λ (x : Stored). x.slots) same)) f.unlocked;
   explained = explained_none (why u.program);
+  late_told = late_none 0;
 }
 
 -- ---- one nogood less
@@ -115,6 +122,7 @@ followed_removed why t s r n id h unnamed f = record {
   fits = fits_remove s r id h unnamed f.fits;
   unlocked = unlocked_removed s.slots id f.unlocked;
   explained = f.explained;
+  late_told = f.late_told;
 }
 
 -- ---- a reduction
@@ -128,6 +136,7 @@ followed_reduced why t s z r n red l f = record {
   fits = fits_lose s z r l (λ i d id h q. ap (option_map (λ (k : StoredNogood). k.nogood)) (red.named i d id h q)) f.fits;
   unlocked = unlocked_reduced r.entries s.slots z.slots red f.unlocked;
   explained = f.explained;
+  late_told = f.late_told;
 }
 
 -- ---- a nogood that isn't at fixpoint brings an entry
@@ -143,8 +152,8 @@ grows slots vars es fs id n g wanted fixpoint x = by x.0 x.1
 
 -- ---- what the store does
 pub followed_settled : (why : Program → List Entry → Literal → ℕ → Type 0) (t u : Told) (s z : Stored) (r q : Trailed) (n m : ℕ) → z.slots ≡ s.slots → q ≡ record r { entries = q.entries; seen = q.seen } → Fits z q → WasTold u q m →
-    u.program ≡ t.program → length s.slots ≤ 2 ^ 31 → Extends s.slots r.entries q.entries → IsFollowed why t s r n → IsFollowed why u z q m
-followed_settled why t u s z r q n m slots same fits w p few x f = record {
+    u.program ≡ t.program → length s.slots ≤ 2 ^ 31 → n ≤ m → Extends s.slots r.entries q.entries → IsFollowed why t s r n → IsFollowed why u z q m
+followed_settled why t u s z r q n m slots same fits w p few more x f = record {
   told = w;
   room = subst (λ (x : Trailed). x.vars ≤ x.room) (sym same) f.room;
   fits = fits;
@@ -154,6 +163,8 @@ followed_settled why t u s z r q n m slots same fits w p few x f = record {
       (subst (AreExplained (why t.program)) (sym x.1)
       (explained_more (why t.program) r.entries x.0
       (λ i d h id k. let z = (x.3 i d h).implied in omega (arith, few, z.2, same_Some id z.0 (sym k ∙ z.1))) f.explained));
+  late_told = subst (λ (xs : List Entry). AreLateBy xs m) (sym x.1)
+      (late_more r.entries x.0 n m more (λ i d h id k. let z = (x.3 i d h).implied in omega (arith, few, z.2, same_Some id z.0 (sym k ∙ z.1))) f.late_told);
 }
 
 pub told_settled : (t : Told) (r q : Trailed) (n : ℕ) (slots : List (Option StoredNogood)) → q ≡ record r { entries = q.entries; seen = q.seen } → Extends slots r.entries q.entries →
@@ -176,6 +187,21 @@ fixpoint_settled vars now old new es v q h =
 pub violated_settled : (vars now : ℕ) (old new : List (Option StoredNogood)) (es : List Entry) (id : ℕ) → now ≡ vars → new ≡ old → IsViolated vars old es id → IsViolated now new es id
 violated_settled vars now old new es id v q h =
     subst (λ (m : ℕ). IsViolated m new es id) (sym v) (subst (λ (xs : List (Option StoredNogood)). IsViolated vars xs es id) (sym q) h)
+
+-- ---- another bound
+pub followed_bound : (explains : Program → Option (List ℤ) → List Entry → Literal → ℕ → Type 0) (b c : Option (List ℤ)) (t : Told) (s : Stored) (r : Trailed) (n : ℕ) → c ≡ b → IsFollowed (λ p. explains p b) t s r n → IsFollowed (λ p. explains p c) t s r n
+followed_bound explains b c t s r n e f = subst (λ (x : Option (List ℤ)). IsFollowed (λ p. explains p x) t s r n) (sym e) f
+
+pub followed_lower : (explains : Program → Option (List ℤ) → List Entry → Literal → ℕ → Type 0) (b : Option (List ℤ)) (c : List ℤ) (t : Told) (s : Stored) (r : Trailed) (n : ℕ) →
+    ((es : List Entry) (l : Literal) (name : ℕ) → explains t.program b es l name → explains t.program (Some c) es l name) → IsFollowed (λ p. explains p b) t s r n → IsFollowed (λ p. explains p (Some c)) t s r n
+followed_lower explains b c t s r n stands f = record {
+  told = f.told;
+  room = f.room;
+  fits = f.fits;
+  unlocked = f.unlocked;
+  explained = λ i d name h q. let x = f.explained i d name h q in (x.0, stands (take i r.entries) (get_or r.entries i d).lit name x.1);
+  late_told = f.late_told;
+}
 
 -- ---- what comes of asking
 pub asked_same : (why : Program → List Entry → Literal → ℕ → Type 0) (t u : Told) (s z : Stored) (r : Trailed) (n : ℕ) → u ≡ t → z ≡ s → IsFollowed why t s r n → IsFollowed why u z r n

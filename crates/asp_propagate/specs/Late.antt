@@ -1,6 +1,6 @@
 -- Reasons that are kept, and reasons that are written when they are asked for.
-use Rattle.std.specs.Prelude.{◌≡◌, ℕ, ◌+◌, ◌^◌, ◌<◌, ◌≤◌, ◌⊎◌, List, length, take, Option, Some, slice_index_or}
-use Rattle.asp_vars.specs.Literals.{Literal}
+use Rattle.std.specs.Prelude.{◌≡◌, ℕ, ◌+◌, ◌^◌, ◌<◌, ◌≤◌, ◌⊎◌, Bool, true, List, length, take, Option, Some, slice_index_or}
+use Rattle.asp_vars.specs.Literals.{Literal, holds_in}
 use Rattle.asp_vars.specs.declared.nogood.Nogood.{Nogood}
 use Rattle.asp_trail.specs.declared.trail.Entry.{Entry}
 use Rattle.asp_trail.specs.Reasons.{Stands, IsReason}
@@ -12,6 +12,14 @@ abbrev pub AreExplained : (List Entry → Literal → ℕ → Type 0) → List E
 AreExplained explains entries = (i : ℕ) (d : Entry) (name : ℕ) → i < length entries → (slice_index_or entries i d).reason ≡ Some (2 ^ 31 + name) →
     (name < 2 ^ 31) × explains (take i entries) (slice_index_or entries i d).lit name
 
+-- Each of the first entries was told.
+abbrev pub AreTold : List (Option Bool) → ℕ → List Entry → Type 0
+AreTold values n entries = (i : ℕ) (d : Entry) → i < n → i < length entries → holds_in values (slice_index_or entries i d).lit ≡ true
+
+-- No entry whose reason isn't written stands behind so many.
+abbrev pub AreLateBy : List Entry → ℕ → Type 0
+AreLateBy entries n = (i : ℕ) (d : Entry) (name : ℕ) → i < length entries → (slice_index_or entries i d).reason ≡ Some (2 ^ 31 + name) → i ≤ n
+
 -- The literal is an entry's that follows so.
 pub record IsLate (explains : List Entry → Literal → ℕ → Type 0) (entries : List Entry) (l : Literal) (id : ℕ) : Type 0 where
   pub name : ℕ
@@ -20,6 +28,7 @@ pub record IsLate (explains : List Entry → Literal → ℕ → Type 0) (entrie
   pub place : ℕ
   pub within : place < length entries
   pub lit : (d : Entry) → (slice_index_or entries place d).lit ≡ l
+  pub named : (d : Entry) → (slice_index_or entries place d).reason ≡ Some id
   pub explained : explains (take place entries) l name
 
 -- The number is a kept nogood's.

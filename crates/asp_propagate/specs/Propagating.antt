@@ -16,7 +16,7 @@ use Rattle.asp_store.specs.declared.stored_nogood.Kind.{Kind}
 use Rattle.asp_store.specs.declared.stored_nogood.Kind.TheVariants as kind
 use Rattle.asp_store.specs.Keeping.{kept_at, nogood_at, IsAddedAt}
 use Rattle.asp_store.specs.Fitting.{IsImpliedAt}
-use Rattle.asp_propagate.specs.Late.{AreExplained}
+use Rattle.asp_propagate.specs.Late.{AreExplained, AreLateBy}
 use Rattle.asp_store.specs.Storing.{Stored, Fits, IsAdded}
 
 -- Literals of the program's variables hold, nogoods are kept, and maybe a bound stands.
@@ -71,13 +71,14 @@ abbrev pub AreUnlocked : List (Option StoredNogood) → Type 0
 AreUnlocked slots = (id : ℕ) (k : StoredNogood) → kept_at slots id ≡ Some k → k.locked ≡ false
 
 -- The store fits the trail, which has room for all variables, and the propagator was told of the first n entries. It can explain
--- those whose reasons no nogood is kept for.
+-- those whose reasons no nogood is kept for: it was told of all entries before such a one.
 pub record IsFollowed (why : Program → List Entry → Literal → ℕ → Type 0) (t : Told) (store : Stored) (trail : Trailed) (n : ℕ) : Type 0 where
   pub told : WasTold t trail n
   pub room : trail.vars ≤ trail.room
   pub fits : Fits store trail
   pub unlocked : AreUnlocked store.slots
   pub explained : AreExplained (why t.program) trail.entries
+  pub late_told : AreLateBy trail.entries n
 
 -- ---- propagation
 -- It passes, came from a propagator, and isn't locked.

@@ -51,7 +51,7 @@ impl<P: Propagator> Model for Engine<P> {
 
     ghost view = { λ p. record { program = (P.told p.propagator).program; entries = p.trail.entries; slots = p.store.slots; bound = P.bound p.propagator } };
 
-    ghost invariant = { λ p. IsFollowed P.explains (P.told p.propagator) p.store p.trail p.told };
+    ghost invariant = { λ p. IsFollowed (λ q. P.explains q (P.bound p.propagator)) (P.told p.propagator) p.store p.trail p.told };
 }
 
 impl<P: Propagator> Engine<P> {
@@ -88,9 +88,9 @@ impl<P: Propagator> Engine<P> {
         ensures vars { result.now.vars ≡ var_count self.now.program }
         ensures slots { result.now.slots ≡ self.now.slots }
         ensures reasons { HaveReasons self.now.slots self.now.entries }
-        ensures asked { AreAsked (CanAsk (P.explains self.now.program) self.now.slots self.now.entries) self.now.entries }
-        ensures said { AreReasons (IsSaid (P.late self.now.program) self.now.slots self.now.entries) self.now.entries }
-        ensures implied { IsSound self.now.program → AreImpliedBy (IsAtHand (P.late self.now.program) self.now.slots) self.now.entries }
+        ensures asked { AreAsked (CanAsk (P.explains self.now.program self.now.bound) self.now.slots self.now.entries) self.now.entries }
+        ensures said { AreReasons (IsSaid (P.late self.now.program self.now.bound) self.now.slots self.now.entries) self.now.entries }
+        ensures implied { IsSound self.now.program → AreImpliedBy (IsAtHand (P.late self.now.program self.now.bound) self.now.slots) self.now.entries }
     {
         let _len = self.trail.len();
         let _extra = self.store.extra();
@@ -232,9 +232,9 @@ impl<P: Propagator> Engine<P> {
 impl<P: Propagator> Reasons for Engine<P> {
     ghost use Rattle.asp_propagate.specs.Late.{CanAsk as may_ask, IsSaid as is_said};
 
-    ghost asks = { λ e l id. may_ask (P.explains e.program) e.slots e.entries l id };
+    ghost asks = { λ e l id. may_ask (P.explains e.program e.bound) e.slots e.entries l id };
 
-    ghost says = { λ e l id n. is_said (P.late e.program) e.slots e.entries l id n };
+    ghost says = { λ e l id n. is_said (P.late e.program e.bound) e.slots e.entries l id n };
 
     fn kept(&self, lit: Lit, id: NogoodId) -> Option<&Nogood> {
         let _ = lit;

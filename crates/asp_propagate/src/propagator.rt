@@ -10,6 +10,7 @@ ghost use Rattle.asp_trail.specs.Entries.{assignment};
 ghost use Rattle.asp_trail.specs.Trails.{IsVar};
 ghost use Rattle.asp_trail.specs.Reasons.{IsReason};
 ghost use Rattle.asp_trail.specs.declared.trail.Entry.{Entry};
+ghost use Rattle.asp_propagate.specs.Late.{AreTold};
 ghost use Rattle.asp_propagate.specs.Saying.{IsToSay};
 ghost use Rattle.asp_propagate.specs.Useful.{IsSmaller};
 
@@ -46,11 +47,11 @@ pub trait Propagator: Drop {
     /// That it has nothing to say of a program and a bound under these values.
     ghost silent: { Program → Option (List ℤ) → List (Option Bool) → Type 0 };
 
-    /// That a literal follows from entries, by this name.
-    ghost explains: { Program → List Entry → Literal → ℕ → Type 0 };
+    /// That a literal follows from entries under a bound, by this name.
+    ghost explains: { Program → Option (List ℤ) → List Entry → Literal → ℕ → Type 0 };
 
-    /// What it may write for a program when it is asked for a reason.
-    ghost late: { Program → Nogood → Type 0 };
+    /// What it may write for a program and a bound when it is asked for a reason.
+    ghost late: { Program → Option (List ℤ) → Nogood → Type 0 };
 
     /// The literal holds from now on.
     fn assign(&mut self, lit: Lit)
@@ -81,7 +82,7 @@ pub trait Propagator: Drop {
         ensures values { told self.new ≡ told self.old }
         ensures stays { bound self.new ≡ bound self.old }
         ensures fixpoint { IfOk result (λ n. IfNone n (silent (told self.old).program (bound self.old) (told self.old).values)) }
-        ensures said { IfOk result (λ n. IfSome n (IsToSay (gives (told self.old).program (bound self.old)) (explains (told self.old).program) (var_count (told self.old).program) trail.now.entries)) };
+        ensures said { IfOk result (λ n. IfSome n (IsToSay (gives (told self.old).program (bound self.old)) (explains (told self.old).program (bound self.old)) (var_count (told self.old).program) trail.now.entries)) };
 
     /// The nogood by which the literal at a place followed, as it was said to by this name.
     ///
@@ -89,15 +90,19 @@ pub trait Propagator: Drop {
     fn explain(&self, trail: &Trail, place: usize, name: u32) -> Result<Nogood, AllocError>
         requires vars { trail.now.vars ≡ var_count (told self.now).program }
         requires place { place < length trail.now.entries }
-        requires explained { (d : Entry) → explains (told self.now).program (take place trail.now.entries) (slice_index_or trail.now.entries place d).lit name }
-        ensures late { IfOk result (late (told self.now).program) }
+        requires told { AreTold (told self.now).values place trail.now.entries }
+        requires explained { (d : Entry) → explains (told self.now).program (bound self.now) (take place trail.now.entries) (slice_index_or trail.now.entries place d).lit name }
+        ensures late { IfOk result (late (told self.now).program (bound self.now)) }
         ensures reason { IfOk result (λ n. (d : Entry) → IsReason trail.now.entries place (slice_index_or trail.now.entries place d).lit n.lits) };
 
-    /// What it may write it may give under each bound.
-    ghost given: { (p : Program) (b : Option (List ℤ)) (n : Nogood) → late p n → gives p b n };
+    /// What it may write it may give.
+    ghost given: { (p : Program) (b : Option (List ℤ)) (n : Nogood) → late p b n → gives p b n };
+
+    /// What follows under a bound follows under a smaller one.
+    ghost stands: { (p : Program) (b : Option (List ℤ)) (c : List ℤ) (es : List Entry) (l : Literal) (name : ℕ) → IsSmaller c b → explains p b es l name → explains p (Some c) es l name };
 
     /// What follows has a reason that it may write.
-    ghost reasoned: { (p : Program) (es : List Entry) (l : Literal) (name : ℕ) → IsSound p → IsOrdered (var_count p) es → explains p es l name → (n : Nogood) × late p n × IsReason es (length es) l n.lits };
+    ghost reasoned: { (p : Program) (b : Option (List ℤ)) (es : List Entry) (l : Literal) (name : ℕ) → IsSound p → IsOrdered (var_count p) es → explains p b es l name → (n : Nogood) × late p b n × IsReason es (length es) l n.lits };
 
     /// What it gives counts for a search, whatever answers are known.
     ghost sound: { (p : Program) (b : Option (List ℤ)) (n : Nogood) (known : List Atoms) → IsSound p → gives p b n → IsUseful p known b n };

@@ -28,8 +28,8 @@ fn settle<P: Propagator>(
     store: &mut Store,
     told: &mut usize,
 ) -> Result<Option<NogoodId>, AllocError>
-    requires { IsFollowed P.explains (P.told propagator.old) store.old trail.old told.old }
-    ensures followed { IsFollowed P.explains (P.told propagator.new) store.new trail.new told.new }
+    requires { IsFollowed (λ p. P.explains p (P.bound propagator.old)) (P.told propagator.old) store.old trail.old told.old }
+    ensures followed { IsFollowed (λ p. P.explains p (P.bound propagator.new)) (P.told propagator.new) store.new trail.new told.new }
     ensures goes { GoesOn (P.gives (P.told propagator.old).program (P.bound propagator.old)) (P.told propagator.old) (P.told propagator.new) (P.bound propagator.old) (P.bound propagator.new)
         store.old.slots store.new.slots trail.old.entries trail.new.entries }
     ensures same { store.new.slots ≡ store.old.slots }
@@ -67,8 +67,8 @@ fn ask<P: Propagator>(
     trail: &mut Trail,
     store: &mut Store,
 ) -> Result<bool, AllocError>
-    requires { IsFollowed P.explains (P.told propagator.old) store.old trail.old (length trail.old.entries) }
-    ensures followed { IsFollowed P.explains (P.told propagator.new) store.new trail.new (length trail.old.entries) }
+    requires { IsFollowed (λ p. P.explains p (P.bound propagator.old)) (P.told propagator.old) store.old trail.old (length trail.old.entries) }
+    ensures followed { IsFollowed (λ p. P.explains p (P.bound propagator.new)) (P.told propagator.new) store.new trail.new (length trail.old.entries) }
     ensures same { trail.new ≡ record trail.old { entries = trail.new.entries } }
     ensures ok { IfOk result (Asked (P.silent (P.told propagator.old).program (P.bound propagator.old)) (P.gives (P.told propagator.old).program (P.bound propagator.old))
         (assignment trail.old.vars trail.old.entries) store.old store.new trail.old.entries trail.new.entries) }
@@ -96,8 +96,8 @@ pub fn propagate<P: Propagator>(
     store: &mut Store,
     told: &mut usize,
 ) -> Result<Option<NogoodId>, AllocError>
-    requires { IsFollowed P.explains (P.told propagator.old) store.old trail.old told.old }
-    ensures followed { IsFollowed P.explains (P.told propagator.new) store.new trail.new told.new }
+    requires { IsFollowed (λ p. P.explains p (P.bound propagator.old)) (P.told propagator.old) store.old trail.old told.old }
+    ensures followed { IsFollowed (λ p. P.explains p (P.bound propagator.new)) (P.told propagator.new) store.new trail.new told.new }
     ensures goes { GoesOn (P.gives (P.told propagator.old).program (P.bound propagator.old)) (P.told propagator.old) (P.told propagator.new) (P.bound propagator.old) (P.bound propagator.new)
         store.old.slots store.new.slots trail.old.entries trail.new.entries }
     ensures fixpoint { IfOk result (λ r. IfNone r (IsFixpoint (P.silent (P.told propagator.old).program (P.bound propagator.old)) store.new.slots (assignment trail.new.vars trail.new.entries))) }

@@ -1,5 +1,5 @@
 //! How a propagator is told of the entries of a trail, and told back.
-ghost use Rattle.std.specs.Prelude.{◌≡◌, ◌<◌, ◌≤◌, ◌+◌, ◌-◌, length, slice_index_or};
+ghost use Rattle.std.specs.Prelude.{◌≡◌, ◌<◌, ◌≤◌, ◌+◌, ◌-◌, ℕ, length, slice_index_or};
 ghost use Rattle.asp_trail.specs.declared.trail.Entry.{Entry};
 ghost use Rattle.asp_propagate.specs.Propagating.{WasTold};
 
@@ -53,6 +53,7 @@ pub fn untell_above<P: Propagator>(
     ensures program { (P.told propagator.new).program ≡ (P.told propagator.old).program }
     ensures bound { P.bound propagator.new ≡ P.bound propagator.old }
     ensures low { (d : Entry) → 0 < result → (slice_index_or trail.now.entries (result - 1) d).level ≤ level }
+    ensures kept { (i : ℕ) (d : Entry) → result ≤ i → i < told → level < (slice_index_or trail.now.entries i d).level }
 {
     let mut left = told;
     while left > 0 && trail.level_at(left - 1) > level {

@@ -1,3 +1,4 @@
 pub mod Saying
 pub mod CountLaws
 pub mod WholeLaws
+pub mod LateLaws

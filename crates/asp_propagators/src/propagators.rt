@@ -10,6 +10,7 @@ ghost use Rattle.std.specs.Prelude.{◌≡◌, None, IfOk};
 ghost use Rattle.asp_bound.specs.Gathered.{valueless};
 
 use asp_bound::bound::Bound;
+use asp_bound::given::BY_BOUND;
 use asp_model::cost::Cost;
 use asp_propagate::propagator::Propagator;
 use asp_recorder::recorder::Recorder;
@@ -82,10 +83,8 @@ impl<'a> Propagators<'a> {
 }
 
 impl<'a> Propagator for Propagators<'a> {
-    ghost use Rattle.std.proofs.Common.{inl};
-    ghost use Rattle.asp_weight.specs.Explained.{IsExplained, IsExcluded};
-    ghost use Rattle.asp_weight.proofs.ExplainLaws.{reasoned as weights_reasoned};
-    ghost use Rattle.asp_propagators.specs.Saying.{AreSilent, gives as may_give};
+    ghost use Rattle.asp_propagators.specs.Saying.{AreSilent, gives as may_give, explains as may_explain, late as may_write};
+    ghost use Rattle.asp_propagators.specs.LateLaws.{late-given, follows-lower, follows-reasoned};
     ghost use Rattle.asp_propagators.specs.CountLaws.{gives-count};
     ghost use Rattle.asp_propagators.specs.WholeLaws.{silent-keeps};
 
@@ -95,13 +94,15 @@ impl<'a> Propagator for Propagators<'a> {
 
     ghost gives = { may_give };
 
-    ghost explains = { IsExplained };
+    ghost explains = { may_explain };
 
-    ghost late = { IsExcluded };
+    ghost late = { may_write };
 
-    ghost given = { λ p b n w. inl w };
+    ghost given = { late-given };
 
-    ghost reasoned = { weights_reasoned };
+    ghost stands = { follows-lower };
+
+    ghost reasoned = { follows-reasoned };
 
     ghost silent = { AreSilent };
 
@@ -129,8 +130,8 @@ impl<'a> Propagator for Propagators<'a> {
         if let Some(said) = self.weights.next(trail)? {
             return Ok(Some(said));
         }
-        if let Some(nogood) = self.bound.next(trail)? {
-            return Ok(Some(Said::Nogood(nogood)));
+        if let Some(said) = self.bound.next(trail)? {
+            return Ok(Some(said));
         }
         if let Some(nogood) = self.sources.next(trail)? {
             self.note(&nogood)?;
@@ -139,8 +140,11 @@ impl<'a> Propagator for Propagators<'a> {
         Ok(None)
     }
 
-    // Only weight bodies say that a reason is written later.
+    // Weight bodies and the bound say that a reason is written later.
     fn explain(&self, trail: &Trail, place: usize, name: u32) -> Result<Nogood, AllocError> {
+        if name == BY_BOUND {
+            return self.bound.explain(trail, place);
+        }
         self.weights.explain(trail, place, name)
     }
 }

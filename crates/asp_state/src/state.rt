@@ -198,7 +198,7 @@ impl<P: Propagator> SearchState<P> {
     pub fn store(&self) -> &Store
         ensures slots { result.now.slots ≡ self.now.slots }
         ensures reasons { HaveReasons self.now.slots self.now.entries }
-        ensures implied { IsSound self.now.program → AreImpliedBy (IsAtHand (P.late self.now.program) self.now.slots) self.now.entries }
+        ensures implied { IsSound self.now.program → AreImpliedBy (IsAtHand (P.late self.now.program self.now.bound) self.now.slots) self.now.entries }
         ensures few { length self.now.slots ≤ 2 ^ 31 }
         ensures small { AreSmall (var_count self.now.program) self.now.slots }
         ensures completed { KeepsCompletion self.now.program self.now.slots }
@@ -212,8 +212,9 @@ impl<P: Propagator> SearchState<P> {
         ensures program { result.now.program ≡ self.now.program }
         ensures entries { result.now.entries ≡ self.now.entries }
         ensures slots { result.now.slots ≡ self.now.slots }
-        ensures asked { AreAsked (CanAsk (P.explains result.now.program) result.now.slots result.now.entries) result.now.entries }
-        ensures said { AreReasons (IsSaid (P.late result.now.program) result.now.slots result.now.entries) result.now.entries }
+        ensures bound { result.now.bound ≡ self.now.bound }
+        ensures asked { AreAsked (CanAsk (P.explains result.now.program result.now.bound) result.now.slots result.now.entries) result.now.entries }
+        ensures said { AreReasons (IsSaid (P.late result.now.program result.now.bound) result.now.slots result.now.entries) result.now.entries }
     {
         let _store = self.engine.store();
         &self.engine

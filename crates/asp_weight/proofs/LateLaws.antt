@@ -33,7 +33,7 @@ one_speaks_at p a b shapes also rows places tallies w x k e f h =
     not_silent p a shapes rows places tallies w x k h.0
     (subst (λ (v : List (Option Bool)). Speaks x v (shape_at shapes w) (row_at rows w)) e (subst (λ (ss : List Shape). Speaks x b (shape_at ss w) (row_at rows w)) f h.1))
 
-pub few_at : (p : Program) (shapes : List Shape) (rows : List (List Item)) (w : ℕ) → var_count p < 2 ^ 31 → AreRows p (weighed_bodies p) shapes rows → w < length rows → w < 2 ^ 31
+pub few_at : (p : Program) (shapes : List Shape) (rows : List (List Item)) (w : ℕ) → var_count p < 2 ^ 31 → AreRows p (weighed_bodies p) shapes rows → w < length rows → w + 1 < 2 ^ 31
 few_at p shapes rows w few r h = omega (arith, r.whole, few_rows p, few, h)
 
 pub shape_read : (p : Program) (shapes : List Shape) (rows : List (List Item)) (w : ℕ) (s : Shape) → AreRows p (weighed_bodies p) shapes rows → w < length rows → s ≡ get_or shapes w s → s ≡ shape_at shapes w

@@ -1,5 +1,5 @@
 -- That a literal follows from entries by the definition of a weight body.
-use Rattle.std.specs.Prelude.{◌≡◌, ℕ, ◌^◌, ◌<◌, Bool, List, length, take, Option, Some, None}
+use Rattle.std.specs.Prelude.{◌≡◌, ℕ, ◌+◌, ◌^◌, ◌<◌, Bool, List, length, take, Option, Some, None}
 use Rattle.asp_model.specs.declared.program.Body.{Body}
 use Rattle.asp_model.specs.declared.program.Program.{Program}
 use Rattle.asp_vars.specs.Literals.{Literal, complement, value_of}
@@ -54,7 +54,7 @@ pub record IsExcluded (p : Program) (n : Nogood) : Type 0 where
 pub record IsImplied (t : Told) (entries : List Entry) (l : Literal) (name : ℕ) : Type 0 where
   pub var : IsVar (var_count t.program) l.var
   pub none : value_of t.values l.var ≡ None
-  pub small : name < 2 ^ 31
+  pub small : name + 1 < 2 ^ 31
   pub explained : IsExplained t.program entries l name
 
 abbrev pub IsSaid : Told → List Entry → Said → Type 0

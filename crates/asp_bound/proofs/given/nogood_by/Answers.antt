@@ -7,7 +7,7 @@ use Rattle.asp_vars.specs.Literals.{Literal}
 use Rattle.asp_vars.specs.declared.nogood.Base.TheVariants as base
 use Rattle.asp_vars.specs.declared.nogood.Nogood.{Nogood}
 use Rattle.asp_bound.specs.Needed.{MayFall, needed}
-use Rattle.asp_bound.specs.Reasons.{raising_at}
+use Rattle.asp_bound.specs.Reasons.{before, raising_at}
 use Rattle.asp_bound.proofs.given.nogood_by.Goals as goal
 
 abbrev nogood_of : List ℤ → Option Literal → List Literal → Nogood
@@ -21,6 +21,6 @@ needed-requires c =
 
 pub returns : goal.returns
 returns c =
-    let moved = subst (IsPermutation (flat_map (raising_at c.args.values.now c.args.rows.now c.args.depth) c.args.raisers.now)) (sym c.as_slice-found.ensures.value) c.in_ok-raising.ensures in
+    let moved = subst (IsPermutation (flat_map (raising_at (before c.args.trail.now c.args.place) c.args.rows.now c.args.depth) c.args.raisers.now)) (sym c.as_slice-found.ensures.value) c.in_ok-raising.ensures in
     let is = c.in_ok-lits.ensures ∙ ap (λ (l : List ℤ). needed c.args.rows.now l c.args.depth c.args.sums.now c.as_slice-found.result.now) c.as_slice-limits.ensures in
     IfOk-weaker c.below.result _ _ (λ n made. (c.as_slice-found.result.now, moved, made ∙ ap (nogood_of c.args.cost.now c.args.more) is)) c.below.ensures

@@ -112,4 +112,4 @@ asked-smaller g c =
 pub ask-requires : goal.ask-requires
 ask-requires g c =
     let m = c.asked in
-    subst (λ (n : ℕ). IsFollowed g.P.Propagator.explains (g.P.Propagator.told m.propagator) m.store m.trail n) m.invariant.all m.invariant.followed
+    subst (λ (n : ℕ). IsFollowed (λ p. g.P.Propagator.explains p (g.P.Propagator.bound m.propagator)) (g.P.Propagator.told m.propagator) m.store m.trail n) m.invariant.all m.invariant.followed

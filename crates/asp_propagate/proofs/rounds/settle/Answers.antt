@@ -1,9 +1,9 @@
-use Rattle.std.proofs.Common.{sym, ap, ◌∙◌, subst, refl}
+use Rattle.std.proofs.Common.{◌≤◌, sym, ap, ◌∙◌, subst, refl, arith}
 use Rattle.asp_trail.specs.Trails.{Trailed}
 use Rattle.asp_store.specs.declared.propagation.Propagated.{Propagated}
 use Rattle.asp_store.specs.Walking.{Propagates}
 use Rattle.asp_propagate.specs.Propagating.{WasTold}
-use Rattle.asp_propagate.proofs.PropagateLaws.{followed_settled, told_settled, goes_settled, fixpoint_settled, violated_settled}
+use Rattle.asp_propagate.proofs.PropagateLaws.{followed_settled, followed_bound, told_settled, goes_settled, fixpoint_settled, violated_settled}
 use Rattle.asp_propagate.proofs.rounds.settle.Goals as goal
 
 pub tell-requires : goal.tell-requires
@@ -16,8 +16,8 @@ returns-in-Violated-clause-followed g c =
     let p = c.propagate in
     let t = g.P.Propagator.told c.args.propagator.now in
     let n = c.args.told.now in
-    followed_settled g.P.Propagator.explains t t c.args.store.now p.new.self c.args.trail.now p.new.trail n n p.ensures.slots p.ensures.trail p.ensures.fits
-    (told_settled t c.args.trail.now p.new.trail n c.args.store.now.slots p.ensures.trail p.ensures.extends c.requires.told) refl p.ensures.few p.ensures.extends c.requires
+    followed_settled (λ x. g.P.Propagator.explains x (g.P.Propagator.bound c.args.propagator.now)) t t c.args.store.now p.new.self c.args.trail.now p.new.trail n n p.ensures.slots p.ensures.trail p.ensures.fits
+    (told_settled t c.args.trail.now p.new.trail n c.args.store.now.slots p.ensures.trail p.ensures.extends c.requires.told) refl p.ensures.few (omega arith) p.ensures.extends c.requires
 
 pub returns-in-Violated-clause-goes : goal.returns-in-Violated-clause-goes
 returns-in-Violated-clause-goes g c =
@@ -38,9 +38,12 @@ pub returns-in-Fixpoint-clause-followed : goal.returns-in-Fixpoint-clause-follow
 returns-in-Fixpoint-clause-followed g c =
     let p = c.propagate in
     let u = g.P.Propagator.told c.tell.new.propagator in
-    followed_settled g.P.Propagator.explains (g.P.Propagator.told c.args.propagator.now) u c.args.store.now p.new.self c.args.trail.now p.new.trail c.args.told.now c.len.result
+    let n = c.args.told.now in
+    let begun = told_settled (g.P.Propagator.told c.args.propagator.now) c.args.trail.now p.new.trail n c.args.store.now.slots p.ensures.trail p.ensures.extends c.requires.told in
+    followed_bound g.P.Propagator.explains (g.P.Propagator.bound c.args.propagator.now) (g.P.Propagator.bound c.tell.new.propagator) u p.new.self p.new.trail c.len.result c.tell.ensures.bound
+    (followed_settled (λ x. g.P.Propagator.explains x (g.P.Propagator.bound c.args.propagator.now)) (g.P.Propagator.told c.args.propagator.now) u c.args.store.now p.new.self c.args.trail.now p.new.trail c.args.told.now c.len.result
     p.ensures.slots p.ensures.trail p.ensures.fits
-    (subst (WasTold u p.new.trail) (sym c.len.ensures.len) c.tell.ensures.told) c.tell.ensures.program p.ensures.few p.ensures.extends c.requires
+    (subst (WasTold u p.new.trail) (sym c.len.ensures.len) c.tell.ensures.told) c.tell.ensures.program p.ensures.few (omega (arith, begun.begun, c.len.ensures.len)) p.ensures.extends c.requires)
 
 pub returns-in-Fixpoint-clause-goes : goal.returns-in-Fixpoint-clause-goes
 returns-in-Fixpoint-clause-goes g c =
@@ -62,8 +65,8 @@ returns-in_err-found-clause-followed g c =
     let p = c.propagate in
     let t = g.P.Propagator.told c.args.propagator.now in
     let n = c.args.told.now in
-    followed_settled g.P.Propagator.explains t t c.args.store.now p.new.self c.args.trail.now p.new.trail n n p.ensures.slots p.ensures.trail p.ensures.fits
-    (told_settled t c.args.trail.now p.new.trail n c.args.store.now.slots p.ensures.trail p.ensures.extends c.requires.told) refl p.ensures.few p.ensures.extends c.requires
+    followed_settled (λ x. g.P.Propagator.explains x (g.P.Propagator.bound c.args.propagator.now)) t t c.args.store.now p.new.self c.args.trail.now p.new.trail n n p.ensures.slots p.ensures.trail p.ensures.fits
+    (told_settled t c.args.trail.now p.new.trail n c.args.store.now.slots p.ensures.trail p.ensures.extends c.requires.told) refl p.ensures.few (omega arith) p.ensures.extends c.requires
 
 pub returns-in_err-found-clause-goes : goal.returns-in_err-found-clause-goes
 returns-in_err-found-clause-goes g c =

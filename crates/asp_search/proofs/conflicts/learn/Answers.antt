@@ -36,12 +36,12 @@ learn-requires-clause-contained g c =
 pub learn-requires-clause-asked : goal.learn-requires-clause-asked
 learn-requires-clause-asked g c =
     let e = c.reasons.result.now in
-    subst (AreAsked (CanAsk (g.P.Propagator.explains e.program) e.slots e.entries)) (c.reasons.ensures.entries ∙ sym c.trail.ensures.entries) c.reasons.ensures.asked
+    subst (AreAsked (CanAsk (g.P.Propagator.explains e.program e.bound) e.slots e.entries)) (c.reasons.ensures.entries ∙ sym c.trail.ensures.entries) c.reasons.ensures.asked
 
 pub learn-requires-clause-reasons : goal.learn-requires-clause-reasons
 learn-requires-clause-reasons g c =
     let e = c.reasons.result.now in
-    subst (AreReasons (IsSaid (g.P.Propagator.late e.program) e.slots e.entries)) (c.reasons.ensures.entries ∙ sym c.trail.ensures.entries) c.reasons.ensures.said
+    subst (AreReasons (IsSaid (g.P.Propagator.late e.program e.bound) e.slots e.entries)) (c.reasons.ensures.entries ∙ sym c.trail.ensures.entries) c.reasons.ensures.said
 
 pub returns-clause-explains : goal.returns-clause-explains
 returns-clause-explains g c =
@@ -51,9 +51,9 @@ returns-clause-explains g c =
     let n : Nogood = record { lits = c.as_slice.result.now; base = c.nogood-nogood.result.now.base } in
     let kept : Some n ≡ nogood_at s.slots c.args.id = ap (λ (ls : List Literal). Some (record { lits = ls; base = n.base })) c.as_slice.ensures.value ∙ c.nogood-nogood.ensures in
     let e = c.reasons.result.now in
-    let given : (n : Nogood) → g.P.Propagator.late e.program n → g.P.Propagator.gives t.program t.bound n =
-    λ n w. g.met.P.Propagator.given t.program t.bound n (subst (λ (p : Program). g.P.Propagator.late p n) c.reasons.ensures.program w) in
-    explained_at c.learn.result (g.P.Propagator.gives t.program t.bound) (IsSaid (g.P.Propagator.late e.program) e.slots e.entries) (var_count t.program) r.vars t.slots s.slots t.entries r.entries c.args.id
+    let given : (n : Nogood) → g.P.Propagator.late e.program e.bound n → g.P.Propagator.gives t.program t.bound n =
+    λ n w. g.met.P.Propagator.given t.program t.bound n (subst (λ (p : Program). g.P.Propagator.late p t.bound n) c.reasons.ensures.program (subst (λ (b : Option (List ℤ)). g.P.Propagator.late e.program b n) c.reasons.ensures.bound w)) in
+    explained_at c.learn.result (g.P.Propagator.gives t.program t.bound) (IsSaid (g.P.Propagator.late e.program e.bound) e.slots e.entries) (var_count t.program) r.vars t.slots s.slots t.entries r.entries c.args.id
     n c.trail.ensures.vars c.store.ensures.slots c.trail.ensures.entries kept c.requires.violated
-    (said_at_hand (g.P.Propagator.late e.program) (g.P.Propagator.gives t.program t.bound) t.slots e.slots e.entries c.reasons.ensures.slots given)
+    (said_at_hand (g.P.Propagator.late e.program e.bound) (g.P.Propagator.gives t.program t.bound) t.slots e.slots e.entries c.reasons.ensures.slots given)
     c.learn.ensures.reached c.learn.ensures.contained c.learn.ensures.assumed c.learn.ensures.learned

@@ -41,6 +41,7 @@ invariant_of-self-2 c =
       starts,
       raisers.0,
       raisers.1,
+      c.self.invariant.4,
     )
 
 pub invariant_of-self : goal.invariant_of-self
@@ -57,6 +58,7 @@ invariant_of-self c =
       starts,
       raisers.0,
       raisers.1,
+      c.self.invariant.4,
     )
 
 pub join-requires : goal.join-requires

@@ -50,6 +50,7 @@ invariant_of-self-2 c =
       starts_as (set c.self.inside.values c.args.lit.var None) c.unset-2.new.self c.self.inside.columns back _ values (take_at back (drop (length back) c.self.inside.starts.items) c.self.inside.starts.len (c.take_back.auto.starts ∙ c.as_mut_slice-2.ensures.len)) starts,
       raisers.0,
       raisers.1,
+      c.self.invariant.4,
     )
 
 pub invariant_of-self : goal.invariant_of-self
@@ -69,6 +70,7 @@ invariant_of-self c =
       starts_as (set c.self.inside.values c.args.lit.var None) c.unset.new.self c.self.inside.columns c.self.inside.starts.items _ values refl starts,
       raisers.0,
       raisers.1,
+      c.self.invariant.4,
     )
 
 pub leave-requires : goal.leave-requires

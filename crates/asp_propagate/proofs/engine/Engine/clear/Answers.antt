@@ -3,7 +3,7 @@ use Rattle.asp_store.specs.declared.stored_nogood.StoredNogood.{StoredNogood}
 use Rattle.asp_store.specs.Storing.{Stored}
 use Rattle.asp_trail.specs.Trails.{Trailed}
 use Rattle.asp_propagate.specs.Propagating.{Propagating, IsFollowed}
-use Rattle.asp_propagate.proofs.PropagateLaws.{followed_clear}
+use Rattle.asp_propagate.proofs.PropagateLaws.{followed_clear, followed_bound}
 use Rattle.asp_propagate.proofs.EngineLaws.{same_view}
 use Rattle.asp_propagate.proofs.engine.Engine.clear.Goals as goal
 
@@ -11,9 +11,11 @@ pub invariant_of-self : goal.invariant_of-self
 invariant_of-self g c =
     let i = c.self.inside in
     let q = c.recall.ensures in
-    subst (λ (x : Trailed). IsFollowed g.P.Propagator.explains (g.P.Propagator.told c.untell.new.propagator) c.recall.new.self x 0) (sym c.clear.ensures)
-    (followed_clear g.P.Propagator.explains (g.P.Propagator.told i.propagator) (g.P.Propagator.told c.untell.new.propagator) i.store c.recall.new.self i.trail i.told q.recalled q.active
-    c.untell.ensures.told c.self.invariant)
+    let new = c.untell.new.propagator in
+    subst (λ (x : Trailed). IsFollowed (λ p. g.P.Propagator.explains p (g.P.Propagator.bound new)) (g.P.Propagator.told c.untell.new.propagator) c.recall.new.self x 0) (sym c.clear.ensures)
+    (followed_clear (λ p. g.P.Propagator.explains p (g.P.Propagator.bound new)) (g.P.Propagator.told i.propagator) (g.P.Propagator.told c.untell.new.propagator) i.store c.recall.new.self i.trail i.told q.recalled q.active
+    c.untell.ensures.told
+    (followed_bound g.P.Propagator.explains (g.P.Propagator.bound i.propagator) (g.P.Propagator.bound new) (g.P.Propagator.told i.propagator) i.store i.trail i.told c.untell.ensures.bound c.self.invariant))
 
 pub returns : goal.returns
 returns g c =

@@ -8,7 +8,7 @@ pub invariant_of-self : goal.invariant_of-self
 invariant_of-self g c =
     let i = c.self.inside in
     let es = i.trail.entries in
-    followed_reduced g.P.Propagator.explains (g.P.Propagator.told i.propagator) i.store c.lock_reasons-2.new.store i.trail i.told
+    followed_reduced (λ p. g.P.Propagator.explains p (g.P.Propagator.bound c.self.inside.propagator)) (g.P.Propagator.told i.propagator) i.store c.lock_reasons-2.new.store i.trail i.told
     (locks_reduced es i.store c.lock_reasons.new.store c.reduce.new.self c.lock_reasons-2.new.store c.self.invariant.unlocked c.lock_reasons.ensures c.reduce.ensures.thins c.lock_reasons-2.ensures)
     (locks_lose es i.store c.lock_reasons.new.store c.reduce.new.self c.lock_reasons-2.new.store c.self.invariant.unlocked c.lock_reasons.ensures c.reduce.ensures.loses c.lock_reasons-2.ensures)
     c.self.invariant

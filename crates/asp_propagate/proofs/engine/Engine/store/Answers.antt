@@ -15,20 +15,21 @@ returns-clause-reasons g c = subst (λ (x : Propagating). HaveReasons x.slots x.
 pub returns-clause-asked : goal.returns-clause-asked
 returns-clause-asked g c =
     let i = c.self.inside in
-    subst (λ (x : Propagating). AreAsked (CanAsk (g.P.Propagator.explains x.program) x.slots x.entries) x.entries) c.self.view_is
-    (all_asked (g.P.Propagator.explains (g.P.Propagator.told i.propagator).program) i.store.slots i.trail.entries c.self.invariant.fits.reasons c.self.invariant.explained)
+    subst (λ (x : Propagating). AreAsked (CanAsk (g.P.Propagator.explains x.program x.bound) x.slots x.entries) x.entries) c.self.view_is
+    (all_asked (g.P.Propagator.explains (g.P.Propagator.told i.propagator).program (g.P.Propagator.bound i.propagator)) i.store.slots i.trail.entries c.self.invariant.fits.reasons c.self.invariant.explained)
 
 pub returns-clause-said : goal.returns-clause-said
 returns-clause-said g c =
     let i = c.self.inside in
-    subst (λ (x : Propagating). AreReasons (IsSaid (g.P.Propagator.late x.program) x.slots x.entries) x.entries) c.self.view_is
-    (all_said (g.P.Propagator.late (g.P.Propagator.told i.propagator).program) i.store.slots i.trail.entries c.self.invariant.fits.reasons)
+    subst (λ (x : Propagating). AreReasons (IsSaid (g.P.Propagator.late x.program x.bound) x.slots x.entries) x.entries) c.self.view_is
+    (all_said (g.P.Propagator.late (g.P.Propagator.told i.propagator).program (g.P.Propagator.bound i.propagator)) i.store.slots i.trail.entries c.self.invariant.fits.reasons)
 
 pub returns-clause-implied : goal.returns-clause-implied
 returns-clause-implied g c =
     let i = c.self.inside in
     let p = (g.P.Propagator.told i.propagator).program in
-    subst (λ (x : Propagating). IsSound x.program → AreImpliedBy (IsAtHand (g.P.Propagator.late x.program) x.slots) x.entries) c.self.view_is
+    let b = g.P.Propagator.bound i.propagator in
+    subst (λ (x : Propagating). IsSound x.program → AreImpliedBy (IsAtHand (g.P.Propagator.late x.program x.bound) x.slots) x.entries) c.self.view_is
     (λ sound.
-    all_implied (var_count p) (g.P.Propagator.explains p) (g.P.Propagator.late p) i.store.slots i.trail.entries (λ fs l name o w. g.met.P.Propagator.reasoned p fs l name sound o w)
+    all_implied (var_count p) (g.P.Propagator.explains p b) (g.P.Propagator.late p b) i.store.slots i.trail.entries (λ fs l name o w. g.met.P.Propagator.reasoned p b fs l name sound o w)
     (subst (λ (n : ℕ). IsOrdered n i.trail.entries) c.self.invariant.told.vars c.len-len.ensures.ordered) c.self.invariant.fits.reasons c.self.invariant.explained)

@@ -2,7 +2,7 @@ use Rattle.std.proofs.Common.{sym, ap, ◌∙◌, subst}
 use Rattle.asp_trail.specs.Entries.{cut}
 use Rattle.asp_trail.specs.Trails.{Trailed}
 use Rattle.asp_propagate.specs.Propagating.{Propagating, IsFollowed}
-use Rattle.asp_propagate.proofs.PropagateLaws.{followed_cut}
+use Rattle.asp_propagate.proofs.PropagateLaws.{followed_cut, followed_bound}
 use Rattle.asp_propagate.proofs.EngineLaws.{same_view, cut_trail}
 use Rattle.asp_propagate.proofs.engine.Engine.undo_to.Goals as goal
 
@@ -11,10 +11,12 @@ invariant_of-self g c =
     let i = c.self.inside in
     let u = c.untell_above-self-inside.ensures in
     let q = c.undo_to.ensures in
-    subst (λ (x : Trailed). IsFollowed g.P.Propagator.explains (g.P.Propagator.told c.untell_above-self-inside.new.propagator) i.store x c.untell_above-self-inside.result)
+    let new = c.untell_above-self-inside.new.propagator in
+    subst (λ (x : Trailed). IsFollowed (λ p. g.P.Propagator.explains p (g.P.Propagator.bound new)) (g.P.Propagator.told c.untell_above-self-inside.new.propagator) i.store x c.untell_above-self-inside.result)
     (sym (cut_trail i.trail c.undo_to.new.self c.args.level q.same q.entries q.seen))
-    (followed_cut g.P.Propagator.explains (g.P.Propagator.told i.propagator) (g.P.Propagator.told c.untell_above-self-inside.new.propagator) i.store i.trail i.told c.untell_above-self-inside.result c.args.level
-    c.len-len.ensures.ordered.rising u.low u.program u.told c.self.invariant)
+    (followed_cut (λ p. g.P.Propagator.explains p (g.P.Propagator.bound new)) (g.P.Propagator.told i.propagator) (g.P.Propagator.told c.untell_above-self-inside.new.propagator) i.store i.trail i.told c.untell_above-self-inside.result c.args.level
+    c.len-len.ensures.ordered.rising u.low u.kept u.program u.told
+    (followed_bound g.P.Propagator.explains (g.P.Propagator.bound i.propagator) (g.P.Propagator.bound new) (g.P.Propagator.told i.propagator) i.store i.trail i.told u.bound c.self.invariant))
 
 pub returns : goal.returns
 returns g c =

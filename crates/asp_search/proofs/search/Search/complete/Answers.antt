@@ -50,7 +50,7 @@ fault-requires-clause-whole g c =
     let full : IsFull silent (used_up (reasoning_of i.mode) i.state.program (answers_known i.known.items i.seen)) t q = record {
       ordered = c.trail.ensures.ordered;
       starts = (c.trail.ensures.begun q under).starts;
-      reasons = settled_reasons i.compiled.now t i.mode (answers_known i.known.items i.seen) (g.P.Propagator.gives t.program t.bound) (g.P.Propagator.late t.program) c.self.invariant.0.program
+      reasons = settled_reasons i.compiled.now t i.mode (answers_known i.known.items i.seen) (g.P.Propagator.gives t.program t.bound) (g.P.Propagator.late t.program t.bound) c.self.invariant.0.program
           c.program-program.ensures.sound (g.met.P.Propagator.sound t.program t.bound) (g.met.P.Propagator.given t.program t.bound) c.self.invariant.0.useful c.store-store.ensures.implied;
       small = c.store-store.ensures.small;
       completed = c.store-store.ensures.completed;
@@ -87,7 +87,7 @@ answer-requires g c =
     let full : IsFull silent (used_up (reasoning_of i.mode) i.state.program (answers_known i.known.items i.seen)) t q = record {
       ordered = c.trail.ensures.ordered;
       starts = (c.trail.ensures.begun q under).starts;
-      reasons = settled_reasons i.compiled.now t i.mode (answers_known i.known.items i.seen) (g.P.Propagator.gives t.program t.bound) (g.P.Propagator.late t.program) c.self.invariant.0.program
+      reasons = settled_reasons i.compiled.now t i.mode (answers_known i.known.items i.seen) (g.P.Propagator.gives t.program t.bound) (g.P.Propagator.late t.program t.bound) c.self.invariant.0.program
           c.program-program.ensures.sound (g.met.P.Propagator.sound t.program t.bound) (g.met.P.Propagator.given t.program t.bound) c.self.invariant.0.useful c.store-store.ensures.implied;
       small = c.store-store.ensures.small;
       completed = c.store-store.ensures.completed;

@@ -33,7 +33,7 @@ pay-requires-clause-met g c =
     let U = used_up (reasoning_of i.mode) i.state.program (answers_known i.known.items i.seen) in
     let sound : IsSound i.state.program = subst IsSound c.self.invariant.0.program c.program-program.ensures.sound in
     let useful = all_useful_for i.compiled.now i.state i.mode (answers_known i.known.items i.seen) c.self.invariant.0.program c.self.invariant.0.useful in
-    let settled = settled_reasons i.compiled.now i.state i.mode (answers_known i.known.items i.seen) (g.P.Propagator.gives i.state.program i.state.bound) (g.P.Propagator.late i.state.program) c.self.invariant.0.program
+    let settled = settled_reasons i.compiled.now i.state i.mode (answers_known i.known.items i.seen) (g.P.Propagator.gives i.state.program i.state.bound) (g.P.Propagator.late i.state.program i.state.bound) c.self.invariant.0.program
     c.program-program.ensures.sound (g.met.P.Propagator.sound i.state.program i.state.bound) (g.met.P.Propagator.given i.state.program i.state.bound) c.self.invariant.0.useful c.store-store.ensures.implied in
     (q, met_of (g.P.Propagator.gives i.state.program i.state.bound) i.mode i.state i.pace (answers_known i.known.items i.seen) i.last q c.args.id l e c.trail-trail.ensures.ordered c.trail-trail.ensures.begun settled useful (λ n h. g.met.P.Propagator.sound i.state.program i.state.bound n U sound h) x)
 
@@ -60,7 +60,7 @@ returns-in-InCube-clause-ok g c = λ r h.
     let U = used_up (reasoning_of i.mode) i.state.program (answers_known i.known.items i.seen) in
     let sound : IsSound i.state.program = subst IsSound c.self.invariant.0.program c.program-program.ensures.sound in
     let useful = all_useful_for i.compiled.now i.state i.mode (answers_known i.known.items i.seen) c.self.invariant.0.program c.self.invariant.0.useful in
-    let settled = settled_reasons i.compiled.now i.state i.mode (answers_known i.known.items i.seen) (g.P.Propagator.gives i.state.program i.state.bound) (g.P.Propagator.late i.state.program) c.self.invariant.0.program
+    let settled = settled_reasons i.compiled.now i.state i.mode (answers_known i.known.items i.seen) (g.P.Propagator.gives i.state.program i.state.bound) (g.P.Propagator.late i.state.program i.state.bound) c.self.invariant.0.program
     c.program-program.ensures.sound (g.met.P.Propagator.sound i.state.program i.state.bound) (g.met.P.Propagator.given i.state.program i.state.bound) c.self.invariant.0.useful c.store-store.ensures.implied in
     let m = met_of (g.P.Propagator.gives i.state.program i.state.bound) i.mode i.state i.pace (answers_known i.known.items i.seen) i.last q c.args.id (learned.InCube n) e c.trail-trail.ensures.ordered c.trail-trail.ensures.begun settled useful (λ n h. g.met.P.Propagator.sound i.state.program i.state.bound n U sound h) x in
     let new : Searching = view_of i.mode i.state i.pace (answers_known i.known.items i.seen) i.last in

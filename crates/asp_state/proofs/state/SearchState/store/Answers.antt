@@ -13,7 +13,7 @@ returns-clause-reasons g c = subst (λ (t : SearchView). HaveReasons t.slots t.e
 
 pub returns-clause-implied : goal.returns-clause-implied
 returns-clause-implied g c =
-    subst (λ (t : SearchView). IsSound t.program → AreImpliedBy (IsAtHand (g.P.Propagator.late t.program) t.slots) t.entries) c.self.view_is c.store-2.ensures.implied
+    subst (λ (t : SearchView). IsSound t.program → AreImpliedBy (IsAtHand (g.P.Propagator.late t.program t.bound) t.slots) t.entries) c.self.view_is c.store-2.ensures.implied
 
 pub returns-clause-few : goal.returns-clause-few
 returns-clause-few g c =

@@ -1,0 +1,27 @@
+-- What is written when a reason is asked for.
+use Rattle.std.proofs.Common.{ℕ, List, length, Option, Some, None, ℤ, inl, inr}
+use Rattle.asp_model.specs.declared.program.Program.{Program}
+use Rattle.asp_model.specs.Sound.{IsSound}
+use Rattle.asp_vars.specs.Literals.{Literal}
+use Rattle.asp_vars.specs.Numbering.{var_count}
+use Rattle.asp_vars.specs.declared.nogood.Nogood.{Nogood}
+use Rattle.asp_trail.specs.declared.trail.Entry.{Entry}
+use Rattle.asp_trail.specs.Trails.{IsOrdered}
+use Rattle.asp_trail.specs.Reasons.{IsReason}
+use Rattle.asp_weight.proofs.ExplainLaws.{reasoned as weights_reasoned}
+use Rattle.asp_bound.proofs.LateLaws.{explained_lower, reasoned as bound_reasoned}
+use Rattle.asp_propagate.specs.Useful.{IsSmaller}
+use Rattle.asp_propagators.specs.Saying.{gives, explains, late}
+
+pub late-given : (p : Program) (b : Option (List ℤ)) (n : Nogood) → late p b n → gives p b n
+late-given p b n (inl w) = inl w
+late-given p b n (inr d) = inr (inl d)
+
+pub follows-lower : (p : Program) (b : Option (List ℤ)) (c : List ℤ) (es : List Entry) (l : Literal) (name : ℕ) → IsSmaller c b → explains p b es l name → explains p (Some c) es l name
+follows-lower p b c es l name s (inl w) = inl w
+follows-lower p None c es l name s (inr x) = inr (explained_lower p None c es l tt x.0, x.1)
+follows-lower p (Some d) c es l name s (inr x) = inr (explained_lower p (Some d) c es l s x.0, x.1)
+
+pub follows-reasoned : (p : Program) (b : Option (List ℤ)) (es : List Entry) (l : Literal) (name : ℕ) → IsSound p → IsOrdered (var_count p) es → explains p b es l name → (n : Nogood) × late p b n × IsReason es (length es) l n.lits
+follows-reasoned p b es l name sound o (inl w) = let r = weights_reasoned p es l name sound o w.0 in (r.0, inl r.1, r.2)
+follows-reasoned p b es l name sound o (inr x) = let r = bound_reasoned p b es l o x.0 in (r.0, inr r.1, r.2)
