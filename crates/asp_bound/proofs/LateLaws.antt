@@ -142,16 +142,16 @@ other_with z x v (Some b) ne = get_or-set_other z x v (Some b) None ne
 -- one that isn't among them keeps what it has
 aside_from : (a z : List (Option Bool)) (vs : List ℕ) (v : ℕ) → list_any (is v) vs ≡ false → value_of (fold (gain a) z vs) v ≡ value_of z v
 aside_from a z [] v e = refl
-aside_from a z (x ∷ vs) v e = cases (eqb x v) refl
+aside_from a z (x ∷ vs) v e = cases (aside_from a (gain a z x) vs v) (eqb x v) refl
   where
     or_false : (b c : Bool) → (b || c) ≡ false → (b ≡ false) × (c ≡ false)
     or_false true c q = absurd (false≢true (sym q))
     or_false false c q = (refl, q)
 
-    cases : (b : Bool) → eqb x v ≡ b → value_of (fold (gain a) (gain a z x) vs) v ≡ value_of z v
-    cases true q = absurd (false≢true (sym (or_false (eqb x v) (list_any (is v) vs) e).0 ∙ q))
-    cases false q =
-        aside_from a (gain a z x) vs v (or_false (eqb x v) (list_any (is v) vs) e).1
+    cases : (list_any (is v) vs ≡ false → value_of (fold (gain a) (gain a z x) vs) v ≡ value_of (gain a z x) v) → (b : Bool) → eqb x v ≡ b → value_of (fold (gain a) (gain a z x) vs) v ≡ value_of z v
+    cases rest true q = absurd (false≢true (sym (or_false (eqb x v) (list_any (is v) vs) e).0 ∙ q))
+    cases rest false q =
+        rest (or_false (eqb x v) (list_any (is v) vs) e).1
         ∙ other_with z x v (value_of a x) (λ s. false≢true (sym q ∙ eq-eqb x v (sym s)))
 
 -- one without a value gets none
@@ -167,7 +167,7 @@ none_from a z (x ∷ vs) v e f = none_from a (gain a z x) vs v e (here (cases_eq
 some_from : (a z : List (Option Bool)) (vs : List ℕ) (v : ℕ) (b : Bool) → v < length z → value_of a v ≡ Some b → value_of z v ≡ Some b ⊎ list_any (is v) vs ≡ true → value_of (fold (gain a) z vs) v ≡ Some b
 some_from a z [] v b lt e (inl f) = f
 some_from a z [] v b lt e (inr g) = absurd (false≢true g)
-some_from a z (x ∷ vs) v b lt e h = cases (cases_eq v x)
+some_from a z (x ∷ vs) v b lt e h = cases (some_from a (gain a z x) vs v b long e) (cases_eq v x)
   where
     long : v < length (gain a z x)
     long = omega (arith, lt, length_with z x (value_of a x))
@@ -176,15 +176,15 @@ some_from a z (x ∷ vs) v b lt e h = cases (cases_eq v x)
     later_on true q s = absurd (false≢true (sym s))
     later_on false q s = q
 
-    rest : v ≢ x → value_of z v ≡ Some b ⊎ list_any (is v) (x ∷ vs) ≡ true → value_of (gain a z x) v ≡ Some b ⊎ list_any (is v) vs ≡ true
+    rest : v ≢ x → (value_of z v ≡ Some b) ⊎ (list_any (is v) (x ∷ vs) ≡ true) → (value_of (gain a z x) v ≡ Some b) ⊎ (list_any (is v) vs ≡ true)
     rest ne (inl f) = inl (other_with z x v (value_of a x) ne ∙ f)
     rest ne (inr g) = inr (later_on (eqb x v) g (ne_eqb x v (λ s. ne (sym s))))
 
-    cases : (v ≡ x) ⊎ (v ≢ x) → value_of (fold (gain a) (gain a z x) vs) v ≡ Some b
-    cases (inl s) =
-        some_from a (gain a z x) vs v b long e
+    cases : ((value_of (gain a z x) v ≡ Some b) ⊎ (list_any (is v) vs ≡ true) → value_of (fold (gain a) (gain a z x) vs) v ≡ Some b) → (v ≡ x) ⊎ (v ≢ x) → value_of (fold (gain a) (gain a z x) vs) v ≡ Some b
+    cases more (inl s) =
+        more
         (inl (ap (λ o. value_of (with_value z x o) v) (ap (value_of a) (sym s) ∙ e) ∙ (ap (λ (w : ℕ). value_of (set z w (Some b)) v) (sym s) ∙ get_or-set_same z v (Some b) None lt)))
-    cases (inr ne) = some_from a (gain a z x) vs v b long e (rest ne h)
+    cases more (inr ne) = more (rest ne h)
 
 -- one more of them
 pub only_more : (a : List (Option Bool)) (vs : List ℕ) (i v : ℕ) → i < length vs → v ≡ get_or vs i 0 → only a (take (i + 1) vs) ≡ with_value (only a (take i vs)) v (value_of a v)
@@ -368,14 +368,17 @@ module _ (p : Program) (bound : Option (List ℤ)) (es : List Entry) (l : Litera
   lits = map (λ e. e.lit) es ++ complement l ∷ []
 
   last_has : has_literal lits (complement l) ≡ true
+  unfolding lits
   last_has =
       list_any-append (λ k. literal_eq k (complement l)) (map (λ e. e.lit) es) (complement l ∷ [])
       ∙ or_right (has_literal (map (λ e. e.lit) es) (complement l)) (has_literal (complement l ∷ []) (complement l)) (or_left (literal_eq (complement l) (complement l)) false (itself l.var (complement l).truth))
 
   first_has : (k : Literal) → has_literal (map (λ e. e.lit) es) k ≡ true → has_literal lits k ≡ true
+  unfolding lits
   first_has k h = list_any-append (λ m. literal_eq m k) (map (λ e. e.lit) es) (complement l ∷ []) ∙ or_left (has_literal (map (λ e. e.lit) es) k) (has_literal (complement l ∷ []) k) h
 
   told_has : (v : ℕ) (b : Bool) → value_of told v ≡ Some b → has_literal lits (lit_of v b) ≡ true
+  unfolding a told
   told_has v b e = elim (cases_eq v l.var) [
     | inl is_it ↦ (
         let within : l.var < length a = omega (arith, x.var.1, length_assigned (var_count p) es) in
@@ -389,6 +392,7 @@ module _ (p : Program) (bound : Option (List ℤ)) (es : List Entry) (l : Litera
   ]
 
   excluded : ExcludesBelow p x.cost lits
+  unfolding a told
   excluded = record { excluded = λ v hit. by_reach v hit (reach (optimistic p told) x.cost) refl }
     where
       by_reach : (v : List Bool) → hits v lits ≡ true → (r : Option ℕ) → reach (optimistic p told) x.cost ≡ r → betters (cost_of p v) x.cost ≡ false
@@ -396,6 +400,7 @@ module _ (p : Program) (bound : Option (List ℤ)) (es : List Entry) (l : Litera
       by_reach v hit (Some d) r = excluded_at p told x.cost d v r (λ j w b lt low i k e up. beq_same (get_or v w false) b (hits-has v lits (lit_of w b) hit (told_has w b e)))
 
   reason : IsReason es (length es) l lits
+  unfolding lits
   reason = record {
     has = last_has;
     others = λ k h ne. by_part k ne (has_literal (map (λ e. e.lit) es) k) refl (sym (list_any-append (λ m. literal_eq m k) (map (λ e. e.lit) es) (complement l ∷ [])) ∙ h);
@@ -497,5 +502,5 @@ pub ready : (p : Program) (t : Trailed) (place : ℕ) (rows : List (List Place))
 ready p t place rows columns vars sums raisers c l lit same o told kept explained is_l is_lit =
     let d : Entry = record { lit = l; level = 0; reason = None } in
     let both = kept_before p t place rows columns vars sums raisers same o told kept in
-    let open = explained_open p t place c l same (subst (IsExplained p (Some c) (take place t.entries)) (sym (is_l d)) (explained d)) in
-    subst (IsReady p t place rows columns vars sums raisers c) (sym is_lit) (record { kept = both.0; are = both.1; none = open.0; dear = open.1; var = open.2 })
+    let free = explained_open p t place c l same (subst (IsExplained p (Some c) (take place t.entries)) (sym (is_l d)) (explained d)) in
+    subst (IsReady p t place rows columns vars sums raisers c) (sym is_lit) (record { kept = both.0; are = both.1; none = free.0; dear = free.1; var = free.2 })
