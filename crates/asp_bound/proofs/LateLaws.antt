@@ -1,6 +1,6 @@
 -- The reason of a literal that followed by the bound.
 use Rattle.std.proofs.Common.{◌≡◌, ◌≢◌, ◌⊎◌, ℕ, zero, suc, cond, ◌+◌, ◌<◌, ◌≤◌, Bool, true, false, not, eqb, ◌||◌, List, [], ◌∷◌, ◌++◌, length, fold, map, get_or, set, take, replicate, Option, Some, None, ℤ, pos, ◌+ℤ◌, refl, sym, ap, ◌∙◌, subst, inl, inr, arith, get_or-set_other, get_or-set_same}
-use Rattle.std.specs.List.{All, list_any}
+use Rattle.std.specs.List.{list_any}
 use Rattle.std.specs.Ordering.{int_cmp, is_lt, ordering_reverse}
 use Rattle.std.specs.declared.cmp.Ordering.{Ordering}
 use Rattle.std.specs.declared.cmp.Ordering.TheVariants.{Less, Equal, Greater}
@@ -8,7 +8,7 @@ use Rattle.std.specs.Cmp.Lexicographic.{slice_cmp}
 use Rattle.std.specs.List.Sorted.{IsPermutation}
 use Rattle.std.specs.Option.{is_none}
 use Rattle.std.proofs.lemmas.Int.{ints}
-use Rattle.std.proofs.lemmas.Bool.{false≢true, cases_eq, cases_lt, eqb-true, eq-eqb, ne_eqb, or_left, or_right}
+use Rattle.std.proofs.lemmas.Bool.{false≢true, cases_eq, cases_lt, eq-eqb, ne_eqb, or_left, or_right}
 use Rattle.std.proofs.lemmas.Option.{none-some, same_Some}
 use Rattle.std.proofs.lemmas.List.{length-take, length-set, length-replicate, get_or-take, take_all}
 use Rattle.std.proofs.lemmas.List.Elements.{All-weaker}
@@ -17,7 +17,7 @@ use Rattle.std.proofs.lemmas.List.Sums.{fold_more, count_by_more_yes, sum_by-tak
 use Rattle.asp_model.specs.declared.program.Program.{Program}
 use Rattle.asp_model.specs.Costs.{priorities, betters}
 use Rattle.asp_model.specs.Orders.{costs_total}
-use Rattle.asp_vars.specs.Literals.{Literal, T, F, complement, literal_eq, has_literal, value_of, holds_in, agrees, hits, is_true}
+use Rattle.asp_vars.specs.Literals.{Literal, T, F, complement, literal_eq, has_literal, value_of, holds_in, agrees, hits}
 use Rattle.asp_vars.specs.Numbering.{var_count}
 use Rattle.asp_vars.specs.declared.nogood.Base.TheVariants as base
 use Rattle.asp_vars.specs.declared.nogood.Nogood.{Nogood}
@@ -32,7 +32,7 @@ use Rattle.asp_trail.proofs.HeldLaws.{ordered_take, length_assigned}
 use Rattle.asp_trail.proofs.HoldLaws.{holds_at, holds_found}
 use Rattle.asp_bound.specs.declared.place.Place.{Place}
 use Rattle.asp_bound.specs.declared.place.Item.{Item}
-use Rattle.asp_bound.specs.Optimism.{least, least_at, weight_at, optimistic_at, optimistic}
+use Rattle.asp_bound.specs.Optimism.{least, least_at, weight_at, optimistic}
 use Rattle.asp_bound.specs.Rises.{rise, rise_at, raised, row_at, nth_priority}
 use Rattle.asp_bound.specs.Reach.{reach, lifted}
 use Rattle.asp_bound.specs.Found.{Reaches}
@@ -45,7 +45,7 @@ use Rattle.asp_bound.specs.Kept.{IsKept, IsOnce}
 use Rattle.asp_bound.specs.Reasons.{before}
 use Rattle.asp_bound.specs.Needed.{needed}
 use Rattle.asp_bound.specs.Explained.{IsExplained, IsTooDear, AreTold}
-use Rattle.asp_bound.specs.Late.{with_value, only, AreOnce, HaveRaisers}
+use Rattle.asp_bound.specs.Late.{with_value, only, HaveRaisers}
 use Rattle.asp_bound.proofs.CostLaws.{least-rise}
 use Rattle.asp_bound.proofs.SumLaws.{sum_to-same}
 use Rattle.asp_bound.proofs.ReachLaws.{betters-reach, reached_now}

@@ -1,5 +1,5 @@
 -- That a literal follows from entries by the bound.
-use Rattle.std.specs.Prelude.{◌≡◌, ℕ, ◌+◌, ◌^◌, ◌<◌, Bool, true, false, List, length, take, Option, Some, None, slice_set, slice_index_or, ℤ}
+use Rattle.std.specs.Prelude.{◌≡◌, ℕ, ◌+◌, ◌^◌, ◌<◌, Bool, true, false, List, length, Option, Some, None, slice_set, slice_index_or, ℤ}
 use Rattle.asp_model.specs.declared.program.Program.{Program}
 use Rattle.asp_vars.specs.Literals.{Literal, complement, value_of, holds_in}
 use Rattle.asp_vars.specs.Numbering.{var_count}

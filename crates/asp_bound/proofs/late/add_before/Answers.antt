@@ -1,7 +1,6 @@
-use Rattle.std.proofs.Common.{◌≡◌, ℕ, ◌<◌, ◌≤◌, ◌+ℤ◌, Bool, List, Option, ℤ, length, get_or, take, pos, refl, sym, ap, ◌∙◌, subst, arith}
+use Rattle.std.proofs.Common.{ℕ, ◌<◌, ◌≤◌, List, length, get_or, take, refl, sym, subst, arith}
 use Rattle.std.specs.List.{All}
 use Rattle.std.proofs.lemmas.Int.{ints}
-use Rattle.asp_model.specs.declared.program.Program.{Program}
 use Rattle.asp_bound.specs.declared.place.Place.{Place}
 use Rattle.asp_bound.specs.Late.{only}
 use Rattle.asp_bound.specs.Reasons.{before}
