@@ -422,10 +422,10 @@ module _ (p : Program) (bound : Option (List ℤ)) (es : List Entry) (l : Litera
 
   pub reasoned : (n : Nogood) × IsTooDear p bound n × IsReason es (length es) l n.lits
   reasoned = (
-      record { lits = lits; base = base.Below x.cost },
-      record { cost = x.cost; stands = x.stands; excluded = excluded; base = refl; below = excludes_below p x.cost lits excluded },
-      reason,
-    )
+    record { lits = lits; base = base.Below x.cost },
+    record { cost = x.cost; stands = x.stands; excluded = excluded; base = refl; below = excludes_below p x.cost lits excluded },
+    reason,
+  )
 
 -- ---- what is written is the reason
 -- what follows says of the values before its place
@@ -435,7 +435,7 @@ explained_open p t place c l same x =
     let is : x.cost ≡ c = same_Some x.cost c (sym x.stands) in (
       ap (λ (n : ℕ). value_of (assignment n (take place t.entries)) l.var) same ∙ x.none,
       ap (λ (n : ℕ). is_below p (set (assignment n (take place t.entries)) l.var (Some (complement l).truth)) c) same
-      ∙ subst (λ (k : List ℤ). is_below p (set (assignment (var_count p) (take place t.entries)) l.var (Some (complement l).truth)) k ≡ false) is x.dear,
+          ∙ subst (λ (k : List ℤ). is_below p (set (assignment (var_count p) (take place t.entries)) l.var (Some (complement l).truth)) k ≡ false) is x.dear,
       x.var,
     )
 

@@ -12,4 +12,4 @@ returns-in_err-truth c =
 pub returns-else-held_before : goal.returns-else-held_before
 returns-else-held_before c =
     sym (not_before c.args.trail.now c.args.place c.args.var c.in_ok-truth.truth c.len-len.ensures.ordered (sym c.in_ok-truth.ensures.value)
-        (ap (holds_in (before c.args.trail.now c.args.place)) (sym c.new.ensures) ∙ (sym c.held_before.ensures ∙ c.if-held_before.false)))
+    (ap (holds_in (before c.args.trail.now c.args.place)) (sym c.new.ensures) ∙ (sym c.held_before.ensures ∙ c.if-held_before.false)))

@@ -68,11 +68,14 @@ returns-in-Some-clause-said c =
     let made = c.in_ok-nogood.ensures in
     let same = c.as_mut_slice-left.ensures.value ∙ c.in_ok-copy.ensures.items_if_clones_equal (λ x y q. q) in
     let shown = shown_before c.args.trail.now c.len-len.result a c.len-len.ensures.len c.requires.shown in
-    let moved = subst (λ (z : List (Option Bool)). IsPermutation (raising_of z c.args.rows.now c.in-Some.depth c.args.raisers.now) made.0) shown made.1 in
-    (c.args.cost.now, refl, given_now_as c.args.origin.now.value a c.args.rows.now c.args.columns.now c.args.vars.now c.args.sums.now c.requires.kept c.args.raisers.now (raisers_have a c.args.rows.now c.args.raisers.now c.requires.raisers) c.args.cost.now c.args.sums.now c.as_slice-limits.result.now c.in-Some.depth c.in_ok-nogood.nogood
-    (needed c.args.rows.now c.args.cost.now c.in-Some.depth c.as_mut_slice-left.result.now made.0) made.0 c.as_mut_slice-left.result.now
-    refl c.as_slice-limits.ensures reached moved same
-    (ap (λ (l : List ℤ). needed c.args.rows.now l c.in-Some.depth c.as_mut_slice-left.result.now made.0) (sym c.as_slice-limits.ensures)) made.2)
+    let moved = subst (λ (z : List (Option Bool)). IsPermutation (raising_of z c.args.rows.now c.in-Some.depth c.args.raisers.now) made.0) shown made.1 in (
+      c.args.cost.now,
+      refl,
+      given_now_as c.args.origin.now.value a c.args.rows.now c.args.columns.now c.args.vars.now c.args.sums.now c.requires.kept c.args.raisers.now (raisers_have a c.args.rows.now c.args.raisers.now c.requires.raisers) c.args.cost.now c.args.sums.now c.as_slice-limits.result.now c.in-Some.depth c.in_ok-nogood.nogood
+          (needed c.args.rows.now c.args.cost.now c.in-Some.depth c.as_mut_slice-left.result.now made.0) made.0 c.as_mut_slice-left.result.now
+          refl c.as_slice-limits.ensures reached moved same
+          (ap (λ (l : List ℤ). needed c.args.rows.now l c.in-Some.depth c.as_mut_slice-left.result.now made.0) (sym c.as_slice-limits.ensures)) made.2,
+    )
 
 -- ---- a literal follows, or none does
 pub returns-in_default-find-clause-silent : goal.returns-in_default-find-clause-silent

@@ -28,16 +28,23 @@ raise-requires-clause-small c = λ j lt.
     let v : ℕ = get_or c.args.raisers.now c.args.i 0 in
     let var = c.requires.raisers.within c.args.i 0 c.requires.within in
     let high : v ≤ c.args.trail.now.vars = var.1 in
-    omega (arith, raised_as c.args.rows.now v c.in-Some.truth c.row-row.result.now v c.in-Some.truth c.row-row.ensures refl refl j,
-    raised-small c.args.origin.now.value (only (before c.args.trail.now c.args.place) (take c.args.i c.args.raisers.now)) c.args.rows.now c.args.columns.now c.args.vars.now c.args.sums.now c.requires.kept v j c.in-Some.truth var.0 (omega (arith, high, c.requires.vars)) lt)
+    omega (
+      arith,
+      raised_as c.args.rows.now v c.in-Some.truth c.row-row.result.now v c.in-Some.truth c.row-row.ensures refl refl j,
+      raised-small c.args.origin.now.value (only (before c.args.trail.now c.args.place) (take c.args.i c.args.raisers.now)) c.args.rows.now c.args.columns.now c.args.vars.now c.args.sums.now c.requires.kept v j c.in-Some.truth var.0 (omega (arith, high, c.requires.vars)) lt,
+    )
 
 pub raise-requires-clause-room : goal.raise-requires-clause-room
 raise-requires-clause-room c = λ j lt.
     let v : ℕ = get_or c.args.raisers.now c.args.i 0 in
     let var = c.requires.raisers.within c.args.i 0 c.requires.within in
     let high : v ≤ c.args.trail.now.vars = var.1 in
-    omega (arith, ints, raised_as c.args.rows.now v c.in-Some.truth c.row-row.result.now v c.in-Some.truth c.row-row.ensures refl refl j,
-    raise-room c.args.origin.now.value (only (before c.args.trail.now c.args.place) (take c.args.i c.args.raisers.now)) c.args.rows.now c.args.columns.now c.args.vars.now c.args.sums.now c.requires.kept v c.in-Some.truth var.0 (omega (arith, high, c.requires.vars)) j lt)
+    omega (
+      arith,
+      ints,
+      raised_as c.args.rows.now v c.in-Some.truth c.row-row.result.now v c.in-Some.truth c.row-row.ensures refl refl j,
+      raise-room c.args.origin.now.value (only (before c.args.trail.now c.args.place) (take c.args.i c.args.raisers.now)) c.args.rows.now c.args.columns.now c.args.vars.now c.args.sums.now c.requires.kept v c.in-Some.truth var.0 (omega (arith, high, c.requires.vars)) j lt,
+    )
 
 pub returns-in-Some : goal.returns-in-Some
 returns-in-Some c =

@@ -155,7 +155,7 @@ returns-clause-dear c =
     let i : Implied = record { lit = x; depth = c.in-Some.depth } in
     let reaches = reaches_by p b rows columns vars sums r.kept c.args.cost.now i c.raise.new.sums c.as_slice-limits.result.now more c.as_slice-limits.ensures r.var r.none c.in-Some.ensures in
     IfOk-weaker c.nogood_by.result _ _ (λ n made.
-        (written p t c.args.place rows columns vars sums c.args.raisers.now c.len-len.ensures.ordered r.kept r.are c.args.cost.now c.lit.result i n made.0 c.raise.new.sums c.complement-lit.ensures reaches r.var made.1 more made.2).0) c.nogood_by.ensures
+    (written p t c.args.place rows columns vars sums c.args.raisers.now c.len-len.ensures.ordered r.kept r.are c.args.cost.now c.lit.result i n made.0 c.raise.new.sums c.complement-lit.ensures reaches r.var made.1 more made.2).0) c.nogood_by.ensures
 
 pub returns-clause-reason : goal.returns-clause-reason
 returns-clause-reason c =
@@ -174,4 +174,4 @@ returns-clause-reason c =
     let i : Implied = record { lit = x; depth = c.in-Some.depth } in
     let reaches = reaches_by p b rows columns vars sums r.kept c.args.cost.now i c.raise.new.sums c.as_slice-limits.result.now more c.as_slice-limits.ensures r.var r.none c.in-Some.ensures in
     IfOk-weaker c.nogood_by.result _ _ (λ n made d. subst (λ (l : Literal). IsReason t.entries c.args.place l n.lits) (c.lit.ensures.lit d)
-        (written p t c.args.place rows columns vars sums c.args.raisers.now c.len-len.ensures.ordered r.kept r.are c.args.cost.now c.lit.result i n made.0 c.raise.new.sums c.complement-lit.ensures reaches r.var made.1 more made.2).1) c.nogood_by.ensures
+    (written p t c.args.place rows columns vars sums c.args.raisers.now c.len-len.ensures.ordered r.kept r.are c.args.cost.now c.lit.result i n made.0 c.raise.new.sums c.complement-lit.ensures reaches r.var made.1 more made.2).1) c.nogood_by.ensures
