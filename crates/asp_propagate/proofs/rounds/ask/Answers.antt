@@ -9,7 +9,7 @@ use Rattle.asp_trail.specs.Told.{Told}
 use Rattle.asp_store.specs.declared.stored_nogood.Kind.TheVariants as kind
 use Rattle.asp_propagate.specs.Propagating.{IsFollowed}
 use Rattle.asp_propagate.specs.Saying.{IsToSay, IsFollowing}
-use Rattle.asp_propagate.proofs.PropagateLaws.{asked_more, followed_bound, followed_late, goes_late}
+use Rattle.asp_propagate.proofs.PropagateLaws.{asked_more, asked_same, followed_bound, followed_late, goes_late}
 use Rattle.asp_propagate.proofs.rounds.ask.Goals as goal
 
 pub returns-in_ok-_id-in-Some-Nogood-clause-followed :
@@ -44,3 +44,21 @@ returns-in-Some-Implied-clause-goes g c =
     let i = c.in-Some-Implied.implied in
     goes_late (g.P.Propagator.gives t.program b) t (g.P.Propagator.told c.next.new.self) b (g.P.Propagator.bound c.next.new.self) c.args.store.now.slots c.args.trail.now.entries c.imply_late.new.trail.entries
     i.lit (2 ^ 31 + i.name) c.next.ensures.values c.next.ensures.stays (ap (λ (r : Trailed). r.entries) c.imply_late.ensures)
+
+pub returns-in_err-next-clause-followed : goal.returns-in_err-next-clause-followed
+returns-in_err-next-clause-followed g c =
+    let b = g.P.Propagator.bound c.args.propagator.now in
+    followed_bound g.P.Propagator.explains b (g.P.Propagator.bound c.next.new.self) (g.P.Propagator.told c.next.new.self) c.args.store.now c.args.trail.now (length c.args.trail.now.entries) c.next.ensures.stays
+    (asked_same (λ p. g.P.Propagator.explains p b) (g.P.Propagator.told c.args.propagator.now) (g.P.Propagator.told c.next.new.self) c.args.store.now c.args.store.now c.args.trail.now (length c.args.trail.now.entries) c.next.ensures.values refl c.requires)
+
+pub returns-in_err-_id-in-Some-Nogood-clause-followed : goal.returns-in_err-_id-in-Some-Nogood-clause-followed
+returns-in_err-_id-in-Some-Nogood-clause-followed g c =
+    let b = g.P.Propagator.bound c.args.propagator.now in
+    followed_bound g.P.Propagator.explains b (g.P.Propagator.bound c.next.new.self) (g.P.Propagator.told c.next.new.self) c.add.new.self c.args.trail.now (length c.args.trail.now.entries) c.next.ensures.stays
+    (asked_same (λ p. g.P.Propagator.explains p b) (g.P.Propagator.told c.args.propagator.now) (g.P.Propagator.told c.next.new.self) c.args.store.now c.add.new.self c.args.trail.now (length c.args.trail.now.entries) c.next.ensures.values c.in_err-_id-in-Some-Nogood.ensures.err c.requires)
+
+pub returns-in-None-clause-followed : goal.returns-in-None-clause-followed
+returns-in-None-clause-followed g c =
+    let b = g.P.Propagator.bound c.args.propagator.now in
+    followed_bound g.P.Propagator.explains b (g.P.Propagator.bound c.next.new.self) (g.P.Propagator.told c.next.new.self) c.args.store.now c.args.trail.now (length c.args.trail.now.entries) c.next.ensures.stays
+    (asked_same (λ p. g.P.Propagator.explains p b) (g.P.Propagator.told c.args.propagator.now) (g.P.Propagator.told c.next.new.self) c.args.store.now c.args.store.now c.args.trail.now (length c.args.trail.now.entries) c.next.ensures.values refl c.requires)
