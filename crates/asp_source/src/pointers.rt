@@ -14,7 +14,7 @@ ghost use Rattle.asp_scc.specs.Components.{AreComponents};
 ghost use Rattle.asp_source.specs.Pointers.{Loses, IsGone, AreGone, IsGoneAt, IsGoneBy, seek, regain};
 ghost use Rattle.asp_source.specs.Pointers.{AreNormal};
 
-use crate::bodies::occurrences;
+use crate::bodies::{bodies_with, occurrences};
 use crate::queue::Queue;
 use asp_scc::components::Components;
 use asp_vars::compiled::Compiled;
@@ -104,7 +104,7 @@ fn lose_bodies(compiled: &Compiled, sources: &mut [Var], queue: &mut Queue, lit:
     ensures loses { Loses sources.old queue.old sources.new queue.new }
     ensures gone { All (IsGoneAt compiled.now sources.new) (bodies_with compiled.now (complement lit)) }
 {
-    for cell in compiled.bodies_with(lit.complement()) {
+    for cell in bodies_with(compiled, lit.complement()) {
         lose_heads(compiled, sources, queue, cell.body as usize);
     }
 }
