@@ -14,7 +14,7 @@ use Rattle.asp_model.specs.declared.program.Program.{Program}
 use Rattle.asp_model.specs.Sets.{Atoms, has}
 use Rattle.asp_model.specs.Models.{rules_in_force, head_atoms}
 use Rattle.asp_model.proofs.MemberLaws.{list_any-flat_map}
-use Rattle.asp_vars.specs.Literals.{Literal, F, complement, literal_eq, has_literal, value_of, agrees, holds_in}
+use Rattle.asp_vars.specs.Literals.{Literal, complement, literal_eq, has_literal, value_of, agrees, holds_in}
 use Rattle.asp_vars.specs.Numbering.{normal, body_eq, bodies_of, place_of, var_of_atom, literal_of_form, literal_of, nth_atom}
 use Rattle.asp_vars.specs.Tabled.{heads_of, places_in, IsAtomVar}
 use Rattle.asp_vars.specs.Unfounded.{is_false, is_inside, outside_weight, needs, is_excused, is_unfounded}
