@@ -4,7 +4,7 @@
 //! atoms of its component that don't rest on its head: so a set of atoms with sources always has one whose source is
 //! outside of the set. What can take that away is that the body comes to be false, or that a weight body loses weight:
 //! then its heads lose it.
-ghost use Rattle.std.specs.Prelude.{◌≡◌, ◌+◌, ◌-◌, ◌<◌, ◌==◌, ◌≤◌, false, All, length, slice_index, slice_set, if◌then◌else◌};
+ghost use Rattle.std.specs.Prelude.{◌≡◌, ◌+◌, ◌<◌, ◌==◌, ◌≤◌, false, All, length, slice_index, slice_set, if◌then◌else◌};
 ghost use Rattle.asp_model.specs.Models.{atoms_of};
 ghost use Rattle.asp_vars.specs.Literals.{complement};
 ghost use Rattle.asp_vars.specs.Numbering.{bodies_of, var_count};
