@@ -1,5 +1,5 @@
 -- What is written when a reason is asked for.
-use Rattle.std.proofs.Common.{ℕ, List, length, Option, Some, None, ℤ, inl, inr}
+use Rattle.std.proofs.Common.{◌≡◌, ℕ, List, length, Option, Some, None, ℤ, inl, inr, arith}
 use Rattle.asp_model.specs.declared.program.Program.{Program}
 use Rattle.asp_model.specs.Sound.{IsSound}
 use Rattle.asp_vars.specs.Literals.{Literal}
@@ -8,7 +8,9 @@ use Rattle.asp_vars.specs.declared.nogood.Nogood.{Nogood}
 use Rattle.asp_trail.specs.declared.trail.Entry.{Entry}
 use Rattle.asp_trail.specs.Trails.{IsOrdered}
 use Rattle.asp_trail.specs.Reasons.{IsReason}
+use Rattle.asp_weight.specs.Explained.{IsExplained as IsWeighed}
 use Rattle.asp_weight.proofs.ExplainLaws.{reasoned as weights_reasoned}
+use Rattle.asp_bound.specs.Explained.{IsExplained as IsBounded}
 use Rattle.asp_bound.proofs.LateLaws.{explained_lower, reasoned as bound_reasoned}
 use Rattle.asp_propagate.specs.Useful.{IsSmaller}
 use Rattle.asp_propagators.specs.Saying.{gives, explains, late}
@@ -25,3 +27,12 @@ follows-lower p (Some d) c es l name s (inr x) = inr (explained_lower p (Some d)
 pub follows-reasoned : (p : Program) (b : Option (List ℤ)) (es : List Entry) (l : Literal) (name : ℕ) → IsSound p → IsOrdered (var_count p) es → explains p b es l name → (n : Nogood) × late p b n × IsReason es (length es) l n.lits
 follows-reasoned p b es l name sound o (inl w) = let r = weights_reasoned p es l name sound o w.0 in (r.0, inl r.1, r.2)
 follows-reasoned p b es l name sound o (inr x) = let r = bound_reasoned p b es l o x.0 in (r.0, inr r.1, r.2)
+
+-- whose name it is
+pub follows-bounded : (p : Program) (b : Option (List ℤ)) (es : List Entry) (l : Literal) (name : ℕ) → explains p b es l name → name ≡ 2147483647 → IsBounded p b es l
+follows-bounded p b es l name (inl w) e = absurd (omega (arith, w.1, e))
+follows-bounded p b es l name (inr x) e = x.0
+
+pub follows-weighed : (p : Program) (b : Option (List ℤ)) (es : List Entry) (l : Literal) (name : ℕ) → explains p b es l name → (name ≡ 2147483647 → ⊥) → IsWeighed p es l name
+follows-weighed p b es l name (inl w) ne = w.0
+follows-weighed p b es l name (inr x) ne = absurd (ne (omega (arith, x.1)))
