@@ -2,7 +2,6 @@
 use Rattle.std.proofs.Common.{◌≡◌, ◌≢◌, ℕ, ◌+◌, ◌-◌, ◌<◌, ◌≤◌, Bool, true, false, not, cond, ◌||◌, eqb, leb, List, [], ◌∷◌, map, length, set, get_or, Option, Some, None, refl, sym, ap, ◌∙◌, subst, arith, ◌⊎◌, inl, inr, get_or-set_same}
 use Rattle.std.specs.Prelude.{ℤ, is_some}
 use Rattle.std.specs.List.{All, AllByRecursion}
-use Rattle.std.specs.Bool.{beq}
 use Rattle.std.proofs.lemmas.Bool.{false≢true, eqb-true, eq-eqb}
 use Rattle.std.proofs.lemmas.Bool.Decides.{nat_tests}
 use Rattle.asp_model.specs.declared.program.Body.{Body}
@@ -12,7 +11,7 @@ use Rattle.asp_model.specs.Sets.{has}
 use Rattle.asp_model.specs.Holding.{atom_of}
 use Rattle.asp_model.specs.Models.{atoms_of}
 use Rattle.asp_model.specs.Sound.{IsSound}
-use Rattle.asp_vars.specs.Literals.{Literal, F, complement, literal_eq, has_literal, value_of, agrees, holds_in}
+use Rattle.asp_vars.specs.Literals.{Literal, F, complement, has_literal, value_of, agrees, holds_in}
 use Rattle.asp_vars.specs.Numbering.{body_eq, bodies_of, place_of, var_of_atom, literal_of_form, literal_of, nth_body}
 use Rattle.asp_vars.specs.Completion.{supports}
 use Rattle.asp_vars.specs.Tabled.{bound_of, form_literals, heads_of, held_row, bodies_with, occurrences_of, IsAtomVar, Stands as BodyStands}
@@ -22,6 +21,7 @@ use Rattle.asp_scc.specs.Components.{Parts}
 use Rattle.asp_scc.proofs.ReachLaws.{atom_small}
 use Rattle.asp_loop.specs.Parts.{form_of}
 use Rattle.asp_vars.proofs.SupportLaws.{at_form}
+use Rattle.asp_loop.proofs.WeighLaws.{literal_eq-itself}
 use Rattle.asp_loop.proofs.WeightedLaws.{by_recursion, form_items}
 use Rattle.asp_source.specs.Marks.{is_marked}
 use Rattle.asp_source.specs.Ranks.{source_of}
@@ -31,13 +31,6 @@ use Rattle.asp_source.proofs.ChangeLaws.{newly, excused_back, each_listed, twice
 use Rattle.asp_source.proofs.GatherLaws.{each_occurrence}
 use Rattle.asp_source.proofs.LoseLaws.{less_of}
 use Rattle.asp_source.proofs.PointerLaws.{IsSource, source_is, ranked_less, ranked_values, supports_less, support_at, source_weighted, false_from}
-
-literal_eq-itself : (l : Literal) → literal_eq l l ≡ true
-literal_eq-itself l = rw (eq-eqb l.var l.var refl) (same l.truth)
-  where
-    same : (t : Bool) → beq t t ≡ true
-    same true = refl
-    same false = refl
 
 -- none of its heads has the body as its source, so the atom hasn't
 gone_at : (p : Program) (t : List ℕ) (a s : ℕ) (d : Body) → IsSource p a s d → AreGone p t (place_of (body_eq d) (bodies_of p)) → source_of p t a ≢ s

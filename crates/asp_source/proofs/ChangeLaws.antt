@@ -14,9 +14,9 @@ use Rattle.asp_model.specs.declared.program.Program.{Program}
 use Rattle.asp_model.specs.Sets.{Atoms, has}
 use Rattle.asp_model.specs.Models.{rules_in_force, head_atoms}
 use Rattle.asp_model.proofs.MemberLaws.{list_any-flat_map}
-use Rattle.asp_vars.specs.Literals.{Literal, F, complement, literal_eq, has_literal, value_of, agrees, holds_in}
+use Rattle.asp_vars.specs.Literals.{Literal, complement, literal_eq, has_literal, value_of, agrees, holds_in}
 use Rattle.asp_vars.specs.Numbering.{normal, body_eq, bodies_of, place_of, var_of_atom, literal_of_form, literal_of, nth_atom}
-use Rattle.asp_vars.specs.Tabled.{form_literals, heads_of, occurrences_of, IsAtomVar}
+use Rattle.asp_vars.specs.Tabled.{heads_of, places_in, IsAtomVar}
 use Rattle.asp_vars.specs.Unfounded.{is_false, is_inside, outside_weight, needs, is_excused, is_unfounded}
 use Rattle.asp_vars.proofs.LiteralLaws.{beq_same, same_literal}
 use Rattle.asp_vars.proofs.NumberingLaws.{body_eq-itself}
@@ -158,13 +158,13 @@ var_component p c v are is =
     let within : get_or c.numbers v 0 < length c.members = subst (λ (w : ℕ). get_or c.numbers w 0 < length c.members) (var_at p v is) (are.within (nth_atom p (v - 1)) (atom_stands p v is)) in
     (omega (arith, small, size), omega (arith, within, counted), within)
 
-occurrences_within : (p : Program) (m : Literal) (bs : List Body) → AllByRecursion (λ b. list_any (body_eq b) (bodies_of p) ≡ true) bs → AllByRecursion (λ (o : Occurrence). o.body < length (bodies_of p)) (map (λ (d : Body). record { body = place_of (body_eq d) (bodies_of p); place = place_of (λ k. literal_eq k m) (form_literals p d) }) (filter (λ d. has_literal (form_literals p d) m) bs))
-occurrences_within p m [] h = tt
-occurrences_within p m (d ∷ bs) h = cases (has_literal (form_literals p d) m) (occurrences_within p m bs h.1)
+places_within : (p : Program) (row : Body → List Literal) (m : Literal) (bs : List Body) → AllByRecursion (λ b. list_any (body_eq b) (bodies_of p) ≡ true) bs → AllByRecursion (λ (o : Occurrence). o.body < length (bodies_of p)) (map (λ (d : Body). record { body = place_of (body_eq d) (bodies_of p); place = place_of (λ k. literal_eq k m) (row d) }) (filter (λ d. has_literal (row d) m) bs))
+places_within p row m [] h = tt
+places_within p row m (d ∷ bs) h = cases (has_literal (row d) m) (places_within p row m bs h.1)
   where
-    cases : (t : Bool) → AllByRecursion (λ (o : Occurrence). o.body < length (bodies_of p)) (map (λ (d : Body). record { body = place_of (body_eq d) (bodies_of p); place = place_of (λ k. literal_eq k m) (form_literals p d) }) (filter (λ d. has_literal (form_literals p d) m) bs)) → AllByRecursion (λ (o : Occurrence). o.body < length (bodies_of p)) (map (λ (d : Body). record { body = place_of (body_eq d) (bodies_of p); place = place_of (λ k. literal_eq k m) (form_literals p d) }) (cond t (d ∷ filter (λ d. has_literal (form_literals p d) m) bs) (filter (λ d. has_literal (form_literals p d) m) bs)))
+    cases : (t : Bool) → AllByRecursion (λ (o : Occurrence). o.body < length (bodies_of p)) (map (λ (d : Body). record { body = place_of (body_eq d) (bodies_of p); place = place_of (λ k. literal_eq k m) (row d) }) (filter (λ d. has_literal (row d) m) bs)) → AllByRecursion (λ (o : Occurrence). o.body < length (bodies_of p)) (map (λ (d : Body). record { body = place_of (body_eq d) (bodies_of p); place = place_of (λ k. literal_eq k m) (row d) }) (cond t (d ∷ filter (λ d. has_literal (row d) m) bs) (filter (λ d. has_literal (row d) m) bs)))
     cases true rest = (place_of-within (body_eq d) (bodies_of p) h.0, rest)
     cases false rest = rest
 
-pub occurrences_small : (p : Program) (m : Literal) → All (λ (o : Occurrence). o.body < length (bodies_of p)) (occurrences_of p m)
-occurrences_small p m = All-from_recursion (λ (o : Occurrence). o.body < length (bodies_of p)) (occurrences_of p m) (occurrences_within p m (bodies_of p) (bodies_of-themselves p))
+pub places_small : (p : Program) (row : Body → List Literal) (m : Literal) → All (λ (o : Occurrence). o.body < length (bodies_of p)) (places_in p row m)
+places_small p row m = All-from_recursion (λ (o : Occurrence). o.body < length (bodies_of p)) (places_in p row m) (places_within p row m (bodies_of p) (bodies_of-themselves p))

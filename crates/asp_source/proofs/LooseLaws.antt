@@ -13,7 +13,7 @@ use Rattle.asp_model.specs.Holding.{atom_of, is_positive}
 use Rattle.asp_model.specs.Models.{rules_in_force, atoms_of, head_atoms}
 use Rattle.asp_model.specs.Sound.{IsSound}
 use Rattle.asp_vars.specs.Literals.{complement, holds_in}
-use Rattle.asp_vars.specs.Numbering.{normal, body_eq, bodies_of, place_of, var_of_atom, literal_of_form, nth_atom, nth_body}
+use Rattle.asp_vars.specs.Numbering.{normal, body_eq, place_of, var_of_atom, literal_of_form, nth_atom}
 use Rattle.asp_vars.specs.Completion.{supports}
 use Rattle.asp_vars.specs.Unfounded.{is_false, is_inside, outside_weight, needs, is_excused, is_unfounded}
 use Rattle.asp_vars.proofs.NumberingLaws.{same_body}

@@ -1,8 +1,14 @@
 -- How atoms lose their sources.
-use Rattle.std.proofs.Common.{◌≡◌, ◌≢◌, ℕ, ◌+◌, ◌-◌, ◌<◌, Bool, true, false, eqb, List, length, get_or, refl, sym, ap, ◌∙◌, arith, inl, inr}
+use Rattle.std.proofs.Common.{◌≡◌, ◌≢◌, ℕ, ◌+◌, ◌-◌, ◌<◌, Bool, true, false, eqb, List, length, get_or, refl, sym, ap, ◌∙◌, subst, arith, inl, inr, below_more}
 use Rattle.std.proofs.lemmas.Bool.{false≢true, eqb-true, eq-eqb}
+use Rattle.std.specs.List.{All}
+use Rattle.asp_model.specs.declared.program.Program.{Program}
+use Rattle.asp_model.specs.Models.{atoms_of}
+use Rattle.asp_table.specs.declared.columns.Occurrence.{Occurrence}
+use Rattle.asp_vars.specs.Numbering.{nth_body}
+use Rattle.asp_vars.specs.Tabled.{heads_of}
 use Rattle.asp_scc.proofs.SearchLaws.{get_or-any}
-use Rattle.asp_source.specs.Pointers.{Loses, IsGone}
+use Rattle.asp_source.specs.Pointers.{Loses, IsGone, AreGone, IsGoneAt}
 use Rattle.asp_source.proofs.PointerLaws.{IsLess}
 
 pub loses_then : (s : List ℕ) (q : List Bool) (t : List ℕ) (r : List Bool) (u : List ℕ) (y : List Bool) → Loses s q t r → Loses t r u y → Loses s q u y
@@ -44,3 +50,18 @@ gone_more s t vs n body v less some_ before here at i d lt within = cases (eqb i
         let same : i ≡ n = eqb-true i n (sym q) in
         here (sym (ap (λ u. get_or t u 0) (ap (λ m. get_or vs m d) same ∙ at d (omega (arith, same, within)))) ∙ e)
     cases false q e = gone_less s t body (get_or vs i d) less some_ (before i d (let ne : i ≢ n = (λ a. false≢true (q ∙ eq-eqb i n a)) in omega (arith, lt, ne)) within) e
+
+-- what is gone stays gone
+are_gone_less : (p : Program) (s t : List ℕ) (j : ℕ) → IsLess s t → AreGone p s j → AreGone p t j
+are_gone_less p s t j less gone i d lt =
+    gone_less s t (length (atoms_of p) + 1 + j) (get_or (heads_of p (nth_body p j)) i d) less (omega arith) (gone i d lt)
+
+pub each_gone_less : (p : Program) (s t : List ℕ) (os : List Occurrence) → IsLess s t → All (IsGoneAt p s) os → All (IsGoneAt p t) os
+each_gone_less p s t os less gone i o lt = are_gone_less p s t (get_or os i o).body less (gone i o lt)
+
+-- one body more
+pub body_more : (p : Program) (s t : List ℕ) (os : List Occurrence) (n : ℕ) (o : Occurrence) → IsLess s t → ((i : ℕ) (d : Occurrence) → i < n → i < length os → IsGoneAt p s (get_or os i d)) → AreGone p t o.body → ((d : Occurrence) → n < length os → get_or os n d ≡ o) → (i : ℕ) (d : Occurrence) → i < n + 1 → i < length os → IsGoneAt p t (get_or os i d)
+body_more p s t os n o less before here at i d lt within =
+    below_more (λ k. (d : Occurrence) → k < length os → IsGoneAt p t (get_or os k d)) n
+    (λ k low d inside. are_gone_less p s t (get_or os k d).body less (before k d low inside))
+    (λ d inside. subst (IsGoneAt p t) (sym (at d inside)) here) i lt d within

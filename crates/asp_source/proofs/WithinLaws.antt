@@ -9,7 +9,7 @@ use Rattle.asp_model.specs.declared.program.Body.TheVariants as body
 use Rattle.asp_model.specs.declared.program.Program.{Program}
 use Rattle.asp_model.specs.Sets.{Atoms, has}
 use Rattle.asp_model.specs.Holding.{atom_of, is_positive}
-use Rattle.asp_vars.specs.Literals.{Literal, T, F, complement, literal_eq, has_literal, holds_in}
+use Rattle.asp_vars.specs.Literals.{Literal, T, complement, literal_eq, has_literal, holds_in}
 use Rattle.asp_vars.specs.Numbering.{var_of_atom, literal_of_form, literal_of}
 use Rattle.asp_vars.specs.Tabled.{form_literals}
 use Rattle.asp_vars.specs.Unfounded.{is_false, is_inside, outside_weight, needs, is_excused}

@@ -5,7 +5,7 @@ ghost use Rattle.std.specs.Prelude.{◌≡◌, ◌+◌, ◌<◌, ◌≤ℤ◌, p
 ghost use Rattle.std.specs.List.{list_any};
 ghost use Rattle.asp_model.specs.Models.{atoms_of};
 ghost use Rattle.asp_vars.specs.Numbering.{bodies_of, nth_body, var_count};
-ghost use Rattle.asp_vars.specs.Tabled.{bound_of, occurrences_of, IsAtomVar};
+ghost use Rattle.asp_vars.specs.Tabled.{bound_of, bodies_with, occurrences_of, IsAtomVar, IsLiteral};
 ghost use Rattle.asp_vars.specs.Unfounded.{needs, is_excused};
 ghost use Rattle.asp_loop.specs.Weighing.{weigh};
 ghost use Rattle.asp_source.specs.Marks.{lit_inside, lit_outside, shown};
@@ -125,4 +125,13 @@ pub fn occurrences(compiled: &Compiled, lit: Lit) -> &[Occurrence]
     ensures bodies { All (λ o. o.body < length (bodies_of compiled.now)) result.now }
 {
     compiled.occurrences(lit)
+}
+
+/// The bodies of which a literal says that they hold.
+pub fn bodies_with(compiled: &Compiled, lit: Lit) -> &[Occurrence]
+    requires { IsLiteral compiled.now lit }
+    ensures with { result.now ≡ bodies_with compiled.now lit }
+    ensures bodies { All (λ o. o.body < length (bodies_of compiled.now)) result.now }
+{
+    compiled.bodies_with(lit)
 }

@@ -4,7 +4,7 @@
 //! atoms of its component that don't rest on its head: so a set of atoms with sources always has one whose source is
 //! outside of the set. What can take that away is that the body comes to be false, or that a weight body loses weight:
 //! then its heads lose it.
-ghost use Rattle.std.specs.Prelude.{◌≡◌, ◌+◌, ◌-◌, ◌<◌, ◌==◌, ◌≤◌, false, All, length, slice_index, slice_set, if◌then◌else◌};
+ghost use Rattle.std.specs.Prelude.{◌≡◌, ◌+◌, ◌<◌, ◌==◌, ◌≤◌, false, All, length, slice_index, slice_set, if◌then◌else◌};
 ghost use Rattle.asp_model.specs.Models.{atoms_of};
 ghost use Rattle.asp_vars.specs.Literals.{complement};
 ghost use Rattle.asp_vars.specs.Numbering.{bodies_of, var_count};
@@ -14,7 +14,7 @@ ghost use Rattle.asp_scc.specs.Components.{AreComponents};
 ghost use Rattle.asp_source.specs.Pointers.{Loses, IsGone, AreGone, IsGoneAt, IsGoneBy, seek, regain};
 ghost use Rattle.asp_source.specs.Pointers.{AreNormal};
 
-use crate::bodies::occurrences;
+use crate::bodies::{bodies_with, occurrences};
 use crate::queue::Queue;
 use asp_scc::components::Components;
 use asp_vars::compiled::Compiled;
@@ -104,7 +104,7 @@ fn lose_bodies(compiled: &Compiled, sources: &mut [Var], queue: &mut Queue, lit:
     ensures loses { Loses sources.old queue.old sources.new queue.new }
     ensures gone { All (IsGoneAt compiled.now sources.new) (bodies_with compiled.now (complement lit)) }
 {
-    for cell in compiled.bodies_with(lit.complement()) {
+    for cell in bodies_with(compiled, lit.complement()) {
         lose_heads(compiled, sources, queue, cell.body as usize);
     }
 }
