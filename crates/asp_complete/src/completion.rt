@@ -115,7 +115,7 @@ fn add_rule(
     body: Lit,
     head: HeadView<'_>,
 ) -> Result<(), AllocError>
-    requires stand { AllByRecursion (λ a. IsTrue (has (atoms_of compiled.now) a)) (head_atoms (head_seen head)) }
+    requires { AllByRecursion (λ a. IsTrue (has (atoms_of compiled.now) a)) (head_atoms (head_seen head)) }
     ensures { OnOk result (nogoods.new.items ≡ nogoods.old.items ++ map pure (rule_nogoods compiled.now body (head_seen head.entry))) }
 {
     match head {

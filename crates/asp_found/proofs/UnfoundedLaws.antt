@@ -24,7 +24,7 @@ use Rattle.asp_model.proofs.SetLaws.{has-set_of}
 use Rattle.asp_model.proofs.MemberLaws.{list_any-flat_map, each_weaker}
 use Rattle.asp_model.proofs.ModelLaws.{least_model-derived}
 use Rattle.asp_model.proofs.ReadingLaws.{step_read}
-use Rattle.asp_vars.specs.Literals.{Literal, F, complement, is_true, agrees, holds_in}
+use Rattle.asp_vars.specs.Literals.{Literal, complement, is_true, agrees, holds_in}
 use Rattle.asp_vars.specs.Numbering.{normal, body_eq, bodies_of, wide_bodies, place_of, var_of_atom, literal_of_form, literal_of, values}
 use Rattle.asp_vars.specs.Completion.{completion}
 use Rattle.asp_vars.specs.Unfounded.{assigned, is_false, is_inside, outside_weight, needs, is_excused, is_unfounded}

@@ -3,7 +3,7 @@ use Rattle.std.proofs.Common.{◌≡◌, ℕ, zero, suc, ◌+◌, ◌<◌, ◌�
 use Rattle.std.specs.List.{list_any}
 use Rattle.std.proofs.lemmas.Bool.{eqb-true}
 use Rattle.std.proofs.lemmas.List.Elements.{filter_more}
-use Rattle.std.proofs.lemmas.List.{append_assoc, map-append, length-append, length-map, take_more}
+use Rattle.std.proofs.lemmas.List.{append_assoc, map-append, length-append, length-map}
 use Rattle.asp_model.specs.declared.program.Body.{Body}
 use Rattle.asp_model.specs.declared.program.Body.TheVariants as body
 use Rattle.asp_model.specs.declared.program.Program.{Program}
@@ -13,16 +13,14 @@ use Rattle.asp_model.specs.Models.{rules_in_force, atoms_of}
 use Rattle.asp_model.proofs.MemberLaws.{HasAll-itself}
 use Rattle.asp_model.proofs.ReadingLaws.{same_body}
 use Rattle.asp_vars.specs.Literals.{Literal, complement, hits, is_true}
-use Rattle.asp_vars.specs.Numbering.{bodies_of, is_wide, wide_bodies, var_count, var_of_atom, form_at, literal_of_form, place_of_body, values, nth_atom, nth_body, nth_rule, normal}
-use Rattle.asp_vars.specs.Tabled.{IsLiteral}
+use Rattle.asp_vars.specs.Numbering.{bodies_of, is_wide, wide_bodies, var_count, var_of_atom, form_at, literal_of_form, literal_of_body, values, nth_atom, nth_body, nth_rule}
 use Rattle.asp_vars.specs.Completion.{supports, support_bodies}
 use Rattle.asp_vars.proofs.NumberingLaws.{get_or-place_of, value-atom}
 use Rattle.asp_vars.proofs.LiteralLaws.{is_true-complement}
-use Rattle.asp_vars.proofs.CompletionLaws.{form-true}
-use Rattle.asp_vars.proofs.SupportLaws.{body_of_nth_rule, of_supports}
-use Rattle.asp_vars.proofs.NormalLaws.{body_holds-normal}
+use Rattle.asp_vars.proofs.CompletionLaws.{rule-true}
+use Rattle.asp_vars.proofs.SupportLaws.{of_supports}
 use Rattle.asp_vars.proofs.PlaceLaws.{at_each, var_of_nth_atom}
-use Rattle.asp_vars.proofs.StandingLaws.{Among, each_among, rule_has_form}
+use Rattle.asp_vars.proofs.StandingLaws.{Among, each_among}
 use Rattle.asp_loop.proofs.WeightedLaws.{body_stands}
 use Rattle.asp_found.specs.Marks.{is_marked, Shows, marks_hold}
 use Rattle.asp_found.specs.Verdicts.{is_supported}
@@ -74,9 +72,6 @@ value_count p S V is =
 pub values_show : (p : Program) (S : Atoms) (V : List Bool) → V ≡ values p S → Shows p S V
 values_show p S V is = begun_shows p S V (map (body_holds S) (wide_bodies p)) is
 
-pub literal_small : (p : Program) (S : Atoms) (V : List Bool) (l : Literal) → V ≡ values p S → IsLiteral p l → l.var < length V
-literal_small p S V l is h = let size = value_count p S V is in let small = h.1 in omega (arith, small, size)
-
 pub atom_value : (p : Program) (S : Atoms) (V : List Bool) (i : ℕ) → V ≡ values p S → i < length (atoms_of p) → is_marked V (i + 1) ≡ has S (nth_atom p i)
 atom_value p S V i is lt =
     ap (λ U. is_marked U (i + 1)) is
@@ -86,12 +81,8 @@ atom_value p S V i is lt =
 pub nth_among : (p : Program) (i : ℕ) → i < length (rules_in_force p) → Among (rules_in_force p) (nth_rule p i)
 nth_among p i lt = at_each (Among (rules_in_force p)) (rules_in_force p) i _ (each_among (rules_in_force p)) lt
 
-pub rule_value : (p : Program) (S : Atoms) (V : List Bool) (i n : ℕ) (l : Literal) → V ≡ values p S → i < length (rules_in_force p) → n ≡ place_of_body p (nth_rule p i).body → l ≡ literal_of_form p (nth_body p n) → is_true V l ≡ body_holds S (nth_rule p i).body
-rule_value p S V i n l is lt place lit =
-    let b : Body = normal (nth_rule p i).body in
-    ap (λ U. is_true U l) is
-    ∙ ap (is_true (values p S)) (lit ∙ ap (λ (m : ℕ). literal_of_form p (nth_body p m)) place ∙ ap (literal_of_form p) (body_of_nth_rule p i lt))
-    ∙ form-true p S b (rule_has_form p (nth_rule p i) (nth_among p i lt)) ∙ body_holds-normal S (nth_rule p i).body
+pub rule_value : (p : Program) (S : Atoms) (V : List Bool) (i : ℕ) (l : Literal) → V ≡ values p S → i < length (rules_in_force p) → l ≡ literal_of_body p (nth_rule p i).body → is_true V l ≡ body_holds S (nth_rule p i).body
+rule_value p S V i l is lt lit = ap (λ U. is_true U l) is ∙ ap (is_true (values p S)) lit ∙ rule-true p S (nth_rule p i) (nth_among p i lt)
 
 any_not_hit : (V : List Bool) (f : ℕ → Literal) (ns : List ℕ) → list_any (λ n. is_true V (f n)) ns ≡ not (hits V (map (λ n. complement (f n)) ns))
 any_not_hit V f [] = refl

@@ -8,7 +8,7 @@ ghost use Rattle.asp_vars.specs.Literals.{is_true};
 ghost use Rattle.asp_vars.specs.Numbering.{values, var_count, form_at, literal_of_body, literal_of_form, nth_rule, nth_atom};
 ghost use Rattle.asp_vars.specs.Completion.{atom_nogood};
 ghost use Rattle.asp_vars.specs.declared.nogood.Base.TheVariants as base;
-ghost use Rattle.asp_vars.specs.Tabled.{IsBodyNumber};
+ghost use Rattle.asp_vars.specs.Tabled.{IsBodyNumber, IsLiteral};
 ghost use Rattle.asp_found.specs.Verdicts.{is_kept, keeps, is_supported, rule_literals, IsBroken};
 
 use asp_model::interp::Interp;
@@ -58,13 +58,22 @@ fn holds(truths: &[bool], lit: Lit) -> bool
     truths[lit.var() as usize] == lit.truth()
 }
 
+// The literal that says that a rule's body holds.
+fn rule_lit(compiled: &Compiled, rule: usize) -> Lit
+    requires { rule < length (rules_in_force compiled.now) }
+    ensures lit { result ≡ literal_of_body compiled.now (nth_rule compiled.now rule).body }
+    ensures literal { IsLiteral compiled.now result }
+{
+    compiled.body_lit(compiled.rule_body(rule))
+}
+
 // Whether a rule is kept. The head is looked at only where the body holds.
 fn keeps(compiled: &Compiled, interp: &Interp, truths: &[bool], rule: usize) -> bool
     requires rule { rule < length (rules_in_force compiled.now) }
     requires truths { truths.now ≡ values compiled.now interp.now }
     ensures { result ≡ keeps interp.now (nth_rule compiled.now rule) }
 {
-    let holds = holds(truths, compiled.body_lit(compiled.rule_body(rule)));
+    let holds = holds(truths, rule_lit(compiled, rule));
     !holds || is_kept(compiled, interp, truths, compiled.rule(rule).head)
 }
 
@@ -79,7 +88,7 @@ fn rule_nogood(
     ensures { IfOk result (λ n. n ≡ record { lits = rule_literals compiled.now (literal_of_body compiled.now (nth_rule compiled.now rule).body) (head_seen head.entry); base = base.Pure }) }
 {
     let mut lits = Lits::new(alloc);
-    lits.push(compiled.body_lit(compiled.rule_body(rule)))?;
+    lits.push(rule_lit(compiled, rule))?;
     if let HeadView::One(atom) = head {
         lits.push(Lit::new(compiled.atom_var(atom), false))?;
     }

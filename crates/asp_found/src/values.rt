@@ -23,7 +23,7 @@ fn push_body(compiled: &Compiled, values: &mut Vec<bool>, body: usize) -> Result
     Ok(())
 }
 
-/// Which atoms are in the set, and which bodies hold in it.
+/// Which atoms are in the set, and which of the bodies with variables of their own hold in it.
 pub(crate) fn values_of(
     alloc: Global,
     compiled: &Compiled,

@@ -10,7 +10,7 @@ use Rattle.asp_model.specs.declared.program.Program.{Program}
 use Rattle.asp_model.specs.Sets.{Atoms, has}
 use Rattle.asp_model.specs.Holding.{atom_of, is_positive}
 use Rattle.asp_model.specs.Models.{atoms_of}
-use Rattle.asp_vars.specs.Literals.{Literal, F, complement, literal_eq, has_literal, holds_in}
+use Rattle.asp_vars.specs.Literals.{Literal, complement, literal_eq, has_literal, holds_in}
 use Rattle.asp_vars.specs.Numbering.{literal_of_form, literal_of}
 use Rattle.asp_vars.specs.Tabled.{bound_of, form_literals, form_weights, Stands}
 use Rattle.asp_vars.specs.Unfounded.{is_false, is_inside, outside_weight, is_excused}

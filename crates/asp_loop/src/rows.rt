@@ -14,7 +14,7 @@ pub fn loop_needs_its_support()
     ensures with { is_unfounded supported_loop (with_support true) (1 ∷ 2 ∷ []) ≡ false }
     ensures first { IsPart supported_loop (1 ∷ 2 ∷ []) (body.All (pos 2 ∷ [])) [] }
     ensures second { IsPart supported_loop (1 ∷ 2 ∷ []) (body.All (pos 1 ∷ [])) [] }
-    ensures outside { IsPart supported_loop (1 ∷ 2 ∷ []) (body.All (pos 3 ∷ [])) (F 7 ∷ []) }
+    ensures outside { IsPart supported_loop (1 ∷ 2 ∷ []) (body.All (pos 3 ∷ [])) (F 3 ∷ []) }
 {}
 
 /// A weight body that reaches its bound by its own head alone adds nothing.

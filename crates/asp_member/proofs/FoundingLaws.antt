@@ -1,7 +1,7 @@
 -- What is derived of a set is founded.
-use Rattle.std.proofs.Common.{◌≡◌, ℕ, suc, ◌+◌, ◌-◌, ◌<◌, ◌≤◌, Bool, true, false, not, cond, ◌&&◌, ◌||◌, eqb, List, [], ◌∷◌, map, filter, length, get_or, set, replicate, Option, Some, None, refl, sym, ap, ◌∙◌, subst, arith, add-one, ◌⊎◌, inl, inr}
-use Rattle.std.specs.Prelude.{All, ℤ, pos, negsuc, ◌+ℤ◌, int_le, is_none}
-use Rattle.std.specs.List.{list_any, list_all, flat_map, AllByRecursion}
+use Rattle.std.proofs.Common.{◌≡◌, ℕ, suc, ◌<◌, Bool, true, false, not, cond, ◌&&◌, ◌||◌, eqb, List, [], ◌∷◌, map, length, get_or, set, Option, Some, None, refl, sym, ap, ◌∙◌, subst, ◌⊎◌, inl, inr}
+use Rattle.std.specs.Prelude.{ℤ, pos, negsuc, ◌+ℤ◌, int_le, is_none}
+use Rattle.std.specs.List.{list_all, flat_map, AllByRecursion}
 use Rattle.std.proofs.lemmas.Bool.{false≢true, and_parts, and_from, eqb-true, eq-eqb}
 use Rattle.std.proofs.lemmas.List.{length-set, get_or_default, get_or-set_same, get_or-set_other}
 use Rattle.asp_model.specs.declared.program.Body.{Body}
@@ -23,12 +23,11 @@ use Rattle.asp_model.proofs.ModelLaws.{least_model-derived, monotone}
 use Rattle.asp_model.proofs.ReadingLaws.{step_read}
 use Rattle.asp_model.proofs.ReductLaws.{rules_in_force-heads}
 use Rattle.asp_vars.specs.Literals.{Literal, T, F, agrees, value_of, holds_in}
-use Rattle.asp_vars.specs.Numbering.{normal, body_eq, bodies_of, nth_body, nth_rule, place_of, place_of_body, var_of_atom, literal_of}
+use Rattle.asp_vars.specs.Numbering.{normal, body_eq, bodies_of, nth_body, nth_rule, place_of_body, var_of_atom, literal_of}
 use Rattle.asp_vars.specs.Tabled.{bound_of, form_literals, form_weights, heads_of, Stands}
 use Rattle.asp_vars.proofs.NumberingLaws.{same_body as equal_body}
 use Rattle.asp_vars.proofs.NormalLaws.{body_holds_between-normal}
-use Rattle.asp_vars.proofs.PlaceLaws.{place_of-within, at_each}
-use Rattle.asp_vars.proofs.StandingLaws.{Among, each_among, each_both, rule_has_form}
+use Rattle.asp_vars.proofs.StandingLaws.{Among, each_among, each_both}
 use Rattle.asp_vars.proofs.SupportLaws.{some, in_map, member, same_atom}
 use Rattle.asp_loop.specs.Weighing.{weigh}
 use Rattle.asp_loop.proofs.FoundedLaws.{has-filter}

@@ -12,7 +12,7 @@ use Rattle.asp_model.specs.declared.program.Rule.{Rule}
 use Rattle.asp_model.specs.Sets.{Atoms, has, IsSubset}
 use Rattle.asp_model.specs.Models.{atoms_of, rules_in_force, head_atoms}
 use Rattle.asp_model.proofs.MemberLaws.{each_weaker}
-use Rattle.asp_vars.specs.Literals.{Literal, T, F, complement, value_of, agrees, holds_in, is_true}
+use Rattle.asp_vars.specs.Literals.{Literal, T, complement, value_of, agrees, holds_in, is_true}
 use Rattle.asp_vars.specs.Numbering.{normal, var_count, var_of_atom, literal_of_form, literal_of, values}
 use Rattle.asp_vars.specs.Completion.{completion}
 use Rattle.asp_vars.specs.Unfounded.{assigned, is_inside, is_false, outside_weight, needs, is_excused, is_unfounded}
@@ -76,6 +76,12 @@ listed_vars p n l = cases (list_all (is_small (var_count p)) n) refl
     cases false q = absurd (false≢true (sym none ∙ l (λ m. not (list_all (is_small (var_count p)) m)) (ap not (sym q))))
 
 -- ---- which literals hold says which sets are unfounded
+form_positive : (p : Program) (b : Body) → 0 < (literal_of_form p b).var
+form_positive p (body.All []) = omega arith
+form_positive p (body.All (l ∷ [])) = omega arith
+form_positive p (body.All (l ∷ k ∷ ks)) = omega arith
+form_positive p (body.AtLeast bound items) = omega arith
+
 module _ (p : Program) (U : Atoms) (x y : List (Option Bool)) (same : (l : Literal) → 0 < l.var → holds_in x l ≡ holds_in y l) where
   false_same : (l : ℤ) → is_false p x l ≡ is_false p y l
   false_same l = same (complement (literal_of p l)) (omega arith)
@@ -90,7 +96,7 @@ module _ (p : Program) (U : Atoms) (x y : List (Option Bool)) (same : (l : Liter
   needs_same (body.AtLeast bound items) = ap (λ (w : ℤ). int_lt w bound) (weight_same items)
 
   excused_same : (b : Body) → is_excused p x U b ≡ is_excused p y U b
-  excused_same b = ap₂ (λ (c d : Bool). c || d) (same (complement (literal_of_form p b)) (omega arith)) (needs_same b)
+  excused_same b = ap₂ (λ (c d : Bool). c || d) (same (complement (literal_of_form p b)) (form_positive p b)) (needs_same b)
 
   rules_same : (rs : List Rule) → list_all (λ r. not (list_any (has U) (head_atoms r.head)) || is_excused p x U (normal r.body)) rs ≡ list_all (λ r. not (list_any (has U) (head_atoms r.head)) || is_excused p y U (normal r.body)) rs
   rules_same [] = refl

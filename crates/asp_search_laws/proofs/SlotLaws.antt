@@ -18,7 +18,6 @@ use Rattle.asp_store.specs.declared.stored_nogood.StoredNogood.{StoredNogood}
 use Rattle.asp_store.specs.declared.stored_nogood.Kind.{Kind}
 use Rattle.asp_store.specs.declared.stored_nogood.Kind.TheVariants as kind
 use Rattle.asp_store.specs.Keeping.{kept_at, nogood_at, unless_given, IsAddedAt}
-use Rattle.asp_store.proofs.KeepLaws.{added_stays}
 use Rattle.asp_store.proofs.GetLaws.{is_or_not}
 use Rattle.asp_propagate.specs.Propagating.{Adds, IsReduced}
 use Rattle.asp_propagate.specs.Useful.{IsUseful}

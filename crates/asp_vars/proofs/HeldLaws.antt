@@ -1,5 +1,5 @@
 -- The literals of a program's bodies are those that are counted one after another.
-use Rattle.std.proofs.Common.{◌≡◌, ◌≢◌, ℕ, zero, suc, ◌+◌, ◌<◌, ◌≤◌, ◌^◌, Bool, true, false, not, cond, ◌||◌, eqb, List, [], ◌∷◌, ◌++◌, map, filter, drop, length, get_or, Some, refl, sym, ap, ◌∙◌, arith}
+use Rattle.std.proofs.Common.{◌≡◌, ◌≢◌, ℕ, suc, ◌+◌, ◌<◌, ◌≤◌, ◌^◌, Bool, true, false, not, cond, ◌||◌, eqb, List, [], ◌∷◌, ◌++◌, map, filter, drop, length, get_or, Some, refl, sym, ap, ◌∙◌, arith}
 use Rattle.std.specs.Prelude.{ℤ}
 use Rattle.std.specs.List.{list_any, AllByRecursion}
 use Rattle.std.specs.Option.{is_some}
@@ -13,7 +13,7 @@ use Rattle.asp_model.specs.Models.{atoms_of}
 use Rattle.asp_vars.specs.Literals.{Literal}
 use Rattle.asp_vars.specs.declared.form.Form.{Form}
 use Rattle.asp_vars.specs.Forms.{body_of}
-use Rattle.asp_vars.specs.Numbering.{body_eq, is_wide, bodies_of, wide_bodies, place_of, number_count, var_count, var_of_form, literal_by, literal_of_form}
+use Rattle.asp_vars.specs.Numbering.{body_eq, is_wide, bodies_of, wide_bodies, place_of, number_count, var_count, literal_by, literal_of_form}
 use Rattle.asp_vars.specs.Tabled.{bound_of, form_literals}
 use Rattle.asp_vars.specs.Held.{next_var, literals_from, var_behind}
 use Rattle.asp_vars.proofs.NumberingLaws.{body_eq-itself}

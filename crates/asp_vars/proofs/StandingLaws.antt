@@ -1,4 +1,4 @@
--- The bodies of the rules in force are among those that have variables, and their atoms are among the program's.
+-- The bodies of the rules in force are among the distinct ones, and their atoms are among the program's.
 use Rattle.std.proofs.Common.{◌≡◌, ℕ, Bool, true, false, cond, ◌||◌, List, [], ◌∷◌, ◌++◌, map, fold, refl, sym, ap, ◌∙◌, subst}
 use Rattle.std.specs.Prelude.{ℤ, pos, ◌+ℤ◌, int_lt}
 use Rattle.std.specs.List.{list_any, flat_map, AllByRecursion}
@@ -90,7 +90,7 @@ among_forms rs r m = unmapped rs ∙ m (λ s. body_eq (normal r.body) (normal s.
     unmapped [] = refl
     unmapped (x ∷ xs) = ap (λ t. body_eq (normal r.body) (normal x.body) || t) (unmapped xs)
 
--- the body of each rule in force has a variable
+-- the body of each rule in force, in normal form, is one of them
 pub rule_has_form : (p : Program) (r : Rule) → Among (rules_in_force p) r → list_any (body_eq (normal r.body)) (bodies_of p) ≡ true
 rule_has_form p r m =
     list_any-distinct (normal r.body) [] (map (λ r. normal r.body) (rules_in_force p)) ∙ among_forms (rules_in_force p) r m
@@ -167,7 +167,7 @@ rules_in_force-bodies p =
     (each-flat_map (λ (r : Rule). HasAll (atoms_of p) (body_atoms r.body)) (λ a. external_rule a (last_value p.externals a)) (open_atoms p)
     (each_of (λ a. AllByRecursion (λ (r : Rule). HasAll (atoms_of p) (body_atoms r.body)) (external_rule a (last_value p.externals a))) (λ a. external_bodies (atoms_of p) a (last_value p.externals a)) (open_atoms p)))
 
--- the atoms of each body that has a variable
+-- the atoms of each of them
 pub bodies_of-stand : (p : Program) → AllByRecursion (Stands (atoms_of p)) (bodies_of p)
 bodies_of-stand p =
     each-distinct (Stands (atoms_of p)) [] (map (λ r. normal r.body) (rules_in_force p)) tt

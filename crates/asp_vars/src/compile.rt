@@ -143,7 +143,7 @@ fn together(numbered: Numbered, rows: Rows, places: Places) -> Compiled
 
 /// The program with the tables of its variables. The program is moved, not copied.
 ///
-/// Want of memory is the one error. It is also the answer for a program that has 2147483648 rules or variables.
+/// Want of memory is the one error. It is also the answer for a program that has 2147483648 rules, or as many atoms and bodies.
 pub fn compile(alloc: Global, program: Program) -> Result<Compiled, AllocError>
     requires { IsSound program }
     ensures { IfOk result (λ compiled. compiled ≡ program) }

@@ -23,7 +23,7 @@ use std::alloc::{AllocError, Global};
 use std::marker::Model;
 use std::mem;
 
-/// How many variables there can be.
+/// How many rules there can be, and how many atoms and bodies together.
 const LIMIT: usize = 0x8000_0000;
 
 /// A program, its atoms, its distinct bodies, and the place of each rule's body. Contracts see it as the program.
@@ -53,7 +53,7 @@ impl Model for Numbered {
     ghost invariant = { IsNumbered };
 }
 
-// The distinct bodies and the place of each rule's body, unless there are too many rules or variables.
+// The distinct bodies and the place of each rule's body, unless there are too many rules, or atoms and bodies.
 fn numbers(
     alloc: Global,
     rules: &Rules,
@@ -109,7 +109,7 @@ fn parts_of(alloc: Global, program: &Program) -> Result<Parts, AllocError>
 }
 
 impl Numbered {
-    /// The program with its numbers. Want of memory is also the answer where it has too many rules or variables.
+    /// The program with its numbers. Want of memory is also the answer where it has too many rules, or atoms and bodies.
     pub fn of(alloc: Global, program: Program) -> Result<Numbered, AllocError>
         requires { IsSound program }
         ensures { IfOk result (λ n. n ≡ program) }

@@ -15,8 +15,8 @@ use Rattle.asp_vars.specs.Numbering.{literal_of_body, literal_of_form, nth_body,
 use Rattle.asp_complete.specs.Listed.{pure}
 use Rattle.asp_complete.proofs.completion.add_rule_at.Goals as goal
 
-pub add_rule-requires-clause-stand : goal.add_rule-requires-clause-stand
-add_rule-requires-clause-stand c =
+pub add_rule-requires : goal.add_rule-requires
+add_rule-requires c =
     let p : Program = c.args.compiled.now in
     let none : Rule = record { head = head.Never; body = body.All [] } in
     subst (λ (x : Rule). AllByRecursion (λ a. has (atoms_of p) a ≡ true) (head_atoms x.head)) (sym c.rule-rule.ensures)

@@ -16,6 +16,10 @@ returns c =
     let old : List Bool = c.args.values.now.items in
     let b : Body = nth_body c.args.compiled.now c.args.body in
     let wide : is_wide b ≡ true = sym c.is_wide.ensures ∙ c.if-not-is_wide.false in
+    let holds : c.holds-holds.result ≡ marks_hold c.args.compiled.now old old b =
+    c.holds-holds.ensures
+    ∙ ap (λ (marks : List Bool). marks_hold c.args.compiled.now marks c.as_slice-2.result.now b) c.as_slice.ensures.value
+    ∙ ap (λ (marks : List Bool). marks_hold c.args.compiled.now old marks b) c.as_slice-2.ensures.value in
     c.in_ok-push.ensures.items
-    ∙ ap (λ v. old ++ v ∷ []) c.holds-holds.ensures
+    ∙ ap (λ v. old ++ v ∷ []) holds
     ∙ sym (ap (λ t. old ++ map (marks_hold c.args.compiled.now old old) (cond t (b ∷ []) [])) wide)

@@ -1,4 +1,4 @@
-use Rattle.std.proofs.Common.{w32, List, sym, ap, ◌∙◌, Bool, false}
+use Rattle.std.proofs.Common.{w32, List, ap, ◌∙◌, Bool}
 use Rattle.std.specs.Prelude.{ℤ, int_le}
 use Rattle.std.proofs.lemmas.Int.{to_z-of_z}
 use Rattle.asp_model.specs.declared.program.Program.{Program}

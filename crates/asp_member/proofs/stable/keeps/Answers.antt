@@ -1,8 +1,8 @@
-use Rattle.std.proofs.Common.{◌-◌, Bool, true, not, ◌||◌, arith, sym, ap, ◌∙◌}
+use Rattle.std.proofs.Common.{not, sym, ap, ◌∙◌}
 use Rattle.asp_model.specs.declared.program.Program.{Program}
 use Rattle.asp_model.specs.declared.program.Rule.{Rule}
 use Rattle.asp_vars.specs.Literals.{holds_in}
-use Rattle.asp_vars.specs.Numbering.{normal, nth_body, nth_rule}
+use Rattle.asp_vars.specs.Numbering.{nth_rule}
 use Rattle.asp_found.specs.Verdicts.{is_kept}
 use Rattle.asp_member.specs.Founding.{passes}
 use Rattle.asp_member.proofs.FoundingLaws.{rule_body, kept_keeps, unkept_keeps}

@@ -1,5 +1,4 @@
-use Rattle.std.proofs.Common.{◌<◌, length, sym, ◌∙◌, arith}
-use Rattle.asp_vars.specs.Numbering.{bodies_of}
+use Rattle.std.proofs.Common.{sym, ◌∙◌, arith}
 use Rattle.asp_member.proofs.FoundingLaws.{founds_itself, founds_more}
 use Rattle.asp_member.proofs.stable.look.Goals as goal
 

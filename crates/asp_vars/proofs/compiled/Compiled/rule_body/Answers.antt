@@ -1,7 +1,7 @@
-use Rattle.std.proofs.Common.{◌≡◌, ◌<◌, ℕ, List, map, get_or, length, sym, ◌∙◌, subst}
+use Rattle.std.proofs.Common.{◌≡◌, ◌<◌, ℕ, map, length, sym, ◌∙◌, subst}
 use Rattle.asp_model.specs.declared.program.Program.{Program}
 use Rattle.asp_model.specs.Models.{rules_in_force}
-use Rattle.asp_vars.specs.Numbering.{bodies_of, place_of_body, nth_rule}
+use Rattle.asp_vars.specs.Numbering.{bodies_of, place_of_body}
 use Rattle.asp_vars.proofs.PlaceLaws.{place_of_nth_rule}
 use Rattle.asp_vars.proofs.RowLaws.{rule_body_at}
 use Rattle.asp_vars.proofs.compiled.Compiled.rule_body.Goals as goal
