@@ -75,7 +75,7 @@ def counted(parts):
     return numbers(len(parts), *parts)
 
 
-# ---- variables: the atoms in order, then the distinct bodies in normal form
+# ---- variables: the atoms in order, then the distinct bodies in normal form that aren't one literal; one literal is itself
 def normal(rule):
     _, _, bound, items, is_normal = rule
     if is_normal:
@@ -87,19 +87,26 @@ def normal(rule):
     return "weights", bound, tuple(sorted(weights.items()))
 
 
+def one_literal(form):
+    return form[0] == "all" and len(form[1]) == 1
+
+
 class Numbered:
     def __init__(self, text):
         self.program = reference.read(text)
         self.atoms = reference.atoms_of(self.program)
         self.rules = reference.rules_in_force(self.program)
-        self.forms = list(dict.fromkeys(normal(rule) for rule in self.rules))
+        self.forms = [form for form in dict.fromkeys(normal(rule) for rule in self.rules) if not one_literal(form)]
 
     def lit(self, literal):
         var = self.atoms.index(abs(literal)) + 1
         return var if literal > 0 else -var
 
     def body(self, rule):
-        return len(self.atoms) + self.forms.index(normal(rule)) + 1
+        form = normal(rule)
+        if one_literal(form):
+            return self.lit(form[1][0])
+        return len(self.atoms) + self.forms.index(form) + 1
 
     def assumed(self):
         return [self.lit(literal) for literal in self.program["assumptions"]]
@@ -161,7 +168,7 @@ def listed(numbered, mode):
 
 
 def proof_of(numbered, mode, answers, lines):
-    return "\n".join(["proof 1", mode] + [f"a {counted(sorted(s))}" for s in answers] + lines + ["0", ""])
+    return "\n".join(["proof 2", mode] + [f"a {counted(sorted(s))}" for s in answers] + lines + ["0", ""])
 
 
 def needed(numbered, mode, answers, lines, is_a_yes):
@@ -216,7 +223,7 @@ def hostile(text, r):
     lines = text.split("\n")
     yield text[: r.randrange(len(text) - 1)]
     yield text + "0\n"
-    yield text.replace("proof 1\n", "proof 2\n")
+    yield text.replace("proof 2\n", "proof 1\n")
     yield "\n".join([lines[1], lines[0]] + lines[2:])
     at = r.randrange(2, len(lines) - 2)
     for word in ("18446744073709551616", "9" * 100, "2147483648", "-0", "+1", "01", "x", "", "1  1"):

@@ -13,7 +13,7 @@ use Rattle.asp_model.specs.Holding.{atom_of, holds, body_holds, weight_of}
 use Rattle.asp_model.specs.Models.{atoms_of, is_stable}
 use Rattle.asp_model.specs.Costs.{cost}
 use Rattle.asp_vars.specs.Literals.{Literal, T, F, complement, is_true, hits, value_of, holds_in, agrees}
-use Rattle.asp_vars.specs.Numbering.{bodies_of, body_eq, var_count, var_of_form, literal_of, values}
+use Rattle.asp_vars.specs.Numbering.{bodies_of, wide_bodies, body_eq, var_count, var_of_form, literal_of, values}
 use Rattle.asp_vars.specs.Tabled.{Stands}
 use Rattle.asp_vars.specs.Unfounded.{assigned}
 use Rattle.asp_vars.specs.Entailment.{HitsOnly}
@@ -21,6 +21,7 @@ use Rattle.asp_vars.proofs.LiteralLaws.{is_true-complement}
 use Rattle.asp_vars.proofs.PlaceLaws.{place_of-within, form-within}
 use Rattle.asp_vars.proofs.CompletionLaws.{literal-holds, form-true, form-false}
 use Rattle.asp_vars.proofs.StandingLaws.{each_both, bodies_of-stand, bodies_of-themselves}
+use Rattle.asp_vars.proofs.NumberingLaws.{wide_among}
 use Rattle.asp_bound.specs.Optimism.{optimistic}
 use Rattle.asp_bound.proofs.CostLaws.{cost_of-values, optimistic-whole}
 use Rattle.asp_checker.specs.Propagation.{Known, may_hold, weight_by, is_broken, reaches_bound, IsPropagated, LeadsToConflict}
@@ -30,8 +31,8 @@ use Rattle.asp_checker.specs.Lines.{AreOf}
 pub length-values : (p : Program) (S : Atoms) → length (values p S) ≡ var_count p + 1
 length-values p S =
     let a : length (map (has S) (atoms_of p)) ≡ length (atoms_of p) = length-map (atoms_of p) (has S) in
-    let b : length (map (body_holds S) (bodies_of p)) ≡ length (bodies_of p) = length-map (bodies_of p) (body_holds S) in
-    let c : length (map (has S) (atoms_of p) ++ map (body_holds S) (bodies_of p)) ≡ length (map (has S) (atoms_of p)) + length (map (body_holds S) (bodies_of p)) = length-append (map (has S) (atoms_of p)) (map (body_holds S) (bodies_of p)) in
+    let b : length (map (body_holds S) (wide_bodies p)) ≡ length (wide_bodies p) = length-map (wide_bodies p) (body_holds S) in
+    let c : length (map (has S) (atoms_of p) ++ map (body_holds S) (wide_bodies p)) ≡ length (map (has S) (atoms_of p)) + length (map (body_holds S) (wide_bodies p)) = length-append (map (has S) (atoms_of p)) (map (body_holds S) (wide_bodies p)) in
     omega (arith, a, b, c)
 
 value-assigned : (p : Program) (S : Atoms) (v : ℕ) → v ≤ var_count p → value_of (assigned p S) v ≡ Some (get_or (values p S) v false)

@@ -14,7 +14,7 @@ use Rattle.asp_model.specs.Sets.{Atoms, has, set_of}
 use Rattle.asp_model.specs.Holding.{atom_of, is_positive}
 use Rattle.asp_model.specs.Models.{atoms_of, rules_in_force, head_atoms}
 use Rattle.asp_model.proofs.MemberLaws.{each_passes}
-use Rattle.asp_vars.specs.Literals.{Literal, F, complement, has_literal}
+use Rattle.asp_vars.specs.Literals.{Literal, complement, has_literal}
 use Rattle.asp_vars.specs.Numbering.{normal, var_of_atom, literal_of_form, literal_of}
 use Rattle.asp_vars.specs.Tabled.{bound_of, form_literals, form_weights, Stands}
 use Rattle.asp_vars.specs.Unfounded.{is_inside}

@@ -18,7 +18,7 @@ use Rattle.asp_model.specs.Models.{rules_in_force, atoms_of, is_stable, head_ato
 use Rattle.asp_model.specs.Sound.{IsSound}
 use Rattle.asp_model.proofs.SetLaws.{has-set_of}
 use Rattle.asp_model.proofs.MemberLaws.{list_any-flat_map, each_passes, one_passes, HasAll-itself}
-use Rattle.asp_vars.specs.Literals.{Literal, T, F, complement, is_true, hits, has_literal}
+use Rattle.asp_vars.specs.Literals.{Literal, T, complement, is_true, hits, has_literal}
 use Rattle.asp_vars.specs.Numbering.{normal, body_eq, bodies_of, var_of_atom, literal_of_form, literal_of, values}
 use Rattle.asp_vars.specs.Tabled.{Stands}
 use Rattle.asp_vars.specs.Entailment.{Entailed}

@@ -19,7 +19,7 @@ use Rattle.asp_model.proofs.StepLaws.{closed_from_step}
 use Rattle.asp_model.proofs.ModelLaws.{least_model-least, least_model-ascends}
 use Rattle.asp_model.proofs.ReductLaws.{rules_in_force-heads}
 use Rattle.asp_model.proofs.ReadingLaws.{step_read, same_body}
-use Rattle.asp_vars.specs.Literals.{Literal, T, F, is_true, hits}
+use Rattle.asp_vars.specs.Literals.{Literal, F, is_true, hits}
 use Rattle.asp_vars.specs.Numbering.{bodies_of, var_of_atom, literal_of_body, values}
 use Rattle.asp_vars.specs.Completion.{body_nogoods, rule_nogoods, atom_nogood, completion}
 use Rattle.asp_vars.proofs.NumberingLaws.{value-atom}

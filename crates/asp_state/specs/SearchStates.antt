@@ -60,11 +60,11 @@ with_places ranking n = all_bumped ranking n
 abbrev pub completed_ranking : Program → Ranking → Ranking
 completed_ranking p ranking = fold with_places ranking (completion p)
 
--- whether the completion doesn't list the body's definition: of a weight body it has nothing, and of a constraint's the literals alone
+-- whether the completion doesn't list the body's definition: of a weight body it has nothing, and of a constraint's at most the literals alone
 abbrev pub is_unlisted : Program → Body → Bool
 is_unlisted p b = is_some (bound_of b) || is_barred p b
 
--- the literals of such a body; of any other, in whose definition each literal stands twice, none
+-- the literals of such a body; of any other, in whose definition each literal stands twice unless it is alone, none
 abbrev pub unlisted_literals : Program → Body → List Literal
 unlisted_literals p b = if is_unlisted p b then form_literals p b else []
 

@@ -1,18 +1,19 @@
 -- What is kept when a variable gets a value or loses it, and what a call of `next` says.
-use Rattle.std.proofs.Common.{◌≡◌, ◌≢◌, ℕ, suc, zero, ◌+◌, ◌<◌, ◌≤◌, ◌^◌, Bool, true, false, not, cond, ◌||◌, List, [], ◌∷◌, length, set, replicate, get_or, Option, Some, None, refl, sym, ap, ◌∙◌, subst, arith}
+use Rattle.std.proofs.Common.{◌≡◌, ◌≢◌, ℕ, suc, zero, ◌+◌, ◌<◌, ◌≤◌, ◌^◌, Bool, true, false, not, cond, ◌||◌, List, [], ◌∷◌, filter, length, set, replicate, get_or, Option, Some, None, refl, sym, ap, ◌∙◌, subst, arith}
 use Rattle.std.specs.List.{All, list_any}
 use Rattle.std.proofs.lemmas.Bool.{false≢true}
 use Rattle.std.proofs.lemmas.List.{length-set, set-get_or, get_or_read}
 use Rattle.std.proofs.lemmas.Grind.{common_steps}
 use Rattle.std.proofs.lemmas.List.Elements.{All-from_recursion}
-use Rattle.std.proofs.lemmas.List.Sums.{sum_by-cons, length-filter, count_by-le-length}
+use Rattle.std.proofs.lemmas.List.Sums.{sum_by-cons}
+use Rattle.asp_model.specs.declared.program.Body.{Body}
 use Rattle.asp_model.specs.declared.program.Body.TheVariants as body
 use Rattle.asp_model.specs.declared.program.Program.{Program}
 use Rattle.asp_model.specs.Models.{atoms_of}
 use Rattle.asp_model.specs.Sound.{IsSound}
 use Rattle.asp_model.proofs.MemberLaws.{each-filter}
 use Rattle.asp_vars.specs.Literals.{Literal, value_of, holds_in, agrees}
-use Rattle.asp_vars.specs.Numbering.{body_eq, bodies_of, var_count}
+use Rattle.asp_vars.specs.Numbering.{body_eq, bodies_of, is_wide, wide_bodies, var_count}
 use Rattle.asp_vars.specs.Tabled.{Stands}
 use Rattle.asp_vars.specs.Entailment.{Entailed}
 use Rattle.asp_vars.specs.declared.nogood.Base.TheVariants as base
@@ -296,8 +297,19 @@ pub kept_as : (p : Program) (a b : List (Option Bool)) (shapes : List Shape) (ro
 kept_as p a b shapes rows places tallies more k e f =
     subst (λ (ts : List Tally). IsKept p b shapes rows places ts) (sym f) (subst (λ (x : List (Option Bool)). IsKept p x shapes rows places tallies) (sym e) k)
 
-pub few_rows : (p : Program) → length (weighed_bodies p) ≤ length (bodies_of p)
-few_rows p = omega (arith, length-filter is_weighed (bodies_of p), count_by-le-length is_weighed (bodies_of p))
+-- each weight body has a variable
+pub few_rows : (p : Program) → length (weighed_bodies p) ≤ length (wide_bodies p)
+few_rows p = fewer (bodies_of p)
+  where
+    one_more : (b : Body) (bs : List Body) → length (filter is_weighed bs) ≤ length (filter is_wide bs) → length (filter is_weighed (b ∷ bs)) ≤ length (filter is_wide (b ∷ bs))
+    one_more (body.All []) bs le = omega (arith, le)
+    one_more (body.All (l ∷ [])) bs le = le
+    one_more (body.All (l ∷ k ∷ ks)) bs le = omega (arith, le)
+    one_more (body.AtLeast bound items) bs le = omega (arith, le)
+
+    fewer : (bs : List Body) → length (filter is_weighed bs) ≤ length (filter is_wide bs)
+    fewer [] = omega arith
+    fewer (b ∷ bs) = one_more b bs (fewer bs)
 
 pub have_room : (p : Program) (vars : ℕ) (shapes also : List Shape) (rows : List (List Item)) → var_count p < 2 ^ 31 → AreRows p (weighed_bodies p) shapes rows → vars ≡ var_count p → also ≡ shapes → HaveRoom vars also rows
 have_room p vars shapes also rows few r e f = subst (λ (ss : List Shape). HaveRoom vars ss rows) (sym f) (record {

@@ -1,10 +1,10 @@
-use Rattle.std.proofs.Common.{◌-◌, arith, sym, ap, ◌∙◌}
+use Rattle.std.proofs.Common.{sym, ap, ◌∙◌}
 use Rattle.std.specs.List.{list_any}
 use Rattle.asp_model.specs.declared.program.Program.{Program}
 use Rattle.asp_model.specs.declared.program.Rule.{Rule}
 use Rattle.asp_model.specs.Sets.{has}
 use Rattle.asp_model.specs.Models.{head_atoms}
-use Rattle.asp_vars.specs.Numbering.{nth_rule, nth_body}
+use Rattle.asp_vars.specs.Numbering.{nth_rule}
 use Rattle.asp_checker.specs.Lines.{is_answered}
 use Rattle.asp_member.proofs.FoundingLaws.{rule_body}
 use Rattle.asp_checker.proofs.FoundLaws.{outside_rule, inside_rule}
