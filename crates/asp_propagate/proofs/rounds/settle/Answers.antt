@@ -1,4 +1,4 @@
-use Rattle.std.proofs.Common.{◌≤◌, sym, ap, ◌∙◌, subst, refl, arith}
+use Rattle.std.proofs.Common.{sym, ap, ◌∙◌, subst, refl, arith}
 use Rattle.asp_trail.specs.Trails.{Trailed}
 use Rattle.asp_store.specs.declared.propagation.Propagated.{Propagated}
 use Rattle.asp_store.specs.Walking.{Propagates}

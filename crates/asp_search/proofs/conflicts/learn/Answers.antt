@@ -1,4 +1,4 @@
-use Rattle.std.proofs.Common.{◌≡◌, ℕ, List, Some, sym, ap, ◌∙◌, subst}
+use Rattle.std.proofs.Common.{◌≡◌, ℕ, ℤ, List, Option, Some, sym, ap, ◌∙◌, subst}
 use Rattle.asp_vars.specs.Literals.{Literal}
 use Rattle.asp_vars.specs.Numbering.{var_count}
 use Rattle.asp_vars.specs.declared.nogood.Nogood.{Nogood}
