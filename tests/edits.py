@@ -139,15 +139,25 @@ def indent_of(line):
     return len(line) - len(line.lstrip())
 
 
+def type_name(text, params, trait):
+    """Returns a type as rt names it before one of its functions: of an impl of a trait with what it is made of."""
+    words = [it for it in re.findall(r"'?\w+", text.split(" where ")[0]) if not it.startswith("'")]
+    own = re.findall(r"'?\w+", params)
+    if not trait:
+        return words[0]
+    name = "".join(it[0].upper() + it[1:] for it in words if it not in own)
+    return f"Tuple{len(words)}{name}" if text.startswith("(") else name
+
+
 def functions_in(path, text):
     """Yields each function of a file, as `rt check --only` names it, with its first and its last line, counted from 1."""
     module = "".join(f"{it}::" for it in path[len("src/") : -len(".rt")].split("/") if it not in ("lib", "main"))
     owner, begun = "", []
     for number, line in enumerate(text.split("\n"), 1):
         head = re.match(r"\s*(?:pub(?:\([a-z ]+\))?\s+)?fn\s+(\w+)", line)
-        block = re.match(r"(?:impl(?:<.*?>)?\s+(?:(\w+)\S*\s+for\s+)?(\w+)|(?:pub\s+)?trait\s+(\w+))", line)
+        block = re.match(r"impl(<.*?>)?\s+(?:(\w+)\S*\s+for\s+)?([^{]+)|(?:pub\s+)?trait\s+(\w+)", line)
         if block:
-            owner = f"{block[2] or block[3]}{block[1] or ''}::"
+            owner = f"{block[4] or type_name(block[3], block[1] or '', block[2])}{block[2] or ''}::"
         if head:
             begun.append((indent_of(line), number, f"{module}{owner}{head[1]}"))
         elif begun and line.strip() == "}" and indent_of(line) == begun[-1][0]:
