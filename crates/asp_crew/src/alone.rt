@@ -94,8 +94,13 @@ fn solve_recorded<W: Watch>(
     ensures heard { W.IsAfter watch.old watch.new }
 {
     let recorder = Recorder::new(alloc);
-    let report = first(alloc, compiled, ask, budget, counts, watch, Some(&recorder))?;
-    with_proof(alloc, report, recorder)
+    match first(alloc, compiled, ask, budget, counts, watch, Some(&recorder)) {
+        Ok(report) => with_proof(alloc, report, recorder),
+        Err(error) => {
+            mem::drop(recorder);
+            Err(error)
+        }
+    }
 }
 
 /// What is asked of a program: its answers, all or as many as are enough; what is in some or in each of them; or one that none

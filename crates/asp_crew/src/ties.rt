@@ -207,8 +207,12 @@ pub fn with_ties<W: Watch>(
     ensures proof { IfOk result (λ r. r.proof ≡ None) }
     ensures heard { W.IsAfter watch.old watch.new }
 {
-    match second(alloc, compiled, ask, &report, counts, watch)? {
-        None => Ok(report),
-        Some(ties) => Ok(joined(report, ties)),
+    match second(alloc, compiled, ask, &report, counts, watch) {
+        Ok(None) => Ok(report),
+        Ok(Some(ties)) => Ok(joined(report, ties)),
+        Err(error) => {
+            mem::drop(report);
+            Err(error)
+        }
     }
 }

@@ -2,7 +2,8 @@
 //!
 //! Each variable without a value is in the heap. One that gets a value stays there until it comes first and is
 //! skipped, so nothing is done when a literal comes to hold. Before literals are taken back, their variables are put
-//! into the heap again, and their values are saved: a variable is decided to have the value that it had last.
+//! into the heap again, and their values are saved: a variable is decided to have the value that nearly all learnt
+//! nogoods ask for that have it, or else the one that it had last.
 ghost use Rattle.std.specs.Prelude.{◌≡◌, ◌+◌, ◌<◌, ◌^◌, ◌++◌, ◌∷◌, [], ℕ, All, length, slice_set, false, IsTrue, IfOk, IfSome, IfNone};
 ghost use Rattle.asp_trail.specs.declared.trail.Entry.{Entry};
 ghost use Rattle.asp_trail.specs.Entries.{assignment, cut};
@@ -12,6 +13,7 @@ ghost use Rattle.asp_order.specs.Waiting.{HasVars, AreWaiting, AreAssigned, IsNe
 
 use crate::heap::Heap;
 use crate::phases::Phases;
+use crate::votes::Votes;
 use asp_trail::trail::Trail;
 use asp_vars::lit::{Lit, Var};
 use std::alloc::{AllocError, Global};
@@ -24,6 +26,8 @@ pub struct Order {
     heap: Heap,
     /// The value that each variable had last.
     phases: Phases,
+    /// The value that learnt nogoods ask for.
+    votes: Votes,
 }
 
 impl Model for Order {
@@ -106,7 +110,12 @@ impl Order {
         heap.reserve(vars as usize)?;
         fill(&mut heap, vars);
         let phases = Phases::new(alloc, vars)?;
-        Ok(Order { heap, phases })
+        let votes = Votes::new(alloc, vars)?;
+        Ok(Order {
+            heap,
+            phases,
+            votes,
+        })
     }
 
     /// Raises the activity of the literals' variables, before the search begins.
@@ -124,6 +133,7 @@ impl Order {
         ensures vars { length self.new.activities ≡ length self.old.activities }
     {
         lift(&mut self.heap, lit.var());
+        self.votes.forget(lit.var());
         self.phases.save(lit.var(), lit.truth());
     }
 
@@ -135,10 +145,11 @@ impl Order {
         decay_all(&mut self.heap, times);
     }
 
-    /// The variable has this value when it is first decided.
+    /// The variable has this value when it is first decided, and then the one that it had last, whatever is learnt.
     pub fn prefer(&mut self, var: Var, truth: bool)
         ensures { self.new ≡ self.old }
     {
+        self.votes.leave_out(var);
         self.phases.save(var, truth);
     }
 
@@ -174,12 +185,16 @@ impl Order {
         None
     }
 
-    /// The variable with the value that it had last; before it had any, the one preferred by `prefer`, or false.
+    /// The variable with the value that nearly all learnt nogoods ask for that have it, or else with the value that it had
+    /// last; before it had any, the one preferred by `prefer`, or false.
     pub fn phase(&self, var: Var) -> Lit
         requires { var < 2 ^ 31 }
         ensures { result.var ≡ var }
     {
-        self.phases.lit(var)
+        match self.votes.value(var) {
+            Some(truth) => Lit::new(var, truth),
+            None => self.phases.lit(var),
+        }
     }
 
     // The literal's value is saved, and its variable is in the heap from now on.
@@ -223,7 +238,8 @@ impl Order {
         }
     }
 
-    /// Raises the activity of a learnt nogood's variables, and of those that were met on the way to it.
+    /// Raises the activity of a learnt nogood's variables, and of those that were met on the way to it; the nogood asks for
+    /// the other values of its literals.
     pub fn bump(&mut self, lits: &[Lit], met: &[Lit])
         requires lits { All (λ l. l.var < length self.old.activities) lits.now }
         requires met { All (λ l. l.var < length self.old.activities) met.now }
@@ -232,5 +248,6 @@ impl Order {
         ensures vars { length self.new.activities ≡ length self.old.activities }
     {
         bump_and_decay(&mut self.heap, lits, met);
+        self.votes.add(lits);
     }
 }

@@ -1,4 +1,4 @@
-use Rattle.std.proofs.Common.{◌-◌, arith}
+use Rattle.std.proofs.Common.{arith}
 use Rattle.asp_order.proofs.WaitingLaws.{waiting_above, above_in, low_before}
 use Rattle.asp_order.proofs.order.Order.restore_above.Goals as goal
 
