@@ -115,7 +115,7 @@ echo 'aspenum: line 1000003: more than 1,000,000 different atoms' > "$wanted"
 check "a million atoms and one" 65 "$wanted" "${PIPESTATUS[1]}" "$notes"
 
 # The counts of a run.
-printf 'Conflicts: 0\nLeaves: 1\nLog: 0\nDecisions: 1\nPropagated: 7\nRestarts: 0\nKept: 0\nDropped: 0\nAtoms: 2\nBodies: 2\nLoops: 0\n' > "$wanted"
+printf 'Conflicts: 0\nLeaves: 1\nLog: 0\nDecisions: 1\nPropagated: 3\nRestarts: 0\nKept: 0\nDropped: 0\nAtoms: 2\nBodies: 2\nLoops: 0\n' > "$wanted"
 "$program" --stats < examples/two_rules.aspif > "$given" 2> "$notes"
 check "counts" 30 "$wanted" "$?" "$notes"
 worker='Worker N: conflicts N, decisions N, propagated N, restarts N, answers N, kept N, dropped N'

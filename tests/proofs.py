@@ -168,7 +168,7 @@ def listed(numbered, mode):
 
 
 def proof_of(numbered, mode, answers, lines):
-    return "\n".join(["proof 2", mode] + [f"a {counted(sorted(s))}" for s in answers] + lines + ["0", ""])
+    return "\n".join(["proof 1", mode] + [f"a {counted(sorted(s))}" for s in answers] + lines + ["0", ""])
 
 
 def needed(numbered, mode, answers, lines, is_a_yes):
@@ -223,7 +223,7 @@ def hostile(text, r):
     lines = text.split("\n")
     yield text[: r.randrange(len(text) - 1)]
     yield text + "0\n"
-    yield text.replace("proof 2\n", "proof 1\n")
+    yield text.replace("proof 1\n", "proof 2\n")
     yield "\n".join([lines[1], lines[0]] + lines[2:])
     at = r.randrange(2, len(lines) - 2)
     for word in ("18446744073709551616", "9" * 100, "2147483648", "-0", "+1", "01", "x", "", "1  1"):

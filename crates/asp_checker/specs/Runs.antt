@@ -80,7 +80,7 @@ proof_error (proof.Refused n) = error.Proof (proof.Refused n)
 -- ---- one text
 -- The text begins with a proof's first line.
 abbrev pub is_proof_line : List ℕ → Bool
-is_proof_line text = starts_with nat_eq text (codes "proof 2\n")
+is_proof_line text = starts_with nat_eq text (codes "proof 1\n")
 
 -- how many bytes stand before the first line of a proof, where the text begins at a line's start, or doesn't
 abbrev pub place_from : Bool → List ℕ → ℕ

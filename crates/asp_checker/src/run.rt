@@ -150,7 +150,7 @@ pub fn check_proof(alloc: Global, program: &[u8], proof: &[u8]) -> Result<Judgem
 fn is_proof_line(text: &[u8]) -> bool
     ensures { result ≡ is_proof_line text.now }
 {
-    text.starts_with(b"proof 2\n")
+    text.starts_with(b"proof 1\n")
 }
 
 fn begins(at_start: bool, text: &[u8]) -> bool
@@ -299,7 +299,7 @@ fn read_status(error: ProofError) -> CheckStatus
     }
 }
 
-/// Reads a program's text and behind it a proof's, which begins with the first line `proof 2`, and writes what is said of
+/// Reads a program's text and behind it a proof's, which begins with the first line `proof 1`, and writes what is said of
 /// the proof: `YES`, or `NO` with the number of the reason and of the line. Nothing is written where no proof was judged.
 pub fn run_check<S: Source, K: Sink>(alloc: Global, source: &mut S, sink: &mut K) -> CheckStatus
     // What the source's text comes to, or some text where it doesn't tell it.

@@ -106,7 +106,7 @@ lines_more text xs x = flat_map-append (λ y. line (text y)) xs (x ∷ []) ∙ a
 
 front_answer : (opt : Bool) (answers : List Atoms) (S : Atoms) → front_of (proof_of opt (answers ++ S ∷ []) []) ≡ front_of (proof_of opt answers []) ++ line (answer_text S)
 front_answer opt answers S =
-    let head = codes "proof 2\n" ++ mode_line opt in
+    let head = codes "proof 1\n" ++ mode_line opt in
     append-nil (head ++ lines answer_text (answers ++ S ∷ []))
     ∙ ap (λ (t : List ℕ). head ++ t) (lines_more answer_text answers S)
     ∙ sym (append_assoc head (lines answer_text answers) (line (answer_text S)))
@@ -114,7 +114,7 @@ front_answer opt answers S =
 
 front_line : (opt : Bool) (answers : List Atoms) (entries : List Line) (l : Line) → front_of (proof_of opt answers (entries ++ l ∷ [])) ≡ front_of (proof_of opt answers entries) ++ line (line_text l)
 front_line opt answers entries l =
-    let head = codes "proof 2\n" ++ mode_line opt ++ lines answer_text answers in
+    let head = codes "proof 1\n" ++ mode_line opt ++ lines answer_text answers in
     ap (λ (t : List ℕ). head ++ t) (lines_more line_text entries l) ∙ sym (append_assoc head (lines line_text entries) (line (line_text l)))
 
 -- a line behind a front
@@ -269,7 +269,7 @@ is_read text n p bytes after rest w e z end le = record {
 -- ---- the first two lines
 
 abbrev pub head : List ℕ
-head = codes "proof 2\n"
+head = codes "proof 1\n"
 
 regroup : (h m a l z : List ℕ) → (((h ++ m) ++ a) ++ l) ++ z ≡ h ++ (m ++ (a ++ (l ++ z)))
 regroup h m a l z = simp append_assoc
@@ -299,7 +299,7 @@ same_mode false true xs ys e = absurd (omega (arith, first_bytes 101 111 _ _ e))
 behind_first : (rest : List ℕ) → IsProofText (head ++ rest) → (p : Proof) × IsProof p × (mode_line p.opt ++ (lines answer_text p.answers ++ (lines line_text p.lines ++ codes "0\n")) ≡ rest)
 behind_first rest t = (t.proof, t.is, behind_head _ rest (sym (parts_of t.proof) ∙ t.same))
 
-head_unbroken : IsUnbroken (codes "proof 2")
+head_unbroken : IsUnbroken (codes "proof 1")
 head_unbroken = ((λ e. omega (arith, e)), ((λ e. omega (arith, e)), ((λ e. omega (arith, e)), ((λ e. omega (arith, e)), ((λ e. omega (arith, e)), ((λ e. omega (arith, e)), ((λ e. omega (arith, e)), tt)))))))
 
 pub no_head : (text : List ℕ) → ((rest : List ℕ) → head ++ rest ≡ text → ⊥) → IsFirstFault text 1
@@ -313,7 +313,7 @@ no_head text none = record {
   begins = any_proof;
   with_it = λ bytes after u same b.
       let p = parts_of b.whole.proof in
-      let h = first_line (codes "proof 2") bytes _ b.rest head_unbroken u (sym p ∙ b.whole.same ∙ behind_front [] bytes b.rest) in
+      let h = first_line (codes "proof 1") bytes _ b.rest head_unbroken u (sym p ∙ b.whole.same ∙ behind_front [] bytes b.rest) in
       none after (ap (λ (t : List ℕ). t ++ 10 ∷ after) h.0 ∙ same);
   whole = λ t. none _ (sym (parts_of t.proof) ∙ t.same);
 }
@@ -331,7 +331,7 @@ mode_break true xs = refl
 mode_break false xs = refl
 
 head_line : IsLines 1 head
-head_line = record { parts = codes "proof 2" ∷ []; counted = refl; unbroken = (head_unbroken, tt); same = refl }
+head_line = record { parts = codes "proof 1" ∷ []; counted = refl; unbroken = (head_unbroken, tt); same = refl }
 
 pub no_mode : (text rest : List ℕ) → head ++ rest ≡ text → ((o : Bool) (xs : List ℕ) → mode_line o ++ xs ≡ rest → ⊥) → IsFirstFault text 2
 no_mode text rest e none = record {
@@ -350,8 +350,8 @@ no_mode text rest e none = record {
 }
 
 two_lines : (o : Bool) → IsLines 2 (front_of (proof_of o [] []))
-two_lines true = record { parts = codes "proof 2" ∷ codes "opt" ∷ []; counted = refl; unbroken = (head_unbroken, (word_unbroken true, tt)); same = refl }
-two_lines false = record { parts = codes "proof 2" ∷ codes "enum" ∷ []; counted = refl; unbroken = (head_unbroken, (word_unbroken false, tt)); same = refl }
+two_lines true = record { parts = codes "proof 1" ∷ codes "opt" ∷ []; counted = refl; unbroken = (head_unbroken, (word_unbroken true, tt)); same = refl }
+two_lines false = record { parts = codes "proof 1" ∷ codes "enum" ∷ []; counted = refl; unbroken = (head_unbroken, (word_unbroken false, tt)); same = refl }
 
 start_regroup : (h m rest : List ℕ) → ((((h ++ m) ++ []) ++ []) ++ rest) ≡ h ++ (m ++ rest)
 start_regroup h m rest = simp (append_assoc, append-nil)

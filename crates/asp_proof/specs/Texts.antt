@@ -48,4 +48,4 @@ abbrev pub mode_line : Bool → List ℕ
 mode_line opt = if opt then codes "opt\n" else codes "enum\n"
 
 abbrev pub text_of : Proof → List ℕ
-text_of p = codes "proof 2\n" ++ mode_line p.opt ++ lines answer_text p.answers ++ lines line_text p.lines ++ codes "0\n"
+text_of p = codes "proof 1\n" ++ mode_line p.opt ++ lines answer_text p.answers ++ lines line_text p.lines ++ codes "0\n"

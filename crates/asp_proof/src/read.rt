@@ -72,7 +72,7 @@ pub fn parse(alloc: Global, text: &[u8]) -> Result<Proof, ProofError>
     ensures right { IsAnswerOn text.now result }
     ensures no_read { ¬ IsErrOf result ProofError.ReadFault }
 {
-    let Some(body) = after(text, b"proof 2\n") else {
+    let Some(body) = after(text, b"proof 1\n") else {
         return Err(ProofError::Refused(1));
     };
     let Some((opt, mut rest)) = mode(body) else {

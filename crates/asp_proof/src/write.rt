@@ -167,7 +167,7 @@ fn put_proof<K: Sink>(sink: &mut K, waiting: &mut Waiting, proof: &Proof) -> Res
     ensures { Puts (out (K.held sink.old) (K.faults sink.old) waiting.old)
         (out (K.held sink.new) (K.faults sink.new) waiting.new) result (text_of proof.now) }
 {
-    put(sink, waiting, b"proof 2\n")?;
+    put(sink, waiting, b"proof 1\n")?;
     put(sink, waiting, mode_line(proof.opt))?;
     put_answers(sink, waiting, proof.answers.as_slice())?;
     put_lines(sink, waiting, proof.lines.as_slice())?;

@@ -2,9 +2,10 @@ use Rattle.asp_vault.specs.Seats.{view}
 use Rattle.asp_book.specs.Calls.{Knows}
 use Rattle.asp_worker.specs.Working.{IsOff}
 use Rattle.asp_worker.proofs.Replies.{always-err}
-use Rattle.asp_worker.proofs.SeatLaws.{half-none}
+use Rattle.asp_worker.proofs.SeatLaws.{half-none, keeps-trans}
 use Rattle.asp_worker.proofs.GoingLaws.{goes-on, owes-of, owes-on}
 use Rattle.asp_worker.proofs.PathLaws.{kept-on, open-lit}
+use Rattle.asp_worker.proofs.SharingLaws.{still-read}
 use Rattle.asp_worker.proofs.share.split_on.Goals as goal
 
 pub divide-requires-clause-variable : goal.divide-requires-clause-variable
@@ -29,3 +30,15 @@ returns-in-None-clause-ok g c =
     let v : Knows = view c.args.worker.now.seat in let w : Knows = view c.divide.new.worker.seat in
     kept-on c.args.shared.now.mode v w c.args.engine.now.search c.args.engine.now.fuel c.args.leaf.now c.requires.on c.divide.ensures.passes
     (half-none v w c.args.leaf.now c.args.lit c.in_ok-divide.field-0 c.in_ok-divide.ensures.half c.in-None.is)
+
+pub returns-in_err-divide-clause-read : goal.returns-in_err-divide-clause-read
+returns-in_err-divide-clause-read g c = still-read c.args.engine.now.read (view c.args.worker.now.pages).seen (view c.divide.new.worker.pages).seen c.divide.ensures.keeps.pages.seen c.requires.read
+
+pub begin-requires-clause-read : goal.begin-requires-clause-read
+begin-requires-clause-read g c = still-read c.args.engine.now.read (view c.args.worker.now.pages).seen (view c.divide.new.worker.pages).seen c.divide.ensures.keeps.pages.seen c.requires.read
+
+pub returns-in-None-clause-read : goal.returns-in-None-clause-read
+returns-in-None-clause-read g c = still-read c.args.engine.now.read (view c.args.worker.now.pages).seen (view c.divide.new.worker.pages).seen c.divide.ensures.keeps.pages.seen c.requires.read
+
+pub returns-in-Some-clause-keeps : goal.returns-in-Some-clause-keeps
+returns-in-Some-clause-keeps g c = keeps-trans c.args.worker.now c.divide.new.worker c.begin.new.worker c.divide.ensures.keeps c.begin.ensures.keeps
