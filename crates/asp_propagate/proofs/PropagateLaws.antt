@@ -189,6 +189,17 @@ violated_settled vars now old new es id v q h =
     subst (λ (m : ℕ). IsViolated m new es id) (sym v) (subst (λ (xs : List (Option StoredNogood)). IsViolated vars xs es id) (sym q) h)
 
 -- ---- another bound
+-- told of more
+pub followed_told : (why : Program → List Entry → Literal → ℕ → Type 0) (t u : Told) (s : Stored) (r : Trailed) (n m : ℕ) → u.program ≡ t.program → WasTold u r m → n ≤ m → IsFollowed why t s r n → IsFollowed why u s r m
+followed_told why t u s r n m p w le f = record {
+  told = w;
+  room = f.room;
+  fits = f.fits;
+  unlocked = f.unlocked;
+  explained = subst (λ (x : Program). AreExplained (why x) r.entries) (sym p) f.explained;
+  late_told = λ i d name h q. omega (arith, le, f.late_told i d name h q);
+}
+
 pub followed_bound : (explains : Program → Option (List ℤ) → List Entry → Literal → ℕ → Type 0) (b c : Option (List ℤ)) (t : Told) (s : Stored) (r : Trailed) (n : ℕ) → c ≡ b → IsFollowed (λ p. explains p b) t s r n → IsFollowed (λ p. explains p c) t s r n
 followed_bound explains b c t s r n e f = subst (λ (x : Option (List ℤ)). IsFollowed (λ p. explains p x) t s r n) (sym e) f
 

@@ -7,6 +7,7 @@ ghost use Rattle.std.specs.Prelude.{◌≡◌, ◌≤◌, ◌+◌, ◌^◌, ◌+
 ghost use Rattle.asp_trail.specs.Entries.{assignment, level};
 ghost use Rattle.asp_trail.specs.Trails.{IsVar};
 ghost use Rattle.asp_vars.specs.Literals.{value_of};
+ghost use Rattle.asp_vars.specs.Numbering.{var_count};
 ghost use Rattle.asp_store.specs.Walking.{IsViolated};
 ghost use Rattle.asp_propagate.specs.Saying.{IsFollowing};
 ghost use Rattle.asp_propagate.specs.Propagating.{WasTold, IsFollowed, GoesOn, AreAtFixpoint, IsFixpoint, Asked};
@@ -67,45 +68,36 @@ fn imply_told<P: Propagator>(
     propagator: &mut P,
     trail: &mut Trail,
     store: &Store,
-    told: &mut usize,
     lit: Lit,
     name: u32,
 )
-    requires followed { IsFollowed (λ p. P.explains p (P.bound propagator.old)) (P.told propagator.old) store.now trail.old told.old }
-    requires all { told.old ≡ length trail.old.entries }
-    requires follows { IsFollowing (P.explains (P.told propagator.old).program (P.bound propagator.old)) trail.old.vars trail.old.entries lit name }
-    ensures followed { IsFollowed (λ p. P.explains p (P.bound propagator.new)) (P.told propagator.new) store.now trail.new told.new }
-    ensures all { told.new ≡ length trail.new.entries }
+    requires followed { IsFollowed (λ p. P.explains p (P.bound propagator.old)) (P.told propagator.old) store.now trail.old (length trail.old.entries) }
+    requires follows { IsFollowing (P.explains (P.told propagator.old).program (P.bound propagator.old)) (var_count (P.told propagator.old).program) trail.old.entries lit name }
+    ensures followed { IsFollowed (λ p. P.explains p (P.bound propagator.new)) (P.told propagator.new) store.now trail.new (length trail.new.entries) }
     ensures same { trail.new ≡ record trail.old { entries = trail.new.entries } }
     ensures more { length trail.new.entries ≡ length trail.old.entries + 1 }
+    ensures few { length trail.new.entries ≤ trail.new.vars + 1 }
     ensures goes { GoesOn (P.gives (P.told propagator.old).program (P.bound propagator.old)) (P.told propagator.old) (P.told propagator.new) (P.bound propagator.old) (P.bound propagator.new)
         store.now.slots store.now.slots trail.old.entries trail.new.entries }
 {
     let _ = store;
-    let _len = trail.len();
+    let told = trail.len();
     imply_late(trail, lit, name);
-    tell(propagator, trail, *told);
-    *told = trail.len();
+    let _level = trail.level();
+    tell(propagator, trail, told);
 }
 
 // Implies what the propagator says follows, literal after literal.
-fn imply_more<P: Propagator>(
-    propagator: &mut P,
-    trail: &mut Trail,
-    store: &Store,
-    told: &mut usize,
-)
-    requires followed { IsFollowed (λ p. P.explains p (P.bound propagator.old)) (P.told propagator.old) store.now trail.old told.old }
-    requires all { told.old ≡ length trail.old.entries }
-    ensures followed { IsFollowed (λ p. P.explains p (P.bound propagator.new)) (P.told propagator.new) store.now trail.new told.new }
+fn imply_more<P: Propagator>(propagator: &mut P, trail: &mut Trail, store: &Store)
+    requires { IsFollowed (λ p. P.explains p (P.bound propagator.old)) (P.told propagator.old) store.now trail.old (length trail.old.entries) }
+    ensures followed { IsFollowed (λ p. P.explains p (P.bound propagator.new)) (P.told propagator.new) store.now trail.new (length trail.new.entries) }
     ensures same { trail.new ≡ record trail.old { entries = trail.new.entries } }
     ensures more { length trail.old.entries ≤ length trail.new.entries }
     ensures goes { GoesOn (P.gives (P.told propagator.old).program (P.bound propagator.old)) (P.told propagator.old) (P.told propagator.new) (P.bound propagator.old) (P.bound propagator.new)
         store.now.slots store.now.slots trail.old.entries trail.new.entries }
 {
-    let _len = trail.len();
     'implied: while let Some(implied) = propagator.more(trail) {
-        imply_told(propagator, trail, store, told, implied.lit, implied.name);
+        imply_told(propagator, trail, store, implied.lit, implied.name);
     }
 }
 
@@ -133,8 +125,9 @@ fn ask<P: Propagator>(
             Ok(true)
         }
         Some(Said::Implied(implied)) => {
-            imply_told(propagator, trail, store, told, implied.lit, implied.name);
-            imply_more(propagator, trail, store, told);
+            imply_told(propagator, trail, store, implied.lit, implied.name);
+            imply_more(propagator, trail, store);
+            *told = trail.len();
             Ok(true)
         }
     }
