@@ -240,10 +240,10 @@ goes_one gives t u b c s z es id m p q a g = record {
 }
 
 -- an entry came that the propagator explains
-pub goes_late : (gives : Nogood → Type 0) (t u : Told) (b c : Option (List ℤ)) (xs : List (Option StoredNogood)) (es fs : List Entry) (l : Literal) (id : ℕ) → u ≡ t → c ≡ b →
+pub goes_late : (gives : Nogood → Type 0) (t u : Told) (b c : Option (List ℤ)) (xs : List (Option StoredNogood)) (es fs : List Entry) (l : Literal) (id : ℕ) → u.program ≡ t.program → c ≡ b →
     fs ≡ es ++ record { lit = l; level = level es; reason = Some id } ∷ [] → GoesOn gives t u b c xs xs es fs
 goes_late gives t u b c xs es fs l id p q e = record {
-  program = ap (λ (x : Told). x.program) p;
+  program = p;
   bound_stays = q;
   adds = adds_none gives xs xs refl;
   implies = (record { lit = l; level = level es; reason = Some id } ∷ [], e, one);
