@@ -36,8 +36,6 @@ fn push_watch(list: &mut Vec<Watch>, watch: Watch) -> Result<(), AllocError>
 pub struct WatchLists {
     // By the literal's code, 2 * variable + 0 or 1.
     lists: Vec<Vec<Watch>>,
-    // What was read of a list ahead of its walk.
-    ahead: Watch,
 }
 
 impl Model for WatchLists {
@@ -59,19 +57,7 @@ impl WatchLists {
         for _ in 0..n {
             lists.push(Vec::new(alloc))?;
         }
-        let ahead = Watch::new(Lit::new(0, true), 0, false);
-        Ok(WatchLists { lists, ahead })
-    }
-
-    /// The literal's list is walked soon. What is read of it now is near then.
-    pub fn fetch(&mut self, lit: Lit)
-        requires { code_of lit < length self.old }
-        ensures { self.new ≡ self.old }
-    {
-        let list = self.lists[lit.code()].as_slice();
-        if !list.is_empty() {
-            self.ahead = list[0];
-        }
+        Ok(WatchLists { lists })
     }
 
     /// The length of the literal's list.

@@ -61,9 +61,6 @@ fn propagate_next(
     let _level = trail.level();
     let front = front_of(trail);
     let seen = trail.seen();
-    if seen + 1 < trail.len() {
-        watches.lists.fetch(trail.lit(seen + 1));
-    }
     let found = walk(watches, slots, &front, trail)?;
     match found {
         Some(id) => Ok(Some(id)),
