@@ -8,7 +8,7 @@ use Rattle.asp_trail.specs.Entries.{assignment}
 use Rattle.asp_store.specs.declared.stored_nogood.StoredNogood.{StoredNogood}
 use Rattle.asp_store.specs.Keeping.{nogood_at}
 use Rattle.asp_store.specs.Walking.{IsViolated}
-use Rattle.asp_propagate.specs.Propagating.{IsFollowed, AreAtFixpoint, Asked}
+use Rattle.asp_propagate.specs.Propagating.{AreAtFixpoint, Asked}
 use Rattle.asp_propagate.proofs.AddLaws.{goes_then, implies_more}
 use Rattle.asp_propagate.proofs.PropagateLaws.{grows}
 use Rattle.asp_propagate.proofs.rounds.propagate.Goals as goal
