@@ -7,7 +7,8 @@ learnt asks for, and drops nogoods.
 Each program is made here: a cheapest choice with recursion through counts, random 3-SAT without an answer, and pigeons. Within
 the units of its row the built program must come to its end. The first takes more without restarts, activities or minimising, the
 second more without activities or minimising (random 3-SAT gains nothing by restarts), the third more where a variable is always
-decided as it was last: each row says what each took when it was written, beside what the whole search took. --measure prints what PROGRAM takes: after a change of the search the rows are to be written anew.
+decided as it was last: each row says what each took when it was written, beside what the whole search took. --measure prints
+what PROGRAM takes: after a change of the search the rows are to be written anew.
 
 Two more must end within an address space: a search wants more that drops nothing it learns (pigeons), or drops what weight
 bodies give only at the restarts of the schedule, which get rarer (knapsack)."""
