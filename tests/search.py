@@ -1,12 +1,14 @@
 #!/usr/bin/env python3
-"""Holds the search to what no contract says: that it restarts, raises activities, minimises what it learns, and drops nogoods.
+"""Holds the search to what no contract says: that it restarts, raises activities, minimises what it learns, decides as what it
+learnt asks for, and drops nogoods.
 
     search.py PROGRAM [--measure]
 
-Each program is made here: a cheapest choice with recursion through counts, and random 3-SAT without an answer. Within the units
-of its row the built program must come to its end. The first takes more without any one of the three, the second more without
-activities or minimising (random 3-SAT gains nothing by restarts): each row says what each took when it was written, beside what
-the whole search took. --measure prints what PROGRAM takes: after a change of the search the rows are to be written anew.
+Each program is made here: a cheapest choice with recursion through counts, random 3-SAT without an answer, and pigeons. Within
+the units of its row the built program must come to its end. The first takes more without restarts, activities or minimising, the
+second more without activities or minimising (random 3-SAT gains nothing by restarts), the third more where a variable is always
+decided as it was last: each row says what each took when it was written, beside what the whole search took. --measure prints
+what PROGRAM takes: after a change of the search the rows are to be written anew.
 
 Two more must end within an address space: a search wants more that drops nothing it learns (pigeons), or drops what weight
 bodies give only at the restarts of the schedule, which get rarer (knapsack)."""
@@ -64,10 +66,12 @@ def knapsack(items, limits, seed):
 # a program, what its last lines must be, and units; conflicts when it was written: the whole search, without restarts, without
 # activities, without minimising
 ROWS = [
-    # 959; 2,360; 1,854; 3,329 (the whole search took 1,443 later, and 1,509 since first activities count weight bodies)
-    ("trust of 24", cheapest_trust(24, 6, 4, 3), 30, b"Optimization: 4\nOPTIMUM FOUND\nModels: 1\n", 1700),
-    # 3,368; 3,818; 7,243; 5,141
-    ("3-SAT of 200", random_sat(200, 4.8, 2), 20, b"UNSATISFIABLE\nModels: 0\n", 4500),
+    # 1,400; 3,309; 3,180; 1,603
+    ("trust of 26", cheapest_trust(26, 6, 4, 7), 30, b"Optimization: 4\nOPTIMUM FOUND\nModels: 1\n", 1500),
+    # 6,023; 5,601; 182,992; 8,981
+    ("3-SAT of 200", random_sat(200, 4.8, 3), 20, b"UNSATISFIABLE\nModels: 0\n", 7000),
+    # 3,884; 11,360 with the last values
+    ("pigeons of 9", pigeons(9), 20, b"UNSATISFIABLE\nModels: 0\n", 7000),
 ]
 
 # a program, what its status and last lines must be

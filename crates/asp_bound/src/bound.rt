@@ -6,7 +6,7 @@
 //! one more literal, that literal's complement follows, and they make its reason with it when that is asked for. At each
 //! priority the variables stand in the order of what they can add, so only those that may reach the bound are looked at, from
 //! a start on: those before it have values.
-ghost use Rattle.std.specs.Prelude.{◌≡◌, ◌<◌, ◌≤◌, IfOk, IfSome, Some, None, true, length, take, slice_index_or, is_none};
+ghost use Rattle.std.specs.Prelude.{◌≡◌, ◌+◌, ◌^◌, ◌<◌, ◌≤◌, IfOk, IfSome, Some, None, true, length, take, slice_index_or, is_none};
 ghost use Rattle.asp_trail.specs.Entries.{assignment};
 ghost use Rattle.asp_trail.specs.Told.{told, untold};
 ghost use Rattle.asp_trail.specs.Trails.{IsVar};
@@ -19,7 +19,7 @@ ghost use Rattle.asp_bound.specs.Bounded.{IsSmaller};
 ghost use Rattle.asp_bound.specs.Explained.{IsExplained, IsTooDear, IsSaid, AreTold};
 ghost use Rattle.asp_bound.specs.Gathered.{valueless};
 
-use crate::given::given;
+use crate::given::{following, given};
 use crate::late::explained;
 use crate::levels::{Tables, all_tables};
 use crate::lists::{Lists, lists_of};
@@ -30,7 +30,7 @@ use crate::sums::{lower, raise};
 use asp_model::cost::Cost;
 use asp_model::program::Program;
 use asp_table::table::Table;
-use asp_trail::said::Said;
+use asp_trail::said::{Implied, Said};
 use asp_trail::told::ToldValues;
 use asp_trail::trail::Trail;
 use asp_vars::compiled::Compiled;
@@ -184,6 +184,33 @@ impl Bound {
             &self.columns,
             vars,
             raisers,
+            sums,
+            cost,
+            starts,
+        )
+    }
+
+    /// One more literal that follows by the bound. None says nothing.
+    pub fn more(&mut self, trail: &Trail) -> Option<Implied>
+        requires vars { trail.now.vars ≡ var_count self.old.told.program }
+        requires values { self.old.told.values ≡ assignment trail.now.vars trail.now.entries }
+        ensures same { self.new ≡ self.old }
+        ensures follows { IfSome result (λ i. IsExplained self.old.told.program self.old.bound trail.now.entries i.lit × (i.name + 1 ≡ 2 ^ 31)) }
+    {
+        let values = trail.assignment();
+        let Some(cost) = &self.bound else {
+            return None;
+        };
+        let vars = self.vars.as_slice();
+        let sums = self.sums.as_slice();
+        let starts = self.starts.as_mut_slice();
+        following(
+            &self.origin,
+            trail,
+            values,
+            &self.rows,
+            &self.columns,
+            vars,
             sums,
             cost,
             starts,

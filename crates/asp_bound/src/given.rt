@@ -7,7 +7,7 @@ ghost use Rattle.asp_trail.specs.Entries.{assignment};
 ghost use Rattle.asp_vars.specs.Literals.{Literal, complement as opposite};
 ghost use Rattle.asp_vars.specs.Numbering.{var_count};
 ghost use Rattle.asp_vars.specs.declared.nogood.Base.TheVariants as base;
-ghost use Rattle.asp_bound.specs.Explained.{IsSaid};
+ghost use Rattle.asp_bound.specs.Explained.{IsExplained, IsSaid};
 ghost use Rattle.asp_bound.specs.Kept.{IsKept};
 ghost use Rattle.asp_bound.specs.Needed.{MayFall, needed};
 ghost use Rattle.asp_bound.specs.Raisers.{AreRaisers};
@@ -69,6 +69,34 @@ fn follows(complement: Lit) -> Implied
         lit: complement.complement(),
         name: BY_BOUND,
     }
+}
+
+/// A literal that follows by the cost that stands as the bound. None says nothing.
+pub fn following(
+    origin: &Origin<Program>,
+    trail: &Trail,
+    values: &Assign,
+    rows: &Table<Place>,
+    columns: &Table<Item>,
+    vars: &[Var],
+    sums: &[i64],
+    cost: &Cost,
+    starts: &mut [usize],
+) -> Option<Implied>
+    requires vars { trail.now.vars ≡ var_count origin.now.value }
+    requires shown { values.now ≡ assignment trail.now.vars trail.now.entries }
+    requires kept { IsKept origin.now.value values.now rows.now columns.now vars.now sums.now }
+    requires starts { AreStarts values.now columns.now starts.old }
+    ensures starts { AreStarts values.now columns.now starts.new }
+    ensures follows { IfSome result (λ i. IsExplained origin.now.value (Some cost.now) trail.now.entries i.lit × (i.name + 1 ≡ 2 ^ 31)) }
+{
+    let _ = origin;
+    let _ = trail;
+    let _ = vars;
+    let Some(implied) = find(values, rows, columns, sums, cost.as_slice(), starts) else {
+        return None;
+    };
+    Some(follows(implied.lit))
 }
 
 /// What the cost that stands as the bound has to say.

@@ -189,6 +189,17 @@ violated_settled vars now old new es id v q h =
     subst (λ (m : ℕ). IsViolated m new es id) (sym v) (subst (λ (xs : List (Option StoredNogood)). IsViolated vars xs es id) (sym q) h)
 
 -- ---- another bound
+-- told of more
+pub followed_told : (why : Program → List Entry → Literal → ℕ → Type 0) (t u : Told) (s : Stored) (r : Trailed) (n m : ℕ) → u.program ≡ t.program → WasTold u r m → n ≤ m → IsFollowed why t s r n → IsFollowed why u s r m
+followed_told why t u s r n m p w le f = record {
+  told = w;
+  room = f.room;
+  fits = f.fits;
+  unlocked = f.unlocked;
+  explained = subst (λ (x : Program). AreExplained (why x) r.entries) (sym p) f.explained;
+  late_told = λ i d name h q. omega (arith, le, f.late_told i d name h q);
+}
+
 pub followed_bound : (explains : Program → Option (List ℤ) → List Entry → Literal → ℕ → Type 0) (b c : Option (List ℤ)) (t : Told) (s : Stored) (r : Trailed) (n : ℕ) → c ≡ b → IsFollowed (λ p. explains p b) t s r n → IsFollowed (λ p. explains p c) t s r n
 followed_bound explains b c t s r n e f = subst (λ (x : Option (List ℤ)). IsFollowed (λ p. explains p x) t s r n) (sym e) f
 
@@ -229,10 +240,10 @@ goes_one gives t u b c s z es id m p q a g = record {
 }
 
 -- an entry came that the propagator explains
-pub goes_late : (gives : Nogood → Type 0) (t u : Told) (b c : Option (List ℤ)) (xs : List (Option StoredNogood)) (es fs : List Entry) (l : Literal) (id : ℕ) → u ≡ t → c ≡ b →
+pub goes_late : (gives : Nogood → Type 0) (t u : Told) (b c : Option (List ℤ)) (xs : List (Option StoredNogood)) (es fs : List Entry) (l : Literal) (id : ℕ) → u.program ≡ t.program → c ≡ b →
     fs ≡ es ++ record { lit = l; level = level es; reason = Some id } ∷ [] → GoesOn gives t u b c xs xs es fs
 goes_late gives t u b c xs es fs l id p q e = record {
-  program = ap (λ (x : Told). x.program) p;
+  program = p;
   bound_stays = q;
   adds = adds_none gives xs xs refl;
   implies = (record { lit = l; level = level es; reason = Some id } ∷ [], e, one);

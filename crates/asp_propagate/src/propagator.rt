@@ -11,11 +11,11 @@ ghost use Rattle.asp_trail.specs.Trails.{IsVar};
 ghost use Rattle.asp_trail.specs.Reasons.{IsReason};
 ghost use Rattle.asp_trail.specs.declared.trail.Entry.{Entry};
 ghost use Rattle.asp_propagate.specs.Late.{AreTold};
-ghost use Rattle.asp_propagate.specs.Saying.{IsToSay};
+ghost use Rattle.asp_propagate.specs.Saying.{IsFollowing, IsToSay};
 ghost use Rattle.asp_propagate.specs.Useful.{IsSmaller};
 
 use asp_model::cost::Cost;
-use asp_trail::said::Said;
+use asp_trail::said::{Implied, Said};
 use asp_trail::trail::Trail;
 use asp_vars::lit::Lit;
 use asp_vars::nogood::Nogood;
@@ -83,6 +83,14 @@ pub trait Propagator: Drop {
         ensures stays { bound self.new ≡ bound self.old }
         ensures fixpoint { IfOk result (λ n. IfNone n (silent (told self.old).program (bound self.old) (told self.old).values)) }
         ensures said { IfOk result (λ n. IfSome n (IsToSay (gives (told self.old).program (bound self.old)) (explains (told self.old).program (bound self.old)) (var_count (told self.old).program) trail.now.entries)) };
+
+    /// One more literal that follows, where something was said that isn't a nogood. None says nothing.
+    fn more(&mut self, trail: &Trail) -> Option<Implied>
+        requires vars { trail.now.vars ≡ var_count (told self.old).program }
+        requires values { (told self.old).values ≡ assignment trail.now.vars trail.now.entries }
+        ensures values { told self.new ≡ told self.old }
+        ensures stays { bound self.new ≡ bound self.old }
+        ensures follows { IfSome result (λ i. IsFollowing (explains (told self.old).program (bound self.old)) (var_count (told self.old).program) trail.now.entries i.lit i.name) };
 
     /// The nogood by which the literal at a place followed, as it was said to by this name.
     ///

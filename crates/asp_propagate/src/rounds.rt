@@ -7,7 +7,9 @@ ghost use Rattle.std.specs.Prelude.{◌≡◌, ◌≤◌, ◌+◌, ◌^◌, ◌+
 ghost use Rattle.asp_trail.specs.Entries.{assignment, level};
 ghost use Rattle.asp_trail.specs.Trails.{IsVar};
 ghost use Rattle.asp_vars.specs.Literals.{value_of};
+ghost use Rattle.asp_vars.specs.Numbering.{var_count};
 ghost use Rattle.asp_store.specs.Walking.{IsViolated};
+ghost use Rattle.asp_propagate.specs.Saying.{IsFollowing};
 ghost use Rattle.asp_propagate.specs.Propagating.{WasTold, IsFollowed, GoesOn, AreAtFixpoint, IsFixpoint, Asked};
 
 use crate::propagator::Propagator;
@@ -61,14 +63,54 @@ fn imply_late(trail: &mut Trail, lit: Lit, name: u32)
     trail.imply(lit, LATE + name as usize);
 }
 
-// Keeps the nogood that the propagator gives, or implies the literal that it says. Says whether it had something to say.
+// Implies a literal that the propagator says, which is told of it.
+fn imply_told<P: Propagator>(
+    propagator: &mut P,
+    trail: &mut Trail,
+    store: &Store,
+    lit: Lit,
+    name: u32,
+)
+    requires followed { IsFollowed (λ p. P.explains p (P.bound propagator.old)) (P.told propagator.old) store.now trail.old (length trail.old.entries) }
+    requires follows { IsFollowing (P.explains (P.told propagator.old).program (P.bound propagator.old)) (var_count (P.told propagator.old).program) trail.old.entries lit name }
+    ensures followed { IsFollowed (λ p. P.explains p (P.bound propagator.new)) (P.told propagator.new) store.now trail.new (length trail.new.entries) }
+    ensures same { trail.new ≡ record trail.old { entries = trail.new.entries } }
+    ensures more { length trail.new.entries ≡ length trail.old.entries + 1 }
+    ensures few { length trail.new.entries ≤ trail.new.vars + 1 }
+    ensures goes { GoesOn (P.gives (P.told propagator.old).program (P.bound propagator.old)) (P.told propagator.old) (P.told propagator.new) (P.bound propagator.old) (P.bound propagator.new)
+        store.now.slots store.now.slots trail.old.entries trail.new.entries }
+{
+    let _ = store;
+    let told = trail.len();
+    imply_late(trail, lit, name);
+    let _level = trail.level();
+    tell(propagator, trail, told);
+}
+
+// Implies what the propagator says follows, literal after literal.
+fn imply_more<P: Propagator>(propagator: &mut P, trail: &mut Trail, store: &Store)
+    requires { IsFollowed (λ p. P.explains p (P.bound propagator.old)) (P.told propagator.old) store.now trail.old (length trail.old.entries) }
+    ensures followed { IsFollowed (λ p. P.explains p (P.bound propagator.new)) (P.told propagator.new) store.now trail.new (length trail.new.entries) }
+    ensures same { trail.new ≡ record trail.old { entries = trail.new.entries } }
+    ensures more { length trail.old.entries ≤ length trail.new.entries }
+    ensures goes { GoesOn (P.gives (P.told propagator.old).program (P.bound propagator.old)) (P.told propagator.old) (P.told propagator.new) (P.bound propagator.old) (P.bound propagator.new)
+        store.now.slots store.now.slots trail.old.entries trail.new.entries }
+{
+    'implied: while let Some(implied) = propagator.more(trail) {
+        imply_told(propagator, trail, store, implied.lit, implied.name);
+    }
+}
+
+// Keeps the nogood that the propagator gives, or implies what it says follows. Says whether it had something to say.
 fn ask<P: Propagator>(
     propagator: &mut P,
     trail: &mut Trail,
     store: &mut Store,
+    told: &mut usize,
 ) -> Result<bool, AllocError>
-    requires { IsFollowed (λ p. P.explains p (P.bound propagator.old)) (P.told propagator.old) store.old trail.old (length trail.old.entries) }
-    ensures followed { IsFollowed (λ p. P.explains p (P.bound propagator.new)) (P.told propagator.new) store.new trail.new (length trail.old.entries) }
+    requires followed { IsFollowed (λ p. P.explains p (P.bound propagator.old)) (P.told propagator.old) store.old trail.old told.old }
+    requires all { told.old ≡ length trail.old.entries }
+    ensures followed { IsFollowed (λ p. P.explains p (P.bound propagator.new)) (P.told propagator.new) store.new trail.new told.new }
     ensures same { trail.new ≡ record trail.old { entries = trail.new.entries } }
     ensures ok { IfOk result (Asked (P.silent (P.told propagator.old).program (P.bound propagator.old)) (P.gives (P.told propagator.old).program (P.bound propagator.old))
         (assignment trail.old.vars trail.old.entries) store.old store.new trail.old.entries trail.new.entries) }
@@ -83,7 +125,9 @@ fn ask<P: Propagator>(
             Ok(true)
         }
         Some(Said::Implied(implied)) => {
-            imply_late(trail, implied.lit, implied.name);
+            imply_told(propagator, trail, store, implied.lit, implied.name);
+            imply_more(propagator, trail, store);
+            *told = trail.len();
             Ok(true)
         }
     }
@@ -108,7 +152,7 @@ pub fn propagate<P: Propagator>(
         Some(id) => return Ok(Some(id)),
         None => {}
     }
-    'asked: while ask(propagator, trail, store)? {
+    'asked: while ask(propagator, trail, store, told)? {
         let found = settle(propagator, trail, store, told)?;
         match found {
             Some(id) => return Ok(Some(id)),

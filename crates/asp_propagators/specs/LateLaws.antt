@@ -1,17 +1,21 @@
 -- What is written when a reason is asked for.
-use Rattle.std.proofs.Common.{◌≡◌, ℕ, List, length, Option, Some, None, ℤ, inl, inr, arith}
+use Rattle.std.proofs.Common.{◌≡◌, ℕ, ◌+◌, ◌^◌, List, length, Option, Some, None, ℤ, inl, inr, arith}
+use Rattle.std.specs.Prelude.{IfSome}
 use Rattle.asp_model.specs.declared.program.Program.{Program}
 use Rattle.asp_model.specs.Sound.{IsSound}
 use Rattle.asp_vars.specs.Literals.{Literal}
 use Rattle.asp_vars.specs.Numbering.{var_count}
 use Rattle.asp_vars.specs.declared.nogood.Nogood.{Nogood}
 use Rattle.asp_trail.specs.declared.trail.Entry.{Entry}
+use Rattle.asp_trail.specs.declared.said.Implied.{Implied}
 use Rattle.asp_trail.specs.Trails.{IsOrdered}
 use Rattle.asp_trail.specs.Reasons.{IsReason}
 use Rattle.asp_weight.specs.Explained.{IsExplained as IsWeighed}
 use Rattle.asp_weight.proofs.ExplainLaws.{reasoned as weights_reasoned}
+use Rattle.asp_bound.specs.Bounded.{Bounded}
 use Rattle.asp_bound.specs.Explained.{IsExplained as IsBounded}
 use Rattle.asp_bound.proofs.LateLaws.{explained_lower, reasoned as bound_reasoned}
+use Rattle.asp_propagate.specs.Saying.{IsFollowing}
 use Rattle.asp_propagate.specs.Useful.{IsSmaller}
 use Rattle.asp_propagators.specs.Saying.{gives, explains, late}
 
@@ -36,3 +40,9 @@ follows-bounded p b es l name (inr x) e = x.0
 pub follows-weighed : (p : Program) (b : Option (List ℤ)) (es : List Entry) (l : Literal) (name : ℕ) → explains p b es l name → (name ≡ 2147483647 → ⊥) → IsWeighed p es l name
 follows-weighed p b es l name (inl w) ne = w.0
 follows-weighed p b es l name (inr x) ne = absurd (ne (omega (arith, x.1)))
+
+-- one more literal by the bound
+pub bounds-follow : (s : Bounded) (es : List Entry) (o : Option Implied) → IfSome o (λ i. IsBounded s.told.program s.bound es i.lit × (i.name + 1 ≡ 2 ^ 31)) →
+    IfSome o (λ i. IsFollowing (explains s.told.program s.bound) (var_count s.told.program) es i.lit i.name)
+bounds-follow s es None h = tt
+bounds-follow s es (Some i) h = record { var = h.0.var; none = h.0.none; small = omega (arith, h.1); explained = inr h }

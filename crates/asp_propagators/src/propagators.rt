@@ -15,7 +15,7 @@ use asp_model::cost::Cost;
 use asp_propagate::propagator::Propagator;
 use asp_recorder::recorder::Recorder;
 use asp_source::sources::Sources;
-use asp_trail::said::Said;
+use asp_trail::said::{Implied, Said};
 use asp_trail::trail::Trail;
 use asp_vars::compiled::Compiled;
 use asp_vars::lit::Lit;
@@ -138,6 +138,11 @@ impl<'a> Propagator for Propagators<'a> {
             return Ok(Some(Said::Nogood(nogood)));
         }
         Ok(None)
+    }
+
+    // Of weight bodies only one literal is said at a time.
+    fn more(&mut self, trail: &Trail) -> Option<Implied> {
+        self.bound.more(trail)
     }
 
     // Weight bodies and the bound say that a reason is written later.

@@ -8,7 +8,7 @@ use Rattle.asp_trail.specs.Entries.{assignment}
 use Rattle.asp_store.specs.declared.stored_nogood.StoredNogood.{StoredNogood}
 use Rattle.asp_store.specs.Keeping.{nogood_at}
 use Rattle.asp_store.specs.Walking.{IsViolated}
-use Rattle.asp_propagate.specs.Propagating.{IsFollowed, AreAtFixpoint, Asked}
+use Rattle.asp_propagate.specs.Propagating.{AreAtFixpoint, Asked}
 use Rattle.asp_propagate.proofs.AddLaws.{goes_then, implies_more}
 use Rattle.asp_propagate.proofs.PropagateLaws.{grows}
 use Rattle.asp_propagate.proofs.rounds.propagate.Goals as goal
@@ -108,8 +108,3 @@ asked-smaller g c =
       | inr more ↦ omega (arith, more, ap (length {A = Entry}) e.goes.implies.1, length-append a.trail.entries e.goes.implies.0)
     ] in
     omega (arith, lt, c.in_ok-found.ensures.few, vars)
-
-pub ask-requires : goal.ask-requires
-ask-requires g c =
-    let m = c.asked in
-    subst (λ (n : ℕ). IsFollowed (λ p. g.P.Propagator.explains p (g.P.Propagator.bound m.propagator)) (g.P.Propagator.told m.propagator) m.store m.trail n) m.invariant.all m.invariant.followed
