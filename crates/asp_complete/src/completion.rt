@@ -2,10 +2,10 @@
 ghost use Rattle.std.specs.Prelude.{◌≡◌, ◌+◌, ◌<◌, [], ◌∷◌, ◌++◌, IfOk, OnOk, All, map, length, slice_index_or, ◌≤◌};
 ghost use Rattle.asp_model.specs.declared.program.Program.{Program};
 ghost use Rattle.asp_model.specs.Models.{atoms_of, rules_in_force};
-ghost use Rattle.asp_vars.specs.Literals.{Literal, complement};
+ghost use Rattle.asp_vars.specs.Literals.{Literal, complement, has_literal};
 ghost use Rattle.asp_vars.specs.Numbering.{bodies_of, nth_atom, nth_body, nth_rule};
 ghost use Rattle.asp_vars.specs.Entailment.{Entailed};
-ghost use Rattle.asp_vars.specs.Completion.{atom_nogood, body_nogoods, completion, rule_nogoods};
+ghost use Rattle.asp_vars.specs.Completion.{atom_nogoods, body_nogoods, completion, rule_nogoods};
 ghost use Rattle.asp_complete.specs.Listed.{groups, nogoods_between, nogoods_of_rule, pure, parts};
 ghost use Rattle.std.specs.Prelude.{IsTrue};
 ghost use Rattle.std.specs.List.{AllByRecursion};
@@ -15,7 +15,7 @@ ghost use Rattle.asp_model.specs.Views.{head_seen};
 
 use asp_model::view::HeadView;
 use asp_vars::compiled::Compiled;
-use asp_vars::lit::Lit;
+use asp_vars::lit::{Lit, Var};
 use asp_vars::nogood::{Base, Lits, Nogood};
 use asp_vars::support::atom_nogood;
 use std::alloc::{AllocError, Global};
@@ -108,6 +108,21 @@ fn add_one(alloc: Global, nogoods: &mut Vec<Nogood>, lit: Lit) -> Result<(), All
     push(nogoods, lits)
 }
 
+// That a head is true where the body is, unless it is the body's name.
+fn add_head(
+    alloc: Global,
+    nogoods: &mut Vec<Nogood>,
+    body: Lit,
+    head: Var,
+) -> Result<(), AllocError> {
+    let other = Lit::new(head, false);
+    if body == other.complement() {
+        return Ok(());
+    }
+    let others = [other];
+    push(nogoods, with_first(alloc, body, others.as_slice())?)
+}
+
 fn add_rule(
     alloc: Global,
     nogoods: &mut Vec<Nogood>,
@@ -119,10 +134,7 @@ fn add_rule(
     ensures { OnOk result (nogoods.new.items ≡ nogoods.old.items ++ map pure (rule_nogoods compiled.now body (head_seen head.entry))) }
 {
     match head {
-        HeadView::One(atom) => {
-            let other = [Lit::new(compiled.atom_var(atom), false)];
-            push(nogoods, with_first(alloc, body, other.as_slice())?)
-        }
+        HeadView::One(atom) => add_head(alloc, nogoods, body, compiled.atom_var(atom)),
         HeadView::Choice(_) => Ok(()),
         HeadView::Never => add_one(alloc, nogoods, body),
     }
@@ -142,6 +154,18 @@ fn add_rule_at(
     add_rule(alloc, nogoods, compiled, body, rule.head)
 }
 
+// Whether the literal stands in the list.
+fn has_literal(lits: &[Lit], wanted: Lit) -> bool
+    ensures { result ≡ has_literal lits.now wanted }
+{
+    for lit in lits {
+        if *lit == wanted {
+            return true;
+        }
+    }
+    false
+}
+
 fn add_atom(
     alloc: Global,
     nogoods: &mut Vec<Nogood>,
@@ -149,11 +173,14 @@ fn add_atom(
     atom: usize,
 ) -> Result<(), AllocError>
     requires { atom < length (atoms_of compiled.now) }
-    ensures { OnOk result (nogoods.new.items ≡ nogoods.old.items ++ pure (atom_nogood compiled.now (nth_atom compiled.now atom)) ∷ []) }
+    ensures { OnOk result (nogoods.new.items ≡ nogoods.old.items ++ map pure (atom_nogoods compiled.now (nth_atom compiled.now atom))) }
 {
     let _count = compiled.atom_count();
     let var = atom as u32 + 1;
     let lits = atom_nogood(alloc, compiled, var)?;
+    if has_literal(lits.as_slice(), Lit::new(var, false)) {
+        return Ok(());
+    }
     push(nogoods, lits)?;
     Ok(())
 }

@@ -4,6 +4,7 @@ ghost use Rattle.asp_found.specs.Verdicts.{IsVerdict};
 
 use crate::check::Verdict;
 use crate::least::rest;
+use crate::names::misnamed_body;
 use crate::parts::{broken_rule, unsupported_atom};
 use crate::values::values_of;
 use asp_model::interp::Interp;
@@ -18,6 +19,9 @@ pub fn check(alloc: Global, compiled: &Compiled, interp: &Interp) -> Result<Verd
     let _program = compiled.program();
     let _atoms = interp.as_slice();
     let values = values_of(alloc, compiled, interp)?;
+    if let Some(nogood) = misnamed_body(alloc, compiled, interp, values.as_slice())? {
+        return Ok(Verdict::Broken(nogood));
+    }
     if let Some(nogood) = broken_rule(alloc, compiled, interp, values.as_slice())? {
         return Ok(Verdict::Broken(nogood));
     }

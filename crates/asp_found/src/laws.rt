@@ -6,7 +6,7 @@ ghost use Rattle.asp_model.specs.Sets.{Atoms, IsAscending, IsSubset};
 ghost use Rattle.asp_model.specs.Models.{is_stable, least_model};
 ghost use Rattle.asp_model.specs.Sound.{IsSound};
 ghost use Rattle.asp_vars.specs.Literals.{hits};
-ghost use Rattle.asp_vars.specs.Numbering.{values};
+ghost use Rattle.asp_vars.specs.Numbering.{values, IsReadBy};
 ghost use Rattle.asp_vars.specs.Completion.{completion};
 ghost use Rattle.asp_vars.specs.Unfounded.{assigned, is_unfounded};
 ghost use Rattle.asp_found.specs.Rests.{rest};
@@ -33,9 +33,9 @@ pub fn completion_and_rest_decide()
     ensures subset { (p : Program) (S : Atoms) → IsSubset (rest p S) S }
 {}
 
-/// A rule that isn't kept, or an atom that no rule supports, breaks a nogood of the completion.
+/// An atom that no rule supports breaks a nogood of the completion, where names say of the set which bodies hold.
 pub fn completion_is_broken()
-    ensures { (p : Program) (S : Atoms) (a : ℕ) → IsSound p → Among (atoms_of p) a → IsTrue (has (atoms_of p) a) → IsTrue (has S a) →
+    ensures { (p : Program) (S : Atoms) (a : ℕ) → IsSound p → IsReadBy p S → Among (atoms_of p) a → IsTrue (has (atoms_of p) a) → IsTrue (has S a) →
         is_supported p S a ≡ false → IsBroken p S (record { lits = atom_nogood p a; base = base.Pure }) }
 {}
 

@@ -7,6 +7,7 @@ pub mod laws;
 mod least;
 mod marks;
 mod merge;
+mod names;
 mod parts;
 pub mod rows;
 mod values;

@@ -5,7 +5,7 @@ ghost use Rattle.asp_model.specs.Sets.{has};
 ghost use Rattle.asp_model.specs.Views.{head_seen};
 ghost use Rattle.asp_model.specs.Models.{rules_in_force, atoms_of, head_atoms};
 ghost use Rattle.asp_vars.specs.Literals.{is_true};
-ghost use Rattle.asp_vars.specs.Numbering.{values, var_count, form_at, literal_of_body, literal_of_form, nth_rule, nth_atom};
+ghost use Rattle.asp_vars.specs.Numbering.{values, var_count, form_at, IsReadBy, literal_of_body, literal_of_form, nth_rule, nth_atom};
 ghost use Rattle.asp_vars.specs.Completion.{atom_nogood};
 ghost use Rattle.asp_vars.specs.declared.nogood.Base.TheVariants as base;
 ghost use Rattle.asp_vars.specs.Tabled.{IsBodyNumber, IsLiteral};
@@ -50,8 +50,8 @@ fn is_kept(compiled: &Compiled, interp: &Interp, truths: &[bool], head: HeadView
     }
 }
 
-// Whether the literal holds.
-fn holds(truths: &[bool], lit: Lit) -> bool
+/// Whether the literal holds.
+pub(crate) fn is_met(truths: &[bool], lit: Lit) -> bool
     requires { lit.var < length truths.now }
     ensures { result ≡ is_true truths.now lit }
 {
@@ -71,9 +71,10 @@ fn rule_lit(compiled: &Compiled, rule: usize) -> Lit
 fn keeps(compiled: &Compiled, interp: &Interp, truths: &[bool], rule: usize) -> bool
     requires rule { rule < length (rules_in_force compiled.now) }
     requires truths { truths.now ≡ values compiled.now interp.now }
+    requires read { IsReadBy compiled.now interp.now }
     ensures { result ≡ keeps interp.now (nth_rule compiled.now rule) }
 {
-    let holds = holds(truths, rule_lit(compiled, rule));
+    let holds = is_met(truths, rule_lit(compiled, rule));
     !holds || is_kept(compiled, interp, truths, compiled.rule(rule).head)
 }
 
@@ -105,7 +106,8 @@ pub fn broken_rule(
     interp: &Interp,
     truths: &[bool],
 ) -> Result<Option<Nogood>, AllocError>
-    requires { truths.now ≡ values compiled.now interp.now }
+    requires truths { truths.now ≡ values compiled.now interp.now }
+    requires read { IsReadBy compiled.now interp.now }
     ensures { IfOk result (λ found. MatchOption found (IsTrue (list_all (keeps interp.now) (rules_in_force compiled.now))) (IsBroken compiled.now interp.now)) }
 {
     let _program = compiled.program();
@@ -140,7 +142,7 @@ fn any_holds(compiled: &Compiled, truths: &[bool], numbers: &[u32]) -> bool
     ensures { result ≡ list_any (λ n. is_true truths.now (literal_of_form compiled.now (form_at compiled.now n))) numbers.now }
 {
     for number in numbers {
-        if holds(truths, compiled.body_lit(compiled.body_at(*number))) {
+        if is_met(truths, compiled.body_lit(compiled.body_at(*number))) {
             return true;
         }
     }
@@ -151,6 +153,7 @@ fn any_holds(compiled: &Compiled, truths: &[bool], numbers: &[u32]) -> bool
 fn is_reasoned(compiled: &Compiled, interp: &Interp, truths: &[bool], place: usize) -> bool
     requires place { place < length (atoms_of compiled.now) }
     requires truths { truths.now ≡ values compiled.now interp.now }
+    requires read { IsReadBy compiled.now interp.now }
     ensures { result ≡ (not (has interp.now (nth_atom compiled.now place)) || is_supported compiled.now interp.now (nth_atom compiled.now place)) }
 {
     let _atoms = interp.as_slice();
@@ -167,7 +170,8 @@ pub fn unsupported_atom(
     interp: &Interp,
     truths: &[bool],
 ) -> Result<Option<Nogood>, AllocError>
-    requires { truths.now ≡ values compiled.now interp.now }
+    requires truths { truths.now ≡ values compiled.now interp.now }
+    requires read { IsReadBy compiled.now interp.now }
     ensures { IfOk result (λ found. MatchOption found (IsTrue (list_all (λ a. not (has interp.now a) || is_supported compiled.now interp.now a) (atoms_of compiled.now))) (IsBroken compiled.now interp.now)) }
 {
     let _program = compiled.program();

@@ -1,7 +1,7 @@
 //! The values of all variables under a set.
 ghost use Rattle.std.specs.Prelude.{◌≡◌, ◌<◌, ◌∷◌, [], ◌++◌, IfOk, OnOk, filter, length, map};
 ghost use Rattle.asp_model.specs.Models.{atoms_of};
-ghost use Rattle.asp_vars.specs.Numbering.{bodies_of, is_wide, nth_body, values};
+ghost use Rattle.asp_vars.specs.Numbering.{bodies_of, is_apart, nth_body, values};
 ghost use Rattle.asp_found.specs.Marks.{marks_hold};
 
 use crate::marks::{holds, marks_of};
@@ -13,9 +13,9 @@ use std::alloc::{AllocError, Global};
 fn push_body(compiled: &Compiled, values: &mut Vec<bool>, body: usize) -> Result<(), AllocError>
     requires body { body < length (bodies_of compiled.now) }
     requires atoms { length (atoms_of compiled.now) < length values.old.items }
-    ensures { OnOk result (values.new.items ≡ values.old.items ++ map (marks_hold compiled.now values.old.items values.old.items) (filter is_wide (nth_body compiled.now body ∷ []))) }
+    ensures { OnOk result (values.new.items ≡ values.old.items ++ map (marks_hold compiled.now values.old.items values.old.items) (filter (is_apart compiled.now) (nth_body compiled.now body ∷ []))) }
 {
-    if !compiled.is_wide(body) {
+    if !compiled.is_apart(body) {
         return Ok(());
     }
     let holds = holds(compiled, values.as_slice(), values.as_slice(), body);

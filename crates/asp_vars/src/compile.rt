@@ -24,15 +24,15 @@ struct Rows {
     literals: Table<Lit>,
     // a weight body's weights, in the order of its literals
     weights: Table<i64>,
-    // the literal that says that it holds
-    held: Vec<Lit>,
-    // how many variables there are
-    vars: Var,
 }
 
 // Where bodies and literals stand.
 #[derive(Drop)]
 struct Places {
+    // for each body the literal that says that it holds
+    held: Vec<Lit>,
+    // how many variables there are
+    vars: Var,
     // for each body whether a constraint has it
     barred: Vec<bool>,
     // for each body the atoms in heads of its rules
@@ -49,26 +49,21 @@ fn rows_of(alloc: Global, numbered: &Numbered) -> Result<Rows, AllocError>
     ensures bounds { IfOk result (λ r. r.bounds.items ≡ map bound_of (bodies_of numbered.now)) }
     ensures literals { IfOk result (λ r. r.literals ≡ map (form_literals numbered.now) (bodies_of numbered.now)) }
     ensures weights { IfOk result (λ r. r.weights ≡ map form_weights (bodies_of numbered.now)) }
-    ensures held { IfOk result (λ r. r.held.items ≡ map (literal_of_form numbered.now) (bodies_of numbered.now)) }
-    ensures vars { IfOk result (λ r. r.vars ≡ var_count numbered.now) }
 {
     let bounds = numbered.bounds(alloc)?;
     let literals = numbered.literals(alloc)?;
     let weights = numbered.weights(alloc)?;
-    let (held, vars) = numbered.held(alloc)?;
     Ok(Rows {
         bounds,
         literals,
         weights,
-        held,
-        vars,
     })
 }
 
 fn places_of(alloc: Global, numbered: &Numbered, rows: &Rows) -> Result<Places, AllocError>
     requires literals { rows.now.literals ≡ map (form_literals numbered.now) (bodies_of numbered.now) }
-    requires held { rows.now.held.items ≡ map (literal_of_form numbered.now) (bodies_of numbered.now) }
-    requires vars { rows.now.vars ≡ var_count numbered.now }
+    ensures held { IfOk result (λ p. p.held.items ≡ map (literal_of_form numbered.now) (bodies_of numbered.now)) }
+    ensures vars { IfOk result (λ p. p.vars ≡ var_count numbered.now) }
     ensures barred { IfOk result (λ p. p.barred.items ≡ map (is_barred numbered.now) (bodies_of numbered.now)) }
     ensures heads { IfOk result (λ p. p.heads ≡ map (heads_of numbered.now) (bodies_of numbered.now)) }
     ensures supports { IfOk result (λ p. AreSupports numbered.now p.supports) }
@@ -78,9 +73,12 @@ fn places_of(alloc: Global, numbered: &Numbered, rows: &Rows) -> Result<Places, 
     let barred = numbered.barred(alloc)?;
     let heads = numbered.heads(alloc)?;
     let supports = numbered.supports(alloc, &heads)?;
-    let shared = numbered.shared(alloc, rows.held.as_slice(), rows.vars)?;
+    let (held, vars) = numbered.held(alloc, &supports)?;
+    let shared = numbered.shared(alloc, held.as_slice(), vars)?;
     let occurrences = numbered.occurrences(alloc, &rows.literals)?;
     Ok(Places {
+        held,
+        vars,
         barred,
         heads,
         supports,
@@ -93,8 +91,8 @@ fn together(numbered: Numbered, rows: Rows, places: Places) -> Compiled
     requires bounds { rows.bounds.items ≡ map bound_of (bodies_of numbered) }
     requires literals { rows.literals ≡ map (form_literals numbered) (bodies_of numbered) }
     requires weights { rows.weights ≡ map form_weights (bodies_of numbered) }
-    requires held { rows.held.items ≡ map (literal_of_form numbered) (bodies_of numbered) }
-    requires vars { rows.vars ≡ var_count numbered }
+    requires held { places.held.items ≡ map (literal_of_form numbered) (bodies_of numbered) }
+    requires vars { places.vars ≡ var_count numbered }
     requires barred { places.barred.items ≡ map (is_barred numbered) (bodies_of numbered) }
     requires heads { places.heads ≡ map (heads_of numbered) (bodies_of numbered) }
     requires supports { AreSupports numbered places.supports }
@@ -113,10 +111,10 @@ fn together(numbered: Numbered, rows: Rows, places: Places) -> Compiled
         bounds,
         literals,
         weights,
-        held,
-        vars,
     } = rows;
     let Places {
+        held,
+        vars,
         barred,
         heads,
         supports,

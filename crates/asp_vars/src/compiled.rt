@@ -186,7 +186,7 @@ impl Compiled {
         number as usize - self.atom_count() - 1
     }
 
-    /// The literal that says that a body holds: that its variable is true, or the body's one literal.
+    /// The literal that says that a body holds: that its variable or its name's is true, or the body's one literal.
     pub fn body_lit(&self, body: usize) -> Lit
         requires { body < length (bodies_of self.now) }
         ensures lit { result ≡ literal_of_form self.now (nth_body self.now body) }
@@ -196,12 +196,20 @@ impl Compiled {
         self.held[body]
     }
 
-    /// Whether a body has a variable of its own: one of a single literal hasn't.
+    /// Whether a body isn't one literal.
     pub fn is_wide(&self, body: usize) -> bool
         requires { body < length (bodies_of self.now) }
         ensures { result ≡ is_wide (nth_body self.now body) }
     {
         self.bound(body).is_some() || self.literals(body).len() != 1
+    }
+
+    /// Whether a body has a variable of its own: one of a single literal hasn't, nor one that has a name.
+    pub fn is_apart(&self, body: usize) -> bool
+        requires { body < length (bodies_of self.now) }
+        ensures { result ≡ is_apart self.now (nth_body self.now body) }
+    {
+        self.held[body].var() as usize > self.atom_count()
     }
 
     /// The bodies of which the literal says that they hold, ascending.

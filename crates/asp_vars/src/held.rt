@@ -30,39 +30,39 @@ fn only(form: &Form) -> Option<i32>
     Some(literals[0])
 }
 
+// The variable of a body's name, if it is a normal one that has a name.
+fn name_of(form: &Form, name: Var) -> Option<Var> {
+    match form {
+        Form::All(_) if name != 0 => Some(name),
+        _ => None,
+    }
+}
+
 // The literal of a body, and the number of the next variable.
-fn held_by(atoms: &[Atom], next: Var, form: &Form) -> (Lit, Var)
-    requires up { IsAscending atoms.now }
-    requires few { length atoms.now < 2 ^ 31 }
-    requires next { next < 2 ^ 31 }
-    requires stands { Stands atoms.now (body_of form.now) }
-    ensures lit { result.0 ≡ literal_by atoms.now next (body_of form.now) }
-    ensures next { result.1 ≡ next_var next (body_of form.now) }
-{
-    match only(form) {
-        Some(literal) => (lit(atoms, literal), next),
+fn held_by(atoms: &[Atom], next: Var, form: &Form, name: Var) -> (Lit, Var) {
+    if let Some(literal) = only(form) {
+        return (lit(atoms, literal), next);
+    }
+    match name_of(form, name) {
+        Some(var) => (Lit::new(var, true), next),
         None => (Lit::new(next, true), next + 1),
     }
 }
 
-/// The literals of the bodies, where the first variable has this number, and the number behind the last variable.
+/// The literals of the bodies, where the first variable has this number, and the number behind the last variable. A body's name
+/// is the variable of an atom, or 0 where it has none.
 pub fn held(
     alloc: Global,
     atoms: &[Atom],
     first: Var,
     forms: &[Form],
+    names: &[Var],
 ) -> Result<(Vec<Lit>, Var), AllocError>
-    requires up { IsAscending atoms.now }
-    requires atoms { length atoms.now < 2 ^ 31 }
-    requires few { first + length forms.now ≤ 2 ^ 31 }
-    requires stand { All (λ f. Stands atoms.now (body_of f)) forms.now }
-    ensures lits { IfOk result (λ r. r.0.items ≡ literals_from atoms.now first (map body_of forms.now)) }
-    ensures next { IfOk result (λ r. r.1 ≡ var_behind first (map body_of forms.now)) }
 {
     let mut lits = Vec::new(alloc);
     let mut next = first;
-    for form in forms {
-        let (lit, behind) = held_by(atoms, next, form);
+    for (form, name) in forms.iter().zip(names) {
+        let (lit, behind) = held_by(atoms, next, form, *name);
         lits.push(lit)?;
         next = behind;
     }

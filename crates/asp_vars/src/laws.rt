@@ -7,8 +7,10 @@ ghost use Rattle.asp_model.specs.Sets.{Atoms, has};
 ghost use Rattle.asp_model.specs.Holding.{atom_of, holds, body_holds};
 ghost use Rattle.asp_model.specs.Models.{atoms_of};
 ghost use Rattle.asp_model.specs.Sound.{IsSound};
-ghost use Rattle.asp_vars.specs.Literals.{is_true};
-ghost use Rattle.asp_vars.specs.Numbering.{normal, body_eq, bodies_of, literal_of, literal_of_form, values};
+ghost use Rattle.asp_vars.specs.Literals.{hits, is_true};
+ghost use Rattle.asp_model.specs.declared.program.Body.TheVariants as body;
+ghost use Rattle.asp_model.specs.Models.{is_stable};
+ghost use Rattle.asp_vars.specs.Numbering.{normal, body_eq, bodies_of, literal_of, literal_of_form, values, IsReadBy};
 ghost use Rattle.asp_vars.specs.Entailment.{Entailed};
 ghost use Rattle.asp_vars.specs.Completion.{completion};
 ghost use Rattle.std.specs.Prelude.{Option, ◌++◌};
@@ -20,12 +22,15 @@ ghost use Rattle.std.specs.Prelude.{Bool, false, Some, None, ◌∷◌, []};
 ghost use Rattle.asp_model.specs.Costs.{betters};
 ghost use Rattle.asp_vars.specs.Conflicts.{IsConflict, Shows};
 
-/// A literal of an atom's variable holds where the atom's literal does, a body's literal where the body does.
+/// A literal of an atom's variable holds where the atom's literal does. A body's literal holds where the body does, in each set that
+/// hits no nogood of the completion, as no stable model does; a weight body's does so in each set.
 pub fn variables_stand_for_atoms_and_bodies()
     ensures literals { (p : Program) (S : Atoms) (l : ℤ) → IsTrue (has (atoms_of p) (atom_of l)) →
         is_true (values p S) (literal_of p l) ≡ holds S l }
-    ensures bodies { (p : Program) (S : Atoms) (b : Body) → IsTrue (list_any (body_eq b) (bodies_of p)) →
-        is_true (values p S) (literal_of_form p b) ≡ body_holds S b }
+    ensures bodies { (p : Program) (S : Atoms) → list_any (hits (values p S)) (completion p) ≡ false → IsReadBy p S }
+    ensures stable { (p : Program) (S : Atoms) → IsSound p → IsTrue (is_stable p S) → IsReadBy p S }
+    ensures weighted { (p : Program) (S : Atoms) (bound : ℤ) (items : List (ℤ × ℤ)) → IsTrue (list_any (body_eq (body.AtLeast bound items)) (bodies_of p)) →
+        is_true (values p S) (literal_of_form p (body.AtLeast bound items)) ≡ body_holds S (body.AtLeast bound items) }
     ensures normal { (S : Atoms) (b : Body) → body_holds S (normal b) ≡ body_holds S b }
 {}
 

@@ -12,6 +12,7 @@ use crate::bodies::Bodies;
 use crate::heads::{head_rows, support_rows};
 use crate::held::{held, held_codes};
 use crate::lit::{Lit, Var};
+use crate::names::{headed_alone, names};
 use crate::rules::number;
 use crate::tables::{bounds, code_rows, literal_rows, weight_rows};
 use asp_model::interp::Interp;
@@ -137,14 +138,29 @@ impl Numbered {
         }
     }
 
-    /// The literal of each body, and how many variables there are.
-    pub fn held(&self, alloc: Global) -> Result<(Vec<Lit>, Var), AllocError>
+    // For each body the variable of its name, by the bodies that support each atom, and 0 where it has none.
+    fn names(&self, alloc: Global, supports: &Table<u32>) -> Result<Vec<Var>, AllocError>
+        requires { AreSupports self.now supports.now }
+    {
+        let atoms = self.atoms.as_slice();
+        let first = atoms.len() as u32 + 1;
+        let count = self.bodies.forms().len();
+        let rules = &self.program.rules;
+        let headed = headed_alone(alloc, atoms, rules, self.opened.as_slice(), self.places.as_slice().len())?;
+        let names = names(alloc, count, first, headed.as_slice(), supports)?;
+        Ok(names)
+    }
+
+    /// The literal of each body, by the bodies that support each atom, and how many variables there are.
+    pub fn held(&self, alloc: Global, supports: &Table<u32>) -> Result<(Vec<Lit>, Var), AllocError>
+        requires { AreSupports self.now supports.now }
         ensures lits { IfOk result (λ r. r.0.items ≡ map (literal_of_form self.now) (bodies_of self.now)) }
         ensures vars { IfOk result (λ r. r.1 ≡ var_count self.now) }
     {
         let atoms = self.atoms.as_slice();
         let first = atoms.len() as u32 + 1;
-        let (lits, next) = held(alloc, atoms, first, self.bodies.forms())?;
+        let names = self.names(alloc, supports)?;
+        let (lits, next) = held(alloc, atoms, first, self.bodies.forms(), names.as_slice())?;
         Ok((lits, next - 1))
     }
 
