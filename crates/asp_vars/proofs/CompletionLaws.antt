@@ -41,27 +41,30 @@ pub literal-holds : (p : Program) (S : Atoms) (l : ℤ) → has (atoms_of p) (at
 literal-holds p S (pos a) h = ap (λ v. beq v true) (value-atom p S a h) ∙ beq_true (has S a)
 literal-holds p S (negsuc a) h = ap (λ v. beq v false) (value-atom p S (suc a) h) ∙ beq_false (has S (suc a))
 
-wide-true : (p : Program) (S : Atoms) (b : Body) → is_wide b ≡ true → list_any (body_eq b) (bodies_of p) ≡ true → is_true (values p S) (T (var_of_form p b)) ≡ body_holds S b
-wide-true p S b w h = ap (λ v. beq v true) (value-form p S b (wide_among b (bodies_of p) w h)) ∙ beq_true (body_holds S b)
+pub apart-true : (p : Program) (S : Atoms) (b : Body) → is_apart p b ≡ true → list_any (body_eq b) (bodies_of p) ≡ true → is_true (values p S) (T (var_of_form p b)) ≡ body_holds S b
+apart-true p S b apart h = ap (λ v. beq v true) (value-form p S b apart h) ∙ beq_true (body_holds S b)
 
-and_one : (a : Bool) → a ≡ (a && true)
-and_one true = refl
-and_one false = refl
+-- a weight body has no name
+pub weight-true : (p : Program) (S : Atoms) (bound : ℤ) (items : List (ℤ × ℤ)) → list_any (body_eq (body.AtLeast bound items)) (bodies_of p) ≡ true → is_true (values p S) (literal_of_form p (body.AtLeast bound items)) ≡ body_holds S (body.AtLeast bound items)
+weight-true p S bound items h = apart-true p S (body.AtLeast bound items) refl h
 
-form-holds : (p : Program) (S : Atoms) (b : Body) → list_any (body_eq b) (bodies_of p) ≡ true → Stands (atoms_of p) b → is_true (values p S) (literal_of_form p b) ≡ body_holds S b
-form-holds p S (body.All []) h s = wide-true p S (body.All []) refl h
-form-holds p S (body.All (l ∷ [])) h s = literal-holds p S l s.0 ∙ and_one (holds S l)
-form-holds p S (body.All (l ∷ k ∷ ks)) h s = wide-true p S (body.All (l ∷ k ∷ ks)) refl h
-form-holds p S (body.AtLeast bound items) h s = wide-true p S (body.AtLeast bound items) refl h
+-- what makes the names right: the set is closed under the rules with one head, and each atom of it has a reason
+pub supported-read : (p : Program) (S : Atoms) →
+    ((r : Rule) (a : ℕ) → Among (rules_in_force p) r → r.head ≡ head.One a → body_holds S r.body ≡ true → has S a ≡ true) →
+    ((a : ℕ) → has (atoms_of p) a ≡ true → has S a ≡ true → list_any (λ r. has (head_atoms r.head) a && body_holds S r.body) (rules_in_force p) ≡ true) → IsReadBy p S
+supported-read p S closed supported b h = ?
 
-pub form-true : (p : Program) (S : Atoms) (b : Body) → list_any (body_eq b) (bodies_of p) ≡ true → is_true (values p S) (literal_of_form p b) ≡ body_holds S b
-form-true p S b h = form-holds p S b h (form-stands p b h)
+pub stable-read : (p : Program) (S : Atoms) → IsSound p → is_stable p S ≡ true → IsReadBy p S
+stable-read p S sound stable = ?
 
-pub form-false : (p : Program) (S : Atoms) (b : Body) → list_any (body_eq b) (bodies_of p) ≡ true → is_true (values p S) (complement (literal_of_form p b)) ≡ not (body_holds S b)
-form-false p S b h = is_true-complement (values p S) (literal_of_form p b) ∙ ap not (form-true p S b h)
+pub unhit-read : (p : Program) (S : Atoms) → list_any (hits (values p S)) (completion p) ≡ false → IsReadBy p S
+unhit-read p S unhit = ?
 
-pub rule-true : (p : Program) (S : Atoms) (r : Rule) → Among (rules_in_force p) r → is_true (values p S) (literal_of_body p r.body) ≡ body_holds S r.body
-rule-true p S r m = form-true p S (normal r.body) (rule_has_form p r m) ∙ body_holds-normal S r.body
+pub form-false : (p : Program) (S : Atoms) → IsReadBy p S → (b : Body) → list_any (body_eq b) (bodies_of p) ≡ true → is_true (values p S) (complement (literal_of_form p b)) ≡ not (body_holds S b)
+form-false p S read b h = is_true-complement (values p S) (literal_of_form p b) ∙ ap not (read b h)
+
+pub rule-true : (p : Program) (S : Atoms) → IsReadBy p S → (r : Rule) → Among (rules_in_force p) r → is_true (values p S) (literal_of_body p r.body) ≡ body_holds S r.body
+rule-true p S read r m = read (normal r.body) (rule_has_form p r m) ∙ body_holds-normal S r.body
 
 pub atom-true : (p : Program) (S : Atoms) (a : ℕ) → has (atoms_of p) a ≡ true → is_true (values p S) (T (var_of_atom p a)) ≡ has S a
 atom-true p S a h = ap (λ v. beq v true) (value-atom p S a h) ∙ beq_true (has S a)
@@ -160,6 +163,10 @@ body_entailed p (body.All ls) stands atoms =
     )
 body_entailed p (body.AtLeast bound items) stands atoms = tt
 
+-- a true body has a true head, be that listed or not
+pub head_entailed : (p : Program) (r : Rule) (a : ℕ) → IsSound p → Among (rules_in_force p) r → r.head ≡ head.One a → has (atoms_of p) a ≡ true → Entailed p (literal_of_body p r.body ∷ F (var_of_atom p a) ∷ [])
+head_entailed p r a sound m e stands = ?
+
 pub rule_entailed : (p : Program) (r : Rule) (h : Head) → IsSound p → Among (rules_in_force p) r → r.head ≡ h → HasAll (atoms_of p) (head_atoms h) → AllByRecursion (Entailed p) (rule_nogoods p (literal_of_body p r.body) h)
 rule_entailed p r (head.One a) sound m e atoms = (
   never p _ (λ S stable h.
@@ -181,9 +188,9 @@ rule_entailed p r head.Never sound m e atoms = (
 )
 
 -- where all supports are false, so are their bodies
-pub bodies_fail : (p : Program) (S : Atoms) (q : Body → Bool) (bs : List Body) → AllByRecursion (λ b. list_any (body_eq b) (bodies_of p) ≡ true) bs → hits (values p S) (map (λ c. complement (literal_of_form p c)) (filter q bs)) ≡ true → AllByRecursion (λ b. q b ≡ true → body_holds S b ≡ false) bs
-bodies_fail p S q [] stand h = tt
-bodies_fail p S q (b ∷ bs) stand h = cases (q b) refl (bodies_fail p S q bs stand.1)
+pub bodies_fail : (p : Program) (S : Atoms) → IsReadBy p S → (q : Body → Bool) (bs : List Body) → AllByRecursion (λ b. list_any (body_eq b) (bodies_of p) ≡ true) bs → hits (values p S) (map (λ c. complement (literal_of_form p c)) (filter q bs)) ≡ true → AllByRecursion (λ b. q b ≡ true → body_holds S b ≡ false) bs
+bodies_fail p S read q [] stand h = tt
+bodies_fail p S read q (b ∷ bs) stand h = cases (q b) refl (bodies_fail p S read q bs stand.1)
   where
     not_true : (a : Bool) → not a ≡ true → a ≡ false
     not_true true e = absurd (false≢true e)
@@ -192,7 +199,7 @@ bodies_fail p S q (b ∷ bs) stand h = cases (q b) refl (bodies_fail p S q bs st
     cases : (t : Bool) → t ≡ q b → (hits (values p S) (map (λ c. complement (literal_of_form p c)) (filter q bs)) ≡ true → AllByRecursion (λ c. q c ≡ true → body_holds S c ≡ false) bs) → (q b ≡ true → body_holds S b ≡ false) × AllByRecursion (λ c. q c ≡ true → body_holds S c ≡ false) bs
     cases true e f =
         let whole : (is_true (values p S) (complement (literal_of_form p b)) && hits (values p S) (map (λ c. complement (literal_of_form p c)) (filter q bs))) ≡ true = ap (λ t. hits (values p S) (map (λ c. complement (literal_of_form p c)) (cond t (b ∷ filter q bs) (filter q bs)))) e ∙ h in (
-          λ _. not_true (body_holds S b) (sym (form-false p S b stand.0) ∙ and_left (is_true (values p S) (complement (literal_of_form p b))) (hits (values p S) (map (λ c. complement (literal_of_form p c)) (filter q bs))) whole),
+          λ _. not_true (body_holds S b) (sym (form-false p S read b stand.0) ∙ and_left (is_true (values p S) (complement (literal_of_form p b))) (hits (values p S) (map (λ c. complement (literal_of_form p c)) (filter q bs))) whole),
           f (and_right (is_true (values p S) (complement (literal_of_form p b))) (hits (values p S) (map (λ c. complement (literal_of_form p c)) (filter q bs))) whole),
         )
     cases false e f = (

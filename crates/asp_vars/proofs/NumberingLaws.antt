@@ -12,7 +12,7 @@ use Rattle.asp_model.specs.declared.program.Program.{Program}
 use Rattle.asp_model.specs.Sets.{Atoms, has}
 use Rattle.asp_model.specs.Holding.{body_holds}
 use Rattle.asp_model.specs.Models.{atoms_of}
-use Rattle.asp_vars.specs.Numbering.{body_eq, is_wide, wide_bodies, place_of, var_of_atom, var_of_form, values}
+use Rattle.asp_vars.specs.Numbering.{body_eq, bodies_of, is_wide, is_nameless, is_apart, names, named_or, apart_bodies, place_of, var_of_atom, var_of_form, values}
 
 -- ---- equal bodies
 pub int_eq_same : (k l : ℤ) → int_eq k l ≡ true → k ≡ l
@@ -58,21 +58,21 @@ body_eq-itself (body.AtLeast b k) =
     and_from (int_eq b b) (pointwise (λ i j. int_eq i.0 j.0 && int_eq i.1 j.1) k k) (int_eq_itself b)
     (lists_themselves (λ i j. int_eq i.0 j.0 && int_eq i.1 j.1) (λ i. and_from (int_eq i.0 i.0) (int_eq i.1 i.1) (int_eq_itself i.0) (int_eq_itself i.1)) k)
 
--- a body that has a variable is among those that have one
-pub wide_among : (b : Body) (bs : List Body) → is_wide b ≡ true → list_any (body_eq b) bs ≡ true → list_any (body_eq b) (filter is_wide bs) ≡ true
-wide_among b [] w e = absurd (false≢true e)
-wide_among b (c ∷ bs) w e = cases (body_eq b c) (is_wide c) refl refl (wide_among b bs w)
+-- a body that passes a test is among those that pass it
+pub filtered_among : (test : Body → Bool) (b : Body) (bs : List Body) → test b ≡ true → list_any (body_eq b) bs ≡ true → list_any (body_eq b) (filter test bs) ≡ true
+filtered_among test b [] w e = absurd (false≢true e)
+filtered_among test b (c ∷ bs) w e = cases (body_eq b c) (test c) refl refl (filtered_among test b bs w)
   where
     rest : Bool
-    rest = list_any (body_eq b) (filter is_wide bs)
+    rest = list_any (body_eq b) (filter test bs)
 
     skip : (a t : Bool) → t ≡ true → (a || t) ≡ true
     skip true t h = refl
     skip false t h = h
 
-    cases : (t u : Bool) → t ≡ body_eq b c → u ≡ is_wide c → (list_any (body_eq b) bs ≡ true → list_any (body_eq b) (filter is_wide bs) ≡ true) → list_any (body_eq b) (cond u (c ∷ filter is_wide bs) (filter is_wide bs)) ≡ true
+    cases : (t u : Bool) → t ≡ body_eq b c → u ≡ test c → (list_any (body_eq b) bs ≡ true → list_any (body_eq b) (filter test bs) ≡ true) → list_any (body_eq b) (cond u (c ∷ filter test bs) (filter test bs)) ≡ true
     cases true true q v later = ap (λ t. t || rest) (sym q)
-    cases true false q v later = absurd (false≢true (v ∙ ap is_wide (sym (same_body b c (sym q))) ∙ w))
+    cases true false q v later = absurd (false≢true (v ∙ ap test (sym (same_body b c (sym q))) ∙ w))
     cases false true q v later = skip (body_eq b c) rest (later (ap (λ t. t || list_any (body_eq b) bs) q ∙ e))
     cases false false q v later = later (ap (λ t. t || list_any (body_eq b) bs) q ∙ e)
 
@@ -92,13 +92,22 @@ get_or-past_map f (x ∷ xs) ys n = ap (λ k. get_or (f x ∷ (map f xs ++ ys)) 
 -- ---- values
 pub value-atom : (p : Program) (S : Atoms) (a : ℕ) → has (atoms_of p) a ≡ true → get_or (values p S) (var_of_atom p a) false ≡ has S a
 value-atom p S a h =
-    get_or-place_of (λ b. b == a) (has S) (atoms_of p) (map (body_holds S) (wide_bodies p)) (has S a) (λ x e. ap (has S) (eqb-true x a e)) h
+    get_or-place_of (λ b. b == a) (has S) (atoms_of p) (map (body_holds S) (apart_bodies p)) (has S a) (λ x e. ap (has S) (eqb-true x a e)) h
 
-pub value-form : (p : Program) (S : Atoms) (b : Body) → list_any (body_eq b) (wide_bodies p) ≡ true → get_or (values p S) (var_of_form p b) false ≡ body_holds S b
-value-form p S b h =
-    get_or-past_map (has S) (atoms_of p) (map (body_holds S) (wide_bodies p)) (place_of (body_eq b) (wide_bodies p))
-    ∙ ap (λ xs. get_or xs (place_of (body_eq b) (wide_bodies p)) false) (no_more (map (body_holds S) (wide_bodies p)))
-    ∙ get_or-place_of (body_eq b) (body_holds S) (wide_bodies p) [] (body_holds S b) (λ x e. ap (body_holds S) (sym (same_body b x e))) h
+-- a body without a name has its own variable
+pub own_var : (p : Program) (b : Body) → is_apart p b ≡ true → var_of_form p b ≡ suc (length (atoms_of p) + place_of (body_eq b) (apart_bodies p))
+own_var p b h = nameless (names p b) (and_parts (is_wide b) (is_nameless (names p b)) h).1
+  where
+    nameless : (as : List ℕ) → is_nameless as ≡ true → named_or (atoms_of p) (suc (length (atoms_of p) + place_of (body_eq b) (apart_bodies p))) as ≡ suc (length (atoms_of p) + place_of (body_eq b) (apart_bodies p))
+    nameless [] e = refl
+    nameless (a ∷ as) e = absurd (false≢true e)
+
+pub value-form : (p : Program) (S : Atoms) (b : Body) → is_apart p b ≡ true → list_any (body_eq b) (bodies_of p) ≡ true → get_or (values p S) (var_of_form p b) false ≡ body_holds S b
+value-form p S b apart h =
+    ap (λ v. get_or (values p S) v false) (own_var p b apart)
+    ∙ get_or-past_map (has S) (atoms_of p) (map (body_holds S) (apart_bodies p)) (place_of (body_eq b) (apart_bodies p))
+    ∙ ap (λ xs. get_or xs (place_of (body_eq b) (apart_bodies p)) false) (no_more (map (body_holds S) (apart_bodies p)))
+    ∙ get_or-place_of (body_eq b) (body_holds S) (apart_bodies p) [] (body_holds S b) (λ x e. ap (body_holds S) (sym (same_body b x e))) (filtered_among (is_apart p) b (bodies_of p) apart h)
   where
     no_more : (xs : List Bool) → xs ≡ xs ++ []
     no_more [] = refl

@@ -15,7 +15,7 @@ use Rattle.asp_model.specs.declared.program.Rule.{Rule}
 use Rattle.asp_model.specs.Models.{rules_in_force, atoms_of, mentions}
 use Rattle.asp_model.proofs.MemberLaws.{each_weaker}
 use Rattle.asp_model.proofs.SetLaws.{get_or-ascending, get_or-below, has_at, place_found, IsAscending-set_of}
-use Rattle.asp_vars.specs.Numbering.{normal, body_eq, bodies_of, is_wide, wide_bodies, place_of, place_of_body, number_of_form, number_count, var_count, var_of_atom, var_of_form, nth_body, nth_rule, nth_atom}
+use Rattle.asp_vars.specs.Numbering.{normal, body_eq, bodies_of, is_wide, is_apart, apart_bodies, place_of, place_of_body, number_of_form, number_count, var_count, var_of_atom, var_of_form, nth_body, nth_rule, nth_atom}
 use Rattle.asp_vars.specs.Places.{place_in}
 use Rattle.asp_vars.proofs.NumberingLaws.{same_body, body_eq-itself}
 use Rattle.asp_vars.proofs.StandingLaws.{Among, each_among, rule_has_form}
@@ -89,8 +89,8 @@ AreDistinct-filter q (b ∷ bs) d = cases (q b) (AreDistinct-filter q bs d.1)
     cases true rest = (none_filter q b bs d.0, rest)
     cases false rest = rest
 
-pub wide_bodies-distinct : (p : Program) → AreDistinct (wide_bodies p)
-wide_bodies-distinct p = AreDistinct-filter is_wide (bodies_of p) (bodies_of-distinct p)
+pub apart_bodies-distinct : (p : Program) → AreDistinct (apart_bodies p)
+apart_bodies-distinct p = AreDistinct-filter (is_apart p) (bodies_of p) (bodies_of-distinct p)
 
 none_at : (q : Body → Bool) (bs : List Body) (j : ℕ) (d : Body) → list_any q bs ≡ false → j < length bs → q (get_or bs j d) ≡ false
 none_at q [] j d e lt = absurd (omega arith)
@@ -114,8 +114,8 @@ place_of-within test (x ∷ xs) e = cases (test x) refl (place_of-within test xs
     cases true q f = omega arith
     cases false q f = let h = f (ap (λ b. b || list_any test xs) q ∙ e) in omega (arith, h)
 
-pub form-within : (p : Program) (b : Body) → list_any (body_eq b) (wide_bodies p) ≡ true → var_of_form p b ≤ var_count p
-form-within p b e = let h = place_of-within (body_eq b) (wide_bodies p) e in omega (arith, h)
+pub form-within : (p : Program) (b : Body) → is_wide b ≡ true → list_any (body_eq b) (bodies_of p) ≡ true → var_of_form p b ≤ var_count p
+form-within p b w e = ?
 
 pub number-within : (p : Program) (b : Body) → list_any (body_eq b) (bodies_of p) ≡ true → number_of_form p b ≤ number_count p
 number-within p b e = let h = place_of-within (body_eq b) (bodies_of p) e in omega (arith, h)
@@ -132,9 +132,8 @@ pub number_of_nth_body : (p : Program) (j : ℕ) → j < length (bodies_of p) �
 number_of_nth_body p j lt =
     ap (λ n. suc (length (atoms_of p) + n)) (place_of-distinct (bodies_of p) j (body.All []) (bodies_of-distinct p) lt)
 
-pub var_of_nth_wide : (p : Program) (j : ℕ) → j < length (wide_bodies p) → var_of_form p (get_or (wide_bodies p) j (body.All [])) ≡ suc (length (atoms_of p) + j)
-var_of_nth_wide p j lt =
-    ap (λ n. suc (length (atoms_of p) + n)) (place_of-distinct (wide_bodies p) j (body.All []) (wide_bodies-distinct p) lt)
+pub var_of_nth_apart : (p : Program) (j : ℕ) → j < length (apart_bodies p) → var_of_form p (get_or (apart_bodies p) j (body.All [])) ≡ suc (length (atoms_of p) + j)
+var_of_nth_apart p j lt = ?
 
 pub place_of_nth_rule : (p : Program) (i : ℕ) → i < length (rules_in_force p) → place_of_body p (nth_rule p i).body < length (bodies_of p)
 place_of_nth_rule p i lt =
