@@ -18,12 +18,12 @@ use Rattle.asp_model.specs.Sound.{IsSound}
 use Rattle.asp_model.proofs.MemberLaws.{each_weaker, each-append, each-flat_map, each-map, one_passes, HasAll, HasAll-itself}
 use Rattle.asp_model.proofs.ReductLaws.{rules_in_force-heads}
 use Rattle.asp_vars.specs.Literals.{Literal, T, F, complement, is_true, hits}
-use Rattle.asp_vars.specs.Numbering.{normal, body_eq, bodies_of, is_wide, var_of_atom, var_of_form, literal_of_form, literal_of_body, literal_of, values}
+use Rattle.asp_vars.specs.Numbering.{normal, body_eq, bodies_of, is_wide, is_apart, IsReadBy, var_of_atom, var_of_form, literal_of_form, literal_of_body, literal_of, values}
 use Rattle.asp_vars.specs.Entailment.{Entailed}
 use Rattle.asp_vars.specs.Completion.{support_bodies, is_barred, defining_nogoods, normal_nogoods, body_nogoods, rule_nogoods, atom_nogood, completion}
 use Rattle.asp_vars.proofs.LiteralLaws.{is_true-complement, and_left, and_right}
 use Rattle.asp_vars.proofs.NormalLaws.{body_holds-normal}
-use Rattle.asp_vars.proofs.NumberingLaws.{value-atom, value-form, wide_among, same_body, body_eq-itself}
+use Rattle.asp_vars.proofs.NumberingLaws.{value-atom, value-form, same_body, body_eq-itself}
 use Rattle.asp_vars.specs.Tabled.{Stands}
 use Rattle.asp_vars.proofs.StandingLaws.{Among, each_among, each_both, rule_has_form, form-stands, bodies_of-stand, bodies_of-themselves}
 use Rattle.asp_vars.proofs.StableLaws.{stable-derived, stable-closed, stable-keeps, derived-parts}

@@ -4,7 +4,7 @@ ghost use Rattle.asp_model.specs.Sound.{IsSound};
 ghost use Rattle.asp_model.specs.Models.{rules_in_force, atoms_of};
 ghost use Rattle.asp_model.specs.Sets.{has};
 ghost use Rattle.asp_model.specs.Views.{rule_seen};
-ghost use Rattle.asp_vars.specs.Numbering.{bodies_of, var_count, var_of_atom, literal_of_form, place_of_body, number_of_form, number_count, is_wide, form_at, nth_body, nth_rule, nth_atom};
+ghost use Rattle.asp_vars.specs.Numbering.{bodies_of, var_count, var_of_atom, literal_of_form, place_of_body, number_of_form, number_count, is_wide, is_apart, form_at, nth_body, nth_rule, nth_atom};
 ghost use Rattle.asp_vars.specs.Completion.{is_barred, supports};
 ghost use Rattle.asp_vars.specs.Tabled.{bound_of, form_literals, form_weights, heads_of, occurrences_of, find_var, find_atom, IsAtomVar, IsBodyNumber, IsLiteral, bodies_with};
 
