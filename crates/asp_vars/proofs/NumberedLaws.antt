@@ -41,7 +41,7 @@ pub filter_each : {X : Type 0} (p q : X → Bool) → ((x : X) → p x ≡ q x) 
 filter_each p q h [] = refl
 filter_each p q h (x ∷ xs) = ap (λ t. cond t (x ∷ filter p xs) (filter p xs)) (h x) ∙ ap (λ ys. cond (q x) (x ∷ ys) ys) (filter_each p q h xs)
 
-any_each : {X : Type 0} (P : X → Type 0) (p q : X → Bool) → ((x : X) → P x → p x ≡ q x) → (xs : List X) → AllByRecursion P xs → list_any p xs ≡ list_any q xs
+pub any_each : {X : Type 0} (P : X → Type 0) (p q : X → Bool) → ((x : X) → P x → p x ≡ q x) → (xs : List X) → AllByRecursion P xs → list_any p xs ≡ list_any q xs
 any_each P p q h [] a = refl
 any_each P p q h (x ∷ xs) a = ap (λ t. t || list_any p xs) (h x a.0) ∙ ap (λ t. q x || t) (any_each P p q h xs a.1)
 

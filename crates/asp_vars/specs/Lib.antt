@@ -12,6 +12,7 @@ pub mod Forms
 pub mod Headed
 pub mod Held
 pub mod Named
+pub mod Rows
 pub mod Placed
 pub mod Places
 pub mod Tabled

@@ -1,5 +1,5 @@
 -- The names of bodies, by the rules with one head and the supports of the atoms.
-use Rattle.std.specs.Prelude.{◌≡◌, ℕ, suc, ◌+◌, ◌<◌, ◌==◌, ◌&&◌, Bool, false, if◌then◌else◌, List, [], ◌∷◌, length, filter, slice_index_or}
+use Rattle.std.specs.Prelude.{◌≡◌, ℕ, zero, suc, ◌+◌, ◌<◌, ◌==◌, ◌&&◌, Bool, false, if◌then◌else◌, List, [], ◌∷◌, length, filter, slice_index_or}
 use Rattle.std.specs.List.{list_any}
 use Rattle.asp_model.specs.declared.program.Body.{Body}
 use Rattle.asp_model.specs.declared.program.Head.{Head}
@@ -33,7 +33,7 @@ defines_at headed supports n v = slice_index_or headed v false && is_only n (sli
 
 -- the first of the variables below that passes, and 0 where none does
 abbrev pub first_below : (ℕ → Bool) → ℕ → ℕ
-first_below test 0 = 0
+first_below test zero = 0
 first_below test (suc v) = if first_below test v == 0 && test v then v else first_below test v
 
 -- For each body below the count the first variable of an atom that it defines, where the first body has this number.

@@ -20,8 +20,8 @@ use std::marker::Model;
 
 /// A program with the tables of its variables. Contracts see it as the program, of which each table is a function.
 ///
-/// Its atoms, ascending, are the variables from 1 on; those distinct bodies of its rules in force that aren't one literal follow
-/// them, in the order of their first occurrence. Bodies and rules are counted from 0.
+/// Its atoms, ascending, are the variables from 1 on; those distinct bodies of its rules in force that aren't one literal and define
+/// no atom follow them, in the order of their first occurrence. Bodies and rules are counted from 0.
 #[derive(Drop)]
 pub struct Compiled {
     /// The program as it was read.

@@ -1,5 +1,5 @@
 //! The atoms by which bodies are known.
-ghost use Rattle.std.specs.Prelude.{◌≡◌, ℕ, ◌+◌, ◌==◌, ◌<◌, ◌≤◌, ◌^◌, ◌++◌, ◌&&◌, ◌||◌, false, All, IfOk, IsTrue, length, if◌then◌else◌, slice_index_or};
+ghost use Rattle.std.specs.Prelude.{◌≡◌, ℕ, ◌+◌, ◌==◌, ◌<◌, ◌≤◌, ◌^◌, ◌++◌, ◌&&◌, ◌||◌, [], false, All, IfOk, IsTrue, length, if◌then◌else◌, slice_index_or};
 ghost use Rattle.std.specs.List.{AllByRecursion};
 ghost use Rattle.asp_model.specs.Models.{head_atoms};
 ghost use Rattle.asp_model.specs.Sets.{IsAscending, has};
@@ -79,7 +79,7 @@ pub fn names(
     requires first { 0 < first }
     requires headed { length headed.now ≡ first }
     requires rows { length supports.now ≡ first }
-    requires numbers { All (λ row. All (λ n. (first ≤ n) × (n < first + count)) row) supports.now }
+    requires numbers { (v : ℕ) → 0 < v → v < first → All (λ n. (first ≤ n) × (n < first + count)) (slice_index_or supports.now v []) }
     ensures { IfOk result (λ names. AreNames names.items count first headed.now supports.now) }
 {
     let mut names = vec![in alloc; 0; count]?;

@@ -148,7 +148,9 @@ impl Numbered {
         let first = atoms.len() as u32 + 1;
         let count = self.bodies.forms().len();
         let rules = &self.program.rules;
-        let headed = headed_alone(alloc, atoms, rules, self.opened.as_slice(), self.places.as_slice().len())?;
+        let opened = self.opened.as_slice();
+        let places = self.places.as_slice();
+        let headed = headed_alone(alloc, atoms, rules, opened, places.len())?;
         let names = names(alloc, count, first, headed.as_slice(), supports)?;
         Ok(names)
     }
