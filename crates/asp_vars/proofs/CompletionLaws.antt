@@ -285,7 +285,7 @@ unhit-read p S e b listed = by_form b listed (form-stands p b listed)
 
     wide : (ls : List ℤ) → is_wide (body.All ls) ≡ true → list_any (body_eq (body.All ls)) (bodies_of p) ≡ true → Stands (atoms_of p) (body.All ls) → is_true v (literal_of_form p (body.All ls)) ≡ all_hold S ls
     wide ls w h s =
-        normal_literal p v S ls w (each_weaker (λ l. has (atoms_of p) (atom_of l) ≡ true) (λ l. is_true v (literal_of p l) ≡ holds S l) (literal-holds p S) ls s) (all_unhit p v e).1.0 (mine (body.All ls) h)
+        normal_literal p v S ls w (each_weaker (λ l. has (atoms_of p) (atom_of l) ≡ true) (λ l. is_true v (literal_of p l) ≡ holds S l) (literal-holds p S) ls s) (all_unhit p v e).1 (mine (body.All ls) h)
 
     by_form : (c : Body) → list_any (body_eq c) (bodies_of p) ≡ true → Stands (atoms_of p) c → is_true v (literal_of_form p c) ≡ body_holds S c
     by_form (body.All []) h s = wide [] refl h s

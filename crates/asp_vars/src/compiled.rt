@@ -209,7 +209,7 @@ impl Compiled {
         requires { body < length (bodies_of self.now) }
         ensures { result ≡ is_apart self.now (nth_body self.now body) }
     {
-        self.held[body].var() as usize > self.atom_count()
+        self.body_lit(body).var() as usize > self.atom_count()
     }
 
     /// The bodies of which the literal says that they hold, ascending.
