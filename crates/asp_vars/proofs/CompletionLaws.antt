@@ -123,8 +123,7 @@ all_unhit p v e =
     let rules : List (List Literal) = flat_map (λ (r : Rule). rule_nogoods p (literal_of_body p r.body) r.head) (rules_in_force p) in
     let atoms : List (List Literal) = flat_map (atom_nogoods p) (atoms_of p) in
     let all : Unhit v ((bodies ++ rules) ++ atoms) = unhit v (completion p) e in
-    let front : Unhit v (bodies ++ rules) = each-front P (bodies ++ rules) atoms all in
-    (
+    let front : Unhit v (bodies ++ rules) = each-front P (bodies ++ rules) atoms all in (
       each-unflat_map P (body_nogoods p) (bodies_of p) (each-front P bodies rules front),
       each-unflat_map P (λ (r : Rule). rule_nogoods p (literal_of_body p r.body) r.head) (rules_in_force p) (back-append P bodies rules front),
       each-unflat_map P (atom_nogoods p) (atoms_of p) (back-append P (bodies ++ rules) atoms all),

@@ -84,7 +84,13 @@ pub fn names(
 {
     let mut names = vec![in alloc; 0; count]?;
     for var in 1..first {
-        name(&mut names, first, headed[var as usize], supports.row(var as usize), var);
+        name(
+            &mut names,
+            first,
+            headed[var as usize],
+            supports.row(var as usize),
+            var,
+        );
     }
     Ok(names)
 }

@@ -3,7 +3,7 @@ use Rattle.std.proofs.lemmas.List.{length-map}
 use Rattle.asp_model.specs.declared.program.Body.{Body}
 use Rattle.asp_model.specs.declared.program.Program.{Program}
 use Rattle.asp_model.specs.Models.{atoms_of}
-use Rattle.asp_vars.specs.Numbering.{bodies_of, number_count, var_count, literal_of_form}
+use Rattle.asp_vars.specs.Numbering.{bodies_of, number_count}
 use Rattle.asp_vars.specs.Tabled.{Stands}
 use Rattle.asp_vars.specs.Forms.{body_of}
 use Rattle.asp_vars.specs.Held.{literals_from, var_behind}
