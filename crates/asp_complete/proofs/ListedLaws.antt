@@ -111,7 +111,10 @@ pub rule_group : (p : Program) (i n m : ℕ) → n ≡ length (bodies_of p) → 
 rule_group p i n m is are le lt = rw is (of_rule p i (omega (arith, is, le)) (omega (arith, is, are, lt)))
 
 pub atom_group : (p : Program) (i n m : ℕ) → n ≡ length (bodies_of p) → m ≡ length (rules_in_force p) → n ≤ i → m ≤ i - n → i < length (groups p) → get_or (groups p) i [] ≡ atom_nogoods p (nth_atom p (i - n - m))
-atom_group p i n m is are le behind lt = rw (is, are) (of_atom p i (omega (arith, is, le)) (omega (arith, is, are, behind)) (omega (arith, is, are, le, behind, lt, length-groups p)))
+atom_group p i n m is are le behind lt =
+    let place : (i - length (bodies_of p)) - length (rules_in_force p) ≡ i - n - m = omega (arith, is, are) in
+    of_atom p i (omega (arith, is, le)) (omega (arith, is, are, behind)) (omega (arith, is, are, le, behind, lt, length-groups p))
+    ∙ ap (λ (k : ℕ). atom_nogoods p (nth_atom p k)) place
 
 pub group_more : (p : Program) (from i : ℕ) → from ≤ i → i < length (groups p) → map pure (nogoods_between p from (i + 1)) ≡ map pure (nogoods_between p from i) ++ map pure (get_or (groups p) i [])
 group_more p from i le lt =
