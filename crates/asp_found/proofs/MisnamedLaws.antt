@@ -20,12 +20,12 @@ use Rattle.asp_vars.specs.declared.nogood.Base.TheVariants as base
 use Rattle.asp_vars.specs.Literals.{Literal, complement, is_true, hits}
 use Rattle.asp_vars.specs.Numbering.{body_eq, bodies_of, is_wide, place_of, literal_of_form, literal_of_body, literal_of, values, nth_body, IsReadBy}
 use Rattle.asp_vars.specs.Entailment.{Entailed}
-use Rattle.asp_vars.specs.Completion.{is_barred, defining_nogoods, normal_nogoods, body_nogoods, rule_nogoods, atom_nogoods, completion}
-use Rattle.asp_vars.specs.Tabled.{Stands, form_literals}
+use Rattle.asp_vars.specs.Completion.{is_barred, normal_nogoods, body_nogoods, rule_nogoods, atom_nogoods, completion}
+use Rattle.asp_vars.specs.Tabled.{Stands}
 use Rattle.asp_vars.proofs.LiteralLaws.{is_true-complement}
 use Rattle.asp_vars.proofs.PlaceLaws.{at_each, place_of-within}
 use Rattle.asp_vars.proofs.SupportLaws.{at_form}
-use Rattle.asp_vars.proofs.StandingLaws.{Among, each_among, each_both, each-unmap, back-append, bodies_of-themselves, form-stands}
+use Rattle.asp_vars.proofs.StandingLaws.{each_among, each_both, each-unmap, back-append, bodies_of-themselves, form-stands}
 use Rattle.asp_vars.proofs.CompletionLaws.{literal-holds, hits-literals, weight-true, body_nogoods-wide, normal_nogoods-barred, normal_nogoods-defining, barred_by, completion_entailed}
 use Rattle.asp_loop.proofs.WeightedLaws.{body_stands}
 use Rattle.asp_found.specs.Marks.{Shows, marks_hold}
