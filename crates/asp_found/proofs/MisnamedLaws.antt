@@ -26,12 +26,11 @@ use Rattle.asp_vars.proofs.LiteralLaws.{is_true-complement}
 use Rattle.asp_vars.proofs.PlaceLaws.{at_each, place_of-within}
 use Rattle.asp_vars.proofs.SupportLaws.{at_form}
 use Rattle.asp_vars.proofs.StandingLaws.{each_among, each_both, each-unmap, back-append, bodies_of-themselves, form-stands}
-use Rattle.asp_vars.proofs.CompletionLaws.{literal-holds, hits-literals, weight-true, body_nogoods-wide, normal_nogoods-barred, normal_nogoods-defining, barred_by, completion_entailed}
+use Rattle.asp_vars.proofs.CompletionLaws.{literal-holds, hits-literals, weight-true, body_nogoods-wide, normal_nogoods-barred, normal_nogoods-defining, barred_by, each-unflat_map, completion_entailed}
 use Rattle.asp_loop.proofs.WeightedLaws.{body_stands}
 use Rattle.asp_found.specs.Marks.{Shows, marks_hold}
 use Rattle.asp_found.specs.Misnamed.{first_false, complements, holding_literals, lacking_literals, misnamed_literals}
 use Rattle.asp_found.specs.Verdicts.{IsListed, IsBroken}
-use Rattle.asp_found.proofs.RestLaws.{each-unflat_map}
 use Rattle.asp_found.proofs.LeastLaws.{marks_link}
 use Rattle.asp_found.proofs.ValueLaws.{values_show}
 
@@ -176,17 +175,17 @@ misnamed_broken p S v j t sound is lt holds differs =
     (form_broken p S b listed (of_rules p sound) nogoods (form-stands p b listed) t (holds ∙ value_at p S v j is lt) (ap (λ w. is_true w (literal_of_form p b)) (sym is) ∙ differs))
 
 -- of the bodies up to here each is what its literal says
-abbrev pub AreRead : Program → Atoms → List Bool → ℕ → Type 0
-AreRead p S v n = (k : ℕ) → k < n → is_true v (literal_of_form p (nth_body p k)) ≡ body_holds S (nth_body p k)
+abbrev pub AreReadBelow : Program → Atoms → List Bool → ℕ → Type 0
+AreReadBelow p S v n = (k : ℕ) → k < n → is_true v (literal_of_form p (nth_body p k)) ≡ body_holds S (nth_body p k)
 
-pub read_all : (p : Program) (S : Atoms) (v : List Bool) (n : ℕ) → v ≡ values p S → length (bodies_of p) ≤ n → AreRead p S v n → IsReadBy p S
+pub read_all : (p : Program) (S : Atoms) (v : List Bool) (n : ℕ) → v ≡ values p S → length (bodies_of p) ≤ n → AreReadBelow p S v n → IsReadBy p S
 read_all p S v n is end read b listed =
     let j : ℕ = place_of (body_eq b) (bodies_of p) in
     let within = place_of-within (body_eq b) (bodies_of p) listed in
     subst (λ (c : Body). is_true (values p S) (literal_of_form p c) ≡ body_holds S c) (at_form b (bodies_of p) (body.All []) listed)
     (ap (λ w. is_true w (literal_of_form p (nth_body p j))) (sym is) ∙ read j (omega (arith, within, end)))
 
-pub read_more : (p : Program) (S : Atoms) (v : List Bool) (n : ℕ) → AreRead p S v n → is_true v (literal_of_form p (nth_body p n)) ≡ body_holds S (nth_body p n) → AreRead p S v (n + 1)
+pub read_more : (p : Program) (S : Atoms) (v : List Bool) (n : ℕ) → AreReadBelow p S v n → is_true v (literal_of_form p (nth_body p n)) ≡ body_holds S (nth_body p n) → AreReadBelow p S v (n + 1)
 read_more p S v n before here k lt = elim (cases_lt k n) [
   | inl below ↦ before k below
   | inr above ↦ let same : n ≡ k = omega (arith, above, lt) in subst (λ (j : ℕ). is_true v (literal_of_form p (nth_body p j)) ≡ body_holds S (nth_body p j)) same here

@@ -1,5 +1,5 @@
 -- A set that hits no nogood of the completion is stable, or what it has beyond the least model of its reduct is unfounded.
-use Rattle.std.proofs.Common.{◌≡◌, ℕ, Bool, true, false, not, cond, ◌&&◌, ◌||◌, eqb, List, [], ◌∷◌, ◌++◌, filter, refl, sym, ap, ◌∙◌, subst}
+use Rattle.std.proofs.Common.{◌≡◌, ℕ, Bool, true, false, not, cond, ◌&&◌, ◌||◌, eqb, List, [], ◌∷◌, filter, refl, sym, ap, ◌∙◌, subst}
 use Rattle.std.specs.List.{list_any, flat_map, AllByRecursion}
 use Rattle.std.proofs.lemmas.Bool.{false≢true, and_from, or_parts, eqb-true, eq-eqb}
 use Rattle.asp_model.specs.declared.program.Head.{Head}
@@ -13,17 +13,17 @@ use Rattle.asp_model.specs.Reading.{body_holds_between, derived_heads}
 use Rattle.asp_model.specs.Models.{rules_in_force, atoms_of, is_stable, least_model, head_atoms, is_violated, is_never}
 use Rattle.asp_model.specs.Sound.{IsSound}
 use Rattle.asp_model.proofs.SetLaws.{has-set_of, same_from_has}
-use Rattle.asp_model.proofs.MemberLaws.{list_any-flat_map, each_weaker, each-front, one_passes}
+use Rattle.asp_model.proofs.MemberLaws.{list_any-flat_map, each_weaker, one_passes}
 use Rattle.asp_model.proofs.StepLaws.{closed_from_step}
 use Rattle.asp_model.proofs.ModelLaws.{least_model-least, least_model-ascends}
 use Rattle.asp_model.proofs.ReductLaws.{rules_in_force-heads}
 use Rattle.asp_model.proofs.ReadingLaws.{step_read, same_body}
 use Rattle.asp_vars.specs.Literals.{Literal, T, F, literal_eq, is_true, hits}
-use Rattle.asp_vars.specs.Numbering.{bodies_of, var_of_atom, literal_of_body, values, IsReadBy}
-use Rattle.asp_vars.specs.Completion.{body_nogoods, rule_nogoods, atom_nogoods, completion}
+use Rattle.asp_vars.specs.Numbering.{var_of_atom, literal_of_body, values, IsReadBy}
+use Rattle.asp_vars.specs.Completion.{rule_nogoods, completion}
 use Rattle.asp_vars.proofs.LiteralLaws.{same_literal}
-use Rattle.asp_vars.proofs.StandingLaws.{Among, each_among, back-append, each_both}
-use Rattle.asp_vars.proofs.CompletionLaws.{atom-true, atom-false, rule-true, unhit-read}
+use Rattle.asp_vars.proofs.StandingLaws.{Among, each_among, each_both}
+use Rattle.asp_vars.proofs.CompletionLaws.{all_unhit, atom-true, atom-false, rule-true, unhit-read}
 use Rattle.asp_found.specs.Rests.{rest}
 
 -- no nogood of the list is hit
@@ -43,18 +43,9 @@ none_passes q (x ∷ xs) h = ap (λ b. b || list_any q xs) h.0 ∙ none_passes q
 pub read_by : (p : Program) (S : Atoms) → NoneHit p S (completion p) → IsReadBy p S
 read_by p S unhit = unhit-read p S (none_passes (hits (values p S)) (completion p) unhit)
 
-pub each-unflat_map : {X Y : Type 0} (P : Y → Type 0) (f : X → List Y) (xs : List X) → AllByRecursion P (flat_map f xs) → AllByRecursion (λ x. AllByRecursion P (f x)) xs
-each-unflat_map P f [] h = tt
-each-unflat_map P f (x ∷ xs) h = (each-front P (f x) (flat_map f xs) h, each-unflat_map P f xs (back-append P (f x) (flat_map f xs) h))
-
 -- the rules' nogoods
 rules_unhit : (p : Program) (S : Atoms) → NoneHit p S (completion p) → AllByRecursion (λ (r : Rule). NoneHit p S (rule_nogoods p (literal_of_body p r.body) r.head)) (rules_in_force p)
-rules_unhit p S h =
-    let P : List Literal → Type 0 = λ n. hits (values p S) n ≡ false in
-    let bodies : List (List Literal) = flat_map (body_nogoods p) (bodies_of p) in
-    let rules : List (List Literal) = flat_map (λ (r : Rule). rule_nogoods p (literal_of_body p r.body) r.head) (rules_in_force p) in
-    let atoms : List (List Literal) = flat_map (atom_nogoods p) (atoms_of p) in
-    each-unflat_map P (λ (r : Rule). rule_nogoods p (literal_of_body p r.body) r.head) (rules_in_force p) (back-append P bodies rules (each-front P (bodies ++ rules) atoms h))
+rules_unhit p S unhit = (all_unhit p (values p S) (none_passes (hits (values p S)) (completion p) unhit)).1
 
 not_false : (b : Bool) → (not b && true) ≡ false → b ≡ true
 not_false true e = refl

@@ -22,7 +22,7 @@ use Rattle.asp_vars.proofs.LiteralLaws.{is_true-complement, hits-has, same_liter
 use Rattle.asp_vars.proofs.NormalLaws.{body_holds-normal}
 use Rattle.asp_vars.specs.Tabled.{Stands}
 use Rattle.asp_vars.proofs.StandingLaws.{Among, each_among, rule_has_form, each_both}
-use Rattle.asp_vars.proofs.CompletionLaws.{hits-literals, literal-holds, form-false, rule-true, atom-true, atom-false, supported-read, head_entailed, rule_entailed, atom_entailed, members_hold, bodies_fail, each_of_body, barred_by}
+use Rattle.asp_vars.proofs.CompletionLaws.{hits-literals, literal-holds, form-false, rule-true, atom-true, atom-false, supported-read, head_entailed, rule_entailed, atom_entailed, members_hold, bodies_fail, each_of_body, barred_by, each_unless}
 use Rattle.std.proofs.lemmas.List.Folds.{list_any-append}
 use Rattle.asp_model.proofs.MemberLaws.{each-append, each-flat_map, each-map, HasAll, HasAll-itself}
 use Rattle.asp_vars.specs.declared.nogood.Base.TheVariants as base
@@ -64,10 +64,6 @@ atom_listed p a n m at q e =
 listed_unless : (q : List Literal → Bool) (t : Bool) (n : List Literal) → t ≡ false → q n ≡ true → list_any q (cond t [] (n ∷ [])) ≡ true
 listed_unless q true n e f = absurd (false≢true (sym e))
 listed_unless q false n e f = or_left (q n) false f
-
-each_unless : (P : List Literal → Type 0) (t : Bool) (n : List Literal) → P n → AllByRecursion P (cond t [] (n ∷ []))
-each_unless P true n h = tt
-each_unless P false n h = (h, tt)
 
 false_unless : (t : Bool) → (t ≡ true → ⊥) → t ≡ false
 false_unless true f = absurd (f refl)
