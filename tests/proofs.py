@@ -75,7 +75,8 @@ def counted(parts):
     return numbers(len(parts), *parts)
 
 
-# ---- variables: the atoms in order, then the distinct bodies in normal form that aren't one literal; one literal is itself
+# ---- variables: the atoms in order, then the distinct bodies in normal form that are neither one literal nor define an atom.
+# A body of one literal is that literal, and a normal one that defines atoms is the first of them.
 def normal(rule):
     _, _, bound, items, is_normal = rule
     if is_normal:
@@ -91,12 +92,26 @@ def one_literal(form):
     return form[0] == "all" and len(form[1]) == 1
 
 
+def names(atoms, rules):
+    """The first atom that each normal body defines: the head of some rule, where no rule for it has another body."""
+    found = {}
+    for atom in atoms:
+        forms = {normal(rule) for rule in rules if atom in rule[1]}
+        if len(forms) == 1 and any(not is_choice and heads == [atom] for is_choice, heads, *_ in rules):
+            form = forms.pop()
+            if form[0] == "all":
+                found.setdefault(form, atom)
+    return found
+
+
 class Numbered:
     def __init__(self, text):
         self.program = reference.read(text)
         self.atoms = reference.atoms_of(self.program)
         self.rules = reference.rules_in_force(self.program)
-        self.forms = [form for form in dict.fromkeys(normal(rule) for rule in self.rules) if not one_literal(form)]
+        self.names = names(self.atoms, self.rules)
+        forms = dict.fromkeys(normal(rule) for rule in self.rules)
+        self.forms = [form for form in forms if not one_literal(form) and form not in self.names]
 
     def lit(self, literal):
         var = self.atoms.index(abs(literal)) + 1
@@ -106,6 +121,8 @@ class Numbered:
         form = normal(rule)
         if one_literal(form):
             return self.lit(form[1][0])
+        if form in self.names:
+            return self.lit(self.names[form])
         return len(self.atoms) + self.forms.index(form) + 1
 
     def assumed(self):

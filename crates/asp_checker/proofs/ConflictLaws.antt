@@ -13,15 +13,14 @@ use Rattle.asp_model.specs.Holding.{atom_of, holds, body_holds, weight_of}
 use Rattle.asp_model.specs.Models.{atoms_of, is_stable}
 use Rattle.asp_model.specs.Costs.{cost}
 use Rattle.asp_vars.specs.Literals.{Literal, T, F, complement, is_true, hits, value_of, holds_in, agrees}
-use Rattle.asp_vars.specs.Numbering.{bodies_of, wide_bodies, body_eq, var_count, var_of_form, literal_of, values}
+use Rattle.asp_vars.specs.Numbering.{bodies_of, apart_bodies, body_eq, var_count, var_of_form, literal_of, values}
 use Rattle.asp_vars.specs.Tabled.{Stands}
 use Rattle.asp_vars.specs.Unfounded.{assigned}
 use Rattle.asp_vars.specs.Entailment.{HitsOnly}
 use Rattle.asp_vars.proofs.LiteralLaws.{is_true-complement}
 use Rattle.asp_vars.proofs.PlaceLaws.{place_of-within, form-within}
-use Rattle.asp_vars.proofs.CompletionLaws.{literal-holds, form-true, form-false}
+use Rattle.asp_vars.proofs.CompletionLaws.{literal-holds, weight-true}
 use Rattle.asp_vars.proofs.StandingLaws.{each_both, bodies_of-stand, bodies_of-themselves}
-use Rattle.asp_vars.proofs.NumberingLaws.{wide_among}
 use Rattle.asp_bound.specs.Optimism.{optimistic}
 use Rattle.asp_bound.proofs.CostLaws.{cost_of-values, optimistic-whole}
 use Rattle.asp_checker.specs.Propagation.{Known, may_hold, weight_by, is_broken, reaches_bound, IsPropagated, LeadsToConflict}
@@ -31,8 +30,8 @@ use Rattle.asp_checker.specs.Lines.{AreOf}
 pub length-values : (p : Program) (S : Atoms) → length (values p S) ≡ var_count p + 1
 length-values p S =
     let a : length (map (has S) (atoms_of p)) ≡ length (atoms_of p) = length-map (atoms_of p) (has S) in
-    let b : length (map (body_holds S) (wide_bodies p)) ≡ length (wide_bodies p) = length-map (wide_bodies p) (body_holds S) in
-    let c : length (map (has S) (atoms_of p) ++ map (body_holds S) (wide_bodies p)) ≡ length (map (has S) (atoms_of p)) + length (map (body_holds S) (wide_bodies p)) = length-append (map (has S) (atoms_of p)) (map (body_holds S) (wide_bodies p)) in
+    let b : length (map (body_holds S) (apart_bodies p)) ≡ length (apart_bodies p) = length-map (apart_bodies p) (body_holds S) in
+    let c : length (map (has S) (atoms_of p) ++ map (body_holds S) (apart_bodies p)) ≡ length (map (has S) (atoms_of p)) + length (map (body_holds S) (apart_bodies p)) = length-append (map (has S) (atoms_of p)) (map (body_holds S) (apart_bodies p)) in
     omega (arith, a, b, c)
 
 value-assigned : (p : Program) (S : Atoms) (v : ℕ) → v ≤ var_count p → value_of (assigned p S) v ≡ Some (get_or (values p S) v false)
@@ -102,8 +101,8 @@ body-kept p S (body.All literals) listed stands = refl
 body-kept p S (body.AtLeast c items) listed stands =
     let b : Body = body.AtLeast c items in
     let y = assigned p S in
-    let t : holds_in y (T (var_of_form p b)) ≡ int_le c (weight_of S items) = holds-assigned p S (T (var_of_form p b)) (form-within p b (wide_among b (bodies_of p) refl listed)) ∙ form-true p S b listed in
-    let f : holds_in y (F (var_of_form p b)) ≡ not (int_le c (weight_of S items)) = holds-assigned p S (F (var_of_form p b)) (form-within p b (wide_among b (bodies_of p) refl listed)) ∙ form-false p S b listed in
+    let t : holds_in y (T (var_of_form p b)) ≡ int_le c (weight_of S items) = holds-assigned p S (T (var_of_form p b)) (form-within p b refl listed) ∙ weight-true p S c items listed in
+    let f : holds_in y (F (var_of_form p b)) ≡ not (int_le c (weight_of S items)) = holds-assigned p S (F (var_of_form p b)) (form-within p b refl listed) ∙ is_true-complement (values p S) (T (var_of_form p b)) ∙ ap not (weight-true p S c items listed) in
     let high : weight_by (may_hold y) p items ≡ weight_of S items = weight-held p S (may_hold y) items (each_item p S (may_hold y) (literal-may p S) items stands) in
     let low : weight_by (holds_in y) p items ≡ weight_of S items = weight-held p S (holds_in y) items (each_item p S (holds_in y) (literal-held p S) items stands) in
     rw (t, f, high, low) (not_both c (weight_of S items))

@@ -19,14 +19,14 @@ use Rattle.asp_model.specs.Sound.{IsSound}
 use Rattle.asp_model.proofs.SetLaws.{has-set_of}
 use Rattle.asp_model.proofs.MemberLaws.{list_any-flat_map, each_passes, one_passes, HasAll-itself}
 use Rattle.asp_vars.specs.Literals.{Literal, T, complement, is_true, hits, has_literal}
-use Rattle.asp_vars.specs.Numbering.{normal, body_eq, bodies_of, var_of_atom, literal_of_form, literal_of, values}
+use Rattle.asp_vars.specs.Numbering.{normal, body_eq, bodies_of, var_of_atom, literal_of_form, literal_of, values, IsReadBy}
 use Rattle.asp_vars.specs.Tabled.{Stands}
 use Rattle.asp_vars.specs.Entailment.{Entailed}
 use Rattle.asp_vars.specs.Unfounded.{is_inside}
 use Rattle.asp_vars.proofs.LiteralLaws.{and_left, and_right, hits-has, is_true-complement}
 use Rattle.asp_vars.proofs.NormalLaws.{body_holds_between-normal}
 use Rattle.asp_vars.proofs.StandingLaws.{Among, each_among, rule_has_form, normal-stands, rules_in_force-bodies, each_both}
-use Rattle.asp_vars.proofs.CompletionLaws.{literal-holds, form-false, atom-true}
+use Rattle.asp_vars.proofs.CompletionLaws.{literal-holds, stable-read, form-false, atom-true}
 use Rattle.asp_vars.proofs.SupportLaws.{some}
 use Rattle.asp_loop.specs.LoopNogoods.{weight_where, is_left}
 use Rattle.asp_loop.specs.Founded.{without}
@@ -112,9 +112,9 @@ turned : (b : Bool) → b ≡ false → not b ≡ true
 turned true e = absurd (false≢true (sym e))
 turned false e = refl
 
-body_not_false : (p : Program) (S T U : Atoms) (b : Body) → list_any (body_eq b) (bodies_of p) ≡ true → Apart S T U → AreItems (form_items b) → body_holds_between S T b ≡ true → is_true (values p S) (complement (literal_of_form p b)) ≡ true → ⊥
-body_not_false p S T U b listed h weighted e f =
-    false≢true (sym (ap not (body_between S T U b h weighted e)) ∙ sym (form-false p S b listed) ∙ f)
+body_not_false : (p : Program) (S T U : Atoms) → IsReadBy p S → (b : Body) → list_any (body_eq b) (bodies_of p) ≡ true → Apart S T U → AreItems (form_items b) → body_holds_between S T b ≡ true → is_true (values p S) (complement (literal_of_form p b)) ≡ true → ⊥
+body_not_false p S T U read b listed h weighted e f =
+    false≢true (sym (ap not (body_between S T U b h weighted e)) ∙ sym (form-false p S read b listed) ∙ f)
 
 -- a literal that holds is left
 left_holds : (p : Program) (S T U : Atoms) (part : List Literal) (l : ℤ) → has (atoms_of p) (atom_of l) ≡ true → hits (values p S) part ≡ true → Apart S T U → holds_between S T l ≡ true → is_left p U part l ≡ true
@@ -130,15 +130,15 @@ left_holds p S T U part l stands hit h e =
 
 -- ---- an answered body
 -- no body of a rule that holds from outside is answered
-answered_hit : (p : Program) (S T U : Atoms) (b : Body) (n : List Literal) → list_any (body_eq b) (bodies_of p) ≡ true → Stands (atoms_of p) b → AreItems (form_items b) → Apart S T U → body_holds_between S T b ≡ true → is_answered p U n b ≡ true → hits (values p S) n ≡ true → ⊥
-answered_hit p S T U (body.All ls) n listed stands weighted h e answered hit =
+answered_hit : (p : Program) (S T U : Atoms) → IsReadBy p S → (b : Body) (n : List Literal) → list_any (body_eq b) (bodies_of p) ≡ true → Stands (atoms_of p) b → AreItems (form_items b) → Apart S T U → body_holds_between S T b ≡ true → is_answered p U n b ≡ true → hits (values p S) n ≡ true → ⊥
+answered_hit p S T U read (body.All ls) n listed stands weighted h e answered hit =
     elim (or_cases (has_literal n (complement (literal_of_form p (body.All ls)))) (list_any (is_inside U) ls) answered) [
-      | inl has ↦ body_not_false p S T U (body.All ls) listed h weighted e (hits-has (values p S) n (complement (literal_of_form p (body.All ls))) hit has)
+      | inl has ↦ body_not_false p S T U read (body.All ls) listed h weighted e (hits-has (values p S) n (complement (literal_of_form p (body.All ls))) hit has)
       | inr inside ↦ false≢true (sym (none_inside S T U ls h e) ∙ inside)
     ]
-answered_hit p S T U (body.AtLeast c items) n listed stands weighted h e answered hit =
+answered_hit p S T U read (body.AtLeast c items) n listed stands weighted h e answered hit =
     elim (or_cases (has_literal n (complement (literal_of_form p (body.AtLeast c items)))) (int_lt (weight_where (is_left p U n) items) c) answered) [
-      | inl has ↦ body_not_false p S T U (body.AtLeast c items) listed h weighted e (hits-has (values p S) n (complement (literal_of_form p (body.AtLeast c items))) hit has)
+      | inl has ↦ body_not_false p S T U read (body.AtLeast c items) listed h weighted e (hits-has (values p S) n (complement (literal_of_form p (body.AtLeast c items))) hit has)
       | inr light ↦ too_light c (weight_between S T items) (weight_where (is_left p U n) items) e (weight_less S T (is_left p U n) items weighted (left items stands)) light
     ]
   where
@@ -175,7 +175,7 @@ broken p U n S a sound line stable hit member in_S =
     let derived = derived_parts S W rule.0 founded.0 rule.2 in
     let in_U : has U founded.0 ≡ true = and_right (has S founded.0) (has U founded.0) (sym (has-filter (has S) U founded.0) ∙ founded.1) in
     let headed : list_any (has U) (head_atoms rule.0.head) ≡ true = any_of (has U) (head_atoms rule.0.head) founded.0 derived.1 in_U in
-    answered_hit p S W U (normal rule.0.body) n (rule_has_form p rule.0 rule.1.0.0) (normal-stands (atoms_of p) rule.0.body rule.1.0.1) (form_weighted p rule.0 sound rule.1.0.0) apart (body_holds_between-normal S W rule.0.body ∙ derived.0)
+    answered_hit p S W U (stable-read p S sound stable) (normal rule.0.body) n (rule_has_form p rule.0 rule.1.0.0) (normal-stands (atoms_of p) rule.0.body rule.1.0.1) (form_weighted p rule.0 sound rule.1.0.0) apart (body_holds_between-normal S W rule.0.body ∙ derived.0)
     (passes (list_any (has U) (head_atoms rule.0.head)) (is_answered p U n (normal rule.0.body)) headed rule.1.1) hit
   where
     outside : (s u v : Bool) → u ≡ true → v ≡ (s && u) → (not v && s) ≡ false

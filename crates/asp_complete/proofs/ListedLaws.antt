@@ -17,7 +17,7 @@ use Rattle.asp_vars.specs.Numbering.{bodies_of, literal_of, nth_atom, nth_body, 
 use Rattle.asp_model.specs.Sound.{IsSound}
 use Rattle.asp_model.proofs.MemberLaws.{each-map}
 use Rattle.asp_vars.specs.Entailment.{Entailed}
-use Rattle.asp_vars.specs.Completion.{is_barred, atom_nogood, body_nogoods, completion}
+use Rattle.asp_vars.specs.Completion.{is_barred, atom_nogoods, body_nogoods, completion}
 use Rattle.asp_vars.proofs.CompletionLaws.{body_nogoods-wide, normal_nogoods-barred, normal_nogoods-defining, completion_entailed}
 use Rattle.asp_vars.specs.Tabled.{form_literals, bound_of}
 use Rattle.asp_complete.specs.Listed.{groups, nogoods_between, nogoods_of_rule, pure, parts}
@@ -77,11 +77,11 @@ of_body p i lt =
     get_or_append_left (map (body_nogoods p) (bodies_of p)) _ [] i inside ∙ get_or-map (body_nogoods p) (bodies_of p) i (body.All []) [] lt
 
 behind_bodies : (p : Program) (i : ℕ) → length (bodies_of p) ≤ i
-    → get_or (groups p) i [] ≡ get_or (map (nogoods_of_rule p) (rules_in_force p) ++ map (λ a. atom_nogood p a ∷ []) (atoms_of p)) (i - length (bodies_of p)) []
+    → get_or (groups p) i [] ≡ get_or (map (nogoods_of_rule p) (rules_in_force p) ++ map (atom_nogoods p) (atoms_of p)) (i - length (bodies_of p)) []
 behind_bodies p i le =
     let same = length-map (bodies_of p) (body_nogoods p) in
     get_or-append_right (map (body_nogoods p) (bodies_of p)) _ i [] (omega (arith, le, same))
-    ∙ ap (λ (n : ℕ). get_or (map (nogoods_of_rule p) (rules_in_force p) ++ map (λ a. atom_nogood p a ∷ []) (atoms_of p)) (i - n) []) same
+    ∙ ap (λ (n : ℕ). get_or (map (nogoods_of_rule p) (rules_in_force p) ++ map (atom_nogoods p) (atoms_of p)) (i - n) []) same
 
 of_rule : (p : Program) (i : ℕ) → length (bodies_of p) ≤ i → i - length (bodies_of p) < length (rules_in_force p) → get_or (groups p) i [] ≡ nogoods_of_rule p (nth_rule p (i - length (bodies_of p)))
 of_rule p i le lt =
@@ -91,14 +91,14 @@ of_rule p i le lt =
     ∙ get_or-map (nogoods_of_rule p) (rules_in_force p) (i - length (bodies_of p)) (record { head = head.Never; body = body.All [] }) [] lt
 
 of_atom : (p : Program) (i : ℕ) → length (bodies_of p) ≤ i → length (rules_in_force p) ≤ i - length (bodies_of p) → (i - length (bodies_of p)) - length (rules_in_force p) < length (atoms_of p)
-    → get_or (groups p) i [] ≡ atom_nogood p (nth_atom p ((i - length (bodies_of p)) - length (rules_in_force p))) ∷ []
+    → get_or (groups p) i [] ≡ atom_nogoods p (nth_atom p ((i - length (bodies_of p)) - length (rules_in_force p)))
 of_atom p i le behind lt =
     let same = length-map (rules_in_force p) (nogoods_of_rule p) in
     let at : ℕ = (i - length (bodies_of p)) - length (rules_in_force p) in
     behind_bodies p i le
     ∙ get_or-append_right (map (nogoods_of_rule p) (rules_in_force p)) _ (i - length (bodies_of p)) [] (omega (arith, behind, same))
-    ∙ ap (λ (n : ℕ). get_or (map (λ a. atom_nogood p a ∷ []) (atoms_of p)) ((i - length (bodies_of p)) - n) []) same
-    ∙ get_or-map (λ (a : ℕ). atom_nogood p a ∷ []) (atoms_of p) at 0 [] lt
+    ∙ ap (λ (n : ℕ). get_or (map (atom_nogoods p) (atoms_of p)) ((i - length (bodies_of p)) - n) []) same
+    ∙ get_or-map (atom_nogoods p) (atoms_of p) at 0 [] lt
 
 pub length-groups : (p : Program) → length (groups p) ≡ length (bodies_of p) + (length (rules_in_force p) + length (atoms_of p))
 length-groups p =
@@ -110,8 +110,11 @@ body_group p i n is lt = of_body p i (omega (arith, is, lt))
 pub rule_group : (p : Program) (i n m : ℕ) → n ≡ length (bodies_of p) → m ≡ length (rules_in_force p) → n ≤ i → i - n < m → get_or (groups p) i [] ≡ nogoods_of_rule p (nth_rule p (i - n))
 rule_group p i n m is are le lt = rw is (of_rule p i (omega (arith, is, le)) (omega (arith, is, are, lt)))
 
-pub atom_group : (p : Program) (i n m : ℕ) → n ≡ length (bodies_of p) → m ≡ length (rules_in_force p) → n ≤ i → m ≤ i - n → i < length (groups p) → get_or (groups p) i [] ≡ atom_nogood p (nth_atom p (i - n - m)) ∷ []
-atom_group p i n m is are le behind lt = rw (is, are) (of_atom p i (omega (arith, is, le)) (omega (arith, is, are, behind)) (omega (arith, is, are, le, behind, lt, length-groups p)))
+pub atom_group : (p : Program) (i n m : ℕ) → n ≡ length (bodies_of p) → m ≡ length (rules_in_force p) → n ≤ i → m ≤ i - n → i < length (groups p) → get_or (groups p) i [] ≡ atom_nogoods p (nth_atom p (i - n - m))
+atom_group p i n m is are le behind lt =
+    let place : (i - length (bodies_of p)) - length (rules_in_force p) ≡ i - n - m = omega (arith, is, are) in
+    of_atom p i (omega (arith, is, le)) (omega (arith, is, are, behind)) (omega (arith, is, are, le, behind, lt, length-groups p))
+    ∙ ap (λ (k : ℕ). atom_nogoods p (nth_atom p k)) place
 
 pub group_more : (p : Program) (from i : ℕ) → from ≤ i → i < length (groups p) → map pure (nogoods_between p from (i + 1)) ≡ map pure (nogoods_between p from i) ++ map pure (get_or (groups p) i [])
 group_more p from i le lt =
@@ -129,20 +132,16 @@ flat-map : {X : Type 0} (f : X → List (List Literal)) (xs : List X) → flat_m
 flat-map f [] = refl
 flat-map f (x ∷ xs) = ap (λ (t : List (List Literal)). f x ++ t) (flat-map f xs)
 
-flat-single : (f : ℕ → List Literal) (xs : List ℕ) → flat_map (λ (g : List (List Literal)). g) (map (λ x. f x ∷ []) xs) ≡ map f xs
-flat-single f [] = refl
-flat-single f (x ∷ xs) = ap (λ (t : List (List Literal)). f x ∷ t) (flat-single f xs)
-
 pub all_groups : (p : Program) → flat_map (λ (g : List (List Literal)). g) (groups p) ≡ completion p
 all_groups p =
     let flat : List (List (List Literal)) → List (List Literal) = flat_map (λ (g : List (List Literal)). g) in
     let bodies : List (List (List Literal)) = map (body_nogoods p) (bodies_of p) in
     let rules : List (List (List Literal)) = map (nogoods_of_rule p) (rules_in_force p) in
-    let atoms : List (List (List Literal)) = map (λ (a : ℕ). atom_nogood p a ∷ []) (atoms_of p) in
+    let atoms : List (List (List Literal)) = map (atom_nogoods p) (atoms_of p) in
     flat_map-append (λ (g : List (List Literal)). g) bodies (rules ++ atoms)
     ∙ ap (λ (t : List (List Literal)). flat bodies ++ t) (flat_map-append (λ (g : List (List Literal)). g) rules atoms)
     ∙ sym (append_assoc (flat bodies) (flat rules) (flat atoms))
-    ∙ rw (flat-map (body_nogoods p) (bodies_of p), flat-map (nogoods_of_rule p) (rules_in_force p), flat-single (atom_nogood p) (atoms_of p)) refl
+    ∙ rw (flat-map (body_nogoods p) (bodies_of p), flat-map (nogoods_of_rule p) (rules_in_force p), flat-map (atom_nogoods p) (atoms_of p)) refl
 
 -- those of the first groups, and of some more
 pub between_more : (p : Program) (from to : ℕ) → from ≤ to → nogoods_between p 0 to ≡ nogoods_between p 0 from ++ nogoods_between p from to

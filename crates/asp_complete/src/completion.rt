@@ -1,12 +1,12 @@
 //! The completion as a list of nogoods, or a part of it after another.
-ghost use Rattle.std.specs.Prelude.{◌≡◌, ◌+◌, ◌<◌, [], ◌∷◌, ◌++◌, IfOk, OnOk, All, map, length, slice_index_or, ◌≤◌};
+ghost use Rattle.std.specs.Prelude.{◌≡◌, ◌+◌, ◌<◌, ◌^◌, [], ◌∷◌, ◌++◌, IfOk, OnOk, All, map, length, slice_index_or, ◌≤◌};
 ghost use Rattle.asp_model.specs.declared.program.Program.{Program};
 ghost use Rattle.asp_model.specs.Models.{atoms_of, rules_in_force};
 ghost use Rattle.asp_vars.specs.Literals.{Literal, complement, has_literal};
 ghost use Rattle.asp_vars.specs.Numbering.{bodies_of, nth_atom, nth_body, nth_rule};
 ghost use Rattle.asp_vars.specs.Entailment.{Entailed};
 ghost use Rattle.asp_vars.specs.Completion.{atom_nogoods, body_nogoods, completion, rule_nogoods};
-ghost use Rattle.asp_complete.specs.Listed.{groups, nogoods_between, nogoods_of_rule, pure, parts};
+ghost use Rattle.asp_complete.specs.Listed.{groups, nogoods_between, nogoods_of_head, nogoods_of_rule, pure, parts, unless_it_has};
 ghost use Rattle.std.specs.Prelude.{IsTrue};
 ghost use Rattle.std.specs.List.{AllByRecursion};
 ghost use Rattle.asp_model.specs.Sets.{has};
@@ -114,7 +114,10 @@ fn add_head(
     nogoods: &mut Vec<Nogood>,
     body: Lit,
     head: Var,
-) -> Result<(), AllocError> {
+) -> Result<(), AllocError>
+    requires { head < 2 ^ 31 }
+    ensures { OnOk result (nogoods.new.items ≡ nogoods.old.items ++ map pure (nogoods_of_head body head)) }
+{
     let other = Lit::new(head, false);
     if body == other.complement() {
         return Ok(());
@@ -158,13 +161,20 @@ fn add_rule_at(
 fn has_literal(lits: &[Lit], wanted: Lit) -> bool
     ensures { result ≡ has_literal lits.now wanted }
 {
-    for lit in lits {
-        if *lit == wanted {
-            return true;
-        }
-    }
-    false
+    lits.iter().any(|lit| *lit == wanted)
 }
+
+// Adds the nogood, unless it has the literal.
+fn add_unless_it_has(nogoods: &mut Vec<Nogood>, lit: Lit, lits: Lits) -> Result<(), AllocError>
+    ensures { OnOk result (nogoods.new.items ≡ nogoods.old.items ++ map pure (unless_it_has lit lits)) }
+{
+    if has_literal(lits.as_slice(), lit) {
+        return Ok(());
+    }
+    push(nogoods, lits)
+}
+
+// That a true atom has a true body, unless it is one of its bodies.
 
 fn add_atom(
     alloc: Global,
@@ -178,11 +188,7 @@ fn add_atom(
     let _count = compiled.atom_count();
     let var = atom as u32 + 1;
     let lits = atom_nogood(alloc, compiled, var)?;
-    if has_literal(lits.as_slice(), Lit::new(var, false)) {
-        return Ok(());
-    }
-    push(nogoods, lits)?;
-    Ok(())
+    add_unless_it_has(nogoods, Lit::new(var, false), lits)
 }
 
 // Adds a group's nogoods.

@@ -10,3 +10,4 @@ pub mod ValuationLaws
 pub mod ValueLaws
 pub mod MergeLaws
 pub mod LeftLaws
+pub mod MisnamedLaws

@@ -1,7 +1,6 @@
 -- A set that hits no nogood of the completion is stable, or what it has beyond the least model of its reduct is unfounded.
-use Rattle.std.proofs.Common.{◌≡◌, ℕ, Bool, true, false, not, cond, ◌&&◌, ◌||◌, eqb, List, [], ◌∷◌, ◌++◌, map, filter, refl, sym, ap, ◌∙◌, subst}
+use Rattle.std.proofs.Common.{◌≡◌, ℕ, Bool, true, false, not, cond, ◌&&◌, ◌||◌, eqb, List, [], ◌∷◌, ◌++◌, filter, refl, sym, ap, ◌∙◌, subst}
 use Rattle.std.specs.List.{list_any, flat_map, AllByRecursion}
-use Rattle.std.specs.Bool.{beq}
 use Rattle.std.proofs.lemmas.Bool.{false≢true, and_from, or_parts, eqb-true, eq-eqb}
 use Rattle.asp_model.specs.declared.program.Head.{Head}
 use Rattle.asp_model.specs.declared.program.Head.TheVariants as head
@@ -19,12 +18,12 @@ use Rattle.asp_model.proofs.StepLaws.{closed_from_step}
 use Rattle.asp_model.proofs.ModelLaws.{least_model-least, least_model-ascends}
 use Rattle.asp_model.proofs.ReductLaws.{rules_in_force-heads}
 use Rattle.asp_model.proofs.ReadingLaws.{step_read, same_body}
-use Rattle.asp_vars.specs.Literals.{Literal, F, is_true, hits}
-use Rattle.asp_vars.specs.Numbering.{bodies_of, var_of_atom, literal_of_body, values}
-use Rattle.asp_vars.specs.Completion.{body_nogoods, rule_nogoods, atom_nogood, completion}
-use Rattle.asp_vars.proofs.NumberingLaws.{value-atom}
+use Rattle.asp_vars.specs.Literals.{Literal, T, F, literal_eq, is_true, hits}
+use Rattle.asp_vars.specs.Numbering.{bodies_of, var_of_atom, literal_of_body, values, IsReadBy}
+use Rattle.asp_vars.specs.Completion.{body_nogoods, rule_nogoods, atom_nogoods, completion}
+use Rattle.asp_vars.proofs.LiteralLaws.{same_literal}
 use Rattle.asp_vars.proofs.StandingLaws.{Among, each_among, back-append, each_both}
-use Rattle.asp_vars.proofs.CompletionLaws.{rule-true}
+use Rattle.asp_vars.proofs.CompletionLaws.{atom-true, atom-false, rule-true, unhit-read}
 use Rattle.asp_found.specs.Rests.{rest}
 
 -- no nogood of the list is hit
@@ -36,6 +35,14 @@ none_hit p S [] e = tt
 none_hit p S (n ∷ ns) e =
     let parts = or_parts (hits (values p S) n) (list_any (hits (values p S)) ns) e in (parts.0, none_hit p S ns parts.1)
 
+pub none_passes : {X : Type 0} (q : X → Bool) (xs : List X) → AllByRecursion (λ x. q x ≡ false) xs → list_any q xs ≡ false
+none_passes q [] h = refl
+none_passes q (x ∷ xs) h = ap (λ b. b || list_any q xs) h.0 ∙ none_passes q xs h.1
+
+-- names say of the set which bodies hold
+pub read_by : (p : Program) (S : Atoms) → NoneHit p S (completion p) → IsReadBy p S
+read_by p S unhit = unhit-read p S (none_passes (hits (values p S)) (completion p) unhit)
+
 pub each-unflat_map : {X Y : Type 0} (P : Y → Type 0) (f : X → List Y) (xs : List X) → AllByRecursion P (flat_map f xs) → AllByRecursion (λ x. AllByRecursion P (f x)) xs
 each-unflat_map P f [] h = tt
 each-unflat_map P f (x ∷ xs) h = (each-front P (f x) (flat_map f xs) h, each-unflat_map P f xs (back-append P (f x) (flat_map f xs) h))
@@ -46,35 +53,35 @@ rules_unhit p S h =
     let P : List Literal → Type 0 = λ n. hits (values p S) n ≡ false in
     let bodies : List (List Literal) = flat_map (body_nogoods p) (bodies_of p) in
     let rules : List (List Literal) = flat_map (λ (r : Rule). rule_nogoods p (literal_of_body p r.body) r.head) (rules_in_force p) in
-    let atoms : List (List Literal) = map (atom_nogood p) (atoms_of p) in
+    let atoms : List (List Literal) = flat_map (atom_nogoods p) (atoms_of p) in
     each-unflat_map P (λ (r : Rule). rule_nogoods p (literal_of_body p r.body) r.head) (rules_in_force p) (back-append P bodies rules (each-front P (bodies ++ rules) atoms h))
 
 not_false : (b : Bool) → (not b && true) ≡ false → b ≡ true
 not_false true e = refl
 not_false false e = absurd (false≢true (sym e))
 
-is_false_F : (p : Program) (S : Atoms) (a : ℕ) → has (atoms_of p) a ≡ true → is_true (values p S) (F (var_of_atom p a)) ≡ not (has S a)
-is_false_F p S a h = ap (λ v. beq v false) (value-atom p S a h) ∙ turned (has S a)
-  where
-    turned : (b : Bool) → beq b false ≡ not b
-    turned true = refl
-    turned false = refl
-
 -- what a rule derives from S is in S
-rule_keeps : (p : Program) (S : Atoms) (r : Rule) (h : Head) (a : ℕ) → Among (rules_in_force p) r → has (head_atoms h) a ≡ true → AllByRecursion (λ x. has (atoms_of p) x ≡ true) (head_atoms h) → NoneHit p S (rule_nogoods p (literal_of_body p r.body) h) → body_holds S r.body ≡ true → has (reduct_heads S h) a ≡ true → has S a ≡ true
-rule_keeps p S r (head.One b) a m in_head stand unhit holds_body in_reduct = cases (eqb b a) refl in_head
+rule_keeps : (p : Program) (S : Atoms) (r : Rule) (h : Head) (a : ℕ) → IsReadBy p S → Among (rules_in_force p) r → has (head_atoms h) a ≡ true → AllByRecursion (λ x. has (atoms_of p) x ≡ true) (head_atoms h) → NoneHit p S (rule_nogoods p (literal_of_body p r.body) h) → body_holds S r.body ≡ true → has (reduct_heads S h) a ≡ true → has S a ≡ true
+rule_keeps p S r (head.One b) a read m in_head stand unhit holds_body in_reduct = cases (eqb b a) refl in_head
   where
-    same : b ≡ a → has S a ≡ true
-    same e =
-        let first : is_true (values p S) (literal_of_body p r.body) ≡ true = rule-true p S r m ∙ holds_body in
-        let second : (is_true (values p S) (F (var_of_atom p b)) && true) ≡ false = sym (ap (λ x. x && (is_true (values p S) (F (var_of_atom p b)) && true)) first) ∙ unhit.0 in
-        let in_b : has S b ≡ true = not_false (has S b) (sym (ap (λ x. x && true) (is_false_F p S b stand.0)) ∙ second) in
-        subst (λ (x : ℕ). has S x ≡ true) e in_b
+    lit : Literal
+    lit = literal_of_body p r.body
+
+    first : is_true (values p S) lit ≡ true
+    first = rule-true p S read r m ∙ holds_body
+
+    -- where the head is the body's name, the body's literal is the head's
+    head_in : (t : Bool) → t ≡ literal_eq lit (T (var_of_atom p b)) → has S b ≡ true
+    head_in true q = sym (atom-true p S b stand.0) ∙ ap (is_true (values p S)) (sym (same_literal lit (T (var_of_atom p b)) (sym q))) ∙ first
+    head_in false q =
+        let listed : NoneHit p S ((lit ∷ F (var_of_atom p b) ∷ []) ∷ []) = subst (λ (t : Bool). NoneHit p S (cond t [] ((lit ∷ F (var_of_atom p b) ∷ []) ∷ []))) (sym q) unhit in
+        let second : (is_true (values p S) (F (var_of_atom p b)) && true) ≡ false = sym (ap (λ x. x && (is_true (values p S) (F (var_of_atom p b)) && true)) first) ∙ listed.0 in
+        not_false (has S b) (sym (ap (λ x. x && true) (atom-false p S b stand.0)) ∙ second)
 
     cases : (t : Bool) → t ≡ eqb b a → (eqb b a || false) ≡ true → has S a ≡ true
-    cases true q e = same (eqb-true b a (sym q))
+    cases true q e = subst (λ (x : ℕ). has S x ≡ true) (eqb-true b a (sym q)) (head_in (literal_eq lit (T (var_of_atom p b))) refl)
     cases false q e = absurd (false≢true (ap (λ x. x || false) q ∙ e))
-rule_keeps p S r (head.Choice xs) a m in_head stand unhit holds_body in_reduct = filtered xs in_reduct
+rule_keeps p S r (head.Choice xs) a read m in_head stand unhit holds_body in_reduct = filtered xs in_reduct
   where
     filtered : (ys : List ℕ) → has (filter (has S) ys) a ≡ true → has S a ≡ true
     filtered [] e = absurd (false≢true e)
@@ -87,7 +94,7 @@ rule_keeps p S r (head.Choice xs) a m in_head stand unhit holds_body in_reduct =
             here true u g = subst (λ (x : ℕ). has S x ≡ true) (eqb-true y a (sym u)) (sym q)
             here false u g = f (ap (λ t. t || has (filter (has S) ys) a) u ∙ g)
         cases false q f = f (ap (λ t. has (cond t (y ∷ filter (has S) ys) (filter (has S) ys)) a) q ∙ e)
-rule_keeps p S r head.Never a m in_head stand unhit holds_body in_reduct = absurd (false≢true in_head)
+rule_keeps p S r head.Never a read m in_head stand unhit holds_body in_reduct = absurd (false≢true in_head)
 
 derived_split : (S L : Atoms) (r : Rule) (a : ℕ) → has (derived_heads S L r) a ≡ true → (body_holds_between S L r.body ≡ true) × (has (reduct_heads S r.head) a ≡ true)
 derived_split S L r a h = cases (body_holds_between S L r.body) refl
@@ -147,30 +154,26 @@ least-within p S sound unhit =
     (each_weaker (λ r. (Among (rules_in_force p) r × AllByRecursion (λ x. has (atoms_of p) x ≡ true) (head_atoms r.head)) × NoneHit p S (rule_nogoods p (literal_of_body p r.body) r.head))
     (λ r. has (derived_heads S S r) a ≡ true → has S a ≡ true) (λ r f e.
     let parts = derived_split S S r a e in
-    rule_keeps p S r r.head a f.0.0 (reduct_in_heads S a r.head parts.1) f.0.1 f.1 (sym (same_body S r.body) ∙ parts.0) parts.1) (rules_in_force p)
+    rule_keeps p S r r.head a (read_by p S unhit) f.0.0 (reduct_in_heads S a r.head parts.1) f.0.1 f.1 (sym (same_body S r.body) ∙ parts.0) parts.1) (rules_in_force p)
     (each_both (λ r. Among (rules_in_force p) r × AllByRecursion (λ x. has (atoms_of p) x ≡ true) (head_atoms r.head)) (λ r. NoneHit p S (rule_nogoods p (literal_of_body p r.body) r.head)) (rules_in_force p)
     (each_both (Among (rules_in_force p)) (λ r. AllByRecursion (λ x. has (atoms_of p) x ≡ true) (head_atoms r.head)) (rules_in_force p) (each_among (rules_in_force p)) (heads_stand p)) (rules_unhit p S unhit)))
     (sym (list_any-flat_map (λ b. eqb b a) (derived_heads S S) (rules_in_force p)) ∙ sym (has-set_of (flat_map (derived_heads S S) (rules_in_force p)) a) ∙ ap (λ T. has T a) (sym (step_read S S (rules_in_force p))) ∙ h)))
 
 -- ---- no constraint is broken
-never_fails : (p : Program) (S : Atoms) (r : Rule) (h : Head) → Among (rules_in_force p) r → NoneHit p S (rule_nogoods p (literal_of_body p r.body) h) → (is_never h && body_holds S r.body) ≡ false
-never_fails p S r (head.One a) m u = refl
-never_fails p S r (head.Choice xs) m u = refl
-never_fails p S r head.Never m u =
-    sym (rule-true p S r m) ∙ true_last (is_true (values p S) (literal_of_body p r.body)) ∙ u.0
+never_fails : (p : Program) (S : Atoms) (r : Rule) (h : Head) → IsReadBy p S → Among (rules_in_force p) r → NoneHit p S (rule_nogoods p (literal_of_body p r.body) h) → (is_never h && body_holds S r.body) ≡ false
+never_fails p S r (head.One a) read m u = refl
+never_fails p S r (head.Choice xs) read m u = refl
+never_fails p S r head.Never read m u =
+    sym (rule-true p S read r m) ∙ true_last (is_true (values p S) (literal_of_body p r.body)) ∙ u.0
   where
     true_last : (b : Bool) → b ≡ (b && true)
     true_last true = refl
     true_last false = refl
 
-pub none_passes : {X : Type 0} (q : X → Bool) (xs : List X) → AllByRecursion (λ x. q x ≡ false) xs → list_any q xs ≡ false
-none_passes q [] h = refl
-none_passes q (x ∷ xs) h = ap (λ b. b || list_any q xs) h.0 ∙ none_passes q xs h.1
-
 unviolated : (p : Program) (S : Atoms) → NoneHit p S (completion p) → list_any (is_violated S) (rules_in_force p) ≡ false
 unviolated p S unhit =
     none_passes (is_violated S) (rules_in_force p)
-    (each_weaker (λ r. Among (rules_in_force p) r × NoneHit p S (rule_nogoods p (literal_of_body p r.body) r.head)) (λ r. is_violated S r ≡ false) (λ r f. never_fails p S r r.head f.0 f.1) (rules_in_force p)
+    (each_weaker (λ r. Among (rules_in_force p) r × NoneHit p S (rule_nogoods p (literal_of_body p r.body) r.head)) (λ r. is_violated S r ≡ false) (λ r f. never_fails p S r r.head (read_by p S unhit) f.0 f.1) (rules_in_force p)
     (each_both (Among (rules_in_force p)) (λ r. NoneHit p S (rule_nogoods p (literal_of_body p r.body) r.head)) (rules_in_force p) (each_among (rules_in_force p)) (rules_unhit p S unhit)))
 
 -- ---- no rest

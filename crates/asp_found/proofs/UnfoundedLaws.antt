@@ -25,7 +25,7 @@ use Rattle.asp_model.proofs.MemberLaws.{list_any-flat_map, each_weaker}
 use Rattle.asp_model.proofs.ModelLaws.{least_model-derived}
 use Rattle.asp_model.proofs.ReadingLaws.{step_read}
 use Rattle.asp_vars.specs.Literals.{Literal, complement, is_true, agrees, holds_in}
-use Rattle.asp_vars.specs.Numbering.{normal, body_eq, bodies_of, wide_bodies, place_of, var_of_atom, literal_of_form, literal_of, values}
+use Rattle.asp_vars.specs.Numbering.{normal, body_eq, bodies_of, apart_bodies, place_of, var_of_atom, literal_of_form, literal_of, values, IsReadBy}
 use Rattle.asp_vars.specs.Completion.{completion}
 use Rattle.asp_vars.specs.Unfounded.{assigned, is_false, is_inside, outside_weight, needs, is_excused, is_unfounded}
 use Rattle.asp_vars.proofs.LiteralLaws.{and_left, and_right, is_true-complement}
@@ -35,7 +35,7 @@ use Rattle.asp_vars.proofs.StandingLaws.{Among, each_among, rule_has_form, norma
 use Rattle.asp_vars.proofs.CompletionLaws.{literal-holds, form-false}
 use Rattle.asp_vars.proofs.RowLaws.{form_literal}
 use Rattle.asp_found.specs.Rests.{rest}
-use Rattle.asp_found.proofs.RestLaws.{NoneHit, least-within, stable_without_rest, has-filter_from, has-filtered}
+use Rattle.asp_found.proofs.RestLaws.{NoneHit, read_by, least-within, stable_without_rest, has-filter_from, has-filtered}
 
 -- ---- what the least model derives
 least-read : (p : Program) (S : Atoms) (a : ℕ) → IsSound p → has (least_model p S) a ≡ list_any (λ r. has (derived_heads S (least_model p S) r) a) (rules_in_force p)
@@ -67,11 +67,11 @@ place_of-lt test (x ∷ xs) e = cases (test x) refl (place_of-lt test xs)
     cases true q f = omega arith
     cases false q f = let h = f (ap (λ b. b || list_any test xs) q ∙ e) in omega (arith, h)
 
-length-values : (p : Program) (S : Atoms) → length (values p S) ≡ suc (length (atoms_of p) + length (wide_bodies p))
+length-values : (p : Program) (S : Atoms) → length (values p S) ≡ suc (length (atoms_of p) + length (apart_bodies p))
 length-values p S =
-    let a = length-append (map (has S) (atoms_of p)) (map (body_holds S) (wide_bodies p)) in
+    let a = length-append (map (has S) (atoms_of p)) (map (body_holds S) (apart_bodies p)) in
     let b = length-map (atoms_of p) (has S) in
-    let c = length-map (wide_bodies p) (body_holds S) in
+    let c = length-map (apart_bodies p) (body_holds S) in
     omega (arith, a, b, c)
 
 form_within : (p : Program) (S : Atoms) (b : Body) → list_any (body_eq b) (bodies_of p) ≡ true → (literal_of_form p b).var < length (values p S)
@@ -148,11 +148,11 @@ body_needs p S (body.All ls) within stands h e = needs_rest p S ls h e
 body_needs p S (body.AtLeast c items) within stands h e =
     ap (λ w. int_lt w c) (outside-rest p S items within stands) ∙ below_bound c (weight_between S (least_model p S) items) e
 
-body_excused : (p : Program) (S : Atoms) (b : Body) → IsSubset (least_model p S) S → Stands (atoms_of p) b → list_any (body_eq b) (bodies_of p) ≡ true → body_holds_between S (least_model p S) b ≡ false → is_excused p (assigned p S) (rest p S) b ≡ true
-body_excused p S b within stands has_var e = cases (body_holds S b) refl
+body_excused : (p : Program) (S : Atoms) (b : Body) → IsReadBy p S → IsSubset (least_model p S) S → Stands (atoms_of p) b → list_any (body_eq b) (bodies_of p) ≡ true → body_holds_between S (least_model p S) b ≡ false → is_excused p (assigned p S) (rest p S) b ≡ true
+body_excused p S b read within stands has_var e = cases (body_holds S b) refl
   where
     first : holds_in (assigned p S) (complement (literal_of_form p b)) ≡ not (body_holds S b)
-    first = assigned-holds p S (complement (literal_of_form p b)) (form_within p S b has_var) ∙ form-false p S b has_var
+    first = assigned-holds p S (complement (literal_of_form p b)) (form_within p S b has_var) ∙ form-false p S read b has_var
 
     skip : (x y : Bool) → y ≡ true → (x || y) ≡ true
     skip true y e = refl
@@ -187,13 +187,13 @@ nonempty : (xs : List ℕ) → (xs ≡ [] → ⊥) → ltb 0 (length xs) ≡ tru
 nonempty [] f = absurd (f refl)
 nonempty (x ∷ xs) f = grind (arith, nat_tests)
 
-rule_excused : (p : Program) (S : Atoms) (r : Rule) → IsSound p → IsSubset (least_model p S) S → Among (rules_in_force p) r → Stands (atoms_of p) (normal r.body) → list_any (has (rest p S)) (head_atoms r.head) ≡ true → is_excused p (assigned p S) (rest p S) (normal r.body) ≡ true
-rule_excused p S r sound within m stands e =
+rule_excused : (p : Program) (S : Atoms) (r : Rule) → IsSound p → IsReadBy p S → IsSubset (least_model p S) S → Among (rules_in_force p) r → Stands (atoms_of p) (normal r.body) → list_any (has (rest p S)) (head_atoms r.head) ≡ true → is_excused p (assigned p S) (rest p S) (normal r.body) ≡ true
+rule_excused p S r sound read within m stands e =
     let found = any_member (has (rest p S)) (head_atoms r.head) e in
     let parts = has-filtered (λ x. not (has (least_model p S) x)) S found.0 found.2 in
     let lacks : has (least_model p S) found.0 ≡ false = not_true (has (least_model p S) found.0) parts.1 in
     let fails : body_holds_between S (least_model p S) r.body ≡ false = body_fails p S r found.0 sound m found.1 parts.0 lacks in
-    body_excused p S (normal r.body) within stands (rule_has_form p r m) (body_holds_between-normal S (least_model p S) r.body ∙ fails)
+    body_excused p S (normal r.body) read within stands (rule_has_form p r m) (body_holds_between-normal S (least_model p S) r.body ∙ fails)
   where
     not_true : (b : Bool) → not b ≡ true → b ≡ false
     not_true true e = absurd (false≢true e)
@@ -207,5 +207,5 @@ rest_unfounded p S sound up unhit unstable =
     (all_pass (λ r. not (list_any (has (rest p S)) (head_atoms r.head)) || is_excused p (assigned p S) (rest p S) (normal r.body)) (rules_in_force p)
     (each_weaker (λ r. Among (rules_in_force p) r × AllByRecursion (λ a. has (atoms_of p) a ≡ true) (body_atoms r.body))
     (λ r. (not (list_any (has (rest p S)) (head_atoms r.head)) || is_excused p (assigned p S) (rest p S) (normal r.body)) ≡ true) (λ r f.
-    or_when (list_any (has (rest p S)) (head_atoms r.head)) (is_excused p (assigned p S) (rest p S) (normal r.body)) (rule_excused p S r sound within f.0 (normal-stands (atoms_of p) r.body f.1))) (rules_in_force p)
+    or_when (list_any (has (rest p S)) (head_atoms r.head)) (is_excused p (assigned p S) (rest p S) (normal r.body)) (rule_excused p S r sound (read_by p S unhit) within f.0 (normal-stands (atoms_of p) r.body f.1))) (rules_in_force p)
     (each_both (Among (rules_in_force p)) (λ r. AllByRecursion (λ a. has (atoms_of p) a ≡ true) (body_atoms r.body)) (rules_in_force p) (each_among (rules_in_force p)) (rules_in_force-bodies p))))

@@ -18,15 +18,15 @@ use Rattle.asp_model.specs.Sound.{IsSound}
 use Rattle.asp_model.proofs.SetLaws.{IsAscending-set_of}
 use Rattle.asp_model.proofs.MemberLaws.{each-front, HasAll-itself}
 use Rattle.asp_vars.specs.Literals.{Literal, T, complement, is_true, hits}
-use Rattle.asp_vars.specs.Numbering.{body_eq, bodies_of, is_wide, wide_bodies, var_count, var_of_atom, var_of_form, literal_of_form, literal_of_body, literal_of, values, nth_atom}
-use Rattle.asp_vars.specs.Completion.{is_barred, defining_nogoods, normal_nogoods, body_nogoods, rule_nogoods, atom_nogood, completion}
+use Rattle.asp_vars.specs.Numbering.{body_eq, bodies_of, is_wide, is_nameless, names, is_apart, apart_bodies, var_count, var_of_atom, var_of_form, literal_of_form, literal_of_body, literal_of, values, nth_atom}
+use Rattle.asp_vars.specs.Completion.{is_barred, defining_nogoods, normal_nogoods, body_nogoods, rule_nogoods, atom_nogoods, completion}
 use Rattle.asp_vars.specs.Tabled.{Stands}
 use Rattle.asp_vars.specs.Unfounded.{is_unfounded}
-use Rattle.asp_vars.proofs.LiteralLaws.{is_true-complement}
-use Rattle.asp_vars.proofs.NumberingLaws.{value-atom, value-form, wide_among}
+use Rattle.asp_vars.proofs.LiteralLaws.{is_true-complement, and_left}
+use Rattle.asp_vars.proofs.NumberingLaws.{value-atom, value-form}
 use Rattle.asp_vars.proofs.HeldLaws.{literal_by-wide}
 use Rattle.asp_vars.proofs.SupportLaws.{each-filter}
-use Rattle.asp_vars.proofs.PlaceLaws.{at_each, var_of_nth_atom, var_of_nth_wide}
+use Rattle.asp_vars.proofs.PlaceLaws.{at_each, var_of_nth_atom, var_of_nth_apart}
 use Rattle.asp_vars.proofs.CompletionLaws.{body_nogoods-wide, normal_nogoods-barred, normal_nogoods-defining, barred_by}
 use Rattle.asp_vars.proofs.StandingLaws.{back-append, each_both, bodies_of-stand, bodies_of-themselves}
 use Rattle.asp_loop.proofs.FoundedLaws.{has-filter}
@@ -51,7 +51,7 @@ rules_unhit p v e =
     let P : List Literal → Type 0 = λ n. hits v n ≡ false in
     let bodies : List (List Literal) = flat_map (body_nogoods p) (bodies_of p) in
     let rules : List (List Literal) = flat_map (λ (r : Rule). rule_nogoods p (literal_of_body p r.body) r.head) (rules_in_force p) in
-    let atoms : List (List Literal) = map (atom_nogood p) (atoms_of p) in
+    let atoms : List (List Literal) = flat_map (atom_nogoods p) (atoms_of p) in
     each-unflat_map P (λ (r : Rule). rule_nogoods p (literal_of_body p r.body) r.head) (rules_in_force p) (back-append P bodies rules (each-front P (bodies ++ rules) atoms (unhit v (completion p) e)))
 
 bodies_unhit : (p : Program) (v : List Bool) → list_any (hits v) (completion p) ≡ false → AllByRecursion (λ b. Unhit v (body_nogoods p b)) (bodies_of p)
@@ -59,7 +59,7 @@ bodies_unhit p v e =
     let P : List Literal → Type 0 = λ n. hits v n ≡ false in
     let bodies : List (List Literal) = flat_map (body_nogoods p) (bodies_of p) in
     let rules : List (List Literal) = flat_map (λ (r : Rule). rule_nogoods p (literal_of_body p r.body) r.head) (rules_in_force p) in
-    let atoms : List (List Literal) = map (atom_nogood p) (atoms_of p) in
+    let atoms : List (List Literal) = flat_map (atom_nogoods p) (atoms_of p) in
     each-unflat_map P (body_nogoods p) (bodies_of p) (each-front P bodies rules (each-front P (bodies ++ rules) atoms (unhit v (completion p) e)))
 
 -- ---- literals
@@ -144,9 +144,9 @@ form_value p v (body.AtLeast bound items) wide rules keeps listed stand h = sym 
 -- ---- all values
 values-length : (p : Program) (S : Atoms) → length (values p S) ≡ suc (var_count p)
 values-length p S =
-    let whole = length-append (map (has S) (atoms_of p)) (map (body_holds S) (wide_bodies p)) in
+    let whole = length-append (map (has S) (atoms_of p)) (map (body_holds S) (apart_bodies p)) in
     let atoms = length-map (atoms_of p) (has S) in
-    let bodies = length-map (wide_bodies p) (body_holds S) in
+    let bodies = length-map (apart_bodies p) (body_holds S) in
     omega (arith, whole, atoms, bodies)
 
 pub values_are : (p : Program) (v : List Bool) → IsValuation p v → list_any (hits v) (completion p) ≡ false → KeepsWeights p v → v ≡ values p (true_atoms p v)
@@ -159,17 +159,17 @@ values_are p v is e keeps = ext_get_or false v (values p (true_atoms p v)) (is.s
         subst (λ (n : ℕ). get_or v n false ≡ get_or (values p (true_atoms p v)) n false) (var_of_nth_atom p i lt)
         (atom_value p v a stands ∙ sym (value-atom p (true_atoms p v) a stands))
 
-    body_at : (j : ℕ) → j < length (wide_bodies p) → get_or v (suc (length (atoms_of p) + j)) false ≡ get_or (values p (true_atoms p v)) (suc (length (atoms_of p) + j)) false
+    body_at : (j : ℕ) → j < length (apart_bodies p) → get_or v (suc (length (atoms_of p) + j)) false ≡ get_or (values p (true_atoms p v)) (suc (length (atoms_of p) + j)) false
     body_at j lt =
         let Is : Body → Type 0 = λ b. ((list_any (body_eq b) (bodies_of p) ≡ true) × Stands (atoms_of p) b) × Unhit v (body_nogoods p b) in
-        let b : Body = get_or (wide_bodies p) j (body.All []) in
+        let b : Body = get_or (apart_bodies p) j (body.All []) in
         let all : AllByRecursion Is (bodies_of p) =
         each_both (λ b. (list_any (body_eq b) (bodies_of p) ≡ true) × Stands (atoms_of p) b) (λ b. Unhit v (body_nogoods p b)) (bodies_of p)
         (each_both (λ b. list_any (body_eq b) (bodies_of p) ≡ true) (Stands (atoms_of p)) (bodies_of p) (bodies_of-themselves p) (bodies_of-stand p)) (bodies_unhit p v e) in
-        let is : Is b × (is_wide b ≡ true) = at_each (λ c. Is c × (is_wide c ≡ true)) (wide_bodies p) j (body.All []) (each-filter Is is_wide (bodies_of p) all) lt in
+        let is : Is b × (is_apart p b ≡ true) = at_each (λ c. Is c × (is_apart p c ≡ true)) (apart_bodies p) j (body.All []) (each-filter Is (is_apart p) (bodies_of p) all) lt in
         let listed : list_any (body_eq b) (bodies_of p) ≡ true = is.0.0.0 in
-        subst (λ (n : ℕ). get_or v n false ≡ get_or (values p (true_atoms p v)) n false) (var_of_nth_wide p j lt)
-        (form_value p v b is.1 (rules_unhit p v e) keeps listed is.0.0.1 is.0.1 ∙ sym (value-form p (true_atoms p v) b (wide_among b (bodies_of p) is.1 listed)))
+        subst (λ (n : ℕ). get_or v n false ≡ get_or (values p (true_atoms p v)) n false) (var_of_nth_apart p j lt)
+        (form_value p v b (and_left (is_wide b) (is_nameless (names p b)) is.1) (rules_unhit p v e) keeps listed is.0.0.1 is.0.1 ∙ sym (value-form p (true_atoms p v) b is.1 listed))
 
     at : (i : ℕ) → i < suc (var_count p) → get_or v i false ≡ get_or (values p (true_atoms p v)) i false
     at zero lt = is.first

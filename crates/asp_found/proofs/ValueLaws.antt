@@ -13,7 +13,7 @@ use Rattle.asp_model.specs.Models.{rules_in_force, atoms_of}
 use Rattle.asp_model.proofs.MemberLaws.{HasAll-itself}
 use Rattle.asp_model.proofs.ReadingLaws.{same_body}
 use Rattle.asp_vars.specs.Literals.{Literal, complement, hits, is_true}
-use Rattle.asp_vars.specs.Numbering.{bodies_of, is_wide, wide_bodies, var_count, var_of_atom, form_at, literal_of_form, literal_of_body, values, nth_atom, nth_body, nth_rule}
+use Rattle.asp_vars.specs.Numbering.{bodies_of, is_apart, apart_bodies, var_count, var_of_atom, form_at, literal_of_form, literal_of_body, values, nth_atom, nth_body, nth_rule, IsReadBy}
 use Rattle.asp_vars.specs.Completion.{supports, support_bodies}
 use Rattle.asp_vars.proofs.NumberingLaws.{get_or-place_of, value-atom}
 use Rattle.asp_vars.proofs.LiteralLaws.{is_true-complement}
@@ -37,19 +37,19 @@ pub begun_size : (p : Program) (S : Atoms) (V ys : List Bool) → V ≡ (false �
 begun_size p S V ys is =
     let a = ap length is in let b = length-append (false ∷ map (has S) (atoms_of p)) ys in let c = length-map (atoms_of p) (has S) in omega (arith, a, b, c)
 
-pub value_more : (p : Program) (S : Atoms) (V W : List Bool) (j : ℕ) → j < length (bodies_of p) → V ≡ (false ∷ map (has S) (atoms_of p)) ++ map (body_holds S) (filter is_wide (take j (bodies_of p))) → W ≡ V ++ map (marks_hold p V V) (filter is_wide (nth_body p j ∷ [])) → W ≡ (false ∷ map (has S) (atoms_of p)) ++ map (body_holds S) (filter is_wide (take (j + 1) (bodies_of p)))
+pub value_more : (p : Program) (S : Atoms) (V W : List Bool) (j : ℕ) → j < length (bodies_of p) → V ≡ (false ∷ map (has S) (atoms_of p)) ++ map (body_holds S) (filter (is_apart p) (take j (bodies_of p))) → W ≡ V ++ map (marks_hold p V V) (filter (is_apart p) (nth_body p j ∷ [])) → W ≡ (false ∷ map (has S) (atoms_of p)) ++ map (body_holds S) (filter (is_apart p) (take (j + 1) (bodies_of p)))
 value_more p S V W j lt is new =
     let b : Body = nth_body p j in
-    let before : List Body = filter is_wide (take j (bodies_of p)) in
+    let before : List Body = filter (is_apart p) (take j (bodies_of p)) in
     let shows : Shows p S V = begun_shows p S V (map (body_holds S) before) is in
     let holds : marks_hold p V V b ≡ body_holds S b = marks_link p S S V V b shows shows (body_stands p j lt) ∙ same_body S b in
     let marks : List Bool = false ∷ map (has S) (atoms_of p) in
     new
-    ∙ ap (λ ys. V ++ ys) (one (is_wide b) b holds)
-    ∙ ap (λ U. U ++ map (body_holds S) (filter is_wide (b ∷ []))) is
-    ∙ append_assoc marks (map (body_holds S) before) (map (body_holds S) (filter is_wide (b ∷ [])))
-    ∙ ap (λ ys. marks ++ ys) (sym (map-append (body_holds S) before (filter is_wide (b ∷ []))))
-    ∙ ap (λ bs. marks ++ map (body_holds S) bs) (sym (filter_more is_wide (bodies_of p) j (body.All []) lt))
+    ∙ ap (λ ys. V ++ ys) (one (is_apart p b) b holds)
+    ∙ ap (λ U. U ++ map (body_holds S) (filter (is_apart p) (b ∷ []))) is
+    ∙ append_assoc marks (map (body_holds S) before) (map (body_holds S) (filter (is_apart p) (b ∷ [])))
+    ∙ ap (λ ys. marks ++ ys) (sym (map-append (body_holds S) before (filter (is_apart p) (b ∷ []))))
+    ∙ ap (λ bs. marks ++ map (body_holds S) bs) (sym (filter_more (is_apart p) (bodies_of p) j (body.All []) lt))
   where
     one : (t : Bool) (b : Body) → marks_hold p V V b ≡ body_holds S b → map (marks_hold p V V) (cond t (b ∷ []) []) ≡ map (body_holds S) (cond t (b ∷ []) [])
     one true b h = ap (λ v. v ∷ []) h
@@ -61,16 +61,16 @@ take_whole [] (suc n) h = refl
 take_whole (x ∷ xs) zero h = absurd (omega arith)
 take_whole (x ∷ xs) (suc n) h = ap (λ ys. x ∷ ys) (take_whole xs n (omega arith))
 
-pub value_all : (p : Program) (S : Atoms) (V : List Bool) (j : ℕ) → length (bodies_of p) ≤ j → V ≡ (false ∷ map (has S) (atoms_of p)) ++ map (body_holds S) (filter is_wide (take j (bodies_of p))) → V ≡ values p S
-value_all p S V j end is = is ∙ ap (λ bs. (false ∷ map (has S) (atoms_of p)) ++ map (body_holds S) (filter is_wide bs)) (take_whole (bodies_of p) j end)
+pub value_all : (p : Program) (S : Atoms) (V : List Bool) (j : ℕ) → length (bodies_of p) ≤ j → V ≡ (false ∷ map (has S) (atoms_of p)) ++ map (body_holds S) (filter (is_apart p) (take j (bodies_of p))) → V ≡ values p S
+value_all p S V j end is = is ∙ ap (λ bs. (false ∷ map (has S) (atoms_of p)) ++ map (body_holds S) (filter (is_apart p) bs)) (take_whole (bodies_of p) j end)
 
 -- ---- what they say
 pub value_count : (p : Program) (S : Atoms) (V : List Bool) → V ≡ values p S → length V ≡ suc (var_count p)
 value_count p S V is =
-    let a = ap length is in let b = length-append (map (has S) (atoms_of p)) (map (body_holds S) (wide_bodies p)) in let c = length-map (atoms_of p) (has S) in let d = length-map (wide_bodies p) (body_holds S) in omega (arith, a, b, c, d)
+    let a = ap length is in let b = length-append (map (has S) (atoms_of p)) (map (body_holds S) (apart_bodies p)) in let c = length-map (atoms_of p) (has S) in let d = length-map (apart_bodies p) (body_holds S) in omega (arith, a, b, c, d)
 
 pub values_show : (p : Program) (S : Atoms) (V : List Bool) → V ≡ values p S → Shows p S V
-values_show p S V is = begun_shows p S V (map (body_holds S) (wide_bodies p)) is
+values_show p S V is = begun_shows p S V (map (body_holds S) (apart_bodies p)) is
 
 pub atom_value : (p : Program) (S : Atoms) (V : List Bool) (i : ℕ) → V ≡ values p S → i < length (atoms_of p) → is_marked V (i + 1) ≡ has S (nth_atom p i)
 atom_value p S V i is lt =
@@ -81,8 +81,8 @@ atom_value p S V i is lt =
 pub nth_among : (p : Program) (i : ℕ) → i < length (rules_in_force p) → Among (rules_in_force p) (nth_rule p i)
 nth_among p i lt = at_each (Among (rules_in_force p)) (rules_in_force p) i _ (each_among (rules_in_force p)) lt
 
-pub rule_value : (p : Program) (S : Atoms) (V : List Bool) (i : ℕ) (l : Literal) → V ≡ values p S → i < length (rules_in_force p) → l ≡ literal_of_body p (nth_rule p i).body → is_true V l ≡ body_holds S (nth_rule p i).body
-rule_value p S V i l is lt lit = ap (λ U. is_true U l) is ∙ ap (is_true (values p S)) lit ∙ rule-true p S (nth_rule p i) (nth_among p i lt)
+pub rule_value : (p : Program) (S : Atoms) (V : List Bool) (i : ℕ) (l : Literal) → V ≡ values p S → IsReadBy p S → i < length (rules_in_force p) → l ≡ literal_of_body p (nth_rule p i).body → is_true V l ≡ body_holds S (nth_rule p i).body
+rule_value p S V i l is read lt lit = ap (λ U. is_true U l) is ∙ ap (is_true (values p S)) lit ∙ rule-true p S read (nth_rule p i) (nth_among p i lt)
 
 any_not_hit : (V : List Bool) (f : ℕ → Literal) (ns : List ℕ) → list_any (λ n. is_true V (f n)) ns ≡ not (hits V (map (λ n. complement (f n)) ns))
 any_not_hit V f [] = refl
@@ -95,8 +95,8 @@ any_not_hit V f (n ∷ ns) =
     turned true b = refl
     turned false b = refl
 
-pub supported_is : (p : Program) (S : Atoms) (V : List Bool) (a : ℕ) (numbers : List ℕ) → V ≡ values p S → numbers ≡ supports p a → list_any (λ n. is_true V (literal_of_form p (form_at p n))) numbers ≡ is_supported p S a
-supported_is p S V a numbers is row =
+pub supported_is : (p : Program) (S : Atoms) (V : List Bool) (a : ℕ) (numbers : List ℕ) → V ≡ values p S → IsReadBy p S → numbers ≡ supports p a → list_any (λ n. is_true V (literal_of_form p (form_at p n))) numbers ≡ is_supported p S a
+supported_is p S V a numbers is read row =
     ap (λ U. list_any (λ n. is_true U (literal_of_form p (form_at p n))) numbers) is
     ∙ ap (list_any (λ n. is_true (values p S) (literal_of_form p (form_at p n)))) row
     ∙ any_not_hit (values p S) (λ n. literal_of_form p (form_at p n)) (supports p a)
@@ -107,6 +107,6 @@ supported_is p S V a numbers is row =
     others = map (λ b. complement (literal_of_form p b)) (support_bodies p a)
 
     cases : (s h : Bool) → s ≡ is_supported p S a → h ≡ hits (values p S) others → not (hits (values p S) others) ≡ is_supported p S a
-    cases true true q r = absurd (supports_unhit p S a (sym r) (sym q))
+    cases true true q r = absurd (supports_unhit p S a read (sym r) (sym q))
     cases true false q r = ap not (sym r) ∙ q
-    cases false h q r = ap not (supports_hit p S a (sym q)) ∙ q
+    cases false h q r = ap not (supports_hit p S a read (sym q)) ∙ q

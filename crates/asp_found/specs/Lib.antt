@@ -4,3 +4,4 @@ pub mod Marks
 pub mod Derivings
 pub mod Valuations
 pub mod Merges
+pub mod Misnamed

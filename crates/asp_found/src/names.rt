@@ -1,6 +1,8 @@
-//! Bodies that aren't what their names say.
-ghost use Rattle.std.specs.Prelude.{◌≡◌, ◌<◌, IfOk, MatchOption, IsTrue, length};
-ghost use Rattle.asp_vars.specs.Numbering.{bodies_of, values, IsReadBy};
+//! Bodies that aren't what their literals say: where a body's name is an atom, a set may have the one without the other.
+ghost use Rattle.std.specs.Prelude.{◌≡◌, ◌∷◌, suc, ◌<◌, All, IfOk, MatchOption, length};
+ghost use Rattle.asp_vars.specs.declared.nogood.Base.TheVariants as base;
+ghost use Rattle.asp_vars.specs.Numbering.{bodies_of, nth_body, values, var_count, IsReadBy};
+ghost use Rattle.asp_found.specs.Misnamed.{first_false, holding_literals, lacking_literals, misnamed_literals};
 ghost use Rattle.asp_found.specs.Verdicts.{IsBroken};
 
 use crate::marks::holds;
@@ -11,8 +13,11 @@ use asp_vars::lit::Lit;
 use asp_vars::nogood::{Base, Lits, Nogood};
 use std::alloc::{AllocError, Global};
 
-// The first of the literals that doesn't hold.
-fn failing(truths: &[bool], lits: &[Lit]) -> Option<Lit> {
+// The first of the literals that isn't true.
+fn first_false(truths: &[bool], lits: &[Lit]) -> Option<Lit>
+    requires { All (λ l. l.var < length truths.now) lits.now }
+    ensures { result ≡ first_false truths.now lits.now }
+{
     for lit in lits {
         if !is_met(truths, *lit) {
             return Some(*lit);
@@ -21,42 +26,65 @@ fn failing(truths: &[bool], lits: &[Lit]) -> Option<Lit> {
     None
 }
 
-// Of a body that holds where its name isn't in the set: its name is, or a constraint has it.
-fn holding(alloc: Global, compiled: &Compiled, body: usize) -> Result<Lits, AllocError> {
+// The first literal, and then the others.
+fn with_first(alloc: Global, first: Lit, others: &[Lit]) -> Result<Lits, AllocError>
+    ensures { IfOk result (λ lits. lits ≡ first ∷ others.now) }
+{
     let mut lits = Lits::new(alloc);
-    if !compiled.is_barred(body) {
-        lits.push(compiled.body_lit(body).complement())?;
-    }
-    for lit in compiled.literals(body) {
-        lits.push(*lit)?;
+    lits.push(first)?;
+    for other in others {
+        lits.push(*other)?;
     }
     Ok(lits)
 }
 
-// Of a body that doesn't hold where its name is in the set: each of its literals holds, or a constraint has it.
+// Of a body that holds, and whose literal is false.
+fn holding(alloc: Global, compiled: &Compiled, body: usize) -> Result<Lits, AllocError>
+    requires { body < length (bodies_of compiled.now) }
+    ensures { IfOk result (λ lits. lits ≡ holding_literals compiled.now (nth_body compiled.now body)) }
+{
+    let lits = compiled.literals(body);
+    if compiled.is_barred(body) {
+        Lits::from_slice(alloc, lits)
+    } else {
+        with_first(alloc, compiled.body_lit(body).complement(), lits)
+    }
+}
+
+// Of a body that doesn't hold, and whose literal is true.
 fn lacking(
     alloc: Global,
     compiled: &Compiled,
     truths: &[bool],
     body: usize,
-) -> Result<Lits, AllocError> {
+) -> Result<Lits, AllocError>
+    requires body { body < length (bodies_of compiled.now) }
+    requires truths { length truths.now ≡ suc (var_count compiled.now) }
+    ensures { IfOk result (λ lits. lits ≡ lacking_literals compiled.now truths.now (nth_body compiled.now body)) }
+{
     let mut lits = Lits::new(alloc);
     lits.push(compiled.body_lit(body))?;
-    if !compiled.is_barred(body) {
-        if let Some(lit) = failing(truths, compiled.literals(body)) {
-            lits.push(lit.complement())?;
-        }
+    if compiled.is_barred(body) {
+        return Ok(lits);
+    }
+    if let Some(lit) = first_false(truths, compiled.literals(body)) {
+        lits.push(lit.complement())?;
     }
     Ok(lits)
 }
 
+// The nogood of a body that isn't what its literal says, by whether the body holds.
 fn body_nogood(
     alloc: Global,
     compiled: &Compiled,
     truths: &[bool],
     body: usize,
     holds: bool,
-) -> Result<Nogood, AllocError> {
+) -> Result<Nogood, AllocError>
+    requires body { body < length (bodies_of compiled.now) }
+    requires truths { length truths.now ≡ suc (var_count compiled.now) }
+    ensures { IfOk result (λ n. n ≡ record { lits = misnamed_literals compiled.now truths.now (nth_body compiled.now body) holds; base = base.Pure }) }
+{
     let lits = if holds {
         holding(alloc, compiled, body)?
     } else {
@@ -68,7 +96,7 @@ fn body_nogood(
     })
 }
 
-/// A nogood of a body that holds where its name isn't in the set, or whose name is in the set where it doesn't hold, if there is one.
+/// A nogood of a body that isn't what its literal says, if there is one.
 pub fn misnamed_body(
     alloc: Global,
     compiled: &Compiled,

@@ -19,7 +19,7 @@ use Rattle.asp_model.specs.Sound.{IsSound}
 use Rattle.asp_model.proofs.SetLaws.{has-set_of}
 use Rattle.asp_model.proofs.MemberLaws.{list_any-flat_map}
 use Rattle.asp_vars.specs.Literals.{Literal, T, complement, is_true, hits, has_literal}
-use Rattle.asp_vars.specs.Numbering.{normal, body_eq, bodies_of, var_of_atom, literal_of_form, literal_of, values}
+use Rattle.asp_vars.specs.Numbering.{normal, body_eq, bodies_of, var_of_atom, literal_of_form, literal_of, values, IsReadBy}
 use Rattle.asp_vars.specs.Tabled.{Stands}
 use Rattle.asp_vars.specs.Entailment.{Entailed}
 use Rattle.asp_vars.specs.Unfounded.{is_inside}
@@ -27,7 +27,7 @@ use Rattle.asp_vars.proofs.LiteralLaws.{and_left, and_right, hits-append, hits-h
 use Rattle.asp_vars.proofs.NormalLaws.{body_holds_between-normal}
 use Rattle.asp_vars.proofs.NumberingLaws.{same_body, body_eq-itself}
 use Rattle.asp_vars.proofs.StandingLaws.{Among, each_among, rule_has_form, normal-stands, rules_in_force-bodies, each_both}
-use Rattle.asp_vars.proofs.CompletionLaws.{literal-holds, form-false, atom-true}
+use Rattle.asp_vars.proofs.CompletionLaws.{literal-holds, form-false, atom-true, stable-read}
 use Rattle.asp_vars.proofs.SupportLaws.{some}
 use Rattle.asp_loop.specs.LoopNogoods.{supports_some, weight_where, is_left, IsChosen, IsPart, AreParts, AreSupports}
 use Rattle.asp_loop.specs.Founded.{without}
@@ -111,9 +111,9 @@ turned : (b : Bool) → b ≡ false → not b ≡ true
 turned true e = absurd (false≢true (sym e))
 turned false e = refl
 
-body_not_false : (p : Program) (S T U : Atoms) (b : Body) → list_any (body_eq b) (bodies_of p) ≡ true → Apart S T U → AreItems (form_items b) → body_holds_between S T b ≡ true → is_true (values p S) (complement (literal_of_form p b)) ≡ true → ⊥
-body_not_false p S T U b listed h weighted e f =
-    false≢true (sym (ap not (body_between S T U b h weighted e)) ∙ sym (form-false p S b listed) ∙ f)
+body_not_false : (p : Program) (S T U : Atoms) (b : Body) → IsReadBy p S → list_any (body_eq b) (bodies_of p) ≡ true → Apart S T U → AreItems (form_items b) → body_holds_between S T b ≡ true → is_true (values p S) (complement (literal_of_form p b)) ≡ true → ⊥
+body_not_false p S T U b read listed h weighted e f =
+    false≢true (sym (ap not (body_between S T U b h weighted e)) ∙ sym (form-false p S read b listed) ∙ f)
 
 -- a literal that holds is left
 left_holds : (p : Program) (S T U : Atoms) (part : List Literal) (l : ℤ) → has (atoms_of p) (atom_of l) ≡ true → hits (values p S) part ≡ true → Apart S T U → holds_between S T l ≡ true → is_left p U part l ≡ true
@@ -127,12 +127,12 @@ left_holds p S T U part l stands hit h e =
         let fails : not (holds S l) ≡ true = sym (ap not (literal-holds p S l stands)) ∙ sym (is_true-complement (values p S) (literal_of p l)) ∙ held in
         absurd (false≢true (sym (not_true (holds S l) fails) ∙ between_holds S T U l h e))
 
-part_hit : (p : Program) (S T U : Atoms) (b : Body) (part : List Literal) → list_any (body_eq b) (bodies_of p) ≡ true → Stands (atoms_of p) b → AreItems (form_items b) → Apart S T U → body_holds_between S T b ≡ true → IsPart p U b part → hits (values p S) part ≡ true → ⊥
-part_hit p S T U (body.All ls) part listed stands weighted h e shape hit =
+part_hit : (p : Program) (S T U : Atoms) (b : Body) (part : List Literal) → IsReadBy p S → list_any (body_eq b) (bodies_of p) ≡ true → Stands (atoms_of p) b → AreItems (form_items b) → Apart S T U → body_holds_between S T b ≡ true → IsPart p U b part → hits (values p S) part ≡ true → ⊥
+part_hit p S T U (body.All ls) part read listed stands weighted h e shape hit =
     let none : list_any (is_inside U) ls ≡ false = none_inside S T U ls h e in
     let is : part ≡ complement (literal_of_form p (body.All ls)) ∷ [] = shape ∙ ap (λ b. cond b [] (complement (literal_of_form p (body.All ls)) ∷ [])) none in
-    body_not_false p S T U (body.All ls) listed h weighted e (and_left (is_true (values p S) (complement (literal_of_form p (body.All ls)))) true (sym (ap (hits (values p S)) is) ∙ hit))
-part_hit p S T U (body.AtLeast c items) part listed stands weighted h e shape hit = cases (int_lt (weight_where (λ l. not (is_inside U l)) items) c) refl
+    body_not_false p S T U (body.All ls) read listed h weighted e (and_left (is_true (values p S) (complement (literal_of_form p (body.All ls)))) true (sym (ap (hits (values p S)) is) ∙ hit))
+part_hit p S T U (body.AtLeast c items) part read listed stands weighted h e shape hit = cases (int_lt (weight_where (λ l. not (is_inside U l)) items) c) refl
   where
     outside : (is : List (ℤ × ℤ)) → AllByRecursion (λ (i : ℤ × ℤ). holds_between S T i.0 ≡ true → not (is_inside U i.0) ≡ true) is
     outside [] = tt
@@ -146,7 +146,7 @@ part_hit p S T U (body.AtLeast c items) part listed stands weighted h e shape hi
     cases true q = too_light c (weight_between S T items) (weight_where (λ l. not (is_inside U l)) items) e (weight_less S T (λ l. not (is_inside U l)) items weighted (outside items)) (sym q)
     cases false q = elim (subst (λ (b : Bool). MatchBool b (part ≡ []) ((part ≡ complement (literal_of_form p (body.AtLeast c items)) ∷ []) ⊎ IsChosen p U c items part)) (sym q) shape) [
       | inl is ↦
-          body_not_false p S T U (body.AtLeast c items) listed h weighted e (and_left (is_true (values p S) (complement (literal_of_form p (body.AtLeast c items)))) true (sym (ap (hits (values p S)) is) ∙ hit))
+          body_not_false p S T U (body.AtLeast c items) read listed h weighted e (and_left (is_true (values p S) (complement (literal_of_form p (body.AtLeast c items)))) true (sym (ap (hits (values p S)) is) ∙ hit))
       | inr chosen ↦ too_light c (weight_between S T items) (weight_where (is_left p U part) items) e (weight_less S T (is_left p U part) items weighted (left items stands)) chosen.enough
     ]
 
@@ -215,4 +215,4 @@ loop_entailed p U a bodies rest sound member stands supports parts = record { ex
         let in_U : has U founded.0 ≡ true = and_right (has S founded.0) (has U founded.0) (sym (has-filter (has S) U founded.0) ∙ founded.1) in
         let supported : supports_some p U form ≡ true = rule.1.0 (λ r. list_any (has U) (head_atoms r.head) && body_eq (normal r.body) form) (and_from (list_any (has U) (head_atoms rule.0.head)) (body_eq form form) (any_of (has U) (head_atoms rule.0.head) founded.0 derived.1 in_U) (body_eq-itself form)) in
         let part = parts_hit p S U form bodies rest (supports form ∙ supported) parts both.1 in
-        part_hit p S W U form part.0 (rule_has_form p rule.0 rule.1.0) (normal-stands (atoms_of p) rule.0.body rule.1.1) (form_weighted p rule.0 sound rule.1.0) apart (body_holds_between-normal S W rule.0.body ∙ derived.0) part.1 part.2
+        part_hit p S W U form part.0 (stable-read p S sound stable) (rule_has_form p rule.0 rule.1.0) (normal-stands (atoms_of p) rule.0.body rule.1.1) (form_weighted p rule.0 sound rule.1.0) apart (body_holds_between-normal S W rule.0.body ∙ derived.0) part.1 part.2

@@ -13,10 +13,10 @@ use Rattle.asp_model.specs.Models.{atoms_of}
 use Rattle.asp_model.specs.Costs.{priorities, betters, cost_at, cost}
 use Rattle.asp_model.specs.Sound.{IsSound}
 use Rattle.asp_vars.specs.Literals.{Literal, T, complement, is_true, value_of, agrees, holds_in}
-use Rattle.asp_vars.specs.Numbering.{body_eq, bodies_of, wide_bodies, var_count, var_of_atom, var_of_form, literal_of}
+use Rattle.asp_vars.specs.Numbering.{body_eq, bodies_of, apart_bodies, var_count, var_of_atom, var_of_form, literal_of}
 use Rattle.asp_vars.specs.Tabled.{Stands}
 use Rattle.asp_vars.proofs.LiteralLaws.{and_left, and_right, is_true-complement}
-use Rattle.asp_vars.proofs.NumberingLaws.{same_body, wide_among}
+use Rattle.asp_vars.proofs.NumberingLaws.{same_body}
 use Rattle.asp_vars.proofs.PlaceLaws.{form-within}
 use Rattle.asp_vars.proofs.StandingLaws.{bodies_of-stand}
 use Rattle.asp_loop.proofs.FoundedLaws.{has-filter}
@@ -62,7 +62,7 @@ literal_value p v (pos a) stands = beq_true (get_or v (var_of_atom p a) false) �
 literal_value p v (negsuc a) stands = beq_false (get_or v (var_of_atom p (suc a)) false) ∙ ap not (atom_value p v (suc a) stands)
 
 known : (p : Program) (a : List (Option Bool)) (v : List Bool) (l : ℤ) → AreValues p a v → has (atoms_of p) (atom_of l) ≡ true → value_of a (literal_of p l).var ≡ Some (get_or v (literal_of p l).var false)
-known p a v l values stands = values (literal_of p l).var (var-within (atoms_of p) l (var_count p) stands (le-add_right (length (atoms_of p)) (length (wide_bodies p))))
+known p a v l values stands = values (literal_of p l).var (var-within (atoms_of p) l (var_count p) stands (le-add_right (length (atoms_of p)) (length (apart_bodies p))))
 
 holds-value : (p : Program) (a : List (Option Bool)) (v : List Bool) (l : ℤ) → AreValues p a v → has (atoms_of p) (atom_of l) ≡ true → holds_in a (literal_of p l) ≡ holds (true_atoms p v) l
 holds-value p a v l values stands = ap (λ o. agrees o (literal_of p l)) (known p a v l values stands) ∙ literal_value p v l stands
@@ -121,7 +121,7 @@ weights-kept p a v values silent bound items listed =
     let S : Atoms = true_atoms p v in
     let stand : Stands (atoms_of p) b = at_listed (Stands (atoms_of p)) b (bodies_of p) (bodies_of-stand p) listed in
     let fixpoint : is_silent_body p a b ≡ true = at_listed (λ c. is_silent_body p a c ≡ true) b (bodies_of p) (passed (is_silent_body p a) (bodies_of p) silent) listed in
-    let value : value_of a x ≡ Some (get_or v x false) = values x (zero-lt-suc _, form-within p b (wide_among b (bodies_of p) refl listed)) in
+    let value : value_of a x ≡ Some (get_or v x false) = values x (zero-lt-suc _, form-within p b refl listed) in
     let said : is_silent_as (Some (get_or v x false)) p a bound items ≡ true = subst (λ (o : Option Bool). is_silent_as o p a bound items ≡ true) value fixpoint in
     kept_as (get_or v x false) p a bound items (weight_of S items)
     (weighs p S (holds_in a) items (λ l stands. holds-value p a v l values stands) stand)

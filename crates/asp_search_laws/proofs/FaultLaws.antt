@@ -13,7 +13,7 @@ use Rattle.asp_model.specs.Sets.{Atoms, has, IsSubset}
 use Rattle.asp_model.specs.Models.{atoms_of, rules_in_force, head_atoms}
 use Rattle.asp_model.proofs.MemberLaws.{each_weaker}
 use Rattle.asp_vars.specs.Literals.{Literal, T, complement, value_of, agrees, holds_in, is_true}
-use Rattle.asp_vars.specs.Numbering.{normal, var_count, var_of_atom, literal_of_form, literal_of, values}
+use Rattle.asp_vars.specs.Numbering.{normal, var_count, var_of_atom, var_of_form, named_or, names, literal_of_form, literal_of, values}
 use Rattle.asp_vars.specs.Completion.{completion}
 use Rattle.asp_vars.specs.Unfounded.{assigned, is_inside, is_false, outside_weight, needs, is_excused, is_unfounded}
 use Rattle.asp_vars.specs.declared.nogood.Nogood.{Nogood}
@@ -76,10 +76,17 @@ listed_vars p n l = cases (list_all (is_small (var_count p)) n) refl
     cases false q = absurd (false≢true (sym none ∙ l (λ m. not (list_all (is_small (var_count p)) m)) (ap not (sym q))))
 
 -- ---- which literals hold says which sets are unfounded
+named_positive : (atoms : Atoms) (v : ℕ) (defined : List ℕ) → 0 < v → 0 < named_or atoms v defined
+named_positive atoms v [] h = h
+named_positive atoms v (a ∷ more) h = omega arith
+
+var_positive : (p : Program) (b : Body) → 0 < var_of_form p b
+var_positive p b = named_positive (atoms_of p) _ (names p b) (omega arith)
+
 form_positive : (p : Program) (b : Body) → 0 < (literal_of_form p b).var
-form_positive p (body.All []) = omega arith
+form_positive p (body.All []) = var_positive p (body.All [])
 form_positive p (body.All (l ∷ [])) = omega arith
-form_positive p (body.All (l ∷ k ∷ ks)) = omega arith
+form_positive p (body.All (l ∷ k ∷ ks)) = var_positive p (body.All (l ∷ k ∷ ks))
 form_positive p (body.AtLeast bound items) = omega arith
 
 module _ (p : Program) (U : Atoms) (x y : List (Option Bool)) (same : (l : Literal) → 0 < l.var → holds_in x l ≡ holds_in y l) where

@@ -27,7 +27,7 @@ use Rattle.asp_vars.proofs.NormalLaws.{body_holds-normal, body_holds_between-nor
 use Rattle.asp_vars.proofs.PlaceLaws.{place_of-within}
 use Rattle.asp_vars.proofs.StandingLaws.{Among, each_among, rule_has_form}
 use Rattle.asp_vars.proofs.SupportLaws.{some, in_map, map_in, member, same_atom}
-use Rattle.asp_vars.proofs.CompletionLaws.{literal-holds, atom-true}
+use Rattle.asp_vars.proofs.CompletionLaws.{literal-holds, atom-true, unhit-read}
 use Rattle.asp_vars.proofs.SupportLaws.{at_form}
 use Rattle.asp_loop.proofs.LoopLaws.{members}
 use Rattle.asp_loop.proofs.WeightedLaws.{nth_weighted, body_stands}
@@ -164,7 +164,7 @@ supported p S a sound kept stands inside = cases (is_supported p S a) refl
     cases : (t : Bool) → t ≡ is_supported p S a → is_supported p S a ≡ true
     cases true q = sym q
     cases false q =
-        let broken = atom_broken p S a sound (among_has (atoms_of p) a stands) stands inside (sym q) in
+        let broken = atom_broken p S a sound (unhit-read p S kept) (among_has (atoms_of p) a stands) stands inside (sym q) in
         absurd (false≢true (sym kept ∙ broken.listed (hits (values p S)) broken.hit))
 
 -- a rule for an atom whose body holds

@@ -17,6 +17,7 @@ pub mod KeyLaws
 pub mod RuleLaws
 pub mod HeadLaws
 pub mod NumberedLaws
+pub mod NameLaws
 pub mod HeldLaws
 pub mod VarLaws
 pub mod BarredLaws

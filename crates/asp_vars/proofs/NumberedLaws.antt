@@ -37,11 +37,11 @@ pub map_each : {X Y : Type 0} (P : X → Type 0) (f g : X → Y) → ((x : X) �
 map_each P f g h [] a = refl
 map_each P f g h (x ∷ xs) a = ap (λ y. y ∷ map f xs) (h x a.0) ∙ ap (λ ys. g x ∷ ys) (map_each P f g h xs a.1)
 
-filter_each : {X : Type 0} (p q : X → Bool) → ((x : X) → p x ≡ q x) → (xs : List X) → filter p xs ≡ filter q xs
+pub filter_each : {X : Type 0} (p q : X → Bool) → ((x : X) → p x ≡ q x) → (xs : List X) → filter p xs ≡ filter q xs
 filter_each p q h [] = refl
 filter_each p q h (x ∷ xs) = ap (λ t. cond t (x ∷ filter p xs) (filter p xs)) (h x) ∙ ap (λ ys. cond (q x) (x ∷ ys) ys) (filter_each p q h xs)
 
-any_each : {X : Type 0} (P : X → Type 0) (p q : X → Bool) → ((x : X) → P x → p x ≡ q x) → (xs : List X) → AllByRecursion P xs → list_any p xs ≡ list_any q xs
+pub any_each : {X : Type 0} (P : X → Type 0) (p q : X → Bool) → ((x : X) → P x → p x ≡ q x) → (xs : List X) → AllByRecursion P xs → list_any p xs ≡ list_any q xs
 any_each P p q h [] a = refl
 any_each P p q h (x ∷ xs) a = ap (λ t. t || list_any p xs) (h x a.0) ∙ ap (λ t. q x || t) (any_each P p q h xs a.1)
 
@@ -120,7 +120,7 @@ column_of_bodies : (p : Program) (f : Body → List ℕ) (k : ℕ) → column 0 
 column_of_bodies p f k = columns_of f (body_place p) k 0 (body.All []) (bodies_of p) (λ i lt. let e = place_of-distinct (bodies_of p) i (body.All []) (bodies_of-distinct p) lt in omega (arith, e))
 
 -- ---- supports
-same_var : (L : Atoms) (x i : ℕ) → IsAscending L → has L x ≡ true → i < length L → eqb (var_in L x) (suc i) ≡ eqb x (get_or L i 0)
+pub same_var : (L : Atoms) (x i : ℕ) → IsAscending L → has L x ≡ true → i < length L → eqb (var_in L x) (suc i) ≡ eqb x (get_or L i 0)
 same_var L x i up e lt =
     both_ways (eqb (var_in L x) (suc i)) (eqb x (get_or L i 0))
     (λ t. let at : place_of (λ b. eqb b x) L ≡ i = omega (arith, eqb-true (var_in L x) (suc i) t) in

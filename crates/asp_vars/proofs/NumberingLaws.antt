@@ -1,10 +1,10 @@
 -- The variables have the values of their atoms and bodies.
-use Rattle.std.proofs.Common.{◌≡◌, ℕ, suc, ◌+◌, Bool, true, false, cond, ◌&&◌, ◌||◌, List, [], ◌∷◌, ◌++◌, map, filter, length, get_or, refl, sym, ap, ◌∙◌, arith}
+use Rattle.std.proofs.Common.{◌≡◌, ℕ, suc, ◌+◌, Bool, true, false, cond, ◌&&◌, ◌||◌, eqb, List, [], ◌∷◌, ◌++◌, map, filter, length, get_or, refl, sym, ap, ◌∙◌, arith}
 use Rattle.std.specs.Prelude.{ℤ, ◌==◌}
 use Rattle.std.specs.List.{list_any}
 use Rattle.std.specs.Ordering.{int_eq}
 use Rattle.std.specs.Cmp.Lexicographic.{pointwise}
-use Rattle.std.proofs.lemmas.Bool.{false≢true, and_parts, and_from, eqb-true}
+use Rattle.std.proofs.lemmas.Bool.{false≢true, and_parts, and_from, eqb-true, eq-eqb}
 use Rattle.std.proofs.lemmas.Int.{ints}
 use Rattle.asp_model.specs.declared.program.Body.{Body}
 use Rattle.asp_model.specs.declared.program.Body.TheVariants as body
@@ -12,7 +12,7 @@ use Rattle.asp_model.specs.declared.program.Program.{Program}
 use Rattle.asp_model.specs.Sets.{Atoms, has}
 use Rattle.asp_model.specs.Holding.{body_holds}
 use Rattle.asp_model.specs.Models.{atoms_of}
-use Rattle.asp_vars.specs.Numbering.{body_eq, bodies_of, is_wide, is_nameless, is_apart, names, named_or, apart_bodies, place_of, var_of_atom, var_of_form, values}
+use Rattle.asp_vars.specs.Numbering.{body_eq, bodies_of, is_wide, is_nameless, is_apart, defines, names, named_or, apart_bodies, place_of, var_of_atom, var_of_form, values}
 
 -- ---- equal bodies
 pub int_eq_same : (k l : ℤ) → int_eq k l ≡ true → k ≡ l
@@ -76,6 +76,27 @@ filtered_among test b (c ∷ bs) w e = cases (body_eq b c) (test c) refl refl (f
     cases false true q v later = skip (body_eq b c) rest (later (ap (λ t. t || list_any (body_eq b) bs) q ∙ e))
     cases false false q v later = later (ap (λ t. t || list_any (body_eq b) bs) q ∙ e)
 
+-- ---- names
+-- the first of the atoms that pass is one of them
+pub first_passing : (q : ℕ → Bool) (xs : List ℕ) (a : ℕ) (more : List ℕ) → a ∷ more ≡ filter q xs → (has xs a ≡ true) × (q a ≡ true)
+first_passing q [] a more e = absurd (cc e)
+first_passing q (x ∷ xs) a more e = cases (q x) refl e (first_passing q xs a more)
+  where
+    either : (s t : Bool) → t ≡ true → (s || t) ≡ true
+    either true t h = refl
+    either false t h = h
+
+    cases : (t : Bool) → t ≡ q x → a ∷ more ≡ cond t (x ∷ filter q xs) (filter q xs) → (a ∷ more ≡ filter q xs → (has xs a ≡ true) × (q a ≡ true)) → ((eqb x a || has xs a) ≡ true) × (q a ≡ true)
+    cases true h here later =
+        let same : a ≡ x = cc here in
+        (ap (λ t. t || has xs a) (eq-eqb x a (sym same)), ap q same ∙ sym h)
+    cases false h there later = let found = later there in (either (eqb x a) (has xs a) found.0, found.1)
+
+-- a body's name is an atom that it defines
+pub named : (p : Program) (b : Body) (a : ℕ) (more : List ℕ) → a ∷ more ≡ names p b → (has (atoms_of p) a ≡ true) × (defines p b a ≡ true)
+named p (body.All ls) a more e = first_passing (defines p (body.All ls)) (atoms_of p) a more e
+named p (body.AtLeast bound items) a more e = absurd (cc e)
+
 -- ---- the first place at which a test passes
 pub get_or-place_of : {X : Type 0} (test f : X → Bool) (xs : List X) (ys : List Bool) (v : Bool) → ((x : X) → test x ≡ true → f x ≡ v) → list_any test xs ≡ true → get_or (map f xs ++ ys) (place_of test xs) false ≡ v
 get_or-place_of test f [] ys v at e = absurd (false≢true e)
@@ -98,9 +119,9 @@ value-atom p S a h =
 pub own_var : (p : Program) (b : Body) → is_apart p b ≡ true → var_of_form p b ≡ suc (length (atoms_of p) + place_of (body_eq b) (apart_bodies p))
 own_var p b h = nameless (names p b) (and_parts (is_wide b) (is_nameless (names p b)) h).1
   where
-    nameless : (as : List ℕ) → is_nameless as ≡ true → named_or (atoms_of p) (suc (length (atoms_of p) + place_of (body_eq b) (apart_bodies p))) as ≡ suc (length (atoms_of p) + place_of (body_eq b) (apart_bodies p))
+    nameless : (more : List ℕ) → is_nameless more ≡ true → named_or (atoms_of p) (suc (length (atoms_of p) + place_of (body_eq b) (apart_bodies p))) more ≡ suc (length (atoms_of p) + place_of (body_eq b) (apart_bodies p))
     nameless [] e = refl
-    nameless (a ∷ as) e = absurd (false≢true e)
+    nameless (a ∷ more) e = absurd (false≢true e)
 
 pub value-form : (p : Program) (S : Atoms) (b : Body) → is_apart p b ≡ true → list_any (body_eq b) (bodies_of p) ≡ true → get_or (values p S) (var_of_form p b) false ≡ body_holds S b
 value-form p S b apart h =

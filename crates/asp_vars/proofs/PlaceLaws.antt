@@ -3,7 +3,7 @@ use Rattle.std.proofs.Common.{◌≡◌, ℕ, zero, suc, ◌+◌, ◌<◌, ◌�
 use Rattle.std.specs.List.{list_any, AllByRecursion}
 use Rattle.std.specs.List.Sorted.{IsBinarySearchResult}
 use Rattle.std.specs.Ordering.{nat_cmp}
-use Rattle.std.proofs.lemmas.Bool.{false≢true, or_parts, eq-eqb, ne_eqb}
+use Rattle.std.proofs.lemmas.Bool.{false≢true, or_parts, and_from, eq-eqb, ne_eqb}
 use Rattle.std.proofs.lemmas.List.Folds.{list_any-append}
 use Rattle.std.proofs.lemmas.List.Sorted.{searched}
 use Rattle.asp_model.specs.declared.program.Body.{Body}
@@ -15,9 +15,9 @@ use Rattle.asp_model.specs.declared.program.Rule.{Rule}
 use Rattle.asp_model.specs.Models.{rules_in_force, atoms_of, mentions}
 use Rattle.asp_model.proofs.MemberLaws.{each_weaker}
 use Rattle.asp_model.proofs.SetLaws.{get_or-ascending, get_or-below, has_at, place_found, IsAscending-set_of}
-use Rattle.asp_vars.specs.Numbering.{normal, body_eq, bodies_of, is_wide, is_apart, apart_bodies, place_of, place_of_body, number_of_form, number_count, var_count, var_of_atom, var_of_form, nth_body, nth_rule, nth_atom}
+use Rattle.asp_vars.specs.Numbering.{normal, body_eq, bodies_of, is_wide, is_nameless, is_apart, names, named_or, apart_bodies, place_of, place_of_body, number_of_form, number_count, var_count, var_of_atom, var_of_form, nth_body, nth_rule, nth_atom}
 use Rattle.asp_vars.specs.Places.{place_in}
-use Rattle.asp_vars.proofs.NumberingLaws.{same_body, body_eq-itself}
+use Rattle.asp_vars.proofs.NumberingLaws.{same_body, body_eq-itself, filtered_among, named, own_var}
 use Rattle.asp_vars.proofs.StandingLaws.{Among, each_among, rule_has_form}
 
 -- ---- atoms
@@ -115,7 +115,21 @@ place_of-within test (x ∷ xs) e = cases (test x) refl (place_of-within test xs
     cases false q f = let h = f (ap (λ b. b || list_any test xs) q ∙ e) in omega (arith, h)
 
 pub form-within : (p : Program) (b : Body) → is_wide b ≡ true → list_any (body_eq b) (bodies_of p) ≡ true → var_of_form p b ≤ var_count p
-form-within p b w e = ?
+form-within p b w e = cases (names p b) refl
+  where
+    cases : (more : List ℕ) → more ≡ names p b → named_or (atoms_of p) (suc (length (atoms_of p) + place_of (body_eq b) (apart_bodies p))) more ≤ var_count p
+    cases [] q =
+        let apart : is_apart p b ≡ true = and_from (is_wide b) (is_nameless (names p b)) w (ap is_nameless (sym q)) in
+        let h = place_of-within (body_eq b) (apart_bodies p) (filtered_among (is_apart p) b (bodies_of p) apart e) in
+        omega (arith, h)
+    cases (a ∷ more) q = let h = place_of-within (λ c. eqb c a) (atoms_of p) (named p b a more q).0 in omega (arith, h)
+
+pub form-positive : (p : Program) (b : Body) → 0 < var_of_form p b
+form-positive p b = cases (names p b)
+  where
+    cases : (more : List ℕ) → 0 < named_or (atoms_of p) (suc (length (atoms_of p) + place_of (body_eq b) (apart_bodies p))) more
+    cases [] = omega arith
+    cases (a ∷ more) = omega arith
 
 pub number-within : (p : Program) (b : Body) → list_any (body_eq b) (bodies_of p) ≡ true → number_of_form p b ≤ number_count p
 number-within p b e = let h = place_of-within (body_eq b) (bodies_of p) e in omega (arith, h)
@@ -132,8 +146,19 @@ pub number_of_nth_body : (p : Program) (j : ℕ) → j < length (bodies_of p) �
 number_of_nth_body p j lt =
     ap (λ n. suc (length (atoms_of p) + n)) (place_of-distinct (bodies_of p) j (body.All []) (bodies_of-distinct p) lt)
 
+passing : (q : Body → Bool) (bs : List Body) → AllByRecursion (λ b. q b ≡ true) (filter q bs)
+passing q [] = tt
+passing q (b ∷ bs) = cases (q b) refl (passing q bs)
+  where
+    cases : (t : Bool) → t ≡ q b → AllByRecursion (λ c. q c ≡ true) (filter q bs) → AllByRecursion (λ c. q c ≡ true) (cond t (b ∷ filter q bs) (filter q bs))
+    cases true e rest = (sym e, rest)
+    cases false e rest = rest
+
 pub var_of_nth_apart : (p : Program) (j : ℕ) → j < length (apart_bodies p) → var_of_form p (get_or (apart_bodies p) j (body.All [])) ≡ suc (length (atoms_of p) + j)
-var_of_nth_apart p j lt = ?
+var_of_nth_apart p j lt =
+    let b : Body = get_or (apart_bodies p) j (body.All []) in
+    own_var p b (at_each (λ c. is_apart p c ≡ true) (apart_bodies p) j (body.All []) (passing (is_apart p) (bodies_of p)) lt)
+    ∙ ap (λ n. suc (length (atoms_of p) + n)) (place_of-distinct (apart_bodies p) j (body.All []) (apart_bodies-distinct p) lt)
 
 pub place_of_nth_rule : (p : Program) (i : ℕ) → i < length (rules_in_force p) → place_of_body p (nth_rule p i).body < length (bodies_of p)
 place_of_nth_rule p i lt =

@@ -17,9 +17,8 @@ use Rattle.asp_vars.specs.Literals.{Literal, T}
 use Rattle.asp_vars.specs.Numbering.{normal, body_eq, bodies_of, is_wide, var_of_atom, var_of_form, number_of_form, literal_of_form, place_of_body, literal_of, nth_body, nth_rule}
 use Rattle.asp_vars.specs.Completion.{supports}
 use Rattle.asp_vars.specs.Tabled.{form_literals, heads_of, IsAtomVar, IsBodyNumber, IsLiteral}
-use Rattle.asp_vars.proofs.PlaceLaws.{at_each, place_of-within, atom-within, form-within}
+use Rattle.asp_vars.proofs.PlaceLaws.{at_each, place_of-within, atom-within, form-within, form-positive}
 use Rattle.asp_vars.specs.Tabled.{Stands}
-use Rattle.asp_vars.proofs.NumberingLaws.{wide_among}
 use Rattle.asp_vars.proofs.StandingLaws.{form-stands, bodies_of-stand, bodies_of-themselves}
 
 pub all_of : {X : Type 0} (P : X → Type 0) (xs : List X) → AllByRecursion P xs → All P xs
@@ -32,7 +31,7 @@ pub form_number : (p : Program) (b : Body) → list_any (body_eq b) (bodies_of p
 form_number p b e = let h = place_of-within (body_eq b) (bodies_of p) e in (omega arith, omega (arith, h))
 
 wide_literal : (p : Program) (b : Body) → is_wide b ≡ true → list_any (body_eq b) (bodies_of p) ≡ true → IsLiteral p (T (var_of_form p b))
-wide_literal p b w e = (omega arith, form-within p b (wide_among b (bodies_of p) w e))
+wide_literal p b w e = (form-positive p b, form-within p b w e)
 
 -- the literal of a body is the program's
 pub form_literal : (p : Program) (b : Body) → list_any (body_eq b) (bodies_of p) ≡ true → IsLiteral p (literal_of_form p b)

@@ -11,6 +11,8 @@ pub mod Unfounded
 pub mod Forms
 pub mod Headed
 pub mod Held
+pub mod Named
+pub mod Rows
 pub mod Placed
 pub mod Places
 pub mod Tabled

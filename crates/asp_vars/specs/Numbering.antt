@@ -85,7 +85,7 @@ names p (body.AtLeast bound items) = []
 
 abbrev pub is_nameless : List ℕ → Bool
 is_nameless [] = true
-is_nameless (a ∷ as) = false
+is_nameless (a ∷ more) = false
 
 -- ---- variables
 -- Whether a body has a variable of its own: one of a single literal hasn't, nor one that has a name.
@@ -120,7 +120,7 @@ literal_of p l = literal_in (atoms_of p) l
 -- the variable of a body's name, and v where it has none
 abbrev pub named_or : Atoms → ℕ → List ℕ → ℕ
 named_or atoms v [] = v
-named_or atoms v (a ∷ as) = var_in atoms a
+named_or atoms v (a ∷ more) = var_in atoms a
 
 -- of a body in normal form that isn't one literal
 abbrev pub var_of_form : Program → Body → ℕ

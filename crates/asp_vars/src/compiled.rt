@@ -4,7 +4,7 @@ ghost use Rattle.asp_model.specs.Sound.{IsSound};
 ghost use Rattle.asp_model.specs.Models.{rules_in_force, atoms_of};
 ghost use Rattle.asp_model.specs.Sets.{has};
 ghost use Rattle.asp_model.specs.Views.{rule_seen};
-ghost use Rattle.asp_vars.specs.Numbering.{bodies_of, var_count, var_of_atom, literal_of_form, place_of_body, number_of_form, number_count, is_wide, form_at, nth_body, nth_rule, nth_atom};
+ghost use Rattle.asp_vars.specs.Numbering.{bodies_of, var_count, var_of_atom, literal_of_form, place_of_body, number_of_form, number_count, is_wide, is_apart, form_at, nth_body, nth_rule, nth_atom};
 ghost use Rattle.asp_vars.specs.Completion.{is_barred, supports};
 ghost use Rattle.asp_vars.specs.Tabled.{bound_of, form_literals, form_weights, heads_of, occurrences_of, find_var, find_atom, IsAtomVar, IsBodyNumber, IsLiteral, bodies_with};
 
@@ -20,8 +20,8 @@ use std::marker::Model;
 
 /// A program with the tables of its variables. Contracts see it as the program, of which each table is a function.
 ///
-/// Its atoms, ascending, are the variables from 1 on; those distinct bodies of its rules in force that aren't one literal follow
-/// them, in the order of their first occurrence. Bodies and rules are counted from 0.
+/// Its atoms, ascending, are the variables from 1 on; those distinct bodies of its rules in force that aren't one literal and define
+/// no atom follow them, in the order of their first occurrence. Bodies and rules are counted from 0.
 #[derive(Drop)]
 pub struct Compiled {
     /// The program as it was read.
@@ -209,7 +209,7 @@ impl Compiled {
         requires { body < length (bodies_of self.now) }
         ensures { result ≡ is_apart self.now (nth_body self.now body) }
     {
-        self.held[body].var() as usize > self.atom_count()
+        self.body_lit(body).var() as usize > self.atom_count()
     }
 
     /// The bodies of which the literal says that they hold, ascending.

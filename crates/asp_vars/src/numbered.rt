@@ -5,6 +5,7 @@ ghost use Rattle.asp_model.specs.Models.{rules_in_force, atoms_of};
 ghost use Rattle.asp_model.specs.Opening.{opened_rules};
 ghost use Rattle.asp_vars.specs.Numbering.{normal, body_eq, distinct, place_of, bodies_of, var_count, number_count, literal_of_form};
 ghost use Rattle.asp_vars.specs.Completion.{is_barred};
+ghost use Rattle.asp_vars.specs.Named.{name_var};
 ghost use Rattle.asp_vars.specs.Tabled.{bound_of, form_literals, form_weights, heads_of, AreSupports, AreOccurrences, AreShared};
 
 use crate::barred::barred_bodies;
@@ -141,12 +142,15 @@ impl Numbered {
     // For each body the variable of its name, by the bodies that support each atom, and 0 where it has none.
     fn names(&self, alloc: Global, supports: &Table<u32>) -> Result<Vec<Var>, AllocError>
         requires { AreSupports self.now supports.now }
+        ensures { IfOk result (λ names. names.items ≡ map (name_var self.now) (bodies_of self.now)) }
     {
         let atoms = self.atoms.as_slice();
         let first = atoms.len() as u32 + 1;
         let count = self.bodies.forms().len();
         let rules = &self.program.rules;
-        let headed = headed_alone(alloc, atoms, rules, self.opened.as_slice(), self.places.as_slice().len())?;
+        let opened = self.opened.as_slice();
+        let places = self.places.as_slice();
+        let headed = headed_alone(alloc, atoms, rules, opened, places.len())?;
         let names = names(alloc, count, first, headed.as_slice(), supports)?;
         Ok(names)
     }

@@ -3,6 +3,7 @@ ghost use Rattle.std.specs.Prelude.{◌≡◌, [], ◌∷◌, true, false, pos, 
 ghost use Rattle.asp_model.specs.declared.program.Body.TheVariants as body;
 ghost use Rattle.asp_model.specs.Rows.{positive_loop, two_priorities, two_ways, repeated_literals};
 ghost use Rattle.asp_vars.specs.Literals.{T, F};
+ghost use Rattle.asp_vars.specs.Rows.{conjunction};
 ghost use Rattle.asp_vars.specs.Numbering.{normal, var_count, literal_of_body, values, bodies_of};
 ghost use Rattle.asp_vars.specs.declared.nogood.Base.TheVariants as base;
 ghost use Rattle.asp_vars.specs.Resolution.{resolvent, joined};
@@ -35,6 +36,13 @@ pub fn normal_forms_join_equal_literals()
 
 pub fn completion_of_a_positive_loop()
     ensures { completion positive_loop ≡ (T 2 ∷ F 1 ∷ []) ∷ (T 1 ∷ F 2 ∷ []) ∷ (T 1 ∷ F 2 ∷ []) ∷ (T 2 ∷ F 1 ∷ []) ∷ [] }
+{}
+
+/// A body that defines an atom is that atom: it has no variable, and of the rule and the atom nothing is listed. That of a choice is variable 4.
+pub fn completion_of_a_name()
+    ensures count { var_count conjunction ≡ 4 }
+    ensures literal { literal_of_body conjunction (body.All (pos 2 ∷ pos 3 ∷ [])) ≡ T 1 }
+    ensures completion { completion conjunction ≡ (F 1 ∷ T 2 ∷ T 3 ∷ []) ∷ (T 1 ∷ F 2 ∷ []) ∷ (T 1 ∷ F 3 ∷ []) ∷ (F 4 ∷ []) ∷ (T 2 ∷ F 4 ∷ []) ∷ (T 3 ∷ F 4 ∷ []) ∷ [] }
 {}
 
 /// The body of a constraint, variable 4, is false; its literals can't both hold.

@@ -20,7 +20,7 @@ use Rattle.asp_vars.specs.Numbering.{body_eq, bodies_of, var_of_form, values}
 use Rattle.asp_vars.specs.Tabled.{Stands}
 use Rattle.asp_vars.specs.Entailment.{Entailed}
 use Rattle.asp_vars.proofs.LiteralLaws.{and_left, and_right, and_both, is_true-complement, hits-append}
-use Rattle.asp_vars.proofs.CompletionLaws.{literal-holds, form-true}
+use Rattle.asp_vars.proofs.CompletionLaws.{literal-holds, weight-true}
 use Rattle.asp_trail.specs.Fixpoint.{is_open, is_violated, is_unit, is_at_fixpoint}
 use Rattle.asp_trail.specs.Trails.{IsVar}
 use Rattle.asp_weight.specs.declared.item.Item.{Item}
@@ -303,7 +303,7 @@ weight_that-holds p S (i ∷ items) h =
 pub values_keep : (p : Program) (S : Atoms) (b : Body) → list_any (body_eq b) (bodies_of p) ≡ true → Stands (atoms_of p) b → keeps p (values p S) b ≡ true
 values_keep p S (body.All literals) e h = refl
 values_keep p S (body.AtLeast bound items) e h =
-    ap (λ b. beq b (int_le bound (weight_that (is_true (values p S)) p items))) (form-true p S (body.AtLeast bound items) e)
+    ap (λ b. beq b (int_le bound (weight_that (is_true (values p S)) p items))) (weight-true p S bound items e)
     ∙ (ap (λ z. beq (int_le bound (weight_of S items)) (int_le bound z)) (weight_that-holds p S items h)
     ∙ beq_itself (int_le bound (weight_of S items)))
 

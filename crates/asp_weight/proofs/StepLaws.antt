@@ -13,7 +13,7 @@ use Rattle.asp_model.specs.Models.{atoms_of}
 use Rattle.asp_model.specs.Sound.{IsSound}
 use Rattle.asp_model.proofs.MemberLaws.{each-filter}
 use Rattle.asp_vars.specs.Literals.{Literal, value_of, holds_in, agrees}
-use Rattle.asp_vars.specs.Numbering.{body_eq, bodies_of, is_wide, wide_bodies, var_count}
+use Rattle.asp_vars.specs.Numbering.{body_eq, bodies_of, is_apart, apart_bodies, var_count}
 use Rattle.asp_vars.specs.Tabled.{Stands}
 use Rattle.asp_vars.specs.Entailment.{Entailed}
 use Rattle.asp_vars.specs.declared.nogood.Base.TheVariants as base
@@ -298,16 +298,18 @@ kept_as p a b shapes rows places tallies more k e f =
     subst (λ (ts : List Tally). IsKept p b shapes rows places ts) (sym f) (subst (λ (x : List (Option Bool)). IsKept p x shapes rows places tallies) (sym e) k)
 
 -- each weight body has a variable
-pub few_rows : (p : Program) → length (weighed_bodies p) ≤ length (wide_bodies p)
+pub few_rows : (p : Program) → length (weighed_bodies p) ≤ length (apart_bodies p)
 few_rows p = fewer (bodies_of p)
   where
-    one_more : (b : Body) (bs : List Body) → length (filter is_weighed bs) ≤ length (filter is_wide bs) → length (filter is_weighed (b ∷ bs)) ≤ length (filter is_wide (b ∷ bs))
-    one_more (body.All []) bs le = omega (arith, le)
-    one_more (body.All (l ∷ [])) bs le = le
-    one_more (body.All (l ∷ k ∷ ks)) bs le = omega (arith, le)
+    or_more : (t : Bool) (b : Body) (n : ℕ) (bs : List Body) → n ≤ length bs → n ≤ length (cond t (b ∷ bs) bs)
+    or_more true b n bs le = omega (arith, le)
+    or_more false b n bs le = le
+
+    one_more : (b : Body) (bs : List Body) → length (filter is_weighed bs) ≤ length (filter (is_apart p) bs) → length (filter is_weighed (b ∷ bs)) ≤ length (filter (is_apart p) (b ∷ bs))
+    one_more (body.All literals) bs le = or_more (is_apart p (body.All literals)) (body.All literals) (length (filter is_weighed bs)) (filter (is_apart p) bs) le
     one_more (body.AtLeast bound items) bs le = omega (arith, le)
 
-    fewer : (bs : List Body) → length (filter is_weighed bs) ≤ length (filter is_wide bs)
+    fewer : (bs : List Body) → length (filter is_weighed bs) ≤ length (filter (is_apart p) bs)
     fewer [] = omega arith
     fewer (b ∷ bs) = one_more b bs (fewer bs)
 

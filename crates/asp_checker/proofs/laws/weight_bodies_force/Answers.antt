@@ -3,14 +3,14 @@ use Rattle.asp_model.specs.declared.program.Body.{Body}
 use Rattle.asp_model.specs.declared.program.Body.TheVariants as body
 use Rattle.asp_model.specs.declared.program.Program.{Program}
 use Rattle.asp_vars.specs.Numbering.{bodies_of, body_eq, is_wide, var_count, var_of_form}
-use Rattle.asp_vars.proofs.NumberingLaws.{body_eq-itself, wide_among}
+use Rattle.asp_vars.proofs.NumberingLaws.{body_eq-itself}
 use Rattle.asp_vars.proofs.PlaceLaws.{form-within}
 use Rattle.asp_vars.proofs.StandingLaws.{Among}
 use Rattle.asp_checker.proofs.WeightLaws.{reached-forces, missed-forces, needed-forces, barred-forces}
 use Rattle.asp_checker.proofs.laws.weight_bodies_force.Goals as goal
 
 within : (p : Program) (b : Body) → is_wide b ≡ true → Among (bodies_of p) b → var_of_form p b ≤ var_count p
-within p b wide among = form-within p b (wide_among b (bodies_of p) wide (among (body_eq b) (body_eq-itself b)))
+within p b wide among = form-within p b wide (among (body_eq b) (body_eq-itself b))
 
 pub returns : goal.returns
 returns c = record {

@@ -34,4 +34,4 @@ returns-then-not-kept c =
     let nogood : c.in_ok-nogood.nogood ≡ record { lits = rule_literals p (literal_of_body p r.body) r.head; base = base.Pure } =
     c.in_ok-nogood.ensures ∙ ap (λ (x : Rule). let n : Nogood = record { lits = rule_literals p (literal_of_body p r.body) x.head; base = base.Pure } in n) c.rule.ensures in
     subst (λ (n : Nogood). IsBroken p S n) (sym nogood)
-    (rule_broken p S r r.head c.program-program.ensures.sound (item_among p r i lt (rule_at p r i lt refl)) refl (item_stands p r i lt (rule_at p r i lt refl)) fails)
+    (rule_broken p S r r.head c.program-program.ensures.sound c.requires.read (item_among p r i lt (rule_at p r i lt refl)) refl (item_stands p r i lt (rule_at p r i lt refl)) fails)

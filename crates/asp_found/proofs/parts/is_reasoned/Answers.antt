@@ -15,5 +15,5 @@ returns-else-not-stands c =
     let back : i + 1 - 1 ≡ i = omega arith in
     let row : c.supports.result.now ≡ supports p (nth_atom p i) = c.supports.ensures.supports ∙ ap (λ n. supports p (nth_atom p n)) back in
     let stands : has S (nth_atom p i) ≡ true = sym (atom_value p S c.args.truths.now i c.requires.truths c.requires.place) ∙ c.if-not-stands.false in
-    c.any_holds.ensures ∙ supported_is p S c.args.truths.now (nth_atom p i) c.supports.result.now c.requires.truths row
+    c.any_holds.ensures ∙ supported_is p S c.args.truths.now (nth_atom p i) c.supports.result.now c.requires.truths c.requires.read row
     ∙ sym (ap (λ (b : Bool). not b || is_supported p S (nth_atom p i)) stands)

@@ -20,7 +20,7 @@ returns-then-not-reasoned c =
     let lt : i < length (atoms_of p) = omega (arith, count, c.loop-i-test.true) in
     let parts = and_parts' (has S (nth_atom p i)) (is_supported p S (nth_atom p i)) (sym c.is_reasoned-reasoned.ensures ∙ c.if-not-reasoned.true) in
     subst (λ (n : Nogood). IsBroken p S n) (sym c.in_ok-nogood.ensures)
-    (atom_broken p S (nth_atom p i) c.program-program.ensures.sound
+    (atom_broken p S (nth_atom p i) c.program-program.ensures.sound c.requires.read
     (at_each (Among (atoms_of p)) (atoms_of p) i 0 (each_among (atoms_of p)) lt)
     (at_each (λ a. has (atoms_of p) a ≡ true) (atoms_of p) i 0 (HasAll-itself (atoms_of p)) lt)
     parts.0 parts.1)
