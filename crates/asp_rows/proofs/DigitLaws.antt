@@ -28,7 +28,7 @@ with_bits-split n (b ∷ bs) =
     let power : n * 2 ^ length (b ∷ bs) ≡ n * (2 * 2 ^ length bs) = ap (λ (k : ℕ). n * k) (pow-succ' 2 (length bs)) in
     omega (arith, here, alone, first, second, power)
 
-value_low : (bs : List Bool) → value bs < 2 ^ length bs
+pub value_low : (bs : List Bool) → value bs < 2 ^ length bs
 value_low [] = omega arith
 value_low (true ∷ bs) =
     let split = with_bits-split 1 bs in

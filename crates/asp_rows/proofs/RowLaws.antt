@@ -1,9 +1,15 @@
 -- Rows are made word by word, and sorted as their sets.
-use Rattle.std.proofs.Common.{◌≡◌, ℕ, suc, ◌+◌, ◌-◌, ◌*◌, ◌^◌, ◌<◌, ◌≤◌, Bool, true, false, nat_lt, List, [], ◌∷◌, ◌++◌, map, min, take, drop, length, get_or, refl, sym, ap, ◌∙◌, append_assoc, add-one, arith, length-drop, subst}
-use Rattle.std.proofs.Math.Nat.{pow-succ', min_comm}
+use Rattle.std.proofs.Common.{◌≡◌, ℕ, zero, suc, ◌+◌, ◌-◌, ◌*◌, ◌^◌, ◌<◌, ◌≤◌, Bool, true, false, nat_lt, List, [], ◌∷◌, ◌++◌, map, min, take, drop, length, get_or, refl, sym, ap, ◌∙◌, append_assoc, add-one, arith, length-drop, subst}
+use Rattle.std.proofs.Math.Nat.{pow-succ', min_comm, mul_assoc, mul_comm}
+use Rattle.std.proofs.Math.Pow.{pow_mono}
 use Rattle.std.proofs.lemmas.Bool.Decides.{nat_tests}
-use Rattle.asp_model.specs.Sets.{Atoms, has}
-use Rattle.std.proofs.lemmas.List.{drop-drop, drop_all, take_min, take_more}
+use Rattle.std.specs.List.{AllByRecursion}
+use Rattle.asp_model.specs.Sets.{Atoms, IsAscending, has}
+use Rattle.asp_model.proofs.SetLaws.{has_at}
+use Rattle.asp_rows.specs.Places.{IsBehind}
+use Rattle.asp_rows.proofs.PlaceLaws.{all_below, onward, passed, stands}
+use Rattle.std.proofs.lemmas.List.{drop-drop, drop_all, length-map, length-take, take_min, take_more}
+use Rattle.asp_rows.proofs.DigitLaws.{value_low}
 use Rattle.asp_rows.specs.Bits.{bit, encode, value, with_bits, word_count, words, IsAmong}
 use Rattle.asp_rows.specs.declared.row.Row.{Row}
 use Rattle.asp_rows.specs.Listed.{IsRowFor, IsRowOf}
@@ -23,6 +29,75 @@ word_more S atoms i w n lt is made =
     made ∙ ap (λ (k : ℕ). 2 * k + bit (has S (get_or atoms i 0))) is
     ∙ sym (ap (λ (t : List ℕ). value (map (has S) t)) (take_more atoms i 0 lt) ∙ ap value (map-push (has S) (take i atoms) (get_or atoms i 0)) ∙ with_bits-push 0 (map (has S) (take i atoms)) (has S (get_or atoms i 0)))
 
+-- the atoms up to there of which the set has none
+pub zeros : (S : Atoms) (atoms : List ℕ) (from n : ℕ) → from + n ≤ length atoms → ((k : ℕ) → from ≤ k → k < from + n → has S (get_or atoms k 0) ≡ false) → value (map (has S) (take from atoms)) * 2 ^ n ≡ value (map (has S) (take (from + n) atoms))
+zeros S atoms from zero le none =
+    let one : value (map (has S) (take from atoms)) * 1 ≡ value (map (has S) (take from atoms)) = omega arith in
+    let here : from ≡ from + 0 = omega arith in
+    one ∙ ap (λ (k : ℕ). value (map (has S) (take k atoms))) here
+zeros S atoms from (suc n) le none =
+    let v : ℕ = value (map (has S) (take from atoms)) in
+    let before = zeros S atoms from n (omega (arith, le)) (λ k low high. none k low (omega (arith, high))) in
+    let twice : v * 2 ^ suc n ≡ 2 * (v * 2 ^ n) = ap (λ (k : ℕ). v * k) (pow-succ' 2 n) ∙ sym (mul_assoc v 2 (2 ^ n)) ∙ ap (λ (k : ℕ). k * 2 ^ n) (mul_comm v 2) ∙ mul_assoc 2 v (2 ^ n) in
+    let nothing : 2 * (v * 2 ^ n) ≡ 2 * (v * 2 ^ n) + bit false = omega arith in
+    let lacks : has S (get_or atoms (from + n) 0) ≡ false = none (from + n) (omega arith) (omega arith) in
+    let next : from + n + 1 ≡ from + suc n = omega arith in
+    word_more S atoms (from + n) (v * 2 ^ n) (v * 2 ^ suc n) (omega (arith, le)) before (twice ∙ nothing ∙ ap (λ (b : Bool). 2 * (v * 2 ^ n) + bit b) (sym lacks))
+    ∙ ap (λ (k : ℕ). value (map (has S) (take k atoms))) next
+
+pub word_zeros : (S : Atoms) (atoms : List ℕ) (from at w : ℕ) → from ≤ at → at ≤ length atoms → w ≡ value (map (has S) (take from atoms)) → ((k : ℕ) → from ≤ k → k < at → has S (get_or atoms k 0) ≡ false) → w * 2 ^ (at - from) ≡ value (map (has S) (take at atoms))
+word_zeros S atoms from at w low high is none =
+    let there : from + (at - from) ≡ at = omega (arith, low) in
+    ap (λ (k : ℕ). k * 2 ^ (at - from)) is
+    ∙ zeros S atoms from (at - from) (omega (arith, low, high)) (λ k le lt. none k le (omega (arith, lt, low)))
+    ∙ ap (λ (k : ℕ). value (map (has S) (take k atoms))) there
+
+-- the bits of at most 64 atoms make a word
+pub word_room : (S : Atoms) (atoms : List ℕ) (n : ℕ) → length atoms ≤ 64 → value (map (has S) (take n atoms)) < 2 ^ 64
+word_room S atoms n few =
+    let low = value_low (map (has S) (take n atoms)) in
+    let len : length (map (has S) (take n atoms)) ≤ 64 = omega (arith, length-map (take n atoms) (has S), length-take n atoms, few) in
+    let power = pow_mono len in
+    omega (arith, low, power)
+
+-- up to where the set's next atom is looked for
+pub found : (S atoms : Atoms) (from next at w : ℕ) → IsAscending S → IsAscending atoms → 0 < length atoms → next < length S → get_or S next 0 ≤ get_or atoms (length atoms - 1) 0
+    → ((k : ℕ) → k < from → get_or atoms k 0 < get_or S next 0) → (from < length atoms → (j : ℕ) → j < next → get_or S j 0 < get_or atoms from 0)
+    → IsBehind atoms at (get_or S next 0) → (at < length atoms → get_or S next 0 ≤ get_or atoms at 0) → w ≡ value (map (has S) (take from atoms))
+    → (at < length atoms) × (from ≤ at) × (w * 2 ^ (at - from) ≡ value (map (has S) (take at atoms)))
+found S atoms from next at w up rise some lt le low high behind here is =
+    let within = stands atoms at (get_or S next 0) some behind le in
+    let on = onward atoms from at (get_or S next 0) (here within) low in
+    (within, on, word_zeros S atoms from at w on (omega (arith, within)) is (passed S atoms from next at up rise high (omega (arith, within)) (λ _. behind.1)))
+
+-- and behind the last one
+pub no_more : (S atoms : Atoms) (from next w : ℕ) → IsAscending S → IsAscending atoms → from ≤ length atoms → (from < length atoms → (j : ℕ) → j < next → get_or S j 0 < get_or atoms from 0)
+    → (next < length S → get_or atoms (length atoms - 1) 0 < get_or S next 0) → w ≡ value (map (has S) (take from atoms)) → w * 2 ^ (length atoms - from) ≡ value (map (has S) (take (length atoms) atoms))
+no_more S atoms from next w up rise within high last is =
+    word_zeros S atoms from (length atoms) w within (omega arith) is (passed S atoms from next (length atoms) up rise high (omega arith) (λ lt. all_below atoms (get_or S next 0) rise (last lt)))
+
+pub one_more : (S atoms : Atoms) (next at w : ℕ) → at < length atoms → next < length S → get_or S next 0 ≡ get_or atoms at 0 → w ≡ value (map (has S) (take at atoms)) → 2 * w + 1 ≡ value (map (has S) (take (at + 1) atoms))
+one_more S atoms next at w within lt same is = word_more S atoms at w (2 * w + 1) within is (ap (λ (b : Bool). 2 * w + bit b) (sym (has_at S (get_or atoms at 0) next lt same)))
+
+-- ---- a part of ascending atoms
+each_take : (a n : ℕ) (S : Atoms) → AllByRecursion (λ b. a < b) S → AllByRecursion (λ b. a < b) (take n S)
+each_take a zero S low = tt
+each_take a (suc n) [] low = tt
+each_take a (suc n) (b ∷ S) low = (low.0, each_take a n S low.1)
+
+first_ascend : (n : ℕ) (S : Atoms) → IsAscending S → IsAscending (take n S)
+first_ascend zero S up = tt
+first_ascend (suc n) [] up = tt
+first_ascend (suc n) (a ∷ S) up = (each_take a n S up.0, first_ascend n S up.1)
+
+rest_ascend : (n : ℕ) (S : Atoms) → IsAscending S → IsAscending (drop n S)
+rest_ascend zero S up = up
+rest_ascend (suc n) [] up = tt
+rest_ascend (suc n) (a ∷ S) up = rest_ascend n S up.1
+
+pub part_ascends : (from n : ℕ) (S : Atoms) → IsAscending S → IsAscending (take n (drop from S))
+part_ascends from n S up = first_ascend n (drop from S) (rest_ascend from S up)
+
 -- ---- all words
 
 pub encode_step : (atoms : List ℕ) (S : Atoms) → 0 < length atoms → encode atoms S ≡ value (map (has S) (take 64 atoms)) ∷ encode (drop 64 atoms) S
@@ -35,13 +110,6 @@ encode_none [] S e = refl
 encode_none (a ∷ atoms) S e = absurd (omega arith)
 
 -- ---- the loops
-
-pub bit_low : (b : Bool) → bit b ≤ 1
-bit_low true = omega arith
-bit_low false = omega arith
-
-pub twice_power : (i : ℕ) → 2 ^ (i + 1) ≡ 2 * 2 ^ i
-twice_power i = rw (add-one) (pow-succ' 2 i)
 
 less_is : (m n : ℕ) → true ≡ nat_lt m n → m < n
 less_is m n e = grind (arith, nat_tests)

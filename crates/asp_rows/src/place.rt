@@ -1,9 +1,8 @@
-//! Atoms that are looked for in a set one after another, mostly in their order: one walk through the set finds them.
-ghost use Rattle.std.specs.Prelude.{◌≡◌, ◌-◌, ◌<◌, ◌≤◌, IsTrue, length, slice_index};
-ghost use Rattle.asp_model.specs.Sets.{IsAscending, has};
+//! Where atoms stand in a list of ascending ones.
+ghost use Rattle.std.specs.Prelude.{◌≡◌, ◌-◌, ◌<◌, ◌≤◌, IsTrue, false, length, slice_index};
+ghost use Rattle.asp_model.specs.Sets.{IsAscending};
 ghost use Rattle.asp_rows.specs.Places.{IsBehind};
 
-use asp_model::interp::Interp;
 use asp_model::program::Atom;
 
 // Whether all atoms before the place are below this one.
@@ -47,8 +46,8 @@ fn count_below(atoms: &[Atom], atom: Atom) -> usize
     low
 }
 
-// The place, if all atoms before it are below this one, and else one of which that holds.
-fn begin(atoms: &[Atom], place: usize, atom: Atom) -> usize
+/// The place, if all atoms before it are below this one, and else one of which that holds.
+pub(crate) fn begin(atoms: &[Atom], place: usize, atom: Atom) -> usize
     requires { IsAscending atoms.now }
     ensures { IsBehind atoms.now result atom }
 {
@@ -73,24 +72,26 @@ fn skip(atoms: &[Atom], from: usize, atom: Atom) -> usize
     atoms.len()
 }
 
-// Whether the atom stands at the place up to which those below it were skipped.
-fn stands_at(atoms: &[Atom], place: usize, atom: Atom) -> bool
+/// The first place whose atom isn't below the given one, with none before the place that is. Where the atoms up to there are a
+/// run of consecutive numbers, as they mostly are, the first look finds it.
+pub(crate) fn find(atoms: &[Atom], from: usize, atom: Atom) -> usize
     requires ascending { IsAscending atoms.now }
-    requires behind { IsBehind atoms.now place atom }
-    requires here { place < length atoms.now → atom ≤ slice_index atoms.now place }
-    ensures { result ≡ has atoms.now atom }
+    requires some { 0 < length atoms.now }
+    requires behind { IsBehind atoms.now from atom }
+    ensures behind { IsBehind atoms.now result atom }
+    ensures here { result < length atoms.now → atom ≤ slice_index atoms.now result }
 {
-    place < atoms.len() && atoms[place] == atom
+    let guess = atom.saturating_sub(atoms[0]) as usize;
+    if guess < atoms.len() && atoms[guess] == atom {
+        return guess;
+    }
+    skip(atoms, from, atom)
 }
 
-/// Whether the atom is in the set. The place is where it is looked for first, and moves to it: any place will do. Atoms that
-/// ascend take one walk through the set, and where they begin anew one search by halves.
-pub(crate) fn has_near(interp: &Interp, atom: Atom, place: &mut usize) -> bool
-    ensures { result ≡ has interp.now atom }
+/// Whether an atom stands at the place, and is at most the last one.
+pub(crate) fn reaches(atoms: &[Atom], place: usize, last: Atom) -> bool
+    ensures yes { IsTrue result → (place < length atoms.now) × (slice_index atoms.now place ≤ last) }
+    ensures no { result ≡ false → place < length atoms.now → last < slice_index atoms.now place }
 {
-    let atoms = interp.as_slice();
-    let from = begin(atoms, *place, atom);
-    let at = skip(atoms, from, atom);
-    *place = at;
-    stands_at(atoms, at, atom)
+    place < atoms.len() && atoms[place] <= last
 }

@@ -1,10 +1,10 @@
 //! A set among some atoms as a row of bits.
-ghost use Rattle.std.specs.Prelude.{◌≡◌, ◌≤◌, ℕ, length, map, slice_index, IfOk};
+ghost use Rattle.std.specs.Prelude.{◌≡◌, ◌*◌, ◌^◌, ◌<◌, ◌≤◌, ℕ, length, map, slice_index, IfOk};
 ghost use Rattle.asp_model.specs.Sets.{IsAscending, has};
-ghost use Rattle.asp_rows.specs.Bits.{bit, encode, value, IsBitAt};
+ghost use Rattle.asp_rows.specs.Bits.{encode, value, IsBitAt};
 
 use crate::bits::{Bit, bit_at, bit_of};
-use crate::place::has_near;
+use crate::place::{begin, find, reaches};
 use asp_model::interp::Interp;
 use asp_model::program::Atom;
 use asp_vars::snapshot::Snapshot;
@@ -22,22 +22,49 @@ pub struct Row {
     pub set: Snapshot<Interp>,
 }
 
-fn bit(set: bool) -> u64
-    ensures { result ≡ bit set }
+// A word with so many zeros behind it.
+fn shift(word: u64, zeros: usize) -> u64
+    requires few { zeros < 64 }
+    requires room { word * 2 ^ zeros < 2 ^ 64 }
+    ensures { result ≡ word * 2 ^ zeros }
 {
-    if set { 1 } else { 0 }
+    word << zeros
 }
 
-// The bits of at most 64 atoms. The place is where the first of them is looked for in the set.
-fn word(set: &Interp, atoms: &[Atom], place: &mut usize) -> u64
-    requires { length atoms.now ≤ 64 }
+// The same, where it may have no other bits.
+fn with_zeros(word: u64, zeros: usize) -> u64
+    requires few { zeros ≤ 64 }
+    requires room { word * 2 ^ zeros < 2 ^ 64 }
+    ensures { result ≡ word * 2 ^ zeros }
+{
+    if zeros == 64 { 0 } else { shift(word, zeros) }
+}
+
+// The bits of at most 64 atoms, by the set's own atoms. The place is where the set's first atom is looked for that isn't below
+// these, and moves behind the last one that isn't above them: any place will do.
+fn word(set: &[Atom], atoms: &[Atom], place: &mut usize) -> u64
+    requires set { IsAscending set.now }
+    requires ascending { IsAscending atoms.now }
+    requires some { 0 < length atoms.now }
+    requires few { length atoms.now ≤ 64 }
     ensures { result ≡ value (map (has set.now) atoms.now) }
 {
+    let last = atoms[atoms.len() - 1];
+    let mut next = begin(set, *place, atoms[0]);
     let mut word = 0;
-    for atom in atoms {
-        word = 2 * word + bit(has_near(set, *atom, place));
+    let mut from = 0;
+    while reaches(set, next, last) {
+        let at = find(atoms, from, set[next]);
+        word = shift(word, at - from);
+        from = at;
+        if atoms[at] == set[next] {
+            word = 2 * word + 1;
+            from = at + 1;
+        }
+        next += 1;
     }
-    word
+    *place = next;
+    with_zeros(word, atoms.len() - from)
 }
 
 impl Row {
@@ -45,6 +72,7 @@ impl Row {
 
     /// The row of a set.
     pub fn of(alloc: Global, atoms: &[Atom], set: &Interp) -> Result<Row, AllocError>
+        requires { IsAscending atoms.now }
         ensures words { IfOk result (λ row. row.words.items ≡ encode atoms.now set.now) }
         ensures set { IfOk result (λ row. row.set ≡ set.now) }
     {
@@ -53,7 +81,7 @@ impl Row {
         let mut from = 0;
         while from < atoms.len() {
             let to = from + (atoms.len() - from).min(64);
-            words.push(word(set, &atoms[from..to], &mut place))?;
+            words.push(word(set.as_slice(), &atoms[from..to], &mut place))?;
             from = to;
         }
         Ok(Row {

@@ -1,31 +1,33 @@
 -- The atoms that are true.
-use Rattle.std.proofs.Common.{◌≡◌, ℕ, ◌+◌, ◌<◌, ◌≤◌, Bool, true, false, cond, List, ◌∷◌, ◌++◌, filter, length, get_or, take, Option, Some, None, refl, sym, ap, ◌∙◌, subst, arith, add-one, []}
+use Rattle.std.proofs.Common.{◌≡◌, ℕ, ◌+◌, ◌<◌, ◌≤◌, Bool, true, false, cond, List, ◌∷◌, ◌++◌, filter, length, get_or, set, take, Option, Some, None, refl, sym, ap, ◌∙◌, subst, arith, add-one, []}
 use Rattle.std.specs.List.{AllByRecursion}
 use Rattle.std.specs.Bool.{beq}
-use Rattle.std.specs.Option.{unwrap_or}
-use Rattle.std.proofs.lemmas.List.{take_all}
+use Rattle.std.proofs.lemmas.List.{take_all, take_more_set, take-set-le}
 use Rattle.std.proofs.lemmas.List.Elements.{filter_more}
 use Rattle.asp_model.specs.declared.program.Program.{Program}
 use Rattle.asp_model.specs.Sets.{Atoms, IsAscending}
 use Rattle.asp_model.specs.Models.{atoms_of, mentions}
 use Rattle.asp_model.proofs.SetLaws.{IsAscending-set_of}
-use Rattle.asp_vars.specs.Literals.{T, is_true, value_of}
+use Rattle.asp_vars.specs.Literals.{T, agrees, holds_in, is_true, value_of}
 use Rattle.asp_vars.specs.Numbering.{var_of_atom}
 use Rattle.asp_vars.proofs.PlaceLaws.{var_of_nth_atom}
 use Rattle.asp_trail_laws.specs.Whole.{truths, truth_of}
 use Rattle.asp_trail_laws.proofs.WholeLaws.{truth_at}
 
 -- whether a variable is true
-pub held_is : (a : List (Option Bool)) (v : ℕ) → unwrap_or (value_of a v) false ≡ is_true (truths a) (T v)
-held_is a v = cases (value_of a v) ∙ sym (ap (λ (b : Bool). beq b true) (truth_at a v))
+pub held_in : (a : List (Option Bool)) (v : ℕ) → holds_in a (T v) ≡ is_true (truths a) (T v)
+held_in a v = cases (value_of a v) ∙ sym (ap (λ (b : Bool). beq b true) (truth_at a v))
   where
-    same : (b : Bool) → b ≡ beq b true
-    same true = refl
-    same false = refl
-
-    cases : (o : Option Bool) → unwrap_or o false ≡ beq (truth_of o) true
+    cases : (o : Option Bool) → agrees o (T v) ≡ beq (truth_of o) true
     cases None = refl
-    cases (Some b) = same b
+    cases (Some b) = refl
+
+-- a list after one more is put behind its first ones, of which it is one or isn't
+pub put_step : (xs : List ℕ) (len atom n : ℕ) (b : Bool) → len < length xs → n ≡ len + cond b 1 0 → take n (set xs len atom) ≡ take len xs ++ cond b (atom ∷ []) []
+put_step xs len atom n true lt is = ap (λ (k : ℕ). take k (set xs len atom)) is ∙ take_more_set xs len atom lt
+put_step xs len atom n false lt is =
+    let same : n ≡ len = omega (arith, is) in
+    ap (λ (k : ℕ). take k (set xs len atom)) same ∙ take-set-le len xs len atom (omega arith) ∙ sym (append-nil (take len xs))
 
 -- whether an atom's variable is
 abbrev pub is_held : Program → List (Option Bool) → ℕ → Bool

@@ -1,13 +1,13 @@
 //! A trail on which all variables have values: the set of its true atoms, and a nogood that it hits where that isn't
 //! stable.
-ghost use Rattle.std.specs.Prelude.{◌≡◌, ◌+◌, ◌≤◌, ◌∷◌, ◌++◌, ℕ, [], IfOk, OnOk, MatchOption, IsTrue, if◌then◌else◌, length};
+ghost use Rattle.std.specs.Prelude.{◌≡◌, ◌+◌, ◌^◌, ◌<◌, ◌≤◌, ℕ, IfOk, MatchOption, IsTrue, if◌then◌else◌, length, take};
 ghost use Rattle.std.specs.List.{All};
 ghost use Rattle.asp_model.specs.Sets.{has};
 ghost use Rattle.asp_model.specs.Models.{atoms_of, is_stable};
 ghost use Rattle.asp_vars.specs.Literals.{T, is_true};
 ghost use Rattle.asp_vars.specs.Numbering.{var_count};
 ghost use Rattle.asp_vars.specs.Unfounded.{is_unfounded};
-ghost use Rattle.asp_trail.specs.Entries.{assignment};
+ghost use Rattle.asp_found.specs.Valuations.{true_atoms};
 ghost use Rattle.asp_loop.specs.LoopNogoods.{IsLoopNogood};
 ghost use Rattle.asp_trail_laws.specs.Whole.{IsWhole, truths, atoms_on};
 ghost use Rattle.asp_search_laws.specs.Faults.{IsFault};
@@ -22,28 +22,41 @@ use asp_state::state::SearchState;
 use asp_trail::trail::Trail;
 use asp_vars::assign::Assign;
 use asp_vars::compiled::Compiled;
-use asp_vars::lit::Var;
+use asp_vars::lit::{Lit, Var};
 use asp_vars::nogood::Nogood;
 use std::alloc::{AllocError, Global};
 
 // Whether the variable is true.
-fn is_held(trail: &Trail, var: Var) -> bool
-    requires { var ≤ trail.now.vars }
-    ensures { result ≡ is_true (truths (assignment trail.now.vars trail.now.entries)) (T var) }
+fn is_held(assign: &Assign, var: Var) -> bool
+    requires within { var < length assign.now }
+    requires small { var < 2 ^ 31 }
+    ensures { result ≡ is_true (truths assign.now) (T var) }
 {
-    trail.value(var).unwrap_or(false)
+    assign.holds(Lit::new(var, true))
 }
 
-// Adds an atom whose variable is true.
-fn add_if_held(held: &mut Vec<Atom>, trail: &Trail, atom: Atom, var: Var) -> Result<(), AllocError>
-    requires { var ≤ trail.now.vars }
-    ensures { OnOk result (held.new.items ≡ held.old.items ++ (if is_true (truths (assignment trail.now.vars trail.now.entries)) (T var) then atom ∷ [] else [])) }
+fn count(held: bool) -> usize
+    ensures { result ≡ (if held then 1 else 0) }
 {
-    if !is_held(trail, var) {
-        return Ok(());
+    if held { 1 } else { 0 }
+}
+
+// Puts the atoms whose variables are true to the front of a list, and says how many they are. Each atom is put behind those
+// before it, and stays there if its variable is true: that can't be foreseen, so no jump depends on it.
+fn gather(compiled: &Compiled, assign: &Assign, held: &mut [Atom]) -> usize
+    requires vars { length assign.now ≡ var_count compiled.now + 1 }
+    requires room { length held.old ≡ length (atoms_of compiled.now) }
+    ensures within { result ≤ length held.new }
+    ensures held { take result held.new ≡ true_atoms compiled.now (truths assign.now) }
+{
+    let _count = compiled.atom_count();
+    let atoms = compiled.atoms().as_slice();
+    let mut len = 0;
+    for i in 0..atoms.len() {
+        held[len] = atoms[i];
+        len += count(is_held(assign, i as u32 + 1));
     }
-    held.push(atom)?;
-    Ok(())
+    len
 }
 
 /// The set of the atoms that are true on the trail, in memory of its size. They are gathered in a list that lies ready.
@@ -56,13 +69,9 @@ pub(crate) fn true_atoms(
     requires { trail.now.vars ≡ var_count compiled.now }
     ensures { IfOk result (λ s. s ≡ atoms_on compiled.now trail.now.vars trail.now.entries) }
 {
-    let _count = compiled.atom_count();
-    let atoms = compiled.atoms().as_slice();
-    held.clear();
-    for i in 0..atoms.len() {
-        add_if_held(held, trail, atoms[i], i as u32 + 1)?;
-    }
-    let set = Vec::from_slice(alloc, held.as_slice())?;
+    held.resize(compiled.atom_count(), 0)?;
+    let len = gather(compiled, trail.assignment(), held.as_mut_slice());
+    let set = Vec::from_slice(alloc, &held[..len])?;
     Ok(Interp::from_ascending(set))
 }
 
