@@ -2,7 +2,7 @@
 use Rattle.std.proofs.Common.{◌≡◌, ℕ, ◌+◌, ◌<◌, ◌≤◌, Bool, true, false, cond, List, ◌∷◌, ◌++◌, filter, length, get_or, set, take, Option, Some, None, refl, sym, ap, ◌∙◌, subst, arith, add-one, []}
 use Rattle.std.specs.List.{AllByRecursion}
 use Rattle.std.specs.Bool.{beq}
-use Rattle.std.proofs.lemmas.List.{take_all, take_more_set, take-set-le}
+use Rattle.std.proofs.lemmas.List.{append-nil, take_all, take_more_set, take-set-le}
 use Rattle.std.proofs.lemmas.List.Elements.{filter_more}
 use Rattle.asp_model.specs.declared.program.Program.{Program}
 use Rattle.asp_model.specs.Sets.{Atoms, IsAscending}
@@ -21,6 +21,10 @@ held_in a v = cases (value_of a v) ∙ sym (ap (λ (b : Bool). beq b true) (trut
     cases : (o : Option Bool) → agrees o (T v) ≡ beq (truth_of o) true
     cases None = refl
     cases (Some b) = refl
+
+pub one_at_most : (b : Bool) → cond b 1 0 ≤ 1
+one_at_most true = omega arith
+one_at_most false = omega arith
 
 -- a list after one more is put behind its first ones, of which it is one or isn't
 pub put_step : (xs : List ℕ) (len atom n : ℕ) (b : Bool) → len < length xs → n ≡ len + cond b 1 0 → take n (set xs len atom) ≡ take len xs ++ cond b (atom ∷ []) []

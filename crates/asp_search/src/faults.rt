@@ -59,6 +59,22 @@ fn gather(compiled: &Compiled, assign: &Assign, held: &mut [Atom]) -> usize
     len
 }
 
+// The atoms whose variables are true, in memory of their size. The list is where they are gathered.
+fn gathered(
+    alloc: Global,
+    compiled: &Compiled,
+    assign: &Assign,
+    held: &mut [Atom],
+) -> Result<Vec<Atom>, AllocError>
+    requires vars { length assign.now ≡ var_count compiled.now + 1 }
+    requires room { length held.old ≡ length (atoms_of compiled.now) }
+    ensures { IfOk result (λ atoms. atoms.items ≡ true_atoms compiled.now (truths assign.now)) }
+{
+    let len = gather(compiled, assign, held);
+    let atoms = Vec::from_slice(alloc, &held[..len])?;
+    Ok(atoms)
+}
+
 /// The set of the atoms that are true on the trail, in memory of its size. They are gathered in a list that lies ready.
 pub(crate) fn true_atoms(
     alloc: Global,
@@ -70,9 +86,8 @@ pub(crate) fn true_atoms(
     ensures { IfOk result (λ s. s ≡ atoms_on compiled.now trail.now.vars trail.now.entries) }
 {
     held.resize(compiled.atom_count(), 0)?;
-    let len = gather(compiled, trail.assignment(), held.as_mut_slice());
-    let set = Vec::from_slice(alloc, &held[..len])?;
-    Ok(Interp::from_ascending(set))
+    let atoms = gathered(alloc, compiled, trail.assignment(), held.as_mut_slice())?;
+    Ok(Interp::from_ascending(atoms))
 }
 
 // The loop nogood of an unfounded set.
