@@ -58,7 +58,7 @@ pub fn nogood_by(
     let raising = raising(alloc, trail, place, rows, raisers, depth)?;
     let found = raising.as_slice();
     let lits = needed(alloc, rows, sums, limits, depth, found)?;
-    below(lits, cost, more)
+    below(alloc, lits, cost, more)
 }
 
 // The literal that follows, since its complement reaches the bound.

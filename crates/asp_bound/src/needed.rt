@@ -11,7 +11,6 @@ use crate::reach::reach;
 use crate::sums::{lower, raise};
 use asp_table::table::Table;
 use asp_vars::lit::Lit;
-use asp_vars::nogood::Lits;
 use std::alloc::{AllocError, Global};
 
 // Whether one of the first sums shows that they reach the bound.
@@ -44,7 +43,7 @@ fn leave_out(sums: &mut [i64], row: &[Place], truth: bool, bound: &[i64], depth:
 
 // Adds the literal, if the sums don't reach the bound without what it adds.
 fn add_needed(
-    lits: &mut Lits,
+    lits: &mut Vec<Lit>,
     rows: &Table<Place>,
     sums: &mut [i64],
     bound: &[i64],
@@ -56,7 +55,7 @@ fn add_needed(
     requires small { (j : ℕ) → j < length sums.old → raised (row_at rows.now lit.var) j lit.truth < 2 ^ 60 }
     requires low { (j : ℕ) → j < length sums.old → (neg_ℤ (pos (2 ^ 60)) +ℤ pos (raised (row_at rows.now lit.var) j lit.truth)) ≤ℤ slice_index_or sums.old j (pos 0) }
     requires high { (j : ℕ) → j < length sums.old → slice_index_or sums.old j (pos 0) <ℤ pos (2 ^ 60) }
-    ensures needed { OnOk result ((rest : List Literal) → lits.new ++ needed rows.now bound.now depth sums.new rest ≡ lits.old ++ needed rows.now bound.now depth sums.old (lit ∷ rest)) }
+    ensures needed { OnOk result ((rest : List Literal) → lits.new.items ++ needed rows.now bound.now depth sums.new rest ≡ lits.old.items ++ needed rows.now bound.now depth sums.old (lit ∷ rest)) }
     ensures fallen { (j : ℕ) → j < length sums.old → slice_index_or sums.new j (pos 0) ≤ℤ slice_index_or sums.old j (pos 0) }
     ensures least { (j : ℕ) → j < length sums.old → slice_index_or sums.old j (pos 0) ≤ℤ (slice_index_or sums.new j (pos 0) +ℤ pos (raised (row_at rows.now lit.var) j lit.truth)) }
 {
@@ -76,15 +75,15 @@ pub fn needed(
     bound: &[i64],
     depth: usize,
     raising: &[Lit],
-) -> Result<Lits, AllocError>
+) -> Result<Vec<Lit>, AllocError>
     requires vars { All (λ l. (0 < l.var) × (l.var < length rows.now)) raising.now }
     requires within { (v : ℕ) → All (λ o. o.level < length sums.old) (row_at rows.now v) }
     requires small { (v j : ℕ) (b : Bool) → 0 < v → v < length rows.now → j < length sums.old → raised (row_at rows.now v) j b < 2 ^ 60 }
     requires low { (j : ℕ) → j < length sums.old → (neg_ℤ (pos (2 ^ 60)) +ℤ pos (total rows.now j raising.now)) ≤ℤ slice_index_or sums.old j (pos 0) }
     requires high { (j : ℕ) → j < length sums.old → slice_index_or sums.old j (pos 0) <ℤ pos (2 ^ 60) }
-    ensures { IfOk result (λ lits. lits ≡ needed rows.now bound.now depth sums.old raising.now) }
+    ensures { IfOk result (λ lits. lits.items ≡ needed rows.now bound.now depth sums.old raising.now) }
 {
-    let mut lits = Lits::new(alloc);
+    let mut lits = Vec::with_capacity(alloc, raising.len())?;
     for lit in raising {
         add_needed(&mut lits, rows, sums, bound, depth, *lit)?;
     }

@@ -92,13 +92,19 @@ pub fn raising(
 }
 
 /// The nogood of these literals, and maybe one more, that is below the cost.
-pub fn below(lits: Lits, cost: &Cost, more: Option<Lit>) -> Result<Nogood, AllocError>
-    ensures { IfOk result (λ n. n ≡ record { lits = lits ++ option_to_list more; base = base.Below cost.now }) }
+pub fn below(
+    alloc: Global,
+    lits: Vec<Lit>,
+    cost: &Cost,
+    more: Option<Lit>,
+) -> Result<Nogood, AllocError>
+    ensures { IfOk result (λ n. n ≡ record { lits = lits.items ++ option_to_list more; base = base.Below cost.now }) }
 {
-    let mut lits = lits;
+    let mut all = lits;
     if let Some(lit) = more {
-        lits.push(lit)?;
+        all.push(lit)?;
     }
+    let lits = Lits::from_slice(alloc, all.as_slice())?;
     let base = Base::Below(cost.copy()?);
     Ok(Nogood { lits, base })
 }

@@ -16,14 +16,14 @@ use std::alloc::{AllocError, Global};
 
 // Adds the item's literal for the side if it holds, and says what that weighs.
 fn add(
-    lits: &mut Lits,
+    lits: &mut Vec<Lit>,
     side: bool,
     trail: &Trail,
     place: usize,
     item: &Item,
 ) -> Result<u64, AllocError>
     requires { item.now.lit.var ≤ trail.now.vars }
-    ensures lits { OnOk result (lits.new ≡ lits.old ++ held side (before trail.now place) item.now) }
+    ensures lits { OnOk result (lits.new.items ≡ lits.old.items ++ held side (before trail.now place) item.now) }
     ensures weight { IfOk result (λ w. w ≡ weight_if (holds_in (before trail.now place)) side item.now) }
 {
     let lit = on(side, item.lit);
@@ -37,17 +37,17 @@ fn add(
 
 // Adds literals for the side that held before a place, the heaviest first, until the sum is enough.
 fn gather(
-    mut lits: Lits,
+    mut lits: Vec<Lit>,
     side: bool,
     trail: &Trail,
     place: usize,
     need: u64,
     start: u64,
     row: &[Item],
-) -> Result<Lits, AllocError>
+) -> Result<Vec<Lit>, AllocError>
     requires within { All (λ i. i.lit.var ≤ trail.now.vars) row.now }
     requires fits { start + total_of row.now < 2 ^ 64 }
-    ensures { IfOk result (λ n. n ≡ lits ++ gathered side (before trail.now place) need start row.now) }
+    ensures { IfOk result (λ n. n.items ≡ lits.items ++ gathered side (before trail.now place) need start row.now) }
 {
     let mut sum = start;
     for item in row {
@@ -67,11 +67,11 @@ fn settled(
     place: usize,
     shape: &Shape,
     row: &[Item],
-) -> Result<Lits, AllocError>
+) -> Result<Vec<Lit>, AllocError>
     requires { IsReady (before trail.now place) shape.now row.now }
-    ensures { IfOk result (λ n. n ≡ spoken_as None side (before trail.now place) shape.now row.now) }
+    ensures { IfOk result (λ n. n.items ≡ spoken_as None side (before trail.now place) shape.now row.now) }
 {
-    let mut lits = Lits::new(alloc);
+    let mut lits = Vec::with_capacity(alloc, row.len())?;
     lits.push(Lit::new(shape.var, !side))?;
     gather(lits, side, trail, place, need(shape, side), 0, row)
 }
@@ -85,13 +85,13 @@ fn implied(
     shape: &Shape,
     row: &[Item],
     spot: usize,
-) -> Result<Lits, AllocError>
+) -> Result<Vec<Lit>, AllocError>
     requires ready { IsReady (before trail.now place) shape.now row.now }
     requires spot { spot < length row.now }
-    ensures { IfOk result (λ n. n ≡ spoken_as (Some spot) side (before trail.now place) shape.now row.now) }
+    ensures { IfOk result (λ n. n.items ≡ spoken_as (Some spot) side (before trail.now place) shape.now row.now) }
 {
     let item = &row[spot];
-    let mut lits = Lits::new(alloc);
+    let mut lits = Vec::with_capacity(alloc, row.len())?;
     lits.push(on(side, item.lit))?;
     lits.push(Lit::new(shape.var, !side))?;
     gather(
@@ -119,10 +119,11 @@ pub fn speak(
     ensures lits { IfOk result (λ n. n.lits ≡ spoken speech.now (before trail.now place) shape.now row.now) }
     ensures base { IfOk result (λ n. n.base ≡ Base.Pure) }
 {
-    let lits = match speech.open {
+    let all = match speech.open {
         None => settled(alloc, speech.side, trail, place, shape, row)?,
         Some(spot) => implied(alloc, speech.side, trail, place, shape, row, spot)?,
     };
+    let lits = Lits::from_slice(alloc, all.as_slice())?;
     Ok(Nogood {
         lits,
         base: Base::Pure,

@@ -15,10 +15,10 @@ pub loop-lit-preserved : goal.loop-lit-preserved
 loop-lit-preserved c =
     let within : c.loop-lit.lit-index < length c.args.raising.now = omega arith in
     record {
-      rest = needed-next c.args.rows.now c.args.bound.now c.args.depth c.args.raising.now c.loop-lit.lit-index c.lit-item.result c.loop-lit.lits c.add_needed.new.lits _ c.loop-lit.sums c.add_needed.new.sums within c.lit-item.is c.in_ok-add_needed.ensures.needed c.loop-lit.invariant.rest;
+      rest = needed-next c.args.rows.now c.args.bound.now c.args.depth c.args.raising.now c.loop-lit.lit-index c.lit-item.result c.loop-lit.lits.items c.add_needed.new.lits.items _ c.loop-lit.sums c.add_needed.new.sums within c.lit-item.is c.in_ok-add_needed.ensures.needed c.loop-lit.invariant.rest;
       low = room-next c.args.rows.now c.args.raising.now c.loop-lit.lit-index c.lit-item.result (neg_ℤ (pos (2 ^ 60))) c.loop-lit.sums c.add_needed.new.sums within c.lit-item.is c.add_needed.auto.sums c.loop-lit.invariant.low c.in_ok-add_needed.ensures.least;
       high = high-next (pos (2 ^ 60)) c.loop-lit.sums c.add_needed.new.sums c.add_needed.auto.sums c.loop-lit.invariant.high c.in_ok-add_needed.ensures.fallen;
     }
 
 pub returns : goal.returns
-returns c = needed-last c.args.rows.now c.args.bound.now c.args.depth c.args.raising.now c.loop-lit.lit-index c.loop-lit.lits _ c.loop-lit.sums (omega arith) c.loop-lit.invariant.rest
+returns c = needed-last c.args.rows.now c.args.bound.now c.args.depth c.args.raising.now c.loop-lit.lit-index c.loop-lit.lits.items _ c.loop-lit.sums (omega arith) c.loop-lit.invariant.rest

@@ -6,6 +6,6 @@ use Rattle.asp_weight.proofs.speech.gather.Given as goal
 
 abbrev pub invariant-loop-item : goal.invariant-loop-item
 invariant-loop-item l = record {
-  whole : l.lits ++ gathered l.side (before l.trail l.place) l.need l.sum (drop l.item-index l.row) ≡ l.fn.lits ++ gathered l.side (before l.trail l.place) l.need l.start l.row;
+  whole : l.lits.items ++ gathered l.side (before l.trail l.place) l.need l.sum (drop l.item-index l.row) ≡ l.fn.lits.items ++ gathered l.side (before l.trail l.place) l.need l.start l.row;
   small : l.sum ≤ l.start + total_of (take l.item-index l.row);
 }
