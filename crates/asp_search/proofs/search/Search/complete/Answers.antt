@@ -61,6 +61,11 @@ fault-requires-clause-whole g c =
     whole_for i.compiled.now t c.self.invariant.0.program
     (full_whole silent (used_up (reasoning_of i.mode) i.state.program (answers_known i.known.items i.seen)) t q full (λ v w h. g.met.P.Propagator.whole t.program t.bound (values_of t) v sound w h))
 
+pub fault-requires-clause-atoms : goal.fault-requires-clause-atoms
+fault-requires-clause-atoms g c =
+    let i = c.self.inside in
+    atoms_for i.compiled.now c.trail.result.now.vars i.state c.trail.result.now.entries c.in_ok-interp.interp c.self.invariant.0.program c.trail.ensures.vars c.trail.ensures.entries c.in_ok-interp.ensures
+
 pub returns-in_err-fault-clause-err : goal.returns-in_err-fault-clause-err
 returns-in_err-fault-clause-err g c =
     let i = c.self.inside in
