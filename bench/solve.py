@@ -7,9 +7,10 @@ usage: bench/solve.py [--program build/aspenum] [--limit SECONDS] [--jobs N] [--
 
 clasp runs twice: as it comes ("default", writing no answers), and in the configuration nearest to this search ("nearest"),
 which switches off what this search has nothing like. Each program runs once in each, within a limit of 20 seconds of processor
-time (with --runs several times in turn, but for "nearest", and the least time of each counts: for machines that aren't calm): what doesn't end is shown with ">" and counted at the limit. The programs are in programs.py, each with its half: we tune
-on 'tuned' alone, and 'held out' tells whether that helped what we didn't look at. bench/README.md says what each is. It ends
-with status 1 where two that ended said different things; it is outside the gate.
+time: what doesn't end is shown with ">" and counted at the limit. With --runs all but "nearest" run several times, in turn, and
+the least time of each counts: for machines that aren't calm. The programs are in programs.py, each with its half: we tune on
+'tuned' alone, and 'held out' tells whether that helped what we didn't look at. bench/README.md says what each is. It ends with
+status 1 where two that ended said different things; it is outside the gate.
 
 With --workers it runs enumerations (those of workers.py where none is named) with one worker and with so many, and shows the
 busiest thread's processor time, and how many answers were delivered twice; clasp isn't run."""
@@ -81,7 +82,7 @@ def result_of(text):
 SIDES = ("aspenum", "nearest", "default")
 
 
-def least(words, path, output, limit, known):
+def once_more(words, path, output, limit, known):
     """A run once more: what it says, if it took less time than the one that is known."""
     again = run(words, path, output, limit)
     return again if again[3] and again[1] < known[1] else known
@@ -95,7 +96,7 @@ def measured(program, name, room, limit, runs=1):
     outputs = {side: f"{room}/{name}.{side}" for side in SIDES}
     found = {side: run(commands[side], path, outputs[side], limit) for side in SIDES}
     for side in [side for _ in range(runs - 1) for side in (SIDES[0], SIDES[2])]:
-        found[side] = least(commands[side], path, outputs[side], limit, found[side])
+        found[side] = once_more(commands[side], path, outputs[side], limit, found[side])
     for side in SIDES:
         notes, time, memory, ended = found[side]
         text = tail_of(outputs[side])
