@@ -3,6 +3,7 @@ pub mod CostLaws
 pub mod WeightLaws
 pub mod PlaceLaws
 pub mod LevelLaws
+pub mod TakenLaws
 pub mod ReachLaws
 pub mod StepLaws
 pub mod KeptLaws

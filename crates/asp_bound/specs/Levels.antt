@@ -1,5 +1,5 @@
 -- How the places at a priority are gathered.
-use Rattle.std.specs.Prelude.{◌≡◌, ◌≢◌, ℕ, zero, suc, ◌+◌, ◌*◌, ◌<◌, ◌==◌, nat_lt, if◌then◌else◌, List, [], ◌∷◌, ◌++◌, Bool, true, false, max, length, sum_by, slice_index_or, ℤ, pos}
+use Rattle.std.specs.Prelude.{◌≡◌, ◌≢◌, ℕ, zero, suc, ◌+◌, ◌*◌, ◌<◌, ◌==◌, nat_lt, if◌then◌else◌, List, [], ◌∷◌, ◌++◌, Bool, true, false, max, length, sum_by, slice_index_or, slice_set, ℤ, pos}
 use Rattle.std.specs.List.{All, Contains}
 use Rattle.asp_bound.specs.declared.place.Place.{Place}
 use Rattle.asp_bound.specs.declared.place.Item.{Item}
@@ -51,7 +51,15 @@ pub record ArePlaced (j : ℕ) (additions : List Addition) (rows new : List (Lis
   pub grown : (v : ℕ) (o : Place) → Contains (row_at rows v) o → Contains (row_at new v) o
   pub linked : (i : ℕ) (d : Addition) → i < length additions → Contains (row_at new (slice_index_or additions i d).var) (place_of j i (slice_index_or additions i d))
 
+-- the weights with those of a variable put to 0
+abbrev pub without : List ℤ → ℕ → List ℤ
+without weights v = slice_set (slice_set weights (2 * v) (pos 0)) (2 * v + 1) (pos 0)
+
+-- what a variable costs at least
+abbrev pub least_by : List ℤ → ℕ → ℕ
+least_by weights v = beneath (weight_true weights v) + beneath (weight_false weights v)
+
 -- what they cost at least
 abbrev pub least_to : List ℤ → ℕ → ℕ
 least_to weights zero = 0
-least_to weights (suc n) = least_to weights n + (beneath (weight_true weights (suc n)) + beneath (weight_false weights (suc n)))
+least_to weights (suc n) = least_to weights n + least_by weights (suc n)

@@ -1,11 +1,15 @@
 //! The tables of a program's weights, priority by priority.
-ghost use Rattle.std.specs.Prelude.{◌≡◌, ◌<◌, ◌≤◌, ◌+◌, ◌*◌, ◌-◌, ◌^◌, [], ◌∷◌, ◌++◌, ℕ, IfOk, OnOk, pos, length, map, slice_index_or, slice_set, true};
+ghost use Rattle.std.specs.Prelude.{◌≡◌, ◌<◌, ◌≤◌, ◌+◌, ◌*◌, ◌-◌, ◌^◌, IsTrue, [], ◌∷◌, ◌++◌, ℕ, IfOk, OnOk, pos, length, map, slice_index_or, slice_set, true};
 ghost use Rattle.std.specs.List.{All, AllPairs};
 ghost use Rattle.std.specs.List.Sorted.{IsPermutation};
 ghost use Rattle.std.specs.Int.RustNames.{unsigned_abs};
 ghost use Rattle.asp_model.specs.Costs.{priorities};
+ghost use Rattle.asp_model.specs.Sets.{has};
+ghost use Rattle.asp_model.specs.Holding.{atom_of};
+ghost use Rattle.asp_model.specs.Models.{atoms_of};
 ghost use Rattle.asp_vars.specs.Numbering.{var_count};
-ghost use Rattle.asp_bound.specs.Levels.{additions_of, additions_to, item_of, place_of, least_to, ArePlaced};
+ghost use Rattle.asp_bound.specs.Levels.{additions_of, additions_to, weight_true, weight_false, without, item_of, place_of, least_by, least_to, ArePlaced};
+ghost use Rattle.asp_bound.specs.Weights.{size_of, AreWeights};
 ghost use Rattle.asp_bound.specs.Optimism.{optimistic};
 ghost use Rattle.asp_bound.specs.Rises.{row_at};
 ghost use Rattle.asp_bound.specs.Kept.{IsOnce};
@@ -13,7 +17,7 @@ ghost use Rattle.asp_bound.specs.Gathered.{IsGathered, AreGathered, HasEach};
 
 use crate::place::{Addition, Item, Place};
 use crate::rise::{beneath, rise};
-use crate::weights::weights_at;
+use crate::weights::{blank, lit_of, weights_at};
 use asp_model::cost::priorities;
 use asp_table::buckets::Buckets;
 use asp_table::table::Table;
@@ -47,19 +51,64 @@ fn add_addition(
     Ok(())
 }
 
-// What the variables add at a priority.
-fn all_additions(alloc: Global, vars: Var, weights: &[i64]) -> Result<Vec<Addition>, AllocError>
-    requires few { vars < 2 ^ 31 }
-    requires count { length weights.now ≡ 2 * vars + 2 }
-    requires small { (c : ℕ) → c < length weights.now → unsigned_abs (slice_index_or weights.now c (pos 0)) < 2 ^ 56 }
-    ensures { IfOk result (λ additions. additions.items ≡ additions_to weights.now vars) }
+// Adds what a variable adds by its weights, and puts these back to 0. The answer is what it costs at least, below 0.
+fn take_addition(
+    additions: &mut Vec<Addition>,
+    weights: &mut [i64],
+    var: Var,
+) -> Result<u64, AllocError>
+    requires within { 2 * var + 1 < length weights.old }
+    requires small { (c : ℕ) → c < length weights.old → unsigned_abs (slice_index_or weights.old c (pos 0)) < 2 ^ 56 }
+    ensures additions { OnOk result (additions.new.items ≡ additions.old.items ++ additions_of var (weight_true weights.old var) (weight_false weights.old var)) }
+    ensures weights { OnOk result (weights.new ≡ without weights.old var) }
+    ensures least { IfOk result (λ n. n ≡ least_by weights.old var) }
+{
+    let place = 2 * var as usize;
+    let if_true = weights[place];
+    let if_false = weights[place + 1];
+    weights[place] = 0;
+    weights[place + 1] = 0;
+    add_addition(additions, var, if_true, if_false)?;
+    Ok(beneath(if_true) + beneath(if_false))
+}
+
+// What the variables add at a priority, and what they cost at least, below 0.
+#[derive(Drop)]
+struct Taken {
+    /// What each adds.
+    additions: Vec<Addition>,
+    /// The negative weights together, as a size.
+    least: u64,
+}
+
+// Takes what the variables of the items add out of the weights, which are 0 again afterwards.
+fn take_additions(
+    alloc: Global,
+    compiled: &Compiled,
+    weights: &mut [i64],
+    items: &[(i32, i32)],
+) -> Result<Taken, AllocError>
+    requires stand { All (λ i. IsTrue (has (atoms_of compiled.now) (atom_of i.0))) items.now }
+    requires sums { AreWeights compiled.now items.now weights.old }
+    requires small { size_of items.now ≤ 2 ^ 55 }
+    requires room { least_to weights.old (var_count compiled.now) < 2 ^ 60 }
+    ensures blank { OnOk result (AreWeights compiled.now [] weights.new) }
+    ensures additions { IfOk result (λ t. IsPermutation (additions_to weights.old (var_count compiled.now)) t.additions.items) }
+    ensures least { IfOk result (λ t. t.least ≡ least_to weights.old (var_count compiled.now)) }
 {
     let mut additions = Vec::new(alloc);
-    for i in 0..vars {
-        let place = 2 * (i as usize + 1);
-        add_addition(&mut additions, i + 1, weights[place], weights[place + 1])?;
+    let mut least = 0;
+    for (literal, _) in items {
+        least += take_addition(&mut additions, weights, lit_of(compiled, *literal).var())?;
     }
-    Ok(additions)
+    Ok(Taken { additions, least })
+}
+
+// Puts the variables in their order.
+fn sort_by_var(additions: &mut [Addition])
+    ensures { IsPermutation additions.old additions.new }
+{
+    additions.sort_unstable_by_key(|addition| addition.var);
 }
 
 // Puts those that add most first.
@@ -115,21 +164,6 @@ fn add_places(
     Ok(column)
 }
 
-// What the variables cost at least, below 0.
-fn least(weights: &[i64], vars: Var) -> u64
-    requires few { vars < 2 ^ 31 }
-    requires count { length weights.now ≡ 2 * vars + 2 }
-    requires room { least_to weights.now vars < 2 ^ 60 }
-    ensures { result ≡ least_to weights.now vars }
-{
-    let mut sum = 0;
-    for i in 0..vars {
-        let place = 2 * (i as usize + 1);
-        sum += beneath(weights[place]) + beneath(weights[place + 1]);
-    }
-    sum
-}
-
 // A priority's items, and the sum of what is negative at it.
 #[derive(Drop)]
 struct Level {
@@ -142,22 +176,26 @@ struct Level {
 fn add_level(
     alloc: Global,
     compiled: &Compiled,
+    weights: &mut [i64],
     rows: &mut Buckets<Place>,
     level: u32,
     priority: i32,
 ) -> Result<Level, AllocError>
+    requires blank { AreWeights compiled.now [] weights.old }
+    requires few { var_count compiled.now < 2 ^ 32 }
     requires rows { length rows.old ≡ var_count compiled.now + 1 }
+    ensures blank { OnOk result (AreWeights compiled.now [] weights.new) }
     ensures gathered { IfOk result (λ l. IsGathered compiled.now level priority rows.old rows.new l.column.items l.least) }
 {
-    let weights = weights_at(alloc, compiled, priority)?;
-    let weights = weights.as_slice();
-    let vars = compiled.vars();
-    let mut additions = all_additions(alloc, vars, weights)?;
+    let items = weights_at(alloc, compiled, weights, priority)?;
+    let taken = take_additions(alloc, compiled, weights, items.as_slice())?;
+    let mut additions = taken.additions;
+    sort_by_var(additions.as_mut_slice());
     sort(additions.as_mut_slice());
     let column = add_places(alloc, rows, level, additions.as_slice())?;
     Ok(Level {
         column,
-        least: least(weights, vars),
+        least: taken.least,
     })
 }
 
@@ -179,11 +217,19 @@ fn levels_of(alloc: Global, compiled: &Compiled, priorities: &[i32]) -> Result<L
     if priorities.len() > u32::MAX as usize {
         return Err(AllocError);
     }
+    let mut weights = blank(alloc, compiled)?;
     let mut rows = Buckets::new(alloc, compiled.vars() as usize + 1)?;
     let mut columns = Table::new(alloc)?;
     let mut sums = Vec::new(alloc);
     for (level, priority) in priorities.iter().enumerate() {
-        let added = add_level(alloc, compiled, &mut rows, level as u32, *priority)?;
+        let added = add_level(
+            alloc,
+            compiled,
+            weights.as_mut_slice(),
+            &mut rows,
+            level as u32,
+            *priority,
+        )?;
         columns = columns.with_row(added.column.as_slice())?;
         sums.push(-(added.least as i64))?;
     }

@@ -44,9 +44,11 @@ fn items_at(
     Ok(items)
 }
 
-fn lit_of(compiled: &Compiled, literal: i32) -> Lit
+/// The literal of an item.
+pub fn lit_of(compiled: &Compiled, literal: i32) -> Lit
     requires { IsTrue (has (atoms_of compiled.now) (atom_of literal)) }
     ensures lit { result ≡ literal_of compiled.now literal }
+    ensures positive { 0 < result.var }
     ensures within { result.var ≤ var_count compiled.now }
 {
     let _vars = compiled.vars();
@@ -61,26 +63,40 @@ fn add(weights: &mut [i64], place: usize, weight: i32)
     weights[place] += i64::from(weight);
 }
 
-// The sums of the weights by the codes of their literals.
-fn sums(alloc: Global, compiled: &Compiled, items: &[(i32, i32)]) -> Result<Vec<i64>, AllocError>
+// Adds the items' weights to those of their literals, which are 0.
+fn add_all(weights: &mut [i64], compiled: &Compiled, items: &[(i32, i32)])
     requires stand { All (λ i. IsTrue (has (atoms_of compiled.now) (atom_of i.0))) items.now }
     requires few { length items.now ≤ 2 ^ 24 }
-    ensures sums { IfOk result (λ w. AreWeights compiled.now items.now w.items) }
-    ensures small { OnOk result (size_of items.now ≤ 2 ^ 31 * length items.now) }
+    requires blank { AreWeights compiled.now [] weights.old }
+    ensures sums { AreWeights compiled.now items.now weights.new }
+    ensures small { size_of items.now ≤ 2 ^ 31 * length items.now }
 {
-    let mut weights = vec![in alloc; 0; 2 * compiled.vars() as usize + 2]?;
     for (literal, weight) in items {
         let lit = lit_of(compiled, *literal);
-        add(weights.as_mut_slice(), lit.code(), *weight);
+        add(weights, lit.code(), *weight);
     }
-    Ok(weights)
 }
 
-/// The weights of all literals at a priority, by the codes of the literals.
-pub fn weights_at(alloc: Global, compiled: &Compiled, priority: i32) -> Result<Vec<i64>, AllocError>
-    ensures weights { IfOk result (λ w. AreWeights compiled.now (items_at compiled.now.minimize priority) w.items) }
+/// No weights: 0 for each literal.
+pub fn blank(alloc: Global, compiled: &Compiled) -> Result<Vec<i64>, AllocError>
+    ensures { IfOk result (λ w. AreWeights compiled.now [] w.items) }
+{
+    vec![in alloc; 0; 2 * compiled.vars() as usize + 2]
+}
+
+/// Adds the weights at a priority, by the codes of the literals, to none. The answer is the priority's items.
+pub fn weights_at(
+    alloc: Global,
+    compiled: &Compiled,
+    weights: &mut [i64],
+    priority: i32,
+) -> Result<Vec<(i32, i32)>, AllocError>
+    requires blank { AreWeights compiled.now [] weights.old }
+    ensures items { IfOk result (λ items. items.items ≡ items_at compiled.now.minimize priority) }
+    ensures weights { OnOk result (AreWeights compiled.now (items_at compiled.now.minimize priority) weights.new) }
     ensures small { OnOk result (size_of (items_at compiled.now.minimize priority) ≤ 2 ^ 55) }
 {
     let items = items_at(alloc, compiled.program().minimize.as_slice(), priority)?;
-    sums(alloc, compiled, items.as_slice())
+    add_all(weights, compiled, items.as_slice());
+    Ok(items)
 }

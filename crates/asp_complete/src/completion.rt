@@ -30,18 +30,6 @@ fn push(nogoods: &mut Vec<Nogood>, lits: Lits) -> Result<(), AllocError>
     Ok(())
 }
 
-// The first literal, and then the others.
-fn with_first(alloc: Global, first: Lit, others: &[Lit]) -> Result<Lits, AllocError>
-    ensures { IfOk result (λ lits. lits ≡ first ∷ others.now) }
-{
-    let mut lits = Lits::new(alloc);
-    lits.push(first)?;
-    for other in others {
-        lits.push(*other)?;
-    }
-    Ok(lits)
-}
-
 // A literal that is true where these are, and only there.
 fn add_parts(
     alloc: Global,
@@ -53,7 +41,7 @@ fn add_parts(
 {
     for literal in literals {
         let other = [literal.complement()];
-        push(nogoods, with_first(alloc, body, other.as_slice())?)?;
+        push(nogoods, Lits::with_first(alloc, body, other.as_slice())?)?;
     }
     Ok(())
 }
@@ -66,7 +54,10 @@ fn add_body(
 ) -> Result<(), AllocError>
     ensures { OnOk result (nogoods.new.items ≡ nogoods.old.items ++ pure (complement body ∷ literals.now) ∷ parts body literals.now) }
 {
-    push(nogoods, with_first(alloc, body.complement(), literals)?)?;
+    push(
+        nogoods,
+        Lits::with_first(alloc, body.complement(), literals)?,
+    )?;
     add_parts(alloc, nogoods, body, literals)
 }
 
@@ -123,7 +114,7 @@ fn add_head(
         return Ok(());
     }
     let others = [other];
-    push(nogoods, with_first(alloc, body, others.as_slice())?)
+    push(nogoods, Lits::with_first(alloc, body, others.as_slice())?)
 }
 
 fn add_rule(
@@ -175,7 +166,6 @@ fn add_unless_it_has(nogoods: &mut Vec<Nogood>, lit: Lit, lits: Lits) -> Result<
 }
 
 // That a true atom has a true body, unless it is one of its bodies.
-
 fn add_atom(
     alloc: Global,
     nogoods: &mut Vec<Nogood>,

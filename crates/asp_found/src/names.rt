@@ -1,5 +1,5 @@
 //! Bodies that aren't what their literals say: where a body's name is an atom, a set may have the one without the other.
-ghost use Rattle.std.specs.Prelude.{◌≡◌, ◌∷◌, suc, ◌<◌, All, IfOk, MatchOption, length};
+ghost use Rattle.std.specs.Prelude.{◌≡◌, suc, ◌<◌, All, IfOk, MatchOption, length};
 ghost use Rattle.asp_vars.specs.declared.nogood.Base.TheVariants as base;
 ghost use Rattle.asp_vars.specs.Numbering.{bodies_of, nth_body, values, var_count, IsReadBy};
 ghost use Rattle.asp_found.specs.Misnamed.{first_false, holding_literals, lacking_literals, misnamed_literals};
@@ -26,18 +26,6 @@ fn first_false(truths: &[bool], lits: &[Lit]) -> Option<Lit>
     None
 }
 
-// The first literal, and then the others.
-fn with_first(alloc: Global, first: Lit, others: &[Lit]) -> Result<Lits, AllocError>
-    ensures { IfOk result (λ lits. lits ≡ first ∷ others.now) }
-{
-    let mut lits = Lits::new(alloc);
-    lits.push(first)?;
-    for other in others {
-        lits.push(*other)?;
-    }
-    Ok(lits)
-}
-
 // Of a body that holds, and whose literal is false.
 fn holding(alloc: Global, compiled: &Compiled, body: usize) -> Result<Lits, AllocError>
     requires { body < length (bodies_of compiled.now) }
@@ -47,7 +35,7 @@ fn holding(alloc: Global, compiled: &Compiled, body: usize) -> Result<Lits, Allo
     if compiled.is_barred(body) {
         Lits::from_slice(alloc, lits)
     } else {
-        with_first(alloc, compiled.body_lit(body).complement(), lits)
+        Lits::with_first(alloc, compiled.body_lit(body).complement(), lits)
     }
 }
 

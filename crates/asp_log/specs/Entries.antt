@@ -1,12 +1,10 @@
 -- What a log is for, and what each of its entries says.
-use Rattle.std.specs.Prelude.{ℕ, ◌<◌, ◌≤◌, All, List, Option, None, length}
+use Rattle.std.specs.Prelude.{ℕ, ◌≤◌, All, List, Option, None, length}
 use Rattle.std.specs.List.{AllByRecursion}
 use Rattle.std.specs.Option.{IfSome}
 use Rattle.asp_model.specs.declared.program.Program.{Program}
-use Rattle.asp_vars.specs.declared.nogood.Base.{Base}
 use Rattle.asp_vars.specs.declared.nogood.Base.TheVariants as base
 use Rattle.asp_vars.specs.declared.nogood.Nogood.{Nogood}
-use Rattle.asp_vars.specs.Literals.{Literal}
 use Rattle.asp_vars.specs.Numbering.{IsVar, var_count}
 use Rattle.asp_vars.specs.Entailment.{IsSharedBy}
 use Rattle.asp_log.specs.declared.scope.Scope.{Scope}

@@ -1,5 +1,5 @@
 -- Without a bound nothing is given that a bound excludes.
-use Rattle.std.proofs.Common.{◌≡◌, Some, None, inl, inr}
+use Rattle.std.proofs.Common.{◌≡◌, None, inl, inr}
 use Rattle.std.proofs.lemmas.Option.{none-some}
 use Rattle.asp_model.specs.declared.program.Program.{Program}
 use Rattle.asp_vars.specs.declared.nogood.Base.TheVariants as base

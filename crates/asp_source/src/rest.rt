@@ -1,5 +1,5 @@
 //! The unfounded set that was found last, of which further atoms are told.
-ghost use Rattle.std.specs.Prelude.{◌≡◌, ◌+◌, ◌∷◌, ◌<◌, ◌≤◌, [], false, All, IfOk, OnOk, OnErr, IfSome, IsTrue, drop, length};
+ghost use Rattle.std.specs.Prelude.{◌≡◌, ◌+◌, ◌<◌, ◌≤◌, [], false, All, IfOk, OnOk, OnErr, IfSome, IsTrue, drop, length};
 ghost use Rattle.std.specs.List.{list_all};
 ghost use Rattle.asp_model.specs.Sets.{has};
 ghost use Rattle.asp_vars.specs.Literals.{F, holds_in};
@@ -101,7 +101,7 @@ impl Found {
             return Ok(None);
         };
         let first = Lit::new(compiled.atom_var(atom), true);
-        let lits = with_first(self.alloc, first, self.reason.as_slice())?;
+        let lits = Lits::with_first(self.alloc, first, self.reason.as_slice())?;
         Ok(Some(Nogood {
             lits,
             base: Base::Pure,
@@ -135,16 +135,4 @@ fn all_hold(values: &Assign, lits: &[Lit]) -> bool
     ensures { result ≡ list_all (holds_in values.now) lits.now }
 {
     lits.iter().all(|lit| values.holds(*lit))
-}
-
-// A literal, and others after it.
-fn with_first(alloc: Global, first: Lit, rest: &[Lit]) -> Result<Lits, AllocError>
-    ensures { IfOk result (λ lits. lits ≡ first ∷ rest.now) }
-{
-    let mut lits = Lits::new(alloc);
-    lits.push(first)?;
-    for lit in rest {
-        lits.push(*lit)?;
-    }
-    Ok(lits)
 }

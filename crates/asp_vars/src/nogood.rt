@@ -41,6 +41,18 @@ impl Lits {
         Ok(Lits { items })
     }
 
+    /// This literal first, and then the others.
+    pub fn with_first(alloc: Global, first: Lit, others: &[Lit]) -> Result<Lits, AllocError>
+        ensures { IfOk result (λ lits. lits ≡ first ∷ others.now) }
+    {
+        let mut lits = Lits::new(alloc);
+        lits.push(first)?;
+        for other in others {
+            lits.push(*other)?;
+        }
+        Ok(lits)
+    }
+
     /// The literals, in their order.
     pub fn as_slice(&self) -> &[Lit]
         ensures value { result.now ≡ self.now }

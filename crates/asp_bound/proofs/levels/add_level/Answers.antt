@@ -1,56 +1,70 @@
-use Rattle.std.proofs.Common.{◌≡◌, ◌∙◌, ◌<◌, ◌≤◌, ◌^◌, ℕ, List, length, map, drop, w32, sym, ap, subst, arith}
+use Rattle.std.proofs.Common.{◌≡◌, ◌∙◌, ◌<◌, ◌≤◌, List, length, map, w32, refl, sym, ap, subst, arith}
 use Rattle.std.specs.List.{All}
-use Rattle.std.specs.List.Sorted.{IsPermutation}
 use Rattle.std.proofs.lemmas.Int.{to_z-of_z}
 use Rattle.std.proofs.lemmas.List.{take_at}
 use Rattle.std.proofs.lemmas.List.Elements.{All-weaker}
+use Rattle.asp_vars.specs.Numbering.{var_count}
 use Rattle.asp_bound.specs.declared.place.Addition.{Addition}
-use Rattle.asp_bound.specs.Levels.{item_of, ArePlaced, least_to}
-use Rattle.asp_bound.proofs.WeightLaws.{weights_as, small_as}
-use Rattle.asp_bound.proofs.LevelLaws.{weights-small, least_to-small, additions-few_as, additions-vars, gathered_as}
+use Rattle.asp_bound.specs.Optimism.{items_at}
+use Rattle.asp_bound.specs.Levels.{additions_to, item_of, ArePlaced}
+use Rattle.asp_bound.proofs.WeightLaws.{items-all, weights_as, small_as}
+use Rattle.asp_bound.proofs.LevelLaws.{least_to-small, additions-few_as, additions-vars, gathered_as}
+use Rattle.asp_bound.proofs.TakenLaws.{permuted-twice}
 use Rattle.asp_bound.proofs.levels.add_level.Goals as goal
 
-pub all_additions-requires-clause-small : goal.all_additions-requires-clause-small
-all_additions-requires-clause-small c = λ k lt.
+pub take_additions-requires-clause-stand : goal.take_additions-requires-clause-stand
+take_additions-requires-clause-stand c =
     let plain = to_z-of_z w32 c.args.priority c.ranges.priority in
-    let are = weights_as c.args.compiled.now c.args.priority _ c.as_slice-weights.result.now c.in_ok-weights.weights.items plain c.as_slice-weights.ensures.value c.in_ok-weights.ensures.weights in
-    let small = small_as c.args.compiled.now c.args.priority _ plain c.in_ok-weights.ensures.small in
-    weights-small c.args.compiled.now c.args.priority c.as_slice-weights.result.now k are small lt
+    items-all c.args.compiled.now c.args.priority c.as_slice.result.now (c.as_slice.ensures.value ∙ (c.in_ok-items.ensures.items ∙ ap (items_at c.args.compiled.now.minimize) plain))
+
+pub take_additions-requires-clause-room : goal.take_additions-requires-clause-room
+take_additions-requires-clause-room c =
+    let plain = to_z-of_z w32 c.args.priority c.ranges.priority in
+    let are = weights_as c.args.compiled.now c.args.priority _ c.weights_at.new.weights c.weights_at.new.weights plain refl c.in_ok-items.ensures.weights in
+    let small = small_as c.args.compiled.now c.args.priority _ plain c.in_ok-items.ensures.small in
+    least_to-small c.args.compiled.now c.args.priority c.weights_at.new.weights are small
 
 pub add_places-requires-clause-few : goal.add_places-requires-clause-few
 add_places-requires-clause-few c =
-    let permuted = subst (λ (xs : List Addition). IsPermutation xs c.sort.new.additions) (c.as_mut_slice.ensures.value ∙ c.in_ok-additions.ensures) c.sort.ensures.permutation in
-    let long : length c.sort.new.additions ≡ c.in_ok-additions.additions.len = c.sort.auto.additions ∙ c.as_mut_slice.ensures.len in
-    let is : c.as_slice.result.now ≡ c.sort.new.additions = c.as_slice.ensures.value ∙ take_at c.sort.new.additions (drop (length c.sort.new.additions) c.in_ok-additions.additions.items) c.in_ok-additions.additions.len long in
-    omega (arith, ap length is, additions-few_as c.as_slice-weights.result.now c.sort.new.additions c.vars-vars.result permuted)
+    let p = c.args.compiled.now in
+    let ws = c.weights_at.new.weights in
+    let len = c.in_ok-taken.taken.additions.len in
+    let long : length c.sort_by_var.new.additions ≡ len = c.sort_by_var.auto.additions ∙ c.as_mut_slice.ensures.len in
+    let middle : c.as_mut_slice-2.result.now ≡ c.sort_by_var.new.additions = c.as_mut_slice-2.ensures.value ∙ take_at c.sort_by_var.new.additions _ len long in
+    let length_is : length c.sort.new.additions ≡ len = c.sort.auto.additions ∙ c.as_mut_slice-2.ensures.len in
+    let is : c.as_slice-2.result.now ≡ c.sort.new.additions = c.as_slice-2.ensures.value ∙ take_at c.sort.new.additions _ len length_is in
+    let permuted = permuted-twice (additions_to ws (var_count p)) c.in_ok-taken.taken.additions.items c.as_mut_slice.result.now c.sort_by_var.new.additions c.as_mut_slice-2.result.now c.sort.new.additions
+    c.in_ok-taken.ensures.additions c.as_mut_slice.ensures.value c.sort_by_var.ensures middle c.sort.ensures.permutation in
+    omega (arith, ap length is, additions-few_as ws c.sort.new.additions (var_count p) permuted, c.requires.few)
 
 pub add_places-requires-clause-vars : goal.add_places-requires-clause-vars
 add_places-requires-clause-vars c =
-    let permuted = subst (λ (xs : List Addition). IsPermutation xs c.sort.new.additions) (c.as_mut_slice.ensures.value ∙ c.in_ok-additions.ensures) c.sort.ensures.permutation in
-    let long : length c.sort.new.additions ≡ c.in_ok-additions.additions.len = c.sort.auto.additions ∙ c.as_mut_slice.ensures.len in
-    let is : c.as_slice.result.now ≡ c.sort.new.additions = c.as_slice.ensures.value ∙ take_at c.sort.new.additions (drop (length c.sort.new.additions) c.in_ok-additions.additions.items) c.in_ok-additions.additions.len long in
-    let within = All-weaker (λ (a : Addition). (0 < a.var) × (a.var ≤ c.vars-vars.result)) (λ (a : Addition). a.var < length c.args.rows.now) (λ a h. omega (arith, h.1, c.requires.rows, c.vars-vars.ensures.count)) c.sort.new.additions
-    (additions-vars c.as_slice-weights.result.now c.sort.new.additions c.vars-vars.result permuted) in
+    let p = c.args.compiled.now in
+    let ws = c.weights_at.new.weights in
+    let len = c.in_ok-taken.taken.additions.len in
+    let long : length c.sort_by_var.new.additions ≡ len = c.sort_by_var.auto.additions ∙ c.as_mut_slice.ensures.len in
+    let middle : c.as_mut_slice-2.result.now ≡ c.sort_by_var.new.additions = c.as_mut_slice-2.ensures.value ∙ take_at c.sort_by_var.new.additions _ len long in
+    let length_is : length c.sort.new.additions ≡ len = c.sort.auto.additions ∙ c.as_mut_slice-2.ensures.len in
+    let is : c.as_slice-2.result.now ≡ c.sort.new.additions = c.as_slice-2.ensures.value ∙ take_at c.sort.new.additions _ len length_is in
+    let permuted = permuted-twice (additions_to ws (var_count p)) c.in_ok-taken.taken.additions.items c.as_mut_slice.result.now c.sort_by_var.new.additions c.as_mut_slice-2.result.now c.sort.new.additions
+    c.in_ok-taken.ensures.additions c.as_mut_slice.ensures.value c.sort_by_var.ensures middle c.sort.ensures.permutation in
+    let within = All-weaker (λ (a : Addition). (0 < a.var) × (a.var ≤ var_count p)) (λ (a : Addition). a.var < length c.args.rows.now) (λ a h. omega (arith, h.1, c.requires.rows)) c.sort.new.additions (additions-vars ws c.sort.new.additions (var_count p) permuted) in
     subst (All (λ (a : Addition). a.var < length c.args.rows.now)) (sym is) within
 
-pub least-requires-clause-room : goal.least-requires-clause-room
-least-requires-clause-room c =
+pub returns-clause-gathered : goal.returns-clause-gathered
+returns-clause-gathered c =
     let plain = to_z-of_z w32 c.args.priority c.ranges.priority in
-    let are = weights_as c.args.compiled.now c.args.priority _ c.as_slice-weights.result.now c.in_ok-weights.weights.items plain c.as_slice-weights.ensures.value c.in_ok-weights.ensures.weights in
-    let small = small_as c.args.compiled.now c.args.priority _ plain c.in_ok-weights.ensures.small in
-    subst (λ (n : ℕ). least_to c.as_slice-weights.result.now n < 2 ^ 60) (sym c.vars-vars.ensures.count) (least_to-small c.args.compiled.now c.args.priority c.as_slice-weights.result.now are small)
-
-pub returns : goal.returns
-returns c =
-    let plain = to_z-of_z w32 c.args.priority c.ranges.priority in
-    let are = weights_as c.args.compiled.now c.args.priority _ c.as_slice-weights.result.now c.in_ok-weights.weights.items plain c.as_slice-weights.ensures.value c.in_ok-weights.ensures.weights in
-    let small = small_as c.args.compiled.now c.args.priority _ plain c.in_ok-weights.ensures.small in
-    let permuted = subst (λ (xs : List Addition). IsPermutation xs c.sort.new.additions) (c.as_mut_slice.ensures.value ∙ c.in_ok-additions.ensures) c.sort.ensures.permutation in
-    let long : length c.sort.new.additions ≡ c.in_ok-additions.additions.len = c.sort.auto.additions ∙ c.as_mut_slice.ensures.len in
-    let is : c.as_slice.result.now ≡ c.sort.new.additions = c.as_slice.ensures.value ∙ take_at c.sort.new.additions (drop (length c.sort.new.additions) c.in_ok-additions.additions.items) c.in_ok-additions.additions.len long in
+    let are = weights_as c.args.compiled.now c.args.priority _ c.weights_at.new.weights c.weights_at.new.weights plain refl c.in_ok-items.ensures.weights in
+    let small = small_as c.args.compiled.now c.args.priority _ plain c.in_ok-items.ensures.small in
+    let p = c.args.compiled.now in
+    let ws = c.weights_at.new.weights in
+    let len = c.in_ok-taken.taken.additions.len in
+    let long : length c.sort_by_var.new.additions ≡ len = c.sort_by_var.auto.additions ∙ c.as_mut_slice.ensures.len in
+    let middle : c.as_mut_slice-2.result.now ≡ c.sort_by_var.new.additions = c.as_mut_slice-2.ensures.value ∙ take_at c.sort_by_var.new.additions _ len long in
+    let length_is : length c.sort.new.additions ≡ len = c.sort.auto.additions ∙ c.as_mut_slice-2.ensures.len in
+    let is : c.as_slice-2.result.now ≡ c.sort.new.additions = c.as_slice-2.ensures.value ∙ take_at c.sort.new.additions _ len length_is in
+    let permuted = permuted-twice (additions_to ws (var_count p)) c.in_ok-taken.taken.additions.items c.as_mut_slice.result.now c.sort_by_var.new.additions c.as_mut_slice-2.result.now c.sort.new.additions
+    c.in_ok-taken.ensures.additions c.as_mut_slice.ensures.value c.sort_by_var.ensures middle c.sort.ensures.permutation in
     let placed = subst (λ (xs : List Addition). ArePlaced c.args.level xs c.args.rows.now c.add_places.new.rows) is c.in_ok-column.ensures.rows in
     let made = c.in_ok-column.ensures.column ∙ ap (map item_of) is in
-    record {
-      gathered = gathered_as c.args.compiled.now c.args.level c.args.priority c.as_slice-weights.result.now c.args.rows.now c.add_places.new.rows c.sort.new.additions c.in_ok-column.column.items c.least.result c.vars-vars.result
-          c.vars-vars.ensures.count are small permuted c.sort.ensures.falling placed made c.least.ensures;
-    }
+    gathered_as p c.args.level c.args.priority ws c.args.rows.now c.add_places.new.rows c.sort.new.additions c.in_ok-column.column.items c.in_ok-taken.taken.least (var_count p) refl are small permuted c.sort.ensures.falling placed made c.in_ok-taken.ensures.least
