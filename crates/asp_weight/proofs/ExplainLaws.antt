@@ -123,6 +123,7 @@ own_ready p t place w s row l o few =
       within = λ i e h. omega (arith, o.is_row.ordered.within i e h, sized, o.vars);
       falling = o.is_row.ordered.falling;
       fits = o.is_row.fits;
+      whole = omega (arith, o.is_row.miss);
     }
 
 pub excluded_as : {E : Type 0} (p : Program) (t : Trailed) (place w : ℕ) (s : Shape) (row : List Item) (l : Literal) (x : Speech) (r : Result Nogood E) → IsSound p → IsOwn p t place w s row l →

@@ -6,6 +6,7 @@ pub mod BuildLaws
 pub mod PlaceLaws
 pub mod GatherLaws
 pub mod SumLaws
+pub mod SettledLaws
 pub mod PassLaws
 pub mod SilenceLaws
 pub mod SpeechLaws

@@ -242,6 +242,7 @@ are_ready p a shapes rows places tallies k = record {
         within = λ i d l. omega (arith, r.ordered.within i d l, k.sized);
         falling = r.ordered.falling;
         fits = r.fits;
+        whole = omega (arith, r.miss);
       };
 }
 

@@ -50,6 +50,7 @@ pub record IsReady (a : List (Option Bool)) (s : Shape) (row : List Item) : Type
   pub within : All (λ i. i.lit.var < length a) row
   pub falling : AllPairs (λ i j. j.weight ≤ i.weight) row
   pub fits : total_of row < 2 ^ 63
+  pub whole : total_of row < s.reach + s.miss
 
 pub record AreReady (a : List (Option Bool)) (shapes : List Shape) (rows : List (List Item)) : Type 0 where
   pub shaped : length shapes ≡ length rows

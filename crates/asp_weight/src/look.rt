@@ -1,9 +1,9 @@
 //! Whether a body is silent.
-ghost use Rattle.std.specs.Prelude.{◌≡◌, ◌<◌, ◌≤◌, nat_lt, true, false, not, ◌||◌, Some, None, IfNone, IfSome, length};
+ghost use Rattle.std.specs.Prelude.{◌≡◌, ◌+◌, ◌<◌, ◌≤◌, nat_le, nat_lt, true, false, not, ◌||◌, Some, None, IfNone, IfSome, length};
 ghost use Rattle.std.specs.List.{All, AllPairs, list_all};
 ghost use Rattle.asp_vars.specs.Literals.{value_of, holds_in};
 ghost use Rattle.asp_trail.specs.Fixpoint.{is_open};
-ghost use Rattle.asp_weight.specs.Rows.{sum_where, need_of, is_short, is_silent_row, shape_at, row_at};
+ghost use Rattle.asp_weight.specs.Rows.{sum_where, total_of, need_of, is_short, is_silent_row, shape_at, row_at};
 ghost use Rattle.asp_weight.specs.Tallied.{sum_for};
 ghost use Rattle.asp_weight.specs.Spoken.{item_at, Speaks, AreReady};
 ghost use Rattle.asp_weight.specs.Kept.{ArePassed, AreCounted, AreSilentRows};
@@ -82,20 +82,36 @@ pub fn need(shape: &Shape, side: bool) -> u64
     if side { shape.reach } else { shape.miss }
 }
 
-// A body whose variable has the value that the side would rule out.
+// Whether the literals that hold settle the side.
+fn is_settled(tally: &Tally, shape: &Shape, side: bool) -> bool
+    ensures { result ≡ nat_le (need_of side shape.now) (sum_for side tally.now) }
+{
+    need(shape, side) <= sum(tally, side)
+}
+
+// A body whose variable has the value that the side would rule out. Where the literals that hold settle the other side, as
+// that value says, those without a value weigh too little for this one, and the row needn't be read.
 fn look_at_side(side: bool, tally: &Tally, shape: &Shape, row: &[Item], values: &Assign) -> Finding
     requires within { All (λ i. i.lit.var < length values.now) row.now }
     requires falling { AllPairs (λ i j. j.weight ≤ i.weight) row.now }
+    requires whole { total_of row.now < shape.now.reach + shape.now.miss }
     requires counted { sum_for side tally.now ≡ sum_where (holds_in values.now) side row.now }
+    requires other { sum_for (not side) tally.now ≡ sum_where (holds_in values.now) (not side) row.now }
     requires valued { value_of values.now shape.now.var ≡ Some (not side) }
     requires passed { ArePassed values.now row.now tally.now.start }
     ensures none { IfNone result.speech (is_short side values.now shape.now row.now ≡ true) }
     ensures some { IfSome result.speech (λ x. Speaks x values.now shape.now row.now) }
     ensures passed { ArePassed values.now row.now result.start }
 {
+    let start = tally.start as usize;
+    if is_settled(tally, shape, !side) {
+        return Finding {
+            speech: None,
+            start,
+        };
+    }
     let sum = sum(tally, side);
     let need = need(shape, side);
-    let start = tally.start as usize;
     if need <= sum {
         return Finding {
             speech: Some(Speech { side, open: None }),
@@ -148,6 +164,7 @@ pub fn look(tally: &Tally, shape: &Shape, row: &[Item], values: &Assign) -> Find
     requires var { shape.now.var < length values.now }
     requires within { All (λ i. i.lit.var < length values.now) row.now }
     requires falling { AllPairs (λ i j. j.weight ≤ i.weight) row.now }
+    requires whole { total_of row.now < shape.now.reach + shape.now.miss }
     requires reached { tally.now.reached ≡ sum_where (holds_in values.now) true row.now }
     requires missed { tally.now.missed ≡ sum_where (holds_in values.now) false row.now }
     requires passed { ArePassed values.now row.now tally.now.start }
@@ -160,8 +177,7 @@ pub fn look(tally: &Tally, shape: &Shape, row: &[Item], values: &Assign) -> Find
             speech: look_at_both(tally, shape, row, values),
             start: tally.start as usize,
         },
-        Some(true) => look_at_side(false, tally, shape, row, values),
-        Some(false) => look_at_side(true, tally, shape, row, values),
+        Some(value) => look_at_side(!value, tally, shape, row, values),
     }
 }
 
