@@ -26,7 +26,7 @@ def body(random_, atoms):
         chosen = literals(random_, atoms, 3)
         return [0, len(chosen)] + chosen
     if random_.random() < 0.3:
-        # What follows from a long body has its nogood written late: each literal stands there several times.
+        # Many literals, of which each stands there several times: a body's normal form has each once.
         chosen = literals(random_, atoms, 34, 26)
         items = [number for literal in chosen for number in (literal, random_.randint(1, 3))]
         return [1, random_.randint(10, 50), len(chosen)] + items

@@ -149,22 +149,28 @@ def type_name(text, params, trait):
     return f"Tuple{len(words)}{name}" if text.startswith("(") else name
 
 
+def name_of(parts):
+    """Returns a function's name as `rt check --only` takes it: of a method its type's and its own, since the type may stand
+    in another module than the method."""
+    return "::".join(parts[-2:] if len(parts) > 1 and parts[-2][:1].isupper() else parts)
+
+
 def functions_in(path, text):
-    """Yields each function of a file, as `rt check --only` names it, with its first and its last line, counted from 1."""
-    module = "".join(f"{it}::" for it in path[len("src/") : -len(".rt")].split("/") if it not in ("lib", "main"))
-    owner, begun = "", []
+    """Yields each function of a file by its name, with its first and its last line, counted from 1."""
+    module = [it for it in path[len("src/") : -len(".rt")].split("/") if it not in ("lib", "main")]
+    owner, begun = [], []
     for number, line in enumerate(text.split("\n"), 1):
         head = re.match(r"\s*(?:pub(?:\([a-z ]+\))?\s+)?fn\s+(\w+)", line)
         block = re.match(r"impl(<.*?>)?\s+(?:(\w+)\S*\s+for\s+)?([^{]+)|(?:pub\s+)?trait\s+(\w+)", line)
         if block:
-            owner = f"{block[4] or type_name(block[3], block[1] or '', block[2])}{block[2] or ''}::"
+            owner = [f"{block[4] or type_name(block[3], block[1] or '', block[2])}{block[2] or ''}"]
         if head:
-            begun.append((indent_of(line), number, f"{module}{owner}{head[1]}"))
+            begun.append((indent_of(line), number, name_of(module + owner + [head[1]])))
         elif begun and line.strip() == "}" and indent_of(line) == begun[-1][0]:
             _, first, name = begun.pop()
             yield first, number, name
         if line.startswith("}"):
-            owner = ""
+            owner = []
 
 
 def function_at(path, text, number):
@@ -184,13 +190,19 @@ def function_of(path, old, new):
 ONLY_NAMES = re.compile(r"has no field|is not in scope|has no `|was not admitted")
 
 
+def faults_in(told):
+    """Returns the lines of a check's words that say what isn't proved, but for names that the edit took away."""
+    lines = re.findall(r"^(?:note: )?\S+:\d+:\d+: .*(?:it is not proved|error: ).*", told, re.M)
+    return [it for it in lines if not ONLY_NAMES.search(it)]
+
+
 def told_of(line, room):
     """Returns the function that a line of a check's words speaks of, or None."""
     at = re.match(r"(?:note: )?(?:\./)?(src|proofs)/(\S+?):(\d+):\d+: ", line)
     if not at:
         return None
     if at[1] == "proofs":
-        return "::".join(at[2].split("/")[:-1])
+        return name_of(at[2].split("/")[:-1])
     with open(f"{room}/src/{at[2]}", encoding="utf-8") as file:
         return function_at(f"src/{at[2]}", file.read(), int(at[3]))
 
@@ -234,11 +246,9 @@ def refused_together(rt, crate, edits):
             # (an error with a name in brackets is one of reading: then nothing was tried)
             if re.search(r"\berror\[[\w-]+\]", told):
                 continue
-            lines = re.findall(r"^(?:note: )?\S+:\d+:\d+: .*(?:it is not proved|error: ).*", told, re.M)
             said = {}
-            for line in lines:
-                if not ONLY_NAMES.search(line):
-                    said.setdefault(told_of(line, room), line)
+            for line in faults_in(told):
+                said.setdefault(told_of(line, room), line)
             refused += [(edit, said[function]) for function, (edit, _) in planted.items() if function in said]
     return refused
 
@@ -254,8 +264,7 @@ def is_refused(rt, crate, edit):
     if not function:
         return False, ""
     told = rt.checked(crate, texts, ["--jobs", "1", "--only", function], None)
-    lines = re.findall(r"^(?:note: )?\S+:\d+:\d+: .*", told.stdout, re.M)
-    lines = [it for it in lines if not ONLY_NAMES.search(it)]
+    lines = faults_in(told.stdout)
     # (fewer are proved than were checked, and the text was read: an error with a name in brackets is one of reading)
     is_unproved = re.search(r"^only=(\d+) proved=(?!\1$)", told.stdout, re.M)
     is_read = not re.search(r"\berror\[[\w-]+\]", told.stdout)
