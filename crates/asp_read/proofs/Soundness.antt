@@ -37,35 +37,37 @@ use Rattle.asp_read.specs.Fields.{◌>>=◌, Reads, natural_in, integer_in, natu
 use Rattle.asp_read.specs.Statements.{head_of, head_at, body_at, rule_at, minimize_at, output_at, value_of, external_at, of_kind, kind_at, statement_with, statement_at, priorities, header_at, is_too_many}
 use Rattle.asp_read.specs.declared.reader.Stage.{Stage}
 use Rattle.asp_read.specs.declared.reader.Stage.TheVariants.{Start, Within, Ended}
-use Rattle.asp_read.specs.Seen.{Seen, nothing_seen}
-use Rattle.asp_read.specs.Outcome.{adds, stage_after, judge_filled, judge_line, judge, judge_next, judge_all, at_end, most_bytes, outcome_from, outcome}
+use Rattle.asp_read.specs.Seen.{Seen}
+use Rattle.asp_read.specs.Judging.{Format, judge_by, judge_next, judge_all, most_bytes, outcome_from, outcome_by}
+use Rattle.asp_read.specs.Adding.{adds}
+use Rattle.asp_read.specs.Outcome.{aspif, stage_after, judge_filled, judge_line, at_end, outcome}
 
 -- ---- what a step that succeeded did
 
-abbrev ok : {A : Type 0} → A → Result A FaultAt
+abbrev pub ok : {A : Type 0} → A → Result A FaultAt
 ok x = Ok x
 
-ok_is : {A : Type 0} (x y : A) → ok x ≡ ok y → x ≡ y
+pub ok_is : {A : Type 0} (x y : A) → ok x ≡ ok y → x ≡ y
 ok_is x y e = cc
 
-first_is : {A : Type 0} (x : A) (rest : List ℕ) (y : A × List ℕ) → ok (x, rest) ≡ ok y → x ≡ y.0
+pub first_is : {A : Type 0} (x : A) (rest : List ℕ) (y : A × List ℕ) → ok (x, rest) ≡ ok y → x ≡ y.0
 first_is {A} x rest y e = ap (λ (z : A × List ℕ). z.0) (ok_is (x, rest) y e)
 
 -- the value of the first step, and what the rest made of it
-record Step {A B E : Type 0} (first : Result A E) (rest : A → Result B E) (end : B) : Type 0 where
-  value : A
-  is : first ≡ Ok value
-  goes : rest value ≡ Ok end
+pub record Step {A B E : Type 0} (first : Result A E) (rest : A → Result B E) (end : B) : Type 0 where
+  pub value : A
+  pub is : first ≡ Ok value
+  pub goes : rest value ≡ Ok end
 
-step : {A B E : Type 0} (first : Result A E) (rest : A → Result B E) (end : B) → (first >>= rest) ≡ Ok end → Step first rest end
+pub step : {A B E : Type 0} (first : Result A E) (rest : A → Result B E) (end : B) → (first >>= rest) ≡ Ok end → Step first rest end
 step (Ok x) rest end e = record { value = x; is = refl; goes = e }
 step (Err f) rest end e = absurd cc
 
-unless : {A : Type 0} (b : Bool) (f : FaultAt) (r : Result A FaultAt) (x : A) → (if b then Err f else r) ≡ Ok x → (b ≡ false) × (r ≡ Ok x)
+pub unless : {A : Type 0} (b : Bool) (f : FaultAt) (r : Result A FaultAt) (x : A) → (if b then Err f else r) ≡ Ok x → (b ≡ false) × (r ≡ Ok x)
 unless true f r x e = absurd cc
 unless false f r x e = (refl, e)
 
-choose : {A : Type 0} (P : Type 0) (b : Bool) (r s : Result A FaultAt) (x : A) → (if b then r else s) ≡ Ok x → (r ≡ Ok x → P) → (s ≡ Ok x → P) → P
+pub choose : {A : Type 0} (P : Type 0) (b : Bool) (r s : Result A FaultAt) (x : A) → (if b then r else s) ≡ Ok x → (r ≡ Ok x → P) → (s ≡ Ok x → P) → P
 choose P true r s x e one other = one e
 choose P false r s x e one other = other e
 
@@ -82,7 +84,7 @@ natural_range low high line (Some (pos m)) n e = (elim (nat_le low m && nat_le m
   | false ↦ λ f h. absurd cc
 ]) refl e
 
-natural-range : (low high : ℕ) (line : List ℕ) (x : ℕ × List ℕ) → natural_at low high line ≡ Ok x → (low ≤ x.0) × (x.0 ≤ high)
+pub natural-range : (low high : ℕ) (line : List ℕ) (x : ℕ × List ℕ) → natural_at low high line ≡ Ok x → (low ≤ x.0) × (x.0 ≤ high)
 natural-range low high line x e =
     let s = step (natural_in low high line (integer_of (field_of line))) (λ n. ok (n, after_field line)) x e in
     let r = natural_range low high line (integer_of (field_of line)) s.value s.is in
@@ -96,7 +98,7 @@ integer_range low high line (Some y) z e =
     let is : y ≡ z = ok_is y z u.1 in
     rw is at (or_parts (int_lt y low) (int_lt high y) u.0)
 
-integer-range : (low high : ℤ) (line : List ℕ) (x : ℤ × List ℕ) → integer_at low high line ≡ Ok x → (int_lt x.0 low ≡ false) × (int_lt high x.0 ≡ false)
+pub integer-range : (low high : ℤ) (line : List ℕ) (x : ℤ × List ℕ) → integer_at low high line ≡ Ok x → (int_lt x.0 low ≡ false) × (int_lt high x.0 ≡ false)
 integer-range low high line x e =
     let s = step (integer_in low high line (integer_of (field_of line))) (λ z. ok (z, after_field line)) x e in
     let is : s.value ≡ x.0 = ap (λ (y : ℤ × List ℕ). y.0) (ok_is (s.value, after_field line) x s.goes) in
@@ -115,11 +117,11 @@ literal_is : (z : ℤ) → int_lt z (neg_ℤ (pos most)) ≡ false → int_lt (p
 literal_is (pos n) low high other = atom_is n (one_or_more n other) (ltb-false most n high)
 literal_is (negsuc n) low high other = atom_is (suc n) (omega arith) (omega (arith, ltb-false 2147483646 n low))
 
-weight_is : (w : ℤ) → int_lt w (pos 0) ≡ false → int_le (pos 0) w ≡ true
+pub weight_is : (w : ℤ) → int_lt w (pos 0) ≡ false → int_le (pos 0) w ≡ true
 weight_is (pos n) low = le-leb 0 n (omega arith)
 weight_is (negsuc n) low = absurd cc
 
-atom-sound : (known : Atoms) (line : List ℕ) (x : ℕ × List ℕ) → atom_at known line ≡ Ok x → is_atom x.0 ≡ true
+pub atom-sound : (known : Atoms) (line : List ℕ) (x : ℕ × List ℕ) → atom_at known line ≡ Ok x → is_atom x.0 ≡ true
 unfolding atom_at
 atom-sound known line x e =
     let s = step (natural_at 1 most line) (λ a. room_for known a.0 line >>= λ _. ok a) x e in
@@ -160,9 +162,9 @@ minimized-sound low known line x e = (weighted_is low known line x e).literal
 
 -- ---- many
 
-record Many {A : Type 0} (p : A → Bool) (count : ℕ) (xs : List A) : Type 0 where
-  sound : list_all p xs ≡ true
-  counted : length xs ≡ count
+pub record Many {A : Type 0} (p : A → Bool) (count : ℕ) (xs : List A) : Type 0 where
+  pub sound : list_all p xs ≡ true
+  pub counted : length xs ≡ count
 
 none_are : {A : Type 0} (p : A → Bool) → Many p 0 []
 none_are p = record { sound = refl; counted = refl }
@@ -171,7 +173,7 @@ more_are : {A : Type 0} (p : A → Bool) (n : ℕ) (x : A) (xs : List A) → p x
 more_are p n x xs h m = record { sound = and_from (p x) (list_all p xs) h m.sound; counted = ap suc m.counted }
 
 module _ {A : Type 0} (p : A → Bool) (atom : A → ℕ) (one : Atoms → List ℕ → Reads A) (each : (k : Atoms) (l : List ℕ) (y : A × List ℕ) → one k l ≡ Ok y → p y.0 ≡ true) where
-  many_are : (n : ℕ) (known : Atoms) (line : List ℕ) (x : List A × List ℕ) → many_at atom one n known line ≡ Ok x → Many p n x.0
+  pub many_are : (n : ℕ) (known : Atoms) (line : List ℕ) (x : List A × List ℕ) → many_at atom one n known line ≡ Ok x → Many p n x.0
   unfolding many_at
   many_are zero known line x e = rw (first_is [] line x e) at (none_are p)
   many_are (suc n) known line x e =
@@ -179,7 +181,7 @@ module _ {A : Type 0} (p : A → Bool) (atom : A → ℕ) (one : Atoms → List 
       let t = step (many_at atom one n (with_atom (atom s.value.0) known) s.value.1) (λ os. ok (s.value.0 ∷ os.0, os.1)) x s.goes in
       rw (first_is (s.value.0 ∷ t.value.0) t.value.1 x t.goes) at (more_are p n s.value.0 t.value.0 (each known line s.value s.is) (many_are n (with_atom (atom s.value.0) known) s.value.1 t.value t.is))
 
-count_is : (used : ℕ) (line : List ℕ) (x : ℕ × List ℕ) → count_at used line ≡ Ok x → used + x.0 ≤ most_counted
+pub count_is : (used : ℕ) (line : List ℕ) (x : ℕ × List ℕ) → count_at used line ≡ Ok x → used + x.0 ≤ most_counted
 unfolding count_at
 count_is used line x e =
     let s = step (natural_at 0 most line) (λ n. if nat_lt most_counted (used + n.0) then Err (broken fault.Counts line) else ok n) x e in
@@ -187,9 +189,9 @@ count_is used line x e =
     rw (ok_is s.value x u.1) at (ltb-false most_counted (used + s.value.0) u.0)
 
 -- a list of so many that pass, where so much was counted before
-record Listed {A : Type 0} (p : A → Bool) (used : ℕ) (xs : List A) : Type 0 where
-  sound : list_all p xs ≡ true
-  fits : used + length xs ≤ most_counted
+pub record Listed {A : Type 0} (p : A → Bool) (used : ℕ) (xs : List A) : Type 0 where
+  pub sound : list_all p xs ≡ true
+  pub fits : used + length xs ≤ most_counted
 
 literals-sound : (used : ℕ) (known : Atoms) (line : List ℕ) (x : List ℤ × List ℕ) → literals_at used known line ≡ Ok x → Listed is_literal used x.0
 literals-sound used known line x e =
@@ -226,11 +228,11 @@ head_is kind (a ∷ atoms) all = elim (kind == 0) as (λ b. (is_sound_head (if b
 ]
 
 -- a head or a body that is sound, and its size
-record Part {A : Type 0} (sound : A → Bool) (size : A → ℕ) (used : ℕ) (x : A) : Type 0 where
-  is_sound : sound x ≡ true
-  fits : used + size x ≤ most_counted
+pub record Part {A : Type 0} (sound : A → Bool) (size : A → ℕ) (used : ℕ) (x : A) : Type 0 where
+  pub is_sound : sound x ≡ true
+  pub fits : used + size x ≤ most_counted
 
-part : {A : Type 0} (sound : A → Bool) (size : A → ℕ) (used : ℕ) (x y : A) → x ≡ y → sound x ≡ true → used + size x ≤ most_counted → Part sound size used y
+pub part : {A : Type 0} (sound : A → Bool) (size : A → ℕ) (used : ℕ) (x y : A) → x ≡ y → sound x ≡ true → used + size x ≤ most_counted → Part sound size used y
 part sound size used x y e s f = rw (← e) (record { is_sound = s; fits = f })
 
 head-sound : (used : ℕ) (known : Atoms) (line : List ℕ) (x : Head × List ℕ) → head_at used known line ≡ Ok x → Part is_sound_head head_size used x.0
@@ -304,13 +306,13 @@ external-sound known line x e =
 
 -- ---- lines
 
-alone_is : {A : Type 0} (read : Reads A) (x : A) → (read >>= alone) ≡ Ok x → (y : A × List ℕ) × (read ≡ Ok y) × (y.0 ≡ x)
+pub alone_is : {A : Type 0} (read : Reads A) (x : A) → (read >>= alone) ≡ Ok x → (y : A × List ℕ) × (read ≡ Ok y) × (y.0 ≡ x)
 alone_is read x e =
     let s = step read alone x e in
     let t = step (ended s.value.1) (λ _. ok s.value.0) x s.goes in
     (s.value, s.is, ok_is s.value.0 x t.goes)
 
-abbrev is_sound_statement : Statement → Bool
+abbrev pub is_sound_statement : Statement → Bool
 is_sound_statement (say.Rule r) = is_sound_rule r
 is_sound_statement (say.Minimize m) = is_sound_minimize m
 is_sound_statement (say.Output o) = is_sound_output o
@@ -406,14 +408,14 @@ statement-sound used seen known line s room e =
 -- ---- programs
 
 -- a program of so many lines
-record AreSound (p : Program) (lines : ℕ) : Type 0 where
-  rules : list_all is_sound_rule p.rules ≡ true
-  minimize : list_all is_sound_minimize p.minimize ≡ true
-  outputs : list_all is_sound_output p.outputs ≡ true
-  externals : list_all (λ (e : External). is_atom e.atom) p.externals ≡ true
-  assumptions : list_all is_literal p.assumptions ≡ true
-  size : program_size p ≤ most_counted
-  few : length p.rules + length p.minimize + length p.outputs + length p.externals ≤ lines
+pub record AreSound (p : Program) (lines : ℕ) : Type 0 where
+  pub rules : list_all is_sound_rule p.rules ≡ true
+  pub minimize : list_all is_sound_minimize p.minimize ≡ true
+  pub outputs : list_all is_sound_output p.outputs ≡ true
+  pub externals : list_all (λ (e : External). is_atom e.atom) p.externals ≡ true
+  pub assumptions : list_all is_literal p.assumptions ≡ true
+  pub size : program_size p ≤ most_counted
+  pub few : length p.rules + length p.minimize + length p.outputs + length p.externals ≤ lines
 
 all_append : {A : Type 0} (q : A → Bool) (xs ys : List A) → list_all q xs ≡ true → list_all q ys ≡ true → list_all q (xs ++ ys) ≡ true
 all_append q xs ys h k = list_all-append q xs ys ∙ and_from (list_all q xs) (list_all q ys) h k
@@ -421,7 +423,7 @@ all_append q xs ys h k = list_all-append q xs ys ∙ and_from (list_all q xs) (l
 all_push : {A : Type 0} (q : A → Bool) (xs : List A) (x : A) → list_all q xs ≡ true → q x ≡ true → list_all q (xs ++ x ∷ []) ≡ true
 all_push q xs x h k = all_append q xs (x ∷ []) h (and_from (q x) true k refl)
 
-adds-sound : (p : Program) (s : Statement) (n : ℕ) → AreSound p n → Part is_sound_statement statement_size (program_size p) s → AreSound (adds p s) (suc n)
+pub adds-sound : (p : Program) (s : Statement) (n : ℕ) → AreSound p n → Part is_sound_statement statement_size (program_size p) s → AreSound (adds p s) (suc n)
 adds-sound p say.End n h k = record { rules = h.rules; minimize = h.minimize; outputs = h.outputs; externals = h.externals; assumptions = h.assumptions; size = h.size; few = omega (arith, h.few) }
 adds-sound p say.Comment n h k = record { rules = h.rules; minimize = h.minimize; outputs = h.outputs; externals = h.externals; assumptions = h.assumptions; size = h.size; few = omega (arith, h.few) }
 adds-sound p (say.Rule r) n h k = record {
@@ -470,7 +472,7 @@ adds-sound p (say.Assume ls) n h k = record {
   few = omega (arith, h.few);
 }
 
-more_lines : (p q : Program) (n : ℕ) → p ≡ q → AreSound p n → AreSound q (suc n)
+pub more_lines : (p q : Program) (n : ℕ) → p ≡ q → AreSound p n → AreSound q (suc n)
 more_lines p q n e h = rw (← e) (record { rules = h.rules; minimize = h.minimize; outputs = h.outputs; externals = h.externals; assumptions = h.assumptions; size = h.size; few = omega (arith, h.few) })
 
 abbrev seen_as : Stage → Program → Atoms → Seen
@@ -487,9 +489,9 @@ filled-sound Within p known line next n h e =
     rw is at (adds-sound p t.value n h k)
 filled-sound Ended p known line next n h e = absurd cc
 
-judge-sound : (seen : Seen) (line : List ℕ) (next : Seen) (n : ℕ) → AreSound seen.program n → judge seen line ≡ Ok next → AreSound next.program (suc n)
+judge-sound : (seen : Seen) (line : List ℕ) (next : Seen) (n : ℕ) → AreSound seen.program n → judge_line seen line ≡ Ok next → AreSound next.program (suc n)
 judge-sound seen line next n h e =
-    choose (AreSound next.program (suc n)) (length (unblank line) == 0) (ok seen) (judge_filled seen.stage seen.program seen.known line) next (told_ok line (judge_line seen line) next e)
+    choose (AreSound next.program (suc n)) (length (unblank line) == 0) (ok seen) (judge_filled seen.stage seen.program seen.known line) next e
     (λ k. more_lines seen.program next.program n (ap (λ (s : Seen). s.program) (ok_is seen next k)) h)
     (filled-sound seen.stage seen.program seen.known line next n h)
 
@@ -498,14 +500,6 @@ read x = Ok x
 
 read_is : {A : Type 0} (x y : A) → read x ≡ read y → x ≡ y
 read_is x y e = cc
-
-all-sound : (number : ℕ) (seen : Seen) (lines : List (List ℕ)) (end : Seen) (n : ℕ) → AreSound seen.program n → judge_all number seen lines ≡ Ok end → AreSound end.program (n + length lines)
-unfolding judge_all
-all-sound number seen [] end n h e = rw (← read_is seen end e, add-zero) h
-all-sound number seen (line ∷ lines) end n h e = (elim (judge seen line) as (λ v. judge seen line ≡ v → judge_next number v (λ s. judge_all (number + 1) s lines) ≡ read end → AreSound end.program (n + suc (length lines))) [
-  | Ok s ↦ λ is k. let m : n + suc (length lines) ≡ suc n + length lines = omega arith in rw m (all-sound (number + 1) s lines end (suc n) (judge-sound seen line s n h is) k)
-  | Err f ↦ λ is k. absurd cc
-]) refl e
 
 onto_is : (b : ℕ) (ps : List (List ℕ)) (n : ℕ) → length ps ≤ n → length (onto b ps) ≤ suc n
 onto_is b [] n h = omega arith
@@ -523,11 +517,6 @@ lines_are text = omega (arith, pieces_are text, length-map (pieces text) without
 
 nothing_is_sound : AreSound empty_program 0
 nothing_is_sound = record { rules = refl; minimize = refl; outputs = refl; externals = refl; assumptions = refl; size = omega arith; few = omega arith }
-
-end_program : (number : ℕ) (stage : Stage) (q p : Program) → at_end number stage q ≡ read p → q ≡ p
-end_program number Start q p e = absurd cc
-end_program number Within q p e = absurd cc
-end_program number Ended q p e = read_is q p e
 
 weighted_is_counted : (r : Rule) → weighted_count r.body ≤ rule_size r
 weighted_is_counted r = elim r.body as (λ b. weighted_count b ≤ head_size r.head + body_size b) [ All ls ↦ omega arith | AtLeast bound items ↦ omega arith ]
@@ -552,15 +541,36 @@ too_long = Err TooLong
 not_read : (p : Program) → too_long ≡ read p → ⊥
 not_read p e = cc
 
--- the program of an accepted text is sound
+-- the program of an accepted text is sound, where each line keeps it sound
+module _ {S : Type 0} (format : Format S) (program : S → Program) (begins : program format.start ≡ empty_program)
+    (keeps : (seen : S) (line : List ℕ) (next : S) (n : ℕ) → AreSound (program seen) n → format.after_line seen line ≡ Ok next → AreSound (program next) (suc n))
+    (ends : (number : ℕ) (seen : S) (p : Program) → format.at_end number seen ≡ Ok p → program seen ≡ p) where
+  all-sound : (number : ℕ) (seen : S) (lines : List (List ℕ)) (end : S) (n : ℕ) → AreSound (program seen) n → judge_all format number seen lines ≡ Ok end → AreSound (program end) (n + length lines)
+  unfolding judge_all
+  all-sound number seen [] end n h e = rw (← read_is seen end e, add-zero) h
+  all-sound number seen (line ∷ lines) end n h e = (elim (judge_by format seen line) as (λ v. judge_by format seen line ≡ v → judge_next number v (λ s. judge_all format (number + 1) s lines) ≡ read end → AreSound (program end) (n + suc (length lines))) [
+    | Ok s ↦ λ is k. let m : n + suc (length lines) ≡ suc n + length lines = omega arith in rw m (all-sound (number + 1) s lines end (suc n) (keeps seen line s n h (told_ok line (format.after_line seen line) s is)) k)
+    | Err f ↦ λ is k. absurd cc
+  ]) refl e
+
+  pub outcome_by-sound : (text : List ℕ) (p : Program) → outcome_by format text ≡ Ok p → IsSound p
+  unfolding outcome_from
+  outcome_by-sound text p e = (elim (nat_le (length text) most_bytes) as (λ v. nat_le (length text) most_bytes ≡ v
+      → (if v then (judge_all format 1 format.start (lines_of text) >>= λ end. format.at_end (0 + length (lines_of text) + 1) end) else (judge_all format 1 format.start (lines_of (whole (take most_bytes text))) >>= λ _. Err TooLong)) ≡ read p → IsSound p) [
+        | true ↦ λ short h.
+            let t = step (judge_all format 1 format.start (lines_of text)) (λ end. format.at_end (0 + length (lines_of text) + 1) end) p h in
+            let is : program t.value ≡ p = ends (0 + length (lines_of text) + 1) t.value p t.goes in
+            let nothing : AreSound (program format.start) 0 = rw begins nothing_is_sound in
+            let all = all-sound 1 format.start (lines_of text) t.value 0 nothing t.is in
+            rw is at (sound_from (program t.value) (0 + length (lines_of text)) (omega (arith, lines_are text, leb-true (length text) most_bytes short)) all)
+        | false ↦ λ long h. let t = step (judge_all format 1 format.start (lines_of (whole (take most_bytes text)))) (λ _. too_long) p h in absurd (not_read p t.goes)
+      ]) refl e
+
+end_program : (number : ℕ) (stage : Stage) (q p : Program) → at_end number stage q ≡ read p → q ≡ p
+end_program number Start q p e = absurd cc
+end_program number Within q p e = absurd cc
+end_program number Ended q p e = read_is q p e
+
+-- the program of an accepted aspif text is sound
 pub outcome-sound : (text : List ℕ) (p : Program) → outcome text ≡ Ok p → IsSound p
-unfolding outcome_from
-outcome-sound text p e = (elim (nat_le (length text) most_bytes) as (λ v. nat_le (length text) most_bytes ≡ v
-    → (if v then (judge_all 1 nothing_seen (lines_of text) >>= λ end. at_end (0 + length (lines_of text) + 1) end.stage end.program) else (judge_all 1 nothing_seen (lines_of (whole (take most_bytes text))) >>= λ _. Err TooLong)) ≡ read p → IsSound p) [
-      | true ↦ λ short h.
-          let t = step (judge_all 1 nothing_seen (lines_of text)) (λ end. at_end (0 + length (lines_of text) + 1) end.stage end.program) p h in
-          let is : t.value.program ≡ p = end_program (0 + length (lines_of text) + 1) t.value.stage t.value.program p t.goes in
-          let all = all-sound 1 nothing_seen (lines_of text) t.value 0 nothing_is_sound t.is in
-          rw is at (sound_from t.value.program (0 + length (lines_of text)) (omega (arith, lines_are text, leb-true (length text) most_bytes short)) all)
-      | false ↦ λ long h. let t = step (judge_all 1 nothing_seen (lines_of (whole (take most_bytes text)))) (λ _. too_long) p h in absurd (not_read p t.goes)
-    ]) refl e
+outcome-sound = outcome_by-sound aspif (λ seen. seen.program) refl judge-sound (λ number seen p e. end_program number seen.stage seen.program p e)

@@ -15,9 +15,8 @@ use Rattle.asp_read.specs.declared.fault.ReadError.{ReadError}
 use Rattle.asp_read.specs.declared.fault.ReadError.TheVariants as errors
 use Rattle.asp_read.specs.declared.fault.ReadError.TheVariants.{TooLong, Refused}
 use Rattle.asp_read.specs.Stream.{FailsAs, ReadGives, outcome_on}
-use Rattle.asp_read.specs.Seen.{Seen}
 use Rattle.asp_read.specs.Fields.{◌>>=◌}
-use Rattle.asp_read.specs.Outcome.{judge, judge_next, judge_all, at_end, outcome_from}
+use Rattle.asp_read.specs.Judging.{Format, judge_by, judge_next, judge_all, outcome_from}
 
 -- ---- cutting off a line
 
@@ -90,18 +89,6 @@ lines_whole_cut text line rest c = ap (λ (t : List ℕ). lines_of (whole t)) c.
 pub length_cut : (text line rest : List ℕ) → Cut text line rest → length text ≡ length line + 1 + length rest
 length_cut text line rest c = ap length c.parts ∙ omega (arith, length-append line (10 ∷ rest))
 
--- ---- the outcome behind a line
-
-step_whole : (number : ℕ) (r : Result Seen Fault) (lines : List (List ℕ)) → (judge_next number r (λ s. judge_all (number + 1) s lines) >>= λ e. at_end (number + length lines + 1) e.stage e.program)
-    ≡ judge_next number r (λ s. judge_all (number + 1) s lines >>= λ e. at_end (number + length lines + 1) e.stage e.program)
-step_whole number (Ok s) lines = refl
-step_whole number (Err f) lines = refl
-
-step_part : (number : ℕ) (r : Result Seen Fault) (lines : List (List ℕ)) (after : Result Program ReadError) → (judge_next number r (λ s. judge_all (number + 1) s lines) >>= λ _. after)
-    ≡ judge_next number r (λ s. judge_all (number + 1) s lines >>= λ _. after)
-step_part number (Ok s) lines after = refl
-step_part number (Err f) lines after = refl
-
 same_test : (a b c d : ℕ) → a + d ≡ c + b → nat_le a b ≡ nat_le c d
 same_test a b c d e = grind (arith, nat_tests)
 
@@ -111,25 +98,6 @@ take_behind bytes line rest more room c =
     let front : take (room + length bytes) (bytes ++ more) ≡ bytes ++ take room more = rw add_comm (take-append-add bytes more room) in
     let behind : take (room + length rest) (rest ++ more) ≡ rest ++ take room more = rw add_comm (take-append-add rest more room) in
     rw (front, behind) (Cut-append bytes line rest (take room more) c)
-
-behind : (v : Bool) (n : ℕ) (seen : Seen) (line : List ℕ) (lines some_lines : List (List ℕ))
-    → (if v then (judge_all (n + 1) seen (line ∷ lines) >>= λ e. at_end (n + length (line ∷ lines) + 1) e.stage e.program) else (judge_all (n + 1) seen (line ∷ some_lines) >>= λ _. Err TooLong))
-    ≡ judge_next (n + 1) (judge seen line) (λ s. if v then (judge_all (n + 1 + 1) s lines >>= λ e. at_end (n + 1 + length lines + 1) e.stage e.program) else (judge_all (n + 1 + 1) s some_lines >>= λ _. Err TooLong))
-unfolding judge_all
-behind true n seen line lines some_lines =
-    let k : n + length (line ∷ lines) + 1 ≡ n + 1 + length lines + 1 = omega arith in
-    rw k (step_whole (n + 1) (judge seen line) lines)
-behind false n seen line lines some_lines = step_part (n + 1) (judge seen line) some_lines (Err TooLong)
-
--- the outcome is that of what follows the first line, after that line
-pub one_line : (bytes line rest more : List ℕ) (room number : ℕ) (seen : Seen) → Cut bytes line rest
-    → outcome_from (room + length bytes) number seen (bytes ++ more) ≡ judge_next (number + 1) (judge seen (without_cr line)) (λ s. outcome_from (room + length rest) (number + 1) s (rest ++ more))
-unfolding outcome_from
-one_line bytes line rest more room number seen c =
-    let t : nat_le (length (bytes ++ more)) (room + length bytes) ≡ nat_le (length (rest ++ more)) (room + length rest) = same_test _ _ _ _ (omega (arith, length-append bytes more, length-append rest more)) in
-    let l : lines_of (bytes ++ more) ≡ without_cr line ∷ lines_of (rest ++ more) = lines_cut (bytes ++ more) line (rest ++ more) (Cut-append bytes line rest more c) in
-    let w : lines_of (whole (take (room + length bytes) (bytes ++ more))) ≡ without_cr line ∷ lines_of (whole (take (room + length rest) (rest ++ more))) = lines_whole_cut _ line _ (take_behind bytes line rest more room c) in
-    rw (t, l, w) (behind (nat_le (length (rest ++ more)) (room + length rest)) number seen (without_cr line) (lines_of (rest ++ more)) (lines_of (whole (take (room + length rest) (rest ++ more)))))
 
 -- ---- the lines that a reader takes
 
@@ -155,46 +123,6 @@ found text line e = (elim (cut text) as (λ o. o ≡ cut text → Some line ≡ 
 
 pub shorter : (text line : List ℕ) → Some line ≡ first_line text → length (after_line text) < length text
 shorter text line e = let f = found text line e in omega (arith, length_cut text f.raw f.rest f.cut_off, ap length f.left)
-
-abbrev failed : ReadError → Result Seen ReadError
-failed e = Err e
-
-refusal_is : (d e : ReadError) → failed d ≡ failed e → d ≡ e
-refusal_is d e h = cc
-
-fails_on : {A : Type 0} (e : ReadError) (n : ℕ) (r : Result Seen Fault) (go : Seen → Result A ReadError) → FailsAs e (judge_next n r (λ s. Ok s)) → FailsAs e (judge_next n r go)
-fails_on errors.Memory n r go h = tt
-fails_on errors.ReadFault n (Ok s) go h = absurd cc
-fails_on errors.ReadFault n (Err f) go h = absurd cc
-fails_on errors.TooLong n (Ok s) go h = absurd cc
-fails_on errors.TooLong n (Err f) go h = absurd cc
-fails_on (errors.Refused f n') n (Ok s) go h = absurd cc
-fails_on (errors.Refused f n') n (Err g) go h = ap Err (refusal_is (Refused g n) (Refused f n') h)
-
-goes : {A : Type 0} (n : ℕ) (r : Result Seen Fault) (s : Seen) (go : Seen → Result A ReadError) → judge_next n r (λ s. Ok s) ≡ Ok s → judge_next n r go ≡ go s
-goes n (Ok s') s go e = ap go cc
-goes n (Err f) s go e = absurd cc
-
-at_cut : (old : Unread) (reader : Seen) (n : ℕ) (line raw rest left : List ℕ) (room : ℕ) (more : List ℕ) → Cut old.bytes raw rest → n ≡ old.given + 1 → line ≡ without_cr raw → left ≡ rest
-    → outcome_on old reader room more ≡ judge_next n (judge reader line) (λ s. outcome_from (room + length left) n s (left ++ more))
-at_cut old reader n line raw rest left room more c n-is line-is left-is = rw (n-is, line-is, left-is) (one_line old.bytes raw rest more room old.given reader c)
-
--- the line's outcome, at the values that the reader has
-pub at_line : (old : Unread) (reader : Seen) (n : ℕ) (line : List ℕ) (room : ℕ) (more : List ℕ) → Some line ≡ first_line old.bytes → n ≡ old.given + 1
-    → outcome_on old reader room more ≡ judge_next n (judge reader line) (λ s. outcome_from (room + length (after_line old.bytes)) n s (after_line old.bytes ++ more))
-at_line old reader n line room more e n-is =
-    let f = found old.bytes line e in
-    at_cut old reader n line f.raw f.rest (after_line old.bytes) room more f.cut_off n-is f.trimmed f.left
-
-pub line_step : (old new : Unread) (reader r : Seen) (n : ℕ) (line : List ℕ) → Some line ≡ first_line old.bytes → new ≡ record old { bytes = after_line old.bytes; given = old.given + 1 } → n ≡ old.given + 1
-    → judge_next n (judge reader line) (λ s. Ok s) ≡ Ok r → (room : ℕ) (more : List ℕ) → outcome_on new r room more ≡ outcome_on old reader room more
-line_step old new reader r n line e new-is n-is judged room more =
-    sym (at_line old reader n line room more e n-is ∙ goes n (judge reader line) r _ judged ∙ rw (new-is, n-is) refl)
-
-pub line_fails : (old : Unread) (reader : Seen) (e : ReadError) (n : ℕ) (line : List ℕ) → Some line ≡ first_line old.bytes → n ≡ old.given + 1
-    → FailsAs e (judge_next n (judge reader line) (λ s. Ok s)) → (room : ℕ) (more : List ℕ) → FailsAs e (outcome_on old reader room more)
-line_fails old reader e n line h n-is fails room more =
-    subst (λ (o : Result Program ReadError). FailsAs e o) (sym (at_line old reader n line room more h n-is)) (fails_on e n (judge reader line) _ fails)
 
 -- ---- the end, and a piece
 
@@ -224,15 +152,6 @@ whole_none : (bytes : List ℕ) → cut bytes ≡ None → whole bytes ≡ []
 whole_none [] e = refl
 whole_none (b ∷ bs) e = rw (any_none (b ∷ bs) e) refl
 
-pub fed : (bytes piece rest : List ℕ) (room number : ℕ) (seen : Seen) → outcome_from (room + length (bytes ++ piece)) number seen ((bytes ++ piece) ++ rest) ≡ outcome_from (room + length piece + length bytes) number seen (bytes ++ (piece ++ rest))
-fed bytes piece rest room number seen =
-    let k : room + length (bytes ++ piece) ≡ room + length piece + length bytes = omega (arith, length-append bytes piece) in
-    rw (k, append_assoc bytes piece rest) refl
-
-pub fed_on : (old new : Unread) (piece : List ℕ) (more : ℕ) (reader : Seen) → new ≡ record old { bytes = old.bytes ++ piece; fed = more } → (room : ℕ) (rest : List ℕ)
-    → outcome_on new reader room rest ≡ outcome_on old reader (room + length piece) (piece ++ rest)
-fed_on old new piece more reader e room rest = rw e (fed old.bytes piece rest room old.given reader)
-
 pub gives_itself : {A : Type 0} (r : Result A ReadError) → ReadGives r r
 gives_itself (Ok x) = refl
 gives_itself (Err errors.Memory) = tt
@@ -243,38 +162,119 @@ gives_itself (Err (errors.Refused f n)) = refl
 fits : (bytes : List ℕ) (room : ℕ) → nat_le (length (bytes ++ [])) (room + length bytes) ≡ true
 fits bytes room = grind (arith, nat_tests, length-append bytes [])
 
-at_last : (bytes : List ℕ) (room number : ℕ) (seen : Seen) → cut bytes ≡ None
-    → outcome_from (room + length bytes) number seen (bytes ++ []) ≡ (judge_all (number + 1) seen (option_to_list (last_line bytes)) >>= λ e. at_end (number + length (option_to_list (last_line bytes)) + 1) e.stage e.program)
-unfolding outcome_from
-at_last bytes room number seen none = rw (fits bytes room, append-nil bytes, lines_none bytes none) refl
-
-last_is : (o : Option (List ℕ)) (line : List ℕ) (number n : ℕ) (seen : Seen) → Some line ≡ o → n ≡ number + 1
-    → (judge_all (number + 1) seen (option_to_list o) >>= λ e. at_end (number + length (option_to_list o) + 1) e.stage e.program) ≡ judge_next n (judge seen line) (λ s. at_end (n + 1) s.stage s.program)
-unfolding judge_all
-last_is o line number n seen e n-is = rw (← e, n-is) (simp add-zero at (step_whole (number + 1) (judge seen line) []))
-
-no_last : (o : Option (List ℕ)) (number : ℕ) (seen : Seen) → None ≡ o
-    → (judge_all (number + 1) seen (option_to_list o) >>= λ e. at_end (number + length (option_to_list o) + 1) e.stage e.program) ≡ at_end (number + 1) seen.stage seen.program
-unfolding judge_all
-no_last o number seen e = rw (← e, add-zero) refl
-
-pub last_line_ends : (old : Unread) (reader r : Seen) (n room : ℕ) (line : List ℕ) → cut old.bytes ≡ None → Some line ≡ last_line old.bytes → n ≡ old.given + 1 → judge_next n (judge reader line) (λ s. Ok s) ≡ Ok r
-    → outcome_on old reader room [] ≡ at_end (n + 1) r.stage r.program
-last_line_ends old reader r n room line none e n-is judged = at_last old.bytes room old.given reader none ∙ last_is (last_line old.bytes) line old.given n reader e n-is ∙ goes n (judge reader line) r _ judged
-
-pub last_line_fails : (old : Unread) (reader : Seen) (e : ReadError) (n room : ℕ) (line : List ℕ) → cut old.bytes ≡ None → Some line ≡ last_line old.bytes → n ≡ old.given + 1 → FailsAs e (judge_next n (judge reader line) (λ s. Ok s))
-    → FailsAs e (outcome_on old reader room [])
-last_line_fails old reader e n room line none h n-is fails =
-    subst (λ (o : Result Program ReadError). FailsAs e o) (sym (at_last old.bytes room old.given reader none ∙ last_is (last_line old.bytes) line old.given n reader h n-is)) (fails_on e n (judge reader line) _ fails)
-
-pub no_last_line : (old : Unread) (reader : Seen) (room : ℕ) → cut old.bytes ≡ None → None ≡ last_line old.bytes → outcome_on old reader room [] ≡ at_end (old.given + 1) reader.stage reader.program
-no_last_line old reader room none e = at_last old.bytes room old.given reader none ∙ no_last (last_line old.bytes) old.given reader e
-
 pub beyond : (bytes rest : List ℕ) → 0 < length rest → nat_le (length (bytes ++ rest)) (0 + length bytes) ≡ false
 beyond bytes rest lt = grind (arith, nat_tests, length-append bytes rest)
 
-pub too_long : (old : Unread) (reader : Seen) (rest : List ℕ) → cut old.bytes ≡ None → 0 < length rest → outcome_on old reader 0 rest ≡ Err TooLong
-unfolding outcome_from judge_all
-too_long old reader rest none lt =
-    let front : take (0 + length old.bytes) (old.bytes ++ rest) ≡ old.bytes = rw zero-add (take-append_seam old.bytes rest) in
-    rw (beyond old.bytes rest lt, front, whole_none old.bytes none) refl
+module _ {S : Type 0} (format : Format S) where
+  -- ---- the outcome behind a line
+
+  step_whole : (number : ℕ) (r : Result S Fault) (lines : List (List ℕ)) → (judge_next number r (λ s. judge_all format (number + 1) s lines) >>= λ e. format.at_end (number + length lines + 1) e)
+      ≡ judge_next number r (λ s. judge_all format (number + 1) s lines >>= λ e. format.at_end (number + length lines + 1) e)
+  step_whole number (Ok s) lines = refl
+  step_whole number (Err f) lines = refl
+
+  step_part : (number : ℕ) (r : Result S Fault) (lines : List (List ℕ)) (after : Result Program ReadError) → (judge_next number r (λ s. judge_all format (number + 1) s lines) >>= λ _. after)
+      ≡ judge_next number r (λ s. judge_all format (number + 1) s lines >>= λ _. after)
+  step_part number (Ok s) lines after = refl
+  step_part number (Err f) lines after = refl
+
+  behind : (v : Bool) (n : ℕ) (seen : S) (line : List ℕ) (lines some_lines : List (List ℕ))
+      → (if v then (judge_all format (n + 1) seen (line ∷ lines) >>= λ e. format.at_end (n + length (line ∷ lines) + 1) e) else (judge_all format (n + 1) seen (line ∷ some_lines) >>= λ _. Err TooLong))
+      ≡ judge_next (n + 1) (judge_by format seen line) (λ s. if v then (judge_all format (n + 1 + 1) s lines >>= λ e. format.at_end (n + 1 + length lines + 1) e) else (judge_all format (n + 1 + 1) s some_lines >>= λ _. Err TooLong))
+  unfolding judge_all
+  behind true n seen line lines some_lines =
+      let k : n + length (line ∷ lines) + 1 ≡ n + 1 + length lines + 1 = omega arith in
+      rw k (step_whole (n + 1) (judge_by format seen line) lines)
+  behind false n seen line lines some_lines = step_part (n + 1) (judge_by format seen line) some_lines (Err TooLong)
+
+  -- the outcome is that of what follows the first line, after that line
+  pub one_line : (bytes line rest more : List ℕ) (room number : ℕ) (seen : S) → Cut bytes line rest
+      → outcome_from format (room + length bytes) number seen (bytes ++ more) ≡ judge_next (number + 1) (judge_by format seen (without_cr line)) (λ s. outcome_from format (room + length rest) (number + 1) s (rest ++ more))
+  unfolding outcome_from
+  one_line bytes line rest more room number seen c =
+      let t : nat_le (length (bytes ++ more)) (room + length bytes) ≡ nat_le (length (rest ++ more)) (room + length rest) = same_test _ _ _ _ (omega (arith, length-append bytes more, length-append rest more)) in
+      let l : lines_of (bytes ++ more) ≡ without_cr line ∷ lines_of (rest ++ more) = lines_cut (bytes ++ more) line (rest ++ more) (Cut-append bytes line rest more c) in
+      let w : lines_of (whole (take (room + length bytes) (bytes ++ more))) ≡ without_cr line ∷ lines_of (whole (take (room + length rest) (rest ++ more))) = lines_whole_cut _ line _ (take_behind bytes line rest more room c) in
+      rw (t, l, w) (behind (nat_le (length (rest ++ more)) (room + length rest)) number seen (without_cr line) (lines_of (rest ++ more)) (lines_of (whole (take (room + length rest) (rest ++ more)))))
+
+  abbrev failed : ReadError → Result S ReadError
+  failed e = Err e
+
+  refusal_is : (d e : ReadError) → failed d ≡ failed e → d ≡ e
+  refusal_is d e h = cc
+
+  fails_on : {A : Type 0} (e : ReadError) (n : ℕ) (r : Result S Fault) (go : S → Result A ReadError) → FailsAs e (judge_next n r (λ s. Ok s)) → FailsAs e (judge_next n r go)
+  fails_on errors.Memory n r go h = tt
+  fails_on errors.ReadFault n (Ok s) go h = absurd cc
+  fails_on errors.ReadFault n (Err f) go h = absurd cc
+  fails_on errors.TooLong n (Ok s) go h = absurd cc
+  fails_on errors.TooLong n (Err f) go h = absurd cc
+  fails_on (errors.Refused f n') n (Ok s) go h = absurd cc
+  fails_on (errors.Refused f n') n (Err g) go h = ap Err (refusal_is (Refused g n) (Refused f n') h)
+
+  goes : {A : Type 0} (n : ℕ) (r : Result S Fault) (s : S) (go : S → Result A ReadError) → judge_next n r (λ s. Ok s) ≡ Ok s → judge_next n r go ≡ go s
+  goes n (Ok s') s go e = ap go cc
+  goes n (Err f) s go e = absurd cc
+
+  at_cut : (old : Unread) (reader : S) (n : ℕ) (line raw rest left : List ℕ) (room : ℕ) (more : List ℕ) → Cut old.bytes raw rest → n ≡ old.given + 1 → line ≡ without_cr raw → left ≡ rest
+      → outcome_on format old reader room more ≡ judge_next n (judge_by format reader line) (λ s. outcome_from format (room + length left) n s (left ++ more))
+  at_cut old reader n line raw rest left room more c n-is line-is left-is = rw (n-is, line-is, left-is) (one_line old.bytes raw rest more room old.given reader c)
+
+  -- the line's outcome, at the values that the reader has
+  pub at_line : (old : Unread) (reader : S) (n : ℕ) (line : List ℕ) (room : ℕ) (more : List ℕ) → Some line ≡ first_line old.bytes → n ≡ old.given + 1
+      → outcome_on format old reader room more ≡ judge_next n (judge_by format reader line) (λ s. outcome_from format (room + length (after_line old.bytes)) n s (after_line old.bytes ++ more))
+  at_line old reader n line room more e n-is =
+      let f = found old.bytes line e in
+      at_cut old reader n line f.raw f.rest (after_line old.bytes) room more f.cut_off n-is f.trimmed f.left
+
+  pub line_step : (old new : Unread) (reader r : S) (n : ℕ) (line : List ℕ) → Some line ≡ first_line old.bytes → new ≡ record old { bytes = after_line old.bytes; given = old.given + 1 } → n ≡ old.given + 1
+      → judge_next n (judge_by format reader line) (λ s. Ok s) ≡ Ok r → (room : ℕ) (more : List ℕ) → outcome_on format new r room more ≡ outcome_on format old reader room more
+  line_step old new reader r n line e new-is n-is judged room more =
+      sym (at_line old reader n line room more e n-is ∙ goes n (judge_by format reader line) r _ judged ∙ rw (new-is, n-is) refl)
+
+  pub line_fails : (old : Unread) (reader : S) (e : ReadError) (n : ℕ) (line : List ℕ) → Some line ≡ first_line old.bytes → n ≡ old.given + 1
+      → FailsAs e (judge_next n (judge_by format reader line) (λ s. Ok s)) → (room : ℕ) (more : List ℕ) → FailsAs e (outcome_on format old reader room more)
+  line_fails old reader e n line h n-is fails room more =
+      subst (λ (o : Result Program ReadError). FailsAs e o) (sym (at_line old reader n line room more h n-is)) (fails_on e n (judge_by format reader line) _ fails)
+
+  pub fed : (bytes piece rest : List ℕ) (room number : ℕ) (seen : S) → outcome_from format (room + length (bytes ++ piece)) number seen ((bytes ++ piece) ++ rest) ≡ outcome_from format (room + length piece + length bytes) number seen (bytes ++ (piece ++ rest))
+  fed bytes piece rest room number seen =
+      let k : room + length (bytes ++ piece) ≡ room + length piece + length bytes = omega (arith, length-append bytes piece) in
+      rw (k, append_assoc bytes piece rest) refl
+
+  pub fed_on : (old new : Unread) (piece : List ℕ) (more : ℕ) (reader : S) → new ≡ record old { bytes = old.bytes ++ piece; fed = more } → (room : ℕ) (rest : List ℕ)
+      → outcome_on format new reader room rest ≡ outcome_on format old reader (room + length piece) (piece ++ rest)
+  fed_on old new piece more reader e room rest = rw e (fed old.bytes piece rest room old.given reader)
+
+  at_last : (bytes : List ℕ) (room number : ℕ) (seen : S) → cut bytes ≡ None
+      → outcome_from format (room + length bytes) number seen (bytes ++ []) ≡ (judge_all format (number + 1) seen (option_to_list (last_line bytes)) >>= λ e. format.at_end (number + length (option_to_list (last_line bytes)) + 1) e)
+  unfolding outcome_from
+  at_last bytes room number seen none = rw (fits bytes room, append-nil bytes, lines_none bytes none) refl
+
+  last_is : (o : Option (List ℕ)) (line : List ℕ) (number n : ℕ) (seen : S) → Some line ≡ o → n ≡ number + 1
+      → (judge_all format (number + 1) seen (option_to_list o) >>= λ e. format.at_end (number + length (option_to_list o) + 1) e) ≡ judge_next n (judge_by format seen line) (λ s. format.at_end (n + 1) s)
+  unfolding judge_all
+  last_is o line number n seen e n-is = rw (← e, n-is) (simp add-zero at (step_whole (number + 1) (judge_by format seen line) []))
+
+  no_last : (o : Option (List ℕ)) (number : ℕ) (seen : S) → None ≡ o
+      → (judge_all format (number + 1) seen (option_to_list o) >>= λ e. format.at_end (number + length (option_to_list o) + 1) e) ≡ format.at_end (number + 1) seen
+  unfolding judge_all
+  no_last o number seen e = rw (← e, add-zero) refl
+
+  pub last_line_ends : (old : Unread) (reader r : S) (n room : ℕ) (line : List ℕ) → cut old.bytes ≡ None → Some line ≡ last_line old.bytes → n ≡ old.given + 1 → judge_next n (judge_by format reader line) (λ s. Ok s) ≡ Ok r
+      → outcome_on format old reader room [] ≡ format.at_end (n + 1) r
+  last_line_ends old reader r n room line none e n-is judged = at_last old.bytes room old.given reader none ∙ last_is (last_line old.bytes) line old.given n reader e n-is ∙ goes n (judge_by format reader line) r _ judged
+
+  pub last_line_fails : (old : Unread) (reader : S) (e : ReadError) (n room : ℕ) (line : List ℕ) → cut old.bytes ≡ None → Some line ≡ last_line old.bytes → n ≡ old.given + 1 → FailsAs e (judge_next n (judge_by format reader line) (λ s. Ok s))
+      → FailsAs e (outcome_on format old reader room [])
+  last_line_fails old reader e n room line none h n-is fails =
+      subst (λ (o : Result Program ReadError). FailsAs e o) (sym (at_last old.bytes room old.given reader none ∙ last_is (last_line old.bytes) line old.given n reader h n-is)) (fails_on e n (judge_by format reader line) _ fails)
+
+  pub no_last_line : (old : Unread) (reader : S) (room : ℕ) → cut old.bytes ≡ None → None ≡ last_line old.bytes → outcome_on format old reader room [] ≡ format.at_end (old.given + 1) reader
+  no_last_line old reader room none e = at_last old.bytes room old.given reader none ∙ no_last (last_line old.bytes) old.given reader e
+
+  pub too_long : (old : Unread) (reader : S) (rest : List ℕ) → cut old.bytes ≡ None → 0 < length rest → outcome_on format old reader 0 rest ≡ Err TooLong
+  unfolding outcome_from judge_all
+  too_long old reader rest none lt =
+      let front : take (0 + length old.bytes) (old.bytes ++ rest) ≡ old.bytes = rw zero-add (take-append_seam old.bytes rest) in
+      rw (beyond old.bytes rest lt, front, whole_none old.bytes none) refl

@@ -1,6 +1,8 @@
+pub mod Adding
 pub mod Places
 pub mod Fields
 pub mod Gives
+pub mod Judging
 pub mod Kept
 pub mod Known
 pub mod Outcome

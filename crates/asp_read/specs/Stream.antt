@@ -9,8 +9,8 @@ use Rattle.asp_text.specs.Lines.{lines_of, whole}
 use Rattle.asp_model.specs.declared.program.Program.{Program}
 use Rattle.asp_read.specs.declared.fault.ReadError.{ReadError}
 use Rattle.asp_read.specs.declared.fault.ReadError.TheVariants as errors
-use Rattle.asp_read.specs.Seen.{Seen, nothing_seen}
-use Rattle.asp_read.specs.Outcome.{judge_all, outcome_from}
+use Rattle.asp_read.specs.Judging.{Format, judge_all, outcome_from}
+use Rattle.asp_read.specs.Outcome.{aspif}
 
 abbrev pub FailsAs : {A : Type 0} → ReadError → Result A ReadError → Type 0
 FailsAs errors.Memory read = Unit {0}
@@ -23,7 +23,7 @@ ReadGives (Ok x) read = read ≡ Ok x
 ReadGives (Err e) read = FailsAs e read
 
 -- the same, of what a reader became
-abbrev pub Becomes : {U : Type 0} → Result U ReadError → Seen → Result Seen ReadError → Type 0
+abbrev pub Becomes : {U S : Type 0} → Result U ReadError → S → Result S ReadError → Type 0
 Becomes (Ok done) seen read = read ≡ Ok seen
 Becomes (Err e) seen read = FailsAs e read
 
@@ -35,8 +35,8 @@ IsOfLines errors.TooLong = ⊥
 IsOfLines (errors.Refused f n) = Unit {0}
 
 -- the outcome, where these bytes are held and the rest is still to come, of which so many bytes may come
-abbrev pub outcome_on : Unread → Seen → ℕ → List ℕ → Result Program ReadError
-outcome_on lines seen room rest = outcome_from (room + length lines.bytes) lines.given seen (lines.bytes ++ rest)
+abbrev pub outcome_on : {S : Type 0} → Format S → Unread → S → ℕ → List ℕ → Result Program ReadError
+outcome_on format lines seen room rest = outcome_from format (room + length lines.bytes) lines.given seen (lines.bytes ++ rest)
 
 -- the same, but for a failed read
 abbrev pub ReadsText : Result Program ReadError → Result Program ReadError → Type 0
@@ -53,21 +53,21 @@ Took (Some text) None read = ⊥
 Took (Some text) (Some rest) read = text ≡ read ++ rest
 
 -- what was read so far: the lines that were taken and the bytes that are held say as much, whatever follows
-pub record Continues (initial now : Option (List ℕ)) (limit : ℕ) (lines : Unread) (seen : Seen) (room : ℕ) : Type 0 where
+pub record Continues {S : Type 0} (format : Format S) (initial now : Option (List ℕ)) (limit : ℕ) (lines : Unread) (seen : S) (room : ℕ) : Type 0 where
   pub read : List ℕ
   pub took : Took initial now read
   pub counted : room + length read ≡ limit
-  pub same : (k : ℕ) (more : List ℕ) → outcome_on lines seen k more ≡ outcome_from (k + length read) 0 nothing_seen (read ++ more)
+  pub same : (k : ℕ) (more : List ℕ) → outcome_on format lines seen k more ≡ outcome_from format (k + length read) 0 format.start (read ++ more)
 
 -- there is a text, the source's where it tells its bytes, whose outcome was answered
-pub record Answers (source : Option (List ℕ)) (limit : ℕ) (result : Result Program ReadError) : Type 0 where
+pub record Answers {S : Type 0} (format : Format S) (source : Option (List ℕ)) (limit : ℕ) (result : Result Program ReadError) : Type 0 where
   pub text : List ℕ
   pub told : IfSome source (λ t. t ≡ text)
-  pub answered : ReadsText result (outcome_from limit 0 nothing_seen text)
+  pub answered : ReadsText result (outcome_from format limit 0 format.start text)
 
 -- whatever follows what was read, the outcome is this
-abbrev pub Settles : ℕ → List ℕ → ReadError → Type 0
-Settles limit read error = (more : List ℕ) → outcome_from limit 0 nothing_seen (read ++ more) ≡ Err error
+abbrev pub Settles : {S : Type 0} → Format S → ℕ → List ℕ → ReadError → Type 0
+Settles format limit read error = (more : List ℕ) → outcome_from format limit 0 format.start (read ++ more) ≡ Err error
 
 -- the last read gave nothing, and nothing is left
 pub record IsLastRead (last rest : List ℕ) : Type 0 where
@@ -75,31 +75,35 @@ pub record IsLastRead (last rest : List ℕ) : Type 0 where
   pub none_left : rest ≡ []
 
 -- why no further read was made
-abbrev pub Decides : ℕ → List ℕ → List ℕ → List ℕ → Result Program ReadError → Type 0
-Decides limit before last rest (Ok p) = IsLastRead last rest
-Decides limit before last rest (Err errors.Memory) = Unit {0}
-Decides limit before last rest (Err errors.ReadFault) = last ≡ []
-Decides limit before last rest (Err errors.TooLong) = Settles limit (before ++ last) errors.TooLong
-Decides limit before last rest (Err (errors.Refused f n)) = Settles limit (before ++ last) (errors.Refused f n) ⊎ IsLastRead last rest
+abbrev pub Decides : {S : Type 0} → Format S → ℕ → List ℕ → List ℕ → List ℕ → Result Program ReadError → Type 0
+Decides format limit before last rest (Ok p) = IsLastRead last rest
+Decides format limit before last rest (Err errors.Memory) = Unit {0}
+Decides format limit before last rest (Err errors.ReadFault) = last ≡ []
+Decides format limit before last rest (Err errors.TooLong) = Settles format limit (before ++ last) errors.TooLong
+Decides format limit before last rest (Err (errors.Refused f n)) = Settles format limit (before ++ last) (errors.Refused f n) ⊎ IsLastRead last rest
 
 -- where reading stopped: the source stands right behind what was read. Before the last read no line that had come with its line feed had a fault, nor were there too many bytes; the last read decided, or was the end, or failed
-pub record Stops (limit : ℕ) (text rest : List ℕ) (result : Result Program ReadError) : Type 0 where
+pub record Stops {S : Type 0} (format : Format S) (limit : ℕ) (text rest : List ℕ) (result : Result Program ReadError) : Type 0 where
   pub before : List ℕ
   pub last : List ℕ
   pub stands : text ≡ before ++ (last ++ rest)
-  pub no_fault : IsOk (judge_all 1 nothing_seen (lines_of (whole before)))
+  pub no_fault : IsOk (judge_all format 1 format.start (lines_of (whole before)))
   pub fits : length before ≤ limit
-  pub decides : Decides limit before last rest result
+  pub decides : Decides format limit before last rest result
 
 -- the same, where the source tells its bytes
+abbrev pub StopsBy : {S : Type 0} → Format S → ℕ → Option (List ℕ) → Option (List ℕ) → Result Program ReadError → Type 0
+StopsBy format limit None now result = Unit {0}
+StopsBy format limit (Some text) None result = ⊥
+StopsBy format limit (Some text) (Some rest) result = Stops format limit text rest result
+
+-- the same of aspif
 abbrev pub StopsAt : ℕ → Option (List ℕ) → Option (List ℕ) → Result Program ReadError → Type 0
-StopsAt limit None now result = Unit {0}
-StopsAt limit (Some text) None result = ⊥
-StopsAt limit (Some text) (Some rest) result = Stops limit text rest result
+StopsAt limit initial now result = StopsBy aspif limit initial now result
 
 -- what is answered at the end of a source, by whoever ends what was read of it
-abbrev pub EndsWith : Option (List ℕ) → ℕ → Unread → Seen → Type 0
-EndsWith initial limit lines seen = (r : Result Program ReadError) → ((room : ℕ) → ReadGives r (outcome_on lines seen room [])) → Answers initial limit r
+abbrev pub EndsWith : {S : Type 0} → Format S → Option (List ℕ) → ℕ → Unread → S → Type 0
+EndsWith format initial limit lines seen = (r : Result Program ReadError) → ((room : ℕ) → ReadGives r (outcome_on format lines seen room [])) → Answers format initial limit r
 
-abbrev pub EndsAt : Option (List ℕ) → Option (List ℕ) → ℕ → Type 0
-EndsAt initial next limit = (r : Result Program ReadError) → IfErr r IsOfLines → StopsAt limit initial next r
+abbrev pub EndsAt : {S : Type 0} → Format S → Option (List ℕ) → Option (List ℕ) → ℕ → Type 0
+EndsAt format initial next limit = (r : Result Program ReadError) → IfErr r IsOfLines → StopsBy format limit initial next r

@@ -44,6 +44,16 @@ pub enum FaultKind {
     Priorities,
     /// An atom would be the 1,000,001st different one.
     Atoms,
+    /// No rule of a smodels text has this type.
+    RuleType(Num),
+    /// So many literals can't have this many negated ones among them.
+    Negated(u32, Num),
+    /// A symbol of a smodels text has no name.
+    Name,
+    /// Another line stands where a smodels text's `B+` or `B-` should.
+    Section,
+    /// A smodels text has an external section.
+    Externals,
 }
 
 /// A fault, and where on its line it is.

@@ -46,6 +46,7 @@ pub fn integer(line: &[u8], low: i32, high: i32) -> Result<(i32, &[u8]), LineErr
 pub fn atom<'a>(line: &'a [u8], known: &mut KnownAtoms) -> Result<(Atom, &'a [u8]), LineError>
     ensures atom { Gives (λ x. (x.0, x.1.now)) result (atom_at known.old line.now) }
     ensures known { IfOk result (λ x. known.new ≡ with_atom x.0 known.old) }
+    ensures bound { IfOk result (λ x. (1 ≤ x.0) × (x.0 ≤ 2147483647)) }
 {
     let (atom, rest) = natural(line, 1, i32::MAX as u32)?;
     known.take(atom, line)?;

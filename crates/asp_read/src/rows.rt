@@ -11,7 +11,7 @@ ghost use Rattle.asp_read.specs.Rows.{after_header, refused, rule_program};
 use crate::fault::FaultKind;
 
 /// The faults of the header and of the end.
-#[tactic(auto, unfolding(crate::specs::Outcome::outcome_from, crate::specs::Outcome::judge_all, crate::specs::Statements::header_at, crate::specs::Statements::statement_with, crate::specs::Statements::of_kind))]
+#[tactic(auto, unfolding(crate::specs::Judging::outcome_from, crate::specs::Judging::judge_all, crate::specs::Statements::header_at, crate::specs::Statements::statement_with, crate::specs::Statements::of_kind))]
 pub fn whole_texts()
     ensures minor { outcome (codes "asp 1 1 0\n0\n") ≡ refused 1 1 FaultKind.Header }
     ensures short { outcome (codes "asp 1 0\n0\n") ≡ refused 1 1 FaultKind.Header }
@@ -25,7 +25,7 @@ pub fn whole_texts()
 {}
 
 /// The faults of a line after the header.
-#[tactic(auto, unfolding(crate::specs::Outcome::outcome_from, crate::specs::Outcome::judge_all, crate::specs::Statements::header_at, crate::specs::Statements::statement_with, crate::specs::Statements::of_kind, crate::specs::Statements::rule_at, crate::specs::Statements::head_at, crate::specs::Statements::body_at, crate::specs::Statements::output_at, crate::specs::Statements::minimize_at, crate::specs::Statements::external_at, crate::specs::Fields::many_at, crate::specs::Fields::count_at, crate::specs::Fields::atom_at, crate::specs::Fields::literal_at, crate::specs::Fields::weighted_at))]
+#[tactic(auto, unfolding(crate::specs::Judging::outcome_from, crate::specs::Judging::judge_all, crate::specs::Statements::header_at, crate::specs::Statements::statement_with, crate::specs::Statements::of_kind, crate::specs::Statements::rule_at, crate::specs::Statements::head_at, crate::specs::Statements::body_at, crate::specs::Statements::output_at, crate::specs::Statements::minimize_at, crate::specs::Statements::external_at, crate::specs::Fields::many_at, crate::specs::Fields::count_at, crate::specs::Fields::atom_at, crate::specs::Fields::literal_at, crate::specs::Fields::weighted_at))]
 pub fn refused_lines()
     ensures kind { outcome (after_header (codes "11 1")) ≡ refused 2 1 (FaultKind.Statement (Value (pos 11))) }
     ensures heuristic { outcome (after_header (codes "7 0 1 1 1 0")) ≡ refused 2 2 FaultKind.Heuristic }
@@ -50,7 +50,7 @@ pub fn refused_lines()
 {}
 
 /// What is accepted.
-#[tactic(auto, unfolding(crate::specs::Outcome::outcome_from, crate::specs::Outcome::judge_all, crate::specs::Statements::header_at, crate::specs::Statements::statement_with, crate::specs::Statements::of_kind, crate::specs::Statements::rule_at, crate::specs::Statements::head_at, crate::specs::Statements::body_at, crate::specs::Statements::output_at, crate::specs::Statements::minimize_at, crate::specs::Statements::external_at, crate::specs::Fields::many_at, crate::specs::Fields::count_at, crate::specs::Fields::atom_at, crate::specs::Fields::literal_at, crate::specs::Fields::weighted_at))]
+#[tactic(auto, unfolding(crate::specs::Judging::outcome_from, crate::specs::Judging::judge_all, crate::specs::Statements::header_at, crate::specs::Statements::statement_with, crate::specs::Statements::of_kind, crate::specs::Statements::rule_at, crate::specs::Statements::head_at, crate::specs::Statements::body_at, crate::specs::Statements::output_at, crate::specs::Statements::minimize_at, crate::specs::Statements::external_at, crate::specs::Fields::many_at, crate::specs::Fields::count_at, crate::specs::Fields::atom_at, crate::specs::Fields::literal_at, crate::specs::Fields::weighted_at))]
 pub fn accepted_lines()
     ensures comment { outcome (after_header (codes "10 any text")) ≡ Ok empty_program }
     ensures lenient { outcome (after_header (codes " \t01\t0 1  001 0 0 ")) ≡ Ok (rule_program (record { head = One 1; body = All [] })) }

@@ -152,7 +152,8 @@ fn value_of(number: u32) -> ExternalValue
     }
 }
 
-fn owned(alloc: Global, text: &[u8]) -> Result<Seq<u8>, AllocError>
+/// A copy of a text.
+pub fn owned(alloc: Global, text: &[u8]) -> Result<Seq<u8>, AllocError>
     ensures { IfOk result (λ t. t ≡ text.now) }
 {
     Ok(Seq::from_vec(text.to_vec(alloc)?))
@@ -302,7 +303,8 @@ pub fn statement(
     of_kind(alloc, kind, rest, used, seen, known)
 }
 
-fn is_number(field: &[u8], n: u32) -> bool
+/// Whether a field is this number.
+pub fn is_number(field: &[u8], n: u32) -> bool
     ensures { result ≡ is_number n (integer_of field.now) }
 {
     match read_int(field) {
@@ -311,7 +313,8 @@ fn is_number(field: &[u8], n: u32) -> bool
     }
 }
 
-fn is_word(field: &[u8], word: &[u8]) -> bool
+/// Whether a field is this word.
+pub fn is_word(field: &[u8], word: &[u8]) -> bool
     ensures { result ≡ is_word field.now word.now }
 {
     field == word

@@ -16,7 +16,8 @@ use Rattle.asp_read.specs.declared.reader.Stage.TheVariants.{Start, Within, Ende
 use Rattle.asp_read.specs.Sizes.{program_size}
 use Rattle.asp_read.specs.Statements.{header_at, priorities}
 use Rattle.asp_read.specs.Seen.{Seen, nothing_seen}
-use Rattle.asp_read.specs.Outcome.{judge, judge_line, judge_filled, judge_next, judge_all, at_end, outcome_from, outcome, most_bytes}
+use Rattle.asp_read.specs.Judging.{judge_by, judge_next, judge_all, outcome_from}
+use Rattle.asp_read.specs.Outcome.{aspif, judge_line, judge_filled, at_end, outcome, most_bytes}
 use Rattle.asp_roundtrip.specs.Readable.{IsReadable}
 use Rattle.asp_roundtrip.proofs.Bytes.{IsOneLine, each-take}
 use Rattle.asp_roundtrip.proofs.Given.{Given, given, given_none, given_then, given_if, given_after, given_itself}
@@ -61,18 +62,18 @@ pub given_told : {A : Type 0} (line : List ℕ) (read : Result A FaultAt) (P : A
 given_told line (Ok x) P g = given x P (g.each x refl)
 given_told line (Err b) P g = given_none _ _
 
-pub judge_given : (seen : Seen) (line : List ℕ) → IsOneLine line → IsGood seen → Given (judge seen line) IsGood
+pub judge_given : (seen : Seen) (line : List ℕ) → IsOneLine line → IsGood seen → Given (judge_by aspif seen line) IsGood
 judge_given seen line one kept = given_told line (judge_line seen line) _ (given_if (length (unblank line) == 0) _ _ _ (λ _. given _ _ kept) (λ _. filled_given seen.stage seen.program seen.known line one kept))
 
 next_given : (number : ℕ) (read : Result Seen Fault) (go_on : Seen → Result Seen ReadError) → Given read IsGood → ((s : Seen) → IsGood s → Given (go_on s) IsGood) → Given (judge_next number read go_on) IsGood
 next_given number (Ok seen) go_on g h = h seen (g.each seen refl)
 next_given number (Err f) go_on g h = given_none _ _
 
-pub all_given : (number : ℕ) (seen : Seen) (lines : List (List ℕ)) → AllByRecursion IsOneLine lines → IsGood seen → Given (judge_all number seen lines) IsGood
+pub all_given : (number : ℕ) (seen : Seen) (lines : List (List ℕ)) → AllByRecursion IsOneLine lines → IsGood seen → Given (judge_all aspif number seen lines) IsGood
 unfolding judge_all
 all_given number seen [] each kept = given _ _ kept
 all_given number seen (line ∷ lines) each kept =
-    next_given number (judge seen line) (λ s. judge_all (number + 1) s lines) (judge_given seen line each.0 kept) (λ s good. all_given (number + 1) s lines each.1 good)
+    next_given number (judge_by aspif seen line) (λ s. judge_all aspif (number + 1) s lines) (judge_given seen line each.0 kept) (λ s good. all_given (number + 1) s lines each.1 good)
 
 end_given : (number : ℕ) (stage : Stage) (p : Program) → IsReadable p → Given (at_end number stage p) IsReadable
 end_given number Start p h = given_none _ _
@@ -83,4 +84,4 @@ pub outcome_given : (text : List ℕ) → Given (outcome text) IsReadable
 unfolding outcome_from
 outcome_given text = given_if (nat_le (length text) most_bytes) _ _ _
     (λ _. given_then _ _ _ _ (all_given 1 nothing_seen (lines_of text) (lines_are_lines text) nothing_kept) (λ end kept. end_given _ end.stage end.program (readable end.known end.program kept)))
-    (λ _. given_then _ _ (λ _. Unit {0}) _ (given_after _ _ _ (given_itself (judge_all 1 nothing_seen (lines_of (whole (take most_bytes text))))) (λ _ _. tt)) (λ _ _. given_none _ _))
+    (λ _. given_then _ _ (λ _. Unit {0}) _ (given_after _ _ _ (given_itself (judge_all aspif 1 nothing_seen (lines_of (whole (take most_bytes text))))) (λ _ _. tt)) (λ _ _. given_none _ _))

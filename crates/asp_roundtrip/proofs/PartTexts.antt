@@ -25,7 +25,8 @@ use Rattle.asp_read.specs.declared.statement.Statement.TheVariants as say
 use Rattle.asp_read.specs.Fields.{◌>>=◌}
 use Rattle.asp_read.specs.Statements.{header_at, statement_with, of_kind}
 use Rattle.asp_read.specs.Seen.{Seen, nothing_seen}
-use Rattle.asp_read.specs.Outcome.{adds, judge, judge_all, judge_next, at_end, outcome_from, outcome, most_bytes}
+use Rattle.asp_read.specs.Judging.{judge_by, judge_all, judge_next, outcome_from}
+use Rattle.asp_read.specs.Outcome.{aspif, adds, at_end, outcome, most_bytes}
 use Rattle.asp_make.specs.Texts.{assumptions_text, line}
 use Rattle.asp_roundtrip.specs.Parts.{IsPartOf, ended, part_text}
 use Rattle.asp_roundtrip.specs.Readable.{IsAtom, IsLiteral, IsWeighted, IsHead, IsBody, IsRule, IsReadable}
@@ -74,27 +75,27 @@ seen_ok s = Ok s
 same_seen : (s t : Seen) → seen_ok s ≡ seen_ok t → s ≡ t
 same_seen s t e = cc
 
-leads : (number : ℕ) (seen s : Seen) (ls more : List (List ℕ)) → judge_all number seen ls ≡ Ok s → judge_all number seen (ls ++ more) ≡ judge_all (number + length ls) s more
+leads : (number : ℕ) (seen s : Seen) (ls more : List (List ℕ)) → judge_all aspif number seen ls ≡ Ok s → judge_all aspif number seen (ls ++ more) ≡ judge_all aspif (number + length ls) s more
 unfolding judge_all
-leads number seen s [] more e = ap (λ n. judge_all n seen more) (sym (add-zero number)) ∙ ap (λ t. judge_all (number + 0) t more) (same_seen seen s e)
+leads number seen s [] more e = ap (λ n. judge_all aspif n seen more) (sym (add-zero number)) ∙ ap (λ t. judge_all aspif (number + 0) t more) (same_seen seen s e)
 leads number seen s (l ∷ ls) more e =
     let one_more : number + 1 + length ls ≡ number + length (l ∷ ls) = omega arith in
-    next_leads number (judge seen l) (λ t. judge_all (number + 1) t ls) (λ t. judge_all (number + 1) t (ls ++ more)) s (judge_all (number + length (l ∷ ls)) s more)
-    (λ t q. leads (number + 1) t s ls more q ∙ ap (λ n. judge_all n s more) one_more) e
+    next_leads number (judge_by aspif seen l) (λ t. judge_all aspif (number + 1) t ls) (λ t. judge_all aspif (number + 1) t (ls ++ more)) s (judge_all aspif (number + length (l ∷ ls)) s more)
+    (λ t q. leads (number + 1) t s ls more q ∙ ap (λ n. judge_all aspif n s more) one_more) e
 
 next_led : (number : ℕ) (j : Result Seen Fault) (f g : Seen → Result Seen ReadError) (e : Seen) → ((t : Seen) → g t ≡ Ok e → (s : Seen) × (f t ≡ Ok s)) → judge_next number j g ≡ Ok e → (s : Seen) × (judge_next number j f ≡ Ok s)
 next_led number (Ok t) f g e h q = h t q
 next_led number (Err x) f g e h q = absurd cc
 
 -- where all lines are judged, the first are
-led : (number : ℕ) (seen e : Seen) (ls more : List (List ℕ)) → judge_all number seen (ls ++ more) ≡ Ok e → (s : Seen) × (judge_all number seen ls ≡ Ok s)
+led : (number : ℕ) (seen e : Seen) (ls more : List (List ℕ)) → judge_all aspif number seen (ls ++ more) ≡ Ok e → (s : Seen) × (judge_all aspif number seen ls ≡ Ok s)
 unfolding judge_all
 led number seen e [] more h = (seen, refl)
 led number seen e (l ∷ ls) more h =
-    next_led number (judge seen l) (λ t. judge_all (number + 1) t ls) (λ t. judge_all (number + 1) t (ls ++ more)) e (λ t q. led (number + 1) t e ls more q) h
+    next_led number (judge_by aspif seen l) (λ t. judge_all aspif (number + 1) t ls) (λ t. judge_all aspif (number + 1) t (ls ++ more)) e (λ t q. led (number + 1) t e ls more q) h
 
 -- a line 0 is judged within a program alone, which it ends
-ends : (number : ℕ) (stage : Stage) (p : Program) (known : Atoms) (e : Seen) → judge_all number (record { stage = stage; program = p; known = known }) (codes "0" ∷ []) ≡ Ok e → (stage ≡ Within) × (e.program ≡ p)
+ends : (number : ℕ) (stage : Stage) (p : Program) (known : Atoms) (e : Seen) → judge_all aspif number (record { stage = stage; program = p; known = known }) (codes "0" ∷ []) ≡ Ok e → (stage ≡ Within) × (e.program ≡ p)
 unfolding judge_all header_at statement_with of_kind
 ends number Start p known e h = absurd cc
 ends number Within p known e h = (refl, ap (λ (s : Seen). s.program) (sym (same_seen (record { stage = Ended; program = p; known = known }) e h)))
@@ -116,9 +117,9 @@ by_room true (Err x) k number p h = absurd cc
 by_room false j (Ok e) number p h = absurd cc
 by_room false j (Err x) number p h = absurd cc
 
-judged : (text : List ℕ) (p : Program) → outcome text ≡ Ok p → (e : Seen) × (judge_all 1 nothing_seen (lines_of text) ≡ Ok e) × (e.program ≡ p)
+judged : (text : List ℕ) (p : Program) → outcome text ≡ Ok p → (e : Seen) × (judge_all aspif 1 nothing_seen (lines_of text) ≡ Ok e) × (e.program ≡ p)
 unfolding outcome_from
-judged text p h = by_room (nat_le (length text) most_bytes) (judge_all 1 nothing_seen (lines_of text)) _ _ p h
+judged text p h = by_room (nat_le (length text) most_bytes) (judge_all aspif 1 nothing_seen (lines_of text)) _ _ p h
 
 -- ---- atoms that stand are in their range
 
@@ -170,16 +171,16 @@ part_reads front p cube h part =
     let zero_line : List (List ℕ) = codes "0" ∷ [] in
     let back : List ℕ = line (assumptions_text cube) ++ codes "0\n" in
     let end = judged (ended front) p h in
-    let all : judge_all 1 nothing_seen (ls ++ zero_line) ≡ Ok end.0 = ap (judge_all 1 nothing_seen) (sym (lines_more front (codes "0\n"))) ∙ end.1 in
+    let all : judge_all aspif 1 nothing_seen (ls ++ zero_line) ≡ Ok end.0 = ap (judge_all aspif 1 nothing_seen) (sym (lines_more front (codes "0\n"))) ∙ end.1 in
     let first = led 1 nothing_seen end.0 ls zero_line all in
     let s : Seen = first.0 in
     let last = ends (1 + length ls) s.stage s.program s.known end.0 (sym (leads 1 nothing_seen s ls zero_line first.1) ∙ all) in
     let same : s.program ≡ p = sym last.1 ∙ end.2 in
     let kept : IsKept s.known p = subst (IsKept s.known) same ((all_given 1 nothing_seen ls (lines_are_lines (line front)) nothing_kept).each s first.1) in
     let reach = cube_reaches front p s.known cube kept part in
-    let judged_all : judge_all 1 nothing_seen (lines_of (part_text front cube)) ≡ Ok (record { stage = Ended; program = adds p (say.Assume cube); known = reach.known }) =
-    ap (judge_all 1 nothing_seen) (lines_more front back) ∙ leads 1 nothing_seen s ls (lines_of back) first.1
-    ∙ ap (λ t. judge_all (1 + length ls) t (lines_of back)) (seen_is s p last.0 same)
+    let judged_all : judge_all aspif 1 nothing_seen (lines_of (part_text front cube)) ≡ Ok (record { stage = Ended; program = adds p (say.Assume cube); known = reach.known }) =
+    ap (judge_all aspif 1 nothing_seen) (lines_more front back) ∙ leads 1 nothing_seen s ls (lines_of back) first.1
+    ∙ ap (λ t. judge_all aspif (1 + length ls) t (lines_of back)) (seen_is s p last.0 same)
     ∙ reach.says.leads (1 + length ls) (codes "0\n")
     ∙ end_reached (1 + length ls + reach.says.count) (adds p (say.Assume cube)) reach.known in
     outcome_is (part_text front cube) (adds p (say.Assume cube)) reach.known part.short judged_all

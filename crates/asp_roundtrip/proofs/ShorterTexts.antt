@@ -14,7 +14,8 @@ use Rattle.asp_read.specs.declared.reader.Stage.{Stage}
 use Rattle.asp_read.specs.declared.reader.Stage.TheVariants.{Start, Within, Ended}
 use Rattle.asp_read.specs.Fields.{most_counted}
 use Rattle.asp_read.specs.Seen.{Seen, nothing_seen}
-use Rattle.asp_read.specs.Outcome.{adds, stage_after, judge, judge_line, judge_filled, judge_next, judge_all, at_end, outcome_from, outcome, most_bytes}
+use Rattle.asp_read.specs.Judging.{judge_by, judge_next, judge_all, outcome_from}
+use Rattle.asp_read.specs.Outcome.{aspif, adds, stage_after, judge_line, judge_filled, at_end, outcome, most_bytes}
 use Rattle.asp_make.specs.Texts.{natural_field, integer_field, line, lines, rule_text, minimize_text, output_text, external_text, assumptions_text, assumptions_line, text_of}
 use Rattle.asp_roundtrip.proofs.Given.{Given, given, given_none, given_then, given_if, given_after, given_itself}
 use Rattle.std.proofs.lemmas.Fmt.{length-decimal-le}
@@ -142,7 +143,7 @@ filled_shorter Within p known l one kept =
     (λ s new. given _ _ (omega (arith, written_after p s (keeps known p s kept new.0).few_counted, new.1)))
 filled_shorter Ended p known l one kept = given_none _ _
 
-judge_shorter : (seen : Seen) (l : List ℕ) → IsOneLine l → IsGood seen → Given (judge seen l) (λ s. IsGood s × (written_of s ≤ written_of seen + suc (length l)))
+judge_shorter : (seen : Seen) (l : List ℕ) → IsOneLine l → IsGood seen → Given (judge_by aspif seen l) (λ s. IsGood s × (written_of s ≤ written_of seen + suc (length l)))
 judge_shorter seen l one kept = given_both _ _ _ (judge_given seen l one kept)
     (given_told l (judge_line seen l) _ (given_if (length (unblank l) == 0) _ _ _ (λ _. given _ _ (omega arith)) (λ _. filled_shorter seen.stage seen.program seen.known l one kept)))
 
@@ -150,11 +151,11 @@ next_shorter : (number : ℕ) (read : Result Seen Fault) (go_on : Seen → Resul
 next_shorter number (Ok seen) go_on P Q g h = h seen (g.each seen refl)
 next_shorter number (Err f) go_on P Q g h = given_none _ _
 
-all_shorter : (number : ℕ) (seen : Seen) (ls : List (List ℕ)) → AllByRecursion IsOneLine ls → IsGood seen → Given (judge_all number seen ls) (λ end. written_of end ≤ written_of seen + lines_length ls)
+all_shorter : (number : ℕ) (seen : Seen) (ls : List (List ℕ)) → AllByRecursion IsOneLine ls → IsGood seen → Given (judge_all aspif number seen ls) (λ end. written_of end ≤ written_of seen + lines_length ls)
 unfolding judge_all
 all_shorter number seen [] each kept = given _ _ (omega arith)
 all_shorter number seen (l ∷ ls) each kept =
-    next_shorter number (judge seen l) (λ s. judge_all (number + 1) s ls) _ _ (judge_shorter seen l each.0 kept)
+    next_shorter number (judge_by aspif seen l) (λ s. judge_all aspif (number + 1) s ls) _ _ (judge_shorter seen l each.0 kept)
     (λ s good. given_after _ _ _ (all_shorter (number + 1) s ls each.1 good.0) (λ end le. omega (arith, le, good.1)))
 
 end_shorter : (number n : ℕ) (stage : Stage) (p : Program) → written stage p ≤ n → Given (at_end number stage p) (λ q. length (text_of q) ≤ n)
@@ -167,4 +168,4 @@ unfolding outcome_from
 outcome_shorter text = given_if (nat_le (length text) most_bytes) _ _ _
     (λ _. given_then _ _ _ _ (all_shorter 1 nothing_seen (lines_of text) (lines_are_lines text) nothing_kept) (λ end le.
     end_shorter _ (length text + 1) end.stage end.program (omega (arith, le, each_without_cr (pieces text), pieces_length text))))
-    (λ _. given_then _ _ (λ _. Unit {0}) _ (given_after _ _ _ (given_itself (judge_all 1 nothing_seen (lines_of (whole (take most_bytes text))))) (λ _ _. tt)) (λ _ _. given_none _ _))
+    (λ _. given_then _ _ (λ _. Unit {0}) _ (given_after _ _ _ (given_itself (judge_all aspif 1 nothing_seen (lines_of (whole (take most_bytes text))))) (λ _ _. tt)) (λ _ _. given_none _ _))

@@ -22,7 +22,8 @@ use Rattle.asp_read.specs.Fields.{most_counted}
 use Rattle.asp_read.specs.Sizes.{program_size, statement_size, statement_atoms, empty_program}
 use Rattle.asp_read.specs.Statements.{is_among, with_number, priorities, is_too_many, header_at, statement_with, of_kind}
 use Rattle.asp_read.specs.Seen.{Seen, nothing_seen}
-use Rattle.asp_read.specs.Outcome.{adds, stage_after, judge, judge_all, outcome_from, outcome, most_bytes}
+use Rattle.asp_read.specs.Judging.{judge_by, judge_all, outcome_from}
+use Rattle.asp_read.specs.Outcome.{aspif, adds, stage_after, outcome, most_bytes}
 use Rattle.asp_make.specs.Texts.{line, lines, rule_text, minimize_text, output_text, external_text, assumptions_line, text_of}
 use Rattle.asp_roundtrip.specs.Readable.{IsReadable}
 use Rattle.asp_roundtrip.proofs.Bytes.{each-back}
@@ -98,7 +99,7 @@ module _ (U : Atoms) (roomy : IsRoomy U) where
       let plain = statement_plain (program_size p) s stands.0 few in
       let again = (fitted_priority p s fits.priorities_few).0 in
       let read = statement_back U roomy (program_size p) (priorities p) known s stands.0 few again part stands.1 in
-      let judged : judge (at p known) (statement_text s) ≡ Ok (at (adds p s) (with_atoms known (statement_atoms s))) = rw (plain.filled, read, goes_on s more) refl in
+      let judged : judge_by aspif (at p known) (statement_text s) ≡ Ok (at (adds p s) (with_atoms known (statement_atoms s))) = rw (plain.filled, read, goes_on s more) refl in
       record { known = with_atoms known (statement_atoms s); part = part_all U known (statement_atoms s) part stands.1; says = says_line _ _ (statement_text s) plain judged }
 
   then_reaches : (seen : Seen) (first second : List ℕ) (p q : Program) → Reaches U seen first p → ((known : Atoms) → IsPart U known → Reaches U (at p known) second q) → Reaches U seen (first ++ second) q
@@ -208,11 +209,11 @@ readable_kept p is =
 
 -- ---- the outcome
 
-pub end_reached : (number : ℕ) (p : Program) (known : Atoms) → judge_all number (at p known) (lines_of (codes "0\n")) ≡ Ok (record { stage = Ended; program = p; known = known })
+pub end_reached : (number : ℕ) (p : Program) (known : Atoms) → judge_all aspif number (at p known) (lines_of (codes "0\n")) ≡ Ok (record { stage = Ended; program = p; known = known })
 unfolding judge_all statement_with of_kind
 end_reached number p known = refl
 
-pub outcome_is : (text : List ℕ) (p : Program) (known : Atoms) → length text ≤ most_bytes → judge_all 1 nothing_seen (lines_of text) ≡ Ok (record { stage = Ended; program = p; known = known }) → outcome text ≡ Ok p
+pub outcome_is : (text : List ℕ) (p : Program) (known : Atoms) → length text ≤ most_bytes → judge_all aspif 1 nothing_seen (lines_of text) ≡ Ok (record { stage = Ended; program = p; known = known }) → outcome text ≡ Ok p
 unfolding outcome_from
 outcome_is text p known few e =
     let fits : nat_le (length text) most_bytes ≡ true = le-leb (length text) most_bytes few in

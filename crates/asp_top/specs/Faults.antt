@@ -8,12 +8,12 @@ use Rattle.asp_read.specs.declared.fault.FaultKind.{FaultKind}
 use Rattle.asp_read.specs.declared.fault.FaultKind.TheVariants as fault
 use Rattle.asp_read.specs.declared.fault.Fault.{Fault}
 use Rattle.asp_top.specs.declared.texts.Wanted.{Wanted}
-use Rattle.asp_top.specs.declared.texts.Wanted.TheVariants.{Natural, Integer}
+use Rattle.asp_top.specs.declared.texts.Wanted.TheVariants.{Natural, Integer, RuleType, Negated}
 
 -- the name of what is wanted, by its range
 abbrev pub natural_noun : ℕ → ℕ → List ℕ
 natural_noun low high =
-    if low == 1 then codes "atom" else (
+    if low == 1 then (if high == 16777216 then codes "count" else codes "atom") else (
     if high == 1 then codes "kind" else (
     if high == 3 then codes "external value" else (
     if high == 10 then codes "statement" else (
@@ -33,6 +33,8 @@ range_text noun low high = noun ++ (codes " (" ++ low ++ codes " to ") ++ (high 
 abbrev pub wanted_text : Wanted → List ℕ
 wanted_text (Natural low high) = range_text (natural_noun low high) (decimal low) (decimal high)
 wanted_text (Integer low high) = range_text (integer_noun low) (signed_decimal low) (signed_decimal high)
+wanted_text RuleType = codes "rule type (0, 1, 2, 3, 5 or 6)"
+wanted_text (Negated most) = range_text (codes "count of negated literals") (codes "0") (decimal most)
 
 -- what stood in its place, and that nothing did
 abbrev pub found_text : Num → List ℕ
@@ -66,6 +68,11 @@ kind_text fault.AfterEnd = codes "statement after the end"
 kind_text fault.Counts = codes "more than 16,777,216 in all counts"
 kind_text fault.Priorities = codes "more than 1,000 different priorities"
 kind_text fault.Atoms = codes "more than 1,000,000 different atoms"
+kind_text (fault.RuleType n) = misfit n (wanted_text RuleType)
+kind_text (fault.Negated most n) = misfit n (wanted_text (Negated most))
+kind_text fault.Name = codes "name of an atom missing"
+kind_text fault.Section = codes "section line expected"
+kind_text fault.Externals = codes "external section not supported"
 
 -- whether the field is told
 abbrev pub has_field : FaultKind → Bool
@@ -74,6 +81,9 @@ has_field (fault.Natural low high n) = true
 has_field (fault.Integer low high n) = true
 has_field fault.Text = true
 has_field fault.ExtraFields = true
+has_field (fault.RuleType n) = true
+has_field (fault.Negated most n) = true
+has_field fault.Name = true
 has_field kind = false
 
 abbrev pub place_text : Fault → List ℕ

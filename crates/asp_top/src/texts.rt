@@ -16,6 +16,7 @@ fn natural_noun(low: u32, high: u32) -> &'static [u8]
     ensures { result.now ≡ natural_noun low high }
 {
     match (low, high) {
+        (1, 16_777_216) => b"count",
         (1, _) => b"atom",
         (_, 1) => b"kind",
         (_, 3) => b"external value",
@@ -35,11 +36,17 @@ fn integer_noun(low: i32) -> &'static [u8]
     }
 }
 
-/// What is wanted: a natural number or a signed one, from the first to the second.
+/// What is wanted.
 #[derive(Clone, Copy)]
 pub enum Wanted {
+    /// A natural number from the first to the second.
     Natural(u32, u32),
+    /// A signed number from the first to the second.
     Integer(i32, i32),
+    /// A type of rules of smodels texts.
+    RuleType,
+    /// How many of so many literals are negated.
+    Negated(u32),
 }
 
 // A thing by its name, and its range.
@@ -76,6 +83,18 @@ fn write_integer<N: Sink>(notes: &mut N, low: i32, high: i32) -> Result<(), Fail
     )
 }
 
+fn write_negated<N: Sink>(notes: &mut N, most: u32) -> Result<(), Failed>
+    ensures { Writes (N.held notes.old) (N.held notes.new) (N.faults notes.old) (N.faults notes.new)
+        result (wanted_text (Wanted.Negated most)) }
+{
+    write_range(
+        notes,
+        b"count of negated literals",
+        b"0",
+        Buffer::new().format(most).as_bytes(),
+    )
+}
+
 fn write_wanted<N: Sink>(notes: &mut N, wanted: Wanted) -> Result<(), Failed>
     ensures { Writes (N.held notes.old) (N.held notes.new) (N.faults notes.old) (N.faults notes.new)
         result (wanted_text wanted) }
@@ -83,6 +102,8 @@ fn write_wanted<N: Sink>(notes: &mut N, wanted: Wanted) -> Result<(), Failed>
     match wanted {
         Wanted::Natural(low, high) => write_natural(notes, low, high),
         Wanted::Integer(low, high) => write_integer(notes, low, high),
+        Wanted::RuleType => write(notes, b"rule type (0, 1, 2, 3, 5 or 6)"),
+        Wanted::Negated(most) => write_negated(notes, most),
     }
 }
 
@@ -151,6 +172,11 @@ fn write_kind<N: Sink>(notes: &mut N, kind: FaultKind) -> Result<(), Failed>
         FaultKind::Counts => write(notes, b"more than 16,777,216 in all counts"),
         FaultKind::Priorities => write(notes, b"more than 1,000 different priorities"),
         FaultKind::Atoms => write(notes, b"more than 1,000,000 different atoms"),
+        FaultKind::RuleType(found) => write_misfit(notes, found, Wanted::RuleType),
+        FaultKind::Negated(most, found) => write_misfit(notes, found, Wanted::Negated(most)),
+        FaultKind::Name => write(notes, b"name of an atom missing"),
+        FaultKind::Section => write(notes, b"section line expected"),
+        FaultKind::Externals => write(notes, b"external section not supported"),
     }
 }
 
@@ -163,7 +189,10 @@ fn has_field(kind: FaultKind) -> bool
         | FaultKind::Natural(_, _, _)
         | FaultKind::Integer(_, _, _)
         | FaultKind::Text
-        | FaultKind::ExtraFields => true,
+        | FaultKind::ExtraFields
+        | FaultKind::RuleType(_)
+        | FaultKind::Negated(_, _)
+        | FaultKind::Name => true,
         _ => false,
     }
 }

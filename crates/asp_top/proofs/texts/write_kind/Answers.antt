@@ -38,3 +38,12 @@ returns-in-Priorities g c = rw c.in-Priorities.is c.write-in-Priorities.ensures
 
 pub returns-in-Atoms : goal.returns-in-Atoms
 returns-in-Atoms g c = rw c.in-Atoms.is c.write-in-Atoms.ensures
+
+pub returns-in-Name : goal.returns-in-Name
+returns-in-Name g c = rw c.in-Name.is c.write-in-Name.ensures
+
+pub returns-in-Section : goal.returns-in-Section
+returns-in-Section g c = rw c.in-Section.is c.write-in-Section.ensures
+
+pub returns-in-Externals : goal.returns-in-Externals
+returns-in-Externals g c = rw c.in-Externals.is c.write-in-Externals.ensures

@@ -1,0 +1,5 @@
+pub mod Lines
+pub mod Outcome
+pub mod Parts
+pub mod Seen
+pub mod Texts
