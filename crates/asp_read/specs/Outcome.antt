@@ -6,11 +6,9 @@ use Rattle.asp_text.specs.Fields.{unblank}
 use Rattle.asp_model.specs.declared.program.Program.{Program}
 use Rattle.asp_model.specs.Sets.{Atoms, with_atoms}
 use Rattle.asp_read.specs.Sizes.{statement_atoms}
-use Rattle.asp_read.specs.declared.fault.Fault.{Fault}
-use Rattle.asp_read.specs.declared.fault.FaultKind.{FaultKind}
 use Rattle.asp_read.specs.declared.fault.FaultKind.TheVariants.{Header, NoEnd, AfterEnd}
 use Rattle.asp_read.specs.declared.error.FaultAt.{FaultAt}
-use Rattle.asp_read.specs.Places.{broken}
+use Rattle.asp_read.specs.Places.{broken, missing}
 use Rattle.asp_read.specs.declared.fault.ReadError.{ReadError}
 use Rattle.asp_read.specs.declared.fault.ReadError.TheVariants.{Refused}
 use Rattle.asp_read.specs.declared.statement.Statement.{Statement}
@@ -36,10 +34,6 @@ judge_filled Ended p known line = Err (broken AfterEnd line)
 
 abbrev pub judge_line : Seen → List ℕ → Result Seen FaultAt
 judge_line seen line = if length (unblank line) == 0 then Ok seen else judge_filled seen.stage seen.program seen.known line
-
--- a fault of a line that isn't there
-abbrev pub missing : FaultKind → Fault
-missing kind = record { kind = kind; field = 1 }
 
 -- the end of the text, as the line with this number
 abbrev pub at_end : ℕ → Stage → Program → Result Program ReadError

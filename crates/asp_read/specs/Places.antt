@@ -22,3 +22,7 @@ told line b = record { kind = b.kind; field = field_number line b.left }
 abbrev pub told_of : {A : Type 0} → List ℕ → Result A FaultAt → Result A Fault
 told_of line (Ok x) = Ok x
 told_of line (Err b) = Err (told line b)
+
+-- a fault of a line that isn't there
+abbrev pub missing : FaultKind → Fault
+missing kind = record { kind = kind; field = 1 }

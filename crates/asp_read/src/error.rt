@@ -1,6 +1,6 @@
 //! Why a line could not be read.
 ghost use Rattle.std.specs.Prelude.{◌≡◌};
-ghost use Rattle.asp_read.specs.Places.{broken, told};
+ghost use Rattle.asp_read.specs.Places.{broken, missing, told};
 ghost use Rattle.asp_read.specs.declared.error.LineError.TheVariants.{Memory};
 
 use crate::fault::{Fault, FaultKind};
@@ -60,4 +60,11 @@ pub fn told(line: &[u8], broken: FaultAt) -> Fault
         kind: broken.kind,
         field: fields(front).count() + 1,
     }
+}
+
+/// A fault of a line that isn't there.
+pub fn missing(kind: FaultKind) -> Fault
+    ensures { result ≡ missing kind }
+{
+    Fault { kind, field: 1 }
 }

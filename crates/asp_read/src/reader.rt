@@ -1,11 +1,11 @@
 // What the lines so far said, and the next line.
 ghost use Rattle.std.specs.Prelude.{◌≡◌, IfOk};
 ghost use Rattle.asp_read.specs.Seen.{nothing_seen};
-ghost use Rattle.asp_read.specs.Outcome.{stage_after, missing};
+ghost use Rattle.asp_read.specs.Outcome.{stage_after};
 
 use crate::draft::Draft;
-use crate::error::{LineError, broken};
-use crate::fault::{Fault, FaultKind, ReadError};
+use crate::error::{LineError, broken, missing};
+use crate::fault::{FaultKind, ReadError};
 use crate::judge::Judge;
 use crate::known::KnownAtoms;
 use crate::statement::Statement;
@@ -123,11 +123,4 @@ impl Judge for Reader {
             Stage::Ended => Ok(program),
         }
     }
-}
-
-// A fault of a line that isn't there.
-fn missing(kind: FaultKind) -> Fault
-    ensures { result ≡ missing kind }
-{
-    Fault { kind, field: 1 }
 }

@@ -13,10 +13,9 @@ use Rattle.asp_read.specs.declared.fault.ReadError.{ReadError}
 use Rattle.asp_read.specs.declared.fault.ReadError.TheVariants.{Refused}
 use Rattle.asp_read.specs.declared.statement.Statement.{Statement}
 use Rattle.asp_read.specs.declared.statement.Statement.TheVariants as say
-use Rattle.asp_read.specs.Places.{broken}
+use Rattle.asp_read.specs.Places.{broken, missing}
 use Rattle.asp_read.specs.Fields.{◌>>=◌}
 use Rattle.asp_read.specs.Judging.{Format, outcome_by}
-use Rattle.asp_read.specs.Outcome.{missing}
 use Rattle.asp_smodels.specs.declared.reader.Stage.{Stage}
 use Rattle.asp_smodels.specs.declared.reader.Stage.TheVariants.{Rules, Symbols, PlusWord, Plus, MinusWord, Minus, Number, Ended}
 use Rattle.asp_smodels.specs.Seen.{Seen, nothing_seen}

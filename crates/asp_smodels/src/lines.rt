@@ -1,9 +1,10 @@
 // A line of a symbol, of an assumption, or of a section.
-ghost use Rattle.std.specs.Prelude.{◌≡◌, ◌+◌, ◌≤◌, length, map, IfOk, codes};
+ghost use Rattle.std.specs.Prelude.{◌≡◌, ◌+◌, ◌≤◌, [], ◌∷◌, length, map, IfOk};
 ghost use Rattle.asp_model.specs.Sets.{with_atoms};
 ghost use Rattle.asp_model.specs.Holding.{atom_of};
 ghost use Rattle.asp_read.specs.Gives.{Gives};
-ghost use Rattle.asp_read.specs.Fields.{most_counted};
+ghost use Rattle.asp_text.specs.Fields.{after_field};
+ghost use Rattle.asp_read.specs.Fields.{alone, most_counted};
 ghost use Rattle.asp_read.specs.Sizes.{statement_size, statement_atoms};
 ghost use Rattle.asp_smodels.specs.Lines.{name_of, symbol_at, is_end, symbol_line, word_line, assumed_line, number_line};
 
