@@ -10,10 +10,14 @@
   definition of a crate below that one. A line names crates by their names, `asp_..`, or by a function or type of theirs
   between backquotes, as `Store::propagate`; one that does neither stands for the crates that the heading above names.
 - Each crate has a README.md.
+- README.md is short, and links and paths of all pages lead somewhere (pages.py).
 """
 import os
 import re
 import sys
+
+sys.dont_write_bytecode = True
+from pages import wrong_pages  # noqa: E402
 
 CRATE = re.compile(r"\basp_[a-z0-9_]+\b")
 # brackets that no link's address follows
@@ -168,6 +172,7 @@ def main():
         *wrong_architecture("docs/ARCHITECTURE.md", deps),
         *wrong_promises("docs/PROMISES.md", deps, told),
         *(f"crates/{it}/README.md is missing" for it in deps if not os.path.isfile(f"crates/{it}/README.md")),
+        *wrong_pages(),
     ]
     if "--list" in sys.argv[1:]:
         for number, name, kind, path in told:
