@@ -4,9 +4,12 @@
 - README.md has more than 120 lines, or a sentence of more than 30 words (a cell of a table is a sentence or more; what is
   between backquotes counts as a word);
 - a link of a page, or a picture, leads to no file, or to no heading of a page;
-- a path between backquotes that begins with a folder of the repository is none of its files or folders.
+- a path between backquotes that begins with a folder of the repository is none of its files or folders;
+- README's figures of speed aren't those of bench/figures/solve.json.
 """
 import glob
+import json
+import math
 import os
 import re
 
@@ -83,8 +86,25 @@ def wrong_paths(path):
                 yield f"{path}:{number}: `{name}` isn't there"
 
 
+def speed_in(path):
+    """Returns how many programs were timed, and the mean, the least and the greatest part that aspenum took of clasp's time."""
+    rows = [it for it in json.loads(text_of(path))["rows"] if it["aspenum"]["ended"] and it["default"]["ended"]]
+    parts = [it["aspenum"]["time"] / it["default"]["time"] for it in rows]
+    mean = math.exp(sum(map(math.log, parts)) / len(parts))
+    return f"{len(rows)}", f"{mean:.2f}", f"{min(parts):.1f}", f"{max(parts):.1f}"
+
+
+def wrong_speed(path, figures):
+    said = re.search(r"On the (\d+) programs .* is ([\d.]+) of clasp.* from ([\d.]+) to ([\d.]+)\.", text_of(path))
+    if not said:
+        yield f"{path}: no sentence on the speed beside clasp"
+    elif said.groups() != speed_in(figures):
+        yield f"{path}: the speed beside clasp is said as {said.groups()}, in {figures} it is {speed_in(figures)}"
+
+
 def wrong_pages():
     yield from long_parts("README.md")
+    yield from wrong_speed("README.md", "bench/figures/solve.json")
     for pattern in PAGES:
         for path in sorted(glob.glob(pattern, recursive=True)):
             yield from wrong_links(path)
