@@ -11,7 +11,7 @@ import subprocess
 import sys
 
 sys.dont_write_bytecode = True
-NAMES = ("speed", "rooms")
+NAMES = ("speed", "growth", "workers", "rooms", "run", "threads")
 
 
 def drawn(picture, path):
