@@ -92,7 +92,8 @@ class Canvas:
     def heading(self, *below):
         """The title at the page's top, and soft lines below it; answers the place below them."""
         self.text(20, 34, self.title, 18, bold=True)
-        return self.lines(20, 56, below, 13, 18, classes="soft")
+        lines = [line for text in below for line in wrapped(text, 13, self.width - 40)]
+        return self.lines(20, 56, lines, 13, 18, classes="soft")
 
     def svg(self, dark=None):
         """The page's text: in both schemes, or in one of them where it is asked for."""

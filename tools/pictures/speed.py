@@ -117,7 +117,8 @@ def beside(it, about, rows):
         y += 20
     less = sum(row["aspenum"]["time"] < row["default"]["time"] for row in rows)
     most = max(rows, key=ratio)
-    said = ["Below the line 1 aspenum takes", f"less time than clasp: on {less} of", f"these {len(rows)} programs. At most it", f"takes {ratio(most):.1f} times clasp's time."]
+    times = f"{ratio(most):.1f} times" if most["aspenum"]["ended"] else f"over {ratio(most):.1f} times"
+    said = ["Below the line 1 aspenum takes", f"less time than clasp: on {less} of", f"these {len(rows)} programs. At most it", f"takes {times} clasp's time."]
     y = it.lines(BESIDE, y + 14, said, 12) + 14
     often = f"the least of {about['runs']} runs in turn" if about["runs"] > 1 else "one run each"
     how = ["Seconds of the processor, one", f"worker, {often},", f"limit {about['limit']} s. clasp as it comes,", "asked for all answers, writing", "none; aspenum writes each."]

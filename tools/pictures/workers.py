@@ -19,7 +19,7 @@ def picture():
     many = WORDS.get(about["workers"], str(about["workers"]))
     most = max(max(row["one"], row["busiest"]) for row in rows)
     it = Canvas(800, TOP + ROW * len(rows) + 14, f"One worker and {many}", f"For each program the processor seconds of one worker alone, and of the busiest of {many}.")
-    y = it.heading(f"{about['date']}; {about['machine']}; {about['revision']}", "Seconds of the processor. The busiest worker bounds how soon a run can end: on idle processors", "the time by the clock comes near it.")
+    y = it.heading(f"{about['date']}; {about['machine']}; {about['revision']}", "The busiest worker bounds how soon a run can end: on idle processors the time by the clock comes near it.")
     for at, (colour, what) in enumerate((("blue", "one worker alone"), ("orange", f"the busiest of {many}"))):
         it.add("rect", colour, x=LEFT + 190 * at, y=y + 4, width=24, height=BAR, rx=2)
         it.text(LEFT + 190 * at + 32, y + 15, what, 13)
