@@ -321,7 +321,7 @@ is_sound_statement (say.Assume ls) = list_all is_literal ls
 is_sound_statement s = true
 
 -- a statement of a part that stands alone on its line
-stated : {A : Type 0} (sound : A → Bool) (size : A → ℕ) (say_it : A → Statement) (used : ℕ) (read : Reads A) (s : Statement)
+pub stated : {A : Type 0} (sound : A → Bool) (size : A → ℕ) (say_it : A → Statement) (used : ℕ) (read : Reads A) (s : Statement)
     → ((x : A × List ℕ) → read ≡ Ok x → Part sound size used x.0) → ((x : A) → is_sound_statement (say_it x) ≡ sound x) → ((x : A) → statement_size (say_it x) ≡ size x)
     → (read >>= alone >>= λ x. ok (say_it x)) ≡ Ok s → Part is_sound_statement statement_size used s
 stated sound size say_it used read s parts sounds sizes e =
@@ -330,7 +330,7 @@ stated sound size say_it used read s parts sounds sizes e =
     let p = parts a.0 a.1 in
     part is_sound_statement statement_size used (say_it t.value) s (ok_is (say_it t.value) s t.goes) (sounds t.value ∙ ap sound (sym a.2) ∙ p.is_sound) (omega (arith, sizes t.value, ap size a.2, p.fits))
 
-end_is : (used : ℕ) (line : List ℕ) (s : Statement) → used ≤ most_counted → alone (say.End, line) ≡ Ok s → Part is_sound_statement statement_size used s
+pub end_is : (used : ℕ) (line : List ℕ) (s : Statement) → used ≤ most_counted → alone (say.End, line) ≡ Ok s → Part is_sound_statement statement_size used s
 end_is used line s room e = let t = step (ended line) (λ _. ok say.End) s e in part is_sound_statement statement_size used say.End s (ok_is say.End s t.goes) refl (omega (arith, room))
 
 comment_is : (used : ℕ) (s : Statement) → used ≤ most_counted → ok say.Comment ≡ ok s → Part is_sound_statement statement_size used s

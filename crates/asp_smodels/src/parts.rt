@@ -70,9 +70,9 @@ pub fn literal_of(atom: Atom, negated: bool) -> i32
 
 /// Atoms as literals, all negated or none.
 #[derive(Clone, Copy)]
-struct Signed(bool);
+struct Sign(bool);
 
-impl Entry for Signed {
+impl Entry for Sign {
     type Item = i32;
 
     ghost entry_at = { λ s. literal_at s.0 };
@@ -127,8 +127,8 @@ pub fn signed<'a>(
     ensures len { IfOk result (λ x. length x.0 ≡ count) }
     ensures known { IfOk result (λ x. known.new ≡ with_atoms known.old (map atom_of x.0)) }
 {
-    let (negative, rest) = many(alloc, &Signed(true), negated, line, known)?;
-    let (positive, rest) = many(alloc, &Signed(false), count - negated, rest, known)?;
+    let (negative, rest) = many(alloc, &Sign(true), negated, line, known)?;
+    let (positive, rest) = many(alloc, &Sign(false), count - negated, rest, known)?;
     let literals = join(negative, positive)?;
     Ok((literals, rest))
 }
@@ -157,7 +157,8 @@ fn weights<'a>(
     line: &'a [u8],
 ) -> Result<(Seq<(i32, i32)>, &'a [u8]), LineError>
     ensures items { Gives (λ x. (x.0, x.1.now)) result (weights_at literals.now line.now) }
-    ensures literals { IfOk result (λ x. map (λ item. item.0) x.0 ≡ literals.now) }
+    ensures len { IfOk result (λ x. length x.0 ≡ length literals.now) }
+    ensures atoms { IfOk result (λ x. map (λ item. atom_of item.0) x.0 ≡ map atom_of literals.now) }
 {
     let mut items = Vec::with_capacity(alloc, literals.len())?;
     let mut rest = line;
@@ -188,6 +189,8 @@ pub fn weighted<'a>(
 /// The literals, each with the weight 1.
 pub fn with_weight_1(alloc: Global, literals: &[i32]) -> Result<Seq<(i32, i32)>, AllocError>
     ensures items { IfOk result (λ items. items ≡ with_weight_1 literals.now) }
+    ensures len { IfOk result (λ items. length items ≡ length literals.now) }
+    ensures atoms { IfOk result (λ items. map (λ item. atom_of item.0) items ≡ map atom_of literals.now) }
 {
     let mut items = Vec::with_capacity(alloc, literals.len())?;
     for literal in literals {
