@@ -10,10 +10,13 @@
   definition of a crate below that one. A line names crates by their names, `asp_..`, or by a function or type of theirs
   between backquotes, as `Store::propagate`; one that does neither stands for the crates that the heading above names.
 - Each crate has a README.md.
+- What tests/pages.py says of single pages.
 """
 import os
 import re
 import sys
+
+from pages import wrong_pages
 
 CRATE = re.compile(r"\basp_[a-z0-9_]+\b")
 # brackets that no link's address follows
@@ -79,10 +82,11 @@ def wrong_architecture(path, deps):
 
 # ---- docs/PROMISES.md
 class Names:
-    """What a crate's files name: `kinds` of each clause, definition and field, and its functions and types."""
+    """What a crate's files name: `kinds` of each clause, definition and field, its functions and types; `others` are the
+    names of definitions and fields."""
 
     def __init__(self, crate):
-        self.kinds, self.items = {}, set()
+        self.kinds, self.items, self.others = {}, set(), set()
         for part, ending in (("src", ".rt"), ("specs", ".antt"), ("proofs", ".antt")):
             for at, _, files in os.walk(f"crates/{crate}/{part}"):
                 for file in sorted(files):
@@ -91,9 +95,14 @@ class Names:
 
     def add(self, name, kind, path):
         """Notes what a name is, where it isn't noted already as something that comes first in KINDS."""
+        if kind != "clause":
+            self.others.add(name)
         old = self.kinds.get(name)
         if not old or KINDS.index(kind) < KINDS.index(old[0]):
             self.kinds[name] = kind, os.path.relpath(path, "crates")
+
+    def is_clause_alone(self, name):
+        return self.kinds.get(name, ("",))[0] == "clause" and name not in self.others
 
     def read_code(self, path):
         text = text_of(path)
@@ -147,8 +156,7 @@ def meaning_of(name, crates, known, deps):
     return min(found, key=lambda it: KINDS.index(it[0]), default=None)
 
 
-def wrong_promises(path, deps, told):
-    known = {crate: Names(crate) for crate in deps}
+def wrong_promises(path, deps, known, told):
     for number, names, line, heading in promised(path):
         crates = sorted(crates_of(line, heading, known))
         for name in names:
@@ -164,9 +172,11 @@ def wrong_promises(path, deps, told):
 def main():
     os.chdir(os.path.dirname(os.path.dirname(os.path.realpath(__file__))))
     deps, told = crates_txt(), []
+    known = {crate: Names(crate) for crate in deps}
     wrong = [
         *wrong_architecture("docs/ARCHITECTURE.md", deps),
-        *wrong_promises("docs/PROMISES.md", deps, told),
+        *wrong_promises("docs/PROMISES.md", deps, known, told),
+        *wrong_pages(deps, promised, crates_of, known),
         *(f"crates/{it}/README.md is missing" for it in deps if not os.path.isfile(f"crates/{it}/README.md")),
     ]
     if "--list" in sys.argv[1:]:
