@@ -10,13 +10,13 @@
   definition of a crate below that one. A line names crates by their names, `asp_..`, or by a function or type of theirs
   between backquotes, as `Store::propagate`; one that does neither stands for the crates that the heading above names.
 - Each crate has a README.md.
-- What tests/pages.py says of single pages.
+- What tests/claims.py says.
 """
 import os
 import re
 import sys
 
-from pages import wrong_pages
+from claims import wrong_claims
 
 CRATE = re.compile(r"\basp_[a-z0-9_]+\b")
 # brackets that no link's address follows
@@ -176,7 +176,7 @@ def main():
     wrong = [
         *wrong_architecture("docs/ARCHITECTURE.md", deps),
         *wrong_promises("docs/PROMISES.md", deps, known, told),
-        *wrong_pages(deps, promised, crates_of, known),
+        *wrong_claims(deps, promised, crates_of, known),
         *(f"crates/{it}/README.md is missing" for it in deps if not os.path.isfile(f"crates/{it}/README.md")),
     ]
     if "--list" in sys.argv[1:]:

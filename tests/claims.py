@@ -1,11 +1,10 @@
-"""Checks of pages that tests/documents.py calls.
+"""Checks of what pages claim, and of their length, that tests/documents.py calls.
 
 - docs/PROMISES.md has ten promises, `### 1.` to `### 10.`, each with a clause in brackets and with what it doesn't say; and
   each crate that has a clause with a name stands in it.
 - A clause in brackets is one of a function that its line names, where the line names functions of the clause's crate.
 - CONTRIBUTING.md names exactly the functions that have more parameters than its rule allows.
-- No block of text is long: see MOST.
-- Each file of this repository that a page names between backquotes, or links to, is there.
+- No block of text of PAGES is long: see MOST.
 """
 import os
 import re
@@ -17,8 +16,6 @@ PAGES = (
 # the most words of a paragraph or an item of a list, and of a table's cell
 MOST = {"block": 80, "cell": 45}
 PARAMETERS = 8
-# folders whose files pages name
-FOLDERS = ("bench", "completion", "crates", "docs", "edits", "examples", "man", "packaging", "tests")
 
 
 def text_of(path):
@@ -125,7 +122,7 @@ def wrong_parameters(path, deps):
         yield f"{path}: {name} of {crate} has no more than {PARAMETERS} parameters, or isn't there"
 
 
-# ---- long blocks, and files that are named
+# ---- long blocks
 def blocks(text):
     """Yields the number of its first line, the kind and the text of each paragraph, item and cell."""
     kept, begun, fenced = [], 0, False
@@ -151,18 +148,7 @@ def wrong_blocks(path):
             yield f"{path}:{number}: a {kind} of {words} words, at most {MOST[kind]}: {text[:40]}.."
 
 
-def wrong_paths(path):
-    here = os.path.dirname(path)
-    for number, line in enumerate(text_of(path).split("\n"), 1):
-        named = [it for it in re.findall(r"`([\w./-]+)`", line) if it.split("/")[0] in FOLDERS and "/" in it]
-        named = [it for it in named if "NAME" not in it]
-        linked = [it.partition("#")[0] for it in re.findall(r"\]\(([^)\s]+)\)", line) if "://" not in it]
-        for it in [*named, *(os.path.join(here, it) for it in linked if it)]:
-            if not os.path.exists(it):
-                yield f"{path}:{number}: {it} isn't there"
-
-
-def wrong_pages(deps, promised, crates_of, known):
+def wrong_claims(deps, promised, crates_of, known):
     yield from wrong_ten("docs/PROMISES.md")
     yield from wrong_crates("docs/PROMISES.md", deps)
     yield from wrong_functions("docs/PROMISES.md", promised, crates_of, known)
@@ -172,4 +158,3 @@ def wrong_pages(deps, promised, crates_of, known):
             yield f"{path} is missing"
             continue
         yield from wrong_blocks(path)
-        yield from wrong_paths(path)
