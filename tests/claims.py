@@ -4,6 +4,7 @@
   each crate that has a clause with a name stands in it.
 - A clause in brackets is one of a function that its line names, where the line names functions of the clause's crate.
 - CONTRIBUTING.md names exactly the functions that have more parameters than its rule allows.
+- The third column of docs/DEFINITIONS.md names files of definitions, items or definitions of the row's crates.
 - No block of text of PAGES is long: see MOST.
 """
 import os
@@ -122,6 +123,27 @@ def wrong_parameters(path, deps):
         yield f"{path}: {name} of {crate} has no more than {PARAMETERS} parameters, or isn't there"
 
 
+# ---- docs/DEFINITIONS.md
+def wrong_definitions(path, known):
+    """What the third column of a row names is a file of definitions, an item or a definition of a crate of its row or heading."""
+    heading = ""
+    for number, line in enumerate(text_of(path).split("\n"), 1):
+        if line.startswith("#"):
+            heading = line
+        cells = line.split(" | ")
+        if not line.startswith("|") or len(cells) != 4 or cells[2].startswith(("-", "Defined")):
+            continue
+        crates = [it for it in re.findall(r"\basp_\w+", cells[2]) or re.findall(r"\basp_\w+", heading) if it in known]
+        for name in re.findall(r"`([^`]+)`", cells[2]):
+            if not any(is_there(crate, name, known) for crate in crates):
+                yield f"{path}:{number}: {name} is no file, item or definition of {', '.join(crates)}"
+
+
+def is_there(crate, name, known):
+    files = (f"crates/{crate}/specs/{name}.antt", f"crates/{crate}/{name}")
+    return any(os.path.isfile(it) for it in files) or name in known[crate].items or name in known[crate].kinds
+
+
 # ---- long blocks
 def blocks(text):
     """Yields the number of its first line, the kind and the text of each paragraph, item and cell."""
@@ -153,6 +175,7 @@ def wrong_claims(deps, promised, crates_of, known):
     yield from wrong_crates("docs/PROMISES.md", deps)
     yield from wrong_functions("docs/PROMISES.md", promised, crates_of, known)
     yield from wrong_parameters("CONTRIBUTING.md", deps)
+    yield from wrong_definitions("docs/DEFINITIONS.md", known)
     for path in PAGES:
         if not os.path.isfile(path):
             yield f"{path} is missing"
