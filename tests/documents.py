@@ -83,7 +83,7 @@ def wrong_architecture(path, deps):
 # ---- docs/PROMISES.md
 class Names:
     """What a crate's files name: `kinds` of each clause, definition and field, its functions and types; `others` are the
-    names of definitions and fields."""
+    names of definitions and fields outside of proofs."""
 
     def __init__(self, crate):
         self.kinds, self.items, self.others = {}, set(), set()
@@ -95,7 +95,7 @@ class Names:
 
     def add(self, name, kind, path):
         """Notes what a name is, where it isn't noted already as something that comes first in KINDS."""
-        if kind != "clause":
+        if kind != "clause" and "/proofs/" not in path:
             self.others.add(name)
         old = self.kinds.get(name)
         if not old or KINDS.index(kind) < KINDS.index(old[0]):
