@@ -1,7 +1,7 @@
 """Checks of what pages claim, and of their length, that tests/documents.py calls.
 
 - docs/PROMISES.md has ten promises, `### 1.` to `### 10.`, each with a clause in brackets and with what it doesn't say; and
-  each crate that has a clause with a name stands in it.
+  each crate that has a clause with a name stands in it. A row of its index is about a crate of the room above it.
 - A clause in brackets is one of a function that its line names, where the line names functions of the clause's crate.
 - CONTRIBUTING.md names exactly the functions that have more parameters than its rule allows.
 - The third column of docs/DEFINITIONS.md names files of definitions, items or definitions of the row's crates.
@@ -51,6 +51,17 @@ def wrong_crates(path, deps):
         named = any(re.search(r"^\s*ensures\s+\w+\s*\{", text_of(it), re.M) for it in sources(crate))
         if named and not re.search(rf"\b{crate}\b", text):
             yield f"{path}: {crate} has clauses with names, and no row"
+
+
+def wrong_index(path, room_of):
+    """A row of the index is about a crate of the room that it stands under."""
+    heading = ""
+    for number, line in enumerate(text_of(path).split("\n"), 1):
+        if line.startswith("#"):
+            heading = line.lstrip("# ")
+        crate = re.search(r"\basp_\w+", line.partition(" | ")[2])
+        if line.startswith("| ") and crate and room_of.get(crate[0], heading) != heading:
+            yield f"{path}:{number}: {crate[0]} is of the room {room_of[crate[0]]}, not of {heading}"
 
 
 def clauses_by_function(crate):
@@ -170,8 +181,10 @@ def wrong_blocks(path):
             yield f"{path}:{number}: a {kind} of {words} words, at most {MOST[kind]}: {text[:40]}.."
 
 
-def wrong_claims(deps, promised, crates_of, known):
+def wrong_claims(deps, promised, crates_of, known, rooms):
     yield from wrong_ten("docs/PROMISES.md")
+    room_of = {crate: re.sub(r"^\d+ |:.*", "", room) for crate, room in rooms.items()}
+    yield from wrong_index("docs/PROMISES.md", room_of)
     yield from wrong_crates("docs/PROMISES.md", deps)
     yield from wrong_functions("docs/PROMISES.md", promised, crates_of, known)
     yield from wrong_parameters("CONTRIBUTING.md", deps)

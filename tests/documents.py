@@ -25,6 +25,8 @@ CRATE = re.compile(r"\basp_[a-z0-9_]+\b")
 BRACKETS = re.compile(r"\[([^\[\]]*)\](?!\()")
 NAME = r"[\w']+"
 KINDS = ("clause", "definition", "field")
+# a heading and a crate of crates.txt
+ROOM, CRATE_LINE = r"# (\d+ .*)", r"(asp_\w+)"
 
 
 def text_of(path):
@@ -95,7 +97,7 @@ def rooms_of(text, heading, crate):
 
 
 def wrong_rooms(path):
-    rooms, room_of = rooms_of(text_of("crates.txt"), r"# (\d+ .*)", r"(asp_\w+)")
+    rooms, room_of = rooms_of(text_of("crates.txt"), ROOM, CRATE_LINE)
     ours, ours_of = rooms_of(text_of(path), r"#+ (\d+ .*)", r"\| *`?(asp_\w+)")
     if not rooms or rooms != ours:
         yield f"{path}: its rooms are {ours}, those of crates.txt {rooms}"
@@ -197,11 +199,12 @@ def main():
     os.chdir(os.path.dirname(os.path.dirname(os.path.realpath(__file__))))
     deps, told = crates_txt(), []
     known = {crate: Names(crate) for crate in deps}
+    _, rooms = rooms_of(text_of("crates.txt"), ROOM, CRATE_LINE)
     wrong = [
         *wrong_architecture("docs/ARCHITECTURE.md", deps),
         *wrong_rooms("docs/ARCHITECTURE.md"),
         *wrong_promises("docs/PROMISES.md", deps, known, told),
-        *wrong_claims(deps, promised, crates_of, known),
+        *wrong_claims(deps, promised, crates_of, known, rooms),
         *(f"crates/{it}/README.md is missing" for it in deps if not os.path.isfile(f"crates/{it}/README.md")),
     ]
     if "--list" in sys.argv[1:]:
