@@ -12,13 +12,16 @@
   definition of a crate below that one. A line names crates by their names, `asp_..`, or by a function or type of theirs
   between backquotes, as `Store::propagate`; one that does neither stands for the crates that the heading above names.
 - Each crate has a README.md.
-- What tests/claims.py says.
+- What claims.py says: promises, the rules of CONTRIBUTING.md, definitions, and long blocks of text.
+- README.md is short, and links and paths of all pages lead somewhere (pages.py).
 """
 import os
 import re
 import sys
 
-from claims import wrong_claims
+sys.dont_write_bytecode = True
+from claims import wrong_claims  # noqa: E402
+from pages import wrong_pages  # noqa: E402
 
 CRATE = re.compile(r"\basp_[a-z0-9_]+\b")
 # brackets that no link's address follows
@@ -206,6 +209,7 @@ def main():
         *wrong_promises("docs/PROMISES.md", deps, known, told),
         *wrong_claims(deps, promised, crates_of, known, rooms),
         *(f"crates/{it}/README.md is missing" for it in deps if not os.path.isfile(f"crates/{it}/README.md")),
+        *wrong_pages(),
     ]
     if "--list" in sys.argv[1:]:
         for number, name, kind, path in told:
