@@ -64,6 +64,17 @@ def wrong_index(path, room_of):
             yield f"{path}:{number}: {crate[0]} is of the room {room_of[crate[0]]}, not of {heading}"
 
 
+def wrong_names(path, known):
+    """What a row or a line on clauses names between backquotes is an item, a clause or a definition of a crate that it names."""
+    for number, line in enumerate(text_of(path).split("\n"), 1):
+        cell = line.partition(" | ")[2] if line.startswith("| ") else line.partition("- **Clause:**")[2]
+        crates = [it for it in re.findall(r"\basp_\w+", cell) if it in known]
+        for name in re.findall(r"`(\w+(?:::\w+)*)`", re.sub(r"\[[^\[\]]*\]", "", cell)) if crates else []:
+            parts = name.split("::")
+            if not any(all(it in known[crate].items or it in known[crate].kinds for it in parts) for crate in crates):
+                yield f"{path}:{number}: `{name}` is nothing of {', '.join(crates)}"
+
+
 def clauses_by_function(crate):
     """Returns the names of clauses that each function of a crate has, by the function's name."""
     found = {}
@@ -185,6 +196,7 @@ def wrong_claims(deps, promised, crates_of, known, rooms):
     yield from wrong_ten("docs/PROMISES.md")
     room_of = {crate: re.sub(r"^\d+ |:.*", "", room) for crate, room in rooms.items()}
     yield from wrong_index("docs/PROMISES.md", room_of)
+    yield from wrong_names("docs/PROMISES.md", known)
     yield from wrong_crates("docs/PROMISES.md", deps)
     yield from wrong_functions("docs/PROMISES.md", promised, crates_of, known)
     yield from wrong_parameters("CONTRIBUTING.md", deps)
