@@ -209,6 +209,7 @@ if command -v gringo > /dev/null; then
     check "a fault in a program: output" [ ! -s "$room/out" ]
     check "a fault in a program: gringo's note" grep -q 'x.lp:2:1-2: error: syntax error' "$room/err"
     check "a fault in a program: aspenum's note" [ -z "$(grep aspenum "$room/err")" ]
+    check "the manual's commands" python3 tests/readme.py "$program" man/aspground.1
 fi
 echo "aspground: $passed passed, $failed failed"
 [ "$failed" -eq 0 ]
