@@ -63,13 +63,13 @@ install: all
 	$(INSTALL) -m 644 $(PAGES) $(man)
 	$(INSTALL) -m 644 completion/aspenum.bash $(bash)/aspenum
 	ln -sf aspenum $(bash)/aspground
-	$(INSTALL) -m 644 completion/_aspenum $(zsh)
+	$(INSTALL) -m 644 completion/_aspenum completion/_aspground $(zsh)
 	$(INSTALL) -m 644 completion/aspenum.fish $(fish)
 	ln -sf aspenum.fish $(fish)/aspground.fish
 
 uninstall:
 	rm -f $(bin)/aspenum $(bin)/aspcheck $(bin)/aspground $(man)/aspenum.1 $(man)/aspcheck.1 $(man)/aspground.1
-	rm -f $(bash)/aspenum $(bash)/aspground $(zsh)/_aspenum $(fish)/aspenum.fish $(fish)/aspground.fish
+	rm -f $(bash)/aspenum $(bash)/aspground $(zsh)/_aspenum $(zsh)/_aspground $(fish)/aspenum.fish $(fish)/aspground.fish
 
 deb: all
 	@packaging/deb.sh
