@@ -12,6 +12,7 @@
   definition of a crate below that one. A line names crates by their names, `asp_..`, or by a function or type of theirs
   between backquotes, as `Store::propagate`; one that does neither stands for the crates that the heading above names.
 - Each crate has a README.md.
+- What claims.py says: promises, the rules of CONTRIBUTING.md, definitions, and long blocks of text.
 - README.md is short, and links and paths of all pages lead somewhere (pages.py).
 """
 import os
@@ -19,6 +20,7 @@ import re
 import sys
 
 sys.dont_write_bytecode = True
+from claims import wrong_claims  # noqa: E402
 from pages import wrong_pages  # noqa: E402
 
 CRATE = re.compile(r"\basp_[a-z0-9_]+\b")
@@ -26,6 +28,8 @@ CRATE = re.compile(r"\basp_[a-z0-9_]+\b")
 BRACKETS = re.compile(r"\[([^\[\]]*)\](?!\()")
 NAME = r"[\w']+"
 KINDS = ("clause", "definition", "field")
+# a heading and a crate of crates.txt
+ROOM, CRATE_LINE = r"# (\d+ .*)", r"(asp_\w+)"
 
 
 def text_of(path):
@@ -96,7 +100,7 @@ def rooms_of(text, heading, crate):
 
 
 def wrong_rooms(path):
-    rooms, room_of = rooms_of(text_of("crates.txt"), r"# (\d+ .*)", r"(asp_\w+)")
+    rooms, room_of = rooms_of(text_of("crates.txt"), ROOM, CRATE_LINE)
     ours, ours_of = rooms_of(text_of(path), r"#+ (\d+ .*)", r"\| *`?(asp_\w+)")
     if not rooms or rooms != ours:
         yield f"{path}: its rooms are {ours}, those of crates.txt {rooms}"
@@ -107,10 +111,11 @@ def wrong_rooms(path):
 
 # ---- docs/PROMISES.md
 class Names:
-    """What a crate's files name: `kinds` of each clause, definition and field, and its functions and types."""
+    """What a crate's files name: `kinds` of each clause, definition and field, its functions and types; `others` are the
+    names of definitions and fields outside of proofs."""
 
     def __init__(self, crate):
-        self.kinds, self.items = {}, set()
+        self.kinds, self.items, self.others = {}, set(), set()
         for part, ending in (("src", ".rt"), ("specs", ".antt"), ("proofs", ".antt")):
             for at, _, files in os.walk(f"crates/{crate}/{part}"):
                 for file in sorted(files):
@@ -119,9 +124,14 @@ class Names:
 
     def add(self, name, kind, path):
         """Notes what a name is, where it isn't noted already as something that comes first in KINDS."""
+        if kind != "clause" and "/proofs/" not in path:
+            self.others.add(name)
         old = self.kinds.get(name)
         if not old or KINDS.index(kind) < KINDS.index(old[0]):
             self.kinds[name] = kind, os.path.relpath(path, "crates")
+
+    def is_clause_alone(self, name):
+        return self.kinds.get(name, ("",))[0] == "clause" and name not in self.others
 
     def read_code(self, path):
         text = text_of(path)
@@ -175,8 +185,7 @@ def meaning_of(name, crates, known, deps):
     return min(found, key=lambda it: KINDS.index(it[0]), default=None)
 
 
-def wrong_promises(path, deps, told):
-    known = {crate: Names(crate) for crate in deps}
+def wrong_promises(path, deps, known, told):
     for number, names, line, heading in promised(path):
         crates = sorted(crates_of(line, heading, known))
         for name in names:
@@ -192,10 +201,13 @@ def wrong_promises(path, deps, told):
 def main():
     os.chdir(os.path.dirname(os.path.dirname(os.path.realpath(__file__))))
     deps, told = crates_txt(), []
+    known = {crate: Names(crate) for crate in deps}
+    _, rooms = rooms_of(text_of("crates.txt"), ROOM, CRATE_LINE)
     wrong = [
         *wrong_architecture("docs/ARCHITECTURE.md", deps),
         *wrong_rooms("docs/ARCHITECTURE.md"),
-        *wrong_promises("docs/PROMISES.md", deps, told),
+        *wrong_promises("docs/PROMISES.md", deps, known, told),
+        *wrong_claims(deps, promised, crates_of, known, rooms),
         *(f"crates/{it}/README.md is missing" for it in deps if not os.path.isfile(f"crates/{it}/README.md")),
         *wrong_pages(),
     ]
