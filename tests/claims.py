@@ -12,7 +12,7 @@ import re
 
 PAGES = (
     "CONTRIBUTING.md", "CHANGELOG.md", "bench/README.md", "bench/HISTORY.md", "docs/DECISIONS.md", "docs/DEFINITIONS.md",
-    "docs/GATE.md", "docs/PROMISES.md", "docs/PROOF_COST.md", "edits/README.md", "tests/README.md",
+    "docs/GATE.md", "docs/PROMISES.md", "docs/PROOF_COST.md", "edits/README.md", "tests/README.md", "tools/README.md",
 )
 # the most words of a paragraph or an item of a list, and of a table's cell
 MOST = {"block": 80, "cell": 45}
