@@ -5,7 +5,8 @@
   between backquotes counts as a word);
 - a link of a page, or a picture, leads to no file, or to no heading of a page;
 - a path between backquotes that begins with a folder of the repository is none of its files or folders;
-- README's figures of speed aren't those of bench/figures/solve.json.
+- README's figures of speed aren't those of bench/figures/solve.json;
+- the usage, the page of help and the manual's SYNOPSIS and OPTIONS haven't the same options in the same order.
 """
 import glob
 import json
@@ -102,9 +103,30 @@ def wrong_speed(path, figures):
         yield f"{path}: the speed beside clasp is said as {said.groups()}, in {figures} it is {speed_in(figures)}"
 
 
+def option_lists(texts, manual):
+    """Returns the options of the usage, of the page of help and of two parts of the manual, in their order there."""
+    code, page = text_of(texts), text_of(manual).replace("\\-", "-")
+    synopsis, options = page.partition(".SH OPTIONS")[::2]
+    usage = re.findall(r"\[(--[a-z-]+)", code.split("USAGE")[1].split(";")[0]) + ["--help", "--version"]
+    return {
+        "the usage": usage,
+        "the page of help": re.findall(r"^\\x20 (?:-\w, )?(--[a-z-]+)", code, re.M),
+        "the manual's SYNOPSIS": re.findall(r"--[a-z-]+", synopsis.split(".SH DESCRIPTION")[0]),
+        "the manual's OPTIONS": re.findall(r"^\.TP\n.*?(--[a-z-]+)", options.split(".SH INPUT")[0], re.M),
+    }
+
+
+def wrong_options(texts, manual):
+    found = option_lists(texts, manual)
+    for name, options in found.items():
+        if options != found["the usage"]:
+            yield f"{manual}, {texts}: {name} has {' '.join(options)}, the usage {' '.join(found['the usage'])}"
+
+
 def wrong_pages():
     yield from long_parts("README.md")
     yield from wrong_speed("README.md", "bench/figures/solve.json")
+    yield from wrong_options("crates/asp_cli/src/texts.rt", "man/aspenum.1")
     for pattern in PAGES:
         for path in sorted(glob.glob(pattern, recursive=True)):
             yield from wrong_links(path)
