@@ -1,7 +1,7 @@
 # make demo        a first look: builds build/aspenum-unproved, the program without its proofs, and solves a small timetable
 #                  with it, or FILE=x.lp (grounded by gringo) or FILE=x.aspif
 # make test        every test and example, with programs that are built without their proofs
-# make             proves and builds build/aspenum and build/aspcheck
+# make             proves and builds build/aspenum and build/aspcheck; build/aspground is gringo and aspenum in one command
 # make install     installs them with their manuals and completion for bash, zsh and fish; PREFIX (/usr/local) and DESTDIR (none)
 # make uninstall   removes what that installed
 # make deb         builds a Debian package in build/
@@ -15,8 +15,8 @@ INSTALL ?= install
 
 SOURCES := crates.txt $(shell find crates -name out -prune -o \( -name '*.rt' -o -name '*.antt' \) -print)
 # The checker of proof texts is built where its crate is there.
-PROGRAMS := build/aspenum $(if $(wildcard crates/asp_checkprog/src/main.rt),build/aspcheck)
-PAGES := man/aspenum.1 $(wildcard man/aspcheck.1)
+PROGRAMS := build/aspenum $(if $(wildcard crates/asp_checkprog/src/main.rt),build/aspcheck) build/aspground
+PAGES := man/aspenum.1 $(wildcard man/aspcheck.1) man/aspground.1
 
 bin := $(DESTDIR)$(PREFIX)/bin
 share := $(DESTDIR)$(PREFIX)/share
@@ -30,6 +30,7 @@ all: $(PROGRAMS)
 
 build/aspenum: crates/asp_prog/out/asp_prog
 build/aspcheck: crates/asp_checkprog/out/asp_checkprog
+build/aspground: bin/aspground
 $(PROGRAMS):
 	@mkdir -p build
 	@cp $< $@
@@ -61,12 +62,14 @@ install: all
 	$(INSTALL) -m 755 $(PROGRAMS) $(bin)
 	$(INSTALL) -m 644 $(PAGES) $(man)
 	$(INSTALL) -m 644 completion/aspenum.bash $(bash)/aspenum
-	$(INSTALL) -m 644 completion/_aspenum $(zsh)
+	ln -sf aspenum $(bash)/aspground
+	$(INSTALL) -m 644 completion/_aspenum completion/_aspground $(zsh)
 	$(INSTALL) -m 644 completion/aspenum.fish $(fish)
+	ln -sf aspenum.fish $(fish)/aspground.fish
 
 uninstall:
-	rm -f $(bin)/aspenum $(bin)/aspcheck $(man)/aspenum.1 $(man)/aspcheck.1
-	rm -f $(bash)/aspenum $(zsh)/_aspenum $(fish)/aspenum.fish
+	rm -f $(bin)/aspenum $(bin)/aspcheck $(bin)/aspground $(man)/aspenum.1 $(man)/aspcheck.1 $(man)/aspground.1
+	rm -f $(bash)/aspenum $(bash)/aspground $(zsh)/_aspenum $(zsh)/_aspground $(fish)/aspenum.fish $(fish)/aspground.fish
 
 deb: all
 	@packaging/deb.sh
