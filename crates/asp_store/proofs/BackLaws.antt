@@ -16,7 +16,7 @@ use Rattle.asp_store.specs.declared.front.Front.{Front}
 use Rattle.asp_store.specs.declared.scans.Pass.TheVariants as pass
 use Rattle.asp_arena.specs.Rows.{row_at}
 use Rattle.asp_store.specs.Keeping.{nogood_at}
-use Rattle.asp_store.specs.Lists.{list_at, place, size}
+use Rattle.asp_store.specs.Lists.{list_at, place}
 use Rattle.asp_store.specs.Pairs.{pair_at, IsOneOf, IsBeside}
 use Rattle.asp_store.specs.Fitting.{IsFalseBy}
 use Rattle.asp_store.specs.Looking.{LeadsWith}
@@ -24,7 +24,7 @@ use Rattle.asp_store.specs.Walking.{back, IsWalking, IsVisit, MayWatch, Passes}
 use Rattle.asp_store.proofs.GetLaws.{length-swap, at_set, at_set_other}
 use Rattle.asp_store.proofs.LookLaws.{all_has, eq_itself, or_left, or_right, differ_from}
 use Rattle.asp_store.proofs.PlaceLaws.{code_injective, code_within}
-use Rattle.asp_store.proofs.StepLaws.{front_var, visit_within, step_block, step_leave, may_differ, moved, moved_walking, moved_gone}
+use Rattle.asp_store.proofs.StepLaws.{front_var, step_block, step_leave, may_differ, moved, moved_walking, moved_gone}
 
 -- ---- the list in its place
 pub back_list : (w : Watches) (c : ℕ) (l : List Watch) → c < length w.lists → list_at (back w c l).lists c ≡ l

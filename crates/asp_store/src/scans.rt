@@ -3,10 +3,10 @@
 //! At the trail's own level a literal is false by its value alone, and a place needs nothing but the list, the rows and the
 //! values. So most places are passed in one loop. The others are left to a visit: those that tell their nogood, those of a
 //! nogood with no other literal to watch, and one whose watch there is no memory for.
-ghost use Rattle.std.specs.Prelude.{◌≡◌, ℕ, ◌<◌, ◌≤◌, ◌+◌, Some, None, IfSome, length, slice_get, slice_index_or, false, true};
+ghost use Rattle.std.specs.Prelude.{◌≡◌, ℕ, ◌<◌, ◌≤◌, ◌+◌, Some, IfSome, length, slice_get, slice_index_or, false, true};
 ghost use Rattle.std.specs.List.{All};
 ghost use Rattle.asp_vars.specs.Codes.{code_of};
-ghost use Rattle.asp_vars.specs.Literals.{complement, has_literal, holds_in};
+ghost use Rattle.asp_vars.specs.Literals.{complement, holds_in};
 ghost use Rattle.asp_vars.specs.declared.nogood.Nogood.{Nogood};
 ghost use Rattle.asp_arena.specs.Rows.{row_at};
 ghost use Rattle.asp_store.specs.declared.watch.Pair.{Pair};

@@ -17,7 +17,7 @@ use asp_trail::reasons::NogoodId;
 use asp_trail::trail::Trail;
 use std::alloc::AllocError;
 
-// Where the walk goes on: the places before are passed without a visit. The entries are of the front's level and those below it, as a rule.
+// Where the walk goes on: the places before are passed without a visit. As a rule no entry has a level above the front's.
 fn skip(
     watches: &mut Watches,
     slots: &[Option<StoredNogood>],

@@ -1,10 +1,8 @@
-use Rattle.std.proofs.Common.{◌≡◌, ◌<◌, List, [], length, set, sym, ap, ◌∙◌, subst, arith}
+use Rattle.std.proofs.Common.{◌≡◌, List, length, sym, ap, ◌∙◌, subst, arith}
 use Rattle.asp_vars.specs.Codes.{code_of}
-use Rattle.asp_trail.specs.Trails.{Trailed}
 use Rattle.asp_store.specs.Marks.{Watch}
-use Rattle.asp_store.specs.declared.front.Front.{Front}
 use Rattle.asp_store.specs.declared.watches.Watches.{Watches}
-use Rattle.asp_store.specs.Lists.{list_at, size}
+use Rattle.asp_store.specs.Lists.{size}
 use Rattle.asp_store.specs.Walking.{back, IsWalking}
 use Rattle.asp_store.proofs.PlaceLaws.{size_here}
 use Rattle.asp_store.proofs.StepLaws.{code_of_list, front_var}
