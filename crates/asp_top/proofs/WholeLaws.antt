@@ -245,6 +245,20 @@ model-with F Enum r = some-map (united F) r.answers
 model-with F Opt r = some-bests F r.best r.answers
 model-with F (Consequences w) r = some-known F r.known
 
+-- neither the mode nor the end that are kept with it matter
+model-of : (mode m : Mode) (end : End) (r : Found) → has_model_in mode (found m end r.answers r.best r.known) ≡ has_model_in mode r
+model-of Enum m end r = refl
+model-of Opt m end r = refl
+model-of (Consequences w) m end r = refl
+
+part-of : (all : Bool) (p : Program) (mode m : Mode) (end : End) (r : Found) → IsPartOf all p mode r → IsPartOf all p mode (found m end r.answers r.best r.known)
+part-of false p Enum m end r is = is
+part-of false p Opt m end r is = is
+part-of false p (Consequences w) m end r is = is
+part-of true p Enum m end r is = is
+part-of true p Opt m end r is = is
+part-of true p (Consequences w) m end r is = is
+
 -- ---- the theorem
 -- a text with its mode and its end
 text-of : (p : Program) (r : Found) (brief : Bool) (mode : Mode) (end : End) → r.mode ≡ mode → r.end ≡ end → results_text p r brief ≡ results_text p (found mode end r.answers r.best r.known) brief
@@ -253,7 +267,8 @@ text-of p r brief mode end m e =
 
 -- A report of such a run tells this.
 abbrev Telling : Options → End → Bool → (Program → Mode → List ℕ → Type 0) → Type 0
-Telling given end model Tells = (p : Program) (R : Report) → SaysReport p (ask_of given p) R end → has_model_in (mode_of given.mode p) R.results ≡ model
+Telling given end model Tells = (p : Program) (R : Report) → SaysReport p (ask_of given p) R end
+    → has_model_in (mode_of given.mode p) (found (mode_of given.mode p) end R.results.answers R.results.best R.results.known) ≡ model
     → Tells p (mode_of given.mode p) (results_text p (found (mode_of given.mode p) end R.results.answers R.results.best R.results.known) (is_brief given))
 
 wrote : (given : Options) (a : Around) (report : Option Report) (end : End) (model : Bool) (Tells : Program → Mode → List ℕ → Type 0) → given.proof ≡ false → Telling given end model Tells → IsWritten given a report end model
@@ -272,7 +287,7 @@ wrote given a report end model Tells plain telling w =
       input = input-of given.make a p w.solved.source;
       text = results_text p (found mode end R.results.answers R.results.best R.results.known) (is_brief given);
       tells = telling p R (subst (SaysReport p (ask_of given p) R) w.end_is w.solved.says)
-          (ap (λ m. has_model_in m R.results) (sym w.solved.is.mode_is) ∙ model-with F done.results.mode done.results ∙ w.model_is);
+          (model-of mode mode end R.results ∙ ap (λ m. has_model_in m R.results) (sym w.solved.is.mode_is) ∙ model-with F done.results.mode done.results ∙ w.model_is);
       written = subst (Appends a.held a.held') same w.text;
     }
 
@@ -283,5 +298,6 @@ whole given a o plain runs = by o.status runs.means
     by All m = wrote given a o.report Finished true (TellsAll given) plain (λ p R says some. tells-all given p (mode_of given.mode p) R.results.answers R.results.best R.results.known says some) m
     by NoModel m = wrote given a o.report Finished false TellsNone plain (λ p R says none. tells-none given.all_optima (is_brief given) p (mode_of given.mode p) R.results.answers R.results.best R.results.known says none) m
     by Enough m = wrote given a o.report Limited true (TellsEnough given) plain
-        (λ p R says some. tells-enough given p (mode_of given.mode p) R.results.answers R.results.best R.results.known says.listing says.some says.count says.part says.best) m
+        (λ p R says some. tells-enough given p (mode_of given.mode p) R.results.answers R.results.best R.results.known says.listing says.some says.count
+        (part-of given.all_optima p (mode_of given.mode p) (mode_of given.mode p) Limited R.results says.part) says.best) m
     by status m = tt
