@@ -7,7 +7,7 @@ use Rattle.std.proofs.lemmas.Bool.{false≢true}
 use Rattle.std.proofs.lemmas.List.{append-nil}
 use Rattle.asp_model.specs.declared.program.Program.{Program}
 use Rattle.asp_model.specs.declared.results.End.{End}
-use Rattle.asp_model.specs.declared.results.End.TheVariants.{Finished, Limited, Unfinished}
+use Rattle.asp_model.specs.declared.results.End.TheVariants.{Finished, Limited}
 use Rattle.asp_model.specs.declared.results.Mode.{Mode}
 use Rattle.asp_model.specs.declared.results.Mode.TheVariants.{Enum, Opt, Consequences}
 use Rattle.asp_model.specs.declared.results.Reasoning.{Reasoning}
@@ -16,7 +16,7 @@ use Rattle.asp_model.specs.Models.{answers}
 use Rattle.asp_model.specs.Costs.{IsOptimum, betters, cost, optima}
 use Rattle.asp_model.specs.Consequences.{consequences, consequences_of}
 use Rattle.asp_model.specs.Found.{Found}
-use Rattle.asp_model.specs.Texts.{answers_from, best_cost_line, bests, closing_lines, consequences_line, cost_line, ended_line, results_text, verdict}
+use Rattle.asp_model.specs.Texts.{answers_from, bests, consequences_line, cost_line, ended_line, results_text}
 use Rattle.asp_model.proofs.ModelLaws.{optima-are}
 use Rattle.asp_settle.specs.Settled.{united}
 use Rattle.asp_read.specs.Outcome.{outcome}
@@ -24,13 +24,14 @@ use Rattle.asp_crew_laws.specs.declared.report.Report.{Report}
 use Rattle.asp_crew_laws.specs.Runs.{IsBest, IsFound}
 use Rattle.asp_crew_laws.specs.Reports.{HasBest, IsAllFound, IsPartOf, Says as SaysReport, asks_list}
 use Rattle.asp_crew_laws.specs.Proofs.{HasProof}
+use Rattle.asp_cli.specs.Given.{Given, options}
 use Rattle.asp_cli.specs.declared.Options.{Options}
 use Rattle.asp_top.specs.declared.status.Status.{Status}
-use Rattle.asp_top.specs.declared.status.Status.TheVariants.{All, NoModel, Partial, Unknown, Enough, Help, Memory, Usage, Refused, ReadFault, TooLong, WriteFault, Parts}
+use Rattle.asp_top.specs.declared.status.Status.TheVariants.{All, NoModel, Enough}
 use Rattle.asp_top.specs.declared.status.Outcome.{Outcome}
-use Rattle.asp_top.specs.Meaning.{has_model, has_model_in, is_some_of, mode_of}
-use Rattle.asp_top.specs.Runs.{Around, IsGiven, IsWritten, Means, Runs, ask_of, found_with, is_brief, report_text, report_with, set_aside, text_by}
-use Rattle.asp_top.specs.Whole.{ArePicked, IsInput, IsWhole, TellsAll, TellsEnough, TellsNone, Wrote, closing, listed, none_text, written_optima}
+use Rattle.asp_top.specs.Meaning.{has_model_in, is_some_of, mode_of}
+use Rattle.asp_top.specs.Runs.{Around, IsGiven, IsWritten, Means, Runs, RunsOn, ask_of, found_with, is_brief, report_text, report_with, set_aside, text_by}
+use Rattle.asp_top.specs.Whole.{ArePicked, IsInput, IsWhole, TellsAll, TellsEnough, TellsNone, Wrote, closing}
 use Rattle.asp_top.proofs.ToldLaws.{no-proof}
 
 -- ---- what is read
@@ -301,3 +302,7 @@ whole given a o plain runs = by o.status runs.means
         (λ p R says some. tells-enough given p (mode_of given.mode p) R.results.answers R.results.best R.results.known says.listing says.some says.count
         (part-of given.all_optima p (mode_of given.mode p) (mode_of given.mode p) Limited R.results says.part) says.best) m
     by status m = tt
+
+-- the same where the words of a run give these options
+pub whole-on : (own given : Options) (g : Given) (a : Around) (o : Outcome) → options own ≡ g → Runs own a o → g ≡ options given → given.proof ≡ false → IsWhole given a.left a.held a.held' o.status
+whole-on own given g a o first runs second plain = whole given a o plain (subst (λ x. RunsOn x a o) (first ∙ second) runs)

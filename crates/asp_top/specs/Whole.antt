@@ -1,5 +1,5 @@
 -- What a run that finished has read and written, said by the program alone: the theorem of docs/THEOREM.md.
-use Rattle.std.specs.Prelude.{◌≡◌, ℕ, ◌++◌, Bool, false, if◌then◌else◌, List, [], ◌∷◌, filter, length, Contains, Option, None, Some, Ok, IfSome, codes, decimal}
+use Rattle.std.specs.Prelude.{◌≡◌, ℕ, ◌++◌, Bool, if◌then◌else◌, List, [], ◌∷◌, filter, length, Contains, Option, None, Some, Ok, IfSome, codes, decimal}
 use Rattle.std.specs.Io.KnownBytes.{Appends}
 use Rattle.asp_model.specs.declared.program.Program.{Program}
 use Rattle.asp_model.specs.declared.results.Mode.{Mode}
@@ -40,12 +40,13 @@ ArePicked n all Ss = ((chosen : Atoms → Bool) × (Ss ≡ filter chosen all)) �
 abbrev pub written_optima : Options → Program → Atoms → List Atoms
 written_optima given p S = if given.all_optima then optima p else S ∷ []
 
--- No answer: how many there are is written too, unless consequences are asked for.
+-- the text where there is no answer: the number of answers is written too, unless consequences are asked for
 abbrev pub none_text : Mode → List ℕ
 none_text Enum = closing (codes "UNSATISFIABLE") (decimal 0)
 none_text Opt = closing (codes "UNSATISFIABLE") (decimal 0)
 none_text (Consequences w) = ended_line (codes "UNSATISFIABLE")
 
+-- There is no answer, and the text says so.
 abbrev pub TellsNone : Program → Mode → List ℕ → Type 0
 TellsNone p mode text = (answers p ≡ []) × (text ≡ none_text mode)
 
