@@ -6,14 +6,20 @@
 - The table of crates in docs/ARCHITECTURE.md, whose rows begin with a crate's name, has each crate of crates.txt once. What
   its second column names are crates that this one stands on, each by its name with or without `asp_`, and all others that
   it stands on lie below those.
+- The rooms of docs/ARCHITECTURE.md, headings that begin with a number, are the headings of crates.txt, in their order, and
+  each crate's row is in its own room.
 - A name in square brackets in docs/PROMISES.md is a clause, a definition or a field of a crate that its line names, or a
   definition of a crate below that one. A line names crates by their names, `asp_..`, or by a function or type of theirs
   between backquotes, as `Store::propagate`; one that does neither stands for the crates that the heading above names.
 - Each crate has a README.md.
+- README.md is short, and links and paths of all pages lead somewhere (pages.py).
 """
 import os
 import re
 import sys
+
+sys.dont_write_bytecode = True
+from pages import wrong_pages  # noqa: E402
 
 CRATE = re.compile(r"\basp_[a-z0-9_]+\b")
 # brackets that no link's address follows
@@ -75,6 +81,28 @@ def wrong_architecture(path, deps):
     for crate in deps:
         if crate not in seen:
             yield f"{path}: no row for {crate}"
+
+
+def rooms_of(text, heading, crate):
+    """Returns the headings of a text in their order, and of each crate the heading above it."""
+    rooms, room_of = [], {}
+    for line in text.split("\n"):
+        head, found = re.match(heading, line), re.match(crate, line)
+        if head:
+            rooms.append(head[1].strip())
+        elif found and rooms:
+            room_of.setdefault(found[1], rooms[-1])
+    return rooms, room_of
+
+
+def wrong_rooms(path):
+    rooms, room_of = rooms_of(text_of("crates.txt"), r"# (\d+ .*)", r"(asp_\w+)")
+    ours, ours_of = rooms_of(text_of(path), r"#+ (\d+ .*)", r"\| *`?(asp_\w+)")
+    if not rooms or rooms != ours:
+        yield f"{path}: its rooms are {ours}, those of crates.txt {rooms}"
+    for crate, room in room_of.items():
+        if ours_of.get(crate) != room:
+            yield f"{path}: {crate} is in the room '{ours_of.get(crate)}', in crates.txt in '{room}'"
 
 
 # ---- docs/PROMISES.md
@@ -166,8 +194,10 @@ def main():
     deps, told = crates_txt(), []
     wrong = [
         *wrong_architecture("docs/ARCHITECTURE.md", deps),
+        *wrong_rooms("docs/ARCHITECTURE.md"),
         *wrong_promises("docs/PROMISES.md", deps, told),
         *(f"crates/{it}/README.md is missing" for it in deps if not os.path.isfile(f"crates/{it}/README.md")),
+        *wrong_pages(),
     ]
     if "--list" in sys.argv[1:]:
         for number, name, kind, path in told:
