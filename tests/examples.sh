@@ -131,8 +131,9 @@ for text in examples/*.aspif; do
     grep -qF "\`$name\`" examples/README.md || { echo "failed: examples/README.md doesn't list $name"; failed=$((failed + 1)); }
 done
 
-# The commands of the README and of the manual: each line '$ COMMAND', with what follows it.
-for document in README.md man/aspenum.1; do
+# The commands of README, of the page for users of clasp and of the manuals: each line '$ COMMAND' with what follows it, and
+# the commands in tables.
+for document in README.md docs/CLASP.md man/aspenum.1 ${checker:+man/aspcheck.1}; do
     # shellcheck disable=SC2086
     python3 tests/readme.py "$program" "$document" $checker || failed=$((failed + 1))
 done
