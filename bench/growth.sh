@@ -1,21 +1,29 @@
 #!/bin/sh
 # How time and memory of a built program grow with the size of a text: sizes doubled four times, one row a kind of text.
-# usage: bench/growth.sh [--markdown] [PROGRAM [BASE [KIND..]]], with python3 at hand: BASE is the first size (4000).
+# usage: bench/growth.sh [--markdown] [--save FILE [--revision TEXT] [--machine TEXT]] [PROGRAM [BASE [KIND..]]]
+# with python3 at hand: BASE is the first size (4000). With --save the figures are kept for docs/pictures, in
+# bench/figures/growth.json.
 # Each kind has four answers at most, or one optimum. Seconds of processor time, 20 of them a run at most: what doesn't end is
 # shown as ">20", and no greater size of it is tried. A doubling that takes 3 times as long or more, or the limit, is flagged with "!",
 # unless it ends within 0.1 seconds, where the clock is too coarse. It asserts nothing: it is outside the gate.
 set -eu
-markdown=
-if [ "${1:-}" = --markdown ]; then markdown=1; shift; fi
-program=$(realpath "${1:-build/aspenum}")
-test -x "$program" || { echo "no program $program: make builds it" >&2; exit 1; }
-[ $# -eq 0 ] || shift
-MARKDOWN=$markdown exec python3 - "$program" "$@" <<'PY'
-import math, os, resource, subprocess, sys, tempfile
+exec env PYTHONPATH="$(dirname "$0")" PYTHONDONTWRITEBYTECODE=1 python3 - "$@" <<'PY'
+import argparse, math, os, resource, subprocess, sys, tempfile
+
+import saving
 
 LIMIT = 20
-program, base, only = sys.argv[1], int(sys.argv[2]) if len(sys.argv) > 2 else 4000, sys.argv[3:]
-markdown = bool(os.environ.get("MARKDOWN"))
+words = argparse.ArgumentParser(prog="bench/growth.sh")
+words.add_argument("--markdown", action="store_true")
+saving.add_options(words)
+words.add_argument("program", nargs="?", default="build/aspenum")
+words.add_argument("base", nargs="?", type=int, default=4000)
+words.add_argument("kinds", nargs="*")
+given = words.parse_args()
+program, base, only, markdown = os.path.realpath(given.program), given.base, given.kinds, given.markdown
+if not os.access(program, os.X_OK):
+    sys.exit(f"no program {program}: make builds it")
+SIZES = [base << step for step in range(5)]
 
 
 def rule(head, *body):
@@ -108,25 +116,33 @@ def run(path):
 
 
 def row(make, path):
-    """For each size the seconds, the factor by the size before with its flag, and the memory."""
-    times, factors, memory, before = [], [], [], None
-    for size in (base << step for step in range(5)):
+    """For each size the seconds, whether it ended, and the memory; and the status of a run that has no answer."""
+    found = {"seconds": [], "ended": [], "memory": []}
+    for size in SIZES:
         with open(path, "w") as out:
             out.write("\n".join(["asp 1 0 0", *make(size), "0"]) + "\n")
         time, most, status = run(path)
         stopped = os.WIFSIGNALED(status)
         if not stopped and os.WEXITSTATUS(status) not in (30, 20, 10):
-            return [*times, f"status {os.WEXITSTATUS(status)}"], factors, memory
-        if before is not None:
-            factor = time / max(before, 0.01)
-            flag = "!" if stopped or (factor >= 3 and time >= 0.1) else ""
-            factors.append(f"{'>' if stopped else ''}{factor:.1f}{flag}")
-        times.append(f">{LIMIT}" if stopped else f"{time:.2f}")
-        memory.append(f"{most:.0f}")
-        before = time
+            return {**found, "status": os.WEXITSTATUS(status)}
+        found["seconds"].append(LIMIT if stopped else round(time, 3))
+        found["ended"].append(not stopped)
+        found["memory"].append(round(most))
         if stopped:
             break
-    return times, factors, memory
+    return found
+
+
+def cells(found):
+    """What is shown of a row: the seconds, the factor by the size before with its flag, and the memory."""
+    times = [f"{it:.2f}" if ended else f">{LIMIT}" for it, ended in zip(found["seconds"], found["ended"])]
+    factors = []
+    for before, time, ended in zip(found["seconds"], found["seconds"][1:], found["ended"][1:]):
+        factor = time / max(before, 0.01)
+        flag = "!" if not ended or (factor >= 3 and time >= 0.1) else ""
+        factors.append(f"{'' if ended else '>'}{factor:.1f}{flag}")
+    refused = [f"status {found['status']}"] if "status" in found else []
+    return [" ".join([*times, *refused]), " ".join(factors), " ".join(map(str, found["memory"]))]
 
 
 def line(cells):
@@ -135,13 +151,16 @@ def line(cells):
     return f"{cells[0]:26} {cells[1]:34} {cells[2]:30} {cells[3]}"
 
 
-sizes = ", ".join(f"{base << step:,}" for step in range(5))
+sizes = ", ".join(f"{it:,}" for it in SIZES)
 print(line(["text", f"seconds at n = {sizes}" if markdown else "seconds", "factors", "MB"]))
 if markdown:
     print("|---|---|---|---|")
+rows = []
 with tempfile.TemporaryDirectory() as room:
     for name, make in KINDS.items():
         if only and name not in only:
             continue
-        print(line([name, *(" ".join(it) for it in row(make, f"{room}/text"))]), flush=True)
+        rows.append({"name": name, **row(make, f"{room}/text")})
+        print(line([name, *cells(rows[-1])]), flush=True)
+saving.save(given, {"sizes": SIZES, "limit": LIMIT}, rows)
 PY

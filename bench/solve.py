@@ -2,8 +2,8 @@
 """Times aspenum beside clasp: processor time, conflicts, memory, and whether they say the same.
 
 usage: bench/solve.py [--program build/aspenum] [--limit SECONDS] [--jobs N] [--runs N] [--half tuned|held-out] [--small]
-                      [--markdown] [--texts FOLDER] [--svg FILE] [NAME..]
-       bench/solve.py --workers N [--program build/aspenum] [--markdown] [--texts FOLDER] [NAME..]
+                      [--markdown] [--texts FOLDER] [--save FILE [--revision TEXT] [--machine TEXT]] [NAME..]
+       bench/solve.py --workers N [--program build/aspenum] [--markdown] [--texts FOLDER] [--save FILE ..] [NAME..]
 
 clasp runs twice: as it comes ("default", writing no answers), and in the configuration nearest to this search ("nearest"),
 which switches off what this search has nothing like. Each program runs once in each, within a limit of 20 seconds of processor
@@ -11,6 +11,9 @@ time: what doesn't end is shown with ">" and counted at the limit. With --runs a
 the least time of each counts: for machines that aren't calm. The programs are in programs.py, each with its half: we tune on
 'tuned' alone, and 'held out' tells whether that helped what we didn't look at. bench/README.md says what each is. It ends with
 status 1 where two that ended said different things; it is outside the gate.
+
+With --save the figures are kept, with the day, the machine and the revision, for docs/pictures: bench/figures/solve.json and,
+with --workers, bench/figures/workers.json.
 
 With --workers it runs enumerations (those of workers.py where none is named) with one worker and with so many, and shows the
 busiest thread's processor time, and how many answers were delivered twice; clasp isn't run."""
@@ -24,6 +27,7 @@ import sys
 import tempfile
 from concurrent.futures import ThreadPoolExecutor
 
+import saving
 import workers
 from programs import HALVES, PROGRAMS
 
@@ -148,20 +152,10 @@ def means(rows):
             print(f"  geometric mean by {other}: time {time:.2f}, conflicts {conflicts:.2f}")
 
 
-def plot(rows, path):
-    """A point for each program, clasp's time to the right and ours upwards, both on a scale of powers of ten."""
-    place = lambda seconds: 40 + 110 * (math.log10(min(max(seconds, 0.01), 100)) + 2)
-    parts = ['<svg xmlns="http://www.w3.org/2000/svg" width="520" height="520" font-family="sans-serif" font-size="10">',
-             '<rect width="520" height="520" fill="white"/>', '<path d="M40 480L480 40" stroke="grey" fill="none"/>']
-    for power in (-2, -1, 0, 1, 2):
-        at = place(10.0**power)
-        parts.append(f'<path d="M{at} 480V484M40 {520 - at}H36" stroke="black"/><text x="{at - 8}" y="496">{10.0**power:g}</text><text x="8" y="{523 - at}">{10.0**power:g}</text>')
-    for row in rows:
-        x, y = place(row["default"]["time"]), 520 - place(row["aspenum"]["time"])
-        parts.append(f'<circle cx="{x:.1f}" cy="{y:.1f}" r="3"/><text x="{x + 5:.1f}" y="{y:.1f}">{row["name"]}</text>')
-    parts.append('<text x="200" y="512">clasp, seconds</text><text x="44" y="36">aspenum, seconds</text></svg>')
-    with open(path, "w") as it:
-        it.write("\n".join(parts) + "\n")
+def kept(row):
+    """A row as it is saved: seconds to a thousandth, memory in whole MB."""
+    sides = {side: {**row[side], "time": round(row[side]["time"], 3), "memory": round(row[side]["memory"])} for side in SIDES}
+    return {**row, **sides}
 
 
 def main():
@@ -174,7 +168,7 @@ def main():
     words.add_argument("--small", action="store_true", help="the small programs too, which are in neither half")
     words.add_argument("--markdown", action="store_true")
     words.add_argument("--texts", help="a folder that keeps the grounded texts")
-    words.add_argument("--svg")
+    saving.add_options(words)
     words.add_argument("--workers", type=int, help="how work divides among so many threads, in place of all else")
     words.add_argument("names", nargs="*")
     given = words.parse_args()
@@ -182,7 +176,8 @@ def main():
         with tempfile.TemporaryDirectory() as temporary:
             room = given.texts or temporary
             os.makedirs(room, exist_ok=True)
-            workers.table(given.program, given.workers, lambda name: text_of(name, room), temporary, given.names, given.markdown)
+            found = workers.table(given.program, given.workers, lambda name: text_of(name, room), temporary, given.names, given.markdown)
+        saving.save(given, {"workers": given.workers}, found)
         return 0
     halves = [given.half] if given.half else [*HALVES, *(["small"] if given.small else [])]
     names = given.names or [name for name, (half, _) in PROGRAMS.items() if half in halves]
@@ -198,8 +193,8 @@ def main():
             rows.append(row)
             print(line(cells(row), given.markdown), flush=True)
     means(rows)
-    if given.svg:
-        plot(rows, given.svg)
+    about = {"clasp": saving.clasp(), "limit": given.limit, "runs": given.runs, "at once": given.jobs}
+    saving.save(given, about, [kept(it) for it in rows])
     return 1 if any(it["same"] == "NO" for it in rows) else 0
 
 

@@ -63,22 +63,33 @@ def result(tail):
 
 
 def measured(program, words, path, room, workers):
-    """A row of the table: one worker beside so many."""
+    """A row: one worker beside so many."""
     one, one_clock, _, _, tail = run([program, *words], path, room)
     all_of, clock, busiest, said, same = run([program, *words, "--stats", "--workers", str(workers)], path, room)
     if not result(tail) or result(tail) != result(same):
         raise SystemExit(f"{path}: {result(tail)} with one worker, {result(same)} with {workers}")
-    share = busiest / one if one else float("nan")
-    return [*(f"{it:.2f}" for it in (one, one_clock, all_of, clock, busiest, share)), twice(said, same)]
+    times = {"one": one, "one by the clock": one_clock, "all": all_of, "all by the clock": clock, "busiest": busiest}
+    return {**{it: round(seconds, 3) for it, seconds in times.items()}, "twice": twice(said, same)}
+
+
+def cells(row):
+    """A row of the table as it is shown."""
+    share = row["busiest"] / row["one"] if row["one"] else float("nan")
+    times = [row[it] for it in ("one", "one by the clock", "all", "all by the clock", "busiest")]
+    return [row["name"], *(f"{it:.2f}" for it in (*times, share)), row["twice"]]
 
 
 def table(program, workers, path_of, room, names, markdown):
-    """Prints a line for each program; `path_of` gives the path of its text, and what runs write stands in the folder `room`."""
+    """Prints a line for each program and returns the rows; `path_of` gives the path of its text, and what runs write stands in
+    the folder `room`."""
     line = (lambda it: "| " + " | ".join(it) + " |") if markdown else (lambda it: f"{it[0]:14}" + "".join(f"{cell:>16}" for cell in it[1:]))
     print(line(HEADS))
     if markdown:
         print("|" + "---|" * len(HEADS))
+    rows = []
     for name in names or NAMES:
         ring = re.fullmatch(r"make-(\d+)", name)
         words, path = (["--make", ring[1], "--mode", "enum"], os.devnull) if ring else ([], path_of(name))
-        print(line([name, *measured(program, words, path, room, workers)]), flush=True)
+        rows.append({"name": name, **measured(program, words, path, room, workers)})
+        print(line(cells(rows[-1])), flush=True)
+    return rows

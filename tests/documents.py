@@ -6,20 +6,30 @@
 - The table of crates in docs/ARCHITECTURE.md, whose rows begin with a crate's name, has each crate of crates.txt once. What
   its second column names are crates that this one stands on, each by its name with or without `asp_`, and all others that
   it stands on lie below those.
+- The rooms of docs/ARCHITECTURE.md, headings that begin with a number, are the headings of crates.txt, in their order, and
+  each crate's row is in its own room.
 - A name in square brackets in docs/PROMISES.md is a clause, a definition or a field of a crate that its line names, or a
   definition of a crate below that one. A line names crates by their names, `asp_..`, or by a function or type of theirs
   between backquotes, as `Store::propagate`; one that does neither stands for the crates that the heading above names.
 - Each crate has a README.md.
+- What claims.py says: promises, the rules of CONTRIBUTING.md, definitions, and long blocks of text.
+- README.md is short, and links and paths of all pages lead somewhere (pages.py).
 """
 import os
 import re
 import sys
+
+sys.dont_write_bytecode = True
+from claims import wrong_claims  # noqa: E402
+from pages import wrong_pages  # noqa: E402
 
 CRATE = re.compile(r"\basp_[a-z0-9_]+\b")
 # brackets that no link's address follows
 BRACKETS = re.compile(r"\[([^\[\]]*)\](?!\()")
 NAME = r"[\w']+"
 KINDS = ("clause", "definition", "field")
+# a heading and a crate of crates.txt
+ROOM, CRATE_LINE = r"# (\d+ .*)", r"(asp_\w+)"
 
 
 def text_of(path):
@@ -77,12 +87,35 @@ def wrong_architecture(path, deps):
             yield f"{path}: no row for {crate}"
 
 
+def rooms_of(text, heading, crate):
+    """Returns the headings of a text in their order, and of each crate the heading above it."""
+    rooms, room_of = [], {}
+    for line in text.split("\n"):
+        head, found = re.match(heading, line), re.match(crate, line)
+        if head:
+            rooms.append(head[1].strip())
+        elif found and rooms:
+            room_of.setdefault(found[1], rooms[-1])
+    return rooms, room_of
+
+
+def wrong_rooms(path):
+    rooms, room_of = rooms_of(text_of("crates.txt"), ROOM, CRATE_LINE)
+    ours, ours_of = rooms_of(text_of(path), r"#+ (\d+ .*)", r"\| *`?(asp_\w+)")
+    if not rooms or rooms != ours:
+        yield f"{path}: its rooms are {ours}, those of crates.txt {rooms}"
+    for crate, room in room_of.items():
+        if ours_of.get(crate) != room:
+            yield f"{path}: {crate} is in the room '{ours_of.get(crate)}', in crates.txt in '{room}'"
+
+
 # ---- docs/PROMISES.md
 class Names:
-    """What a crate's files name: `kinds` of each clause, definition and field, and its functions and types."""
+    """What a crate's files name: `kinds` of each clause, definition and field, its functions and types; `others` are the
+    names of definitions and fields outside of proofs."""
 
     def __init__(self, crate):
-        self.kinds, self.items = {}, set()
+        self.kinds, self.items, self.others = {}, set(), set()
         for part, ending in (("src", ".rt"), ("specs", ".antt"), ("proofs", ".antt")):
             for at, _, files in os.walk(f"crates/{crate}/{part}"):
                 for file in sorted(files):
@@ -91,9 +124,14 @@ class Names:
 
     def add(self, name, kind, path):
         """Notes what a name is, where it isn't noted already as something that comes first in KINDS."""
+        if kind != "clause" and "/proofs/" not in path:
+            self.others.add(name)
         old = self.kinds.get(name)
         if not old or KINDS.index(kind) < KINDS.index(old[0]):
             self.kinds[name] = kind, os.path.relpath(path, "crates")
+
+    def is_clause_alone(self, name):
+        return self.kinds.get(name, ("",))[0] == "clause" and name not in self.others
 
     def read_code(self, path):
         text = text_of(path)
@@ -147,8 +185,7 @@ def meaning_of(name, crates, known, deps):
     return min(found, key=lambda it: KINDS.index(it[0]), default=None)
 
 
-def wrong_promises(path, deps, told):
-    known = {crate: Names(crate) for crate in deps}
+def wrong_promises(path, deps, known, told):
     for number, names, line, heading in promised(path):
         crates = sorted(crates_of(line, heading, known))
         for name in names:
@@ -164,10 +201,15 @@ def wrong_promises(path, deps, told):
 def main():
     os.chdir(os.path.dirname(os.path.dirname(os.path.realpath(__file__))))
     deps, told = crates_txt(), []
+    known = {crate: Names(crate) for crate in deps}
+    _, rooms = rooms_of(text_of("crates.txt"), ROOM, CRATE_LINE)
     wrong = [
         *wrong_architecture("docs/ARCHITECTURE.md", deps),
-        *wrong_promises("docs/PROMISES.md", deps, told),
+        *wrong_rooms("docs/ARCHITECTURE.md"),
+        *wrong_promises("docs/PROMISES.md", deps, known, told),
+        *wrong_claims(deps, promised, crates_of, known, rooms),
         *(f"crates/{it}/README.md is missing" for it in deps if not os.path.isfile(f"crates/{it}/README.md")),
+        *wrong_pages(),
     ]
     if "--list" in sys.argv[1:]:
         for number, name, kind, path in told:

@@ -1,7 +1,7 @@
 #!/usr/bin/env python3
 """Compares what two revisions promise: the clauses of each public function, and each definition that clauses are made of.
 
-usage: bench/clauses.py [--renames FILE] [--new] [--counts] OLD NEW [CRATE..]
+usage: tools/clauses.py [--renames FILE] [--new] [--counts] OLD NEW [CRATE..]
 
 Each name of OLD is turned by the renames first. It prints, by crate, what differs: of a function the clauses that only one
 revision has, of a definition (specs/, what an `impl` or a struct says by `ghost`) its text in both. What NEW alone has is
