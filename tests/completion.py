@@ -23,7 +23,7 @@ HERE = os.path.dirname(os.path.abspath(__file__))
 FILES = os.path.join(os.path.dirname(HERE), "completion")
 HELP = os.path.join(HERE, "../crates/asp_cli/src/texts.rt")
 with open(HELP, encoding="utf-8") as page:
-    OPTIONS = re.findall(r"^\\x20 (--[a-z-]+)", page.read(), re.M)
+    OPTIONS = re.findall(r"^\\x20 (?:-[a-z], )?(--[a-z-]+)", page.read(), re.M)
 VALUES = ["auto", "enum", "opt", "brave", "cautious"]
 PACKAGE = "/usr/share/bash-completion/bash_completion"
 
@@ -32,9 +32,13 @@ ROWS = [
     ("aspenum --", OPTIONS, []),
     ("aspenum --stats --", ["--mode", "--budget", "--workers", "--make", "--progress"], ["--help", "--version", "--stats "]),
     ("aspenum --progress --", ["--mode", "--stats"], ["--help", "--version", "--progress "]),
-    ("aspenum --proof --", ["--mode", "--workers"], ["--help", "--version", "--proof ", "--split", "--opt-all"]),
-    ("aspenum --opt-all --", ["--mode", "--models", "--split"], ["--help", "--version", "--proof", "--opt-all "]),
-    ("aspenum --split 4 --", ["--mode", "--make"], ["--help", "--version", "--proof", "--split "]),
+    ("aspenum --proof --", ["--mode", "--workers"], ["--help", "--version", "--proof ", "--split", "--opt-all", "--quiet"]),
+    ("aspenum --opt-all --", ["--mode", "--models", "--quiet"], ["--help", "--version", "--proof", "--opt-all ", "--split"]),
+    ("aspenum -q --", ["--mode", "--models", "--opt-all"], ["--help", "--version", "--proof", "--quiet", "--split"]),
+    ("aspenum --split 4 --", ["--make"], ["--help", "--version", "--proof", "--split ", "--mode", "--models", "--stats"]),
+    ("aspenum --stats -n 3 --", ["--mode", "--workers", "--quiet"], ["--help", "--models", "--split"]),
+    ("aspenum -e ", VALUES, ["--stats", "README"]),
+    ("aspenum -t ", ["16", "64"], ["--stats", "README"]),
     ("aspenum --workers ", ["16", "64"], ["--stats", "README"]),
     ("aspenum --mode enum --", ["--budget", "--stats"], ["--help", "--mode "]),
     ("aspenum --mode=enum --", ["--budget", "--stats"], ["--help", "--mode "]),
@@ -45,6 +49,13 @@ ROWS = [
     ("aspenum --stats --mo", ["--mode"], ["--make"]),
     ("true | aspenum --bu", ["--budget"], ["--mode"]),
     ("aspenum < file_for_", ["file_for_completion"], ["--mode"]),
+    ("aspground file_for_", ["file_for_completion"], ["--mode"]),
+    ("aspground x.lp file_for_", ["file_for_completion"], ["--mode"]),
+    ("aspground x.lp --he", ["--help"], ["--mode"]),
+    ("aspground x.lp -- --", ["--mode", "--models", "--stats"], ["file_for_completion"]),
+    ("aspground x.lp -- --stats --mo", ["--mode"], ["--make"]),
+    ("aspground -- --mode ", VALUES, ["--stats", "README"]),
+    ("aspground x.lp -- --mode=o", ["--mode=opt"], ["auto"]),
 ]
 
 STARTS = {
@@ -101,10 +112,12 @@ def tried(name):
         data = os.path.join(folder, "data")
         os.makedirs(f"{data}/bash-completion/completions")
         shutil.copy(f"{FILES}/aspenum.bash", f"{data}/bash-completion/completions/aspenum")
+        os.symlink("aspenum", f"{data}/bash-completion/completions/aspground")
         open(f"{folder}/file_for_completion", "w").close()
         open(f"{folder}/README", "w").close()
         os.makedirs(f"{folder}/bin")
-        os.symlink("/bin/true", f"{folder}/bin/aspenum")
+        for program in ("aspenum", "aspground"):
+            os.symlink("/bin/true", f"{folder}/bin/{program}")
         for line, wanted, unwanted in ROWS:
             shell = Shell(command, folder)
             shell.shown(1.0)
