@@ -1,10 +1,9 @@
 -- What is read is within the ranges and limits.
-use Rattle.std.proofs.Common.{◌≡◌, ℕ, zero, suc, ◌+◌, ◌-◌, ◌≤◌, ◌<◌, Bool, true, false, List, [], ◌∷◌, ◌++◌, length, length-append, Option, Some, None, Result, Ok, Err, refl, sym, ap, ◌∙◌, arith}
-use Rattle.std.specs.Prelude.{ℤ, pos, negsuc, if◌then◌else◌, int_le, nat_le, nat_lt, ◌&&◌, ◌==◌, map, codes}
+use Rattle.std.proofs.Common.{◌≡◌, ℕ, zero, suc, ◌+◌, ◌-◌, ◌≤◌, Bool, true, false, List, [], ◌∷◌, ◌++◌, length, length-append, Option, Some, None, Result, Ok, Err, refl, sym, ap, ◌∙◌, arith}
+use Rattle.std.specs.Prelude.{ℤ, pos, negsuc, if◌then◌else◌, int_le, nat_le, nat_lt, ◌==◌, map, codes}
 use Rattle.std.specs.List.{list_all}
 use Rattle.std.proofs.lemmas.List.Folds.{list_all-append}
-use Rattle.std.proofs.lemmas.List.{length-map}
-use Rattle.std.proofs.lemmas.Bool.{leb-true, ltb-true, ltb-false, and_parts, and_from}
+use Rattle.std.proofs.lemmas.Bool.{leb-true, ltb-true, and_parts, and_from}
 use Rattle.asp_text.specs.Fields.{unblank, field_of, after_field, integer_of, num_of}
 use Rattle.asp_text.specs.declared.numbers.Num.TheVariants.{Value}
 use Rattle.asp_model.specs.declared.program.Program.{Program}
@@ -26,16 +25,15 @@ use Rattle.asp_read.specs.declared.statement.Statement.{Statement}
 use Rattle.asp_read.specs.declared.statement.Statement.TheVariants as say
 use Rattle.asp_read.specs.Adding.{adds}
 use Rattle.asp_read.specs.Sizes.{rule_size, statement_size, statement_atoms, program_size}
-use Rattle.asp_read.specs.Fields.{◌>>=◌, Reads, natural_at, integer_at, atom_at, count_at, many_at, alone, ended, most, most_counted}
+use Rattle.asp_read.specs.Fields.{◌>>=◌, natural_at, atom_at, count_at, many_at, alone, ended, most, most_counted}
 use Rattle.asp_read.specs.Statements.{is_word}
-use Rattle.asp_read.specs.Stream.{ReadsText}
 use Rattle.asp_read.proofs.Soundness.{ok, ok_is, first_is, step, unless, choose, integer-range, weight_is, atom-sound, many_are, count_is, Listed, Part, part, is_sound_statement, stated, end_is, AreSound, adds-sound, more_lines, outcome_by-sound}
 use Rattle.asp_smodels.specs.declared.reader.Stage.{Stage}
 use Rattle.asp_smodels.specs.declared.reader.Stage.TheVariants.{Rules, Symbols, PlusWord, Plus, MinusWord, Minus, Number, Ended}
 use Rattle.asp_smodels.specs.Parts.{one_more_at, heads_at, negated_in, negated_at, weight_at, literal_of, literal_at, signed_at, literals_at, weights_at, weighted_at, with_weight_1}
 use Rattle.asp_smodels.specs.Lines.{basic_at, cardinality_at, choice_at, weight_rule_at, minimize_at, type_at, of_type, rule_line, name_of, symbol_at, is_end, symbol_line, word_line, assumed_line, number_line}
 use Rattle.asp_smodels.specs.Seen.{Seen}
-use Rattle.asp_smodels.specs.Outcome.{next_stage, stage_after, line_of, judge_line, at_end, smodels, smodels_outcome}
+use Rattle.asp_smodels.specs.Outcome.{stage_after, line_of, judge_line, at_end, smodels, smodels_outcome}
 
 -- ---- parts of rules
 

@@ -1,6 +1,6 @@
 -- Weights of literals, read one after another as a loop does.
 use Rattle.std.proofs.Common.{◌≡◌, ℕ, ◌+◌, ◌≤◌, ◌<◌, List, [], ◌∷◌, ◌++◌, length, take, drop, get_or, Ok, Err, refl, sym, ap, ◌∙◌, append_assoc}
-use Rattle.std.specs.Prelude.{ℤ, pos, map}
+use Rattle.std.specs.Prelude.{ℤ, map}
 use Rattle.std.proofs.lemmas.List.{append-nil, drop_all, drop_more, map_push, map_more}
 use Rattle.asp_model.specs.Holding.{atom_of}
 use Rattle.asp_read.specs.declared.error.LineError.{LineError}

@@ -53,7 +53,7 @@ judge_line seen line =
     if length (unblank line) == 0
     then Ok seen
     else (line_of seen.stage (length seen.program.minimize) (program_size seen.program) seen.known line
-        >>= λ s. Ok (record { stage = stage_after seen.stage s; program = adds seen.program s; known = with_atoms seen.known (statement_atoms s) }))
+    >>= λ s. Ok (record { stage = stage_after seen.stage s; program = adds seen.program s; known = with_atoms seen.known (statement_atoms s) }))
 
 -- the end of the text, as the line with this number
 abbrev pub at_end : ℕ → Stage → Program → Result Program ReadError
