@@ -1,8 +1,8 @@
-# Completion of aspenum for bash: each option once, its values, help and the version as the only word, and files behind a
-# redirection. It needs nothing of bash-completion.
+# Completion of aspenum for bash: each option once, in one of its forms, its values, help and the version as the first word, and
+# files after a redirection. It needs nothing of bash-completion.
 _aspenum() {
     local line=${COMP_LINE:0:COMP_POINT} option stem=""
-    local -a words given left=()
+    local -a words given=() left=()
     read -ra words <<< "$line"
     [[ $line != *[[:blank:]] ]] || words+=("")
     local last=$((${#words[@]} - 1))
@@ -18,22 +18,37 @@ _aspenum() {
     if [[ $word == --*=* ]]; then
         option=${word%%=*}
         word=${word#*=}
-        # what stands behind the = is replaced where = breaks words, and else the whole word
+        # what comes after the = is replaced where = breaks words, and else the whole word
         [[ $COMP_WORDBREAKS == *=* ]] || stem="$option="
     fi
     case $option in
-        --mode) mapfile -t COMPREPLY < <(compgen -P "$stem" -W "auto enum opt brave cautious" -- "$word") && return ;;
-        --workers) mapfile -t COMPREPLY < <(compgen -P "$stem" -W "1 2 4 8 16 32 64" -- "$word") && return ;;
-        --budget | --models | --make | --split | --help | -h | --version | --) return ;;
+        --mode | -e) mapfile -t COMPREPLY < <(compgen -P "$stem" -W "auto enum opt brave cautious" -- "$word") && return ;;
+        --workers | -t) mapfile -t COMPREPLY < <(compgen -P "$stem" -W "1 2 4 8 16 32 64" -- "$word") && return ;;
+        --budget | --models | -n | --make | --split | --help | -h | --version | --) return ;;
     esac
     [[ $word == "${words[last]}" ]] || return
 
-    given=("${words[@]:1:last-1}")
-    given=("${given[@]%%=*}")
-    # a proof excludes these two, and each of them a proof
-    [[ " ${given[*]} " != *" --proof "* ]] || given+=(--split --opt-all)
-    [[ " ${given[*]} " != *" --split "* && " ${given[*]} " != *" --opt-all "* ]] || given+=(--proof)
-    for option in --mode --budget --models --opt-all --workers --make --stats --progress --proof --split; do
+    for option in "${words[@]:1:last-1}"; do
+        case $option in
+            -e) option=--mode ;;
+            -n) option=--models ;;
+            -t) option=--workers ;;
+            -q) option=--quiet ;;
+            --opt-mode=optN) option=--opt-all ;;
+            --opt-mode=*) option=--mode ;;
+        esac
+        given+=("${option%%=*}")
+    done
+    # a proof excludes some options, and each of them a proof; the parts exclude all but the ring
+    for option in "${given[@]}"; do
+        case $option in
+            --proof) given+=(--split --opt-all --quiet) ;;
+            --split) given+=(--mode --models --opt-all --workers --budget --quiet --proof --stats --progress) ;;
+            --opt-all | --quiet) given+=(--split --proof) ;;
+            --mode | --models | --workers | --budget | --stats | --progress) given+=(--split) ;;
+        esac
+    done
+    for option in --mode --models --opt-all --workers --budget --quiet --proof --split --make --stats --progress; do
         [[ " ${given[*]} " == *" $option "* ]] || left+=("$option")
     done
     [[ $last -ne 1 ]] || left+=(--help --version)

@@ -1,34 +1,41 @@
-# Completion of aspenum for fish: an option once, its values, help and the version as the only word.
+# Completion of aspenum for fish: an option once, in one of its forms, its values, help and the version as the first word.
 complete -c aspenum -f
 
 function __aspenum_first
     test (count (commandline -opc)) -eq 1
 end
 
-# whether the option isn't given yet, alone or with its value behind =; one that waits for its value doesn't count
+# whether none of these options is given yet, alone or with its value after =; a last one that waits for its value doesn't count
 function __aspenum_lacks
     set -l words (commandline -opc)
-    if test "$words[-1]" = "--$argv[1]"; and not contains $argv[1] stats progress proof opt-all
-        set -e words[-1]
-    end
-    for word in $words
-        if test "$word" = "--$argv[1]"; or string match -q -- "--$argv[1]=*" $word
-            return 1
+    for name in $argv
+        set -l given $words
+        if test "$given[-1]" = "$name"; and not contains -- $name --stats --progress --proof --opt-all --quiet -q
+            set -e given[-1]
+        end
+        for word in $given
+            if test "$word" = "$name"; or string match -q -- "$name=*" $word
+                return 1
+            end
         end
     end
     true
 end
 
-complete -c aspenum -n '__aspenum_lacks mode' -l mode -x -d 'What is sought' -a 'auto\t"opt where the program minimises, else enum" enum\t"all answers" opt\t"one answer of least cost" brave\t"the atoms in some answer" cautious\t"the atoms in every answer"'
-complete -c aspenum -n '__aspenum_lacks budget' -l budget -x -d 'At most so many conflicts'
-complete -c aspenum -n '__aspenum_lacks models' -l models -x -d 'End with so many answers'
-complete -c aspenum -n '__aspenum_lacks opt-all; and __aspenum_lacks proof' -l opt-all -d 'Write all optima'
-complete -c aspenum -n '__aspenum_lacks workers' -l workers -x -d 'Threads that search' -a '1 2 4 8 16 32 64'
-complete -c aspenum -n '__aspenum_lacks make' -l make -x -d 'Solve a ring of so many nodes, read no program'
-complete -c aspenum -n '__aspenum_lacks stats' -l stats -d 'Write counts to standard error'
-complete -c aspenum -n '__aspenum_lacks progress' -l progress -d 'Write lines to standard error while it runs'
-complete -c aspenum -n '__aspenum_lacks proof; and __aspenum_lacks split; and __aspenum_lacks opt-all' -l proof -d 'Write the proof of a finished run'
-complete -c aspenum -n '__aspenum_lacks split; and __aspenum_lacks proof' -l split -x -d 'Write the parts of a program, at most so many'
+# what says how to solve: parts exclude it
+set -g __aspenum_solving --mode -e --models -n --opt-all --workers -t --budget --quiet -q --proof --stats --progress
+
+complete -c aspenum -n '__aspenum_lacks --mode -e --split' -s e -l mode -x -d 'What is sought' -a 'auto\t"opt where the program minimises, else enum" enum\t"all answers" opt\t"one answer of least cost" brave\t"the atoms in some answer" cautious\t"the atoms in every answer"'
+complete -c aspenum -n '__aspenum_lacks --models -n --split' -s n -l models -x -d 'End with this many answers'
+complete -c aspenum -n '__aspenum_lacks --opt-all --proof --split' -l opt-all -d 'Write all optima'
+complete -c aspenum -n '__aspenum_lacks --workers -t --split' -s t -l workers -x -d 'Threads that search' -a '1 2 4 8 16 32 64'
+complete -c aspenum -n '__aspenum_lacks --budget --split' -l budget -x -d 'At most this many conflicts'
+complete -c aspenum -n '__aspenum_lacks --quiet -q --proof --split' -s q -l quiet -d 'Write no answers'
+complete -c aspenum -n '__aspenum_lacks --proof --opt-all --quiet -q --split' -l proof -d 'Write the proof of a finished run'
+complete -c aspenum -n '__aspenum_lacks --split $__aspenum_solving' -l split -x -d 'Write the parts of a program, at most this many'
+complete -c aspenum -n '__aspenum_lacks --make' -l make -x -d 'Solve a ring of this many nodes, read no program'
+complete -c aspenum -n '__aspenum_lacks --stats --split' -l stats -d 'Write counts to standard error'
+complete -c aspenum -n '__aspenum_lacks --progress --split' -l progress -d 'Write lines to standard error while it runs'
 complete -c aspenum -n '__aspenum_first' -s h -l help -d 'Write the options and exit statuses'
 complete -c aspenum -n '__aspenum_first' -l version -d 'Write the version'
 

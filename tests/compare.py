@@ -137,7 +137,7 @@ def differs(aspenum, text):
 def joined(aspenum, text, mode):
     """What the parts of a program give: their answers one after the other, the least of their costs, how many there are."""
     most = len(text) % 9 + 1
-    given = run([*aspenum, "--split", str(most)], text)
+    given = run([aspenum[0], "--split", str(most)], text)
     cubes = given.stdout.decode().splitlines()
     if given.returncode != 0 or not 0 < len(cubes) <= most:
         return None

@@ -23,7 +23,7 @@ HERE = os.path.dirname(os.path.abspath(__file__))
 FILES = os.path.join(os.path.dirname(HERE), "completion")
 HELP = os.path.join(HERE, "../crates/asp_cli/src/texts.rt")
 with open(HELP, encoding="utf-8") as page:
-    OPTIONS = re.findall(r"^\\x20 (--[a-z-]+)", page.read(), re.M)
+    OPTIONS = re.findall(r"^\\x20 (?:-[a-z], )?(--[a-z-]+)", page.read(), re.M)
 VALUES = ["auto", "enum", "opt", "brave", "cautious"]
 PACKAGE = "/usr/share/bash-completion/bash_completion"
 
@@ -32,9 +32,13 @@ ROWS = [
     ("aspenum --", OPTIONS, []),
     ("aspenum --stats --", ["--mode", "--budget", "--workers", "--make", "--progress"], ["--help", "--version", "--stats "]),
     ("aspenum --progress --", ["--mode", "--stats"], ["--help", "--version", "--progress "]),
-    ("aspenum --proof --", ["--mode", "--workers"], ["--help", "--version", "--proof ", "--split", "--opt-all"]),
-    ("aspenum --opt-all --", ["--mode", "--models", "--split"], ["--help", "--version", "--proof", "--opt-all "]),
-    ("aspenum --split 4 --", ["--mode", "--make"], ["--help", "--version", "--proof", "--split "]),
+    ("aspenum --proof --", ["--mode", "--workers"], ["--help", "--version", "--proof ", "--split", "--opt-all", "--quiet"]),
+    ("aspenum --opt-all --", ["--mode", "--models", "--quiet"], ["--help", "--version", "--proof", "--opt-all ", "--split"]),
+    ("aspenum -q --", ["--mode", "--models", "--opt-all"], ["--help", "--version", "--proof", "--quiet", "--split"]),
+    ("aspenum --split 4 --", ["--make"], ["--help", "--version", "--proof", "--split ", "--mode", "--models", "--stats"]),
+    ("aspenum --stats -n 3 --", ["--mode", "--workers", "--quiet"], ["--help", "--models", "--split"]),
+    ("aspenum -e ", VALUES, ["--stats", "README"]),
+    ("aspenum -t ", ["16", "64"], ["--stats", "README"]),
     ("aspenum --workers ", ["16", "64"], ["--stats", "README"]),
     ("aspenum --mode enum --", ["--budget", "--stats"], ["--help", "--mode "]),
     ("aspenum --mode=enum --", ["--budget", "--stats"], ["--help", "--mode "]),

@@ -38,9 +38,9 @@ for text in examples/*.aspif; do
 done
 
 # Each refusal writes one line to standard error, nothing to standard output, and ends with its status. Faulty words are
-# followed by the line that tells how the program is called. A line of refusals.txt has the status, the first line, the
+# followed by the lines that tell how the program is called. A line of refusals.txt has the status, the first line, the
 # words and the text, with ~ between them.
-usage=$("$program" --help | grep '^usage: ')
+usage=$("$program" --help | sed -n '/^usage: /,/\]$/p; /^       aspenum/q')
 while IFS='~' read -r status note words text; do
     printf '%s\n' "$note" > "$wanted"
     [ "$status" != 64 ] || printf '%s\n' "$usage" >> "$wanted"
@@ -53,13 +53,13 @@ while IFS='~' read -r status note words text; do
 done < tests/refusals.txt
 
 # Words that no line of a file can have: an empty one, one with a blank, and one that isn't UTF-8.
-printf 'aspenum: unexpected word  (the program is read from standard input)\n%s\n' "$usage" > "$wanted"
+printf 'aspenum: unexpected argument  (the program is read from standard input; write: aspenum < FILE)\n%s\n' "$usage" > "$wanted"
 "$program" '' < examples/two_rules.aspif > "$given" 2> "$notes"
 check "an empty word" 64 "$wanted" "$?" "$notes"
 printf 'aspenum: --mode takes auto, enum, opt, brave or cautious, not all of them\n%s\n' "$usage" > "$wanted"
 "$program" --mode 'all of them' < examples/two_rules.aspif > "$given" 2> "$notes"
 check "a blank in a word" 64 "$wanted" "$?" "$notes"
-printf 'aspenum: a word is not UTF-8\n%s\n' "$usage" > "$wanted"
+printf 'aspenum: an argument is not UTF-8\n%s\n' "$usage" > "$wanted"
 "$program" "$(printf '\377')" < examples/two_rules.aspif > "$given" 2> "$notes"
 check "a word that isn't UTF-8" 64 "$wanted" "$?" "$notes"
 
@@ -124,6 +124,12 @@ printf '%s\n' 'Conflicts: N' 'Leaves: N' 'Log: N' 'Decisions: N' 'Propagated: N'
 status=$?
 sed 's/[0-9][0-9]*/N/g' "$notes" > "$given"
 check "counts of two workers" 30 "$wanted" "$status" "$given"
+# Nothing is split before somebody has searched, so one of the two finds the one conflict, on one path.
+printf '%s\n' 'Conflicts: 1' 'Leaves: 1' 'Log: 1' 'Decisions: 1' > "$wanted"
+printf 'asp 1 0 0\n1 1 2 1 2 0 0\n1 0 0 0 2 1 2\n1 0 0 0 2 1 -2\n1 0 0 0 2 -1 2\n1 0 0 0 2 -1 -2\n0\n' | "$program" --stats --workers 2 2> "$notes" > /dev/null
+status=${PIPESTATUS[1]}
+head -4 "$notes" > "$given"
+check "no early split" 20 "$wanted" "$status" "$given"
 
 # Each example stands in the list of examples.
 for text in examples/*.aspif; do

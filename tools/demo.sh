@@ -16,10 +16,12 @@ case $file in
         "$program" < examples/timetable.aspif > build/answers
         ;;
     *.aspif)
+        [ -r "$file" ] || { echo "demo: $file can't be read" >&2; exit 1; }
         command="$name < $file"
         "$program" < "$file" > build/answers
         ;;
     *)
+        [ -r "$file" ] || { echo "demo: $file can't be read" >&2; exit 1; }
         command -v gringo > /dev/null || { echo "demo: $file is to be grounded by gringo, which isn't installed (Debian: apt-get install gringo)" >&2; exit 1; }
         command="gringo $file | $name"
         gringo "$file" > build/grounded || exit 1

@@ -2,12 +2,13 @@
 use Rattle.std.proofs.Common.{◌≡◌, [], ◌∷◌, true, false, Some, None, codes, refl}
 use Rattle.asp_model.specs.declared.results.Mode.TheVariants.{Enum, Opt}
 use Rattle.asp_cli.specs.declared.Options.{Options}
-use Rattle.asp_cli.specs.declared.names.Name.TheVariants.{Workers, Mode, Budget, Models, OptAll, Make, Stats, Progress, Split}
-use Rattle.asp_cli.specs.Given.{bad_value, help, misuse, missing, no_words, not_alone, options, rivals, twice, unexpected, unknown, version, words_give}
+use Rattle.asp_cli.specs.declared.names.Name.TheVariants.{Workers, Mode, Budget, Models, OptAll, Quiet, Proof, Make, Stats, Progress, Split}
+use Rattle.asp_cli.specs.Given.{bad_value, help, misuse, missing, no_words, options, rivals, twice, unexpected, unknown, version, words_give}
+use Rattle.asp_cli.specs.Hints.{counterpart, nearest}
 
 -- what is asked for where no option is given
 abbrev standard : Options
-standard = record { workers = 1; mode = None; budget = 9223372036854775807; models = 0; all_optima = false; make = None; stats = false; progress = false; proof = false; split = None }
+standard = record { workers = 1; mode = None; budget = 9223372036854775807; models = 0; all_optima = false; quiet = false; make = None; stats = false; progress = false; proof = false; split = None }
 
 empty_line : words_give [] ≡ misuse no_words
 empty_line = refl
@@ -24,11 +25,67 @@ help_short = refl
 version_alone : words_give (codes "aspenum" ∷ codes "--version" ∷ []) ≡ version
 version_alone = refl
 
-help_twice : words_give (codes "aspenum" ∷ codes "--help" ∷ codes "-h" ∷ []) ≡ misuse (not_alone (codes "--help"))
+help_twice : words_give (codes "aspenum" ∷ codes "--help" ∷ codes "-h" ∷ []) ≡ help
 help_twice = refl
 
-help_after_option : words_give (codes "aspenum" ∷ codes "--mode=opt" ∷ codes "--help" ∷ []) ≡ misuse (not_alone (codes "--help"))
+help_after_option : words_give (codes "aspenum" ∷ codes "--mode=opt" ∷ codes "--help" ∷ []) ≡ help
 help_after_option = refl
+
+help_before_a_fault : words_give (codes "aspenum" ∷ codes "-h" ∷ codes "--fast" ∷ []) ≡ help
+help_before_a_fault = refl
+
+help_after_a_fault : words_give (codes "aspenum" ∷ codes "--fast" ∷ codes "--help" ∷ []) ≡ misuse (unknown (codes "--fast"))
+help_after_a_fault = refl
+
+help_of_a_level : words_give (codes "aspenum" ∷ codes "--help=2" ∷ []) ≡ help
+help_of_a_level = refl
+
+version_after_option : words_give (codes "aspenum" ∷ codes "--stats" ∷ codes "--version" ∷ []) ≡ version
+version_after_option = refl
+
+-- ---- short forms, and words of clasp's
+
+models_short : words_give (codes "aspenum" ∷ codes "-n" ∷ codes "5" ∷ []) ≡ options (record standard { models = 5 })
+models_short = refl
+
+models_short_none : words_give (codes "aspenum" ∷ codes "-n" ∷ codes "0" ∷ []) ≡ options standard
+models_short_none = refl
+
+models_in_both_forms : words_give (codes "aspenum" ∷ codes "-n" ∷ codes "5" ∷ codes "--models=5" ∷ []) ≡ misuse (twice Models)
+models_in_both_forms = refl
+
+models_short_missing : words_give (codes "aspenum" ∷ codes "-n" ∷ []) ≡ misuse (missing Models)
+models_short_missing = refl
+
+workers_short : words_give (codes "aspenum" ∷ codes "-t" ∷ codes "4" ∷ []) ≡ options (record standard { workers = 4 })
+workers_short = refl
+
+quiet_short : words_give (codes "aspenum" ∷ codes "-q" ∷ []) ≡ options (record standard { quiet = true })
+quiet_short = refl
+
+quiet_in_both_forms : words_give (codes "aspenum" ∷ codes "--quiet" ∷ codes "-q" ∷ []) ≡ misuse (twice Quiet)
+quiet_in_both_forms = refl
+
+mode_short : words_give (codes "aspenum" ∷ codes "-e" ∷ codes "enum" ∷ []) ≡ options (record standard { mode = Some Enum })
+mode_short = refl
+
+opt_mode_ignore : words_give (codes "aspenum" ∷ codes "--opt-mode=ignore" ∷ []) ≡ options (record standard { mode = Some Enum })
+opt_mode_ignore = refl
+
+opt_mode_opt : words_give (codes "aspenum" ∷ codes "--opt-mode=opt" ∷ []) ≡ options (record standard { mode = Some Opt })
+opt_mode_opt = refl
+
+opt_mode_all : words_give (codes "aspenum" ∷ codes "--opt-mode=optN" ∷ []) ≡ options (record standard { all_optima = true })
+opt_mode_all = refl
+
+opt_mode_all_twice : words_give (codes "aspenum" ∷ codes "--opt-mode=optN" ∷ codes "--opt-all" ∷ []) ≡ misuse (twice OptAll)
+opt_mode_all_twice = refl
+
+opt_mode_else : words_give (codes "aspenum" ∷ codes "--opt-mode=enum" ∷ []) ≡ misuse (unknown (codes "--opt-mode"))
+opt_mode_else = refl
+
+a_short_form_as_value : words_give (codes "aspenum" ∷ codes "--mode" ∷ codes "-q" ∷ []) ≡ misuse (bad_value Mode (codes "-q"))
+a_short_form_as_value = refl
 
 mode_auto : words_give (codes "aspenum" ∷ codes "--mode" ∷ codes "auto" ∷ []) ≡ options standard
 mode_auto = refl
@@ -138,22 +195,37 @@ parts_none = refl
 parts_many : words_give (codes "aspenum" ∷ codes "--split=100001" ∷ []) ≡ misuse (bad_value Split (codes "100001"))
 parts_many = refl
 
-parts_of_a_proof : words_give (codes "aspenum" ∷ codes "--split=2" ∷ codes "--proof" ∷ []) ≡ misuse (rivals Split)
+parts_of_a_proof : words_give (codes "aspenum" ∷ codes "--split=2" ∷ codes "--proof" ∷ []) ≡ misuse (rivals Split Proof)
 parts_of_a_proof = refl
 
-proof_of_parts : words_give (codes "aspenum" ∷ codes "--proof" ∷ codes "--split" ∷ codes "2" ∷ []) ≡ misuse (rivals Split)
+proof_of_parts : words_give (codes "aspenum" ∷ codes "--proof" ∷ codes "--split" ∷ codes "2" ∷ []) ≡ misuse (rivals Proof Split)
 proof_of_parts = refl
 
 all_optima : words_give (codes "aspenum" ∷ codes "--opt-all" ∷ codes "--models=7" ∷ []) ≡ options (record standard { models = 7; all_optima = true })
 all_optima = refl
 
+quiet_of_a_proof : words_give (codes "aspenum" ∷ codes "--quiet" ∷ codes "--proof" ∷ []) ≡ misuse (rivals Quiet Proof)
+quiet_of_a_proof = refl
+
+proof_of_consequences : words_give (codes "aspenum" ∷ codes "--proof" ∷ codes "-e" ∷ codes "brave" ∷ []) ≡ misuse (rivals Proof Mode)
+proof_of_consequences = refl
+
+parts_of_some_answers : words_give (codes "aspenum" ∷ codes "--split=2" ∷ codes "--models=3" ∷ []) ≡ misuse (rivals Split Models)
+parts_of_some_answers = refl
+
+workers_of_parts : words_give (codes "aspenum" ∷ codes "--workers=2" ∷ codes "--split=2" ∷ []) ≡ misuse (rivals Workers Split)
+workers_of_parts = refl
+
+parts_of_a_ring : words_give (codes "aspenum" ∷ codes "--split=2" ∷ codes "--make=5" ∷ []) ≡ options (record standard { make = Some 5; split = Some 2 })
+parts_of_a_ring = refl
+
 all_optima_of_one : words_give (codes "aspenum" ∷ codes "--opt-all=1" ∷ []) ≡ misuse (bad_value OptAll (codes "1"))
 all_optima_of_one = refl
 
-all_optima_of_a_proof : words_give (codes "aspenum" ∷ codes "--opt-all" ∷ codes "--proof" ∷ []) ≡ misuse (rivals OptAll)
+all_optima_of_a_proof : words_give (codes "aspenum" ∷ codes "--opt-all" ∷ codes "--proof" ∷ []) ≡ misuse (rivals OptAll Proof)
 all_optima_of_a_proof = refl
 
-proof_of_all_optima : words_give (codes "aspenum" ∷ codes "--proof" ∷ codes "--opt-all" ∷ []) ≡ misuse (rivals OptAll)
+proof_of_all_optima : words_give (codes "aspenum" ∷ codes "--proof" ∷ codes "--opt-all" ∷ []) ≡ misuse (rivals Proof OptAll)
 proof_of_all_optima = refl
 
 parts_twice : words_give (codes "aspenum" ∷ codes "--split=2" ∷ codes "--split=3" ∷ []) ≡ misuse (twice Split)
@@ -162,5 +234,25 @@ parts_twice = refl
 first_from_the_left : words_give (codes "aspenum" ∷ codes "--stats" ∷ codes "--budget=x" ∷ codes "--verson" ∷ []) ≡ misuse (bad_value Budget (codes "x"))
 first_from_the_left = refl
 
-all_options : words_give (codes "aspenum" ∷ codes "--make=2000" ∷ codes "--stats" ∷ codes "--mode=enum" ∷ codes "--budget=7" ∷ codes "--models=3" ∷ codes "--workers=4" ∷ []) ≡ options (record { workers = 4; mode = Some Enum; budget = 7; models = 3; all_optima = false; make = Some 2000; stats = true; progress = false; proof = false; split = None })
+all_options : words_give (codes "aspenum" ∷ codes "--make=2000" ∷ codes "--stats" ∷ codes "--mode=enum" ∷ codes "--budget=7" ∷ codes "--models=3" ∷ codes "--workers=4" ∷ []) ≡ options (record { workers = 4; mode = Some Enum; budget = 7; models = 3; all_optima = false; quiet = false; make = Some 2000; stats = true; progress = false; proof = false; split = None })
 all_options = refl
+
+-- ---- hints
+
+near_version : nearest (codes "--versio") ≡ Some (codes "--version")
+near_version = refl
+
+near_models : nearest (codes "--mdels") ≡ Some (codes "--models")
+near_models = refl
+
+nearer_than_mode : nearest (codes "--modls") ≡ Some (codes "--models")
+nearer_than_mode = refl
+
+swapped : nearest (codes "--mdoe") ≡ Some (codes "--mode")
+swapped = refl
+
+near_none : nearest (codes "--fast") ≡ None
+near_none = refl
+
+of_clasp : counterpart (codes "--time-limit") ≡ Some (codes "--budget counts conflicts")
+of_clasp = refl

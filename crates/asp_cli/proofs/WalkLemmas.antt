@@ -3,8 +3,7 @@ use Rattle.std.proofs.Common.{◌≡◌, ◌∙◌, ℕ, ◌+◌, ◌<◌, ◌�
 use Rattle.std.specs.Prelude.{Ok, Err, String, string_bytes}
 use Rattle.std.proofs.lemmas.List.{drop_all}
 use Rattle.asp_cli.specs.declared.walk.State.{State}
-use Rattle.asp_cli.specs.Found.{start}
-use Rattle.asp_cli.specs.Given.{Misuse, Text, after, ended, given_after, given_by, if_ok, walked}
+use Rattle.asp_cli.specs.Given.{Given, Text, after, ended, if_ok, walked}
 
 abbrev pub texts : List (String Global) → List Text
 texts ws = map string_bytes ws
@@ -18,16 +17,10 @@ pub walked_more : (s t : State) (ws : List (String Global)) (i : ℕ) (w : Strin
 walked_more s t ws i w text lt is of told =
     sym (walked_turn s ws i w lt is ∙ ap (λ r. if_ok r (λ u. walked u (texts (drop (i + 1) ws)))) (ap (after s) (sym of) ∙ sym told))
 
-pub walked_fails : (s : State) (m : Misuse) (ws : List (String Global)) (i : ℕ) (w : String Global) (text : Text) → i < length ws → w ≡ get_or ws i w → text ≡ string_bytes w
+pub walked_fails : (s : State) (m : Given) (ws : List (String Global)) (i : ℕ) (w : String Global) (text : Text) → i < length ws → w ≡ get_or ws i w → text ≡ string_bytes w
     → Err m ≡ after s text → Err m ≡ walked s (texts (drop i ws))
 walked_fails s m ws i w text lt is of told =
     sym (walked_turn s ws i w lt is ∙ ap (λ r. if_ok r (λ u. walked u (texts (drop (i + 1) ws)))) (ap (after s) (sym of) ∙ sym told))
 
 pub walked_end : (s : State) (ws : List (String Global)) (i : ℕ) → length ws ≤ i → ended s ≡ walked s (texts (drop i ws))
 walked_end s ws i all = sym (ap (λ xs. walked s (texts xs)) (drop_all i ws all))
-
--- where not one word alone stands behind the program's name, the walk decides
-pub after_other : (ws : List (String Global)) → (length ws ≡ 1 → ⊥) → given_by (walked start (texts ws)) ≡ given_after (texts ws)
-after_other [] h = refl
-after_other (w ∷ []) h = absurd (h refl)
-after_other (w ∷ v ∷ ws) h = refl

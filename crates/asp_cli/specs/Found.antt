@@ -4,7 +4,7 @@ use Rattle.asp_model.specs.declared.results.Mode as results
 use Rattle.asp_model.specs.Asked.{reasoning_of}
 use Rattle.asp_cli.specs.declared.found.Found.{Found}
 use Rattle.asp_cli.specs.declared.names.Name.{Name}
-use Rattle.asp_cli.specs.declared.names.Name.TheVariants.{Workers, Mode, Budget, Models, OptAll, Make, Stats, Progress, Proof, Split}
+use Rattle.asp_cli.specs.declared.names.Name.TheVariants.{Mode, Models, OptAll, Workers, Budget, Quiet, Proof, Split, Make, Stats, Progress}
 use Rattle.asp_cli.specs.declared.walk.Awaits.TheVariants as awaits
 use Rattle.asp_cli.specs.declared.walk.State.{State}
 use Rattle.asp_cli.specs.declared.Options.{Options}
@@ -17,6 +17,7 @@ has f Mode = is_some f.mode
 has f Budget = is_some f.budget
 has f Models = is_some f.models
 has f OptAll = f.all_optima
+has f Quiet = f.quiet
 has f Make = is_some f.make
 has f Stats = f.stats
 has f Progress = f.progress
@@ -33,13 +34,35 @@ seeks_consequences (Some (Some m)) = is_some (reasoning_of m)
 abbrev pub clashes : Found → Bool
 clashes f = f.proof && seeks_consequences f.mode
 
--- which option can't stand beside `--proof`, where the one of them was given and the other is this: a proof isn't written of parts,
--- nor of all optima, nor of consequences
+-- the first option that was given of those that say how to solve
+abbrev pub solving : Found → Option Name
+solving f = if is_some f.mode then Some Mode
+    else (if is_some f.models then Some Models
+    else (if f.all_optima then Some OptAll
+    else (if is_some f.workers then Some Workers
+    else (if is_some f.budget then Some Budget
+    else (if f.quiet then Some Quiet
+    else (if f.proof then Some Proof
+    else (if f.stats then Some Stats
+    else (if f.progress then Some Progress else None))))))))
+
+-- `--split`, if it was given
+abbrev pub dividing : Found → Option Name
+dividing f = if is_some f.split then Some Split else None
+
+abbrev pub proving_or_dividing : Found → Option Name
+proving_or_dividing f = if f.proof then Some Proof else dividing f
+
+-- Which given option can't stand beside this one. A proof isn't written of parts, nor of all optima, nor of consequences, and it has
+-- the answers that `--quiet` leaves out. Where the program is divided nothing is solved: only `--make` has a meaning there.
 abbrev pub rival_of : Found → Name → Option Name
-rival_of f Proof = if is_some f.split then Some Split else (if f.all_optima then Some OptAll else (if seeks_consequences f.mode then Some Mode else None))
-rival_of f Split = if f.proof then Some Split else None
-rival_of f OptAll = if f.proof then Some OptAll else None
-rival_of f _ = None
+rival_of f Proof = if is_some f.split then Some Split else (if f.all_optima then Some OptAll else (if f.quiet then Some Quiet
+    else (if seeks_consequences f.mode then Some Mode else None)))
+rival_of f OptAll = proving_or_dividing f
+rival_of f Quiet = proving_or_dividing f
+rival_of f Split = solving f
+rival_of f Make = None
+rival_of f _ = dividing f
 
 -- With a proof neither all optima nor consequences are asked for.
 abbrev pub AreApart : Found → Type 0
@@ -56,6 +79,7 @@ found_with f Budget t = option_map (λ n. record f { budget = Some n }) (number_
 found_with f Models t = option_map (λ n. record f { models = Some n }) (number_within 0 9223372036854775807 t)
 found_with f Make t = option_map (λ n. record f { make = Some n }) (number_within 3 2000 t)
 found_with f OptAll t = None
+found_with f Quiet t = None
 found_with f Stats t = None
 found_with f Progress t = None
 found_with f Proof t = None
@@ -69,6 +93,7 @@ options_of f = record {
   budget = unwrap_or f.budget 9223372036854775807;
   models = unwrap_or f.models 0;
   all_optima = f.all_optima;
+  quiet = f.quiet;
   make = f.make;
   stats = f.stats;
   progress = f.progress;
@@ -78,4 +103,4 @@ options_of f = record {
 
 -- nothing was found yet
 abbrev pub start : State
-start = record { found = record { workers = None; mode = None; budget = None; models = None; all_optima = false; make = None; stats = false; progress = false; proof = false; split = None }; awaits = awaits.Option }
+start = record { found = record { workers = None; mode = None; budget = None; models = None; all_optima = false; quiet = false; make = None; stats = false; progress = false; proof = false; split = None }; awaits = awaits.Option }

@@ -3,3 +3,4 @@ pub mod Names
 pub mod Values
 pub mod Found
 pub mod Given
+pub mod Hints

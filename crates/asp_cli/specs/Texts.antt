@@ -1,49 +1,63 @@
 -- The texts of help, of the version and of how the program is called.
 use Rattle.std.specs.Prelude.{ℕ, List, ◌++◌, codes}
 
-abbrev pub usage_line : List ℕ
-usage_line = codes "usage: aspenum [--workers 1..64] [--mode auto|enum|opt|brave|cautious] [--budget N] [--make 3..2000] [--stats] [--progress] [--proof] [--models N] [--opt-all] [--split 1..100000]"
+unfoldable pub usage_lines : List ℕ
+usage_lines = codes "usage: aspenum [--mode auto|enum|opt|brave|cautious] [--models N] [--opt-all]\n"
+    ++ codes "               [--workers 1..64] [--budget N] [--quiet] [--proof]\n"
+    ++ codes "               [--split 1..100000] [--make 3..2000] [--stats] [--progress]"
 
 -- the program's name and version
 abbrev pub version_line : List ℕ
 version_line = codes "aspenum 0.1.0\n"
 
--- the page of help, before the usage line
+-- the page of help, before the usage lines
 abbrev pub page_front : List ℕ
 page_front = codes "aspenum: all stable models of a ground logic program, or one of least cost\n\n"
 
--- and behind it
+-- and after them
 unfoldable pub page_back : List ℕ
 page_back = codes "\n"
     ++ codes "       aspenum --help | --version\n"
     ++ codes "\n"
-    ++ codes "The program is read from standard input, in the format aspif 1.0 that gringo writes.\n"
+    ++ codes "The program is read from standard input, in the format aspif 1.0 that gringo\n"
+    ++ codes "writes.\n"
     ++ codes "\n"
-    ++ codes "Options, each at most once, its value as the next word or behind '=':\n"
-    ++ codes "  --mode MODE    enum: all answers. opt: one of least cost. auto, the default: opt\n"
-    ++ codes "                 where the program has a minimize statement, and else enum. brave: the\n"
-    ++ codes "                 atoms in some answer. cautious: those in every one; not beside --proof\n"
-    ++ codes "  --budget N     at most N conflicts, 0 to 9223372036854775807; the default is the greatest\n"
-    ++ codes "  --models N     end with N answers; 0, the default, is no limit. An optimisation takes\n"
-    ++ codes "                 notice of it only with --opt-all, brave and cautious never\n"
-    ++ codes "  --opt-all      an optimisation writes all answers of least cost; not beside --proof\n"
-    ++ codes "  --make N       solve a ring of N nodes, 3 to 2000, and read no program\n"
-    ++ codes "  --workers N    threads that search, 1 to 64; the default is 1\n"
-    ++ codes "  --stats        write counts of the run to standard error\n"
-    ++ codes "  --progress     write a line to standard error when the conflicts or the answers have\n"
-    ++ codes "                 doubled, and for each cheaper answer\n"
-    ++ codes "  --proof        write the proof of a finished run, for aspcheck, in place of its results\n"
-    ++ codes "  --split N      divide the program and solve nothing: write at most N lines, 1 to 100000,\n"
-    ++ codes "                 each the assumptions of one part; not beside --proof\n"
-    ++ codes "  --help, -h     write this page; the only word\n"
-    ++ codes "  --version      write the version; the only word\n"
+    ++ codes "Options, each at most once, its value as the next argument or, with a long\n"
+    ++ codes "name, after '=':\n"
+    ++ codes "  -e, --mode MODE   enum: all answers. opt: one of least cost. auto, the\n"
+    ++ codes "                    default: opt where the program has a minimize statement,\n"
+    ++ codes "                    and else enum. brave: the atoms in some answer. cautious:\n"
+    ++ codes "                    those in every one\n"
+    ++ codes "  -n, --models N    end with N answers; 0, the default, is no limit. An\n"
+    ++ codes "                    optimisation takes notice of it only with --opt-all, brave\n"
+    ++ codes "                    and cautious never\n"
+    ++ codes "  --opt-all         an optimisation writes all answers of least cost\n"
+    ++ codes "  -t, --workers N   threads that search, 1 to 64; the default is 1\n"
+    ++ codes "  --budget N        at most N conflicts, 0 to 9223372036854775807, the default\n"
+    ++ codes "  -q, --quiet       write no answers: only how many there are, the least cost,\n"
+    ++ codes "                    and the atoms of brave and cautious\n"
+    ++ codes "  --proof           write the proof of a finished run, for aspcheck, in place\n"
+    ++ codes "                    of its results; not beside --opt-all, --quiet, brave or\n"
+    ++ codes "                    cautious\n"
+    ++ codes "  --split N         divide the program and solve nothing: write at most N\n"
+    ++ codes "                    lines, 1 to 100000, each the assumptions of one part; of\n"
+    ++ codes "                    the other options only --make can be beside it\n"
+    ++ codes "  --make N          solve a ring of N nodes, 3 to 2000, and read no program\n"
+    ++ codes "  --stats           write counts of the run to standard error\n"
+    ++ codes "  --progress        write a line to standard error when the conflicts or the\n"
+    ++ codes "                    answers have doubled, and for each cheaper answer\n"
+    ++ codes "  -h, --help        write this page\n"
+    ++ codes "  --version         write the version\n"
+    ++ codes "\n"
+    ++ codes "As in clasp, --opt-mode=ignore is --mode enum, --opt-mode=opt is --mode opt,\n"
+    ++ codes "and --opt-mode=optN is --opt-all.\n"
     ++ codes "\n"
     ++ codes "Exit status:\n"
-    ++ codes "  30  all that was sought was found and written    64  the words are faulty\n"
-    ++ codes "  20  the program has no answer                    65  the text is refused\n"
-    ++ codes "  11  as many answers as asked for were written    66  reading failed\n"
-    ++ codes "  10  the budget was spent with an answer found    67  the text is too long\n"
-    ++ codes "   1  the budget was spent without one             74  writing failed\n"
+    ++ codes "  30  all that was sought was found and written   64  the arguments are wrong\n"
+    ++ codes "  20  the program has no answer                   65  the input is refused\n"
+    ++ codes "  11  as many answers as asked for were written   66  reading failed\n"
+    ++ codes "  10  the budget was spent with an answer found   67  the input is too long\n"
+    ++ codes "   1  the budget was spent without one            74  writing failed\n"
     ++ codes "   0  help, the version or parts were written\n"
     ++ codes "  33  memory ran out\n"
     ++ codes "\n"
@@ -54,4 +68,4 @@ page_back = codes "\n"
 
 -- the page of help
 abbrev pub help_page : List ℕ
-help_page = page_front ++ usage_line ++ page_back
+help_page = page_front ++ usage_lines ++ page_back

@@ -1,6 +1,6 @@
 //! The options that were found so far.
 ghost use Rattle.std.specs.Prelude.{◌≡◌, false, true, IfSome};
-ghost use Rattle.asp_cli.specs.Found.{AreApart, IsApart, clashes, found_with, has, options_of, rival_of, seeks_consequences};
+ghost use Rattle.asp_cli.specs.Found.{AreApart, IsApart, clashes, dividing, found_with, has, options_of, proving_or_dividing, rival_of, seeks_consequences, solving};
 ghost use Rattle.asp_cli.specs.Values.{IsCrew, IsPartCount, IsRing};
 
 use crate::Options;
@@ -23,6 +23,8 @@ pub struct Found {
     pub models: Option<u64>,
     /// Whether all optima were asked for.
     pub all_optima: bool,
+    /// Whether the closing lines alone were asked for.
+    pub quiet: bool,
     /// The number of the example program that is to be written.
     pub make: Option<u32>,
     /// Whether counts of the run were asked for.
@@ -45,6 +47,7 @@ pub fn has(found: &Found, name: Name) -> bool
         Name::Budget => found.budget.is_some(),
         Name::Models => found.models.is_some(),
         Name::OptAll => found.all_optima,
+        Name::Quiet => found.quiet,
         Name::Make => found.make.is_some(),
         Name::Stats => found.stats,
         Name::Progress => found.progress,
@@ -70,7 +73,54 @@ pub fn clashes(found: &Found) -> bool
     found.proof && seeks_consequences(found.mode)
 }
 
-/// Which option can't stand beside `--proof`, where the one of them was given and the other is this.
+// The first option that was given of those that say how to solve.
+fn solving(found: &Found) -> Option<Name>
+    ensures { result ≡ solving found.now }
+{
+    if found.mode.is_some() {
+        Some(Name::Mode)
+    } else if found.models.is_some() {
+        Some(Name::Models)
+    } else if found.all_optima {
+        Some(Name::OptAll)
+    } else if found.workers.is_some() {
+        Some(Name::Workers)
+    } else if found.budget.is_some() {
+        Some(Name::Budget)
+    } else if found.quiet {
+        Some(Name::Quiet)
+    } else if found.proof {
+        Some(Name::Proof)
+    } else if found.stats {
+        Some(Name::Stats)
+    } else if found.progress {
+        Some(Name::Progress)
+    } else {
+        None
+    }
+}
+
+fn dividing(found: &Found) -> Option<Name>
+    ensures { result ≡ dividing found.now }
+{
+    if found.split.is_some() {
+        Some(Name::Split)
+    } else {
+        None
+    }
+}
+
+fn proving_or_dividing(found: &Found) -> Option<Name>
+    ensures { result ≡ proving_or_dividing found.now }
+{
+    if found.proof {
+        Some(Name::Proof)
+    } else {
+        dividing(found)
+    }
+}
+
+/// Which given option can't stand beside this one.
 pub fn rival(found: &Found, name: Name) -> Option<Name>
     ensures { result ≡ rival_of found.now name }
 {
@@ -80,14 +130,18 @@ pub fn rival(found: &Found, name: Name) -> Option<Name>
                 Some(Name::Split)
             } else if found.all_optima {
                 Some(Name::OptAll)
+            } else if found.quiet {
+                Some(Name::Quiet)
             } else if seeks_consequences(found.mode) {
                 Some(Name::Mode)
             } else {
                 None
             }
         }
-        Name::Split | Name::OptAll => { if found.proof { Some(name) } else { None } }
-        _ => None,
+        Name::OptAll | Name::Quiet => proving_or_dividing(found),
+        Name::Split => solving(found),
+        Name::Make => None,
+        _ => dividing(found),
     }
 }
 
@@ -135,7 +189,7 @@ pub fn with(found: Found, name: Name, text: &str) -> Option<Found>
                 ..found
             })
         }
-        Name::OptAll | Name::Stats | Name::Progress | Name::Proof => None,
+        Name::OptAll | Name::Quiet | Name::Proof | Name::Stats | Name::Progress => None,
         Name::Split => {
             let parts = number(text, 1, MOST_PARTS)?;
             Some(Found {
@@ -160,6 +214,7 @@ pub fn options(found: &Found) -> Options
         budget: found.budget.unwrap_or(MOST_UNITS),
         models: found.models.unwrap_or(0),
         all_optima: found.all_optima,
+        quiet: found.quiet,
         make: found.make,
         stats: found.stats,
         progress: found.progress,

@@ -2,17 +2,19 @@
 #![tactic(auto)]
 
 mod found;
+mod hints;
 mod names;
 mod texts;
 mod values;
 mod walk;
 
 ghost use Rattle.std.specs.Prelude.{◌≡◌, IfOk, map, string_bytes};
-ghost use Rattle.asp_cli.specs.Given.{asks_help, asks_version, given_after, given_alone, given_by, given_of, walked, words_give};
-ghost use Rattle.asp_cli.specs.Found.{IsApart, start};
+ghost use Rattle.asp_cli.specs.Given.{asks_help, asks_version, given_of, words_give};
+ghost use Rattle.asp_cli.specs.Found.{IsApart};
 ghost use Rattle.asp_cli.specs.Values.{IsCrew, IsPartCount, IsRing};
 
 use asp_model::results::Mode;
+pub use hints::{counterpart, nearest};
 pub use names::Name;
 pub use texts::{page_back, page_front, usage, version};
 
@@ -30,6 +32,8 @@ pub struct Options {
     pub models: u64,
     /// Whether an optimisation lists all answers of least cost. A proof isn't asked for then.
     pub all_optima: bool,
+    /// Whether the closing lines alone are written, and no answer is made into text.
+    pub quiet: bool,
     /// The number of nodes of the ring that is solved in place of a program that is read, if one is: 3 to 2000.
     pub make: Option<u32>,
     /// Whether the notes get counts of the run.
@@ -48,20 +52,18 @@ pub struct Options {
 pub enum WordFault<'a> {
     /// Not even the program's name is there.
     NoWords,
-    /// The word looks like an option, and is none.
+    /// The word looks like an option, and is none; without its value.
     Unknown(&'a str),
     /// The word is neither an option nor the value of one.
     Unexpected(&'a str),
-    /// The word asks for help or the version, beside other words.
-    NotAlone(&'a str),
     /// The option was given before.
     Twice(Name),
     /// The option is the last word, without its value.
     Missing(Name),
     /// The option doesn't take this value.
     Value(Name, &'a str),
-    /// The option is given beside `--proof`, and can't stand there.
-    Rivals(Name),
+    /// The first was given, and the second can't stand beside it.
+    Rivals(Name, Name),
 }
 
 /// Why the words of a command line give no options.
@@ -69,9 +71,9 @@ pub enum WordFault<'a> {
 pub enum CliError<'a> {
     /// The words are faulty.
     Usage(WordFault<'a>),
-    /// The one word after the program's name asks for help.
+    /// A word asks for help, and none before it is faulty.
     Help,
-    /// The one word after the program's name asks for the version.
+    /// A word asks for the version, and none before it is faulty.
     Version,
 }
 
@@ -89,52 +91,8 @@ pub(crate) fn asks_for_version(word: &str) -> bool
     word == "--version"
 }
 
-fn read<'a>(words: &'a [String]) -> Result<Options, CliError<'a>>
-    ensures answers { given_of result ≡ given_by (walked start (map string_bytes words.entry.now)) }
-    ensures ring { IfOk result (λ o. IsRing o.make) }
-    ensures crew { IfOk result (λ o. IsCrew o.workers) }
-    ensures parts { IfOk result (λ o. IsPartCount o.split) }
-    ensures apart { IfOk result IsApart }
-{
-    match walk::walk(words) {
-        Ok(options) => Ok(options),
-        Err(fault) => Err(CliError::Usage(fault)),
-    }
-}
-
-// What one word alone gives.
-fn alone<'a>(word: &str, words: &'a [String]) -> Result<Options, CliError<'a>>
-    ensures answers { given_of result ≡ given_alone word.now (map string_bytes words.entry.now) }
-    ensures ring { IfOk result (λ o. IsRing o.make) }
-    ensures crew { IfOk result (λ o. IsCrew o.workers) }
-    ensures parts { IfOk result (λ o. IsPartCount o.split) }
-    ensures apart { IfOk result IsApart }
-{
-    if asks_for_help(word) {
-        Err(CliError::Help)
-    } else if asks_for_version(word) {
-        Err(CliError::Version)
-    } else {
-        read(words)
-    }
-}
-
-fn after_name<'a>(words: &'a [String]) -> Result<Options, CliError<'a>>
-    ensures answers { given_of result ≡ given_after (map string_bytes words.entry.now) }
-    ensures ring { IfOk result (λ o. IsRing o.make) }
-    ensures crew { IfOk result (λ o. IsCrew o.workers) }
-    ensures parts { IfOk result (λ o. IsPartCount o.split) }
-    ensures apart { IfOk result IsApart }
-{
-    match words {
-        [] => read(words),
-        [word] => alone(word.as_str(), words),
-        [_, _, ..] => read(words),
-    }
-}
-
-/// What the words of a command line give, the program's name first. Help and Version come exactly where one word
-/// follows the name and asks for them, Usage exactly where the words give neither these nor options, with the first fault.
+/// What the words of a command line give, the program's name first. From the left the first word decides that asks for help
+/// or the version, or is faulty; where none does, they give options.
 pub fn words<'a>(words: &'a [String]) -> Result<Options, CliError<'a>>
     ensures answers { given_of result ≡ words_give (map string_bytes words.entry.now) }
     ensures ring { IfOk result (λ o. IsRing o.make) }
@@ -144,6 +102,6 @@ pub fn words<'a>(words: &'a [String]) -> Result<Options, CliError<'a>>
 {
     match words {
         [] => Err(CliError::Usage(WordFault::NoWords)),
-        [_, rest @ ..] => after_name(rest),
+        [_, rest @ ..] => walk::walk(rest),
     }
 }

@@ -1,20 +1,21 @@
-//! The options' names.
+//! The options' names, and other words for them.
 ghost use Rattle.std.specs.Prelude.{◌≡◌};
-ghost use Rattle.asp_cli.specs.Names.{named, takes_of, text_of};
+ghost use Rattle.asp_cli.specs.Names.{meant, named, takes_of, text_of};
 
 /// An option.
 #[derive(Clone, Copy)]
 pub enum Name {
-    Workers,
     Mode,
-    Budget,
     Models,
     OptAll,
+    Workers,
+    Budget,
+    Quiet,
+    Proof,
+    Split,
     Make,
     Stats,
     Progress,
-    Proof,
-    Split,
 }
 
 impl Name {
@@ -23,16 +24,17 @@ impl Name {
         ensures { result.now ≡ text_of self }
     {
         match self {
-            Name::Workers => "--workers",
             Name::Mode => "--mode",
-            Name::Budget => "--budget",
             Name::Models => "--models",
             Name::OptAll => "--opt-all",
+            Name::Workers => "--workers",
+            Name::Budget => "--budget",
+            Name::Quiet => "--quiet",
+            Name::Proof => "--proof",
+            Name::Split => "--split",
             Name::Make => "--make",
             Name::Stats => "--stats",
             Name::Progress => "--progress",
-            Name::Proof => "--proof",
-            Name::Split => "--split",
         }
     }
 
@@ -41,12 +43,12 @@ impl Name {
         ensures { result.now ≡ takes_of self }
     {
         match self {
-            Name::Workers => "a number from 1 to 64",
             Name::Mode => "auto, enum, opt, brave or cautious",
-            Name::Budget | Name::Models => "a number up to 9223372036854775807",
-            Name::Make => "a number from 3 to 2000",
-            Name::OptAll | Name::Stats | Name::Progress | Name::Proof => "no value",
+            Name::Models | Name::Budget => "a number up to 9223372036854775807",
+            Name::Workers => "a number from 1 to 64",
             Name::Split => "a number from 1 to 100000",
+            Name::Make => "a number from 3 to 2000",
+            Name::OptAll | Name::Quiet | Name::Proof | Name::Stats | Name::Progress => "no value",
         }
     }
 }
@@ -55,27 +57,52 @@ impl Name {
 pub fn named(word: &str) -> Option<Name>
     ensures { result ≡ named word.now }
 {
-    if word == Name::Workers.text() {
-        Some(Name::Workers)
-    } else if word == Name::Mode.text() {
+    if word == Name::Mode.text() {
         Some(Name::Mode)
-    } else if word == Name::Budget.text() {
-        Some(Name::Budget)
     } else if word == Name::Models.text() {
         Some(Name::Models)
     } else if word == Name::OptAll.text() {
         Some(Name::OptAll)
+    } else if word == Name::Workers.text() {
+        Some(Name::Workers)
+    } else if word == Name::Budget.text() {
+        Some(Name::Budget)
+    } else if word == Name::Quiet.text() {
+        Some(Name::Quiet)
+    } else if word == Name::Proof.text() {
+        Some(Name::Proof)
+    } else if word == Name::Split.text() {
+        Some(Name::Split)
     } else if word == Name::Make.text() {
         Some(Name::Make)
     } else if word == Name::Stats.text() {
         Some(Name::Stats)
     } else if word == Name::Progress.text() {
         Some(Name::Progress)
-    } else if word == Name::Proof.text() {
-        Some(Name::Proof)
-    } else if word == Name::Split.text() {
-        Some(Name::Split)
     } else {
         None
+    }
+}
+
+/// The word for which this one stands: the short forms, and what clasp's users write, have ours.
+pub fn meant<'a>(word: &'a str) -> &'a str
+    ensures { result.now ≡ meant word.entry.now }
+{
+    if word == "-e" {
+        Name::Mode.text()
+    } else if word == "-n" {
+        Name::Models.text()
+    } else if word == "-t" {
+        Name::Workers.text()
+    } else if word == "-q" {
+        Name::Quiet.text()
+    } else if word == "--opt-mode=ignore" {
+        "--mode=enum"
+    } else if word == "--opt-mode=opt" {
+        "--mode=opt"
+    } else if word == "--opt-mode=optN" {
+        "--opt-all"
+    } else {
+        word
     }
 }

@@ -1,10 +1,11 @@
 //! The texts of help, of the version and of how the program is called.
 ghost use Rattle.std.specs.Prelude.{◌≡◌};
-ghost use Rattle.asp_cli.specs.Texts.{page_back, page_front, usage_line, version_line};
+ghost use Rattle.asp_cli.specs.Texts.{page_back, page_front, usage_lines, version_line};
 
-/// The line that tells how the program is called.
-pub const USAGE: &str =
-    "usage: aspenum [--workers 1..64] [--mode auto|enum|opt|brave|cautious] [--budget N] [--make 3..2000] [--stats] [--progress] [--proof] [--models N] [--opt-all] [--split 1..100000]";
+/// The lines that tell how the program is called.
+pub const USAGE: &str = "usage: aspenum [--mode auto|enum|opt|brave|cautious] [--models N] [--opt-all]\n\
+\x20              [--workers 1..64] [--budget N] [--quiet] [--proof]\n\
+\x20              [--split 1..100000] [--make 3..2000] [--stats] [--progress]";
 
 /// The program's name and version.
 pub const VERSION: &str = "aspenum 0.1.0\n";
@@ -15,44 +16,57 @@ const PAGE_FRONT: &str =
 const PAGE_BACK: &str = "\n\
 \x20      aspenum --help | --version\n\
 \n\
-The program is read from standard input, in the format aspif 1.0 that gringo writes.\n\
+The program is read from standard input, in the format aspif 1.0 that gringo\n\
+writes.\n\
 \n\
-Options, each at most once, its value as the next word or behind '=':\n\
-\x20 --mode MODE    enum: all answers. opt: one of least cost. auto, the default: opt\n\
-\x20                where the program has a minimize statement, and else enum. brave: the\n\
-\x20                atoms in some answer. cautious: those in every one; not beside --proof\n\
-\x20 --budget N     at most N conflicts, 0 to 9223372036854775807; the default is the greatest\n\
-\x20 --models N     end with N answers; 0, the default, is no limit. An optimisation takes\n\
-\x20                notice of it only with --opt-all, brave and cautious never\n\
-\x20 --opt-all      an optimisation writes all answers of least cost; not beside --proof\n\
-\x20 --make N       solve a ring of N nodes, 3 to 2000, and read no program\n\
-\x20 --workers N    threads that search, 1 to 64; the default is 1\n\
-\x20 --stats        write counts of the run to standard error\n\
-\x20 --progress     write a line to standard error when the conflicts or the answers have\n\
-\x20                doubled, and for each cheaper answer\n\
-\x20 --proof        write the proof of a finished run, for aspcheck, in place of its results\n\
-\x20 --split N      divide the program and solve nothing: write at most N lines, 1 to 100000,\n\
-\x20                each the assumptions of one part; not beside --proof\n\
-\x20 --help, -h     write this page; the only word\n\
-\x20 --version      write the version; the only word\n\
+Options, each at most once, its value as the next argument or, with a long\n\
+name, after '=':\n\
+\x20 -e, --mode MODE   enum: all answers. opt: one of least cost. auto, the\n\
+\x20                   default: opt where the program has a minimize statement,\n\
+\x20                   and else enum. brave: the atoms in some answer. cautious:\n\
+\x20                   those in every one\n\
+\x20 -n, --models N    end with N answers; 0, the default, is no limit. An\n\
+\x20                   optimisation takes notice of it only with --opt-all, brave\n\
+\x20                   and cautious never\n\
+\x20 --opt-all         an optimisation writes all answers of least cost\n\
+\x20 -t, --workers N   threads that search, 1 to 64; the default is 1\n\
+\x20 --budget N        at most N conflicts, 0 to 9223372036854775807, the default\n\
+\x20 -q, --quiet       write no answers: only how many there are, the least cost,\n\
+\x20                   and the atoms of brave and cautious\n\
+\x20 --proof           write the proof of a finished run, for aspcheck, in place\n\
+\x20                   of its results; not beside --opt-all, --quiet, brave or\n\
+\x20                   cautious\n\
+\x20 --split N         divide the program and solve nothing: write at most N\n\
+\x20                   lines, 1 to 100000, each the assumptions of one part; of\n\
+\x20                   the other options only --make can be beside it\n\
+\x20 --make N          solve a ring of N nodes, 3 to 2000, and read no program\n\
+\x20 --stats           write counts of the run to standard error\n\
+\x20 --progress        write a line to standard error when the conflicts or the\n\
+\x20                   answers have doubled, and for each cheaper answer\n\
+\x20 -h, --help        write this page\n\
+\x20 --version         write the version\n\
+\n\
+As in clasp, --opt-mode=ignore is --mode enum, --opt-mode=opt is --mode opt,\n\
+and --opt-mode=optN is --opt-all.\n\
 \n\
 Exit status:\n\
-\x20 30  all that was sought was found and written    64  the words are faulty\n\
-\x20 20  the program has no answer                    65  the text is refused\n\
-\x20 11  as many answers as asked for were written    66  reading failed\n\
-\x20 10  the budget was spent with an answer found    67  the text is too long\n\
-\x20  1  the budget was spent without one             74  writing failed\n\
+\x20 30  all that was sought was found and written   64  the arguments are wrong\n\
+\x20 20  the program has no answer                   65  the input is refused\n\
+\x20 11  as many answers as asked for were written   66  reading failed\n\
+\x20 10  the budget was spent with an answer found   67  the input is too long\n\
+\x20  1  the budget was spent without one            74  writing failed\n\
 \x20  0  help, the version or parts were written\n\
 \x20 33  memory ran out\n\
 \n\
 Example:\n\
 \x20 gringo colouring.lp | aspenum --mode enum\n\
 \n\
-The manual is aspenum(1).\n";
+The manual is aspenum(1).\n\
+";
 
-/// The line that tells how the program is called, without its end.
+/// The lines that tell how the program is called, without the end of the last.
 pub fn usage() -> &'static [u8]
-    ensures { result.now ≡ usage_line }
+    ensures { result.now ≡ usage_lines }
 {
     USAGE.as_bytes()
 }
@@ -64,14 +78,14 @@ pub fn version() -> &'static [u8]
     VERSION.as_bytes()
 }
 
-/// What the page of help has before the usage line.
+/// What the page of help has before the usage lines.
 pub fn page_front() -> &'static [u8]
     ensures { result.now ≡ page_front }
 {
     PAGE_FRONT.as_bytes()
 }
 
-/// What the page of help has behind the usage line.
+/// What the page of help has after the usage lines.
 pub fn page_back() -> &'static [u8]
     ensures { result.now ≡ page_back }
 {

@@ -1,12 +1,12 @@
 //! The walk over the words behind the program's name.
 ghost use Rattle.std.specs.Prelude.{◌≡◌, None, IfOk, IfSome, map, option_map, string_bytes};
 ghost use Rattle.asp_cli.specs.Found.{AreApart, IsApart, rival_of, start};
-ghost use Rattle.asp_cli.specs.Given.{after, cut, ended, fault_seen, fresh, looks_like_option, seen, stray, told_alone, told_option, told_value, told_with_value, walked};
+ghost use Rattle.asp_cli.specs.Given.{after, cut, ended, fresh, looks_like_option, refused, seen, stray, told_alone, told_option, told_value, told_with_value, walked};
 ghost use Rattle.asp_cli.specs.Values.{IsCrew, IsPartCount, IsRing};
 
 use crate::found::{Found, clashes, has, options, rival, with};
-use crate::names::{Name, named};
-use crate::{Options, WordFault, asks_for_help, asks_for_version};
+use crate::names::{Name, meant, named};
+use crate::{CliError, Options, WordFault, asks_for_help, asks_for_version};
 
 /// What the next word may be.
 #[derive(Clone, Copy)]
@@ -37,6 +37,7 @@ fn start() -> State
         budget: None,
         models: None,
         all_optima: false,
+        quiet: false,
         make: None,
         stats: false,
         progress: false,
@@ -59,16 +60,18 @@ fn looks_like_option(word: &str) -> bool
     }
 }
 
-// The fault of a word that names no option.
-fn stray<'a>(word: &'a str) -> WordFault<'a>
-    ensures { fault_seen result ≡ stray word.entry.now }
+// What a word gives whose name, what stands before its value, names no option.
+fn stray<'a>(name: &'a str, word: &'a str) -> CliError<'a>
+    ensures { refused result ≡ stray name.entry.now word.entry.now }
 {
-    if asks_for_help(word) || asks_for_version(word) {
-        WordFault::NotAlone(word)
+    if asks_for_help(name) {
+        CliError::Help
+    } else if asks_for_version(name) {
+        CliError::Version
     } else if looks_like_option(word) {
-        WordFault::Unknown(word)
+        CliError::Usage(WordFault::Unknown(name))
     } else {
-        WordFault::Unexpected(word)
+        CliError::Usage(WordFault::Unexpected(word))
     }
 }
 
@@ -80,25 +83,25 @@ fn cut<'a>(word: &'a str) -> Option<(&'a str, &'a str)>
 }
 
 // The option of this name, which the word gives for the first time, and which may stand beside the others.
-fn fresh<'a>(found: &Found, name: &str, word: &'a str) -> Result<Name, WordFault<'a>>
-    ensures value { seen result ≡ fresh found.now name.now word.entry.now }
+fn fresh<'a>(found: &Found, name: &'a str, word: &'a str) -> Result<Name, CliError<'a>>
+    ensures value { seen result ≡ fresh found.now name.entry.now word.entry.now }
     ensures apart { IfOk result (λ n. rival_of found.now n ≡ None) }
 {
     match named(name) {
-        None => Err(stray(word)),
+        None => Err(stray(name, word)),
         Some(name) => {
             if has(found, name) {
-                return Err(WordFault::Twice(name));
+                return Err(CliError::Usage(WordFault::Twice(name)));
             }
             match rival(found, name) {
                 None => Ok(name),
-                Some(rival) => Err(WordFault::Rivals(rival)),
+                Some(rival) => Err(CliError::Usage(WordFault::Rivals(rival, name))),
             }
         }
     }
 }
 
-fn value<'a>(found: Found, name: Name, text: &'a str) -> Result<State, WordFault<'a>>
+fn value<'a>(found: Found, name: Name, text: &'a str) -> Result<State, CliError<'a>>
     ensures value { seen result ≡ told_value found name text.entry.now }
     ensures ring { IsRing found.make → IfOk result (λ s. IsRing s.found.make) }
     ensures crew { IfSome found.workers IsCrew → IfOk result (λ s. IfSome s.found.workers IsCrew) }
@@ -108,7 +111,7 @@ fn value<'a>(found: Found, name: Name, text: &'a str) -> Result<State, WordFault
     match with(found, name, text) {
         Some(found) => {
             if clashes(&found) {
-                Err(WordFault::Rivals(Name::Mode))
+                Err(CliError::Usage(WordFault::Rivals(Name::Proof, Name::Mode)))
             } else {
                 Ok(State {
                     found,
@@ -116,18 +119,18 @@ fn value<'a>(found: Found, name: Name, text: &'a str) -> Result<State, WordFault
                 })
             }
         }
-        None => Err(WordFault::Value(name, text)),
+        None => Err(CliError::Usage(WordFault::Value(name, text))),
     }
 }
 
 // An option with its value behind `=`.
 fn with_value<'a>(
     found: Found,
-    name: &str,
+    name: &'a str,
     text: &'a str,
     word: &'a str,
-) -> Result<State, WordFault<'a>>
-    ensures value { seen result ≡ told_with_value found name.now text.entry.now word.entry.now }
+) -> Result<State, CliError<'a>>
+    ensures value { seen result ≡ told_with_value found name.entry.now text.entry.now word.entry.now }
     ensures ring { IsRing found.make → IfOk result (λ s. IsRing s.found.make) }
     ensures crew { IfSome found.workers IsCrew → IfOk result (λ s. IfSome s.found.workers IsCrew) }
     ensures parts { IsPartCount found.split → IfOk result (λ s. IsPartCount s.found.split) }
@@ -135,12 +138,12 @@ fn with_value<'a>(
 {
     match fresh(&found, name, word) {
         Ok(name) => value(found, name, text),
-        Err(fault) => Err(fault),
+        Err(error) => Err(error),
     }
 }
 
 // An option in a word of its own.
-fn alone<'a>(found: Found, word: &'a str) -> Result<State, WordFault<'a>>
+fn alone<'a>(found: Found, word: &'a str) -> Result<State, CliError<'a>>
     ensures value { seen result ≡ told_alone found word.entry.now }
     ensures ring { IsRing found.make → IfOk result (λ s. IsRing s.found.make) }
     ensures crew { IfSome found.workers IsCrew → IfOk result (λ s. IfSome s.found.workers IsCrew) }
@@ -158,6 +161,13 @@ fn alone<'a>(found: Found, word: &'a str) -> Result<State, WordFault<'a>>
         Ok(Name::OptAll) => Ok(State {
             found: Found {
                 all_optima: true,
+                ..found
+            },
+            awaits: Awaits::Option,
+        }),
+        Ok(Name::Quiet) => Ok(State {
+            found: Found {
+                quiet: true,
                 ..found
             },
             awaits: Awaits::Option,
@@ -180,11 +190,11 @@ fn alone<'a>(found: Found, word: &'a str) -> Result<State, WordFault<'a>>
             found,
             awaits: Awaits::Value(name),
         }),
-        Err(fault) => Err(fault),
+        Err(error) => Err(error),
     }
 }
 
-fn option<'a>(found: Found, word: &'a str) -> Result<State, WordFault<'a>>
+fn option<'a>(found: Found, word: &'a str) -> Result<State, CliError<'a>>
     ensures value { seen result ≡ told_option found word.entry.now }
     ensures ring { IsRing found.make → IfOk result (λ s. IsRing s.found.make) }
     ensures crew { IfSome found.workers IsCrew → IfOk result (λ s. IfSome s.found.workers IsCrew) }
@@ -197,14 +207,15 @@ fn option<'a>(found: Found, word: &'a str) -> Result<State, WordFault<'a>>
             awaits: Awaits::Nothing,
         });
     }
-    match cut(word) {
-        Some((name, text)) => with_value(found, name, text, word),
-        None => alone(found, word),
+    let meant = meant(word);
+    match cut(meant) {
+        Some((name, text)) => with_value(found, name, text, meant),
+        None => alone(found, meant),
     }
 }
 
 // What is said after one more word.
-fn after<'a>(state: State, word: &'a str) -> Result<State, WordFault<'a>>
+fn after<'a>(state: State, word: &'a str) -> Result<State, CliError<'a>>
     ensures value { seen result ≡ after state word.entry.now }
     ensures ring { IsRing state.found.make → IfOk result (λ s. IsRing s.found.make) }
     ensures crew { IfSome state.found.workers IsCrew → IfOk result (λ s. IfSome s.found.workers IsCrew) }
@@ -214,11 +225,11 @@ fn after<'a>(state: State, word: &'a str) -> Result<State, WordFault<'a>>
     match state.awaits {
         Awaits::Option => option(state.found, word),
         Awaits::Value(name) => value(state.found, name, word),
-        Awaits::Nothing => Err(WordFault::Unexpected(word)),
+        Awaits::Nothing => Err(CliError::Usage(WordFault::Unexpected(word))),
     }
 }
 
-fn ended<'a>(state: &State) -> Result<Options, WordFault<'a>>
+fn ended<'a>(state: &State) -> Result<Options, CliError<'a>>
     ensures value { seen result ≡ ended state.now }
     ensures ring { IsRing state.now.found.make → IfOk result (λ o. IsRing o.make) }
     ensures crew { IfSome state.now.found.workers IsCrew → IfOk result (λ o. IsCrew o.workers) }
@@ -226,13 +237,13 @@ fn ended<'a>(state: &State) -> Result<Options, WordFault<'a>>
     ensures apart { AreApart state.now.found → IfOk result IsApart }
 {
     match state.awaits {
-        Awaits::Value(name) => Err(WordFault::Missing(name)),
+        Awaits::Value(name) => Err(CliError::Usage(WordFault::Missing(name))),
         _ => Ok(options(&state.found)),
     }
 }
 
-/// The options that the words give, or the first fault.
-pub fn walk<'a>(words: &'a [String]) -> Result<Options, WordFault<'a>>
+/// The options that the words give, or the first word's answer that gives none.
+pub fn walk<'a>(words: &'a [String]) -> Result<Options, CliError<'a>>
     ensures value { seen result ≡ walked start (map string_bytes words.entry.now) }
     ensures ring { IfOk result (λ o. IsRing o.make) }
     ensures crew { IfOk result (λ o. IsCrew o.workers) }

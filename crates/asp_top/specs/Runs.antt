@@ -128,9 +128,9 @@ pub record IsSolved (given : Options) (a : Around) (report : Option Report) : Ty
   pub says : SaysReport program (ask_of given program) (report_with (set_aside given program) done) done.results.end
   pub proof : HasProof given.proof done
 
--- the lines of a ring's answers are left out
+-- the closing lines alone are written of a ring, and where they were asked for
 abbrev pub is_brief : Options → Bool
-is_brief given = is_some given.make
+is_brief given = is_some given.make || given.quiet
 
 -- exactly the text of the report was written
 pub record IsWritten (given : Options) (a : Around) (report : Option Report) (end : End) (model : Bool) : Type 0 where

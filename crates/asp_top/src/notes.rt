@@ -58,7 +58,7 @@ fn write_not_text<N: Sink>(notes: &mut N) -> Result<(), Failed>
     ensures { Writes (N.held notes.old) (N.held notes.new) (N.faults notes.old) (N.faults notes.new)
         result (note_of Status.Usage) }
 {
-    write(notes, b"aspenum: a word is not UTF-8")?;
+    write(notes, b"aspenum: an argument is not UTF-8")?;
     write_usage(notes)
 }
 

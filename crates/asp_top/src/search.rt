@@ -5,7 +5,7 @@ ghost use Rattle.asp_cli.specs.Values.{IsCrew};
 ghost use Rattle.asp_crew_laws.specs.Proofs.{HasProof};
 ghost use Rattle.asp_crew_laws.specs.Reports.{IsReport};
 ghost use Rattle.asp_model.specs.declared.program.Program.{Program};
-ghost use Rattle.asp_top.specs.Runs.{Concludes, IsCounted, Solves, TellsFaults, ask_of, prepared_of, told_with};
+ghost use Rattle.asp_top.specs.Runs.{Concludes, IsCounted, Solves, TellsFaults, ask_of, is_brief, prepared_of, told_with};
 
 use crate::counts::Tally;
 use crate::deliver::{deliver, failed};
@@ -41,6 +41,13 @@ fn ask_of(options: &Options, program: &Program) -> Ask
         models: options.models,
         all_optima: options.all_optima,
     }
+}
+
+// Whether the closing lines alone are written: of a ring, and where they were asked for.
+fn is_brief(options: &Options) -> bool
+    ensures { result ≡ is_brief options.now }
+{
+    options.make.is_some() || options.quiet
 }
 
 // The report with the facts among what is known.
@@ -107,7 +114,7 @@ pub fn solve<K: Sink, W: Watch>(
             conclude(
                 alloc,
                 sink,
-                options.make.is_some(),
+                is_brief(options),
                 program,
                 &prepared.facts,
                 report,
@@ -177,7 +184,7 @@ pub fn solve_by_crew<R: Threads + Wait + Sync, K: Sink, G: Gate + Sync, W: Watch
                 conclude(
                     alloc,
                     sink,
-                    options.make.is_some(),
+                    is_brief(options),
                     program,
                     &prepared.facts,
                     report,
