@@ -1,9 +1,11 @@
-# make             builds build/aspenum from the proved crates
-# make demo        a first look: builds the program without the proofs, in a minute, and solves examples/two_rules.aspif
-# make install     installs it with its manual and completion for bash, zsh and fish; PREFIX (/usr/local) and DESTDIR (none)
+# make demo        a first look: builds build/aspenum-unproved, the program without its proofs, and solves a small timetable
+#                  with it, or FILE=x.lp (grounded by gringo) or FILE=x.aspif
+# make test        every test and example, with programs that are built without their proofs
+# make             proves and builds build/aspenum and build/aspcheck; build/aspground is gringo and aspenum in one command
+# make install     installs them with their manuals and completion for bash, zsh and fish; PREFIX (/usr/local) and DESTDIR (none)
 # make uninstall   removes what that installed
 # make deb         builds a Debian package in build/
-# make check       the gate: every proof, the edits that must fail, the documents, every test and every example
+# make check       the gate: every proof, the edits that must fail, and the tests of make test with the proved programs
 # make edits       the edits that the gate leaves out; NAMES="asp_text asp_io" those of some crates
 # make clean       removes what was built
 
@@ -13,8 +15,8 @@ INSTALL ?= install
 
 SOURCES := crates.txt $(shell find crates -name out -prune -o \( -name '*.rt' -o -name '*.antt' \) -print)
 # The checker of proof texts is built where its crate is there.
-PROGRAMS := build/aspenum $(if $(wildcard crates/asp_checkprog/src/main.rt),build/aspcheck)
-PAGES := man/aspenum.1 $(wildcard man/aspcheck.1)
+PROGRAMS := build/aspenum $(if $(wildcard crates/asp_checkprog/src/main.rt),build/aspcheck) build/aspground
+PAGES := man/aspenum.1 $(wildcard man/aspcheck.1) man/aspground.1
 
 bin := $(DESTDIR)$(PREFIX)/bin
 share := $(DESTDIR)$(PREFIX)/share
@@ -28,6 +30,7 @@ all: $(PROGRAMS)
 
 build/aspenum: crates/asp_prog/out/asp_prog
 build/aspcheck: crates/asp_checkprog/out/asp_checkprog
+build/aspground: bin/aspground
 $(PROGRAMS):
 	@mkdir -p build
 	@cp $< $@
@@ -42,26 +45,31 @@ crates/asp_prog/out/asp_prog crates/asp_checkprog/out/asp_checkprog: $(SOURCES)
 
 need_rt = command -v rt > /dev/null || { echo "make: the command rt is missing: the Rattle kit proves and builds aspenum; CONTRIBUTING.md tells of it (1. Toolchain)" >&2; exit 1; }
 
-# Nothing is proved here: what the contracts ask for is tested while the program runs.
-demo:
+# Nothing is proved here. The code is what the proved program has, so it is as fast.
+build/aspenum-unproved build/aspcheck-unproved: $(SOURCES) tools/unproved.sh
 	@$(need_rt)
-	@mkdir -p build
-	@echo "Building without the proofs, for about a minute ('make' proves and builds build/aspenum, 'make check' runs the gate)."
-	@echo '$$ aspenum < examples/two_rules.aspif'
-	@cd crates/asp_prog && rt try < ../../examples/two_rules.aspif 2> ../../build/log; status=$$?; \
-	echo "status $$status"; test $$status -eq 30 || { tail -n 20 ../../build/log >&2; exit 1; }
+	@echo "Building $@ without its proofs, in one to three minutes."
+	@tools/unproved.sh $(if $(findstring aspcheck,$@),asp_checkprog) $@
+
+demo: build/aspenum-unproved
+	@tools/demo.sh $(CURDIR)/$< "$(FILE)"
+
+test: build/aspenum-unproved build/aspcheck-unproved
+	@tests/all.sh $(CURDIR)/build/aspenum-unproved $(CURDIR)/build/aspcheck-unproved
 
 install: all
 	$(INSTALL) -d $(bin) $(man) $(bash) $(zsh) $(fish)
 	$(INSTALL) -m 755 $(PROGRAMS) $(bin)
 	$(INSTALL) -m 644 $(PAGES) $(man)
 	$(INSTALL) -m 644 completion/aspenum.bash $(bash)/aspenum
-	$(INSTALL) -m 644 completion/_aspenum $(zsh)
+	ln -sf aspenum $(bash)/aspground
+	$(INSTALL) -m 644 completion/_aspenum completion/_aspground $(zsh)
 	$(INSTALL) -m 644 completion/aspenum.fish $(fish)
+	ln -sf aspenum.fish $(fish)/aspground.fish
 
 uninstall:
-	rm -f $(bin)/aspenum $(bin)/aspcheck $(man)/aspenum.1 $(man)/aspcheck.1
-	rm -f $(bash)/aspenum $(zsh)/_aspenum $(fish)/aspenum.fish
+	rm -f $(bin)/aspenum $(bin)/aspcheck $(bin)/aspground $(man)/aspenum.1 $(man)/aspcheck.1 $(man)/aspground.1
+	rm -f $(bash)/aspenum $(bash)/aspground $(zsh)/_aspenum $(zsh)/_aspground $(fish)/aspenum.fish $(fish)/aspground.fish
 
 deb: all
 	@packaging/deb.sh
@@ -77,4 +85,4 @@ edits:
 clean:
 	rm -rf build crates/*/out
 
-.PHONY: all demo install uninstall deb check edits clean
+.PHONY: all demo test install uninstall deb check edits clean

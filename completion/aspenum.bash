@@ -55,3 +55,21 @@ _aspenum() {
     mapfile -t COMPREPLY < <(compgen -W "${left[*]}" -- "$word")
 }
 complete -F _aspenum aspenum
+
+# aspground: files and a few words before --, and what aspenum takes after it.
+_aspground() {
+    local line=${COMP_LINE:0:COMP_POINT}
+    if [[ $line =~ [[:blank:]]--[[:blank:]](.*) ]]; then
+        local COMP_LINE="aspenum ${BASH_REMATCH[1]}"
+        local COMP_POINT=${#COMP_LINE}
+        _aspenum
+        return
+    fi
+    COMPREPLY=()
+    if [[ $line =~ [[:blank:]](-[^[:blank:]]*)$ ]]; then
+        mapfile -t COMPREPLY < <(compgen -W "-- --help --version" -- "${BASH_REMATCH[1]}")
+    else
+        compopt -o default
+    fi
+}
+complete -F _aspground aspground

@@ -38,3 +38,20 @@ complete -c aspenum -n '__aspenum_lacks --stats --split' -l stats -d 'Write coun
 complete -c aspenum -n '__aspenum_lacks --progress --split' -l progress -d 'Write lines to standard error while it runs'
 complete -c aspenum -n '__aspenum_first' -s h -l help -d 'Write the options and exit statuses'
 complete -c aspenum -n '__aspenum_first' -l version -d 'Write the version'
+
+# aspground: files and a few words before --, and what aspenum takes after it.
+function __aspground_solves
+    contains -- -- (commandline -opc)
+end
+
+function __aspground_options
+    set -l words (commandline -opc)
+    set -l end (contains -i -- -- $words)
+    set -e words[1..$end]
+    complete -C "$(string join ' ' -- aspenum (string escape -- $words) (commandline -ct))"
+end
+
+complete -c aspground -n 'not __aspground_solves' -l help -d 'Write how it is called'
+complete -c aspground -n 'not __aspground_solves' -l version -d 'Write the versions'
+complete -c aspground -n 'not __aspground_solves' -a '--' -d 'Options of aspenum follow'
+complete -c aspground -n __aspground_solves -f -a '(__aspground_options)'

@@ -18,7 +18,10 @@ trap 'rm -rf "$root"' EXIT
 chmod 755 "$root"
 # The program is built already, and make isn't to look whether its proofs are newer.
 make -s install -o build/aspenum -o build/aspcheck DESTDIR="$root" PREFIX=/usr
-strip --strip-all --remove-section=.comment "$root"/usr/bin/*
+# (aspground is a script)
+binaries=(usr/bin/aspenum)
+[ ! -e "$root/usr/bin/aspcheck" ] || binaries+=(usr/bin/aspcheck)
+(cd "$root" && strip --strip-all --remove-section=.comment "${binaries[@]}")
 find "$root/usr/share/man" -type f -exec gzip -9n {} +
 
 doc=$root/usr/share/doc/aspenum
@@ -34,7 +37,7 @@ depends="libc6, libgcc-s1"
 if command -v dpkg-shlibdeps > /dev/null; then
     mkdir "$root/debian"
     printf 'Source: aspenum\n\nPackage: aspenum\nArchitecture: any\n' > "$root/debian/control"
-    depends=$(cd "$root" && dpkg-shlibdeps -O usr/bin/* 2> /dev/null | sed 's/^shlibs:Depends=//')
+    depends=$(cd "$root" && dpkg-shlibdeps -O "${binaries[@]}" 2> /dev/null | sed 's/^shlibs:Depends=//')
     rm -r "$root/debian"
 fi
 

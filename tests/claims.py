@@ -5,18 +5,20 @@
 - A clause in brackets is one of a function that its line names, where the line names functions of the clause's crate.
 - CONTRIBUTING.md names exactly the functions that have more parameters than its rule allows.
 - The third column of docs/DEFINITIONS.md names files of definitions, items or definitions of the row's crates.
-- No block of text of PAGES is long: see MOST.
+- No block of text of PAGES is long: see MOST. None has the words of PLAIN.
 """
 import os
 import re
 
 PAGES = (
     "CONTRIBUTING.md", "CHANGELOG.md", "bench/README.md", "bench/HISTORY.md", "docs/DECISIONS.md", "docs/DEFINITIONS.md",
-    "docs/GATE.md", "docs/PROMISES.md", "docs/PROOF_COST.md", "edits/README.md", "tests/README.md",
+    "docs/GATE.md", "docs/PROMISES.md", "docs/PROOF_COST.md", "edits/README.md", "tests/README.md", "tools/README.md",
 )
 # the most words of a paragraph or an item of a list, and of a table's cell
 MOST = {"block": 80, "cell": 45}
 PARAMETERS = 8
+# words that a reader stops at, and what to write
+PLAIN = {"want of memory": "memory is short", "but for": "except", "behind": "after"}
 
 
 def text_of(path):
@@ -192,6 +194,13 @@ def wrong_blocks(path):
             yield f"{path}:{number}: a {kind} of {words} words, at most {MOST[kind]}: {text[:40]}.."
 
 
+def hard_words(path):
+    for number, line in enumerate(text_of(path).split("\n"), 1):
+        for words, plain in PLAIN.items():
+            if re.search(rf"\b{words}\b", line):
+                yield f"{path}:{number}: '{words}': write '{plain}' or the like"
+
+
 def wrong_claims(deps, promised, crates_of, known, rooms):
     yield from wrong_ten("docs/PROMISES.md")
     room_of = {crate: re.sub(r"^\d+ |:.*", "", room) for crate, room in rooms.items()}
@@ -206,3 +215,4 @@ def wrong_claims(deps, promised, crates_of, known, rooms):
             yield f"{path} is missing"
             continue
         yield from wrong_blocks(path)
+        yield from hard_words(path)

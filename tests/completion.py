@@ -49,6 +49,13 @@ ROWS = [
     ("aspenum --stats --mo", ["--mode"], ["--make"]),
     ("true | aspenum --bu", ["--budget"], ["--mode"]),
     ("aspenum < file_for_", ["file_for_completion"], ["--mode"]),
+    ("aspground file_for_", ["file_for_completion"], ["--mode"]),
+    ("aspground x.lp file_for_", ["file_for_completion"], ["--mode"]),
+    ("aspground x.lp --he", ["--help"], ["--mode"]),
+    ("aspground x.lp -- --", ["--mode", "--models", "--stats"], ["file_for_completion"]),
+    ("aspground x.lp -- --stats --mo", ["--mode"], ["--make"]),
+    ("aspground -- --mode ", VALUES, ["--stats", "README"]),
+    ("aspground x.lp -- --mode=o", ["--mode=opt"], ["auto"]),
 ]
 
 STARTS = {
@@ -105,10 +112,12 @@ def tried(name):
         data = os.path.join(folder, "data")
         os.makedirs(f"{data}/bash-completion/completions")
         shutil.copy(f"{FILES}/aspenum.bash", f"{data}/bash-completion/completions/aspenum")
+        os.symlink("aspenum", f"{data}/bash-completion/completions/aspground")
         open(f"{folder}/file_for_completion", "w").close()
         open(f"{folder}/README", "w").close()
         os.makedirs(f"{folder}/bin")
-        os.symlink("/bin/true", f"{folder}/bin/aspenum")
+        for program in ("aspenum", "aspground"):
+            os.symlink("/bin/true", f"{folder}/bin/{program}")
         for line, wanted, unwanted in ROWS:
             shell = Shell(command, folder)
             shell.shown(1.0)

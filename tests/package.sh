@@ -17,7 +17,9 @@ folder=$(mktemp -d)
 trap 'rm -rf "$folder"' EXIT
 $make install DESTDIR="$folder/to" PREFIX=/usr/local > /dev/null
 cmp build/aspenum "$folder/to/usr/local/bin/aspenum"
-MANPATH=$folder/to/usr/local/share/man man -w aspenum > /dev/null || fail "the manual isn't found"
+for page in aspenum aspcheck aspground; do
+    MANPATH=$folder/to/usr/local/share/man man -w $page > /dev/null || fail "the manual of $page isn't found"
+done
 $make uninstall DESTDIR="$folder/to" PREFIX=/usr/local > /dev/null
 [ -z "$(find "$folder/to" ! -type d)" ] || fail "uninstall leaves $(find "$folder/to" ! -type d)"
 say "install, uninstall: passed"
@@ -39,9 +41,11 @@ in_root dpkg -i /package.deb > "$folder/log" 2>&1 || { cat "$folder/log"; fail "
 in_root sh -c 'cd /usr/share/doc/aspenum/examples && for it in *.aspif; do words=$(cat "${it%.aspif}.words" 2> /dev/null); aspenum $words < "$it" | cmp -s - "${it%.aspif}.out" || { echo "$it"; exit 1; }; done' || fail "an example"
 # the README's first screen, by the package and Debian's gringo alone
 in_root sh -c 'apt-get update && apt-get install -y --no-install-recommends gringo' > "$folder/log" 2>&1 || { tail -n 5 "$folder/log"; fail "gringo"; }
-sed -n '/^\$ gringo examples\/colouring/,/^```$/p' README.md | sed '1d;$d' > "$folder/wanted"
+sed -n '/^\$ \(gringo\|build\/aspground\) examples\/colouring/,/^```$/p' README.md | sed '1d;$d' > "$folder/wanted"
 in_root sh -c 'cd /usr/share/doc/aspenum && gringo examples/colouring.lp | aspenum; true' | cmp - "$folder/wanted" || fail "the README's first screen"
+in_root sh -c 'cd /usr/share/doc/aspenum && aspground examples/colouring.lp; true' | cmp - "$folder/wanted" || fail "aspground"
 in_root dpkg -V aspenum || fail "dpkg -V"
 in_root dpkg -P aspenum > "$folder/log" 2>&1 || { cat "$folder/log"; fail "dpkg -P"; }
-[ -z "$(find "$root/usr" -name '*aspenum*')" ] || fail "removing leaves $(find "$root/usr" -name '*aspenum*')"
+left=$(find "$root/usr" -name '*aspenum*' -o -name 'aspcheck*' -o -name 'aspground*')
+[ -z "$left" ] || fail "removing leaves $left"
 say "in a clean root: passed"

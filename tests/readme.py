@@ -6,11 +6,11 @@
 A command is a line `$ COMMAND`, and what it prints, standard error included, is below it: in a page of markdown in a
 block of text that a line of three backquotes and the word `text` opens, in a manual page between .nf and .fi. A page's
 commands run at the top of the repository, where PROGRAM is build/aspenum and CHECKER build/aspcheck; those of a manual page in
-examples/, where they are aspenum and aspcheck. Commands that call gringo or clasp run only where that is there, and those that
-call the checker only where one is named.
+examples/, where they are aspenum and aspcheck. aspground is that of bin/. Commands that call gringo (as aspground does) or clasp
+run only where that is there, and those that call the checker only where one is named.
 
-In a page's tables each command between backquotes that calls aspenum runs too, with examples/timetable as x.lp, as x.aspif and
-as standard input, and has to end with a status below 33. Where the grounder that it names isn't there, x.aspif stands for
+In a page's tables each command between backquotes that calls aspenum or aspground runs too, with examples/timetable as x.lp, as
+x.aspif and as standard input, and has to end with a status below 33. Where the grounder that it names isn't there, x.aspif stands for
 what it would write.
 """
 import os
@@ -54,18 +54,21 @@ def commands(lines):
 
 
 def table_commands(text):
-    """Yields the commands between backquotes in the rows of a page's tables that call aspenum, by that name."""
+    """Yields the commands between backquotes in the rows of a page's tables that call aspenum or aspground, by that name."""
     for line in text.split("\n"):
         if line.startswith("|"):
             for code in re.findall(r"`([^`]+)`", line.replace("\\|", "|")):
-                if re.search(r"(^|\| )aspenum( |$)", code):
+                if re.search(r"(^|\| )asp(enum|ground)( |$)", code):
                     yield code
 
 
 def table_fault(command, program):
     """Returns what is wrong with how a table's command ends, or nothing."""
+    if not can_run(command, "") and command.startswith("aspground"):
+        return ""
     with tempfile.TemporaryDirectory() as folder:
         os.symlink(os.path.abspath(program), f"{folder}/aspenum")
+        os.symlink(os.path.abspath("bin/aspground"), f"{folder}/aspground")
         for ending in ("lp", "aspif"):
             shutil.copy(f"examples/timetable.{ending}", f"{folder}/x.{ending}")
         grounder, _, solver = command.rpartition(" | aspenum")
@@ -86,6 +89,8 @@ def table_fault(command, program):
 
 def can_run(command, checker):
     tools = [tool for tool in ("gringo", "clasp") if re.search(rf"\b{tool}\b", command.split("build/aspenum")[0])]
+    if re.search(r"\baspground\b", command):
+        tools.append("gringo")
     return all(map(shutil.which, tools)) and (checker or not re.search(r"\baspcheck\b", command))
 
 
@@ -93,6 +98,7 @@ def printed_by(command, program, checker, folder):
     """Returns the lines that a command prints where `aspenum` and `build/aspenum` are the program, and so for the checker."""
     with tempfile.TemporaryDirectory() as bin:
         os.symlink(os.path.abspath(program), f"{bin}/aspenum")
+        os.symlink(os.path.abspath("bin/aspground"), f"{bin}/aspground")
         if checker:
             os.symlink(os.path.abspath(checker), f"{bin}/aspcheck")
         ran = subprocess.run(

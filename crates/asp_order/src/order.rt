@@ -62,18 +62,16 @@ fn bump_all(heap: &mut Heap, lits: &[Lit])
 }
 
 // Bumps the variables in turn, and lets later bumps count for more.
-fn bump_and_decay(heap: &mut Heap, lits: &[Lit], met: &[Lit])
-    requires lits { All (λ l. l.var < length heap.old.activities) lits.now }
+fn bump_and_decay(heap: &mut Heap, met: &[Lit])
     requires met { All (λ l. l.var < length heap.old.activities) met.now }
-    ensures { heap.new ≡ learnt heap.old (lits.now ++ met.now) }
+    ensures { heap.new ≡ learnt heap.old met.now }
 {
-    bump_all(heap, lits);
     bump_all(heap, met);
     heap.decay();
 }
 
 // So many bumps lift a variable above each other one: the increment grows by its sixteenth with each nogood that is learnt, for which
-// a variable is bumped twice at most, so that all its bumps come to less than 35 of the newest.
+// a variable is bumped once, so that all its bumps come to less than 18 of the newest.
 const MOST: u32 = 64;
 
 // Bumps the variable until it is the first in the heap.
@@ -238,16 +236,16 @@ impl Order {
         }
     }
 
-    /// Raises the activity of a learnt nogood's variables, and of those that were met on the way to it; the nogood asks for
-    /// the other values of its literals.
+    /// Raises the activity of the variables that were met on the way to a learnt nogood, each once; the nogood asks for the
+    /// other values of its literals.
     pub fn bump(&mut self, lits: &[Lit], met: &[Lit])
         requires lits { All (λ l. l.var < length self.old.activities) lits.now }
         requires met { All (λ l. l.var < length self.old.activities) met.now }
-        ensures learnt { self.new ≡ learnt self.old (lits.now ++ met.now) }
+        ensures learnt { self.new ≡ learnt self.old met.now }
         ensures members { self.new.members ≡ self.old.members }
         ensures vars { length self.new.activities ≡ length self.old.activities }
     {
-        bump_and_decay(&mut self.heap, lits, met);
+        bump_and_decay(&mut self.heap, met);
         self.votes.add(lits);
     }
 }

@@ -327,11 +327,11 @@ impl<P: Propagator> SearchState<P> {
         self.engine.remove(id);
     }
 
-    /// Raises the activity of the variables of a nogood that was learnt, and of those that were met on the way to it.
+    /// Raises the activity of the variables that were met on the way to a nogood that was learnt.
     pub fn bump(&mut self, lits: &[Lit], met: &[Lit])
         requires lits { AreOf self.old.program lits.now }
         requires met { All (λ l. l.var ≤ var_count self.old.program) met.now }
-        ensures { self.new ≡ record self.old { ranking = learnt self.old.ranking (lits.now ++ met.now) } }
+        ensures { self.new ≡ record self.old { ranking = learnt self.old.ranking met.now } }
     {
         self.order.bump(lits, met);
     }

@@ -1,4 +1,5 @@
 pub mod ToldLaws
 pub mod RunLaws
+pub mod WholeLaws
 pub mod WriteLaws
 pub mod TellLaws

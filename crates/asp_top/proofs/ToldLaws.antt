@@ -169,7 +169,7 @@ same-told : (r : Report) → told_with [] r ≡ r
 same-told r = ap (λ k. record r { results = record r.results { known = k } }) (same-known r.results.known)
 
 -- ---- as was asked
-no-proof : (end : End) (r : Found) (proof : Option Proof) → HasProofAt end false r proof → proof ≡ None
+pub no-proof : (end : End) (r : Found) (proof : Option Proof) → HasProofAt end false r proof → proof ≡ None
 no-proof Finished r proof h = h
 no-proof Limited r proof h = h
 no-proof Unfinished r proof h = h

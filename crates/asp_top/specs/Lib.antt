@@ -7,6 +7,7 @@ pub mod Telling
 pub mod Meaning
 pub mod Parting
 pub mod Runs
+pub mod Whole
 pub mod Words
 pub mod Faults
 pub mod Loops

@@ -1,12 +1,14 @@
 //! A whole run: words, reading, solving and writing, in this order; the first that doesn't succeed decides.
 ghost use Rattle.std.specs.Prelude.{◌≡◌, None, IfSome, false, true, map, string_bytes};
-ghost use Rattle.asp_cli.specs.Given.{fault_seen, words_give};
+ghost use Rattle.asp_cli.specs.Given.{fault_seen, options, words_give};
+ghost use Rattle.asp_cli.specs.declared.Options.{Options};
 ghost use Rattle.asp_cli.specs.Found.{IsApart};
 ghost use Rattle.asp_cli.specs.Texts.{help_page, version_line};
 ghost use Rattle.asp_cli.specs.Values.{IsCrew, IsPartCount, IsRing};
 ghost use Rattle.asp_top.specs.Notes.{IsNoted, Writes, note_of};
 ghost use Rattle.asp_top.specs.Usage.{misuse_note};
 ghost use Rattle.asp_top.specs.Runs.{Does, IsCounted, NotesOn, NotesRun, Runs, RunsOn, TellsFaults, TextMeans, around, is_alone, prepared_of};
+ghost use Rattle.asp_top.specs.Whole.{IsWhole};
 ghost use Rattle.asp_model.specs.declared.program.Program.{Program};
 
 use crate::counts::Tally;
@@ -157,6 +159,7 @@ pub fn run_alone<S: Source, K: Sink, N: Sink>(
     requires apart { IsApart options.now }
     ensures runs { Runs options.now (around (S.left source.old) (S.left source.new) (S.faults source.old) (S.faults source.new)
         (K.held sink.old) (K.held sink.new) (K.faults sink.old) (K.faults sink.new)) result }
+    ensures whole { options.now.proof ≡ false → IsWhole options.now (S.left source.old) (K.held sink.old) (K.held sink.new) result.status }
     ensures flushed { TellsFaults (K.held sink.old) (K.faults sink.old) (K.faults sink.new) result.status }
     ensures notes { NotesRun true options.now (N.held notes.old) (N.held notes.new) (N.faults notes.old) (N.faults notes.new) result }
 {
@@ -299,6 +302,8 @@ pub fn run<R: Threads + Wait + Sync, S: Source, K: Sink, N: Sink, G: Gate + Sync
 ) -> Outcome
     ensures runs { RunsOn (words_give (map string_bytes words.now)) (around (S.left source.old) (S.left source.new) (S.faults source.old) (S.faults source.new)
         (K.held sink.old) (K.held sink.new) (K.faults sink.old) (K.faults sink.new)) result }
+    ensures whole { (given : Options) → words_give (map string_bytes words.now) ≡ options given → given.proof ≡ false
+        → IsWhole given (S.left source.old) (K.held sink.old) (K.held sink.new) result.status }
     ensures flushed { TellsFaults (K.held sink.old) (K.faults sink.old) (K.faults sink.new) result.status }
     ensures notes { NotesOn (words_give (map string_bytes words.now)) (N.held notes.old) (N.held notes.new) (N.faults notes.old) (N.faults notes.new)
         result }

@@ -1,0 +1,308 @@
+-- What a run that finished has read and written, from what its status means.
+use Rattle.std.proofs.Common.{◌≡◌, ℕ, ◌<◌, Bool, true, false, not, cond, List, [], ◌∷◌, ◌++◌, length, refl, sym, ap, ◌∙◌, subst, ℤ, Contains, arith}
+use Rattle.std.specs.Prelude.{Option, None, Some, Ok, IfSome, codes, decimal, filter, is_some, map, option_map}
+use Rattle.std.specs.List.{list_any}
+use Rattle.std.specs.Io.KnownBytes.{Appends}
+use Rattle.std.proofs.lemmas.Bool.{false≢true}
+use Rattle.std.proofs.lemmas.List.{append-nil}
+use Rattle.asp_model.specs.declared.program.Program.{Program}
+use Rattle.asp_model.specs.declared.results.End.{End}
+use Rattle.asp_model.specs.declared.results.End.TheVariants.{Finished, Limited}
+use Rattle.asp_model.specs.declared.results.Mode.{Mode}
+use Rattle.asp_model.specs.declared.results.Mode.TheVariants.{Enum, Opt, Consequences}
+use Rattle.asp_model.specs.declared.results.Reasoning.{Reasoning}
+use Rattle.asp_model.specs.Sets.{Atoms}
+use Rattle.asp_model.specs.Models.{answers}
+use Rattle.asp_model.specs.Costs.{IsOptimum, betters, cost, optima}
+use Rattle.asp_model.specs.Consequences.{consequences, consequences_of}
+use Rattle.asp_model.specs.Found.{Found}
+use Rattle.asp_model.specs.Texts.{answers_from, bests, consequences_line, cost_line, ended_line, results_text}
+use Rattle.asp_model.proofs.ModelLaws.{optima-are}
+use Rattle.asp_settle.specs.Settled.{united}
+use Rattle.asp_read.specs.Outcome.{outcome}
+use Rattle.asp_crew_laws.specs.declared.report.Report.{Report}
+use Rattle.asp_crew_laws.specs.Runs.{IsBest, IsFound}
+use Rattle.asp_crew_laws.specs.Reports.{HasBest, IsAllFound, IsPartOf, Says as SaysReport, asks_list}
+use Rattle.asp_crew_laws.specs.Proofs.{HasProof}
+use Rattle.asp_cli.specs.Given.{Given, options}
+use Rattle.asp_cli.specs.declared.Options.{Options}
+use Rattle.asp_top.specs.declared.status.Status.{Status}
+use Rattle.asp_top.specs.declared.status.Status.TheVariants.{All, NoModel, Enough}
+use Rattle.asp_top.specs.declared.status.Outcome.{Outcome}
+use Rattle.asp_top.specs.Meaning.{has_model_in, is_some_of, mode_of}
+use Rattle.asp_top.specs.Runs.{Around, IsGiven, IsWritten, Means, Runs, RunsOn, ask_of, found_with, is_brief, report_text, report_with, set_aside, text_by}
+use Rattle.asp_top.specs.Whole.{ArePicked, IsInput, IsWhole, TellsAll, TellsEnough, TellsNone, Wrote, closing}
+use Rattle.asp_top.proofs.ToldLaws.{no-proof}
+
+-- ---- what is read
+input-told : (left : Option (List ℕ)) (p : Program) → IfSome left (λ t. outcome t ≡ Ok p) → (text : List ℕ) × (outcome text ≡ Ok p) → (text : List ℕ) × (outcome text ≡ Ok p) × IfSome left (λ all. all ≡ text)
+input-told None p says some = (some.0, some.1, tt)
+input-told (Some text) p says some = (text, says, refl)
+
+input-of : (m : Option ℕ) (a : Around) (p : Program) → IsGiven m a p → IsInput m a.left p
+input-of None a p from = input-told a.left p from.says from.said
+input-of (Some n) a p from = from.0
+
+-- ---- the texts
+abbrev found : Mode → End → List Atoms → Option (Atoms × List ℤ) → Option Atoms → Found
+found mode end L best known = record { mode = mode; end = end; answers = L; best = best; known = known }
+
+abbrev lines : Bool → Program → List Atoms → List ℕ
+lines brief p Ss = cond brief [] (answers_from p 1 Ss)
+
+some-or-none : {A : Type 0} (L : List A) → is_some_of L ≡ true → ¬ (L ≡ [])
+some-or-none [] some none = false≢true some
+some-or-none (x ∷ L) some none = absurd cc
+
+none-of : {A : Type 0} (L : List A) → is_some_of L ≡ false → L ≡ []
+none-of [] none = refl
+none-of (x ∷ L) none = absurd (false≢true (sym none))
+
+-- a count without a mark behind it
+unmarked : (word : List ℕ) (n : ℕ) → ended_line word ++ ended_line (codes "Models: " ++ decimal n ++ []) ≡ closing word (decimal n)
+unmarked word n = ap (λ (count : List ℕ). closing word count) (append-nil (decimal n))
+
+-- nothing stands between the answers and the closing lines
+joined : (answers between last : List ℕ) → between ≡ last → answers ++ [] ++ between ≡ answers ++ last
+joined answers between last same = ap (λ (x : List ℕ). x ++ between) (append-nil answers) ∙ ap (λ (x : List ℕ). answers ++ x) same
+
+no-lines : (brief : Bool) (p : Program) → lines brief p [] ≡ []
+no-lines true p = refl
+no-lines false p = refl
+
+-- an optimum is one of the optima
+an-optimum : (p : Program) (S : Atoms) (c : List ℤ) → IsOptimum p S c → Contains (optima p) S
+an-optimum p S c is = (optima-are p S).1 (record {
+  answer = is.answer;
+  sums = refl;
+  least = subst (λ (d : List ℤ). list_any (λ T. betters (cost p T) d) (answers p) ≡ false) is.sums is.least;
+})
+
+no-optima : (p : Program) → answers p ≡ [] → optima p ≡ []
+no-optima p none = ap (λ (all : List Atoms). filter (λ S. not (list_any (λ T. betters (cost p T) (cost p S)) all)) all) none
+
+-- ---- finished, with an answer
+abbrev AllTold : Bool → Bool → Program → List ℕ → Type 0
+AllTold all brief p text = (S : Atoms) × Contains (optima p) S
+    × (text ≡ lines brief p (cond all (optima p) (S ∷ [])) ++ cost_line (cost p S) ++ closing (codes "OPTIMUM FOUND") (decimal (length (cond all (optima p) (S ∷ [])))))
+
+enum-all : (brief : Bool) (p : Program) (L : List Atoms) (best : Option (Atoms × List ℤ)) (known : Option Atoms) → is_some_of L ≡ true
+    → results_text p (found Enum Finished L best known) brief ≡ lines brief p L ++ closing (codes "SATISFIABLE") (decimal (length L))
+enum-all brief p [] best known some = absurd (false≢true some)
+enum-all brief p (S ∷ L) best known some = joined (lines brief p (S ∷ L)) _ _ (unmarked (codes "SATISFIABLE") (length (S ∷ L)))
+
+opt-text : (brief : Bool) (p : Program) (S : Atoms) (L : List Atoms) (T : Atoms) (c : List ℤ) → c ≡ cost p T
+    → lines brief p (S ∷ L) ++ cost_line c ++ (ended_line (codes "OPTIMUM FOUND") ++ ended_line (codes "Models: " ++ decimal (length (S ∷ L)) ++ []))
+    ≡ lines brief p (S ∷ L) ++ cost_line (cost p T) ++ closing (codes "OPTIMUM FOUND") (decimal (length (S ∷ L)))
+opt-text brief p S L T c is =
+    ap (λ (x : List ℕ). lines brief p (S ∷ L) ++ cost_line c ++ x) (unmarked (codes "OPTIMUM FOUND") (length (S ∷ L)))
+    ∙ ap (λ (d : List ℤ). lines brief p (S ∷ L) ++ cost_line d ++ closing (codes "OPTIMUM FOUND") (decimal (length (S ∷ L)))) is
+
+opt-one : (brief : Bool) (p : Program) (L : List Atoms) (best : Option (Atoms × List ℤ)) (known : Option Atoms) → L ≡ [] → IsBest p best → is_some_of (bests best L) ≡ true
+    → AllTold false brief p (results_text p (found Opt Finished L best known) brief)
+opt-one brief p [] None known none is some = absurd (false≢true some)
+opt-one brief p [] (Some b) known none is some = (b.0, an-optimum p b.0 b.1 is, opt-text brief p b.0 [] b.0 b.1 is.sums)
+opt-one brief p (S ∷ L) best known none is some = absurd cc
+
+nowhere : (S : Atoms) → Contains {X = Atoms} [] S → ⊥
+nowhere S is = let f : ⊥ = omega (arith, is.1) in f
+
+opt-all : (brief : Bool) (p : Program) (L : List Atoms) (best : Option (Atoms × List ℤ)) (known : Option Atoms) → L ≡ optima p → IsBest p best → is_some_of (bests best L) ≡ true
+    → AllTold true brief p (results_text p (found Opt Finished L best known) brief)
+opt-all brief p [] None known are is some = absurd (false≢true some)
+opt-all brief p (S ∷ L) None known are is some = let none : S ∷ L ≡ [] = are ∙ no-optima p is in absurd cc
+opt-all brief p [] (Some b) known are is some = absurd (nowhere b.0 (subst (λ (Ss : List Atoms). Contains Ss b.0) (sym are) (an-optimum p b.0 b.1 is)))
+opt-all brief p (S ∷ L) (Some b) known are is some = (
+  b.0,
+  an-optimum p b.0 b.1 is,
+  opt-text brief p S L b.0 b.1 is.sums ∙ ap (λ (Ss : List Atoms). lines brief p Ss ++ cost_line (cost p b.0) ++ closing (codes "OPTIMUM FOUND") (decimal (length Ss))) are,
+)
+
+consequences-all : (brief : Bool) (p : Program) (w : Reasoning) (K : List Atoms) (best : Option (Atoms × List ℤ)) (known : Option Atoms) → known ≡ consequences_of w p K → is_some known ≡ true
+    → ¬ (K ≡ []) × (results_text p (found (Consequences w) Finished [] best known) brief ≡ consequences_line (Some (consequences w p K)) ++ ended_line (codes "CONSEQUENCES FOUND"))
+consequences-all brief p w [] best known are some = absurd (false≢true (sym (ap is_some are) ∙ some))
+consequences-all brief p w (S ∷ K) best known are some = (
+  λ none. absurd cc,
+  ap (λ (x : Option Atoms). results_text p (found (Consequences w) Finished [] best x) brief) are
+  ∙ ap (λ (x : List ℕ). x ++ consequences_line (Some (consequences w p (S ∷ K))) ++ (ended_line (codes "CONSEQUENCES FOUND") ++ [])) (no-lines brief p)
+  ∙ ap (λ (x : List ℕ). consequences_line (Some (consequences w p (S ∷ K))) ++ x) (append-nil (ended_line (codes "CONSEQUENCES FOUND"))),
+)
+
+found-enum : (all : Bool) (p : Program) (L : List Atoms) (best : Option (Atoms × List ℤ)) (known : Option Atoms) → IsAllFound all p Enum L best known → IsFound p Enum L best known
+found-enum true p L best known is = is
+found-enum false p L best known is = is
+
+found-consequences : (all : Bool) (p : Program) (w : Reasoning) (L : List Atoms) (best : Option (Atoms × List ℤ)) (known : Option Atoms)
+    → IsAllFound all p (Consequences w) L best known → IsFound p (Consequences w) L best known
+found-consequences true p w L best known is = is
+found-consequences false p w L best known is = is
+
+found-best : (all : Bool) (p : Program) (L : List Atoms) (best : Option (Atoms × List ℤ)) (known : Option Atoms) → IsAllFound all p Opt L best known → IsBest p best
+found-best true p L best known is = is.1
+found-best false p L best known is = is.1
+
+found-opt : (all brief : Bool) (p : Program) (L : List Atoms) (best : Option (Atoms × List ℤ)) (known : Option Atoms) → IsAllFound all p Opt L best known → is_some_of (bests best L) ≡ true
+    → AllTold all brief p (results_text p (found Opt Finished L best known) brief)
+found-opt true brief p L best known is some = opt-all brief p L best known is.0 is.1 some
+found-opt false brief p L best known is some = opt-one brief p L best known is.0 is.1 some
+
+tells-all : (given : Options) (p : Program) (mode : Mode) (L : List Atoms) (best : Option (Atoms × List ℤ)) (known : Option Atoms) → IsAllFound given.all_optima p mode L best known
+    → has_model_in mode (found mode Finished L best known) ≡ true → TellsAll given p mode (results_text p (found mode Finished L best known) (is_brief given))
+tells-all given p Enum L best known is some =
+    let all = (found-enum given.all_optima p L best known is).0 in
+    let brief = is_brief given in
+    (λ none. some-or-none L some (all ∙ none), enum-all brief p L best known some ∙ ap (λ (Ss : List Atoms). lines brief p Ss ++ closing (codes "SATISFIABLE") (decimal (length Ss))) all)
+tells-all given p Opt L best known is some = found-opt given.all_optima (is_brief given) p L best known is some
+tells-all given p (Consequences w) L best known is some =
+    let all = found-consequences given.all_optima p w L best known is in
+    let told = consequences-all (is_brief given) p w (answers p) best known all.2 some in
+    (told.0, ap (λ (Ss : List Atoms). results_text p (found (Consequences w) Finished Ss best known) (is_brief given)) all.0 ∙ told.1)
+
+-- ---- finished, without an answer
+bests-none : (best : Option (Atoms × List ℤ)) (L : List Atoms) → is_some_of (bests best L) ≡ false → (best ≡ None) × (L ≡ [])
+bests-none None [] none = (refl, refl)
+bests-none (Some b) [] none = absurd (false≢true (sym none))
+bests-none best (S ∷ L) none = absurd (false≢true (sym none))
+
+no-consequences : (p : Program) (w : Reasoning) (K : List Atoms) (known : Option Atoms) → known ≡ consequences_of w p K → is_some known ≡ false → (K ≡ []) × (known ≡ None)
+no-consequences p w [] known is none = (refl, is)
+no-consequences p w (S ∷ K) known is none = absurd (false≢true (sym none ∙ ap is_some is))
+
+counted-none : (brief : Bool) (p : Program) → lines brief p [] ++ [] ++ (ended_line (codes "UNSATISFIABLE") ++ ended_line (codes "Models: " ++ decimal 0 ++ [])) ≡ closing (codes "UNSATISFIABLE") (decimal 0)
+counted-none brief p =
+    joined (lines brief p []) _ _ (unmarked (codes "UNSATISFIABLE") 0) ∙ ap (λ (x : List ℕ). x ++ closing (codes "UNSATISFIABLE") (decimal 0)) (no-lines brief p)
+
+tells-none : (all brief : Bool) (p : Program) (mode : Mode) (L : List Atoms) (best : Option (Atoms × List ℤ)) (known : Option Atoms) → IsAllFound all p mode L best known
+    → has_model_in mode (found mode Finished L best known) ≡ false → TellsNone p mode (results_text p (found mode Finished L best known) brief)
+tells-none all brief p Enum L best known is none =
+    let empty = none-of L none in
+    (sym (found-enum all p L best known is).0 ∙ empty, ap (λ (Ss : List Atoms). results_text p (found Enum Finished Ss best known) brief) empty ∙ counted-none brief p)
+tells-none all brief p Opt L best known is none =
+    let empty = bests-none best L none in
+    (
+      subst (IsBest p) empty.0 (found-best all p L best known is),
+      ap (λ (Ss : List Atoms). results_text p (found Opt Finished Ss best known) brief) empty.1 ∙ ap (λ (b : Option (Atoms × List ℤ)). results_text p (found Opt Finished [] b known) brief) empty.0 ∙ counted-none brief p,
+    )
+tells-none all brief p (Consequences w) L best known is none =
+    let told = found-consequences all p w L best known is in
+    let empty = no-consequences p w (answers p) known told.2 none in
+    (
+      empty.0,
+      ap (λ (Ss : List Atoms). results_text p (found (Consequences w) Finished Ss best known) brief) told.0
+      ∙ ap (λ (x : Option Atoms). results_text p (found (Consequences w) Finished [] best x) brief) empty.1
+      ∙ joined (lines brief p []) _ _ (append-nil (ended_line (codes "UNSATISFIABLE")))
+      ∙ ap (λ (x : List ℕ). x ++ ended_line (codes "UNSATISFIABLE")) (no-lines brief p),
+    )
+
+-- ---- at its limit
+abbrev last_lines : ℕ → List ℕ
+last_lines n = closing (codes "LIMIT REACHED") (decimal n ++ codes "+")
+
+part-enum : (all : Bool) (p : Program) (r : Found) → IsPartOf all p Enum r → (chosen : Atoms → Bool) × (r.answers ≡ filter chosen (answers p))
+part-enum true p r is = is.0
+part-enum false p r is = is.0
+
+limited-opt : (brief : Bool) (p : Program) (n : ℕ) (L : List Atoms) (best : Option (Atoms × List ℤ)) (known : Option Atoms) → 0 < n → length L ≡ n → (chosen : Atoms → Bool) × (L ≡ filter chosen (optima p)) → IsBest p best
+    → (S : Atoms) × (Ss : List Atoms) × Contains (optima p) S × ArePicked n (optima p) Ss × (results_text p (found Opt Limited L best known) brief ≡ lines brief p Ss ++ cost_line (cost p S) ++ last_lines n)
+limited-opt brief p n [] best known some count part is = absurd (let f : ⊥ = omega (arith, some, count) in f)
+limited-opt brief p n (T ∷ L) None known some count part is = let none : T ∷ L ≡ [] = part.1 ∙ ap (filter part.0) (no-optima p is) in absurd cc
+limited-opt brief p n (T ∷ L) (Some b) known some count part is = (
+  b.0,
+  T ∷ L,
+  an-optimum p b.0 b.1 is,
+  (part, count),
+  ap (λ (c : List ℤ). lines brief p (T ∷ L) ++ cost_line c ++ last_lines (length (T ∷ L))) is.sums
+  ∙ ap (λ (k : ℕ). lines brief p (T ∷ L) ++ cost_line (cost p b.0) ++ last_lines k) count,
+)
+
+opt-limited : (all brief : Bool) (p : Program) (n : ℕ) (L : List Atoms) (best : Option (Atoms × List ℤ)) (known : Option Atoms) → asks_list all Opt ≡ true → 0 < n → length L ≡ n → IsPartOf all p Opt (found Opt Limited L best known) → IsBest p best
+    → (S : Atoms) × (Ss : List Atoms) × Contains (optima p) S × ArePicked n (optima p) Ss × (results_text p (found Opt Limited L best known) brief ≡ lines brief p Ss ++ cost_line (cost p S) ++ last_lines n)
+opt-limited true brief p n L best known listing some count part is = limited-opt brief p n L best known some count part.0 is
+opt-limited false brief p n L best known listing some count part is = absurd (false≢true listing)
+
+tells-enough : (given : Options) (p : Program) (mode : Mode) (L : List Atoms) (best : Option (Atoms × List ℤ)) (known : Option Atoms) → asks_list given.all_optima mode ≡ true → 0 < given.models
+    → length L ≡ given.models → IsPartOf given.all_optima p mode (found mode Limited L best known) → HasBest p mode best → TellsEnough given p mode (results_text p (found mode Limited L best known) (is_brief given))
+tells-enough given p Enum L best known listing some count part is =
+    (L, (part-enum given.all_optima p (found Enum Limited L best known) part, count), joined (lines (is_brief given) p L) _ _ (ap last_lines count))
+tells-enough given p Opt L best known listing some count part is = opt-limited given.all_optima (is_brief given) p given.models L best known listing some count part is
+tells-enough given p (Consequences w) L best known listing some count part is = absurd (false≢true listing)
+
+-- ---- whether there is a model, told with the facts
+some-map : {A B : Type 0} (f : A → B) (L : List A) → is_some_of (map f L) ≡ is_some_of L
+some-map f [] = refl
+some-map f (x ∷ L) = refl
+
+some-bests : (F : Atoms) (best : Option (Atoms × List ℤ)) (L : List Atoms) → is_some_of (bests (option_map (λ b. (united F b.0, b.1)) best) (map (united F) L)) ≡ is_some_of (bests best L)
+some-bests F None [] = refl
+some-bests F (Some b) [] = refl
+some-bests F best (S ∷ L) = refl
+
+some-known : (F : Atoms) (known : Option Atoms) → is_some (option_map (united F) known) ≡ is_some known
+some-known F None = refl
+some-known F (Some S) = refl
+
+model-with : (F : Atoms) (mode : Mode) (r : Found) → has_model_in mode (found_with F r) ≡ has_model_in mode r
+model-with F Enum r = some-map (united F) r.answers
+model-with F Opt r = some-bests F r.best r.answers
+model-with F (Consequences w) r = some-known F r.known
+
+-- neither the mode nor the end that are kept with it matter
+model-of : (mode m : Mode) (end : End) (r : Found) → has_model_in mode (found m end r.answers r.best r.known) ≡ has_model_in mode r
+model-of Enum m end r = refl
+model-of Opt m end r = refl
+model-of (Consequences w) m end r = refl
+
+part-of : (all : Bool) (p : Program) (mode m : Mode) (end : End) (r : Found) → IsPartOf all p mode r → IsPartOf all p mode (found m end r.answers r.best r.known)
+part-of false p Enum m end r is = is
+part-of false p Opt m end r is = is
+part-of false p (Consequences w) m end r is = is
+part-of true p Enum m end r is = is
+part-of true p Opt m end r is = is
+part-of true p (Consequences w) m end r is = is
+
+-- ---- the theorem
+-- a text with its mode and its end
+text-of : (p : Program) (r : Found) (brief : Bool) (mode : Mode) (end : End) → r.mode ≡ mode → r.end ≡ end → results_text p r brief ≡ results_text p (found mode end r.answers r.best r.known) brief
+text-of p r brief mode end m e =
+    ap (λ (x : Mode). results_text p (found x r.end r.answers r.best r.known) brief) m ∙ ap (λ (x : End). results_text p (found mode x r.answers r.best r.known) brief) e
+
+-- A report of such a run tells this.
+abbrev Telling : Options → End → Bool → (Program → Mode → List ℕ → Type 0) → Type 0
+Telling given end model Tells = (p : Program) (R : Report) → SaysReport p (ask_of given p) R end
+    → has_model_in (mode_of given.mode p) (found (mode_of given.mode p) end R.results.answers R.results.best R.results.known) ≡ model
+    → Tells p (mode_of given.mode p) (results_text p (found (mode_of given.mode p) end R.results.answers R.results.best R.results.known) (is_brief given))
+
+wrote : (given : Options) (a : Around) (report : Option Report) (end : End) (model : Bool) (Tells : Program → Mode → List ℕ → Type 0) → given.proof ≡ false → Telling given end model Tells → IsWritten given a report end model
+    → Wrote given a.left a.held a.held' Tells
+wrote given a report end model Tells plain telling w =
+    let p = w.solved.program in
+    let done = w.solved.done in
+    let F = set_aside given p in
+    let R = report_with F done in
+    let mode = mode_of given.mode p in
+    let none : done.proof ≡ None = no-proof done.results.end done.results done.proof (subst (λ asked. HasProof asked done) plain w.solved.proof) in
+    let same : report_text p R (is_brief given) ≡ results_text p (found mode end R.results.answers R.results.best R.results.known) (is_brief given) =
+    ap (λ proof. text_by proof p R.results (is_brief given)) none ∙ text-of p R.results (is_brief given) mode end w.solved.is.mode_is w.end_is in
+    record {
+      program = p;
+      input = input-of given.make a p w.solved.source;
+      text = results_text p (found mode end R.results.answers R.results.best R.results.known) (is_brief given);
+      tells = telling p R (subst (SaysReport p (ask_of given p) R) w.end_is w.solved.says)
+          (model-of mode mode end R.results ∙ ap (λ m. has_model_in m R.results) (sym w.solved.is.mode_is) ∙ model-with F done.results.mode done.results ∙ w.model_is);
+      written = subst (Appends a.held a.held') same w.text;
+    }
+
+pub whole : (given : Options) (a : Around) (o : Outcome) → given.proof ≡ false → Runs given a o → IsWhole given a.left a.held a.held' o.status
+whole given a o plain runs = by o.status runs.means
+  where
+    by : (s : Status) → Means given a o.report s → IsWhole given a.left a.held a.held' s
+    by All m = wrote given a o.report Finished true (TellsAll given) plain (λ p R says some. tells-all given p (mode_of given.mode p) R.results.answers R.results.best R.results.known says some) m
+    by NoModel m = wrote given a o.report Finished false TellsNone plain (λ p R says none. tells-none given.all_optima (is_brief given) p (mode_of given.mode p) R.results.answers R.results.best R.results.known says none) m
+    by Enough m = wrote given a o.report Limited true (TellsEnough given) plain
+        (λ p R says some. tells-enough given p (mode_of given.mode p) R.results.answers R.results.best R.results.known says.listing says.some says.count
+        (part-of given.all_optima p (mode_of given.mode p) (mode_of given.mode p) Limited R.results says.part) says.best) m
+    by status m = tt
+
+-- the same where the words of a run give these options
+pub whole-on : (own given : Options) (g : Given) (a : Around) (o : Outcome) → options own ≡ g → Runs own a o → g ≡ options given → given.proof ≡ false → IsWhole given a.left a.held a.held' o.status
+whole-on own given g a o first runs second plain = whole given a o plain (subst (λ x. RunsOn x a o) (first ∙ second) runs)

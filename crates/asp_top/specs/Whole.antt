@@ -1,0 +1,84 @@
+-- What a run that finished has read and written, said by the program alone: the theorem of docs/THEOREM.md.
+use Rattle.std.specs.Prelude.{◌≡◌, ℕ, ◌++◌, Bool, if◌then◌else◌, List, [], ◌∷◌, filter, length, Contains, Option, None, Some, Ok, IfSome, codes, decimal}
+use Rattle.std.specs.Io.KnownBytes.{Appends}
+use Rattle.asp_model.specs.declared.program.Program.{Program}
+use Rattle.asp_model.specs.declared.results.Mode.{Mode}
+use Rattle.asp_model.specs.declared.results.Mode.TheVariants.{Enum, Opt, Consequences}
+use Rattle.asp_model.specs.Sets.{Atoms}
+use Rattle.asp_model.specs.Models.{answers}
+use Rattle.asp_model.specs.Costs.{cost, optima}
+use Rattle.asp_model.specs.Consequences.{consequences}
+use Rattle.asp_model.specs.Texts.{answers_from, consequences_line, cost_line, ended_line}
+use Rattle.asp_read.specs.Outcome.{outcome}
+use Rattle.asp_make.specs.Ring.{ring}
+use Rattle.asp_cli.specs.declared.Options.{Options}
+use Rattle.asp_top.specs.declared.status.Status.{Status}
+use Rattle.asp_top.specs.declared.status.Status.TheVariants.{All, NoModel, Enough}
+use Rattle.asp_top.specs.Meaning.{mode_of}
+use Rattle.asp_top.specs.Runs.{is_brief}
+
+-- ---- what is read
+-- The program is that of the text that was read: the source's whole content, where the source tells it. With `--make` it is the ring.
+abbrev pub IsInput : Option ℕ → Option (List ℕ) → Program → Type 0
+IsInput None left p = (text : List ℕ) × (outcome text ≡ Ok p) × IfSome left (λ all. all ≡ text)
+IsInput (Some n) left p = p ≡ ring n
+
+-- ---- what is written
+-- the lines of these answers, unless only the closing lines are asked for
+abbrev pub listed : Options → Program → List Atoms → List ℕ
+listed given p Ss = if is_brief given then [] else answers_from p 1 Ss
+
+-- the last two lines: what was found, and how many
+abbrev pub closing : List ℕ → List ℕ → List ℕ
+closing found count = ended_line found ++ ended_line (codes "Models: " ++ count)
+
+-- some of these answers, in the same order, and so many of them
+abbrev pub ArePicked : ℕ → List Atoms → List Atoms → Type 0
+ArePicked n all Ss = ((chosen : Atoms → Bool) × (Ss ≡ filter chosen all)) × (length Ss ≡ n)
+
+-- which optima are written: all of them with `--opt-all`, and else this one
+abbrev pub written_optima : Options → Program → Atoms → List Atoms
+written_optima given p S = if given.all_optima then optima p else S ∷ []
+
+-- the text where there is no answer: the number of answers is written too, unless consequences are asked for
+abbrev pub none_text : Mode → List ℕ
+none_text Enum = closing (codes "UNSATISFIABLE") (decimal 0)
+none_text Opt = closing (codes "UNSATISFIABLE") (decimal 0)
+none_text (Consequences w) = ended_line (codes "UNSATISFIABLE")
+
+-- There is no answer, and the text says so.
+abbrev pub TellsNone : Program → Mode → List ℕ → Type 0
+TellsNone p mode text = (answers p ≡ []) × (text ≡ none_text mode)
+
+-- There are answers, and all that is asked for is written: all answers; one optimum, or all of them, with the cost; the atoms that are
+-- in some answer, or in each.
+abbrev pub TellsAll : Options → Program → Mode → List ℕ → Type 0
+TellsAll given p Enum text = ¬ (answers p ≡ []) × (text ≡ listed given p (answers p) ++ closing (codes "SATISFIABLE") (decimal (length (answers p))))
+TellsAll given p Opt text = (S : Atoms) × Contains (optima p) S
+    × (text ≡ listed given p (written_optima given p S) ++ cost_line (cost p S) ++ closing (codes "OPTIMUM FOUND") (decimal (length (written_optima given p S))))
+TellsAll given p (Consequences w) text = ¬ (answers p ≡ []) × (text ≡ consequences_line (Some (consequences w p (answers p))) ++ ended_line (codes "CONSEQUENCES FOUND"))
+
+-- As many answers as `--models` asks for are written, or with `--opt-all` as many optima.
+abbrev pub TellsEnough : Options → Program → Mode → List ℕ → Type 0
+TellsEnough given p Enum text = (Ss : List Atoms) × ArePicked given.models (answers p) Ss
+    × (text ≡ listed given p Ss ++ closing (codes "LIMIT REACHED") (decimal given.models ++ codes "+"))
+TellsEnough given p Opt text = (S : Atoms) × (Ss : List Atoms) × Contains (optima p) S × ArePicked given.models (optima p) Ss
+    × (text ≡ listed given p Ss ++ cost_line (cost p S) ++ closing (codes "LIMIT REACHED") (decimal given.models ++ codes "+"))
+TellsEnough given p (Consequences w) text = ⊥
+
+-- ---- the theorem
+-- A program was read, and what was written, after what the sink held before, is a text that tells this of it.
+pub record Wrote (given : Options) (left held held' : Option (List ℕ)) (Tells : Program → Mode → List ℕ → Type 0) : Type 0 where
+  pub program : Program
+  pub input : IsInput given.make left program
+  pub text : List ℕ
+  pub tells : Tells program (mode_of given.mode program) text
+  pub written : Appends held held' text
+
+-- What a run has read and written that finished, with an answer (30) or without (20), or that reached its limit (11). Of a run that
+-- ended in another way nothing is said here.
+abbrev pub IsWhole : Options → Option (List ℕ) → Option (List ℕ) → Option (List ℕ) → Status → Type 0
+IsWhole given left held held' All = Wrote given left held held' (TellsAll given)
+IsWhole given left held held' NoModel = Wrote given left held held' TellsNone
+IsWhole given left held held' Enough = Wrote given left held held' (TellsEnough given)
+IsWhole given left held held' status = Unit {0}
