@@ -11,7 +11,6 @@ ghost use Rattle.asp_smodels.specs.Texts.{after_rules, one_rule, one_symbol, rul
 use asp_read::fault::FaultKind;
 
 /// The parts of a text and its end.
-#[tactic(auto, unfolding(crate::specs::Lines::basic_at, crate::specs::Lines::cardinality_at, crate::specs::Lines::choice_at, crate::specs::Lines::weight_rule_at, crate::specs::Lines::minimize_at, crate::specs::Lines::of_type, crate::specs::Lines::rule_line, crate::specs::Lines::symbol_at, crate::specs::Lines::symbol_line, crate::specs::Lines::word_line, crate::specs::Lines::assumed_line, crate::specs::Lines::number_line, crate::specs::Parts::one_more_at, crate::specs::Parts::heads_at, crate::specs::Parts::literal_at, crate::specs::Parts::signed_at, crate::specs::Parts::literals_at, crate::specs::Parts::weights_at, crate::specs::Parts::weighted_at, asp_read::specs::Judging::outcome_from, asp_read::specs::Judging::judge_all, asp_read::specs::Fields::many_at, asp_read::specs::Fields::count_at, asp_read::specs::Fields::atom_at))]
 pub fn whole_texts()
     ensures empty { smodels_outcome [] ≡ refused 1 1 FaultKind.NoEnd }
     ensures least { smodels_outcome after_rules ≡ Ok empty_program }
@@ -30,7 +29,6 @@ pub fn whole_texts()
 {}
 
 /// Rules that are accepted.
-#[tactic(auto, unfolding(crate::specs::Lines::basic_at, crate::specs::Lines::cardinality_at, crate::specs::Lines::choice_at, crate::specs::Lines::weight_rule_at, crate::specs::Lines::minimize_at, crate::specs::Lines::of_type, crate::specs::Lines::rule_line, crate::specs::Lines::symbol_at, crate::specs::Lines::symbol_line, crate::specs::Lines::word_line, crate::specs::Lines::assumed_line, crate::specs::Lines::number_line, crate::specs::Parts::one_more_at, crate::specs::Parts::heads_at, crate::specs::Parts::literal_at, crate::specs::Parts::signed_at, crate::specs::Parts::literals_at, crate::specs::Parts::weights_at, crate::specs::Parts::weighted_at, asp_read::specs::Judging::outcome_from, asp_read::specs::Judging::judge_all, asp_read::specs::Fields::many_at, asp_read::specs::Fields::count_at, asp_read::specs::Fields::atom_at))]
 pub fn accepted_rules()
     ensures fact { smodels_outcome (one_rule (codes "1 2 0 0")) ≡ Ok (rule_program (record { head = One 2; body = All [] })) }
     ensures basic { smodels_outcome (one_rule (codes "1 2 2 1 3 4")) ≡ Ok (rule_program (record { head = One 2; body = All (negsuc 2 ∷ pos 4 ∷ []) })) }
@@ -41,7 +39,6 @@ pub fn accepted_rules()
 {}
 
 /// Rules that are refused.
-#[tactic(auto, unfolding(crate::specs::Lines::basic_at, crate::specs::Lines::cardinality_at, crate::specs::Lines::choice_at, crate::specs::Lines::weight_rule_at, crate::specs::Lines::minimize_at, crate::specs::Lines::of_type, crate::specs::Lines::rule_line, crate::specs::Lines::symbol_at, crate::specs::Lines::symbol_line, crate::specs::Lines::word_line, crate::specs::Lines::assumed_line, crate::specs::Lines::number_line, crate::specs::Parts::one_more_at, crate::specs::Parts::heads_at, crate::specs::Parts::literal_at, crate::specs::Parts::signed_at, crate::specs::Parts::literals_at, crate::specs::Parts::weights_at, crate::specs::Parts::weighted_at, asp_read::specs::Judging::outcome_from, asp_read::specs::Judging::judge_all, asp_read::specs::Fields::many_at, asp_read::specs::Fields::count_at, asp_read::specs::Fields::atom_at))]
 pub fn refused_rules()
     ensures disjunction { smodels_outcome (one_rule (codes "8 2 2 3 0 0")) ≡ refused 1 1 FaultKind.Disjunction }
     ensures external { smodels_outcome (one_rule (codes "91 2 0")) ≡ refused 1 1 (FaultKind.RuleType (Value (pos 91))) }
@@ -56,7 +53,6 @@ pub fn refused_rules()
 {}
 
 /// Symbols.
-#[tactic(auto, unfolding(crate::specs::Lines::basic_at, crate::specs::Lines::cardinality_at, crate::specs::Lines::choice_at, crate::specs::Lines::weight_rule_at, crate::specs::Lines::minimize_at, crate::specs::Lines::of_type, crate::specs::Lines::rule_line, crate::specs::Lines::symbol_at, crate::specs::Lines::symbol_line, crate::specs::Lines::word_line, crate::specs::Lines::assumed_line, crate::specs::Lines::number_line, crate::specs::Parts::one_more_at, crate::specs::Parts::heads_at, crate::specs::Parts::literal_at, crate::specs::Parts::signed_at, crate::specs::Parts::literals_at, crate::specs::Parts::weights_at, crate::specs::Parts::weighted_at, asp_read::specs::Judging::outcome_from, asp_read::specs::Judging::judge_all, asp_read::specs::Fields::many_at, asp_read::specs::Fields::count_at, asp_read::specs::Fields::atom_at))]
 pub fn symbols()
     ensures name { smodels_outcome (one_symbol (codes "2 a")) ≡ Ok (record empty_program { outputs = record { text = codes "a"; condition = pos 2 ∷ [] } ∷ [] }) }
     ensures blanks { smodels_outcome (one_symbol (codes " 2\t a b ")) ≡ Ok (record empty_program { outputs = record { text = codes " a b "; condition = pos 2 ∷ [] } ∷ [] }) }
