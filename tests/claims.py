@@ -5,6 +5,7 @@
 - A clause in brackets is one of a function that its line names, where the line names functions of the clause's crate.
 - CONTRIBUTING.md names exactly the functions that have more parameters than its rule allows.
 - The third column of docs/DEFINITIONS.md names files of definitions, items or definitions of the row's crates.
+- The README.md of bench/, tests/ and tools/ names each script there.
 - No block of text of PAGES is long: see MOST. None has the words of PLAIN.
 """
 import os
@@ -194,6 +195,15 @@ def wrong_blocks(path):
             yield f"{path}:{number}: a {kind} of {words} words, at most {MOST[kind]}: {text[:40]}.."
 
 
+# ---- scripts
+def unlisted(folder):
+    """Each script of a folder is named by the folder's README.md."""
+    text = text_of(f"{folder}/README.md")
+    for file in sorted(os.listdir(folder)):
+        if file.endswith((".sh", ".py")) and not re.search(rf"`{re.escape(file)}[` ]", text):
+            yield f"{folder}/README.md: {file} isn't named"
+
+
 def hard_words(path):
     for number, line in enumerate(text_of(path).split("\n"), 1):
         for words, plain in PLAIN.items():
@@ -210,6 +220,8 @@ def wrong_claims(deps, promised, crates_of, known, rooms):
     yield from wrong_functions("docs/PROMISES.md", promised, crates_of, known)
     yield from wrong_parameters("CONTRIBUTING.md", deps)
     yield from wrong_definitions("docs/DEFINITIONS.md", known)
+    for folder in ("bench", "tests", "tools"):
+        yield from unlisted(folder)
     for path in PAGES:
         if not os.path.isfile(path):
             yield f"{path} is missing"

@@ -124,6 +124,12 @@ printf '%s\n' 'Conflicts: N' 'Leaves: N' 'Log: N' 'Decisions: N' 'Propagated: N'
 status=$?
 sed 's/[0-9][0-9]*/N/g' "$notes" > "$given"
 check "counts of two workers" 30 "$wanted" "$status" "$given"
+# Nothing is split before somebody has searched, so one of the two finds the one conflict, on one path.
+printf '%s\n' 'Conflicts: 1' 'Leaves: 1' 'Log: 1' 'Decisions: 1' > "$wanted"
+printf 'asp 1 0 0\n1 1 2 1 2 0 0\n1 0 0 0 2 1 2\n1 0 0 0 2 1 -2\n1 0 0 0 2 -1 2\n1 0 0 0 2 -1 -2\n0\n' | "$program" --stats --workers 2 2> "$notes" > /dev/null
+status=${PIPESTATUS[1]}
+head -4 "$notes" > "$given"
+check "no early split" 20 "$wanted" "$status" "$given"
 
 # Each example stands in the list of examples.
 for text in examples/*.aspif; do

@@ -15,7 +15,7 @@ import os
 import re
 
 LINES, WORDS = 120, 30
-PAGES = ["*.md", "docs/*.md", "bench/*.md", "examples/**/*.md", "tests/*.md", "edits/*.md", "crates/*/README.md"]
+PAGES = ["*.md", "docs/*.md", "bench/*.md", "packaging/*.md", "examples/**/*.md", "tests/*.md", "edits/*.md", "crates/*/README.md"]
 LINK = re.compile(r"!?\[[^\[\]]*\]\(([^()\s]+)\)")
 FOLDERS = ("bench", "bin", "completion", "crates", "docs", "edits", "examples", "man", "packaging", "tests", "tools")
 PATH = re.compile(rf"(?:{'|'.join(FOLDERS)})/[\w./-]*")

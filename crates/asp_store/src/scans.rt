@@ -8,13 +8,12 @@ ghost use Rattle.std.specs.List.{All};
 ghost use Rattle.asp_vars.specs.Codes.{code_of};
 ghost use Rattle.asp_vars.specs.Literals.{complement, holds_in};
 ghost use Rattle.asp_vars.specs.declared.nogood.Nogood.{Nogood};
-ghost use Rattle.asp_arena.specs.Rows.{row_at};
 ghost use Rattle.asp_store.specs.declared.watch.Pair.{Pair};
 ghost use Rattle.asp_store.specs.Marks.{Watch};
 ghost use Rattle.asp_store.specs.Keeping.{nogood_at};
 ghost use Rattle.asp_store.specs.Pairs.{pair_at, IsOneOf};
 ghost use Rattle.asp_store.specs.Fitting.{IsFalseBy};
-ghost use Rattle.asp_store.specs.Walking.{back, IsWalking, IsVisit, MayWatch, Passes};
+ghost use Rattle.asp_store.specs.Walking.{back, IsWalking, IsVisit, Passes};
 
 use crate::front::Front;
 use crate::looks::Spot;
@@ -146,38 +145,10 @@ fn leave(
     list.swap_remove(i);
 }
 
-// Another literal becomes the watch in place of the front's, unless memory is wanting.
+// Another literal becomes the watch in place of the front's, as the other watch isn't false. The place is left where there is
+// none, or no memory for its watch.
 #[inline(always)]
 fn move_watch(
-    list: &mut Vec<Watch>,
-    watches: &mut Watches,
-    slots: &[Option<StoredNogood>],
-    i: usize,
-    id: u32,
-    other: Lit,
-    spot: Spot,
-    front: &Front,
-    trail: &Trail,
-) -> Pass
-    requires visit { IsVisit slots.now (back watches.old (code_of front.now.lit) list.old.items) trail.now front.now i id other }
-    requires may { MayWatch slots.now trail.now id other spot.lit }
-    requires stands { slice_get (row_at watches.old.rows id) spot.place ≡ Some spot.lit }
-    ensures { Passes slots.now watches.new list.old.items list.new.items trail.now front.now i result }
-{
-    let _len = trail.len();
-    match watches.lists.push(spot.lit, Watch::new(other, id, false)) {
-        Err(_) => Pass::Halts,
-        Ok(()) => {
-            rewatch(&mut watches.rows, id, front.lit, other, spot);
-            leave(list, watches, slots, i, id, front, trail);
-            Pass::Goes
-        }
-    }
-}
-
-// Looks for another watch, as the other one isn't false.
-#[inline(always)]
-fn pass_long(
     list: &mut Vec<Watch>,
     watches: &mut Watches,
     slots: &[Option<StoredNogood>],
@@ -198,7 +169,14 @@ fn pass_long(
             if spot.lit == other {
                 return Pass::Halts;
             }
-            move_watch(list, watches, slots, i, id, other, spot, front, trail)
+            match watches.lists.push(spot.lit, Watch::new(other, id, false)) {
+                Err(_) => Pass::Halts,
+                Ok(()) => {
+                    rewatch(&mut watches.rows, id, front.lit, other, spot);
+                    leave(list, watches, slots, i, id, front, trail);
+                    Pass::Goes
+                }
+            }
         }
     }
 }
@@ -234,7 +212,7 @@ fn pass_place(
                 block(list, watches, slots, i, id, other, front, trail);
                 return Pass::Stays;
             }
-            pass_long(list, watches, slots, i, id, other, front, trail)
+            move_watch(list, watches, slots, i, id, other, front, trail)
         }
     }
 }

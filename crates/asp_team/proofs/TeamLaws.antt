@@ -1,101 +1,36 @@
 -- Seats are split from the first ones, a worker at a time.
-use Rattle.std.proofs.Common.{◌≡◌, ℕ, suc, ◌+◌, ◌^◌, ◌<◌, ◌≤◌, zero, List, [], ◌∷◌, ◌++◌, length, drop, Option, Some, None, refl, sym, ap, ◌∙◌, subst, arith, length-append}
-use Rattle.std.specs.Prelude.{unwrap_or, option_to_list, slice_get, Ok}
-use Rattle.std.specs.Option.{IfSome}
+use Rattle.std.proofs.Common.{◌≡◌, ℕ, suc, ◌+◌, ◌^◌, ◌<◌, zero, List, [], ◌∷◌, ◌++◌, length, Option, Some, refl, sym, ap, ◌∙◌, subst, arith, length-append}
+use Rattle.std.specs.Prelude.{unwrap_or, option_to_list}
 use Rattle.std.specs.List.{All}
-use Rattle.std.proofs.lemmas.List.{append-nil}
 use Rattle.std.proofs.lemmas.List.Elements.{All-append, All-nil}
-use mathlib.Core.List.{IsPrefix}
 use lib.ListN.{get_elem?}
 use Rattle.asp_model.specs.declared.program.Program.{Program}
 use Rattle.asp_model.specs.declared.results.Ask.{Ask}
-use Rattle.asp_vars.specs.Literals.{Literal}
 use Rattle.asp_vault.specs.declared.view.View.{View}
-use Rattle.asp_vault.specs.Makers.{NoneBy, OnlyBy}
-use Rattle.asp_vault.specs.Moments.{Stays}
-use Rattle.asp_vault.specs.Rules.{parted, fresh, opened, holding, after_misses, given_back, Learnt}
+use Rattle.asp_vault.specs.Makers.{NoneBy}
+use Rattle.asp_vault.specs.Rules.{parted, fresh, opened}
 use Rattle.asp_vault.specs.Seats.{view, IsOf, IsBeside}
-use Rattle.asp_vault.proofs.Filters.{drop_prefix, none_if}
-use Rattle.asp_vault.proofs.Prefixes.{prefix_self}
 use Rattle.asp_log.specs.Entries.{Contents}
 use Rattle.asp_pool.specs.declared.pool.Pass.{Pass}
 use Rattle.asp_pool.specs.Lists.{Every}
 use Rattle.asp_pool.specs.Pools.{IsOfPool}
-use Rattle.asp_path.specs.Trees.{open_from}
-use Rattle.asp_core.specs.declared.event.Event.{Event}
 use Rattle.asp_core.specs.declared.event.Event.TheVariants as event
 use Rattle.asp_core.specs.declared.task.Task.{Task}
-use Rattle.asp_core.specs.Units.{out_of}
-use Rattle.asp_core.specs.Boards.{Board, start, goal_of}
-use Rattle.asp_core.specs.Events.{IsVariable, maker, replay}
+use Rattle.asp_core.specs.Boards.{start, goal_of}
 use Rattle.asp_core.specs.Growth.{Spares}
 use Rattle.asp_core.proofs.GrowthLaws.{Spares-run}
-use Rattle.asp_book.specs.Books.{Booked, signed, IsJournalOf}
-use Rattle.asp_book.specs.Calls.{Knows, no_task, task_of, seen_board, IsCall}
-use Rattle.asp_book.specs.Replies.{taken, divided}
-use Rattle.asp_book.proofs.CallLaws.{others-are, task-stays}
-use Rattle.asp_book.proofs.DeskLaws.{HasTaken, stays_surely, calls}
-use Rattle.asp_crew_laws.specs.Gone.{IsFork}
-use Rattle.asp_crew_laws.proofs.QuietLaws.{all-join}
+use Rattle.asp_book.specs.Books.{signed, IsJournalOf}
+use Rattle.asp_book.specs.Calls.{Knows, no_task, task_of, seen_board}
+use Rattle.asp_book.specs.Replies.{taken}
+use Rattle.asp_book.proofs.CallLaws.{others-are}
 use Rattle.asp_crew_laws.specs.Runs as runs
 use Rattle.asp_worker.specs.declared.worker.Worker.{Worker}
 use Rattle.asp_worker.specs.declared.worker.Shared.{Shared}
-use Rattle.asp_worker.specs.Seats.{IsSettled, IsIdle, IsRunOf, IsPaged, Reads, Passes, Idles, IsFree, OwnAre, Takes}
-use Rattle.asp_worker.proofs.OwnLaws.{By, own-call}
-use Rattle.asp_worker.proofs.SeatLaws.{board-now, board-task, free-released, lawful-now, settled-on, settled-passes, settled-idles, free-idles, idles-call, reply-taken}
+use Rattle.asp_worker.specs.Seats.{IsIdle, IsRunOf, IsPaged, Reads}
 use Rattle.asp_team.specs.declared.lead.Lead.{Lead}
 use Rattle.asp_team.specs.Joined.{MayJoin}
 use Rattle.asp_team.specs.Teams.{AreForks, AreNew, AreNumbered, AreReady, HasOut, IsBegun, IsHost}
-use Rattle.asp_team.proofs.GoneLaws.{all-few}
 use Rattle.asp_team.proofs.JoinLaws.{place-kept, place-last}
-
--- ---- the number that has nothing still has nothing
-pub idle-passes : (v w : Knows) → IsIdle v → Passes v w → IsFree w → IsIdle w
-idle-passes v w i p free = record {
-  settled = settled-passes v w i.settled p;
-  free = free;
-  home = ap (λ n. out_of (seen_board w).out n) p.stays.number ∙ p.units ∙ i.home;
-}
-
-pub idle-idles : (v w : Knows) → IsIdle v → Idles v w → IsIdle w
-idle-idles v w i j = record {
-  settled = settled-idles v w i.settled j;
-  free = free-idles v w i.free j;
-  home = ap (λ n. out_of (seen_board w).out n) j.stays.number ∙ j.spares.units ∙ i.home;
-}
-
--- a leaf is given back
-pub idle-released : (v w : Knows) (before : List Event) (leaf : ℕ) → IsSettled v → out_of (seen_board v).out v.number ≡ 0 → Stays v w → IsCall v w before (event.Release v.number leaf ∷ []) → IsIdle w
-idle-released v w before leaf set home stays call =
-    let e : Event = event.Release v.number leaf in
-    record {
-      settled = settled-on v w set stays (lawful-now v w before stays e call);
-      free = free-released v w before stays leaf set.run call;
-      home = ap (out_of (seen_board w).out) stays.number ∙ ap (λ (b : Board). out_of b.out v.number) (board-now v w before stays e call) ∙ call.spared.units ∙ home;
-    }
-
--- ---- it only splits the root
-pub fork-taken : (n : ℕ) (o : Option ℕ) → By IsFork n (taken n o)
-fork-taken n None = tt
-fork-taken n (Some leaf) = (λ _. tt, tt)
-
-pub fork-divided : (n leaf : ℕ) (l : Literal) (r : Option (ℕ × ℕ)) → By IsFork n (divided n leaf l r)
-fork-divided n leaf l None = tt
-fork-divided n leaf l (Some leaves) = (λ _. tt, tt)
-
--- ---- the open leaf of least number is taken
-pub taken-first : (v w : Knows) → Stays v w → IsFree v → (o : Option ℕ) → ((before : List Event) × (o ≡ slice_get (open_from 0 (replay (task_of v) before).nodes) 0) × IsCall v w before (taken v.number o)) → Passes v w × Takes w (Ok o)
-taken-first v w stays free o call = reply-taken v w stays free call.0 o call.2
-
--- ---- a leaf is split
-pub some-is : {X : Type 0} (P : X → Type 0) (o : Option X) (x : X) → o ≡ Some x → IfSome o P → P x
-some-is {X = X} P o x e h = subst (λ (q : Option X). IfSome q P) e h
-
-pub program-is : (v w : Knows) (p : Program) → (task_of v).program ≡ p → Stays v w → (task_of w).program ≡ p
-program-is v w p is stays = ap (λ (t : Task). t.program) (task-stays v w stays) ∙ is
-
-pub variable-is : (v : Knows) (p : Program) (n : ℕ) → (task_of v).program ≡ p → IsVariable p n → IsVariable (seen_board v).task.program n
-variable-is v p n is h = subst (λ (q : Program). IsVariable q n) (sym (ap (λ (t : Task). t.program) (board-task v) ∙ is)) h
 
 -- ---- the first seat at a new book
 pub opened-idle : (p : Program) (ask : Ask) (budget : ℕ) (v : Knows) → budget < 2 ^ 64 → v ≡ opened (runs.task_of p ask budget) [] → IsIdle v
@@ -104,6 +39,11 @@ opened-idle p ask budget v fits is = subst IsIdle (sym is) (record {
   free = refl;
   home = refl;
 })
+
+pub opened-begun : (p : Program) (ask : Ask) (budget : ℕ) (v : Knows) → budget < 2 ^ 64 → v ≡ opened (runs.task_of p ask budget) [] → IsBegun (runs.task_of p ask budget) v
+opened-begun p ask budget v fits is =
+    let t : Task = runs.task_of p ask budget in
+    subst (IsBegun t) (sym is) (record { about = refl; first = refl; idle = opened-idle p ask budget (opened t []) fits refl; new = λ n over. tt; out = record { splits = refl; joins = refl }; forks = tt })
 
 -- ---- the first seat at an empty log
 pub opened-paged : (p : Program) (limit : ℕ) (s : Contents) (w : Reads) → s ≡ record { scope = record { program = p; limit = limit }; entries = [] } → w ≡ opened s.scope s.entries → IsPaged p w
@@ -116,53 +56,6 @@ opened-paged p limit s w new is = record {
 
 pub opened-out : (s : Contents) (w : Reads) → w ≡ opened s.scope s.entries → HasOut w 0
 opened-out s w is = record { splits = ap (λ (x : Reads). x.splits) is; joins = ap (λ (x : Reads). x.joins) is }
-
--- ---- the book was taken and given back
-drop-all : (xs : List Event) → drop (length xs) xs ≡ []
-drop-all xs = ap (drop (length xs)) (sym (append-nil xs)) ∙ drop_prefix xs []
-
-module _ (v u : Knows) (b : Booked) (took : u ≡ holding b.journal (after_misses u.misses v)) (learnt : Learnt signed v b.journal) (about : Some b.task ≡ v.about) (lawful : IsJournalOf b.task b.journal) where
-  pub taken-continues : IsPrefix u.seen b.journal
-  taken-continues = subst (λ (x : Knows). IsPrefix x.seen b.journal) (sym took) (prefix_self b.journal)
-
-  pub taken-adds : OnlyBy signed u.number (drop (length u.seen) b.journal)
-  taken-adds = subst (λ (x : Knows). OnlyBy signed u.number (drop (length x.seen) b.journal)) (sym took) (subst (OnlyBy signed u.number) (sym (drop-all b.journal)) tt)
-
-  module _ (w : Knows) (gave : w ≡ given_back b.journal u) where
-    pub survey-idles : Idles v w
-    survey-idles =
-        let has : HasTaken v u b u.number = record { misses = u.misses; took = took; learnt = learnt; about = about; sound = lawful; number = refl } in
-        let stays : Stays v w = stays_surely v u b u.number has w b gave (λ (k : ℕ) (x : Unit {0}). []) tt refl in
-        let call : (before : List Event) × IsCall v w before [] = calls v u b u.number has w b gave (λ (k : ℕ) (x : Unit {0}). []) tt lawful refl in
-        idles-call v w call.0 stays call.1
-
-    pub survey-forks : OwnAre IsFork v → OwnAre IsFork w
-    survey-forks =
-        let has : HasTaken v u b u.number = record { misses = u.misses; took = took; learnt = learnt; about = about; sound = lawful; number = refl } in
-        let stays : Stays v w = stays_surely v u b u.number has w b gave (λ (k : ℕ) (x : Unit {0}). []) tt refl in
-        let call : (before : List Event) × IsCall v w before [] = calls v u b u.number has w b gave (λ (k : ℕ) (x : Unit {0}). []) tt lawful refl in
-        own-call v w call.0 [] stays call.1 IsFork tt
-
-    pub survey-new : v.number ≡ 0 → AreNew w
-    survey-new first n over =
-        let splits : w.splits ≡ v.splits = ap (λ (x : Knows). x.splits) gave ∙ ap (λ (x : Knows). x.splits) took in
-        subst (NoneBy signed n) (sym (ap (λ (x : Knows). x.seen) gave)) (none_if signed n 0 b.journal (learnt.numbers first n (omega (arith, over, splits))))
-
--- ---- number 0 is alone
-forks-are : (w : Knows) → w.number ≡ 0 → w.splits ≡ 0 → AreNew w → OwnAre IsFork w → AreForks w.seen
-forks-are w first none new own = all-join (λ e. maker e ≤ 0) (λ e. maker e ≡ w.number → IsFork e) (λ e. (maker e ≡ 0) × IsFork e) (λ e le f. let z : maker e ≡ 0 = omega (arith, le) in (z, f (z ∙ sym first))) w.seen
-    (all-few 0 w.seen (λ n some. new n (omega (arith, some, none)))) own
-
--- the first seat when the root is split
-pub begun-is : (t : Task) (v u w : Knows) → v ≡ opened t [] → Stays v u → Stays u w → IsIdle w → AreNew w → (OwnAre IsFork v → OwnAre IsFork u) → (OwnAre IsFork u → OwnAre IsFork w) → IsBegun t w
-begun-is t v u w is s r idle new f k = record {
-  about = r.about ∙ s.about ∙ ap (λ (x : Knows). x.about) is;
-  first = r.number ∙ s.number ∙ ap (λ (x : Knows). x.number) is;
-  idle = idle;
-  new = new;
-  out = record { splits = r.splits ∙ s.splits ∙ ap (λ (x : Knows). x.splits) is; joins = r.joins ∙ s.joins ∙ ap (λ (x : Knows). x.joins) is };
-  forks = forks-are w (r.number ∙ s.number ∙ ap (λ (x : Knows). x.number) is) (r.splits ∙ s.splits ∙ ap (λ (x : Knows). x.splits) is) new (k (f (subst (OwnAre IsFork) (sym is) tt)));
-}
 
 -- ---- one seat is split in two
 pub parted-idle : (v : Knows) → IsIdle v → IsIdle (parted v)

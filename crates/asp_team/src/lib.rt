@@ -2,7 +2,6 @@
 #![tactic(auto)]
 
 mod crew;
-mod fork;
 mod lead;
 pub mod many;
 mod team;

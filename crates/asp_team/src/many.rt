@@ -250,7 +250,7 @@ fn worked<R: Threads + Wait + Sync, G: Gate + Sync, H: Halt + Sync, W: Watch + D
 /// `deeds` then. The watch hears now and then what all did so far, from the worker that works in this thread, and what the
 /// main thread does at the end; it comes back.
 ///
-/// The root is split between the workers before they begin. What they leave open, since they were stopped or short of memory
+/// One worker begins, and gives halves of its path to the others. What they leave open, since they were stopped or short of memory
 /// or units, the main thread works off when all have come back, until as many answers as asked for were found. Under a halt
 /// that never stops anybody it closes no path of the first search, and no worker gives one back, unless memory or units were
 /// wanting or it was enough. A second search, where all optima are asked for, is the main thread's alone, and the watch hears
@@ -273,7 +273,6 @@ pub fn solve_with<R: Threads + Wait + Sync, G: Gate + Sync, H: Halt + Sync, W: W
     ensures heard { W.IsAfter watch result.1 }
 {
     match gathered(
-        rt,
         alloc,
         compiled,
         plan.ask,

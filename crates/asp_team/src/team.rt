@@ -1,18 +1,15 @@
 //! A team: what its workers share, the main thread's seats, and the workers before they begin.
 ghost use Rattle.std.specs.Prelude.{◌≡◌, ◌+◌, ◌^◌, ◌<◌, ◌≤◌, [], length, IfOk, OnOk};
-ghost use Rattle.asp_vault.specs.Moments.{Stays};
 ghost use Rattle.asp_vault.specs.Rules.{opened, parted};
-ghost use Rattle.asp_vault.specs.Seats.{view, IsOf, IsBeside};
+ghost use Rattle.asp_vault.specs.Seats.{view, IsOf};
 ghost use Rattle.asp_pool.specs.Lists.{Every};
 ghost use Rattle.asp_pool.specs.Pools.{IsOfPool};
 ghost use Rattle.asp_book.specs.Calls.{task_of as seen_task};
 ghost use Rattle.asp_crew_laws.specs.Runs.{task_of};
-ghost use Rattle.asp_crew_laws.specs.Gone.{IsFork};
-ghost use Rattle.asp_worker.specs.Seats.{IsIdle, IsPaged, OwnAre};
+ghost use Rattle.asp_worker.specs.Seats.{IsPaged};
 ghost use Rattle.asp_team.specs.Joined.{MayJoin};
-ghost use Rattle.asp_team.specs.Teams.{AreNew, AreReady, HasOut, IsBegun, IsHost, IsTeam};
+ghost use Rattle.asp_team.specs.Teams.{AreReady, HasOut, IsHost, IsTeam};
 
-use crate::fork::fork_all;
 use crate::lead::Lead;
 use asp_book::book::Book;
 use asp_core::goal::Goal;
@@ -27,7 +24,6 @@ use asp_vault::{Seat, Vault};
 use asp_worker::worker::{Shared, Worker};
 use std::alloc::{AllocError, Global};
 use std::mem;
-use std::sync::Wait;
 
 /// How many entries the log may have.
 const LOG_LIMIT: u32 = 1048576;
@@ -63,47 +59,6 @@ fn start(
     )?;
     let book = Book::new(alloc, compiled, state)?;
     Vault::make(alloc, book)
-}
-
-// Sees that no other number has done anything.
-fn survey<R: Wait>(rt: &R, vault: &Vault<Book>, seat: &mut Seat<Book>)
-    requires of { IsOf vault.now seat.old }
-    requires first { (view seat.old).number ≡ 0 }
-    requires idle { IsIdle (view seat.old) }
-    ensures of { IsBeside seat.old seat.new }
-    ensures stays { Stays (view seat.old) (view seat.new) }
-    ensures idle { IsIdle (view seat.new) }
-    ensures forks { OwnAre IsFork (view seat.old) → OwnAre IsFork (view seat.new) }
-    ensures new { AreNew (view seat.new) }
-{
-    let book = vault.take(rt, seat);
-    vault.give(seat, book);
-}
-
-// A vault with the book of a run whose root is split into so many paths, if there are atoms enough, and its first seat.
-fn forked<R: Wait>(
-    rt: &R,
-    alloc: Global,
-    compiled: &Compiled,
-    ask: Ask,
-    budget: u64,
-    paths: u32,
-) -> Result<(Vault<Book>, Seat<Book>), AllocError>
-    ensures of { IfOk result (λ r. IsOf r.0 r.1) }
-    ensures begun { IfOk result (λ r. IsBegun (task_of compiled.now ask budget) (view r.1)) }
-{
-    let (book, mut seat) = start(alloc, compiled, ask, budget)?;
-    match fork_all(rt, &book, &mut seat, compiled, paths) {
-        Ok(()) => {
-            survey(rt, &book, &mut seat);
-            Ok((book, seat))
-        }
-        Err(error) => {
-            mem::drop(seat);
-            mem::drop(book);
-            Err(error)
-        }
-    }
 }
 
 // A vault with an empty log, and its first seat.
@@ -192,8 +147,7 @@ fn workers(
 }
 
 /// So many workers, 1 to 64, with what they share and what the main thread has. They write down a proof, if one is wanted.
-pub(crate) fn gathered<R: Wait>(
-    rt: &R,
+pub(crate) fn gathered(
     alloc: Global,
     compiled: &Compiled,
     ask: Ask,
@@ -208,7 +162,7 @@ pub(crate) fn gathered<R: Wait>(
     let (pool, lanes, passes) = Pool::new(alloc, count)?;
     let tallies = Tallies::new(alloc, count)?;
     let (log, pages) = blank(alloc, compiled)?;
-    let (book, seat) = forked(rt, alloc, compiled, ask, budget, count)?;
+    let (book, seat) = start(alloc, compiled, ask, budget)?;
     let shared = Shared {
         alloc,
         mode: ask.mode,

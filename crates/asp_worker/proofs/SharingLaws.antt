@@ -67,11 +67,11 @@ entered-goes m v s t u q g e =
 
 pub refreshed-goes : (m : Mode) (v w : Knows) (s t : Searching) (u : Units) (xs : List Nogood) → GoesOn m v s u → Idles v w → TakesOver m (seen_board w) xs s t → GoesOn m w t u
 refreshed-goes m v w s t u xs g i e =
-    let same : e.between ≡ record s { slots = e.between.slots } = slots-only xs s e.between e.imported in
-    best-goes m w e.between t u (goes-same m w s e.between u (ap (λ (x : Searching). x.program) same) (ap (λ (x : Searching). x.mode) same) (ap (λ (x : Searching). x.known) same) (ap (λ (x : Searching). x.bound) same) (goes-on m v w s u g (idles-passes v w i))) e.best
+    let same : t ≡ record e.between { slots = t.slots } = slots-only xs e.between t e.imported in
+    goes-same m w e.between t u (ap (λ (x : Searching). x.program) same) (ap (λ (x : Searching). x.mode) same) (ap (λ (x : Searching). x.known) same) (ap (λ (x : Searching). x.bound) same) (best-goes m w s e.between u (goes-on m v w s u g (idles-passes v w i)) e.best)
 
 pub refreshed-cube : (m : Mode) (w : Knows) (s t : Searching) (xs : List Nogood) → TakesOver m (seen_board w) xs s t → t.cube ≡ s.cube
-refreshed-cube m w s t xs e = best-cube m (seen_board w) e.between t e.best ∙ ap (λ (x : Searching). x.cube) (slots-only xs s e.between e.imported)
+refreshed-cube m w s t xs e = ap (λ (x : Searching). x.cube) (slots-only xs e.between t e.imported) ∙ best-cube m (seen_board w) s e.between e.best
 
 -- the path of a leaf that is held, after it was entered at x and what others found was taken over at w
 pub begun-on : (m : Mode) (v x w : Knows) (s t r : Searching) (u : Units) (leaf : ℕ) (xs : List Nogood) → GoesOn m v s u → Holds v leaf → Idles v x → Enters s t (cube_of (seen_board x).nodes leaf) → Idles x w → TakesOver m (seen_board w) xs t r → IsOn m w r u leaf

@@ -1,5 +1,5 @@
 -- What a search takes over from the others.
-use Rattle.std.specs.Prelude.{◌≡◌, ℕ, nat_lt, Bool, true, false, if◌then◌else◌, List, [], ◌∷◌, Option, None, Some, ℤ, MatchBool, option_map}
+use Rattle.std.specs.Prelude.{◌≡◌, ◌⊎◌, ℕ, nat_lt, Bool, true, false, if◌then◌else◌, List, [], ◌∷◌, Option, None, Some, ℤ, MatchBool, option_map}
 use Rattle.asp_model.specs.declared.results.Mode.{Mode}
 use Rattle.asp_model.specs.declared.results.Mode.TheVariants as mode
 use Rattle.asp_model.specs.declared.results.Reasoning.{Reasoning}
@@ -55,11 +55,11 @@ abbrev pub ImportsAll : List Nogood → Searching → Searching → Type 0
 ImportsAll [] s t = t ≡ s
 ImportsAll (n ∷ nogoods) s t = (r : Searching) × ImportsIf s r n × ImportsAll nogoods r t
 
--- The nogoods that count, and then the best cost or the answers delivered, were taken over.
+-- The best cost or the answers delivered, and then the nogoods that count, were taken over: also those that count by this cost alone.
 pub record TakesOver (m : Mode) (b : Board) (nogoods : List Nogood) (s t : Searching) : Type 0 where
   pub between : Searching
-  pub imported : ImportsAll nogoods s between
-  pub best : TakesBest m b between t
+  pub best : TakesBest m b s between
+  pub imported : ImportsAll nogoods between t
 
 -- After want of memory the search may be on no path, but knows what it knew.
 pub record Remembers (s t : Searching) : Type 0 where
@@ -67,3 +67,7 @@ pub record Remembers (s t : Searching) : Type 0 where
   pub mode_is : t.mode ≡ s.mode
   pub known : t.known ≡ s.known
   pub bound : t.bound ≡ s.bound
+
+-- The same, where the best cost or the answers delivered may have been taken over before.
+abbrev pub RemembersAll : Mode → Board → Searching → Searching → Type 0
+RemembersAll m b s t = Remembers s t ⊎ ((r : Searching) × TakesBest m b s r × Remembers r t)

@@ -159,13 +159,6 @@ pub(crate) enum Sight {
     Others,
 }
 
-// Whether a worker leaves alone what nobody offered. While another has a path, that may be the rest of it: answers that were found
-// there would be found again. In its first round a fresh worker takes it: the paths into which the search is forked at the start
-// are in no lane.
-fn leaves_alone(open: usize, held: usize, fresh: bool, round: u32) -> bool {
-    held > 0 && (open == 0 || !fresh || round > 0)
-}
-
 // How many paths are open, and how many are held.
 fn count_paths<R: Wait>(rt: &R, shared: &Shared, seat: &mut Seat<Book>) -> (usize, usize)
     requires of { IsOf shared.now.book seat.old }
@@ -179,12 +172,12 @@ fn count_paths<R: Wait>(rt: &R, shared: &Shared, seat: &mut Seat<Book>) -> (usiz
     (open, held)
 }
 
-// Where it is time, looks at the board, and takes an open path that isn't to be left alone.
+// Where it is time, looks at the board, and takes an open path if none is held. While another has a path, one that nobody offered
+// may be the rest of it: answers that were found there would be found again.
 fn survey<R: Wait>(
     rt: &R,
     shared: &Shared,
     seat: &mut Seat<Book>,
-    fresh: bool,
     round: u32,
 ) -> Result<Sight, AllocError>
     requires of { IsOf shared.now.book seat.old }
@@ -198,7 +191,7 @@ fn survey<R: Wait>(
         return Ok(Sight::Others);
     }
     let (open, held) = count_paths(rt, shared, seat);
-    if leaves_alone(open, held, fresh, round) {
+    if held != 0 {
         return Ok(Sight::Others);
     }
     if open == 0 {
@@ -239,7 +232,6 @@ fn look_for<R: Wait>(
     seat: &mut Seat<Book>,
     lane: &mut Lane,
     pass: &mut Pass,
-    fresh: bool,
 ) -> Result<Option<Leaf>, AllocError>
     requires of { IsOf shared.now.book seat.old }
     requires settled { IsSettled (view seat.old) }
@@ -257,7 +249,7 @@ fn look_for<R: Wait>(
         if taken.is_some() {
             return Ok(taken);
         }
-        match survey(rt, shared, seat, fresh, round)? {
+        match survey(rt, shared, seat, round)? {
             Sight::Taken(leaf) => return Ok(Some(leaf)),
             Sight::Nothing => return Ok(None),
             Sight::Others => {}
@@ -270,8 +262,7 @@ fn look_for<R: Wait>(
 
 /// Takes a path, and waits for one as long as another worker has one. `None` where no worker has any.
 ///
-/// The rest of a path of which the other half was closed comes first, if there is one and it is open. A fresh worker, which had no
-/// path yet, takes one that nobody offered at once.
+/// The rest of a path of which the other half was closed comes first, if there is one and it is open.
 pub(crate) fn find<R: Wait>(
     rt: &R,
     shared: &Shared,
@@ -279,7 +270,6 @@ pub(crate) fn find<R: Wait>(
     lane: &mut Lane,
     pass: &mut Pass,
     rest: Option<Leaf>,
-    fresh: bool,
 ) -> Result<Option<Leaf>, AllocError>
     requires of { IsOf shared.now.book seat.old }
     requires settled { IsSettled (view seat.old) }
@@ -295,5 +285,5 @@ pub(crate) fn find<R: Wait>(
     if taken.is_some() {
         return Ok(taken);
     }
-    look_for(rt, shared, seat, lane, pass, fresh)
+    look_for(rt, shared, seat, lane, pass)
 }

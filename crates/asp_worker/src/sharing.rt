@@ -16,7 +16,7 @@ ghost use Rattle.asp_book.specs.Calls.{seen_board, task_of};
 ghost use Rattle.asp_search.specs.Beside.{count_unshown, left_to_show, Leaves};
 ghost use Rattle.asp_search_laws.specs.Searching.{Searching};
 ghost use Rattle.asp_worker.specs.Seats.{IsReady, Keeps, IsSettled, IsPaged, Idles, Leases, WasEmpty};
-ghost use Rattle.asp_worker.specs.Sharing.{is_fewer, is_smaller, lowered, ImportsAll, Remembers, TakesBest, TakesKnown, TakesOver};
+ghost use Rattle.asp_worker.specs.Sharing.{is_fewer, is_smaller, lowered, ImportsAll, Remembers, RemembersAll, TakesBest, TakesKnown, TakesOver};
 ghost use Rattle.asp_worker.specs.Working.{GoesOn, Finds, IsStop};
 
 use crate::engine::Engine;
@@ -153,7 +153,8 @@ fn take_best<R: Wait, P: Propagator>(
     }
 }
 
-/// Takes over what others have found. After want of memory it may be that no path is entered.
+/// Takes over what others have found: the best cost first, since a nogood below a cost that the search hasn't reached is passed
+/// over, and isn't looked at again. After want of memory it may be that no path is entered.
 pub(crate) fn refresh<R: Wait, P: Propagator>(
     rt: &R,
     shared: &Shared,
@@ -170,16 +171,16 @@ pub(crate) fn refresh<R: Wait, P: Propagator>(
     ensures fuel { engine.new.fuel ≡ engine.old.fuel }
     ensures ok { OnOk result (TakesOver shared.now.mode (seen_board (view worker.new.seat)) (drop engine.old.read (view worker.new.pages).seen) engine.old.search engine.new.search) }
     ensures all { OnOk result (engine.new.read ≡ length (view worker.new.pages).seen) }
-    ensures err { OnErr result (Remembers engine.old.search engine.new.search) }
+    ensures err { OnErr result (RemembersAll shared.now.mode (seen_board (view worker.new.seat)) engine.old.search engine.new.search) }
 {
+    take_best(rt, shared, &mut worker.seat, &mut engine.search)?;
     import_new(
         rt,
         shared,
         &mut worker.pages,
         &mut engine.search,
         &mut engine.read,
-    )?;
-    take_best(rt, shared, &mut worker.seat, &mut engine.search)
+    )
 }
 
 /// Tells the others what the last step learnt, if that is of use to them and there is room and memory for it.

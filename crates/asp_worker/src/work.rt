@@ -92,7 +92,6 @@ fn search_paths<R: Wait, P: Propagator, G: Gate, H: Halt, W: Watch>(
             &mut worker.lane,
             &mut worker.pass,
             engine.rest.take(),
-            engine.turn == 0,
         ) {
             Err(_) => return true,
             Ok(found) => match found {

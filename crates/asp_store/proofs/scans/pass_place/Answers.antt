@@ -44,8 +44,8 @@ block-requires-clause-is_false c =
     false_top t.vars t.entries b c.args.front.now.level c.len-len.ensures.ordered c.requires.top
     (subst (λ (a : List (Option Bool)). holds_in a (complement b) ≡ true) c.assignment.ensures.values (sym c.is_false.ensures ∙ c.if-is_false.true))
 
-pub pass_long-requires : goal.pass_long-requires
-pass_long-requires c =
+pub move_watch-requires : goal.move_watch-requires
+move_watch-requires c =
     let w : Watches = c.args.watches.now in
     let t : Trailed = c.args.trail.now in
     let f : Front = c.args.front.now in

@@ -6,11 +6,11 @@ use Rattle.asp_worker.proofs.find.survey.Goals as goal
 pub returns-then-round-ne0-clause-passes : goal.returns-then-round-ne0-clause-passes
 returns-then-round-ne0-clause-passes g c = passes-self (view c.args.seat.now) c.requires.settled
 
-pub returns-then-leaves_alone-clause-passes : goal.returns-then-leaves_alone-clause-passes
-returns-then-leaves_alone-clause-passes g c = idles-passes (view c.args.seat.now) (view c.count_paths-open.new.seat) c.count_paths-open.ensures.idles
+pub returns-then-held-ne0-clause-passes : goal.returns-then-held-ne0-clause-passes
+returns-then-held-ne0-clause-passes g c = idles-passes (view c.args.seat.now) (view c.count_paths-open.new.seat) c.count_paths-open.ensures.idles
 
-pub returns-then-leaves_alone-clause-sees : goal.returns-then-leaves_alone-clause-sees
-returns-then-leaves_alone-clause-sees g c = free-idles (view c.args.seat.now) (view c.count_paths-open.new.seat) c.requires.free c.count_paths-open.ensures.idles
+pub returns-then-held-ne0-clause-sees : goal.returns-then-held-ne0-clause-sees
+returns-then-held-ne0-clause-sees g c = free-idles (view c.args.seat.now) (view c.count_paths-open.new.seat) c.requires.free c.count_paths-open.ensures.idles
 
 pub returns-then-open-eq0-clause-passes : goal.returns-then-open-eq0-clause-passes
 returns-then-open-eq0-clause-passes g c = idles-passes (view c.args.seat.now) (view c.count_paths-open.new.seat) c.count_paths-open.ensures.idles
