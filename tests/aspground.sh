@@ -67,6 +67,9 @@ check "gringo's arguments" diff "$room/wanted" "$room/arguments"
 echo 'cat' > "$room/act"
 ground - < "$room/aspif"
 told "standard input" 30 "$both"
+echo 'cat "$ROOM/aspif"' > "$room/act"
+ground x.lp <&-
+told "no standard input" 30 "$both"
 printf 'printf "asp 1 0 0\\n1 0 0 0 0\\n0\\n"' > "$room/act"
 ground x.lp
 told "no answer" 20 'UNSATISFIABLE\nModels: 0\n'
