@@ -160,7 +160,7 @@ TMPDIR=$room/tmp
 # Signals: gringo ends too, and no file is left; aspenum is the process that was called. (A shell without job control starts
 # what runs beside it without SIGINT.)
 soon() {
-    for _ in {1..100}; do "$@" && return; sleep 0.1; done
+    for _ in {1..600}; do "$@" && return; sleep 0.1; done
     false
 }
 gone() { ! kill -0 "$1" 2> /dev/null; }
