@@ -40,7 +40,7 @@ done
 # Each refusal writes one line to standard error, nothing to standard output, and ends with its status. Faulty words are
 # followed by the lines that tell how the program is called. A line of refusals.txt has the status, the first line, the
 # words and the text, with ~ between them.
-usage=$("$program" --help | sed -n '/^usage: /,/\]$/p; /^       aspenum/q')
+usage=$("$program" --help | sed -n '/^usage: /,/^       aspenum/{/^       aspenum/!p}')
 while IFS='~' read -r status note words text; do
     printf '%s\n' "$note" > "$wanted"
     [ "$status" != 64 ] || printf '%s\n' "$usage" >> "$wanted"

@@ -78,7 +78,7 @@ abbrev pub stray : Text → Text → Given
 stray name w = if asks_help name then help else (if asks_version name then version
     else (if looks_like_option w then misuse (unknown name) else misuse (unexpected w)))
 
--- what stands before the first `=`, and what stands behind it
+-- what stands before the first `=`, and what comes after it
 abbrev pub cut : Text → Option (Text × Text)
 cut w = if nat_lt (position_or_len (λ b. b == 61) w) (length w)
     then Some (before_first (λ b. b == 61) w, after_first (λ b. b == 61) w) else None
@@ -103,7 +103,7 @@ told_by n v (Some f) = if clashes f then Err (misuse (rivals Proof Mode)) else O
 abbrev pub told_value : Found → Name → Text → Result State Given
 told_value f n v = told_by n v (found_with f n v)
 
--- an option with its value behind `=`
+-- an option with its value after `=`
 abbrev pub told_with_value : Found → Text → Text → Text → Result State Given
 told_with_value f name v w = if_ok (fresh f name w) (λ n. told_value f n v)
 
@@ -115,7 +115,7 @@ told_name f Progress = record { found = record f { progress = true }; awaits = a
 told_name f Proof = record { found = record f { proof = true }; awaits = awaits.Option }
 told_name f n = record { found = f; awaits = awaits.Value n }
 
--- an option in a word of its own, behind which its value has to come if it takes one
+-- an option in a word of its own, after which its value has to come if it takes one
 abbrev pub told_alone : Found → Text → Result State Given
 told_alone f w = if_ok (fresh f w w) (λ n. Ok (told_name f n))
 

@@ -3,7 +3,8 @@ ghost use Rattle.std.specs.Prelude.{◌≡◌};
 ghost use Rattle.asp_cli.specs.Texts.{page_back, page_front, usage_lines, version_line};
 
 /// The lines that tell how the program is called.
-pub const USAGE: &str = "usage: aspenum [--mode auto|enum|opt|brave|cautious] [--models N] [--opt-all]\n\
+pub const USAGE: &str =
+    "usage: aspenum [--mode auto|enum|opt|brave|cautious] [--models N] [--opt-all]\n\
 \x20              [--workers 1..64] [--budget N] [--quiet] [--proof]\n\
 \x20              [--split 1..100000] [--make 3..2000] [--stats] [--progress]";
 

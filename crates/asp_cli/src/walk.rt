@@ -1,4 +1,4 @@
-//! The walk over the words behind the program's name.
+//! The walk over the words after the program's name.
 ghost use Rattle.std.specs.Prelude.{◌≡◌, None, IfOk, IfSome, map, option_map, string_bytes};
 ghost use Rattle.asp_cli.specs.Found.{AreApart, IsApart, rival_of, start};
 ghost use Rattle.asp_cli.specs.Given.{after, cut, ended, fresh, looks_like_option, refused, seen, stray, told_alone, told_option, told_value, told_with_value, walked};
@@ -75,7 +75,7 @@ fn stray<'a>(name: &'a str, word: &'a str) -> CliError<'a>
     }
 }
 
-// What stands before the first `=`, and what stands behind it.
+// What stands before the first `=`, and what comes after it.
 fn cut<'a>(word: &'a str) -> Option<(&'a str, &'a str)>
     ensures { option_map (λ p. (p.0.now, p.1.now)) result ≡ cut word.entry.now }
 {
@@ -123,7 +123,7 @@ fn value<'a>(found: Found, name: Name, text: &'a str) -> Result<State, CliError<
     }
 }
 
-// An option with its value behind `=`.
+// An option with its value after `=`.
 fn with_value<'a>(
     found: Found,
     name: &'a str,
@@ -242,7 +242,7 @@ fn ended<'a>(state: &State) -> Result<Options, CliError<'a>>
     }
 }
 
-/// The options that the words give, or the first word's answer that gives none.
+/// The options that the words give, or what the first word gives that asks for help or the version, or is faulty.
 pub fn walk<'a>(words: &'a [String]) -> Result<Options, CliError<'a>>
     ensures value { seen result ≡ walked start (map string_bytes words.entry.now) }
     ensures ring { IfOk result (λ o. IsRing o.make) }

@@ -124,8 +124,8 @@ consequences-all brief p w [] best known are some = absurd (false≢true (sym (a
 consequences-all brief p w (S ∷ K) best known are some = (
   λ none. absurd cc,
   ap (λ (x : Option Atoms). results_text p (found (Consequences w) Finished [] best x) brief) are
-  ∙ ap (λ (x : List ℕ). x ++ consequences_line (Some (consequences w p (S ∷ K))) ++ (ended_line (codes "CONSEQUENCES FOUND") ++ [])) (no-lines brief p)
-  ∙ ap (λ (x : List ℕ). consequences_line (Some (consequences w p (S ∷ K))) ++ x) (append-nil (ended_line (codes "CONSEQUENCES FOUND"))),
+      ∙ ap (λ (x : List ℕ). x ++ consequences_line (Some (consequences w p (S ∷ K))) ++ (ended_line (codes "CONSEQUENCES FOUND") ++ [])) (no-lines brief p)
+      ∙ ap (λ (x : List ℕ). consequences_line (Some (consequences w p (S ∷ K))) ++ x) (append-nil (ended_line (codes "CONSEQUENCES FOUND"))),
 )
 
 found-enum : (all : Bool) (p : Program) (L : List Atoms) (best : Option (Atoms × List ℤ)) (known : Option Atoms) → IsAllFound all p Enum L best known → IsFound p Enum L best known
@@ -178,20 +178,18 @@ tells-none all brief p Enum L best known is none =
     let empty = none-of L none in
     (sym (found-enum all p L best known is).0 ∙ empty, ap (λ (Ss : List Atoms). results_text p (found Enum Finished Ss best known) brief) empty ∙ counted-none brief p)
 tells-none all brief p Opt L best known is none =
-    let empty = bests-none best L none in
-    (
+    let empty = bests-none best L none in (
       subst (IsBest p) empty.0 (found-best all p L best known is),
       ap (λ (Ss : List Atoms). results_text p (found Opt Finished Ss best known) brief) empty.1 ∙ ap (λ (b : Option (Atoms × List ℤ)). results_text p (found Opt Finished [] b known) brief) empty.0 ∙ counted-none brief p,
     )
 tells-none all brief p (Consequences w) L best known is none =
     let told = found-consequences all p w L best known is in
-    let empty = no-consequences p w (answers p) known told.2 none in
-    (
+    let empty = no-consequences p w (answers p) known told.2 none in (
       empty.0,
       ap (λ (Ss : List Atoms). results_text p (found (Consequences w) Finished Ss best known) brief) told.0
-      ∙ ap (λ (x : Option Atoms). results_text p (found (Consequences w) Finished [] best x) brief) empty.1
-      ∙ joined (lines brief p []) _ _ (append-nil (ended_line (codes "UNSATISFIABLE")))
-      ∙ ap (λ (x : List ℕ). x ++ ended_line (codes "UNSATISFIABLE")) (no-lines brief p),
+          ∙ ap (λ (x : Option Atoms). results_text p (found (Consequences w) Finished [] best x) brief) empty.1
+          ∙ joined (lines brief p []) _ _ (append-nil (ended_line (codes "UNSATISFIABLE")))
+          ∙ ap (λ (x : List ℕ). x ++ ended_line (codes "UNSATISFIABLE")) (no-lines brief p),
     )
 
 -- ---- at its limit
@@ -212,7 +210,7 @@ limited-opt brief p n (T ∷ L) (Some b) known some count part is = (
   an-optimum p b.0 b.1 is,
   (part, count),
   ap (λ (c : List ℤ). lines brief p (T ∷ L) ++ cost_line c ++ last_lines (length (T ∷ L))) is.sums
-  ∙ ap (λ (k : ℕ). lines brief p (T ∷ L) ++ cost_line (cost p b.0) ++ last_lines k) count,
+      ∙ ap (λ (k : ℕ). lines brief p (T ∷ L) ++ cost_line (cost p b.0) ++ last_lines k) count,
 )
 
 opt-limited : (all brief : Bool) (p : Program) (n : ℕ) (L : List Atoms) (best : Option (Atoms × List ℤ)) (known : Option Atoms) → asks_list all Opt ≡ true → 0 < n → length L ≡ n → IsPartOf all p Opt (found Opt Limited L best known) → IsBest p best

@@ -1,6 +1,7 @@
 //! The lines on the notes for a faulty command line.
-ghost use Rattle.std.specs.Prelude.{◌≡◌, ◌++◌, codes, option_map};
+ghost use Rattle.std.specs.Prelude.{◌≡◌, ◌++◌, codes};
 ghost use Rattle.asp_cli.specs.Given.{fault_seen};
+ghost use Rattle.asp_cli.specs.Hints.{nearest};
 ghost use Rattle.asp_cli.specs.Names.{takes_of, text_of};
 ghost use Rattle.asp_cli.specs.Texts.{usage_lines};
 ghost use Rattle.asp_top.specs.Notes.{IsNoted, Writes};
@@ -45,11 +46,11 @@ fn write_value<N: Sink>(notes: &mut N, name: Name, value: &str) -> Result<(), Fa
 }
 
 // The nearest name, if one is near.
-fn write_near<N: Sink>(notes: &mut N, name: Option<&str>) -> Result<(), Failed>
+fn write_near<N: Sink>(notes: &mut N, word: &str) -> Result<(), Failed>
     ensures { Writes (N.held notes.old) (N.held notes.new) (N.faults notes.old) (N.faults notes.new)
-        result (near_text (option_map (λ s. s.now) name)) }
+        result (near_text (nearest word.now)) }
 {
-    match name {
+    match nearest(word) {
         Some(name) => write_three(notes, b": did you mean ", name.as_bytes(), b"?"),
         None => write(notes, b""),
     }
@@ -61,7 +62,7 @@ fn write_hint<N: Sink>(notes: &mut N, word: &str) -> Result<(), Failed>
 {
     match counterpart(word) {
         Some(text) => write_both(notes, b": here ", text.as_bytes()),
-        None => write_near(notes, nearest(word)),
+        None => write_near(notes, word),
     }
 }
 
