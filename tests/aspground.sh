@@ -67,6 +67,9 @@ check "gringo's arguments" diff "$room/wanted" "$room/arguments"
 echo 'cat' > "$room/act"
 ground - < "$room/aspif"
 told "standard input" 30 "$both"
+echo 'cat "$ROOM/aspif"' > "$room/act"
+ground x.lp <&-
+told "no standard input" 30 "$both"
 printf 'printf "asp 1 0 0\\n1 0 0 0 0\\n0\\n"' > "$room/act"
 ground x.lp
 told "no answer" 20 'UNSATISFIABLE\nModels: 0\n'
@@ -157,7 +160,7 @@ TMPDIR=$room/tmp
 # Signals: gringo ends too, and no file is left; aspenum is the process that was called. (A shell without job control starts
 # what runs beside it without SIGINT.)
 soon() {
-    for _ in {1..100}; do "$@" && return; sleep 0.1; done
+    for _ in {1..600}; do "$@" && return; sleep 0.1; done
     false
 }
 gone() { ! kill -0 "$1" 2> /dev/null; }

@@ -1,5 +1,5 @@
 -- One more word of the walk.
-use Rattle.std.proofs.Common.{◌≡◌, ◌∙◌, ℕ, ◌+◌, ◌<◌, ◌≤◌, List, [], ◌∷◌, length, get_or, drop, map, suc, refl, sym, ap, add-one, drop-cons, Global}
+use Rattle.std.proofs.Common.{◌≡◌, ◌∙◌, ℕ, ◌+◌, ◌<◌, ◌≤◌, List, length, get_or, drop, map, suc, sym, ap, add-one, drop-cons, Global}
 use Rattle.std.specs.Prelude.{Ok, Err, String, string_bytes}
 use Rattle.std.proofs.lemmas.List.{drop_all}
 use Rattle.asp_cli.specs.declared.walk.State.{State}

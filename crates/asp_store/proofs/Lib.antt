@@ -1,5 +1,4 @@
 pub mod FixpointLaws
-pub mod BackLaws
 pub mod FitsLaws
 pub mod GetLaws
 pub mod GivenLaws

@@ -11,7 +11,6 @@ pub mod notes;
 pub mod pending;
 pub mod propagation;
 pub mod rows;
-pub mod scans;
 pub mod slots;
 pub mod store;
 pub mod stored_nogood;

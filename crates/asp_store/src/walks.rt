@@ -1,46 +1,61 @@
 //! Walks along the list of a literal that came to hold.
 //!
-//! Most places need no visit: a scan goes past those where no literal has to be made false.
-ghost use Rattle.std.specs.Prelude.{◌≡◌, ◌+◌, ◌≤◌, IfOk};
+//! Most places need no visit, as their blockers are false: a walk goes past those that follow one another in a loop that does
+//! nothing else.
+ghost use Rattle.std.specs.Prelude.{◌≡◌, ℕ, ◌<◌, ◌≤◌, IfOk, length, slice_index_or, true};
+ghost use Rattle.std.specs.List.{All};
 ghost use Rattle.asp_vars.specs.Codes.{code_of};
+ghost use Rattle.asp_vars.specs.Literals.{complement, holds_in};
+ghost use Rattle.asp_store.specs.Marks.{Watch};
 ghost use Rattle.asp_store.specs.Fitting.{Extends};
 ghost use Rattle.asp_store.specs.Lists.{size};
 ghost use Rattle.asp_store.specs.Sounding.{IsSound};
 ghost use Rattle.asp_store.specs.Walking.{IsWalking, Walked};
 
 use crate::front::{Front, Step};
-use crate::scans::scan;
 use crate::stored_nogood::StoredNogood;
 use crate::visits::visit_place;
+use crate::watch::Watch;
 use crate::watches::Watches;
 use asp_trail::reasons::NogoodId;
 use asp_trail::trail::Trail;
+use asp_vars::assign::Assign;
 use std::alloc::AllocError;
 
-// Where the walk goes on: the places before are passed without a visit. As a rule no entry has a level above the front's.
+// The first place from this one on whose blocker isn't false, or the end of the list.
+fn first_unblocked(list: &[Watch], start: usize, values: &Assign) -> usize
+    requires small { All (λ w. w.blocker.var < length values.now) list.now }
+    requires start { start ≤ length list.now }
+    ensures from { start ≤ result }
+    ensures within { result ≤ length list.now }
+    ensures blocked { (k : ℕ) (d : Watch) → start ≤ k → k < result → holds_in values.now (complement (slice_index_or list.now k d).blocker) ≡ true }
+{
+    for i in start..list.len() {
+        if !values.is_false(list[i].blocker()) {
+            return i;
+        }
+    }
+    list.len()
+}
+
+// Where the walk goes on: the places before need no visit. The entries are of the front's level and those below it, as a rule.
 fn skip(
-    watches: &mut Watches,
+    watches: &Watches,
     slots: &[Option<StoredNogood>],
     i: usize,
     front: &Front,
     trail: &Trail,
 ) -> usize
-    requires walking { IsWalking slots.now watches.old trail.now front.now i }
-    requires within { i ≤ size watches.old.lists (code_of front.now.lit) }
-    ensures walking { IsWalking slots.now watches.new trail.now front.now result }
-    ensures fewer { size watches.new.lists (code_of front.now.lit) + i ≤ size watches.old.lists (code_of front.now.lit) + result }
+    requires walking { IsWalking slots.now watches.now trail.now front.now i }
+    requires within { i ≤ size watches.now.lists (code_of front.now.lit) }
+    ensures walking { IsWalking slots.now watches.now trail.now front.now result }
+    ensures from { i ≤ result }
 {
     let _len = trail.len();
     if front.level != trail.level() {
         return i;
     }
-    if i >= watches.lists.len(front.lit) {
-        return i;
-    }
-    let mut list = watches.lists.take_list(front.lit);
-    let place = scan(&mut list, watches, slots, i, front, trail);
-    watches.lists.put_list(front.lit, list);
-    place
+    first_unblocked(watches.lists.list(front.lit), i, trail.assignment())
 }
 
 /// Visits all places of the front's list, until a nogood is violated.

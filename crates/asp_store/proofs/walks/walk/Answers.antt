@@ -75,7 +75,7 @@ places-preserved-in-Stays c = record {
 }
 
 pub places-smaller : goal.places-smaller
-places-smaller c = omega (arith, c.len.ensures, c.places-test.true, c.skip-i-in-Goes.ensures.fewer, (subst (λ (s : Step). Steps c.args.slots.now c.places.watches c.visit_place.new.watches c.visit_place.new.trail c.args.front.now c.places.i s) c.in-Goes.is c.in_ok-step.ensures.steps).1)
+places-smaller c = omega (arith, c.len.ensures, c.places-test.true, c.skip-i-in-Goes.ensures.from, (subst (λ (s : Step). Steps c.args.slots.now c.places.watches c.visit_place.new.watches c.visit_place.new.trail c.args.front.now c.places.i s) c.in-Goes.is c.in_ok-step.ensures.steps).1)
 
 pub places-smaller-in-Stays : goal.places-smaller-in-Stays
-places-smaller-in-Stays c = omega (arith, c.len.ensures, c.places-test.true, c.skip-i-in-Stays.ensures.fewer, (subst (λ (s : Step). Steps c.args.slots.now c.places.watches c.visit_place.new.watches c.visit_place.new.trail c.args.front.now c.places.i s) c.in-Stays.is c.in_ok-step.ensures.steps).1)
+places-smaller-in-Stays c = omega (arith, c.len.ensures, c.places-test.true, c.skip-i-in-Stays.ensures.from, (subst (λ (s : Step). Steps c.args.slots.now c.places.watches c.visit_place.new.watches c.visit_place.new.trail c.args.front.now c.places.i s) c.in-Stays.is c.in_ok-step.ensures.steps).1)
