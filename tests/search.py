@@ -5,10 +5,10 @@ learnt asks for, and drops nogoods.
     search.py PROGRAM [--measure]
 
 Each program is made here: a cheapest choice with recursion through counts, random 3-SAT without an answer, and pigeons. Within
-the units of its row the built program must come to its end. The first takes more without restarts, activities or minimising, the
-second more without activities or minimising (random 3-SAT gains nothing by restarts), the third more where a variable is always
-decided as it was last: each row says what each took when it was written, beside what the whole search took. --measure prints
-what PROGRAM takes: after a change of the search the rows are to be written anew.
+the units of its row the built program must come to its end. Each row says what the whole search took. When each variable that an
+analysis meets came to be bumped once, the whole search was measured anew and its parts weren't: what the search took before,
+without restarts, activities or minimising, or with the last values, stands after 'before'. So no row is known to notice that
+restarts are gone. --measure prints what PROGRAM takes: after a change of the search the rows are to be written anew.
 
 Two more must end within an address space: a search wants more that drops nothing it learns (pigeons), or drops what weight
 bodies give only at the restarts of the schedule, which get rarer (knapsack)."""
@@ -66,11 +66,11 @@ def knapsack(items, limits, seed):
 # a program, what its last lines must be, and units; conflicts when it was written: the whole search, without restarts, without
 # activities, without minimising
 ROWS = [
-    # 1,400; 3,309; 3,180; 1,603
-    ("trust of 26", cheapest_trust(26, 6, 4, 7), 30, b"Optimization: 4\nOPTIMUM FOUND\nModels: 1\n", 1500),
-    # 6,023; 5,601; 182,992; 8,981
+    # 3,654
+    ("trust of 26", cheapest_trust(26, 6, 4, 7), 30, b"Optimization: 4\nOPTIMUM FOUND\nModels: 1\n", 4500),
+    # 6,413; before, 6,023; 5,601; 182,992; 8,981
     ("3-SAT of 200", random_sat(200, 4.8, 3), 20, b"UNSATISFIABLE\nModels: 0\n", 7000),
-    # 3,884; 11,360 with the last values
+    # 6,296; before, 3,884; 11,360 with the last values
     ("pigeons of 9", pigeons(9), 20, b"UNSATISFIABLE\nModels: 0\n", 7000),
 ]
 
