@@ -1,14 +1,14 @@
 #!/usr/bin/env python3
-"""Holds the search to what no contract says: that it restarts, raises activities, minimises what it learns, decides as what it
-learnt asks for, and drops nogoods.
+"""Holds the search to what no contract says: that it raises activities, minimises what it learns, decides as what it learnt asks
+for, and drops nogoods.
 
     search.py PROGRAM [--measure]
 
 Each program is made here: a cheapest choice with recursion through counts, random 3-SAT without an answer, and pigeons. Within
-the units of its row the built program must come to its end. Each row says what the whole search took. When each variable that an
-analysis meets came to be bumped once, the whole search was measured anew and its parts weren't: what the search took before,
-without restarts, activities or minimising, or with the last values, stands after 'before'. So no row is known to notice that
-restarts are gone. --measure prints what PROGRAM takes: after a change of the search the rows are to be written anew.
+the units of its row the built program must come to its end. The first two take more without activities or minimising, the third
+where a variable is always decided as it was last: each row says what each took when it was written, beside what the whole search
+took. No row notices that restarts are gone: programs as small as these take no more without them. --measure prints what PROGRAM
+takes: after a change of the search the rows are to be written anew.
 
 Two more must end within an address space: a search wants more that drops nothing it learns (pigeons), or drops what weight
 bodies give only at the restarts of the schedule, which get rarer (knapsack)."""
@@ -66,11 +66,11 @@ def knapsack(items, limits, seed):
 # a program, what its last lines must be, and units; conflicts when it was written: the whole search, without restarts, without
 # activities, without minimising
 ROWS = [
-    # 3,654
-    ("trust of 26", cheapest_trust(26, 6, 4, 7), 30, b"Optimization: 4\nOPTIMUM FOUND\nModels: 1\n", 4500),
-    # 6,413; before, 6,023; 5,601; 182,992; 8,981
-    ("3-SAT of 200", random_sat(200, 4.8, 3), 20, b"UNSATISFIABLE\nModels: 0\n", 7000),
-    # 6,296; before, 3,884; 11,360 with the last values
+    # 1,937; 1,431; 4,679; 3,304
+    ("trust of 26", cheapest_trust(26, 6, 4, 3), 30, b"Optimization: 4\nOPTIMUM FOUND\nModels: 1\n", 2500),
+    # 3,434; 2,237; 7,375; 4,672
+    ("3-SAT of 200", random_sat(200, 4.8, 2), 20, b"UNSATISFIABLE\nModels: 0\n", 4000),
+    # 6,296; with the last values more than it meets in 12 seconds
     ("pigeons of 9", pigeons(9), 20, b"UNSATISFIABLE\nModels: 0\n", 7000),
 ]
 
