@@ -290,20 +290,23 @@ unsplit (Some n) e = absurd cc
 none-is-some : {A : Type 0} (x : A) → None ≡ Some x → ⊥
 none-is-some x e = cc
 
+begun : (byte : ℕ) (bytes : List ℕ) → byte ∷ bytes ≡ [] → ⊥
+begun byte bytes e = cc
+
 parts-have-text : (cubes : List (List ℤ)) → 0 < length cubes → parts_text cubes ≡ [] → ⊥
 parts-have-text [] some e = let no : ⊥ = omega (arith, some) in no
-parts-have-text (c ∷ cubes) some e = cc
+parts-have-text (c ∷ cubes) some e = begun 54 _ e
 
 -- A run that ends before there is a program has written nothing.
 unwritten : (given : Options) (l l' : Option (List ℕ)) (r r' : ℕ) (status : Status) → IsOver given l l' r r' status → is_written status ≡ false
 unwritten given l l' r r' status over = by status (over (Some []) 0).means
   where
     by : (s : Status) → Means given (around l l' r r' (Some []) (Some []) 0 0) None s → is_written s ≡ false
-    by All m = absurd (none-is-some m.solved.done m.solved.reports)
-    by NoModel m = absurd (none-is-some m.solved.done m.solved.reports)
-    by Partial m = absurd (none-is-some m.solved.done m.solved.reports)
-    by Unknown m = absurd (none-is-some m.solved.done m.solved.reports)
-    by Enough m = absurd (none-is-some m.solved.done m.solved.reports)
+    by All m = absurd (none-is-some _ m.solved.reports)
+    by NoModel m = absurd (none-is-some _ m.solved.reports)
+    by Partial m = absurd (none-is-some _ m.solved.reports)
+    by Unknown m = absurd (none-is-some _ m.solved.reports)
+    by Enough m = absurd (none-is-some _ m.solved.reports)
     by Help m = absurd m
     by Memory m = refl
     by Usage m = refl
