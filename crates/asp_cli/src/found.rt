@@ -17,7 +17,7 @@ pub struct Found {
     pub workers: Option<u32>,
     /// The mode that was asked for; within, none for the mode that the program decides.
     pub mode: Option<Option<Mode>>,
-    /// How the program is written.
+    /// The format of the program that is read.
     pub format: Option<Format>,
     /// How many conflicts may be met.
     pub budget: Option<u64>,

@@ -18,7 +18,7 @@ pub use hints::{counterpart, nearest};
 pub use names::Name;
 pub use texts::{page_back, page_front, usage, version};
 
-/// How a program is written.
+/// The format of a program.
 #[derive(Clone, Copy)]
 pub enum Format {
     /// The format aspif 1.0.
@@ -34,7 +34,7 @@ pub struct Options {
     pub workers: u32,
     /// What is sought; None leaves it to the program: an optimum exactly where it minimises something.
     pub mode: Option<Mode>,
-    /// How the program is written that is read.
+    /// The format of the program that is read.
     pub format: Format,
     /// How many units of work there are, each of which a conflict costs. The greatest number is 2^63 - 1, which also stands where none was given.
     pub budget: u64,

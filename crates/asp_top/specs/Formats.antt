@@ -10,6 +10,7 @@ use Rattle.asp_smodels.specs.Outcome.{smodels, smodels_outcome}
 use Rattle.asp_cli.specs.declared.Format.{Format}
 use Rattle.asp_cli.specs.declared.Format.TheVariants.{Aspif, Smodels}
 
+-- the program that a text says in this format, or why it is refused
 abbrev pub outcome_for : Format → List ℕ → Result Program ReadError
 outcome_for Aspif text = outcome text
 outcome_for Smodels text = smodels_outcome text
