@@ -26,6 +26,7 @@ end
 set -g __aspenum_solving --mode -e --models -n --opt-all --workers -t --budget --quiet -q --proof --stats --progress
 
 complete -c aspenum -n '__aspenum_lacks --mode -e --split' -s e -l mode -x -d 'What is sought' -a 'auto\t"opt where the program minimises, else enum" enum\t"all answers" opt\t"one answer of least cost" brave\t"the atoms in some answer" cautious\t"the atoms in every answer"'
+complete -c aspenum -n '__aspenum_lacks --format' -l format -x -d 'How the program is written' -a 'aspif\t"what gringo writes by itself" smodels\t"what it writes with --output=smodels"'
 complete -c aspenum -n '__aspenum_lacks --models -n --split' -s n -l models -x -d 'End with this many answers'
 complete -c aspenum -n '__aspenum_lacks --opt-all --proof --split' -l opt-all -d 'Write all optima'
 complete -c aspenum -n '__aspenum_lacks --workers -t --split' -s t -l workers -x -d 'Threads that search' -a '1 2 4 8 16 32 64'

@@ -19,7 +19,6 @@ use Rattle.asp_model.specs.Found.{Found}
 use Rattle.asp_model.specs.Texts.{answers_from, bests, consequences_line, cost_line, ended_line, results_text}
 use Rattle.asp_model.proofs.ModelLaws.{optima-are}
 use Rattle.asp_settle.specs.Settled.{united}
-use Rattle.asp_read.specs.Outcome.{outcome}
 use Rattle.asp_crew_laws.specs.declared.report.Report.{Report}
 use Rattle.asp_crew_laws.specs.Runs.{IsBest, IsFound}
 use Rattle.asp_crew_laws.specs.Reports.{HasBest, IsAllFound, IsPartOf, Says as SaysReport, asks_list}
@@ -31,17 +30,19 @@ use Rattle.asp_top.specs.declared.status.Status.TheVariants.{All, NoModel, Enoug
 use Rattle.asp_top.specs.declared.status.Outcome.{Outcome}
 use Rattle.asp_top.specs.Meaning.{has_model_in, is_some_of, mode_of}
 use Rattle.asp_top.specs.Runs.{Around, IsGiven, IsSentOn, IsWritten, Means, Runs, RunsOn, ask_of, found_with, is_brief, report_text, report_with, set_aside, text_by}
+use Rattle.asp_cli.specs.declared.Format.{Format}
+use Rattle.asp_top.specs.Formats.{outcome_for}
 use Rattle.asp_top.specs.Whole.{ArePicked, IsInput, IsWhole, TellsAll, TellsEnough, TellsNone, Wrote, closing}
 use Rattle.asp_top.proofs.ToldLaws.{no-proof}
 
 -- ---- what is read
-input-told : (left : Option (List ℕ)) (p : Program) → IfSome left (λ t. outcome t ≡ Ok p) → (text : List ℕ) × (outcome text ≡ Ok p) → (text : List ℕ) × (outcome text ≡ Ok p) × IfSome left (λ all. all ≡ text)
-input-told None p says some = (some.0, some.1, tt)
-input-told (Some text) p says some = (text, says, refl)
+input-told : (f : Format) (left : Option (List ℕ)) (p : Program) → IfSome left (λ t. outcome_for f t ≡ Ok p) → (text : List ℕ) × (outcome_for f text ≡ Ok p) → (text : List ℕ) × (outcome_for f text ≡ Ok p) × IfSome left (λ all. all ≡ text)
+input-told f None p says some = (some.0, some.1, tt)
+input-told f (Some text) p says some = (text, says, refl)
 
-input-of : (m : Option ℕ) (a : Around) (p : Program) → IsGiven m a p → IsInput m a.left p
-input-of None a p from = input-told a.left p from.says from.said
-input-of (Some n) a p from = from.0
+input-of : (f : Format) (m : Option ℕ) (a : Around) (p : Program) → IsGiven f m a p → IsInput f m a.left p
+input-of f None a p from = input-told f a.left p from.says from.said
+input-of f (Some n) a p from = from.0
 
 -- ---- the texts
 abbrev found : Mode → End → List Atoms → Option (Atoms × List ℤ) → Option Atoms → Found
@@ -283,7 +284,7 @@ wrote given a report end model Tells is_sent plain telling w sent =
     ap (λ proof. text_by proof p R.results (is_brief given)) none ∙ text-of p R.results (is_brief given) mode end w.solved.is.mode_is w.end_is in
     record {
       program = p;
-      input = input-of given.make a p w.solved.source;
+      input = input-of given.format given.make a p w.solved.source;
       text = results_text p (found mode end R.results.answers R.results.best R.results.known) (is_brief given);
       tells = telling p R (subst (SaysReport p (ask_of given p) R) w.end_is w.solved.says)
           (model-of mode mode end R.results ∙ ap (λ m. has_model_in m R.results) (sym w.solved.is.mode_is) ∙ model-with F done.results.mode done.results ∙ w.model_is);

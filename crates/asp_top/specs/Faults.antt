@@ -49,8 +49,13 @@ expected_text n = []
 abbrev pub misfit : Num → List ℕ → List ℕ
 misfit n wanted = found_text n ++ wanted ++ expected_text n
 
+-- Where no number stands in the place of a rule's type, the text may be an aspif text.
+abbrev pub other_format : Num → List ℕ
+other_format NotNumber = codes "; an aspif text needs --format aspif"
+other_format n = []
+
 abbrev pub kind_text : FaultKind → List ℕ
-kind_text fault.Header = codes "not the header of aspif 1.0, which gringo writes and aspenum reads"
+kind_text fault.Header = codes "not the header of aspif 1.0, which gringo writes; a smodels text needs --format smodels"
 kind_text fault.Incremental = codes "incremental programs not supported"
 kind_text fault.Tag = codes "unknown tag"
 kind_text (fault.Statement n) = misfit n (wanted_text (Natural 0 10))
@@ -68,7 +73,7 @@ kind_text fault.AfterEnd = codes "statement after the end"
 kind_text fault.Counts = codes "more than 16,777,216 in all counts"
 kind_text fault.Priorities = codes "more than 1,000 different priorities"
 kind_text fault.Atoms = codes "more than 1,000,000 different atoms"
-kind_text (fault.RuleType n) = misfit n (wanted_text RuleType)
+kind_text (fault.RuleType n) = misfit n (wanted_text RuleType) ++ other_format n
 kind_text (fault.Negated most n) = misfit n (wanted_text (Negated most))
 kind_text fault.Name = codes "name of an atom missing"
 kind_text fault.Section = codes "section line expected"

@@ -10,4 +10,5 @@ pub mod Runs
 pub mod Whole
 pub mod Words
 pub mod Faults
+pub mod Formats
 pub mod Loops

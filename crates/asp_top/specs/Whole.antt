@@ -9,9 +9,10 @@ use Rattle.asp_model.specs.Models.{answers}
 use Rattle.asp_model.specs.Costs.{cost, optima}
 use Rattle.asp_model.specs.Consequences.{consequences}
 use Rattle.asp_model.specs.Texts.{answers_from, consequences_line, cost_line, ended_line}
-use Rattle.asp_read.specs.Outcome.{outcome}
 use Rattle.asp_make.specs.Ring.{ring}
+use Rattle.asp_cli.specs.declared.Format.{Format}
 use Rattle.asp_cli.specs.declared.Options.{Options}
+use Rattle.asp_top.specs.Formats.{outcome_for}
 use Rattle.asp_top.specs.declared.status.Status.{Status}
 use Rattle.asp_top.specs.declared.status.Status.TheVariants.{All, NoModel, Enough}
 use Rattle.asp_top.specs.Meaning.{mode_of}
@@ -19,9 +20,9 @@ use Rattle.asp_top.specs.Runs.{is_brief}
 
 -- ---- what is read
 -- The program is that of the text that was read: the source's whole content, where the source tells it. With `--make` it is the ring.
-abbrev pub IsInput : Option ℕ → Option (List ℕ) → Program → Type 0
-IsInput None left p = (text : List ℕ) × (outcome text ≡ Ok p) × IfSome left (λ all. all ≡ text)
-IsInput (Some n) left p = p ≡ ring n
+abbrev pub IsInput : Format → Option ℕ → Option (List ℕ) → Program → Type 0
+IsInput f None left p = (text : List ℕ) × (outcome_for f text ≡ Ok p) × IfSome left (λ all. all ≡ text)
+IsInput f (Some n) left p = p ≡ ring n
 
 -- ---- what is written
 -- the lines of these answers, unless only the closing lines are asked for
@@ -70,7 +71,7 @@ TellsEnough given p (Consequences w) text = ⊥
 -- A program was read, and what was written, after what the sink held before, is a text that tells this of it. All of it was sent on.
 pub record Wrote (given : Options) (left held held' : Option (List ℕ)) (is_sent : Bool) (Tells : Program → Mode → List ℕ → Type 0) : Type 0 where
   pub program : Program
-  pub input : IsInput given.make left program
+  pub input : IsInput given.format given.make left program
   pub text : List ℕ
   pub tells : Tells program (mode_of given.mode program) text
   pub written : Appends held held' text

@@ -2,7 +2,7 @@
 ghost use Rattle.std.specs.Prelude.{◌≡◌, ◌++◌, codes, decimal};
 ghost use Rattle.std.specs.Fmt.{signed_decimal};
 ghost use Rattle.asp_top.specs.Notes.{Writes};
-ghost use Rattle.asp_top.specs.Faults.{fault_text, has_field, expected_text, found_text, kind_text, misfit, natural_noun, integer_noun, place_text, range_text, wanted_text};
+ghost use Rattle.asp_top.specs.Faults.{fault_text, has_field, expected_text, found_text, kind_text, misfit, natural_noun, other_format, integer_noun, place_text, range_text, wanted_text};
 
 use crate::notes::{write, write_both};
 use crate::usage::write_three;
@@ -142,6 +142,25 @@ fn write_misfit<N: Sink>(notes: &mut N, found: Num, wanted: Wanted) -> Result<()
     write_expected(notes, found)
 }
 
+// Where no number stands in the place of a rule's type, the text may be an aspif text.
+fn write_other_format<N: Sink>(notes: &mut N, found: Num) -> Result<(), Failed>
+    ensures { Writes (N.held notes.old) (N.held notes.new) (N.faults notes.old) (N.faults notes.new)
+        result (other_format found) }
+{
+    match found {
+        Num::NotNumber => write(notes, b"; an aspif text needs --format aspif"),
+        _ => write(notes, b""),
+    }
+}
+
+fn write_rule_type<N: Sink>(notes: &mut N, found: Num) -> Result<(), Failed>
+    ensures { Writes (N.held notes.old) (N.held notes.new) (N.faults notes.old) (N.faults notes.new)
+        result (kind_text (FaultKind.RuleType found)) }
+{
+    write_misfit(notes, found, Wanted::RuleType)?;
+    write_other_format(notes, found)
+}
+
 fn write_kind<N: Sink>(notes: &mut N, kind: FaultKind) -> Result<(), Failed>
     ensures { Writes (N.held notes.old) (N.held notes.new) (N.faults notes.old) (N.faults notes.new)
         result (kind_text kind) }
@@ -149,7 +168,7 @@ fn write_kind<N: Sink>(notes: &mut N, kind: FaultKind) -> Result<(), Failed>
     match kind {
         FaultKind::Header => write(
             notes,
-            b"not the header of aspif 1.0, which gringo writes and aspenum reads",
+            b"not the header of aspif 1.0, which gringo writes; a smodels text needs --format smodels",
         ),
         FaultKind::Incremental => write(notes, b"incremental programs not supported"),
         FaultKind::Tag => write(notes, b"unknown tag"),
@@ -172,7 +191,7 @@ fn write_kind<N: Sink>(notes: &mut N, kind: FaultKind) -> Result<(), Failed>
         FaultKind::Counts => write(notes, b"more than 16,777,216 in all counts"),
         FaultKind::Priorities => write(notes, b"more than 1,000 different priorities"),
         FaultKind::Atoms => write(notes, b"more than 1,000,000 different atoms"),
-        FaultKind::RuleType(found) => write_misfit(notes, found, Wanted::RuleType),
+        FaultKind::RuleType(found) => write_rule_type(notes, found),
         FaultKind::Negated(most, found) => write_misfit(notes, found, Wanted::Negated(most)),
         FaultKind::Name => write(notes, b"name of an atom missing"),
         FaultKind::Section => write(notes, b"section line expected"),
