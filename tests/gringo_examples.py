@@ -57,7 +57,7 @@ def verdict(program, files, seconds, room):
         return "gringo refuses it"
     code, ours, notes = run([*program.split(), *["--format=smodels"] * SMODELS], text, seconds)
     if code == 65:
-        return "refused: " + re.sub(r".*line \d+: ", "", notes.strip())
+        return "refused: " + re.sub(r".*line \d+(, field \d+)?: ", "", notes.strip())
     _, theirs, _ = run(["clasp", "-n", "0", "--trans-ext=all"], text, seconds)
     if not theirs or result_of(theirs) is None:
         return "clasp takes too long" if code is None else "clasp takes too long, aspenum not"
