@@ -9,5 +9,4 @@ pub mod Parting
 pub mod Runs
 pub mod Whole
 pub mod Words
-pub mod Faults
 pub mod Loops
