@@ -27,12 +27,7 @@ fn tell<K: Sink>(sink: &mut K, text: &[u8]) -> Status
 }
 
 // Judges the proof in the source, and writes what is said of it.
-fn check<S: Source, K: Sink>(
-    alloc: Global,
-    format: Format,
-    source: &mut S,
-    sink: &mut K,
-) -> Status
+fn check<S: Source, K: Sink>(alloc: Global, format: Format, source: &mut S, sink: &mut K) -> Status
     ensures checks { Checks format (around (S.left source.old) (S.left source.new)
         (K.held sink.old) (K.held sink.new) (K.is_sent sink.new)) result }
     ensures read { Answers 66 result (S.faults source.old) (S.faults source.new) }
