@@ -26,11 +26,12 @@ tell() {
 while IFS='~' read -r status arguments wanted note text; do
     read -ra words <<< "$arguments"
     given=$(printf '%b' "$text" | "$program" "${words[@]}" 2> "$notes")
-    tell "$arguments $text" "$status" "$wanted" "$(printf '%b' "$note")" $? "$given"
+    code=$?
+    tell "$arguments $text" "$status" "$(printf '%b' "$wanted")" "$(printf '%b' "$note")" "$code" "$given"
 done < tests/checks.txt
 
 # A read that fails, a write that fails, an input that is too long, and too little memory.
-right='asp 1 0 0\n0\nproof 1\nenum\na 0\nc 0\n0\n'
+right='asp 1 0 0\n1 1 1 1 0 0\n0\nproof 1\nenum\na 0\na 1 1\nc 0\n0\n'
 given=$("$program" < / 2> "$notes")
 tell 'read of a folder' 66 '' 'aspcheck: read failed' $? "$given"
 printf '%b' "$right" | "$program" > /dev/full 2> "$notes"

@@ -1,6 +1,6 @@
 -- What is said of texts, step by step.
 use Rattle.std.proofs.Common.{◌≡◌, ℕ, suc, ◌+◌, ◌<◌, ◌≤◌, Bool, true, false, cond, ◌&&◌, ◌==◌, List, [], ◌∷◌, length, take, drop, get_or, refl, sym, ap, ◌∙◌, subst, arith, Option, Some, None, Result, Ok, Err}
-use Rattle.std.specs.Prelude.{IfSome, IfOk, OnOk, OnErr}
+use Rattle.std.specs.Prelude.{IfSome, IfOk, IsErrOf, OnOk, OnErr}
 use Rattle.std.specs.Io.KnownBytes.{Appends, Keeps}
 use Rattle.std.proofs.lemmas.List.{at_drop_more, take_all}
 use Rattle.asp_model.specs.declared.program.Program.{Program}
@@ -169,8 +169,11 @@ read_sent sent proof.TooLong = tt
 read_sent sent proof.ReadFault = tt
 read_sent sent (proof.Refused n) = tt
 
-pub fault_status : (e : ProofError) → e ≡ proof.ReadFault → read_status e ≡ status.ReadFault
-fault_status e is = ap read_status is
+pub err_of : {T : Type 0} (e : ProofError) → IsErrOf {T = T} (Err e) proof.ReadFault → e ≡ proof.ReadFault
+err_of e is = cc
+
+pub ok_no_fault : {T : Type 0} (x : T) (e : ProofError) → IsErrOf (Ok x) e → ⊥
+ok_no_fault x e is = cc
 
 pub read_rose : (text : List ℕ) (e : ProofError) → FailsReading text e → read_status e ≡ status.ReadFault → e ≡ proof.ReadFault
 read_rose text proof.Memory h is = absurd (let f : ⊥ = cc in f)

@@ -1,5 +1,5 @@
 -- What the arguments give: the format of a program, help, the version, or the first fault.
-use Rattle.std.specs.Prelude.{ℕ, Bool, true, false, not, ◌||◌, ◌==◌, nat_lt, List, [], ◌∷◌, length, Option, Some, None, is_some, unwrap_or, Result, Ok, Err, codes, if◌then◌else◌}
+use Rattle.std.specs.Prelude.{ℕ, Bool, true, false, ◌||◌, ◌==◌, nat_lt, List, [], ◌∷◌, length, Option, Some, None, is_some, unwrap_or, Result, Ok, Err, codes, if◌then◌else◌}
 use Rattle.std.specs.List.{after_first, before_first, position_or_len}
 use Rattle.std.specs.Str.{bytes_eq}
 use Rattle.asp_checker.specs.declared.run.Format.{Format}
@@ -71,13 +71,13 @@ cut w = if nat_lt (position_or_len (λ b. b == 61) w) (length w)
 
 -- `--format` with its value after `=`
 abbrev pub told_with_value : State → Text → Text → Text → Result State Given
-told_with_value s name v w = if not (bytes_eq name (codes "--format")) then Err (misuse (unknown w))
-    else (if is_some s.format then Err (misuse twice) else told_format v)
+told_with_value s name v w = if bytes_eq name (codes "--format") then (if is_some s.format then Err (misuse twice) else told_format v)
+    else Err (misuse (unknown w))
 
 -- `--format`, after which its value has to come
 abbrev pub told_alone : State → Text → Result State Given
-told_alone s w = if not (bytes_eq w (codes "--format")) then Err (misuse (unknown w))
-    else (if is_some s.format then Err (misuse twice) else Ok (record { format = None; awaits_value = true }))
+told_alone s w = if bytes_eq w (codes "--format") then (if is_some s.format then Err (misuse twice) else Ok (record { format = None; awaits_value = true }))
+    else Err (misuse (unknown w))
 
 abbrev pub named_by : State → Text → Option (Text × Text) → Result State Given
 named_by s w None = told_alone s w

@@ -28,15 +28,15 @@ Checks format a (status.Checked s) = RunSays format a.left a.held a.held' s × I
 Checks format a s = ⊥
 
 -- exactly this text was written and sent on, or a front of it where a write or the flush failed
-abbrev pub Tells : List ℕ → Around → Status → Type 0
-Tells text a status.Told = Appends a.held a.held' text × (a.sent ≡ true)
-Tells text a status.WriteFault = AppendsFront a.held a.held' text
-Tells text a s = ⊥
+abbrev pub Tells : List ℕ → Option (List ℕ) → Option (List ℕ) → Bool → Status → Type 0
+Tells text held held' sent status.Told = Appends held held' text × (sent ≡ true)
+Tells text held held' sent status.WriteFault = AppendsFront held held' text
+Tells text held held' sent s = ⊥
 
 abbrev pub Does : Given → Around → Status → Type 0
 Does (check format) a s = Checks format a s
-Does help a s = Tells help_page a s × Keeps a.left a.left'
-Does version a s = Tells version_line a s × Keeps a.left a.left'
+Does help a s = Tells help_page a.held a.held' a.sent s × Keeps a.left a.left'
+Does version a s = Tells version_line a.held a.held' a.sent s × Keeps a.left a.left'
 Does (misuse m) a s = (s ≡ status.Usage) × Keeps a.left a.left' × Keeps a.held a.held'
 
 -- exit status n exactly where a fault was counted

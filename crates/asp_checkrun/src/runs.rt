@@ -1,5 +1,5 @@
 //! A whole run.
-ghost use Rattle.std.specs.Prelude.{◌≡◌, None, map, string_bytes};
+ghost use Rattle.std.specs.Prelude.{◌≡◌, map, string_bytes};
 ghost use Rattle.asp_faults.specs.Writing.{IsNoted};
 ghost use Rattle.asp_checkrun.specs.Given.{words_give};
 ghost use Rattle.asp_checkrun.specs.Notes.{note_for, note_of};
@@ -16,7 +16,7 @@ use std::alloc::Global;
 
 // Writes a text that was asked for.
 fn tell<K: Sink>(sink: &mut K, text: &[u8]) -> Status
-    ensures tells { Tells text.now (around None None (K.held sink.old) (K.held sink.new) (K.is_sent sink.new)) result }
+    ensures tells { Tells text.now (K.held sink.old) (K.held sink.new) (K.is_sent sink.new) result }
     ensures write { Answers 74 result (K.faults sink.old) (K.faults sink.new) }
     ensures no_read { status_code result ≡ 66 → ⊥ }
 {

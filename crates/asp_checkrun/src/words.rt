@@ -102,12 +102,14 @@ fn with_value<'a>(
 ) -> Result<State, AskError<'a>>
     ensures { seen result ≡ told_with_value state name.entry.now text.entry.now word.entry.now }
 {
-    if name != "--format" {
-        Err(AskError::Usage(WordFault::Unknown(word)))
-    } else if state.format.is_some() {
-        Err(AskError::Usage(WordFault::Twice))
+    if name == "--format" {
+        if state.format.is_some() {
+            Err(AskError::Usage(WordFault::Twice))
+        } else {
+            told_format(text)
+        }
     } else {
-        told_format(text)
+        Err(AskError::Usage(WordFault::Unknown(word)))
     }
 }
 
@@ -115,15 +117,17 @@ fn with_value<'a>(
 fn alone<'a>(state: State, word: &'a str) -> Result<State, AskError<'a>>
     ensures { seen result ≡ told_alone state word.entry.now }
 {
-    if word != "--format" {
-        Err(AskError::Usage(WordFault::Unknown(word)))
-    } else if state.format.is_some() {
-        Err(AskError::Usage(WordFault::Twice))
+    if word == "--format" {
+        if state.format.is_some() {
+            Err(AskError::Usage(WordFault::Twice))
+        } else {
+            Ok(State {
+                format: None,
+                awaits_value: true,
+            })
+        }
     } else {
-        Ok(State {
-            format: None,
-            awaits_value: true,
-        })
+        Err(AskError::Usage(WordFault::Unknown(word)))
     }
 }
 

@@ -1,5 +1,7 @@
 use Rattle.std.proofs.Common.{sym, ap, ◌∙◌, Err}
-use Rattle.asp_checker.proofs.RunLaws.{fault_status, run_says, read_failed, read_rose, read_sent, read_writes}
+use Rattle.asp_proof.specs.declared.error.ProofError.TheVariants as proof
+use Rattle.asp_checker.specs.Runs.{read_status}
+use Rattle.asp_checker.proofs.RunLaws.{err_of, ok_no_fault, run_says, read_failed, read_rose, read_sent, read_writes}
 use Rattle.asp_checker.proofs.run.run_check.Goals as goal
 
 pub answer-requires : goal.answer-requires
@@ -26,3 +28,9 @@ returns-in-Err-clause-read g c = λ e. c.in-Err.ensures.cause (ap Err (read_rose
 
 pub returns-in-Err-clause-write : goal.returns-in-Err-clause-write
 returns-in-Err-clause-write g c = λ e. absurd (read_writes c.in-Err.error (sym c.read_status.ensures ∙ e))
+
+pub returns-in-Ok-clause-read_quiet : goal.returns-in-Ok-clause-read_quiet
+returns-in-Ok-clause-read_quiet g c = λ never. c.in-Ok.ensures.quiet (ok_no_fault c.in-Ok.text proof.ReadFault)
+
+pub returns-in-Err-clause-read_quiet : goal.returns-in-Err-clause-read_quiet
+returns-in-Err-clause-read_quiet g c = λ never. c.in-Err.ensures.quiet (λ is. never (c.read_status.ensures ∙ ap read_status (err_of c.in-Err.error is)))
