@@ -2,7 +2,7 @@
 #![tactic(auto)]
 
 mod texts;
-mod write;
+mod writes;
 
 pub use texts::write_fault;
-pub use write::{write, write_both, write_three};
+pub use writes::{write, write_both, write_three};

@@ -4,7 +4,7 @@ ghost use Rattle.std.specs.Fmt.{signed_decimal};
 ghost use Rattle.asp_faults.specs.Writing.{Writes};
 ghost use Rattle.asp_faults.specs.Faults.{fault_text, has_field, expected_text, found_text, kind_text, misfit, natural_noun, integer_noun, place_text, range_text, wanted_text};
 
-use crate::write::{write, write_both, write_three};
+use crate::writes::{write, write_both, write_three};
 use asp_io::{Failed, Sink};
 use asp_read::fault::{Fault, FaultKind};
 use asp_text::Num;
