@@ -12,7 +12,7 @@ pub record Feed : Type 0 where
   pub faults : ℕ
 
 -- the bytes that it holds, the greatest piece, the numbers of the writes that fail, the writes and the faults so far, whether flushes
--- fail, and whether no byte was written since the last flush that succeeded
+-- fail, and whether nothing was written since the last flush that succeeded
 pub record Intake : Type 0 where
   pub bytes : List ℕ
   pub piece : ℕ

@@ -111,7 +111,7 @@ pub struct MemSink {
     faults: u64,
     /// Whether each flush fails.
     fails_flush: bool,
-    /// Whether no byte was written since the last flush that succeeded.
+    /// Whether nothing was written since the last flush that succeeded. Contracts alone read it.
     is_sent: bool,
 }
 

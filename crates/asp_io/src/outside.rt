@@ -57,7 +57,7 @@ pub struct StdSink<W: Write + Drop> {
     writer: W,
     /// How many writes and flushes failed.
     faults: u64,
-    /// Whether nothing was written since the last flush that succeeded.
+    /// Whether nothing was written since the last flush that succeeded. Contracts alone read it.
     is_sent: bool,
 }
 

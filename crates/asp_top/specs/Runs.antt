@@ -1,5 +1,5 @@
 -- What each status of a run says of the words, of the bytes read and of the bytes written.
-use Rattle.std.specs.Prelude.{◌≡◌, ◌⊎◌, ℕ, ◌≤◌, ◌==◌, Bool, true, false, not, ◌||◌, if◌then◌else◌, List, Option, None, Some, Result, Ok, Err, IfSome, IsSome, is_some, length, map, option_map, ℤ, []}
+use Rattle.std.specs.Prelude.{◌≡◌, ◌⊎◌, ℕ, ◌≤◌, ◌==◌, Bool, true, false, not, ◌||◌, if◌then◌else◌, List, Option, None, Some, Result, Ok, Err, IfSome, is_some, length, map, option_map, ℤ, []}
 use Rattle.std.specs.Io.KnownBytes.{Appends, Keeps, IsAtEnd}
 use Rattle.asp_io.specs.Causes.{Rose, AppendsFront}
 use Rattle.asp_read.specs.declared.fault.Fault.{Fault}
@@ -35,7 +35,7 @@ use Rattle.asp_top.specs.declared.status.Outcome.{Outcome}
 use Rattle.asp_top.specs.declared.counts.Tally.{Tally}
 use Rattle.asp_top.specs.Loops.{HasLoops}
 use Rattle.asp_top.specs.Meaning.{has_model, mode_of, status_for}
-use Rattle.asp_top.specs.Notes.{IsNoted, is_answered, note_of, notes_of}
+use Rattle.asp_top.specs.Notes.{IsNoted, is_answered, is_written, note_of, notes_of}
 use Rattle.asp_top.specs.Parting.{AreParts, Divides}
 use Rattle.asp_top.specs.Progress.{IsTold}
 use Rattle.asp_top.specs.Usage.{misuse_note}
@@ -222,13 +222,16 @@ pub record IsExact (given : Options) (a : Around) (status : Status) : Type 0 whe
   -- a faulty text, where the source's count didn't rise, is refused
   pub refused : Reads given → (text : List ℕ) (fault : Fault) (line : ℕ) → a.left ≡ Some text → outcome text ≡ Err (errors.Refused fault line) → ¬ Rose a.reads a.reads' → (status ≡ Refused fault line) ⊎ (status ≡ Memory)
   pub too_long : Reads given → (text : List ℕ) → a.left ≡ Some text → outcome text ≡ Err errors.TooLong → ¬ Rose a.reads a.reads' → (status ≡ TooLong) ⊎ (status ≡ Memory)
-  -- of a source that tells its bytes, a fault is counted at a failed read alone
-  pub quiet : IsSome a.left → ¬ (status ≡ ReadFault) → a.reads' ≡ a.reads
+  -- a fault of the source was counted only where the status says so: every failed read is told
+  pub quiet : ¬ (status ≡ ReadFault) → a.reads' ≡ a.reads
 
--- of a sink that tells its bytes a fault was counted only where the status says so: every failed write and every failed
--- flush is told
-abbrev pub TellsFaults : Option (List ℕ) → ℕ → ℕ → Status → Type 0
-TellsFaults held writes writes' status = IsSome held → ¬ (status ≡ WriteFault) → writes' ≡ writes
+-- a fault of the sink was counted only where the status says so: every failed write and every failed flush is told
+abbrev pub TellsFaults : ℕ → ℕ → Status → Type 0
+TellsFaults writes writes' status = ¬ (status ≡ WriteFault) → writes' ≡ writes
+
+-- where the text that was asked for was written, all of it was sent on
+abbrev pub IsSentOn : Status → Bool → Type 0
+IsSentOn status is_sent = is_written status ≡ true → is_sent ≡ true
 
 -- the text of the report was written, or cut off by a fault
 abbrev pub DeliveryMeans : Bool → Program → Report → Option (List ℕ) → Option (List ℕ) → ℕ → ℕ → Status → Type 0
@@ -273,7 +276,7 @@ pub record IsReady (given : Options) (left left' : Option (List ℕ)) (reads rea
   pub source : (held held' : Option (List ℕ)) (writes writes' : ℕ) → IsGiven given.make (around left left' reads reads' held held' writes writes') p
   pub sound : IsSound p
   pub later : reads ≤ reads'
-  pub quiet : IsSome left → reads' ≡ reads
+  pub quiet : reads' ≡ reads
 
 -- There is none, and so a run ends with this status that writes nothing, whatever the sink holds.
 abbrev pub IsOver : Options → Option (List ℕ) → Option (List ℕ) → ℕ → ℕ → Status → Type 0

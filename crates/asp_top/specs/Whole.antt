@@ -1,5 +1,5 @@
 -- What a run that finished has read and written, said by the program alone: the theorem of docs/THEOREM.md.
-use Rattle.std.specs.Prelude.{◌≡◌, ℕ, ◌++◌, Bool, if◌then◌else◌, List, [], ◌∷◌, filter, length, Contains, Option, None, Some, Ok, IfSome, codes, decimal}
+use Rattle.std.specs.Prelude.{◌≡◌, ℕ, ◌++◌, Bool, true, if◌then◌else◌, List, [], ◌∷◌, filter, length, Contains, Option, None, Some, Ok, IfSome, codes, decimal}
 use Rattle.std.specs.Io.KnownBytes.{Appends}
 use Rattle.asp_model.specs.declared.program.Program.{Program}
 use Rattle.asp_model.specs.declared.results.Mode.{Mode}
@@ -67,18 +67,19 @@ TellsEnough given p Opt text = (S : Atoms) × (Ss : List Atoms) × Contains (opt
 TellsEnough given p (Consequences w) text = ⊥
 
 -- ---- the theorem
--- A program was read, and what was written, after what the sink held before, is a text that tells this of it.
-pub record Wrote (given : Options) (left held held' : Option (List ℕ)) (Tells : Program → Mode → List ℕ → Type 0) : Type 0 where
+-- A program was read, and what was written, after what the sink held before, is a text that tells this of it. All of it was sent on.
+pub record Wrote (given : Options) (left held held' : Option (List ℕ)) (is_sent : Bool) (Tells : Program → Mode → List ℕ → Type 0) : Type 0 where
   pub program : Program
   pub input : IsInput given.make left program
   pub text : List ℕ
   pub tells : Tells program (mode_of given.mode program) text
   pub written : Appends held held' text
+  pub sent : is_sent ≡ true
 
 -- What a run has read and written that finished, with an answer (30) or without (20), or that reached its limit (11). Of a run that
 -- ended in another way nothing is said here.
-abbrev pub IsWhole : Options → Option (List ℕ) → Option (List ℕ) → Option (List ℕ) → Status → Type 0
-IsWhole given left held held' All = Wrote given left held held' (TellsAll given)
-IsWhole given left held held' NoModel = Wrote given left held held' TellsNone
-IsWhole given left held held' Enough = Wrote given left held held' (TellsEnough given)
-IsWhole given left held held' status = Unit {0}
+abbrev pub IsWhole : Options → Option (List ℕ) → Option (List ℕ) → Option (List ℕ) → Bool → Status → Type 0
+IsWhole given left held held' is_sent All = Wrote given left held held' is_sent (TellsAll given)
+IsWhole given left held held' is_sent NoModel = Wrote given left held held' is_sent TellsNone
+IsWhole given left held held' is_sent Enough = Wrote given left held held' is_sent (TellsEnough given)
+IsWhole given left held held' is_sent status = Unit {0}
