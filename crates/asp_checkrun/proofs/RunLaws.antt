@@ -1,5 +1,5 @@
 -- What a run does, and which exit status tells of which fault.
-use Rattle.std.proofs.Common.{◌≡◌, ℕ, List, Option, None, Some, refl, sym, ap, subst, arith}
+use Rattle.std.proofs.Common.{◌≡◌, ℕ, Bool, List, Option, None, Some, refl, ap, subst, arith}
 use Rattle.std.specs.Io.KnownBytes.{Keeps}
 use Rattle.asp_io.specs.Causes.{Rose}
 use Rattle.asp_faults.specs.Writing.{IsNoted}
@@ -9,11 +9,10 @@ use Rattle.asp_checker.specs.declared.run.CheckStatus.{CheckStatus}
 use Rattle.asp_checker.specs.declared.run.CheckStatus.TheVariants as done
 use Rattle.asp_checkrun.specs.declared.status.Status.{Status}
 use Rattle.asp_checkrun.specs.declared.status.Status.TheVariants as status
-use Rattle.asp_checkrun.specs.Given.{Given, Misuse, check, help, misuse, version}
+use Rattle.asp_checkrun.specs.Given.{Given, check, help, misuse, version}
 use Rattle.asp_checkrun.specs.Notes.{note_for}
-use Rattle.asp_checkrun.specs.Runs.{Answers, Around, Checks, Does, Tells}
+use Rattle.asp_checkrun.specs.Runs.{Answers, Around, Checks, Does, Replies, around}
 use Rattle.asp_checkrun.specs.Statuses.{status_code}
-use Rattle.asp_checkrun.specs.Texts.{help_page, version_line}
 
 pub is_read : (s : CheckStatus) → code_of s ≡ 66 → s ≡ done.ReadFault
 is_read done.Yes e = absurd (omega (arith, e))
@@ -58,17 +57,14 @@ kept (Some xs) = refl
 pub checks_given : (given : Given) (format : Format) (a : Around) (s : Status) → check format ≡ given → Checks format a s → Does given a s
 checks_given given format a s e h = subst (λ g. Does g a s) e h
 
-pub helps : (given : Given) (a : Around) (s : Status) (text : List ℕ) → help ≡ given → text ≡ help_page → a.left' ≡ a.left → Tells text a.held a.held' a.sent s → Does given a s
-helps given a s text e is same h =
-    subst (λ g. Does g a s) e (subst (λ t. Tells t a.held a.held' a.sent s) is h, subst (λ l. Keeps a.left l) (sym same) (kept a.left))
+replied : (asked : Given) (a : Around) (s : Status) → Replies asked a.held a.held' a.sent s → Keeps a.left a.left' → Does asked a s
+replied (check format) a s h unread = absurd h
+replied help a s h unread = (h, unread)
+replied version a s h unread = (h, unread)
+replied (misuse m) a s h unread = (h, unread)
 
-pub tells_version : (given : Given) (a : Around) (s : Status) (text : List ℕ) → version ≡ given → text ≡ version_line → a.left' ≡ a.left → Tells text a.held a.held' a.sent s → Does given a s
-tells_version given a s text e is same h =
-    subst (λ g. Does g a s) e (subst (λ t. Tells t a.held a.held' a.sent s) is h, subst (λ l. Keeps a.left l) (sym same) (kept a.left))
-
-pub misuses : (given : Given) (m : Misuse) (a : Around) → misuse m ≡ given → a.left' ≡ a.left → a.held' ≡ a.held → Does given a status.Usage
-misuses given m a e same held =
-    subst (λ g. Does g a status.Usage) e (refl, subst (λ l. Keeps a.left l) (sym same) (kept a.left), subst (λ h. Keeps a.held h) (sym held) (kept a.held))
+pub replies_given : (given asked : Given) (left held held' : Option (List ℕ)) (sent : Bool) (s : Status) → asked ≡ given → Replies asked held held' sent s → Does given (around left left held held' sent) s
+replies_given given asked left held held' sent s e h = subst (λ g. Does g (around left left held held' sent) s) e (replied asked (around left left held held' sent) s h (kept left))
 
 pub noted_for : (given asked : Given) (held held' : Option (List ℕ)) (faults faults' : ℕ) (s : Status) → asked ≡ given → IsNoted held held' faults faults' (note_for asked s) → IsNoted held held' faults faults' (note_for given s)
 noted_for given asked held held' faults faults' s e h = subst (λ g. IsNoted held held' faults faults' (note_for g s)) e h

@@ -33,11 +33,19 @@ Tells text held held' sent status.Told = Appends held held' text × (sent ≡ tr
 Tells text held held' sent status.WriteFault = AppendsFront held held' text
 Tells text held held' sent s = ⊥
 
+-- what becomes of the sink where nothing is checked
+abbrev pub Replies : Given → Option (List ℕ) → Option (List ℕ) → Bool → Status → Type 0
+Replies (check format) held held' sent s = ⊥
+Replies help held held' sent s = Tells help_page held held' sent s
+Replies version held held' sent s = Tells version_line held held' sent s
+Replies (misuse m) held held' sent s = (s ≡ status.Usage) × Keeps held held'
+
+-- a proof is sought in the input, or nothing is read
 abbrev pub Does : Given → Around → Status → Type 0
 Does (check format) a s = Checks format a s
-Does help a s = Tells help_page a.held a.held' a.sent s × Keeps a.left a.left'
-Does version a s = Tells version_line a.held a.held' a.sent s × Keeps a.left a.left'
-Does (misuse m) a s = (s ≡ status.Usage) × Keeps a.left a.left' × Keeps a.held a.held'
+Does help a s = Replies help a.held a.held' a.sent s × Keeps a.left a.left'
+Does version a s = Replies version a.held a.held' a.sent s × Keeps a.left a.left'
+Does (misuse m) a s = Replies (misuse m) a.held a.held' a.sent s × Keeps a.left a.left'
 
 -- exit status n exactly where a fault was counted
 pub record Answers (n : ℕ) (s : Status) (before after : ℕ) : Type 0 where
