@@ -74,3 +74,20 @@ _aspground() {
     fi
 }
 complete -F _aspground aspground
+
+# aspcheck: the program's format, help and the version, and files after a redirection.
+_aspcheck() {
+    local line=${COMP_LINE:0:COMP_POINT} stem=""
+    local -a left=(--format --help --version)
+    COMPREPLY=()
+    if [[ $line =~ [\<\>][[:blank:]]*[^[:blank:]]*$ ]]; then
+        compopt -o default
+    elif [[ $line =~ [[:blank:]]--format(=|[[:blank:]]+)([^[:blank:]]*)$ ]]; then
+        [[ ${BASH_REMATCH[1]} != = || $COMP_WORDBREAKS == *=* ]] || stem="--format="
+        mapfile -t COMPREPLY < <(compgen -P "$stem" -W "aspif smodels" -- "${BASH_REMATCH[2]}")
+    elif [[ $line =~ [[:blank:]]([^[:blank:]]*)$ ]]; then
+        [[ ! ${line%"${BASH_REMATCH[1]}"} =~ [[:blank:]]--format ]] || left=()
+        mapfile -t COMPREPLY < <(compgen -W "${left[*]}" -- "${BASH_REMATCH[1]}")
+    fi
+}
+complete -F _aspcheck aspcheck

@@ -56,3 +56,8 @@ complete -c aspground -n 'not __aspground_solves' -l help -d 'Write how it is ca
 complete -c aspground -n 'not __aspground_solves' -l version -d 'Write the versions'
 complete -c aspground -n 'not __aspground_solves' -a '--' -d 'Options of aspenum follow'
 complete -c aspground -n __aspground_solves -f -a '(__aspground_options)'
+
+complete -c aspcheck -f
+complete -c aspcheck -l format -x -d 'The format of the program' -a 'aspif smodels'
+complete -c aspcheck -s h -l help -d 'Write a page of help'
+complete -c aspcheck -l version -d 'Write the version'

@@ -58,6 +58,10 @@ ROWS = [
     ("aspground x.lp --he", ["--help"], ["--mode"]),
     ("aspground x.lp -- --", ["--mode", "--models", "--stats"], ["file_for_completion"]),
     ("aspground x.lp -- --stats --mo", ["--mode"], ["--make"]),
+    ("aspcheck --", ["--format", "--help", "--version"], ["README"]),
+    ("aspcheck --format ", ["aspif", "smodels"], ["--help", "README"]),
+    ("aspcheck --format=s", ["smodels"], ["aspif"]),
+    ("aspcheck < file_for_", ["file_for_completion"], ["--format"]),
     ("aspground -- --mode ", VALUES, ["--stats", "README"]),
     ("aspground x.lp -- --mode=o", ["--mode=opt"], ["auto"]),
 ]
@@ -120,7 +124,8 @@ def tried(name):
         open(f"{folder}/file_for_completion", "w").close()
         open(f"{folder}/README", "w").close()
         os.makedirs(f"{folder}/bin")
-        for program in ("aspenum", "aspground"):
+        os.symlink("aspenum", f"{data}/bash-completion/completions/aspcheck")
+        for program in ("aspenum", "aspground", "aspcheck"):
             os.symlink("/bin/true", f"{folder}/bin/{program}")
         for line, wanted, unwanted in ROWS:
             shell = Shell(command, folder)

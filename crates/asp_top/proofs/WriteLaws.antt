@@ -7,6 +7,7 @@ use Rattle.std.proofs.Math.Seq.{take-length}
 use Rattle.std.proofs.lemmas.Result.{err_from_is_err_and}
 use Rattle.asp_io.specs.Causes.{HasCause, AppendsFront}
 use Rattle.asp_buffer.proofs.OutLaws.{front-more, front-after}
+use Rattle.asp_faults.specs.Writing.{Writes as WritesFault}
 use Rattle.asp_top.specs.Notes.{IsNoted, Writes}
 
 -- all of some bytes is a front of them
@@ -77,3 +78,7 @@ writes_same a b f g r x y w e = subst (λ (t : List ℕ). Writes a b f g r t) e 
 -- what failed in a front fails in more
 pub writes_more : {T E : Type 0} (a b : Option (List ℕ)) (f g : ℕ) (e : E) (x y : List ℕ) → Writes {T = T} {E = E} a b f g (Err e) x → Writes {T = T} {E = E} a b f g (Err e) (x ++ y)
 writes_more a b f g e x y p = record { all = tt; front = front-more a b x y p.front; later = p.later; cause = p.cause; quiet = tt }
+
+-- what asp_faults says of a write
+pub writes_as : {T E : Type 0} {a b : Option (List ℕ)} {f g : ℕ} {r : Result T E} {x : List ℕ} → WritesFault a b f g r x → Writes a b f g r x
+writes_as w = record { all = w.all; front = w.front; later = w.later; cause = w.cause; quiet = w.quiet }
