@@ -62,13 +62,16 @@ install: all
 	$(INSTALL) -m 644 $(PAGES) $(man)
 	$(INSTALL) -m 644 completion/aspenum.bash $(bash)/aspenum
 	ln -sf aspenum $(bash)/aspground
-	$(INSTALL) -m 644 completion/_aspenum completion/_aspground $(zsh)
+	ln -sf aspenum $(bash)/aspcheck
+	$(INSTALL) -m 644 completion/_aspenum completion/_aspground completion/_aspcheck $(zsh)
 	$(INSTALL) -m 644 completion/aspenum.fish $(fish)
 	ln -sf aspenum.fish $(fish)/aspground.fish
+	ln -sf aspenum.fish $(fish)/aspcheck.fish
 
 uninstall:
 	rm -f $(bin)/aspenum $(bin)/aspcheck $(bin)/aspground $(man)/aspenum.1 $(man)/aspcheck.1 $(man)/aspground.1
-	rm -f $(bash)/aspenum $(bash)/aspground $(zsh)/_aspenum $(zsh)/_aspground $(fish)/aspenum.fish $(fish)/aspground.fish
+	rm -f $(bash)/aspenum $(bash)/aspground $(bash)/aspcheck $(zsh)/_aspenum $(zsh)/_aspground $(zsh)/_aspcheck
+	rm -f $(fish)/aspenum.fish $(fish)/aspground.fish $(fish)/aspcheck.fish
 
 deb: all
 	@packaging/deb.sh

@@ -2,8 +2,8 @@
 # How fast a built program reads, beside clasp.
 # usage: bench/read.sh [PROGRAM [BYTES [ATOMS]]], with python3 and GNU time at hand, and clasp if it is there.
 # Without its end statement a text is read to its end and then refused, so reading alone is timed: the program must end
-# with status 65. clasp has no mode that only reads: --pre=aspif reads, simplifies and writes. It gets the same text with
-# its end.
+# with status 65. The kind smodels has the rules of the kind rules in the format of smodels. clasp has no mode that only
+# reads: --pre=aspif reads, simplifies and writes. It gets the same text with its end.
 set -eu
 program=$(realpath "${1:-build/aspenum}")
 bytes=${2:-100000000}
@@ -19,7 +19,16 @@ import random, sys
 kind, size, atoms = sys.argv[1], int(sys.argv[2]), int(sys.argv[3])
 random.seed(1)
 out = sys.stdout
-out.write("asp 1 0 0\n")
+
+def rule(head, literals):
+    if kind == "rules":
+        return "1 0 1 %d 0 %d%s\n" % (head, len(literals), "".join(" %d" % l for l in literals))
+    negative = [-l for l in literals if l < 0]
+    atoms = negative + [l for l in literals if l > 0]
+    return "1 %d %d %d%s\n" % (head, len(atoms), len(negative), "".join(" %d" % a for a in atoms))
+
+if kind != "smodels":
+    out.write("asp 1 0 0\n")
 if kind == "blank_lines":
     out.write("\n" * size)
 elif kind == "comment":
@@ -36,7 +45,7 @@ else:
         rules = []
         for _ in range(10_000):
             literals = [random.randint(1, atoms) * random.choice((1, -1)) for _ in range(random.randint(0, 5))]
-            rules.append("1 0 1 %d 0 %d%s\n" % (random.randint(1, atoms), len(literals), "".join(" %d" % l for l in literals)))
+            rules.append(rule(random.randint(1, atoms), literals))
             counted += 1 + len(literals)
         text = "".join(rules)
         written += len(text)
@@ -61,12 +70,18 @@ timed() {
         '{ cpu = $2 + $3; printf "%-14s %6.2f s, %6.2f s of processor time, %6.1f MB/s, %6.1f MiB\n", name, $1, cpu, size / 1e6 / (cpu > 0 ? cpu : 0.01), $4 / 1024 }'
 }
 
-for kind in rules comment one_line blank_lines; do
+for kind in rules smodels comment one_line blank_lines; do
     make "$kind"
     mv "$room/$kind" "$room/text"
-    timed "$kind" 65 "$program"
-    if [ "$kind" = rules ] && command -v clasp > /dev/null; then
-        echo 0 >> "$room/text"
-        timed "clasp: $kind" any clasp --pre=aspif
-    fi
+    case $kind in
+        smodels) timed "$kind" 65 "$program" --format smodels ;;
+        *) timed "$kind" 65 "$program" ;;
+    esac
+    command -v clasp > /dev/null || continue
+    case $kind in
+        rules) echo 0 >> "$room/text" ;;
+        smodels) printf '%s\n' 0 0 B+ 0 B- 0 1 >> "$room/text" ;;
+        *) continue ;;
+    esac
+    timed "clasp: $kind" any clasp --pre=aspif
 done

@@ -23,6 +23,7 @@ _aspenum() {
     fi
     case $option in
         --mode | -e) mapfile -t COMPREPLY < <(compgen -P "$stem" -W "auto enum opt brave cautious" -- "$word") && return ;;
+        --format) mapfile -t COMPREPLY < <(compgen -P "$stem" -W "aspif smodels" -- "$word") && return ;;
         --workers | -t) mapfile -t COMPREPLY < <(compgen -P "$stem" -W "1 2 4 8 16 32 64" -- "$word") && return ;;
         --budget | --models | -n | --make | --split | --help | -h | --version | --) return ;;
     esac
@@ -48,7 +49,7 @@ _aspenum() {
             --mode | --models | --workers | --budget | --stats | --progress) given+=(--split) ;;
         esac
     done
-    for option in --mode --models --opt-all --workers --budget --quiet --proof --split --make --stats --progress; do
+    for option in --mode --format --models --opt-all --workers --budget --quiet --proof --split --make --stats --progress; do
         [[ " ${given[*]} " == *" $option "* ]] || left+=("$option")
     done
     [[ $last -ne 1 ]] || left+=(--help --version)
@@ -73,3 +74,20 @@ _aspground() {
     fi
 }
 complete -F _aspground aspground
+
+# aspcheck: the program's format, help and the version, and files after a redirection.
+_aspcheck() {
+    local line=${COMP_LINE:0:COMP_POINT} stem=""
+    local -a left=(--format --help --version)
+    COMPREPLY=()
+    if [[ $line =~ [\<\>][[:blank:]]*[^[:blank:]]*$ ]]; then
+        compopt -o default
+    elif [[ $line =~ [[:blank:]]--format(=|[[:blank:]]+)([^[:blank:]]*)$ ]]; then
+        [[ ${BASH_REMATCH[1]} != = || $COMP_WORDBREAKS == *=* ]] || stem="--format="
+        mapfile -t COMPREPLY < <(compgen -P "$stem" -W "aspif smodels" -- "${BASH_REMATCH[2]}")
+    elif [[ $line =~ [[:blank:]]([^[:blank:]]*)$ ]]; then
+        [[ ! ${line%"${BASH_REMATCH[1]}"} =~ [[:blank:]]--format ]] || left=()
+        mapfile -t COMPREPLY < <(compgen -W "${left[*]}" -- "${BASH_REMATCH[1]}")
+    fi
+}
+complete -F _aspcheck aspcheck

@@ -26,6 +26,7 @@ end
 set -g __aspenum_solving --mode -e --models -n --opt-all --workers -t --budget --quiet -q --proof --stats --progress
 
 complete -c aspenum -n '__aspenum_lacks --mode -e --split' -s e -l mode -x -d 'What is sought' -a 'auto\t"opt where the program minimises, else enum" enum\t"all answers" opt\t"one answer of least cost" brave\t"the atoms in some answer" cautious\t"the atoms in every answer"'
+complete -c aspenum -n '__aspenum_lacks --format' -l format -x -d 'How the program is written' -a 'aspif\t"what gringo writes by itself" smodels\t"what it writes with --output=smodels"'
 complete -c aspenum -n '__aspenum_lacks --models -n --split' -s n -l models -x -d 'End with this many answers'
 complete -c aspenum -n '__aspenum_lacks --opt-all --proof --split' -l opt-all -d 'Write all optima'
 complete -c aspenum -n '__aspenum_lacks --workers -t --split' -s t -l workers -x -d 'Threads that search' -a '1 2 4 8 16 32 64'
@@ -55,3 +56,8 @@ complete -c aspground -n 'not __aspground_solves' -l help -d 'Write how it is ca
 complete -c aspground -n 'not __aspground_solves' -l version -d 'Write the versions'
 complete -c aspground -n 'not __aspground_solves' -a '--' -d 'Options of aspenum follow'
 complete -c aspground -n __aspground_solves -f -a '(__aspground_options)'
+
+complete -c aspcheck -f
+complete -c aspcheck -l format -x -d 'The format of the program' -a 'aspif smodels'
+complete -c aspcheck -s h -l help -d 'Write a page of help'
+complete -c aspcheck -l version -d 'Write the version'

@@ -1,20 +1,25 @@
 #!/usr/bin/env python3
 """Compares aspenum with the plain reference, and with clasp where it is there, on random small programs.
 
-    compare.py PROGRAM [COUNT [SEED]] [--no-clasp]     (PROGRAM may have words behind it: "build/aspenum --workers 4")
+    compare.py PROGRAM [COUNT [SEED]] [--no-clasp] [--smodels]     (PROGRAM may have words behind it: "build/aspenum --workers 4")
 
-Each program has up to seven atoms and every kind of statement. In an enumeration, and where all optima are listed, the bytes
+With --smodels the programs are smodels texts, and the reference solves what tests/smodels.py makes of them. Each program has up to seven atoms and every kind of statement. In an enumeration, and where all optima are listed, the bytes
 must be the reference's, and where consequences are asked for; in an optimisation the closing lines, cost and count, must be. With a limit the number of answers must be
 the reference's, and they must be some of its answers in its order. Every fourth program is solved in parts too. Where clasp lists other answers than the
 reference, or with a limit another number of them, that is told and counted, and is no failure: clasp 3.3.5 is known to lose
 answers of choices over weight bodies.
 """
+import collections
 import random
 import shutil
 import subprocess
 import sys
 
 import reference
+import smodels
+
+# a program as an aspif text, and what the solver reads, with the words that say so
+Case = collections.namedtuple("Case", "text source words")
 
 
 def literals(random_, atoms, most, least=0):
@@ -109,69 +114,69 @@ def closing(text):
     return lines[2 * len(answers(text)) :]
 
 
-def limit_differs(aspenum, text, mode, limit):
+def limit_differs(aspenum, case, mode, limit):
     """What is wrong with a list that ends with so many answers, or nothing."""
-    wanted = "".join(line + "\n" for line in reference.lines(reference.read(text), mode, limit))
-    given = run([*aspenum, *MODES[mode][0], "--models", str(limit)], text)
+    wanted = "".join(line + "\n" for line in reference.lines(reference.read(case.text), mode, limit))
+    given = run([*aspenum, *case.words, *MODES[mode][0], "--models", str(limit)], case.source)
     found = given.stdout.decode()
     if closing(found) != closing(wanted) or len(answers(found)) != len(answers(wanted)):
         return f"--models {limit} ends otherwise than the reference ({mode})"
-    if not is_part(answers(found), answers(wanted_of(text, mode))):
+    if not is_part(answers(found), answers(wanted_of(case.text, mode))):
         return f"--models {limit} writes other answers than the reference has, or not in its order ({mode})"
     if given.returncode != (11 if "LIMIT" in wanted else 20 if "UNSATISFIABLE" in wanted else 30):
         return f"the status is {given.returncode} with --models {limit} ({mode})"
     return None
 
 
-def differs(aspenum, text):
+def differs(aspenum, case):
     """What is wrong with aspenum's answers to a program, or nothing."""
     for mode, (words, part) in MODES.items():
-        wanted = wanted_of(text, mode)
-        given = run([*aspenum, *words], text)
+        wanted = wanted_of(case.text, mode)
+        given = run([*aspenum, *case.words, *words], case.source)
         if part(given.stdout.decode()) != part(wanted):
             return f"{' '.join(words)} differs from the reference"
         if given.returncode != (20 if "UNSATISFIABLE" in wanted else 30):
             return f"the status is {given.returncode} with {' '.join(words)}"
     for mode in ("enum", "optima"):
-        count = len(answers(wanted_of(text, mode)))
+        count = len(answers(wanted_of(case.text, mode)))
         for limit in sorted({1, max(count, 1), count + 1}):
-            wrong = limit_differs(aspenum, text, mode, limit)
+            wrong = limit_differs(aspenum, case, mode, limit)
             if wrong:
                 return wrong
     return None
 
 
-def joined(aspenum, text, mode):
-    """What the parts of a program give: their answers one after the other, the least of their costs, how many there are."""
-    most = len(text) % 9 + 1
-    given = run([aspenum[0], "--split", str(most)], text)
+def joined(aspenum, case, mode):
+    """What the parts of a program give: their answers one after the other, and the least of their costs."""
+    most = len(case.text) % 9 + 1
+    given = run([aspenum[0], *case.words, "--split", str(most)], case.source)
     cubes = given.stdout.decode().splitlines()
     if given.returncode != 0 or not 0 < len(cubes) <= most:
         return None
     found, costs = [], []
     for cube in cubes:
-        part = run([*aspenum, "--mode", mode], text.removesuffix("0\n") + cube + "\n0\n").stdout.decode()
+        part = run([*aspenum, "--mode", mode], case.text.removesuffix("0\n") + cube + "\n0\n").stdout.decode()
         found += answers(part)
         costs += [[int(number) for number in line.split()[1:]] for line in part.split("\n") if line.startswith("Optimization:")]
     return found, min(costs, default=None)
 
 
-def parts_differ(aspenum, text):
+def parts_differ(aspenum, case):
     """What is wrong with the parts of a program, or nothing."""
     for mode, at in (("enum", 0), ("opt", 1)):
-        parts = joined(aspenum, text, mode)
+        parts = joined(aspenum, case, mode)
         if parts is None:
             return "--split writes too many lines, or none"
-        wanted = wanted_of(text, mode)
+        wanted = wanted_of(case.text, mode)
         cost = [[int(number) for number in line.split()[1:]] for line in wanted.split("\n") if line.startswith("Optimization:")]
         if parts[at] != (answers(wanted), min(cost, default=None))[at]:
             return f"the parts differ from the whole with --mode {mode}"
     return None
 
 
-def clasp_consequences(text, mode):
+def clasp_consequences(source, mode):
     """The texts that clasp finds in some or in every answer, or nothing where it finds no answer."""
-    told = run(["clasp", "-e", mode, "--opt-mode=ignore"], text, 10).stdout.decode()
+    told = run(["clasp", "-e", mode, "--opt-mode=ignore"], source, 10).stdout.decode()
     if "UNSATISFIABLE" in told:
         return None
     lines = told.split("\n")
@@ -184,32 +189,41 @@ def my_consequences(text, mode):
     return None if first == "UNSATISFIABLE" else sorted(f"p({atom})" for atom in first.split()[1:])
 
 
-def clasp_differs(text):
+def clasp_differs(case):
     """Whether clasp lists other answers than the reference: its own affair, and worth knowing."""
+    text, source, _ = case
     wanted = wanted_of(text, "enum")
     try:
-        listed = run(["clasp", "-n", "0", "--opt-mode=ignore"], text, 10).stdout.decode()
+        listed = run(["clasp", "-n", "0", "--opt-mode=ignore"], source, 10).stdout.decode()
     except subprocess.TimeoutExpired:
         return "clasp gives no answer within ten seconds"
     mine = sorted(sorted(answer.split()) for answer in answers(wanted))
     if sorted(sorted(answer.split()) for answer in answers(listed)) != mine:
         return "clasp lists other answers than the reference"
     limit = max(len(mine) // 2, 1)
-    some = run(["clasp", "-n", str(limit), "--opt-mode=ignore"], text, 10).stdout.decode()
+    some = run(["clasp", "-n", str(limit), "--opt-mode=ignore"], source, 10).stdout.decode()
     if len(answers(some)) != min(limit, len(mine)):
         return f"clasp lists another number of answers with -n {limit}"
     if reference.read(text)["minimize"]:
-        optima = run(["clasp", "--opt-mode=optN", "-n", "0", "-q1"], text, 10).stdout.decode()
+        optima = run(["clasp", "--opt-mode=optN", "-n", "0", "-q1"], source, 10).stdout.decode()
         if sorted(sorted(a.split()) for a in answers(optima)) != sorted(sorted(a.split()) for a in answers(wanted_of(text, "optima"))):
             return "clasp lists other optima than the reference"
     for mode in ("brave", "cautious"):
-        if clasp_consequences(text, mode) != my_consequences(text, mode):
+        if clasp_consequences(source, mode) != my_consequences(text, mode):
             return f"clasp finds other {mode} consequences than the reference"
     return None
 
 
+def made(random_, in_smodels):
+    if not in_smodels:
+        text = program(random_)
+        return Case(text, text, [])
+    source = smodels.program(random_)
+    return Case(smodels.aspif_of(source), source, ["--format", "smodels"])
+
+
 def main():
-    words = [word for word in sys.argv[1:] if word != "--no-clasp"]
+    words = [word for word in sys.argv[1:] if word not in ("--no-clasp", "--smodels")]
     aspenum = words[0].split()
     count = int(words[1]) if len(words) > 1 else 200
     seed = int(words[2]) if len(words) > 2 else 1
@@ -217,13 +231,13 @@ def main():
     random_ = random.Random(seed)
     failed = others = 0
     for number in range(count):
-        text = program(random_)
-        wrong = differs(aspenum, text) or (parts_differ(aspenum, text) if number % 4 == 0 else None)
+        case = made(random_, "--smodels" in sys.argv)
+        wrong = differs(aspenum, case) or (parts_differ(aspenum, case) if number % 4 == 0 else None)
         failed += 1 if wrong else 0
-        other = clasp_differs(text) if with_clasp else None
+        other = clasp_differs(case) if with_clasp else None
         others += 1 if other else 0
         for message in filter(None, (wrong, other)):
-            print(f"program {number}: {message}\n{text}")
+            print(f"program {number}: {message}\n{case.source}")
     clasp = f"clasp differs on {others}" if with_clasp else "not compared with clasp"
     print(f"compare: {count} programs, {failed} differ; {clasp} (seed {seed})")
     sys.exit(1 if failed else 0)

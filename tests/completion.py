@@ -35,7 +35,7 @@ ROWS = [
     ("aspenum --proof --", ["--mode", "--workers"], ["--help", "--version", "--proof ", "--split", "--opt-all", "--quiet"]),
     ("aspenum --opt-all --", ["--mode", "--models", "--quiet"], ["--help", "--version", "--proof", "--opt-all ", "--split"]),
     ("aspenum -q --", ["--mode", "--models", "--opt-all"], ["--help", "--version", "--proof", "--quiet", "--split"]),
-    ("aspenum --split 4 --", ["--make"], ["--help", "--version", "--proof", "--split ", "--mode", "--models", "--stats"]),
+    ("aspenum --split 4 --", ["--make", "--format"], ["--help", "--version", "--proof", "--split ", "--mode", "--models", "--stats"]),
     ("aspenum --stats -n 3 --", ["--mode", "--workers", "--quiet"], ["--help", "--models", "--split"]),
     ("aspenum -e ", VALUES, ["--stats", "README"]),
     ("aspenum -t ", ["16", "64"], ["--stats", "README"]),
@@ -45,6 +45,10 @@ ROWS = [
     ("aspenum --mode ", VALUES, ["--stats", "README"]),
     ("aspenum --mode=", VALUES, ["--stats", "README"]),
     ("aspenum --mode e", ["enum"], ["auto"]),
+    ("aspenum --format ", ["aspif", "smodels"], ["--stats", "README"]),
+    ("aspenum --format=", ["aspif", "smodels"], ["--stats", "README"]),
+    ("aspenum --format=s", ["--format=smodels"], ["aspif"]),
+    ("aspenum --format smodels --", ["--mode", "--split", "--proof"], ["--help", "--format "]),
     ("aspenum --mode=o", ["--mode=opt"], ["auto"]),
     ("aspenum --stats --mo", ["--mode"], ["--make"]),
     ("true | aspenum --bu", ["--budget"], ["--mode"]),
@@ -54,6 +58,10 @@ ROWS = [
     ("aspground x.lp --he", ["--help"], ["--mode"]),
     ("aspground x.lp -- --", ["--mode", "--models", "--stats"], ["file_for_completion"]),
     ("aspground x.lp -- --stats --mo", ["--mode"], ["--make"]),
+    ("aspcheck --", ["--format", "--help", "--version"], ["README"]),
+    ("aspcheck --format ", ["aspif", "smodels"], ["--help", "README"]),
+    ("aspcheck --format=s", ["smodels"], ["aspif"]),
+    ("aspcheck < file_for_", ["file_for_completion"], ["--format"]),
     ("aspground -- --mode ", VALUES, ["--stats", "README"]),
     ("aspground x.lp -- --mode=o", ["--mode=opt"], ["auto"]),
 ]
@@ -116,7 +124,8 @@ def tried(name):
         open(f"{folder}/file_for_completion", "w").close()
         open(f"{folder}/README", "w").close()
         os.makedirs(f"{folder}/bin")
-        for program in ("aspenum", "aspground"):
+        os.symlink("aspenum", f"{data}/bash-completion/completions/aspcheck")
+        for program in ("aspenum", "aspground", "aspcheck"):
             os.symlink("/bin/true", f"{folder}/bin/{program}")
         for line, wanted, unwanted in ROWS:
             shell = Shell(command, folder)

@@ -25,10 +25,11 @@ notes=$(mktemp)
 wanted=$(mktemp)
 trap 'rm -f "$given" "$notes" "$wanted"' EXIT
 
-# An example's words, if it has any, stand in its file .words.
-for text in examples/*.aspif; do
-    expected=${text%.aspif}.out
-    words=$(cat "${text%.aspif}.words" 2> /dev/null)
+# An example's words, if it has any, stand in its file .words. The ending says the format.
+for text in examples/*.aspif examples/*.smodels; do
+    expected=${text%.*}.out
+    words=$(cat "${text%.*}.words" 2> /dev/null)
+    [ "${text##*.}" = aspif ] || words="--format ${text##*.} $words"
     status=30
     grep -q UNSATISFIABLE "$expected" && status=20
     grep -q 'LIMIT REACHED' "$expected" && status=11
@@ -93,7 +94,7 @@ most=268435456
 for byte in '\n' ' '; do
     line=2
     [ "$byte" = ' ' ] || line=$((most + 1))
-    echo "aspenum: line $line: not the header of aspif 1.0, which gringo writes and aspenum reads" > "$wanted"
+    echo "aspenum: line $line: not the header of aspif 1.0, which gringo writes; a smodels text needs --format smodels" > "$wanted"
     head -c $most /dev/zero | tr '\0' "$byte" | "$program" > "$given" 2> "$notes"
     check "the greatest length of '$byte'" 65 "$wanted" "${PIPESTATUS[2]}" "$notes"
     echo 'aspenum: input too long' > "$wanted"
@@ -114,6 +115,19 @@ echo 'aspenum: line 1000003: more than 1,000,000 different atoms' > "$wanted"
 { million; echo '5 3 0'; } | "$program" > "$given" 2> "$notes"
 check "a million atoms and one" 65 "$wanted" "${PIPESTATUS[1]}" "$notes"
 
+# A thousand minimize statements of a smodels text, each a priority of its own, and one more.
+minimizing() {
+    echo '3 1 2 0 0'
+    yes '6 0 1 0 2 1' | head -n "$1"
+    printf '%s\n' 0 0 B+ 0 B- 0 1
+}
+echo "Optimization: $(yes 0 | head -n 1000 | paste -s -d ' ')" > "$wanted"
+minimizing 1000 | "$program" --format smodels 2> "$notes" | grep '^Opt' > "$given"
+check "a thousand priorities" 30 "$wanted" "${PIPESTATUS[1]}" "$given"
+echo 'aspenum: line 1002: more than 1,000 different priorities' > "$wanted"
+minimizing 1001 | "$program" --format smodels > "$given" 2> "$notes"
+check "a thousand priorities and one" 65 "$wanted" "${PIPESTATUS[1]}" "$notes"
+
 # The counts of a run.
 printf 'Conflicts: 0\nLeaves: 1\nLog: 0\nDecisions: 1\nPropagated: 3\nRestarts: 0\nKept: 0\nDropped: 0\nAtoms: 2\nBodies: 2\nLoops: 0\n' > "$wanted"
 "$program" --stats < examples/two_rules.aspif > "$given" 2> "$notes"
@@ -132,8 +146,8 @@ head -4 "$notes" > "$given"
 check "no early split" 20 "$wanted" "$status" "$given"
 
 # Each example stands in the list of examples.
-for text in examples/*.aspif; do
-    name=$(basename "$text" .aspif)
+for text in examples/*.aspif examples/*.smodels; do
+    name=$(basename "${text%.*}")
     grep -qF "\`$name\`" examples/README.md || { echo "failed: examples/README.md doesn't list $name"; failed=$((failed + 1)); }
 done
 
@@ -153,6 +167,7 @@ python3 tests/progress.py "$program" || failed=$((failed + 1))
 # Random programs beside the plain reference, by one worker and by four.
 python3 tests/compare.py "$program" 400 --no-clasp || failed=$((failed + 1))
 python3 tests/compare.py "$program --workers 4" 100 --no-clasp || failed=$((failed + 1))
+python3 tests/compare.py "$program" 100 --no-clasp --smodels || failed=$((failed + 1))
 
 echo "examples: $passed passed, $failed failed"
 [ "$failed" -eq 0 ]

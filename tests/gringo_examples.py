@@ -1,9 +1,9 @@
 #!/usr/bin/env python3
 """Runs gringo's own examples (Debian: /usr/share/doc/gringo/examples) through aspenum and clasp, and compares.
 
-usage: tests/gringo_examples.py PROGRAM [SECONDS]     (PROGRAM may have words behind it: "build/aspenum --workers 4")
+usage: tests/gringo_examples.py PROGRAM [SECONDS] [--smodels]     (PROGRAM may have words behind it: "build/aspenum --workers 4")
 
-Each encoding is grounded alone, and together with each other file of its folder or of the folder's instances; a pair that
+With --smodels gringo writes the format of smodels, and aspenum and clasp read it. Each encoding is grounded alone, and together with each other file of its folder or of the folder's instances; a pair that
 gringo refuses, or that says nothing, is left out. Of each grounding it is told whether aspenum refuses it and why, whether
 both give the same (the number of models, or the cost of the optimum), or which of them took longer than the limit."""
 import collections
@@ -15,6 +15,7 @@ import sys
 import tempfile
 
 ROOT = "/usr/share/doc/gringo/examples"
+SMODELS = "--smodels" in sys.argv
 
 
 def run(words, text, seconds):
@@ -49,14 +50,14 @@ def verdict(program, files, seconds, room):
     text = f"{room}/text"
     with open(text, "wb") as out:
         try:
-            ground = subprocess.run(["gringo", "--warn=none", *files], stdout=out, stderr=subprocess.DEVNULL, timeout=seconds)
+            ground = subprocess.run(["gringo", "--warn=none", *["--output=smodels"] * SMODELS, *files], stdout=out, stderr=subprocess.DEVNULL, timeout=seconds)
         except subprocess.TimeoutExpired:
             return "gringo takes too long"
     if ground.returncode != 0:
         return "gringo refuses it"
-    code, ours, notes = run(program.split(), text, seconds)
+    code, ours, notes = run([*program.split(), *["--format=smodels"] * SMODELS], text, seconds)
     if code == 65:
-        return "refused: " + re.sub(r".*line \d+: ", "", notes.strip())
+        return "refused: " + re.sub(r".*line \d+(, field \d+)?: ", "", notes.strip())
     _, theirs, _ = run(["clasp", "-n", "0", "--trans-ext=all"], text, seconds)
     if not theirs or result_of(theirs) is None:
         return "clasp takes too long" if code is None else "clasp takes too long, aspenum not"
@@ -66,7 +67,8 @@ def verdict(program, files, seconds, room):
 
 
 def main():
-    program, seconds = sys.argv[1], float(sys.argv[2]) if len(sys.argv) > 2 else 10
+    words = [word for word in sys.argv[1:] if word != "--smodels"]
+    program, seconds = words[0], float(words[1]) if len(words) > 1 else 10
     counts = collections.Counter()
     with tempfile.TemporaryDirectory() as room:
         for files in pairs():

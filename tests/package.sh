@@ -38,7 +38,7 @@ in_root() { chroot "$root" /usr/bin/env -i PATH=/usr/sbin:/usr/bin:/sbin:/bin "$
 in_root dpkg -i /package.deb > "$folder/log" 2>&1 || { cat "$folder/log"; fail "dpkg -i"; }
 [ "$(in_root aspenum --version)" = "$(build/aspenum --version)" ] || fail "the version"
 # each example is the text itself and what is written, with the words that stand beside it
-in_root sh -c 'cd /usr/share/doc/aspenum/examples && for it in *.aspif; do words=$(cat "${it%.aspif}.words" 2> /dev/null); aspenum $words < "$it" | cmp -s - "${it%.aspif}.out" || { echo "$it"; exit 1; }; done' || fail "an example"
+in_root sh -c 'cd /usr/share/doc/aspenum/examples && for it in *.aspif *.smodels; do words=$(cat "${it%.*}.words" 2> /dev/null); aspenum --format "${it##*.}" $words < "$it" | cmp -s - "${it%.*}.out" || { echo "$it"; exit 1; }; done' || fail "an example"
 # the README's first screen, by the package and Debian's gringo alone
 in_root sh -c 'apt-get update && apt-get install -y --no-install-recommends gringo' > "$folder/log" 2>&1 || { tail -n 5 "$folder/log"; fail "gringo"; }
 sed -n '/^\$ \(gringo\|build\/aspground\) examples\/colouring/,/^```$/p' README.md | sed '1d;$d' > "$folder/wanted"

@@ -21,10 +21,10 @@ def run(words, text):
 
 
 def rows():
-    """The texts of rows.txt that are solved."""
+    """The aspif texts of rows.txt that are solved."""
     for line in open(join(HERE, "rows.txt")):
         status, words, text, _ = line.rstrip("\n").split("~")
-        if int(status) in SOLVED and "--make" not in words and "--budget" not in words:
+        if int(status) in SOLVED and not any(it in words for it in ("--make", "--budget", "smodels")):
             yield text.encode().decode("unicode_escape").encode()
 
 

@@ -33,6 +33,7 @@ MOST_LINES = 130
 BOXES = {
     ("asp_read", "Outcome", "outcome"): "the reading of aspif: the program that a text says, or why it is refused: its first fault with the line's number, or that it is "
     "too long. See docs/DEFINITIONS.md",
+    ("asp_smodels", "Outcome", "smodels_outcome"): "the reading of the format of smodels, in the same way",
     ("asp_make", "Ring", "ring"): "the program that `--make n` makes in place of one that is read: a colouring of a ring of n nodes",
     ("asp_cli", "Given", "words_give"): "what the arguments of the command line say: `options` with their values, help, the version, or what is wrong with them",
     ("asp_cli", "Given", "options"): "that the arguments are options, with these values",
@@ -55,9 +56,10 @@ SENTENCES = {
 # The types that are shown, in the order of reading.
 TYPES = [
     ("asp_top", "src/status.rt", ["Status"]),
-    ("asp_cli", "src/lib.rt", ["Options"]),
+    ("asp_cli", "src/lib.rt", ["Options", "Format"]),
     ("asp_model", "src/results.rt", ["Mode", "Reasoning"]),
     ("asp_model", "src/program.rt", ["Program", "Rule", "Head", "Body", "Minimize", "Output", "External", "ExternalValue"]),
+    ("asp_read", "src/fault.rt", ["ReadError"]),
 ]
 
 # What the definitions take from the library of the language.
@@ -67,7 +69,7 @@ WORDS = {
     "Bool": "`true` or `false`, with `not`, `&&` and `||`",
     "List": "lists: `[]` is the empty one, `x ∷ xs` begins with x, `++` joins two",
     "Option": "`None` or `Some x`",
-    "Ok": "a result that isn't an error",
+    "Ok": "a result that isn't an error; `Result A E` is the type of an `Ok` of an A, or an error of E",
     "is_some": "whether there is a value",
     "IfSome": "`IfSome o P`: where o is `Some x`, P holds of x",
     "≡": "`a ≡ b`: they are equal",
@@ -95,7 +97,7 @@ WORDS = {
 }
 # Other names for the same words.
 SAME = {
-    "◌≡◌": "≡", "◌==◌": "==", "◌+◌": "+", "◌+ℤ◌": "+", "◌-ℤ◌": "+", "if◌then◌else◌": "if", "suc": "zero", "[]": "List", "◌∷◌": "List", "◌++◌": "List",
+    "Result": "Ok", "◌≡◌": "≡", "◌==◌": "==", "◌+◌": "+", "◌+ℤ◌": "+", "◌-ℤ◌": "+", "if◌then◌else◌": "if", "suc": "zero", "[]": "List", "◌∷◌": "List", "◌++◌": "List",
     "true": "Bool", "false": "Bool", "not": "Bool", "◌&&◌": "Bool", "◌||◌": "Bool", "None": "Option", "Some": "Option", "pos": "ℤ", "negsuc": "ℤ",
     "nat_eq": "==", "int_eq": "==", "int_lt": "nat_lt", "int_le": "nat_lt", "signed_decimal": "decimal",
 }

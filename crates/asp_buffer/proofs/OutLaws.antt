@@ -1,13 +1,12 @@
 -- Bytes that are put out one after another.
 use Rattle.std.proofs.Common.{◌≡◌, ℕ, ◌+◌, List, [], ◌++◌, ◌∙◌, refl, sym, ap, subst, arith, append_assoc, append-nil, take, drop, drop-cons, add-one, suc, get_or, ◌∷◌, length, min, ◌≤◌, ◌<◌}
-use Rattle.std.specs.Prelude.{OnOk, OnErr, Ok, Err, Option, Result, IsErrAnd, IsSome}
+use Rattle.std.specs.Prelude.{OnOk, OnErr, Ok, Err, Option, Result, IsErrAnd}
 use Rattle.std.specs.Io.KnownBytes.{Appends}
 use Rattle.std.proofs.KnownBytes.{Appends-trans, Appends-nil}
 use Rattle.std.proofs.Math.Seq.{take-append-add}
 use Rattle.std.proofs.lemmas.List.{take-append-le, take_min}
 use Rattle.std.proofs.lemmas.Result.{err_from_is_err_and}
 use Rattle.asp_io.specs.Causes.{Rose, AppendsFront}
-use Rattle.asp_io.proofs.Writing.{still_told}
 use Rattle.asp_buffer.specs.Out.{Out, Passes, Puts}
 
 -- a front of some bytes is one of more bytes
@@ -52,14 +51,14 @@ puts_then {U = U} {F = F} a b c v r x y p q = go r q
       front = tt;
       later = omega (arith, p.later, q.later);
       cause = tt;
-      quiet = λ told. q.quiet (still_told _ _ _ p.all.appended told) ∙ p.quiet told;
+      quiet = q.quiet ∙ p.quiet;
     }
     go (Err e) q = record {
       all = tt;
       front = fails-then a b c x y p.all q.front;
       later = omega (arith, p.later, q.later);
       cause = omega (arith, p.later, q.cause);
-      quiet = λ told. tt;
+      quiet = tt;
     }
 
 -- what fails at some bytes fails at these and others
@@ -71,7 +70,7 @@ puts_fails Q a b e r x y p is =
       front = subst (λ (t : List ℕ). AppendsFront a.held b.held t) (append_assoc a.waiting x y) (front-more a.held b.held _ y p.front);
       later = p.later;
       cause = p.cause;
-      quiet = λ told. tt;
+      quiet = tt;
     })
 
 pub puts_same : {T E : Type 0} (a b : Out) (r : Result T E) (x y : List ℕ) → Puts a b r x → x ≡ y → Puts a b r y
@@ -86,7 +85,7 @@ pub record Midway (before now : Out) (all rest : List ℕ) : Type 0 where
 pub midway_start : (a : Out) (all rest : List ℕ) → rest ≡ all → Midway a a all rest
 midway_start a all rest e = record {
   text = [];
-  went = record { all = record { written = []; appended = Appends-nil a.held; kept = sym (append-nil a.waiting) }; front = tt; later = omega arith; cause = tt; quiet = λ told. refl };
+  went = record { all = record { written = []; appended = Appends-nil a.held; kept = sym (append-nil a.waiting) }; front = tt; later = omega arith; cause = tt; quiet = refl };
   same = e;
 }
 
@@ -120,7 +119,7 @@ pub record Printed {T E : Type 0} (before after : Out) (result : Result T E) (te
   pub front : OnErr result (AppendsFront before.held after.held text)
   pub later : before.faults ≤ after.faults
   pub cause : OnErr result (Rose before.faults after.faults)
-  pub quiet : IsSome before.held → OnOk result (after.faults ≡ before.faults)
+  pub quiet : OnOk result (after.faults ≡ before.faults)
 
 pub printed : {T E : Type 0} (a b : Out) (r : Result T E) (text : List ℕ) → a.waiting ≡ [] → OnOk r (b.waiting ≡ []) → Puts a b r text → Printed a b r text
 printed a b (Ok v) text start end p =
@@ -137,4 +136,4 @@ printed a b (Err e) text start end p = record {
 pub printed-fails : {T E U F : Type 0} (Q : F → Type 0) (a b : Out) (e : E) (r : Result U F) (text : List ℕ) → a.waiting ≡ [] → Puts {T = T} {E = E} a b (Err e) text → IsErrAnd r Q → Printed a b r text
 printed-fails Q a b e r text start p is =
     let err = err_from_is_err_and r is in
-    rw err.1 (record { all = tt; front = subst (λ (t : List ℕ). AppendsFront a.held b.held (t ++ text)) start p.front; later = p.later; cause = p.cause; quiet = λ told. tt })
+    rw err.1 (record { all = tt; front = subst (λ (t : List ℕ). AppendsFront a.held b.held (t ++ text)) start p.front; later = p.later; cause = p.cause; quiet = tt })

@@ -10,3 +10,5 @@ pub mod Loops
 pub mod Judging
 pub mod Runs
 pub mod Chasing
+pub mod Codes
+pub mod Formats

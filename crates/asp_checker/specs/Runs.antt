@@ -4,7 +4,6 @@ use Rattle.std.specs.List.{starts_with}
 use Rattle.std.specs.declared.result.Result.TheVariants.{Ok, Err}
 use Rattle.std.specs.Io.KnownBytes.{Appends, Keeps}
 use Rattle.asp_model.specs.declared.program.Program.{Program}
-use Rattle.asp_read.specs.Outcome.{outcome}
 use Rattle.asp_proof.specs.declared.proof.Proof.{Proof}
 use Rattle.asp_proof.specs.Outcome.{Reads}
 use Rattle.asp_proof.specs.Grammar.{IsFirstFault, most_bytes}
@@ -21,6 +20,8 @@ use Rattle.asp_checker.specs.declared.run.CheckStatus.{CheckStatus}
 use Rattle.asp_checker.specs.declared.run.CheckStatus.TheVariants as status
 use Rattle.asp_checker.specs.declared.run.CheckError.{CheckError}
 use Rattle.asp_checker.specs.declared.run.CheckError.TheVariants as error
+use Rattle.asp_checker.specs.declared.run.Format.{Format}
+use Rattle.asp_checker.specs.Formats.{outcome_for}
 use Rattle.asp_checker.specs.Right.{Shows}
 use Rattle.asp_checker.specs.Judging.{IsJudged}
 
@@ -31,10 +32,10 @@ pub record IsProofChecked (p : Program) (text : List ℕ) (j : Judgement) : Type
   pub judged : IsJudged p proof j
   pub shows : j ≡ judgement.Yes → Shows p proof
 
--- the same, of the program of a text
-pub record IsChecked (program proof : List ℕ) (j : Judgement) : Type 0 where
+-- the same, of the program of a text in this format
+pub record IsChecked (format : Format) (program proof : List ℕ) (j : Judgement) : Type 0 where
   pub p : Program
-  pub reads : outcome program ≡ Ok p
+  pub reads : outcome_for format program ≡ Ok p
   pub checked : IsProofChecked p proof j
 
 -- why a text is no proof's
@@ -59,11 +60,11 @@ ProofSays p text (Err (error.Program e)) = ⊥
 ProofSays p text (Err (error.Proof e)) = RefusesProof text e
 
 -- of two texts
-abbrev pub CheckSays : List ℕ → List ℕ → Result Judgement CheckError → Type 0
-CheckSays program proof (Ok j) = IsChecked program proof j
-CheckSays program proof (Err error.Memory) = Unit {0}
-CheckSays program proof (Err (error.Program e)) = outcome program ≡ Err e
-CheckSays program proof (Err (error.Proof e)) = RefusesProof proof e
+abbrev pub CheckSays : Format → List ℕ → List ℕ → Result Judgement CheckError → Type 0
+CheckSays format program proof (Ok j) = IsChecked format program proof j
+CheckSays format program proof (Err error.Memory) = Unit {0}
+CheckSays format program proof (Err (error.Program e)) = outcome_for format program ≡ Err e
+CheckSays format program proof (Err (error.Proof e)) = RefusesProof proof e
 
 abbrev pub program_error : ReadError → CheckError
 program_error read.Memory = error.Memory
@@ -105,8 +106,8 @@ said (judgement.No w line) = codes "NO " ++ decimal (number_of w) ++ codes " " +
 
 abbrev pub status_of : CheckError → CheckStatus
 status_of error.Memory = status.Memory
-status_of (error.Program e) = status.Program
-status_of (error.Proof e) = status.Proof
+status_of (error.Program e) = status.Program e
+status_of (error.Proof e) = status.Proof e
 
 abbrev pub read_status : ProofError → CheckStatus
 read_status proof.Memory = status.Memory
@@ -116,18 +117,25 @@ read_status (proof.Refused n) = status.ReadFault
 
 abbrev pub status_said : Judgement → CheckStatus
 status_said judgement.Yes = status.Yes
-status_said (judgement.No w n) = status.No
+status_said (judgement.No w n) = status.No w n
+
+-- where a judgement was written, all of it was sent on
+abbrev pub IsSentOn : Bool → CheckStatus → Type 0
+IsSentOn sent status.Yes = sent ≡ true
+IsSentOn sent (status.No w n) = sent ≡ true
+IsSentOn sent s = Unit {0}
 
 -- what became of a sink where a judgement was written
 abbrev pub Writes : Option (List ℕ) → Option (List ℕ) → Judgement → CheckStatus → Type 0
 Writes old new j status.Yes = (j ≡ judgement.Yes) × Appends old new (said j)
-Writes old new j status.No = ((w : Why) × (n : ℕ) × (j ≡ judgement.No w n)) × Appends old new (said j)
+Writes old new j (status.No w n) = (j ≡ judgement.No w n) × Appends old new (said j)
 Writes old new j status.Memory = Keeps old new
 Writes old new j status.WriteFault = AppendsFront old new (said j)
-Writes old new j status.Program = ⊥
+Writes old new j (status.Program e) = ⊥
 Writes old new j status.ReadFault = ⊥
 Writes old new j status.TooLong = ⊥
-Writes old new j status.Proof = ⊥
+Writes old new j status.NoProof = ⊥
+Writes old new j (status.Proof e) = ⊥
 
 -- the program's text, and the proof's
 abbrev pub program_part : List ℕ → List ℕ
@@ -136,19 +144,20 @@ program_part text = take (proof_place text) text
 abbrev pub proof_part : List ℕ → List ℕ
 proof_part text = drop (proof_place text) text
 
--- what a text comes to
-abbrev pub TextSays : List ℕ → Option (List ℕ) → Option (List ℕ) → CheckStatus → Type 0
-TextSays text old new status.Yes = IsChecked (program_part text) (proof_part text) judgement.Yes × Appends old new (said judgement.Yes)
-TextSays text old new status.No = (w : Why) × (n : ℕ) × IsChecked (program_part text) (proof_part text) (judgement.No w n) × Appends old new (said (judgement.No w n))
-TextSays text old new status.Memory = Keeps old new
-TextSays text old new status.Program = ((e : ReadError) × (outcome (program_part text) ≡ Err e)) × Keeps old new
-TextSays text old new status.ReadFault = Keeps old new
-TextSays text old new status.TooLong = (most_bytes < length text) × Keeps old new
-TextSays text old new status.Proof = ((e : ProofError) × RefusesProof (proof_part text) e) × Keeps old new
-TextSays text old new status.WriteFault = (j : Judgement) × IsChecked (program_part text) (proof_part text) j × AppendsFront old new (said j)
+-- what a text comes to, whose program is in this format
+abbrev pub TextSays : Format → List ℕ → Option (List ℕ) → Option (List ℕ) → CheckStatus → Type 0
+TextSays format text old new status.Yes = IsChecked format (program_part text) (proof_part text) judgement.Yes × Appends old new (said judgement.Yes)
+TextSays format text old new (status.No w n) = IsChecked format (program_part text) (proof_part text) (judgement.No w n) × Appends old new (said (judgement.No w n))
+TextSays format text old new status.Memory = Keeps old new
+TextSays format text old new (status.Program e) = (outcome_for format (program_part text) ≡ Err e) × Keeps old new
+TextSays format text old new status.ReadFault = Keeps old new
+TextSays format text old new status.TooLong = (most_bytes < length text) × Keeps old new
+TextSays format text old new status.NoProof = (proof_place text ≡ length text) × Keeps old new
+TextSays format text old new (status.Proof e) = RefusesProof (proof_part text) e × Keeps old new
+TextSays format text old new status.WriteFault = (j : Judgement) × IsChecked format (program_part text) (proof_part text) j × AppendsFront old new (said j)
 
 -- There is a text, the source's where it tells its bytes, that comes to this.
-pub record RunSays (source old new : Option (List ℕ)) (s : CheckStatus) : Type 0 where
+pub record RunSays (format : Format) (source old new : Option (List ℕ)) (s : CheckStatus) : Type 0 where
   pub text : List ℕ
   pub told : IfSome source (λ t. t ≡ text)
-  pub says : TextSays text old new s
+  pub says : TextSays format text old new s

@@ -1,23 +1,37 @@
 //! A program's text and a proof's text, and what is said of them.
-ghost use Rattle.std.specs.Prelude.{◌≡◌, ◌<◌, ◌≤◌, ◌&&◌, ◌==◌, length, take, drop, slice_index, IfOk};
-ghost use Rattle.asp_io.specs.Causes.{Rose};
+ghost use Rattle.std.specs.Prelude.{◌≡◌, ◌<◌, ◌≤◌, ◌&&◌, ◌==◌, length, take, drop, slice_index, true, IfOk, OnErr, OnOk};
+ghost use Rattle.std.specs.Io.KnownBytes.{Appends};
+ghost use Rattle.asp_io.specs.Causes.{AppendsFront, Rose};
 ghost use Rattle.asp_model.specs.Sound.{IsSound};
 ghost use Rattle.asp_proof.specs.Grammar.{most_bytes};
+ghost use Rattle.asp_read.specs.Stream.{ReadsText};
 ghost use Rattle.asp_checker.specs.Right.{Shows};
 ghost use Rattle.asp_checker.specs.Judging.{IsJudged};
-ghost use Rattle.asp_checker.specs.Runs.{CheckSays, ProofSays, ReadSays, program_error, proof_error, proof_place, is_proof_line, number_of, said, status_said, status_of, read_status, Writes, TextSays, RunSays};
+ghost use Rattle.asp_checker.specs.Codes.{code_of};
+ghost use Rattle.asp_checker.specs.Formats.{outcome_for};
+ghost use Rattle.asp_checker.specs.Runs.{CheckSays, ProofSays, ReadSays, program_error, proof_error, proof_place, is_proof_line, number_of, said, status_said, status_of, read_status, IsSentOn, Writes, TextSays, RunSays};
 
 use crate::judge::{Judgement, Why, judge};
-use asp_io::{CleanSource, Sink, Source, write_all};
+use asp_io::{CleanSource, Failed, Sink, Source, write_all};
 use asp_model::program::Program;
 use asp_proof::proof::Proof;
 use asp_proof::{ProofError, parse, read_all};
 use asp_read::fault::ReadError;
 use asp_read::read_program;
+use asp_smodels::read_smodels;
 use asp_vars::compile::compile;
 use itoa::Buffer;
 use std::alloc::{AllocError, Global};
 use std::mem;
+
+/// The format of a program's text.
+#[derive(Clone, Copy, Debug, PartialEq, Eq)]
+pub enum Format {
+    /// aspif 1.0.
+    Aspif,
+    /// That of smodels and lparse.
+    Smodels,
+}
 
 /// Why no proof was judged.
 #[derive(Clone, Copy)]
@@ -35,33 +49,37 @@ pub enum CheckError {
 pub enum CheckStatus {
     /// The proof is right.
     Yes,
-    /// It isn't.
-    No,
+    /// It isn't: why, and by which of its lines, counted from 1.
+    No(Why, usize),
     /// Memory ran out.
     Memory,
     /// The program's text was refused.
-    Program,
+    Program(ReadError),
     /// The source failed.
     ReadFault,
     /// The text is longer than a text may be.
     TooLong,
+    /// No line of the text is the first line of a proof.
+    NoProof,
     /// The proof's text was refused.
-    Proof,
+    Proof(ProofError),
     /// The sink failed.
     WriteFault,
 }
 
 impl CheckStatus {
     /// The status with which the program exits.
-    pub fn code(self) -> u8 {
+    pub fn code(self) -> u8
+        ensures { result ≡ code_of self }
+    {
         match self {
             CheckStatus::Yes => 0,
-            CheckStatus::No => 1,
+            CheckStatus::No(_, _) => 1,
             CheckStatus::Memory => 33,
-            CheckStatus::Program => 65,
+            CheckStatus::Program(_) => 65,
             CheckStatus::ReadFault => 66,
             CheckStatus::TooLong => 67,
-            CheckStatus::Proof => 68,
+            CheckStatus::NoProof | CheckStatus::Proof(_) => 68,
             CheckStatus::WriteFault => 74,
         }
     }
@@ -132,13 +150,30 @@ fn program_error(error: ReadError) -> CheckError
     }
 }
 
-/// Judges the proof of one text by the program of another: where it is right, what it lists is so.
-pub fn check_proof(alloc: Global, program: &[u8], proof: &[u8]) -> Result<Judgement, CheckError>
-    requires { length proof.now ≤ most_bytes }
-    ensures { CheckSays program.now proof.now result }
+// The program of a text in this format.
+fn read_text(alloc: Global, format: Format, text: &[u8]) -> Result<Program, ReadError>
+    ensures read { ReadsText result (outcome_for format text.now) }
+    ensures no_read { result ≡ Err ReadError.ReadFault → ⊥ }
+    ensures sound { IfOk result IsSound }
 {
-    let mut source = CleanSource::new(program);
-    match read_program(alloc, &mut source) {
+    let mut source = CleanSource::new(text);
+    match format {
+        Format::Aspif => read_program(alloc, &mut source),
+        Format::Smodels => read_smodels(alloc, &mut source),
+    }
+}
+
+/// Judges the proof of one text by the program of another: where it is right, what it lists is so.
+pub fn check_proof(
+    alloc: Global,
+    format: Format,
+    program: &[u8],
+    proof: &[u8],
+) -> Result<Judgement, CheckError>
+    requires { length proof.now ≤ most_bytes }
+    ensures { CheckSays format program.now proof.now result }
+{
+    match read_text(alloc, format, program) {
         Ok(read) => check_read(alloc, read, proof),
         Err(error) => Err(program_error(error)),
     }
@@ -233,26 +268,42 @@ fn status_said(judgement: Judgement) -> CheckStatus
 {
     match judgement {
         Judgement::Yes => CheckStatus::Yes,
-        Judgement::No(_, _) => CheckStatus::No,
+        Judgement::No(why, line) => CheckStatus::No(why, line),
     }
 }
 
-// Writes the text of a judgement.
+/// Writes the text, and flushes the sink.
+pub fn write_flushed<K: Sink>(sink: &mut K, text: &[u8]) -> Result<(), Failed>
+    ensures all { OnOk result (Appends (K.held sink.old) (K.held sink.new) text.now) }
+    ensures sent { OnOk result (K.is_sent sink.new ≡ true) }
+    ensures front { OnErr result (AppendsFront (K.held sink.old) (K.held sink.new) text.now) }
+    ensures cause { OnErr result (Rose (K.faults sink.old) (K.faults sink.new)) }
+    ensures quiet { OnOk result (K.faults sink.new ≡ K.faults sink.old) }
+{
+    write_all(sink, text)?;
+    sink.flush()
+}
+
+// Writes the text of a judgement, and flushes the sink.
 fn write_text<K: Sink>(sink: &mut K, text: &[u8], judgement: Judgement) -> CheckStatus
     requires { text.now ≡ said judgement }
     ensures says { Writes (K.held sink.old) (K.held sink.new) judgement result }
+    ensures sent { IsSentOn (K.is_sent sink.new) result }
     ensures cause { result ≡ CheckStatus.WriteFault → Rose (K.faults sink.old) (K.faults sink.new) }
+    ensures quiet { (result ≡ CheckStatus.WriteFault → ⊥) → K.faults sink.new ≡ K.faults sink.old }
 {
-    match write_all(sink, text) {
+    match write_flushed(sink, text) {
         Ok(()) => status_said(judgement),
-        Err(_) => CheckStatus::WriteFault,
+        Err(Failed) => CheckStatus::WriteFault,
     }
 }
 
-// Writes a judgement.
+// Writes a judgement, and flushes the sink.
 fn write_judgement<K: Sink>(alloc: Global, sink: &mut K, judgement: Judgement) -> CheckStatus
     ensures says { Writes (K.held sink.old) (K.held sink.new) judgement result }
+    ensures sent { IsSentOn (K.is_sent sink.new) result }
     ensures cause { result ≡ CheckStatus.WriteFault → Rose (K.faults sink.old) (K.faults sink.new) }
+    ensures quiet { (result ≡ CheckStatus.WriteFault → ⊥) → K.faults sink.new ≡ K.faults sink.old }
 {
     match said(alloc, judgement) {
         Ok(text) => write_text(sink, text.as_slice(), judgement),
@@ -266,22 +317,27 @@ fn status_of(error: CheckError) -> CheckStatus
 {
     match error {
         CheckError::Memory => CheckStatus::Memory,
-        CheckError::Program(_) => CheckStatus::Program,
-        CheckError::Proof(_) => CheckStatus::Proof,
+        CheckError::Program(error) => CheckStatus::Program(error),
+        CheckError::Proof(error) => CheckStatus::Proof(error),
     }
 }
 
 // Judges the proof in a text by the program before it, and writes what is said of it.
-fn answer<K: Sink>(alloc: Global, text: &[u8], sink: &mut K) -> CheckStatus
+fn answer<K: Sink>(alloc: Global, format: Format, text: &[u8], sink: &mut K) -> CheckStatus
     requires { length text.now ≤ most_bytes }
-    ensures says { TextSays text.now (K.held sink.old) (K.held sink.new) result }
+    ensures says { TextSays format text.now (K.held sink.old) (K.held sink.new) result }
+    ensures sent { IsSentOn (K.is_sent sink.new) result }
     ensures cause { result ≡ CheckStatus.WriteFault → Rose (K.faults sink.old) (K.faults sink.new) }
+    ensures quiet { (result ≡ CheckStatus.WriteFault → ⊥) → K.faults sink.new ≡ K.faults sink.old }
     ensures no_read { result ≡ CheckStatus.ReadFault → ⊥ }
 {
     let place = proof_place(text);
+    if place == text.len() {
+        return CheckStatus::NoProof;
+    }
     let program = before(text, place);
     let proof = behind(text, place);
-    match check_proof(alloc, program, proof) {
+    match check_proof(alloc, format, program, proof) {
         Ok(judgement) => write_judgement(alloc, sink, judgement),
         Err(error) => status_of(error),
     }
@@ -299,17 +355,28 @@ fn read_status(error: ProofError) -> CheckStatus
     }
 }
 
-/// Reads a program's text and behind it a proof's, which begins with the first line `proof 1`, and writes what is said of
-/// the proof: `YES`, or `NO` with the number of the reason and of the line. Nothing is written where no proof was judged.
-pub fn run_check<S: Source, K: Sink>(alloc: Global, source: &mut S, sink: &mut K) -> CheckStatus
+/// Reads a program's text in this format and after it a proof's, which begins with the first line `proof 1`, writes what
+/// is said of the proof, and flushes the sink: `YES`, or `NO` with the number of the reason and of the line. Nothing is
+/// written where no proof was judged.
+pub fn run_check<S: Source, K: Sink>(
+    alloc: Global,
+    format: Format,
+    source: &mut S,
+    sink: &mut K,
+) -> CheckStatus
     // What the source's text comes to, or some text where it doesn't tell it.
-    ensures says { RunSays (S.left source.old) (K.held sink.old) (K.held sink.new) result }
-    // A failed read is answered only where the source's count of faults rose, and a failed write where the sink's did.
+    ensures says { RunSays format (S.left source.old) (K.held sink.old) (K.held sink.new) result }
+    // All of the judgement was sent on.
+    ensures sent { IsSentOn (K.is_sent sink.new) result }
+    // A failed read is answered exactly where the source's count of faults rose, and a failed write or flush where the
+    // sink's did.
     ensures read { result ≡ CheckStatus.ReadFault → Rose (S.faults source.old) (S.faults source.new) }
+    ensures read_quiet { (result ≡ CheckStatus.ReadFault → ⊥) → S.faults source.new ≡ S.faults source.old }
     ensures write { result ≡ CheckStatus.WriteFault → Rose (K.faults sink.old) (K.faults sink.new) }
+    ensures write_quiet { (result ≡ CheckStatus.WriteFault → ⊥) → K.faults sink.new ≡ K.faults sink.old }
 {
     match read_all(alloc, source) {
-        Ok(text) => answer(alloc, text.as_slice(), sink),
+        Ok(text) => answer(alloc, format, text.as_slice(), sink),
         Err(error) => read_status(error),
     }
 }

@@ -1,14 +1,15 @@
 -- What some command lines give, computed by the definition.
 use Rattle.std.proofs.Common.{◌≡◌, [], ◌∷◌, true, false, Some, None, codes, refl}
 use Rattle.asp_model.specs.declared.results.Mode.TheVariants.{Enum, Opt}
+use Rattle.asp_cli.specs.declared.Format.TheVariants.{Aspif, Smodels}
 use Rattle.asp_cli.specs.declared.Options.{Options}
-use Rattle.asp_cli.specs.declared.names.Name.TheVariants.{Workers, Mode, Budget, Models, OptAll, Quiet, Proof, Make, Stats, Progress, Split}
+use Rattle.asp_cli.specs.declared.names.Name.TheVariants.{Workers, Mode, Format, Budget, Models, OptAll, Quiet, Proof, Make, Stats, Progress, Split}
 use Rattle.asp_cli.specs.Given.{bad_value, help, misuse, missing, no_words, options, rivals, twice, unexpected, unknown, version, words_give}
 use Rattle.asp_cli.specs.Hints.{counterpart, nearest}
 
 -- what is asked for where no option is given
 abbrev standard : Options
-standard = record { workers = 1; mode = None; budget = 9223372036854775807; models = 0; all_optima = false; quiet = false; make = None; stats = false; progress = false; proof = false; split = None }
+standard = record { workers = 1; mode = None; format = Aspif; budget = 9223372036854775807; models = 0; all_optima = false; quiet = false; make = None; stats = false; progress = false; proof = false; split = None }
 
 empty_line : words_give [] ≡ misuse no_words
 empty_line = refl
@@ -234,8 +235,37 @@ parts_twice = refl
 first_from_the_left : words_give (codes "aspenum" ∷ codes "--stats" ∷ codes "--budget=x" ∷ codes "--verson" ∷ []) ≡ misuse (bad_value Budget (codes "x"))
 first_from_the_left = refl
 
-all_options : words_give (codes "aspenum" ∷ codes "--make=2000" ∷ codes "--stats" ∷ codes "--mode=enum" ∷ codes "--budget=7" ∷ codes "--models=3" ∷ codes "--workers=4" ∷ []) ≡ options (record { workers = 4; mode = Some Enum; budget = 7; models = 3; all_optima = false; quiet = false; make = Some 2000; stats = true; progress = false; proof = false; split = None })
+all_options : words_give (codes "aspenum" ∷ codes "--make=2000" ∷ codes "--stats" ∷ codes "--mode=enum" ∷ codes "--budget=7" ∷ codes "--models=3" ∷ codes "--workers=4" ∷ codes "--format=smodels" ∷ []) ≡ options (record { workers = 4; mode = Some Enum; format = Smodels; budget = 7; models = 3; all_optima = false; quiet = false; make = Some 2000; stats = true; progress = false; proof = false; split = None })
 all_options = refl
+
+-- ---- the format
+
+format_after : words_give (codes "aspenum" ∷ codes "--format" ∷ codes "smodels" ∷ []) ≡ options (record standard { format = Smodels })
+format_after = refl
+
+format_of_gringo : words_give (codes "aspenum" ∷ codes "--format=aspif" ∷ []) ≡ options standard
+format_of_gringo = refl
+
+format_unknown : words_give (codes "aspenum" ∷ codes "--format=lparse" ∷ []) ≡ misuse (bad_value Format (codes "lparse"))
+format_unknown = refl
+
+format_cut_short : words_give (codes "aspenum" ∷ codes "--format=smodel" ∷ []) ≡ misuse (bad_value Format (codes "smodel"))
+format_cut_short = refl
+
+format_missing : words_give (codes "aspenum" ∷ codes "--format" ∷ []) ≡ misuse (missing Format)
+format_missing = refl
+
+format_twice : words_give (codes "aspenum" ∷ codes "--format=aspif" ∷ codes "--format" ∷ codes "smodels" ∷ []) ≡ misuse (twice Format)
+format_twice = refl
+
+format_of_parts : words_give (codes "aspenum" ∷ codes "--split=2" ∷ codes "--format=smodels" ∷ []) ≡ options (record standard { format = Smodels; split = Some 2 })
+format_of_parts = refl
+
+parts_of_a_format : words_give (codes "aspenum" ∷ codes "--format=smodels" ∷ codes "--split=2" ∷ []) ≡ options (record standard { format = Smodels; split = Some 2 })
+parts_of_a_format = refl
+
+format_of_a_proof : words_give (codes "aspenum" ∷ codes "--proof" ∷ codes "--format=smodels" ∷ []) ≡ options (record standard { format = Smodels; proof = true })
+format_of_a_proof = refl
 
 -- ---- hints
 
@@ -250,6 +280,9 @@ nearer_than_mode = refl
 
 swapped : nearest (codes "--mdoe") ≡ Some (codes "--mode")
 swapped = refl
+
+near_format : nearest (codes "--fromat") ≡ Some (codes "--format")
+near_format = refl
 
 near_none : nearest (codes "--fast") ≡ None
 near_none = refl

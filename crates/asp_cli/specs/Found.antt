@@ -4,16 +4,18 @@ use Rattle.asp_model.specs.declared.results.Mode as results
 use Rattle.asp_model.specs.Asked.{reasoning_of}
 use Rattle.asp_cli.specs.declared.found.Found.{Found}
 use Rattle.asp_cli.specs.declared.names.Name.{Name}
-use Rattle.asp_cli.specs.declared.names.Name.TheVariants.{Mode, Models, OptAll, Workers, Budget, Quiet, Proof, Split, Make, Stats, Progress}
+use Rattle.asp_cli.specs.declared.names.Name.TheVariants.{Mode, Format, Models, OptAll, Workers, Budget, Quiet, Proof, Split, Make, Stats, Progress}
 use Rattle.asp_cli.specs.declared.walk.Awaits.TheVariants as awaits
 use Rattle.asp_cli.specs.declared.walk.State.{State}
 use Rattle.asp_cli.specs.declared.Options.{Options}
-use Rattle.asp_cli.specs.Values.{mode_named, number_within}
+use Rattle.asp_cli.specs.declared.Format.TheVariants.{Aspif}
+use Rattle.asp_cli.specs.Values.{format_named, mode_named, number_within}
 
 -- whether an option was given
 abbrev pub has : Found → Name → Bool
 has f Workers = is_some f.workers
 has f Mode = is_some f.mode
+has f Format = is_some f.format
 has f Budget = is_some f.budget
 has f Models = is_some f.models
 has f OptAll = f.all_optima
@@ -62,6 +64,7 @@ rival_of f OptAll = proving_or_dividing f
 rival_of f Quiet = proving_or_dividing f
 rival_of f Split = solving f
 rival_of f Make = None
+rival_of f Format = None
 rival_of f _ = dividing f
 
 -- With a proof neither all optima nor consequences are asked for.
@@ -75,6 +78,7 @@ IsApart o = o.proof ≡ true → (o.all_optima ≡ false) × (seeks_consequences
 abbrev pub found_with : Found → Name → List ℕ → Option Found
 found_with f Workers t = option_map (λ n. record f { workers = Some n }) (number_within 1 64 t)
 found_with f Mode t = option_map (λ m. record f { mode = Some m }) (mode_named t)
+found_with f Format t = option_map (λ m. record f { format = Some m }) (format_named t)
 found_with f Budget t = option_map (λ n. record f { budget = Some n }) (number_within 0 9223372036854775807 t)
 found_with f Models t = option_map (λ n. record f { models = Some n }) (number_within 0 9223372036854775807 t)
 found_with f Make t = option_map (λ n. record f { make = Some n }) (number_within 3 2000 t)
@@ -90,6 +94,7 @@ abbrev pub options_of : Found → Options
 options_of f = record {
   workers = unwrap_or f.workers 1;
   mode = unwrap_or f.mode None;
+  format = unwrap_or f.format Aspif;
   budget = unwrap_or f.budget 9223372036854775807;
   models = unwrap_or f.models 0;
   all_optima = f.all_optima;
@@ -103,4 +108,4 @@ options_of f = record {
 
 -- nothing was found yet
 abbrev pub start : State
-start = record { found = record { workers = None; mode = None; budget = None; models = None; all_optima = false; quiet = false; make = None; stats = false; progress = false; proof = false; split = None }; awaits = awaits.Option }
+start = record { found = record { workers = None; mode = None; format = None; budget = None; models = None; all_optima = false; quiet = false; make = None; stats = false; progress = false; proof = false; split = None }; awaits = awaits.Option }

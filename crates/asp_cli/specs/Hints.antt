@@ -2,7 +2,7 @@
 use Rattle.std.specs.Prelude.{ℕ, Bool, true, false, ◌&&◌, ◌||◌, ◌==◌, nat_le, List, [], ◌∷◌, length, Option, Some, None, codes, if◌then◌else◌}
 use Rattle.std.specs.Str.{bytes_eq}
 use Rattle.asp_cli.specs.Names.{text_of}
-use Rattle.asp_cli.specs.declared.names.Name.TheVariants.{Mode, Models, OptAll, Workers, Budget, Quiet, Proof, Split, Make, Stats, Progress}
+use Rattle.asp_cli.specs.declared.names.Name.TheVariants.{Mode, Format, Models, OptAll, Workers, Budget, Quiet, Proof, Split, Make, Stats, Progress}
 
 -- what is here for an option of clasp's
 abbrev pub counterpart : List ℕ → Option (List ℕ)
@@ -44,6 +44,7 @@ is_near strict w name = if strict then is_one_off w name else is_two_off w name
 -- the first of the options, help and the version that is near
 abbrev pub first_near : Bool → List ℕ → Option (List ℕ)
 first_near strict w = if is_near strict w (text_of Mode) then Some (text_of Mode)
+    else (if is_near strict w (text_of Format) then Some (text_of Format)
     else (if is_near strict w (text_of Models) then Some (text_of Models)
     else (if is_near strict w (text_of OptAll) then Some (text_of OptAll)
     else (if is_near strict w (text_of Workers) then Some (text_of Workers)
@@ -55,7 +56,7 @@ first_near strict w = if is_near strict w (text_of Mode) then Some (text_of Mode
     else (if is_near strict w (text_of Stats) then Some (text_of Stats)
     else (if is_near strict w (text_of Progress) then Some (text_of Progress)
     else (if is_near strict w (codes "--help") then Some (codes "--help")
-    else (if is_near strict w (codes "--version") then Some (codes "--version") else None))))))))))))
+    else (if is_near strict w (codes "--version") then Some (codes "--version") else None)))))))))))))
 
 abbrev pub first_of : Option (List ℕ) → Option (List ℕ) → Option (List ℕ)
 first_of (Some name) other = Some name

@@ -2,10 +2,11 @@
 use Rattle.std.specs.Prelude.{List, ℕ, Option, Some, None, codes, if◌then◌else◌}
 use Rattle.std.specs.Str.{bytes_eq}
 use Rattle.asp_cli.specs.declared.names.Name.{Name}
-use Rattle.asp_cli.specs.declared.names.Name.TheVariants.{Mode, Models, OptAll, Workers, Budget, Quiet, Proof, Split, Make, Stats, Progress}
+use Rattle.asp_cli.specs.declared.names.Name.TheVariants.{Mode, Format, Models, OptAll, Workers, Budget, Quiet, Proof, Split, Make, Stats, Progress}
 
 abbrev pub text_of : Name → List ℕ
 text_of Mode = codes "--mode"
+text_of Format = codes "--format"
 text_of Models = codes "--models"
 text_of OptAll = codes "--opt-all"
 text_of Workers = codes "--workers"
@@ -19,6 +20,7 @@ text_of Progress = codes "--progress"
 
 abbrev pub takes_of : Name → List ℕ
 takes_of Mode = codes "auto, enum, opt, brave or cautious"
+takes_of Format = codes "aspif or smodels"
 takes_of Models = codes "a number up to 9223372036854775807"
 takes_of OptAll = codes "no value"
 takes_of Workers = codes "a number from 1 to 64"
@@ -33,6 +35,7 @@ takes_of Progress = codes "no value"
 -- the option that a text names
 abbrev pub named : List ℕ → Option Name
 named t = if bytes_eq t (codes "--mode") then Some Mode
+    else (if bytes_eq t (codes "--format") then Some Format
     else (if bytes_eq t (codes "--models") then Some Models
     else (if bytes_eq t (codes "--opt-all") then Some OptAll
     else (if bytes_eq t (codes "--workers") then Some Workers
@@ -42,7 +45,7 @@ named t = if bytes_eq t (codes "--mode") then Some Mode
     else (if bytes_eq t (codes "--split") then Some Split
     else (if bytes_eq t (codes "--make") then Some Make
     else (if bytes_eq t (codes "--stats") then Some Stats
-    else (if bytes_eq t (codes "--progress") then Some Progress else None))))))))))
+    else (if bytes_eq t (codes "--progress") then Some Progress else None)))))))))))
 
 -- The word for which a word stands. The short forms have long ones, and three words of clasp's have ours; any other stands for itself.
 abbrev pub meant : List ℕ → List ℕ

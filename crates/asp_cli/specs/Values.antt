@@ -4,6 +4,8 @@ use Rattle.std.specs.List.{list_all}
 use Rattle.std.specs.Char.{digit_value}
 use Rattle.std.specs.Str.{bytes_eq}
 use Rattle.std.specs.Str.Parse.{digits_value, without_leading_plus}
+use Rattle.asp_cli.specs.declared.Format.{Format}
+use Rattle.asp_cli.specs.declared.Format.TheVariants.{Aspif, Smodels}
 use Rattle.asp_model.specs.declared.results.Mode.{Mode}
 use Rattle.asp_model.specs.declared.results.Mode.TheVariants.{Enum, Opt, Consequences}
 use Rattle.asp_model.specs.declared.results.Reasoning.TheVariants.{Brave, Cautious}
@@ -15,6 +17,10 @@ mode_named t = if bytes_eq t (codes "auto") then Some None
     else (if bytes_eq t (codes "opt") then Some (Some Opt)
     else (if bytes_eq t (codes "brave") then Some (Some (Consequences Brave))
     else (if bytes_eq t (codes "cautious") then Some (Some (Consequences Cautious)) else None))))
+
+-- the format that a text names
+abbrev pub format_named : List ℕ → Option Format
+format_named t = if bytes_eq t (codes "aspif") then Some Aspif else (if bytes_eq t (codes "smodels") then Some Smodels else None)
 
 -- one decimal digit or more, and nothing else
 abbrev pub is_numeral : List ℕ → Bool

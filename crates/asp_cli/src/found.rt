@@ -3,11 +3,12 @@ ghost use Rattle.std.specs.Prelude.{◌≡◌, false, true, IfSome};
 ghost use Rattle.asp_cli.specs.Found.{AreApart, IsApart, clashes, dividing, found_with, has, options_of, proving_or_dividing, rival_of, seeks_consequences, solving};
 ghost use Rattle.asp_cli.specs.Values.{IsCrew, IsPartCount, IsRing};
 
-use crate::Options;
 use crate::names::Name;
 use crate::values::{
-    LARGEST_RING, LEAST_RING, MOST_MODELS, MOST_PARTS, MOST_UNITS, MOST_WORKERS, named_mode, number,
+    LARGEST_RING, LEAST_RING, MOST_MODELS, MOST_PARTS, MOST_UNITS, MOST_WORKERS, named_format,
+    named_mode, number,
 };
+use crate::{Format, Options};
 use asp_model::results::Mode;
 
 /// The options that were given, each with its value.
@@ -17,6 +18,8 @@ pub struct Found {
     pub workers: Option<u32>,
     /// The mode that was asked for; within, none for the mode that the program decides.
     pub mode: Option<Option<Mode>>,
+    /// The format of the program that is read.
+    pub format: Option<Format>,
     /// How many conflicts may be met.
     pub budget: Option<u64>,
     /// How many answers are enough.
@@ -44,6 +47,7 @@ pub fn has(found: &Found, name: Name) -> bool
     match name {
         Name::Workers => found.workers.is_some(),
         Name::Mode => found.mode.is_some(),
+        Name::Format => found.format.is_some(),
         Name::Budget => found.budget.is_some(),
         Name::Models => found.models.is_some(),
         Name::OptAll => found.all_optima,
@@ -140,7 +144,7 @@ pub fn rival(found: &Found, name: Name) -> Option<Name>
         }
         Name::OptAll | Name::Quiet => proving_or_dividing(found),
         Name::Split => solving(found),
-        Name::Make => None,
+        Name::Make | Name::Format => None,
         _ => dividing(found),
     }
 }
@@ -165,6 +169,13 @@ pub fn with(found: Found, name: Name, text: &str) -> Option<Found>
             let mode = named_mode(text)?;
             Some(Found {
                 mode: Some(mode),
+                ..found
+            })
+        }
+        Name::Format => {
+            let format = named_format(text)?;
+            Some(Found {
+                format: Some(format),
                 ..found
             })
         }
@@ -211,6 +222,7 @@ pub fn options(found: &Found) -> Options
     Options {
         workers: found.workers.unwrap_or(1),
         mode: found.mode.unwrap_or(None),
+        format: found.format.unwrap_or(Format::Aspif),
         budget: found.budget.unwrap_or(MOST_UNITS),
         models: found.models.unwrap_or(0),
         all_optima: found.all_optima,

@@ -102,6 +102,8 @@ fn first_near(strict: bool, word: &str) -> Option<&'static str>
 {
     if is_near(strict, word, Name::Mode.text()) {
         Some(Name::Mode.text())
+    } else if is_near(strict, word, Name::Format.text()) {
+        Some(Name::Format.text())
     } else if is_near(strict, word, Name::Models.text()) {
         Some(Name::Models.text())
     } else if is_near(strict, word, Name::OptAll.text()) {

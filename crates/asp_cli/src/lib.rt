@@ -18,6 +18,15 @@ pub use hints::{counterpart, nearest};
 pub use names::Name;
 pub use texts::{page_back, page_front, usage, version};
 
+/// The format of a program.
+#[derive(Clone, Copy)]
+pub enum Format {
+    /// The format aspif 1.0.
+    Aspif,
+    /// The text format of smodels.
+    Smodels,
+}
+
 /// What the command line asks for.
 #[derive(Clone, Copy)]
 pub struct Options {
@@ -25,6 +34,8 @@ pub struct Options {
     pub workers: u32,
     /// What is sought; None leaves it to the program: an optimum exactly where it minimises something.
     pub mode: Option<Mode>,
+    /// The format of the program that is read.
+    pub format: Format,
     /// How many units of work there are, each of which a conflict costs. The greatest number is 2^63 - 1, which also stands where none was given.
     pub budget: u64,
     /// How many answers are enough, where a list of them is sought. With 0, which also stands where none was given, there is no

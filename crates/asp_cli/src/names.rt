@@ -6,6 +6,7 @@ ghost use Rattle.asp_cli.specs.Names.{meant, named, takes_of, text_of};
 #[derive(Clone, Copy)]
 pub enum Name {
     Mode,
+    Format,
     Models,
     OptAll,
     Workers,
@@ -25,6 +26,7 @@ impl Name {
     {
         match self {
             Name::Mode => "--mode",
+            Name::Format => "--format",
             Name::Models => "--models",
             Name::OptAll => "--opt-all",
             Name::Workers => "--workers",
@@ -44,6 +46,7 @@ impl Name {
     {
         match self {
             Name::Mode => "auto, enum, opt, brave or cautious",
+            Name::Format => "aspif or smodels",
             Name::Models | Name::Budget => "a number up to 9223372036854775807",
             Name::Workers => "a number from 1 to 64",
             Name::Split => "a number from 1 to 100000",
@@ -59,6 +62,8 @@ pub fn named(word: &str) -> Option<Name>
 {
     if word == Name::Mode.text() {
         Some(Name::Mode)
+    } else if word == Name::Format.text() {
+        Some(Name::Format)
     } else if word == Name::Models.text() {
         Some(Name::Models)
     } else if word == Name::OptAll.text() {

@@ -4,9 +4,10 @@ ghost use Rattle.asp_cli.specs.Texts.{page_back, page_front, usage_lines, versio
 
 /// The lines that tell how the program is called.
 pub const USAGE: &str =
-    "usage: aspenum [--mode auto|enum|opt|brave|cautious] [--models N] [--opt-all]\n\
-\x20              [--workers 1..64] [--budget N] [--quiet] [--proof]\n\
-\x20              [--split 1..100000] [--make 3..2000] [--stats] [--progress]";
+    "usage: aspenum [--mode auto|enum|opt|brave|cautious] [--format aspif|smodels]\n\
+\x20              [--models N] [--opt-all] [--workers 1..64] [--budget N]\n\
+\x20              [--quiet] [--proof] [--split 1..100000] [--make 3..2000]\n\
+\x20              [--stats] [--progress]";
 
 /// The program's name and version.
 pub const VERSION: &str = "aspenum 0.1.0\n";
@@ -18,7 +19,7 @@ const PAGE_BACK: &str = "\n\
 \x20      aspenum --help | --version\n\
 \n\
 The program is read from standard input, in the format aspif 1.0 that gringo\n\
-writes.\n\
+writes, or as a smodels text.\n\
 \n\
 Options, each at most once, its value as the next argument or, with a long\n\
 name, after '=':\n\
@@ -26,6 +27,8 @@ name, after '=':\n\
 \x20                   default: opt where the program has a minimize statement,\n\
 \x20                   and else enum. brave: the atoms in some answer. cautious:\n\
 \x20                   those in every one\n\
+\x20 --format FORMAT   aspif, the default, or smodels, which gringo writes with\n\
+\x20                   --output=smodels\n\
 \x20 -n, --models N    end with N answers; 0, the default, is no limit. An\n\
 \x20                   optimisation takes notice of it only with --opt-all, brave\n\
 \x20                   and cautious never\n\
@@ -39,7 +42,7 @@ name, after '=':\n\
 \x20                   cautious\n\
 \x20 --split N         divide the program and solve nothing: write at most N\n\
 \x20                   lines, 1 to 100000, each the assumptions of one part; of\n\
-\x20                   the other options only --make can be beside it\n\
+\x20                   the other options only --format and --make can be beside it\n\
 \x20 --make N          solve a ring of N nodes, 3 to 2000, and read no program\n\
 \x20 --stats           write counts of the run to standard error\n\
 \x20 --progress        write a line to standard error when the conflicts or the\n\

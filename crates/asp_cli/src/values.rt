@@ -1,7 +1,8 @@
 //! The values of the options.
 ghost use Rattle.std.specs.Prelude.{◌≡◌, ◌≤◌, ◌&&◌, nat_le, Some, None, IfSome, if◌then◌else◌};
-ghost use Rattle.asp_cli.specs.Values.{mode_named, number_within};
+ghost use Rattle.asp_cli.specs.Values.{format_named, mode_named, number_within};
 
+use crate::Format;
 use asp_model::results::{Mode, Reasoning};
 
 /// The greatest number of workers.
@@ -31,6 +32,19 @@ pub fn named_mode(text: &str) -> Option<Option<Mode>>
         Some(Some(Mode::Consequences(Reasoning::Brave)))
     } else if text == "cautious" {
         Some(Some(Mode::Consequences(Reasoning::Cautious)))
+    } else {
+        None
+    }
+}
+
+/// The format that the text names.
+pub fn named_format(text: &str) -> Option<Format>
+    ensures { result ≡ format_named text.now }
+{
+    if text == "aspif" {
+        Some(Format::Aspif)
+    } else if text == "smodels" {
+        Some(Format::Smodels)
     } else {
         None
     }

@@ -34,6 +34,7 @@ fn start() -> State
     let found = Found {
         workers: None,
         mode: None,
+        format: None,
         budget: None,
         models: None,
         all_optima: false,

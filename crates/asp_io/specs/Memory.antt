@@ -11,7 +11,8 @@ pub record Feed : Type 0 where
   pub calls : ℕ
   pub faults : ℕ
 
--- the bytes that it holds, the greatest piece, the numbers of the writes that fail, the writes and the faults so far, and whether flushes fail
+-- the bytes that it holds, the greatest piece, the numbers of the writes that fail, the writes and the faults so far, whether flushes
+-- fail, and whether nothing was written since the last flush that succeeded
 pub record Intake : Type 0 where
   pub bytes : List ℕ
   pub piece : ℕ
@@ -19,6 +20,7 @@ pub record Intake : Type 0 where
   pub calls : ℕ
   pub faults : ℕ
   pub fails_flush : Bool
+  pub is_sent : Bool
 
 -- a count of calls after one more
 abbrev pub next_count : ℕ → ℕ

@@ -1,8 +1,8 @@
 //! Sources and sinks in memory that never fail.
-ghost use Rattle.std.specs.Prelude.{◌≡◌, ◌+◌, ◌-◌, ◌^◌, ◌<◌, min, length, Some, None, replicate, IfOk};
+ghost use Rattle.std.specs.Prelude.{◌≡◌, ◌+◌, ◌-◌, ◌^◌, ◌<◌, min, length, Some, None, replicate, true, IfOk};
 ghost use Rattle.std.specs.Io.{WritesAtMost};
 ghost use Rattle.std.specs.Io.KnownBytes.{WriteAppends};
-ghost use Rattle.asp_io.specs.Causes.{HasCause, Rose, last_count};
+ghost use Rattle.asp_io.specs.Causes.{HasCause, last_count};
 
 use crate::{Failed, Sink, Source};
 use std::marker::Model;
@@ -120,11 +120,14 @@ impl Sink for CleanSink {
 
     ghost faults = { λ _. 0 };
 
+    // Nothing waits, since nothing is kept.
+    ghost is_sent = { λ _. true };
+
     fn write(&mut self, bytes: &[u8]) -> Result<usize, Failed>
         ensures bound { WritesAtMost result bytes.now }
         ensures bytes { WriteAppends None None result bytes.now }
         ensures cause { HasCause 0 0 result }
-        ensures stuck { IfOk result (λ n. n ≡ 0 → 0 < length bytes.now → Rose 0 0) }
+        ensures moves { IfOk result (λ n. 0 < length bytes.now → 0 < n) }
         ensures whole { result ≡ Ok (length bytes.now) }
         ensures counted { self.new ≡ min (self.old + length bytes.now) last_count }
     {

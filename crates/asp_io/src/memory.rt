@@ -1,8 +1,8 @@
 //! A source and a sink in memory, of which chosen calls fail.
-ghost use Rattle.std.specs.Prelude.{◌≡◌, ◌+◌, ◌-◌, ◌^◌, ◌<◌, ◌≤◌, ◌==◌, ◌||◌, min, length, take, Some, [], false, true, is_err, IfOk, OnOk};
+ghost use Rattle.std.specs.Prelude.{◌≡◌, ◌+◌, ◌-◌, ◌^◌, ◌<◌, ◌≤◌, ◌==◌, ◌||◌, min, length, take, Some, [], false, true, is_err, IfOk, OnErr, OnOk};
 ghost use Rattle.std.specs.Io.{ReadsAtMost, WritesAtMost};
 ghost use Rattle.std.specs.Io.KnownBytes.{ReadConsumes, WriteAppends};
-ghost use Rattle.asp_io.specs.Causes.{HasCause, Rose, last_count};
+ghost use Rattle.asp_io.specs.Causes.{HasCause, last_count};
 ghost use Rattle.asp_io.specs.Memory.{Feed, Intake, next_count, fails_read, fails_write};
 
 use crate::{Failed, Sink, Source};
@@ -111,6 +111,8 @@ pub struct MemSink {
     faults: u64,
     /// Whether each flush fails.
     fails_flush: bool,
+    /// Whether nothing was written since the last flush that succeeded. Contracts alone read it.
+    is_sent: bool,
 }
 
 impl Model for MemSink {
@@ -119,7 +121,7 @@ impl Model for MemSink {
 
     ghost Value = { Intake };
 
-    ghost view = { λ s. record { bytes = s.bytes.items; piece = s.piece; failing = s.failing.items; calls = s.calls; faults = s.faults; fails_flush = s.fails_flush } };
+    ghost view = { λ s. record { bytes = s.bytes.items; piece = s.piece; failing = s.failing.items; calls = s.calls; faults = s.faults; fails_flush = s.fails_flush; is_sent = s.is_sent } };
 
     ghost invariant = { λ s. 0 < s.piece };
 }
@@ -128,7 +130,7 @@ impl MemSink {
     /// An empty sink, before its first call, whose flushes succeed.
     pub fn new(alloc: Global, piece: usize, failing: Vec<u64>) -> Self
         requires { 0 < piece }
-        ensures { result ≡ record { bytes = []; piece = piece; failing = failing.items; calls = 0; faults = 0; fails_flush = false } }
+        ensures { result ≡ record { bytes = []; piece = piece; failing = failing.items; calls = 0; faults = 0; fails_flush = false; is_sent = true } }
     {
         MemSink {
             bytes: Vec::new(alloc),
@@ -137,6 +139,7 @@ impl MemSink {
             calls: 0,
             faults: 0,
             fails_flush: false,
+            is_sent: true,
         }
     }
 
@@ -160,13 +163,16 @@ impl Sink for MemSink {
 
     ghost faults = { λ s. s.faults };
 
+    ghost is_sent = { λ s. s.is_sent };
+
     fn write(&mut self, bytes: &[u8]) -> Result<usize, Failed>
         ensures bound { WritesAtMost result bytes.now }
         ensures bytes { WriteAppends (Some self.old.bytes) (Some self.new.bytes) result bytes.now }
         ensures cause { HasCause self.old.faults self.new.faults result }
-        ensures stuck { IfOk result (λ n. n ≡ 0 → 0 < length bytes.now → Rose self.old.faults self.new.faults) }
+        ensures moves { IfOk result (λ n. 0 < length bytes.now → 0 < n) }
         ensures quiet { OnOk result (self.new.faults ≡ self.old.faults) }
         ensures exact { IfOk result (λ n. (fails_write self.old ≡ false) × (n ≡ min self.old.piece (length bytes.now))) }
+        ensures waits { OnOk result (self.new.is_sent ≡ false) }
         ensures turned { self.new.calls ≡ next_count self.old.calls }
         ensures kept { (self.new.piece ≡ self.old.piece) × (self.new.failing ≡ self.old.failing) × (self.new.fails_flush ≡ self.old.fails_flush) }
     {
@@ -179,6 +185,7 @@ impl Sink for MemSink {
             self.faults = self.faults.saturating_add(1);
             return Err(Failed);
         }
+        self.is_sent = false;
         Ok(count)
     }
 
@@ -187,12 +194,15 @@ impl Sink for MemSink {
         ensures cause { HasCause self.old.faults self.new.faults result }
         ensures quiet { OnOk result (self.new.faults ≡ self.old.faults) }
         ensures exact { is_err result ≡ (self.old.faults == last_count || self.old.fails_flush) }
+        ensures sent { OnOk result (self.new.is_sent ≡ true) }
+        ensures waits { OnErr result (self.new.is_sent ≡ self.old.is_sent) }
         ensures kept { (self.new.piece ≡ self.old.piece) × (self.new.failing ≡ self.old.failing) × (self.new.calls ≡ self.old.calls) × (self.new.fails_flush ≡ self.old.fails_flush) }
     {
         if self.faults == u64::MAX || self.fails_flush {
             self.faults = self.faults.saturating_add(1);
             return Err(Failed);
         }
+        self.is_sent = true;
         Ok(())
     }
 }

@@ -1,5 +1,8 @@
 //! The outside: readers and writers of the system, which tell no bytes.
-ghost use Rattle.std.specs.Prelude.{◌≡◌, None};
+ghost use Rattle.std.specs.Prelude.{◌≡◌, ◌<◌, None, false, true, length, IfOk, OnOk};
+ghost use Rattle.std.specs.Io.{WritesAtMost};
+ghost use Rattle.std.specs.Io.KnownBytes.{WriteAppends};
+ghost use Rattle.asp_io.specs.Causes.{HasCause};
 
 use crate::{Failed, Sink, Source};
 use std::io::{Read, Write};
@@ -54,34 +57,51 @@ pub struct StdSink<W: Write + Drop> {
     writer: W,
     /// How many writes and flushes failed.
     faults: u64,
+    /// Whether nothing was written since the last flush that succeeded. Contracts alone read it.
+    is_sent: bool,
 }
 
 impl<W: Write + Drop> Model for StdSink<W> {
-    ghost use Rattle.std.specs.Prelude.{ℕ};
+    ghost use Rattle.asp_io.specs.Outside.{Outlet};
 
-    ghost Value = { ℕ };
+    ghost Value = { Outlet };
 
-    ghost view = { λ s. s.faults };
+    ghost view = { λ s. record { faults = s.faults; is_sent = s.is_sent } };
 }
 
 impl<W: Write + Drop> StdSink<W> {
-    /// A sink to the writer, without a fault so far. Contracts see the count of its faults.
+    /// A sink to the writer, to which nothing was written so far. Contracts see the count of its faults, and whether all
+    /// that was written was sent on.
     pub fn new(writer: W) -> Self
-        ensures { result ≡ 0 }
+        ensures { result ≡ record { faults = 0; is_sent = true } }
     {
-        StdSink { writer, faults: 0 }
+        StdSink {
+            writer,
+            faults: 0,
+            is_sent: true,
+        }
     }
 }
 
 impl<W: Write + Drop> Sink for StdSink<W> {
     ghost held = { λ _. None };
 
-    ghost faults = { λ faults. faults };
+    ghost faults = { λ s. s.faults };
 
-    fn write(&mut self, bytes: &[u8]) -> Result<usize, Failed> {
+    ghost is_sent = { λ s. s.is_sent };
+
+    fn write(&mut self, bytes: &[u8]) -> Result<usize, Failed>
+        ensures bound { WritesAtMost result bytes.now }
+        ensures bytes { WriteAppends None None result bytes.now }
+        ensures cause { HasCause self.old.faults self.new.faults result }
+        ensures moves { IfOk result (λ n. 0 < length bytes.now → 0 < n) }
+        ensures quiet { OnOk result (self.new.faults ≡ self.old.faults) }
+        ensures waits { OnOk result (self.new.is_sent ≡ false) }
+    {
         if self.faults < u64::MAX {
             if let Ok(count) = self.writer.write(bytes) {
                 if count > 0 || bytes.is_empty() {
+                    self.is_sent = false;
                     return Ok(count);
                 }
             }
@@ -92,6 +112,7 @@ impl<W: Write + Drop> Sink for StdSink<W> {
 
     fn flush(&mut self) -> Result<(), Failed> {
         if self.faults < u64::MAX && self.writer.flush().is_ok() {
+            self.is_sent = true;
             return Ok(());
         }
         self.faults = self.faults.saturating_add(1);

@@ -1,5 +1,5 @@
 //! Sources, sinks, and writing a whole piece.
-ghost use Rattle.std.specs.Prelude.{◌≡◌, ◌<◌, ◌≤◌, ℕ, List, length, IsSome, IfOk, OnOk, OnErr};
+ghost use Rattle.std.specs.Prelude.{◌≡◌, ◌<◌, ◌≤◌, ℕ, Bool, true, List, length, IfOk, OnOk, OnErr};
 ghost use Rattle.std.specs.declared.option.Option.{Option};
 ghost use Rattle.std.specs.Io.{ReadsAtMost, WritesAtMost};
 ghost use Rattle.std.specs.Io.KnownBytes.{Keeps, Appends, ReadConsumes, WriteAppends};
@@ -19,16 +19,15 @@ pub trait Source {
     ghost faults: { Self → ℕ };
 
     /// Takes the first bytes that are left, at most as many as `buf` has room for, into its front, and says how many.
-    /// 0 of a buffer that isn't empty is the end. `Failed` takes nothing, and comes only where the count of faults rose.
+    /// 0 of a buffer that isn't empty is the end. `Failed` takes nothing. The count of faults rises exactly there.
     fn read(&mut self, buf: &mut [u8]) -> Result<usize, Failed>
         ensures bound { ReadsAtMost result buf.new }
         ensures bytes { ReadConsumes (left self.old) (left self.new) result buf.new }
         ensures cause { HasCause (faults self.old) (faults self.new) result }
-        ensures quiet { IsSome (left self.old) → OnOk result (faults self.new ≡ faults self.old) };
+        ensures quiet { OnOk result (faults self.new ≡ faults self.old) };
 }
 
-/// Where bytes go. Its count of faults is as that of a `Source`; of a sink that tells its bytes a fault is counted at a
-/// failed call alone.
+/// Where bytes go. Its count of faults is as that of a `Source`.
 pub trait Sink {
     /// The bytes that it holds, where they are told.
     ghost held: { Self → Option (List ℕ) };
@@ -36,37 +35,38 @@ pub trait Sink {
     /// How many faults there were, up to the greatest u64.
     ghost faults: { Self → ℕ };
 
-    /// Appends the first bytes of a piece, and says how many. An answer of 0 for a piece that isn't empty counts as a
-    /// fault. `Failed` appends nothing, and comes only where the count of faults rose.
+    /// Whether all that was written was sent on, so that none of it waits in a buffer of the sink.
+    ghost is_sent: { Self → Bool };
+
+    /// Appends the first bytes of a piece, and says how many: at least one of a piece that isn't empty. `Failed` appends
+    /// nothing. The count of faults rises exactly there.
     fn write(&mut self, bytes: &[u8]) -> Result<usize, Failed>
         ensures bound { WritesAtMost result bytes.now }
         ensures bytes { WriteAppends (held self.old) (held self.new) result bytes.now }
         ensures cause { HasCause (faults self.old) (faults self.new) result }
-        ensures stuck { IfOk result (λ n. n ≡ 0 → 0 < length bytes.now → Rose (faults self.old) (faults self.new)) }
-        ensures quiet { IsSome (held self.old) → OnOk result (faults self.new ≡ faults self.old) };
+        ensures moves { IfOk result (λ n. 0 < length bytes.now → 0 < n) }
+        ensures quiet { OnOk result (faults self.new ≡ faults self.old) };
 
-    /// Sends on what was written, and changes no bytes. `Failed` comes only where the count of faults rose.
+    /// Sends on what was written, and changes no bytes. The count of faults rises exactly where it fails.
     fn flush(&mut self) -> Result<(), Failed>
         ensures bytes { Keeps (held self.old) (held self.new) }
         ensures cause { HasCause (faults self.old) (faults self.new) result }
-        ensures quiet { IsSome (held self.old) → OnOk result (faults self.new ≡ faults self.old) };
+        ensures quiet { OnOk result (faults self.new ≡ faults self.old) }
+        ensures sent { OnOk result (is_sent self.new ≡ true) };
 }
 
-/// Appends all of the bytes, piece by piece. It takes no memory. On `Failed` a front of them was appended, and the
-/// sink's count of faults rose; else that of a sink which tells its bytes is what it was.
+/// Appends all of the bytes, piece by piece. It takes no memory, and flushes nothing. On `Failed` a front of them was
+/// appended, and the sink's count of faults rose; else the count is what it was.
 pub fn write_all<K: Sink>(sink: &mut K, bytes: &[u8]) -> Result<(), Failed>
     ensures all { OnOk result (Appends (K.held sink.old) (K.held sink.new) bytes.now) }
     ensures front { OnErr result (AppendsFront (K.held sink.old) (K.held sink.new) bytes.now) }
     ensures later { K.faults sink.old ≤ K.faults sink.new }
     ensures cause { OnErr result (Rose (K.faults sink.old) (K.faults sink.new)) }
-    ensures quiet { IsSome (K.held sink.old) → OnOk result (K.faults sink.new ≡ K.faults sink.old) }
+    ensures quiet { OnOk result (K.faults sink.new ≡ K.faults sink.old) }
 {
     let mut rest = bytes;
     while !rest.is_empty() {
         let count = sink.write(rest)?;
-        if count == 0 {
-            return Err(Failed);
-        }
         rest = &rest[count..];
     }
     Ok(())

@@ -1,5 +1,5 @@
 //! The text of results.
-ghost use Rattle.std.specs.Prelude.{◌≡◌, ◌++◌, ◌≤◌, [], ◌∷◌, length, flat_map, codes, decimal, if◌then◌else◌, IsSome, OnOk, OnErr};
+ghost use Rattle.std.specs.Prelude.{◌≡◌, ◌++◌, ◌≤◌, [], ◌∷◌, length, flat_map, codes, decimal, if◌then◌else◌, OnOk, OnErr};
 ghost use Rattle.std.specs.Fmt.{signed_decimal};
 ghost use Rattle.std.specs.Io.KnownBytes.{Appends};
 ghost use Rattle.asp_io.specs.Causes.{Rose, AppendsFront};
@@ -360,7 +360,7 @@ pub fn print<K: Sink>(
     ensures front { OnErr result (AppendsFront (K.held sink.old) (K.held sink.new) (results_text program.now results.now brief)) }
     ensures later { K.faults sink.old ≤ K.faults sink.new }
     ensures cause { OnErr result (Rose (K.faults sink.old) (K.faults sink.new)) }
-    ensures quiet { IsSome (K.held sink.old) → OnOk result (K.faults sink.new ≡ K.faults sink.old) }
+    ensures quiet { OnOk result (K.faults sink.new ≡ K.faults sink.old) }
 {
     let mut waiting = Waiting::new();
     put_results(alloc, sink, &mut waiting, program, results, brief)?;

@@ -1,5 +1,5 @@
 //! A proof from a source.
-ghost use Rattle.std.specs.Prelude.{◌≡◌, ◌≤◌, ◌<◌, List, ℕ, length, vec_len, IfOk, IfErr, IfSome, IsSome, OnOk, IsErrOf};
+ghost use Rattle.std.specs.Prelude.{◌≡◌, ◌≤◌, ◌<◌, List, ℕ, length, vec_len, IfOk, IfErr, IfSome, OnOk, IsErrOf};
 ghost use Rattle.std.specs.Io.KnownBytes.{IsAtEnd, Consumes};
 ghost use Rattle.asp_io.specs.Causes.{Rose};
 ghost use Rattle.asp_proof.specs.Grammar.{most_bytes};
@@ -20,7 +20,7 @@ pub fn read_all<S: Source>(alloc: Global, source: &mut S) -> Result<Vec<u8>, Pro
     ensures end { OnOk result (IsAtEnd (S.left source.new)) }
     ensures later { S.faults source.old ≤ S.faults source.new }
     ensures cause { IsErrOf result ProofError.ReadFault → Rose (S.faults source.old) (S.faults source.new) }
-    ensures quiet { IsSome (S.left source.old) → ¬ IsErrOf result ProofError.ReadFault → S.faults source.new ≡ S.faults source.old }
+    ensures quiet { ¬ IsErrOf result ProofError.ReadFault → S.faults source.new ≡ S.faults source.old }
 {
     let mut text = Vec::new(alloc);
     let mut buf = [0u8; 8192];
@@ -46,10 +46,9 @@ pub fn read_proof<S: Source>(alloc: Global, source: &mut S) -> Result<Proof, Pro
     // A proof comes only at the end of the input.
     ensures end { OnOk result (IsAtEnd (S.left source.new)) }
     ensures later { S.faults source.old ≤ S.faults source.new }
-    // A failed read is answered only where the source's count of faults rose, and where the source tells its bytes,
-    // whenever the count rose.
+    // A failed read is answered exactly where the source's count of faults rose.
     ensures cause { IsErrOf result ProofError.ReadFault → Rose (S.faults source.old) (S.faults source.new) }
-    ensures quiet { IsSome (S.left source.old) → ¬ IsErrOf result ProofError.ReadFault → S.faults source.new ≡ S.faults source.old }
+    ensures quiet { ¬ IsErrOf result ProofError.ReadFault → S.faults source.new ≡ S.faults source.old }
 {
     let text = read_all(alloc, source)?;
     parse(alloc, &text)

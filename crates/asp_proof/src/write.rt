@@ -1,5 +1,5 @@
 //! The text of a proof, written.
-ghost use Rattle.std.specs.Prelude.{◌≡◌, ◌++◌, ◌∷◌, ◌≤◌, List, ℕ, [], codes, flat_map, IsSome, OnOk, OnErr};
+ghost use Rattle.std.specs.Prelude.{◌≡◌, ◌++◌, ◌∷◌, ◌≤◌, List, ℕ, [], codes, flat_map, OnOk, OnErr};
 ghost use Rattle.std.specs.Io.KnownBytes.{Appends};
 ghost use Rattle.asp_io.specs.Causes.{Rose, AppendsFront};
 ghost use Rattle.asp_proof.specs.Texts.{natural_field, integer_field, line, lines};
@@ -180,7 +180,7 @@ pub fn write_proof<K: Sink>(sink: &mut K, proof: &Proof) -> Result<(), Failed>
     ensures front { OnErr result (AppendsFront (K.held sink.old) (K.held sink.new) (text_of proof.now)) }
     ensures later { K.faults sink.old ≤ K.faults sink.new }
     ensures cause { OnErr result (Rose (K.faults sink.old) (K.faults sink.new)) }
-    ensures quiet { IsSome (K.held sink.old) → OnOk result (K.faults sink.new ≡ K.faults sink.old) }
+    ensures quiet { OnOk result (K.faults sink.new ≡ K.faults sink.old) }
 {
     let mut waiting = Waiting::new();
     put_proof(sink, &mut waiting, proof)?;

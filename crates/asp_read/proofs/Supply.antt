@@ -1,7 +1,7 @@
 -- Pieces of a source's bytes.
 use Rattle.std.proofs.Common.{◌≡◌, ℕ, ◌+◌, ◌-◌, ◌<◌, ◌≤◌, List, [], ◌∷◌, ◌++◌, length, take, drop, Option, Some, None, Result, Ok, Err, inl, inr, refl, sym, ap, subst, ◌∙◌, append_assoc, zero-add, arith, length-append, length-drop, take-append-drop}
 use Rattle.std.proofs.lemmas.List.{append-nil, length-take-le, take-append-le, take-take}
-use Rattle.std.specs.Prelude.{IfSome, IfOk, IfErr, IsOk, IsSome}
+use Rattle.std.specs.Prelude.{IfSome, IfOk, IfErr, IsOk}
 use Rattle.std.specs.Io.KnownBytes.{Consumes, Keeps, IsAtEnd}
 use Rattle.asp_text.specs.Unread.{Unread}
 use Rattle.asp_text.specs.Lines.{cut, lines_of, whole}
@@ -101,12 +101,6 @@ consumes_none (Some xs) (Some ys) k = sym k
 nothing_left : (next : Option (List ℕ)) (rest : List ℕ) → IsAtEnd next → next ≡ Some rest → rest ≡ []
 nothing_left None rest h e = absurd cc
 nothing_left (Some xs) rest h e = let same : xs ≡ rest = cc in sym same ∙ h
-
--- a source that told its bytes still tells them
-told_still : (initial now : Option (List ℕ)) (read : List ℕ) → Took initial now read → IsSome initial → IsSome now
-told_still None now read c i = absurd cc
-told_still (Some text) None read c i = absurd c
-told_still (Some text) (Some xs) read c i = i
 
 module _ {S : Type 0} (format : Format S) where
   -- at the start nothing is held
@@ -272,9 +266,6 @@ module _ {S : Type 0} (format : Format S) where
       let k0 : room ≡ 0 + length piece = omega (arith, k) in
       stops limit initial now next (piece ++ more) lines reader room (Err errors.TooLong) c s none
       (λ rest is after. sym (same 0 (more ++ after) ∙ whatever initial now piece more after limit lines reader room 0 c k0) ∙ too_long format new r (more ++ after) none_new (omega (arith, lt, length-append more after)))
-
-  pub told : (initial now : Option (List ℕ)) (limit : ℕ) (lines : Unread) (reader : S) (room : ℕ) → Continues format initial now limit lines reader room → IsSome initial → IsSome now
-  told initial now limit lines reader room c = told_still initial now c.read c.took
 
 -- the program of an aspif text is sound
 pub sound_text : (result : Result Program ReadError) → (text : List ℕ) × ReadsText result (outcome text) → IfOk result IsSound

@@ -1,5 +1,5 @@
 // A program from a source, in whatever pieces its reads come.
-ghost use Rattle.std.specs.Prelude.{◌≡◌, ◌+◌, ◌++◌, ◌≤◌, ◌<◌, List, ℕ, [], length, None, Ok, Err, IfOk, IfErr, IfSome, IsSome, OnOk, IsErrOf};
+ghost use Rattle.std.specs.Prelude.{◌≡◌, ◌+◌, ◌++◌, ◌≤◌, ◌<◌, List, ℕ, [], length, None, Ok, Err, IfOk, IfErr, IfSome, OnOk, IsErrOf};
 ghost use Rattle.asp_text.specs.Lines.{cut};
 ghost use Rattle.asp_text.specs.Unread.{most_bytes};
 ghost use Rattle.asp_read.specs.Judging.{judge_by, judge_next, outcome_by};
@@ -100,7 +100,7 @@ fn read_all<S: Source, J: Judge>(
     ensures stops { IfErr result (λ e. StopsBy J.format limit (S.left source.old) (S.left source.new) (Err e)) }
     ensures later { S.faults source.old ≤ S.faults source.new }
     ensures cause { IsErrOf result ReadError.ReadFault → Rose (S.faults source.old) (S.faults source.new) }
-    ensures quiet { IsSome (S.left source.old) → ¬ IsErrOf result ReadError.ReadFault → S.faults source.new ≡ S.faults source.old }
+    ensures quiet { ¬ IsErrOf result ReadError.ReadFault → S.faults source.new ≡ S.faults source.old }
 {
     let mut room = limit;
     'reading: loop {
@@ -137,7 +137,7 @@ fn read_within<S: Source, J: Judge>(
     ensures later { S.faults source.old ≤ S.faults source.new }
     ensures cause { IsErrOf result ReadError.ReadFault → Rose (S.faults source.old) (S.faults source.new) }
     ensures stops { StopsBy J.format limit (S.left source.old) (S.left source.new) result }
-    ensures quiet { IsSome (S.left source.old) → ¬ IsErrOf result ReadError.ReadFault → S.faults source.new ≡ S.faults source.old }
+    ensures quiet { ¬ IsErrOf result ReadError.ReadFault → S.faults source.new ≡ S.faults source.old }
 {
     let mut lines = Lines::new(alloc);
     match read_all(source, &mut lines, &mut reader, limit, buf) {
@@ -169,10 +169,9 @@ pub fn read_by<S: Source, J: Judge>(
     ensures later { S.faults source.old ≤ S.faults source.new }
     // The source stands right behind what was read, and the last read decided.
     ensures stops { StopsBy J.format MOST_BYTES (S.left source.old) (S.left source.new) result }
-    // A failed read is answered only where the source's count of faults rose, and where the source tells its bytes,
-    // whenever the count rose, but for want of memory.
+    // A failed read is answered exactly where the source's count of faults rose.
     ensures cause { IsErrOf result ReadError.ReadFault → Rose (S.faults source.old) (S.faults source.new) }
-    ensures quiet { IsSome (S.left source.old) → ¬ IsErrOf result ReadError.ReadFault → S.faults source.new ≡ S.faults source.old }
+    ensures quiet { ¬ IsErrOf result ReadError.ReadFault → S.faults source.new ≡ S.faults source.old }
 {
     let mut buf = [0u8; 8192];
     read_within(alloc, source, reader, MOST_BYTES, &mut buf)
@@ -191,10 +190,9 @@ pub fn read_program<S: Source>(alloc: Global, source: &mut S) -> Result<Program,
     ensures later { S.faults source.old ≤ S.faults source.new }
     // The source stands right behind what was read, and the last read decided.
     ensures stops { StopsAt MOST_BYTES (S.left source.old) (S.left source.new) result }
-    // A failed read is answered only where the source's count of faults rose, and where the source tells its bytes,
-    // whenever the count rose, but for want of memory.
+    // A failed read is answered exactly where the source's count of faults rose.
     ensures cause { IsErrOf result ReadError.ReadFault → Rose (S.faults source.old) (S.faults source.new) }
-    ensures quiet { IsSome (S.left source.old) → ¬ IsErrOf result ReadError.ReadFault → S.faults source.new ≡ S.faults source.old }
+    ensures quiet { ¬ IsErrOf result ReadError.ReadFault → S.faults source.new ≡ S.faults source.old }
 {
     let reader = Reader::new(alloc)?;
     read_by(alloc, source, reader)

@@ -1,5 +1,5 @@
 // What the lines so far said, and the next line.
-ghost use Rattle.std.specs.Prelude.{◌≡◌, ◌+◌, ◌≤◌, ◌<◌, ℕ, List, length, IfOk, IfSome, IsSome, IsErrOf, OnOk};
+ghost use Rattle.std.specs.Prelude.{◌≡◌, ◌+◌, ◌≤◌, ◌<◌, ℕ, List, length, IfOk, IfSome, IsErrOf, OnOk};
 ghost use Rattle.std.specs.Io.KnownBytes.{IsAtEnd};
 ghost use Rattle.asp_io.specs.Causes.{Rose};
 ghost use Rattle.asp_model.specs.Sound.{IsSound};
@@ -190,10 +190,9 @@ pub fn read_smodels<S: Source>(alloc: Global, source: &mut S) -> Result<Program,
     ensures later { S.faults source.old ≤ S.faults source.new }
     // The source stands right behind what was read, and the last read decided.
     ensures stops { StopsBy smodels MOST_BYTES (S.left source.old) (S.left source.new) result }
-    // A failed read is answered only where the source's count of faults rose, and where the source tells its bytes,
-    // whenever the count rose, but for want of memory.
+    // A failed read is answered exactly where the source's count of faults rose.
     ensures cause { IsErrOf result ReadError.ReadFault → Rose (S.faults source.old) (S.faults source.new) }
-    ensures quiet { IsSome (S.left source.old) → ¬ IsErrOf result ReadError.ReadFault → S.faults source.new ≡ S.faults source.old }
+    ensures quiet { ¬ IsErrOf result ReadError.ReadFault → S.faults source.new ≡ S.faults source.old }
 {
     let reader = Reader::new(alloc)?;
     read_by(alloc, source, reader)

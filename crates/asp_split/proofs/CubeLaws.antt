@@ -1,5 +1,5 @@
 -- From leaves to cubes.
-use Rattle.std.proofs.Common.{◌≡◌, ℕ, ◌<◌, ◌≤◌, List, [], ◌∷◌, ◌++◌, map, length, refl, sym, ap, ◌∙◌, subst, arith}
+use Rattle.std.proofs.Common.{◌≡◌, ℕ, ◌<◌, ◌≤◌, ◌+◌, List, [], ◌∷◌, ◌++◌, map, length, refl, sym, ap, ◌∙◌, subst, arith}
 use Rattle.std.specs.Prelude.{ℤ, flat_map}
 use Rattle.std.specs.List.{AllByRecursion}
 use Rattle.std.proofs.lemmas.List.{append-nil, length-map}
@@ -8,25 +8,25 @@ use Rattle.asp_model.specs.Sets.{Atoms}
 use Rattle.asp_model.specs.Models.{answers}
 use Rattle.asp_split.specs.declared.leaf.Leaf.{Leaf}
 use Rattle.asp_split.specs.Parts.{AreStanding, answers_of_parts, assuming}
-use Rattle.asp_split.specs.Dividing.{part, sets_of, cubes_of, AreLeaves, IsPlaced, IsDivided, IsParted, IsWhole}
+use Rattle.asp_split.specs.Dividing.{part, sets_of, cubes_of, AreLeaves, IsPlaced, IsParted, IsWhole}
 use Rattle.asp_split.proofs.PartLaws.{answers-assuming, answers_of_parts-is, part-whole}
 
 -- ---- the first leaf
-pub first_whole : (p : Program) (old new : List Leaf) (cube : List ℤ) → old ≡ [] → cube ≡ [] → IsPlaced p old new 0 cube → IsWhole p new
-first_whole p old new cube none empty h =
-    let is : new ≡ h.added = h.is ∙ ap (λ (ls : List Leaf). h.added ++ ls) none ∙ append-nil h.added in
+pub first_whole : (p : Program) (old new : List Leaf) (cube : List ℤ) → old ≡ [] → cube ≡ [] → IsPlaced p old new cube → length new ≤ length old + 1 → IsWhole p new
+first_whole p old new cube none empty h few =
+    let is : new ≡ h.added = h.is ∙ ap (λ (ls : List Leaf). ls ++ h.added) none in
     record {
       leaves = subst (AreLeaves p) (sym is) h.leaves;
       sets = ap (sets_of p) is ∙ h.sets ∙ ap (part p) empty ∙ part-whole p;
-      few = omega (arith, ap (λ (ls : List Leaf). length ls) is, h.few);
+      few = omega (arith, ap (λ (ls : List Leaf). length ls) none, few);
     }
 
--- ---- one division more
+-- ---- one round after another
 pub parted_first : (p : Program) (old : List Leaf) (parts : ℕ) → AreLeaves p old → length old ≤ parts → IsParted p old old parts
 parted_first p old parts leaves few = record { leaves = leaves; sets = refl; few = few }
 
-pub parted_more : (p : Program) (old mid new : List Leaf) (parts : ℕ) → length mid < parts → IsParted p old mid parts → IsDivided p mid new → IsParted p old new parts
-parted_more p old mid new parts room h d = record { leaves = d.leaves; sets = d.sets ∙ h.sets; few = omega (arith, room, d.few) }
+pub parted_more : (p : Program) (old mid new : List Leaf) (parts : ℕ) → IsParted p old mid parts → IsParted p mid new parts → IsParted p old new parts
+parted_more p old mid new parts h d = record { leaves = d.leaves; sets = d.sets ∙ h.sets; few = d.few }
 
 -- ---- the cubes
 flat-of_map : (p : Program) (leaves : List Leaf) → flat_map (part p) (map (λ (leaf : Leaf). leaf.cube) leaves) ≡ sets_of p leaves

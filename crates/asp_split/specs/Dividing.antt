@@ -1,5 +1,5 @@
 -- Leaves, each of which stands for the answers under its cube.
-use Rattle.std.specs.Prelude.{◌≡◌, ℕ, ◌+◌, ◌<◌, ◌≤◌, true, List, ◌∷◌, ◌++◌, filter, flat_map, map, take, drop, length, [], Contains, IsSome, slice_index_or, Option, Some, None, ℤ}
+use Rattle.std.specs.Prelude.{◌≡◌, ℕ, ◌<◌, ◌≤◌, true, List, ◌∷◌, ◌++◌, filter, flat_map, map, length, [], Contains, Option, Some, None, ℤ}
 use Rattle.std.specs.List.{AllByRecursion}
 use Rattle.asp_model.specs.declared.program.Program.{Program}
 use Rattle.asp_model.specs.Sets.{Atoms, has}
@@ -43,24 +43,12 @@ abbrev pub IsProbed : Program → List ℤ → Option Leaf → Type 0
 IsProbed p cube None = part p cube ≡ []
 IsProbed p cube (Some leaf) = (leaf.cube ≡ cube) × IsLeaf p leaf
 
--- There is a leaf at this place, and an atom by which it is divided.
-pub record CanBeDivided (leaves : List Leaf) (at : ℕ) : Type 0 where
-  pub within : at < length leaves
-  pub next : (d : Leaf) → IsSome (slice_index_or leaves at d).next
-
--- A leaf of the cube, or none where its part has no set, was put at this place.
-pub record IsPlaced (p : Program) (old new : List Leaf) (place : ℕ) (cube : List ℤ) : Type 0 where
+-- The leaves of a cube's part came after the others.
+pub record IsPlaced (p : Program) (old new : List Leaf) (cube : List ℤ) : Type 0 where
   pub added : List Leaf
-  pub is : new ≡ take place old ++ added ++ drop place old
-  pub few : length added ≤ 1
+  pub is : new ≡ old ++ added
   pub leaves : AreLeaves p added
   pub sets : sets_of p added ≡ part p cube
-
--- At most one leaf more, of the same sets.
-pub record IsDivided (p : Program) (old new : List Leaf) : Type 0 where
-  pub leaves : AreLeaves p new
-  pub sets : sets_of p new ≡ sets_of p old
-  pub few : length new ≤ length old + 1
 
 -- At most one leaf, of all answers.
 pub record IsWhole (p : Program) (given : List Leaf) : Type 0 where

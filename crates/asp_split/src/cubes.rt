@@ -1,43 +1,21 @@
 //! A program in parts.
-ghost use Rattle.std.specs.Prelude.{◌≡◌, ◌+◌, ◌<◌, ◌≤◌, [], ◌∷◌, None, IfOk, IfSome, OnOk, length, map, replicate};
+ghost use Rattle.std.specs.Prelude.{◌≡◌, ◌+◌, ◌<◌, ◌≤◌, [], ◌∷◌, None, IfOk, length, map, replicate};
 ghost use Rattle.std.specs.List.{AllByRecursion};
 ghost use Rattle.asp_model.specs.Models.{answers};
 ghost use Rattle.asp_vars.specs.Numbering.{var_count};
-ghost use Rattle.asp_split.specs.Dividing.{cubes_of, AreLeaves, CanBeDivided, IsParted, IsWhole};
+ghost use Rattle.asp_split.specs.Dividing.{cubes_of, IsWhole};
 ghost use Rattle.asp_split.specs.Following.{IsProber};
 ghost use Rattle.asp_split.specs.Parts.{answers_of_parts, AreStanding};
 
-use crate::divide::{divide, place};
+use crate::divide::place;
 use crate::leaf::Leaf;
+use crate::rounds::divide_all;
 use asp_model::seq::Seq;
 use asp_propagate::propagator::Propagator;
 use asp_state::state::SearchState;
 use asp_vars::compiled::Compiled;
 use std::alloc::{AllocError, Global};
 use std::mem;
-
-// Whether the first leaf is the better one to divide; of leaves that are alike the second.
-fn is_wider(leaf: &Leaf, than: &Leaf) -> bool {
-    leaf.next.is_some() && (than.next.is_none() || leaf.width > than.width)
-}
-
-// The place of the leaf that leaves the most variables open, of those that can be divided.
-fn widest(leaves: &[Leaf]) -> Option<usize>
-    ensures { IfSome result (CanBeDivided leaves.now) }
-{
-    let mut best = 0;
-    for (at, leaf) in leaves.iter().enumerate() {
-        if is_wider(leaf, &leaves[best]) {
-            best = at;
-        }
-    }
-    let leaf = leaves.get(best)?;
-    if leaf.next.is_some() {
-        Some(best)
-    } else {
-        None
-    }
-}
 
 // The cube without literals.
 fn empty(alloc: Global) -> Seq<i32>
@@ -57,34 +35,8 @@ fn first_leaf<P: Propagator>(
     ensures first { IfOk result (λ leaves. IsWhole compiled.now leaves.items) }
 {
     let mut leaves = Vec::new(alloc);
-    place(alloc, compiled, state, &mut leaves, 0, empty(alloc))?;
+    place(alloc, compiled, state, &mut leaves, empty(alloc))?;
     Ok(leaves)
-}
-
-// Divides the widest leaf, again and again, as long as there are fewer than wanted.
-fn divide_all<P: Propagator>(
-    alloc: Global,
-    compiled: &Compiled,
-    state: &mut SearchState<P>,
-    leaves: &mut Vec<Leaf>,
-    parts: usize,
-) -> Result<(), AllocError>
-    requires leaves { AreLeaves compiled.now leaves.old.items }
-    requires few { length leaves.old.items ≤ parts }
-    requires kept { IsProber compiled.now state.old }
-    ensures { OnOk result (IsParted compiled.now leaves.old.items leaves.new.items parts) }
-{
-    // A division that finds one half empty gives no leaf more, so the divisions are counted.
-    'divisions: for _ in 0..parts.saturating_mul(4).saturating_add(64) {
-        if leaves.len() >= parts {
-            return Ok(());
-        }
-        match widest(leaves.as_slice()) {
-            None => return Ok(()),
-            Some(at) => divide(alloc, compiled, state, leaves, at)?,
-        }
-    }
-    Ok(())
 }
 
 fn listed(alloc: Global, leaves: Vec<Leaf>) -> Result<Vec<Seq<i32>>, AllocError>
@@ -127,8 +79,8 @@ fn parted<P: Propagator>(
     ensures some { IfOk result (λ cubes. 0 < length cubes.items) }
     ensures few { IfOk result (λ cubes. length cubes.items ≤ parts) }
 {
-    let mut leaves = first_leaf(alloc, compiled, state)?;
-    divide_all(alloc, compiled, state, &mut leaves, parts)?;
+    let first = first_leaf(alloc, compiled, state)?;
+    let leaves = divide_all(alloc, compiled, state, first, parts)?;
     cubes_of(alloc, leaves)
 }
 

@@ -1,6 +1,6 @@
 //! How a leaf is divided, by an atom that is false in its first half and true in its second.
-ghost use Rattle.std.specs.Prelude.{◌≡◌, ◌++◌, ◌∷◌, [], ◌^◌, ◌<◌, ◌≤◌, IfOk, OnOk, length, neg_ℤ, pos};
-ghost use Rattle.asp_split.specs.Dividing.{AreLeaves, CanBeDivided, IsDivided, IsPlaced};
+ghost use Rattle.std.specs.Prelude.{◌≡◌, ◌+◌, ◌++◌, ◌∷◌, [], ◌^◌, ◌<◌, ◌≤◌, IfOk, IsSome, OnOk, length, neg_ℤ, pos};
+ghost use Rattle.asp_split.specs.Dividing.{IsLeaf, IsPlaced};
 ghost use Rattle.asp_split.specs.Following.{IsProber};
 ghost use Rattle.asp_split.specs.Parts.{AreStanding};
 
@@ -38,56 +38,56 @@ fn with_literal(alloc: Global, cube: &Seq<i32>, literal: i32) -> Result<Seq<i32>
     Ok(Seq::from_vec(literals))
 }
 
-/// Puts the leaf of a cube at this place, unless there is no answer under it. Want of memory is the one error.
+/// Puts the leaf of a cube after the others, unless there is no answer under it. Want of memory is the one error.
 pub(crate) fn place<P: Propagator>(
     alloc: Global,
     compiled: &Compiled,
     state: &mut SearchState<P>,
     leaves: &mut Vec<Leaf>,
-    at: usize,
     cube: Seq<i32>,
 ) -> Result<(), AllocError>
     requires stand { AreStanding compiled.now cube }
     requires kept { IsProber compiled.now state.old }
-    requires within { at ≤ length leaves.old.items }
     ensures kept { IsProber compiled.now state.new }
-    ensures placed { OnOk result (IsPlaced compiled.now leaves.old.items leaves.new.items at cube) }
+    ensures placed { OnOk result (IsPlaced compiled.now leaves.old.items leaves.new.items cube) }
+    ensures few { OnOk result (length leaves.new.items ≤ length leaves.old.items + 1) }
 {
     match probe(alloc, compiled, state, cube)? {
         None => Ok(()),
         Some(leaf) => {
-            leaves.insert(at, leaf)?;
+            leaves.push(leaf)?;
             Ok(())
         }
     }
 }
 
-/// Divides the leaf at this place. Want of memory is the one error.
+/// Puts the halves of a leaf after the others. Want of memory is the one error.
 pub(crate) fn divide<P: Propagator>(
     alloc: Global,
     compiled: &Compiled,
     state: &mut SearchState<P>,
     leaves: &mut Vec<Leaf>,
-    at: usize,
+    leaf: Leaf,
 ) -> Result<(), AllocError>
-    requires leaves { AreLeaves compiled.now leaves.old.items }
-    requires open { CanBeDivided leaves.old.items at }
+    requires leaf { IsLeaf compiled.now leaf }
+    requires open { IsSome leaf.next }
     requires kept { IsProber compiled.now state.old }
     ensures kept { IsProber compiled.now state.new }
-    ensures divided { OnOk result (IsDivided compiled.now leaves.old.items leaves.new.items) }
+    ensures placed { OnOk result (IsPlaced compiled.now leaves.old.items leaves.new.items leaf.cube) }
+    ensures few { OnOk result (length leaves.new.items ≤ length leaves.old.items + 2) }
 {
     let Leaf {
         cube,
         next,
         width: _,
-    } = leaves.remove(at);
+    } = leaf;
     match next {
         None => unreachable!(),
         Some(atom) => {
             let lacking = with_literal(alloc, &cube, negative(atom))?;
             let having = with_literal(alloc, &cube, positive(atom))?;
-            place(alloc, compiled, state, leaves, at, having)?;
-            place(alloc, compiled, state, leaves, at, lacking)
+            place(alloc, compiled, state, leaves, lacking)?;
+            place(alloc, compiled, state, leaves, having)
         }
     }
 }

@@ -7,3 +7,4 @@ pub mod laws;
 mod leaf;
 mod open;
 mod probe;
+mod rounds;

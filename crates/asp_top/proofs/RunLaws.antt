@@ -1,6 +1,6 @@
 -- What each status means, from what reading, solving and writing did.
 use Rattle.std.proofs.Common.{◌≡◌, ℕ, ◌<◌, ◌≤◌, Bool, true, false, ◌||◌, List, [], ◌∷◌, length, refl, sym, ap, ◌∙◌, subst, inl, inr, arith}
-use Rattle.std.specs.Prelude.{ℤ, Option, None, Some, Result, Ok, Err, IfErr, IfOk, IfSome, IsSome, IsErrOf, is_some}
+use Rattle.std.specs.Prelude.{ℤ, Option, None, Some, Result, Ok, Err, IfErr, IfOk, IfSome, IsErrOf, is_some}
 use Rattle.std.proofs.lemmas.Bool.{false≢true}
 use Rattle.std.proofs.KnownBytes.{Keeps-refl}
 use Rattle.std.specs.Io.KnownBytes.{Appends, Keeps, IsAtEnd}
@@ -18,8 +18,10 @@ use Rattle.asp_model.specs.declared.program.Minimize.{Minimize}
 use Rattle.asp_model.specs.Asked.{reasoning_of}
 use Rattle.asp_model.specs.Sets.{Atoms}
 use Rattle.asp_model.specs.Texts.{bests}
-use Rattle.asp_read.specs.Outcome.{outcome, most_bytes}
-use Rattle.asp_read.specs.Stream.{ReadsText, StopsAt}
+use Rattle.asp_read.specs.Judging.{most_bytes}
+use Rattle.asp_read.specs.Stream.{ReadsText}
+use Rattle.asp_cli.specs.declared.Format.{Format}
+use Rattle.asp_top.specs.Formats.{StopsFor, outcome_for}
 use Rattle.asp_make.specs.Ring.{ring}
 use Rattle.asp_make.specs.Texts.{parts_text}
 use Rattle.asp_crew_laws.specs.declared.report.Report.{Report}
@@ -28,17 +30,17 @@ use Rattle.asp_top.specs.declared.status.Status.{Status}
 use Rattle.asp_top.specs.declared.status.Status.TheVariants.{All, NoModel, Partial, Unknown, Enough, Help, Memory, Usage, Refused, ReadFault, TooLong, WriteFault, Parts}
 use Rattle.asp_top.specs.declared.status.Outcome.{Outcome}
 use Rattle.asp_top.specs.Meaning.{has_model, has_model_in, is_some_of, mode_by, mode_of, status_for}
-use Rattle.asp_top.specs.Notes.{is_answered}
+use Rattle.asp_top.specs.Notes.{is_answered, is_written}
 use Rattle.asp_top.specs.Parting.{Divides, HandingMeans}
-use Rattle.asp_top.specs.Runs.{Around, DeliveryMeans, Does, DoesBy, IsDivided, IsExact, IsGiven, IsOver, IsReady, IsSaid, IsSolved, Means, Prepares, Runs, Says, Solves, around, ask_of, is_brief, prepared_of, report_text, report_with, searched, set_aside, status_of, told_with}
+use Rattle.asp_top.specs.Runs.{Around, DeliveryMeans, Does, DoesBy, IsDivided, IsExact, IsGiven, IsOver, IsReady, IsSaid, IsSentOn, IsSolved, Means, Prepares, Runs, Says, Solves, around, ask_of, is_brief, prepared_of, report_text, report_with, searched, set_aside, status_of, told_with}
 use Rattle.asp_top.specs.declared.prepare.Prepared.{Prepared}
 use Rattle.asp_top.proofs.ToldLaws.{told-model, told-says, told-text}
 use Rattle.asp_model.specs.Sound.{IsSound}
 use Rattle.asp_cli.specs.Found.{seeks_consequences}
 use Rattle.asp_cli.specs.declared.Options.{Options}
 
-says-at : (a : Around) (text : List ℕ) (said : Result Program ReadError) → a.left ≡ Some text → Says a said → outcome text ≡ said
-says-at a text said is h = subst (λ (l : Option (List ℕ)). IfSome l (λ t. outcome t ≡ said)) is h
+says-at : (f : Format) (a : Around) (text : List ℕ) (said : Result Program ReadError) → a.left ≡ Some text → Says f a said → outcome_for f text ≡ said
+says-at f a text said is h = subst (λ (l : Option (List ℕ)). IfSome l (λ t. outcome_for f t ≡ said)) is h
 
 ok-or-err : (o : Result Program ReadError) (p : Program) (e : ReadError) → o ≡ Ok p → o ≡ Err e → ⊥
 ok-or-err o p e is isn't = cc
@@ -47,10 +49,10 @@ one-error : (o : Result Program ReadError) (e f : ReadError) → o ≡ Err e →
 one-error o e f p q = cc
 
 abbrev Quiet : Around → Status → Type 0
-Quiet a status = IsSome a.left → ¬ (status ≡ ReadFault) → a.reads' ≡ a.reads
+Quiet a status = ¬ (status ≡ ReadFault) → a.reads' ≡ a.reads
 
 -- an accepted text says the program that is there, so no other is said
-given-exact : (given : Options) (a : Around) (p : Program) (status : Status) → IsGiven given.make a p
+given-exact : (given : Options) (a : Around) (p : Program) (status : Status) → IsGiven given.format given.make a p
     → (¬ Rose a.writes a.writes' → is_answered status ≡ true) → Quiet a status → IsExact given a status
 given-exact given a program status source done quiet = record {
   accepted = λ text r w. inl (done w);
@@ -59,8 +61,8 @@ given-exact given a program status source done quiet = record {
   quiet = quiet;
 }
   where
-    said : (m : Option ℕ) → m ≡ None → (p : Program) → IsGiven m a p → (text : List ℕ) → a.left ≡ Some text → (e : ReadError) → outcome text ≡ Err e → ⊥
-    said None none p from text is e out = ok-or-err (outcome text) p e (says-at a text _ is from.says) out
+    said : (m : Option ℕ) → m ≡ None → (p : Program) → IsGiven given.format m a p → (text : List ℕ) → a.left ≡ Some text → (e : ReadError) → outcome_for given.format text ≡ Err e → ⊥
+    said None none p from text is e out = ok-or-err (outcome_for given.format text) p e (says-at given.format a text _ is from.says) out
     said (Some n) none p from text is e out = absurd cc
 
 exact : (given : Options) (a : Around) (report : Option Report) (status : Status) → Means given a report status → Quiet a status → IsExact given a status
@@ -87,28 +89,28 @@ exact given a report ReadFault m quiet = record {
   quiet = quiet;
 }
 exact given a report TooLong m quiet = record {
-  accepted = λ told r w. let t = told m.0 in absurd (ok-or-err (outcome t.0) t.1 errors.TooLong t.3 (says-at a t.0 _ t.2 m.1.says));
-  refused = λ reads text fault line is out r. let same : errors.TooLong ≡ errors.Refused fault line = one-error (outcome text) _ _ (says-at a text _ is m.1.says) out in absurd cc;
+  accepted = λ told r w. let t = told m.0 in absurd (ok-or-err (outcome_for given.format t.0) t.1 errors.TooLong t.3 (says-at given.format a t.0 _ t.2 m.1.says));
+  refused = λ reads text fault line is out r. let same : errors.TooLong ≡ errors.Refused fault line = one-error (outcome_for given.format text) _ _ (says-at given.format a text _ is m.1.says) out in absurd cc;
   too_long = λ reads text is out r. inl refl;
   quiet = quiet;
 }
 exact given a report (Refused f l) m quiet = record {
-  accepted = λ told r w. let t = told m.0 in absurd (ok-or-err (outcome t.0) t.1 (errors.Refused f l) t.3 (says-at a t.0 _ t.2 m.1.says));
-  refused = λ reads text fault line is out r. let same : errors.Refused f l ≡ errors.Refused fault line = one-error (outcome text) _ _ (says-at a text _ is m.1.says) out in inl cc;
-  too_long = λ reads text is out r. let same : errors.Refused f l ≡ errors.TooLong = one-error (outcome text) _ _ (says-at a text _ is m.1.says) out in absurd cc;
+  accepted = λ told r w. let t = told m.0 in absurd (ok-or-err (outcome_for given.format t.0) t.1 (errors.Refused f l) t.3 (says-at given.format a t.0 _ t.2 m.1.says));
+  refused = λ reads text fault line is out r. let same : errors.Refused f l ≡ errors.Refused fault line = one-error (outcome_for given.format text) _ _ (says-at given.format a text _ is m.1.says) out in inl cc;
+  too_long = λ reads text is out r. let same : errors.Refused f l ≡ errors.TooLong = one-error (outcome_for given.format text) _ _ (says-at given.format a text _ is m.1.says) out in absurd cc;
   quiet = quiet;
 }
 
 -- what reading a program says where it gives none
-record Unread (a : Around) (e : ReadError) : Type 0 where
-  pub text : IfSome a.left (λ t. ReadsText (Err e) (outcome t))
-  pub some_text : (text : List ℕ) × ReadsText (Err e) (outcome text)
+record Unread (f : Format) (a : Around) (e : ReadError) : Type 0 where
+  pub text : IfSome a.left (λ t. ReadsText (Err e) (outcome_for f t))
+  pub some_text : (text : List ℕ) × ReadsText (Err e) (outcome_for f text)
   pub later : a.reads ≤ a.reads'
   pub cause : e ≡ errors.ReadFault → Rose a.reads a.reads'
-  pub stops : StopsAt most_bytes a.left a.left' (Err e)
-  pub quiet : IsSome a.left → ¬ (e ≡ errors.ReadFault) → a.reads' ≡ a.reads
+  pub stops : StopsFor f most_bytes a.left a.left' (Err e)
+  pub quiet : ¬ (e ≡ errors.ReadFault) → a.reads' ≡ a.reads
 
-unread-means : (given : Options) (a : Around) (e : ReadError) → given.make ≡ None → Keeps a.held a.held' → Unread a e → Means given a None (status_of e)
+unread-means : (given : Options) (a : Around) (e : ReadError) → given.make ≡ None → Keeps a.held a.held' → Unread given.format a e → Means given a None (status_of e)
 unread-means given a errors.Memory reads kept u = record { none = refl; kept = kept }
 unread-means given a errors.ReadFault reads kept u = (reads, record { untouched = record { none = refl; kept = kept }; cause = u.cause refl; stops = u.stops })
 unread-means given a errors.TooLong reads kept u = (reads, record { untouched = record { none = refl; kept = kept }; says = u.text; said = u.some_text; stops = u.stops })
@@ -117,21 +119,21 @@ unread-means given a (errors.Refused f l) reads kept u = (reads, record { untouc
 fault-status : (e : ReadError) → e ≡ errors.ReadFault → status_of e ≡ ReadFault
 fault-status e is = rw is refl
 
-runs-unread : (given : Options) (a : Around) (e : ReadError) → given.make ≡ None → Keeps a.held a.held' → a.writes ≤ a.writes' → Unread a e
+runs-unread : (given : Options) (a : Around) (e : ReadError) → given.make ≡ None → Keeps a.held a.held' → a.writes ≤ a.writes' → Unread given.format a e
     → Runs given a (record { status = status_of e; report = None })
 runs-unread given a e reads kept writes u =
     let means = unread-means given a e reads kept u in
     record {
       means = means;
-      exact = exact given a None (status_of e) means (λ told isn't. u.quiet told (λ is. isn't (fault-status e is)));
+      exact = exact given a None (status_of e) means (λ isn't. u.quiet (λ is. isn't (fault-status e is)));
       later = (u.later, writes);
     }
 
-runs-memory : (given : Options) (a : Around) → Keeps a.held a.held' → a.reads ≤ a.reads' → a.writes ≤ a.writes' → (IsSome a.left → a.reads' ≡ a.reads)
+runs-memory : (given : Options) (a : Around) → Keeps a.held a.held' → a.reads ≤ a.reads' → a.writes ≤ a.writes' → a.reads' ≡ a.reads
     → Runs given a (record { status = Memory; report = None })
 runs-memory given a kept reads writes quiet =
     let means : Means given a None Memory = record { none = refl; kept = kept } in
-    record { means = means; exact = exact given a None Memory means (λ told isn't. quiet told); later = (reads, writes) }
+    record { means = means; exact = exact given a None Memory means (λ isn't. quiet); later = (reads, writes) }
 
 -- a run that ended at its limit has a model
 recorded-some : (best : Option (Atoms × List ℤ)) (L : List Atoms) → 0 < length L → is_some_of (bests best L) ≡ true
@@ -196,27 +198,27 @@ handed : (given : Options) (a : Around) (s : Status) (report : Option Report) �
 handed given a s report divided (inl m) = subst (Means given a report) (sym m.0) (record { divided = divided; text = m.1 })
 handed given a s report divided (inr m) = subst (Means given a report) (sym m.0) (inr (record { divided = divided; text = m.1; cause = m.2 }))
 
-runs-solved : (given : Options) (a : Around) (p : Program) (o : Outcome) → given.split ≡ None → IsGiven given.make a p → IsSound p → a.reads ≤ a.reads' → (IsSome a.left → a.reads' ≡ a.reads)
+runs-solved : (given : Options) (a : Around) (p : Program) (o : Outcome) → given.split ≡ None → IsGiven given.format given.make a p → IsSound p → a.reads ≤ a.reads' → a.reads' ≡ a.reads
     → Solves given p a.held a.held' a.writes a.writes' o → Runs given a o
 runs-solved given a p o whole from sound reads quiet (inl m) = subst (Runs given a) (sym m.0) (runs-memory given a m.1 reads (omega (arith, m.2)) quiet)
 runs-solved given a p o whole from sound reads quiet (inr s) =
     let solved : IsSolved given a o.report = record { program = p; source = from; whole = whole; done = s.0; reports = s.2.reports; is = s.1.0; says = told-says given p (ask_of given p) s.0 s.0.results.end sound s.1.0.says; proof = s.1.1 } in
     let means = delivered given a o.status o.report solved s.2.means in
-    record { means = means; exact = exact given a o.report o.status means (λ told isn't. quiet told); later = (reads, s.2.later) }
+    record { means = means; exact = exact given a o.report o.status means (λ isn't. quiet); later = (reads, s.2.later) }
 
-runs-divided : (given : Options) (a : Around) (p : Program) (most : ℕ) (o : Outcome) → given.split ≡ Some most → IsGiven given.make a p → a.reads ≤ a.reads' → (IsSome a.left → a.reads' ≡ a.reads)
+runs-divided : (given : Options) (a : Around) (p : Program) (most : ℕ) (o : Outcome) → given.split ≡ Some most → IsGiven given.format given.make a p → a.reads ≤ a.reads' → a.reads' ≡ a.reads
     → Divides p most a.held a.held' a.writes a.writes' o → Runs given a o
 runs-divided given a p most o asked from reads quiet (inl m) = subst (Runs given a) (sym m.0) (runs-memory given a m.1 reads (omega (arith, m.2)) quiet)
 runs-divided given a p most o asked from reads quiet (inr d) =
     let divided : IsDivided given a o.report = record { program = p; source = from; most = most; asked = asked; cubes = d.1.cubes; parts = d.1.parts; none = d.2.none } in
     let means = handed given a o.status o.report divided (subst (λ (t : List ℕ). HandingMeans t a.held a.held' a.writes a.writes' o.status) d.1.is d.2.means) in
-    record { means = means; exact = exact given a o.report o.status means (λ told isn't. quiet told); later = (reads, d.2.later) }
+    record { means = means; exact = exact given a o.report o.status means (λ isn't. quiet); later = (reads, d.2.later) }
 
 -- the program of a text is there
-pub ready-read : (given : Options) (l l' : Option (List ℕ)) (r r' : ℕ) (p : Program) → given.make ≡ None → IsSound p → IfSome l (λ text. outcome text ≡ Ok p) → IsSaid (Ok p) → IsAtEnd l' → r ≤ r' → (IsSome l → r' ≡ r)
+pub ready-read : (given : Options) (l l' : Option (List ℕ)) (r r' : ℕ) (p : Program) → given.make ≡ None → IsSound p → IfSome l (λ text. outcome_for given.format text ≡ Ok p) → IsSaid given.format (Ok p) → IsAtEnd l' → r ≤ r' → r' ≡ r
     → IsReady given l l' r r' p
 ready-read given l l' r r' p none sound says said end later quiet = record {
-  source = λ h h' w w'. subst (λ (m : Option ℕ). IsGiven m (around l l' r r' h h' w w') p) (sym none) (record { says = says; said = said; end = end });
+  source = λ h h' w w'. subst (λ (m : Option ℕ). IsGiven given.format m (around l l' r r' h h' w w') p) (sym none) (record { says = says; said = said; end = end });
   sound = sound;
   later = later;
   quiet = quiet;
@@ -225,14 +227,14 @@ ready-read given l l' r r' p none sound says said end later quiet = record {
 -- a ring is there, and nothing read
 pub ready-ring : (given : Options) (l : Option (List ℕ)) (r n : ℕ) (p : Program) → given.make ≡ Some n → IsSound p → p ≡ ring n → IsReady given l l r r p
 ready-ring given l r n p make sound is = record {
-  source = λ h h' w w'. subst (λ (m : Option ℕ). IsGiven m (around l l r r h h' w w') p) (sym make) (is, record { left = Keeps-refl l; reads = refl });
+  source = λ h h' w w'. subst (λ (m : Option ℕ). IsGiven given.format m (around l l r r h h' w w') p) (sym make) (is, record { left = Keeps-refl l; reads = refl });
   sound = sound;
   later = omega arith;
-  quiet = λ told. refl;
+  quiet = refl;
 }
 
 -- memory was wanting before the program was there
-pub over-memory : (given : Options) (l l' : Option (List ℕ)) (r r' : ℕ) (status : Status) → status ≡ Memory → r ≤ r' → (IsSome l → r' ≡ r) → IsOver given l l' r r' status
+pub over-memory : (given : Options) (l l' : Option (List ℕ)) (r r' : ℕ) (status : Status) → status ≡ Memory → r ≤ r' → r' ≡ r → IsOver given l l' r r' status
 over-memory given l l' r r' status is later quiet =
     subst (IsOver given l l' r r') (sym is) (λ h w. runs-memory given (around l l' r r' h h w w) (Keeps-refl h) later (omega arith) quiet)
 
@@ -244,11 +246,11 @@ of-err e is = cc
 
 -- no program was read
 pub over-unread : (given : Options) (l l' : Option (List ℕ)) (r r' : ℕ) (e : ReadError) (status : Status) → status ≡ status_of e → given.make ≡ None
-    → IfSome l (λ t. ReadsText (Err e) (outcome t)) → (text : List ℕ) × ReadsText (Err e) (outcome text) → r ≤ r' → (IsErrOf {T = Program} (Err e) errors.ReadFault → Rose r r') → StopsAt most_bytes l l' (Err e)
-    → (IsSome l → ¬ IsErrOf {T = Program} (Err e) errors.ReadFault → r' ≡ r) → IsOver given l l' r r' status
+    → IfSome l (λ t. ReadsText (Err e) (outcome_for given.format t)) → (text : List ℕ) × ReadsText (Err e) (outcome_for given.format text) → r ≤ r' → (IsErrOf {T = Program} (Err e) errors.ReadFault → Rose r r') → StopsFor given.format most_bytes l l' (Err e)
+    → (¬ IsErrOf {T = Program} (Err e) errors.ReadFault → r' ≡ r) → IsOver given l l' r r' status
 over-unread given l l' r r' e status is none text some later cause stops quiet =
     subst (IsOver given l l' r r') (sym is) (λ h w. runs-unread given (around l l' r r' h h w w) e none (Keeps-refl h) (omega arith)
-    (record { text = text; some_text = some; later = later; cause = λ fault. cause (err-of e fault); stops = stops; quiet = λ told no. quiet told (λ is. no (of-err e is)) }))
+    (record { text = text; some_text = some; later = later; cause = λ fault. cause (err-of e fault); stops = stops; quiet = λ no. quiet (λ is. no (of-err e is)) }))
 
 -- a program that is there is compiled, unless memory is wanting
 pub prepares : (given : Options) (l l' : Option (List ℕ)) (r r' : ℕ) (p : Program) (result : Result Prepared Status) → IsReady given l l' r r' p → IfOk result (λ x. x ≡ prepared_of given p) → IfErr result (λ s. s ≡ Memory)
@@ -286,6 +288,39 @@ second-false false b e = e
 pub unsplit : (o : Option ℕ) → is_some o ≡ false → o ≡ None
 unsplit None e = refl
 unsplit (Some n) e = absurd cc
+
+none-is-some : {A : Type 0} (x : A) → None ≡ Some x → ⊥
+none-is-some x e = cc
+
+begun : (byte : ℕ) (bytes : List ℕ) → byte ∷ bytes ≡ [] → ⊥
+begun byte bytes e = cc
+
+parts-have-text : (cubes : List (List ℤ)) → 0 < length cubes → parts_text cubes ≡ [] → ⊥
+parts-have-text [] some e = let no : ⊥ = omega (arith, some) in no
+parts-have-text (c ∷ cubes) some e = begun 54 _ e
+
+-- A run that ends before there is a program has written nothing.
+unwritten : (given : Options) (l l' : Option (List ℕ)) (r r' : ℕ) (status : Status) → IsOver given l l' r r' status → is_written status ≡ false
+unwritten given l l' r r' status over = by status (over (Some []) 0).means
+  where
+    by : (s : Status) → Means given (around l l' r r' (Some []) (Some []) 0 0) None s → is_written s ≡ false
+    by All m = absurd (none-is-some _ m.solved.reports)
+    by NoModel m = absurd (none-is-some _ m.solved.reports)
+    by Partial m = absurd (none-is-some _ m.solved.reports)
+    by Unknown m = absurd (none-is-some _ m.solved.reports)
+    by Enough m = absurd (none-is-some _ m.solved.reports)
+    by Help m = absurd m
+    by Memory m = refl
+    by Usage m = refl
+    by (Refused fault line) m = refl
+    by ReadFault m = refl
+    by TooLong m = refl
+    by WriteFault m = refl
+    by Parts m = absurd (parts-have-text m.divided.cubes m.divided.parts.some (sym m.text))
+
+pub nothing-to-send : (given : Options) (l l' : Option (List ℕ)) (r r' : ℕ) (status : Status) (o : Outcome) (is_sent : Bool) → IsOver given l l' r r' status → o ≡ record { status = status; report = None } → IsSentOn o.status is_sent
+nothing-to-send given l l' r r' status o is_sent over is =
+    λ done. absurd (false≢true (sym (unwritten given l l' r r' status over) ∙ (sym (ap (λ (x : Outcome). is_written x.status) is) ∙ done)))
 
 pub ok-no-fault : (p : Program) (e : ReadError) → ¬ IsErrOf (Ok p) e
 ok-no-fault p e is = cc

@@ -31,7 +31,7 @@ chain-rises on p q [] c = ap (λ (x : Point). x.last) c
 chain-rises on p q (l ∷ ls) c = (c.0.more, subst (λ (a : Counts). Rises a (told_of ls) q.last) c.0.last (chain-rises on l.after q ls c.1))
 
 unwritten : (p : Point) (v : Unit {0}) → Writes {T = Unit {0}} {E = Failed} p.held p.held p.faults p.faults (Ok v) []
-unwritten p v = record { all = Appends-nil p.held; front = tt; later = omega arith; cause = tt; quiet = λ told. refl }
+unwritten p v = record { all = Appends-nil p.held; front = tt; later = omega arith; cause = tt; quiet = refl }
 
 chain-writes : (on : Bool) (p q : Point) (ls : List Line) → Chain on p ls q → p.state ≡ Ok tt → Writes p.held q.held p.faults q.faults q.state (flat_map line_of (told_of ls))
 chain-writes on p q [] c fine =

@@ -19,7 +19,6 @@ use Rattle.asp_model.specs.Found.{Found}
 use Rattle.asp_model.specs.Texts.{answers_from, bests, consequences_line, cost_line, ended_line, results_text}
 use Rattle.asp_model.proofs.ModelLaws.{optima-are}
 use Rattle.asp_settle.specs.Settled.{united}
-use Rattle.asp_read.specs.Outcome.{outcome}
 use Rattle.asp_crew_laws.specs.declared.report.Report.{Report}
 use Rattle.asp_crew_laws.specs.Runs.{IsBest, IsFound}
 use Rattle.asp_crew_laws.specs.Reports.{HasBest, IsAllFound, IsPartOf, Says as SaysReport, asks_list}
@@ -30,18 +29,20 @@ use Rattle.asp_top.specs.declared.status.Status.{Status}
 use Rattle.asp_top.specs.declared.status.Status.TheVariants.{All, NoModel, Enough}
 use Rattle.asp_top.specs.declared.status.Outcome.{Outcome}
 use Rattle.asp_top.specs.Meaning.{has_model_in, is_some_of, mode_of}
-use Rattle.asp_top.specs.Runs.{Around, IsGiven, IsWritten, Means, Runs, RunsOn, ask_of, found_with, is_brief, report_text, report_with, set_aside, text_by}
+use Rattle.asp_top.specs.Runs.{Around, IsGiven, IsSentOn, IsWritten, Means, Runs, RunsOn, ask_of, found_with, is_brief, report_text, report_with, set_aside, text_by}
+use Rattle.asp_cli.specs.declared.Format.{Format}
+use Rattle.asp_top.specs.Formats.{outcome_for}
 use Rattle.asp_top.specs.Whole.{ArePicked, IsInput, IsWhole, TellsAll, TellsEnough, TellsNone, Wrote, closing}
 use Rattle.asp_top.proofs.ToldLaws.{no-proof}
 
 -- ---- what is read
-input-told : (left : Option (List ℕ)) (p : Program) → IfSome left (λ t. outcome t ≡ Ok p) → (text : List ℕ) × (outcome text ≡ Ok p) → (text : List ℕ) × (outcome text ≡ Ok p) × IfSome left (λ all. all ≡ text)
-input-told None p says some = (some.0, some.1, tt)
-input-told (Some text) p says some = (text, says, refl)
+input-told : (f : Format) (left : Option (List ℕ)) (p : Program) → IfSome left (λ t. outcome_for f t ≡ Ok p) → (text : List ℕ) × (outcome_for f text ≡ Ok p) → (text : List ℕ) × (outcome_for f text ≡ Ok p) × IfSome left (λ all. all ≡ text)
+input-told f None p says some = (some.0, some.1, tt)
+input-told f (Some text) p says some = (text, says, refl)
 
-input-of : (m : Option ℕ) (a : Around) (p : Program) → IsGiven m a p → IsInput m a.left p
-input-of None a p from = input-told a.left p from.says from.said
-input-of (Some n) a p from = from.0
+input-of : (f : Format) (m : Option ℕ) (a : Around) (p : Program) → IsGiven f m a p → IsInput f m a.left p
+input-of f None a p from = input-told f a.left p from.says from.said
+input-of f (Some n) a p from = from.0
 
 -- ---- the texts
 abbrev found : Mode → End → List Atoms → Option (Atoms × List ℤ) → Option Atoms → Found
@@ -270,9 +271,9 @@ Telling given end model Tells = (p : Program) (R : Report) → SaysReport p (ask
     → has_model_in (mode_of given.mode p) (found (mode_of given.mode p) end R.results.answers R.results.best R.results.known) ≡ model
     → Tells p (mode_of given.mode p) (results_text p (found (mode_of given.mode p) end R.results.answers R.results.best R.results.known) (is_brief given))
 
-wrote : (given : Options) (a : Around) (report : Option Report) (end : End) (model : Bool) (Tells : Program → Mode → List ℕ → Type 0) → given.proof ≡ false → Telling given end model Tells → IsWritten given a report end model
-    → Wrote given a.left a.held a.held' Tells
-wrote given a report end model Tells plain telling w =
+wrote : (given : Options) (a : Around) (report : Option Report) (end : End) (model : Bool) (Tells : Program → Mode → List ℕ → Type 0) (is_sent : Bool) → given.proof ≡ false → Telling given end model Tells → IsWritten given a report end model
+    → is_sent ≡ true → Wrote given a.left a.held a.held' is_sent Tells
+wrote given a report end model Tells is_sent plain telling w sent =
     let p = w.solved.program in
     let done = w.solved.done in
     let F = set_aside given p in
@@ -283,24 +284,26 @@ wrote given a report end model Tells plain telling w =
     ap (λ proof. text_by proof p R.results (is_brief given)) none ∙ text-of p R.results (is_brief given) mode end w.solved.is.mode_is w.end_is in
     record {
       program = p;
-      input = input-of given.make a p w.solved.source;
+      input = input-of given.format given.make a p w.solved.source;
       text = results_text p (found mode end R.results.answers R.results.best R.results.known) (is_brief given);
       tells = telling p R (subst (SaysReport p (ask_of given p) R) w.end_is w.solved.says)
           (model-of mode mode end R.results ∙ ap (λ m. has_model_in m R.results) (sym w.solved.is.mode_is) ∙ model-with F done.results.mode done.results ∙ w.model_is);
       written = subst (Appends a.held a.held') same w.text;
+      sent = sent;
     }
 
-pub whole : (given : Options) (a : Around) (o : Outcome) → given.proof ≡ false → Runs given a o → IsWhole given a.left a.held a.held' o.status
-whole given a o plain runs = by o.status runs.means
+pub whole : (given : Options) (a : Around) (o : Outcome) (is_sent : Bool) → given.proof ≡ false → Runs given a o → IsSentOn o.status is_sent → IsWhole given a.left a.held a.held' is_sent o.status
+whole given a o is_sent plain runs sent = by o.status runs.means sent
   where
-    by : (s : Status) → Means given a o.report s → IsWhole given a.left a.held a.held' s
-    by All m = wrote given a o.report Finished true (TellsAll given) plain (λ p R says some. tells-all given p (mode_of given.mode p) R.results.answers R.results.best R.results.known says some) m
-    by NoModel m = wrote given a o.report Finished false TellsNone plain (λ p R says none. tells-none given.all_optima (is_brief given) p (mode_of given.mode p) R.results.answers R.results.best R.results.known says none) m
-    by Enough m = wrote given a o.report Limited true (TellsEnough given) plain
+    by : (s : Status) → Means given a o.report s → IsSentOn s is_sent → IsWhole given a.left a.held a.held' is_sent s
+    by All m sent = wrote given a o.report Finished true (TellsAll given) is_sent plain (λ p R says some. tells-all given p (mode_of given.mode p) R.results.answers R.results.best R.results.known says some) m (sent refl)
+    by NoModel m sent = wrote given a o.report Finished false TellsNone is_sent plain (λ p R says none. tells-none given.all_optima (is_brief given) p (mode_of given.mode p) R.results.answers R.results.best R.results.known says none) m (sent refl)
+    by Enough m sent = wrote given a o.report Limited true (TellsEnough given) is_sent plain
         (λ p R says some. tells-enough given p (mode_of given.mode p) R.results.answers R.results.best R.results.known says.listing says.some says.count
-        (part-of given.all_optima p (mode_of given.mode p) (mode_of given.mode p) Limited R.results says.part) says.best) m
-    by status m = tt
+        (part-of given.all_optima p (mode_of given.mode p) (mode_of given.mode p) Limited R.results says.part) says.best) m (sent refl)
+    by status m sent = tt
 
 -- the same where the words of a run give these options
-pub whole-on : (own given : Options) (g : Given) (a : Around) (o : Outcome) → options own ≡ g → Runs own a o → g ≡ options given → given.proof ≡ false → IsWhole given a.left a.held a.held' o.status
-whole-on own given g a o first runs second plain = whole given a o plain (subst (λ x. RunsOn x a o) (first ∙ second) runs)
+pub whole-on : (own given : Options) (g : Given) (a : Around) (o : Outcome) (is_sent : Bool) → options own ≡ g → Runs own a o → IsSentOn o.status is_sent → g ≡ options given → given.proof ≡ false
+    → IsWhole given a.left a.held a.held' is_sent o.status
+whole-on own given g a o is_sent first runs sent second plain = whole given a o is_sent plain (subst (λ x. RunsOn x a o) (first ∙ second) runs) sent

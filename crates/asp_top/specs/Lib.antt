@@ -9,5 +9,5 @@ pub mod Parting
 pub mod Runs
 pub mod Whole
 pub mod Words
-pub mod Faults
+pub mod Formats
 pub mod Loops

@@ -1,5 +1,5 @@
 -- What the notes say of a run.
-use Rattle.std.specs.Prelude.{◌≡◌, ℕ, ◌≤◌, Bool, true, false, ◌&&◌, if◌then◌else◌, List, [], ◌++◌, codes, decimal, Option, None, Some, Result, OnOk, OnErr, IsSome}
+use Rattle.std.specs.Prelude.{◌≡◌, ℕ, ◌≤◌, Bool, true, false, ◌&&◌, if◌then◌else◌, List, [], ◌++◌, codes, decimal, Option, None, Some, Result, OnOk, OnErr}
 use Rattle.std.specs.List.{flat_map}
 use Rattle.std.specs.Io.KnownBytes.{Appends}
 use Rattle.asp_io.specs.Causes.{Rose, AppendsFront}
@@ -11,7 +11,7 @@ use Rattle.asp_top.specs.declared.counts.Tally.{Tally}
 use Rattle.asp_top.specs.declared.counts.Item.{Item}
 use Rattle.asp_top.specs.Counts.{item_text, loop_items, program_items, report_items, search_items, worker_items}
 use Rattle.asp_top.specs.Usage.{usage_text}
-use Rattle.asp_top.specs.Faults.{fault_text}
+use Rattle.asp_faults.specs.Faults.{fault_text}
 use Rattle.asp_top.specs.declared.status.Status.TheVariants.{All, NoModel, Partial, Unknown, Enough, Help, Memory, Usage, Refused, ReadFault, TooLong, WriteFault, Parts}
 
 -- the lines for a status; none where results, parts, help or the version were asked for and written. Usage is here the status of
@@ -70,6 +70,11 @@ is_answered Enough = true
 is_answered Parts = true
 is_answered _ = false
 
+-- whether the text that was asked for was written: results, parts, help or the version
+abbrev pub is_written : Status → Bool
+is_written Help = true
+is_written status = is_answered status
+
 -- the counts, where they are asked for and results were written
 abbrev pub counts_if : Bool → Tally → Outcome → List ℕ
 counts_if stats t o = if stats && is_answered o.status then counts_of t o.report else []
@@ -78,14 +83,13 @@ counts_if stats t o = if stats && is_answered o.status then counts_of t o.report
 abbrev pub notes_of : Bool → Tally → Outcome → List ℕ
 notes_of stats t o = note_of o.status ++ counts_if stats t o
 
--- a call wrote all of the bytes, or failed with a front of them out, and only where a fault was counted; of a sink that
--- tells its bytes a fault was counted only where it failed
+-- a call wrote all of the bytes, or failed with a front of them out, and exactly then a fault was counted
 pub record Writes {T E : Type 0} (held held' : Option (List ℕ)) (faults faults' : ℕ) (result : Result T E) (bytes : List ℕ) : Type 0 where
   pub all : OnOk result (Appends held held' bytes)
   pub front : OnErr result (AppendsFront held held' bytes)
   pub later : faults ≤ faults'
   pub cause : OnErr result (Rose faults faults')
-  pub quiet : IsSome held → OnOk result (faults' ≡ faults)
+  pub quiet : OnOk result (faults' ≡ faults)
 
 -- a front of the text was written, and all of it where no fault was counted
 pub record IsNoted (held held' : Option (List ℕ)) (faults faults' : ℕ) (text : List ℕ) : Type 0 where

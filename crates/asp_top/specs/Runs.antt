@@ -1,5 +1,5 @@
 -- What each status of a run says of the words, of the bytes read and of the bytes written.
-use Rattle.std.specs.Prelude.{◌≡◌, ◌⊎◌, ℕ, ◌≤◌, ◌==◌, Bool, true, false, not, ◌||◌, if◌then◌else◌, List, Option, None, Some, Result, Ok, Err, IfSome, IsSome, is_some, length, map, option_map, ℤ, []}
+use Rattle.std.specs.Prelude.{◌≡◌, ◌⊎◌, ℕ, ◌≤◌, ◌==◌, Bool, true, false, not, ◌||◌, if◌then◌else◌, List, Option, None, Some, Result, Ok, Err, IfSome, is_some, length, map, option_map, ℤ, []}
 use Rattle.std.specs.Io.KnownBytes.{Appends, Keeps, IsAtEnd}
 use Rattle.asp_io.specs.Causes.{Rose, AppendsFront}
 use Rattle.asp_read.specs.declared.fault.Fault.{Fault}
@@ -16,8 +16,9 @@ use Rattle.asp_settle.specs.Settled.{facts_of, left_of, united}
 use Rattle.asp_model.specs.Texts.{results_text}
 use Rattle.asp_proof.specs.declared.proof.Proof.{Proof}
 use Rattle.asp_proof.specs.Texts.{text_of}
-use Rattle.asp_read.specs.Outcome.{outcome, most_bytes}
-use Rattle.asp_read.specs.Stream.{StopsAt}
+use Rattle.asp_read.specs.Judging.{most_bytes}
+use Rattle.asp_cli.specs.declared.Format.{Format}
+use Rattle.asp_top.specs.Formats.{StopsFor, outcome_for}
 use Rattle.asp_make.specs.Ring.{ring}
 use Rattle.asp_make.specs.Texts.{parts_text}
 use Rattle.asp_cli.specs.Given.{Given, help, misuse, options, version}
@@ -35,7 +36,7 @@ use Rattle.asp_top.specs.declared.status.Outcome.{Outcome}
 use Rattle.asp_top.specs.declared.counts.Tally.{Tally}
 use Rattle.asp_top.specs.Loops.{HasLoops}
 use Rattle.asp_top.specs.Meaning.{has_model, mode_of, status_for}
-use Rattle.asp_top.specs.Notes.{IsNoted, is_answered, note_of, notes_of}
+use Rattle.asp_top.specs.Notes.{IsNoted, is_answered, is_written, note_of, notes_of}
 use Rattle.asp_top.specs.Parting.{AreParts, Divides}
 use Rattle.asp_top.specs.Progress.{IsTold}
 use Rattle.asp_top.specs.Usage.{misuse_note}
@@ -56,12 +57,12 @@ around left left' reads reads' held held' writes writes' =
     record { left = left; left' = left'; reads = reads; reads' = reads'; held = held; held' = held'; writes = writes; writes' = writes' }
 
 -- the whole content of the source says this, where it is told
-abbrev pub Says : Around → Result Program ReadError → Type 0
-Says a said = IfSome a.left (λ text. outcome text ≡ said)
+abbrev pub Says : Format → Around → Result Program ReadError → Type 0
+Says f a said = IfSome a.left (λ text. outcome_for f text ≡ said)
 
 -- some text says this
-abbrev pub IsSaid : Result Program ReadError → Type 0
-IsSaid said = (text : List ℕ) × (outcome text ≡ said)
+abbrev pub IsSaid : Format → Result Program ReadError → Type 0
+IsSaid f said = (text : List ℕ) × (outcome_for f text ≡ said)
 
 -- the source wasn't read
 pub record IsUnasked (a : Around) : Type 0 where
@@ -69,15 +70,15 @@ pub record IsUnasked (a : Around) : Type 0 where
   pub reads : a.reads' ≡ a.reads
 
 -- the text says the program, and was read to its end; where the source doesn't tell its bytes, some text says it
-pub record IsRead (a : Around) (p : Program) : Type 0 where
-  pub says : Says a (Ok p)
-  pub said : IsSaid (Ok p)
+pub record IsRead (f : Format) (a : Around) (p : Program) : Type 0 where
+  pub says : Says f a (Ok p)
+  pub said : IsSaid f (Ok p)
   pub end : IsAtEnd a.left'
 
 -- the program of the text, or the ring that is asked for, and then nothing is read
-abbrev pub IsGiven : Option ℕ → Around → Program → Type 0
-IsGiven None a p = IsRead a p
-IsGiven (Some n) a p = (p ≡ ring n) × IsUnasked a
+abbrev pub IsGiven : Format → Option ℕ → Around → Program → Type 0
+IsGiven f None a p = IsRead f a p
+IsGiven f (Some n) a p = (p ≡ ring n) × IsUnasked a
 
 -- the text of a report: that of its proof, if it has one, and else that of its results
 abbrev pub text_by : Option Proof → Program → Found → Bool → List ℕ
@@ -120,7 +121,7 @@ told_with F r = record r { results = record r.results { known = option_map (unit
 -- with the facts it says of the program what was asked, and has a proof if that was asked for.
 pub record IsSolved (given : Options) (a : Around) (report : Option Report) : Type 0 where
   pub program : Program
-  pub source : IsGiven given.make a program
+  pub source : IsGiven given.format given.make a program
   pub whole : given.split ≡ None
   pub done : Report
   pub reports : report ≡ Some (told_with (set_aside given program) done)
@@ -148,7 +149,7 @@ pub record IsCutOff (given : Options) (a : Around) (report : Option Report) : Ty
 -- the program was divided into parts as was asked, and not solved
 pub record IsDivided (given : Options) (a : Around) (report : Option Report) : Type 0 where
   pub program : Program
-  pub source : IsGiven given.make a program
+  pub source : IsGiven given.format given.make a program
   pub most : ℕ
   pub asked : given.split ≡ Some most
   pub cubes : List (List ℤ)
@@ -172,17 +173,17 @@ pub record IsUntouched (a : Around) (report : Option Report) : Type 0 where
   pub kept : Keeps a.held a.held'
 
 -- the text was refused, and nothing was read behind the read that decided so
-pub record IsRefused (a : Around) (report : Option Report) (error : ReadError) : Type 0 where
+pub record IsRefused (f : Format) (a : Around) (report : Option Report) (error : ReadError) : Type 0 where
   pub untouched : IsUntouched a report
-  pub says : Says a (Err error)
-  pub said : IsSaid (Err error)
-  pub stops : StopsAt most_bytes a.left a.left' (Err error)
+  pub says : Says f a (Err error)
+  pub said : IsSaid f (Err error)
+  pub stops : StopsFor f most_bytes a.left a.left' (Err error)
 
 -- a read failed before any line with a fault was whole
-pub record IsUnread (a : Around) (report : Option Report) : Type 0 where
+pub record IsUnread (f : Format) (a : Around) (report : Option Report) : Type 0 where
   pub untouched : IsUntouched a report
   pub cause : Rose a.reads a.reads'
-  pub stops : StopsAt most_bytes a.left a.left' (Err errors.ReadFault)
+  pub stops : StopsFor f most_bytes a.left a.left' (Err errors.ReadFault)
 
 -- how an outcome tells why no program was read
 abbrev pub status_of : ReadError → Status
@@ -205,30 +206,33 @@ Means given a report Enough = IsWritten given a report Limited true
 Means given a report Help = ⊥
 Means given a report Memory = IsUntouched a report
 Means given a report Usage = ⊥
-Means given a report (Refused fault line) = Reads given × IsRefused a report (errors.Refused fault line)
-Means given a report ReadFault = Reads given × IsUnread a report
-Means given a report TooLong = Reads given × IsRefused a report errors.TooLong
+Means given a report (Refused fault line) = Reads given × IsRefused given.format a report (errors.Refused fault line)
+Means given a report ReadFault = Reads given × IsUnread given.format a report
+Means given a report TooLong = Reads given × IsRefused given.format a report errors.TooLong
 Means given a report WriteFault = IsCutOff given a report ⊎ ArePartsCutOff given a report
 Means given a report Parts = IsParted given a report
 
 -- an accepted text, where one is read
 abbrev pub IsAccepted : Options → Around → Type 0
-IsAccepted given a = Reads given → (text : List ℕ) × (p : Program) × (a.left ≡ Some text) × (outcome text ≡ Ok p)
+IsAccepted given a = Reads given → (text : List ℕ) × (p : Program) × (a.left ≡ Some text) × (outcome_for given.format text ≡ Ok p)
 
 -- which status comes, but for want of memory
 pub record IsExact (given : Options) (a : Around) (status : Status) : Type 0 where
   -- an accepted text, or a ring, where neither count rose, is answered, or divided where parts are asked for
   pub accepted : IsAccepted given a → ¬ Rose a.reads a.reads' → ¬ Rose a.writes a.writes' → (is_answered status ≡ true) ⊎ (status ≡ Memory)
   -- a faulty text, where the source's count didn't rise, is refused
-  pub refused : Reads given → (text : List ℕ) (fault : Fault) (line : ℕ) → a.left ≡ Some text → outcome text ≡ Err (errors.Refused fault line) → ¬ Rose a.reads a.reads' → (status ≡ Refused fault line) ⊎ (status ≡ Memory)
-  pub too_long : Reads given → (text : List ℕ) → a.left ≡ Some text → outcome text ≡ Err errors.TooLong → ¬ Rose a.reads a.reads' → (status ≡ TooLong) ⊎ (status ≡ Memory)
-  -- of a source that tells its bytes, a fault is counted at a failed read alone
-  pub quiet : IsSome a.left → ¬ (status ≡ ReadFault) → a.reads' ≡ a.reads
+  pub refused : Reads given → (text : List ℕ) (fault : Fault) (line : ℕ) → a.left ≡ Some text → outcome_for given.format text ≡ Err (errors.Refused fault line) → ¬ Rose a.reads a.reads' → (status ≡ Refused fault line) ⊎ (status ≡ Memory)
+  pub too_long : Reads given → (text : List ℕ) → a.left ≡ Some text → outcome_for given.format text ≡ Err errors.TooLong → ¬ Rose a.reads a.reads' → (status ≡ TooLong) ⊎ (status ≡ Memory)
+  -- a fault of the source was counted only where the status says so: every failed read is told
+  pub quiet : ¬ (status ≡ ReadFault) → a.reads' ≡ a.reads
 
--- of a sink that tells its bytes a fault was counted only where the status says so: every failed write and every failed
--- flush is told
-abbrev pub TellsFaults : Option (List ℕ) → ℕ → ℕ → Status → Type 0
-TellsFaults held writes writes' status = IsSome held → ¬ (status ≡ WriteFault) → writes' ≡ writes
+-- a fault of the sink was counted only where the status says so: every failed write and every failed flush is told
+abbrev pub TellsFaults : ℕ → ℕ → Status → Type 0
+TellsFaults writes writes' status = ¬ (status ≡ WriteFault) → writes' ≡ writes
+
+-- where the text that was asked for was written, all of it was sent on
+abbrev pub IsSentOn : Status → Bool → Type 0
+IsSentOn status is_sent = is_written status ≡ true → is_sent ≡ true
 
 -- the text of the report was written, or cut off by a fault
 abbrev pub DeliveryMeans : Bool → Program → Report → Option (List ℕ) → Option (List ℕ) → ℕ → ℕ → Status → Type 0
@@ -270,10 +274,10 @@ pub record Runs (given : Options) (a : Around) (o : Outcome) : Type 0 where
 -- ---- before the program is solved
 -- The program is there, whatever the sink holds: the source was read to its end, or it was made and nothing read.
 pub record IsReady (given : Options) (left left' : Option (List ℕ)) (reads reads' : ℕ) (p : Program) : Type 0 where
-  pub source : (held held' : Option (List ℕ)) (writes writes' : ℕ) → IsGiven given.make (around left left' reads reads' held held' writes writes') p
+  pub source : (held held' : Option (List ℕ)) (writes writes' : ℕ) → IsGiven given.format given.make (around left left' reads reads' held held' writes writes') p
   pub sound : IsSound p
   pub later : reads ≤ reads'
-  pub quiet : IsSome left → reads' ≡ reads
+  pub quiet : reads' ≡ reads
 
 -- There is none, and so a run ends with this status that writes nothing, whatever the sink holds.
 abbrev pub IsOver : Options → Option (List ℕ) → Option (List ℕ) → ℕ → ℕ → Status → Type 0

@@ -1,5 +1,5 @@
 -- What a run that finished has read and written, said by the program alone: the theorem of docs/THEOREM.md.
-use Rattle.std.specs.Prelude.{◌≡◌, ℕ, ◌++◌, Bool, if◌then◌else◌, List, [], ◌∷◌, filter, length, Contains, Option, None, Some, Ok, IfSome, codes, decimal}
+use Rattle.std.specs.Prelude.{◌≡◌, ℕ, ◌++◌, Bool, true, if◌then◌else◌, List, [], ◌∷◌, filter, length, Contains, Option, None, Some, Ok, IfSome, codes, decimal}
 use Rattle.std.specs.Io.KnownBytes.{Appends}
 use Rattle.asp_model.specs.declared.program.Program.{Program}
 use Rattle.asp_model.specs.declared.results.Mode.{Mode}
@@ -9,9 +9,10 @@ use Rattle.asp_model.specs.Models.{answers}
 use Rattle.asp_model.specs.Costs.{cost, optima}
 use Rattle.asp_model.specs.Consequences.{consequences}
 use Rattle.asp_model.specs.Texts.{answers_from, consequences_line, cost_line, ended_line}
-use Rattle.asp_read.specs.Outcome.{outcome}
 use Rattle.asp_make.specs.Ring.{ring}
+use Rattle.asp_cli.specs.declared.Format.{Format}
 use Rattle.asp_cli.specs.declared.Options.{Options}
+use Rattle.asp_top.specs.Formats.{outcome_for}
 use Rattle.asp_top.specs.declared.status.Status.{Status}
 use Rattle.asp_top.specs.declared.status.Status.TheVariants.{All, NoModel, Enough}
 use Rattle.asp_top.specs.Meaning.{mode_of}
@@ -19,9 +20,9 @@ use Rattle.asp_top.specs.Runs.{is_brief}
 
 -- ---- what is read
 -- The program is that of the text that was read: the source's whole content, where the source tells it. With `--make` it is the ring.
-abbrev pub IsInput : Option ℕ → Option (List ℕ) → Program → Type 0
-IsInput None left p = (text : List ℕ) × (outcome text ≡ Ok p) × IfSome left (λ all. all ≡ text)
-IsInput (Some n) left p = p ≡ ring n
+abbrev pub IsInput : Format → Option ℕ → Option (List ℕ) → Program → Type 0
+IsInput f None left p = (text : List ℕ) × (outcome_for f text ≡ Ok p) × IfSome left (λ all. all ≡ text)
+IsInput f (Some n) left p = p ≡ ring n
 
 -- ---- what is written
 -- the lines of these answers, unless only the closing lines are asked for
@@ -67,18 +68,19 @@ TellsEnough given p Opt text = (S : Atoms) × (Ss : List Atoms) × Contains (opt
 TellsEnough given p (Consequences w) text = ⊥
 
 -- ---- the theorem
--- A program was read, and what was written, after what the sink held before, is a text that tells this of it.
-pub record Wrote (given : Options) (left held held' : Option (List ℕ)) (Tells : Program → Mode → List ℕ → Type 0) : Type 0 where
+-- A program was read, and what was written, after what the sink held before, is a text that tells this of it. All of it was sent on.
+pub record Wrote (given : Options) (left held held' : Option (List ℕ)) (is_sent : Bool) (Tells : Program → Mode → List ℕ → Type 0) : Type 0 where
   pub program : Program
-  pub input : IsInput given.make left program
+  pub input : IsInput given.format given.make left program
   pub text : List ℕ
   pub tells : Tells program (mode_of given.mode program) text
   pub written : Appends held held' text
+  pub sent : is_sent ≡ true
 
 -- What a run has read and written that finished, with an answer (30) or without (20), or that reached its limit (11). Of a run that
 -- ended in another way nothing is said here.
-abbrev pub IsWhole : Options → Option (List ℕ) → Option (List ℕ) → Option (List ℕ) → Status → Type 0
-IsWhole given left held held' All = Wrote given left held held' (TellsAll given)
-IsWhole given left held held' NoModel = Wrote given left held held' TellsNone
-IsWhole given left held held' Enough = Wrote given left held held' (TellsEnough given)
-IsWhole given left held held' status = Unit {0}
+abbrev pub IsWhole : Options → Option (List ℕ) → Option (List ℕ) → Option (List ℕ) → Bool → Status → Type 0
+IsWhole given left held held' is_sent All = Wrote given left held held' is_sent (TellsAll given)
+IsWhole given left held held' is_sent NoModel = Wrote given left held held' is_sent TellsNone
+IsWhole given left held held' is_sent Enough = Wrote given left held held' is_sent (TellsEnough given)
+IsWhole given left held held' is_sent status = Unit {0}

@@ -1,9 +1,9 @@
 //! What a run writes of its report, and the outcome then.
-ghost use Rattle.std.specs.Prelude.{◌≡◌, None};
+ghost use Rattle.std.specs.Prelude.{◌≡◌, None, OnOk, true};
 ghost use Rattle.asp_model.specs.Texts.{results_text};
 ghost use Rattle.asp_proof.specs.Texts.{text_of};
 ghost use Rattle.asp_top.specs.Notes.{Writes};
-ghost use Rattle.asp_top.specs.Runs.{Delivers, TellsFaults, report_text};
+ghost use Rattle.asp_top.specs.Runs.{Delivers, IsSentOn, TellsFaults, report_text};
 
 use crate::solve::status_for;
 use crate::status::{Outcome, Status};
@@ -72,8 +72,9 @@ fn write_report<K: Sink>(
     program: &Program,
     report: &Report,
 ) -> Result<(), Failed>
-    ensures { Writes (K.held sink.old) (K.held sink.new) (K.faults sink.old) (K.faults sink.new)
+    ensures writes { Writes (K.held sink.old) (K.held sink.new) (K.faults sink.old) (K.faults sink.new)
         result (report_text program.now report.now brief) }
+    ensures sent { OnOk result (K.is_sent sink.new ≡ true) }
 {
     write_text(alloc, sink, brief, program, report)?;
     sink.flush()
@@ -88,7 +89,8 @@ pub fn deliver<K: Sink>(
     report: Report,
 ) -> Outcome
     ensures delivers { Delivers brief program.now report (K.held sink.old) (K.held sink.new) (K.faults sink.old) (K.faults sink.new) result }
-    ensures flushed { TellsFaults (K.held sink.old) (K.faults sink.old) (K.faults sink.new) result.status }
+    ensures flushed { TellsFaults (K.faults sink.old) (K.faults sink.new) result.status }
+    ensures sent { IsSentOn result.status (K.is_sent sink.new) }
 {
     let status = match write_report(alloc, sink, brief, program, &report) {
         Ok(()) => status_for(&report.results),

@@ -8,12 +8,12 @@ use crate::counts::{
     Tally, loop_items, program_items, put_items, report_items, search_items, worker_items,
 };
 use crate::status::{Outcome, Status};
-use crate::texts::write_fault;
 use crate::usage::write_usage;
 use asp_buffer::{Waiting, flush, put};
 use asp_counts::counts::Counts;
 use asp_counts::tallies::WorkerCounts;
 use asp_crew::report::Report;
+use asp_faults::write_fault;
 use asp_io::{Failed, Sink, write_all};
 use asp_read::fault::Fault;
 use itoa::Buffer;

@@ -1,9 +1,9 @@
 //! The parts of a program are written in place of its results.
-ghost use Rattle.std.specs.Prelude.{◌<◌, IfOk, Some};
+ghost use Rattle.std.specs.Prelude.{◌≡◌, ◌<◌, IfOk, OnOk, Some, true};
 ghost use Rattle.asp_cli.specs.Values.{IsPartCount};
 ghost use Rattle.asp_top.specs.Notes.{Writes};
 ghost use Rattle.asp_top.specs.Parting.{Divides, Hands, IsPartsText};
-ghost use Rattle.asp_top.specs.Runs.{TellsFaults};
+ghost use Rattle.asp_top.specs.Runs.{IsSentOn, TellsFaults};
 
 use crate::deliver::failed;
 use crate::notes::write;
@@ -28,7 +28,8 @@ fn text_of_parts(alloc: Global, compiled: &Compiled, most: u32) -> Result<Vec<u8
 
 // Writes a text, and flushes the sink.
 fn write_text<K: Sink>(sink: &mut K, text: &[u8]) -> Result<(), Failed>
-    ensures { Writes (K.held sink.old) (K.held sink.new) (K.faults sink.old) (K.faults sink.new) result text.now }
+    ensures writes { Writes (K.held sink.old) (K.held sink.new) (K.faults sink.old) (K.faults sink.new) result text.now }
+    ensures sent { OnOk result (K.is_sent sink.new ≡ true) }
 {
     write(sink, text)?;
     sink.flush()
@@ -37,7 +38,8 @@ fn write_text<K: Sink>(sink: &mut K, text: &[u8]) -> Result<(), Failed>
 // The end of a run that writes the text of parts.
 fn hand_out<K: Sink>(sink: &mut K, text: &[u8]) -> Outcome
     ensures hands { Hands text.now (K.held sink.old) (K.held sink.new) (K.faults sink.old) (K.faults sink.new) result }
-    ensures flushed { TellsFaults (K.held sink.old) (K.faults sink.old) (K.faults sink.new) result.status }
+    ensures flushed { TellsFaults (K.faults sink.old) (K.faults sink.new) result.status }
+    ensures sent { IsSentOn result.status (K.is_sent sink.new) }
 {
     match write_text(sink, text) {
         Ok(()) => failed(Status::Parts),
@@ -49,7 +51,8 @@ fn hand_out<K: Sink>(sink: &mut K, text: &[u8]) -> Outcome
 pub fn divide<K: Sink>(alloc: Global, compiled: &Compiled, most: u32, sink: &mut K) -> Outcome
     requires { IsPartCount (Some most) }
     ensures divides { Divides compiled.now most (K.held sink.old) (K.held sink.new) (K.faults sink.old) (K.faults sink.new) result }
-    ensures flushed { TellsFaults (K.held sink.old) (K.faults sink.old) (K.faults sink.new) result.status }
+    ensures flushed { TellsFaults (K.faults sink.old) (K.faults sink.new) result.status }
+    ensures sent { IsSentOn result.status (K.is_sent sink.new) }
 {
     match text_of_parts(alloc, compiled, most) {
         Ok(text) => hand_out(sink, text.as_slice()),

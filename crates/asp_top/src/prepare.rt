@@ -1,12 +1,17 @@
 //! The program of a run: read from the source or made, and compiled.
-ghost use Rattle.std.specs.Prelude.{◌≡◌, ℕ, List, [], Option, None, Some, IfErr, IfOk};
+ghost use Rattle.std.specs.Prelude.{◌≡◌, ◌≤◌, ℕ, List, [], Option, None, Some, IfErr, IfOk, IfSome, IsErrOf, OnOk};
+ghost use Rattle.std.specs.Io.KnownBytes.{IsAtEnd};
+ghost use Rattle.asp_io.specs.Causes.{Rose};
+ghost use Rattle.asp_read.specs.Judging.{most_bytes};
+ghost use Rattle.asp_read.specs.Stream.{ReadsText};
+ghost use Rattle.asp_top.specs.Formats.{StopsFor, outcome_for};
 ghost use Rattle.asp_model.specs.Sound.{IsSound};
 ghost use Rattle.asp_cli.specs.Values.{IsRing};
 ghost use Rattle.asp_settle.specs.Settled.{facts_of, left_of};
 ghost use Rattle.asp_top.specs.Runs.{Prepares, is_settled, prepared_of, status_of};
 
 use crate::status::Status;
-use asp_cli::Options;
+use asp_cli::{Format, Options};
 use asp_io::Source;
 use asp_make::ring;
 use asp_model::interp::Interp;
@@ -14,6 +19,7 @@ use asp_model::program::Program;
 use asp_read::fault::ReadError;
 use asp_read::read_program;
 use asp_settle::settle::{Settled, settle};
+use asp_smodels::read_smodels;
 use asp_vars::compile::compile;
 use asp_vars::compiled::Compiled;
 use std::alloc::{AllocError, Global};
@@ -89,11 +95,28 @@ fn ready(alloc: Global, options: &Options, program: Program) -> Result<Prepared,
     }
 }
 
+// The program that the source gives in a format.
+fn read_in<S: Source>(alloc: Global, format: Format, source: &mut S) -> Result<Program, ReadError>
+    ensures text { IfSome (S.left source.old) (λ text. ReadsText result (outcome_for format text)) }
+    ensures some_text { (text : List ℕ) × ReadsText result (outcome_for format text) }
+    ensures sound { IfOk result IsSound }
+    ensures end { OnOk result (IsAtEnd (S.left source.new)) }
+    ensures later { S.faults source.old ≤ S.faults source.new }
+    ensures stops { StopsFor format most_bytes (S.left source.old) (S.left source.new) result }
+    ensures cause { IsErrOf result ReadError.ReadFault → Rose (S.faults source.old) (S.faults source.new) }
+    ensures quiet { ¬ IsErrOf result ReadError.ReadFault → S.faults source.new ≡ S.faults source.old }
+{
+    match format {
+        Format::Aspif => read_program(alloc, source),
+        Format::Smodels => read_smodels(alloc, source),
+    }
+}
+
 // The program that the source gives.
 fn read<S: Source>(alloc: Global, options: &Options, source: &mut S) -> Result<Prepared, Status>
     ensures { options.now.make ≡ None → Prepares options.now (S.left source.old) (S.left source.new) (S.faults source.old) (S.faults source.new) result }
 {
-    match read_program(alloc, source) {
+    match read_in(alloc, options.format, source) {
         Ok(program) => ready(alloc, options, program),
         Err(error) => Err(status_of(error)),
     }

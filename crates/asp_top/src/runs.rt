@@ -1,5 +1,5 @@
 //! A whole run: words, reading, solving and writing, in this order; the first that doesn't succeed decides.
-ghost use Rattle.std.specs.Prelude.{◌≡◌, None, IfSome, false, true, map, string_bytes};
+ghost use Rattle.std.specs.Prelude.{◌≡◌, None, IfSome, OnOk, false, true, map, string_bytes};
 ghost use Rattle.asp_cli.specs.Given.{fault_seen, options, words_give};
 ghost use Rattle.asp_cli.specs.declared.Options.{Options};
 ghost use Rattle.asp_cli.specs.Found.{IsApart};
@@ -7,7 +7,7 @@ ghost use Rattle.asp_cli.specs.Texts.{help_page, version_line};
 ghost use Rattle.asp_cli.specs.Values.{IsCrew, IsPartCount, IsRing};
 ghost use Rattle.asp_top.specs.Notes.{IsNoted, Writes, note_of};
 ghost use Rattle.asp_top.specs.Usage.{misuse_note};
-ghost use Rattle.asp_top.specs.Runs.{Does, IsCounted, NotesOn, NotesRun, Runs, RunsOn, TellsFaults, TextMeans, around, is_alone, prepared_of};
+ghost use Rattle.asp_top.specs.Runs.{Does, IsCounted, IsSentOn, NotesOn, NotesRun, Runs, RunsOn, TellsFaults, TextMeans, around, is_alone, prepared_of};
 ghost use Rattle.asp_top.specs.Whole.{IsWhole};
 ghost use Rattle.asp_model.specs.declared.program.Program.{Program};
 
@@ -38,8 +38,9 @@ fn write_page<K: Sink>(sink: &mut K) -> Result<(), Failed>
 
 // Writes the page of help, and flushes the sink.
 fn write_help<K: Sink>(sink: &mut K) -> Result<(), Failed>
-    ensures { Writes (K.held sink.old) (K.held sink.new) (K.faults sink.old) (K.faults sink.new)
+    ensures writes { Writes (K.held sink.old) (K.held sink.new) (K.faults sink.old) (K.faults sink.new)
         result help_page }
+    ensures sent { OnOk result (K.is_sent sink.new ≡ true) }
 {
     write_page(sink)?;
     sink.flush()
@@ -54,8 +55,9 @@ fn write_line<K: Sink>(sink: &mut K) -> Result<(), Failed>
 
 // Writes the line of the version, and flushes the sink.
 fn write_version<K: Sink>(sink: &mut K) -> Result<(), Failed>
-    ensures { Writes (K.held sink.old) (K.held sink.new) (K.faults sink.old) (K.faults sink.new)
+    ensures writes { Writes (K.held sink.old) (K.held sink.new) (K.faults sink.old) (K.faults sink.new)
         result version_line }
+    ensures sent { OnOk result (K.is_sent sink.new ≡ true) }
 {
     write_line(sink)?;
     sink.flush()
@@ -73,7 +75,8 @@ fn divide_or_solve<K: Sink, W: Watch>(
     requires parts { IsPartCount options.now.split }
     requires apart { IsApart options.now }
     ensures does { (p : Program) → prepared.now ≡ prepared_of options.now p → Does options.now p (K.held sink.old) (K.held sink.new) (K.faults sink.old) (K.faults sink.new) result }
-    ensures flushed { TellsFaults (K.held sink.old) (K.faults sink.old) (K.faults sink.new) result.status }
+    ensures flushed { TellsFaults (K.faults sink.old) (K.faults sink.new) result.status }
+    ensures sent { IsSentOn result.status (K.is_sent sink.new) }
     ensures counted { IfSome result.report (IsCounted true tally.new) }
     ensures heard { W.IsAfter watch.old watch.new }
 {
@@ -97,7 +100,8 @@ fn outcome_alone<S: Source, K: Sink, W: Watch>(
     requires apart { IsApart options.now }
     ensures runs { Runs options.now (around (S.left source.old) (S.left source.new) (S.faults source.old) (S.faults source.new)
         (K.held sink.old) (K.held sink.new) (K.faults sink.old) (K.faults sink.new)) result }
-    ensures flushed { TellsFaults (K.held sink.old) (K.faults sink.old) (K.faults sink.new) result.status }
+    ensures flushed { TellsFaults (K.faults sink.old) (K.faults sink.new) result.status }
+    ensures sent { IsSentOn result.status (K.is_sent sink.new) }
     ensures counted { IfSome result.report (IsCounted true tally.new) }
     ensures heard { W.IsAfter watch.old watch.new }
 {
@@ -128,7 +132,8 @@ fn outcome_by_crew<R: Threads + Wait + Sync, S: Source, K: Sink, G: Gate + Sync,
     requires apart { IsApart options.now }
     ensures runs { Runs options.now (around (S.left source.old) (S.left source.new) (S.faults source.old) (S.faults source.new)
         (K.held sink.old) (K.held sink.new) (K.faults sink.old) (K.faults sink.new)) result.0 }
-    ensures flushed { TellsFaults (K.held sink.old) (K.faults sink.old) (K.faults sink.new) result.0.status }
+    ensures flushed { TellsFaults (K.faults sink.old) (K.faults sink.new) result.0.status }
+    ensures sent { IsSentOn result.0.status (K.is_sent sink.new) }
     ensures counted { IfSome result.0.report (IsCounted false tally.new) }
     ensures heard { W.IsAfter watch result.1 }
 {
@@ -159,8 +164,9 @@ pub fn run_alone<S: Source, K: Sink, N: Sink>(
     requires apart { IsApart options.now }
     ensures runs { Runs options.now (around (S.left source.old) (S.left source.new) (S.faults source.old) (S.faults source.new)
         (K.held sink.old) (K.held sink.new) (K.faults sink.old) (K.faults sink.new)) result }
-    ensures whole { options.now.proof ≡ false → IsWhole options.now (S.left source.old) (K.held sink.old) (K.held sink.new) result.status }
-    ensures flushed { TellsFaults (K.held sink.old) (K.faults sink.old) (K.faults sink.new) result.status }
+    ensures whole { options.now.proof ≡ false → IsWhole options.now (S.left source.old) (K.held sink.old) (K.held sink.new) (K.is_sent sink.new) result.status }
+    ensures flushed { TellsFaults (K.faults sink.old) (K.faults sink.new) result.status }
+    ensures sent { IsSentOn result.status (K.is_sent sink.new) }
     ensures notes { NotesRun true options.now (N.held notes.old) (N.held notes.new) (N.faults notes.old) (N.faults notes.new) result }
 {
     let mut tally = Tally::new(alloc);
@@ -192,7 +198,8 @@ fn run_by_crew<R: Threads + Wait + Sync, S: Source, K: Sink, N: Sink, G: Gate + 
     requires apart { IsApart options.now }
     ensures runs { Runs options.now (around (S.left source.old) (S.left source.new) (S.faults source.old) (S.faults source.new)
         (K.held sink.old) (K.held sink.new) (K.faults sink.old) (K.faults sink.new)) result }
-    ensures flushed { TellsFaults (K.held sink.old) (K.faults sink.old) (K.faults sink.new) result.status }
+    ensures flushed { TellsFaults (K.faults sink.old) (K.faults sink.new) result.status }
+    ensures sent { IsSentOn result.status (K.is_sent sink.new) }
     ensures notes { NotesRun false options.now (N.held notes.old) (N.held notes.new) (N.faults notes.old) (N.faults notes.new) result }
 {
     let mut tally = Tally::new(alloc);
@@ -233,7 +240,8 @@ fn run_given<R: Threads + Wait + Sync, S: Source, K: Sink, N: Sink, G: Gate + Sy
     requires apart { IsApart options.now }
     ensures runs { Runs options.now (around (S.left source.old) (S.left source.new) (S.faults source.old) (S.faults source.new)
         (K.held sink.old) (K.held sink.new) (K.faults sink.old) (K.faults sink.new)) result }
-    ensures flushed { TellsFaults (K.held sink.old) (K.faults sink.old) (K.faults sink.new) result.status }
+    ensures flushed { TellsFaults (K.faults sink.old) (K.faults sink.new) result.status }
+    ensures sent { IsSentOn result.status (K.is_sent sink.new) }
     ensures notes { NotesRun (is_alone options.now) options.now (N.held notes.old) (N.held notes.new) (N.faults notes.old) (N.faults notes.new) result }
 {
     if is_alone(options) {
@@ -245,7 +253,8 @@ fn run_given<R: Threads + Wait + Sync, S: Source, K: Sink, N: Sink, G: Gate + Sy
 
 fn help<K: Sink>(sink: &mut K) -> Status
     ensures means { TextMeans help_page (K.held sink.old) (K.held sink.new) (K.faults sink.old) (K.faults sink.new) result }
-    ensures flushed { TellsFaults (K.held sink.old) (K.faults sink.old) (K.faults sink.new) result }
+    ensures flushed { TellsFaults (K.faults sink.old) (K.faults sink.new) result }
+    ensures sent { IsSentOn result (K.is_sent sink.new) }
 {
     match write_help(sink) {
         Ok(()) => Status::Help,
@@ -255,7 +264,8 @@ fn help<K: Sink>(sink: &mut K) -> Status
 
 fn tell_version<K: Sink>(sink: &mut K) -> Status
     ensures means { TextMeans version_line (K.held sink.old) (K.held sink.new) (K.faults sink.old) (K.faults sink.new) result }
-    ensures flushed { TellsFaults (K.held sink.old) (K.faults sink.old) (K.faults sink.new) result }
+    ensures flushed { TellsFaults (K.faults sink.old) (K.faults sink.new) result }
+    ensures sent { IsSentOn result (K.is_sent sink.new) }
 {
     match write_version(sink) {
         Ok(()) => Status::Help,
@@ -303,8 +313,9 @@ pub fn run<R: Threads + Wait + Sync, S: Source, K: Sink, N: Sink, G: Gate + Sync
     ensures runs { RunsOn (words_give (map string_bytes words.now)) (around (S.left source.old) (S.left source.new) (S.faults source.old) (S.faults source.new)
         (K.held sink.old) (K.held sink.new) (K.faults sink.old) (K.faults sink.new)) result }
     ensures whole { (given : Options) → words_give (map string_bytes words.now) ≡ options given → given.proof ≡ false
-        → IsWhole given (S.left source.old) (K.held sink.old) (K.held sink.new) result.status }
-    ensures flushed { TellsFaults (K.held sink.old) (K.faults sink.old) (K.faults sink.new) result.status }
+        → IsWhole given (S.left source.old) (K.held sink.old) (K.held sink.new) (K.is_sent sink.new) result.status }
+    ensures flushed { TellsFaults (K.faults sink.old) (K.faults sink.new) result.status }
+    ensures sent { IsSentOn result.status (K.is_sent sink.new) }
     ensures notes { NotesOn (words_give (map string_bytes words.now)) (N.held notes.old) (N.held notes.new) (N.faults notes.old) (N.faults notes.new)
         result }
 {

@@ -5,7 +5,7 @@ ghost use Rattle.asp_cli.specs.Values.{IsCrew};
 ghost use Rattle.asp_crew_laws.specs.Proofs.{HasProof};
 ghost use Rattle.asp_crew_laws.specs.Reports.{IsReport};
 ghost use Rattle.asp_model.specs.declared.program.Program.{Program};
-ghost use Rattle.asp_top.specs.Runs.{Concludes, IsCounted, Solves, TellsFaults, ask_of, is_brief, prepared_of, told_with};
+ghost use Rattle.asp_top.specs.Runs.{Concludes, IsCounted, IsSentOn, Solves, TellsFaults, ask_of, is_brief, prepared_of, told_with};
 
 use crate::counts::Tally;
 use crate::deliver::{deliver, failed};
@@ -72,7 +72,8 @@ fn conclude<K: Sink>(
     report: Report,
 ) -> Outcome
     ensures concludes { Concludes brief program.now facts.now report (K.held sink.old) (K.held sink.new) (K.faults sink.old) (K.faults sink.new) result }
-    ensures flushed { TellsFaults (K.held sink.old) (K.faults sink.old) (K.faults sink.new) result.status }
+    ensures flushed { TellsFaults (K.faults sink.old) (K.faults sink.new) result.status }
+    ensures sent { IsSentOn result.status (K.is_sent sink.new) }
 {
     match told(alloc, facts, report) {
         Ok(report) => deliver(alloc, sink, brief, program, report),
@@ -91,7 +92,8 @@ pub fn solve<K: Sink, W: Watch>(
 ) -> Outcome
     requires { IsApart options.now }
     ensures solves { (p : Program) → prepared.now ≡ prepared_of options.now p → Solves options.now p (K.held sink.old) (K.held sink.new) (K.faults sink.old) (K.faults sink.new) result }
-    ensures flushed { TellsFaults (K.held sink.old) (K.faults sink.old) (K.faults sink.new) result.status }
+    ensures flushed { TellsFaults (K.faults sink.old) (K.faults sink.new) result.status }
+    ensures sent { IsSentOn result.status (K.is_sent sink.new) }
     ensures counted { IfSome result.report (IsCounted true tally.new) }
     ensures heard { W.IsAfter watch.old watch.new }
 {
@@ -164,7 +166,8 @@ pub fn solve_by_crew<R: Threads + Wait + Sync, K: Sink, G: Gate + Sync, W: Watch
     requires crew { IsCrew options.now.workers }
     requires apart { IsApart options.now }
     ensures solves { (p : Program) → prepared.now ≡ prepared_of options.now p → Solves options.now p (K.held sink.old) (K.held sink.new) (K.faults sink.old) (K.faults sink.new) result.0 }
-    ensures flushed { TellsFaults (K.held sink.old) (K.faults sink.old) (K.faults sink.new) result.0.status }
+    ensures flushed { TellsFaults (K.faults sink.old) (K.faults sink.new) result.0.status }
+    ensures sent { IsSentOn result.0.status (K.is_sent sink.new) }
     ensures counted { IfSome result.0.report (IsCounted false tally.new) }
     ensures heard { W.IsAfter watch result.1 }
 {

@@ -1,5 +1,4 @@
 use Rattle.std.proofs.Common.{◌≡◌, ◌≤◌, ◌-◌, vec_len}
-use Rattle.std.specs.Prelude.{IsSome}
 use Rattle.std.specs.Io.KnownBytes.{Consumes}
 use Rattle.asp_proof.proofs.source.read_all.Given as goal
 
@@ -7,7 +6,7 @@ abbrev pub invariant-reading : goal.invariant-reading
 invariant-reading g l = record {
   taken : Consumes (g.S.Source.left l.initial.source) (g.S.Source.left l.source) l.text.items;
   short : vec_len l.text ≤ 268435456;
-  quiet : IsSome (g.S.Source.left l.initial.source) → g.S.Source.faults l.source ≡ g.S.Source.faults l.initial.source;
+  quiet : g.S.Source.faults l.source ≡ g.S.Source.faults l.initial.source;
   later : g.S.Source.faults l.initial.source ≤ g.S.Source.faults l.source;
 }
 

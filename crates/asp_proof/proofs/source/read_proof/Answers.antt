@@ -13,10 +13,10 @@ pub returns-in_err-text-clause-cause : goal.returns-in_err-text-clause-cause
 returns-in_err-text-clause-cause g c = let p = err_from_is_err_and c.from_residual.result c.from_residual.ensures.1 in λ h. c.in_err-text.ensures.cause (ap Err (same_fault c.from_residual.result _ _ _ p.1 p.2 h))
 
 pub returns-in_err-text-clause-quiet : goal.returns-in_err-text-clause-quiet
-returns-in_err-text-clause-quiet g c = let p = err_from_is_err_and c.from_residual.result c.from_residual.ensures.1 in λ t n. c.in_err-text.ensures.quiet t (λ h. n (p.1 ∙ ap Err (p.2 ∙ same_fault (Err _) _ _ _ refl refl h)))
+returns-in_err-text-clause-quiet g c = let p = err_from_is_err_and c.from_residual.result c.from_residual.ensures.1 in λ n. c.in_err-text.ensures.quiet (λ h. n (p.1 ∙ ap Err (p.2 ∙ same_fault (Err _) _ _ _ refl refl h)))
 
 pub returns-clause-cause : goal.returns-clause-cause
 returns-clause-cause g c = λ h. absurd (c.parse.ensures.no_read h)
 
 pub returns-clause-quiet : goal.returns-clause-quiet
-returns-clause-quiet g c = λ t n. c.in_ok-text.ensures.quiet t (λ h. absurd (ok_or_err _ _ h))
+returns-clause-quiet g c = λ n. c.in_ok-text.ensures.quiet (λ h. absurd (ok_or_err _ _ h))

@@ -3,7 +3,7 @@ use Rattle.std.specs.Io.KnownBytes.{Consumes}
 use Rattle.std.proofs.lemmas.List.{length-take-le}
 use Rattle.std.proofs.lemmas.Result.{err_from_is_err_and}
 use Rattle.asp_text.specs.Unread.{Unread}
-use Rattle.asp_read.proofs.Supply.{starts, ended, any_text, taken, told, stopped_as, over, never, same_piece, parts, stops_failed, stops_ended, stops_refused, stops_over}
+use Rattle.asp_read.proofs.Supply.{starts, ended, any_text, taken, stopped_as, over, never, same_piece, parts, stops_failed, stops_ended, stops_refused, stops_over}
 use Rattle.asp_read.proofs.stream.read_all.Goals as goal
 
 -- ---- a failed read
@@ -35,7 +35,7 @@ returns-then-count-eq0-clause-ends_there g c =
     λ r of_lines. stops_ended g.J.Judge.format c.args.limit (left c.args.source.now) (left c.reading.source) (left c.read.new.self) c.reading.lines c.reading.reader c.reading.room r c.reading.invariant.text eaten (c.in-Ok.ensures.bytes.1 c.if-count-eq0.true some) c.reading.invariant.none_left of_lines
 
 pub returns-then-count-eq0-clause-quiet : goal.returns-then-count-eq0-clause-quiet
-returns-then-count-eq0-clause-quiet g c = λ t _. c.in-Ok.ensures.quiet (told g.J.Judge.format _ (g.S.Source.left c.reading.source) c.args.limit c.reading.lines c.reading.reader c.reading.room c.reading.invariant.text t) ∙ c.reading.invariant.quiet t
+returns-then-count-eq0-clause-quiet g c = λ _. c.in-Ok.ensures.quiet ∙ c.reading.invariant.quiet
 
 -- ---- more than may come
 
@@ -59,7 +59,7 @@ returns-in_err-take_piece-clause-cause g c =
     λ h. absurd (never c.from_residual.result p.0 c.in_err-take_piece.field-0.0 p.1 p.2 c.in_err-take_piece.ensures.of_lines h)
 
 pub returns-in_err-take_piece-clause-quiet : goal.returns-in_err-take_piece-clause-quiet
-returns-in_err-take_piece-clause-quiet g c = λ t _. c.in-Ok.ensures.quiet (told g.J.Judge.format _ (g.S.Source.left c.reading.source) c.args.limit c.reading.lines c.reading.reader c.reading.room c.reading.invariant.text t) ∙ c.reading.invariant.quiet t
+returns-in_err-take_piece-clause-quiet g c = λ _. c.in-Ok.ensures.quiet ∙ c.reading.invariant.quiet
 
 pub returns-then-count-room-clause-answers : goal.returns-then-count-room-clause-answers
 returns-then-count-room-clause-answers g c =
@@ -74,7 +74,7 @@ returns-then-count-room-clause-stops g c =
     stops_over g.J.Judge.format _ (left c.reading.source) (left c.read.new.self) (take c.reading.room (c.read.new.buf ++ drop c.min-most.result c.reading.buf)) (drop c.reading.room (take c.in-Ok.count c.read.new.buf)) c.args.limit c.reading.lines c.take_piece.new.lines c.reading.reader c.take_piece.new.reader c.reading.room c.reading.invariant.text q.eaten (sym q.front) (omega (arith, q.back, c.if-count-room.true)) c.reading.invariant.none_left c.in_ok-take_piece.ensures.none_left c.in_ok-take_piece.ensures.goes_on
 
 pub returns-then-count-room-clause-quiet : goal.returns-then-count-room-clause-quiet
-returns-then-count-room-clause-quiet g c = λ t _. c.in-Ok.ensures.quiet (told g.J.Judge.format _ (g.S.Source.left c.reading.source) c.args.limit c.reading.lines c.reading.reader c.reading.room c.reading.invariant.text t) ∙ c.reading.invariant.quiet t
+returns-then-count-room-clause-quiet g c = λ _. c.in-Ok.ensures.quiet ∙ c.reading.invariant.quiet
 
 -- ---- one more piece
 
@@ -98,14 +98,14 @@ returns-in_err-take_piece-2-clause-cause g c =
     λ h. absurd (never c.from_residual-in_err-take_piece-2.result p.0 c.in_err-take_piece-2.field-0.0 p.1 p.2 c.in_err-take_piece-2.ensures.of_lines h)
 
 pub returns-in_err-take_piece-2-clause-quiet : goal.returns-in_err-take_piece-2-clause-quiet
-returns-in_err-take_piece-2-clause-quiet g c = λ t _. c.in-Ok.ensures.quiet (told g.J.Judge.format _ (g.S.Source.left c.reading.source) c.args.limit c.reading.lines c.reading.reader c.reading.room c.reading.invariant.text t) ∙ c.reading.invariant.quiet t
+returns-in_err-take_piece-2-clause-quiet g c = λ _. c.in-Ok.ensures.quiet ∙ c.reading.invariant.quiet
 
 pub reading-init : goal.reading-init
 reading-init g c = record {
   text = starts g.J.Judge.format (g.S.Source.left c.args.source.now) c.args.limit c.args.lines.now c.args.reader.now c.requires.lines c.requires.start;
   none_left = rw c.requires.lines refl;
   fed = omega (arith, ap (λ (u : Unread). u.fed) c.requires.lines);
-  quiet = λ _. refl;
+  quiet = refl;
   later = omega arith;
 }
 
@@ -121,6 +121,6 @@ reading-preserved g c =
       text = taken g.J.Judge.format _ (left c.reading.source) (left c.read.new.self) piece c.args.limit c.reading.lines c.take_piece-in-reading.new.lines c.reading.reader c.take_piece-in-reading.new.reader c.reading.room (c.reading.room - c.in-Ok.count) c.reading.invariant.text eaten (omega (arith, len, c.if-count-room.false)) c.in_ok-take_piece-2.ensures.goes_on;
       none_left = c.in_ok-take_piece-2.ensures.none_left;
       fed = omega (arith, c.in_ok-take_piece-2.ensures.fed, len, c.if-count-room.false, c.reading.invariant.fed);
-      quiet = λ t. c.in-Ok.ensures.quiet (told g.J.Judge.format _ (left c.reading.source) c.args.limit c.reading.lines c.reading.reader c.reading.room c.reading.invariant.text t) ∙ c.reading.invariant.quiet t;
+      quiet = c.in-Ok.ensures.quiet ∙ c.reading.invariant.quiet;
       later = omega (arith, c.reading.invariant.later, c.in-Ok.ensures.cause.later);
     }

@@ -5,7 +5,7 @@ use Rattle.asp_top.proofs.TellLaws.{moved, told_in_all}
 use Rattle.asp_top.proofs.runs.run_alone.Goals as goal
 
 pub returns-clause-whole : goal.returns-clause-whole
-returns-clause-whole g c = λ plain. whole c.args.options.now _ _ plain c.outcome_alone-outcome.ensures.runs
+returns-clause-whole g c = λ plain. whole c.args.options.now _ _ _ plain c.outcome_alone-outcome.ensures.runs c.outcome_alone-outcome.ensures.sent
 
 pub returns-clause-notes : goal.returns-clause-notes
 returns-clause-notes g c = record {

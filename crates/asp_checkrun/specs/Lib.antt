@@ -1,0 +1,5 @@
+pub mod Given
+pub mod Texts
+pub mod Statuses
+pub mod Notes
+pub mod Runs

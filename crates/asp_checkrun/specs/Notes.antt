@@ -1,0 +1,80 @@
+-- What is said on standard error.
+use Rattle.std.specs.Prelude.{ℕ, List, [], ◌++◌, codes, decimal}
+use Rattle.asp_checker.specs.declared.judge.Why.{Why}
+use Rattle.asp_checker.specs.declared.judge.Why.TheVariants as why
+use Rattle.asp_checker.specs.declared.run.CheckStatus.{CheckStatus}
+use Rattle.asp_checker.specs.declared.run.CheckStatus.TheVariants as check
+use Rattle.asp_faults.specs.Faults.{fault_text}
+use Rattle.asp_proof.specs.declared.error.ProofError.{ProofError}
+use Rattle.asp_proof.specs.declared.error.ProofError.TheVariants as proof
+use Rattle.asp_read.specs.declared.fault.ReadError.{ReadError}
+use Rattle.asp_read.specs.declared.fault.ReadError.TheVariants as read
+use Rattle.asp_checkrun.specs.declared.status.Status.{Status}
+use Rattle.asp_checkrun.specs.declared.status.Status.TheVariants as status
+use Rattle.asp_checkrun.specs.Given.{Given, Misuse, bad_value, misuse, missing, twice, unknown}
+use Rattle.asp_checkrun.specs.Texts.{usage_line}
+
+-- why a line of a proof isn't right
+abbrev pub why_text : Why → List ℕ
+why_text why.Member = codes "the set is no stable model in which the assumptions hold"
+why_text why.Order = codes "the set doesn't come after the one before it, or is a second one where an optimum was sought"
+why_text why.Literal = codes "the program has no such variable or atom"
+why_text why.Loop = codes "the set has support from outside"
+why_text why.NotImplied = codes "it doesn't follow from the lines before it"
+why_text why.NotWhole = codes "no line before it says that there is nothing else"
+
+-- a line of the proof, and what is said of it
+abbrev pub proof_line : ℕ → List ℕ → List ℕ
+proof_line n text = codes "aspcheck: line " ++ decimal n ++ codes " of the proof: " ++ (text ++ codes "\n")
+
+-- why the program's text was refused
+abbrev pub program_note : ReadError → List ℕ
+program_note read.Memory = codes "aspcheck: out of memory\n"
+program_note read.ReadFault = codes "aspcheck: read failed\n"
+program_note read.TooLong = codes "aspcheck: input too long\n"
+program_note (read.Refused f line) = codes "aspcheck: line " ++ decimal line ++ fault_text f ++ codes "\n"
+
+-- why the proof's text was
+abbrev pub proof_note : ProofError → List ℕ
+proof_note proof.Memory = codes "aspcheck: out of memory\n"
+proof_note proof.ReadFault = codes "aspcheck: read failed\n"
+proof_note proof.TooLong = codes "aspcheck: input too long\n"
+proof_note (proof.Refused n) = proof_line n (codes "wrong or missing")
+
+abbrev pub check_note : CheckStatus → List ℕ
+check_note check.Yes = []
+check_note (check.No w n) = proof_line n (why_text w)
+check_note check.Memory = codes "aspcheck: out of memory\n"
+check_note (check.Program e) = program_note e
+check_note check.ReadFault = codes "aspcheck: read failed\n"
+check_note check.TooLong = codes "aspcheck: input too long\n"
+check_note check.NoProof = codes "aspcheck: no line is 'proof 1', with which a proof begins (the program's last line needs its line feed)\n"
+check_note (check.Proof e) = proof_note e
+check_note check.WriteFault = codes "aspcheck: write failed\n"
+
+-- the lines for a status; Usage is here that of arguments that can't be had
+abbrev pub note_of : Status → List ℕ
+note_of (status.Checked s) = check_note s
+note_of status.Told = []
+note_of status.Memory = codes "aspcheck: out of memory\n"
+note_of status.Usage = codes "aspcheck: an argument is not UTF-8\n" ++ usage_line
+note_of status.WriteFault = codes "aspcheck: write failed\n"
+
+-- the end of a fault's line, and the usage line
+abbrev pub usage_text : List ℕ
+usage_text = codes "\n" ++ usage_line
+
+abbrev pub misuse_text : Misuse → List ℕ
+misuse_text (unknown w) = codes "unknown argument " ++ w ++ codes " (the program and its proof are read from standard input; see --help)"
+misuse_text twice = codes "--format is given twice"
+misuse_text missing = codes "a value is missing after --format"
+misuse_text (bad_value v) = codes "--format takes aspif or smodels, not " ++ v
+
+-- the line of the fault, and the usage line
+abbrev pub misuse_note : Misuse → List ℕ
+misuse_note m = codes "aspcheck: " ++ misuse_text m ++ usage_text
+
+-- what is said of arguments and of how the run ended
+abbrev pub note_for : Given → Status → List ℕ
+note_for (misuse m) s = misuse_note m
+note_for given s = note_of s
