@@ -25,7 +25,7 @@ use Rattle.asp_settle.proofs.ResultLaws as results
 use Rattle.asp_settle.proofs.SoundLaws as limits
 use Rattle.asp_settle.proofs.TextLaws as texts
 
-sound-first : (p : Program) → IsSound p → IsSound (constrained p)
+pub sound-first : (p : Program) → IsSound p → IsSound (constrained p)
 sound-first p sound = sound-constrained (denied_of p) p sound
 
 pub sound-left : (p : Program) → IsSound p → IsSound (left_of p)
