@@ -1,6 +1,6 @@
 -- Rules for atoms that are assumed false may as well be constraints: the answers are the same.
 use Rattle.std.proofs.Common.{◌≡◌, ℕ, suc, Bool, true, false, not, cond, ◌&&◌, ◌||◌, eqb, nat_lt, List, [], ◌∷◌, ◌++◌, map, filter, flat_map, ℤ, pos, negsuc, refl, sym, ap, ◌∙◌, inl, inr, ◌⊎◌, Contains}
-use Rattle.std.specs.List.{AllByRecursion, list_any, list_all}
+use Rattle.std.specs.List.{AllByRecursion, list_any}
 use Rattle.std.proofs.lemmas.Bool.{and_from, and_parts, both_ways, eq-eqb, eqb-true, false≢true, false_from_ne_true, ne_eqb, not-true, or_cases, or_from, or_left, or_parts}
 use Rattle.std.proofs.lemmas.List.{map-append}
 use Rattle.std.proofs.lemmas.List.Folds.{list_any-append}
@@ -18,7 +18,7 @@ use Rattle.asp_model.specs.Reduct.{reduct, reduct_heads, step}
 use Rattle.asp_model.specs.Models.{answers, external_rule, head_atoms, is_never, is_stable, is_violated, last_value, least_model, open_atoms, rules_in_force}
 use Rattle.asp_model.specs.Opening.{opened_rules}
 use Rattle.asp_model.specs.Sound.{IsSound}
-use Rattle.asp_model.proofs.SetLaws.{IsAscending-set_of, has-set_of, same_from_has}
+use Rattle.asp_model.proofs.SetLaws.{has-set_of, same_from_has}
 use Rattle.asp_model.proofs.MemberLaws.{HasAll-itself, each-filter, each_of, each_weaker, list_any-map, list_any-weaker}
 use Rattle.asp_model.proofs.StepLaws.{closed_from_step, step-subset}
 use Rattle.asp_model.proofs.ReadingLaws.{same_body}

@@ -1,7 +1,7 @@
 -- A program with constraints in place of rules is within the ranges and limits, and has no other atoms.
-use Rattle.std.proofs.Common.{◌≡◌, ℕ, Bool, true, false, not, cond, ◌&&◌, ◌||◌, eqb, nat_lt, leb, List, [], ◌∷◌, ◌++◌, length, map, filter, flat_map, ℤ, refl, sym, ap, ◌∙◌, inl, inr, arith}
+use Rattle.std.proofs.Common.{◌≡◌, ℕ, Bool, true, false, not, cond, ◌&&◌, ◌||◌, eqb, List, [], ◌∷◌, ◌++◌, length, map, filter, flat_map, ℤ, refl, sym, ap, ◌∙◌, inl, inr, arith}
 use Rattle.std.specs.Prelude.{nat_le, ◌+◌}
-use Rattle.std.specs.List.{list_any, list_all, sum_by}
+use Rattle.std.specs.List.{list_all, sum_by}
 use Rattle.std.proofs.lemmas.Bool.{and_from, and_parts, false≢true, or_cases, or_left, or_right}
 use Rattle.std.proofs.lemmas.List.{length-map}
 use Rattle.std.proofs.lemmas.List.Folds.{list_any-append}

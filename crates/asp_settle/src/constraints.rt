@@ -57,11 +57,7 @@ fn push_constrained(
     }
 }
 
-fn constrained_rules(
-    alloc: Global,
-    denied: &AtomTable,
-    rules: &Rules,
-) -> Result<Rules, AllocError>
+fn constrained_rules(alloc: Global, denied: &AtomTable, rules: &Rules) -> Result<Rules, AllocError>
     ensures { IfOk result (λ left. left ≡ map (constrained_rule denied.now) rules.now) }
 {
     let mut left = Rules::new(alloc)?;
@@ -91,11 +87,7 @@ struct Kept {
 }
 
 // The program with constraints in place of rules for denied atoms.
-fn constrain(
-    alloc: Global,
-    denied: &AtomTable,
-    program: Program,
-) -> Result<Program, AllocError>
+fn constrain(alloc: Global, denied: &AtomTable, program: Program) -> Result<Program, AllocError>
     ensures { IfOk result (λ left. left ≡ constrained_by denied.now program) }
 {
     let Program {
