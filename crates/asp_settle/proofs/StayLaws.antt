@@ -11,7 +11,8 @@ use Rattle.asp_model.specs.declared.program.Output.{Output}
 use Rattle.asp_model.specs.declared.program.Rule.{Rule}
 use Rattle.asp_model.specs.Sets.{Atoms, has}
 use Rattle.asp_model.specs.Holding.{atom_of, is_negative, is_positive}
-use Rattle.asp_settle.specs.Settled.{is_barred, lowered, settled_body, settled_head, settled_literals, settled_output, settled_rule, settled_weight}
+use Rattle.asp_settle.specs.Constraints.{is_barred}
+use Rattle.asp_settle.specs.Settled.{lowered, settled_body, settled_head, settled_literals, settled_output, settled_rule, settled_weight}
 
 filter-kept : {X : Type 0} (p : X → Bool) (xs : List X) → list_all p xs ≡ true → filter p xs ≡ xs
 filter-kept p [] h = refl
