@@ -3,11 +3,12 @@ ghost use Rattle.std.specs.Prelude.{◌≡◌, false, true, IfSome};
 ghost use Rattle.asp_cli.specs.Found.{AreApart, IsApart, clashes, dividing, found_with, has, options_of, proving_or_dividing, rival_of, seeks_consequences, solving};
 ghost use Rattle.asp_cli.specs.Values.{IsCrew, IsPartCount, IsRing};
 
-use crate::{Format, Options};
 use crate::names::Name;
 use crate::values::{
-    LARGEST_RING, LEAST_RING, MOST_MODELS, MOST_PARTS, MOST_UNITS, MOST_WORKERS, named_format, named_mode, number,
+    LARGEST_RING, LEAST_RING, MOST_MODELS, MOST_PARTS, MOST_UNITS, MOST_WORKERS, named_format,
+    named_mode, number,
 };
+use crate::{Format, Options};
 use asp_model::results::Mode;
 
 /// The options that were given, each with its value.
