@@ -59,9 +59,16 @@ def statement(random_, atoms):
     return [2, random_.randint(0, 2), len(chosen)] + items
 
 
+def without_constraints(lines):
+    """Each constraint as a rule for an atom that is assumed false, as gringo's smodels text has it."""
+    return [line.replace("1 0 0 ", "1 0 1 30 ", 1) if line.startswith("1 0 0 ") else line for line in lines] + ["6 1 -30"]
+
+
 def program(random_):
     numbers = sorted(random_.sample(range(1, 30), random_.randint(1, 7)))
     lines = [" ".join(map(str, statement(random_, numbers))) for _ in range(random_.randint(1, 12))]
+    if random_.random() < 0.2:
+        lines = without_constraints(lines)
     lines += [f"4 {len(f'p({a})')} p({a}) 1 {a}" for a in numbers]
     return "asp 1 0 0\n" + "\n".join(lines) + "\n0\n"
 

@@ -23,27 +23,28 @@ use Rattle.asp_model.proofs.SetLaws.{IsAscending-set_of, has-set_of}
 use Rattle.asp_model.proofs.MemberLaws.{each_of, list_any-flat_map, list_any-weaker}
 use Rattle.asp_model.proofs.ModelLaws.{least_model-derived}
 use Rattle.asp_model.proofs.ConsequenceLaws.{ascends-filter, has-filter}
-use Rattle.asp_settle.specs.Settled.{fact_of, facts_of, is_always, left_of, needed, reach, single, united}
+use Rattle.asp_settle.specs.Constraints.{reach}
+use Rattle.asp_settle.specs.Settled.{fact_of, facts_in, is_always, left_in, needed, single, united}
 use Rattle.asp_settle.proofs.ReadLaws.{holds-united}
 use Rattle.asp_settle.proofs.RuleLaws.{derives_at, has-step}
 
-pub facts-ascend : (p : Program) → IsAscending (facts_of p)
+pub facts-ascend : (p : Program) → IsAscending (facts_in p)
 facts-ascend p = ascends-filter (λ a. nat_lt a (reach p) && not (has (needed p) a)) (set_of (flat_map fact_of p.rules)) (IsAscending-set_of (flat_map fact_of p.rules))
 
-pub has-facts : (p : Program) (a : ℕ) → has (facts_of p) a ≡ ((nat_lt a (reach p) && not (has (needed p) a)) && has (flat_map fact_of p.rules) a)
+pub has-facts : (p : Program) (a : ℕ) → has (facts_in p) a ≡ ((nat_lt a (reach p) && not (has (needed p) a)) && has (flat_map fact_of p.rules) a)
 has-facts p a =
     has-filter (λ b. nat_lt b (reach p) && not (has (needed p) b)) (set_of (flat_map fact_of p.rules)) a
     ∙ ap (λ b. (nat_lt a (reach p) && not (has (needed p) a)) && b) (has-set_of (flat_map fact_of p.rules) a)
 
-pub fact-given : (p : Program) (a : ℕ) → has (facts_of p) a ≡ true → has (flat_map fact_of p.rules) a ≡ true
+pub fact-given : (p : Program) (a : ℕ) → has (facts_in p) a ≡ true → has (flat_map fact_of p.rules) a ≡ true
 fact-given p a h = (and_parts _ (has (flat_map fact_of p.rules) a) (sym (has-facts p a) ∙ h)).1
 
-pub fact-unneeded : (p : Program) (a : ℕ) → has (facts_of p) a ≡ true → has (needed p) a ≡ false
+pub fact-unneeded : (p : Program) (a : ℕ) → has (facts_in p) a ≡ true → has (needed p) a ≡ false
 fact-unneeded p a h =
     not-true (has (needed p) a) (and_parts (nat_lt a (reach p)) _ (and_parts (nat_lt a (reach p) && not (has (needed p) a)) _ (sym (has-facts p a) ∙ h)).0).1
 
-pub needed-apart : (p : Program) (a : ℕ) → has (needed p) a ≡ true → has (facts_of p) a ≡ false
-needed-apart p a h = false_from_ne_true (has (facts_of p) a) (λ fact. both_ways (has (needed p) a) (fact-unneeded p a fact) h)
+pub needed-apart : (p : Program) (a : ℕ) → has (needed p) a ≡ true → has (facts_in p) a ≡ false
+needed-apart p a h = false_from_ne_true (has (facts_in p) a) (λ fact. both_ways (has (needed p) a) (fact-unneeded p a fact) h)
 
 -- ---- facts are derived
 fact_derived : (S T : Atoms) (a : ℕ) (h : Head) (b : Body) → has (cond (is_always b) (single h) []) a ≡ true → (has (reduct_heads S h) a && body_holds_between S T b) ≡ true
@@ -53,7 +54,7 @@ fact_derived S T a head.Never (body.All []) e = absurd (false≢true e)
 fact_derived S T a h (body.All (l ∷ ls)) e = absurd (false≢true e)
 fact_derived S T a h (body.AtLeast bound items) e = absurd (false≢true e)
 
-pub facts-derived : (p : Program) → IsSound p → (S : Atoms) → IsSubset (facts_of p) (least_model p S)
+pub facts-derived : (p : Program) → IsSound p → (S : Atoms) → IsSubset (facts_in p) (least_model p S)
 facts-derived p sound S a h =
     let L = least_model p S in
     let by_rule : list_any (λ (r : Rule). has (fact_of r) a) p.rules ≡ true = sym (list_any-flat_map (λ b. eqb b a) fact_of p.rules) ∙ fact-given p a h in
@@ -88,8 +89,8 @@ all-clear F S (l ∷ ls) clear =
     ap (λ b. b && all_hold (united F S) ls) (literal-clear F S l (first-clear F (atom_of l) (map atom_of ls) clear))
     ∙ ap (λ b. holds S l && b) (all-clear F S ls (later-clear F (atom_of l) (map atom_of ls) clear))
 
-pub assumed-left : (p : Program) (S : Atoms) → all_hold (united (facts_of p) S) p.assumptions ≡ all_hold S (left_of p).assumptions
-assumed-left p S = all-clear (facts_of p) S p.assumptions (clear-right (facts_of p) _ (map atom_of p.assumptions) (needed-apart p))
+pub assumed-left : (p : Program) (S : Atoms) → all_hold (united (facts_in p) S) p.assumptions ≡ all_hold S (left_in p).assumptions
+assumed-left p S = all-clear (facts_in p) S p.assumptions (clear-right (facts_in p) _ (map atom_of p.assumptions) (needed-apart p))
 
 weight-clear : (F S : Atoms) (items : List (ℤ × ℤ)) → IsClear F (map (λ item. atom_of item.0) items) → weight_of (united F S) items ≡ weight_of S items
 weight-clear F S [] clear = refl
@@ -110,6 +111,6 @@ map-same : (f g : ℤ → ℤ) (qs : List ℤ) → ((q : ℤ) → f q ≡ g q) �
 map-same f g [] h = refl
 map-same f g (q ∷ qs) h = ap (λ z. z ∷ map f qs) (h q) ∙ ap (λ zs. g q ∷ zs) (map-same f g qs h)
 
-pub cost-left : (p : Program) (S : Atoms) → cost p (united (facts_of p) S) ≡ cost (left_of p) S
+pub cost-left : (p : Program) (S : Atoms) → cost p (united (facts_in p) S) ≡ cost (left_in p) S
 cost-left p S =
-    map-same (cost_at (united (facts_of p) S) p.minimize) (cost_at S p.minimize) (priorities p.minimize) (λ q. cost-clear (facts_of p) S p.minimize q (clear-left (facts_of p) (minimized p.minimize) (map atom_of p.assumptions) (needed-apart p)))
+    map-same (cost_at (united (facts_in p) S) p.minimize) (cost_at S p.minimize) (priorities p.minimize) (λ q. cost-clear (facts_in p) S p.minimize q (clear-left (facts_in p) (minimized p.minimize) (map atom_of p.assumptions) (needed-apart p)))

@@ -7,6 +7,9 @@ pub mod OpenLaws
 pub mod SoundLaws
 pub mod MentionLaws
 pub mod ResultLaws
+pub mod LimitLaws
+pub mod ConstraintLaws
+pub mod SettledLaws
 pub mod TableLaws
 pub mod WeightLaws
 pub mod StayLaws

@@ -16,14 +16,15 @@ use Rattle.asp_model.specs.Models.{atoms_of, head_atoms, mentions}
 use Rattle.asp_model.proofs.SetLaws.{has-set_of}
 use Rattle.asp_model.proofs.MemberLaws.{each-flat_map, each-map, each_of, each_weaker, list_any-flat_map, list_any-weaker}
 use Rattle.asp_model.proofs.ConsequenceLaws.{has-filter}
-use Rattle.asp_settle.specs.Settled.{facts_of, heads_of, is_barred, left_of, settled_body, settled_head, settled_literals, settled_output, settled_rule}
+use Rattle.asp_settle.specs.Constraints.{is_barred}
+use Rattle.asp_settle.specs.Settled.{facts_in, heads_of, left_in, settled_body, settled_head, settled_literals, settled_output, settled_rule}
 use Rattle.asp_settle.proofs.FactLaws.{fact-unneeded}
 use Rattle.asp_settle.proofs.OpenLaws.{facts-heads}
 
 abbrev atoms_at : Rule → List ℕ
 atoms_at r = head_atoms r.head ++ body_atoms r.body
 
-pub facts-stand : (p : Program) → IsSubset (facts_of p) (atoms_of p)
+pub facts-stand : (p : Program) → IsSubset (facts_in p) (atoms_of p)
 facts-stand p a h =
     let heads : list_any (λ (r : Rule). has (head_atoms r.head) a) p.rules ≡ true = sym (list_any-flat_map (λ b. eqb b a) (λ (r : Rule). head_atoms r.head) p.rules) ∙ facts-heads p a h in
     let rules : has (flat_map atoms_at p.rules) a ≡ true =
@@ -36,7 +37,7 @@ facts-stand p a h =
     has-set_of (mentions p) a ∙ front (((flat_map atoms_at p.rules ++ items) ++ outputs) ++ externals) (map atom_of p.assumptions) (front ((flat_map atoms_at p.rules ++ items) ++ outputs) externals (front (flat_map atoms_at p.rules ++ items) outputs (front (flat_map atoms_at p.rules) items rules)))
 
 -- ---- none of them is left
-none-among : {X : Type 0} (p : X → Bool) (xs : List X) → AllByRecursion (λ x. p x ≡ false) xs → list_any p xs ≡ false
+pub none-among : {X : Type 0} (p : X → Bool) (xs : List X) → AllByRecursion (λ x. p x ≡ false) xs → list_any p xs ≡ false
 none-among p [] h = refl
 none-among p (x ∷ xs) h = or_from (p x) (list_any p xs) h.0 (none-among p xs h.1)
 
@@ -83,9 +84,9 @@ none-left : {X : Type 0} (a : ℕ) (f : X → List X) (g : X → List ℕ) → (
 none-left a f g h xs =
     list_any-flat_map (λ b. eqb b a) g (flat_map f xs) ∙ none-among (λ x. has (g x) a) (flat_map f xs) (each-flat_map (λ y. has (g y) a ≡ false) f xs (each_of (λ x. AllByRecursion (λ y. has (g y) a ≡ false) (f x)) h xs))
 
-pub facts-apart : (p : Program) (a : ℕ) → has (facts_of p) a ≡ true → has (atoms_of (left_of p)) a ≡ false
+pub facts-apart : (p : Program) (a : ℕ) → has (facts_in p) a ≡ true → has (atoms_of (left_in p)) a ≡ false
 facts-apart p a fact =
-    let F = facts_of p in
+    let F = facts_in p in
     let rules : List ℕ = flat_map atoms_at (flat_map (settled_rule F) p.rules) in
     let items : List ℕ = flat_map (λ m. map (λ item. atom_of item.0) m.items) p.minimize in
     let outputs : List ℕ = flat_map (λ o. map atom_of o.condition) (flat_map (settled_output F) p.outputs) in
@@ -93,7 +94,7 @@ facts-apart p a fact =
     let assumed : List ℕ = map atom_of p.assumptions in
     let unneeded = or_parts (has items a) (has assumed a) (sym (list_any-append (λ b. eqb b a) items assumed) ∙ fact-unneeded p a fact) in
     let both : (xs ys : List ℕ) → has xs a ≡ false → has ys a ≡ false → has (xs ++ ys) a ≡ false = λ xs ys e k. list_any-append (λ b. eqb b a) xs ys ∙ or_from (has xs a) (has ys a) e k in
-    has-set_of (mentions (left_of p)) a
+    has-set_of (mentions (left_in p)) a
     ∙ both (((rules ++ items) ++ outputs) ++ externals) assumed (both ((rules ++ items) ++ outputs) externals (both (rules ++ items) outputs (both rules items
     (none-left a (settled_rule F) atoms_at (rule-absent F a fact) p.rules) unneeded.0)
     (none-left a (settled_output F) (λ o. map atom_of o.condition) (output-absent F a fact) p.outputs))

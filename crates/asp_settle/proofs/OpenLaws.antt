@@ -17,7 +17,7 @@ use Rattle.asp_model.specs.Opening.{opened_rules}
 use Rattle.asp_model.proofs.SetLaws.{IsAscending-set_of, has-set_of, same_from_has}
 use Rattle.asp_model.proofs.MemberLaws.{each_weaker, list_any-flat_map, list_any-weaker, each_of}
 use Rattle.asp_model.proofs.ConsequenceLaws.{ascends-filter, has-filter}
-use Rattle.asp_settle.specs.Settled.{fact_of, facts_of, heads_of, is_always, left_of, settled_head, settled_rule, single}
+use Rattle.asp_settle.specs.Settled.{fact_of, facts_in, heads_of, is_always, left_in, settled_head, settled_rule, single}
 use Rattle.asp_settle.proofs.RuleLaws.{parts-read}
 use Rattle.asp_settle.proofs.FactLaws.{fact-given}
 
@@ -114,13 +114,13 @@ abbrev heads : Program → List ℕ
 heads p = heads_of p.rules
 
 abbrev heads' : Program → List ℕ
-heads' p = heads_of (flat_map (settled_rule (facts_of p)) p.rules)
+heads' p = heads_of (flat_map (settled_rule (facts_in p)) p.rules)
 
-pub open-left : (p : Program) → open_atoms (left_of p) ≡ open_atoms p
-open-left p = same_from_has (open_atoms (left_of p)) (open_atoms p) (ascends-filter (λ a. not (has (heads' p) a)) (set_of (named (filter (is_open (heads p)) p.externals))) (IsAscending-set_of (named (filter (is_open (heads p)) p.externals)))) (ascends-filter (λ a. not (has (heads p) a)) (set_of (named p.externals)) (IsAscending-set_of (named p.externals))) (λ a.
+pub open-left : (p : Program) → open_atoms (left_in p) ≡ open_atoms p
+open-left p = same_from_has (open_atoms (left_in p)) (open_atoms p) (ascends-filter (λ a. not (has (heads' p) a)) (set_of (named (filter (is_open (heads p)) p.externals))) (IsAscending-set_of (named (filter (is_open (heads p)) p.externals)))) (ascends-filter (λ a. not (has (heads p) a)) (set_of (named p.externals)) (IsAscending-set_of (named p.externals))) (λ a.
     has-filter (λ b. not (has (heads' p) b)) (set_of (named (filter (is_open (heads p)) p.externals))) a
     ∙ ap (λ b. not (has (heads' p) a) && b) (has-set_of (named (filter (is_open (heads p)) p.externals)) a ∙ open_there (heads p) a p.externals)
-    ∙ twice (has (heads' p) a) (has (heads p) a) (has (named p.externals) a) (heads-left (facts_of p) p.rules a)
+    ∙ twice (has (heads' p) a) (has (heads p) a) (has (named p.externals) a) (heads-left (facts_in p) p.rules a)
     ∙ ap (λ b. not (has (heads p) a) && b) (sym (has-set_of (named p.externals) a))
     ∙ sym (has-filter (λ b. not (has (heads p) b)) (set_of (named p.externals)) a))
 
@@ -160,19 +160,19 @@ single_head a r e = by (is_always r.body) r.head e
     by true head.Never k = absurd (false≢true k)
     by false h k = absurd (false≢true k)
 
-pub facts-heads : (p : Program) → IsSubset (facts_of p) (heads_of p.rules)
+pub facts-heads : (p : Program) → IsSubset (facts_in p) (heads_of p.rules)
 facts-heads p a h =
     list_any-flat_map (λ b. eqb b a) (λ (r : Rule). head_atoms r.head) p.rules
     ∙ list_any-weaker (λ (r : Rule). has (fact_of r) a) (λ (r : Rule). has (head_atoms r.head) a) p.rules (each_of (λ r. has (fact_of r) a ≡ true → has (head_atoms r.head) a ≡ true) (single_head a) p.rules) (sym (list_any-flat_map (λ b. eqb b a) fact_of p.rules) ∙ fact-given p a h)
 
-free : (p : Program) (a : ℕ) → not (has (heads p) a) ≡ true → IsFreeAtom (facts_of p) (heads p) a
+free : (p : Program) (a : ℕ) → not (has (heads p) a) ≡ true → IsFreeAtom (facts_in p) (heads p) a
 free p a e =
     let out : has (heads p) a ≡ false = not-true (has (heads p) a) e in
-    (false_from_ne_true (has (facts_of p) a) (λ fact. both_ways (has (heads p) a) out (facts-heads p a fact)), out)
+    (false_from_ne_true (has (facts_in p) a) (λ fact. both_ways (has (heads p) a) out (facts-heads p a fact)), out)
 
-pub force-left : (p : Program) → rules_in_force (left_of p) ≡ flat_map (settled_rule (facts_of p)) (rules_in_force p)
+pub force-left : (p : Program) → rules_in_force (left_in p) ≡ flat_map (settled_rule (facts_in p)) (rules_in_force p)
 force-left p =
-    let F = facts_of p in
+    let F = facts_in p in
     ap (λ L. flat_map (settled_rule F) p.rules ++ flat_map (λ a. external_rule a (last_value (filter (is_open (heads p)) p.externals) a)) L) (open-left p)
     ∙ ap (λ rs. flat_map (settled_rule F) p.rules ++ rs) (sym (rules-left F (heads p) p.externals (open_atoms p) (each_weaker (λ a. not (has (heads p) a) ≡ true) (IsFreeAtom F (heads p)) (free p) (open_atoms p) (passing (λ a. not (has (heads p) a)) (set_of (named p.externals))))))
     ∙ sym (flat_map-append (settled_rule F) p.rules (opened_rules p))

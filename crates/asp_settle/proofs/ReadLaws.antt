@@ -12,7 +12,8 @@ use Rattle.asp_model.specs.Reading.{holds_between, weight_between, body_holds_be
 use Rattle.asp_model.specs.Sound.{is_weighted, is_sound_body}
 use Rattle.asp_model.proofs.SetLaws.{has-fold}
 use Rattle.asp_model.proofs.MemberLaws.{list_any-map}
-use Rattle.asp_settle.specs.Settled.{is_barred, lowered, settled_body, settled_items, settled_literals, settled_weight, united}
+use Rattle.asp_settle.specs.Constraints.{is_barred}
+use Rattle.asp_settle.specs.Settled.{lowered, settled_body, settled_items, settled_literals, settled_weight, united}
 
 pub has-united : (F S : Atoms) (a : ℕ) → has (united F S) a ≡ (has S a || has F a)
 has-united F S a = has-fold S F a

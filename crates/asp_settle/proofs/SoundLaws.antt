@@ -15,7 +15,8 @@ use Rattle.asp_model.specs.Sets.{Atoms, has}
 use Rattle.asp_model.specs.Holding.{atom_of}
 use Rattle.asp_model.specs.Sound.{IsSound, has_room, is_atom, is_literal, is_sound_body, is_sound_head, is_sound_output, is_sound_rule, is_weighted, weighted_count, weighted_total}
 use Rattle.asp_model.proofs.MemberLaws.{each-flat_map, each-map, each_passes, each_weaker}
-use Rattle.asp_settle.specs.Settled.{facts_of, heads_of, is_barred, left_of, settled_body, settled_head, settled_literals, settled_output, settled_rule}
+use Rattle.asp_settle.specs.Constraints.{is_barred}
+use Rattle.asp_settle.specs.Settled.{facts_in, heads_of, left_in, settled_body, settled_head, settled_literals, settled_output, settled_rule}
 
 all_from : {X : Type 0} (p : X → Bool) (xs : List X) → AllByRecursion (λ x. p x ≡ true) xs → list_all p xs ≡ true
 all_from p [] h = refl
@@ -25,7 +26,7 @@ kept_all : {X : Type 0} (p : X → Bool) (c : Bool) (x : X) (xs : List X) → p 
 kept_all p true x xs e h = and_from (p x) (list_all p xs) e h
 kept_all p false x xs e h = h
 
-all-filter : {X : Type 0} (p q : X → Bool) (xs : List X) → list_all p xs ≡ true → list_all p (filter q xs) ≡ true
+pub all-filter : {X : Type 0} (p q : X → Bool) (xs : List X) → list_all p xs ≡ true → list_all p (filter q xs) ≡ true
 all-filter p q [] h = refl
 all-filter p q (x ∷ xs) h = let parts = and_parts (p x) (list_all p xs) h in kept_all p (q x) x (filter q xs) parts.0 (all-filter p q xs parts.1)
 
@@ -123,28 +124,29 @@ weighted-left F (r ∷ rs) =
     let w : Rule → ℕ = λ x. weighted_count x.body in
     omega (arith, sum_by-append w (settled_rule F r) (flat_map (settled_rule F) rs), sum_by-cons w r rs, (few-rule F r).1, weighted-left F rs)
 
-below-limit : (a b n : ℕ) → a ≤ b → leb b n ≡ true → leb a n ≡ true
+pub below-limit : (a b n : ℕ) → a ≤ b → leb b n ≡ true → leb a n ≡ true
 below-limit a b n le h = le-leb a n (omega (arith, leb-true b n h))
 
-five : (a b c d e a' c' d' : Bool) → (a ≡ true → a' ≡ true) → (c ≡ true → c' ≡ true) → (d ≡ true → d' ≡ true) → (a && b && c && d && e) ≡ true → (a' && b && c' && d' && e) ≡ true
-five a b c d e a' c' d' fa fc fd h =
+pub five : (a b c d e a' c' d' e' : Bool) → (a ≡ true → a' ≡ true) → (c ≡ true → c' ≡ true) → (d ≡ true → d' ≡ true) → (e ≡ true → e' ≡ true) → (a && b && c && d && e) ≡ true → (a' && b && c' && d' && e') ≡ true
+five a b c d e a' c' d' e' fa fc fd fe h =
     let p = and_parts (a && b && c && d) e h in
     let q = and_parts (a && b && c) d p.0 in
     let r = and_parts (a && b) c q.0 in
     let s = and_parts a b r.0 in
-    and_from (a' && b && c' && d') e (and_from (a' && b && c') d' (and_from (a' && b) c' (and_from a' b (fa s.0) s.1) (fc r.1)) (fd q.1)) p.1
+    and_from (a' && b && c' && d') e' (and_from (a' && b && c') d' (and_from (a' && b) c' (and_from a' b (fa s.0) s.1) (fc r.1)) (fd q.1)) (fe p.1)
 
-pub sound-left : (p : Program) → IsSound p → IsSound (left_of p)
+pub sound-left : (p : Program) → IsSound p → IsSound (left_in p)
 sound-left p sound = record {
-  rules = all-left is_sound_rule is_sound_rule (settled_rule (facts_of p)) (sound-rule (facts_of p)) p.rules sound.rules;
+  rules = all-left is_sound_rule is_sound_rule (settled_rule (facts_in p)) (sound-rule (facts_in p)) p.rules sound.rules;
   minimize = sound.minimize;
-  outputs = all-left is_sound_output is_sound_output (settled_output (facts_of p)) (sound-output (facts_of p)) p.outputs sound.outputs;
+  outputs = all-left is_sound_output is_sound_output (settled_output (facts_in p)) (sound-output (facts_in p)) p.outputs sound.outputs;
   externals = all-filter (λ e. is_atom e.atom) (λ e. not (has (heads_of p.rules) e.atom)) p.externals sound.externals;
   assumptions = sound.assumptions;
-  weighted = below-limit (weighted_total (left_of p)) (weighted_total p) 16777216 (omega (arith, weighted-left (facts_of p) p.rules)) sound.weighted;
-  room = five (has_room p.rules) (has_room p.minimize) (has_room p.outputs) (has_room p.externals) (has_room p.assumptions) _ _ _
-      (below-limit (length (flat_map (settled_rule (facts_of p)) p.rules)) (length p.rules) 268435456 (fewer-left (settled_rule (facts_of p)) (λ r. (few-rule (facts_of p) r).0) p.rules))
-      (below-limit (length (flat_map (settled_output (facts_of p)) p.outputs)) (length p.outputs) 268435456 (fewer-left (settled_output (facts_of p)) (one_output (facts_of p)) p.outputs))
+  weighted = below-limit (weighted_total (left_in p)) (weighted_total p) 16777216 (omega (arith, weighted-left (facts_in p) p.rules)) sound.weighted;
+  room = five (has_room p.rules) (has_room p.minimize) (has_room p.outputs) (has_room p.externals) (has_room p.assumptions) _ _ _ _
+      (below-limit (length (flat_map (settled_rule (facts_in p)) p.rules)) (length p.rules) 268435456 (fewer-left (settled_rule (facts_in p)) (λ r. (few-rule (facts_in p) r).0) p.rules))
+      (below-limit (length (flat_map (settled_output (facts_in p)) p.outputs)) (length p.outputs) 268435456 (fewer-left (settled_output (facts_in p)) (one_output (facts_in p)) p.outputs))
       (below-limit (length (filter (λ e. not (has (heads_of p.rules) e.atom)) p.externals)) (length p.externals) 268435456 (fewer-filter (λ e. not (has (heads_of p.rules) e.atom)) p.externals))
+      (λ h. h)
       sound.room;
 }

@@ -79,7 +79,7 @@ left-step F p q l S T a out =
 left-apart : (F : Atoms) (p q : Program) → IsLeft F p q → (S T : Atoms) (a : ℕ) → has F a ≡ true → has (step (reduct S (rules_in_force q)) T) a ≡ false
 left-apart F p q l S T a fact = ap (λ rs. has (step (reduct S rs) T) a) l.rules ∙ step-apart F S T (rules_in_force p) a fact
 
-derived-has : (p : Program) (S : Atoms) (a : ℕ) → IsSound p → has (step (reduct S (rules_in_force p)) (least_model p S)) a ≡ has (least_model p S) a
+pub derived-has : (p : Program) (S : Atoms) (a : ℕ) → IsSound p → has (step (reduct S (rules_in_force p)) (least_model p S)) a ≡ has (least_model p S) a
 derived-has p S a sound = ap (λ T. has T a) (least_model-derived p S sound)
 
 pub least-apart : (F : Atoms) (p q : Program) → IsLeft F p q → (S : Atoms) → IsApart F (least_model q S)

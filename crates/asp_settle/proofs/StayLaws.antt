@@ -1,17 +1,20 @@
--- What names no fact is left as it is.
-use Rattle.std.proofs.Common.{◌≡◌, ℕ, Bool, true, false, not, cond, ◌&&◌, ◌||◌, List, [], ◌∷◌, ◌++◌, map, filter, flat_map, ℤ, pos, ◌+ℤ◌, ◌≤ℤ◌, refl, ap, ◌∙◌, arith}
+-- What names no fact is left as it is, and so is a program that denies no atom.
+use Rattle.std.proofs.Common.{◌≡◌, ℕ, Bool, true, false, not, cond, ◌&&◌, ◌||◌, List, [], ◌∷◌, ◌++◌, map, filter, flat_map, nat_lt, ℤ, pos, negsuc, ◌+ℤ◌, ◌≤ℤ◌, refl, sym, ap, ◌∙◌, arith}
 use Rattle.std.specs.List.{list_all, list_any}
-use Rattle.std.proofs.lemmas.Bool.{and_parts}
+use Rattle.std.proofs.lemmas.Bool.{and_parts, false≢true}
 use Rattle.std.proofs.lemmas.Int.{ints}
 use Rattle.asp_model.specs.declared.program.Body.{Body}
 use Rattle.asp_model.specs.declared.program.Body.TheVariants as body
 use Rattle.asp_model.specs.declared.program.Head.{Head}
 use Rattle.asp_model.specs.declared.program.Head.TheVariants as head
 use Rattle.asp_model.specs.declared.program.Output.{Output}
+use Rattle.asp_model.specs.declared.program.Program.{Program}
 use Rattle.asp_model.specs.declared.program.Rule.{Rule}
-use Rattle.asp_model.specs.Sets.{Atoms, has}
+use Rattle.asp_model.specs.Sets.{Atoms, has, set_of}
 use Rattle.asp_model.specs.Holding.{atom_of, is_negative, is_positive}
-use Rattle.asp_settle.specs.Settled.{is_barred, lowered, settled_body, settled_head, settled_literals, settled_output, settled_rule, settled_weight}
+use Rattle.asp_model.proofs.ConsequenceLaws.{filter-every}
+use Rattle.asp_settle.specs.Constraints.{constrained, constrained_by, constrained_head, constrained_rule, denied_by, denied_of, is_barred, reach}
+use Rattle.asp_settle.specs.Settled.{lowered, settled_body, settled_head, settled_literals, settled_output, settled_rule, settled_weight}
 
 filter-kept : {X : Type 0} (p : X → Bool) (xs : List X) → list_all p xs ≡ true → filter p xs ≡ xs
 filter-kept p [] h = refl
@@ -71,3 +74,37 @@ rule-stays F r heads bodies =
 
 pub output-stays : (F : Atoms) (o : Output) → list_all (λ l. not (has F (atom_of l))) o.condition ≡ true → settled_output F o ≡ o ∷ []
 output-stays F o h = ap (map (λ ls. record { text = o.text; condition = ls })) (literals-stay F o.condition h)
+
+-- ---- programs that deny no atom
+none-denied : (ls : List ℤ) → list_any is_negative ls ≡ false → flat_map denied_by ls ≡ []
+none-denied [] h = refl
+none-denied (pos a ∷ ls) h = none-denied ls h
+none-denied (negsuc a ∷ ls) h = absurd (false≢true (sym h))
+
+denied-none : (p : Program) → list_any is_negative p.assumptions ≡ false → denied_of p ≡ []
+denied-none p h = ap (λ xs. filter (λ a. nat_lt a (reach p) && not (has (map (λ e. e.atom) p.externals) a)) (set_of xs)) (none-denied p.assumptions h)
+
+same-head : (h : Head) → constrained_head [] h ≡ h
+same-head (head.One a) = refl
+same-head (head.Choice atoms) = ap (λ xs. head.Choice xs) (filter-every (λ a. not (has [] a)) atoms (λ a. refl))
+same-head head.Never = refl
+
+same-rules : (rs : List Rule) → map (constrained_rule []) rs ≡ rs
+same-rules [] = refl
+same-rules (r ∷ rs) =
+    ap (λ (h : Head). let x : Rule = record { head = h; body = r.body } in x ∷ map (constrained_rule []) rs) (same-head r.head)
+    ∙ ap (λ xs. r ∷ xs) (same-rules rs)
+
+same-assumptions : (ls : List ℤ) → filter (λ l. not (is_barred [] l)) ls ≡ ls
+same-assumptions [] = refl
+same-assumptions (pos a ∷ ls) = ap (λ ks. pos a ∷ ks) (same-assumptions ls)
+same-assumptions (negsuc a ∷ ls) = ap (λ ks. negsuc a ∷ ks) (same-assumptions ls)
+
+abbrev made : Program → List Rule → List ℤ → Program
+made p rs ls = record { rules = rs; minimize = p.minimize; outputs = p.outputs; externals = p.externals; assumptions = ls }
+
+pub constrained-none : (p : Program) → list_any is_negative p.assumptions ≡ false → constrained p ≡ p
+constrained-none p h =
+    ap (λ N. constrained_by N p) (denied-none p h)
+    ∙ ap (λ rs. made p rs (filter (λ l. not (is_barred [] l)) p.assumptions)) (same-rules p.rules)
+    ∙ ap (made p p.rules) (same-assumptions p.assumptions)

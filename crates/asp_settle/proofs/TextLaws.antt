@@ -8,7 +8,8 @@ use Rattle.asp_model.specs.declared.program.Program.{Program}
 use Rattle.asp_model.specs.Sets.{Atoms, has}
 use Rattle.asp_model.specs.Holding.{all_hold, atom_of, holds}
 use Rattle.asp_model.specs.Texts.{shown}
-use Rattle.asp_settle.specs.Settled.{facts_of, is_barred, left_of, settled_output, united}
+use Rattle.asp_settle.specs.Constraints.{is_barred}
+use Rattle.asp_settle.specs.Settled.{facts_in, left_in, settled_output, united}
 use Rattle.asp_settle.proofs.ReadLaws.{all-others, holds-united}
 
 -- the texts of those of the outputs whose conditions hold
@@ -42,5 +43,5 @@ texts-left F S (o ∷ os) =
     ∙ ap (λ ts. texts S (settled_output F o) ++ ts) (texts-left F S os)
     ∙ sym (texts-append S (settled_output F o) (flat_map (settled_output F) os))
 
-pub shown-left : (p : Program) (S : Atoms) → shown p (united (facts_of p) S) ≡ shown (left_of p) S
-shown-left p S = texts-left (facts_of p) S p.outputs
+pub shown-left : (p : Program) (S : Atoms) → shown p (united (facts_in p) S) ≡ shown (left_in p) S
+shown-left p S = texts-left (facts_in p) S p.outputs

@@ -1,5 +1,5 @@
 -- The atoms that are facts, and the program that is left without them.
-use Rattle.std.specs.Prelude.{ℕ, ◌+◌, ◌*◌, nat_lt, Bool, true, false, not, ◌&&◌, if◌then◌else◌, List, [], ◌∷◌, ◌++◌, map, filter, flat_map, length, ℤ, pos, ◌+ℤ◌, ◌-ℤ◌, int_le}
+use Rattle.std.specs.Prelude.{ℕ, nat_lt, Bool, true, false, not, ◌&&◌, if◌then◌else◌, List, [], ◌∷◌, ◌++◌, map, filter, flat_map, ℤ, pos, ◌+ℤ◌, ◌-ℤ◌, int_le}
 use Rattle.std.specs.List.{list_any}
 use Rattle.asp_model.specs.declared.program.Body.{Body}
 use Rattle.asp_model.specs.declared.program.Body.TheVariants as body
@@ -9,8 +9,9 @@ use Rattle.asp_model.specs.declared.program.Rule.{Rule}
 use Rattle.asp_model.specs.declared.program.Output.{Output}
 use Rattle.asp_model.specs.declared.program.Program.{Program}
 use Rattle.asp_model.specs.Sets.{Atoms, has, with_atoms, set_of}
-use Rattle.asp_model.specs.Holding.{atom_of, is_negative, is_positive}
+use Rattle.asp_model.specs.Holding.{atom_of, is_positive}
 use Rattle.asp_model.specs.Models.{head_atoms}
+use Rattle.asp_settle.specs.Constraints.{constrained, is_barred, reach}
 
 -- ---- which atoms are settled
 abbrev pub is_always : Body → Bool
@@ -31,19 +32,11 @@ fact_of r = if is_always r.body then single r.head else []
 abbrev pub needed : Program → List ℕ
 needed p = flat_map (λ m. map (λ item. atom_of item.0) m.items) p.minimize ++ map atom_of p.assumptions
 
--- below which number an atom has to be, so that a table of so many atoms is no longer than the rules are
-abbrev pub reach : Program → ℕ
-reach p = 16 * (length p.rules + 1)
-
--- the facts that are settled
-abbrev pub facts_of : Program → Atoms
-facts_of p = filter (λ a. nat_lt a (reach p) && not (has (needed p) a)) (set_of (flat_map fact_of p.rules))
+-- the facts of a program as it is
+abbrev pub facts_in : Program → Atoms
+facts_in p = filter (λ a. nat_lt a (reach p) && not (has (needed p) a)) (set_of (flat_map fact_of p.rules))
 
 -- ---- what is left where the atoms of F hold
--- the literal can't hold
-abbrev pub is_barred : Atoms → ℤ → Bool
-is_barred F l = is_negative l && has F (atom_of l)
-
 -- the literals without those of F; none of them can hold together where one can't
 abbrev pub settled_literals : Atoms → List ℤ → List (List ℤ)
 settled_literals F ls = if list_any (is_barred F) ls then [] else filter (λ l. not (has F (atom_of l))) ls ∷ []
@@ -89,9 +82,18 @@ left_by F p = record {
   assumptions = p.assumptions;
 }
 
+-- what is left of a program as it is
+abbrev pub left_in : Program → Program
+left_in p = left_by (facts_in p) p
+
+-- ---- a program as it is settled: first rules for atoms that are assumed false are constraints
+-- the facts that are settled
+abbrev pub facts_of : Program → Atoms
+facts_of p = facts_in (constrained p)
+
 -- the program that is left
 abbrev pub left_of : Program → Program
-left_of p = left_by (facts_of p) p
+left_of p = left_in (constrained p)
 
 -- a set with the facts
 abbrev pub united : Atoms → Atoms → Atoms

@@ -6,27 +6,28 @@ ghost use Rattle.asp_model.specs.Holding.{atom_of, is_positive};
 ghost use Rattle.asp_model.specs.Sets.{has};
 ghost use Rattle.asp_model.specs.Sound.{is_sound_body, is_weighted, weighted_count};
 ghost use Rattle.asp_model.specs.Views.{body_seen};
-ghost use Rattle.asp_settle.specs.Settled.{is_barred, lowered, settled_body, settled_items, settled_literals, settled_weight};
+ghost use Rattle.asp_settle.specs.Constraints.{is_barred};
+ghost use Rattle.asp_settle.specs.Settled.{lowered, settled_body, settled_items, settled_literals, settled_weight};
 
-use crate::facts::FactTable;
+use crate::table::AtomTable;
 use asp_model::program::Body;
 use asp_model::seq::Seq;
 use asp_model::view::BodyView;
 
-// Whether a literal says that a fact is absent.
-fn is_barred(facts: &FactTable, literal: i32) -> bool
+/// Whether a literal says that an atom of the table is absent.
+pub(crate) fn is_barred(facts: &AtomTable, literal: i32) -> bool
     ensures { result ≡ is_barred facts.now literal }
 {
     literal < 0 && facts.has(literal.unsigned_abs())
 }
 
-fn is_some_barred(facts: &FactTable, literals: &[i32]) -> bool
+fn is_some_barred(facts: &AtomTable, literals: &[i32]) -> bool
     ensures { result ≡ list_any (is_barred facts.now) literals.now }
 {
     literals.iter().any(|literal| is_barred(facts, *literal))
 }
 
-fn without_facts(facts: &FactTable, literals: Seq<i32>) -> Seq<i32>
+fn without_facts(facts: &AtomTable, literals: Seq<i32>) -> Seq<i32>
     ensures { result ≡ filter (λ l. not (has facts.now (atom_of l))) literals }
 {
     let mut literals = literals.into_vec();
@@ -36,7 +37,7 @@ fn without_facts(facts: &FactTable, literals: Seq<i32>) -> Seq<i32>
 }
 
 /// The literals that aren't facts; none where one of them can't hold.
-pub(crate) fn settled_literals(facts: &FactTable, literals: Seq<i32>) -> Option<Seq<i32>>
+pub(crate) fn settled_literals(facts: &AtomTable, literals: Seq<i32>) -> Option<Seq<i32>>
     ensures { option_to_list result ≡ settled_literals facts.now literals }
 {
     if is_some_barred(facts, literals.as_slice()) {
@@ -45,7 +46,7 @@ pub(crate) fn settled_literals(facts: &FactTable, literals: Seq<i32>) -> Option<
     Some(without_facts(facts, literals))
 }
 
-fn settled_items(facts: &FactTable, items: Seq<(i32, i32)>) -> Seq<(i32, i32)>
+fn settled_items(facts: &AtomTable, items: Seq<(i32, i32)>) -> Seq<(i32, i32)>
     ensures { result ≡ settled_items facts.now items }
 {
     let mut items = items.into_vec();
@@ -55,7 +56,7 @@ fn settled_items(facts: &FactTable, items: Seq<(i32, i32)>) -> Seq<(i32, i32)>
 }
 
 // The weight, where the literal is a fact.
-fn item_weight(facts: &FactTable, literal: i32, weight: i32) -> i64
+fn item_weight(facts: &AtomTable, literal: i32, weight: i32) -> i64
     requires { pos 0 ≤ℤ weight }
     ensures weight { result ≡ (if is_positive literal && has facts.now (atom_of literal) then weight else pos 0) }
     ensures low { pos 0 ≤ℤ result }
@@ -69,7 +70,7 @@ fn item_weight(facts: &FactTable, literal: i32, weight: i32) -> i64
 }
 
 // The weights of the facts.
-fn settled_weight(facts: &FactTable, items: &[(i32, i32)]) -> i64
+fn settled_weight(facts: &AtomTable, items: &[(i32, i32)]) -> i64
     requires few { length items.now ≤ 16777216 }
     requires weighted { IsTrue (list_all is_weighted items.now) }
     ensures weight { result ≡ settled_weight facts.now items.now }
@@ -94,7 +95,7 @@ fn lowered(bound: i32, weight: i64) -> i32
 }
 
 /// What is left of the body; none where it can't hold.
-pub(crate) fn settled_body(facts: &FactTable, body: Body) -> Option<Body>
+pub(crate) fn settled_body(facts: &AtomTable, body: Body) -> Option<Body>
     requires sound { IsTrue (is_sound_body body) }
     requires few { weighted_count body ≤ 16777216 }
     ensures { option_to_list result ≡ settled_body facts.now body }
@@ -112,7 +113,7 @@ pub(crate) fn settled_body(facts: &FactTable, body: Body) -> Option<Body>
 }
 
 /// Whether none of the literals' atoms is a fact.
-pub(crate) fn literals_stay(facts: &FactTable, literals: &[i32]) -> bool
+pub(crate) fn literals_stay(facts: &AtomTable, literals: &[i32]) -> bool
     ensures { result ≡ list_all (λ l. not (has facts.now (atom_of l))) literals.now }
 {
     literals
@@ -120,7 +121,7 @@ pub(crate) fn literals_stay(facts: &FactTable, literals: &[i32]) -> bool
         .all(|literal| !facts.has(literal.unsigned_abs()))
 }
 
-fn items_stay(facts: &FactTable, items: &[(i32, i32)]) -> bool
+fn items_stay(facts: &AtomTable, items: &[(i32, i32)]) -> bool
     ensures { result ≡ list_all (λ i. not (has facts.now (atom_of i.0))) items.now }
 {
     items
@@ -129,7 +130,7 @@ fn items_stay(facts: &FactTable, items: &[(i32, i32)]) -> bool
 }
 
 /// Whether the body is seen to stay as it is.
-pub(crate) fn body_stays(facts: &FactTable, body: BodyView<'_>) -> bool
+pub(crate) fn body_stays(facts: &AtomTable, body: BodyView<'_>) -> bool
     ensures { result ≡ true → settled_body facts.now (body_seen body.entry) ≡ body_seen body.entry ∷ [] }
 {
     match body {

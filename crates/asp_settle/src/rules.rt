@@ -8,7 +8,7 @@ ghost use Rattle.asp_model.specs.Sound.{HasBody, HasFewItems};
 ghost use Rattle.asp_settle.specs.Settled.{heads_of, settled_head, settled_output, settled_rule};
 
 use crate::bodies::{body_stays, literals_stay, settled_body, settled_literals};
-use crate::facts::FactTable;
+use crate::table::AtomTable;
 use asp_model::in_force::head_set;
 use asp_model::interp::Interp;
 use asp_model::outputs::{OutputView, Outputs};
@@ -18,16 +18,17 @@ use asp_model::seq::Seq;
 use asp_model::view::{HeadView, RuleView};
 use std::alloc::{AllocError, Global};
 
-fn other_atoms(facts: &FactTable, atoms: Seq<Atom>) -> Seq<Atom>
-    ensures { result ≡ filter (λ a. not (has facts.now a)) atoms }
+/// The atoms that aren't in the table.
+pub(crate) fn other_atoms(table: &AtomTable, atoms: Seq<Atom>) -> Seq<Atom>
+    ensures { result ≡ filter (λ a. not (has table.now a)) atoms }
 {
     let mut atoms = atoms.into_vec();
-    atoms.retain(|atom| !facts.has(*atom));
+    atoms.retain(|atom| !table.has(*atom));
     Seq::from_vec(atoms)
 }
 
 // What is left of the head; none where it is a fact.
-fn settled_head(facts: &FactTable, head: Head) -> Option<Head>
+fn settled_head(facts: &AtomTable, head: Head) -> Option<Head>
     ensures { option_to_list result ≡ settled_head facts.now head }
 {
     match head {
@@ -43,7 +44,7 @@ fn settled_head(facts: &FactTable, head: Head) -> Option<Head>
 }
 
 // What is left of the rule; none where its head is a fact, or its body can't hold.
-fn settled_rule(facts: &FactTable, rule: Rule) -> Option<Rule>
+fn settled_rule(facts: &AtomTable, rule: Rule) -> Option<Rule>
     requires body { HasBody rule }
     requires few { HasFewItems rule }
     ensures { option_to_list result ≡ settled_rule facts.now rule }
@@ -58,14 +59,14 @@ fn settled_rule(facts: &FactTable, rule: Rule) -> Option<Rule>
     }
 }
 
-fn atoms_stay(facts: &FactTable, atoms: &[Atom]) -> bool
+fn atoms_stay(facts: &AtomTable, atoms: &[Atom]) -> bool
     ensures { result ≡ list_all (λ a. not (has facts.now a)) atoms.now }
 {
     atoms.iter().all(|atom| !facts.has(*atom))
 }
 
 // Whether the head is seen to stay as it is.
-fn head_stays(facts: &FactTable, head: HeadView<'_>) -> bool
+fn head_stays(facts: &AtomTable, head: HeadView<'_>) -> bool
     ensures { result ≡ true → settled_head facts.now (head_seen head.entry) ≡ head_seen head.entry ∷ [] }
 {
     match head {
@@ -76,13 +77,13 @@ fn head_stays(facts: &FactTable, head: HeadView<'_>) -> bool
 }
 
 // Whether the rule is seen to stay as it is.
-fn rule_stays(facts: &FactTable, rule: RuleView<'_>) -> bool
+fn rule_stays(facts: &AtomTable, rule: RuleView<'_>) -> bool
     ensures { result ≡ true → settled_rule facts.now (rule_seen rule.entry) ≡ rule_seen rule.entry ∷ [] }
 {
     head_stays(facts, rule.head) && body_stays(facts, rule.body)
 }
 
-fn rules_stay(facts: &FactTable, rules: &Rules) -> bool
+fn rules_stay(facts: &AtomTable, rules: &Rules) -> bool
     ensures { result ≡ true → flat_map (settled_rule facts.now) rules.now ≡ rules.now }
 {
     for i in 0..rules.len() {
@@ -97,7 +98,7 @@ fn rules_stay(facts: &FactTable, rules: &Rules) -> bool
 fn push_rule(
     alloc: Global,
     left: &mut Rules,
-    facts: &FactTable,
+    facts: &AtomTable,
     rule: RuleView<'_>,
 ) -> Result<(), AllocError>
     requires body { HasBody (rule_seen rule) }
@@ -113,7 +114,7 @@ fn push_rule(
     Ok(())
 }
 
-fn left_rules(alloc: Global, facts: &FactTable, rules: &Rules) -> Result<Rules, AllocError>
+fn left_rules(alloc: Global, facts: &AtomTable, rules: &Rules) -> Result<Rules, AllocError>
     requires bodies { All HasBody rules.now }
     requires few { All HasFewItems rules.now }
     ensures { IfOk result (λ left. left ≡ flat_map (settled_rule facts.now) rules.now) }
@@ -128,7 +129,7 @@ fn left_rules(alloc: Global, facts: &FactTable, rules: &Rules) -> Result<Rules, 
 /// What is left of the rules: these themselves where each stays.
 pub(crate) fn settled_rules(
     alloc: Global,
-    facts: &FactTable,
+    facts: &AtomTable,
     rules: Rules,
 ) -> Result<Rules, AllocError>
     requires bodies { All HasBody rules }
@@ -142,13 +143,13 @@ pub(crate) fn settled_rules(
 }
 
 // Whether the output is seen to stay as it is.
-fn output_stays(facts: &FactTable, output: OutputView<'_>) -> bool
+fn output_stays(facts: &AtomTable, output: OutputView<'_>) -> bool
     ensures { result ≡ true → settled_output facts.now (output_seen output.entry) ≡ output_seen output.entry ∷ [] }
 {
     literals_stay(facts, output.condition)
 }
 
-fn outputs_stay(facts: &FactTable, outputs: &Outputs) -> bool
+fn outputs_stay(facts: &AtomTable, outputs: &Outputs) -> bool
     ensures { result ≡ true → flat_map (settled_output facts.now) outputs.now ≡ outputs.now }
 {
     for i in 0..outputs.len() {
@@ -163,7 +164,7 @@ fn outputs_stay(facts: &FactTable, outputs: &Outputs) -> bool
 fn push_output(
     alloc: Global,
     left: &mut Outputs,
-    facts: &FactTable,
+    facts: &AtomTable,
     output: OutputView<'_>,
 ) -> Result<(), AllocError>
     ensures { OnOk result (left.new ≡ left.old ++ settled_output facts.now (output_seen output.entry)) }
@@ -181,7 +182,7 @@ fn push_output(
     Ok(())
 }
 
-fn left_outputs(alloc: Global, facts: &FactTable, outputs: &Outputs) -> Result<Outputs, AllocError>
+fn left_outputs(alloc: Global, facts: &AtomTable, outputs: &Outputs) -> Result<Outputs, AllocError>
     ensures { IfOk result (λ left. left ≡ flat_map (settled_output facts.now) outputs.now) }
 {
     let mut left = Outputs::new(alloc)?;
@@ -194,7 +195,7 @@ fn left_outputs(alloc: Global, facts: &FactTable, outputs: &Outputs) -> Result<O
 /// What is left of the outputs: these themselves where each stays.
 pub(crate) fn settled_outputs(
     alloc: Global,
-    facts: &FactTable,
+    facts: &AtomTable,
     outputs: Outputs,
 ) -> Result<Outputs, AllocError>
     ensures { IfOk result (λ left. left ≡ flat_map (settled_output facts.now) outputs) }

@@ -4,8 +4,10 @@ ghost use Rattle.asp_model.specs.Sets.{has};
 ghost use Rattle.asp_model.specs.Sound.{HasBody, HasFewItems, IsSound};
 ghost use Rattle.asp_settle.specs.Settled.{facts_of, left_by, left_of, heads_of, settled_rule, united};
 
-use crate::facts::FactTable;
+use crate::constraints::constrained;
+use crate::facts::fact_table;
 use crate::rules::{open_externals, settled_outputs, settled_rules};
+use crate::table::AtomTable;
 use asp_model::interp::Interp;
 use asp_model::program::{External, Minimize, Program};
 use asp_model::rules::Rules;
@@ -32,7 +34,7 @@ struct Parts {
 
 fn left_parts(
     alloc: Global,
-    facts: &FactTable,
+    facts: &AtomTable,
     rules: Rules,
     externals: Seq<External>,
 ) -> Result<Parts, AllocError>
@@ -56,7 +58,7 @@ struct Rest {
 }
 
 // The program without the facts. Few values are alive where it can return: each way out is proved for each of them.
-fn leave(alloc: Global, facts: &FactTable, program: Program) -> Result<Program, AllocError>
+fn leave(alloc: Global, facts: &AtomTable, program: Program) -> Result<Program, AllocError>
     requires { IsSound program }
     ensures { IfOk result (λ left. left ≡ left_by facts.now program) }
 {
@@ -93,7 +95,8 @@ pub fn settle(alloc: Global, program: Program) -> Result<Settled, AllocError>
     ensures facts { IfOk result (λ settled. settled.facts ≡ facts_of program) }
     ensures left { IfOk result (λ settled. settled.left ≡ left_of program) }
 {
-    let facts = FactTable::of(alloc, &program)?;
+    let program = constrained(alloc, program)?;
+    let facts = fact_table(alloc, &program)?;
     let left = leave(alloc, &facts, program)?;
     let facts = facts.to_set(alloc)?;
     Ok(Settled { facts, left })

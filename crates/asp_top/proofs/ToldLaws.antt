@@ -16,10 +16,8 @@ use Rattle.asp_model.specs.Found.{Found}
 use Rattle.asp_model.specs.Sound.{IsSound}
 use Rattle.asp_model.specs.Texts.{answer_lines, answers_from, best_answers, best_cost_line, bests, closing_lines, ended_line, found_count, recorded, results_text, sums_text}
 use Rattle.asp_settle.specs.Settled.{facts_of, left_of, united, without}
-use Rattle.asp_settle.proofs.FactLaws.{cost-left}
-use Rattle.asp_settle.proofs.TextLaws.{shown-left}
 use Rattle.asp_settle.proofs.StableLaws.{contains-map}
-use Rattle.asp_settle.proofs.ResultLaws.{all-consequences, chosen-left, consequences-left, optima-chosen, optima-left, optimum-left, same-answers}
+use Rattle.asp_settle.proofs.SettledLaws.{all-consequences, chosen-left, consequences-left, cost-left, optima-chosen, optima-left, optimum-left, same-answers, shown-left}
 use Rattle.asp_proof.specs.declared.proof.Proof.{Proof}
 use Rattle.asp_crew_laws.specs.declared.report.Report.{Report}
 use Rattle.asp_crew_laws.specs.Runs.{IsBest, IsFound}

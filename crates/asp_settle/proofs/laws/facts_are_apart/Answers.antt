@@ -1,6 +1,4 @@
-use Rattle.asp_settle.proofs.FactLaws.{facts-ascend}
-use Rattle.asp_settle.proofs.MentionLaws.{facts-apart, facts-stand}
-use Rattle.asp_settle.proofs.SoundLaws.{sound-left}
+use Rattle.asp_settle.proofs.SettledLaws.{facts-apart, facts-ascend, facts-stand, sound-left}
 use Rattle.asp_settle.proofs.laws.facts_are_apart.Goals as goal
 
 pub returns : goal.returns

@@ -1,6 +1,4 @@
-use Rattle.asp_settle.proofs.FactLaws.{cost-left}
-use Rattle.asp_settle.proofs.ResultLaws.{same-answers}
-use Rattle.asp_settle.proofs.TextLaws.{shown-left}
+use Rattle.asp_settle.proofs.SettledLaws.{cost-left, same-answers, shown-left}
 use Rattle.asp_settle.proofs.laws.settled_answers_are_the_same.Goals as goal
 
 pub returns : goal.returns

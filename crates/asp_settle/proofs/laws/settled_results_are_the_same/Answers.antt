@@ -1,4 +1,4 @@
-use Rattle.asp_settle.proofs.ResultLaws.{all-consequences, chosen-left, consequences-left, optima-chosen, optima-left, optimum-left}
+use Rattle.asp_settle.proofs.SettledLaws.{all-consequences, chosen-left, consequences-left, optima-chosen, optima-left, optimum-left}
 use Rattle.asp_settle.proofs.laws.settled_results_are_the_same.Goals as goal
 
 pub returns : goal.returns

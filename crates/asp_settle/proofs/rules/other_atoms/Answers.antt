@@ -4,4 +4,4 @@ use Rattle.asp_model.specs.Sets.{has}
 use Rattle.asp_settle.proofs.rules.other_atoms.Goals as goal
 
 pub returns : goal.returns
-returns c = c.from_vec.ensures ∙ filter_same _ _ _ (λ x b f' k. search rules) _ _ c.retain.ensures.filtered ∙ ap (filter (λ a. not (has c.args.facts.now a))) c.into_vec-atoms.ensures
+returns c = c.from_vec.ensures ∙ filter_same _ _ _ (λ x b f' k. search rules) _ _ c.retain.ensures.filtered ∙ ap (filter (λ a. not (has c.args.table.now a))) c.into_vec-atoms.ensures

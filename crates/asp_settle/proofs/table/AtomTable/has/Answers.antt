@@ -3,7 +3,7 @@ use Rattle.std.proofs.lemmas.Bool.{le-ltb}
 use Rattle.std.proofs.lemmas.List.{get_or_past, get_or_read}
 use Rattle.asp_model.specs.Sets.{has}
 use Rattle.asp_settle.proofs.TableLaws.{has-table}
-use Rattle.asp_settle.proofs.facts.FactTable.has.Goals as goal
+use Rattle.asp_settle.proofs.table.AtomTable.has.Goals as goal
 
 pub returns-then-place-len : goal.returns-then-place-len
 returns-then-place-len c =

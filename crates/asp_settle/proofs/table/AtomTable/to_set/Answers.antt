@@ -3,8 +3,8 @@ use Rattle.std.proofs.lemmas.List.{take_all}
 use Rattle.asp_model.specs.Sets.{IsAscending}
 use Rattle.asp_settle.specs.Tables.{places_from}
 use Rattle.asp_settle.proofs.TableLaws.{places-ascend, places_passed, places_pushed}
-use Rattle.asp_settle.proofs.facts.FactTable.to_set.Goals as goal
-use Rattle.asp_settle.proofs.facts.FactTable.to_set.Goals.{then-flag+in_ok-push, else-flag}
+use Rattle.asp_settle.proofs.table.AtomTable.to_set.Goals as goal
+use Rattle.asp_settle.proofs.table.AtomTable.to_set.Goals.{then-flag+in_ok-push, else-flag}
 
 pub loop-place-preserved : goal.loop-place-preserved
 loop-place-preserved c =
