@@ -3,8 +3,8 @@
 
     recorded.py PROGRAM CHECKER [COUNT [SEED]]
 
-The programs are those of rows.txt that are solved, the examples, and COUNT (300) random small ones, in both modes, with one
-worker and with four."""
+The programs are those of rows.txt that are solved, the examples, and COUNT (300) random small ones, of which every third is a
+smodels text, in both modes, with one worker and with four."""
 import random
 import subprocess
 import sys
@@ -21,25 +21,27 @@ def run(words, text):
 
 
 def rows():
-    """The aspif texts of rows.txt that are solved."""
+    """The texts of rows.txt that are solved, each with its format."""
     for line in open(join(HERE, "rows.txt")):
         status, words, text, _ = line.rstrip("\n").split("~")
-        if int(status) in SOLVED and not any(it in words for it in ("--make", "--budget", "smodels")):
-            yield text.encode().decode("unicode_escape").encode()
+        if int(status) in SOLVED and not any(it in words for it in ("--make", "--budget")):
+            yield "smodels" if "smodels" in words else "aspif", text.encode().decode("unicode_escape").encode("latin-1").rstrip(b"\n") + b"\n"
 
 
 def examples():
-    for path in sorted(glob(join(HERE, "..", "examples", "*.aspif"))):
-        with open(path, "rb") as file:
-            yield file.read()
+    for form in ("aspif", "smodels"):
+        for path in sorted(glob(join(HERE, "..", "examples", "*." + form))):
+            with open(path, "rb") as file:
+                yield form, file.read()
 
 
 def random_programs(count, seed):
     sys.path.insert(0, HERE)
-    from compare import program
+    from compare import made
     choose = random.Random(seed)
-    for _ in range(count):
-        yield program(choose).encode()
+    for number in range(count):
+        case = made(choose, number % 3 == 0)
+        yield "smodels" if case.words else "aspif", case.source.encode()
 
 
 def without_an_answer(proof, choose):
@@ -56,10 +58,11 @@ def main():
     count, seed = (int(word) for word in (sys.argv[3:] + ["300", "1"][len(sys.argv) - 3:]))
     choose = random.Random(seed)
     passed = failed = cut = 0
-    for text in [*rows(), *examples(), *random_programs(count, seed)]:
+    for form, text in [*rows(), *examples(), *random_programs(count, seed)]:
+        reads = ["--format", form]
         for mode, workers in product(("enum", "opt"), ("1", "4")):
-            ran = run([program, "--mode", mode, "--workers", workers, "--proof"], text)
-            checked = run([checker], text + ran.stdout)
+            ran = run([program, *reads, "--mode", mode, "--workers", workers, "--proof"], text)
+            checked = run([checker, *reads], text + ran.stdout)
             if ran.returncode in SOLVED and checked.stdout == b"YES\n":
                 passed += 1
             else:
@@ -68,7 +71,7 @@ def main():
             less = without_an_answer(ran.stdout, choose)
             if less is not None:
                 cut += 1
-                if run([checker], text + less).stdout == b"YES\n":
+                if run([checker, *reads], text + less).stdout == b"YES\n":
                     failed += 1
                     print(f"failed: {text}: --mode {mode} --workers {workers}: confirmed without an answer")
     print(f"recorded: {passed} confirmed, {cut} refused without an answer, {failed} failed")
