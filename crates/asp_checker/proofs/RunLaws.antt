@@ -125,9 +125,6 @@ text_refused format text held error.Memory h = keeps_itself held
 text_refused format text held (error.Program e) h = (h, keeps_itself held)
 text_refused format text held (error.Proof e) h = (h, keeps_itself held)
 
-pub no_proof : (format : Format) (text : List ℕ) (held : Option (List ℕ)) (place : ℕ) → place ≡ proof_place text → place ≡ length text → TextSays format text held held status.NoProof
-no_proof format text held place e f = (sym e ∙ f, keeps_itself held)
-
 pub status_sent : (sent : Bool) (e : CheckError) → IsSentOn sent (status_of e)
 status_sent sent error.Memory = tt
 status_sent sent (error.Program e) = tt

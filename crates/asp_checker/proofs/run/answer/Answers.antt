@@ -1,6 +1,6 @@
 use Rattle.std.proofs.Common.{sym, ap, ◌∙◌, arith, Ok, Err, ℕ, length}
 use Rattle.std.proofs.lemmas.List.{length-drop}
-use Rattle.asp_checker.proofs.RunLaws.{parts_checked, text_judged, text_refused, never_read, no_proof, status_reads, status_sent, status_writes}
+use Rattle.asp_checker.proofs.RunLaws.{parts_checked, text_judged, text_refused, never_read, status_reads, status_sent, status_writes}
 use Rattle.asp_checker.proofs.run.answer.Goals as goal
 
 pub check_proof-requires : goal.check_proof-requires
