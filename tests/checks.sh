@@ -43,8 +43,8 @@ tell 'input of 2^28 and one bytes' 67 '' 'aspcheck: input too long' $? "$given"
 given=$(ulimit -v 60000; head -c 100000000 /dev/zero | "$program" 2> "$notes")
 tell '60 MB of memory' 33 '' 'aspcheck: out of memory' $? "$given"
 # Where standard error fails, too, only the status tells.
-given=$(printf 'nothing\nproof 1\n' | "$program" 2> /dev/full)
 : > "$notes"
+given=$(printf 'nothing\nproof 1\n' | "$program" 2> /dev/full)
 tell 'full standard error' 65 '' '' $? "$given"
 
 # Proofs of a few random programs, right, changed and hostile.
