@@ -2,6 +2,8 @@
 # Tries bin/aspground with a script in gringo's place, and with gringo itself where it is installed.
 # Usage: tests/aspground.sh PROGRAM
 # shellcheck disable=SC2016
+# What a shell without job control starts in the background ignores SIGINT, and no shell below takes that back.
+[ -n "${HAS_SIGNALS:-}" ] || HAS_SIGNALS=1 exec env --default-signal=INT "$BASH" "$0" "$@"
 cd "$(dirname "$0")/.." || exit 2
 [ $# -eq 1 ] || { sed -n '3s/^# //p' "$0" >&2; exit 64; }
 program=$(realpath "$1")
@@ -196,6 +198,7 @@ set +m
 if command -v gringo > /dev/null; then
     for file in examples/*.lp; do
         name=${file%.lp}
+        [ -e "$name.aspif" ] || continue
         mapfile -t words < <(tr ' ' '\n' 2> /dev/null < "$name.words")
         "$script" "$file" -- "${words[@]}" > "$room/out" 2> "$room/err"
         got=$?
