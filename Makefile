@@ -47,7 +47,7 @@ need_rt = command -v rt > /dev/null || { echo "make: the command rt is missing: 
 # Nothing is proved here. The code is what the proved program has, so it is as fast.
 build/aspenum-unproved build/aspcheck-unproved: $(SOURCES) tools/unproved.sh
 	@$(need_rt)
-	@echo "Building $@ without its proofs, in one to three minutes."
+	@echo "Building $@ without its proofs, in two to four minutes of a processor."
 	@tools/unproved.sh $(if $(findstring aspcheck,$@),asp_checkprog) $@
 
 demo: build/aspenum-unproved
