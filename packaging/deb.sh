@@ -10,6 +10,7 @@ if [ "$(sed -n '1s/^aspenum (\([^)]*\)).*/\1/p' packaging/changelog)" != "$versi
     echo "deb: packaging/changelog doesn't begin with version $version" >&2
     exit 1
 fi
+command -v strip > /dev/null || { echo "deb: the command strip is missing: Debian's package binutils has it" >&2; exit 1; }
 architecture=$(dpkg --print-architecture)
 package=build/aspenum_${version}_$architecture.deb
 
