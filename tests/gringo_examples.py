@@ -49,8 +49,9 @@ def pairs():
 def verdict(program, files, seconds, room):
     text = f"{room}/text"
     with open(text, "wb") as out:
+        # One example writes pages of documentation into the folder that it runs in.
         try:
-            ground = subprocess.run(["gringo", "--warn=none", *["--output=smodels"] * SMODELS, *files], stdout=out, stderr=subprocess.DEVNULL, timeout=seconds)
+            ground = subprocess.run(["gringo", "--warn=none", *["--output=smodels"] * SMODELS, *files], cwd=room, stdout=out, stderr=subprocess.DEVNULL, timeout=seconds)
         except subprocess.TimeoutExpired:
             return "gringo takes too long"
     if ground.returncode != 0:
