@@ -1,4 +1,5 @@
 pub mod FixpointLaws
+pub mod BackLaws
 pub mod FitsLaws
 pub mod GetLaws
 pub mod GivenLaws

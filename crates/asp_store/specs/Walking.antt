@@ -1,5 +1,5 @@
 -- What a walk along one literal's list keeps.
-use Rattle.std.specs.Prelude.{◌≡◌, ◌≢◌, ℕ, ◌+◌, ◌≤◌, ◌⊎◌, false, List, Option, Some, None, IsTrue}
+use Rattle.std.specs.Prelude.{◌≡◌, ◌≢◌, ℕ, ◌+◌, ◌≤◌, ◌⊎◌, false, List, length, slice_get, slice_set, Option, Some, None, IsTrue}
 use Rattle.asp_vars.specs.Literals.{Literal, has_literal, holds_in}
 use Rattle.asp_vars.specs.Codes.{code_of}
 use Rattle.asp_vars.specs.declared.nogood.Nogood.{Nogood}
@@ -15,12 +15,16 @@ use Rattle.asp_store.specs.declared.watches.Watches.{Watches}
 use Rattle.asp_store.specs.declared.front.Front.{Front}
 use Rattle.asp_store.specs.declared.front.Step.{Step}
 use Rattle.asp_store.specs.declared.front.Step.TheVariants as step
+use Rattle.asp_store.specs.declared.top_walks.Pass.{Pass}
+use Rattle.asp_store.specs.declared.top_walks.Pass.TheVariants as pass
 use Rattle.asp_store.specs.declared.propagation.Propagated.{Propagated}
 use Rattle.asp_store.specs.declared.propagation.Propagated.TheVariants as propagated
+use Rattle.asp_arena.specs.Rows.{row_at}
 use Rattle.asp_store.specs.Keeping.{nogood_at}
 use Rattle.asp_store.specs.Lists.{place, size}
 use Rattle.asp_store.specs.Pairs.{pair_at, IsOneOf, IsBeside}
 use Rattle.asp_store.specs.Fitting.{HasFalse}
+use Rattle.asp_store.specs.Looking.{AreTrueBeside}
 use Rattle.asp_store.specs.Sounding.{IsListed, IsSound, AreSettled}
 
 -- Each nogood that watches the literal stands at this place of its list or behind it, or has a literal that is false at a level
@@ -62,6 +66,19 @@ abbrev pub Steps : List (Option StoredNogood) → Watches → Watches → Traile
 Steps slots old new t f i step.Stays = IsWalking slots new t f (i + 1) × (size new.lists (code_of f.lit) ≡ size old.lists (code_of f.lit))
 Steps slots old new t f i step.Goes = IsWalking slots new t f i × (size new.lists (code_of f.lit) + 1 ≡ size old.lists (code_of f.lit))
 Steps slots old new t f i (step.Violated id) = IsViolated t.vars slots t.entries id
+
+-- the watches with this list in its place among the others
+abbrev pub back : Watches → ℕ → List Watch → Watches
+back w c list = record w { lists = slice_set w.lists c list }
+
+-- A walk along the front's list, which is taken out of the others, goes on to the next place, or the place is gone, or tells its
+-- nogood, or all literals of its nogood hold but for one, or memory is wanting.
+abbrev pub Passes : List (Option StoredNogood) → Watches → List Watch → List Watch → Trailed → Front → ℕ → Pass → Type 0
+Passes slots w old new t f i pass.Stays = IsWalking slots (back w (code_of f.lit) new) t f (i + 1) × (length new ≡ length old)
+Passes slots w old new t f i pass.Goes = IsWalking slots (back w (code_of f.lit) new) t f i × (length new + 1 ≡ length old)
+Passes slots w old new t f i pass.Told = IsWalking slots (back w (code_of f.lit) new) t f i × (length new ≡ length old) × (x : Watch) × (slice_get new i ≡ Some x) × IsTrue x.is_short
+Passes slots w old new t f i (pass.Last id other) = IsVisit slots (back w (code_of f.lit) new) t f i id other × (length new ≡ length old) × AreTrueBeside t.vars t.entries (row_at w.rows id) other
+Passes slots w old new t f i pass.Full = IsWalking slots (back w (code_of f.lit) new) t f i × (length new ≡ length old)
 
 -- No kept nogood is unit or violated, or this one is violated.
 abbrev pub Propagates : ℕ → List (Option StoredNogood) → List Entry → Propagated → Type 0

@@ -14,6 +14,7 @@ pub mod rows;
 pub mod slots;
 pub mod store;
 pub mod stored_nogood;
+pub mod top_walks;
 pub mod unlisting;
 pub mod visits;
 pub mod walks;

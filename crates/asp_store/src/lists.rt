@@ -7,6 +7,7 @@ use crate::watch::Watch;
 use asp_vars::lit::Lit;
 use std::alloc::{AllocError, Global};
 use std::marker::Model;
+use std::mem;
 
 // Most lists have no more: they fill the least block that an allocator gives.
 const FIRST: usize = 3;
@@ -21,14 +22,27 @@ fn make_room(list: &mut Vec<Watch>) -> Result<(), AllocError>
     Ok(())
 }
 
-// Adds a watch at the end of a list.
-fn push_watch(list: &mut Vec<Watch>, watch: Watch) -> Result<(), AllocError>
+// Adds a watch at the end of a list that has no room for it.
+#[inline(never)]
+fn push_anew(list: &mut Vec<Watch>, watch: Watch) -> Result<(), AllocError>
     ensures ok { OnOk result (list.new.items ≡ list.old.items ++ watch ∷ []) }
     ensures err { OnErr result (list.new.items ≡ list.old.items) }
 {
     make_room(list)?;
     list.push(watch)?;
     Ok(())
+}
+
+// Adds a watch at the end of a list.
+fn push_watch(list: &mut Vec<Watch>, watch: Watch) -> Result<(), AllocError>
+    ensures ok { OnOk result (list.new.items ≡ list.old.items ++ watch ∷ []) }
+    ensures err { OnErr result (list.new.items ≡ list.old.items) }
+{
+    if list.len() < list.capacity() {
+        list.push_reserved(watch);
+        return Ok(());
+    }
+    push_anew(list, watch)
 }
 
 /// A list of watches for each literal, by its code.
@@ -116,5 +130,23 @@ impl WatchLists {
         ensures { Takes self.old self.new (code_of lit) i }
     {
         self.lists[lit.code()].swap_remove(i);
+    }
+
+    /// Takes the literal's list out of the others: an empty one has its place.
+    pub fn take_list(&mut self, lit: Lit) -> Vec<Watch>
+        requires { code_of lit < length self.old }
+        ensures list { result.items ≡ list_at self.old (code_of lit) }
+        ensures left { self.new ≡ slice_set self.old (code_of lit) [] }
+    {
+        let empty = Vec::new(*self.lists[lit.code()].allocator());
+        mem::replace(&mut self.lists[lit.code()], empty)
+    }
+
+    /// Gives the literal a list.
+    pub fn put_list(&mut self, lit: Lit, list: Vec<Watch>)
+        requires { code_of lit < length self.old }
+        ensures { self.new ≡ slice_set self.old (code_of lit) list.items }
+    {
+        self.lists[lit.code()] = list;
     }
 }

@@ -1,16 +1,16 @@
-//! Visits to the places of a literal's list.
+//! Visits to the places of a literal's list, where its level may be below the trail's.
 //!
 //! A nogood stands in the lists of the two literals that it watches, each time beside another literal of it, the blocker.
-//! The literal whose list is walked holds. A walk passes the places whose blockers are false. At the others a place tells all
-//! of a nogood of two literals. Else its row is read: the other watch tells, or another literal that doesn't hold becomes its
-//! watch; where there is none, the other watch is false from now on, or the nogood is violated. A number whose nogood doesn't
-//! watch this literal any more is dropped from the list.
+//! The literal whose list is walked holds. The nogood's row is read: the other watch tells, or another literal that doesn't
+//! hold becomes its watch; where there is none, the other watch is false from now on, or the nogood is violated. A number whose
+//! nogood doesn't watch this literal any more is dropped from the list. No blocker is read, and no place is believed to tell
+//! its nogood: what is false by its value, or made false, may be so at a level above the front's.
 ghost use Rattle.std.specs.Prelude.{◌≡◌, ◌≢◌, ℕ, ◌<◌, ◌≤◌, ◌+◌, Some, None, OnOk, IfOk, MatchOption, IsTrue, length, slice_get, false, true};
 ghost use Rattle.std.specs.List.{All};
 ghost use Rattle.asp_vars.specs.Codes.{code_of};
 ghost use Rattle.asp_vars.specs.Literals.{holds_in, has_literal};
 ghost use Rattle.asp_vars.specs.declared.nogood.Nogood.{Nogood};
-ghost use Rattle.asp_trail.specs.Entries.{assignment, level};
+ghost use Rattle.asp_trail.specs.Entries.{assignment};
 ghost use Rattle.asp_store.specs.declared.watch.Pair.{Pair};
 ghost use Rattle.asp_store.specs.Marks.{Watch};
 ghost use Rattle.asp_arena.specs.Rows.{row_at};
@@ -23,7 +23,7 @@ ghost use Rattle.asp_store.specs.Sounding.{IsSound};
 ghost use Rattle.asp_store.specs.Walking.{IsWalking, IsVisit, MayWatch, Steps};
 
 use crate::front::{Front, Step};
-use crate::looks::{Spot, beside_from, falsify, make_false};
+use crate::looks::{Spot, beside_from, falsify};
 use crate::rows::{rewatch, watched_beside};
 use crate::stored_nogood::StoredNogood;
 use crate::watch::Watch;
@@ -213,44 +213,6 @@ fn visit_long(
     }
 }
 
-// Whether the place alone tells its nogood, and what is made false now is so at the front's level.
-fn tells_all(watch: Watch, front: &Front, trail: &Trail) -> bool
-    ensures { IsTrue result → IsTrue watch.is_short × (level trail.now.entries ≡ front.now.level) }
-{
-    watch.is_short() && front.level == trail.level()
-}
-
-// The nogood has no literals beside the front's, which holds, and the blocker: it isn't read.
-fn visit_short(
-    watches: &Watches,
-    slots: &[Option<StoredNogood>],
-    i: usize,
-    watch: Watch,
-    front: &Front,
-    trail: &mut Trail,
-) -> Step
-    requires walking { IsWalking slots.now watches.now trail.old front.now i }
-    requires at { place watches.now.lists (code_of front.now.lit) i ≡ Some watch }
-    requires short { IsTrue watch.is_short }
-    requires level { level trail.old.entries ≡ front.now.level }
-    requires room { trail.old.vars ≤ trail.old.room }
-    ensures same { trail.new ≡ record trail.old { entries = trail.new.entries } }
-    ensures extends { Extends slots.now trail.old.entries trail.new.entries }
-    ensures sound { IsSound slots.now watches.now trail.new }
-    ensures steps { Steps slots.now watches.now watches.now trail.new front.now i result }
-{
-    let _len = trail.len();
-    let _level = trail.level();
-    let id = watch.id();
-    let blocker = watch.blocker();
-    if trail.assignment().holds(blocker) {
-        return Step::Violated(id as usize);
-    }
-    make_false(&[front.lit, blocker], blocker, id as usize, trail);
-    let _new_len = trail.len();
-    Step::Stays
-}
-
 /// Visits the i-th place of the front's list.
 pub fn visit_place(
     watches: &mut Watches,
@@ -268,10 +230,6 @@ pub fn visit_place(
     ensures steps { IfOk result (Steps slots.now watches.old watches.new trail.new front.now i) }
 {
     let watch = watches.lists.watch(front.lit, i);
-    if tells_all(watch, front, trail) {
-        let step = visit_short(watches, slots, i, watch, front, trail);
-        return Ok(step);
-    }
     let id = watch.id();
     match watched_beside(&watches.rows, id, front.lit) {
         None => {

@@ -96,30 +96,3 @@ returns-else-is_blocked-clause-sound c = c.visit_long.ensures.sound
 
 pub returns-else-is_blocked-clause-steps : goal.returns-else-is_blocked-clause-steps
 returns-else-is_blocked-clause-steps c = c.visit_long.ensures.steps
-
-pub visit_short-step-requires-clause-walking : goal.visit_short-step-requires-clause-walking
-visit_short-step-requires-clause-walking c = c.requires.walking
-
-pub visit_short-step-requires-clause-at : goal.visit_short-step-requires-clause-at
-visit_short-step-requires-clause-at c = c.watch-watch.ensures
-
-pub visit_short-step-requires-clause-short : goal.visit_short-step-requires-clause-short
-visit_short-step-requires-clause-short c = (c.tells_all.ensures c.if-tells_all.true).0
-
-pub visit_short-step-requires-clause-level : goal.visit_short-step-requires-clause-level
-visit_short-step-requires-clause-level c = (c.tells_all.ensures c.if-tells_all.true).1
-
-pub visit_short-step-requires-clause-room : goal.visit_short-step-requires-clause-room
-visit_short-step-requires-clause-room c = c.requires.room
-
-pub returns-then-tells_all-clause-same : goal.returns-then-tells_all-clause-same
-returns-then-tells_all-clause-same c = c.visit_short-step.ensures.same
-
-pub returns-then-tells_all-clause-extends : goal.returns-then-tells_all-clause-extends
-returns-then-tells_all-clause-extends c = c.visit_short-step.ensures.extends
-
-pub returns-then-tells_all-clause-sound : goal.returns-then-tells_all-clause-sound
-returns-then-tells_all-clause-sound c = c.visit_short-step.ensures.sound
-
-pub returns-then-tells_all-clause-steps : goal.returns-then-tells_all-clause-steps
-returns-then-tells_all-clause-steps c = c.visit_short-step.ensures.steps

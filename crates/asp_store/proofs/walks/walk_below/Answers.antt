@@ -4,13 +4,10 @@ use Rattle.asp_store.specs.declared.front.Step.{Step}
 use Rattle.asp_store.specs.Walking.{Steps}
 use Rattle.asp_store.proofs.GrowLaws.{extends_none, extends_more}
 use Rattle.asp_store.proofs.StepLaws.{code_of_list, front_var}
-use Rattle.asp_store.proofs.walks.walk.Goals as goal
-
-pub skip-i-requires-clause-within : goal.skip-i-requires-clause-within
-skip-i-requires-clause-within c = omega arith
+use Rattle.asp_store.proofs.walks.walk_below.Goals as goal
 
 pub places-init : goal.places-init
-places-init c = record { walking = c.skip-i.ensures.walking; same = refl; extends = extends_none c.args.slots.now c.args.trail.now.entries }
+places-init c = record { walking = c.requires.walking; same = refl; extends = extends_none c.args.slots.now c.args.trail.now.entries }
 
 pub len-requires : goal.len-requires
 len-requires c =
@@ -62,20 +59,20 @@ returns-clause-walked c = (c.places.i, omega (arith, c.len.ensures, c.places-tes
 
 pub places-preserved : goal.places-preserved
 places-preserved c = record {
-  walking = c.skip-i-in-Goes.ensures.walking;
+  walking = (subst (λ (s : Step). Steps c.args.slots.now c.places.watches c.visit_place.new.watches c.visit_place.new.trail c.args.front.now c.places.i s) c.in-Goes.is c.in_ok-step.ensures.steps).0;
   same = c.visit_place.ensures.same ∙ ap (λ (s : Trailed). let r : Trailed = record s { entries = c.visit_place.new.trail.entries } in r) c.places.invariant.same;
   extends = extends_more c.args.slots.now c.args.trail.now.entries c.places.trail.entries c.visit_place.new.trail.entries c.places.invariant.extends c.visit_place.ensures.extends;
 }
 
 pub places-preserved-in-Stays : goal.places-preserved-in-Stays
 places-preserved-in-Stays c = record {
-  walking = c.skip-i-in-Stays.ensures.walking;
+  walking = (subst (λ (s : Step). Steps c.args.slots.now c.places.watches c.visit_place.new.watches c.visit_place.new.trail c.args.front.now c.places.i s) c.in-Stays.is c.in_ok-step.ensures.steps).0;
   same = c.visit_place.ensures.same ∙ ap (λ (s : Trailed). let r : Trailed = record s { entries = c.visit_place.new.trail.entries } in r) c.places.invariant.same;
   extends = extends_more c.args.slots.now c.args.trail.now.entries c.places.trail.entries c.visit_place.new.trail.entries c.places.invariant.extends c.visit_place.ensures.extends;
 }
 
 pub places-smaller : goal.places-smaller
-places-smaller c = omega (arith, c.len.ensures, c.places-test.true, c.skip-i-in-Goes.ensures.from, (subst (λ (s : Step). Steps c.args.slots.now c.places.watches c.visit_place.new.watches c.visit_place.new.trail c.args.front.now c.places.i s) c.in-Goes.is c.in_ok-step.ensures.steps).1)
+places-smaller c = omega (arith, c.len.ensures, c.places-test.true, (subst (λ (s : Step). Steps c.args.slots.now c.places.watches c.visit_place.new.watches c.visit_place.new.trail c.args.front.now c.places.i s) c.in-Goes.is c.in_ok-step.ensures.steps).1)
 
 pub places-smaller-in-Stays : goal.places-smaller-in-Stays
-places-smaller-in-Stays c = omega (arith, c.len.ensures, c.places-test.true, c.skip-i-in-Stays.ensures.from, (subst (λ (s : Step). Steps c.args.slots.now c.places.watches c.visit_place.new.watches c.visit_place.new.trail c.args.front.now c.places.i s) c.in-Stays.is c.in_ok-step.ensures.steps).1)
+places-smaller-in-Stays c = omega (arith, c.len.ensures, c.places-test.true, (subst (λ (s : Step). Steps c.args.slots.now c.places.watches c.visit_place.new.watches c.visit_place.new.trail c.args.front.now c.places.i s) c.in-Stays.is c.in_ok-step.ensures.steps).1)

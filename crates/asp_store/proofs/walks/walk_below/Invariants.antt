@@ -3,7 +3,7 @@ use Rattle.asp_vars.specs.Codes.{code_of}
 use Rattle.asp_store.specs.Fitting.{Extends}
 use Rattle.asp_store.specs.Lists.{size}
 use Rattle.asp_store.specs.Walking.{IsWalking}
-use Rattle.asp_store.proofs.walks.walk.Given as goal
+use Rattle.asp_store.proofs.walks.walk_below.Given as goal
 
 abbrev pub invariant-places : goal.invariant-places
 invariant-places l = record {
