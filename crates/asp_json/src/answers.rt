@@ -36,7 +36,7 @@ const FEW_ANSWERS: usize = 4;
 
 /// The outputs with their texts in quotes.
 #[derive(Drop)]
-pub(crate) struct Quoted {
+pub(crate) struct QuotedTable {
     /// The outputs.
     outputs: Outputs,
     /// What is read of them for each answer.
@@ -103,7 +103,7 @@ fn put_line<K: Sink>(
     atoms: &[Atom],
     row: &Row,
     outputs: &Outputs,
-    quoted: Option<&Quoted>,
+    quoted: Option<&QuotedTable>,
 ) -> Result<(), Failed>
     requires row { IsRowAmong atoms.now row.now }
     requires quoted { ForSome quoted (λ q. IsQuoted atoms.now outputs.now q.now) }
@@ -122,7 +122,7 @@ fn put_value<K: Sink>(
     sink: &mut K,
     waiting: &mut Waiting,
     program: &Program,
-    quoted: Option<&Quoted>,
+    quoted: Option<&QuotedTable>,
     atoms: &[Atom],
     row: &Row,
 ) -> Result<(), Failed>
@@ -171,7 +171,7 @@ fn put_answer<K: Sink>(
     waiting: &mut Waiting,
     program: &Program,
     best: &Option<(Interp, Cost)>,
-    quoted: Option<&Quoted>,
+    quoted: Option<&QuotedTable>,
     atoms: &[Atom],
     row: &Row,
 ) -> Result<(), Failed>
@@ -191,7 +191,7 @@ fn put_next<K: Sink>(
     waiting: &mut Waiting,
     program: &Program,
     best: &Option<(Interp, Cost)>,
-    quoted: Option<&Quoted>,
+    quoted: Option<&QuotedTable>,
     atoms: &[Atom],
     row: &Row,
     any: bool,
@@ -212,7 +212,7 @@ fn put_each<K: Sink>(
     waiting: &mut Waiting,
     program: &Program,
     best: &Option<(Interp, Cost)>,
-    quoted: Option<&Quoted>,
+    quoted: Option<&QuotedTable>,
     atoms: &[Atom],
     rows: &[Row],
 ) -> Result<(), Failed>
@@ -221,7 +221,7 @@ fn put_each<K: Sink>(
     requires quoted { ForSome quoted (λ q. IsQuoted atoms.now program.now.outputs q.now) }
     ensures { Puts (out (K.held sink.old) (K.faults sink.old) waiting.old)
         (out (K.held sink.new) (K.faults sink.new) waiting.new) result
-        (commas false (map (λ row. witness program.now best.now row.set) rows.now)) }
+        (commas false (map (witness program.now best.now) (map (λ row. row.set) rows.now))) }
 {
     let mut any = false;
     for row in rows {
@@ -231,13 +231,16 @@ fn put_each<K: Sink>(
     Ok(())
 }
 
-fn quoted(alloc: Global, atoms: &[Atom], outputs: &Outputs) -> Result<Quoted, AllocError>
+fn quoted(alloc: Global, atoms: &[Atom], outputs: &Outputs) -> Result<QuotedTable, AllocError>
     requires { IsAscending atoms.now }
     ensures { IfOk result (IsQuoted atoms.now outputs.now) }
 {
-    let outputs = quoted_outputs(alloc, outputs)?;
-    let table = OutputTable::of(alloc, b',', atoms, &outputs)?;
-    Ok(Quoted { outputs, table })
+    let same = quoted_outputs(alloc, outputs)?;
+    let table = OutputTable::of(alloc, b',', atoms, &same)?;
+    Ok(QuotedTable {
+        outputs: same,
+        table,
+    })
 }
 
 // The outputs in quotes, where that is worth its while and memory suffices.
@@ -246,7 +249,7 @@ fn quoted_for(
     atoms: &[Atom],
     outputs: &Outputs,
     answers: usize,
-) -> Option<Quoted>
+) -> Option<QuotedTable>
     requires { IsAscending atoms.now }
     ensures { IfSome result (IsQuoted atoms.now outputs.now) }
 {

@@ -11,14 +11,14 @@ use std::marker::Model;
 
 /// What stands for a byte within quotes.
 #[derive(Drop)]
-pub(crate) struct Escaped {
+pub(crate) struct Escape {
     /// The bytes that stand for it, and after them anything.
     bytes: [u8; 6],
     /// How many bytes stand for it.
     len: usize,
 }
 
-impl Model for Escaped {
+impl Model for Escape {
     ghost use Rattle.std.specs.Prelude.{List, ℕ, ◌≤◌, take};
 
     ghost Value = { List ℕ };
@@ -28,7 +28,7 @@ impl Model for Escaped {
     ghost invariant = { λ e. e.len ≤ 6 };
 }
 
-impl Escaped {
+impl Escape {
     fn as_slice(&self) -> &[u8]
         ensures { result.now ≡ self.now }
     {
@@ -47,11 +47,11 @@ fn hex_digit(number: u8) -> u8
     }
 }
 
-fn escaped(byte: u8) -> Escaped
+fn escaped(byte: u8) -> Escape
     ensures { result ≡ escaped byte }
 {
     if byte == b'"' || byte == b'\\' {
-        return Escaped {
+        return Escape {
             bytes: [b'\\', byte, 0, 0, 0, 0],
             len: 2,
         };
@@ -59,12 +59,12 @@ fn escaped(byte: u8) -> Escaped
     if byte < 32 {
         let high = hex_digit(byte / 16);
         let low = hex_digit(byte % 16);
-        return Escaped {
+        return Escape {
             bytes: [b'\\', b'u', b'0', b'0', high, low],
             len: 6,
         };
     }
-    Escaped {
+    Escape {
         bytes: [byte, 0, 0, 0, 0, 0],
         len: 1,
     }
@@ -105,7 +105,7 @@ pub(crate) fn put_quoted<K: Sink>(
 
 // Appends what stands for a text.
 fn push_escaped(bytes: &mut Vec<u8>, text: &[u8]) -> Result<(), AllocError>
-    ensures { OnOk result (bytes.new ≡ bytes.old ++ flat_map escaped text.now) }
+    ensures { OnOk result (bytes.new.items ≡ bytes.old.items ++ flat_map escaped text.now) }
 {
     for byte in text {
         bytes.extend_from_slice(escaped(*byte).as_slice())?;

@@ -1,10 +1,10 @@
 //! The text of results as JSON.
-ghost use Rattle.std.specs.Prelude.{◌≡◌, ◌++◌, ◌≤◌, codes, decimal, OnErr, OnOk};
+ghost use Rattle.std.specs.Prelude.{◌≡◌, ◌++◌, ◌≤◌, codes, decimal, map, OnErr, OnOk};
 ghost use Rattle.std.specs.Io.KnownBytes.{Appends};
 ghost use Rattle.asp_io.specs.Causes.{AppendsFront, Rose};
 ghost use Rattle.asp_model.specs.Texts.{found_count};
 ghost use Rattle.asp_buffer.specs.Out.{Puts, out};
-ghost use Rattle.asp_json.specs.Json.{closing_text, consequences_text, costs_text, json_text, models_text, more, optimum_text, proven, proven_count, result_text, result_word};
+ghost use Rattle.asp_json.specs.Json.{array, closing_text, consequences_text, costs_text, json_text, models_text, more, optimum_text, proven, proven_count, result_text, result_word};
 
 use crate::answers::{put_call, put_costs};
 use crate::lists::put_atoms;
@@ -23,9 +23,13 @@ fn result_word(end: End, mode: Mode, count: usize) -> &'static [u8]
 {
     match (end, mode) {
         (End::Finished, _) if count == 0 => b"UNSATISFIABLE",
-        _ if count == 0 => b"UNKNOWN",
-        (End::Finished | End::Limited, Mode::Opt) => b"OPTIMUM FOUND",
-        _ => b"SATISFIABLE",
+        (End::Limited, _) if count == 0 => b"UNKNOWN",
+        (End::Unfinished, _) if count == 0 => b"UNKNOWN",
+        (End::Finished, Mode::Opt) => b"OPTIMUM FOUND",
+        (End::Limited, Mode::Opt) => b"OPTIMUM FOUND",
+        (End::Finished, _) => b"SATISFIABLE",
+        (End::Limited, _) => b"SATISFIABLE",
+        (End::Unfinished, _) => b"SATISFIABLE",
     }
 }
 
@@ -56,6 +60,19 @@ fn proven_count(end: End, count: usize) -> usize
     }
 }
 
+fn put_consequences<K: Sink>(
+    sink: &mut K,
+    waiting: &mut Waiting,
+    known: &Interp,
+) -> Result<(), Failed>
+    ensures { Puts (out (K.held sink.old) (K.faults sink.old) waiting.old)
+        (out (K.held sink.new) (K.faults sink.new) waiting.new) result
+        (codes ",\"Consequences\":" ++ array (map decimal known.now)) }
+{
+    put(sink, waiting, b",\"Consequences\":")?;
+    put_atoms(sink, waiting, known.as_slice())
+}
+
 // Puts out the atoms that hold in some or in all answers, where that was asked for.
 fn put_known<K: Sink>(
     sink: &mut K,
@@ -67,10 +84,7 @@ fn put_known<K: Sink>(
 {
     match known {
         None => put(sink, waiting, b""),
-        Some(known) => {
-            put(sink, waiting, b",\"Consequences\":")?;
-            put_atoms(sink, waiting, known.as_slice())
-        }
+        Some(known) => put_consequences(sink, waiting, known),
     }
 }
 
