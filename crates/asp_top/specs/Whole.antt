@@ -2,14 +2,19 @@
 use Rattle.std.specs.Prelude.{◌≡◌, ℕ, ◌++◌, Bool, true, if◌then◌else◌, List, [], ◌∷◌, filter, length, Contains, Option, None, Some, Ok, IfSome, codes, decimal}
 use Rattle.std.specs.Io.KnownBytes.{Appends}
 use Rattle.asp_model.specs.declared.program.Program.{Program}
+use Rattle.asp_model.specs.declared.results.End.TheVariants.{Finished, Limited}
 use Rattle.asp_model.specs.declared.results.Mode.{Mode}
 use Rattle.asp_model.specs.declared.results.Mode.TheVariants.{Enum, Opt, Consequences}
+use Rattle.asp_model.specs.Found.{Found}
 use Rattle.asp_model.specs.Sets.{Atoms}
 use Rattle.asp_model.specs.Models.{answers}
 use Rattle.asp_model.specs.Costs.{cost, optima}
 use Rattle.asp_model.specs.Consequences.{consequences}
 use Rattle.asp_model.specs.Texts.{answers_from, consequences_line, cost_line, ended_line}
 use Rattle.asp_make.specs.Ring.{ring}
+use Rattle.asp_json.specs.Json.{json_text}
+use Rattle.asp_cli.specs.declared.Form.{Form}
+use Rattle.asp_cli.specs.declared.Form.TheVariants.{Text, Json}
 use Rattle.asp_cli.specs.declared.Format.{Format}
 use Rattle.asp_cli.specs.declared.Options.{Options}
 use Rattle.asp_top.specs.Formats.{outcome_for}
@@ -47,24 +52,44 @@ none_text Enum = closing (codes "UNSATISFIABLE") (decimal 0)
 none_text Opt = closing (codes "UNSATISFIABLE") (decimal 0)
 none_text (Consequences w) = ended_line (codes "UNSATISFIABLE")
 
+-- the optima that are listed where all are asked for; the best one is told without a list
+abbrev pub listed_optima : Options → Program → List Atoms
+listed_optima given p = if given.all_optima then optima p else []
+
+-- the text of these results as JSON
+abbrev pub json_of : Options → Program → Found → List ℕ
+json_of given p r = json_text p r (is_brief given)
+
+-- what is told in lines, or as JSON
+abbrev pub InForm : Form → Type 0 → Type 0 → Type 0
+InForm Text lines json = lines
+InForm Json lines json = json
+
 -- There is no answer, and the text says so.
-abbrev pub TellsNone : Program → Mode → List ℕ → Type 0
-TellsNone p mode text = (answers p ≡ []) × (text ≡ none_text mode)
+abbrev pub TellsNone : Options → Program → Mode → List ℕ → Type 0
+TellsNone given p mode text = (answers p ≡ []) × InForm given.form (text ≡ none_text mode) (text ≡ json_of given p (record { mode = mode; end = Finished; answers = []; best = None; known = None }))
 
 -- There are answers, and all that is asked for is written: all answers; one optimum, or all of them, with the cost; the atoms that are
 -- in some answer, or in each.
 abbrev pub TellsAll : Options → Program → Mode → List ℕ → Type 0
-TellsAll given p Enum text = ¬ (answers p ≡ []) × (text ≡ listed given p (answers p) ++ closing (codes "SATISFIABLE") (decimal (length (answers p))))
+TellsAll given p Enum text = ¬ (answers p ≡ [])
+    × InForm given.form (text ≡ listed given p (answers p) ++ closing (codes "SATISFIABLE") (decimal (length (answers p))))
+    (text ≡ json_of given p (record { mode = Enum; end = Finished; answers = answers p; best = None; known = None }))
 TellsAll given p Opt text = (S : Atoms) × Contains (optima p) S
-    × (text ≡ listed given p (written_optima given p S) ++ cost_line (cost p S) ++ closing (codes "OPTIMUM FOUND") (decimal (length (written_optima given p S))))
-TellsAll given p (Consequences w) text = ¬ (answers p ≡ []) × (text ≡ consequences_line (Some (consequences w p (answers p))) ++ ended_line (codes "CONSEQUENCES FOUND"))
+    × InForm given.form (text ≡ listed given p (written_optima given p S) ++ cost_line (cost p S) ++ closing (codes "OPTIMUM FOUND") (decimal (length (written_optima given p S))))
+    (text ≡ json_of given p (record { mode = Opt; end = Finished; answers = listed_optima given p; best = Some (S, cost p S); known = None }))
+TellsAll given p (Consequences w) text = ¬ (answers p ≡ [])
+    × InForm given.form (text ≡ consequences_line (Some (consequences w p (answers p))) ++ ended_line (codes "CONSEQUENCES FOUND"))
+    (text ≡ json_of given p (record { mode = Consequences w; end = Finished; answers = []; best = None; known = Some (consequences w p (answers p)) }))
 
 -- As many answers as `--models` asks for are written, or with `--opt-all` as many optima.
 abbrev pub TellsEnough : Options → Program → Mode → List ℕ → Type 0
 TellsEnough given p Enum text = (Ss : List Atoms) × ArePicked given.models (answers p) Ss
-    × (text ≡ listed given p Ss ++ closing (codes "LIMIT REACHED") (decimal given.models ++ codes "+"))
+    × InForm given.form (text ≡ listed given p Ss ++ closing (codes "LIMIT REACHED") (decimal given.models ++ codes "+"))
+    (text ≡ json_of given p (record { mode = Enum; end = Limited; answers = Ss; best = None; known = None }))
 TellsEnough given p Opt text = (S : Atoms) × (Ss : List Atoms) × Contains (optima p) S × ArePicked given.models (optima p) Ss
-    × (text ≡ listed given p Ss ++ cost_line (cost p S) ++ closing (codes "LIMIT REACHED") (decimal given.models ++ codes "+"))
+    × InForm given.form (text ≡ listed given p Ss ++ cost_line (cost p S) ++ closing (codes "LIMIT REACHED") (decimal given.models ++ codes "+"))
+    (text ≡ json_of given p (record { mode = Opt; end = Limited; answers = Ss; best = Some (S, cost p S); known = None }))
 TellsEnough given p (Consequences w) text = ⊥
 
 -- ---- the theorem
@@ -81,6 +106,6 @@ pub record Wrote (given : Options) (left held held' : Option (List ℕ)) (is_sen
 -- ended in another way nothing is said here.
 abbrev pub IsWhole : Options → Option (List ℕ) → Option (List ℕ) → Option (List ℕ) → Bool → Status → Type 0
 IsWhole given left held held' is_sent All = Wrote given left held held' is_sent (TellsAll given)
-IsWhole given left held held' is_sent NoModel = Wrote given left held held' is_sent TellsNone
+IsWhole given left held held' is_sent NoModel = Wrote given left held held' is_sent (TellsNone given)
 IsWhole given left held held' is_sent Enough = Wrote given left held held' is_sent (TellsEnough given)
 IsWhole given left held held' is_sent status = Unit {0}
