@@ -9,7 +9,7 @@ use Rattle.asp_model.specs.declared.results.Mode.{Mode}
 use Rattle.asp_model.specs.declared.results.Mode.TheVariants.{Enum, Opt, Consequences}
 use Rattle.asp_model.specs.Found.{Found}
 use Rattle.asp_model.specs.Sets.{Atoms}
-use Rattle.asp_model.specs.Texts.{found_count, recorded, shown}
+use Rattle.asp_model.specs.Texts.{bests, found_count, shown}
 use Rattle.asp_json.specs.Quoting.{quoted}
 
 -- values in brackets, a comma between two
@@ -19,12 +19,12 @@ array values = codes "[" ++ join_with_byte 44 values ++ codes "]"
 abbrev pub costs_text : List ℤ → List ℕ
 costs_text c = codes ",\"Costs\":" ++ array (map signed_decimal c)
 
--- the cost of the best answer, where there is one: only an optimisation has it
+-- the cost of the best answer, where there is one
 abbrev pub best_costs : Option (Atoms × List ℤ) → List ℕ
 best_costs None = []
 best_costs (Some best) = costs_text best.1
 
--- an answer, on a line of its own: the texts that it shows, and in an optimisation its cost
+-- an answer, on a line of its own: the texts that it shows, and the cost of the best, where there is one
 abbrev pub witness : Program → Option (Atoms × List ℤ) → Atoms → List ℕ
 witness p best S = codes "\n{\"Value\":" ++ array (map quoted (shown p S)) ++ best_costs best ++ codes "}"
 
@@ -33,14 +33,26 @@ abbrev pub witnesses : Program → Option (Atoms × List ℤ) → List Atoms →
 witnesses p best [] = []
 witnesses p best (S ∷ Ss) = codes "\"Witnesses\":[" ++ join_with_byte 44 (map (witness p best) (S ∷ Ss)) ++ codes "\n]"
 
+-- the answers that were recorded: in an optimisation with their cost; of consequences none is
+abbrev pub recorded_text : Program → Mode → Found → List ℕ
+recorded_text p Enum r = witnesses p None r.answers
+recorded_text p Opt r = witnesses p r.best (bests r.best r.answers)
+recorded_text p (Consequences w) r = []
+
 -- A brief text leaves out the answers.
 abbrev pub call_text : Program → Found → Bool → List ℕ
-call_text p r brief = codes "{\"Solver\":\"aspenum\",\"Call\":[{" ++ (if brief then [] else witnesses p r.best (recorded r.mode r)) ++ codes "}]"
+call_text p r brief = codes "{\"Solver\":\"aspenum\",\"Call\":[{" ++ (if brief then [] else recorded_text p r.mode r) ++ codes "}]"
 
--- the atoms that hold in some or in all answers, where that was asked for
+-- the atoms that hold in some or in all answers, where that is known
 abbrev pub consequences_text : Option Atoms → List ℕ
 consequences_text None = []
 consequences_text (Some B) = codes ",\"Consequences\":" ++ array (map decimal B)
+
+-- the same where it was asked for
+abbrev pub known_text : Mode → Found → List ℕ
+known_text Enum r = []
+known_text Opt r = []
+known_text (Consequences w) r = consequences_text r.known
 
 -- what is said of a run that recorded so many answers; an optimisation reaches its limit only after it has found the best cost
 abbrev pub result_word : End → Mode → ℕ → List ℕ
@@ -78,15 +90,21 @@ abbrev pub optimum_text : End → ℕ → Option (Atoms × List ℤ) → List �
 optimum_text end k None = []
 optimum_text end k (Some best) = codes ",\"Optimum\":\"" ++ proven end ++ codes "\",\"Optimal\":" ++ decimal (proven_count end k) ++ costs_text best.1
 
+-- the same where an optimisation was asked for
+abbrev pub best_text : Mode → Found → ℕ → List ℕ
+best_text Enum r k = []
+best_text Opt r k = optimum_text r.end k r.best
+best_text (Consequences w) r k = []
+
 abbrev pub result_text : Found → ℕ → List ℕ
 result_text r k = codes ",\"Result\":\"" ++ result_word r.end r.mode k ++ codes "\""
 
 abbrev pub models_text : Found → ℕ → List ℕ
-models_text r k = codes ",\"Models\":{\"Number\":" ++ decimal k ++ codes ",\"More\":\"" ++ more r.end ++ codes "\"" ++ optimum_text r.end k r.best ++ codes "}}\n"
+models_text r k = codes ",\"Models\":{\"Number\":" ++ decimal k ++ codes ",\"More\":\"" ++ more r.end ++ codes "\"" ++ best_text r.mode r k ++ codes "}}\n"
 
 -- what follows the answers
 abbrev pub closing_text : Found → ℕ → List ℕ
-closing_text r k = consequences_text r.known ++ result_text r k ++ models_text r k
+closing_text r k = known_text r.mode r ++ result_text r k ++ models_text r k
 
 abbrev pub json_text : Program → Found → Bool → List ℕ
 json_text p r brief = call_text p r brief ++ closing_text r (found_count r.mode r)

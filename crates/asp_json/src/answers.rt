@@ -3,14 +3,14 @@ ghost use Rattle.std.specs.Prelude.{◌≡◌, ◌++◌, ◌||◌, [], codes, fa
 ghost use Rattle.std.specs.Option.{ForSome};
 ghost use Rattle.asp_model.specs.Holding.{all_hold};
 ghost use Rattle.asp_model.specs.Sets.{IsAscending};
-ghost use Rattle.asp_model.specs.Texts.{best_answers, bests, recorded, shown};
+ghost use Rattle.asp_model.specs.Texts.{best_answers, bests, shown};
 ghost use Rattle.asp_model.specs.Views.{output_seen};
 ghost use Rattle.asp_rows.specs.Listed.{AreRows};
 ghost use Rattle.asp_buffer.specs.Out.{Puts, out};
 ghost use Rattle.asp_print.specs.Rows.{IsRowAmong};
 ghost use Rattle.asp_print.specs.Shown.{piece, pieces, separator};
 ghost use Rattle.asp_json.specs.Commas.{commas};
-ghost use Rattle.asp_json.specs.Json.{array, best_costs, call_text, costs_text, witness, witnesses};
+ghost use Rattle.asp_json.specs.Json.{array, best_costs, call_text, costs_text, recorded_text, witness, witnesses};
 ghost use Rattle.asp_json.specs.Quoting.{quoted, quoted_output};
 ghost use Rattle.asp_json.specs.Tables.{IsQuoted};
 
@@ -103,15 +103,15 @@ fn put_line<K: Sink>(
     atoms: &[Atom],
     row: &Row,
     outputs: &Outputs,
-    quoted: Option<&QuotedTable>,
+    table: Option<&QuotedTable>,
 ) -> Result<(), Failed>
     requires row { IsRowAmong atoms.now row.now }
-    requires quoted { ForSome quoted (λ q. IsQuoted atoms.now outputs.now q.now) }
+    requires table { ForSome table (λ q. IsQuoted atoms.now outputs.now q.now) }
     ensures { Puts (out (K.held sink.old) (K.faults sink.old) waiting.old)
         (out (K.held sink.new) (K.faults sink.new) waiting.new) result
         (pieces 44 row.now.set false (map quoted_output outputs.now)) }
 {
-    match quoted {
+    match table {
         Some(quoted) => put_runs(sink, waiting, atoms, row, &quoted.outputs, &quoted.table),
         None => put_texts(sink, waiting, &Among { atoms, row }, outputs),
     }
@@ -122,18 +122,18 @@ fn put_value<K: Sink>(
     sink: &mut K,
     waiting: &mut Waiting,
     program: &Program,
-    quoted: Option<&QuotedTable>,
+    table: Option<&QuotedTable>,
     atoms: &[Atom],
     row: &Row,
 ) -> Result<(), Failed>
     requires row { IsRowAmong atoms.now row.now }
-    requires quoted { ForSome quoted (λ q. IsQuoted atoms.now program.now.outputs q.now) }
+    requires table { ForSome table (λ q. IsQuoted atoms.now program.now.outputs q.now) }
     ensures { Puts (out (K.held sink.old) (K.faults sink.old) waiting.old)
         (out (K.held sink.new) (K.faults sink.new) waiting.new) result
         (codes "\n{\"Value\":" ++ array (map quoted (shown program.now row.now.set))) }
 {
     put(sink, waiting, b"\n{\"Value\":[")?;
-    put_line(sink, waiting, atoms, row, &program.outputs, quoted)?;
+    put_line(sink, waiting, atoms, row, &program.outputs, table)?;
     put(sink, waiting, b"]")
 }
 
@@ -171,16 +171,16 @@ fn put_answer<K: Sink>(
     waiting: &mut Waiting,
     program: &Program,
     best: &Option<(Interp, Cost)>,
-    quoted: Option<&QuotedTable>,
+    table: Option<&QuotedTable>,
     atoms: &[Atom],
     row: &Row,
 ) -> Result<(), Failed>
     requires row { IsRowAmong atoms.now row.now }
-    requires quoted { ForSome quoted (λ q. IsQuoted atoms.now program.now.outputs q.now) }
+    requires table { ForSome table (λ q. IsQuoted atoms.now program.now.outputs q.now) }
     ensures { Puts (out (K.held sink.old) (K.faults sink.old) waiting.old)
         (out (K.held sink.new) (K.faults sink.new) waiting.new) result (witness program.now best.now row.now.set) }
 {
-    put_value(sink, waiting, program, quoted, atoms, row)?;
+    put_value(sink, waiting, program, table, atoms, row)?;
     put_best_costs(sink, waiting, best)?;
     put(sink, waiting, b"}")
 }
@@ -191,19 +191,19 @@ fn put_next<K: Sink>(
     waiting: &mut Waiting,
     program: &Program,
     best: &Option<(Interp, Cost)>,
-    quoted: Option<&QuotedTable>,
+    table: Option<&QuotedTable>,
     atoms: &[Atom],
     row: &Row,
     any: bool,
 ) -> Result<(), Failed>
     requires row { IsRowAmong atoms.now row.now }
-    requires quoted { ForSome quoted (λ q. IsQuoted atoms.now program.now.outputs q.now) }
+    requires table { ForSome table (λ q. IsQuoted atoms.now program.now.outputs q.now) }
     ensures { Puts (out (K.held sink.old) (K.faults sink.old) waiting.old)
         (out (K.held sink.new) (K.faults sink.new) waiting.new) result
         (separator 44 any ++ witness program.now best.now row.now.set) }
 {
     put_comma(sink, waiting, any)?;
-    put_answer(sink, waiting, program, best, quoted, atoms, row)
+    put_answer(sink, waiting, program, best, table, atoms, row)
 }
 
 // Puts out the answers, a comma between two.
@@ -212,20 +212,20 @@ fn put_each<K: Sink>(
     waiting: &mut Waiting,
     program: &Program,
     best: &Option<(Interp, Cost)>,
-    quoted: Option<&QuotedTable>,
+    table: Option<&QuotedTable>,
     atoms: &[Atom],
     rows: &[Row],
 ) -> Result<(), Failed>
     requires ascending { IsAscending atoms.now }
     requires rows { AreRows atoms.now rows.now }
-    requires quoted { ForSome quoted (λ q. IsQuoted atoms.now program.now.outputs q.now) }
+    requires table { ForSome table (λ q. IsQuoted atoms.now program.now.outputs q.now) }
     ensures { Puts (out (K.held sink.old) (K.faults sink.old) waiting.old)
         (out (K.held sink.new) (K.faults sink.new) waiting.new) result
         (commas false (map (witness program.now best.now) (map (λ row. row.set) rows.now))) }
 {
     let mut any = false;
     for row in rows {
-        put_next(sink, waiting, program, best, quoted, atoms, row, any)?;
+        put_next(sink, waiting, program, best, table, atoms, row, any)?;
         any = true;
     }
     Ok(())
@@ -273,13 +273,13 @@ fn put_rows<K: Sink>(
         (commas false (map (witness program.now best.now) answers.now.sets)) }
 {
     let atoms = answers.atoms().as_slice();
-    let quoted = quoted_for(alloc, atoms, &program.outputs, answers.len());
+    let table = quoted_for(alloc, atoms, &program.outputs, answers.len());
     put_each(
         sink,
         waiting,
         program,
         best,
-        quoted.as_ref(),
+        table.as_ref(),
         atoms,
         answers.as_slice(),
     )
@@ -419,7 +419,7 @@ fn put_found<K: Sink>(
 ) -> Result<(), Failed>
     ensures { Puts (out (K.held sink.old) (K.faults sink.old) waiting.old)
         (out (K.held sink.new) (K.faults sink.new) waiting.new) result
-        (witnesses program.now results.now.best (recorded results.now.mode results.now)) }
+        (recorded_text program.now results.now.mode results.now) }
 {
     match results.mode {
         Mode::Enum => put_answers(
@@ -427,7 +427,7 @@ fn put_found<K: Sink>(
             sink,
             waiting,
             program,
-            &results.best,
+            &None,
             results.answers.rows(),
         ),
         Mode::Opt => put_bests(alloc, sink, waiting, program, results),
@@ -446,7 +446,7 @@ fn put_recorded<K: Sink>(
 ) -> Result<(), Failed>
     ensures { Puts (out (K.held sink.old) (K.faults sink.old) waiting.old)
         (out (K.held sink.new) (K.faults sink.new) waiting.new) result
-        (if brief then [] else witnesses program.now results.now.best (recorded results.now.mode results.now)) }
+        (if brief then [] else recorded_text program.now results.now.mode results.now) }
 {
     if brief {
         put(sink, waiting, b"")

@@ -4,7 +4,7 @@ ghost use Rattle.std.specs.Io.KnownBytes.{Appends};
 ghost use Rattle.asp_io.specs.Causes.{AppendsFront, Rose};
 ghost use Rattle.asp_model.specs.Texts.{found_count};
 ghost use Rattle.asp_buffer.specs.Out.{Puts, out};
-ghost use Rattle.asp_json.specs.Json.{array, closing_text, consequences_text, costs_text, json_text, models_text, more, optimum_text, proven, proven_count, result_text, result_word};
+ghost use Rattle.asp_json.specs.Json.{array, best_text, closing_text, consequences_text, costs_text, json_text, known_text, models_text, more, optimum_text, proven, proven_count, result_text, result_word};
 
 use crate::answers::{put_call, put_costs};
 use crate::lists::put_atoms;
@@ -73,8 +73,7 @@ fn put_consequences<K: Sink>(
     put_atoms(sink, waiting, known.as_slice())
 }
 
-// Puts out the atoms that hold in some or in all answers, where that was asked for.
-fn put_known<K: Sink>(
+fn put_found<K: Sink>(
     sink: &mut K,
     waiting: &mut Waiting,
     known: &Option<Interp>,
@@ -85,6 +84,21 @@ fn put_known<K: Sink>(
     match known {
         None => put(sink, waiting, b""),
         Some(known) => put_consequences(sink, waiting, known),
+    }
+}
+
+// Puts out the atoms that hold in some or in all answers, where that was asked for.
+fn put_known<K: Sink>(
+    sink: &mut K,
+    waiting: &mut Waiting,
+    results: &Results<Sets>,
+) -> Result<(), Failed>
+    ensures { Puts (out (K.held sink.old) (K.faults sink.old) waiting.old)
+        (out (K.held sink.new) (K.faults sink.new) waiting.new) result (known_text results.now.mode results.now) }
+{
+    match results.mode {
+        Mode::Enum | Mode::Opt => put(sink, waiting, b""),
+        Mode::Consequences(_) => put_found(sink, waiting, &results.known),
     }
 }
 
@@ -130,7 +144,6 @@ fn put_least<K: Sink>(
     put_costs(sink, waiting, cost)
 }
 
-// Puts out what is known of the best cost, where there is one.
 fn put_optimum<K: Sink>(
     sink: &mut K,
     waiting: &mut Waiting,
@@ -144,6 +157,23 @@ fn put_optimum<K: Sink>(
     match &results.best {
         Some((_, cost)) => put_least(sink, waiting, results.end, count, cost),
         None => put(sink, waiting, b""),
+    }
+}
+
+// Puts out what is known of the best cost, where an optimisation has one.
+fn put_best<K: Sink>(
+    sink: &mut K,
+    waiting: &mut Waiting,
+    results: &Results<Sets>,
+    count: usize,
+) -> Result<(), Failed>
+    ensures { Puts (out (K.held sink.old) (K.faults sink.old) waiting.old)
+        (out (K.held sink.new) (K.faults sink.new) waiting.new) result
+        (best_text results.now.mode results.now count) }
+{
+    match results.mode {
+        Mode::Enum | Mode::Consequences(_) => put(sink, waiting, b""),
+        Mode::Opt => put_optimum(sink, waiting, results, count),
     }
 }
 
@@ -184,7 +214,7 @@ fn put_models<K: Sink>(
         (out (K.held sink.new) (K.faults sink.new) waiting.new) result (models_text results.now count) }
 {
     put_more(sink, waiting, results.end, count)?;
-    put_optimum(sink, waiting, results, count)?;
+    put_best(sink, waiting, results, count)?;
     put(sink, waiting, b"}}\n")
 }
 
@@ -198,7 +228,7 @@ fn put_closing<K: Sink>(
     ensures { Puts (out (K.held sink.old) (K.faults sink.old) waiting.old)
         (out (K.held sink.new) (K.faults sink.new) waiting.new) result (closing_text results.now count) }
 {
-    put_known(sink, waiting, &results.known)?;
+    put_known(sink, waiting, results)?;
     put_result(sink, waiting, results, count)?;
     put_models(sink, waiting, results, count)
 }
