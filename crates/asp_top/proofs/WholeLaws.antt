@@ -30,11 +30,12 @@ use Rattle.asp_top.specs.declared.status.Status.TheVariants.{All, NoModel, Enoug
 use Rattle.asp_top.specs.declared.status.Outcome.{Outcome}
 use Rattle.asp_top.specs.Meaning.{has_model_in, is_some_of, mode_of}
 use Rattle.asp_top.specs.Runs.{Around, IsGiven, IsSentOn, IsWritten, Means, Runs, RunsOn, ask_of, found_with, is_brief, layout_of, report_text, report_with, set_aside, text_by, text_in}
+use Rattle.asp_json.specs.Json.{json_text}
 use Rattle.asp_cli.specs.declared.Form.{Form}
 use Rattle.asp_cli.specs.declared.Form.TheVariants.{Text, Json}
 use Rattle.asp_cli.specs.declared.Format.{Format}
 use Rattle.asp_top.specs.Formats.{outcome_for}
-use Rattle.asp_top.specs.Whole.{ArePicked, InForm, IsInput, IsWhole, TellsAll, TellsEnough, TellsNone, Wrote, closing, json_of, none_text}
+use Rattle.asp_top.specs.Whole.{ArePicked, InForm, IsInput, IsWhole, TellsAll, TellsEnough, TellsNone, Wrote, closing, none_text}
 use Rattle.asp_top.proofs.ToldLaws.{no-proof}
 
 -- ---- what is read
@@ -49,6 +50,9 @@ input-of f (Some n) a p from = from.0
 -- ---- the texts
 abbrev found : Mode → End → List Atoms → Option (Atoms × List ℤ) → Option Atoms → Found
 found mode end L best known = record { mode = mode; end = end; answers = L; best = best; known = known }
+
+abbrev json_found : Options → Program → Found → List ℕ
+json_found given p r = json_text p r (is_brief given)
 
 abbrev lines : Bool → Program → List Atoms → List ℕ
 lines brief p Ss = cond brief [] (answers_from p 1 Ss)
@@ -151,23 +155,23 @@ found-opt false brief p L best known is some = opt-one brief p L best known is.0
 
 enum-told : (form : Form) (given : Options) (p : Program) (L : List Atoms) (best : Option (Atoms × List ℤ)) (known : Option Atoms) → L ≡ answers p → is_some_of L ≡ true
     → InForm form (text_in form p (found Enum Finished L best known) (is_brief given) ≡ lines (is_brief given) p (answers p) ++ closing (codes "SATISFIABLE") (decimal (length (answers p))))
-    (text_in form p (found Enum Finished L best known) (is_brief given) ≡ json_of given p (found Enum Finished (answers p) None None))
+    (text_in form p (found Enum Finished L best known) (is_brief given) ≡ json_found given p (found Enum Finished (answers p) None None))
 enum-told Text given p L best known all some = enum-all (is_brief given) p L best known some ∙ ap (λ (Ss : List Atoms). lines (is_brief given) p Ss ++ closing (codes "SATISFIABLE") (decimal (length Ss))) all
-enum-told Json given p L best known all some = ap (λ (Ss : List Atoms). json_of given p (found Enum Finished Ss None None)) all
+enum-told Json given p L best known all some = ap (λ (Ss : List Atoms). json_found given p (found Enum Finished Ss None None)) all
 
 json-opt : (all : Bool) (given : Options) (p : Program) (L : List Atoms) (best : Option (Atoms × List ℤ)) (known : Option Atoms) → IsAllFound all p Opt L best known → is_some_of (bests best L) ≡ true
-    → (S : Atoms) × Contains (optima p) S × (json_of given p (found Opt Finished L best known) ≡ json_of given p (found Opt Finished (cond all (optima p) []) (Some (S, cost p S)) None))
+    → (S : Atoms) × Contains (optima p) S × (json_found given p (found Opt Finished L best known) ≡ json_found given p (found Opt Finished (cond all (optima p) []) (Some (S, cost p S)) None))
 json-opt true given p L (Some b) known is some = (
   b.0,
   an-optimum p b.0 b.1 is.1,
-  ap (λ (Ss : List Atoms). json_of given p (found Opt Finished Ss (Some b) None)) is.0 ∙ ap (λ (c : List ℤ). json_of given p (found Opt Finished (optima p) (Some (b.0, c)) None)) is.1.sums,
+  ap (λ (Ss : List Atoms). json_found given p (found Opt Finished Ss (Some b) None)) is.0 ∙ ap (λ (c : List ℤ). json_found given p (found Opt Finished (optima p) (Some (b.0, c)) None)) is.1.sums,
 )
 json-opt true given p [] None known is some = absurd (false≢true some)
 json-opt true given p (S ∷ L) None known is some = let none : S ∷ L ≡ [] = is.0 ∙ no-optima p is.1 in absurd cc
 json-opt false given p L (Some b) known is some = (
   b.0,
   an-optimum p b.0 b.1 is.1,
-  ap (λ (Ss : List Atoms). json_of given p (found Opt Finished Ss (Some b) None)) is.0 ∙ ap (λ (c : List ℤ). json_of given p (found Opt Finished [] (Some (b.0, c)) None)) is.1.sums,
+  ap (λ (Ss : List Atoms). json_found given p (found Opt Finished Ss (Some b) None)) is.0 ∙ ap (λ (c : List ℤ). json_found given p (found Opt Finished [] (Some (b.0, c)) None)) is.1.sums,
 )
 json-opt false given p [] None known is some = absurd (false≢true some)
 json-opt false given p (S ∷ L) None known is some = absurd (let none : S ∷ L ≡ [] = is.0 in let f : ⊥ = cc in f)
@@ -175,19 +179,19 @@ json-opt false given p (S ∷ L) None known is some = absurd (let none : S ∷ L
 opt-told : (form : Form) (given : Options) (p : Program) (L : List Atoms) (best : Option (Atoms × List ℤ)) (known : Option Atoms) → IsAllFound given.all_optima p Opt L best known → is_some_of (bests best L) ≡ true
     → (S : Atoms) × Contains (optima p) S
     × InForm form (text_in form p (found Opt Finished L best known) (is_brief given) ≡ lines (is_brief given) p (cond given.all_optima (optima p) (S ∷ [])) ++ cost_line (cost p S) ++ closing (codes "OPTIMUM FOUND") (decimal (length (cond given.all_optima (optima p) (S ∷ [])))))
-    (text_in form p (found Opt Finished L best known) (is_brief given) ≡ json_of given p (found Opt Finished (cond given.all_optima (optima p) []) (Some (S, cost p S)) None))
+    (text_in form p (found Opt Finished L best known) (is_brief given) ≡ json_found given p (found Opt Finished (cond given.all_optima (optima p) []) (Some (S, cost p S)) None))
 opt-told Text given p L best known is some = found-opt given.all_optima (is_brief given) p L best known is some
 opt-told Json given p L best known is some = json-opt given.all_optima given p L best known is some
 
 json-known : (given : Options) (p : Program) (w : Reasoning) (K : List Atoms) (known : Option Atoms) → known ≡ consequences_of w p K → is_some known ≡ true
-    → ¬ (K ≡ []) × (json_of given p (found (Consequences w) Finished [] None known) ≡ json_of given p (found (Consequences w) Finished [] None (Some (consequences w p K))))
+    → ¬ (K ≡ []) × (json_found given p (found (Consequences w) Finished [] None known) ≡ json_found given p (found (Consequences w) Finished [] None (Some (consequences w p K))))
 json-known given p w [] known are some = absurd (false≢true (sym (ap is_some are) ∙ some))
-json-known given p w (S ∷ K) known are some = (λ none. absurd cc, ap (λ (x : Option Atoms). json_of given p (found (Consequences w) Finished [] None x)) are)
+json-known given p w (S ∷ K) known are some = (λ none. absurd cc, ap (λ (x : Option Atoms). json_found given p (found (Consequences w) Finished [] None x)) are)
 
 consequences-told : (form : Form) (given : Options) (p : Program) (w : Reasoning) (L : List Atoms) (best : Option (Atoms × List ℤ)) (known : Option Atoms) → IsFound p (Consequences w) L best known → is_some known ≡ true
     → ¬ (answers p ≡ [])
     × InForm form (text_in form p (found (Consequences w) Finished L best known) (is_brief given) ≡ consequences_line (Some (consequences w p (answers p))) ++ ended_line (codes "CONSEQUENCES FOUND"))
-    (text_in form p (found (Consequences w) Finished L best known) (is_brief given) ≡ json_of given p (found (Consequences w) Finished [] None (Some (consequences w p (answers p)))))
+    (text_in form p (found (Consequences w) Finished L best known) (is_brief given) ≡ json_found given p (found (Consequences w) Finished [] None (Some (consequences w p (answers p)))))
 consequences-told Text given p w L best known all some =
     let told = consequences-all (is_brief given) p w (answers p) best known all.2 some in
     (told.0, ap (λ (Ss : List Atoms). results_text p (found (Consequences w) Finished Ss best known) (is_brief given)) all.0 ∙ told.1)
@@ -236,17 +240,17 @@ lines-none all brief p (Consequences w) L best known is none =
     )
 
 json-none : (given : Options) (p : Program) (mode : Mode) (L : List Atoms) (best : Option (Atoms × List ℤ)) (known : Option Atoms) → IsAllFound given.all_optima p mode L best known
-    → has_model_in mode (found mode Finished L best known) ≡ false → json_of given p (found mode Finished L best known) ≡ json_of given p (found mode Finished [] None None)
-json-none given p Enum L best known is none = ap (λ (Ss : List Atoms). json_of given p (found Enum Finished Ss None None)) (none-of L none)
+    → has_model_in mode (found mode Finished L best known) ≡ false → json_found given p (found mode Finished L best known) ≡ json_found given p (found mode Finished [] None None)
+json-none given p Enum L best known is none = ap (λ (Ss : List Atoms). json_found given p (found Enum Finished Ss None None)) (none-of L none)
 json-none given p Opt L best known is none =
     let empty = bests-none best L none in
-    ap (λ (Ss : List Atoms). json_of given p (found Opt Finished Ss best None)) empty.1 ∙ ap (λ (b : Option (Atoms × List ℤ)). json_of given p (found Opt Finished [] b None)) empty.0
+    ap (λ (Ss : List Atoms). json_found given p (found Opt Finished Ss best None)) empty.1 ∙ ap (λ (b : Option (Atoms × List ℤ)). json_found given p (found Opt Finished [] b None)) empty.0
 json-none given p (Consequences w) L best known is none =
-    ap (λ (x : Option Atoms). json_of given p (found (Consequences w) Finished [] None x)) (no-consequences p w (answers p) known (found-consequences given.all_optima p w L best known is).2 none).1
+    ap (λ (x : Option Atoms). json_found given p (found (Consequences w) Finished [] None x)) (no-consequences p w (answers p) known (found-consequences given.all_optima p w L best known is).2 none).1
 
 none-told : (form : Form) (given : Options) (p : Program) (mode : Mode) (L : List Atoms) (best : Option (Atoms × List ℤ)) (known : Option Atoms) → IsAllFound given.all_optima p mode L best known
     → has_model_in mode (found mode Finished L best known) ≡ false
-    → InForm form (text_in form p (found mode Finished L best known) (is_brief given) ≡ none_text mode) (text_in form p (found mode Finished L best known) (is_brief given) ≡ json_of given p (found mode Finished [] None None))
+    → InForm form (text_in form p (found mode Finished L best known) (is_brief given) ≡ none_text mode) (text_in form p (found mode Finished L best known) (is_brief given) ≡ json_found given p (found mode Finished [] None None))
 none-told Text given p mode L best known is none = (lines-none given.all_optima (is_brief given) p mode L best known is none).1
 none-told Json given p mode L best known is none = json-none given p mode L best known is none
 
@@ -281,23 +285,23 @@ opt-limited true brief p n L best known listing some count part is = limited-opt
 opt-limited false brief p n L best known listing some count part is = absurd (false≢true listing)
 
 enough-enum : (form : Form) (given : Options) (p : Program) (n : ℕ) (L : List Atoms) (best : Option (Atoms × List ℤ)) (known : Option Atoms) → length L ≡ n
-    → InForm form (text_in form p (found Enum Limited L best known) (is_brief given) ≡ lines (is_brief given) p L ++ last_lines n) (text_in form p (found Enum Limited L best known) (is_brief given) ≡ json_of given p (found Enum Limited L None None))
+    → InForm form (text_in form p (found Enum Limited L best known) (is_brief given) ≡ lines (is_brief given) p L ++ last_lines n) (text_in form p (found Enum Limited L best known) (is_brief given) ≡ json_found given p (found Enum Limited L None None))
 enough-enum Text given p n L best known count = joined (lines (is_brief given) p L) _ _ (ap last_lines count)
 enough-enum Json given p n L best known count = refl
 
 enough-json : (all : Bool) (given : Options) (p : Program) (n : ℕ) (L : List Atoms) (best : Option (Atoms × List ℤ)) (known : Option Atoms) → asks_list all Opt ≡ true → 0 < n → length L ≡ n → IsPartOf all p Opt (found Opt Limited L best known) → IsBest p best
-    → (S : Atoms) × (Ss : List Atoms) × Contains (optima p) S × ArePicked n (optima p) Ss × (json_of given p (found Opt Limited L best known) ≡ json_of given p (found Opt Limited Ss (Some (S, cost p S)) None))
+    → (S : Atoms) × (Ss : List Atoms) × Contains (optima p) S × ArePicked n (optima p) Ss × (json_found given p (found Opt Limited L best known) ≡ json_found given p (found Opt Limited Ss (Some (S, cost p S)) None))
 enough-json false given p n L best known listing some count part is = absurd (false≢true listing)
 enough-json true given p n [] best known listing some count part is = absurd (let f : ⊥ = omega (arith, some, count) in f)
 enough-json true given p n (T ∷ L) None known listing some count part is = let none : T ∷ L ≡ [] = part.0.1 ∙ ap (filter part.0.0) (no-optima p is) in absurd cc
 enough-json true given p n (T ∷ L) (Some b) known listing some count part is =
-    (b.0, T ∷ L, an-optimum p b.0 b.1 is, (part.0, count), ap (λ (c : List ℤ). json_of given p (found Opt Limited (T ∷ L) (Some (b.0, c)) None)) is.sums)
+    (b.0, T ∷ L, an-optimum p b.0 b.1 is, (part.0, count), ap (λ (c : List ℤ). json_found given p (found Opt Limited (T ∷ L) (Some (b.0, c)) None)) is.sums)
 
 enough-opt : (form : Form) (given : Options) (p : Program) (n : ℕ) (L : List Atoms) (best : Option (Atoms × List ℤ)) (known : Option Atoms) → asks_list given.all_optima Opt ≡ true → 0 < n → length L ≡ n
     → IsPartOf given.all_optima p Opt (found Opt Limited L best known) → IsBest p best
     → (S : Atoms) × (Ss : List Atoms) × Contains (optima p) S × ArePicked n (optima p) Ss
     × InForm form (text_in form p (found Opt Limited L best known) (is_brief given) ≡ lines (is_brief given) p Ss ++ cost_line (cost p S) ++ last_lines n)
-    (text_in form p (found Opt Limited L best known) (is_brief given) ≡ json_of given p (found Opt Limited Ss (Some (S, cost p S)) None))
+    (text_in form p (found Opt Limited L best known) (is_brief given) ≡ json_found given p (found Opt Limited Ss (Some (S, cost p S)) None))
 enough-opt Text given p n L best known listing some count part is = opt-limited given.all_optima (is_brief given) p n L best known listing some count part is
 enough-opt Json given p n L best known listing some count part is = enough-json given.all_optima given p n L best known listing some count part is
 
