@@ -1,9 +1,9 @@
 -- What stands in quotes is read back.
-use Rattle.std.proofs.Common.{◌≡◌, ℕ, suc, ◌+◌, ◌-◌, ◌*◌, ◌/◌, ◌%◌, ◌<◌, ◌≤◌, Bool, true, false, List, [], ◌∷◌, ◌++◌, refl, sym, ap, subst, ◌∙◌, append_assoc, arith, flat_map, take, length, get_or}
-use Rattle.std.specs.Prelude.{◌==◌, ◌||◌, nat_lt, if◌then◌else◌, Option, Some, None, option_map}
+use Rattle.std.proofs.Common.{◌≡◌, ℕ, ◌+◌, ◌-◌, ◌*◌, ◌/◌, ◌%◌, ◌<◌, ◌≤◌, Bool, true, false, List, [], ◌∷◌, ◌++◌, refl, sym, ap, ◌∙◌, append_assoc, arith, flat_map, take, length, get_or}
+use Rattle.std.specs.Prelude.{◌==◌, ◌||◌, nat_lt, if◌then◌else◌, Some, option_map}
 use Rattle.std.proofs.lemmas.Bool.{eqb-true, le-ltb, lt-ltb, ltb-false, ltb-true}
 use Rattle.std.proofs.lemmas.List.{flat_map_more, take_more}
-use Rattle.asp_json.specs.Quoting.{Begun, nothing, escaped, hex_digit, hex_value, quoted, unescaped, unquoted}
+use Rattle.asp_json.specs.Quoting.{nothing, escaped, hex_digit, hex_value, quoted, unescaped, unquoted}
 
 digit-back : (n : ℕ) → n < 16 → hex_value (hex_digit n) ≡ n
 digit-back n lt = by (nat_lt n 10) refl

@@ -422,14 +422,7 @@ fn put_found<K: Sink>(
         (recorded_text program.now results.now.mode results.now) }
 {
     match results.mode {
-        Mode::Enum => put_answers(
-            alloc,
-            sink,
-            waiting,
-            program,
-            &None,
-            results.answers.rows(),
-        ),
+        Mode::Enum => put_answers(alloc, sink, waiting, program, &None, results.answers.rows()),
         Mode::Opt => put_bests(alloc, sink, waiting, program, results),
         Mode::Consequences(_) => put(sink, waiting, b""),
     }

@@ -28,12 +28,7 @@ pub(crate) fn put_comma<K: Sink>(
     put(sink, waiting, comma(any))
 }
 
-fn put_sum<K: Sink>(
-    sink: &mut K,
-    waiting: &mut Waiting,
-    any: bool,
-    sum: &i64,
-) -> Result<(), Failed>
+fn put_sum<K: Sink>(sink: &mut K, waiting: &mut Waiting, any: bool, sum: &i64) -> Result<(), Failed>
     ensures { Puts (out (K.held sink.old) (K.faults sink.old) waiting.old)
         (out (K.held sink.new) (K.faults sink.new) waiting.new) result (separator 44 any ++ signed_decimal sum.now) }
 {
@@ -80,11 +75,7 @@ fn put_atom<K: Sink>(
     put_number(sink, waiting, *atom)
 }
 
-fn put_each_atom<K: Sink>(
-    sink: &mut K,
-    waiting: &mut Waiting,
-    atoms: &[Atom],
-) -> Result<(), Failed>
+fn put_each_atom<K: Sink>(sink: &mut K, waiting: &mut Waiting, atoms: &[Atom]) -> Result<(), Failed>
     ensures { Puts (out (K.held sink.old) (K.faults sink.old) waiting.old)
         (out (K.held sink.new) (K.faults sink.new) waiting.new) result (commas false (map decimal atoms.now)) }
 {
