@@ -67,7 +67,7 @@ def differs(program, words, text):
     plain = run(program, words, text)
     if plain.returncode not in ANSWERED:
         return None
-    made = run(program, [*words, "--output", "json"], text)
+    made = run(program, ["--output", "json", *words], text)
     if made.returncode != plain.returncode or made.stderr != plain.stderr:
         return f"status {made.returncode}, {plain.returncode}"
     told = json.loads(made.stdout.decode("latin-1"))
