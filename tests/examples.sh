@@ -128,6 +128,18 @@ echo 'aspenum: line 1002: more than 1,000 different priorities' > "$wanted"
 minimizing 1001 | "$program" --format smodels > "$given" 2> "$notes"
 check "a thousand priorities and one" 65 "$wanted" "${PIPESTATUS[1]}" "$notes"
 
+# A hundred thousand constraints of twelve literals, no two of which are the same: no table of the store has a lower limit.
+ring() {
+    python3 -c 'n, k = 100000, 12
+print("asp 1 0 0\n1 1", n, *range(1, n + 1), "0 0")
+for it in range(n):
+    print("1 0 0 0", k, *(-(1 + (it + step) % n) for step in range(k)))
+print(0)'
+}
+printf 'LIMIT REACHED\nModels: 1+\n' > "$wanted"
+ring | "$program" --models 1 --quiet > "$given" 2> "$notes"
+check "a hundred thousand constraints" 11 "$wanted" "${PIPESTATUS[1]}" "$given"
+
 # The counts of a run.
 printf 'Conflicts: 0\nLeaves: 1\nLog: 0\nDecisions: 1\nPropagated: 3\nRestarts: 0\nKept: 0\nDropped: 0\nAtoms: 2\nBodies: 2\nLoops: 0\n' > "$wanted"
 "$program" --stats < examples/two_rules.aspif > "$given" 2> "$notes"
