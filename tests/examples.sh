@@ -157,6 +157,14 @@ status=${PIPESTATUS[1]}
 head -4 "$notes" > "$given"
 check "no early split" 20 "$wanted" "$status" "$given"
 
+# What the main thread does at the end is in the sums, and in no worker's line: the second search for all optima decides seven
+# times to find eight answers.
+echo 7 > "$wanted"
+printf 'asp 1 0 0\n1 1 3 1 2 3 0 0\n2 0 1 1 0\n0\n' | "$program" --opt-all --stats --workers 2 2> "$notes" > /dev/null
+status=${PIPESTATUS[1]}
+sed -nE 's/^Decisions: ([0-9]+)$/\1/p; s/^Worker .* decisions ([0-9]+),.*/-\1/p' "$notes" | paste -s -d '+' | sed 's/+-/-/g' | { read -r sum; echo $((sum)); } > "$given"
+check "the second search is counted" 30 "$wanted" "$status" "$given"
+
 # Each example stands in the list of examples.
 for text in examples/*.aspif examples/*.smodels; do
     name=$(basename "${text%.*}")
