@@ -140,6 +140,11 @@ printf 'LIMIT REACHED\nModels: 1+\n' > "$wanted"
 ring | "$program" --models 1 --quiet > "$given" 2> "$notes"
 check "a hundred thousand constraints" 11 "$wanted" "${PIPESTATUS[1]}" "$given"
 
+# As many parts as are wanted, where there are as many answers.
+echo 3000 > "$wanted"
+printf 'asp 1 0 0\n1 1 12 %s 0 0\n0\n' "$(seq -s ' ' 12)" | "$program" --split 3000 2> "$notes" | wc -l > "$given"
+check "three thousand parts" 0 "$wanted" "${PIPESTATUS[1]}" "$given"
+
 # The counts of a run.
 printf 'Conflicts: 0\nLeaves: 1\nLog: 0\nDecisions: 1\nPropagated: 3\nRestarts: 0\nKept: 0\nDropped: 0\nAtoms: 2\nBodies: 2\nLoops: 0\n' > "$wanted"
 "$program" --stats < examples/two_rules.aspif > "$given" 2> "$notes"
