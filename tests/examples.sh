@@ -128,17 +128,20 @@ echo 'aspenum: line 1002: more than 1,000 different priorities' > "$wanted"
 minimizing 1001 | "$program" --format smodels > "$given" 2> "$notes"
 check "a thousand priorities and one" 65 "$wanted" "${PIPESTATUS[1]}" "$notes"
 
-# A hundred thousand constraints of twelve literals, no two of which are the same: no table of the store has a lower limit.
+# A hundred thousand constraints of twelve literals, as many counts of three, and as many costs: no table has a lower limit.
 ring() {
-    python3 -c 'n, k = 100000, 12
-print("asp 1 0 0\n1 1", n, *range(1, n + 1), "0 0")
+    python3 -c 'n = 100000
+lines = ["asp 1 0 0", " ".join(map(str, ["1 1", n, *range(1, n + 1), "0 0"]))]
 for it in range(n):
-    print("1 0 0 0", k, *(-(1 + (it + step) % n) for step in range(k)))
-print(0)'
+    near = [str(-(1 + (it + step) % n)) for step in range(12)]
+    lines.append("1 0 0 0 12 " + " ".join(near))
+    lines.append("1 0 0 1 2 3 " + " 1 ".join(near[:3]) + " 1")
+lines.append(f"2 0 {n} " + " ".join(f"{it} -1" for it in range(1, n + 1)))
+print("\n".join([*lines, "0"]))'
 }
-printf 'LIMIT REACHED\nModels: 1+\n' > "$wanted"
-ring | "$program" --models 1 --quiet > "$given" 2> "$notes"
-check "a hundred thousand constraints" 11 "$wanted" "${PIPESTATUS[1]}" "$given"
+printf 'Optimization: -100000\nOPTIMUM FOUND\nModels: 1\n' > "$wanted"
+ring | "$program" --quiet > "$given" 2> "$notes"
+check "a hundred thousand constraints, counts and costs" 30 "$wanted" "${PIPESTATUS[1]}" "$given"
 
 # As many parts as are wanted, where there are as many answers.
 echo 3000 > "$wanted"
