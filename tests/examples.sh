@@ -94,7 +94,7 @@ most=268435456
 for byte in '\n' ' '; do
     line=2
     [ "$byte" = ' ' ] || line=$((most + 1))
-    echo "aspenum: line $line: not the header of aspif 1.0, which gringo writes; a smodels text needs --format smodels" > "$wanted"
+    echo "aspenum: line $line: no program: the input is empty" > "$wanted"
     head -c $most /dev/zero | tr '\0' "$byte" | "$program" > "$given" 2> "$notes"
     check "the greatest length of '$byte'" 65 "$wanted" "${PIPESTATUS[2]}" "$notes"
     echo 'aspenum: input too long' > "$wanted"

@@ -7,8 +7,12 @@ for, and drops nogoods.
 Each program is made here: a cheapest choice with recursion through counts, random 3-SAT without an answer, and pigeons. Within
 the units of its row the built program must come to its end. The first two take more without activities or minimising, the third
 where a variable is always decided as it was last: each row says what each took when it was written, beside what the whole search
-took. No row notices that restarts are gone: programs as small as these take no more without them. --measure prints what PROGRAM
-takes: after a change of the search the rows are to be written anew.
+took. Programs as small as these take no more without restarts, so all counts of --stats are compared too: with one worker they are
+the same in each run. --measure prints what PROGRAM counts: after a change of the search the rows are to be written anew.
+
+With two and four workers the counts differ from run to run, but where no worker was stopped the main thread does nothing, so the
+numbers of the workers' lines add up to those of the run, of which a contract pins the conflicts; and of an enumeration the answers
+that the workers found are the models, each found once.
 
 Two more must end within an address space: a search wants more that drops nothing it learns (pigeons), or drops what weight
 bodies give only at the restarts of the schedule, which get rarer (knapsack)."""
@@ -63,15 +67,18 @@ def knapsack(items, limits, seed):
     return ("\n".join([*lines, "0"]) + "\n").encode()
 
 
-# a program, what its last lines must be, and units; conflicts when it was written: the whole search, without restarts, without
-# activities, without minimising
+# a program, what its last lines must be, units, and what is counted; conflicts when it was written: the whole search, without
+# restarts, without activities, without minimising
 ROWS = [
     # 1,937; 1,431; 4,679; 3,304
-    ("trust of 26", cheapest_trust(26, 6, 4, 3), 30, b"Optimization: 4\nOPTIMUM FOUND\nModels: 1\n", 2500),
+    ("trust of 26", cheapest_trust(26, 6, 4, 3), 30, b"Optimization: 4\nOPTIMUM FOUND\nModels: 1\n", 2500,
+     "Conflicts 1937, Leaves 1, Log 0, Decisions 2156, Propagated 15188, Restarts 6, Kept 2074, Dropped 1488, Atoms 52, Bodies 79, Loops 1"),
     # 3,434; 2,237; 7,375; 4,672
-    ("3-SAT of 200", random_sat(200, 4.8, 2), 20, b"UNSATISFIABLE\nModels: 0\n", 4000),
+    ("3-SAT of 200", random_sat(200, 4.8, 2), 20, b"UNSATISFIABLE\nModels: 0\n", 4000,
+     "Conflicts 3434, Leaves 1, Log 0, Decisions 3977, Propagated 158531, Restarts 7, Kept 2404, Dropped 1030, Atoms 200, Bodies 961, Loops 0"),
     # 6,296; with the last values more than it meets in 12 seconds
-    ("pigeons of 9", pigeons(9), 20, b"UNSATISFIABLE\nModels: 0\n", 7000),
+    ("pigeons of 9", pigeons(9), 20, b"UNSATISFIABLE\nModels: 0\n", 7000,
+     "Conflicts 6296, Leaves 1, Log 0, Decisions 7083, Propagated 91848, Restarts 8, Kept 3331, Dropped 2965, Atoms 72, Bodies 298, Loops 0"),
 ]
 
 # a program, what its status and last lines must be
@@ -81,33 +88,72 @@ SMALL = [
 ]
 ROOM = 6500 * 1024  # bytes of address space
 
+# a program for several workers, and whether it is an enumeration
+CREWS = [
+    ("trust of 24", cheapest_trust(24, 6, 4, 3), False),
+    ("3-SAT of 200", random_sat(200, 4.8, 2), True),
+    ("12 free atoms", f"asp 1 0 0\n1 1 12 {' '.join(map(str, range(1, 13)))} 0 0\n0\n".encode(), True),
+]
+COUNT = re.compile(r"(\w+): (\d+)")
+WORKER = re.compile(r"Worker (\d+): conflicts (\d+), decisions (\d+), propagated (\d+), restarts (\d+), answers (\d+), kept (\d+), dropped (\d+)")
+
 
 def run(program, words, text, prepare=None):
     ran = subprocess.run([program, "--stats", *words], input=text, capture_output=True, timeout=120, preexec_fn=prepare)
-    conflicts = re.search(r"Conflicts: (\d+)", ran.stderr.decode())
-    return ran.returncode, ran.stdout, int(conflicts[1]) if conflicts else None
+    return ran.returncode, ran.stdout, ran.stderr.decode().splitlines()
+
+
+def counts_of(notes):
+    return {it[1]: int(it[2]) for it in map(COUNT.fullmatch, notes) if it}
+
+
+def told(counts):
+    return ", ".join(f"{name} {number}" for name, number in counts.items())
+
+
+def crew_faults(written, notes, workers, enumerates):
+    """What is wrong with the lines of so many workers."""
+    lines = [[int(it) for it in line.groups()] for line in map(WORKER.fullmatch, notes) if line]
+    if [line[0] for line in lines] != list(range(1, workers + 1)):
+        yield "the workers' lines: " + "; ".join(notes)
+        return
+    counts = counts_of(notes)
+    sums = [sum(column) for column in zip(*lines)]
+    for name, added in zip(("Conflicts", "Decisions", "Propagated", "Restarts", "Answers", "Kept", "Dropped"), sums[1:]):
+        if name != "Answers" and counts.get(name) != added:
+            yield f"{name} {counts.get(name)}, of the workers {added}"
+    models = int(re.search(rb"Models: (\d+)", written)[1])
+    if enumerates and sums[5] != models or sums[5] < models:
+        yield f"{models} models, of the workers {sums[5]}"
 
 
 def main():
     program = sys.argv[1]
     passed = failed = 0
-    for name, text, wanted, ending, units in ROWS:
+
+    def judge(name, faults):
+        nonlocal passed, failed
+        if faults:
+            failed += 1
+            print(f"failed: {name}: {'; '.join(faults)}")
+        else:
+            passed += 1
+
+    for name, text, wanted, ending, units, counted in ROWS:
         if "--measure" in sys.argv[2:]:
-            print(f"{name}: {run(program, [], text)[2]} conflicts, of {units} units")
+            print(f"{name}: {told(counts_of(run(program, [], text)[2]))}, of {units} units")
             continue
-        status, written, conflicts = run(program, ["--budget", str(units)], text)
-        if status == wanted and written.endswith(ending):
-            passed += 1
-        else:
-            failed += 1
-            print(f"failed: {name}: status {status} after {conflicts} conflicts")
+        status, written, notes = run(program, ["--budget", str(units)], text)
+        counts = told(counts_of(notes))
+        ended = status == wanted and written.endswith(ending)
+        judge(name, ([] if ended else [f"status {status}"]) + ([] if counts == counted else [f"{counts}, wanted {counted}"]))
     for name, text, wanted, ending in SMALL:
-        status, written, conflicts = run(program, [], text, lambda: resource.setrlimit(resource.RLIMIT_AS, (ROOM, ROOM)))
-        if status == wanted and written.endswith(ending):
-            passed += 1
-        else:
-            failed += 1
-            print(f"failed: {name}: status {status} with {ROOM} bytes")
+        status, written, _ = run(program, [], text, lambda: resource.setrlimit(resource.RLIMIT_AS, (ROOM, ROOM)))
+        judge(name, [] if status == wanted and written.endswith(ending) else [f"status {status} with {ROOM} bytes"])
+    for name, text, enumerates in CREWS:
+        for workers in (2, 4):
+            _, written, notes = run(program, ["--workers", str(workers)], text)
+            judge(f"{name}, {workers} workers", list(crew_faults(written, notes, workers, enumerates)))
     print(f"search: {passed} programs solved, {failed} failed")
     sys.exit(1 if failed else 0)
 

@@ -1,5 +1,6 @@
 //! What a search did so far.
 ghost use Rattle.std.specs.Prelude.{◌≡◌};
+ghost use Rattle.asp_counts.specs.Counting.{counted, joined, keeping, nothing};
 
 use asp_search_laws::step::Step;
 
@@ -25,7 +26,7 @@ pub struct Counts {
 impl Counts {
     /// Nothing so far.
     pub fn new() -> Counts
-        ensures { result ≡ record { conflicts = 0; decisions = 0; propagated = 0; restarts = 0; answers = 0; kept = 0; dropped = 0 } }
+        ensures { result ≡ nothing }
     {
         Counts {
             conflicts: 0,
@@ -39,7 +40,9 @@ impl Counts {
     }
 
     /// Counts a step, whose propagation implied so many literals, and after which so many nogoods are kept, but not forever.
-    pub fn count(&mut self, step: &Step, implied: u64, kept: u64) {
+    pub fn count(&mut self, step: &Step, implied: u64, kept: u64)
+        ensures { self.new ≡ counted step.now implied kept self.old }
+    {
         match step {
             Step::Decided => self.decisions = self.decisions.saturating_add(1),
             Step::Learnt => self.conflicts = self.conflicts.saturating_add(1),
@@ -52,13 +55,17 @@ impl Counts {
     }
 
     // So many nogoods are kept now.
-    fn keep(&mut self, kept: u64) {
+    fn keep(&mut self, kept: u64)
+        ensures { self.new ≡ keeping kept self.old }
+    {
         self.dropped = self.dropped.saturating_add(self.kept.saturating_sub(kept));
         self.kept = kept;
     }
 
     /// Adds what another search did.
-    pub fn add(&mut self, other: &Counts) {
+    pub fn add(&mut self, other: &Counts)
+        ensures { self.new ≡ joined self.old other.now }
+    {
         self.conflicts = self.conflicts.saturating_add(other.conflicts);
         self.decisions = self.decisions.saturating_add(other.decisions);
         self.propagated = self.propagated.saturating_add(other.propagated);

@@ -14,11 +14,13 @@ use Rattle.asp_faults.specs.declared.texts.Wanted.TheVariants.{Natural, Integer,
 abbrev pub natural_noun : ℕ → ℕ → List ℕ
 natural_noun low high =
     if low == 1 then (if high == 16777216 then codes "count" else codes "atom") else (
+    if high == 0 then codes "zero" else (
     if high == 1 then codes "kind" else (
     if high == 3 then codes "external value" else (
+    if high == 5 then codes "modifier" else (
     if high == 10 then codes "statement" else (
     if high == 268435456 then codes "length of a text" else
-    codes "count"))))
+    codes "count"))))))
 
 abbrev pub integer_noun : ℤ → List ℕ
 integer_noun low =
@@ -55,13 +57,13 @@ other_format NotNumber = codes "; an aspif text needs --format aspif"
 other_format n = []
 
 abbrev pub kind_text : FaultKind → List ℕ
+kind_text fault.Empty = codes "no program: the input is empty"
 kind_text fault.Header = codes "not the header of aspif 1.0, which gringo writes; a smodels text needs --format smodels"
 kind_text fault.Incremental = codes "incremental programs not supported"
 kind_text fault.Tag = codes "unknown tag"
 kind_text (fault.Statement n) = misfit n (wanted_text (Natural 0 10))
 kind_text fault.Disjunction = codes "disjunctive head not supported"
 kind_text fault.Projection = codes "projection not supported"
-kind_text fault.Heuristic = codes "heuristic not supported"
 kind_text fault.Edge = codes "edge statement not supported"
 kind_text fault.Theory = codes "theory statement not supported"
 kind_text (fault.Natural low high n) = misfit n (wanted_text (Natural low high))

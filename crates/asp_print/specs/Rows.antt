@@ -10,18 +10,18 @@ use Rattle.asp_print.specs.declared.outputs.OutputTable.{OutputTable}
 use Rattle.asp_print.specs.declared.outputs.Condition.{Condition}
 use Rattle.asp_print.specs.declared.outputs.Condition.TheVariants.{Always, Never, Several, With, Without}
 
--- the texts, each behind a blank
-abbrev pub row : List Output → List ℕ
-row [] = []
-row (o ∷ os) = 32 ∷ (o.text ++ row os)
+-- the texts, each after a separator
+abbrev pub row : ℕ → List Output → List ℕ
+row between [] = []
+row between (o ∷ os) = between ∷ (o.text ++ row between os)
 
 -- those of the outputs from one to before another
-abbrev pub row_between : List Output → ℕ → ℕ → List ℕ
-row_between os from to = row (take (to - from) (drop from os))
+abbrev pub row_between : ℕ → List Output → ℕ → ℕ → List ℕ
+row_between between os from to = row between (take (to - from) (drop from os))
 
--- the bytes, or where no text stands before them all but their first blank
-abbrev pub less_blank : Bool → List ℕ → List ℕ
-less_blank any bytes = if any then bytes else drop 1 bytes
+-- the bytes, or where no text stands before them all except the separator that they begin with
+abbrev pub less_between : Bool → List ℕ → List ℕ
+less_between any bytes = if any then bytes else drop 1 bytes
 
 -- A row of bits for these atoms, which ascend.
 abbrev pub IsRowAmong : Atoms → Row → Type 0
@@ -49,13 +49,17 @@ shown_first S (o ∷ os) = all_hold S o.condition
 abbrev pub shown_at : Atoms → List Output → ℕ → Bool
 shown_at S os i = shown_first S (drop i os)
 
--- all texts, and where they start
+-- all texts, each after the separator of the table, and where they start
 pub record HasTextsOf (os : List Output) (table : OutputTable) : Type 0 where
-  pub texts : table.texts.items ≡ row os
+  pub texts : table.texts.items ≡ row table.between os
   pub count : length table.starts.items ≡ length os + 1
-  pub starts : (k : ℕ) → k ≤ length os → slice_index table.starts.items k ≡ length (row (take k os))
+  pub starts : (k : ℕ) → k ≤ length os → slice_index table.starts.items k ≡ length (row table.between (take k os))
 
 -- each output's condition, and the texts
 pub record IsTableOf (atoms : Atoms) (os : List Output) (table : OutputTable) : Type 0 where
   pub conditions : AreConditionsOf atoms os table.conditions.items
   pub texts : HasTextsOf os table
+
+-- the same with this separator
+abbrev pub IsTableBy : ℕ → Atoms → List Output → OutputTable → Type 0
+IsTableBy between atoms os table = IsTableOf atoms os table × (table.between ≡ between)

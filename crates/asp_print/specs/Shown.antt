@@ -4,15 +4,15 @@ use Rattle.asp_model.specs.declared.program.Output.{Output}
 use Rattle.asp_model.specs.Sets.{Atoms}
 use Rattle.asp_model.specs.Holding.{all_hold}
 
--- the blank between two texts
-abbrev pub separator : Bool → List ℕ
-separator any = if any then 32 ∷ [] else []
+-- what stands between two texts: a blank, a comma or another byte
+abbrev pub separator : ℕ → Bool → List ℕ
+separator between any = if any then between ∷ [] else []
 
--- what an output adds to the line: its text where its condition holds, behind a blank where a text stands before it
-abbrev pub piece : Atoms → Bool → Output → List ℕ
-piece S any o = if all_hold S o.condition then separator any ++ o.text else []
+-- what an output adds to the line: its text where its condition holds, after a separator where a text stands before it
+abbrev pub piece : ℕ → Atoms → Bool → Output → List ℕ
+piece between S any o = if all_hold S o.condition then separator between any ++ o.text else []
 
 -- what these outputs add, one after another
-abbrev pub pieces : Atoms → Bool → List Output → List ℕ
-pieces S any [] = []
-pieces S any (o ∷ os) = piece S any o ++ pieces S (any || all_hold S o.condition) os
+abbrev pub pieces : ℕ → Atoms → Bool → List Output → List ℕ
+pieces between S any [] = []
+pieces between S any (o ∷ os) = piece between S any o ++ pieces between S (any || all_hold S o.condition) os

@@ -3,7 +3,7 @@ ghost use Rattle.std.specs.Prelude.{◌≡◌, ◌++◌, ◌+◌, ◌^◌, ◌<�
 ghost use Rattle.std.specs.Option.{ForSome};
 ghost use Rattle.asp_model.specs.Sets.{IsAscending};
 ghost use Rattle.asp_rows.specs.Listed.{AreRows};
-ghost use Rattle.asp_print.specs.Rows.{IsRowAmong, IsTableOf};
+ghost use Rattle.asp_print.specs.Rows.{IsRowAmong, IsTableBy, IsTableOf};
 ghost use Rattle.std.specs.List.{join_with_byte};
 ghost use Rattle.asp_model.specs.Holding.{all_hold};
 ghost use Rattle.asp_model.specs.Views.{output_seen};
@@ -23,7 +23,7 @@ use asp_rows::rows::Rows;
 use std::alloc::Global;
 
 fn separator(behind_another: bool) -> &'static [u8]
-    ensures { result.now ≡ separator behind_another }
+    ensures { result.now ≡ separator 32 behind_another }
 {
     if behind_another { b" " } else { b"" }
 }
@@ -40,7 +40,7 @@ fn put_text<K: Sink>(
 ) -> Result<(), Failed>
     ensures { Puts (out (K.held sink.old) (K.faults sink.old) waiting.old)
         (out (K.held sink.new) (K.faults sink.new) waiting.new) result
-        (separator behind_another ++ text.now) }
+        (separator 32 behind_another ++ text.now) }
 {
     put(sink, waiting, separator(behind_another))?;
     put(sink, waiting, text)
@@ -56,7 +56,7 @@ fn put_if_shown<K: Sink, A: Answer>(
 ) -> Result<bool, Failed>
     requires { A.is_sound answer.now }
     ensures puts { Puts (out (K.held sink.old) (K.faults sink.old) waiting.old)
-        (out (K.held sink.new) (K.faults sink.new) waiting.new) result (piece (A.set answer.now) any (output_seen output.entry)) }
+        (out (K.held sink.new) (K.faults sink.new) waiting.new) result (piece 32 (A.set answer.now) any (output_seen output.entry)) }
     ensures any { IfOk result (λ now. now ≡ (any || all_hold (A.set answer.now) (output_seen output.entry).condition)) }
 {
     if all_hold(answer, output.condition) {
@@ -76,7 +76,7 @@ fn put_texts<K: Sink, A: Answer>(
     requires { A.is_sound answer.now }
     ensures { Puts (out (K.held sink.old) (K.faults sink.old) waiting.old)
         (out (K.held sink.new) (K.faults sink.new) waiting.new) result
-        (pieces (A.set answer.now) false outputs.now) }
+        (pieces 32 (A.set answer.now) false outputs.now) }
 {
     let mut any = false;
     for i in 0..outputs.len() {
@@ -85,8 +85,8 @@ fn put_texts<K: Sink, A: Answer>(
     Ok(())
 }
 
-// The same, a run of outputs that are shown at a time.
-fn put_runs<K: Sink>(
+/// Puts out the texts of the outputs that an answer shows, with the separator of the table between two: a run of outputs at a time.
+pub fn put_runs<K: Sink>(
     sink: &mut K,
     waiting: &mut Waiting,
     atoms: &[Atom],
@@ -98,7 +98,7 @@ fn put_runs<K: Sink>(
     requires table { IsTableOf atoms.now outputs.now table.now }
     ensures { Puts (out (K.held sink.old) (K.faults sink.old) waiting.old)
         (out (K.held sink.new) (K.faults sink.new) waiting.new) result
-        (pieces row.now.set false outputs.now) }
+        (pieces table.now.between row.now.set false outputs.now) }
 {
     let mut any = false;
     let mut from = table.first_shown(atoms, outputs, row, 0);
@@ -132,10 +132,10 @@ fn put_line<K: Sink>(
     table: Option<&OutputTable>,
 ) -> Result<(), Failed>
     requires row { IsRowAmong atoms.now row.now }
-    requires table { ForSome table (λ t. IsTableOf atoms.now outputs.now t.now) }
+    requires table { ForSome table (λ t. IsTableBy 32 atoms.now outputs.now t.now) }
     ensures { Puts (out (K.held sink.old) (K.faults sink.old) waiting.old)
         (out (K.held sink.new) (K.faults sink.new) waiting.new) result
-        (pieces row.now.set false outputs.now) }
+        (pieces 32 row.now.set false outputs.now) }
 {
     match table {
         Some(table) => put_runs(sink, waiting, atoms, row, outputs, table),
@@ -153,7 +153,7 @@ fn put_shown<K: Sink>(
     row: &Row,
 ) -> Result<(), Failed>
     requires row { IsRowAmong atoms.now row.now }
-    requires table { ForSome table (λ t. IsTableOf atoms.now program.now.outputs t.now) }
+    requires table { ForSome table (λ t. IsTableBy 32 atoms.now program.now.outputs t.now) }
     ensures { Puts (out (K.held sink.old) (K.faults sink.old) waiting.old)
         (out (K.held sink.new) (K.faults sink.new) waiting.new) result
         (ended_line (join_with_byte 32 (shown program.now row.now.set))) }
@@ -172,7 +172,7 @@ fn put_answer<K: Sink>(
     row: &Row,
 ) -> Result<(), Failed>
     requires row { IsRowAmong atoms.now row.now }
-    requires table { ForSome table (λ t. IsTableOf atoms.now program.now.outputs t.now) }
+    requires table { ForSome table (λ t. IsTableBy 32 atoms.now program.now.outputs t.now) }
     ensures { Puts (out (K.held sink.old) (K.faults sink.old) waiting.old)
         (out (K.held sink.new) (K.faults sink.new) waiting.new) result
         (answer_lines program.now number row.now.set) }
@@ -222,7 +222,7 @@ fn put_each<K: Sink>(
 ) -> Result<(), Failed>
     requires ascending { IsAscending atoms.now }
     requires rows { AreRows atoms.now rows.now }
-    requires table { ForSome table (λ t. IsTableOf atoms.now program.now.outputs t.now) }
+    requires table { ForSome table (λ t. IsTableBy 32 atoms.now program.now.outputs t.now) }
     ensures { Puts (out (K.held sink.old) (K.faults sink.old) waiting.old)
         (out (K.held sink.new) (K.faults sink.new) waiting.new) result
         (answers_from program.now 1 (map (λ row. row.set) rows.now)) }
@@ -238,12 +238,12 @@ fn put_each<K: Sink>(
 // The table of the outputs, where it is worth its while and memory isn't wanting.
 fn table_of(alloc: Global, atoms: &[Atom], outputs: &Outputs, answers: usize) -> Option<OutputTable>
     requires { IsAscending atoms.now }
-    ensures { IfSome result (IsTableOf atoms.now outputs.now) }
+    ensures { IfSome result (IsTableBy 32 atoms.now outputs.now) }
 {
     if answers < FEW_ANSWERS {
         return None;
     }
-    OutputTable::of(alloc, atoms, outputs).ok()
+    OutputTable::of(alloc, b' ', atoms, outputs).ok()
 }
 
 /// Puts out the lines of the answers, numbered from 1. Where memory is wanting it takes longer.

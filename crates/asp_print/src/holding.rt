@@ -8,7 +8,7 @@ use asp_model::program::Atom;
 use asp_rows::row::Row;
 
 /// A set of atoms, in whatever form.
-pub(crate) trait Answer {
+pub trait Answer {
     ghost use Rattle.asp_model.specs.Sets.{Atoms};
 
     ghost set: { Self → Atoms };
@@ -33,11 +33,11 @@ impl Answer for Interp {
 
 /// A row, with the atoms of which it has bits.
 #[derive(Clone, Copy)]
-pub(crate) struct Among<'a> {
+pub struct Among<'a> {
     /// The atoms.
-    pub(crate) atoms: &'a [Atom],
+    pub atoms: &'a [Atom],
     /// The row.
-    pub(crate) row: &'a Row,
+    pub row: &'a Row,
 }
 
 impl<'a> Answer for Among<'a> {
@@ -63,7 +63,7 @@ fn holds<A: Answer>(answer: &A, literal: i32) -> bool
 }
 
 /// Whether all of the literals hold.
-pub(crate) fn all_hold<A: Answer>(answer: &A, literals: &[i32]) -> bool
+pub fn all_hold<A: Answer>(answer: &A, literals: &[i32]) -> bool
     requires { A.is_sound answer.now }
     ensures { result ≡ all_hold (A.set answer.now) literals.now }
 {

@@ -2,7 +2,7 @@
 ghost use Rattle.std.specs.Prelude.{◌≡◌, ◌++◌, [], ◌∷◌, ◌-◌, ◌<◌, ◌≤◌, Bool, true, drop, length, take, IfOk};
 ghost use Rattle.asp_print.specs.Shown.{pieces};
 ghost use Rattle.asp_model.specs.Sets.{IsAscending};
-ghost use Rattle.asp_print.specs.Rows.{HasTextsOf, IsConditionOf, IsRowAmong, IsTableOf, less_blank, row_between, shown_at};
+ghost use Rattle.asp_print.specs.Rows.{HasTextsOf, IsConditionOf, IsRowAmong, IsTableBy, IsTableOf, less_between, row_between, shown_at};
 
 use crate::holding::{Among, all_hold};
 use asp_model::outputs::Outputs;
@@ -26,12 +26,14 @@ pub(crate) enum Condition {
 
 /// What is read of all outputs for each answer.
 #[derive(Drop)]
-pub(crate) struct OutputTable {
+pub struct OutputTable {
     /// For each output when it is shown.
     conditions: Vec<Condition>,
-    /// The texts, each behind a blank.
+    /// The byte between two texts.
+    between: u8,
+    /// The texts, each after such a byte.
     texts: Vec<u8>,
-    /// For each output where its blank stands in `texts`, and one more for where the last text ends.
+    /// For each output where that byte stands in `texts`, and one more for where the last text ends.
     starts: Vec<usize>,
 }
 
@@ -67,13 +69,15 @@ fn part(bytes: &[u8], from: usize, to: usize) -> &[u8]
 }
 
 impl OutputTable {
-    pub(crate) fn of(
+    /// The table of outputs that are written with this byte between two texts.
+    pub fn of(
         alloc: Global,
+        between: u8,
         atoms: &[Atom],
         outputs: &Outputs,
     ) -> Result<OutputTable, AllocError>
         requires { IsAscending atoms.now }
-        ensures { IfOk result (IsTableOf atoms.now outputs.now) }
+        ensures { IfOk result (IsTableBy between atoms.now outputs.now) }
     {
         let mut conditions = Vec::with_capacity(alloc, outputs.len())?;
         let mut texts = Vec::new(alloc);
@@ -81,12 +85,13 @@ impl OutputTable {
         for i in 0..outputs.len() {
             let output = outputs.output(i);
             conditions.push(condition_of(atoms, output.condition))?;
-            texts.push(b' ')?;
+            texts.push(between)?;
             texts.extend_from_slice(output.text)?;
             starts.push(texts.len())?;
         }
         Ok(OutputTable {
             conditions,
+            between,
             texts,
             starts,
         })
@@ -119,7 +124,7 @@ impl OutputTable {
         requires table { IsTableOf atoms.now outputs.now self.now }
         requires row { IsRowAmong atoms.now row.now }
         requires within { from ≤ length outputs.now }
-        ensures passes { (any : Bool) → pieces row.now.set any (drop result outputs.now) ≡ pieces row.now.set any (drop from outputs.now) }
+        ensures passes { (any : Bool) → pieces self.now.between row.now.set any (drop result outputs.now) ≡ pieces self.now.between row.now.set any (drop from outputs.now) }
         ensures later { from ≤ result }
         ensures within { result ≤ length outputs.now }
         ensures shown { result < length outputs.now → shown_at row.now.set outputs.now result ≡ true }
@@ -138,7 +143,7 @@ impl OutputTable {
         requires row { IsRowAmong atoms.now row.now }
         requires within { from < length outputs.now }
         requires shown { shown_at row.now.set outputs.now from ≡ true }
-        ensures run { pieces row.now.set true (drop from outputs.now) ≡ row_between outputs.now from result ++ pieces row.now.set true (drop result outputs.now) }
+        ensures run { pieces self.now.between row.now.set true (drop from outputs.now) ≡ row_between self.now.between outputs.now from result ++ pieces self.now.between row.now.set true (drop result outputs.now) }
         ensures within { result ≤ length outputs.now }
         ensures more { from < result }
     {
@@ -150,16 +155,16 @@ impl OutputTable {
         outputs.len()
     }
 
-    /// The texts of the outputs from one to before another, each behind a blank, the first one only where a text stands before it.
+    /// The texts of the outputs from one to before another, each after a separator, the first one only where a text stands before it.
     pub(crate) fn texts(&self, outputs: &Outputs, from: usize, to: usize, any: bool) -> &[u8]
         requires table { HasTextsOf outputs.now self.now }
         requires within { to ≤ length outputs.now }
         requires some { from < to }
-        ensures { result.now ≡ less_blank any (row_between outputs.now from to) }
+        ensures { result.now ≡ less_between any (row_between self.now.between outputs.now from to) }
     {
         let _ = outputs;
-        let blank = if any { 0 } else { 1 };
-        let start = self.starts[from] + blank;
+        let skipped = if any { 0 } else { 1 };
+        let start = self.starts[from] + skipped;
         part(self.texts.as_slice(), start, self.starts[to])
     }
 }

@@ -157,8 +157,8 @@ fn put_verdict<K: Sink>(
     put(sink, waiting, b"\n")
 }
 
-// How many answers were recorded; of consequences one, where they stand.
-fn found_count(results: &Results<Sets>) -> usize
+/// How many answers were recorded; of consequences one, where they are known.
+pub fn found_count(results: &Results<Sets>) -> usize
     ensures { result ≡ found_count results.now.mode results.now }
 {
     match results.mode {

@@ -33,8 +33,8 @@ use Rattle.asp_model.specs.Sound.{is_atom, is_literal, is_weighted, is_sound_hea
 use Rattle.asp_read.specs.declared.statement.Statement.{Statement}
 use Rattle.asp_read.specs.declared.statement.Statement.TheVariants as say
 use Rattle.asp_read.specs.Sizes.{head_size, body_size, rule_size, statement_size, statement_atoms, program_size, empty_program}
-use Rattle.asp_read.specs.Fields.{◌>>=◌, Reads, natural_in, integer_in, natural_at, integer_at, signed_at, atom_at, literal_at, weighted_at, weighted_atom, room_for, is_zero, count_at, many_at, literals_at, weights_at, text_at, alone, ended, most, most_counted}
-use Rattle.asp_read.specs.Statements.{head_of, head_at, body_at, rule_at, minimize_at, output_at, value_of, external_at, of_kind, kind_at, statement_with, statement_at, priorities, header_at, is_too_many}
+use Rattle.asp_read.specs.Fields.{◌>>=◌, Reads, natural_in, integer_in, natural_at, integer_at, signed_at, atom_at, any_literal_at, literal_at, weighted_at, weighted_atom, room_for, is_zero, count_at, many_at, literals_at, weights_at, text_at, alone, ended, most, most_counted}
+use Rattle.asp_read.specs.Statements.{head_of, head_at, body_at, rule_at, minimize_at, output_at, value_of, external_at, heuristic_at, of_kind, kind_at, statement_with, statement_at, priorities, header_at, is_too_many}
 use Rattle.asp_read.specs.declared.reader.Stage.{Stage}
 use Rattle.asp_read.specs.declared.reader.Stage.TheVariants.{Start, Within, Ended}
 use Rattle.asp_read.specs.Seen.{Seen}
@@ -129,14 +129,19 @@ atom-sound known line x e =
     let r = natural-range 1 most line s.value s.is in
     rw (ok_is s.value x t.goes) at (atom_is s.value.0 r.0 r.1)
 
+any-literal-sound : (line : List ℕ) (x : ℤ × List ℕ) → any_literal_at line ≡ Ok x → is_literal x.0 ≡ true
+any-literal-sound line x e =
+    let s = step (integer_at (neg_ℤ (pos most)) (pos most) line) (λ z. if is_zero z.0 then Err (broken (fault.Integer (neg_ℤ (pos most)) (pos most) (Value (pos 0))) line) else ok z) x e in
+    let u = unless (is_zero s.value.0) _ (ok s.value) x s.goes in
+    let r = integer-range (neg_ℤ (pos most)) (pos most) line s.value s.is in
+    rw (ok_is s.value x u.1) at (literal_is s.value.0 r.0 r.1 u.0)
+
 literal-sound : (known : Atoms) (line : List ℕ) (x : ℤ × List ℕ) → literal_at known line ≡ Ok x → is_literal x.0 ≡ true
 unfolding literal_at
 literal-sound known line x e =
-    let s = step (integer_at (neg_ℤ (pos most)) (pos most) line) (λ z. if is_zero z.0 then Err (broken (fault.Integer (neg_ℤ (pos most)) (pos most) (Value (pos 0))) line) else (room_for known (atom_of z.0) line >>= λ _. ok z)) x e in
-    let u = unless (is_zero s.value.0) _ (room_for known (atom_of s.value.0) line >>= λ _. ok s.value) x s.goes in
-    let t = step (room_for known (atom_of s.value.0) line) (λ _. ok s.value) x u.1 in
-    let r = integer-range (neg_ℤ (pos most)) (pos most) line s.value s.is in
-    rw (ok_is s.value x t.goes) at (literal_is s.value.0 r.0 r.1 u.0)
+    let s = step (any_literal_at line) (λ z. room_for known (atom_of z.0) line >>= λ _. ok z) x e in
+    let t = step (room_for known (atom_of s.value.0) line) (λ _. ok s.value) x s.goes in
+    rw (ok_is s.value x t.goes) at (any-literal-sound line s.value s.is)
 
 -- the parts of a literal with a weight
 record Weighted (low : ℤ) (item : ℤ × ℤ) : Type 0 where
@@ -350,7 +355,7 @@ module _ (kind used : ℕ) (seen : List ℤ) (known : Atoms) (line : List ℕ) w
   from8 = if kind == 8 then Err (broken fault.Edge line) else from9
 
   abbrev from7 : Result Statement FaultAt
-  from7 = if kind == 7 then Err (broken fault.Heuristic line) else from8
+  from7 = if kind == 7 then (heuristic_at line >>= ended >>= λ _. ok say.Comment) else from8
 
   abbrev from6 : Result Statement FaultAt
   from6 = if kind == 6 then (literals_at used known line >>= alone >>= λ x. ok (say.Assume x)) else from7
@@ -375,9 +380,9 @@ module _ (kind used : ℕ) (seen : List ℤ) (known : Atoms) (line : List ℕ) w
 
   last_sound : (s : Statement) → used ≤ most_counted → from7 ≡ Ok s → IsFit s
   last_sound s room e7 =
-      let e8 = (unless (kind == 7) _ from8 s e7).1 in
-      let e9 = (unless (kind == 8) _ from9 s e8).1 in
-      comment_is used s room (unless (kind == 9) _ (ok say.Comment) s e9).1
+      choose (IsFit s) (kind == 7) (heuristic_at line >>= ended >>= λ _. ok say.Comment) from8 s e7
+      (λ e. comment_is used s room (step (heuristic_at line >>= ended) (λ _. ok say.Comment) s e).goes)
+      (λ e8. let e9 = (unless (kind == 8) _ from9 s e8).1 in comment_is used s room (unless (kind == 9) _ (ok say.Comment) s e9).1)
 
   later_sound : (s : Statement) → used ≤ most_counted → from4 ≡ Ok s → IsFit s
   later_sound s room e4 =

@@ -67,12 +67,22 @@ abbrev pub is_zero : ℤ → Bool
 is_zero (pos n) = n == 0
 is_zero (negsuc n) = false
 
+-- a literal, whatever atoms are known
+abbrev pub any_literal_at : List ℕ → Reads ℤ
+any_literal_at line = do
+  literal ← integer_at (neg_ℤ (pos most)) (pos most) line
+  if is_zero literal.0 then Err (broken (kind.Integer (neg_ℤ (pos most)) (pos most) (Value (pos 0))) line) else Ok literal
+
 unfoldable pub literal_at : Atoms → List ℕ → Reads ℤ
 literal_at known line = do
-  literal ← integer_at (neg_ℤ (pos most)) (pos most) line
-  if is_zero literal.0 then Err (broken (kind.Integer (neg_ℤ (pos most)) (pos most) (Value (pos 0))) line) else (do
-    _ ← room_for known (atom_of literal.0) line
-    Ok literal)
+  literal ← any_literal_at line
+  _ ← room_for known (atom_of literal.0) line
+  Ok literal
+
+-- what follows so many literals, of which none is kept
+unfoldable pub passed_at : ℕ → List ℕ → Result (List ℕ) FaultAt
+passed_at zero line = Ok line
+passed_at (suc n) line = any_literal_at line >>= λ literal. passed_at n literal.1
 
 -- a literal and its weight
 unfoldable pub weighted_at : ℤ → Atoms → List ℕ → Reads (ℤ × ℤ)

@@ -6,7 +6,7 @@ use Rattle.asp_text.specs.Fields.{unblank}
 use Rattle.asp_model.specs.declared.program.Program.{Program}
 use Rattle.asp_model.specs.Sets.{Atoms, with_atoms}
 use Rattle.asp_read.specs.Sizes.{statement_atoms}
-use Rattle.asp_read.specs.declared.fault.FaultKind.TheVariants.{Header, NoEnd, AfterEnd}
+use Rattle.asp_read.specs.declared.fault.FaultKind.TheVariants.{Empty, NoEnd, AfterEnd}
 use Rattle.asp_read.specs.declared.error.FaultAt.{FaultAt}
 use Rattle.asp_read.specs.Places.{broken, missing}
 use Rattle.asp_read.specs.declared.fault.ReadError.{ReadError}
@@ -37,7 +37,7 @@ judge_line seen line = if length (unblank line) == 0 then Ok seen else judge_fil
 
 -- the end of the text, as the line with this number
 abbrev pub at_end : ℕ → Stage → Program → Result Program ReadError
-at_end number Start p = Err (Refused (missing Header) number)
+at_end number Start p = Err (Refused (missing Empty) number)
 at_end number Within p = Err (Refused (missing NoEnd) number)
 at_end number Ended p = Ok p
 

@@ -28,7 +28,7 @@ use Rattle.asp_read.specs.declared.error.FaultAt.{FaultAt}
 use Rattle.asp_read.specs.Places.{broken}
 use Rattle.asp_read.specs.declared.statement.Statement.{Statement}
 use Rattle.asp_read.specs.declared.statement.Statement.TheVariants as say
-use Rattle.asp_read.specs.Fields.{◌>>=◌, Reads, natural_at, signed_at, atom_at, many_at, literals_at, weights_at, text_at, alone, most, most_counted}
+use Rattle.asp_read.specs.Fields.{◌>>=◌, Reads, natural_at, signed_at, atom_at, many_at, literals_at, weights_at, text_at, passed_at, ended, alone, most, most_counted}
 
 -- ---- rules
 
@@ -114,6 +114,16 @@ external_at known line = do
   number ← natural_at 0 3 atom.1
   Ok (record { atom = atom.0; value = value_of number.0 }, number.1)
 
+-- a modifier, an atom, a value, a priority and a condition: a hint for a search, which changes no answer
+unfoldable pub heuristic_at : List ℕ → Result (List ℕ) FaultAt
+heuristic_at line = do
+  modifier ← natural_at 0 5 line
+  atom ← natural_at 1 most modifier.1
+  value ← signed_at atom.1
+  priority ← natural_at 0 most value.1
+  n ← natural_at 0 most priority.1
+  passed_at n.0 n.1
+
 -- ---- lines
 
 -- what follows the first field of a statement of this kind, where so much was counted and these priorities and atoms stood before
@@ -126,7 +136,7 @@ of_kind kind used seen known line =
     if kind == 4 then (output_at used known line >>= alone >>= λ o. Ok (say.Output o)) else (
     if kind == 5 then (external_at known line >>= alone >>= λ e. Ok (say.External e)) else (
     if kind == 6 then (literals_at used known line >>= alone >>= λ ls. Ok (say.Assume ls)) else (
-    if kind == 7 then Err (broken fault.Heuristic line) else (
+    if kind == 7 then (heuristic_at line >>= ended >>= λ _. Ok say.Comment) else (
     if kind == 8 then Err (broken fault.Edge line) else (
     if kind == 9 then Err (broken fault.Theory line) else
     Ok say.Comment)))))))))

@@ -8,6 +8,8 @@ use std::alloc::{AllocError, AllocFailed};
 /// What is wrong with a line, or with the end of a text.
 #[derive(Clone, Copy)]
 pub enum FaultKind {
+    /// No line is other than blank.
+    Empty,
     /// The first line that isn't blank is no header of aspif 1.0.
     Header,
     /// The header asks for incremental solving.
@@ -20,8 +22,6 @@ pub enum FaultKind {
     Disjunction,
     /// A projection statement.
     Projection,
-    /// A heuristic statement.
-    Heuristic,
     /// An edge statement.
     Edge,
     /// A theory statement.

@@ -5,7 +5,7 @@ ghost use Rattle.asp_text.specs.Fields.{unblank};
 ghost use Rattle.asp_model.specs.Sets.{with_atom};
 ghost use Rattle.asp_model.specs.Holding.{atom_of};
 ghost use Rattle.asp_read.specs.Gives.{Gives};
-ghost use Rattle.asp_read.specs.Fields.{Reads, natural_at, integer_at, signed_at, atom_at, literal_at, weighted_at, count_at, many_at, text_at, ends_field, ended, most_counted};
+ghost use Rattle.asp_read.specs.Fields.{Reads, natural_at, integer_at, signed_at, atom_at, any_literal_at, literal_at, passed_at, weighted_at, count_at, many_at, text_at, ends_field, ended, most_counted};
 
 use crate::error::{LineError, broken};
 use crate::fault::FaultKind;
@@ -53,18 +53,39 @@ pub fn atom<'a>(line: &'a [u8], known: &mut KnownAtoms) -> Result<(Atom, &'a [u8
     Ok((atom, rest))
 }
 
-#[tactic(auto, unfolding(crate::specs::Fields::literal_at))]
-pub fn literal<'a>(line: &'a [u8], known: &mut KnownAtoms) -> Result<(i32, &'a [u8]), LineError>
-    ensures literal { Gives (λ x. (x.0, x.1.now)) result (literal_at known.old line.now) }
-    ensures known { IfOk result (λ x. known.new ≡ with_atom (atom_of x.0) known.old) }
+// A literal, whatever atoms are known.
+#[tactic(auto, unfolding(crate::specs::Fields::any_literal_at))]
+fn any_literal(line: &[u8]) -> Result<(i32, &[u8]), LineError>
+    ensures { Gives (λ x. (x.0, x.1.now)) result (any_literal_at line.now) }
 {
     let (literal, rest) = integer(line, -i32::MAX, i32::MAX)?;
     if literal == 0 {
         let zero = FaultKind::Integer(-i32::MAX, i32::MAX, Num::Value(0));
         return Err(broken(zero, line));
     }
+    Ok((literal, rest))
+}
+
+#[tactic(auto, unfolding(crate::specs::Fields::literal_at))]
+pub fn literal<'a>(line: &'a [u8], known: &mut KnownAtoms) -> Result<(i32, &'a [u8]), LineError>
+    ensures literal { Gives (λ x. (x.0, x.1.now)) result (literal_at known.old line.now) }
+    ensures known { IfOk result (λ x. known.new ≡ with_atom (atom_of x.0) known.old) }
+{
+    let (literal, rest) = any_literal(line)?;
     known.take(literal.unsigned_abs(), line)?;
     Ok((literal, rest))
+}
+
+/// What follows so many literals, of which none is kept.
+pub fn pass_literals(line: &[u8], count: u32) -> Result<&[u8], LineError>
+    ensures { Gives (λ rest. rest.now) result (passed_at count line.now) }
+{
+    let mut rest = line;
+    for _ in 0..count {
+        let (_, after) = any_literal(rest)?;
+        rest = after;
+    }
+    Ok(rest)
 }
 
 #[tactic(auto, unfolding(crate::specs::Fields::weighted_at))]

@@ -114,7 +114,7 @@ impl Judge for Reader {
         match stage {
             Stage::Start => {
                 mem::drop(program);
-                Err(ReadError::Refused(missing(FaultKind::Header), number))
+                Err(ReadError::Refused(missing(FaultKind::Empty), number))
             }
             Stage::Within => {
                 mem::drop(program);

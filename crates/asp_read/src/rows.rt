@@ -19,16 +19,19 @@ pub fn whole_texts()
     ensures tag { outcome (codes "asp 1 0 0 x\n0\n") ≡ refused 1 5 FaultKind.Tag }
     ensures extra { outcome (codes "asp 1 0 0\n0 0\n") ≡ refused 2 2 FaultKind.ExtraFields }
     ensures after_end { outcome (codes "asp 1 0 0\n0\n10 x\n") ≡ refused 3 1 FaultKind.AfterEnd }
-    ensures empty { outcome [] ≡ refused 1 1 FaultKind.Header }
+    ensures empty { outcome [] ≡ refused 1 1 FaultKind.Empty }
     ensures no_line_feed { outcome (codes "asp 1 0 7\n0") ≡ Ok empty_program }
     ensures blank_lines { outcome (codes "\n \t\r\nasp 1 0 0\r\n\n0\r\n") ≡ Ok empty_program }
 {}
 
 /// The faults of a line after the header.
-#[tactic(auto, unfolding(crate::specs::Judging::outcome_from, crate::specs::Judging::judge_all, crate::specs::Statements::header_at, crate::specs::Statements::statement_with, crate::specs::Statements::of_kind, crate::specs::Statements::rule_at, crate::specs::Statements::head_at, crate::specs::Statements::body_at, crate::specs::Statements::output_at, crate::specs::Statements::minimize_at, crate::specs::Statements::external_at, crate::specs::Fields::many_at, crate::specs::Fields::count_at, crate::specs::Fields::atom_at, crate::specs::Fields::literal_at, crate::specs::Fields::weighted_at))]
+#[tactic(auto, unfolding(crate::specs::Judging::outcome_from, crate::specs::Judging::judge_all, crate::specs::Statements::header_at, crate::specs::Statements::statement_with, crate::specs::Statements::of_kind, crate::specs::Statements::rule_at, crate::specs::Statements::head_at, crate::specs::Statements::body_at, crate::specs::Statements::output_at, crate::specs::Statements::minimize_at, crate::specs::Statements::external_at, crate::specs::Statements::heuristic_at, crate::specs::Fields::passed_at, crate::specs::Fields::any_literal_at, crate::specs::Fields::many_at, crate::specs::Fields::count_at, crate::specs::Fields::atom_at, crate::specs::Fields::literal_at, crate::specs::Fields::weighted_at))]
 pub fn refused_lines()
     ensures kind { outcome (after_header (codes "11 1")) ≡ refused 2 1 (FaultKind.Statement (Value (pos 11))) }
-    ensures heuristic { outcome (after_header (codes "7 0 1 1 1 0")) ≡ refused 2 2 FaultKind.Heuristic }
+    ensures modifier { outcome (after_header (codes "7 6 1 1 1 0")) ≡ refused 2 2 (FaultKind.Natural 0 5 (Value (pos 6))) }
+    ensures hinted_atom { outcome (after_header (codes "7 0 0 1 1 0")) ≡ refused 2 3 (FaultKind.Natural 1 2147483647 (Value (pos 0))) }
+    ensures short_condition { outcome (after_header (codes "7 0 1 1 1 2 3")) ≡ refused 2 8 (FaultKind.Integer (negsuc 2147483646) (pos 2147483647) NotNumber) }
+    ensures long_condition { outcome (after_header (codes "7 0 1 1 1 1 3 4")) ≡ refused 2 8 FaultKind.ExtraFields }
     ensures edge { outcome (after_header (codes "8 0 1 0")) ≡ refused 2 2 FaultKind.Edge }
     ensures theory { outcome (after_header (codes "9 0 0 1")) ≡ refused 2 2 FaultKind.Theory }
     ensures word { outcome (after_header (codes "x")) ≡ refused 2 1 (FaultKind.Statement NotNumber) }
@@ -50,9 +53,10 @@ pub fn refused_lines()
 {}
 
 /// What is accepted.
-#[tactic(auto, unfolding(crate::specs::Judging::outcome_from, crate::specs::Judging::judge_all, crate::specs::Statements::header_at, crate::specs::Statements::statement_with, crate::specs::Statements::of_kind, crate::specs::Statements::rule_at, crate::specs::Statements::head_at, crate::specs::Statements::body_at, crate::specs::Statements::output_at, crate::specs::Statements::minimize_at, crate::specs::Statements::external_at, crate::specs::Fields::many_at, crate::specs::Fields::count_at, crate::specs::Fields::atom_at, crate::specs::Fields::literal_at, crate::specs::Fields::weighted_at))]
+#[tactic(auto, unfolding(crate::specs::Judging::outcome_from, crate::specs::Judging::judge_all, crate::specs::Statements::header_at, crate::specs::Statements::statement_with, crate::specs::Statements::of_kind, crate::specs::Statements::rule_at, crate::specs::Statements::head_at, crate::specs::Statements::body_at, crate::specs::Statements::output_at, crate::specs::Statements::minimize_at, crate::specs::Statements::external_at, crate::specs::Statements::heuristic_at, crate::specs::Fields::passed_at, crate::specs::Fields::any_literal_at, crate::specs::Fields::many_at, crate::specs::Fields::count_at, crate::specs::Fields::atom_at, crate::specs::Fields::literal_at, crate::specs::Fields::weighted_at))]
 pub fn accepted_lines()
     ensures comment { outcome (after_header (codes "10 any text")) ≡ Ok empty_program }
+    ensures heuristic { outcome (after_header (codes "7 5 3 -2 1 2 4 -5")) ≡ Ok empty_program }
     ensures lenient { outcome (after_header (codes " \t01\t0 1  001 0 0 ")) ≡ Ok (rule_program (record { head = One 1; body = All [] })) }
     ensures choice { outcome (after_header (codes "1 1 0 0 0")) ≡ Ok (rule_program (record { head = Choice []; body = All [] })) }
     ensures bound { outcome (after_header (codes "1 0 1 1 1 -3 0")) ≡ Ok (rule_program (record { head = One 1; body = AtLeast (negsuc 2) [] })) }

@@ -8,11 +8,11 @@ ghost use Rattle.asp_model.specs.Models.{head_atoms};
 ghost use Rattle.asp_read.specs.Sizes.{head_size, body_size, rule_size, statement_size, statement_atoms};
 ghost use Rattle.asp_read.specs.Gives.{Gives};
 ghost use Rattle.asp_read.specs.Fields.{literals_at, weights_at, most_counted};
-ghost use Rattle.asp_read.specs.Statements.{head_among, head_at, body_at, rule_at, output_at, value_of, external_at, minimize_at, kind_at, statement_with, of_kind, is_too_many, is_number, is_word, is_header, no_tag, header_at};
+ghost use Rattle.asp_read.specs.Statements.{head_among, head_at, body_at, rule_at, output_at, value_of, external_at, minimize_at, heuristic_at, kind_at, statement_with, of_kind, is_too_many, is_number, is_word, is_header, no_tag, header_at};
 
 use crate::error::{LineError, broken};
 use crate::fault::FaultKind;
-use crate::field::{MOST_COUNTED, atom, count, ended, integer, natural, text};
+use crate::field::{MOST_COUNTED, atom, count, ended, integer, natural, pass_literals, text};
 use crate::known::KnownAtoms;
 use crate::many::{Atoms, Literals, Weights, many};
 use crate::sizes::size_of_head;
@@ -221,6 +221,19 @@ fn minimize<'a>(
     Ok((Minimize { priority, items }, rest))
 }
 
+// A hint for a search, of which nothing is kept: it changes no answer.
+#[tactic(auto, unfolding(crate::specs::Statements::heuristic_at))]
+fn heuristic(line: &[u8]) -> Result<&[u8], LineError>
+    ensures { Gives (λ rest. rest.now) result (heuristic_at line.now) }
+{
+    let (_, rest) = natural(line, 0, 5)?;
+    let (_, rest) = natural(rest, 1, i32::MAX as u32)?;
+    let (_, rest) = integer(rest, i32::MIN, i32::MAX)?;
+    let (_, rest) = natural(rest, 0, i32::MAX as u32)?;
+    let (n, rest) = natural(rest, 0, i32::MAX as u32)?;
+    pass_literals(rest, n)
+}
+
 fn kind_of(line: &[u8]) -> Result<(u32, &[u8]), LineError>
     ensures kind { Gives (λ x. (x.0, x.1.now)) result (kind_at line.now) }
     ensures bound { IfOk result (λ x. x.0 ≤ 10) }
@@ -278,7 +291,11 @@ fn of_kind(
             ended(rest)?;
             Ok(Statement::Assume(literals))
         }
-        7 => Err(broken(FaultKind::Heuristic, line)),
+        7 => {
+            let rest = heuristic(line)?;
+            ended(rest)?;
+            Ok(Statement::Comment)
+        }
         8 => Err(broken(FaultKind::Edge, line)),
         9 => Err(broken(FaultKind::Theory, line)),
         _ => Ok(Statement::Comment),

@@ -2,6 +2,8 @@
 //!
 //! Each worker has a recorder of its own, and hands over what it wrote before anybody can learn of it. So the lines stand
 //! in an order in which each follows from those before it, whoever wrote them.
+ghost use Rattle.std.specs.Prelude.{◌≡◌, [], OnErr, OnOk};
+
 use crate::recorder::Recorder;
 use asp_proof::proof::Line;
 use std::alloc::{AllocError, Global};
@@ -22,7 +24,7 @@ impl Scroll {
         }
     }
 
-    /// Takes over the lines that a recorder got since it was here last. For want of memory the recorder keeps them.
+    /// Takes over the lines that a recorder got since it was here last. When out of memory the recorder keeps them.
     pub fn take_over<R: Wait>(&self, rt: &R, recorder: &Recorder) -> Result<(), AllocError> {
         match recorder.take() {
             None => Ok(()),
@@ -34,8 +36,11 @@ impl Scroll {
         }
     }
 
-    // Moves the lines to the end.
-    fn append<R: Wait>(&self, rt: &R, lines: &mut Vec<Line>) -> Result<(), AllocError> {
+    // Moves the lines to the end. When out of memory they stay where they are.
+    fn append<R: Wait>(&self, rt: &R, lines: &mut Vec<Line>) -> Result<(), AllocError>
+        ensures moved { OnOk result (lines.new.items ≡ []) }
+        ensures kept { OnErr result (lines.new.items ≡ lines.old.items) }
+    {
         if lines.is_empty() {
             return Ok(());
         }

@@ -7,7 +7,7 @@ use Rattle.std.proofs.lemmas.Int.{ints}
 use Rattle.asp_text.specs.Fields.{field_of, after_field, integer_of}
 use Rattle.asp_model.specs.Sets.{Atoms, with_atom, with_atoms}
 use Rattle.asp_model.specs.Holding.{atom_of}
-use Rattle.asp_read.specs.Fields.{◌>>=◌, Reads, natural_in, integer_in, natural_at, integer_at, count_at, is_one_too_many, room_for, atom_at, literal_at, weighted_at, weighted_atom, many_at, literals_at, weights_at, is_zero, most, most_counted}
+use Rattle.asp_read.specs.Fields.{◌>>=◌, Reads, natural_in, integer_in, natural_at, integer_at, count_at, is_one_too_many, room_for, atom_at, any_literal_at, literal_at, weighted_at, weighted_atom, many_at, literals_at, weights_at, is_zero, most, most_counted}
 use Rattle.asp_roundtrip.specs.Readable.{IsBetween, IsAtom, IsLiteral, IsWeighted}
 use Rattle.asp_roundtrip.proofs.Room.{IsRoomy, roomy_more}
 
@@ -80,10 +80,12 @@ literal_from : (z : ℤ) → IsBetween (neg_ℤ (pos most)) (pos most) z → is_
 literal_from (pos n) within e = (omega (arith, eqb-false n 0 e), leb→le n most within.1.le)
 literal_from (negsuc n) within e = (omega arith, omega (arith, leb→le n (most - 1) within.0.le))
 
+any_literal_given : (line : List ℕ) → Given (any_literal_at line) (λ x. IsLiteral x.0)
+any_literal_given line = given_then _ _ _ _ (integer_given (neg_ℤ (pos most)) (pos most) line) (λ l within. given_if _ _ _ _ (λ t. given_none _ _) (λ f. given _ _ (literal_from l.0 within f)))
+
 pub literal_given : (known : Atoms) (line : List ℕ) → Given (literal_at known line) (λ x. IsLiteral x.0 × HasRoom known (atom_of x.0))
 unfolding literal_at
-literal_given known line = given_then _ _ _ _ (integer_given (neg_ℤ (pos most)) (pos most) line) (λ l within. given_if _ _ _ _ (λ t. given_none _ _)
-    (λ f. given_then _ _ _ _ (room_given known (atom_of l.0) line) (λ _ room. given _ _ (literal_from l.0 within f, room))))
+literal_given known line = given_then _ _ _ _ (any_literal_given line) (λ l is. given_then _ _ _ _ (room_given known (atom_of l.0) line) (λ _ room. given _ _ (is, room)))
 
 pub weighted_given : (low : ℤ) (known : Atoms) (line : List ℕ) → Given (weighted_at low known line) (λ x. IsWeighted low x.0 × HasRoom known (weighted_atom x.0))
 unfolding weighted_at

@@ -17,7 +17,7 @@ use Rattle.asp_read.specs.declared.statement.Statement.{Statement}
 use Rattle.asp_read.specs.declared.statement.Statement.TheVariants as say
 use Rattle.asp_read.specs.Fields.{◌>>=◌, Reads, atom_at, literals_at, text_at, alone, ended, ends_field, most, most_counted}
 use Rattle.asp_read.specs.Sizes.{head_size, body_size, statement_size, statement_atoms}
-use Rattle.asp_read.specs.Statements.{head_of, head_at, body_at, rule_at, minimize_at, output_at, external_at, value_of, is_too_many, of_kind, kind_in, statement_with}
+use Rattle.asp_read.specs.Statements.{head_of, head_at, body_at, rule_at, minimize_at, output_at, external_at, heuristic_at, value_of, is_too_many, of_kind, kind_in, statement_with}
 use Rattle.asp_read.specs.Outcome.{most_bytes}
 use Rattle.asp_roundtrip.specs.Readable.{IsAtom, IsLiteral, IsHead, IsBody, IsRule, IsMinimize, IsOutput}
 use Rattle.asp_roundtrip.proofs.Bytes.{IsOneLine, each-drop, each-take}
@@ -150,7 +150,7 @@ of_kind_given kind used seen known line few one roomy =
     given_if (kind == 4) _ _ _ (λ _. one_given _ say.Output _ (output_given used seen known line one roomy)) (λ _.
     given_if (kind == 5) _ _ _ (λ _. one_given _ say.External _ (external_given used seen known line few roomy)) (λ _.
     given_if (kind == 6) _ _ _ (λ _. one_given _ say.Assume _ assume) (λ _.
-    given_if (kind == 7) _ _ _ (λ _. given_none _ _) (λ _.
+    given_if (kind == 7) _ _ _ (λ _. given_then _ _ _ _ (given_itself (heuristic_at line >>= ended)) (λ _ _. given say.Comment _ comment)) (λ _.
     given_if (kind == 8) _ _ _ (λ _. given_none _ _) (λ _.
     given_if (kind == 9) _ _ _ (λ _. given_none _ _) (λ _. given say.Comment _ comment))))))))))
   where

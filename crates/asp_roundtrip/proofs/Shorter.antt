@@ -11,7 +11,7 @@ use Rattle.std.proofs.lemmas.Fmt.{length-decimal-le, decimal_nonempty, decimal_d
 use Rattle.asp_text.specs.Fields.{is_blank, is_filled, unblank, field_of, after_field, digits_after, natural_of, integer_of}
 use Rattle.asp_model.specs.Sets.{Atoms, with_atom}
 use Rattle.asp_model.specs.Holding.{atom_of}
-use Rattle.asp_read.specs.Fields.{Reads, ends_field, natural_in, integer_in, natural_at, integer_at, count_at, room_for, atom_at, literal_at, weighted_at, weighted_atom, many_at, literals_at, weights_at, is_zero, most, most_counted}
+use Rattle.asp_read.specs.Fields.{Reads, ends_field, natural_in, integer_in, natural_at, integer_at, count_at, room_for, atom_at, any_literal_at, literal_at, weighted_at, weighted_atom, many_at, literals_at, weights_at, is_zero, most, most_counted}
 use Rattle.asp_make.specs.Texts.{natural_field, integer_field, weighted_fields, counted_fields}
 use Rattle.asp_read.specs.declared.error.FaultAt.{FaultAt}
 use Rattle.asp_roundtrip.specs.Readable.{IsBetween}
@@ -127,10 +127,12 @@ pub atom_shorter : (known : Atoms) (line : List ℕ) → ends_field line ≡ tru
 unfolding atom_at
 atom_shorter known line e = given_then _ _ _ _ (natural_shorter 1 most line (omega arith) e) (λ a shorter. given_then _ _ _ _ (given_itself (room_for known a.0 line)) (λ _ _. given _ _ shorter))
 
+any_literal_shorter : (line : List ℕ) → ends_field line ≡ true → Given (any_literal_at line) (λ x. Shorter line (integer_field x.0) x.1)
+any_literal_shorter line e = given_then _ _ _ _ (integer_shorter_at (neg_ℤ (pos most)) line (omega arith) e) (λ l shorter. given_if (is_zero l.0) _ _ _ (λ t. given_none _ _) (λ f. given _ _ shorter))
+
 pub literal_shorter : (known : Atoms) (line : List ℕ) → ends_field line ≡ true → Given (literal_at known line) (λ x. Shorter line (integer_field x.0) x.1)
 unfolding literal_at
-literal_shorter known line e = given_then _ _ _ _ (integer_shorter_at (neg_ℤ (pos most)) line (omega arith) e) (λ l shorter. given_if (is_zero l.0) _ _ _ (λ t. given_none _ _)
-    (λ f. given_then _ _ _ _ (given_itself (room_for known (atom_of l.0) line)) (λ _ _. given _ _ shorter)))
+literal_shorter known line e = given_then _ _ _ _ (any_literal_shorter line e) (λ l shorter. given_then _ _ _ _ (given_itself (room_for known (atom_of l.0) line)) (λ _ _. given _ _ shorter))
 
 pub shorter_both : (line first between second after : List ℕ) → Shorter line first between → Shorter between second after → Shorter line (first ++ second) after
 shorter_both line first between second after a b = record { fits = omega (arith, a.fits, b.fits, length-append first second); next = b.next }

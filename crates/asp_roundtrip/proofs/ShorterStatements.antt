@@ -15,9 +15,9 @@ use Rattle.asp_model.specs.declared.program.ExternalValue.{ExternalValue}
 use Rattle.asp_model.specs.declared.program.ExternalValue.TheVariants as value
 use Rattle.asp_read.specs.declared.statement.Statement.{Statement}
 use Rattle.asp_read.specs.declared.statement.Statement.TheVariants as say
-use Rattle.asp_read.specs.Fields.{ends_field, atom_at, text_at, most, most_counted}
+use Rattle.asp_read.specs.Fields.{◌>>=◌, ends_field, ended, atom_at, text_at, most, most_counted}
 use Rattle.asp_read.specs.Sizes.{head_size}
-use Rattle.asp_read.specs.Statements.{head_of, head_at, body_at, rule_at, minimize_at, output_at, external_at, value_of, is_too_many, of_kind, kind_at, kind_in, statement_with, header_at, is_header, is_word, is_number, no_tag}
+use Rattle.asp_read.specs.Statements.{head_of, head_at, body_at, rule_at, minimize_at, output_at, external_at, heuristic_at, value_of, is_too_many, of_kind, kind_at, kind_in, statement_with, header_at, is_header, is_word, is_number, no_tag}
 use Rattle.asp_read.specs.Outcome.{most_bytes}
 use Rattle.asp_make.specs.Texts.{natural_field, integer_field, weighted_fields, counted_fields, head_fields, body_fields, external_field, output_text}
 use Rattle.asp_roundtrip.proofs.Given.{Given, given, given_none, given_then, given_if, given_after, given_itself, natural_given}
@@ -158,7 +158,7 @@ of_kind_shorter kind used seen known line e =
     given_if (kind == 4) _ _ _ (λ _. one_given _ say.Output Q (given_after _ _ _ (output_shorter used known line e) (λ x s. omega (arith, s.fits, output_long x.0)))) (λ _.
     given_if (kind == 5) _ _ _ (λ _. one_given _ say.External Q (given_after _ _ _ (external_shorter known line e) (λ x s. omega (arith, s.fits)))) (λ _.
     given_if (kind == 6) _ _ _ (λ _. one_given _ say.Assume Q (given_after _ _ _ (literals_shorter used known line e) (λ x s. omega (arith, s.fits)))) (λ _.
-    given_if (kind == 7) _ _ _ (λ _. given_none _ _) (λ _.
+    given_if (kind == 7) _ _ _ (λ _. given_then _ _ _ _ (given_itself (heuristic_at line >>= ended)) (λ _ _. given say.Comment _ (omega arith))) (λ _.
     given_if (kind == 8) _ _ _ (λ _. given_none _ _) (λ _.
     given_if (kind == 9) _ _ _ (λ _. given_none _ _) (λ _. given say.Comment _ (omega arith)))))))))))
 

@@ -1,2 +1,3 @@
 pub mod Soundness
+pub mod Signs
 pub mod Weights

@@ -1,10 +1,10 @@
 // The parts of a rule. Each function gives the value and what follows it on the line.
-ghost use Rattle.std.specs.Prelude.{◌≡◌, ◌+◌, ◌≤◌, ◌++◌, length, map, IfOk};
+ghost use Rattle.std.specs.Prelude.{◌≡◌, ◌+◌, ◌≤◌, length, map, IfOk};
 ghost use Rattle.asp_model.specs.Sets.{with_atom, with_atoms};
 ghost use Rattle.asp_model.specs.Holding.{atom_of};
 ghost use Rattle.asp_read.specs.Gives.{Gives};
 ghost use Rattle.asp_read.specs.Fields.{most_counted};
-ghost use Rattle.asp_smodels.specs.Parts.{one_more_at, heads_at, negated_at, literal_of, literal_at, signed_at, literals_at, weights_at, weighted_at, with_weight_1};
+ghost use Rattle.asp_smodels.specs.Parts.{one_more_at, heads_at, negated_at, literal_of, signed_at, literals_at, weights_at, weighted_at, with_weight_1};
 
 use asp_model::program::Atom;
 use asp_model::seq::Seq;
@@ -12,7 +12,6 @@ use asp_read::error::{LineError, broken};
 use asp_read::fault::FaultKind;
 use asp_read::field::{MOST_COUNTED, atom, count, integer};
 use asp_read::known::KnownAtoms;
-use asp_read::many::{Entry, many};
 use asp_text::{Num, split_int};
 use std::alloc::{AllocError, Global};
 
@@ -68,53 +67,12 @@ pub fn literal_of(atom: Atom, negated: bool) -> i32
     if negated { -(atom as i32) } else { atom as i32 }
 }
 
-/// Atoms as literals, all negated or none.
-#[derive(Clone, Copy)]
-struct Sign(bool);
-
-impl Entry for Sign {
-    type Item = i32;
-
-    ghost entry_at = { λ s. literal_at s.0 };
-
-    ghost entry_atom = { λ _. atom_of };
-
-    fn read<'a>(
-        &self,
-        line: &'a [u8],
-        known: &mut KnownAtoms,
-    ) -> Result<(i32, &'a [u8]), LineError> {
-        literal(line, self.0, known)
-    }
-}
-
-#[tactic(auto, unfolding(crate::specs::Parts::literal_at))]
-fn literal<'a>(
-    line: &'a [u8],
-    negated: bool,
-    known: &mut KnownAtoms,
-) -> Result<(i32, &'a [u8]), LineError>
-    ensures literal { Gives (λ x. (x.0, x.1.now)) result (literal_at negated known.old line.now) }
-    ensures known { IfOk result (λ x. known.new ≡ with_atom (atom_of x.0) known.old) }
-{
-    let (atom, rest) = atom(line, known)?;
-    Ok((literal_of(atom, negated), rest))
-}
-
-// One list behind another.
-fn join(first: Seq<i32>, second: Seq<i32>) -> Result<Seq<i32>, AllocError>
-    ensures { IfOk result (λ both. both ≡ first ++ second) }
-{
-    if first.as_slice().is_empty() {
-        return Ok(second);
-    }
-    let mut items = first.into_vec();
-    items.extend_from_slice(second.as_slice())?;
-    Ok(Seq::from_vec(items))
+// For how many literals there is room at first: at most their count, and few more than the line has bytes for.
+fn places(count: u32, line: &[u8]) -> usize {
+    (count as usize).min(line.len() / 4 + 2)
 }
 
 /// So many atoms as literals, of which the first are negated.
-#[tactic(auto, unfolding(crate::specs::Parts::signed_at))]
 pub fn signed<'a>(
     alloc: Global,
     count: u32,
@@ -127,10 +85,14 @@ pub fn signed<'a>(
     ensures len { IfOk result (λ x. length x.0 ≡ count) }
     ensures known { IfOk result (λ x. known.new ≡ with_atoms known.old (map atom_of x.0)) }
 {
-    let (negative, rest) = many(alloc, &Sign(true), negated, line, known)?;
-    let (positive, rest) = many(alloc, &Sign(false), count - negated, rest, known)?;
-    let literals = join(negative, positive)?;
-    Ok((literals, rest))
+    let mut items = Vec::with_capacity(alloc, places(count, line))?;
+    let mut rest = line;
+    for i in 0..count {
+        let (atom, after) = atom(rest, known)?;
+        items.push(literal_of(atom, i < negated))?;
+        rest = after;
+    }
+    Ok((Seq::from_vec(items), rest))
 }
 
 /// A count of literals, how many of them are negated, and the literals.

@@ -1,8 +1,11 @@
 //! A run of many workers.
-ghost use Rattle.std.specs.Prelude.{◌≡◌, ℕ, ◌^◌, ◌<◌, ◌≤◌, Bool, List, ◌++◌, true, false, length, None, Some, IfOk};
+ghost use Rattle.std.specs.Prelude.{◌≡◌, ℕ, ◌^◌, ◌<◌, ◌≤◌, Bool, List, ◌++◌, true, false, length, None, Some, IfOk, OnOk};
 ghost use Rattle.asp_vault.specs.Seats.{view};
 ghost use Rattle.asp_book.specs.Books.{board};
 ghost use Rattle.asp_core.specs.declared.event.Event.{Event};
+ghost use Rattle.asp_counts.specs.Counting.{together};
+ghost use Rattle.asp_counts.specs.Tallies.{count_of};
+ghost use Rattle.asp_counts.specs.Telling.{AreNumbered};
 ghost use Rattle.asp_crew_laws.specs.Gone.{IsCrewGone, IsShared};
 ghost use Rattle.asp_crew_laws.specs.Proofs.{HasProof};
 ghost use Rattle.asp_crew_laws.specs.Reports.{IsReport, IsIdle as IsIdleBoard};
@@ -70,7 +73,10 @@ impl Deeds {
     }
 
     // What the workers did who told of it.
-    fn of(tallies: Tallies) -> Deeds {
+    fn of(tallies: Tallies) -> Deeds
+        ensures workers { AreNumbered (count_of tallies) result.workers.items }
+        ensures sum { result.sum ≡ together (λ w. w.counts) result.workers.items }
+    {
         let workers = tallies.into_counts();
         Deeds {
             sum: sum_of(workers.as_slice()),
@@ -87,6 +93,7 @@ fn dismissed(shared: Shared, lead: Lead) -> (Book, u32, Tallies, Scroll)
     requires home { (n : ℕ) → 0 < n → n ≤ (view lead.seat).splits → IsHome (view lead.seat) n }
     ensures task { Some result.0.task ≡ (view lead.seat).about }
     ensures idle { IsIdleBoard (board result.0) }
+    ensures tallies { result.2 ≡ shared.tallies }
     ensures crew { (never : Bool) (begun : List Event) → HaveLeft lead never begun → (rest : List Event) × (result.0.journal ≡ begun ++ rest) × IsCrewGone result.0.task (view lead.seat).splits lead.short never begun rest }
 {
     let Lead {
@@ -161,6 +168,7 @@ fn ended<W: Watch>(
     ensures second { IfOk result (λ r. r.0.second ≡ None) }
     ensures proof { IfOk result (λ r. r.0.proof ≡ None) }
     ensures shared { IfOk result (λ r. (never : Bool) (begun : List Event) → HaveLeft lead never begun → IsShared (task_of compiled.now plan.ask plan.budget) r.0.short never r.0.journal) }
+    ensures workers { AreNumbered (count_of shared.tallies) deeds.new.workers.items }
     ensures heard { W.IsAfter watch.old watch.new }
 {
     let short = lead.short;
@@ -205,6 +213,7 @@ fn finished<W: Watch>(
     ensures report { IfOk result (IsReport compiled.now plan.ask plan.budget) }
     ensures proof { IfOk result (HasProof plan.proof) }
     ensures shared { IfOk result (λ r. (never : Bool) (begun : List Event) → HaveLeft lead never begun → IsShared (task_of compiled.now plan.ask plan.budget) r.short never r.journal) }
+    ensures workers { AreNumbered (count_of shared.tallies) deeds.new.workers.items }
     ensures heard { W.IsAfter watch.old watch.new }
 {
     let (report, recorder) = ended(alloc, compiled, plan, shared, lead, deeds, watch)?;
@@ -233,6 +242,7 @@ fn worked<R: Threads + Wait + Sync, G: Gate + Sync, H: Halt + Sync, W: Watch + D
     ensures report { IfOk result.0 (IsReport compiled.now plan.ask plan.budget) }
     ensures proof { IfOk result.0 (HasProof plan.proof) }
     ensures shared { IfOk result.0 (λ r. (never : Bool) → (never ≡ true → H.never halt.now) → IsShared (task_of compiled.now plan.ask plan.budget) r.short never r.journal) }
+    ensures workers { AreNumbered (count_of team.shared.tallies) deeds.new.workers.items }
     ensures heard { W.IsAfter watch result.1 }
 {
     let Team {
@@ -270,6 +280,7 @@ pub fn solve_with<R: Threads + Wait + Sync, G: Gate + Sync, H: Halt + Sync, W: W
     ensures report { IfOk result.0 (IsReport compiled.now plan.ask plan.budget) }
     ensures proof { IfOk result.0 (HasProof plan.proof) }
     ensures shared { IfOk result.0 (λ r. (never : Bool) → (never ≡ true → H.never halt.now) → IsShared (task_of compiled.now plan.ask plan.budget) r.short never r.journal) }
+    ensures workers { OnOk result.0 (AreNumbered plan.workers deeds.new.workers.items) }
     ensures heard { W.IsAfter watch result.1 }
 {
     match gathered(
@@ -300,6 +311,7 @@ pub fn solve<R: Threads + Wait + Sync, G: Gate + Sync, W: Watch + Drop>(
     ensures report { IfOk result.0 (IsReport compiled.now plan.ask plan.budget) }
     ensures proof { IfOk result.0 (HasProof plan.proof) }
     ensures shared { IfOk result.0 (λ r. IsShared (task_of compiled.now plan.ask plan.budget) r.short true r.journal) }
+    ensures workers { OnOk result.0 (AreNumbered plan.workers deeds.new.workers.items) }
     ensures heard { W.IsAfter watch result.1 }
 {
     solve_with(rt, alloc, compiled, plan, gate, &NoHalt, deeds, watch)

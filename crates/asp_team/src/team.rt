@@ -5,6 +5,7 @@ ghost use Rattle.asp_vault.specs.Seats.{view, IsOf};
 ghost use Rattle.asp_pool.specs.Lists.{Every};
 ghost use Rattle.asp_pool.specs.Pools.{IsOfPool};
 ghost use Rattle.asp_book.specs.Calls.{task_of as seen_task};
+ghost use Rattle.asp_counts.specs.Tallies.{count_of};
 ghost use Rattle.asp_crew_laws.specs.Runs.{task_of};
 ghost use Rattle.asp_worker.specs.Seats.{IsPaged};
 ghost use Rattle.asp_team.specs.Joined.{MayJoin};
@@ -158,6 +159,7 @@ pub(crate) fn gathered(
     requires { (1 ≤ count) × (count ≤ 64) }
     ensures team { IfOk result (IsTeam compiled.now ask budget) }
     ensures count { IfOk result (λ team. length team.workers.items ≡ count) }
+    ensures tallies { IfOk result (λ team. count_of team.shared.tallies ≡ count) }
 {
     let (pool, lanes, passes) = Pool::new(alloc, count)?;
     let tallies = Tallies::new(alloc, count)?;

@@ -235,10 +235,10 @@ solves-by given p x q r brief h h' w w' o is of same report proof (inr d) =
     let told'' : Delivers brief (searched given p) (told_with (set_aside given p) r) h h' w w' o = subst (λ (y : Prepared). Delivers brief y.compiled (told_with y.facts r) h h' w w' o) is told' in
     inr (r, (subst (λ (ask : Ask). IsReport (searched given p) ask given.budget r) (same-ask given p) report'', proof), subst (λ (b : Bool). Delivers b (searched given p) (told_with (set_aside given p) r) h h' w w' o) same told'')
 
-pub counted-by : (alone brief : Bool) (p : Program) (F : Atoms) (r : Report) (t : Tally) (h h' : Option (List ℕ)) (w w' : ℕ) (o : Outcome) → Concludes brief p F r h h' w w' o → IsCounted alone t r → IfSome o.report (IsCounted alone t)
-counted-by alone brief p F r t h h' w w' o (inl m) counted = subst (λ x. IfSome x (IsCounted alone t)) (sym (ap (λ (x : Outcome). x.report) m.0)) tt
-counted-by alone brief p F r t h h' w w' o (inr d) counted =
-    subst (λ x. IfSome x (IsCounted alone t)) (sym d.reports) (record { atoms = counted.atoms; bodies = counted.bodies; loops = counted.loops; workers = counted.workers })
+pub counted-by : (workers : ℕ) (brief : Bool) (p : Program) (F : Atoms) (r : Report) (t : Tally) (h h' : Option (List ℕ)) (w w' : ℕ) (o : Outcome) → Concludes brief p F r h h' w w' o → IsCounted workers t r → IfSome o.report (IsCounted workers t)
+counted-by workers brief p F r t h h' w w' o (inl m) counted = subst (λ x. IfSome x (IsCounted workers t)) (sym (ap (λ (x : Outcome). x.report) m.0)) tt
+counted-by workers brief p F r t h h' w w' o (inr d) counted =
+    subst (λ x. IfSome x (IsCounted workers t)) (sym d.reports) (record { atoms = counted.atoms; bodies = counted.bodies; loops = counted.loops; numbered = counted.numbered })
 
 pub from-ok : {E : Type 0} (P : Report → Type 0) (s : Result Report E) (r : Report) → s ≡ Ok r → IfOk s P → P r
 from-ok {E = E} P s r is has = subst (λ (x : Result Report E). IfOk x P) is has

@@ -3,6 +3,7 @@ use Rattle.std.specs.Prelude.{◌≡◌, ℕ, ◌+◌, ◌<◌, ◌≤◌, Bool,
 use Rattle.std.specs.List.{flat_map}
 use Rattle.std.specs.Fmt.{signed_decimal}
 use Rattle.asp_counts.specs.declared.counts.Counts.{Counts}
+pub use Rattle.asp_counts.specs.Counting.{nothing}
 use Rattle.asp_top.specs.Counts.{item_text, told_items}
 use Rattle.asp_top.specs.Notes.{IsNoted}
 
@@ -29,10 +30,6 @@ pub record IsMore (c d : Counts) : Type 0 where
 abbrev pub Rises : Counts → List Told → Counts → Type 0
 Rises c [] d = c ≡ d
 Rises c (t ∷ told) d = IsMore c t.counts × Rises t.counts told d
-
--- what is counted before a run begins
-abbrev pub nothing : Counts
-nothing = record { conflicts = 0; decisions = 0; propagated = 0; restarts = 0; answers = 0; kept = 0; dropped = 0 }
 
 -- A front of the lines of a run that went on and of this text was written, and all of it where no fault was counted. Without the
 -- option no line is told.

@@ -26,6 +26,7 @@ use Rattle.asp_cli.specs.declared.Options.{Options}
 use Rattle.asp_cli.specs.Texts.{help_page, version_line}
 use Rattle.asp_model.specs.Models.{atoms_of}
 use Rattle.asp_vars.specs.Numbering.{bodies_of}
+use Rattle.asp_counts.specs.Telling.{AreNumbered}
 use Rattle.asp_crew_laws.specs.declared.report.Report.{Report}
 use Rattle.asp_crew_laws.specs.Reports.{IsReport, Says as SaysReport}
 use Rattle.asp_crew_laws.specs.Proofs.{HasProof}
@@ -323,19 +324,23 @@ RunsOn (options given) a o = Runs given a o
 abbrev pub is_alone : Options → Bool
 is_alone given = (given.workers == 1) || is_some given.split
 
+-- how many workers are started
+abbrev pub crew_of : Options → ℕ
+crew_of given = if is_alone given then 0 else given.workers
+
 -- the atoms of the report's program, the different bodies of its rules in force, and where they are counted its components with a
--- loop; workers only where some were started
-pub record IsCounted (alone : Bool) (t : Tally) (r : Report) : Type 0 where
+-- loop; counts of each worker, with its number, in their order, where some were started
+pub record IsCounted (workers : ℕ) (t : Tally) (r : Report) : Type 0 where
   pub atoms : t.atoms ≡ length (atoms_of r.paid.program)
   pub bodies : t.bodies ≡ length (bodies_of r.paid.program)
   pub loops : IfSome t.loops (HasLoops r.paid.program)
-  pub workers : alone ≡ true → t.workers ≡ []
+  pub numbered : AreNumbered workers t.workers
 
 -- What the notes get of a run after the words: lines while it goes on, where they are asked for, then the line of its status, and the
 -- counts, where they are asked for
-pub record NotesRun (alone : Bool) (given : Options) (held held' : Option (List ℕ)) (faults faults' : ℕ) (o : Outcome) : Type 0 where
+pub record NotesRun (workers : ℕ) (given : Options) (held held' : Option (List ℕ)) (faults faults' : ℕ) (o : Outcome) : Type 0 where
   pub tally : Tally
-  pub counted : IfSome o.report (IsCounted alone tally)
+  pub counted : IfSome o.report (IsCounted workers tally)
   pub told : IsTold given.progress held held' faults faults' (notes_of given.stats tally o)
 
 -- what the notes get of a run whose words give this
@@ -343,4 +348,4 @@ abbrev pub NotesOn : Given → Option (List ℕ) → Option (List ℕ) → ℕ �
 NotesOn help held held' faults faults' o = IsNoted held held' faults faults' (note_of o.status)
 NotesOn version held held' faults faults' o = IsNoted held held' faults faults' (note_of o.status)
 NotesOn (misuse m) held held' faults faults' o = IsNoted held held' faults faults' (misuse_note m)
-NotesOn (options given) held held' faults faults' o = NotesRun (is_alone given) given held held' faults faults' o
+NotesOn (options given) held held' faults faults' o = NotesRun (crew_of given) given held held' faults faults' o

@@ -7,7 +7,7 @@ ghost use Rattle.asp_cli.specs.Texts.{help_page, version_line};
 ghost use Rattle.asp_cli.specs.Values.{IsCrew, IsPartCount, IsRing};
 ghost use Rattle.asp_top.specs.Notes.{IsNoted, Writes, note_of};
 ghost use Rattle.asp_top.specs.Usage.{misuse_note};
-ghost use Rattle.asp_top.specs.Runs.{Does, IsCounted, IsSentOn, NotesOn, NotesRun, Runs, RunsOn, TellsFaults, TextMeans, around, is_alone, prepared_of};
+ghost use Rattle.asp_top.specs.Runs.{Does, IsCounted, IsSentOn, NotesOn, NotesRun, Runs, RunsOn, TellsFaults, TextMeans, around, crew_of, is_alone, prepared_of};
 ghost use Rattle.asp_top.specs.Whole.{IsWhole};
 ghost use Rattle.asp_model.specs.declared.program.Program.{Program};
 
@@ -77,7 +77,7 @@ fn divide_or_solve<K: Sink, W: Watch>(
     ensures does { (p : Program) → prepared.now ≡ prepared_of options.now p → Does options.now p (K.held sink.old) (K.held sink.new) (K.faults sink.old) (K.faults sink.new) result }
     ensures flushed { TellsFaults (K.faults sink.old) (K.faults sink.new) result.status }
     ensures sent { IsSentOn result.status (K.is_sent sink.new) }
-    ensures counted { IfSome result.report (IsCounted true tally.new) }
+    ensures counted { IfSome result.report (IsCounted 0 tally.new) }
     ensures heard { W.IsAfter watch.old watch.new }
 {
     match options.split {
@@ -102,7 +102,7 @@ fn outcome_alone<S: Source, K: Sink, W: Watch>(
         (K.held sink.old) (K.held sink.new) (K.faults sink.old) (K.faults sink.new)) result }
     ensures flushed { TellsFaults (K.faults sink.old) (K.faults sink.new) result.status }
     ensures sent { IsSentOn result.status (K.is_sent sink.new) }
-    ensures counted { IfSome result.report (IsCounted true tally.new) }
+    ensures counted { IfSome result.report (IsCounted 0 tally.new) }
     ensures heard { W.IsAfter watch.old watch.new }
 {
     match prepare(alloc, options, source) {
@@ -134,7 +134,7 @@ fn outcome_by_crew<R: Threads + Wait + Sync, S: Source, K: Sink, G: Gate + Sync,
         (K.held sink.old) (K.held sink.new) (K.faults sink.old) (K.faults sink.new)) result.0 }
     ensures flushed { TellsFaults (K.faults sink.old) (K.faults sink.new) result.0.status }
     ensures sent { IsSentOn result.0.status (K.is_sent sink.new) }
-    ensures counted { IfSome result.0.report (IsCounted false tally.new) }
+    ensures counted { IfSome result.0.report (IsCounted options.now.workers tally.new) }
     ensures heard { W.IsAfter watch result.1 }
 {
     match prepare(alloc, options, source) {
@@ -167,7 +167,7 @@ pub fn run_alone<S: Source, K: Sink, N: Sink>(
     ensures whole { options.now.proof ≡ false → IsWhole options.now (S.left source.old) (K.held sink.old) (K.held sink.new) (K.is_sent sink.new) result.status }
     ensures flushed { TellsFaults (K.faults sink.old) (K.faults sink.new) result.status }
     ensures sent { IsSentOn result.status (K.is_sent sink.new) }
-    ensures notes { NotesRun true options.now (N.held notes.old) (N.held notes.new) (N.faults notes.old) (N.faults notes.new) result }
+    ensures notes { NotesRun 0 options.now (N.held notes.old) (N.held notes.new) (N.faults notes.old) (N.faults notes.new) result }
 {
     let mut tally = Tally::new(alloc);
     let mut progress = Progress::new(notes, options.progress);
@@ -200,7 +200,7 @@ fn run_by_crew<R: Threads + Wait + Sync, S: Source, K: Sink, N: Sink, G: Gate + 
         (K.held sink.old) (K.held sink.new) (K.faults sink.old) (K.faults sink.new)) result }
     ensures flushed { TellsFaults (K.faults sink.old) (K.faults sink.new) result.status }
     ensures sent { IsSentOn result.status (K.is_sent sink.new) }
-    ensures notes { NotesRun false options.now (N.held notes.old) (N.held notes.new) (N.faults notes.old) (N.faults notes.new) result }
+    ensures notes { NotesRun options.now.workers options.now (N.held notes.old) (N.held notes.new) (N.faults notes.old) (N.faults notes.new) result }
 {
     let mut tally = Tally::new(alloc);
     let progress = Progress::new(notes, options.progress);
@@ -242,7 +242,7 @@ fn run_given<R: Threads + Wait + Sync, S: Source, K: Sink, N: Sink, G: Gate + Sy
         (K.held sink.old) (K.held sink.new) (K.faults sink.old) (K.faults sink.new)) result }
     ensures flushed { TellsFaults (K.faults sink.old) (K.faults sink.new) result.status }
     ensures sent { IsSentOn result.status (K.is_sent sink.new) }
-    ensures notes { NotesRun (is_alone options.now) options.now (N.held notes.old) (N.held notes.new) (N.faults notes.old) (N.faults notes.new) result }
+    ensures notes { NotesRun (crew_of options.now) options.now (N.held notes.old) (N.held notes.new) (N.faults notes.old) (N.faults notes.new) result }
 {
     if is_alone(options) {
         run_alone(alloc, options, source, sink, notes)

@@ -1,7 +1,8 @@
 //! A program that was compiled is solved, and its results are written.
-ghost use Rattle.std.specs.Prelude.{◌≡◌, IfOk, IfSome, false, true};
+ghost use Rattle.std.specs.Prelude.{◌≡◌, IfOk, IfSome, OnOk, false, true};
 ghost use Rattle.asp_cli.specs.Found.{IsApart};
 ghost use Rattle.asp_cli.specs.Values.{IsCrew};
+ghost use Rattle.asp_counts.specs.Telling.{AreNumbered};
 ghost use Rattle.asp_crew_laws.specs.Proofs.{HasProof};
 ghost use Rattle.asp_crew_laws.specs.Reports.{IsReport};
 ghost use Rattle.asp_model.specs.declared.program.Program.{Program};
@@ -94,7 +95,7 @@ pub fn solve<K: Sink, W: Watch>(
     ensures solves { (p : Program) → prepared.now ≡ prepared_of options.now p → Solves options.now p (K.held sink.old) (K.held sink.new) (K.faults sink.old) (K.faults sink.new) result }
     ensures flushed { TellsFaults (K.faults sink.old) (K.faults sink.new) result.status }
     ensures sent { IsSentOn result.status (K.is_sent sink.new) }
-    ensures counted { IfSome result.report (IsCounted true tally.new) }
+    ensures counted { IfSome result.report (IsCounted 0 tally.new) }
     ensures heard { W.IsAfter watch.old watch.new }
 {
     let compiled = &prepared.compiled;
@@ -141,6 +142,7 @@ fn solved_by_crew<R: Threads + Wait + Sync, G: Gate + Sync, W: Watch + Drop>(
     requires apart { options.now.proof ≡ true → ask.all_optima ≡ false }
     ensures report { IfOk result.0 (IsReport compiled.now ask options.now.budget) }
     ensures proof { IfOk result.0 (HasProof options.now.proof) }
+    ensures workers { OnOk result.0 (AreNumbered options.now.workers deeds.new.workers.items) }
     ensures heard { W.IsAfter watch result.1 }
 {
     let plan = Plan {
@@ -168,7 +170,7 @@ pub fn solve_by_crew<R: Threads + Wait + Sync, K: Sink, G: Gate + Sync, W: Watch
     ensures solves { (p : Program) → prepared.now ≡ prepared_of options.now p → Solves options.now p (K.held sink.old) (K.held sink.new) (K.faults sink.old) (K.faults sink.new) result.0 }
     ensures flushed { TellsFaults (K.faults sink.old) (K.faults sink.new) result.0.status }
     ensures sent { IsSentOn result.0.status (K.is_sent sink.new) }
-    ensures counted { IfSome result.0.report (IsCounted false tally.new) }
+    ensures counted { IfSome result.0.report (IsCounted options.now.workers tally.new) }
     ensures heard { W.IsAfter watch result.1 }
 {
     let compiled = &prepared.compiled;

@@ -48,8 +48,8 @@ returns-in-Section g c = rw c.in-Section.is c.write-in-Section.ensures
 pub returns-in-Externals : goal.returns-in-Externals
 returns-in-Externals g c = rw c.in-Externals.is c.write-in-Externals.ensures
 
+pub returns-in-Empty : goal.returns-in-Empty
+returns-in-Empty g c = rw c.in-Empty.is c.write-in-Empty.ensures
+
 pub returns-in-Projection : goal.returns-in-Projection
 returns-in-Projection g c = rw c.in-Projection.is c.write-in-Projection.ensures
-
-pub returns-in-Heuristic : goal.returns-in-Heuristic
-returns-in-Heuristic g c = rw c.in-Heuristic.is c.write-in-Heuristic.ensures

@@ -9,7 +9,7 @@ abbrev pub invariant-loop-from : goal.invariant-loop-from
 invariant-loop-from g l = record {
   text : Midway (out (g.K.Sink.held l.initial.sink) (g.K.Sink.faults l.initial.sink) l.initial.waiting)
       (out (g.K.Sink.held l.sink) (g.K.Sink.faults l.sink) l.waiting)
-      (pieces l.row.set false l.outputs) (pieces l.row.set l.any (drop l.from l.outputs));
+      (pieces l.table.between l.row.set false l.outputs) (pieces l.table.between l.row.set l.any (drop l.from l.outputs));
   within : l.from ≤ length l.outputs;
   shown : l.from < length l.outputs → shown_at l.row.set l.outputs l.from ≡ true;
 }

@@ -6,7 +6,7 @@ use Rattle.asp_print.proofs.answers.put_set_shown.Goals as goal
 
 pub returns-in_err-put_texts : goal.returns-in_err-put_texts
 returns-in_err-put_texts g c =
-    puts_same _ _ _ _ _ (puts_fails _ _ _ _ _ (pieces c.args.set.now false c.args.program.now.outputs) (10 ∷ []) c.in_err-put_texts.ensures c.from_residual.ensures.1)
+    puts_same _ _ _ _ _ (puts_fails _ _ _ _ _ (pieces 32 c.args.set.now false c.args.program.now.outputs) (10 ∷ []) c.in_err-put_texts.ensures c.from_residual.ensures.1)
     (line_shown c.args.program.now c.args.set.now)
 
 pub returns : goal.returns

@@ -6,7 +6,7 @@ use Rattle.asp_print.proofs.answers.put_shown.Goals as goal
 
 pub returns-in_err-put_line : goal.returns-in_err-put_line
 returns-in_err-put_line g c =
-    puts_same _ _ _ _ _ (puts_fails _ _ _ _ _ (pieces c.args.row.now.set false c.args.program.now.outputs) (10 ∷ []) c.in_err-put_line.ensures c.from_residual.ensures.1)
+    puts_same _ _ _ _ _ (puts_fails _ _ _ _ _ (pieces 32 c.args.row.now.set false c.args.program.now.outputs) (10 ∷ []) c.in_err-put_line.ensures c.from_residual.ensures.1)
     (line_shown c.args.program.now c.args.row.now.set)
 
 pub returns : goal.returns

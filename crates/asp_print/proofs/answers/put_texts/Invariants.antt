@@ -8,4 +8,4 @@ abbrev pub invariant-loop-i : goal.invariant-loop-i
 invariant-loop-i g l =
     Midway (out (g.K.Sink.held l.initial.sink) (g.K.Sink.faults l.initial.sink) l.initial.waiting)
     (out (g.K.Sink.held l.sink) (g.K.Sink.faults l.sink) l.waiting)
-    (pieces (g.A.Answer.set l.answer) false l.outputs) (pieces (g.A.Answer.set l.answer) l.any (drop l.i l.outputs))
+    (pieces 32 (g.A.Answer.set l.answer) false l.outputs) (pieces 32 (g.A.Answer.set l.answer) l.any (drop l.i l.outputs))

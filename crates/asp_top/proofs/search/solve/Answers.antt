@@ -1,8 +1,9 @@
-use Rattle.std.proofs.Common.{◌∙◌, ap, length, subst, sym}
+use Rattle.std.proofs.Common.{◌∙◌, ap, length, map, subst, sym}
 use Rattle.std.specs.Prelude.{IfSome}
 use Rattle.asp_model.specs.declared.program.Program.{Program}
 use Rattle.asp_model.specs.Models.{atoms_of}
 use Rattle.asp_vars.specs.Numbering.{bodies_of}
+use Rattle.asp_counts.specs.declared.tallies.WorkerCounts.{WorkerCounts}
 use Rattle.asp_crew_laws.specs.Reports.{IsReport}
 use Rattle.asp_top.proofs.RunLaws.{unsought}
 use Rattle.asp_top.proofs.ToldLaws.{counted-by, solves-by}
@@ -22,7 +23,7 @@ returns-in-Ok-clause-counted g c = counted-by _ c.is_brief.result c.program-prog
   atoms = c.of.ensures.atoms ∙ ap (λ (p : Program). length (atoms_of p)) (sym c.in-Ok.ensures.report.program);
   bodies = c.of.ensures.bodies ∙ ap (λ (p : Program). length (bodies_of p)) (sym c.in-Ok.ensures.report.program);
   loops = subst (λ (p : Program). IfSome c.of.result.loops (HasLoops p)) (sym c.in-Ok.ensures.report.program) (rw c.of.ensures.loops c.loops-loops.ensures);
-  workers = λ alone. c.of.ensures.workers ∙ c.new.ensures.items;
+  numbered = ap (map (λ (w : WorkerCounts). w.worker)) (c.of.ensures.workers ∙ c.new.ensures.items);
 })
 
 pub solve_alone-requires : goal.solve_alone-requires

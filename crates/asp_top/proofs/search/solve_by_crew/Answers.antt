@@ -4,6 +4,7 @@ use Rattle.asp_model.specs.declared.program.Program.{Program}
 use Rattle.asp_model.specs.declared.results.Ask.{Ask}
 use Rattle.asp_model.specs.Models.{atoms_of}
 use Rattle.asp_vars.specs.Numbering.{bodies_of}
+use Rattle.asp_counts.specs.Telling.{AreNumbered}
 use Rattle.asp_crew_laws.specs.Proofs.{HasProof}
 use Rattle.asp_crew_laws.specs.Reports.{IsReport}
 use Rattle.asp_top.proofs.RunLaws.{paid-of}
@@ -25,7 +26,8 @@ returns-in-Ok-clause-counted g c = counted-by _ c.is_brief.result c.program-prog
   atoms = c.of.ensures.atoms ∙ ap (λ (p : Program). length (atoms_of p)) (sym (paid-of _ _ _ _ _ c.in-Ok.is c.solved_by_crew-solved.ensures.report));
   bodies = c.of.ensures.bodies ∙ ap (λ (p : Program). length (bodies_of p)) (sym (paid-of _ _ _ _ _ c.in-Ok.is c.solved_by_crew-solved.ensures.report));
   loops = subst (λ (p : Program). IfSome c.of.result.loops (HasLoops p)) (sym (paid-of _ _ _ _ _ c.in-Ok.is c.solved_by_crew-solved.ensures.report)) (rw c.of.ensures.loops c.loops-loops.ensures);
-  workers = λ alone. absurd cc;
+  numbered = subst (AreNumbered c.args.options.now.workers) (sym c.of.ensures.workers)
+      (from-ok (λ _. AreNumbered c.args.options.now.workers c.solved_by_crew-solved.new.deeds.workers.items) _ c.in-Ok.report c.in-Ok.is c.solved_by_crew-solved.ensures.workers);
 })
 
 pub solved_by_crew-solved-requires-clause-apart : goal.solved_by_crew-solved-requires-clause-apart

@@ -1,0 +1,2 @@
+pub mod QuotingLaws
+pub mod ListLaws

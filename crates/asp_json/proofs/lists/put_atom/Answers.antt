@@ -1,0 +1,10 @@
+use Rattle.std.proofs.Common.{decimal}
+use Rattle.asp_buffer.proofs.OutLaws.{puts_fails, puts_then}
+use Rattle.asp_print.specs.Shown.{separator}
+use Rattle.asp_json.proofs.lists.put_atom.Goals as goal
+
+pub returns-in_err-put_comma : goal.returns-in_err-put_comma
+returns-in_err-put_comma g c = puts_fails _ _ _ _ _ (separator 44 c.args.any) (decimal c.args.atom.now) (c.in_err-put_comma.ensures) c.from_residual.ensures.1
+
+pub returns : goal.returns
+returns g c = puts_then _ _ _ _ _ (separator 44 c.args.any) (decimal c.args.atom.now) (c.in_ok-put_comma.ensures) (c.put_number.ensures)

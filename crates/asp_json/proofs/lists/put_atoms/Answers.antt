@@ -1,0 +1,17 @@
+use Rattle.std.proofs.Common.{List, ap, codes, decimal, false, map, ℕ, ◌++◌}
+use Rattle.std.specs.List.{join_with_byte}
+use Rattle.asp_buffer.proofs.OutLaws.{puts_fails, puts_same, puts_then}
+use Rattle.asp_json.specs.Commas.{commas}
+use Rattle.asp_json.proofs.ListLaws.{commas-join}
+use Rattle.asp_json.proofs.lists.put_atoms.Goals as goal
+
+pub returns-in_err-put : goal.returns-in_err-put
+returns-in_err-put g c = puts_fails _ _ _ _ _ (codes "[") (join_with_byte 44 (map decimal c.args.atoms.now) ++ codes "]") (c.in_err-put.ensures) c.from_residual.ensures.1
+
+pub returns-in_err-put_each_atom : goal.returns-in_err-put_each_atom
+returns-in_err-put_each_atom g c =
+    puts_same _ _ _ _ _ (puts_fails _ _ _ _ _ (codes "[" ++ commas false (map decimal c.args.atoms.now)) (codes "]") (puts_then _ _ _ _ _ (codes "[") (commas false (map decimal c.args.atoms.now)) (c.in_ok-put.ensures) (c.in_err-put_each_atom.ensures)) c.from_residual-in_err-put_each_atom.ensures.1) (ap (λ (t : List ℕ). codes "[" ++ (t ++ codes "]")) (commas-join (map decimal c.args.atoms.now)))
+
+pub returns : goal.returns
+returns g c =
+    puts_same _ _ _ _ _ (puts_then _ _ _ _ _ (codes "[" ++ commas false (map decimal c.args.atoms.now)) (codes "]") (puts_then _ _ _ _ _ (codes "[") (commas false (map decimal c.args.atoms.now)) (c.in_ok-put.ensures) (c.in_ok-put_each_atom.ensures)) (c.put-2.ensures)) (ap (λ (t : List ℕ). codes "[" ++ (t ++ codes "]")) (commas-join (map decimal c.args.atoms.now)))

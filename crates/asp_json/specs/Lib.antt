@@ -1,0 +1,4 @@
+pub mod Quoting
+pub mod Commas
+pub mod Json
+pub mod Tables

@@ -1,0 +1,11 @@
+//! The results of a run as JSON.
+#![tactic(auto)]
+
+mod answers;
+mod laws;
+mod lists;
+mod quoting;
+mod text;
+
+pub use laws::quoted_text_is_read_back;
+pub use text::print_json;
