@@ -118,10 +118,10 @@ impl Row {
         ensures lost { result ≢ next → view seat.new ≡ seeing result (view seat.old) }
     {
         let old = u64::from(next);
-        let found =
-            self.table
-                .shared
-                .compare_exchange::<Raising>(&mut seat.token, 0, old, old + 1);
+        let found = self
+            .table
+            .shared
+            .compare_exchange::<Raising>(&mut seat.token, 0, old, old + 1);
         found as u32
     }
 
