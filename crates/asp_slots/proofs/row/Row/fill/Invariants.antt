@@ -1,5 +1,4 @@
 use Rattle.std.proofs.Common.{◌≡◌}
-use Rattle.asp_log.specs.Entries.{IsEntry}
 use Rattle.asp_slots.proofs.row.Row.fill.Given as goal
 
 abbrev pub invariant-loop : goal.invariant-loop
