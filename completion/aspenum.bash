@@ -24,6 +24,7 @@ _aspenum() {
     case $option in
         --mode | -e) mapfile -t COMPREPLY < <(compgen -P "$stem" -W "auto enum opt brave cautious" -- "$word") && return ;;
         --format) mapfile -t COMPREPLY < <(compgen -P "$stem" -W "aspif smodels" -- "$word") && return ;;
+        --output) mapfile -t COMPREPLY < <(compgen -P "$stem" -W "text json" -- "$word") && return ;;
         --workers | -t) mapfile -t COMPREPLY < <(compgen -P "$stem" -W "1 2 4 8 16 32 64" -- "$word") && return ;;
         --budget | --models | -n | --make | --split | --help | -h | --version | --) return ;;
     esac
@@ -37,19 +38,22 @@ _aspenum() {
             -q) option=--quiet ;;
             --opt-mode=optN) option=--opt-all ;;
             --opt-mode=*) option=--mode ;;
+            --outf=*) option=--output ;;
         esac
         given+=("${option%%=*}")
     done
-    # a proof excludes some options, and each of them a proof; the parts exclude all but the ring
+    # a proof excludes some options, and each of them a proof; the parts exclude all but the ring; JSON excludes the ring, too
     for option in "${given[@]}"; do
         case $option in
-            --proof) given+=(--split --opt-all --quiet) ;;
-            --split) given+=(--mode --models --opt-all --workers --budget --quiet --proof --stats --progress) ;;
+            --proof) given+=(--split --opt-all --output --quiet) ;;
+            --split) given+=(--mode --models --opt-all --workers --budget --output --quiet --proof --stats --progress) ;;
             --opt-all | --quiet) given+=(--split --proof) ;;
+            --output) given+=(--split --proof --make) ;;
+            --make) given+=(--output) ;;
             --mode | --models | --workers | --budget | --stats | --progress) given+=(--split) ;;
         esac
     done
-    for option in --mode --format --models --opt-all --workers --budget --quiet --proof --split --make --stats --progress; do
+    for option in --mode --format --models --opt-all --workers --budget --output --quiet --proof --split --make --stats --progress; do
         [[ " ${given[*]} " == *" $option "* ]] || left+=("$option")
     done
     [[ $last -ne 1 ]] || left+=(--help --version)

@@ -128,6 +128,26 @@ echo 'aspenum: line 1002: more than 1,000 different priorities' > "$wanted"
 minimizing 1001 | "$program" --format smodels > "$given" 2> "$notes"
 check "a thousand priorities and one" 65 "$wanted" "${PIPESTATUS[1]}" "$notes"
 
+# A hundred thousand constraints of twelve literals, as many counts of three, and as many costs: no table has a lower limit.
+ring() {
+    python3 -c 'n = 100000
+lines = ["asp 1 0 0", " ".join(map(str, ["1 1", n, *range(1, n + 1), "0 0"]))]
+for it in range(n):
+    near = [str(-(1 + (it + step) % n)) for step in range(12)]
+    lines.append("1 0 0 0 12 " + " ".join(near))
+    lines.append("1 0 0 1 2 3 " + " 1 ".join(near[:3]) + " 1")
+lines.append(f"2 0 {n} " + " ".join(f"{it} -1" for it in range(1, n + 1)))
+print("\n".join([*lines, "0"]))'
+}
+printf 'Optimization: -100000\nOPTIMUM FOUND\nModels: 1\n' > "$wanted"
+ring | "$program" --quiet > "$given" 2> "$notes"
+check "a hundred thousand constraints, counts and costs" 30 "$wanted" "${PIPESTATUS[1]}" "$given"
+
+# As many parts as are wanted, where there are as many answers.
+echo 3000 > "$wanted"
+printf 'asp 1 0 0\n1 1 12 %s 0 0\n0\n' "$(seq -s ' ' 12)" | "$program" --split 3000 2> "$notes" | wc -l > "$given"
+check "three thousand parts" 0 "$wanted" "${PIPESTATUS[1]}" "$given"
+
 # The counts of a run.
 printf 'Conflicts: 0\nLeaves: 1\nLog: 0\nDecisions: 1\nPropagated: 3\nRestarts: 0\nKept: 0\nDropped: 0\nAtoms: 2\nBodies: 2\nLoops: 0\n' > "$wanted"
 "$program" --stats < examples/two_rules.aspif > "$given" 2> "$notes"
@@ -144,6 +164,14 @@ printf 'asp 1 0 0\n1 1 2 1 2 0 0\n1 0 0 0 2 1 2\n1 0 0 0 2 1 -2\n1 0 0 0 2 -1 2\
 status=${PIPESTATUS[1]}
 head -4 "$notes" > "$given"
 check "no early split" 20 "$wanted" "$status" "$given"
+
+# What the main thread does at the end is in the sums, and in no worker's line: the second search for all optima decides seven
+# times to find eight answers.
+echo 7 > "$wanted"
+printf 'asp 1 0 0\n1 1 3 1 2 3 0 0\n2 0 1 1 0\n0\n' | "$program" --opt-all --stats --workers 2 2> "$notes" > /dev/null
+status=${PIPESTATUS[1]}
+sed -nE 's/^Decisions: ([0-9]+)$/\1/p; s/^Worker .* decisions ([0-9]+),.*/-\1/p' "$notes" | paste -s -d '+' | sed 's/+-/-/g' | { read -r sum; echo $((sum)); } > "$given"
+check "the second search is counted" 30 "$wanted" "$status" "$given"
 
 # Each example stands in the list of examples.
 for text in examples/*.aspif examples/*.smodels; do

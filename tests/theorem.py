@@ -35,6 +35,7 @@ BOXES = {
     "too long. See docs/DEFINITIONS.md",
     ("asp_smodels", "Outcome", "smodels_outcome"): "the reading of the format of smodels, in the same way",
     ("asp_make", "Ring", "ring"): "the program that `--make n` makes in place of one that is read: a colouring of a ring of n nodes",
+    ("asp_json", "Json", "json_text"): "the results as JSON: `json_text p r brief` has the program's answers `r.answers`, or else the best one, and what is said of them",
     ("asp_cli", "Given", "words_give"): "what the arguments of the command line say: `options` with their values, help, the version, or what is wrong with them",
     ("asp_cli", "Given", "options"): "that the arguments are options, with these values",
 }
@@ -56,8 +57,8 @@ SENTENCES = {
 # The types that are shown, in the order of reading.
 TYPES = [
     ("asp_top", "src/status.rt", ["Status"]),
-    ("asp_cli", "src/lib.rt", ["Options", "Format"]),
-    ("asp_model", "src/results.rt", ["Mode", "Reasoning"]),
+    ("asp_cli", "src/lib.rt", ["Options", "Form", "Format"]),
+    ("asp_model", "src/results.rt", ["Mode", "Reasoning", "End"]),
     ("asp_model", "src/program.rt", ["Program", "Rule", "Head", "Body", "Minimize", "Output", "External", "ExternalValue"]),
     ("asp_read", "src/fault.rt", ["ReadError"]),
 ]

@@ -69,11 +69,12 @@ def plain(text):
 
 
 def braced(lines, at, start):
-    """Returns the text between braces that opens at a place of a line, and the line that closes it."""
+    """Returns the text between braces that opens at a place of a line, and the line that closes it. Braces in quotes are text."""
     text, depth, place = [], 0, start
     while at < len(lines):
+        outside = re.sub(r'"(\\.|[^"\\])*"', lambda quoted: "_" * len(quoted[0]), lines[at])
         for i in range(place, len(lines[at])):
-            depth += {"{": 1, "}": -1}.get(lines[at][i], 0)
+            depth += {"{": 1, "}": -1}.get(outside[i], 0)
             if depth == 0:
                 return plain("".join(text) + lines[at][place + (not text) : i]), at
         text.append(lines[at][place + (not text) :] + " ")

@@ -1,15 +1,17 @@
 -- What some command lines give, computed by the definition.
 use Rattle.std.proofs.Common.{◌≡◌, [], ◌∷◌, true, false, Some, None, codes, refl}
 use Rattle.asp_model.specs.declared.results.Mode.TheVariants.{Enum, Opt}
+use Rattle.asp_cli.specs.declared.Form.TheVariants.{Text, Json}
+use Rattle.asp_cli.specs.declared.Form.TheVariants.{Text}
 use Rattle.asp_cli.specs.declared.Format.TheVariants.{Aspif, Smodels}
 use Rattle.asp_cli.specs.declared.Options.{Options}
-use Rattle.asp_cli.specs.declared.names.Name.TheVariants.{Workers, Mode, Format, Budget, Models, OptAll, Quiet, Proof, Make, Stats, Progress, Split}
+use Rattle.asp_cli.specs.declared.names.Name.TheVariants.{Workers, Mode, Format, Budget, Models, OptAll, Output, Quiet, Proof, Make, Stats, Progress, Split}
 use Rattle.asp_cli.specs.Given.{bad_value, help, misuse, missing, no_words, options, rivals, twice, unexpected, unknown, version, words_give}
 use Rattle.asp_cli.specs.Hints.{counterpart, nearest}
 
 -- what is asked for where no option is given
 abbrev standard : Options
-standard = record { workers = 1; mode = None; format = Aspif; budget = 9223372036854775807; models = 0; all_optima = false; quiet = false; make = None; stats = false; progress = false; proof = false; split = None }
+standard = record { workers = 1; mode = None; format = Aspif; budget = 9223372036854775807; models = 0; all_optima = false; form = Text; quiet = false; make = None; stats = false; progress = false; proof = false; split = None }
 
 empty_line : words_give [] ≡ misuse no_words
 empty_line = refl
@@ -84,6 +86,45 @@ opt_mode_all_twice = refl
 
 opt_mode_else : words_give (codes "aspenum" ∷ codes "--opt-mode=enum" ∷ []) ≡ misuse (unknown (codes "--opt-mode"))
 opt_mode_else = refl
+
+output_json : words_give (codes "aspenum" ∷ codes "--output" ∷ codes "json" ∷ []) ≡ options (record standard { form = Json })
+output_json = refl
+
+output_text : words_give (codes "aspenum" ∷ codes "--output=text" ∷ []) ≡ options standard
+output_text = refl
+
+output_else : words_give (codes "aspenum" ∷ codes "--output=xml" ∷ []) ≡ misuse (bad_value Output (codes "xml"))
+output_else = refl
+
+outf_two : words_give (codes "aspenum" ∷ codes "--outf=2" ∷ []) ≡ options (record standard { form = Json })
+outf_two = refl
+
+outf_none : words_give (codes "aspenum" ∷ codes "--outf=0" ∷ []) ≡ options standard
+outf_none = refl
+
+outf_else : words_give (codes "aspenum" ∷ codes "--outf=1" ∷ []) ≡ misuse (unknown (codes "--outf"))
+outf_else = refl
+
+output_twice : words_give (codes "aspenum" ∷ codes "--output=json" ∷ codes "--outf=2" ∷ []) ≡ misuse (twice Output)
+output_twice = refl
+
+output_beside_a_proof : words_give (codes "aspenum" ∷ codes "--proof" ∷ codes "--output=json" ∷ []) ≡ misuse (rivals Proof Output)
+output_beside_a_proof = refl
+
+a_proof_beside_output : words_give (codes "aspenum" ∷ codes "--output=json" ∷ codes "--proof" ∷ []) ≡ misuse (rivals Output Proof)
+a_proof_beside_output = refl
+
+output_beside_parts : words_give (codes "aspenum" ∷ codes "--split=2" ∷ codes "--output=json" ∷ []) ≡ misuse (rivals Split Output)
+output_beside_parts = refl
+
+parts_beside_output : words_give (codes "aspenum" ∷ codes "--output=json" ∷ codes "--split=2" ∷ []) ≡ misuse (rivals Output Split)
+parts_beside_output = refl
+
+output_beside_a_ring : words_give (codes "aspenum" ∷ codes "--make=6" ∷ codes "--output=json" ∷ []) ≡ misuse (rivals Make Output)
+output_beside_a_ring = refl
+
+a_ring_beside_output : words_give (codes "aspenum" ∷ codes "--output=json" ∷ codes "--make=6" ∷ []) ≡ misuse (rivals Output Make)
+a_ring_beside_output = refl
 
 a_short_form_as_value : words_give (codes "aspenum" ∷ codes "--mode" ∷ codes "-q" ∷ []) ≡ misuse (bad_value Mode (codes "-q"))
 a_short_form_as_value = refl
@@ -235,7 +276,7 @@ parts_twice = refl
 first_from_the_left : words_give (codes "aspenum" ∷ codes "--stats" ∷ codes "--budget=x" ∷ codes "--verson" ∷ []) ≡ misuse (bad_value Budget (codes "x"))
 first_from_the_left = refl
 
-all_options : words_give (codes "aspenum" ∷ codes "--make=2000" ∷ codes "--stats" ∷ codes "--mode=enum" ∷ codes "--budget=7" ∷ codes "--models=3" ∷ codes "--workers=4" ∷ codes "--format=smodels" ∷ []) ≡ options (record { workers = 4; mode = Some Enum; format = Smodels; budget = 7; models = 3; all_optima = false; quiet = false; make = Some 2000; stats = true; progress = false; proof = false; split = None })
+all_options : words_give (codes "aspenum" ∷ codes "--make=2000" ∷ codes "--stats" ∷ codes "--mode=enum" ∷ codes "--budget=7" ∷ codes "--models=3" ∷ codes "--workers=4" ∷ codes "--format=smodels" ∷ []) ≡ options (record { workers = 4; mode = Some Enum; format = Smodels; budget = 7; models = 3; all_optima = false; form = Text; quiet = false; make = Some 2000; stats = true; progress = false; proof = false; split = None })
 all_options = refl
 
 -- ---- the format

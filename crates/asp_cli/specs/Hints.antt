@@ -2,7 +2,7 @@
 use Rattle.std.specs.Prelude.{ℕ, Bool, true, false, ◌&&◌, ◌||◌, ◌==◌, nat_le, List, [], ◌∷◌, length, Option, Some, None, codes, if◌then◌else◌}
 use Rattle.std.specs.Str.{bytes_eq}
 use Rattle.asp_cli.specs.Names.{text_of}
-use Rattle.asp_cli.specs.declared.names.Name.TheVariants.{Mode, Format, Models, OptAll, Workers, Budget, Quiet, Proof, Split, Make, Stats, Progress}
+use Rattle.asp_cli.specs.declared.names.Name.TheVariants.{Mode, Format, Models, OptAll, Workers, Budget, Output, Quiet, Proof, Split, Make, Stats, Progress}
 
 -- what is here for an option of clasp's
 abbrev pub counterpart : List ℕ → Option (List ℕ)
@@ -11,7 +11,7 @@ counterpart w = if bytes_eq w (codes "--time-limit") then Some (codes "--budget 
     else (if bytes_eq w (codes "--opt-mode") then Some (codes "--opt-mode=ignore, =opt or =optN")
     else (if bytes_eq w (codes "--enum-mode") then Some (codes "--mode brave or --mode cautious")
     else (if bytes_eq w (codes "--parallel-mode") then Some (codes "--workers N for N threads")
-    else (if bytes_eq w (codes "--outf") then Some (codes "answers are written as text")
+    else (if bytes_eq w (codes "--outf") then Some (codes "--outf=0 or =2")
     else (if bytes_eq w (codes "-V") then Some (codes "--stats and --progress tell of a run")
     else (if bytes_eq w (codes "--verbose") then Some (codes "--stats and --progress tell of a run")
     else (if bytes_eq w (codes "-v") then Some (codes "--version")
@@ -49,6 +49,7 @@ first_near strict w = if is_near strict w (text_of Mode) then Some (text_of Mode
     else (if is_near strict w (text_of OptAll) then Some (text_of OptAll)
     else (if is_near strict w (text_of Workers) then Some (text_of Workers)
     else (if is_near strict w (text_of Budget) then Some (text_of Budget)
+    else (if is_near strict w (text_of Output) then Some (text_of Output)
     else (if is_near strict w (text_of Quiet) then Some (text_of Quiet)
     else (if is_near strict w (text_of Proof) then Some (text_of Proof)
     else (if is_near strict w (text_of Split) then Some (text_of Split)
@@ -56,7 +57,7 @@ first_near strict w = if is_near strict w (text_of Mode) then Some (text_of Mode
     else (if is_near strict w (text_of Stats) then Some (text_of Stats)
     else (if is_near strict w (text_of Progress) then Some (text_of Progress)
     else (if is_near strict w (codes "--help") then Some (codes "--help")
-    else (if is_near strict w (codes "--version") then Some (codes "--version") else None)))))))))))))
+    else (if is_near strict w (codes "--version") then Some (codes "--version") else None))))))))))))))
 
 abbrev pub first_of : Option (List ℕ) → Option (List ℕ) → Option (List ℕ)
 first_of (Some name) other = Some name

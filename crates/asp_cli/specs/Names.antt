@@ -2,7 +2,7 @@
 use Rattle.std.specs.Prelude.{List, ℕ, Option, Some, None, codes, if◌then◌else◌}
 use Rattle.std.specs.Str.{bytes_eq}
 use Rattle.asp_cli.specs.declared.names.Name.{Name}
-use Rattle.asp_cli.specs.declared.names.Name.TheVariants.{Mode, Format, Models, OptAll, Workers, Budget, Quiet, Proof, Split, Make, Stats, Progress}
+use Rattle.asp_cli.specs.declared.names.Name.TheVariants.{Mode, Format, Models, OptAll, Workers, Budget, Output, Quiet, Proof, Split, Make, Stats, Progress}
 
 abbrev pub text_of : Name → List ℕ
 text_of Mode = codes "--mode"
@@ -11,6 +11,7 @@ text_of Models = codes "--models"
 text_of OptAll = codes "--opt-all"
 text_of Workers = codes "--workers"
 text_of Budget = codes "--budget"
+text_of Output = codes "--output"
 text_of Quiet = codes "--quiet"
 text_of Proof = codes "--proof"
 text_of Split = codes "--split"
@@ -25,6 +26,7 @@ takes_of Models = codes "a number up to 9223372036854775807"
 takes_of OptAll = codes "no value"
 takes_of Workers = codes "a number from 1 to 64"
 takes_of Budget = codes "a number up to 9223372036854775807"
+takes_of Output = codes "text or json"
 takes_of Quiet = codes "no value"
 takes_of Proof = codes "no value"
 takes_of Split = codes "a number from 1 to 100000"
@@ -40,14 +42,15 @@ named t = if bytes_eq t (codes "--mode") then Some Mode
     else (if bytes_eq t (codes "--opt-all") then Some OptAll
     else (if bytes_eq t (codes "--workers") then Some Workers
     else (if bytes_eq t (codes "--budget") then Some Budget
+    else (if bytes_eq t (codes "--output") then Some Output
     else (if bytes_eq t (codes "--quiet") then Some Quiet
     else (if bytes_eq t (codes "--proof") then Some Proof
     else (if bytes_eq t (codes "--split") then Some Split
     else (if bytes_eq t (codes "--make") then Some Make
     else (if bytes_eq t (codes "--stats") then Some Stats
-    else (if bytes_eq t (codes "--progress") then Some Progress else None)))))))))))
+    else (if bytes_eq t (codes "--progress") then Some Progress else None))))))))))))
 
--- The word for which a word stands. The short forms have long ones, and three words of clasp's have ours; any other stands for itself.
+-- The word for which a word stands. The short forms have long ones, and five words of clasp's have ours; any other stands for itself.
 abbrev pub meant : List ℕ → List ℕ
 meant w = if bytes_eq w (codes "-e") then text_of Mode
     else (if bytes_eq w (codes "-n") then text_of Models
@@ -55,4 +58,6 @@ meant w = if bytes_eq w (codes "-e") then text_of Mode
     else (if bytes_eq w (codes "-q") then text_of Quiet
     else (if bytes_eq w (codes "--opt-mode=ignore") then codes "--mode=enum"
     else (if bytes_eq w (codes "--opt-mode=opt") then codes "--mode=opt"
-    else (if bytes_eq w (codes "--opt-mode=optN") then codes "--opt-all" else w))))))
+    else (if bytes_eq w (codes "--opt-mode=optN") then codes "--opt-all"
+    else (if bytes_eq w (codes "--outf=0") then codes "--output=text"
+    else (if bytes_eq w (codes "--outf=2") then codes "--output=json" else w))))))))

@@ -4,8 +4,8 @@ use Rattle.std.specs.Prelude.{ℕ, List, ◌++◌, codes}
 unfoldable pub usage_lines : List ℕ
 usage_lines = codes "usage: aspenum [--mode auto|enum|opt|brave|cautious] [--format aspif|smodels]\n"
     ++ codes "               [--models N] [--opt-all] [--workers 1..64] [--budget N]\n"
-    ++ codes "               [--quiet] [--proof] [--split 1..100000] [--make 3..2000]\n"
-    ++ codes "               [--stats] [--progress]"
+    ++ codes "               [--output text|json] [--quiet] [--proof] [--split 1..100000]\n"
+    ++ codes "               [--make 3..2000] [--stats] [--progress]"
 
 -- the program's name and version
 abbrev pub version_line : List ℕ
@@ -37,6 +37,8 @@ page_back = codes "\n"
     ++ codes "  --opt-all         an optimisation writes all answers of least cost\n"
     ++ codes "  -t, --workers N   threads that search, 1 to 64; the default is 1\n"
     ++ codes "  --budget N        at most N conflicts, 0 to 9223372036854775807, the default\n"
+    ++ codes "  --output FORM     text, the default, or json, with the keys that clasp has; not\n"
+    ++ codes "                    beside --proof, --split or --make\n"
     ++ codes "  -q, --quiet       write no answers: only how many there are, the least cost,\n"
     ++ codes "                    and the atoms of brave and cautious\n"
     ++ codes "  --proof           write the proof of a finished run, for aspcheck, in place\n"
@@ -53,7 +55,7 @@ page_back = codes "\n"
     ++ codes "  --version         write the version\n"
     ++ codes "\n"
     ++ codes "As in clasp, --opt-mode=ignore is --mode enum, --opt-mode=opt is --mode opt,\n"
-    ++ codes "and --opt-mode=optN is --opt-all.\n"
+    ++ codes "--opt-mode=optN is --opt-all, and --outf=2 is --output json.\n"
     ++ codes "\n"
     ++ codes "Exit status:\n"
     ++ codes "  30  all that was sought was found and written   64  the arguments are wrong\n"

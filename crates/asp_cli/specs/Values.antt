@@ -4,6 +4,8 @@ use Rattle.std.specs.List.{list_all}
 use Rattle.std.specs.Char.{digit_value}
 use Rattle.std.specs.Str.{bytes_eq}
 use Rattle.std.specs.Str.Parse.{digits_value, without_leading_plus}
+use Rattle.asp_cli.specs.declared.Form.{Form}
+use Rattle.asp_cli.specs.declared.Form.TheVariants.{Text, Json}
 use Rattle.asp_cli.specs.declared.Format.{Format}
 use Rattle.asp_cli.specs.declared.Format.TheVariants.{Aspif, Smodels}
 use Rattle.asp_model.specs.declared.results.Mode.{Mode}
@@ -21,6 +23,10 @@ mode_named t = if bytes_eq t (codes "auto") then Some None
 -- the format that a text names
 abbrev pub format_named : List ℕ → Option Format
 format_named t = if bytes_eq t (codes "aspif") then Some Aspif else (if bytes_eq t (codes "smodels") then Some Smodels else None)
+
+-- the form of the results that a text names
+abbrev pub form_named : List ℕ → Option Form
+form_named t = if bytes_eq t (codes "text") then Some Text else (if bytes_eq t (codes "json") then Some Json else None)
 
 -- one decimal digit or more, and nothing else
 abbrev pub is_numeral : List ℕ → Bool

@@ -1,14 +1,14 @@
 //! The options that were found so far.
 ghost use Rattle.std.specs.Prelude.{◌≡◌, false, true, IfSome};
-ghost use Rattle.asp_cli.specs.Found.{AreApart, IsApart, clashes, dividing, found_with, has, options_of, proving_or_dividing, rival_of, seeks_consequences, solving};
+ghost use Rattle.asp_cli.specs.Found.{AreApart, IsApart, clashes, dividing, formed, found_with, has, making, options_of, proving_or_dividing, rival_of, seeks_consequences, solving};
 ghost use Rattle.asp_cli.specs.Values.{IsCrew, IsPartCount, IsRing};
 
 use crate::names::Name;
 use crate::values::{
-    LARGEST_RING, LEAST_RING, MOST_MODELS, MOST_PARTS, MOST_UNITS, MOST_WORKERS, named_format,
-    named_mode, number,
+    LARGEST_RING, LEAST_RING, MOST_MODELS, MOST_PARTS, MOST_UNITS, MOST_WORKERS, named_form,
+    named_format, named_mode, number,
 };
-use crate::{Format, Options};
+use crate::{Form, Format, Options};
 use asp_model::results::Mode;
 
 /// The options that were given, each with its value.
@@ -26,6 +26,8 @@ pub struct Found {
     pub models: Option<u64>,
     /// Whether all optima were asked for.
     pub all_optima: bool,
+    /// The form of the results.
+    pub form: Option<Form>,
     /// Whether the closing lines alone were asked for.
     pub quiet: bool,
     /// The number of the example program that is to be written.
@@ -51,6 +53,7 @@ pub fn has(found: &Found, name: Name) -> bool
         Name::Budget => found.budget.is_some(),
         Name::Models => found.models.is_some(),
         Name::OptAll => found.all_optima,
+        Name::Output => found.form.is_some(),
         Name::Quiet => found.quiet,
         Name::Make => found.make.is_some(),
         Name::Stats => found.stats,
@@ -91,6 +94,8 @@ fn solving(found: &Found) -> Option<Name>
         Some(Name::Workers)
     } else if found.budget.is_some() {
         Some(Name::Budget)
+    } else if found.form.is_some() {
+        Some(Name::Output)
     } else if found.quiet {
         Some(Name::Quiet)
     } else if found.proof {
@@ -124,6 +129,26 @@ fn proving_or_dividing(found: &Found) -> Option<Name>
     }
 }
 
+fn making(found: &Found) -> Option<Name>
+    ensures { result ≡ making found.now }
+{
+    if found.make.is_some() {
+        Some(Name::Make)
+    } else {
+        proving_or_dividing(found)
+    }
+}
+
+fn formed(found: &Found) -> Option<Name>
+    ensures { result ≡ formed found.now }
+{
+    if found.form.is_some() {
+        Some(Name::Output)
+    } else {
+        None
+    }
+}
+
 /// Which given option can't stand beside this one.
 pub fn rival(found: &Found, name: Name) -> Option<Name>
     ensures { result ≡ rival_of found.now name }
@@ -139,12 +164,14 @@ pub fn rival(found: &Found, name: Name) -> Option<Name>
             } else if seeks_consequences(found.mode) {
                 Some(Name::Mode)
             } else {
-                None
+                formed(found)
             }
         }
         Name::OptAll | Name::Quiet => proving_or_dividing(found),
+        Name::Output => making(found),
         Name::Split => solving(found),
-        Name::Make | Name::Format => None,
+        Name::Make => formed(found),
+        Name::Format => None,
         _ => dividing(found),
     }
 }
@@ -176,6 +203,13 @@ pub fn with(found: Found, name: Name, text: &str) -> Option<Found>
             let format = named_format(text)?;
             Some(Found {
                 format: Some(format),
+                ..found
+            })
+        }
+        Name::Output => {
+            let form = named_form(text)?;
+            Some(Found {
+                form: Some(form),
                 ..found
             })
         }
@@ -226,6 +260,7 @@ pub fn options(found: &Found) -> Options
         budget: found.budget.unwrap_or(MOST_UNITS),
         models: found.models.unwrap_or(0),
         all_optima: found.all_optima,
+        form: found.form.unwrap_or(Form::Text),
         quiet: found.quiet,
         make: found.make,
         stats: found.stats,

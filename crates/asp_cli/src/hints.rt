@@ -19,7 +19,7 @@ pub fn counterpart(word: &str) -> Option<&'static str>
     } else if word == "--parallel-mode" {
         Some("--workers N for N threads")
     } else if word == "--outf" {
-        Some("answers are written as text")
+        Some("--outf=0 or =2")
     } else if word == "-V" {
         Some("--stats and --progress tell of a run")
     } else if word == "--verbose" {
@@ -112,6 +112,8 @@ fn first_near(strict: bool, word: &str) -> Option<&'static str>
         Some(Name::Workers.text())
     } else if is_near(strict, word, Name::Budget.text()) {
         Some(Name::Budget.text())
+    } else if is_near(strict, word, Name::Output.text()) {
+        Some(Name::Output.text())
     } else if is_near(strict, word, Name::Quiet.text()) {
         Some(Name::Quiet.text())
     } else if is_near(strict, word, Name::Proof.text()) {

@@ -27,6 +27,15 @@ pub enum Format {
     Smodels,
 }
 
+/// The form of the results that are written.
+#[derive(Clone, Copy)]
+pub enum Form {
+    /// Lines of text.
+    Text,
+    /// JSON with the keys that clasp has.
+    Json,
+}
+
 /// What the command line asks for.
 #[derive(Clone, Copy)]
 pub struct Options {
@@ -43,6 +52,8 @@ pub struct Options {
     pub models: u64,
     /// Whether an optimisation lists all answers of least cost. A proof isn't asked for then.
     pub all_optima: bool,
+    /// The form of the results. It is text where a proof, parts or a ring are asked for.
+    pub form: Form,
     /// Whether the closing lines alone are written, and no answer is made into text.
     pub quiet: bool,
     /// The number of nodes of the ring that is solved in place of a program that is read, if one is: 3 to 2000.

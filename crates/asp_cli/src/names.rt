@@ -11,6 +11,7 @@ pub enum Name {
     OptAll,
     Workers,
     Budget,
+    Output,
     Quiet,
     Proof,
     Split,
@@ -31,6 +32,7 @@ impl Name {
             Name::OptAll => "--opt-all",
             Name::Workers => "--workers",
             Name::Budget => "--budget",
+            Name::Output => "--output",
             Name::Quiet => "--quiet",
             Name::Proof => "--proof",
             Name::Split => "--split",
@@ -47,6 +49,7 @@ impl Name {
         match self {
             Name::Mode => "auto, enum, opt, brave or cautious",
             Name::Format => "aspif or smodels",
+            Name::Output => "text or json",
             Name::Models | Name::Budget => "a number up to 9223372036854775807",
             Name::Workers => "a number from 1 to 64",
             Name::Split => "a number from 1 to 100000",
@@ -72,6 +75,8 @@ pub fn named(word: &str) -> Option<Name>
         Some(Name::Workers)
     } else if word == Name::Budget.text() {
         Some(Name::Budget)
+    } else if word == Name::Output.text() {
+        Some(Name::Output)
     } else if word == Name::Quiet.text() {
         Some(Name::Quiet)
     } else if word == Name::Proof.text() {
@@ -107,6 +112,10 @@ pub fn meant<'a>(word: &'a str) -> &'a str
         "--mode=opt"
     } else if word == "--opt-mode=optN" {
         "--opt-all"
+    } else if word == "--outf=0" {
+        "--output=text"
+    } else if word == "--outf=2" {
+        "--output=json"
     } else {
         word
     }

@@ -6,8 +6,8 @@ ghost use Rattle.asp_cli.specs.Texts.{page_back, page_front, usage_lines, versio
 pub const USAGE: &str =
     "usage: aspenum [--mode auto|enum|opt|brave|cautious] [--format aspif|smodels]\n\
 \x20              [--models N] [--opt-all] [--workers 1..64] [--budget N]\n\
-\x20              [--quiet] [--proof] [--split 1..100000] [--make 3..2000]\n\
-\x20              [--stats] [--progress]";
+\x20              [--output text|json] [--quiet] [--proof] [--split 1..100000]\n\
+\x20              [--make 3..2000] [--stats] [--progress]";
 
 /// The program's name and version.
 pub const VERSION: &str = "aspenum 0.1.0\n";
@@ -35,6 +35,8 @@ name, after '=':\n\
 \x20 --opt-all         an optimisation writes all answers of least cost\n\
 \x20 -t, --workers N   threads that search, 1 to 64; the default is 1\n\
 \x20 --budget N        at most N conflicts, 0 to 9223372036854775807, the default\n\
+\x20 --output FORM     text, the default, or json, with the keys that clasp has; not\n\
+\x20                   beside --proof, --split or --make\n\
 \x20 -q, --quiet       write no answers: only how many there are, the least cost,\n\
 \x20                   and the atoms of brave and cautious\n\
 \x20 --proof           write the proof of a finished run, for aspcheck, in place\n\
@@ -51,7 +53,7 @@ name, after '=':\n\
 \x20 --version         write the version\n\
 \n\
 As in clasp, --opt-mode=ignore is --mode enum, --opt-mode=opt is --mode opt,\n\
-and --opt-mode=optN is --opt-all.\n\
+--opt-mode=optN is --opt-all, and --outf=2 is --output json.\n\
 \n\
 Exit status:\n\
 \x20 30  all that was sought was found and written   64  the arguments are wrong\n\

@@ -1,8 +1,8 @@
 //! The values of the options.
 ghost use Rattle.std.specs.Prelude.{◌≡◌, ◌≤◌, ◌&&◌, nat_le, Some, None, IfSome, if◌then◌else◌};
-ghost use Rattle.asp_cli.specs.Values.{format_named, mode_named, number_within};
+ghost use Rattle.asp_cli.specs.Values.{form_named, format_named, mode_named, number_within};
 
-use crate::Format;
+use crate::{Form, Format};
 use asp_model::results::{Mode, Reasoning};
 
 /// The greatest number of workers.
@@ -45,6 +45,19 @@ pub fn named_format(text: &str) -> Option<Format>
         Some(Format::Aspif)
     } else if text == "smodels" {
         Some(Format::Smodels)
+    } else {
+        None
+    }
+}
+
+/// The form of the results that the text names.
+pub fn named_form(text: &str) -> Option<Form>
+    ensures { result ≡ form_named text.now }
+{
+    if text == "text" {
+        Some(Form::Text)
+    } else if text == "json" {
+        Some(Form::Json)
     } else {
         None
     }

@@ -38,6 +38,7 @@ fn start() -> State
         budget: None,
         models: None,
         all_optima: false,
+        form: None,
         quiet: false,
         make: None,
         stats: false,

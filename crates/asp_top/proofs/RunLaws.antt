@@ -32,7 +32,7 @@ use Rattle.asp_top.specs.declared.status.Outcome.{Outcome}
 use Rattle.asp_top.specs.Meaning.{has_model, has_model_in, is_some_of, mode_by, mode_of, status_for}
 use Rattle.asp_top.specs.Notes.{is_answered, is_written}
 use Rattle.asp_top.specs.Parting.{Divides, HandingMeans}
-use Rattle.asp_top.specs.Runs.{Around, DeliveryMeans, Does, DoesBy, IsDivided, IsExact, IsGiven, IsOver, IsReady, IsSaid, IsSentOn, IsSolved, Means, Prepares, Runs, Says, Solves, around, ask_of, is_brief, prepared_of, report_text, report_with, searched, set_aside, status_of, told_with}
+use Rattle.asp_top.specs.Runs.{Around, DeliveryMeans, Does, DoesBy, IsDivided, IsExact, IsGiven, IsOver, IsReady, IsSaid, IsSentOn, IsSolved, Means, Prepares, Runs, Says, Solves, around, ask_of, layout_of, prepared_of, report_text, report_with, searched, set_aside, status_of, told_with}
 use Rattle.asp_top.specs.declared.prepare.Prepared.{Prepared}
 use Rattle.asp_top.proofs.ToldLaws.{told-model, told-says, told-text}
 use Rattle.asp_model.specs.Sound.{IsSound}
@@ -174,7 +174,7 @@ unsought (Some Opt) p e = refl
 unsought (Some (Consequences r)) p e = absurd (false≢true (sym e))
 
 written : (given : Options) (a : Around) (report : Option Report) → (s : IsSolved given a report) → (end : End) (model : Bool) → s.done.results.end ≡ end → has_model s.done.results ≡ model
-    → Appends a.held a.held' (report_text s.program (report_with (set_aside given s.program) s.done) (is_brief given)) → Means given a report (status_for end model)
+    → Appends a.held a.held' (report_text s.program (report_with (set_aside given s.program) s.done) (layout_of given)) → Means given a report (status_for end model)
 written given a report s Finished true e m text = record { solved = s; end_is = e; model_is = m; text = text }
 written given a report s Finished false e m text = record { solved = s; end_is = e; model_is = m; text = text }
 written given a report s Limited model e m text = record { solved = s; end_is = e; model_is = limited-has (searched given s.program) (ask_of given s.program) given.budget s.done s.is e; text = text }
@@ -182,15 +182,15 @@ written given a report s Unfinished true e m text = record { solved = s; end_is 
 written given a report s Unfinished false e m text = record { solved = s; end_is = e; model_is = m; text = text }
 
 delivered : (given : Options) (a : Around) (s : Status) (report : Option Report) → (solved : IsSolved given a report)
-    → DeliveryMeans (is_brief given) (searched given solved.program) (told_with (set_aside given solved.program) solved.done) a.held a.held' a.writes a.writes' s → Means given a report s
+    → DeliveryMeans (layout_of given) (searched given solved.program) (told_with (set_aside given solved.program) solved.done) a.held a.held' a.writes a.writes' s → Means given a report s
 delivered given a s report solved (inl m) =
     let F = set_aside given solved.program in
     let done = solved.done in
     let is : s ≡ status_for done.results.end (has_model done.results) = m.0 ∙ ap (status_for done.results.end) (told-model F done) in
-    let text = subst (Appends a.held a.held') (told-text given solved.program done (is_brief given) solved.proof) m.1 in
+    let text = subst (Appends a.held a.held') (told-text given solved.program done (layout_of given) solved.proof) m.1 in
     subst (Means given a report) (sym is) (written given a report solved done.results.end (has_model done.results) refl refl text)
 delivered given a s report solved (inr m) =
-    subst (Means given a report) (sym m.0) (inl (record { solved = solved; text = subst (AppendsFront a.held a.held') (told-text given solved.program solved.done (is_brief given) solved.proof) m.1; cause = m.2 }))
+    subst (Means given a report) (sym m.0) (inl (record { solved = solved; text = subst (AppendsFront a.held a.held') (told-text given solved.program solved.done (layout_of given) solved.proof) m.1; cause = m.2 }))
 
 -- the text of parts was written, or cut off
 handed : (given : Options) (a : Around) (s : Status) (report : Option Report) → (divided : IsDivided given a report)

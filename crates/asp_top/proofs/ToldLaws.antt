@@ -26,8 +26,13 @@ use Rattle.asp_crew_laws.specs.Proofs.{HasProof, HasProofAt}
 use Rattle.asp_cli.specs.declared.Options.{Options}
 use Rattle.asp_top.specs.Parting.{Divides}
 use Rattle.asp_top.specs.Meaning.{has_model, has_model_in, mode_of}
-use Rattle.asp_top.specs.Runs.{Concludes, Delivers, Does, DoesBy, IsCounted, Solves, ask_of, found_with, is_brief, is_settled, prepared_of, report_text, report_with, searched, set_aside, text_by, told_with}
+use Rattle.asp_top.specs.Runs.{Concludes, Delivers, Does, DoesBy, IsCounted, Solves, ask_of, found_with, layout_of, is_settled, prepared_of, report_text, text_in, report_with, searched, set_aside, text_by, told_with}
 use Rattle.asp_top.specs.declared.counts.Tally.{Tally}
+use Rattle.asp_json.specs.Json.{array, best_costs, best_text, call_text, closing_text, json_text, known_text, models_text, more, optimum_text, recorded_text, result_text, witness, witnesses}
+use Rattle.asp_json.specs.Quoting.{quoted}
+use Rattle.asp_cli.specs.declared.Form.{Form}
+use Rattle.asp_cli.specs.declared.Form.TheVariants.{Text, Json}
+use Rattle.asp_top.specs.declared.deliver.Layout.{Layout}
 use Rattle.asp_top.specs.declared.prepare.Prepared.{Prepared}
 use Rattle.asp_top.specs.declared.status.Outcome.{Outcome}
 
@@ -141,6 +146,71 @@ text-left p r brief =
     ∙ ap (λ xs. cond brief [] (answers_from p 1 (recorded r.mode (found_with F r))) ++ xs ++ closing_lines r (found_count r.mode (told F r))) (sums-with F r.mode r)
     ∙ ap (λ k. cond brief [] (answers_from p 1 (recorded r.mode (found_with F r))) ++ sums_text r.mode (found_with F r) ++ closing_lines r k) (count-with F r.mode r)
 
+-- ---- the same as JSON
+witness-left : (p : Program) (best : Option (Atoms × List ℤ)) (S : Atoms) → witness (left_of p) best S ≡ witness p best (united (facts_of p) S)
+witness-left p best S = ap (λ (ts : List (List ℕ)). codes "\n{\"Value\":" ++ array (map quoted ts) ++ best_costs best ++ codes "}") (sym (shown-left p S))
+
+witness-with : (F : Atoms) (p : Program) (best : Option (Atoms × List ℤ)) (S : Atoms) → witness p best S ≡ witness p (option_map (λ b. (united F b.0, b.1)) best) S
+witness-with F p None S = refl
+witness-with F p (Some b) S = refl
+
+each-left : (p : Program) (best : Option (Atoms × List ℤ)) (Ss : List Atoms) → map (witness (left_of p) best) Ss ≡ map (witness p best) (map (united (facts_of p)) Ss)
+each-left p best [] = refl
+each-left p best (S ∷ Ss) =
+    ap (λ (t : List ℕ). t ∷ map (witness (left_of p) best) Ss) (witness-left p best S) ∙ ap (λ (ts : List (List ℕ)). witness p best (united (facts_of p) S) ∷ ts) (each-left p best Ss)
+
+each-with : (F : Atoms) (p : Program) (best : Option (Atoms × List ℤ)) (Ss : List Atoms) → map (witness p best) Ss ≡ map (witness p (option_map (λ b. (united F b.0, b.1)) best)) Ss
+each-with F p best [] = refl
+each-with F p best (S ∷ Ss) =
+    ap (λ (t : List ℕ). t ∷ map (witness p best) Ss) (witness-with F p best S) ∙ ap (λ (ts : List (List ℕ)). witness p (option_map (λ b. (united F b.0, b.1)) best) S ∷ ts) (each-with F p best Ss)
+
+abbrev bracketed : List (List ℕ) → List ℕ
+bracketed ts = codes "\"Witnesses\":[" ++ join_with_byte 44 ts ++ codes "\n]"
+
+witnesses-left : (p : Program) (best : Option (Atoms × List ℤ)) (Ss : List Atoms) → witnesses (left_of p) best Ss ≡ witnesses p best (map (united (facts_of p)) Ss)
+witnesses-left p best [] = refl
+witnesses-left p best (S ∷ Ss) = ap bracketed (each-left p best (S ∷ Ss))
+
+witnesses-with : (F : Atoms) (p : Program) (best : Option (Atoms × List ℤ)) (Ss : List Atoms) → witnesses p best Ss ≡ witnesses p (option_map (λ b. (united F b.0, b.1)) best) Ss
+witnesses-with F p best [] = refl
+witnesses-with F p best (S ∷ Ss) = ap bracketed (each-with F p best (S ∷ Ss))
+
+recorded_text-left : (p : Program) (mode : Mode) (r : Found) → recorded_text (left_of p) mode (told (facts_of p) r) ≡ recorded_text p mode (found_with (facts_of p) r)
+recorded_text-left p Enum r = witnesses-left p None r.answers
+recorded_text-left p Opt r =
+    witnesses-left p r.best (bests r.best r.answers) ∙ ap (witnesses p r.best) (sym (bests-with (facts_of p) r.best r.answers))
+    ∙ witnesses-with (facts_of p) p r.best (bests (option_map (λ b. (united (facts_of p) b.0, b.1)) r.best) (map (united (facts_of p)) r.answers))
+recorded_text-left p (Consequences w) r = refl
+
+known_text-with : (F : Atoms) (mode : Mode) (r : Found) → known_text mode (told F r) ≡ known_text mode (found_with F r)
+known_text-with F Enum r = refl
+known_text-with F Opt r = refl
+known_text-with F (Consequences w) r = refl
+
+optimum-with : (F : Atoms) (end : End) (k : ℕ) (best : Option (Atoms × List ℤ)) → optimum_text end k best ≡ optimum_text end k (option_map (λ b. (united F b.0, b.1)) best)
+optimum-with F end k None = refl
+optimum-with F end k (Some b) = refl
+
+best_text-with : (F : Atoms) (mode : Mode) (r : Found) (k : ℕ) → best_text mode (told F r) k ≡ best_text mode (found_with F r) k
+best_text-with F Enum r k = refl
+best_text-with F Opt r k = optimum-with F r.end k r.best
+best_text-with F (Consequences w) r k = refl
+
+closing-with : (F : Atoms) (r : Found) (k : ℕ) → closing_text (told F r) k ≡ closing_text (found_with F r) k
+closing-with F r k =
+    ap (λ (xs : List ℕ). xs ++ result_text r k ++ models_text (told F r) k) (known_text-with F r.mode r)
+    ∙ ap (λ (xs : List ℕ). known_text r.mode (found_with F r) ++ result_text r k ++ (codes ",\"Models\":{\"Number\":" ++ decimal k ++ codes ",\"More\":\"" ++ more r.end ++ codes "\"" ++ xs ++ codes "}}\n")) (best_text-with F r.mode r k)
+
+json-left : (p : Program) (r : Found) (brief : Bool) → json_text (left_of p) (told (facts_of p) r) brief ≡ json_text p (found_with (facts_of p) r) brief
+json-left p r brief =
+    let F = facts_of p in
+    ap (λ (xs : List ℕ). codes "{\"Solver\":\"aspenum\",\"Call\":[{" ++ cond brief [] xs ++ codes "}]" ++ closing_text (told F r) (found_count r.mode (told F r))) (recorded_text-left p r.mode r)
+    ∙ ap (λ (xs : List ℕ). call_text p (found_with F r) brief ++ xs) (closing-with F r (found_count r.mode (told F r)) ∙ ap (closing_text (found_with F r)) (count-with F r.mode r))
+
+text_in-left : (form : Form) (p : Program) (r : Found) (brief : Bool) → text_in form (left_of p) (told (facts_of p) r) brief ≡ text_in form p (found_with (facts_of p) r) brief
+text_in-left Text p r brief = text-left p r brief
+text_in-left Json p r brief = json-left p r brief
+
 -- ---- with nothing set aside
 same-best : (best : Option (Atoms × List ℤ)) → option_map (λ b. (united [] b.0, b.1)) best ≡ best
 same-best None = refl
@@ -179,19 +249,19 @@ unasked given e = by given.proof e
     by true h = absurd cc
     by false h = refl
 
-text_without : (p : Program) (r : Report) (brief : Bool) → r.proof ≡ None → report_text (left_of p) (told_with (facts_of p) r) brief ≡ report_text p (report_with (facts_of p) r) brief
-text_without p r brief none =
-    ap (λ proof. text_by proof (left_of p) (told (facts_of p) r.results) brief) none
-    ∙ text-left p r.results brief
-    ∙ ap (λ proof. text_by proof p (found_with (facts_of p) r.results) brief) (sym none)
+text_without : (p : Program) (r : Report) (layout : Layout) → r.proof ≡ None → report_text (left_of p) (told_with (facts_of p) r) layout ≡ report_text p (report_with (facts_of p) r) layout
+text_without p r layout none =
+    ap (λ proof. text_by proof (left_of p) (told (facts_of p) r.results) layout) none
+    ∙ text_in-left layout.form p r.results layout.brief
+    ∙ ap (λ proof. text_by proof p (found_with (facts_of p) r.results) layout) (sym none)
 
-pub told-text : (given : Options) (p : Program) (r : Report) (brief : Bool) → HasProof given.proof r →
-    report_text (searched given p) (told_with (set_aside given p) r) brief ≡ report_text p (report_with (set_aside given p) r) brief
-told-text given p r brief proof = by (is_settled given) refl
+pub told-text : (given : Options) (p : Program) (r : Report) (layout : Layout) → HasProof given.proof r →
+    report_text (searched given p) (told_with (set_aside given p) r) layout ≡ report_text p (report_with (set_aside given p) r) layout
+told-text given p r layout proof = by (is_settled given) refl
   where
-    by : (b : Bool) → is_settled given ≡ b → report_text (cond b (left_of p) p) (told_with (cond b (facts_of p) []) r) brief ≡ report_text p (report_with (cond b (facts_of p) []) r) brief
-    by true e = text_without p r brief (no-proof r.results.end r.results r.proof (subst (λ asked. HasProof asked r) (unasked given e) proof))
-    by false e = ap (λ x. report_text p x brief) (same-told r ∙ sym (same-report r))
+    by : (b : Bool) → is_settled given ≡ b → report_text (cond b (left_of p) p) (told_with (cond b (facts_of p) []) r) layout ≡ report_text p (report_with (cond b (facts_of p) []) r) layout
+    by true e = text_without p r layout (no-proof r.results.end r.results r.proof (subst (λ asked. HasProof asked r) (unasked given e) proof))
+    by false e = ap (λ x. report_text p x layout) (same-told r ∙ sym (same-report r))
 
 pub told-says : (given : Options) (p : Program) (ask : Ask) (r : Report) (end : End) → IsSound p → SaysReport (searched given p) ask r end → SaysReport p ask (report_with (set_aside given p) r) end
 told-says given p ask r end sound h = by (is_settled given) h
@@ -225,19 +295,19 @@ same-ask given p = by (is_settled given)
     by false = refl
 
 -- what was searched, and with what it is told
-pub solves-by : (given : Options) (p : Program) (x : Prepared) (q : Program) (r : Report) (brief : Bool) (h h' : Option (List ℕ)) (w w' : ℕ) (o : Outcome) → x ≡ prepared_of given p → q ≡ x.compiled → brief ≡ is_brief given
-    → IsReport x.compiled (ask_of given q) given.budget r → HasProof given.proof r → Concludes brief q x.facts r h h' w w' o → Solves given p h h' w w' o
-solves-by given p x q r brief h h' w w' o is of same report proof (inl m) = inl m
-solves-by given p x q r brief h h' w w' o is of same report proof (inr d) =
+pub solves-by : (given : Options) (p : Program) (x : Prepared) (q : Program) (r : Report) (layout : Layout) (h h' : Option (List ℕ)) (w w' : ℕ) (o : Outcome) → x ≡ prepared_of given p → q ≡ x.compiled → layout ≡ layout_of given
+    → IsReport x.compiled (ask_of given q) given.budget r → HasProof given.proof r → Concludes layout q x.facts r h h' w w' o → Solves given p h h' w w' o
+solves-by given p x q r layout h h' w w' o is of same report proof (inl m) = inl m
+solves-by given p x q r layout h h' w w' o is of same report proof (inr d) =
     let report' : IsReport x.compiled (ask_of given x.compiled) given.budget r = subst (λ (y : Program). IsReport x.compiled (ask_of given y) given.budget r) of report in
     let report'' : IsReport (searched given p) (ask_of given (searched given p)) given.budget r = subst (λ (y : Prepared). IsReport y.compiled (ask_of given y.compiled) given.budget r) is report' in
-    let told' : Delivers brief x.compiled (told_with x.facts r) h h' w w' o = subst (λ (y : Program). Delivers brief y (told_with x.facts r) h h' w w' o) of d in
-    let told'' : Delivers brief (searched given p) (told_with (set_aside given p) r) h h' w w' o = subst (λ (y : Prepared). Delivers brief y.compiled (told_with y.facts r) h h' w w' o) is told' in
-    inr (r, (subst (λ (ask : Ask). IsReport (searched given p) ask given.budget r) (same-ask given p) report'', proof), subst (λ (b : Bool). Delivers b (searched given p) (told_with (set_aside given p) r) h h' w w' o) same told'')
+    let told' : Delivers layout x.compiled (told_with x.facts r) h h' w w' o = subst (λ (y : Program). Delivers layout y (told_with x.facts r) h h' w w' o) of d in
+    let told'' : Delivers layout (searched given p) (told_with (set_aside given p) r) h h' w w' o = subst (λ (y : Prepared). Delivers layout y.compiled (told_with y.facts r) h h' w w' o) is told' in
+    inr (r, (subst (λ (ask : Ask). IsReport (searched given p) ask given.budget r) (same-ask given p) report'', proof), subst (λ (b : Layout). Delivers b (searched given p) (told_with (set_aside given p) r) h h' w w' o) same told'')
 
-pub counted-by : (workers : ℕ) (brief : Bool) (p : Program) (F : Atoms) (r : Report) (t : Tally) (h h' : Option (List ℕ)) (w w' : ℕ) (o : Outcome) → Concludes brief p F r h h' w w' o → IsCounted workers t r → IfSome o.report (IsCounted workers t)
-counted-by workers brief p F r t h h' w w' o (inl m) counted = subst (λ x. IfSome x (IsCounted workers t)) (sym (ap (λ (x : Outcome). x.report) m.0)) tt
-counted-by workers brief p F r t h h' w w' o (inr d) counted =
+pub counted-by : (workers : ℕ) (layout : Layout) (p : Program) (F : Atoms) (r : Report) (t : Tally) (h h' : Option (List ℕ)) (w w' : ℕ) (o : Outcome) → Concludes layout p F r h h' w w' o → IsCounted workers t r → IfSome o.report (IsCounted workers t)
+counted-by workers layout p F r t h h' w w' o (inl m) counted = subst (λ x. IfSome x (IsCounted workers t)) (sym (ap (λ (x : Outcome). x.report) m.0)) tt
+counted-by workers layout p F r t h h' w w' o (inr d) counted =
     subst (λ x. IfSome x (IsCounted workers t)) (sym d.reports) (record { atoms = counted.atoms; bodies = counted.bodies; loops = counted.loops; numbered = counted.numbered })
 
 pub from-ok : {E : Type 0} (P : Report → Type 0) (s : Result Report E) (r : Report) → s ≡ Ok r → IfOk s P → P r

@@ -29,10 +29,13 @@ use Rattle.asp_top.specs.declared.status.Status.{Status}
 use Rattle.asp_top.specs.declared.status.Status.TheVariants.{All, NoModel, Enough}
 use Rattle.asp_top.specs.declared.status.Outcome.{Outcome}
 use Rattle.asp_top.specs.Meaning.{has_model_in, is_some_of, mode_of}
-use Rattle.asp_top.specs.Runs.{Around, IsGiven, IsSentOn, IsWritten, Means, Runs, RunsOn, ask_of, found_with, is_brief, report_text, report_with, set_aside, text_by}
+use Rattle.asp_top.specs.Runs.{Around, IsGiven, IsSentOn, IsWritten, Means, Runs, RunsOn, ask_of, found_with, is_brief, layout_of, report_text, report_with, set_aside, text_by, text_in}
+use Rattle.asp_json.specs.Json.{json_text}
+use Rattle.asp_cli.specs.declared.Form.{Form}
+use Rattle.asp_cli.specs.declared.Form.TheVariants.{Text, Json}
 use Rattle.asp_cli.specs.declared.Format.{Format}
 use Rattle.asp_top.specs.Formats.{outcome_for}
-use Rattle.asp_top.specs.Whole.{ArePicked, IsInput, IsWhole, TellsAll, TellsEnough, TellsNone, Wrote, closing}
+use Rattle.asp_top.specs.Whole.{ArePicked, InForm, IsInput, IsWhole, TellsAll, TellsEnough, TellsNone, Wrote, closing, none_text}
 use Rattle.asp_top.proofs.ToldLaws.{no-proof}
 
 -- ---- what is read
@@ -47,6 +50,9 @@ input-of f (Some n) a p from = from.0
 -- ---- the texts
 abbrev found : Mode → End → List Atoms → Option (Atoms × List ℤ) → Option Atoms → Found
 found mode end L best known = record { mode = mode; end = end; answers = L; best = best; known = known }
+
+abbrev json_found : Options → Program → Found → List ℕ
+json_found given p r = json_text p r (is_brief given)
 
 abbrev lines : Bool → Program → List Atoms → List ℕ
 lines brief p Ss = cond brief [] (answers_from p 1 Ss)
@@ -147,17 +153,57 @@ found-opt : (all brief : Bool) (p : Program) (L : List Atoms) (best : Option (At
 found-opt true brief p L best known is some = opt-all brief p L best known is.0 is.1 some
 found-opt false brief p L best known is some = opt-one brief p L best known is.0 is.1 some
 
-tells-all : (given : Options) (p : Program) (mode : Mode) (L : List Atoms) (best : Option (Atoms × List ℤ)) (known : Option Atoms) → IsAllFound given.all_optima p mode L best known
-    → has_model_in mode (found mode Finished L best known) ≡ true → TellsAll given p mode (results_text p (found mode Finished L best known) (is_brief given))
-tells-all given p Enum L best known is some =
-    let all = (found-enum given.all_optima p L best known is).0 in
-    let brief = is_brief given in
-    (λ none. some-or-none L some (all ∙ none), enum-all brief p L best known some ∙ ap (λ (Ss : List Atoms). lines brief p Ss ++ closing (codes "SATISFIABLE") (decimal (length Ss))) all)
-tells-all given p Opt L best known is some = found-opt given.all_optima (is_brief given) p L best known is some
-tells-all given p (Consequences w) L best known is some =
-    let all = found-consequences given.all_optima p w L best known is in
+enum-told : (form : Form) (given : Options) (p : Program) (L : List Atoms) (best : Option (Atoms × List ℤ)) (known : Option Atoms) → L ≡ answers p → is_some_of L ≡ true
+    → InForm form (text_in form p (found Enum Finished L best known) (is_brief given) ≡ lines (is_brief given) p (answers p) ++ closing (codes "SATISFIABLE") (decimal (length (answers p))))
+    (text_in form p (found Enum Finished L best known) (is_brief given) ≡ json_found given p (found Enum Finished (answers p) None None))
+enum-told Text given p L best known all some = enum-all (is_brief given) p L best known some ∙ ap (λ (Ss : List Atoms). lines (is_brief given) p Ss ++ closing (codes "SATISFIABLE") (decimal (length Ss))) all
+enum-told Json given p L best known all some = ap (λ (Ss : List Atoms). json_found given p (found Enum Finished Ss None None)) all
+
+json-opt : (all : Bool) (given : Options) (p : Program) (L : List Atoms) (best : Option (Atoms × List ℤ)) (known : Option Atoms) → IsAllFound all p Opt L best known → is_some_of (bests best L) ≡ true
+    → (S : Atoms) × Contains (optima p) S × (json_found given p (found Opt Finished L best known) ≡ json_found given p (found Opt Finished (cond all (optima p) []) (Some (S, cost p S)) None))
+json-opt true given p L (Some b) known is some = (
+  b.0,
+  an-optimum p b.0 b.1 is.1,
+  ap (λ (Ss : List Atoms). json_found given p (found Opt Finished Ss (Some b) None)) is.0 ∙ ap (λ (c : List ℤ). json_found given p (found Opt Finished (optima p) (Some (b.0, c)) None)) is.1.sums,
+)
+json-opt true given p [] None known is some = absurd (false≢true some)
+json-opt true given p (S ∷ L) None known is some = let none : S ∷ L ≡ [] = is.0 ∙ no-optima p is.1 in absurd cc
+json-opt false given p L (Some b) known is some = (
+  b.0,
+  an-optimum p b.0 b.1 is.1,
+  ap (λ (Ss : List Atoms). json_found given p (found Opt Finished Ss (Some b) None)) is.0 ∙ ap (λ (c : List ℤ). json_found given p (found Opt Finished [] (Some (b.0, c)) None)) is.1.sums,
+)
+json-opt false given p [] None known is some = absurd (false≢true some)
+json-opt false given p (S ∷ L) None known is some = absurd (let none : S ∷ L ≡ [] = is.0 in let f : ⊥ = cc in f)
+
+opt-told : (form : Form) (given : Options) (p : Program) (L : List Atoms) (best : Option (Atoms × List ℤ)) (known : Option Atoms) → IsAllFound given.all_optima p Opt L best known → is_some_of (bests best L) ≡ true
+    → (S : Atoms) × Contains (optima p) S
+    × InForm form (text_in form p (found Opt Finished L best known) (is_brief given) ≡ lines (is_brief given) p (cond given.all_optima (optima p) (S ∷ [])) ++ cost_line (cost p S) ++ closing (codes "OPTIMUM FOUND") (decimal (length (cond given.all_optima (optima p) (S ∷ [])))))
+    (text_in form p (found Opt Finished L best known) (is_brief given) ≡ json_found given p (found Opt Finished (cond given.all_optima (optima p) []) (Some (S, cost p S)) None))
+opt-told Text given p L best known is some = found-opt given.all_optima (is_brief given) p L best known is some
+opt-told Json given p L best known is some = json-opt given.all_optima given p L best known is some
+
+json-known : (given : Options) (p : Program) (w : Reasoning) (K : List Atoms) (known : Option Atoms) → known ≡ consequences_of w p K → is_some known ≡ true
+    → ¬ (K ≡ []) × (json_found given p (found (Consequences w) Finished [] None known) ≡ json_found given p (found (Consequences w) Finished [] None (Some (consequences w p K))))
+json-known given p w [] known are some = absurd (false≢true (sym (ap is_some are) ∙ some))
+json-known given p w (S ∷ K) known are some = (λ none. absurd cc, ap (λ (x : Option Atoms). json_found given p (found (Consequences w) Finished [] None x)) are)
+
+consequences-told : (form : Form) (given : Options) (p : Program) (w : Reasoning) (L : List Atoms) (best : Option (Atoms × List ℤ)) (known : Option Atoms) → IsFound p (Consequences w) L best known → is_some known ≡ true
+    → ¬ (answers p ≡ [])
+    × InForm form (text_in form p (found (Consequences w) Finished L best known) (is_brief given) ≡ consequences_line (Some (consequences w p (answers p))) ++ ended_line (codes "CONSEQUENCES FOUND"))
+    (text_in form p (found (Consequences w) Finished L best known) (is_brief given) ≡ json_found given p (found (Consequences w) Finished [] None (Some (consequences w p (answers p)))))
+consequences-told Text given p w L best known all some =
     let told = consequences-all (is_brief given) p w (answers p) best known all.2 some in
     (told.0, ap (λ (Ss : List Atoms). results_text p (found (Consequences w) Finished Ss best known) (is_brief given)) all.0 ∙ told.1)
+consequences-told Json given p w L best known all some = json-known given p w (answers p) known all.2 some
+
+tells-all : (given : Options) (p : Program) (mode : Mode) (L : List Atoms) (best : Option (Atoms × List ℤ)) (known : Option Atoms) → IsAllFound given.all_optima p mode L best known
+    → has_model_in mode (found mode Finished L best known) ≡ true → TellsAll given p mode (text_in given.form p (found mode Finished L best known) (is_brief given))
+tells-all given p Enum L best known is some =
+    let all = (found-enum given.all_optima p L best known is).0 in
+    (λ none. some-or-none L some (all ∙ none), enum-told given.form given p L best known all some)
+tells-all given p Opt L best known is some = opt-told given.form given p L best known is some
+tells-all given p (Consequences w) L best known is some = consequences-told given.form given p w L best known (found-consequences given.all_optima p w L best known is) some
 
 -- ---- finished, without an answer
 bests-none : (best : Option (Atoms × List ℤ)) (L : List Atoms) → is_some_of (bests best L) ≡ false → (best ≡ None) × (L ≡ [])
@@ -173,17 +219,17 @@ counted-none : (brief : Bool) (p : Program) → lines brief p [] ++ [] ++ (ended
 counted-none brief p =
     joined (lines brief p []) _ _ (unmarked (codes "UNSATISFIABLE") 0) ∙ ap (λ (x : List ℕ). x ++ closing (codes "UNSATISFIABLE") (decimal 0)) (no-lines brief p)
 
-tells-none : (all brief : Bool) (p : Program) (mode : Mode) (L : List Atoms) (best : Option (Atoms × List ℤ)) (known : Option Atoms) → IsAllFound all p mode L best known
-    → has_model_in mode (found mode Finished L best known) ≡ false → TellsNone p mode (results_text p (found mode Finished L best known) brief)
-tells-none all brief p Enum L best known is none =
+lines-none : (all brief : Bool) (p : Program) (mode : Mode) (L : List Atoms) (best : Option (Atoms × List ℤ)) (known : Option Atoms) → IsAllFound all p mode L best known
+    → has_model_in mode (found mode Finished L best known) ≡ false → (answers p ≡ []) × (results_text p (found mode Finished L best known) brief ≡ none_text mode)
+lines-none all brief p Enum L best known is none =
     let empty = none-of L none in
     (sym (found-enum all p L best known is).0 ∙ empty, ap (λ (Ss : List Atoms). results_text p (found Enum Finished Ss best known) brief) empty ∙ counted-none brief p)
-tells-none all brief p Opt L best known is none =
+lines-none all brief p Opt L best known is none =
     let empty = bests-none best L none in (
       subst (IsBest p) empty.0 (found-best all p L best known is),
       ap (λ (Ss : List Atoms). results_text p (found Opt Finished Ss best known) brief) empty.1 ∙ ap (λ (b : Option (Atoms × List ℤ)). results_text p (found Opt Finished [] b known) brief) empty.0 ∙ counted-none brief p,
     )
-tells-none all brief p (Consequences w) L best known is none =
+lines-none all brief p (Consequences w) L best known is none =
     let told = found-consequences all p w L best known is in
     let empty = no-consequences p w (answers p) known told.2 none in (
       empty.0,
@@ -192,6 +238,25 @@ tells-none all brief p (Consequences w) L best known is none =
           ∙ joined (lines brief p []) _ _ (append-nil (ended_line (codes "UNSATISFIABLE")))
           ∙ ap (λ (x : List ℕ). x ++ ended_line (codes "UNSATISFIABLE")) (no-lines brief p),
     )
+
+json-none : (given : Options) (p : Program) (mode : Mode) (L : List Atoms) (best : Option (Atoms × List ℤ)) (known : Option Atoms) → IsAllFound given.all_optima p mode L best known
+    → has_model_in mode (found mode Finished L best known) ≡ false → json_found given p (found mode Finished L best known) ≡ json_found given p (found mode Finished [] None None)
+json-none given p Enum L best known is none = ap (λ (Ss : List Atoms). json_found given p (found Enum Finished Ss None None)) (none-of L none)
+json-none given p Opt L best known is none =
+    let empty = bests-none best L none in
+    ap (λ (Ss : List Atoms). json_found given p (found Opt Finished Ss best None)) empty.1 ∙ ap (λ (b : Option (Atoms × List ℤ)). json_found given p (found Opt Finished [] b None)) empty.0
+json-none given p (Consequences w) L best known is none =
+    ap (λ (x : Option Atoms). json_found given p (found (Consequences w) Finished [] None x)) (no-consequences p w (answers p) known (found-consequences given.all_optima p w L best known is).2 none).1
+
+none-told : (form : Form) (given : Options) (p : Program) (mode : Mode) (L : List Atoms) (best : Option (Atoms × List ℤ)) (known : Option Atoms) → IsAllFound given.all_optima p mode L best known
+    → has_model_in mode (found mode Finished L best known) ≡ false
+    → InForm form (text_in form p (found mode Finished L best known) (is_brief given) ≡ none_text mode) (text_in form p (found mode Finished L best known) (is_brief given) ≡ json_found given p (found mode Finished [] None None))
+none-told Text given p mode L best known is none = (lines-none given.all_optima (is_brief given) p mode L best known is none).1
+none-told Json given p mode L best known is none = json-none given p mode L best known is none
+
+tells-none : (given : Options) (p : Program) (mode : Mode) (L : List Atoms) (best : Option (Atoms × List ℤ)) (known : Option Atoms) → IsAllFound given.all_optima p mode L best known
+    → has_model_in mode (found mode Finished L best known) ≡ false → TellsNone given p mode (text_in given.form p (found mode Finished L best known) (is_brief given))
+tells-none given p mode L best known is none = ((lines-none given.all_optima (is_brief given) p mode L best known is none).0, none-told given.form given p mode L best known is none)
 
 -- ---- at its limit
 abbrev last_lines : ℕ → List ℕ
@@ -219,11 +284,31 @@ opt-limited : (all brief : Bool) (p : Program) (n : ℕ) (L : List Atoms) (best 
 opt-limited true brief p n L best known listing some count part is = limited-opt brief p n L best known some count part.0 is
 opt-limited false brief p n L best known listing some count part is = absurd (false≢true listing)
 
+enough-enum : (form : Form) (given : Options) (p : Program) (n : ℕ) (L : List Atoms) (best : Option (Atoms × List ℤ)) (known : Option Atoms) → length L ≡ n
+    → InForm form (text_in form p (found Enum Limited L best known) (is_brief given) ≡ lines (is_brief given) p L ++ last_lines n) (text_in form p (found Enum Limited L best known) (is_brief given) ≡ json_found given p (found Enum Limited L None None))
+enough-enum Text given p n L best known count = joined (lines (is_brief given) p L) _ _ (ap last_lines count)
+enough-enum Json given p n L best known count = refl
+
+enough-json : (all : Bool) (given : Options) (p : Program) (n : ℕ) (L : List Atoms) (best : Option (Atoms × List ℤ)) (known : Option Atoms) → asks_list all Opt ≡ true → 0 < n → length L ≡ n → IsPartOf all p Opt (found Opt Limited L best known) → IsBest p best
+    → (S : Atoms) × (Ss : List Atoms) × Contains (optima p) S × ArePicked n (optima p) Ss × (json_found given p (found Opt Limited L best known) ≡ json_found given p (found Opt Limited Ss (Some (S, cost p S)) None))
+enough-json false given p n L best known listing some count part is = absurd (false≢true listing)
+enough-json true given p n [] best known listing some count part is = absurd (let f : ⊥ = omega (arith, some, count) in f)
+enough-json true given p n (T ∷ L) None known listing some count part is = let none : T ∷ L ≡ [] = part.0.1 ∙ ap (filter part.0.0) (no-optima p is) in absurd cc
+enough-json true given p n (T ∷ L) (Some b) known listing some count part is =
+    (b.0, T ∷ L, an-optimum p b.0 b.1 is, (part.0, count), ap (λ (c : List ℤ). json_found given p (found Opt Limited (T ∷ L) (Some (b.0, c)) None)) is.sums)
+
+enough-opt : (form : Form) (given : Options) (p : Program) (n : ℕ) (L : List Atoms) (best : Option (Atoms × List ℤ)) (known : Option Atoms) → asks_list given.all_optima Opt ≡ true → 0 < n → length L ≡ n
+    → IsPartOf given.all_optima p Opt (found Opt Limited L best known) → IsBest p best
+    → (S : Atoms) × (Ss : List Atoms) × Contains (optima p) S × ArePicked n (optima p) Ss
+    × InForm form (text_in form p (found Opt Limited L best known) (is_brief given) ≡ lines (is_brief given) p Ss ++ cost_line (cost p S) ++ last_lines n)
+    (text_in form p (found Opt Limited L best known) (is_brief given) ≡ json_found given p (found Opt Limited Ss (Some (S, cost p S)) None))
+enough-opt Text given p n L best known listing some count part is = opt-limited given.all_optima (is_brief given) p n L best known listing some count part is
+enough-opt Json given p n L best known listing some count part is = enough-json given.all_optima given p n L best known listing some count part is
+
 tells-enough : (given : Options) (p : Program) (mode : Mode) (L : List Atoms) (best : Option (Atoms × List ℤ)) (known : Option Atoms) → asks_list given.all_optima mode ≡ true → 0 < given.models
-    → length L ≡ given.models → IsPartOf given.all_optima p mode (found mode Limited L best known) → HasBest p mode best → TellsEnough given p mode (results_text p (found mode Limited L best known) (is_brief given))
-tells-enough given p Enum L best known listing some count part is =
-    (L, (part-enum given.all_optima p (found Enum Limited L best known) part, count), joined (lines (is_brief given) p L) _ _ (ap last_lines count))
-tells-enough given p Opt L best known listing some count part is = opt-limited given.all_optima (is_brief given) p given.models L best known listing some count part is
+    → length L ≡ given.models → IsPartOf given.all_optima p mode (found mode Limited L best known) → HasBest p mode best → TellsEnough given p mode (text_in given.form p (found mode Limited L best known) (is_brief given))
+tells-enough given p Enum L best known listing some count part is = (L, (part-enum given.all_optima p (found Enum Limited L best known) part, count), enough-enum given.form given p given.models L best known count)
+tells-enough given p Opt L best known listing some count part is = enough-opt given.form given p given.models L best known listing some count part is
 tells-enough given p (Consequences w) L best known listing some count part is = absurd (false≢true listing)
 
 -- ---- whether there is a model, told with the facts
@@ -261,15 +346,15 @@ part-of true p (Consequences w) m end r is = is
 
 -- ---- the theorem
 -- a text with its mode and its end
-text-of : (p : Program) (r : Found) (brief : Bool) (mode : Mode) (end : End) → r.mode ≡ mode → r.end ≡ end → results_text p r brief ≡ results_text p (found mode end r.answers r.best r.known) brief
-text-of p r brief mode end m e =
-    ap (λ (x : Mode). results_text p (found x r.end r.answers r.best r.known) brief) m ∙ ap (λ (x : End). results_text p (found mode x r.answers r.best r.known) brief) e
+text-of : (form : Form) (p : Program) (r : Found) (brief : Bool) (mode : Mode) (end : End) → r.mode ≡ mode → r.end ≡ end → text_in form p r brief ≡ text_in form p (found mode end r.answers r.best r.known) brief
+text-of form p r brief mode end m e =
+    ap (λ (x : Mode). text_in form p (found x r.end r.answers r.best r.known) brief) m ∙ ap (λ (x : End). text_in form p (found mode x r.answers r.best r.known) brief) e
 
 -- A report of such a run tells this.
 abbrev Telling : Options → End → Bool → (Program → Mode → List ℕ → Type 0) → Type 0
 Telling given end model Tells = (p : Program) (R : Report) → SaysReport p (ask_of given p) R end
     → has_model_in (mode_of given.mode p) (found (mode_of given.mode p) end R.results.answers R.results.best R.results.known) ≡ model
-    → Tells p (mode_of given.mode p) (results_text p (found (mode_of given.mode p) end R.results.answers R.results.best R.results.known) (is_brief given))
+    → Tells p (mode_of given.mode p) (text_in given.form p (found (mode_of given.mode p) end R.results.answers R.results.best R.results.known) (is_brief given))
 
 wrote : (given : Options) (a : Around) (report : Option Report) (end : End) (model : Bool) (Tells : Program → Mode → List ℕ → Type 0) (is_sent : Bool) → given.proof ≡ false → Telling given end model Tells → IsWritten given a report end model
     → is_sent ≡ true → Wrote given a.left a.held a.held' is_sent Tells
@@ -280,12 +365,12 @@ wrote given a report end model Tells is_sent plain telling w sent =
     let R = report_with F done in
     let mode = mode_of given.mode p in
     let none : done.proof ≡ None = no-proof done.results.end done.results done.proof (subst (λ asked. HasProof asked done) plain w.solved.proof) in
-    let same : report_text p R (is_brief given) ≡ results_text p (found mode end R.results.answers R.results.best R.results.known) (is_brief given) =
-    ap (λ proof. text_by proof p R.results (is_brief given)) none ∙ text-of p R.results (is_brief given) mode end w.solved.is.mode_is w.end_is in
+    let same : report_text p R (layout_of given) ≡ text_in given.form p (found mode end R.results.answers R.results.best R.results.known) (is_brief given) =
+    ap (λ proof. text_by proof p R.results (layout_of given)) none ∙ text-of given.form p R.results (is_brief given) mode end w.solved.is.mode_is w.end_is in
     record {
       program = p;
       input = input-of given.format given.make a p w.solved.source;
-      text = results_text p (found mode end R.results.answers R.results.best R.results.known) (is_brief given);
+      text = text_in given.form p (found mode end R.results.answers R.results.best R.results.known) (is_brief given);
       tells = telling p R (subst (SaysReport p (ask_of given p) R) w.end_is w.solved.says)
           (model-of mode mode end R.results ∙ ap (λ m. has_model_in m R.results) (sym w.solved.is.mode_is) ∙ model-with F done.results.mode done.results ∙ w.model_is);
       written = subst (Appends a.held a.held') same w.text;
@@ -297,7 +382,7 @@ whole given a o is_sent plain runs sent = by o.status runs.means sent
   where
     by : (s : Status) → Means given a o.report s → IsSentOn s is_sent → IsWhole given a.left a.held a.held' is_sent s
     by All m sent = wrote given a o.report Finished true (TellsAll given) is_sent plain (λ p R says some. tells-all given p (mode_of given.mode p) R.results.answers R.results.best R.results.known says some) m (sent refl)
-    by NoModel m sent = wrote given a o.report Finished false TellsNone is_sent plain (λ p R says none. tells-none given.all_optima (is_brief given) p (mode_of given.mode p) R.results.answers R.results.best R.results.known says none) m (sent refl)
+    by NoModel m sent = wrote given a o.report Finished false (TellsNone given) is_sent plain (λ p R says none. tells-none given p (mode_of given.mode p) R.results.answers R.results.best R.results.known says none) m (sent refl)
     by Enough m sent = wrote given a o.report Limited true (TellsEnough given) is_sent plain
         (λ p R says some. tells-enough given p (mode_of given.mode p) R.results.answers R.results.best R.results.known says.listing says.some says.count
         (part-of given.all_optima p (mode_of given.mode p) (mode_of given.mode p) Limited R.results says.part) says.best) m (sent refl)

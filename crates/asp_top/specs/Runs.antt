@@ -14,9 +14,12 @@ use Rattle.asp_model.specs.Sets.{Atoms}
 use Rattle.asp_model.specs.Sound.{IsSound}
 use Rattle.asp_settle.specs.Settled.{facts_of, left_of, united}
 use Rattle.asp_model.specs.Texts.{results_text}
+use Rattle.asp_json.specs.Json.{json_text}
 use Rattle.asp_proof.specs.declared.proof.Proof.{Proof}
 use Rattle.asp_proof.specs.Texts.{text_of}
 use Rattle.asp_read.specs.Judging.{most_bytes}
+use Rattle.asp_cli.specs.declared.Form.{Form}
+use Rattle.asp_cli.specs.declared.Form.TheVariants.{Text, Json}
 use Rattle.asp_cli.specs.declared.Format.{Format}
 use Rattle.asp_top.specs.Formats.{StopsFor, outcome_for}
 use Rattle.asp_make.specs.Ring.{ring}
@@ -30,6 +33,7 @@ use Rattle.asp_counts.specs.Telling.{AreNumbered}
 use Rattle.asp_crew_laws.specs.declared.report.Report.{Report}
 use Rattle.asp_crew_laws.specs.Reports.{IsReport, Says as SaysReport}
 use Rattle.asp_crew_laws.specs.Proofs.{HasProof}
+use Rattle.asp_top.specs.declared.deliver.Layout.{Layout}
 use Rattle.asp_top.specs.declared.prepare.Prepared.{Prepared}
 use Rattle.asp_top.specs.declared.status.Status.{Status}
 use Rattle.asp_top.specs.declared.status.Status.TheVariants.{All, NoModel, Partial, Unknown, Enough, Help, Memory, Usage, Refused, ReadFault, TooLong, WriteFault, Parts}
@@ -81,13 +85,18 @@ abbrev pub IsGiven : Format → Option ℕ → Around → Program → Type 0
 IsGiven f None a p = IsRead f a p
 IsGiven f (Some n) a p = (p ≡ ring n) × IsUnasked a
 
--- the text of a report: that of its proof, if it has one, and else that of its results
-abbrev pub text_by : Option Proof → Program → Found → Bool → List ℕ
-text_by (Some proof) p r brief = text_of proof
-text_by None p r brief = results_text p r brief
+-- the text of results, in the form that was asked for
+abbrev pub text_in : Form → Program → Found → Bool → List ℕ
+text_in Text p r brief = results_text p r brief
+text_in Json p r brief = json_text p r brief
 
-abbrev pub report_text : Program → Report → Bool → List ℕ
-report_text p r brief = text_by r.proof p r.results brief
+-- the text of a report: that of its proof, if it has one, and else that of its results
+abbrev pub text_by : Option Proof → Program → Found → Layout → List ℕ
+text_by (Some proof) p r layout = text_of proof
+text_by None p r layout = text_in layout.form p r layout.brief
+
+abbrev pub report_text : Program → Report → Layout → List ℕ
+report_text p r layout = text_by r.proof p r.results layout
 
 -- what is asked of the program by the options
 abbrev pub ask_of : Options → Program → Ask
@@ -134,17 +143,21 @@ pub record IsSolved (given : Options) (a : Around) (report : Option Report) : Ty
 abbrev pub is_brief : Options → Bool
 is_brief given = is_some given.make || given.quiet
 
+-- how the results are written
+abbrev pub layout_of : Options → Layout
+layout_of given = record { form = given.form; brief = is_brief given }
+
 -- exactly the text of the report was written
 pub record IsWritten (given : Options) (a : Around) (report : Option Report) (end : End) (model : Bool) : Type 0 where
   pub solved : IsSolved given a report
   pub end_is : solved.done.results.end ≡ end
   pub model_is : has_model solved.done.results ≡ model
-  pub text : Appends a.held a.held' (report_text solved.program (report_with (set_aside given solved.program) solved.done) (is_brief given))
+  pub text : Appends a.held a.held' (report_text solved.program (report_with (set_aside given solved.program) solved.done) (layout_of given))
 
 -- a front of that text was written, and a fault counted
 pub record IsCutOff (given : Options) (a : Around) (report : Option Report) : Type 0 where
   pub solved : IsSolved given a report
-  pub text : AppendsFront a.held a.held' (report_text solved.program (report_with (set_aside given solved.program) solved.done) (is_brief given))
+  pub text : AppendsFront a.held a.held' (report_text solved.program (report_with (set_aside given solved.program) solved.done) (layout_of given))
   pub cause : Rose a.writes a.writes'
 
 -- the program was divided into parts as was asked, and not solved
@@ -236,27 +249,27 @@ abbrev pub IsSentOn : Status → Bool → Type 0
 IsSentOn status is_sent = is_written status ≡ true → is_sent ≡ true
 
 -- the text of the report was written, or cut off by a fault
-abbrev pub DeliveryMeans : Bool → Program → Report → Option (List ℕ) → Option (List ℕ) → ℕ → ℕ → Status → Type 0
-DeliveryMeans brief p r held held' writes writes' status =
-    ((status ≡ status_for r.results.end (has_model r.results)) × Appends held held' (report_text p r brief))
-    ⊎ ((status ≡ WriteFault) × AppendsFront held held' (report_text p r brief) × Rose writes writes')
+abbrev pub DeliveryMeans : Layout → Program → Report → Option (List ℕ) → Option (List ℕ) → ℕ → ℕ → Status → Type 0
+DeliveryMeans layout p r held held' writes writes' status =
+    ((status ≡ status_for r.results.end (has_model r.results)) × Appends held held' (report_text p r layout))
+    ⊎ ((status ≡ WriteFault) × AppendsFront held held' (report_text p r layout) × Rose writes writes')
 
 -- a report that was to be written
-pub record Delivers (brief : Bool) (p : Program) (r : Report) (held held' : Option (List ℕ)) (writes writes' : ℕ) (o : Outcome) : Type 0 where
+pub record Delivers (layout : Layout) (p : Program) (r : Report) (held held' : Option (List ℕ)) (writes writes' : ℕ) (o : Outcome) : Type 0 where
   pub reports : o.report ≡ Some r
-  pub means : DeliveryMeans brief p r held held' writes writes' o.status
+  pub means : DeliveryMeans layout p r held held' writes writes' o.status
   pub later : writes ≤ writes'
 
 -- A report was told with the facts, or memory ran out before.
-abbrev pub Concludes : Bool → Program → Atoms → Report → Option (List ℕ) → Option (List ℕ) → ℕ → ℕ → Outcome → Type 0
-Concludes brief p F r held held' writes writes' o =
-    ((o ≡ record { status = Memory; report = None }) × Keeps held held' × (writes' ≡ writes)) ⊎ Delivers brief p (told_with F r) held held' writes writes' o
+abbrev pub Concludes : Layout → Program → Atoms → Report → Option (List ℕ) → Option (List ℕ) → ℕ → ℕ → Outcome → Type 0
+Concludes layout p F r held held' writes writes' o =
+    ((o ≡ record { status = Memory; report = None }) × Keeps held held' × (writes' ≡ writes)) ⊎ Delivers layout p (told_with F r) held held' writes writes' o
 
 -- The program was solved as was asked, or memory ran out and nothing was written.
 abbrev pub Solves : Options → Program → Option (List ℕ) → Option (List ℕ) → ℕ → ℕ → Outcome → Type 0
 Solves given p held held' writes writes' o =
     ((o ≡ record { status = Memory; report = None }) × Keeps held held' × (writes' ≡ writes))
-    ⊎ ((r : Report) × (IsReport (searched given p) (ask_of given p) given.budget r × HasProof given.proof r) × Delivers (is_brief given) (searched given p) (told_with (set_aside given p) r) held held' writes writes' o)
+    ⊎ ((r : Report) × (IsReport (searched given p) (ask_of given p) given.budget r × HasProof given.proof r) × Delivers (layout_of given) (searched given p) (told_with (set_aside given p) r) held held' writes writes' o)
 
 -- The program was divided where parts are asked for, and else solved.
 abbrev pub DoesBy : Option ℕ → Options → Program → Option (List ℕ) → Option (List ℕ) → ℕ → ℕ → Outcome → Type 0

@@ -1,7 +1,9 @@
 -- What a run that finished has read and written, said by the program alone: the theorem of docs/THEOREM.md.
-use Rattle.std.specs.Prelude.{◌≡◌, ℕ, ◌++◌, Bool, true, if◌then◌else◌, List, [], ◌∷◌, filter, length, Contains, Option, None, Some, Ok, IfSome, codes, decimal}
+use Rattle.std.specs.Prelude.{◌≡◌, ℕ, ◌++◌, Bool, true, if◌then◌else◌, List, [], ◌∷◌, filter, length, Contains, Option, None, Some, Ok, IfSome, codes, decimal, ℤ}
 use Rattle.std.specs.Io.KnownBytes.{Appends}
 use Rattle.asp_model.specs.declared.program.Program.{Program}
+use Rattle.asp_model.specs.declared.results.End.{End}
+use Rattle.asp_model.specs.declared.results.End.TheVariants.{Finished, Limited}
 use Rattle.asp_model.specs.declared.results.Mode.{Mode}
 use Rattle.asp_model.specs.declared.results.Mode.TheVariants.{Enum, Opt, Consequences}
 use Rattle.asp_model.specs.Sets.{Atoms}
@@ -10,6 +12,9 @@ use Rattle.asp_model.specs.Costs.{cost, optima}
 use Rattle.asp_model.specs.Consequences.{consequences}
 use Rattle.asp_model.specs.Texts.{answers_from, consequences_line, cost_line, ended_line}
 use Rattle.asp_make.specs.Ring.{ring}
+use Rattle.asp_json.specs.Json.{json_text}
+use Rattle.asp_cli.specs.declared.Form.{Form}
+use Rattle.asp_cli.specs.declared.Form.TheVariants.{Text, Json}
 use Rattle.asp_cli.specs.declared.Format.{Format}
 use Rattle.asp_cli.specs.declared.Options.{Options}
 use Rattle.asp_top.specs.Formats.{outcome_for}
@@ -47,24 +52,39 @@ none_text Enum = closing (codes "UNSATISFIABLE") (decimal 0)
 none_text Opt = closing (codes "UNSATISFIABLE") (decimal 0)
 none_text (Consequences w) = ended_line (codes "UNSATISFIABLE")
 
+-- the optima that are listed where all are asked for; the best one is told without a list
+abbrev pub listed_optima : Options → Program → List Atoms
+listed_optima given p = if given.all_optima then optima p else []
+
+-- the text as JSON of results of this mode and end, with these answers, this best one with its cost, and these consequences
+abbrev pub json_of : Options → Program → Mode → End → List Atoms → Option (Atoms × List ℤ) → Option Atoms → List ℕ
+json_of given p mode end Ss best known = json_text p (record { mode = mode; end = end; answers = Ss; best = best; known = known }) (is_brief given)
+
+-- what is told in lines, or as JSON
+abbrev pub InForm : Form → Type 0 → Type 0 → Type 0
+InForm Text lines json = lines
+InForm Json lines json = json
+
 -- There is no answer, and the text says so.
-abbrev pub TellsNone : Program → Mode → List ℕ → Type 0
-TellsNone p mode text = (answers p ≡ []) × (text ≡ none_text mode)
+abbrev pub TellsNone : Options → Program → Mode → List ℕ → Type 0
+TellsNone given p mode text = (answers p ≡ []) × InForm given.form (text ≡ none_text mode) (text ≡ json_of given p mode Finished [] None None)
 
 -- There are answers, and all that is asked for is written: all answers; one optimum, or all of them, with the cost; the atoms that are
 -- in some answer, or in each.
 abbrev pub TellsAll : Options → Program → Mode → List ℕ → Type 0
-TellsAll given p Enum text = ¬ (answers p ≡ []) × (text ≡ listed given p (answers p) ++ closing (codes "SATISFIABLE") (decimal (length (answers p))))
-TellsAll given p Opt text = (S : Atoms) × Contains (optima p) S
-    × (text ≡ listed given p (written_optima given p S) ++ cost_line (cost p S) ++ closing (codes "OPTIMUM FOUND") (decimal (length (written_optima given p S))))
-TellsAll given p (Consequences w) text = ¬ (answers p ≡ []) × (text ≡ consequences_line (Some (consequences w p (answers p))) ++ ended_line (codes "CONSEQUENCES FOUND"))
+TellsAll given p Enum text = ¬ (answers p ≡ []) × InForm given.form (text ≡ listed given p (answers p) ++ closing (codes "SATISFIABLE") (decimal (length (answers p))))
+    (text ≡ json_of given p Enum Finished (answers p) None None)
+TellsAll given p Opt text = (S : Atoms) × Contains (optima p) S × InForm given.form (text ≡ listed given p (written_optima given p S) ++ cost_line (cost p S) ++ closing (codes "OPTIMUM FOUND") (decimal (length (written_optima given p S))))
+    (text ≡ json_of given p Opt Finished (listed_optima given p) (Some (S, cost p S)) None)
+TellsAll given p (Consequences w) text = ¬ (answers p ≡ []) × InForm given.form (text ≡ consequences_line (Some (consequences w p (answers p))) ++ ended_line (codes "CONSEQUENCES FOUND"))
+    (text ≡ json_of given p (Consequences w) Finished [] None (Some (consequences w p (answers p))))
 
 -- As many answers as `--models` asks for are written, or with `--opt-all` as many optima.
 abbrev pub TellsEnough : Options → Program → Mode → List ℕ → Type 0
-TellsEnough given p Enum text = (Ss : List Atoms) × ArePicked given.models (answers p) Ss
-    × (text ≡ listed given p Ss ++ closing (codes "LIMIT REACHED") (decimal given.models ++ codes "+"))
-TellsEnough given p Opt text = (S : Atoms) × (Ss : List Atoms) × Contains (optima p) S × ArePicked given.models (optima p) Ss
-    × (text ≡ listed given p Ss ++ cost_line (cost p S) ++ closing (codes "LIMIT REACHED") (decimal given.models ++ codes "+"))
+TellsEnough given p Enum text = (Ss : List Atoms) × ArePicked given.models (answers p) Ss × InForm given.form (text ≡ listed given p Ss ++ closing (codes "LIMIT REACHED") (decimal given.models ++ codes "+"))
+    (text ≡ json_of given p Enum Limited Ss None None)
+TellsEnough given p Opt text = (S : Atoms) × (Ss : List Atoms) × Contains (optima p) S × ArePicked given.models (optima p) Ss × InForm given.form (text ≡ listed given p Ss ++ cost_line (cost p S) ++ closing (codes "LIMIT REACHED") (decimal given.models ++ codes "+"))
+    (text ≡ json_of given p Opt Limited Ss (Some (S, cost p S)) None)
 TellsEnough given p (Consequences w) text = ⊥
 
 -- ---- the theorem
@@ -81,6 +101,6 @@ pub record Wrote (given : Options) (left held held' : Option (List ℕ)) (is_sen
 -- ended in another way nothing is said here.
 abbrev pub IsWhole : Options → Option (List ℕ) → Option (List ℕ) → Option (List ℕ) → Bool → Status → Type 0
 IsWhole given left held held' is_sent All = Wrote given left held held' is_sent (TellsAll given)
-IsWhole given left held held' is_sent NoModel = Wrote given left held held' is_sent TellsNone
+IsWhole given left held held' is_sent NoModel = Wrote given left held held' is_sent (TellsNone given)
 IsWhole given left held held' is_sent Enough = Wrote given left held held' is_sent (TellsEnough given)
 IsWhole given left held held' is_sent status = Unit {0}

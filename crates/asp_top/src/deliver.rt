@@ -1,14 +1,17 @@
 //! What a run writes of its report, and the outcome then.
 ghost use Rattle.std.specs.Prelude.{◌≡◌, None, OnOk, true};
+ghost use Rattle.asp_json.specs.Json.{json_text};
 ghost use Rattle.asp_model.specs.Texts.{results_text};
 ghost use Rattle.asp_proof.specs.Texts.{text_of};
 ghost use Rattle.asp_top.specs.Notes.{Writes};
-ghost use Rattle.asp_top.specs.Runs.{Delivers, IsSentOn, TellsFaults, report_text};
+ghost use Rattle.asp_top.specs.Runs.{Delivers, IsSentOn, TellsFaults, report_text, text_in};
 
 use crate::solve::status_for;
 use crate::status::{Outcome, Status};
+use asp_cli::Form;
 use asp_crew::report::Report;
 use asp_io::{Failed, Sink};
+use asp_json::print_json;
 use asp_model::program::Program;
 use asp_model::results::Results;
 use asp_print::print;
@@ -16,6 +19,15 @@ use asp_proof::proof::Proof;
 use asp_proof::write_proof;
 use asp_rows::sets::Sets;
 use std::alloc::Global;
+
+/// How the results are written.
+#[derive(Clone, Copy)]
+pub struct Layout {
+    /// Their form.
+    pub form: Form,
+    /// Whether the answers are left out.
+    pub brief: bool,
+}
 
 /// The outcome of a run without a report.
 pub fn failed(status: Status) -> Outcome
@@ -34,7 +46,7 @@ fn write_proof_text<K: Sink>(sink: &mut K, proof: &Proof) -> Result<(), Failed>
     write_proof(sink, proof)
 }
 
-fn write_results_text<K: Sink>(
+fn write_lines<K: Sink>(
     alloc: Global,
     sink: &mut K,
     brief: bool,
@@ -47,20 +59,50 @@ fn write_results_text<K: Sink>(
     print(alloc, sink, program, results, brief)
 }
 
-// Writes the text of the proof, if there is one, and else that of the results.
-fn write_text<K: Sink>(
+fn write_json<K: Sink>(
     alloc: Global,
     sink: &mut K,
     brief: bool,
     program: &Program,
+    results: &Results<Sets>,
+) -> Result<(), Failed>
+    ensures { Writes (K.held sink.old) (K.held sink.new) (K.faults sink.old) (K.faults sink.new)
+        result (json_text program.now results.now brief) }
+{
+    print_json(alloc, sink, program, results, brief)
+}
+
+// Writes the text of the results, in the form that was asked for.
+fn write_results<K: Sink>(
+    alloc: Global,
+    sink: &mut K,
+    layout: Layout,
+    program: &Program,
+    results: &Results<Sets>,
+) -> Result<(), Failed>
+    ensures { Writes (K.held sink.old) (K.held sink.new) (K.faults sink.old) (K.faults sink.new)
+        result (text_in layout.form program.now results.now layout.brief) }
+{
+    match layout.form {
+        Form::Text => write_lines(alloc, sink, layout.brief, program, results),
+        Form::Json => write_json(alloc, sink, layout.brief, program, results),
+    }
+}
+
+// Writes the text of the proof, if there is one, and else that of the results.
+fn write_text<K: Sink>(
+    alloc: Global,
+    sink: &mut K,
+    layout: Layout,
+    program: &Program,
     report: &Report,
 ) -> Result<(), Failed>
     ensures { Writes (K.held sink.old) (K.held sink.new) (K.faults sink.old) (K.faults sink.new)
-        result (report_text program.now report.now brief) }
+        result (report_text program.now report.now layout) }
 {
     match &report.proof {
         Some(proof) => write_proof_text(sink, proof),
-        None => write_results_text(alloc, sink, brief, program, &report.results),
+        None => write_results(alloc, sink, layout, program, &report.results),
     }
 }
 
@@ -68,15 +110,15 @@ fn write_text<K: Sink>(
 fn write_report<K: Sink>(
     alloc: Global,
     sink: &mut K,
-    brief: bool,
+    layout: Layout,
     program: &Program,
     report: &Report,
 ) -> Result<(), Failed>
     ensures writes { Writes (K.held sink.old) (K.held sink.new) (K.faults sink.old) (K.faults sink.new)
-        result (report_text program.now report.now brief) }
+        result (report_text program.now report.now layout) }
     ensures sent { OnOk result (K.is_sent sink.new ≡ true) }
 {
-    write_text(alloc, sink, brief, program, report)?;
+    write_text(alloc, sink, layout, program, report)?;
     sink.flush()
 }
 
@@ -84,15 +126,15 @@ fn write_report<K: Sink>(
 pub fn deliver<K: Sink>(
     alloc: Global,
     sink: &mut K,
-    brief: bool,
+    layout: Layout,
     program: &Program,
     report: Report,
 ) -> Outcome
-    ensures delivers { Delivers brief program.now report (K.held sink.old) (K.held sink.new) (K.faults sink.old) (K.faults sink.new) result }
+    ensures delivers { Delivers layout program.now report (K.held sink.old) (K.held sink.new) (K.faults sink.old) (K.faults sink.new) result }
     ensures flushed { TellsFaults (K.faults sink.old) (K.faults sink.new) result.status }
     ensures sent { IsSentOn result.status (K.is_sent sink.new) }
 {
-    let status = match write_report(alloc, sink, brief, program, &report) {
+    let status = match write_report(alloc, sink, layout, program, &report) {
         Ok(()) => status_for(&report.results),
         Err(Failed) => Status::WriteFault,
     };

@@ -6,10 +6,10 @@ ghost use Rattle.asp_counts.specs.Telling.{AreNumbered};
 ghost use Rattle.asp_crew_laws.specs.Proofs.{HasProof};
 ghost use Rattle.asp_crew_laws.specs.Reports.{IsReport};
 ghost use Rattle.asp_model.specs.declared.program.Program.{Program};
-ghost use Rattle.asp_top.specs.Runs.{Concludes, IsCounted, IsSentOn, Solves, TellsFaults, ask_of, is_brief, prepared_of, told_with};
+ghost use Rattle.asp_top.specs.Runs.{Concludes, IsCounted, IsSentOn, Solves, TellsFaults, ask_of, layout_of, prepared_of, told_with};
 
 use crate::counts::Tally;
-use crate::deliver::{deliver, failed};
+use crate::deliver::{Layout, deliver, failed};
 use crate::loops::loops;
 use crate::prepare::Prepared;
 use crate::solve::mode_of;
@@ -44,11 +44,14 @@ fn ask_of(options: &Options, program: &Program) -> Ask
     }
 }
 
-// Whether the closing lines alone are written: of a ring, and where they were asked for.
-fn is_brief(options: &Options) -> bool
-    ensures { result ≡ is_brief options.now }
+// How the results are written: of a ring the closing lines alone.
+fn layout_of(options: &Options) -> Layout
+    ensures { result ≡ layout_of options.now }
 {
-    options.make.is_some() || options.quiet
+    Layout {
+        form: options.form,
+        brief: options.make.is_some() || options.quiet,
+    }
 }
 
 // The report with the facts among what is known.
@@ -67,17 +70,17 @@ fn told(alloc: Global, facts: &Interp, report: Report) -> Result<Report, AllocEr
 fn conclude<K: Sink>(
     alloc: Global,
     sink: &mut K,
-    brief: bool,
+    layout: Layout,
     program: &Program,
     facts: &Interp,
     report: Report,
 ) -> Outcome
-    ensures concludes { Concludes brief program.now facts.now report (K.held sink.old) (K.held sink.new) (K.faults sink.old) (K.faults sink.new) result }
+    ensures concludes { Concludes layout program.now facts.now report (K.held sink.old) (K.held sink.new) (K.faults sink.old) (K.faults sink.new) result }
     ensures flushed { TellsFaults (K.faults sink.old) (K.faults sink.new) result.status }
     ensures sent { IsSentOn result.status (K.is_sent sink.new) }
 {
     match told(alloc, facts, report) {
-        Ok(report) => deliver(alloc, sink, brief, program, report),
+        Ok(report) => deliver(alloc, sink, layout, program, report),
         Err(_) => failed(Status::Memory),
     }
 }
@@ -117,7 +120,7 @@ pub fn solve<K: Sink, W: Watch>(
             conclude(
                 alloc,
                 sink,
-                is_brief(options),
+                layout_of(options),
                 program,
                 &prepared.facts,
                 report,
@@ -189,7 +192,7 @@ pub fn solve_by_crew<R: Threads + Wait + Sync, K: Sink, G: Gate + Sync, W: Watch
                 conclude(
                     alloc,
                     sink,
-                    is_brief(options),
+                    layout_of(options),
                     program,
                     &prepared.facts,
                     report,
