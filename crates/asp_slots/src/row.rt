@@ -76,7 +76,7 @@ impl Row {
     }
 
     /// A copy of the entry in a slot, for which it waits.
-    pub fn wait_for<R: Wait>(&self, rt: &R, at: u32) -> Result<Nogood, AllocError>
+    pub(crate) fn wait_for<R: Wait>(&self, rt: &R, at: u32) -> Result<Nogood, AllocError>
         requires { at < 65536 }
         ensures { IfOk result (λ entry. IsEntry self.now.program.value entry) }
     {
@@ -91,7 +91,7 @@ impl Row {
     }
 
     /// Puts an entry into a slot. Only who drew the slot's number may do so.
-    pub fn fill<R: Wait>(&self, rt: &R, at: u32, entry: Nogood) -> Placed
+    pub(crate) fn fill<R: Wait>(&self, rt: &R, at: u32, entry: Nogood) -> Placed
         requires at { at < 65536 }
         requires entry { IsEntry self.now.program.value entry }
         ensures number { result.number ≡ at }
@@ -108,7 +108,7 @@ impl Row {
     }
 
     /// Draws the next number, unless another was drawn meanwhile. Answers how many were drawn before.
-    pub fn draw(&self, seat: &mut RowSeat, next: u32) -> u32
+    pub(crate) fn draw(&self, seat: &mut RowSeat, next: u32) -> u32
         requires of { IsOf self.now seat.old }
         requires next { next < SLOT_COUNT }
         ensures of { IsBeside seat.old seat.new }
