@@ -160,7 +160,7 @@ check "no folder for a file: output" [ ! -s "$room/out" ]
 TMPDIR=$room/tmp
 
 # Signals: gringo ends too, and no file is left; aspenum is the process that was called. (A shell without job control starts
-# what runs beside it without SIGINT.)
+# what runs beside it without SIGINT, and `nohup` starts this test without SIGHUP.)
 soon() {
     for _ in {1..600}; do "$@" && return; sleep 0.1; done
     false
@@ -170,7 +170,7 @@ set -m
 for signal in HUP INT TERM; do
     rm -f "$room/pid"
     echo 'echo $$ > "$ROOM/pid"; exec sleep 60' > "$room/act"
-    PATH=$room/bin:$room/tools "$script" x.lp > "$room/out" 2> "$room/err" &
+    env --default-signal=HUP,INT,TERM PATH="$room/bin:$room/tools" "$script" x.lp > "$room/out" 2> "$room/err" &
     pid=$!
     soon [ -s "$room/pid" ]
     kill -s $signal $pid
