@@ -72,6 +72,15 @@ while IFS='~' read -r status words text output; do
     check "row: $words $text" "$status" "$wanted" "${PIPESTATUS[1]}" "$given"
 done < tests/rows.txt
 
+# What standard error gets of a run that ends well: a line for each option that had no effect. A line of notes.txt has the
+# status, these lines, the words and the text, with ~ between them.
+while IFS='~' read -r status note words text; do
+    if [ -n "$note" ]; then printf '%b\n' "$note"; fi > "$wanted"
+    # shellcheck disable=SC2086
+    printf '%b' "$text" | "$program" $words > "$given" 2> "$notes"
+    check "notes: $words $text" "$status" "$wanted" "${PIPESTATUS[1]}" "$notes"
+done < tests/notes.txt
+
 # Output that can't be written, and input that can't be read.
 echo 'aspenum: write failed' > "$wanted"
 if [ -w /dev/full ]; then

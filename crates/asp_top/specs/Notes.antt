@@ -1,9 +1,12 @@
 -- What the notes say of a run.
-use Rattle.std.specs.Prelude.{◌≡◌, ℕ, ◌≤◌, Bool, true, false, ◌&&◌, if◌then◌else◌, List, [], ◌++◌, codes, decimal, Option, None, Some, Result, OnOk, OnErr}
+use Rattle.std.specs.Prelude.{◌≡◌, ℕ, ◌≤◌, Bool, true, false, not, ◌&&◌, ◌==◌, if◌then◌else◌, List, [], ◌++◌, codes, decimal, Option, None, Some, Result, OnOk, OnErr}
 use Rattle.std.specs.List.{flat_map}
 use Rattle.std.specs.Io.KnownBytes.{Appends}
 use Rattle.asp_io.specs.Causes.{Rose, AppendsFront}
+use Rattle.asp_cli.specs.declared.Options.{Options}
 use Rattle.asp_crew_laws.specs.declared.report.Report.{Report}
+use Rattle.asp_model.specs.declared.results.Mode.{Mode}
+use Rattle.asp_model.specs.declared.results.Mode.TheVariants.{Enum, Opt, Consequences}
 use Rattle.asp_counts.specs.declared.tallies.WorkerCounts.{WorkerCounts}
 use Rattle.asp_top.specs.declared.status.Outcome.{Outcome}
 use Rattle.asp_top.specs.declared.status.Status.{Status}
@@ -75,13 +78,50 @@ abbrev pub is_written : Status → Bool
 is_written Help = true
 is_written status = is_answered status
 
+-- ---- options that had no effect
+-- whether a list of answers was sought, which a limit can end
+abbrev pub is_list : Bool → Mode → Bool
+is_list all_optima Enum = true
+is_list all_optima Opt = all_optima
+is_list all_optima (Consequences reasoning) = false
+
+abbrev pub is_optimum : Mode → Bool
+is_optimum Opt = true
+is_optimum _ = false
+
+-- a limit of answers where no list of them was sought
+abbrev pub is_idle_limit : Options → Mode → Bool
+is_idle_limit given mode = not (given.models == 0) && not (is_list given.all_optima mode)
+
+abbrev pub limit_text : Options → Mode → List ℕ
+limit_text given mode = if is_idle_limit given mode then codes "aspenum: --models has no effect: no list of answers is sought\n" else []
+
+-- all optima where no optimum was sought
+abbrev pub is_idle_request : Options → Mode → Bool
+is_idle_request given mode = given.all_optima && not (is_optimum mode)
+
+abbrev pub optima_text : Options → Mode → List ℕ
+optima_text given mode = if is_idle_request given mode then codes "aspenum: --opt-all has no effect: no optimum is sought\n" else []
+
+abbrev pub idle_text : Options → Mode → List ℕ
+idle_text given mode = limit_text given mode ++ optima_text given mode
+
+-- the lines for options that had no effect on what was sought
+abbrev pub idle_of : Options → Option Report → List ℕ
+idle_of given None = []
+idle_of given (Some r) = idle_text given r.results.mode
+
 -- the counts, where they are asked for and results were written
 abbrev pub counts_if : Bool → Tally → Outcome → List ℕ
 counts_if stats t o = if stats && is_answered o.status then counts_of t o.report else []
 
+-- what follows the line for the status
+abbrev pub later_notes : Options → Tally → Outcome → List ℕ
+later_notes given t o = idle_of given o.report ++ counts_if given.stats t o
+
 -- what the notes get of an outcome
-abbrev pub notes_of : Bool → Tally → Outcome → List ℕ
-notes_of stats t o = note_of o.status ++ counts_if stats t o
+abbrev pub notes_of : Options → Tally → Outcome → List ℕ
+notes_of given t o = note_of o.status ++ later_notes given t o
 
 -- a call wrote all of the bytes, or failed with a front of them out, and exactly then a fault was counted
 pub record Writes {T E : Type 0} (held held' : Option (List ℕ)) (faults faults' : ℕ) (result : Result T E) (bytes : List ℕ) : Type 0 where

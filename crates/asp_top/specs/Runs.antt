@@ -349,12 +349,12 @@ pub record IsCounted (workers : ℕ) (t : Tally) (r : Report) : Type 0 where
   pub loops : IfSome t.loops (HasLoops r.paid.program)
   pub numbered : AreNumbered workers t.workers
 
--- What the notes get of a run after the words: lines while it goes on, where they are asked for, then the line of its status, and the
--- counts, where they are asked for
+-- What the notes get of a run after the words: lines while it goes on, where they are asked for, then the line of its status, lines for
+-- options that had no effect, and the counts, where they are asked for
 pub record NotesRun (workers : ℕ) (given : Options) (held held' : Option (List ℕ)) (faults faults' : ℕ) (o : Outcome) : Type 0 where
   pub tally : Tally
   pub counted : IfSome o.report (IsCounted workers tally)
-  pub told : IsTold given.progress held held' faults faults' (notes_of given.stats tally o)
+  pub told : IsTold given.progress held held' faults faults' (notes_of given tally o)
 
 -- what the notes get of a run whose words give this
 abbrev pub NotesOn : Given → Option (List ℕ) → Option (List ℕ) → ℕ → ℕ → Outcome → Type 0

@@ -2,7 +2,7 @@
 ghost use Rattle.std.specs.Prelude.{◌≡◌, ◌++◌, codes, decimal};
 ghost use Rattle.asp_buffer.specs.Out.{Puts, out};
 ghost use Rattle.asp_top.specs.Counts.{loop_items, program_items, report_items, search_items};
-ghost use Rattle.asp_top.specs.Notes.{IsNoted, Writes, counts_if, counts_of, is_answered, items_text, loops_text, note_of, notes_of, program_text, stats_of, worker_text, workers_text};
+ghost use Rattle.asp_top.specs.Notes.{IsNoted, Writes, counts_if, counts_of, idle_of, idle_text, is_answered, is_idle_limit, is_idle_request, is_list, is_optimum, items_text, later_notes, limit_text, loops_text, note_of, notes_of, optima_text, program_text, stats_of, worker_text, workers_text};
 
 use crate::counts::{
     Tally, loop_items, program_items, put_items, report_items, search_items, worker_items,
@@ -10,11 +10,13 @@ use crate::counts::{
 use crate::status::{Outcome, Status};
 use crate::usage::write_usage;
 use asp_buffer::{Waiting, flush, put};
+use asp_cli::Options;
 use asp_counts::counts::Counts;
 use asp_counts::tallies::WorkerCounts;
 use asp_crew::report::Report;
 use asp_faults::write_fault;
 use asp_io::{Failed, Sink, write_all};
+use asp_model::results::Mode;
 use asp_read::fault::Fault;
 use itoa::Buffer;
 
@@ -221,26 +223,124 @@ fn write_counts_if<N: Sink>(
     }
 }
 
-fn write_notes<N: Sink>(
+// Whether a list of answers was sought, which a limit can end.
+fn is_list(all_optima: bool, mode: Mode) -> bool
+    ensures { result ≡ is_list all_optima mode }
+{
+    match mode {
+        Mode::Enum => true,
+        Mode::Opt => all_optima,
+        Mode::Consequences(_) => false,
+    }
+}
+
+fn is_optimum(mode: Mode) -> bool
+    ensures { result ≡ is_optimum mode }
+{
+    match mode {
+        Mode::Opt => true,
+        _ => false,
+    }
+}
+
+// A limit of answers where no list of them was sought.
+fn is_idle_limit(options: &Options, mode: Mode) -> bool
+    ensures { result ≡ is_idle_limit options.now mode }
+{
+    options.models != 0 && !is_list(options.all_optima, mode)
+}
+
+// All optima where no optimum was sought.
+fn is_idle_request(options: &Options, mode: Mode) -> bool
+    ensures { result ≡ is_idle_request options.now mode }
+{
+    options.all_optima && !is_optimum(mode)
+}
+
+fn write_limit<N: Sink>(notes: &mut N, options: &Options, mode: Mode) -> Result<(), Failed>
+    ensures { Writes (N.held notes.old) (N.held notes.new) (N.faults notes.old) (N.faults notes.new)
+        result (limit_text options.now mode) }
+{
+    if is_idle_limit(options, mode) {
+        write(
+            notes,
+            b"aspenum: --models has no effect: no list of answers is sought\n",
+        )
+    } else {
+        write(notes, b"")
+    }
+}
+
+fn write_optima<N: Sink>(notes: &mut N, options: &Options, mode: Mode) -> Result<(), Failed>
+    ensures { Writes (N.held notes.old) (N.held notes.new) (N.faults notes.old) (N.faults notes.new)
+        result (optima_text options.now mode) }
+{
+    if is_idle_request(options, mode) {
+        write(
+            notes,
+            b"aspenum: --opt-all has no effect: no optimum is sought\n",
+        )
+    } else {
+        write(notes, b"")
+    }
+}
+
+// Writes the lines for options that had no effect in this mode.
+fn write_idle<N: Sink>(notes: &mut N, options: &Options, mode: Mode) -> Result<(), Failed>
+    ensures { Writes (N.held notes.old) (N.held notes.new) (N.faults notes.old) (N.faults notes.new)
+        result (idle_text options.now mode) }
+{
+    write_limit(notes, options, mode)?;
+    write_optima(notes, options, mode)
+}
+
+fn write_idle_of<N: Sink>(
     notes: &mut N,
-    stats: bool,
+    options: &Options,
+    report: &Option<Report>,
+) -> Result<(), Failed>
+    ensures { Writes (N.held notes.old) (N.held notes.new) (N.faults notes.old) (N.faults notes.new)
+        result (idle_of options.now report.now) }
+{
+    match report {
+        Some(report) => write_idle(notes, options, report.results.mode),
+        None => write(notes, b""),
+    }
+}
+
+fn write_later<N: Sink>(
+    notes: &mut N,
+    options: &Options,
     tally: &Tally,
     outcome: &Outcome,
 ) -> Result<(), Failed>
     ensures { Writes (N.held notes.old) (N.held notes.new) (N.faults notes.old) (N.faults notes.new)
-        result (notes_of stats tally.now outcome.now) }
+        result (later_notes options.now tally.now outcome.now) }
 {
-    write_note(notes, outcome.status)?;
-    write_counts_if(notes, stats, tally, outcome)
+    write_idle_of(notes, options, &outcome.report)?;
+    write_counts_if(notes, options.stats, tally, outcome)
 }
 
-/// Writes the line for an outcome's status, and the counts where they are asked for. That the notes fail changes
-/// nothing.
-pub fn note<N: Sink>(notes: &mut N, stats: bool, tally: &Tally, outcome: &Outcome)
-    ensures { IsNoted (N.held notes.old) (N.held notes.new) (N.faults notes.old) (N.faults notes.new)
-        (notes_of stats tally.now outcome.now) }
+fn write_notes<N: Sink>(
+    notes: &mut N,
+    options: &Options,
+    tally: &Tally,
+    outcome: &Outcome,
+) -> Result<(), Failed>
+    ensures { Writes (N.held notes.old) (N.held notes.new) (N.faults notes.old) (N.faults notes.new)
+        result (notes_of options.now tally.now outcome.now) }
 {
-    let _ = write_notes(notes, stats, tally, outcome);
+    write_note(notes, outcome.status)?;
+    write_later(notes, options, tally, outcome)
+}
+
+/// Writes the line for an outcome's status, the lines for options that had no effect, and the counts where they are asked
+/// for. That the notes fail changes nothing.
+pub fn note<N: Sink>(notes: &mut N, options: &Options, tally: &Tally, outcome: &Outcome)
+    ensures { IsNoted (N.held notes.old) (N.held notes.new) (N.faults notes.old) (N.faults notes.new)
+        (notes_of options.now tally.now outcome.now) }
+{
+    let _ = write_notes(notes, options, tally, outcome);
 }
 
 /// Writes the line for a status where nothing was solved. That the notes fail changes nothing.

@@ -10,6 +10,7 @@ use crate::counts::{Tally, put_items, told_items};
 use crate::notes::note;
 use crate::status::Outcome;
 use asp_buffer::{Waiting, flush, put};
+use asp_cli::Options;
 use asp_counts::counts::Counts;
 use asp_counts::watch::Watch;
 use asp_io::{Failed, Sink};
@@ -132,15 +133,15 @@ impl<'a, N: Sink> Progress<'a, N> {
 pub fn end<N: Sink>(
     notes: &mut N,
     state: Result<(), Failed>,
-    stats: bool,
+    options: &Options,
     tally: &Tally,
     outcome: &Outcome,
 )
     ensures { EndsWith state (N.held notes.old) (N.held notes.new) (N.faults notes.old) (N.faults notes.new)
-        (notes_of stats tally.now outcome.now) }
+        (notes_of options.now tally.now outcome.now) }
 {
     match state {
-        Ok(()) => note(notes, stats, tally, outcome),
+        Ok(()) => note(notes, options, tally, outcome),
         Err(Failed) => {}
     }
 }

@@ -178,7 +178,7 @@ pub fn run_alone<S: Source, K: Sink, N: Sink>(
         state,
         last: _,
     } = progress;
-    end(notes, state, options.stats, &tally, &outcome);
+    end(notes, state, options, &tally, &outcome);
     outcome
 }
 
@@ -213,7 +213,7 @@ fn run_by_crew<R: Threads + Wait + Sync, S: Source, K: Sink, N: Sink, G: Gate + 
         state,
         last: _,
     } = progress;
-    end(notes, state, options.stats, &tally, &outcome);
+    end(notes, state, options, &tally, &outcome);
     outcome
 }
 
