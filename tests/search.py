@@ -8,7 +8,7 @@ Each program is made here: a cheapest choice with recursion through counts, rand
 the units of its row the built program must come to its end. The first two take more without activities or minimising, the third
 where a variable is always decided as it was last: each row says what each took when it was written, beside what the whole search
 took. Programs as small as these take no more without restarts, so all counts of --stats are compared too: with one worker they are
-the same in each run. --measure prints what PROGRAM counts: after a change of the search the rows are to be written anew.
+the same in each run. The last row's first answer is an optimum where each atom is first decided to cost less. --measure prints what PROGRAM counts: after a change of the search the rows are to be written anew.
 
 With two and four workers the counts differ from run to run, but where no worker was stopped the main thread does nothing, so the
 numbers of the workers' lines add up to those of the run, of which a contract pins the conflicts; and of an enumeration the answers
@@ -67,6 +67,15 @@ def knapsack(items, limits, seed):
     return ("\n".join([*lines, "0"]) + "\n").encode()
 
 
+def free_costs(atoms, seed):
+    """Atoms that nothing binds, each with a cost or a gain: the first answer is an optimum where each is first decided to cost less."""
+    choose = random.Random(seed)
+    costs = [choose.choice((1, -1)) * choose.randint(1, 9) for _ in range(atoms)]
+    lines = ["asp 1 0 0", f"1 1 {atoms} {' '.join(map(str, range(1, atoms + 1)))} 0 0"]
+    lines.append(f"2 0 {atoms} {' '.join(f'{it} {cost}' for it, cost in enumerate(costs, 1))}")
+    return ("\n".join([*lines, "0"]) + "\n").encode()
+
+
 # a program, what its last lines must be, units, and what is counted; conflicts when it was written: the whole search, without
 # restarts, without activities, without minimising
 ROWS = [
@@ -79,6 +88,9 @@ ROWS = [
     # 6,296; with the last values more than it meets in 12 seconds
     ("pigeons of 9", pigeons(9), 20, b"UNSATISFIABLE\nModels: 0\n", 7000,
      "Conflicts 6296, Leaves 1, Log 0, Decisions 7083, Propagated 91848, Restarts 8, Kept 3331, Dropped 2965, Atoms 72, Bodies 298, Loops 0"),
+    # no conflicts; with the dearer values first 1,212 decisions
+    ("40 free costs", free_costs(40, 1), 30, b"OPTIMUM FOUND\nModels: 1\n", 10,
+     "Conflicts 0, Leaves 1, Log 0, Decisions 40, Propagated 1, Restarts 0, Kept 1, Dropped 0, Atoms 40, Bodies 1, Loops 0"),
 ]
 
 # a program, what its status and last lines must be
