@@ -8,7 +8,8 @@ Each program is made here: a cheapest choice with recursion through counts, rand
 the units of its row the built program must come to its end. The first two take more without activities or minimising, the third
 where a variable is always decided as it was last: each row says what each took when it was written, beside what the whole search
 took. Programs as small as these take no more without restarts, so all counts of --stats are compared too: with one worker they are
-the same in each run. The last row's first answer is an optimum where each atom is first decided to cost less. --measure prints what PROGRAM counts: after a change of the search the rows are to be written anew.
+the same in each run. The last row's first answer is an optimum where each atom is first decided to cost less. --measure prints what
+PROGRAM counts: after a change of the search the rows are to be written anew.
 
 With two and four workers the counts differ from run to run, but where no worker was stopped the main thread does nothing, so the
 numbers of the workers' lines add up to those of the run, of which a contract pins the conflicts; and of an enumeration the answers
