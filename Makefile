@@ -2,7 +2,8 @@
 #                  with it, or FILE=x.lp (grounded by gringo) or FILE=x.aspif
 # make test        every test and example, with programs that are built without their proofs
 # make             proves and builds build/aspenum and build/aspcheck; build/aspground is gringo and aspenum in one command
-# make install     installs them with their manuals and completion for bash, zsh and fish; PREFIX (/usr/local) and DESTDIR (none)
+# make install     installs them with their manuals, completion for bash, zsh and fish, and the Python module; PREFIX (/usr/local)
+#                  and DESTDIR (none)
 # make uninstall   removes what that installed
 # make deb         builds a Debian package in build/
 # make check       the gate: every proof, the edits that must fail, and the tests of make test with the proved programs
@@ -25,6 +26,8 @@ bash := $(share)/bash-completion/completions
 # Debian's zsh looks for packages' completion in a folder of its own.
 zsh := $(share)/zsh/$(if $(filter /usr,$(PREFIX)),vendor-completions,site-functions)
 fish := $(share)/fish/vendor_completions.d
+# Debian's Python looks for modules of packages in a folder of its own.
+python := $(if $(filter /usr,$(PREFIX)),$(DESTDIR)/usr/lib/python3/dist-packages,$(share)/aspenum/python)
 
 all: $(PROGRAMS)
 
@@ -57,13 +60,14 @@ test: build/aspenum-unproved build/aspcheck-unproved
 	@tests/all.sh $(CURDIR)/build/aspenum-unproved $(CURDIR)/build/aspcheck-unproved
 
 install: all
-	$(INSTALL) -d $(bin) $(man) $(bash) $(zsh) $(fish)
+	$(INSTALL) -d $(bin) $(man) $(bash) $(zsh) $(fish) $(python)
 	$(INSTALL) -m 755 $(PROGRAMS) $(bin)
 	$(INSTALL) -m 644 $(PAGES) $(man)
 	$(INSTALL) -m 644 completion/aspenum.bash $(bash)/aspenum
 	ln -sf aspenum $(bash)/aspground
 	ln -sf aspenum $(bash)/aspcheck
 	$(INSTALL) -m 644 completion/_aspenum completion/_aspground completion/_aspcheck $(zsh)
+	$(INSTALL) -m 644 python/aspenum.py $(python)
 	$(INSTALL) -m 644 completion/aspenum.fish $(fish)
 	ln -sf aspenum.fish $(fish)/aspground.fish
 	ln -sf aspenum.fish $(fish)/aspcheck.fish
@@ -71,7 +75,7 @@ install: all
 uninstall:
 	rm -f $(bin)/aspenum $(bin)/aspcheck $(bin)/aspground $(man)/aspenum.1 $(man)/aspcheck.1 $(man)/aspground.1
 	rm -f $(bash)/aspenum $(bash)/aspground $(bash)/aspcheck $(zsh)/_aspenum $(zsh)/_aspground $(zsh)/_aspcheck
-	rm -f $(fish)/aspenum.fish $(fish)/aspground.fish $(fish)/aspcheck.fish
+	rm -f $(fish)/aspenum.fish $(fish)/aspground.fish $(fish)/aspcheck.fish $(python)/aspenum.py
 
 deb: all
 	@packaging/deb.sh
