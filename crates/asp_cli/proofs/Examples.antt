@@ -1,6 +1,7 @@
 -- What some command lines give, computed by the definition.
 use Rattle.std.proofs.Common.{◌≡◌, [], ◌∷◌, true, false, Some, None, codes, refl}
-use Rattle.asp_model.specs.declared.results.Mode.TheVariants.{Enum, Opt}
+use Rattle.asp_model.specs.declared.results.Mode.TheVariants.{Enum, Opt, Consequences}
+use Rattle.asp_model.specs.declared.results.Reasoning.TheVariants.{Brave}
 use Rattle.asp_cli.specs.declared.Form.TheVariants.{Text, Json}
 use Rattle.asp_cli.specs.declared.Form.TheVariants.{Text}
 use Rattle.asp_cli.specs.declared.Format.TheVariants.{Aspif, Smodels}
