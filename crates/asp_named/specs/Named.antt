@@ -7,7 +7,7 @@ use Rattle.asp_model.specs.declared.program.Rule.{Rule}
 use Rattle.asp_model.specs.declared.program.Output.{Output}
 use Rattle.asp_model.specs.declared.program.Program.{Program}
 use Rattle.asp_model.specs.Sets.{Atoms}
-use Rattle.asp_model.specs.Holding.{is_positive}
+use Rattle.asp_model.specs.Holding.{all_hold, is_positive}
 use Rattle.asp_model.specs.Models.{atoms_of}
 
 -- whether the output is shown in every set, or exactly in those that have one atom
@@ -35,6 +35,11 @@ abbrev pub named_outputs : ℕ → List Output → List Output
 named_outputs a [] = []
 named_outputs a (o ∷ os) = named_output a o ∷ named_outputs (a + 1) os
 
+-- the atoms of those outputs that have one, from a on, and pass the test
+abbrev pub names_by : ℕ → List Output → (List ℤ → Bool) → List ℕ
+names_by a [] test = []
+names_by a (o ∷ os) test = (if is_plain o.condition then [] else (if test o.condition then a ∷ [] else [])) ++ names_by (a + 1) os test
+
 -- the last atom of a set, which is the greatest
 abbrev pub greatest : Atoms → ℕ
 greatest [] = 0
@@ -57,6 +62,13 @@ named_from a p = record {
 
 abbrev pub named : Program → Program
 named p = named_from (first_free p) p
+
+-- a set of the program's atoms with those of the outputs whose conditions hold in it
+abbrev pub extended_from : ℕ → Program → Atoms → Atoms
+extended_from a p S = S ++ names_by a p.outputs (all_hold S)
+
+abbrev pub extended : Program → Atoms → Atoms
+extended p S = extended_from (first_free p) p S
 
 -- whether there are so many numbers from a on, and room for so many rules more
 abbrev pub fits : ℕ → Program → Bool

@@ -125,12 +125,18 @@ report_with F r = record r { results = found_with F r.results }
 abbrev pub told_with : Atoms → Report → Report
 told_with F r = record r { results = record r.results { known = option_map (united F) r.results.known } }
 
+-- There are numbers where outputs need atoms.
+abbrev pub HasNumbers : Options → Program → Type 0
+HasNumbers given p = is_named given ≡ true → has_numbers p ≡ true
+
 -- No parts are asked for. The report is that of a run on the program without the facts, with what is asked and the units that were given;
 -- with the facts it says of the program what was asked, and has a proof if that was asked for. Where consequences are told by name all
 -- this is about the program with atoms for its outputs.
 pub record IsSolved (given : Options) (a : Around) (report : Option Report) : Type 0 where
   pub program : Program
   pub source : IsGiven given.format given.make a program
+  pub sound : IsSound program
+  pub numbers : HasNumbers given program
   pub whole : given.split ≡ None
   pub done : Report
   pub reports : report ≡ Some (told_with (set_aside given program) done)
@@ -302,6 +308,7 @@ pub record Runs (given : Options) (a : Around) (o : Outcome) : Type 0 where
 -- The program is there, whatever the sink holds: the source was read to its end, or it was made and nothing read.
 pub record IsReady (given : Options) (left left' : Option (List ℕ)) (reads reads' : ℕ) (p : Program) : Type 0 where
   pub source : (held held' : Option (List ℕ)) (writes writes' : ℕ) → IsGiven given.format given.make (around left left' reads reads' held held' writes writes') p
+  pub sound : IsSound p
   pub later : reads ≤ reads'
   pub quiet : reads' ≡ reads
 
@@ -322,7 +329,7 @@ WhyNot given p status = ⊥
 
 -- The program is there, and what is searched of it.
 abbrev pub Prepares : Options → Option (List ℕ) → Option (List ℕ) → ℕ → ℕ → Result Prepared Status → Type 0
-Prepares given left left' reads reads' (Ok prepared) = (p : Program) × IsReady given left left' reads reads' p × IsSound (asked given p) × (prepared ≡ prepared_of given p)
+Prepares given left left' reads reads' (Ok prepared) = (p : Program) × IsReady given left left' reads reads' p × HasNumbers given p × (prepared ≡ prepared_of given p)
 Prepares given left left' reads reads' (Err status) = IsOver given left left' reads reads' status
 
 -- ---- without a program

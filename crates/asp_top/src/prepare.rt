@@ -9,8 +9,8 @@ ghost use Rattle.asp_model.specs.Sound.{IsSound};
 ghost use Rattle.asp_cli.specs.Found.{seeks_consequences};
 ghost use Rattle.asp_cli.specs.Values.{IsRing};
 ghost use Rattle.asp_settle.specs.Settled.{facts_of, left_of};
-ghost use Rattle.asp_top.specs.Naming.{asked, asked_if, facts_for, is_json, is_named, is_settled, left_for};
-ghost use Rattle.asp_top.specs.Runs.{Prepares, WhyNot, prepared_of, status_of};
+ghost use Rattle.asp_top.specs.Naming.{asked_if, facts_for, is_json, is_named, is_settled, left_for};
+ghost use Rattle.asp_top.specs.Runs.{HasNumbers, Prepares, WhyNot, prepared_of, status_of};
 
 use crate::status::Status;
 use asp_cli::{Form, Format, Options};
@@ -135,11 +135,11 @@ fn reduce(alloc: Global, options: &Options, program: Program) -> Result<Prepared
 fn ready(alloc: Global, options: &Options, program: Program) -> Result<Prepared, Status>
     requires { IsSound program }
     ensures same { IfOk result (λ prepared. prepared ≡ prepared_of options.now program) }
-    ensures sound { OnOk result (IsSound (asked options.now program)) }
+    ensures numbers { OnOk result (HasNumbers options.now program) }
     ensures wanting { IfErr result (WhyNot options.now program) }
 {
     match asked(alloc, options, program) {
-        Ok(Some(asked)) => match reduce(alloc, options, asked) {
+        Ok(Some(sought)) => match reduce(alloc, options, sought) {
             Ok(prepared) => Ok(prepared),
             Err(_) => Err(Status::Memory),
         },
