@@ -7,7 +7,6 @@ use Rattle.std.proofs.lemmas.List.Elements.{recursion_from_All}
 use Rattle.std.proofs.lemmas.List.Folds.{list_all-map}
 use Rattle.asp_model.specs.declared.program.Output.{Output}
 use Rattle.asp_model.specs.declared.program.Program.{Program}
-use Rattle.asp_model.specs.declared.program.Rule.{Rule}
 use Rattle.asp_model.specs.declared.program.Minimize.{Minimize}
 use Rattle.asp_model.specs.declared.program.External.{External}
 use Rattle.asp_model.specs.declared.results.Reasoning.{Reasoning}
@@ -25,7 +24,7 @@ use Rattle.asp_model.proofs.SubsetLaws.{IsRising, pairs_from_rising}
 use Rattle.asp_model.proofs.ModelLaws.{answers-are, answers-rise, stable-subset}
 use Rattle.asp_model.proofs.ConsequenceLaws.{atoms-ascend, has-filter}
 use Rattle.asp_settle.proofs.StableLaws.{contains-map, each-contained, map-contains}
-use Rattle.asp_named.specs.Named.{extended, extended_from, first_free, greatest, has_numbers, is_plain, named, named_from, named_output, named_outputs, names_by}
+use Rattle.asp_named.specs.Named.{extended_from, first_free, greatest, has_numbers, is_plain, named_from, named_output, named_outputs, names_by}
 use Rattle.asp_named.specs.Told.{is_told, told_texts}
 use Rattle.asp_named.proofs.BelowLaws.{Below, all-same, atoms_at, below-from, below-has, each-back}
 use Rattle.asp_named.proofs.ForceLaws.{absent-below, assumed-below, outputs-below}
@@ -214,7 +213,7 @@ greatest-above : (S : Atoms) → IsAscending S → (b : ℕ) → has S b ≡ tru
 greatest-above [] up b e = absurd (false≢true e)
 greatest-above (x ∷ []) up b e = elim (or_cases (eqb x b) false e) [
   | inl same ↦ let is : x ≡ b = eqb-true x b same in omega (arith, is)
-  | inr no ↦ absurd (false≢true no)
+  | inr none ↦ absurd (false≢true none)
 ]
 greatest-above (x ∷ y ∷ S) up b e = elim (or_cases (eqb x b) (has (y ∷ S) b) e) [
   | inl same ↦ let is : x ≡ b = eqb-true x b same in let lt : x < y = up.0.0 in let le = greatest-above (y ∷ S) up.1 y (or_left (eqb y y) (has S y) (eq-eqb y y refl)) in omega (arith, is, lt, le)

@@ -1,5 +1,5 @@
 -- Two sets that agree below a number are the same to literals and rules whose atoms are below it.
-use Rattle.std.proofs.Common.{◌≡◌, ℕ, suc, ◌<◌, ◌≤◌, Bool, true, false, not, cond, ◌&&◌, ◌||◌, eqb, List, [], ◌∷◌, ◌++◌, map, filter, flat_map, ℤ, pos, negsuc, ◌+ℤ◌, int_le, refl, sym, ap, ◌∙◌, subst, arith, inl, inr}
+use Rattle.std.proofs.Common.{◌≡◌, ℕ, suc, ◌<◌, ◌≤◌, Bool, true, false, not, cond, ◌&&◌, ◌||◌, eqb, List, [], ◌∷◌, ◌++◌, map, flat_map, ℤ, pos, negsuc, ◌+ℤ◌, int_le, refl, sym, ap, ◌∙◌, subst, arith, inl, inr}
 use Rattle.std.specs.List.{AllByRecursion, list_any, list_all}
 use Rattle.std.proofs.lemmas.Bool.{eq-eqb, eqb-true, false_from_ne_true, false≢true, or_cases, or_left, or_right}
 use Rattle.asp_model.specs.declared.program.Body.{Body}
@@ -8,7 +8,7 @@ use Rattle.asp_model.specs.declared.program.Head.{Head}
 use Rattle.asp_model.specs.declared.program.Head.TheVariants as head
 use Rattle.asp_model.specs.declared.program.Rule.{Rule}
 use Rattle.asp_model.specs.Sets.{Atoms, has}
-use Rattle.asp_model.specs.Holding.{atom_of, body_atoms, body_holds, holds}
+use Rattle.asp_model.specs.Holding.{atom_of, body_atoms, holds}
 use Rattle.asp_model.specs.Models.{head_atoms, is_never, is_violated}
 use Rattle.asp_model.specs.Reduct.{reduct_heads}
 use Rattle.asp_model.specs.Reading.{body_holds_between, derived_heads, holds_between, weight_between}

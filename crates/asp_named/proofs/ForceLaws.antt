@@ -1,7 +1,7 @@
 -- The rules in force of a program whose outputs have atoms from a on: those of the program, whose atoms are below a, and those for the outputs.
-use Rattle.std.proofs.Common.{◌≡◌, ℕ, ◌+◌, ◌<◌, ◌≤◌, Bool, true, false, not, cond, ◌||◌, eqb, List, [], ◌∷◌, ◌++◌, map, filter, flat_map, ℤ, refl, sym, ap, ◌∙◌, subst, arith, inl, inr}
-use Rattle.std.specs.List.{AllByRecursion, list_any}
-use Rattle.std.proofs.lemmas.Bool.{eqb-true, false_from_ne_true, false≢true, or_cases, or_from}
+use Rattle.std.proofs.Common.{◌≡◌, ℕ, ◌+◌, ◌<◌, ◌≤◌, Bool, true, false, not, cond, ◌||◌, eqb, List, [], ◌∷◌, ◌++◌, map, flat_map, refl, sym, ap, ◌∙◌, subst, arith}
+use Rattle.std.specs.List.{AllByRecursion}
+use Rattle.std.proofs.lemmas.Bool.{eqb-true, false_from_ne_true, or_from}
 use Rattle.std.proofs.lemmas.List.Concat.{flat_map-append}
 use Rattle.std.proofs.lemmas.List.Folds.{list_any-append}
 use Rattle.asp_model.specs.declared.program.Body.TheVariants as body
@@ -13,16 +13,15 @@ use Rattle.asp_model.specs.declared.program.External.{External}
 use Rattle.asp_model.specs.declared.program.ExternalValue.{ExternalValue}
 use Rattle.asp_model.specs.declared.program.ExternalValue.TheVariants as value
 use Rattle.asp_model.specs.declared.program.Program.{Program}
-use Rattle.asp_model.specs.Sets.{Atoms, has, set_of}
+use Rattle.asp_model.specs.Sets.{has, set_of}
 use Rattle.asp_model.specs.Holding.{atom_of}
 use Rattle.asp_model.specs.Models.{atoms_of, external_rule, head_atoms, last_value, mentions, open_atoms, rules_in_force}
 use Rattle.asp_model.specs.Opening.{opened_rules}
-use Rattle.asp_model.specs.Sound.{IsSound}
 use Rattle.asp_model.proofs.SetLaws.{has-set_of}
 use Rattle.asp_model.proofs.MemberLaws.{each-filter, each-flat_map, each-front, each_weaker}
 use Rattle.asp_model.proofs.ConsequenceLaws.{filter-atoms}
 use Rattle.asp_named.specs.Named.{is_plain, named_from, naming_rule, naming_rules}
-use Rattle.asp_named.proofs.BelowLaws.{AreBelow, Below, absent-above, atoms_at, below-from, below-has, each-back, each-part}
+use Rattle.asp_named.proofs.BelowLaws.{AreBelow, Below, atoms_at, below-from, below-has, each-back, each-part}
 
 -- All atoms of the program are below a.
 abbrev pub IsUnder : ℕ → Program → Type 0
@@ -98,7 +97,7 @@ pub absent-below : (a : ℕ) (xs : List ℕ) (b : ℕ) → High a xs → b < a �
 absent-below a [] b h lt = refl
 absent-below a (x ∷ xs) b h lt = or_from (eqb x b) (has xs b) (false_from_ne_true (eqb x b) (λ e. let same : x ≡ b = eqb-true x b e in let le = h.0 in let no : ⊥ = omega (arith, same, le, lt) in no)) (absent-below a xs b h.1 lt)
 
-or-none : (x : Bool) → (x || false) ≡ x
+pub or-none : (x : Bool) → (x || false) ≡ x
 or-none true = refl
 or-none false = refl
 

@@ -1,18 +1,18 @@
 -- A program whose outputs have atoms is within the ranges and limits, and is the program itself where none of them needs one.
 use Rattle.std.proofs.Common.{◌≡◌, ℕ, ◌+◌, ◌<◌, ◌≤◌, Bool, true, false, cond, ◌&&◌, ◌||◌, leb, List, [], ◌∷◌, ◌++◌, length, refl, sym, ap, ◌∙◌, subst, arith, append-nil, inl, inr, pos}
-use Rattle.std.specs.Prelude.{Option, Some, None}
+use Rattle.std.specs.Prelude.{Some, None}
 use Rattle.std.specs.List.{list_all, sum_by}
 use Rattle.std.proofs.lemmas.Bool.{and_from, and_parts, le-leb, leb-true, lt-ltb, or_cases}
 use Rattle.std.proofs.lemmas.List.{length-append}
 use Rattle.std.proofs.lemmas.List.Folds.{list_all-append}
-use Rattle.std.proofs.lemmas.List.Sums.{sum_by-append, sum_by-cons}
+use Rattle.std.proofs.lemmas.List.Sums.{sum_by-append}
 use Rattle.asp_model.specs.declared.program.Body.TheVariants as body
 use Rattle.asp_model.specs.declared.program.Head.TheVariants as head
 use Rattle.asp_model.specs.declared.program.Rule.{Rule}
 use Rattle.asp_model.specs.declared.program.Output.{Output}
 use Rattle.asp_model.specs.declared.program.Program.{Program}
-use Rattle.asp_model.specs.Sound.{IsSound, has_room, is_atom, is_literal, is_sound_output, is_sound_rule, weighted_count, weighted_total}
-use Rattle.asp_named.specs.Named.{are_plain, first_free, fits, greatest, has_numbers, is_plain, named, named_from, named_if, named_output, named_outputs, naming_rule, naming_rules}
+use Rattle.asp_model.specs.Sound.{IsSound, has_room, is_atom, is_sound_output, is_sound_rule, weighted_count, weighted_total}
+use Rattle.asp_named.specs.Named.{are_plain, first_free, fits, has_numbers, is_plain, named, named_if, named_output, named_outputs, naming_rule, naming_rules}
 
 -- ---- no output needs an atom
 no-rules : (a : ℕ) (os : List Output) → are_plain os ≡ true → naming_rules a os ≡ []

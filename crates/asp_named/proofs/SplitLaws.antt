@@ -1,9 +1,8 @@
 -- A set is a stable model of the program whose outputs have atoms exactly where it is one of the program, with the atoms of the outputs
 -- whose conditions hold in it.
-use Rattle.std.proofs.Common.{◌≡◌, ℕ, ◌+◌, ◌<◌, ◌≤◌, Bool, true, false, not, cond, ◌&&◌, ◌||◌, eqb, ltb, List, [], ◌∷◌, ◌++◌, map, filter, flat_map, ℤ, refl, sym, ap, ◌∙◌, subst, arith, inl, inr, append-nil}
+use Rattle.std.proofs.Common.{◌≡◌, ℕ, ◌+◌, ◌<◌, ◌≤◌, Bool, true, false, not, cond, ◌&&◌, ◌||◌, eqb, ltb, List, [], ◌∷◌, ◌++◌, map, filter, flat_map, ℤ, refl, sym, ap, ◌∙◌, subst, arith, append-nil}
 use Rattle.std.specs.List.{AllByRecursion, list_any, list_all}
-use Rattle.std.specs.Cmp.Lexicographic.{same_text}
-use Rattle.std.proofs.lemmas.Bool.{and_from, and_parts, both_ways, false_from_ne_true, false≢true, lt-ltb, ltb-true, ltb-false, or_cases, or_left, or_right}
+use Rattle.std.proofs.lemmas.Bool.{and_from, and_parts, both_ways, lt-ltb, ltb-true, ltb-false}
 use Rattle.std.proofs.lemmas.List.Concat.{flat_map-append}
 use Rattle.std.proofs.lemmas.List.Folds.{list_any-append}
 use Rattle.asp_model.specs.declared.program.Body.TheVariants as body
@@ -13,7 +12,7 @@ use Rattle.asp_model.specs.declared.program.Output.{Output}
 use Rattle.asp_model.specs.declared.program.Program.{Program}
 use Rattle.asp_model.specs.Sets.{Atoms, IsAscending, IsSubset, has, same_set}
 use Rattle.asp_model.specs.Holding.{all_hold, atom_of}
-use Rattle.asp_model.specs.Models.{atoms_of, is_stable, is_violated, least_model, rules_in_force}
+use Rattle.asp_model.specs.Models.{is_stable, is_violated, least_model, rules_in_force}
 use Rattle.asp_model.specs.Opening.{opened_rules}
 use Rattle.asp_model.specs.Reading.{derived_heads, holds_between}
 use Rattle.asp_model.specs.Reduct.{reduct, step}
@@ -217,11 +216,11 @@ least-named a p is X S agree b =
 -- ---- constraints
 never-violated : (X : Atoms) (n : ℕ) (os : List Output) → list_any (is_violated X) (naming_rules n os) ≡ false
 never-violated X n [] = refl
-never-violated X n (o ∷ os) = list_any-append (is_violated X) (naming_rule n o) (naming_rules (n + 1) os) ∙ by (is_plain o.condition)
+never-violated X n (o ∷ os) = list_any-append (is_violated X) (naming_rule n o) (naming_rules (n + 1) os) ∙ by (is_plain o.condition) (list_any (is_violated X) (naming_rules (n + 1) os)) (never-violated X (n + 1) os)
   where
-    by : (c : Bool) → (list_any (is_violated X) (cond c [] (record { head = head.One n; body = body.All o.condition } ∷ [])) || list_any (is_violated X) (naming_rules (n + 1) os)) ≡ false
-    by true = never-violated X (n + 1) os
-    by false = never-violated X (n + 1) os
+    by : (c later : Bool) → later ≡ false → (list_any (is_violated X) (cond c [] (record { head = head.One n; body = body.All o.condition } ∷ [])) || later) ≡ false
+    by true later h = h
+    by false later h = h
 
 violated-named : (a : ℕ) (p : Program) → IsUnder a p → (X S : Atoms) → Agree a X S → list_any (is_violated X) (rules_in_force (named_from a p)) ≡ list_any (is_violated S) (rules_in_force p)
 violated-named a p under X S agree =
@@ -293,8 +292,8 @@ stable-down a p is X h =
     let up : IsAscending X = subst IsAscending (sym whole) (least_model-ascends (named_from a p) X) in
     let risen : IsAscending S = ascends-filter (λ b. ltb b a) X up in
     let own : S ≡ M = same_from_has S M risen (least_model-ascends p S) (λ b. by_place a b (has S b ≡ has M b)
-        (λ lt. sym (low-agrees a X b lt) ∙ ap (λ (T : Atoms). has T b) whole ∙ least-low a p is X S (low-agrees a X) b lt)
-        (λ le. absent-above a S b (low-below a X) le ∙ sym (absent-above a M b (model-below a p is.under S) le))) in
+    (λ lt. sym (low-agrees a X b lt) ∙ ap (λ (T : Atoms). has T b) whole ∙ least-low a p is X S (low-agrees a X) b lt)
+    (λ le. absent-above a S b (low-below a X) le ∙ sym (absent-above a M b (model-below a p is.under S) le))) in
     let same : X ≡ extended_from a p S = same_from_has X (extended_from a p S) up (extended-ascends a p S (low-below a X) risen) (λ b.
-        ap (λ (T : Atoms). has T b) whole ∙ least-named a p is X S (low-agrees a X) b ∙ own-names a p is.under X S (low-agrees a X) b own) in
+    ap (λ (T : Atoms). has T b) whole ∙ least-named a p is X S (low-agrees a X) b ∙ own-names a p is.under X S (low-agrees a X) b own) in
     (and_from _ _ (same_test S M own) (ap not (sym (violated-named a p is.under X S (low-agrees a X))) ∙ (and_parts (same_set X Q) _ h).1), same)

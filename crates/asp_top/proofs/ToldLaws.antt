@@ -143,11 +143,11 @@ texts-same : (S T : Atoms) → ((a : ℕ) → has S a ≡ has T a) → (os : Lis
 texts-same S T h [] = refl
 texts-same S T h (o ∷ os) =
     ap (λ (b : Bool). map (λ (x : Output). x.text) (cond b (o ∷ filter (λ (x : Output). all_hold S x.condition) os) (filter (λ (x : Output). all_hold S x.condition) os))) (all-same S T h o.condition)
-    ∙ by (all_hold T o.condition)
+    ∙ by (all_hold T o.condition) (filter (λ (x : Output). all_hold S x.condition) os) (filter (λ (x : Output). all_hold T x.condition) os) (texts-same S T h os)
   where
-    by : (b : Bool) → map (λ (x : Output). x.text) (cond b (o ∷ filter (λ (x : Output). all_hold S x.condition) os) (filter (λ (x : Output). all_hold S x.condition) os)) ≡ map (λ (x : Output). x.text) (cond b (o ∷ filter (λ (x : Output). all_hold T x.condition) os) (filter (λ (x : Output). all_hold T x.condition) os))
-    by true = ap (λ (ts : List (List ℕ)). o.text ∷ ts) (texts-same S T h os)
-    by false = texts-same S T h os
+    by : (b : Bool) (xs ys : List Output) → map (λ (x : Output). x.text) xs ≡ map (λ (x : Output). x.text) ys → map (λ (x : Output). x.text) (cond b (o ∷ xs) xs) ≡ map (λ (x : Output). x.text) (cond b (o ∷ ys) ys)
+    by true xs ys e = ap (λ (ts : List (List ℕ)). o.text ∷ ts) e
+    by false xs ys e = e
 
 or-twice : (a b : Bool) → ((a || b) || b) ≡ (a || b)
 or-twice true b = refl

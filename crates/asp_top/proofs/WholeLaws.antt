@@ -1,6 +1,6 @@
 -- What a run that finished has read and written, from what its status means.
 use Rattle.std.proofs.Common.{◌≡◌, ℕ, ◌<◌, Bool, true, false, not, ◌&&◌, ◌||◌, cond, List, [], ◌∷◌, ◌++◌, length, refl, sym, ap, ◌∙◌, subst, ℤ, Contains, arith}
-use Rattle.std.specs.Prelude.{Option, None, Some, Ok, IfSome, codes, decimal, filter, is_some, map, option_map}
+use Rattle.std.specs.Prelude.{Option, None, Some, Ok, IfSome, codes, decimal, filter, flat_map, is_some, map, option_map}
 use Rattle.std.specs.List.{list_any}
 use Rattle.std.specs.Io.KnownBytes.{Appends}
 use Rattle.std.proofs.lemmas.Bool.{false≢true}
@@ -16,7 +16,7 @@ use Rattle.asp_model.specs.Models.{answers}
 use Rattle.asp_model.specs.Costs.{IsOptimum, betters, cost, optima}
 use Rattle.asp_model.specs.Consequences.{consequences, consequences_of}
 use Rattle.asp_model.specs.Found.{Found}
-use Rattle.asp_model.specs.Texts.{answers_from, bests, cost_line, ended_line}
+use Rattle.asp_model.specs.Texts.{answers_from, bests, consequences_line, cost_line, ended_line}
 use Rattle.asp_model.specs.Asked.{reasoning_of}
 use Rattle.asp_model.specs.Sound.{IsSound}
 use Rattle.asp_print.specs.Named.{known_line, named_line, printed_text}
@@ -423,9 +423,16 @@ by-name Text true brief p w text named-so texts told = told ∙ ap (λ (ts : Lis
 by-name Text false brief p w text named-so texts told = absurd (false≢true named-so)
 by-name Json names brief p w text named-so texts told = told ∙ ap (λ (ts : List (List ℕ)). json_with p (found (Consequences w) Finished [] None (Some (consequences w p (answers p)))) ts brief) texts
 
+each-number : (B : Atoms) → flat_map (λ a. 32 ∷ decimal a) B ≡ flat_map (λ (t : List ℕ). 32 ∷ t) (map decimal B)
+each-number [] = refl
+each-number (a ∷ B) = ap (λ (t : List ℕ). 32 ∷ (decimal a ++ t)) (each-number B)
+
+numbers-line : (B : Atoms) → consequences_line (Some B) ≡ named_line (map decimal B)
+numbers-line B = ap (λ (t : List ℕ). ended_line (codes "Consequences:" ++ t)) (each-number B)
+
 by-number : (form : Form) (names brief : Bool) (p : Program) (w : Reasoning) (text : List ℕ) → (names || is_json form) ≡ false → ToldOf form names brief p w text → ToldBy form names brief p w text
 by-number Text true brief p w text unnamed told = absurd (false≢true (sym unnamed))
-by-number Text false brief p w text unnamed told = told
+by-number Text false brief p w text unnamed told = told ∙ ap (λ (t : List ℕ). t ++ ended_line (codes "CONSEQUENCES FOUND")) (numbers-line (consequences w p (answers p)))
 by-number Json true brief p w text unnamed told = absurd (false≢true (sym unnamed))
 by-number Json false brief p w text unnamed told = absurd (false≢true (sym unnamed))
 

@@ -1,5 +1,5 @@
 -- What a run that finished has read and written, said by the program alone: the theorem of docs/THEOREM.md.
-use Rattle.std.specs.Prelude.{◌≡◌, ℕ, ◌++◌, Bool, true, if◌then◌else◌, List, [], ◌∷◌, filter, length, Contains, Option, None, Some, Ok, IfSome, codes, decimal, ℤ}
+use Rattle.std.specs.Prelude.{◌≡◌, ℕ, ◌++◌, Bool, true, if◌then◌else◌, List, [], ◌∷◌, map, filter, length, Contains, Option, None, Some, Ok, IfSome, codes, decimal, ℤ}
 use Rattle.std.specs.Io.KnownBytes.{Appends}
 use Rattle.asp_model.specs.declared.program.Program.{Program}
 use Rattle.asp_model.specs.declared.results.End.{End}
@@ -10,7 +10,7 @@ use Rattle.asp_model.specs.Sets.{Atoms}
 use Rattle.asp_model.specs.Models.{answers}
 use Rattle.asp_model.specs.Costs.{cost, optima}
 use Rattle.asp_model.specs.Consequences.{consequences}
-use Rattle.asp_model.specs.Texts.{answers_from, consequences_line, cost_line, ended_line}
+use Rattle.asp_model.specs.Texts.{answers_from, cost_line, ended_line}
 use Rattle.asp_make.specs.Ring.{ring}
 use Rattle.asp_json.specs.Json.{json_with}
 use Rattle.asp_named.specs.Told.{told_texts}
@@ -66,7 +66,7 @@ json_of given p mode end Ss best known texts = json_with p (record { mode = mode
 
 -- the line of the consequences: the texts of the outputs that some answer shows, or every one; or the numbers of the atoms
 abbrev pub told_line : Bool → Reasoning → Program → List ℕ
-told_line names w p = if names then named_line (told_texts w p) else consequences_line (Some (consequences w p (answers p)))
+told_line names w p = named_line (if names then told_texts w p else map decimal (consequences w p (answers p)))
 
 -- what is told in lines, or as JSON
 abbrev pub InForm : Form → Type 0 → Type 0 → Type 0
