@@ -282,7 +282,7 @@ pub prepares : (given : Options) (l l' : Option (List ℕ)) (r r' : ℕ) (p : Pr
 prepares given l l' r r' p (Ok x) ready same numbers wanting = (p, ready, numbers, same)
 prepares given l l' r r' p (Err status) ready same numbers wanting = over-why given l l' r r' p status ready wanting
 
--- what the program that is asked for is, and why there is none
+-- which program's answers are sought
 pub asked-is : (given : Options) (p q : Program) → Some q ≡ asked_if given p → q ≡ asked given p
 asked-is given p q is = by (is_named given) (has_numbers p) is
   where
@@ -290,21 +290,6 @@ asked-is given p q is = by (is_named given) (has_numbers p) is
     by true true e = cc
     by true false e = absurd cc
     by false n e = cc
-
-pub asked-numbers : (given : Options) (p q : Program) → Some q ≡ asked_if given p → HasNumbers given p
-asked-numbers given p q is = λ e. by (has_numbers p) (is ∙ ap (λ (b : Bool). cond b (named_if p) (Some p)) e)
-  where
-    by : (n : Bool) → Some q ≡ cond n (Some (named p)) None → n ≡ true
-    by true e = refl
-    by false e = absurd cc
-
-pub asked-none : (given : Options) (p : Program) → None ≡ asked_if given p → WhyNot given p Unnamed
-asked-none given p is = by (is_named given) (has_numbers p) is
-  where
-    by : (b n : Bool) → None ≡ cond b (cond n (Some (named p)) None) (Some p) → (b ≡ true) × (n ≡ false)
-    by true true e = absurd cc
-    by true false e = (refl, refl)
-    by false n e = absurd cc
 
 -- it is solved
 pub runs-ready : (given : Options) (l l' : Option (List ℕ)) (r r' : ℕ) (h h' : Option (List ℕ)) (w w' : ℕ) (p : Program) (o : Outcome) → given.split ≡ None → IsReady given l l' r r' p → HasNumbers given p → Solves given p h h' w w' o
