@@ -109,38 +109,6 @@ fn is_by(
     trail.held_before(Lit::new(shape.var, !side), place)
 }
 
-// Where the literal of an item followed, for this side.
-fn of_item(
-    alloc: Global,
-    lit: Lit,
-    side: bool,
-    at: usize,
-    trail: &Trail,
-    place: usize,
-    shape: &Shape,
-    row: &[Item],
-    marked: Marked<'_>,
-) -> Result<Option<Vec<Lit>>, AllocError>
-    requires ready { IsReady (before trail.now place) shape.now row.now }
-    requires at { at < length row.now }
-    requires by { IsBy side (before trail.now place) shape.now lit (item_at row.now at) }
-    ensures { IfOk result (λ r. IfSome r (λ n. IsBrief (before trail.now place) shape.now row.now lit n.items)) }
-{
-    let item = &row[at];
-    let head = Lit::new(shape.var, !side);
-    let lits = first_two(alloc, lit.complement(), head)?;
-    gather_marked(
-        lits,
-        side,
-        trail,
-        place,
-        need(shape, side),
-        item.weight,
-        row,
-        marked,
-    )
-}
-
 // The literals of the reason.
 fn literals(
     alloc: Global,
@@ -158,18 +126,36 @@ fn literals(
     ensures { IfOk result (λ r. IfSome r (λ n. IsBrief (before trail.now place) shape.now row.now lit n.items)) }
 {
     if lit.var() == shape.var {
-        let marked = held.of(body, lit.truth());
-        return of_variable(alloc, lit, trail, place, shape, row, marked);
+        return of_variable(
+            alloc,
+            lit,
+            trail,
+            place,
+            shape,
+            row,
+            held.of(body, lit.truth()),
+        );
     }
     let Some(at) = held.place_of(body, lit.var(), row.len()) else {
         return Ok(None);
     };
     let side = trail.held_before(Lit::new(shape.var, false), place);
-    if is_by(lit, side, at, trail, place, shape, row) {
-        let marked = held.of(body, side);
-        return of_item(alloc, lit, side, at, trail, place, shape, row, marked);
+    if !is_by(lit, side, at, trail, place, shape, row) {
+        return Ok(None);
     }
-    Ok(None)
+    let item = &row[at];
+    let head = Lit::new(shape.var, !side);
+    let lits = first_two(alloc, lit.complement(), head)?;
+    gather_marked(
+        lits,
+        side,
+        trail,
+        place,
+        need(shape, side),
+        item.weight,
+        row,
+        held.of(body, side),
+    )
 }
 
 /// The nogood by which the literal at a place followed from a body, if the marked literals give it.
