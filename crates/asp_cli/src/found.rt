@@ -239,12 +239,8 @@ pub fn with(found: Found, name: Name, text: &str) -> Option<Found>
                 ..found
             })
         }
-        Name::OptAll
-        | Name::Quiet
-        | Name::Names
-        | Name::Proof
-        | Name::Stats
-        | Name::Progress => None,
+        Name::OptAll | Name::Quiet | Name::Names | Name::Proof | Name::Stats | Name::Progress =>
+            None,
         Name::Split => {
             let parts = number(text, 1, MOST_PARTS)?;
             Some(Found {

@@ -56,12 +56,8 @@ impl Name {
             Name::Workers => "a number from 1 to 64",
             Name::Split => "a number from 1 to 100000",
             Name::Make => "a number from 3 to 2000",
-            Name::OptAll
-            | Name::Quiet
-            | Name::Names
-            | Name::Proof
-            | Name::Stats
-            | Name::Progress => "no value",
+            Name::OptAll | Name::Quiet | Name::Names | Name::Proof | Name::Stats | Name::Progress =>
+                "no value",
         }
     }
 }

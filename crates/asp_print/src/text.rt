@@ -417,14 +417,6 @@ pub fn print<K: Sink>(
     ensures quiet { OnOk result (K.faults sink.new ≡ K.faults sink.old) }
 {
     let mut waiting = Waiting::new();
-    put_results(
-        alloc,
-        sink,
-        &mut waiting,
-        program,
-        results,
-        brief,
-        names,
-    )?;
+    put_results(alloc, sink, &mut waiting, program, results, brief, names)?;
     flush(sink, &mut waiting)
 }

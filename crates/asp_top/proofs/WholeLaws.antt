@@ -440,9 +440,11 @@ consequences-asked : (given : Options) (p : Program) (w : Reasoning) (text : Lis
     → ¬ (answers (cond b (named p) p) ≡ []) × ToldOf given.form given.names (is_brief given) (cond b (named p) p) w text → TellsAll given p (Consequences w) text
 consequences-asked given p w text true settled sound numbers mode by told =
     let enough = numbers by in
-    let some : ¬ (answers p ≡ []) = λ none. told.0 (no-answers p sound enough none) in
-    (some, by-name given.form given.names (is_brief given) p w text (last-named (is_settled given) (seeks_consequences (Some given.mode)) (given.names || is_json given.form) true settled (sought-mode given.mode p w mode) by)
-    (told-named w (first_free p) p (split-named p sound enough) some) told.1)
+    let some : ¬ (answers p ≡ []) = λ none. told.0 (no-answers p sound enough none) in (
+      some,
+      by-name given.form given.names (is_brief given) p w text (last-named (is_settled given) (seeks_consequences (Some given.mode)) (given.names || is_json given.form) true settled (sought-mode given.mode p w mode) by)
+          (told-named w (first_free p) p (split-named p sound enough) some) told.1,
+    )
 consequences-asked given p w text false settled sound numbers mode by told =
     (told.0, by-number given.form given.names (is_brief given) p w text (last-named (is_settled given) (seeks_consequences (Some given.mode)) (given.names || is_json given.form) false settled (sought-mode given.mode p w mode) by) told.1)
 

@@ -83,11 +83,7 @@ fn is_named(options: &Options) -> bool
 }
 
 // The program whose answers are sought: with atoms for its outputs where consequences are told by name.
-fn asked(
-    alloc: Global,
-    options: &Options,
-    program: Program,
-) -> Result<Option<Program>, AllocError>
+fn asked(alloc: Global, options: &Options, program: Program) -> Result<Option<Program>, AllocError>
     requires { IsSound program }
     ensures asked { IfOk result (λ o. o ≡ asked_if options.now program) }
     ensures sound { IfOk result (λ o. IfSome o IsSound) }
