@@ -62,6 +62,13 @@ ground x.lp --
 told "no argument for aspenum" 30 "$both"
 ground x.lp -- --models 1 --
 told "aspenum's own --" 11 "$first"
+named='Consequences: red(1) red(2) red(3) red(4)\nCONSEQUENCES FOUND\n'
+ground x.lp -- -e brave
+told "consequences by name" 30 "$named"
+ground x.lp -- -e brave --names
+told "names that were asked for" 30 "$named"
+ground x.lp -- --split 1
+check "parts: status $status, wanted 0" [ "$status" -eq 0 ]
 ground 'a b' '' '*' "c'd\"" $'e\nf' -c 'n=$(x)' -- --models 1
 told "arguments of all kinds" 11 "$first"
 printf '%s\n--\n' 'a b' '' '*' "c'd\"" $'e\nf' -c 'n=$(x)' > "$room/wanted"
