@@ -4,7 +4,7 @@
     compare.py PROGRAM [COUNT [SEED]] [--no-clasp] [--smodels]     (PROGRAM may have words behind it: "build/aspenum --workers 4")
 
 With --smodels the programs are smodels texts, and the reference solves what tests/smodels.py makes of them. Each program has up to seven atoms and every kind of statement. In an enumeration, and where all optima are listed, the bytes
-must be the reference's, and where consequences are asked for; in an optimisation the closing lines, cost and count, must be. With a limit the number of answers must be
+must be the reference's, and where consequences are asked for, by numbers and by name, also of outputs of several literals; in an optimisation the closing lines, cost and count, must be. With a limit the number of answers must be
 the reference's, and they must be some of its answers in its order. Every fourth program is solved in parts too. Where clasp lists other answers than the
 reference, or with a limit another number of them, that is told and counted, and is no failure: clasp 3.3.5 is known to lose
 answers of choices over weight bodies.
@@ -108,6 +108,28 @@ MODES = {
 }
 
 
+def with_outputs(text):
+    """The program with outputs of no, one or several literals, two of them with one text."""
+    random_ = random.Random(text)
+    atoms = [int(line.split()[-1]) for line in text.split("\n") if line.startswith("4 ")]
+    lines = []
+    for name in ("x", "y", "y", "z"):
+        condition = literals(random_, atoms, 3)
+        lines.append(" ".join(map(str, [4, 1, name, len(condition), *condition])))
+    return text.removesuffix("0\n") + "\n".join(lines) + "\n0\n"
+
+
+def names_differ(aspenum, case):
+    """What is wrong with consequences by name, or nothing."""
+    text = with_outputs(case.text)
+    for mode in ("brave", "cautious"):
+        wanted = wanted_of(text, f"{mode} names")
+        given = run([*aspenum, "--mode", mode, "--names"], text)
+        if given.stdout.decode() != wanted:
+            return f"--mode {mode} --names differs from the reference"
+    return None
+
+
 def closing(text):
     """The lines behind the answers."""
     lines = text.split("\n")
@@ -137,6 +159,10 @@ def differs(aspenum, case):
             return f"{' '.join(words)} differs from the reference"
         if given.returncode != (20 if "UNSATISFIABLE" in wanted else 30):
             return f"the status is {given.returncode} with {' '.join(words)}"
+    if not case.words:
+        wrong = names_differ(aspenum, case)
+        if wrong:
+            return wrong
     for mode in ("enum", "optima"):
         count = len(answers(wanted_of(case.text, mode)))
         for limit in sorted({1, max(count, 1), count + 1}):

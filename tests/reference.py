@@ -3,7 +3,7 @@
 
     reference.py [enum|opt|optima|brave|cautious [LIMIT]] < program.aspif
 
-The mode optima is an optimisation that lists all optima. With a limit, which one for a single optimum and consequences take no
+The modes "brave names" and "cautious names" tell texts. The mode optima is an optimisation that lists all optima. With a limit, which one for a single optimum and consequences take no
 notice of, a list ends with so many answers: here the first ones, where aspenum may write others.
 
 Slow and plain on purpose: it shares nothing with the solver but the format.
@@ -135,7 +135,22 @@ def consequences(program, mode):
     yield "CONSEQUENCES FOUND"
 
 
+def named_consequences(program, mode):
+    """The lines of the texts that some answer shows, or every one."""
+    found = list(answers(program))
+    if not found:
+        yield "UNSATISFIABLE"
+        return
+    enough = any if mode == "brave names" else all
+    shown = [text for text, condition in program["outputs"] if enough(all(holds(l, atoms) for l in condition) for atoms in found)]
+    yield " ".join(["Consequences:"] + shown)
+    yield "CONSEQUENCES FOUND"
+
+
 def lines(program, mode, limit=0):
+    if mode in ("brave names", "cautious names"):
+        yield from named_consequences(program, mode)
+        return
     if mode in ("brave", "cautious"):
         yield from consequences(program, mode)
         return
