@@ -30,10 +30,10 @@ use Rattle.asp_top.specs.declared.status.Status.{Status}
 use Rattle.asp_top.specs.declared.status.Status.TheVariants.{All, NoModel, Partial, Unknown, Enough, Help, Memory, Usage, Refused, ReadFault, TooLong, Unnamed, WriteFault, Parts}
 use Rattle.asp_top.specs.declared.status.Outcome.{Outcome}
 use Rattle.asp_top.specs.Meaning.{has_model, has_model_in, is_some_of, mode_by, mode_of, status_for}
-use Rattle.asp_named.specs.Named.{has_numbers, named, named_if}
+use Rattle.asp_named.specs.Named.{has_numbers, named}
 use Rattle.asp_named.proofs.LimitLaws.{sound-named}
 use Rattle.asp_top.specs.Naming.{asked, asked_if, is_named}
-use Rattle.asp_top.specs.Notes.{is_answered, is_written}
+use Rattle.asp_top.specs.Notes.{is_written}
 use Rattle.asp_top.specs.Parting.{Divides, HandingMeans}
 use Rattle.asp_top.specs.Runs.{Around, DeliveryMeans, Does, DoesBy, HasNumbers, IsAnswered, IsDivided, IsExact, IsGiven, IsOver, IsReady, IsSaid, IsSentOn, IsSolved, Means, Prepares, Runs, Says, Solves, WhyNot, around, ask_of, layout_of, prepared_of, report_text, report_with, searched, set_aside, status_of, told_with}
 use Rattle.asp_top.specs.declared.prepare.Prepared.{Prepared}
