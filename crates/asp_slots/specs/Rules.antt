@@ -44,6 +44,10 @@ seeing n v = record { seen = n; own = v.own }
 abbrev pub drawing : ℕ → View → View
 drawing n v = record { seen = n + 1; own = n ∷ v.own }
 
+-- From v to w the seat drew a number, not one of those that it drew before.
+abbrev pub Draws : View → View → Type 0
+Draws v w = (n : ℕ) × (n < SLOT_COUNT) × (v.seen ≤ n) × NotIn n v.own × (w ≡ drawing n v)
+
 -- what a seat knows that is split from one
 abbrev pub fresh : View → View
 fresh v = record { seen = v.seen; own = [] }

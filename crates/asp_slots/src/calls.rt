@@ -1,14 +1,14 @@
 //! Adding to a row, and reading from it.
-ghost use Rattle.std.specs.Prelude.{◌≡◌, ◌+◌, ◌-◌, ◌∷◌, ◌++◌, ◌<◌, ◌≤◌, All, List, length, IfOk, IfErr, OnOk, OnErr};
+ghost use Rattle.std.specs.Prelude.{◌≡◌, ◌+◌, ◌-◌, ◌∷◌, ◌++◌, ◌<◌, ◌≤◌, true, false, All, List, length, IfOk, IfErr, OnOk, OnErr};
 ghost use Rattle.asp_vars.specs.declared.nogood.Nogood.{Nogood};
 ghost use Rattle.asp_log.specs.Entries.{IsEntry};
-ghost use Rattle.asp_slots.specs.Rules.{SLOT_COUNT, NotIn, drawing, seeing};
+ghost use Rattle.asp_slots.specs.Rules.{SLOT_COUNT, NotIn, Draws, drawing, seeing};
 ghost use Rattle.asp_slots.specs.Seats.{view, IsOf, IsBeside};
 
 use crate::row::{Row, RowSeat, SLOTS};
 use crate::slot::Placed;
 use asp_vars::nogood::Nogood;
-use std::alloc::AllocError;
+use std::alloc::{AllocError, Global};
 use std::sync::Wait;
 
 /// All numbers were drawn.
@@ -28,6 +28,7 @@ pub fn append<R: Wait>(
     requires of { IsOf row.now seat.old }
     requires entry { IsEntry row.now.program.value entry }
     ensures of { IsBeside seat.old seat.new }
+    ensures seen { (view seat.old).seen ≤ (view seat.new).seen }
     // The number is a new one.
     ensures number { IfOk result (λ placed. (placed.number < SLOT_COUNT) × ((view seat.old).seen ≤ placed.number) × NotIn placed.number (view seat.old).own) }
     ensures drawn { IfOk result (λ placed. view seat.new ≡ drawing placed.number (view seat.old)) }
@@ -80,6 +81,7 @@ pub fn read<R: Wait>(
     requires from { from ≤ (view seat.old).seen }
     ensures of { IsBeside seat.old seat.new }
     ensures seen { (view seat.old).seen ≤ (view seat.new).seen }
+    ensures few { (view seat.new).seen ≤ SLOT_COUNT }
     ensures own { (view seat.new).own ≡ (view seat.old).own }
     ensures ok { IfOk result (λ t. (t ≡ (view seat.new).seen) × ((added : List Nogood) × (list.new.items ≡ list.old.items ++ added) × (length added ≡ t - from) × All (IsEntry row.now.program.value) added)) }
     ensures err { OnErr result (list.new.items ≡ list.old.items) }
@@ -93,4 +95,40 @@ pub fn read<R: Wait>(
             Err(error)
         }
     }
+}
+
+/// Puts an entry into the slot with the next number. False where all numbers were drawn, and then the entry is dropped.
+pub(crate) fn add<R: Wait>(rt: &R, row: &Row, seat: &mut RowSeat, entry: Nogood) -> bool
+    requires of { IsOf row.now seat.old }
+    requires entry { IsEntry row.now.program.value entry }
+    ensures of { IsBeside seat.old seat.new }
+    ensures seen { (view seat.old).seen ≤ (view seat.new).seen }
+    ensures adds { result ≡ true → Draws (view seat.old) (view seat.new) }
+    ensures refuses { result ≡ false → view seat.new ≡ seeing SLOT_COUNT (view seat.old) }
+{
+    match append(rt, row, seat, entry) {
+        Ok(_) => true,
+        Err(_) => false,
+    }
+}
+
+/// Copies of the entries from a number on.
+pub(crate) fn copies<R: Wait>(
+    rt: &R,
+    alloc: Global,
+    row: &Row,
+    seat: &mut RowSeat,
+    from: u32,
+) -> Result<Vec<Nogood>, AllocError>
+    requires of { IsOf row.now seat.old }
+    requires from { from ≤ (view seat.old).seen }
+    ensures of { IsBeside seat.old seat.new }
+    ensures seen { (view seat.old).seen ≤ (view seat.new).seen }
+    ensures few { (view seat.new).seen ≤ SLOT_COUNT }
+    ensures count { IfOk result (λ copies. from + length copies.items ≡ (view seat.new).seen) }
+    ensures good { IfOk result (λ copies. All (IsEntry row.now.program.value) copies.items) }
+{
+    let mut copies = Vec::new(alloc);
+    let _count = read(rt, row, seat, from, &mut copies)?;
+    Ok(copies)
 }

@@ -1,4 +1,6 @@
-//! All answers of a text in aspif.
+//! All answers of a text in aspif, which is in memory: the crates as a library, by one call.
+#![tactic(auto)]
+
 ghost use Rattle.std.specs.Prelude.{◌≡◌, IfErr, IfOk, IfSome, Err, false, map};
 ghost use Rattle.asp_crew_laws.specs.Reports.{IsReport};
 ghost use Rattle.asp_model.specs.Models.{answers};
