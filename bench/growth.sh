@@ -3,9 +3,10 @@
 # usage: bench/growth.sh [--markdown] [--save FILE [--revision TEXT] [--machine TEXT]] [PROGRAM [BASE [KIND..]]]
 # with python3 at hand: BASE is the first size (4000). With --save the figures are kept for docs/pictures, in
 # bench/figures/growth.json.
-# Each kind has four answers at most, or one optimum. Seconds of processor time, 20 of them a run at most: what doesn't end is
-# shown as ">20", and no greater size of it is tried. A doubling that takes 3 times as long or more, or the limit, is flagged with "!",
-# unless it ends within 0.1 seconds, where the clock is too coarse. It asserts nothing: it is outside the gate.
+# Each kind has four answers at most, or one optimum; of the last three the consequences are sought. Seconds of processor time,
+# 20 of them a run at most: what doesn't end is shown as ">20", and no greater size of it is tried. A doubling that takes 3 times
+# as long or more, or the limit, is flagged with "!", unless it ends within 0.1 seconds, where the clock is too coarse. It asserts
+# nothing: it is outside the gate.
 set -eu
 exec env PYTHONPATH="$(dirname "$0")" PYTHONDONTWRITEBYTECODE=1 python3 - "$@" <<'PY'
 import argparse, math, os, resource, subprocess, sys, tempfile
@@ -97,31 +98,46 @@ def lattice(n):
     return [choice([side * side + 1]), rule(1, side * side + 1), *(rule(a, b) for p, q in near for a, b in ((p, q), (q, p)))]
 
 
+def one_out(n):
+    return [*(choice([i]) for i in to(n)), weight(0, 2, [-i for i in to(n)])]
+
+
+def exactly_one(n):
+    return [choice(to(n)), weight(0, 2, to(n)), rule(0, *(-i for i in to(n)))]
+
+
+def pairs(n):
+    triples = [(i, i + 1, i + 2) for i in range(1, n - 1, 3)]
+    return [it for a, b, c in triples for it in (rule(a, -b), rule(b, -a), rule(c, a), rule(c, b))]
+
+
 KINDS = {
     "weight body, half implied": weight_body, "n - 1 items by the bound": bound, "free atoms maximised": maximised,
     "items minimised at -1": negative, "priorities of 100 items": priorities, "atom with n supports": supports,
     "unfounded weight bodies": unfounded, "chain": chain, "ring": ring, "chain of both ways": two_ways, "lattice of both ways": lattice,
+    "at most one of n out": one_out, "one of a pair": pairs, "exactly one of n": exactly_one,
 }
+MODES = {"at most one of n out": "cautious", "one of a pair": "cautious", "exactly one of n": "brave"}
 
 
-def run(path):
+def run(path, mode):
     def limits():
         resource.setrlimit(resource.RLIMIT_CPU, (LIMIT, LIMIT + 1))
         resource.setrlimit(resource.RLIMIT_AS, (6 << 30, 6 << 30))
 
     with open(path, "rb") as text:
-        process = subprocess.Popen([program], stdin=text, stdout=subprocess.DEVNULL, stderr=subprocess.DEVNULL, preexec_fn=limits)
+        process = subprocess.Popen([program, "--mode", mode], stdin=text, stdout=subprocess.DEVNULL, stderr=subprocess.DEVNULL, preexec_fn=limits)
         _, status, used = os.wait4(process.pid, 0)
     return used.ru_utime + used.ru_stime, used.ru_maxrss / 1024, status
 
 
-def row(make, path):
+def row(make, path, mode):
     """For each size the seconds, whether it ended, and the memory; and the status of a run that has no answer."""
     found = {"seconds": [], "ended": [], "memory": []}
     for size in SIZES:
         with open(path, "w") as out:
             out.write("\n".join(["asp 1 0 0", *make(size), "0"]) + "\n")
-        time, most, status = run(path)
+        time, most, status = run(path, mode)
         stopped = os.WIFSIGNALED(status)
         if not stopped and os.WEXITSTATUS(status) not in (30, 20, 10):
             return {**found, "status": os.WEXITSTATUS(status)}
@@ -160,7 +176,7 @@ with tempfile.TemporaryDirectory() as room:
     for name, make in KINDS.items():
         if only and name not in only:
             continue
-        rows.append({"name": name, **row(make, f"{room}/text")})
+        rows.append({"name": name, **row(make, f"{room}/text", MODES.get(name, "auto"))})
         print(line([name, *cells(rows[-1])]), flush=True)
 saving.save(given, {"sizes": SIZES, "limit": LIMIT}, rows)
 PY

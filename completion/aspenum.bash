@@ -46,14 +46,14 @@ _aspenum() {
     for option in "${given[@]}"; do
         case $option in
             --proof) given+=(--split --opt-all --output --quiet) ;;
-            --split) given+=(--mode --models --opt-all --workers --budget --output --quiet --proof --stats --progress) ;;
+            --split) given+=(--mode --models --opt-all --workers --budget --output --quiet --names --proof --stats --progress) ;;
             --opt-all | --quiet) given+=(--split --proof) ;;
             --output) given+=(--split --proof --make) ;;
             --make) given+=(--output) ;;
-            --mode | --models | --workers | --budget | --stats | --progress) given+=(--split) ;;
+            --mode | --models | --workers | --budget | --names | --stats | --progress) given+=(--split) ;;
         esac
     done
-    for option in --mode --format --models --opt-all --workers --budget --output --quiet --proof --split --make --stats --progress; do
+    for option in --mode --format --models --opt-all --workers --budget --output --quiet --names --proof --split --make --stats --progress; do
         [[ " ${given[*]} " == *" $option "* ]] || left+=("$option")
     done
     [[ $last -ne 1 ]] || left+=(--help --version)

@@ -81,8 +81,8 @@ class Result:
     answers: Sequence[Answer] = field(default=(), repr=False)
     #: the best cost, the most significant priority first; None where nothing was minimised, or no answer was found
     cost: Optional[tuple[int, ...]] = None
-    #: with the modes "brave" and "cautious", the numbers of the atoms that are in some, or in every answer
-    consequences: Optional[tuple[int, ...]] = None
+    #: with the modes "brave" and "cautious", the texts that some, or every answer shows, in the order of the outputs
+    consequences: Optional[tuple[str, ...]] = None
 
     def __iter__(self) -> Iterator[Answer]:
         return iter(self.answers)
@@ -157,12 +157,12 @@ def solve(
 
 def _result_of(read: Mapping[str, Any]) -> Result:
     models = read["Models"]
-    costs, atoms = models.get("Costs"), read.get("Consequences")
+    costs, texts = models.get("Costs"), read.get("Consequences")
     return Result(
         word=read["Result"],
         finished=models["More"] == "no",
         number=models["Number"],
         answers=tuple(Answer(it["Value"], it.get("Costs")) for it in read["Call"][0].get("Witnesses", ())),
         cost=None if costs is None else tuple(costs),
-        consequences=None if atoms is None else tuple(atoms),
+        consequences=None if texts is None else tuple(texts),
     )

@@ -38,6 +38,7 @@ ROWS = [
     ("aspenum --output ", ["text", "json"], ["--stats", "README"]),
     ("aspenum --output=j", ["--output=json"], ["text"]),
     ("aspenum --opt-all --", ["--mode", "--models", "--quiet"], ["--help", "--version", "--proof", "--opt-all ", "--split"]),
+    ("aspenum --names --", ["--mode", "--proof", "--quiet"], ["--help", "--version", "--names ", "--split"]),
     ("aspenum -q --", ["--mode", "--models", "--opt-all"], ["--help", "--version", "--proof", "--quiet", "--split"]),
     ("aspenum --split 4 --", ["--make", "--format"], ["--help", "--version", "--proof", "--split ", "--mode", "--models", "--stats"]),
     ("aspenum --stats -n 3 --", ["--mode", "--workers", "--quiet"], ["--help", "--models", "--split"]),

@@ -1,5 +1,5 @@
 #!/usr/bin/env python3
-"""Reads with Python's json what the program writes with --output json, and holds it to what it writes as text.
+"""Reads with Python's json what the program writes with --output json, and holds it to what it writes as text, with --names.
 
     json_output.py PROGRAM [COUNT [SEED]]
 
@@ -31,7 +31,7 @@ def lines_of(told, status, consequences):
     if "Costs" in models:
         lines.append("".join(["Optimization:", *(f" {cost}" for cost in models["Costs"])]))
     if "Consequences" in told:
-        lines.append("".join(["Consequences:", *(f" {atom}" for atom in told["Consequences"])]))
+        lines.append("".join(["Consequences:", *(f" {text}" for text in told["Consequences"])]))
     word = told["Result"]
     if models["More"] == "yes" and word != "UNKNOWN":
         word = "LIMIT REACHED" if status == 11 else "BUDGET SPENT"
@@ -58,13 +58,16 @@ def faults(told, status):
         yield "Optimum"
     if "Optimum" in models and (models["Optimum"] == "yes") != (status in (11, 30)):
         yield "Optimum"
+    for word in ("Brave", "Cautious"):
+        if models.get(word, "yes" if status in (20, 30) else "unknown") != ("yes" if status in (20, 30) else "unknown"):
+            yield word
     if "Optimum" in models and models["Optimal"] != (models["Number"] if models["Optimum"] == "yes" else 0):
         yield "Optimal"
 
 
 def differs(program, words, text):
     """What is wrong with a program's JSON, if anything; None where its text is none of answers."""
-    plain = run(program, words, text)
+    plain = run(program, words if "--names" in words else ["--names", *words], text)
     if plain.returncode not in ANSWERED:
         return None
     made = run(program, ["--output", "json", *words], text)

@@ -62,9 +62,12 @@ def optimisations():
 
 
 def consequences():
-    check("brave", solve(CHOICE, mode="brave").consequences, (1, 2))
+    check("brave", solve(CHOICE, mode="brave").consequences, ("a", "b"))
     check("cautious", solve(CHOICE, mode="cautious").consequences, ())
     check("neither", solve(CHOICE).consequences, None)
+    both = CHOICE.replace("\n0\n", "\n4 2 ab 2 1 2\n4 3 c d 1 -1\n0\n")
+    check("conditions", solve(both, mode="brave").consequences, ("a", "b", "ab", "c d"))
+    check("none in each", solve(both, mode="cautious").consequences, ())
 
 
 def refusals():

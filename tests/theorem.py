@@ -35,7 +35,7 @@ BOXES = {
     "too long. See docs/DEFINITIONS.md",
     ("asp_smodels", "Outcome", "smodels_outcome"): "the reading of the format of smodels, in the same way",
     ("asp_make", "Ring", "ring"): "the program that `--make n` makes in place of one that is read: a colouring of a ring of n nodes",
-    ("asp_json", "Json", "json_text"): "the results as JSON: `json_text p r brief` has the program's answers `r.answers`, or else the best one, and what is said of them",
+    ("asp_json", "Json", "json_with"): "the results as JSON: `json_with p r texts brief` has the program's answers `r.answers`, or else the best one, or of consequences these texts, and what is said of them",
     ("asp_cli", "Given", "words_give"): "what the arguments of the command line say: `options` with their values, help, the version, or what is wrong with them",
     ("asp_cli", "Given", "options"): "that the arguments are options, with these values",
 }

@@ -1,17 +1,18 @@
 -- What some command lines give, computed by the definition.
 use Rattle.std.proofs.Common.{◌≡◌, [], ◌∷◌, true, false, Some, None, codes, refl}
-use Rattle.asp_model.specs.declared.results.Mode.TheVariants.{Enum, Opt}
+use Rattle.asp_model.specs.declared.results.Mode.TheVariants.{Enum, Opt, Consequences}
+use Rattle.asp_model.specs.declared.results.Reasoning.TheVariants.{Brave}
 use Rattle.asp_cli.specs.declared.Form.TheVariants.{Text, Json}
 use Rattle.asp_cli.specs.declared.Form.TheVariants.{Text}
 use Rattle.asp_cli.specs.declared.Format.TheVariants.{Aspif, Smodels}
 use Rattle.asp_cli.specs.declared.Options.{Options}
-use Rattle.asp_cli.specs.declared.names.Name.TheVariants.{Workers, Mode, Format, Budget, Models, OptAll, Output, Quiet, Proof, Make, Stats, Progress, Split}
+use Rattle.asp_cli.specs.declared.names.Name.TheVariants.{Workers, Mode, Format, Budget, Models, OptAll, Output, Quiet, Names, Proof, Make, Stats, Progress, Split}
 use Rattle.asp_cli.specs.Given.{bad_value, help, misuse, missing, no_words, options, rivals, twice, unexpected, unknown, version, words_give}
 use Rattle.asp_cli.specs.Hints.{counterpart, nearest}
 
 -- what is asked for where no option is given
 abbrev standard : Options
-standard = record { workers = 1; mode = None; format = Aspif; budget = 9223372036854775807; models = 0; all_optima = false; form = Text; quiet = false; make = None; stats = false; progress = false; proof = false; split = None }
+standard = record { workers = 1; mode = None; format = Aspif; budget = 9223372036854775807; models = 0; all_optima = false; form = Text; quiet = false; names = false; make = None; stats = false; progress = false; proof = false; split = None }
 
 empty_line : words_give [] ≡ misuse no_words
 empty_line = refl
@@ -68,6 +69,18 @@ quiet_short = refl
 
 quiet_in_both_forms : words_give (codes "aspenum" ∷ codes "--quiet" ∷ codes "-q" ∷ []) ≡ misuse (twice Quiet)
 quiet_in_both_forms = refl
+
+names : words_give (codes "aspenum" ∷ codes "-e" ∷ codes "brave" ∷ codes "--names" ∷ []) ≡ options (record standard { mode = Some (Consequences Brave); names = true })
+names = refl
+
+names_twice : words_give (codes "aspenum" ∷ codes "--names" ∷ codes "--names" ∷ []) ≡ misuse (twice Names)
+names_twice = refl
+
+names_of_parts : words_give (codes "aspenum" ∷ codes "--names" ∷ codes "--split=2" ∷ []) ≡ misuse (rivals Names Split)
+names_of_parts = refl
+
+names_with_a_value : words_give (codes "aspenum" ∷ codes "--names=1" ∷ []) ≡ misuse (bad_value Names (codes "1"))
+names_with_a_value = refl
 
 mode_short : words_give (codes "aspenum" ∷ codes "-e" ∷ codes "enum" ∷ []) ≡ options (record standard { mode = Some Enum })
 mode_short = refl
@@ -276,7 +289,7 @@ parts_twice = refl
 first_from_the_left : words_give (codes "aspenum" ∷ codes "--stats" ∷ codes "--budget=x" ∷ codes "--verson" ∷ []) ≡ misuse (bad_value Budget (codes "x"))
 first_from_the_left = refl
 
-all_options : words_give (codes "aspenum" ∷ codes "--make=2000" ∷ codes "--stats" ∷ codes "--mode=enum" ∷ codes "--budget=7" ∷ codes "--models=3" ∷ codes "--workers=4" ∷ codes "--format=smodels" ∷ []) ≡ options (record { workers = 4; mode = Some Enum; format = Smodels; budget = 7; models = 3; all_optima = false; form = Text; quiet = false; make = Some 2000; stats = true; progress = false; proof = false; split = None })
+all_options : words_give (codes "aspenum" ∷ codes "--make=2000" ∷ codes "--stats" ∷ codes "--mode=enum" ∷ codes "--budget=7" ∷ codes "--models=3" ∷ codes "--workers=4" ∷ codes "--format=smodels" ∷ []) ≡ options (record { workers = 4; mode = Some Enum; format = Smodels; budget = 7; models = 3; all_optima = false; form = Text; quiet = false; names = false; make = Some 2000; stats = true; progress = false; proof = false; split = None })
 all_options = refl
 
 -- ---- the format

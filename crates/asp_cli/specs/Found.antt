@@ -4,7 +4,7 @@ use Rattle.asp_model.specs.declared.results.Mode as results
 use Rattle.asp_model.specs.Asked.{reasoning_of}
 use Rattle.asp_cli.specs.declared.found.Found.{Found}
 use Rattle.asp_cli.specs.declared.names.Name.{Name}
-use Rattle.asp_cli.specs.declared.names.Name.TheVariants.{Mode, Format, Models, OptAll, Workers, Budget, Output, Quiet, Proof, Split, Make, Stats, Progress}
+use Rattle.asp_cli.specs.declared.names.Name.TheVariants.{Mode, Format, Models, OptAll, Workers, Budget, Output, Quiet, Names, Proof, Split, Make, Stats, Progress}
 use Rattle.asp_cli.specs.declared.walk.Awaits.TheVariants as awaits
 use Rattle.asp_cli.specs.declared.walk.State.{State}
 use Rattle.asp_cli.specs.declared.Options.{Options}
@@ -22,6 +22,7 @@ has f Models = is_some f.models
 has f OptAll = f.all_optima
 has f Output = is_some f.form
 has f Quiet = f.quiet
+has f Names = f.names
 has f Make = is_some f.make
 has f Stats = f.stats
 has f Progress = f.progress
@@ -47,9 +48,10 @@ solving f = if is_some f.mode then Some Mode
     else (if is_some f.budget then Some Budget
     else (if is_some f.form then Some Output
     else (if f.quiet then Some Quiet
+    else (if f.names then Some Names
     else (if f.proof then Some Proof
     else (if f.stats then Some Stats
-    else (if f.progress then Some Progress else None)))))))))
+    else (if f.progress then Some Progress else None))))))))))
 
 -- `--split`, if it was given
 abbrev pub dividing : Found → Option Name
@@ -97,6 +99,7 @@ found_with f Models t = option_map (λ n. record f { models = Some n }) (number_
 found_with f Make t = option_map (λ n. record f { make = Some n }) (number_within 3 2000 t)
 found_with f OptAll t = None
 found_with f Quiet t = None
+found_with f Names t = None
 found_with f Stats t = None
 found_with f Progress t = None
 found_with f Proof t = None
@@ -113,6 +116,7 @@ options_of f = record {
   all_optima = f.all_optima;
   form = unwrap_or f.form Text;
   quiet = f.quiet;
+  names = f.names;
   make = f.make;
   stats = f.stats;
   progress = f.progress;
@@ -122,4 +126,4 @@ options_of f = record {
 
 -- nothing was found yet
 abbrev pub start : State
-start = record { found = record { workers = None; mode = None; format = None; budget = None; models = None; all_optima = false; form = None; quiet = false; make = None; stats = false; progress = false; proof = false; split = None }; awaits = awaits.Option }
+start = record { found = record { workers = None; mode = None; format = None; budget = None; models = None; all_optima = false; form = None; quiet = false; names = false; make = None; stats = false; progress = false; proof = false; split = None }; awaits = awaits.Option }

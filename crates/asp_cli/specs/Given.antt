@@ -4,7 +4,7 @@ use Rattle.std.specs.List.{after_first, before_first, position_or_len}
 use Rattle.std.specs.Str.{bytes_eq}
 use Rattle.asp_cli.specs.declared.found.Found.{Found}
 use Rattle.asp_cli.specs.declared.names.Name.{Name}
-use Rattle.asp_cli.specs.declared.names.Name.TheVariants.{Mode, OptAll, Quiet, Stats, Progress, Proof}
+use Rattle.asp_cli.specs.declared.names.Name.TheVariants.{Mode, OptAll, Quiet, Names, Stats, Progress, Proof}
 use Rattle.asp_cli.specs.declared.walk.Awaits.TheVariants as awaits
 use Rattle.asp_cli.specs.declared.walk.Awaits.{Awaits}
 use Rattle.asp_cli.specs.declared.walk.State.{State}
@@ -110,6 +110,7 @@ told_with_value f name v w = if_ok (fresh f name w) (λ n. told_value f n v)
 abbrev pub told_name : Found → Name → State
 told_name f OptAll = record { found = record f { all_optima = true }; awaits = awaits.Option }
 told_name f Quiet = record { found = record f { quiet = true }; awaits = awaits.Option }
+told_name f Names = record { found = record f { names = true }; awaits = awaits.Option }
 told_name f Stats = record { found = record f { stats = true }; awaits = awaits.Option }
 told_name f Progress = record { found = record f { progress = true }; awaits = awaits.Option }
 told_name f Proof = record { found = record f { proof = true }; awaits = awaits.Option }

@@ -2,7 +2,7 @@
 use Rattle.std.specs.Prelude.{List, ℕ, Option, Some, None, codes, if◌then◌else◌}
 use Rattle.std.specs.Str.{bytes_eq}
 use Rattle.asp_cli.specs.declared.names.Name.{Name}
-use Rattle.asp_cli.specs.declared.names.Name.TheVariants.{Mode, Format, Models, OptAll, Workers, Budget, Output, Quiet, Proof, Split, Make, Stats, Progress}
+use Rattle.asp_cli.specs.declared.names.Name.TheVariants.{Mode, Format, Models, OptAll, Workers, Budget, Output, Quiet, Names, Proof, Split, Make, Stats, Progress}
 
 abbrev pub text_of : Name → List ℕ
 text_of Mode = codes "--mode"
@@ -13,6 +13,7 @@ text_of Workers = codes "--workers"
 text_of Budget = codes "--budget"
 text_of Output = codes "--output"
 text_of Quiet = codes "--quiet"
+text_of Names = codes "--names"
 text_of Proof = codes "--proof"
 text_of Split = codes "--split"
 text_of Make = codes "--make"
@@ -28,6 +29,7 @@ takes_of Workers = codes "a number from 1 to 64"
 takes_of Budget = codes "a number up to 9223372036854775807"
 takes_of Output = codes "text or json"
 takes_of Quiet = codes "no value"
+takes_of Names = codes "no value"
 takes_of Proof = codes "no value"
 takes_of Split = codes "a number from 1 to 100000"
 takes_of Make = codes "a number from 3 to 2000"
@@ -44,11 +46,12 @@ named t = if bytes_eq t (codes "--mode") then Some Mode
     else (if bytes_eq t (codes "--budget") then Some Budget
     else (if bytes_eq t (codes "--output") then Some Output
     else (if bytes_eq t (codes "--quiet") then Some Quiet
+    else (if bytes_eq t (codes "--names") then Some Names
     else (if bytes_eq t (codes "--proof") then Some Proof
     else (if bytes_eq t (codes "--split") then Some Split
     else (if bytes_eq t (codes "--make") then Some Make
     else (if bytes_eq t (codes "--stats") then Some Stats
-    else (if bytes_eq t (codes "--progress") then Some Progress else None))))))))))))
+    else (if bytes_eq t (codes "--progress") then Some Progress else None)))))))))))))
 
 -- The word for which a word stands. The short forms have long ones, and five words of clasp's have ours; any other stands for itself.
 abbrev pub meant : List ℕ → List ℕ

@@ -4,8 +4,8 @@ use Rattle.std.specs.Prelude.{ℕ, List, ◌++◌, codes}
 unfoldable pub usage_lines : List ℕ
 usage_lines = codes "usage: aspenum [--mode auto|enum|opt|brave|cautious] [--format aspif|smodels]\n"
     ++ codes "               [--models N] [--opt-all] [--workers 1..64] [--budget N]\n"
-    ++ codes "               [--output text|json] [--quiet] [--proof] [--split 1..100000]\n"
-    ++ codes "               [--make 3..2000] [--stats] [--progress]"
+    ++ codes "               [--output text|json] [--quiet] [--names] [--proof]\n"
+    ++ codes "               [--split 1..100000] [--make 3..2000] [--stats] [--progress]"
 
 -- the program's name and version
 abbrev pub version_line : List ℕ
@@ -41,6 +41,8 @@ page_back = codes "\n"
     ++ codes "                    beside --proof, --split or --make\n"
     ++ codes "  -q, --quiet       write no answers: only how many there are, the least cost,\n"
     ++ codes "                    and the atoms of brave and cautious\n"
+    ++ codes "  --names           brave and cautious: write the texts of the outputs that some\n"
+    ++ codes "                    answer shows, or every one; with --output json always\n"
     ++ codes "  --proof           write the proof of a finished run, for aspcheck, in place\n"
     ++ codes "                    of its results; not beside --opt-all, --quiet, brave or\n"
     ++ codes "                    cautious\n"

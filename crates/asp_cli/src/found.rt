@@ -30,6 +30,8 @@ pub struct Found {
     pub form: Option<Form>,
     /// Whether the closing lines alone were asked for.
     pub quiet: bool,
+    /// Whether consequences by name were asked for.
+    pub names: bool,
     /// The number of the example program that is to be written.
     pub make: Option<u32>,
     /// Whether counts of the run were asked for.
@@ -55,6 +57,7 @@ pub fn has(found: &Found, name: Name) -> bool
         Name::OptAll => found.all_optima,
         Name::Output => found.form.is_some(),
         Name::Quiet => found.quiet,
+        Name::Names => found.names,
         Name::Make => found.make.is_some(),
         Name::Stats => found.stats,
         Name::Progress => found.progress,
@@ -98,6 +101,8 @@ fn solving(found: &Found) -> Option<Name>
         Some(Name::Output)
     } else if found.quiet {
         Some(Name::Quiet)
+    } else if found.names {
+        Some(Name::Names)
     } else if found.proof {
         Some(Name::Proof)
     } else if found.stats {
@@ -234,7 +239,8 @@ pub fn with(found: Found, name: Name, text: &str) -> Option<Found>
                 ..found
             })
         }
-        Name::OptAll | Name::Quiet | Name::Proof | Name::Stats | Name::Progress => None,
+        Name::OptAll | Name::Quiet | Name::Names | Name::Proof | Name::Stats | Name::Progress =>
+            None,
         Name::Split => {
             let parts = number(text, 1, MOST_PARTS)?;
             Some(Found {
@@ -262,6 +268,7 @@ pub fn options(found: &Found) -> Options
         all_optima: found.all_optima,
         form: found.form.unwrap_or(Form::Text),
         quiet: found.quiet,
+        names: found.names,
         make: found.make,
         stats: found.stats,
         progress: found.progress,

@@ -116,6 +116,8 @@ fn first_near(strict: bool, word: &str) -> Option<&'static str>
         Some(Name::Output.text())
     } else if is_near(strict, word, Name::Quiet.text()) {
         Some(Name::Quiet.text())
+    } else if is_near(strict, word, Name::Names.text()) {
+        Some(Name::Names.text())
     } else if is_near(strict, word, Name::Proof.text()) {
         Some(Name::Proof.text())
     } else if is_near(strict, word, Name::Split.text()) {

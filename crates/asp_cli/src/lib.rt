@@ -56,6 +56,8 @@ pub struct Options {
     pub form: Form,
     /// Whether the closing lines alone are written, and no answer is made into text.
     pub quiet: bool,
+    /// Whether lines of text tell consequences by name, and not by the atoms' numbers.
+    pub names: bool,
     /// The number of nodes of the ring that is solved in place of a program that is read, if one is: 3 to 2000.
     pub make: Option<u32>,
     /// Whether the notes get counts of the run.

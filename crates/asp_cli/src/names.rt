@@ -13,6 +13,7 @@ pub enum Name {
     Budget,
     Output,
     Quiet,
+    Names,
     Proof,
     Split,
     Make,
@@ -34,6 +35,7 @@ impl Name {
             Name::Budget => "--budget",
             Name::Output => "--output",
             Name::Quiet => "--quiet",
+            Name::Names => "--names",
             Name::Proof => "--proof",
             Name::Split => "--split",
             Name::Make => "--make",
@@ -54,7 +56,8 @@ impl Name {
             Name::Workers => "a number from 1 to 64",
             Name::Split => "a number from 1 to 100000",
             Name::Make => "a number from 3 to 2000",
-            Name::OptAll | Name::Quiet | Name::Proof | Name::Stats | Name::Progress => "no value",
+            Name::OptAll | Name::Quiet | Name::Names | Name::Proof | Name::Stats | Name::Progress =>
+                "no value",
         }
     }
 }
@@ -79,6 +82,8 @@ pub fn named(word: &str) -> Option<Name>
         Some(Name::Output)
     } else if word == Name::Quiet.text() {
         Some(Name::Quiet)
+    } else if word == Name::Names.text() {
+        Some(Name::Names)
     } else if word == Name::Proof.text() {
         Some(Name::Proof)
     } else if word == Name::Split.text() {

@@ -6,8 +6,8 @@ ghost use Rattle.asp_cli.specs.Texts.{page_back, page_front, usage_lines, versio
 pub const USAGE: &str =
     "usage: aspenum [--mode auto|enum|opt|brave|cautious] [--format aspif|smodels]\n\
 \x20              [--models N] [--opt-all] [--workers 1..64] [--budget N]\n\
-\x20              [--output text|json] [--quiet] [--proof] [--split 1..100000]\n\
-\x20              [--make 3..2000] [--stats] [--progress]";
+\x20              [--output text|json] [--quiet] [--names] [--proof]\n\
+\x20              [--split 1..100000] [--make 3..2000] [--stats] [--progress]";
 
 /// The program's name and version.
 pub const VERSION: &str = "aspenum 0.1.0\n";
@@ -39,6 +39,8 @@ name, after '=':\n\
 \x20                   beside --proof, --split or --make\n\
 \x20 -q, --quiet       write no answers: only how many there are, the least cost,\n\
 \x20                   and the atoms of brave and cautious\n\
+\x20 --names           brave and cautious: write the texts of the outputs that some\n\
+\x20                   answer shows, or every one; with --output json always\n\
 \x20 --proof           write the proof of a finished run, for aspcheck, in place\n\
 \x20                   of its results; not beside --opt-all, --quiet, brave or\n\
 \x20                   cautious\n\

@@ -40,6 +40,7 @@ fn start() -> State
         all_optima: false,
         form: None,
         quiet: false,
+        names: false,
         make: None,
         stats: false,
         progress: false,
@@ -170,6 +171,13 @@ fn alone<'a>(found: Found, word: &'a str) -> Result<State, CliError<'a>>
         Ok(Name::Quiet) => Ok(State {
             found: Found {
                 quiet: true,
+                ..found
+            },
+            awaits: Awaits::Option,
+        }),
+        Ok(Name::Names) => Ok(State {
+            found: Found {
+                names: true,
                 ..found
             },
             awaits: Awaits::Option,

@@ -7,6 +7,8 @@ use Rattle.asp_model.specs.declared.results.End.{End}
 use Rattle.asp_model.specs.declared.results.End.TheVariants.{Finished, Limited, Unfinished}
 use Rattle.asp_model.specs.declared.results.Mode.{Mode}
 use Rattle.asp_model.specs.declared.results.Mode.TheVariants.{Enum, Opt, Consequences}
+use Rattle.asp_model.specs.declared.results.Reasoning.{Reasoning}
+use Rattle.asp_model.specs.declared.results.Reasoning.TheVariants.{Brave, Cautious}
 use Rattle.asp_model.specs.Found.{Found}
 use Rattle.asp_model.specs.Sets.{Atoms}
 use Rattle.asp_model.specs.Texts.{bests, found_count, shown}
@@ -43,16 +45,21 @@ recorded_text p (Consequences w) r = []
 abbrev pub call_text : Program → Found → Bool → List ℕ
 call_text p r brief = codes "{\"Solver\":\"aspenum\",\"Call\":[{" ++ (if brief then [] else recorded_text p r.mode r) ++ codes "}]"
 
--- the atoms that hold in some or in all answers, where that is known
-abbrev pub consequences_text : Option Atoms → List ℕ
-consequences_text None = []
-consequences_text (Some B) = codes ",\"Consequences\":" ++ array (map decimal B)
+-- the texts of the outputs that are shown where the atoms hold that are known of some or all answers
+abbrev pub known_texts : Program → Option Atoms → List (List ℕ)
+known_texts p None = []
+known_texts p (Some B) = shown p B
+
+-- these texts, where something is known
+abbrev pub consequences_text : Option Atoms → List (List ℕ) → List ℕ
+consequences_text None texts = []
+consequences_text (Some B) texts = codes ",\"Consequences\":" ++ array (map quoted texts)
 
 -- the same where it was asked for
-abbrev pub known_text : Mode → Found → List ℕ
-known_text Enum r = []
-known_text Opt r = []
-known_text (Consequences w) r = consequences_text r.known
+abbrev pub known_text : Mode → Found → List (List ℕ) → List ℕ
+known_text Enum r texts = []
+known_text Opt r texts = []
+known_text (Consequences w) r texts = consequences_text r.known texts
 
 -- what is said of a run that recorded so many answers; an optimisation reaches its limit only after it has found the best cost
 abbrev pub result_word : End → Mode → ℕ → List ℕ
@@ -90,11 +97,15 @@ abbrev pub optimum_text : End → ℕ → Option (Atoms × List ℤ) → List �
 optimum_text end k None = []
 optimum_text end k (Some best) = codes ",\"Optimum\":\"" ++ proven end ++ codes "\",\"Optimal\":" ++ decimal (proven_count end k) ++ costs_text best.1
 
--- the same where an optimisation was asked for
+abbrev pub reasoning_key : Reasoning → List ℕ
+reasoning_key Brave = codes ",\"Brave\":\""
+reasoning_key Cautious = codes ",\"Cautious\":\""
+
+-- of an optimisation what is known of its cost; of consequences whether they are known to be all
 abbrev pub best_text : Mode → Found → ℕ → List ℕ
 best_text Enum r k = []
 best_text Opt r k = optimum_text r.end k r.best
-best_text (Consequences w) r k = []
+best_text (Consequences w) r k = reasoning_key w ++ proven r.end ++ codes "\""
 
 abbrev pub result_text : Found → ℕ → List ℕ
 result_text r k = codes ",\"Result\":\"" ++ result_word r.end r.mode k ++ codes "\""
@@ -103,8 +114,12 @@ abbrev pub models_text : Found → ℕ → List ℕ
 models_text r k = codes ",\"Models\":{\"Number\":" ++ decimal k ++ codes ",\"More\":\"" ++ more r.end ++ codes "\"" ++ best_text r.mode r k ++ codes "}}\n"
 
 -- what follows the answers
-abbrev pub closing_text : Found → ℕ → List ℕ
-closing_text r k = known_text r.mode r ++ result_text r k ++ models_text r k
+abbrev pub closing_text : Found → List (List ℕ) → ℕ → List ℕ
+closing_text r texts k = known_text r.mode r texts ++ result_text r k ++ models_text r k
+
+-- with these texts where consequences are told
+abbrev pub json_with : Program → Found → List (List ℕ) → Bool → List ℕ
+json_with p r texts brief = call_text p r brief ++ closing_text r texts (found_count r.mode r)
 
 abbrev pub json_text : Program → Found → Bool → List ℕ
-json_text p r brief = call_text p r brief ++ closing_text r (found_count r.mode r)
+json_text p r brief = json_with p r (known_texts p r.known) brief

@@ -77,8 +77,8 @@ fn put_if_shown<K: Sink, A: Answer>(
     Ok(any)
 }
 
-// Puts out the texts that are shown, a comma between two.
-fn put_texts<K: Sink, A: Answer>(
+/// Puts out the texts that are shown, a comma between two.
+pub(crate) fn put_texts<K: Sink, A: Answer>(
     sink: &mut K,
     waiting: &mut Waiting,
     answer: &A,

@@ -1,5 +1,5 @@
 //! Lists of numbers in brackets.
-ghost use Rattle.std.specs.Prelude.{◌≡◌, ◌++◌, false, map, decimal};
+ghost use Rattle.std.specs.Prelude.{◌≡◌, ◌++◌, false, map};
 ghost use Rattle.std.specs.Fmt.{signed_decimal};
 ghost use Rattle.asp_buffer.specs.Out.{Puts, out};
 ghost use Rattle.asp_print.specs.Shown.{separator};
@@ -8,7 +8,6 @@ ghost use Rattle.asp_json.specs.Json.{array};
 
 use asp_buffer::{Waiting, put, put_number};
 use asp_io::{Failed, Sink};
-use asp_model::program::Atom;
 
 fn comma(any: bool) -> &'static [u8]
     ensures { result.now ≡ separator 44 any }
@@ -59,44 +58,5 @@ pub(crate) fn put_sums<K: Sink>(
 {
     put(sink, waiting, b"[")?;
     put_each_sum(sink, waiting, sums)?;
-    put(sink, waiting, b"]")
-}
-
-fn put_atom<K: Sink>(
-    sink: &mut K,
-    waiting: &mut Waiting,
-    any: bool,
-    atom: &Atom,
-) -> Result<(), Failed>
-    ensures { Puts (out (K.held sink.old) (K.faults sink.old) waiting.old)
-        (out (K.held sink.new) (K.faults sink.new) waiting.new) result (separator 44 any ++ decimal atom.now) }
-{
-    put_comma(sink, waiting, any)?;
-    put_number(sink, waiting, *atom)
-}
-
-fn put_each_atom<K: Sink>(sink: &mut K, waiting: &mut Waiting, atoms: &[Atom]) -> Result<(), Failed>
-    ensures { Puts (out (K.held sink.old) (K.faults sink.old) waiting.old)
-        (out (K.held sink.new) (K.faults sink.new) waiting.new) result (commas false (map decimal atoms.now)) }
-{
-    let mut any = false;
-    for atom in atoms {
-        put_atom(sink, waiting, any, atom)?;
-        any = true;
-    }
-    Ok(())
-}
-
-/// Puts out the numbers of atoms.
-pub(crate) fn put_atoms<K: Sink>(
-    sink: &mut K,
-    waiting: &mut Waiting,
-    atoms: &[Atom],
-) -> Result<(), Failed>
-    ensures { Puts (out (K.held sink.old) (K.faults sink.old) waiting.old)
-        (out (K.held sink.new) (K.faults sink.new) waiting.new) result (array (map decimal atoms.now)) }
-{
-    put(sink, waiting, b"[")?;
-    put_each_atom(sink, waiting, atoms)?;
     put(sink, waiting, b"]")
 }

@@ -2,18 +2,18 @@
 ghost use Rattle.std.specs.Prelude.{◌≡◌, ◌++◌, ◌≤◌, codes, decimal, map, OnErr, OnOk};
 ghost use Rattle.std.specs.Io.KnownBytes.{Appends};
 ghost use Rattle.asp_io.specs.Causes.{AppendsFront, Rose};
-ghost use Rattle.asp_model.specs.Texts.{found_count};
+ghost use Rattle.asp_model.specs.Texts.{found_count, shown};
 ghost use Rattle.asp_buffer.specs.Out.{Puts, out};
-ghost use Rattle.asp_json.specs.Json.{array, best_text, closing_text, consequences_text, costs_text, json_text, known_text, models_text, more, optimum_text, proven, proven_count, result_text, result_word};
+ghost use Rattle.asp_json.specs.Json.{array, best_text, closing_text, consequences_text, costs_text, json_text, known_text, known_texts, models_text, more, optimum_text, proven, proven_count, reasoning_key, result_text, result_word};
+ghost use Rattle.asp_json.specs.Quoting.{quoted};
 
-use crate::answers::{put_call, put_costs};
-use crate::lists::put_atoms;
+use crate::answers::{put_call, put_costs, put_texts};
 use asp_buffer::{Waiting, flush, put, put_number};
 use asp_io::{Failed, Sink};
 use asp_model::cost::Cost;
 use asp_model::interp::Interp;
 use asp_model::program::Program;
-use asp_model::results::{End, Mode, Results};
+use asp_model::results::{End, Mode, Reasoning, Results};
 use asp_print::found_count;
 use asp_rows::sets::Sets;
 use std::alloc::Global;
@@ -60,45 +60,50 @@ fn proven_count(end: End, count: usize) -> usize
     }
 }
 
+// Puts out the texts of the outputs that are shown where these atoms hold.
 fn put_consequences<K: Sink>(
     sink: &mut K,
     waiting: &mut Waiting,
+    program: &Program,
     known: &Interp,
 ) -> Result<(), Failed>
     ensures { Puts (out (K.held sink.old) (K.faults sink.old) waiting.old)
         (out (K.held sink.new) (K.faults sink.new) waiting.new) result
-        (codes ",\"Consequences\":" ++ array (map decimal known.now)) }
+        (codes ",\"Consequences\":" ++ array (map quoted (shown program.now known.now))) }
 {
-    put(sink, waiting, b",\"Consequences\":")?;
-    put_atoms(sink, waiting, known.as_slice())
+    put(sink, waiting, b",\"Consequences\":[")?;
+    put_texts(sink, waiting, known, &program.outputs)?;
+    put(sink, waiting, b"]")
 }
 
 fn put_found<K: Sink>(
     sink: &mut K,
     waiting: &mut Waiting,
+    program: &Program,
     known: &Option<Interp>,
 ) -> Result<(), Failed>
     ensures { Puts (out (K.held sink.old) (K.faults sink.old) waiting.old)
-        (out (K.held sink.new) (K.faults sink.new) waiting.new) result (consequences_text known.now) }
+        (out (K.held sink.new) (K.faults sink.new) waiting.new) result (consequences_text known.now (known_texts program.now known.now)) }
 {
     match known {
         None => put(sink, waiting, b""),
-        Some(known) => put_consequences(sink, waiting, known),
+        Some(known) => put_consequences(sink, waiting, program, known),
     }
 }
 
-// Puts out the atoms that hold in some or in all answers, where that was asked for.
+// Puts out the texts of what holds in some or in all answers, where that was asked for.
 fn put_known<K: Sink>(
     sink: &mut K,
     waiting: &mut Waiting,
+    program: &Program,
     results: &Results<Sets>,
 ) -> Result<(), Failed>
     ensures { Puts (out (K.held sink.old) (K.faults sink.old) waiting.old)
-        (out (K.held sink.new) (K.faults sink.new) waiting.new) result (known_text results.now.mode results.now) }
+        (out (K.held sink.new) (K.faults sink.new) waiting.new) result (known_text results.now.mode results.now (known_texts program.now results.now.known)) }
 {
     match results.mode {
         Mode::Enum | Mode::Opt => put(sink, waiting, b""),
-        Mode::Consequences(_) => put_found(sink, waiting, &results.known),
+        Mode::Consequences(_) => put_found(sink, waiting, program, &results.known),
     }
 }
 
@@ -160,7 +165,32 @@ fn put_optimum<K: Sink>(
     }
 }
 
-// Puts out what is known of the best cost, where an optimisation has one.
+fn reasoning_key(reasoning: Reasoning) -> &'static [u8]
+    ensures { result.now ≡ reasoning_key reasoning }
+{
+    match reasoning {
+        Reasoning::Brave => b",\"Brave\":\"",
+        Reasoning::Cautious => b",\"Cautious\":\"",
+    }
+}
+
+// Puts out whether the consequences are known to be all.
+fn put_reasoning<K: Sink>(
+    sink: &mut K,
+    waiting: &mut Waiting,
+    reasoning: Reasoning,
+    end: End,
+) -> Result<(), Failed>
+    ensures { Puts (out (K.held sink.old) (K.faults sink.old) waiting.old)
+        (out (K.held sink.new) (K.faults sink.new) waiting.new) result
+        (reasoning_key reasoning ++ proven end ++ codes "\"") }
+{
+    put(sink, waiting, reasoning_key(reasoning))?;
+    put(sink, waiting, proven(end))?;
+    put(sink, waiting, b"\"")
+}
+
+// Puts out what is known of the best cost, where an optimisation has one, or whether consequences are known to be all.
 fn put_best<K: Sink>(
     sink: &mut K,
     waiting: &mut Waiting,
@@ -172,8 +202,9 @@ fn put_best<K: Sink>(
         (best_text results.now.mode results.now count) }
 {
     match results.mode {
-        Mode::Enum | Mode::Consequences(_) => put(sink, waiting, b""),
+        Mode::Enum => put(sink, waiting, b""),
         Mode::Opt => put_optimum(sink, waiting, results, count),
+        Mode::Consequences(reasoning) => put_reasoning(sink, waiting, reasoning, results.end),
     }
 }
 
@@ -222,13 +253,14 @@ fn put_models<K: Sink>(
 fn put_closing<K: Sink>(
     sink: &mut K,
     waiting: &mut Waiting,
+    program: &Program,
     results: &Results<Sets>,
     count: usize,
 ) -> Result<(), Failed>
     ensures { Puts (out (K.held sink.old) (K.faults sink.old) waiting.old)
-        (out (K.held sink.new) (K.faults sink.new) waiting.new) result (closing_text results.now count) }
+        (out (K.held sink.new) (K.faults sink.new) waiting.new) result (closing_text results.now (known_texts program.now results.now.known) count) }
 {
-    put_known(sink, waiting, results)?;
+    put_known(sink, waiting, program, results)?;
     put_result(sink, waiting, results, count)?;
     put_models(sink, waiting, results, count)
 }
@@ -245,11 +277,11 @@ fn put_json<K: Sink>(
         (out (K.held sink.new) (K.faults sink.new) waiting.new) result (json_text program.now results.now brief) }
 {
     put_call(alloc, sink, waiting, program, results, brief)?;
-    put_closing(sink, waiting, results, found_count(results))
+    put_closing(sink, waiting, program, results, found_count(results))
 }
 
-/// Writes the results as JSON, with the keys that clasp has: unless the text is to be brief each answer on a line, then what holds in
-/// some or in all answers, where that was asked for, and what is said of the run and of the answers together. Where memory is short it
+/// Writes the results as JSON, with the keys that clasp has: unless the text is to be brief each answer on a line, then the texts that
+/// what holds in some or in all answers shows, where that was asked for, and what is said of the run and of the answers together. Where memory is short it
 /// takes longer. After an error a front of the text is out.
 pub fn print_json<K: Sink>(
     alloc: Global,

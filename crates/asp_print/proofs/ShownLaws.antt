@@ -1,5 +1,5 @@
 -- The texts of an answer, one after another, are joined by blanks.
-use Rattle.std.proofs.Common.{◌≡◌, ℕ, Bool, true, false, cond, ◌||◌, List, [], ◌∷◌, ◌++◌, map, ap, sym, refl, ◌∙◌, append-nil, ◌<◌, ◌+◌, length, get_or, drop}
+use Rattle.std.proofs.Common.{◌≡◌, ℕ, Bool, true, false, cond, ◌||◌, List, [], ◌∷◌, ◌++◌, map, flat_map, ap, sym, refl, ◌∙◌, append-nil, ◌<◌, ◌+◌, length, get_or, drop}
 use Rattle.std.specs.Prelude.{filter, if◌then◌else◌}
 use Rattle.std.specs.List.{join_with_byte}
 use Rattle.asp_model.specs.declared.program.Output.{Output}
@@ -47,6 +47,14 @@ pieces-joined sep S [] = refl
 pieces-joined sep S (o ∷ os) =
     ap (λ (t : List ℕ). piece sep S false o ++ t) (by_flag sep S (all_hold S o.condition) os)
     ∙ one_first sep (all_hold S o.condition) o (filter (λ (o : Output). all_hold S o.condition) os) _ _ (pieces-behind sep S os) (pieces-joined sep S os)
+
+behind-each : (sep : ℕ) (ts : List (List ℕ)) → behind sep ts ≡ flat_map (λ (t : List ℕ). sep ∷ t) ts
+behind-each sep [] = refl
+behind-each sep (t ∷ ts) = ap (λ (x : List ℕ). sep ∷ x) (join-cons sep t ts) ∙ ap (λ (x : List ℕ). sep ∷ (t ++ x)) (behind-each sep ts)
+
+-- texts that stand after another one: each after a separator
+pub pieces-after : (sep : ℕ) (S : Atoms) (os : List Output) → pieces sep S true os ≡ flat_map (λ (t : List ℕ). sep ∷ t) (shown_of S os)
+pieces-after sep S os = pieces-behind sep S os ∙ behind-each sep (shown_of S os)
 
 pub all_shown : (p : Program) (S : Atoms) → pieces 32 S false p.outputs ≡ join_with_byte 32 (shown p S)
 all_shown p S = pieces-joined 32 S p.outputs

@@ -66,19 +66,20 @@ fn put_if_shown<K: Sink, A: Answer>(
     Ok(any)
 }
 
-// Puts out the texts that are shown, one blank between two.
-fn put_texts<K: Sink, A: Answer>(
+/// Puts out the texts that are shown, one blank between two, and one before the first where another text stands there.
+pub(crate) fn put_texts<K: Sink, A: Answer>(
     sink: &mut K,
     waiting: &mut Waiting,
     answer: &A,
     outputs: &Outputs,
+    behind_another: bool,
 ) -> Result<(), Failed>
     requires { A.is_sound answer.now }
     ensures { Puts (out (K.held sink.old) (K.faults sink.old) waiting.old)
         (out (K.held sink.new) (K.faults sink.new) waiting.new) result
-        (pieces 32 (A.set answer.now) false outputs.now) }
+        (pieces 32 (A.set answer.now) behind_another outputs.now) }
 {
-    let mut any = false;
+    let mut any = behind_another;
     for i in 0..outputs.len() {
         any = put_if_shown(sink, waiting, answer, outputs.output(i), any)?;
     }
@@ -139,7 +140,7 @@ fn put_line<K: Sink>(
 {
     match table {
         Some(table) => put_runs(sink, waiting, atoms, row, outputs, table),
-        None => put_texts(sink, waiting, &Among { atoms, row }, outputs),
+        None => put_texts(sink, waiting, &Among { atoms, row }, outputs, false),
     }
 }
 
@@ -192,7 +193,7 @@ fn put_set_shown<K: Sink>(
         (out (K.held sink.new) (K.faults sink.new) waiting.new) result
         (ended_line (join_with_byte 32 (shown program.now set.now))) }
 {
-    put_texts(sink, waiting, set, &program.outputs)?;
+    put_texts(sink, waiting, set, &program.outputs, false)?;
     put(sink, waiting, b"\n")
 }
 

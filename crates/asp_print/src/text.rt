@@ -3,10 +3,11 @@ ghost use Rattle.std.specs.Prelude.{◌≡◌, ◌++◌, ◌≤◌, [], ◌∷�
 ghost use Rattle.std.specs.Fmt.{signed_decimal};
 ghost use Rattle.std.specs.Io.KnownBytes.{Appends};
 ghost use Rattle.asp_io.specs.Causes.{Rose, AppendsFront};
-ghost use Rattle.asp_model.specs.Texts.{answers_from, best_answers, bests, closing_lines, consequences_line, cost_line, count_line, count_mark, ended_line, found_count, how_many, recorded, results_text, sums_text, verdict};
+ghost use Rattle.asp_model.specs.Texts.{answers_from, best_answers, bests, closing_lines, consequences_line, cost_line, count_line, count_mark, ended_line, found_count, how_many, recorded, shown, verdict};
 ghost use Rattle.asp_buffer.specs.Out.{Puts, out};
+ghost use Rattle.asp_print.specs.Named.{known_line, known_names, named_line, printed_text, sums_line};
 
-use crate::answers::{put_answers, put_set};
+use crate::answers::{put_answers, put_set, put_texts};
 use asp_buffer::{Waiting, flush, put, put_number};
 use asp_io::{Failed, Sink};
 use asp_model::cost::Cost;
@@ -122,15 +123,66 @@ fn put_known<K: Sink>(
     }
 }
 
+// Puts out the line of the texts of the outputs that are shown where these atoms hold.
+fn put_named<K: Sink>(
+    sink: &mut K,
+    waiting: &mut Waiting,
+    program: &Program,
+    known: &Interp,
+) -> Result<(), Failed>
+    ensures { Puts (out (K.held sink.old) (K.faults sink.old) waiting.old)
+        (out (K.held sink.new) (K.faults sink.new) waiting.new) result (named_line (shown program.now known.now)) }
+{
+    put(sink, waiting, b"Consequences:")?;
+    put_texts(sink, waiting, known, &program.outputs, true)?;
+    put(sink, waiting, b"\n")
+}
+
+// Puts out that line, where something is known.
+fn put_names<K: Sink>(
+    sink: &mut K,
+    waiting: &mut Waiting,
+    program: &Program,
+    known: &Option<Interp>,
+) -> Result<(), Failed>
+    ensures { Puts (out (K.held sink.old) (K.faults sink.old) waiting.old)
+        (out (K.held sink.new) (K.faults sink.new) waiting.new) result (known_names program.now known.now) }
+{
+    match known {
+        None => put(sink, waiting, b""),
+        Some(known) => put_named(sink, waiting, program, known),
+    }
+}
+
+// Puts out the line of what holds in some or in all answers, by name or by the atoms' numbers.
+fn put_consequences<K: Sink>(
+    sink: &mut K,
+    waiting: &mut Waiting,
+    program: &Program,
+    known: &Option<Interp>,
+    names: bool,
+) -> Result<(), Failed>
+    ensures { Puts (out (K.held sink.old) (K.faults sink.old) waiting.old)
+        (out (K.held sink.new) (K.faults sink.new) waiting.new) result (known_line names program.now known.now) }
+{
+    if names {
+        put_names(sink, waiting, program, known)
+    } else {
+        put_known(sink, waiting, known)
+    }
+}
+
 // Puts out the cost line, or what holds in some or in all answers, where there is such a line.
 fn put_sums_line<K: Sink>(
     sink: &mut K,
     waiting: &mut Waiting,
+    program: &Program,
     results: &Results<Sets>,
+    names: bool,
 ) -> Result<(), Failed>
     ensures { Puts (out (K.held sink.old) (K.faults sink.old) waiting.old)
         (out (K.held sink.new) (K.faults sink.new) waiting.new) result
-        (sums_text results.now.mode results.now) }
+        (sums_line names program.now results.now.mode results.now) }
 {
     match results.mode {
         Mode::Enum => put(sink, waiting, b""),
@@ -138,7 +190,7 @@ fn put_sums_line<K: Sink>(
             Some((_, cost)) => put_cost(sink, waiting, cost),
             None => put(sink, waiting, b""),
         },
-        Mode::Consequences(_) => put_known(sink, waiting, &results.known),
+        Mode::Consequences(_) => put_consequences(sink, waiting, program, &results.known, names),
     }
 }
 
@@ -336,33 +388,35 @@ fn put_results<K: Sink>(
     program: &Program,
     results: &Results<Sets>,
     brief: bool,
+    names: bool,
 ) -> Result<(), Failed>
     ensures { Puts (out (K.held sink.old) (K.faults sink.old) waiting.old)
         (out (K.held sink.new) (K.faults sink.new) waiting.new) result
-        (results_text program.now results.now brief) }
+        (printed_text program.now results.now brief names) }
 {
     put_recorded(alloc, sink, waiting, program, results, brief)?;
-    put_sums_line(sink, waiting, results)?;
+    put_sums_line(sink, waiting, program, results, names)?;
     put_ending(sink, waiting, results)
 }
 
 /// Writes the text of the results: unless it is to be brief two lines for each answer, then in an optimisation the
-/// cost line, the word line and the count line; of consequences the line of the atoms and the word line. Where memory is wanting it
-/// takes longer. After an error a front of the text is out.
+/// cost line, the word line and the count line; of consequences their line, by name or by the atoms' numbers, and the word line.
+/// Where memory is wanting it takes longer. After an error a front of the text is out.
 pub fn print<K: Sink>(
     alloc: Global,
     sink: &mut K,
     program: &Program,
     results: &Results<Sets>,
     brief: bool,
+    names: bool,
 ) -> Result<(), Failed>
-    ensures all { OnOk result (Appends (K.held sink.old) (K.held sink.new) (results_text program.now results.now brief)) }
-    ensures front { OnErr result (AppendsFront (K.held sink.old) (K.held sink.new) (results_text program.now results.now brief)) }
+    ensures all { OnOk result (Appends (K.held sink.old) (K.held sink.new) (printed_text program.now results.now brief names)) }
+    ensures front { OnErr result (AppendsFront (K.held sink.old) (K.held sink.new) (printed_text program.now results.now brief names)) }
     ensures later { K.faults sink.old ≤ K.faults sink.new }
     ensures cause { OnErr result (Rose (K.faults sink.old) (K.faults sink.new)) }
     ensures quiet { OnOk result (K.faults sink.new ≡ K.faults sink.old) }
 {
     let mut waiting = Waiting::new();
-    put_results(alloc, sink, &mut waiting, program, results, brief)?;
+    put_results(alloc, sink, &mut waiting, program, results, brief, names)?;
     flush(sink, &mut waiting)
 }

@@ -1,6 +1,6 @@
 -- What each status means, from what reading, solving and writing did.
-use Rattle.std.proofs.Common.{◌≡◌, ℕ, ◌<◌, ◌≤◌, Bool, true, false, ◌||◌, List, [], ◌∷◌, length, refl, sym, ap, ◌∙◌, subst, inl, inr, arith}
-use Rattle.std.specs.Prelude.{ℤ, Option, None, Some, Result, Ok, Err, IfErr, IfOk, IfSome, IsErrOf, is_some}
+use Rattle.std.proofs.Common.{◌≡◌, ℕ, ◌<◌, ◌≤◌, Bool, true, false, cond, ◌||◌, List, [], ◌∷◌, length, refl, sym, ap, ◌∙◌, subst, inl, inr, arith}
+use Rattle.std.specs.Prelude.{ℤ, Option, None, Some, Result, Ok, Err, IfErr, IfOk, IfSome, IsErrOf, OnOk, is_some}
 use Rattle.std.proofs.lemmas.Bool.{false≢true}
 use Rattle.std.proofs.KnownBytes.{Keeps-refl}
 use Rattle.std.specs.Io.KnownBytes.{Appends, Keeps, IsAtEnd}
@@ -27,12 +27,15 @@ use Rattle.asp_make.specs.Texts.{parts_text}
 use Rattle.asp_crew_laws.specs.declared.report.Report.{Report}
 use Rattle.asp_crew_laws.specs.Reports.{asks_list, IsAsked, IsReport, Says as SaysReport}
 use Rattle.asp_top.specs.declared.status.Status.{Status}
-use Rattle.asp_top.specs.declared.status.Status.TheVariants.{All, NoModel, Partial, Unknown, Enough, Help, Memory, Usage, Refused, ReadFault, TooLong, WriteFault, Parts}
+use Rattle.asp_top.specs.declared.status.Status.TheVariants.{All, NoModel, Partial, Unknown, Enough, Help, Memory, Usage, Refused, ReadFault, TooLong, Unnamed, WriteFault, Parts}
 use Rattle.asp_top.specs.declared.status.Outcome.{Outcome}
 use Rattle.asp_top.specs.Meaning.{has_model, has_model_in, is_some_of, mode_by, mode_of, status_for}
+use Rattle.asp_named.specs.Named.{has_numbers, named, named_if}
+use Rattle.asp_named.proofs.LimitLaws.{sound-named}
+use Rattle.asp_top.specs.Naming.{asked, asked_if, is_named}
 use Rattle.asp_top.specs.Notes.{is_answered, is_written}
 use Rattle.asp_top.specs.Parting.{Divides, HandingMeans}
-use Rattle.asp_top.specs.Runs.{Around, DeliveryMeans, Does, DoesBy, IsDivided, IsExact, IsGiven, IsOver, IsReady, IsSaid, IsSentOn, IsSolved, Means, Prepares, Runs, Says, Solves, around, ask_of, layout_of, prepared_of, report_text, report_with, searched, set_aside, status_of, told_with}
+use Rattle.asp_top.specs.Runs.{Around, DeliveryMeans, Does, DoesBy, HasNumbers, IsAnswered, IsDivided, IsExact, IsGiven, IsOver, IsReady, IsSaid, IsSentOn, IsSolved, Means, Prepares, Runs, Says, Solves, WhyNot, around, ask_of, layout_of, prepared_of, report_text, report_with, searched, set_aside, status_of, told_with}
 use Rattle.asp_top.specs.declared.prepare.Prepared.{Prepared}
 use Rattle.asp_top.proofs.ToldLaws.{told-model, told-says, told-text}
 use Rattle.asp_model.specs.Sound.{IsSound}
@@ -53,7 +56,7 @@ Quiet a status = ¬ (status ≡ ReadFault) → a.reads' ≡ a.reads
 
 -- an accepted text says the program that is there, so no other is said
 given-exact : (given : Options) (a : Around) (p : Program) (status : Status) → IsGiven given.format given.make a p
-    → (¬ Rose a.writes a.writes' → is_answered status ≡ true) → Quiet a status → IsExact given a status
+    → (¬ Rose a.writes a.writes' → IsAnswered status) → Quiet a status → IsExact given a status
 given-exact given a program status source done quiet = record {
   accepted = λ text r w. inl (done w);
   refused = λ reads text fault line is out r. absurd (said given.make reads program source text is (errors.Refused fault line) out);
@@ -66,14 +69,15 @@ given-exact given a program status source done quiet = record {
     said (Some n) none p from text is e out = absurd cc
 
 exact : (given : Options) (a : Around) (report : Option Report) (status : Status) → Means given a report status → Quiet a status → IsExact given a status
-exact given a report All m quiet = given-exact given a m.solved.program All m.solved.source (λ w. refl) quiet
-exact given a report NoModel m quiet = given-exact given a m.solved.program NoModel m.solved.source (λ w. refl) quiet
-exact given a report Partial m quiet = given-exact given a m.solved.program Partial m.solved.source (λ w. refl) quiet
-exact given a report Unknown m quiet = given-exact given a m.solved.program Unknown m.solved.source (λ w. refl) quiet
-exact given a report Enough m quiet = given-exact given a m.solved.program Enough m.solved.source (λ w. refl) quiet
-exact given a report Parts m quiet = given-exact given a m.divided.program Parts m.divided.source (λ w. refl) quiet
+exact given a report All m quiet = given-exact given a m.solved.program All m.solved.source (λ w. inl refl) quiet
+exact given a report NoModel m quiet = given-exact given a m.solved.program NoModel m.solved.source (λ w. inl refl) quiet
+exact given a report Partial m quiet = given-exact given a m.solved.program Partial m.solved.source (λ w. inl refl) quiet
+exact given a report Unknown m quiet = given-exact given a m.solved.program Unknown m.solved.source (λ w. inl refl) quiet
+exact given a report Enough m quiet = given-exact given a m.solved.program Enough m.solved.source (λ w. inl refl) quiet
+exact given a report Parts m quiet = given-exact given a m.divided.program Parts m.divided.source (λ w. inl refl) quiet
 exact given a report WriteFault (inl m) quiet = given-exact given a m.solved.program WriteFault m.solved.source (λ w. absurd (w m.cause)) quiet
 exact given a report WriteFault (inr m) quiet = given-exact given a m.divided.program WriteFault m.divided.source (λ w. absurd (w m.cause)) quiet
+exact given a report Unnamed m quiet = given-exact given a m.program Unnamed m.source (λ w. inr refl) quiet
 exact given a report Help m quiet = absurd m
 exact given a report Usage m quiet = absurd m
 exact given a report Memory m quiet = record {
@@ -174,7 +178,7 @@ unsought (Some Opt) p e = refl
 unsought (Some (Consequences r)) p e = absurd (false≢true (sym e))
 
 written : (given : Options) (a : Around) (report : Option Report) → (s : IsSolved given a report) → (end : End) (model : Bool) → s.done.results.end ≡ end → has_model s.done.results ≡ model
-    → Appends a.held a.held' (report_text s.program (report_with (set_aside given s.program) s.done) (layout_of given)) → Means given a report (status_for end model)
+    → Appends a.held a.held' (report_text (asked given s.program) (report_with (set_aside given s.program) s.done) (layout_of given)) → Means given a report (status_for end model)
 written given a report s Finished true e m text = record { solved = s; end_is = e; model_is = m; text = text }
 written given a report s Finished false e m text = record { solved = s; end_is = e; model_is = m; text = text }
 written given a report s Limited model e m text = record { solved = s; end_is = e; model_is = limited-has (searched given s.program) (ask_of given s.program) given.budget s.done s.is e; text = text }
@@ -198,11 +202,19 @@ handed : (given : Options) (a : Around) (s : Status) (report : Option Report) �
 handed given a s report divided (inl m) = subst (Means given a report) (sym m.0) (record { divided = divided; text = m.1 })
 handed given a s report divided (inr m) = subst (Means given a report) (sym m.0) (inr (record { divided = divided; text = m.1; cause = m.2 }))
 
-runs-solved : (given : Options) (a : Around) (p : Program) (o : Outcome) → given.split ≡ None → IsGiven given.format given.make a p → IsSound p → a.reads ≤ a.reads' → a.reads' ≡ a.reads
+-- the program whose answers are sought is within the limits
+asked-sound : (given : Options) (p : Program) → IsSound p → HasNumbers given p → IsSound (asked given p)
+asked-sound given p sound numbers = by (is_named given) refl
+  where
+    by : (b : Bool) → is_named given ≡ b → IsSound (cond b (named p) p)
+    by true e = sound-named p sound (numbers e)
+    by false e = sound
+
+runs-solved : (given : Options) (a : Around) (p : Program) (o : Outcome) → given.split ≡ None → IsGiven given.format given.make a p → IsSound p → HasNumbers given p → a.reads ≤ a.reads' → a.reads' ≡ a.reads
     → Solves given p a.held a.held' a.writes a.writes' o → Runs given a o
-runs-solved given a p o whole from sound reads quiet (inl m) = subst (Runs given a) (sym m.0) (runs-memory given a m.1 reads (omega (arith, m.2)) quiet)
-runs-solved given a p o whole from sound reads quiet (inr s) =
-    let solved : IsSolved given a o.report = record { program = p; source = from; whole = whole; done = s.0; reports = s.2.reports; is = s.1.0; says = told-says given p (ask_of given p) s.0 s.0.results.end sound s.1.0.says; proof = s.1.1 } in
+runs-solved given a p o whole from sound numbers reads quiet (inl m) = subst (Runs given a) (sym m.0) (runs-memory given a m.1 reads (omega (arith, m.2)) quiet)
+runs-solved given a p o whole from sound numbers reads quiet (inr s) =
+    let solved : IsSolved given a o.report = record { program = p; source = from; sound = sound; numbers = numbers; whole = whole; done = s.0; reports = s.2.reports; is = s.1.0; says = told-says given p (ask_of given p) s.0 s.0.results.end (asked-sound given p sound numbers) s.1.0.says; proof = s.1.1 } in
     let means = delivered given a o.status o.report solved s.2.means in
     record { means = means; exact = exact given a o.report o.status means (λ isn't. quiet); later = (reads, s.2.later) }
 
@@ -252,16 +264,37 @@ over-unread given l l' r r' e status is none text some later cause stops quiet =
     subst (IsOver given l l' r r') (sym is) (λ h w. runs-unread given (around l l' r r' h h w w) e none (Keeps-refl h) (omega arith)
     (record { text = text; some_text = some; later = later; cause = λ fault. cause (err-of e fault); stops = stops; quiet = λ no. quiet (λ is. no (of-err e is)) }))
 
--- a program that is there is compiled, unless memory is wanting
-pub prepares : (given : Options) (l l' : Option (List ℕ)) (r r' : ℕ) (p : Program) (result : Result Prepared Status) → IsReady given l l' r r' p → IfOk result (λ x. x ≡ prepared_of given p) → IfErr result (λ s. s ≡ Memory)
+-- the program leaves too few numbers
+over-unnamed : (given : Options) (l l' : Option (List ℕ)) (r r' : ℕ) (p : Program) → IsReady given l l' r r' p → is_named given ≡ true → has_numbers p ≡ false → IsOver given l l' r r' Unnamed
+over-unnamed given l l' r r' p ready by_name full = λ h w.
+    let a = around l l' r r' h h w w in
+    let means : Means given a None Unnamed = record { untouched = record { none = refl; kept = Keeps-refl h }; program = p; source = ready.source h h w w; by_name = by_name; full = full } in
+    record { means = means; exact = exact given a None Unnamed means (λ isn't. ready.quiet); later = (ready.later, omega arith) }
+
+over-why : (given : Options) (l l' : Option (List ℕ)) (r r' : ℕ) (p : Program) (status : Status) → IsReady given l l' r r' p → WhyNot given p status → IsOver given l l' r r' status
+over-why given l l' r r' p Memory ready why = over-memory given l l' r r' Memory refl ready.later ready.quiet
+over-why given l l' r r' p Unnamed ready why = over-unnamed given l l' r r' p ready why.0 why.1
+over-why given l l' r r' p status ready why = absurd why
+
+-- a program that is there is compiled, unless memory or numbers are wanting
+pub prepares : (given : Options) (l l' : Option (List ℕ)) (r r' : ℕ) (p : Program) (result : Result Prepared Status) → IsReady given l l' r r' p → IfOk result (λ x. x ≡ prepared_of given p) → OnOk result (HasNumbers given p) → IfErr result (WhyNot given p)
     → Prepares given l l' r r' result
-prepares given l l' r r' p (Ok x) ready same wanting = (p, ready, same)
-prepares given l l' r r' p (Err status) ready same wanting = over-memory given l l' r r' status wanting ready.later ready.quiet
+prepares given l l' r r' p (Ok x) ready same numbers wanting = (p, ready, numbers, same)
+prepares given l l' r r' p (Err status) ready same numbers wanting = over-why given l l' r r' p status ready wanting
+
+-- which program's answers are sought
+pub asked-is : (given : Options) (p q : Program) → Some q ≡ asked_if given p → q ≡ asked given p
+asked-is given p q is = by (is_named given) (has_numbers p) is
+  where
+    by : (b n : Bool) → Some q ≡ cond b (cond n (Some (named p)) None) (Some p) → q ≡ cond b (named p) p
+    by true true e = cc
+    by true false e = absurd cc
+    by false n e = cc
 
 -- it is solved
-pub runs-ready : (given : Options) (l l' : Option (List ℕ)) (r r' : ℕ) (h h' : Option (List ℕ)) (w w' : ℕ) (p : Program) (o : Outcome) → given.split ≡ None → IsReady given l l' r r' p → Solves given p h h' w w' o
+pub runs-ready : (given : Options) (l l' : Option (List ℕ)) (r r' : ℕ) (h h' : Option (List ℕ)) (w w' : ℕ) (p : Program) (o : Outcome) → given.split ≡ None → IsReady given l l' r r' p → HasNumbers given p → Solves given p h h' w w' o
     → Runs given (around l l' r r' h h' w w') o
-runs-ready given l l' r r' h h' w w' p o whole ready solves = runs-solved given (around l l' r r' h h' w w') p o whole (ready.source h h' w w') ready.sound ready.later ready.quiet solves
+runs-ready given l l' r r' h h' w w' p o whole ready numbers solves = runs-solved given (around l l' r r' h h' w w') p o whole (ready.source h h' w w') ready.sound numbers ready.later ready.quiet solves
 
 -- it is divided
 runs-parted : (given : Options) (l l' : Option (List ℕ)) (r r' : ℕ) (h h' : Option (List ℕ)) (w w' : ℕ) (p : Program) (most : ℕ) (o : Outcome) → given.split ≡ Some most → IsReady given l l' r r' p
@@ -269,12 +302,12 @@ runs-parted : (given : Options) (l l' : Option (List ℕ)) (r r' : ℕ) (h h' : 
 runs-parted given l l' r r' h h' w w' p most o asked ready divides = runs-divided given (around l l' r r' h h' w w') p most o asked (ready.source h h' w w') ready.later ready.quiet divides
 
 -- it is divided or solved, as was asked
-pub runs-done : (given : Options) (l l' : Option (List ℕ)) (r r' : ℕ) (h h' : Option (List ℕ)) (w w' : ℕ) (p : Program) (o : Outcome) → IsReady given l l' r r' p → Does given p h h' w w' o
+pub runs-done : (given : Options) (l l' : Option (List ℕ)) (r r' : ℕ) (h h' : Option (List ℕ)) (w w' : ℕ) (p : Program) (o : Outcome) → IsReady given l l' r r' p → HasNumbers given p → Does given p h h' w w' o
     → Runs given (around l l' r r' h h' w w') o
-runs-done given l l' r r' h h' w w' p o ready done = go given.split refl done
+runs-done given l l' r r' h h' w w' p o ready numbers done = go given.split refl done
   where
     go : (m : Option ℕ) → given.split ≡ m → DoesBy m given p h h' w w' o → Runs given (around l l' r r' h h' w w') o
-    go None asked d = runs-ready given l l' r r' h h' w w' p o asked ready d
+    go None asked d = runs-ready given l l' r r' h h' w w' p o asked ready numbers d
     go (Some most) asked d = runs-parted given l l' r r' h h' w w' p most o asked ready d
 
 -- the units of a report are of its program
@@ -315,6 +348,7 @@ unwritten given l l' r r' status over = by status (over (Some []) 0).means
     by (Refused fault line) m = refl
     by ReadFault m = refl
     by TooLong m = refl
+    by Unnamed m = refl
     by WriteFault m = refl
     by Parts m = absurd (parts-have-text m.divided.cubes m.divided.parts.some (sym m.text))
 

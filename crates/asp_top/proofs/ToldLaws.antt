@@ -1,5 +1,5 @@
 -- What was found of a program without its facts, told with them: it is what was asked of the program, and its text.
-use Rattle.std.proofs.Common.{◌≡◌, ℕ, ◌+◌, Bool, true, false, not, ◌||◌, cond, List, [], ◌∷◌, ◌++◌, map, length, refl, sym, ap, ◌∙◌, subst, ℤ, Contains, inl, inr}
+use Rattle.std.proofs.Common.{◌≡◌, ℕ, ◌+◌, Bool, true, false, not, ◌&&◌, ◌||◌, cond, List, [], ◌∷◌, ◌++◌, map, filter, length, suc, refl, sym, ap, ◌∙◌, subst, ℤ, pos, negsuc, Contains, inl, inr}
 use Rattle.std.specs.Prelude.{Option, None, Some, Result, Ok, IfOk, IfSome, option_map, is_some, codes, decimal}
 use Rattle.std.specs.List.{join_with_byte}
 use Rattle.std.proofs.lemmas.List.{length-map}
@@ -14,7 +14,15 @@ use Rattle.asp_model.specs.Models.{answers}
 use Rattle.asp_model.specs.Consequences.{consequences_of}
 use Rattle.asp_model.specs.Found.{Found}
 use Rattle.asp_model.specs.Sound.{IsSound}
-use Rattle.asp_model.specs.Texts.{answer_lines, answers_from, best_answers, best_cost_line, bests, closing_lines, ended_line, found_count, recorded, results_text, sums_text}
+use Rattle.asp_model.specs.Texts.{answer_lines, answers_from, best_answers, best_cost_line, bests, closing_lines, ended_line, found_count, recorded, shown}
+use Rattle.asp_model.specs.declared.program.Output.{Output}
+use Rattle.asp_model.specs.Sets.{has}
+use Rattle.asp_model.specs.Holding.{all_hold, holds}
+use Rattle.asp_print.specs.Named.{known_line, named_line, printed_text, sums_line}
+use Rattle.asp_named.specs.Named.{named}
+use Rattle.asp_settle.proofs.ReadLaws.{has-united}
+use Rattle.asp_top.specs.Naming.{asked, is_json, is_named, is_settled}
+use Rattle.asp_cli.specs.Found.{seeks_consequences}
 use Rattle.asp_settle.specs.Settled.{facts_of, left_of, united, without}
 use Rattle.asp_settle.proofs.StableLaws.{contains-map}
 use Rattle.asp_settle.proofs.SettledLaws.{all-consequences, chosen-left, consequences-left, cost-left, optima-chosen, optima-left, optimum-left, same-answers, shown-left}
@@ -26,9 +34,9 @@ use Rattle.asp_crew_laws.specs.Proofs.{HasProof, HasProofAt}
 use Rattle.asp_cli.specs.declared.Options.{Options}
 use Rattle.asp_top.specs.Parting.{Divides}
 use Rattle.asp_top.specs.Meaning.{has_model, has_model_in, mode_of}
-use Rattle.asp_top.specs.Runs.{Concludes, Delivers, Does, DoesBy, IsCounted, Solves, ask_of, found_with, layout_of, is_settled, prepared_of, report_text, text_in, report_with, searched, set_aside, text_by, told_with}
+use Rattle.asp_top.specs.Runs.{Concludes, Delivers, Does, DoesBy, IsCounted, Solves, ask_of, found_with, layout_of, prepared_of, report_text, text_in, report_with, searched, set_aside, text_by, told_with}
 use Rattle.asp_top.specs.declared.counts.Tally.{Tally}
-use Rattle.asp_json.specs.Json.{array, best_costs, best_text, call_text, closing_text, json_text, known_text, models_text, more, optimum_text, recorded_text, result_text, witness, witnesses}
+use Rattle.asp_json.specs.Json.{array, best_costs, best_text, call_text, closing_text, json_text, known_text, known_texts, models_text, more, optimum_text, recorded_text, result_text, witness, witnesses}
 use Rattle.asp_json.specs.Quoting.{quoted}
 use Rattle.asp_cli.specs.declared.Form.{Form}
 use Rattle.asp_cli.specs.declared.Form.TheVariants.{Text, Json}
@@ -122,10 +130,50 @@ cost_line-with F (Some b) = refl
 abbrev told : Atoms → Found → Found
 told F r = record r { known = option_map (united F) r.known }
 
-sums-with : (F : Atoms) (mode : Mode) (r : Found) → sums_text mode (told F r) ≡ sums_text mode (found_with F r)
-sums-with F Enum r = refl
-sums-with F Opt r = cost_line-with F r.best
-sums-with F (Consequences w) r = refl
+-- two sets with the same atoms show the same
+holds-same : (S T : Atoms) → ((a : ℕ) → has S a ≡ has T a) → (l : ℤ) → holds S l ≡ holds T l
+holds-same S T h (pos a) = h a
+holds-same S T h (negsuc a) = ap not (h (suc a))
+
+all-same : (S T : Atoms) → ((a : ℕ) → has S a ≡ has T a) → (ls : List ℤ) → all_hold S ls ≡ all_hold T ls
+all-same S T h [] = refl
+all-same S T h (l ∷ ls) = ap (λ (b : Bool). b && all_hold S ls) (holds-same S T h l) ∙ ap (λ (b : Bool). holds T l && b) (all-same S T h ls)
+
+texts-same : (S T : Atoms) → ((a : ℕ) → has S a ≡ has T a) → (os : List Output) → map (λ (o : Output). o.text) (filter (λ (o : Output). all_hold S o.condition) os) ≡ map (λ (o : Output). o.text) (filter (λ (o : Output). all_hold T o.condition) os)
+texts-same S T h [] = refl
+texts-same S T h (o ∷ os) =
+    ap (λ (b : Bool). map (λ (x : Output). x.text) (cond b (o ∷ filter (λ (x : Output). all_hold S x.condition) os) (filter (λ (x : Output). all_hold S x.condition) os))) (all-same S T h o.condition)
+    ∙ by (all_hold T o.condition) (filter (λ (x : Output). all_hold S x.condition) os) (filter (λ (x : Output). all_hold T x.condition) os) (texts-same S T h os)
+  where
+    by : (b : Bool) (xs ys : List Output) → map (λ (x : Output). x.text) xs ≡ map (λ (x : Output). x.text) ys → map (λ (x : Output). x.text) (cond b (o ∷ xs) xs) ≡ map (λ (x : Output). x.text) (cond b (o ∷ ys) ys)
+    by true xs ys e = ap (λ (ts : List (List ℕ)). o.text ∷ ts) e
+    by false xs ys e = e
+
+or-twice : (a b : Bool) → ((a || b) || b) ≡ (a || b)
+or-twice true b = refl
+or-twice false true = refl
+or-twice false false = refl
+
+-- where the facts hold already
+shown-again : (p : Program) (B : Atoms) → shown (left_of p) (united (facts_of p) B) ≡ shown p (united (facts_of p) B)
+shown-again p B =
+    let F = facts_of p in
+    sym (shown-left p (united F B))
+    ∙ texts-same (united F (united F B)) (united F B) (λ a. has-united F (united F B) a ∙ ap (λ (b : Bool). b || has F a) (has-united F B a) ∙ or-twice (has B a) (has F a) ∙ sym (has-united F B a)) p.outputs
+
+known-again : (names : Bool) (p : Program) (known : Option Atoms) → known_line names (left_of p) (option_map (united (facts_of p)) known) ≡ known_line names p (option_map (united (facts_of p)) known)
+known-again false p known = refl
+known-again true p None = refl
+known-again true p (Some B) = ap named_line (shown-again p B)
+
+texts-again : (p : Program) (known : Option Atoms) → known_texts (left_of p) (option_map (united (facts_of p)) known) ≡ known_texts p (option_map (united (facts_of p)) known)
+texts-again p None = refl
+texts-again p (Some B) = shown-again p B
+
+sums-with : (names : Bool) (p : Program) (mode : Mode) (r : Found) → sums_line names (left_of p) mode (told (facts_of p) r) ≡ sums_line names p mode (found_with (facts_of p) r)
+sums-with names p Enum r = refl
+sums-with names p Opt r = cost_line-with (facts_of p) r.best
+sums-with names p (Consequences w) r = known-again names p r.known
 
 count-with : (F : Atoms) (mode : Mode) (r : Found) → found_count mode (told F r) ≡ found_count mode (found_with F r)
 count-with F Enum r = sym (length-map r.answers (united F))
@@ -137,14 +185,14 @@ recorded-told F Enum r = refl
 recorded-told F Opt r = refl
 recorded-told F (Consequences w) r = refl
 
-text-left : (p : Program) (r : Found) (brief : Bool) → results_text (left_of p) (told (facts_of p) r) brief ≡ results_text p (found_with (facts_of p) r) brief
-text-left p r brief =
+text-left : (p : Program) (r : Found) (brief names : Bool) → printed_text (left_of p) (told (facts_of p) r) brief names ≡ printed_text p (found_with (facts_of p) r) brief names
+text-left p r brief names =
     let F = facts_of p in
     let lines : answers_from (left_of p) 1 (recorded r.mode (told F r)) ≡ answers_from p 1 (recorded r.mode (found_with F r)) =
     ap (answers_from (left_of p) 1) (recorded-told F r.mode r) ∙ same-lines p 1 (recorded r.mode r) ∙ ap (answers_from p 1) (sym (recorded-with F r.mode r)) in
-    ap (λ xs. cond brief [] xs ++ sums_text r.mode (told F r) ++ closing_lines r (found_count r.mode (told F r))) lines
-    ∙ ap (λ xs. cond brief [] (answers_from p 1 (recorded r.mode (found_with F r))) ++ xs ++ closing_lines r (found_count r.mode (told F r))) (sums-with F r.mode r)
-    ∙ ap (λ k. cond brief [] (answers_from p 1 (recorded r.mode (found_with F r))) ++ sums_text r.mode (found_with F r) ++ closing_lines r k) (count-with F r.mode r)
+    ap (λ xs. cond brief [] xs ++ sums_line names (left_of p) r.mode (told F r) ++ closing_lines r (found_count r.mode (told F r))) lines
+    ∙ ap (λ xs. cond brief [] (answers_from p 1 (recorded r.mode (found_with F r))) ++ xs ++ closing_lines r (found_count r.mode (told F r))) (sums-with names p r.mode r)
+    ∙ ap (λ k. cond brief [] (answers_from p 1 (recorded r.mode (found_with F r))) ++ sums_line names p r.mode (found_with F r) ++ closing_lines r k) (count-with F r.mode r)
 
 -- ---- the same as JSON
 witness-left : (p : Program) (best : Option (Atoms × List ℤ)) (S : Atoms) → witness (left_of p) best S ≡ witness p best (united (facts_of p) S)
@@ -182,10 +230,10 @@ recorded_text-left p Opt r =
     ∙ witnesses-with (facts_of p) p r.best (bests (option_map (λ b. (united (facts_of p) b.0, b.1)) r.best) (map (united (facts_of p)) r.answers))
 recorded_text-left p (Consequences w) r = refl
 
-known_text-with : (F : Atoms) (mode : Mode) (r : Found) → known_text mode (told F r) ≡ known_text mode (found_with F r)
-known_text-with F Enum r = refl
-known_text-with F Opt r = refl
-known_text-with F (Consequences w) r = refl
+known_text-with : (F : Atoms) (mode : Mode) (r : Found) (texts : List (List ℕ)) → known_text mode (told F r) texts ≡ known_text mode (found_with F r) texts
+known_text-with F Enum r texts = refl
+known_text-with F Opt r texts = refl
+known_text-with F (Consequences w) r texts = refl
 
 optimum-with : (F : Atoms) (end : End) (k : ℕ) (best : Option (Atoms × List ℤ)) → optimum_text end k best ≡ optimum_text end k (option_map (λ b. (united F b.0, b.1)) best)
 optimum-with F end k None = refl
@@ -196,20 +244,21 @@ best_text-with F Enum r k = refl
 best_text-with F Opt r k = optimum-with F r.end k r.best
 best_text-with F (Consequences w) r k = refl
 
-closing-with : (F : Atoms) (r : Found) (k : ℕ) → closing_text (told F r) k ≡ closing_text (found_with F r) k
-closing-with F r k =
-    ap (λ (xs : List ℕ). xs ++ result_text r k ++ models_text (told F r) k) (known_text-with F r.mode r)
-    ∙ ap (λ (xs : List ℕ). known_text r.mode (found_with F r) ++ result_text r k ++ (codes ",\"Models\":{\"Number\":" ++ decimal k ++ codes ",\"More\":\"" ++ more r.end ++ codes "\"" ++ xs ++ codes "}}\n")) (best_text-with F r.mode r k)
+closing-with : (F : Atoms) (r : Found) (texts : List (List ℕ)) (k : ℕ) → closing_text (told F r) texts k ≡ closing_text (found_with F r) texts k
+closing-with F r texts k =
+    ap (λ (xs : List ℕ). xs ++ result_text r k ++ models_text (told F r) k) (known_text-with F r.mode r texts)
+    ∙ ap (λ (xs : List ℕ). known_text r.mode (found_with F r) texts ++ result_text r k ++ (codes ",\"Models\":{\"Number\":" ++ decimal k ++ codes ",\"More\":\"" ++ more r.end ++ codes "\"" ++ xs ++ codes "}}\n")) (best_text-with F r.mode r k)
 
 json-left : (p : Program) (r : Found) (brief : Bool) → json_text (left_of p) (told (facts_of p) r) brief ≡ json_text p (found_with (facts_of p) r) brief
 json-left p r brief =
     let F = facts_of p in
-    ap (λ (xs : List ℕ). codes "{\"Solver\":\"aspenum\",\"Call\":[{" ++ cond brief [] xs ++ codes "}]" ++ closing_text (told F r) (found_count r.mode (told F r))) (recorded_text-left p r.mode r)
-    ∙ ap (λ (xs : List ℕ). call_text p (found_with F r) brief ++ xs) (closing-with F r (found_count r.mode (told F r)) ∙ ap (closing_text (found_with F r)) (count-with F r.mode r))
+    let texts = known_texts (left_of p) (option_map (united F) r.known) in
+    ap (λ (xs : List ℕ). codes "{\"Solver\":\"aspenum\",\"Call\":[{" ++ cond brief [] xs ++ codes "}]" ++ closing_text (told F r) texts (found_count r.mode (told F r))) (recorded_text-left p r.mode r)
+    ∙ ap (λ (xs : List ℕ). call_text p (found_with F r) brief ++ xs) (closing-with F r texts (found_count r.mode (told F r)) ∙ ap (closing_text (found_with F r) texts) (count-with F r.mode r) ∙ ap (λ (ts : List (List ℕ)). closing_text (found_with F r) ts (found_count r.mode (found_with F r))) (texts-again p r.known))
 
-text_in-left : (form : Form) (p : Program) (r : Found) (brief : Bool) → text_in form (left_of p) (told (facts_of p) r) brief ≡ text_in form p (found_with (facts_of p) r) brief
-text_in-left Text p r brief = text-left p r brief
-text_in-left Json p r brief = json-left p r brief
+text_in-left : (form : Form) (p : Program) (r : Found) (brief names : Bool) → text_in form (left_of p) (told (facts_of p) r) brief names ≡ text_in form p (found_with (facts_of p) r) brief names
+text_in-left Text p r brief names = text-left p r brief names
+text_in-left Json p r brief names = json-left p r brief
 
 -- ---- with nothing set aside
 same-best : (best : Option (Atoms × List ℤ)) → option_map (λ b. (united [] b.0, b.1)) best ≡ best
@@ -252,23 +301,23 @@ unasked given e = by given.proof e
 text_without : (p : Program) (r : Report) (layout : Layout) → r.proof ≡ None → report_text (left_of p) (told_with (facts_of p) r) layout ≡ report_text p (report_with (facts_of p) r) layout
 text_without p r layout none =
     ap (λ proof. text_by proof (left_of p) (told (facts_of p) r.results) layout) none
-    ∙ text_in-left layout.form p r.results layout.brief
+    ∙ text_in-left layout.form p r.results layout.brief layout.names
     ∙ ap (λ proof. text_by proof p (found_with (facts_of p) r.results) layout) (sym none)
 
 pub told-text : (given : Options) (p : Program) (r : Report) (layout : Layout) → HasProof given.proof r →
-    report_text (searched given p) (told_with (set_aside given p) r) layout ≡ report_text p (report_with (set_aside given p) r) layout
-told-text given p r layout proof = by (is_settled given) refl
+    report_text (searched given p) (told_with (set_aside given p) r) layout ≡ report_text (asked given p) (report_with (set_aside given p) r) layout
+told-text given p r layout proof = by (asked given p) (is_settled given) refl
   where
-    by : (b : Bool) → is_settled given ≡ b → report_text (cond b (left_of p) p) (told_with (cond b (facts_of p) []) r) layout ≡ report_text p (report_with (cond b (facts_of p) []) r) layout
-    by true e = text_without p r layout (no-proof r.results.end r.results r.proof (subst (λ asked. HasProof asked r) (unasked given e) proof))
-    by false e = ap (λ x. report_text p x layout) (same-told r ∙ sym (same-report r))
+    by : (q : Program) (b : Bool) → is_settled given ≡ b → report_text (cond b (left_of q) q) (told_with (cond b (facts_of q) []) r) layout ≡ report_text q (report_with (cond b (facts_of q) []) r) layout
+    by q true e = text_without q r layout (no-proof r.results.end r.results r.proof (subst (λ wanted. HasProof wanted r) (unasked given e) proof))
+    by q false e = ap (λ x. report_text q x layout) (same-told r ∙ sym (same-report r))
 
-pub told-says : (given : Options) (p : Program) (ask : Ask) (r : Report) (end : End) → IsSound p → SaysReport (searched given p) ask r end → SaysReport p ask (report_with (set_aside given p) r) end
-told-says given p ask r end sound h = by (is_settled given) h
+pub told-says : (given : Options) (p : Program) (ask : Ask) (r : Report) (end : End) → IsSound (asked given p) → SaysReport (searched given p) ask r end → SaysReport (asked given p) ask (report_with (set_aside given p) r) end
+told-says given p ask r end sound h = by (asked given p) (is_settled given) sound h
   where
-    by : (b : Bool) → SaysReport (cond b (left_of p) p) ask r end → SaysReport p ask (report_with (cond b (facts_of p) []) r) end
-    by true s = says-left p ask r end sound s
-    by false s = subst (λ x. SaysReport p ask x end) (sym (same-report r)) s
+    by : (q : Program) (b : Bool) → IsSound q → SaysReport (cond b (left_of q) q) ask r end → SaysReport q ask (report_with (cond b (facts_of q) []) r) end
+    by q true sound s = says-left q ask r end sound s
+    by q false sound s = subst (λ x. SaysReport q ask x end) (sym (same-report r)) s
 
 some-known : (F : Atoms) (known : Option Atoms) → is_some (option_map (united F) known) ≡ is_some known
 some-known F None = refl
@@ -287,12 +336,20 @@ same-mode : (o : Option Mode) (p : Program) → mode_of o (left_of p) ≡ mode_o
 same-mode None p = refl
 same-mode (Some mode) p = refl
 
+named-mode : (o : Option Mode) (p : Program) → mode_of o (named p) ≡ mode_of o p
+named-mode None p = refl
+named-mode (Some mode) p = refl
+
 same-ask : (given : Options) (p : Program) → ask_of given (searched given p) ≡ ask_of given p
-same-ask given p = by (is_settled given)
+same-ask given p = by (asked given p) (is_settled given) ∙ named-ask (is_named given)
   where
-    by : (b : Bool) → ask_of given (cond b (left_of p) p) ≡ ask_of given p
-    by true = ap (λ mode. record { mode = mode; models = given.models; all_optima = given.all_optima }) (same-mode given.mode p)
-    by false = refl
+    by : (q : Program) (b : Bool) → ask_of given (cond b (left_of q) q) ≡ ask_of given q
+    by q true = ap (λ mode. record { mode = mode; models = given.models; all_optima = given.all_optima }) (same-mode given.mode q)
+    by q false = refl
+
+    named-ask : (b : Bool) → ask_of given (cond b (named p) p) ≡ ask_of given p
+    named-ask true = ap (λ mode. record { mode = mode; models = given.models; all_optima = given.all_optima }) (named-mode given.mode p)
+    named-ask false = refl
 
 -- what was searched, and with what it is told
 pub solves-by : (given : Options) (p : Program) (x : Prepared) (q : Program) (r : Report) (layout : Layout) (h h' : Option (List ℕ)) (w w' : ℕ) (o : Outcome) → x ≡ prepared_of given p → q ≡ x.compiled → layout ≡ layout_of given
@@ -315,7 +372,11 @@ from-ok {E = E} P s r is has = subst (λ (x : Result Report E). IfOk x P) is has
 
 -- where parts are asked for, the whole program is there
 whole-parted : (given : Options) (p : Program) (x : Prepared) (most : ℕ) → given.split ≡ Some most → x ≡ prepared_of given p → x.compiled ≡ p
-whole-parted given p x most asked is = ap (λ (y : Prepared). y.compiled) is ∙ ap (λ (b : Bool). cond b (left_of p) p) (by given.proof (ap is_some asked))
+whole-parted given p x most parted is =
+    let whole : is_settled given ≡ false = by given.proof (ap is_some parted) in
+    ap (λ (y : Prepared). y.compiled) is
+    ∙ ap (λ (b : Bool). cond b (left_of (asked given p)) (asked given p)) whole
+    ∙ ap (λ (b : Bool). cond (b && seeks_consequences (Some given.mode) && (given.names || is_json given.form)) (named p) p) whole
   where
     by : (b : Bool) → is_some given.split ≡ true → not (b || is_some given.split) ≡ false
     by true e = refl

@@ -1,7 +1,7 @@
 -- The exit statuses.
 use Rattle.std.specs.Prelude.{ℕ}
 use Rattle.asp_top.specs.declared.status.Status.{Status}
-use Rattle.asp_top.specs.declared.status.Status.TheVariants.{All, NoModel, Partial, Unknown, Enough, Help, Memory, Usage, Refused, ReadFault, TooLong, WriteFault, Parts}
+use Rattle.asp_top.specs.declared.status.Status.TheVariants.{All, NoModel, Partial, Unknown, Enough, Help, Memory, Usage, Refused, ReadFault, TooLong, Unnamed, WriteFault, Parts}
 
 abbrev pub code_of : Status → ℕ
 code_of All = 30
@@ -15,5 +15,6 @@ code_of Usage = 64
 code_of (Refused fault line) = 65
 code_of ReadFault = 66
 code_of TooLong = 67
+code_of Unnamed = 65
 code_of WriteFault = 74
 code_of Parts = 0

@@ -6,6 +6,7 @@ pub mod Progress
 pub mod Telling
 pub mod Meaning
 pub mod Parting
+pub mod Naming
 pub mod Runs
 pub mod Whole
 pub mod Words

@@ -15,7 +15,7 @@ use Rattle.asp_top.specs.declared.counts.Item.{Item}
 use Rattle.asp_top.specs.Counts.{item_text, loop_items, program_items, report_items, search_items, worker_items}
 use Rattle.asp_top.specs.Usage.{usage_text}
 use Rattle.asp_faults.specs.Faults.{fault_text}
-use Rattle.asp_top.specs.declared.status.Status.TheVariants.{All, NoModel, Partial, Unknown, Enough, Help, Memory, Usage, Refused, ReadFault, TooLong, WriteFault, Parts}
+use Rattle.asp_top.specs.declared.status.Status.TheVariants.{All, NoModel, Partial, Unknown, Enough, Help, Memory, Usage, Refused, ReadFault, TooLong, Unnamed, WriteFault, Parts}
 
 -- the lines for a status; none where results, parts, help or the version were asked for and written. Usage is here the status of
 -- words that can't be had
@@ -31,6 +31,7 @@ note_of Usage = codes "aspenum: an argument is not UTF-8" ++ usage_text
 note_of (Refused f line) = codes "aspenum: line " ++ decimal line ++ fault_text f ++ codes "\n"
 note_of ReadFault = codes "aspenum: read failed\n"
 note_of TooLong = codes "aspenum: input too long\n"
+note_of Unnamed = codes "aspenum: consequences can't be told by name: the numbers of atoms are too great\n"
 note_of WriteFault = codes "aspenum: write failed\n"
 note_of Parts = []
 

@@ -1,5 +1,5 @@
 -- What each status of a run says of the words, of the bytes read and of the bytes written.
-use Rattle.std.specs.Prelude.{◌≡◌, ◌⊎◌, ℕ, ◌≤◌, ◌==◌, Bool, true, false, not, ◌||◌, if◌then◌else◌, List, Option, None, Some, Result, Ok, Err, IfSome, is_some, length, map, option_map, ℤ, []}
+use Rattle.std.specs.Prelude.{◌≡◌, ◌⊎◌, ℕ, ◌≤◌, ◌==◌, Bool, true, false, ◌||◌, if◌then◌else◌, List, Option, None, Some, Result, Ok, Err, IfSome, is_some, length, map, option_map, ℤ, []}
 use Rattle.std.specs.Io.KnownBytes.{Appends, Keeps, IsAtEnd}
 use Rattle.asp_io.specs.Causes.{Rose, AppendsFront}
 use Rattle.asp_read.specs.declared.fault.Fault.{Fault}
@@ -12,8 +12,9 @@ use Rattle.asp_model.specs.declared.results.End.TheVariants.{Finished, Limited, 
 use Rattle.asp_model.specs.Found.{Found}
 use Rattle.asp_model.specs.Sets.{Atoms}
 use Rattle.asp_model.specs.Sound.{IsSound}
-use Rattle.asp_settle.specs.Settled.{facts_of, left_of, united}
-use Rattle.asp_model.specs.Texts.{results_text}
+use Rattle.asp_settle.specs.Settled.{united}
+use Rattle.asp_named.specs.Named.{has_numbers}
+use Rattle.asp_print.specs.Named.{printed_text}
 use Rattle.asp_json.specs.Json.{json_text}
 use Rattle.asp_proof.specs.declared.proof.Proof.{Proof}
 use Rattle.asp_proof.specs.Texts.{text_of}
@@ -36,11 +37,12 @@ use Rattle.asp_crew_laws.specs.Proofs.{HasProof}
 use Rattle.asp_top.specs.declared.deliver.Layout.{Layout}
 use Rattle.asp_top.specs.declared.prepare.Prepared.{Prepared}
 use Rattle.asp_top.specs.declared.status.Status.{Status}
-use Rattle.asp_top.specs.declared.status.Status.TheVariants.{All, NoModel, Partial, Unknown, Enough, Help, Memory, Usage, Refused, ReadFault, TooLong, WriteFault, Parts}
+use Rattle.asp_top.specs.declared.status.Status.TheVariants.{All, NoModel, Partial, Unknown, Enough, Help, Memory, Usage, Refused, ReadFault, TooLong, Unnamed, WriteFault, Parts}
 use Rattle.asp_top.specs.declared.status.Outcome.{Outcome}
 use Rattle.asp_top.specs.declared.counts.Tally.{Tally}
 use Rattle.asp_top.specs.Loops.{HasLoops}
 use Rattle.asp_top.specs.Meaning.{has_model, mode_of, status_for}
+use Rattle.asp_top.specs.Naming.{asked, facts_for, is_named, left_for}
 use Rattle.asp_top.specs.Notes.{IsNoted, is_answered, is_written, note_of, notes_of}
 use Rattle.asp_top.specs.Parting.{AreParts, Divides}
 use Rattle.asp_top.specs.Progress.{IsTold}
@@ -85,15 +87,15 @@ abbrev pub IsGiven : Format → Option ℕ → Around → Program → Type 0
 IsGiven f None a p = IsRead f a p
 IsGiven f (Some n) a p = (p ≡ ring n) × IsUnasked a
 
--- the text of results, in the form that was asked for
-abbrev pub text_in : Form → Program → Found → Bool → List ℕ
-text_in Text p r brief = results_text p r brief
-text_in Json p r brief = json_text p r brief
+-- the text of results, in the form that was asked for; `names` says whether lines tell consequences by name
+abbrev pub text_in : Form → Program → Found → Bool → Bool → List ℕ
+text_in Text p r brief names = printed_text p r brief names
+text_in Json p r brief names = json_text p r brief
 
 -- the text of a report: that of its proof, if it has one, and else that of its results
 abbrev pub text_by : Option Proof → Program → Found → Layout → List ℕ
 text_by (Some proof) p r layout = text_of proof
-text_by None p r layout = text_in layout.form p r layout.brief
+text_by None p r layout = text_in layout.form p r layout.brief layout.names
 
 abbrev pub report_text : Program → Report → Layout → List ℕ
 report_text p r layout = text_by r.proof p r.results layout
@@ -102,18 +104,14 @@ report_text p r layout = text_by r.proof p r.results layout
 abbrev pub ask_of : Options → Program → Ask
 ask_of given p = record { mode = mode_of given.mode p; models = given.models; all_optima = given.all_optima }
 
--- ---- facts are settled before the search
--- A proof is of the whole program, and so are parts.
-abbrev pub is_settled : Options → Bool
-is_settled given = not (given.proof || is_some given.split)
-
--- the program that is searched: what is left without the facts
+-- ---- outputs get atoms, and facts are settled, before the search
+-- the program that is searched
 abbrev pub searched : Options → Program → Program
-searched given p = if is_settled given then left_of p else p
+searched given p = left_for given (asked given p)
 
 -- the facts that are settled before
 abbrev pub set_aside : Options → Program → Atoms
-set_aside given p = if is_settled given then facts_of p else []
+set_aside given p = facts_for given (asked given p)
 
 -- what was found, each set with the facts
 abbrev pub found_with : Atoms → Found → Found
@@ -127,16 +125,23 @@ report_with F r = record r { results = found_with F r.results }
 abbrev pub told_with : Atoms → Report → Report
 told_with F r = record r { results = record r.results { known = option_map (united F) r.results.known } }
 
+-- There are numbers where outputs need atoms.
+abbrev pub HasNumbers : Options → Program → Type 0
+HasNumbers given p = is_named given ≡ true → has_numbers p ≡ true
+
 -- No parts are asked for. The report is that of a run on the program without the facts, with what is asked and the units that were given;
--- with the facts it says of the program what was asked, and has a proof if that was asked for.
+-- with the facts it says of the program what was asked, and has a proof if that was asked for. Where consequences are told by name all
+-- this is about the program with atoms for its outputs.
 pub record IsSolved (given : Options) (a : Around) (report : Option Report) : Type 0 where
   pub program : Program
   pub source : IsGiven given.format given.make a program
+  pub sound : IsSound program
+  pub numbers : HasNumbers given program
   pub whole : given.split ≡ None
   pub done : Report
   pub reports : report ≡ Some (told_with (set_aside given program) done)
   pub is : IsReport (searched given program) (ask_of given program) given.budget done
-  pub says : SaysReport program (ask_of given program) (report_with (set_aside given program) done) done.results.end
+  pub says : SaysReport (asked given program) (ask_of given program) (report_with (set_aside given program) done) done.results.end
   pub proof : HasProof given.proof done
 
 -- the closing lines alone are written of a ring, and where they were asked for
@@ -145,19 +150,19 @@ is_brief given = is_some given.make || given.quiet
 
 -- how the results are written
 abbrev pub layout_of : Options → Layout
-layout_of given = record { form = given.form; brief = is_brief given }
+layout_of given = record { form = given.form; brief = is_brief given; names = given.names }
 
 -- exactly the text of the report was written
 pub record IsWritten (given : Options) (a : Around) (report : Option Report) (end : End) (model : Bool) : Type 0 where
   pub solved : IsSolved given a report
   pub end_is : solved.done.results.end ≡ end
   pub model_is : has_model solved.done.results ≡ model
-  pub text : Appends a.held a.held' (report_text solved.program (report_with (set_aside given solved.program) solved.done) (layout_of given))
+  pub text : Appends a.held a.held' (report_text (asked given solved.program) (report_with (set_aside given solved.program) solved.done) (layout_of given))
 
 -- a front of that text was written, and a fault counted
 pub record IsCutOff (given : Options) (a : Around) (report : Option Report) : Type 0 where
   pub solved : IsSolved given a report
-  pub text : AppendsFront a.held a.held' (report_text solved.program (report_with (set_aside given solved.program) solved.done) (layout_of given))
+  pub text : AppendsFront a.held a.held' (report_text (asked given solved.program) (report_with (set_aside given solved.program) solved.done) (layout_of given))
   pub cause : Rose a.writes a.writes'
 
 -- the program was divided into parts as was asked, and not solved
@@ -199,6 +204,14 @@ pub record IsUnread (f : Format) (a : Around) (report : Option Report) : Type 0 
   pub cause : Rose a.reads a.reads'
   pub stops : StopsFor f most_bytes a.left a.left' (Err errors.ReadFault)
 
+-- consequences were to be told by name, and the program that was read or made leaves too few numbers for atoms of its outputs
+pub record IsUnnamed (given : Options) (a : Around) (report : Option Report) : Type 0 where
+  pub untouched : IsUntouched a report
+  pub program : Program
+  pub source : IsGiven given.format given.make a program
+  pub by_name : is_named given ≡ true
+  pub full : has_numbers program ≡ false
+
 -- how an outcome tells why no program was read
 abbrev pub status_of : ReadError → Status
 status_of errors.Memory = Memory
@@ -223,6 +236,7 @@ Means given a report Usage = ⊥
 Means given a report (Refused fault line) = Reads given × IsRefused given.format a report (errors.Refused fault line)
 Means given a report ReadFault = Reads given × IsUnread given.format a report
 Means given a report TooLong = Reads given × IsRefused given.format a report errors.TooLong
+Means given a report Unnamed = IsUnnamed given a report
 Means given a report WriteFault = IsCutOff given a report ⊎ ArePartsCutOff given a report
 Means given a report Parts = IsParted given a report
 
@@ -230,10 +244,15 @@ Means given a report Parts = IsParted given a report
 abbrev pub IsAccepted : Options → Around → Type 0
 IsAccepted given a = Reads given → (text : List ℕ) × (p : Program) × (a.left ≡ Some text) × (outcome_for given.format text ≡ Ok p)
 
+-- results or parts were written, or consequences can't be told by name
+abbrev pub IsAnswered : Status → Type 0
+IsAnswered status = (is_answered status ≡ true) ⊎ (status ≡ Unnamed)
+
 -- which status comes, but for want of memory
 pub record IsExact (given : Options) (a : Around) (status : Status) : Type 0 where
-  -- an accepted text, or a ring, where neither count rose, is answered, or divided where parts are asked for
-  pub accepted : IsAccepted given a → ¬ Rose a.reads a.reads' → ¬ Rose a.writes a.writes' → (is_answered status ≡ true) ⊎ (status ≡ Memory)
+  -- an accepted text, or a ring, where neither count rose, is answered, or divided where parts are asked for; or its
+  -- consequences can't be told by name
+  pub accepted : IsAccepted given a → ¬ Rose a.reads a.reads' → ¬ Rose a.writes a.writes' → IsAnswered status ⊎ (status ≡ Memory)
   -- a faulty text, where the source's count didn't rise, is refused
   pub refused : Reads given → (text : List ℕ) (fault : Fault) (line : ℕ) → a.left ≡ Some text → outcome_for given.format text ≡ Err (errors.Refused fault line) → ¬ Rose a.reads a.reads' → (status ≡ Refused fault line) ⊎ (status ≡ Memory)
   pub too_long : Reads given → (text : List ℕ) → a.left ≡ Some text → outcome_for given.format text ≡ Err errors.TooLong → ¬ Rose a.reads a.reads' → (status ≡ TooLong) ⊎ (status ≡ Memory)
@@ -302,9 +321,15 @@ IsOver given left left' reads reads' status =
 abbrev pub prepared_of : Options → Program → Prepared
 prepared_of given p = record { compiled = searched given p; facts = set_aside given p }
 
+-- why nothing is searched of a program that is there
+abbrev pub WhyNot : Options → Program → Status → Type 0
+WhyNot given p Memory = Unit {0}
+WhyNot given p Unnamed = (is_named given ≡ true) × (has_numbers p ≡ false)
+WhyNot given p status = ⊥
+
 -- The program is there, and what is searched of it.
 abbrev pub Prepares : Options → Option (List ℕ) → Option (List ℕ) → ℕ → ℕ → Result Prepared Status → Type 0
-Prepares given left left' reads reads' (Ok prepared) = (p : Program) × IsReady given left left' reads reads' p × (prepared ≡ prepared_of given p)
+Prepares given left left' reads reads' (Ok prepared) = (p : Program) × IsReady given left left' reads reads' p × HasNumbers given p × (prepared ≡ prepared_of given p)
 Prepares given left left' reads reads' (Err status) = IsOver given left left' reads reads' status
 
 -- ---- without a program

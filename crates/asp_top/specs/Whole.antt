@@ -1,5 +1,5 @@
 -- What a run that finished has read and written, said by the program alone: the theorem of docs/THEOREM.md.
-use Rattle.std.specs.Prelude.{◌≡◌, ℕ, ◌++◌, Bool, true, if◌then◌else◌, List, [], ◌∷◌, filter, length, Contains, Option, None, Some, Ok, IfSome, codes, decimal, ℤ}
+use Rattle.std.specs.Prelude.{◌≡◌, ℕ, ◌++◌, Bool, true, if◌then◌else◌, List, [], ◌∷◌, map, filter, length, Contains, Option, None, Some, Ok, IfSome, codes, decimal, ℤ}
 use Rattle.std.specs.Io.KnownBytes.{Appends}
 use Rattle.asp_model.specs.declared.program.Program.{Program}
 use Rattle.asp_model.specs.declared.results.End.{End}
@@ -10,9 +10,12 @@ use Rattle.asp_model.specs.Sets.{Atoms}
 use Rattle.asp_model.specs.Models.{answers}
 use Rattle.asp_model.specs.Costs.{cost, optima}
 use Rattle.asp_model.specs.Consequences.{consequences}
-use Rattle.asp_model.specs.Texts.{answers_from, consequences_line, cost_line, ended_line}
+use Rattle.asp_model.specs.Texts.{answers_from, cost_line, ended_line}
 use Rattle.asp_make.specs.Ring.{ring}
-use Rattle.asp_json.specs.Json.{json_text}
+use Rattle.asp_json.specs.Json.{json_with}
+use Rattle.asp_named.specs.Told.{told_texts}
+use Rattle.asp_print.specs.Named.{named_line}
+use Rattle.asp_model.specs.declared.results.Reasoning.{Reasoning}
 use Rattle.asp_cli.specs.declared.Form.{Form}
 use Rattle.asp_cli.specs.declared.Form.TheVariants.{Text, Json}
 use Rattle.asp_cli.specs.declared.Format.{Format}
@@ -56,9 +59,14 @@ none_text (Consequences w) = ended_line (codes "UNSATISFIABLE")
 abbrev pub listed_optima : Options → Program → List Atoms
 listed_optima given p = if given.all_optima then optima p else []
 
--- the text as JSON of results of this mode and end, with these answers, this best one with its cost, and these consequences
-abbrev pub json_of : Options → Program → Mode → End → List Atoms → Option (Atoms × List ℤ) → Option Atoms → List ℕ
-json_of given p mode end Ss best known = json_text p (record { mode = mode; end = end; answers = Ss; best = best; known = known }) (is_brief given)
+-- the text as JSON of results of this mode and end, with these answers, this best one with its cost, and these consequences, which the
+-- texts tell
+abbrev pub json_of : Options → Program → Mode → End → List Atoms → Option (Atoms × List ℤ) → Option Atoms → List (List ℕ) → List ℕ
+json_of given p mode end Ss best known texts = json_with p (record { mode = mode; end = end; answers = Ss; best = best; known = known }) texts (is_brief given)
+
+-- the line of the consequences: the texts of the outputs that some answer shows, or every one; or the numbers of the atoms
+abbrev pub told_line : Bool → Reasoning → Program → List ℕ
+told_line names w p = named_line (if names then told_texts w p else map decimal (consequences w p (answers p)))
 
 -- what is told in lines, or as JSON
 abbrev pub InForm : Form → Type 0 → Type 0 → Type 0
@@ -67,24 +75,24 @@ InForm Json lines json = json
 
 -- There is no answer, and the text says so.
 abbrev pub TellsNone : Options → Program → Mode → List ℕ → Type 0
-TellsNone given p mode text = (answers p ≡ []) × InForm given.form (text ≡ none_text mode) (text ≡ json_of given p mode Finished [] None None)
+TellsNone given p mode text = (answers p ≡ []) × InForm given.form (text ≡ none_text mode) (text ≡ json_of given p mode Finished [] None None [])
 
--- There are answers, and all that is asked for is written: all answers; one optimum, or all of them, with the cost; the atoms that are
--- in some answer, or in each.
+-- There are answers, and all that is asked for is written: all answers; one optimum, or all of them, with the cost; what some answer
+-- shows, or every one.
 abbrev pub TellsAll : Options → Program → Mode → List ℕ → Type 0
 TellsAll given p Enum text = ¬ (answers p ≡ []) × InForm given.form (text ≡ listed given p (answers p) ++ closing (codes "SATISFIABLE") (decimal (length (answers p))))
-    (text ≡ json_of given p Enum Finished (answers p) None None)
+    (text ≡ json_of given p Enum Finished (answers p) None None [])
 TellsAll given p Opt text = (S : Atoms) × Contains (optima p) S × InForm given.form (text ≡ listed given p (written_optima given p S) ++ cost_line (cost p S) ++ closing (codes "OPTIMUM FOUND") (decimal (length (written_optima given p S))))
-    (text ≡ json_of given p Opt Finished (listed_optima given p) (Some (S, cost p S)) None)
-TellsAll given p (Consequences w) text = ¬ (answers p ≡ []) × InForm given.form (text ≡ consequences_line (Some (consequences w p (answers p))) ++ ended_line (codes "CONSEQUENCES FOUND"))
-    (text ≡ json_of given p (Consequences w) Finished [] None (Some (consequences w p (answers p))))
+    (text ≡ json_of given p Opt Finished (listed_optima given p) (Some (S, cost p S)) None [])
+TellsAll given p (Consequences w) text = ¬ (answers p ≡ []) × InForm given.form (text ≡ told_line given.names w p ++ ended_line (codes "CONSEQUENCES FOUND"))
+    (text ≡ json_of given p (Consequences w) Finished [] None (Some (consequences w p (answers p))) (told_texts w p))
 
 -- As many answers as `--models` asks for are written, or with `--opt-all` as many optima.
 abbrev pub TellsEnough : Options → Program → Mode → List ℕ → Type 0
 TellsEnough given p Enum text = (Ss : List Atoms) × ArePicked given.models (answers p) Ss × InForm given.form (text ≡ listed given p Ss ++ closing (codes "LIMIT REACHED") (decimal given.models ++ codes "+"))
-    (text ≡ json_of given p Enum Limited Ss None None)
+    (text ≡ json_of given p Enum Limited Ss None None [])
 TellsEnough given p Opt text = (S : Atoms) × (Ss : List Atoms) × Contains (optima p) S × ArePicked given.models (optima p) Ss × InForm given.form (text ≡ listed given p Ss ++ cost_line (cost p S) ++ closing (codes "LIMIT REACHED") (decimal given.models ++ codes "+"))
-    (text ≡ json_of given p Opt Limited Ss (Some (S, cost p S)) None)
+    (text ≡ json_of given p Opt Limited Ss (Some (S, cost p S)) None [])
 TellsEnough given p (Consequences w) text = ⊥
 
 -- ---- the theorem

@@ -1,7 +1,7 @@
 //! What a run writes of its report, and the outcome then.
 ghost use Rattle.std.specs.Prelude.{◌≡◌, None, OnOk, true};
 ghost use Rattle.asp_json.specs.Json.{json_text};
-ghost use Rattle.asp_model.specs.Texts.{results_text};
+ghost use Rattle.asp_print.specs.Named.{printed_text};
 ghost use Rattle.asp_proof.specs.Texts.{text_of};
 ghost use Rattle.asp_top.specs.Notes.{Writes};
 ghost use Rattle.asp_top.specs.Runs.{Delivers, IsSentOn, TellsFaults, report_text, text_in};
@@ -27,6 +27,8 @@ pub struct Layout {
     pub form: Form,
     /// Whether the answers are left out.
     pub brief: bool,
+    /// Whether lines tell consequences by name.
+    pub names: bool,
 }
 
 /// The outcome of a run without a report.
@@ -49,14 +51,14 @@ fn write_proof_text<K: Sink>(sink: &mut K, proof: &Proof) -> Result<(), Failed>
 fn write_lines<K: Sink>(
     alloc: Global,
     sink: &mut K,
-    brief: bool,
+    layout: Layout,
     program: &Program,
     results: &Results<Sets>,
 ) -> Result<(), Failed>
     ensures { Writes (K.held sink.old) (K.held sink.new) (K.faults sink.old) (K.faults sink.new)
-        result (results_text program.now results.now brief) }
+        result (printed_text program.now results.now layout.brief layout.names) }
 {
-    print(alloc, sink, program, results, brief)
+    print(alloc, sink, program, results, layout.brief, layout.names)
 }
 
 fn write_json<K: Sink>(
@@ -81,10 +83,10 @@ fn write_results<K: Sink>(
     results: &Results<Sets>,
 ) -> Result<(), Failed>
     ensures { Writes (K.held sink.old) (K.held sink.new) (K.faults sink.old) (K.faults sink.new)
-        result (text_in layout.form program.now results.now layout.brief) }
+        result (text_in layout.form program.now results.now layout.brief layout.names) }
 {
     match layout.form {
-        Form::Text => write_lines(alloc, sink, layout.brief, program, results),
+        Form::Text => write_lines(alloc, sink, layout, program, results),
         Form::Json => write_json(alloc, sink, layout.brief, program, results),
     }
 }

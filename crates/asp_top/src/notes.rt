@@ -64,6 +64,16 @@ fn write_not_text<N: Sink>(notes: &mut N) -> Result<(), Failed>
     write_usage(notes)
 }
 
+fn write_unnamed<N: Sink>(notes: &mut N) -> Result<(), Failed>
+    ensures { Writes (N.held notes.old) (N.held notes.new) (N.faults notes.old) (N.faults notes.new)
+        result (note_of Status.Unnamed) }
+{
+    write(
+        notes,
+        b"aspenum: consequences can't be told by name: the numbers of atoms are too great\n",
+    )
+}
+
 fn write_note<N: Sink>(notes: &mut N, status: Status) -> Result<(), Failed>
     ensures { Writes (N.held notes.old) (N.held notes.new) (N.faults notes.old) (N.faults notes.new)
         result (note_of status) }
@@ -81,6 +91,7 @@ fn write_note<N: Sink>(notes: &mut N, status: Status) -> Result<(), Failed>
         Status::Refused(fault, line) => write_refused(notes, fault, line),
         Status::ReadFault => write(notes, b"aspenum: read failed\n"),
         Status::TooLong => write(notes, b"aspenum: input too long\n"),
+        Status::Unnamed => write_unnamed(notes),
         Status::WriteFault => write(notes, b"aspenum: write failed\n"),
     }
 }

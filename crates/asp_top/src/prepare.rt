@@ -6,16 +6,20 @@ ghost use Rattle.asp_read.specs.Judging.{most_bytes};
 ghost use Rattle.asp_read.specs.Stream.{ReadsText};
 ghost use Rattle.asp_top.specs.Formats.{StopsFor, outcome_for};
 ghost use Rattle.asp_model.specs.Sound.{IsSound};
+ghost use Rattle.asp_cli.specs.Found.{seeks_consequences};
 ghost use Rattle.asp_cli.specs.Values.{IsRing};
 ghost use Rattle.asp_settle.specs.Settled.{facts_of, left_of};
-ghost use Rattle.asp_top.specs.Runs.{Prepares, is_settled, prepared_of, status_of};
+ghost use Rattle.asp_top.specs.Naming.{asked_if, facts_for, is_json, is_named, is_settled, left_for};
+ghost use Rattle.asp_top.specs.Runs.{HasNumbers, Prepares, WhyNot, prepared_of, status_of};
 
 use crate::status::Status;
-use asp_cli::{Format, Options};
+use asp_cli::{Form, Format, Options};
 use asp_io::Source;
 use asp_make::ring;
 use asp_model::interp::Interp;
 use asp_model::program::Program;
+use asp_model::results::Mode;
+use asp_named::named::name;
 use asp_read::fault::ReadError;
 use asp_read::read_program;
 use asp_settle::settle::{Settled, settle};
@@ -44,11 +48,51 @@ fn status_of(error: ReadError) -> Status
     }
 }
 
-// Whether facts are settled: a proof is of the whole program, and so are parts.
+// Whether facts are settled: a proof is of the whole program as it is, and so are parts.
 fn is_settled(options: &Options) -> bool
     ensures { result ≡ is_settled options.now }
 {
     !(options.proof || options.split.is_some())
+}
+
+fn is_json(form: Form) -> bool
+    ensures { result ≡ is_json form }
+{
+    match form {
+        Form::Text => false,
+        Form::Json => true,
+    }
+}
+
+fn seeks_consequences(mode: Option<Mode>) -> bool
+    ensures { result ≡ seeks_consequences (Some mode) }
+{
+    match mode {
+        None => false,
+        Some(mode) => mode.reasoning().is_some(),
+    }
+}
+
+// Whether consequences are told by name.
+fn is_named(options: &Options) -> bool
+    ensures { result ≡ is_named options.now }
+{
+    is_settled(options)
+        && seeks_consequences(options.mode)
+        && (options.names || is_json(options.form))
+}
+
+// The program whose answers are sought: with atoms for its outputs where consequences are told by name.
+fn asked(alloc: Global, options: &Options, program: Program) -> Result<Option<Program>, AllocError>
+    requires { IsSound program }
+    ensures asked { IfOk result (λ o. o ≡ asked_if options.now program) }
+    ensures sound { IfOk result (λ o. IfSome o IsSound) }
+{
+    if is_named(options) {
+        name(alloc, program)
+    } else {
+        Ok(Some(program))
+    }
 }
 
 // The program without its facts, compiled.
@@ -74,7 +118,7 @@ fn whole(alloc: Global, program: Program) -> Result<Prepared, AllocError>
 
 fn reduce(alloc: Global, options: &Options, program: Program) -> Result<Prepared, AllocError>
     requires { IsSound program }
-    ensures { IfOk result (λ prepared. prepared ≡ prepared_of options.now program) }
+    ensures { IfOk result (λ prepared. prepared ≡ record { compiled = left_for options.now program; facts = facts_for options.now program }) }
 {
     if is_settled(options) {
         without_facts(alloc, program)
@@ -83,14 +127,19 @@ fn reduce(alloc: Global, options: &Options, program: Program) -> Result<Prepared
     }
 }
 
-// The program, compiled.
+// What is searched of the program, compiled.
 fn ready(alloc: Global, options: &Options, program: Program) -> Result<Prepared, Status>
     requires { IsSound program }
     ensures same { IfOk result (λ prepared. prepared ≡ prepared_of options.now program) }
-    ensures wanting { IfErr result (λ status. status ≡ Status.Memory) }
+    ensures numbers { OnOk result (HasNumbers options.now program) }
+    ensures wanting { IfErr result (WhyNot options.now program) }
 {
-    match reduce(alloc, options, program) {
-        Ok(prepared) => Ok(prepared),
+    match asked(alloc, options, program) {
+        Ok(Some(sought)) => match reduce(alloc, options, sought) {
+            Ok(prepared) => Ok(prepared),
+            Err(_) => Err(Status::Memory),
+        },
+        Ok(None) => Err(Status::Unnamed),
         Err(_) => Err(Status::Memory),
     }
 }

@@ -51,6 +51,7 @@ fn layout_of(options: &Options) -> Layout
     Layout {
         form: options.form,
         brief: options.make.is_some() || options.quiet,
+        names: options.names,
     }
 }
 

@@ -30,6 +30,8 @@ pub enum Status {
     ReadFault,
     /// The text is longer than a text may be.
     TooLong,
+    /// Consequences can't be told by name: the program leaves too few numbers for atoms of its outputs.
+    Unnamed,
     /// The sink failed. A front of what was to be written is out.
     WriteFault,
     /// The program's parts were asked for and written.
@@ -53,6 +55,7 @@ impl Status {
             Status::Refused(_, _) => 65,
             Status::ReadFault => 66,
             Status::TooLong => 67,
+            Status::Unnamed => 65,
             Status::WriteFault => 74,
             Status::Parts => 0,
         }

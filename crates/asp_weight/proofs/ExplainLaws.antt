@@ -30,8 +30,10 @@ use Rattle.asp_weight.specs.Definition.{Excludes}
 use Rattle.asp_weight.specs.Rows.{on, weight_if, sum_where, need_of, weighed_bodies, nth_weighed, IsRow, AreRows, shape_at, row_at}
 use Rattle.asp_weight.specs.Spoken.{gathered, head_of, item_at, spoken_as, spoken, Settles, Speaks, IsReady}
 use Rattle.asp_weight.specs.Explained.{before, ruled_out, Follows, IsExplained, IsExcluded}
+use Rattle.asp_weight.specs.Brief.{IsBrief}
+use Rattle.asp_weight.proofs.SilenceLaws.{weighed_at, positive_at}
 use Rattle.asp_weight.proofs.LateLaws.{shape_read}
-use Rattle.asp_weight.proofs.SpeechLaws.{beq_itself, literal_eq_itself, gathered_hold, excluded_entailed}
+use Rattle.asp_weight.proofs.SpeechLaws.{beq_itself, literal_eq_itself, gathered_hold, side_broken, excluded_entailed}
 use Rattle.asp_weight.proofs.StepLaws.{in_program, excluded_by}
 
 abbrev d : Item
@@ -154,12 +156,12 @@ has_later k l n h ne = cases (literal_eq k l) refl h
     cases true q e = absurd (ne (sym (same_literal k l (sym q))))
     cases false q e = e
 
-reason_before : (vars : ℕ) (es : List Entry) (l : Literal) (x : Option ℕ) (side : Bool) (s : Shape) (row : List Item) → IsOrdered vars es → Settles x side (assignment vars es) s row →
-    complement l ≡ ruled_out x side s row → IsReason es (length es) l (spoken_as x side (assignment vars es) s row)
-reason_before vars es l x side s row o says rules = record {
-  has = ap (λ (ls : List Literal). has_literal ls (complement l)) whole ∙ has_first (complement l) but.0;
+-- a nogood of the literal's complement and of literals that hold is its reason
+reason_by : (vars : ℕ) (es : List Entry) (l : Literal) (rest lits : List Literal) → IsOrdered vars es → lits ≡ complement l ∷ rest → list_all (holds_in (assignment vars es)) rest ≡ true → IsReason es (length es) l lits
+reason_by vars es l rest lits o whole hold = record {
+  has = ap (λ (ls : List Literal). has_literal ls (complement l)) whole ∙ has_first (complement l) rest;
   others = λ k h ne.
-      let f = holds_found vars es k o (list_all_at (holds_in (assignment vars es)) but.0 k but.2 (has_later (complement l) k but.0 (ap (λ (ls : List Literal). has_literal ls k) (sym whole) ∙ h) ne)) in
+      let f = holds_found vars es k o (list_all_at (holds_in (assignment vars es)) rest k hold (has_later (complement l) k rest (ap (λ (ls : List Literal). has_literal ls k) (sym whole) ∙ h) ne)) in
       let e : Entry = record { lit = k; level = 0; reason = None } in (
         f.0,
         (get_or es f.0 e).level,
@@ -167,12 +169,12 @@ reason_before vars es l x side s row o says rules = record {
         record { within = f.1; lit = f.2; level = λ g. ap (λ (y : Entry). y.level) (same_default es f.0 g e f.1) },
       );
 }
-  where
-    but : (rest : List Literal) × (spoken_as x side (assignment vars es) s row ≡ ruled_out x side s row ∷ rest) × (list_all (holds_in (assignment vars es)) rest ≡ true)
-    but = holds_but x side (assignment vars es) s row says
 
-    whole : spoken_as x side (assignment vars es) s row ≡ complement l ∷ but.0
-    whole = but.1 ∙ ap (λ (m : Literal). m ∷ but.0) (sym rules)
+reason_before : (vars : ℕ) (es : List Entry) (l : Literal) (x : Option ℕ) (side : Bool) (s : Shape) (row : List Item) → IsOrdered vars es → Settles x side (assignment vars es) s row →
+    complement l ≡ ruled_out x side s row → IsReason es (length es) l (spoken_as x side (assignment vars es) s row)
+reason_before vars es l x side s row o says rules =
+    let but = holds_but x side (assignment vars es) s row says in
+    reason_by vars es l but.0 (spoken_as x side (assignment vars es) s row) o (but.1 ∙ ap (λ (m : Literal). m ∷ but.0) (sym rules)) but.2
 
 pub reason_as : {E : Type 0} (t : Trailed) (place : ℕ) (l : Literal) (x : Speech) (s : Shape) (row : List Item) (r : Result Nogood E) → IsOrdered t.vars t.entries → place < length t.entries → Speaks x (before t place) s row →
     complement l ≡ ruled_out x.open x.side s row → ((e : Entry) → l ≡ (get_or t.entries place e).lit) → IfOk r (λ n. n.lits ≡ spoken x (before t place) s row) →
@@ -196,3 +198,18 @@ reasoned p es l w sound o x =
       record { base = refl; entailed = excluded_entailed p (nth_weighed p w) n.lits (in_program p w x.within).1 shown; excluded = (nth_weighed p w, shown) },
       reason_before (var_count p) es l f.place f.side x.shape x.row o f.settles f.lit,
     )
+
+-- ---- the reason that is gathered from the literals that hold
+pub brief_excluded : (p : Program) (t : Trailed) (place w : ℕ) (s : Shape) (row : List Item) (l : Literal) (n : Nogood) → IsSound p → IsOwn p t place w s row l → IsBrief (before t place) s row l n.lits → n.base ≡ base.Pure → IsExcluded p n
+brief_excluded p t place w s row l n sound o b pure =
+    let shown : Excludes p (nth_weighed p w) n.lits = record {
+      stands = (in_program p w o.within).0;
+      broken = λ v hit. side_broken p (nth_weighed p w) b.side s row v (weighed_at p w o.within) (positive_at p w sound o.within) o.is_row (b.settles v hit).0 (b.settles v hit).1;
+    } in
+    record { base = pure; entailed = excluded_entailed p (nth_weighed p w) n.lits (in_program p w o.within).1 shown; excluded = (nth_weighed p w, shown) }
+
+pub brief_reason : (t : Trailed) (place : ℕ) (l : Literal) (s : Shape) (row : List Item) (n : Nogood) → IsOrdered t.vars t.entries → place < length t.entries → IsBrief (before t place) s row l n.lits →
+    ((e : Entry) → l ≡ (get_or t.entries place e).lit) → (e : Entry) → IsReason t.entries place (get_or t.entries place e).lit n.lits
+brief_reason t place l s row n o h b is e =
+    subst (λ (m : Literal). IsReason t.entries place m n.lits) (is e)
+    (reason_later t.entries place l n.lits (omega (arith, h)) (reason_by t.vars (take place t.entries) l b.rest n.lits (ordered_take t.vars t.entries place o) b.whole b.hold))

@@ -13,3 +13,4 @@ pub mod SpeechLaws
 pub mod StepLaws
 pub mod LateLaws
 pub mod ExplainLaws
+pub mod BriefLaws

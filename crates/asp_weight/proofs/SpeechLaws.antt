@@ -30,6 +30,7 @@ use Rattle.asp_weight.specs.Silence.{weight_that}
 use Rattle.asp_weight.specs.Definition.{keeps, Excludes}
 use Rattle.asp_weight.specs.Rows.{on, weight_if, sum_where, total_of, is_weighed, clamped, IsRow, need_of, is_under, is_short, is_silent_row_as, is_silent_row}
 use Rattle.asp_weight.specs.Spoken.{held, gathered, head_of, item_at, spoken_as, Settles, Speaks}
+use Rattle.asp_weight.specs.Brief.{counted}
 use Rattle.asp_weight.proofs.PositiveLaws.{HasPositive}
 use Rattle.asp_weight.proofs.SumLaws.{sum_le, sum_le_but, total_split}
 use Rattle.asp_weight.proofs.SilenceLaws.{weight_that-row}
@@ -78,11 +79,11 @@ pub speaks_not_silent : (x : Speech) (a : List (Option Bool)) (s : Shape) (row :
 speaks_not_silent x a s row h = not_silent_row x.open x.side a s row h
 
 -- ---- the nogood is unit or violated
-list_all-append-both : (t : Literal → Bool) (n m : List Literal) → list_all t n ≡ true → list_all t m ≡ true → list_all t (n ++ m) ≡ true
+pub list_all-append-both : (t : Literal → Bool) (n m : List Literal) → list_all t n ≡ true → list_all t m ≡ true → list_all t (n ++ m) ≡ true
 list_all-append-both t [] m e f = f
 list_all-append-both t (l ∷ n) m e f = and_both (t l) (list_all t (n ++ m)) (and_left (t l) (list_all t n) e) (list_all-append-both t n m (and_right (t l) (list_all t n) e) f)
 
-held_holds : (side : Bool) (a : List (Option Bool)) (i : Item) → list_all (holds_in a) (held side a i) ≡ true
+pub held_holds : (side : Bool) (a : List (Option Bool)) (i : Item) → list_all (holds_in a) (held side a i) ≡ true
 held_holds side a i = cases (holds_in a (on side i.lit)) refl
   where
     cases : (b : Bool) → b ≡ holds_in a (on side i.lit) → list_all (holds_in a) (cond b (on side i.lit ∷ []) []) ≡ true
@@ -181,10 +182,6 @@ spoken_vars n (Some j) side a s row h v w =
     (All-cons (λ (l : Literal). IsVar n l.var) (head_of side s) (gathered side a (need_of side s) (item_at row j).weight row) v (gathered_vars n side a (need_of side s) (item_at row j).weight row w))
 
 -- ---- the definition excludes it
--- the weight of an item whose literal holds and is true
-abbrev counted : Bool → List (Option Bool) → List Bool → Item → ℕ
-counted side a v i = cond (holds_in a (on side i.lit)) (weight_if (is_true v) side i) 0
-
 counted_enough : (side : Bool) (a : List (Option Bool)) (v : List Bool) (need sum : ℕ) (row : List Item) → need ≤ sum + sum_where (holds_in a) side row → hits v (gathered side a need sum row) ≡ true →
     need ≤ sum + sum_by (counted side a v) row
 counted_enough side a v need sum [] h e = h
@@ -214,7 +211,7 @@ counted_enough side a v need sum (i ∷ row) h e =
           same_weight (holds_in a (on side i.lit)) refl (and_left (hits v (held side a i)) (hits v rest) split),
         )
 
-counted-le : (side : Bool) (a : List (Option Bool)) (v : List Bool) (i : Item) → counted side a v i ≤ weight_if (is_true v) side i
+pub counted-le : (side : Bool) (a : List (Option Bool)) (v : List Bool) (i : Item) → counted side a v i ≤ weight_if (is_true v) side i
 counted-le side a v i = cases (holds_in a (on side i.lit)) (weight_if (is_true v) side i)
   where
     cases : (b : Bool) (n : ℕ) → cond b n 0 ≤ n
@@ -280,18 +277,24 @@ total_by v row = total_split (is_true v) row ∙ ap (λ n. n + sum_where (is_tru
         ∙ (ap (λ n. weight_if (is_true v) true i + n) (alike xs)
         ∙ sym (sum_by-cons (weight_if (is_true v) true) i xs)))
 
-pub spoken_excluded : (p : Program) (b : Body) (x : Option ℕ) (side : Bool) (a : List (Option Bool)) (s : Shape) (row : List Item) → is_weighed b ≡ true → HasPositive b → IsRow p b s row →
-    Settles x side a s row → (v : List Bool) → hits v (spoken_as x side a s row) ≡ true → keeps p v b ≡ false
-spoken_excluded p (body.All literals) x side a s row e w r h v f = absurd (false≢true e)
-spoken_excluded p (body.AtLeast bound items) x side a s row e w r h v f =
-    let n = needed x side a s row v h f in
+-- values that settle the side, against the body's variable, break the definition
+pub side_broken : (p : Program) (b : Body) (side : Bool) (s : Shape) (row : List Item) (v : List Bool) → is_weighed b ≡ true → HasPositive b → IsRow p b s row → is_true v (head_of side s) ≡ true →
+    need_of side s ≤ sum_where (is_true v) side row → keeps p v b ≡ false
+side_broken p (body.All literals) side s row v e w r h g = absurd (false≢true e)
+side_broken p (body.AtLeast bound items) side s row v e w r h g =
     not_both (get_or v (var_of_form p (body.AtLeast bound items)) false) (int_le bound (weight_that (is_true v) p items)) side
-    (ap (λ u. beq (get_or v u false) (not side)) (sym r.var) ∙ n.0)
-    (ap (λ z. int_le bound z) (weight_that-row p a bound items s row w r.ordered.items r.reach r.miss (is_true v)) ∙ decided side n.1)
+    (ap (λ u. beq (get_or v u false) (not side)) (sym r.var) ∙ h)
+    (ap (λ z. int_le bound z) (weight_that-row p [] bound items s row w r.ordered.items r.reach r.miss (is_true v)) ∙ decided side g)
   where
     decided : (side : Bool) → need_of side s ≤ sum_where (is_true v) side row → int_le bound (pos (sum_where (is_true v) true row)) ≡ side
     decided true g = reaches bound (sum_where (is_true v) true row) (omega (arith, g, r.reach))
     decided false g = misses bound (sum_where (is_true v) true row) (sum_where (is_true v) false row) (total_of row) (total_by v row) (omega (arith, g, r.reach, r.miss))
+
+pub spoken_excluded : (p : Program) (b : Body) (x : Option ℕ) (side : Bool) (a : List (Option Bool)) (s : Shape) (row : List Item) → is_weighed b ≡ true → HasPositive b → IsRow p b s row →
+    Settles x side a s row → (v : List Bool) → hits v (spoken_as x side a s row) ≡ true → keeps p v b ≡ false
+spoken_excluded p b x side a s row e w r h v f =
+    let n = needed x side a s row v h f in
+    side_broken p b side s row v e w r n.0 n.1
 
 -- ---- stable models keep the definition
 weight_that-holds : (p : Program) (S : Atoms) (items : List (ℤ × ℤ)) → AllByRecursion (λ i. has (atoms_of p) (atom_of i.0) ≡ true) items → weight_that (is_true (values p S)) p items ≡ weight_of S items

@@ -6,3 +6,4 @@ pub mod Placed
 pub mod Spoken
 pub mod Kept
 pub mod Explained
+pub mod Brief

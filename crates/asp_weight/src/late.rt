@@ -7,14 +7,12 @@ ghost use Rattle.asp_weight.specs.Spoken.{Speaks, IsReady, item_at};
 ghost use Rattle.asp_weight.specs.Rows.{on};
 ghost use Rattle.asp_weight.specs.Explained.{ruled_out, before, Follows};
 
+use crate::held::LONG;
 use crate::item::{Item, Shape, on};
 use crate::look::Speech;
 use asp_trail::trail::Trail;
 use asp_vars::assign::Assign;
 use asp_vars::lit::Lit;
-
-// The nogoods of longer bodies are written when they are asked for.
-const LONG: usize = 24;
 
 // The literal that a body rules out.
 fn ruled_out(speech: &Speech, shape: &Shape, row: &[Item]) -> Lit

@@ -14,8 +14,8 @@ use asp_vars::lit::Lit;
 use asp_vars::nogood::{Base, Lits, Nogood};
 use std::alloc::{AllocError, Global};
 
-// Adds the item's literal for the side if it holds, and says what that weighs.
-fn add(
+/// Adds the item's literal for the side if it held before a place, and says what that weighs.
+pub fn add(
     lits: &mut Vec<Lit>,
     side: bool,
     trail: &Trail,

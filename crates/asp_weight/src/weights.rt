@@ -22,6 +22,8 @@ ghost use Rattle.asp_trail.specs.Reasons.{IsReason};
 ghost use Rattle.asp_weight.specs.Tallied.{raise_all, lower_all, CanRaise, CanLower};
 ghost use Rattle.asp_weight.specs.Placed.{places_at};
 
+use crate::brief::brief;
+use crate::held::Held;
 use crate::item::{Item, Place, Shape};
 use crate::late::{said_of, speech_at};
 use crate::look::first_speech;
@@ -58,6 +60,8 @@ pub struct Weights {
     places: Table<Place>,
     /// By weight body, its sums under the values told, and the queue.
     tallies: Tallies,
+    /// Which literals of long bodies hold, as hints.
+    held: Held,
 }
 
 impl Model for Weights {
@@ -83,6 +87,7 @@ impl Weights {
         let vars = compiled.vars();
         let places = places_of(alloc, vars, shapes.as_slice(), &rows)?;
         let tallies = Tallies::new(alloc, shapes.as_slice().len() as u32)?;
+        let held = Held::new(alloc, vars, &rows)?;
         let values = ToldValues::none(vars);
         Ok(Weights {
             alloc,
@@ -92,6 +97,7 @@ impl Weights {
             rows,
             places,
             tallies,
+            held,
         })
     }
 
@@ -102,6 +108,7 @@ impl Weights {
         ensures { self.new ≡ told self.old lit }
     {
         self.values.set(lit);
+        self.held.assign(lit);
         raise(&mut self.tallies, &self.places, lit);
     }
 
@@ -112,6 +119,7 @@ impl Weights {
         ensures { self.new ≡ untold self.old lit }
     {
         self.values.unset(lit.var());
+        self.held.undo(lit);
         lower(&mut self.tallies, &self.places, lit);
     }
 
@@ -157,7 +165,20 @@ impl Weights {
         let _len = trail.len();
         let shape = &self.shapes[name as usize];
         let row = self.rows.row(name as usize);
-        let speech = speech_at(trail.lit(place), trail, place, shape, row);
+        let lit = trail.lit(place);
+        if let Some(nogood) = brief(
+            self.alloc,
+            &self.held,
+            name as usize,
+            lit,
+            trail,
+            place,
+            shape,
+            row,
+        )? {
+            return Ok(nogood);
+        }
+        let speech = speech_at(lit, trail, place, shape, row);
         speak(self.alloc, &speech, trail, place, shape, row)
     }
 }

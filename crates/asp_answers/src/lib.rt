@@ -1,0 +1,133 @@
+//! All answers of a text in aspif, which is in memory: the crates as a library, by one call.
+#![tactic(auto)]
+
+ghost use Rattle.std.specs.Prelude.{◌≡◌, IfErr, IfOk, IfSome, Err, false, map};
+ghost use Rattle.asp_crew_laws.specs.Reports.{IsReport};
+ghost use Rattle.asp_model.specs.Models.{answers};
+ghost use Rattle.asp_model.specs.Sound.{IsSound};
+ghost use Rattle.asp_model.specs.declared.program.Program.{Program};
+ghost use Rattle.asp_model.specs.declared.results.Mode.TheVariants.{Enum};
+ghost use Rattle.asp_read.specs.Outcome.{outcome};
+ghost use Rattle.asp_read.specs.Stream.{ReadsText};
+ghost use Rattle.asp_settle.specs.Settled.{united};
+
+use asp_counts::counts::Counts;
+use asp_counts::watch::Unwatched;
+use asp_crew::alone::solve_alone;
+use asp_crew::report::Report;
+use asp_io::CleanSource;
+use asp_model::interp::Interp;
+use asp_model::program::Program;
+use asp_model::results::{Ask, End, Mode};
+use asp_read::fault::ReadError;
+use asp_read::read_program;
+use asp_settle::settle::{Settled, settle, unite};
+use asp_vars::compile::compile;
+use asp_vars::compiled::Compiled;
+use std::alloc::{AllocError, Global};
+
+const BUDGET: u64 = i64::MAX as u64;
+
+/// Why no answers are given.
+pub enum Failure {
+    /// No program was read: the text is refused, or memory ran out.
+    Unread(ReadError),
+    /// Memory ran out.
+    Memory,
+    /// The budget was spent before all answers were found.
+    Spent,
+}
+
+// Reads the program. Nothing is read from outside: the source is over bytes in memory.
+fn read(alloc: Global, text: &[u8]) -> Result<Program, ReadError>
+    ensures text { ReadsText result (outcome text.now) }
+    ensures sound { IfOk result IsSound }
+{
+    let mut source = CleanSource::new(text);
+    read_program(alloc, &mut source)
+}
+
+// Searches for all answers of a compiled program, by one search in this thread.
+fn search(alloc: Global, compiled: &Compiled) -> Result<Report, AllocError>
+    ensures { IfOk result (IsReport compiled.now (record { mode = Enum; models = 0; all_optima = false }) BUDGET) }
+{
+    let ask = Ask {
+        mode: Mode::Enum,
+        models: 0,
+        all_optima: false,
+    };
+    let mut counts = Counts::new();
+    solve_alone(
+        alloc,
+        compiled,
+        ask,
+        BUDGET,
+        false,
+        &mut counts,
+        &mut Unwatched,
+    )
+}
+
+// The answers that a report lists, if they are all.
+fn listed(alloc: Global, report: &Report) -> Result<Option<Vec<Interp>>, AllocError>
+    ensures { (p : Program) → IsReport p (record { mode = Enum; models = 0; all_optima = false }) BUDGET report.now → IfOk result (λ found. IfSome found (λ sets. sets.items ≡ answers p)) }
+{
+    match report.results.end {
+        End::Finished => {
+            let sets = report.results.answers.rows().to_sets(alloc)?;
+            Ok(Some(sets))
+        }
+        End::Limited | End::Unfinished => Ok(None),
+    }
+}
+
+// Each set with the facts in it.
+fn unite_each(alloc: Global, facts: &Interp, sets: &[Interp]) -> Result<Vec<Interp>, AllocError>
+    ensures { IfOk result (λ whole. whole.items ≡ map (united facts.now) sets.now) }
+{
+    let mut whole = Vec::with_capacity(alloc, sets.len())?;
+    for set in sets {
+        whole.push(unite(alloc, facts, set)?)?;
+    }
+    Ok(whole)
+}
+
+// The answers of a program without its facts, if the budget was enough.
+fn answers_left(alloc: Global, left: Program) -> Result<Option<Vec<Interp>>, AllocError>
+    requires { IsSound left }
+    ensures { IfOk result (λ found. IfSome found (λ sets. sets.items ≡ answers left)) }
+{
+    let compiled = compile(alloc, left)?;
+    let report = search(alloc, &compiled)?;
+    listed(alloc, &report)
+}
+
+// The answers of a program, if the budget was enough. Its facts are set aside before the search, and put back.
+fn answers_of(alloc: Global, program: Program) -> Result<Option<Vec<Interp>>, AllocError>
+    requires { IsSound program }
+    ensures { IfOk result (λ found. IfSome found (λ sets. sets.items ≡ answers program)) }
+{
+    let Settled { facts, left } = settle(alloc, program)?;
+    match answers_left(alloc, left)? {
+        Some(sets) => {
+            let whole = unite_each(alloc, &facts, sets.as_slice())?;
+            Ok(Some(whole))
+        }
+        None => Ok(None),
+    }
+}
+
+/// All answers of a text, each once, in their order.
+pub fn answers(alloc: Global, text: &[u8]) -> Result<Vec<Interp>, Failure>
+    ensures found { IfOk result (λ sets. (p : Program) × (outcome text.now ≡ Ok p) × (sets.items ≡ answers p)) }
+    ensures unread { IfErr result (λ failure. (error : ReadError) → failure ≡ Failure.Unread error → ReadsText (Err error) (outcome text.now)) }
+{
+    match read(alloc, text) {
+        Ok(program) => match answers_of(alloc, program) {
+            Ok(Some(sets)) => Ok(sets),
+            Ok(None) => Err(Failure::Spent),
+            Err(_) => Err(Failure::Memory),
+        },
+        Err(error) => Err(Failure::Unread(error)),
+    }
+}

@@ -1,0 +1,37 @@
+-- Which program is searched: with atoms for its outputs where consequences are told by name, and without its facts.
+use Rattle.std.specs.Prelude.{Bool, true, false, not, ◌&&◌, ◌||◌, if◌then◌else◌, List, [], Option, Some, None, is_some}
+use Rattle.asp_model.specs.declared.program.Program.{Program}
+use Rattle.asp_model.specs.Sets.{Atoms}
+use Rattle.asp_named.specs.Named.{named, named_if}
+use Rattle.asp_settle.specs.Settled.{facts_of, left_of}
+use Rattle.asp_cli.specs.declared.Form.{Form}
+use Rattle.asp_cli.specs.declared.Form.TheVariants.{Text, Json}
+use Rattle.asp_cli.specs.declared.Options.{Options}
+use Rattle.asp_cli.specs.Found.{seeks_consequences}
+
+-- A proof is of the whole program as it is, and so are parts.
+abbrev pub is_settled : Options → Bool
+is_settled given = not (given.proof || is_some given.split)
+
+abbrev pub is_json : Form → Bool
+is_json Text = false
+is_json Json = true
+
+-- whether consequences are told by name: where that was asked for, and always as JSON
+abbrev pub is_named : Options → Bool
+is_named given = is_settled given && seeks_consequences (Some given.mode) && (given.names || is_json given.form)
+
+-- the program whose answers are sought: with atoms for its outputs where consequences are told by name
+abbrev pub asked : Options → Program → Program
+asked given p = if is_named given then named p else p
+
+-- the same where there is one
+abbrev pub asked_if : Options → Program → Option Program
+asked_if given p = if is_named given then named_if p else Some p
+
+-- what is left of it without the facts, and these
+abbrev pub left_for : Options → Program → Program
+left_for given q = if is_settled given then left_of q else q
+
+abbrev pub facts_for : Options → Program → Atoms
+facts_for given q = if is_settled given then facts_of q else []
