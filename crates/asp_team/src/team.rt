@@ -1,5 +1,5 @@
 //! A team: what its workers share, the main thread's seats, and the workers before they begin.
-ghost use Rattle.std.specs.Prelude.{◌≡◌, ◌+◌, ◌^◌, ◌<◌, ◌≤◌, [], length, IfOk, OnOk};
+ghost use Rattle.std.specs.Prelude.{◌≡◌, ◌+◌, ◌^◌, ◌<◌, ◌≤◌, ◌&&◌, ℕ, nat_lt, [], length, IfOk, OnOk};
 ghost use Rattle.asp_vault.specs.Rules.{opened, parted};
 ghost use Rattle.asp_vault.specs.Seats.{view, IsOf};
 ghost use Rattle.asp_pool.specs.Lists.{Every};

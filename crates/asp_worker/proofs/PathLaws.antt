@@ -13,6 +13,7 @@ use Rattle.asp_core.specs.Events.{has_var, IsVariable}
 use Rattle.asp_search.specs.Beside.{IsOpen}
 use Rattle.asp_book.specs.Calls.{Knows, task_of, seen_board}
 use Rattle.asp_search_laws.specs.Searching.{Searching}
+use Rattle.asp_slots.specs.declared.shelf.ShelfSeat.{ShelfSeat}
 use Rattle.asp_worker.specs.declared.worker.Worker.{Worker}
 use Rattle.asp_worker.specs.declared.worker.Shared.{Shared}
 use Rattle.asp_worker.specs.Seats.{Behaves, Idles, Passes, Leases, IsReady, Keeps}
