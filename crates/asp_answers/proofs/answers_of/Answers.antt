@@ -2,7 +2,7 @@ use Rattle.std.proofs.Common.{◌≡◌, ◌∙◌, IfSome, map, sym, ap, subst}
 use Rattle.asp_model.specs.Models.{answers}
 use Rattle.asp_model.specs.Sets.{Atoms}
 use Rattle.asp_model.specs.Sound.{IsSound}
-use Rattle.asp_settle.specs.Settled.{facts_of, left_of, united}
+use Rattle.asp_settle.specs.Settled.{left_of, united}
 use Rattle.asp_settle.proofs.SettledLaws.{same-answers, sound-left}
 use Rattle.asp_answers.proofs.answers_of.Goals as goal
 
