@@ -24,6 +24,7 @@ _aspenum() {
     case $option in
         --mode | -e) mapfile -t COMPREPLY < <(compgen -P "$stem" -W "auto enum opt brave cautious" -- "$word") && return ;;
         --format) mapfile -t COMPREPLY < <(compgen -P "$stem" -W "aspif smodels" -- "$word") && return ;;
+        --log) mapfile -t COMPREPLY < <(compgen -P "$stem" -W "blocks row" -- "$word") && return ;;
         --output) mapfile -t COMPREPLY < <(compgen -P "$stem" -W "text json" -- "$word") && return ;;
         --workers | -t) mapfile -t COMPREPLY < <(compgen -P "$stem" -W "1 2 4 8 16 32 64" -- "$word") && return ;;
         --budget | --models | -n | --make | --split | --help | -h | --version | --) return ;;
@@ -46,14 +47,14 @@ _aspenum() {
     for option in "${given[@]}"; do
         case $option in
             --proof) given+=(--split --opt-all --output --quiet) ;;
-            --split) given+=(--mode --models --opt-all --workers --budget --output --quiet --names --proof --stats --progress) ;;
+            --split) given+=(--mode --models --opt-all --workers --log --budget --output --quiet --names --proof --stats --progress) ;;
             --opt-all | --quiet) given+=(--split --proof) ;;
             --output) given+=(--split --proof --make) ;;
             --make) given+=(--output) ;;
-            --mode | --models | --workers | --budget | --names | --stats | --progress) given+=(--split) ;;
+            --mode | --models | --workers | --log | --budget | --names | --stats | --progress) given+=(--split) ;;
         esac
     done
-    for option in --mode --format --models --opt-all --workers --budget --output --quiet --names --proof --split --make --stats --progress; do
+    for option in --mode --format --models --opt-all --workers --log --budget --output --quiet --names --proof --split --make --stats --progress; do
         [[ " ${given[*]} " == *" $option "* ]] || left+=("$option")
     done
     [[ $last -ne 1 ]] || left+=(--help --version)

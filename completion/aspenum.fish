@@ -23,13 +23,14 @@ function __aspenum_lacks
 end
 
 # what says how to solve: parts exclude it
-set -g __aspenum_solving --mode -e --models -n --opt-all --workers -t --budget --output --quiet -q --names --proof --stats --progress
+set -g __aspenum_solving --mode -e --models -n --opt-all --workers -t --log --budget --output --quiet -q --names --proof --stats --progress
 
 complete -c aspenum -n '__aspenum_lacks --mode -e --split' -s e -l mode -x -d 'What is sought' -a 'auto\t"opt where the program minimises, else enum" enum\t"all answers" opt\t"one answer of least cost" brave\t"the atoms in some answer" cautious\t"the atoms in every answer"'
 complete -c aspenum -n '__aspenum_lacks --format' -l format -x -d 'How the program is written' -a 'aspif\t"what gringo writes by itself" smodels\t"what it writes with --output=smodels"'
 complete -c aspenum -n '__aspenum_lacks --models -n --split' -s n -l models -x -d 'End with this many answers'
 complete -c aspenum -n '__aspenum_lacks --opt-all --proof --split' -l opt-all -d 'Write all optima'
 complete -c aspenum -n '__aspenum_lacks --workers -t --split' -s t -l workers -x -d 'Threads that search' -a '1 2 4 8 16 32 64'
+complete -c aspenum -n '__aspenum_lacks --log --split' -l log -x -d 'Where threads tell one another what they learnt' -a 'blocks\t"blocks under a lock" row\t"65536 slots without a lock"'
 complete -c aspenum -n '__aspenum_lacks --budget --split' -l budget -x -d 'At most this many conflicts'
 complete -c aspenum -n '__aspenum_lacks --output --proof --split --make' -l output -x -d 'The form of the results' -a 'text\t"lines of text" json\t"JSON with the keys that clasp has"'
 complete -c aspenum -n '__aspenum_lacks --quiet -q --proof --split' -s q -l quiet -d 'Write no answers'

@@ -1,8 +1,8 @@
 #!/usr/bin/env bash
-# workers.sh PROGRAM [RUNS]: each of ten small programs, enumerated by one worker once, by four as often as RUNS says (100),
-# and by 2, 8 and 64 a fifth as often, gives one output.
+# workers.sh PROGRAM [RUNS [ARGUMENT..]]: each of ten small programs, enumerated by one worker once, by four as often as RUNS says
+# (100), and by 2, 8 and 64 a fifth as often, gives one output. The arguments, as --log row, are for the runs with several.
 set -euo pipefail
-program=$(realpath "$1"); runs=${2:-100}
+program=$(realpath "$1"); runs=${2:-100}; several=("${@:3}")
 here=$(cd "$(dirname "$0")" && pwd); work=$(mktemp -d); trap 'rm -rf "$work"' EXIT
 
 free() { echo "asp 1 0 0"; echo "1 1 $1 $(seq -s ' ' "$1") 0 0"; echo 0; }
@@ -26,7 +26,7 @@ compare() { # NAME ARGS: the same bytes, read from standard input where there is
     count=$runs; [ "$workers" = 4 ] || count=$(((runs + 4) / 5))
     for ((i = 0; i < count; i++)); do
       got=0
-      "$program" --mode enum --workers "$workers" "$@" < "$input" > "$work/many" || got=$?
+      "$program" --mode enum --workers "$workers" "${several[@]}" "$@" < "$input" > "$work/many" || got=$?
       if [ "$got" != "$status" ] || ! cmp -s "$once" "$work/many"; then
         echo "$name: another output by $workers workers"; fail=1; return
       fi

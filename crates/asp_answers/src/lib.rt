@@ -25,6 +25,7 @@ use asp_settle::settle::{Settled, settle, unite};
 use asp_vars::compile::compile;
 use asp_vars::compiled::Compiled;
 use std::alloc::{AllocError, Global};
+use std::mem;
 
 const BUDGET: u64 = i64::MAX as u64;
 
@@ -92,14 +93,25 @@ fn unite_each(alloc: Global, facts: &Interp, sets: &[Interp]) -> Result<Vec<Inte
     Ok(whole)
 }
 
+// All answers of a compiled program, if the budget was enough.
+fn search_all(alloc: Global, compiled: &Compiled) -> Result<Option<Vec<Interp>>, AllocError>
+    ensures { IfOk result (λ found. IfSome found (λ sets. sets.items ≡ answers compiled.now)) }
+{
+    let report = search(alloc, compiled)?;
+    let found = listed(alloc, &report);
+    mem::drop(report);
+    found
+}
+
 // The answers of a program without its facts, if the budget was enough.
 fn answers_left(alloc: Global, left: Program) -> Result<Option<Vec<Interp>>, AllocError>
     requires { IsSound left }
     ensures { IfOk result (λ found. IfSome found (λ sets. sets.items ≡ answers left)) }
 {
     let compiled = compile(alloc, left)?;
-    let report = search(alloc, &compiled)?;
-    listed(alloc, &report)
+    let found = search_all(alloc, &compiled);
+    mem::drop(compiled);
+    found
 }
 
 // The answers of a program, if the budget was enough. Its facts are set aside before the search, and put back.

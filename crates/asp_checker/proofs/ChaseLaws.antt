@@ -1,7 +1,7 @@
 -- Values that follow one after another, as hints lead.
 use Rattle.std.proofs.Common.{◌≡◌, ◌≢◌, ℕ, zero, suc, ◌+◌, ◌<◌, ◌≤◌, Bool, true, false, not, ◌||◌, eqb, List, [], ◌∷◌, ◌++◌, length, take, get_or, get_or-set_same, get_or-set_other, refl, sym, ap, ◌∙◌, subst, arith, Option, Some, None, set, replicate}
 use Rattle.std.specs.Prelude.{ℤ}
-use Rattle.std.specs.List.{list_all, list_any, AllByRecursion}
+use Rattle.std.specs.List.{list_all, list_any}
 use Rattle.std.proofs.lemmas.Bool.{false≢true, or_parts, eqb-true, eq-eqb}
 use Rattle.std.proofs.lemmas.List.{take_more, length-set}
 use Rattle.asp_model.specs.declared.program.Program.{Program}
@@ -12,7 +12,6 @@ use Rattle.asp_checker.specs.declared.bounds.Bound.{Bound}
 use Rattle.asp_checker.specs.declared.chase.Found.{Found}
 use Rattle.asp_checker.specs.declared.chase.Found.TheVariants as found
 use Rattle.asp_checker.specs.Propagation.{Known, is_broken, reaches_bound, has_conflict}
-use Rattle.asp_checker.specs.Lines.{AreOf}
 use Rattle.asp_checker.specs.Steps.{AreWithin, Follow}
 use Rattle.asp_checker.specs.Looks.{IsUnit}
 use Rattle.asp_checker.specs.Sweeps.{IsNogoodOf}
@@ -20,24 +19,20 @@ use Rattle.asp_checker.specs.Blocks.{is_blocked, known_by, Extends, AreRefuted}
 use Rattle.asp_checker.specs.Chasing.{IsFoundBy, IsRoot, trail_with, AreTakenBack, IsTrailed, IsTrailedAlike}
 use Rattle.asp_checker.proofs.StepLaws.{violated-conflicts, value-held}
 use Rattle.asp_checker.proofs.WeightLaws.{within-then}
-use Rattle.asp_checker.proofs.SweepLaws.{row_of, row_range, visit_follows, visit_grows}
+use Rattle.asp_checker.proofs.SweepLaws.{visit_follows, visit_grows}
 use Rattle.asp_checker.proofs.BlockLaws.{within-value}
-use Rattle.asp_checker.proofs.CloseLaws.{extends_then, nogoods_known, rows_range}
+use Rattle.asp_checker.proofs.CloseLaws.{extends_then, rows_range}
 use Rattle.asp_checker.proofs.AssumeLaws.{empty_follows}
 
 -- ---- one nogood
-pub unit_extends : (p : Program) (rows : List (List Literal)) (bound : Option Bound) (x y : List (Option Bool)) (i : ℕ) (row : List Literal) (l : Literal) → AllByRecursion (AreOf p) rows → length x ≡ var_count p + 1 → i < length rows → row ≡ get_or rows i row →
-    IsUnit x row l → y ≡ set x l.var (Some (not l.truth)) → Extends p (known_by rows bound) x y
-unit_extends p rows bound x y i row l of size lt is unit e =
-    let range = row_range (length x) rows i row lt is (rows_range p rows (length x) size of) in
-    let known = row_of (IsNogoodOf p (known_by rows bound)) rows i row lt is (nogoods_known p rows bound of) in
-    let grown = visit_grows x y row range (l, unit, e) in
-    record { size = grown.size; within = grown.within; follow = λ n f. visit_follows p (known_by rows bound) n row x y known range f (l, unit, e) }
+pub unit_extends : (p : Program) (k : Known) (x y : List (Option Bool)) (n : List Literal) (l : Literal) → IsNogoodOf p k n → length x ≡ var_count p + 1 → IsUnit x n l → y ≡ set x l.var (Some (not l.truth)) → Extends p k x y
+unit_extends p k x y n l of size unit e =
+    let range = (rows_range p (n ∷ []) (length x) size (of.of, tt)).0 in
+    let grown = visit_grows x y n range (l, unit, e) in
+    record { size = grown.size; within = grown.within; follow = λ m f. visit_follows p k m n x y of range f (l, unit, e) }
 
-pub hit_refutes : (p : Program) (rows : List (List Literal)) (bound : Option Bound) (x : List (Option Bool)) (i : ℕ) (row : List Literal) → AllByRecursion (AreOf p) rows → i < length rows → row ≡ get_or rows i row → list_all (holds_in x) row ≡ true → AreRefuted p (known_by rows bound) x
-hit_refutes p rows bound x i row of lt is e =
-    let known = row_of (IsNogoodOf p (known_by rows bound)) rows i row lt is (nogoods_known p rows bound of) in
-    record { conflict = λ n f. violated-conflicts p (known_by rows bound) x n row known.known f e }
+pub hit_refutes : (p : Program) (k : Known) (x : List (Option Bool)) (n : List Literal) → IsNogoodOf p k n → list_all (holds_in x) n ≡ true → AreRefuted p k x
+hit_refutes p k x n of e = record { conflict = λ m f. violated-conflicts p k x m n of.known f e }
 
 -- ---- a weight body, or the bound
 pub blocked_by_body : (p : Program) (bound : Option (List ℤ)) (x : List (Option Bool)) → list_any (is_broken p x) (bodies_of p) ≡ true → is_blocked p bound x ≡ true

@@ -1,7 +1,7 @@
 -- Answers and lines that are judged one after another.
-use Rattle.std.proofs.Common.{◌≡◌, ◌≢◌, ℕ, ◌+◌, ◌<◌, ◌≤◌, Bool, true, false, cond, ◌||◌, List, [], ◌∷◌, ◌++◌, map, length, take, get_or, refl, sym, ap, ◌∙◌, subst, arith, append_assoc, Option, Some, None, inl, inr, Result, Ok, Err}
+use Rattle.std.proofs.Common.{◌≡◌, ◌≢◌, ℕ, ◌+◌, ◌<◌, ◌≤◌, Bool, true, false, cond, ◌||◌, List, [], ◌∷◌, ◌++◌, map, length, take, get_or, refl, sym, ap, ◌∙◌, subst, arith, Option, Some, None, inl, inr, Result, Ok, Err}
 use Rattle.std.specs.Prelude.{AllPairs, Contains, ℤ, MatchOption, IfOk}
-use Rattle.std.specs.List.{list_any, list_all, AllByRecursion}
+use Rattle.std.specs.List.{list_any, list_all}
 use Rattle.std.specs.declared.cmp.Ordering.{Ordering}
 use Rattle.std.specs.declared.cmp.Ordering.TheVariants.{Less}
 use Rattle.std.proofs.lemmas.Bool.{false≢true, cases_order, cases_lt}
@@ -16,12 +16,11 @@ use Rattle.asp_model.specs.Models.{atoms_of, answers, is_stable}
 use Rattle.asp_model.specs.Costs.{cost}
 use Rattle.asp_model.proofs.OrderLaws.{cmp_from_before}
 use Rattle.asp_model.proofs.ModelLaws.{answers-are}
-use Rattle.asp_model.proofs.MemberLaws.{each-append, each-map, each_weaker, HasAll-itself}
+use Rattle.asp_model.proofs.MemberLaws.{each-append}
 use Rattle.asp_vars.specs.Literals.{Literal, has_literal}
-use Rattle.asp_vars.specs.Numbering.{var_of_atom, literal_of}
+use Rattle.asp_vars.specs.Numbering.{literal_of}
 use Rattle.asp_vars.specs.Completion.{completion}
 use Rattle.asp_vars.specs.declared.nogood.Nogood.{Nogood}
-use Rattle.asp_vars.proofs.PlaceLaws.{atom-within, at_each}
 use Rattle.asp_complete.specs.Listed.{pure}
 use Rattle.asp_proof.specs.declared.proof.Line.{Line}
 use Rattle.asp_proof.specs.declared.proof.Line.TheVariants as line
@@ -31,11 +30,10 @@ use Rattle.asp_checker.specs.declared.judge.Why.{Why}
 use Rattle.asp_checker.specs.declared.judge.Why.TheVariants as why
 use Rattle.asp_checker.specs.declared.judge.Judgement.TheVariants as judgement
 use Rattle.asp_checker.specs.Propagation.{Known, LeadsToConflict}
-use Rattle.asp_checker.specs.Lines.{IsOf, AreOf, IsLoop, AreConfirmed, IsConfirmed, literals_of, nogood_of, nogood_of_answer, with_nogood, bound_of, known_at_first}
+use Rattle.asp_checker.specs.Lines.{AreOf, IsLoop, AreConfirmed, IsConfirmed, literals_of, nogood_of, nogood_of_answer, with_nogood, bound_of, known_at_first}
 use Rattle.asp_checker.specs.Right.{closes, IsRight}
-use Rattle.asp_checker.specs.Blocks.{known_by, cost_of_bound}
+use Rattle.asp_checker.specs.Blocks.{known_by, known_with, cost_of_bound}
 use Rattle.asp_checker.specs.Judging.{IsWrongAnswer, HasAnswerFault, IsWrongLine, HasLineFault, IsJudged, IsInOrder, AreRightAnswers, IsRightAnswer, HasLiterals, HasLoopLiterals, known_after, AreRightLines, no_line}
-use Rattle.asp_vars.proofs.VarLaws.{completion_vars}
 
 -- ---- the order of sets
 before_then : (S T U : Atoms) → IsBefore S T → IsBefore T U → IsBefore S U
@@ -106,40 +104,17 @@ lits_pure (n ∷ ns) = ap (λ ms. n ∷ ms) (lits_pure ns)
 pub completed_is : (p : Program) (nogoods : List Nogood) (rows : List (List Literal)) → nogoods ≡ map pure (completion p) → rows ≡ map (λ (n : Nogood). n.lits) nogoods → rows ≡ completion p
 completed_is p nogoods rows is e = e ∙ ap (map (λ (n : Nogood). n.lits)) is ∙ lits_pure (completion p)
 
-pub lit_made : (p : Program) (S : Atoms) (a v : ℕ) (t : Bool) (l : Literal) → l ≡ record { var = v; truth = t } → v ≡ var_of_atom p a → t ≡ has S a → l ≡ record { var = var_of_atom p a; truth = has S a }
-lit_made p S a v t l is var truth = is ∙ ap (λ w. let m : Literal = record { var = w; truth = t } in m) var ∙ ap (λ b. let m : Literal = record { var = var_of_atom p a; truth = b } in m) truth
-
-pub where_yes : {X : Type 0} (opt : Bool) (rows one other : X) → opt ≡ true → rows ≡ one → rows ≡ cond opt one other
-where_yes opt rows one other e is = is ∙ sym (ap (λ b. cond b one other) e)
-
-pub where_no : {X : Type 0} (opt : Bool) (rows one other : X) → opt ≡ false → rows ≡ other → rows ≡ cond opt one other
-where_no opt rows one other e is = is ∙ sym (ap (λ b. cond b one other) e)
-
-answer_of : (p : Program) (S : Atoms) → AreOf p (nogood_of_answer p S)
-answer_of p S =
-    each-map (IsOf p) (λ a. record { var = var_of_atom p a; truth = has S a }) (atoms_of p)
-    (each_weaker (λ a. has (atoms_of p) a ≡ true) (λ a. IsOf p (record { var = var_of_atom p a; truth = has S a })) (λ a h. (omega arith, atom-within p a h)) (atoms_of p) (HasAll-itself (atoms_of p)))
-
-answers_of : (p : Program) (Ss : List Atoms) → AllByRecursion (AreOf p) (map (nogood_of_answer p) Ss)
-answers_of p [] = tt
-answers_of p (S ∷ Ss) = (answer_of p S, answers_of p Ss)
-
-pub known_of : (p : Program) (opt : Bool) (Ss : List Atoms) (rows : List (List Literal)) → rows ≡ cond opt (completion p) (completion p ++ map (nogood_of_answer p) Ss) → AllByRecursion (AreOf p) rows
-known_of p true Ss rows e = subst (AllByRecursion (AreOf p)) (sym e) (completion_vars p)
-known_of p false Ss rows e = subst (AllByRecursion (AreOf p)) (sym e) (each-append (AreOf p) (completion p) (map (nogood_of_answer p) Ss) (completion_vars p) (answers_of p Ss))
-
-known_is : (p : Program) (proof : Proof) (rows : List (List Literal)) (b : Option Bound) → rows ≡ cond proof.opt (completion p) (completion p ++ map (nogood_of_answer p) proof.answers) → cost_of_bound b ≡ cond proof.opt (bound_of p proof.answers) None →
-    known_by rows b ≡ known_at_first p proof
-known_is p proof rows b e f = cases proof.opt e f
+pub known_from : (p : Program) (proof : Proof) (L avoided : List Atoms) (rows : List (List Literal)) (b : Option Bound) → L ≡ proof.answers → avoided ≡ cond proof.opt [] L → rows ≡ completion p → cost_of_bound b ≡ cond proof.opt (bound_of p L) None →
+    known_with p avoided rows b ≡ known_at_first p proof
+known_from p proof L avoided rows b same avoids is cost = cases proof.opt (subst (λ Ss. avoided ≡ cond proof.opt [] Ss) same avoids) (subst (λ Ss. cost_of_bound b ≡ cond proof.opt (bound_of p Ss) None) same cost)
   where
-    cases : (opt : Bool) → rows ≡ cond opt (completion p) (completion p ++ map (nogood_of_answer p) proof.answers) → cost_of_bound b ≡ cond opt (bound_of p proof.answers) None →
-        known_by rows b ≡ cond opt (record { nogoods = completion p; bound = bound_of p proof.answers }) (record { nogoods = completion p ++ map (nogood_of_answer p) proof.answers; bound = None })
-    cases true g h = ap (λ (ns : List (List Literal)). let k : Known = record { nogoods = ns; bound = cost_of_bound b } in k) g ∙ ap (λ (c : Option (List ℤ)). let k : Known = record { nogoods = completion p; bound = c } in k) h
-    cases false g h = ap (λ (ns : List (List Literal)). let k : Known = record { nogoods = ns; bound = cost_of_bound b } in k) g ∙ ap (λ (c : Option (List ℤ)). let k : Known = record { nogoods = completion p ++ map (nogood_of_answer p) proof.answers; bound = c } in k) h
+    bounded : (ns : List (List Literal)) (c : Option (List ℤ)) → cost_of_bound b ≡ c → known_by ns b ≡ record { nogoods = ns; bound = c }
+    bounded ns c h = ap (λ (d : Option (List ℤ)). let k : Known = record { nogoods = ns; bound = d } in k) h
 
-pub known_from : (p : Program) (proof : Proof) (L : List Atoms) (rows : List (List Literal)) (b : Option Bound) → L ≡ proof.answers → rows ≡ cond proof.opt (completion p) (completion p ++ map (nogood_of_answer p) L) → cost_of_bound b ≡ cond proof.opt (bound_of p L) None → known_by rows b ≡ known_at_first p proof
-known_from p proof L rows b same e f =
-    known_is p proof rows b (subst (λ Ss. rows ≡ cond proof.opt (completion p) (completion p ++ map (nogood_of_answer p) Ss)) same e) (subst (λ Ss. cost_of_bound b ≡ cond proof.opt (bound_of p Ss) None) same f)
+    cases : (opt : Bool) → avoided ≡ cond opt [] proof.answers → cost_of_bound b ≡ cond opt (bound_of p proof.answers) None →
+        known_with p avoided rows b ≡ cond opt (record { nogoods = completion p; bound = bound_of p proof.answers }) (record { nogoods = map (nogood_of_answer p) proof.answers ++ completion p; bound = None })
+    cases true g h = ap (λ Ss. known_with p Ss rows b) g ∙ ap (λ (ns : List (List Literal)). known_by ns b) is ∙ bounded (completion p) (bound_of p proof.answers) h
+    cases false g h = ap (λ Ss. known_with p Ss rows b) g ∙ ap (λ (ns : List (List Literal)). known_by (map (nogood_of_answer p) proof.answers ++ ns) b) is ∙ bounded (map (nogood_of_answer p) proof.answers ++ completion p) None h
 
 -- ---- lines
 pub has_of : (p : Program) (l : Line) → HasLiterals p l → AreOf p (nogood_of l)
@@ -201,18 +176,6 @@ map_more f xs i d y old new lt e made is =
 
 pub map_whole : {X Y : Type 0} (f : X → Y) (xs zs : List X) (i : ℕ) (made : List Y) → length xs ≤ i → xs ≡ zs → made ≡ map f (take i xs) → made ≡ map f zs
 map_whole f xs zs i made le same e = e ∙ ap (map f) (take_all i xs le ∙ same)
-
-pub more_behind : {X Y : Type 0} (f : X → Y) (xs : List X) (i : ℕ) (d : X) (y : Y) (first old new : List Y) → i < length xs → old ≡ first ++ map f (take i xs) → new ≡ old ++ y ∷ [] → y ≡ f (get_or xs i d) → new ≡ first ++ map f (take (i + 1) xs)
-more_behind f xs i d y first old new lt e made is =
-    made ∙ ap (λ ys. ys ++ y ∷ []) e ∙ append_assoc first (map f (take i xs)) (y ∷ []) ∙ ap (λ zs. first ++ zs) (map_more f xs i d y (map f (take i xs)) (map f (take i xs) ++ y ∷ []) lt refl refl is)
-
-pub whole_behind : {X Y : Type 0} (f : X → Y) (xs : List X) (i : ℕ) (first made : List Y) → length xs ≤ i → made ≡ first ++ map f (take i xs) → made ≡ first ++ map f xs
-whole_behind f xs i first made le e = e ∙ ap (λ zs. first ++ map f zs) (take_all i xs le)
-
-pub own_atom : (p : Program) (L : List ℕ) (i : ℕ) → L ≡ atoms_of p → i < length L → has (atoms_of p) (get_or L i 0) ≡ true
-own_atom p L i e lt =
-    let inside : i < length (atoms_of p) = let n = ap length e in omega (arith, n, lt) in
-    ap (λ M. has (atoms_of p) (get_or M i 0)) e ∙ at_each (λ a. has (atoms_of p) a ≡ true) (atoms_of p) i 0 (HasAll-itself (atoms_of p)) inside
 
 -- ---- the literals of a line
 pub nogood_found : {V : Type 0} (p : Program) (s n : List ℤ) (o : Option V) (items : V → List Literal) → s ≡ n → MatchOption o (AreOf p (literals_of s) → ⊥) (λ v. (items v ≡ literals_of s) × AreOf p (items v)) → MatchOption o (AreOf p (literals_of n) → ⊥) (λ v. (items v ≡ literals_of n) × AreOf p (literals_of n))

@@ -8,6 +8,7 @@ pub mod LiteralLaws
 pub mod SweepLaws
 pub mod BlockLaws
 pub mod CloseLaws
+pub mod AnswerLaws
 pub mod BodyLaws
 pub mod AssumeLaws
 pub mod BoundLaws

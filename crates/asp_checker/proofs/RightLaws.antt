@@ -122,11 +122,11 @@ one-listed p K S answer listed = record {
       or_left (list_any (same_set T) K) false (ap (λ U. list_any (same_set U) K) same ∙ test_from_contains K S listed);
 }
 
-listed-known : (p : Program) (K : List Atoms) → IsSound p → AllByRecursion (Contains (answers p)) K → IsKnownFor p (is_done p K None) (record { nogoods = completion p ++ map (nogood_of_answer p) K; bound = None })
+listed-known : (p : Program) (K : List Atoms) → IsSound p → AllByRecursion (Contains (answers p)) K → IsKnownFor p (is_done p K None) (record { nogoods = map (nogood_of_answer p) K ++ completion p; bound = None })
 listed-known p K sound members = record {
-  nogoods = each-append (HitsOnly p (is_done p K None)) (completion p) (map (nogood_of_answer p) K) (completion-excused p (is_done p K None) sound) (each-map (HitsOnly p (is_done p K None)) (nogood_of_answer p) K
+  nogoods = each-append (HitsOnly p (is_done p K None)) (map (nogood_of_answer p) K) (completion p) (each-map (HitsOnly p (is_done p K None)) (nogood_of_answer p) K
       (each_weaker (λ S. Contains (answers p) S × Contains K S) (λ S. HitsOnly p (is_done p K None) (nogood_of_answer p S)) (λ S h. one-listed p K S h.0 h.1) K
-      (each_both (Contains (answers p)) (Contains K) K members (recursion_from_All (Contains K) K (All-contains_itself K)))));
+      (each_both (Contains (answers p)) (Contains K) K members (recursion_from_All (Contains K) K (All-contains_itself K))))) (completion-excused p (is_done p K None) sound);
   bound = λ S stable reached. absurd (false≢true reached);
 }
 
@@ -148,10 +148,10 @@ none_passes : (q : Atoms → Bool) (xs : List Atoms) → AllByRecursion (λ x. q
 none_passes q [] h = refl
 none_passes q (x ∷ xs) h = or_from (q x) (list_any q xs) h.0 (none_passes q xs h.1)
 
-shows-all : (p : Program) (K : List Atoms) (lines : List Line) → IsSound p → AllByRecursion (Contains (answers p)) K → AllPairs IsBefore K → AreConfirmed p (record { nogoods = completion p ++ map (nogood_of_answer p) K; bound = None }) lines → list_any (closes p) lines ≡ true → K ≡ answers p
+shows-all : (p : Program) (K : List Atoms) (lines : List Line) → IsSound p → AllByRecursion (Contains (answers p)) K → AllPairs IsBefore K → AreConfirmed p (record { nogoods = map (nogood_of_answer p) K ++ completion p; bound = None }) lines → list_any (closes p) lines ≡ true → K ≡ answers p
 shows-all p K lines sound members order confirmed whole = same_from_members K (answers p) order (answers-rise p) (λ S. (
   λ h. All-contains (Contains (answers p)) K S (All-from_recursion (Contains (answers p)) K members) h,
-  λ h. let is = (answers-are p S).0 h in contains_from_test K S (listed S (closed-excused p (is_done p K None) (record { nogoods = completion p ++ map (nogood_of_answer p) K; bound = None }) lines sound (listed-known p K sound members) confirmed whole S is.0 (answer-hits p S is.1))),
+  λ h. let is = (answers-are p S).0 h in contains_from_test K S (listed S (closed-excused p (is_done p K None) (record { nogoods = map (nogood_of_answer p) K ++ completion p; bound = None }) lines sound (listed-known p K sound members) confirmed whole S is.0 (answer-hits p S is.1))),
 ))
   where
     listed : (S : Atoms) → is_done p K None S ≡ true → list_any (same_set S) K ≡ true
@@ -179,7 +179,7 @@ shows-best p (S ∷ K) lines sound members single confirmed whole = (
         let is = (answers-are p T).0 h in
         undone (betters (cost p T) (cost p S)) (closed-excused p (costs p (cost p S)) (record { nogoods = completion p; bound = Some (cost p S) }) lines sound (costs-known p S sound) confirmed whole T is.0 (answer-hits p T is.1))
 
-by-mode : (p : Program) (opt : Bool) (K : List Atoms) (lines : List Line) → IsSound p → AllByRecursion (Contains (answers p)) K → AllPairs IsBefore K → (opt ≡ true → length K ≤ 1) → AreConfirmed p (cond opt (record { nogoods = completion p; bound = bound_of p K }) (record { nogoods = completion p ++ map (nogood_of_answer p) K; bound = None })) lines → list_any (closes p) lines ≡ true → MatchBool opt (ShowsBest p K) (K ≡ answers p)
+by-mode : (p : Program) (opt : Bool) (K : List Atoms) (lines : List Line) → IsSound p → AllByRecursion (Contains (answers p)) K → AllPairs IsBefore K → (opt ≡ true → length K ≤ 1) → AreConfirmed p (cond opt (record { nogoods = completion p; bound = bound_of p K }) (record { nogoods = map (nogood_of_answer p) K ++ completion p; bound = None })) lines → list_any (closes p) lines ≡ true → MatchBool opt (ShowsBest p K) (K ≡ answers p)
 by-mode p true K lines sound members order single confirmed whole = shows-best p K lines sound members (single refl) confirmed whole
 by-mode p false K lines sound members order single confirmed whole = shows-all p K lines sound members order confirmed whole
 

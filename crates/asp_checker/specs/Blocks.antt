@@ -1,8 +1,9 @@
 -- What weight bodies and a bound say under values.
-use Rattle.std.specs.Prelude.{◌≡◌, ℕ, ◌+◌, ◌*◌, ◌<◌, ◌≤◌, Bool, true, false, not, ◌||◌, List, [], ◌∷◌, length, Option, Some, None, ℤ, pos, slice_index_or, slice_set}
+use Rattle.std.specs.Prelude.{◌≡◌, ℕ, ◌+◌, ◌*◌, ◌<◌, ◌≤◌, Bool, true, false, not, ◌||◌, List, [], ◌∷◌, ◌++◌, map, length, Option, Some, None, ℤ, pos, slice_index_or, slice_set}
 use Rattle.std.specs.List.{list_any}
 use Rattle.asp_model.specs.declared.program.Program.{Program}
 use Rattle.asp_model.specs.Costs.{priorities}
+use Rattle.asp_model.specs.Sets.{Atoms}
 use Rattle.asp_vars.specs.Literals.{Literal, value_of}
 use Rattle.asp_vars.specs.Numbering.{bodies_of, var_count}
 use Rattle.asp_bound.specs.Optimism.{items_at, least, sum_to}
@@ -11,6 +12,7 @@ use Rattle.asp_checker.specs.declared.bounds.Bound.{Bound}
 use Rattle.asp_checker.specs.declared.nogoods.Visit.{Visit}
 use Rattle.asp_checker.specs.declared.nogoods.Visit.TheVariants as visit
 use Rattle.asp_checker.specs.Propagation.{Known, is_broken, reaches_bound, IsPropagated, LeadsToConflict}
+use Rattle.asp_checker.specs.Lines.{nogood_of_answer}
 use Rattle.asp_checker.specs.Steps.{AreWithin, Follow}
 use Rattle.asp_checker.specs.Sweeps.{open_count}
 
@@ -41,6 +43,10 @@ cost_of_bound (Some b) = Some b.cost
 -- what is known by these nogoods and this bound
 abbrev pub known_by : List (List Literal) → Option Bound → Known
 known_by rows bound = record { nogoods = rows; bound = cost_of_bound bound }
+
+-- the same, and the nogoods of these answers
+abbrev pub known_with : Program → List Atoms → List (List Literal) → Option Bound → Known
+known_with p listed rows bound = known_by (map (nogood_of_answer p) listed ++ rows) bound
 
 -- ---- steps
 -- The values y follow from whatever x follow from, and have those of x.

@@ -78,4 +78,4 @@ bound_of p (S ∷ answers) = Some (cost p S)
 abbrev pub known_at_first : Program → Proof → Known
 known_at_first p proof =
     if proof.opt then record { nogoods = completion p; bound = bound_of p proof.answers }
-    else record { nogoods = completion p ++ map (nogood_of_answer p) proof.answers; bound = None }
+    else record { nogoods = map (nogood_of_answer p) proof.answers ++ completion p; bound = None }

@@ -1,19 +1,22 @@
 //! Unit propagation by hints: each value was seen to be forced before it is set.
-ghost use Rattle.std.specs.Prelude.{◌≡◌, ◌+◌, ◌<◌, ◌≤◌, List, Option, Some, None, true, IfOk, OnOk, length, slice_set};
+ghost use Rattle.std.specs.Prelude.{◌≡◌, ◌+◌, ◌<◌, ◌≤◌, List, Some, None, true, map, IfOk, OnOk, length, slice_set};
 ghost use Rattle.std.specs.List.{AllByRecursion, list_any};
 ghost use Rattle.asp_vars.specs.Literals.{Literal, value_of};
 ghost use Rattle.asp_vars.specs.Numbering.{bodies_of, var_count};
-ghost use Rattle.asp_checker.specs.Propagation.{is_broken};
-ghost use Rattle.asp_checker.specs.Lines.{AreOf};
-ghost use Rattle.asp_checker.specs.Blocks.{is_blocked, HasLevels, known_by, cost_of_bound, Extends, AreRefuted};
+ghost use Rattle.asp_checker.specs.Propagation.{Known, is_broken};
+ghost use Rattle.asp_checker.specs.Lines.{AreOf, nogood_of_answer};
+ghost use Rattle.asp_checker.specs.Looks.{IsSeen};
+ghost use Rattle.asp_checker.specs.Sweeps.{IsNogoodOf, AreNogoodsOf};
+ghost use Rattle.asp_checker.specs.Blocks.{is_blocked, HasLevels, known_by, known_with, cost_of_bound, Extends, AreRefuted};
 ghost use Rattle.asp_checker.specs.Chasing.{IsFoundBy, IsTrailedAlike, trail_with};
-ghost use Rattle.asp_checker.specs.declared.bounds.Bound.{Bound as TheBound};
 
+use crate::answers::look_at_answer;
 use crate::bounds::{Bound, reaches_bound};
 use crate::hints::Hint;
 use crate::nogoods::{Look, look_at};
 use crate::watches::Watches;
 use crate::weights::is_broken;
+use asp_model::interp::Interp;
 use asp_model::seq::Seq;
 use asp_vars::assign::Assign;
 use asp_vars::compiled::Compiled;
@@ -31,16 +34,13 @@ pub(crate) enum Found {
     Nothing,
 }
 
-// Looks at the nogood at a place, if there is one, and sets the value that it implies.
-fn look(compiled: &Compiled, rows: &[Seq<Lit>], place: usize, values: &mut Assign) -> Found
-    requires of { AllByRecursion (AreOf compiled.now) rows.now }
+// Sets the value that a nogood implies, by what was seen of it.
+fn set_implied(compiled: &Compiled, look: Look, values: &mut Assign) -> Found
     requires size { length values.old ≡ var_count compiled.now + 1 }
-    ensures { (b : Option TheBound) → IsFoundBy compiled.now (known_by rows.now b) values.old values.new result }
+    requires within { (l : Literal) → look ≡ Look.Unit l → l.var < length values.old }
+    ensures { (k : Known) (n : List Literal) → IsNogoodOf compiled.now k n → IsSeen values.old n look → IsFoundBy compiled.now k values.old values.new result }
 {
-    if place >= rows.len() {
-        return Found::Nothing;
-    }
-    match look_at(rows[place].as_slice(), values) {
+    match look {
         Look::Fixpoint => Found::Nothing,
         Look::Violated => Found::Conflict,
         Look::Unit(lit) => {
@@ -49,6 +49,38 @@ fn look(compiled: &Compiled, rows: &[Seq<Lit>], place: usize, values: &mut Assig
             Found::Implied(held)
         }
     }
+}
+
+// Looks at the nogood at a place, if there is one, and sets the value that it implies.
+fn look(compiled: &Compiled, rows: &[Seq<Lit>], place: usize, values: &mut Assign) -> Found
+    requires of { AllByRecursion (AreOf compiled.now) rows.now }
+    requires size { length values.old ≡ var_count compiled.now + 1 }
+    ensures { (k : Known) → AreNogoodsOf compiled.now k rows.now → IsFoundBy compiled.now k values.old values.new result }
+{
+    if place >= rows.len() {
+        return Found::Nothing;
+    }
+    set_implied(compiled, look_at(rows[place].as_slice(), values), values)
+}
+
+// Looks at the nogood of the listed answer at a place, if there is one, and sets the value that it implies.
+fn look_at_listed(
+    compiled: &Compiled,
+    listed: &[Interp],
+    place: usize,
+    values: &mut Assign,
+) -> Found
+    requires { length values.old ≡ var_count compiled.now + 1 }
+    ensures { (k : Known) → AreNogoodsOf compiled.now k (map (nogood_of_answer compiled.now) listed.now) → IsFoundBy compiled.now k values.old values.new result }
+{
+    if place >= listed.len() {
+        return Found::Nothing;
+    }
+    set_implied(
+        compiled,
+        look_at_answer(compiled, &listed[place], values),
+        values,
+    )
 }
 
 fn is_body_broken(compiled: &Compiled, values: &Assign, body: usize) -> bool
@@ -166,6 +198,7 @@ fn conflict_by(
 // Looks at what a hint names.
 fn follow(
     compiled: &Compiled,
+    listed: &[Interp],
     rows: &[Seq<Lit>],
     bound: &Option<Bound>,
     values: &mut Assign,
@@ -174,10 +207,11 @@ fn follow(
     requires of { AllByRecursion (AreOf compiled.now) rows.now }
     requires size { length values.old ≡ var_count compiled.now + 1 }
     requires levels { HasLevels compiled.now bound.now }
-    ensures { IsFoundBy compiled.now (known_by rows.now bound.now) values.old values.new result }
+    ensures { IsFoundBy compiled.now (known_with compiled.now listed.now rows.now bound.now) values.old values.new result }
 {
     match hint {
         Hint::Nogood(place) => look(compiled, rows, *place, values),
+        Hint::Answer(place) => look_at_listed(compiled, listed, *place, values),
         Hint::Body(body, lit) => force(compiled, bound, values, Some(*body), *lit),
         Hint::Bound(lit) => force(compiled, bound, values, None, *lit),
     }
@@ -201,6 +235,7 @@ fn add(trail: &mut Vec<Lit>, found: Found) -> Result<(), AllocError>
 /// has the literals that came to hold.
 pub(crate) fn chase(
     compiled: &Compiled,
+    listed: &[Interp],
     rows: &[Seq<Lit>],
     bound: &Option<Bound>,
     watches: &mut Watches,
@@ -210,15 +245,16 @@ pub(crate) fn chase(
     requires of { AllByRecursion (AreOf compiled.now) rows.now }
     requires size { length values.old ≡ var_count compiled.now + 1 }
     requires levels { HasLevels compiled.now bound.now }
-    ensures conflict { IfOk result (λ yes. yes ≡ true → AreRefuted compiled.now (known_by rows.now bound.now) values.old) }
-    ensures extends { OnOk result (Extends compiled.now (known_by rows.now bound.now) values.old values.new) }
+    ensures conflict { IfOk result (λ yes. yes ≡ true → AreRefuted compiled.now (known_with compiled.now listed.now rows.now bound.now) values.old) }
+    ensures extends { OnOk result (Extends compiled.now (known_with compiled.now listed.now rows.now bound.now) values.old values.new) }
     ensures trailed { OnOk result (IsTrailedAlike values.old values.new trail.old.items trail.new.items) }
 {
     'hints: for _ in 0..u64::MAX {
-        let Some(hint) = watches.next(compiled, rows, bound, values, trail.as_slice())? else {
+        let Some(hint) = watches.next(compiled, listed, rows, bound, values, trail.as_slice())?
+        else {
             return Ok(false);
         };
-        let found = follow(compiled, rows, bound, values, &hint);
+        let found = follow(compiled, listed, rows, bound, values, &hint);
         if let Found::Conflict = found {
             watches.keep(hint);
             return Ok(true);

@@ -5,12 +5,13 @@ ghost use Rattle.asp_vars.specs.Literals.{Literal};
 ghost use Rattle.asp_vars.specs.Numbering.{var_count};
 ghost use Rattle.asp_checker.specs.Propagation.{IsPropagated};
 ghost use Rattle.asp_checker.specs.Lines.{AreOf};
-ghost use Rattle.asp_checker.specs.Blocks.{HasLevels, known_by, IsStep, IsFound, Extends, AreRefuted};
+ghost use Rattle.asp_checker.specs.Blocks.{HasLevels, known_by, known_with, IsStep, IsFound, Extends, AreRefuted};
 
+use crate::answers::sweep_all;
 use crate::blocks::{implied, is_blocked};
 use crate::bounds::Bound;
 use crate::nogoods::Visit;
-use crate::sweep::sweep;
+use asp_model::interp::Interp;
 use asp_model::seq::Seq;
 use asp_vars::assign::Assign;
 use asp_vars::compiled::Compiled;
@@ -36,13 +37,19 @@ fn look_further(compiled: &Compiled, bound: &Option<Bound>, values: &mut Assign)
 }
 
 // Looks at all nogoods, and then at the weight bodies and the bound, and sets values that are implied.
-fn step(compiled: &Compiled, rows: &[Seq<Lit>], bound: &Option<Bound>, values: &mut Assign) -> Visit
+fn step(
+    compiled: &Compiled,
+    listed: &[Interp],
+    rows: &[Seq<Lit>],
+    bound: &Option<Bound>,
+    values: &mut Assign,
+) -> Visit
     requires of { AllByRecursion (AreOf compiled.now) rows.now }
     requires size { length values.old ≡ var_count compiled.now + 1 }
     requires levels { HasLevels compiled.now bound.now }
-    ensures { IsStep compiled.now (known_by rows.now bound.now) values.old values.new result }
+    ensures { IsStep compiled.now (known_with compiled.now listed.now rows.now bound.now) values.old values.new result }
 {
-    match sweep(rows, values) {
+    match sweep_all(compiled, listed, rows, values) {
         Visit::Conflict => Visit::Conflict,
         Visit::Implied => Visit::Implied,
         Visit::Fixpoint => look_further(compiled, bound, values),
@@ -52,6 +59,7 @@ fn step(compiled: &Compiled, rows: &[Seq<Lit>], bound: &Option<Bound>, values: &
 /// Adds the values that unit propagation gives, and says whether it leads to a conflict.
 pub fn close(
     compiled: &Compiled,
+    listed: &[Interp],
     rows: &[Seq<Lit>],
     bound: &Option<Bound>,
     values: &mut Assign,
@@ -59,12 +67,12 @@ pub fn close(
     requires of { AllByRecursion (AreOf compiled.now) rows.now }
     requires size { length values.old ≡ var_count compiled.now + 1 }
     requires levels { HasLevels compiled.now bound.now }
-    ensures conflict { result ≡ true → AreRefuted compiled.now (known_by rows.now bound.now) values.old }
-    ensures extends { result ≡ false → Extends compiled.now (known_by rows.now bound.now) values.old values.new }
-    ensures propagated { result ≡ false → IsPropagated compiled.now (known_by rows.now bound.now) values.new }
+    ensures conflict { result ≡ true → AreRefuted compiled.now (known_with compiled.now listed.now rows.now bound.now) values.old }
+    ensures extends { result ≡ false → Extends compiled.now (known_with compiled.now listed.now rows.now bound.now) values.old values.new }
+    ensures propagated { result ≡ false → IsPropagated compiled.now (known_with compiled.now listed.now rows.now bound.now) values.new }
 {
     'steps: loop {
-        match step(compiled, rows, bound, values) {
+        match step(compiled, listed, rows, bound, values) {
             Visit::Conflict => return true,
             Visit::Fixpoint => return false,
             Visit::Implied => {}

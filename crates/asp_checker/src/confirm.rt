@@ -4,7 +4,7 @@ ghost use Rattle.std.specs.List.{AllByRecursion};
 ghost use Rattle.asp_vars.specs.Numbering.{var_count};
 ghost use Rattle.asp_checker.specs.Propagation.{LeadsToConflict};
 ghost use Rattle.asp_checker.specs.Lines.{AreOf};
-ghost use Rattle.asp_checker.specs.Blocks.{HasLevels, known_by};
+ghost use Rattle.asp_checker.specs.Blocks.{HasLevels, known_with};
 ghost use Rattle.asp_checker.specs.Assuming.{IsAssumed, AreAssumed};
 ghost use Rattle.asp_checker.specs.Steps.{Follow};
 ghost use Rattle.asp_checker.specs.Chasing.{IsRoot, IsTrailed, IsTrailedAlike};
@@ -14,6 +14,7 @@ use crate::chase::chase;
 use crate::close::close;
 use crate::root::{copied, undo};
 use crate::watches::Watches;
+use asp_model::interp::Interp;
 use asp_model::seq::Seq;
 use asp_vars::assign::Assign;
 use asp_vars::compiled::Compiled;
@@ -58,6 +59,7 @@ fn assume_all(values: &mut Assign, trail: &mut Vec<Lit>, lits: &[Lit]) -> Result
 fn confirms_plainly(
     alloc: Global,
     compiled: &Compiled,
+    listed: &[Interp],
     rows: &[Seq<Lit>],
     bound: &Option<Bound>,
     known: &Assign,
@@ -67,9 +69,9 @@ fn confirms_plainly(
     requires lits { AreOf compiled.now lits.now }
     requires levels { HasLevels compiled.now bound.now }
     requires size { length known.now ≡ var_count compiled.now + 1 }
-    requires follow { Follow compiled.now (known_by rows.now bound.now) lits.now known.now }
-    ensures yes { IfOk result (λ yes. yes ≡ true → LeadsToConflict compiled.now (known_by rows.now bound.now) lits.now) }
-    ensures no { IfOk result (λ yes. yes ≡ false → LeadsToConflict compiled.now (known_by rows.now bound.now) lits.now → ⊥) }
+    requires follow { Follow compiled.now (known_with compiled.now listed.now rows.now bound.now) lits.now known.now }
+    ensures yes { IfOk result (λ yes. yes ≡ true → LeadsToConflict compiled.now (known_with compiled.now listed.now rows.now bound.now) lits.now) }
+    ensures no { IfOk result (λ yes. yes ≡ false → LeadsToConflict compiled.now (known_with compiled.now listed.now rows.now bound.now) lits.now → ⊥) }
 {
     let _program = compiled.program();
     let mut values = copied(alloc, compiled, known)?;
@@ -78,13 +80,13 @@ fn confirms_plainly(
     if !assumed {
         return Ok(true);
     }
-    Ok(close(compiled, rows, bound, &mut values))
+    Ok(close(compiled, listed, rows, bound, &mut values))
 }
 
 // Whether unit propagation from the literals leads to a conflict. What it adds to the values is on the trail.
 fn confirms_by(
-    alloc: Global,
     compiled: &Compiled,
+    listed: &[Interp],
     rows: &[Seq<Lit>],
     bound: &Option<Bound>,
     watches: &mut Watches,
@@ -95,11 +97,12 @@ fn confirms_by(
     requires rows { AllByRecursion (AreOf compiled.now) rows.now }
     requires lits { AreOf compiled.now lits.now }
     requires levels { HasLevels compiled.now bound.now }
-    requires root { IsRoot compiled.now (known_by rows.now bound.now) values.old }
-    ensures yes { IfOk result (λ yes. yes ≡ true → LeadsToConflict compiled.now (known_by rows.now bound.now) lits.now) }
-    ensures no { IfOk result (λ yes. yes ≡ false → LeadsToConflict compiled.now (known_by rows.now bound.now) lits.now → ⊥) }
+    requires root { IsRoot compiled.now (known_with compiled.now listed.now rows.now bound.now) values.old }
+    ensures yes { IfOk result (λ yes. yes ≡ true → LeadsToConflict compiled.now (known_with compiled.now listed.now rows.now bound.now) lits.now) }
+    ensures no { IfOk result (λ yes. yes ≡ false → LeadsToConflict compiled.now (known_with compiled.now listed.now rows.now bound.now) lits.now → ⊥) }
     ensures trailed { OnOk result (IsTrailedAlike values.old values.new trail.old.items trail.new.items) }
 {
+    let alloc = watches.allocator();
     let _program = compiled.program();
     watches.restart(values, compiled.vars(), rows)?;
     watches.look_deeper();
@@ -107,11 +110,11 @@ fn confirms_by(
     if !assumed {
         return Ok(true);
     }
-    let refuted = chase(compiled, rows, bound, watches, values, trail)?;
+    let refuted = chase(compiled, listed, rows, bound, watches, values, trail)?;
     if refuted {
         return Ok(true);
     }
-    let confirmed = confirms_plainly(alloc, compiled, rows, bound, values, lits)?;
+    let confirmed = confirms_plainly(alloc, compiled, listed, rows, bound, values, lits)?;
     Ok(confirmed)
 }
 
@@ -120,6 +123,7 @@ fn confirms_by(
 pub fn confirms(
     alloc: Global,
     compiled: &Compiled,
+    listed: &[Interp],
     rows: &[Seq<Lit>],
     bound: &Option<Bound>,
     watches: &mut Watches,
@@ -129,14 +133,14 @@ pub fn confirms(
     requires rows { AllByRecursion (AreOf compiled.now) rows.now }
     requires lits { AreOf compiled.now lits.now }
     requires levels { HasLevels compiled.now bound.now }
-    requires root { IsRoot compiled.now (known_by rows.now bound.now) values.old }
-    ensures yes { IfOk result (λ yes. yes ≡ true → LeadsToConflict compiled.now (known_by rows.now bound.now) lits.now) }
-    ensures no { IfOk result (λ yes. yes ≡ false → LeadsToConflict compiled.now (known_by rows.now bound.now) lits.now → ⊥) }
-    ensures root { OnOk result (IsRoot compiled.now (known_by rows.now bound.now) values.new) }
+    requires root { IsRoot compiled.now (known_with compiled.now listed.now rows.now bound.now) values.old }
+    ensures yes { IfOk result (λ yes. yes ≡ true → LeadsToConflict compiled.now (known_with compiled.now listed.now rows.now bound.now) lits.now) }
+    ensures no { IfOk result (λ yes. yes ≡ false → LeadsToConflict compiled.now (known_with compiled.now listed.now rows.now bound.now) lits.now → ⊥) }
+    ensures root { OnOk result (IsRoot compiled.now (known_with compiled.now listed.now rows.now bound.now) values.new) }
 {
     let mut trail = Vec::new(alloc);
     let confirmed = confirms_by(
-        alloc, compiled, rows, bound, watches, values, &mut trail, lits,
+        compiled, listed, rows, bound, watches, values, &mut trail, lits,
     )?;
     undo(values, compiled.vars(), trail.as_slice());
     Ok(confirmed)

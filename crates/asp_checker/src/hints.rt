@@ -13,6 +13,8 @@ use std::alloc::{AllocError, Global};
 pub(crate) enum Hint {
     /// The nogood at this place.
     Nogood(usize),
+    /// The nogood of the listed answer at this place.
+    Answer(usize),
     /// Whether the weight body implies the literal.
     Body(usize, Lit),
     /// Whether the bound implies the literal.

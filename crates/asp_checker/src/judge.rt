@@ -1,5 +1,5 @@
 //! The judgement of a proof: that it is right, or the first line that isn't, and why.
-ghost use Rattle.std.specs.Prelude.{◌≡◌, ◌+◌, ◌<◌, ◌≤◌, ◌||◌, ◌++◌, true, false, length, if◌then◌else◌, IfOk, OnOk, MatchOption, AllPairs, Contains, map, None};
+ghost use Rattle.std.specs.Prelude.{◌≡◌, ◌+◌, ◌<◌, ◌≤◌, ◌||◌, true, false, length, if◌then◌else◌, IfOk, OnOk, MatchOption, AllPairs, Contains, map, [], None};
 ghost use Rattle.std.specs.List.{AllByRecursion, list_all};
 ghost use Rattle.asp_model.specs.Sets.{IsBefore, has};
 ghost use Rattle.asp_model.specs.Models.{answers, atoms_of};
@@ -8,8 +8,8 @@ ghost use Rattle.asp_vars.specs.Numbering.{literal_of};
 ghost use Rattle.asp_checker.specs.Right.{closes};
 ghost use Rattle.asp_vars.specs.Completion.{completion};
 ghost use Rattle.asp_checker.specs.Propagation.{LeadsToConflict};
-ghost use Rattle.asp_checker.specs.Lines.{AreOf, IsConfirmed, IsLoop, literals_of, nogood_of, nogood_of_answer, bound_of};
-ghost use Rattle.asp_checker.specs.Blocks.{HasLevels, known_by, cost_of_bound};
+ghost use Rattle.asp_checker.specs.Lines.{AreOf, IsConfirmed, IsLoop, literals_of, nogood_of, bound_of};
+ghost use Rattle.asp_checker.specs.Blocks.{HasLevels, known_with, cost_of_bound};
 ghost use Rattle.asp_checker.specs.Chasing.{IsRoot};
 ghost use Rattle.asp_checker.specs.Judging.{IsInOrder, AreRightAnswers, IsRightAnswer, HasAnswerFault, AreAnswersJudged, HasLiterals, HasLineFault, AreLinesJudged, IsJudged, HasLoopLiterals, IsLineJudged};
 
@@ -153,24 +153,6 @@ fn fault_of_answers(
 
 // ---- what is known at first
 
-// Adds the nogood of all atoms by which a set differs from all others.
-fn nogood_of_answer(
-    alloc: Global,
-    compiled: &Compiled,
-    set: &Interp,
-) -> Result<Seq<Lit>, AllocError>
-    ensures { IfOk result (λ n. n ≡ nogood_of_answer compiled.now set.now) }
-{
-    let atoms = compiled.atoms().as_slice();
-    let mut lits = Vec::with_capacity(alloc, atoms.len())?;
-    for atom in atoms {
-        let var = compiled.atom_var(*atom);
-        let truth = set.has(*atom);
-        lits.push(Lit::new(var, truth))?;
-    }
-    Ok(Seq::from_vec(lits))
-}
-
 // The literals of nogoods.
 fn copied(alloc: Global, nogoods: &[Nogood]) -> Result<Vec<Seq<Lit>>, AllocError>
     ensures { IfOk result (λ rows. rows.items ≡ map (λ n. n.lits) nogoods.now) }
@@ -192,38 +174,11 @@ fn completed(alloc: Global, compiled: &Compiled) -> Result<Vec<Seq<Lit>>, AllocE
     Ok(rows)
 }
 
-// Adds the nogoods of the listed answers.
-fn add_answers(
-    alloc: Global,
-    rows: &mut Vec<Seq<Lit>>,
-    compiled: &Compiled,
-    listed: &[Interp],
-) -> Result<(), AllocError>
-    ensures { OnOk result (rows.new.items ≡ rows.old.items ++ map (nogood_of_answer compiled.now) listed.now) }
+// The answers that are avoided: the listed ones, where no optimum is sought.
+fn avoided(opt: bool, listed: &[Interp]) -> &[Interp]
+    ensures { result.now ≡ (if opt then [] else listed.now) }
 {
-    for set in listed {
-        let nogood = nogood_of_answer(alloc, compiled, set)?;
-        rows.push(nogood)?;
-    }
-    Ok(())
-}
-
-// The nogoods that are known before the first line.
-fn known_at_first(
-    alloc: Global,
-    compiled: &Compiled,
-    opt: bool,
-    listed: &[Interp],
-) -> Result<Vec<Seq<Lit>>, AllocError>
-    ensures rows { IfOk result (λ rows. rows.items ≡ (if opt then completion compiled.now else completion compiled.now ++ map (nogood_of_answer compiled.now) listed.now)) }
-    ensures of { IfOk result (λ rows. AllByRecursion (AreOf compiled.now) rows.items) }
-{
-    let mut rows = completed(alloc, compiled)?;
-    if opt {
-        return Ok(rows);
-    }
-    add_answers(alloc, &mut rows, compiled, listed)?;
-    Ok(rows)
+    if opt { &listed[..0] } else { listed }
 }
 
 // The bound of an optimisation that lists an answer.
@@ -315,6 +270,7 @@ fn fault_of_loop(
 fn fault_of_nogood(
     alloc: Global,
     compiled: &Compiled,
+    listed: &[Interp],
     rows: &[Seq<Lit>],
     bound: &Option<Bound>,
     watches: &mut Watches,
@@ -323,13 +279,13 @@ fn fault_of_nogood(
 ) -> Result<Option<Why>, AllocError>
     requires rows { AllByRecursion (AreOf compiled.now) rows.now }
     requires levels { HasLevels compiled.now bound.now }
-    requires root { IsRoot compiled.now (known_by rows.now bound.now) values.old }
+    requires root { IsRoot compiled.now (known_with compiled.now listed.now rows.now bound.now) values.old }
     requires lits { AreOf compiled.now lits.now }
-    ensures judged { IfOk result (λ o. MatchOption o (LeadsToConflict compiled.now (known_by rows.now bound.now) lits.now)
-        (λ w. (w ≡ Why.NotImplied) × (LeadsToConflict compiled.now (known_by rows.now bound.now) lits.now → ⊥))) }
-    ensures root { OnOk result (IsRoot compiled.now (known_by rows.now bound.now) values.new) }
+    ensures judged { IfOk result (λ o. MatchOption o (LeadsToConflict compiled.now (known_with compiled.now listed.now rows.now bound.now) lits.now)
+        (λ w. (w ≡ Why.NotImplied) × (LeadsToConflict compiled.now (known_with compiled.now listed.now rows.now bound.now) lits.now → ⊥))) }
+    ensures root { OnOk result (IsRoot compiled.now (known_with compiled.now listed.now rows.now bound.now) values.new) }
 {
-    let confirmed = confirms(alloc, compiled, rows, bound, watches, values, lits)?;
+    let confirmed = confirms(alloc, compiled, listed, rows, bound, watches, values, lits)?;
     if confirmed {
         return Ok(None);
     }
@@ -338,8 +294,8 @@ fn fault_of_nogood(
 
 // What is wrong with a line of these literals, where these nogoods and this bound are known.
 fn fault_of_line(
-    alloc: Global,
     compiled: &Compiled,
+    listed: &[Interp],
     rows: &[Seq<Lit>],
     bound: &Option<Bound>,
     watches: &mut Watches,
@@ -349,17 +305,22 @@ fn fault_of_line(
 ) -> Result<Option<Why>, AllocError>
     requires rows { AllByRecursion (AreOf compiled.now) rows.now }
     requires levels { HasLevels compiled.now bound.now }
-    requires root { IsRoot compiled.now (known_by rows.now bound.now) values.old }
+    requires root { IsRoot compiled.now (known_with compiled.now listed.now rows.now bound.now) values.old }
     requires lits { lits.now ≡ nogood_of line.now }
     requires has { HasLiterals compiled.now line.now }
-    ensures judged { IfOk result (λ o. MatchOption o (IsConfirmed compiled.now (known_by rows.now bound.now) line.now)
-        (HasLineFault compiled.now (known_by rows.now bound.now) line.now)) }
-    ensures root { OnOk result (IsRoot compiled.now (known_by rows.now bound.now) values.new) }
+    ensures judged { IfOk result (λ o. MatchOption o (IsConfirmed compiled.now (known_with compiled.now listed.now rows.now bound.now) line.now)
+        (HasLineFault compiled.now (known_with compiled.now listed.now rows.now bound.now) line.now)) }
+    ensures root { OnOk result (IsRoot compiled.now (known_with compiled.now listed.now rows.now bound.now) values.new) }
 {
+    let alloc = watches.allocator();
     match line {
         Line::Loop { set, nogood: _ } => fault_of_loop(alloc, compiled, set, lits),
-        Line::Learned(_) => fault_of_nogood(alloc, compiled, rows, bound, watches, values, lits),
-        Line::Cube(_) => fault_of_nogood(alloc, compiled, rows, bound, watches, values, lits),
+        Line::Learned(_) => fault_of_nogood(
+            alloc, compiled, listed, rows, bound, watches, values, lits,
+        ),
+        Line::Cube(_) => fault_of_nogood(
+            alloc, compiled, listed, rows, bound, watches, values, lits,
+        ),
     }
 }
 
@@ -386,8 +347,8 @@ enum Step {
 
 // Judges a line whose literals are these.
 fn judge_literals(
-    alloc: Global,
     compiled: &Compiled,
+    listed: &[Interp],
     rows: &[Seq<Lit>],
     bound: &Option<Bound>,
     watches: &mut Watches,
@@ -397,14 +358,14 @@ fn judge_literals(
 ) -> Result<Step, AllocError>
     requires rows { AllByRecursion (AreOf compiled.now) rows.now }
     requires levels { HasLevels compiled.now bound.now }
-    requires root { IsRoot compiled.now (known_by rows.now bound.now) values.old }
+    requires root { IsRoot compiled.now (known_with compiled.now listed.now rows.now bound.now) values.old }
     requires lits { lits.items ≡ nogood_of line.now }
     requires has { HasLiterals compiled.now line.now }
-    ensures judged { IfOk result (IsLineJudged compiled.now (known_by rows.now bound.now) line.now) }
-    ensures root { OnOk result (IsRoot compiled.now (known_by rows.now bound.now) values.new) }
+    ensures judged { IfOk result (IsLineJudged compiled.now (known_with compiled.now listed.now rows.now bound.now) line.now) }
+    ensures root { OnOk result (IsRoot compiled.now (known_with compiled.now listed.now rows.now bound.now) values.new) }
 {
     let own = lits.as_slice();
-    let fault = fault_of_line(alloc, compiled, rows, bound, watches, values, line, own)?;
+    let fault = fault_of_line(compiled, listed, rows, bound, watches, values, line, own)?;
     match fault {
         Some(why) => Ok(Step::Wrong(why)),
         None => Ok(Step::Known(Seq::from_vec(lits))),
@@ -415,6 +376,7 @@ fn judge_literals(
 fn judge_line(
     alloc: Global,
     compiled: &Compiled,
+    listed: &[Interp],
     rows: &[Seq<Lit>],
     bound: &Option<Bound>,
     watches: &mut Watches,
@@ -423,13 +385,13 @@ fn judge_line(
 ) -> Result<Step, AllocError>
     requires rows { AllByRecursion (AreOf compiled.now) rows.now }
     requires levels { HasLevels compiled.now bound.now }
-    requires root { IsRoot compiled.now (known_by rows.now bound.now) values.old }
-    ensures judged { IfOk result (IsLineJudged compiled.now (known_by rows.now bound.now) line.now) }
-    ensures root { OnOk result (IsRoot compiled.now (known_by rows.now bound.now) values.new) }
+    requires root { IsRoot compiled.now (known_with compiled.now listed.now rows.now bound.now) values.old }
+    ensures judged { IfOk result (IsLineJudged compiled.now (known_with compiled.now listed.now rows.now bound.now) line.now) }
+    ensures root { OnOk result (IsRoot compiled.now (known_with compiled.now listed.now rows.now bound.now) values.new) }
 {
     let found = literals(alloc, compiled, line)?;
     match found {
-        Some(lits) => judge_literals(alloc, compiled, rows, bound, watches, values, line, lits),
+        Some(lits) => judge_literals(compiled, listed, rows, bound, watches, values, line, lits),
         None => Ok(Step::Wrong(Why::Literal)),
     }
 }
@@ -445,8 +407,8 @@ enum Outcome {
 
 // Judges the lines one after another. Each that is right is known to the later ones.
 fn judge_each(
-    alloc: Global,
     compiled: &Compiled,
+    listed: &[Interp],
     rows: &mut Vec<Seq<Lit>>,
     bound: &Option<Bound>,
     assumed: &[Lit],
@@ -457,14 +419,15 @@ fn judge_each(
     requires rows { AllByRecursion (AreOf compiled.now) rows.old.items }
     requires levels { HasLevels compiled.now bound.now }
     requires assumed { assumed.now ≡ map (literal_of compiled.now) compiled.now.assumptions }
-    requires root { IsRoot compiled.now (known_by rows.old.items bound.now) values.old }
-    ensures { IfOk result (AreLinesJudged compiled.now (known_by rows.old.items bound.now) lines.now) }
+    requires root { IsRoot compiled.now (known_with compiled.now listed.now rows.old.items bound.now) values.old }
+    ensures { IfOk result (AreLinesJudged compiled.now (known_with compiled.now listed.now rows.old.items bound.now) lines.now) }
 {
+    let alloc = watches.allocator();
     let mut whole = false;
     for at in 0..lines.len() {
         let line = &lines[at];
         let known = rows.as_slice();
-        let step = judge_line(alloc, compiled, known, bound, watches, values, line)?;
+        let step = judge_line(alloc, compiled, listed, known, bound, watches, values, line)?;
         match step {
             Step::Wrong(why) => return Ok(Outcome::Wrong(why, at)),
             Step::Known(lits) => {
@@ -473,7 +436,7 @@ fn judge_each(
                 whole = either(whole, closing);
                 rows.push(lits)?;
                 let more = rows.as_slice();
-                learn(alloc, compiled, more, bound, watches, values)?;
+                learn(alloc, compiled, listed, more, bound, watches, values)?;
             }
         }
     }
@@ -484,22 +447,23 @@ fn judge_each(
 fn judge_lines(
     alloc: Global,
     compiled: &Compiled,
+    listed: &[Interp],
     mut rows: Vec<Seq<Lit>>,
     bound: &Option<Bound>,
     lines: &[Line],
 ) -> Result<Outcome, AllocError>
     requires rows { AllByRecursion (AreOf compiled.now) rows.items }
     requires levels { HasLevels compiled.now bound.now }
-    ensures { IfOk result (AreLinesJudged compiled.now (known_by rows.items bound.now) lines.now) }
+    ensures { IfOk result (AreLinesJudged compiled.now (known_with compiled.now listed.now rows.items bound.now) lines.now) }
 {
     let assumptions = assumptions(alloc, compiled)?;
     let mut watches = Watches::new(alloc, compiled, bound)?;
     let first = rows.as_slice();
-    let mut values = first_root(alloc, compiled, first, bound, &mut watches)?;
+    let mut values = first_root(alloc, compiled, listed, first, bound, &mut watches)?;
     let assumed = assumptions.as_slice();
     let outcome = judge_each(
-        alloc,
         compiled,
+        listed,
         &mut rows,
         bound,
         assumed,
@@ -542,9 +506,10 @@ fn judge_behind(alloc: Global, compiled: &Compiled, proof: &Proof) -> Result<Jud
 {
     let listed = proof.answers.as_slice();
     let lines = proof.lines.as_slice();
-    let rows = known_at_first(alloc, compiled, proof.opt, listed)?;
+    let avoided = avoided(proof.opt, listed);
+    let rows = completed(alloc, compiled)?;
     let bound = bound_at_first(alloc, compiled, proof.opt, listed)?;
-    let outcome = judge_lines(alloc, compiled, rows, &bound, lines)?;
+    let outcome = judge_lines(alloc, compiled, avoided, rows, &bound, lines)?;
     match outcome {
         Outcome::Wrong(why, at) => {
             let number = number_of_line(listed, lines, at);

@@ -1,6 +1,7 @@
 //! What makes a proof right, what a right one shows, and the check of a proof.
 #![tactic(auto)]
 
+mod answers;
 pub mod blocks;
 pub mod bounds;
 mod chase;
@@ -15,6 +16,7 @@ pub mod loops;
 pub mod nogoods;
 mod root;
 pub mod run;
+mod seek;
 pub mod sweep;
 pub mod watches;
 pub mod weights;

@@ -7,6 +7,7 @@ ghost use Rattle.asp_vars.specs.Literals.{has_literal};
 ghost use Rattle.asp_vars.specs.Numbering.{literal_of, var_count};
 ghost use Rattle.asp_checker.specs.Lines.{signed, literals_of, IsOf, AreOf};
 
+use asp_member::merge::{skip, stands_at};
 use asp_model::interp::Interp;
 use asp_vars::assumed::add_all;
 use asp_vars::compiled::Compiled;
@@ -50,9 +51,16 @@ pub fn lits_of(
 pub fn are_atoms(compiled: &Compiled, set: &Interp) -> bool
     ensures { result ≡ list_all (has (atoms_of compiled.now)) set.now }
 {
-    set.as_slice()
-        .iter()
-        .all(|atom| compiled.atoms().has(*atom))
+    let atoms = compiled.atoms().as_slice();
+    let own = set.as_slice();
+    let mut place = 0;
+    for atom in own {
+        place = skip(atoms, place, *atom);
+        if !stands_at(atoms, place, *atom) {
+            return false;
+        }
+    }
+    true
 }
 
 /// The program's assumptions, as literals of variables.

@@ -18,7 +18,7 @@ pub enum Look {
 }
 
 // What the nogood says with one literal more.
-fn with(look: Look, lit: Lit, values: &Assign) -> Look
+pub(crate) fn with(look: Look, lit: Lit, values: &Assign) -> Look
     requires { lit.var < length values.now }
     ensures { (n : List Literal) → IsSeen values.now n look → IsSeen values.now (n ++ lit ∷ []) result }
 {

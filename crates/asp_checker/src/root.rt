@@ -5,12 +5,13 @@ ghost use Rattle.asp_vars.specs.Literals.{value_of};
 ghost use Rattle.asp_vars.specs.Numbering.{var_count};
 ghost use Rattle.asp_checker.specs.Lines.{AreOf};
 ghost use Rattle.asp_checker.specs.Steps.{AreWithin};
-ghost use Rattle.asp_checker.specs.Blocks.{HasLevels, known_by, Extends};
+ghost use Rattle.asp_checker.specs.Blocks.{HasLevels, known_with, Extends};
 ghost use Rattle.asp_checker.specs.Chasing.{IsRoot, AreTakenBack};
 
 use crate::bounds::Bound;
 use crate::chase::chase;
 use crate::watches::Watches;
+use asp_model::interp::Interp;
 use asp_model::seq::Seq;
 use asp_vars::assign::Assign;
 use asp_vars::compiled::Compiled;
@@ -21,6 +22,7 @@ use std::alloc::{AllocError, Global};
 fn settle(
     alloc: Global,
     compiled: &Compiled,
+    listed: &[Interp],
     rows: &[Seq<Lit>],
     bound: &Option<Bound>,
     watches: &mut Watches,
@@ -29,10 +31,10 @@ fn settle(
     requires of { AllByRecursion (AreOf compiled.now) rows.now }
     requires size { length values.old ≡ var_count compiled.now + 1 }
     requires levels { HasLevels compiled.now bound.now }
-    ensures { OnOk result (Extends compiled.now (known_by rows.now bound.now) values.old values.new) }
+    ensures { OnOk result (Extends compiled.now (known_with compiled.now listed.now rows.now bound.now) values.old values.new) }
 {
     let mut trail = Vec::new(alloc);
-    let refuted = chase(compiled, rows, bound, watches, values, &mut trail)?;
+    let refuted = chase(compiled, listed, rows, bound, watches, values, &mut trail)?;
     watches.stick(refuted);
     Ok(())
 }
@@ -41,17 +43,18 @@ fn settle(
 pub(crate) fn first_root(
     alloc: Global,
     compiled: &Compiled,
+    listed: &[Interp],
     rows: &[Seq<Lit>],
     bound: &Option<Bound>,
     watches: &mut Watches,
 ) -> Result<Assign, AllocError>
     requires of { AllByRecursion (AreOf compiled.now) rows.now }
     requires levels { HasLevels compiled.now bound.now }
-    ensures { IfOk result (IsRoot compiled.now (known_by rows.now bound.now)) }
+    ensures { IfOk result (IsRoot compiled.now (known_with compiled.now listed.now rows.now bound.now)) }
 {
     let mut values = Assign::new(alloc, compiled.vars())?;
     watches.add_all(&values, compiled.vars(), rows)?;
-    settle(alloc, compiled, rows, bound, watches, &mut values)?;
+    settle(alloc, compiled, listed, rows, bound, watches, &mut values)?;
     Ok(values)
 }
 
@@ -59,6 +62,7 @@ pub(crate) fn first_root(
 pub(crate) fn learn(
     alloc: Global,
     compiled: &Compiled,
+    listed: &[Interp],
     rows: &[Seq<Lit>],
     bound: &Option<Bound>,
     watches: &mut Watches,
@@ -66,12 +70,12 @@ pub(crate) fn learn(
 ) -> Result<(), AllocError>
     requires of { AllByRecursion (AreOf compiled.now) rows.now }
     requires levels { HasLevels compiled.now bound.now }
-    requires root { IsRoot compiled.now (known_by rows.now bound.now) values.old }
-    ensures { OnOk result (IsRoot compiled.now (known_by rows.now bound.now) values.new) }
+    requires root { IsRoot compiled.now (known_with compiled.now listed.now rows.now bound.now) values.old }
+    ensures { OnOk result (IsRoot compiled.now (known_with compiled.now listed.now rows.now bound.now) values.new) }
 {
     watches.restart(values, compiled.vars(), rows)?;
     watches.add_last(values, compiled.vars(), rows)?;
-    settle(alloc, compiled, rows, bound, watches, values)?;
+    settle(alloc, compiled, listed, rows, bound, watches, values)?;
     Ok(())
 }
 

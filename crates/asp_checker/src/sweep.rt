@@ -9,7 +9,7 @@ use asp_vars::assign::Assign;
 use asp_vars::lit::Lit;
 
 // What two looks came to, where neither was a conflict.
-fn later(before: Visit, now: Visit) -> Visit
+pub(crate) fn later(before: Visit, now: Visit) -> Visit
     ensures { result ≡ later before now }
 {
     match now {

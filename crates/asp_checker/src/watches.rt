@@ -7,6 +7,8 @@ ghost use Rattle.asp_vars.specs.Numbering.{bodies_of, var_count};
 
 use crate::bounds::Bound;
 use crate::hints::{Hint, fails, hints_of_body, hints_of_bound, holds, priced};
+use crate::seek::answer_near;
+use asp_model::interp::Interp;
 use asp_model::seq::Seq;
 use asp_vars::assign::Assign;
 use asp_vars::compiled::Compiled;
@@ -76,6 +78,8 @@ pub struct Watches {
     is_touched: Vec<bool>,
     // How many literals had come to hold when the bound was looked at; none where it is to be looked at.
     priced_at: Option<usize>,
+    // How many literals had come to hold when an answer was sought; none where one is to be sought.
+    sought_at: Option<usize>,
     // What was in conflict last.
     last: Option<Hint>,
     // What was in conflict when no literal was assumed.
@@ -242,11 +246,17 @@ impl Watches {
             touched: Vec::new(alloc),
             is_touched,
             priced_at: None,
+            sought_at: None,
             last: None,
             stuck: None,
         };
         watches.touch_all(compiled.body_count())?;
         Ok(watches)
+    }
+
+    /// What its lists are taken from.
+    pub(crate) fn allocator(&self) -> Global {
+        *self.hints.allocator()
     }
 
     // So many weight bodies are to be looked at.
@@ -456,6 +466,7 @@ impl Watches {
         self.done = 0;
         self.within = 0;
         self.priced_at = None;
+        self.sought_at = None;
         self.retired_left = 0;
         self.revive(values, vars, rows)?;
         if let Some(hint) = self.stuck {
@@ -727,10 +738,28 @@ impl Watches {
         }
     }
 
+    // The listed answer that is to be looked at.
+    fn next_answer(
+        &mut self,
+        compiled: &Compiled,
+        listed: &[Interp],
+        values: &Assign,
+        held: usize,
+    ) -> Option<usize>
+        requires { length values.now ≡ var_count compiled.now + 1 }
+    {
+        if listed.is_empty() || self.sought_at == Some(held) {
+            return None;
+        }
+        self.sought_at = Some(held);
+        answer_near(compiled, listed, values)
+    }
+
     /// What is to be looked at next, or nothing.
     pub(crate) fn next(
         &mut self,
         compiled: &Compiled,
+        listed: &[Interp],
         rows: &[Seq<Lit>],
         bound: &Option<Bound>,
         values: &Assign,
@@ -751,6 +780,9 @@ impl Watches {
         self.price(compiled, bound, values, trail)?;
         if let Some(hint) = self.hints.pop() {
             return Ok(Some(hint));
+        }
+        if let Some(place) = self.next_answer(compiled, listed, values, trail.len()) {
+            return Ok(Some(Hint::Answer(place)));
         }
         match self.next_of_retired(rows, values, compiled.vars())? {
             Some(place) => Ok(Some(Hint::Nogood(place))),

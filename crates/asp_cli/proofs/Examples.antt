@@ -5,14 +5,15 @@ use Rattle.asp_model.specs.declared.results.Reasoning.TheVariants.{Brave}
 use Rattle.asp_cli.specs.declared.Form.TheVariants.{Text, Json}
 use Rattle.asp_cli.specs.declared.Form.TheVariants.{Text}
 use Rattle.asp_cli.specs.declared.Format.TheVariants.{Aspif, Smodels}
+use Rattle.asp_cli.specs.declared.LogKind.TheVariants.{Blocks, Row}
 use Rattle.asp_cli.specs.declared.Options.{Options}
-use Rattle.asp_cli.specs.declared.names.Name.TheVariants.{Workers, Mode, Format, Budget, Models, OptAll, Output, Quiet, Names, Proof, Make, Stats, Progress, Split}
+use Rattle.asp_cli.specs.declared.names.Name.TheVariants.{Workers, Log, Mode, Format, Budget, Models, OptAll, Output, Quiet, Names, Proof, Make, Stats, Progress, Split}
 use Rattle.asp_cli.specs.Given.{bad_value, help, misuse, missing, no_words, options, rivals, twice, unexpected, unknown, version, words_give}
 use Rattle.asp_cli.specs.Hints.{counterpart, nearest}
 
 -- what is asked for where no option is given
 abbrev standard : Options
-standard = record { workers = 1; mode = None; format = Aspif; budget = 9223372036854775807; models = 0; all_optima = false; form = Text; quiet = false; names = false; make = None; stats = false; progress = false; proof = false; split = None }
+standard = record { workers = 1; log = Blocks; mode = None; format = Aspif; budget = 9223372036854775807; models = 0; all_optima = false; form = Text; quiet = false; names = false; make = None; stats = false; progress = false; proof = false; split = None }
 
 empty_line : words_give [] ≡ misuse no_words
 empty_line = refl
@@ -289,8 +290,24 @@ parts_twice = refl
 first_from_the_left : words_give (codes "aspenum" ∷ codes "--stats" ∷ codes "--budget=x" ∷ codes "--verson" ∷ []) ≡ misuse (bad_value Budget (codes "x"))
 first_from_the_left = refl
 
-all_options : words_give (codes "aspenum" ∷ codes "--make=2000" ∷ codes "--stats" ∷ codes "--mode=enum" ∷ codes "--budget=7" ∷ codes "--models=3" ∷ codes "--workers=4" ∷ codes "--format=smodels" ∷ []) ≡ options (record { workers = 4; mode = Some Enum; format = Smodels; budget = 7; models = 3; all_optima = false; form = Text; quiet = false; names = false; make = Some 2000; stats = true; progress = false; proof = false; split = None })
+all_options : words_give (codes "aspenum" ∷ codes "--make=2000" ∷ codes "--stats" ∷ codes "--mode=enum" ∷ codes "--budget=7" ∷ codes "--models=3" ∷ codes "--workers=4" ∷ codes "--format=smodels" ∷ []) ≡ options (record { workers = 4; log = Blocks; mode = Some Enum; format = Smodels; budget = 7; models = 3; all_optima = false; form = Text; quiet = false; names = false; make = Some 2000; stats = true; progress = false; proof = false; split = None })
 all_options = refl
+
+-- ---- the log
+log_row : words_give (codes "aspenum" ∷ codes "--log" ∷ codes "row" ∷ codes "-t" ∷ codes "4" ∷ []) ≡ options (record standard { workers = 4; log = Row })
+log_row = refl
+
+log_blocks : words_give (codes "aspenum" ∷ codes "--log=blocks" ∷ []) ≡ options standard
+log_blocks = refl
+
+log_else : words_give (codes "aspenum" ∷ codes "--log=rows" ∷ []) ≡ misuse (bad_value Log (codes "rows"))
+log_else = refl
+
+log_twice : words_give (codes "aspenum" ∷ codes "--log=row" ∷ codes "--log=blocks" ∷ []) ≡ misuse (twice Log)
+log_twice = refl
+
+log_of_parts : words_give (codes "aspenum" ∷ codes "--log=row" ∷ codes "--split=2" ∷ []) ≡ misuse (rivals Log Split)
+log_of_parts = refl
 
 -- ---- the format
 

@@ -4,17 +4,19 @@ use Rattle.asp_model.specs.declared.results.Mode as results
 use Rattle.asp_model.specs.Asked.{reasoning_of}
 use Rattle.asp_cli.specs.declared.found.Found.{Found}
 use Rattle.asp_cli.specs.declared.names.Name.{Name}
-use Rattle.asp_cli.specs.declared.names.Name.TheVariants.{Mode, Format, Models, OptAll, Workers, Budget, Output, Quiet, Names, Proof, Split, Make, Stats, Progress}
+use Rattle.asp_cli.specs.declared.names.Name.TheVariants.{Mode, Format, Models, OptAll, Workers, Log, Budget, Output, Quiet, Names, Proof, Split, Make, Stats, Progress}
 use Rattle.asp_cli.specs.declared.walk.Awaits.TheVariants as awaits
 use Rattle.asp_cli.specs.declared.walk.State.{State}
 use Rattle.asp_cli.specs.declared.Options.{Options}
 use Rattle.asp_cli.specs.declared.Form.TheVariants.{Text}
 use Rattle.asp_cli.specs.declared.Format.TheVariants.{Aspif}
-use Rattle.asp_cli.specs.Values.{form_named, format_named, mode_named, number_within}
+use Rattle.asp_cli.specs.declared.LogKind.TheVariants.{Blocks}
+use Rattle.asp_cli.specs.Values.{form_named, format_named, log_named, mode_named, number_within}
 
 -- whether an option was given
 abbrev pub has : Found → Name → Bool
 has f Workers = is_some f.workers
+has f Log = is_some f.log
 has f Mode = is_some f.mode
 has f Format = is_some f.format
 has f Budget = is_some f.budget
@@ -45,13 +47,14 @@ solving f = if is_some f.mode then Some Mode
     else (if is_some f.models then Some Models
     else (if f.all_optima then Some OptAll
     else (if is_some f.workers then Some Workers
+    else (if is_some f.log then Some Log
     else (if is_some f.budget then Some Budget
     else (if is_some f.form then Some Output
     else (if f.quiet then Some Quiet
     else (if f.names then Some Names
     else (if f.proof then Some Proof
     else (if f.stats then Some Stats
-    else (if f.progress then Some Progress else None))))))))))
+    else (if f.progress then Some Progress else None)))))))))))
 
 -- `--split`, if it was given
 abbrev pub dividing : Found → Option Name
@@ -91,6 +94,7 @@ IsApart o = o.proof ≡ true → (o.all_optima ≡ false) × (seeks_consequences
 -- what was found with an option's value; none where the option doesn't take it
 abbrev pub found_with : Found → Name → List ℕ → Option Found
 found_with f Workers t = option_map (λ n. record f { workers = Some n }) (number_within 1 64 t)
+found_with f Log t = option_map (λ m. record f { log = Some m }) (log_named t)
 found_with f Mode t = option_map (λ m. record f { mode = Some m }) (mode_named t)
 found_with f Format t = option_map (λ m. record f { format = Some m }) (format_named t)
 found_with f Output t = option_map (λ m. record f { form = Some m }) (form_named t)
@@ -109,6 +113,7 @@ found_with f Split t = option_map (λ n. record f { split = Some n }) (number_wi
 abbrev pub options_of : Found → Options
 options_of f = record {
   workers = unwrap_or f.workers 1;
+  log = unwrap_or f.log Blocks;
   mode = unwrap_or f.mode None;
   format = unwrap_or f.format Aspif;
   budget = unwrap_or f.budget 9223372036854775807;
@@ -126,4 +131,4 @@ options_of f = record {
 
 -- nothing was found yet
 abbrev pub start : State
-start = record { found = record { workers = None; mode = None; format = None; budget = None; models = None; all_optima = false; form = None; quiet = false; names = false; make = None; stats = false; progress = false; proof = false; split = None }; awaits = awaits.Option }
+start = record { found = record { workers = None; log = None; mode = None; format = None; budget = None; models = None; all_optima = false; form = None; quiet = false; names = false; make = None; stats = false; progress = false; proof = false; split = None }; awaits = awaits.Option }

@@ -2,7 +2,7 @@
 use Rattle.std.specs.Prelude.{List, ℕ, Option, Some, None, codes, if◌then◌else◌}
 use Rattle.std.specs.Str.{bytes_eq}
 use Rattle.asp_cli.specs.declared.names.Name.{Name}
-use Rattle.asp_cli.specs.declared.names.Name.TheVariants.{Mode, Format, Models, OptAll, Workers, Budget, Output, Quiet, Names, Proof, Split, Make, Stats, Progress}
+use Rattle.asp_cli.specs.declared.names.Name.TheVariants.{Mode, Format, Models, OptAll, Workers, Log, Budget, Output, Quiet, Names, Proof, Split, Make, Stats, Progress}
 
 abbrev pub text_of : Name → List ℕ
 text_of Mode = codes "--mode"
@@ -10,6 +10,7 @@ text_of Format = codes "--format"
 text_of Models = codes "--models"
 text_of OptAll = codes "--opt-all"
 text_of Workers = codes "--workers"
+text_of Log = codes "--log"
 text_of Budget = codes "--budget"
 text_of Output = codes "--output"
 text_of Quiet = codes "--quiet"
@@ -26,6 +27,7 @@ takes_of Format = codes "aspif or smodels"
 takes_of Models = codes "a number up to 9223372036854775807"
 takes_of OptAll = codes "no value"
 takes_of Workers = codes "a number from 1 to 64"
+takes_of Log = codes "blocks or row"
 takes_of Budget = codes "a number up to 9223372036854775807"
 takes_of Output = codes "text or json"
 takes_of Quiet = codes "no value"
@@ -43,6 +45,7 @@ named t = if bytes_eq t (codes "--mode") then Some Mode
     else (if bytes_eq t (codes "--models") then Some Models
     else (if bytes_eq t (codes "--opt-all") then Some OptAll
     else (if bytes_eq t (codes "--workers") then Some Workers
+    else (if bytes_eq t (codes "--log") then Some Log
     else (if bytes_eq t (codes "--budget") then Some Budget
     else (if bytes_eq t (codes "--output") then Some Output
     else (if bytes_eq t (codes "--quiet") then Some Quiet
@@ -51,7 +54,7 @@ named t = if bytes_eq t (codes "--mode") then Some Mode
     else (if bytes_eq t (codes "--split") then Some Split
     else (if bytes_eq t (codes "--make") then Some Make
     else (if bytes_eq t (codes "--stats") then Some Stats
-    else (if bytes_eq t (codes "--progress") then Some Progress else None)))))))))))))
+    else (if bytes_eq t (codes "--progress") then Some Progress else None))))))))))))))
 
 -- The word for which a word stands. The short forms have long ones, and five words of clasp's have ours; any other stands for itself.
 abbrev pub meant : List ℕ → List ℕ

@@ -3,8 +3,8 @@ use Rattle.std.specs.Prelude.{ℕ, List, ◌++◌, codes}
 
 unfoldable pub usage_lines : List ℕ
 usage_lines = codes "usage: aspenum [--mode auto|enum|opt|brave|cautious] [--format aspif|smodels]\n"
-    ++ codes "               [--models N] [--opt-all] [--workers 1..64] [--budget N]\n"
-    ++ codes "               [--output text|json] [--quiet] [--names] [--proof]\n"
+    ++ codes "               [--models N] [--opt-all] [--workers 1..64] [--log blocks|row]\n"
+    ++ codes "               [--budget N] [--output text|json] [--quiet] [--names] [--proof]\n"
     ++ codes "               [--split 1..100000] [--make 3..2000] [--stats] [--progress]"
 
 -- the program's name and version
@@ -36,6 +36,8 @@ page_back = codes "\n"
     ++ codes "                    and cautious never\n"
     ++ codes "  --opt-all         an optimisation writes all answers of least cost\n"
     ++ codes "  -t, --workers N   threads that search, 1 to 64; the default is 1\n"
+    ++ codes "  --log LOG         where threads tell one another what they learnt: blocks, the\n"
+    ++ codes "                    default, or row, 65536 slots without a lock\n"
     ++ codes "  --budget N        at most N conflicts, 0 to 9223372036854775807, the default\n"
     ++ codes "  --output FORM     text, the default, or json, with the keys that clasp has; not\n"
     ++ codes "                    beside --proof, --split or --make\n"

@@ -1,5 +1,5 @@
 -- The values that options take.
-use Rattle.std.specs.Prelude.{ℕ, ◌≤◌, ◌^◌, Bool, ◌&&◌, nat_le, nat_lt, List, length, Option, Some, None, codes, if◌then◌else◌}
+use Rattle.std.specs.Prelude.{ℕ, ◌≤◌, ◌^◌, Bool, true, false, ◌&&◌, nat_le, nat_lt, List, length, Option, Some, None, codes, if◌then◌else◌}
 use Rattle.std.specs.List.{list_all}
 use Rattle.std.specs.Char.{digit_value}
 use Rattle.std.specs.Str.{bytes_eq}
@@ -8,6 +8,8 @@ use Rattle.asp_cli.specs.declared.Form.{Form}
 use Rattle.asp_cli.specs.declared.Form.TheVariants.{Text, Json}
 use Rattle.asp_cli.specs.declared.Format.{Format}
 use Rattle.asp_cli.specs.declared.Format.TheVariants.{Aspif, Smodels}
+use Rattle.asp_cli.specs.declared.LogKind.{LogKind}
+use Rattle.asp_cli.specs.declared.LogKind.TheVariants.{Blocks, Row}
 use Rattle.asp_model.specs.declared.results.Mode.{Mode}
 use Rattle.asp_model.specs.declared.results.Mode.TheVariants.{Enum, Opt, Consequences}
 use Rattle.asp_model.specs.declared.results.Reasoning.TheVariants.{Brave, Cautious}
@@ -27,6 +29,14 @@ format_named t = if bytes_eq t (codes "aspif") then Some Aspif else (if bytes_eq
 -- the form of the results that a text names
 abbrev pub form_named : List ℕ → Option Form
 form_named t = if bytes_eq t (codes "text") then Some Text else (if bytes_eq t (codes "json") then Some Json else None)
+
+-- the log that a text names
+abbrev pub log_named : List ℕ → Option LogKind
+log_named t = if bytes_eq t (codes "blocks") then Some Blocks else (if bytes_eq t (codes "row") then Some Row else None)
+
+abbrev pub is_row : LogKind → Bool
+is_row Blocks = false
+is_row Row = true
 
 -- one decimal digit or more, and nothing else
 abbrev pub is_numeral : List ℕ → Bool

@@ -6,9 +6,9 @@ ghost use Rattle.asp_cli.specs.Values.{IsCrew, IsPartCount, IsRing};
 use crate::names::Name;
 use crate::values::{
     LARGEST_RING, LEAST_RING, MOST_MODELS, MOST_PARTS, MOST_UNITS, MOST_WORKERS, named_form,
-    named_format, named_mode, number,
+    named_format, named_log, named_mode, number,
 };
-use crate::{Form, Format, Options};
+use crate::{Form, Format, LogKind, Options};
 use asp_model::results::Mode;
 
 /// The options that were given, each with its value.
@@ -16,6 +16,8 @@ use asp_model::results::Mode;
 pub struct Found {
     /// How many workers are to search.
     pub workers: Option<u32>,
+    /// How several workers are to tell one another what they learnt.
+    pub log: Option<LogKind>,
     /// The mode that was asked for; within, none for the mode that the program decides.
     pub mode: Option<Option<Mode>>,
     /// The format of the program that is read.
@@ -50,6 +52,7 @@ pub fn has(found: &Found, name: Name) -> bool
 {
     match name {
         Name::Workers => found.workers.is_some(),
+        Name::Log => found.log.is_some(),
         Name::Mode => found.mode.is_some(),
         Name::Format => found.format.is_some(),
         Name::Budget => found.budget.is_some(),
@@ -95,6 +98,8 @@ fn solving(found: &Found) -> Option<Name>
         Some(Name::OptAll)
     } else if found.workers.is_some() {
         Some(Name::Workers)
+    } else if found.log.is_some() {
+        Some(Name::Log)
     } else if found.budget.is_some() {
         Some(Name::Budget)
     } else if found.form.is_some() {
@@ -211,6 +216,13 @@ pub fn with(found: Found, name: Name, text: &str) -> Option<Found>
                 ..found
             })
         }
+        Name::Log => {
+            let log = named_log(text)?;
+            Some(Found {
+                log: Some(log),
+                ..found
+            })
+        }
         Name::Output => {
             let form = named_form(text)?;
             Some(Found {
@@ -261,6 +273,7 @@ pub fn options(found: &Found) -> Options
 {
     Options {
         workers: found.workers.unwrap_or(1),
+        log: found.log.unwrap_or(LogKind::Blocks),
         mode: found.mode.unwrap_or(None),
         format: found.format.unwrap_or(Format::Aspif),
         budget: found.budget.unwrap_or(MOST_UNITS),

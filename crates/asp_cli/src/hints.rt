@@ -110,6 +110,8 @@ fn first_near(strict: bool, word: &str) -> Option<&'static str>
         Some(Name::OptAll.text())
     } else if is_near(strict, word, Name::Workers.text()) {
         Some(Name::Workers.text())
+    } else if is_near(strict, word, Name::Log.text()) {
+        Some(Name::Log.text())
     } else if is_near(strict, word, Name::Budget.text()) {
         Some(Name::Budget.text())
     } else if is_near(strict, word, Name::Output.text()) {

@@ -11,7 +11,7 @@ mod walk;
 ghost use Rattle.std.specs.Prelude.{◌≡◌, IfOk, map, string_bytes};
 ghost use Rattle.asp_cli.specs.Given.{asks_help, asks_version, given_of, words_give};
 ghost use Rattle.asp_cli.specs.Found.{IsApart};
-ghost use Rattle.asp_cli.specs.Values.{IsCrew, IsPartCount, IsRing};
+ghost use Rattle.asp_cli.specs.Values.{IsCrew, IsPartCount, IsRing, is_row};
 
 use asp_model::results::Mode;
 pub use hints::{counterpart, nearest};
@@ -36,11 +36,34 @@ pub enum Form {
     Json,
 }
 
+/// How several workers tell one another what they learnt.
+#[derive(Clone, Copy)]
+pub enum LogKind {
+    /// By blocks of entries, to which one at a time adds.
+    Blocks,
+    /// By a row of slots, without a lock.
+    Row,
+}
+
+impl LogKind {
+    /// Whether it is a row of slots.
+    pub fn is_row(self) -> bool
+        ensures { result ≡ is_row self }
+    {
+        match self {
+            LogKind::Blocks => false,
+            LogKind::Row => true,
+        }
+    }
+}
+
 /// What the command line asks for.
 #[derive(Clone, Copy)]
 pub struct Options {
     /// How many threads may search: 1 to 64. A run whose proof is asked for takes one.
     pub workers: u32,
+    /// How several of them tell one another what they learnt. One tells nothing.
+    pub log: LogKind,
     /// What is sought; None leaves it to the program: an optimum exactly where it minimises something.
     pub mode: Option<Mode>,
     /// The format of the program that is read.

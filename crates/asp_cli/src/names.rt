@@ -10,6 +10,7 @@ pub enum Name {
     Models,
     OptAll,
     Workers,
+    Log,
     Budget,
     Output,
     Quiet,
@@ -32,6 +33,7 @@ impl Name {
             Name::Models => "--models",
             Name::OptAll => "--opt-all",
             Name::Workers => "--workers",
+            Name::Log => "--log",
             Name::Budget => "--budget",
             Name::Output => "--output",
             Name::Quiet => "--quiet",
@@ -51,6 +53,7 @@ impl Name {
         match self {
             Name::Mode => "auto, enum, opt, brave or cautious",
             Name::Format => "aspif or smodels",
+            Name::Log => "blocks or row",
             Name::Output => "text or json",
             Name::Models | Name::Budget => "a number up to 9223372036854775807",
             Name::Workers => "a number from 1 to 64",
@@ -76,6 +79,8 @@ pub fn named(word: &str) -> Option<Name>
         Some(Name::OptAll)
     } else if word == Name::Workers.text() {
         Some(Name::Workers)
+    } else if word == Name::Log.text() {
+        Some(Name::Log)
     } else if word == Name::Budget.text() {
         Some(Name::Budget)
     } else if word == Name::Output.text() {

@@ -5,8 +5,8 @@ ghost use Rattle.asp_cli.specs.Texts.{page_back, page_front, usage_lines, versio
 /// The lines that tell how the program is called.
 pub const USAGE: &str =
     "usage: aspenum [--mode auto|enum|opt|brave|cautious] [--format aspif|smodels]\n\
-\x20              [--models N] [--opt-all] [--workers 1..64] [--budget N]\n\
-\x20              [--output text|json] [--quiet] [--names] [--proof]\n\
+\x20              [--models N] [--opt-all] [--workers 1..64] [--log blocks|row]\n\
+\x20              [--budget N] [--output text|json] [--quiet] [--names] [--proof]\n\
 \x20              [--split 1..100000] [--make 3..2000] [--stats] [--progress]";
 
 /// The program's name and version.
@@ -34,6 +34,8 @@ name, after '=':\n\
 \x20                   and cautious never\n\
 \x20 --opt-all         an optimisation writes all answers of least cost\n\
 \x20 -t, --workers N   threads that search, 1 to 64; the default is 1\n\
+\x20 --log LOG         where threads tell one another what they learnt: blocks, the\n\
+\x20                   default, or row, 65536 slots without a lock\n\
 \x20 --budget N        at most N conflicts, 0 to 9223372036854775807, the default\n\
 \x20 --output FORM     text, the default, or json, with the keys that clasp has; not\n\
 \x20                   beside --proof, --split or --make\n\

@@ -1,8 +1,8 @@
 //! The values of the options.
 ghost use Rattle.std.specs.Prelude.{◌≡◌, ◌≤◌, ◌&&◌, nat_le, Some, None, IfSome, if◌then◌else◌};
-ghost use Rattle.asp_cli.specs.Values.{form_named, format_named, mode_named, number_within};
+ghost use Rattle.asp_cli.specs.Values.{form_named, format_named, log_named, mode_named, number_within};
 
-use crate::{Form, Format};
+use crate::{Form, Format, LogKind};
 use asp_model::results::{Mode, Reasoning};
 
 /// The greatest number of workers.
@@ -58,6 +58,19 @@ pub fn named_form(text: &str) -> Option<Form>
         Some(Form::Text)
     } else if text == "json" {
         Some(Form::Json)
+    } else {
+        None
+    }
+}
+
+/// The log that the text names.
+pub fn named_log(text: &str) -> Option<LogKind>
+    ensures { result ≡ log_named text.now }
+{
+    if text == "blocks" {
+        Some(LogKind::Blocks)
+    } else if text == "row" {
+        Some(LogKind::Row)
     } else {
         None
     }

@@ -33,6 +33,7 @@ fn start() -> State
 {
     let found = Found {
         workers: None,
+        log: None,
         mode: None,
         format: None,
         budget: None,

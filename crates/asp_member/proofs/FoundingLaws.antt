@@ -197,16 +197,8 @@ pub rule_body : (p : Program) (i n : ℕ) → i < length (rules_in_force p) → 
 rule_body p i n lt e = ap (nth_body p) e ∙ body_of_nth_rule p i lt
 
 -- ---- rules that are kept
-or_true : (a : Bool) → (a || true) ≡ true
-or_true true = refl
-or_true false = refl
+pub idle_keeps : (p : Program) (S : Atoms) (x : List (Option Bool)) (r : Rule) → passes p (holds_in x) (normal r.body) ≡ false → true ≡ keeps p S x r
+idle_keeps p S x r e = ap (λ b. not b || is_kept S r.head) (sym e)
 
-or_none : (a : Bool) → a ≡ (a || false)
-or_none true = refl
-or_none false = refl
-
-pub kept_keeps : (p : Program) (S : Atoms) (x : List (Option Bool)) (r : Rule) → is_kept S r.head ≡ true → true ≡ keeps p S x r
-kept_keeps p S x r e = sym (ap (λ b. not (passes p (holds_in x) (normal r.body)) || b) e ∙ or_true (not (passes p (holds_in x) (normal r.body))))
-
-pub unkept_keeps : (p : Program) (S : Atoms) (x : List (Option Bool)) (r : Rule) → is_kept S r.head ≡ false → not (passes p (holds_in x) (normal r.body)) ≡ keeps p S x r
-unkept_keeps p S x r e = or_none (not (passes p (holds_in x) (normal r.body))) ∙ ap (λ b. not (passes p (holds_in x) (normal r.body)) || b) (sym e)
+pub active_keeps : (p : Program) (S : Atoms) (x : List (Option Bool)) (r : Rule) → passes p (holds_in x) (normal r.body) ≡ true → is_kept S r.head ≡ keeps p S x r
+active_keeps p S x r e = ap (λ b. not b || is_kept S r.head) (sym e)

@@ -15,10 +15,10 @@ ghost use Rattle.asp_vars.specs.Tabled.{bound_of};
 ghost use Rattle.asp_found.specs.Verdicts.{is_kept};
 ghost use Rattle.asp_member.specs.Founding.{passes, AreFounded, Derives, Founds, AreWhole, is_done, keeps};
 
+use crate::merge::{skip, stands_at};
 use crate::order::order;
 use crate::weighing::reaches;
 use asp_model::interp::Interp;
-use asp_model::program::Atom;
 use asp_model::stable::stable_plain;
 use asp_model::view::HeadView;
 use asp_vars::assign::Assign;
@@ -29,12 +29,12 @@ use std::alloc::{AllocError, Global};
 // ---- the values
 
 // Makes the variable false, unless its atom is in the set.
-fn exclude(values: &mut Assign, set: &Interp, var: Var, atom: Atom)
+fn exclude(values: &mut Assign, var: Var, is_inside: bool)
     requires var { var < 2 ^ 31 }
     requires within { var < length values.old }
-    ensures { values.new ≡ (if has set.now atom then values.old else slice_set values.old var (Some false)) }
+    ensures { values.new ≡ (if is_inside then values.old else slice_set values.old var (Some false)) }
 {
-    if !set.has(atom) {
+    if !is_inside {
         values.set(Lit::new(var, false));
     }
 }
@@ -46,8 +46,15 @@ fn outside(alloc: Global, compiled: &Compiled, set: &Interp) -> Result<Assign, A
 {
     let mut values = Assign::new(alloc, compiled.vars())?;
     let atoms = compiled.atoms().as_slice();
+    let inside = set.as_slice();
+    let mut place = 0;
     for i in 0..compiled.atom_count() {
-        exclude(&mut values, set, i as u32 + 1, atoms[i]);
+        place = skip(inside, place, atoms[i]);
+        exclude(
+            &mut values,
+            i as u32 + 1,
+            stands_at(inside, place, atoms[i]),
+        );
     }
     Ok(values)
 }
@@ -204,10 +211,10 @@ fn keeps(compiled: &Compiled, set: &Interp, values: &Assign, rule: usize) -> boo
     requires size { length values.now ≡ var_count compiled.now + 1 }
     ensures { result ≡ keeps compiled.now set.now values.now (nth_rule compiled.now rule) }
 {
-    if is_kept(set, compiled.rule(rule).head) {
+    if !holds(compiled, values, compiled.rule_body(rule)) {
         return true;
     }
-    !holds(compiled, values, compiled.rule_body(rule))
+    is_kept(set, compiled.rule(rule).head)
 }
 
 fn are_kept(compiled: &Compiled, set: &Interp, values: &Assign) -> bool

@@ -20,8 +20,9 @@ use Rattle.asp_book.specs.Books.{signed, IsJournalOf}
 use Rattle.asp_book.specs.Calls.{Knows, no_task, task_of, seen_board}
 use Rattle.asp_book.proofs.CallLaws.{others-are, run-append, lawful-rest}
 use Rattle.asp_crew_laws.specs.Gone.{IsGone}
+use Rattle.asp_slots.specs.Shelves.{IsAt, IsFirst}
 use Rattle.asp_worker.specs.declared.worker.Shared.{Shared}
-use Rattle.asp_worker.specs.Seats.{IsRun, IsIdle, Reads}
+use Rattle.asp_worker.specs.Seats.{IsRun, IsIdle}
 use Rattle.asp_team.proofs.GoneLaws.{gone-prefix}
 use Rattle.asp_team.specs.declared.lead.Lead.{Lead}
 use Rattle.asp_team.specs.Joined.{IsHome, IsLead, Joins, LeftBy}
@@ -140,14 +141,13 @@ merged-joins {D = D} {E = E} v u w is more = record {
   seen = more;
 }
 
-pub lead-joined : (c : Shared) (l k : Lead) (u : Knows) (x : Reads) → IsLead c l → IsBeside l.seat k.seat → IsBeside l.pages k.pages → view k.seat ≡ merged (view l.seat) u → view k.pages ≡ merged (view l.pages) x → IsJournalOf (task_of (view k.seat)) (view k.seat).seen → IsLead c k
-lead-joined c l k u x is beside pages_beside e f lawful = record {
+pub lead-joined : (c : Shared) (l k : Lead) (u : Knows) → IsLead c l → IsBeside l.seat k.seat → IsAt c.log k.pages → IsFirst k.pages → view k.seat ≡ merged (view l.seat) u → IsJournalOf (task_of (view k.seat)) (view k.seat).seen → IsLead c k
+lead-joined c l k u is beside at first e lawful = record {
   book = beside ∙ is.book;
-  log = pages_beside ∙ is.log;
+  log = at;
   first = ap (λ (y : Knows). y.number) e ∙ is.first;
-  pages_first = ap (λ (y : Reads). y.number) f ∙ is.pages_first;
+  pages_first = first;
   rests = ap (λ (y : Knows). y.holds) e ∙ is.rests;
-  pages_rest = ap (λ (y : Reads). y.holds) f ∙ is.pages_rest;
   lawful = lawful;
 }
 

@@ -10,7 +10,6 @@ use Rattle.asp_vault.specs.declared.view.View.{View}
 use Rattle.asp_vault.specs.Makers.{NoneBy}
 use Rattle.asp_vault.specs.Rules.{parted, fresh, opened}
 use Rattle.asp_vault.specs.Seats.{view, IsOf, IsBeside}
-use Rattle.asp_log.specs.Entries.{Contents}
 use Rattle.asp_pool.specs.declared.pool.Pass.{Pass}
 use Rattle.asp_pool.specs.Lists.{Every}
 use Rattle.asp_pool.specs.Pools.{IsOfPool}
@@ -24,9 +23,10 @@ use Rattle.asp_book.specs.Calls.{Knows, no_task, task_of, seen_board}
 use Rattle.asp_book.specs.Replies.{taken}
 use Rattle.asp_book.proofs.CallLaws.{others-are}
 use Rattle.asp_crew_laws.specs.Runs as runs
+use Rattle.asp_slots.specs.Shelves.{program_of, IsAt, IsFirst, HasSplit}
 use Rattle.asp_worker.specs.declared.worker.Worker.{Worker}
 use Rattle.asp_worker.specs.declared.worker.Shared.{Shared}
-use Rattle.asp_worker.specs.Seats.{IsIdle, IsRunOf, IsPaged, Reads}
+use Rattle.asp_worker.specs.Seats.{IsIdle, IsRunOf}
 use Rattle.asp_team.specs.declared.lead.Lead.{Lead}
 use Rattle.asp_team.specs.Joined.{MayJoin}
 use Rattle.asp_team.specs.Teams.{AreForks, AreNew, AreNumbered, AreReady, HasOut, IsBegun, IsHost}
@@ -44,18 +44,6 @@ pub opened-begun : (p : Program) (ask : Ask) (budget : ℕ) (v : Knows) → budg
 opened-begun p ask budget v fits is =
     let t : Task = runs.task_of p ask budget in
     subst (IsBegun t) (sym is) (record { about = refl; first = refl; idle = opened-idle p ask budget (opened t []) fits refl; new = λ n over. tt; out = record { splits = refl; joins = refl }; forks = tt })
-
--- ---- the first seat at an empty log
-pub opened-paged : (p : Program) (limit : ℕ) (s : Contents) (w : Reads) → s ≡ record { scope = record { program = p; limit = limit }; entries = [] } → w ≡ opened s.scope s.entries → IsPaged p w
-opened-paged p limit s w new is = record {
-  scope = s.scope;
-  about = ap (λ (x : Reads). x.about) is;
-  program = ap (λ (x : Contents). x.scope.program) new;
-  rests = ap (λ (x : Reads). x.holds) is;
-}
-
-pub opened-out : (s : Contents) (w : Reads) → w ≡ opened s.scope s.entries → HasOut w 0
-opened-out s w is = record { splits = ap (λ (x : Reads). x.splits) is; joins = ap (λ (x : Reads). x.joins) is }
 
 -- ---- one seat is split in two
 pub parted-idle : (v : Knows) → IsIdle v → IsIdle (parted v)
@@ -75,45 +63,40 @@ fresh-idle v i new =
       home = s.units;
     }
 
-module _ (c : Shared) (l k : Lead) (is : IsHost c l) (beside : IsBeside l.seat k.seat) (pages_beside : IsBeside l.pages k.pages) (e : view k.seat ≡ parted (view l.seat)) (f : view k.pages ≡ parted (view l.pages)) where
+module _ (c : Shared) (l k : Lead) (is : IsHost c l) (beside : IsBeside l.seat k.seat) (at : IsAt c.log k.pages) (first : IsFirst k.pages) (e : view k.seat ≡ parted (view l.seat)) where
   pub host-parted : IsHost c k
   host-parted =
       let v : Knows = view l.seat in
-      let x : Reads = view l.pages in
-      let p : IsPaged (task_of v).program (parted x) = record { scope = is.pages.scope; about = is.pages.about; program = is.pages.program; rests = is.pages.rests } in
       record {
         lead = record {
           book = beside ∙ is.lead.book;
-          log = pages_beside ∙ is.lead.log;
+          log = at;
           first = ap (λ (y : Knows). y.number) e ∙ is.lead.first;
-          pages_first = ap (λ (y : Reads). y.number) f ∙ is.lead.pages_first;
+          pages_first = first;
           rests = ap (λ (y : Knows). y.holds) e ∙ is.lead.rests;
-          pages_rest = ap (λ (y : Reads). y.holds) f ∙ is.lead.pages_rest;
           lawful = subst (λ (y : Knows). IsJournalOf (task_of y) y.seen) (sym e) is.lead.lawful;
         };
         idle = subst IsIdle (sym e) (parted-idle v is.idle);
         run = subst (λ (y : Knows). IsRunOf (task_of y).program c.mode y) (sym e) (record { program = refl; goal = is.run.goal });
-        pages = subst (λ (y : Knows). IsPaged (task_of y).program (view k.pages)) (sym e) (subst (IsPaged (task_of v).program) (sym f) p);
+        program = subst (λ (y : Knows). program_of c.log ≡ (task_of y).program) (sym e) is.program;
         new = subst AreNew (sym e) (λ n more. is.new n (omega (arith, more)));
         forks = subst (λ (y : Knows). AreForks y.seen) (sym e) is.forks;
       }
 
 -- the new worker may begin
-pub may-join : (c : Shared) (l : Lead) (h : Worker) → IsHost c l → IsBeside l.seat h.seat → IsBeside l.pages h.pages → IsOfPool c.pool h.pass → view h.seat ≡ fresh (view l.seat) → view h.pages ≡ fresh (view l.pages) →
-    MayJoin (task_of (view l.seat)).program c (view l.seat).about h
-may-join c l h is beside pages_beside pool e f =
+pub may-join : (c : Shared) (l : Lead) (h : Worker) → IsHost c l → IsBeside l.seat h.seat → IsAt c.log h.pages → IsOfPool c.pool h.pass → view h.seat ≡ fresh (view l.seat) → MayJoin (task_of (view l.seat)).program c (view l.seat).about h
+may-join c l h is beside at pool e =
     let v : Knows = view l.seat in
     let p : Program = (task_of v).program in
     let idle : IsIdle (view h.seat) = subst IsIdle (sym e) (fresh-idle v is.idle is.new) in
-    let paged : IsPaged p (fresh (view l.pages)) = record { scope = is.pages.scope; about = is.pages.about; program = is.pages.program; rests = refl } in
     record {
       may = record {
         ready = record {
           book = beside ∙ is.lead.book;
-          log = pages_beside ∙ is.lead.log;
+          log = at;
+          program = subst (λ (y : Knows). program_of c.log ≡ (task_of y).program) (sym e) is.program;
           pool = pool;
           settled = idle.settled;
-          pages = subst (λ (y : Knows). IsPaged (task_of y).program (view h.pages)) (sym e) (subst (IsPaged p) (sym f) paged);
         };
         number = omega (arith, ap (λ (y : Knows). y.number) e);
         run = subst (IsRunOf p c.mode) (sym e) (record { program = refl; goal = is.run.goal });
@@ -138,14 +121,14 @@ out-more {D = D} {E = E} v w n m is e more = record {
   joins = ap (λ (y : View D E). y.joins) e ∙ is.joins;
 }
 
-pub ready-more : (c : Shared) (l k : Lead) (hs xs : List Worker) (h : Worker) → AreReady c l hs → view k.seat ≡ parted (view l.seat) → view k.pages ≡ parted (view l.pages) → MayJoin (task_of (view l.seat)).program c (view l.seat).about h →
+pub ready-more : (c : Shared) (l k : Lead) (hs xs : List Worker) (h : Worker) → AreReady c l hs → view k.seat ≡ parted (view l.seat) → ((n : ℕ) → HasSplit l.pages n → HasSplit k.pages (n + 1)) → MayJoin (task_of (view l.seat)).program c (view l.seat).about h →
     (view h.seat).number ≡ (view l.seat).splits + 1 → (view h.seat).seen ≡ (view l.seat).seen → xs ≡ hs ++ h ∷ [] → AreReady c k xs
 ready-more c l k hs xs h is e f may number began at =
     let v : Knows = view l.seat in
     let len : length xs ≡ length hs + 1 = omega (arith, ap length at, length-append hs (h ∷ [])) in
     record {
       out = out-more v (view k.seat) (length hs) (length xs) is.out e len;
-      pages_out = out-more (view l.pages) (view k.pages) (length hs) (length xs) is.pages_out f len;
+      pages_out = subst (HasSplit k.pages) (sym len) (f (length hs) is.pages_out);
       may = subst (λ (y : Knows). All (MayJoin (task_of y).program c y.about) xs) (sym e)
           (subst (All (MayJoin (task_of v).program c v.about)) (sym at) (All-append (MayJoin (task_of v).program c v.about) hs (h ∷ []) is.may (only (MayJoin (task_of v).program c v.about) h may)));
       numbered = subst (AreNumbered 1) (sym at) (numbered-more 1 hs h is.numbered (omega (arith, number, is.out.splits)));
@@ -153,7 +136,7 @@ ready-more c l k hs xs h is e f may number began at =
           (subst (All (λ x. (view x.seat).seen ≡ v.seen)) (sym at) (All-append (λ x. (view x.seat).seen ≡ v.seen) hs (h ∷ []) is.began (only (λ x. (view x.seat).seen ≡ v.seen) h began)));
     }
 
-pub ready-none : (c : Shared) (l : Lead) → HasOut (view l.seat) 0 → HasOut (view l.pages) 0 → AreReady c l []
+pub ready-none : (c : Shared) (l : Lead) → HasOut (view l.seat) 0 → HasSplit l.pages 0 → AreReady c l []
 ready-none c l out pages_out = record { out = out; pages_out = pages_out; may = All-nil (MayJoin (task_of (view l.seat)).program c (view l.seat).about); numbered = tt; began = All-nil (λ x. (view x.seat).seen ≡ (view l.seat).seen) }
 
 -- ---- a pass is taken
@@ -165,15 +148,15 @@ popped-one {X = X} P xs ys o x every is some_x =
     every (length ys) x (ap (λ (l : List X). get_elem? l (length ys)) (is ∙ ap (λ (q : Option X). ys ++ option_to_list q) some_x) ∙ place-last ys x)
 
 -- ---- the whole team
-pub host-begun : (p : Program) (ask : Ask) (budget : ℕ) (c : Shared) (l : Lead) → ask.mode ≡ c.mode → IsOf c.book l.seat → IsOf c.log l.pages → IsBegun (runs.task_of p ask budget) (view l.seat) → IsPaged p (view l.pages) → (view l.pages).number ≡ 0 → IsHost c l
-host-begun p ask budget c l mode book log is paged first =
+pub host-begun : (p : Program) (ask : Ask) (budget : ℕ) (c : Shared) (l : Lead) → ask.mode ≡ c.mode → IsOf c.book l.seat → IsAt c.log l.pages → IsBegun (runs.task_of p ask budget) (view l.seat) → program_of c.log ≡ p → IsFirst l.pages → IsHost c l
+host-begun p ask budget c l mode book log is for first =
     let t : Task = runs.task_of p ask budget in
     let same : task_of (view l.seat) ≡ t = ap (λ (o : Option Task). unwrap_or o no_task) is.about in
     record {
-      lead = record { book = book; log = log; first = is.first; pages_first = first; rests = is.idle.settled.seated.rests; pages_rest = paged.rests; lawful = is.idle.settled.seated.lawful };
+      lead = record { book = book; log = log; first = is.first; pages_first = first; rests = is.idle.settled.seated.rests; lawful = is.idle.settled.seated.lawful };
       idle = is.idle;
       run = record { program = refl; goal = ap (λ (x : Task). x.goal) same ∙ ap goal_of mode };
-      pages = subst (λ (x : Task). IsPaged x.program (view l.pages)) (sym same) paged;
+      program = for ∙ ap (λ (x : Task). x.program) (sym same);
       new = is.new;
       forks = is.forks;
     }

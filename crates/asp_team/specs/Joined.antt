@@ -14,19 +14,19 @@ use Rattle.asp_core.specs.Events.{held_by}
 use Rattle.asp_book.specs.Books.{signed, IsJournalOf}
 use Rattle.asp_book.specs.Calls.{Knows, task_of, seen_board}
 use Rattle.asp_crew_laws.specs.Gone.{IsGone}
+use Rattle.asp_slots.specs.Shelves.{IsAt, IsFirst}
 use Rattle.asp_worker.specs.declared.worker.Worker.{Worker}
 use Rattle.asp_worker.specs.declared.worker.Shared.{Shared}
 use Rattle.asp_worker.specs.Seats.{MayWork}
 use Rattle.asp_team.specs.declared.lead.Lead.{Lead}
 
--- The seats are the first of what the workers share, have neither value, and the one at the book has seen a lawful journal.
+-- The seats are the first of what the workers share, don't have the book or the log, and the one at the book has seen a lawful journal.
 pub record IsLead (c : Shared) (l : Lead) : Type 0 where
   pub book : IsOf c.book l.seat
-  pub log : IsOf c.log l.pages
+  pub log : IsAt c.log l.pages
   pub first : (view l.seat).number ≡ 0
-  pub pages_first : (view l.pages).number ≡ 0
+  pub pages_first : IsFirst l.pages
   pub rests : (view l.seat).holds ≡ false
-  pub pages_rest : (view l.pages).holds ≡ false
   pub lawful : IsJournalOf (task_of (view l.seat)) (view l.seat).seen
 
 -- From v to w so many seats were joined to the first, which did nothing itself.

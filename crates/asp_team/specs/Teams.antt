@@ -13,9 +13,10 @@ use Rattle.asp_core.specs.declared.task.Task.{Task}
 use Rattle.asp_core.specs.Events.{maker}
 use Rattle.asp_crew_laws.specs.Gone.{IsFork}
 use Rattle.asp_crew_laws.specs.Runs as runs
+use Rattle.asp_slots.specs.Shelves.{program_of, HasSplit}
 use Rattle.asp_worker.specs.declared.worker.Worker.{Worker}
 use Rattle.asp_worker.specs.declared.worker.Shared.{Shared}
-use Rattle.asp_worker.specs.Seats.{IsIdle, IsRunOf, IsPaged}
+use Rattle.asp_worker.specs.Seats.{IsIdle, IsRunOf}
 use Rattle.asp_team.specs.declared.lead.Lead.{Lead}
 use Rattle.asp_team.specs.declared.team.Team.{Team}
 use Rattle.asp_team.specs.Joined.{IsLead, LeftBy, MayJoin}
@@ -51,7 +52,7 @@ pub record IsHost (c : Shared) (l : Lead) : Type 0 where
   pub lead : IsLead c l
   pub idle : IsIdle (view l.seat)
   pub run : IsRunOf (task_of (view l.seat)).program c.mode (view l.seat)
-  pub pages : IsPaged (task_of (view l.seat)).program (view l.pages)
+  pub program : program_of c.log ≡ (task_of (view l.seat)).program
   pub new : AreNew (view l.seat)
   pub forks : AreForks (view l.seat).seen
 
@@ -63,7 +64,7 @@ AreNumbered i (h ∷ hs) = ((view h.seat).number ≡ i) × AreNumbered (suc i) h
 -- These workers may begin, whose seats are all that are out. They have seen what the first seat has.
 pub record AreReady (c : Shared) (l : Lead) (workers : List Worker) : Type 0 where
   pub out : HasOut (view l.seat) (length workers)
-  pub pages_out : HasOut (view l.pages) (length workers)
+  pub pages_out : HasSplit l.pages (length workers)
   pub may : All (MayJoin (task_of (view l.seat)).program c (view l.seat).about) workers
   pub numbered : AreNumbered 1 workers
   pub began : All (λ h. (view h.seat).seen ≡ (view l.seat).seen) workers

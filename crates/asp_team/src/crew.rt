@@ -4,6 +4,7 @@ ghost use Rattle.std.specs.List.{All};
 ghost use denote.Param.Send.{IsSync};
 ghost use Rattle.asp_vault.specs.Seats.{view};
 ghost use Rattle.asp_core.specs.declared.event.Event.{Event};
+ghost use Rattle.asp_slots.specs.Shelves.{TakesBack};
 ghost use Rattle.asp_worker.specs.Seats.{IsIdle, IsPlaced, MayWork, Worked};
 ghost use Rattle.asp_team.specs.Joined.{CameHome, IsHome, IsLead, Joins, LeftBy, MayJoin, StayHome};
 
@@ -31,7 +32,7 @@ fn joined(shared: &Shared, lead: Lead, worker: Worker) -> Lead
     requires about { (view worker.seat).about ≡ (view lead.seat).about }
     ensures lead { IsLead shared.now result }
     ensures joins { Joins (view lead.seat) (view result.seat) 1 }
-    ensures pages_join { Joins (view lead.pages) (view result.pages) 1 }
+    ensures pages_join { TakesBack lead.pages result.pages 1 }
     ensures stay { StayHome lead result }
     ensures came { IsHome (view result.seat) (view worker.seat).number }
     ensures gone { (never : Bool) (begun : List Event) → LeftBy (view worker.seat) worker.short never begun (view worker.seat).number → LeftBy (view result.seat) result.short never begun (view worker.seat).number }
@@ -69,7 +70,7 @@ pub fn crew<R: Threads + Wait + Sync, G: Gate + Sync, H: Halt + Sync>(
     requires workers { All (MayJoin compiled.now shared.now (view lead.seat).about) workers.items }
     ensures lead { IsLead shared.now result }
     ensures joins { Joins (view lead.seat) (view result.seat) (length workers.items) }
-    ensures pages_join { Joins (view lead.pages) (view result.pages) (length workers.items) }
+    ensures pages_join { TakesBack lead.pages result.pages (length workers.items) }
     ensures stay { StayHome lead result }
     ensures came { All (CameHome (H.never halt.now → ⊥) result) workers.items }
 {
@@ -96,7 +97,7 @@ fn beside<R: Threads + Wait + Sync, G: Gate + Sync, H: Halt + Sync>(
     requires worker { MayJoin compiled.now shared.now (view lead.seat).about worker }
     ensures lead { IsLead shared.now result }
     ensures joins { Joins (view lead.seat) (view result.seat) (length workers.items + 1) }
-    ensures pages_join { Joins (view lead.pages) (view result.pages) (length workers.items + 1) }
+    ensures pages_join { TakesBack lead.pages result.pages (length workers.items + 1) }
     ensures stay { StayHome lead result }
     ensures came { All (CameHome (H.never halt.now → ⊥) result) workers.items × CameHome (H.never halt.now → ⊥) result worker }
 {
@@ -106,7 +107,7 @@ fn beside<R: Threads + Wait + Sync, G: Gate + Sync, H: Halt + Sync>(
         requires workers { All (MayJoin compiled.now shared.now (view lead.seat).about) workers.items }
         ensures lead { IsLead shared.entry.now result }
         ensures joins { Joins (view lead.seat) (view result.seat) (length workers.items) }
-        ensures pages_join { Joins (view lead.pages) (view result.pages) (length workers.items) }
+        ensures pages_join { TakesBack lead.pages result.pages (length workers.items) }
         ensures stay { StayHome lead result }
         ensures came { All (CameHome (H.never halt.entry.now → ⊥) result) workers.items }
     { crew(rt, shared, compiled, gate, halt, lead, workers) };
@@ -151,7 +152,7 @@ pub fn crew_watched<R: Threads + Wait + Sync, G: Gate + Sync, H: Halt + Sync, W:
     requires workers { All (MayJoin compiled.now shared.now (view lead.seat).about) workers.items }
     ensures lead { IsLead shared.now result.0 }
     ensures joins { Joins (view lead.seat) (view result.0.seat) (length workers.items) }
-    ensures pages_join { Joins (view lead.pages) (view result.0.pages) (length workers.items) }
+    ensures pages_join { TakesBack lead.pages result.0.pages (length workers.items) }
     ensures stay { StayHome lead result.0 }
     ensures came { All (CameHome (H.never halt.now → ⊥) result.0) workers.items }
     ensures heard { W.IsAfter watch result.1 }
@@ -165,7 +166,7 @@ pub fn crew_watched<R: Threads + Wait + Sync, G: Gate + Sync, H: Halt + Sync, W:
                 requires workers { All (MayJoin compiled.now shared.now (view lead.seat).about) workers.items }
                 ensures lead { IsLead shared.entry.now result }
                 ensures joins { Joins (view lead.seat) (view result.seat) (length workers.items) }
-                ensures pages_join { Joins (view lead.pages) (view result.pages) (length workers.items) }
+                ensures pages_join { TakesBack lead.pages result.pages (length workers.items) }
                 ensures stay { StayHome lead result }
                 ensures came { All (CameHome (H.never halt.entry.now → ⊥) result) workers.items }
             { crew(rt, shared, compiled, gate, halt, lead, workers) };

@@ -12,6 +12,7 @@ ghost use Rattle.asp_crew_laws.specs.Reports.{IsReport, IsIdle as IsIdleBoard};
 ghost use Rattle.asp_crew_laws.specs.Runs.{asks, task_of};
 ghost use Rattle.asp_crew_laws.specs.Working.{MayBegin};
 ghost use Rattle.asp_crew.specs.Running.{Finishes, HasNoQuery};
+ghost use Rattle.asp_slots.specs.Shelves.{HasAllBack};
 ghost use Rattle.asp_worker.specs.Seats.{IsIdle};
 ghost use Rattle.asp_team.specs.Joined.{IsHome, IsLead};
 ghost use Rattle.asp_team.specs.Teams.{HaveLeft, IsAllBack, IsTeam};
@@ -52,6 +53,8 @@ pub struct Plan {
     pub budget: u64,
     /// Whether the proof of a finished run is wanted. All optima are not asked for then.
     pub proof: bool,
+    /// Whether several workers tell one another nogoods by a row of slots, in place of blocks under a lock.
+    pub row: bool,
 }
 
 /// What a run of many workers did.
@@ -88,7 +91,7 @@ impl Deeds {
 // The book, how many nogoods were shared, and what was told and written down, once every worker has come back.
 fn dismissed(shared: Shared, lead: Lead) -> (Book, u32, Tallies, Scroll)
     requires lead { IsLead shared lead }
-    requires all { IsAllBack (view lead.seat) × IsAllBack (view lead.pages) }
+    requires all { IsAllBack (view lead.seat) × HasAllBack lead.pages }
     requires idle { IsIdle (view lead.seat) }
     requires home { (n : ℕ) → 0 < n → n ≤ (view lead.seat).splits → IsHome (view lead.seat) n }
     ensures task { Some result.0.task ≡ (view lead.seat).about }
@@ -114,7 +117,7 @@ fn dismissed(shared: Shared, lead: Lead) -> (Book, u32, Tallies, Scroll)
         proof: _,
         scroll,
     } = shared;
-    (book.close(seat), log.close(pages).count(), tallies, scroll)
+    (book.close(seat), log.close(pages), tallies, scroll)
 }
 
 // What was left open is worked off. The recorder gets what is found, if a proof is wanted.
@@ -159,7 +162,7 @@ fn ended<W: Watch>(
     watch: &mut W,
 ) -> Result<(Report, Recorder), AllocError>
     requires lead { IsLead shared lead }
-    requires all { IsAllBack (view lead.seat) × IsAllBack (view lead.pages) }
+    requires all { IsAllBack (view lead.seat) × HasAllBack lead.pages }
     requires idle { IsIdle (view lead.seat) }
     requires home { (n : ℕ) → 0 < n → n ≤ (view lead.seat).splits → IsHome (view lead.seat) n }
     requires some { 0 < (view lead.seat).splits }
@@ -204,7 +207,7 @@ fn finished<W: Watch>(
     watch: &mut W,
 ) -> Result<Report, AllocError>
     requires lead { IsLead shared lead }
-    requires all { IsAllBack (view lead.seat) × IsAllBack (view lead.pages) }
+    requires all { IsAllBack (view lead.seat) × HasAllBack lead.pages }
     requires idle { IsIdle (view lead.seat) }
     requires home { (n : ℕ) → 0 < n → n ≤ (view lead.seat).splits → IsHome (view lead.seat) n }
     requires some { 0 < (view lead.seat).splits }
@@ -290,6 +293,7 @@ pub fn solve_with<R: Threads + Wait + Sync, G: Gate + Sync, H: Halt + Sync, W: W
         plan.budget,
         plan.workers,
         plan.proof,
+        plan.row,
     ) {
         Err(error) => (Err(error), watch),
         Ok(team) => worked(rt, compiled, plan, team, gate, halt, deeds, watch),

@@ -1,5 +1,5 @@
 //! A team: what its workers share, the main thread's seats, and the workers before they begin.
-ghost use Rattle.std.specs.Prelude.{◌≡◌, ◌+◌, ◌^◌, ◌<◌, ◌≤◌, [], length, IfOk, OnOk};
+ghost use Rattle.std.specs.Prelude.{◌≡◌, ◌+◌, ◌^◌, ◌<◌, ◌≤◌, ◌&&◌, ℕ, nat_lt, [], length, IfOk, OnOk};
 ghost use Rattle.asp_vault.specs.Rules.{opened, parted};
 ghost use Rattle.asp_vault.specs.Seats.{view, IsOf};
 ghost use Rattle.asp_pool.specs.Lists.{Every};
@@ -7,7 +7,7 @@ ghost use Rattle.asp_pool.specs.Pools.{IsOfPool};
 ghost use Rattle.asp_book.specs.Calls.{task_of as seen_task};
 ghost use Rattle.asp_counts.specs.Tallies.{count_of};
 ghost use Rattle.asp_crew_laws.specs.Runs.{task_of};
-ghost use Rattle.asp_worker.specs.Seats.{IsPaged};
+ghost use Rattle.asp_slots.specs.Shelves.{is_row, HasRoom, HasSplit};
 ghost use Rattle.asp_team.specs.Joined.{MayJoin};
 ghost use Rattle.asp_team.specs.Teams.{AreReady, HasOut, IsHost, IsTeam};
 
@@ -16,10 +16,10 @@ use asp_book::book::Book;
 use asp_core::goal::Goal;
 use asp_core::state::State;
 use asp_counts::tallies::Tallies;
-use asp_log::Log;
 use asp_model::results::Ask;
 use asp_pool::{Lane, Pass, Pool};
 use asp_recorder::scroll::Scroll;
+use asp_slots::Shelf;
 use asp_vars::compiled::Compiled;
 use asp_vault::{Seat, Vault};
 use asp_worker::worker::{Shared, Worker};
@@ -62,24 +62,14 @@ fn start(
     Vault::make(alloc, book)
 }
 
-// A vault with an empty log, and its first seat.
-fn blank(alloc: Global, compiled: &Compiled) -> Result<(Vault<Log>, Seat<Log>), AllocError>
-    ensures of { IfOk result (λ r. IsOf r.0 r.1) }
-    ensures paged { IfOk result (λ r. IsPaged compiled.now (view r.1)) }
-    ensures first { IfOk result (λ r. (view r.1).number ≡ 0) }
-    ensures out { IfOk result (λ r. HasOut (view r.1) 0) }
-{
-    Vault::make(alloc, Log::new(alloc, compiled, LOG_LIMIT))
-}
-
 // The next worker, with a lane and a pass.
 fn next(shared: &Shared, lead: &mut Lead, lane: Lane, pass: Pass) -> Worker
     requires host { IsHost shared.now lead.old }
-    requires room { ((view lead.old.seat).splits + 1 < 2 ^ 32) × ((view lead.old.pages).splits + 1 < 2 ^ 32) }
+    requires room { ((view lead.old.seat).splits + 1 < 2 ^ 32) × HasRoom lead.old.pages }
     requires pass { IsOfPool shared.now.pool pass }
     ensures host { IsHost shared.now lead.new }
     ensures seat { view lead.new.seat ≡ parted (view lead.old.seat) }
-    ensures pages { view lead.new.pages ≡ parted (view lead.old.pages) }
+    ensures pages { (n : ℕ) → HasSplit lead.old.pages n → HasSplit lead.new.pages (n + 1) }
     ensures number { (view result.seat).number ≡ (view lead.old.seat).splits + 1 }
     ensures began { (view result.seat).seen ≡ (view lead.old.seat).seen }
     ensures may { MayJoin (seen_task (view lead.old.seat)).program shared.now (view lead.old.seat).about result }
@@ -130,7 +120,7 @@ fn workers(
     mut passes: Vec<Pass>,
 ) -> Result<Vec<Worker>, AllocError>
     requires host { IsHost shared.now lead.old }
-    requires none_out { HasOut (view lead.old.seat) 0 × HasOut (view lead.old.pages) 0 }
+    requires none_out { HasOut (view lead.old.seat) 0 × HasSplit lead.old.pages 0 }
     requires few { length lanes.items ≤ 64 }
     requires even { length passes.items ≡ length lanes.items }
     requires passes { Every (IsOfPool shared.now.pool) passes.items }
@@ -147,7 +137,8 @@ fn workers(
     Ok(workers)
 }
 
-/// So many workers, 1 to 64, with what they share and what the main thread has. They write down a proof, if one is wanted.
+/// So many workers, 1 to 64, with what they share and what the main thread has. They write down a proof, if one is wanted. Their
+/// log is a row of slots where this is wanted and there are several.
 pub(crate) fn gathered(
     alloc: Global,
     compiled: &Compiled,
@@ -155,15 +146,17 @@ pub(crate) fn gathered(
     budget: u64,
     count: u32,
     proof: bool,
+    row: bool,
 ) -> Result<Team, AllocError>
     requires { (1 ≤ count) × (count ≤ 64) }
     ensures team { IfOk result (IsTeam compiled.now ask budget) }
     ensures count { IfOk result (λ team. length team.workers.items ≡ count) }
+    ensures log { IfOk result (λ team. is_row team.shared.log ≡ (row && nat_lt 1 count)) }
     ensures tallies { IfOk result (λ team. count_of team.shared.tallies ≡ count) }
 {
     let (pool, lanes, passes) = Pool::new(alloc, count)?;
     let tallies = Tallies::new(alloc, count)?;
-    let (log, pages) = blank(alloc, compiled)?;
+    let (log, pages) = Shelf::make(alloc, compiled, LOG_LIMIT, row && count > 1)?;
     let (book, seat) = start(alloc, compiled, ask, budget)?;
     let shared = Shared {
         alloc,

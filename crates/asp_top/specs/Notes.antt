@@ -4,6 +4,7 @@ use Rattle.std.specs.List.{flat_map}
 use Rattle.std.specs.Io.KnownBytes.{Appends}
 use Rattle.asp_io.specs.Causes.{Rose, AppendsFront}
 use Rattle.asp_cli.specs.declared.Options.{Options}
+use Rattle.asp_cli.specs.Values.{is_row}
 use Rattle.asp_crew_laws.specs.declared.report.Report.{Report}
 use Rattle.asp_model.specs.declared.results.Mode.{Mode}
 use Rattle.asp_model.specs.declared.results.Mode.TheVariants.{Enum, Opt, Consequences}
@@ -104,8 +105,18 @@ is_idle_request given mode = given.all_optima && not (is_optimum mode)
 abbrev pub optima_text : Options → Mode → List ℕ
 optima_text given mode = if is_idle_request given mode then codes "aspenum: --opt-all has no effect: no optimum is sought\n" else []
 
+abbrev pub asked_text : Options → Mode → List ℕ
+asked_text given mode = limit_text given mode ++ optima_text given mode
+
+-- a row of slots where one worker searched
+abbrev pub is_idle_row : Options → Bool
+is_idle_row given = (given.workers == 1) && is_row given.log
+
+abbrev pub row_text : Options → List ℕ
+row_text given = if is_idle_row given then codes "aspenum: --log has no effect: one thread searches\n" else []
+
 abbrev pub idle_text : Options → Mode → List ℕ
-idle_text given mode = limit_text given mode ++ optima_text given mode
+idle_text given mode = asked_text given mode ++ row_text given
 
 -- the lines for options that had no effect on what was sought
 abbrev pub idle_of : Options → Option Report → List ℕ

@@ -2,7 +2,7 @@
 ghost use Rattle.std.specs.Prelude.{◌≡◌, ◌++◌, codes, decimal};
 ghost use Rattle.asp_buffer.specs.Out.{Puts, out};
 ghost use Rattle.asp_top.specs.Counts.{loop_items, program_items, report_items, search_items};
-ghost use Rattle.asp_top.specs.Notes.{IsNoted, Writes, counts_if, counts_of, idle_of, idle_text, is_answered, is_idle_limit, is_idle_request, is_list, is_optimum, items_text, later_notes, limit_text, loops_text, note_of, notes_of, optima_text, program_text, stats_of, worker_text, workers_text};
+ghost use Rattle.asp_top.specs.Notes.{IsNoted, Writes, asked_text, counts_if, counts_of, idle_of, idle_text, is_answered, is_idle_limit, is_idle_request, is_idle_row, is_list, is_optimum, items_text, later_notes, limit_text, loops_text, note_of, notes_of, optima_text, program_text, row_text, stats_of, worker_text, workers_text};
 
 use crate::counts::{
     Tally, loop_items, program_items, put_items, report_items, search_items, worker_items,
@@ -296,13 +296,42 @@ fn write_optima<N: Sink>(notes: &mut N, options: &Options, mode: Mode) -> Result
     }
 }
 
+// A row of slots where one worker searched.
+fn is_idle_row(options: &Options) -> bool
+    ensures { result ≡ is_idle_row options.now }
+{
+    options.workers == 1 && options.log.is_row()
+}
+
+fn write_row<N: Sink>(notes: &mut N, options: &Options) -> Result<(), Failed>
+    ensures { Writes (N.held notes.old) (N.held notes.new) (N.faults notes.old) (N.faults notes.new)
+        result (row_text options.now) }
+{
+    if is_idle_row(options) {
+        write(
+            notes,
+            b"aspenum: --log has no effect: one thread searches\n",
+        )
+    } else {
+        write(notes, b"")
+    }
+}
+
+fn write_asked<N: Sink>(notes: &mut N, options: &Options, mode: Mode) -> Result<(), Failed>
+    ensures { Writes (N.held notes.old) (N.held notes.new) (N.faults notes.old) (N.faults notes.new)
+        result (asked_text options.now mode) }
+{
+    write_limit(notes, options, mode)?;
+    write_optima(notes, options, mode)
+}
+
 // Writes the lines for options that had no effect in this mode.
 fn write_idle<N: Sink>(notes: &mut N, options: &Options, mode: Mode) -> Result<(), Failed>
     ensures { Writes (N.held notes.old) (N.held notes.new) (N.faults notes.old) (N.faults notes.new)
         result (idle_text options.now mode) }
 {
-    write_limit(notes, options, mode)?;
-    write_optima(notes, options, mode)
+    write_asked(notes, options, mode)?;
+    write_row(notes, options)
 }
 
 fn write_idle_of<N: Sink>(

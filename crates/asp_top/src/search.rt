@@ -154,6 +154,7 @@ fn solved_by_crew<R: Threads + Wait + Sync, G: Gate + Sync, W: Watch + Drop>(
         workers: options.workers,
         budget: options.budget,
         proof: options.proof,
+        row: options.log.is_row(),
     };
     many::solve(rt, alloc, compiled, plan, gate, deeds, watch)
 }

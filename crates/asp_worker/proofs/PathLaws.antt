@@ -5,7 +5,6 @@ use Rattle.asp_model.specs.declared.program.Program.{Program}
 use Rattle.asp_model.specs.declared.results.Mode.{Mode}
 use Rattle.asp_vars.specs.Literals.{Literal}
 use Rattle.asp_vars.specs.Paid.{Units}
-use Rattle.asp_vars.specs.declared.nogood.Nogood.{Nogood}
 use Rattle.asp_vault.specs.Seats.{view}
 use Rattle.asp_path.specs.declared.status.Status.TheVariants as status
 use Rattle.asp_path.specs.Trees.{Node, nowhere, cube_of}
@@ -14,6 +13,7 @@ use Rattle.asp_core.specs.Events.{has_var, IsVariable}
 use Rattle.asp_search.specs.Beside.{IsOpen}
 use Rattle.asp_book.specs.Calls.{Knows, task_of, seen_board}
 use Rattle.asp_search_laws.specs.Searching.{Searching}
+use Rattle.asp_slots.specs.declared.shelf.ShelfSeat.{ShelfSeat}
 use Rattle.asp_worker.specs.declared.worker.Worker.{Worker}
 use Rattle.asp_worker.specs.declared.worker.Shared.{Shared}
 use Rattle.asp_worker.specs.Seats.{Behaves, Idles, Passes, Leases, IsReady, Keeps}
@@ -24,12 +24,12 @@ use Rattle.asp_worker.proofs.GoingLaws.{owes-of, goes-on, owes-on}
 use Rattle.asp_worker.proofs.SharingLaws.{refreshed-goes, refreshed-cube}
 
 -- what others found was taken over
-pub refreshed-on : (m : Mode) (v w : Knows) (t r : Searching) (u : Units) (leaf : ℕ) (xs : List Nogood) → IsOn m v t u leaf → Idles v w → TakesOver m (seen_board w) xs t r → IsOn m w r u leaf
-refreshed-on m v w t r u leaf xs on i e = record {
-  going = refreshed-goes m v w t r u xs on.going i e;
+pub refreshed-on : (m : Mode) (v w : Knows) (t r : Searching) (u : Units) (leaf : ℕ) (pages : ShelfSeat) (from : ℕ) → IsOn m v t u leaf → Idles v w → TakesOver m (seen_board w) pages from t r → IsOn m w r u leaf
+refreshed-on m v w t r u leaf pages from on i e = record {
+  going = refreshed-goes m v w t r u pages from on.going i e;
   works = record {
     held = holds-idles v w leaf on.works.held i;
-    entered = refreshed-cube m w t r xs e ∙ on.works.entered ∙ ap (λ (q : List Literal). Some q) (sym (cube-idles v w leaf on.works.held i));
+    entered = refreshed-cube m w t r pages from e ∙ on.works.entered ∙ ap (λ (q : List Literal). Some q) (sym (cube-idles v w leaf on.works.held i));
   };
 }
 

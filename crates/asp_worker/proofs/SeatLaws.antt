@@ -7,14 +7,11 @@ use Rattle.std.specs.declared.alloc.AllocError.{AllocError}
 use Rattle.std.specs.List.{All}
 use Rattle.std.proofs.lemmas.Bool.{false≢true, eq-eqb}
 use Rattle.std.proofs.lemmas.List.{length-set, get_or-set_same, get_or-append-add}
-use Rattle.asp_model.specs.declared.program.Program.{Program}
 use Rattle.asp_vars.specs.Literals.{Literal, complement}
 use Rattle.asp_vars.specs.Numbering.{var_count}
 use Rattle.asp_vars.specs.Numbering.{IsVar}
-use Rattle.asp_vault.specs.declared.view.View.{View}
 use Rattle.asp_vault.specs.Moments.{Stays}
 use Rattle.asp_vault.specs.Seats.{view, IsBeside}
-use Rattle.asp_vault.proofs.Prefixes.{prefix_self, prefix_trans}
 use Rattle.asp_path.specs.declared.status.Status.{Status}
 use Rattle.asp_path.specs.declared.status.Status.TheVariants as status
 use Rattle.asp_path.specs.Trees.{Node, is_leaf, is_held_by, nowhere, cube_of, status_of, with_status, split}
@@ -36,26 +33,13 @@ use Rattle.asp_book.specs.Calls.{Knows, task_of, seen_board, IsCall}
 use Rattle.asp_book.specs.Replies.{taken, taken_this, divided}
 use Rattle.asp_book.proofs.CallLaws.{lawful-rest, task-stays, seen-after, lawful-after}
 use Rattle.asp_pool.specs.Pools.{IsOfPool}
+use Rattle.asp_slots.specs.Shelves.{ReadsOn}
+use Rattle.asp_slots.proofs.ShelfLaws.{stays-self, stays-trans, reads-self, reads-trans, at-on}
 use Rattle.asp_worker.specs.declared.worker.Worker.{Worker}
 use Rattle.asp_worker.specs.declared.worker.Shared.{Shared}
 use Rattle.asp_worker.specs.declared.find.Sight.{Sight}
-use Rattle.asp_worker.specs.Seats.{IsRun, IsSettled, IsTidy, OwnAre, Behaves, Passes, Idles, Leases, IsFree, Holds, HoldsHalf, Sees, Takes, Reads, IsPaged, IsPlaced, IsReady, Keeps}
+use Rattle.asp_worker.specs.Seats.{IsRun, IsSettled, IsTidy, OwnAre, Behaves, Passes, Idles, Leases, IsFree, Holds, HoldsHalf, Sees, Takes, IsPlaced, IsReady, Keeps}
 use Rattle.asp_worker.proofs.OwnLaws.{behaves-call}
-
--- ---- the same seat
-pub stays-self : {D E : Type 0} (v : View D E) → v.holds ≡ false → Stays v v
-stays-self v rests = record { rests = rests; about = refl; number = refl; splits = refl; joins = refl; guests = refl; seen = prefix_self v.seen }
-
-pub stays-trans : {D E : Type 0} (u v w : View D E) → Stays u v → Stays v w → Stays u w
-stays-trans u v w s t = record {
-  rests = t.rests;
-  about = t.about ∙ s.about;
-  number = t.number ∙ s.number;
-  splits = t.splits ∙ s.splits;
-  joins = t.joins ∙ s.joins;
-  guests = t.guests ∙ s.guests;
-  seen = prefix_trans u.seen v.seen w.seen s.seen t.seen;
-}
 
 Spares-self : (n : ℕ) (b : Board) → Spares n b b
 Spares-self n b = record { leaves = λ leaf h. refl; count = refl; units = refl }
@@ -293,35 +277,30 @@ module _ (v w : Knows) (before : List Event) (stays : Stays v w) (leaf : ℕ) wh
 
 -- ---- the worker
 pub keeps-self : (c : Shared) (h : Worker) → IsReady c h → Keeps h h
-keeps-self c h r = record { book = refl; log = refl; seat = stays-self (view h.seat) r.settled.seated.rests; pages = stays-self (view h.pages) r.pages.rests }
+keeps-self c h r = record { book = refl; seat = stays-self (view h.seat) r.settled.seated.rests; pages = reads-self c.log h.pages r.log }
 
 pub keeps-trans : (h k l : Worker) → Keeps h k → Keeps k l → Keeps h l
 keeps-trans h k l p q = record {
   book = q.book ∙ p.book;
-  log = q.log ∙ p.log;
   seat = stays-trans (view h.seat) (view k.seat) (view l.seat) p.seat q.seat;
-  pages = stays-trans (view h.pages) (view k.pages) (view l.pages) p.pages q.pages;
+  pages = reads-trans h.pages k.pages l.pages p.pages q.pages;
 }
-
-pub paged-on : (p : Program) (v w : Reads) → IsPaged p v → Stays v w → IsPaged p w
-paged-on p v w g stays = record { scope = g.scope; about = stays.about ∙ g.about; program = g.program; rests = stays.rests }
 
 -- the worker still shares these, with another seat at the book
 pub placed-seat : (c : Shared) (h k : Worker) → IsPlaced c h → Keeps h k → IsOfPool c.pool k.pass → IsJournalOf (task_of (view k.seat)) (view k.seat).seen → IsPlaced c k
 placed-seat c h k r s pool lawful = record {
   book = s.book ∙ r.book;
-  log = s.log ∙ r.log;
+  log = at-on c.log h.pages k.pages r.log s.pages;
+  program = r.program ∙ ap (λ (t : Task). t.program) (sym (task-stays (view h.seat) (view k.seat) s.seat));
   pool = pool;
   settled = settled-on (view h.seat) (view k.seat) r.settled s.seat lawful;
-  pages = subst (λ (p : Program). IsPaged p (view k.pages)) (ap (λ (t : Task). t.program) (sym (task-stays (view h.seat) (view k.seat) s.seat)))
-      (paged-on (task_of (view h.seat)).program (view h.pages) (view k.pages) r.pages s.pages);
 }
 
 pub ready-placed : (c : Shared) (h : Worker) → IsReady c h → IsPlaced c h
-ready-placed c h r = record { book = r.book; log = r.log; pool = r.pool; settled = r.settled; pages = r.pages }
+ready-placed c h r = record { book = r.book; log = r.log; program = r.program; pool = r.pool; settled = r.settled }
 
 pub placed-ready : (c : Shared) (h : Worker) → IsPlaced c h → OwnAre IsTidy (view h.seat) → IsReady c h
-placed-ready c h r tidy = record { book = r.book; log = r.log; pool = r.pool; settled = r.settled; pages = r.pages; tidy = tidy }
+placed-ready c h r tidy = record { book = r.book; log = r.log; program = r.program; pool = r.pool; settled = r.settled; tidy = tidy }
 
 -- it is ready still
 pub ready-seat : (c : Shared) (h k : Worker) → IsReady c h → Keeps h k → IsOfPool c.pool k.pass → Behaves (view h.seat) (view k.seat) → IsReady c k
@@ -399,20 +378,18 @@ cube-vars v leaf s held =
     (cube-at b.task b.nodes leaf (leaf-within b.nodes leaf (ap is_leaf held)) (settled-board v s).cubes).variables
 
 -- ---- the same worker with another seat at the book
-pub keeps-seat : (c : Shared) (h k : Worker) → IsReady c h → IsBeside h.seat k.seat → Stays (view h.seat) (view k.seat) → IsBeside h.pages k.pages → view k.pages ≡ view h.pages → Keeps h k
-keeps-seat c h k r book stays log same = record {
+pub keeps-seat : (c : Shared) (h k : Worker) → IsReady c h → IsBeside h.seat k.seat → Stays (view h.seat) (view k.seat) → k.pages ≡ h.pages → Keeps h k
+keeps-seat c h k r book stays same = record {
   book = book;
-  log = log;
   seat = stays;
-  pages = subst (λ (x : Reads). Stays (view h.pages) x) (sym same) (stays-self (view h.pages) r.pages.rests);
+  pages = subst (ReadsOn h.pages) (sym same) (reads-self c.log h.pages r.log);
 }
 
-pub keeps-pages : (c : Shared) (h k : Worker) → IsReady c h → IsBeside h.pages k.pages → Stays (view h.pages) (view k.pages) → IsBeside h.seat k.seat → view k.seat ≡ view h.seat → Keeps h k
-keeps-pages c h k r log stays book same = record {
-  book = book;
-  log = log;
-  seat = subst (λ (x : Knows). Stays (view h.seat) x) (sym same) (stays-self (view h.seat) r.settled.seated.rests);
-  pages = stays;
+pub keeps-pages : (c : Shared) (h k : Worker) → IsReady c h → ReadsOn h.pages k.pages → k.seat ≡ h.seat → Keeps h k
+keeps-pages c h k r on same = record {
+  book = ap (λ s. s.token.table_id) same;
+  seat = subst (λ s. Stays (view h.seat) (view s)) (sym same) (stays-self (view h.seat) r.settled.seated.rests);
+  pages = on;
 }
 
 -- ---- after want of memory

@@ -1,5 +1,5 @@
 -- What a worker's seats know from one call to the next.
-use Rattle.std.specs.Prelude.{◌≡◌, ◌⊎◌, ℕ, ◌^◌, ◌<◌, ◌≤◌, ◌==◌, Bool, true, false, List, [], ◌∷◌, ◌++◌, Some, slice_index_or, Option, None, Result, Ok, Err}
+use Rattle.std.specs.Prelude.{◌≡◌, ◌⊎◌, ℕ, ◌^◌, ◌<◌, ◌≤◌, ◌==◌, Bool, true, List, [], ◌∷◌, ◌++◌, Some, slice_index_or, Option, None, Result, Ok, Err}
 use Rattle.std.specs.List.{AllByRecursion}
 use Rattle.std.specs.declared.alloc.AllocError.{AllocError}
 use mathlib.Core.List.{IsPrefix}
@@ -7,8 +7,6 @@ use Rattle.asp_model.specs.declared.program.Program.{Program}
 use Rattle.asp_model.specs.declared.results.Mode.{Mode}
 use Rattle.asp_vars.specs.Literals.{Literal}
 use Rattle.asp_vars.specs.Paid.{Units}
-use Rattle.asp_vars.specs.declared.nogood.Nogood.{Nogood}
-use Rattle.asp_vault.specs.declared.view.View.{View}
 use Rattle.asp_vault.specs.Makers.{NoneBy}
 use Rattle.asp_vault.specs.Moments.{Stays}
 use Rattle.asp_vault.specs.Seats.{view, IsOf, IsBeside}
@@ -23,8 +21,8 @@ use Rattle.asp_core.specs.Growth.{Grows, Spares}
 use Rattle.asp_book.specs.Books.{signed, IsJournalOf}
 use Rattle.asp_book.specs.Calls.{Knows, task_of, seen_board}
 use Rattle.asp_book.specs.Fuels.{ComesBack}
-use Rattle.asp_log.specs.declared.scope.Scope.{Scope}
 use Rattle.asp_pool.specs.Pools.{IsOfPool}
+use Rattle.asp_slots.specs.Shelves.{program_of, IsAt, ReadsOn}
 use Rattle.asp_crew_laws.specs.Gone.{IsSmall, IsRelease}
 use Rattle.asp_crew_laws.specs.Runs.{Quiet}
 use Rattle.asp_crew_laws.specs.Working.{IsSeated}
@@ -140,46 +138,36 @@ pub record IsIdle (v : Knows) : Type 0 where
   pub free : IsFree v
   pub home : out_of (seen_board v).out v.number ≡ 0
 
--- ---- the seat at the log
-abbrev pub Reads : Type 0
-Reads = View Scope Nogood
-
--- It doesn't have the log, which is the program's.
-pub record IsPaged (p : Program) (w : Reads) : Type 0 where
-  pub scope : Scope
-  pub about : w.about ≡ Some scope
-  pub program : scope.program ≡ p
-  pub rests : w.holds ≡ false
-
+-- ---- the worker
 -- The seat's board is for a run of this program.
 pub record IsRunOf (p : Program) (m : Mode) (v : Knows) : Type 0 where
   pub program : (task_of v).program ≡ p
   pub goal : (task_of v).goal ≡ goal_of m
 
--- ---- both
 -- The worker is one of those that share these.
 pub record IsPlaced (c : Shared) (h : Worker) : Type 0 where
   pub book : IsOf c.book h.seat
-  pub log : IsOf c.log h.pages
+  pub log : IsAt c.log h.pages
+  -- The log is for the program of the run.
+  pub program : program_of c.log ≡ (task_of (view h.seat)).program
   pub pool : IsOfPool c.pool h.pass
   pub settled : IsSettled (view h.seat)
-  pub pages : IsPaged (task_of (view h.seat)).program (view h.pages)
 
 -- It is, and its number was tidy.
 pub record IsReady (c : Shared) (h : Worker) : Type 0 where
   pub book : IsOf c.book h.seat
-  pub log : IsOf c.log h.pages
+  pub log : IsAt c.log h.pages
+  -- The log is for the program of the run.
+  pub program : program_of c.log ≡ (task_of (view h.seat)).program
   pub pool : IsOfPool c.pool h.pass
   pub settled : IsSettled (view h.seat)
-  pub pages : IsPaged (task_of (view h.seat)).program (view h.pages)
   pub tidy : OwnAre IsTidy (view h.seat)
 
 -- The worker has the seats that it had.
 pub record Keeps (h k : Worker) : Type 0 where
   pub book : IsBeside h.seat k.seat
-  pub log : IsBeside h.pages k.pages
   pub seat : Stays (view h.seat) (view k.seat)
-  pub pages : Stays (view h.pages) (view k.pages)
+  pub pages : ReadsOn h.pages k.pages
 
 -- ---- a whole work
 -- The worker may begin: its seat has a number above 0, is of a run of this program, and the number has nothing and did nothing.

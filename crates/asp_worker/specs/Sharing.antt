@@ -11,6 +11,8 @@ use Rattle.asp_core.specs.Boards.{Board}
 use Rattle.asp_search.specs.Beside.{Adopts, Imports, count_unshown, left_to_show}
 use Rattle.asp_search_laws.specs.Searching.{Searching}
 use Rattle.asp_search_laws.specs.Steps.{is_of_use}
+use Rattle.asp_slots.specs.declared.shelf.ShelfSeat.{ShelfSeat}
+use Rattle.asp_slots.specs.Shelves.{AreRead}
 
 -- Whether the cost is smaller than the bound, if one stands.
 abbrev pub is_smaller : List ℤ → Option (List ℤ) → Bool
@@ -55,11 +57,17 @@ abbrev pub ImportsAll : List Nogood → Searching → Searching → Type 0
 ImportsAll [] s t = t ≡ s
 ImportsAll (n ∷ nogoods) s t = (r : Searching) × ImportsIf s r n × ImportsAll nogoods r t
 
--- The best cost or the answers delivered, and then the nogoods that count, were taken over: also those that count by this cost alone.
-pub record TakesOver (m : Mode) (b : Board) (nogoods : List Nogood) (s t : Searching) : Type 0 where
+-- Those of the entries that count were imported which the seat has seen from a position on.
+pub record ImportsNew (pages : ShelfSeat) (from : ℕ) (s t : Searching) : Type 0 where
+  pub entries : List Nogood
+  pub read : AreRead s.program pages from entries
+  pub imported : ImportsAll entries s t
+
+-- The best cost or the answers delivered, and then the entries that count, were taken over: also those that count by this cost alone.
+pub record TakesOver (m : Mode) (b : Board) (pages : ShelfSeat) (from : ℕ) (s t : Searching) : Type 0 where
   pub between : Searching
   pub best : TakesBest m b s between
-  pub imported : ImportsAll nogoods between t
+  pub imported : ImportsNew pages from between t
 
 -- After want of memory the search may be on no path, but knows what it knew.
 pub record Remembers (s t : Searching) : Type 0 where

@@ -1,5 +1,5 @@
 //! How a worker gathers answers, and delivers several in one turn of the book's lock.
-ghost use Rattle.std.specs.Prelude.{◌≡◌, ◌≤◌, ◌++◌, ◌∷◌, ℕ, List, [], Some, length, IsTrue, OnOk, OnErr, IfOk, IfErr};
+ghost use Rattle.std.specs.Prelude.{◌≡◌, ◌≤◌, ◌++◌, ◌∷◌, ℕ, List, [], Some, IsTrue, OnOk, OnErr, IfOk, IfErr};
 ghost use Rattle.asp_model.specs.declared.results.Mode.TheVariants as mode;
 ghost use Rattle.asp_model.specs.Models.{atoms_of};
 ghost use Rattle.asp_rows.specs.Listed.{IsRowFor};
@@ -13,6 +13,7 @@ ghost use Rattle.asp_path.specs.Trees.{cube_of};
 ghost use Rattle.asp_book.specs.Calls.{seen_board, IsCall};
 ghost use Rattle.asp_book.specs.Replies.{deliveries};
 ghost use Rattle.asp_search_laws.specs.Searching.{Searching, used};
+ghost use Rattle.asp_slots.specs.Shelves.{seen_count};
 ghost use Rattle.asp_worker.specs.declared.gather.Pause.TheVariants as pause;
 ghost use Rattle.asp_worker.specs.Seats.{IsReady, IsSettled, Idles, Keeps};
 ghost use Rattle.asp_worker.specs.Working.{IsOn, IsOff, IsCourse, IsStop, Finds, Gathers};
@@ -170,10 +171,10 @@ fn answers<R: Wait, P: Propagator>(
     requires ready { IsReady shared.now worker.old }
     requires listing { shared.now.mode ≡ mode.Enum }
     requires found { (s : Searching) × Finds shared.now.mode (view worker.old.seat) s engine.old.search engine.old.fuel leaf set }
-    requires read { engine.old.read ≤ length (view worker.old.pages).seen }
+    requires read { engine.old.read ≤ seen_count worker.old.pages }
     ensures keeps { Keeps worker.old worker.new }
     ensures ready { IsReady shared.now worker.new }
-    ensures read { engine.new.read ≤ length (view worker.new.pages).seen }
+    ensures read { engine.new.read ≤ seen_count worker.new.pages }
     ensures ok { OnOk result (IsOn shared.now.mode (view worker.new.seat) engine.new.search engine.new.fuel leaf) }
     ensures course { IfOk result (IsCourse (view worker.new.seat) engine.new.search leaf) }
     ensures err { OnErr result (IsOff (view worker.new.seat) engine.new.fuel leaf) }
@@ -206,10 +207,10 @@ pub(crate) fn answer<R: Wait, P: Propagator>(
 ) -> Result<Course, Stop>
     requires ready { IsReady shared.now worker.old }
     requires found { (s : Searching) × Finds shared.now.mode (view worker.old.seat) s engine.old.search engine.old.fuel leaf set }
-    requires read { engine.old.read ≤ length (view worker.old.pages).seen }
+    requires read { engine.old.read ≤ seen_count worker.old.pages }
     ensures keeps { Keeps worker.old worker.new }
     ensures ready { IsReady shared.now worker.new }
-    ensures read { engine.new.read ≤ length (view worker.new.pages).seen }
+    ensures read { engine.new.read ≤ seen_count worker.new.pages }
     ensures ok { OnOk result (IsOn shared.now.mode (view worker.new.seat) engine.new.search engine.new.fuel leaf) }
     ensures course { IfOk result (IsCourse (view worker.new.seat) engine.new.search leaf) }
     ensures err { OnErr result (IsOff (view worker.new.seat) engine.new.fuel leaf) }

@@ -1,11 +1,12 @@
 //! How a worker searches a path.
-ghost use Rattle.std.specs.Prelude.{◌≡◌, ◌<◌, ◌≤◌, length, IfOk, IfErr, IsSome, OnOk, OnErr};
+ghost use Rattle.std.specs.Prelude.{◌≡◌, ◌<◌, ◌≤◌, IfOk, IfErr, IsSome, OnOk, OnErr};
 ghost use Rattle.asp_vars.specs.Entailment.{HitsOnly};
 ghost use Rattle.asp_vault.specs.Seats.{view, IsOf, IsBeside};
 ghost use Rattle.asp_path.specs.Trees.{cube_of};
 ghost use Rattle.asp_core.specs.Boards.{is_excused};
 ghost use Rattle.asp_book.specs.Calls.{task_of, seen_board};
 ghost use Rattle.asp_search_laws.specs.Steps.{IsStep};
+ghost use Rattle.asp_slots.specs.Shelves.{seen_count};
 ghost use Rattle.asp_worker.specs.Seats.{IsReady, Keeps, IsSettled, Passes, Holds, IsFree};
 ghost use Rattle.asp_worker.specs.Working.{GoesOn, IsOn, IsOff, IsCourse, IsStop, IsWay, Pays};
 
@@ -103,10 +104,10 @@ fn advance<R: Wait, P: Propagator>(
 ) -> Result<Course, Stop>
     requires ready { IsReady shared.now worker.old }
     requires on { IsOn shared.now.mode (view worker.old.seat) engine.old.search engine.old.fuel leaf }
-    requires read { engine.old.read ≤ length (view worker.old.pages).seen }
+    requires read { engine.old.read ≤ seen_count worker.old.pages }
     ensures keeps { Keeps worker.old worker.new }
     ensures ready { IsReady shared.now worker.new }
-    ensures read { engine.new.read ≤ length (view worker.new.pages).seen }
+    ensures read { engine.new.read ≤ seen_count worker.new.pages }
     ensures ok { OnOk result (IsOn shared.now.mode (view worker.new.seat) engine.new.search engine.new.fuel leaf) }
     ensures course { IfOk result (IsCourse (view worker.new.seat) engine.new.search leaf) }
     ensures err { OnErr result (IsOff (view worker.new.seat) engine.new.fuel leaf) }
@@ -174,10 +175,10 @@ fn search_path<R: Wait, P: Propagator, H: Halt, W: Watch>(
     requires ready { IsReady shared.now worker.old }
     requires number { 0 < (view worker.old.seat).number }
     requires on { IsOn shared.now.mode (view worker.old.seat) engine.old.search engine.old.fuel leaf.old }
-    requires read { engine.old.read ≤ length (view worker.old.pages).seen }
+    requires read { engine.old.read ≤ seen_count worker.old.pages }
     ensures keeps { Keeps worker.old worker.new }
     ensures ready { IsReady shared.now worker.new }
-    ensures read { engine.new.read ≤ length (view worker.new.pages).seen }
+    ensures read { engine.new.read ≤ seen_count worker.new.pages }
     ensures ok { IfOk result (IsWay (H.never halt.now → ⊥) shared.now.mode (view worker.new.seat) engine.new.search engine.new.fuel leaf.new) }
     ensures err { OnErr result (IsOff (view worker.new.seat) engine.new.fuel leaf.new) }
     ensures stop { IfErr result (IsStop (view worker.new.seat)) }
@@ -217,10 +218,10 @@ fn try_path<R: Wait, P: Propagator, H: Halt, W: Watch>(
     requires number { 0 < (view worker.old.seat).number }
     requires held { Holds (view worker.old.seat) leaf.old }
     requires going { GoesOn shared.now.mode (view worker.old.seat) engine.old.search engine.old.fuel }
-    requires read { engine.old.read ≤ length (view worker.old.pages).seen }
+    requires read { engine.old.read ≤ seen_count worker.old.pages }
     ensures keeps { Keeps worker.old worker.new }
     ensures ready { IsReady shared.now worker.new }
-    ensures read { engine.new.read ≤ length (view worker.new.pages).seen }
+    ensures read { engine.new.read ≤ seen_count worker.new.pages }
     ensures ok { IfOk result (IsWay (H.never halt.now → ⊥) shared.now.mode (view worker.new.seat) engine.new.search engine.new.fuel leaf.new) }
     ensures err { OnErr result (IsOff (view worker.new.seat) engine.new.fuel leaf.new) }
     ensures stop { IfErr result (IsStop (view worker.new.seat)) }
@@ -247,10 +248,10 @@ pub(crate) fn path<R: Wait, P: Propagator, H: Halt, W: Watch>(
     requires number { 0 < (view worker.old.seat).number }
     requires held { Holds (view worker.old.seat) leaf.old }
     requires going { GoesOn shared.now.mode (view worker.old.seat) engine.old.search engine.old.fuel }
-    requires read { engine.old.read ≤ length (view worker.old.pages).seen }
+    requires read { engine.old.read ≤ seen_count worker.old.pages }
     ensures keeps { Keeps worker.old worker.new }
     ensures ready { IsReady shared.now worker.new }
-    ensures read { engine.new.read ≤ length (view worker.new.pages).seen }
+    ensures read { engine.new.read ≤ seen_count worker.new.pages }
     ensures way { IsWay (H.never halt.now → ⊥) shared.now.mode (view worker.new.seat) engine.new.search engine.new.fuel leaf.new result }
     ensures heard { W.IsAfter watch.old watch.new }
 {

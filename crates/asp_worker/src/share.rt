@@ -1,5 +1,5 @@
 //! How a worker gives away half of its path, and when it gives all of it up.
-ghost use Rattle.std.specs.Prelude.{◌≡◌, ◌≤◌, List, Some, length, true, false, IsTrue, OnOk, OnErr, IfErr};
+ghost use Rattle.std.specs.Prelude.{◌≡◌, ◌≤◌, List, Some, true, false, IsTrue, OnOk, OnErr, IfErr};
 ghost use Rattle.asp_vars.specs.Literals.{Literal};
 ghost use Rattle.asp_vault.specs.Seats.{view, IsOf, IsBeside};
 ghost use Rattle.asp_path.specs.Trees.{cube_of};
@@ -7,6 +7,7 @@ ghost use Rattle.asp_core.specs.Boards.{is_enough};
 ghost use Rattle.asp_core.specs.Events.{has_var, IsVariable};
 ghost use Rattle.asp_book.specs.Calls.{task_of, seen_board};
 ghost use Rattle.asp_search.specs.Beside.{Enters, IsOpen};
+ghost use Rattle.asp_slots.specs.Shelves.{seen_count};
 ghost use Rattle.asp_worker.specs.Seats.{IsReady, Keeps, IsSettled, Idles, Passes, Holds, HoldsHalf};
 ghost use Rattle.asp_worker.specs.Working.{GoesOn, IsOn, IsOff, IsStop};
 
@@ -60,11 +61,11 @@ pub(crate) fn begin<R: Wait, P: Propagator>(
     requires ready { IsReady shared.now worker.old }
     requires held { Holds (view worker.old.seat) leaf }
     requires going { GoesOn shared.now.mode (view worker.old.seat) engine.old.search engine.old.fuel }
-    requires read { engine.old.read ≤ length (view worker.old.pages).seen }
+    requires read { engine.old.read ≤ seen_count worker.old.pages }
     ensures keeps { Keeps worker.old worker.new }
     ensures ready { IsReady shared.now worker.new }
     ensures idles { Idles (view worker.old.seat) (view worker.new.seat) }
-    ensures read { engine.new.read ≤ length (view worker.new.pages).seen }
+    ensures read { engine.new.read ≤ seen_count worker.new.pages }
     ensures ok { OnOk result (IsOn shared.now.mode (view worker.new.seat) engine.new.search engine.new.fuel leaf) }
     ensures err { OnErr result (IsOff (view worker.new.seat) engine.new.fuel leaf) }
 {
@@ -135,10 +136,10 @@ fn split_on<R: Wait, P: Propagator>(
     requires ready { IsReady shared.now worker.old }
     requires on { IsOn shared.now.mode (view worker.old.seat) engine.old.search engine.old.fuel leaf.old }
     requires open { (q : List Literal) → engine.old.search.cube ≡ Some q → IsOpen engine.old.search.program q lit }
-    requires read { engine.old.read ≤ length (view worker.old.pages).seen }
+    requires read { engine.old.read ≤ seen_count worker.old.pages }
     ensures keeps { Keeps worker.old worker.new }
     ensures ready { IsReady shared.now worker.new }
-    ensures read { engine.new.read ≤ length (view worker.new.pages).seen }
+    ensures read { engine.new.read ≤ seen_count worker.new.pages }
     ensures ok { OnOk result (IsOn shared.now.mode (view worker.new.seat) engine.new.search engine.new.fuel leaf.new) }
     ensures err { OnErr result (IsOff (view worker.new.seat) engine.new.fuel leaf.new) }
 {
@@ -164,10 +165,10 @@ fn offer_half<R: Wait, P: Propagator>(
 ) -> Result<(), AllocError>
     requires ready { IsReady shared.now worker.old }
     requires on { IsOn shared.now.mode (view worker.old.seat) engine.old.search engine.old.fuel leaf.old }
-    requires read { engine.old.read ≤ length (view worker.old.pages).seen }
+    requires read { engine.old.read ≤ seen_count worker.old.pages }
     ensures keeps { Keeps worker.old worker.new }
     ensures ready { IsReady shared.now worker.new }
-    ensures read { engine.new.read ≤ length (view worker.new.pages).seen }
+    ensures read { engine.new.read ≤ seen_count worker.new.pages }
     ensures ok { OnOk result (IsOn shared.now.mode (view worker.new.seat) engine.new.search engine.new.fuel leaf.new) }
     ensures err { OnErr result (IsOff (view worker.new.seat) engine.new.fuel leaf.new) }
 {
@@ -196,10 +197,10 @@ fn shed<R: Wait, P: Propagator>(
 ) -> Result<(), AllocError>
     requires ready { IsReady shared.now worker.old }
     requires on { IsOn shared.now.mode (view worker.old.seat) engine.old.search engine.old.fuel leaf.old }
-    requires read { engine.old.read ≤ length (view worker.old.pages).seen }
+    requires read { engine.old.read ≤ seen_count worker.old.pages }
     ensures keeps { Keeps worker.old worker.new }
     ensures ready { IsReady shared.now worker.new }
-    ensures read { engine.new.read ≤ length (view worker.new.pages).seen }
+    ensures read { engine.new.read ≤ seen_count worker.new.pages }
     ensures ok { OnOk result (IsOn shared.now.mode (view worker.new.seat) engine.new.search engine.new.fuel leaf.new) }
     ensures err { OnErr result (IsOff (view worker.new.seat) engine.new.fuel leaf.new) }
 {
@@ -235,10 +236,10 @@ fn offer<R: Wait, P: Propagator>(
 ) -> Result<(), Stop>
     requires ready { IsReady shared.now worker.old }
     requires on { IsOn shared.now.mode (view worker.old.seat) engine.old.search engine.old.fuel leaf.old }
-    requires read { engine.old.read ≤ length (view worker.old.pages).seen }
+    requires read { engine.old.read ≤ seen_count worker.old.pages }
     ensures keeps { Keeps worker.old worker.new }
     ensures ready { IsReady shared.now worker.new }
-    ensures read { engine.new.read ≤ length (view worker.new.pages).seen }
+    ensures read { engine.new.read ≤ seen_count worker.new.pages }
     ensures ok { OnOk result (IsOn shared.now.mode (view worker.new.seat) engine.new.search engine.new.fuel leaf.new) }
     ensures err { OnErr result (IsOff (view worker.new.seat) engine.new.fuel leaf.new) }
     ensures stop { IfErr result (IsStop (view worker.new.seat)) }
@@ -266,10 +267,10 @@ pub(crate) fn share<R: Wait, P: Propagator>(
 ) -> Result<(), Stop>
     requires ready { IsReady shared.now worker.old }
     requires on { IsOn shared.now.mode (view worker.old.seat) engine.old.search engine.old.fuel leaf.old }
-    requires read { engine.old.read ≤ length (view worker.old.pages).seen }
+    requires read { engine.old.read ≤ seen_count worker.old.pages }
     ensures keeps { Keeps worker.old worker.new }
     ensures ready { IsReady shared.now worker.new }
-    ensures read { engine.new.read ≤ length (view worker.new.pages).seen }
+    ensures read { engine.new.read ≤ seen_count worker.new.pages }
     ensures ok { OnOk result (IsOn shared.now.mode (view worker.new.seat) engine.new.search engine.new.fuel leaf.new) }
     ensures err { OnErr result (IsOff (view worker.new.seat) engine.new.fuel leaf.new) }
     ensures stop { IfErr result (IsStop (view worker.new.seat)) }

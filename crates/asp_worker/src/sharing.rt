@@ -1,5 +1,5 @@
 //! What a search tells the others, and what it takes over from them.
-ghost use Rattle.std.specs.Prelude.{◌≡◌, ◌≤◌, ◌<◌, ◌↔◌, ℕ, Some, false, IsTrue, length, drop, OnOk, OnErr, IfOk, IfErr, IfSome, All};
+ghost use Rattle.std.specs.Prelude.{◌≡◌, ◌≤◌, ◌<◌, ◌^◌, ◌↔◌, ℕ, Some, false, IsTrue, length, OnOk, OnErr, IfOk, IfErr, IfSome, All};
 ghost use Rattle.std.specs.Option.{option_copied};
 ghost use Rattle.asp_model.specs.declared.results.Mode.TheVariants as mode;
 ghost use Rattle.asp_model.specs.Asked.{reasoning_of};
@@ -9,14 +9,14 @@ ghost use Rattle.asp_model.specs.Models.{atoms_of};
 ghost use Rattle.asp_rows.specs.Listed.{IsRowFor};
 ghost use Rattle.asp_vars.specs.Paid.{Units};
 ghost use Rattle.asp_core.specs.Boards.{goal_of, optimises};
-ghost use Rattle.asp_vault.specs.Moments.{Stays};
 ghost use Rattle.asp_vault.specs.Seats.{view, IsOf, IsBeside};
 ghost use Rattle.asp_log.specs.Entries.{IsEntry};
 ghost use Rattle.asp_book.specs.Calls.{seen_board, task_of};
 ghost use Rattle.asp_search.specs.Beside.{count_unshown, left_to_show, Leaves};
 ghost use Rattle.asp_search_laws.specs.Searching.{Searching};
-ghost use Rattle.asp_worker.specs.Seats.{IsReady, Keeps, IsSettled, IsPaged, Idles, Leases, WasEmpty};
-ghost use Rattle.asp_worker.specs.Sharing.{is_fewer, is_smaller, lowered, ImportsAll, Remembers, RemembersAll, TakesBest, TakesKnown, TakesOver};
+ghost use Rattle.asp_slots.specs.Shelves.{program_of, seen_count, listed, IsAt, ReadsOn};
+ghost use Rattle.asp_worker.specs.Seats.{IsReady, Keeps, IsSettled, Idles, Leases, WasEmpty};
+ghost use Rattle.asp_worker.specs.Sharing.{is_fewer, is_smaller, lowered, ImportsAll, ImportsNew, Remembers, RemembersAll, TakesBest, TakesKnown, TakesOver};
 ghost use Rattle.asp_worker.specs.Working.{GoesOn, Finds, IsStop};
 
 use crate::engine::Engine;
@@ -24,13 +24,13 @@ use crate::stop::Stop;
 use crate::worker::{Shared, Worker};
 use asp_book::book::Book;
 use asp_book::desk;
-use asp_log::{Log, View, append, glance};
 use asp_model::cost::Cost;
 use asp_model::interp::Interp;
 use asp_model::results::Mode;
 use asp_propagate::propagator::Propagator;
 use asp_rows::row::Row;
 use asp_search::search::{Search, count_unshown};
+use asp_slots::{ShelfSeat, Shown};
 use asp_vars::known::Known;
 use asp_vault::Seat;
 use std::alloc::{AllocError, Global};
@@ -61,9 +61,10 @@ fn lower_bound<P: Propagator>(search: &mut Search<'_, P>, cost: Cost) -> Result<
 }
 
 // Imports those entries of the log that count for the search.
-fn import_all<P: Propagator>(search: &mut Search<'_, P>, entries: &View) -> Result<(), AllocError>
-    requires { All (IsEntry search.old.program) entries.now }
-    ensures ok { OnOk result (ImportsAll entries.now search.old search.new) }
+fn import_all<P: Propagator>(search: &mut Search<'_, P>, entries: &Shown) -> Result<(), AllocError>
+    requires few { length (listed entries.now) < 2 ^ 32 }
+    requires good { All (IsEntry search.old.program) (listed entries.now) }
+    ensures ok { OnOk result (ImportsAll (listed entries.now) search.old search.new) }
     ensures err { OnErr result (Remembers search.old search.new) }
 {
     for i in 0..entries.len() {
@@ -76,24 +77,23 @@ fn import_all<P: Propagator>(search: &mut Search<'_, P>, entries: &View) -> Resu
 fn import_new<R: Wait, P: Propagator>(
     rt: &R,
     shared: &Shared,
-    pages: &mut Seat<Log>,
+    pages: &mut ShelfSeat,
     search: &mut Search<'_, P>,
     read: &mut u32,
 ) -> Result<(), AllocError>
-    requires of { IsOf shared.now.log pages.old }
-    requires pages { IsPaged search.old.program (view pages.old) }
-    requires read { read.old ≤ length (view pages.old).seen }
-    ensures of { IsBeside pages.old pages.new }
-    ensures stays { Stays (view pages.old) (view pages.new) }
-    ensures read { read.new ≤ length (view pages.new).seen }
-    ensures ok { OnOk result (ImportsAll (drop read.old (view pages.new).seen) search.old search.new) }
-    ensures all { OnOk result (read.new ≡ length (view pages.new).seen) }
+    requires at { IsAt shared.now.log pages.old }
+    requires program { program_of shared.now.log ≡ search.old.program }
+    requires read { read.old ≤ seen_count pages.old }
+    ensures reads { ReadsOn pages.old pages.new }
+    ensures read { read.new ≤ seen_count pages.new }
+    ensures ok { OnOk result (ImportsNew pages.new read.old search.old search.new) }
+    ensures all { OnOk result (read.new ≡ seen_count pages.new) }
     ensures err { OnErr result (Remembers search.old search.new) }
 {
-    if shared.log.look(pages) <= u64::from(*read) {
+    if shared.log.count(pages) <= u64::from(*read) {
         return Ok(());
     }
-    let entries = glance(rt, &shared.log, pages, *read)?;
+    let entries = shared.log.read(rt, shared.alloc, pages, *read)?;
     import_all(search, &entries)?;
     *read += entries.len();
     Ok(())
@@ -163,14 +163,14 @@ pub(crate) fn refresh<R: Wait, P: Propagator>(
 ) -> Result<(), AllocError>
     requires ready { IsReady shared.now worker.old }
     requires going { GoesOn shared.now.mode (view worker.old.seat) engine.old.search engine.old.fuel }
-    requires read { engine.old.read ≤ length (view worker.old.pages).seen }
+    requires read { engine.old.read ≤ seen_count worker.old.pages }
     ensures keeps { Keeps worker.old worker.new }
     ensures ready { IsReady shared.now worker.new }
     ensures idles { Idles (view worker.old.seat) (view worker.new.seat) }
-    ensures read { engine.new.read ≤ length (view worker.new.pages).seen }
+    ensures read { engine.new.read ≤ seen_count worker.new.pages }
     ensures fuel { engine.new.fuel ≡ engine.old.fuel }
-    ensures ok { OnOk result (TakesOver shared.now.mode (seen_board (view worker.new.seat)) (drop engine.old.read (view worker.new.pages).seen) engine.old.search engine.new.search) }
-    ensures all { OnOk result (engine.new.read ≡ length (view worker.new.pages).seen) }
+    ensures ok { OnOk result (TakesOver shared.now.mode (seen_board (view worker.new.seat)) worker.new.pages engine.old.read engine.old.search engine.new.search) }
+    ensures all { OnOk result (engine.new.read ≡ seen_count worker.new.pages) }
     ensures err { OnErr result (RemembersAll shared.now.mode (seen_board (view worker.new.seat)) engine.old.search engine.new.search) }
 {
     take_best(rt, shared, &mut worker.seat, &mut engine.search)?;
@@ -187,16 +187,18 @@ pub(crate) fn refresh<R: Wait, P: Propagator>(
 pub(crate) fn export<R: Wait, P: Propagator>(
     rt: &R,
     shared: &Shared,
-    pages: &mut Seat<Log>,
+    pages: &mut ShelfSeat,
     search: &Search<'_, P>,
 )
-    requires of { IsOf shared.now.log pages.old }
-    requires pages { IsPaged search.now.program (view pages.old) }
-    ensures of { IsBeside pages.old pages.new }
-    ensures stays { Stays (view pages.old) (view pages.new) }
+    requires at { IsAt shared.now.log pages.old }
+    requires program { program_of shared.now.log ≡ search.now.program }
+    ensures { ReadsOn pages.old pages.new }
 {
+    if shared.log.is_full(pages) {
+        return;
+    }
     if let Ok(Some(nogood)) = search.export() {
-        let _told = append(rt, &shared.log, pages, nogood);
+        let _told = shared.log.append(rt, pages, nogood);
     }
 }
 

@@ -1,7 +1,8 @@
 //! A worker's work from its beginning to its end.
-ghost use Rattle.std.specs.Prelude.{◌<◌, ◌≤◌, length, IfOk, OnErr, OnOk};
+ghost use Rattle.std.specs.Prelude.{◌<◌, ◌≤◌, IfOk, OnErr, OnOk};
 ghost use Rattle.asp_vault.specs.Seats.{view};
 ghost use Rattle.asp_crew_laws.specs.Gone.{IsSmall};
+ghost use Rattle.asp_slots.specs.Shelves.{seen_count};
 ghost use Rattle.asp_worker.specs.Seats.{IsIdle, IsPlaced, IsReady, Keeps, Holds, HasCause, IsFree, Owes, OwnAre, MayWork, Worked};
 ghost use Rattle.asp_worker.specs.Working.{GoesOn, Ended};
 
@@ -36,10 +37,10 @@ fn try_path<R: Wait, P: Propagator, H: Halt, W: Watch>(
     requires number { 0 < (view worker.old.seat).number }
     requires held { Holds (view worker.old.seat) leaf }
     requires going { GoesOn shared.now.mode (view worker.old.seat) engine.old.search engine.old.fuel }
-    requires read { engine.old.read ≤ length (view worker.old.pages).seen }
+    requires read { engine.old.read ≤ seen_count worker.old.pages }
     ensures keeps { Keeps worker.old worker.new }
     ensures placed { IsPlaced shared.now worker.new }
-    ensures read { engine.new.read ≤ length (view worker.new.pages).seen }
+    ensures read { engine.new.read ≤ seen_count worker.new.pages }
     ensures free { IsFree (view worker.new.seat) }
     ensures owes { Owes (view worker.new.seat) engine.new.fuel }
     ensures small { OwnAre IsSmall (view worker.new.seat) }
@@ -75,7 +76,7 @@ fn search_paths<R: Wait, P: Propagator, G: Gate, H: Halt, W: Watch>(
     requires number { 0 < (view worker.old.seat).number }
     requires free { IsFree (view worker.old.seat) }
     requires going { GoesOn shared.now.mode (view worker.old.seat) engine.old.search engine.old.fuel }
-    requires read { engine.old.read ≤ length (view worker.old.pages).seen }
+    requires read { engine.old.read ≤ seen_count worker.old.pages }
     ensures keeps { Keeps worker.old worker.new }
     ensures placed { IsPlaced shared.now worker.new }
     ensures free { IsFree (view worker.new.seat) }

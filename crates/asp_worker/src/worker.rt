@@ -1,10 +1,10 @@
 //! What a worker has, and what all workers share.
 use asp_book::book::Book;
 use asp_counts::tallies::Tallies;
-use asp_log::Log;
 use asp_model::results::Mode;
 use asp_pool::{Lane, Pass, Pool};
 use asp_recorder::scroll::Scroll;
+use asp_slots::{Shelf, ShelfSeat};
 use asp_vault::{Seat, Vault};
 use std::alloc::Global;
 
@@ -22,7 +22,7 @@ pub struct Shared {
     /// The paths and what was recorded.
     pub book: Vault<Book>,
     /// The nogoods that the workers tell one another.
-    pub log: Vault<Log>,
+    pub log: Shelf,
     /// A way to each worker's lane.
     pub pool: Pool,
     /// What each worker did.
@@ -39,7 +39,7 @@ pub struct Worker {
     /// Its seat at the book. The number is 1 to 64.
     pub seat: Seat<Book>,
     /// Its seat at the log.
-    pub pages: Seat<Log>,
+    pub pages: ShelfSeat,
     /// Where it offers paths.
     pub lane: Lane,
     /// With which it takes paths from the lanes of others.

@@ -1,9 +1,9 @@
-use Rattle.asp_checker.specs.Blocks.{known_by, Extends}
+use Rattle.asp_checker.specs.Blocks.{known_with, Extends}
 use Rattle.asp_checker.specs.Chasing.{IsTrailedAlike}
 use Rattle.asp_checker.proofs.chase.chase.Given as goal
 
 abbrev pub invariant-hints : goal.invariant-hints
 invariant-hints l = record {
-  extends : Extends l.compiled (known_by l.rows l.bound) l.initial.values l.values;
+  extends : Extends l.compiled (known_with l.compiled l.listed l.rows l.bound) l.initial.values l.values;
   trailed : IsTrailedAlike l.initial.values l.values l.initial.trail.items l.trail.items;
 }

@@ -1,5 +1,5 @@
 use Rattle.std.proofs.Common.{◌+◌, sym, ap, subst, ◌∙◌}
-use Rattle.asp_checker.specs.Blocks.{known_by}
+use Rattle.asp_checker.specs.Blocks.{known_with}
 use Rattle.asp_checker.specs.Chasing.{AreTakenBack}
 use Rattle.asp_checker.proofs.ChaseLaws.{trailed_from, root_undone}
 use Rattle.asp_checker.proofs.confirm.confirms.Goals as goal
@@ -11,5 +11,5 @@ undo-requires c =
 
 pub returns-clause-root : goal.returns-clause-root
 returns-clause-root c =
-    root_undone c.args.compiled.now (known_by c.args.rows.now c.args.bound.now) c.args.values.now c.confirms_by.new.values c.undo.new.values c.new-trail.result.items c.confirms_by.new.trail.items c.requires.root c.new-trail.ensures.items
+    root_undone c.args.compiled.now (known_with c.args.compiled.now c.args.listed.now c.args.rows.now c.args.bound.now) c.args.values.now c.confirms_by.new.values c.undo.new.values c.new-trail.result.items c.confirms_by.new.trail.items c.requires.root c.new-trail.ensures.items
     c.in_ok-confirmed.ensures.trailed c.undo.ensures.size c.undo.ensures.within (subst (AreTakenBack c.undo.new.values) c.as_slice.ensures.value c.undo.ensures.none)

@@ -1,18 +1,21 @@
-use Rattle.std.proofs.Common.{not, sym, ap, ◌∙◌}
-use Rattle.asp_model.specs.declared.program.Program.{Program}
+use Rattle.std.proofs.Common.{sym, ap, ◌∙◌}
 use Rattle.asp_model.specs.declared.program.Rule.{Rule}
 use Rattle.asp_vars.specs.Literals.{holds_in}
 use Rattle.asp_vars.specs.Numbering.{nth_rule}
 use Rattle.asp_found.specs.Verdicts.{is_kept}
 use Rattle.asp_member.specs.Founding.{passes}
-use Rattle.asp_member.proofs.FoundingLaws.{rule_body, kept_keeps, unkept_keeps}
+use Rattle.asp_member.proofs.FoundingLaws.{rule_body, idle_keeps, active_keeps}
 use Rattle.asp_member.proofs.stable.keeps.Goals as goal
 
-pub returns-then-is_kept : goal.returns-then-is_kept
-returns-then-is_kept c = kept_keeps c.args.compiled.now c.args.set.now c.args.values.now (nth_rule c.args.compiled.now c.args.rule) (ap (λ (r : Rule). is_kept c.args.set.now r.head) (sym c.rule.ensures) ∙ sym c.if-is_kept.ensures)
+pub returns-then-not-holds : goal.returns-then-not-holds
+returns-then-not-holds c =
+    let p = c.args.compiled.now in
+    let body = rule_body p c.args.rule c.rule_body.result c.requires.rule c.rule_body.ensures.place in
+    idle_keeps p c.args.set.now c.args.values.now (nth_rule p c.args.rule) (sym (c.holds.ensures ∙ ap (passes p (holds_in c.args.values.now)) body) ∙ c.if-not-holds.true)
 
 pub returns : goal.returns
 returns c =
-    let p : Program = c.args.compiled.now in
-    let held = c.holds.ensures ∙ ap (passes p (holds_in c.args.values.now)) (rule_body p c.args.rule c.rule_body.result c.requires.rule c.rule_body.ensures.place) in
-    ap not held ∙ unkept_keeps p c.args.set.now c.args.values.now (nth_rule p c.args.rule) (ap (λ (r : Rule). is_kept c.args.set.now r.head) (sym c.rule.ensures) ∙ sym c.if-is_kept.ensures)
+    let p = c.args.compiled.now in
+    let body = rule_body p c.args.rule c.rule_body.result c.requires.rule c.rule_body.ensures.place in
+    c.is_kept.ensures ∙ ap (λ (r : Rule). is_kept c.args.set.now r.head) c.rule.ensures
+    ∙ active_keeps p c.args.set.now c.args.values.now (nth_rule p c.args.rule) (sym (c.holds.ensures ∙ ap (passes p (holds_in c.args.values.now)) body) ∙ c.if-not-holds.false)

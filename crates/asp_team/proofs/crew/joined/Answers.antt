@@ -10,13 +10,10 @@ pub returns-clause-lead : goal.returns-clause-lead
 returns-clause-lead c =
     let v : Knows = view c.args.lead.seat in let u : Knows = view c.args.worker.seat in let w : Knows = view c.join.new.seat in
     let lawful : IsJournalOf (task_of w) w.seen = joined-lawful v u w c.requires.about c.join.ensures.view c.join.ensures.begins c.join.ensures.guests c.requires.lead.lawful c.requires.idle.settled.seated.lawful in
-    lead-joined c.args.shared.now c.args.lead _ u (view c.args.worker.pages) c.requires.lead c.join.ensures.of c.join-2.ensures.of c.join.ensures.view c.join-2.ensures.view lawful
+    lead-joined c.args.shared.now c.args.lead _ u c.requires.lead c.join.ensures.of c.join-2.ensures.at c.join-2.ensures.first c.join.ensures.view lawful
 
 pub returns-clause-joins : goal.returns-clause-joins
 returns-clause-joins c = merged-joins (view c.args.lead.seat) (view c.args.worker.seat) (view c.join.new.seat) c.join.ensures.view c.join.ensures.begins.0
-
-pub returns-clause-pages_join : goal.returns-clause-pages_join
-returns-clause-pages_join c = merged-joins (view c.args.lead.pages) (view c.args.worker.pages) (view c.join-2.new.seat) c.join-2.ensures.view c.join-2.ensures.begins.0
 
 pub returns-clause-stay : goal.returns-clause-stay
 returns-clause-stay c =

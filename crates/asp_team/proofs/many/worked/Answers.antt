@@ -1,5 +1,6 @@
 use Rattle.std.proofs.Common.{◌∙◌, sym, arith}
 use Rattle.asp_vault.specs.Seats.{view}
+use Rattle.asp_slots.proofs.ShelfLaws.{back-all}
 use Rattle.asp_team.proofs.JoinLaws.{still-idle}
 use Rattle.asp_team.proofs.TeamLaws.{all-may}
 use Rattle.asp_team.proofs.RunLaws.{all-back, all-home}
@@ -13,7 +14,7 @@ crew_watched-lead-requires-clause-workers g c κs w = all-may c.args.compiled.no
 pub finished-report-requires-clause-all : goal.finished-report-requires-clause-all
 finished-report-requires-clause-all g c = (
   all-back (view c.args.team.lead.seat) (view c.crew_watched-lead.result.0.seat) _ c.requires.team.ready.out c.crew_watched-lead.ensures.joins,
-  all-back (view c.args.team.lead.pages) (view c.crew_watched-lead.result.0.pages) _ c.requires.team.ready.pages_out c.crew_watched-lead.ensures.pages_join,
+  back-all c.args.team.lead.pages c.crew_watched-lead.result.0.pages _ c.requires.team.ready.pages_out c.crew_watched-lead.ensures.pages_join,
 )
 
 pub finished-report-requires-clause-idle : goal.finished-report-requires-clause-idle

@@ -1,6 +1,11 @@
+use Rattle.std.proofs.Common.{length, arith}
 use Rattle.asp_pool.specs.Pools.{IsOfPool}
+use Rattle.asp_slots.proofs.ShelfLaws.{room-left}
 use Rattle.asp_team.proofs.TeamLaws.{popped-one, popped-rest, ready-more}
 use Rattle.asp_team.proofs.team.add.Goals as goal
+
+pub next-requires-clause-room : goal.next-requires-clause-room
+next-requires-clause-room c = (omega (arith, c.requires.ready.out.splits, c.requires.few), room-left c.args.lead.now.pages (length c.args.workers.now.items) c.requires.ready.pages_out c.requires.few)
 
 pub next-requires-clause-pass : goal.next-requires-clause-pass
 next-requires-clause-pass c = popped-one (IsOfPool c.args.shared.now.pool) c.args.passes.now.items c.pop.new.self.items c.pop.result c.in-Some.pass c.requires.passes c.pop.ensures.items c.in-Some.is

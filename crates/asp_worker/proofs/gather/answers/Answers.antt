@@ -1,8 +1,9 @@
-use Rattle.std.proofs.Common.{◌≤◌, drop, length, refl, sym, ◌∙◌, subst}
+use Rattle.std.proofs.Common.{◌≤◌, refl, sym, ◌∙◌, subst}
 use Rattle.asp_vars.specs.Paid.{Units}
 use Rattle.asp_vault.specs.Seats.{view}
 use Rattle.asp_path.specs.Trees.{cube_of}
 use Rattle.asp_book.specs.Calls.{Knows, seen_board}
+use Rattle.asp_slots.specs.Shelves.{seen_count}
 use Rattle.asp_worker.specs.declared.worker.Worker.{Worker}
 use Rattle.asp_worker.specs.Working.{IsOn}
 use Rattle.asp_worker.proofs.GatherLaws.{gathers-begun, gathered-on}
@@ -90,7 +91,7 @@ returns-in_ok-refresh-in-Restarted-clause-ok g c =
     gathered-on v w l.0 c.list_all.ensures.idles.stays c.gather.new.found.items l.1 c.args.shared.now.mode f.0 c.gather.new.engine.search c.args.engine.now.fuel c.args.leaf f.1.on G c.gather.new.engine.fuel c.gather.ensures.engine.0 in
     let x : Knows = view c.refresh.new.worker.seat in
     subst (λ (u : Units). IsOn c.args.shared.now.mode x c.refresh.new.engine.search u c.args.leaf) (sym c.refresh.ensures.fuel)
-    (refreshed-on c.args.shared.now.mode w x c.gather.new.engine.search c.refresh.new.engine.search c.gather.new.engine.fuel c.args.leaf (drop c.gather.new.engine.read (view c.refresh.new.worker.pages).seen) on c.refresh.ensures.idles c.in_ok-refresh-in-Restarted.ensures.ok)
+    (refreshed-on c.args.shared.now.mode w x c.gather.new.engine.search c.refresh.new.engine.search c.gather.new.engine.fuel c.args.leaf c.refresh.new.worker.pages c.gather.new.engine.read on c.refresh.ensures.idles c.in_ok-refresh-in-Restarted.ensures.ok)
 
 pub returns-in_err-keep-clause-keeps : goal.returns-in_err-keep-clause-keeps
 returns-in_err-keep-clause-keeps g c = keeps-self c.args.shared.now c.args.worker.now c.requires.ready
@@ -107,45 +108,45 @@ returns-in_err-pause-clause-ready g c = c.requires.ready
 pub returns-in_err-list_all-clause-keeps : goal.returns-in_err-list_all-clause-keeps
 returns-in_err-list_all-clause-keeps g c =
     let h : Worker = c.args.worker.now in let k : Worker = record h { seat = c.list_all.new.seat } in
-    keeps-seat c.args.shared.now h k c.requires.ready c.list_all.ensures.of c.list_all.ensures.idles.stays refl refl
+    keeps-seat c.args.shared.now h k c.requires.ready c.list_all.ensures.of c.list_all.ensures.idles.stays refl
 
 pub returns-in_err-list_all-clause-ready : goal.returns-in_err-list_all-clause-ready
 returns-in_err-list_all-clause-ready g c =
     let h : Worker = c.args.worker.now in let k : Worker = record h { seat = c.list_all.new.seat } in
-    ready-seat c.args.shared.now h k c.requires.ready (keeps-seat c.args.shared.now h k c.requires.ready c.list_all.ensures.of c.list_all.ensures.idles.stays refl refl) c.requires.ready.pool c.list_all.ensures.idles.lawful
+    ready-seat c.args.shared.now h k c.requires.ready (keeps-seat c.args.shared.now h k c.requires.ready c.list_all.ensures.of c.list_all.ensures.idles.stays refl) c.requires.ready.pool c.list_all.ensures.idles.lawful
 
 pub returns-in-Due-clause-keeps : goal.returns-in-Due-clause-keeps
 returns-in-Due-clause-keeps g c =
     let h : Worker = c.args.worker.now in let k : Worker = record h { seat = c.list_all.new.seat } in
-    keeps-seat c.args.shared.now h k c.requires.ready c.list_all.ensures.of c.list_all.ensures.idles.stays refl refl
+    keeps-seat c.args.shared.now h k c.requires.ready c.list_all.ensures.of c.list_all.ensures.idles.stays refl
 
 pub returns-in-Due-clause-ready : goal.returns-in-Due-clause-ready
 returns-in-Due-clause-ready g c =
     let h : Worker = c.args.worker.now in let k : Worker = record h { seat = c.list_all.new.seat } in
-    ready-seat c.args.shared.now h k c.requires.ready (keeps-seat c.args.shared.now h k c.requires.ready c.list_all.ensures.of c.list_all.ensures.idles.stays refl refl) c.requires.ready.pool c.list_all.ensures.idles.lawful
+    ready-seat c.args.shared.now h k c.requires.ready (keeps-seat c.args.shared.now h k c.requires.ready c.list_all.ensures.of c.list_all.ensures.idles.stays refl) c.requires.ready.pool c.list_all.ensures.idles.lawful
 
 pub returns-in-Closed-clause-keeps : goal.returns-in-Closed-clause-keeps
 returns-in-Closed-clause-keeps g c =
     let h : Worker = c.args.worker.now in let k : Worker = record h { seat = c.list_all.new.seat } in
-    keeps-seat c.args.shared.now h k c.requires.ready c.list_all.ensures.of c.list_all.ensures.idles.stays refl refl
+    keeps-seat c.args.shared.now h k c.requires.ready c.list_all.ensures.of c.list_all.ensures.idles.stays refl
 
 pub returns-in-Closed-clause-ready : goal.returns-in-Closed-clause-ready
 returns-in-Closed-clause-ready g c =
     let h : Worker = c.args.worker.now in let k : Worker = record h { seat = c.list_all.new.seat } in
-    ready-seat c.args.shared.now h k c.requires.ready (keeps-seat c.args.shared.now h k c.requires.ready c.list_all.ensures.of c.list_all.ensures.idles.stays refl refl) c.requires.ready.pool c.list_all.ensures.idles.lawful
+    ready-seat c.args.shared.now h k c.requires.ready (keeps-seat c.args.shared.now h k c.requires.ready c.list_all.ensures.of c.list_all.ensures.idles.stays refl) c.requires.ready.pool c.list_all.ensures.idles.lawful
 
 pub refresh-requires-clause-ready : goal.refresh-requires-clause-ready
 refresh-requires-clause-ready g c =
     let h : Worker = c.args.worker.now in let k : Worker = record h { seat = c.list_all.new.seat } in
-    ready-seat c.args.shared.now h k c.requires.ready (keeps-seat c.args.shared.now h k c.requires.ready c.list_all.ensures.of c.list_all.ensures.idles.stays refl refl) c.requires.ready.pool c.list_all.ensures.idles.lawful
+    ready-seat c.args.shared.now h k c.requires.ready (keeps-seat c.args.shared.now h k c.requires.ready c.list_all.ensures.of c.list_all.ensures.idles.stays refl) c.requires.ready.pool c.list_all.ensures.idles.lawful
 
 pub refresh-requires-clause-read : goal.refresh-requires-clause-read
-refresh-requires-clause-read g c = subst (λ n. n ≤ length (view c.args.worker.now.pages).seen) (sym c.gather.ensures.engine.1) c.requires.read
+refresh-requires-clause-read g c = subst (λ n. n ≤ seen_count c.args.worker.now.pages) (sym c.gather.ensures.engine.1) c.requires.read
 
 pub returns-in_ok-refresh-in-Restarted-clause-keeps : goal.returns-in_ok-refresh-in-Restarted-clause-keeps
 returns-in_ok-refresh-in-Restarted-clause-keeps g c =
     let h : Worker = c.args.worker.now in let k : Worker = record h { seat = c.list_all.new.seat } in
-    keeps-trans h k c.refresh.new.worker (keeps-seat c.args.shared.now h k c.requires.ready c.list_all.ensures.of c.list_all.ensures.idles.stays refl refl) c.refresh.ensures.keeps
+    keeps-trans h k c.refresh.new.worker (keeps-seat c.args.shared.now h k c.requires.ready c.list_all.ensures.of c.list_all.ensures.idles.stays refl) c.refresh.ensures.keeps
 
 pub returns-in_ok-refresh-in-Restarted-clause-ready : goal.returns-in_ok-refresh-in-Restarted-clause-ready
 returns-in_ok-refresh-in-Restarted-clause-ready g c = c.refresh.ensures.ready
@@ -156,7 +157,7 @@ returns-in_ok-refresh-in-Restarted-clause-read g c = c.refresh.ensures.read
 pub returns-in_err-refresh-in-Restarted-clause-keeps : goal.returns-in_err-refresh-in-Restarted-clause-keeps
 returns-in_err-refresh-in-Restarted-clause-keeps g c =
     let h : Worker = c.args.worker.now in let k : Worker = record h { seat = c.list_all.new.seat } in
-    keeps-trans h k c.refresh.new.worker (keeps-seat c.args.shared.now h k c.requires.ready c.list_all.ensures.of c.list_all.ensures.idles.stays refl refl) c.refresh.ensures.keeps
+    keeps-trans h k c.refresh.new.worker (keeps-seat c.args.shared.now h k c.requires.ready c.list_all.ensures.of c.list_all.ensures.idles.stays refl) c.refresh.ensures.keeps
 
 pub returns-in_err-refresh-in-Restarted-clause-ready : goal.returns-in_err-refresh-in-Restarted-clause-ready
 returns-in_err-refresh-in-Restarted-clause-ready g c = c.refresh.ensures.ready

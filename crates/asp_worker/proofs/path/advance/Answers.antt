@@ -1,14 +1,14 @@
-use Rattle.std.proofs.Common.{drop, refl, sym, ap, ◌∙◌, subst}
+use Rattle.std.proofs.Common.{refl, sym, ap, ◌∙◌, subst}
 use Rattle.asp_vars.specs.Paid.{Units}
 use Rattle.asp_vault.specs.Seats.{view}
 use Rattle.asp_core.specs.declared.task.Task.{Task}
-use Rattle.asp_book.specs.Calls.{Knows, task_of}
+use Rattle.asp_book.specs.Calls.{Knows}
 use Rattle.asp_worker.specs.declared.worker.Worker.{Worker}
 use Rattle.asp_worker.proofs.SeatLaws.{board-task, keeps-self, keeps-seat, keeps-pages, ready-seat}
 use Rattle.asp_worker.proofs.StepLaws.{on-decided, on-restarted, on-learnt, on-stopped, none-left, on-closed, settled-closed, finds-answer, off-paid}
 use Rattle.asp_worker.specs.Working.{IsOn, IsOff}
 use Rattle.asp_worker.proofs.Replies.{always-err, memory-stop}
-use Rattle.asp_worker.proofs.SharingLaws.{still-read, paged-of}
+use Rattle.asp_slots.proofs.ShelfLaws.{still-seen}
 use Rattle.asp_worker.proofs.PathLaws.{refreshed-on, idled-off, leased-on, leased-off, ready-pages}
 use Rattle.asp_worker.proofs.path.advance.Goals as goal
 
@@ -27,23 +27,23 @@ pub returns-in-Decided-clause-ok : goal.returns-in-Decided-clause-ok
 returns-in-Decided-clause-ok g c =
     on-decided c.args.shared.now.mode (view c.args.worker.now.seat) c.args.engine.now.search c.step.new.search c.args.engine.now.fuel c.args.leaf c.requires.on _ _ c.step.new.fuel _ c.in_ok-step.ensures.ok c.in-Decided.is
 
-pub export-requires-clause-pages : goal.export-requires-clause-pages
-export-requires-clause-pages g c =
+pub export-requires-clause-program : goal.export-requires-clause-program
+export-requires-clause-program g c =
     let on = on-learnt c.args.shared.now.mode (view c.args.worker.now.seat) c.args.engine.now.search c.step.new.search c.args.engine.now.fuel c.args.leaf c.requires.on _ _ c.step.new.fuel _ c.in_ok-step.ensures.ok c.in-Learnt.is in
-    paged-of (task_of (view c.args.worker.now.seat)).program c.step.new.search.program (view c.args.worker.now.pages) on.going.program c.requires.ready.pages
+    c.requires.ready.program ∙ sym on.going.program
 
 pub returns-in-Learnt-clause-keeps : goal.returns-in-Learnt-clause-keeps
 returns-in-Learnt-clause-keeps g c =
     let h : Worker = c.args.worker.now in let k : Worker = record h { pages = c.export.new.pages } in
-    keeps-pages c.args.shared.now h k c.requires.ready c.export.ensures.of c.export.ensures.stays refl refl
+    keeps-pages c.args.shared.now h k c.requires.ready c.export.ensures refl
 
 pub returns-in-Learnt-clause-ready : goal.returns-in-Learnt-clause-ready
 returns-in-Learnt-clause-ready g c =
     let h : Worker = c.args.worker.now in let k : Worker = record h { pages = c.export.new.pages } in
-    ready-pages c.args.shared.now h k c.requires.ready (keeps-pages c.args.shared.now h k c.requires.ready c.export.ensures.of c.export.ensures.stays refl refl) c.requires.ready.pool refl
+    ready-pages c.args.shared.now h k c.requires.ready (keeps-pages c.args.shared.now h k c.requires.ready c.export.ensures refl) c.requires.ready.pool refl
 
 pub returns-in-Learnt-clause-read : goal.returns-in-Learnt-clause-read
-returns-in-Learnt-clause-read g c = still-read c.args.engine.now.read (view c.args.worker.now.pages).seen (view c.export.new.pages).seen c.export.ensures.stays.seen c.requires.read
+returns-in-Learnt-clause-read g c = still-seen c.args.engine.now.read c.args.worker.now.pages c.export.new.pages c.export.ensures c.requires.read
 
 pub returns-in-Learnt-clause-ok : goal.returns-in-Learnt-clause-ok
 returns-in-Learnt-clause-ok g c =
@@ -58,7 +58,7 @@ returns-in-Restarted-clause-ok g c =
     let v : Knows = view c.args.worker.now.seat in let w : Knows = view c.refresh.new.worker.seat in
     let on = on-restarted c.args.shared.now.mode v c.args.engine.now.search c.step.new.search c.args.engine.now.fuel c.args.leaf c.requires.on _ _ c.step.new.fuel _ c.in_ok-step.ensures.ok c.in-Restarted.is in
     subst (λ (u : Units). IsOn c.args.shared.now.mode w c.refresh.new.engine.search u c.args.leaf) (sym c.refresh.ensures.fuel)
-    (refreshed-on c.args.shared.now.mode v w c.step.new.search c.refresh.new.engine.search c.step.new.fuel c.args.leaf (drop c.args.engine.now.read (view c.refresh.new.worker.pages).seen) on c.refresh.ensures.idles c.in_ok-refresh-in-Restarted.ensures.ok)
+    (refreshed-on c.args.shared.now.mode v w c.step.new.search c.refresh.new.engine.search c.step.new.fuel c.args.leaf c.refresh.new.worker.pages c.args.engine.now.read on c.refresh.ensures.idles c.in_ok-refresh-in-Restarted.ensures.ok)
 
 pub returns-in_err-refresh-in-Restarted-clause-err : goal.returns-in_err-refresh-in-Restarted-clause-err
 returns-in_err-refresh-in-Restarted-clause-err g c =
@@ -92,12 +92,12 @@ returns-clause-course g c =
 pub returns-then-leased-clause-keeps : goal.returns-then-leased-clause-keeps
 returns-then-leased-clause-keeps g c =
     let h : Worker = c.args.worker.now in let k : Worker = record h { seat = c.lease.new.seat } in
-    keeps-seat c.args.shared.now h k c.requires.ready c.lease.ensures.of c.lease.ensures.leases.stays refl refl
+    keeps-seat c.args.shared.now h k c.requires.ready c.lease.ensures.of c.lease.ensures.leases.stays refl
 
 pub returns-then-leased-clause-ready : goal.returns-then-leased-clause-ready
 returns-then-leased-clause-ready g c =
     let h : Worker = c.args.worker.now in let k : Worker = record h { seat = c.lease.new.seat } in
-    ready-seat c.args.shared.now h k c.requires.ready (keeps-seat c.args.shared.now h k c.requires.ready c.lease.ensures.of c.lease.ensures.leases.stays refl refl) c.requires.ready.pool c.lease.ensures.leases.lawful
+    ready-seat c.args.shared.now h k c.requires.ready (keeps-seat c.args.shared.now h k c.requires.ready c.lease.ensures.of c.lease.ensures.leases.stays refl) c.requires.ready.pool c.lease.ensures.leases.lawful
 
 pub returns-then-leased-clause-ok : goal.returns-then-leased-clause-ok
 returns-then-leased-clause-ok g c =
@@ -108,12 +108,12 @@ returns-then-leased-clause-ok g c =
 pub returns-in-NoFuel-clause-keeps : goal.returns-in-NoFuel-clause-keeps
 returns-in-NoFuel-clause-keeps g c =
     let h : Worker = c.args.worker.now in let k : Worker = record h { seat = c.lease.new.seat } in
-    keeps-seat c.args.shared.now h k c.requires.ready c.lease.ensures.of c.lease.ensures.leases.stays refl refl
+    keeps-seat c.args.shared.now h k c.requires.ready c.lease.ensures.of c.lease.ensures.leases.stays refl
 
 pub returns-in-NoFuel-clause-ready : goal.returns-in-NoFuel-clause-ready
 returns-in-NoFuel-clause-ready g c =
     let h : Worker = c.args.worker.now in let k : Worker = record h { seat = c.lease.new.seat } in
-    ready-seat c.args.shared.now h k c.requires.ready (keeps-seat c.args.shared.now h k c.requires.ready c.lease.ensures.of c.lease.ensures.leases.stays refl refl) c.requires.ready.pool c.lease.ensures.leases.lawful
+    ready-seat c.args.shared.now h k c.requires.ready (keeps-seat c.args.shared.now h k c.requires.ready c.lease.ensures.of c.lease.ensures.leases.stays refl) c.requires.ready.pool c.lease.ensures.leases.lawful
 
 pub returns-in-NoFuel-clause-ok : goal.returns-in-NoFuel-clause-ok
 returns-in-NoFuel-clause-ok g c =
@@ -124,12 +124,12 @@ returns-in-NoFuel-clause-ok g c =
 pub returns-in_err-leased-in-NoFuel-clause-keeps : goal.returns-in_err-leased-in-NoFuel-clause-keeps
 returns-in_err-leased-in-NoFuel-clause-keeps g c =
     let h : Worker = c.args.worker.now in let k : Worker = record h { seat = c.lease.new.seat } in
-    keeps-seat c.args.shared.now h k c.requires.ready c.lease.ensures.of c.lease.ensures.leases.stays refl refl
+    keeps-seat c.args.shared.now h k c.requires.ready c.lease.ensures.of c.lease.ensures.leases.stays refl
 
 pub returns-in_err-leased-in-NoFuel-clause-ready : goal.returns-in_err-leased-in-NoFuel-clause-ready
 returns-in_err-leased-in-NoFuel-clause-ready g c =
     let h : Worker = c.args.worker.now in let k : Worker = record h { seat = c.lease.new.seat } in
-    ready-seat c.args.shared.now h k c.requires.ready (keeps-seat c.args.shared.now h k c.requires.ready c.lease.ensures.of c.lease.ensures.leases.stays refl refl) c.requires.ready.pool c.lease.ensures.leases.lawful
+    ready-seat c.args.shared.now h k c.requires.ready (keeps-seat c.args.shared.now h k c.requires.ready c.lease.ensures.of c.lease.ensures.leases.stays refl) c.requires.ready.pool c.lease.ensures.leases.lawful
 
 pub returns-in_err-leased-in-NoFuel-clause-err : goal.returns-in_err-leased-in-NoFuel-clause-err
 returns-in_err-leased-in-NoFuel-clause-err g c =

@@ -59,12 +59,12 @@ close-requires-clause-done g c =
 pub returns-in-Done-clause-keeps : goal.returns-in-Done-clause-keeps
 returns-in-Done-clause-keeps g c =
     let h : Worker = c.advance.new.worker in let k : Worker = record h { seat = c.close.new.seat } in
-    keeps-trans c.args.worker.now h k (keeps-trans c.args.worker.now c.steps.worker h c.steps.invariant.keeps c.advance.ensures.keeps) (keeps-seat c.args.shared.now h k c.advance.ensures.ready c.close.ensures.of c.close.ensures.passes.stays refl refl)
+    keeps-trans c.args.worker.now h k (keeps-trans c.args.worker.now c.steps.worker h c.steps.invariant.keeps c.advance.ensures.keeps) (keeps-seat c.args.shared.now h k c.advance.ensures.ready c.close.ensures.of c.close.ensures.passes.stays refl)
 
 pub returns-in-Done-clause-ready : goal.returns-in-Done-clause-ready
 returns-in-Done-clause-ready g c =
     let h : Worker = c.advance.new.worker in let k : Worker = record h { seat = c.close.new.seat } in
-    ready-seat c.args.shared.now h k c.advance.ensures.ready (keeps-seat c.args.shared.now h k c.advance.ensures.ready c.close.ensures.of c.close.ensures.passes.stays refl refl) c.advance.ensures.ready.pool c.close.ensures.passes.lawful
+    ready-seat c.args.shared.now h k c.advance.ensures.ready (keeps-seat c.args.shared.now h k c.advance.ensures.ready c.close.ensures.of c.close.ensures.passes.stays refl) c.advance.ensures.ready.pool c.close.ensures.passes.lawful
 
 pub returns-in-Done-clause-ok : goal.returns-in-Done-clause-ok
 returns-in-Done-clause-ok g c =
@@ -73,12 +73,12 @@ returns-in-Done-clause-ok g c =
 pub returns-in_err-close-in-Done-clause-keeps : goal.returns-in_err-close-in-Done-clause-keeps
 returns-in_err-close-in-Done-clause-keeps g c =
     let h : Worker = c.advance.new.worker in let k : Worker = record h { seat = c.close.new.seat } in
-    keeps-trans c.args.worker.now h k (keeps-trans c.args.worker.now c.steps.worker h c.steps.invariant.keeps c.advance.ensures.keeps) (keeps-seat c.args.shared.now h k c.advance.ensures.ready c.close.ensures.of c.close.ensures.passes.stays refl refl)
+    keeps-trans c.args.worker.now h k (keeps-trans c.args.worker.now c.steps.worker h c.steps.invariant.keeps c.advance.ensures.keeps) (keeps-seat c.args.shared.now h k c.advance.ensures.ready c.close.ensures.of c.close.ensures.passes.stays refl)
 
 pub returns-in_err-close-in-Done-clause-ready : goal.returns-in_err-close-in-Done-clause-ready
 returns-in_err-close-in-Done-clause-ready g c =
     let h : Worker = c.advance.new.worker in let k : Worker = record h { seat = c.close.new.seat } in
-    ready-seat c.args.shared.now h k c.advance.ensures.ready (keeps-seat c.args.shared.now h k c.advance.ensures.ready c.close.ensures.of c.close.ensures.passes.stays refl refl) c.advance.ensures.ready.pool c.close.ensures.passes.lawful
+    ready-seat c.args.shared.now h k c.advance.ensures.ready (keeps-seat c.args.shared.now h k c.advance.ensures.ready c.close.ensures.of c.close.ensures.passes.stays refl) c.advance.ensures.ready.pool c.close.ensures.passes.lawful
 
 pub returns-in_err-close-in-Done-clause-err : goal.returns-in_err-close-in-Done-clause-err
 returns-in_err-close-in-Done-clause-err g c =

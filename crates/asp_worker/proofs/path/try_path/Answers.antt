@@ -4,14 +4,14 @@ use Rattle.asp_book.specs.Calls.{Knows}
 use Rattle.asp_worker.specs.Working.{IsOff}
 use Rattle.asp_worker.proofs.SeatLaws.{holds-idles, idles-passes, keeps-trans}
 use Rattle.asp_worker.proofs.GoingLaws.{goes-on, owes-of, owes-on}
-use Rattle.asp_worker.proofs.SharingLaws.{still-read}
+use Rattle.asp_slots.proofs.ShelfLaws.{still-seen}
 use Rattle.asp_worker.proofs.Replies.{always-err, memory-stop}
 use Rattle.asp_core.specs.Boards.{is_enough}
 use Rattle.asp_worker.proofs.OwnLaws.{was-now}
 use Rattle.asp_worker.proofs.path.try_path.Goals as goal
 
 pub returns-then-is_enough-clause-read : goal.returns-then-is_enough-clause-read
-returns-then-is_enough-clause-read g c = still-read c.args.engine.now.read (view c.args.worker.now.pages).seen (view c.is_enough.new.worker.pages).seen c.is_enough.ensures.keeps.pages.seen c.requires.read
+returns-then-is_enough-clause-read g c = still-seen c.args.engine.now.read c.args.worker.now.pages c.is_enough.new.worker.pages c.is_enough.ensures.keeps.pages c.requires.read
 
 pub returns-then-is_enough-clause-err : goal.returns-then-is_enough-clause-err
 returns-then-is_enough-clause-err g c =
@@ -27,7 +27,7 @@ begin-requires-clause-going g c =
     goes-on c.args.shared.now.mode v w c.args.engine.now.search c.args.engine.now.fuel c.requires.going (idles-passes v w c.is_enough.ensures.idles)
 
 pub begin-requires-clause-read : goal.begin-requires-clause-read
-begin-requires-clause-read g c = still-read c.args.engine.now.read (view c.args.worker.now.pages).seen (view c.is_enough.new.worker.pages).seen c.is_enough.ensures.keeps.pages.seen c.requires.read
+begin-requires-clause-read g c = still-seen c.args.engine.now.read c.args.worker.now.pages c.is_enough.new.worker.pages c.is_enough.ensures.keeps.pages c.requires.read
 
 pub search_path-requires-clause-number : goal.search_path-requires-clause-number
 search_path-requires-clause-number g c = subst (λ n. 0 < n) (sym (c.begin.ensures.keeps.seat.number ∙ c.is_enough.ensures.keeps.seat.number)) c.requires.number

@@ -1,4 +1,4 @@
-use Rattle.std.proofs.Common.{drop, refl, sym, subst}
+use Rattle.std.proofs.Common.{refl, sym, subst}
 use Rattle.asp_vars.specs.Paid.{Units}
 use Rattle.asp_vault.specs.Seats.{view}
 use Rattle.asp_book.specs.Calls.{Knows}
@@ -13,7 +13,7 @@ use Rattle.asp_worker.proofs.share.begin.Goals as goal
 pub refresh-requires-clause-ready : goal.refresh-requires-clause-ready
 refresh-requires-clause-ready g c =
     let h : Worker = c.args.worker.now in let k : Worker = record h { seat = c.enter.new.seat } in
-    ready-seat c.args.shared.now h k c.requires.ready (keeps-seat c.args.shared.now h k c.requires.ready c.enter.ensures.of c.enter.ensures.idles.stays refl refl) c.requires.ready.pool c.enter.ensures.idles.lawful
+    ready-seat c.args.shared.now h k c.requires.ready (keeps-seat c.args.shared.now h k c.requires.ready c.enter.ensures.of c.enter.ensures.idles.stays refl) c.requires.ready.pool c.enter.ensures.idles.lawful
 
 pub refresh-requires-clause-going : goal.refresh-requires-clause-going
 refresh-requires-clause-going g c =
@@ -24,12 +24,12 @@ refresh-requires-clause-going g c =
 pub returns-in_err-enter-clause-keeps : goal.returns-in_err-enter-clause-keeps
 returns-in_err-enter-clause-keeps g c =
     let h : Worker = c.args.worker.now in let k : Worker = record h { seat = c.enter.new.seat } in
-    keeps-seat c.args.shared.now h k c.requires.ready c.enter.ensures.of c.enter.ensures.idles.stays refl refl
+    keeps-seat c.args.shared.now h k c.requires.ready c.enter.ensures.of c.enter.ensures.idles.stays refl
 
 pub returns-in_err-enter-clause-ready : goal.returns-in_err-enter-clause-ready
 returns-in_err-enter-clause-ready g c =
     let h : Worker = c.args.worker.now in let k : Worker = record h { seat = c.enter.new.seat } in
-    ready-seat c.args.shared.now h k c.requires.ready (keeps-seat c.args.shared.now h k c.requires.ready c.enter.ensures.of c.enter.ensures.idles.stays refl refl) c.requires.ready.pool c.enter.ensures.idles.lawful
+    ready-seat c.args.shared.now h k c.requires.ready (keeps-seat c.args.shared.now h k c.requires.ready c.enter.ensures.of c.enter.ensures.idles.stays refl) c.requires.ready.pool c.enter.ensures.idles.lawful
 
 pub returns-in_err-enter-clause-err : goal.returns-in_err-enter-clause-err
 returns-in_err-enter-clause-err g c =
@@ -40,7 +40,7 @@ returns-in_err-enter-clause-err g c =
 pub returns-clause-keeps : goal.returns-clause-keeps
 returns-clause-keeps g c =
     let h : Worker = c.args.worker.now in let k : Worker = record h { seat = c.enter.new.seat } in
-    keeps-trans h k c.refresh.new.worker (keeps-seat c.args.shared.now h k c.requires.ready c.enter.ensures.of c.enter.ensures.idles.stays refl refl) c.refresh.ensures.keeps
+    keeps-trans h k c.refresh.new.worker (keeps-seat c.args.shared.now h k c.requires.ready c.enter.ensures.of c.enter.ensures.idles.stays refl) c.refresh.ensures.keeps
 
 pub returns-clause-idles : goal.returns-clause-idles
 returns-clause-idles g c = idles-trans (view c.args.worker.now.seat) (view c.enter.new.seat) (view c.refresh.new.worker.seat) c.enter.ensures.idles c.refresh.ensures.idles
@@ -48,7 +48,7 @@ returns-clause-idles g c = idles-trans (view c.args.worker.now.seat) (view c.ent
 pub returns-clause-ok : goal.returns-clause-ok
 returns-clause-ok g c =
     on-ok c.refresh.result (λ e. subst (λ (u : Units). IsOn c.args.shared.now.mode (view c.refresh.new.worker.seat) c.refresh.new.engine.search u c.args.leaf) (sym c.refresh.ensures.fuel)
-    (begun-on c.args.shared.now.mode (view c.args.worker.now.seat) (view c.enter.new.seat) (view c.refresh.new.worker.seat) c.args.engine.now.search c.enter.new.search c.refresh.new.engine.search c.args.engine.now.fuel c.args.leaf (drop c.args.engine.now.read (view c.refresh.new.worker.pages).seen)
+    (begun-on c.args.shared.now.mode (view c.args.worker.now.seat) (view c.enter.new.seat) (view c.refresh.new.worker.seat) c.args.engine.now.search c.enter.new.search c.refresh.new.engine.search c.args.engine.now.fuel c.args.leaf c.refresh.new.worker.pages c.args.engine.now.read
     c.requires.going c.requires.held c.enter.ensures.idles c.in_ok-enter.ensures.ok c.refresh.ensures.idles e)) c.refresh.ensures.ok
 
 pub returns-clause-err : goal.returns-clause-err

@@ -12,7 +12,7 @@ split-requires-clause-variable g c = subst (λ (t : Task). IsVariable t.program 
 pub returns-in_err-split-clause-keeps : goal.returns-in_err-split-clause-keeps
 returns-in_err-split-clause-keeps g c =
     let h : Worker = c.args.worker.now in let k : Worker = record h { seat = c.split.new.seat } in
-    keeps-seat c.args.shared.now h k c.requires.ready c.split.ensures.of c.split.ensures.stays refl refl
+    keeps-seat c.args.shared.now h k c.requires.ready c.split.ensures.of c.split.ensures.stays refl
 
 pub returns-in_err-split-clause-passes : goal.returns-in_err-split-clause-passes
 returns-in_err-split-clause-passes g c = idles-passes (view c.args.worker.now.seat) (view c.split.new.seat) (none-idles (view c.args.worker.now.seat) (view c.split.new.seat) c.split.ensures.stays c.in_err-split.ensures.err)
@@ -38,28 +38,28 @@ pub returns-in_err-split-clause-ready : goal.returns-in_err-split-clause-ready
 returns-in_err-split-clause-ready g c =
     let h : Worker = c.args.worker.now in let k : Worker = record h { seat = c.split.new.seat } in
     let i = none-idles (view h.seat) (view k.seat) c.split.ensures.stays c.in_err-split.ensures.err in
-    ready-seat c.args.shared.now h k c.requires.ready (keeps-seat c.args.shared.now h k c.requires.ready c.split.ensures.of c.split.ensures.stays refl refl) c.requires.ready.pool i.lawful
+    ready-seat c.args.shared.now h k c.requires.ready (keeps-seat c.args.shared.now h k c.requires.ready c.split.ensures.of c.split.ensures.stays refl) c.requires.ready.pool i.lawful
 
 pub returns-in-None-clause-keeps : goal.returns-in-None-clause-keeps
 returns-in-None-clause-keeps g c =
     let h : Worker = c.args.worker.now in let k : Worker = record h { seat = c.split.new.seat } in
-    keeps-seat c.args.shared.now h k c.requires.ready c.split.ensures.of c.split.ensures.stays refl refl
+    keeps-seat c.args.shared.now h k c.requires.ready c.split.ensures.of c.split.ensures.stays refl
 
 pub returns-in-None-clause-ready : goal.returns-in-None-clause-ready
 returns-in-None-clause-ready g c =
     let h : Worker = c.args.worker.now in let k : Worker = record h { seat = c.split.new.seat } in
     let r = c.in_ok-split.ensures.ok in
     let p = divided-passes (view h.seat) (view k.seat) c.split.ensures.stays c.args.leaf c.args.lit c.requires.held r.0 c.in_ok-split.field-0 r.2 in
-    ready-seat c.args.shared.now h k c.requires.ready (keeps-seat c.args.shared.now h k c.requires.ready c.split.ensures.of c.split.ensures.stays refl refl) c.requires.ready.pool p.lawful
+    ready-seat c.args.shared.now h k c.requires.ready (keeps-seat c.args.shared.now h k c.requires.ready c.split.ensures.of c.split.ensures.stays refl) c.requires.ready.pool p.lawful
 
 pub returns-in-Some-clause-keeps : goal.returns-in-Some-clause-keeps
 returns-in-Some-clause-keeps g c =
     let h : Worker = c.args.worker.now in let k : Worker = record h { seat = c.split.new.seat; lane = c.put.new.lane } in
-    keeps-seat c.args.shared.now h k c.requires.ready c.split.ensures.of c.split.ensures.stays refl refl
+    keeps-seat c.args.shared.now h k c.requires.ready c.split.ensures.of c.split.ensures.stays refl
 
 pub returns-in-Some-clause-ready : goal.returns-in-Some-clause-ready
 returns-in-Some-clause-ready g c =
     let h : Worker = c.args.worker.now in let k : Worker = record h { seat = c.split.new.seat; lane = c.put.new.lane } in
     let r = c.in_ok-split.ensures.ok in
     let p = divided-passes (view h.seat) (view k.seat) c.split.ensures.stays c.args.leaf c.args.lit c.requires.held r.0 c.in_ok-split.field-0 r.2 in
-    ready-seat c.args.shared.now h k c.requires.ready (keeps-seat c.args.shared.now h k c.requires.ready c.split.ensures.of c.split.ensures.stays refl refl) c.requires.ready.pool p.lawful
+    ready-seat c.args.shared.now h k c.requires.ready (keeps-seat c.args.shared.now h k c.requires.ready c.split.ensures.of c.split.ensures.stays refl) c.requires.ready.pool p.lawful

@@ -16,13 +16,13 @@ returns-then-shared-eq0-clause-idles g c = idles-self (view c.args.worker.now.se
 pub returns-clause-keeps : goal.returns-clause-keeps
 returns-clause-keeps g c =
     let h : Worker = c.args.worker.now in let k : Worker = record h { seat = c.enough.new.seat } in
-    keeps-seat c.args.shared.now h k c.requires.ready c.enough.ensures.of c.enough.ensures.stays refl refl
+    keeps-seat c.args.shared.now h k c.requires.ready c.enough.ensures.of c.enough.ensures.stays refl
 
 pub returns-clause-ready : goal.returns-clause-ready
 returns-clause-ready g c =
     let h : Worker = c.args.worker.now in let k : Worker = record h { seat = c.enough.new.seat } in
     let i : Idles (view h.seat) (view k.seat) = idles-call (view h.seat) (view k.seat) c.enough.ensures.call.0 c.enough.ensures.stays c.enough.ensures.call.2 in
-    ready-seat c.args.shared.now h k c.requires.ready (keeps-seat c.args.shared.now h k c.requires.ready c.enough.ensures.of c.enough.ensures.stays refl refl) c.requires.ready.pool i.lawful
+    ready-seat c.args.shared.now h k c.requires.ready (keeps-seat c.args.shared.now h k c.requires.ready c.enough.ensures.of c.enough.ensures.stays refl) c.requires.ready.pool i.lawful
 
 pub returns-clause-idles : goal.returns-clause-idles
 returns-clause-idles g c = idles-call (view c.args.worker.now.seat) (view c.enough.new.seat) c.enough.ensures.call.0 c.enough.ensures.stays c.enough.ensures.call.2

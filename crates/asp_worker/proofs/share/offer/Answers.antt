@@ -5,7 +5,7 @@ use Rattle.asp_worker.specs.Working.{IsOff}
 use Rattle.asp_worker.proofs.SeatLaws.{keeps-self, keeps-trans}
 use Rattle.asp_worker.proofs.GoingLaws.{on-on, on-off, off-on}
 use Rattle.asp_worker.proofs.Replies.{always-err, memory-stop}
-use Rattle.asp_worker.proofs.SharingLaws.{still-read}
+use Rattle.asp_slots.proofs.ShelfLaws.{still-seen}
 use Rattle.asp_core.specs.Boards.{is_enough}
 use Rattle.asp_worker.proofs.OwnLaws.{was-now}
 use Rattle.asp_worker.proofs.share.offer.Goals as goal
@@ -14,7 +14,7 @@ pub returns-then-engine-ne0-clause-keeps : goal.returns-then-engine-ne0-clause-k
 returns-then-engine-ne0-clause-keeps g c = keeps-self c.args.shared.now c.args.worker.now c.requires.ready
 
 pub returns-then-is_enough-clause-read : goal.returns-then-is_enough-clause-read
-returns-then-is_enough-clause-read g c = still-read c.args.engine.now.read (view c.args.worker.now.pages).seen (view c.is_enough.new.worker.pages).seen c.is_enough.ensures.keeps.pages.seen c.requires.read
+returns-then-is_enough-clause-read g c = still-seen c.args.engine.now.read c.args.worker.now.pages c.is_enough.new.worker.pages c.is_enough.ensures.keeps.pages c.requires.read
 
 pub returns-then-is_enough-clause-err : goal.returns-then-is_enough-clause-err
 returns-then-is_enough-clause-err g c =
@@ -26,7 +26,7 @@ offer_half-requires-clause-on g c =
     on-on c.args.shared.now.mode (view c.args.worker.now.seat) (view c.is_enough.new.worker.seat) c.args.engine.now.search c.args.engine.now.fuel c.args.leaf.now c.requires.on c.is_enough.ensures.idles
 
 pub offer_half-requires-clause-read : goal.offer_half-requires-clause-read
-offer_half-requires-clause-read g c = still-read c.args.engine.now.read (view c.args.worker.now.pages).seen (view c.is_enough.new.worker.pages).seen c.is_enough.ensures.keeps.pages.seen c.requires.read
+offer_half-requires-clause-read g c = still-seen c.args.engine.now.read c.args.worker.now.pages c.is_enough.new.worker.pages c.is_enough.ensures.keeps.pages c.requires.read
 
 pub returns-clause-keeps : goal.returns-clause-keeps
 returns-clause-keeps g c = keeps-trans c.args.worker.now c.is_enough.new.worker c.offer_half.new.worker c.is_enough.ensures.keeps c.offer_half.ensures.keeps

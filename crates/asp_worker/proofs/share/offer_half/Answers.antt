@@ -15,13 +15,13 @@ returns-in-None-clause-keeps g c = keeps-self c.args.shared.now c.args.worker.no
 pub returns-then-not-wanted-clause-keeps : goal.returns-then-not-wanted-clause-keeps
 returns-then-not-wanted-clause-keeps g c =
     let h : Worker = c.args.worker.now in let k : Worker = record h { seat = c.wanted.new.seat } in
-    keeps-seat c.args.shared.now h k c.requires.ready c.wanted.ensures.of c.wanted.ensures.stays refl refl
+    keeps-seat c.args.shared.now h k c.requires.ready c.wanted.ensures.of c.wanted.ensures.stays refl
 
 pub returns-then-not-wanted-clause-ready : goal.returns-then-not-wanted-clause-ready
 returns-then-not-wanted-clause-ready g c =
     let h : Worker = c.args.worker.now in let k : Worker = record h { seat = c.wanted.new.seat } in
     let i : Idles (view h.seat) (view k.seat) = idles-call (view h.seat) (view k.seat) c.wanted.ensures.call.0 c.wanted.ensures.stays c.wanted.ensures.call.2 in
-    ready-seat c.args.shared.now h k c.requires.ready (keeps-seat c.args.shared.now h k c.requires.ready c.wanted.ensures.of c.wanted.ensures.stays refl refl) c.requires.ready.pool i.lawful
+    ready-seat c.args.shared.now h k c.requires.ready (keeps-seat c.args.shared.now h k c.requires.ready c.wanted.ensures.of c.wanted.ensures.stays refl) c.requires.ready.pool i.lawful
 
 pub returns-then-not-wanted-clause-ok : goal.returns-then-not-wanted-clause-ok
 returns-then-not-wanted-clause-ok g c =
@@ -32,7 +32,7 @@ pub split_on-requires-clause-ready : goal.split_on-requires-clause-ready
 split_on-requires-clause-ready g c =
     let h : Worker = c.args.worker.now in let k : Worker = record h { seat = c.wanted.new.seat } in
     let i : Idles (view h.seat) (view k.seat) = idles-call (view h.seat) (view k.seat) c.wanted.ensures.call.0 c.wanted.ensures.stays c.wanted.ensures.call.2 in
-    ready-seat c.args.shared.now h k c.requires.ready (keeps-seat c.args.shared.now h k c.requires.ready c.wanted.ensures.of c.wanted.ensures.stays refl refl) c.requires.ready.pool i.lawful
+    ready-seat c.args.shared.now h k c.requires.ready (keeps-seat c.args.shared.now h k c.requires.ready c.wanted.ensures.of c.wanted.ensures.stays refl) c.requires.ready.pool i.lawful
 
 pub split_on-requires-clause-on : goal.split_on-requires-clause-on
 split_on-requires-clause-on g c =
@@ -45,4 +45,4 @@ split_on-requires-clause-open g c = λ q e. subst (λ (x : Option Literal). IfSo
 pub returns-else-not-wanted-clause-keeps : goal.returns-else-not-wanted-clause-keeps
 returns-else-not-wanted-clause-keeps g c =
     let h : Worker = c.args.worker.now in let k : Worker = record h { seat = c.wanted.new.seat } in
-    keeps-trans h k c.split_on.new.worker (keeps-seat c.args.shared.now h k c.requires.ready c.wanted.ensures.of c.wanted.ensures.stays refl refl) c.split_on.ensures.keeps
+    keeps-trans h k c.split_on.new.worker (keeps-seat c.args.shared.now h k c.requires.ready c.wanted.ensures.of c.wanted.ensures.stays refl) c.split_on.ensures.keeps

@@ -5,7 +5,7 @@ use Rattle.asp_worker.proofs.Replies.{always-err}
 use Rattle.asp_worker.proofs.SeatLaws.{half-none, keeps-trans}
 use Rattle.asp_worker.proofs.GoingLaws.{goes-on, owes-of, owes-on}
 use Rattle.asp_worker.proofs.PathLaws.{kept-on, open-lit}
-use Rattle.asp_worker.proofs.SharingLaws.{still-read}
+use Rattle.asp_slots.proofs.ShelfLaws.{still-seen}
 use Rattle.asp_worker.proofs.share.split_on.Goals as goal
 
 pub divide-requires-clause-variable : goal.divide-requires-clause-variable
@@ -32,13 +32,13 @@ returns-in-None-clause-ok g c =
     (half-none v w c.args.leaf.now c.args.lit c.in_ok-divide.field-0 c.in_ok-divide.ensures.half c.in-None.is)
 
 pub returns-in_err-divide-clause-read : goal.returns-in_err-divide-clause-read
-returns-in_err-divide-clause-read g c = still-read c.args.engine.now.read (view c.args.worker.now.pages).seen (view c.divide.new.worker.pages).seen c.divide.ensures.keeps.pages.seen c.requires.read
+returns-in_err-divide-clause-read g c = still-seen c.args.engine.now.read c.args.worker.now.pages c.divide.new.worker.pages c.divide.ensures.keeps.pages c.requires.read
 
 pub begin-requires-clause-read : goal.begin-requires-clause-read
-begin-requires-clause-read g c = still-read c.args.engine.now.read (view c.args.worker.now.pages).seen (view c.divide.new.worker.pages).seen c.divide.ensures.keeps.pages.seen c.requires.read
+begin-requires-clause-read g c = still-seen c.args.engine.now.read c.args.worker.now.pages c.divide.new.worker.pages c.divide.ensures.keeps.pages c.requires.read
 
 pub returns-in-None-clause-read : goal.returns-in-None-clause-read
-returns-in-None-clause-read g c = still-read c.args.engine.now.read (view c.args.worker.now.pages).seen (view c.divide.new.worker.pages).seen c.divide.ensures.keeps.pages.seen c.requires.read
+returns-in-None-clause-read g c = still-seen c.args.engine.now.read c.args.worker.now.pages c.divide.new.worker.pages c.divide.ensures.keeps.pages c.requires.read
 
 pub returns-in-Some-clause-keeps : goal.returns-in-Some-clause-keeps
 returns-in-Some-clause-keeps g c = keeps-trans c.args.worker.now c.divide.new.worker c.begin.new.worker c.divide.ensures.keeps c.begin.ensures.keeps

@@ -1,101 +1,76 @@
-use Rattle.std.proofs.Common.{◌≡◌, ◌+◌, ◌≤◌, List, length, refl, ◌∙◌, subst, arith}
-use Rattle.asp_vars.specs.declared.nogood.Nogood.{Nogood}
-use Rattle.asp_vault.specs.Moments.{Stays}
-use Rattle.asp_vault.specs.Seats.{view}
-use Rattle.asp_worker.specs.Seats.{Reads}
-use Rattle.asp_worker.specs.Sharing.{ImportsAll, Remembers}
+use Rattle.std.proofs.Common.{refl, arith}
+use Rattle.asp_slots.specs.Shelves.{listed, ReadsOn}
+use Rattle.asp_slots.proofs.ShelfLaws.{at-on, reads-trans, still-seen}
+use Rattle.asp_worker.specs.Sharing.{Remembers}
 use Rattle.asp_worker.proofs.Replies.{always-err}
-use Rattle.asp_worker.proofs.SeatLaws.{stays-trans, paged-on}
-use Rattle.asp_worker.proofs.SharingLaws.{looked-stays, none-read, still-read, all-read, entries-paged}
+use Rattle.asp_worker.proofs.SharingLaws.{none-new, read-for}
 use Rattle.asp_worker.proofs.sharing.import_new.Goals as goal
 
-pub returns-then-look-from-clause-stays : goal.returns-then-look-from-clause-stays
-returns-then-look-from-clause-stays g c = looked-stays (view c.args.pages.now) (view c.look.new.seat) c.requires.pages.rests c.look.ensures.view c.look.ensures.learnt.continues
+pub returns-then-count-from-clause-read : goal.returns-then-count-from-clause-read
+returns-then-count-from-clause-read g c = still-seen c.args.read.now c.args.pages.now c.count.new.seat c.count.ensures.reads c.requires.read
 
-pub returns-then-look-from-clause-read : goal.returns-then-look-from-clause-read
-returns-then-look-from-clause-read g c = still-read c.args.read.now (view c.args.pages.now).seen (view c.look.new.seat).seen c.look.ensures.learnt.continues c.requires.read
+pub returns-then-count-from-clause-ok : goal.returns-then-count-from-clause-ok
+returns-then-count-from-clause-ok g c =
+    let le = still-seen c.args.read.now c.args.pages.now c.count.new.seat c.count.ensures.reads c.requires.read in
+    none-new c.args.search.now c.count.new.seat c.args.read.now (omega (arith, le, c.count.ensures.count, c.from.ensures, c.if-count-from.true))
 
-pub returns-then-look-from-clause-ok : goal.returns-then-look-from-clause-ok
-returns-then-look-from-clause-ok g c =
-    let le : length (view c.look.new.seat).seen ≤ c.args.read.now = omega (arith, c.look.ensures.length, c.from.ensures, c.if-look-from.true) in
-    (none-read c.args.search.now (view c.look.new.seat).seen (view c.args.pages.now).seen c.args.read.now c.look.ensures.learnt.continues c.requires.read le).0
+pub returns-then-count-from-clause-all : goal.returns-then-count-from-clause-all
+returns-then-count-from-clause-all g c =
+    let le = still-seen c.args.read.now c.args.pages.now c.count.new.seat c.count.ensures.reads c.requires.read in
+    omega (arith, le, c.count.ensures.count, c.from.ensures, c.if-count-from.true)
 
-pub returns-then-look-from-clause-all : goal.returns-then-look-from-clause-all
-returns-then-look-from-clause-all g c =
-    let le : length (view c.look.new.seat).seen ≤ c.args.read.now = omega (arith, c.look.ensures.length, c.from.ensures, c.if-look-from.true) in
-    (none-read c.args.search.now (view c.look.new.seat).seen (view c.args.pages.now).seen c.args.read.now c.look.ensures.learnt.continues c.requires.read le).1
+pub read-requires-clause-at : goal.read-requires-clause-at
+read-requires-clause-at g c = at-on c.args.shared.now.log c.args.pages.now c.count.new.seat c.requires.at c.count.ensures.reads
 
-pub glance-requires-clause-rests : goal.glance-requires-clause-rests
-glance-requires-clause-rests g c = (looked-stays (view c.args.pages.now) (view c.look.new.seat) c.requires.pages.rests c.look.ensures.view c.look.ensures.learnt.continues).rests
+pub read-requires-clause-from : goal.read-requires-clause-from
+read-requires-clause-from g c = still-seen c.args.read.now c.args.pages.now c.count.new.seat c.count.ensures.reads c.requires.read
 
-pub glance-requires-clause-from : goal.glance-requires-clause-from
-glance-requires-clause-from g c = still-read c.args.read.now (view c.args.pages.now).seen (view c.look.new.seat).seen c.look.ensures.learnt.continues c.requires.read
-
-pub returns-in_err-entries-clause-of : goal.returns-in_err-entries-clause-of
-returns-in_err-entries-clause-of g c = c.glance.ensures.of ∙ c.look.ensures.of
-
-pub returns-in_err-entries-clause-stays : goal.returns-in_err-entries-clause-stays
-returns-in_err-entries-clause-stays g c =
-    let v : Reads = view c.args.pages.now in let m : Reads = view c.look.new.seat in
-    stays-trans v m (view c.glance.new.seat) (looked-stays v m c.requires.pages.rests c.look.ensures.view c.look.ensures.learnt.continues) c.glance.ensures.stays
+pub returns-in_err-entries-clause-reads : goal.returns-in_err-entries-clause-reads
+returns-in_err-entries-clause-reads g c = reads-trans c.args.pages.now c.count.new.seat c.read.new.seat c.count.ensures.reads c.read.ensures.reads
 
 pub returns-in_err-entries-clause-read : goal.returns-in_err-entries-clause-read
 returns-in_err-entries-clause-read g c =
-    let v : Reads = view c.args.pages.now in let m : Reads = view c.look.new.seat in
-    still-read c.args.read.now m.seen (view c.glance.new.seat).seen c.glance.ensures.stays.seen (still-read c.args.read.now v.seen m.seen c.look.ensures.learnt.continues c.requires.read)
+    let on : ReadsOn c.args.pages.now c.read.new.seat = reads-trans c.args.pages.now c.count.new.seat c.read.new.seat c.count.ensures.reads c.read.ensures.reads in
+    still-seen c.args.read.now c.args.pages.now c.read.new.seat on c.requires.read
 
 pub returns-in_err-entries-clause-err : goal.returns-in_err-entries-clause-err
 returns-in_err-entries-clause-err g c = always-err c.from_residual.result (Remembers c.args.search.now c.args.search.now) (record { program = refl; mode_is = refl; known = refl; bound = refl })
 
-pub import_all-requires : goal.import_all-requires
-import_all-requires g c =
-    let v : Reads = view c.args.pages.now in let m : Reads = view c.look.new.seat in
-    let stays : Stays v m = looked-stays v m c.requires.pages.rests c.look.ensures.view c.look.ensures.learnt.continues in
-    entries-paged c.args.search.now.program m c.in_ok-entries.entries (paged-on c.args.search.now.program v m c.requires.pages stays) c.in_ok-entries.ensures.entries
+pub import_all-requires-clause-few : goal.import_all-requires-clause-few
+import_all-requires-clause-few g c = omega (arith, c.in_ok-entries.ensures.ok.count, c.read.ensures.few)
 
-pub returns-in_err-import_all-clause-of : goal.returns-in_err-import_all-clause-of
-returns-in_err-import_all-clause-of g c = c.glance.ensures.of ∙ c.look.ensures.of
+pub import_all-requires-clause-good : goal.import_all-requires-clause-good
+import_all-requires-clause-good g c = (read-for c.args.shared.now.log c.args.search.now.program c.read.new.seat c.args.read.now (listed c.in_ok-entries.entries) c.requires.program c.in_ok-entries.ensures.ok).good
 
-pub returns-in_err-import_all-clause-stays : goal.returns-in_err-import_all-clause-stays
-returns-in_err-import_all-clause-stays g c =
-    let v : Reads = view c.args.pages.now in let m : Reads = view c.look.new.seat in
-    stays-trans v m (view c.glance.new.seat) (looked-stays v m c.requires.pages.rests c.look.ensures.view c.look.ensures.learnt.continues) c.glance.ensures.stays
+pub returns-in_err-import_all-clause-reads : goal.returns-in_err-import_all-clause-reads
+returns-in_err-import_all-clause-reads g c = reads-trans c.args.pages.now c.count.new.seat c.read.new.seat c.count.ensures.reads c.read.ensures.reads
 
 pub returns-in_err-import_all-clause-read : goal.returns-in_err-import_all-clause-read
 returns-in_err-import_all-clause-read g c =
-    let v : Reads = view c.args.pages.now in let m : Reads = view c.look.new.seat in
-    still-read c.args.read.now m.seen (view c.glance.new.seat).seen c.glance.ensures.stays.seen (still-read c.args.read.now v.seen m.seen c.look.ensures.learnt.continues c.requires.read)
+    let on : ReadsOn c.args.pages.now c.read.new.seat = reads-trans c.args.pages.now c.count.new.seat c.read.new.seat c.count.ensures.reads c.read.ensures.reads in
+    still-seen c.args.read.now c.args.pages.now c.read.new.seat on c.requires.read
 
 pub returns-in_err-import_all-clause-err : goal.returns-in_err-import_all-clause-err
 returns-in_err-import_all-clause-err g c = always-err c.from_residual-in_err-import_all.result (Remembers c.args.search.now c.import_all.new.search) c.in_err-import_all.ensures.err
 
+pub len-requires : goal.len-requires
+len-requires g c = omega (arith, c.in_ok-entries.ensures.ok.count, c.read.ensures.few)
+
 pub overflow_add-read : goal.overflow_add-read
-overflow_add-read g c =
-    let v : Reads = view c.args.pages.now in let m : Reads = view c.look.new.seat in let w : Reads = view c.glance.new.seat in
-    let le : c.args.read.now ≤ length w.seen = still-read c.args.read.now m.seen w.seen c.glance.ensures.stays.seen (still-read c.args.read.now v.seen m.seen c.look.ensures.learnt.continues c.requires.read) in
-    let sum : c.args.read.now + c.len.result ≡ length w.seen = all-read c.args.read.now c.len.result w.seen c.in_ok-entries.entries le c.in_ok-entries.ensures.ok c.len.ensures in
-    omega (arith, sum, c.glance.ensures.few)
+overflow_add-read g c = omega (arith, c.in_ok-entries.ensures.ok.count, c.len.ensures, c.read.ensures.few)
 
-pub returns-clause-of : goal.returns-clause-of
-returns-clause-of g c = c.glance.ensures.of ∙ c.look.ensures.of
-
-pub returns-clause-stays : goal.returns-clause-stays
-returns-clause-stays g c =
-    let v : Reads = view c.args.pages.now in let m : Reads = view c.look.new.seat in
-    stays-trans v m (view c.glance.new.seat) (looked-stays v m c.requires.pages.rests c.look.ensures.view c.look.ensures.learnt.continues) c.glance.ensures.stays
+pub returns-clause-reads : goal.returns-clause-reads
+returns-clause-reads g c = reads-trans c.args.pages.now c.count.new.seat c.read.new.seat c.count.ensures.reads c.read.ensures.reads
 
 pub returns-clause-read : goal.returns-clause-read
-returns-clause-read g c =
-    let v : Reads = view c.args.pages.now in let m : Reads = view c.look.new.seat in let w : Reads = view c.glance.new.seat in
-    let le : c.args.read.now ≤ length w.seen = still-read c.args.read.now m.seen w.seen c.glance.ensures.stays.seen (still-read c.args.read.now v.seen m.seen c.look.ensures.learnt.continues c.requires.read) in
-    let sum : c.args.read.now + c.len.result ≡ length w.seen = all-read c.args.read.now c.len.result w.seen c.in_ok-entries.entries le c.in_ok-entries.ensures.ok c.len.ensures in
-    omega (arith, sum)
+returns-clause-read g c = omega (arith, c.in_ok-entries.ensures.ok.count, c.len.ensures)
 
 pub returns-clause-ok : goal.returns-clause-ok
-returns-clause-ok g c = subst (λ (l : List Nogood). ImportsAll l c.args.search.now c.import_all.new.search) c.in_ok-entries.ensures.ok c.in_ok-import_all.ensures.ok
+returns-clause-ok g c = record {
+  entries = listed c.in_ok-entries.entries;
+  read = read-for c.args.shared.now.log c.args.search.now.program c.read.new.seat c.args.read.now (listed c.in_ok-entries.entries) c.requires.program c.in_ok-entries.ensures.ok;
+  imported = c.in_ok-import_all.ensures.ok;
+}
 
 pub returns-clause-all : goal.returns-clause-all
-returns-clause-all g c =
-    let v : Reads = view c.args.pages.now in let m : Reads = view c.look.new.seat in let w : Reads = view c.glance.new.seat in
-    let le : c.args.read.now ≤ length w.seen = still-read c.args.read.now m.seen w.seen c.glance.ensures.stays.seen (still-read c.args.read.now v.seen m.seen c.look.ensures.learnt.continues c.requires.read) in
-    all-read c.args.read.now c.len.result w.seen c.in_ok-entries.entries le c.in_ok-entries.ensures.ok c.len.ensures
+returns-clause-all g c = omega (arith, c.in_ok-entries.ensures.ok.count, c.len.ensures)

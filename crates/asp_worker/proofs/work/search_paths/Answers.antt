@@ -17,7 +17,7 @@ paths-init g c = record { keeps = keeps-self c.args.shared.now c.args.worker.now
 pub try_path-requires-clause-ready : goal.try_path-requires-clause-ready
 try_path-requires-clause-ready g c =
     let h : Worker = c.paths.worker in let k : Worker = record h { seat = c.find.new.seat; lane = c.find.new.lane; pass = c.find.new.pass } in
-    ready-seat c.args.shared.now h k c.paths.invariant.ready (keeps-seat c.args.shared.now h k c.paths.invariant.ready c.find.ensures.of c.find.ensures.passes.stays refl refl) c.find.ensures.pool c.find.ensures.passes.lawful
+    ready-seat c.args.shared.now h k c.paths.invariant.ready (keeps-seat c.args.shared.now h k c.paths.invariant.ready c.find.ensures.of c.find.ensures.passes.stays refl) c.find.ensures.pool c.find.ensures.passes.lawful
 
 pub try_path-requires-clause-number : goal.try_path-requires-clause-number
 try_path-requires-clause-number g c = subst (λ n. 0 < n) (sym (c.find.ensures.passes.stays.number ∙ c.paths.invariant.keeps.seat.number)) c.requires.number
@@ -35,7 +35,7 @@ paths-preserved g c =
     record {
       keeps =
           keeps-trans c.args.worker.now k c.try_path.new.worker
-          (keeps-trans c.args.worker.now h k c.paths.invariant.keeps (keeps-seat c.args.shared.now h k c.paths.invariant.ready c.find.ensures.of c.find.ensures.passes.stays refl refl)) c.try_path.ensures.keeps;
+          (keeps-trans c.args.worker.now h k c.paths.invariant.keeps (keeps-seat c.args.shared.now h k c.paths.invariant.ready c.find.ensures.of c.find.ensures.passes.stays refl)) c.try_path.ensures.keeps;
       ready = placed-ready c.args.shared.now c.try_path.new.worker c.try_path.ensures.placed ended.1;
       free = c.try_path.ensures.free;
       going = ended.0;
@@ -69,12 +69,12 @@ returns-in-Short-clause-cause g c = inr (inl refl)
 pub returns-in-Err-clause-keeps : goal.returns-in-Err-clause-keeps
 returns-in-Err-clause-keeps g c =
     let h : Worker = c.paths.worker in let k : Worker = record h { seat = c.find.new.seat; lane = c.find.new.lane; pass = c.find.new.pass } in
-    keeps-trans c.args.worker.now h k c.paths.invariant.keeps (keeps-seat c.args.shared.now h k c.paths.invariant.ready c.find.ensures.of c.find.ensures.passes.stays refl refl)
+    keeps-trans c.args.worker.now h k c.paths.invariant.keeps (keeps-seat c.args.shared.now h k c.paths.invariant.ready c.find.ensures.of c.find.ensures.passes.stays refl)
 
 pub returns-in-Err-clause-placed : goal.returns-in-Err-clause-placed
 returns-in-Err-clause-placed g c =
     let h : Worker = c.paths.worker in let k : Worker = record h { seat = c.find.new.seat; lane = c.find.new.lane; pass = c.find.new.pass } in
-    ready-placed c.args.shared.now k (ready-seat c.args.shared.now h k c.paths.invariant.ready (keeps-seat c.args.shared.now h k c.paths.invariant.ready c.find.ensures.of c.find.ensures.passes.stays refl refl) c.find.ensures.pool c.find.ensures.passes.lawful)
+    ready-placed c.args.shared.now k (ready-seat c.args.shared.now h k c.paths.invariant.ready (keeps-seat c.args.shared.now h k c.paths.invariant.ready c.find.ensures.of c.find.ensures.passes.stays refl) c.find.ensures.pool c.find.ensures.passes.lawful)
 
 pub returns-in-Err-clause-free : goal.returns-in-Err-clause-free
 returns-in-Err-clause-free g c =
@@ -87,7 +87,7 @@ returns-in-Err-clause-owes g c =
 pub returns-in-Err-clause-small : goal.returns-in-Err-clause-small
 returns-in-Err-clause-small g c =
     let h : Worker = c.paths.worker in let k : Worker = record h { seat = c.find.new.seat; lane = c.find.new.lane; pass = c.find.new.pass } in
-    tidy-small (view k.seat) (ready-seat c.args.shared.now h k c.paths.invariant.ready (keeps-seat c.args.shared.now h k c.paths.invariant.ready c.find.ensures.of c.find.ensures.passes.stays refl refl) c.find.ensures.pool c.find.ensures.passes.lawful).tidy
+    tidy-small (view k.seat) (ready-seat c.args.shared.now h k c.paths.invariant.ready (keeps-seat c.args.shared.now h k c.paths.invariant.ready c.find.ensures.of c.find.ensures.passes.stays refl) c.find.ensures.pool c.find.ensures.passes.lawful).tidy
 
 pub returns-in-Err-clause-heard : goal.returns-in-Err-clause-heard
 returns-in-Err-clause-heard g c =
@@ -96,12 +96,12 @@ returns-in-Err-clause-heard g c =
 pub returns-in-None-found-clause-keeps : goal.returns-in-None-found-clause-keeps
 returns-in-None-found-clause-keeps g c =
     let h : Worker = c.paths.worker in let k : Worker = record h { seat = c.find.new.seat; lane = c.find.new.lane; pass = c.find.new.pass } in
-    keeps-trans c.args.worker.now h k c.paths.invariant.keeps (keeps-seat c.args.shared.now h k c.paths.invariant.ready c.find.ensures.of c.find.ensures.passes.stays refl refl)
+    keeps-trans c.args.worker.now h k c.paths.invariant.keeps (keeps-seat c.args.shared.now h k c.paths.invariant.ready c.find.ensures.of c.find.ensures.passes.stays refl)
 
 pub returns-in-None-found-clause-placed : goal.returns-in-None-found-clause-placed
 returns-in-None-found-clause-placed g c =
     let h : Worker = c.paths.worker in let k : Worker = record h { seat = c.find.new.seat; lane = c.find.new.lane; pass = c.find.new.pass } in
-    ready-placed c.args.shared.now k (ready-seat c.args.shared.now h k c.paths.invariant.ready (keeps-seat c.args.shared.now h k c.paths.invariant.ready c.find.ensures.of c.find.ensures.passes.stays refl refl) c.find.ensures.pool c.find.ensures.passes.lawful)
+    ready-placed c.args.shared.now k (ready-seat c.args.shared.now h k c.paths.invariant.ready (keeps-seat c.args.shared.now h k c.paths.invariant.ready c.find.ensures.of c.find.ensures.passes.stays refl) c.find.ensures.pool c.find.ensures.passes.lawful)
 
 pub returns-in-None-found-clause-free : goal.returns-in-None-found-clause-free
 returns-in-None-found-clause-free g c =
@@ -114,7 +114,7 @@ returns-in-None-found-clause-owes g c =
 pub returns-in-None-found-clause-small : goal.returns-in-None-found-clause-small
 returns-in-None-found-clause-small g c =
     let h : Worker = c.paths.worker in let k : Worker = record h { seat = c.find.new.seat; lane = c.find.new.lane; pass = c.find.new.pass } in
-    tidy-small (view k.seat) (ready-seat c.args.shared.now h k c.paths.invariant.ready (keeps-seat c.args.shared.now h k c.paths.invariant.ready c.find.ensures.of c.find.ensures.passes.stays refl refl) c.find.ensures.pool c.find.ensures.passes.lawful).tidy
+    tidy-small (view k.seat) (ready-seat c.args.shared.now h k c.paths.invariant.ready (keeps-seat c.args.shared.now h k c.paths.invariant.ready c.find.ensures.of c.find.ensures.passes.stays refl) c.find.ensures.pool c.find.ensures.passes.lawful).tidy
 
 pub returns-in-None-found-clause-heard : goal.returns-in-None-found-clause-heard
 returns-in-None-found-clause-heard g c =
@@ -123,7 +123,7 @@ returns-in-None-found-clause-heard g c =
 pub returns-in-Left-clause-keeps : goal.returns-in-Left-clause-keeps
 returns-in-Left-clause-keeps g c =
     let h : Worker = c.paths.worker in let k : Worker = record h { seat = c.find.new.seat; lane = c.find.new.lane; pass = c.find.new.pass } in
-    keeps-trans c.args.worker.now k c.try_path.new.worker (keeps-trans c.args.worker.now h k c.paths.invariant.keeps (keeps-seat c.args.shared.now h k c.paths.invariant.ready c.find.ensures.of c.find.ensures.passes.stays refl refl)) c.try_path.ensures.keeps
+    keeps-trans c.args.worker.now k c.try_path.new.worker (keeps-trans c.args.worker.now h k c.paths.invariant.keeps (keeps-seat c.args.shared.now h k c.paths.invariant.ready c.find.ensures.of c.find.ensures.passes.stays refl)) c.try_path.ensures.keeps
 
 pub returns-in-Left-clause-placed : goal.returns-in-Left-clause-placed
 returns-in-Left-clause-placed g c =
@@ -144,7 +144,7 @@ returns-in-Left-clause-small g c =
 pub returns-in-Short-clause-keeps : goal.returns-in-Short-clause-keeps
 returns-in-Short-clause-keeps g c =
     let h : Worker = c.paths.worker in let k : Worker = record h { seat = c.find.new.seat; lane = c.find.new.lane; pass = c.find.new.pass } in
-    keeps-trans c.args.worker.now k c.try_path.new.worker (keeps-trans c.args.worker.now h k c.paths.invariant.keeps (keeps-seat c.args.shared.now h k c.paths.invariant.ready c.find.ensures.of c.find.ensures.passes.stays refl refl)) c.try_path.ensures.keeps
+    keeps-trans c.args.worker.now k c.try_path.new.worker (keeps-trans c.args.worker.now h k c.paths.invariant.keeps (keeps-seat c.args.shared.now h k c.paths.invariant.ready c.find.ensures.of c.find.ensures.passes.stays refl)) c.try_path.ensures.keeps
 
 pub returns-in-Short-clause-placed : goal.returns-in-Short-clause-placed
 returns-in-Short-clause-placed g c =

@@ -1,5 +1,6 @@
-use Rattle.std.proofs.Common.{◌≤◌, length}
+use Rattle.std.proofs.Common.{◌≤◌}
 use Rattle.asp_vault.specs.Seats.{view}
+use Rattle.asp_slots.specs.Shelves.{seen_count}
 use Rattle.asp_worker.specs.Seats.{IsReady, Keeps, IsFree}
 use Rattle.asp_worker.specs.Working.{GoesOn}
 use Rattle.asp_worker.proofs.work.search_paths.Given as goal
@@ -10,6 +11,6 @@ invariant-paths g l = record {
   ready : IsReady l.shared l.worker;
   free : IsFree (view l.worker.seat);
   going : GoesOn l.shared.mode (view l.worker.seat) l.engine.search l.engine.fuel;
-  read : l.engine.read ≤ length (view l.worker.pages).seen;
+  read : l.engine.read ≤ seen_count l.worker.pages;
   heard : g.W.Watch.IsAfter l.initial.watch l.watch;
 }

@@ -28,13 +28,13 @@ release-requires-clause-held g c = (subst (λ (x : Way). IsWay (g.H.Halt.never c
 pub returns-in-Left-clause-keeps : goal.returns-in-Left-clause-keeps
 returns-in-Left-clause-keeps g c =
     let h : Worker = c.path-way.new.worker in let k : Worker = record h { seat = c.release.new.seat } in
-    keeps-trans c.args.worker.now h k c.path-way.ensures.keeps (keeps-seat c.args.shared.now h k c.path-way.ensures.ready c.release.ensures.of c.release.ensures.stays refl refl)
+    keeps-trans c.args.worker.now h k c.path-way.ensures.keeps (keeps-seat c.args.shared.now h k c.path-way.ensures.ready c.release.ensures.of c.release.ensures.stays refl)
 
 pub returns-in-Left-clause-placed : goal.returns-in-Left-clause-placed
 returns-in-Left-clause-placed g c =
     let h : Worker = c.path-way.new.worker in let k : Worker = record h { seat = c.release.new.seat } in
     let r = c.path-way.ensures.ready in
-    placed-seat c.args.shared.now h k (ready-placed c.args.shared.now h r) (keeps-seat c.args.shared.now h k r c.release.ensures.of c.release.ensures.stays refl refl) r.pool
+    placed-seat c.args.shared.now h k (ready-placed c.args.shared.now h r) (keeps-seat c.args.shared.now h k r c.release.ensures.of c.release.ensures.stays refl) r.pool
     (lawful-now (view h.seat) (view k.seat) c.release.ensures.call.0 c.release.ensures.stays (event.Release (view h.seat).number c.path-way.new.leaf) c.release.ensures.call.1)
 
 pub returns-in-Left-clause-small : goal.returns-in-Left-clause-small
@@ -56,13 +56,13 @@ release-requires-in-Short-clause-held g c = (subst (λ (x : Way). IsWay (g.H.Hal
 pub returns-in-Short-clause-keeps : goal.returns-in-Short-clause-keeps
 returns-in-Short-clause-keeps g c =
     let h : Worker = c.path-way.new.worker in let k : Worker = record h { seat = c.release-in-Short.new.seat } in
-    keeps-trans c.args.worker.now h k c.path-way.ensures.keeps (keeps-seat c.args.shared.now h k c.path-way.ensures.ready c.release-in-Short.ensures.of c.release-in-Short.ensures.stays refl refl)
+    keeps-trans c.args.worker.now h k c.path-way.ensures.keeps (keeps-seat c.args.shared.now h k c.path-way.ensures.ready c.release-in-Short.ensures.of c.release-in-Short.ensures.stays refl)
 
 pub returns-in-Short-clause-placed : goal.returns-in-Short-clause-placed
 returns-in-Short-clause-placed g c =
     let h : Worker = c.path-way.new.worker in let k : Worker = record h { seat = c.release-in-Short.new.seat } in
     let r = c.path-way.ensures.ready in
-    placed-seat c.args.shared.now h k (ready-placed c.args.shared.now h r) (keeps-seat c.args.shared.now h k r c.release-in-Short.ensures.of c.release-in-Short.ensures.stays refl refl) r.pool
+    placed-seat c.args.shared.now h k (ready-placed c.args.shared.now h r) (keeps-seat c.args.shared.now h k r c.release-in-Short.ensures.of c.release-in-Short.ensures.stays refl) r.pool
     (lawful-now (view h.seat) (view k.seat) c.release-in-Short.ensures.call.0 c.release-in-Short.ensures.stays (event.Release (view h.seat).number c.path-way.new.leaf) c.release-in-Short.ensures.call.1)
 
 pub returns-in-Short-clause-small : goal.returns-in-Short-clause-small

@@ -1,8 +1,9 @@
 use Rattle.std.proofs.Common.{inl, inr, true, refl}
 use Rattle.asp_vault.specs.Seats.{view}
+use Rattle.asp_slots.proofs.ShelfLaws.{stays-self, reads-self}
 use Rattle.asp_worker.specs.declared.worker.Worker.{Worker}
 use Rattle.asp_worker.specs.Seats.{Keeps}
-use Rattle.asp_worker.proofs.SeatLaws.{stays-self, keeps-trans, placed-seat}
+use Rattle.asp_worker.proofs.SeatLaws.{keeps-trans, placed-seat}
 use Rattle.asp_worker.proofs.EndLaws.{given-idle, given-small, given-cause}
 use Rattle.asp_worker.proofs.work.work.Goals as goal
 
@@ -10,7 +11,7 @@ pub returns-clause-work : goal.returns-clause-work
 returns-clause-work g c =
     let m : Worker = c.searched.new.worker in let k : Worker = record m { short = true } in
     let p = c.searched.ensures.placed in
-    let keeps : Keeps m k = record { book = refl; log = refl; seat = stays-self (view m.seat) p.settled.seated.rests; pages = stays-self (view m.pages) p.pages.rests } in
+    let keeps : Keeps m k = record { book = refl; seat = stays-self (view m.seat) p.settled.seated.rests; pages = reads-self c.args.shared.now.log m.pages p.log } in
     record {
       keeps = keeps-trans c.args.worker m k c.searched.ensures.keeps keeps;
       ready = placed-seat c.args.shared.now m k p keeps p.pool p.settled.seated.lawful;
@@ -24,7 +25,7 @@ returns-in-Ok-clause-work g c =
     let m : Worker = c.searched.new.worker in
     let k : Worker = record { seat = c.back.new.seat; pages = m.pages; lane = m.lane; pass = m.pass; short = c.in-Ok.short } in
     let p = c.searched.ensures.placed in
-    let keeps : Keeps m k = record { book = c.back.ensures.of; log = refl; seat = c.back.ensures.stays; pages = stays-self (view m.pages) p.pages.rests } in
+    let keeps : Keeps m k = record { book = c.back.ensures.of; seat = c.back.ensures.stays; pages = reads-self c.args.shared.now.log m.pages p.log } in
     let idle = given-idle (view m.seat) (view k.seat) c.back.ensures.call.0 c.back.ensures.stays c.in-Ok.fuel p.settled c.in-Ok.ensures.free c.in-Ok.ensures.owes c.back.ensures.call.1 in
     record {
       keeps = keeps-trans c.args.worker m k c.searched.ensures.keeps keeps;

@@ -1,0 +1,85 @@
+//! The nogoods of the listed answers. They are kept as sets: each nogood has a literal for each atom.
+ghost use Rattle.std.specs.Prelude.{◌≡◌, ◌+◌, ◌++◌, length, map};
+ghost use Rattle.std.specs.List.{AllByRecursion};
+ghost use Rattle.asp_vars.specs.Numbering.{var_count};
+ghost use Rattle.asp_checker.specs.Lines.{AreOf, nogood_of_answer};
+ghost use Rattle.asp_checker.specs.Looks.{IsSeen, IsVisited};
+ghost use Rattle.asp_checker.specs.Sweeps.{IsSwept};
+
+use crate::nogoods::{Look, Visit, with};
+use crate::sweep::{later, sweep};
+use asp_member::merge::{skip, stands_at};
+use asp_model::interp::Interp;
+use asp_model::seq::Seq;
+use asp_vars::assign::Assign;
+use asp_vars::compiled::Compiled;
+use asp_vars::lit::Lit;
+
+/// What the nogood by which an answer differs from all other sets says under the values.
+pub(crate) fn look_at_answer(compiled: &Compiled, answer: &Interp, values: &Assign) -> Look
+    requires { length values.now ≡ var_count compiled.now + 1 }
+    ensures { IsSeen values.now (nogood_of_answer compiled.now answer.now) result }
+{
+    let atoms = compiled.atoms().as_slice();
+    let set = answer.as_slice();
+    let mut look = Look::Violated;
+    let mut place = 0;
+    for at in 0..compiled.atom_count() {
+        place = skip(set, place, atoms[at]);
+        let truth = stands_at(set, place, atoms[at]);
+        look = with(look, Lit::new(at as u32 + 1, truth), values);
+        if let Look::Fixpoint = look {
+            return Look::Fixpoint;
+        }
+    }
+    look
+}
+
+/// Looks at the nogood of an answer, and sets the value that it implies.
+fn visit_answer(compiled: &Compiled, answer: &Interp, values: &mut Assign) -> Visit
+    requires { length values.old ≡ var_count compiled.now + 1 }
+    ensures { IsVisited values.old values.new (nogood_of_answer compiled.now answer.now) result }
+{
+    match look_at_answer(compiled, answer, values) {
+        Look::Fixpoint => Visit::Fixpoint,
+        Look::Violated => Visit::Conflict,
+        Look::Unit(lit) => {
+            values.set(lit.complement());
+            Visit::Implied
+        }
+    }
+}
+
+/// Looks at the nogood of each listed answer once, and sets the values that they imply, one after another.
+pub(crate) fn sweep_answers(compiled: &Compiled, listed: &[Interp], values: &mut Assign) -> Visit
+    requires { length values.old ≡ var_count compiled.now + 1 }
+    ensures { IsSwept values.old values.new (map (nogood_of_answer compiled.now) listed.now) result }
+{
+    let mut came_to = Visit::Fixpoint;
+    for answer in listed {
+        let visit = visit_answer(compiled, answer, values);
+        if let Visit::Conflict = visit {
+            return Visit::Conflict;
+        }
+        came_to = later(came_to, visit);
+    }
+    came_to
+}
+
+/// Looks at all nogoods once, those of the listed answers last.
+pub(crate) fn sweep_all(
+    compiled: &Compiled,
+    listed: &[Interp],
+    rows: &[Seq<Lit>],
+    values: &mut Assign,
+) -> Visit
+    requires of { AllByRecursion (AreOf compiled.now) rows.now }
+    requires size { length values.old ≡ var_count compiled.now + 1 }
+    ensures { IsSwept values.old values.new (map (nogood_of_answer compiled.now) listed.now ++ rows.now) result }
+{
+    match sweep(rows, values) {
+        Visit::Conflict => Visit::Conflict,
+        Visit::Implied => Visit::Implied,
+        Visit::Fixpoint => sweep_answers(compiled, listed, values),
+    }
+}
