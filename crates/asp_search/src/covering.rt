@@ -38,8 +38,8 @@ pub(crate) fn known_count(known: &Vec<Snapshot<Interp>>, seen: &Option<Known>) -
     }
 }
 
-// That what can be shown of the atom isn't shown.
-fn unshown_literal(compiled: &Compiled, reasoning: Reasoning, atom: Atom) -> Lit
+/// That what can be shown of the atom isn't shown.
+pub(crate) fn unshown_literal(compiled: &Compiled, reasoning: Reasoning, atom: Atom) -> Lit
     requires { IsTrue (has (atoms_of compiled.now) atom) }
     ensures { result ≡ unshown_literal reasoning compiled.now atom }
 {

@@ -33,8 +33,8 @@ pub(crate) struct Route {
     depth: usize,
 }
 
-// Whether a literal holds, if its variable has a value.
-fn truth(trail: &Trail, vars: Var, lit: Lit) -> Option<bool>
+/// Whether a literal holds, if its variable has a value.
+pub(crate) fn truth(trail: &Trail, vars: Var, lit: Lit) -> Option<bool>
     requires { trail.now.vars ≡ vars }
 {
     if lit.var() > vars {

@@ -20,6 +20,7 @@ ghost use Rattle.asp_search.specs.Beside.{new_search, Adopts, Enters, Leaves, co
 ghost use Rattle.asp_search.specs.Invariants.{IsSeen, answers_known};
 ghost use Rattle.asp_state.specs.SearchStates.{KeepsCompletionAlone};
 
+use crate::aim::Aim;
 use crate::covering::renew;
 use crate::litter::Litter;
 use crate::route::{Route, Turn};
@@ -74,6 +75,8 @@ pub struct Search<'a, P: Propagator> {
     pub(crate) known: Vec<Snapshot<Interp>>,
     // where consequences are sought, what the answers found and those of which it was told have in common
     pub(crate) seen: Option<Known>,
+    // where it looks for the atoms that are still to be shown
+    pub(crate) aim: Aim,
     // the numbers of the blocking nogoods of answers, the oldest first; where consequences are sought the last is that of all
     // answers known, and the others are reasons still
     pub(crate) blocking: Vec<NogoodId>,
@@ -218,6 +221,7 @@ impl<'a, P: Propagator> Search<'a, P> {
             checker,
             known: Vec::new(alloc),
             seen,
+            aim: Aim::unset(),
             blocking: Vec::new(alloc),
             held: Vec::new(alloc),
             bound: None,
@@ -242,6 +246,7 @@ impl<'a, P: Propagator> Search<'a, P> {
     {
         self.last = None;
         self.route.reach(cube);
+        self.aim = Aim::unset();
         self.state.enter(self.alloc, cube)?;
         self.pace.begin();
         Ok(())
@@ -285,6 +290,7 @@ impl<'a, P: Propagator> Search<'a, P> {
         ) {
             Ok(()) => {
                 self.seen = Some(known);
+                self.aim = Aim::unset();
                 self.last = None;
                 Ok(())
             }

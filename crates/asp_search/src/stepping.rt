@@ -21,6 +21,7 @@ ghost use Rattle.asp_analyze.specs.declared.learn.Learned.TheVariants as learned
 ghost use Rattle.asp_search.specs.Meeting.{IsMet};
 ghost use Rattle.asp_search.specs.Stepping.{IsEntered, IsFound};
 
+use crate::aim::Aim;
 use crate::blocking::block;
 use crate::conflicts::{conflict, jump, learn};
 use crate::covering::cover;
@@ -43,6 +44,9 @@ use asp_vars::lit::{Lit, Var};
 use asp_vars::nogood::Nogood;
 use asp_vars::snapshot::Snapshot;
 use std::alloc::AllocError;
+
+// So many times what was bumped before is aged when an atom is sought: it counts for half then.
+const AGE: u32 = 12;
 
 // Whether a restart is due, and would take something back.
 fn is_due<P: Propagator>(pace: &Pace, state: &SearchState<P>) -> bool
@@ -127,6 +131,20 @@ fn raise<P: Propagator>(state: &mut SearchState<P>, vars: Var, next: Option<Lit>
 {
     match next {
         Some(lit) if lit.var() != 0 && lit.var() <= vars => state.raise(lit),
+        _ => {}
+    }
+}
+
+// The same, above all that was raised before.
+fn raise_above<P: Propagator>(state: &mut SearchState<P>, vars: Var, next: Option<Lit>)
+    requires { vars ≡ var_count state.old.program }
+    ensures { state.new ≡ record state.old { ranking = state.new.ranking } }
+{
+    match next {
+        Some(lit) if lit.var() != 0 && lit.var() <= vars => {
+            state.age(AGE);
+            state.raise(lit);
+        }
         _ => {}
     }
 }
@@ -256,6 +274,7 @@ impl<'a, P: Propagator> Search<'a, P> {
             &known,
         )?;
         self.seen = Some(known);
+        self.aim = Aim::begun();
         Ok(())
     }
 
@@ -339,12 +358,43 @@ impl<'a, P: Propagator> Search<'a, P> {
     }
 
     // Raises what is to be decided next on the way on which answers were found.
-    fn follow(&mut self)
+    fn follow_route(&mut self)
         ensures { self.new ≡ record self.old { ranking = self.new.ranking } }
     {
         let vars = self.compiled.vars();
         let next = next_turn(&mut self.route, &self.state, vars);
         raise(&mut self.state, vars, next);
+    }
+
+    // Where consequences are sought, what shows an atom that is still to be shown.
+    fn sought(&self, aim: &mut Aim) -> Option<Lit> {
+        let vars = self.compiled.vars();
+        let decided = !self.state.decisions().is_empty();
+        match &self.seen {
+            None => None,
+            Some(seen) => aim.next(self.state.trail(), vars, self.compiled, seen, decided),
+        }
+    }
+
+    // Raises that.
+    fn seek(&mut self)
+        ensures { self.new ≡ record self.old { ranking = self.new.ranking } }
+    {
+        let vars = self.compiled.vars();
+        let mut aim = self.aim;
+        let next = self.sought(&mut aim);
+        self.aim = aim;
+        raise_above(&mut self.state, vars, next);
+    }
+
+    fn follow(&mut self)
+        ensures { self.new ≡ record self.old { ranking = self.new.ranking } }
+    {
+        if self.seen.is_some() {
+            self.seek();
+        } else {
+            self.follow_route();
+        }
     }
 
     // No conflict: goes on.
@@ -379,7 +429,10 @@ impl<'a, P: Propagator> Search<'a, P> {
         let met = self.state.propagate()?;
         self.implied = self.state.trail().len().saturating_sub(before);
         match met {
-            Some(id) => self.meet(id, fuel),
+            Some(id) => {
+                self.aim.stop();
+                self.meet(id, fuel)
+            }
             None => self.go_on(fuel),
         }
     }

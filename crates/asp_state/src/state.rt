@@ -344,6 +344,13 @@ impl<P: Propagator> SearchState<P> {
         self.order.raise(lit);
     }
 
+    /// What was bumped before counts for less from now on: each time by a seventeenth.
+    pub fn age(&mut self, times: u32)
+        ensures { self.new ≡ record self.old { ranking = self.new.ranking } }
+    {
+        self.order.age(times);
+    }
+
     /// Drops nogoods that are little used, but none that is kept forever, is a reason, or has two literals or fewer.
     pub fn reduce(&mut self)
         ensures same { self.new ≡ record self.old { slots = self.new.slots } }

@@ -2,7 +2,7 @@ use Rattle.std.proofs.Common.{ap}
 use Rattle.asp_state.specs.SearchStates.{SearchView}
 use Rattle.asp_search.specs.Invariants.{used_in}
 use Rattle.asp_search.proofs.SearchLaws.{search_stays}
-use Rattle.asp_search.proofs.search.Search.follow.Goals as goal
+use Rattle.asp_search.proofs.search.Search.follow_route.Goals as goal
 
 pub invariant_of-self : goal.invariant_of-self
 invariant_of-self g c =
