@@ -89,6 +89,10 @@ if [ -w /dev/full ]; then
 fi
 "$program" < examples/two_rules.aspif >&- 2> "$notes"
 check "no output" 74 "$wanted" "$?" "$notes"
+# where nobody reads any more the status alone tells it
+: > "$wanted"
+{ sleep 1; "$program" < examples/two_rules.aspif 2> "$notes"; echo $? > "$given"; } | true
+check "a closed pipe" 74 "$wanted" "$(cat "$given")" "$notes"
 echo 'aspenum: read failed' > "$wanted"
 "$program" < examples 2> "$notes" > "$given"
 check "a folder as input" 66 "$wanted" "$?" "$notes"

@@ -138,4 +138,8 @@ impl Sink for CleanSink {
     fn flush(&mut self) -> Result<(), Failed> {
         Ok(())
     }
+
+    fn is_closed(&self) -> bool {
+        false
+    }
 }

@@ -205,4 +205,9 @@ impl Sink for MemSink {
         self.is_sent = true;
         Ok(())
     }
+
+    // (its failures are chosen)
+    fn is_closed(&self) -> bool {
+        false
+    }
 }

@@ -5,7 +5,7 @@ ghost use Rattle.std.specs.Io.KnownBytes.{WriteAppends};
 ghost use Rattle.asp_io.specs.Causes.{HasCause};
 
 use crate::{Failed, Sink, Source};
-use std::io::{Read, Write};
+use std::io::{Error, ErrorKind, Read, Write};
 use std::marker::Model;
 
 /// A reader, as standard input. Its bytes and its answers are the system's, and trusted.
@@ -50,6 +50,11 @@ impl<R: Read + Drop> Source for StdSource<R> {
     }
 }
 
+// Whether a write failed since nobody reads: the other end of the pipe was closed.
+fn is_of_pipe(error: &Error) -> bool {
+    error.kind() == ErrorKind::BrokenPipe
+}
+
 /// A writer, as standard output. What becomes of the bytes is the system's, and trusted.
 #[derive(Drop)]
 pub struct StdSink<W: Write + Drop> {
@@ -59,6 +64,8 @@ pub struct StdSink<W: Write + Drop> {
     faults: u64,
     /// Whether nothing was written since the last flush that succeeded. Contracts alone read it.
     is_sent: bool,
+    /// Whether the last failure of the writer was that nobody reads.
+    is_closed: bool,
 }
 
 impl<W: Write + Drop> Model for StdSink<W> {
@@ -79,6 +86,7 @@ impl<W: Write + Drop> StdSink<W> {
             writer,
             faults: 0,
             is_sent: true,
+            is_closed: false,
         }
     }
 }
@@ -99,11 +107,13 @@ impl<W: Write + Drop> Sink for StdSink<W> {
         ensures waits { OnOk result (self.new.is_sent ≡ false) }
     {
         if self.faults < u64::MAX {
-            if let Ok(count) = self.writer.write(bytes) {
-                if count > 0 || bytes.is_empty() {
+            match self.writer.write(bytes) {
+                Ok(count) if count > 0 || bytes.is_empty() => {
                     self.is_sent = false;
                     return Ok(count);
                 }
+                Ok(_) => {}
+                Err(error) => self.is_closed = is_of_pipe(&error),
             }
         }
         self.faults = self.faults.saturating_add(1);
@@ -111,11 +121,20 @@ impl<W: Write + Drop> Sink for StdSink<W> {
     }
 
     fn flush(&mut self) -> Result<(), Failed> {
-        if self.faults < u64::MAX && self.writer.flush().is_ok() {
-            self.is_sent = true;
-            return Ok(());
+        if self.faults < u64::MAX {
+            match self.writer.flush() {
+                Ok(()) => {
+                    self.is_sent = true;
+                    return Ok(());
+                }
+                Err(error) => self.is_closed = is_of_pipe(&error),
+            }
         }
         self.faults = self.faults.saturating_add(1);
         Err(Failed)
+    }
+
+    fn is_closed(&self) -> bool {
+        self.is_closed
     }
 }

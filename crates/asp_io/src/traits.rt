@@ -53,6 +53,10 @@ pub trait Sink {
         ensures cause { HasCause (faults self.old) (faults self.new) result }
         ensures quiet { OnOk result (faults self.new ≡ faults self.old) }
         ensures sent { OnOk result (is_sent self.new ≡ true) };
+
+    /// Whether the last call that failed did so because nobody reads any more, as behind a pipe that was closed. That is no
+    /// fault of anybody's. Nothing is promised of it.
+    fn is_closed(&self) -> bool;
 }
 
 /// Appends all of the bytes, piece by piece. It takes no memory, and flushes nothing. On `Failed` a front of them was

@@ -75,8 +75,8 @@ exact given a report Partial m quiet = given-exact given a m.solved.program Part
 exact given a report Unknown m quiet = given-exact given a m.solved.program Unknown m.solved.source (λ w. inl refl) quiet
 exact given a report Enough m quiet = given-exact given a m.solved.program Enough m.solved.source (λ w. inl refl) quiet
 exact given a report Parts m quiet = given-exact given a m.divided.program Parts m.divided.source (λ w. inl refl) quiet
-exact given a report WriteFault (inl m) quiet = given-exact given a m.solved.program WriteFault m.solved.source (λ w. absurd (w m.cause)) quiet
-exact given a report WriteFault (inr m) quiet = given-exact given a m.divided.program WriteFault m.divided.source (λ w. absurd (w m.cause)) quiet
+exact given a report (WriteFault closed) (inl m) quiet = given-exact given a m.solved.program (WriteFault closed) m.solved.source (λ w. absurd (w m.cause)) quiet
+exact given a report (WriteFault closed) (inr m) quiet = given-exact given a m.divided.program (WriteFault closed) m.divided.source (λ w. absurd (w m.cause)) quiet
 exact given a report Unnamed m quiet = given-exact given a m.program Unnamed m.source (λ w. inr refl) quiet
 exact given a report Help m quiet = absurd m
 exact given a report Usage m quiet = absurd m
@@ -194,13 +194,13 @@ delivered given a s report solved (inl m) =
     let text = subst (Appends a.held a.held') (told-text given solved.program done (layout_of given) solved.proof) m.1 in
     subst (Means given a report) (sym is) (written given a report solved done.results.end (has_model done.results) refl refl text)
 delivered given a s report solved (inr m) =
-    subst (Means given a report) (sym m.0) (inl (record { solved = solved; text = subst (AppendsFront a.held a.held') (told-text given solved.program solved.done (layout_of given) solved.proof) m.1; cause = m.2 }))
+    subst (Means given a report) (sym m.0.1) (inl (record { solved = solved; text = subst (AppendsFront a.held a.held') (told-text given solved.program solved.done (layout_of given) solved.proof) m.1; cause = m.2 }))
 
 -- the text of parts was written, or cut off
 handed : (given : Options) (a : Around) (s : Status) (report : Option Report) → (divided : IsDivided given a report)
     → HandingMeans (parts_text divided.cubes) a.held a.held' a.writes a.writes' s → Means given a report s
 handed given a s report divided (inl m) = subst (Means given a report) (sym m.0) (record { divided = divided; text = m.1 })
-handed given a s report divided (inr m) = subst (Means given a report) (sym m.0) (inr (record { divided = divided; text = m.1; cause = m.2 }))
+handed given a s report divided (inr m) = subst (Means given a report) (sym m.0.1) (inr (record { divided = divided; text = m.1; cause = m.2 }))
 
 -- the program whose answers are sought is within the limits
 asked-sound : (given : Options) (p : Program) → IsSound p → HasNumbers given p → IsSound (asked given p)
@@ -349,7 +349,7 @@ unwritten given l l' r r' status over = by status (over (Some []) 0).means
     by ReadFault m = refl
     by TooLong m = refl
     by Unnamed m = refl
-    by WriteFault m = refl
+    by (WriteFault closed) m = refl
     by Parts m = absurd (parts-have-text m.divided.cubes m.divided.parts.some (sym m.text))
 
 pub nothing-to-send : (given : Options) (l l' : Option (List ℕ)) (r r' : ℕ) (status : Status) (o : Outcome) (is_sent : Bool) → IsOver given l l' r r' status → o ≡ record { status = status; report = None } → IsSentOn o.status is_sent

@@ -1,5 +1,5 @@
 -- The exit statuses.
-use Rattle.std.specs.Prelude.{ℕ}
+use Rattle.std.specs.Prelude.{◌≡◌, ℕ, Bool}
 use Rattle.asp_top.specs.declared.status.Status.{Status}
 use Rattle.asp_top.specs.declared.status.Status.TheVariants.{All, NoModel, Partial, Unknown, Enough, Help, Memory, Usage, Refused, ReadFault, TooLong, Unnamed, WriteFault, Parts}
 
@@ -16,5 +16,9 @@ code_of (Refused fault line) = 65
 code_of ReadFault = 66
 code_of TooLong = 67
 code_of Unnamed = 65
-code_of WriteFault = 74
+code_of (WriteFault closed) = 74
 code_of Parts = 0
+
+-- the sink failed, whether or not somebody reads what is written
+abbrev pub IsLost : Status → Type 0
+IsLost status = (closed : Bool) × (status ≡ WriteFault closed)

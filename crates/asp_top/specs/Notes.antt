@@ -33,7 +33,8 @@ note_of (Refused f line) = codes "aspenum: line " ++ decimal line ++ fault_text 
 note_of ReadFault = codes "aspenum: read failed\n"
 note_of TooLong = codes "aspenum: input too long\n"
 note_of Unnamed = codes "aspenum: consequences can't be told by name: the numbers of atoms are too great\n"
-note_of WriteFault = codes "aspenum: write failed\n"
+note_of (WriteFault false) = codes "aspenum: write failed\n"
+note_of (WriteFault true) = []
 note_of Parts = []
 
 -- numbers with their names, one behind the other

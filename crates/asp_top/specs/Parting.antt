@@ -7,8 +7,9 @@ use Rattle.asp_model.specs.declared.program.Program.{Program}
 use Rattle.asp_model.specs.Models.{answers}
 use Rattle.asp_make.specs.Texts.{parts_text}
 use Rattle.asp_split.specs.Parts.{AreStanding, answers_of_parts}
+use Rattle.asp_top.specs.Codes.{IsLost}
 use Rattle.asp_top.specs.declared.status.Status.{Status}
-use Rattle.asp_top.specs.declared.status.Status.TheVariants.{Memory, WriteFault, Parts}
+use Rattle.asp_top.specs.declared.status.Status.TheVariants.{Memory, Parts}
 use Rattle.asp_top.specs.declared.status.Outcome.{Outcome}
 
 -- Cubes of assumptions, one at least and no more than these. The answers of the program under each, one cube after the other, are
@@ -29,7 +30,7 @@ pub record IsPartsText (p : Program) (most : ℕ) (text : List ℕ) : Type 0 whe
 abbrev pub HandingMeans : List ℕ → Option (List ℕ) → Option (List ℕ) → ℕ → ℕ → Status → Type 0
 HandingMeans text held held' writes writes' status =
     ((status ≡ Parts) × Appends held held' text)
-    ⊎ ((status ≡ WriteFault) × AppendsFront held held' text × Rose writes writes')
+    ⊎ (IsLost status × AppendsFront held held' text × Rose writes writes')
 
 -- a text that was to be written
 pub record Hands (text : List ℕ) (held held' : Option (List ℕ)) (writes writes' : ℕ) (o : Outcome) : Type 0 where

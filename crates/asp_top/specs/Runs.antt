@@ -22,6 +22,7 @@ use Rattle.asp_read.specs.Judging.{most_bytes}
 use Rattle.asp_cli.specs.declared.Form.{Form}
 use Rattle.asp_cli.specs.declared.Form.TheVariants.{Text, Json}
 use Rattle.asp_cli.specs.declared.Format.{Format}
+use Rattle.asp_top.specs.Codes.{IsLost}
 use Rattle.asp_top.specs.Formats.{StopsFor, outcome_for}
 use Rattle.asp_make.specs.Ring.{ring}
 use Rattle.asp_make.specs.Texts.{parts_text}
@@ -237,7 +238,7 @@ Means given a report (Refused fault line) = Reads given × IsRefused given.forma
 Means given a report ReadFault = Reads given × IsUnread given.format a report
 Means given a report TooLong = Reads given × IsRefused given.format a report errors.TooLong
 Means given a report Unnamed = IsUnnamed given a report
-Means given a report WriteFault = IsCutOff given a report ⊎ ArePartsCutOff given a report
+Means given a report (WriteFault closed) = IsCutOff given a report ⊎ ArePartsCutOff given a report
 Means given a report Parts = IsParted given a report
 
 -- an accepted text, where one is read
@@ -261,7 +262,7 @@ pub record IsExact (given : Options) (a : Around) (status : Status) : Type 0 whe
 
 -- a fault of the sink was counted only where the status says so: every failed write and every failed flush is told
 abbrev pub TellsFaults : ℕ → ℕ → Status → Type 0
-TellsFaults writes writes' status = ¬ (status ≡ WriteFault) → writes' ≡ writes
+TellsFaults writes writes' status = ¬ IsLost status → writes' ≡ writes
 
 -- where the text that was asked for was written, all of it was sent on
 abbrev pub IsSentOn : Status → Bool → Type 0
@@ -271,7 +272,7 @@ IsSentOn status is_sent = is_written status ≡ true → is_sent ≡ true
 abbrev pub DeliveryMeans : Layout → Program → Report → Option (List ℕ) → Option (List ℕ) → ℕ → ℕ → Status → Type 0
 DeliveryMeans layout p r held held' writes writes' status =
     ((status ≡ status_for r.results.end (has_model r.results)) × Appends held held' (report_text p r layout))
-    ⊎ ((status ≡ WriteFault) × AppendsFront held held' (report_text p r layout) × Rose writes writes')
+    ⊎ (IsLost status × AppendsFront held held' (report_text p r layout) × Rose writes writes')
 
 -- a report that was to be written
 pub record Delivers (layout : Layout) (p : Program) (r : Report) (held held' : Option (List ℕ)) (writes writes' : ℕ) (o : Outcome) : Type 0 where
@@ -336,7 +337,7 @@ Prepares given left left' reads reads' (Err status) = IsOver given left left' re
 -- the text that was asked for
 abbrev pub TextMeans : List ℕ → Option (List ℕ) → Option (List ℕ) → ℕ → ℕ → Status → Type 0
 TextMeans text held held' writes writes' Help = Appends held held' text
-TextMeans text held held' writes writes' WriteFault = AppendsFront held held' text × Rose writes writes'
+TextMeans text held held' writes writes' (WriteFault closed) = AppendsFront held held' text × Rose writes writes'
 TextMeans text held held' writes writes' status = ⊥
 
 -- help or the version was asked for: its text was written, or cut off by a fault

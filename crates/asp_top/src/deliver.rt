@@ -138,7 +138,7 @@ pub fn deliver<K: Sink>(
 {
     let status = match write_report(alloc, sink, layout, program, &report) {
         Ok(()) => status_for(&report.results),
-        Err(Failed) => Status::WriteFault,
+        Err(Failed) => Status::WriteFault(sink.is_closed()),
     };
     Outcome {
         status,

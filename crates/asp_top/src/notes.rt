@@ -85,14 +85,15 @@ fn write_note<N: Sink>(notes: &mut N, status: Status) -> Result<(), Failed>
         | Status::Unknown
         | Status::Enough
         | Status::Help
-        | Status::Parts => write(notes, b""),
+        | Status::Parts
+        | Status::WriteFault(true) => write(notes, b""),
         Status::Memory => write(notes, b"aspenum: out of memory\n"),
         Status::Usage => write_not_text(notes),
         Status::Refused(fault, line) => write_refused(notes, fault, line),
         Status::ReadFault => write(notes, b"aspenum: read failed\n"),
         Status::TooLong => write(notes, b"aspenum: input too long\n"),
         Status::Unnamed => write_unnamed(notes),
-        Status::WriteFault => write(notes, b"aspenum: write failed\n"),
+        Status::WriteFault(false) => write(notes, b"aspenum: write failed\n"),
     }
 }
 

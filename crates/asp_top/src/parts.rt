@@ -43,7 +43,7 @@ fn hand_out<K: Sink>(sink: &mut K, text: &[u8]) -> Outcome
 {
     match write_text(sink, text) {
         Ok(()) => failed(Status::Parts),
-        Err(Failed) => failed(Status::WriteFault),
+        Err(Failed) => failed(Status::WriteFault(sink.is_closed())),
     }
 }
 

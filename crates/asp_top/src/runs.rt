@@ -258,7 +258,7 @@ fn help<K: Sink>(sink: &mut K) -> Status
 {
     match write_help(sink) {
         Ok(()) => Status::Help,
-        Err(Failed) => Status::WriteFault,
+        Err(Failed) => Status::WriteFault(sink.is_closed()),
     }
 }
 
@@ -269,7 +269,7 @@ fn tell_version<K: Sink>(sink: &mut K) -> Status
 {
     match write_version(sink) {
         Ok(()) => Status::Help,
-        Err(Failed) => Status::WriteFault,
+        Err(Failed) => Status::WriteFault(sink.is_closed()),
     }
 }
 

@@ -32,8 +32,9 @@ pub enum Status {
     TooLong,
     /// Consequences can't be told by name: the program leaves too few numbers for atoms of its outputs.
     Unnamed,
-    /// The sink failed. A front of what was to be written is out.
-    WriteFault,
+    /// The sink failed. A front of what was to be written is out. With true the sink says that nobody reads any more, as behind
+    /// a pipe that was closed, and no line tells of it.
+    WriteFault(bool),
     /// The program's parts were asked for and written.
     Parts,
 }
@@ -56,7 +57,7 @@ impl Status {
             Status::ReadFault => 66,
             Status::TooLong => 67,
             Status::Unnamed => 65,
-            Status::WriteFault => 74,
+            Status::WriteFault(_) => 74,
             Status::Parts => 0,
         }
     }
