@@ -1,9 +1,9 @@
 -- Steps below the conflict's level: what is pending and what is settled stays so.
-use Rattle.std.proofs.Common.{◌≡◌, ◌≢◌, ℕ, ◌+◌, ◌<◌, ◌≤◌, Bool, true, false, eqb, List, [], ◌∷◌, ◌++◌, Option, None, length, set, get_or, take, inl, inr, refl, sym, ap, ◌∙◌, subst, arith}
+use Rattle.std.proofs.Common.{◌≡◌, ◌≢◌, ℕ, ◌+◌, ◌<◌, Bool, true, false, eqb, List, [], ◌∷◌, ◌++◌, Option, None, length, set, get_or, take, inl, inr, refl, sym, ap, ◌∙◌, subst, arith}
 use Rattle.std.proofs.Common.{append_assoc}
 use Rattle.std.proofs.lemmas.Bool.{eqb-true, false≢true}
 use Rattle.std.proofs.lemmas.Bool.Decides.{nat_tests}
-use Rattle.std.proofs.lemmas.List.{take-append-le, take_more, take_all}
+use Rattle.std.proofs.lemmas.List.{take-append-le, take_more}
 use Rattle.asp_vars.specs.Literals.{Literal, has_literal}
 use Rattle.asp_vars.specs.declared.nogood.Nogood.{Nogood}
 use Rattle.asp_vars.specs.declared.nogood.Base.{Base}
@@ -35,27 +35,6 @@ settled_stays top level reason mark.Needed k f e s u o = new k e o
     new mark.Kept h q = refl
     new mark.Resolved h q = refl
     new mark.Needed h q = refl
-
-pub settled_other : (m : Mark) → is_clean m ≡ false → m ≢ mark.Zero → is_settled m ≡ true
-settled_other mark.Clean c z = absurd (false≢true (sym c))
-settled_other mark.Pending c z = refl
-settled_other mark.Zero c z = absurd (z refl)
-settled_other mark.Kept c z = refl
-settled_other mark.Resolved c z = refl
-settled_other mark.Needed c z = refl
-
-pub goes_same : (es : List Entry) (m : Marked) → Goes es m m
-goes_same es m = record {
-  pending = λ l n p. p;
-  none = λ l n p. p;
-  settled = λ l n s. s;
-  marked = λ v h. h;
-  grown = ([], sym (append_nil m.lits));
-}
-  where
-    append_nil : (xs : List Literal) → xs ++ [] ≡ xs
-    append_nil [] = refl
-    append_nil (x ∷ xs) = ap (λ (ys : List Literal). x ∷ ys) (append_nil xs)
 
 pub goes_join : (es : List Entry) (old mid new : Marked) → Goes es old mid → Goes es mid new → Goes es old new
 goes_join es old mid new a b = record {
@@ -222,13 +201,6 @@ settled_more es top old new i lit d a g h q now s l k =
 
     here : has_literal (take i old.lits ++ get_or old.lits i d ∷ []) l ≡ true
     here = subst (λ (xs : List Literal). has_literal xs l ≡ true) same k
-
-pub settled_none : (m : Marked) → AreSettled 0 m
-settled_none m l h = absurd (false≢true h)
-
-pub settled_all : (m : Marked) (i : ℕ) → length m.lits ≤ i → AreSettled i m → AreSettled (length m.lits) m
-settled_all m i h s l k =
-    s l (subst (λ (xs : List Literal). has_literal xs l ≡ true) (take_all (length m.lits) m.lits (omega arith) ∙ sym (take_all i m.lits h)) k)
 
 -- ---- answers of calls
 pub on_ok : {X : Type 0} → {E : Type 0} → (r : Result X E) (A B : Type 0) → (A → B) → OnOk r A → OnOk r B

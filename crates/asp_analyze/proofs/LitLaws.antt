@@ -7,8 +7,8 @@ use Rattle.std.proofs.lemmas.Bool.Decides.{nat_tests}
 use Rattle.std.proofs.lemmas.List.{take_more, take-append-drop}
 use Rattle.std.proofs.lemmas.List.Elements.{All-push}
 use Rattle.std.proofs.lemmas.List.Folds.{list_any-append}
-use Rattle.asp_vars.specs.Literals.{Literal, complement, has_literal, literal_eq}
-use Rattle.asp_vars.specs.Resolution.{without, union, resolvent}
+use Rattle.asp_vars.specs.Literals.{Literal, has_literal, literal_eq}
+use Rattle.asp_vars.specs.Resolution.{without}
 use Rattle.asp_vars.proofs.LiteralLaws.{same_literal}
 
 pub eq_itself : (l : Literal) → literal_eq l l ≡ true
@@ -55,24 +55,9 @@ all_has P (k ∷ n) l a h = cases (or_cases (literal_eq k l) (has_literal n l) h
     cases (inr g) rest = rest g
 
 -- ---- without a literal
-has_cons : (b : Bool) (k : Literal) (n : List Literal) (l : Literal) → has_literal (cond b (k ∷ n) n) l ≡ true → ((b ≡ true) × (literal_eq k l ≡ true)) ⊎ (has_literal n l ≡ true)
-has_cons true k n l h = elim (or_cases (literal_eq k l) (has_literal n l) h) [ inl q ↦ inl (refl, q) | inr g ↦ inr g ]
-has_cons false k n l h = inr h
-
 not_true : (b : Bool) → not b ≡ true → b ≡ false
 not_true true h = absurd (false≢true h)
 not_true false h = refl
-
-pub without_has : (g : Literal) (n : List Literal) (l : Literal) → has_literal (without g n) l ≡ true → (has_literal n l ≡ true) × (l ≢ g)
-without_has g [] l h = absurd (false≢true h)
-without_has g (k ∷ n) l h = cases (has_cons (not (literal_eq k g)) k (without g n) l h) (without_has g n l)
-  where
-    cases : ((not (literal_eq k g) ≡ true) × (literal_eq k l ≡ true)) ⊎ (has_literal (without g n) l ≡ true) →
-        (has_literal (without g n) l ≡ true → (has_literal n l ≡ true) × (l ≢ g)) → (has_literal (k ∷ n) l ≡ true) × (l ≢ g)
-    cases (inl q) rest =
-        let e : k ≡ l = same_literal k l q.1 in
-        (or_left (literal_eq k l) (has_literal n l) q.1, λ s. eq_differ k g (not_true (literal_eq k g) q.0) (e ∙ s))
-    cases (inr m) rest = let r = rest m in (or_right (literal_eq k l) (has_literal n l) r.0, r.1)
 
 pub has_without : (g : Literal) (n : List Literal) (l : Literal) → has_literal n l ≡ true → l ≢ g → has_literal (without g n) l ≡ true
 has_without g [] l h ne = absurd (false≢true h)
@@ -95,38 +80,7 @@ or_false : (b : Bool) → (b || false) ≡ b
 or_false true = refl
 or_false false = refl
 
-pub union_has : (n m : List Literal) (l : Literal) → has_literal (union n m) l ≡ true → (has_literal n l ≡ true) ⊎ (has_literal m l ≡ true)
-union_has n [] l h = inl h
-union_has n (k ∷ m) l h = cases (union_has (cond (has_literal n k) n (n ++ k ∷ [])) m l h)
-  where
-    at : (b : Bool) → has_literal (cond b n (n ++ k ∷ [])) l ≡ true → (has_literal n l ≡ true) ⊎ (literal_eq k l ≡ true)
-    at true g = inl g
-    at false g = elim (or_cases (has_literal n l) (literal_eq k l || false) (sym (has_end n k l) ∙ g)) [ inl q ↦ inl q | inr q ↦ inr (sym (or_false (literal_eq k l)) ∙ q) ]
-
-    cases : (has_literal (cond (has_literal n k) n (n ++ k ∷ [])) l ≡ true) ⊎ (has_literal m l ≡ true) → (has_literal n l ≡ true) ⊎ (has_literal (k ∷ m) l ≡ true)
-    cases (inl g) = elim (at (has_literal n k) g) [ inl q ↦ inl q | inr q ↦ inr (or_left (literal_eq k l) (has_literal m l) q) ]
-    cases (inr g) = inr (or_right (literal_eq k l) (has_literal m l) g)
-
-pub has_union : (n m : List Literal) (l : Literal) → has_literal n l ≡ true → has_literal (union n m) l ≡ true
-has_union n [] l h = h
-has_union n (k ∷ m) l h = has_union (cond (has_literal n k) n (n ++ k ∷ [])) m l (at (has_literal n k))
-  where
-    at : (b : Bool) → has_literal (cond b n (n ++ k ∷ [])) l ≡ true
-    at true = h
-    at false = has_end n k l ∙ or_left (has_literal n l) (literal_eq k l || false) h
-
 -- ---- a resolvent has the other literals of both
-pub resolvent_has : (n m : List Literal) (g l : Literal) → has_literal (resolvent n m g) l ≡ true →
-    ((has_literal n l ≡ true) × (l ≢ g)) ⊎ ((has_literal m l ≡ true) × (l ≢ complement g))
-resolvent_has n m g l h =
-    elim (union_has (without g n) (without (complement g) m) l h) [
-      | inl q ↦ inl (without_has g n l q)
-      | inr q ↦ inr (without_has (complement g) m l q)
-    ]
-
-pub has_resolvent : (n m : List Literal) (g l : Literal) → has_literal n l ≡ true → l ≢ g → has_literal (resolvent n m g) l ≡ true
-has_resolvent n m g l h ne = has_union (without g n) (without (complement g) m) l (has_without g n l h ne)
-
 -- ---- more literals at the end
 pub has_more : (n m : List Literal) (l : Literal) → has_literal n l ≡ true → has_literal (n ++ m) l ≡ true
 has_more n m l h = list_any-append (λ x. literal_eq x l) n m ∙ or_left (has_literal n l) (has_literal m l) h

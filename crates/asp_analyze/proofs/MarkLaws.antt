@@ -33,9 +33,6 @@ clean_ones mark.Kept h = absurd (false≢true h)
 clean_ones mark.Resolved h = absurd (false≢true h)
 clean_ones mark.Needed h = absurd (false≢true h)
 
-not_pending : (m : Mark) → is_pending m ≡ false → ones m ≡ 0
-not_pending m h = ap {B = ℕ} (λ (b : Bool). cond b 1 0) h
-
 -- a listed variable
 listed_after : (marks : List Mark) (lits more : List Literal) (v : ℕ) (m : Mark) → v < length marks → ((l : Literal) → has_literal lits l ≡ true → has_literal more l ≡ true) →
     (l : Literal) × (has_literal more l ≡ true) × (l.var ≡ v) →
@@ -50,11 +47,6 @@ listed_after marks lits more v m h grow here old w c = cases (eqb w v) refl
         let f = old w (sym (ap is_clean (mark_set_other marks v w m ne)) ∙ c) in
         (f.0, grow f.0 f.1, f.2)
 
--- where a variable has no mark there is room
-pub marks_room : (marks : List Mark) (lits : List Literal) (p room v : ℕ) → AreMarks marks lits p room → v < length marks → is_clean (mark_of marks v) ≡ true → length lits < length marks
-marks_room marks lits p room v a h c =
-    omega (arith, a.counted, sum_by-set clear_ones marks v mark.Kept mark.Clean h, ap {B = ℕ} (λ (b : Bool). cond b 1 0) c)
-
 pub marks_added : (marks : List Mark) (lits : List Literal) (p room more : ℕ) (l : Literal) (m : Mark) → AreMarks marks lits p room → room ≤ more → l.var < length marks →
     is_clean (mark_of marks l.var) ≡ true → is_clean m ≡ false → AreMarks (set marks l.var m) (lits ++ l ∷ []) (p + ones m) more
 marks_added marks lits p room more l m a r h c k = record {
@@ -64,19 +56,6 @@ marks_added marks lits p room more l m a r h c k = record {
   listed = listed_after marks lits (lits ++ l ∷ []) l.var m h (has_more lits (l ∷ [])) (l, has_last lits l, refl) a.listed;
   small = All-push (λ k. k.var < length (set marks l.var m)) lits l (λ i d g. omega (arith, a.small i d g, length-set marks l.var m)) (omega (arith, h, length-set marks l.var m));
 }
-
-pub marks_changed : (marks : List Mark) (lits : List Literal) (p room v : ℕ) (m : Mark) → AreMarks marks lits p room → v < length marks →
-    is_clean (mark_of marks v) ≡ false → is_clean m ≡ false → is_pending m ≡ false → AreMarks (set marks v m) lits (p - ones (mark_of marks v)) room
-marks_changed marks lits p room v m a h c k n = record {
-  counted = omega (arith, a.counted, length-set marks v m, sum_by-set clear_ones marks v m mark.Clean h, ap {B = ℕ} (λ (b : Bool). cond b 1 0) c, ap {B = ℕ} (λ (b : Bool). cond b 1 0) k);
-  waiting = omega (arith, a.waiting, sum_by-set ones marks v m mark.Clean h, not_pending m n);
-  roomy = omega (arith, a.roomy, length-set marks v m);
-  listed = listed_after marks lits lits v m h (λ l g. g) (a.listed v c) a.listed;
-  small = λ i d g. omega (arith, a.small i d g, length-set marks v m);
-}
-
-pub marks_pending : (marks : List Mark) (lits : List Literal) (p room v : ℕ) → AreMarks marks lits p room → v < length marks → ones (mark_of marks v) ≤ p
-marks_pending marks lits p room v a h = omega (arith, a.waiting, sum_by-set ones marks v mark.Kept mark.Clean h)
 
 -- ---- all marks are taken away
 all_clean : (marks : List Mark) → ((v : ℕ) → is_clean (mark_of marks v) ≡ true) → marks ≡ replicate (length marks) mark.Clean

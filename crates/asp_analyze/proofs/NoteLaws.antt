@@ -174,23 +174,6 @@ noted_kept es top old new lit a on u e =
     append_nil [] = refl
     append_nil (x ∷ xs) = ap (λ (ys : List Literal). x ∷ ys) (append_nil xs)
 
--- nothing happened
-pub noted_same : (es : List Entry) (m : Marked) (lits : List Literal) → ((l : Literal) → has_literal lits l ≡ true → is_met (mark_of m.marks l.var) ≡ true) → Noted es m m lits
-noted_same es m lits f = record {
-  met = f;
-  stays = λ v h. refl;
-  changed = λ v. inl refl;
-  grown = ([], sym (append_nil m.lits));
-  sized = refl;
-}
-  where
-    append_nil : (xs : List Literal) → xs ++ [] ≡ xs
-    append_nil [] = refl
-    append_nil (x ∷ xs) = ap (λ (ys : List Literal). x ∷ ys) (append_nil xs)
-
-pub noted_one_met : (es : List Entry) (m : Marked) (lit : Literal) → is_met (mark_of m.marks lit.var) ≡ true → Noted es m m (lit ∷ [])
-noted_one_met es m lit h = noted_same es m (lit ∷ []) (λ l g. subst (λ (k : Literal). is_met (mark_of m.marks k.var) ≡ true) (only_one lit l g) h)
-
 -- one after the other
 pub noted_join : (es : List Entry) (old mid new : Marked) (n k : List Literal) → Noted es old mid n → Noted es mid new k → Noted es old new (n ++ k)
 noted_join es old mid new n k a b = record {
@@ -214,11 +197,3 @@ pub noted_more : (es : List Entry) (old mid new : Marked) (lits : List Literal) 
     Noted es mid new (lit ∷ []) → Noted es old new (take (i + 1) lits)
 noted_more es old mid new lits i lit h q a b =
     subst (λ (xs : List Literal). Noted es old new xs) (ap (λ (x : Literal). take i lits ++ x ∷ []) q ∙ sym (take_more lits i lit h)) (noted_join es old mid new (take i lits) (lit ∷ []) a b)
-
--- a literal that isn't met wasn't
-pub unmet_before : (es : List Entry) (old new : Marked) (lits : List Literal) (v : ℕ) → Noted es old new lits → is_met (mark_of new.marks v) ≡ false → is_met (mark_of old.marks v) ≡ false
-unmet_before es old new lits v a u = cases (is_met (mark_of old.marks v)) refl
-  where
-    cases : (b : Bool) → b ≡ is_met (mark_of old.marks v) → is_met (mark_of old.marks v) ≡ false
-    cases true q = absurd (false≢true (sym u ∙ (ap is_met (a.stays v (sym q)) ∙ sym q)))
-    cases false q = sym q

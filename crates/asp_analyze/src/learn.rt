@@ -8,10 +8,10 @@
 //! below the conflict's level, so the search can jump back to where the complement of that one follows.
 //!
 //! The nogood that is learnt is never written out on the way: it is what is marked and wasn't resolved.
-ghost use Rattle.std.specs.Prelude.{◌≡◌, ◌≤◌, ◌<◌, ◌+◌, ◌^◌, ◌&&◌, ℕ, List, IfOk, IsTrue};
+ghost use Rattle.std.specs.Prelude.{◌≡◌, ◌≤◌, ◌<◌, ◌+◌, ℕ, List, IfOk};
 ghost use Rattle.std.specs.List.{All};
 ghost use Rattle.std.specs.Prelude.{filter, length};
-ghost use Rattle.asp_vars.specs.Literals.{Literal, has_literal};
+ghost use Rattle.asp_vars.specs.Literals.{Literal};
 ghost use Rattle.asp_vars.specs.declared.nogood.Nogood.{Nogood};
 ghost use Rattle.asp_trail.specs.Reasons.{AreAsked, AreReasons};
 ghost use Rattle.asp_analyze.specs.Marks.{mark_of, is_open, unmarked};

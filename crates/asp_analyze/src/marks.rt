@@ -1,7 +1,6 @@
 //! Marks by variable, and the literals of the variables that have one.
 ghost use Rattle.std.specs.List.{All};
 ghost use Rattle.std.specs.Prelude.{◌≡◌, ◌+◌, ◌<◌, ◌≤◌, ◌++◌, ◌∷◌, [], IfOk, length, count_by, slice_set, true, false};
-ghost use Rattle.asp_vars.specs.Literals.{Literal};
 ghost use Rattle.asp_analyze.specs.Marks.{mark_of, is_clean, is_pending, is_open, is_met, ones, unmarked, Cleaned};
 
 use asp_vars::lit::{Lit, Var};

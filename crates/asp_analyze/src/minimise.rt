@@ -1,9 +1,8 @@
 //! Minimisation: a literal that follows from others that stay is resolved too (Sörensson, Biere 2009).
-ghost use Rattle.std.specs.Prelude.{◌≡◌, ◌≢◌, ◌≤◌, ◌<◌, length, false, true, OnOk, OnErr, IfSome, IsTrue};
+ghost use Rattle.std.specs.Prelude.{◌≡◌, ◌≢◌, ◌<◌, length, false, true, OnOk, IfSome, IsTrue};
 ghost use Rattle.std.specs.List.{All};
-ghost use Rattle.asp_vars.specs.Literals.{Literal, has_literal};
+ghost use Rattle.asp_vars.specs.Literals.{has_literal};
 ghost use Rattle.asp_vars.specs.declared.nogood.Nogood.{Nogood};
-ghost use Rattle.asp_trail.specs.Entries.{level_in};
 ghost use Rattle.asp_trail.specs.Reasons.{AreAsked, AreReasons};
 ghost use Rattle.asp_analyze.specs.Marks.{mark_of, is_clean};
 ghost use Rattle.asp_analyze.specs.Way.{IsOn, IsOnTheWay, Goes, CanGo, IsOther};

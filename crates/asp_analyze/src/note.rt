@@ -1,7 +1,6 @@
 //! Literals are met.
 ghost use Rattle.std.specs.Prelude.{◌≡◌, ◌<◌, [], ◌∷◌, length, false};
 ghost use Rattle.std.specs.List.{All};
-ghost use Rattle.asp_vars.specs.Literals.{Literal};
 ghost use Rattle.asp_analyze.specs.Marks.{mark_of, is_met};
 ghost use Rattle.asp_analyze.specs.Way.{mark_at, CanStay, AreMarked, Noted};
 

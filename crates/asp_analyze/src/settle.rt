@@ -1,13 +1,10 @@
 //! What the resolution at the conflict's level leaves is settled: literals of level 0 that were implied are resolved, and those that
 //! follow from others are.
-ghost use Rattle.std.specs.Prelude.{◌≡◌, ◌<◌, ◌≤◌, ◌+◌, length, OnOk, IsTrue};
-ghost use Rattle.std.specs.List.{All};
+ghost use Rattle.std.specs.Prelude.{◌≡◌, ◌<◌, ◌+◌, length, OnOk, IsTrue};
 ghost use Rattle.asp_vars.specs.declared.nogood.Nogood.{Nogood};
-ghost use Rattle.asp_vars.specs.Literals.{Literal, has_literal};
-ghost use Rattle.asp_trail.specs.Entries.{level_in, reason_in};
 ghost use Rattle.asp_trail.specs.Reasons.{AreAsked, AreReasons};
 ghost use Rattle.asp_analyze.specs.Marks.{mark_of, is_settled};
-ghost use Rattle.asp_analyze.specs.Way.{IsOn, IsOnTheWay, AreSettled, Goes, CanGo};
+ghost use Rattle.asp_analyze.specs.Way.{IsOn, IsOnTheWay, AreSettled, Goes};
 
 use crate::levels::{level_of, reason_of};
 use crate::marks::{Mark, Marks};

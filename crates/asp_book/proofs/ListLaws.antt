@@ -1,8 +1,8 @@
 -- A book after several answers were delivered.
-use Rattle.std.proofs.Common.{◌≡◌, ℕ, ◌+◌, ◌<◌, Bool, true, false, not, List, [], ◌∷◌, ◌++◌, length, append_assoc, Ok, refl, sym, ap, ◌∙◌, subst, arith}
+use Rattle.std.proofs.Common.{◌≡◌, ℕ, ◌+◌, ◌<◌, Bool, true, false, not, List, [], ◌∷◌, ◌++◌, length, Ok, refl, sym, ap, ◌∙◌, subst, arith}
 use Rattle.std.specs.List.{AllByRecursion}
 use Rattle.std.proofs.lemmas.Bool.{false≢true}
-use Rattle.std.proofs.lemmas.List.{append-nil, length-append}
+use Rattle.std.proofs.lemmas.List.{length-append}
 use Rattle.asp_vault.specs.Makers.{OnlyBy}
 use Rattle.asp_core.specs.declared.event.Event.{Event}
 use Rattle.asp_core.specs.declared.event.Event.TheVariants as event
@@ -22,21 +22,6 @@ task-listed b c events is = task-run (start c.task) c.journal ∙ ap (λ (x : Bo
 pub board-listed : (b c : Booked) (events : List Event) → c ≡ with_events b events → board c ≡ run (board b) events
 board-listed b c events is =
     ap board is ∙ ap (λ (t : Task). replay t (with_events b events).journal) (task-with b events) ∙ ap (replay b.task) (journal-with b events) ∙ run-append (start b.task) b.journal events
-
-with-more : (b : Booked) (xs ys : List Event) → with_events (with_events b xs) ys ≡ with_events b (xs ++ ys)
-with-more b [] ys = refl
-with-more b (e ∷ xs) [] = ap (λ (l : List Event). with_events b (e ∷ l)) (sym (append-nil xs))
-with-more b (e ∷ xs) (f ∷ ys) = ap (λ (l : List Event). record { task = b.task; journal = l }) (append_assoc b.journal (e ∷ xs) (f ∷ ys))
-
-deliveries-push : (by : ℕ) (xs : List Listing) (x : Listing) → deliveries by (xs ++ x ∷ []) ≡ deliveries by xs ++ event.Deliver by x.set ∷ []
-deliveries-push by [] x = refl
-deliveries-push by (y ∷ xs) x = ap (λ (l : List Event). event.Deliver by y.set ∷ l) (deliveries-push by xs x)
-
--- one more was delivered
-pub listed-more : (b c d : Booked) (by : ℕ) (xs : List Listing) (x : Listing) (r : Bool) → c ≡ with_events b (deliveries by xs) → r ≡ true → d ≡ with_events c (delivered by x.set r) → d ≡ with_events b (deliveries by (xs ++ x ∷ []))
-listed-more b c d by xs x true is e now =
-    now ∙ ap (λ (k : Booked). with_events k (event.Deliver by x.set ∷ [])) is ∙ with-more b (deliveries by xs) (event.Deliver by x.set ∷ []) ∙ ap (with_events b) (sym (deliveries-push by xs x))
-listed-more b c d by xs x false is e now = absurd (false≢true e)
 
 pub full : (b r : Bool) → r ≡ not b → r ≡ false → b ≡ true
 full true r is e = refl
@@ -59,13 +44,6 @@ less-front : (xs : List Listing) (x : Listing) (ys : List Listing) → length xs
 less-front xs x ys = omega (arith, length-append xs (x ∷ ys))
 
 -- ---- what the reply says
-pub lists-all : (by : ℕ) (b : Board) (found front : List Listing) → front ≡ found → Lists by b found (Ok true) front
-lists-all by b found front is = record {
-  begins = ([], append-nil front ∙ is);
-  all = λ e. is;
-  enough = λ e. absurd (false≢true (sym e));
-}
-
 pub lists-enough : (by : ℕ) (b : Board) (found front : List Listing) (x : Listing) (ys : List Listing) → found ≡ front ++ x ∷ ys → is_enough (run b (deliveries by front)) ≡ true → Lists by b found (Ok false) front
 lists-enough by b found front x ys is enough = record {
   begins = (x ∷ ys, sym is);

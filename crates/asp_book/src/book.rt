@@ -1,8 +1,7 @@
 //! The book: a board with the journal of the events that led to it.
-ghost use Rattle.std.specs.Prelude.{◌≡◌, ◌≢◌, ◌+◌, ◌<◌, ◌≤◌, ◌↔◌, ◌==◌, if◌then◌else◌, not, min, true, false, List, [], ◌∷◌, length, slice_get, option_map, Some, None, IfOk, OnOk, OnErr, IsTrue, IsSome};
+ghost use Rattle.std.specs.Prelude.{◌≡◌, ◌+◌, ◌<◌, ◌≤◌, ◌↔◌, ◌==◌, if◌then◌else◌, not, min, true, false, List, [], ◌∷◌, length, slice_get, option_map, Some, None, IfOk, OnOk, OnErr, IsTrue};
 ghost use Rattle.std.specs.List.{AllByRecursion};
-ghost use Rattle.std.specs.Option.{IfSome};
-ghost use Rattle.asp_model.specs.Costs.{cost, betters};
+ghost use Rattle.asp_model.specs.Costs.{cost};
 ghost use Rattle.asp_model.specs.Models.{atoms_of};
 ghost use Rattle.asp_rows.specs.Listed.{IsRowFor};
 ghost use Rattle.asp_vars.specs.Conflicts.{has_all};

@@ -3,7 +3,7 @@
 //! The book lies in a vault. A call takes it, makes the book's call by the seat's number, and gives it back: the give is the
 //! moment of the call. What a call asks of the board, it asks of the board that the events seen by its seat lead to; what
 //! other seats did since then ends none of that.
-ghost use Rattle.std.specs.Prelude.{◌≡◌, ◌+◌, ◌<◌, ◌↔◌, min, true, false, not, List, [], ◌∷◌, ◌++◌, length, slice_get, option_map, Some, None, IfOk, OnOk, OnErr, IsTrue};
+ghost use Rattle.std.specs.Prelude.{◌≡◌, ◌<◌, ◌↔◌, min, true, false, not, List, [], ◌∷◌, length, slice_get, option_map, Some, None, IfOk, OnOk, OnErr, IsTrue};
 ghost use Rattle.std.specs.List.{AllByRecursion};
 ghost use Rattle.asp_model.specs.Costs.{cost};
 ghost use Rattle.asp_model.specs.Models.{atoms_of};
@@ -12,7 +12,6 @@ ghost use Rattle.asp_vars.specs.Conflicts.{has_all};
 ghost use Rattle.asp_vars.specs.Entailment.{HitsOnly};
 ghost use Rattle.asp_path.specs.declared.status.Status.TheVariants as status;
 ghost use Rattle.asp_path.specs.Trees.{cube_of, status_of, is_open, open_from, held_count};
-ghost use Rattle.asp_vault.specs.Makers.{OnlyBy};
 ghost use Rattle.asp_vault.specs.Moments.{Stays};
 ghost use Rattle.asp_vault.specs.Rules.{given_back as gave_back};
 ghost use Rattle.asp_vault.specs.Seats.{view, IsOf, IsBeside};
@@ -21,7 +20,7 @@ ghost use Rattle.asp_core.specs.declared.event.Event.TheVariants as event;
 ghost use Rattle.asp_core.specs.Units.{out_of};
 ghost use Rattle.asp_core.specs.Boards.{is_answer, lists, optimises, is_excused, is_enough, known_of, sought};
 ghost use Rattle.asp_core.specs.Events.{held_by, has_var, IsVariable, replay};
-ghost use Rattle.asp_book.specs.Books.{signed, IsJournalOf};
+ghost use Rattle.asp_book.specs.Books.{IsJournalOf};
 ghost use Rattle.asp_book.specs.Calls.{task_of, seen_board, IsCall, Adds};
 ghost use Rattle.asp_book.specs.Fuels.{ComesBack};
 ghost use Rattle.asp_book.specs.declared.listing.Listing.{Listing as Listed};

@@ -128,13 +128,6 @@ length_with : (z : List (Option Bool)) (x : ℕ) (o : Option Bool) → length (w
 length_with z x None = refl
 length_with z x (Some b) = length-set z x (Some b)
 
-length_from : (a z : List (Option Bool)) (vs : List ℕ) → length (fold (gain a) z vs) ≡ length z
-length_from a z [] = refl
-length_from a z (x ∷ vs) = length_from a (gain a z x) vs ∙ length_with z x (value_of a x)
-
-pub length_only : (a : List (Option Bool)) (vs : List ℕ) → length (only a vs) ≡ length a
-length_only a vs = length_from a (replicate (length a) None) vs ∙ length-replicate {A = Option Bool} (length a) None
-
 other_with : (z : List (Option Bool)) (x v : ℕ) (o : Option Bool) → v ≢ x → value_of (with_value z x o) v ≡ value_of z v
 other_with z x v None ne = refl
 other_with z x v (Some b) ne = get_or-set_other z x v (Some b) None ne

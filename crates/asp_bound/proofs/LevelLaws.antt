@@ -1,8 +1,7 @@
 -- The tables, priority by priority.
-use Rattle.std.proofs.Common.{◌≡◌, ℕ, zero, suc, ◌+◌, ◌*◌, ◌/◌, ◌%◌, ◌^◌, ◌<◌, ◌≤◌, Bool, true, false, cond, eqb, ltb, List, [], ◌∷◌, ◌++◌, map, length, get_or, take, sum_by, Option, None, ℤ, pos, negsuc, neg_ℤ, refl, sym, ap, ◌∙◌, subst, inl, inr, arith, add-one}
+use Rattle.std.proofs.Common.{◌≡◌, ℕ, zero, suc, ◌+◌, ◌*◌, ◌/◌, ◌%◌, ◌^◌, ◌<◌, ◌≤◌, Bool, true, false, cond, eqb, ltb, List, [], ◌∷◌, ◌++◌, map, length, get_or, take, sum_by, Option, None, ℤ, pos, negsuc, neg_ℤ, refl, sym, ap, ◌∙◌, subst, inl, inr, arith}
 use Rattle.std.specs.List.{All, AllPairs, Contains}
 use Rattle.std.specs.List.Sorted.{IsPermutation}
-use Rattle.std.specs.Int.RustNames.{unsigned_abs}
 use Rattle.std.proofs.lemmas.Int.{ints}
 use Rattle.std.proofs.lemmas.Bool.{cases_eq, cases_lt, eq-eqb, ne_eqb, false≢true, ltb-false, lt-ltb}
 use Rattle.std.proofs.lemmas.List.{length-append, length-map, get_or-map, get_or-replicate, length_push, get_or_push, get_or_append_left, map_push, take_more, length-take-le}
@@ -23,7 +22,7 @@ use Rattle.asp_bound.specs.Weights.{size_of, AreWeights}
 use Rattle.asp_bound.specs.Levels.{most_of, addition_of, additions_of, additions_to, weight_true, weight_false, added_by, added_at, item_of, place_of, ArePlaced, least_to}
 use Rattle.asp_bound.specs.Starts.{IsLinked}
 use Rattle.asp_bound.specs.Gathered.{valueless, IsGathered, AreGathered}
-use Rattle.asp_bound.proofs.CostLaws.{optimistic_at-low, weight_in-small, rise_at-small}
+use Rattle.asp_bound.proofs.CostLaws.{optimistic_at-low, rise_at-small}
 use Rattle.asp_bound.proofs.SumLaws.{sum_to-same}
 
 -- ---- the weights of a variable's literals
@@ -90,13 +89,6 @@ additions-few v t f = additions_by (ltb 0 (most_of t f))
 -- ---- what the variables add
 abbrev addition_at : List ℤ → ℕ → Addition
 addition_at weights v = addition_of v (weight_true weights v) (weight_false weights v)
-
-pub additions_to-step : (weights : List ℤ) (old new : List Addition) (i : ℕ) (t f : ℤ) → old ≡ additions_to weights i → new ≡ old ++ additions_of (i + 1) t f → t ≡ weight_true weights (i + 1) → f ≡ weight_false weights (i + 1) → new ≡ additions_to weights (i + 1)
-additions_to-step weights old new i t f before made et ef =
-    let A = additions_to weights i in
-    let P : ℕ → Type 0 = λ (k : ℕ). additions_to weights k ≡ A ++ additions_of k (weight_true weights k) (weight_false weights k) in
-    let more : P (i + 1) = subst P (sym (add-one i)) refl in
-    made ∙ (ap (λ (o : List Addition). o ++ additions_of (i + 1) t f) before ∙ (ap (λ (x : ℤ). A ++ additions_of (i + 1) x f) et ∙ (ap (λ (x : ℤ). A ++ additions_of (i + 1) (weight_true weights (i + 1)) x) ef ∙ sym more)))
 
 pub additions_to-few : (weights : List ℤ) (n : ℕ) → length (additions_to weights n) ≤ n
 additions_to-few weights zero = omega arith
@@ -168,29 +160,6 @@ least_to-is p q weights are =
 
 pub least_to-small : (p : Program) (q : ℤ) (weights : List ℤ) → AreWeights p (items_at p.minimize q) weights → size_of (items_at p.minimize q) ≤ 2 ^ 55 → least_to weights (var_count p) < 2 ^ 60
 least_to-small p q weights are small = omega (arith, ints, least_to-is p q weights are, optimistic_at-low p (valueless p) q)
-
-pub least_to-le : (weights : List ℤ) (i n : ℕ) → i ≤ n → least_to weights i ≤ least_to weights n
-least_to-le weights i zero le =
-    let e : i ≡ 0 = omega arith in
-    subst (λ (k : ℕ). least_to weights k ≤ 0) (sym e) (omega arith)
-least_to-le weights i (suc n) le = elim (cases_eq i (suc n)) [
-  | inl e ↦ subst (λ (k : ℕ). least_to weights k ≤ least_to weights (suc n)) (sym e) (omega arith)
-  | inr ne ↦ (
-      let within : i ≤ n = omega arith in
-      omega (arith, least_to-le weights i n within))
-]
-
--- what a variable costs more than those before it, within what all cost
-pub least_to-room : (weights : List ℤ) (i n : ℕ) → i < n → least_to weights i + (beneath (weight_true weights (i + 1)) + beneath (weight_false weights (i + 1))) ≤ least_to weights n
-least_to-room weights i n lt =
-    subst (λ (k : ℕ). least_to weights i + (beneath (weight_true weights k) + beneath (weight_false weights k)) ≤ least_to weights n) (sym (add-one i)) (omega (arith, least_to-le weights (suc i) n (omega arith)))
-
--- each weight is small
-pub weights-small : (p : Program) (q : ℤ) (weights : List ℤ) (c : ℕ) → AreWeights p (items_at p.minimize q) weights → size_of (items_at p.minimize q) ≤ 2 ^ 55 → c < length weights → unsigned_abs (get_or weights c (pos 0)) < 2 ^ 56
-weights-small p q weights c are small lt =
-    let is = are.each c (omega (arith, are.count)) in
-    let le : unsigned_abs (get_or weights c (pos 0)) ≤ size_of (items_at p.minimize q) = subst (λ (w : ℤ). unsigned_abs w ≤ size_of (items_at p.minimize q)) (sym is) (weight_in-small (atoms_of p) (items_at p.minimize q) (literal_by c)) in
-    omega (arith, le, small)
 
 -- ---- a priority's tables
 -- the same variables in another order

@@ -298,10 +298,6 @@ given_with_as p a rows columns vars sums kept vs are c s limits x n lits found l
     let is : lits ≡ needed rows c x.depth left found = elits ∙ ap (λ (k : List ℤ). needed rows k x.depth left found) el in
     given-with p a rows columns vars sums kept vs are c x n found left moved more reaches within.0 (omega (arith, kept.sized, within.1)) (e ∙ ap (λ (ls : List Literal). nogood_of c (ls ++ x.lit ∷ [])) is)
 
-pub found_as : (a : List (Option Bool)) (rows : List (List Place)) (d : ℕ) (vars vs : List ℕ) (lits found : List Literal) → vs ≡ vars → IsPermutation (raising_of a rows d vs) lits → found ≡ lits → IsPermutation (raising_of a rows d vars) found
-found_as a rows d vars vs lits found ev moved ef =
-    subst (λ (ws : List ℕ). IsPermutation (raising_of a rows d ws) found) ev (subst (IsPermutation (raising_of a rows d vs)) (sym ef) moved)
-
 -- ---- what the search for what is needed asks for
 left-vars : (p : Program) (a : List (Option Bool)) (rows : List (List Place)) (columns : List (List Item)) (vars : List ℕ) (left : List ℤ) (found : List Literal) → IsKept p a rows columns vars left → AreHeld p a found → All (λ (l : Literal). (0 < l.var) × (l.var < length rows)) found
 left-vars p a rows columns vars left found kept held = all-has (λ (l : Literal). (0 < l.var) × (l.var < length rows)) found (λ k g. ((held.within k g).0, omega (arith, kept.rowed.count, (held.within k g).1)))

@@ -315,6 +315,3 @@ pub begun_as : (a : List (Option Bool)) (n : ℕ) (rows : List (List Place)) (va
 begun_as a n rows vars new room ea en er =
     let begun : Keeps (replicate n None) rows vars (line [] room) = (raisers-new n rows, omega (arith, er)) in
     subst (λ (y : List (Option Bool)). Keeps y rows vars new) (sym ea) (subst (λ (k : Line). Keeps (replicate n None) rows vars k) (sym en) begun)
-
-pub within_as : (a : List (Option Bool)) (rows : List (List Place)) (vs ss : List ℕ) → AreRaisers a rows vs → ss ≡ vs → All (λ v. v < length a) ss
-within_as a rows vs ss are es = subst (All (λ v. v < length a)) (sym es) (All-weaker (λ v. (0 < v) × (v < length a)) (λ v. v < length a) (λ v h. h.1) vs are.within)

@@ -2,33 +2,15 @@
 use Rattle.std.proofs.Common.{◌≡◌, ℕ, ◌+◌, ◌<◌, ◌≤◌, Bool, List, [], length, get_or, set, replicate, min, Option, Some, None, IsSome, refl, sym, ap, ◌∙◌, subst, inl, inr, arith, get_or-set_other, get_or-set_same}
 use Rattle.std.specs.List.{All, Contains}
 use Rattle.std.proofs.lemmas.Bool.{cases_eq, cases_lt}
-use Rattle.std.proofs.lemmas.List.{length-set, length-replicate, get_or-replicate, get_or_default}
+use Rattle.std.proofs.lemmas.List.{length-replicate, get_or-replicate, get_or_default}
 use Rattle.std.proofs.lemmas.List.Elements.{All-contains}
 use Rattle.asp_vars.specs.Literals.{value_of}
 use Rattle.asp_bound.specs.declared.place.Place.{Place}
 use Rattle.asp_bound.specs.declared.place.Item.{Item}
 use Rattle.asp_bound.specs.Rises.{row_at}
-use Rattle.asp_bound.specs.Starts.{ArePassed, AreStarts, AreLinked}
+use Rattle.asp_bound.specs.Starts.{AreStarts, AreLinked}
 
 -- ---- a start moves on
-pub passed-more : (a : List (Option Bool)) (column : List Item) (n : ℕ) (x : Item) → n < length column → get_or column n x ≡ x → ArePassed a column n → IsSome (value_of a x.var) → ArePassed a column (n + 1)
-passed-more a column n x lt is before here = λ i d low within. elim (cases_lt i n) [
-  | inl less ↦ before i d less within
-  | inr out ↦ (
-      let e : n ≡ i = omega arith in
-      let same : get_or column n d ≡ x = get_or_default column n d x lt ∙ is in
-      subst (λ (m : ℕ). IsSome (value_of a (get_or column m d).var)) e (subst (λ (y : Item). IsSome (value_of a y.var)) (sym same) here))
-]
-
-pub starts-set : (a : List (Option Bool)) (columns : List (List Item)) (starts new : List ℕ) (j s : ℕ) → AreStarts a columns starts → j < length columns → ArePassed a (get_or columns j []) s → new ≡ set starts j s → AreStarts a columns new
-starts-set a columns starts new j s are lt passed made = record {
-  count = ap length made ∙ (length-set starts j s ∙ are.count);
-  passed = λ k within. subst (ArePassed a (get_or columns k [])) (sym (ap (λ (xs : List ℕ). get_or xs k 0) made)) (elim (cases_eq j k) [
-    | inl e ↦ subst (λ (m : ℕ). ArePassed a (get_or columns m []) (get_or (set starts j s) m 0)) e (subst (ArePassed a (get_or columns j [])) (sym (get_or-set_same starts j s 0 (omega (arith, are.count, lt)))) passed)
-    | inr ne ↦ subst (ArePassed a (get_or columns k [])) (sym (get_or-set_other starts j k s 0 (λ (e : k ≡ j). ne (sym e)))) (are.passed k within)
-  ]);
-}
-
 -- ---- starts go back
 abbrev pub AreBack : (Place → ℕ) → List ℕ → List Place → ℕ → Type 0
 AreBack f starts row n = (k : ℕ) (d : Place) → k < n → get_or starts (get_or row k d).level 0 ≤ f (get_or row k d)
@@ -56,20 +38,6 @@ back-more f starts new row n x lt low is before made = λ k d within.
           let same : get_or (set starts x.level w) y.level 0 ≡ w = ap (λ (o : Place). get_or (set starts x.level w) o.level 0) here ∙ get_or-set_same starts x.level w 0 low in
           let more : f y ≡ f x = ap f here in
           omega (arith, at, same, more))
-    ]
-
-pub back-lower : (starts new : List ℕ) (l p j : ℕ) → l < length starts → new ≡ set starts l (min (get_or starts l 0) p) → get_or new j 0 ≤ get_or starts j 0
-back-lower starts new l p j low made =
-    let w : ℕ = min (get_or starts l 0) p in
-    let at : get_or new j 0 ≡ get_or (set starts l w) j 0 = ap (λ (xs : List ℕ). get_or xs j 0) made in
-    elim (cases_eq l j) [
-      | inl e ↦ (
-          let same : get_or (set starts l w) j 0 ≡ w = subst (λ (m : ℕ). get_or (set starts l w) m 0 ≡ w) e (get_or-set_same starts l w 0 low) in
-          let from : get_or starts l 0 ≡ get_or starts j 0 = ap (λ (m : ℕ). get_or starts m 0) e in
-          omega (arith, at, same, from))
-      | inr ne ↦ (
-          let there : get_or (set starts l w) j 0 ≡ get_or starts j 0 = get_or-set_other starts l j w 0 (λ (e : j ≡ l). ne (sym e)) in
-          omega (arith, at, there))
     ]
 
 -- ---- a value comes, and goes

@@ -194,16 +194,9 @@ taken-more p items i x old additions new ws next least more v n lt taken is up l
     let b = subst (λ (z : List ℤ). IsTaken p (drop (i + 1) items) old new z (least + least_by ws v)) (sym ew) a in
     subst (IsTaken p (drop (i + 1) items) old new next) (sym (es ∙ ap (λ (m : ℕ). least + m) em)) b
 
--- a variable's least cost has room beside what was taken
-pub taken-room : (p : Program) (items : List (ℤ × ℤ)) (old : List ℤ) (additions : List Addition) (ws : List ℤ) (least v : ℕ) → IsTaken p items old additions ws least → 0 < v → v ≤ var_count p → least + least_by ws v ≤ least_to old (var_count p)
-taken-room p items old additions ws least v taken up le = omega (arith, taken.sum, least-without ws v (var_count p) up le (omega (arith, taken.count)))
-
 -- nothing is left
 all_none : (p : Program) (old : List ℤ) (additions : List Addition) (ws : List ℤ) (least : ℕ) → IsTaken p [] old additions ws least → AreNone ws
 all_none p old additions ws least taken = λ c. taken.left c refl
-
-pub taken-blank : (p : Program) (old : List ℤ) (additions : List Addition) (ws : List ℤ) (least : ℕ) → IsTaken p [] old additions ws least → AreWeights p [] ws
-taken-blank p old additions ws least taken = record { count = taken.count; each = λ c lt. taken.left c refl }
 
 pub taken-permuted : (p : Program) (old : List ℤ) (additions : List Addition) (ws : List ℤ) (least : ℕ) → IsTaken p [] old additions ws least → IsPermutation (additions_to old (var_count p)) additions
 taken-permuted p old additions ws least taken =

@@ -1,5 +1,5 @@
 -- The values that only some variables have.
-use Rattle.std.specs.Prelude.{◌≡◌, ℕ, ◌-◌, ◌<◌, ◌≤◌, ◌==◌, Bool, true, List, length, fold, replicate, slice_set, Option, Some, None}
+use Rattle.std.specs.Prelude.{◌≡◌, ℕ, ◌<◌, ◌≤◌, ◌==◌, Bool, true, List, length, fold, replicate, slice_set, Option, Some, None}
 use Rattle.std.specs.List.{All, list_any}
 use Rattle.asp_vars.specs.Literals.{value_of}
 use Rattle.asp_bound.specs.declared.place.Place.{Place}

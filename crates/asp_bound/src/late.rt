@@ -2,8 +2,7 @@
 //!
 //! The sums before the literal came are made anew, from what the variables add whose values had come before. The bound may be
 //! smaller than the one that stood then, which takes less to reach.
-ghost use Rattle.std.specs.Prelude.{◌≡◌, ◌+◌, ◌<◌, ◌≤◌, ◌^◌, ◌+ℤ◌, ◌<ℤ◌, Bool, List, Option, Some, IfOk, length, take, slice_index_or};
-ghost use Rattle.std.specs.List.{All};
+ghost use Rattle.std.specs.Prelude.{◌≡◌, ◌+◌, ◌<◌, Bool, List, Option, Some, IfOk, length, take, slice_index_or};
 ghost use Rattle.asp_trail.specs.declared.trail.Entry.{Entry};
 ghost use Rattle.asp_trail.specs.Reasons.{IsReason};
 ghost use Rattle.asp_vars.specs.Numbering.{var_count};

@@ -10,7 +10,6 @@ ghost use Rattle.asp_model.specs.Models.{atoms_of};
 ghost use Rattle.asp_vars.specs.Numbering.{var_count};
 ghost use Rattle.asp_bound.specs.Levels.{additions_of, additions_to, weight_true, weight_false, without, item_of, place_of, least_by, least_to, ArePlaced};
 ghost use Rattle.asp_bound.specs.Weights.{size_of, AreWeights};
-ghost use Rattle.asp_bound.specs.Optimism.{optimistic};
 ghost use Rattle.asp_bound.specs.Rises.{row_at};
 ghost use Rattle.asp_bound.specs.Kept.{IsOnce};
 ghost use Rattle.asp_bound.specs.Gathered.{IsGathered, AreGathered, HasEach};

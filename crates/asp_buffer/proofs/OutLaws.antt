@@ -101,11 +101,6 @@ midway_fails Q a b c e r all rest bytes others m p is err =
     let whole : (m.text ++ bytes) ++ others ≡ all = append_assoc m.text bytes others ∙ ap (λ (t : List ℕ). m.text ++ t) (sym is) ∙ m.same in
     subst (λ (t : List ℕ). Puts a c r t) whole (puts_fails Q a c e r (m.text ++ bytes) others (puts_then a b c tt (Err e) m.text bytes m.went p) err)
 
-pub midway_end : {E : Type 0} (a b : Out) (all rest : List ℕ) → Midway a b all rest → rest ≡ [] → Puts {T = Unit {0}} {E = E} a b (Ok tt) all
-midway_end {E = E} a b all rest m e =
-    let whole : m.text ≡ all = sym (append-nil m.text) ∙ ap (λ (t : List ℕ). m.text ++ t) (sym e) ∙ m.same in
-    subst (λ (t : List ℕ). Puts {T = Unit {0}} {E = E} a b (Ok tt) t) whole (record { all = m.went.all; front = tt; later = m.went.later; cause = tt; quiet = m.went.quiet })
-
 -- an element, and those behind it
 pub drop_turn : {A : Type 0} (xs : List A) (i : ℕ) (x : A) → i < length xs → x ≡ get_or xs i x → drop i xs ≡ x ∷ drop (i + 1) xs
 drop_turn xs i x lt is = rw (add-one, drop-cons xs i x) (ap (λ y. y ∷ drop (suc i) xs) (sym is))

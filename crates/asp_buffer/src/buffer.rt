@@ -1,7 +1,5 @@
 //! Bytes on their way to a sink: they wait in a buffer of fixed size, so that the sink is called for large pieces alone.
-ghost use Rattle.std.specs.Prelude.{◌≡◌, ◌+◌, ◌++◌, ◌∷◌, ◌≤◌, [], length, nat_le, OnOk, OnErr};
-ghost use Rattle.std.specs.Io.KnownBytes.{Appends};
-ghost use Rattle.asp_io.specs.Causes.{Rose, AppendsFront};
+ghost use Rattle.std.specs.Prelude.{◌≡◌, ◌+◌, ◌++◌, ◌≤◌, [], length, nat_le, OnOk};
 ghost use Rattle.asp_buffer.specs.Out.{Puts, out};
 
 use asp_io::{Failed, Sink, write_all};

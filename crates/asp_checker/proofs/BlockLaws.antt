@@ -94,9 +94,6 @@ blocked-more p bound x y sound within e = elim (or_cases (list_any (is_broken p 
 ]
 
 -- ---- what blocks is a conflict
-hit_by : List (Option Bool) → List (List Literal) → Bool
-hit_by x ns = list_any (λ n. list_all (holds_in x) n) ns
-
 pub free-of : (p : Program) (k : Known) (x : List (Option Bool)) → has_conflict p k x ≡ false → is_blocked p k.bound x ≡ false
 free-of p k x e =
     let first = or_parts (list_any (λ n. list_all (holds_in x) n) k.nogoods || list_any (is_broken p x) (bodies_of p)) (reaches_bound p k.bound x) e in

@@ -6,13 +6,12 @@ use Rattle.std.proofs.lemmas.Bool.{or_left, or_right}
 use Rattle.std.proofs.lemmas.Int.{ints}
 use Rattle.std.proofs.lemmas.List.{take_all}
 use Rattle.std.proofs.lemmas.List.Folds.{list_any_more}
-use Rattle.std.proofs.lemmas.List.Elements.{All-weaker}
 use Rattle.asp_model.specs.declared.program.Body.{Body}
 use Rattle.asp_model.specs.declared.program.Body.TheVariants as body
 use Rattle.asp_model.specs.declared.program.Program.{Program}
 use Rattle.asp_vars.specs.Literals.{Literal, T, F, agrees, value_of, holds_in}
-use Rattle.asp_vars.specs.Numbering.{var_count, var_of_form, literal_of}
-use Rattle.asp_vars.specs.Tabled.{bound_of, form_literals, form_weights, IsAtomVar}
+use Rattle.asp_vars.specs.Numbering.{var_of_form, literal_of}
+use Rattle.asp_vars.specs.Tabled.{bound_of, form_literals, form_weights}
 use Rattle.asp_loop.specs.Weighing.{weigh}
 use Rattle.asp_checker.specs.Propagation.{may_hold, weight_by, is_broken}
 
@@ -65,6 +64,3 @@ broken_by p x (body.AtLeast bound items) c o e is =
 pub unbounded : (p : Program) (x : List (Option Bool)) (b : Body) → bound_of b ≡ None → is_broken p x b ≡ false
 unbounded p x (body.All literals) e = refl
 unbounded p x (body.AtLeast bound items) e = cc e
-
-pub literals_fit : (p : Program) (lits : List Literal) (n : ℕ) → n ≡ var_count p + 1 → All (λ l. IsAtomVar p l.var) lits → All (λ l. l.var < n) lits
-literals_fit p lits n size h = All-weaker (λ (l : Literal). IsAtomVar p l.var) (λ l. l.var < n) (λ l a. let small = a.1 in omega (arith, small, size)) lits h

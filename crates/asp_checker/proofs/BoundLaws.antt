@@ -73,9 +73,6 @@ cmp-equal s c e f = grind (arith, ints)
 pub record CompareFrom (sums cost : List ℤ) (i : ℕ) : Type 0 where
   pub same : slice_cmp int_cmp sums cost ≡ slice_cmp int_cmp (drop i sums) (drop i cost)
 
-pub compare_first : (sums cost : List ℤ) → CompareFrom sums cost 0
-compare_first sums cost = record { same = refl }
-
 step : (sums cost : List ℤ) (i : ℕ) (s c : ℤ) (o : Ordering) → i < length sums → i < length cost → s ≡ get_or sums i (pos 0) → c ≡ get_or cost i (pos 0) → int_cmp s c ≡ o → CompareFrom sums cost i →
     slice_cmp int_cmp sums cost ≡ ordering_then o (slice_cmp int_cmp (drop (i + 1) sums) (drop (i + 1) cost))
 step sums cost i s c o lt lt' es ec eo h =
@@ -98,9 +95,6 @@ past [] (suc i) le = refl
 past (x ∷ xs) zero le = absurd (omega arith)
 past (x ∷ xs) (suc i) le = past xs i (omega arith)
 
-pub compare_last : (sums cost : List ℤ) (i : ℕ) → length sums ≤ i → length cost ≤ i → CompareFrom sums cost i → true ≡ not (betters sums cost)
-compare_last sums cost i le le' h = sym (ap (λ o. not (is_lt o)) (h.same ∙ ap (λ l. slice_cmp int_cmp l (drop i cost)) (past sums i le) ∙ ap (λ l. slice_cmp int_cmp [] l) (past cost i le')))
-
 -- ---- one variable more
 pub level_more : (x : List (Option Bool)) (w : List ℤ) (n v place : ℕ) (s r new : ℤ) → v ≡ n + 1 → place ≡ 2 * v → s ≡ level_sum x n w → r ≡ least (value_of x v) (get_or w place (pos 0)) (get_or w (place + 1) (pos 0)) → new ≡ s +ℤ r → new ≡ level_sum x (n + 1) w
 level_more x w n v place s r new ev ep es er en =
@@ -111,8 +105,3 @@ level_more x w n v place s r new ev ep es er en =
 
 pub sum_at : (x : List (Option Bool)) (n : ℕ) (levels : List (List ℤ)) (i : ℕ) (w : List ℤ) (s : ℤ) → i < length levels → w ≡ get_or levels i w → s ≡ level_sum x n w → s ≡ get_or (map (level_sum x n) levels) i (pos 0)
 sum_at x n levels i w s lt is e = e ∙ ap (level_sum x n) is ∙ sym (get_or-map (level_sum x n) levels i w (pos 0) lt)
-
-pub level_long : (n : ℕ) (levels : List (List ℤ)) (i : ℕ) (w : List ℤ) → i < length levels → w ≡ get_or levels i w → AllByRecursion (λ v. length v ≡ n) levels → length w ≡ n
-level_long n [] i w lt is h = absurd (omega arith)
-level_long n (v ∷ levels) zero w lt is h = ap length is ∙ h.0
-level_long n (v ∷ levels) (suc i) w lt is h = level_long n levels i w (omega arith) is h.1

@@ -1,5 +1,5 @@
 -- Values that follow one after another, as hints lead.
-use Rattle.std.proofs.Common.{◌≡◌, ◌≢◌, ℕ, zero, suc, ◌+◌, ◌<◌, ◌≤◌, Bool, true, false, not, ◌||◌, eqb, List, [], ◌∷◌, ◌++◌, length, take, get_or, get_or-set_same, get_or-set_other, refl, sym, ap, ◌∙◌, subst, arith, Option, Some, None, set, replicate}
+use Rattle.std.proofs.Common.{◌≡◌, ◌≢◌, ℕ, zero, suc, ◌+◌, ◌<◌, Bool, true, false, not, ◌||◌, eqb, List, [], ◌∷◌, ◌++◌, length, take, get_or, get_or-set_other, refl, sym, ap, ◌∙◌, subst, Option, Some, None, set, replicate}
 use Rattle.std.specs.Prelude.{ℤ}
 use Rattle.std.specs.List.{list_all, list_any}
 use Rattle.std.proofs.lemmas.Bool.{false≢true, or_parts, eqb-true, eq-eqb}
@@ -102,25 +102,6 @@ valueless : (m v : ℕ) → value_of (replicate m None) v ≡ None
 valueless zero v = refl
 valueless (suc m) zero = refl
 valueless (suc m) (suc v) = valueless m v
-
-pub empty_within : (m : ℕ) (x y : List (Option Bool)) → x ≡ replicate m None → AreWithin x y
-empty_within m x y e v b is = absurd (no_some b (sym (ap (λ z. value_of z v) e ∙ valueless m v) ∙ is))
-
-pub none_beyond : (x : List (Option Bool)) (v : ℕ) → length x ≤ v → value_of x v ≡ None
-none_beyond [] v le = refl
-none_beyond (o ∷ x) zero le = absurd (omega arith)
-none_beyond (o ∷ x) (suc v) le = none_beyond x v (omega arith)
-
-pub within_unset : (x : List (Option Bool)) (v : ℕ) → v < length x → AreWithin (set x v None) x
-within_unset x v inside u c e = cases (eqb u v) refl
-  where
-    cases : (t : Bool) → t ≡ eqb u v → value_of x u ≡ Some c
-    cases true q =
-        let here : value_of (set x v None) v ≡ None = get_or-set_same x v None None inside in
-        absurd (no_some c (sym here ∙ ap (value_of (set x v None)) (sym (eqb-true u v (sym q))) ∙ e))
-    cases false q =
-        let apart : u ≢ v = λ same. false≢true (q ∙ eq-eqb u v same) in
-        sym (get_or-set_other x v u None None apart) ∙ e
 
 none_within : (y z : List (Option Bool)) (v : ℕ) → AreWithin y z → value_of z v ≡ None → value_of y v ≡ None
 none_within y z v within none = cases (value_of y v) refl

@@ -123,9 +123,6 @@ pub optimistic-assigned : (p : Program) (S : Atoms) → optimistic p (assigned p
 optimistic-assigned p S = optimistic-whole p (assigned p S) (values p S) (λ v i le. value-assigned p S v le) ∙ cost_of-values p S
 
 -- ---- the values of a set without a conflict are propagated
-pub AreMissed : Program → Atoms → List (List Literal) → Type 0
-AreMissed p S nogoods = AllByRecursion (λ n. hits (values p S) n ≡ false) nogoods
-
 missed : (p : Program) (S : Atoms) (ns : List (List Literal)) → AllByRecursion (λ n. hits (values p S) n ≡ false) ns → AllByRecursion (λ n. list_all (holds_in (assigned p S)) n ≡ false) ns
 missed p S [] h = tt
 missed p S (n ∷ ns) h = (cases (list_all (holds_in (assigned p S)) n) refl, missed p S ns h.1)

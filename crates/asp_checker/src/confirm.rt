@@ -1,5 +1,5 @@
 //! Whether unit propagation from a line's literals leads to a conflict.
-ghost use Rattle.std.specs.Prelude.{◌≡◌, ◌+◌, ◌<◌, true, false, All, IfOk, OnOk, [], length};
+ghost use Rattle.std.specs.Prelude.{◌≡◌, ◌+◌, ◌<◌, true, false, All, IfOk, OnOk, length};
 ghost use Rattle.std.specs.List.{AllByRecursion};
 ghost use Rattle.asp_vars.specs.Numbering.{var_count};
 ghost use Rattle.asp_checker.specs.Propagation.{LeadsToConflict};
@@ -7,7 +7,7 @@ ghost use Rattle.asp_checker.specs.Lines.{AreOf};
 ghost use Rattle.asp_checker.specs.Blocks.{HasLevels, known_with};
 ghost use Rattle.asp_checker.specs.Assuming.{IsAssumed, AreAssumed};
 ghost use Rattle.asp_checker.specs.Steps.{Follow};
-ghost use Rattle.asp_checker.specs.Chasing.{IsRoot, IsTrailed, IsTrailedAlike};
+ghost use Rattle.asp_checker.specs.Chasing.{IsRoot, IsTrailedAlike};
 
 use crate::bounds::Bound;
 use crate::chase::chase;

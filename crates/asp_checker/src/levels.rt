@@ -6,7 +6,6 @@ ghost use Rattle.std.specs.Ordering.{int_eq};
 ghost use Rattle.asp_model.specs.Sets.{has};
 ghost use Rattle.asp_model.specs.Holding.{atom_of};
 ghost use Rattle.asp_model.specs.Models.{atoms_of};
-ghost use Rattle.asp_vars.specs.Codes.{code_of};
 ghost use Rattle.asp_vars.specs.Numbering.{literal_of, var_count};
 ghost use Rattle.asp_bound.specs.Optimism.{items_at};
 ghost use Rattle.asp_bound.specs.Weights.{size_of, AreWeights};

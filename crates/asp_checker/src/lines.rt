@@ -1,10 +1,10 @@
 //! What the literals and the sets of a proof's lines mean for the program.
-ghost use Rattle.std.specs.Prelude.{◌≡◌, ◌<◌, ◌≤◌, List, length, map, IfOk, MatchOption};
+ghost use Rattle.std.specs.Prelude.{◌≡◌, ◌<◌, map, IfOk, MatchOption};
 ghost use Rattle.std.specs.List.{list_all};
 ghost use Rattle.asp_model.specs.Sets.{has};
 ghost use Rattle.asp_model.specs.Models.{atoms_of};
 ghost use Rattle.asp_vars.specs.Literals.{has_literal};
-ghost use Rattle.asp_vars.specs.Numbering.{literal_of, var_count};
+ghost use Rattle.asp_vars.specs.Numbering.{literal_of};
 ghost use Rattle.asp_checker.specs.Lines.{signed, literals_of, IsOf, AreOf};
 
 use asp_member::merge::{skip, stands_at};

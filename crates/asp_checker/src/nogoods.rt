@@ -1,5 +1,5 @@
 //! What a nogood says under values.
-ghost use Rattle.std.specs.Prelude.{◌≡◌, ◌<◌, ◌∷◌, ◌++◌, [], List, length, All};
+ghost use Rattle.std.specs.Prelude.{◌<◌, ◌∷◌, ◌++◌, [], List, length, All};
 ghost use Rattle.asp_vars.specs.Literals.{Literal};
 ghost use Rattle.asp_checker.specs.Looks.{IsSeen, IsVisited};
 

@@ -1,6 +1,5 @@
 //! What is said on standard error.
 ghost use Rattle.std.specs.Prelude.{◌≡◌, ◌++◌, codes, decimal};
-ghost use Rattle.asp_faults.specs.Faults.{fault_text};
 ghost use Rattle.asp_faults.specs.Writing.{IsNoted, Writes};
 ghost use Rattle.asp_checkrun.specs.Given.{fault_seen};
 ghost use Rattle.asp_checkrun.specs.Notes.{check_note, misuse_note, misuse_text, note_of, program_note, proof_line, proof_note, usage_text, why_text};

@@ -13,7 +13,7 @@ use Rattle.asp_model.specs.declared.program.Program.{Program}
 use Rattle.asp_model.specs.Models.{rules_in_force, atoms_of}
 use Rattle.asp_vars.specs.declared.nogood.Nogood.{Nogood}
 use Rattle.asp_vars.specs.Literals.{Literal, complement}
-use Rattle.asp_vars.specs.Numbering.{bodies_of, literal_of, nth_atom, nth_body, nth_rule, is_wide, literal_of_form}
+use Rattle.asp_vars.specs.Numbering.{bodies_of, literal_of, nth_atom, nth_rule, is_wide, literal_of_form}
 use Rattle.asp_model.specs.Sound.{IsSound}
 use Rattle.asp_model.proofs.MemberLaws.{each-map}
 use Rattle.asp_vars.specs.Entailment.{Entailed}
@@ -35,16 +35,6 @@ body_listed p (body.AtLeast c items) e wide open_ = absurd (false≢true (sym e)
 pub barred_listed : (p : Program) (b : Body) → is_some (bound_of b) ≡ false → is_wide b ≡ true → is_barred p b ≡ true → map pure (body_nogoods p b) ≡ pure (form_literals p b) ∷ []
 barred_listed p (body.All ls) e wide barred = ap (map pure) (body_nogoods-wide p ls wide ∙ normal_nogoods-barred p ls barred)
 barred_listed p (body.AtLeast c items) e wide barred = absurd (false≢true (sym e))
-
-pub narrow_unlisted : (p : Program) (b : Body) → is_wide b ≡ false → map pure (body_nogoods p b) ≡ []
-narrow_unlisted p (body.All []) e = absurd (false≢true (sym e))
-narrow_unlisted p (body.All (l ∷ [])) e = refl
-narrow_unlisted p (body.All (l ∷ k ∷ ks)) e = absurd (false≢true (sym e))
-narrow_unlisted p (body.AtLeast c items) e = absurd (false≢true (sym e))
-
-pub body_unlisted : (p : Program) (b : Body) → is_some (bound_of b) ≡ true → map pure (body_nogoods p b) ≡ []
-body_unlisted p (body.All ls) e = absurd (false≢true e)
-body_unlisted p (body.AtLeast c items) e = refl
 
 pub map-append : (ns ms : List (List Literal)) → map pure (ns ++ ms) ≡ map pure ns ++ map pure ms
 map-append [] ms = refl
@@ -70,11 +60,6 @@ pub listed_more : {X : Type 0} (f : X → List (List Literal)) (xs : List X) (i 
 listed_more f xs i d lt = ap (λ ys. map pure (flat_map f ys)) (take_more xs i d lt) ∙ flat_map-push f (take i xs) (get_or xs i d)
 
 -- ---- groups
-
-of_body : (p : Program) (i : ℕ) → i < length (bodies_of p) → get_or (groups p) i [] ≡ body_nogoods p (nth_body p i)
-of_body p i lt =
-    let inside : i < length (map (body_nogoods p) (bodies_of p)) = omega (arith, lt, length-map (bodies_of p) (body_nogoods p)) in
-    get_or_append_left (map (body_nogoods p) (bodies_of p)) _ [] i inside ∙ get_or-map (body_nogoods p) (bodies_of p) i (body.All []) [] lt
 
 behind_bodies : (p : Program) (i : ℕ) → length (bodies_of p) ≤ i
     → get_or (groups p) i [] ≡ get_or (map (nogoods_of_rule p) (rules_in_force p) ++ map (atom_nogoods p) (atoms_of p)) (i - length (bodies_of p)) []
@@ -103,9 +88,6 @@ of_atom p i le behind lt =
 pub length-groups : (p : Program) → length (groups p) ≡ length (bodies_of p) + (length (rules_in_force p) + length (atoms_of p))
 length-groups p =
     simp (length-append, length-map) refl
-
-pub body_group : (p : Program) (i n : ℕ) → n ≡ length (bodies_of p) → i < n → get_or (groups p) i [] ≡ body_nogoods p (nth_body p i)
-body_group p i n is lt = of_body p i (omega (arith, is, lt))
 
 pub rule_group : (p : Program) (i n m : ℕ) → n ≡ length (bodies_of p) → m ≡ length (rules_in_force p) → n ≤ i → i - n < m → get_or (groups p) i [] ≡ nogoods_of_rule p (nth_rule p (i - n))
 rule_group p i n m is are le lt = rw is (of_rule p i (omega (arith, is, le)) (omega (arith, is, are, lt)))

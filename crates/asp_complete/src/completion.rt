@@ -1,8 +1,7 @@
 //! The completion as a list of nogoods, or a part of it after another.
-ghost use Rattle.std.specs.Prelude.{◌≡◌, ◌+◌, ◌<◌, ◌^◌, [], ◌∷◌, ◌++◌, IfOk, OnOk, All, map, length, slice_index_or, ◌≤◌};
-ghost use Rattle.asp_model.specs.declared.program.Program.{Program};
+ghost use Rattle.std.specs.Prelude.{◌≡◌, ◌+◌, ◌<◌, ◌^◌, [], ◌∷◌, ◌++◌, IfOk, OnOk, map, length, slice_index_or, ◌≤◌};
 ghost use Rattle.asp_model.specs.Models.{atoms_of, rules_in_force};
-ghost use Rattle.asp_vars.specs.Literals.{Literal, complement, has_literal};
+ghost use Rattle.asp_vars.specs.Literals.{complement, has_literal};
 ghost use Rattle.asp_vars.specs.Numbering.{bodies_of, nth_atom, nth_body, nth_rule};
 ghost use Rattle.asp_vars.specs.Entailment.{Entailed};
 ghost use Rattle.asp_vars.specs.Completion.{atom_nogoods, body_nogoods, completion, rule_nogoods};

@@ -163,9 +163,6 @@ apart-taken b n s is lt was none t = here (eqb s t) refl (held-changed t b.nodes
         omega (arith, e, ap (λ x. let k : ℕ = cond x 1 0 in k) z, ap (λ x. let k : ℕ = cond x 1 0 in k) q, none, ap (λ k. held_by k b.nodes) same)
     here false q e z = omega (arith, e, ap (λ x. let k : ℕ = cond x 1 0 in k) z, ap (λ x. let k : ℕ = cond x 1 0 in k) q, is.apart t)
 
-is_leaf-at : (b : Board) (n : ℕ) (s : Status) → status_of b.nodes n ≡ s → is_leaf s ≡ true → is_leaf (status_of b.nodes n) ≡ true
-is_leaf-at b n s e h = ap is_leaf e ∙ h
-
 IsBoard-split : (b : Board) (n s : ℕ) (l : Literal) → IsBoard b → Guard b (event.Split s n l) → IsBoard (record b { nodes = split b.nodes n l })
 IsBoard-split b n s l is g =
     let held : status_of b.nodes n ≡ status.Held s = g.0 in
@@ -212,10 +209,6 @@ or_none false b e = e
 pub not_false : (b : Bool) → not b ≡ false → b ≡ true
 not_false true e = refl
 not_false false e = sym e
-
-pub done-delivered : (p : Program) (K : List Atoms) (c : Option (List ℤ)) (S T : Atoms) → is_done p K c T ≡ true → is_done p (K ++ S ∷ []) c T ≡ true
-done-delivered p K None S T h = ap (λ x. x || false) (list_any-append (same_set T) K (S ∷ [])) ∙ or_more (list_any (same_set T) K) (list_any (same_set T) (S ∷ [])) false h
-done-delivered p K (Some c) S T h = ap (λ x. x || costs p c T) (list_any-append (same_set T) K (S ∷ [])) ∙ or_more (list_any (same_set T) K) (list_any (same_set T) (S ∷ [])) (costs p c T) h
 
 -- What was done is done where an answer more is known.
 pub done-used : (k : Option Reasoning) (p : Program) (K L : List Atoms) (c : Option (List ℤ)) (T : Atoms) → AreAmong K L → is_done p (used_up k p K) c T ≡ true → is_done p (used_up k p L) c T ≡ true

@@ -5,7 +5,6 @@ use Rattle.std.proofs.lemmas.Bool.{false≢true, and_parts}
 use Rattle.asp_model.specs.declared.program.Program.{Program}
 use Rattle.asp_model.specs.Sets.{Atoms}
 use Rattle.asp_model.specs.Models.{models}
-use Rattle.asp_model.specs.Sound.{IsSound}
 use Rattle.asp_model.proofs.ModelLaws.{models-are}
 use Rattle.asp_vars.specs.Literals.{Literal, F, T, hits}
 use Rattle.asp_vars.specs.Numbering.{values}
@@ -13,7 +12,7 @@ use Rattle.asp_vars.specs.Entailment.{HitsOnly}
 use Rattle.asp_core.specs.declared.goal.Goal.TheVariants as goal
 use Rattle.asp_core.specs.Boards.{start, is_excused}
 use Rattle.asp_core.specs.Events.{IsLawful, replay}
-use Rattle.asp_core.specs.Rows.{two_atoms, over_two_atoms, two_atoms_listed, two_paths, two_leases}
+use Rattle.asp_core.specs.Rows.{two_atoms, two_atoms_listed, two_paths}
 
 passes_at : {X : Type 0} (test : X → Bool) (xs : List X) (k : ℕ) (d : X) → list_all test xs ≡ true → k < length xs → test (get_or xs k d) ≡ true
 passes_at test [] k d h lt = absurd (omega (arith, lt))
@@ -64,13 +63,3 @@ two_paths-lawful = (
     ),
   ),
 )
-
-pub two_atoms-sound : IsSound two_atoms
-two_atoms-sound = record { rules = refl; minimize = refl; outputs = refl; externals = refl; assumptions = refl; weighted = refl; room = refl }
-
--- with a limit of one, one answer may be delivered
-pub one_path-lawful : IsLawful (start (over_two_atoms goal.Enum 1)) (take 4 two_paths)
-one_path-lawful = ((refl, refl), ((refl, omega arith, (omega arith, omega arith), refl), ((refl, refl), ((refl, refl, refl), tt))))
-
-pub two_leases-lawful : IsLawful (start two_atoms_listed) (two_leases 0 3)
-two_leases-lawful = ((refl, refl), (omega arith, (omega arith, (refl, (omega arith, (refl, tt))))))

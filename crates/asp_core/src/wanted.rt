@@ -1,9 +1,5 @@
 //! The literals that each answer meets.
-ghost use Rattle.std.specs.Prelude.{◌≡◌, ◌++◌, true, map, IfOk, OnOk};
-ghost use Rattle.std.specs.List.{AllByRecursion};
-ghost use Rattle.asp_model.specs.Sets.{has};
-ghost use Rattle.asp_model.specs.Holding.{atom_of};
-ghost use Rattle.asp_model.specs.Models.{atoms_of};
+ghost use Rattle.std.specs.Prelude.{◌≡◌, ◌++◌, map, IfOk};
 ghost use Rattle.asp_vars.specs.Numbering.{literal_of};
 ghost use Rattle.asp_core.specs.Boards.{IsQuery};
 

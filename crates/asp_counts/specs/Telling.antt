@@ -1,5 +1,5 @@
 -- What workers told of their counts.
-use Rattle.std.specs.Prelude.{◌≡◌, ℕ, ◌-◌, ◌<◌, List, length, map, slice_index_or}
+use Rattle.std.specs.Prelude.{◌≡◌, ℕ, ◌<◌, List, length, map, slice_index_or}
 use Rattle.std.specs.List.{range_with_len}
 use Rattle.asp_counts.specs.declared.counts.Counts.{Counts}
 use Rattle.asp_counts.specs.declared.tallies.WorkerCounts.{WorkerCounts}

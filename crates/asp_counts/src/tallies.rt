@@ -1,5 +1,5 @@
 //! What each of several workers did so far.
-ghost use Rattle.std.specs.Prelude.{◌≡◌, ◌-◌, ◌<◌, ◌≤◌, IfOk, IsTrue, length};
+ghost use Rattle.std.specs.Prelude.{◌≡◌, ◌-◌, ◌<◌, IfOk, IsTrue, length};
 ghost use Rattle.asp_counts.specs.Counting.{together};
 ghost use Rattle.asp_counts.specs.Telling.{AreNumbered, IsSumWith};
 

@@ -15,7 +15,7 @@ use Rattle.asp_core.specs.declared.event.Event.{Event}
 use Rattle.asp_core.specs.declared.event.Event.TheVariants as event
 use Rattle.asp_core.specs.declared.task.Task.{Task}
 use Rattle.asp_core.specs.Units.{out_of, returned}
-use Rattle.asp_core.specs.Boards.{Board, is_enough, start}
+use Rattle.asp_core.specs.Boards.{Board, is_enough}
 use Rattle.asp_core.specs.Events.{held_by, Guard, happens, maker}
 use Rattle.asp_core.proofs.GrowthLaws.{out_of-leased_other, out_of-returned_other}
 use Rattle.asp_core.proofs.PlaceLaws.{held_count-changed}
@@ -29,7 +29,7 @@ use Rattle.asp_crew_laws.proofs.WorkLaws.{sought-begins, out_of-leased}
 use Rattle.asp_crew.specs.Running.{HasNoQuery, IsReady, Adds, OnlyRecords, status_after, Ends, LeavesLeaf, IsAlone, IsThrough, LeavesAll}
 use Rattle.asp_crew.proofs.AddLaws.{adds-self, adds-events, adds-trans}
 use Rattle.asp_crew.proofs.BookLaws.{board-task, board-with, ready-with, cube-within}
-use Rattle.asp_crew.proofs.TreeLaws.{open-changed, taken-open, none-taken, status-set, cube-set, held_by-le, closed-when}
+use Rattle.asp_crew.proofs.TreeLaws.{open-changed, taken-open, status-set, cube-set, held_by-le, closed-when}
 
 -- ---- one leaf
 held-leaf : (nodes : List Node) (leaf : ℕ) → status_of nodes leaf ≡ status.Held 0 → is_leaf (status_of nodes leaf) ≡ true
@@ -225,12 +225,6 @@ all-stopped mode u v w y leaf s t f g x is taken left = record {
 -- it is enough
 pub all-enough : (mode : Mode) (u v : Booked) (s : Searching) (f : Units) → IsBetween mode u v s f → is_enough (board v) ≡ true → LeavesAll mode u v s f None
 all-enough mode u v s f is enough = record { ready = is.ready; alone = is.alone; task = is.task; adds = is.adds; pool = is.pool; through = λ more. absurd (false≢true (sym more ∙ enough)) }
-
--- no leaf was open
-pub all-through : (mode : Mode) (u v w : Booked) (s : Searching) (f : Units) (r : Option ℕ) → IsBetween mode u v s f → r ≡ slice_get (open_from 0 (board v).nodes) 0 → w ≡ with_events v (taken 0 r) → r ≡ None → LeavesAll mode u w s f None
-all-through mode u v w s f r is first now none =
-    subst (λ (x : Booked). LeavesAll mode u x s f None) (sym (now ∙ ap (λ (o : Option ℕ). with_events v (taken 0 o)) none))
-    (record { ready = is.ready; alone = is.alone; task = is.task; adds = is.adds; pool = is.pool; through = λ more. none-taken (open_from 0 (board v).nodes) (sym first ∙ none) })
 
 -- ---- units at the start
 -- all units of the pool, for number 0

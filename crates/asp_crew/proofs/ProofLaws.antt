@@ -1,5 +1,5 @@
 -- The proof in a report.
-use Rattle.std.proofs.Common.{◌≡◌, ℕ, true, false, List, Option, Some, None, sym, subst}
+use Rattle.std.proofs.Common.{◌≡◌, ℕ, false, List, Option, None, sym, subst}
 use Rattle.asp_model.specs.declared.program.Program.{Program}
 use Rattle.asp_model.specs.declared.results.End.{End}
 use Rattle.asp_model.specs.declared.results.End.TheVariants.{Finished, Limited, Unfinished}
@@ -8,20 +8,10 @@ use Rattle.asp_core.specs.declared.event.Event.{Event}
 use Rattle.asp_core.specs.declared.task.Task.{Task}
 use Rattle.asp_proof.specs.declared.proof.Proof.{Proof}
 use Rattle.asp_crew_laws.specs.declared.report.Report.{Report}
-use Rattle.asp_crew_laws.specs.Proofs.{HasProof, HasProofAt, IsProofOf}
+use Rattle.asp_crew_laws.specs.Proofs.{HasProof, HasProofAt}
 use Rattle.asp_crew_laws.specs.Reports.{IsPlayed, IsPlayedBy, IsReport, IsWhole}
 use Rattle.asp_crew_laws.specs.Runs.{asks, task_of}
 use Rattle.asp_crew_laws.proofs.PlayedLaws.{alone-reports}
-
--- a finished run has one
-pub finished_has : (r : Report) (p : Proof) → r.results.end ≡ Finished → r.proof ≡ Some p → IsProofOf r.results p → HasProof true r
-finished_has r p end has of = subst (λ (e : End). HasProofAt e true r.results r.proof) (sym end) (p, has, of)
-
-pub limited_has : (r : Report) → r.results.end ≡ Limited → r.proof ≡ None → HasProof true r
-limited_has r end has = subst (λ (e : End). HasProofAt e true r.results r.proof) (sym end) has
-
-pub unfinished_has : (r : Report) → r.results.end ≡ Unfinished → r.proof ≡ None → HasProof true r
-unfinished_has r end has = subst (λ (e : End). HasProofAt e true r.results r.proof) (sym end) has
 
 -- none was asked for
 pub none_has : (r : Report) → r.proof ≡ None → HasProof false r

@@ -1,5 +1,5 @@
 -- What is told of a book is a report.
-use Rattle.std.proofs.Common.{◌≡◌, ℕ, List, [], None, refl, sym, ap, ◌∙◌, subst, inl}
+use Rattle.std.proofs.Common.{◌≡◌, ℕ, List, [], None, sym, ap, ◌∙◌, subst}
 use Rattle.std.specs.Prelude.{ℤ, option_map}
 use Rattle.asp_model.specs.declared.program.Program.{Program}
 use Rattle.asp_model.specs.declared.results.Ask.{Ask}
@@ -15,9 +15,8 @@ use Rattle.asp_book.specs.Fuels.{IsOwnFuel}
 use Rattle.asp_crew_laws.specs.declared.report.Report.{Report}
 use Rattle.asp_crew_laws.specs.Runs.{asks, task_of, with_cost}
 use Rattle.asp_crew_laws.specs.Reports.{end_of, IsIdle, IsToldBy, IsWorkedOff, IsReport}
-use Rattle.asp_crew_laws.specs.Working.{MayBegin}
 use Rattle.asp_crew_laws.proofs.PlayedLaws.{told-reports}
-use Rattle.asp_crew.specs.Running.{HasNoQuery, IsRunFor}
+use Rattle.asp_crew.specs.Running.{IsRunFor}
 
 pub told-by : (v : Booked) (r : Report) (s : Board) → IsIdle (board v) → IsWorkedOff (board v) r.unpaid → s ≡ board v →
     r.results.answers ≡ sorted_once (listed_by (sought s.task.goal) s.answers) → r.results.best ≡ option_map (with_cost s.task.program) s.best → r.results.known ≡ common_by (sought s.task.goal) s.task.program s.answers → r.results.end ≡ end_of s → r.leaves ≡ leaf_count s.nodes → r.spent ≡ s.burnt → IsOwnFuel (board v) r.paid → IsToldBy (board v) r
@@ -47,20 +46,5 @@ begun p ask budget g n q s v goal limit none is now =
     ∙ ap (λ (k : ℕ). let x : Booked = record { task = record { program = p; goal = goal_of ask.mode; budget = budget; limit = k; query = q }; journal = [] } in x) limit
     ∙ ap (λ (l : List ℤ). let x : Booked = record { task = record { program = p; goal = goal_of ask.mode; budget = budget; limit = limit_of ask.mode ask.models; query = l }; journal = [] } in x) none
 
-pub begun-run : (p : Program) (ask : Ask) (budget : ℕ) (v : Booked) → v ≡ record { task = task_of p ask budget; journal = [] } → IsRunFor ask v.task
-begun-run p ask budget v e = subst (λ (x : Booked). IsRunFor ask x.task) (sym e) refl
-
-pub begun-query : (p : Program) (ask : Ask) (budget : ℕ) (v : Booked) → v ≡ record { task = task_of p ask budget; journal = [] } → HasNoQuery v.task
-begun-query p ask budget v e = subst (λ (x : Booked). HasNoQuery x.task) (sym e) refl
-
-pub begun-goal : (p : Program) (ask : Ask) (budget : ℕ) (v : Booked) → v ≡ record { task = task_of p ask budget; journal = [] } → MayBegin ask.mode None v.task.goal
-begun-goal p ask budget v e = subst (λ (x : Booked). MayBegin ask.mode None x.task.goal) (sym e) (inl (refl, refl))
-
-pub begun-idle : (p : Program) (ask : Ask) (budget : ℕ) (v : Booked) → v ≡ record { task = task_of p ask budget; journal = [] } → IsIdle (board v)
-begun-idle p ask budget v e = subst (λ (x : Booked). IsIdle (board x)) (sym e) (record { free = refl; home = λ s. refl })
-
 pub begun-report : (p : Program) (ask : Ask) (budget : ℕ) (v w : Booked) (r : Report) → v ≡ record { task = task_of p ask budget; journal = [] } → w.task ≡ v.task → IsReport w.task.program (asks ask.mode ask.models) w.task.budget r → IsReport p (asks ask.mode ask.models) budget r
 begun-report p ask budget v w r e same is = subst (λ (t : Task). IsReport t.program (asks ask.mode ask.models) t.budget r) (same ∙ ap (λ (x : Booked). x.task) e) is
-
-pub still-run : (ask : Ask) (v w : Booked) → w.task ≡ v.task → IsRunFor ask v.task → IsRunFor ask w.task
-still-run ask v w same run = subst (λ (t : Task). IsRunFor ask t) (sym same) run

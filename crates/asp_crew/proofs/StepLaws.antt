@@ -296,12 +296,5 @@ pub along-enough : (mode : Mode) (u w : Booked) (r t : Searching) (g : Units) �
 along-enough mode u w r t g a enough = record { ready = a.underway.ready; only = a.only; over = λ more. absurd (false≢true (sym more ∙ enough)) }
 
 -- ---- the path begins
-pub underway-enters : (mode : Mode) (v : Booked) (s t : Searching) (f : Units) (q : List Literal) → IsReady mode v s f → Enters s t q → IsCube v.task q → IsUnderway mode v t f
-underway-enters mode v s t f q is e cube = subst (λ (x : Searching). IsUnderway mode v x f) (sym e.same) (record {
-  ready = record { task = is.task; program = is.program; mode_is = is.mode_is; work = is.work };
-  entered = cube;
-  learnt = omega arith;
-})
-
 pub cube-entered : (s t : Searching) (q : List Literal) → Enters s t q → t.cube ≡ Some q
 cube-entered s t q e = ap (λ (x : Searching). x.cube) e.same

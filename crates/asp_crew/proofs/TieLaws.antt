@@ -6,8 +6,7 @@ use Rattle.asp_model.specs.declared.program.Program.{Program}
 use Rattle.asp_model.specs.declared.results.Ask.{Ask}
 use Rattle.asp_model.specs.declared.results.Mode.{Mode}
 use Rattle.asp_model.specs.declared.results.Mode.TheVariants.{Enum, Opt, Consequences}
-use Rattle.asp_model.specs.declared.results.End.{End}
-use Rattle.asp_model.specs.declared.results.End.TheVariants.{Finished, Limited, Unfinished}
+use Rattle.asp_model.specs.declared.results.End.TheVariants.{Finished}
 use Rattle.asp_model.specs.Sets.{Atoms, same_set}
 use Rattle.asp_model.specs.Costs.{cost, just_above, IsOptimum}
 use Rattle.asp_model.specs.Models.{answers}
@@ -24,7 +23,7 @@ use Rattle.asp_book.specs.Books.{Booked, board, with_events, IsJournalOf}
 use Rattle.asp_book.specs.Replies.{delivered}
 use Rattle.asp_crew_laws.specs.declared.report.Report.{Report}
 use Rattle.asp_crew_laws.specs.Runs.{asks, ties_of, IsBest}
-use Rattle.asp_crew_laws.specs.Reports.{joined, IsIdle, IsReport, IsToldBy, IsWhole, Says}
+use Rattle.asp_crew_laws.specs.Reports.{joined, IsIdle, IsReport, IsToldBy, Says}
 use Rattle.asp_crew_laws.specs.Working.{MayBegin}
 use Rattle.asp_crew_laws.proofs.FoundLaws.{answers-same}
 use Rattle.asp_crew_laws.proofs.PlayedLaws.{told-budget}
@@ -94,44 +93,7 @@ may-search p ask r best is end found =
     let has = first-optimum p ask is.0 r best is.1 end found in
     subst (IsOptimum p best.0) has.optimum.sums has.optimum
 
-pub second-is : (p : Program) (ask : Ask) (r ties : Report) (best : Atoms × List ℤ) → (units : ℕ) × IsReport p (asks ask.mode ask.models) units r → ask.all_optima ≡ true → r.results.end ≡ Finished → r.results.best ≡ Some best
-    → IsSearched (ties_of p ask (cost p best.0) r.paid.left) ties → IsSecond p ask r ties
-second-is p ask r ties best is all end found searched =
-    let has = first-optimum p ask is.0 r best is.1 end found in
-    record {
-      all = all;
-      opt = has.opt;
-      finished = end;
-      best = best.0;
-      found = found ∙ ap (λ (c : List ℤ). Some (best.0, c)) has.optimum.sums;
-      searched = searched;
-    }
-
 -- ---- no second search
-pub whole-unasked : (all : Bool) (end : End) (best : Option (Atoms × List ℤ)) → all ≡ false → IsWhole all end best
-whole-unasked all end best e = subst (λ x. IsWhole x end best) (sym e) tt
-
-pub whole-none : (all : Bool) (end : End) (best : Option (Atoms × List ℤ)) → end ≡ Finished → best ≡ None → IsWhole all end best
-whole-none all end best e none = subst (λ x. IsWhole all x best) (sym e) (subst (λ x. IsWhole all Finished x) (sym none) (here all))
-  where
-    here : (all : Bool) → IsWhole all Finished None
-    here true = tt
-    here false = tt
-
-pub whole-limited : (all : Bool) (end : End) (best : Option (Atoms × List ℤ)) → end ≡ Limited → IsWhole all end best
-whole-limited all end best e = subst (λ x. IsWhole all x best) (sym e) (here all)
-  where
-    here : (all : Bool) → IsWhole all Limited best
-    here true = tt
-    here false = tt
-
-pub whole-unfinished : (all : Bool) (end : End) (best : Option (Atoms × List ℤ)) → end ≡ Unfinished → IsWhole all end best
-whole-unfinished all end best e = subst (λ x. IsWhole all x best) (sym e) (here all)
-  where
-    here : (all : Bool) → IsWhole all Unfinished best
-    here true = tt
-    here false = tt
-
 -- ---- both
 pub joins-program : (p : Program) (ask : Ask) (first ties : Report) → (units : ℕ) × IsReport p (asks ask.mode ask.models) units first → IsSecond p ask first ties → ties.paid.program ≡ first.paid.program
 joins-program p ask first ties is second =
@@ -139,9 +101,6 @@ joins-program p ask first ties is second =
 
 pub joins-units : (p : Program) (ask : Ask) (first ties : Report) → IsSecond p ask first ties → ties.paid.left + ties.spent ≡ first.paid.left
 joins-units p ask first ties second = told-budget (ties_of p ask (cost p second.best) first.paid.left) ties tt second.searched.lawful second.searched.told
-
-pub joins-burnt : (p : Program) (ask : Ask) (first ties : Report) → IsSecond p ask first ties → ties.paid.burnt ≡ ties.spent
-joins-burnt p ask first ties second = second.searched.told.paid.burnt ∙ sym second.searched.told.spent
 
 pub joined-reports : (p : Program) (ask : Ask) (units : ℕ) (first ties : Report) → first.second ≡ None → IsSecond p ask first ties → IsReport p (asks ask.mode ask.models) units first → IsReport p ask units (joined first ties)
 joined-reports p ask units first ties alone second is =

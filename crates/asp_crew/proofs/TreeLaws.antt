@@ -1,5 +1,5 @@
 -- Leaves of a tree that are open, and held, when one leaf's status changes.
-use Rattle.std.proofs.Common.{◌≡◌, ℕ, suc, ◌+◌, ◌<◌, ◌≤◌, Bool, true, false, cond, ◌&&◌, eqb, List, [], ◌∷◌, length, Some, None, refl, ap, ◌∙◌, arith}
+use Rattle.std.proofs.Common.{◌≡◌, ℕ, suc, ◌+◌, ◌<◌, ◌≤◌, Bool, true, false, cond, ◌&&◌, eqb, List, [], ◌∷◌, length, Some, refl, ap, ◌∙◌, arith}
 use Rattle.std.specs.Prelude.{slice_get, count_by}
 use Rattle.std.proofs.lemmas.Bool.{eq-eqb}
 use Rattle.std.proofs.lemmas.List.{get_or-set_same}
@@ -54,10 +54,6 @@ taken-open nodes leaf e =
     let h = first-open 0 nodes leaf e in
     let is : leaf ≡ h.0 = omega (arith, h.1) in
     ap (status_of nodes) is ∙ h.2
-
-pub none-taken : (l : List ℕ) → slice_get l 0 ≡ None → l ≡ []
-none-taken [] e = refl
-none-taken (x ∷ l) e = absurd (let f : ⊥ = cc in f)
 
 -- ---- a leaf that was held goes
 pub status-set : (nodes : List Node) (n : ℕ) (new : Status) → is_leaf (status_of nodes n) ≡ true → status_of (with_status nodes n new) n ≡ new

@@ -114,9 +114,6 @@ agrees-delivered b s S known bound none a =
     }
 
 -- ---- where consequences are sought
-one-of : (r : Reasoning) (p : Program) (K L : List Atoms) (S : Atoms) → length (common_sets r p (K ++ S ∷ [])) ≤ length (common_sets r p (L ++ S ∷ []))
-one-of r p K L S = omega (arith, ap length (common-push r p K S), ap length (common-push r p L S))
-
 recorded-told : (r : Reasoning) (p : Program) (known A : List Atoms) (S : Atoms) → IsSubset (unshown r p A) (unshown r p known) → AreRecorded (Some r) p (common_sets r p (known ++ S ∷ [])) (A ++ S ∷ [])
 recorded-told r p known A S sub = (
   subst (λ (L : Atoms). IsSubset (unshown r p (A ++ S ∷ [])) L) (sym (unshown-common r p (known ++ S ∷ []))) (unshown-push r p known A S sub),

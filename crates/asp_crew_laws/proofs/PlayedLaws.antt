@@ -31,7 +31,7 @@ use Rattle.asp_core.specs.declared.event.Event.{Event}
 use Rattle.asp_core.specs.declared.goal.Goal.TheVariants as goal
 use Rattle.asp_core.specs.declared.task.Task.{Task}
 use Rattle.asp_core.specs.Units.{total_out}
-use Rattle.asp_core.specs.Boards.{Board, start, IsBoundBy, IsQuery, bound_of, common_by, count_by, distinct, goal_of, is_answer, is_enough, known_count, listed_by, lists, optimises, sought, used}
+use Rattle.asp_core.specs.Boards.{Board, start, IsBoundBy, IsQuery, bound_of, common_by, count_by, distinct, goal_of, is_answer, is_enough, known_count, listed_by, lists, optimises, sought}
 use Rattle.asp_core.specs.Invariant.{IsBoard}
 use Rattle.asp_core.specs.Sorting.{sorted_once}
 use Rattle.asp_core.proofs.CountLaws.{length-sorted_once}

@@ -13,7 +13,7 @@ use Rattle.asp_core.specs.declared.event.Event.TheVariants as event
 use Rattle.asp_core.specs.declared.task.Task.{Task}
 use Rattle.asp_core.specs.Units.{out_of}
 use Rattle.asp_core.specs.Boards.{Board, start}
-use Rattle.asp_core.specs.Events.{held_by, Guard, happens, maker, run, IsLawful, replay}
+use Rattle.asp_core.specs.Events.{held_by, Guard, happens, maker, IsLawful, replay}
 use Rattle.asp_core.proofs.GrowthLaws.{Spares-run}
 use Rattle.asp_book.proofs.CallLaws.{lawful-rest}
 use Rattle.asp_crew_laws.specs.Runs.{IsBack, Quiet}

@@ -1,6 +1,5 @@
 //! What the notes say of a fault of a text.
-ghost use Rattle.std.specs.Prelude.{◌≡◌, ◌++◌, codes, decimal};
-ghost use Rattle.std.specs.Fmt.{signed_decimal};
+ghost use Rattle.std.specs.Prelude.{◌≡◌, ◌++◌, codes};
 ghost use Rattle.asp_faults.specs.Writing.{Writes};
 ghost use Rattle.asp_faults.specs.Faults.{fault_text, has_field, expected_text, found_text, kind_text, misfit, natural_noun, other_format, integer_noun, place_text, range_text, wanted_text};
 

@@ -7,23 +7,15 @@ use Rattle.asp_model.specs.Sets.{Atoms, IsAscending, has, IsSubset}
 use Rattle.asp_model.specs.Models.{rules_in_force, atoms_of, is_stable, least_model}
 use Rattle.asp_model.specs.Sound.{IsSound}
 use Rattle.asp_model.proofs.ModelLaws.{stable-least}
-use Rattle.asp_vars.specs.declared.nogood.Nogood.{Nogood}
 use Rattle.asp_vars.specs.Literals.{hits}
 use Rattle.asp_vars.specs.Numbering.{values}
 use Rattle.asp_vars.specs.Completion.{completion}
 use Rattle.asp_vars.specs.Unfounded.{assigned, is_unfounded}
 use Rattle.asp_found.specs.Rests.{rest}
-use Rattle.asp_found.specs.Verdicts.{keeps, is_supported, IsBroken, HasUnfounded}
+use Rattle.asp_found.specs.Verdicts.{keeps, is_supported, HasUnfounded}
 use Rattle.asp_found.proofs.RestLaws.{none_hit, stable_without_rest, rest-subset, has-filtered}
 use Rattle.asp_found.proofs.UnfoundedLaws.{rest_unfounded}
 use Rattle.asp_found.proofs.VerdictLaws.{none_broken}
-
-pub broken_unstable : (p : Program) (S : Atoms) (n : Nogood) → IsBroken p S n → is_stable p S ≡ false
-broken_unstable p S n b = cases (is_stable p S) refl
-  where
-    cases : (t : Bool) → t ≡ is_stable p S → is_stable p S ≡ false
-    cases false q = sym q
-    cases true q = absurd (false≢true (b.entailed.excused S (sym q) b.hit))
 
 rest_is : (p : Program) (S L xs : Atoms) → L ≡ least_model p S → xs ≡ filter (λ a. not (has L a)) S → xs ≡ rest p S
 rest_is p S L xs least e = e ∙ ap (λ T. filter (λ a. not (has T a)) S) least

@@ -1,11 +1,9 @@
 -- What is marked at the end is the least model.
-use Rattle.std.proofs.Common.{◌≡◌, ℕ, zero, suc, ◌+◌, ◌<◌, ◌≤◌, Bool, true, false, not, cond, ◌&&◌, ◌||◌, eqb, List, [], ◌∷◌, ◌++◌, map, length, get_or, take, drop, replicate, refl, sym, ap, ◌∙◌, subst, arith, inl, inr}
+use Rattle.std.proofs.Common.{◌≡◌, ℕ, suc, ◌+◌, ◌<◌, ◌≤◌, Bool, true, false, not, cond, ◌&&◌, ◌||◌, eqb, List, [], ◌∷◌, ◌++◌, map, length, take, drop, refl, sym, ap, ◌∙◌, subst, arith, inl, inr}
 use Rattle.std.specs.Prelude.{All, ℤ, pos, negsuc, ◌+ℤ◌, int_le}
-use Rattle.std.specs.List.{list_any, list_all, flat_map, count_by, AllByRecursion}
+use Rattle.std.specs.List.{list_any, list_all, flat_map, AllByRecursion}
 use Rattle.std.proofs.lemmas.Bool.{false≢true, and_parts, and_from, eqb-true, eq-eqb}
 use Rattle.std.proofs.lemmas.Int.{ints}
-use Rattle.std.proofs.lemmas.List.{length-replicate}
-use Rattle.std.proofs.lemmas.List.Folds.{sum_by-replicate}
 use Rattle.asp_model.specs.declared.program.Body.{Body}
 use Rattle.asp_model.specs.declared.program.Body.TheVariants as body
 use Rattle.asp_model.specs.declared.program.Head.{Head}
@@ -292,43 +290,10 @@ least_is p S set marks found sound kept shows h closed =
         h.sound S shows a parts.1 parts.0
 
 -- ---- the beginning
-pub first_shows : (p : Program) (S : Atoms) (set : List Bool) → set ≡ false ∷ map (has S) (atoms_of p) → Shows p S set
-first_shows p S set is a stands = ap (λ m. is_marked m (var_of_atom p a)) is ∙ along (atoms_of p) stands
-  where
-    along : (xs : List ℕ) → has xs a ≡ true → get_or (map (has S) xs) (place_of (λ b. eqb b a) xs) false ≡ has S a
-    along [] e = absurd (false≢true e)
-    along (x ∷ xs) e = cases (eqb x a) refl (along xs)
-      where
-        cases : (t : Bool) → t ≡ eqb x a → (has xs a ≡ true → get_or (map (has S) xs) (place_of (λ b. eqb b a) xs) false ≡ has S a) → get_or (has S x ∷ map (has S) xs) (cond (eqb x a) 0 (suc (place_of (λ b. eqb b a) xs))) false ≡ has S a
-        cases true q later = rw (← q) (ap (has S) (eqb-true x a (sym q)))
-        cases false q later = rw (← q) (later (ap (λ t. t || has xs a) q ∙ e))
-
-pub nothing_derived : (p : Program) (set marks : List Bool) → marks ≡ replicate (length set) false → IsDeriving p set marks []
-nothing_derived p set marks is = subst (λ (m : List Bool). IsDeriving p set m []) (sym is) record {
-  size = length-replicate (length set) false;
-  within = λ v e. absurd (false≢true (sym (unmarked (length set) v) ∙ e));
-  sound = λ S shows a stands e. absurd (false≢true (sym (unmarked (length set) (var_of_atom p a)) ∙ e));
-  room = let c = all_open (length set) in omega (arith, c);
-}
-  where
-    unmarked : (n v : ℕ) → is_marked (replicate n false) v ≡ false
-    unmarked zero v = refl
-    unmarked (suc n) zero = refl
-    unmarked (suc n) (suc v) = unmarked n v
-
-    all_open : (n : ℕ) → count_by not (replicate n false) ≡ n
-    all_open n = let e = sum_by-replicate (λ (b : Bool). cond (not b) 1 0) n false in omega (arith, e)
-
 -- ---- what the calls hand on
 pub looks : (p : Program) (set marks marks' : List Bool) (found found' : List ℕ) (j : ℕ) → IsSound p → j < length (bodies_of p) → length (atoms_of p) < length set → IsDeriving p set marks found → (marks', found') ≡ derive_by p set (marks, found) j → Looked p set (marks, found) (marks', found') j
 looks p set marks marks' found found' j sound lt size h is =
     looked p set (marks, found) (marks', found') j sound lt (heads_small p (nth_body p j) (length set) size) h is
-
-pub first_sweep : (p : Program) (set marks : List Bool) (found : List ℕ) → IsDeriving p set marks found → Sweeping p set found marks found 0
-first_sweep p set marks found h = record { deriving_ = h; grows = omega arith; closed = λ e j lt. absurd (omega arith) }
-
-pub found_few : (p : Program) (set marks : List Bool) (found : List ℕ) → IsDeriving p set marks found → length found ≤ length set
-found_few p set marks found h = let r = h.room in omega (arith, r)
 
 -- the marks of a list that was lent whole
 pub written_back : (new old : List Bool) (n : ℕ) → n ≡ length old → length new ≡ length old → take n (new ++ drop (length new) old) ≡ new
@@ -337,7 +302,3 @@ written_back new old n whole same = ap (λ k. take k (new ++ drop (length new) o
     front : (xs zs : List Bool) → take (length xs) (xs ++ zs) ≡ xs
     front [] zs = refl
     front (x ∷ xs) zs = ap (λ ys. x ∷ ys) (front xs zs)
-
-pub lent_back : (p : Program) (set new old : List Bool) (found : List ℕ) (n : ℕ) → n ≡ length old → length old ≡ length set → IsDeriving p set new found → IsDeriving p set (take n (new ++ drop (length new) old)) found
-lent_back p set new old found n whole size h =
-    subst (λ (m : List Bool). IsDeriving p set m found) (sym (written_back new old n whole (h.size ∙ sym size))) h

@@ -8,9 +8,6 @@ use Rattle.asp_model.specs.Sets.{Atoms, IsAscending, has}
 use Rattle.asp_model.proofs.SetLaws.{get_or-ascending, has_at, absent_between}
 use Rattle.asp_found.specs.Merges.{IsReached}
 
-pub reached_end : (xs : List ℕ) (a n : ℕ) → n ≡ length xs → ((k : ℕ) → k < n → get_or xs k 0 < a) → IsReached xs n a
-reached_end xs a n e below = record { within = omega (arith, e); before = below; here = λ lt. absurd (omega (arith, e, lt)) }
-
 pub below_more : (xs : List ℕ) (a i x : ℕ) → x ≡ get_or xs i 0 → x < a → ((k : ℕ) → k < i → get_or xs k 0 < a) → (k : ℕ) → k < i + 1 → get_or xs k 0 < a
 below_more xs a i x is lt below k le = cases (eqb k i) refl
   where

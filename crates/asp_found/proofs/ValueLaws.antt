@@ -3,7 +3,7 @@ use Rattle.std.proofs.Common.{◌≡◌, ℕ, zero, suc, ◌+◌, ◌<◌, ◌�
 use Rattle.std.specs.List.{list_any}
 use Rattle.std.proofs.lemmas.Bool.{eqb-true}
 use Rattle.std.proofs.lemmas.List.Elements.{filter_more}
-use Rattle.std.proofs.lemmas.List.{append_assoc, map-append, length-append, length-map}
+use Rattle.std.proofs.lemmas.List.{append_assoc, map-append}
 use Rattle.asp_model.specs.declared.program.Body.{Body}
 use Rattle.asp_model.specs.declared.program.Body.TheVariants as body
 use Rattle.asp_model.specs.declared.program.Program.{Program}
@@ -13,7 +13,7 @@ use Rattle.asp_model.specs.Models.{rules_in_force, atoms_of}
 use Rattle.asp_model.proofs.MemberLaws.{HasAll-itself}
 use Rattle.asp_model.proofs.ReadingLaws.{same_body}
 use Rattle.asp_vars.specs.Literals.{Literal, complement, hits, is_true}
-use Rattle.asp_vars.specs.Numbering.{bodies_of, is_apart, apart_bodies, var_count, var_of_atom, form_at, literal_of_form, literal_of_body, values, nth_atom, nth_body, nth_rule, IsReadBy}
+use Rattle.asp_vars.specs.Numbering.{bodies_of, is_apart, apart_bodies, var_of_atom, form_at, literal_of_form, literal_of_body, values, nth_atom, nth_body, nth_rule, IsReadBy}
 use Rattle.asp_vars.specs.Completion.{supports, support_bodies}
 use Rattle.asp_vars.proofs.NumberingLaws.{get_or-place_of, value-atom}
 use Rattle.asp_vars.proofs.LiteralLaws.{is_true-complement}
@@ -32,10 +32,6 @@ pub begun_shows : (p : Program) (S : Atoms) (V ys : List Bool) → V ≡ (false 
 begun_shows p S V ys is a stands =
     ap (λ m. is_marked m (var_of_atom p a)) is
     ∙ get_or-place_of (λ b. eqb b a) (has S) (atoms_of p) ys (has S a) (λ x e. ap (has S) (eqb-true x a e)) stands
-
-pub begun_size : (p : Program) (S : Atoms) (V ys : List Bool) → V ≡ (false ∷ map (has S) (atoms_of p)) ++ ys → length (atoms_of p) < length V
-begun_size p S V ys is =
-    let a = ap length is in let b = length-append (false ∷ map (has S) (atoms_of p)) ys in let c = length-map (atoms_of p) (has S) in omega (arith, a, b, c)
 
 pub value_more : (p : Program) (S : Atoms) (V W : List Bool) (j : ℕ) → j < length (bodies_of p) → V ≡ (false ∷ map (has S) (atoms_of p)) ++ map (body_holds S) (filter (is_apart p) (take j (bodies_of p))) → W ≡ V ++ map (marks_hold p V V) (filter (is_apart p) (nth_body p j ∷ [])) → W ≡ (false ∷ map (has S) (atoms_of p)) ++ map (body_holds S) (filter (is_apart p) (take (j + 1) (bodies_of p)))
 value_more p S V W j lt is new =
@@ -61,14 +57,7 @@ take_whole [] (suc n) h = refl
 take_whole (x ∷ xs) zero h = absurd (omega arith)
 take_whole (x ∷ xs) (suc n) h = ap (λ ys. x ∷ ys) (take_whole xs n (omega arith))
 
-pub value_all : (p : Program) (S : Atoms) (V : List Bool) (j : ℕ) → length (bodies_of p) ≤ j → V ≡ (false ∷ map (has S) (atoms_of p)) ++ map (body_holds S) (filter (is_apart p) (take j (bodies_of p))) → V ≡ values p S
-value_all p S V j end is = is ∙ ap (λ bs. (false ∷ map (has S) (atoms_of p)) ++ map (body_holds S) (filter (is_apart p) bs)) (take_whole (bodies_of p) j end)
-
 -- ---- what they say
-pub value_count : (p : Program) (S : Atoms) (V : List Bool) → V ≡ values p S → length V ≡ suc (var_count p)
-value_count p S V is =
-    let a = ap length is in let b = length-append (map (has S) (atoms_of p)) (map (body_holds S) (apart_bodies p)) in let c = length-map (atoms_of p) (has S) in let d = length-map (apart_bodies p) (body_holds S) in omega (arith, a, b, c, d)
-
 pub values_show : (p : Program) (S : Atoms) (V : List Bool) → V ≡ values p S → Shows p S V
 values_show p S V is = begun_shows p S V (map (body_holds S) (apart_bodies p)) is
 

@@ -5,8 +5,8 @@
 //! is counted off in the bodies where it stands, and a body that lacks nothing is looked at again. All this decides when a
 //! body is looked at, and nothing more: what is derived is in the least model. Where it is all of the set, that is enough.
 //! Else a sweep over all bodies that derives nothing ends the work; with right counts that is the first one.
-ghost use Rattle.std.specs.Prelude.{◌≡◌, ◌+◌, ◌<◌, ◌≤◌, ◌^◌, [], All, List, IfOk, OnOk, fold, length, IsTrue};
-ghost use Rattle.std.specs.List.{list_all, list_any};
+ghost use Rattle.std.specs.Prelude.{◌≡◌, ◌<◌, ◌≤◌, [], All, IfOk, OnOk, fold, length, IsTrue};
+ghost use Rattle.std.specs.List.{list_all};
 ghost use Rattle.asp_model.specs.Models.{atoms_of, rules_in_force};
 ghost use Rattle.asp_vars.specs.Numbering.{bodies_of, values};
 ghost use Rattle.asp_found.specs.Marks.{derive, derive_by};

@@ -1,5 +1,5 @@
 //! Sets of atoms as marks, at the places of their variables.
-ghost use Rattle.std.specs.Prelude.{◌≡◌, ◌+◌, ◌<◌, ◌∷◌, ◌++◌, false, not, pos, Some, List, All, IfOk, int_le, length, map, filter, slice_index_or};
+ghost use Rattle.std.specs.Prelude.{◌≡◌, ◌+◌, ◌<◌, ◌∷◌, ◌++◌, false, not, pos, Some, All, IfOk, int_le, length, map, filter};
 ghost use Rattle.std.specs.Prelude.{◌≤ℤ◌, [], OnOk};
 ghost use Rattle.std.specs.List.{list_all};
 ghost use Rattle.asp_model.specs.Sets.{has};

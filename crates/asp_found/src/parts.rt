@@ -1,5 +1,5 @@
 //! The parts of the check.
-ghost use Rattle.std.specs.Prelude.{◌≡◌, suc, ◌<◌, ◌≤◌, ◌-◌, slice_index, ◌^◌, ◌||◌, not, All, IsTrue, IfOk, MatchOption, length};
+ghost use Rattle.std.specs.Prelude.{◌≡◌, suc, ◌<◌, ◌≤◌, ◌-◌, slice_index, ◌||◌, not, All, IsTrue, IfOk, MatchOption, length};
 ghost use Rattle.std.specs.List.{list_all, list_any, AllByRecursion};
 ghost use Rattle.asp_model.specs.Sets.{has};
 ghost use Rattle.asp_model.specs.Views.{head_seen};

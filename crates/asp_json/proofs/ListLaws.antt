@@ -1,5 +1,5 @@
 -- Texts with a comma between two.
-use Rattle.std.proofs.Common.{◌≡◌, ℕ, ◌+◌, ◌<◌, Bool, true, false, cond, List, [], ◌∷◌, ◌++◌, map, take, drop, length, get_or, refl, sym, ap, ◌∙◌, append-nil, arith, codes}
+use Rattle.std.proofs.Common.{◌≡◌, ℕ, ◌+◌, ◌<◌, Bool, true, false, cond, List, [], ◌∷◌, ◌++◌, map, take, drop, length, get_or, refl, sym, ap, ◌∙◌, append-nil, codes}
 use Rattle.std.specs.Prelude.{filter, ◌||◌, ℤ, Option}
 use Rattle.std.specs.List.{join_with_byte}
 use Rattle.std.proofs.lemmas.List.{map-append, take_more}
@@ -11,11 +11,9 @@ use Rattle.asp_model.specs.Texts.{shown}
 use Rattle.asp_buffer.proofs.OutLaws.{drop_turn, drop_turn_or}
 use Rattle.asp_print.specs.Shown.{piece, pieces, separator}
 use Rattle.asp_print.proofs.ShownLaws.{pieces-joined, shown_of}
-use Rattle.asp_json.specs.declared.answers.QuotedTable.{QuotedTable}
 use Rattle.asp_json.specs.Commas.{commas}
 use Rattle.asp_json.specs.Json.{witness, witnesses}
 use Rattle.asp_json.specs.Quoting.{quoted, quoted_output}
-use Rattle.asp_json.specs.Tables.{IsQuoted}
 
 commas-after : (t : List ℕ) (ts : List (List ℕ)) → t ++ commas true ts ≡ join_with_byte 44 (t ∷ ts)
 commas-after t [] = append-nil t
@@ -24,10 +22,6 @@ commas-after t (u ∷ us) = ap (λ (x : List ℕ). t ++ (44 ∷ x)) (commas-afte
 pub commas-join : (ts : List (List ℕ)) → commas false ts ≡ join_with_byte 44 ts
 commas-join [] = refl
 commas-join (t ∷ ts) = commas-after t ts
-
-pub commas-turn : {A : Type 0} (f : A → List ℕ) (any : Bool) (xs : List A) (i : ℕ) (x : A) → i < length xs → x ≡ get_or xs i x
-    → commas any (map f (drop i xs)) ≡ (separator 44 any ++ f x) ++ commas true (map f (drop (i + 1) xs))
-commas-turn {A = A} f any xs i x lt is = ap (λ (t : List A). commas any (map f t)) (drop_turn xs i x lt is)
 
 pub commas-turn_or : {A : Type 0} (f : A → List ℕ) (any : Bool) (xs : List A) (i : ℕ) (d : A) → i < length xs
     → commas any (map f (drop i xs)) ≡ (separator 44 any ++ f (get_or xs i d)) ++ commas true (map f (drop (i + 1) xs))
@@ -64,14 +58,7 @@ outputs_more os qs i o q lt at is all =
 pub view-quoted : (o : Output) (t : List ℕ) → t ≡ quoted o.text → record { text = t; condition = o.condition } ≡ quoted_output o
 view-quoted o t e = ap (λ (x : List ℕ). let q : Output = record { text = x; condition = o.condition } in q) e
 
-pub line-quoted : (atoms S : Atoms) (os : List Output) (q : QuotedTable) → IsQuoted atoms os q → pieces q.table.between S false q.outputs ≡ pieces 44 S false (map quoted_output os)
-line-quoted atoms S os q is = ap (λ (n : ℕ). pieces n S false q.outputs) is.table.1 ∙ ap (pieces 44 S false) is.outputs
-
 -- ---- answers in brackets
-pub witnesses-none : (p : Program) (best : Option (Atoms × List ℤ)) (Ss : List Atoms) → length Ss ≡ 0 → [] ≡ witnesses p best Ss
-witnesses-none p best [] e = refl
-witnesses-none p best (S ∷ Ss) e = absurd (omega (arith, e))
-
 pub witnesses-some : (p : Program) (best : Option (Atoms × List ℤ)) (Ss : List Atoms) → (length Ss ≡ 0 → ⊥) → codes "\"Witnesses\":[" ++ commas false (map (witness p best) Ss) ++ codes "\n]" ≡ witnesses p best Ss
 witnesses-some p best [] some = absurd (some refl)
 witnesses-some p best (S ∷ Ss) some = ap (λ (t : List ℕ). codes "\"Witnesses\":[" ++ (t ++ codes "\n]")) (commas-join (map (witness p best) (S ∷ Ss)))

@@ -1,5 +1,5 @@
 //! The log itself, which one thread at a time has.
-ghost use Rattle.std.specs.Prelude.{◌≡◌, ◌+◌, ◌^◌, ◌<◌, ◌≤◌, ◌++◌, ◌∷◌, [], drop, length, IfOk, IfErr, OnOk, OnErr, MatchResult};
+ghost use Rattle.std.specs.Prelude.{◌≡◌, ◌+◌, ◌^◌, ◌<◌, ◌≤◌, ◌++◌, ◌∷◌, [], drop, length, IfOk, IfErr, OnErr};
 ghost use Rattle.asp_log.specs.declared.log.AppendError.TheVariants as error;
 ghost use Rattle.asp_vault.specs.Makers.{Unnamed};
 ghost use Rattle.asp_log.specs.Entries.{IsEntry, IsLogFor, unsigned};

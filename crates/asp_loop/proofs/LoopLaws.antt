@@ -57,13 +57,6 @@ adds_more p x U bodies b old middle new h k = record {
   excused = each-push (λ b. is_excused p x U b ≡ true) bodies b h.excused k.excused;
 }
 
-pub none_added : (p : Program) (x : List (Option Bool)) (U : Atoms) (old : List Literal) → AddsAll p x U [] old old
-none_added p x U old = record { rest = []; is = append_nil old; shapes = refl; hold = refl; excused = tt }
-  where
-    append_nil : (xs : List Literal) → xs ≡ xs ++ []
-    append_nil [] = refl
-    append_nil (x ∷ xs) = ap (λ ys. x ∷ ys) (append_nil xs)
-
 pub adds_next : (p : Program) (x : List (Option Bool)) (U : Atoms) (vars : List ℕ) (i j : ℕ) (old middle new : List Literal) → i < length vars → j ≡ get_or vars i 0 - length (atoms_of p) - 1 → AddsAll p x U (map (form_of p) (take i vars)) old middle → Adds p x U (nth_body p j) middle new → AddsAll p x U (map (form_of p) (take (i + 1) vars)) old new
 adds_next p x U vars i j old middle new lt at h k =
     let longer : map (form_of p) (take i vars) ++ form_of p (get_or vars i 0) ∷ [] ≡ map (form_of p) (take (i + 1) vars) = sym (map-append (form_of p) (take i vars) (get_or vars i 0 ∷ [])) ∙ ap (map (form_of p)) (sym (take_more vars i 0 lt)) in

@@ -75,15 +75,6 @@ append_nil : {X : Type 0} (xs : List X) → xs ++ [] ≡ xs
 append_nil [] = refl
 append_nil (x ∷ xs) = ap (λ ys. x ∷ ys) (append_nil xs)
 
-pub none_chosen : (x : List (Option Bool)) (vars : Atoms) (lits : List Literal) (weights : List ℤ) (slack : ℕ) (old : List Literal) → 0 < slack → Choosing x vars lits weights slack old old slack 0
-none_chosen x vars lits weights slack old positive = record {
-  part = [];
-  is = sym (append_nil old);
-  positive = positive;
-  chosen = tt;
-  enough = λ n h. omega (arith, ints);
-}
-
 -- how a literal that isn't a choice counts
 kept_counts : (w h k : Bool) (v : ℤ) → pos 0 ≤ℤ v → (not w && h) ≡ false → cond (not w && not k) v (pos 0) ≤ℤ cond (not w && (not true || not h)) v (pos 0)
 kept_counts true h k v p e = omega (arith, ints)

@@ -9,7 +9,6 @@ ghost use Rattle.asp_model.specs.Sets.{has, set_of};
 ghost use Rattle.asp_model.specs.Models.{atoms_of};
 ghost use Rattle.asp_vars.specs.Numbering.{var_count, var_of_atom};
 ghost use Rattle.asp_vars.specs.Completion.{supports};
-ghost use Rattle.asp_vars.specs.Tabled.{IsBodyNumber};
 ghost use Rattle.asp_vars.specs.Unfounded.{is_unfounded};
 ghost use Rattle.asp_loop.specs.LoopNogoods.{IsLoopNogood};
 

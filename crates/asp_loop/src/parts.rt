@@ -1,7 +1,7 @@
 //! What a body of a rule for an unfounded set adds to its loop nogood.
-ghost use Rattle.std.specs.Prelude.{◌≡◌, ◌<◌, ◌+◌, IfOk, All, length, IsTrue};
+ghost use Rattle.std.specs.Prelude.{◌≡◌, ◌<◌, ◌+◌, IfOk, All, length};
 ghost use Rattle.std.specs.List.{list_any};
-ghost use Rattle.asp_vars.specs.Literals.{complement, holds_in};
+ghost use Rattle.asp_vars.specs.Literals.{complement};
 ghost use Rattle.asp_vars.specs.Numbering.{bodies_of, var_count, literal_of_form, nth_body};
 ghost use Rattle.asp_vars.specs.Tabled.{bound_of, IsBodyNumber};
 ghost use Rattle.std.specs.Prelude.{Some, None};

@@ -1,7 +1,7 @@
 //! A program of any size: a ring of nodes in three colours.
 ghost use Rattle.std.specs.Prelude.{◌≡◌, ◌≤◌, ◌<◌, ◌++◌, ◌+◌, ◌%◌, ◌^◌, neg_ℤ, pos, IfOk, OnOk, [], ◌∷◌};
 ghost use Rattle.asp_model.specs.Sound.{IsSound};
-ghost use Rattle.asp_make.specs.Ring.{any_colours, atoms_of_node, coloured, each_below, edge_rules, first_colours, never, node_rules, not_both, ring, some_of};
+ghost use Rattle.asp_make.specs.Ring.{any_colours, coloured, each_below, edge_rules, first_colours, never, node_rules, not_both, ring, some_of};
 
 use asp_model::outputs::Outputs;
 use asp_model::program::{Atom, Body, Head, Minimize, Program, Rule};

@@ -1,9 +1,8 @@
 -- What is derived of a set is founded.
-use Rattle.std.proofs.Common.{◌≡◌, ℕ, suc, ◌<◌, Bool, true, false, not, cond, ◌&&◌, ◌||◌, eqb, List, [], ◌∷◌, map, length, get_or, set, Option, Some, None, refl, sym, ap, ◌∙◌, subst, ◌⊎◌, inl, inr}
+use Rattle.std.proofs.Common.{◌≡◌, ℕ, suc, ◌<◌, Bool, true, false, not, cond, ◌&&◌, ◌||◌, eqb, List, [], ◌∷◌, map, length, Option, Some, None, refl, sym, ap, ◌∙◌, subst, inl, inr}
 use Rattle.std.specs.Prelude.{ℤ, pos, negsuc, ◌+ℤ◌, int_le, is_none}
 use Rattle.std.specs.List.{list_all, flat_map, AllByRecursion}
-use Rattle.std.proofs.lemmas.Bool.{false≢true, and_parts, and_from, eqb-true, eq-eqb}
-use Rattle.std.proofs.lemmas.List.{length-set, get_or_default, get_or-set_same, get_or-set_other}
+use Rattle.std.proofs.lemmas.Bool.{false≢true, and_parts, and_from}
 use Rattle.asp_model.specs.declared.program.Body.{Body}
 use Rattle.asp_model.specs.declared.program.Body.TheVariants as body
 use Rattle.asp_model.specs.declared.program.Head.{Head}
@@ -16,13 +15,13 @@ use Rattle.asp_model.specs.Reduct.{reduct, reduct_heads, step}
 use Rattle.asp_model.specs.Reading.{holds_between, weight_between, body_holds_between, derived_heads}
 use Rattle.asp_model.specs.Models.{rules_in_force, atoms_of, least_model, head_atoms}
 use Rattle.asp_model.specs.Sound.{IsSound}
-use Rattle.asp_model.proofs.SetLaws.{has-set_of, has_at}
+use Rattle.asp_model.proofs.SetLaws.{has-set_of}
 use Rattle.asp_model.proofs.MemberLaws.{HasAll, list_any-flat_map}
 use Rattle.asp_model.proofs.StepLaws.{step-subset}
 use Rattle.asp_model.proofs.ModelLaws.{least_model-derived, monotone}
 use Rattle.asp_model.proofs.ReadingLaws.{step_read}
 use Rattle.asp_model.proofs.ReductLaws.{rules_in_force-heads}
-use Rattle.asp_vars.specs.Literals.{Literal, T, F, agrees, value_of, holds_in}
+use Rattle.asp_vars.specs.Literals.{Literal, T, F, agrees, holds_in}
 use Rattle.asp_vars.specs.Numbering.{normal, body_eq, bodies_of, nth_body, nth_rule, place_of_body, var_of_atom, literal_of}
 use Rattle.asp_vars.specs.Tabled.{bound_of, form_literals, form_weights, heads_of, Stands}
 use Rattle.asp_vars.proofs.NumberingLaws.{same_body as equal_body}
@@ -51,10 +50,6 @@ some_true (Some false) v e f = absurd (false≢true (sym f))
 pub some_value : (o : Option Bool) (l : Literal) → agrees o l ≡ true → is_none o ≡ false
 some_value None l e = absurd (false≢true e)
 some_value (Some b) l e = refl
-
-no_false : (o : Option Bool) (v : ℕ) → is_none o ≡ true → agrees o (F v) ≡ false
-no_false None v e = refl
-no_false (Some b) v e = absurd (false≢true e)
 
 is_in : (b : Bool) → not b ≡ false → b ≡ true
 is_in true e = refl
@@ -93,10 +88,6 @@ passes_weighted p q (body.All ls) c e = cc e
 passes_weighted p q (body.AtLeast bound items) c e =
     let same : bound ≡ c = cc e in
     ap (λ n. int_le n (weigh q (form_literals p (body.AtLeast bound items)) (form_weights (body.AtLeast bound items)))) (sym same)
-
-pub passes_normal : (p : Program) (q : Literal → Bool) (b : Body) → bound_of b ≡ None → list_all q (form_literals p b) ≡ passes p q b
-passes_normal p q (body.All ls) e = refl
-passes_normal p q (body.AtLeast bound items) e = cc e
 
 -- ---- a rule whose body holds so derives its heads
 pub steps_to : (p : Program) (S D : Atoms) (r : Rule) (a : ℕ) → Among (rules_in_force p) r → body_holds_between S D r.body ≡ true → has (reduct_heads S r.head) a ≡ true → has (step (reduct S (rules_in_force p)) D) a ≡ true
@@ -162,35 +153,6 @@ founds_more p x y heads j sound lt is holds d = record {
     ];
   };
 }
-
-pub derives_none : (heads : List ℕ) (x : List (Option Bool)) → Derives heads x x
-derives_none heads x = record { size = refl; falses = λ v. refl; new = λ v e. inl e }
-
-pub derives_more : (heads : List ℕ) (x z y : List (Option Bool)) (i v : ℕ) → i < length heads → v ≡ get_or heads i v → v < length z → y ≡ cond (is_none (value_of z v)) (set z v (Some true)) z → Derives heads x z → Derives heads x y
-derives_more heads x z y i v lt is inside e h = cases (is_none (value_of z v)) refl
-  where
-    cases : (t : Bool) → t ≡ is_none (value_of z v) → Derives heads x y
-    cases false q = subst (λ w. Derives heads x w) (sym (e ∙ ap (λ t. cond t (set z v (Some true)) z) (sym q))) h
-    cases true q = subst (λ w. Derives heads x w) (sym (e ∙ ap (λ t. cond t (set z v (Some true)) z) (sym q))) record {
-      size = length-set z v (Some true) ∙ h.size;
-      falses = λ w. falses w (eqb v w) refl ∙ h.falses w;
-      new = λ w f. new w (eqb v w) refl f;
-    }
-      where
-        open_ : (w : ℕ) → v ≡ w → holds_in z (F w) ≡ false
-        open_ w same = subst (λ (u : ℕ). holds_in z (F u) ≡ false) same (no_false (value_of z v) v (sym q))
-
-        falses : (w : ℕ) (t : Bool) → t ≡ eqb v w → holds_in (set z v (Some true)) (F w) ≡ holds_in z (F w)
-        falses w true s =
-            let same : v ≡ w = eqb-true v w (sym s) in
-            subst (λ (u : ℕ). holds_in (set z v (Some true)) (F u) ≡ false) same (ap (λ o. agrees o (F v)) (get_or-set_same z v (Some true) None inside)) ∙ sym (open_ w same)
-        falses w false s = ap (λ o. agrees o (F w)) (get_or-set_other z v w (Some true) None (λ u. false≢true (s ∙ eq-eqb v w (sym u))))
-
-        new : (w : ℕ) (t : Bool) → t ≡ eqb v w → holds_in (set z v (Some true)) (T w) ≡ true → (holds_in x (T w) ≡ true) ⊎ ((has heads w ≡ true) × (holds_in x (F w) ≡ false))
-        new w true s f =
-            let same : v ≡ w = eqb-true v w (sym s) in
-            inr (has_at heads w i lt (get_or_default heads i 0 v lt ∙ sym is ∙ same), sym (h.falses w) ∙ open_ w same)
-        new w false s f = h.new w (sym (ap (λ o. agrees o (T w)) (get_or-set_other z v w (Some true) None (λ u. false≢true (s ∙ eq-eqb v w (sym u))))) ∙ f)
 
 -- ---- the body of a rule
 pub rule_body : (p : Program) (i n : ℕ) → i < length (rules_in_force p) → n ≡ place_of_body p (nth_rule p i).body → nth_body p n ≡ normal (nth_rule p i).body

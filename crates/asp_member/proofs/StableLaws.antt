@@ -1,9 +1,9 @@
 -- Whether a set is stable, by what was derived of it.
-use Rattle.std.proofs.Common.{◌≡◌, ℕ, zero, suc, ◌+◌, ◌<◌, ◌≤◌, Bool, true, false, not, cond, ◌&&◌, ◌||◌, eqb, List, [], ◌∷◌, filter, length, get_or, set, replicate, Option, Some, None, refl, sym, ap, ◌∙◌, subst, arith, add-one}
+use Rattle.std.proofs.Common.{◌≡◌, ℕ, ◌+◌, ◌<◌, ◌≤◌, Bool, true, false, not, cond, ◌&&◌, ◌||◌, eqb, List, [], ◌∷◌, filter, length, set, Option, Some, None, refl, sym, ap, ◌∙◌, subst, arith, add-one}
 use Rattle.std.specs.Prelude.{is_none}
 use Rattle.std.specs.List.{list_any, list_all, flat_map, AllByRecursion}
 use Rattle.std.proofs.lemmas.Bool.{false≢true, and_parts, and_from, eqb-true, eq-eqb}
-use Rattle.std.proofs.lemmas.List.{length-set, length-replicate, get_or-set_same, get_or-set_other}
+use Rattle.std.proofs.lemmas.List.{length-set, get_or-set_same, get_or-set_other}
 use Rattle.asp_model.specs.declared.program.Body.{Body}
 use Rattle.asp_model.specs.declared.program.Head.{Head}
 use Rattle.asp_model.specs.declared.program.Head.TheVariants as head
@@ -272,18 +272,6 @@ pub record IsOutside (p : Program) (S : Atoms) (x : List (Option Bool)) (n : ℕ
   pub size : length x ≡ var_count p + 1
   pub before : (k : ℕ) → k < n → value_of x (k + 1) ≡ cond (has S (nth_atom p k)) None (Some false)
   pub after : (v : ℕ) → n < v → value_of x v ≡ None
-
-pub none_outside : (p : Program) (S : Atoms) (x : List (Option Bool)) (m : ℕ) → m ≡ var_count p → x ≡ replicate (m + 1) None → IsOutside p S x 0
-none_outside p S x m vars is = record {
-  size = ap length is ∙ length-replicate (m + 1) None ∙ ap (λ k. k + 1) vars;
-  before = λ k lt. absurd (omega (arith, lt));
-  after = λ v lt. ap (λ z. value_of z v) is ∙ valueless (m + 1) v;
-}
-  where
-    valueless : (n v : ℕ) → get_or (replicate n (let o : Option Bool = None in o)) v None ≡ None
-    valueless zero v = refl
-    valueless (suc n) zero = refl
-    valueless (suc n) (suc v) = valueless n v
 
 pub outside_more : (p : Program) (S : Atoms) (x y : List (Option Bool)) (i a : ℕ) → i < length (atoms_of p) → a ≡ nth_atom p i → y ≡ cond (has S a) x (set x (i + 1) (Some false)) → IsOutside p S x i → IsOutside p S y (i + 1)
 outside_more p S x y i a lt is e h = cases (has S a) refl

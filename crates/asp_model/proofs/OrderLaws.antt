@@ -1,22 +1,15 @@
 -- The order of sets: along a loop over two lists, and as the order by the least difference.
-use Rattle.std.proofs.Common.{◌≡◌, ℕ, zero, suc, ◌+◌, ◌<◌, min, eqb, List, [], ◌∷◌, length, get_or, drop, refl, sym, ap, ◌∙◌, subst, inl, inr, ◌⊎◌, arith, Ordering}
+use Rattle.std.proofs.Common.{◌≡◌, ℕ, zero, suc, ◌<◌, min, eqb, List, [], ◌∷◌, length, drop, refl, sym, ap, ◌∙◌, subst, inl, inr, ◌⊎◌, arith, Ordering}
 use Rattle.std.specs.declared.cmp.Ordering.TheVariants.{Less, Equal, Greater}
 use Rattle.std.specs.List.{AllByRecursion}
 use Rattle.std.specs.Ordering.{nat_cmp, is_eq, ordering_reverse}
 use Rattle.std.specs.Cmp.Lexicographic.{same_text}
 use Rattle.std.proofs.lemmas.Bool.{cases_order, false≢true, or_left, or_from, ne_eqb, eq-eqb}
 use Rattle.std.proofs.lemmas.Bool.Decides.{nat_tests}
-use Rattle.std.proofs.lemmas.List.{drop_more}
 use Rattle.asp_model.specs.Sets.{Atoms, IsAscending, has, set_cmp, IsBefore}
 use Rattle.asp_model.specs.Orders.{sets_tie, sets_total}
 use Rattle.asp_model.proofs.SetLaws.{has-below}
 use Rattle.asp_model.proofs.SubsetLaws.{lacks_first, both_first}
-
-pub set_cmp-same : (xs ys : List ℕ) (i : ℕ) → i < length xs → i < length ys → get_or xs i 0 ≡ get_or ys i 0 → set_cmp (drop i xs) (drop i ys) ≡ set_cmp (drop (i + 1) xs) (drop (i + 1) ys)
-set_cmp-same xs ys i l m e = rw (drop_more xs i 0 l, drop_more ys i 0 m) (grind (arith, nat_tests))
-
-pub set_cmp-other : (xs ys : List ℕ) (i : ℕ) → i < length xs → i < length ys → (get_or xs i 0 ≡ get_or ys i 0 → ⊥) → set_cmp (drop i xs) (drop i ys) ≡ nat_cmp (get_or ys i 0) (get_or xs i 0)
-set_cmp-other xs ys i l m e = rw (drop_more xs i 0 l, drop_more ys i 0 m) (grind (arith, nat_tests))
 
 pub set_cmp-end : (xs ys : List ℕ) (i : ℕ) → i ≡ min (length xs) (length ys) → set_cmp (drop i xs) (drop i ys) ≡ nat_cmp (length xs) (length ys)
 set_cmp-end [] [] i e = grind (arith, nat_tests)

@@ -56,9 +56,6 @@ rules_more d e ms ns rows others m row k s one marks_are rows_are =
           ∙ ap (λ (rs : List Rule). rs ++ rule_of e m row ∷ []) (rules_of-keeps d e ms rows k s),
     )
 
-pub keeps-same : (e : Extras) → Keeps e e
-keeps-same e = record { heads = λ m s. (s, refl); rules = λ m literals s. (s, refl) }
-
 pub keeps-further : (c d e : Extras) → Keeps c d → Keeps d e → Keeps c e
 keeps-further c d e k l = record {
   heads = λ m s. ((l.heads m (k.heads m s).0).0, (l.heads m (k.heads m s).0).1 ∙ (k.heads m s).1);
@@ -112,6 +109,3 @@ rule_kept d e g (mark.Weighted k) literals s =
       ap (λ (v : Weighted). let r : Rule = record { head = head_of e v.head; body = body.AtLeast v.bound (get_or e.items v.row []) } in r) w_is
           ∙ λ i. record { head = same i; body = body.AtLeast w.bound (row_kept i) },
     )
-
-pub keeps-grown : (d e : Extras) → Grows d e → Keeps d e
-keeps-grown d e g = record { heads = head_kept d e g; rules = rule_kept d e g }

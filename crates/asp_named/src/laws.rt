@@ -1,10 +1,9 @@
 //! Laws of programs whose outputs have atoms. Each function's contract is a law, and its body is empty.
-ghost use Rattle.std.specs.Prelude.{◌≡◌, List, [], map, true};
+ghost use Rattle.std.specs.Prelude.{◌≡◌, [], map, true};
 ghost use Rattle.asp_model.specs.declared.program.Program.{Program};
 ghost use Rattle.asp_model.specs.declared.results.Reasoning.{Reasoning};
 ghost use Rattle.asp_model.specs.Consequences.{consequences};
 ghost use Rattle.asp_model.specs.Models.{answers};
-ghost use Rattle.asp_model.specs.Sets.{Atoms};
 ghost use Rattle.asp_model.specs.Sound.{IsSound};
 ghost use Rattle.asp_model.specs.Texts.{shown};
 ghost use Rattle.asp_named.specs.Named.{extended, has_numbers, named};

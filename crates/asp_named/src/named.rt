@@ -1,7 +1,6 @@
 //! A program is given atoms for its outputs.
 ghost use Rattle.std.specs.Prelude.{◌≡◌, ◌+◌, ◌≤◌, [], ◌∷◌, ◌++◌, true, length, IfOk, IfSome, OnOk};
 ghost use Rattle.asp_model.specs.Sound.{IsSound};
-ghost use Rattle.asp_model.specs.Models.{atoms_of};
 ghost use Rattle.asp_model.specs.Views.{output_seen};
 ghost use Rattle.asp_named.specs.Named.{are_plain, first_free, greatest, fits, is_plain, named_from, named_if, named_output, named_outputs, naming_rule, naming_rules};
 

@@ -10,10 +10,6 @@ use Rattle.asp_order.specs.Waiting.{IsOrder, fresh, all_bumped, aged, learnt}
 abbrev pub filled : ℕ → ℕ → List Bool
 filled k m = false ∷ (replicate k true ++ replicate m false)
 
-fill_open : (k m : ℕ) → get_or (replicate k true ++ replicate (suc m) false) k false ≡ false
-fill_open zero m = refl
-fill_open (suc k) m = fill_open k m
-
 fill_next : (k m : ℕ) → set (replicate k true ++ replicate (suc m) false) k true ≡ replicate (suc k) true ++ replicate m false
 fill_next zero m = refl
 fill_next (suc k) m = ap (λ xs. true ∷ xs) (fill_next k m)

@@ -1,13 +1,13 @@
 -- What every heap keeps, through each of its changes.
-use Rattle.std.proofs.Common.{◌≡◌, ◌≢◌, ℕ, suc, zero, ◌+◌, ◌-◌, ◌*◌, ◌/◌, ◌^◌, ◌<◌, ◌≤◌, Bool, true, false, cond, max, List, ◌++◌, length, get_or, set, map, replicate, refl, sym, ap, ◌∙◌, subst, arith, get_or-set_same, get_or-set_other, inl, inr, ◌⊎◌}
+use Rattle.std.proofs.Common.{◌≡◌, ◌≢◌, ℕ, suc, zero, ◌+◌, ◌-◌, ◌*◌, ◌/◌, ◌^◌, ◌<◌, ◌≤◌, Bool, true, false, cond, max, List, ◌++◌, length, get_or, set, map, replicate, refl, sym, ap, ◌∙◌, subst, arith, inl, inr, ◌⊎◌}
 use Rattle.std.specs.List.{All, count_by}
 use Rattle.std.proofs.lemmas.Bool.{false≢true}
 use Rattle.std.proofs.lemmas.List.{length-append, length-set, length-replicate, length-map, get_or_append_left, get_or-append-add}
 use Rattle.std.proofs.lemmas.List.Elements.{All-set, All-append, All-replicate, All-map}
 use Rattle.std.proofs.lemmas.List.Sums.{sum_by-set, sum_by-append, count_by-le-length}
 use Rattle.asp_order.specs.Heaps.{Ranking, is_in, IsFirst}
-use Rattle.asp_order.specs.Sifting.{rank, rank_at, parent, IsHeap, MayRise, IsPlaced, IsRanked}
-use Rattle.asp_order.proofs.SiftLaws.{rise_grown, first_best}
+use Rattle.asp_order.specs.Sifting.{rank, rank_at, parent, IsHeap, IsPlaced, IsRanked}
+use Rattle.asp_order.proofs.SiftLaws.{first_best}
 use Rattle.asp_order.proofs.PlacedLaws.{within_members, rank_precedes}
 
 ones : Bool → ℕ
@@ -17,11 +17,6 @@ pub counted_in : (m : List Bool) (v : ℕ) → v < length m → is_in m v ≡ fa
 counted_in m v h out =
     let f : Bool → ℕ = λ b. cond b 1 0 in
     omega (arith, sum_by-set f m v true false h, ap f out)
-
-pub counted_out : (m : List Bool) (v : ℕ) → is_in m v ≡ true → count_by (λ b. b) (set m v false) + 1 ≡ count_by (λ b. b) m
-counted_out m v inside =
-    let f : Bool → ℕ = λ b. cond b 1 0 in
-    omega (arith, sum_by-set f m v false false (within_members m v inside), ap f inside)
 
 -- there is room for one that isn't in it
 pub room_left : (m : List Bool) (v : ℕ) → v < length m → is_in m v ≡ false → count_by (λ b. b) m < length m
@@ -44,40 +39,6 @@ first_is_first h places items room t some = record {
       rank_precedes h.activities (get_or items 0 0) w (t.placed.numbers 0 some) (omega (arith, is, t.placed.numbers (get_or places w 0) at))
       (omega (arith, le, ap (rank h.activities) is));
 }
-
--- a member whose activity grows may rise
-pub may_rise : (a : List ℕ) (m : List Bool) (places items : List ℕ) (increment room v x : ℕ) → IsRanked a m places items increment room → is_in m v ≡ true → get_or a v 0 ≤ x →
-    MayRise (rank_at (set a v x) items) (length items) (get_or places v 0)
-may_rise a m places items increment room v x t inside more =
-    rise_grown (rank_at a items) (rank_at (set a v x) items) (length items) (get_or places v 0) same at grown t.heap
-  where
-    at : get_or places v 0 < length items
-    at = t.placed.member_at v inside
-
-    is : get_or items (get_or places v 0) 0 ≡ v
-    is = t.placed.member_is v inside
-
-    same : (k : ℕ) → k < length items → k ≢ get_or places v 0 → rank_at (set a v x) items k ≡ rank_at a items k
-    same k h ne =
-        let apart : get_or items k 0 ≢ v = λ e. ne (sym (t.placed.items_at k h) ∙ ap (λ w. get_or places w 0) e) in
-        ap (λ n. n * 2 ^ 32 + (2 ^ 32 - get_or items k 0)) (get_or-set_other a v (get_or items k 0) x 0 apart)
-
-    vm : v < length a
-    vm = omega (arith, within_members m v inside, t.sized)
-
-    grown : rank_at a items (get_or places v 0) ≤ rank_at (set a v x) items (get_or places v 0)
-    grown = omega (arith, ap (rank a) is, ap (rank (set a v x)) is, get_or-set_same a v x 0 vm, more)
-
--- a heap stays one where the activity of another variable grows
-pub heap_beside : (a : List ℕ) (m : List Bool) (places items : List ℕ) (increment room v x : ℕ) → IsRanked a m places items increment room → is_in m v ≡ false →
-    IsHeap (rank_at (set a v x) items) (length items)
-heap_beside a m places items increment room v x t out k p h =
-    omega (arith, t.heap k p h, same k h, same (parent k) (omega arith))
-  where
-    same : (j : ℕ) → j < length items → rank_at (set a v x) items j ≡ rank_at a items j
-    same j l =
-        let apart : get_or items j 0 ≢ v = λ e. false≢true (sym out ∙ (ap (is_in m) (sym e) ∙ t.placed.items_in j l)) in
-        ap (λ n. n * 2 ^ 32 + (2 ^ 32 - get_or items j 0)) (get_or-set_other a v (get_or items j 0) x 0 apart)
 
 pub ranked_grown : (a : List ℕ) (m : List Bool) (places items new after : List ℕ) (increment room v x : ℕ) → IsRanked a m places items increment room → x ≤ 2 ^ 60 →
     length after ≡ length places → length new ≡ length items → IsPlaced m new after → IsHeap (rank_at (set a v x) new) (length new) →

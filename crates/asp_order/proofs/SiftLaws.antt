@@ -1,5 +1,5 @@
 -- Ranks in a binary heap, where an item rises or sinks.
-use Rattle.std.proofs.Common.{◌≡◌, ◌≢◌, ℕ, suc, zero, ◌+◌, ◌<◌, ◌≤◌, Bool, true, false, eqb, refl, sym, ap, arith}
+use Rattle.std.proofs.Common.{◌≡◌, ◌≢◌, ℕ, suc, zero, ◌<◌, ◌≤◌, Bool, true, false, eqb, refl, sym, ap, arith}
 use Rattle.std.proofs.lemmas.Bool.{eqb-true}
 use Rattle.std.proofs.lemmas.Bool.Decides.{nat_tests}
 use Rattle.asp_order.specs.Sifting.{parent, IsHeap, MayRise, MaySink}
@@ -9,18 +9,6 @@ pub record Exchanged (r s : ℕ → ℕ) (i j : ℕ) : Type 0 where
   pub here : s i ≡ r j
   pub there : s j ≡ r i
   pub others : (k : ℕ) → k ≢ i → k ≢ j → s k ≡ r k
-
--- the first place rises no further
-pub rise_root : (r : ℕ → ℕ) (n at : ℕ) → at ≡ 0 → MayRise r n at → IsHeap r n
-rise_root r n at z m k p h = m.others k p h (omega arith)
-
--- what has no greater rank than its parent rises no further
-pub rise_stays : (r : ℕ → ℕ) (n at : ℕ) → r at ≤ r (parent at) → MayRise r n at → IsHeap r n
-rise_stays r n at le m k p h = cases (eqb k at) refl
-  where
-    cases : (b : Bool) → b ≡ eqb k at → r k ≤ r (parent k)
-    cases true q = let e : k ≡ at = eqb-true k at (sym q) in omega (arith, le, ap r e, ap (λ j. r (parent j)) e)
-    cases false q = let ne : k ≢ at = grind (arith, nat_tests) in m.others k p h ne
 
 pub rise_up : (r s : ℕ → ℕ) (n at : ℕ) → 0 < at → at < n → Exchanged r s at (parent at) → r (parent at) < r at → MayRise r n at → MayRise s n (parent at)
 rise_up r s n at pos lt x more m = record {
@@ -61,17 +49,6 @@ rise_up r s n at pos lt x more m = record {
         let nk : k ≢ parent at = omega arith in
         omega (arith, x.others k no nk, m.others k p h no, ap r q, x.others (parent (parent at)) f.0 f.1, m.others (parent at) up (omega arith) (omega arith))
 
--- what has no children, or none of a greater rank, sinks no further
-pub sink_leaf : (r : ℕ → ℕ) (n at : ℕ) → ((k : ℕ) → 0 < k → k < n → parent k ≢ at) → MaySink r n at → IsHeap r n
-sink_leaf r n at none m k p h = m.others k p h (none k p h)
-
-pub sink_stays : (r : ℕ → ℕ) (n at : ℕ) → ((k : ℕ) → 0 < k → k < n → parent k ≡ at → r k ≤ r at) → MaySink r n at → IsHeap r n
-sink_stays r n at le m k p h = cases (eqb (parent k) at) refl
-  where
-    cases : (b : Bool) → b ≡ eqb (parent k) at → r k ≤ r (parent k)
-    cases true q = let e : parent k ≡ at = eqb-true (parent k) at (sym q) in omega (arith, le k p h e, ap r e)
-    cases false q = let ne : parent k ≢ at = grind (arith, nat_tests) in m.others k p h ne
-
 pub sink_down : (r s : ℕ → ℕ) (n at child : ℕ) → 0 < child → child < n → parent child ≡ at → Exchanged r s at child → r at < r child →
     ((k : ℕ) → 0 < k → k < n → parent k ≡ at → r k ≤ r child) → MaySink r n at → MaySink s n child
 sink_down r s n at child pos lt up x more first m = record {
@@ -106,13 +83,6 @@ sink_down r s n at child pos lt up x more first m = record {
         let np : parent k ≢ at = omega arith in
         omega (arith, x.others k na nc, ap s up, x.here, m.others k p h np, ap r q)
 
--- A heap of more is one of fewer, and one place more may rise.
-pub rise_next : (r : ℕ → ℕ) (n : ℕ) → IsHeap r n → MayRise r (n + 1) n
-rise_next r n h = record {
-  others = λ k p l ne. h k p (omega arith);
-  around = λ k p l q z. absurd (omega arith);
-}
-
 -- No place has a greater rank than the first.
 pub first_best : (r : ℕ → ℕ) (n : ℕ) → IsHeap r n → (k : ℕ) → k < n → r k ≤ r 0
 first_best r n h k l = go (suc k) k (omega arith) l
@@ -126,30 +96,3 @@ first_best r n h k l = go (suc k) k (omega arith) l
         cases false q rest =
             let ne : k ≢ 0 = grind (arith, nat_tests) in
             omega (arith, h k (omega arith) l, rest (omega arith) (omega arith))
-
--- The first place may sink, and a place may rise whose rank grew.
-pub sink_first : (r s : ℕ → ℕ) (n : ℕ) → ((k : ℕ) → 0 < k → s k ≡ r k) → IsHeap r n → MaySink s n 0
-sink_first r s n same h = record {
-  others = λ k p l ne. omega (arith, same k p, same (parent k) (omega arith), h k p l);
-  around = λ k p l q z. absurd (omega arith);
-}
-
-pub rise_grown : (r s : ℕ → ℕ) (n at : ℕ) → ((k : ℕ) → k < n → k ≢ at → s k ≡ r k) → at < n → r at ≤ s at → IsHeap r n → MayRise s n at
-rise_grown r s n at same lt more h = record {
-  others = λ k p l ne. other k p l ne (eqb (parent k) at) refl;
-  around = λ k p l q z. near k p l q z;
-}
-  where
-    other : (k : ℕ) → 0 < k → k < n → k ≢ at → (b : Bool) → b ≡ eqb (parent k) at → s k ≤ s (parent k)
-    other k p l ne true q =
-        let e : parent k ≡ at = eqb-true (parent k) at (sym q) in
-        omega (arith, same k l ne, h k p l, ap r e, ap s e, more)
-    other k p l ne false q =
-        let np : parent k ≢ at = grind (arith, nat_tests) in
-        omega (arith, same k l ne, h k p l, same (parent k) (omega arith) np)
-
-    near : (k : ℕ) → 0 < k → k < n → parent k ≡ at → 0 < at → s k ≤ s (parent at)
-    near k p l q z =
-        let ne : k ≢ at = omega arith in
-        let np : parent at ≢ at = omega arith in
-        omega (arith, same k l ne, h k p l, ap r q, h at z lt, same (parent at) (omega arith) np)

@@ -10,7 +10,7 @@ use Rattle.asp_trail.specs.Entries.{assign, assignment, cut}
 use Rattle.asp_trail.specs.Trails.{IsVar, IsOrdered}
 use Rattle.asp_trail.proofs.EntryLaws.{entry_assigned, fold_found, none_at}
 use Rattle.asp_order.specs.Heaps.{Ranking, is_in}
-use Rattle.asp_order.specs.Waiting.{AreWaiting, AreAssigned, IsFuller}
+use Rattle.asp_order.specs.Waiting.{AreWaiting, IsFuller}
 
 -- ---- a value more
 -- what has no value after an entry has none before, and is another variable
@@ -43,10 +43,6 @@ waiting_next vars es old new v q a e is w iv n =
     let b = open_before vars es e w iv n in
     let ne : w ≢ v = λ x. b.0 (x ∙ sym is) in
     ap (λ (x : Ranking). is_in x.members w) q ∙ (get_or-set_other old.members v w false false ne ∙ a w iv b.1)
-
--- with a value for each variable none waits
-pub assigned_waiting : (vars : ℕ) (es : List Entry) (h : Ranking) → AreAssigned vars (assignment vars es) → AreWaiting vars es h
-assigned_waiting vars es h a v iv n = absurd (false≢true (sym (ap is_some n) ∙ a v iv))
 
 -- ---- values that go
 -- what passes the test is still there

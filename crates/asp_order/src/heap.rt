@@ -1,5 +1,5 @@
 //! The unassigned variables, the most active one first.
-ghost use Rattle.std.specs.Prelude.{◌≡◌, ◌+◌, ◌-◌, ◌/◌, ◌^◌, ◌<◌, ◌≤◌, ◌↔◌, ℕ, [], ◌++◌, length, map, max, replicate, nat_le, slice_set, slice_index, true, false, IsNone, IfSome, IfNone, OnOk, OnErr};
+ghost use Rattle.std.specs.Prelude.{◌≡◌, ◌+◌, ◌-◌, ◌/◌, ◌^◌, ◌<◌, ◌≤◌, ◌↔◌, [], length, map, max, slice_set, slice_index, true, false, IsNone, IfSome, IfNone, OnOk, OnErr};
 ghost use Rattle.std.specs.List.{All};
 ghost use Rattle.asp_order.specs.Heaps.{is_in, IsFirst, reserved, rescaled, raised, bumped, decayed};
 

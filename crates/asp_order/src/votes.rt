@@ -3,7 +3,7 @@
 //! A nogood that has one of a variable's literals asks for the other one. Where nearly all that have the variable ask for
 //! the same value, it is decided to have that one, whatever it had last: in puzzles and plans most atoms stand with one
 //! sign in what is learnt.
-ghost use Rattle.std.specs.Prelude.{◌≡◌, ◌+◌, IfOk, replicate, slice_set, min, ◌-◌, ◌^◌};
+ghost use Rattle.std.specs.Prelude.{◌≡◌, ◌+◌, IfOk, replicate, slice_set, ◌-◌};
 ghost use Rattle.asp_order.specs.Voting.{asked, count_at, counted, none, outnumber, tied, voted};
 
 use asp_vars::lit::{Lit, Var};

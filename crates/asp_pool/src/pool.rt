@@ -39,11 +39,11 @@ impl Pool {
     ghost use Rattle.std.specs.Prelude.{◌≡◌, ◌<◌, ◌⊎◌, ◌∷◌, [], length, slice_set, IfOk};
     ghost use mathlib.Core.Option.{some};
     ghost use lib.ListN.{get_elem?};
-    ghost use Rattle.crossbeam_deque.specs.Handles.{view, taken, IsPassOf, SamePass, stealer_deque, stealer_flavor};
+    ghost use Rattle.crossbeam_deque.specs.Handles.{view, taken, IsPassOf, stealer_deque, stealer_flavor};
     ghost use Rattle.asp_pool.specs.declared.once.Share.{Share};
-    ghost use Rattle.asp_pool.specs.Lists.{Every, Pairs};
-    ghost use Rattle.asp_pool.specs.Once.{TakesNext, WasEmpty, share};
-    ghost use Rattle.asp_pool.specs.Pools.{IsOfPool, lane_count, pass_shares, pass_counts, Rises, MatchStolen, IsFresh, IsFreshLane, Serves, HasJoined};
+    ghost use Rattle.asp_pool.specs.Lists.{Every};
+    ghost use Rattle.asp_pool.specs.Once.{TakesNext, WasEmpty};
+    ghost use Rattle.asp_pool.specs.Pools.{IsOfPool, lane_count, pass_shares, Rises, MatchStolen, IsFresh, IsFreshLane, Serves, HasJoined};
 
     /// How many lanes there are.
     pub fn lanes(&self) -> u32

@@ -1,6 +1,6 @@
 //! The fields of a line. The grammar leaves no choice: each value has one text, so a field is right exactly where it is
 //! the text of the number that it spells.
-ghost use Rattle.std.specs.Prelude.{◌≡◌, ◌==◌, ◌≢◌, ◌+◌, ◌++◌, ◌<◌, ◌≤◌, ◌^◌, ℤ, List, ℕ, [], length, flat_map, IfOk, MatchBool, MatchOption};
+ghost use Rattle.std.specs.Prelude.{◌≡◌, ◌==◌, ◌+◌, ◌++◌, ◌<◌, ◌≤◌, List, ℕ, length, flat_map, IfOk, MatchBool, MatchOption};
 ghost use Rattle.std.specs.List.{AllByRecursion, position, position_or_len};
 ghost use Rattle.std.specs.Fmt.{signed_decimal};
 ghost use Rattle.asp_proof.specs.Texts.{natural_field, integer_field};

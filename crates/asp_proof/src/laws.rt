@@ -1,5 +1,5 @@
 //! Laws of texts of proofs. Each function's contract is a law, and its body is empty.
-ghost use Rattle.std.specs.Prelude.{◌≡◌, ◌≤◌, List, length, Result};
+ghost use Rattle.std.specs.Prelude.{◌≡◌, ◌≤◌, length, Result};
 ghost use Rattle.asp_proof.specs.declared.proof.Proof.{Proof};
 ghost use Rattle.asp_proof.specs.declared.error.ProofError.{ProofError};
 ghost use Rattle.asp_proof.specs.Texts.{text_of};

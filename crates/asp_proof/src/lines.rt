@@ -1,5 +1,5 @@
 //! A line of a proof, without its line feed.
-ghost use Rattle.std.specs.Prelude.{◌≡◌, ◌≤◌, ◌∷◌, length, IfOk, MatchOption};
+ghost use Rattle.std.specs.Prelude.{◌∷◌, IfOk, MatchOption};
 ghost use Rattle.asp_proof.specs.Grammar.{IsSet, IsNogood, IsLoop, IsLine};
 ghost use Rattle.asp_proof.specs.Texts.{atoms_fields, literals_fields, loop_fields, answer_text, line_text};
 ghost use Rattle.asp_proof.specs.Fields.{IsNone, IsWhole};

@@ -1,9 +1,8 @@
 -- Nogoods and entries that are added.
-use Rattle.std.proofs.Common.{◌≡◌, ℕ, false, List, [], ◌++◌, length, Option, Some, None, ◌⊎◌, inl, inr, refl, sym, ap, ◌∙◌, subst, append_assoc, arith}
+use Rattle.std.proofs.Common.{◌≡◌, ℕ, false, List, ◌++◌, length, Option, Some, None, ◌⊎◌, inl, inr, refl, sym, ap, ◌∙◌, subst, append_assoc}
 use Rattle.std.specs.Prelude.{ℤ}
 use Rattle.std.specs.List.{All}
 use Rattle.std.specs.Option.{option_map}
-use Rattle.std.proofs.lemmas.List.{append-nil}
 use Rattle.std.proofs.lemmas.List.Elements.{All-append}
 use Rattle.std.proofs.lemmas.Option.{none-some, same_Some}
 use Rattle.asp_model.specs.declared.program.Program.{Program}
@@ -18,26 +17,13 @@ use Rattle.asp_store.specs.Keeping.{kept_at, nogood_at, IsAddedAt}
 use Rattle.asp_store.specs.Fitting.{IsImpliedAt, Extends}
 use Rattle.asp_store.proofs.GetLaws.{is_or_not}
 use Rattle.asp_store.proofs.GrowLaws.{level_stays, implied_kept}
-use Rattle.asp_propagate.specs.Propagating.{IsGiven, Adds, Implies, GoesOn, AreUnlocked}
+use Rattle.asp_propagate.specs.Propagating.{Adds, Implies, GoesOn, AreUnlocked}
 
 -- ---- nogoods
 pub adds_none : (gives : Nogood → Type 0) (old new : List (Option StoredNogood)) → new ≡ old → Adds gives old new
 adds_none gives old new q = record {
   stay = λ id k g. ap (λ (zs : List (Option StoredNogood)). kept_at zs id) q ∙ g;
   given = λ id k g. inl (sym (ap (λ (zs : List (Option StoredNogood)). kept_at zs id) q) ∙ g);
-}
-
-pub adds_one : (gives : Nogood → Type 0) (old new : List (Option StoredNogood)) (id : ℕ) (n : Nogood) → IsAddedAt old new id n kind.Given → gives n → Adds gives old new
-adds_one gives old new id n a g = record {
-  stay = λ j k h. elim (is_or_not j id) [
-    | inl e ↦ absurd (none-some k (sym a.free ∙ (ap (kept_at old) (sym e) ∙ h)))
-    | inr ne ↦ a.others j ne ∙ h
-  ];
-  given = λ j k h. elim (is_or_not j id) [
-    | inl e ↦ inr (subst (IsGiven gives) (same_Some (record { nogood = n; kind = kind.Given; locked = false }) k (sym a.here ∙ (ap (kept_at new) (sym e) ∙ h)))
-        record { passes = g; kind = refl; unlocked = refl })
-    | inr ne ↦ inl (sym (a.others j ne) ∙ h)
-  ];
 }
 
 pub adds_more : (gives : Nogood → Type 0) (a b c : List (Option StoredNogood)) → Adds gives a b → Adds gives b c → Adds gives a c
@@ -63,10 +49,6 @@ adds_each gives old new id n x g = cases (kept_at new id) refl
           | inr e ↦ inr (subst gives same e.passes)
         ]
 
--- what was kept is kept
-pub adds_stay : (gives : Nogood → Type 0) (old new : List (Option StoredNogood)) (id : ℕ) (k : StoredNogood) → Adds gives old new → kept_at old id ≡ Some k → kept_at new id ≡ Some k
-adds_stay gives old new id k x g = x.stay id k g
-
 -- ---- locks
 pub unlocked_added : (old new : List (Option StoredNogood)) (id : ℕ) (n : Nogood) (kind : Kind) → IsAddedAt old new id n kind → AreUnlocked old → AreUnlocked new
 unlocked_added old new id n kind a u j k g =
@@ -76,9 +58,6 @@ unlocked_added old new id n kind a u j k g =
     ]
 
 -- ---- entries
-pub implies_none : (es : List Entry) → Implies es es
-implies_none es = ([], sym (append-nil es), λ i d h. absurd (omega arith))
-
 pub implies_more : (es fs gs : List Entry) → Implies es fs → Implies fs gs → Implies es gs
 implies_more es fs gs a b =
     let same : level fs ≡ level es = ap level a.1 ∙ level_stays es a.0 a.2 in (

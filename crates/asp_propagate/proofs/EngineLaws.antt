@@ -1,5 +1,5 @@
 -- What callers see of a engine, and what its parts are.
-use Rattle.std.proofs.Common.{◌≡◌, ℕ, ◌+◌, ◌≤◌, Bool, List, [], length, replicate, min, Option, Some, None, sym, ap, ◌∙◌, subst, arith}
+use Rattle.std.proofs.Common.{◌≡◌, ℕ, List, length, min, Option, Some, None, sym, ap, ◌∙◌, subst}
 use Rattle.std.specs.Prelude.{ℤ, Result, Ok, Err}
 use Rattle.std.specs.Result.{IfOk, OnErr}
 use Rattle.asp_model.specs.declared.program.Program.{Program}
@@ -12,12 +12,8 @@ use Rattle.asp_trail.specs.Trails.{Trailed, IsVar}
 use Rattle.asp_trail.specs.Told.{Told}
 use Rattle.asp_store.specs.declared.stored_nogood.StoredNogood.{StoredNogood}
 use Rattle.asp_store.specs.declared.stored_nogood.Kind.{Kind}
-use Rattle.asp_store.specs.Keeping.{kept_at}
 use Rattle.asp_store.specs.Storing.{Stored, IsAdded}
-use Rattle.asp_store.proofs.FitsLaws.{fits_begin}
 use Rattle.asp_propagate.specs.Propagating.{Propagating, values_of, IsFollowed}
-use Rattle.asp_propagate.specs.Late.{AreExplained, AreLateBy}
-use Rattle.asp_propagate.proofs.LateLaws.{explained_none, late_none}
 use Rattle.asp_propagate.proofs.PropagateLaws.{followed_added}
 
 -- what callers see of these parts
@@ -61,21 +57,6 @@ if_ok (Err e) P Q f h = tt
 -- ---- the beginning
 none_some : {A : Type 0} (x : A) → None ≡ Some x → ⊥
 none_some x q = cc
-
-pub followed_begin : (why : Program → List Entry → Literal → ℕ → Type 0) (t : Told) (s : Stored) (r : Trailed) (vars : ℕ) → s ≡ record { vars = vars; slots = []; rows = []; apart = record { items = []; first = 0; last = 0 }; given = [] } → r.vars ≡ vars →
-    r.entries ≡ [] → vars ≤ r.room → vars ≡ var_count t.program → t.values ≡ replicate (vars + 1) None → IsFollowed why t s r 0
-followed_begin why t s r vars store v e room count fresh = record {
-  told = record {
-    vars = v ∙ count;
-    begun = omega arith;
-    values = fresh ∙ ap (λ (n : ℕ). let o : Option Bool = None in replicate (n + 1) o) (sym v);
-  };
-  room = omega (arith, room, v);
-  fits = fits_begin s r (v ∙ sym (ap (λ (z : Stored). z.vars) store)) e (ap (λ (z : Stored). z.slots) store);
-  unlocked = λ id k g. absurd (none_some k (sym (ap (λ (z : Stored). kept_at z.slots id) store) ∙ g));
-  explained = subst (AreExplained (why t.program)) (sym e) (explained_none (why t.program));
-  late_told = subst (λ (xs : List Entry). AreLateBy xs 0) (sym e) (late_none 0);
-}
 
 -- ---- a trail that is cut
 pub cut_trail : (r q : Trailed) (l : ℕ) → q ≡ record r { entries = q.entries; seen = q.seen } → q.entries ≡ cut l r.entries → q.seen ≡ min r.seen (length q.entries) →

@@ -1,5 +1,5 @@
 -- What is dropped while the reasons of a trail are locked.
-use Rattle.std.proofs.Common.{◌≡◌, ◌≢◌, ℕ, suc, zero, ◌+◌, ◌<◌, ◌≤◌, Bool, true, false, not, cond, ◌||◌, ◌&&◌, eqb, ltb, List, [], ◌∷◌, length, take, set, get_or, Option, Some, None, ◌⊎◌, inl, inr, refl, sym, ap, ◌∙◌, subst, arith, get_or-set_other}
+use Rattle.std.proofs.Common.{◌≡◌, ◌≢◌, ℕ, suc, zero, ◌+◌, ◌<◌, Bool, true, false, not, cond, ◌||◌, ◌&&◌, eqb, ltb, List, [], ◌∷◌, length, take, set, get_or, Option, Some, None, ◌⊎◌, inl, inr, refl, sym, ap, ◌∙◌, subst, arith, get_or-set_other}
 use Rattle.std.proofs.lemmas.Bool.{eqb-true, eq-eqb, false≢true}
 use Rattle.std.proofs.lemmas.Bool.Decides.{nat_tests}
 use Rattle.std.proofs.lemmas.List.{length-set, take_more}
@@ -13,15 +13,6 @@ use Rattle.asp_store.specs.Pairs.{pair_at}
 use Rattle.asp_store.specs.Storing.{Stored, Loses}
 use Rattle.asp_propagate.specs.Propagating.{is_reason, is_named, IsReduced, AreUnlocked}
 use Rattle.asp_propagate.specs.Locking.{lock_reason, lock_all}
-
-set_beyond : {X : Type 0} → (xs : List X) (i : ℕ) (v : X) → length xs ≤ i → set xs i v ≡ xs
-set_beyond [] i v h = refl
-set_beyond (x ∷ xs) zero v h = absurd (omega (arith, h))
-set_beyond (x ∷ xs) (suc i) v h = ap (λ ys. x ∷ ys) (set_beyond xs i v (omega (arith, h)))
-
--- a number without a slot locks nothing
-pub lock_beyond : (b : Bool) (xs : List (Option StoredNogood)) (id : ℕ) → length xs ≤ id → lock_reason b xs (Some id) ≡ xs
-lock_beyond b xs id h = set_beyond xs id (with_lock b (kept_at xs id)) h
 
 -- ---- which slots are locked
 lock_same : (b : Bool) (xs : List (Option StoredNogood)) (j : ℕ) → kept_at (set xs j (with_lock b (kept_at xs j))) j ≡ with_lock b (kept_at xs j)

@@ -28,7 +28,7 @@ use Rattle.asp_propagate.specs.Propagating.{WasTold, IsFollowed, IsUnnamed, IsRe
 use Rattle.asp_propagate.specs.Late.{AreExplained, AreLateBy}
 use Rattle.asp_propagate.proofs.LateLaws.{explained_push, explained_more, explained_cut, explained_none, late_push, late_more, late_cut, late_none}
 use Rattle.asp_propagate.proofs.TellLaws.{told_extends, told_cut, told_none}
-use Rattle.asp_propagate.proofs.AddLaws.{unlocked_added, adds_none, adds_one, implies_none, implies_from}
+use Rattle.asp_propagate.proofs.AddLaws.{unlocked_added, adds_none, implies_from}
 
 none_some : {A : Type 0} (x : A) → None ≡ Some x → ⊥
 none_some x q = cc
@@ -220,24 +220,6 @@ asked_same why t u s z r n p q f = subst (λ (x : Told). IsFollowed why x z r n)
 
 pub asked_more : (why : Program → List Entry → Literal → ℕ → Type 0) (t u : Told) (s z : Stored) (r : Trailed) (n id : ℕ) (m : Nogood) (kind : Kind) → u ≡ t → IsAdded s z id m kind → IsFollowed why t s r n → IsFollowed why u z r n
 asked_more why t u s z r n id m kind p a f = subst (λ (x : Told). IsFollowed why x z r n) (sym p) (followed_added why t s z r n id m kind a f)
-
-pub goes_same : (gives : Nogood → Type 0) (t u : Told) (b c : Option (List ℤ)) (xs ys : List (Option StoredNogood)) (es : List Entry) → u ≡ t → c ≡ b → ys ≡ xs →
-    GoesOn gives t u b c xs ys es es
-goes_same gives t u b c xs ys es p q e = record {
-  program = ap (λ (x : Told). x.program) p;
-  bound_stays = q;
-  adds = adds_none gives xs ys e;
-  implies = implies_none es;
-}
-
-pub goes_one : (gives : Nogood → Type 0) (t u : Told) (b c : Option (List ℤ)) (s z : Stored) (es : List Entry) (id : ℕ) (m : Nogood) → u ≡ t → c ≡ b →
-    IsAdded s z id m kind.Given → gives m → GoesOn gives t u b c s.slots z.slots es es
-goes_one gives t u b c s z es id m p q a g = record {
-  program = ap (λ (x : Told). x.program) p;
-  bound_stays = q;
-  adds = adds_one gives s.slots z.slots id m a.slots g;
-  implies = implies_none es;
-}
 
 -- an entry came that the propagator explains
 pub goes_late : (gives : Nogood → Type 0) (t u : Told) (b c : Option (List ℤ)) (xs : List (Option StoredNogood)) (es fs : List Entry) (l : Literal) (id : ℕ) → u.program ≡ t.program → c ≡ b →

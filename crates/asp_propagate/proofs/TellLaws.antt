@@ -2,7 +2,7 @@
 use Rattle.std.proofs.Common.{◌≡◌, ◌≢◌, ℕ, suc, zero, ◌+◌, ◌-◌, ◌<◌, ◌≤◌, Bool, true, false, List, [], ◌∷◌, ◌++◌, length, take, set, get_or, replicate, Option, Some, None, refl, sym, ap, ◌∙◌, subst, arith, get_or-set_same}
 use Rattle.std.specs.List.{All, AllPairs}
 use Rattle.std.specs.Bool.{beq}
-use Rattle.std.proofs.lemmas.List.{take_more, take_all, take-take, take-append-le, length-append, length-take-le, get_or-take}
+use Rattle.std.proofs.lemmas.List.{take_more, take-take, take-append-le, length-append, length-take-le, get_or-take}
 use Rattle.std.proofs.lemmas.List.Sums.{fold-append}
 use Rattle.asp_vars.specs.Literals.{Literal, agrees, holds_in, value_of}
 use Rattle.asp_trail.specs.declared.trail.Entry.{Entry}
@@ -117,6 +117,3 @@ told_none t r s v w = record {
   begun = omega arith;
   values = w.values ∙ ap (λ (m : ℕ). assignment m []) (sym v);
 }
-
-pub told_values : (t : Told) (r : Trailed) (n : ℕ) → n ≡ length r.entries → WasTold t r n → t.values ≡ assignment r.vars r.entries
-told_values t r n q w = w.values ∙ ap (assignment r.vars) (take_all n r.entries (omega arith))

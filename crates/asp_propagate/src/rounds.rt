@@ -10,7 +10,7 @@ ghost use Rattle.asp_vars.specs.Literals.{value_of};
 ghost use Rattle.asp_vars.specs.Numbering.{var_count};
 ghost use Rattle.asp_store.specs.Walking.{IsViolated};
 ghost use Rattle.asp_propagate.specs.Saying.{IsFollowing};
-ghost use Rattle.asp_propagate.specs.Propagating.{WasTold, IsFollowed, GoesOn, AreAtFixpoint, IsFixpoint, Asked};
+ghost use Rattle.asp_propagate.specs.Propagating.{IsFollowed, GoesOn, AreAtFixpoint, IsFixpoint, Asked};
 
 use crate::propagator::Propagator;
 use crate::telling::tell;

@@ -1,5 +1,5 @@
 //! A set of atoms.
-ghost use Rattle.std.specs.Prelude.{◌≡◌, ◌<◌, ◌||◌, ℕ, [], true, false, length, nat_eq, slice_index_or, IsTrue, OnOk, OnErr};
+ghost use Rattle.std.specs.Prelude.{◌≡◌, ◌<◌, ◌||◌, ℕ, [], true, false, length, nat_eq, slice_index_or, OnOk, OnErr};
 ghost use Rattle.asp_model.specs.Sets.{has, with_atom};
 
 use asp_model::program::Atom;

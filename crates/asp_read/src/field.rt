@@ -1,11 +1,9 @@
 // One field after another. Each function gives the value and what follows it on the line.
-ghost use Rattle.std.specs.Prelude.{◌≡◌, ◌∷◌, List, ℕ, length, drop, nat_le, ◌&&◌, ◌+◌, ◌≤◌, IfOk};
-ghost use Rattle.std.specs.declared.result.Result.{Result};
-ghost use Rattle.asp_text.specs.Fields.{unblank};
+ghost use Rattle.std.specs.Prelude.{◌≡◌, length, drop, nat_le, ◌&&◌, ◌+◌, ◌≤◌, IfOk};
 ghost use Rattle.asp_model.specs.Sets.{with_atom};
 ghost use Rattle.asp_model.specs.Holding.{atom_of};
 ghost use Rattle.asp_read.specs.Gives.{Gives};
-ghost use Rattle.asp_read.specs.Fields.{Reads, natural_at, integer_at, signed_at, atom_at, any_literal_at, literal_at, passed_at, weighted_at, count_at, many_at, text_at, ends_field, ended, most_counted};
+ghost use Rattle.asp_read.specs.Fields.{natural_at, integer_at, atom_at, any_literal_at, literal_at, passed_at, weighted_at, count_at, text_at, ends_field, ended, most_counted};
 
 use crate::error::{LineError, broken};
 use crate::fault::FaultKind;

@@ -1,6 +1,5 @@
 // A statement of a line, after the program so far.
-ghost use Rattle.std.specs.Prelude.{◌≡◌, ◌+◌, ◌≤◌, ◌++◌, length, map, IfOk, codes};
-ghost use Rattle.std.specs.declared.result.Result.{Result};
+ghost use Rattle.std.specs.Prelude.{◌≡◌, ◌+◌, ◌≤◌, ◌++◌, length, map, IfOk};
 ghost use Rattle.asp_text.specs.Fields.{integer_of};
 ghost use Rattle.asp_model.specs.Sets.{with_atom, with_atoms};
 ghost use Rattle.asp_model.specs.Holding.{atom_of, body_atoms};

@@ -105,10 +105,6 @@ encode_step atoms S some =
     let count : word_count atoms ≡ suc (word_count (drop 64 atoms)) = omega (arith, some, length-drop 64 atoms) in
     ap (λ (n : ℕ). words n S atoms) count
 
-pub encode_none : (atoms : List ℕ) (S : Atoms) → length atoms ≡ 0 → encode atoms S ≡ []
-encode_none [] S e = refl
-encode_none (a ∷ atoms) S e = absurd (omega arith)
-
 -- ---- the loops
 
 less_is : (m n : ℕ) → true ≡ nat_lt m n → m < n

@@ -112,19 +112,6 @@ give_all (x ∷ classes) given count small h =
     cases c false q here later e = later (ap (λ b. b || is_in classes c) q ∙ e)
 
 -- ---- members
-pub no_members : (numbers : List ℕ) (count : ℕ) (rows : List (List ℕ)) → rows ≡ replicate count [] → HasMembers numbers count 1 rows
-no_members numbers count rows is = subst (λ (r : List (List ℕ)). HasMembers numbers count 1 r) (sym is) record {
-  size = length-replicate count [];
-  has = λ k v lt. ap (λ r. is_in r v) (get_or-replicate count k [] [] lt) ∙ none v (eqb (get_or numbers v 0) k);
-}
-  where
-    none : (v : ℕ) (b : Bool) → false ≡ (ltb 0 v && (ltb v 1 && b))
-    none v b = cases (ltb 0 v) refl
-      where
-        cases : (t : Bool) → t ≡ ltb 0 v → false ≡ (ltb 0 v && (ltb v 1 && b))
-        cases true e = let late : ltb v 1 ≡ false = grind (arith, nat_tests) in ap (λ t. t && (false && b)) e ∙ sym (ap (λ t. ltb 0 v && (t && b)) late)
-        cases false e = ap (λ t. t && (ltb v 1 && b)) e
-
 pub one_member : (numbers : List ℕ) (count i : ℕ) (rows rows' : List (List ℕ)) → 0 < i → get_or numbers i 0 < count → rows' ≡ with_edge i rows (get_or numbers i 0) → HasMembers numbers count i rows → HasMembers numbers count (i + 1) rows'
 one_member numbers count i rows rows' pos_i lt is h = subst (λ (r : List (List ℕ)). HasMembers numbers count (i + 1) r) (sym is) record {
   size = length-set rows (get_or numbers i 0) (get_or rows (get_or numbers i 0) [] ++ i ∷ []) ∙ h.size;

@@ -1,13 +1,12 @@
 -- The edges of a graph, turned round one by one.
-use Rattle.std.proofs.Common.{◌≡◌, ◌≢◌, ℕ, ◌+◌, ◌<◌, ◌≤◌, Bool, true, false, ◌&&◌, ◌||◌, eqb, ltb, List, [], ◌∷◌, ◌++◌, length, get_or, refl, sym, ap, ◌∙◌, subst, arith, replicate}
+use Rattle.std.proofs.Common.{◌≡◌, ◌≢◌, ℕ, ◌+◌, ◌<◌, Bool, true, false, ◌&&◌, ◌||◌, eqb, ltb, List, [], ◌∷◌, ◌++◌, length, get_or, refl, sym, ap, ◌∙◌, subst, arith}
 use Rattle.std.specs.Prelude.{fold, All}
 use Rattle.std.proofs.lemmas.Bool.{false≢true, eqb-true, eq-eqb, ltb-true, lt-ltb, and_parts}
 use Rattle.std.proofs.lemmas.Bool.Decides.{nat_tests}
 use Rattle.std.proofs.lemmas.List.{get_or-set_same, get_or-set_other}
 use Rattle.std.proofs.lemmas.List.Elements.{All-head, All-tail, All-weaker}
-use Rattle.std.proofs.Math.ListN.{length-set, get_or-eq_default}
-use Rattle.std.proofs.lemmas.List.{get_or-replicate, length-replicate}
-use Rattle.asp_scc.specs.Graphs.{Graph, edges, is_in, IsGraph, IsReverse}
+use Rattle.std.proofs.Math.ListN.{length-set}
+use Rattle.asp_scc.specs.Graphs.{Graph, edges, is_in, IsGraph}
 use Rattle.asp_scc.specs.Edges.{with_edge}
 use Rattle.asp_scc.proofs.SearchLaws.{is_in-push, is_in-at, get_or-any}
 
@@ -65,20 +64,6 @@ pub record Turning (g rows : Graph) (i : ℕ) : Type 0 where
   pub size : length rows ≡ length g
   pub edges : (v w : ℕ) → is_in (get_or rows w []) v ≡ (ltb v i && is_in (edges g v) w)
 
-pub none_turned : (g rows : Graph) → rows ≡ replicate (length g) [] → Turning g rows 0
-none_turned g rows is = subst (λ (r : Graph). Turning g r 0) (sym is) record {
-  size = length-replicate (length g) [];
-  edges = λ v w. ap (λ r. is_in r v) (empty w (ltb w (length g)) refl) ∙ ap (λ b. b && is_in (edges g v) w) (none v);
-}
-  where
-    empty : (w : ℕ) (b : Bool) → b ≡ ltb w (length g) → get_or {A = List ℕ} (replicate (length g) []) w [] ≡ []
-    empty w true e = get_or-replicate (length g) w [] [] (ltb-true w (length g) (sym e))
-    empty w false e =
-        get_or-eq_default (replicate (length g) []) [] (let size = length-replicate {A = List ℕ} (length g) [] in let past : length g ≤ w = grind (arith, nat_tests) in omega (arith, size, past))
-
-    none : (v : ℕ) → false ≡ ltb v 0
-    none v = grind (arith, nat_tests)
-
 pub one_turned : (g rows rows' : Graph) (i : ℕ) (row : List ℕ) → IsGraph g → i < length g → row ≡ edges g i → rows' ≡ fold (with_edge i) rows row → Turning g rows i → Turning g rows' (i + 1)
 one_turned g rows rows' i row graph lt at is h =
     let within : All (λ w. w < length rows) (edges g i) = λ k d l. let a = graph i [] lt k d l in omega (arith, a, h.size) in
@@ -104,9 +89,6 @@ one_turned g rows rows' i row graph lt at is h =
         last_or true = refl
         last_or false = refl
 
-pub length-turned : (g rows : Graph) (i : ℕ) → Turning g rows i → length rows ≡ length g
-length-turned g rows i h = h.size
-
 pub reverse_graph : (g rows : Graph) → Turning g rows (length g) → IsGraph rows
 reverse_graph g rows h i row lt k d lt' =
     let e : get_or rows i row ≡ get_or rows i [] = get_or-any rows i row [] lt in
@@ -116,12 +98,3 @@ reverse_graph g rows h i row lt k d lt' =
     let below : get_or (get_or rows i []) k 0 < length g = ltb-true (get_or (get_or rows i []) k 0) (length g) both.0 in
     let same : get_or (get_or rows i row) k d ≡ get_or (get_or rows i []) k 0 = ap (λ r. get_or r k d) e ∙ get_or-any (get_or rows i []) k d 0 short in
     omega (arith, below, same, h.size)
-
-pub reverse_is : (g rows : Graph) → Turning g rows (length g) → IsReverse g rows
-reverse_is g rows h v w = sym (h.edges v w ∙ cases (ltb v (length g)) refl)
-  where
-    cases : (b : Bool) → b ≡ ltb v (length g) → (ltb v (length g) && is_in (edges g v) w) ≡ is_in (edges g v) w
-    cases true e = ap (λ b. b && is_in (edges g v) w) (sym e)
-    cases false e =
-        let past : length g ≤ v = grind (arith, nat_tests) in
-        ap (λ b. b && is_in (edges g v) w) (sym e) ∙ sym (ap (λ r. is_in r w) (get_or-eq_default g [] past))

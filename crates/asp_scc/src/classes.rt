@@ -1,5 +1,5 @@
 //! The classes of nodes that lead to each other.
-ghost use Rattle.std.specs.Prelude.{◌≡◌, ◌≢◌, ◌<◌, ℕ, OnOk, length, slice_index, All, fold};
+ghost use Rattle.std.specs.Prelude.{◌≡◌, ◌≢◌, ◌<◌, OnOk, length, slice_index, All, fold};
 ghost use Rattle.asp_scc.specs.Turned.{AreTurned};
 ghost use Rattle.asp_scc.specs.Classes.{AreClasses, KeepsClasses, released};
 

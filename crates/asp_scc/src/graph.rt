@@ -1,9 +1,8 @@
 //! The graph of a program's positive dependencies.
-ghost use Rattle.std.specs.Prelude.{◌≡◌, ◌≤◌, ◌<◌, ◌^◌, ◌++◌, [], ◌∷◌, ℕ, IfOk, OnOk, All, map, filter, length};
+ghost use Rattle.std.specs.Prelude.{◌≡◌, ◌≤◌, ◌<◌, ◌++◌, IfOk, All, map, filter};
 ghost use Rattle.asp_model.specs.Models.{atoms_of};
 ghost use Rattle.asp_vars.specs.Numbering.{bodies_of, number_count};
 ghost use Rattle.asp_vars.specs.Completion.{supports};
-ghost use Rattle.asp_vars.specs.Tabled.{IsAtomVar};
 ghost use Rattle.asp_scc.specs.Dependencies.{positives, graph_of};
 
 use asp_table::table::Table;

@@ -1,5 +1,5 @@
 //! Numbers from 0 on for classes, and the members of each.
-ghost use Rattle.std.specs.Prelude.{◌≡◌, ◌+◌, ◌-◌, ◌<◌, ◌≤◌, ◌^◌, ℕ, IfOk, All, fold, length, map, take, slice_index};
+ghost use Rattle.std.specs.Prelude.{◌≡◌, ◌+◌, ◌-◌, ◌<◌, ◌≤◌, ◌^◌, ℕ, IfOk, All, fold, length, slice_index};
 ghost use Rattle.asp_scc.specs.Numbers.{give_number, numbers_from, AreNumbered, HasMembers};
 
 use asp_table::buckets::Buckets;

@@ -1,5 +1,5 @@
 -- The check's parts, of the set of a whole trail.
-use Rattle.std.proofs.Common.{◌≡◌, ℕ, ◌<◌, Bool, true, false, not, ltb, List, ◌∷◌, [], suc, zero, length, get_or, Option, refl, sym, ap, ◌∙◌, subst, arith}
+use Rattle.std.proofs.Common.{◌≡◌, ℕ, ◌<◌, Bool, true, false, not, List, ◌∷◌, [], suc, zero, length, get_or, Option, refl, sym, ap, ◌∙◌, subst, arith}
 use Rattle.std.specs.List.{All, AllByRecursion}
 use Rattle.std.proofs.lemmas.Bool.{false≢true, and_parts}
 use Rattle.std.proofs.lemmas.Bool.Decides.{nat_tests}
@@ -24,15 +24,6 @@ use Rattle.asp_trail_laws.proofs.VarLaws.{completion_are_vars}
 use Rattle.asp_trail_laws.proofs.WholeLaws.{whole_lit, whole_nogood}
 use Rattle.asp_search_laws.specs.Faults.{IsFault}
 use Rattle.asp_search_laws.proofs.FaultLaws.{whole_unfounded, broken_fault, loop_fault}
-
--- an unfounded set has an atom
-pub unfounded_some : (p : Program) (x : List (Option Bool)) (U : Atoms) → is_unfounded p x U ≡ true → 0 < length U
-unfounded_some p x U h =
-    let some : ltb 0 (length U) ≡ true = (and_parts (ltb 0 (length U)) _ h).0 in
-    grind (arith, nat_tests)
-
-pub never_none : (p : Program) (x : List (Option Bool)) (U : Atoms) → is_unfounded p x U ≡ false → is_unfounded p x U ≡ true → ⊥
-never_none p x U e h = false≢true (sym e ∙ h)
 
 -- what stands in a list is in its set
 pub has_nth : (S : Atoms) (i d : ℕ) → i < length S → has S (get_or S i d) ≡ true

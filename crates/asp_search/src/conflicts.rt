@@ -1,5 +1,5 @@
 //! What follows from a violated nogood.
-ghost use Rattle.std.specs.Prelude.{◌≡◌, ◌≤◌, ◌∷◌, ◌++◌, List, [], Some, false, IfOk, IfSome, IsSome, OnErr, length, take};
+ghost use Rattle.std.specs.Prelude.{◌≡◌, ◌≤◌, ◌∷◌, ◌++◌, List, [], Some, IfOk, IfSome, IsSome, OnErr, length, take};
 ghost use Rattle.asp_model.specs.Asked.{reasoning_of};
 ghost use Rattle.asp_vars.specs.Literals.{Literal};
 ghost use Rattle.asp_vars.specs.Numbering.{var_count};

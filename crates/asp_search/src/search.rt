@@ -1,5 +1,5 @@
 //! The search: what it keeps, and the calls beside its step.
-ghost use Rattle.std.specs.Prelude.{◌≡◌, ◌≢◌, ◌+◌, ◌≤◌, ◌∷◌, ◌++◌, [], None, Some, true, false, List, IfOk, IfSome, OnOk, OnErr, IsSome, IsTrue, ◌↔◌, MatchBool, count_by, length, option_map, replicate, slice_get};
+ghost use Rattle.std.specs.Prelude.{◌≡◌, ◌≢◌, ◌+◌, ◌≤◌, [], None, Some, true, false, List, IfOk, IfSome, OnOk, OnErr, IsSome, IsTrue, ◌↔◌, MatchBool, count_by, length, option_map, replicate, slice_get};
 ghost use Rattle.std.specs.List.{All};
 ghost use Rattle.std.specs.Option.{option_copied};
 ghost use Rattle.asp_model.specs.Asked.{reasoning_of};

@@ -105,9 +105,6 @@ others_stay old new named each id k h q = cases (named id) (each id)
     cases true e = e ∙ h
     cases false e = e ∙ stays
 
-pub reduced_same : (es : List Entry) (xs : List (Option StoredNogood)) → IsReduced es xs xs
-reduced_same es xs = record { count = refl; each = λ id. inl refl; forever = λ id k q f. q; named = λ i d id h q. refl }
-
 pub reduced_twice : (es : List Entry) (a b c : List (Option StoredNogood)) → IsReduced es a b → IsReduced es b c → IsReduced es a c
 reduced_twice es a b c x y = record {
   count = y.count ∙ x.count;

@@ -91,10 +91,6 @@ one_output F o = by (list_any (is_barred F) o.condition)
 abbrev IsFew : {X : Type 0} → (X → ℕ) → ℕ → List X → Type 0
 IsFew f n xs = (length xs ≤ 1) × (sum_by f xs ≤ n)
 
-few-cond : {X : Type 0} (f : X → ℕ) (n : ℕ) (c : Bool) (x : X) → f x ≤ n → IsFew f n (cond c [] (x ∷ []))
-few-cond f n true x h = (omega arith, omega arith)
-few-cond f n false x h = (omega arith, omega arith)
-
 few-body : (F : Atoms) (b : Body) → IsFew weighted_count (weighted_count b) (settled_body F b)
 few-body F (body.All ls) = by (list_any (is_barred F) ls)
   where

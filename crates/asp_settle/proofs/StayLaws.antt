@@ -1,9 +1,8 @@
 -- What names no fact is left as it is, and so is a program that denies no atom.
-use Rattle.std.proofs.Common.{◌≡◌, ℕ, Bool, true, false, not, cond, ◌&&◌, ◌||◌, List, [], ◌∷◌, ◌++◌, map, filter, flat_map, nat_lt, ℤ, pos, negsuc, ◌+ℤ◌, ◌≤ℤ◌, refl, sym, ap, ◌∙◌, arith}
+use Rattle.std.proofs.Common.{◌≡◌, ℕ, Bool, true, false, not, cond, ◌&&◌, ◌||◌, List, [], ◌∷◌, map, filter, flat_map, nat_lt, ℤ, pos, negsuc, ◌+ℤ◌, ◌≤ℤ◌, refl, sym, ap, ◌∙◌, arith}
 use Rattle.std.specs.List.{list_all, list_any}
 use Rattle.std.proofs.lemmas.Bool.{and_parts, false≢true}
 use Rattle.std.proofs.lemmas.Int.{ints}
-use Rattle.asp_model.specs.declared.program.Body.{Body}
 use Rattle.asp_model.specs.declared.program.Body.TheVariants as body
 use Rattle.asp_model.specs.declared.program.Head.{Head}
 use Rattle.asp_model.specs.declared.program.Head.TheVariants as head
@@ -14,7 +13,7 @@ use Rattle.asp_model.specs.Sets.{Atoms, has, set_of}
 use Rattle.asp_model.specs.Holding.{atom_of, is_negative, is_positive}
 use Rattle.asp_model.proofs.ConsequenceLaws.{filter-every}
 use Rattle.asp_settle.specs.Constraints.{constrained, constrained_by, constrained_head, constrained_rule, denied_by, denied_of, is_barred, reach}
-use Rattle.asp_settle.specs.Settled.{lowered, settled_body, settled_head, settled_literals, settled_output, settled_rule, settled_weight}
+use Rattle.asp_settle.specs.Settled.{lowered, settled_body, settled_head, settled_literals, settled_output, settled_weight}
 
 filter-kept : {X : Type 0} (p : X → Bool) (xs : List X) → list_all p xs ≡ true → filter p xs ≡ xs
 filter-kept p [] h = refl
@@ -66,11 +65,6 @@ weighted-stays F bound items low h =
     ap (λ z. body.AtLeast (lowered bound z) (filter (λ i. not (has F (atom_of i.0))) items) ∷ []) (weight-none F items h)
     ∙ ap (λ z. body.AtLeast z (filter (λ i. not (has F (atom_of i.0))) items) ∷ []) (lowered-none bound low)
     ∙ ap (λ xs. body.AtLeast bound xs ∷ []) (filter-kept (λ i. not (has F (atom_of i.0))) items h)
-
-pub rule-stays : (F : Atoms) (r : Rule) → settled_head F r.head ≡ r.head ∷ [] → settled_body F r.body ≡ r.body ∷ [] → settled_rule F r ≡ r ∷ []
-rule-stays F r heads bodies =
-    ap (λ (hs : List Head). flat_map (λ h. map (λ b. record { head = h; body = b }) (settled_body F r.body)) hs) heads
-    ∙ ap (λ (bs : List Body). map (λ b. record { head = r.head; body = b }) bs ++ []) bodies
 
 pub output-stays : (F : Atoms) (o : Output) → list_all (λ l. not (has F (atom_of l))) o.condition ≡ true → settled_output F o ≡ o ∷ []
 output-stays F o h = ap (map (λ ls. record { text = o.text; condition = ls })) (literals-stay F o.condition h)

@@ -1,5 +1,5 @@
 //! A log of blocks in its vault, as one kind of log.
-ghost use Rattle.std.specs.Prelude.{◌≡◌, ◌+◌, ◌^◌, ◌<◌, ◌≤◌, ◌∷◌, [], ℕ, length, drop, true, false, All, List, IfOk};
+ghost use Rattle.std.specs.Prelude.{◌≡◌, ◌+◌, ◌^◌, ◌<◌, ◌≤◌, ◌∷◌, [], length, drop, true, false, All, List, IfOk};
 ghost use Rattle.asp_vars.specs.declared.nogood.Nogood.{Nogood};
 ghost use Rattle.asp_vault.specs.Moments.{Moment, Stays};
 ghost use Rattle.asp_vault.specs.Rules.{opened, parted, fresh, merged};

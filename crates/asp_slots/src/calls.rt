@@ -1,5 +1,5 @@
 //! Adding to a row, and reading from it.
-ghost use Rattle.std.specs.Prelude.{◌≡◌, ◌+◌, ◌-◌, ◌∷◌, ◌++◌, ◌<◌, ◌≤◌, true, false, All, List, length, IfOk, IfErr, OnOk, OnErr};
+ghost use Rattle.std.specs.Prelude.{◌≡◌, ◌+◌, ◌-◌, ◌++◌, ◌<◌, ◌≤◌, true, false, All, List, length, IfOk, IfErr, OnOk, OnErr};
 ghost use Rattle.asp_vars.specs.declared.nogood.Nogood.{Nogood};
 ghost use Rattle.asp_log.specs.Entries.{IsEntry};
 ghost use Rattle.asp_slots.specs.Rules.{SLOT_COUNT, NotIn, Draws, drawing, seeing};

@@ -1,5 +1,5 @@
 //! The slots, and the word that counts the numbers.
-ghost use Rattle.std.specs.Prelude.{◌≡◌, ◌≢◌, ◌+◌, ◌∷◌, ◌<◌, ◌≤◌, ◌↔◌, IsTrue, length, replicate, IfOk, []};
+ghost use Rattle.std.specs.Prelude.{◌≡◌, ◌≢◌, ◌+◌, ◌<◌, ◌≤◌, ◌↔◌, IsTrue, length, replicate, IfOk, []};
 ghost use Rattle.asp_log.specs.Entries.{IsEntry};
 ghost use Rattle.asp_slots.specs.Rules.{SLOT_COUNT, NotIn, Distinct, opened, fresh, merged, seeing, drawing};
 

@@ -1,5 +1,5 @@
 // What the lines so far said, and the next line.
-ghost use Rattle.std.specs.Prelude.{◌≡◌, ◌+◌, ◌≤◌, ◌<◌, ℕ, List, length, IfOk, IfSome, IsErrOf, OnOk};
+ghost use Rattle.std.specs.Prelude.{◌≡◌, ◌+◌, ◌≤◌, ◌<◌, ℕ, List, IfOk, IfSome, IsErrOf, OnOk};
 ghost use Rattle.std.specs.Io.KnownBytes.{IsAtEnd};
 ghost use Rattle.asp_io.specs.Causes.{Rose};
 ghost use Rattle.asp_model.specs.Sound.{IsSound};

@@ -2,15 +2,12 @@
 //!
 //! An atom that is a candidate no longer waits until the bodies were looked at in which it stands: they may found their
 //! heads now.
-ghost use Rattle.std.specs.Prelude.{◌≡◌, ◌+◌, ◌-◌, ◌<◌, ◌^◌, true, false, All, IfNone, IfSome, IsTrue, length, count_by};
+ghost use Rattle.std.specs.Prelude.{◌≡◌, ◌+◌, ◌-◌, ◌<◌, ◌^◌, true, false, All, IfNone, IfSome, length, count_by};
 ghost use Rattle.std.specs.List.{list_any};
 ghost use Rattle.asp_model.specs.Models.{atoms_of};
-ghost use Rattle.asp_model.specs.Sets.{has};
 ghost use Rattle.asp_vars.specs.Completion.{supports};
 ghost use Rattle.asp_vars.specs.Numbering.{bodies_of, var_count, nth_atom};
 ghost use Rattle.asp_vars.specs.Tabled.{IsAtomVar};
-ghost use Rattle.asp_vars.specs.Unfounded.{is_excused};
-ghost use Rattle.asp_loop.specs.Parts.{form_of};
 ghost use Rattle.asp_source.specs.Marks.{is_marked, shown, is_founded, is_dropped};
 ghost use Rattle.asp_source.specs.Founding.{Founds, IsFoundBy};
 

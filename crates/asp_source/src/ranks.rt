@@ -1,5 +1,5 @@
 //! How old the sources of atoms are.
-ghost use Rattle.std.specs.Prelude.{◌≡◌, ◌+◌, ◌^◌, ◌<◌, ◌≤◌, false, IfOk, length, slice_index};
+ghost use Rattle.std.specs.Prelude.{◌≡◌, ◌+◌, ◌^◌, ◌<◌, false, IfOk, length, slice_index};
 ghost use Rattle.asp_source.specs.Ranks.{raised, IsRanking};
 
 use asp_vars::lit::Var;

@@ -25,9 +25,6 @@ first_whole p old new cube none empty h few =
 pub parted_first : (p : Program) (old : List Leaf) (parts : ℕ) → AreLeaves p old → length old ≤ parts → IsParted p old old parts
 parted_first p old parts leaves few = record { leaves = leaves; sets = refl; few = few }
 
-pub parted_more : (p : Program) (old mid new : List Leaf) (parts : ℕ) → IsParted p old mid parts → IsParted p mid new parts → IsParted p old new parts
-parted_more p old mid new parts h d = record { leaves = d.leaves; sets = d.sets ∙ h.sets; few = d.few }
-
 -- ---- the cubes
 flat-of_map : (p : Program) (leaves : List Leaf) → flat_map (part p) (map (λ (leaf : Leaf). leaf.cube) leaves) ≡ sets_of p leaves
 flat-of_map p [] = refl

@@ -1,8 +1,7 @@
 -- What propagation under a cube says of its part.
-use Rattle.std.proofs.Common.{◌≡◌, ℕ, Bool, true, false, List, [], ◌++◌, map, get_or, Option, Some, None, IsSome, IfSome, refl, sym, ap, ◌∙◌, subst, arith}
+use Rattle.std.proofs.Common.{◌≡◌, ℕ, Bool, true, false, List, [], ◌++◌, map, get_or, Option, Some, None, IsSome, IfSome, refl, sym, ◌∙◌, subst, arith}
 use Rattle.std.specs.Prelude.{ℤ, Contains}
 use Rattle.std.proofs.lemmas.Bool.{false≢true}
-use Rattle.std.proofs.lemmas.List.{map-append}
 use Rattle.std.proofs.lemmas.List.Elements.{All-from_recursion, Contains-get_or}
 use Rattle.asp_model.specs.declared.program.Program.{Program}
 use Rattle.asp_model.specs.Sets.{Atoms, has}
@@ -91,9 +90,3 @@ literals-of p cube stand =
     (each_weaker (λ l. has (atoms_of p) (atom_of l) ≡ true) (λ l. IsVar (var_count p) (literal_of p l).var) (λ l h. (omega arith, atom-within p (atom_of l) h)) wanted (wanted-stand p cube stand)))
 
 -- ---- the assumptions, and then the cube
-pub literals-are : (p : Program) (cube assumptions : List ℤ) (none first both : List Literal) → assumptions ≡ p.assumptions → none ≡ [] → first ≡ none ++ map (literal_of p) assumptions → both ≡ first ++ map (literal_of p) cube →
-    both ≡ literals_of p cube
-literals-are p cube assumptions none first both is empty one two =
-    two
-    ∙ ap (λ (ls : List Literal). ls ++ map (literal_of p) cube) (one ∙ ap (λ (ls : List Literal). ls ++ map (literal_of p) assumptions) empty ∙ ap (λ (ls : List ℤ). map (literal_of p) ls) is)
-    ∙ sym (map-append (literal_of p) p.assumptions cube)

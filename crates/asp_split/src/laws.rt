@@ -1,5 +1,5 @@
 //! Laws of the definitions. Each function's contract is a law, and its body is empty.
-ghost use Rattle.std.specs.Prelude.{◌≡◌, false, [], List, Contains, Option, Some, None, ℤ};
+ghost use Rattle.std.specs.Prelude.{◌≡◌, false, List, Contains, Option, ℤ};
 ghost use Rattle.std.specs.List.{All};
 ghost use Rattle.asp_model.specs.declared.program.Program.{Program};
 ghost use Rattle.asp_model.specs.Sets.{Atoms};

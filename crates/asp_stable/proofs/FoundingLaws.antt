@@ -5,7 +5,7 @@ use Rattle.std.specs.List.{list_any, flat_map, AllByRecursion}
 use Rattle.std.proofs.lemmas.Bool.{false≢true, and_parts, eqb-true, eq-eqb}
 use Rattle.std.proofs.lemmas.Bool.Decides.{nat_tests}
 use Rattle.std.proofs.lemmas.List.{take_all}
-use Rattle.std.proofs.lemmas.List.Elements.{All-head, All-tail, All-more, All-append, All-weaker}
+use Rattle.std.proofs.lemmas.List.Elements.{All-head, All-tail, All-more, All-weaker}
 use Rattle.asp_model.specs.declared.program.Body.{Body}
 use Rattle.asp_model.specs.declared.program.Body.TheVariants as body
 use Rattle.asp_model.specs.declared.program.Rule.{Rule}
@@ -243,44 +243,6 @@ pub record Listing (p : Program) (flat : List Bool) (loops : List ℕ) (i : ℕ)
   pub listed : (v : ℕ) → 0 < v → v < i + 1 → is_marked flat v ≡ false → has loops v ≡ true
   pub within : All (IsAtomVar p) loops
 
-has_front : (xs ys : List ℕ) (v : ℕ) → has xs v ≡ true → has (xs ++ ys) v ≡ true
-has_front [] ys v e = absurd (false≢true e)
-has_front (x ∷ xs) ys v e = cases (eqb x v) refl e (λ k. has_front xs ys v k)
-  where
-    cases : (t : Bool) → t ≡ eqb x v → (eqb x v || has xs v) ≡ true → (has xs v ≡ true → has (xs ++ ys) v ≡ true) → (eqb x v || has (xs ++ ys) v) ≡ true
-    cases true q e f = ap (λ t. t || has (xs ++ ys) v) (sym q)
-    cases false q e f = later (eqb x v) (has (xs ++ ys) v) (f (ap (λ t. t || has xs v) q ∙ e))
-
 has_end : (xs : List ℕ) (v : ℕ) → has (xs ++ v ∷ []) v ≡ true
 has_end [] v = ap (λ t. t || false) (eq-eqb v v refl)
 has_end (x ∷ xs) v = later (eqb x v) (has (xs ++ v ∷ []) v) (has_end xs v)
-
-pub nothing_listed : (p : Program) (flat : List Bool) → Listing p flat [] 0
-nothing_listed p flat = record { listed = λ v a b e. absurd (omega (arith, a, b)); within = λ k d lt. absurd (omega (arith, lt)) }
-
-one_var : (p : Program) (v : ℕ) → IsAtomVar p v → All (IsAtomVar p) (v ∷ [])
-one_var p v h zero d lt = h
-one_var p v h (suc k) d lt = absurd (omega (arith, lt))
-
-pub list_more : (p : Program) (flat : List Bool) (old new : List ℕ) (i : ℕ) → i < length (atoms_of p) → new ≡ cond (is_marked flat (i + 1)) old (old ++ (i + 1) ∷ []) → Listing p flat old i → Listing p flat new (i + 1)
-list_more p flat old new i lt is h = subst (λ (xs : List ℕ). Listing p flat xs (i + 1)) (sym is) (cases (is_marked flat (i + 1)) refl)
-  where
-    before : (v : ℕ) → v < i + 1 + 1 → (t : Bool) → t ≡ eqb v (i + 1) → (v < i + 1) ⊎ (v ≡ i + 1)
-    before v lt true q = inr (eqb-true v (i + 1) (sym q))
-    before v lt false q = inl (let other : v ≡ i + 1 → ⊥ = λ z. false≢true (q ∙ eq-eqb v (i + 1) z) in omega arith)
-
-    cases : (t : Bool) → t ≡ is_marked flat (i + 1) → Listing p flat (cond (is_marked flat (i + 1)) old (old ++ (i + 1) ∷ [])) (i + 1)
-    cases true q = rw (← q) record {
-      listed = λ v a b e. elim (before v b (eqb v (i + 1)) refl) [
-        | inl low ↦ h.listed v a low e
-        | inr same ↦ absurd (false≢true (sym e ∙ ap (is_marked flat) same ∙ sym q))
-      ];
-      within = h.within;
-    }
-    cases false q = rw (← q) record {
-      listed = λ v a b e. elim (before v b (eqb v (i + 1)) refl) [
-        | inl low ↦ has_front old ((i + 1) ∷ []) v (h.listed v a low e)
-        | inr same ↦ subst (λ (w : ℕ). has (old ++ (i + 1) ∷ []) w ≡ true) (sym same) (has_end old (i + 1))
-      ];
-      within = All-append (IsAtomVar p) old ((i + 1) ∷ []) h.within (one_var p (i + 1) (omega arith, omega (arith, lt)));
-    }

@@ -1,5 +1,5 @@
 //! The completion, which is kept forever, and in whose order a search begins.
-ghost use Rattle.std.specs.Prelude.{◌≡◌, ◌+◌, ◌≤◌, length, map, fold, IfOk, OnOk};
+ghost use Rattle.std.specs.Prelude.{◌≡◌, ◌+◌, ◌≤◌, length, map, fold, OnOk};
 ghost use Rattle.std.specs.List.{All};
 ghost use Rattle.asp_vars.specs.Numbering.{var_count};
 ghost use Rattle.asp_vars.specs.Completion.{completion};

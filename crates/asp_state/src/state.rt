@@ -4,12 +4,11 @@
 //! - the cube and the decisions are what begins the trail's levels;
 //! - no nogood of the completion was unit or violated before a decision, and all of them are kept;
 //! - each variable without a value waits to be decided.
-ghost use Rattle.std.specs.Prelude.{◌≡◌, ◌<◌, ◌≤◌, ◌^◌, ◌+◌, ◌∷◌, ◌++◌, [], ℕ, List, true, false, Some, None, IfOk, OnOk, OnErr, IfSome, IfNone, IsTrue, map, take, length, replicate, slice_set, slice_index_or, if◌then◌else◌};
+ghost use Rattle.std.specs.Prelude.{◌≡◌, ◌<◌, ◌≤◌, ◌^◌, ◌+◌, ◌∷◌, ◌++◌, [], ℕ, List, false, Some, None, IfOk, OnOk, OnErr, IfSome, IfNone, IsTrue, take, length, replicate, slice_set, slice_index_or, if◌then◌else◌};
 ghost use Rattle.std.specs.List.{All};
 ghost use Rattle.asp_model.specs.Sound.{IsSound};
-ghost use Rattle.asp_vars.specs.Literals.{Literal, has_literal, value_of};
+ghost use Rattle.asp_vars.specs.Literals.{Literal, value_of};
 ghost use Rattle.asp_vars.specs.Numbering.{var_count};
-ghost use Rattle.asp_vars.specs.Completion.{completion};
 ghost use Rattle.asp_vars.specs.declared.nogood.Base.TheVariants as base;
 ghost use Rattle.asp_trail.specs.declared.trail.Entry.{Entry};
 ghost use Rattle.asp_trail.specs.Entries.{level, cut};

@@ -72,17 +72,6 @@ false_top vars es l b o top h =
     let d : Entry = record { lit = l; level = 0; reason = None } in
     (f.0, f.1, omega (arith, top f.0 d f.3.within, f.3.level d), f.3)
 
--- a literal with a value that isn't true is false
-pub false_holds : (a : List (Option Bool)) (l : Literal) (b : Bool) → value_of a l.var ≡ Some b → holds_in a l ≡ false → holds_in a (complement l) ≡ true
-false_holds a l b q h =
-    ap (λ o. agrees o (complement l)) q ∙ other b l.truth (sym (ap (λ o. agrees o l) q) ∙ h)
-  where
-    other : (b t : Bool) → beq b t ≡ false → beq b (not t) ≡ true
-    other true true e = absurd (false≢true (sym e))
-    other true false e = refl
-    other false true e = refl
-    other false false e = absurd (false≢true (sym e))
-
 pub false_value : (vars : ℕ) (es : List Entry) (v : Literal) (b : ℕ) → IsOrdered vars es → IsFalseBy es v b → value_of (assignment vars es) v.var ≡ Some (not v.truth)
 false_value vars es v b o f =
     let d : Entry = record { lit = v; level = 0; reason = None } in

@@ -96,9 +96,6 @@ keeps_more a b c id x y = record {
   stay = λ l j n ne s. y.stay l j n ne (x.stay l j n ne s);
 }
 
-pub keeps_all : (lists : List (List Watch)) (id : ℕ) → Keeps lists lists id
-keeps_all lists id = record { len = refl; from = λ k i w g. (i, g); stay = λ l j n ne s. s }
-
 pub both_keep : (lists : List (List Watch)) (a b id : ℕ) → a < length lists → b < length lists → Keeps lists (without id b (without id a lists)) id
 both_keep lists a b id h g =
     let x = without_keeps lists a id h in

@@ -1,6 +1,6 @@
 //! Nogoods that aren't watched: new ones, and those that no two literals can watch yet. They are looked at whole as a
 //! propagation begins.
-ghost use Rattle.std.specs.Prelude.{◌≡◌, ℕ, ◌<◌, ◌≤◌, IfOk, IfSome, IfNone, OnOk, Some, length, slice_get, IsTrue};
+ghost use Rattle.std.specs.Prelude.{◌≡◌, ◌<◌, ◌≤◌, IfOk, IfSome, IfNone, OnOk, Some, length};
 ghost use Rattle.asp_vars.specs.declared.nogood.Nogood.{Nogood};
 ghost use Rattle.asp_store.specs.Keeping.{kept_at, nogood_at, is_lasting};
 ghost use Rattle.asp_store.specs.Fitting.{Extends, IsWatched, HasFalse};

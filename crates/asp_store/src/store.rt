@@ -1,6 +1,5 @@
 //! The store of nogoods.
 ghost use Rattle.std.specs.Prelude.{◌≡◌, ◌+◌, ◌*◌, ◌^◌, ◌<◌, ◌≤◌, ◌≢◌, [], ℕ, length, count_by, IfOk, IfSome, IsSome, IsTrue, ◌↔◌, OnOk, OnErr, None, Some, slice_index, true, false, if◌then◌else◌};
-ghost use Rattle.std.specs.Vec.{vec_len, vec_capacity};
 ghost use Rattle.std.specs.List.{All};
 ghost use Rattle.asp_trail.specs.Trails.{IsVar};
 ghost use Rattle.asp_store.specs.Keeping.{nogood_at, kept_at, is_extra, is_passing, unless_given, Thins};

@@ -1,6 +1,6 @@
 //! How a nogood of two literals goes. A walk believes its places without a look at it, so they go with it. Other places stay
 //! until a walk comes by.
-ghost use Rattle.std.specs.Prelude.{◌≡◌, ℕ, ◌^◌, ◌<◌, ◌≤◌, Some, length};
+ghost use Rattle.std.specs.Prelude.{◌≡◌, ◌^◌, ◌<◌, ◌≤◌, Some, length};
 ghost use Rattle.std.specs.List.{All};
 ghost use Rattle.asp_vars.specs.Codes.{code_of};
 ghost use Rattle.asp_vars.specs.declared.nogood.Nogood.{Nogood};

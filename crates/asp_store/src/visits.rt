@@ -5,10 +5,9 @@
 //! hold becomes its watch; where there is none, the other watch is false from now on, or the nogood is violated. A number whose
 //! nogood doesn't watch this literal any more is dropped from the list. No blocker is read, and no place is believed to tell
 //! its nogood: what is false by its value, or made false, may be so at a level above the front's.
-ghost use Rattle.std.specs.Prelude.{◌≡◌, ◌≢◌, ℕ, ◌<◌, ◌≤◌, ◌+◌, Some, None, OnOk, IfOk, MatchOption, IsTrue, length, slice_get, false, true};
+ghost use Rattle.std.specs.Prelude.{◌≡◌, ℕ, ◌<◌, ◌≤◌, Some, None, OnOk, IfOk, MatchOption, IsTrue, slice_get, false};
 ghost use Rattle.std.specs.List.{All};
 ghost use Rattle.asp_vars.specs.Codes.{code_of};
-ghost use Rattle.asp_vars.specs.Literals.{holds_in, has_literal};
 ghost use Rattle.asp_vars.specs.declared.nogood.Nogood.{Nogood};
 ghost use Rattle.asp_trail.specs.Entries.{assignment};
 ghost use Rattle.asp_store.specs.declared.watch.Pair.{Pair};

@@ -1,5 +1,5 @@
 //! Watches: which literals of a nogood are watched, and what stands in a literal's list.
-ghost use Rattle.std.specs.Prelude.{◌≡◌, ◌⊎◌, ◌^◌, ◌<◌, MatchOption};
+ghost use Rattle.std.specs.Prelude.{◌≡◌, ◌^◌, ◌<◌, MatchOption};
 ghost use Rattle.asp_store.specs.Pairs.{IsOneOf, IsBeside};
 
 use asp_vars::lit::Lit;

@@ -1,6 +1,6 @@
 //! The rows of a table read by their items: in which rows a key stands.
 ghost use Rattle.std.specs.Prelude.{◌≡◌, ℕ, ◌<◌, ◌^◌, false, All, [], ◌++◌, OnOk, IfOk, length, slice_index_or, slice_set};
-ghost use Rattle.asp_table.specs.Columns.{ends_in, with_last, cell_of, column, IsRead};
+ghost use Rattle.asp_table.specs.Columns.{ends_in, with_last, cell_of, IsRead};
 
 use crate::buckets::Buckets;
 use crate::table::Table;

@@ -20,7 +20,6 @@ use Rattle.asp_core.specs.Growth.{Spares}
 use Rattle.asp_core.proofs.GrowthLaws.{Spares-run}
 use Rattle.asp_book.specs.Books.{signed, IsJournalOf}
 use Rattle.asp_book.specs.Calls.{Knows, no_task, task_of, seen_board}
-use Rattle.asp_book.specs.Replies.{taken}
 use Rattle.asp_book.proofs.CallLaws.{others-are}
 use Rattle.asp_crew_laws.specs.Runs as runs
 use Rattle.asp_slots.specs.Shelves.{program_of, IsAt, IsFirst, HasSplit}

@@ -1,5 +1,5 @@
 //! Workers side by side.
-ghost use Rattle.std.specs.Prelude.{◌≡◌, ◌+◌, ◌||◌, ℕ, Bool, List, length};
+ghost use Rattle.std.specs.Prelude.{◌≡◌, ◌+◌, ◌||◌, Bool, List, length};
 ghost use Rattle.std.specs.List.{All};
 ghost use denote.Param.Send.{IsSync};
 ghost use Rattle.asp_vault.specs.Seats.{view};

@@ -1,6 +1,6 @@
 -- A field of digits at the front of a text.
-use Rattle.std.proofs.Common.{◌≡◌, ℕ, zero, suc, ◌+◌, ◌-◌, ◌*◌, ◌<◌, Bool, true, false, List, [], ◌∷◌, length, get_or, take, drop, ◌^◌, Some, None, refl, sym, ap, ◌∙◌, arith, drop-cons, zero-add}
-use Rattle.std.specs.Prelude.{ℤ, pos, neg_ℤ, ◌-ℤ◌, if◌then◌else◌, ◌==◌}
+use Rattle.std.proofs.Common.{◌≡◌, ℕ, suc, ◌+◌, ◌-◌, ◌*◌, ◌<◌, true, false, List, [], ◌∷◌, length, get_or, take, drop, ◌^◌, Some, refl, sym, ap, ◌∙◌, arith, drop-cons}
+use Rattle.std.specs.Prelude.{pos, neg_ℤ, ◌-ℤ◌}
 use mir.Val.{to_z, of_z}
 use mir.Syntax.{w64}
 use Rattle.std.proofs.lemmas.Int.{ints}
@@ -8,7 +8,7 @@ use Rattle.std.proofs.lemmas.List.{take_all}
 use Rattle.std.specs.List.{before_first, position_or_len}
 use Rattle.std.specs.Char.{is_ascii_digit}
 use Rattle.std.proofs.lemmas.Bool.Decides.{nat_tests}
-use Rattle.asp_text.specs.Fields.{is_blank, unblank, field_of, after_field, digits_after, natural_of, integer_of}
+use Rattle.asp_text.specs.Fields.{is_blank, unblank, field_of, after_field, digits_after, integer_of}
 use Rattle.asp_text.specs.Front.{Spells, IsField}
 
 digit_is_filled : (b : ℕ) → is_ascii_digit b ≡ true → is_blank b ≡ false

@@ -1,5 +1,5 @@
 //! How many components of a program's positive dependencies have a loop.
-ghost use Rattle.std.specs.Prelude.{◌≡◌, ◌<◌, ◌≤◌, IfSome, false, length};
+ghost use Rattle.std.specs.Prelude.{◌≡◌, ◌<◌, ◌≤◌, IfSome, length};
 ghost use Rattle.asp_top.specs.Loops.{HasLoops, is_loop, loops_below};
 
 use asp_scc::components::Components;

@@ -1,9 +1,8 @@
 //! The lines on the notes for a faulty command line.
-ghost use Rattle.std.specs.Prelude.{◌≡◌, ◌++◌, codes};
+ghost use Rattle.std.specs.Prelude.{◌++◌, codes};
 ghost use Rattle.asp_cli.specs.Given.{fault_seen};
 ghost use Rattle.asp_cli.specs.Hints.{nearest};
 ghost use Rattle.asp_cli.specs.Names.{takes_of, text_of};
-ghost use Rattle.asp_cli.specs.Texts.{usage_lines};
 ghost use Rattle.asp_top.specs.Notes.{IsNoted, Writes};
 ghost use Rattle.asp_top.specs.Usage.{advice_text, hint_text, misuse_note, misuse_text, near_text, usage_text};
 

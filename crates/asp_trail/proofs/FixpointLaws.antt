@@ -1,11 +1,10 @@
 -- What shows that a nogood is neither unit nor violated.
-use Rattle.std.proofs.Common.{◌≡◌, ◌≢◌, ℕ, Bool, true, false, not, ◌&&◌, ◌||◌, eqb, List, [], ◌∷◌, Option, Some, None, refl, sym, ap, ◌∙◌, subst, arith}
+use Rattle.std.proofs.Common.{◌≡◌, ◌≢◌, ℕ, Bool, true, false, not, ◌&&◌, ◌||◌, eqb, List, [], ◌∷◌, Option, refl, sym, ap, ◌∙◌, subst, arith}
 use Rattle.std.specs.List.{list_all, list_any}
 use Rattle.std.specs.Bool.{beq}
-use Rattle.std.specs.Option.{is_none}
 use Rattle.std.proofs.lemmas.Bool.{false≢true}
 use Rattle.std.proofs.lemmas.Bool.Decides.{nat_tests}
-use Rattle.asp_vars.specs.Literals.{Literal, literal_eq, has_literal, value_of, holds_in, agrees}
+use Rattle.asp_vars.specs.Literals.{Literal, literal_eq, has_literal, holds_in}
 use Rattle.asp_vars.proofs.LiteralLaws.{same_literal, and_left, and_right}
 use Rattle.asp_trail.specs.Fixpoint.{is_open, is_violated, is_unit, is_at_fixpoint}
 
@@ -50,13 +49,6 @@ any_found p (k ∷ n) e = cases (p k) refl (any_found p n)
 
 fixpoint_parts : (a : List (Option Bool)) (n : List Literal) → is_violated a n ≡ false → is_unit a n ≡ false → is_at_fixpoint a n ≡ true
 fixpoint_parts a n v u = ap (λ b. not b && not (is_unit a n)) v ∙ ap (λ b. not false && not b) u
-
-open_not_true : (a : List (Option Bool)) (l : Literal) → is_open a l ≡ true → holds_in a l ≡ false
-open_not_true a l h = cases (value_of a l.var) refl
-  where
-    cases : (o : Option Bool) → o ≡ value_of a l.var → agrees o l ≡ false
-    cases None q = refl
-    cases (Some b) q = absurd (false≢true (ap is_none q ∙ h))
 
 -- two different literals that aren't true
 pub fixpoint_by_two : (a : List (Option Bool)) (n : List Literal) (k l : Literal) → has_literal n k ≡ true → has_literal n l ≡ true → k ≢ l →

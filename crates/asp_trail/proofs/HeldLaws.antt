@@ -5,7 +5,7 @@ use Rattle.std.proofs.lemmas.Bool.{false≢true}
 use Rattle.std.proofs.lemmas.Bool.Decides.{nat_tests}
 use Rattle.std.proofs.lemmas.List.{length-take, length-set, length-replicate, get_or-take}
 use Rattle.std.proofs.lemmas.List.Elements.{All-take}
-use Rattle.asp_vars.specs.Literals.{Literal, holds_in, agrees}
+use Rattle.asp_vars.specs.Literals.{Literal, holds_in}
 use Rattle.asp_trail.specs.declared.trail.Entry.{Entry}
 use Rattle.asp_trail.specs.Entries.{assign, assignment}
 use Rattle.asp_trail.specs.Trails.{IsVar, IsTrail, IsOrdered}
@@ -60,11 +60,6 @@ length_fold z (e ∷ es) = length_fold (assign z e) es ∙ length-set z e.lit.va
 
 pub length_assigned : (vars : ℕ) (es : List Entry) → length (assignment vars es) ≡ vars + 1
 length_assigned vars es = length_fold (replicate (vars + 1) None) es ∙ length-replicate {A = Option Bool} (vars + 1) None
-
--- a literal that holds has a value
-pub held_value : (o : Option Bool) (l : Literal) → agrees o l ≡ true → is_some o ≡ true
-held_value None l h = absurd (false≢true h)
-held_value (Some b) l h = refl
 
 -- it held before exactly where its entry stands before
 pub held_is : (vars : ℕ) (es : List Entry) (values : List (Option Bool)) (places levels : List ℕ) (seen n p : ℕ) (l : Literal) → IsTrail vars es values places levels seen →

@@ -2,7 +2,7 @@
 //!
 //! A number below `LATE` is that of a nogood that is kept. One from there on says that the reason isn't written: whoever
 //! implied the literal writes it when it is asked for.
-ghost use Rattle.std.specs.Prelude.{◌≡◌, IfOk, IfSome};
+ghost use Rattle.std.specs.Prelude.{IfOk, IfSome};
 
 use asp_vars::lit::Lit;
 use asp_vars::nogood::Nogood;

@@ -1,6 +1,6 @@
 //! The trail: literals in the order in which they came to hold.
-ghost use Rattle.std.specs.Prelude.{◌≡◌, ℕ, false, ◌<◌, ◌≤◌, ◌⊎◌, ◌+◌, ◌-◌, ◌++◌, ◌∷◌, [], Some, None, IfOk, OnOk, OnErr, IsSome, IsTrue, length, min, slice_index_or, take};
-ghost use Rattle.asp_vars.specs.Literals.{value_of, holds_in, Literal};
+ghost use Rattle.std.specs.Prelude.{◌≡◌, ℕ, false, ◌<◌, ◌≤◌, ◌⊎◌, ◌+◌, ◌-◌, ◌++◌, ◌∷◌, [], Some, None, IfOk, OnOk, IsSome, IsTrue, length, min, slice_index_or, take};
+ghost use Rattle.asp_vars.specs.Literals.{value_of, holds_in};
 ghost use Rattle.asp_trail.specs.Entries.{assignment, level, level_in, reason_in, cut, first_decision};
 ghost use Rattle.asp_trail.specs.Trails.{IsVar, IsOrdered};
 ghost use Rattle.std.specs.List.{All};

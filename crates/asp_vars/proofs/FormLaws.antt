@@ -12,10 +12,8 @@ use Rattle.std.proofs.lemmas.Int.{ints}
 use Rattle.std.proofs.lemmas.Map.{lookup-none}
 use Rattle.std.proofs.lemmas.Map.Entries.{none_below_head}
 use Rattle.std.proofs.lemmas.Map.Keys.{sorted_tail}
-use Rattle.std.specs.Prelude.{neg_ℤ, ◌≤ℤ◌}
 use Rattle.std.proofs.lemmas.List.{take_more}
 use Rattle.std.proofs.lemmas.List.Sums.{fold_push}
-use Rattle.asp_vars.specs.Forms.{IsSmall}
 use Rattle.asp_vars.specs.Numbering.{with_literal, with_weight}
 
 pub insert_key-int : (ks : List ℤ) (l : ℤ) → insert_key int_cmp ks l ≡ with_literal l ks
@@ -58,6 +56,3 @@ insert_entry-sum (e ∷ es) i up = cases (int_lt i.0 e.0) (int_lt e.0 i.0) refl 
 -- one more turn of a loop over the list
 pub fold_more : {A B : Type 0} (f : B → A → B) (b : B) (xs : List A) (i : ℕ) (d : A) → i < length xs → fold f b (take (i + 1) xs) ≡ f (fold f b (take i xs)) (get_or xs i d)
 fold_more f b xs i d lt = ap (fold f b) (take_more xs i d lt) ∙ fold_push f b (take i xs) (get_or xs i d)
-
-pub small_sum : (n : ℕ) (s w : ℤ) → IsSmall n s → neg_ℤ (pos 2147483648) ≤ℤ w → w ≤ℤ pos 2147483648 → IsSmall (n + 1) (s +ℤ w)
-small_sum n s w h low high = (omega (arith, ints, h), omega (arith, ints, h))

@@ -1,8 +1,7 @@
 -- The literals of a program's bodies are those that are counted one after another.
-use Rattle.std.proofs.Common.{◌≡◌, ◌≢◌, ℕ, suc, ◌+◌, ◌<◌, ◌≤◌, ◌^◌, Bool, true, false, not, cond, ◌&&◌, ◌||◌, eqb, ltb, List, [], ◌∷◌, ◌++◌, map, filter, drop, length, get_or, All, Some, refl, sym, ap, ◌∙◌, arith}
+use Rattle.std.proofs.Common.{◌≡◌, ◌≢◌, ℕ, suc, ◌+◌, ◌<◌, ◌≤◌, ◌^◌, Bool, true, false, cond, ◌&&◌, eqb, ltb, List, [], ◌∷◌, ◌++◌, map, filter, drop, length, get_or, All, Some, refl, sym, ap, ◌∙◌, arith}
 use Rattle.std.specs.Prelude.{ℤ}
 use Rattle.std.specs.List.{list_any, AllByRecursion}
-use Rattle.std.specs.Option.{is_some}
 use Rattle.std.proofs.lemmas.Bool.{false≢true, or_parts, ne_eqb, lt-ltb, le-ltb}
 use Rattle.std.proofs.lemmas.List.{drop_more}
 use Rattle.asp_model.specs.declared.program.Body.{Body}
@@ -15,7 +14,7 @@ use Rattle.asp_vars.specs.declared.form.Form.{Form}
 use Rattle.asp_vars.specs.Forms.{body_of}
 use Rattle.asp_model.specs.Holding.{atom_of}
 use Rattle.asp_vars.specs.Numbering.{body_eq, is_wide, is_nameless, is_apart, defines, names, named_or, bodies_of, apart_bodies, place_of, number_count, var_count, var_in, var_of_atom, var_of_form, literal_by, literal_of_form}
-use Rattle.asp_vars.specs.Tabled.{bound_of, form_literals, Stands}
+use Rattle.asp_vars.specs.Tabled.{bound_of, Stands}
 use Rattle.asp_vars.specs.Held.{is_unnamed, takes_var, next_var, literal_for, literals_from, var_behind}
 use Rattle.asp_vars.specs.Named.{name_var}
 use Rattle.asp_vars.proofs.NumberingLaws.{body_eq-itself, first_passing, named}
@@ -25,17 +24,6 @@ use Rattle.asp_vars.proofs.PlaceLaws.{AreDistinct, bodies_of-distinct, turned}
 use Rattle.asp_vars.proofs.NumberedLaws.{map_each, filter_each}
 
 -- ---- one body
-pub wide_unless_one : (ls : List ℤ) → length ls ≢ 1 → is_wide (body.All ls) ≡ true
-wide_unless_one [] ne = refl
-wide_unless_one (l ∷ []) ne = absurd (ne refl)
-wide_unless_one (l ∷ k ∷ ks) ne = refl
-
-pub wide_by_parts : (p : Program) (b : Body) → (is_some (bound_of b) || not (eqb (length (form_literals p b)) 1)) ≡ is_wide b
-wide_by_parts p (body.All []) = refl
-wide_by_parts p (body.All (l ∷ [])) = refl
-wide_by_parts p (body.All (l ∷ k ∷ ks)) = ap not (ne_eqb (length (form_literals p (body.All (l ∷ k ∷ ks)))) 1 (λ e. omega (arith, e)))
-wide_by_parts p (body.AtLeast bound items) = refl
-
 pub one_alone : (ls : List ℤ) (d : ℤ) → length ls ≡ 1 → ls ≡ get_or ls 0 d ∷ []
 one_alone [] d e = absurd (omega (arith, e))
 one_alone (l ∷ []) d e = refl
@@ -180,13 +168,6 @@ names_small p few = all_of (λ n. n < 2 ^ 31) (map (name_var p) (bodies_of p)) (
     each (b ∷ bs) = (let h = name_small p b in omega (arith, h, few), each bs)
 
 -- ---- one form more
-pub next_small : (v : ℕ) (b : Body) (n : ℕ) → next_var v b n ≤ v + 1
-next_small v b n = cases (takes_var b n)
-  where
-    cases : (t : Bool) → cond t (v + 1) v ≤ v + 1
-    cases true = omega arith
-    cases false = omega arith
-
 push_literal : (xs zs : List Literal) (y : Literal) → (xs ++ y ∷ []) ++ zs ≡ xs ++ y ∷ zs
 push_literal [] zs y = refl
 push_literal (x ∷ xs) zs y = ap (λ ws. x ∷ ws) (push_literal xs zs y)
@@ -196,12 +177,6 @@ held_next atoms v fs ns i d e lits whole lt lt' so_far =
     push_literal lits (literals_from atoms (next_var v (body_of (get_or fs i d)) (get_or ns i e)) (map body_of (drop (i + 1) fs)) (drop (i + 1) ns)) (literal_for atoms v (body_of (get_or fs i d)) (get_or ns i e))
     ∙ ap (λ (ms : List ℕ). lits ++ literals_from atoms v (map body_of (get_or fs i d ∷ drop (i + 1) fs)) ms) (sym (drop_more ns i e lt'))
     ∙ ap (λ (xs : List Form). lits ++ literals_from atoms v (map body_of xs) (drop i ns)) (sym (drop_more fs i d lt))
-    ∙ so_far
-
-pub behind_next : (v : ℕ) (fs : List Form) (ns : List ℕ) (i : ℕ) (d : Form) (e : ℕ) (whole : ℕ) → i < length fs → i < length ns → var_behind v (map body_of (drop i fs)) (drop i ns) ≡ whole → var_behind (next_var v (body_of (get_or fs i d)) (get_or ns i e)) (map body_of (drop (i + 1) fs)) (drop (i + 1) ns) ≡ whole
-behind_next v fs ns i d e whole lt lt' so_far =
-    ap (λ (ms : List ℕ). var_behind v (map body_of (get_or fs i d ∷ drop (i + 1) fs)) ms) (sym (drop_more ns i e lt'))
-    ∙ ap (λ (xs : List Form). var_behind v (map body_of xs) (drop i ns)) (sym (drop_more fs i d lt))
     ∙ so_far
 
 -- ---- all of them

@@ -15,7 +15,7 @@ use Rattle.asp_model.specs.declared.program.Rule.{Rule}
 use Rattle.asp_model.specs.Models.{rules_in_force, atoms_of, mentions}
 use Rattle.asp_model.proofs.MemberLaws.{each_weaker}
 use Rattle.asp_model.proofs.SetLaws.{get_or-ascending, get_or-below, has_at, place_found, IsAscending-set_of}
-use Rattle.asp_vars.specs.Numbering.{normal, body_eq, bodies_of, is_wide, is_nameless, is_apart, names, named_or, apart_bodies, place_of, place_of_body, number_of_form, number_count, var_count, var_of_atom, var_of_form, nth_body, nth_rule, nth_atom}
+use Rattle.asp_vars.specs.Numbering.{normal, body_eq, bodies_of, is_wide, is_nameless, is_apart, names, named_or, apart_bodies, place_of, place_of_body, number_of_form, var_count, var_of_atom, var_of_form, nth_body, nth_rule, nth_atom}
 use Rattle.asp_vars.specs.Places.{place_in}
 use Rattle.asp_vars.proofs.NumberingLaws.{same_body, body_eq-itself, filtered_among, named, own_var}
 use Rattle.asp_vars.proofs.StandingLaws.{Among, each_among, rule_has_form}
@@ -130,9 +130,6 @@ form-positive p b = cases (names p b)
     cases : (more : List ℕ) → 0 < named_or (atoms_of p) (suc (length (atoms_of p) + place_of (body_eq b) (apart_bodies p))) more
     cases [] = omega arith
     cases (a ∷ more) = omega arith
-
-pub number-within : (p : Program) (b : Body) → list_any (body_eq b) (bodies_of p) ≡ true → number_of_form p b ≤ number_count p
-number-within p b e = let h = place_of-within (body_eq b) (bodies_of p) e in omega (arith, h)
 
 pub atom-within : (p : Program) (a : ℕ) → has (atoms_of p) a ≡ true → var_of_atom p a ≤ var_count p
 atom-within p a e = let h = place_of-within (λ b. eqb b a) (atoms_of p) e in omega (arith, h)

@@ -1,8 +1,7 @@
 //! The tables of a program.
 ghost use Rattle.std.specs.Prelude.{◌≡◌, IfOk, map};
-ghost use Rattle.asp_model.specs.Models.{rules_in_force};
 ghost use Rattle.asp_model.specs.Sound.{IsSound};
-ghost use Rattle.asp_vars.specs.Numbering.{bodies_of, var_count, literal_of_form, place_of_body};
+ghost use Rattle.asp_vars.specs.Numbering.{bodies_of, var_count, literal_of_form};
 ghost use Rattle.asp_vars.specs.Completion.{is_barred};
 ghost use Rattle.asp_vars.specs.Tabled.{bound_of, form_literals, form_weights, heads_of, AreSupports, AreOccurrences, AreShared};
 

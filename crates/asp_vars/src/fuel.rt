@@ -1,5 +1,5 @@
 //! Units of work, and the conflicts that pay for them.
-ghost use Rattle.std.specs.Prelude.{◌≡◌, ◌+◌, ◌-◌, ◌<◌, ◌≤◌, ◌^◌, ◌||◌, false, None, List, IfOk, OnOk, OnErr, length, max, option_map};
+ghost use Rattle.std.specs.Prelude.{◌≡◌, ◌+◌, ◌-◌, ◌<◌, ◌≤◌, ◌^◌, ◌||◌, false, None, List, length, max};
 ghost use Rattle.std.specs.Option.{is_some, option_copied};
 ghost use Rattle.asp_model.specs.Consequences.{used_up};
 ghost use Rattle.asp_model.specs.Sets.{Atoms};

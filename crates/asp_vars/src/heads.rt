@@ -1,5 +1,5 @@
 //! The heads of each body's rules, and the bodies that support each atom.
-ghost use Rattle.std.specs.Prelude.{◌≡◌, ℕ, ◌+◌, ◌<◌, ◌^◌, [], ◌++◌, All, IfOk, OnOk, IsTrue, map, length, slice_index_or, slice_set};
+ghost use Rattle.std.specs.Prelude.{◌≡◌, ◌+◌, ◌<◌, ◌^◌, [], ◌++◌, All, IfOk, OnOk, IsTrue, map, length, slice_index_or, slice_set};
 ghost use Rattle.std.specs.List.{AllByRecursion};
 ghost use Rattle.asp_model.specs.Sets.{IsAscending, has};
 ghost use Rattle.asp_model.specs.Models.{head_atoms};

@@ -1,5 +1,5 @@
 //! What a search for consequences knows.
-ghost use Rattle.std.specs.Prelude.{◌≡◌, ◌∷◌, ◌++◌, [], not, filter, length, IfOk, IsTrue, is_some, slice_get};
+ghost use Rattle.std.specs.Prelude.{◌≡◌, ◌∷◌, ◌++◌, [], not, filter, length, IfOk, is_some, slice_get};
 ghost use Rattle.asp_model.specs.Consequences.{common_sets, shows, unshown};
 ghost use Rattle.asp_model.specs.Models.{atoms_of};
 ghost use Rattle.asp_model.specs.Sets.{has};

@@ -1,6 +1,6 @@
 //! Literals of variables.
 ghost use Rattle.std.specs.Prelude.{◌≡◌, ◌<◌, ◌^◌};
-ghost use Rattle.asp_vars.specs.Literals.{literal_eq, complement, T, F};
+ghost use Rattle.asp_vars.specs.Literals.{literal_eq, complement};
 ghost use Rattle.asp_vars.specs.Codes.{code_of};
 ghost use Rattle.std.specs.Cmp.Rules.{comparing};
 ghost use Rattle.std.proofs.Common.{rules};

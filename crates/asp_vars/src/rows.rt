@@ -1,10 +1,10 @@
 //! What small programs and nogoods have, by the definitions.
 ghost use Rattle.std.specs.Prelude.{◌≡◌, [], ◌∷◌, true, false, pos, negsuc};
 ghost use Rattle.asp_model.specs.declared.program.Body.TheVariants as body;
-ghost use Rattle.asp_model.specs.Rows.{positive_loop, two_priorities, two_ways, repeated_literals};
+ghost use Rattle.asp_model.specs.Rows.{positive_loop, two_priorities};
 ghost use Rattle.asp_vars.specs.Literals.{T, F};
 ghost use Rattle.asp_vars.specs.Rows.{conjunction};
-ghost use Rattle.asp_vars.specs.Numbering.{normal, var_count, literal_of_body, values, bodies_of};
+ghost use Rattle.asp_vars.specs.Numbering.{normal, var_count, literal_of_body, values};
 ghost use Rattle.asp_vars.specs.declared.nogood.Base.TheVariants as base;
 ghost use Rattle.asp_vars.specs.Resolution.{resolvent, joined};
 ghost use Rattle.asp_vars.specs.Completion.{completion};

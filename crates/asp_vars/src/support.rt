@@ -1,5 +1,5 @@
 //! What supports an atom.
-ghost use Rattle.std.specs.Prelude.{◌≡◌, ◌-◌, ◌++◌, All, IfOk, OnOk, IsTrue, map};
+ghost use Rattle.std.specs.Prelude.{◌≡◌, ◌-◌, ◌++◌, All, IfOk, OnOk, map};
 ghost use Rattle.asp_vars.specs.Literals.{complement};
 ghost use Rattle.asp_vars.specs.Numbering.{form_at, literal_of_form, nth_atom};
 ghost use Rattle.asp_vars.specs.Completion.{atom_nogood};

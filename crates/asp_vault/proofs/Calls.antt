@@ -1,8 +1,8 @@
 -- What a call on the value tells, from its take and its give.
-use Rattle.std.proofs.Common.{◌≡◌, ℕ, List, ◌++◌, length, drop, Option, refl, sym, ap, ◌∙◌, subst}
+use Rattle.std.proofs.Common.{◌≡◌, ℕ, List, ◌++◌, length, Option, refl, sym, ap, ◌∙◌, subst}
 use mathlib.Core.List.{IsPrefix}
 use Rattle.asp_vault.specs.declared.view.View.{View}
-use Rattle.asp_vault.specs.Makers.{placed, OnlyBy}
+use Rattle.asp_vault.specs.Makers.{placed}
 use Rattle.asp_vault.specs.Rules.{holding, after_misses, given_back, Learnt}
 use Rattle.asp_vault.specs.Moments.{Stays, Moment}
 use Rattle.asp_vault.proofs.Filters.{drop_prefix}
@@ -30,7 +30,3 @@ module _ {D E : Type 0} (maker : E → Option ℕ) where
     guests = ap (λ (z : View D E). z.guests) is;
     seen = subst (IsPrefix v.seen) (sym (ap (λ (z : View D E). z.seen) is)) (prefix_trans v.seen before (before ++ added) learnt.continues (added, refl));
   }) gave
-
--- entries that continue a list, all by one number
-pub only_added : {E : Type 0} (maker : E → Option ℕ) (n : ℕ) (xs added : List E) → OnlyBy maker n added → OnlyBy maker n (drop (length xs) (xs ++ added))
-only_added maker n xs added by = subst (OnlyBy maker n) (sym (drop_prefix xs added)) by

@@ -1,5 +1,5 @@
 //! The vault and its seats.
-ghost use Rattle.std.specs.Prelude.{◌≡◌, ℕ, ◌+◌, ◌*◌, ◌^◌, ◌<◌, ◌≤◌, true, false, [], ◌∷◌, length, drop, Some, None, IfOk, IfSome, IfNone};
+ghost use Rattle.std.specs.Prelude.{◌≡◌, ℕ, ◌+◌, ◌*◌, ◌^◌, ◌<◌, ◌≤◌, true, false, length, drop, Some, None, IfOk, IfSome, IfNone};
 ghost use Rattle.std.specs.Coded.{Coded-set, coded_list, coded×, coded_ℕ, coded_option};
 ghost use mathlib.Core.List.{IsPrefix, Sublist, Sublist-prop};
 ghost use Rattle.asp_vault.specs.Makers.{placed, of_number, named, OnlyBy, Unnamed};

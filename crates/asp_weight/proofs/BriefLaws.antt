@@ -3,7 +3,7 @@ use Rattle.std.proofs.Common.{◌≡◌, ℕ, suc, zero, ◌+◌, ◌<◌, ◌�
 use Rattle.std.specs.Prelude.{Result, Ok, Err, IfSome}
 use Rattle.std.specs.Result.{IfOk}
 use Rattle.std.specs.List.{list_all}
-use Rattle.std.proofs.lemmas.List.{append_assoc, append-nil, get_or_read}
+use Rattle.std.proofs.lemmas.List.{append_assoc, get_or_read}
 use Rattle.std.proofs.lemmas.List.Sums.{sum_by-cons, sum_by_more, sum_by-take-le}
 use Rattle.asp_vars.specs.Literals.{Literal, complement, holds_in, is_true, hits}
 use Rattle.asp_vars.proofs.LiteralLaws.{and_left, and_right, and_both, hits-append}
@@ -24,9 +24,6 @@ sum_take-le f (x ∷ xs) (suc m) zero h = absurd (omega (arith, h))
 sum_take-le f (x ∷ xs) (suc m) (suc n) h = omega (arith, sum_by-cons f x (take m xs), sum_by-cons f x (take n xs), sum_take-le f xs m n (omega (arith, h)))
 
 -- ---- the loop
-pub gathered_none : (side : Bool) (a : List (Option Bool)) (start : ℕ) (row : List Item) (first : List Literal) → IsGathered side a start start 0 row first first
-gathered_none side a start row first = record { rest = []; whole = sym (append-nil first); hold = refl; weighs = λ v h. omega arith }
-
 held_weighs : (side : Bool) (a : List (Option Bool)) (v : List Bool) (i : Item) → hits v (held side a i) ≡ true → weight_if (holds_in a) side i ≡ counted side a v i
 held_weighs side a v i h = cases (holds_in a (on side i.lit)) h
   where
@@ -65,15 +62,6 @@ gathered_small side a start sum n at w row x from within is weight small =
       sum_by_more (λ (y : Item). y.weight) row at x within,
       ap (λ (y : Item). y.weight) is,
     )
-
-pub gathered_enough : (side : Bool) (a : List (Option Bool)) (need start sum n : ℕ) (row : List Item) (first all : List Literal) → IsGathered side a start sum n row first all → need ≤ sum →
-    IsEnough side a need start row first all
-gathered_enough side a need start sum n row first all g h = record {
-  rest = g.rest;
-  whole = g.whole;
-  hold = g.hold;
-  enough = λ v e. omega (arith, h, g.weighs v e, sum_by-take-le (counted side a v) row n);
-}
 
 -- ---- what is gathered says
 pub brief_variable : (a : List (Option Bool)) (s : Shape) (row : List Item) (l : Literal) (side : Bool) (need : ℕ) (first all : List Literal) → l.var ≡ s.var → side ≡ l.truth → need ≡ need_of side s → first ≡ complement l ∷ [] →

@@ -1,5 +1,5 @@
 -- A literal that follows from a weight body, in the form of the code.
-use Rattle.std.proofs.Common.{◌≡◌, ℕ, ◌+◌, ◌^◌, ◌<◌, Bool, false, not, List, length, get_or, Option, Some, None, sym, ap, ◌∙◌, subst, arith}
+use Rattle.std.proofs.Common.{◌≡◌, ℕ, ◌+◌, ◌^◌, ◌<◌, Bool, false, List, length, get_or, Option, Some, None, sym, ap, ◌∙◌, subst, arith}
 use Rattle.std.proofs.lemmas.List.{take_all, get_or_read}
 use Rattle.asp_vars.specs.Literals.{Literal, complement, value_of}
 use Rattle.asp_vars.specs.Numbering.{var_count}

@@ -1,5 +1,5 @@
 //! Where the literals of each variable stand in weight bodies.
-ghost use Rattle.std.specs.Prelude.{◌≡◌, ◌<◌, ◌≤◌, ◌^◌, IfOk, OnOk, length};
+ghost use Rattle.std.specs.Prelude.{◌≡◌, ◌<◌, IfOk, OnOk, length};
 ghost use Rattle.std.specs.List.{All};
 ghost use Rattle.asp_weight.specs.Placed.{put, put_row, own_of, ArePlaces, HaveRoom};
 

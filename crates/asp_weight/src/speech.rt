@@ -5,7 +5,7 @@ ghost use Rattle.std.specs.Option.{ForSome};
 ghost use Rattle.asp_vars.specs.Literals.{holds_in};
 ghost use Rattle.asp_weight.specs.Rows.{on, weight_if, total_of};
 ghost use Rattle.asp_weight.specs.Explained.{before};
-ghost use Rattle.asp_weight.specs.Spoken.{held, gathered, item_at, spoken_as, spoken, IsReady};
+ghost use Rattle.asp_weight.specs.Spoken.{held, gathered, spoken_as, spoken, IsReady};
 
 use crate::item::{Item, Shape, on};
 use crate::look::{Speech, need};

@@ -1,5 +1,5 @@
 -- Answers that wait, and a worker's search once they were delivered.
-use Rattle.std.proofs.Common.{◌≡◌, ℕ, ◌-◌, Bool, false, List, [], ◌∷◌, ◌++◌, Option, Some, None, append_assoc, refl, sym, ap, ◌∙◌, subst, inl, inr, arith}
+use Rattle.std.proofs.Common.{◌≡◌, ℕ, ◌-◌, Bool, false, List, [], ◌∷◌, ◌++◌, Option, Some, None, append_assoc, refl, sym, ap, ◌∙◌, subst, inl, inr}
 use Rattle.std.specs.Prelude.{ℤ, map, IsTrue, slice_index_or}
 use Rattle.std.specs.List.{list_any, AllByRecursion}
 use Rattle.std.proofs.lemmas.List.{append-nil}
@@ -43,8 +43,7 @@ use Rattle.asp_search_laws.specs.declared.step.Step.TheVariants as step
 use Rattle.asp_crew_laws.specs.Working.{IsAtWork, IsSought}
 use Rattle.asp_crew_laws.proofs.WorkLaws.{work-on, work-delivered, may-list}
 use Rattle.asp_worker.specs.Seats.{IsRun, IsSettled, IsTidy, Idles}
-use Rattle.asp_worker.specs.Working.{GoesOn, IsOn, IsOff, Finds, IsNew, AreNew, Gathers}
-use Rattle.asp_worker.proofs.GoingLaws.{on-off, off-on}
+use Rattle.asp_worker.specs.Working.{GoesOn, IsOn, Finds, IsNew, AreNew, Gathers}
 use Rattle.asp_worker.proofs.OwnLaws.{By, behaves-call}
 use Rattle.asp_worker.proofs.SeatLaws.{board-task, query-none, settled-board, holds-idles, cube-idles}
 use Rattle.asp_worker.proofs.RecordLaws.{not-dear}
@@ -161,13 +160,6 @@ pub gathers-begun : (m : Mode) (v : Knows) (s t : Searching) (u : Units) (leaf :
 gathers-begun m v s t u leaf S row old new e f for none is =
     subst (λ (l : List Listing). Gathers s t (cube_of (seen_board v).nodes leaf) l) (sym (is ∙ ap (λ (l : List Listing). l ++ record { row = row; set = S } ∷ []) none)) (gathers-first m v s t u leaf S row e f for)
 
--- a fuel of which no unit was taken
-pub none-taken : (u w : Units) → w ≡ record u { left = u.left - 0 } → w ≡ u
-none-taken u w e = e ∙ ap (λ n. let x : Units = record u { left = n } in x) zero
-  where
-    zero : u.left - 0 ≡ u.left
-    zero = omega arith
-
 -- ---- they may be delivered
 module _ (m : Mode) (v : Knows) (s t : Searching) (u : Units) (leaf : ℕ) (found : List Listing) (on : IsOn m v s u leaf) (g : Gathers s t (cube_of (seen_board v).nodes leaf) found) where
   mode-enum : m ≡ Enum
@@ -279,7 +271,3 @@ module _ (v w : Knows) (before : List Event) (stays : Stays v w) (found : List L
 
     pub gathered-on : (x : Units) → x ≡ u → IsOn m w t x leaf
     gathered-on x e = subst (λ (y : Units). IsOn m w t y leaf) (sym e) on-then
-
--- memory was wanting
-pub gathered-off : (m : Mode) (v w : Knows) (s t : Searching) (u x : Units) (leaf : ℕ) (S : Atoms) → Finds m v s t u leaf S → Idles v w → x ≡ u → IsOff w x leaf
-gathered-off m v w s t u x leaf S f i e = subst (λ (y : Units). IsOff w y leaf) (sym e) (off-on v w u leaf (on-off m v s u leaf f.on) i)

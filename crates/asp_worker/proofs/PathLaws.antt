@@ -18,7 +18,7 @@ use Rattle.asp_worker.specs.declared.worker.Worker.{Worker}
 use Rattle.asp_worker.specs.declared.worker.Shared.{Shared}
 use Rattle.asp_worker.specs.Seats.{Behaves, Idles, Passes, Leases, IsReady, Keeps}
 use Rattle.asp_worker.specs.Sharing.{TakesOver}
-use Rattle.asp_worker.specs.Working.{GoesOn, IsOn, IsOff, Finds}
+use Rattle.asp_worker.specs.Working.{GoesOn, IsOn, IsOff}
 use Rattle.asp_worker.proofs.SeatLaws.{holds-idles, cube-idles, holds-leases, cube-leases, idles-passes, behaves-self, ready-seat}
 use Rattle.asp_worker.proofs.GoingLaws.{owes-of, goes-on, owes-on}
 use Rattle.asp_worker.proofs.SharingLaws.{refreshed-goes, refreshed-cube}
@@ -36,19 +36,6 @@ refreshed-on m v w t r u leaf pages from on i e = record {
 -- memory was wanting, and the number left its leaves and units alone
 pub idled-off : (m : Mode) (v w : Knows) (s : Searching) (u x : Units) (leaf : ℕ) → IsOn m v s u leaf → Idles v w → x ≡ u → IsOff w x leaf
 idled-off m v w s u x leaf on i e = subst (λ (y : Units). IsOff w y leaf) (sym e) (record { held = holds-idles v w leaf on.works.held i; units = owes-on v w u (owes-of on.going) (idles-passes v w i) })
-
--- an answer was recorded
-pub recorded-on : (m : Mode) (v w : Knows) (s t r : Searching) (u x : Units) (leaf : ℕ) (S : List ℕ) → Finds m v s t u leaf S → Idles v w → x ≡ u → GoesOn m w r x × (r.cube ≡ t.cube) → IsOn m w r x leaf
-recorded-on m v w s t r u x leaf S f i e h = record {
-  going = h.0;
-  works = record {
-    held = holds-idles v w leaf f.on.works.held i;
-    entered = h.1 ∙ f.cube ∙ f.on.works.entered ∙ ap (λ (q : List Literal). Some q) (sym (cube-idles v w leaf f.on.works.held i));
-  };
-}
-
-pub found-off : (m : Mode) (v w : Knows) (s t : Searching) (u x : Units) (leaf : ℕ) (S : List ℕ) → Finds m v s t u leaf S → Idles v w → x ≡ u → IsOff w x leaf
-found-off m v w s t u x leaf S f i e = idled-off m v w s u x leaf f.on i e
 
 -- units were leased
 pub leased-on : (m : Mode) (v w : Knows) (s t : Searching) (u x : Units) (leaf : ℕ) → IsOn m v s u leaf → Leases v w → t ≡ s → GoesOn m w t x → IsOn m w t x leaf

@@ -1,6 +1,6 @@
 -- Facts for one outcome of a call.
 use Rattle.std.proofs.Common.{◌≡◌, Result, Ok, Err, sym, subst}
-use Rattle.std.specs.Result.{OnOk, OnErr, IfOk, IfErr, IsErrAnd}
+use Rattle.std.specs.Result.{OnOk, OnErr, IfErr, IsErrAnd}
 use Rattle.asp_book.specs.Calls.{Knows}
 use Rattle.asp_worker.specs.declared.stop.Stop.{Stop}
 use Rattle.asp_worker.specs.declared.stop.Stop.TheVariants.{Memory}
@@ -13,10 +13,6 @@ on-ok (Err e) f h = tt
 pub on-err : {A E : Type 0} {P Q : Type 0} (r : Result A E) → (P → Q) → OnErr r P → OnErr r Q
 on-err (Ok x) f h = tt
 on-err (Err e) f h = f h
-
-pub if-ok : {A E : Type 0} {P Q : A → Type 0} (r : Result A E) → ((x : A) → P x → Q x) → IfOk r P → IfOk r Q
-if-ok (Ok x) f h = f x h
-if-ok (Err e) f h = tt
 
 pub always-err : {A E : Type 0} (r : Result A E) (Q : Type 0) → Q → OnErr r Q
 always-err (Ok x) Q h = tt

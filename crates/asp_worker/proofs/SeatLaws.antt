@@ -405,9 +405,5 @@ pub half-err : (v w : Knows) (leaf : ℕ) (l : Literal) (r : Result (Option ℕ)
 half-err v w leaf l (Ok o) e held = absurd (false≢true e)
 half-err v w leaf l (Err x) e held = held
 
--- what was held still is, or the half of it
-pub half-some : (v w : Knows) (leaf : ℕ) (l : Literal) (o : Option ℕ) (half : ℕ) → HoldsHalf v w leaf l (Ok o) → o ≡ Some half → Holds w half
-half-some v w leaf l o half h e = (subst (λ (x : Option ℕ). HoldsHalf v w leaf l (Ok x)) e h).0
-
 pub half-none : (v w : Knows) (leaf : ℕ) (l : Literal) (o : Option ℕ) → HoldsHalf v w leaf l (Ok o) → o ≡ None → slice_index_or (seen_board w).nodes leaf nowhere ≡ slice_index_or (seen_board v).nodes leaf nowhere
 half-none v w leaf l o h e = subst (λ (x : Option ℕ). HoldsHalf v w leaf l (Ok x)) e h

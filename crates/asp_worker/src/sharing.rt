@@ -1,5 +1,5 @@
 //! What a search tells the others, and what it takes over from them.
-ghost use Rattle.std.specs.Prelude.{◌≡◌, ◌≤◌, ◌<◌, ◌^◌, ◌↔◌, ℕ, Some, false, IsTrue, length, OnOk, OnErr, IfOk, IfErr, IfSome, All};
+ghost use Rattle.std.specs.Prelude.{◌≡◌, ◌≤◌, ◌<◌, ◌^◌, ◌↔◌, ℕ, Some, false, IsTrue, length, OnOk, OnErr, IfOk, IfErr, All};
 ghost use Rattle.std.specs.Option.{option_copied};
 ghost use Rattle.asp_model.specs.declared.results.Mode.TheVariants as mode;
 ghost use Rattle.asp_model.specs.Asked.{reasoning_of};
@@ -11,7 +11,7 @@ ghost use Rattle.asp_vars.specs.Paid.{Units};
 ghost use Rattle.asp_core.specs.Boards.{goal_of, optimises};
 ghost use Rattle.asp_vault.specs.Seats.{view, IsOf, IsBeside};
 ghost use Rattle.asp_log.specs.Entries.{IsEntry};
-ghost use Rattle.asp_book.specs.Calls.{seen_board, task_of};
+ghost use Rattle.asp_book.specs.Calls.{seen_board};
 ghost use Rattle.asp_search.specs.Beside.{count_unshown, left_to_show, Leaves};
 ghost use Rattle.asp_search_laws.specs.Searching.{Searching};
 ghost use Rattle.asp_slots.specs.Shelves.{program_of, seen_count, listed, IsAt, ReadsOn};

@@ -28,9 +28,6 @@ note_all-requires-clause-small g c =
     let n : ℕ = c.requires.marks.0 in
     let e = c.requires.marks.1 in
     let old : Marked = c.args.marks.now in
-    let top : ℕ = c.greatest_level-top.result in
-    let below : All (λ (l : Literal). level_in es l.var ≤ top) from.lits =
-    c.greatest_level-top.ensures.below in
     (all_small vars n es old from.lits o c.requires.marks.2 e on)
 
 pub note_all-requires-clause-stays : goal.note_all-requires-clause-stays
@@ -40,8 +37,6 @@ note_all-requires-clause-stays g c =
     let o = c.len-len.ensures.ordered in
     let from : Nogood = record { lits = c.args.lits.now; base = c.args.base.now } in
     let on : All (λ (l : Literal). IsOn es l) from.lits = all_on vars es from.lits o c.requires.contained in
-    let n : ℕ = c.requires.marks.0 in
-    let e = c.requires.marks.1 in
     let old : Marked = c.args.marks.now in
     let top : ℕ = c.greatest_level-top.result in
     let below : All (λ (l : Literal). level_in es l.var ≤ top) from.lits =
@@ -53,14 +48,10 @@ note_all-requires-clause-marked g c =
     let es = c.args.trail.now.entries in
     let vars : ℕ = c.args.trail.now.vars in
     let o = c.len-len.ensures.ordered in
-    let from : Nogood = record { lits = c.args.lits.now; base = c.args.base.now } in
-    let on : All (λ (l : Literal). IsOn es l) from.lits = all_on vars es from.lits o c.requires.contained in
     let n : ℕ = c.requires.marks.0 in
     let e = c.requires.marks.1 in
     let old : Marked = c.args.marks.now in
     let top : ℕ = c.greatest_level-top.result in
-    let below : All (λ (l : Literal). level_in es l.var ≤ top) from.lits =
-    c.greatest_level-top.ensures.below in
     marked_begins vars n es top old o c.requires.marks.2 e
 
 pub find_point-requires-clause-way : goal.find_point-requires-clause-way
@@ -69,18 +60,13 @@ find_point-requires-clause-way g c =
     let vars : ℕ = c.args.trail.now.vars in
     let o = c.len-len.ensures.ordered in
     let from : Nogood = record { lits = c.args.lits.now; base = c.args.base.now } in
-    let on : All (λ (l : Literal). IsOn es l) from.lits = all_on vars es from.lits o c.requires.contained in
     let n : ℕ = c.requires.marks.0 in
     let e = c.requires.marks.1 in
     let old : Marked = c.args.marks.now in
     let top : ℕ = c.greatest_level-top.result in
-    let below : All (λ (l : Literal). level_in es l.var ≤ top) from.lits =
-    c.greatest_level-top.ensures.below in
     let says = g.R.Reasons.says c.args.reasons.now in
     let first : Marked = c.note_all.new.marks in
     let noted : Noted es old first from.lits = c.note_all.ensures.noted in
-    let attained : 0 < top → (l : Literal) × (has_literal from.lits l ≡ true) × (level_in es l.var ≡ top) =
-    c.greatest_level-top.ensures.attained in
     let begun : IsOnTheWay es says from top first c.in_ok-base.base = way_begins vars n es says from top old first c.in_ok-base.base o e c.in_ok-base.ensures c.note_all.ensures.marked noted in
     (from, begun)
 
@@ -95,14 +81,10 @@ find_point-requires-clause-down g c =
     let e = c.requires.marks.1 in
     let old : Marked = c.args.marks.now in
     let top : ℕ = c.greatest_level-top.result in
-    let below : All (λ (l : Literal). level_in es l.var ≤ top) from.lits =
-    c.greatest_level-top.ensures.below in
-    let says = g.R.Reasons.says c.args.reasons.now in
     let first : Marked = c.note_all.new.marks in
     let noted : Noted es old first from.lits = c.note_all.ensures.noted in
     let attained : 0 < top → (l : Literal) × (has_literal from.lits l ≡ true) × (level_in es l.var ≡ top) =
     c.greatest_level-top.ensures.attained in
-    let begun : IsOnTheWay es says from top first c.in_ok-base.base = way_begins vars n es says from top old first c.in_ok-base.base o e c.in_ok-base.ensures c.note_all.ensures.marked noted in
     down_begins vars n es from.lits top old first e on c.note_all.ensures.marked noted attained
 
 pub settle-requires-clause-way : goal.settle-requires-clause-way
@@ -111,18 +93,13 @@ settle-requires-clause-way g c =
     let vars : ℕ = c.args.trail.now.vars in
     let o = c.len-len.ensures.ordered in
     let from : Nogood = record { lits = c.args.lits.now; base = c.args.base.now } in
-    let on : All (λ (l : Literal). IsOn es l) from.lits = all_on vars es from.lits o c.requires.contained in
     let n : ℕ = c.requires.marks.0 in
     let e = c.requires.marks.1 in
     let old : Marked = c.args.marks.now in
     let top : ℕ = c.greatest_level-top.result in
-    let below : All (λ (l : Literal). level_in es l.var ≤ top) from.lits =
-    c.greatest_level-top.ensures.below in
     let says = g.R.Reasons.says c.args.reasons.now in
     let first : Marked = c.note_all.new.marks in
     let noted : Noted es old first from.lits = c.note_all.ensures.noted in
-    let attained : 0 < top → (l : Literal) × (has_literal from.lits l ≡ true) × (level_in es l.var ≡ top) =
-    c.greatest_level-top.ensures.attained in
     let begun : IsOnTheWay es says from top first c.in_ok-base.base = way_begins vars n es says from top old first c.in_ok-base.base o e c.in_ok-base.ensures c.note_all.ensures.marked noted in
     (from, c.in_ok-point.ensures.way from begun)
 
@@ -132,18 +109,13 @@ conclude-requires g c =
     let vars : ℕ = c.args.trail.now.vars in
     let o = c.len-len.ensures.ordered in
     let from : Nogood = record { lits = c.args.lits.now; base = c.args.base.now } in
-    let on : All (λ (l : Literal). IsOn es l) from.lits = all_on vars es from.lits o c.requires.contained in
     let n : ℕ = c.requires.marks.0 in
     let e = c.requires.marks.1 in
     let old : Marked = c.args.marks.now in
     let top : ℕ = c.greatest_level-top.result in
-    let below : All (λ (l : Literal). level_in es l.var ≤ top) from.lits =
-    c.greatest_level-top.ensures.below in
     let says = g.R.Reasons.says c.args.reasons.now in
     let first : Marked = c.note_all.new.marks in
     let noted : Noted es old first from.lits = c.note_all.ensures.noted in
-    let attained : 0 < top → (l : Literal) × (has_literal from.lits l ≡ true) × (level_in es l.var ≡ top) =
-    c.greatest_level-top.ensures.attained in
     let begun : IsOnTheWay es says from top first c.in_ok-base.base = way_begins vars n es says from top old first c.in_ok-base.base o e c.in_ok-base.ensures c.note_all.ensures.marked noted in
     let m : Marked = c.settle.new.marks in
     let way : IsOnTheWay es says from top m c.settle.new.base = c.in_ok-settle.ensures.way from (c.in_ok-point.ensures.way from begun) in
@@ -160,13 +132,9 @@ returns-clause-reached g c =
     let e = c.requires.marks.1 in
     let old : Marked = c.args.marks.now in
     let top : ℕ = c.greatest_level-top.result in
-    let below : All (λ (l : Literal). level_in es l.var ≤ top) from.lits =
-    c.greatest_level-top.ensures.below in
     let says = g.R.Reasons.says c.args.reasons.now in
     let first : Marked = c.note_all.new.marks in
     let noted : Noted es old first from.lits = c.note_all.ensures.noted in
-    let attained : 0 < top → (l : Literal) × (has_literal from.lits l ≡ true) × (level_in es l.var ≡ top) =
-    c.greatest_level-top.ensures.attained in
     let begun : IsOnTheWay es says from top first c.in_ok-base.base = way_begins vars n es says from top old first c.in_ok-base.base o e c.in_ok-base.ensures c.note_all.ensures.marked noted in
     let m : Marked = c.settle.new.marks in
     let way : IsOnTheWay es says from top m c.settle.new.base = c.in_ok-settle.ensures.way from (c.in_ok-point.ensures.way from begun) in
@@ -179,18 +147,13 @@ returns-clause-contained g c =
     let vars : ℕ = c.args.trail.now.vars in
     let o = c.len-len.ensures.ordered in
     let from : Nogood = record { lits = c.args.lits.now; base = c.args.base.now } in
-    let on : All (λ (l : Literal). IsOn es l) from.lits = all_on vars es from.lits o c.requires.contained in
     let n : ℕ = c.requires.marks.0 in
     let e = c.requires.marks.1 in
     let old : Marked = c.args.marks.now in
     let top : ℕ = c.greatest_level-top.result in
-    let below : All (λ (l : Literal). level_in es l.var ≤ top) from.lits =
-    c.greatest_level-top.ensures.below in
     let says = g.R.Reasons.says c.args.reasons.now in
     let first : Marked = c.note_all.new.marks in
     let noted : Noted es old first from.lits = c.note_all.ensures.noted in
-    let attained : 0 < top → (l : Literal) × (has_literal from.lits l ≡ true) × (level_in es l.var ≡ top) =
-    c.greatest_level-top.ensures.attained in
     let begun : IsOnTheWay es says from top first c.in_ok-base.base = way_begins vars n es says from top old first c.in_ok-base.base o e c.in_ok-base.ensures c.note_all.ensures.marked noted in
     let m : Marked = c.settle.new.marks in
     let way : IsOnTheWay es says from top m c.settle.new.base = c.in_ok-settle.ensures.way from (c.in_ok-point.ensures.way from begun) in
@@ -203,18 +166,13 @@ returns-clause-assumed g c =
     let vars : ℕ = c.args.trail.now.vars in
     let o = c.len-len.ensures.ordered in
     let from : Nogood = record { lits = c.args.lits.now; base = c.args.base.now } in
-    let on : All (λ (l : Literal). IsOn es l) from.lits = all_on vars es from.lits o c.requires.contained in
     let n : ℕ = c.requires.marks.0 in
     let e = c.requires.marks.1 in
     let old : Marked = c.args.marks.now in
     let top : ℕ = c.greatest_level-top.result in
-    let below : All (λ (l : Literal). level_in es l.var ≤ top) from.lits =
-    c.greatest_level-top.ensures.below in
     let says = g.R.Reasons.says c.args.reasons.now in
     let first : Marked = c.note_all.new.marks in
     let noted : Noted es old first from.lits = c.note_all.ensures.noted in
-    let attained : 0 < top → (l : Literal) × (has_literal from.lits l ≡ true) × (level_in es l.var ≡ top) =
-    c.greatest_level-top.ensures.attained in
     let begun : IsOnTheWay es says from top first c.in_ok-base.base = way_begins vars n es says from top old first c.in_ok-base.base o e c.in_ok-base.ensures c.note_all.ensures.marked noted in
     let m : Marked = c.settle.new.marks in
     let way : IsOnTheWay es says from top m c.settle.new.base = c.in_ok-settle.ensures.way from (c.in_ok-point.ensures.way from begun) in
@@ -227,7 +185,6 @@ returns-clause-learned g c =
     let vars : ℕ = c.args.trail.now.vars in
     let o = c.len-len.ensures.ordered in
     let from : Nogood = record { lits = c.args.lits.now; base = c.args.base.now } in
-    let on : All (λ (l : Literal). IsOn es l) from.lits = all_on vars es from.lits o c.requires.contained in
     let n : ℕ = c.requires.marks.0 in
     let e = c.requires.marks.1 in
     let old : Marked = c.args.marks.now in

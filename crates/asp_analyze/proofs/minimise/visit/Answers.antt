@@ -17,7 +17,6 @@ use Rattle.asp_analyze.proofs.minimise.visit.Goals as goal
 pub kept-requires : goal.kept-requires
 kept-requires g c =
     let es = c.args.trail.now.entries in
-    let says = g.R.Reasons.says c.args.reasons.now in
     let top = c.args.top in
     let m : Marked = c.args.marks.now in
     let a = c.requires.way.1.marked in
@@ -167,23 +166,10 @@ pub returns-in_ok-push-in-Some-find_other-2-clause-goes :
     goal.returns-in_ok-push-in-Some-find_other-2-clause-goes
 returns-in_ok-push-in-Some-find_other-2-clause-goes g c =
     let es = c.args.trail.now.entries in
-    let says = g.R.Reasons.says c.args.reasons.now in
     let top = c.args.top in
     let m : Marked = c.args.marks.now in
     let a = c.requires.way.1.marked in
-    let last : Look = c.in-Some.last in
-    let path : All (λ (f : Look). CanGo es top m f.lit) (c.pop.new.self.items ++ last ∷ []) =
-    subst (λ (xs : List Look). All (λ (f : Look). CanGo es top m f.lit) xs) c.in-Some.ensures.items c.requires.path in
-    let can : CanGo es top m last.lit = all_last (λ (f : Look). CanGo es top m f.lit) c.pop.new.self.items last path in
-    let id = c.in-Some-reason_of.id in
-    let reason : reason_in es last.lit.var ≡ Some id = sym c.reason_of.ensures ∙ c.in-Some-reason_of.is in
-    let n : Nogood = c.in-Some-kept.reason.now in
-    let k : says last.lit id n = c.in-Some-kept.ensures in
-    let same : c.as_slice.result.now ≡ n.lits = c.as_slice.ensures.value in
     let other : Look = c.in-Some-find_other.other in
     let is = c.in-Some-find_other.ensures.1 in
-    let has : has_literal n.lits other.lit ≡ true = subst (λ (ls : List Literal). has_literal ls other.lit ≡ true) same c.in-Some-find_other.ensures.0 in
-    let high : level_in es other.lit.var < top =
-    other_high a.ordered.0 es says top m last.lit other.lit id c.var.result n a.ordered.1 c.requires.reasons can reason k c.var.ensures has is in
     let clean : is_clean (mark_of m.marks other.lit.var) ≡ true = c.may_follow.ensures c.if-may_follow.true in
     goes_needed es top m c.add.new.self other.lit a is.on clean c.add.ensures

@@ -51,7 +51,6 @@ pub returns-clause-way : goal.returns-clause-way
 returns-clause-way g c = λ from w.
     let es = c.args.trail.now.entries in
     let says = g.R.Reasons.says c.args.reasons.now in
-    let a = c.requires.way.1.marked in
     let old : Marked = c.args.marks.now in
     let mid : Marked = c.change.new.self in
     let made : mid ≡ record old { marks = set old.marks c.args.lit.var mark.Resolved } = rw c.var.ensures at c.change.ensures in

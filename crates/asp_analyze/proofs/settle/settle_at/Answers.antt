@@ -57,7 +57,6 @@ returns-in-Zero-clause-settled g c = λ s.
     let a = c.requires.way.1.marked in
     let lit : Literal = c.index-lits-i.result in
     let q : lit ≡ get_or m.lits i lit = c.index-lits-i.is ∙ ap (λ (xs : List Literal). get_or xs i lit) c.lits.ensures.value in
-    let on = listed_on es top i m lit a c.requires.i q in
     on_ok_both c.settle_zero.result (Goes es m c.settle_zero.new.marks) (is_settled (mark_of c.settle_zero.new.marks.marks lit.var) ≡ true) (AreSettled (i + 1) c.settle_zero.new.marks)
     (λ t now. settled_more es top m c.settle_zero.new.marks i lit lit a t c.requires.i q now s)
     c.settle_zero.ensures.goes c.settle_zero.ensures.settled

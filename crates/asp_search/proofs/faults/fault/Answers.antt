@@ -48,7 +48,6 @@ unfounded-requires-clause-unfounded g c =
 
 pub returns-in-Stable-clause-fault : goal.returns-in-Stable-clause-fault
 returns-in-Stable-clause-fault g c =
-    let p = c.args.compiled.now in
     let S = c.args.interp.now in
     subst (λ (q : Program). IsVerdict q S verdict.Stable) c.requires.checker (subst (IsVerdict c.args.checker.now S) c.in-Stable.is c.in_ok-check.ensures.verdict)
 

@@ -58,7 +58,6 @@ make_false-requires-clause-var c =
     let here = short_here slots f x ((c.requires.walking.sound.net.places (code_of f.lit) c.args.i x at).short short) in
     let b = c.blocker-blocker.result in
     let same : HaveSame here.0.lits (f.lit ∷ b ∷ []) = subst (λ (l : Literal). HaveSame here.0.lits (f.lit ∷ l ∷ [])) (sym c.blocker-blocker.ensures) here.2 in
-    let kept : nogood_at slots c.id-id.result ≡ Some here.0 = ap (nogood_at slots) c.id-id.ensures ∙ here.1 in
     all_has (λ l. IsVar t.vars l.var) here.0.lits b (c.requires.walking.sound.net.small x.id here.0 here.1) (same b ∙ second_of_two f.lit b)
 
 pub make_false-requires-clause-not_true : goal.make_false-requires-clause-not_true

@@ -1,4 +1,4 @@
-use Rattle.std.proofs.Common.{sym, refl, ◌∙◌, arith}
+use Rattle.std.proofs.Common.{sym, refl, arith}
 use Rattle.asp_text.proofs.Front.{one_digit}
 use Rattle.asp_text.proofs.numbers.front_digits.Goals as goal
 

@@ -62,7 +62,6 @@ invariant_of-self-in-Some g c =
 
 pub meet-requires-clause-entered : goal.meet-requires-clause-entered
 meet-requires-clause-entered g c =
-    let i = c.self.inside in
     let q = some_of c.args.self.now.cube c.requires.entered in
     let same = c.propagate.ensures.same in (
       q.0,
@@ -86,7 +85,6 @@ invariant_of-self-in-None g c =
 
 pub go_on-requires-clause-entered : goal.go_on-requires-clause-entered
 go_on-requires-clause-entered g c =
-    let i = c.self.inside in
     let q = some_of c.args.self.now.cube c.requires.entered in
     let same = c.propagate.ensures.same in (
       q.0,
