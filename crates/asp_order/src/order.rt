@@ -138,7 +138,9 @@ impl Order {
     /// What was bumped before counts for less from now on: each time by a seventeenth, since the increment grows by its
     /// sixteenth.
     pub fn age(&mut self, times: u32)
-        ensures { self.new ≡ aged self.old times }
+        ensures aged { self.new ≡ aged self.old times }
+        ensures members { self.new.members ≡ self.old.members }
+        ensures vars { length self.new.activities ≡ length self.old.activities }
     {
         decay_all(&mut self.heap, times);
     }

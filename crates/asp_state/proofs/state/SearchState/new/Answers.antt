@@ -17,7 +17,7 @@ keep_completion-requires-clause-program g c = ap (λ (f : Propagating). f.progra
 
 pub keep_completion-requires-clause-vars : goal.keep_completion-requires-clause-vars
 keep_completion-requires-clause-vars g c =
-    aged-vars c.args.compiled.now c.vars-vars.result 34 c.in_ok-order.order c.begin_unlisted.new.order c.age.new.self c.begin_unlisted.ensures c.age.ensures c.in_ok-order.ensures.vars
+    aged-vars c.args.compiled.now c.vars-vars.result 34 c.in_ok-order.order c.begin_unlisted.new.order c.age.new.self c.begin_unlisted.ensures c.age.ensures.aged c.in_ok-order.ensures.vars
     ∙ ap (λ (n : ℕ). n + 1) c.vars-vars.ensures.count
 
 pub begin_unlisted-requires : goal.begin_unlisted-requires
@@ -29,7 +29,7 @@ invariant_of-result g c =
     let b = g.P.Propagator.bound c.args.propagator in
     let slots = c.keep_completion.new.engine.slots in
     let o = c.in_ok-order.ensures in
-    let first = given_first p c.vars-vars.result c.in_ok-order.order c.begin_unlisted.new.order c.age.new.self c.prefer_cheap.new.order c.vars-vars.ensures.count o.fresh o.vars o.all c.begin_unlisted.ensures c.age.ensures (c.prefer_cheap.ensures ∙ c.in-Ok.ensures.order) in
+    let first = given_first p c.vars-vars.result c.in_ok-order.order c.begin_unlisted.new.order c.age.new.self c.prefer_cheap.new.order c.vars-vars.ensures.count o.fresh o.vars o.all c.begin_unlisted.ensures c.age.ensures.aged (c.prefer_cheap.ensures ∙ c.in-Ok.ensures.order) in
     let same : c.keep_completion.new.engine ≡ record { program = p; entries = []; slots = slots; bound = b } =
     c.keep_completion.ensures.same
     ∙ ap (λ (f : Propagating). let e : Propagating = record f { slots = slots } in e) c.in_ok-engine.ensures
@@ -49,7 +49,7 @@ returns-in-Ok-clause-same g c =
     let b = g.P.Propagator.bound c.args.propagator in
     let slots = c.keep_completion.new.engine.slots in
     let o = c.in_ok-order.ensures in
-    let first = given_first p c.vars-vars.result c.in_ok-order.order c.begin_unlisted.new.order c.age.new.self c.prefer_cheap.new.order c.vars-vars.ensures.count o.fresh o.vars o.all c.begin_unlisted.ensures c.age.ensures (c.prefer_cheap.ensures ∙ c.in-Ok.ensures.order) in
+    let first = given_first p c.vars-vars.result c.in_ok-order.order c.begin_unlisted.new.order c.age.new.self c.prefer_cheap.new.order c.vars-vars.ensures.count o.fresh o.vars o.all c.begin_unlisted.ensures c.age.ensures.aged (c.prefer_cheap.ensures ∙ c.in-Ok.ensures.order) in
     let same : c.keep_completion.new.engine ≡ record { program = p; entries = []; slots = slots; bound = b } =
     c.keep_completion.ensures.same
     ∙ ap (λ (f : Propagating). let e : Propagating = record f { slots = slots } in e) c.in_ok-engine.ensures
