@@ -74,11 +74,11 @@ shared_by p known bound base.Pure lits e good = good
 shared_by p known bound (base.Below c) lits e good = good
 shared_by p known bound base.Local lits e good = absurd (false≢true e)
 
-pub kept_shared : (p : Program) (known : List Atoms) (bound : Option (List ℤ)) (slots : List (Option StoredNogood)) (id : ℕ) (n : Nogood) → AreUseful p known bound slots → AreSmall (var_count p) slots →
-    nogood_at slots id ≡ Some n → is_shared n ≡ true → IsShared p n
-kept_shared p known bound slots id n useful small q e = record {
+pub kept_shared : (longest : ℕ) (p : Program) (known : List Atoms) (bound : Option (List ℤ)) (slots : List (Option StoredNogood)) (id : ℕ) (n : Nogood) → AreUseful p known bound slots → AreSmall (var_count p) slots →
+    nogood_at slots id ≡ Some n → is_shared longest n ≡ true → IsShared p n
+kept_shared longest p known bound slots id n useful small q e = record {
   variables = small id n q;
-  shared = shared_by p known bound n.base n.lits (and_left (not (is_local n.base)) (nat_le (length n.lits) 8) e) (useful id n q).good;
+  shared = shared_by p known bound n.base n.lits (and_left (not (is_local n.base)) (nat_le (length n.lits) longest) e) (useful id n q).good;
 }
 
 pub shared_good : (p : Program) (known : List Atoms) (bound : Option (List ℤ)) (b : Base) (lits : List Literal) → IsSharedBy p b lits → HitsOnly p (excuse p known bound b) lits
@@ -101,10 +101,16 @@ of_use_shared mode.Opt bound base.Local h e = false≢true h
 of_use_shared (mode.Consequences r) bound base.Local h e = false≢true h
 
 -- ---- what is copied for others
-pub only_is : (p : Program) (k : Option Nogood) → ((n : Nogood) → k ≡ Some n → is_shared n ≡ true → IsShared p n) → IfSome (only_shared k) (IsShared p)
-only_is p None f = tt
-only_is p (Some n) f = cases (is_shared n) refl
+pub only_is : (longest : ℕ) (p : Program) (k : Option Nogood) → ((n : Nogood) → k ≡ Some n → is_shared longest n ≡ true → IsShared p n) → IfSome (only_shared longest k) (IsShared p)
+only_is longest p None f = tt
+only_is longest p (Some n) f = cases (is_shared longest n) refl
   where
-    cases : (b : Bool) → b ≡ is_shared n → IfSome (if b then Some n else None) (IsShared p)
+    cases : (b : Bool) → b ≡ is_shared longest n → IfSome (if b then Some n else None) (IsShared p)
     cases true e = f n refl (sym e)
     cases false e = tt
+
+-- there are two limits of its length
+pub short_or_long : (longest : ℕ) (k copy : Option Nogood) → (longest ≡ 8) ⊎ (longest ≡ 64) → copy ≡ only_shared longest k →
+    (copy ≡ only_shared 8 k) ⊎ (copy ≡ only_shared 64 k)
+short_or_long longest k copy (inl e) q = inl (subst (λ (most : ℕ). copy ≡ only_shared most k) e q)
+short_or_long longest k copy (inr e) q = inr (subst (λ (most : ℕ). copy ≡ only_shared most k) e q)

@@ -79,13 +79,13 @@ is_local base.Pure = false
 is_local (base.Below c) = false
 is_local base.Local = true
 
--- It counts for other searches, and has no more than 8 literals.
-abbrev pub is_shared : Nogood → Bool
-is_shared n = not (is_local n.base) && nat_le (length n.lits) 8
+-- It counts for other searches, and has no more than so many literals.
+abbrev pub is_shared : ℕ → Nogood → Bool
+is_shared longest n = not (is_local n.base) && nat_le (length n.lits) longest
 
-abbrev pub only_shared : Option Nogood → Option Nogood
-only_shared None = None
-only_shared (Some n) = if is_shared n then Some n else None
+abbrev pub only_shared : ℕ → Option Nogood → Option Nogood
+only_shared longest None = None
+only_shared longest (Some n) = if is_shared longest n then Some n else None
 
 -- It is of the program's variables, and holds for every search of the program: what a log of nogoods has.
 pub record IsShared (p : Program) (n : Nogood) : Type 0 where
@@ -96,9 +96,9 @@ pub record IsShared (p : Program) (n : Nogood) : Type 0 where
 abbrev pub kept_last : Searching → Option Nogood
 kept_last s = option_and_then (λ id. nogood_at s.slots id) s.last
 
--- the nogood that the last step learnt, if others can use it
-abbrev pub exported : Searching → Option Nogood
-exported s = only_shared (kept_last s)
+-- the nogood that the last step learnt, if others can use it and it has no more than so many literals
+abbrev pub exported : ℕ → Searching → Option Nogood
+exported longest s = only_shared longest (kept_last s)
 
 -- ---- a literal by which a path can be split
 abbrev pub has_var : List Literal → ℕ → Bool

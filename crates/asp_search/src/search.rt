@@ -1,5 +1,5 @@
 //! The search: what it keeps, and the calls beside its step.
-ghost use Rattle.std.specs.Prelude.{◌≡◌, ◌≢◌, ◌+◌, ◌≤◌, [], None, Some, true, false, List, IfOk, IfSome, OnOk, OnErr, IsSome, IsTrue, ◌↔◌, MatchBool, count_by, length, option_map, replicate, slice_get};
+ghost use Rattle.std.specs.Prelude.{◌≡◌, ◌≢◌, ◌+◌, ◌≤◌, ◌⊎◌, [], None, Some, true, false, List, IfOk, IfSome, OnOk, OnErr, IsSome, IsTrue, ◌↔◌, MatchBool, count_by, length, option_map, replicate, slice_get};
 ghost use Rattle.std.specs.List.{All};
 ghost use Rattle.std.specs.Option.{option_copied};
 ghost use Rattle.asp_model.specs.Asked.{reasoning_of};
@@ -46,7 +46,13 @@ use std::alloc::{AllocError, Global};
 use std::marker::Model;
 
 /// A nogood with more literals isn't handed to other searches.
-pub const LONGEST_EXPORT: usize = 8;
+pub const LONGEST_EXPORT: usize = 64;
+
+// One with more literals than this only if they have few levels.
+const SHORT_EXPORT: usize = 8;
+
+// So many levels are few.
+const FEW_LEVELS: u32 = 6;
 
 /// A search of a program's answers under a cube, a step at a time.
 #[derive(Drop)]
@@ -157,21 +163,37 @@ fn is_local(base: &Base) -> bool
     }
 }
 
-// Whether other searches can use the nogood of these literals.
-fn is_shared(lits: &[Lit], base: &Base) -> bool
-    ensures { result ≡ is_shared (record { lits = lits.now; base = base.now }) }
+// How many literals a nogood may have that is handed to other searches, where its literals have so many levels.
+fn longest(levels: u32) -> usize
+    ensures { (result ≡ 8) ⊎ (result ≡ 64) }
 {
-    !is_local(base) && lits.len() <= LONGEST_EXPORT
+    if levels <= FEW_LEVELS {
+        LONGEST_EXPORT
+    } else {
+        SHORT_EXPORT
+    }
 }
 
-// A copy of the kept nogood, if other searches can use it.
-fn copy_shared(alloc: Global, store: &Store, id: NogoodId) -> Result<Option<Nogood>, AllocError>
+// Whether other searches can use the nogood of these literals, and it has no more of them than this.
+fn is_shared(longest: usize, lits: &[Lit], base: &Base) -> bool
+    ensures { result ≡ is_shared longest (record { lits = lits.now; base = base.now }) }
+{
+    !is_local(base) && lits.len() <= longest
+}
+
+// A copy of the kept nogood, if other searches can use it and it has no more literals than this.
+fn copy_shared(
+    alloc: Global,
+    store: &Store,
+    id: NogoodId,
+    longest: usize,
+) -> Result<Option<Nogood>, AllocError>
     requires { IsSome (nogood_at store.now.slots id) }
-    ensures { IfOk result (λ copy. copy ≡ only_shared (nogood_at store.now.slots id)) }
+    ensures { IfOk result (λ copy. copy ≡ only_shared longest (nogood_at store.now.slots id)) }
 {
     let nogood = store.nogood(id);
     let lits = nogood.lits.as_slice();
-    if !is_shared(lits, &nogood.base) {
+    if !is_shared(longest, lits, &nogood.base) {
         return Ok(None);
     }
     let lits = Lits::from_slice(alloc, lits)?;
@@ -361,17 +383,17 @@ impl<'a, P: Propagator> Search<'a, P> {
         }
     }
 
-    /// A copy of the nogood that the last step learnt, if it has at most 8 literals and isn't local. It holds for every search
-    /// of the program.
+    /// A copy of the nogood that the last step learnt, if it has at most 8 literals, or few levels and at most 64 literals, and
+    /// isn't local. It holds for every search of the program.
     pub fn export(&self) -> Result<Option<Nogood>, AllocError>
-        ensures value { IfOk result (λ copy. copy ≡ exported self.now) }
+        ensures value { IfOk result (λ copy. (copy ≡ exported 8 self.now) ⊎ (copy ≡ exported 64 self.now)) }
         ensures shared { IfOk result (λ copy. IfSome copy (IsShared self.now.program)) }
     {
         let _mode = self.mode;
         let store = self.state.store();
         match self.last {
             None => Ok(None),
-            Some(id) => copy_shared(self.alloc, store, id),
+            Some(id) => copy_shared(self.alloc, store, id, longest(self.spread.last())),
         }
     }
 

@@ -18,6 +18,8 @@ pub struct Spread {
     seen: Vec<u32>,
     // how many counts there were, by which `seen` need not be cleared
     counts: u32,
+    // how many levels the last literals had
+    last: u32,
 }
 
 // The level of a variable, 0 where it has no value.
@@ -48,7 +50,11 @@ impl Spread {
     /// For as many levels as there are variables, and level 0.
     pub fn new(alloc: Global, vars: u32) -> Result<Spread, AllocError> {
         let seen = vec![in alloc; 0; vars as usize + 1]?;
-        Ok(Spread { seen, counts: 0 })
+        Ok(Spread {
+            seen,
+            counts: 0,
+            last: 0,
+        })
     }
 
     // Begins a count.
@@ -80,7 +86,13 @@ impl Spread {
                 count = count.saturating_add(1);
             }
         }
+        self.last = count;
         count
+    }
+
+    /// How many levels the literals had that were counted last.
+    pub fn last(&self) -> u32 {
+        self.last
     }
 }
 
