@@ -1,5 +1,5 @@
 //! The state of a board.
-ghost use Rattle.std.specs.Prelude.{◌≡◌, ◌+◌, ◌^◌, ◌<◌, ◌≤◌, ◌↔◌, ◌==◌, if◌then◌else◌, true, false, [], length, slice_get, None, Some, option_map, option_and_then, IfOk, OnOk, OnErr, IsOk, IsTrue};
+ghost use Rattle.std.specs.Prelude.{◌≡◌, ◌+◌, ◌^◌, ◌<◌, ◌≤◌, ◌↔◌, ◌==◌, true, false, [], length, slice_get, None, Some, option_map, option_and_then, IfOk, OnOk, OnErr, IsOk, IsTrue};
 ghost use Rattle.std.specs.Option.{IfSome, is_some, option_copied};
 ghost use Rattle.asp_model.specs.Costs.{cost, betters};
 ghost use Rattle.asp_model.specs.Models.{atoms_of};
