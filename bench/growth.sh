@@ -3,8 +3,8 @@
 # usage: bench/growth.sh [--markdown] [--save FILE [--revision TEXT] [--machine TEXT]] [PROGRAM [BASE [KIND..]]]
 # with python3 at hand: BASE is the first size (4000). With --save the figures are kept for docs/pictures, in
 # bench/figures/growth.json.
-# Each kind has four answers at most, or one optimum, or one answer is asked for; of the last three the consequences are sought. Seconds of processor time,
-# 20 of them a run at most: what doesn't end is shown as ">20", and no greater size of it is tried. A doubling that takes 3 times
+# Each kind has four answers at most, or one optimum, or one answer is asked for; of the last three the consequences are sought.
+# Seconds of processor time, 20 of them a run at most: what doesn't end is shown as ">20", and no greater size of it is tried. A doubling that takes 3 times
 # as long or more, or the limit, is flagged with "!", unless it ends within 0.1 seconds, where the clock is too coarse. It asserts
 # nothing: it is outside the gate.
 set -eu
