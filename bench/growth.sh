@@ -75,6 +75,12 @@ def priorities(n):
     return [choice(to(n)), *(rule(0, -row[0]) for row in rows), *(minimise(p, row) for p, row in enumerate(rows))]
 
 
+def complements(n):
+    half = n // 2
+    both = " ".join(f"{half + i} -3 {i} -2" for i in to(half))
+    return [*(choice([i]) for i in to(half)), *(rule(half + i, -i) for i in to(half)), f"2 0 {2 * half} {both}"]
+
+
 def negative(n):
     return [choice(to(n)), minimise(0, to(n), -1)]
 
@@ -113,7 +119,8 @@ def pairs(n):
 
 KINDS = {
     "weight body, half implied": weight_body, "n - 1 items by the bound": bound, "free atoms maximised": maximised,
-    "items minimised at -1": negative, "priorities of 100 items": priorities, "atom with n supports": supports,
+    "items minimised at -1": negative, "atoms and complements": complements,
+    "priorities of 100 items": priorities, "atom with n supports": supports,
     "unfounded weight bodies": unfounded, "chain": chain, "ring": ring, "chain of both ways": two_ways, "lattice of both ways": lattice,
     "at most one of n out": one_out, "one of a pair": pairs, "exactly one of n": exactly_one,
 }
