@@ -8,7 +8,7 @@ use Rattle.asp_model.specs.declared.program.Output.{Output}
 use Rattle.asp_model.specs.declared.program.External.{External}
 use Rattle.asp_model.specs.declared.program.Rule.{Rule}
 use Rattle.asp_model.specs.declared.program.Program.{Program}
-use Rattle.asp_model.specs.Sets.{has, set_of}
+use Rattle.asp_model.specs.Sets.{has}
 use Rattle.asp_model.specs.Holding.{atom_of, body_atoms}
 use Rattle.asp_model.specs.Models.{atoms_of, head_atoms, mentions}
 use Rattle.asp_model.proofs.MemberLaws.{list_any-flat_map}
@@ -61,25 +61,25 @@ same-statements rules x (m ∷ ms) out =
     ∙ (ap (λ (b : Bool). has (item_atoms m) x || b) (same-statements rules x ms out)
     ∙ sym (list_any-append (λ b. eqb b x) (item_atoms m) (flat_map item_atoms ms))))
 
-beside : (s m n r : Bool) → (s ≡ false → m ≡ n) → (s || (m || r)) ≡ (s || (n || r))
-beside true m n r h = refl
-beside false m n r h = ap (λ (b : Bool). b || r) (h refl)
+same-behind : (s m n : Bool) → (s ≡ false → m ≡ n) → (s || m) ≡ (s || n)
+same-behind true m n h = refl
+same-behind false m n h = h refl
 
--- the atoms of the other statements
-abbrev other_atoms : Program → List ℕ
-other_atoms p = flat_map (λ (o : Output). map atom_of o.condition) p.outputs ++ map (λ (e : External). e.atom) p.externals ++ map atom_of p.assumptions
+same-front : (xs ys zs : List ℕ) (x : ℕ) → has xs x ≡ has ys x → has (xs ++ zs) x ≡ has (ys ++ zs) x
+same-front xs ys zs x e = list_any-append (λ b. eqb b x) xs zs ∙ (ap (λ (b : Bool). b || has zs x) e ∙ sym (list_any-append (λ b. eqb b x) ys zs))
 
-has-mentions : (rules : List ℕ) (minimized others : List ℕ) (x : ℕ) → has (rules ++ minimized ++ others) x ≡ (has rules x || (has minimized x || has others x))
-has-mentions rules minimized others x = list_any-append (λ b. eqb b x) rules (minimized ++ others) ∙ ap (λ (b : Bool). has rules x || b) (list_any-append (λ b. eqb b x) minimized others)
-
-pub same-atoms : (p : Program) → atoms_of (unfolded p) ≡ atoms_of p
-same-atoms p =
-    same_from_has (atoms_of (unfolded p)) (atoms_of p) (IsAscending-set_of (mentions (unfolded p))) (IsAscending-set_of (mentions p)) (λ x.
+same-mentions : (p : Program) (x : ℕ) → has (mentions (unfolded p)) x ≡ has (mentions p) x
+same-mentions p x =
     let A = flat_map rule_atoms p.rules in
     let M = flat_map item_atoms (map (unfolded_minimize p.rules) p.minimize) in
     let N = flat_map item_atoms p.minimize in
-    let R = other_atoms p in
-    has-set_of (mentions (unfolded p)) x
-    ∙ (has-mentions A M R x
-    ∙ (beside (has A x) (has M x) (has N x) (has R x) (same-statements p.rules x p.minimize)
-    ∙ (sym (has-mentions A N R x) ∙ sym (has-set_of (mentions p) x)))))
+    let C = flat_map (λ (o : Output). map atom_of o.condition) p.outputs in
+    let D = map (λ (e : External). e.atom) p.externals in
+    same-front (A ++ M ++ C ++ D) (A ++ N ++ C ++ D) (map atom_of p.assumptions) x
+    (same-front (A ++ M ++ C) (A ++ N ++ C) D x
+    (same-front (A ++ M) (A ++ N) C x
+    (list_any-append (λ b. eqb b x) A M ∙ (same-behind (has A x) (has M x) (has N x) (same-statements p.rules x p.minimize) ∙ sym (list_any-append (λ b. eqb b x) A N)))))
+
+pub same-atoms : (p : Program) → atoms_of (unfolded p) ≡ atoms_of p
+same-atoms p =
+    same_from_has (atoms_of (unfolded p)) (atoms_of p) (IsAscending-set_of (mentions (unfolded p))) (IsAscending-set_of (mentions p)) (λ x. has-set_of (mentions (unfolded p)) x ∙ (same-mentions p x ∙ sym (has-set_of (mentions p) x)))

@@ -1,5 +1,5 @@
 -- The answers, what they cost and the optima are the same.
-use Rattle.std.proofs.Common.{◌≡◌, ℕ, ◌+◌, Bool, true, not, cond, ◌&&◌, List, [], ◌∷◌, filter, map, fold, length, get_or, refl, sym, ap, ◌∙◌, subst, ℤ, pos, ◌+ℤ◌, Contains}
+use Rattle.std.proofs.Common.{◌≡◌, ◌+◌, Bool, true, not, cond, ◌&&◌, List, [], ◌∷◌, filter, map, fold, length, get_or, refl, sym, ap, ◌∙◌, subst, ℤ, pos, ◌+ℤ◌, Contains}
 use Rattle.std.specs.Prelude.{Some}
 use Rattle.std.specs.List.{AllByRecursion, list_all, list_any}
 use Rattle.std.specs.Ordering.{int_eq}
@@ -14,7 +14,7 @@ use Rattle.asp_model.specs.Sets.{Atoms, has, same_set, subsets}
 use Rattle.asp_model.specs.Consequences.{consequences_of}
 use Rattle.asp_model.specs.Holding.{all_hold, holds, weight_of}
 use Rattle.asp_model.specs.Reduct.{reduct, steps}
-use Rattle.asp_model.specs.Models.{answers, atoms_of, is_stable, is_violated, rules_in_force}
+use Rattle.asp_model.specs.Models.{answers, is_stable, is_violated, rules_in_force}
 use Rattle.asp_model.specs.Costs.{IsOptimum, betters, cost, cost_at, optima, priorities, with_priority}
 use Rattle.asp_model.specs.Sound.{IsSound}
 use Rattle.asp_model.proofs.MemberLaws.{each_of, each_weaker}

@@ -1,5 +1,5 @@
 -- A program whose minimise statements are unfolded is within the ranges and limits.
-use Rattle.std.proofs.Common.{◌≡◌, ◌⊎◌, ℕ, ◌+◌, Bool, true, ◌&&◌, leb, ltb, List, [], ◌∷◌, map, length, refl, sym, ap, ◌∙◌, subst, ℤ, inl, inr, Some, arith}
+use Rattle.std.proofs.Common.{◌≡◌, ◌⊎◌, ℕ, ◌+◌, true, ◌&&◌, leb, List, [], ◌∷◌, map, length, refl, ap, ◌∙◌, ℤ, inl, inr, Some, arith}
 use Rattle.std.specs.List.{list_all, sum_by}
 use Rattle.std.proofs.lemmas.Bool.{and_from, and_parts}
 use Rattle.std.proofs.lemmas.List.{length-map}
@@ -8,7 +8,7 @@ use Rattle.asp_model.specs.declared.program.Minimize.{Minimize}
 use Rattle.asp_model.specs.declared.program.Rule.{Rule}
 use Rattle.asp_model.specs.declared.program.Program.{Program}
 use Rattle.asp_model.specs.Holding.{atom_of}
-use Rattle.asp_model.specs.Sound.{IsSound, has_room, is_atom, is_literal, is_sound_minimize, weighted_count, weighted_total}
+use Rattle.asp_model.specs.Sound.{IsSound, has_room, is_atom, is_literal, is_sound_minimize, weighted_count}
 use Rattle.asp_unfold.specs.Unfolded.{literal_of, rules_for, unfolded, unfolded_literal, unfolded_minimize}
 use Rattle.asp_unfold.proofs.DefinedLaws.{defined-literal, unfolded-is}
 
@@ -35,7 +35,8 @@ same-count : (rules : List Rule) (ms : List Minimize) → sum_by (λ (m : Minimi
 same-count rules [] = refl
 same-count rules (m ∷ ms) =
     let f : Minimize → ℕ = λ x. length x.items in
-    omega (arith, sum_by-cons f (unfolded_minimize rules m) (map (unfolded_minimize rules) ms), sum_by-cons f m ms, length-map m.items (λ (i : ℤ × ℤ). (unfolded_literal rules i.0, i.1)), same-count rules ms)
+    let g : ℤ × ℤ → ℤ × ℤ = λ i. (unfolded_literal rules i.0, i.1) in
+    omega (arith, sum_by-cons f (unfolded_minimize rules m) (map (unfolded_minimize rules) ms), sum_by-cons f m ms, length-map m.items g, same-count rules ms)
 
 pub sound-unfolded : (p : Program) → IsSound p → IsSound (unfolded p)
 sound-unfolded p sound = record {

@@ -5,7 +5,7 @@ use Rattle.asp_model.specs.declared.program.Rule.{Rule}
 use Rattle.asp_model.specs.Holding.{atom_of}
 use Rattle.asp_unfold.specs.declared.table.Definition.{Definition}
 use Rattle.asp_unfold.specs.declared.table.Definition.TheVariants.{Missing, By, Other}
-use Rattle.asp_unfold.specs.Unfolded.{literal_by, literal_of, replaced, rules_for}
+use Rattle.asp_unfold.specs.Unfolded.{literal_by, replaced, rules_for}
 
 -- what one rule more makes of the definition of an atom that it derives
 abbrev pub definition_by : Option ℤ → Definition

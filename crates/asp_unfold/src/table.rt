@@ -106,11 +106,7 @@ pub(crate) fn table_literal(table: &[Definition], literal: i32) -> i32
     }
     match table[place] {
         Definition::By(other) if other.unsigned_abs() < atom => {
-            if literal < 0 {
-                -other
-            } else {
-                other
-            }
+            if literal < 0 { -other } else { other }
         }
         _ => literal,
     }

@@ -1,5 +1,5 @@
 //! The literals of minimise statements are replaced.
-ghost use Rattle.std.specs.Prelude.{◌≡◌, ◌<◌, ◌≤◌, All, ℕ, map, IfOk};
+ghost use Rattle.std.specs.Prelude.{◌≡◌, ◌<◌, ◌≤◌, All, length, map, IfOk};
 ghost use Rattle.asp_model.specs.Holding.{atom_of};
 ghost use Rattle.asp_model.specs.Sound.{IsSound};
 ghost use Rattle.asp_unfold.specs.Tables.{table_items, table_minimize};
@@ -77,6 +77,7 @@ fn unfolded_statements(
     rules: &Rules,
     statements: Seq<Minimize>,
 ) -> Result<Seq<Minimize>, AllocError>
+    requires few { length rules.now ≤ 268435456 }
     ensures { IfOk result (λ new. new ≡ map (unfolded_minimize rules.now) statements) }
 {
     let places = above(statements.as_slice()).min(PLACES_A_RULE * (rules.len() + 1));
