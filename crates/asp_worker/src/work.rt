@@ -62,7 +62,7 @@ fn try_path<R: Wait, P: Propagator, H: Halt, W: Watch>(
     }
 }
 
-// Takes paths and searches them. Says whether it ended for want of memory.
+// Searches a path, and then others that it takes. Says whether it ended for want of memory.
 fn search_paths<R: Wait, P: Propagator, G: Gate, H: Halt, W: Watch>(
     rt: &R,
     shared: &Shared,
@@ -70,11 +70,12 @@ fn search_paths<R: Wait, P: Propagator, G: Gate, H: Halt, W: Watch>(
     halt: &H,
     worker: &mut Worker,
     engine: &mut Engine<'_, P>,
+    first: Leaf,
     watch: &mut W,
 ) -> bool
     requires ready { IsReady shared.now worker.old }
     requires number { 0 < (view worker.old.seat).number }
-    requires free { IsFree (view worker.old.seat) }
+    requires held { Holds (view worker.old.seat) first }
     requires going { GoesOn shared.now.mode (view worker.old.seat) engine.old.search engine.old.fuel }
     requires read { engine.old.read ≤ seen_count worker.old.pages }
     ensures keeps { Keeps worker.old worker.new }
@@ -85,7 +86,15 @@ fn search_paths<R: Wait, P: Propagator, G: Gate, H: Halt, W: Watch>(
     ensures cause { HasCause (H.never halt.now → ⊥) result (view worker.old.seat).seen (view worker.new.seat) }
     ensures heard { W.IsAfter watch.old watch.new }
 {
+    let mut leaf = first;
     'paths: for _ in rt.forever() {
+        gate.pass(worker.seat.number() - 1, engine.turn);
+        engine.turn = engine.turn.wrapping_add(1);
+        match try_path(rt, shared, halt, worker, engine, leaf, watch) {
+            Way::Closed => {}
+            Way::Left => return false,
+            Way::Short => return true,
+        }
         match find(
             rt,
             shared,
@@ -97,24 +106,55 @@ fn search_paths<R: Wait, P: Propagator, G: Gate, H: Halt, W: Watch>(
             Err(_) => return true,
             Ok(found) => match found {
                 None => return false,
-                Some(leaf) => {
-                    gate.pass(worker.seat.number() - 1, engine.turn);
-                    engine.turn = engine.turn.wrapping_add(1);
-                    match try_path(rt, shared, halt, worker, engine, leaf, watch) {
-                        Way::Closed => {}
-                        Way::Left => return false,
-                        Way::Short => return true,
-                    }
-                }
+                Some(next) => leaf = next,
             },
         }
     }
     unreachable!()
 }
 
-// A search of paths until none is left or wanted: its units, what it did, and whether memory was wanting. Without memory for a
-// search the worker has nothing.
+// A search that begins with a path: its units, what it did, and whether memory was wanting. Without memory for a search the path
+// is given back.
 fn searched<R: Wait, G: Gate, H: Halt, W: Watch>(
+    rt: &R,
+    shared: &Shared,
+    compiled: &Compiled,
+    recorder: &Recorder,
+    gate: &G,
+    halt: &H,
+    worker: &mut Worker,
+    first: Leaf,
+    watch: &mut W,
+) -> Result<(Fuel, Counts, bool), AllocError>
+    requires ready { IsReady shared.now worker.old }
+    requires number { 0 < (view worker.old.seat).number }
+    requires run { IsRunOf compiled.now shared.now.mode (view worker.old.seat) }
+    requires held { Holds (view worker.old.seat) first }
+    requires home { out_of (seen_board (view worker.old.seat)).out (view worker.old.seat).number ≡ 0 }
+    ensures keeps { Keeps worker.old worker.new }
+    ensures placed { IsPlaced shared.now worker.new }
+    ensures free { OnOk result (IsFree (view worker.new.seat)) }
+    ensures owes { IfOk result (λ r. Owes (view worker.new.seat) r.0) }
+    ensures small { OwnAre IsSmall (view worker.new.seat) }
+    ensures cause { IfOk result (λ r. HasCause (H.never halt.now → ⊥) r.2 (view worker.old.seat).seen (view worker.new.seat)) }
+    ensures idle { OnErr result (IsIdle (view worker.new.seat)) }
+    ensures heard { W.IsAfter watch.old watch.new }
+{
+    match start(shared, compiled, recorder) {
+        Err(error) => {
+            desk::release(rt, &shared.book, &mut worker.seat, first);
+            Err(error)
+        }
+        Ok(mut engine) => {
+            let short = search_paths(rt, shared, gate, halt, worker, &mut engine, first, watch);
+            let (fuel, did) = ended(engine);
+            Ok((fuel, did, short))
+        }
+    }
+}
+
+// Looks for a path, and begins a search once there is one: so a worker that never has one takes no memory.
+fn ran<R: Wait, G: Gate, H: Halt, W: Watch>(
     rt: &R,
     shared: &Shared,
     compiled: &Compiled,
@@ -134,10 +174,20 @@ fn searched<R: Wait, G: Gate, H: Halt, W: Watch>(
     ensures idle { OnErr result (IsIdle (view worker.new.seat)) }
     ensures heard { W.IsAfter watch.old watch.new }
 {
-    let mut engine = start(shared, compiled, recorder)?;
-    let short = search_paths(rt, shared, gate, halt, worker, &mut engine, watch);
-    let (fuel, did) = ended(engine);
-    Ok((fuel, did, short))
+    let found = find(
+        rt,
+        shared,
+        &mut worker.seat,
+        &mut worker.lane,
+        &mut worker.pass,
+        None,
+    )?;
+    match found {
+        None => Ok((Fuel::of(compiled, 0), Counts::new(), false)),
+        Some(leaf) => searched(
+            rt, shared, compiled, recorder, gate, halt, worker, leaf, watch,
+        ),
+    }
 }
 
 /// A worker's whole work: it searches paths until none is left or wanted, and gives all back. On the way the watch hears now
@@ -159,7 +209,7 @@ pub fn work<R: Wait, G: Gate, H: Halt, W: Watch>(
     ensures heard { W.IsAfter watch.old watch.new }
 {
     let recorder = Recorder::new(shared.alloc);
-    match searched(
+    match ran(
         rt,
         shared,
         compiled,
