@@ -1,33 +1,64 @@
 -- A sorted set of different sets has as many as the list that keeps each set once.
-use Rattle.std.proofs.Common.{◌≡◌, ℕ, ◌<◌, suc, Bool, true, false, cond, ◌&&◌, ◌||◌, eqb, length, List, [], ◌∷◌, ◌++◌, fold, refl, sym, ap, ◌∙◌, arith}
+use Rattle.std.proofs.Common.{◌≡◌, ℕ, ◌<◌, suc, Bool, true, false, cond, ◌&&◌, ◌||◌, eqb, length, List, [], ◌∷◌, ◌++◌, fold, map, refl, sym, ap, ◌∙◌, arith}
 use Rattle.std.specs.List.{list_any}
 use Rattle.std.specs.BTreeSet.{insert_key}
-use Rattle.std.specs.Ordering.{match_ordering}
+use Rattle.std.specs.Ordering.{match_ordering, nat_cmp}
 use Rattle.std.specs.declared.cmp.Ordering.{Ordering}
 use Rattle.std.specs.declared.cmp.Ordering.TheVariants.{Less, Equal, Greater}
-use Rattle.std.specs.Cmp.Lexicographic.{same_text}
-use Rattle.std.proofs.lemmas.Bool.{or_from, ne_eqb}
+use Rattle.std.specs.Cmp.Lexicographic.{same_text, slice_cmp}
+use Rattle.std.proofs.lemmas.Bool.{or_from}
 use Rattle.std.proofs.lemmas.Bool.Decides.{nat_tests}
 use Rattle.std.proofs.lemmas.List.{length-append}
 use Rattle.std.proofs.lemmas.List.Folds.{list_any-append}
 use Rattle.std.proofs.lemmas.List.Sums.{fold_push}
-use Rattle.asp_model.specs.Sets.{Atoms, same_set, set_cmp}
+use Rattle.asp_model.specs.Sets.{Atoms, IsAscending, same_set, set_cmp}
+use Rattle.asp_rows.specs.declared.row.Row.{Row}
+use Rattle.asp_rows.specs.Listed.{AreRows, IsRowOf}
+use Rattle.asp_rows.proofs.OrderLaws.{row_cmp_is}
 use Rattle.asp_core.specs.Boards.{distinct}
 use Rattle.asp_core.specs.Sorting.{with_set, sorted_once}
+use Rattle.asp_core.specs.Stored.{AreDifferent, Counts}
 use Rattle.asp_core.proofs.SortingLaws.{Rise, apart, absent, before-all, tied, turned, same_itself, with_set-has, with_set-rise}
 
--- what a sorted set does with one set more
-pub insert_key-with_set : (S : Atoms) (L : List Atoms) → insert_key set_cmp L S ≡ with_set S L
-insert_key-with_set S [] = refl
-insert_key-with_set S (T ∷ L) = ap (λ (X : List Atoms). match_ordering (set_cmp S T) (S ∷ T ∷ L) (T ∷ L) (T ∷ X)) (insert_key-with_set S L)
+-- ---- one row more in a sorted set
+abbrev pub row_cmp : Row → Row → Ordering
+row_cmp x y = slice_cmp nat_cmp x.words.items y.words.items
+
+-- where it is put by the order, so are the sets
+ordering-map : (o : Ordering) (A B C : List Row) → map (λ (x : Row). x.set) (match_ordering o A B C) ≡ match_ordering o (map (λ (x : Row). x.set) A) (map (λ (x : Row). x.set) B) (map (λ (x : Row). x.set) C)
+ordering-map Less A B C = refl
+ordering-map Equal A B C = refl
+ordering-map Greater A B C = refl
+
+ordering-rows : (atoms : Atoms) (o : Ordering) (A B C : List Row) → AreRows atoms A → AreRows atoms B → AreRows atoms C → AreRows atoms (match_ordering o A B C)
+ordering-rows atoms Less A B C a b c = a
+ordering-rows atoms Equal A B C a b c = b
+ordering-rows atoms Greater A B C a b c = c
+
+pub insert-rows : (atoms : Atoms) (L : List Row) (r : Row) → AreRows atoms L → IsRowOf atoms r → AreRows atoms (insert_key row_cmp L r)
+insert-rows atoms [] r rows row = (row, tt)
+insert-rows atoms (x ∷ L) r rows row =
+    ordering-rows atoms (row_cmp r x) (r ∷ x ∷ L) (x ∷ L) (x ∷ insert_key row_cmp L r) (row, rows) rows (rows.0, insert-rows atoms L r rows.1 row)
+
+pub insert-sets : (atoms : Atoms) → IsAscending atoms → (L : List Row) (r : Row) → AreRows atoms L → IsRowOf atoms r →
+    map (λ (x : Row). x.set) (insert_key row_cmp L r) ≡ with_set r.set (map (λ (x : Row). x.set) L)
+insert-sets atoms up [] r rows row = refl
+insert-sets atoms up (x ∷ L) r rows row =
+    let sets : List Row → List Atoms = map (λ (y : Row). y.set) in
+    ordering-map (row_cmp r x) (r ∷ x ∷ L) (x ∷ L) (x ∷ insert_key row_cmp L r)
+    ∙ ap (λ (o : Ordering). match_ordering o (r.set ∷ x.set ∷ sets L) (x.set ∷ sets L) (x.set ∷ sets (insert_key row_cmp L r))) (row_cmp_is atoms up r x row rows.0)
+    ∙ ap (λ (X : List Atoms). match_ordering (set_cmp r.set x.set) (r.set ∷ x.set ∷ sets L) (x.set ∷ sets L) (x.set ∷ X)) (insert-sets atoms up L r rows.1 row)
 
 pub sorted_once-push : (A : List Atoms) (S : Atoms) → sorted_once (A ++ S ∷ []) ≡ with_set S (sorted_once A)
 sorted_once-push A S = fold_push (λ (Ts : List Atoms) (T : Atoms). with_set T Ts) [] A S
 
 -- one set more is delivered, and put into the sorted set where there is a limit
-pub sorted-delivered : (limit : ℕ) (D D' A A' : List Atoms) (S : Atoms) → (0 < limit → D ≡ sorted_once A) → D' ≡ cond (eqb limit 0) D (with_set S D) → A' ≡ A ++ S ∷ [] → 0 < limit → D' ≡ sorted_once A'
-sorted-delivered limit D D' A A' S sorted new more some =
-    new ∙ ap (λ x. cond x D (with_set S D)) (ne_eqb limit 0 (λ z. omega (arith, z, some))) ∙ ap (with_set S) (sorted some) ∙ sym (sorted_once-push A S) ∙ sym (ap sorted_once more)
+pub different-delivered : (limit : ℕ) (atoms : Atoms) (D D' : List Row) (A A' : List Atoms) (S : Atoms) → (0 < limit → AreDifferent atoms D A) → (0 < limit → Counts atoms D D' S) → A' ≡ A ++ S ∷ [] →
+    0 < limit → AreDifferent atoms D' A'
+different-delivered limit atoms D D' A A' S sorted counts more some = record {
+  rows = (counts some).rows;
+  sorted = (counts some).more ∙ ap (with_set S) (sorted some).sorted ∙ sym (sorted_once-push A S) ∙ sym (ap sorted_once more);
+}
 
 -- ---- how many
 eqb_comm : (a b : ℕ) → eqb a b ≡ eqb b a

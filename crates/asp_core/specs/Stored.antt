@@ -1,5 +1,5 @@
--- How a board is stored: the best with its cost, the minimize statements by which sets are priced, and the different answers.
-use Rattle.std.specs.Prelude.{◌≡◌, ◌+◌, ◌<◌, ◌≤◌, List, [], length, Option, None, Some, option_map}
+-- How a board is stored: the best with its cost, the minimize statements by which sets are priced, and the rows of the different answers.
+use Rattle.std.specs.Prelude.{◌≡◌, ◌+◌, ◌<◌, ◌≤◌, List, [], length, map, Option, None, Some, option_map}
 use Rattle.std.specs.Option.{IfSome}
 use Rattle.std.specs.Vec.{vec_capacity}
 use Rattle.asp_model.specs.declared.program.Program.{Program}
@@ -9,11 +9,13 @@ use Rattle.asp_model.specs.Models.{atoms_of}
 use Rattle.asp_vars.specs.Knowing.{Knowing}
 use Rattle.asp_model.specs.Costs.{cost}
 use Rattle.asp_model.specs.Sound.{IsSound}
+use Rattle.asp_rows.specs.declared.row.Row.{Row}
+use Rattle.asp_rows.specs.Listed.{AreRows}
 use Rattle.asp_path.specs.Trees.{held_count}
 use Rattle.asp_core.specs.declared.state.State.TheInside.{Inside}
 use Rattle.asp_core.specs.Boards.{Board, known_by, sought}
 use Rattle.asp_core.specs.Invariant.{IsBoard}
-use Rattle.asp_core.specs.Sorting.{sorted_once}
+use Rattle.asp_core.specs.Sorting.{sorted_once, with_set}
 
 -- the answers delivered: those listed, or where consequences are sought those told, of which the code keeps only what they have in common
 abbrev pub answers_in : Option Reasoning → List Atoms → List Atoms → List Atoms
@@ -37,13 +39,23 @@ abbrev pub IsSeen : Option Reasoning → Program → Option Knowing → List Ato
 IsSeen None p known listed told atoms = known ≡ None
 IsSeen (Some r) p known listed told atoms = (known ≡ known_by (Some r) p told) × (listed ≡ []) × (atoms ≡ atoms_of p)
 
+-- Rows among these atoms, sorted, of the different ones among these sets.
+pub record AreDifferent (atoms : Atoms) (kept : List Row) (sets : List Atoms) : Type 0 where
+  pub rows : AreRows atoms kept
+  pub sorted : map (λ row. row.set) kept ≡ sorted_once sets
+
+-- The row of one set more was put among them, if it wasn't there.
+pub record Counts (atoms : Atoms) (old new : List Row) (S : Atoms) : Type 0 where
+  pub rows : AreRows atoms new
+  pub more : map (λ row. row.set) new ≡ with_set S (map (λ row. row.set) old)
+
 pub record IsState (s : Inside) : Type 0 where
   pub board : IsBoard (board_of s)
   pub priced : s.prices.minimize ≡ s.program.value.minimize
   pub sound : IsSound s.prices
   pub costed : IfSome s.best (λ x. x.1 ≡ cost s.program.value x.0)
   -- With a limit, the different answers stand in a sorted set.
-  pub sorted : 0 < s.limit → s.different.keys ≡ sorted_once (answers_in (sought s.goal) s.answers.sets s.told.items)
+  pub sorted : 0 < s.limit → AreDifferent (atoms_of s.program.value) s.different.keys (answers_in (sought s.goal) s.answers.sets s.told.items)
   pub seen : IsSeen (sought s.goal) s.program.value s.known s.answers.sets s.told.items s.atoms.items
   -- The answers are rows among the program's atoms.
   pub among : s.answers.atoms ≡ atoms_of s.program.value

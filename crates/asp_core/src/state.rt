@@ -1,9 +1,11 @@
 //! The state of a board.
-ghost use Rattle.std.specs.Prelude.{◌≡◌, ◌+◌, ◌^◌, ◌<◌, ◌≤◌, ◌↔◌, ◌==◌, if◌then◌else◌, true, false, [], length, slice_get, None, Some, option_map, option_and_then, IfOk, OnOk, OnErr, IsOk, IsTrue};
+ghost use Rattle.std.specs.Prelude.{◌≡◌, ◌+◌, ◌^◌, ◌<◌, ◌≤◌, ◌↔◌, ◌==◌, true, false, [], length, slice_get, None, Some, option_map, option_and_then, IfOk, OnOk, OnErr, IsOk, IsTrue};
 ghost use Rattle.std.specs.Option.{IfSome, is_some, option_copied};
 ghost use Rattle.asp_model.specs.Costs.{cost, betters};
 ghost use Rattle.asp_model.specs.Models.{atoms_of};
-ghost use Rattle.asp_rows.specs.Listed.{IsRowFor};
+ghost use Rattle.asp_model.specs.Sets.{IsAscending};
+ghost use Rattle.asp_rows.specs.Bits.{IsAmong};
+ghost use Rattle.asp_rows.specs.Listed.{AreRows, IsRowFor, IsRowOf};
 ghost use Rattle.asp_path.specs.declared.status.Status.TheVariants as status;
 ghost use Rattle.asp_path.specs.Trees.{cube_of, status_of, is_open, all_closed, open_from, held_count, leaf_count};
 ghost use Rattle.asp_core.specs.declared.event.Event.TheVariants as event;
@@ -11,7 +13,7 @@ ghost use Rattle.asp_core.specs.Units.{out_of};
 ghost use Rattle.asp_core.specs.Boards.{common_by, start, known_by, known_of, listed_by, sought, wanted, optimises, is_excused, is_enough, IsQuery};
 ghost use Rattle.asp_core.specs.Events.{Guard, happens, wants_memory};
 ghost use Rattle.asp_core.specs.Invariant.{IsBoard, HasResult};
-ghost use Rattle.asp_core.specs.Sorting.{with_set};
+ghost use Rattle.asp_core.specs.Stored.{Counts};
 
 use crate::event::Event;
 use crate::goal::Goal;
@@ -67,8 +69,8 @@ pub struct State {
     known: Option<Known>,
     /// Where consequences are sought the atoms that stand in the program, ascending; else none.
     atoms: Vec<Atom>,
-    /// The different ones among them, where there is a limit; else empty.
-    different: BTreeSet<Interp>,
+    /// The rows of the different ones among them, where there is a limit; else empty.
+    different: BTreeSet<Row>,
     /// The cheapest answer that was told so far, with its cost.
     best: Option<(Interp, Cost)>,
     /// The units that are not out on lease.
@@ -93,16 +95,38 @@ impl Model for State {
     ghost invariant = { IsState };
 }
 
-// Puts the set among the different ones, where there is a limit to count them for.
-fn count_in(limit: u64, different: &mut BTreeSet<Interp>, set: Interp) -> Result<(), AllocError>
-    ensures ok { OnOk result (different.new.keys ≡ (if limit == 0 then different.old.keys else with_set set different.old.keys)) }
+// Puts the row of a set among the different ones.
+fn add_row(different: &mut BTreeSet<Row>, atoms: &[Atom], row: Row) -> Result<(), AllocError>
+    requires ascending { IsAscending atoms.now }
+    requires rows { AreRows atoms.now different.old.keys }
+    requires row { IsRowOf atoms.now row }
+    ensures ok { OnOk result (Counts atoms.now different.old.keys different.new.keys row.set) }
+    ensures err { OnErr result (different.new.keys ≡ different.old.keys) }
+{
+    let _ = atoms;
+    different.insert(row)?;
+    Ok(())
+}
+
+// The same with the set itself, where there is a limit to count the different ones for.
+fn count_in(
+    alloc: Global,
+    limit: u64,
+    different: &mut BTreeSet<Row>,
+    atoms: &[Atom],
+    set: &Interp,
+) -> Result<(), AllocError>
+    requires ascending { IsAscending atoms.now }
+    requires rows { 0 < limit → AreRows atoms.now different.old.keys }
+    requires among { IsAmong atoms.now set.now }
+    ensures ok { OnOk result (0 < limit → Counts atoms.now different.old.keys different.new.keys set.now) }
     ensures err { OnErr result (different.new.keys ≡ different.old.keys) }
 {
     if limit == 0 {
         return Ok(());
     }
-    different.insert(set)?;
-    Ok(())
+    let row = Row::of(alloc, atoms, set)?;
+    add_row(different, atoms, row)
 }
 
 // No answer, where consequences are sought.
@@ -220,7 +244,14 @@ impl State {
     {
         let len = self.answers.len();
         self.answers.push_row(row)?;
-        match count_in(self.limit, &mut self.different, set) {
+        let counted = count_in(
+            self.alloc,
+            self.limit,
+            &mut self.different,
+            self.answers.atoms().as_slice(),
+            &set,
+        );
+        match counted {
             Ok(()) => Ok(()),
             Err(error) => {
                 self.answers.truncate(len);
@@ -243,7 +274,13 @@ impl State {
                 let known = known.with(&set)?;
                 let told = Snapshot::of(&set);
                 self.told.reserve(1)?;
-                count_in(self.limit, &mut self.different, set)?;
+                count_in(
+                    self.alloc,
+                    self.limit,
+                    &mut self.different,
+                    self.answers.atoms().as_slice(),
+                    &set,
+                )?;
                 self.told.push_reserved(told);
                 self.known = Some(known);
                 Ok(())

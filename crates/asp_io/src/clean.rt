@@ -1,5 +1,5 @@
 //! Sources and sinks in memory that never fail.
-ghost use Rattle.std.specs.Prelude.{◌≡◌, ◌+◌, ◌-◌, ◌<◌, min, length, Some, None, replicate, true, IfOk};
+ghost use Rattle.std.specs.Prelude.{◌≡◌, ◌+◌, ◌-◌, ◌<◌, min, length, Some, None, replicate, false, true, IfOk};
 ghost use Rattle.std.specs.Io.{WritesAtMost};
 ghost use Rattle.std.specs.Io.KnownBytes.{WriteAppends};
 ghost use Rattle.asp_io.specs.Causes.{HasCause, last_count};
@@ -122,6 +122,8 @@ impl Sink for CleanSink {
 
     // Nothing waits, since nothing is kept.
     ghost is_sent = { λ _. true };
+
+    ghost is_closed = { λ _. false };
 
     fn write(&mut self, bytes: &[u8]) -> Result<usize, Failed>
         ensures bound { WritesAtMost result bytes.now }

@@ -165,6 +165,9 @@ impl Sink for MemSink {
 
     ghost is_sent = { λ s. s.is_sent };
 
+    // Its failures are chosen.
+    ghost is_closed = { λ _. false };
+
     fn write(&mut self, bytes: &[u8]) -> Result<usize, Failed>
         ensures bound { WritesAtMost result bytes.now }
         ensures bytes { WriteAppends (Some self.old.bytes) (Some self.new.bytes) result bytes.now }
@@ -206,7 +209,6 @@ impl Sink for MemSink {
         Ok(())
     }
 
-    // (its failures are chosen)
     fn is_closed(&self) -> bool {
         false
     }

@@ -73,14 +73,14 @@ impl<W: Write + Drop> Model for StdSink<W> {
 
     ghost Value = { Outlet };
 
-    ghost view = { λ s. record { faults = s.faults; is_sent = s.is_sent } };
+    ghost view = { λ s. record { faults = s.faults; is_sent = s.is_sent; is_closed = s.is_closed } };
 }
 
 impl<W: Write + Drop> StdSink<W> {
-    /// A sink to the writer, to which nothing was written so far. Contracts see the count of its faults, and whether all
-    /// that was written was sent on.
+    /// A sink to the writer, to which nothing was written so far. Contracts see the count of its faults, whether all that
+    /// was written was sent on, and whether the last failure was that nobody reads.
     pub fn new(writer: W) -> Self
-        ensures { result ≡ record { faults = 0; is_sent = true } }
+        ensures { result ≡ record { faults = 0; is_sent = true; is_closed = false } }
     {
         StdSink {
             writer,
@@ -98,6 +98,8 @@ impl<W: Write + Drop> Sink for StdSink<W> {
 
     ghost is_sent = { λ s. s.is_sent };
 
+    ghost is_closed = { λ s. s.is_closed };
+
     fn write(&mut self, bytes: &[u8]) -> Result<usize, Failed>
         ensures bound { WritesAtMost result bytes.now }
         ensures bytes { WriteAppends None None result bytes.now }
@@ -112,7 +114,7 @@ impl<W: Write + Drop> Sink for StdSink<W> {
                     self.is_sent = false;
                     return Ok(count);
                 }
-                Ok(_) => {}
+                Ok(_) => self.is_closed = false,
                 Err(error) => self.is_closed = is_of_pipe(&error),
             }
         }

@@ -38,6 +38,10 @@ pub trait Sink {
     /// Whether all that was written was sent on, so that none of it waits in a buffer of the sink.
     ghost is_sent: { Self → Bool };
 
+    /// Whether the last call that failed did so because nobody reads any more, as behind a pipe that was closed. No clause
+    /// says when: the sink tells it.
+    ghost is_closed: { Self → Bool };
+
     /// Appends the first bytes of a piece, and says how many: at least one of a piece that isn't empty. `Failed` appends
     /// nothing. The count of faults rises exactly there.
     fn write(&mut self, bytes: &[u8]) -> Result<usize, Failed>
@@ -55,8 +59,9 @@ pub trait Sink {
         ensures sent { OnOk result (is_sent self.new ≡ true) };
 
     /// Whether the last call that failed did so because nobody reads any more, as behind a pipe that was closed. That is no
-    /// fault of anybody's. Nothing is promised of it.
-    fn is_closed(&self) -> bool;
+    /// fault of anybody's.
+    fn is_closed(&self) -> bool
+        ensures { result ≡ is_closed self.now };
 }
 
 /// Appends all of the bytes, piece by piece. It takes no memory, and flushes nothing. On `Failed` a front of them was

@@ -108,9 +108,3 @@ only_is longest p (Some n) f = cases (is_shared longest n) refl
     cases : (b : Bool) → b ≡ is_shared longest n → IfSome (if b then Some n else None) (IsShared p)
     cases true e = f n refl (sym e)
     cases false e = tt
-
--- there are two limits of its length
-pub short_or_long : (longest : ℕ) (k copy : Option Nogood) → (longest ≡ 8) ⊎ (longest ≡ 64) → copy ≡ only_shared longest k →
-    (copy ≡ only_shared 8 k) ⊎ (copy ≡ only_shared 64 k)
-short_or_long longest k copy (inl e) q = inl (subst (λ (most : ℕ). copy ≡ only_shared most k) e q)
-short_or_long longest k copy (inr e) q = inr (subst (λ (most : ℕ). copy ≡ only_shared most k) e q)

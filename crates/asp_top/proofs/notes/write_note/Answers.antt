@@ -3,5 +3,5 @@ use Rattle.asp_top.proofs.notes.write_note.Goals as goal
 pub returns-in-Memory : goal.returns-in-Memory
 returns-in-Memory g c = rw c.in-Memory.is c.write-in-Memory.ensures
 
-pub returns-in-WriteFault : goal.returns-in-WriteFault
-returns-in-WriteFault g c = rw c.in-WriteFault.is c.write-in-WriteFault.ensures
+pub returns-in-WriteFault-false : goal.returns-in-WriteFault-false
+returns-in-WriteFault-false g c = rw c.in-WriteFault-false.is c.write-in-WriteFault-false.ensures

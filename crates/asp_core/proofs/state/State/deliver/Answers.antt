@@ -8,7 +8,7 @@ use Rattle.asp_core.specs.declared.event.Event.TheVariants as event
 use Rattle.asp_core.specs.declared.state.State.TheInside.{Inside}
 use Rattle.asp_core.specs.Boards.{Board, sought}
 use Rattle.asp_core.specs.Stored.{answers_in, board_of}
-use Rattle.asp_core.proofs.CountLaws.{sorted-delivered}
+use Rattle.asp_core.proofs.CountLaws.{different-delivered}
 use Rattle.asp_core.proofs.SeenLaws.{Seen, seen-more, seen-some, tell-in}
 use Rattle.asp_core.proofs.StateLaws.{IsState-happens}
 use Rattle.asp_core.proofs.state.State.deliver.Goals as goal
@@ -37,5 +37,5 @@ invariant_of-self-in-Some c =
     IsState-happens i (record i { told = c.push_reserved.new.self; known = Some c.in_ok-known-in-Some.known; different = c.count_in.new.different }) c.args.self.now (event.Deliver c.args.by c.args.set) I c.self.view_is c.requires
     (ap (λ (x : List Atoms). record (board_of i) { answers = x }) told)
     refl refl refl I.costed
-    (sorted-delivered i.limit i.different.keys c.count_in.new.different.keys (answers_in k A i.told.items) (answers_in k A c.push_reserved.new.self.items) S I.sorted c.in_ok-count_in-in-Some.ensures.ok told)
+    (different-delivered i.limit (atoms_of p) i.different.keys c.count_in.new.different.keys (answers_in k A i.told.items) (answers_in k A c.push_reserved.new.self.items) S I.sorted c.in_ok-count_in-in-Some.ensures.ok told)
     (seen-more k p c.in-Some.known c.in_ok-known-in-Some.known A i.told.items c.push_reserved.new.self.items S i.atoms.items s c.in_ok-known-in-Some.ensures more) I.room

@@ -7,7 +7,7 @@ use Rattle.asp_core.specs.declared.event.Event.TheVariants as event
 use Rattle.asp_core.specs.declared.state.State.TheInside.{Inside}
 use Rattle.asp_core.specs.Boards.{Board, sought}
 use Rattle.asp_core.specs.Stored.{answers_in, board_of}
-use Rattle.asp_core.proofs.CountLaws.{sorted-delivered}
+use Rattle.asp_core.proofs.CountLaws.{different-delivered}
 use Rattle.asp_core.proofs.SeenLaws.{list-in, seen-list}
 use Rattle.asp_core.proofs.StateLaws.{answer-among, IsState-happens}
 use Rattle.asp_core.proofs.state.State.list.Goals as goal
@@ -30,5 +30,5 @@ invariant_of-self-in-Ok c =
     IsState-happens i (record i { answers = c.push_row.new.self; different = c.count_in.new.different }) c.args.self.now (event.Deliver c.args.by c.args.set) I c.self.view_is c.requires.guard
     (ap (λ (x : List Atoms). record (board_of i) { answers = x }) more)
     refl refl (ap (λ (l : Listed). l.atoms) c.in_ok-push_row.ensures.ok) (I.costed)
-    (sorted-delivered i.limit i.different.keys c.count_in.new.different.keys (answers_in (sought i.goal) i.answers.sets i.told.items) (answers_in (sought i.goal) c.push_row.new.self.sets i.told.items) c.args.set I.sorted c.in-Ok.ensures.ok more)
+    (different-delivered i.limit (atoms_of i.program.value) i.different.keys c.count_in.new.different.keys (answers_in (sought i.goal) i.answers.sets i.told.items) (answers_in (sought i.goal) c.push_row.new.self.sets i.told.items) c.args.set I.sorted c.in-Ok.ensures.ok more)
     (seen-list (sought i.goal) i.program.value i.known i.answers.sets c.push_row.new.self.sets i.told.items i.atoms.items none I.seen) I.room

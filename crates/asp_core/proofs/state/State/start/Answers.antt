@@ -5,7 +5,8 @@ use Rattle.asp_model.specs.declared.results.Reasoning.{Reasoning}
 use Rattle.asp_model.specs.Sets.{Atoms}
 use Rattle.asp_model.specs.Models.{atoms_of}
 use Rattle.asp_vars.specs.Numbering.{literal_of}
-use Rattle.asp_rows.specs.Listed.{Listed}
+use Rattle.asp_rows.specs.declared.row.Row.{Row}
+use Rattle.asp_rows.specs.Listed.{AreRows, Listed}
 use Rattle.asp_path.specs.Trees.{root, held_count}
 use Rattle.asp_core.specs.declared.task.Task.{Task}
 use Rattle.asp_core.specs.Boards.{sought}
@@ -38,7 +39,10 @@ invariant_of-result c =
       priced = c.in_ok-prices.ensures.same ∙ ap (λ (x : Program). x.minimize) (sym c.of.ensures);
       sound = c.in_ok-prices.ensures.sound;
       costed = tt;
-      sorted = λ _. c.new-3.ensures.empty ∙ sym (ap sorted_once told);
+      sorted = λ _. record {
+        rows = subst (AreRows (atoms_of c.of.result.value)) (sym c.new-3.ensures.empty) tt;
+        sorted = ap (map (λ (x : Row). x.set)) c.new-3.ensures.empty ∙ sym (ap sorted_once told);
+      };
       seen = subst (λ (x : Program). IsSeen r x c.in_ok-known.known c.new.result.sets c.new-2.result.items c.in_ok-atoms.atoms.items) (sym same)
           (subst (λ (x : List Atoms). IsSeen r p c.in_ok-known.known x c.new-2.result.items c.in_ok-atoms.atoms.items) (sym listed)
           (subst (λ (x : List Atoms). IsSeen r p c.in_ok-known.known [] x c.in_ok-atoms.atoms.items) (sym c.new-2.ensures.items)

@@ -14,7 +14,7 @@ returns-in-Some-clause-shared g c =
     let t = c.self.inside.state in
     let s = c.args.self.now in
     let id = c.in-Some.id in
-    let most = c.in-Some.longest.result in
+    let most = c.longest.result in
     let kept : Option Nogood = nogood_at c.store-store.result.now.slots id in
     let shares : IfSome (only_shared most kept) (IsShared t.program) =
     only_is most t.program kept (λ n e shared. kept_shared most t.program (used_in c.self.inside.compiled.now c.self.inside.mode c.self.inside.known.items c.self.inside.seen) t.bound t.slots id n c.self.invariant.0.useful c.store-store.ensures.small
