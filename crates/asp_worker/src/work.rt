@@ -1,9 +1,11 @@
 //! A worker's work from its beginning to its end.
-ghost use Rattle.std.specs.Prelude.{◌<◌, ◌≤◌, IfOk, OnErr, OnOk};
+ghost use Rattle.std.specs.Prelude.{◌≡◌, ◌<◌, ◌≤◌, IfOk, OnErr, OnOk};
 ghost use Rattle.asp_vault.specs.Seats.{view};
+ghost use Rattle.asp_core.specs.Units.{out_of};
+ghost use Rattle.asp_book.specs.Calls.{seen_board};
 ghost use Rattle.asp_crew_laws.specs.Gone.{IsSmall};
 ghost use Rattle.asp_slots.specs.Shelves.{seen_count};
-ghost use Rattle.asp_worker.specs.Seats.{IsIdle, IsPlaced, IsReady, Keeps, Holds, HasCause, IsFree, Owes, OwnAre, MayWork, Worked};
+ghost use Rattle.asp_worker.specs.Seats.{IsIdle, IsPlaced, IsReady, IsRunOf, Keeps, Holds, HasCause, IsFree, Owes, OwnAre, MayWork, Worked};
 ghost use Rattle.asp_worker.specs.Working.{GoesOn, Ended};
 
 use crate::engine::{Engine, ended, start};
@@ -115,7 +117,7 @@ fn search_paths<R: Wait, P: Propagator, G: Gate, H: Halt, W: Watch>(
 
 // A search that begins with a path: its units, what it did, and whether memory was wanting. Without memory for a search the path
 // is given back.
-fn searched<R: Wait, G: Gate, H: Halt, W: Watch>(
+fn search_from<R: Wait, G: Gate, H: Halt, W: Watch>(
     rt: &R,
     shared: &Shared,
     compiled: &Compiled,
@@ -153,8 +155,9 @@ fn searched<R: Wait, G: Gate, H: Halt, W: Watch>(
     }
 }
 
-// Looks for a path, and begins a search once there is one: so a worker that never has one takes no memory.
-fn ran<R: Wait, G: Gate, H: Halt, W: Watch>(
+// A search of paths until none is left or wanted: its units, what it did, and whether memory was wanting. It begins once there is
+// a path: a worker that never has one takes no memory for a search. Without memory for one the worker has nothing.
+fn searched<R: Wait, G: Gate, H: Halt, W: Watch>(
     rt: &R,
     shared: &Shared,
     compiled: &Compiled,
@@ -184,16 +187,16 @@ fn ran<R: Wait, G: Gate, H: Halt, W: Watch>(
     )?;
     match found {
         None => Ok((Fuel::of(compiled, 0), Counts::new(), false)),
-        Some(leaf) => searched(
-            rt, shared, compiled, recorder, gate, halt, worker, leaf, watch,
+        Some(first) => search_from(
+            rt, shared, compiled, recorder, gate, halt, worker, first, watch,
         ),
     }
 }
 
 /// A worker's whole work: it searches paths until none is left or wanted, and gives all back. On the way the watch hears now
 /// and then what all workers did so far.
-// Where no thread can be made, workers are called inside each other on one stack: what a search needs of it stays out of those
-// frames.
+// Where no thread can be made, all workers are called on one stack, some six frames deep: what a search needs of it stays out of
+// those frames.
 #[inline(never)]
 pub fn work<R: Wait, G: Gate, H: Halt, W: Watch>(
     rt: &R,
@@ -201,33 +204,22 @@ pub fn work<R: Wait, G: Gate, H: Halt, W: Watch>(
     compiled: &Compiled,
     gate: &G,
     halt: &H,
-    mut worker: Worker,
+    worker: &mut Worker,
     watch: &mut W,
-) -> Worker
-    requires { MayWork compiled.now shared.now worker }
-    ensures work { Worked (H.never halt.now → ⊥) shared.now worker result }
+)
+    requires { MayWork compiled.now shared.now worker.old }
+    ensures work { Worked (H.never halt.now → ⊥) shared.now worker.old worker.new }
     ensures heard { W.IsAfter watch.old watch.new }
 {
     let recorder = Recorder::new(shared.alloc);
-    match ran(
-        rt,
-        shared,
-        compiled,
-        &recorder,
-        gate,
-        halt,
-        &mut worker,
-        watch,
+    match searched(
+        rt, shared, compiled, &recorder, gate, halt, worker, watch,
     ) {
         Ok((fuel, did, short)) => {
             worker.short = short;
             let _sum = shared.tallies.tell(rt, worker.seat.number(), &did);
             desk::back(rt, &shared.book, &mut worker.seat, fuel);
-            worker
         }
-        Err(_) => {
-            worker.short = true;
-            worker
-        }
+        Err(_) => worker.short = true,
     }
 }
