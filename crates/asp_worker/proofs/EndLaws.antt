@@ -14,7 +14,6 @@ use Rattle.asp_core.specs.Boards.{Board, goal_of, is_enough}
 use Rattle.asp_core.specs.Units.{out_of, returned}
 use Rattle.asp_core.specs.Events.{held_by, happens, replay}
 use Rattle.asp_book.specs.Calls.{Knows, task_of, seen_board, IsCall}
-use Rattle.asp_book.specs.Fuels.{ComesBack}
 use Rattle.asp_book.specs.Replies.{given_back}
 use Rattle.asp_search.specs.Beside.{new_search}
 use Rattle.asp_search_laws.specs.Searching.{Searching}

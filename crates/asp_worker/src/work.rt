@@ -121,7 +121,6 @@ fn search_from<R: Wait, G: Gate, H: Halt, W: Watch>(
     rt: &R,
     shared: &Shared,
     compiled: &Compiled,
-    recorder: &Recorder,
     gate: &G,
     halt: &H,
     worker: &mut Worker,
@@ -142,7 +141,8 @@ fn search_from<R: Wait, G: Gate, H: Halt, W: Watch>(
     ensures idle { OnErr result (IsIdle (view worker.new.seat)) }
     ensures heard { W.IsAfter watch.old watch.new }
 {
-    match start(shared, compiled, recorder) {
+    let recorder = Recorder::new(shared.alloc);
+    match start(shared, compiled, &recorder) {
         Err(error) => {
             desk::release(rt, &shared.book, &mut worker.seat, first);
             Err(error)
@@ -161,7 +161,6 @@ fn searched<R: Wait, G: Gate, H: Halt, W: Watch>(
     rt: &R,
     shared: &Shared,
     compiled: &Compiled,
-    recorder: &Recorder,
     gate: &G,
     halt: &H,
     worker: &mut Worker,
@@ -187,9 +186,7 @@ fn searched<R: Wait, G: Gate, H: Halt, W: Watch>(
     )?;
     match found {
         None => Ok((Fuel::of(compiled, 0), Counts::new(), false)),
-        Some(first) => search_from(
-            rt, shared, compiled, recorder, gate, halt, worker, first, watch,
-        ),
+        Some(first) => search_from(rt, shared, compiled, gate, halt, worker, first, watch),
     }
 }
 
@@ -211,10 +208,7 @@ pub fn work<R: Wait, G: Gate, H: Halt, W: Watch>(
     ensures work { Worked (H.never halt.now → ⊥) shared.now worker.old worker.new }
     ensures heard { W.IsAfter watch.old watch.new }
 {
-    let recorder = Recorder::new(shared.alloc);
-    match searched(
-        rt, shared, compiled, &recorder, gate, halt, worker, watch,
-    ) {
+    match searched(rt, shared, compiled, gate, halt, worker, watch) {
         Ok((fuel, did, short)) => {
             worker.short = short;
             let _sum = shared.tallies.tell(rt, worker.seat.number(), &did);

@@ -1,4 +1,4 @@
-use Rattle.std.proofs.Common.{◌<◌, ℕ, Option, inl, inr, refl, sym, ◌∙◌, subst}
+use Rattle.std.proofs.Common.{◌<◌, ℕ, Option, inl, inr, refl, sym, subst}
 use Rattle.asp_vault.specs.Seats.{view}
 use Rattle.asp_worker.specs.declared.path.Way.{Way}
 use Rattle.asp_worker.specs.declared.worker.Worker.{Worker}
