@@ -3,8 +3,8 @@
 # usage: bench/growth.sh [--markdown] [--save FILE [--revision TEXT] [--machine TEXT]] [PROGRAM [BASE [KIND..]]]
 # with python3 at hand: BASE is the first size (4000). With --save the figures are kept for docs/pictures, in
 # bench/figures/growth.json.
-# Each kind has four answers at most, or one optimum; of the last three the consequences are sought. Seconds of processor time,
-# 20 of them a run at most: what doesn't end is shown as ">20", and no greater size of it is tried. A doubling that takes 3 times
+# Each kind has four answers at most, or one optimum, or one answer is asked for; of the last three the consequences are sought.
+# Seconds of processor time, 20 of them a run at most: what doesn't end is shown as ">20", and no greater size of it is tried. A doubling that takes 3 times
 # as long or more, or the limit, is flagged with "!", unless it ends within 0.1 seconds, where the clock is too coarse. It asserts
 # nothing: it is outside the gate.
 set -eu
@@ -75,6 +75,12 @@ def priorities(n):
     return [choice(to(n)), *(rule(0, -row[0]) for row in rows), *(minimise(p, row) for p, row in enumerate(rows))]
 
 
+def complements(n):
+    half = n // 2
+    both = " ".join(f"{half + i} -3 {i} -2" for i in to(half))
+    return [*(choice([i]) for i in to(half)), *(rule(half + i, -i) for i in to(half)), f"2 0 {2 * half} {both}"]
+
+
 def negative(n):
     return [choice(to(n)), minimise(0, to(n), -1)]
 
@@ -98,6 +104,14 @@ def lattice(n):
     return [choice([side * side + 1]), rule(1, side * side + 1), *(rule(a, b) for p, q in near for a, b in ((p, q), (q, p)))]
 
 
+def way(n):
+    """A way through a grid of 4 by n / 4 cells: its atoms are n cells that are entered, and n that are left."""
+    length, at = n // 4, lambda x, y: x * 4 + y + 1
+    near = [(at(x, y), at(u, v)) for x in range(length) for y in range(4) for u, v in ((x + 1, y), (x, y + 1)) if u < length and v < 4]
+    steps = [it for a, b in near for it in (rule(n + b, n + a, a), rule(n + a, n + b, b))]
+    return [choice(range(1, 4 * length + 1)), rule(n + 1), *steps, rule(0, -(n + 4 * length))]
+
+
 def one_out(n):
     return [*(choice([i]) for i in to(n)), weight(0, 2, [-i for i in to(n)])]
 
@@ -113,33 +127,36 @@ def pairs(n):
 
 KINDS = {
     "weight body, half implied": weight_body, "n - 1 items by the bound": bound, "free atoms maximised": maximised,
-    "items minimised at -1": negative, "priorities of 100 items": priorities, "atom with n supports": supports,
+    "items minimised at -1": negative, "atoms and complements": complements,
+    "priorities of 100 items": priorities, "atom with n supports": supports,
     "unfounded weight bodies": unfounded, "chain": chain, "ring": ring, "chain of both ways": two_ways, "lattice of both ways": lattice,
+    "a way through a grid": way,
     "at most one of n out": one_out, "one of a pair": pairs, "exactly one of n": exactly_one,
 }
+ONE = {"a way through a grid"}
 MODES = {"at most one of n out": "cautious", "one of a pair": "cautious", "exactly one of n": "brave"}
 
 
-def run(path, mode):
+def run(path, mode, limit):
     def limits():
         resource.setrlimit(resource.RLIMIT_CPU, (LIMIT, LIMIT + 1))
         resource.setrlimit(resource.RLIMIT_AS, (6 << 30, 6 << 30))
 
     with open(path, "rb") as text:
-        process = subprocess.Popen([program, "--mode", mode], stdin=text, stdout=subprocess.DEVNULL, stderr=subprocess.DEVNULL, preexec_fn=limits)
+        process = subprocess.Popen([program, "--mode", mode, *limit], stdin=text, stdout=subprocess.DEVNULL, stderr=subprocess.DEVNULL, preexec_fn=limits)
         _, status, used = os.wait4(process.pid, 0)
     return used.ru_utime + used.ru_stime, used.ru_maxrss / 1024, status
 
 
-def row(make, path, mode):
+def row(make, path, mode, limit):
     """For each size the seconds, whether it ended, and the memory; and the status of a run that has no answer."""
     found = {"seconds": [], "ended": [], "memory": []}
     for size in SIZES:
         with open(path, "w") as out:
             out.write("\n".join(["asp 1 0 0", *make(size), "0"]) + "\n")
-        time, most, status = run(path, mode)
+        time, most, status = run(path, mode, limit)
         stopped = os.WIFSIGNALED(status)
-        if not stopped and os.WEXITSTATUS(status) not in (30, 20, 10):
+        if not stopped and os.WEXITSTATUS(status) not in (30, 20, 11, 10):
             return {**found, "status": os.WEXITSTATUS(status)}
         found["seconds"].append(LIMIT if stopped else round(time, 3))
         found["ended"].append(not stopped)
@@ -176,7 +193,7 @@ with tempfile.TemporaryDirectory() as room:
     for name, make in KINDS.items():
         if only and name not in only:
             continue
-        rows.append({"name": name, **row(make, f"{room}/text", MODES.get(name, "auto"))})
+        rows.append({"name": name, **row(make, f"{room}/text", MODES.get(name, "auto"), ["--models", "1"] if name in ONE else [])})
         print(line([name, *cells(rows[-1])]), flush=True)
 saving.save(given, {"sizes": SIZES, "limit": LIMIT}, rows)
 PY

@@ -1,10 +1,11 @@
 -- The optimistic cost, and what sets cost.
-use Rattle.std.proofs.Common.{◌≡◌, ◌≢◌, ℕ, ◌+◌, ◌<◌, ◌≤◌, Bool, true, false, cond, eqb, List, [], ◌∷◌, ◌++◌, map, length, get_or, set, Option, Some, None, ℤ, pos, negsuc, ◌+ℤ◌, ◌≤ℤ◌, refl, sym, ap, ◌∙◌, subst, inl, inr, arith, get_or-set_other, get_or-set_same}
+use Rattle.std.proofs.Common.{◌≡◌, ◌≢◌, ℕ, ◌+◌, ◌<◌, ◌≤◌, Bool, true, false, cond, eqb, List, [], ◌∷◌, ◌++◌, map, length, get_or, set, Option, Some, None, ℤ, pos, negsuc, ◌+ℤ◌, ◌-ℤ◌, ◌≤ℤ◌, refl, sym, ap, ◌∙◌, subst, inl, inr, arith, get_or-set_other, get_or-set_same}
 use Rattle.std.specs.List.{AllByRecursion, flat_map}
 use Rattle.std.specs.Bool.{beq}
+use Rattle.std.specs.Int.{int_max, int_min}
 use Rattle.std.specs.Int.RustNames.{unsigned_abs}
 use Rattle.std.specs.Ordering.{int_eq}
-use Rattle.std.proofs.lemmas.Int.{ints}
+use Rattle.std.proofs.lemmas.Int.{clamps, ints}
 use Rattle.std.proofs.lemmas.Bool.{cases_lt}
 use Rattle.std.proofs.lemmas.List.Sums.{sum_by-cons}
 use Rattle.asp_model.specs.declared.program.Minimize.{Minimize}
@@ -23,9 +24,9 @@ use Rattle.asp_vars.specs.Numbering.{var_count, place_of, literal_in, values}
 use Rattle.asp_vars.proofs.CompletionLaws.{literal-holds}
 use Rattle.asp_vars.proofs.StandingLaws.{each-unmap}
 use Rattle.asp_vars.proofs.PlaceLaws.{place_of-within}
-use Rattle.asp_bound.specs.Optimism.{items_at, weight_in, weight_at, negative, least, sum_to, least_at, optimistic_at, optimistic}
+use Rattle.asp_bound.specs.Optimism.{items_at, weight_in, weight_at, least, sum_to, least_at, optimistic_at, optimistic}
 use Rattle.asp_bound.specs.Definition.{weight_that, cost_of_at, cost_of}
-use Rattle.asp_bound.specs.Rises.{rise, rise_at}
+use Rattle.asp_bound.specs.Rises.{above, rise, rise_at}
 use Rattle.asp_bound.specs.Weights.{size_of}
 use Rattle.asp_bound.proofs.SumLaws.{sum_to-le, sum_to-add, sum_to-zero, sum_to-at, sum_to-same, picked_by, picked-sum, AreVars}
 
@@ -107,27 +108,19 @@ picked_by-value : (x : Bool) (t f : ℤ) → cond (beq x true) t (pos 0) +ℤ co
 picked_by-value true t f = omega (arith, ints)
 picked_by-value false t f = omega (arith, ints)
 
-open-le : (x : Bool) (t f : ℤ) → (negative t +ℤ negative f) ≤ℤ cond x t f
-open-le true (pos a) (pos b) = omega (arith, ints)
-open-le true (pos a) (negsuc b) = omega (arith, ints)
-open-le true (negsuc a) (pos b) = omega (arith, ints)
-open-le true (negsuc a) (negsuc b) = omega (arith, ints)
-open-le false (pos a) (pos b) = omega (arith, ints)
-open-le false (pos a) (negsuc b) = omega (arith, ints)
-open-le false (negsuc a) (pos b) = omega (arith, ints)
-open-le false (negsuc a) (negsuc b) = omega (arith, ints)
+above-is : (x : ℤ) → pos (above x) ≡ int_max x (pos 0)
+above-is (pos n) = omega (arith, ints, clamps)
+above-is (negsuc n) = omega (arith, ints, clamps)
+
+open-le : (x : Bool) (t f : ℤ) → int_min t f ≤ℤ cond x t f
+open-le true t f = omega (arith, ints, clamps)
+open-le false t f = omega (arith, ints, clamps)
 
 flat-le : (b x : Bool) (t f : ℤ) → rise b t f ≤ 0 → cond b t f ≤ℤ cond x t f
 flat-le true true t f h = omega (arith, ints)
 flat-le false false t f h = omega (arith, ints)
-flat-le true false (pos a) (pos b) h = omega (arith, ints)
-flat-le true false (pos a) (negsuc b) h = absurd (omega arith)
-flat-le true false (negsuc a) (pos b) h = omega (arith, ints)
-flat-le true false (negsuc a) (negsuc b) h = absurd (omega arith)
-flat-le false true (pos a) (pos b) h = omega (arith, ints)
-flat-le false true (negsuc a) (pos b) h = absurd (omega arith)
-flat-le false true (pos a) (negsuc b) h = omega (arith, ints)
-flat-le false true (negsuc a) (negsuc b) h = absurd (omega arith)
+flat-le true false t f h = omega (arith, ints, clamps, above-is (t -ℤ f), h)
+flat-le false true t f h = omega (arith, ints, clamps, above-is (f -ℤ t), h)
 
 least-some : (b : Bool) (t f : ℤ) → least (Some b) t f ≡ cond b t f
 least-some true t f = refl
@@ -144,14 +137,8 @@ least-le (Some b) x t f h = elim (cases_lt 0 (rise b t f)) [
 ]
 
 pub least-rise : (b : Bool) (t f : ℤ) → least (Some b) t f ≡ least None t f +ℤ pos (rise b t f)
-least-rise true (pos a) (pos b) = omega (arith, ints)
-least-rise true (pos a) (negsuc b) = omega (arith, ints)
-least-rise true (negsuc a) (pos b) = omega (arith, ints)
-least-rise true (negsuc a) (negsuc b) = omega (arith, ints)
-least-rise false (pos a) (pos b) = omega (arith, ints)
-least-rise false (pos a) (negsuc b) = omega (arith, ints)
-least-rise false (negsuc a) (pos b) = omega (arith, ints)
-least-rise false (negsuc a) (negsuc b) = omega (arith, ints)
+least-rise true t f = omega (arith, ints, clamps, above-is (t -ℤ f))
+least-rise false t f = omega (arith, ints, clamps, above-is (f -ℤ t))
 
 -- ---- the optimistic cost is the least
 pub optimistic_at-le : (p : Program) (a : List (Option Bool)) (x : List Bool) (q : ℤ) →
@@ -262,18 +249,12 @@ weight_in-small atoms items l = abs_of (weight_in atoms items l) (weight_in atom
 least-high : (o : Option Bool) (t f m n : ℤ) → t ≤ℤ m → (pos 0) ≤ℤ (t +ℤ m) → f ≤ℤ n → (pos 0) ≤ℤ (f +ℤ n) → least o t f ≤ℤ (m +ℤ n)
 least-high (Some true) t f m n a b c d = omega (arith, ints)
 least-high (Some false) t f m n a b c d = omega (arith, ints)
-least-high None (pos x) (pos y) m n a b c d = omega (arith, ints)
-least-high None (pos x) (negsuc y) m n a b c d = omega (arith, ints)
-least-high None (negsuc x) (pos y) m n a b c d = omega (arith, ints)
-least-high None (negsuc x) (negsuc y) m n a b c d = omega (arith, ints)
+least-high None t f m n a b c d = omega (arith, ints, clamps, a, b, c, d)
 
 least-low : (o : Option Bool) (t f m n : ℤ) → t ≤ℤ m → (pos 0) ≤ℤ (t +ℤ m) → f ≤ℤ n → (pos 0) ≤ℤ (f +ℤ n) → (pos 0) ≤ℤ (least o t f +ℤ (m +ℤ n))
 least-low (Some true) t f m n a b c d = omega (arith, ints)
 least-low (Some false) t f m n a b c d = omega (arith, ints)
-least-low None (pos x) (pos y) m n a b c d = omega (arith, ints)
-least-low None (pos x) (negsuc y) m n a b c d = omega (arith, ints)
-least-low None (negsuc x) (pos y) m n a b c d = omega (arith, ints)
-least-low None (negsuc x) (negsuc y) m n a b c d = omega (arith, ints)
+least-low None t f m n a b c d = omega (arith, ints, clamps, a, b, c, d)
 
 sum_to-size : (p : Program) (items : List (ℤ × ℤ)) → AreStanding p items → sum_to (picked_by (λ l. true) (weight_in (atoms_of p) (absolutes items))) (var_count p) ≡ pos (size_of items)
 sum_to-size p items h = sym (picked-sum (λ l. true) (atoms_of p) (var_count p) (absolutes items) (items-vars p (absolutes items) (absolutes-stand p items h))) ∙ absolutes-size (atoms_of p) items
@@ -306,11 +287,11 @@ pub rise_at-small : (p : Program) (q : ℤ) (v : ℕ) (b : Bool) → rise_at p q
 rise_at-small p q v b = by_parts b (weight_at p q (T v)) (weight_at p q (F v)) (weight_in-small (atoms_of p) (items_at p.minimize q) (T v)) (weight_in-small (atoms_of p) (items_at p.minimize q) (F v))
   where
     by_parts : (c : Bool) (t f : ℤ) → unsigned_abs t ≤ size_of (items_at p.minimize q) → unsigned_abs f ≤ size_of (items_at p.minimize q) → rise c t f ≤ size_of (items_at p.minimize q) + size_of (items_at p.minimize q)
-    by_parts true (pos x) (pos y) g h = omega (arith, ints)
-    by_parts true (pos x) (negsuc y) g h = omega (arith, ints)
-    by_parts true (negsuc x) (pos y) g h = omega (arith, ints)
-    by_parts true (negsuc x) (negsuc y) g h = omega (arith, ints)
-    by_parts false (pos x) (pos y) g h = omega (arith, ints)
-    by_parts false (pos x) (negsuc y) g h = omega (arith, ints)
-    by_parts false (negsuc x) (pos y) g h = omega (arith, ints)
-    by_parts false (negsuc x) (negsuc y) g h = omega (arith, ints)
+    by_parts true (pos x) (pos y) g h = omega (arith, ints, clamps, above-is (pos x -ℤ pos y))
+    by_parts true (pos x) (negsuc y) g h = omega (arith, ints, clamps, above-is (pos x -ℤ negsuc y))
+    by_parts true (negsuc x) (pos y) g h = omega (arith, ints, clamps, above-is (negsuc x -ℤ pos y))
+    by_parts true (negsuc x) (negsuc y) g h = omega (arith, ints, clamps, above-is (negsuc x -ℤ negsuc y))
+    by_parts false (pos x) (pos y) g h = omega (arith, ints, clamps, above-is (pos y -ℤ pos x))
+    by_parts false (pos x) (negsuc y) g h = omega (arith, ints, clamps, above-is (negsuc y -ℤ pos x))
+    by_parts false (negsuc x) (pos y) g h = omega (arith, ints, clamps, above-is (pos y -ℤ negsuc x))
+    by_parts false (negsuc x) (negsuc y) g h = omega (arith, ints, clamps, above-is (negsuc y -ℤ negsuc x))

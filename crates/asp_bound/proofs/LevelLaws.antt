@@ -1,5 +1,5 @@
 -- The tables, priority by priority.
-use Rattle.std.proofs.Common.{◌≡◌, ℕ, zero, suc, ◌+◌, ◌*◌, ◌/◌, ◌%◌, ◌^◌, ◌<◌, ◌≤◌, Bool, true, false, cond, eqb, ltb, List, [], ◌∷◌, ◌++◌, map, length, get_or, take, sum_by, Option, None, ℤ, pos, negsuc, neg_ℤ, refl, sym, ap, ◌∙◌, subst, inl, inr, arith}
+use Rattle.std.proofs.Common.{◌≡◌, ℕ, zero, suc, ◌+◌, ◌*◌, ◌/◌, ◌%◌, ◌^◌, ◌<◌, ◌≤◌, Bool, true, false, cond, eqb, ltb, List, [], ◌∷◌, ◌++◌, map, length, get_or, take, sum_by, Option, None, ℤ, pos, neg_ℤ, ◌≤ℤ◌, refl, sym, ap, ◌∙◌, subst, inl, inr, arith}
 use Rattle.std.specs.List.{All, AllPairs, Contains}
 use Rattle.std.specs.List.Sorted.{IsPermutation}
 use Rattle.std.proofs.lemmas.Int.{ints}
@@ -16,13 +16,13 @@ use Rattle.asp_vars.specs.Numbering.{var_count}
 use Rattle.asp_bound.specs.declared.place.Place.{Place}
 use Rattle.asp_bound.specs.declared.place.Item.{Item}
 use Rattle.asp_bound.specs.declared.place.Addition.{Addition}
-use Rattle.asp_bound.specs.Optimism.{items_at, weight_in, weight_at, negative, least, least_at, sum_to, optimistic_at}
-use Rattle.asp_bound.specs.Rises.{beneath, rise, rise_at, rise_by, raised, row_at, IsColumn}
+use Rattle.asp_bound.specs.Optimism.{items_at, weight_in, weight_at, least, least_at, optimistic_at}
+use Rattle.asp_bound.specs.Rises.{rise, rise_at, rise_by, raised, row_at, IsColumn}
 use Rattle.asp_bound.specs.Weights.{size_of, AreWeights}
-use Rattle.asp_bound.specs.Levels.{most_of, addition_of, additions_of, additions_to, weight_true, weight_false, added_by, added_at, item_of, place_of, ArePlaced, least_to}
+use Rattle.asp_bound.specs.Levels.{most_of, addition_of, additions_of, additions_to, weight_true, weight_false, added_by, added_at, item_of, place_of, ArePlaced, least_by, least_to}
 use Rattle.asp_bound.specs.Starts.{IsLinked}
 use Rattle.asp_bound.specs.Gathered.{valueless, IsGathered, AreGathered}
-use Rattle.asp_bound.proofs.CostLaws.{optimistic_at-low, rise_at-small}
+use Rattle.asp_bound.proofs.CostLaws.{optimistic_at-high, optimistic_at-low, rise_at-small}
 use Rattle.asp_bound.proofs.SumLaws.{sum_to-same}
 
 -- ---- the weights of a variable's literals
@@ -139,27 +139,18 @@ additions_to-sum weights (suc n) v b i k =
           omega (arith, sum_by-append (added_at v b) (additions_to weights n) (additions_of (suc n) t f), additions_to-sum weights n v b i within, additions-sum (suc n) v b t f, off))
     ]
 
--- ---- what is negative
-negative-beneath : (t : ℤ) → negative t ≡ neg_ℤ (pos (beneath t))
-negative-beneath (pos n) = refl
-negative-beneath (negsuc n) = refl
-
-least_to-sum : (t f : ℕ → ℤ) (weights : List ℤ) (n : ℕ) → ((v : ℕ) → 0 < v → v ≤ n → (weight_true weights v ≡ t v) × (weight_false weights v ≡ f v)) → sum_to (λ v. least None (t v) (f v)) n ≡ neg_ℤ (pos (least_to weights n))
-least_to-sum t f weights zero h = refl
-least_to-sum t f weights (suc n) h =
-    let before = least_to-sum t f weights n (λ v i k. h v i (omega arith)) in
-    let here = h (suc n) (omega arith) (omega arith) in
-    let left : negative (t (suc n)) ≡ neg_ℤ (pos (beneath (weight_true weights (suc n)))) = ap negative (sym here.0) ∙ negative-beneath (weight_true weights (suc n)) in
-    let right : negative (f (suc n)) ≡ neg_ℤ (pos (beneath (weight_false weights (suc n)))) = ap negative (sym here.1) ∙ negative-beneath (weight_false weights (suc n)) in
-    omega (arith, ints, before, left, right)
-
-pub least_to-is : (p : Program) (q : ℤ) (weights : List ℤ) → AreWeights p (items_at p.minimize q) weights → optimistic_at p (valueless p) q ≡ neg_ℤ (pos (least_to weights (var_count p)))
+-- ---- what variables cost at least
+pub least_to-is : (p : Program) (q : ℤ) (weights : List ℤ) → AreWeights p (items_at p.minimize q) weights → optimistic_at p (valueless p) q ≡ least_to weights (var_count p)
 least_to-is p q weights are =
-    sum_to-same (least_at p (valueless p) q) (λ v. least None (weight_at p q (T v)) (weight_at p q (F v))) (var_count p) (λ v i k. ap (λ (o : Option Bool). least o (weight_at p q (T v)) (weight_at p q (F v))) (get_or-replicate (var_count p + 1) v None None (omega arith)))
-    ∙ least_to-sum (λ v. weight_at p q (T v)) (λ v. weight_at p q (F v)) weights (var_count p) (λ v i k. (weight_true-is p q weights v are k, weight_false-is p q weights v are k))
+    sum_to-same (least_at p (valueless p) q) (least_by weights) (var_count p) (λ v i k.
+    ap (λ (o : Option Bool). least o (weight_at p q (T v)) (weight_at p q (F v))) (get_or-replicate (var_count p + 1) v None None (omega arith))
+    ∙ (ap (λ (t : ℤ). least None t (weight_at p q (F v))) (sym (weight_true-is p q weights v are k)) ∙ ap (λ (f : ℤ). least None (weight_true weights v) f) (sym (weight_false-is p q weights v are k))))
 
-pub least_to-small : (p : Program) (q : ℤ) (weights : List ℤ) → AreWeights p (items_at p.minimize q) weights → size_of (items_at p.minimize q) ≤ 2 ^ 55 → least_to weights (var_count p) < 2 ^ 60
-least_to-small p q weights are small = omega (arith, ints, least_to-is p q weights are, optimistic_at-low p (valueless p) q)
+pub least_to-low : (p : Program) (q : ℤ) (weights : List ℤ) → AreWeights p (items_at p.minimize q) weights → size_of (items_at p.minimize q) ≤ 2 ^ 55 → neg_ℤ (pos (2 ^ 60)) ≤ℤ least_to weights (var_count p)
+least_to-low p q weights are small = omega (arith, ints, least_to-is p q weights are, optimistic_at-low p (valueless p) q)
+
+pub least_to-high : (p : Program) (q : ℤ) (weights : List ℤ) → AreWeights p (items_at p.minimize q) weights → size_of (items_at p.minimize q) ≤ 2 ^ 55 → least_to weights (var_count p) ≤ℤ pos (2 ^ 60)
+least_to-high p q weights are small = omega (arith, ints, least_to-is p q weights are, optimistic_at-high p (valueless p) q)
 
 -- ---- a priority's tables
 -- the same variables in another order
@@ -226,17 +217,16 @@ gathered p level q weights rows new additions are small permuted falling placed 
       grown = placed.grown;
       linked = linked-items level rows new additions placed;
       least_is = least_to-is p q weights are;
-      least_small = least_to-small p q weights are small;
     }
 
 -- the same, by what the calls say
-pub gathered_as : (p : Program) (level : ℕ) (q : ℤ) (weights : List ℤ) (rows new : List (List Place)) (additions : List Addition) (items : List Item) (least vars : ℕ) → vars ≡ var_count p →
+pub gathered_as : (p : Program) (level : ℕ) (q : ℤ) (weights : List ℤ) (rows new : List (List Place)) (additions : List Addition) (items : List Item) (least : ℤ) (vars : ℕ) → vars ≡ var_count p →
     AreWeights p (items_at p.minimize q) weights → size_of (items_at p.minimize q) ≤ 2 ^ 55 → IsPermutation (additions_to weights vars) additions → AllPairs (λ (i k : Addition). k.most ≤ i.most) additions →
     ArePlaced level additions rows new → items ≡ map item_of additions → least ≡ least_to weights vars → IsGathered p level q rows new items least
 gathered_as p level q weights rows new additions items least vars e are small permuted falling placed made sum =
     let all = gathered p level q weights rows new additions are small (subst (λ (n : ℕ). IsPermutation (additions_to weights n) additions) e permuted) falling placed in
     let listed = subst (λ (z : List Item). IsGathered p level q rows new z (least_to weights (var_count p))) (sym made) all in
-    subst (λ (n : ℕ). IsGathered p level q rows new items n) (sym (sum ∙ ap (least_to weights) e)) listed
+    subst (λ (n : ℤ). IsGathered p level q rows new items n) (sym (sum ∙ ap (least_to weights) e)) listed
 
 -- ---- priority after priority
 raised-none : (row : List Place) (j : ℕ) (b : Bool) → All (λ (o : Place). o.level < j) row → raised row j b ≡ 0
@@ -260,8 +250,8 @@ linked-grown rows new j column grown linked = λ i d lt.
     let link = linked i d lt in
     (link.0, grown (get_or column i d).var link.0 link.1, link.2, link.3)
 
-pub gathered_more : (p : Program) (qs : List ℤ) (q : ℤ) (rows new : List (List Place)) (items : List (List Item)) (costs : List ℤ) (column : List Item) (least : ℕ) →
-    AreGathered p qs rows items costs → IsGathered p (length qs) q rows new column least → AreGathered p (qs ++ q ∷ []) new (items ++ column ∷ []) (costs ++ neg_ℤ (pos least) ∷ [])
+pub gathered_more : (p : Program) (qs : List ℤ) (q : ℤ) (rows new : List (List Place)) (items : List (List Item)) (costs : List ℤ) (column : List Item) (least : ℤ) →
+    AreGathered p qs rows items costs → IsGathered p (length qs) q rows new column least → AreGathered p (qs ++ q ∷ []) new (items ++ column ∷ []) (costs ++ least ∷ [])
 gathered_more p qs q rows new items costs column least g h =
     let long : length (qs ++ q ∷ []) ≡ length qs + 1 = length_push qs q in
     record {
@@ -281,21 +271,21 @@ gathered_more p qs q rows new items costs column least g h =
             (subst (IsLinked new (length qs)) (sym (get_or_push items column [] (length qs) g.columned)) h.linked) k (omega (arith, long, length_push items column, g.columned, within));
       };
       summed =
-          let last : optimistic_at p (valueless p) q ≡ neg_ℤ (pos least) = h.least_is in
+          let last : optimistic_at p (valueless p) q ≡ least = h.least_is in
           let all = g.summed in
           let pushed : map (optimistic_at p (valueless p)) (qs ++ q ∷ []) ≡ map (optimistic_at p (valueless p)) qs ++ optimistic_at p (valueless p) q ∷ [] = map_push (optimistic_at p (valueless p)) qs q in
-          ap (λ (xs : List ℤ). xs ++ neg_ℤ (pos least) ∷ []) all ∙ (ap (λ (x : ℤ). map (optimistic_at p (valueless p)) qs ++ x ∷ []) (sym last) ∙ sym pushed);
+          ap (λ (xs : List ℤ). xs ++ least ∷ []) all ∙ (ap (λ (x : ℤ). map (optimistic_at p (valueless p)) qs ++ x ∷ []) (sym last) ∙ sym pushed);
     }
 
-pub gathered_step : (p : Program) (qs : List ℤ) (i : ℕ) (q d : ℤ) (rows new : List (List Place)) (items items' : List (List Item)) (costs costs' : List ℤ) (column column' : List Item) (least : ℕ) (x : ℤ) →
+pub gathered_step : (p : Program) (qs : List ℤ) (i : ℕ) (q d : ℤ) (rows new : List (List Place)) (items items' : List (List Item)) (costs costs' : List ℤ) (column column' : List Item) (least x : ℤ) →
     i < length qs → q ≡ get_or qs i d → AreGathered p (take i qs) rows items costs → IsGathered p i q rows new column least →
-    items' ≡ items ++ column' ∷ [] → column' ≡ column → costs' ≡ costs ++ x ∷ [] → x ≡ neg_ℤ (pos least) → AreGathered p (take (i + 1) qs) new items' costs'
+    items' ≡ items ++ column' ∷ [] → column' ≡ column → costs' ≡ costs ++ x ∷ [] → x ≡ least → AreGathered p (take (i + 1) qs) new items' costs'
 gathered_step p qs i q d rows new items items' costs costs' column column' least x lt is g h ei ek ec ex =
     let n : length (take i qs) ≡ i = length-take-le i qs (omega arith) in
     let more = gathered_more p (take i qs) q rows new items costs column least g (subst (λ (k : ℕ). IsGathered p k q rows new column least) (sym n) h) in
     let list : take (i + 1) qs ≡ take i qs ++ q ∷ [] = take_more qs i d lt ∙ ap (λ (z : ℤ). take i qs ++ z ∷ []) (sym is) in
     let columns : items' ≡ items ++ column ∷ [] = ei ∙ ap (λ (k : List Item). items ++ k ∷ []) ek in
-    let sums : costs' ≡ costs ++ neg_ℤ (pos least) ∷ [] = ec ∙ ap (λ (z : ℤ). costs ++ z ∷ []) ex in
-    let a = subst (λ (z : List ℤ). AreGathered p z new (items ++ column ∷ []) (costs ++ neg_ℤ (pos least) ∷ [])) (sym list) more in
-    let b = subst (λ (z : List (List Item)). AreGathered p (take (i + 1) qs) new z (costs ++ neg_ℤ (pos least) ∷ [])) (sym columns) a in
+    let sums : costs' ≡ costs ++ least ∷ [] = ec ∙ ap (λ (z : ℤ). costs ++ z ∷ []) ex in
+    let a = subst (λ (z : List ℤ). AreGathered p z new (items ++ column ∷ []) (costs ++ least ∷ [])) (sym list) more in
+    let b = subst (λ (z : List (List Item)). AreGathered p (take (i + 1) qs) new z (costs ++ least ∷ [])) (sym columns) a in
     subst (AreGathered p (take (i + 1) qs) new items') (sym sums) b

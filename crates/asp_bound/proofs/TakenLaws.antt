@@ -1,8 +1,9 @@
 -- What variables add, taken out of the weights one after the other.
-use Rattle.std.proofs.Common.{◌≡◌, ◌≢◌, ℕ, zero, suc, ◌+◌, ◌*◌, ◌/◌, ◌^◌, ◌<◌, ◌≤◌, Bool, true, false, eqb, cond, ◌||◌, ◌&&◌, List, [], ◌∷◌, ◌++◌, length, get_or, set, drop, ℤ, pos, refl, sym, ap, ◌∙◌, subst, inl, inr, arith, append_assoc, get_or-set_other, get_or-set_same}
+use Rattle.std.proofs.Common.{◌≡◌, ◌≢◌, ℕ, zero, suc, ◌+◌, ◌*◌, ◌/◌, ◌^◌, ◌<◌, ◌≤◌, Bool, true, false, eqb, cond, ◌||◌, ◌&&◌, List, [], ◌∷◌, ◌++◌, length, get_or, set, drop, ℤ, pos, negsuc, neg_ℤ, ◌+ℤ◌, ◌≤ℤ◌, refl, sym, ap, ◌∙◌, subst, inl, inr, arith, append_assoc, get_or-set_other, get_or-set_same}
 use Rattle.std.specs.List.{list_any}
 use Rattle.std.specs.Bool.{beq}
 use Rattle.std.specs.List.Sorted.{IsPermutation}
+use Rattle.std.specs.Int.{int_min}
 use Rattle.std.specs.Int.RustNames.{unsigned_abs}
 use Rattle.std.proofs.lemmas.Int.{ints}
 use Rattle.std.proofs.lemmas.Bool.{cases_eq, cases_lt, ne_eqb}
@@ -17,10 +18,10 @@ use Rattle.asp_model.specs.Holding.{is_positive}
 use Rattle.asp_vars.specs.Numbering.{literal_in, literal_of, var_count}
 use Rattle.asp_bound.specs.declared.place.Addition.{Addition}
 use Rattle.asp_bound.specs.Optimism.{weight_in}
-use Rattle.asp_bound.specs.Rises.{beneath}
 use Rattle.asp_bound.specs.Weights.{size_of, AreWeights}
 use Rattle.asp_bound.specs.Levels.{additions_of, additions_to, weight_true, weight_false, without, least_by, least_to}
 use Rattle.asp_bound.proofs.CostLaws.{weight_in-small}
+use Rattle.asp_bound.proofs.SumLaws.{sum_to-at, sum_to-zero}
 
 -- ---- the weights without a variable's
 pub length-without : (ws : List ℤ) (v : ℕ) → length (without ws v) ≡ length ws
@@ -62,19 +63,15 @@ here_none : (ws : List ℤ) (v : ℕ) → weight_true ws v ≡ pos 0 → weight_
 here_none ws v t f = ap (λ (x : ℤ). additions_of v x (weight_false ws v)) t ∙ ap (λ (x : ℤ). additions_of v (pos 0) x) f
 
 least_other : (ws : List ℤ) (v u : ℕ) → u ≢ v → least_by (without ws v) u ≡ least_by ws u
-least_other ws v u ne = omega (arith, ap beneath (other-true ws v u ne), ap beneath (other-false ws v u ne))
+least_other ws v u ne = ap (λ (t : ℤ). int_min t (weight_false (without ws v) u)) (other-true ws v u ne) ∙ ap (λ (f : ℤ). int_min (weight_true ws u) f) (other-false ws v u ne)
 
-least_none : (ws : List ℤ) (v : ℕ) → weight_true ws v ≡ pos 0 → weight_false ws v ≡ pos 0 → least_by ws v ≡ 0
-least_none ws v t f = omega (arith, ap beneath t, ap beneath f)
+least_none : (ws : List ℤ) (v : ℕ) → weight_true ws v ≡ pos 0 → weight_false ws v ≡ pos 0 → least_by ws v ≡ pos 0
+least_none ws v t f = ap (λ (x : ℤ). int_min x (weight_false ws v)) t ∙ ap (λ (x : ℤ). int_min (pos 0) x) f
 
 additions-before : (ws : List ℤ) (v n : ℕ) → n < v → additions_to (without ws v) n ≡ additions_to ws n
 additions-before ws v zero lt = refl
 additions-before ws v (suc n) lt =
     ap (λ (xs : List Addition). xs ++ here (without ws v) (suc n)) (additions-before ws v n (omega arith)) ∙ ap (λ (xs : List Addition). additions_to ws n ++ xs) (here_other ws v (suc n) (λ (e : suc n ≡ v). omega arith))
-
-least-before : (ws : List ℤ) (v n : ℕ) → n < v → least_to (without ws v) n ≡ least_to ws n
-least-before ws v zero lt = refl
-least-before ws v (suc n) lt = omega (arith, least-before ws v n (omega arith), least_other ws v (suc n) (λ (e : suc n ≡ v). omega arith))
 
 additions-without : (ws : List ℤ) (v n : ℕ) → 0 < v → v ≤ n → 2 * v + 1 < length ws → IsPermutation (additions_to ws n) (here ws v ++ additions_to (without ws v) n)
 additions-without ws v zero up le lt = absurd (omega arith)
@@ -93,17 +90,10 @@ additions-without ws v (suc n) up le lt = elim (cases_eq v (suc n)) [
       subst (IsPermutation (additions_to ws (suc n))) is more)
 ]
 
-least-without : (ws : List ℤ) (v n : ℕ) → 0 < v → v ≤ n → 2 * v + 1 < length ws → least_to ws n ≡ least_by ws v + least_to (without ws v) n
-least-without ws v zero up le lt = absurd (omega arith)
-least-without ws v (suc n) up le lt = elim (cases_eq v (suc n)) [
-  | inl e ↦ (
-      let none : least_by (without ws v) (suc n) ≡ 0 = subst (λ (u : ℕ). least_by (without ws v) u ≡ 0) e (least_none (without ws v) v (without-true ws v lt) (without-false ws v lt)) in
-      let first : least_by ws (suc n) ≡ least_by ws v = ap (least_by ws) (sym e) in
-      omega (arith, none, first, least-before ws v n (omega arith)))
-  | inr ne ↦ (
-      let within : v ≤ n = omega arith in
-      omega (arith, least-without ws v n up within lt, least_other ws v (suc n) (λ (e : suc n ≡ v). ne (sym e))))
-]
+least-without : (ws : List ℤ) (v n : ℕ) → 0 < v → v ≤ n → 2 * v + 1 < length ws → least_to ws n ≡ least_by ws v +ℤ least_to (without ws v) n
+least-without ws v n up le lt =
+    let at = sum_to-at (least_by ws) (least_by (without ws v)) n v up le (λ u ne. sym (least_other ws v u ne)) in
+    omega (arith, ints, at, least_none (without ws v) v (without-true ws v lt) (without-false ws v lt))
 
 -- ---- no weights
 abbrev AreNone : List ℤ → Type 0
@@ -113,9 +103,8 @@ additions-none : (ws : List ℤ) (n : ℕ) → AreNone ws → additions_to ws n 
 additions-none ws zero none = refl
 additions-none ws (suc n) none = ap (λ (xs : List Addition). xs ++ here ws (suc n)) (additions-none ws n none) ∙ here_none ws (suc n) (none (2 * suc n)) (none (2 * suc n + 1))
 
-least-none : (ws : List ℤ) (n : ℕ) → AreNone ws → least_to ws n ≡ 0
-least-none ws zero none = refl
-least-none ws (suc n) none = omega (arith, least-none ws n none, least_none ws (suc n) (none (2 * suc n)) (none (2 * suc n + 1)))
+least-none : (ws : List ℤ) (n : ℕ) → AreNone ws → least_to ws n ≡ pos 0
+least-none ws n none = sum_to-zero (least_by ws) n (λ v. least_none ws v (none (2 * v)) (none (2 * v + 1)))
 
 -- ---- item after item
 -- whether an item has the variable
@@ -137,14 +126,14 @@ weight_in-untouched atoms (i ∷ items) l none = untouched_by (eqb (literal_in a
         omega (arith, ints, adds, rest e)
 
 -- The items are left, the others' additions were taken.
-pub record IsTaken (p : Program) (items : List (ℤ × ℤ)) (old : List ℤ) (additions : List Addition) (ws : List ℤ) (least : ℕ) : Type 0 where
+pub record IsTaken (p : Program) (items : List (ℤ × ℤ)) (old : List ℤ) (additions : List Addition) (ws : List ℤ) (least : ℤ) : Type 0 where
   pub count : length ws ≡ 2 * var_count p + 2
   pub left : (c : ℕ) → list_any (touches p (c / 2)) items ≡ false → get_or ws c (pos 0) ≡ pos 0
   pub small : (c : ℕ) → unsigned_abs (get_or ws c (pos 0)) < 2 ^ 56
   pub moved : IsPermutation (additions_to old (var_count p)) (additions ++ additions_to ws (var_count p))
-  pub sum : least_to old (var_count p) ≡ least + least_to ws (var_count p)
+  pub sum : least_to old (var_count p) ≡ least +ℤ least_to ws (var_count p)
 
-pub taken-none : (p : Program) (items : List (ℤ × ℤ)) (ws : List ℤ) → AreWeights p items ws → size_of items ≤ 2 ^ 55 → IsTaken p items ws [] ws 0
+pub taken-none : (p : Program) (items : List (ℤ × ℤ)) (ws : List ℤ) → AreWeights p items ws → size_of items ≤ 2 ^ 55 → IsTaken p items ws [] ws (pos 0)
 taken-none p items ws are small = record {
   count = are.count;
   left = λ c none. elim (cases_lt c (length ws)) [
@@ -159,11 +148,11 @@ taken-none p items ws are small = record {
     | inr out ↦ subst (λ (w : ℤ). unsigned_abs w < 2 ^ 56) (sym (get_or_past ws c (pos 0) (omega arith))) (omega arith)
   ];
   moved = IsPermutation-refl (additions_to ws (var_count p));
-  sum = omega arith;
+  sum = omega (arith, ints);
 }
 
-taken-next : (p : Program) (i : ℤ × ℤ) (items : List (ℤ × ℤ)) (old : List ℤ) (additions : List Addition) (ws : List ℤ) (least v : ℕ) → IsTaken p (i ∷ items) old additions ws least → v ≡ (literal_of p i.0).var → 0 < v → v ≤ var_count p →
-    IsTaken p items old (additions ++ here ws v) (without ws v) (least + least_by ws v)
+taken-next : (p : Program) (i : ℤ × ℤ) (items : List (ℤ × ℤ)) (old : List ℤ) (additions : List Addition) (ws : List ℤ) (least : ℤ) (v : ℕ) → IsTaken p (i ∷ items) old additions ws least → v ≡ (literal_of p i.0).var → 0 < v → v ≤ var_count p →
+    IsTaken p items old (additions ++ here ws v) (without ws v) (least +ℤ least_by ws v)
 taken-next p i items old additions ws least v taken is up le =
     let n = var_count p in
     let within : 2 * v + 1 < length ws = omega (arith, taken.count) in
@@ -182,29 +171,38 @@ taken-next p i items old additions ws least v taken is up le =
           let more = IsPermutation-append_right additions (additions_to ws n) (here ws v ++ rest) (additions-without ws v n up le within) in
           let all = IsPermutation-trans (additions_to old n) (additions ++ additions_to ws n) (additions ++ (here ws v ++ rest)) taken.moved more in
           subst (IsPermutation (additions_to old n)) (sym (append_assoc additions (here ws v) rest)) all;
-      sum = omega (arith, taken.sum, least-without ws v n up le within);
+      sum = omega (arith, ints, taken.sum, least-without ws v n up le within);
     }
 
 -- a turn of the loop over the items, by what its calls say
-pub taken-more : (p : Program) (items : List (ℤ × ℤ)) (i : ℕ) (x : ℤ × ℤ) (old : List ℤ) (additions new : List Addition) (ws next : List ℤ) (least more v n : ℕ) → i < length items → IsTaken p (drop i items) old additions ws least →
-    v ≡ (literal_of p (get_or items i x).0).var → 0 < v → v ≤ var_count p → new ≡ additions ++ here ws v → next ≡ without ws v → more ≡ least_by ws v → n ≡ least + more → IsTaken p (drop (i + 1) items) old new next n
-taken-more p items i x old additions new ws next least more v n lt taken is up le en ew em es =
+pub taken-more : (p : Program) (items : List (ℤ × ℤ)) (i : ℕ) (x : ℤ × ℤ) (old : List ℤ) (additions new : List Addition) (ws next : List ℤ) (least more n : ℤ) (v : ℕ) → i < length items → IsTaken p (drop i items) old additions ws least →
+    v ≡ (literal_of p (get_or items i x).0).var → 0 < v → v ≤ var_count p → new ≡ additions ++ here ws v → next ≡ without ws v → more ≡ least_by ws v → n ≡ least +ℤ more → IsTaken p (drop (i + 1) items) old new next n
+taken-more p items i x old additions new ws next least more n v lt taken is up le en ew em es =
     let step = taken-next p (get_or items i x) (drop (i + 1) items) old additions ws least v (subst (λ (z : List (ℤ × ℤ)). IsTaken p z old additions ws least) (drop_more items i x lt) taken) is up le in
-    let a = subst (λ (z : List Addition). IsTaken p (drop (i + 1) items) old z (without ws v) (least + least_by ws v)) (sym en) step in
-    let b = subst (λ (z : List ℤ). IsTaken p (drop (i + 1) items) old new z (least + least_by ws v)) (sym ew) a in
-    subst (IsTaken p (drop (i + 1) items) old new next) (sym (es ∙ ap (λ (m : ℕ). least + m) em)) b
+    let a = subst (λ (z : List Addition). IsTaken p (drop (i + 1) items) old z (without ws v) (least +ℤ least_by ws v)) (sym en) step in
+    let b = subst (λ (z : List ℤ). IsTaken p (drop (i + 1) items) old new z (least +ℤ least_by ws v)) (sym ew) a in
+    subst (IsTaken p (drop (i + 1) items) old new next) (sym (es ∙ ap (λ (m : ℤ). least +ℤ m) em)) b
 
 -- nothing is left
-all_none : (p : Program) (old : List ℤ) (additions : List Addition) (ws : List ℤ) (least : ℕ) → IsTaken p [] old additions ws least → AreNone ws
+all_none : (p : Program) (old : List ℤ) (additions : List Addition) (ws : List ℤ) (least : ℤ) → IsTaken p [] old additions ws least → AreNone ws
 all_none p old additions ws least taken = λ c. taken.left c refl
 
-pub taken-permuted : (p : Program) (old : List ℤ) (additions : List Addition) (ws : List ℤ) (least : ℕ) → IsTaken p [] old additions ws least → IsPermutation (additions_to old (var_count p)) additions
+pub taken-permuted : (p : Program) (old : List ℤ) (additions : List Addition) (ws : List ℤ) (least : ℤ) → IsTaken p [] old additions ws least → IsPermutation (additions_to old (var_count p)) additions
 taken-permuted p old additions ws least taken =
     let none : additions ++ additions_to ws (var_count p) ≡ additions = ap (λ (xs : List Addition). additions ++ xs) (additions-none ws (var_count p) (all_none p old additions ws least taken)) ∙ append-nil additions in
     subst (IsPermutation (additions_to old (var_count p))) none taken.moved
 
-pub taken-least : (p : Program) (old : List ℤ) (additions : List Addition) (ws : List ℤ) (least : ℕ) → IsTaken p [] old additions ws least → least ≡ least_to old (var_count p)
-taken-least p old additions ws least taken = omega (arith, taken.sum, least-none ws (var_count p) (all_none p old additions ws least taken))
+pub taken-least : (p : Program) (old : List ℤ) (additions : List Addition) (ws : List ℤ) (least : ℤ) → IsTaken p [] old additions ws least → least ≡ least_to old (var_count p)
+taken-least p old additions ws least taken = omega (arith, ints, taken.sum, least-none ws (var_count p) (all_none p old additions ws least taken))
+
+-- a number between those that its size is below
+pub abs-low : (x : ℤ) (n : ℕ) → unsigned_abs x < n → neg_ℤ (pos n) ≤ℤ x
+abs-low (pos a) n h = omega (arith, ints, h)
+abs-low (negsuc a) n h = omega (arith, ints, h)
+
+pub abs-high : (x : ℤ) (n : ℕ) → unsigned_abs x < n → x ≤ℤ pos n
+abs-high (pos a) n h = omega (arith, ints, h)
+abs-high (negsuc a) n h = omega (arith, ints, h)
 
 -- the same in another order, sorted twice
 pub permuted-twice : (xs ys first left second right : List Addition) → IsPermutation xs ys → first ≡ ys → IsPermutation first left → second ≡ left → IsPermutation second right → IsPermutation xs right

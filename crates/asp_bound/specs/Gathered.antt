@@ -1,5 +1,5 @@
 -- What the tables of a program have.
-use Rattle.std.specs.Prelude.{◌≡◌, ◌≢◌, ℕ, ◌+◌, ◌<◌, ◌≤◌, ◌^◌, ◌==◌, Bool, true, None, Option, List, [], length, map, replicate, slice_index_or, ℤ, pos, neg_ℤ}
+use Rattle.std.specs.Prelude.{◌≡◌, ◌≢◌, ℕ, ◌+◌, ◌<◌, ◌≤◌, ◌^◌, ◌==◌, Bool, true, None, Option, List, [], length, map, replicate, slice_index_or, ℤ, pos}
 use Rattle.std.specs.List.{All, Contains, list_any}
 use Rattle.asp_model.specs.declared.program.Program.{Program}
 use Rattle.asp_vars.specs.Numbering.{var_count}
@@ -14,7 +14,7 @@ abbrev pub valueless : Program → List (Option Bool)
 valueless p = replicate (var_count p + 1) None
 
 -- The rows have the places at one priority more.
-pub record IsGathered (p : Program) (level : ℕ) (q : ℤ) (rows new : List (List Place)) (items : List Item) (least : ℕ) : Type 0 where
+pub record IsGathered (p : Program) (level : ℕ) (q : ℤ) (rows new : List (List Place)) (items : List Item) (least : ℤ) : Type 0 where
   pub count : length new ≡ length rows
   pub small : size_of (items_at p.minimize q) ≤ 2 ^ 55
   pub within : (n v : ℕ) → level < n → All (λ o. o.level < n) (row_at rows v) → All (λ o. o.level < n) (row_at new v)
@@ -23,8 +23,7 @@ pub record IsGathered (p : Program) (level : ℕ) (q : ℤ) (rows new : List (Li
   pub column : IsColumn p q items
   pub grown : (v : ℕ) (o : Place) → Contains (row_at rows v) o → Contains (row_at new v) o
   pub linked : IsLinked new level items
-  pub least_is : optimistic_at p (valueless p) q ≡ neg_ℤ (pos least)
-  pub least_small : least < 2 ^ 60
+  pub least_is : optimistic_at p (valueless p) q ≡ least
 
 pub record AreGathered (p : Program) (qs : List ℤ) (rows : List (List Place)) (items : List (List Item)) (costs : List ℤ) : Type 0 where
   pub count : length rows ≡ var_count p + 1

@@ -1,10 +1,11 @@
 -- How the places at a priority are gathered.
-use Rattle.std.specs.Prelude.{◌≡◌, ◌≢◌, ℕ, zero, suc, ◌+◌, ◌*◌, ◌<◌, ◌==◌, nat_lt, if◌then◌else◌, List, [], ◌∷◌, ◌++◌, Bool, true, false, max, length, sum_by, slice_index_or, slice_set, ℤ, pos}
+use Rattle.std.specs.Prelude.{◌≡◌, ◌≢◌, ℕ, zero, suc, ◌+◌, ◌*◌, ◌<◌, ◌==◌, nat_lt, if◌then◌else◌, List, [], ◌∷◌, ◌++◌, Bool, true, false, max, length, sum_by, slice_index_or, slice_set, None, ℤ, pos}
 use Rattle.std.specs.List.{All, Contains}
 use Rattle.asp_bound.specs.declared.place.Place.{Place}
 use Rattle.asp_bound.specs.declared.place.Item.{Item}
 use Rattle.asp_bound.specs.declared.place.Addition.{Addition}
-use Rattle.asp_bound.specs.Rises.{rise, raised, beneath, row_at}
+use Rattle.asp_bound.specs.Optimism.{least, sum_to}
+use Rattle.asp_bound.specs.Rises.{rise, raised, row_at}
 
 abbrev pub most_of : ℤ → ℤ → ℕ
 most_of t f = max (rise true t f) (rise false t f)
@@ -55,11 +56,10 @@ pub record ArePlaced (j : ℕ) (additions : List Addition) (rows new : List (Lis
 abbrev pub without : List ℤ → ℕ → List ℤ
 without weights v = slice_set (slice_set weights (2 * v) (pos 0)) (2 * v + 1) (pos 0)
 
--- what a variable costs at least
-abbrev pub least_by : List ℤ → ℕ → ℕ
-least_by weights v = beneath (weight_true weights v) + beneath (weight_false weights v)
+-- what a variable without a value costs at least
+abbrev pub least_by : List ℤ → ℕ → ℤ
+least_by weights v = least None (weight_true weights v) (weight_false weights v)
 
--- what they cost at least
-abbrev pub least_to : List ℤ → ℕ → ℕ
-least_to weights zero = 0
-least_to weights (suc n) = least_to weights n + least_by weights (suc n)
+-- what the variables up to n cost at least
+abbrev pub least_to : List ℤ → ℕ → ℤ
+least_to weights n = sum_to (least_by weights) n

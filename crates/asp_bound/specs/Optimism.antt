@@ -1,5 +1,6 @@
 -- What the sets that agree with some values cost at least.
-use Rattle.std.specs.Prelude.{ℕ, zero, suc, Bool, true, false, if◌then◌else◌, List, [], ◌∷◌, ◌++◌, map, Option, Some, None, ℤ, pos, negsuc, ◌+ℤ◌}
+use Rattle.std.specs.Prelude.{ℕ, zero, suc, Bool, true, false, if◌then◌else◌, List, [], ◌∷◌, ◌++◌, map, Option, Some, None, ℤ, pos, ◌+ℤ◌}
+use Rattle.std.specs.Int.{int_min}
 use Rattle.std.specs.Ordering.{int_eq}
 use Rattle.asp_model.specs.declared.program.Minimize.{Minimize}
 use Rattle.asp_model.specs.declared.program.Program.{Program}
@@ -22,14 +23,9 @@ weight_in atoms (i ∷ items) l = (if literal_eq (literal_in atoms i.0) l then i
 abbrev pub weight_at : Program → ℤ → Literal → ℤ
 weight_at p q l = weight_in (atoms_of p) (items_at p.minimize q) l
 
--- the weight where it is negative
-abbrev pub negative : ℤ → ℤ
-negative (pos n) = pos 0
-negative (negsuc n) = negsuc n
-
--- What a variable costs at least: t where it is true, f where it is false, and without a value each of them that is negative.
+-- What a variable costs at least: t where it is true, f where it is false, and without a value the lesser of them.
 abbrev pub least : Option Bool → ℤ → ℤ → ℤ
-least None t f = negative t +ℤ negative f
+least None t f = int_min t f
 least (Some true) t f = t
 least (Some false) t f = f
 
@@ -41,7 +37,7 @@ sum_to f (suc n) = sum_to f n +ℤ f (suc n)
 abbrev pub least_at : Program → List (Option Bool) → ℤ → ℕ → ℤ
 least_at p a q v = least (value_of a v) (weight_at p q (T v)) (weight_at p q (F v))
 
--- at a priority, the weights of the true literals, and of those without a value the negative ones
+-- at a priority, what the variables cost at least
 abbrev pub optimistic_at : Program → List (Option Bool) → ℤ → ℤ
 optimistic_at p a q = sum_to (least_at p a q) (var_count p)
 

@@ -1,5 +1,5 @@
 -- By how much a value raises the optimistic cost.
-use Rattle.std.specs.Prelude.{◌≡◌, ℕ, suc, ◌+◌, ◌<◌, ◌≤◌, ◌^◌, ◌==◌, Bool, true, false, if◌then◌else◌, List, [], length, sum_by, slice_index_or, ℤ, pos, negsuc}
+use Rattle.std.specs.Prelude.{◌≡◌, ℕ, ◌+◌, ◌<◌, ◌≤◌, ◌^◌, ◌==◌, Bool, true, false, if◌then◌else◌, List, [], length, sum_by, slice_index_or, ℤ, pos, negsuc, ◌-ℤ◌}
 use Rattle.std.specs.List.{All, AllPairs, Contains}
 use Rattle.asp_model.specs.declared.program.Program.{Program}
 use Rattle.asp_model.specs.Costs.{priorities}
@@ -9,20 +9,15 @@ use Rattle.asp_bound.specs.declared.place.Place.{Place}
 use Rattle.asp_bound.specs.declared.place.Item.{Item}
 use Rattle.asp_bound.specs.Optimism.{weight_at}
 
--- the weight, if it is positive
+-- the number, if it is positive
 abbrev pub above : ℤ → ℕ
 above (pos n) = n
 above (negsuc n) = 0
 
--- by how much the weight is below 0
-abbrev pub beneath : ℤ → ℕ
-beneath (pos n) = 0
-beneath (negsuc n) = suc n
-
 -- what the value adds to the least cost of a variable without one
 abbrev pub rise : Bool → ℤ → ℤ → ℕ
-rise true t f = above t + beneath f
-rise false t f = above f + beneath t
+rise true t f = above (t -ℤ f)
+rise false t f = above (f -ℤ t)
 
 abbrev pub rise_at : Program → ℤ → ℕ → Bool → ℕ
 rise_at p q v b = rise b (weight_at p q (T v)) (weight_at p q (F v))

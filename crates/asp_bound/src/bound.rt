@@ -1,7 +1,7 @@
 //! The propagator of the cost bound.
 //!
-//! It keeps the optimistic cost of the values that it was told: at each priority the weights of the true literals, and of
-//! those without a value the negative ones. A value only raises it, by what stands in the variable's row. Where the
+//! It keeps the optimistic cost of the values that it was told: at each priority the weights of the true literals, and for
+//! each variable without a value the lesser of what its values cost. A value only raises it, by what stands in its row. Where the
 //! optimistic cost isn't smaller than the bound, enough of the true literals that raised it make a nogood; where it wouldn't be with
 //! one more literal, that literal's complement follows, and they make its reason with it when that is asked for. At each
 //! priority the variables stand in the order of what they can add, so only those that may reach the bound are looked at, from

@@ -1,5 +1,5 @@
 //! The tables of a program's weights, priority by priority.
-ghost use Rattle.std.specs.Prelude.{◌≡◌, ◌<◌, ◌≤◌, ◌+◌, ◌*◌, ◌-◌, ◌^◌, IsTrue, [], ◌∷◌, ◌++◌, ℕ, IfOk, OnOk, pos, length, map, slice_index_or, slice_set, true};
+ghost use Rattle.std.specs.Prelude.{◌≡◌, ◌<◌, ◌≤◌, ◌+◌, ◌*◌, ◌-◌, ◌^◌, ◌≤ℤ◌, ◌+ℤ◌, neg_ℤ, IsTrue, [], ◌∷◌, ◌++◌, ℕ, IfOk, OnOk, pos, length, map, slice_index_or, slice_set, true};
 ghost use Rattle.std.specs.List.{All, AllPairs};
 ghost use Rattle.std.specs.List.Sorted.{IsPermutation};
 ghost use Rattle.std.specs.Int.RustNames.{unsigned_abs};
@@ -15,7 +15,7 @@ ghost use Rattle.asp_bound.specs.Kept.{IsOnce};
 ghost use Rattle.asp_bound.specs.Gathered.{IsGathered, AreGathered, HasEach};
 
 use crate::place::{Addition, Item, Place};
-use crate::rise::{beneath, rise};
+use crate::rise::rise;
 use crate::weights::{blank, lit_of, weights_at};
 use asp_model::cost::priorities;
 use asp_table::buckets::Buckets;
@@ -50,17 +50,18 @@ fn add_addition(
     Ok(())
 }
 
-// Adds what a variable adds by its weights, and puts these back to 0. The answer is what it costs at least, below 0.
+// Adds what a variable adds by its weights, and puts these back to 0. The answer is what it costs at least.
 fn take_addition(
     additions: &mut Vec<Addition>,
     weights: &mut [i64],
     var: Var,
-) -> Result<u64, AllocError>
+) -> Result<i64, AllocError>
     requires within { 2 * var + 1 < length weights.old }
     requires small { (c : ℕ) → c < length weights.old → unsigned_abs (slice_index_or weights.old c (pos 0)) < 2 ^ 56 }
     ensures additions { OnOk result (additions.new.items ≡ additions.old.items ++ additions_of var (weight_true weights.old var) (weight_false weights.old var)) }
     ensures weights { OnOk result (weights.new ≡ without weights.old var) }
     ensures least { IfOk result (λ n. n ≡ least_by weights.old var) }
+    ensures small { IfOk result (λ n. unsigned_abs n < 2 ^ 56) }
 {
     let place = 2 * var as usize;
     let if_true = weights[place];
@@ -68,16 +69,32 @@ fn take_addition(
     weights[place] = 0;
     weights[place + 1] = 0;
     add_addition(additions, var, if_true, if_false)?;
-    Ok(beneath(if_true) + beneath(if_false))
+    Ok(if_true.min(if_false))
 }
 
-// What the variables add at a priority, and what they cost at least, below 0.
+// What the variables add at a priority, and what they cost at least.
 #[derive(Drop)]
 struct Taken {
     /// What each adds.
     additions: Vec<Addition>,
-    /// The negative weights together, as a size.
-    least: u64,
+    /// What they cost at least, while none has a value.
+    least: i64,
+}
+
+fn add(sum: i128, more: i64) -> i128
+    requires low { neg_ℤ (pos (2 ^ 120)) ≤ℤ sum }
+    requires high { sum ≤ℤ pos (2 ^ 120) }
+    ensures { result ≡ sum +ℤ more }
+{
+    sum + more as i128
+}
+
+fn narrowed(sum: i128) -> i64
+    requires low { neg_ℤ (pos (2 ^ 60)) ≤ℤ sum }
+    requires high { sum ≤ℤ pos (2 ^ 60) }
+    ensures { result ≡ sum }
+{
+    sum as i64
 }
 
 // Takes what the variables of the items add out of the weights, which are 0 again afterwards.
@@ -90,16 +107,19 @@ fn take_additions(
     requires stand { All (λ i. IsTrue (has (atoms_of compiled.now) (atom_of i.0))) items.now }
     requires sums { AreWeights compiled.now items.now weights.old }
     requires small { size_of items.now ≤ 2 ^ 55 }
-    requires room { least_to weights.old (var_count compiled.now) < 2 ^ 60 }
+    requires low { neg_ℤ (pos (2 ^ 60)) ≤ℤ least_to weights.old (var_count compiled.now) }
+    requires high { least_to weights.old (var_count compiled.now) ≤ℤ pos (2 ^ 60) }
     ensures blank { OnOk result (AreWeights compiled.now [] weights.new) }
     ensures additions { IfOk result (λ t. IsPermutation (additions_to weights.old (var_count compiled.now)) t.additions.items) }
     ensures least { IfOk result (λ t. t.least ≡ least_to weights.old (var_count compiled.now)) }
 {
     let mut additions = Vec::new(alloc);
-    let mut least = 0;
+    let mut least: i128 = 0;
     for (literal, _) in items {
-        least += take_addition(&mut additions, weights, lit_of(compiled, *literal).var())?;
+        let more = take_addition(&mut additions, weights, lit_of(compiled, *literal).var())?;
+        least = add(least, more);
     }
+    let least = narrowed(least);
     Ok(Taken { additions, least })
 }
 
@@ -163,13 +183,13 @@ fn add_places(
     Ok(column)
 }
 
-// A priority's items, and the sum of what is negative at it.
+// A priority's items, and what its variables cost at least.
 #[derive(Drop)]
 struct Level {
     /// The variables that can add to it, the one that adds most first.
     column: Vec<Item>,
-    /// The negative weights together, as a size.
-    least: u64,
+    /// What they cost at least, while none has a value.
+    least: i64,
 }
 
 fn add_level(
@@ -230,7 +250,7 @@ fn levels_of(alloc: Global, compiled: &Compiled, priorities: &[i32]) -> Result<L
             *priority,
         )?;
         columns = columns.with_row(added.column.as_slice())?;
-        sums.push(-(added.least as i64))?;
+        sums.push(added.least)?;
     }
     Ok(Levels {
         rows,

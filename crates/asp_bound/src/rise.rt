@@ -1,19 +1,12 @@
 //! By how much a value raises the optimistic cost.
-ghost use Rattle.std.specs.Prelude.{◌≡◌, ◌<◌, ◌^◌, ◌+◌};
+ghost use Rattle.std.specs.Prelude.{◌≡◌, ◌<◌, ◌^◌};
 ghost use Rattle.std.specs.Int.RustNames.{unsigned_abs};
-ghost use Rattle.asp_bound.specs.Rises.{above, beneath, rise};
+ghost use Rattle.asp_bound.specs.Rises.{above, rise};
 
-fn above(weight: i64) -> u64
-    ensures { result ≡ above weight }
+fn above(number: i64) -> u64
+    ensures { result ≡ above number }
 {
-    if weight > 0 { weight as u64 } else { 0 }
-}
-
-/// By how much the weight is below 0.
-pub fn beneath(weight: i64) -> u64
-    ensures { result ≡ beneath weight }
-{
-    if weight < 0 { weight.unsigned_abs() } else { 0 }
+    if number > 0 { number as u64 } else { 0 }
 }
 
 /// What the value adds to the least cost of a variable without one, by the weights of the literals that it is true or false.
@@ -24,8 +17,8 @@ pub fn rise(truth: bool, if_true: i64, if_false: i64) -> u64
     ensures small { result < 2 ^ 57 }
 {
     if truth {
-        above(if_true) + beneath(if_false)
+        above(if_true - if_false)
     } else {
-        above(if_false) + beneath(if_true)
+        above(if_false - if_true)
     }
 }

@@ -3,7 +3,7 @@ ghost use Rattle.std.specs.Prelude.{◌≡◌, ◌+◌, ◌*◌, ◌^◌, ◌<�
 ghost use Rattle.std.specs.List.{AllByRecursion};
 ghost use Rattle.asp_model.specs.Costs.{priorities, betters, cost};
 ghost use Rattle.asp_vars.specs.Numbering.{var_count};
-ghost use Rattle.asp_bound.specs.Optimism.{least, negative};
+ghost use Rattle.asp_bound.specs.Optimism.{least};
 ghost use Rattle.asp_checker.specs.Propagation.{reaches_bound};
 ghost use Rattle.asp_checker.specs.Blocks.{level_sum, AreLevels, HasLevels, cost_of_bound};
 
@@ -42,25 +42,16 @@ fn add(sum: i128, more: i128) -> i128
     sum + more
 }
 
-// The weight, where it is negative.
-fn negative(weight: i64) -> i128
-    ensures value { result ≡ negative weight }
-    ensures low { neg_ℤ (pos (2 ^ 63)) ≤ℤ result }
-    ensures high { result ≤ℤ pos (2 ^ 63) }
-{
-    if weight < 0 { widened(weight) } else { 0 }
-}
-
 // What a variable costs at least.
 fn least(value: Option<bool>, if_true: i64, if_false: i64) -> i128
     ensures value { result ≡ least value if_true if_false }
-    ensures low { neg_ℤ (pos (2 ^ 64)) ≤ℤ result }
-    ensures high { result ≤ℤ pos (2 ^ 64) }
+    ensures low { neg_ℤ (pos (2 ^ 63)) ≤ℤ result }
+    ensures high { result ≤ℤ pos (2 ^ 63) }
 {
     match value {
         Some(true) => widened(if_true),
         Some(false) => widened(if_false),
-        None => add(negative(if_true), negative(if_false)),
+        None => widened(if_true.min(if_false)),
     }
 }
 

@@ -26,7 +26,7 @@ ghost use Rattle.asp_state.specs.SearchStates.{first_ranking, path_of, values_of
 
 use crate::assume::assume_all;
 use crate::completed::keep_completion;
-use crate::preferred::prefer_cheap;
+use crate::preferred::prefer_first;
 use crate::unlisted::begin_unlisted;
 use asp_model::cost::Cost;
 use asp_order::order::Order;
@@ -125,7 +125,7 @@ impl<P: Propagator> SearchState<P> {
         order.age(AGE);
         match keep_completion(alloc, compiled, &mut engine, &mut order) {
             Ok(()) => {
-                prefer_cheap(&mut order, compiled);
+                prefer_first(&mut order, compiled);
                 Ok(SearchState {
                     engine,
                     order,

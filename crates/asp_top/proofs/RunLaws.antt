@@ -35,7 +35,7 @@ use Rattle.asp_named.proofs.LimitLaws.{sound-named}
 use Rattle.asp_top.specs.Naming.{asked, asked_if, is_named}
 use Rattle.asp_top.specs.Notes.{is_written}
 use Rattle.asp_top.specs.Parting.{Divides, HandingMeans}
-use Rattle.asp_top.specs.Runs.{Around, DeliveryMeans, Does, DoesBy, HasNumbers, IsAnswered, IsDivided, IsExact, IsGiven, IsOver, IsReady, IsSaid, IsSentOn, IsSolved, Means, Prepares, Runs, Says, Solves, WhyNot, around, ask_of, layout_of, prepared_of, report_text, report_with, searched, set_aside, status_of, told_with}
+use Rattle.asp_top.specs.Runs.{Around, DeliveryMeans, Does, DoesBy, HasNumbers, IsAnswered, IsDivided, IsExact, IsGiven, IsOver, IsReady, IsSaid, IsSentOn, IsSolved, Means, Prepares, Runs, Says, Solves, TellsClosed, WhyNot, around, ask_of, layout_of, prepared_of, report_text, report_with, searched, set_aside, status_of, told_with}
 use Rattle.asp_top.specs.declared.prepare.Prepared.{Prepared}
 use Rattle.asp_top.proofs.ToldLaws.{told-model, told-says, told-text}
 use Rattle.asp_model.specs.Sound.{IsSound}
@@ -355,6 +355,42 @@ unwritten given l l' r r' status over = by status (over (Some []) 0).means
 pub nothing-to-send : (given : Options) (l l' : Option (List ℕ)) (r r' : ℕ) (status : Status) (o : Outcome) (is_sent : Bool) → IsOver given l l' r r' status → o ≡ record { status = status; report = None } → IsSentOn o.status is_sent
 nothing-to-send given l l' r r' status o is_sent over is =
     λ done. absurd (false≢true (sym (unwritten given l l' r r' status over) ∙ (sym (ap (λ (x : Outcome). is_written x.status) is) ∙ done)))
+
+no-rise : Rose 0 0 → ⊥
+no-rise rose = omega (arith, rose)
+
+-- A run that ends before there is a program has lost nothing.
+lost-nothing : (given : Options) (l l' : Option (List ℕ)) (r r' : ℕ) (status : Status) (is_closed : Bool) → IsOver given l l' r r' status → TellsClosed status is_closed
+lost-nothing given l l' r r' status is_closed over = by status (over (Some []) 0).means
+  where
+    by : (s : Status) → Means given (around l l' r r' (Some []) (Some []) 0 0) None s → TellsClosed s is_closed
+    by All m = tt
+    by NoModel m = tt
+    by Partial m = tt
+    by Unknown m = tt
+    by Enough m = tt
+    by Help m = tt
+    by Memory m = tt
+    by Usage m = tt
+    by (Refused fault line) m = tt
+    by ReadFault m = tt
+    by TooLong m = tt
+    by Unnamed m = tt
+    by (WriteFault closed) (inl m) = absurd (no-rise m.cause)
+    by (WriteFault closed) (inr m) = absurd (no-rise m.cause)
+    by Parts m = tt
+
+pub nothing-closed : (given : Options) (l l' : Option (List ℕ)) (r r' : ℕ) (status : Status) (o : Outcome) (is_closed : Bool) → IsOver given l l' r r' status → o ≡ record { status = status; report = None } → TellsClosed o.status is_closed
+nothing-closed given l l' r r' status o is_closed over is =
+    subst (λ (x : Outcome). TellsClosed x.status is_closed) (sym is) (lost-nothing given l l' r r' status is_closed over)
+
+-- a status that tells of results tells of no lost output
+pub answered-closed : (end : End) (model is_closed : Bool) → TellsClosed (status_for end model) is_closed
+answered-closed Finished true is_closed = tt
+answered-closed Finished false is_closed = tt
+answered-closed Limited model is_closed = tt
+answered-closed Unfinished true is_closed = tt
+answered-closed Unfinished false is_closed = tt
 
 pub ok-no-fault : (p : Program) (e : ReadError) → ¬ IsErrOf (Ok p) e
 ok-no-fault p e is = cc

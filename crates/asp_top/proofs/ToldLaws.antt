@@ -3,7 +3,9 @@ use Rattle.std.proofs.Common.{◌≡◌, ℕ, ◌+◌, Bool, true, false, not, �
 use Rattle.std.specs.Prelude.{Option, None, Some, Result, Ok, IfOk, IfSome, option_map, is_some, codes, decimal}
 use Rattle.std.specs.List.{join_with_byte}
 use Rattle.std.proofs.lemmas.List.{length-map}
+use Rattle.asp_model.specs.declared.program.Minimize.{Minimize}
 use Rattle.asp_model.specs.declared.program.Program.{Program}
+use Rattle.asp_model.specs.declared.program.Rule.{Rule}
 use Rattle.asp_model.specs.declared.results.Ask.{Ask}
 use Rattle.asp_model.specs.declared.results.End.{End}
 use Rattle.asp_model.specs.declared.results.End.TheVariants.{Finished, Limited, Unfinished}
@@ -25,7 +27,10 @@ use Rattle.asp_top.specs.Naming.{asked, is_json, is_named, is_settled}
 use Rattle.asp_cli.specs.Found.{seeks_consequences}
 use Rattle.asp_settle.specs.Settled.{facts_of, left_of, united, without}
 use Rattle.asp_settle.proofs.StableLaws.{contains-map}
-use Rattle.asp_settle.proofs.SettledLaws.{all-consequences, chosen-left, consequences-left, cost-left, optima-chosen, optima-left, optimum-left, same-answers, shown-left}
+use Rattle.asp_settle.proofs.SettledLaws.{all-consequences, chosen-left, consequences-left, cost-left, optima-chosen, optima-left, optimum-left, same-answers, shown-left, sound-left}
+use Rattle.asp_model.proofs.ModelLaws.{answers-are}
+use Rattle.asp_unfold.specs.Unfolded.{unfolded, unfolded_minimize}
+use Rattle.asp_unfold.proofs.SameLaws.{same-answers as same-unfolded, same-consequences, same-cost, same-optima, same-optimum}
 use Rattle.asp_proof.specs.declared.proof.Proof.{Proof}
 use Rattle.asp_crew_laws.specs.declared.report.Report.{Report}
 use Rattle.asp_crew_laws.specs.Runs.{IsBest, IsFound}
@@ -33,7 +38,7 @@ use Rattle.asp_crew_laws.specs.Reports.{HasBest, IsAllFound, IsPart, IsPartOf, I
 use Rattle.asp_crew_laws.specs.Proofs.{HasProof, HasProofAt}
 use Rattle.asp_cli.specs.declared.Options.{Options}
 use Rattle.asp_top.specs.Parting.{Divides}
-use Rattle.asp_top.specs.Meaning.{has_model, has_model_in, mode_of}
+use Rattle.asp_top.specs.Meaning.{has_model, has_model_in, mode_by, mode_of}
 use Rattle.asp_top.specs.Runs.{Concludes, Delivers, Does, DoesBy, IsCounted, Solves, ask_of, found_with, layout_of, prepared_of, report_text, text_in, report_with, searched, set_aside, text_by, told_with}
 use Rattle.asp_top.specs.declared.counts.Tally.{Tally}
 use Rattle.asp_json.specs.Json.{array, best_costs, best_text, call_text, closing_text, json_text, known_text, known_texts, models_text, more, optimum_text, recorded_text, result_text, witness, witnesses}
@@ -43,6 +48,56 @@ use Rattle.asp_cli.specs.declared.Form.TheVariants.{Text, Json}
 use Rattle.asp_top.specs.declared.deliver.Layout.{Layout}
 use Rattle.asp_top.specs.declared.prepare.Prepared.{Prepared}
 use Rattle.asp_top.specs.declared.status.Outcome.{Outcome}
+
+-- ---- what a report says of a program whose minimise statements were unfolded
+priced-unfolded : (p : Program) (best : Option (Atoms × List ℤ)) → IsSound p → IfSome best (IsPriced (unfolded p)) → IfSome best (IsPriced p)
+priced-unfolded p None sound h = h
+priced-unfolded p (Some b) sound h =
+    let answer : Contains (answers p) b.0 = subst (λ Ss. Contains Ss b.0) (same-unfolded p) h.0 in
+    (answer, h.1 ∙ same-cost p b.0 sound ((answers-are p b.0).0 answer).0)
+
+part-unfolded : (p : Program) (mode : Mode) (r : Found) → IsSound p → IsPart (unfolded p) mode r → IsPart p mode r
+part-unfolded p Enum r sound h = ((h.0.0, h.0.1 ∙ ap (filter h.0.0) (same-unfolded p)), h.1)
+part-unfolded p Opt r sound h = (h.0, priced-unfolded p r.best sound h.1)
+part-unfolded p (Consequences w) r sound h =
+    (h.0, h.1, (h.2.0, h.2.1 ∙ (same-consequences w p (filter h.2.0 (answers (unfolded p))) ∙ ap (λ Ss. consequences_of w p (filter h.2.0 Ss)) (same-unfolded p))))
+
+part_of-unfolded : (p : Program) (all : Bool) (mode : Mode) (r : Found) → IsSound p → IsPartOf all (unfolded p) mode r → IsPartOf all p mode r
+part_of-unfolded p false mode r sound h = part-unfolded p mode r sound h
+part_of-unfolded p true Enum r sound h = part-unfolded p Enum r sound h
+part_of-unfolded p true (Consequences w) r sound h = part-unfolded p (Consequences w) r sound h
+part_of-unfolded p true Opt r sound h = ((h.0.0, h.0.1 ∙ ap (filter h.0.0) (same-optima p sound)), priced-unfolded p r.best sound h.1)
+
+best-unfolded : (p : Program) (best : Option (Atoms × List ℤ)) → IsSound p → IsBest (unfolded p) best → IsBest p best
+best-unfolded p None sound h = sym (same-unfolded p) ∙ h
+best-unfolded p (Some b) sound h = same-optimum p b.0 b.1 sound h
+
+found-unfolded : (p : Program) (mode : Mode) (L : List Atoms) (best : Option (Atoms × List ℤ)) (known : Option Atoms) → IsSound p → IsFound (unfolded p) mode L best known → IsFound p mode L best known
+found-unfolded p Enum L best known sound h = (h.0 ∙ same-unfolded p, h.1)
+found-unfolded p Opt L best known sound h = (h.0, best-unfolded p best sound h.1)
+found-unfolded p (Consequences w) L best known sound h = (h.0, h.1, h.2 ∙ (same-consequences w p (answers (unfolded p)) ∙ ap (consequences_of w p) (same-unfolded p)))
+
+all_found-unfolded : (p : Program) (all : Bool) (mode : Mode) (L : List Atoms) (best : Option (Atoms × List ℤ)) (known : Option Atoms) → IsSound p → IsAllFound all (unfolded p) mode L best known → IsAllFound all p mode L best known
+all_found-unfolded p false mode L best known sound h = found-unfolded p mode L best known sound h
+all_found-unfolded p true Enum L best known sound h = found-unfolded p Enum L best known sound h
+all_found-unfolded p true (Consequences w) L best known sound h = found-unfolded p (Consequences w) L best known sound h
+all_found-unfolded p true Opt L best known sound h = (h.0 ∙ same-optima p sound, best-unfolded p best sound h.1)
+
+has_best-unfolded : (p : Program) (mode : Mode) (best : Option (Atoms × List ℤ)) → IsSound p → HasBest (unfolded p) mode best → HasBest p mode best
+has_best-unfolded p Enum best sound h = tt
+has_best-unfolded p Opt best sound h = best-unfolded p best sound h
+has_best-unfolded p (Consequences w) best sound h = tt
+
+says-unfolded : (p : Program) (ask : Ask) (r : Report) (end : End) → IsSound p → SaysReport (unfolded p) ask r end → SaysReport p ask r end
+says-unfolded p ask r Finished sound h = all_found-unfolded p ask.all_optima ask.mode r.results.answers r.results.best r.results.known sound h
+says-unfolded p ask r Limited sound h = record {
+  listing = h.listing;
+  some = h.some;
+  count = h.count;
+  part = part_of-unfolded p ask.all_optima ask.mode r.results sound h.part;
+  best = has_best-unfolded p ask.mode r.results.best sound h.best;
+}
+says-unfolded p ask r Unfinished sound h = (part_of-unfolded p ask.all_optima ask.mode r.results sound h.0, h.1)
 
 -- ---- what a report says
 priced-left : (p : Program) (best : Option (Atoms × List ℤ)) → IsSound p → IfSome best (IsPriced (left_of p)) → IfSome (option_map (λ b. (united (facts_of p) b.0, b.1)) best) (IsPriced p)
@@ -102,12 +157,16 @@ says-left p ask r Limited sound h = record {
 says-left p ask r Unfinished sound h = (part_of-left p ask.all_optima ask.mode r.results sound h.0, h.1)
 
 -- ---- the text
-same-line : (p : Program) (i : ℕ) (S : Atoms) → answer_lines (left_of p) i S ≡ answer_lines p i (united (facts_of p) S)
+-- what is searched of a program
+abbrev rest : Program → Program
+rest p = unfolded (left_of p)
+
+same-line : (p : Program) (i : ℕ) (S : Atoms) → answer_lines (rest p) i S ≡ answer_lines p i (united (facts_of p) S)
 same-line p i S = ap (λ (ts : List (List ℕ)). ended_line (codes "Answer: " ++ decimal i) ++ ended_line (join_with_byte 32 ts)) (sym (shown-left p S))
 
-same-lines : (p : Program) (i : ℕ) (Ss : List Atoms) → answers_from (left_of p) i Ss ≡ answers_from p i (map (united (facts_of p)) Ss)
+same-lines : (p : Program) (i : ℕ) (Ss : List Atoms) → answers_from (rest p) i Ss ≡ answers_from p i (map (united (facts_of p)) Ss)
 same-lines p i [] = refl
-same-lines p i (S ∷ Ss) = ap (λ xs. xs ++ answers_from (left_of p) (i + 1) Ss) (same-line p i S) ∙ ap (λ xs. answer_lines p i (united (facts_of p) S) ++ xs) (same-lines p (i + 1) Ss)
+same-lines p i (S ∷ Ss) = ap (λ xs. xs ++ answers_from (rest p) (i + 1) Ss) (same-line p i S) ∙ ap (λ xs. answer_lines p i (united (facts_of p) S) ++ xs) (same-lines p (i + 1) Ss)
 
 best_answers-with : (F : Atoms) (best : Option (Atoms × List ℤ)) → best_answers (option_map (λ b. (united F b.0, b.1)) best) ≡ map (united F) (best_answers best)
 best_answers-with F None = refl
@@ -155,22 +214,22 @@ or-twice false true = refl
 or-twice false false = refl
 
 -- where the facts hold already
-shown-again : (p : Program) (B : Atoms) → shown (left_of p) (united (facts_of p) B) ≡ shown p (united (facts_of p) B)
+shown-again : (p : Program) (B : Atoms) → shown (rest p) (united (facts_of p) B) ≡ shown p (united (facts_of p) B)
 shown-again p B =
     let F = facts_of p in
     sym (shown-left p (united F B))
     ∙ texts-same (united F (united F B)) (united F B) (λ a. has-united F (united F B) a ∙ ap (λ (b : Bool). b || has F a) (has-united F B a) ∙ or-twice (has B a) (has F a) ∙ sym (has-united F B a)) p.outputs
 
-known-again : (names : Bool) (p : Program) (known : Option Atoms) → known_line names (left_of p) (option_map (united (facts_of p)) known) ≡ known_line names p (option_map (united (facts_of p)) known)
+known-again : (names : Bool) (p : Program) (known : Option Atoms) → known_line names (rest p) (option_map (united (facts_of p)) known) ≡ known_line names p (option_map (united (facts_of p)) known)
 known-again false p known = refl
 known-again true p None = refl
 known-again true p (Some B) = ap named_line (shown-again p B)
 
-texts-again : (p : Program) (known : Option Atoms) → known_texts (left_of p) (option_map (united (facts_of p)) known) ≡ known_texts p (option_map (united (facts_of p)) known)
+texts-again : (p : Program) (known : Option Atoms) → known_texts (rest p) (option_map (united (facts_of p)) known) ≡ known_texts p (option_map (united (facts_of p)) known)
 texts-again p None = refl
 texts-again p (Some B) = shown-again p B
 
-sums-with : (names : Bool) (p : Program) (mode : Mode) (r : Found) → sums_line names (left_of p) mode (told (facts_of p) r) ≡ sums_line names p mode (found_with (facts_of p) r)
+sums-with : (names : Bool) (p : Program) (mode : Mode) (r : Found) → sums_line names (rest p) mode (told (facts_of p) r) ≡ sums_line names p mode (found_with (facts_of p) r)
 sums-with names p Enum r = refl
 sums-with names p Opt r = cost_line-with (facts_of p) r.best
 sums-with names p (Consequences w) r = known-again names p r.known
@@ -185,27 +244,27 @@ recorded-told F Enum r = refl
 recorded-told F Opt r = refl
 recorded-told F (Consequences w) r = refl
 
-text-left : (p : Program) (r : Found) (brief names : Bool) → printed_text (left_of p) (told (facts_of p) r) brief names ≡ printed_text p (found_with (facts_of p) r) brief names
+text-left : (p : Program) (r : Found) (brief names : Bool) → printed_text (rest p) (told (facts_of p) r) brief names ≡ printed_text p (found_with (facts_of p) r) brief names
 text-left p r brief names =
     let F = facts_of p in
-    let lines : answers_from (left_of p) 1 (recorded r.mode (told F r)) ≡ answers_from p 1 (recorded r.mode (found_with F r)) =
-    ap (answers_from (left_of p) 1) (recorded-told F r.mode r) ∙ same-lines p 1 (recorded r.mode r) ∙ ap (answers_from p 1) (sym (recorded-with F r.mode r)) in
-    ap (λ xs. cond brief [] xs ++ sums_line names (left_of p) r.mode (told F r) ++ closing_lines r (found_count r.mode (told F r))) lines
+    let lines : answers_from (rest p) 1 (recorded r.mode (told F r)) ≡ answers_from p 1 (recorded r.mode (found_with F r)) =
+    ap (answers_from (rest p) 1) (recorded-told F r.mode r) ∙ same-lines p 1 (recorded r.mode r) ∙ ap (answers_from p 1) (sym (recorded-with F r.mode r)) in
+    ap (λ xs. cond brief [] xs ++ sums_line names (rest p) r.mode (told F r) ++ closing_lines r (found_count r.mode (told F r))) lines
     ∙ ap (λ xs. cond brief [] (answers_from p 1 (recorded r.mode (found_with F r))) ++ xs ++ closing_lines r (found_count r.mode (told F r))) (sums-with names p r.mode r)
     ∙ ap (λ k. cond brief [] (answers_from p 1 (recorded r.mode (found_with F r))) ++ sums_line names p r.mode (found_with F r) ++ closing_lines r k) (count-with F r.mode r)
 
 -- ---- the same as JSON
-witness-left : (p : Program) (best : Option (Atoms × List ℤ)) (S : Atoms) → witness (left_of p) best S ≡ witness p best (united (facts_of p) S)
+witness-left : (p : Program) (best : Option (Atoms × List ℤ)) (S : Atoms) → witness (rest p) best S ≡ witness p best (united (facts_of p) S)
 witness-left p best S = ap (λ (ts : List (List ℕ)). codes "\n{\"Value\":" ++ array (map quoted ts) ++ best_costs best ++ codes "}") (sym (shown-left p S))
 
 witness-with : (F : Atoms) (p : Program) (best : Option (Atoms × List ℤ)) (S : Atoms) → witness p best S ≡ witness p (option_map (λ b. (united F b.0, b.1)) best) S
 witness-with F p None S = refl
 witness-with F p (Some b) S = refl
 
-each-left : (p : Program) (best : Option (Atoms × List ℤ)) (Ss : List Atoms) → map (witness (left_of p) best) Ss ≡ map (witness p best) (map (united (facts_of p)) Ss)
+each-left : (p : Program) (best : Option (Atoms × List ℤ)) (Ss : List Atoms) → map (witness (rest p) best) Ss ≡ map (witness p best) (map (united (facts_of p)) Ss)
 each-left p best [] = refl
 each-left p best (S ∷ Ss) =
-    ap (λ (t : List ℕ). t ∷ map (witness (left_of p) best) Ss) (witness-left p best S) ∙ ap (λ (ts : List (List ℕ)). witness p best (united (facts_of p) S) ∷ ts) (each-left p best Ss)
+    ap (λ (t : List ℕ). t ∷ map (witness (rest p) best) Ss) (witness-left p best S) ∙ ap (λ (ts : List (List ℕ)). witness p best (united (facts_of p) S) ∷ ts) (each-left p best Ss)
 
 each-with : (F : Atoms) (p : Program) (best : Option (Atoms × List ℤ)) (Ss : List Atoms) → map (witness p best) Ss ≡ map (witness p (option_map (λ b. (united F b.0, b.1)) best)) Ss
 each-with F p best [] = refl
@@ -215,7 +274,7 @@ each-with F p best (S ∷ Ss) =
 abbrev bracketed : List (List ℕ) → List ℕ
 bracketed ts = codes "\"Witnesses\":[" ++ join_with_byte 44 ts ++ codes "\n]"
 
-witnesses-left : (p : Program) (best : Option (Atoms × List ℤ)) (Ss : List Atoms) → witnesses (left_of p) best Ss ≡ witnesses p best (map (united (facts_of p)) Ss)
+witnesses-left : (p : Program) (best : Option (Atoms × List ℤ)) (Ss : List Atoms) → witnesses (rest p) best Ss ≡ witnesses p best (map (united (facts_of p)) Ss)
 witnesses-left p best [] = refl
 witnesses-left p best (S ∷ Ss) = ap bracketed (each-left p best (S ∷ Ss))
 
@@ -223,7 +282,7 @@ witnesses-with : (F : Atoms) (p : Program) (best : Option (Atoms × List ℤ)) (
 witnesses-with F p best [] = refl
 witnesses-with F p best (S ∷ Ss) = ap bracketed (each-with F p best (S ∷ Ss))
 
-recorded_text-left : (p : Program) (mode : Mode) (r : Found) → recorded_text (left_of p) mode (told (facts_of p) r) ≡ recorded_text p mode (found_with (facts_of p) r)
+recorded_text-left : (p : Program) (mode : Mode) (r : Found) → recorded_text (rest p) mode (told (facts_of p) r) ≡ recorded_text p mode (found_with (facts_of p) r)
 recorded_text-left p Enum r = witnesses-left p None r.answers
 recorded_text-left p Opt r =
     witnesses-left p r.best (bests r.best r.answers) ∙ ap (witnesses p r.best) (sym (bests-with (facts_of p) r.best r.answers))
@@ -249,14 +308,14 @@ closing-with F r texts k =
     ap (λ (xs : List ℕ). xs ++ result_text r k ++ models_text (told F r) k) (known_text-with F r.mode r texts)
     ∙ ap (λ (xs : List ℕ). known_text r.mode (found_with F r) texts ++ result_text r k ++ (codes ",\"Models\":{\"Number\":" ++ decimal k ++ codes ",\"More\":\"" ++ more r.end ++ codes "\"" ++ xs ++ codes "}}\n")) (best_text-with F r.mode r k)
 
-json-left : (p : Program) (r : Found) (brief : Bool) → json_text (left_of p) (told (facts_of p) r) brief ≡ json_text p (found_with (facts_of p) r) brief
+json-left : (p : Program) (r : Found) (brief : Bool) → json_text (rest p) (told (facts_of p) r) brief ≡ json_text p (found_with (facts_of p) r) brief
 json-left p r brief =
     let F = facts_of p in
-    let texts = known_texts (left_of p) (option_map (united F) r.known) in
+    let texts = known_texts (rest p) (option_map (united F) r.known) in
     ap (λ (xs : List ℕ). codes "{\"Solver\":\"aspenum\",\"Call\":[{" ++ cond brief [] xs ++ codes "}]" ++ closing_text (told F r) texts (found_count r.mode (told F r))) (recorded_text-left p r.mode r)
     ∙ ap (λ (xs : List ℕ). call_text p (found_with F r) brief ++ xs) (closing-with F r texts (found_count r.mode (told F r)) ∙ ap (closing_text (found_with F r) texts) (count-with F r.mode r) ∙ ap (λ (ts : List (List ℕ)). closing_text (found_with F r) ts (found_count r.mode (found_with F r))) (texts-again p r.known))
 
-text_in-left : (form : Form) (p : Program) (r : Found) (brief names : Bool) → text_in form (left_of p) (told (facts_of p) r) brief names ≡ text_in form p (found_with (facts_of p) r) brief names
+text_in-left : (form : Form) (p : Program) (r : Found) (brief names : Bool) → text_in form (rest p) (told (facts_of p) r) brief names ≡ text_in form p (found_with (facts_of p) r) brief names
 text_in-left Text p r brief names = text-left p r brief names
 text_in-left Json p r brief names = json-left p r brief
 
@@ -298,9 +357,9 @@ unasked given e = by given.proof e
     by true h = absurd cc
     by false h = refl
 
-text_without : (p : Program) (r : Report) (layout : Layout) → r.proof ≡ None → report_text (left_of p) (told_with (facts_of p) r) layout ≡ report_text p (report_with (facts_of p) r) layout
+text_without : (p : Program) (r : Report) (layout : Layout) → r.proof ≡ None → report_text (rest p) (told_with (facts_of p) r) layout ≡ report_text p (report_with (facts_of p) r) layout
 text_without p r layout none =
-    ap (λ proof. text_by proof (left_of p) (told (facts_of p) r.results) layout) none
+    ap (λ proof. text_by proof (rest p) (told (facts_of p) r.results) layout) none
     ∙ text_in-left layout.form p r.results layout.brief layout.names
     ∙ ap (λ proof. text_by proof p (found_with (facts_of p) r.results) layout) (sym none)
 
@@ -308,15 +367,15 @@ pub told-text : (given : Options) (p : Program) (r : Report) (layout : Layout) �
     report_text (searched given p) (told_with (set_aside given p) r) layout ≡ report_text (asked given p) (report_with (set_aside given p) r) layout
 told-text given p r layout proof = by (asked given p) (is_settled given) refl
   where
-    by : (q : Program) (b : Bool) → is_settled given ≡ b → report_text (cond b (left_of q) q) (told_with (cond b (facts_of q) []) r) layout ≡ report_text q (report_with (cond b (facts_of q) []) r) layout
+    by : (q : Program) (b : Bool) → is_settled given ≡ b → report_text (cond b (rest q) q) (told_with (cond b (facts_of q) []) r) layout ≡ report_text q (report_with (cond b (facts_of q) []) r) layout
     by q true e = text_without q r layout (no-proof r.results.end r.results r.proof (subst (λ wanted. HasProof wanted r) (unasked given e) proof))
     by q false e = ap (λ x. report_text q x layout) (same-told r ∙ sym (same-report r))
 
 pub told-says : (given : Options) (p : Program) (ask : Ask) (r : Report) (end : End) → IsSound (asked given p) → SaysReport (searched given p) ask r end → SaysReport (asked given p) ask (report_with (set_aside given p) r) end
 told-says given p ask r end sound h = by (asked given p) (is_settled given) sound h
   where
-    by : (q : Program) (b : Bool) → IsSound q → SaysReport (cond b (left_of q) q) ask r end → SaysReport q ask (report_with (cond b (facts_of q) []) r) end
-    by q true sound s = says-left q ask r end sound s
+    by : (q : Program) (b : Bool) → IsSound q → SaysReport (cond b (rest q) q) ask r end → SaysReport q ask (report_with (cond b (facts_of q) []) r) end
+    by q true sound s = says-left q ask r end sound (says-unfolded (left_of q) ask r end (sound-left q sound) s)
     by q false sound s = subst (λ x. SaysReport q ask x end) (sym (same-report r)) s
 
 some-known : (F : Atoms) (known : Option Atoms) → is_some (option_map (united F) known) ≡ is_some known
@@ -332,8 +391,12 @@ pub told-model : (F : Atoms) (r : Report) → has_model (told_with F r).results 
 told-model F r = model-in F r.results.mode r.results
 
 -- ---- a report that was told
-same-mode : (o : Option Mode) (p : Program) → mode_of o (left_of p) ≡ mode_of o p
-same-mode None p = refl
+same-kind : (rules : List Rule) (ms : List Minimize) → mode_by (map (unfolded_minimize rules) ms) ≡ mode_by ms
+same-kind rules [] = refl
+same-kind rules (m ∷ ms) = refl
+
+same-mode : (o : Option Mode) (p : Program) → mode_of o (rest p) ≡ mode_of o p
+same-mode None p = same-kind (left_of p).rules p.minimize
 same-mode (Some mode) p = refl
 
 named-mode : (o : Option Mode) (p : Program) → mode_of o (named p) ≡ mode_of o p
@@ -343,7 +406,7 @@ named-mode (Some mode) p = refl
 same-ask : (given : Options) (p : Program) → ask_of given (searched given p) ≡ ask_of given p
 same-ask given p = by (asked given p) (is_settled given) ∙ named-ask (is_named given)
   where
-    by : (q : Program) (b : Bool) → ask_of given (cond b (left_of q) q) ≡ ask_of given q
+    by : (q : Program) (b : Bool) → ask_of given (cond b (rest q) q) ≡ ask_of given q
     by q true = ap (λ mode. record { mode = mode; models = given.models; all_optima = given.all_optima }) (same-mode given.mode q)
     by q false = refl
 
@@ -375,7 +438,7 @@ whole-parted : (given : Options) (p : Program) (x : Prepared) (most : ℕ) → g
 whole-parted given p x most parted is =
     let whole : is_settled given ≡ false = by given.proof (ap is_some parted) in
     ap (λ (y : Prepared). y.compiled) is
-    ∙ ap (λ (b : Bool). cond b (left_of (asked given p)) (asked given p)) whole
+    ∙ ap (λ (b : Bool). cond b (rest (asked given p)) (asked given p)) whole
     ∙ ap (λ (b : Bool). cond (b && seeks_consequences (Some given.mode) && (given.names || is_json given.form)) (named p) p) whole
   where
     by : (b : Bool) → is_some given.split ≡ true → not (b || is_some given.split) ≡ false

@@ -268,6 +268,11 @@ TellsFaults writes writes' status = ¬ IsLost status → writes' ≡ writes
 abbrev pub IsSentOn : Status → Bool → Type 0
 IsSentOn status is_sent = is_written status ≡ true → is_sent ≡ true
 
+-- where the sink failed, the status says what the sink says: whether nobody reads any more
+abbrev pub TellsClosed : Status → Bool → Type 0
+TellsClosed (WriteFault closed) is_closed = closed ≡ is_closed
+TellsClosed status is_closed = Unit {0}
+
 -- the text of the report was written, or cut off by a fault
 abbrev pub DeliveryMeans : Layout → Program → Report → Option (List ℕ) → Option (List ℕ) → ℕ → ℕ → Status → Type 0
 DeliveryMeans layout p r held held' writes writes' status =

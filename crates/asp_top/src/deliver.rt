@@ -4,7 +4,7 @@ ghost use Rattle.asp_json.specs.Json.{json_text};
 ghost use Rattle.asp_print.specs.Named.{printed_text};
 ghost use Rattle.asp_proof.specs.Texts.{text_of};
 ghost use Rattle.asp_top.specs.Notes.{Writes};
-ghost use Rattle.asp_top.specs.Runs.{Delivers, IsSentOn, TellsFaults, report_text, text_in};
+ghost use Rattle.asp_top.specs.Runs.{Delivers, IsSentOn, TellsClosed, TellsFaults, report_text, text_in};
 
 use crate::solve::status_for;
 use crate::status::{Outcome, Status};
@@ -135,6 +135,7 @@ pub fn deliver<K: Sink>(
     ensures delivers { Delivers layout program.now report (K.held sink.old) (K.held sink.new) (K.faults sink.old) (K.faults sink.new) result }
     ensures flushed { TellsFaults (K.faults sink.old) (K.faults sink.new) result.status }
     ensures sent { IsSentOn result.status (K.is_sent sink.new) }
+    ensures closed { TellsClosed result.status (K.is_closed sink.new) }
 {
     let status = match write_report(alloc, sink, layout, program, &report) {
         Ok(()) => status_for(&report.results),

@@ -3,7 +3,7 @@ ghost use Rattle.std.specs.Prelude.{◌≡◌, ◌<◌, IfOk, OnOk, Some, true};
 ghost use Rattle.asp_cli.specs.Values.{IsPartCount};
 ghost use Rattle.asp_top.specs.Notes.{Writes};
 ghost use Rattle.asp_top.specs.Parting.{Divides, Hands, IsPartsText};
-ghost use Rattle.asp_top.specs.Runs.{IsSentOn, TellsFaults};
+ghost use Rattle.asp_top.specs.Runs.{IsSentOn, TellsClosed, TellsFaults};
 
 use crate::deliver::failed;
 use crate::notes::write;
@@ -40,6 +40,7 @@ fn hand_out<K: Sink>(sink: &mut K, text: &[u8]) -> Outcome
     ensures hands { Hands text.now (K.held sink.old) (K.held sink.new) (K.faults sink.old) (K.faults sink.new) result }
     ensures flushed { TellsFaults (K.faults sink.old) (K.faults sink.new) result.status }
     ensures sent { IsSentOn result.status (K.is_sent sink.new) }
+    ensures closed { TellsClosed result.status (K.is_closed sink.new) }
 {
     match write_text(sink, text) {
         Ok(()) => failed(Status::Parts),
@@ -53,6 +54,7 @@ pub fn divide<K: Sink>(alloc: Global, compiled: &Compiled, most: u32, sink: &mut
     ensures divides { Divides compiled.now most (K.held sink.old) (K.held sink.new) (K.faults sink.old) (K.faults sink.new) result }
     ensures flushed { TellsFaults (K.faults sink.old) (K.faults sink.new) result.status }
     ensures sent { IsSentOn result.status (K.is_sent sink.new) }
+    ensures closed { TellsClosed result.status (K.is_closed sink.new) }
 {
     match text_of_parts(alloc, compiled, most) {
         Ok(text) => hand_out(sink, text.as_slice()),

@@ -9,6 +9,7 @@ ghost use Rattle.asp_model.specs.Sound.{IsSound};
 ghost use Rattle.asp_cli.specs.Found.{seeks_consequences};
 ghost use Rattle.asp_cli.specs.Values.{IsRing};
 ghost use Rattle.asp_settle.specs.Settled.{facts_of, left_of};
+ghost use Rattle.asp_unfold.specs.Unfolded.{unfolded};
 ghost use Rattle.asp_top.specs.Naming.{asked_if, facts_for, is_json, is_named, is_settled, left_for};
 ghost use Rattle.asp_top.specs.Runs.{HasNumbers, Prepares, WhyNot, prepared_of, status_of};
 
@@ -24,6 +25,7 @@ use asp_read::fault::ReadError;
 use asp_read::read_program;
 use asp_settle::settle::{Settled, settle};
 use asp_smodels::read_smodels;
+use asp_unfold::unfold::unfold;
 use asp_vars::compile::compile;
 use asp_vars::compiled::Compiled;
 use std::alloc::{AllocError, Global};
@@ -95,14 +97,15 @@ fn asked(alloc: Global, options: &Options, program: Program) -> Result<Option<Pr
     }
 }
 
-// The program without its facts, compiled.
+// The program without its facts, its minimise statements unfolded, compiled.
 fn without_facts(alloc: Global, program: Program) -> Result<Prepared, AllocError>
     requires { IsSound program }
-    ensures { IfOk result (λ prepared. prepared ≡ record { compiled = left_of program; facts = facts_of program }) }
+    ensures { IfOk result (λ prepared. prepared ≡ record { compiled = unfolded (left_of program); facts = facts_of program }) }
 {
     let settled = settle(alloc, program)?;
     let Settled { facts, left } = settled;
-    let compiled = compile(alloc, left)?;
+    let unfolded = unfold(alloc, left)?;
+    let compiled = compile(alloc, unfolded)?;
     Ok(Prepared { compiled, facts })
 }
 

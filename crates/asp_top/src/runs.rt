@@ -7,7 +7,7 @@ ghost use Rattle.asp_cli.specs.Texts.{help_page, version_line};
 ghost use Rattle.asp_cli.specs.Values.{IsCrew, IsPartCount, IsRing};
 ghost use Rattle.asp_top.specs.Notes.{IsNoted, Writes, note_of};
 ghost use Rattle.asp_top.specs.Usage.{misuse_note};
-ghost use Rattle.asp_top.specs.Runs.{Does, IsCounted, IsSentOn, NotesOn, NotesRun, Runs, RunsOn, TellsFaults, TextMeans, around, crew_of, is_alone, prepared_of};
+ghost use Rattle.asp_top.specs.Runs.{Does, IsCounted, IsSentOn, NotesOn, NotesRun, Runs, RunsOn, TellsClosed, TellsFaults, TextMeans, around, crew_of, is_alone, prepared_of};
 ghost use Rattle.asp_top.specs.Whole.{IsWhole};
 ghost use Rattle.asp_model.specs.declared.program.Program.{Program};
 
@@ -77,6 +77,7 @@ fn divide_or_solve<K: Sink, W: Watch>(
     ensures does { (p : Program) → prepared.now ≡ prepared_of options.now p → Does options.now p (K.held sink.old) (K.held sink.new) (K.faults sink.old) (K.faults sink.new) result }
     ensures flushed { TellsFaults (K.faults sink.old) (K.faults sink.new) result.status }
     ensures sent { IsSentOn result.status (K.is_sent sink.new) }
+    ensures closed { TellsClosed result.status (K.is_closed sink.new) }
     ensures counted { IfSome result.report (IsCounted 0 tally.new) }
     ensures heard { W.IsAfter watch.old watch.new }
 {
@@ -102,6 +103,7 @@ fn outcome_alone<S: Source, K: Sink, W: Watch>(
         (K.held sink.old) (K.held sink.new) (K.faults sink.old) (K.faults sink.new)) result }
     ensures flushed { TellsFaults (K.faults sink.old) (K.faults sink.new) result.status }
     ensures sent { IsSentOn result.status (K.is_sent sink.new) }
+    ensures closed { TellsClosed result.status (K.is_closed sink.new) }
     ensures counted { IfSome result.report (IsCounted 0 tally.new) }
     ensures heard { W.IsAfter watch.old watch.new }
 {
@@ -134,6 +136,7 @@ fn outcome_by_crew<R: Threads + Wait + Sync, S: Source, K: Sink, G: Gate + Sync,
         (K.held sink.old) (K.held sink.new) (K.faults sink.old) (K.faults sink.new)) result.0 }
     ensures flushed { TellsFaults (K.faults sink.old) (K.faults sink.new) result.0.status }
     ensures sent { IsSentOn result.0.status (K.is_sent sink.new) }
+    ensures closed { TellsClosed result.0.status (K.is_closed sink.new) }
     ensures counted { IfSome result.0.report (IsCounted options.now.workers tally.new) }
     ensures heard { W.IsAfter watch result.1 }
 {
@@ -167,6 +170,7 @@ pub fn run_alone<S: Source, K: Sink, N: Sink>(
     ensures whole { options.now.proof ≡ false → IsWhole options.now (S.left source.old) (K.held sink.old) (K.held sink.new) (K.is_sent sink.new) result.status }
     ensures flushed { TellsFaults (K.faults sink.old) (K.faults sink.new) result.status }
     ensures sent { IsSentOn result.status (K.is_sent sink.new) }
+    ensures closed { TellsClosed result.status (K.is_closed sink.new) }
     ensures notes { NotesRun 0 options.now (N.held notes.old) (N.held notes.new) (N.faults notes.old) (N.faults notes.new) result }
 {
     let mut tally = Tally::new(alloc);
@@ -200,6 +204,7 @@ fn run_by_crew<R: Threads + Wait + Sync, S: Source, K: Sink, N: Sink, G: Gate + 
         (K.held sink.old) (K.held sink.new) (K.faults sink.old) (K.faults sink.new)) result }
     ensures flushed { TellsFaults (K.faults sink.old) (K.faults sink.new) result.status }
     ensures sent { IsSentOn result.status (K.is_sent sink.new) }
+    ensures closed { TellsClosed result.status (K.is_closed sink.new) }
     ensures notes { NotesRun options.now.workers options.now (N.held notes.old) (N.held notes.new) (N.faults notes.old) (N.faults notes.new) result }
 {
     let mut tally = Tally::new(alloc);
@@ -242,6 +247,7 @@ fn run_given<R: Threads + Wait + Sync, S: Source, K: Sink, N: Sink, G: Gate + Sy
         (K.held sink.old) (K.held sink.new) (K.faults sink.old) (K.faults sink.new)) result }
     ensures flushed { TellsFaults (K.faults sink.old) (K.faults sink.new) result.status }
     ensures sent { IsSentOn result.status (K.is_sent sink.new) }
+    ensures closed { TellsClosed result.status (K.is_closed sink.new) }
     ensures notes { NotesRun (crew_of options.now) options.now (N.held notes.old) (N.held notes.new) (N.faults notes.old) (N.faults notes.new) result }
 {
     if is_alone(options) {
@@ -255,6 +261,7 @@ fn help<K: Sink>(sink: &mut K) -> Status
     ensures means { TextMeans help_page (K.held sink.old) (K.held sink.new) (K.faults sink.old) (K.faults sink.new) result }
     ensures flushed { TellsFaults (K.faults sink.old) (K.faults sink.new) result }
     ensures sent { IsSentOn result (K.is_sent sink.new) }
+    ensures closed { TellsClosed result (K.is_closed sink.new) }
 {
     match write_help(sink) {
         Ok(()) => Status::Help,
@@ -266,6 +273,7 @@ fn tell_version<K: Sink>(sink: &mut K) -> Status
     ensures means { TextMeans version_line (K.held sink.old) (K.held sink.new) (K.faults sink.old) (K.faults sink.new) result }
     ensures flushed { TellsFaults (K.faults sink.old) (K.faults sink.new) result }
     ensures sent { IsSentOn result (K.is_sent sink.new) }
+    ensures closed { TellsClosed result (K.is_closed sink.new) }
 {
     match write_version(sink) {
         Ok(()) => Status::Help,
@@ -316,6 +324,7 @@ pub fn run<R: Threads + Wait + Sync, S: Source, K: Sink, N: Sink, G: Gate + Sync
         → IsWhole given (S.left source.old) (K.held sink.old) (K.held sink.new) (K.is_sent sink.new) result.status }
     ensures flushed { TellsFaults (K.faults sink.old) (K.faults sink.new) result.status }
     ensures sent { IsSentOn result.status (K.is_sent sink.new) }
+    ensures closed { TellsClosed result.status (K.is_closed sink.new) }
     ensures notes { NotesOn (words_give (map string_bytes words.now)) (N.held notes.old) (N.held notes.new) (N.faults notes.old) (N.faults notes.new)
         result }
 {

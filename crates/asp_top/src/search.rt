@@ -6,7 +6,7 @@ ghost use Rattle.asp_counts.specs.Telling.{AreNumbered};
 ghost use Rattle.asp_crew_laws.specs.Proofs.{HasProof};
 ghost use Rattle.asp_crew_laws.specs.Reports.{IsReport};
 ghost use Rattle.asp_model.specs.declared.program.Program.{Program};
-ghost use Rattle.asp_top.specs.Runs.{Concludes, IsCounted, IsSentOn, Solves, TellsFaults, ask_of, layout_of, prepared_of, told_with};
+ghost use Rattle.asp_top.specs.Runs.{Concludes, IsCounted, IsSentOn, Solves, TellsClosed, TellsFaults, ask_of, layout_of, prepared_of, told_with};
 
 use crate::counts::Tally;
 use crate::deliver::{Layout, deliver, failed};
@@ -79,6 +79,7 @@ fn conclude<K: Sink>(
     ensures concludes { Concludes layout program.now facts.now report (K.held sink.old) (K.held sink.new) (K.faults sink.old) (K.faults sink.new) result }
     ensures flushed { TellsFaults (K.faults sink.old) (K.faults sink.new) result.status }
     ensures sent { IsSentOn result.status (K.is_sent sink.new) }
+    ensures closed { TellsClosed result.status (K.is_closed sink.new) }
 {
     match told(alloc, facts, report) {
         Ok(report) => deliver(alloc, sink, layout, program, report),
@@ -99,6 +100,7 @@ pub fn solve<K: Sink, W: Watch>(
     ensures solves { (p : Program) → prepared.now ≡ prepared_of options.now p → Solves options.now p (K.held sink.old) (K.held sink.new) (K.faults sink.old) (K.faults sink.new) result }
     ensures flushed { TellsFaults (K.faults sink.old) (K.faults sink.new) result.status }
     ensures sent { IsSentOn result.status (K.is_sent sink.new) }
+    ensures closed { TellsClosed result.status (K.is_closed sink.new) }
     ensures counted { IfSome result.report (IsCounted 0 tally.new) }
     ensures heard { W.IsAfter watch.old watch.new }
 {
@@ -175,6 +177,7 @@ pub fn solve_by_crew<R: Threads + Wait + Sync, K: Sink, G: Gate + Sync, W: Watch
     ensures solves { (p : Program) → prepared.now ≡ prepared_of options.now p → Solves options.now p (K.held sink.old) (K.held sink.new) (K.faults sink.old) (K.faults sink.new) result.0 }
     ensures flushed { TellsFaults (K.faults sink.old) (K.faults sink.new) result.0.status }
     ensures sent { IsSentOn result.0.status (K.is_sent sink.new) }
+    ensures closed { TellsClosed result.0.status (K.is_closed sink.new) }
     ensures counted { IfSome result.0.report (IsCounted options.now.workers tally.new) }
     ensures heard { W.IsAfter watch result.1 }
 {

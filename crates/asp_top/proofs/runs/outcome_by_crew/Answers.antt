@@ -1,4 +1,4 @@
-use Rattle.asp_top.proofs.RunLaws.{nothing-to-send, runs-ready}
+use Rattle.asp_top.proofs.RunLaws.{nothing-closed, nothing-to-send, runs-ready}
 use Rattle.asp_top.proofs.runs.outcome_by_crew.Goals as goal
 
 pub returns-in-Ok-clause-runs : goal.returns-in-Ok-clause-runs
@@ -12,3 +12,6 @@ returns-in-Err-clause-heard g c = g.met.W.Watch.begins c.args.watch
 
 pub returns-in-Err-clause-sent : goal.returns-in-Err-clause-sent
 returns-in-Err-clause-sent g c = nothing-to-send c.args.options.now _ _ _ _ _ c.failed.result _ c.in-Err.ensures c.failed.ensures
+
+pub returns-in-Err-clause-closed : goal.returns-in-Err-clause-closed
+returns-in-Err-clause-closed g c = nothing-closed c.args.options.now _ _ _ _ _ c.failed.result _ c.in-Err.ensures c.failed.ensures
