@@ -3,7 +3,7 @@
 
 usage: bench/solve.py [--program build/aspenum] [--limit SECONDS] [--jobs N] [--runs N] [--half tuned|held-out] [--small]
                       [--markdown] [--texts FOLDER] [--save FILE [--revision TEXT] [--machine TEXT]] [NAME..]
-       bench/solve.py --workers N [--program build/aspenum] [--markdown] [--texts FOLDER] [--save FILE ..] [NAME..]
+       bench/solve.py --workers N [--program build/aspenum] [--runs N] [--markdown] [--texts FOLDER] [--save FILE ..] [NAME..]
 
 clasp runs twice: as it comes ("default", writing no answers), and in the configuration nearest to this search ("nearest"),
 which switches off what this search has nothing like. Each program runs once in each, within a limit of 20 seconds of processor
@@ -15,8 +15,8 @@ status 1 where two that ended said different things; it is outside the gate.
 With --save the figures are kept, with the day, the machine and the revision, for docs/pictures: bench/figures/solve.json and,
 with --workers, bench/figures/workers.json.
 
-With --workers it runs enumerations (those of workers.py where none is named) with one worker and with so many, and shows the
-busiest thread's processor time, and how many answers were delivered twice; clasp isn't run."""
+With --workers it runs programs (those of workers.py where none is named) with one worker and with so many, and shows the busiest
+thread's processor time and conflicts, clasp's time with as many threads, and how many answers were delivered twice; means of --runs."""
 import argparse
 import math
 import os
@@ -176,8 +176,8 @@ def main():
         with tempfile.TemporaryDirectory() as temporary:
             room = given.texts or temporary
             os.makedirs(room, exist_ok=True)
-            found = workers.table(given.program, given.workers, lambda name: text_of(name, room), temporary, given.names, given.markdown)
-        saving.save(given, {"workers": given.workers}, found)
+            found = workers.table(given.program, given.workers, given.runs, lambda name: text_of(name, room), temporary, given.names, given.markdown)
+        saving.save(given, {"workers": given.workers, "runs": given.runs, "clasp": saving.clasp()}, found)
         return 0
     halves = [given.half] if given.half else [*HALVES, *(["small"] if given.small else [])]
     names = given.names or [name for name, (half, _) in PROGRAMS.items() if half in halves]

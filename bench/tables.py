@@ -13,6 +13,7 @@ import sys
 sys.dont_write_bytecode = True
 from programs import HALVES  # noqa: E402
 from solve import SIDES, cells, mean  # noqa: E402
+from workers import cells as worker_cells, heads  # noqa: E402
 
 PAGE = "bench/README.md"
 OTHERS = SIDES[1:]
@@ -62,10 +63,9 @@ def solve():
 
 def workers():
     about, rows = figures("workers")
-    heads = ["program", "1 worker", "by the clock", f"{about['workers']} workers", "by the clock", "the busiest", "of 1 worker's", "answers twice"]
-    lines = [[it["name"], *(f"{it[key]:.2f}" for key in ("one", "one by the clock", "all", "all by the clock", "busiest")),
-              f"{it['busiest'] / it['one']:.2f}", it["twice"]] for it in rows]
-    return f"{of_when(about)}. Processor seconds, except where the clock is named.\n\n" + table(heads, lines)
+    runs = {1: "one run each"}.get(about["runs"], f"means of {about['runs']} runs in turn")
+    told = "Processor seconds, except where the clock is named; clasp's by the clock"
+    return f"{of_when(about)}, {about['clasp']}; {runs}. {told}.\n\n" + table(heads(about["workers"]), map(worker_cells, rows))
 
 
 def growth():

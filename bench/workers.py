@@ -1,8 +1,9 @@
 """How work divides among threads: what bench/solve.py --workers shows.
 
-A thread's processor time is read from /proc a hundred times a second while the program runs, so that of a thread that ended
+The conflicts of the busiest worker, by those of one worker alone, say how the search divides whatever else the machine does. A
+thread's processor time is read from /proc a hundred times a second while the program runs, so that of a thread that ended
 since is known to some 10 milliseconds. The busiest thread bounds how soon a run can end, whatever else the machine does: on
-idle processors the time by the clock comes near it."""
+idle processors the time by the clock comes near it. clasp runs with as many threads beside it, which compete or split the search."""
 import os
 import re
 import subprocess
@@ -10,9 +11,12 @@ import time
 
 TICKS = os.sysconf("SC_CLK_TCK")
 
-# What many workers are judged by: enumerations, each a name of programs.py, or make-N: all colourings of a ring of N nodes.
-NAMES = ("cycle-18", "make-18", "queens-12", "subsets-22")
-HEADS = ("program", "seconds", "by the clock", "of all workers", "by the clock", "busiest", "of one worker's", "answers twice")
+# What many workers are judged by: enumerations first. Each is a name of programs.py, or make-N: all colourings of a ring of N nodes.
+NAMES = (
+    "cycle-18", "make-18", "queens-12", "subsets-22", "latin-8-20", "configuration-a", "pack-24x3", "pigeons-10", "cover-60",
+    "sat-250", "sat-300-b", "slide-3x4-20", "timetable-b", "tour-20", "robots-8",
+)
+PARTS = ("busiest", "of 1 worker's")
 
 
 def of_thread(stat):
@@ -62,34 +66,60 @@ def result(tail):
     return re.findall(r"^(?:Optimization|Models):.*", tail, re.M)
 
 
-def measured(program, words, path, room, workers):
-    """A row: one worker beside so many."""
-    one, one_clock, _, _, tail = run([program, *words], path, room)
+def conflicts(said):
+    """Conflicts of a run, and of its busiest worker."""
+    all_of = int(re.search(r"^Conflicts: (\d+)", said, re.M)[1])
+    return all_of, max((int(it) for it in re.findall(r"^Worker \d+: conflicts (\d+)", said, re.M)), default=all_of)
+
+
+def of_clasp(path, room, threads):
+    """Seconds by the clock of clasp's threads, which write no answers."""
+    return run(["clasp", "-n", "0", "-q", "-t", threads], path, room)[1]
+
+
+def once(program, words, path, room, workers):
+    """One worker beside so many, once."""
+    one, one_clock, _, alone, tail = run([program, *words, "--stats"], path, room)
     all_of, clock, busiest, said, same = run([program, *words, "--stats", "--workers", str(workers)], path, room)
     if not result(tail) or result(tail) != result(same):
         raise SystemExit(f"{path}: {result(tail)} with one worker, {result(same)} with {workers}")
-    times = {"one": one, "one by the clock": one_clock, "all": all_of, "all by the clock": clock, "busiest": busiest}
-    return {**{it: round(seconds, 3) for it, seconds in times.items()}, "twice": twice(said, same)}
+    found = {"one": one, "one by the clock": one_clock, "all": all_of, "all by the clock": clock, "busiest": busiest,
+             "conflicts": conflicts(alone)[0], "busiest's conflicts": conflicts(said)[1], "twice": twice(said, same)}
+    if path != os.devnull:
+        found |= {"clasp": of_clasp(path, room, str(workers)), "clasp split": of_clasp(path, room, f"{workers},split")}
+    return found
+
+
+def measured(program, words, path, room, workers, runs):
+    """A row: means of so many runs in turn; of answers found twice what the last run tells."""
+    rows = [once(program, words, path, room, workers) for _ in range(runs)]
+    return {key: it if key == "twice" else round(sum(row[key] for row in rows) / runs, 3) for key, it in rows[-1].items()}
+
+
+def heads(workers):
+    return ("program", "1 worker", "by the clock", f"{workers} workers", "by the clock", *PARTS, "conflicts of 1", *PARTS, f"clasp -t {workers}", "split", "answers twice")
 
 
 def cells(row):
     """A row of the table as it is shown."""
-    share = row["busiest"] / row["one"] if row["one"] else float("nan")
-    times = [row[it] for it in ("one", "one by the clock", "all", "all by the clock", "busiest")]
-    return [row["name"], *(f"{it:.2f}" for it in (*times, share)), row["twice"]]
+    seconds = lambda *keys: (f"{row[it]:.2f}" if it in row else "-" for it in keys)
+    part = lambda some, whole: f"{row[some] / row[whole]:.2f}" if row[whole] else "-"
+    counts = (f"{row[it]:,.0f}" for it in ("conflicts", "busiest's conflicts"))
+    return [row["name"], *seconds("one", "one by the clock", "all", "all by the clock", "busiest"), part("busiest", "one"),
+            *counts, part("busiest's conflicts", "conflicts"), *seconds("clasp", "clasp split"), row["twice"]]
 
 
-def table(program, workers, path_of, room, names, markdown):
+def table(program, workers, runs, path_of, room, names, markdown):
     """Prints a line for each program and returns the rows; `path_of` gives the path of its text, and what runs write stands in
     the folder `room`."""
     line = (lambda it: "| " + " | ".join(it) + " |") if markdown else (lambda it: f"{it[0]:14}" + "".join(f"{cell:>16}" for cell in it[1:]))
-    print(line(HEADS))
+    print(line(heads(workers)))
     if markdown:
-        print("|" + "---|" * len(HEADS))
+        print("|" + "---|" * len(heads(workers)))
     rows = []
     for name in names or NAMES:
         ring = re.fullmatch(r"make-(\d+)", name)
         words, path = (["--make", ring[1], "--mode", "enum"], os.devnull) if ring else ([], path_of(name))
-        rows.append({"name": name, **measured(program, words, path, room, workers)})
+        rows.append({"name": name, **measured(program, words, path, room, workers, runs)})
         print(line(cells(rows[-1])), flush=True)
     return rows

@@ -13,7 +13,8 @@ PROGRAM counts: after a change of the search the rows are to be written anew.
 
 With two and four workers the counts differ from run to run, but where no worker was stopped the main thread does nothing, so the
 numbers of the workers' lines add up to those of the run, of which a contract pins the conflicts; and of an enumeration the answers
-that the workers found are the models, each found once.
+that the workers found are the models, each found once. What one worker solves before it has met 500 conflicts, found 64 answers or
+made 2,000 steps without a conflict is one path, on which the others did nothing; what takes longer is split.
 
 Two more must end within an address space: a search wants more that drops nothing it learns (pigeons), or drops what weight
 bodies give only at the restarts of the schedule, which get rarer (knapsack)."""
@@ -127,11 +128,17 @@ SMALL = [
 ]
 ROOM = 6500 * 1024  # bytes of address space
 
-# a program for several workers, and whether it is an enumeration
+# a program for several workers, whether it is an enumeration, and whether it is split; conflicts of one worker
 CREWS = [
-    ("trust of 24", cheapest_trust(24, 6, 4, 3), False),
-    ("3-SAT of 200", random_sat(200, 4.8, 2), True),
-    ("12 free atoms", f"asp 1 0 0\n1 1 12 {' '.join(map(str, range(1, 13)))} 0 0\n0\n".encode(), True),
+    ("trust of 24", cheapest_trust(24, 6, 4, 3), False, True),
+    ("3-SAT of 200", random_sat(200, 4.8, 2), True, True),
+    ("12 free atoms", f"asp 1 0 0\n1 1 12 {' '.join(map(str, range(1, 13)))} 0 0\n0\n".encode(), True, True),
+    # no conflict, and one answer
+    ("3,000 free costs", free_costs(3000, 1), False, True),
+    # 284, 187, 155
+    ("trust of 16", cheapest_trust(16, 6, 4, 3), False, False),
+    ("3-SAT of 100", random_sat(100, 4.8, 2), True, False),
+    ("pigeons of 6", pigeons(6), True, False),
 ]
 COUNT = re.compile(r"(\w+): (\d+)")
 WORKER = re.compile(r"Worker (\d+): conflicts (\d+), decisions (\d+), propagated (\d+), restarts (\d+), answers (\d+), kept (\d+), dropped (\d+)")
@@ -150,7 +157,7 @@ def told(counts):
     return ", ".join(f"{name} {number}" for name, number in counts.items())
 
 
-def crew_faults(written, notes, workers, enumerates):
+def crew_faults(written, notes, workers, enumerates, splits):
     """What is wrong with the lines of so many workers."""
     lines = [[int(it) for it in line.groups()] for line in map(WORKER.fullmatch, notes) if line]
     if [line[0] for line in lines] != list(range(1, workers + 1)):
@@ -164,6 +171,11 @@ def crew_faults(written, notes, workers, enumerates):
     models = int(re.search(rb"Models: (\d+)", written)[1])
     if enumerates and sums[5] != models or sums[5] < models:
         yield f"{models} models, of the workers {sums[5]}"
+    busy = sum(1 for line in lines if any(line[1:]))
+    if splits and counts["Leaves"] == 1:
+        yield "one path"
+    if not splits and (counts["Leaves"], busy) != (1, 1):
+        yield f"{counts['Leaves']} paths of {busy} workers, wanted one of one"
 
 
 def main():
@@ -189,10 +201,10 @@ def main():
     for name, text, wanted, ending in SMALL:
         status, written, _ = run(program, [], text, lambda: resource.setrlimit(resource.RLIMIT_AS, (ROOM, ROOM)))
         judge(name, [] if status == wanted and written.endswith(ending) else [f"status {status} with {ROOM} bytes"])
-    for name, text, enumerates in CREWS:
+    for name, text, enumerates, splits in CREWS:
         for workers in (2, 4):
             _, written, notes = run(program, ["--workers", str(workers)], text)
-            judge(f"{name}, {workers} workers", list(crew_faults(written, notes, workers, enumerates)))
+            judge(f"{name}, {workers} workers", list(crew_faults(written, notes, workers, enumerates, splits)))
     print(f"search: {passed} programs solved, {failed} failed")
     sys.exit(1 if failed else 0)
 

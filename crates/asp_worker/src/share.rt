@@ -29,6 +29,15 @@ use std::sync::Wait;
 /// After so many steps a worker tells what it did, and looks whether others want a path, and whether answers are wanted still.
 pub(crate) const STRIDE: u64 = 32;
 
+/// A worker gives nothing away before it has met so many conflicts ..
+const CONFLICTS: u64 = 500;
+
+/// .. or found so many answers ..
+const ANSWERS: u64 = 64;
+
+/// .. or made so many steps without a conflict.
+const STEPS: u64 = 2000;
+
 // Begins the search of a path that the worker holds.
 fn enter<R: Wait, P: Propagator>(
     rt: &R,
@@ -224,6 +233,14 @@ pub(crate) fn is_enough<R: Wait>(rt: &R, shared: &Shared, worker: &mut Worker) -
     desk::enough(rt, &shared.book, &mut worker.seat)
 }
 
+// Whether the search knows by now on what a path is split well. What needs no conflict is split sooner: there all are as good.
+fn is_ripe<P: Propagator>(engine: &Engine<'_, P>) -> bool {
+    let did = &engine.did;
+    did.conflicts >= CONFLICTS
+        || did.answers >= ANSWERS
+        || (did.conflicts == 0 && engine.step >= STEPS)
+}
+
 // Where it is time, stops if as many answers as asked for were delivered, and else gives half of the path away if others want one.
 //
 // The path that the worker then has is in `leaf`, also after an error.
@@ -249,6 +266,9 @@ fn offer<R: Wait, P: Propagator>(
     }
     if is_enough(rt, shared, worker) {
         return Err(Stop::Enough);
+    }
+    if !is_ripe(engine) {
+        return Ok(());
     }
     offer_half(rt, shared, worker, engine, leaf)?;
     Ok(())

@@ -13,7 +13,7 @@ returns-clause-work g c =
     let p = c.searched.ensures.placed in
     let keeps : Keeps m k = record { book = refl; seat = stays-self (view m.seat) p.settled.seated.rests; pages = reads-self c.args.shared.now.log m.pages p.log } in
     record {
-      keeps = keeps-trans c.args.worker m k c.searched.ensures.keeps keeps;
+      keeps = keeps-trans c.args.worker.now m k c.searched.ensures.keeps keeps;
       ready = placed-seat c.args.shared.now m k p keeps p.pool p.settled.seated.lawful;
       idle = c.in-Err.ensures.idle;
       small = c.searched.ensures.small;
@@ -28,9 +28,9 @@ returns-in-Ok-clause-work g c =
     let keeps : Keeps m k = record { book = c.back.ensures.of; seat = c.back.ensures.stays; pages = reads-self c.args.shared.now.log m.pages p.log } in
     let idle = given-idle (view m.seat) (view k.seat) c.back.ensures.call.0 c.back.ensures.stays c.in-Ok.fuel p.settled c.in-Ok.ensures.free c.in-Ok.ensures.owes c.back.ensures.call.1 in
     record {
-      keeps = keeps-trans c.args.worker m k c.searched.ensures.keeps keeps;
+      keeps = keeps-trans c.args.worker.now m k c.searched.ensures.keeps keeps;
       ready = placed-seat c.args.shared.now m k p keeps p.pool idle.settled.seated.lawful;
       idle = idle;
       small = given-small (view m.seat) (view k.seat) c.back.ensures.call.0 c.back.ensures.stays c.in-Ok.fuel c.in-Ok.ensures.owes c.back.ensures.call.1 c.searched.ensures.small;
-      cause = given-cause (view m.seat) (view k.seat) c.back.ensures.call.0 c.back.ensures.stays c.in-Ok.fuel c.in-Ok.ensures.owes c.back.ensures.call.1 (g.H.Halt.never c.args.halt.now → ⊥) c.in-Ok.short (view c.args.worker.seat).seen c.in-Ok.ensures.cause;
+      cause = given-cause (view m.seat) (view k.seat) c.back.ensures.call.0 c.back.ensures.stays c.in-Ok.fuel c.in-Ok.ensures.owes c.back.ensures.call.1 (g.H.Halt.never c.args.halt.now → ⊥) c.in-Ok.short (view c.args.worker.now.seat).seen c.in-Ok.ensures.cause;
     }
