@@ -142,8 +142,8 @@ fn searched<R: Wait, G: Gate, H: Halt, W: Watch>(
 
 /// A worker's whole work: it searches paths until none is left or wanted, and gives all back. On the way the watch hears now
 /// and then what all workers did so far.
-// Where no thread can be made, workers are called inside each other on one stack: what a search needs of it stays out of those
-// frames.
+// Where no thread can be made, all workers are called on one stack, a few calls deep: what a search needs of it stays out of
+// those frames.
 #[inline(never)]
 pub fn work<R: Wait, G: Gate, H: Halt, W: Watch>(
     rt: &R,
@@ -151,33 +151,22 @@ pub fn work<R: Wait, G: Gate, H: Halt, W: Watch>(
     compiled: &Compiled,
     gate: &G,
     halt: &H,
-    mut worker: Worker,
+    worker: &mut Worker,
     watch: &mut W,
-) -> Worker
-    requires { MayWork compiled.now shared.now worker }
-    ensures work { Worked (H.never halt.now → ⊥) shared.now worker result }
+)
+    requires { MayWork compiled.now shared.now worker.old }
+    ensures work { Worked (H.never halt.now → ⊥) shared.now worker.old worker.new }
     ensures heard { W.IsAfter watch.old watch.new }
 {
     let recorder = Recorder::new(shared.alloc);
     match searched(
-        rt,
-        shared,
-        compiled,
-        &recorder,
-        gate,
-        halt,
-        &mut worker,
-        watch,
+        rt, shared, compiled, &recorder, gate, halt, worker, watch,
     ) {
         Ok((fuel, did, short)) => {
             worker.short = short;
             let _sum = shared.tallies.tell(rt, worker.seat.number(), &did);
             desk::back(rt, &shared.book, &mut worker.seat, fuel);
-            worker
         }
-        Err(_) => {
-            worker.short = true;
-            worker
-        }
+        Err(_) => worker.short = true,
     }
 }
