@@ -1,8 +1,9 @@
 -- Workers that have worked are joined, one after another.
-use Rattle.std.proofs.Common.{◌≡◌, ℕ, zero, suc, ◌+◌, ◌<◌, List, [], ◌∷◌, ◌++◌, length, Option, refl, sym, ap, ◌∙◌, subst, arith, length-append}
-use Rattle.std.specs.Prelude.{slice_index_or, option_to_list, Some, None}
+use Rattle.std.proofs.Common.{◌≡◌, ℕ, zero, suc, ◌+◌, ◌<◌, List, [], ◌∷◌, ◌++◌, length, take, drop, Option, Some, refl, sym, ap, ◌∙◌, subst, arith, length-append}
+use Rattle.std.specs.Prelude.{slice_index_or, slice_set, option_to_list}
 use Rattle.std.specs.List.{All, AllZip}
-use Rattle.std.proofs.lemmas.List.{append-nil, append_assoc}
+use Rattle.std.proofs.lemmas.List.{append-nil, append_assoc, take_all}
+use Rattle.std.proofs.Math.ListN.{drop_of_length-le}
 use Rattle.std.proofs.lemmas.List.Elements.{All-nil, AllZip-get_or, length_all_zip}
 use Rattle.asp_model.specs.declared.program.Program.{Program}
 use Rattle.asp_vault.specs.declared.view.View.{View}
@@ -26,6 +27,14 @@ zip-each R [] (y ∷ ys) same each = absurd (omega (arith, same))
 zip-each R (x ∷ xs) [] same each = absurd (omega (arith, same))
 zip-each R (x ∷ xs) (y ∷ ys) same each = (each 0 x (omega arith), zip-each R xs ys (omega (arith, same)) (λ k d lt. each (suc k) d (omega (arith, lt))))
 
+pub zip-one : {X : Type 0} (R : X → X → Type 0) (xs : List X) (y : X) → length xs ≡ 1 → ((d : X) → R (slice_index_or xs 0 d) y) → AllZip R xs (slice_set xs 0 y)
+zip-one R [] y one r = absurd (omega (arith, one))
+zip-one R (x ∷ []) y one r = (r x, tt)
+zip-one R (x ∷ z ∷ xs) y one r = absurd (omega (arith, one))
+
+pub moved : {X : Type 0} (R : X → X → Type 0) (a b x y : X) → a ≡ x → b ≡ y → R a b → R x y
+moved R a b x y e f h = subst (λ z. R z y) e (subst (R a) f h)
+
 module _ (stopped : Type 0) (c : Shared) where
   pub back-worked : (p : Program) (about : Option Task) (h k : Worker) → MayJoin p c about h → Worked stopped c h k → IsBack c about k
   back-worked p about h k m w = record { placed = w.ready; idle = w.idle; about_is = w.keeps.seat.about ∙ m.about_is }
@@ -47,7 +56,7 @@ all-may-work p c about hs may k d lt = (may k d lt).may
 
 -- ---- one more is joined
 pub joins-self : {D E : Type 0} (v : View D E) → Joins v v 0
-joins-self v = record { about = refl; splits = refl; joins = refl; own = refl; seen = ([], append-nil v.seen) }
+joins-self v = record { about = refl; splits = refl; joins = omega arith; own = refl; seen = ([], append-nil v.seen) }
 
 pub joins-more : {D E : Type 0} (u v w : View D E) (n : ℕ) → Joins u v n → Joins v w 1 → Joins u w (n + 1)
 joins-more u v w n a b = record {
@@ -105,3 +114,14 @@ one-joined c l k m all left ys o x j is at lead joins pages stay back = record {
     came : All (CameBack m) (x ∷ j.gone)
     came zero d lt = back
     came (suc n) d lt = back-on k m (slice_index_or j.gone n d) stay (j.came n d (omega (arith, lt)))
+
+-- ---- the list as it comes back
+pub list-back : {X : Type 0} (R : X → X → Type 0) (n : ℕ) (xs zs ys : List X) → zs ≡ xs → AllZip R zs ys → n ≡ length xs → take n (ys ++ drop (length ys) xs) ≡ ys
+list-back {X = X} R n xs zs ys e z is =
+    take_all n (ys ++ drop (length ys) xs) (omega (arith, length-append ys (drop (length ys) xs), ap length none, same, is)) ∙ ap (λ ws. ys ++ ws) none ∙ append-nil ys
+  where
+    same : length xs ≡ length ys
+    same = ap length (sym e) ∙ length_all_zip R zs ys z
+
+    none : drop (length ys) xs ≡ []
+    none = drop_of_length-le xs (omega (arith, same))

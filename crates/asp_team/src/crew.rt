@@ -69,8 +69,9 @@ fn all_joined(shared: &Shared, lead: Lead, mut workers: Vec<Worker>) -> Lead
     lead
 }
 
-// Each worker works, in a thread of its own where one can be made.
-fn each<R: Threads + Wait + Sync, G: Gate + Sync, H: Halt + Sync>(
+// Each worker works, in a thread of its own where one can be made. They are halved again and again: where no thread can be
+// made, calls nest as deep as the logarithm of their number.
+fn halved<R: Threads + Wait + Sync, G: Gate + Sync, H: Halt + Sync>(
     rt: &R,
     shared: &Shared,
     compiled: &Compiled,
@@ -87,6 +88,33 @@ fn each<R: Threads + Wait + Sync, G: Gate + Sync, H: Halt + Sync>(
         ensures { Worked (H.never halt.entry.now → ⊥) shared.entry.now worker.entry.now worker.exit.now }
     { work(rt, shared, compiled, gate, halt, worker, &mut Unwatched) };
     thread::for_each_mut(rt, workers, count.max(1), &one);
+}
+
+// The same. One alone needs no halves. And as `work` is called in two places, it isn't made part of the frames that nest.
+fn each<R: Threads + Wait + Sync, G: Gate + Sync, H: Halt + Sync>(
+    rt: &R,
+    shared: &Shared,
+    compiled: &Compiled,
+    gate: &G,
+    halt: &H,
+    workers: &mut [Worker],
+)
+    requires { All (MayWork compiled.now shared.now) workers.old }
+    ensures { AllZip (Worked (H.never halt.now → ⊥) shared.now) workers.old workers.new }
+{
+    if workers.len() == 1 {
+        work(
+            rt,
+            shared,
+            compiled,
+            gate,
+            halt,
+            &mut workers[0],
+            &mut Unwatched,
+        );
+    } else {
+        halved(rt, shared, compiled, gate, halt, workers);
+    }
 }
 
 // One worker works in this thread, with the watch, and the others beside it.
