@@ -1,6 +1,6 @@
 #!/usr/bin/env bash
 # Every test that the gate runs beside the proofs: the documents, the tests of calls, every example through the program, its proofs
-# through the checker, and aspground. Each runs, also where one before it failed.
+# through the checker, little memory, and aspground. Each runs, also where one before it failed.
 # Usage: tests/all.sh PROGRAM CHECKER     (the gate names the proved ones, `make test` those that were built without proofs)
 cd "$(dirname "$0")/.." || exit 2
 [ $# -eq 2 ] || { sed -n '4s/^# //p' tests/all.sh >&2; exit 64; }
@@ -14,6 +14,7 @@ step tests/calls.sh
 step tests/examples.sh "$1" "$2"
 step tests/aspground.sh "$1"
 step tests/checks.sh "$2"
+step tests/memory.sh "$1" 256
 step python3 tests/recorded.py "$1" "$2"
 step python3 tests/json_output.py "$1"
 step python3 tests/python.py "$1"

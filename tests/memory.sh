@@ -1,10 +1,14 @@
 #!/usr/bin/env bash
-# Runs the built program under `ulimit -v`, from 2 MB up in small steps, on five programs, on one also with many workers. Each run must end in want of
-# memory, with status 33, its line and no output, or as it ends with ample memory: the same bytes and status. A run that
-# the loader ended, for want of memory before `main`, is counted alone: `--help` doesn't come through there either.
+# Runs the built program under `ulimit -v`, from 2 MB up in steps, on five programs with one worker, and on three with 1, 4, 16
+# and 64. Each run must end out of memory, with status 33, its line and no output, or as it ends with ample memory: the same
+# bytes and status. A run that the loader ended, out of memory before `main`, is counted alone: `--help` doesn't come through
+# there either. Where the limit is small no thread can be made, and all workers are called on the main thread's stack.
 # Usage: tests/memory.sh [PROGRAM [STEP]]     (build/aspenum; STEP in KB, 64 where none is named)
-# (memory at the same addresses in each run)
-[ -n "$FIXED" ] || FIXED=yes exec setarch -R "$0" "$@"
+# (memory at the same addresses in each run, where the system lets us)
+if [ -z "$FIXED" ]; then
+    export FIXED=yes
+    setarch -R true 2> /dev/null && exec setarch -R "$0" "$@"
+fi
 cd "$(dirname "$0")/.." || exit 1
 program=$(realpath "${1:-build/aspenum}")
 step=${2:-64}
@@ -105,9 +109,10 @@ facts 2000 > "$room/facts"
 free 10 > "$room/free"
 pigeons 6 > "$room/pigeons"
 squeeze 'an example' examples/colouring.aspif
-squeeze 'an optimum' examples/independent_set.aspif
 squeeze '2000 facts' "$room/facts" --stats
-squeeze '1024 answers' "$room/free" --mode enum
-squeeze 'pigeons' "$room/pigeons"
-for workers in 2 16 64; do squeeze "pigeons, $workers workers" "$room/pigeons" --workers "$workers"; done
+for workers in 1 4 16 64; do
+    squeeze "an optimum, workers: $workers" examples/independent_set.aspif --workers "$workers"
+    squeeze "1024 answers, workers: $workers" "$room/free" --mode enum --workers "$workers"
+    squeeze "pigeons, workers: $workers" "$room/pigeons" --workers "$workers"
+done
 [ "$failed" -eq 0 ]

@@ -8,7 +8,7 @@ Each program is made here: a cheapest choice with recursion through counts, rand
 the units of its row the built program must come to its end. The first two take more without activities or minimising, the third
 where a variable is always decided as it was last: each row says what each took when it was written, beside what the whole search
 took. Programs as small as these take no more without restarts, so all counts of --stats are compared too: with one worker they are
-the same in each run. The last row's first answer is an optimum where each atom is first decided to cost less. --measure prints what
+the same in each run. The first answer of the row of free costs is an optimum where each atom is first decided to cost less. --measure prints what
 PROGRAM counts: after a change of the search the rows are to be written anew.
 
 With two and four workers the counts differ from run to run, but where no worker was stopped the main thread does nothing, so the
@@ -78,6 +78,26 @@ def free_costs(atoms, seed):
     return ("\n".join([*lines, "0"]) + "\n").encode()
 
 
+def way(width, length):
+    """Cells that are chosen; a cell is reached from a chosen neighbour, and the last one has to be."""
+    cells, at = width * length, lambda x, y: x * width + y + 1
+    near = [(at(x, y), at(u, v)) for x in range(length) for y in range(width) for u, v in ((x + 1, y), (x, y + 1)) if u < length and v < width]
+    steps = [f"1 0 1 {cells + to} 0 2 {cells + by} {by}" for one, two in near for by, to in ((one, two), (two, one))]
+    lines = ["asp 1 0 0", f"1 1 {cells} {' '.join(map(str, range(1, cells + 1)))} 0 0", f"1 0 1 {cells + 1} 0 0", *steps, f"1 0 0 0 1 -{2 * cells}"]
+    return ("\n".join([*lines, "0"]) + "\n").encode()
+
+
+def pairs(count):
+    """Of each two atoms one holds, and so does what follows from either."""
+    lines = ["asp 1 0 0"]
+    for it in range(1, 3 * count, 3):
+        lines += [f"1 0 1 {it} 0 1 -{it + 1}", f"1 0 1 {it + 1} 0 1 -{it}", f"1 0 1 {it + 2} 0 1 {it}", f"1 0 1 {it + 2} 0 1 {it + 1}"]
+    return ("\n".join([*lines, "0"]) + "\n").encode()
+
+
+# the options of a row, where it has any
+WORDS = {"a way through a grid": ["--models", "1"], "200 pairs": ["--mode", "cautious"]}
+
 # a program, what its last lines must be, units, and what is counted; conflicts when it was written: the whole search, without
 # restarts, without activities, without minimising
 ROWS = [
@@ -93,6 +113,12 @@ ROWS = [
     # no conflicts; with the dearer values first 1,212 decisions
     ("40 free costs", free_costs(40, 1), 30, b"OPTIMUM FOUND\nModels: 1\n", 10,
      "Conflicts 0, Leaves 1, Log 0, Decisions 40, Propagated 1, Restarts 0, Kept 1, Dropped 0, Atoms 40, Bodies 1, Loops 0"),
+    # 1; with all bodies false first 100
+    ("a way through a grid", way(4, 100), 11, b"LIMIT REACHED\nModels: 1+\n", 10,
+     "Conflicts 1, Leaves 1, Log 0, Decisions 798, Propagated 1590, Restarts 0, Kept 2, Dropped 0, Atoms 799, Bodies 402, Loops 1"),
+    # 199 and 599 decisions; without the way down from an answer 40,202 decisions
+    ("200 pairs", pairs(200), 30, b"CONSEQUENCES FOUND\n", 250,
+     "Conflicts 199, Leaves 1, Log 0, Decisions 599, Propagated 1201, Restarts 0, Kept 199, Dropped 0, Atoms 600, Bodies 800, Loops 0"),
 ]
 
 # a program, what its status and last lines must be
@@ -166,9 +192,9 @@ def main():
 
     for name, text, wanted, ending, units, counted in ROWS:
         if "--measure" in sys.argv[2:]:
-            print(f"{name}: {told(counts_of(run(program, [], text)[2]))}, of {units} units")
+            print(f"{name}: {told(counts_of(run(program, WORDS.get(name, []), text)[2]))}, of {units} units")
             continue
-        status, written, notes = run(program, ["--budget", str(units)], text)
+        status, written, notes = run(program, ["--budget", str(units), *WORDS.get(name, [])], text)
         counts = told(counts_of(notes))
         ended = status == wanted and written.endswith(ending)
         judge(name, ([] if ended else [f"status {status}"]) + ([] if counts == counted else [f"{counts}, wanted {counted}"]))

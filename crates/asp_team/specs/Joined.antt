@@ -17,7 +17,7 @@ use Rattle.asp_crew_laws.specs.Gone.{IsGone}
 use Rattle.asp_slots.specs.Shelves.{IsAt, IsFirst}
 use Rattle.asp_worker.specs.declared.worker.Worker.{Worker}
 use Rattle.asp_worker.specs.declared.worker.Shared.{Shared}
-use Rattle.asp_worker.specs.Seats.{MayWork}
+use Rattle.asp_worker.specs.Seats.{IsIdle, IsPlaced, MayWork}
 use Rattle.asp_team.specs.declared.lead.Lead.{Lead}
 
 -- The seats are the first of what the workers share, don't have the book or the log, and the one at the book has seen a lawful journal.
@@ -51,6 +51,11 @@ pub record IsHome (v : Knows) (n : ℕ) : Type 0 where
 abbrev pub LeftBy : Knows → Bool → Bool → List Event → ℕ → Type 0
 LeftBy v short never begun n = IsGone (task_of v) short never n begun v.seen
 
+-- The worker was joined to the lead: its number is at home, and what it left behind is there.
+pub record CameBack (l : Lead) (k : Worker) : Type 0 where
+  pub home : IsHome (view l.seat) (view k.seat).number
+  pub gone : (never : Bool) (begun : List Event) → LeftBy (view k.seat) k.short never begun (view k.seat).number → LeftBy (view l.seat) l.short never begun (view k.seat).number
+
 -- The worker's number is at home, and left the leaves that it took as a worker does. `stopped` says that somebody may have stopped it.
 pub record CameHome (stopped : Type 0) (l : Lead) (h : Worker) : Type 0 where
   pub home : IsHome (view l.seat) (view h.seat).number
@@ -64,3 +69,9 @@ StayHome l k = (n : ℕ) → IsHome (view l.seat) n → IsHome (view k.seat) n �
 pub record MayJoin (p : Program) (c : Shared) (about : Option Task) (h : Worker) : Type 0 where
   pub may : MayWork p c h
   pub about_is : (view h.seat).about ≡ about
+
+-- The worker may be joined: its seat is for this task, and its number has nothing.
+pub record IsBack (c : Shared) (about : Option Task) (k : Worker) : Type 0 where
+  pub placed : IsPlaced c k
+  pub idle : IsIdle (view k.seat)
+  pub about_is : (view k.seat).about ≡ about

@@ -17,7 +17,7 @@ ghost use Rattle.asp_worker.specs.Seats.{IsIdle};
 ghost use Rattle.asp_team.specs.Joined.{IsHome, IsLead};
 ghost use Rattle.asp_team.specs.Teams.{HaveLeft, IsAllBack, IsTeam};
 
-use crate::crew::crew_watched;
+use crate::crew::crew;
 use crate::lead::Lead;
 use crate::team::{Team, gathered};
 use asp_book::book::Book;
@@ -237,7 +237,7 @@ fn worked<R: Threads + Wait + Sync, G: Gate + Sync, H: Halt + Sync, W: Watch + D
     gate: &G,
     halt: &H,
     deeds: &mut Deeds,
-    watch: W,
+    mut watch: W,
 ) -> (Result<Report, AllocError>, W)
     requires team { IsTeam compiled.now plan.ask plan.budget team }
     requires some { 0 < length team.workers.items }
@@ -254,7 +254,7 @@ fn worked<R: Threads + Wait + Sync, G: Gate + Sync, H: Halt + Sync, W: Watch + D
         workers,
     } = team;
     let alloc = shared.alloc;
-    let (lead, mut watch) = crew_watched(rt, &shared, compiled, gate, halt, lead, workers, watch);
+    let lead = crew(rt, &shared, compiled, gate, halt, lead, workers, &mut watch);
     let report = finished(alloc, compiled, plan, shared, lead, deeds, &mut watch);
     (report, watch)
 }

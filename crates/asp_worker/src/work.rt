@@ -192,7 +192,7 @@ fn searched<R: Wait, G: Gate, H: Halt, W: Watch>(
 
 /// A worker's whole work: it searches paths until none is left or wanted, and gives all back. On the way the watch hears now
 /// and then what all workers did so far.
-// Where no thread can be made, all workers are called on one stack, some six frames deep: what a search needs of it stays out of
+// Where no thread can be made, all workers are called on one stack, a few calls deep: what a search needs of it stays out of
 // those frames.
 #[inline(never)]
 pub fn work<R: Wait, G: Gate, H: Halt, W: Watch>(
