@@ -1,6 +1,6 @@
 -- Workers that have worked are joined, one after another.
 use Rattle.std.proofs.Common.{◌≡◌, ℕ, zero, suc, ◌+◌, ◌<◌, List, [], ◌∷◌, ◌++◌, length, take, drop, Option, Some, refl, sym, ap, ◌∙◌, subst, arith, length-append}
-use Rattle.std.specs.Prelude.{slice_index_or, slice_set, option_to_list}
+use Rattle.std.specs.Prelude.{slice_index_or, option_to_list}
 use Rattle.std.specs.List.{All, AllZip}
 use Rattle.std.proofs.lemmas.List.{append-nil, append_assoc, take_all}
 use Rattle.std.proofs.Math.ListN.{drop_of_length-le}
@@ -14,11 +14,11 @@ use Rattle.asp_slots.specs.Shelves.{TakesBack}
 use Rattle.asp_slots.proofs.ShelfLaws.{back-self, back-more}
 use Rattle.asp_worker.specs.declared.worker.Worker.{Worker}
 use Rattle.asp_worker.specs.declared.worker.Shared.{Shared}
-use Rattle.asp_worker.specs.Seats.{MayWork, Worked}
+use Rattle.asp_worker.specs.Seats.{Worked}
 use Rattle.asp_team.specs.declared.lead.Lead.{Lead}
 use Rattle.asp_team.specs.Joined.{CameBack, CameHome, IsBack, IsLead, Joins, MayJoin, StayHome}
 use Rattle.asp_team.proofs.GoneLaws.{came-worked, stay-on}
-use Rattle.asp_team.proofs.Ready.{popped, all-left}
+use Rattle.asp_team.proofs.Ready.{all-left}
 
 -- ---- place by place
 pub zip-each : {X : Type 0} (R : X → X → Type 0) (xs ys : List X) → length ys ≡ length xs → ((k : ℕ) (d : X) → k < length xs → R (slice_index_or xs k d) (slice_index_or ys k d)) → AllZip R xs ys
@@ -26,11 +26,6 @@ zip-each R [] [] same each = tt
 zip-each R [] (y ∷ ys) same each = absurd (omega (arith, same))
 zip-each R (x ∷ xs) [] same each = absurd (omega (arith, same))
 zip-each R (x ∷ xs) (y ∷ ys) same each = (each 0 x (omega arith), zip-each R xs ys (omega (arith, same)) (λ k d lt. each (suc k) d (omega (arith, lt))))
-
-pub zip-one : {X : Type 0} (R : X → X → Type 0) (xs : List X) (y : X) → length xs ≡ 1 → ((d : X) → R (slice_index_or xs 0 d) y) → AllZip R xs (slice_set xs 0 y)
-zip-one R [] y one r = absurd (omega (arith, one))
-zip-one R (x ∷ []) y one r = (r x, tt)
-zip-one R (x ∷ z ∷ xs) y one r = absurd (omega (arith, one))
 
 pub moved : {X : Type 0} (R : X → X → Type 0) (a b x y : X) → a ≡ x → b ≡ y → R a b → R x y
 moved R a b x y e f h = subst (λ z. R z y) e (subst (R a) f h)
@@ -50,9 +45,6 @@ module _ (stopped : Type 0) (c : Shared) where
   all-came l hs ks z back k d lt =
       let b : CameBack l (slice_index_or ks k d) = back k d (omega (arith, lt, length_all_zip (Worked stopped c) hs ks z)) in
       came-worked stopped c (slice_index_or hs k d) (slice_index_or ks k d) l (AllZip-get_or (Worked stopped c) hs ks k d d z lt) b.home b.gone
-
-pub all-may-work : (p : Program) (c : Shared) (about : Option Task) (hs : List Worker) → All (MayJoin p c about) hs → All (MayWork p c) hs
-all-may-work p c about hs may k d lt = (may k d lt).may
 
 -- ---- one more is joined
 pub joins-self : {D E : Type 0} (v : View D E) → Joins v v 0

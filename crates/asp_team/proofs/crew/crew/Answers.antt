@@ -1,4 +1,4 @@
-use Rattle.std.proofs.Common.{◌≡◌, ◌<◌, length, ap, sym, subst, arith}
+use Rattle.std.proofs.Common.{◌<◌, length, ap, sym, subst, arith}
 use Rattle.std.specs.Prelude.{option_to_list, vec_len}
 use Rattle.std.specs.List.{All, AllZip}
 use Rattle.asp_vault.specs.Seats.{view}

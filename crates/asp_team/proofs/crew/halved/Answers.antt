@@ -1,4 +1,4 @@
-use Rattle.std.proofs.Common.{◌≡◌, ◌<◌, length, sym, subst, arith}
+use Rattle.std.proofs.Common.{rules}
 use Rattle.asp_worker.specs.Seats.{Worked}
 use Rattle.asp_team.proofs.BackLaws.{moved, zip-each}
 use Rattle.asp_team.proofs.crew.halved.Goals as goal

@@ -42,3 +42,7 @@ returns-then-is_enough-clause-stop g c = was-now (λ b. is_enough b ≡ true) (v
 
 pub returns-in_err-offer_half-clause-stop : goal.returns-in_err-offer_half-clause-stop
 returns-in_err-offer_half-clause-stop g c = memory-stop (view c.offer_half.new.worker.seat) c.from_residual.result c.from_residual.ensures.1
+
+pub returns-then-not-is_ripe-clause-ok : goal.returns-then-not-is_ripe-clause-ok
+returns-then-not-is_ripe-clause-ok g c =
+    on-on c.args.shared.now.mode (view c.args.worker.now.seat) (view c.is_enough.new.worker.seat) c.args.engine.now.search c.args.engine.now.fuel c.args.leaf.now c.requires.on c.is_enough.ensures.idles

@@ -7,8 +7,8 @@ use Rattle.asp_worker.proofs.SeatLaws.{keeps-trans, placed-seat}
 use Rattle.asp_worker.proofs.EndLaws.{given-idle, given-small, given-cause}
 use Rattle.asp_worker.proofs.work.work.Goals as goal
 
-pub returns-clause-work : goal.returns-clause-work
-returns-clause-work g c =
+pub returns-in-Err-clause-work : goal.returns-in-Err-clause-work
+returns-in-Err-clause-work g c =
     let m : Worker = c.searched.new.worker in let k : Worker = record m { short = true } in
     let p = c.searched.ensures.placed in
     let keeps : Keeps m k = record { book = refl; seat = stays-self (view m.seat) p.settled.seated.rests; pages = reads-self c.args.shared.now.log m.pages p.log } in
