@@ -4,9 +4,9 @@ write or their statuses differ, this fails.
 
     second.py PROGRAM CHECKER [COUNT [SEED]]
 
-The proofs are those that the program writes of the texts of rows.txt that are solved and of the examples, in both modes, COUNT (200)
-of these in which something was changed, and those of checks.txt. Each of the answers YES, NO with each reason, and a refusal has to
-come once."""
+The proofs are those that the program writes of the texts of rows.txt that are solved, of the examples and of 60 random programs, in
+both modes; COUNT (200) of these in which something was changed; and those of checks.txt. Each of the answers YES, NO with each reason,
+and a refusal has to come once."""
 import random
 import sys
 from collections import Counter
@@ -14,7 +14,7 @@ from concurrent.futures import ThreadPoolExecutor
 from os import cpu_count
 from os.path import abspath, dirname, join
 
-from recorded import SOLVED, examples, rows, run
+from recorded import SOLVED, examples, random_programs, rows, run
 
 SECOND = join(dirname(abspath(__file__)), "second_checker.py")
 
@@ -70,7 +70,7 @@ def main():
     program, checker = sys.argv[1:3]
     count, seed = (int(word) for word in (sys.argv[3:] + ["200", "1"][len(sys.argv) - 3:]))
     choose = random.Random(seed)
-    texts = [(form, text, mode) for form, text in [*rows(), *examples()] for mode in ("enum", "opt")]
+    texts = [(form, text, mode) for form, text in [*rows(), *examples(), *random_programs(60, seed)] for mode in ("enum", "opt")]
 
     def proof_of(case):
         form, text, mode = case
