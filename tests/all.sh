@@ -14,8 +14,9 @@ step tests/calls.sh
 step tests/examples.sh "$1" "$2"
 step tests/aspground.sh "$1"
 step tests/checks.sh "$2"
-step tests/memory.sh "$1" 256
+step tests/memory.sh "$1" 128
 step python3 tests/recorded.py "$1" "$2"
+step python3 tests/second.py "$1" "$2"
 step python3 tests/json_output.py "$1"
 step python3 tests/python.py "$1"
 [ ${#failed[@]} -eq 0 ] || { echo "all: failed: ${failed[*]}"; exit 1; }

@@ -84,24 +84,40 @@ kind() {
     fi
 }
 
+# attempt NAME WANTED_STATUS LIMIT TEXT [WORD..]: one run, whose kind is in found
+attempt() {
+    local name=$1 wanted=$2 limit=$3 text=$4 status
+    shift 4
+    under "$limit" "$program" "$@" < "$text" > "$room/given" 2> "$room/notes"
+    status=$?
+    found=$(kind "$status" "$wanted" "$limit")
+    count[$found]=$((count[$found] + 1))
+    [ "$found" = wrong ] || return
+    failed=$((failed + 1))
+    echo "failed: $name under $limit KB: status $status, $(wc -c < "$room/given") bytes; $(head -c 200 "$room/notes")"
+}
+
 # squeeze NAME TEXT [WORD..]: runs the program on the text, in more and more memory, until twenty runs in turn were whole
 squeeze() {
     local name=$1 text=$2
     shift 2
     "$program" "$@" < "$text" > "$room/wanted" 2> /dev/null
-    local wanted=$? limit whole=0 status found
+    local wanted=$? limit=2048 whole=0 more found
     count=([whole]=0 [memory]=0 [loader]=0 [wrong]=0)
-    for ((limit = 2048; whole < 20; limit += step)); do
-        under "$limit" "$program" "$@" < "$text" > "$room/given" 2> "$room/notes"
-        status=$?
-        found=$(kind "$status" "$wanted" "$limit")
-        count[$found]=$((count[$found] + 1))
+    while [ "$whole" -lt 20 ]; do
+        attempt "$name" "$wanted" "$limit" "$text" "$@"
         if [ "$found" = whole ]; then whole=$((whole + 1)); else whole=0; fi
-        if [ "$found" = wrong ]; then
-            failed=$((failed + 1))
-            echo "failed: $name under $limit KB: status $status, $(wc -c < "$room/given") bytes; $(head -c 200 "$room/notes")"
-        fi
+        limit=$((limit + step))
     done
+    # with several workers twenty times more, with 4 MB more each time: there some threads can be made
+    case " $* " in
+        *' --workers '[2-9]* | *' --workers '[1-9][0-9]*)
+            for ((more = 0; more < 20; more++)); do
+                attempt "$name" "$wanted" "$limit" "$text" "$@"
+                limit=$((limit + 4096))
+            done
+            ;;
+    esac
     echo "$name: ${count[memory]} out of memory, ${count[whole]} whole, ${count[loader]} ended by the loader, ${count[wrong]} wrong (up to $limit KB)"
 }
 

@@ -101,6 +101,11 @@ def grounded():
     check("a text", ask(text="{a; b}. :- a, b."), [[], ["b"], ["a"]])
     check("constants", ask(text="#const n=1. p(1..n).", consts={"n": 3}), [["p(1)", "p(2)", "p(3)"]])
     check("a blank in quotes", ask(text='p("a b", "\\"").'), [['p("a b","\\"")']])
+    made = subprocess.run([sys.executable, f"{HERE}/examples/draw_timetable.py", PROGRAM], capture_output=True).stdout.decode()
+    rows = [[row.split() for row in table.split("\n") if row.startswith("| ")] for table in made.split("\n\n")[1:]]
+    drawn = [sorted(f"at({name},{row[1]})" for row in table for name in row[2:] if name != "|") for table in rows]
+    with open(f"{HERE}/examples/timetable.out", encoding="utf-8") as file:
+        check("drawn timetables", drawn, [sorted(line.split()) for line in file if line.startswith("at(")])
     refused = refusal(lambda: ask(text="a :-"))
     check("what gringo refuses", (type(refused), refused.status), (aspenum.Refused, 65))
 

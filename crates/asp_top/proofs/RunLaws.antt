@@ -384,13 +384,5 @@ pub nothing-closed : (given : Options) (l l' : Option (List ℕ)) (r r' : ℕ) (
 nothing-closed given l l' r r' status o is_closed over is =
     subst (λ (x : Outcome). TellsClosed x.status is_closed) (sym is) (lost-nothing given l l' r r' status is_closed over)
 
--- a status that tells of results tells of no lost output
-pub answered-closed : (end : End) (model is_closed : Bool) → TellsClosed (status_for end model) is_closed
-answered-closed Finished true is_closed = tt
-answered-closed Finished false is_closed = tt
-answered-closed Limited model is_closed = tt
-answered-closed Unfinished true is_closed = tt
-answered-closed Unfinished false is_closed = tt
-
 pub ok-no-fault : (p : Program) (e : ReadError) → ¬ IsErrOf (Ok p) e
 ok-no-fault p e is = cc
