@@ -4,21 +4,53 @@ ghost use Rattle.asp_vars.specs.Numbering.{bodies_of};
 
 use asp_order::order::Order;
 use asp_vars::compiled::Compiled;
+use asp_vars::lit::Var;
+use std::alloc::Global;
 
-// The literal's variable begins with the value at which it costs less.
-fn prefer(order: &mut Order, compiled: &Compiled, literal: i32, weight: i32)
-    ensures { order.new ≡ order.old }
+// Adds a weight to what the variable's truth costs.
+fn add(sums: &mut [i64], var: Var, weight: i64)
+    ensures { length sums.new ≡ length sums.old }
 {
-    if let Some(var) = compiled.var(literal.unsigned_abs()) {
-        order.prefer(var, (literal < 0) == (weight > 0));
+    let place = var as usize;
+    if place < sums.len() {
+        sums[place] = sums[place].saturating_add(weight);
     }
 }
 
-fn prefer_all(order: &mut Order, compiled: &Compiled, items: &[(i32, i32)])
+// Adds the weights of a statement, or takes them off again.
+fn add_all(sums: &mut [i64], compiled: &Compiled, items: &[(i32, i32)], sign: bool)
+    ensures { length sums.new ≡ length sums.old }
+{
+    for item in items {
+        if let Some(var) = compiled.var(item.0.unsigned_abs()) {
+            let weight = i64::from(item.1);
+            let cost = if (item.0 > 0) == sign {
+                weight
+            } else {
+                -weight
+            };
+            add(sums, var, cost);
+        }
+    }
+}
+
+// The variable begins with the value at which it costs less.
+fn prefer(order: &mut Order, sums: &[i64], var: Var)
+    ensures { order.new ≡ order.old }
+{
+    let sum = sums.get(var as usize).copied().unwrap_or(0);
+    if sum != 0 {
+        order.prefer(var, sum < 0);
+    }
+}
+
+fn prefer_all(order: &mut Order, compiled: &Compiled, sums: &[i64], items: &[(i32, i32)])
     ensures { order.new ≡ order.old }
 {
     for item in items {
-        prefer(order, compiled, item.0, item.1);
+        if let Some(var) = compiled.var(item.0.unsigned_abs()) {
+            prefer(order, sums, var);
+        }
     }
 }
 
@@ -49,19 +81,28 @@ fn prefer_derived(order: &mut Order, compiled: &Compiled)
 }
 
 // What is minimised begins with the values at which it costs less: the first answer of a program that leaves them free
-// is an optimum. The last statement about a variable counts, which of what gringo writes has the greatest priority.
-fn prefer_cheap(order: &mut Order, compiled: &Compiled)
+// is an optimum. What a statement has for a variable is summed up. The last statement about a variable counts, which of what
+// gringo writes has the greatest priority. Without memory for the sums all begins as it is.
+fn prefer_cheap(alloc: Global, order: &mut Order, compiled: &Compiled)
     ensures { order.new ≡ order.old }
 {
-    for statement in compiled.program().minimize.as_slice() {
-        prefer_all(order, compiled, statement.items.as_slice());
+    match vec![in alloc; 0i64; compiled.vars() as usize + 1] {
+        Err(_) => {}
+        Ok(mut sums) => {
+            for statement in compiled.program().minimize.as_slice() {
+                let items = statement.items.as_slice();
+                add_all(sums.as_mut_slice(), compiled, items, true);
+                prefer_all(order, compiled, sums.as_slice(), items);
+                add_all(sums.as_mut_slice(), compiled, items, false);
+            }
+        }
     }
 }
 
 /// Bodies from which something is derived begin true, and what is minimised begins cheap.
-pub fn prefer_first(order: &mut Order, compiled: &Compiled)
+pub fn prefer_first(alloc: Global, order: &mut Order, compiled: &Compiled)
     ensures { order.new ≡ order.old }
 {
     prefer_derived(order, compiled);
-    prefer_cheap(order, compiled);
+    prefer_cheap(alloc, order, compiled);
 }

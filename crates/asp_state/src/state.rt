@@ -125,7 +125,7 @@ impl<P: Propagator> SearchState<P> {
         order.age(AGE);
         match keep_completion(alloc, compiled, &mut engine, &mut order) {
             Ok(()) => {
-                prefer_first(&mut order, compiled);
+                prefer_first(alloc, &mut order, compiled);
                 Ok(SearchState {
                     engine,
                     order,
