@@ -37,8 +37,8 @@ name, after '=':\n\
 \x20 --log LOG         where threads tell one another what they learnt: blocks, the\n\
 \x20                   default, or row, 65536 slots without a lock\n\
 \x20 --budget N        at most N conflicts, 0 to 9223372036854775807, the default\n\
-\x20 --output FORM     text, the default, or json, with the keys that clasp has; not\n\
-\x20                   beside --proof, --split or --make\n\
+\x20 --output FORM     text, the default, or json, with the keys that clasp has;\n\
+\x20                   not beside --proof, --split or --make\n\
 \x20 -q, --quiet       write no answers: only how many there are, the least cost,\n\
 \x20                   and the atoms of brave and cautious\n\
 \x20 --names           brave and cautious: write the texts of the outputs that some\n\
