@@ -45,8 +45,8 @@ use asp_vars::snapshot::Snapshot;
 use std::alloc::{AllocError, Global};
 use std::marker::Model;
 
-/// A nogood with more literals isn't handed to other searches.
-pub const LONGEST_EXPORT: usize = 64;
+// A nogood with more literals isn't handed to other searches.
+const LONGEST_EXPORT: usize = 64;
 
 // One with more literals than this only if they have few levels.
 const SHORT_EXPORT: usize = 8;

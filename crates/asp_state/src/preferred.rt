@@ -86,15 +86,16 @@ fn prefer_derived(order: &mut Order, compiled: &Compiled)
 fn prefer_cheap(alloc: Global, order: &mut Order, compiled: &Compiled)
     ensures { order.new ≡ order.old }
 {
-    match vec![in alloc; 0i64; compiled.vars() as usize + 1] {
-        Err(_) => {}
-        Ok(mut sums) => {
-            for statement in compiled.program().minimize.as_slice() {
-                let items = statement.items.as_slice();
-                add_all(sums.as_mut_slice(), compiled, items, true);
-                prefer_all(order, compiled, sums.as_slice(), items);
-                add_all(sums.as_mut_slice(), compiled, items, false);
-            }
+    let statements = compiled.program().minimize.as_slice();
+    if statements.is_empty() {
+        return;
+    }
+    if let Ok(mut sums) = vec![in alloc; 0i64; compiled.vars() as usize + 1] {
+        for statement in statements {
+            let items = statement.items.as_slice();
+            add_all(sums.as_mut_slice(), compiled, items, true);
+            prefer_all(order, compiled, sums.as_slice(), items);
+            add_all(sums.as_mut_slice(), compiled, items, false);
         }
     }
 }
