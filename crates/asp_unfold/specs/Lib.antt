@@ -1,2 +1,3 @@
 pub mod Unfolded
+pub mod Bodies
 pub mod Tables
