@@ -38,6 +38,13 @@ pub(crate) fn renamed_literals(
     Ok(Seq::from_vec(others))
 }
 
+fn renamed_item(table: &SameTable, item: (i32, i32)) -> (i32, i32)
+    ensures { result ≡ renamed_item (sent table.now) item }
+{
+    let (literal, weight) = item;
+    (renamed(table, literal), weight)
+}
+
 fn renamed_items(
     alloc: Global,
     table: &SameTable,
@@ -46,8 +53,8 @@ fn renamed_items(
     ensures { IfOk result (λ others. others ≡ map (renamed_item (sent table.now)) items.now) }
 {
     let mut others = Vec::new(alloc);
-    for (literal, weight) in items {
-        others.push((renamed(table, *literal), *weight))?;
+    for item in items {
+        others.push(renamed_item(table, *item))?;
     }
     Ok(Seq::from_vec(others))
 }
