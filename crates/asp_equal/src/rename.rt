@@ -153,9 +153,9 @@ fn push_rule(
 pub(crate) fn merged_rules(
     alloc: Global,
     table: &SameTable,
-    rules: &Rules,
+    rules: Rules,
 ) -> Result<Rules, AllocError>
-    ensures { IfOk result (λ merged. merged ≡ flat_map (merged_rule (sent table.now)) rules.now) }
+    ensures { IfOk result (λ merged. merged ≡ flat_map (merged_rule (sent table.now)) rules) }
 {
     let mut merged = Rules::new(alloc)?;
     for i in 0..rules.len() {
@@ -183,9 +183,9 @@ fn push_output(
 pub(crate) fn renamed_outputs(
     alloc: Global,
     table: &SameTable,
-    outputs: &Outputs,
+    outputs: Outputs,
 ) -> Result<Outputs, AllocError>
-    ensures { IfOk result (λ others. others ≡ map (renamed_output (sent table.now)) outputs.now) }
+    ensures { IfOk result (λ others. others ≡ map (renamed_output (sent table.now)) outputs) }
 {
     let mut others = Outputs::new(alloc)?;
     for i in 0..outputs.len() {
@@ -212,12 +212,12 @@ fn renamed_minimize(
 pub(crate) fn renamed_statements(
     alloc: Global,
     table: &SameTable,
-    statements: &[Minimize],
+    statements: Seq<Minimize>,
 ) -> Result<Seq<Minimize>, AllocError>
-    ensures { IfOk result (λ others. others ≡ map (renamed_minimize (sent table.now)) statements.now) }
+    ensures { IfOk result (λ others. others ≡ map (renamed_minimize (sent table.now)) statements) }
 {
     let mut others = Vec::new(alloc);
-    for statement in statements {
+    for statement in statements.as_slice() {
         others.push(renamed_minimize(alloc, table, statement)?)?;
     }
     Ok(Seq::from_vec(others))
