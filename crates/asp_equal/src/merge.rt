@@ -102,12 +102,7 @@ pub fn merge(alloc: Global, program: Program) -> Result<Merged, AllocError>
 }
 
 // Adds the atom, if the one by which it went is in the set.
-fn push_copy(
-    atoms: &mut Vec<Atom>,
-    atom: Atom,
-    other: Atom,
-    set: &Interp,
-) -> Result<(), AllocError>
+fn push_copy(atoms: &mut Vec<Atom>, atom: Atom, other: Atom, set: &Interp) -> Result<(), AllocError>
     ensures { OnOk result (atoms.new.items ≡ atoms.old.items ++ (if has set.now other then atom ∷ [] else [])) }
 {
     if set.has(other) {

@@ -59,11 +59,7 @@ fn renamed_items(
     Ok(Seq::from_vec(others))
 }
 
-fn renamed_atoms(
-    alloc: Global,
-    table: &SameTable,
-    atoms: &[Atom],
-) -> Result<Seq<Atom>, AllocError>
+fn renamed_atoms(alloc: Global, table: &SameTable, atoms: &[Atom]) -> Result<Seq<Atom>, AllocError>
     ensures { IfOk result (λ others. others ≡ map (sent table.now) atoms.now) }
 {
     let mut others = Vec::new(alloc);
@@ -73,11 +69,7 @@ fn renamed_atoms(
     Ok(Seq::from_vec(others))
 }
 
-fn renamed_head(
-    alloc: Global,
-    table: &SameTable,
-    head: HeadView<'_>,
-) -> Result<Head, AllocError>
+fn renamed_head(alloc: Global, table: &SameTable, head: HeadView<'_>) -> Result<Head, AllocError>
     ensures { IfOk result (λ other. other ≡ renamed_head (sent table.now) (head_seen head.entry)) }
 {
     match head {
@@ -87,11 +79,7 @@ fn renamed_head(
     }
 }
 
-fn renamed_body(
-    alloc: Global,
-    table: &SameTable,
-    body: BodyView<'_>,
-) -> Result<Body, AllocError>
+fn renamed_body(alloc: Global, table: &SameTable, body: BodyView<'_>) -> Result<Body, AllocError>
     ensures { IfOk result (λ other. other ≡ renamed_body (sent table.now) (body_seen body.entry)) }
 {
     match body {
@@ -102,11 +90,7 @@ fn renamed_body(
     }
 }
 
-fn renamed_rule(
-    alloc: Global,
-    table: &SameTable,
-    rule: RuleView<'_>,
-) -> Result<Rule, AllocError>
+fn renamed_rule(alloc: Global, table: &SameTable, rule: RuleView<'_>) -> Result<Rule, AllocError>
     ensures { IfOk result (λ other. other ≡ renamed_rule (sent table.now) (rule_seen rule.entry)) }
 {
     let head = renamed_head(alloc, table, rule.head)?;
