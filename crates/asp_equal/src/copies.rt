@@ -111,6 +111,9 @@ fn note_rules(known: &mut [Atom], rules: &Rules)
     requires { (a : ℕ) → a < length known.old → slice_index known.old a ≡ 0 }
     ensures { AreSources rules.now known.new }
 {
+    if known.is_empty() {
+        return;
+    }
     for i in 0..rules.len() {
         note(known, rules.rule(i));
     }
