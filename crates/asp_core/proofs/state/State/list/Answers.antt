@@ -1,8 +1,7 @@
 use Rattle.std.proofs.Common.{◌≡◌, ℕ, ◌<◌, BTreeSet, List, [], ◌∷◌, ◌++◌, None, refl, sym, ap, ◌∙◌, subst, arith}
-use Rattle.asp_model.specs.declared.program.Program.{Program}
 use Rattle.asp_model.specs.Models.{atoms_of}
 use Rattle.asp_model.specs.Sets.{Atoms}
-use Rattle.asp_rows.specs.Bits.{IsAmong, encode}
+use Rattle.asp_rows.specs.Bits.{encode}
 use Rattle.asp_rows.specs.declared.row.Row.{Row}
 use Rattle.asp_rows.specs.Listed.{IsRowOf, Listed}
 use Rattle.asp_rows.proofs.RowLaws.{row-of}
@@ -39,7 +38,7 @@ IsState-listed i seen by S A D I view guard listed pushed counts =
     (ap (λ (x : List Atoms). record (board_of i) { answers = x }) more)
     refl refl (ap (λ (l : Listed). l.atoms) pushed) (I.costed)
     (different-delivered i.limit (atoms_of i.program.value) i.different.keys D.keys (answers_in (sought i.goal) i.answers.sets i.told.items) (answers_in (sought i.goal) A.sets i.told.items) S I.sorted
-      (λ some. subst (λ (L : Atoms). Counts L i.different.keys D.keys S) I.among (counts some)) more)
+    (λ some. subst (λ (L : Atoms). Counts L i.different.keys D.keys S) I.among (counts some)) more)
     (seen-list (sought i.goal) i.program.value i.known i.answers.sets A.sets i.told.items i.atoms.items none I.seen) I.room
 
 pub push_row-requires : goal.push_row-requires
@@ -53,7 +52,7 @@ add_row-added-requires-clause-row c =
     let same : c.as_slice.result.now ≡ c.self.inside.answers.atoms = c.as_slice.ensures.value ∙ c.atoms.ensures ∙ ap (λ (l : Listed). l.atoms) c.in_ok-push_row-2.ensures.ok in
     subst (λ (L : Atoms). IsRowOf L c.in_ok-counted.counted) (sym same)
     (row-among c.self.inside c.args.self.now c.args.by c.args.set c.in_ok-counted.counted c.self.invariant c.self.view_is c.requires.guard
-      (c.in_ok-counted.ensures.words ∙ c.requires.row.words) c.in_ok-counted.ensures.set)
+    (c.in_ok-counted.ensures.words ∙ c.requires.row.words) c.in_ok-counted.ensures.set)
 
 pub invariant_of-self-then-self-eq0 : goal.invariant_of-self-then-self-eq0
 invariant_of-self-then-self-eq0 c =
@@ -68,4 +67,4 @@ invariant_of-self-in-Ok c =
     IsState-listed i c.args.self.now c.args.by c.args.set c.push_row-2.new.self c.add_row-added.new.different c.self.invariant c.self.view_is c.requires.guard c.requires.listed
     (c.in_ok-push_row-2.ensures.ok ∙ ap (λ (S : Atoms). record i.answers { sets = i.answers.sets ++ S ∷ [] }) c.requires.row.set)
     (λ some. subst (λ (S : Atoms). Counts i.answers.atoms i.different.keys c.add_row-added.new.different.keys S) c.in_ok-counted.ensures.set
-      (subst (λ (L : Atoms). Counts L i.different.keys c.add_row-added.new.different.keys c.in_ok-counted.counted.set) same c.in-Ok.ensures.ok))
+    (subst (λ (L : Atoms). Counts L i.different.keys c.add_row-added.new.different.keys c.in_ok-counted.counted.set) same c.in-Ok.ensures.ok))
