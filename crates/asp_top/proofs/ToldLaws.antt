@@ -337,14 +337,14 @@ pub told-text : (given : Options) (p : Program) (r : Report) (layout : Layout) �
     report_text (searched given p) (told_with (set_aside given p) r) layout ≡ report_text (asked given p) (report_with (set_aside given p) r) layout
 told-text given p r layout proof = by (asked given p) (is_settled given) refl
   where
-    by : (q : Program) (b : Bool) → is_settled given ≡ b → report_text (cond b (rest q) q) (told_with (cond b (aside_of q) []) r) layout ≡ report_text q (report_with (cond b (aside_of q) []) r) layout
+    by : (q : Program) (b : Bool) → is_settled given ≡ b → report_text (cond b (rest q) q) (told_with (cond b (aside_of q) none_aside) r) layout ≡ report_text q (report_with (cond b (aside_of q) none_aside) r) layout
     by q true e = text_without q r layout (no-proof r.results.end r.results r.proof (subst (λ wanted. HasProof wanted r) (unasked given e) proof))
     by q false e = ap (λ x. report_text q x layout) (same-told r ∙ sym (same-report r))
 
 pub told-says : (given : Options) (p : Program) (ask : Ask) (r : Report) (end : End) → IsSound (asked given p) → SaysReport (searched given p) ask r end → SaysReport (asked given p) ask (report_with (set_aside given p) r) end
 told-says given p ask r end sound h = by (asked given p) (is_settled given) sound h
   where
-    by : (q : Program) (b : Bool) → IsSound q → SaysReport (cond b (rest q) q) ask r end → SaysReport q ask (report_with (cond b (aside_of q) []) r) end
+    by : (q : Program) (b : Bool) → IsSound q → SaysReport (cond b (rest q) q) ask r end → SaysReport q ask (report_with (cond b (aside_of q) none_aside) r) end
     by q true sound s = says-left q ask r end sound (says-unfolded (reduced q) ask r end (sound-reduced q sound) s)
     by q false sound s = subst (λ x. SaysReport q ask x end) (sym (same-report r)) s
 
