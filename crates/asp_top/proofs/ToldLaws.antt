@@ -1,5 +1,5 @@
--- What was found of a program without its facts, told with them: it is what was asked of the program, and its text.
-use Rattle.std.proofs.Common.{◌≡◌, ℕ, ◌+◌, Bool, true, false, not, ◌&&◌, ◌||◌, cond, List, [], ◌∷◌, ◌++◌, map, filter, length, suc, refl, sym, ap, ◌∙◌, subst, ℤ, pos, negsuc, Contains, inl, inr}
+-- What was found of what is left of a program, told with what was set aside: it is what was asked of the program, and its text.
+use Rattle.std.proofs.Common.{◌≡◌, ℕ, ◌+◌, Bool, true, false, not, ◌&&◌, ◌||◌, cond, List, [], ◌∷◌, ◌++◌, map, filter, length, refl, sym, ap, ◌∙◌, subst, ℤ, Contains, inl, inr}
 use Rattle.std.specs.Prelude.{Option, None, Some, Result, Ok, IfOk, IfSome, option_map, is_some, codes, decimal}
 use Rattle.std.specs.List.{join_with_byte}
 use Rattle.std.proofs.lemmas.List.{length-map}
@@ -16,7 +16,7 @@ use Rattle.asp_model.specs.Models.{answers}
 use Rattle.asp_model.specs.Consequences.{consequences_of}
 use Rattle.asp_model.specs.Found.{Found}
 use Rattle.asp_model.specs.Sound.{IsSound}
-use Rattle.asp_model.specs.Texts.{answer_lines, answers_from, best_answers, best_cost_line, bests, closing_lines, ended_line, found_count, recorded, shown}
+use Rattle.asp_model.specs.Texts.{answer_lines, answers_from, best_answers, best_cost_line, bests, closing_lines, ended_line, found_count, recorded}
 use Rattle.asp_print.specs.Named.{known_line, named_line, printed_text, sums_line}
 use Rattle.asp_named.specs.Named.{named}
 use Rattle.asp_top.specs.Naming.{asked, is_json, is_named, is_settled}
