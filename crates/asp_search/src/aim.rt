@@ -1,8 +1,8 @@
 //! Which atom a search for consequences is to show next.
 //!
 //! On the way down from an answer the atoms that are still to be shown are decided in their order, each so that it is shown, until
-//! there is a conflict: so the next answer shows many. After a conflict none is decided so until no decision stands: then the first of
-//! them is, and if it can't be shown, the search mostly learns that at once; else the way down begins again.
+//! there is a conflict: so the next answer shows many. After a conflict only one is decided so, where no decision stands: if it can't
+//! be shown, the search mostly learns that at once.
 ghost use Rattle.std.specs.Prelude.{◌≡◌, IsTrue};
 ghost use Rattle.std.specs.List.{All};
 ghost use Rattle.asp_model.specs.Models.{atoms_of};
@@ -71,7 +71,7 @@ impl Aim {
         }
     }
 
-    /// After an answer.
+    /// After an answer, its own or others'.
     pub(crate) fn begun() -> Aim {
         Aim {
             fixed: 0,
@@ -104,7 +104,6 @@ impl Aim {
             self.fixed,
         );
         self.fixed = place;
-        self.passed = Some(place);
         lit
     }
 

@@ -312,7 +312,7 @@ impl<'a, P: Propagator> Search<'a, P> {
         ) {
             Ok(()) => {
                 self.seen = Some(known);
-                self.aim = Aim::unset();
+                self.aim = Aim::begun();
                 self.last = None;
                 Ok(())
             }
