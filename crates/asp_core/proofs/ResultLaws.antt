@@ -91,7 +91,7 @@ none_listed : (t : Task) (A : List Atoms) → AllByRecursion (λ S. IsTrue (list
 none_listed t [] h = refl
 none_listed t (S ∷ A) h = absurd (false≢true h.0.0)
 
-delivered_all : (m : Goal) (t : Task) (A : List Atoms) (S : Atoms) → AllByRecursion (λ T. IsTrue (lists_by m t.program T) × IsTrue (is_answer t T)) A → list_any (same_set S) A ≡ true →
+pub delivered_all : (m : Goal) (t : Task) (A : List Atoms) (S : Atoms) → AllByRecursion (λ T. IsTrue (lists_by m t.program T) × IsTrue (is_answer t T)) A → list_any (same_set S) A ≡ true →
     (is_answer t S && lists_by m t.program S) ≡ true
 delivered_all m t A S h any =
     let Fits : Atoms → Type 0 = λ T. (is_answer t T && lists_by m t.program T) ≡ true in

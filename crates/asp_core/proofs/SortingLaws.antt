@@ -135,7 +135,7 @@ rise-same (S ∷ L) (T ∷ M) l m h = here (set_cmp S T) refl (rise-same L M l.1
     here Greater q rest = absurd (not_there T S M L (turned S T (sym q)) l.0 (sym (h T)))
 
 -- ---- the answers in order
-has-filter : (q : Atoms → Bool) (L : List Atoms) (S : Atoms) → list_any (same_set S) (filter q L) ≡ (q S && list_any (same_set S) L)
+pub has-filter : (q : Atoms → Bool) (L : List Atoms) (S : Atoms) → list_any (same_set S) (filter q L) ≡ (q S && list_any (same_set S) L)
 has-filter q [] S = none (q S)
   where
     none : (a : Bool) → false ≡ (a && false)
@@ -149,7 +149,7 @@ has-filter q (T ∷ L) S = here (same_set S T) refl (q T) refl (has-filter q L S
     here false e true f rest = ap (λ x. x || list_any (same_set S) (filter q L)) (sym e) ∙ rest
     here false e false f rest = rest
 
-rise-filter : (q : Atoms → Bool) (L : List Atoms) → Rise L → Rise (filter q L)
+pub rise-filter : (q : Atoms → Bool) (L : List Atoms) → Rise L → Rise (filter q L)
 rise-filter q [] up = tt
 rise-filter q (T ∷ L) up = here (q T) (each-filter (λ R. set_cmp T R ≡ Less) q L up.0) (rise-filter q L up.1)
   where
@@ -165,7 +165,7 @@ rise-by_cmp : (L : List Atoms) → AllByRecursion IsAscending L → IsRising L �
 rise-by_cmp [] l up = tt
 rise-by_cmp (S ∷ L) l up = (by_cmp S L l.0 l.1 up.0, rise-by_cmp L l.1 up.1)
 
-models-rise : (p : Program) → Rise (models p)
+pub models-rise : (p : Program) → Rise (models p)
 models-rise p =
     let up = IsAscending-set_of (mentions p) in
     rise-filter (is_stable p) (subsets (atoms_of p))

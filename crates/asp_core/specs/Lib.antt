@@ -2,7 +2,6 @@ pub mod Boards
 pub mod Units
 pub mod Sorting
 pub mod Events
-pub mod Entries
 pub mod Growth
 pub mod Invariant
 pub mod Stored

@@ -34,6 +34,7 @@ use asp_vars::lit::Lit;
 use asp_vars::nogood::Lits;
 use asp_vars::origin::Origin;
 use asp_vars::snapshot::Snapshot;
+use smallvec::SmallVec;
 use std::alloc::{AllocError, Global};
 use std::collections::BTreeSet;
 use std::marker::Model;
@@ -108,7 +109,19 @@ fn add_row(different: &mut BTreeSet<Row>, atoms: &[Atom], row: Row) -> Result<()
     Ok(())
 }
 
-// The same with the set itself, where there is a limit to count the different ones for.
+// The row of a set once more.
+fn copied(alloc: Global, row: &Row, set: &Interp) -> Result<Row, AllocError>
+    ensures words { IfOk result (λ copy. copy.words.items ≡ row.now.words.items) }
+    ensures set { IfOk result (λ copy. copy.set ≡ set.now) }
+{
+    let words = SmallVec::from_slice(alloc, row.words.as_slice())?;
+    Ok(Row {
+        words,
+        set: Snapshot::of(set),
+    })
+}
+
+// Puts a set's row among the different ones, where there is a limit to count these for.
 fn count_in(
     alloc: Global,
     limit: u64,
@@ -242,16 +255,19 @@ impl State {
         ensures ok { OnOk result (self.new ≡ happens self.old (event.Deliver by set)) }
         ensures err { OnErr result (self.new ≡ self.old) }
     {
+        if self.limit == 0 {
+            self.answers.push_row(row)?;
+            return Ok(());
+        }
+        let counted = copied(self.alloc, &row, &set)?;
         let len = self.answers.len();
         self.answers.push_row(row)?;
-        let counted = count_in(
-            self.alloc,
-            self.limit,
+        let added = add_row(
             &mut self.different,
             self.answers.atoms().as_slice(),
-            &set,
+            counted,
         );
-        match counted {
+        match added {
             Ok(()) => Ok(()),
             Err(error) => {
                 self.answers.truncate(len);
