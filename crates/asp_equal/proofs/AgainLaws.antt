@@ -21,7 +21,7 @@ use Rattle.asp_model.proofs.ConsequenceLaws.{filter-every}
 use Rattle.asp_settle.specs.Settled.{facts_of, left_of, united}
 use Rattle.asp_settle.proofs.ReadLaws.{has-united}
 use Rattle.asp_settle.proofs.SettledLaws.{facts-apart, shown-left}
-use Rattle.asp_equal.specs.Copies.{copied, noted, places, same, source}
+use Rattle.asp_equal.specs.Copies.{copied, noted, places, source}
 use Rattle.asp_equal.specs.Merged.{copies_of, extended}
 use Rattle.asp_equal.specs.Reduced.{none_aside, reduced, restored, whole}
 use Rattle.asp_equal.proofs.SourceLaws.{copied-known, has_head, known-kept}

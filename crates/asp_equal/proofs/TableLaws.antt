@@ -58,10 +58,13 @@ least-any f r (suc k) d e a lt h = any_step f r k d e a (eqb (f k) r) (λ low. l
 
 pub same-table : (p : Program) (known table sends : List ℕ) (names : Atoms) → length known ≡ places p → AreSources p.rules known → names ≡ set_of (named p) → length table ≡ length known → AreLeast known names table →
     length sends ≡ length known → ((a : ℕ) → a < length known → get_or sends a 0 ≡ sent table (root_in known names a)) → IsSameTable p sends
-same-table p known table sends names count sources e counted lows many reads = record { count = many ∙ count; value = λ a. elim (cases_lt a (length known)) [
-  | inl lt ↦ sent-here sends a (omega (arith, many, lt)) ∙ reads a lt ∙ here a lt
-  | inr far ↦ sent-past sends a (omega (arith, many, far)) ∙ sym (same-far (places p) p a (omega (arith, count, far)))
-] }
+same-table p known table sends names count sources e counted lows many reads = record {
+  count = many ∙ count;
+  value = λ a. elim (cases_lt a (length known)) [
+    | inl lt ↦ sent-here sends a (omega (arith, many, lt)) ∙ reads a lt ∙ here a lt
+    | inr far ↦ sent-past sends a (omega (arith, many, far)) ∙ sym (same-far (places p) p a (omega (arith, count, far)))
+  ];
+}
   where
     roots : (a : ℕ) → root_in known names a ≡ root (places p) p a
     roots = root-read p known names count sources e

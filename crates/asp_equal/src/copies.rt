@@ -1,8 +1,8 @@
 //! The atoms of a program that copy another one, and by which each of them goes.
-ghost use Rattle.std.specs.Prelude.{◌≡◌, ◌∷◌, [], ◌++◌, OnOk, ◌<◌, ◌≤◌, ◌+◌, ◌==◌, ◌&&◌, ℕ, not, nat_lt, map, length, slice_index, slice_index_or, slice_set, if◌then◌else◌, IfOk};
+ghost use Rattle.std.specs.Prelude.{◌≡◌, ◌∷◌, [], ◌++◌, OnOk, ◌<◌, ◌≤◌, ◌+◌, ◌==◌, ◌&&◌, ℕ, map, length, slice_index, slice_set, if◌then◌else◌, IfOk};
 ghost use Rattle.asp_model.specs.Sets.{has, set_of};
 ghost use Rattle.asp_model.specs.Sound.{IsSound};
-ghost use Rattle.asp_model.specs.Views.{body_seen, head_seen, rule_seen};
+ghost use Rattle.asp_model.specs.Views.{body_seen, rule_seen};
 ghost use Rattle.asp_equal.specs.Copies.{above, above_rule, copies_below, only_atom, places};
 ghost use Rattle.asp_equal.specs.Tables.{AreLeast, AreNoted, AreSources, IsSameTable, root_in, sent, target_in};
 

@@ -1,14 +1,14 @@
 //! A program is divided into the atoms that go by another one and the program in which they are one.
-ghost use Rattle.std.specs.Prelude.{◌≡◌, ◌∷◌, [], ◌++◌, filter, not, if◌then◌else◌, IfOk, OnOk};
+ghost use Rattle.std.specs.Prelude.{◌≡◌, ◌∷◌, [], ◌++◌, filter, map, not, if◌then◌else◌, IfOk, OnOk};
 ghost use Rattle.asp_model.specs.Sets.{has, set_of};
 ghost use Rattle.asp_model.specs.Sound.{IsSound};
-ghost use Rattle.asp_equal.specs.Merged.{back, copies_of, extended, gone, merged_by, merged_of};
+ghost use Rattle.asp_equal.specs.Merged.{back, copies_of, extended, gone, merged_by, merged_of, renamed, renamed_minimize};
 ghost use Rattle.asp_equal.specs.Tables.{sent};
 
 use crate::copies::SameTable;
 use crate::rename::{merged_rules, renamed_literals, renamed_outputs, renamed_statements};
 use asp_model::interp::Interp;
-use asp_model::program::{Atom, Program};
+use asp_model::program::{Atom, External, Minimize, Program};
 use asp_model::seq::Seq;
 use std::alloc::{AllocError, Global};
 
@@ -21,7 +21,37 @@ pub struct Merged {
     pub left: Program,
 }
 
-// The program, renamed.
+// What is neither rule nor output.
+#[derive(Drop)]
+struct Rest {
+    /// What answers cost.
+    minimize: Seq<Minimize>,
+    /// Atoms that other programs may define.
+    externals: Seq<External>,
+    /// Literals that hold in each answer.
+    assumptions: Seq<i32>,
+}
+
+fn renamed_rest(alloc: Global, table: &SameTable, rest: Rest) -> Result<Rest, AllocError>
+    ensures minimize { IfOk result (λ other. other.minimize ≡ map (renamed_minimize (sent table.now)) rest.minimize) }
+    ensures externals { IfOk result (λ other. other.externals ≡ rest.externals) }
+    ensures assumptions { IfOk result (λ other. other.assumptions ≡ map (renamed (sent table.now)) rest.assumptions) }
+{
+    let Rest {
+        minimize,
+        externals,
+        assumptions,
+    } = rest;
+    let minimize = renamed_statements(alloc, table, minimize)?;
+    let assumptions = renamed_literals(alloc, table, assumptions.as_slice())?;
+    Ok(Rest {
+        minimize,
+        externals,
+        assumptions,
+    })
+}
+
+// The program, renamed. Few values are alive where it can return: each way out is proved for each of them.
 fn renamed(alloc: Global, table: &SameTable, program: Program) -> Result<Program, AllocError>
     ensures { IfOk result (λ left. left ≡ merged_by (sent table.now) program) }
 {
@@ -32,10 +62,18 @@ fn renamed(alloc: Global, table: &SameTable, program: Program) -> Result<Program
         externals,
         assumptions,
     } = program;
-    let rules = merged_rules(alloc, table, &rules)?;
-    let outputs = renamed_outputs(alloc, table, &outputs)?;
-    let minimize = renamed_statements(alloc, table, minimize.as_slice())?;
-    let assumptions = renamed_literals(alloc, table, assumptions.as_slice())?;
+    let rest = Rest {
+        minimize,
+        externals,
+        assumptions,
+    };
+    let rules = merged_rules(alloc, table, rules)?;
+    let outputs = renamed_outputs(alloc, table, outputs)?;
+    let Rest {
+        minimize,
+        externals,
+        assumptions,
+    } = renamed_rest(alloc, table, rest)?;
     Ok(Program {
         rules,
         minimize,
@@ -64,12 +102,7 @@ pub fn merge(alloc: Global, program: Program) -> Result<Merged, AllocError>
 }
 
 // Adds the atom, if the one by which it went is in the set.
-fn push_copy(
-    atoms: &mut Vec<Atom>,
-    atom: Atom,
-    other: Atom,
-    set: &Interp,
-) -> Result<(), AllocError>
+fn push_copy(atoms: &mut Vec<Atom>, atom: Atom, other: Atom, set: &Interp) -> Result<(), AllocError>
     ensures { OnOk result (atoms.new.items ≡ atoms.old.items ++ (if has set.now other then atom ∷ [] else [])) }
 {
     if set.has(other) {

@@ -38,6 +38,13 @@ pub(crate) fn renamed_literals(
     Ok(Seq::from_vec(others))
 }
 
+fn renamed_item(table: &SameTable, item: (i32, i32)) -> (i32, i32)
+    ensures { result ≡ renamed_item (sent table.now) item }
+{
+    let (literal, weight) = item;
+    (renamed(table, literal), weight)
+}
+
 fn renamed_items(
     alloc: Global,
     table: &SameTable,
@@ -46,17 +53,13 @@ fn renamed_items(
     ensures { IfOk result (λ others. others ≡ map (renamed_item (sent table.now)) items.now) }
 {
     let mut others = Vec::new(alloc);
-    for (literal, weight) in items {
-        others.push((renamed(table, *literal), *weight))?;
+    for item in items {
+        others.push(renamed_item(table, *item))?;
     }
     Ok(Seq::from_vec(others))
 }
 
-fn renamed_atoms(
-    alloc: Global,
-    table: &SameTable,
-    atoms: &[Atom],
-) -> Result<Seq<Atom>, AllocError>
+fn renamed_atoms(alloc: Global, table: &SameTable, atoms: &[Atom]) -> Result<Seq<Atom>, AllocError>
     ensures { IfOk result (λ others. others ≡ map (sent table.now) atoms.now) }
 {
     let mut others = Vec::new(alloc);
@@ -66,11 +69,7 @@ fn renamed_atoms(
     Ok(Seq::from_vec(others))
 }
 
-fn renamed_head(
-    alloc: Global,
-    table: &SameTable,
-    head: HeadView<'_>,
-) -> Result<Head, AllocError>
+fn renamed_head(alloc: Global, table: &SameTable, head: HeadView<'_>) -> Result<Head, AllocError>
     ensures { IfOk result (λ other. other ≡ renamed_head (sent table.now) (head_seen head.entry)) }
 {
     match head {
@@ -80,11 +79,7 @@ fn renamed_head(
     }
 }
 
-fn renamed_body(
-    alloc: Global,
-    table: &SameTable,
-    body: BodyView<'_>,
-) -> Result<Body, AllocError>
+fn renamed_body(alloc: Global, table: &SameTable, body: BodyView<'_>) -> Result<Body, AllocError>
     ensures { IfOk result (λ other. other ≡ renamed_body (sent table.now) (body_seen body.entry)) }
 {
     match body {
@@ -95,11 +90,7 @@ fn renamed_body(
     }
 }
 
-fn renamed_rule(
-    alloc: Global,
-    table: &SameTable,
-    rule: RuleView<'_>,
-) -> Result<Rule, AllocError>
+fn renamed_rule(alloc: Global, table: &SameTable, rule: RuleView<'_>) -> Result<Rule, AllocError>
     ensures { IfOk result (λ other. other ≡ renamed_rule (sent table.now) (rule_seen rule.entry)) }
 {
     let head = renamed_head(alloc, table, rule.head)?;
@@ -146,9 +137,9 @@ fn push_rule(
 pub(crate) fn merged_rules(
     alloc: Global,
     table: &SameTable,
-    rules: &Rules,
+    rules: Rules,
 ) -> Result<Rules, AllocError>
-    ensures { IfOk result (λ merged. merged ≡ flat_map (merged_rule (sent table.now)) rules.now) }
+    ensures { IfOk result (λ merged. merged ≡ flat_map (merged_rule (sent table.now)) rules) }
 {
     let mut merged = Rules::new(alloc)?;
     for i in 0..rules.len() {
@@ -176,9 +167,9 @@ fn push_output(
 pub(crate) fn renamed_outputs(
     alloc: Global,
     table: &SameTable,
-    outputs: &Outputs,
+    outputs: Outputs,
 ) -> Result<Outputs, AllocError>
-    ensures { IfOk result (λ others. others ≡ map (renamed_output (sent table.now)) outputs.now) }
+    ensures { IfOk result (λ others. others ≡ map (renamed_output (sent table.now)) outputs) }
 {
     let mut others = Outputs::new(alloc)?;
     for i in 0..outputs.len() {
@@ -205,12 +196,12 @@ fn renamed_minimize(
 pub(crate) fn renamed_statements(
     alloc: Global,
     table: &SameTable,
-    statements: &[Minimize],
+    statements: Seq<Minimize>,
 ) -> Result<Seq<Minimize>, AllocError>
-    ensures { IfOk result (λ others. others ≡ map (renamed_minimize (sent table.now)) statements.now) }
+    ensures { IfOk result (λ others. others ≡ map (renamed_minimize (sent table.now)) statements) }
 {
     let mut others = Vec::new(alloc);
-    for statement in statements {
+    for statement in statements.as_slice() {
         others.push(renamed_minimize(alloc, table, statement)?)?;
     }
     Ok(Seq::from_vec(others))

@@ -14,4 +14,4 @@ returns c =
     let stay = c.staying-atoms.ensures ∙ ap (filter (λ a. not (has G a))) (c.in_ok-from_slice.ensures.items ∙ c.as_slice-2.ensures.value) in
     c.from_atoms.ensures.value
     ∙ extended-from copies S G c.push_copies.new.atoms.items up is
-      (c.in_ok-push_copies.ensures ∙ ap (λ xs. xs ++ back c.as_slice-3.result.now S) stay ∙ ap (λ cs. filter (λ a. not (has G a)) S ++ back cs S) c.as_slice-3.ensures.value)
+    (c.in_ok-push_copies.ensures ∙ ap (λ xs. xs ++ back c.as_slice-3.result.now S) stay ∙ ap (λ cs. filter (λ a. not (has G a)) S ++ back cs S) c.as_slice-3.ensures.value)

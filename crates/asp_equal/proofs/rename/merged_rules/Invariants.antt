@@ -4,4 +4,4 @@ use Rattle.asp_equal.specs.Tables.{sent}
 use Rattle.asp_equal.proofs.rename.merged_rules.Given as goal
 
 abbrev pub invariant-loop-i : goal.invariant-loop-i
-invariant-loop-i l = l.merged ≡ flat_map (merged_rule (sent l.table)) (take l.i l.rules)
+invariant-loop-i l = l.merged ≡ flat_map (merged_rule (sent l.table)) (take l.i l.fn.rules)

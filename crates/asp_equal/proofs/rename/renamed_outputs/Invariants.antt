@@ -4,4 +4,4 @@ use Rattle.asp_equal.specs.Tables.{sent}
 use Rattle.asp_equal.proofs.rename.renamed_outputs.Given as goal
 
 abbrev pub invariant-loop-i : goal.invariant-loop-i
-invariant-loop-i l = l.others ≡ map (renamed_output (sent l.table)) (take l.i l.outputs)
+invariant-loop-i l = l.others ≡ map (renamed_output (sent l.table)) (take l.i l.fn.outputs)
