@@ -132,7 +132,7 @@ fn sources(alloc: Global, rules: &Rules, count: usize) -> Result<Vec<Atom>, Allo
 fn named_set(alloc: Global, externals: &[External]) -> Result<Interp, AllocError>
     ensures { IfOk result (λ named. named ≡ set_of (map (λ e. e.atom) externals.now)) }
 {
-    let mut atoms = Vec::new(alloc);
+    let mut atoms = Vec::with_capacity(alloc, externals.len())?;
     for external in externals {
         atoms.push(external.atom)?;
     }
@@ -177,7 +177,7 @@ fn numbers(alloc: Global, count: usize) -> Result<Vec<Atom>, AllocError>
     ensures count { IfOk result (λ table. length table.items ≡ count) }
     ensures value { IfOk result (λ table. (a : ℕ) → a < count → slice_index table.items a ≡ a) }
 {
-    let mut table = Vec::new(alloc);
+    let mut table = Vec::with_capacity(alloc, count)?;
     for place in 0..count {
         table.push(place as Atom)?;
     }
@@ -227,7 +227,7 @@ fn through_roots(
     ensures count { IfOk result (λ table. length table.items ≡ length known.now) }
     ensures value { IfOk result (λ table. (a : ℕ) → a < length known.now → slice_index table.items a ≡ sent least.now (root_in known.now named.now a)) }
 {
-    let mut table = Vec::new(alloc);
+    let mut table = Vec::with_capacity(alloc, known.len())?;
     for place in 0..known.len() {
         table.push(at(least, root(known, named, place as Atom)))?;
     }

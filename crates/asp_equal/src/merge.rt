@@ -129,7 +129,7 @@ fn push_copies(
 fn gone_set(alloc: Global, copies: &[(Atom, Atom)]) -> Result<Interp, AllocError>
     ensures { IfOk result (λ set. set ≡ set_of (gone copies.now)) }
 {
-    let mut atoms = Vec::new(alloc);
+    let mut atoms = Vec::with_capacity(alloc, copies.len())?;
     for (atom, _) in copies {
         atoms.push(*atom)?;
     }

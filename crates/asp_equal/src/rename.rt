@@ -31,7 +31,7 @@ pub(crate) fn renamed_literals(
 ) -> Result<Seq<i32>, AllocError>
     ensures { IfOk result (λ others. others ≡ map (renamed (sent table.now)) literals.now) }
 {
-    let mut others = Vec::new(alloc);
+    let mut others = Vec::with_capacity(alloc, literals.len())?;
     for literal in literals {
         others.push(renamed(table, *literal))?;
     }
@@ -52,7 +52,7 @@ fn renamed_items(
 ) -> Result<Seq<(i32, i32)>, AllocError>
     ensures { IfOk result (λ others. others ≡ map (renamed_item (sent table.now)) items.now) }
 {
-    let mut others = Vec::new(alloc);
+    let mut others = Vec::with_capacity(alloc, items.len())?;
     for item in items {
         others.push(renamed_item(table, *item))?;
     }
@@ -62,7 +62,7 @@ fn renamed_items(
 fn renamed_atoms(alloc: Global, table: &SameTable, atoms: &[Atom]) -> Result<Seq<Atom>, AllocError>
     ensures { IfOk result (λ others. others ≡ map (sent table.now) atoms.now) }
 {
-    let mut others = Vec::new(alloc);
+    let mut others = Vec::with_capacity(alloc, atoms.len())?;
     for atom in atoms {
         others.push(table.of(*atom))?;
     }
@@ -200,7 +200,7 @@ pub(crate) fn renamed_statements(
 ) -> Result<Seq<Minimize>, AllocError>
     ensures { IfOk result (λ others. others ≡ map (renamed_minimize (sent table.now)) statements) }
 {
-    let mut others = Vec::new(alloc);
+    let mut others = Vec::with_capacity(alloc, statements.as_slice().len())?;
     for statement in statements.as_slice() {
         others.push(renamed_minimize(alloc, table, statement)?)?;
     }
