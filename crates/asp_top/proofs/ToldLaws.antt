@@ -1,5 +1,5 @@
--- What was found of a program without its facts, told with them: it is what was asked of the program, and its text.
-use Rattle.std.proofs.Common.{◌≡◌, ℕ, ◌+◌, Bool, true, false, not, ◌&&◌, ◌||◌, cond, List, [], ◌∷◌, ◌++◌, map, filter, length, suc, refl, sym, ap, ◌∙◌, subst, ℤ, pos, negsuc, Contains, inl, inr}
+-- What was found of what is left of a program, told with what was set aside: it is what was asked of the program, and its text.
+use Rattle.std.proofs.Common.{◌≡◌, ℕ, ◌+◌, Bool, true, false, not, ◌&&◌, ◌||◌, cond, List, [], ◌∷◌, ◌++◌, map, filter, length, refl, sym, ap, ◌∙◌, subst, ℤ, Contains, inl, inr}
 use Rattle.std.specs.Prelude.{Option, None, Some, Result, Ok, IfOk, IfSome, option_map, is_some, codes, decimal}
 use Rattle.std.specs.List.{join_with_byte}
 use Rattle.std.proofs.lemmas.List.{length-map}
@@ -16,7 +16,7 @@ use Rattle.asp_model.specs.Models.{answers}
 use Rattle.asp_model.specs.Consequences.{consequences_of}
 use Rattle.asp_model.specs.Found.{Found}
 use Rattle.asp_model.specs.Sound.{IsSound}
-use Rattle.asp_model.specs.Texts.{answer_lines, answers_from, best_answers, best_cost_line, bests, closing_lines, ended_line, found_count, recorded, shown}
+use Rattle.asp_model.specs.Texts.{answer_lines, answers_from, best_answers, best_cost_line, bests, closing_lines, ended_line, found_count, recorded}
 use Rattle.asp_print.specs.Named.{known_line, named_line, printed_text, sums_line}
 use Rattle.asp_named.specs.Named.{named}
 use Rattle.asp_top.specs.Naming.{asked, is_json, is_named, is_settled}
@@ -28,7 +28,7 @@ use Rattle.asp_equal.specs.Merged.{renamed_minimize}
 use Rattle.asp_equal.specs.Reduced.{aside_of, none_aside, reduced, reduced_set, restored}
 use Rattle.asp_equal.proofs.AgainLaws.{restored-none, shown-again}
 use Rattle.asp_equal.proofs.WholeLaws.{goes_by}
-use Rattle.asp_equal.proofs.ReducedLaws.{all-consequences, chosen-reduced as chosen-left, cost-reduced as cost-left, optima-chosen, optima-reduced as optima-left, optimum-reduced as optimum-left, same-answers, shown-reduced as shown-left, some-consequences as consequences-left, sound-reduced}
+use Rattle.asp_equal.proofs.ReducedLaws.{all-consequences, chosen-reduced, cost-reduced, optima-chosen, optima-reduced, optimum-reduced, same-answers, shown-reduced, some-consequences, sound-reduced}
 use Rattle.asp_model.proofs.ModelLaws.{answers-are}
 use Rattle.asp_unfold.specs.Unfolded.{unfolded, unfolded_minimize}
 use Rattle.asp_unfold.proofs.SameLaws.{same-answers as same-unfolded, same-consequences, same-cost, same-optima, same-optimum}
@@ -104,16 +104,16 @@ says-unfolded p ask r Unfinished sound h = (part_of-unfolded p ask.all_optima as
 priced-left : (p : Program) (best : Option (Atoms × List ℤ)) → IsSound p → IfSome best (IsPriced (reduced p)) → IfSome (option_map (λ b. (restored (aside_of p) b.0, b.1)) best) (IsPriced p)
 priced-left p None sound h = h
 priced-left p (Some b) sound h =
-    (subst (λ Ss. Contains Ss (restored (aside_of p) b.0)) (sym (same-answers p sound)) (contains-map (restored (aside_of p)) (answers (reduced p)) b.0 h.0), h.1 ∙ sym (cost-left p b.0))
+    (subst (λ Ss. Contains Ss (restored (aside_of p) b.0)) (sym (same-answers p sound)) (contains-map (restored (aside_of p)) (answers (reduced p)) b.0 h.0), h.1 ∙ sym (cost-reduced p b.0))
 
 part-left : (p : Program) (mode : Mode) (r : Found) → IsSound p → IsPart (reduced p) mode r → IsPart p mode (found_with (aside_of p) r)
 part-left p Enum r sound h =
-    ((λ S. h.0.0 (reduced_set p S), ap (map (restored (aside_of p))) h.0.1 ∙ chosen-left p h.0.0 sound), ap (option_map (λ (b : Atoms × List ℤ). (restored (aside_of p) b.0, b.1))) h.1)
+    ((λ S. h.0.0 (reduced_set p S), ap (map (restored (aside_of p))) h.0.1 ∙ chosen-reduced p h.0.0 sound), ap (option_map (λ (b : Atoms × List ℤ). (restored (aside_of p) b.0, b.1))) h.1)
 part-left p Opt r sound h = (ap (map (restored (aside_of p))) h.0, priced-left p r.best sound h.1)
 part-left p (Consequences w) r sound h = (
   ap (map (restored (aside_of p))) h.0,
   ap (option_map (λ (b : Atoms × List ℤ). (restored (aside_of p) b.0, b.1))) h.1,
-  (λ S. h.2.0 (reduced_set p S), ap (option_map (restored (aside_of p))) h.2.1 ∙ sym (consequences-left p w h.2.0 sound) ∙ ap (consequences_of w p) (chosen-left p h.2.0 sound)),
+  (λ S. h.2.0 (reduced_set p S), ap (option_map (restored (aside_of p))) h.2.1 ∙ sym (some-consequences p w h.2.0 sound) ∙ ap (consequences_of w p) (chosen-reduced p h.2.0 sound)),
 )
 
 part_of-left : (p : Program) (all : Bool) (mode : Mode) (r : Found) → IsSound p → IsPartOf all (reduced p) mode r → IsPartOf all p mode (found_with (aside_of p) r)
@@ -125,7 +125,7 @@ part_of-left p true Opt r sound h =
 
 best-left : (p : Program) (best : Option (Atoms × List ℤ)) → IsSound p → IsBest (reduced p) best → IsBest p (option_map (λ b. (restored (aside_of p) b.0, b.1)) best)
 best-left p None sound h = same-answers p sound ∙ ap (map (restored (aside_of p))) h
-best-left p (Some b) sound h = optimum-left p b.0 b.1 sound h
+best-left p (Some b) sound h = optimum-reduced p b.0 b.1 sound h
 
 found-left : (p : Program) (mode : Mode) (r : Found) → IsSound p → IsFound (reduced p) mode r.answers r.best r.known →
     IsFound p mode (found_with (aside_of p) r).answers (found_with (aside_of p) r).best (found_with (aside_of p) r).known
@@ -139,7 +139,7 @@ all_found-left : (p : Program) (all : Bool) (mode : Mode) (r : Found) → IsSoun
 all_found-left p false mode r sound h = found-left p mode r sound h
 all_found-left p true Enum r sound h = found-left p Enum r sound h
 all_found-left p true (Consequences w) r sound h = found-left p (Consequences w) r sound h
-all_found-left p true Opt r sound h = (ap (map (restored (aside_of p))) h.0 ∙ sym (optima-left p sound), best-left p r.best sound h.1)
+all_found-left p true Opt r sound h = (ap (map (restored (aside_of p))) h.0 ∙ sym (optima-reduced p sound), best-left p r.best sound h.1)
 
 has_best-left : (p : Program) (mode : Mode) (best : Option (Atoms × List ℤ)) → IsSound p → HasBest (reduced p) mode best → HasBest p mode (option_map (λ b. (restored (aside_of p) b.0, b.1)) best)
 has_best-left p Enum best sound h = tt
@@ -163,7 +163,7 @@ abbrev rest : Program → Program
 rest p = unfolded (reduced p)
 
 same-line : (p : Program) (i : ℕ) (S : Atoms) → answer_lines (rest p) i S ≡ answer_lines p i (restored (aside_of p) S)
-same-line p i S = ap (λ (ts : List (List ℕ)). ended_line (codes "Answer: " ++ decimal i) ++ ended_line (join_with_byte 32 ts)) (sym (shown-left p S))
+same-line p i S = ap (λ (ts : List (List ℕ)). ended_line (codes "Answer: " ++ decimal i) ++ ended_line (join_with_byte 32 ts)) (sym (shown-reduced p S))
 
 same-lines : (p : Program) (i : ℕ) (Ss : List Atoms) → answers_from (rest p) i Ss ≡ answers_from p i (map (restored (aside_of p)) Ss)
 same-lines p i [] = refl
@@ -225,7 +225,7 @@ text-left p r brief names =
 
 -- ---- the same as JSON
 witness-left : (p : Program) (best : Option (Atoms × List ℤ)) (S : Atoms) → witness (rest p) best S ≡ witness p best (restored (aside_of p) S)
-witness-left p best S = ap (λ (ts : List (List ℕ)). codes "\n{\"Value\":" ++ array (map quoted ts) ++ best_costs best ++ codes "}") (sym (shown-left p S))
+witness-left p best S = ap (λ (ts : List (List ℕ)). codes "\n{\"Value\":" ++ array (map quoted ts) ++ best_costs best ++ codes "}") (sym (shown-reduced p S))
 
 witness-with : (F : Aside) (p : Program) (best : Option (Atoms × List ℤ)) (S : Atoms) → witness p best S ≡ witness p (option_map (λ b. (restored F b.0, b.1)) best) S
 witness-with F p None S = refl
@@ -337,14 +337,14 @@ pub told-text : (given : Options) (p : Program) (r : Report) (layout : Layout) �
     report_text (searched given p) (told_with (set_aside given p) r) layout ≡ report_text (asked given p) (report_with (set_aside given p) r) layout
 told-text given p r layout proof = by (asked given p) (is_settled given) refl
   where
-    by : (q : Program) (b : Bool) → is_settled given ≡ b → report_text (cond b (rest q) q) (told_with (cond b (aside_of q) []) r) layout ≡ report_text q (report_with (cond b (aside_of q) []) r) layout
+    by : (q : Program) (b : Bool) → is_settled given ≡ b → report_text (cond b (rest q) q) (told_with (cond b (aside_of q) none_aside) r) layout ≡ report_text q (report_with (cond b (aside_of q) none_aside) r) layout
     by q true e = text_without q r layout (no-proof r.results.end r.results r.proof (subst (λ wanted. HasProof wanted r) (unasked given e) proof))
     by q false e = ap (λ x. report_text q x layout) (same-told r ∙ sym (same-report r))
 
 pub told-says : (given : Options) (p : Program) (ask : Ask) (r : Report) (end : End) → IsSound (asked given p) → SaysReport (searched given p) ask r end → SaysReport (asked given p) ask (report_with (set_aside given p) r) end
 told-says given p ask r end sound h = by (asked given p) (is_settled given) sound h
   where
-    by : (q : Program) (b : Bool) → IsSound q → SaysReport (cond b (rest q) q) ask r end → SaysReport q ask (report_with (cond b (aside_of q) []) r) end
+    by : (q : Program) (b : Bool) → IsSound q → SaysReport (cond b (rest q) q) ask r end → SaysReport q ask (report_with (cond b (aside_of q) none_aside) r) end
     by q true sound s = says-left q ask r end sound (says-unfolded (reduced q) ask r end (sound-reduced q sound) s)
     by q false sound s = subst (λ x. SaysReport q ask x end) (sym (same-report r)) s
 

@@ -338,7 +338,7 @@ tells-enough given p Enum L best known listing some count part is = (L, (part-en
 tells-enough given p Opt L best known listing some count part is = enough-opt given.form given p given.models L best known listing some count part is
 tells-enough given p (Consequences w) L best known listing some count part is = absurd (false≢true listing)
 
--- ---- whether there is a model, told with the facts
+-- ---- whether there is a model, told with what was set aside
 some-map : {A B : Type 0} (f : A → B) (L : List A) → is_some_of (map f L) ≡ is_some_of L
 some-map f [] = refl
 some-map f (x ∷ L) = refl

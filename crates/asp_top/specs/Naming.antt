@@ -1,4 +1,4 @@
--- Which program is searched: with atoms for its outputs where consequences are told by name, and without its facts and copies, its minimise statements unfolded.
+-- Which program is searched: with atoms for its outputs where consequences are told by name, and without what is set aside, its minimise statements unfolded.
 use Rattle.std.specs.Prelude.{Bool, true, false, not, ◌&&◌, ◌||◌, if◌then◌else◌, Option, Some, is_some}
 use Rattle.asp_model.specs.declared.program.Program.{Program}
 use Rattle.asp_named.specs.Named.{named, named_if}
@@ -30,7 +30,7 @@ asked given p = if is_named given then named p else p
 abbrev pub asked_if : Options → Program → Option Program
 asked_if given p = if is_named given then named_if p else Some p
 
--- what is left of it, its minimise statements unfolded, and what is set aside
+-- what is left of it, its minimise statements unfolded; and what is set aside: its facts, and the atoms that copy another one
 abbrev pub left_for : Options → Program → Program
 left_for given q = if is_settled given then unfolded (reduced q) else q
 

@@ -10,7 +10,6 @@ use Rattle.asp_model.specs.declared.results.Ask.{Ask}
 use Rattle.asp_model.specs.declared.results.End.{End}
 use Rattle.asp_model.specs.declared.results.End.TheVariants.{Finished, Limited, Unfinished}
 use Rattle.asp_model.specs.Found.{Found}
-use Rattle.asp_model.specs.Sets.{Atoms}
 use Rattle.asp_model.specs.Sound.{IsSound}
 use Rattle.asp_equal.specs.declared.reduce.Aside.{Aside}
 use Rattle.asp_equal.specs.Reduced.{restored}
@@ -106,7 +105,7 @@ report_text p r layout = text_by r.proof p r.results layout
 abbrev pub ask_of : Options → Program → Ask
 ask_of given p = record { mode = mode_of given.mode p; models = given.models; all_optima = given.all_optima }
 
--- ---- outputs get atoms, and facts are settled, before the search
+-- ---- outputs get atoms, and facts and copies are set aside, before the search
 -- the program that is searched
 abbrev pub searched : Options → Program → Program
 searched given p = left_for given (asked given p)
@@ -115,7 +114,7 @@ searched given p = left_for given (asked given p)
 abbrev pub set_aside : Options → Program → Aside
 set_aside given p = aside_for given (asked given p)
 
--- what was found, each set with the facts
+-- what was found, each set with what was set aside
 abbrev pub found_with : Aside → Found → Found
 found_with A r = record r { answers = map (restored A) r.answers; best = option_map (λ best. (restored A best.0, best.1)) r.best; known = option_map (restored A) r.known }
 
@@ -131,8 +130,8 @@ told_with A r = record r { results = record r.results { known = option_map (rest
 abbrev pub HasNumbers : Options → Program → Type 0
 HasNumbers given p = is_named given ≡ true → has_numbers p ≡ true
 
--- No parts are asked for. The report is that of a run on the program without the facts, with what is asked and the units that were given;
--- with the facts it says of the program what was asked, and has a proof if that was asked for. Where consequences are told by name all
+-- No parts are asked for. The report is that of a run on what is left of the program, with what is asked and the units that were given;
+-- with what was set aside it says of the program what was asked, and has a proof if that was asked for. Where consequences are told by name all
 -- this is about the program with atoms for its outputs.
 pub record IsSolved (given : Options) (a : Around) (report : Option Report) : Type 0 where
   pub program : Program
@@ -286,7 +285,7 @@ pub record Delivers (layout : Layout) (p : Program) (r : Report) (held held' : O
   pub means : DeliveryMeans layout p r held held' writes writes' o.status
   pub later : writes ≤ writes'
 
--- A report was told with the facts, or memory ran out before.
+-- A report was told with what was set aside, or memory ran out before.
 abbrev pub Concludes : Layout → Program → Aside → Report → Option (List ℕ) → Option (List ℕ) → ℕ → ℕ → Outcome → Type 0
 Concludes layout p A r held held' writes writes' o =
     ((o ≡ record { status = Memory; report = None }) × Keeps held held' × (writes' ≡ writes)) ⊎ Delivers layout p (told_with A r) held held' writes writes' o

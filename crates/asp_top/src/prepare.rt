@@ -1,5 +1,5 @@
 //! The program of a run: read from the source or made, and compiled.
-ghost use Rattle.std.specs.Prelude.{◌≡◌, ◌≤◌, ℕ, List, [], Option, None, Some, IfErr, IfOk, IfSome, IsErrOf, OnOk};
+ghost use Rattle.std.specs.Prelude.{◌≡◌, ◌≤◌, ℕ, List, Option, None, Some, IfErr, IfOk, IfSome, IsErrOf, OnOk};
 ghost use Rattle.std.specs.Io.KnownBytes.{IsAtEnd};
 ghost use Rattle.asp_io.specs.Causes.{Rose};
 ghost use Rattle.asp_read.specs.Judging.{most_bytes};
@@ -103,7 +103,8 @@ fn without_aside(alloc: Global, program: Program) -> Result<Prepared, AllocError
     requires { IsSound program }
     ensures { IfOk result (λ prepared. prepared ≡ record { compiled = unfolded (reduced program); aside = aside_of program }) }
 {
-    let Reduced { aside, left } = reduce(alloc, program)?;
+    let reduced = reduce(alloc, program)?;
+    let Reduced { aside, left } = reduced;
     let unfolded = unfold(alloc, left)?;
     let compiled = compile(alloc, unfolded)?;
     Ok(Prepared { compiled, aside })
@@ -122,7 +123,7 @@ fn whole(alloc: Global, program: Program) -> Result<Prepared, AllocError>
     Ok(Prepared { compiled, aside })
 }
 
-fn prepared(alloc: Global, options: &Options, program: Program) -> Result<Prepared, AllocError>
+fn divided(alloc: Global, options: &Options, program: Program) -> Result<Prepared, AllocError>
     requires { IsSound program }
     ensures { IfOk result (λ prepared. prepared ≡ record { compiled = left_for options.now program; aside = aside_for options.now program }) }
 {
@@ -141,7 +142,7 @@ fn ready(alloc: Global, options: &Options, program: Program) -> Result<Prepared,
     ensures wanting { IfErr result (WhyNot options.now program) }
 {
     match asked(alloc, options, program) {
-        Ok(Some(sought)) => match prepared(alloc, options, sought) {
+        Ok(Some(sought)) => match divided(alloc, options, sought) {
             Ok(prepared) => Ok(prepared),
             Err(_) => Err(Status::Memory),
         },

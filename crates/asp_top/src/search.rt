@@ -66,7 +66,7 @@ fn told(alloc: Global, aside: &Aside, report: Report) -> Result<Report, AllocErr
     Ok(report)
 }
 
-// Writes the text of a report with the facts, or nothing where memory is wanting.
+// Writes the text of a report with what was set aside, or nothing where memory runs out.
 fn conclude<K: Sink>(
     alloc: Global,
     sink: &mut K,

@@ -4,5 +4,3 @@ pub mod MentionLaws
 pub mod SoundLaws
 pub mod SameLaws
 pub mod TableLaws
-pub mod BodyLaws
-pub mod OpenedLaws

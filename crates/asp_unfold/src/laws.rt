@@ -7,7 +7,6 @@ ghost use Rattle.asp_model.specs.Costs.{IsOptimum, cost, optima};
 ghost use Rattle.asp_model.specs.Models.{answers, atoms_of, is_stable};
 ghost use Rattle.asp_model.specs.Sets.{Atoms};
 ghost use Rattle.asp_model.specs.Sound.{IsSound};
-ghost use Rattle.asp_unfold.specs.Bodies.{opened};
 ghost use Rattle.asp_unfold.specs.Unfolded.{unfolded};
 
 /// The program is within the limits, and has the atoms, the stable sets and the answers of the one that it was made of. Each
@@ -25,12 +24,4 @@ pub fn unfolded_results_are_the_same()
     ensures optima { (p : Program) → IsSound p → optima (unfolded p) ≡ optima p }
     ensures optimum { (p : Program) (S : Atoms) (c : List ℤ) → IsSound p → IsOptimum (unfolded p) S c → IsOptimum p S c }
     ensures consequences { (w : Reasoning) (p : Program) (sets : List Atoms) → consequences_of w (unfolded p) sets ≡ consequences_of w p sets }
-{}
-
-/// A program whose bodies are opened is within the limits, and has the stable sets and the answers of the one that it was made of. What
-/// is shown and what it costs is untouched.
-pub fn opened_answers_are_the_same()
-    ensures sound { (p : Program) → IsSound p → IsSound (opened p) }
-    ensures stable { (p : Program) (S : Atoms) → IsSound p → is_stable (opened p) S ≡ is_stable p S }
-    ensures answers { (p : Program) → IsSound p → answers (opened p) ≡ answers p }
 {}

@@ -7,7 +7,7 @@ use Rattle.asp_unfold.proofs.SoundLaws.{sound-unfolded}
 use Rattle.asp_top.proofs.prepare.without_aside.Goals as goal
 
 pub unfold-requires : goal.unfold-requires
-unfold-requires c = subst IsSound (sym c.in_ok-reduce.ensures.left) (sound-reduced c.args.program c.requires)
+unfold-requires c = subst IsSound (sym c.in_ok-reduced.ensures.left) (sound-reduced c.args.program c.requires)
 
 pub compile-requires : goal.compile-requires
-compile-requires c = subst IsSound (sym (c.in_ok-unfolded.ensures ∙ ap unfolded c.in_ok-reduce.ensures.left)) (sound-unfolded (reduced c.args.program) (sound-reduced c.args.program c.requires))
+compile-requires c = subst IsSound (sym (c.in_ok-unfolded.ensures ∙ ap unfolded c.in_ok-reduced.ensures.left)) (sound-unfolded (reduced c.args.program) (sound-reduced c.args.program c.requires))
