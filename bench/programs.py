@@ -3,6 +3,8 @@ import os
 import random
 import subprocess
 
+import shipped
+
 HERE = os.path.dirname(os.path.abspath(__file__))
 
 
@@ -36,10 +38,14 @@ def free_atoms(atoms):
     return lambda: f"asp 1 0 0\n1 1 {atoms} {' '.join(map(str, range(1, atoms + 1)))} 0 0\n0\n".encode()
 
 
-def cycle(nodes, degree, seed):
+def arcs(nodes, degree, seed):
+    """So many edges from each node of a directed graph."""
     choose = random.Random(seed)
-    edges = [(x, y) for x in range(1, nodes + 1) for y in choose.sample([y for y in range(1, nodes + 1) if y != x], degree)]
-    return grounded("cycle", facts("edge", edges))
+    return [(x, y) for x in range(1, nodes + 1) for y in choose.sample([y for y in range(1, nodes + 1) if y != x], degree)]
+
+
+def cycle(nodes, degree, seed):
+    return grounded("cycle", facts("edge", arcs(nodes, degree, seed)))
 
 
 def tour(nodes, degree, seed):
@@ -156,9 +162,51 @@ def routes(width, height, keys, steps, seed):
     return grounded("routes", facts("near", near) + facts("key", ((it,) for it in choose.sample(cells, keys))) + f"start(0). goal({width * height - 1}).", n=steps)
 
 
+def logistics(places, trucks, packages, steps, seed):
+    choose = random.Random(seed)
+    roads = {(p, choose.randrange(p)) for p in range(1, places)} | {tuple(choose.sample(range(places), 2)) for _ in range(places // 2)}
+    roads |= {(q, p) for p, q in roads}
+    at = [(f"t{it}", choose.randrange(places)) for it in range(trucks)]
+    given = [(f"p{it}", *choose.sample(range(places), 2)) for it in range(packages)]
+    return grounded("logistics", facts("road", sorted(roads)) + facts("truck", at) + facts("room", ((it, 2) for it, _ in at)) + facts("package", given), n=steps)
+
+
+def schedule(jobs, resources, steps, seed):
+    choose = random.Random(seed)
+    each = [(j, choose.randint(1, 6)) for j in range(jobs)]
+    use = [(j, r, choose.randint(1, 6)) for j in range(jobs) for r in range(resources)]
+    after = {(j, choose.randrange(max(0, j - 8), j)) for j in range(2, jobs) for _ in range(choose.randint(0, 2))}
+    return grounded("schedule", facts("job", each) + facts("use", use) + facts("limit", ((r, 10) for r in range(resources))) + facts("after", sorted(after)), n=steps)
+
+
+def auction(bids, goods, bidders, seed):
+    choose = random.Random(seed)
+    wants = [choose.sample(range(goods), choose.randint(2, 5)) for _ in range(bids)]
+    bid = [(b, choose.randrange(bidders), len(it) * 10 + choose.randint(-8, 8)) for b, it in enumerate(wants)]
+    needs = sorted({tuple(choose.sample(range(bids), 2)) for _ in range(bids // 10)})
+    return grounded("auction", facts("bid", bid) + facts("wants", ((b, g) for b, it in enumerate(wants) for g in it)) + facts("atmost", ((it, 4) for it in range(bidders))) + facts("needs", needs))
+
+
+def diagnosis(inputs, gates, outputs, runs, faults, seed):
+    """A random circuit in which some gates give the wrong value, and what its last wires had in some runs."""
+    choose = random.Random(seed)
+    wires = inputs + gates
+    gate = [(g, choose.choice(("and", "or", "xor", "nand")), *choose.sample(range(max(0, g - 3 * inputs), g), 2)) for g in range(inputs, wires)]
+    wrong, given, seen = set(choose.sample(range(inputs, wires), faults)), [], []
+    for run in range(runs):
+        on = [choose.randint(0, 1) for _ in range(inputs)]
+        given += ((run, wire, value) for wire, value in enumerate(on))
+        for g, kind, a, b in gate:
+            value = {"and": on[a] & on[b], "or": on[a] | on[b], "xor": on[a] ^ on[b], "nand": 1 - (on[a] & on[b])}[kind]
+            on.append(value ^ (g in wrong))
+        seen += ((run, wire, on[wire]) for wire in range(wires - outputs, wires))
+    return grounded("diagnosis", facts("gate", gate) + facts("input", given) + facts("seen", seen))
+
+
 HALVES = ("tuned", "held out")
 
-# Each class has a program in both halves. Which half a program is in is never changed.
+# Which half a program is in is never changed. Each of the first 17 families has programs in both. The others are numbered as they
+# were written down, before any run: a family's number is its first seed, and families with odd numbers are tuned on.
 PROGRAMS = {
     "sat-250": ("tuned", sat(250, 14, 4.5)),
     "sat-250-b": ("held out", sat(250, 12, 4.6)),
@@ -196,6 +244,32 @@ PROGRAMS = {
     "subsets-22": ("held out", subsets(22, 8, 35, 1)),
     "routes-6x6": ("tuned", routes(6, 6, 3, 20, 1)),
     "routes-7x5": ("held out", routes(7, 5, 3, 20, 3)),
+    # Families 1 to 10, by others' encodings.
+    "fifteen-18": ("tuned", shipped.fifteen(4, 4, 40, 18, 1)),
+    "fifteen-18-b": ("tuned", shipped.fifteen(4, 4, 44, 18, 21)),
+    "hanoi-8": ("held out", shipped.hanoi(4, 8, 32)),
+    "hanoi-9": ("held out", shipped.hanoi(4, 9, 39)),
+    "solitaire-26": ("tuned", shipped.solitaire(26, 8, 3)),
+    "solitaire-24": ("tuned", shipped.solitaire(24, 8, 23)),
+    "ricochet-7": ("held out", shipped.ricochet(7, 4)),
+    "ricochet-7-b": ("held out", shipped.ricochet(7, 24)),
+    "colours-140": ("tuned", shipped.colouring(140, 630, 4, 5)),
+    "colours-150": ("tuned", shipped.colouring(150, 680, 4, 25)),
+    "vertices-70": ("held out", shipped.vertices(70, 210, 6)),
+    "vertices-75": ("held out", shipped.vertices(75, 220, 26)),
+    "primes-10": ("tuned", shipped.primes(10, 400, 7)),
+    "primes-9": ("tuned", shipped.primes(9, 220, 27)),
+    "negation-11": ("held out", shipped.negation(11)),
+    "negation-12": ("held out", shipped.negation(12)),
+    "attacks-11": ("tuned", shipped.attacks(11)),
+    "attacks-12": ("tuned", shipped.attacks(12)),
+    "interpreted-queens": ("held out", shipped.interpreted("queens", n=11)),
+    "interpreted-cycle": ("held out", shipped.interpreted("cycle", facts("edge", arcs(24, 4, 10)))),
+    # Families 11 to 14, by encodings of lp/.
+    "logistics-9": ("tuned", logistics(9, 2, 4, 11, 11)),
+    "schedule-30": ("held out", schedule(30, 3, 60, 12)),
+    "auction-95": ("tuned", auction(95, 45, 14, 13)),
+    "diagnosis-250": ("held out", diagnosis(30, 250, 16, 8, 8, 14)),
     # Small ones, in neither half.
     "colouring-12": ("small", grounded("color", n=12, k=3, m=5)),
     "hamilton-7": ("small", grounded("ham", n=7)),
