@@ -184,12 +184,12 @@ fn is_due(round: u32) -> bool {
 }
 
 // Lets others work before the next round.
-fn pause<R: Wait>(rt: &R, bed: &Parker, round: u32) {
+fn pause<R: Wait>(rt: &R, parker: &Parker, round: u32) {
     if round < ROUNDS {
         thread::yield_now();
     } else {
         let doublings = (round - ROUNDS).min(DOUBLINGS);
-        bed.park_timeout(rt, Duration::from_micros(1 << doublings));
+        parker.park_timeout(rt, Duration::from_micros(1 << doublings));
     }
 }
 
@@ -265,7 +265,7 @@ fn look_for<R: Wait>(
     ensures quiet { IfOk result (IsQuietIf (view seat.old).seen (view seat.new)) }
 {
     // Nobody wakes it: each sleep ends by itself.
-    let bed = Parker::new();
+    let parker = Parker::new();
     let mut round: u32 = 0;
     'rounds: for _ in rt.forever() {
         let taken = take_offered(rt, shared, seat, lane, pass)?;
@@ -277,7 +277,7 @@ fn look_for<R: Wait>(
             Sight::Nothing => return Ok(None),
             Sight::Others => {}
         }
-        pause(rt, &bed, round);
+        pause(rt, &parker, round);
         round = round.saturating_add(1);
     }
     unreachable!()
