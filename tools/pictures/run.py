@@ -27,7 +27,7 @@ def preparation(it, top):
     told = (
         ("1 Arguments", "options, or the first fault", "cli"),
         ("2 Read", "a program, or the first fault with its line", "text read"),
-        ("3 Settle", "facts are set aside", "settle"),
+        ("3 Settle", "facts and copies are set aside", "settle equal"),
         ("4 Compile", "variables for atoms and bodies", "vars"),
     )
     parts = [Part(it, 20 + (width + gap) * at, top, width, 98, *it_) for at, it_ in enumerate(told)]

@@ -3,25 +3,25 @@
 
 ghost use Rattle.std.specs.Prelude.{◌≡◌, IfErr, IfOk, IfSome, Err, false, map};
 ghost use Rattle.asp_crew_laws.specs.Reports.{IsReport};
+ghost use Rattle.asp_equal.specs.Reduced.{restored};
 ghost use Rattle.asp_model.specs.Models.{answers};
 ghost use Rattle.asp_model.specs.Sound.{IsSound};
 ghost use Rattle.asp_model.specs.declared.program.Program.{Program};
 ghost use Rattle.asp_model.specs.declared.results.Mode.TheVariants.{Enum};
 ghost use Rattle.asp_read.specs.Outcome.{outcome};
 ghost use Rattle.asp_read.specs.Stream.{ReadsText};
-ghost use Rattle.asp_settle.specs.Settled.{united};
 
 use asp_counts::counts::Counts;
 use asp_counts::watch::Unwatched;
 use asp_crew::alone::solve_alone;
 use asp_crew::report::Report;
+use asp_equal::reduce::{Aside, Reduced, reduce, restore};
 use asp_io::CleanSource;
 use asp_model::interp::Interp;
 use asp_model::program::Program;
 use asp_model::results::{Ask, End, Mode};
 use asp_read::fault::ReadError;
 use asp_read::read_program;
-use asp_settle::settle::{Settled, settle, unite};
 use asp_vars::compile::compile;
 use asp_vars::compiled::Compiled;
 use std::alloc::{AllocError, Global};
@@ -82,13 +82,13 @@ fn listed(alloc: Global, report: &Report) -> Result<Option<Vec<Interp>>, AllocEr
     }
 }
 
-// Each set with the facts in it.
-fn unite_each(alloc: Global, facts: &Interp, sets: &[Interp]) -> Result<Vec<Interp>, AllocError>
-    ensures { IfOk result (λ whole. whole.items ≡ map (united facts.now) sets.now) }
+// Each set with what was set aside.
+fn restore_each(alloc: Global, aside: &Aside, sets: &[Interp]) -> Result<Vec<Interp>, AllocError>
+    ensures { IfOk result (λ whole. whole.items ≡ map (restored aside.now) sets.now) }
 {
     let mut whole = Vec::with_capacity(alloc, sets.len())?;
     for set in sets {
-        whole.push(unite(alloc, facts, set)?)?;
+        whole.push(restore(alloc, aside, set)?)?;
     }
     Ok(whole)
 }
@@ -103,7 +103,7 @@ fn search_all(alloc: Global, compiled: &Compiled) -> Result<Option<Vec<Interp>>,
     found
 }
 
-// The answers of a program without its facts, if the budget was enough.
+// The answers of what is left of a program, if the budget was enough.
 fn answers_left(alloc: Global, left: Program) -> Result<Option<Vec<Interp>>, AllocError>
     requires { IsSound left }
     ensures { IfOk result (λ found. IfSome found (λ sets. sets.items ≡ answers left)) }
@@ -114,15 +114,15 @@ fn answers_left(alloc: Global, left: Program) -> Result<Option<Vec<Interp>>, All
     found
 }
 
-// The answers of a program, if the budget was enough. Its facts are set aside before the search, and put back.
+// The answers of a program, if the budget was enough. Its facts and copies are set aside before the search, and put back.
 fn answers_of(alloc: Global, program: Program) -> Result<Option<Vec<Interp>>, AllocError>
     requires { IsSound program }
     ensures { IfOk result (λ found. IfSome found (λ sets. sets.items ≡ answers program)) }
 {
-    let Settled { facts, left } = settle(alloc, program)?;
+    let Reduced { aside, left } = reduce(alloc, program)?;
     match answers_left(alloc, left)? {
         Some(sets) => {
-            let whole = unite_each(alloc, &facts, sets.as_slice())?;
+            let whole = restore_each(alloc, &aside, sets.as_slice())?;
             Ok(Some(whole))
         }
         None => Ok(None),

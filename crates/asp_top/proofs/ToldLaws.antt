@@ -1,5 +1,5 @@
--- What was found of a program without its facts, told with them: it is what was asked of the program, and its text.
-use Rattle.std.proofs.Common.{◌≡◌, ℕ, ◌+◌, Bool, true, false, not, ◌&&◌, ◌||◌, cond, List, [], ◌∷◌, ◌++◌, map, filter, length, suc, refl, sym, ap, ◌∙◌, subst, ℤ, pos, negsuc, Contains, inl, inr}
+-- What was found of what is left of a program, told with what was set aside: it is what was asked of the program, and its text.
+use Rattle.std.proofs.Common.{◌≡◌, ℕ, ◌+◌, Bool, true, false, not, ◌&&◌, ◌||◌, cond, List, [], ◌∷◌, ◌++◌, map, filter, length, refl, sym, ap, ◌∙◌, subst, ℤ, Contains, inl, inr}
 use Rattle.std.specs.Prelude.{Option, None, Some, Result, Ok, IfOk, IfSome, option_map, is_some, codes, decimal}
 use Rattle.std.specs.List.{join_with_byte}
 use Rattle.std.proofs.lemmas.List.{length-map}
@@ -16,18 +16,19 @@ use Rattle.asp_model.specs.Models.{answers}
 use Rattle.asp_model.specs.Consequences.{consequences_of}
 use Rattle.asp_model.specs.Found.{Found}
 use Rattle.asp_model.specs.Sound.{IsSound}
-use Rattle.asp_model.specs.Texts.{answer_lines, answers_from, best_answers, best_cost_line, bests, closing_lines, ended_line, found_count, recorded, shown}
-use Rattle.asp_model.specs.declared.program.Output.{Output}
-use Rattle.asp_model.specs.Sets.{has}
-use Rattle.asp_model.specs.Holding.{all_hold, holds}
+use Rattle.asp_model.specs.Texts.{answer_lines, answers_from, best_answers, best_cost_line, bests, closing_lines, ended_line, found_count, recorded}
 use Rattle.asp_print.specs.Named.{known_line, named_line, printed_text, sums_line}
 use Rattle.asp_named.specs.Named.{named}
-use Rattle.asp_settle.proofs.ReadLaws.{has-united}
 use Rattle.asp_top.specs.Naming.{asked, is_json, is_named, is_settled}
 use Rattle.asp_cli.specs.Found.{seeks_consequences}
-use Rattle.asp_settle.specs.Settled.{facts_of, left_of, united, without}
+use Rattle.asp_settle.specs.Settled.{left_of}
 use Rattle.asp_settle.proofs.StableLaws.{contains-map}
-use Rattle.asp_settle.proofs.SettledLaws.{all-consequences, chosen-left, consequences-left, cost-left, optima-chosen, optima-left, optimum-left, same-answers, shown-left, sound-left}
+use Rattle.asp_equal.specs.declared.reduce.Aside.{Aside}
+use Rattle.asp_equal.specs.Merged.{renamed_minimize}
+use Rattle.asp_equal.specs.Reduced.{aside_of, none_aside, reduced, reduced_set, restored}
+use Rattle.asp_equal.proofs.AgainLaws.{restored-none, shown-again}
+use Rattle.asp_equal.proofs.WholeLaws.{goes_by}
+use Rattle.asp_equal.proofs.ReducedLaws.{all-consequences, chosen-reduced, cost-reduced, optima-chosen, optima-reduced, optimum-reduced, same-answers, shown-reduced, some-consequences, sound-reduced}
 use Rattle.asp_model.proofs.ModelLaws.{answers-are}
 use Rattle.asp_unfold.specs.Unfolded.{unfolded, unfolded_minimize}
 use Rattle.asp_unfold.proofs.SameLaws.{same-answers as same-unfolded, same-consequences, same-cost, same-optima, same-optimum}
@@ -100,57 +101,57 @@ says-unfolded p ask r Limited sound h = record {
 says-unfolded p ask r Unfinished sound h = (part_of-unfolded p ask.all_optima ask.mode r.results sound h.0, h.1)
 
 -- ---- what a report says
-priced-left : (p : Program) (best : Option (Atoms × List ℤ)) → IsSound p → IfSome best (IsPriced (left_of p)) → IfSome (option_map (λ b. (united (facts_of p) b.0, b.1)) best) (IsPriced p)
+priced-left : (p : Program) (best : Option (Atoms × List ℤ)) → IsSound p → IfSome best (IsPriced (reduced p)) → IfSome (option_map (λ b. (restored (aside_of p) b.0, b.1)) best) (IsPriced p)
 priced-left p None sound h = h
 priced-left p (Some b) sound h =
-    (subst (λ Ss. Contains Ss (united (facts_of p) b.0)) (sym (same-answers p sound)) (contains-map (united (facts_of p)) (answers (left_of p)) b.0 h.0), h.1 ∙ sym (cost-left p b.0))
+    (subst (λ Ss. Contains Ss (restored (aside_of p) b.0)) (sym (same-answers p sound)) (contains-map (restored (aside_of p)) (answers (reduced p)) b.0 h.0), h.1 ∙ sym (cost-reduced p b.0))
 
-part-left : (p : Program) (mode : Mode) (r : Found) → IsSound p → IsPart (left_of p) mode r → IsPart p mode (found_with (facts_of p) r)
+part-left : (p : Program) (mode : Mode) (r : Found) → IsSound p → IsPart (reduced p) mode r → IsPart p mode (found_with (aside_of p) r)
 part-left p Enum r sound h =
-    ((λ S. h.0.0 (without (facts_of p) S), ap (map (united (facts_of p))) h.0.1 ∙ chosen-left p h.0.0 sound), ap (option_map (λ (b : Atoms × List ℤ). (united (facts_of p) b.0, b.1))) h.1)
-part-left p Opt r sound h = (ap (map (united (facts_of p))) h.0, priced-left p r.best sound h.1)
+    ((λ S. h.0.0 (reduced_set p S), ap (map (restored (aside_of p))) h.0.1 ∙ chosen-reduced p h.0.0 sound), ap (option_map (λ (b : Atoms × List ℤ). (restored (aside_of p) b.0, b.1))) h.1)
+part-left p Opt r sound h = (ap (map (restored (aside_of p))) h.0, priced-left p r.best sound h.1)
 part-left p (Consequences w) r sound h = (
-  ap (map (united (facts_of p))) h.0,
-  ap (option_map (λ (b : Atoms × List ℤ). (united (facts_of p) b.0, b.1))) h.1,
-  (λ S. h.2.0 (without (facts_of p) S), ap (option_map (united (facts_of p))) h.2.1 ∙ sym (consequences-left p w h.2.0 sound) ∙ ap (consequences_of w p) (chosen-left p h.2.0 sound)),
+  ap (map (restored (aside_of p))) h.0,
+  ap (option_map (λ (b : Atoms × List ℤ). (restored (aside_of p) b.0, b.1))) h.1,
+  (λ S. h.2.0 (reduced_set p S), ap (option_map (restored (aside_of p))) h.2.1 ∙ sym (some-consequences p w h.2.0 sound) ∙ ap (consequences_of w p) (chosen-reduced p h.2.0 sound)),
 )
 
-part_of-left : (p : Program) (all : Bool) (mode : Mode) (r : Found) → IsSound p → IsPartOf all (left_of p) mode r → IsPartOf all p mode (found_with (facts_of p) r)
+part_of-left : (p : Program) (all : Bool) (mode : Mode) (r : Found) → IsSound p → IsPartOf all (reduced p) mode r → IsPartOf all p mode (found_with (aside_of p) r)
 part_of-left p false mode r sound h = part-left p mode r sound h
 part_of-left p true Enum r sound h = part-left p Enum r sound h
 part_of-left p true (Consequences w) r sound h = part-left p (Consequences w) r sound h
 part_of-left p true Opt r sound h =
-    ((λ S. h.0.0 (without (facts_of p) S), ap (map (united (facts_of p))) h.0.1 ∙ optima-chosen p h.0.0 sound), priced-left p r.best sound h.1)
+    ((λ S. h.0.0 (reduced_set p S), ap (map (restored (aside_of p))) h.0.1 ∙ optima-chosen p h.0.0 sound), priced-left p r.best sound h.1)
 
-best-left : (p : Program) (best : Option (Atoms × List ℤ)) → IsSound p → IsBest (left_of p) best → IsBest p (option_map (λ b. (united (facts_of p) b.0, b.1)) best)
-best-left p None sound h = same-answers p sound ∙ ap (map (united (facts_of p))) h
-best-left p (Some b) sound h = optimum-left p b.0 b.1 sound h
+best-left : (p : Program) (best : Option (Atoms × List ℤ)) → IsSound p → IsBest (reduced p) best → IsBest p (option_map (λ b. (restored (aside_of p) b.0, b.1)) best)
+best-left p None sound h = same-answers p sound ∙ ap (map (restored (aside_of p))) h
+best-left p (Some b) sound h = optimum-reduced p b.0 b.1 sound h
 
-found-left : (p : Program) (mode : Mode) (r : Found) → IsSound p → IsFound (left_of p) mode r.answers r.best r.known →
-    IsFound p mode (found_with (facts_of p) r).answers (found_with (facts_of p) r).best (found_with (facts_of p) r).known
-found-left p Enum r sound h = (ap (map (united (facts_of p))) h.0 ∙ sym (same-answers p sound), ap (option_map (λ (b : Atoms × List ℤ). (united (facts_of p) b.0, b.1))) h.1)
-found-left p Opt r sound h = (ap (map (united (facts_of p))) h.0, best-left p r.best sound h.1)
+found-left : (p : Program) (mode : Mode) (r : Found) → IsSound p → IsFound (reduced p) mode r.answers r.best r.known →
+    IsFound p mode (found_with (aside_of p) r).answers (found_with (aside_of p) r).best (found_with (aside_of p) r).known
+found-left p Enum r sound h = (ap (map (restored (aside_of p))) h.0 ∙ sym (same-answers p sound), ap (option_map (λ (b : Atoms × List ℤ). (restored (aside_of p) b.0, b.1))) h.1)
+found-left p Opt r sound h = (ap (map (restored (aside_of p))) h.0, best-left p r.best sound h.1)
 found-left p (Consequences w) r sound h =
-    (ap (map (united (facts_of p))) h.0, ap (option_map (λ (b : Atoms × List ℤ). (united (facts_of p) b.0, b.1))) h.1, ap (option_map (united (facts_of p))) h.2 ∙ sym (all-consequences p w sound))
+    (ap (map (restored (aside_of p))) h.0, ap (option_map (λ (b : Atoms × List ℤ). (restored (aside_of p) b.0, b.1))) h.1, ap (option_map (restored (aside_of p))) h.2 ∙ sym (all-consequences p w sound))
 
-all_found-left : (p : Program) (all : Bool) (mode : Mode) (r : Found) → IsSound p → IsAllFound all (left_of p) mode r.answers r.best r.known →
-    IsAllFound all p mode (found_with (facts_of p) r).answers (found_with (facts_of p) r).best (found_with (facts_of p) r).known
+all_found-left : (p : Program) (all : Bool) (mode : Mode) (r : Found) → IsSound p → IsAllFound all (reduced p) mode r.answers r.best r.known →
+    IsAllFound all p mode (found_with (aside_of p) r).answers (found_with (aside_of p) r).best (found_with (aside_of p) r).known
 all_found-left p false mode r sound h = found-left p mode r sound h
 all_found-left p true Enum r sound h = found-left p Enum r sound h
 all_found-left p true (Consequences w) r sound h = found-left p (Consequences w) r sound h
-all_found-left p true Opt r sound h = (ap (map (united (facts_of p))) h.0 ∙ sym (optima-left p sound), best-left p r.best sound h.1)
+all_found-left p true Opt r sound h = (ap (map (restored (aside_of p))) h.0 ∙ sym (optima-reduced p sound), best-left p r.best sound h.1)
 
-has_best-left : (p : Program) (mode : Mode) (best : Option (Atoms × List ℤ)) → IsSound p → HasBest (left_of p) mode best → HasBest p mode (option_map (λ b. (united (facts_of p) b.0, b.1)) best)
+has_best-left : (p : Program) (mode : Mode) (best : Option (Atoms × List ℤ)) → IsSound p → HasBest (reduced p) mode best → HasBest p mode (option_map (λ b. (restored (aside_of p) b.0, b.1)) best)
 has_best-left p Enum best sound h = tt
 has_best-left p Opt best sound h = best-left p best sound h
 has_best-left p (Consequences w) best sound h = tt
 
-pub says-left : (p : Program) (ask : Ask) (r : Report) (end : End) → IsSound p → SaysReport (left_of p) ask r end → SaysReport p ask (report_with (facts_of p) r) end
+pub says-left : (p : Program) (ask : Ask) (r : Report) (end : End) → IsSound p → SaysReport (reduced p) ask r end → SaysReport p ask (report_with (aside_of p) r) end
 says-left p ask r Finished sound h = all_found-left p ask.all_optima ask.mode r.results sound h
 says-left p ask r Limited sound h = record {
   listing = h.listing;
   some = h.some;
-  count = length-map r.results.answers (united (facts_of p)) ∙ h.count;
+  count = length-map r.results.answers (restored (aside_of p)) ∙ h.count;
   part = part_of-left p ask.all_optima ask.mode r.results sound h.part;
   best = has_best-left p ask.mode r.results.best sound h.best;
 }
@@ -159,94 +160,63 @@ says-left p ask r Unfinished sound h = (part_of-left p ask.all_optima ask.mode r
 -- ---- the text
 -- what is searched of a program
 abbrev rest : Program → Program
-rest p = unfolded (left_of p)
+rest p = unfolded (reduced p)
 
-same-line : (p : Program) (i : ℕ) (S : Atoms) → answer_lines (rest p) i S ≡ answer_lines p i (united (facts_of p) S)
-same-line p i S = ap (λ (ts : List (List ℕ)). ended_line (codes "Answer: " ++ decimal i) ++ ended_line (join_with_byte 32 ts)) (sym (shown-left p S))
+same-line : (p : Program) (i : ℕ) (S : Atoms) → answer_lines (rest p) i S ≡ answer_lines p i (restored (aside_of p) S)
+same-line p i S = ap (λ (ts : List (List ℕ)). ended_line (codes "Answer: " ++ decimal i) ++ ended_line (join_with_byte 32 ts)) (sym (shown-reduced p S))
 
-same-lines : (p : Program) (i : ℕ) (Ss : List Atoms) → answers_from (rest p) i Ss ≡ answers_from p i (map (united (facts_of p)) Ss)
+same-lines : (p : Program) (i : ℕ) (Ss : List Atoms) → answers_from (rest p) i Ss ≡ answers_from p i (map (restored (aside_of p)) Ss)
 same-lines p i [] = refl
-same-lines p i (S ∷ Ss) = ap (λ xs. xs ++ answers_from (rest p) (i + 1) Ss) (same-line p i S) ∙ ap (λ xs. answer_lines p i (united (facts_of p) S) ++ xs) (same-lines p (i + 1) Ss)
+same-lines p i (S ∷ Ss) = ap (λ xs. xs ++ answers_from (rest p) (i + 1) Ss) (same-line p i S) ∙ ap (λ xs. answer_lines p i (restored (aside_of p) S) ++ xs) (same-lines p (i + 1) Ss)
 
-best_answers-with : (F : Atoms) (best : Option (Atoms × List ℤ)) → best_answers (option_map (λ b. (united F b.0, b.1)) best) ≡ map (united F) (best_answers best)
+best_answers-with : (F : Aside) (best : Option (Atoms × List ℤ)) → best_answers (option_map (λ b. (restored F b.0, b.1)) best) ≡ map (restored F) (best_answers best)
 best_answers-with F None = refl
 best_answers-with F (Some b) = refl
 
-bests-with : (F : Atoms) (best : Option (Atoms × List ℤ)) (Ss : List Atoms) → bests (option_map (λ b. (united F b.0, b.1)) best) (map (united F) Ss) ≡ map (united F) (bests best Ss)
+bests-with : (F : Aside) (best : Option (Atoms × List ℤ)) (Ss : List Atoms) → bests (option_map (λ b. (restored F b.0, b.1)) best) (map (restored F) Ss) ≡ map (restored F) (bests best Ss)
 bests-with F best [] = best_answers-with F best
 bests-with F best (S ∷ Ss) = refl
 
-recorded-with : (F : Atoms) (mode : Mode) (r : Found) → recorded mode (found_with F r) ≡ map (united F) (recorded mode r)
+recorded-with : (F : Aside) (mode : Mode) (r : Found) → recorded mode (found_with F r) ≡ map (restored F) (recorded mode r)
 recorded-with F Enum r = refl
 recorded-with F Opt r = bests-with F r.best r.answers
 recorded-with F (Consequences w) r = refl
 
-cost_line-with : (F : Atoms) (best : Option (Atoms × List ℤ)) → best_cost_line best ≡ best_cost_line (option_map (λ b. (united F b.0, b.1)) best)
+cost_line-with : (F : Aside) (best : Option (Atoms × List ℤ)) → best_cost_line best ≡ best_cost_line (option_map (λ b. (restored F b.0, b.1)) best)
 cost_line-with F None = refl
 cost_line-with F (Some b) = refl
 
 -- what is told of a search for what is left
-abbrev told : Atoms → Found → Found
-told F r = record r { known = option_map (united F) r.known }
+abbrev told : Aside → Found → Found
+told F r = record r { known = option_map (restored F) r.known }
 
--- two sets with the same atoms show the same
-holds-same : (S T : Atoms) → ((a : ℕ) → has S a ≡ has T a) → (l : ℤ) → holds S l ≡ holds T l
-holds-same S T h (pos a) = h a
-holds-same S T h (negsuc a) = ap not (h (suc a))
-
-all-same : (S T : Atoms) → ((a : ℕ) → has S a ≡ has T a) → (ls : List ℤ) → all_hold S ls ≡ all_hold T ls
-all-same S T h [] = refl
-all-same S T h (l ∷ ls) = ap (λ (b : Bool). b && all_hold S ls) (holds-same S T h l) ∙ ap (λ (b : Bool). holds T l && b) (all-same S T h ls)
-
-texts-same : (S T : Atoms) → ((a : ℕ) → has S a ≡ has T a) → (os : List Output) → map (λ (o : Output). o.text) (filter (λ (o : Output). all_hold S o.condition) os) ≡ map (λ (o : Output). o.text) (filter (λ (o : Output). all_hold T o.condition) os)
-texts-same S T h [] = refl
-texts-same S T h (o ∷ os) =
-    ap (λ (b : Bool). map (λ (x : Output). x.text) (cond b (o ∷ filter (λ (x : Output). all_hold S x.condition) os) (filter (λ (x : Output). all_hold S x.condition) os))) (all-same S T h o.condition)
-    ∙ by (all_hold T o.condition) (filter (λ (x : Output). all_hold S x.condition) os) (filter (λ (x : Output). all_hold T x.condition) os) (texts-same S T h os)
-  where
-    by : (b : Bool) (xs ys : List Output) → map (λ (x : Output). x.text) xs ≡ map (λ (x : Output). x.text) ys → map (λ (x : Output). x.text) (cond b (o ∷ xs) xs) ≡ map (λ (x : Output). x.text) (cond b (o ∷ ys) ys)
-    by true xs ys e = ap (λ (ts : List (List ℕ)). o.text ∷ ts) e
-    by false xs ys e = e
-
-or-twice : (a b : Bool) → ((a || b) || b) ≡ (a || b)
-or-twice true b = refl
-or-twice false true = refl
-or-twice false false = refl
-
--- where the facts hold already
-shown-again : (p : Program) (B : Atoms) → shown (rest p) (united (facts_of p) B) ≡ shown p (united (facts_of p) B)
-shown-again p B =
-    let F = facts_of p in
-    sym (shown-left p (united F B))
-    ∙ texts-same (united F (united F B)) (united F B) (λ a. has-united F (united F B) a ∙ ap (λ (b : Bool). b || has F a) (has-united F B a) ∙ or-twice (has B a) (has F a) ∙ sym (has-united F B a)) p.outputs
-
-known-again : (names : Bool) (p : Program) (known : Option Atoms) → known_line names (rest p) (option_map (united (facts_of p)) known) ≡ known_line names p (option_map (united (facts_of p)) known)
+known-again : (names : Bool) (p : Program) (known : Option Atoms) → known_line names (rest p) (option_map (restored (aside_of p)) known) ≡ known_line names p (option_map (restored (aside_of p)) known)
 known-again false p known = refl
 known-again true p None = refl
 known-again true p (Some B) = ap named_line (shown-again p B)
 
-texts-again : (p : Program) (known : Option Atoms) → known_texts (rest p) (option_map (united (facts_of p)) known) ≡ known_texts p (option_map (united (facts_of p)) known)
+texts-again : (p : Program) (known : Option Atoms) → known_texts (rest p) (option_map (restored (aside_of p)) known) ≡ known_texts p (option_map (restored (aside_of p)) known)
 texts-again p None = refl
 texts-again p (Some B) = shown-again p B
 
-sums-with : (names : Bool) (p : Program) (mode : Mode) (r : Found) → sums_line names (rest p) mode (told (facts_of p) r) ≡ sums_line names p mode (found_with (facts_of p) r)
+sums-with : (names : Bool) (p : Program) (mode : Mode) (r : Found) → sums_line names (rest p) mode (told (aside_of p) r) ≡ sums_line names p mode (found_with (aside_of p) r)
 sums-with names p Enum r = refl
-sums-with names p Opt r = cost_line-with (facts_of p) r.best
+sums-with names p Opt r = cost_line-with (aside_of p) r.best
 sums-with names p (Consequences w) r = known-again names p r.known
 
-count-with : (F : Atoms) (mode : Mode) (r : Found) → found_count mode (told F r) ≡ found_count mode (found_with F r)
-count-with F Enum r = sym (length-map r.answers (united F))
-count-with F Opt r = sym (length-map (bests r.best r.answers) (united F)) ∙ ap length (sym (bests-with F r.best r.answers))
+count-with : (F : Aside) (mode : Mode) (r : Found) → found_count mode (told F r) ≡ found_count mode (found_with F r)
+count-with F Enum r = sym (length-map r.answers (restored F))
+count-with F Opt r = sym (length-map (bests r.best r.answers) (restored F)) ∙ ap length (sym (bests-with F r.best r.answers))
 count-with F (Consequences w) r = refl
 
-recorded-told : (F : Atoms) (mode : Mode) (r : Found) → recorded mode (told F r) ≡ recorded mode r
+recorded-told : (F : Aside) (mode : Mode) (r : Found) → recorded mode (told F r) ≡ recorded mode r
 recorded-told F Enum r = refl
 recorded-told F Opt r = refl
 recorded-told F (Consequences w) r = refl
 
-text-left : (p : Program) (r : Found) (brief names : Bool) → printed_text (rest p) (told (facts_of p) r) brief names ≡ printed_text p (found_with (facts_of p) r) brief names
+text-left : (p : Program) (r : Found) (brief names : Bool) → printed_text (rest p) (told (aside_of p) r) brief names ≡ printed_text p (found_with (aside_of p) r) brief names
 text-left p r brief names =
-    let F = facts_of p in
+    let F = aside_of p in
     let lines : answers_from (rest p) 1 (recorded r.mode (told F r)) ≡ answers_from p 1 (recorded r.mode (found_with F r)) =
     ap (answers_from (rest p) 1) (recorded-told F r.mode r) ∙ same-lines p 1 (recorded r.mode r) ∙ ap (answers_from p 1) (sym (recorded-with F r.mode r)) in
     ap (λ xs. cond brief [] xs ++ sums_line names (rest p) r.mode (told F r) ++ closing_lines r (found_count r.mode (told F r))) lines
@@ -254,94 +224,94 @@ text-left p r brief names =
     ∙ ap (λ k. cond brief [] (answers_from p 1 (recorded r.mode (found_with F r))) ++ sums_line names p r.mode (found_with F r) ++ closing_lines r k) (count-with F r.mode r)
 
 -- ---- the same as JSON
-witness-left : (p : Program) (best : Option (Atoms × List ℤ)) (S : Atoms) → witness (rest p) best S ≡ witness p best (united (facts_of p) S)
-witness-left p best S = ap (λ (ts : List (List ℕ)). codes "\n{\"Value\":" ++ array (map quoted ts) ++ best_costs best ++ codes "}") (sym (shown-left p S))
+witness-left : (p : Program) (best : Option (Atoms × List ℤ)) (S : Atoms) → witness (rest p) best S ≡ witness p best (restored (aside_of p) S)
+witness-left p best S = ap (λ (ts : List (List ℕ)). codes "\n{\"Value\":" ++ array (map quoted ts) ++ best_costs best ++ codes "}") (sym (shown-reduced p S))
 
-witness-with : (F : Atoms) (p : Program) (best : Option (Atoms × List ℤ)) (S : Atoms) → witness p best S ≡ witness p (option_map (λ b. (united F b.0, b.1)) best) S
+witness-with : (F : Aside) (p : Program) (best : Option (Atoms × List ℤ)) (S : Atoms) → witness p best S ≡ witness p (option_map (λ b. (restored F b.0, b.1)) best) S
 witness-with F p None S = refl
 witness-with F p (Some b) S = refl
 
-each-left : (p : Program) (best : Option (Atoms × List ℤ)) (Ss : List Atoms) → map (witness (rest p) best) Ss ≡ map (witness p best) (map (united (facts_of p)) Ss)
+each-left : (p : Program) (best : Option (Atoms × List ℤ)) (Ss : List Atoms) → map (witness (rest p) best) Ss ≡ map (witness p best) (map (restored (aside_of p)) Ss)
 each-left p best [] = refl
 each-left p best (S ∷ Ss) =
-    ap (λ (t : List ℕ). t ∷ map (witness (rest p) best) Ss) (witness-left p best S) ∙ ap (λ (ts : List (List ℕ)). witness p best (united (facts_of p) S) ∷ ts) (each-left p best Ss)
+    ap (λ (t : List ℕ). t ∷ map (witness (rest p) best) Ss) (witness-left p best S) ∙ ap (λ (ts : List (List ℕ)). witness p best (restored (aside_of p) S) ∷ ts) (each-left p best Ss)
 
-each-with : (F : Atoms) (p : Program) (best : Option (Atoms × List ℤ)) (Ss : List Atoms) → map (witness p best) Ss ≡ map (witness p (option_map (λ b. (united F b.0, b.1)) best)) Ss
+each-with : (F : Aside) (p : Program) (best : Option (Atoms × List ℤ)) (Ss : List Atoms) → map (witness p best) Ss ≡ map (witness p (option_map (λ b. (restored F b.0, b.1)) best)) Ss
 each-with F p best [] = refl
 each-with F p best (S ∷ Ss) =
-    ap (λ (t : List ℕ). t ∷ map (witness p best) Ss) (witness-with F p best S) ∙ ap (λ (ts : List (List ℕ)). witness p (option_map (λ b. (united F b.0, b.1)) best) S ∷ ts) (each-with F p best Ss)
+    ap (λ (t : List ℕ). t ∷ map (witness p best) Ss) (witness-with F p best S) ∙ ap (λ (ts : List (List ℕ)). witness p (option_map (λ b. (restored F b.0, b.1)) best) S ∷ ts) (each-with F p best Ss)
 
 abbrev bracketed : List (List ℕ) → List ℕ
 bracketed ts = codes "\"Witnesses\":[" ++ join_with_byte 44 ts ++ codes "\n]"
 
-witnesses-left : (p : Program) (best : Option (Atoms × List ℤ)) (Ss : List Atoms) → witnesses (rest p) best Ss ≡ witnesses p best (map (united (facts_of p)) Ss)
+witnesses-left : (p : Program) (best : Option (Atoms × List ℤ)) (Ss : List Atoms) → witnesses (rest p) best Ss ≡ witnesses p best (map (restored (aside_of p)) Ss)
 witnesses-left p best [] = refl
 witnesses-left p best (S ∷ Ss) = ap bracketed (each-left p best (S ∷ Ss))
 
-witnesses-with : (F : Atoms) (p : Program) (best : Option (Atoms × List ℤ)) (Ss : List Atoms) → witnesses p best Ss ≡ witnesses p (option_map (λ b. (united F b.0, b.1)) best) Ss
+witnesses-with : (F : Aside) (p : Program) (best : Option (Atoms × List ℤ)) (Ss : List Atoms) → witnesses p best Ss ≡ witnesses p (option_map (λ b. (restored F b.0, b.1)) best) Ss
 witnesses-with F p best [] = refl
 witnesses-with F p best (S ∷ Ss) = ap bracketed (each-with F p best (S ∷ Ss))
 
-recorded_text-left : (p : Program) (mode : Mode) (r : Found) → recorded_text (rest p) mode (told (facts_of p) r) ≡ recorded_text p mode (found_with (facts_of p) r)
+recorded_text-left : (p : Program) (mode : Mode) (r : Found) → recorded_text (rest p) mode (told (aside_of p) r) ≡ recorded_text p mode (found_with (aside_of p) r)
 recorded_text-left p Enum r = witnesses-left p None r.answers
 recorded_text-left p Opt r =
-    witnesses-left p r.best (bests r.best r.answers) ∙ ap (witnesses p r.best) (sym (bests-with (facts_of p) r.best r.answers))
-    ∙ witnesses-with (facts_of p) p r.best (bests (option_map (λ b. (united (facts_of p) b.0, b.1)) r.best) (map (united (facts_of p)) r.answers))
+    witnesses-left p r.best (bests r.best r.answers) ∙ ap (witnesses p r.best) (sym (bests-with (aside_of p) r.best r.answers))
+    ∙ witnesses-with (aside_of p) p r.best (bests (option_map (λ b. (restored (aside_of p) b.0, b.1)) r.best) (map (restored (aside_of p)) r.answers))
 recorded_text-left p (Consequences w) r = refl
 
-known_text-with : (F : Atoms) (mode : Mode) (r : Found) (texts : List (List ℕ)) → known_text mode (told F r) texts ≡ known_text mode (found_with F r) texts
+known_text-with : (F : Aside) (mode : Mode) (r : Found) (texts : List (List ℕ)) → known_text mode (told F r) texts ≡ known_text mode (found_with F r) texts
 known_text-with F Enum r texts = refl
 known_text-with F Opt r texts = refl
 known_text-with F (Consequences w) r texts = refl
 
-optimum-with : (F : Atoms) (end : End) (k : ℕ) (best : Option (Atoms × List ℤ)) → optimum_text end k best ≡ optimum_text end k (option_map (λ b. (united F b.0, b.1)) best)
+optimum-with : (F : Aside) (end : End) (k : ℕ) (best : Option (Atoms × List ℤ)) → optimum_text end k best ≡ optimum_text end k (option_map (λ b. (restored F b.0, b.1)) best)
 optimum-with F end k None = refl
 optimum-with F end k (Some b) = refl
 
-best_text-with : (F : Atoms) (mode : Mode) (r : Found) (k : ℕ) → best_text mode (told F r) k ≡ best_text mode (found_with F r) k
+best_text-with : (F : Aside) (mode : Mode) (r : Found) (k : ℕ) → best_text mode (told F r) k ≡ best_text mode (found_with F r) k
 best_text-with F Enum r k = refl
 best_text-with F Opt r k = optimum-with F r.end k r.best
 best_text-with F (Consequences w) r k = refl
 
-closing-with : (F : Atoms) (r : Found) (texts : List (List ℕ)) (k : ℕ) → closing_text (told F r) texts k ≡ closing_text (found_with F r) texts k
+closing-with : (F : Aside) (r : Found) (texts : List (List ℕ)) (k : ℕ) → closing_text (told F r) texts k ≡ closing_text (found_with F r) texts k
 closing-with F r texts k =
     ap (λ (xs : List ℕ). xs ++ result_text r k ++ models_text (told F r) k) (known_text-with F r.mode r texts)
     ∙ ap (λ (xs : List ℕ). known_text r.mode (found_with F r) texts ++ result_text r k ++ (codes ",\"Models\":{\"Number\":" ++ decimal k ++ codes ",\"More\":\"" ++ more r.end ++ codes "\"" ++ xs ++ codes "}}\n")) (best_text-with F r.mode r k)
 
-json-left : (p : Program) (r : Found) (brief : Bool) → json_text (rest p) (told (facts_of p) r) brief ≡ json_text p (found_with (facts_of p) r) brief
+json-left : (p : Program) (r : Found) (brief : Bool) → json_text (rest p) (told (aside_of p) r) brief ≡ json_text p (found_with (aside_of p) r) brief
 json-left p r brief =
-    let F = facts_of p in
-    let texts = known_texts (rest p) (option_map (united F) r.known) in
+    let F = aside_of p in
+    let texts = known_texts (rest p) (option_map (restored F) r.known) in
     ap (λ (xs : List ℕ). codes "{\"Solver\":\"aspenum\",\"Call\":[{" ++ cond brief [] xs ++ codes "}]" ++ closing_text (told F r) texts (found_count r.mode (told F r))) (recorded_text-left p r.mode r)
     ∙ ap (λ (xs : List ℕ). call_text p (found_with F r) brief ++ xs) (closing-with F r texts (found_count r.mode (told F r)) ∙ ap (closing_text (found_with F r) texts) (count-with F r.mode r) ∙ ap (λ (ts : List (List ℕ)). closing_text (found_with F r) ts (found_count r.mode (found_with F r))) (texts-again p r.known))
 
-text_in-left : (form : Form) (p : Program) (r : Found) (brief names : Bool) → text_in form (rest p) (told (facts_of p) r) brief names ≡ text_in form p (found_with (facts_of p) r) brief names
+text_in-left : (form : Form) (p : Program) (r : Found) (brief names : Bool) → text_in form (rest p) (told (aside_of p) r) brief names ≡ text_in form p (found_with (aside_of p) r) brief names
 text_in-left Text p r brief names = text-left p r brief names
 text_in-left Json p r brief names = json-left p r brief
 
 -- ---- with nothing set aside
-same-best : (best : Option (Atoms × List ℤ)) → option_map (λ b. (united [] b.0, b.1)) best ≡ best
+same-best : (best : Option (Atoms × List ℤ)) → option_map (λ b. (restored none_aside b.0, b.1)) best ≡ best
 same-best None = refl
-same-best (Some b) = refl
+same-best (Some b) = ap (λ (S : Atoms). Some (S, b.1)) (restored-none b.0)
 
-same-known : (known : Option Atoms) → option_map (united []) known ≡ known
+same-known : (known : Option Atoms) → option_map (restored none_aside) known ≡ known
 same-known None = refl
-same-known (Some S) = refl
+same-known (Some S) = ap (λ (T : Atoms). Some T) (restored-none S)
 
-same-sets : (Ss : List Atoms) → map (united []) Ss ≡ Ss
+same-sets : (Ss : List Atoms) → map (restored none_aside) Ss ≡ Ss
 same-sets [] = refl
-same-sets (S ∷ Ss) = ap (λ Ts. S ∷ Ts) (same-sets Ss)
+same-sets (S ∷ Ss) = ap (λ (T : Atoms). T ∷ map (restored none_aside) Ss) (restored-none S) ∙ ap (λ Ts. S ∷ Ts) (same-sets Ss)
 
-same-found : (r : Found) → found_with [] r ≡ r
+same-found : (r : Found) → found_with none_aside r ≡ r
 same-found r =
-    ap (λ Ss. record r { answers = Ss; best = option_map (λ b. (united [] b.0, b.1)) r.best; known = option_map (united []) r.known }) (same-sets r.answers)
-    ∙ ap (λ best. record r { best = best; known = option_map (united []) r.known }) (same-best r.best)
+    ap (λ Ss. record r { answers = Ss; best = option_map (λ b. (restored none_aside b.0, b.1)) r.best; known = option_map (restored none_aside) r.known }) (same-sets r.answers)
+    ∙ ap (λ best. record r { best = best; known = option_map (restored none_aside) r.known }) (same-best r.best)
     ∙ ap (λ known. record r { known = known }) (same-known r.known)
 
-same-report : (r : Report) → report_with [] r ≡ r
+same-report : (r : Report) → report_with none_aside r ≡ r
 same-report r = ap (λ f. record r { results = f }) (same-found r.results)
 
-same-told : (r : Report) → told_with [] r ≡ r
+same-told : (r : Report) → told_with none_aside r ≡ r
 same-told r = ap (λ k. record r { results = record r.results { known = k } }) (same-known r.results.known)
 
 -- ---- as was asked
@@ -357,37 +327,37 @@ unasked given e = by given.proof e
     by true h = absurd cc
     by false h = refl
 
-text_without : (p : Program) (r : Report) (layout : Layout) → r.proof ≡ None → report_text (rest p) (told_with (facts_of p) r) layout ≡ report_text p (report_with (facts_of p) r) layout
+text_without : (p : Program) (r : Report) (layout : Layout) → r.proof ≡ None → report_text (rest p) (told_with (aside_of p) r) layout ≡ report_text p (report_with (aside_of p) r) layout
 text_without p r layout none =
-    ap (λ proof. text_by proof (rest p) (told (facts_of p) r.results) layout) none
+    ap (λ proof. text_by proof (rest p) (told (aside_of p) r.results) layout) none
     ∙ text_in-left layout.form p r.results layout.brief layout.names
-    ∙ ap (λ proof. text_by proof p (found_with (facts_of p) r.results) layout) (sym none)
+    ∙ ap (λ proof. text_by proof p (found_with (aside_of p) r.results) layout) (sym none)
 
 pub told-text : (given : Options) (p : Program) (r : Report) (layout : Layout) → HasProof given.proof r →
     report_text (searched given p) (told_with (set_aside given p) r) layout ≡ report_text (asked given p) (report_with (set_aside given p) r) layout
 told-text given p r layout proof = by (asked given p) (is_settled given) refl
   where
-    by : (q : Program) (b : Bool) → is_settled given ≡ b → report_text (cond b (rest q) q) (told_with (cond b (facts_of q) []) r) layout ≡ report_text q (report_with (cond b (facts_of q) []) r) layout
+    by : (q : Program) (b : Bool) → is_settled given ≡ b → report_text (cond b (rest q) q) (told_with (cond b (aside_of q) none_aside) r) layout ≡ report_text q (report_with (cond b (aside_of q) none_aside) r) layout
     by q true e = text_without q r layout (no-proof r.results.end r.results r.proof (subst (λ wanted. HasProof wanted r) (unasked given e) proof))
     by q false e = ap (λ x. report_text q x layout) (same-told r ∙ sym (same-report r))
 
 pub told-says : (given : Options) (p : Program) (ask : Ask) (r : Report) (end : End) → IsSound (asked given p) → SaysReport (searched given p) ask r end → SaysReport (asked given p) ask (report_with (set_aside given p) r) end
 told-says given p ask r end sound h = by (asked given p) (is_settled given) sound h
   where
-    by : (q : Program) (b : Bool) → IsSound q → SaysReport (cond b (rest q) q) ask r end → SaysReport q ask (report_with (cond b (facts_of q) []) r) end
-    by q true sound s = says-left q ask r end sound (says-unfolded (left_of q) ask r end (sound-left q sound) s)
+    by : (q : Program) (b : Bool) → IsSound q → SaysReport (cond b (rest q) q) ask r end → SaysReport q ask (report_with (cond b (aside_of q) none_aside) r) end
+    by q true sound s = says-left q ask r end sound (says-unfolded (reduced q) ask r end (sound-reduced q sound) s)
     by q false sound s = subst (λ x. SaysReport q ask x end) (sym (same-report r)) s
 
-some-known : (F : Atoms) (known : Option Atoms) → is_some (option_map (united F) known) ≡ is_some known
+some-known : (F : Aside) (known : Option Atoms) → is_some (option_map (restored F) known) ≡ is_some known
 some-known F None = refl
 some-known F (Some S) = refl
 
-model-in : (F : Atoms) (mode : Mode) (r : Found) → has_model_in mode (told F r) ≡ has_model_in mode r
+model-in : (F : Aside) (mode : Mode) (r : Found) → has_model_in mode (told F r) ≡ has_model_in mode r
 model-in F Enum r = refl
 model-in F Opt r = refl
 model-in F (Consequences w) r = some-known F r.known
 
-pub told-model : (F : Atoms) (r : Report) → has_model (told_with F r).results ≡ has_model r.results
+pub told-model : (F : Aside) (r : Report) → has_model (told_with F r).results ≡ has_model r.results
 told-model F r = model-in F r.results.mode r.results
 
 -- ---- a report that was told
@@ -395,8 +365,12 @@ same-kind : (rules : List Rule) (ms : List Minimize) → mode_by (map (unfolded_
 same-kind rules [] = refl
 same-kind rules (m ∷ ms) = refl
 
+merged-kind : (m : ℕ → ℕ) (ms : List Minimize) → mode_by (map (renamed_minimize m) ms) ≡ mode_by ms
+merged-kind m [] = refl
+merged-kind m (s ∷ ms) = refl
+
 same-mode : (o : Option Mode) (p : Program) → mode_of o (rest p) ≡ mode_of o p
-same-mode None p = same-kind (left_of p).rules p.minimize
+same-mode None p = same-kind (reduced p).rules (reduced p).minimize ∙ merged-kind (goes_by (left_of p)) p.minimize
 same-mode (Some mode) p = refl
 
 named-mode : (o : Option Mode) (p : Program) → mode_of o (named p) ≡ mode_of o p
@@ -416,16 +390,16 @@ same-ask given p = by (asked given p) (is_settled given) ∙ named-ask (is_named
 
 -- what was searched, and with what it is told
 pub solves-by : (given : Options) (p : Program) (x : Prepared) (q : Program) (r : Report) (layout : Layout) (h h' : Option (List ℕ)) (w w' : ℕ) (o : Outcome) → x ≡ prepared_of given p → q ≡ x.compiled → layout ≡ layout_of given
-    → IsReport x.compiled (ask_of given q) given.budget r → HasProof given.proof r → Concludes layout q x.facts r h h' w w' o → Solves given p h h' w w' o
+    → IsReport x.compiled (ask_of given q) given.budget r → HasProof given.proof r → Concludes layout q x.aside r h h' w w' o → Solves given p h h' w w' o
 solves-by given p x q r layout h h' w w' o is of same report proof (inl m) = inl m
 solves-by given p x q r layout h h' w w' o is of same report proof (inr d) =
     let report' : IsReport x.compiled (ask_of given x.compiled) given.budget r = subst (λ (y : Program). IsReport x.compiled (ask_of given y) given.budget r) of report in
     let report'' : IsReport (searched given p) (ask_of given (searched given p)) given.budget r = subst (λ (y : Prepared). IsReport y.compiled (ask_of given y.compiled) given.budget r) is report' in
-    let told' : Delivers layout x.compiled (told_with x.facts r) h h' w w' o = subst (λ (y : Program). Delivers layout y (told_with x.facts r) h h' w w' o) of d in
-    let told'' : Delivers layout (searched given p) (told_with (set_aside given p) r) h h' w w' o = subst (λ (y : Prepared). Delivers layout y.compiled (told_with y.facts r) h h' w w' o) is told' in
+    let told' : Delivers layout x.compiled (told_with x.aside r) h h' w w' o = subst (λ (y : Program). Delivers layout y (told_with x.aside r) h h' w w' o) of d in
+    let told'' : Delivers layout (searched given p) (told_with (set_aside given p) r) h h' w w' o = subst (λ (y : Prepared). Delivers layout y.compiled (told_with y.aside r) h h' w w' o) is told' in
     inr (r, (subst (λ (ask : Ask). IsReport (searched given p) ask given.budget r) (same-ask given p) report'', proof), subst (λ (b : Layout). Delivers b (searched given p) (told_with (set_aside given p) r) h h' w w' o) same told'')
 
-pub counted-by : (workers : ℕ) (layout : Layout) (p : Program) (F : Atoms) (r : Report) (t : Tally) (h h' : Option (List ℕ)) (w w' : ℕ) (o : Outcome) → Concludes layout p F r h h' w w' o → IsCounted workers t r → IfSome o.report (IsCounted workers t)
+pub counted-by : (workers : ℕ) (layout : Layout) (p : Program) (F : Aside) (r : Report) (t : Tally) (h h' : Option (List ℕ)) (w w' : ℕ) (o : Outcome) → Concludes layout p F r h h' w w' o → IsCounted workers t r → IfSome o.report (IsCounted workers t)
 counted-by workers layout p F r t h h' w w' o (inl m) counted = subst (λ x. IfSome x (IsCounted workers t)) (sym (ap (λ (x : Outcome). x.report) m.0)) tt
 counted-by workers layout p F r t h h' w w' o (inr d) counted =
     subst (λ x. IfSome x (IsCounted workers t)) (sym d.reports) (record { atoms = counted.atoms; bodies = counted.bodies; loops = counted.loops; numbered = counted.numbered })

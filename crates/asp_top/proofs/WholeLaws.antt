@@ -25,7 +25,8 @@ use Rattle.asp_named.specs.Told.{told_texts}
 use Rattle.asp_named.proofs.AnswerLaws.{answers-named, split-named, told-named}
 use Rattle.asp_named.specs.Named.{first_free}
 use Rattle.asp_model.proofs.ModelLaws.{optima-are}
-use Rattle.asp_settle.specs.Settled.{united}
+use Rattle.asp_equal.specs.declared.reduce.Aside.{Aside}
+use Rattle.asp_equal.specs.Reduced.{restored}
 use Rattle.asp_crew_laws.specs.declared.report.Report.{Report}
 use Rattle.asp_crew_laws.specs.Runs.{IsBest, IsFound}
 use Rattle.asp_crew_laws.specs.Reports.{HasBest, IsAllFound, IsPartOf, Says as SaysReport, asks_list}
@@ -337,22 +338,22 @@ tells-enough given p Enum L best known listing some count part is = (L, (part-en
 tells-enough given p Opt L best known listing some count part is = enough-opt given.form given p given.models L best known listing some count part is
 tells-enough given p (Consequences w) L best known listing some count part is = absurd (false≢true listing)
 
--- ---- whether there is a model, told with the facts
+-- ---- whether there is a model, told with what was set aside
 some-map : {A B : Type 0} (f : A → B) (L : List A) → is_some_of (map f L) ≡ is_some_of L
 some-map f [] = refl
 some-map f (x ∷ L) = refl
 
-some-bests : (F : Atoms) (best : Option (Atoms × List ℤ)) (L : List Atoms) → is_some_of (bests (option_map (λ b. (united F b.0, b.1)) best) (map (united F) L)) ≡ is_some_of (bests best L)
+some-bests : (F : Aside) (best : Option (Atoms × List ℤ)) (L : List Atoms) → is_some_of (bests (option_map (λ b. (restored F b.0, b.1)) best) (map (restored F) L)) ≡ is_some_of (bests best L)
 some-bests F None [] = refl
 some-bests F (Some b) [] = refl
 some-bests F best (S ∷ L) = refl
 
-some-known : (F : Atoms) (known : Option Atoms) → is_some (option_map (united F) known) ≡ is_some known
+some-known : (F : Aside) (known : Option Atoms) → is_some (option_map (restored F) known) ≡ is_some known
 some-known F None = refl
 some-known F (Some S) = refl
 
-model-with : (F : Atoms) (mode : Mode) (r : Found) → has_model_in mode (found_with F r) ≡ has_model_in mode r
-model-with F Enum r = some-map (united F) r.answers
+model-with : (F : Aside) (mode : Mode) (r : Found) → has_model_in mode (found_with F r) ≡ has_model_in mode r
+model-with F Enum r = some-map (restored F) r.answers
 model-with F Opt r = some-bests F r.best r.answers
 model-with F (Consequences w) r = some-known F r.known
 

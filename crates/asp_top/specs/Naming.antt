@@ -1,9 +1,9 @@
--- Which program is searched: with atoms for its outputs where consequences are told by name, and without its facts, its minimise statements unfolded.
-use Rattle.std.specs.Prelude.{Bool, true, false, not, ◌&&◌, ◌||◌, if◌then◌else◌, [], Option, Some, is_some}
+-- Which program is searched: with atoms for its outputs where consequences are told by name, and without what is set aside, its minimise statements unfolded.
+use Rattle.std.specs.Prelude.{Bool, true, false, not, ◌&&◌, ◌||◌, if◌then◌else◌, Option, Some, is_some}
 use Rattle.asp_model.specs.declared.program.Program.{Program}
-use Rattle.asp_model.specs.Sets.{Atoms}
 use Rattle.asp_named.specs.Named.{named, named_if}
-use Rattle.asp_settle.specs.Settled.{facts_of, left_of}
+use Rattle.asp_equal.specs.declared.reduce.Aside.{Aside}
+use Rattle.asp_equal.specs.Reduced.{aside_of, none_aside, reduced}
 use Rattle.asp_unfold.specs.Unfolded.{unfolded}
 use Rattle.asp_cli.specs.declared.Form.{Form}
 use Rattle.asp_cli.specs.declared.Form.TheVariants.{Text, Json}
@@ -30,9 +30,9 @@ asked given p = if is_named given then named p else p
 abbrev pub asked_if : Options → Program → Option Program
 asked_if given p = if is_named given then named_if p else Some p
 
--- what is left of it without the facts, its minimise statements unfolded, and the facts
+-- what is left of it, its minimise statements unfolded; and what is set aside: its facts, and the atoms that copy another one
 abbrev pub left_for : Options → Program → Program
-left_for given q = if is_settled given then unfolded (left_of q) else q
+left_for given q = if is_settled given then unfolded (reduced q) else q
 
-abbrev pub facts_for : Options → Program → Atoms
-facts_for given q = if is_settled given then facts_of q else []
+abbrev pub aside_for : Options → Program → Aside
+aside_for given q = if is_settled given then aside_of q else none_aside

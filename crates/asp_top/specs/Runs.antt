@@ -10,9 +10,9 @@ use Rattle.asp_model.specs.declared.results.Ask.{Ask}
 use Rattle.asp_model.specs.declared.results.End.{End}
 use Rattle.asp_model.specs.declared.results.End.TheVariants.{Finished, Limited, Unfinished}
 use Rattle.asp_model.specs.Found.{Found}
-use Rattle.asp_model.specs.Sets.{Atoms}
 use Rattle.asp_model.specs.Sound.{IsSound}
-use Rattle.asp_settle.specs.Settled.{united}
+use Rattle.asp_equal.specs.declared.reduce.Aside.{Aside}
+use Rattle.asp_equal.specs.Reduced.{restored}
 use Rattle.asp_named.specs.Named.{has_numbers}
 use Rattle.asp_print.specs.Named.{printed_text}
 use Rattle.asp_json.specs.Json.{json_text}
@@ -43,7 +43,7 @@ use Rattle.asp_top.specs.declared.status.Outcome.{Outcome}
 use Rattle.asp_top.specs.declared.counts.Tally.{Tally}
 use Rattle.asp_top.specs.Loops.{HasLoops}
 use Rattle.asp_top.specs.Meaning.{has_model, mode_of, status_for}
-use Rattle.asp_top.specs.Naming.{asked, facts_for, is_named, left_for}
+use Rattle.asp_top.specs.Naming.{aside_for, asked, is_named, left_for}
 use Rattle.asp_top.specs.Notes.{IsNoted, is_answered, is_written, note_of, notes_of}
 use Rattle.asp_top.specs.Parting.{AreParts, Divides}
 use Rattle.asp_top.specs.Progress.{IsTold}
@@ -105,33 +105,33 @@ report_text p r layout = text_by r.proof p r.results layout
 abbrev pub ask_of : Options → Program → Ask
 ask_of given p = record { mode = mode_of given.mode p; models = given.models; all_optima = given.all_optima }
 
--- ---- outputs get atoms, and facts are settled, before the search
+-- ---- outputs get atoms, and facts and copies are set aside, before the search
 -- the program that is searched
 abbrev pub searched : Options → Program → Program
 searched given p = left_for given (asked given p)
 
--- the facts that are settled before
-abbrev pub set_aside : Options → Program → Atoms
-set_aside given p = facts_for given (asked given p)
+-- what is set aside before
+abbrev pub set_aside : Options → Program → Aside
+set_aside given p = aside_for given (asked given p)
 
--- what was found, each set with the facts
-abbrev pub found_with : Atoms → Found → Found
-found_with F r = record r { answers = map (united F) r.answers; best = option_map (λ best. (united F best.0, best.1)) r.best; known = option_map (united F) r.known }
+-- what was found, each set with what was set aside
+abbrev pub found_with : Aside → Found → Found
+found_with A r = record r { answers = map (restored A) r.answers; best = option_map (λ best. (restored A best.0, best.1)) r.best; known = option_map (restored A) r.known }
 
 -- the report of a search for what is left, as one on the program
-abbrev pub report_with : Atoms → Report → Report
-report_with F r = record r { results = found_with F r.results }
+abbrev pub report_with : Aside → Report → Report
+report_with A r = record r { results = found_with A r.results }
 
 -- the same where no answer is listed
-abbrev pub told_with : Atoms → Report → Report
-told_with F r = record r { results = record r.results { known = option_map (united F) r.results.known } }
+abbrev pub told_with : Aside → Report → Report
+told_with A r = record r { results = record r.results { known = option_map (restored A) r.results.known } }
 
 -- There are numbers where outputs need atoms.
 abbrev pub HasNumbers : Options → Program → Type 0
 HasNumbers given p = is_named given ≡ true → has_numbers p ≡ true
 
--- No parts are asked for. The report is that of a run on the program without the facts, with what is asked and the units that were given;
--- with the facts it says of the program what was asked, and has a proof if that was asked for. Where consequences are told by name all
+-- No parts are asked for. The report is that of a run on what is left of the program, with what is asked and the units that were given;
+-- with what was set aside it says of the program what was asked, and has a proof if that was asked for. Where consequences are told by name all
 -- this is about the program with atoms for its outputs.
 pub record IsSolved (given : Options) (a : Around) (report : Option Report) : Type 0 where
   pub program : Program
@@ -285,10 +285,10 @@ pub record Delivers (layout : Layout) (p : Program) (r : Report) (held held' : O
   pub means : DeliveryMeans layout p r held held' writes writes' o.status
   pub later : writes ≤ writes'
 
--- A report was told with the facts, or memory ran out before.
-abbrev pub Concludes : Layout → Program → Atoms → Report → Option (List ℕ) → Option (List ℕ) → ℕ → ℕ → Outcome → Type 0
-Concludes layout p F r held held' writes writes' o =
-    ((o ≡ record { status = Memory; report = None }) × Keeps held held' × (writes' ≡ writes)) ⊎ Delivers layout p (told_with F r) held held' writes writes' o
+-- A report was told with what was set aside, or memory ran out before.
+abbrev pub Concludes : Layout → Program → Aside → Report → Option (List ℕ) → Option (List ℕ) → ℕ → ℕ → Outcome → Type 0
+Concludes layout p A r held held' writes writes' o =
+    ((o ≡ record { status = Memory; report = None }) × Keeps held held' × (writes' ≡ writes)) ⊎ Delivers layout p (told_with A r) held held' writes writes' o
 
 -- The program was solved as was asked, or memory ran out and nothing was written.
 abbrev pub Solves : Options → Program → Option (List ℕ) → Option (List ℕ) → ℕ → ℕ → Outcome → Type 0
@@ -325,7 +325,7 @@ IsOver given left left' reads reads' status =
 
 -- what is searched of the program, and what is set aside
 abbrev pub prepared_of : Options → Program → Prepared
-prepared_of given p = record { compiled = searched given p; facts = set_aside given p }
+prepared_of given p = record { compiled = searched given p; aside = set_aside given p }
 
 -- why nothing is searched of a program that is there
 abbrev pub WhyNot : Options → Program → Status → Type 0

@@ -1,5 +1,5 @@
 //! The program of a run: read from the source or made, and compiled.
-ghost use Rattle.std.specs.Prelude.{◌≡◌, ◌≤◌, ℕ, List, [], Option, None, Some, IfErr, IfOk, IfSome, IsErrOf, OnOk};
+ghost use Rattle.std.specs.Prelude.{◌≡◌, ◌≤◌, ℕ, List, Option, None, Some, IfErr, IfOk, IfSome, IsErrOf, OnOk};
 ghost use Rattle.std.specs.Io.KnownBytes.{IsAtEnd};
 ghost use Rattle.asp_io.specs.Causes.{Rose};
 ghost use Rattle.asp_read.specs.Judging.{most_bytes};
@@ -8,35 +8,36 @@ ghost use Rattle.asp_top.specs.Formats.{StopsFor, outcome_for};
 ghost use Rattle.asp_model.specs.Sound.{IsSound};
 ghost use Rattle.asp_cli.specs.Found.{seeks_consequences};
 ghost use Rattle.asp_cli.specs.Values.{IsRing};
-ghost use Rattle.asp_settle.specs.Settled.{facts_of, left_of};
+ghost use Rattle.asp_equal.specs.Reduced.{aside_of, none_aside, reduced};
 ghost use Rattle.asp_unfold.specs.Unfolded.{unfolded};
-ghost use Rattle.asp_top.specs.Naming.{asked_if, facts_for, is_json, is_named, is_settled, left_for};
+ghost use Rattle.asp_top.specs.Naming.{aside_for, asked_if, is_json, is_named, is_settled, left_for};
 ghost use Rattle.asp_top.specs.Runs.{HasNumbers, Prepares, WhyNot, prepared_of, status_of};
 
 use crate::status::Status;
 use asp_cli::{Form, Format, Options};
+use asp_equal::reduce::{Aside, Reduced, reduce};
 use asp_io::Source;
 use asp_make::ring;
 use asp_model::interp::Interp;
 use asp_model::program::Program;
 use asp_model::results::Mode;
+use asp_model::seq::Seq;
 use asp_named::named::name;
 use asp_read::fault::ReadError;
 use asp_read::read_program;
-use asp_settle::settle::{Settled, settle};
 use asp_smodels::read_smodels;
 use asp_unfold::unfold::unfold;
 use asp_vars::compile::compile;
 use asp_vars::compiled::Compiled;
 use std::alloc::{AllocError, Global};
 
-/// The program that is searched, compiled, and the facts that were settled before.
+/// The program that is searched, compiled, and what was set aside before.
 #[derive(Drop)]
 pub struct Prepared {
     /// What is searched.
     pub compiled: Compiled,
-    /// What is set aside: in each answer, and in none of the program's statements that is searched.
-    pub facts: Interp,
+    /// What each answer gets back.
+    pub aside: Aside,
 }
 
 fn status_of(error: ReadError) -> Status
@@ -50,7 +51,7 @@ fn status_of(error: ReadError) -> Status
     }
 }
 
-// Whether facts are settled: a proof is of the whole program as it is, and so are parts.
+// Whether anything is set aside: a proof is of the whole program as it is, and so are parts.
 fn is_settled(options: &Options) -> bool
     ensures { result ≡ is_settled options.now }
 {
@@ -97,34 +98,37 @@ fn asked(alloc: Global, options: &Options, program: Program) -> Result<Option<Pr
     }
 }
 
-// The program without its facts, its minimise statements unfolded, compiled.
-fn without_facts(alloc: Global, program: Program) -> Result<Prepared, AllocError>
+// The program without what is set aside, its minimise statements unfolded, compiled.
+fn without_aside(alloc: Global, program: Program) -> Result<Prepared, AllocError>
     requires { IsSound program }
-    ensures { IfOk result (λ prepared. prepared ≡ record { compiled = unfolded (left_of program); facts = facts_of program }) }
+    ensures { IfOk result (λ prepared. prepared ≡ record { compiled = unfolded (reduced program); aside = aside_of program }) }
 {
-    let settled = settle(alloc, program)?;
-    let Settled { facts, left } = settled;
+    let reduced = reduce(alloc, program)?;
+    let Reduced { aside, left } = reduced;
     let unfolded = unfold(alloc, left)?;
     let compiled = compile(alloc, unfolded)?;
-    Ok(Prepared { compiled, facts })
+    Ok(Prepared { compiled, aside })
 }
 
 // The whole program, compiled.
 fn whole(alloc: Global, program: Program) -> Result<Prepared, AllocError>
     requires { IsSound program }
-    ensures { IfOk result (λ prepared. prepared ≡ record { compiled = program; facts = [] }) }
+    ensures { IfOk result (λ prepared. prepared ≡ record { compiled = program; aside = none_aside }) }
 {
-    let facts = Interp::new(alloc);
+    let aside = Aside {
+        facts: Interp::new(alloc),
+        copies: Seq::from_vec(Vec::new(alloc)),
+    };
     let compiled = compile(alloc, program)?;
-    Ok(Prepared { compiled, facts })
+    Ok(Prepared { compiled, aside })
 }
 
-fn reduce(alloc: Global, options: &Options, program: Program) -> Result<Prepared, AllocError>
+fn divided(alloc: Global, options: &Options, program: Program) -> Result<Prepared, AllocError>
     requires { IsSound program }
-    ensures { IfOk result (λ prepared. prepared ≡ record { compiled = left_for options.now program; facts = facts_for options.now program }) }
+    ensures { IfOk result (λ prepared. prepared ≡ record { compiled = left_for options.now program; aside = aside_for options.now program }) }
 {
     if is_settled(options) {
-        without_facts(alloc, program)
+        without_aside(alloc, program)
     } else {
         whole(alloc, program)
     }
@@ -138,7 +142,7 @@ fn ready(alloc: Global, options: &Options, program: Program) -> Result<Prepared,
     ensures wanting { IfErr result (WhyNot options.now program) }
 {
     match asked(alloc, options, program) {
-        Ok(Some(sought)) => match reduce(alloc, options, sought) {
+        Ok(Some(sought)) => match divided(alloc, options, sought) {
             Ok(prepared) => Ok(prepared),
             Err(_) => Err(Status::Memory),
         },

@@ -19,11 +19,10 @@ use asp_counts::counts::Counts;
 use asp_counts::watch::Watch;
 use asp_crew::alone::solve_alone;
 use asp_crew::report::Report;
+use asp_equal::reduce::{Aside, restore};
 use asp_io::Sink;
-use asp_model::interp::Interp;
 use asp_model::program::Program;
 use asp_model::results::Ask;
-use asp_settle::settle::unite;
 use asp_team::gate::Gate;
 use asp_team::many;
 use asp_team::many::{Deeds, Plan};
@@ -55,33 +54,33 @@ fn layout_of(options: &Options) -> Layout
     }
 }
 
-// The report with the facts among what is known.
-fn told(alloc: Global, facts: &Interp, report: Report) -> Result<Report, AllocError>
-    ensures { IfOk result (λ whole. whole ≡ told_with facts.now report) }
+// The report with what was set aside among what is known.
+fn told(alloc: Global, aside: &Aside, report: Report) -> Result<Report, AllocError>
+    ensures { IfOk result (λ whole. whole ≡ told_with aside.now report) }
 {
     let mut report = report;
     if let Some(known) = &report.results.known {
-        let whole = unite(alloc, facts, known)?;
+        let whole = restore(alloc, aside, known)?;
         report.results.known = Some(whole);
     }
     Ok(report)
 }
 
-// Writes the text of a report with the facts, or nothing where memory is wanting.
+// Writes the text of a report with what was set aside, or nothing where memory runs out.
 fn conclude<K: Sink>(
     alloc: Global,
     sink: &mut K,
     layout: Layout,
     program: &Program,
-    facts: &Interp,
+    aside: &Aside,
     report: Report,
 ) -> Outcome
-    ensures concludes { Concludes layout program.now facts.now report (K.held sink.old) (K.held sink.new) (K.faults sink.old) (K.faults sink.new) result }
+    ensures concludes { Concludes layout program.now aside.now report (K.held sink.old) (K.held sink.new) (K.faults sink.old) (K.faults sink.new) result }
     ensures flushed { TellsFaults (K.faults sink.old) (K.faults sink.new) result.status }
     ensures sent { IsSentOn result.status (K.is_sent sink.new) }
     ensures closed { TellsClosed result.status (K.is_closed sink.new) }
 {
-    match told(alloc, facts, report) {
+    match told(alloc, aside, report) {
         Ok(report) => deliver(alloc, sink, layout, program, report),
         Err(_) => failed(Status::Memory),
     }
@@ -125,7 +124,7 @@ pub fn solve<K: Sink, W: Watch>(
                 sink,
                 layout_of(options),
                 program,
-                &prepared.facts,
+                &prepared.aside,
                 report,
             )
         }
@@ -199,7 +198,7 @@ pub fn solve_by_crew<R: Threads + Wait + Sync, K: Sink, G: Gate + Sync, W: Watch
                     sink,
                     layout_of(options),
                     program,
-                    &prepared.facts,
+                    &prepared.aside,
                     report,
                 ),
                 watch,

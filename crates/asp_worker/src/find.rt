@@ -13,9 +13,15 @@ use asp_vault::Seat;
 use std::alloc::AllocError;
 use std::sync::Wait;
 use std::thread;
+use std::thread::Parker;
+use std::time::Duration;
 
-// In one of so many rounds a worker that looks for a path looks at the board, which takes the lock.
+// In the first of so many rounds a worker that looks for a path looks at the board, which takes the lock. Between them it yields.
 const ROUNDS: u32 = 64;
+
+// In each later round it looks at the board, and then it sleeps: a microsecond at first, and twice as long each time, up to so many
+// doublings.
+const DOUBLINGS: u32 = 10;
 
 // Takes a path, if it is open.
 fn try_take<R: Wait>(
@@ -172,6 +178,21 @@ fn count_paths<R: Wait>(rt: &R, shared: &Shared, seat: &mut Seat<Book>) -> (usiz
     (open, held)
 }
 
+// Whether a round is one in which the board is looked at.
+fn is_due(round: u32) -> bool {
+    round == 0 || round >= ROUNDS
+}
+
+// Lets others work before the next round.
+fn pause<R: Wait>(rt: &R, parker: &Parker, round: u32) {
+    if round < ROUNDS {
+        thread::yield_now();
+    } else {
+        let doublings = (round - ROUNDS).min(DOUBLINGS);
+        parker.park_timeout(rt, Duration::from_micros(1 << doublings));
+    }
+}
+
 // Where it is time, looks at the board, and takes an open path if none is held. While another has a path, one that nobody offered
 // may be the rest of it: answers that were found there would be found again.
 fn survey<R: Wait>(
@@ -187,7 +208,7 @@ fn survey<R: Wait>(
     ensures passes { Passes (view seat.old) (view seat.new) }
     ensures sees { Sees (view seat.old).seen (view seat.new) result }
 {
-    if round % ROUNDS != 0 {
+    if !is_due(round) {
         return Ok(Sight::Others);
     }
     let (open, held) = count_paths(rt, shared, seat);
@@ -243,6 +264,8 @@ fn look_for<R: Wait>(
     ensures takes { Takes (view seat.new) result }
     ensures quiet { IfOk result (IsQuietIf (view seat.old).seen (view seat.new)) }
 {
+    // Nobody wakes it: each sleep ends by itself.
+    let parker = Parker::new();
     let mut round: u32 = 0;
     'rounds: for _ in rt.forever() {
         let taken = take_offered(rt, shared, seat, lane, pass)?;
@@ -254,8 +277,8 @@ fn look_for<R: Wait>(
             Sight::Nothing => return Ok(None),
             Sight::Others => {}
         }
-        round = round.wrapping_add(1);
-        thread::yield_now();
+        pause(rt, &parker, round);
+        round = round.saturating_add(1);
     }
     unreachable!()
 }

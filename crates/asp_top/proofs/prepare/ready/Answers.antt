@@ -1,7 +1,7 @@
 use Rattle.std.proofs.Common.{◌≡◌, ◌∙◌, ap, Some}
 use Rattle.asp_model.specs.declared.program.Program.{Program}
 use Rattle.asp_top.specs.declared.prepare.Prepared.{Prepared}
-use Rattle.asp_top.specs.Naming.{asked_if, facts_for, left_for}
+use Rattle.asp_top.specs.Naming.{aside_for, asked_if, left_for}
 use Rattle.asp_top.proofs.RunLaws.{asked-is}
 use Rattle.asp_top.proofs.prepare.ready.Goals as goal
 
@@ -9,5 +9,5 @@ pub returns-in-Ok-clause-same : goal.returns-in-Ok-clause-same
 returns-in-Ok-clause-same c =
     let given = c.args.options.now in
     let is : Some c.in-Ok-Some.sought ≡ asked_if given c.args.program = rw c.in-Ok-Some.field-0-is at c.in-Ok-Some.ensures.asked in
-    let of : Program → Prepared = λ (q : Program). record { compiled = left_for given q; facts = facts_for given q } in
+    let of : Program → Prepared = λ (q : Program). record { compiled = left_for given q; aside = aside_for given q } in
     c.in-Ok.ensures ∙ ap of (asked-is given c.args.program c.in-Ok-Some.sought is)

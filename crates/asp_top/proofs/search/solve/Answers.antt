@@ -19,7 +19,7 @@ returns-in-Ok-clause-solves g c = λ p is.
     (subst (λ ask. IsReport x.compiled ask given.budget c.in-Ok.report) c.ask_of-ask.ensures c.in-Ok.ensures.report) c.in-Ok.ensures.proof c.conclude.ensures.concludes
 
 pub returns-in-Ok-clause-counted : goal.returns-in-Ok-clause-counted
-returns-in-Ok-clause-counted g c = counted-by _ c.layout_of.result c.program-program.result.now c.args.prepared.now.facts c.in-Ok.report _ _ _ _ _ _ c.conclude.ensures.concludes (record {
+returns-in-Ok-clause-counted g c = counted-by _ c.layout_of.result c.program-program.result.now c.args.prepared.now.aside c.in-Ok.report _ _ _ _ _ _ c.conclude.ensures.concludes (record {
   atoms = c.of.ensures.atoms ∙ ap (λ (p : Program). length (atoms_of p)) (sym c.in-Ok.ensures.report.program);
   bodies = c.of.ensures.bodies ∙ ap (λ (p : Program). length (bodies_of p)) (sym c.in-Ok.ensures.report.program);
   loops = subst (λ (p : Program). IfSome c.of.result.loops (HasLoops p)) (sym c.in-Ok.ensures.report.program) (rw c.of.ensures.loops c.loops-loops.ensures);

@@ -3,8 +3,8 @@ use Rattle.asp_book.specs.Calls.{Knows}
 use Rattle.asp_worker.proofs.SeatLaws.{passes-self, passes-trans, idles-trans, idles-passes, free-idles, none-idles, none-free, reply-taken, takes-some, takes-none, sees-err}
 use Rattle.asp_worker.proofs.find.survey.Goals as goal
 
-pub returns-then-round-ne0-clause-passes : goal.returns-then-round-ne0-clause-passes
-returns-then-round-ne0-clause-passes g c = passes-self (view c.args.seat.now) c.requires.settled
+pub returns-then-not-is_due-clause-passes : goal.returns-then-not-is_due-clause-passes
+returns-then-not-is_due-clause-passes g c = passes-self (view c.args.seat.now) c.requires.settled
 
 pub returns-then-held-ne0-clause-passes : goal.returns-then-held-ne0-clause-passes
 returns-then-held-ne0-clause-passes g c = idles-passes (view c.args.seat.now) (view c.count_paths-open.new.seat) c.count_paths-open.ensures.idles

@@ -1,0 +1,17 @@
+pub mod ReadLaws
+pub mod RuleLaws
+pub mod LeastLaws
+pub mod SourceLaws
+pub mod SameLaws
+pub mod StableLaws
+pub mod OpenLaws
+pub mod CopyLaws
+pub mod SoundLaws
+pub mod ShownLaws
+pub mod ResultLaws
+pub mod NoneLaws
+pub mod WholeLaws
+pub mod ReducedLaws
+pub mod AgainLaws
+pub mod TableLaws
+pub mod PlaceLaws

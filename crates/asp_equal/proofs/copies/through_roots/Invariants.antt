@@ -1,0 +1,6 @@
+use Rattle.std.proofs.Common.{◌≡◌, ℕ, ◌<◌, length, get_or}
+use Rattle.asp_equal.specs.Tables.{root_in, sent}
+use Rattle.asp_equal.proofs.copies.through_roots.Given as goal
+
+abbrev pub invariant-loop-place : goal.invariant-loop-place
+invariant-loop-place l = (length l.table.items ≡ l.place) × ((a : ℕ) → a < l.place → get_or l.table.items a 0 ≡ sent l.least (root_in l.known l.named a))

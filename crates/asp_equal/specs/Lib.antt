@@ -1,0 +1,4 @@
+pub mod Copies
+pub mod Merged
+pub mod Reduced
+pub mod Tables
