@@ -6,8 +6,8 @@ usage: bench/solve.py [--program build/aspenum] [--limit SECONDS] [--jobs N] [--
        bench/solve.py --workers N [--program build/aspenum] [--runs N] [--markdown] [--texts FOLDER] [--save FILE ..] [NAME..]
 
 clasp runs twice: as it comes ("default", writing no answers), and in the configuration nearest to this search ("nearest"),
-which switches off what this search has nothing like. Each program runs once in each, within a limit of 20 seconds of processor
-time: what doesn't end is shown with ">" and counted at the limit. With --runs all but "nearest" run several times, in turn, and
+which switches off what this search has nothing like. Each program runs once in each, within a limit of 60 seconds of processor
+time ("nearest" 20): what doesn't end is shown with ">" and counted at the limit. With --runs all but "nearest" run several times, in turn, and
 the least time of each counts: for machines that aren't calm. The programs are in programs.py, each with its half: we tune on
 'tuned' alone, and 'held out' tells whether that helped what we didn't look at. bench/README.md says what each is. It ends with
 status 1 where two that ended said different things; it is outside the gate.
@@ -38,6 +38,7 @@ CLASP = (
     " --sign-fix --update-lbd=no --del-glue=0 --loops=common --deletion=basic,50 --del-grow=no --del-cfl=+,2000,500 --stats -n 0"
 ).split()
 DEFAULT = "clasp --stats -n 0 -q".split()
+NEAREST_LIMIT = 20
 
 
 def run(words, path, output, limit):
@@ -98,7 +99,8 @@ def measured(program, name, room, limit, runs=1):
     quiet = ["-q"] if name.startswith("free") else []
     commands = dict(zip(SIDES, ([program, "--stats"], [*CLASP, *quiet], DEFAULT)))
     outputs = {side: f"{room}/{name}.{side}" for side in SIDES}
-    found = {side: run(commands[side], path, outputs[side], limit) for side in SIDES}
+    limits = {side: min(limit, NEAREST_LIMIT) if side == "nearest" else limit for side in SIDES}
+    found = {side: run(commands[side], path, outputs[side], limits[side]) for side in SIDES}
     for side in [side for _ in range(runs - 1) for side in (SIDES[0], SIDES[2])]:
         found[side] = once_more(commands[side], path, outputs[side], limit, found[side])
     for side in SIDES:
@@ -108,7 +110,7 @@ def measured(program, name, room, limit, runs=1):
         # Stopped by the limit, clasp ends by itself just below it, and says so.
         ended = ended and "INTERRUPTED" not in text
         conflicts = number(r"Conflicts\s*: (\d+)", text) if side != "aspenum" else number(r"Conflicts: (\d+)", notes)
-        row[side] = {"time": time if ended else limit, "conflicts": conflicts, "memory": memory, "ended": ended}
+        row[side] = {"time": time if ended else limits[side], "conflicts": conflicts, "memory": memory, "ended": ended}
         if ended:
             said.append(result_of(text))
     row["same"] = "-" if len(said) < 2 else "yes" if len(set(said)) == 1 and said[0] is not None else "NO"
@@ -161,7 +163,7 @@ def kept(row):
 def main():
     words = argparse.ArgumentParser()
     words.add_argument("--program", default=f"{HERE}/../build/aspenum")
-    words.add_argument("--limit", type=int, default=20, help="seconds of processor time for each run")
+    words.add_argument("--limit", type=int, default=60, help="seconds of processor time for each run; 'nearest' has 20 at most")
     words.add_argument("--jobs", type=int, default=1, help="programs at the same time")
     words.add_argument("--runs", type=int, default=1, help="how often aspenum and clasp's default run, in turn")
     words.add_argument("--half", choices=HALVES)

@@ -12,7 +12,7 @@ import sys
 
 sys.dont_write_bytecode = True
 from programs import HALVES  # noqa: E402
-from solve import SIDES, cells, mean  # noqa: E402
+from solve import NEAREST_LIMIT, SIDES, cells, mean  # noqa: E402
 from workers import cells as worker_cells, heads  # noqa: E402
 
 PAGE = "bench/README.md"
@@ -52,7 +52,7 @@ def solve():
                        *(f"{mean(some, other, what, floor):.2f}" for what, floor in (("time", 0.01), ("conflicts", 1)) for other in OTHERS)])
     heads = ["half", "ended", *(f"{what} by {other}" for what in ("time", "conflicts") for other in OTHERS)]
     return "\n\n".join((
-        f"{of_when(about)}, {about['clasp']}; {about['limit']} seconds at most, {about['at once']} at a time; {runs}.",
+        f"{of_when(about)}, {about['clasp']}; {about['limit']} seconds at most (nearest {min(about['limit'], NEAREST_LIMIT)}), {about['at once']} at a time; {runs}.",
         table(heads, halves),
         f"Of {len(rows)} programs {ended['aspenum']} end within the limit ({ended['default']} with clasp's default, {ended['nearest']} "
         f"with nearest), and {sum(ratio(it) < 1 for it in rows)} take less time than clasp's default. "
