@@ -11,6 +11,7 @@ ghost use Rattle.asp_model.specs.declared.results.Mode.TheVariants.{Enum};
 ghost use Rattle.asp_read.specs.Outcome.{outcome};
 ghost use Rattle.asp_read.specs.Stream.{ReadsText};
 
+use asp_compile::compile::compile;
 use asp_counts::counts::Counts;
 use asp_counts::watch::Unwatched;
 use asp_crew::alone::solve_alone;
@@ -22,7 +23,6 @@ use asp_model::program::Program;
 use asp_model::results::{Ask, End, Mode};
 use asp_read::fault::ReadError;
 use asp_read::read_program;
-use asp_vars::compile::compile;
 use asp_vars::compiled::Compiled;
 use std::alloc::{AllocError, Global};
 use std::mem;

@@ -12,6 +12,7 @@ ghost use Rattle.asp_checker.specs.Formats.{outcome_for};
 ghost use Rattle.asp_checker.specs.Runs.{CheckSays, ProofSays, ReadSays, program_error, proof_error, proof_place, is_proof_line, number_of, said, status_said, status_of, read_status, IsSentOn, Writes, TextSays, RunSays};
 
 use crate::judge::{Judgement, Why, judge};
+use asp_compile::compile::compile;
 use asp_io::{CleanSource, Failed, Sink, Source, write_all};
 use asp_model::program::Program;
 use asp_proof::proof::Proof;
@@ -19,7 +20,6 @@ use asp_proof::{ProofError, parse, read_all};
 use asp_read::fault::ReadError;
 use asp_read::read_program;
 use asp_smodels::read_smodels;
-use asp_vars::compile::compile;
 use itoa::Buffer;
 use std::alloc::{AllocError, Global};
 use std::mem;

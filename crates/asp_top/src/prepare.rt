@@ -15,6 +15,7 @@ ghost use Rattle.asp_top.specs.Runs.{HasNumbers, Prepares, WhyNot, prepared_of, 
 
 use crate::status::Status;
 use asp_cli::{Form, Format, Options};
+use asp_compile::compile::compile;
 use asp_equal::reduce::{Aside, Reduced, reduce};
 use asp_io::Source;
 use asp_make::ring;
@@ -27,7 +28,6 @@ use asp_read::fault::ReadError;
 use asp_read::read_program;
 use asp_smodels::read_smodels;
 use asp_unfold::unfold::unfold;
-use asp_vars::compile::compile;
 use asp_vars::compiled::Compiled;
 use std::alloc::{AllocError, Global};
 

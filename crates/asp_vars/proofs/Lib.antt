@@ -11,15 +11,8 @@ pub mod ConflictLaws
 pub mod PlaceLaws
 pub mod SettledLaws
 pub mod RowLaws
-pub mod FormLaws
 pub mod PushLaws
-pub mod KeyLaws
-pub mod RuleLaws
-pub mod HeadLaws
-pub mod NumberedLaws
-pub mod NameLaws
 pub mod HeldLaws
 pub mod VarLaws
-pub mod BarredLaws
 pub mod SupportLaws
 pub mod AssumptionLaws

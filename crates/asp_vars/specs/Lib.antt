@@ -8,15 +8,9 @@ pub mod Completion
 pub mod Conflicts
 pub mod Paid
 pub mod Unfounded
-pub mod Forms
-pub mod Headed
-pub mod Held
-pub mod Named
 pub mod Rows
-pub mod Placed
 pub mod Places
 pub mod Tabled
 pub mod Tables
-pub mod Numbers
 pub mod Knowing
 pub mod Stored

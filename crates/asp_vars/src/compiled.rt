@@ -7,15 +7,16 @@ ghost use Rattle.asp_model.specs.Views.{rule_seen};
 ghost use Rattle.asp_vars.specs.Numbering.{bodies_of, var_count, var_of_atom, literal_of_form, place_of_body, number_of_form, number_count, is_wide, is_apart, form_at, nth_body, nth_rule, nth_atom};
 ghost use Rattle.asp_vars.specs.Completion.{is_barred, supports};
 ghost use Rattle.asp_vars.specs.Tabled.{bound_of, form_literals, form_weights, heads_of, occurrences_of, find_var, find_atom, IsAtomVar, IsBodyNumber, IsLiteral, bodies_with};
+ghost use Rattle.asp_vars.specs.Tables.{IsTabled};
 
 use crate::lit::{Lit, Var};
 use crate::occurrence::Occurrence;
 use crate::place::place;
 use crate::rules::rule_at;
+use crate::tables::Tables;
 use asp_model::interp::Interp;
-use asp_model::program::{Atom, Program, Rule};
+use asp_model::program::{Atom, Program};
 use asp_model::view::RuleView;
-use asp_table::table::Table;
 use std::marker::Model;
 
 /// A program with the tables of its variables. Contracts see it as the program, of which each table is a function.
@@ -24,34 +25,8 @@ use std::marker::Model;
 /// no atom follow them, in the order of their first occurrence. Bodies and rules are counted from 0.
 #[derive(Drop)]
 pub struct Compiled {
-    /// The program as it was read.
-    pub(crate) program: Program,
-    /// The rules that externals stand for, which are in force behind those of the program.
-    pub(crate) opened: Vec<Rule>,
-    /// The program's atoms.
-    pub(crate) atoms: Interp,
-    /// How many variables there are.
-    pub(crate) vars: Var,
-    /// The body of each rule.
-    pub(crate) rule_bodies: Vec<u32>,
-    /// For each body the literal that says that it holds.
-    pub(crate) held: Vec<Lit>,
-    /// For each body whether a constraint has it.
-    pub(crate) barred: Vec<bool>,
-    /// For each body the bound of its sum; none where all literals have to hold.
-    pub(crate) bounds: Vec<Option<i32>>,
-    /// Each body's literals.
-    pub(crate) literals: Table<Lit>,
-    /// Each weight body's weights, in the order of its literals.
-    pub(crate) weights: Table<i64>,
-    /// For each body the atoms that stand in heads of its rules.
-    pub(crate) heads: Table<Var>,
-    /// For each variable of an atom the numbers of the bodies whose rules have it in their heads.
-    pub(crate) supports: Table<u32>,
-    /// For each literal, by its code, the bodies of which it says that they hold.
-    pub(crate) shared: Table<Occurrence>,
-    /// For each literal, by its code, the bodies that it stands in, and where.
-    pub(crate) occurrences: Table<Occurrence>,
+    /// The program and what it was compiled to.
+    tables: Tables,
 }
 
 impl Model for Compiled {
@@ -61,25 +36,33 @@ impl Model for Compiled {
 
     ghost use Rattle.asp_vars.specs.Tables.{IsTabled};
 
-    ghost view = { λ c. c.program };
+    ghost view = { λ c. c.tables.program };
 
-    ghost invariant = { IsTabled };
+    ghost invariant = { λ c. IsTabled c.tables };
 }
 
 impl Compiled {
+    /// The program that these tables are of.
+    pub fn of(tables: Tables) -> Compiled
+        requires { IsTabled tables }
+        ensures { result ≡ tables.program }
+    {
+        Compiled { tables }
+    }
+
     /// The program.
     pub fn program(&self) -> &Program
         ensures program { result.now ≡ self.now }
         ensures sound { IsSound self.now }
     {
-        &self.program
+        &self.tables.program
     }
 
     /// How many rules are in force: those of the program, and then those of its externals.
     pub fn rule_count(&self) -> usize
         ensures { result ≡ length (rules_in_force self.now) }
     {
-        self.rule_bodies.len()
+        self.tables.rule_bodies.len()
     }
 
     /// A rule in force.
@@ -87,8 +70,12 @@ impl Compiled {
         requires { rule < length (rules_in_force self.now) }
         ensures { rule_seen result ≡ nth_rule self.now rule }
     {
-        let _ = &self.opened;
-        rule_at(&self.program.rules, self.opened.as_slice(), rule)
+        let _ = &self.tables.opened;
+        rule_at(
+            &self.tables.program.rules,
+            self.tables.opened.as_slice(),
+            rule,
+        )
     }
 
     /// A rule's body.
@@ -97,14 +84,14 @@ impl Compiled {
         ensures place { result ≡ place_of_body self.now (nth_rule self.now rule).body }
         ensures body { result < length (bodies_of self.now) }
     {
-        self.rule_bodies[rule] as usize
+        self.tables.rule_bodies[rule] as usize
     }
 
     /// The atoms that stand in the program.
     pub fn atoms(&self) -> &Interp
         ensures { result.now ≡ atoms_of self.now }
     {
-        &self.atoms
+        &self.tables.atoms
     }
 
     /// How many atoms stand in the program.
@@ -113,7 +100,7 @@ impl Compiled {
         ensures few { var_count self.now < 2 ^ 31 }
         ensures numbers { number_count self.now < 2 ^ 31 }
     {
-        self.atoms.as_slice().len()
+        self.tables.atoms.as_slice().len()
     }
 
     /// How many different bodies the rules in force have.
@@ -122,7 +109,7 @@ impl Compiled {
         ensures few { var_count self.now < 2 ^ 31 }
         ensures numbers { number_count self.now < 2 ^ 31 }
     {
-        self.bounds.len()
+        self.tables.bounds.len()
     }
 
     /// How many variables there are. They are the numbers from 1 to this one.
@@ -130,15 +117,15 @@ impl Compiled {
         ensures count { result ≡ var_count self.now }
         ensures few { var_count self.now < 2 ^ 31 }
     {
-        self.vars
+        self.tables.vars
     }
 
     /// The variable of an atom, if it stands in the program.
     pub fn var(&self, atom: Atom) -> Option<Var>
         ensures { result ≡ find_var self.now atom }
     {
-        let _ = &self.opened;
-        place(self.atoms.as_slice(), atom)
+        let _ = &self.tables.opened;
+        place(self.tables.atoms.as_slice(), atom)
     }
 
     /// The variable of an atom that stands in the program.
@@ -148,7 +135,7 @@ impl Compiled {
         ensures atom { IsAtomVar self.now result }
         ensures few { var_count self.now < 2 ^ 31 }
     {
-        let _ = &self.opened;
+        let _ = &self.tables.opened;
         match self.var(atom) {
             Some(var) => var,
             None => unreachable!(),
@@ -159,7 +146,7 @@ impl Compiled {
     pub fn atom(&self, var: Var) -> Option<Atom>
         ensures { result ≡ find_atom self.now var }
     {
-        let atoms = self.atoms.as_slice();
+        let atoms = self.tables.atoms.as_slice();
         if var == 0 {
             return None;
         }
@@ -193,7 +180,7 @@ impl Compiled {
         ensures literal { IsLiteral self.now result }
         ensures few { var_count self.now < 2 ^ 31 }
     {
-        self.held[body]
+        self.tables.held[body]
     }
 
     /// Whether a body isn't one literal.
@@ -217,7 +204,7 @@ impl Compiled {
         requires { IsLiteral self.now lit }
         ensures { result.now ≡ bodies_with self.now lit }
     {
-        self.shared.row(lit.code())
+        self.tables.shared.row(lit.code())
     }
 
     /// Whether a constraint has the body, which then holds in no stable model.
@@ -225,7 +212,7 @@ impl Compiled {
         requires { body < length (bodies_of self.now) }
         ensures { result ≡ is_barred self.now (nth_body self.now body) }
     {
-        self.barred[body]
+        self.tables.barred[body]
     }
 
     /// The bound of a weight body, and none of a normal one.
@@ -233,7 +220,7 @@ impl Compiled {
         requires { body < length (bodies_of self.now) }
         ensures { result ≡ bound_of (nth_body self.now body) }
     {
-        self.bounds[body]
+        self.tables.bounds[body]
     }
 
     /// The literals of a body. Each stands once.
@@ -242,7 +229,7 @@ impl Compiled {
         ensures literals { result.now ≡ form_literals self.now (nth_body self.now body) }
         ensures atoms { All (λ l. IsAtomVar self.now l.var) result.now }
     {
-        self.literals.row(body)
+        self.tables.literals.row(body)
     }
 
     /// The weights of a weight body's literals, at their places; of a normal body none.
@@ -250,7 +237,7 @@ impl Compiled {
         requires { body < length (bodies_of self.now) }
         ensures { result.now ≡ form_weights (nth_body self.now body) }
     {
-        self.weights.row(body)
+        self.tables.weights.row(body)
     }
 
     /// The variables of the head atoms of a body's rules, rule by rule.
@@ -259,7 +246,7 @@ impl Compiled {
         ensures heads { result.now ≡ heads_of self.now (nth_body self.now body) }
         ensures atoms { All (IsAtomVar self.now) result.now }
     {
-        self.heads.row(body)
+        self.tables.heads.row(body)
     }
 
     /// The numbers, ascending, of the bodies of the rules that have an atom in their heads.
@@ -270,7 +257,7 @@ impl Compiled {
         ensures few { var_count self.now < 2 ^ 31 }
         ensures numbers { number_count self.now < 2 ^ 31 }
     {
-        self.supports.row(var as usize)
+        self.tables.supports.row(var as usize)
     }
 
     /// The bodies, ascending, in which a literal of an atom's variable stands, and where it stands there.
@@ -278,6 +265,6 @@ impl Compiled {
         requires { IsAtomVar self.now lit.var }
         ensures { result.now ≡ occurrences_of self.now lit }
     {
-        self.occurrences.row(lit.code())
+        self.tables.occurrences.row(lit.code())
     }
 }

@@ -17,13 +17,13 @@ at p held j l d e lt is = is ∙ ap (λ (t : List Literal). get_or t j d) e ∙ 
 
 pub returns-clause-lit : goal.returns-clause-lit
 returns-clause-lit c =
-    at c.args.self.now c.self.inside.held.items c.args.body c.index.result.now c.index.result.now
-    (subst (λ (q : Program). c.self.inside.held.items ≡ map (literal_of_form q) (bodies_of q)) c.self.view_is c.self.invariant.held) c.requires c.index.ensures
+    at c.args.self.now c.self.inside.tables.held.items c.args.body c.index.result.now c.index.result.now
+    (subst (λ (q : Program). c.self.inside.tables.held.items ≡ map (literal_of_form q) (bodies_of q)) c.self.view_is c.self.invariant.held) c.requires c.index.ensures
 
 pub returns-clause-literal : goal.returns-clause-literal
 returns-clause-literal c =
     let p : Program = c.args.self.now in
     subst (λ (l : Literal). IsLiteral p l)
-    (sym (at p c.self.inside.held.items c.args.body c.index.result.now c.index.result.now
-    (subst (λ (q : Program). c.self.inside.held.items ≡ map (literal_of_form q) (bodies_of q)) c.self.view_is c.self.invariant.held) c.requires c.index.ensures))
+    (sym (at p c.self.inside.tables.held.items c.args.body c.index.result.now c.index.result.now
+    (subst (λ (q : Program). c.self.inside.tables.held.items ≡ map (literal_of_form q) (bodies_of q)) c.self.view_is c.self.invariant.held) c.requires c.index.ensures))
     (form_literal p (nth_body p c.args.body) (at_each (λ (b : Body). list_any (body_eq b) (bodies_of p) ≡ true) (bodies_of p) c.args.body (body.All []) (bodies_of-themselves p) c.requires))

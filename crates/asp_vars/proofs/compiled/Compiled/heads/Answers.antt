@@ -10,8 +10,8 @@ use Rattle.asp_vars.proofs.compiled.Compiled.heads.Goals as goal
 row_is : (c : goal.After-row) → c.row.result.now ≡ heads_of c.args.self.now (nth_body c.args.self.now c.args.body)
 row_is c =
     let p : Program = c.args.self.now in
-    let table : c.self.inside.heads ≡ map (heads_of p) (bodies_of p) =
-    subst (λ (q : Program). c.self.inside.heads ≡ map (heads_of q) (bodies_of q)) c.self.view_is c.self.invariant.heads in
+    let table : c.self.inside.tables.heads ≡ map (heads_of p) (bodies_of p) =
+    subst (λ (q : Program). c.self.inside.tables.heads ≡ map (heads_of q) (bodies_of q)) c.self.view_is c.self.invariant.heads in
     c.row.ensures ∙ ap (λ (t : List (List ℕ)). get_or t c.args.body []) table ∙ get_or-map (heads_of p) (bodies_of p) c.args.body (body.All []) [] c.requires
 
 pub returns-clause-heads : goal.returns-clause-heads

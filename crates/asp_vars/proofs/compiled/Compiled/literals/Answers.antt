@@ -11,8 +11,8 @@ use Rattle.asp_vars.proofs.compiled.Compiled.literals.Goals as goal
 row_is : (c : goal.After-row) → c.row.result.now ≡ form_literals c.args.self.now (nth_body c.args.self.now c.args.body)
 row_is c =
     let p : Program = c.args.self.now in
-    let table : c.self.inside.literals ≡ map (form_literals p) (bodies_of p) =
-    subst (λ (q : Program). c.self.inside.literals ≡ map (form_literals q) (bodies_of q)) c.self.view_is c.self.invariant.literals in
+    let table : c.self.inside.tables.literals ≡ map (form_literals p) (bodies_of p) =
+    subst (λ (q : Program). c.self.inside.tables.literals ≡ map (form_literals q) (bodies_of q)) c.self.view_is c.self.invariant.literals in
     c.row.ensures ∙ ap (λ (t : List (List Literal)). get_or t c.args.body []) table ∙ get_or-map (form_literals p) (bodies_of p) c.args.body (body.All []) [] c.requires
 
 pub returns-clause-literals : goal.returns-clause-literals

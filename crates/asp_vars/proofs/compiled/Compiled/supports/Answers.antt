@@ -10,7 +10,7 @@ use Rattle.asp_vars.proofs.compiled.Compiled.supports.Goals as goal
 row_is : (c : goal.After-row) → c.row.result.now ≡ supports c.args.self.now (nth_atom c.args.self.now (c.args.var - 1))
 row_is c =
     let p : Program = c.args.self.now in
-    let t : List (List ℕ) = c.self.inside.supports in
+    let t : List (List ℕ) = c.self.inside.tables.supports in
     let i : ℕ = c.args.var - 1 in
     let rows : (i : ℕ) → i < length (atoms_of p) → get_or t (i + 1) [] ≡ supports p (nth_atom p i) =
     subst (λ (q : Program). (i : ℕ) → i < length (atoms_of q) → get_or t (i + 1) [] ≡ supports q (nth_atom q i)) c.self.view_is c.self.invariant.supports.row in
