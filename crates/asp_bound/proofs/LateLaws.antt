@@ -45,7 +45,9 @@ use Rattle.asp_bound.specs.Kept.{IsKept, IsOnce}
 use Rattle.asp_bound.specs.Reasons.{before}
 use Rattle.asp_bound.specs.Needed.{needed}
 use Rattle.asp_bound.specs.Explained.{IsExplained, IsTooDear, AreTold}
-use Rattle.asp_bound.specs.Late.{with_value, only, HaveRaisers}
+use Rattle.asp_bound.specs.declared.priced.Priced.{Priced}
+use Rattle.asp_bound.specs.Priced.{IsPriced}
+use Rattle.asp_bound.specs.Late.{with_value, only, HaveRaisers, HaveTold}
 use Rattle.asp_bound.proofs.CostLaws.{least-rise}
 use Rattle.asp_bound.proofs.SumLaws.{sum_to-same}
 use Rattle.asp_bound.proofs.ReachLaws.{betters-reach, reached_now}
@@ -112,6 +114,13 @@ stands_before t place k o e =
 -- before the end they are all values
 pub shown_before : (t : Trailed) (n : ℕ) (a : List (Option Bool)) → n ≡ length t.entries → a ≡ assignment t.vars t.entries → before t n ≡ a
 shown_before t n a e shown = ap (assignment t.vars) (take_all n t.entries (omega (arith, e))) ∙ sym shown
+
+-- what raised the cost before the end of the entries does so now
+pub found_now : (t : Trailed) (n : ℕ) (a : List (Option Bool)) (rows : List (List Place)) (depth : ℕ) (raisers : List ℕ) (found copied : List Literal) → n ≡ length t.entries → a ≡ assignment t.vars t.entries →
+    IsPermutation (raising_of (before t n) rows depth raisers) found → copied ≡ found → IsPermutation (raising_of a rows depth raisers) copied
+found_now t n a rows depth raisers found copied e shown moved is =
+    subst (λ (z : List (Option Bool)). IsPermutation (raising_of z rows depth raisers) copied) (shown_before t n a e shown)
+    (subst (IsPermutation (raising_of (before t n) rows depth raisers)) (sym is) moved)
 
 -- what was told has them
 pub told_before : (t : Trailed) (place : ℕ) (a : List (Option Bool)) (v : ℕ) (b : Bool) → IsOrdered t.vars t.entries → AreTold a place t.entries → value_of (before t place) v ≡ Some b → value_of a v ≡ Some b
@@ -432,15 +441,38 @@ explained_open p t place c l same x =
       x.var,
     )
 
+-- the raisers of what was told have those of the values before the place
+pub raisers_before : (t : Trailed) (place : ℕ) (rows : List (List Place)) (raisers : List ℕ) → IsOrdered t.vars t.entries → HaveTold t place rows raisers → HaveRaisers (before t place) rows raisers
+raisers_before t place rows raisers o told =
+    have_before told.0 (before t place) rows raisers told.1 (length_assigned t.vars (take place t.entries) ∙ sym told.2) (λ v x e. told_before t place told.0 v x o told.3 e)
+
 -- the sums of those that add something are those of all values before the place
-pub kept_before : (p : Program) (t : Trailed) (place : ℕ) (rows : List (List Place)) (columns : List (List Item)) (vars : List ℕ) (sums : List ℤ) (raisers : List ℕ) → t.vars ≡ var_count p → IsOrdered t.vars t.entries →
-    ((a : List (Option Bool)) × AreRaisers a rows raisers × (length a ≡ t.vars + 1) × AreTold a place t.entries) → IsKept p (only (before t place) raisers) rows columns vars sums →
-    IsKept p (before t place) rows columns vars sums × HaveRaisers (before t place) rows raisers
-kept_before p t place rows columns vars sums raisers same o told kept =
-    let b : List (Option Bool) = before t place in
-    let long : length b ≡ t.vars + 1 = length_assigned t.vars (take place t.entries) in
-    let are : HaveRaisers b rows raisers = have_before told.0 b rows raisers told.1 (long ∙ sym told.2) (λ v x e. told_before t place told.0 v x o told.3 e) in
-    (kept_whole p b rows columns vars sums raisers kept (long ∙ ap (λ (n : ℕ). n + 1) same) are, are)
+pub kept_before : (p : Program) (t : Trailed) (place : ℕ) (rows : List (List Place)) (columns : List (List Item)) (vars : List ℕ) (sums : List ℤ) (raisers : List ℕ) → t.vars ≡ var_count p → HaveRaisers (before t place) rows raisers →
+    IsKept p (only (before t place) raisers) rows columns vars sums → IsKept p (before t place) rows columns vars sums
+kept_before p t place rows columns vars sums raisers same are kept =
+    kept_whole p (before t place) rows columns vars sums raisers kept (length_assigned t.vars (take place t.entries) ∙ ap (λ (n : ℕ). n + 1) same) are
+
+-- the same of sums that are copied
+pub copied_before : (q : Priced) (t : Trailed) (place : ℕ) (sums left : List ℤ) (raisers : List ℕ) → t.vars ≡ var_count q.origin.value → IsOrdered t.vars t.entries → HaveTold t place q.rows raisers → IsPriced q (only (before t place) raisers) sums → left ≡ sums →
+    IsPriced q (before t place) left
+copied_before q t place sums left raisers same o told kept e =
+    subst (IsPriced q (before t place)) (sym e)
+    (kept_before q.origin.value t place q.rows q.columns q.vars.items sums raisers same (raisers_before t place q.rows raisers o told) kept)
+
+-- the tables are the program's whatever the values are
+pub kept_at : (p : Program) (a : List (Option Bool)) (t : Trailed) (place : ℕ) (rows : List (List Place)) (columns : List (List Item)) (vars : List ℕ) (sums : List ℤ) → t.vars ≡ var_count p → IsKept p a rows columns vars sums →
+    IsKept p (before t place) rows columns vars (optimistic p (before t place))
+kept_at p a t place rows columns vars sums same kept = record {
+  sound = kept.sound;
+  few = kept.few;
+  small = kept.small;
+  sized = length_assigned t.vars (take place t.entries) ∙ ap (λ (n : ℕ). n + 1) same;
+  rowed = kept.rowed;
+  columned = kept.columned;
+  listed = kept.listed;
+  linked = kept.linked;
+  summed = refl;
+}
 
 pub reaches_by : (p : Program) (b : List (Option Bool)) (rows : List (List Place)) (columns : List (List Item)) (vars : List ℕ) (sums : List ℤ) → IsKept p b rows columns vars sums →
     (c : List ℤ) (x : Implied) (left limits : List ℤ) → IsKept p (set b x.lit.var (Some x.lit.truth)) rows columns vars left → limits ≡ c → IsVar (var_count p) x.lit.var → value_of b x.lit.var ≡ None →
@@ -481,19 +513,15 @@ written p t place rows columns vars sums raisers o kept are c l x n found left i
       subst (λ (m : Nogood). IsReason t.entries place l m.lits) (sym e) (written_reason t place l x.lit (needed rows c x.depth left found) o is_lit (λ k h. held.held k (needed-among rows c x.depth found left k h))),
     )
 
--- what stands where the sums are made
-pub record IsReady (p : Program) (t : Trailed) (place : ℕ) (rows : List (List Place)) (columns : List (List Item)) (vars : List ℕ) (sums : List ℤ) (raisers : List ℕ) (c : List ℤ) (lit : Literal) : Type 0 where
-  pub kept : IsKept p (before t place) rows columns vars sums
-  pub are : HaveRaisers (before t place) rows raisers
+-- the complement of a literal that followed, before its place
+pub record IsFree (p : Program) (t : Trailed) (place : ℕ) (c : List ℤ) (lit : Literal) : Type 0 where
   pub none : value_of (before t place) lit.var ≡ None
   pub dear : is_below p (set (before t place) lit.var (Some lit.truth)) c ≡ false
   pub var : IsVar (var_count p) lit.var
 
-pub ready : (p : Program) (t : Trailed) (place : ℕ) (rows : List (List Place)) (columns : List (List Item)) (vars : List ℕ) (sums : List ℤ) (raisers : List ℕ) (c : List ℤ) (l lit : Literal) → t.vars ≡ var_count p → IsOrdered t.vars t.entries →
-    ((a : List (Option Bool)) × AreRaisers a rows raisers × (length a ≡ t.vars + 1) × AreTold a place t.entries) → IsKept p (only (before t place) raisers) rows columns vars sums →
-    ((d : Entry) → IsExplained p (Some c) (take place t.entries) (get_or t.entries place d).lit) → ((d : Entry) → l ≡ (get_or t.entries place d).lit) → lit ≡ complement l → IsReady p t place rows columns vars sums raisers c lit
-ready p t place rows columns vars sums raisers c l lit same o told kept explained is_l is_lit =
+pub free : (p : Program) (t : Trailed) (place : ℕ) (c : List ℤ) (l lit : Literal) → t.vars ≡ var_count p → ((d : Entry) → IsExplained p (Some c) (take place t.entries) (get_or t.entries place d).lit) → ((d : Entry) → l ≡ (get_or t.entries place d).lit) →
+    lit ≡ complement l → IsFree p t place c lit
+free p t place c l lit same explained is_l is_lit =
     let d : Entry = record { lit = l; level = 0; reason = None } in
-    let both = kept_before p t place rows columns vars sums raisers same o told kept in
-    let free = explained_open p t place c l same (subst (IsExplained p (Some c) (take place t.entries)) (sym (is_l d)) (explained d)) in
-    subst (IsReady p t place rows columns vars sums raisers c) (sym is_lit) (record { kept = both.0; are = both.1; none = free.0; dear = free.1; var = free.2 })
+    let here = explained_open p t place c l same (subst (IsExplained p (Some c) (take place t.entries)) (sym (is_l d)) (explained d)) in
+    subst (IsFree p t place c) (sym is_lit) (record { none = here.0; dear = here.1; var = here.2 })

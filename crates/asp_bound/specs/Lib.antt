@@ -16,3 +16,4 @@ pub mod Raisers
 pub mod Explained
 pub mod Late
 pub mod Lists
+pub mod Priced

@@ -23,18 +23,16 @@ use crate::given::{following, given};
 use crate::late::explained;
 use crate::levels::{Tables, all_tables};
 use crate::lists::{Lists, lists_of};
-use crate::place::{Item, Place};
+use crate::priced::Priced;
 use crate::raisers::Raisers;
 use crate::starts::take_back;
 use crate::sums::{lower, raise};
 use asp_model::cost::Cost;
-use asp_model::program::Program;
-use asp_table::table::Table;
 use asp_trail::said::{Implied, Said};
 use asp_trail::told::ToldValues;
 use asp_trail::trail::Trail;
 use asp_vars::compiled::Compiled;
-use asp_vars::lit::{Lit, Var};
+use asp_vars::lit::Lit;
 use asp_vars::nogood::Nogood;
 use asp_vars::origin::Origin;
 use std::alloc::{AllocError, Global};
@@ -43,22 +41,14 @@ use std::marker::Model;
 /// The values told, the places of the weights, the optimistic cost, and the bound.
 #[derive(Drop)]
 pub struct Bound {
-    /// The program, for contracts alone.
-    origin: Origin<Program>,
     /// Gives the memory of the nogoods.
     alloc: Global,
+    /// The program, for contracts alone, and the tables of its weights.
+    priced: Priced,
     /// The values told, for contracts alone.
     values: ToldValues,
-    /// By variable, what it adds at which priority. One row more than the variables; 0 is none.
-    rows: Table<Place>,
-    /// By priority, the greatest first: the variables that can add to it, the one that adds most first.
-    columns: Table<Item>,
-    /// The variables that have places, each once.
-    vars: Vec<Var>,
     /// By priority, the optimistic cost under the values told.
     sums: Vec<i64>,
-    /// By priority, the optimistic cost where no variable has a value.
-    least: Vec<i64>,
     /// The variables whose values raise the cost, the newest last. There is room for all that have places.
     raisers: Raisers,
     /// By priority, how many of the column's first variables have values at least.
@@ -69,17 +59,16 @@ pub struct Bound {
 
 impl Model for Bound {
     ghost use Rattle.asp_bound.specs.Bounded.{Bounded};
-    ghost use Rattle.asp_bound.specs.Gathered.{valueless};
-    ghost use Rattle.asp_bound.specs.Kept.{IsKept};
+    ghost use Rattle.asp_bound.specs.Priced.{AreTables, IsPriced};
     ghost use Rattle.asp_bound.specs.Starts.{AreStarts};
     ghost use Rattle.asp_bound.specs.Raisers.{AreRaisers};
     ghost use Rattle.std.specs.Prelude.{◌≤◌, length};
 
     ghost Value = { Bounded };
 
-    ghost view = { λ b. record { told = record { program = b.origin.value; values = b.values }; bound = b.bound } };
+    ghost view = { λ b. record { told = record { program = b.priced.origin.value; values = b.values }; bound = b.bound } };
 
-    ghost invariant = { λ b. IsKept b.origin.value b.values b.rows b.columns b.vars.items b.sums.items × AreStarts b.values b.columns b.starts.items × AreRaisers b.values b.rows b.raisers.vars × (length b.vars.items ≤ b.raisers.room) × IsKept b.origin.value (valueless b.origin.value) b.rows b.columns b.vars.items b.least.items };
+    ghost invariant = { λ b. IsPriced b.priced b.values b.sums.items × AreStarts b.values b.priced.columns b.starts.items × AreRaisers b.values b.priced.rows b.raisers.vars × (length b.priced.vars.items ≤ b.raisers.room) × AreTables b.priced };
 }
 
 impl Bound {
@@ -102,14 +91,16 @@ impl Bound {
         } = lists;
         let least = sums.as_slice().to_vec(alloc)?;
         Ok(Bound {
-            origin: Origin::of(compiled.program()),
             alloc,
+            priced: Priced {
+                origin: Origin::of(compiled.program()),
+                rows,
+                columns,
+                vars,
+                least,
+            },
             values: ToldValues::none(count),
-            rows,
-            columns,
-            vars,
             sums,
-            least,
             raisers,
             starts,
             bound: None,
@@ -122,11 +113,11 @@ impl Bound {
         requires none { value_of self.old.told.values lit.var ≡ None }
         ensures { self.new ≡ record self.old { told = told self.old.told lit } }
     {
-        if self.vars.is_empty() {
+        if self.priced.vars.is_empty() {
             self.values.set(lit);
             return;
         }
-        let row = self.rows.row(lit.var() as usize);
+        let row = self.priced.rows.row(lit.var() as usize);
         raise(self.sums.as_mut_slice(), row, lit.truth());
         self.raisers.join(row, lit);
         self.values.set(lit);
@@ -138,11 +129,11 @@ impl Bound {
         requires holds { holds_in self.old.told.values lit ≡ true }
         ensures { self.new ≡ record self.old { told = untold self.old.told lit } }
     {
-        if self.vars.is_empty() {
+        if self.priced.vars.is_empty() {
             self.values.unset(lit.var());
             return;
         }
-        let row = self.rows.row(lit.var() as usize);
+        let row = self.priced.rows.row(lit.var() as usize);
         lower(self.sums.as_mut_slice(), row, lit.truth());
         take_back(self.starts.as_mut_slice(), row);
         self.raisers.leave(row, lit);
@@ -171,18 +162,14 @@ impl Bound {
         let Some(cost) = &self.bound else {
             return Ok(None);
         };
-        let vars = self.vars.as_slice();
         let raisers = self.raisers.as_slice();
         let sums = self.sums.as_slice();
         let starts = self.starts.as_mut_slice();
         given(
             self.alloc,
-            &self.origin,
+            &self.priced,
             trail,
             values,
-            &self.rows,
-            &self.columns,
-            vars,
             raisers,
             sums,
             cost,
@@ -201,20 +188,9 @@ impl Bound {
         let Some(cost) = &self.bound else {
             return None;
         };
-        let vars = self.vars.as_slice();
         let sums = self.sums.as_slice();
         let starts = self.starts.as_mut_slice();
-        following(
-            &self.origin,
-            trail,
-            values,
-            &self.rows,
-            &self.columns,
-            vars,
-            sums,
-            cost,
-            starts,
-        )
+        following(&self.priced, trail, values, sums, cost, starts)
     }
 
     /// The nogood by which the literal at a place followed.
@@ -228,23 +204,10 @@ impl Bound {
         ensures dear { IfOk result (IsTooDear self.now.told.program self.now.bound) }
         ensures reason { IfOk result (λ n. (d : Entry) → IsReason trail.now.entries place (slice_index_or trail.now.entries place d).lit n.lits) }
     {
-        let vars = self.vars.as_slice();
         let raisers = self.raisers.as_slice();
-        let least = self.least.as_slice();
         let Some(cost) = &self.bound else {
             unreachable!()
         };
-        explained(
-            self.alloc,
-            &self.origin,
-            trail,
-            place,
-            &self.rows,
-            &self.columns,
-            vars,
-            raisers,
-            least,
-            cost,
-        )
+        explained(self.alloc, &self.priced, trail, place, raisers, cost)
     }
 }

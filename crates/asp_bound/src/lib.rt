@@ -12,6 +12,7 @@ mod lists;
 mod near;
 mod needed;
 mod place;
+mod priced;
 mod raisers;
 mod reach;
 mod reasons;

@@ -10,13 +10,13 @@ use Rattle.asp_bound.proofs.LateLaws.{implied_explained}
 use Rattle.asp_bound.proofs.given.following.Goals as goal
 
 pub find-requires-clause-small : goal.find-requires-clause-small
-find-requires-clause-small c = rows-small c.args.origin.now.value c.args.values.now c.args.rows.now c.args.columns.now c.args.vars.now c.args.sums.now c.requires.kept
+find-requires-clause-small c = rows-small c.args.priced.now.origin.value c.args.values.now c.args.priced.now.rows c.args.priced.now.columns c.args.priced.now.vars.items c.args.sums.now c.requires.kept
 
 pub find-requires-clause-room : goal.find-requires-clause-room
-find-requires-clause-room c = sums-room c.args.origin.now.value c.args.values.now c.args.rows.now c.args.columns.now c.args.vars.now c.args.sums.now c.requires.kept
+find-requires-clause-room c = sums-room c.args.priced.now.origin.value c.args.values.now c.args.priced.now.rows c.args.priced.now.columns c.args.priced.now.vars.items c.args.sums.now c.requires.kept
 
 pub find-requires-clause-within : goal.find-requires-clause-within
-find-requires-clause-within c = columns-within c.args.origin.now.value c.args.values.now c.args.rows.now c.args.columns.now c.args.vars.now c.args.sums.now c.requires.kept
+find-requires-clause-within c = columns-within c.args.priced.now.origin.value c.args.values.now c.args.priced.now.rows c.args.priced.now.columns c.args.priced.now.vars.items c.args.sums.now c.requires.kept
 
 pub find-requires-clause-most : goal.find-requires-clause-most
 find-requires-clause-most c = λ j lt. (c.requires.kept.columned.each j lt).small
@@ -26,9 +26,9 @@ find-requires-clause-falling c = λ j lt. (c.requires.kept.columned.each j lt).f
 
 pub returns-clause-follows : goal.returns-clause-follows
 returns-clause-follows c =
-    let p : Program = c.args.origin.now.value in
+    let p : Program = c.args.priced.now.origin.value in
     let x = c.in-Some.implied in
     let shown = c.requires.shown ∙ ap (λ (n : ℕ). assignment n c.args.trail.now.entries) c.requires.vars in
-    let reaches = subst (λ (l : List ℤ). Reaches c.args.values.now c.args.rows.now c.args.sums.now l x) c.as_slice.ensures c.in-Some.ensures.reaches in
-    let explained = implied_explained c.args.origin.now.value c.args.values.now c.args.rows.now c.args.columns.now c.args.vars.now c.args.sums.now c.requires.kept c.args.trail.now.entries c.args.cost.now x (complement x.lit) shown reaches c.in-Some.ensures.within refl in
+    let reaches = subst (λ (l : List ℤ). Reaches c.args.values.now c.args.priced.now.rows c.args.sums.now l x) c.as_slice-limits.ensures c.in-Some.ensures.reaches in
+    let explained = implied_explained c.args.priced.now.origin.value c.args.values.now c.args.priced.now.rows c.args.priced.now.columns c.args.priced.now.vars.items c.args.sums.now c.requires.kept c.args.trail.now.entries c.args.cost.now x (complement x.lit) shown reaches c.in-Some.ensures.within refl in
     subst (λ (i : SaidImplied). IsExplained p (Some c.args.cost.now) c.args.trail.now.entries i.lit × (i.name + 1 ≡ 2 ^ 31)) (sym c.follows.ensures) (explained, refl)

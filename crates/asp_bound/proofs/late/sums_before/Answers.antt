@@ -1,6 +1,6 @@
-use Rattle.std.proofs.Common.{take, sym, subst, arith}
+use Rattle.std.proofs.Common.{take, sym, ◌∙◌, subst, arith}
 use Rattle.asp_trail.proofs.HeldLaws.{length_assigned}
-use Rattle.asp_bound.specs.Kept.{IsKept}
+use Rattle.asp_bound.specs.Priced.{IsPriced}
 use Rattle.asp_bound.specs.Late.{only}
 use Rattle.asp_bound.specs.Reasons.{before}
 use Rattle.asp_bound.proofs.LateLaws.{kept_first}
@@ -8,8 +8,8 @@ use Rattle.asp_bound.proofs.late.sums_before.Goals as goal
 
 pub loop-i-init : goal.loop-i-init
 loop-i-init c =
-    let p = c.args.origin.now.value in
+    let p = c.args.priced.now.origin.value in
     let b = before c.args.trail.now c.args.place in
-    let copied = c.in_ok-sums.ensures.items_if_clones_equal (λ x y q. q) in
-    subst (IsKept p (only b (take 0 c.args.raisers.now)) c.args.rows.now c.args.columns.now c.args.vars.now) (sym copied)
-    (kept_first p b c.args.rows.now c.args.columns.now c.args.vars.now c.args.least.now c.args.raisers.now (omega (arith, length_assigned c.args.trail.now.vars (take c.args.place c.args.trail.now.entries), c.requires.vars)) c.requires.kept)
+    let copied = c.in_ok-sums.ensures.items_if_clones_equal (λ x y q. q) ∙ c.as_slice.ensures.value in
+    subst (IsPriced c.args.priced.now (only b (take 0 c.args.raisers.now))) (sym copied)
+    (kept_first p b c.args.priced.now.rows c.args.priced.now.columns c.args.priced.now.vars.items c.args.priced.now.least.items c.args.raisers.now (omega (arith, length_assigned c.args.trail.now.vars (take c.args.place c.args.trail.now.entries), c.requires.vars)) c.requires.tables)
