@@ -8,6 +8,7 @@ use Rattle.asp_trail.specs.declared.trail.Entry.{Entry}
 use Rattle.asp_trail.specs.Entries.{level_in, reason_in}
 use Rattle.asp_trail.specs.Reasons.{AreReasons}
 use Rattle.asp_trail.specs.Trails.{IsOrdered}
+use Rattle.asp_analyze.specs.declared.minimise.Look.{Look}
 use Rattle.asp_analyze.specs.Marks.{Marked}
 use Rattle.asp_analyze.specs.Way.{IsOn, AreMarked, Opened, Goes, CanGo, IsOther}
 use Rattle.asp_analyze.proofs.LitLaws.{all_from}
@@ -19,6 +20,13 @@ all_last P xs x a = subst P (get_or_push xs x x (length xs) refl) (a (length xs)
 
 pub all_front : {X : Type 0} → (P : X → Type 0) (xs : List X) (x : X) → All P (xs ++ x ∷ []) → All P xs
 all_front P xs x a i d h = subst P (get_or_append_left xs (x ∷ []) d i h) (a i d (omega (arith, h, length-append xs (x ∷ []))))
+
+-- the last of the path, and those before it
+pub can_last : (es : List Entry) (top : ℕ) (m : Marked) (path front : List Look) (last : Look) → path ≡ front ++ last ∷ [] → All (λ f. CanGo es top m f.lit) path → CanGo es top m last.lit
+can_last es top m path front last e a = all_last (λ f. CanGo es top m f.lit) front last (subst (λ (xs : List Look). All (λ f. CanGo es top m f.lit) xs) e a)
+
+pub can_front : (es : List Entry) (top : ℕ) (m : Marked) (path front : List Look) (last : Look) → path ≡ front ++ last ∷ [] → All (λ f. CanGo es top m f.lit) path → All (λ f. CanGo es top m f.lit) front
+can_front es top m path front last e a = all_front (λ f. CanGo es top m f.lit) front last (subst (λ (xs : List Look). All (λ f. CanGo es top m f.lit) xs) e a)
 
 -- one that can go still can later
 pub can_later : (es : List Entry) (top : ℕ) (old new : Marked) (l : Literal) → Goes es old new → CanGo es top old l → CanGo es top new l

@@ -1,5 +1,5 @@
 -- What holds on the way of an analysis.
-use Rattle.std.specs.Prelude.{◌≡◌, ◌≢◌, ◌⊎◌, ℕ, ◌==◌, ◌<◌, ◌≤◌, true, false, if◌then◌else◌, List, ◌++◌, length, take, Option, Some, None, IsTrue}
+use Rattle.std.specs.Prelude.{◌≡◌, ◌≢◌, ◌⊎◌, ℕ, ◌==◌, ◌<◌, ◌≤◌, true, false, if◌then◌else◌, List, ◌++◌, length, take, filter, Option, Some, None, IsTrue}
 use Rattle.std.specs.List.{All}
 use Rattle.asp_vars.specs.Literals.{Literal, complement, has_literal, literal_eq}
 use Rattle.asp_vars.specs.declared.nogood.Nogood.{Nogood}
@@ -123,6 +123,13 @@ IsReady entries from n (Some point) = IsTop entries from n point
 -- The first n of the marked literals are settled.
 abbrev pub AreSettled : ℕ → Marked → Type 0
 AreSettled n m = (l : Literal) → IsTrue (has_literal (take n m.lits) l) → is_settled (mark_of m.marks l.var) ≡ true
+
+-- What is open was reached from the nogood, all is settled, and there is a point where the nogood has one.
+pub record IsTraced (entries : List Entry) (says : Literal → ℕ → Nogood → Type 0) (from : Nogood) (m : Marked) (b : Base) (point : Option Literal) : Type 0 where
+  pub top : ℕ
+  pub way : IsOnTheWay entries says from top m b
+  pub settled : AreSettled (length m.lits) m
+  pub ready : IsReady entries from.lits (filter (λ l. is_open (mark_of m.marks l.var)) m.lits) point
 
 -- What is pending and what is settled stays so, and nothing else becomes pending.
 pub record Goes (entries : List Entry) (old new : Marked) : Type 0 where

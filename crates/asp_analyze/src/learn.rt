@@ -16,7 +16,7 @@ ghost use Rattle.asp_vars.specs.declared.nogood.Nogood.{Nogood};
 ghost use Rattle.asp_trail.specs.Reasons.{AreAsked, AreReasons};
 ghost use Rattle.asp_analyze.specs.Marks.{mark_of, is_open, unmarked};
 ghost use Rattle.asp_analyze.specs.Learning.{Used, IsNamed, IsReached, AreContained, AreAssumed, IsLearned, nogood_of};
-ghost use Rattle.asp_analyze.specs.Way.{IsOn, AreUpTo, IsReady};
+ghost use Rattle.asp_analyze.specs.Way.{IsOn, AreUpTo, IsReady, IsTraced};
 
 use crate::levels::{greatest_level, level_beside};
 use crate::marks::Marks;
@@ -154,6 +154,33 @@ impl Learner {
     }
 }
 
+// Marks what a nogood and the reasons after it have, and resolves what isn't to stay; what is open then is learnt. Answers the point.
+// The first of the marks were met on the way to it.
+fn trace_back<R: Reasons>(
+    marks: &mut Marks,
+    base: &mut Base,
+    met: &mut usize,
+    path: &mut Vec<Look>,
+    trail: &Trail,
+    reasons: &R,
+    lits: &[Lit],
+) -> Result<Option<Lit>, AllocError>
+    requires marks { (vars : ℕ) × (marks.old ≡ unmarked (vars + 1)) × AreUpTo vars trail.now.entries }
+    requires contained { AreContained trail.now.vars trail.now.entries lits.now }
+    requires asked { AreAsked (R.asks reasons.now) trail.now.entries }
+    requires reasons { AreReasons (R.says reasons.now) trail.now.entries }
+    ensures traced { IfOk result (IsTraced trail.now.entries (R.says reasons.now) (record { lits = lits.now; base = base.old }) marks.new base.new) }
+    ensures size { length marks.new.marks ≡ length marks.old.marks }
+{
+    let _len = trail.len();
+    let top = greatest_level(lits, trail);
+    note_all(marks, trail, top, lits);
+    let point = find_point(marks, base, trail, reasons, top)?;
+    *met = marks.len();
+    settle(marks, base, path, trail, reasons, top)?;
+    Ok(point)
+}
+
 // Learns, and leaves the marks, of which the first were met on the way to the point.
 fn analyse<R: Reasons>(
     marks: &mut Marks,
@@ -176,11 +203,7 @@ fn analyse<R: Reasons>(
 {
     let _len = trail.len();
     let mut base = base.copy()?;
-    let top = greatest_level(lits, trail);
-    note_all(marks, trail, top, lits);
-    let point = find_point(marks, &mut base, trail, reasons, top)?;
-    *met = marks.len();
-    settle(marks, &mut base, path, trail, reasons, top)?;
+    let point = trace_back(marks, &mut base, met, path, trail, reasons, lits)?;
     let lits = staying(*path.allocator(), marks)?;
     Ok(conclude(Nogood { lits, base }, point, trail))
 }

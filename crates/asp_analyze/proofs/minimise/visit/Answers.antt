@@ -1,4 +1,4 @@
-use Rattle.std.proofs.Common.{◌≡◌, ◌∙◌, ◌≢◌, ◌<◌, List, Some, true, false, ap, [], ◌∷◌, ◌++◌, length, sym, subst}
+use Rattle.std.proofs.Common.{◌≡◌, ◌∙◌, ◌≢◌, ◌<◌, List, Some, true, false, ap, length, sym, subst}
 use Rattle.std.specs.List.{All}
 use Rattle.std.proofs.lemmas.List.Elements.{All-push}
 use Rattle.asp_vars.specs.Literals.{Literal, has_literal}
@@ -11,7 +11,7 @@ use Rattle.asp_analyze.specs.Way.{IsOn, Opened, IsOnTheWay, Goes, CanGo}
 use Rattle.asp_analyze.proofs.MarkLaws.{mark_set_same}
 use Rattle.asp_analyze.proofs.OpenLaws.{reason_asked, reason_small}
 use Rattle.asp_analyze.proofs.GoesLaws.{way_needed, goes_needed, on_ok_both}
-use Rattle.asp_analyze.proofs.MinimiseLaws.{all_last, all_front, can_later, others_on, other_high, goes_looked}
+use Rattle.asp_analyze.proofs.MinimiseLaws.{can_last, can_front, can_later, others_on, other_high, goes_looked}
 use Rattle.asp_analyze.proofs.minimise.visit.Goals as goal
 
 pub kept-requires : goal.kept-requires
@@ -21,9 +21,7 @@ kept-requires g c =
     let m : Marked = c.args.marks.now in
     let a = c.requires.way.1.marked in
     let last : Look = c.in-Some.last in
-    let path : All (λ (f : Look). CanGo es top m f.lit) (c.pop.new.self.items ++ last ∷ []) =
-    subst (λ (xs : List Look). All (λ (f : Look). CanGo es top m f.lit) xs) c.in-Some.ensures.items c.requires.path in
-    let can : CanGo es top m last.lit = all_last (λ (f : Look). CanGo es top m f.lit) c.pop.new.self.items last path in
+    let can = can_last es top m c.args.path.now.items c.pop.new.self.items last c.in-Some.ensures.items c.requires.path in
     let id = c.in-Some-reason_of.id in
     let reason : reason_in es last.lit.var ≡ Some id = sym c.reason_of.ensures ∙ c.in-Some-reason_of.is in
     reason_asked a.ordered.0 es (g.R.Reasons.asks c.args.reasons.now) last.lit id a.ordered.1 c.requires.asked can.on reason
@@ -36,9 +34,7 @@ find_other-requires-clause-small g c =
     let m : Marked = c.args.marks.now in
     let a = c.requires.way.1.marked in
     let last : Look = c.in-Some.last in
-    let path : All (λ (f : Look). CanGo es top m f.lit) (c.pop.new.self.items ++ last ∷ []) =
-    subst (λ (xs : List Look). All (λ (f : Look). CanGo es top m f.lit) xs) c.in-Some.ensures.items c.requires.path in
-    let can : CanGo es top m last.lit = all_last (λ (f : Look). CanGo es top m f.lit) c.pop.new.self.items last path in
+    let can = can_last es top m c.args.path.now.items c.pop.new.self.items last c.in-Some.ensures.items c.requires.path in
     let id = c.in-Some-reason_of.id in
     let reason : reason_in es last.lit.var ≡ Some id = sym c.reason_of.ensures ∙ c.in-Some-reason_of.is in
     let n : Nogood = c.in-Some-kept.reason.now in
@@ -55,9 +51,7 @@ find_other-requires-clause-on g c =
     let m : Marked = c.args.marks.now in
     let a = c.requires.way.1.marked in
     let last : Look = c.in-Some.last in
-    let path : All (λ (f : Look). CanGo es top m f.lit) (c.pop.new.self.items ++ last ∷ []) =
-    subst (λ (xs : List Look). All (λ (f : Look). CanGo es top m f.lit) xs) c.in-Some.ensures.items c.requires.path in
-    let can : CanGo es top m last.lit = all_last (λ (f : Look). CanGo es top m f.lit) c.pop.new.self.items last path in
+    let can = can_last es top m c.args.path.now.items c.pop.new.self.items last c.in-Some.ensures.items c.requires.path in
     let id = c.in-Some-reason_of.id in
     let reason : reason_in es last.lit.var ≡ Some id = sym c.reason_of.ensures ∙ c.in-Some-reason_of.is in
     let n : Nogood = c.in-Some-kept.reason.now in
@@ -77,13 +71,11 @@ returns-in-None-clause-path g c =
     let m : Marked = c.args.marks.now in
     let a = c.requires.way.1.marked in
     let last : Look = c.in-Some.last in
-    let path : All (λ (f : Look). CanGo es top m f.lit) (c.pop.new.self.items ++ last ∷ []) =
-    subst (λ (xs : List Look). All (λ (f : Look). CanGo es top m f.lit) xs) c.in-Some.ensures.items c.requires.path in
-    let can : CanGo es top m last.lit = all_last (λ (f : Look). CanGo es top m f.lit) c.pop.new.self.items last path in
+    let can = can_last es top m c.args.path.now.items c.pop.new.self.items last c.in-Some.ensures.items c.requires.path in
     on_ok_both c.open.result (Opened es last.lit m c.open.new.marks) (IsOnTheWay es says c.requires.way.0 top c.open.new.marks c.open.new.base)
     (All (λ (f : Look). CanGo es top c.open.new.marks f.lit) c.pop.new.self.items)
     (λ t w i d h. can_later es top m c.open.new.marks _ (goes_looked es top m c.open.new.marks last.lit a w.marked can t)
-    (all_front (λ (f : Look). CanGo es top m f.lit) c.pop.new.self.items last path i d h))
+    (can_front es top m c.args.path.now.items c.pop.new.self.items last c.in-Some.ensures.items c.requires.path i d h))
     c.open.ensures.opened (c.open.ensures.way c.requires.way.0 c.requires.way.1)
 
 pub returns-in-None-clause-goes : goal.returns-in-None-clause-goes
@@ -94,9 +86,7 @@ returns-in-None-clause-goes g c =
     let m : Marked = c.args.marks.now in
     let a = c.requires.way.1.marked in
     let last : Look = c.in-Some.last in
-    let path : All (λ (f : Look). CanGo es top m f.lit) (c.pop.new.self.items ++ last ∷ []) =
-    subst (λ (xs : List Look). All (λ (f : Look). CanGo es top m f.lit) xs) c.in-Some.ensures.items c.requires.path in
-    let can : CanGo es top m last.lit = all_last (λ (f : Look). CanGo es top m f.lit) c.pop.new.self.items last path in
+    let can = can_last es top m c.args.path.now.items c.pop.new.self.items last c.in-Some.ensures.items c.requires.path in
     on_ok_both c.open.result (Opened es last.lit m c.open.new.marks) (IsOnTheWay es says c.requires.way.0 top c.open.new.marks c.open.new.base)
     (Goes es m c.open.new.marks)
     (λ t w. goes_looked es top m c.open.new.marks last.lit a w.marked can t)
@@ -111,9 +101,7 @@ returns-in_ok-push-in-Some-find_other-2-clause-way g c = λ from w.
     let m : Marked = c.args.marks.now in
     let a = c.requires.way.1.marked in
     let last : Look = c.in-Some.last in
-    let path : All (λ (f : Look). CanGo es top m f.lit) (c.pop.new.self.items ++ last ∷ []) =
-    subst (λ (xs : List Look). All (λ (f : Look). CanGo es top m f.lit) xs) c.in-Some.ensures.items c.requires.path in
-    let can : CanGo es top m last.lit = all_last (λ (f : Look). CanGo es top m f.lit) c.pop.new.self.items last path in
+    let can = can_last es top m c.args.path.now.items c.pop.new.self.items last c.in-Some.ensures.items c.requires.path in
     let id = c.in-Some-reason_of.id in
     let reason : reason_in es last.lit.var ≡ Some id = sym c.reason_of.ensures ∙ c.in-Some-reason_of.is in
     let n : Nogood = c.in-Some-kept.reason.now in
@@ -136,9 +124,7 @@ returns-in_ok-push-in-Some-find_other-2-clause-path g c =
     let m : Marked = c.args.marks.now in
     let a = c.requires.way.1.marked in
     let last : Look = c.in-Some.last in
-    let path : All (λ (f : Look). CanGo es top m f.lit) (c.pop.new.self.items ++ last ∷ []) =
-    subst (λ (xs : List Look). All (λ (f : Look). CanGo es top m f.lit) xs) c.in-Some.ensures.items c.requires.path in
-    let can : CanGo es top m last.lit = all_last (λ (f : Look). CanGo es top m f.lit) c.pop.new.self.items last path in
+    let can = can_last es top m c.args.path.now.items c.pop.new.self.items last c.in-Some.ensures.items c.requires.path in
     let id = c.in-Some-reason_of.id in
     let reason : reason_in es last.lit.var ≡ Some id = sym c.reason_of.ensures ∙ c.in-Some-reason_of.is in
     let n : Nogood = c.in-Some-kept.reason.now in
@@ -152,7 +138,7 @@ returns-in_ok-push-in-Some-find_other-2-clause-path g c =
     let clean : is_clean (mark_of m.marks other.lit.var) ≡ true = c.may_follow.ensures c.if-may_follow.true in
     let goes : Goes es m c.add.new.self = goes_needed es top m c.add.new.self other.lit a is.on clean c.add.ensures in
     let P : Look → Type 0 = λ f. CanGo es top c.add.new.self f.lit in
-    let front : All P c.pop.new.self.items = λ i d h. can_later es top m c.add.new.self _ goes (all_front (λ (f : Look). CanGo es top m f.lit) c.pop.new.self.items last path i d h) in
+    let front : All P c.pop.new.self.items = λ i d h. can_later es top m c.add.new.self _ goes (can_front es top m c.args.path.now.items c.pop.new.self.items last c.in-Some.ensures.items c.requires.path i d h) in
     let first : Look = record { lit = last.lit; next = other.next } in
     let second : Look = record { lit = other.lit; next = 0 } in
     let marked : is_clean (mark_of c.add.new.self.marks other.lit.var) ≡ false =
