@@ -1,5 +1,5 @@
 //! What the holder of a seat can do to the log.
-ghost use Rattle.std.specs.Prelude.{◌≡◌, ◌^◌, ◌<◌, ◌≤◌, ◌++◌, ◌∷◌, [], false, drop, length, All, List, IfOk, IfErr, OnOk, OnErr};
+ghost use Rattle.std.specs.Prelude.{◌≡◌, ◌^◌, ◌<◌, ◌≤◌, ◌∷◌, [], false, drop, length, All, List, IfOk, IfErr, OnErr};
 ghost use Rattle.std.specs.Option.{IfSome};
 ghost use Rattle.asp_vars.specs.declared.nogood.Nogood.{Nogood};
 ghost use Rattle.asp_vault.specs.Moments.{Moment, Stays};
@@ -63,31 +63,4 @@ pub fn glance<R: Wait>(
     let shown = log.shown(from);
     vault.give(seat, log);
     shown
-}
-
-/// Puts copies of the entries from a position on behind a list, and answers the log's length.
-///
-/// The position is at most a length that the seat has seen. The entries are copied outside the lock. For want of memory
-/// the list stays as it was.
-pub fn read<R: Wait>(
-    rt: &R,
-    vault: &Vault<Log>,
-    seat: &mut Seat<Log>,
-    from: u32,
-    list: &mut Vec<Nogood>,
-) -> Result<u32, AllocError>
-    requires of { IsOf vault.now seat.old }
-    requires rests { (view seat.old).holds ≡ false }
-    requires from { from ≤ length (view seat.old).seen }
-    ensures of { IsBeside seat.old seat.new }
-    ensures stays { Stays (view seat.old) (view seat.new) }
-    ensures length { IfOk result (λ n. n ≡ length (view seat.new).seen) }
-    ensures ok { OnOk result (list.new.items ≡ list.old.items ++ drop from (view seat.new).seen) }
-    ensures err { OnErr result (list.new.items ≡ list.old.items) }
-    ensures entries { IfSome (view seat.old).about (λ scope. All (IsEntry scope.program) (drop from (view seat.new).seen)) }
-    ensures moment { (before : List Nogood) × Moment unsigned (IsLogOf (view seat.old).about) (view seat.old) (view seat.new) before [] }
-{
-    let shown = glance(rt, vault, seat, from)?;
-    shown.copy_to(list)?;
-    Ok(from + shown.len())
 }

@@ -1,7 +1,6 @@
 //! Entries as a reader has them, outside the lock.
-ghost use Rattle.std.specs.Prelude.{◌≡◌, ◌+◌, ◌*◌, ◌^◌, ◌<◌, ◌≤◌, ◌==◌, ◌++◌, drop, length, map, slice_get, Some, IfOk, OnOk, OnErr};
+ghost use Rattle.std.specs.Prelude.{◌≡◌, ◌+◌, ◌*◌, ◌^◌, ◌<◌, ◌≤◌, ◌==◌, drop, length, map, slice_get, Some, IfOk};
 ghost use Rattle.std.specs.Arc.{arc_value};
-ghost use mathlib.Core.List.{IsPrefix};
 ghost use Rattle.asp_log.specs.Blocks.{stored};
 
 use crate::block::{BLOCK, Block};
@@ -107,28 +106,4 @@ impl View {
             &self.tail[at - self.blocks.len() * BLOCK]
         }
     }
-
-    /// Puts copies of the entries behind a list, or leaves the list as it was for want of memory.
-    pub fn copy_to(&self, list: &mut Vec<Nogood>) -> Result<(), AllocError>
-        ensures ok { OnOk result (list.new.items ≡ list.old.items ++ self.now) }
-        ensures err { OnErr result (list.new.items ≡ list.old.items) }
-    {
-        let before = list.len();
-        let done = add_copies(self, list);
-        if done.is_err() {
-            list.truncate(before);
-        }
-        done
-    }
-}
-
-// Puts copies of the entries behind a list, as far as memory goes.
-fn add_copies(view: &View, list: &mut Vec<Nogood>) -> Result<(), AllocError>
-    ensures ok { OnOk result (list.new.items ≡ list.old.items ++ view.now) }
-    ensures old { IsPrefix list.old.items list.new.items }
-{
-    for i in 0..view.len() {
-        list.push(view.entry(i).copy()?)?;
-    }
-    Ok(())
 }

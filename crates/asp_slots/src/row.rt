@@ -1,5 +1,5 @@
 //! The slots, and the word that counts the numbers.
-ghost use Rattle.std.specs.Prelude.{◌≡◌, ◌≢◌, ◌+◌, ◌<◌, ◌≤◌, ◌↔◌, IsTrue, length, replicate, IfOk, []};
+ghost use Rattle.std.specs.Prelude.{◌≡◌, ◌≢◌, ◌+◌, ◌<◌, ◌≤◌, length, replicate, IfOk, []};
 ghost use Rattle.asp_log.specs.Entries.{IsEntry};
 ghost use Rattle.asp_slots.specs.Rules.{SLOT_COUNT, NotIn, Distinct, opened, fresh, merged, seeing, drawing};
 
@@ -182,17 +182,6 @@ impl Row {
 
 impl RowSeat {
     ghost use Rattle.asp_slots.specs.Seats.{view, IsOf, IsBeside};
-
-    /// Whether all numbers were drawn, so that no entry is copied in vain.
-    pub fn is_full(&mut self, row: &Row) -> bool
-        requires { IsOf row.now self.old }
-        ensures of { IsBeside self.old self.new }
-        ensures own { (view self.new).own ≡ (view self.old).own }
-        ensures seen { (view self.old).seen ≤ (view self.new).seen }
-        ensures full { IsTrue result ↔ (view self.new).seen ≡ SLOT_COUNT }
-    {
-        row.count(self) == SLOTS
-    }
 
     fn into_token(self) -> atomic_table::Seat<(), View>
         ensures { result ≡ self.token }
