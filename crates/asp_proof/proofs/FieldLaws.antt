@@ -22,7 +22,7 @@ use Rattle.asp_text.specs.declared.numbers.Num.TheVariants.{Value}
 use Rattle.asp_proof.specs.Texts.{natural_field, integer_field, counted_fields, atoms_fields, literals_fields}
 use Rattle.asp_proof.specs.Grammar.{IsAtom, IsLiteral, AreCounted, IsNogood, IsSet}
 use Rattle.asp_proof.specs.Fields.{Stops, IsCut, IsNumber, IsCount, IsAt, IsMissing, IsNone, IsWhole, AreSo}
-use Rattle.asp_proof.proofs.Digits.{IsShort, SpellsInteger, spells_integer}
+use Rattle.asp_text.proofs.DigitLaws.{IsShort, SpellsInteger, spells_integer}
 use Rattle.asp_proof.proofs.CutLaws.{Lacks, one_cut, list_same}
 
 short : (z : ℤ) → IsNumber z → IsShort z

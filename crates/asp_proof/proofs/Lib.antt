@@ -1,4 +1,3 @@
-pub mod Digits
 pub mod CutLaws
 pub mod FieldLaws
 pub mod LineLaws

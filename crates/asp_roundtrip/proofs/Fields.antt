@@ -9,7 +9,7 @@ use Rattle.std.proofs.lemmas.Bool.Decides.{nat_tests}
 use Rattle.asp_text.specs.Fields.{is_blank, unblank, field_of, after_field}
 use Rattle.asp_read.specs.Fields.{ends_field, natural_in, integer_in, natural_at, integer_at, count_at, most, most_counted}
 use Rattle.asp_make.specs.Texts.{natural_field, integer_field}
-use Rattle.asp_roundtrip.proofs.Digits.{IsShort, spells_integer}
+use Rattle.asp_text.proofs.DigitLaws.{IsShort, spells_integer}
 
 pub no_blank : (b : ℕ) → 32 < b → is_blank b ≡ false
 no_blank b lt = or_from (eqb b 32) (eqb b 9) (ne_eqb b 32 (λ e. omega arith)) (ne_eqb b 9 (λ e. omega arith))

@@ -1,4 +1,3 @@
-mod Digits
 mod Fields
 mod Room
 mod Bytes

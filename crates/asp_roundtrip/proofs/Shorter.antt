@@ -15,7 +15,7 @@ use Rattle.asp_read.specs.Fields.{Reads, ends_field, natural_in, integer_in, nat
 use Rattle.asp_make.specs.Texts.{natural_field, integer_field, weighted_fields, counted_fields}
 use Rattle.asp_read.specs.declared.error.FaultAt.{FaultAt}
 use Rattle.asp_roundtrip.specs.Readable.{IsBetween}
-use Rattle.asp_roundtrip.proofs.Digits.{IsShort, digits_none, spells_integer}
+use Rattle.asp_text.proofs.DigitLaws.{IsShort, digits_none, spells_integer}
 use Rattle.asp_roundtrip.proofs.Written.{short_from}
 use Rattle.asp_roundtrip.proofs.Given.{Given, given, given_none, given_then, given_if, given_after, given_itself, integer_in_given}
 

@@ -19,7 +19,7 @@ use Rattle.asp_read.specs.Outcome.{aspif, adds, stage_after, judge_line, judge_f
 use Rattle.asp_make.specs.Texts.{natural_field, integer_field, line, lines, rule_text, minimize_text, output_text, external_text, assumptions_text, assumptions_line, text_of}
 use Rattle.asp_roundtrip.proofs.Given.{Given, given, given_none, given_then, given_if, given_after, given_itself}
 use Rattle.std.proofs.lemmas.Fmt.{length-decimal-le}
-use Rattle.asp_roundtrip.proofs.Digits.{spells}
+use Rattle.asp_text.proofs.DigitLaws.{spells}
 use Rattle.asp_roundtrip.proofs.Shorter.{digits_below}
 use Rattle.asp_roundtrip.proofs.GivenStatements.{statement_given}
 use Rattle.asp_roundtrip.proofs.Growing.{IsKept, nothing_kept, keeps}

@@ -9,7 +9,7 @@ use Rattle.asp_model.specs.Holding.{atom_of}
 use Rattle.asp_read.specs.Fields.{◌>>=◌, count_at, Reads, ends_field, room_for, atom_at, literal_at, weighted_at, weighted_atom, many_at, literals_at, weights_at, is_zero, most, most_counted}
 use Rattle.asp_make.specs.Texts.{natural_field, integer_field, weighted_fields, counted_fields}
 use Rattle.asp_roundtrip.specs.Readable.{IsBetween, IsAtom, IsLiteral, IsWeighted}
-use Rattle.asp_roundtrip.proofs.Digits.{IsShort}
+use Rattle.asp_text.proofs.DigitLaws.{IsShort}
 use Rattle.asp_roundtrip.proofs.Fields.{IsInteger, integer_back, natural_back, count_back}
 use Rattle.asp_roundtrip.proofs.Room.{IsRoomy, IsPart, HasEach, part_more, room_within}
 

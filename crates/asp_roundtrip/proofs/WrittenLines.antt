@@ -19,7 +19,7 @@ use Rattle.asp_read.specs.Sizes.{head_size, body_size}
 use Rattle.asp_make.specs.Texts.{natural_field, integer_field, weighted_fields, counted_fields, head_fields, body_fields, external_field}
 use Rattle.asp_roundtrip.specs.Readable.{IsAtom, IsLiteral, IsWeighted, IsBetween, IsHead, IsBody}
 use Rattle.asp_roundtrip.proofs.Bytes.{IsOneLine}
-use Rattle.asp_roundtrip.proofs.Digits.{IsShort, spells_integer}
+use Rattle.asp_text.proofs.DigitLaws.{IsShort, spells_integer}
 use Rattle.asp_roundtrip.proofs.Fields.{no_blank}
 use Rattle.asp_roundtrip.proofs.GivenStatements.{IsStatement}
 use Rattle.asp_roundtrip.proofs.Written.{integer_within, literal_within}

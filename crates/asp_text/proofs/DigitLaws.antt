@@ -7,8 +7,15 @@ use Rattle.std.specs.Char.{is_ascii_digit}
 use Rattle.std.proofs.lemmas.Bool.{ne_eqb}
 use Rattle.std.proofs.lemmas.Bool.Decides.{nat_tests}
 use Rattle.std.proofs.lemmas.Fmt.{decimal_by_steps}
-use Rattle.asp_model.proofs.MemberLaws.{each-append, each_weaker}
 use Rattle.asp_text.specs.Fields.{digits_after, natural_of, integer_of}
+
+each_weaker : {X : Type 0} (P Q : X → Type 0) → ((x : X) → P x → Q x) → (xs : List X) → AllByRecursion P xs → AllByRecursion Q xs
+each_weaker P Q h [] all = tt
+each_weaker P Q h (x ∷ xs) all = (h x all.0, each_weaker P Q h xs all.1)
+
+each-append : {X : Type 0} (P : X → Type 0) (xs ys : List X) → AllByRecursion P xs → AllByRecursion P ys → AllByRecursion P (xs ++ ys)
+each-append P [] ys a b = b
+each-append P (x ∷ xs) ys a b = (a.0, each-append P xs ys a.1 b)
 
 -- digits that spell the number
 pub record Spells (n : ℕ) (digits : List ℕ) : Type 0 where

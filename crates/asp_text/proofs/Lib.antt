@@ -3,3 +3,4 @@ pub mod Found
 pub mod Digits
 pub mod Blanks
 pub mod Front
+pub mod DigitLaws
