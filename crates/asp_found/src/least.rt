@@ -14,6 +14,7 @@ ghost use Rattle.asp_found.specs.Rests.{rest};
 ghost use Rattle.asp_found.specs.Verdicts.{keeps};
 ghost use Rattle.asp_found.specs.Derivings.{IsDeriving, AreDerived};
 
+use crate::lacks::count_off;
 use crate::marks::{holds, underived};
 use asp_model::interp::Interp;
 use asp_model::program::Atom;
@@ -127,27 +128,6 @@ fn counts(alloc: Global, compiled: &Compiled, set: &[bool]) -> Result<Vec<i64>, 
         counts.push(missing(compiled, set, body))?;
     }
     Ok(counts)
-}
-
-// Counts a literal off in a body, and says whether the body came to lack nothing by that.
-fn count_off(compiled: &Compiled, counts: &mut [i64], body: usize, place: usize) -> bool
-    ensures { IsTrue result → body < length (bodies_of compiled.now) }
-{
-    if body >= compiled.body_count() {
-        return false;
-    }
-    let weight = match compiled.bound(body) {
-        Some(_) => compiled.weights(body).get(place).copied().unwrap_or(0),
-        None => 1,
-    };
-    match counts.get_mut(body) {
-        Some(left) => {
-            let before = *left;
-            *left = before.saturating_sub(weight);
-            before > 0 && *left <= 0
-        }
-        None => false,
-    }
 }
 
 // Counts a literal off in a body, and looks at the body if it came to lack nothing.

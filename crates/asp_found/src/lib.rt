@@ -3,6 +3,7 @@
 
 pub mod check;
 pub mod found;
+pub mod lacks;
 pub mod laws;
 mod least;
 mod marks;

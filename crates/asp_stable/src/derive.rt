@@ -11,6 +11,7 @@ ghost use Rattle.asp_found.specs.Marks.{is_marked};
 ghost use Rattle.asp_stable.specs.Founding.{AreDerived};
 
 use crate::holding::{holds, is_held};
+use asp_found::lacks::count_off;
 use asp_vars::assign::Assign;
 use asp_vars::compiled::Compiled;
 use asp_vars::lit::{Lit, Var};
@@ -117,27 +118,6 @@ fn missing(by: &Derivation, body: usize) -> i64
 fn set_count(counts: &mut [i64], body: usize, count: i64) {
     if let Some(place) = counts.get_mut(body) {
         *place = count;
-    }
-}
-
-// Counts a literal off in a body, and says whether the body came to lack nothing by that.
-fn count_off(compiled: &Compiled, lacks: &mut [i64], body: usize, place: usize) -> bool
-    ensures { IsTrue result → body < length (bodies_of compiled.now) }
-{
-    if body >= compiled.body_count() {
-        return false;
-    }
-    let weight = match compiled.bound(body) {
-        Some(_) => compiled.weights(body).get(place).copied().unwrap_or(0),
-        None => 1,
-    };
-    match lacks.get_mut(body) {
-        Some(left) => {
-            let before = *left;
-            *left = before.saturating_sub(weight);
-            before > 0 && *left <= 0
-        }
-        None => false,
     }
 }
 
