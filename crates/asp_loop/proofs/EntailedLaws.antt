@@ -36,7 +36,7 @@ use Rattle.asp_loop.proofs.WeightedLaws.{AreItems, form_items, form_weighted}
 
 -- ---- sets that meet U nowhere
 -- T is within S, and has no atom of U
-record Apart (S T U : Atoms) : Type 0 where
+pub record Apart (S T U : Atoms) : Type 0 where
   pub within : IsSubset T S
   pub meets_not : (a : ℕ) → has U a ≡ true → has T a ≡ false
 
@@ -52,7 +52,7 @@ between_outside S T U (pos a) h e = cases (has U a) refl
     cases true q = absurd (false≢true (sym (h.meets_not a (sym q)) ∙ e))
 between_outside S T U (negsuc a) h e = refl
 
-none_inside : (S T U : Atoms) (ls : List ℤ) → Apart S T U → list_all (holds_between S T) ls ≡ true → list_any (is_inside U) ls ≡ false
+pub none_inside : (S T U : Atoms) (ls : List ℤ) → Apart S T U → list_all (holds_between S T) ls ≡ true → list_any (is_inside U) ls ≡ false
 none_inside S T U [] h e = refl
 none_inside S T U (l ∷ ls) h e =
     let parts = and_parts (holds_between S T l) (list_all (holds_between S T) ls) e in
@@ -90,7 +90,7 @@ weight_where-holds : (S : Atoms) (items : List (ℤ × ℤ)) → weight_where (h
 weight_where-holds S [] = refl
 weight_where-holds S (i ∷ items) = ap (λ w. cond (holds S i.0) i.1 (pos 0) +ℤ w) (weight_where-holds S items)
 
-too_light : (c w v : ℤ) → int_le c w ≡ true → w ≤ℤ v → int_lt v c ≡ true → ⊥
+pub too_light : (c w v : ℤ) → int_le c w ≡ true → w ≤ℤ v → int_lt v c ≡ true → ⊥
 too_light c w v e h f = absurd (grind (arith, ints))
 
 pub reached : (c w v : ℤ) → int_le c w ≡ true → w ≤ℤ v → int_le c v ≡ true
@@ -111,12 +111,12 @@ turned : (b : Bool) → b ≡ false → not b ≡ true
 turned true e = absurd (false≢true (sym e))
 turned false e = refl
 
-body_not_false : (p : Program) (S T U : Atoms) (b : Body) → IsReadBy p S → list_any (body_eq b) (bodies_of p) ≡ true → Apart S T U → AreItems (form_items b) → body_holds_between S T b ≡ true → is_true (values p S) (complement (literal_of_form p b)) ≡ true → ⊥
+pub body_not_false : (p : Program) (S T U : Atoms) (b : Body) → IsReadBy p S → list_any (body_eq b) (bodies_of p) ≡ true → Apart S T U → AreItems (form_items b) → body_holds_between S T b ≡ true → is_true (values p S) (complement (literal_of_form p b)) ≡ true → ⊥
 body_not_false p S T U b read listed h weighted e f =
     false≢true (sym (ap not (body_between S T U b h weighted e)) ∙ sym (form-false p S read b listed) ∙ f)
 
 -- a literal that holds is left
-left_holds : (p : Program) (S T U : Atoms) (part : List Literal) (l : ℤ) → has (atoms_of p) (atom_of l) ≡ true → hits (values p S) part ≡ true → Apart S T U → holds_between S T l ≡ true → is_left p U part l ≡ true
+pub left_holds : (p : Program) (S T U : Atoms) (part : List Literal) (l : ℤ) → has (atoms_of p) (atom_of l) ≡ true → hits (values p S) part ≡ true → Apart S T U → holds_between S T l ≡ true → is_left p U part l ≡ true
 left_holds p S T U part l stands hit h e =
     and_from (not (is_inside U l)) (not (has_literal part (complement (literal_of p l)))) (turned (is_inside U l) (between_outside S T U l h e)) (turned (has_literal part (complement (literal_of p l))) (cases (has_literal part (complement (literal_of p l))) refl))
   where
